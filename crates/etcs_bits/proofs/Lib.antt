@@ -1,0 +1,9 @@
+pub mod Numbers
+pub mod Positions
+pub mod Lists
+pub mod ByteBits
+pub mod Steps
+pub mod Views
+pub mod Owned
+pub mod Words
+pub mod WordWrites

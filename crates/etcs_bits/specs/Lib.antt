@@ -1,0 +1,4 @@
+pub mod Bits
+pub mod Walker
+pub mod Poker
+pub mod Equality

@@ -1,0 +1,154 @@
+//! An owned list of bits.
+
+ghost use Rattle.std.specs.Prelude.{◌≡◌, ℕ, ◌+◌, ◌*◌, ◌^◌, ◌<◌, ◌≤◌, ◌==◌, nat_eq, [], ◌∷◌, ◌++◌, length, take, OnOk, OnErr, IfOk};
+ghost use Rattle.etcs_bits.specs.Bits.{num, bits};
+ghost use Rattle.std.specs.Bool.{Decides};
+ghost use Rattle.std.specs.Cmp.Lexicographic.{pointwise};
+
+use super::parts;
+use super::slice::BitSlice;
+use std::alloc::{AllocError, Global};
+use std::marker::Model;
+
+/// An owned list of bits. Two of them are equal where they have the same bits.
+#[derive(Debug, Drop)]
+pub struct Bits {
+    /// As few bytes as hold the bits; the bits behind the last are 0.
+    bytes: Vec<u8>,
+    len: usize,
+}
+
+impl Model for Bits {
+    ghost use Rattle.std.specs.Prelude.{◌≡◌, ◌+◌, ◌*◌, ◌<◌, ◌≤◌, Bool, List, length, take, drop};
+    ghost use Rattle.etcs_bits.specs.Bits.{bits, value};
+
+    ghost Value = { List Bool };
+
+    ghost view = { λ b. take b.len (bits b.bytes.items) };
+
+    ghost invariant = { λ b. (b.len ≤ 8 * length b.bytes.items) × (8 * length b.bytes.items < b.len + 8) × (value (drop b.len (bits b.bytes.items)) ≡ 0) };
+}
+
+impl Bits {
+    /// No bits. Nothing is allocated.
+    pub fn new(alloc: Global) -> Bits
+        ensures { result ≡ [] }
+    {
+        Bits {
+            bytes: Vec::new(alloc),
+            len: 0,
+        }
+    }
+
+    /// A copy of the bits of `slice`.
+    ///
+    /// # Errors
+    ///
+    /// `AllocError` where there is no memory.
+    pub fn from_slice(alloc: Global, slice: BitSlice<'_>) -> Result<Bits, AllocError>
+        ensures { IfOk result (λ b. b ≡ slice.entry) }
+    {
+        let mut bits = Bits::new(alloc);
+        parts::append(&mut bits, &slice)?;
+        Ok(bits)
+    }
+
+    /// Adds a bit at the end.
+    ///
+    /// # Errors
+    ///
+    /// `AllocError` where there is no memory. The bits then stay as they were.
+    pub fn push(&mut self, bit: bool) -> Result<(), AllocError>
+        requires { length self.old + 1 < 2 ^ 64 }
+        ensures ok { OnOk result (self.new ≡ self.old ++ bit ∷ []) }
+        ensures err { OnErr result (self.new ≡ self.old) }
+    {
+        self.push_number(1, u64::from(bit))
+    }
+
+    /// Adds a number of `width` bits at the end, most significant bit first.
+    ///
+    /// # Errors
+    ///
+    /// `AllocError` where there is no memory. The bits then stay as they were.
+    pub fn push_number(&mut self, width: usize, value: u64) -> Result<(), AllocError>
+        requires width { width ≤ 64 }
+        requires fits { value < 2 ^ width }
+        requires room { length self.old + width < 2 ^ 64 }
+        ensures ok { OnOk result (self.new ≡ self.old ++ num width value) }
+        ensures err { OnErr result (self.new ≡ self.old) }
+    {
+        let len = self.len + width;
+        self.bytes.resize(len.div_ceil(8), 0)?;
+        parts::write(self.bytes.as_mut_slice(), self.len, width, value);
+        self.len = len;
+        Ok(())
+    }
+
+    /// Keeps the first `len` bits.
+    pub fn truncate(&mut self, len: usize)
+        requires { len ≤ length self.old }
+        ensures { self.new ≡ take len self.old }
+    {
+        self.bytes.truncate(len.div_ceil(8));
+        parts::write(self.bytes.as_mut_slice(), len, (8 - len % 8) % 8, 0);
+        self.len = len;
+    }
+
+    /// How many bits these are.
+    pub fn len(&self) -> usize
+        ensures { result ≡ length self.now }
+    {
+        self.len
+    }
+
+    /// Whether these are no bits.
+    pub fn is_empty(&self) -> bool
+        ensures { result ≡ (length self.now == 0) }
+    {
+        self.len == 0
+    }
+
+    /// All bits as a slice.
+    pub fn as_slice(&self) -> BitSlice<'_>
+        ensures { result ≡ self.now }
+    {
+        BitSlice::whole(self.bytes.as_slice(), self.len)
+    }
+}
+
+impl PartialEq for Bits {
+    ghost use Rattle.std.specs.Cmp.{bool_eq_equiv};
+    ghost use Rattle.std.specs.Cmp.{partial_equiv_from_equiv};
+    ghost use Rattle.std.specs.Cmp.Lexicographic.{lists_per, pointwise};
+    ghost use Rattle.std.proofs.Math.Bool.{beq};
+
+    ghost eq = { pointwise beq };
+
+    ghost laws = { lists_per (partial_equiv_from_equiv bool_eq_equiv) };
+
+    fn eq(&self, other: &Bits) -> bool {
+        self.len == other.len && same_bits(self.bytes.as_slice(), other.bytes.as_slice())
+    }
+}
+
+impl Eq for Bits {
+    ghost use Rattle.std.specs.Cmp.{bool_eq_equiv};
+    ghost use Rattle.std.specs.Cmp.Lexicographic.{lists_equiv};
+
+    ghost laws = { lists_equiv bool_eq_equiv };
+}
+
+/// Whether two lists of bytes have the same bits.
+fn same_bits(left: &[u8], right: &[u8]) -> bool
+    ensures { Decides result (bits left.now ≡ bits right.now) }
+{
+    same_bytes(left, right)
+}
+
+/// Whether two lists of bytes are equal.
+fn same_bytes(left: &[u8], right: &[u8]) -> bool
+    ensures { result ≡ pointwise nat_eq left.now right.now }
+{
+    left == right
+}

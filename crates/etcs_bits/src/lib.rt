@@ -1,0 +1,14 @@
+//! Bits at any offset.
+#![tactic(auto)]
+
+mod bits;
+mod bytes;
+pub mod parts;
+mod poker;
+mod slice;
+mod walker;
+
+pub use bits::Bits;
+pub use poker::{PokeFault, Poker, poke};
+pub use slice::BitSlice;
+pub use walker::{Walker, peek};

@@ -1,0 +1,73 @@
+//! For the crates above: writes that are known to fit, and moves of many bits.
+
+ghost use Rattle.std.specs.Prelude.{◌≡◌, ℕ, ◌+◌, ◌*◌, ◌^◌, ◌<◌, ◌≤◌, ◌++◌, length, OnOk, OnErr};
+ghost use Rattle.etcs_bits.specs.Bits.{num, bits, part, replaced};
+
+use super::bits::Bits;
+use super::bytes::byte_of;
+use super::poker;
+use super::slice::BitSlice;
+use std::alloc::AllocError;
+
+/// Writes a number into `width` bits of `bytes` from the bit `start` on, where it is known to fit.
+pub fn write(bytes: &mut [u8], start: usize, width: usize, value: u64)
+    requires width { width ≤ 64 }
+    requires inside { start + width ≤ length (bits bytes.old) }
+    requires fits { value < 2 ^ width }
+    ensures { bits bytes.new ≡ replaced start (num width value) (bits bytes.old) }
+{
+    poker::write(&mut bytes[start / 8..], start % 8, width, value);
+}
+
+/// Adds the bits of `slice` at the end of `bits`.
+///
+/// # Errors
+///
+/// `AllocError` where there is no memory. The bits then stay as they were.
+pub fn append(bits: &mut Bits, slice: &BitSlice<'_>) -> Result<(), AllocError>
+    requires { length bits.old + length slice.now < 2 ^ 64 }
+    ensures ok { OnOk result (bits.new ≡ bits.old ++ slice.now) }
+    ensures err { OnErr result (bits.new ≡ bits.old) }
+{
+    let before = bits.len();
+    let mut left = slice.len();
+    while left > 0 {
+        let count = left.min(56);
+        let number = chunk(slice, slice.len() - left, count);
+        if bits.push_number(count, number).is_err() {
+            bits.truncate(before);
+            return Err(AllocError);
+        }
+        left -= count;
+    }
+    Ok(())
+}
+
+/// Writes the bits of `slice` into `bytes` from the bit `start` on.
+pub fn write_slice(bytes: &mut [u8], start: usize, slice: &BitSlice<'_>)
+    requires { start + length slice.now ≤ length (bits bytes.old) }
+    ensures { bits bytes.new ≡ replaced start slice.now (bits bytes.old) }
+{
+    let mut left = slice.len();
+    while left > 0 {
+        let count = left.min(56);
+        let done = slice.len() - left;
+        let (at, offset) = byte_of(start, done);
+        let number = chunk(slice, done, count);
+        poker::write(&mut bytes[at..], offset, count, number);
+        left -= count;
+    }
+}
+
+/// The number in `width` bits of `slice` from `from` on, which stand inside it.
+fn chunk(slice: &BitSlice<'_>, from: usize, width: usize) -> u64
+    requires width { width ≤ 64 }
+    requires inside { from + width ≤ length slice.now }
+    ensures bits { num width result ≡ part from width slice.now }
+    ensures fits { result < 2 ^ width }
+{
+    match slice.number(from, width) {
+        Some(number) => number,
+        None => unreachable!(),
+    }
+}

@@ -1,0 +1,149 @@
+//! Writing numbers at any bit of a byte slice.
+
+ghost use Rattle.std.specs.Prelude.{◌≡◌, ℕ, ◌+◌, ◌*◌, ◌^◌, ◌<◌, ◌≤◌, ◌↔◌, length, OnOk, OnErr};
+ghost use Rattle.etcs_bits.specs.Bits.{num, bits, replaced};
+
+use super::bytes::{byte_of, with_number};
+use super::parts;
+use super::walker::first_word;
+
+/// Why a number was not written.
+#[derive(Clone, Copy, Debug, PartialEq, Eq)]
+pub enum PokeFault {
+    /// The bits go past the end.
+    PastEnd,
+    /// The number has more bits than its width.
+    TooLarge,
+}
+
+/// Writes a number into `width` bits of `bytes` from `offset` on, which stand inside `bytes`.
+pub(crate) fn write(bytes: &mut [u8], offset: usize, width: usize, value: u64)
+    requires offset { offset < 8 }
+    requires width { width ≤ 64 }
+    requires inside { offset + width ≤ length (bits bytes.old) }
+    requires fits { value < 2 ^ width }
+    ensures { bits bytes.new ≡ replaced offset (num width value) (bits bytes.old) }
+{
+    if bytes.len() < 8 || offset + width > 64 || width == 0 {
+        write_by_bytes(bytes, offset, width, value);
+    } else {
+        write_in_word(bytes, offset, width, value);
+    }
+}
+
+/// As `write`, in the first eight bytes at once.
+fn write_in_word(bytes: &mut [u8], offset: usize, width: usize, value: u64)
+    requires offset { offset < 8 }
+    requires width { 0 < width }
+    requires word { 8 ≤ length bytes.old }
+    requires inside { offset + width ≤ 64 }
+    requires fits { value < 2 ^ width }
+    ensures { bits bytes.new ≡ replaced offset (num width value) (bits bytes.old) }
+{
+    let word = with_number_in_word(first_word(bytes), offset, width, value);
+    bytes[..8].copy_from_slice(&word.to_be_bytes());
+}
+
+/// The word with `width` of its bits from `offset` on replaced by a number.
+fn with_number_in_word(word: u64, offset: usize, width: usize, value: u64) -> u64
+    requires offset { offset < 8 }
+    requires width { 0 < width }
+    requires inside { offset + width ≤ 64 }
+    requires fits { value < 2 ^ width }
+    ensures { num 64 result ≡ replaced offset (num width value) (num 64 word) }
+{
+    let behind = 64 - offset - width;
+    let lower = (word << offset) >> offset;
+    (word - lower) + (value << behind) + lower % (1 << behind)
+}
+
+/// As `write`, byte by byte.
+fn write_by_bytes(bytes: &mut [u8], offset: usize, width: usize, value: u64)
+    requires offset { offset < 8 }
+    requires width { width ≤ 64 }
+    requires inside { offset + width ≤ length (bits bytes.old) }
+    requires fits { value < 2 ^ width }
+    ensures { bits bytes.new ≡ replaced offset (num width value) (bits bytes.old) }
+{
+    let mut left = width;
+    while left > 0 {
+        let (at, from) = byte_of(offset, width - left);
+        let count = (8 - from).min(left);
+        left -= count;
+        bytes[at] = with_number(bytes[at], from, count, (value >> left) % (1 << count));
+    }
+}
+
+/// Writes a number into `width` bits of `bytes` from the bit `start` on, most significant bit first.
+/// All other bits stay.
+///
+/// # Errors
+///
+/// `PastEnd` where these bits go past the end, else `TooLarge` where `value` has more than `width` bits.
+/// The bytes then stay as they were.
+pub fn poke(bytes: &mut [u8], start: usize, width: usize, value: u64) -> Result<(), PokeFault>
+    requires { width ≤ 64 }
+    ensures ok { OnOk result ((start + width ≤ length (bits bytes.old)) × (value < 2 ^ width) × (bits bytes.new ≡ replaced start (num width value) (bits bytes.old))) }
+    ensures past_end { (result ≡ Err PokeFault.PastEnd) ↔ (length (bits bytes.old) < start + width) }
+    ensures too_large { (result ≡ Err PokeFault.TooLarge) ↔ ((start + width ≤ length (bits bytes.old)) × (2 ^ width ≤ value)) }
+    ensures err { OnErr result (bytes.new ≡ bytes.old) }
+{
+    if start as u128 + width as u128 > bytes.len() as u128 * 8 {
+        return Err(PokeFault::PastEnd);
+    }
+    if width < 64 && value >> width != 0 {
+        return Err(PokeFault::TooLarge);
+    }
+    parts::write(bytes, start, width, value);
+    Ok(())
+}
+
+/// Writes numbers into bytes, one behind the other.
+#[derive(Debug, Drop)]
+pub struct Poker<'a> {
+    bytes: &'a mut [u8],
+    place: usize,
+}
+
+impl<'a> Poker<'a> {
+    ghost use Rattle.etcs_bits.specs.Poker.{bytes_of, place_of};
+
+    /// A poker at the first bit of `bytes`.
+    pub fn new(bytes: &'a mut [u8]) -> Poker<'a>
+        ensures lent { result.bytes.ghost_name ≡ bytes.entry.ghost_name }
+        ensures bytes { bytes_of result ≡ bytes.old }
+        ensures place { place_of result ≡ 0 }
+    {
+        Poker { bytes, place: 0 }
+    }
+
+    /// Writes a number into the next `width` bits, which are then behind the poker.
+    /// All other bits stay.
+    ///
+    /// # Errors
+    ///
+    /// `PastEnd` where these bits go past the end, else `TooLarge` where `value` has more than `width` bits.
+    /// The bytes and the place then stay as they were.
+    pub fn put(&mut self, width: usize, value: u64) -> Result<(), PokeFault>
+        requires width { width ≤ 64 }
+        requires place { place_of self.old + width < 2 ^ 64 }
+        ensures lent { self.new.bytes.ghost_name ≡ self.old.bytes.ghost_name }
+        ensures ok { OnOk result ((place_of self.old + width ≤ length (bits (bytes_of self.old))) × (value < 2 ^ width) × (bits (bytes_of self.new) ≡ replaced (place_of self.old) (num width value) (bits (bytes_of self.old)))) }
+        ensures moved { OnOk result (place_of self.new ≡ place_of self.old + width) }
+        ensures past_end { (result ≡ Err PokeFault.PastEnd) ↔ (length (bits (bytes_of self.old)) < place_of self.old + width) }
+        ensures too_large { (result ≡ Err PokeFault.TooLarge) ↔ ((place_of self.old + width ≤ length (bits (bytes_of self.old))) × (2 ^ width ≤ value)) }
+        ensures err { OnErr result ((bytes_of self.new ≡ bytes_of self.old) × (place_of self.new ≡ place_of self.old)) }
+    {
+        let bytes = &mut *self.bytes;
+        poke(bytes, self.place, width, value)?;
+        self.place += width;
+        Ok(())
+    }
+
+    /// How many bits are behind the poker.
+    pub fn place(&self) -> usize
+        ensures { result ≡ place_of self.now }
+    {
+        self.place
+    }
+}

@@ -1,0 +1,107 @@
+//! A part of a byte slice, bit by bit.
+
+ghost use Rattle.std.specs.Prelude.{◌≡◌, ℕ, ◌+◌, ◌*◌, ◌<◌, ◌≤◌, ◌==◌, false, length, take, nat_lt, nat_le, slice_index_or, if◌then◌else◌};
+ghost use Rattle.etcs_bits.specs.Bits.{bits, part, number_at};
+
+use super::bytes::byte_of;
+use super::walker::read;
+use std::marker::Model;
+
+/// Bits that stand one behind the other in a byte slice, from any bit on.
+#[derive(Debug, Drop)]
+pub struct BitSlice<'a> {
+    /// From the byte where the first bit stands.
+    bytes: &'a [u8],
+    /// The first bit's place in that byte.
+    offset: usize,
+    len: usize,
+}
+
+impl<'a> Model for BitSlice<'a> {
+    ghost use Rattle.std.specs.Prelude.{◌+◌, ◌<◌, ◌≤◌, Bool, List, length};
+    ghost use Rattle.etcs_bits.specs.Bits.{bits, part};
+
+    ghost Value = { List Bool };
+
+    ghost view = { λ s. part s.offset s.len (bits s.bytes.now) };
+
+    ghost invariant = { λ s. (s.offset < 8) × (s.offset + s.len ≤ length (bits s.bytes.now)) };
+}
+
+impl<'a> BitSlice<'a> {
+    /// The `len` bits of `bytes` from the bit `start` on. `None` where these go past the end.
+    pub fn new(bytes: &'a [u8], start: usize, len: usize) -> Option<BitSlice<'a>>
+        ensures { result ≡ (if nat_le (start + len) (length (bits bytes.now)) then Some (part start len (bits bytes.now)) else None) }
+    {
+        if start as u128 + len as u128 > bytes.len() as u128 * 8 {
+            return None;
+        }
+        Some(BitSlice {
+            bytes: &bytes[start / 8..],
+            offset: start % 8,
+            len,
+        })
+    }
+
+    /// The first `len` bits of `bytes`, which hold as many.
+    pub(crate) fn whole(bytes: &'a [u8], len: usize) -> BitSlice<'a>
+        requires { len ≤ length (bits bytes.now) }
+        ensures { result ≡ take len (bits bytes.now) }
+    {
+        BitSlice {
+            bytes,
+            offset: 0,
+            len,
+        }
+    }
+
+    /// How many bits these are.
+    pub fn len(&self) -> usize
+        ensures { result ≡ length self.now }
+    {
+        self.len
+    }
+
+    /// Whether these are no bits.
+    pub fn is_empty(&self) -> bool
+        ensures { result ≡ (length self.now == 0) }
+    {
+        self.len == 0
+    }
+
+    /// The bit `index` bits behind the first. `None` past the end.
+    pub fn bit(&self, index: usize) -> Option<bool>
+        ensures { result ≡ (if nat_lt index (length self.now) then Some (slice_index_or self.now index false) else None) }
+    {
+        let number = self.number(index, 1)?;
+        Some(number == 1)
+    }
+
+    /// The `len` bits behind the first `from` of these. `None` where those go past the end.
+    pub fn cut(&self, from: usize, len: usize) -> Option<BitSlice<'a>>
+        ensures { result ≡ (if nat_le (from + len) (length self.now) then Some (part from len self.now) else None) }
+    {
+        if from > self.len || len > self.len - from {
+            return None;
+        }
+        let (at, offset) = byte_of(self.offset, from);
+        Some(BitSlice {
+            bytes: &self.bytes[at..],
+            offset,
+            len,
+        })
+    }
+
+    /// The number in the `width` bits behind the first `from` of these, most significant bit first.
+    /// `None` where those go past the end.
+    pub fn number(&self, from: usize, width: usize) -> Option<u64>
+        requires { width ≤ 64 }
+        ensures { result ≡ number_at from width self.now }
+    {
+        if from > self.len || width > self.len - from {
+            return None;
+        }
+        let (at, offset) = byte_of(self.offset, from);
+        Some(read(&self.bytes[at..], offset, width))
+    }
+}

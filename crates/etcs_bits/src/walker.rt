@@ -1,0 +1,104 @@
+//! Reading numbers at any bit of a byte slice.
+
+ghost use Rattle.std.specs.Prelude.{◌≡◌, ℕ, ◌+◌, ◌*◌, ◌^◌, ◌<◌, ◌≤◌, length, is_some, if◌then◌else◌};
+ghost use Rattle.etcs_bits.specs.Bits.{value, bits, part, number_at};
+
+use super::bytes::{byte_of, read_byte};
+use std::marker::Model;
+
+/// The number in `width` bits of `bytes` from `offset` on, which stand inside `bytes`.
+pub(crate) fn read(bytes: &[u8], offset: usize, width: usize) -> u64
+    requires offset { offset < 8 }
+    requires width { width ≤ 64 }
+    requires inside { offset + width ≤ length (bits bytes.now) }
+    ensures { result ≡ value (part offset width (bits bytes.now)) }
+{
+    if bytes.len() < 8 || offset + width > 64 || width == 0 {
+        return read_by_bytes(bytes, offset, width);
+    }
+    (first_word(bytes) << offset) >> (64 - width)
+}
+
+/// The number in the first eight bytes.
+pub(crate) fn first_word(bytes: &[u8]) -> u64
+    requires { 8 ≤ length bytes.now }
+    ensures { result ≡ value (part 0 64 (bits bytes.now)) }
+{
+    u64::from_be_bytes([
+        bytes[0], bytes[1], bytes[2], bytes[3], bytes[4], bytes[5], bytes[6], bytes[7],
+    ])
+}
+
+/// As `read`, byte by byte.
+fn read_by_bytes(bytes: &[u8], offset: usize, width: usize) -> u64
+    requires offset { offset < 8 }
+    requires width { width ≤ 64 }
+    requires inside { offset + width ≤ length (bits bytes.now) }
+    ensures { result ≡ value (part offset width (bits bytes.now)) }
+{
+    let mut number: u64 = 0;
+    let mut done = 0;
+    while done < width {
+        let (at, from) = byte_of(offset, done);
+        let count = (8 - from).min(width - done);
+        number = (number << count) + read_byte(bytes[at], from, count);
+        done += count;
+    }
+    number
+}
+
+/// The number in `width` bits of `bytes` from the bit `start` on, most significant bit first.
+/// `None` where these bits go past the end.
+pub fn peek(bytes: &[u8], start: usize, width: usize) -> Option<u64>
+    requires { width ≤ 64 }
+    ensures { result ≡ number_at start width (bits bytes.now) }
+{
+    if start as u128 + width as u128 > bytes.len() as u128 * 8 {
+        return None;
+    }
+    Some(read(&bytes[start / 8..], start % 8, width))
+}
+
+/// Reads numbers from bytes, one behind the other.
+#[derive(Debug, Drop)]
+pub struct Walker<'a> {
+    bytes: &'a [u8],
+    place: usize,
+}
+
+impl<'a> Model for Walker<'a> {
+    ghost use Rattle.etcs_bits.specs.Walker.{WalkerValue};
+
+    ghost Value = { WalkerValue };
+
+    ghost view = { λ w. record { bytes = w.bytes.now; place = w.place } };
+}
+
+impl<'a> Walker<'a> {
+    /// A walker at the first bit of `bytes`.
+    pub fn new(bytes: &'a [u8]) -> Walker<'a>
+        ensures { result ≡ record { bytes = bytes.now; place = 0 } }
+    {
+        Walker { bytes, place: 0 }
+    }
+
+    /// The number in the next `width` bits, which are then behind the walker.
+    /// `None` where these bits go past the end; the walker then stays where it is.
+    pub fn next(&mut self, width: usize) -> Option<u64>
+        requires width { width ≤ 64 }
+        requires place { self.old.place + width < 2 ^ 64 }
+        ensures number { result ≡ number_at self.old.place width (bits self.old.bytes) }
+        ensures moved { self.new ≡ record self.old { place = if is_some result then self.old.place + width else self.old.place } }
+    {
+        let number = peek(self.bytes, self.place, width)?;
+        self.place += width;
+        Some(number)
+    }
+
+    /// How many bits are behind the walker.
+    pub fn place(&self) -> usize
+        ensures { result ≡ self.now.place }
+    {
+        self.place
+    }
+}

@@ -1,0 +1,118 @@
+-- What a header's reading is: admitted, 50 bits long, and one for each header.
+use Rattle.std.proofs.Common.{◌≡◌, ℕ, ◌+◌, Bool, true, false, List, [], ◌∷◌, ◌++◌, length, Option, Some, None, refl, sym, ap, ◌∙◌, length-append}
+use Rattle.std.specs.Prelude.{IsTrue, map, if◌then◌else◌}
+use Rattle.etcs_bits.specs.Bits.{num, bit}
+use Rattle.etcs_bits.proofs.Numbers.{length-num}
+use Rattle.etcs_vars.specs.declared.var.Var.{Var}
+use Rattle.etcs_vars.specs.declared.fault.BuildFault.{BuildFault}
+use Rattle.etcs_vars.specs.declared.fault.BuildFault.TheVariants.{NotAdmitted}
+use Rattle.etcs_vars.specs.declared.var.Var.TheVariants.{M_VERSION_HEADER, N_PIG, N_TOTAL, M_DUP, M_MCOUNT, NID_C, NID_BG, Q_LINK}
+use Rattle.etcs_vars.specs.Vars.{width, admits}
+use Rattle.etcs_vars.specs.Faults.{◌or_else◌, number_fault}
+use Rattle.etcs_vars.specs.Reading.{Reading, spelled, numbers}
+use Rattle.etcs_vars.proofs.Apart.{AllFit}
+use Rattle.etcs_vars.proofs.Prefixes.{admits_parts}
+use Rattle.etcs_telegram.specs.Telegrams.{HeaderParts, header_reading, header_of, IsAdmitted}
+use Rattle.etcs_telegram.specs.Headers.{header_fault}
+
+no_first : (e f : Option BuildFault) → e or_else f ≡ None → e ≡ None
+no_first None f h = refl
+no_first (Some x) f h = h
+
+no_second : (e f : Option BuildFault) → e or_else f ≡ None → f ≡ None
+no_second None f h = h
+no_second (Some x) f h = absurd cc
+
+admitted_by : (v : Var) (n : ℕ) (b : Bool) → (if b then None else Some (NotAdmitted v)) ≡ None → b ≡ true
+admitted_by v n true h = refl
+admitted_by v n false h = absurd cc
+
+link_admitted : (b : Bool) → IsTrue (admits Q_LINK (bit b))
+link_admitted true = refl
+link_admitted false = refl
+
+-- a header without a fault is admitted
+pub header_admitted : (h : HeaderParts) → header_fault h.m_version h.n_pig h.n_total h.m_dup h.m_mcount h.nid_c h.nid_bg ≡ None → IsAdmitted (header_reading h)
+header_admitted h e =
+    let a = number_fault M_VERSION_HEADER h.m_version in
+    let b = number_fault N_PIG h.n_pig in
+    let c = number_fault N_TOTAL h.n_total in
+    let d = number_fault M_DUP h.m_dup in
+    let f = number_fault M_MCOUNT h.m_mcount in
+    let g = number_fault NID_C h.nid_c in
+    let k = number_fault NID_BG h.nid_bg in
+    let six : (a or_else b or_else c or_else d or_else f or_else g) ≡ None = no_first (a or_else b or_else c or_else d or_else f or_else g) k e in
+    let five : (a or_else b or_else c or_else d or_else f) ≡ None = no_first (a or_else b or_else c or_else d or_else f) g six in
+    let four : (a or_else b or_else c or_else d) ≡ None = no_first (a or_else b or_else c or_else d) f five in
+    let three : (a or_else b or_else c) ≡ None = no_first (a or_else b or_else c) d four in
+    let two : (a or_else b) ≡ None = no_first (a or_else b) c three in
+    (
+      refl,
+      (
+        admitted_by M_VERSION_HEADER h.m_version _ (no_first a b two),
+        (
+          refl,
+          (
+            admitted_by N_PIG h.n_pig _ (no_second a b two),
+            (
+              admitted_by N_TOTAL h.n_total _ (no_second (a or_else b) c three),
+              (
+                admitted_by M_DUP h.m_dup _ (no_second (a or_else b or_else c) d four),
+                (
+                  admitted_by M_MCOUNT h.m_mcount _ (no_second (a or_else b or_else c or_else d) f five),
+                  (
+                    admitted_by NID_C h.nid_c _ (no_second (a or_else b or_else c or_else d or_else f) g six),
+                    (admitted_by NID_BG h.nid_bg _ (no_second (a or_else b or_else c or_else d or_else f or_else g) k e), (link_admitted h.q_link, tt)),
+                  ),
+                ),
+              ),
+            ),
+          ),
+        ),
+      ),
+    )
+
+admitted_none : (v : Var) (b : Bool) → b ≡ true → (if b then None else Some (NotAdmitted v)) ≡ None
+admitted_none v b h = rw h refl
+
+-- and an admitted one has no fault
+pub header_faultless : (h : HeaderParts) → IsAdmitted (header_reading h) → header_fault h.m_version h.n_pig h.n_total h.m_dup h.m_mcount h.nid_c h.nid_bg ≡ None
+header_faultless h (up, (version, (media, (pig, (total, (dup, (mcount, (country, (group, rest))))))))) =
+    rw
+    (
+      admitted_none M_VERSION_HEADER (admits M_VERSION_HEADER h.m_version) version,
+      admitted_none N_PIG (admits N_PIG h.n_pig) pig,
+      admitted_none N_TOTAL (admits N_TOTAL h.n_total) total,
+      admitted_none M_DUP (admits M_DUP h.m_dup) dup,
+      admitted_none M_MCOUNT (admits M_MCOUNT h.m_mcount) mcount,
+      admitted_none NID_C (admits NID_C h.nid_c) country
+    )
+    (admitted_none NID_BG (admits NID_BG h.nid_bg) group)
+
+-- admitted numbers have their variables' widths
+pub admitted_fit : (r : Reading) → IsAdmitted r → AllFit r
+admitted_fit [] h = tt
+admitted_fit (p ∷ r) h = ((admits_parts p.0 p.1 h.0).1, admitted_fit r h.1)
+
+-- how many bits a reading takes
+abbrev pub bit_count : Reading → ℕ
+bit_count [] = 0
+bit_count (p ∷ r) = width p.0 + bit_count r
+
+pub length-spelled : (r : Reading) → length (spelled r) ≡ bit_count r
+length-spelled [] = refl
+length-spelled (p ∷ r) = length-append (num (width p.0) p.1) (spelled r) ∙ rw (length-num, length-spelled r) refl
+
+pub header_length : (h : HeaderParts) → length (spelled (header_reading h)) ≡ 50
+header_length h = length-spelled (header_reading h)
+
+link_back : (b : Bool) (h : HeaderParts) → h.q_link ≡ b → header_of (numbers (header_reading h)) ≡ h
+link_back true h e = rw e refl
+link_back false h e = rw e refl
+
+-- the numbers give the header
+pub header_back : (h : HeaderParts) → header_of (numbers (header_reading h)) ≡ h
+header_back h = link_back h.q_link h refl
+
+pub header_same : (h k : HeaderParts) → header_reading h ≡ header_reading k → h ≡ k
+header_same h k e = sym (header_back h) ∙ ap (λ (r : Reading). header_of (numbers r)) e ∙ header_back k

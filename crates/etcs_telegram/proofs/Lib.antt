@@ -1,0 +1,16 @@
+pub mod HeaderLemmas
+pub mod Spellings
+pub mod Ones
+pub mod Encoding
+pub mod Equality
+pub mod Rows
+pub mod PhaseSteps
+pub mod Pairs
+pub mod Reaching
+pub mod Ends
+pub mod CourseSteps
+pub mod Fills
+pub mod Fronts
+pub mod Pieces
+pub mod Feeding
+pub mod RoundTrips

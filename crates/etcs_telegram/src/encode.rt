@@ -1,0 +1,89 @@
+//! Writing telegrams.
+
+ghost use Rattle.std.specs.Prelude.{◌≡◌, ℕ, ◌+◌, ◌*◌, ◌^◌, ◌≤◌, ◌<◌, ◌↔◌, ◌++◌, length, drop, codes, Some, IsOk, IfOk, OnErr};
+ghost use Rattle.etcs_bits.specs.Bits.{bits, replaced};
+ghost use Rattle.etcs_vars.specs.Reading.{Reading, spelled};
+ghost use Rattle.etcs_telegram.specs.Headers.{labelled};
+ghost use Rattle.etcs_telegram.specs.Telegrams.{IsAdmitted, TelegramReads, container_bytes, header_reading};
+ghost use Rattle.etcs_telegram.specs.Writing.{telegram_reading};
+
+use crate::header::Header;
+use crate::parts::{HEADER, header_numbers};
+use etcs_bits::parts;
+use crate::telegram::Telegram;
+use etcs_vars::Var;
+use std::error::Error;
+use std::fmt;
+
+/// The buffer is shorter than the telegram.
+#[derive(Clone, Copy, Debug, PartialEq, Eq)]
+pub struct NoRoom;
+
+impl fmt::Display for NoRoom {
+    ghost output = { λ _. Some (codes "the buffer is shorter than the telegram") };
+
+    fn fmt<W: fmt::Write>(&self, f: &mut fmt::Formatter<W>) -> fmt::Result {
+        f.write_str("the buffer is shorter than the telegram")
+    }
+}
+
+impl Error for NoRoom {}
+
+impl Telegram {
+    /// Writes the telegram into the first bytes of `out`, 27 for a short telegram and 104 for a long one, and
+    /// answers how many they are. The bytes behind stay.
+    ///
+    /// # Errors
+    ///
+    /// `NoRoom` where `out` is shorter than that. All its bytes then stay.
+    pub fn encode_into(&self, out: &mut [u8]) -> Result<usize, NoRoom>
+        ensures room { IsOk result ↔ (container_bytes self.now.size ≤ length out.old) }
+        ensures ok { IfOk result (λ n. (n ≡ container_bytes self.now.size) × (r : Reading) × TelegramReads self.now r × (bits out.new ≡ spelled r ++ bits (drop n out.old))) }
+        ensures err { OnErr result (out.new ≡ out.old) }
+    {
+        let len = self.size().container_bytes();
+        if out.len() < len {
+            return Err(NoRoom);
+        }
+        write_telegram(&mut out[..len], self);
+        Ok(len)
+    }
+}
+
+/// Writes the telegram over exactly its bytes.
+fn write_telegram(out: &mut [u8], telegram: &Telegram)
+    requires { length out.old ≡ container_bytes telegram.now.size }
+    ensures reads { TelegramReads telegram.now (telegram_reading telegram.now) }
+    ensures bits { bits out.new ≡ spelled (telegram_reading telegram.now) }
+{
+    telegram.readable();
+    let size = telegram.size();
+    // 50 bits of header, 8 of NID_PACKET, FILL up to the user bits, and zeros.
+    write_header(out, telegram.header());
+    parts::write(out, 50, 8, 255);
+    parts::write_slice(out, 58, &telegram.fill());
+    parts::write(out, size.user_bits(), size.pad_bits(), 0);
+}
+
+/// Writes a header over the first 50 bits.
+fn write_header(out: &mut [u8], header: &Header)
+    requires { 50 ≤ length (bits out.old) }
+    ensures { bits out.new ≡ replaced 0 (spelled (header_reading header.now)) (bits out.old) }
+{
+    write_row(out, &HEADER, &header_numbers(header));
+}
+
+/// Writes numbers in their variables' widths over the first bits.
+fn write_row(out: &mut [u8], vars: &[Var], numbers: &[u64])
+    requires same { length vars.now ≡ length numbers.now }
+    requires admitted { IsAdmitted (labelled vars.now numbers.now) }
+    requires room { length (spelled (labelled vars.now numbers.now)) ≤ length (bits out.old) }
+    requires small { length (spelled (labelled vars.now numbers.now)) < 2 ^ 64 }
+    ensures { bits out.new ≡ replaced 0 (spelled (labelled vars.now numbers.now)) (bits out.old) }
+{
+    let mut at = 0;
+    for (index, var) in vars.iter().enumerate() {
+        parts::write(out, at, var.width(), numbers[index]);
+        at += var.width();
+    }
+}

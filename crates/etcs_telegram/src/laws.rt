@@ -1,0 +1,47 @@
+//! Laws, each the contract of a function.
+
+ghost use Rattle.std.specs.Prelude.{◌≡◌, ◌↔◌, IsTrue, IfOk};
+ghost use Rattle.etcs_telegram.specs.Telegrams.{OneSpelling};
+
+use crate::reader::TelegramReader;
+use crate::telegram::Telegram;
+use etcs_vars::{Fed, ReadFault};
+use std::alloc::{AllocError, Global};
+
+/// Telegrams of one size with one spelling are equal, and no spelling begins another.
+pub fn one_spelling()
+    ensures { OneSpelling }
+{
+}
+
+/// `==` of telegrams is equality of their values: size, header and FILL.
+pub fn exact_equality(first: &Telegram, second: &Telegram) -> bool
+    ensures { IsTrue result ↔ (first.now ≡ second.now) }
+{
+    first == second
+}
+
+/// Encodes a telegram and reads its bytes again: what is read is the telegram that was encoded.
+///
+/// # Errors
+///
+/// Where the reader was refused memory, and for no other cause.
+pub fn round_trip(alloc: Global, telegram: &Telegram) -> Result<Telegram, AllocError>
+    ensures { IfOk result (λ again. again ≡ telegram.now) }
+{
+    let mut bytes = [0u8; 104];
+    let Ok(len) = telegram.encode_into(&mut bytes) else {
+        unreachable!()
+    };
+    let mut reader = TelegramReader::new(alloc, telegram.size());
+    match reader.feed(&bytes[..len]) {
+        Ok(Fed::Done { .. }) => match reader.take() {
+            Ok(again) => Ok(again),
+            Err(_) => unreachable!(),
+        },
+        Ok(Fed::More) => unreachable!(),
+        Err(ReadFault::Refused { .. }) => unreachable!(),
+        Err(ReadFault::Ended) => unreachable!(),
+        Err(ReadFault::Memory) => Err(AllocError),
+    }
+}

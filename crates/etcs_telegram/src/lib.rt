@@ -1,0 +1,23 @@
+//! Balise telegrams.
+#![tactic(auto)]
+
+mod course;
+mod encode;
+mod header;
+pub mod laws;
+pub mod parts;
+mod phase;
+mod reader;
+mod size;
+mod step;
+mod telegram;
+
+pub use encode::NoRoom;
+pub use etcs_vars::{Fed, ReadFault};
+pub use header::Header;
+pub use reader::TelegramReader;
+pub use size::Size;
+pub use telegram::Telegram;
+
+#[cfg(test)]
+mod tests;

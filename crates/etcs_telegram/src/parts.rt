@@ -1,0 +1,43 @@
+//! For the crates above: the header's variables with their numbers.
+
+ghost use Rattle.std.specs.Prelude.{◌≡◌, map};
+ghost use Rattle.etcs_telegram.specs.Telegrams.{header_reading, header_row, IsAdmitted};
+
+use crate::header::Header;
+use etcs_vars::Var;
+
+/// The header's variables in the order of sending.
+pub const HEADER: [Var; 10] = [
+    Var::Q_UPDOWN,
+    Var::M_VERSION_HEADER,
+    Var::Q_MEDIA,
+    Var::N_PIG,
+    Var::N_TOTAL,
+    Var::M_DUP,
+    Var::M_MCOUNT,
+    Var::NID_C,
+    Var::NID_BG,
+    Var::Q_LINK,
+];
+
+/// The numbers of these variables. Each variable admits its number.
+pub fn header_numbers(header: &Header) -> [u64; 10]
+    ensures numbers { result ≡ map (λ p. p.1) (header_reading header.now) }
+    ensures variables { HEADER ≡ map (λ p. p.0) (header_reading header.now) }
+    ensures row { HEADER ≡ header_row }
+    ensures admitted { IsAdmitted (header_reading header.now) }
+{
+    header.admitted();
+    [
+        1,
+        header.m_version() as u64,
+        0,
+        header.n_pig() as u64,
+        header.n_total() as u64,
+        header.m_dup() as u64,
+        header.m_mcount() as u64,
+        header.nid_c() as u64,
+        header.nid_bg() as u64,
+        header.q_link() as u64,
+    ]
+}

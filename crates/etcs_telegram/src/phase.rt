@@ -1,0 +1,95 @@
+//! What is left of a telegram.
+
+ghost use Rattle.std.specs.Prelude.{◌≡◌};
+
+use crate::parts::HEADER;
+use crate::size::Size;
+use etcs_vars::Var;
+
+/// What comes next in a telegram.
+#[derive(Clone, Copy, Debug, PartialEq, Eq)]
+pub(crate) enum Phase {
+    /// The variable of the header at this place.
+    Header(usize),
+    /// The number that ends the packets.
+    Packet,
+    /// FILL, with so many bits left.
+    Fill(usize),
+    /// PAD, with so many bits left.
+    Pad(usize),
+    /// Nothing.
+    Whole,
+}
+
+impl Phase {
+    ghost use Rattle.etcs_telegram.specs.Phases.{var_at, ranges_at, after, after_fill, is_going, IsPhase};
+
+    /// The variable that comes next.
+    pub(crate) fn var(self) -> Var
+        ensures { result ≡ var_at self }
+    {
+        match self {
+            Phase::Header(at) => match HEADER.get(at) {
+                Some(var) => *var,
+                None => Var::PAD,
+            },
+            Phase::Packet => Var::NID_PACKET,
+            Phase::Fill(_) => Var::FILL,
+            Phase::Pad(_) | Phase::Whole => Var::PAD,
+        }
+    }
+
+    /// The numbers that it may have.
+    pub(crate) fn ranges(self) -> &'static [(u64, u64)]
+        ensures { result.now ≡ ranges_at self }
+    {
+        match self {
+            Phase::Packet => &[(255, 255)],
+            _ => self.var().ranges(),
+        }
+    }
+
+    /// Whether something comes.
+    pub(crate) fn is_going(self) -> bool
+        ensures { result ≡ is_going self }
+    {
+        self != Phase::Whole
+    }
+
+    /// What comes behind the variable that comes next.
+    pub(crate) fn after(self, size: Size) -> Phase
+        requires { IsPhase size self }
+        ensures { result ≡ after size self }
+    {
+        match self {
+            Phase::Header(at) => {
+                if at < 9 {
+                    Phase::Header(at + 1)
+                } else {
+                    Phase::Packet
+                }
+            }
+            Phase::Packet => Phase::Fill(size.fill_bits()),
+            Phase::Fill(left) => Phase::after_fill(size, left, 1),
+            Phase::Pad(left) => {
+                if left > 1 {
+                    Phase::Pad(left - 1)
+                } else {
+                    Phase::Whole
+                }
+            }
+            Phase::Whole => Phase::Whole,
+        }
+    }
+
+    /// What comes behind so many bits of FILL, of which `left` were wanted.
+    pub(crate) fn after_fill(size: Size, left: usize, count: usize) -> Phase
+        ensures { result ≡ after_fill size left count }
+    {
+        if count < left {
+            Phase::Fill(left - count)
+        } else {
+            Phase::Pad(size.pad_bits())
+        }
+    }
+}

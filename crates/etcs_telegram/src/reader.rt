@@ -1,0 +1,120 @@
+//! A resumable reader of telegrams.
+
+ghost use Rattle.std.specs.Prelude.{◌≡◌, ◌≢◌, ◌<◌, ◌≤◌, ℕ, ◌+◌, ◌*◌, List, Bool, [], ◌∷◌, ◌++◌, length, IsTrue, ◌↔◌, MatchResult};
+ghost use Rattle.etcs_bits.specs.Bits.{bits};
+ghost use Rattle.etcs_telegram.specs.Phases.{is_going};
+ghost use Rattle.etcs_telegram.specs.Courses.{IsCourse, seen_by};
+ghost use Rattle.etcs_telegram.specs.Telegrams.{TelegramReads};
+
+use crate::course::{Course, Stop};
+use crate::header::Header;
+use crate::phase::Phase;
+use crate::size::Size;
+use crate::step::push_piece;
+use crate::telegram::Telegram;
+use arrayvec::ArrayVec;
+use etcs_bits::Bits;
+use etcs_vars::{Fed, ReadFault};
+use std::alloc::Global;
+use std::marker::Model;
+
+impl Stop {
+    ghost use Rattle.std.specs.Prelude.{◌≡◌};
+    ghost use Rattle.etcs_telegram.specs.Readers.{fault_by};
+
+    /// The fault that a feed answers.
+    fn fault(self) -> ReadFault
+        ensures { result ≡ fault_by self }
+    {
+        match self {
+            Stop::Refused { bit, var } => ReadFault::Refused { bit, var },
+            Stop::Memory => ReadFault::Memory,
+        }
+    }
+}
+
+/// Reads a telegram from pieces.
+#[derive(Drop)]
+pub struct TelegramReader {
+    course: Course,
+    stop: Option<Stop>,
+}
+
+impl Model for TelegramReader {
+    ghost use Rattle.etcs_telegram.specs.Readers.{ReaderValue};
+
+    ghost Value = { ReaderValue };
+
+    ghost use Rattle.etcs_telegram.specs.Stages.{stage_by, IsReader};
+
+    ghost view = { λ r. record { size = r.course.size; stage = stage_by r.course r.stop } };
+
+    ghost invariant = { λ r. IsReader r.course r.stop };
+}
+
+impl TelegramReader {
+    ghost use Rattle.etcs_telegram.specs.Telegrams.{TelegramValue, ReadsAs};
+    ghost use Rattle.etcs_telegram.specs.Readers.{ReaderValue, Feeds, IsReading, fault_of, seen_of, reading, finished};
+
+    /// A reader of telegrams of a size.
+    pub fn new(alloc: Global, size: Size) -> Self
+        ensures { result ≡ record { size = size; stage = reading [] } }
+    {
+        TelegramReader {
+            course: Course {
+                size,
+                phase: Phase::Header(0),
+                header: ArrayVec::new(),
+                fill: Bits::new(alloc),
+                number: 0,
+                taken: 0,
+                count: 0,
+            },
+            stop: None,
+        }
+    }
+
+    /// How many leading bits were accepted.
+    pub fn bits_seen(&self) -> usize
+        ensures { result ≡ seen_of self.now.stage }
+    {
+        self.course.count
+    }
+
+    /// Takes the next piece.
+    pub fn feed(&mut self, piece: &[u8]) -> Result<Fed, ReadFault>
+        ensures answer { (seen : List Bool) → self.old.stage ≡ reading seen → Feeds (ReadsAs self.old.size) seen (bits piece.now) result self.new.stage }
+        ensures after { (IsReading self.old.stage → ⊥) → (self.new ≡ self.old) × (result ≡ Err (fault_of self.old.stage)) }
+        ensures size { self.new.size ≡ self.old.size }
+    {
+        if let Some(stop) = self.stop {
+            return Err(stop.fault());
+        }
+        if !self.course.phase.is_going() {
+            return Err(ReadFault::Ended);
+        }
+        match push_piece(&mut self.course, piece) {
+            Ok(fed) => Ok(fed),
+            Err(stop) => {
+                self.stop = Some(stop);
+                Err(stop.fault())
+            }
+        }
+    }
+
+    /// The telegram, once there is one.
+    pub fn take(self) -> Result<Telegram, Self>
+        ensures { MatchResult result (λ t. self.stage ≡ finished t) (λ r. (r ≡ self) × ((t : TelegramValue) → self.stage ≢ finished t)) }
+    {
+        if self.stop.is_none() && !self.course.phase.is_going() {
+            let course = self.course;
+            Ok(Telegram {
+                size: course.size,
+                header: Header::of_numbers(course.header.as_slice()),
+                fill: course.fill,
+            })
+        } else {
+            Err(self)
+        }
+    }
+}

@@ -1,0 +1,55 @@
+//! Sizes.
+
+/// How many user bits a telegram has (SUBSET-036): 210 or 830.
+#[derive(Clone, Copy, Debug, PartialEq, Eq)]
+pub enum Size {
+    /// 210 user bits, in 27 bytes.
+    Short,
+    /// 830 user bits, in 104 bytes.
+    Long,
+}
+
+impl Size {
+    ghost use Rattle.std.specs.Prelude.{◌≡◌};
+    ghost use Rattle.etcs_telegram.specs.Telegrams.{user_bits, pad_bits, fill_bits, container_bytes};
+
+    /// How many bits stand before PAD.
+    pub fn user_bits(self) -> usize
+        ensures { result ≡ user_bits self }
+    {
+        match self {
+            Size::Short => 210,
+            Size::Long => 830,
+        }
+    }
+
+    /// How many zeros end a telegram.
+    pub fn pad_bits(self) -> usize
+        ensures { result ≡ pad_bits self }
+    {
+        match self {
+            Size::Short => 6,
+            Size::Long => 2,
+        }
+    }
+
+    /// How many bytes a telegram takes.
+    pub fn container_bytes(self) -> usize
+        ensures { result ≡ container_bytes self }
+    {
+        match self {
+            Size::Short => 27,
+            Size::Long => 104,
+        }
+    }
+
+    /// How many bits of FILL a telegram with no packets has.
+    pub fn fill_bits(self) -> usize
+        ensures { result ≡ fill_bits self }
+    {
+        match self {
+            Size::Short => 152,
+            Size::Long => 772,
+        }
+    }
+}

@@ -1,0 +1,5 @@
+pub mod Apart
+pub mod Walk
+pub mod Prefixes
+pub mod Stepping
+pub mod Outcomes

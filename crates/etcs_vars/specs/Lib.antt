@@ -1,0 +1,4 @@
+pub mod Vars
+pub mod Reading
+pub mod Walking
+pub mod Faults

@@ -1,0 +1,16 @@
+//! The variables of ETCS telegrams and radio messages: names, widths and admitted numbers, and the
+//! faults that name a variable.
+#![tactic(auto)]
+
+mod fault;
+mod feed;
+mod ranges;
+mod tables;
+#[cfg(test)]
+mod tests;
+mod var;
+
+pub use fault::{BuildFault, check};
+pub use feed::{Fed, ReadFault};
+pub use ranges::begins;
+pub use var::Var;

@@ -1,0 +1,263 @@
+//! The variables of telegrams and messages.
+
+ghost use Rattle.std.specs.Prelude.{◌≡◌, ℕ, ◌^◌, ◌<◌, ◌≤◌, ◌-◌, ◌↔◌, IsTrue, Some, take};
+ghost use Rattle.std.specs.Fmt.{padded};
+ghost use Rattle.etcs_bits.specs.Bits.{num};
+ghost use Rattle.etcs_vars.specs.Vars.{width, admits, name};
+
+use crate::ranges::{begins, inside};
+use std::fmt;
+
+/// A variable of telegrams and radio messages, under its name in the standard (SUBSET-026, 7.5).
+///
+/// Its number is sent in [`width`](Var::width) bits, the most significant first.
+#[derive(Clone, Copy, Debug, PartialEq, Eq)]
+pub enum Var {
+    // The header of a telegram.
+    /// Which way the telegram goes: 1 is from track to train.
+    Q_UPDOWN,
+    /// The version of the system in the header of a telegram: three bits X, four bits Y. It
+    /// prints as `M_VERSION`.
+    M_VERSION_HEADER,
+    /// The medium: 0 is a balise.
+    Q_MEDIA,
+    /// The balise's position in its group.
+    N_PIG,
+    /// The count of balises in the group, less one.
+    N_TOTAL,
+    /// Whether the telegram repeats that of the next balise (1) or of the previous one (2).
+    M_DUP,
+    /// The message counter.
+    M_MCOUNT,
+    /// The country or region.
+    NID_C,
+    /// The balise group within its country or region.
+    NID_BG,
+    /// Whether the group is marked as linked.
+    Q_LINK,
+
+    // The frame of a packet.
+    /// The packet's number.
+    NID_PACKET,
+    /// The direction for which the packet is valid.
+    Q_DIR,
+    /// The length of the packet in bits, with its frame.
+    L_PACKET,
+    /// The unit of the packet's distances: 0 is 10 cm, 1 is 1 m, 2 is 10 m.
+    Q_SCALE,
+    /// How many entries follow.
+    N_ITER,
+    /// The marker of a virtual balise cover.
+    NID_VBCMK,
+
+    // Linking and infill.
+    /// The distance to the next linked group.
+    D_LINK,
+    /// Whether NID_C follows.
+    Q_NEWCOUNTRY,
+    /// The direction in which the train passes the linked group.
+    Q_LINKORIENTATION,
+    /// What the train does where linking finds a fault.
+    Q_LINKREACTION,
+    /// How exactly the place of the linked group is known.
+    Q_LOCACC,
+
+    // Movement authorities.
+    /// The speed that signalling allows, in steps of 5 km/h.
+    V_MAIN,
+    /// The speed at the limit of authority, in steps of 5 km/h.
+    V_LOA,
+    /// How long V_LOA holds.
+    T_LOA,
+    /// The length of a section.
+    L_SECTION,
+    /// Whether the section has a timer, which then follows.
+    Q_SECTIONTIMER,
+    /// How long the section is valid.
+    T_SECTIONTIMER,
+    /// Where the section's timer stops.
+    D_SECTIONTIMERSTOPLOC,
+    /// The length of the last section.
+    L_ENDSECTION,
+    /// Whether the last section has an end timer, which then follows.
+    Q_ENDTIMER,
+    /// How long the last section is valid.
+    T_ENDTIMER,
+    /// Where the end timer starts.
+    D_ENDTIMERSTARTLOC,
+    /// Whether a danger point follows.
+    Q_DANGERPOINT,
+    /// The distance from the end of the authority to the danger point.
+    D_DP,
+    /// The release speed towards the danger point, in steps of 5 km/h.
+    V_RELEASEDP,
+    /// Whether an overlap follows.
+    Q_OVERLAP,
+    /// Where the overlap's timer starts.
+    D_STARTOL,
+    /// How long the overlap is valid.
+    T_OL,
+    /// The distance from the end of the authority to the end of the overlap.
+    D_OL,
+    /// The release speed towards the overlap, in steps of 5 km/h.
+    V_RELEASEOL,
+
+    // Profiles of gradient and speed.
+    /// The distance to the next change of gradient.
+    D_GRADIENT,
+    /// Whether the track climbs or falls.
+    Q_GDIR,
+    /// The gradient without its sign.
+    G_A,
+    /// The gradient to assume in temporary restrictions, without its sign.
+    G_TSR,
+    /// The distance to the next change of speed.
+    D_STATIC,
+    /// The static speed, in steps of 5 km/h.
+    V_STATIC,
+    /// Whether the speed may rise with the train's front or only with its end.
+    Q_FRONT,
+    /// Which of NC_CDDIFF and NC_DIFF follows.
+    Q_DIFF,
+    /// A category of trains by cant deficiency.
+    NC_CDDIFF,
+    /// Another category of trains.
+    NC_DIFF,
+    /// The speed for the category, in steps of 5 km/h.
+    V_DIFF,
+
+    // Levels.
+    /// The distance to the change of level.
+    D_LEVELTR,
+    /// The level; 1 is that of a national system, and NID_NTC follows.
+    M_LEVELTR,
+    /// The national system.
+    NID_NTC,
+    /// The length over which the driver may acknowledge the change of level.
+    L_ACKLEVELTR,
+
+    // The radio network.
+    /// Whether to open or to end the session.
+    Q_RBC,
+    /// The radio block centre.
+    NID_RBC,
+    /// The radio number to call, as sixteen digits of four bits.
+    NID_RADIO,
+    /// Whether sleeping equipment manages the session too.
+    Q_SLEEPSESSION,
+    /// The radio network.
+    NID_MN,
+
+    // Temporary speed restrictions.
+    /// The restriction's number.
+    NID_TSR,
+    /// The distance to the restriction.
+    D_TSR,
+    /// The length of the restriction.
+    L_TSR,
+    /// The speed in the restriction, in steps of 5 km/h.
+    V_TSR,
+
+    // Texts.
+    /// The class of the text.
+    Q_TEXTCLASS,
+    /// Whether one of the conditions for showing the text is enough, or all are needed.
+    Q_TEXTDISPLAY,
+    /// The distance from which on the text is shown.
+    D_TEXTDISPLAY,
+    /// The mode in which the text is shown.
+    M_MODETEXTDISPLAY,
+    /// The level in which the text is shown; with 1, NID_NTC follows.
+    M_LEVELTEXTDISPLAY,
+    /// The length over which the text is shown.
+    L_TEXTDISPLAY,
+    /// How long the text is shown.
+    T_TEXTDISPLAY,
+    /// Whether and how the driver confirms the text.
+    Q_TEXTCONFIRM,
+    /// Whether the driver's confirmation ends the text.
+    Q_CONFTEXTDISPLAY,
+    /// Whether the driver's confirmation is reported.
+    Q_TEXTREPORT,
+    /// The number under which the confirmation is reported.
+    NID_TEXTMESSAGE,
+    /// How many bytes of text follow.
+    L_TEXT,
+    /// One byte of a text.
+    X_TEXT,
+    /// Which of the fixed texts is shown.
+    Q_TEXT,
+
+    // Other packets.
+    /// Whether the train stops in shunting mode.
+    Q_ASPECT,
+    /// Whether the train stops in staff responsible mode.
+    Q_SRSTOP,
+    /// The train's running number.
+    NID_OPERATIONAL,
+    /// The version of the system in packet 2 and in message 32.
+    M_VERSION,
+
+    // Radio messages.
+    /// The message's number.
+    NID_MESSAGE,
+    /// The length of the whole message in bytes.
+    L_MESSAGE,
+    /// The time by the train's clock.
+    T_TRAIN,
+    /// Whether the train acknowledges the message.
+    M_ACK,
+    /// The balise group referred to: NID_C in the top 10 bits, NID_BG in the low 14.
+    NID_LRBG,
+    /// The distance that the train may run in staff responsible mode.
+    D_SR,
+    /// The number of an emergency message.
+    NID_EM,
+    /// The shift of the location reference, in two's complement.
+    D_REF,
+    /// The train's orientation to the balise group referred to.
+    Q_ORIENTATION,
+
+    // Bits that are kept as they are, one variable for each bit.
+    /// A bit of a telegram behind packet 255.
+    FILL,
+    /// A bit of a packet or a message whose row isn't known.
+    OTHER_DATA,
+    /// A bit of a message behind its packets.
+    PADDING,
+    /// A bit that fills a telegram's last byte.
+    PAD,
+}
+
+impl Var {
+    /// Whether the variable admits the number. It refuses spare numbers, and those that need more
+    /// bits than its width.
+    #[tactic(auto, using(crate::proofs::Prefixes::admits_by_ranges))]
+    pub fn admits(self, number: u64) -> bool
+        ensures { result ≡ admits self number }
+    {
+        inside(self.ranges(), number)
+    }
+
+    /// Whether some admitted number begins with these bits, `taken` of them, which `bits` holds as
+    /// a number.
+    #[tactic(auto, using(crate::proofs::Prefixes::begins_admitted))]
+    pub fn admits_prefix(self, bits: u64, taken: usize) -> bool
+        requires taken { taken ≤ width self }
+        requires fits { bits < 2 ^ taken }
+        ensures { IsTrue result ↔ ((n : ℕ) × IsTrue (admits self n) × (take taken (num (width self) n) ≡ num taken bits)) }
+    {
+        begins(self.ranges(), self.width() - taken, bits)
+    }
+}
+
+/// The name as the standard prints it.
+impl fmt::Display for Var {
+    ghost output = { λ var. Some (name var) };
+
+    ghost styled_output = { λ var spec. Some (padded spec (name var)) };
+
+    fn fmt<W: fmt::Write>(&self, f: &mut fmt::Formatter<W>) -> fmt::Result {
+        f.pad(self.name())
+    }
+}

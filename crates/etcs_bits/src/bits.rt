@@ -85,6 +85,19 @@ impl Bits {
         Ok(())
     }
 
+    /// Adds the bits of `slice` at the end. On a refusal the bits stay as they were.
+    pub(crate) fn push_slice(&mut self, slice: &BitSlice<'_>) -> Result<(), AllocError>
+        requires { length self.old + length slice.now < 2 ^ 64 }
+        ensures ok { OnOk result (self.new ≡ self.old ++ slice.now) }
+        ensures err { OnErr result (self.new ≡ self.old) }
+    {
+        let len = self.len + slice.len();
+        self.bytes.resize(len.div_ceil(8), 0)?;
+        parts::write_slice(self.bytes.as_mut_slice(), self.len, slice);
+        self.len = len;
+        Ok(())
+    }
+
     /// Keeps the first `len` bits.
     pub fn truncate(&mut self, len: usize)
         requires { len ≤ length self.old }

@@ -29,18 +29,7 @@ pub fn append(bits: &mut Bits, slice: &BitSlice<'_>) -> Result<(), AllocError>
     ensures ok { OnOk result (bits.new ≡ bits.old ++ slice.now) }
     ensures err { OnErr result (bits.new ≡ bits.old) }
 {
-    let before = bits.len();
-    let mut left = slice.len();
-    while left > 0 {
-        let count = left.min(56);
-        let number = chunk(slice, slice.len() - left, count);
-        if bits.push_number(count, number).is_err() {
-            bits.truncate(before);
-            return Err(AllocError);
-        }
-        left -= count;
-    }
-    Ok(())
+    bits.push_slice(slice)
 }
 
 /// Writes the bits of `slice` into `bytes` from the bit `start` on.

@@ -4,7 +4,6 @@ use Rattle.std.proofs.Math.Pow.{pow_mono}
 use Rattle.std.proofs.Math.Nat.{mod-eq_of_lt}
 use Rattle.etcs_bits.specs.Bits.{num, bit}
 use Rattle.etcs_bits.proofs.Numbers.{length-num}
-use Rattle.etcs_bits.proofs.Positions.{bit-le}
 use Rattle.etcs_vars.specs.declared.var.Var.{Var}
 use Rattle.etcs_vars.specs.Vars.{width, begins}
 use Rattle.etcs_vars.specs.Walking.{Refuses}
@@ -16,7 +15,7 @@ use Rattle.etcs_telegram.specs.declared.size.Size.TheVariants.{Short, Long}
 use Rattle.etcs_telegram.specs.declared.phase.Phase.{Phase}
 use Rattle.etcs_telegram.specs.declared.phase.Phase.TheVariants.{Header, Packet, Fill, Pad, Whole}
 use Rattle.etcs_telegram.specs.declared.course.Course.{Course}
-use Rattle.etcs_telegram.specs.Telegrams.{TelegramLanguage, user_bits, pad_bits}
+use Rattle.etcs_telegram.specs.Telegrams.{TelegramLanguage}
 use Rattle.etcs_telegram.specs.Phases.{var_at, ranges_at, is_going, is_numbered, after, header_with, fill_with}
 use Rattle.etcs_telegram.specs.Reached.{seen}
 use Rattle.etcs_telegram.specs.Courses.{seen_by, IsCourse, container_bits}

@@ -1,8 +1,8 @@
 -- Bits written one behind the other.
-use Rattle.std.proofs.Common.{◌≡◌, ℕ, zero, suc, ◌+◌, ◌-◌, ◌*◌, ◌^◌, ◌<◌, ◌≤◌, Bool, true, false, List, [], ◌∷◌, ◌++◌, length, take, drop, get_or, refl, sym, ap, ◌∙◌, arith, append_assoc, append-nil, length-append}
+use Rattle.std.proofs.Common.{◌≡◌, ℕ, ◌+◌, ◌-◌, ◌*◌, ◌^◌, ◌<◌, ◌≤◌, Bool, false, List, [], ◌∷◌, ◌++◌, length, take, drop, get_or, refl, sym, ap, ◌∙◌, arith, append_assoc, append-nil, length-append}
 use Rattle.std.specs.Prelude.{replicate}
 use Rattle.std.proofs.lemmas.List.{take_at, drop_at, length-take, length-drop, take-append-drop, drop-drop, drop_more, drop_all, take_all}
-use Rattle.std.proofs.Math.Seq.{drop-append-add, drop-length}
+use Rattle.std.proofs.Math.Seq.{drop-append-add}
 use Rattle.etcs_bits.specs.Bits.{num, bits, replaced}
 use Rattle.etcs_bits.proofs.Numbers.{length-num}
 use Rattle.etcs_vars.specs.declared.var.Var.{Var}
@@ -27,10 +27,6 @@ put_next at front new b e =
     let first : take at (front ++ b) ≡ front = take_at front b at (sym e) in
     let behind : drop (at + length new) (front ++ b) ≡ drop (length new) b = ap (λ (k : ℕ). drop (k + length new) (front ++ b)) e ∙ drop-append-add front b (length new) in
     rw (first, behind) refl
-
-pub length-replaced : (at : ℕ) (new b : List Bool) → at + length new ≤ length b → length (replaced at new b) ≡ length b
-length-replaced at new b h =
-    simp (length-append, length-take, length-drop) (omega arith)
 
 -- a part of a list, from its front and what is behind
 take_by : (all new rest : List Bool) (at : ℕ) → at ≤ length all → drop at all ≡ new ++ rest → all ≡ (take at all ++ new) ++ rest

@@ -2,7 +2,7 @@
 use Rattle.std.proofs.Common.{◌≡◌, ◌+◌, ◌*◌, ◌%◌, ◌<◌, Bool, true, false, List, [], ◌++◌, length, take, refl, sym, ap, subst, ◌∙◌, arith, length-append, append-nil, length-take-le, Some, None, Ok, Err}
 use Rattle.std.specs.Prelude.{Option}
 use Rattle.std.proofs.Math.Seq.{take-append-add}
-use Rattle.etcs_vars.specs.Reading.{Reading, Viable}
+use Rattle.etcs_vars.specs.Reading.{Viable}
 use Rattle.etcs_vars.proofs.Outcomes.{more_wanted, none_refused}
 use Rattle.etcs_telegram.specs.declared.size.Size.{Size}
 use Rattle.etcs_telegram.specs.declared.course.Course.{Course}
@@ -13,7 +13,7 @@ use Rattle.etcs_bits.specs.Bits.{num}
 use Rattle.etcs_telegram.specs.declared.course.Stop.TheVariants.{Refused, Memory}
 use Rattle.etcs_vars.specs.declared.feed.Fed.{Fed}
 use Rattle.etcs_vars.specs.declared.feed.Fed.TheVariants.{More, Done}
-use Rattle.etcs_telegram.specs.Telegrams.{IsTelegram, ReadsAs, TelegramLanguage}
+use Rattle.etcs_telegram.specs.Telegrams.{ReadsAs, TelegramLanguage}
 use Rattle.etcs_telegram.specs.Phases.{is_going}
 use Rattle.etcs_telegram.specs.Reached.{telegram_value, Reached, seen}
 use Rattle.etcs_telegram.specs.Courses.{IsCourse, seen_by, Takes, IsFront, StopsIn}

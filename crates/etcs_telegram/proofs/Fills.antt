@@ -1,5 +1,5 @@
 -- A run of FILL.
-use Rattle.std.proofs.Common.{◌≡◌, ℕ, zero, suc, ◌+◌, ◌-◌, ◌^◌, ◌<◌, ◌≤◌, Bool, true, false, List, [], ◌∷◌, ◌++◌, length, refl, sym, ap, subst, ◌∙◌, arith, append_assoc, append-nil, length-append, ltb, inl, inr}
+use Rattle.std.proofs.Common.{◌≡◌, ℕ, suc, ◌+◌, ◌-◌, ◌^◌, ◌<◌, ◌≤◌, Bool, true, false, List, [], ◌∷◌, ◌++◌, length, refl, sym, ap, subst, ◌∙◌, arith, append_assoc, append-nil, length-append, ltb, inl, inr}
 use Rattle.std.specs.Prelude.{◌==◌, replicate}
 use Rattle.std.proofs.lemmas.Bool.{lt-ltb, le-ltb, cases_lt}
 use Rattle.etcs_bits.specs.Bits.{num, bit}
@@ -12,11 +12,11 @@ use Rattle.etcs_vars.proofs.Walk.{spelled-append}
 use Rattle.etcs_telegram.specs.declared.size.Size.{Size}
 use Rattle.etcs_telegram.specs.declared.size.Size.TheVariants.{Short, Long}
 use Rattle.etcs_telegram.specs.declared.phase.Phase.{Phase}
-use Rattle.etcs_telegram.specs.declared.phase.Phase.TheVariants.{Fill, Pad}
+use Rattle.etcs_telegram.specs.declared.phase.Phase.TheVariants.{Fill}
 use Rattle.etcs_telegram.specs.declared.course.Course.{Course}
 use Rattle.etcs_telegram.specs.Telegrams.{header_row, fill_bits}
 use Rattle.etcs_telegram.specs.Headers.{labelled}
-use Rattle.etcs_telegram.specs.Phases.{after, after_fill, so_far, behind_header}
+use Rattle.etcs_telegram.specs.Phases.{after_fill, so_far, behind_header}
 use Rattle.etcs_telegram.specs.Reached.{Reached, seen}
 use Rattle.etcs_telegram.specs.Courses.{seen_by, IsCourse}
 use Rattle.etcs_telegram.proofs.Rows.{row_length}

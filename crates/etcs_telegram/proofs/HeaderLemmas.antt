@@ -1,6 +1,6 @@
 -- What a header's reading is: admitted, 50 bits long, and one for each header.
-use Rattle.std.proofs.Common.{◌≡◌, ℕ, ◌+◌, Bool, true, false, List, [], ◌∷◌, ◌++◌, length, Option, Some, None, refl, sym, ap, ◌∙◌, length-append}
-use Rattle.std.specs.Prelude.{IsTrue, map, if◌then◌else◌}
+use Rattle.std.proofs.Common.{◌≡◌, ℕ, ◌+◌, Bool, true, false, [], ◌∷◌, length, Option, Some, None, refl, sym, ap, ◌∙◌, length-append}
+use Rattle.std.specs.Prelude.{IsTrue, if◌then◌else◌}
 use Rattle.etcs_bits.specs.Bits.{num, bit}
 use Rattle.etcs_bits.proofs.Numbers.{length-num}
 use Rattle.etcs_vars.specs.declared.var.Var.{Var}
@@ -45,8 +45,7 @@ header_admitted h e =
     let five : (a or_else b or_else c or_else d or_else f) ≡ None = no_first (a or_else b or_else c or_else d or_else f) g six in
     let four : (a or_else b or_else c or_else d) ≡ None = no_first (a or_else b or_else c or_else d) f five in
     let three : (a or_else b or_else c) ≡ None = no_first (a or_else b or_else c) d four in
-    let two : (a or_else b) ≡ None = no_first (a or_else b) c three in
-    (
+    let two : (a or_else b) ≡ None = no_first (a or_else b) c three in (
       refl,
       (
         admitted_by M_VERSION_HEADER h.m_version _ (no_first a b two),
@@ -78,14 +77,13 @@ admitted_none v b h = rw h refl
 -- and an admitted one has no fault
 pub header_faultless : (h : HeaderParts) → IsAdmitted (header_reading h) → header_fault h.m_version h.n_pig h.n_total h.m_dup h.m_mcount h.nid_c h.nid_bg ≡ None
 header_faultless h (up, (version, (media, (pig, (total, (dup, (mcount, (country, (group, rest))))))))) =
-    rw
-    (
+    rw (
       admitted_none M_VERSION_HEADER (admits M_VERSION_HEADER h.m_version) version,
       admitted_none N_PIG (admits N_PIG h.n_pig) pig,
       admitted_none N_TOTAL (admits N_TOTAL h.n_total) total,
       admitted_none M_DUP (admits M_DUP h.m_dup) dup,
       admitted_none M_MCOUNT (admits M_MCOUNT h.m_mcount) mcount,
-      admitted_none NID_C (admits NID_C h.nid_c) country
+      admitted_none NID_C (admits NID_C h.nid_c) country,
     )
     (admitted_none NID_BG (admits NID_BG h.nid_bg) group)
 

@@ -14,3 +14,4 @@ pub mod Fronts
 pub mod Pieces
 pub mod Feeding
 pub mod RoundTrips
+pub mod Examples

@@ -1,7 +1,7 @@
 -- Numbers whose bits are all ones.
-use Rattle.std.proofs.Common.{◌≡◌, ℕ, ◌+◌, ◌-◌, ◌*◌, ◌/◌, ◌^◌, ◌<◌, ◌≤◌, Bool, true, List, ◌++◌, length, take, refl, sym, ap, ◌∙◌, arith, length-append}
+use Rattle.std.proofs.Common.{◌≡◌, ℕ, ◌+◌, ◌-◌, ◌/◌, ◌^◌, ◌<◌, ◌≤◌, Bool, true, List, ◌++◌, take, refl, sym, ap, ◌∙◌, arith}
 use Rattle.std.specs.Prelude.{replicate}
-use Rattle.std.proofs.lemmas.List.{take-replicate, replicate-append-replicate, length-replicate}
+use Rattle.std.proofs.lemmas.List.{take-replicate, replicate-append-replicate}
 use Rattle.etcs_bits.specs.Bits.{num}
 use Rattle.etcs_vars.proofs.Prefixes.{take-num, quotient_below}
 

@@ -1,10 +1,10 @@
 -- From one number to the next: what a reader keeps, and the bits that it stands for.
-use Rattle.std.proofs.Common.{◌≡◌, ℕ, ◌+◌, ◌-◌, ◌*◌, ◌^◌, ◌<◌, ◌≤◌, Bool, true, false, List, [], ◌∷◌, ◌++◌, length, get_or, refl, sym, ap, ◌∙◌, arith, append_assoc, append-nil, length-append}
+use Rattle.std.proofs.Common.{◌≡◌, ℕ, ◌+◌, ◌-◌, ◌*◌, ◌^◌, ◌<◌, Bool, true, false, List, [], ◌∷◌, ◌++◌, length, get_or, refl, sym, ap, ◌∙◌, arith, append_assoc, append-nil, length-append}
 use Rattle.etcs_bits.specs.Bits.{num, bit}
 use Rattle.etcs_vars.specs.declared.var.Var.{Var}
 use Rattle.etcs_vars.specs.declared.var.Var.TheVariants.{NID_PACKET, FILL, PAD}
 use Rattle.etcs_vars.specs.Vars.{width, ranges, inside, begins}
-use Rattle.etcs_vars.specs.Walking.{Part, Residual, seen_with}
+use Rattle.etcs_vars.specs.Walking.{Part, Residual}
 use Rattle.etcs_vars.specs.Reading.{Reading, spelled, Viable, Owner, InLanguage}
 use Rattle.etcs_vars.proofs.Walk.{spelled-append}
 use Rattle.etcs_vars.proofs.Prefixes.{some_number, ranges_ordered, ordered, width_pos}

@@ -1,19 +1,16 @@
 -- Rows of variables, kept bits, and why telegrams of one size agree.
-use Rattle.std.proofs.Common.{◌≡◌, ℕ, ◌+◌, Bool, true, false, List, [], ◌∷◌, ◌++◌, length, refl, sym, ap, ◌∙◌, arith, length-append}
-use Rattle.std.specs.Prelude.{replicate, map, IsTrue, ◌==◌}
+use Rattle.std.proofs.Common.{◌≡◌, ℕ, ◌+◌, Bool, true, List, [], ◌∷◌, ◌++◌, length, refl, ◌∙◌, arith, length-append}
+use Rattle.std.specs.Prelude.{map, IsTrue, ◌==◌}
 use Rattle.std.proofs.lemmas.Bool.Decides.{nat_tests}
-use Rattle.std.proofs.lemmas.List.{map-append, length-replicate}
+use Rattle.std.proofs.lemmas.List.{map-append}
 use Rattle.etcs_bits.proofs.Numbers.{length-num, bit-eqb}
 use Rattle.etcs_bits.specs.Bits.{num, bit}
 use Rattle.etcs_vars.specs.declared.var.Var.{Var}
-use Rattle.etcs_vars.specs.declared.var.Var.TheVariants.{Q_UPDOWN, Q_MEDIA, Q_LINK, NID_PACKET, FILL, PAD}
+use Rattle.etcs_vars.specs.declared.var.Var.TheVariants.{Q_UPDOWN, Q_MEDIA, Q_LINK}
 use Rattle.etcs_vars.specs.Vars.{width, admits, inside, ranges}
 use Rattle.etcs_vars.specs.Reading.{Reading, spelled, numbers, kept}
-use Rattle.etcs_vars.proofs.Apart.{Agree, AllFit, Agree-append, Agree-same, AllFit-append}
-use Rattle.etcs_vars.proofs.Walk.{spelled-append, Regular}
 use Rattle.etcs_vars.proofs.Prefixes.{admits_parts, admits_from, some_number}
-use Rattle.etcs_telegram.specs.declared.size.Size.{Size}
-use Rattle.etcs_telegram.specs.Telegrams.{header_row, HeaderParts, header_reading, header_of, IsAdmitted, user_bits, pad_bits, TelegramLanguage}
+use Rattle.etcs_telegram.specs.Telegrams.{header_row, HeaderParts, header_reading, header_of, IsAdmitted}
 use Rattle.etcs_telegram.specs.Headers.{labelled}
 use Rattle.etcs_telegram.specs.Phases.{RowReads}
 

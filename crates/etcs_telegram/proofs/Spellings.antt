@@ -11,7 +11,7 @@ use Rattle.etcs_vars.specs.Reading.{Sent, Reading, spelled, kept}
 use Rattle.etcs_vars.proofs.Apart.{Agree, AllFit, Agree-append, Agree-same, AllFit-append, apart, cut}
 use Rattle.etcs_vars.proofs.Walk.{spelled-append, Regular}
 use Rattle.etcs_telegram.specs.declared.size.Size.{Size}
-use Rattle.etcs_telegram.specs.Telegrams.{HeaderParts, TelegramValue, TelegramReads, ReadsAs, TelegramLanguage, OneSpelling, header_reading, user_bits, pad_bits}
+use Rattle.etcs_telegram.specs.Telegrams.{HeaderParts, TelegramValue, TelegramReads, TelegramLanguage, OneSpelling, header_reading, user_bits, pad_bits}
 use Rattle.etcs_telegram.proofs.HeaderLemmas.{admitted_fit, header_length, header_same}
 
 kept_agree : (v : Var) (bs cs : List Bool) → length bs ≡ length cs → Agree (kept v bs) (kept v cs)

@@ -1,12 +1,11 @@
 -- What is wrong with a header, in the order of its variables (SUBSET-026, 7.5).
-use Rattle.std.specs.Prelude.{◌≡◌, ℕ, Bool, List, [], ◌∷◌, length, Option, None}
-use Rattle.etcs_bits.specs.Bits.{bit}
+use Rattle.std.specs.Prelude.{◌≡◌, ℕ, List, [], ◌∷◌, length, Option}
 use Rattle.etcs_vars.specs.declared.var.Var.{Var}
 use Rattle.etcs_vars.specs.declared.fault.BuildFault.{BuildFault}
 use Rattle.etcs_vars.specs.declared.var.Var.TheVariants.{M_VERSION_HEADER, N_PIG, N_TOTAL, M_DUP, M_MCOUNT, NID_C, NID_BG}
 use Rattle.etcs_vars.specs.Faults.{◌or_else◌, number_fault}
 use Rattle.etcs_vars.specs.Reading.{Reading}
-use Rattle.etcs_telegram.specs.Telegrams.{header_row, HeaderParts, IsAdmitted}
+use Rattle.etcs_telegram.specs.Telegrams.{header_row, IsAdmitted}
 
 abbrev pub header_fault : ℕ → ℕ → ℕ → ℕ → ℕ → ℕ → ℕ → Option BuildFault
 header_fault m_version n_pig n_total m_dup m_mcount nid_c nid_bg =

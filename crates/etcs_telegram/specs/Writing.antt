@@ -1,5 +1,5 @@
 -- A telegram's reading, and what a loop that writes one keeps.
-use Rattle.std.specs.Prelude.{◌≡◌, ◌≤◌, ℕ, Bool, false, List, [], ◌∷◌, ◌++◌, length, take, drop, replicate}
+use Rattle.std.specs.Prelude.{◌≡◌, ◌≤◌, ℕ, Bool, false, List, ◌∷◌, ◌++◌, length, take, drop, replicate}
 use Rattle.etcs_vars.specs.declared.var.Var.TheVariants.{NID_PACKET, FILL, PAD}
 use Rattle.etcs_vars.specs.Reading.{Reading, spelled, kept}
 use Rattle.etcs_telegram.specs.Telegrams.{TelegramValue, IsAdmitted, header_reading, pad_bits}

@@ -1,7 +1,6 @@
 //! Where a reader stands between two bits.
 
-ghost use Rattle.std.specs.Prelude.{◌≡◌, ◌<◌, ◌^◌, ◌+◌, ℕ, true, length};
-ghost use Rattle.arrayvec.specs.ArrayVec.{array_vec_len};
+ghost use Rattle.std.specs.Prelude.{◌≡◌, ◌<◌, ◌^◌, ◌+◌, true, length};
 ghost use Rattle.etcs_telegram.specs.Phases.{is_numbered, after, IsPhase, header_with, IsHeaderRoom};
 
 use crate::phase::Phase;

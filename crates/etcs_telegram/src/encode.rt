@@ -9,8 +9,8 @@ ghost use Rattle.etcs_telegram.specs.Writing.{telegram_reading};
 
 use crate::header::Header;
 use crate::parts::{HEADER, header_numbers};
-use etcs_bits::parts;
 use crate::telegram::Telegram;
+use etcs_bits::parts;
 use etcs_vars::Var;
 use std::error::Error;
 use std::fmt;

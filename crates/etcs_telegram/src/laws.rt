@@ -11,8 +11,7 @@ use std::alloc::{AllocError, Global};
 /// Telegrams of one size with one spelling are equal, and no spelling begins another.
 pub fn one_spelling()
     ensures { OneSpelling }
-{
-}
+{}
 
 /// `==` of telegrams is equality of their values: size, header and FILL.
 pub fn exact_equality(first: &Telegram, second: &Telegram) -> bool

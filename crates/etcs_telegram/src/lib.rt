@@ -20,4 +20,6 @@ pub use size::Size;
 pub use telegram::Telegram;
 
 #[cfg(test)]
+mod reader_tests;
+#[cfg(test)]
 mod tests;

@@ -1,10 +1,8 @@
 //! A resumable reader of telegrams.
 
-ghost use Rattle.std.specs.Prelude.{◌≡◌, ◌≢◌, ◌<◌, ◌≤◌, ℕ, ◌+◌, ◌*◌, List, Bool, [], ◌∷◌, ◌++◌, length, IsTrue, ◌↔◌, MatchResult};
+ghost use Rattle.std.specs.Prelude.{◌≡◌, ◌≢◌, ◌<◌, List, Bool, [], MatchResult};
 ghost use Rattle.etcs_bits.specs.Bits.{bits};
 ghost use Rattle.etcs_telegram.specs.Phases.{is_going};
-ghost use Rattle.etcs_telegram.specs.Courses.{IsCourse, seen_by};
-ghost use Rattle.etcs_telegram.specs.Telegrams.{TelegramReads};
 
 use crate::course::{Course, Stop};
 use crate::header::Header;
@@ -33,7 +31,8 @@ impl Stop {
     }
 }
 
-/// Reads a telegram from pieces.
+/// Reads a balise telegram from pieces of any length. It keeps none of the bytes: only the header's numbers, the FILL
+/// bits so far and one unfinished variable.
 #[derive(Drop)]
 pub struct TelegramReader {
     course: Course,
@@ -56,7 +55,7 @@ impl TelegramReader {
     ghost use Rattle.etcs_telegram.specs.Telegrams.{TelegramValue, ReadsAs};
     ghost use Rattle.etcs_telegram.specs.Readers.{ReaderValue, Feeds, IsReading, fault_of, seen_of, reading, finished};
 
-    /// A reader of telegrams of a size.
+    /// A reader of telegrams of this size. Nothing is allocated before the first FILL bit.
     pub fn new(alloc: Global, size: Size) -> Self
         ensures { result ≡ record { size = size; stage = reading [] } }
     {
@@ -74,14 +73,21 @@ impl TelegramReader {
         }
     }
 
-    /// How many leading bits were accepted.
+    /// How many leading bits were accepted, over all pieces.
     pub fn bits_seen(&self) -> usize
         ensures { result ≡ seen_of self.now.stage }
     {
         self.course.count
     }
 
-    /// Takes the next piece.
+    /// Takes the next piece: `More` where all of it was taken and the telegram isn't whole yet, `Done` with the
+    /// number of its bytes up to the telegram's end.
+    ///
+    /// # Errors
+    ///
+    /// `Refused` with the first bit, counted from 0 over all pieces, with which no telegram goes on, and the variable
+    /// that holds it; `Memory` where the memory of the FILL bits is refused; `Ended` where the telegram was whole
+    /// before. The reader then answers the same to each later piece, and `bits_seen` tells how far it came.
     pub fn feed(&mut self, piece: &[u8]) -> Result<Fed, ReadFault>
         ensures answer { (seen : List Bool) → self.old.stage ≡ reading seen → Feeds (ReadsAs self.old.size) seen (bits piece.now) result self.new.stage }
         ensures after { (IsReading self.old.stage → ⊥) → (self.new ≡ self.old) × (result ≡ Err (fault_of self.old.stage)) }
@@ -102,7 +108,11 @@ impl TelegramReader {
         }
     }
 
-    /// The telegram, once there is one.
+    /// The telegram, once `feed` has answered `Done`.
+    ///
+    /// # Errors
+    ///
+    /// The reader itself, as it was, where there is no whole telegram.
     pub fn take(self) -> Result<Telegram, Self>
         ensures { MatchResult result (λ t. self.stage ≡ finished t) (λ r. (r ≡ self) × ((t : TelegramValue) → self.stage ≢ finished t)) }
     {

@@ -1,6 +1,6 @@
 //! Bits of a telegram, by whole variables where a piece has them.
 
-ghost use Rattle.std.specs.Prelude.{◌≡◌, ◌<◌, ◌≤◌, ℕ, ◌+◌, ◌-◌, ◌*◌, ◌%◌, ◌^◌, slice_index_or, true, false, length, List, Bool, [], ◌∷◌, ◌++◌, drop, OnOk, OnErr, IfOk, IfErr};
+ghost use Rattle.std.specs.Prelude.{◌≡◌, ◌<◌, ◌≤◌, ◌+◌, ◌-◌, ◌*◌, ◌%◌, ◌^◌, slice_index_or, true, false, length, [], ◌∷◌, ◌++◌, drop, OnOk, OnErr, IfOk, IfErr};
 ghost use Rattle.etcs_bits.specs.Bits.{bit, num, bits, part};
 ghost use Rattle.etcs_vars.specs.Vars.{width};
 ghost use Rattle.etcs_telegram.specs.Phases.{var_at, is_going, is_numbered};
@@ -35,7 +35,8 @@ fn push_bit(course: &mut Course, one: bool) -> Result<(), Stop>
     let var = course.phase.var();
     let rest = var.width() - (course.taken + 1);
     let number = course.number * 2 + digit(one);
-    if !begins(course.phase.ranges(), rest, number) {
+    let ranges = course.phase.ranges();
+    if !begins(ranges, rest, number) {
         return Err(Stop::Refused {
             bit: course.count,
             var,

@@ -56,11 +56,7 @@ impl Telegram {
     ///
     /// `FillLength`, with the same bits, where they aren't exactly the rest of the telegram: 152 bits of a short
     /// one, 772 of a long one.
-    pub fn with_fill(
-        size: Size,
-        header: Header,
-        fill: Bits,
-    ) -> Result<Telegram, (BuildFault, Bits)>
+    pub fn with_fill(size: Size, header: Header, fill: Bits) -> Result<Telegram, (BuildFault, Bits)>
         ensures ok { IfOk result (λ t. t ≡ record { size = size; header = header; fill = fill }) }
         ensures fits { OnOk result (length fill ≡ fill_bits size) }
         ensures fault { IfErr result (λ e. (e.0 ≡ BuildFault.FillLength) × (e.1 ≡ fill) × (length fill ≢ fill_bits size)) }

@@ -1,4 +1,4 @@
-use Rattle.std.proofs.Common.{◌≡◌, ℕ, ◌≤◌, ◌+◌, Bool, List, length, arith, ap, ◌∙◌}
+use Rattle.std.proofs.Common.{◌≡◌, ℕ, Bool, List, length, arith, ap, ◌∙◌}
 use Rattle.etcs_bits.specs.Bits.{bits, num, replaced}
 use Rattle.etcs_vars.specs.Reading.{spelled}
 use Rattle.etcs_telegram.specs.Telegrams.{HeaderParts, header_reading, user_bits, pad_bits, container_bytes}

@@ -1,5 +1,4 @@
 use Rattle.std.proofs.Common.{arith, ◌∙◌, sym}
-use Rattle.etcs_telegram.specs.Readers.{finished}
 use Rattle.etcs_telegram.proofs.RoundTrips.{Answered, read_again, container_small, same_telegram}
 use Rattle.etcs_telegram.proofs.laws.round_trip.Goals as goal
 

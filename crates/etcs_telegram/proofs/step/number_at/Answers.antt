@@ -1,4 +1,4 @@
-use Rattle.std.proofs.Common.{◌≡◌, ◌^◌, ◌<◌, length, sym, arith}
+use Rattle.std.proofs.Common.{◌^◌, ◌<◌, length}
 use Rattle.etcs_bits.specs.Bits.{bits, part, value}
 use Rattle.etcs_bits.proofs.Numbers.{value_below}
 use Rattle.etcs_telegram.proofs.Fronts.{peeked, part_number, length-part}

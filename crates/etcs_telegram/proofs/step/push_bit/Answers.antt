@@ -1,4 +1,4 @@
-use Rattle.std.proofs.Common.{◌≡◌, ◌+◌, ◌*◌, ◌<◌, ◌^◌, ◌∷◌, ◌++◌, [], List, Bool, true, false, ap, ◌∙◌, arith}
+use Rattle.std.proofs.Common.{◌≡◌, ◌+◌, ◌*◌, ◌<◌, ◌++◌, List, Bool, true, false, ap, ◌∙◌, arith}
 use Rattle.etcs_bits.specs.Bits.{bit}
 use Rattle.etcs_bits.proofs.Positions.{bit-le}
 use Rattle.etcs_vars.specs.Vars.{width}
@@ -11,7 +11,7 @@ pub returns-then-not-begins-clause-stop : goal.returns-then-not-begins-clause-st
 returns-then-not-begins-clause-stop c =
     let k = c.args.course.now in
     let number = k.number * 2 + c.digit.result in
-    let t = tested c.begins.result c.ranges-2.result.now (ranges_at k.phase) c.width.result (k.taken + 1) number c.var-var.result (var_at k.phase) false c.begins.ensures c.ranges-2.ensures c.width.ensures c.var-var.ensures c.if-not-begins.true in
+    let t = tested c.begins.result c.ranges-ranges.result.now (ranges_at k.phase) c.width.result (k.taken + 1) number c.var-var.result (var_at k.phase) false c.begins.ensures c.ranges-ranges.ensures c.width.ensures c.var-var.ensures c.if-not-begins.true in
     rw c.var-var.ensures (stops k c.requires.course c.args.one number c.requires.numbered (ap (λ n. k.number * 2 + n) c.digit.ensures) t)
 
 pub overflow_add-course-then-rest-gt0 : goal.overflow_add-course-then-rest-gt0
@@ -24,7 +24,7 @@ pub returns-then-rest-gt0-clause-course : goal.returns-then-rest-gt0-clause-cour
 returns-then-rest-gt0-clause-course c =
     let k = c.args.course.now in
     let number = k.number * 2 + c.digit.result in
-    let t = tested c.begins.result c.ranges-2.result.now (ranges_at k.phase) c.width.result (k.taken + 1) number c.var-var.result (var_at k.phase) true c.begins.ensures c.ranges-2.ensures c.width.ensures c.var-var.ensures c.if-not-begins.false in
+    let t = tested c.begins.result c.ranges-ranges.result.now (ranges_at k.phase) c.width.result (k.taken + 1) number c.var-var.result (var_at k.phase) true c.begins.ensures c.ranges-ranges.ensures c.width.ensures c.var-var.ensures c.if-not-begins.false in
     let short : k.taken + 1 < width (var_at k.phase) = (let w = c.width.ensures ∙ ap width c.var-var.ensures in omega (arith, w)) in
     (goes_on k c.requires.course 1 (bit c.args.one) number c.requires.numbered (omega (arith, bit-le c.args.one)) (ap (λ n. k.number * 2 + n) c.digit.ensures) t short).0
 
@@ -32,7 +32,7 @@ pub returns-then-rest-gt0-clause-ok : goal.returns-then-rest-gt0-clause-ok
 returns-then-rest-gt0-clause-ok c =
     let k = c.args.course.now in
     let number = k.number * 2 + c.digit.result in
-    let t = tested c.begins.result c.ranges-2.result.now (ranges_at k.phase) c.width.result (k.taken + 1) number c.var-var.result (var_at k.phase) true c.begins.ensures c.ranges-2.ensures c.width.ensures c.var-var.ensures c.if-not-begins.false in
+    let t = tested c.begins.result c.ranges-ranges.result.now (ranges_at k.phase) c.width.result (k.taken + 1) number c.var-var.result (var_at k.phase) true c.begins.ensures c.ranges-ranges.ensures c.width.ensures c.var-var.ensures c.if-not-begins.false in
     let short : k.taken + 1 < width (var_at k.phase) = (let w = c.width.ensures ∙ ap width c.var-var.ensures in omega (arith, w)) in
     (goes_on k c.requires.course 1 (bit c.args.one) number c.requires.numbered (omega (arith, bit-le c.args.one)) (ap (λ n. k.number * 2 + n) c.digit.ensures) t short).1 ∙ ap (λ (b : List Bool). seen_by k ++ b) (one_bit c.args.one)
 
@@ -40,7 +40,7 @@ pub returns-else-rest-gt0-clause-course : goal.returns-else-rest-gt0-clause-cour
 returns-else-rest-gt0-clause-course c =
     let k = c.args.course.now in
     let number = k.number * 2 + c.digit.result in
-    let t = tested c.begins.result c.ranges-2.result.now (ranges_at k.phase) c.width.result (k.taken + 1) number c.var-var.result (var_at k.phase) true c.begins.ensures c.ranges-2.ensures c.width.ensures c.var-var.ensures c.if-not-begins.false in
+    let t = tested c.begins.result c.ranges-ranges.result.now (ranges_at k.phase) c.width.result (k.taken + 1) number c.var-var.result (var_at k.phase) true c.begins.ensures c.ranges-ranges.ensures c.width.ensures c.var-var.ensures c.if-not-begins.false in
     let short = c.requires.course.reached.unfinished.short in
     let whole : k.taken + 1 ≡ width (var_at k.phase) = (let w = c.width.ensures ∙ ap width c.var-var.ensures in omega (arith, w, short)) in
     let e = c.take_number.ensures in
@@ -50,7 +50,7 @@ pub returns-else-rest-gt0-clause-ok : goal.returns-else-rest-gt0-clause-ok
 returns-else-rest-gt0-clause-ok c =
     let k = c.args.course.now in
     let number = k.number * 2 + c.digit.result in
-    let t = tested c.begins.result c.ranges-2.result.now (ranges_at k.phase) c.width.result (k.taken + 1) number c.var-var.result (var_at k.phase) true c.begins.ensures c.ranges-2.ensures c.width.ensures c.var-var.ensures c.if-not-begins.false in
+    let t = tested c.begins.result c.ranges-ranges.result.now (ranges_at k.phase) c.width.result (k.taken + 1) number c.var-var.result (var_at k.phase) true c.begins.ensures c.ranges-ranges.ensures c.width.ensures c.var-var.ensures c.if-not-begins.false in
     let short = c.requires.course.reached.unfinished.short in
     let whole : k.taken + 1 ≡ width (var_at k.phase) = (let w = c.width.ensures ∙ ap width c.var-var.ensures in omega (arith, w, short)) in
     let e = c.take_number.ensures in

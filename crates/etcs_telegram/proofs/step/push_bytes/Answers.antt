@@ -1,4 +1,4 @@
-use Rattle.std.proofs.Common.{◌≡◌, ◌+◌, ◌*◌, ◌<◌, ◌≤◌, ◌++◌, List, Bool, length, take, sym, ap, ◌∙◌, arith, length-take-le}
+use Rattle.std.proofs.Common.{◌<◌, length, take, ap, ◌∙◌, arith, length-take-le}
 use Rattle.std.proofs.lemmas.Result.{err_from_is_err_and}
 use Rattle.etcs_bits.specs.Bits.{bits}
 use Rattle.etcs_bits.proofs.Positions.{length-bits}

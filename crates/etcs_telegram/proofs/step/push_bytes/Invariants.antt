@@ -1,4 +1,4 @@
-use Rattle.std.proofs.Common.{◌≡◌, ◌-◌, ◌*◌, ◌≤◌, ◌++◌, take, length}
+use Rattle.std.proofs.Common.{◌≡◌, ◌-◌, ◌≤◌, ◌++◌, take}
 use Rattle.etcs_bits.specs.Bits.{bits}
 use Rattle.etcs_telegram.specs.Courses.{IsCourse, seen_by}
 use Rattle.etcs_telegram.proofs.step.push_bytes.Given as goal

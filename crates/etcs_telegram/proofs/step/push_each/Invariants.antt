@@ -1,6 +1,5 @@
-use Rattle.std.proofs.Common.{◌≡◌, ◌+◌, ◌<◌, ◌++◌, true, take}
+use Rattle.std.proofs.Common.{◌≡◌, ◌+◌, ◌<◌, ◌++◌, take}
 use Rattle.etcs_bits.specs.Bits.{num}
-use Rattle.etcs_telegram.specs.Phases.{is_numbered}
 use Rattle.etcs_telegram.specs.Courses.{IsCourse, seen_by}
 use Rattle.etcs_telegram.proofs.step.push_each.Given as goal
 

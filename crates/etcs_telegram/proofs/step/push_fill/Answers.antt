@@ -1,4 +1,4 @@
-use Rattle.std.proofs.Common.{◌≡◌, ◌+◌, ◌<◌, ◌≤◌, length, sym, ap, ◌∙◌, arith, refl, length-append}
+use Rattle.std.proofs.Common.{◌+◌, ap, ◌∙◌, arith, refl, length-append}
 use Rattle.etcs_telegram.specs.declared.course.Course.{Course}
 use Rattle.etcs_telegram.specs.Phases.{after_fill}
 use Rattle.etcs_telegram.specs.Courses.{seen_by}

@@ -1,11 +1,11 @@
-use Rattle.std.proofs.Common.{◌≡◌, ◌+◌, ◌*◌, ◌<◌, ◌≤◌, ◌++◌, List, Bool, length, ap, ◌∙◌, arith}
+use Rattle.std.proofs.Common.{◌++◌, List, Bool, ap, ◌∙◌, arith}
 use Rattle.std.proofs.lemmas.Result.{err_from_is_err_and}
-use Rattle.etcs_bits.specs.Bits.{bits, part}
+use Rattle.etcs_bits.specs.Bits.{bits}
 use Rattle.etcs_bits.proofs.Positions.{length-bits}
 use Rattle.etcs_vars.specs.Vars.{width}
 use Rattle.etcs_telegram.specs.Telegrams.{TelegramLanguage}
 use Rattle.etcs_telegram.specs.Courses.{seen_by}
-use Rattle.etcs_telegram.proofs.Fronts.{stops_in_part, front_of_part}
+use Rattle.etcs_telegram.proofs.Fronts.{stops_in_part}
 use Rattle.etcs_telegram.proofs.step.push_number.Goals as goal
 
 pub overflow_mul-piece : goal.overflow_mul-piece

@@ -1,6 +1,5 @@
-use Rattle.std.proofs.Common.{◌≡◌, ◌+◌, ◌-◌, ◌*◌, ◌/◌, ◌<◌, ◌≤◌, ◌++◌, length, take, min, sym, ap, ◌∙◌, arith, length-take-le}
+use Rattle.std.proofs.Common.{◌≡◌, ◌-◌, ◌/◌, ◌≤◌, length, take, min, sym, ap, ◌∙◌, arith, length-take-le}
 use Rattle.std.proofs.lemmas.Result.{err_from_is_err_and}
-use Rattle.etcs_bits.specs.Bits.{bits}
 use Rattle.etcs_bits.proofs.Positions.{length-bits}
 use Rattle.etcs_telegram.specs.Telegrams.{TelegramLanguage, container_bytes}
 use Rattle.etcs_telegram.specs.Courses.{seen_by}

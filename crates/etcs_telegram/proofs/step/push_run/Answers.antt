@@ -1,10 +1,10 @@
-use Rattle.std.proofs.Common.{◌≡◌, ◌+◌, ◌*◌, ◌<◌, ◌≤◌, ◌++◌, List, Bool, length, ap, ◌∙◌, arith}
+use Rattle.std.proofs.Common.{◌+◌, ◌≤◌, ◌++◌, List, Bool, length, ap, ◌∙◌, arith}
 use Rattle.std.proofs.lemmas.Result.{err_from_is_err_and}
-use Rattle.etcs_bits.specs.Bits.{bits, part}
+use Rattle.etcs_bits.specs.Bits.{bits}
 use Rattle.etcs_bits.proofs.Positions.{length-bits}
 use Rattle.etcs_telegram.specs.Telegrams.{TelegramLanguage}
 use Rattle.etcs_telegram.specs.Courses.{seen_by}
-use Rattle.etcs_telegram.proofs.Fronts.{stops_in_part, front_none, length-part}
+use Rattle.etcs_telegram.proofs.Fronts.{stops_in_part, length-part}
 use Rattle.etcs_telegram.proofs.Fills.{fill_some}
 use Rattle.etcs_telegram.proofs.step.push_run.Goals as goal
 

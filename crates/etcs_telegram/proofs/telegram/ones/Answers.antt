@@ -1,4 +1,4 @@
-use Rattle.std.proofs.Common.{◌≤◌, ◌≡◌, ◌∙◌, arith}
+use Rattle.std.proofs.Common.{◌≤◌, ◌∙◌, arith}
 use Rattle.etcs_telegram.proofs.Ones.{ones_fit, ones_more}
 use Rattle.etcs_telegram.proofs.telegram.ones.Goals as goal
 
@@ -8,8 +8,7 @@ push_number-requires-clause-fits c = let small : c.min-width.result ≤ 64 = ome
 pub loop-left-preserved : goal.loop-left-preserved
 loop-left-preserved c =
     let small : c.min-width.result ≤ 64 = omega arith in
-    let low : c.min-width.result ≤ c.loop-left.left = omega arith in
-    (
+    let low : c.min-width.result ≤ c.loop-left.left = omega arith in (
       c.in_ok-push_number.ensures.ok ∙ ones_more c.args.len c.loop-left.left c.min-width.result c.loop-left.bits small low c.loop-left.invariant.1 c.loop-left.invariant.0,
       omega arith,
     )

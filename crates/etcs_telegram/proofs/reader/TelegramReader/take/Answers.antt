@@ -1,5 +1,5 @@
 use Rattle.std.proofs.Common.{sym, ◌∙◌}
-use Rattle.etcs_telegram.proofs.Ends.{whole_telegram, whole_numbers}
+use Rattle.etcs_telegram.proofs.Ends.{whole_telegram}
 use Rattle.etcs_telegram.proofs.reader.TelegramReader.take.Goals as goal
 
 pub invariant_of-result : goal.invariant_of-result

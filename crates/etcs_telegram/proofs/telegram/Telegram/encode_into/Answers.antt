@@ -1,4 +1,4 @@
-use Rattle.std.proofs.Common.{◌≡◌, Bool, List, ◌++◌, drop, ap, ◌∙◌}
+use Rattle.std.proofs.Common.{Bool, List, ◌++◌, drop, ap, ◌∙◌}
 use Rattle.etcs_bits.specs.Bits.{bits}
 use Rattle.etcs_telegram.specs.Telegrams.{container_bytes}
 use Rattle.etcs_telegram.specs.Writing.{telegram_reading}
@@ -7,8 +7,7 @@ use Rattle.etcs_telegram.proofs.telegram.Telegram.encode_into.Goals as goal
 
 pub returns-clause-ok : goal.returns-clause-ok
 returns-clause-ok c =
-    let behind = drop c.container_bytes-len.result c.args.out.now in
-    (
+    let behind = drop c.container_bytes-len.result c.args.out.now in (
       c.container_bytes-len.ensures ∙ ap container_bytes c.size.ensures,
       telegram_reading c.args.self.now,
       c.write_telegram.ensures.reads,

@@ -1,0 +1,31 @@
+//! The program `etcs`, over the process' own words and streams.
+#![tactic(auto)]
+
+use std::io::{ErrorKind, Write};
+use std::process::ExitCode;
+use std::{env, io};
+
+fn main(rt: HostRuntime) -> ExitCode {
+    let mut faults = rt.stderr();
+    let status = match words(&rt) {
+        Ok(words) => etcs_cli::run_words(rt.alloc(), words, rt.stdin(), rt.stdout(), &mut faults),
+        Err(error) => refused_words(error.kind(), &mut faults),
+    };
+    ExitCode::from(status)
+}
+
+/// The words of the command line, the program's name first.
+fn words(rt: &HostRuntime) -> io::Result<Vec<String>> {
+    let words = env::args(rt)?.collect::<Vec<String>>(rt.alloc())?;
+    Ok(words)
+}
+
+/// Says why there are no words, and answers the status.
+fn refused_words(kind: ErrorKind, faults: &mut impl Write) -> u8 {
+    if kind == ErrorKind::OutOfMemory {
+        let _ = faults.write_all(b"etcs: out of memory\n");
+        return 3;
+    }
+    let _ = faults.write_all(b"etcs: a word of the command line is not UTF-8\n");
+    2
+}

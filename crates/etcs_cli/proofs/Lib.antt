@@ -1,0 +1,6 @@
+pub mod Digits
+pub mod Streams
+pub mod Splits
+pub mod Known
+pub mod Runs
+pub mod Texts

@@ -1,0 +1,14 @@
+-- What the items of an input are.
+use Rattle.std.specs.Prelude.{ℕ, List}
+use Rattle.etcs_telegram.specs.Telegrams.{TelegramValue}
+use Rattle.etcs_cli.specs.Show.{show_text}
+use Rattle.etcs_cli.specs.declared.engine.job.Entry.{Entry}
+use Rattle.etcs_cli.specs.declared.engine.job.Entry.TheVariants.{Telegram}
+
+-- the telegram that an item is
+abbrev pub telegram_of : Entry → TelegramValue
+telegram_of (Telegram t) = t
+
+-- the text of an item
+abbrev pub entry_text : Entry → ℕ → List ℕ
+entry_text entry item = show_text (telegram_of entry) item

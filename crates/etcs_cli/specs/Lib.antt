@@ -1,0 +1,10 @@
+pub mod Ends
+pub mod Entries
+pub mod Faults
+pub mod Jobs
+pub mod Lines
+pub mod Runs
+pub mod Show
+pub mod Streams
+pub mod Steps
+pub mod Statuses

@@ -1,0 +1,51 @@
+-- Lines of hexadecimal digits, and the bytes that they say.
+use Rattle.std.specs.Prelude.{◌≡◌, ℕ, ◌%◌, List, [], ◌∷◌, ◌++◌, length, Option, Some, None, nat_lt, not, ◌==◌, if◌then◌else◌, flat_map}
+use Rattle.std.specs.List.{position}
+use Rattle.std.specs.Io.BufRead.{strip_last}
+use Rattle.std.specs.Result.{result_unwrap_or}
+use Rattle.hex.specs.Hex.{is_hex_digit, decode_of}
+
+-- the place at which a line isn't hexadecimal: it is too long, odd, or has another character
+abbrev pub bad_place : List ℕ → Option ℕ
+bad_place line =
+    if nat_lt 4096 (length line) then Some 4096
+    else if length line % 2 == 1 then Some (length line)
+    else position (λ c. not (is_hex_digit c)) line
+
+-- the characters of a line that ends with a LF: one CR just before it is dropped
+abbrev pub strip_cr : List ℕ → List ℕ
+strip_cr line = strip_last 13 line
+
+-- the bytes that a good line says
+abbrev pub line_bytes : List ℕ → List ℕ
+line_bytes line = result_unwrap_or (decode_of line) []
+
+-- each line with its LF
+abbrev pub lines_text : List (List ℕ) → List ℕ
+lines_text lines = flat_map (λ line. line ++ 10 ∷ []) lines
+
+-- what lines with a LF say
+abbrev pub lines_bytes : List (List ℕ) → List ℕ
+lines_bytes lines = flat_map (λ line. line_bytes (strip_cr line)) lines
+
+-- each line that has a LF is good once its CR is dropped
+abbrev pub AreGood : List (List ℕ) → Type 0
+AreGood [] = Unit {0}
+AreGood (line ∷ lines) = (bad_place (strip_cr line) ≡ None) × AreGood lines
+
+-- the text is lines of hexadecimal that say these bytes; the last of them may be empty, and has no LF. A good line has
+-- no LF inside, so the lines are what stands between the LFs
+pub record IsHexText (text bytes : List ℕ) : Type 0 where
+  pub lines : List (List ℕ)
+  pub last : List ℕ
+  pub text_is : text ≡ lines_text lines ++ last
+  pub lines_good : AreGood lines
+  pub last_good : bad_place last ≡ None
+  pub bytes_are : bytes ≡ lines_bytes lines ++ line_bytes last
+
+-- some characters were kept of a line without its LF; with a piece behind them, some lines end, and these are kept
+pub record Splits (kept kept' piece bytes : List ℕ) : Type 0 where
+  pub lines : List (List ℕ)
+  pub text_is : kept ++ piece ≡ lines_text lines ++ kept'
+  pub good : AreGood lines
+  pub bytes_are : bytes ≡ lines_bytes lines

@@ -1,0 +1,50 @@
+//! Numbers and bits as digits.
+
+ghost use Rattle.std.specs.Prelude.{◌≡◌, ◌^◌, ◌<◌, ◌≤◌, ◌++◌, map, OnOk};
+ghost use Rattle.std.specs.Fmt.{decimal};
+ghost use Rattle.etcs_bits.specs.Bits.{num};
+ghost use Rattle.etcs_cli.specs.Show.{bit_digit};
+
+use etcs_bits::BitSlice;
+use std::alloc::AllocError;
+
+/// Appends the digits of a number, with no leading zero.
+pub(crate) fn push_decimal(number: u64, out: &mut Vec<u8>) -> Result<(), AllocError>
+    ensures { OnOk result (out.new.items ≡ out.old.items ++ decimal number) }
+{
+    if number < 10 {
+        out.push(b'0' + number as u8)?;
+        return Ok(());
+    }
+    push_decimal(number / 10, out)?;
+    out.push(b'0' + (number % 10) as u8)?;
+    Ok(())
+}
+
+/// Appends the lowest bits of a number as digits, the most significant first.
+fn push_bits(number: u64, width: usize, out: &mut Vec<u8>) -> Result<(), AllocError>
+    requires { width ≤ 64 }
+    ensures { OnOk result (out.new.items ≡ out.old.items ++ map bit_digit (num width number)) }
+{
+    let mut digits = [0u8; 64];
+    for place in 0..width {
+        digits[place] = b'0' + ((number >> (width - 1 - place)) & 1) as u8;
+    }
+    out.extend_from_slice(&digits[..width])
+}
+
+/// Appends bits as digits.
+pub(crate) fn push_slice(bits: &BitSlice<'_>, out: &mut Vec<u8>) -> Result<(), AllocError>
+    ensures { OnOk result (out.new.items ≡ out.old.items ++ map bit_digit bits.now) }
+{
+    let mut at = 0;
+    while at < bits.len() {
+        let width = (bits.len() - at).min(64);
+        match bits.number(at, width) {
+            Some(number) => push_bits(number, width, out)?,
+            None => unreachable!(),
+        }
+        at += width;
+    }
+    Ok(())
+}

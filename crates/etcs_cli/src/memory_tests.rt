@@ -57,9 +57,11 @@ fn pushed_bits(rt: HostRuntime) -> Result<(), Fail> {
     for room in ROOMS {
         let mut bits = Bits::new(alloc);
         bits.push_number(8, 0xA5)?;
+        assert_eq!(rt; bits.len(), 8);
         let held = starve_to(alloc, room)?;
         let one = bits.push(true).is_ok();
         let before = bits.len();
+        assert!(rt; before < 10);
         let many = bits.push_number(64, u64::MAX).is_ok();
         drop(held);
         assert_eq!(rt; before, if one { 9 } else { 8 });

@@ -116,8 +116,13 @@ fn push_entry(entry: &Entry, item: u64, out: &mut Vec<u8>) -> Result<(), AllocEr
     }
 }
 
-/// Appends the text of the entry, which is the item of this number. Where memory is refused, `out`
-/// is as before.
+/// Appends the text of an entry, the item of this number: a line with the number, the kind and the
+/// count of user bits, a line for each variable of the header in the order of sending (SUBSET-026,
+/// 7.5), `packet 255`, and the line of FILL. Each line ends with a LF.
+///
+/// # Errors
+///
+/// Where memory is refused. `out` is then as before.
 pub fn show_lines(entry: &Entry, item: u64, out: &mut Vec<u8>) -> Result<(), AllocError>
     ensures ok { OnOk result (out.new.items ≡ out.old.items ++ entry_text entry.now item) }
     ensures err { OnErr result (out.new.items ≡ out.old.items) }

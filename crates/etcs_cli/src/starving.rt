@@ -5,6 +5,7 @@ ghost use Rattle.std.specs.Prelude.{◌≤◌};
 use std::alloc::{AllocError, Global};
 
 /// Blocks that leave no room for another of 16 bytes. They reserve addresses and touch nearly none.
+/// Small blocks are taken in each size, since the heap keeps freed ones for requests of their size.
 pub(crate) fn starve(alloc: Global) -> Result<Vec<Vec<u8>>, AllocError> {
     let mut held = Vec::with_capacity(alloc, 400_000)?;
     let mut size = 1usize << 46;
@@ -14,7 +15,7 @@ pub(crate) fn starve(alloc: Global) -> Result<Vec<Vec<u8>>, AllocError> {
         }
         match Vec::with_capacity(alloc, size) {
             Ok(block) => held.push(block)?,
-            Err(_) => size /= 2,
+            Err(_) => size = if size > 2048 { size / 2 } else { size - 16 },
         }
     }
     Ok(held)

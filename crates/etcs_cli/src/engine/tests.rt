@@ -1,6 +1,7 @@
 use super::fakes::{Broken, Counted, Full, Narrow, Repeated, Slow};
 use super::samples::{LONG, LONG_TEXT, MIXED, MIXED_TEXT, SHORT, SHORT_TEXT};
 use super::*;
+use etcs_telegram::{Header, Size, Telegram};
 use etcs_vars::Var;
 use std::alloc::Global;
 use std::io::{self, Read};
@@ -369,6 +370,40 @@ fn reads_until_the_last_turn(rt: HostRuntime) {
     let answer = run(alloc, SHOW_SHORT, &mut source, &mut sink);
     assert!(rt; answer == items(0));
     assert!(rt; source.reads() == 16_000_000);
+}
+
+/// A run over a short telegram so often, with the answer and the bytes that were written.
+fn run_often(alloc: Global, input: &[u8], left: u64) -> (Result<Tally, RunFault>, u64) {
+    let mut source = Input::new(Repeated { bytes: input, left });
+    let mut counted = Counted { bytes: 0 };
+    let mut sink = Output::new(&mut counted);
+    let answer = run(alloc, SHOW_SHORT, &mut source, &mut sink);
+    drop(sink);
+    (answer, counted.bytes)
+}
+
+#[test]
+fn ends_endless_items(rt: HostRuntime) -> Result<(), Fail> {
+    let alloc = rt.alloc();
+    let input = format!(in alloc; "{SHORT}\n")?;
+    let all = run_often(alloc, input.as_bytes(), 1_000_000);
+    assert!(rt; all.0 == items(1_000_000));
+    let endless = run_often(alloc, input.as_bytes(), u64::MAX);
+    assert!(rt; endless.0 == Err(RunFault::Endless));
+    assert!(rt; endless.1 == all.1);
+    Ok(())
+}
+
+#[test]
+fn appends_the_lines_of_an_entry(rt: HostRuntime) -> Result<(), Fail> {
+    let alloc = rt.alloc();
+    let header = Header::new(32, 0, 0, 0, 255, 1, 1, true)?;
+    let entry = Entry::Telegram(Telegram::new(alloc, Size::Short, header)?);
+    let text = format!(in alloc; "before\nitem 12345{SHORT_TEXT}")?;
+    let mut out = b"before\n".to_vec(alloc)?;
+    show_lines(&entry, 12_345, &mut out)?;
+    assert!(rt; out.as_slice() == text.as_bytes());
+    Ok(())
 }
 
 /// The line of a fault.

@@ -154,8 +154,3 @@ telegram_written t b b1 b2 b3 b4 reads size e1 e2 e3 e4 =
     let left : length r3 ≤ length pad = omega (arith, length-drop (length t.fill) r2, length-drop (length nid) r1, length-drop (length head) b, length-num 8 255, l1, l4, size, reads.user_bits_is) in
     let none : drop (length pad) r3 ≡ [] = drop_all (length pad) r3 left in
     s4 ∙ ap (λ (s : List Bool). (((head ++ nid) ++ t.fill) ++ pad) ++ s) none ∙ append-nil (((head ++ nid) ++ t.fill) ++ pad) ∙ sym (telegram_bits t)
-
-pub bits-append : (xs ys : List ℕ) → bits (xs ++ ys) ≡ bits xs ++ bits ys
-unfolding bits
-bits-append [] ys = refl
-bits-append (x ∷ xs) ys = ap (λ (b : List Bool). num 8 x ++ b) (bits-append xs ys) ∙ sym (append_assoc (num 8 x) (bits xs) (bits ys))

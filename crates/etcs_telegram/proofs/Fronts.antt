@@ -15,7 +15,7 @@ use Rattle.etcs_telegram.specs.declared.course.Course.{Course}
 use Rattle.etcs_telegram.specs.declared.course.Stop.{Stop}
 use Rattle.etcs_telegram.specs.declared.course.Stop.TheVariants.{Refused, Memory}
 use Rattle.etcs_telegram.specs.Telegrams.{TelegramLanguage}
-use Rattle.etcs_telegram.proofs.Encoding.{bits-append}
+use Rattle.etcs_bits.proofs.ByteBits.{bits-append}
 use Rattle.etcs_telegram.specs.Courses.{StopsIn, IsFront, IsCourse, seen_by}
 
 pub front_next : (b xs : List Bool) (k : ℕ) → k < length xs → (b ++ take k xs) ++ get_or xs k false ∷ [] ≡ b ++ take (k + 1) xs

@@ -2,7 +2,7 @@
 
 ghost use Rattle.std.specs.Prelude.{◌<◌, length};
 
-use crate::laws::exact_equality;
+use crate::laws::{exact_equality, round_trip};
 use crate::parts::header_numbers;
 use crate::{Header, NoRoom, Size, Telegram};
 use etcs_bits::{BitSlice, Bits};
@@ -199,6 +199,21 @@ fn fill_with_a_zero(rt: HostRuntime) -> Result<(), Fail> {
     put_ends(&mut wanted, 0xC0);
     wanted[25] = 0xFE;
     assert_eq!(rt; out, wanted);
+    Ok(())
+}
+
+/// What is read again from the telegram's encoding.
+fn again(alloc: Global, telegram: &Telegram) -> Result<Telegram, Fail> {
+    Ok(round_trip(alloc, telegram)?)
+}
+
+#[test]
+fn telegrams_are_read_again(rt: HostRuntime) -> Result<(), Fail> {
+    let alloc = rt.alloc();
+    let short = with_last(alloc, 0xFB)?;
+    assert_eq!(rt; again(alloc, &short)?, short);
+    let long = telegram(alloc, Size::Long)?;
+    assert_eq!(rt; again(alloc, &long)?, long);
     Ok(())
 }
 

@@ -2,7 +2,7 @@ use Rattle.std.proofs.Common.{Bool, List, ◌++◌, drop, ap, ◌∙◌}
 use Rattle.etcs_bits.specs.Bits.{bits}
 use Rattle.etcs_telegram.specs.Telegrams.{container_bytes}
 use Rattle.etcs_telegram.specs.Writing.{telegram_reading}
-use Rattle.etcs_telegram.proofs.Encoding.{bits-append}
+use Rattle.etcs_bits.proofs.ByteBits.{bits-append}
 use Rattle.etcs_telegram.proofs.telegram.Telegram.encode_into.Goals as goal
 
 pub returns-clause-ok : goal.returns-clause-ok

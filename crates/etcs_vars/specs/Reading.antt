@@ -1,9 +1,9 @@
 -- What a list of bits spells: variables in the order in which they are sent, each with its number.
 -- Packets, telegrams and messages are sets of such readings (SUBSET-026, 7.4 and 8).
-use Rattle.std.specs.Prelude.{◌≡◌, ℕ, zero, suc, ◌+◌, ◌-◌, ◌≤◌, ◌<◌, Bool, List, [], ◌∷◌, ◌++◌, length, take, map, flat_map, All, IsTrue, Option, Some, None, nat_lt, if◌then◌else◌}
+use Rattle.std.specs.Prelude.{◌≡◌, ℕ, zero, suc, ◌+◌, ◌-◌, ◌≤◌, ◌<◌, Bool, List, [], ◌∷◌, ◌++◌, length, take, map, flat_map, Option, Some, None, nat_lt, if◌then◌else◌}
 use Rattle.etcs_bits.specs.Bits.{num}
 use Rattle.etcs_vars.specs.declared.var.Var.{Var}
-use Rattle.etcs_vars.specs.Vars.{width, admits}
+use Rattle.etcs_vars.specs.Vars.{width}
 
 -- a variable and its number
 abbrev pub Sent : Type 0
@@ -20,10 +20,6 @@ spelled r = flat_map (λ p. num (width p.0) p.1) r
 -- the numbers alone
 abbrev pub numbers : Reading → List ℕ
 numbers r = map (λ p. p.1) r
-
--- each variable admits its number
-abbrev pub AllAdmitted : Reading → Type 0
-AllAdmitted r = All (λ p. IsTrue (admits p.0 p.1)) r
 
 -- kept bits: one variable of one bit for each
 abbrev pub kept : Var → List Bool → Reading

@@ -39,11 +39,6 @@ numbered_fill (Fill left) fill n h = absurd cc
 numbered_fill (Pad left) fill n h = refl
 numbered_fill Whole fill n h = refl
 
-pub one_bit : (b : Bool) → num 1 (bit b) ≡ b ∷ []
-unfolding num
-one_bit true = refl
-one_bit false = refl
-
 module _ (k : Course) (is : IsCourse k) where
   pub going_count : is_going k.phase ≡ true → k.count < container_bits k.size
   going_count going = omega (arith, is.counted, going_length k.size k.phase k.header.items k.fill k.number k.taken is.reached going)

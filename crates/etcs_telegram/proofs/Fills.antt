@@ -22,7 +22,8 @@ use Rattle.etcs_telegram.specs.Courses.{seen_by, IsCourse}
 use Rattle.etcs_telegram.proofs.Rows.{row_length}
 use Rattle.etcs_telegram.proofs.Reaching.{reached_number, seen_of_number, num_none}
 use Rattle.etcs_telegram.proofs.Ends.{row_labelled}
-use Rattle.etcs_telegram.proofs.CourseSteps.{one_bit, count_small}
+use Rattle.etcs_vars.proofs.Stepping.{one_bit}
+use Rattle.etcs_telegram.proofs.CourseSteps.{count_small}
 
 bit_back : (b : Bool) → (bit b == 1) ≡ b
 bit_back true = refl

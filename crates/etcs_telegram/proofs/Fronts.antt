@@ -1,5 +1,5 @@
 -- Bits one behind the other: fronts of what comes, and what stops within it.
-use Rattle.std.proofs.Common.{◌≡◌, ℕ, ◌+◌, ◌-◌, ◌*◌, ◌/◌, ◌%◌, ◌<◌, ◌≤◌, ◌^◌, Bool, true, false, List, [], ◌∷◌, ◌++◌, length, take, drop, get_or, refl, sym, ap, ◌∙◌, arith, append_assoc, append-nil, eqb, leb, Some, take-add, length-drop}
+use Rattle.std.proofs.Common.{◌≡◌, ℕ, ◌+◌, ◌-◌, ◌*◌, ◌/◌, ◌%◌, ◌<◌, ◌≤◌, ◌^◌, Bool, true, false, List, [], ◌∷◌, ◌++◌, length, take, drop, get_or, refl, sym, ap, ◌∙◌, arith, append_assoc, append-nil, eqb, leb, Some, take-add}
 use Rattle.std.specs.Prelude.{bit_and, Option}
 use Rattle.std.proofs.lemmas.Nat.{and_mask}
 use Rattle.std.proofs.lemmas.Bool.{le-leb}
@@ -7,6 +7,7 @@ use Rattle.std.proofs.lemmas.List.{take_more, take-append-drop, length-append, t
 use Rattle.std.proofs.Math.Seq.{take-append-add}
 use Rattle.etcs_bits.specs.Bits.{num, value, bits, part, number_at}
 use Rattle.etcs_bits.proofs.Numbers.{num-value}
+use Rattle.etcs_bits.proofs.Lists.{length-part}
 use Rattle.etcs_bits.proofs.Positions.{num_at, length-bits}
 use Rattle.etcs_vars.specs.Reading.{Reading}
 use Rattle.etcs_vars.proofs.Outcomes.{refuses_longer}
@@ -54,12 +55,9 @@ count_more k k' xs is is' e =
 
 -- ---- A part of a list.
 
-pub length-part : (xs : List Bool) (at n : ℕ) → at + n ≤ length xs → length (part at n xs) ≡ n
-length-part xs at n h = length-take-le n (drop at xs) (omega (arith, length-drop at xs))
-
 pub part_number : (xs : List Bool) (at n number : ℕ) → at + n ≤ length xs → number ≡ value (part at n xs) → num n number ≡ part at n xs
 part_number xs at n number h e =
-    let len = length-part xs at n h in
+    let len = length-part at n xs h in
     let w : num (length (part at n xs)) (value (part at n xs)) ≡ part at n xs = num-value (part at n xs) in
     ap (λ m. num n m) e ∙ ap (λ m. num m (value (part at n xs))) (sym len) ∙ w
 

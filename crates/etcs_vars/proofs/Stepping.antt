@@ -36,7 +36,7 @@ next_number taken k bits more m =
     value_same (num k (bits * 2 ^ k + more)) (num k more) (length-num k (bits * 2 ^ k + more) ∙ sym (length-num k more)) (value-num_low k (bits * 2 ^ k + more) ∙ mod-mul-add bits (2 ^ k) more m ∙ sym (value-num k more m)) in
     num-add taken k (bits * 2 ^ k + more) ∙ rw (div-mul-add bits (2 ^ k) more m, low) refl
 
-one_bit : (b : Bool) → num 1 (bit b) ≡ b ∷ []
+pub one_bit : (b : Bool) → num 1 (bit b) ≡ b ∷ []
 unfolding num
 one_bit true = refl
 one_bit false = refl

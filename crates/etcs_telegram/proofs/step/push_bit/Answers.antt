@@ -4,7 +4,8 @@ use Rattle.etcs_bits.proofs.Positions.{bit-le}
 use Rattle.etcs_vars.specs.Vars.{width}
 use Rattle.etcs_telegram.specs.Phases.{var_at, ranges_at}
 use Rattle.etcs_telegram.specs.Courses.{seen_by}
-use Rattle.etcs_telegram.proofs.CourseSteps.{numbered_going, count_small, stops, goes_on, goes_behind, tested, one_bit}
+use Rattle.etcs_telegram.proofs.CourseSteps.{numbered_going, count_small, stops, goes_on, goes_behind, tested}
+use Rattle.etcs_vars.proofs.Stepping.{one_bit}
 use Rattle.etcs_telegram.proofs.step.push_bit.Goals as goal
 
 pub returns-then-not-begins-clause-stop : goal.returns-then-not-begins-clause-stop

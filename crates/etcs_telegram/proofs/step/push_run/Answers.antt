@@ -4,7 +4,8 @@ use Rattle.etcs_bits.specs.Bits.{bits}
 use Rattle.etcs_bits.proofs.Positions.{length-bits}
 use Rattle.etcs_telegram.specs.Telegrams.{TelegramLanguage}
 use Rattle.etcs_telegram.specs.Courses.{seen_by}
-use Rattle.etcs_telegram.proofs.Fronts.{stops_in_part, length-part}
+use Rattle.etcs_telegram.proofs.Fronts.{stops_in_part}
+use Rattle.etcs_bits.proofs.Lists.{length-part}
 use Rattle.etcs_telegram.proofs.Fills.{fill_some}
 use Rattle.etcs_telegram.proofs.step.push_run.Goals as goal
 
@@ -20,7 +21,7 @@ run_at-requires c = omega (arith, c.min-count.ensures, c.requires.inside, length
 pub push_fill-requires-clause-some : goal.push_fill-requires-clause-some
 push_fill-requires-clause-some c =
     let inside : c.args.at + c.min-count.result ≤ length (bits c.args.piece.now) = omega (arith, c.min-count.ensures, c.requires.inside, length-bits c.args.piece.now) in
-    let len = length-part (bits c.args.piece.now) c.args.at c.min-count.result inside in
+    let len = length-part c.args.at c.min-count.result (bits c.args.piece.now) inside in
     let same = ap (λ (x : List Bool). length x) c.run_at.ensures in
     omega (arith, len, same, c.min-count.ensures, fill_some c.args.course.now c.args.left c.requires.phase c.requires.course, c.requires.inside, length-bits c.args.piece.now)
 

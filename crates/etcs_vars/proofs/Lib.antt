@@ -1,4 +1,5 @@
 pub mod Apart
+pub mod Languages
 pub mod Walk
 pub mod Prefixes
 pub mod Stepping

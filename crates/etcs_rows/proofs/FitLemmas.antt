@@ -1,0 +1,212 @@
+-- What is left of a row, as a sum whose parts are added one after the other.
+use Rattle.std.proofs.Common.{◌≡◌, ℕ, ◌+◌, ◌*◌, ◌<◌, ◌≤◌, List, [], ◌∷◌, ◌++◌, reverse, Bool, false, Option, Some, None, refl, sym, ◌∙◌, subst, arith, inl, inr}
+use Rattle.std.specs.Prelude.{◌↔◌, IsTrue, IfSome}
+use Rattle.std.proofs.lemmas.Bool.{cases_lt}
+use Rattle.etcs_vars.specs.declared.var.Var.{Var}
+use Rattle.etcs_vars.specs.Vars.{width, admits}
+use Rattle.etcs_rows.specs.declared.item.RowItem.{RowItem}
+use Rattle.etcs_rows.specs.declared.item.RowItem.TheVariants.{One}
+use Rattle.etcs_rows.specs.declared.place.Pending.{Pending}
+use Rattle.etcs_rows.specs.declared.place.Cursor.{Cursor}
+use Rattle.etcs_rows.specs.declared.steps.Steps.{Steps}
+use Rattle.etcs_rows.specs.Layouts.{Layout, whole, layout}
+use Rattle.etcs_rows.specs.Places.{onto, append}
+use Rattle.etcs_rows.specs.Cursors.{waiting, left_of}
+use Rattle.etcs_rows.specs.Lengths.{LengthsBy, front, behind, GroupsWithin, FirstWithin, FitsWithin}
+use Rattle.etcs_rows.specs.Steps.{InSteps, AreSteps}
+use Rattle.etcs_rows.specs.Sums.{Plus, SumOf}
+use Rattle.etcs_rows.specs.Waiting.{Agains, Tails, Onward}
+use Rattle.etcs_rows.proofs.CursorLemmas.{reverse-push}
+use Rattle.etcs_rows.proofs.PlaceLemmas.{Open-onto, Open-waiting}
+use Rattle.etcs_rows.proofs.LengthLemmas.{SameSet, set_along, set_back, set_self, Plus-same, lengths-onto, lengths-iterate}
+use Rattle.etcs_rows.proofs.SumLemmas.{lengths-parts, first_and_tail}
+use Rattle.etcs_rows.proofs.RowSums.{Plus-assoc, zero-Plus, whole_sum, first_sum}
+use Rattle.etcs_rows.proofs.StepLemmas.{in_first}
+
+-- ---- Sums.
+
+-- two sums of two, added crosswise
+cross : (G A I T : ℕ → Type 0) → SameSet (Plus G (Plus I (Plus A T))) (Plus (Plus G A) (Plus I T))
+cross G A I T m = (
+  λ (g, x, pg, (i, y, pi, (a, t, pa, pt, e), f), h). (g + a, i + t, (g, a, pg, pa, refl), (i, t, pi, pt, refl), (let k : g + a + (i + t) ≡ m = omega (arith, e, f, h) in k)),
+  λ (x, y, (g, a, pg, pa, e), (i, t, pi, pt, f), h). (g, i + (a + t), pg, (i, a + t, pi, (a, t, pa, pt, refl), refl), (let k : g + (i + (a + t)) ≡ m = omega (arith, e, f, h) in k)),
+)
+
+-- what waits goes in front
+pub waiting_first : (A R T : ℕ → Type 0) → SameSet (Plus A (Plus R T)) (Plus R (Plus A T))
+waiting_first A R T m = (
+  λ (a, x, pa, (r, t, pr, pt, e), f). (r, a + t, pr, (a, t, pa, pt, refl), (let k : r + (a + t) ≡ m = omega (arith, e, f) in k)),
+  λ (r, x, pr, (a, t, pa, pt, e), f). (a, r + t, pa, (r, t, pr, pt, refl), (let k : a + (r + t) ≡ m = omega (arith, e, f) in k)),
+)
+
+-- ---- Answers.
+
+pub answer_same : (r : Option Bool) (P Q : Type 0) → (P ↔ Q) → IfSome r (λ b. IsTrue b ↔ P) → IfSome r (λ b. IsTrue b ↔ Q)
+answer_same None P Q same h = tt
+answer_same (Some b) P Q same h = (λ x. same.0 (h.0 x), λ y. h.1 (same.1 y))
+
+-- a part by another name, in front of what stands behind groups
+pub chosen : (r : Option Bool) (S A G : ℕ → Type 0) (items : List RowItem) (row : Layout) (ps : List Pending) (m : ℕ) → SameSet A G → layout items ≡ behind row → IfSome r (λ b. IsTrue b ↔ Plus S (Plus A (Onward items ps)) m)
+    → IfSome r (λ b. IsTrue b ↔ Plus S (Plus G (Plus (LengthsBy (behind row) 0) (Tails (reverse ps)))) m)
+chosen r S A G items row ps m same is h =
+    let X = Onward items ps in
+    let there = answer_same r (Plus S (Plus A X) m) (Plus S (Plus G X) m) (Plus-same S (Plus A X) S (Plus G X) (set_self S) (Plus-same A X G X same (set_self X)) m) h in
+    subst (λ (x : Layout). IfSome r (λ b. IsTrue b ↔ Plus S (Plus G (Plus (LengthsBy x 0) (Tails (reverse ps)))) m)) is there
+
+-- numbers that all pass what is asked for
+pub past_bits : (s : Steps) (B : ℕ → Type 0) (m : ℕ) → m < s.first → IsTrue false ↔ Plus (InSteps s) B m
+past_bits s B m h = (λ x. absurd cc, λ (j, k, a, b, e). absurd (let t = in_first s j a in omega (arith, t, e)))
+
+-- ---- One variable after the other.
+
+pub onward_end : (items : List RowItem) (ps : List Pending) → layout items ≡ whole → SameSet (Tails (reverse ps)) (Onward items ps)
+onward_end items ps e =
+    let T = Tails (reverse ps) in
+    set_along T (Plus (λ m. m ≡ 0) T) (Onward items ps) (zero-Plus T) (Plus-same (λ m. m ≡ 0) T (LengthsBy (layout items) 0) T (whole_sum (layout items) 0 e) (set_self T))
+
+-- a part that is moved into the sum
+pub moved : (s : Steps) (S W R T L : ℕ → Type 0) → AreSteps s (Plus S W) → SameSet (Plus W R) L → SameSet (Plus (InSteps s) (Plus R T)) (Plus S (Plus L T))
+moved s S W R T L hs same =
+    set_along (Plus (InSteps s) (Plus R T)) (Plus (Plus S W) (Plus R T)) (Plus S (Plus L T)) (Plus-same (InSteps s) (Plus R T) (Plus S W) (Plus R T) hs (set_self (Plus R T)))
+    (set_along (Plus (Plus S W) (Plus R T)) (Plus S (Plus W (Plus R T))) (Plus S (Plus L T)) (Plus-assoc S W (Plus R T))
+    (Plus-same S (Plus W (Plus R T)) S (Plus L T) (set_self S)
+    (set_along (Plus W (Plus R T)) (Plus (Plus W R) T) (Plus L T) (set_back (Plus (Plus W R) T) (Plus W (Plus R T)) (Plus-assoc W R T)) (Plus-same (Plus W R) T L T same (set_self T)))))
+
+-- the variables in front that no group looks at
+pub led : (sum wide s : Steps) (items behind : List RowItem) (ps : List Pending) (width : ℕ) → AreSteps wide (λ k. k ≡ width) → AreSteps s (Plus (InSteps sum) (InSteps wide)) → SameSet (LengthsBy (layout items) 0) (Plus (λ k. k ≡ width) (LengthsBy (layout behind) 0))
+    → SameSet (Plus (InSteps s) (Onward behind ps)) (Plus (InSteps sum) (Onward items ps))
+led sum wide s items behind ps width hw hs same =
+    let S = InSteps sum in let W : ℕ → Type 0 = λ k. k ≡ width in let R = LengthsBy (layout behind) 0 in let L = LengthsBy (layout items) 0 in
+    let has : AreSteps s (Plus S W) = set_along (InSteps s) (Plus S (InSteps wide)) (Plus S W) hs (Plus-same S (InSteps wide) S W (set_self S) hw) in
+    moved s S W R (Tails (reverse ps)) L has (set_back L (Plus W R) same)
+
+-- the same with a part of two parts
+pub moved_two : (s : Steps) (S W G B T L : ℕ → Type 0) → AreSteps s (Plus S W) → SameSet (Plus W (Plus G B)) L → SameSet (Plus (InSteps s) (Plus G (Plus B T))) (Plus S (Plus L T))
+moved_two s S W G B T L hs same =
+    set_along (Plus (InSteps s) (Plus G (Plus B T))) (Plus (InSteps s) (Plus (Plus G B) T)) (Plus S (Plus L T))
+    (Plus-same (InSteps s) (Plus G (Plus B T)) (InSteps s) (Plus (Plus G B) T) (set_self (InSteps s)) (set_back (Plus (Plus G B) T) (Plus G (Plus B T)) (Plus-assoc G B T)))
+    (moved s S W (Plus G B) T L hs same)
+
+-- behind the innermost group that waits
+pub leave_sum : (g : Steps) (p : Pending) (outer ps : List Pending) (items : List RowItem) → ps ≡ outer ++ p ∷ [] → AreSteps g (LengthsBy (front (layout p.items.now)) p.before) → layout items ≡ behind (layout p.items.now)
+    → SameSet (Plus (InSteps g) (Onward items outer)) (Tails (reverse ps))
+leave_sum g p outer ps items e hg is =
+    let row = layout p.items.now in let n = p.before in let T = Tails (reverse outer) in
+    let F = LengthsBy (front row) n in let B = LengthsBy (behind row) 0 in
+    rw (e, reverse-push, is) (set_along (Plus (InSteps g) (Plus B T)) (Plus F (Plus B T)) (Plus (LengthsBy row n) T)
+    (Plus-same (InSteps g) (Plus B T) F (Plus B T) hg (set_self (Plus B T)))
+    (set_along (Plus F (Plus B T)) (Plus (Plus F B) T) (Plus (LengthsBy row n) T) (set_back (Plus (Plus F B) T) (Plus F (Plus B T)) (Plus-assoc F B T))
+    (Plus-same (Plus F B) T (LengthsBy row n) T (set_back (LengthsBy row n) (Plus F B) (lengths-parts row n)) (set_self T))))
+
+-- and where nothing is behind it
+pub leave_empty : (p : Pending) (outer ps : List Pending) → ps ≡ outer ++ p ∷ [] → layout p.items.now ≡ whole → SameSet (Tails (reverse outer)) (Tails (reverse ps))
+leave_empty p outer ps e none =
+    let T = Tails (reverse outer) in
+    rw (e, reverse-push) (set_along T (Plus (λ m. m ≡ 0) T) (Plus (LengthsBy (layout p.items.now) p.before) T) (zero-Plus T) (Plus-same (λ m. m ≡ 0) T (LengthsBy (layout p.items.now) p.before) T (whole_sum (layout p.items.now) p.before none) (set_self T)))
+
+-- ---- Numbers one after the other.
+
+-- no admitted number from low and below next makes the sum
+pub record NoneTo (v : Var) (F : ℕ → ℕ → Type 0) (S X : ℕ → Type 0) (low next m : ℕ) : Type 0 where
+  pub fail : (n : ℕ) → low ≤ n → n < next → IsTrue (admits v n) → Plus S (Plus (F n) X) m → ⊥
+
+pub none_more : (v : Var) (F : ℕ → ℕ → Type 0) (S X : ℕ → Type 0) (low n m : ℕ) → NoneTo v F S X low n m → (IsTrue (admits v n) → Plus S (Plus (F n) X) m → ⊥) → NoneTo v F S X low (n + 1) m
+none_more v F S X low n m h not = record {
+  fail = λ k l u ok x.
+      elim (cases_lt k n) [
+        | inl under ↦ h.fail k l under ok x
+        | inr over ↦ (let same : k ≡ n = omega (arith, u, over) in not (subst (λ i. IsTrue (admits v i)) same ok) (subst (λ i. Plus S (Plus (F i) X) m) same x))
+      ];
+}
+
+pub none_all : (v : Var) (rest : Layout) (S X : ℕ → Type 0) (low high next m : ℕ) → NoneTo v (λ n. LengthsBy (front rest) n) S X low next m → ((n : ℕ) → low ≤ n → n ≤ high → IsTrue (admits v n) → n < next)
+    → IsTrue false ↔ Plus S (Plus (GroupsWithin v rest low high) X) m
+none_all v rest S X low high next m h g = (
+  λ x. absurd cc,
+  λ (i, y, s, (j, k, (n, l, u, ok, f), x, e), t). absurd (h.fail n l (g n l u ok) ok (i, y, s, (j, k, f, x, e), t)),
+)
+
+pub each_not : (g : Steps) (F S X : ℕ → Type 0) (m : ℕ) → AreSteps g F → (Plus S (Plus (InSteps g) X) m → ⊥) → Plus S (Plus F X) m → ⊥
+each_not g F S X m hg not (i, y, s, (j, k, f, x, e), t) = not (i, y, s, (j, k, (hg j).1 f, x, e), t)
+
+-- no number below the next index makes the sum
+pub record NoneAt (more : Steps) (S X : ℕ → Type 0) (next m : ℕ) : Type 0 where
+  pub fail : (k : ℕ) → k < next → Plus S (Plus (λ j. more.first + k * more.step ≡ j) X) m → ⊥
+
+-- one number of the steps, as the code adds it
+one_added : (more single s : Steps) (S X : ℕ → Type 0) (k x : ℕ) → more.first + k * more.step ≡ x → AreSteps single (λ j. j ≡ x) → AreSteps s (Plus S (InSteps single)) → SameSet (Plus (InSteps s) X) (Plus S (Plus (λ j. more.first + k * more.step ≡ j) X))
+one_added more single s S X k x at is hs =
+    let N : ℕ → Type 0 = λ j. more.first + k * more.step ≡ j in
+    set_along (Plus (InSteps s) X) (Plus (Plus S N) X) (Plus S (Plus N X))
+    (Plus-same (InSteps s) X (Plus S N) X
+    (set_along (InSteps s) (Plus S (InSteps single)) (Plus S N) hs (Plus-same S (InSteps single) S N (set_self S) (λ j. (λ y. at ∙ sym ((is j).0 y), λ e. (is j).1 (sym e ∙ at))))) (set_self X))
+    (Plus-assoc S N X)
+
+pub at_found : (more single s : Steps) (S X : ℕ → Type 0) (k x m : ℕ) → k ≤ more.count → more.first + k * more.step ≡ x → AreSteps single (λ j. j ≡ x) → AreSteps s (Plus S (InSteps single)) → Plus (InSteps s) X m → Plus S (Plus (InSteps more) X) m
+unfolding InSteps
+at_found more single s S X k x m l at is hs h =
+    let (i, y, a, (j, z, e, b, f), t) = (one_added more single s S X k x at is hs m).0 h in
+    (i, y, a, (j, z, (k, l, e), b, f), t)
+
+pub at_more : (more single s : Steps) (S X : ℕ → Type 0) (k x m : ℕ) → NoneAt more S X k m → more.first + k * more.step ≡ x → AreSteps single (λ j. j ≡ x) → AreSteps s (Plus S (InSteps single)) → (Plus (InSteps s) X m → ⊥) → NoneAt more S X (k + 1) m
+at_more more single s S X k x m h at is hs not = record {
+  fail = λ i u y.
+      elim (cases_lt i k) [
+        | inl under ↦ h.fail i under y
+        | inr over ↦
+            let same : i ≡ k = omega (arith, u, over) in
+            not ((one_added more single s S X k x at is hs m).1 (subst (λ n. Plus S (Plus (λ j. more.first + n * more.step ≡ j) X) m) same y))
+      ];
+}
+
+pub at_none : (more : Steps) (S X : ℕ → Type 0) (next m : ℕ) → NoneAt more S X next m → more.count < next → IsTrue false ↔ Plus S (Plus (InSteps more) X) m
+unfolding InSteps
+at_none more S X next m h all = (
+  λ x. absurd cc,
+  λ (i, y, a, (j, z, (k, l, e), b, f), t). absurd (h.fail k (omega (arith, l, all)) (i, y, a, (j, z, e, b, f), t)),
+)
+
+-- ---- All that is left.
+
+-- the groups that wait, and what is behind them
+waiting_split : (ps : List Pending) → SameSet (LengthsBy (waiting ps) 0) (Plus (Agains ps) (Tails ps))
+waiting_split [] = set_along (LengthsBy whole 0) (λ m. m ≡ 0) (Plus (λ m. m ≡ 0) (λ m. m ≡ 0)) (set_back (λ m. m ≡ 0) (LengthsBy whole 0) (whole_sum whole 0 refl)) (zero-Plus (λ m. m ≡ 0))
+waiting_split (p ∷ ps) =
+    let n = p.before in let group = layout p.group.now in let items = layout p.items.now in
+    let G = SumOf p.times (LengthsBy group n) in let I = LengthsBy items n in let A = Agains ps in let T = Tails ps in
+    let W = LengthsBy (waiting ps) 0 in
+    let X = onto n items (waiting ps) in
+    set_along (LengthsBy (waiting (p ∷ ps)) 0) (Plus G (LengthsBy X 0)) (Plus (Plus G A) (Plus I T)) (lengths-iterate p.times n group X (Open-onto n items (waiting ps) (Open-waiting ps)))
+    (set_along (Plus G (LengthsBy X 0)) (Plus G (Plus I (Plus A T))) (Plus (Plus G A) (Plus I T))
+    (Plus-same G (LengthsBy X 0) G (Plus I (Plus A T)) (set_self G)
+    (set_along (LengthsBy X 0) (Plus I W) (Plus I (Plus A T)) (lengths-onto items (waiting ps) n (Open-waiting ps)) (Plus-same I W I (Plus A T) (set_self I) (waiting_split ps))))
+    (cross G A I T))
+
+-- what is left, where the groups that wait come first
+pub reaches_sum : (c : Cursor) (again g : Steps) (items : List RowItem) → AreSteps again (Agains (reverse c.pending.items)) → AreSteps g (LengthsBy (front (layout c.items.now)) c.before) → layout items ≡ behind (layout c.items.now)
+    → SameSet (Plus (InSteps again) (Plus (InSteps g) (Onward items c.pending.items))) (LengthsBy (left_of c) 0)
+reaches_sum c again g items ha hg is =
+    let row = layout c.items.now in let n = c.before in let ps = reverse c.pending.items in
+    let A = Agains ps in let T = Tails ps in let F = LengthsBy (front row) n in let B = LengthsBy (behind row) 0 in let L = LengthsBy row n in let W = LengthsBy (waiting ps) 0 in
+    rw is (set_along (Plus (InSteps again) (Plus (InSteps g) (Plus B T))) (Plus A (Plus L T)) (LengthsBy (left_of c) 0)
+    (Plus-same (InSteps again) (Plus (InSteps g) (Plus B T)) A (Plus L T) ha
+    (set_along (Plus (InSteps g) (Plus B T)) (Plus (Plus (InSteps g) B) T) (Plus L T) (set_back (Plus (Plus (InSteps g) B) T) (Plus (InSteps g) (Plus B T)) (Plus-assoc (InSteps g) B T))
+    (Plus-same (Plus (InSteps g) B) T L T (set_along (Plus (InSteps g) B) (Plus F B) L (Plus-same (InSteps g) B F B hg (set_self B)) (set_back L (Plus F B) (lengths-parts row n))) (set_self T))))
+    (set_along (Plus A (Plus L T)) (Plus L (Plus A T)) (LengthsBy (left_of c) 0) (waiting_first A L T)
+    (set_along (Plus L (Plus A T)) (Plus L W) (LengthsBy (left_of c) 0) (Plus-same L (Plus A T) L W (set_self L) (set_back W (Plus A T) (waiting_split ps)))
+    (set_back (LengthsBy (left_of c) 0) (Plus L W) (lengths-onto row (waiting ps) n (Open-waiting ps))))))
+
+-- the same, where a variable comes next
+pub fits_sum : (c : Cursor) (v : Var) (rest : List RowItem) (low high m : ℕ) (again s : Steps) → c.items.now ≡ One v ∷ rest → AreSteps again (Agains (reverse c.pending.items)) → AreSteps s (Plus (InSteps again) (λ k. k ≡ width v)) → m ≤ 8191
+    → Plus (InSteps s) (Plus (GroupsWithin v (layout rest) low high) (Plus (LengthsBy (behind (layout rest)) 0) (Tails (reverse c.pending.items)))) m ↔ FitsWithin (left_of c) low high m
+fits_sum c v rest low high m again s e ha hs small =
+    let ps = reverse c.pending.items in let row = layout rest in
+    let A = Agains ps in let T = Tails ps in let G = GroupsWithin v row low high in let B = LengthsBy (behind row) 0 in let L = FirstWithin v row low high in let W = LengthsBy (waiting ps) 0 in
+    let all : SameSet (Plus (InSteps s) (Plus G (Plus B T))) (FirstWithin v (append row (waiting ps)) low high) =
+    set_along (Plus (InSteps s) (Plus G (Plus B T))) (Plus (InSteps again) (Plus L T)) (FirstWithin v (append row (waiting ps)) low high)
+    (moved_two s (InSteps again) (λ k. k ≡ width v) G B T L hs (first_sum v row low high))
+    (set_along (Plus (InSteps again) (Plus L T)) (Plus A (Plus L T)) (FirstWithin v (append row (waiting ps)) low high) (Plus-same (InSteps again) (Plus L T) A (Plus L T) ha (set_self (Plus L T)))
+    (set_along (Plus A (Plus L T)) (Plus L (Plus A T)) (FirstWithin v (append row (waiting ps)) low high) (waiting_first A L T)
+    (set_along (Plus L (Plus A T)) (Plus L W) (FirstWithin v (append row (waiting ps)) low high) (Plus-same L (Plus A T) L W (set_self L) (set_back W (Plus A T) (waiting_split ps)))
+    (set_back (FirstWithin v (append row (waiting ps)) low high) (Plus L W) (first_and_tail v row (waiting ps) low high (Open-waiting ps)))))) in
+    rw e (λ x. ((all m).0 x, small), λ (x, l). (all m).1 x)

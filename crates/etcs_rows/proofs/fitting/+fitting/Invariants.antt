@@ -1,0 +1,51 @@
+use Rattle.std.proofs.Common.{ℕ, ◌+◌, ◌*◌, ◌≤◌, ◌<◌, List, length}
+use Rattle.std.specs.Prelude.{sum_by}
+use Rattle.etcs_rows.specs.declared.item.RowItem.{RowItem}
+use Rattle.etcs_rows.specs.declared.place.Pending.{Pending}
+use Rattle.etcs_rows.specs.Layouts.{layout}
+use Rattle.etcs_rows.specs.Lengths.{LengthsBy, front}
+use Rattle.etcs_rows.specs.Steps.{InSteps}
+use Rattle.etcs_rows.specs.Waiting.{Onward}
+use Rattle.etcs_rows.proofs.FitLemmas.{NoneTo, NoneAt}
+use Rattle.etcs_rows.proofs.StepSums.{NoTimes}
+use Rattle.etcs_rows.proofs.fitting.+fitting.Given as goal
+
+-- the items that are left
+abbrev items_left : List RowItem → List Pending → ℕ
+items_left items waiting = length items + sum_by (λ p. length p.items.now + 1) waiting
+
+abbrev pub decreases-choose : goal.decreases-choose
+decreases-choose l = 6 * items_left l.rest.now l.waiting.now + 6
+
+abbrev pub decreases-choose_each : goal.decreases-choose_each
+decreases-choose_each l = 6 * items_left l.rest.now l.waiting.now + 5
+
+abbrev pub decreases-leave : goal.decreases-leave
+decreases-leave l = 6 * sum_by (λ p. length p.items.now + 1) l.waiting.now
+
+abbrev pub decreases-onward : goal.decreases-onward
+decreases-onward l = 6 * items_left l.items.now l.waiting.now + 2
+
+abbrev pub decreases-spread : goal.decreases-spread
+decreases-spread l = 6 * items_left l.items.now l.waiting.now + 4
+
+abbrev pub decreases-spread_each : goal.decreases-spread_each
+decreases-spread_each l = 6 * items_left l.items.now l.waiting.now + 3
+
+abbrev pub decreases-times_each : goal.decreases-times_each
+decreases-times_each l = 6 * items_left l.items.now l.waiting.now + 5
+
+abbrev pub decreases-turn : goal.decreases-turn
+decreases-turn l = 6 * items_left l.items.now l.waiting.now + 1
+
+abbrev pub invariant-choose_each-loop-number : goal.invariant-choose_each-loop-number
+invariant-choose_each-loop-number l = record {
+  none : NoneTo l.var (λ n. LengthsBy (front (layout l.rest)) n) (InSteps l.sum) (Onward l.behind l.waiting) l.low l.number l.bits;
+  within : (n : ℕ) → l.low ≤ n → n < l.number → n ≤ l.high;
+}
+
+abbrev pub invariant-spread_each-loop-index : goal.invariant-spread_each-loop-index
+invariant-spread_each-loop-index l = record { none : NoneAt l.more (InSteps l.sum) (Onward l.items l.waiting) l.index l.bits }
+
+abbrev pub invariant-times_each-loop-times : goal.invariant-times_each-loop-times
+invariant-times_each-loop-times l = record { none : NoTimes l.group (InSteps l.sum) (Onward l.items l.waiting) l.first l.times l.bits }

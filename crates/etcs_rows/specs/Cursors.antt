@@ -1,0 +1,37 @@
+-- What a place in a row stands for.
+use Rattle.std.specs.Prelude.{◌≡◌, ℕ, ◌+◌, ◌-◌, ◌<◌, ◌≤◌, false, ◌&&◌, List, [], ◌∷◌, length, reverse, IsTrue, IfSome, sum_by}
+use Rattle.etcs_rows.specs.declared.place.Pending.{Pending}
+use Rattle.etcs_rows.specs.declared.place.Cursor.{Cursor}
+use Rattle.etcs_rows.specs.Layouts.{Layout, whole, layout, begins, nests}
+use Rattle.etcs_rows.specs.Lengths.{LengthsBy}
+use Rattle.etcs_rows.specs.Places.{onto, iterate}
+use Rattle.etcs_rows.specs.Steps.{AreSteps}
+
+-- the groups that wait, the innermost first
+abbrev pub waiting : List Pending → Layout
+waiting [] = whole
+waiting (p ∷ ps) = iterate p.times (onto p.before (layout p.group.now)) (onto p.before (layout p.items.now) (waiting ps))
+
+-- what is left of the row
+abbrev pub left_of : Cursor → Layout
+left_of c = onto c.before (layout c.items.now) (waiting (reverse c.pending.items))
+
+-- ---- What keeps the stack small.
+
+-- the steps that are kept are the lengths of the group
+abbrev pub KnowsSteps : Pending → Type 0
+KnowsSteps p = IfSome p.steps (λ s. AreSteps s (LengthsBy (layout p.group.now) p.before))
+
+abbrev pub WaitsNest : List Pending → Type 0
+WaitsNest [] = Unit {0}
+WaitsNest (p ∷ ps) = IsTrue (nests (4 - length ps) (layout p.items.now)) × (0 < p.times → IsTrue (begins (layout p.group.now) && nests (3 - length ps) (layout p.group.now))) × KnowsSteps p × WaitsNest ps
+
+abbrev pub Nests : Cursor → Type 0
+Nests c = (length c.pending.items ≤ 4) × IsTrue (nests (4 - length c.pending.items) (layout c.items.now)) × WaitsNest (reverse c.pending.items)
+
+-- a variable comes next, or the row has ended
+abbrev pub IsSettled : Cursor → Type 0
+IsSettled c = (begins (layout c.items.now) ≡ false) → (c.items.now ≡ []) × (c.pending.items ≡ [])
+
+abbrev pub cursor_size : Cursor → ℕ
+cursor_size c = length c.items.now + sum_by (λ p. length p.items.now + 1) c.pending.items

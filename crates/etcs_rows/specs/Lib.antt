@@ -1,0 +1,14 @@
+pub mod Layouts
+pub mod Flat
+pub mod Rows
+pub mod Places
+pub mod Cursors
+pub mod Typed
+pub mod Sums
+pub mod Lengths
+pub mod Sets
+pub mod Steps
+pub mod Waiting
+pub mod Writing
+pub mod Walks
+pub mod Frames

@@ -1,0 +1,54 @@
+-- What is left of a row, as a row: groups on numbers that are known are opened.
+use Rattle.std.specs.Prelude.{◌≡◌, ◌↔◌, ℕ, zero, suc, List, [], ◌∷◌, IsTrue, Option, Some, None, if◌then◌else◌}
+use Rattle.std.specs.Option.{option_and_then}
+use Rattle.etcs_vars.specs.declared.var.Var.{Var}
+use Rattle.etcs_vars.specs.Vars.{admits}
+use Rattle.etcs_rows.specs.Layouts.{Layout, whole, one, guarded, counted, passes, looks, Lengths}
+
+-- a row, and behind it another
+abbrev pub append : Layout → Layout → Layout
+append whole tail = tail
+append (one v rest) tail = one v (append rest tail)
+append (guarded g group rest) tail = guarded g group (append rest tail)
+append (counted group rest) tail = counted group (append rest tail)
+
+abbrev pub iterate : ℕ → (Layout → Layout) → Layout → Layout
+iterate zero f x = x
+iterate (suc n) f x = f (iterate n f x)
+
+-- a row behind a variable whose number is n, and behind it another: the groups in front stand there as n says
+abbrev pub onto : ℕ → Layout → Layout → Layout
+onto n whole tail = tail
+onto n (one v rest) tail = one v (append rest tail)
+onto n (guarded g group rest) tail = if passes g.test n then onto n group (onto n rest tail) else onto n rest tail
+onto n (counted group rest) tail = iterate n (onto n group) (onto n rest tail)
+
+-- the variable that comes next
+abbrev pub first_variable : Layout → Option Var
+first_variable whole = None
+first_variable (one v rest) = Some v
+first_variable (guarded g group rest) = None
+first_variable (counted group rest) = None
+
+-- what is left behind a number of the next variable
+abbrev pub after_number : Layout → ℕ → Option Layout
+after_number whole n = None
+after_number (one v rest) n = if admits v n then Some (onto n rest whole) else None
+after_number (guarded g group rest) n = None
+after_number (counted group rest) n = None
+
+-- what is left behind a number of the next variable, admitted or not
+abbrev pub after_any : Layout → ℕ → Option Layout
+after_any whole n = None
+after_any (one v rest) n = Some (onto n rest whole)
+after_any (guarded g group rest) n = None
+after_any (counted group rest) n = None
+
+-- what is left of a row behind these numbers of it
+abbrev pub left_behind : Layout → List ℕ → Option Layout
+left_behind row [] = Some row
+left_behind row (n ∷ f) = option_and_then (λ left. left_behind left f) (after_number row n)
+
+-- what may follow numbers of a row is what is left behind them
+abbrev pub PlacesStand : Type 0
+PlacesStand = (row left : Layout) (f : List ℕ) → IsTrue (looks None row) → left_behind row f ≡ Some left → (n : ℕ) → Lengths row f n ↔ Lengths left [] n

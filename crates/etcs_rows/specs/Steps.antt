@@ -1,0 +1,27 @@
+-- Numbers in equal steps.
+use Rattle.std.specs.Prelude.{◌≡◌, ℕ, ◌+◌, ◌*◌, ◌≤◌, ◌↔◌, Option, Some, None, MatchBool}
+use Rattle.etcs_rows.specs.declared.item.Test.{Test}
+use Rattle.etcs_rows.specs.declared.steps.Steps.{Steps}
+use Rattle.etcs_rows.specs.Layouts.{passes}
+use Rattle.etcs_rows.specs.Sums.{SumOf}
+
+-- first, first + step and so on, count times
+unfoldable pub InSteps : Steps → ℕ → Type 0
+InSteps s m = (i : ℕ) × (i ≤ s.count) × (s.first + i * s.step ≡ m)
+
+-- the numbers are those of A
+abbrev pub AreSteps : Steps → (ℕ → Type 0) → Type 0
+AreSteps s A = (m : ℕ) → InSteps s m ↔ A m
+
+-- the numbers, if there are any
+abbrev pub InAny : Option Steps → ℕ → Type 0
+InAny None m = ⊥
+InAny (Some s) m = InSteps s m
+
+-- the sums of n of the numbers, for n from first to last
+abbrev pub TimesWithin : Steps → ℕ → ℕ → ℕ → Type 0
+TimesWithin s first last m = (n : ℕ) × (first ≤ n) × (n ≤ last) × SumOf n (InSteps s) m
+
+-- the numbers where n passes the test, and else 0
+abbrev pub InGuarded : Test → Steps → ℕ → ℕ → Type 0
+InGuarded test s n m = MatchBool (passes test n) (InSteps s m) (m ≡ 0)

@@ -1,0 +1,93 @@
+-- Reading a row of a known number of bits, bit by bit.
+use Rattle.std.specs.Prelude.{◌≡◌, ◌↔◌, ℕ, ◌+◌, ◌-◌, ◌^◌, ◌<◌, ◌≤◌, Bool, List, [], ◌∷◌, ◌++◌, length, IsTrue, Option, Some, None, Result, Ok, Err, ◌⊎◌, refl}
+use Rattle.std.specs.Coded.{Coded, code_by, coded×, coded_ℕ, coded_bool, coded_list, coded_option}
+use Rattle.etcs_bits.specs.Bits.{num}
+use Rattle.etcs_vars.specs.declared.var.Var.{Var}
+use Rattle.etcs_vars.specs.contracts.var.Var as variable
+use Rattle.etcs_vars.specs.Vars.{width}
+use Rattle.etcs_vars.specs.Reading.{Reading, spelled, InLanguage, Viable, Owner}
+use Rattle.etcs_rows.specs.declared.walk.Step.{Step}
+use Rattle.etcs_rows.specs.declared.walk.Step.TheVariants.{More, Number, Whole}
+use Rattle.etcs_rows.specs.declared.walk.Stopped.{Stopped}
+use Rattle.etcs_rows.specs.declared.walk.Stopped.TheVariants.{Refused, Ended}
+use Rattle.etcs_rows.specs.Layouts.{Layout, whole, looks, is_sound, ReadsIn}
+use Rattle.etcs_rows.specs.Flat.{layout_code}
+use Rattle.etcs_rows.specs.Places.{first_variable, after_number}
+
+-- what is left of the row, how many bits that is with those of the unfinished variable, these bits, and the variable
+-- that held a bit that was refused
+pub record WalkValue : Type 0 where
+  pub left : Layout
+  pub len : ℕ
+  pub part : List Bool
+  pub refused : Option Var
+
+abbrev pub walk_code : Coded WalkValue
+walk_code =
+    code_by (Layout × (ℕ × (List Bool × Option Var))) (coded× layout_code (coded× coded_ℕ (coded× (coded_list coded_bool) (coded_option variable.the_row.coded))))
+    (λ w. (w.left, (w.len, (w.part, w.refused)))) (λ p. record { left = p.0; len = p.1.0; part = p.1.1.0; refused = p.1.1.1 }) (λ _. refl)
+
+-- the readings of what is left
+abbrev pub language : WalkValue → Reading → Type 0
+language w = ReadsIn w.left w.len
+
+-- t are the bits of the variable x of the number n, which goes on to what is left then
+abbrev pub Ends : WalkValue → List Bool → Var → ℕ → WalkValue → Type 0
+Ends old t x n new =
+    (first_variable old.left ≡ Some x)
+    × (n < 2 ^ width x)
+    × (t ≡ num (width x) n)
+    × (after_number old.left n ≡ Some new.left)
+    × (new.len + width x ≡ old.len)
+    × (new.part ≡ [])
+    × (new.refused ≡ None)
+
+-- the bits t of the next variable were taken: it isn't whole yet, or it is and the row goes on, or the row is whole
+abbrev pub Moves : WalkValue → List Bool → Step → WalkValue → Type 0
+Moves old t More new = (x : Var) × (first_variable old.left ≡ Some x) × (length t < width x) × Owner (language old) t x × (new ≡ record old { part = t })
+Moves old t (Number x n) new = Ends old t x n new × Viable (language old) t × (InLanguage (language old) t → ⊥) × (0 < new.len)
+Moves old t (Whole x n) new = Ends old t x n new × InLanguage (language old) t × (new.left ≡ whole) × (new.len ≡ 0)
+
+-- who holds the next bit, or why none is taken
+abbrev pub Holds : WalkValue → Result Var Stopped → Type 0
+Holds w (Ok x) = (w.refused ≡ None) × (first_variable w.left ≡ Some x)
+Holds w (Err (Refused x)) = w.refused ≡ Some x
+Holds w (Err Ended) = (w.refused ≡ None) × (first_variable w.left ≡ None)
+
+-- what a bit does
+abbrev pub Steps : WalkValue → Bool → Result Step Stopped → WalkValue → Type 0
+Steps old b (Ok step) new = (old.refused ≡ None) × Moves old (old.part ++ b ∷ []) step new
+Steps old b (Err (Refused x)) new =
+    ((old.refused ≡ None) × Owner (language old) old.part x × (Viable (language old) (old.part ++ b ∷ []) → ⊥) × (new ≡ record old { refused = Some x }))
+    ⊎ ((old.refused ≡ Some x) × (new ≡ old))
+Steps old b (Err Ended) new = (old.refused ≡ None) × (old.left ≡ whole) × (old.len ≡ 0) × (new ≡ old)
+
+-- what several bits do, one after the other, up to the first that ends a variable or isn't taken
+abbrev pub Walks : WalkValue → List Bool → Result Step Stopped → WalkValue → Type 0
+Walks old [] result new = (result ≡ Ok More) × (new ≡ old)
+Walks old (b ∷ bs) result new = ((result ≡ Ok More → ⊥) × Steps old b result new) ⊎ ((mid : WalkValue) × Steps old b (Ok More) mid × Walks mid bs result new)
+
+-- what a walk keeps
+pub record WalkKept (left : Layout) (len bits taken : ℕ) : Type 0 where
+  pub looks_well : IsTrue (looks None left)
+  pub short : len ≤ 8191
+  pub small : bits < 2 ^ taken
+  pub inside : (v : Var) → first_variable left ≡ Some v → taken < width v
+  pub viable : Viable (ReadsIn left len) (num taken bits)
+
+-- ---- All bits of a row.
+
+-- the pairs p were read of a row of len bits: left is what is left of it, in so many bits
+abbrev pub ReadTo : Layout → ℕ → Reading → Layout → ℕ → Type 0
+ReadTo row len [] left bits = (left ≡ row) × (bits ≡ len)
+ReadTo row len ((v, n) ∷ p) left bits = (mid : Layout) × (first_variable row ≡ Some v) × (after_number row n ≡ Some mid) × (width v ≤ len) × ReadTo mid (len - width v) p left bits
+
+-- behind p the bits t go on in the row as they do in what is left of it
+pub record GoesOnAs (row : Layout) (len : ℕ) (p : Reading) (left : Layout) (bits : ℕ) (t : List Bool) : Type 0 where
+  pub viable : Viable (ReadsIn row len) (spelled p ++ t) ↔ Viable (ReadsIn left bits) t
+  pub spelling : InLanguage (ReadsIn row len) (spelled p ++ t) ↔ InLanguage (ReadsIn left bits) t
+  pub owner : (x : Var) → Owner (ReadsIn left bits) t x → Owner (ReadsIn row len) (spelled p ++ t) x
+
+-- what a walk says of what is left of a row holds of all bits of the row
+abbrev pub WalksWhole : Type 0
+WalksWhole = (row : Layout) (len : ℕ) (p : Reading) (left : Layout) (bits : ℕ) (t : List Bool) → IsTrue (is_sound row) → ReadTo row len p left bits → GoesOnAs row len p left bits t

@@ -1,0 +1,251 @@
+//! Whether what is left of a row may take so many bits, by sums of lengths in equal steps.
+//!
+//! `None` says that the lengths met aren't in equal steps, or too many; then the sets of lengths decide.
+
+ghost use Rattle.std.specs.Prelude.{◌≡◌, ◌↔◌, ℕ, ◌≤◌, IsTrue, IfSome, reverse};
+ghost use Rattle.etcs_rows.specs.Layouts.{layout};
+ghost use Rattle.etcs_rows.specs.Lengths.{LengthsBy, behind, GroupsWithin, FitsWithin};
+ghost use Rattle.etcs_rows.specs.Sums.{Plus, SumOf};
+ghost use Rattle.etcs_rows.specs.Steps.{InSteps, AreSteps, TimesWithin};
+ghost use Rattle.etcs_rows.specs.Cursors.{left_of, Nests, WaitsNest, KnowsSteps};
+ghost use Rattle.etcs_rows.specs.Waiting.{Agains, Tails, Onward};
+
+use crate::item::RowItem;
+use crate::measure::behind_groups;
+use crate::place::{Cursor, Pending};
+use crate::steps::{Steps, counted_within, groups_steps, leading, steps_each, times_steps};
+use etcs_vars::Var;
+
+/// How many bits a group may take, as often as it still stands.
+fn again_steps(pending: &Pending) -> Option<Steps>
+    requires { KnowsSteps pending.now }
+    ensures { IfSome result (λ s. AreSteps s (SumOf pending.now.times (LengthsBy (layout pending.now.group.now) pending.now.before))) }
+{
+    if pending.times == 0 {
+        return Some(Steps::single(0));
+    }
+    pending.steps?.times(pending.times)
+}
+
+/// How many bits the groups that wait may take, as often as they still stand.
+fn waiting_steps(waiting: &[Pending]) -> Option<Steps>
+    requires { WaitsNest (reverse waiting.now) }
+    ensures { IfSome result (λ s. AreSteps s (Agains (reverse waiting.now))) }
+{
+    match waiting.split_last() {
+        None => Some(Steps::single(0)),
+        Some((pending, outer)) => again_steps(pending)?.plus(waiting_steps(outer)?),
+    }
+}
+
+/// Whether items that begin with a variable, and what is behind the groups that wait, bring the sum to so many bits.
+#[cycle(fitting)]
+fn onward(sum: Steps, items: &'static [RowItem], waiting: &[Pending], bits: usize) -> Option<bool>
+    ensures { IfSome result (λ b. IsTrue b ↔ Plus (InSteps sum) (Onward items.now waiting.now) bits) }
+{
+    let (width, behind) = leading(items)?;
+    let sum = sum.plus(Steps::single(width))?;
+    if sum.first > bits {
+        return Some(false);
+    }
+    turn(sum, behind, waiting, bits)
+}
+
+/// The same, where groups may look at the variable in front.
+#[cycle(fitting)]
+fn turn(sum: Steps, items: &'static [RowItem], waiting: &[Pending], bits: usize) -> Option<bool>
+    ensures { IfSome result (λ b. IsTrue b ↔ Plus (InSteps sum) (Onward items.now waiting.now) bits) }
+{
+    match items.split_first() {
+        None => leave(sum, waiting, bits),
+        Some((RowItem::One(var), rest)) => {
+            let sum = sum.plus(Steps::single(var.width()))?;
+            choose(sum, *var, rest, 0, u64::MAX, waiting, bits)
+        }
+        Some((RowItem::When(_, _), _)) => None,
+        Some((RowItem::Many(_), _)) => None,
+    }
+}
+
+/// Whether what is behind the groups that wait brings the sum to so many bits.
+#[cycle(fitting)]
+fn leave(sum: Steps, waiting: &[Pending], bits: usize) -> Option<bool>
+    ensures { IfSome result (λ b. IsTrue b ↔ Plus (InSteps sum) (Tails (reverse waiting.now)) bits) }
+{
+    match waiting.split_last() {
+        None => Some(sum.holds(bits)),
+        Some((pending, outer)) => {
+            if pending.items.is_empty() {
+                return leave(sum, outer, bits);
+            }
+            let groups = groups_steps(pending.items, pending.before)?;
+            spread(sum, groups, behind_groups(pending.items), outer, bits)
+        }
+    }
+}
+
+/// Whether the groups behind a number of a variable from low to high, and what is behind them, bring the sum to so many bits.
+#[cycle(fitting)]
+fn choose(
+    sum: Steps,
+    var: Var,
+    rest: &'static [RowItem],
+    low: u64,
+    high: u64,
+    waiting: &[Pending],
+    bits: usize,
+) -> Option<bool>
+    ensures { IfSome result (λ b. IsTrue b ↔ Plus (InSteps sum) (Plus (GroupsWithin var (layout rest.now) low high) (Plus (LengthsBy (behind (layout rest.now)) 0) (Tails (reverse waiting.now)))) bits) }
+{
+    let behind = behind_groups(rest);
+    if low == high {
+        if !var.admits(low) {
+            return Some(false);
+        }
+        return spread(sum, groups_steps(rest, low)?, behind, waiting, bits);
+    }
+    match counted_within(var, rest, low, high) {
+        Some((group, first, last)) => match times_steps(group, first, last) {
+            Some(all) => spread(sum, all, behind, waiting, bits),
+            None => times_each(sum, group, first, last, behind, waiting, bits),
+        },
+        None => match steps_each(var, rest, low, high) {
+            Some(groups) => spread(sum, groups, behind, waiting, bits),
+            None => choose_each(sum, var, rest, low, high, waiting, bits),
+        },
+    }
+}
+
+/// Whether a group that stands from first to last times, and what is behind it, bring the sum to so many bits.
+#[cycle(fitting)]
+fn times_each(
+    sum: Steps,
+    group: Steps,
+    first: u64,
+    last: u64,
+    items: &'static [RowItem],
+    waiting: &[Pending],
+    bits: usize,
+) -> Option<bool>
+    ensures { IfSome result (λ b. IsTrue b ↔ Plus (InSteps sum) (Plus (TimesWithin group first last) (Onward items.now waiting.now)) bits) }
+{
+    let end = last.checked_add(1)?;
+    for times in first..end {
+        let all = group.times(times)?;
+        if sum.first.checked_add(all.first)? > bits {
+            return Some(false);
+        }
+        if spread(sum, all, items, waiting, bits)? {
+            return Some(true);
+        }
+    }
+    Some(false)
+}
+
+/// The same as `choose`, number by number.
+#[cycle(fitting)]
+fn choose_each(
+    sum: Steps,
+    var: Var,
+    rest: &'static [RowItem],
+    low: u64,
+    high: u64,
+    waiting: &[Pending],
+    bits: usize,
+) -> Option<bool>
+    ensures { IfSome result (λ b. IsTrue b ↔ Plus (InSteps sum) (Plus (GroupsWithin var (layout rest.now) low high) (Plus (LengthsBy (behind (layout rest.now)) 0) (Tails (reverse waiting.now)))) bits) }
+{
+    let most = u64::MAX >> (64 - var.width());
+    let end = high.min(most).checked_add(1)?;
+    if end.saturating_sub(low) > 256 {
+        return None;
+    }
+    let behind = behind_groups(rest);
+    for number in low..end {
+        if var.admits(number) {
+            let groups = groups_steps(rest, number)?;
+            if spread(sum, groups, behind, waiting, bits)? {
+                return Some(true);
+            }
+        }
+    }
+    Some(false)
+}
+
+/// Whether a number of `more`, and then what `onward` counts, bring the sum to so many bits.
+#[cycle(fitting)]
+fn spread(
+    sum: Steps,
+    more: Steps,
+    items: &'static [RowItem],
+    waiting: &[Pending],
+    bits: usize,
+) -> Option<bool>
+    ensures { IfSome result (λ b. IsTrue b ↔ Plus (InSteps sum) (Plus (InSteps more) (Onward items.now waiting.now)) bits) }
+{
+    match sum.plus(more) {
+        Some(all) => onward(all, items, waiting, bits),
+        None => {
+            if more.count > sum.count {
+                spread_each(more, sum, items, waiting, bits)
+            } else {
+                spread_each(sum, more, items, waiting, bits)
+            }
+        }
+    }
+}
+
+/// The same as `spread`, number by number.
+#[cycle(fitting)]
+fn spread_each(
+    sum: Steps,
+    more: Steps,
+    items: &'static [RowItem],
+    waiting: &[Pending],
+    bits: usize,
+) -> Option<bool>
+    ensures { IfSome result (λ b. IsTrue b ↔ Plus (InSteps sum) (Plus (InSteps more) (Onward items.now waiting.now)) bits) }
+{
+    if more.count > 31 {
+        return None;
+    }
+    for index in 0..more.count + 1 {
+        let one = Steps::single(more.at(index)?);
+        if onward(sum.plus(one)?, items, waiting, bits)? {
+            return Some(true);
+        }
+    }
+    Some(false)
+}
+
+/// Whether so many bits may be left of the row, where the number of the variable in front is from low to high.
+pub(crate) fn fits_by_steps(cursor: &Cursor, low: u64, high: u64, bits: usize) -> Option<bool>
+    requires { Nests cursor.now }
+    ensures { IfSome result (λ b. IsTrue b ↔ FitsWithin (left_of cursor.now) low high bits) }
+{
+    match cursor.items.split_first() {
+        Some((RowItem::One(var), rest)) => {
+            if bits > 8191 {
+                return Some(false);
+            }
+            let waiting = cursor.pending.as_slice();
+            let sum = waiting_steps(waiting)?.plus(Steps::single(var.width()))?;
+            choose(sum, *var, rest, low, high, waiting, bits)
+        }
+        _ => None,
+    }
+}
+
+/// Whether so many bits may be left of the row.
+pub(crate) fn reaches_by_steps(cursor: &Cursor, bits: usize) -> Option<bool>
+    requires { Nests cursor.now }
+    ensures { IfSome result (λ b. IsTrue b ↔ (LengthsBy (left_of cursor.now) 0 bits × (bits ≤ 8191))) }
+{
+    if bits > 8191 {
+        return Some(false);
+    }
+    let waiting = cursor.pending.as_slice();
+    let again = waiting_steps(waiting)?;
+    let groups = groups_steps(cursor.items, cursor.before)?;
+    spread(again, groups, behind_groups(cursor.items), waiting, bits)
+}

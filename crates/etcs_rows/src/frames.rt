@@ -1,0 +1,227 @@
+//! Which numbers and which lengths of packets still fit.
+
+ghost use Rattle.std.specs.Prelude.{◌≡◌, ◌↔◌, ℕ, ◌-◌, ◌/◌, ◌^◌, ◌<◌, ◌≤◌, IsTrue};
+ghost use Rattle.etcs_rows.specs.Frames.{frame_bits, is_kept, LengthFits, UnframedFits, NumberFits, IsBlock, Within, InWindows, AreBodies};
+ghost use Rattle.etcs_rows.specs.Sets.{In};
+
+use crate::length_set::LengthSet;
+use crate::place::Place;
+use crate::row::Way;
+use crate::tables::row_of;
+
+/// What carries packets.
+#[derive(Clone, Copy, Debug, PartialEq, Eq)]
+pub enum Carrier {
+    /// A telegram, which packet 255 closes.
+    Telegram,
+    /// A message, with at most 7 bits of padding behind its last packet.
+    Message,
+}
+
+/// The bits of packet 255, which stands behind all others of a telegram.
+const CLOSING_BITS: usize = 8;
+
+/// The bits of packet 0, its NID_PACKET and NID_VBCMK.
+const MARKER_BITS: usize = 14;
+
+/// The most bits of padding behind the last packet of a message.
+const MOST_PADDING: usize = 7;
+
+/// The largest L_PACKET.
+const MOST_LENGTH: usize = 8191;
+
+/// The bits in front of a packet's row: NID_PACKET, Q_DIR to the train, and L_PACKET.
+fn frame_bits(way: Way) -> usize
+    ensures { result ≡ frame_bits way }
+{
+    match way {
+        Way::ToTrain => 23,
+    }
+}
+
+/// Whether packets of this number are kept as bits.
+fn is_kept(way: Way, nid: u8) -> bool
+    ensures { result ≡ is_kept way nid }
+{
+    nid > 0 && nid < 255 && row_of(way, nid).is_none()
+}
+
+/// The least and the greatest number of `width` bits that begins with `bits` and has `rest` bits more.
+fn ends(width: usize, rest: usize, bits: u64) -> (usize, usize)
+    requires width { width ≤ 13 }
+    requires rest { rest ≤ width }
+    requires fits { bits < 2 ^ (width - rest) }
+    ensures small { result.1 < 2 ^ width }
+    ensures order { result.0 ≤ result.1 }
+    ensures one { rest ≡ 0 → result.0 ≡ result.1 }
+    ensures all { IsBlock (2 ^ rest) bits result.0 result.1 }
+{
+    let low = (bits << rest) as usize;
+    (low, low + ((1 << rest) - 1))
+}
+
+/// Numbers of bits behind a frame, from `low` to below `end`.
+#[derive(Clone, Copy)]
+struct Window {
+    low: usize,
+    end: usize,
+}
+
+impl Window {
+    /// Whether it holds a number.
+    fn any(self) -> bool
+        ensures { IsTrue result ↔ ((m : ℕ) × Within self m) }
+    {
+        self.low < self.end
+    }
+
+    /// Whether a number of the set lies in it.
+    fn meets(self, set: &LengthSet) -> bool
+        ensures { IsTrue result ↔ ((m : ℕ) × Within self m × In set.now m) }
+    {
+        self.any() && set.any_in(self.low, self.end - 1)
+    }
+}
+
+/// The numbers of bits behind a frame that leave what may be left behind the packet.
+#[derive(Clone, Copy)]
+struct Windows {
+    /// With room for what must stand behind.
+    followed: Window,
+    /// With padding alone behind.
+    last: Window,
+}
+
+impl Windows {
+    /// Those of a packet of `low` to `high` bits where `room` bits are left.
+    fn new(way: Way, carrier: Carrier, room: usize, low: usize, high: usize) -> Windows
+        requires { high ≤ 8191 }
+        ensures { AreBodies way carrier room low high result }
+    {
+        let frame = frame_bits(way);
+        let low = low.saturating_sub(frame);
+        let end = (high.min(room) + 1).saturating_sub(frame);
+        match carrier {
+            Carrier::Telegram => Windows {
+                followed: Window {
+                    low,
+                    end: end.min(room.saturating_sub(frame + CLOSING_BITS - 1)),
+                },
+                last: Window { low, end: low },
+            },
+            Carrier::Message => Windows {
+                followed: Window {
+                    low,
+                    end: end.min(room.saturating_sub(frame + frame - 1)),
+                },
+                last: Window {
+                    low: low.max(room.saturating_sub(frame + MOST_PADDING)),
+                    end,
+                },
+            },
+        }
+    }
+
+    /// Whether they hold a number.
+    fn any(self) -> bool
+        ensures { IsTrue result ↔ ((m : ℕ) × InWindows self m) }
+    {
+        self.followed.any() || self.last.any()
+    }
+
+    /// Whether a number of the set lies in one of them.
+    fn meet(self, set: &LengthSet) -> bool
+        ensures { IsTrue result ↔ ((m : ℕ) × InWindows self m × In set.now m) }
+    {
+        self.followed.meets(set) || self.last.meets(set)
+    }
+}
+
+/// Whether some L_PACKET fits that is `bits` with `rest` bits more behind them, for a packet of this number
+/// where `room` bits are left, counted from the packet's first bit.
+pub fn length_fits(way: Way, carrier: Carrier, nid: u8, room: usize, rest: usize, bits: u64) -> bool
+    requires rest { rest ≤ 13 }
+    requires fits { bits < 2 ^ (13 - rest) }
+    ensures { IsTrue result ↔ ((l : ℕ) × (l / 2 ^ rest ≡ bits) × LengthFits way carrier nid room l) }
+{
+    let (low, high) = ends(13, rest, bits);
+    let windows = Windows::new(way, carrier, room, low, high);
+    if !windows.any() {
+        return false;
+    }
+    match row_of(way, nid) {
+        None => is_kept(way, nid),
+        Some(row) => {
+            let place = Place::start(row);
+            if rest == 0 {
+                place.can_take(low - frame_bits(way))
+            } else {
+                windows.meet(&place.lengths())
+            }
+        }
+    }
+}
+
+/// Whether a packet without a frame fits whose number is from low to high.
+fn unframed_fits(carrier: Carrier, room: usize, low: u8, high: u8) -> bool
+    requires { low ≤ high }
+    ensures { IsTrue result ↔ ((n : ℕ) × (low ≤ n) × (n ≤ high) × UnframedFits carrier room n) }
+{
+    match carrier {
+        Carrier::Telegram => {
+            (high == 255 && room >= CLOSING_BITS)
+                || (low == 0 && room >= MARKER_BITS + CLOSING_BITS)
+        }
+        Carrier::Message => false,
+    }
+}
+
+/// Whether one of the numbers from low to high is kept as bits.
+fn any_kept(way: Way, low: u8, high: u8) -> bool
+    ensures { IsTrue result ↔ ((n : ℕ) × (low ≤ n) × (n ≤ high) × IsTrue (is_kept way n)) }
+{
+    for nid in low..=high {
+        if is_kept(way, nid) {
+            return true;
+        }
+    }
+    false
+}
+
+/// Whether a packet of this number fits with its frame.
+fn framed_fits(way: Way, carrier: Carrier, nid: u8, room: usize) -> bool
+    ensures { IsTrue result ↔ ((l : ℕ) × LengthFits way carrier nid room l) }
+{
+    length_fits(way, carrier, nid, room, 13, 0)
+}
+
+/// Whether a packet with a frame fits whose number is from low to high.
+fn any_framed(way: Way, carrier: Carrier, room: usize, low: u8, high: u8) -> bool
+    ensures { IsTrue result ↔ ((n : ℕ) × (low ≤ n) × (n ≤ high) × ((l : ℕ) × LengthFits way carrier n room l)) }
+{
+    for nid in low..=high {
+        if framed_fits(way, carrier, nid, room) {
+            return true;
+        }
+    }
+    false
+}
+
+/// Whether some NID_PACKET fits that is `bits` with `rest` bits more behind them, where `room` bits are left,
+/// counted from the packet's first bit.
+pub fn number_fits(way: Way, carrier: Carrier, room: usize, rest: usize, bits: u64) -> bool
+    requires rest { rest ≤ 8 }
+    requires fits { bits < 2 ^ (8 - rest) }
+    ensures { IsTrue result ↔ ((n : ℕ) × (n / 2 ^ rest ≡ bits) × NumberFits way carrier room n) }
+{
+    let (low, high) = ends(8, rest, bits);
+    let (low, high) = (low as u8, high as u8);
+    if unframed_fits(carrier, room, low, high) {
+        return true;
+    }
+    // Where no length leaves what may be left, no row need be asked.
+    if !Windows::new(way, carrier, room, 0, MOST_LENGTH).any() {
+        return false;
+    }
+    any_kept(way, low, high) || any_framed(way, carrier, room, low, high)
+}

@@ -1,0 +1,358 @@
+//! Places in rows.
+
+ghost use Rattle.std.specs.Prelude.{◌≡◌, ◌↔◌, false, ℕ, ◌+◌, ◌-◌, ◌<◌, ◌≤◌, [], ◌∷◌, length, take, drop, IsTrue, IsSome, Some, None, option_map};
+ghost use Rattle.etcs_rows.specs.Layouts.{layout, passes, guarded, counted, looks, Lengths};
+ghost use Rattle.etcs_rows.specs.Lengths.{FitsWithin, is_free};
+ghost use Rattle.etcs_rows.specs.Sets.{In};
+ghost use Rattle.etcs_rows.specs.Places.{first_variable, after_any, after_number};
+
+use crate::fitting::{fits_by_steps, reaches_by_steps};
+use crate::item::{Guard, RowItem};
+use crate::length_set::LengthSet;
+use crate::measure::{first_lengths, has_group, lengths_of};
+use crate::row::Row;
+use crate::steps::{Steps, steps_again};
+use arrayvec::ArrayVec;
+use etcs_vars::Var;
+use std::marker::Model;
+
+/// A group that is being read, or is about to be.
+#[derive(Clone, Copy)]
+pub struct Pending {
+    /// The group's items, and how often it still stands there after this time.
+    pub group: &'static [RowItem],
+    pub times: u64,
+    /// What stands behind the group.
+    pub items: &'static [RowItem],
+    /// The number just before the group.
+    pub before: u64,
+    /// How many bits the group may take each time, if that was asked for and is in equal steps.
+    pub steps: Option<Steps>,
+}
+
+impl Default for Pending {
+    fn default() -> Pending {
+        Pending {
+            group: &[],
+            times: 0,
+            items: &[],
+            before: 0,
+            steps: None,
+        }
+    }
+}
+
+/// What is left of a row.
+#[derive(Drop)]
+pub struct Cursor {
+    pub items: &'static [RowItem],
+    /// The number of the variable just before.
+    pub before: u64,
+    pub pending: ArrayVec<Pending, 4>,
+}
+
+impl Cursor {
+    ghost use Rattle.etcs_rows.specs.Cursors.{left_of, Nests, IsSettled, cursor_size};
+
+    /// Behind the end of a group: the group again, or what stands behind it. Answers whether a variable comes next.
+    fn leave(&mut self) -> bool
+        requires ended { self.old.items.now ≡ [] }
+        requires nests { Nests self.old }
+        ensures same { left_of self.new ≡ left_of self.old }
+        ensures nests { Nests self.new }
+        ensures settled { IsTrue result → IsSettled self.new }
+        ensures smaller { result ≡ false → cursor_size self.new < cursor_size self.old }
+    {
+        match self.pending.pop() {
+            None => true,
+            Some(top) => {
+                self.before = top.before;
+                if top.times > 0 {
+                    self.items = top.group;
+                    self.pending.push(Pending {
+                        times: top.times - 1,
+                        ..top
+                    });
+                    true
+                } else {
+                    self.items = top.items;
+                    false
+                }
+            }
+        }
+    }
+
+    /// At a guarded group: into it, or past it. Answers whether a variable comes next.
+    fn enter_guarded(
+        &mut self,
+        guard: Guard,
+        group: &'static [RowItem],
+        rest: &'static [RowItem],
+    ) -> bool
+        requires here { layout self.old.items.now ≡ guarded guard (layout group.now) (layout rest.now) }
+        requires shorter { length rest.now < length self.old.items.now }
+        requires nests { Nests self.old }
+        ensures same { left_of self.new ≡ left_of self.old }
+        ensures nests { Nests self.new }
+        ensures settled { IsTrue result → IsSettled self.new }
+        ensures smaller { result ≡ false → cursor_size self.new < cursor_size self.old }
+    {
+        if guard.test.passes(self.before) {
+            self.pending.push(Pending {
+                group: &[],
+                times: 0,
+                items: rest,
+                before: self.before,
+                steps: None,
+            });
+            self.items = group;
+            true
+        } else {
+            self.items = rest;
+            false
+        }
+    }
+
+    /// At a counted group: into it, or past it. Answers whether a variable comes next.
+    fn enter_counted(&mut self, group: &'static [RowItem], rest: &'static [RowItem]) -> bool
+        requires here { layout self.old.items.now ≡ counted (layout group.now) (layout rest.now) }
+        requires shorter { length rest.now < length self.old.items.now }
+        requires nests { Nests self.old }
+        ensures same { left_of self.new ≡ left_of self.old }
+        ensures nests { Nests self.new }
+        ensures settled { IsTrue result → IsSettled self.new }
+        ensures smaller { result ≡ false → cursor_size self.new < cursor_size self.old }
+    {
+        if self.before > 0 {
+            let steps = steps_again(group, self.before);
+            self.pending.push(Pending {
+                group,
+                times: self.before - 1,
+                items: rest,
+                before: self.before,
+                steps,
+            });
+            self.items = group;
+            true
+        } else {
+            self.items = rest;
+            false
+        }
+    }
+
+    /// Opens groups until a variable comes next or the row has ended.
+    fn settle(&mut self)
+        requires { Nests self.old }
+        ensures same { left_of self.new ≡ left_of self.old }
+        ensures nests { Nests self.new }
+        ensures settled { IsSettled self.new }
+    {
+        let mut settled = false;
+        while !settled {
+            settled = match self.items.split_first() {
+                None => self.leave(),
+                Some((RowItem::One(_), _)) => true,
+                Some((RowItem::When(guard, count), rest)) => {
+                    let (group, rest) = rest.split_at(rest.len().min(*count));
+                    self.enter_guarded(*guard, group, rest)
+                }
+                Some((RowItem::Many(count), rest)) => {
+                    let (group, rest) = rest.split_at(rest.len().min(*count));
+                    self.enter_counted(group, rest)
+                }
+            };
+        }
+    }
+}
+
+impl Cursor {
+    ghost use Rattle.std.specs.Prelude.{reverse};
+    ghost use Rattle.etcs_rows.specs.Cursors.{waiting, left_of};
+    ghost use Rattle.etcs_rows.specs.Lengths.{LengthsBy};
+    ghost use Rattle.etcs_rows.specs.Sets.{IsSet};
+
+    /// How many bits the groups that wait may take.
+    fn waiting_lengths(&self) -> LengthSet
+        ensures { IsSet result (LengthsBy (waiting (reverse self.now.pending.items)) 0) }
+    {
+        let mut all = LengthSet::single(0);
+        for pending in self.pending.as_slice() {
+            let again = lengths_of(pending.group, pending.before).times(pending.times);
+            let behind = lengths_of(pending.items, pending.before).plus(&all);
+            all = again.plus(&behind);
+        }
+        all
+    }
+
+    /// How many bits may be left of the row.
+    fn lengths(&self) -> LengthSet
+        ensures { IsSet result (LengthsBy (left_of self.now) 0) }
+    {
+        lengths_of(self.items, self.before).plus(&self.waiting_lengths())
+    }
+}
+
+/// A place in a row, seen as what is left of the row.
+#[derive(Drop)]
+pub struct Place {
+    cursor: Cursor,
+}
+
+impl Model for Place {
+    ghost use Rattle.std.specs.Prelude.{IsTrue, None};
+    ghost use Rattle.etcs_rows.specs.Layouts.{Layout, looks};
+    ghost use Rattle.etcs_rows.specs.Cursors.{left_of, Nests, IsSettled};
+    ghost use Rattle.etcs_rows.specs.Flat.{layout_code};
+
+    ghost Value = { Layout };
+
+    ghost coded = { layout_code };
+
+    ghost view = { λ p. left_of p.cursor };
+
+    ghost invariant = { λ p. Nests p.cursor × IsSettled p.cursor × IsTrue (looks None (left_of p.cursor)) };
+}
+
+impl Place {
+    /// The beginning of a row.
+    pub fn start(row: Row) -> Place
+        ensures left { result ≡ layout row.items.now }
+        ensures looks { IsTrue (looks None result) }
+    {
+        let mut cursor = Cursor {
+            items: row.items,
+            before: 0,
+            pending: ArrayVec::new(),
+        };
+        cursor.settle();
+        Place { cursor }
+    }
+
+    /// The variable that comes next.
+    pub fn var(&self) -> Option<Var>
+        ensures { result ≡ first_variable self.now }
+    {
+        match self.cursor.items.split_first() {
+            Some((RowItem::One(var), _)) => Some(*var),
+            _ => None,
+        }
+    }
+
+    /// What is left behind a number of the next variable, if it is admitted.
+    pub fn after(&self, number: u64) -> Option<Place>
+        ensures { result ≡ after_number self.now number }
+    {
+        let var = self.var()?;
+        if !var.admits(number) {
+            return None;
+        }
+        let mut place = self.copied();
+        place.pass(number);
+        Some(place)
+    }
+
+    fn copied(&self) -> Place
+        ensures { result ≡ self.now }
+    {
+        let mut pending = ArrayVec::new();
+        let _whole = pending.try_extend_from_slice(self.cursor.pending.as_slice());
+        Place {
+            cursor: Cursor {
+                items: self.cursor.items,
+                before: self.cursor.before,
+                pending,
+            },
+        }
+    }
+
+    /// Takes the number of the next variable.
+    pub(crate) fn pass(&mut self, number: u64)
+        requires next { IsSome (first_variable self.old) }
+        ensures left { after_any self.old number ≡ Some self.new }
+        ensures looks { IsTrue (looks None self.new) }
+    {
+        if let Some((_, rest)) = self.cursor.items.split_first() {
+            self.cursor.before = number;
+            self.cursor.items = rest;
+            self.cursor.settle();
+        }
+    }
+
+    /// Whether no group looks at the number of the next variable.
+    pub(crate) fn is_free(&self) -> bool
+        ensures { IsTrue result → IsTrue (is_free self.now) }
+    {
+        match self.cursor.items.split_first() {
+            Some((RowItem::One(_), rest)) => !has_group(rest),
+            _ => false,
+        }
+    }
+
+    /// Whether so many bits may be left of the row, where the number of the next variable is from low to high.
+    pub(crate) fn fits(&self, low: u64, high: u64, bits: usize) -> bool
+        ensures { IsTrue result ↔ FitsWithin self.now low high bits }
+    {
+        match fits_by_steps(&self.cursor, low, high, bits) {
+            Some(answer) => answer,
+            None => self.fits_by_sets(low, high, bits),
+        }
+    }
+
+    /// The same, by the sets of lengths.
+    fn fits_by_sets(&self, low: u64, high: u64, bits: usize) -> bool
+        ensures { IsTrue result ↔ FitsWithin self.now low high bits }
+    {
+        match self.cursor.items.split_first() {
+            None => false,
+            Some((RowItem::One(var), rest)) => first_lengths(*var, rest, low, high)
+                .plus(&self.cursor.waiting_lengths())
+                .holds(bits),
+            Some((RowItem::When(_, _), _)) => false,
+            Some((RowItem::Many(_), _)) => false,
+        }
+    }
+
+    /// Whether so many bits, at most 8191, may be left of the row.
+    pub(crate) fn can_take(&self, bits: usize) -> bool
+        ensures { IsTrue result ↔ Lengths self.now [] bits }
+    {
+        match reaches_by_steps(&self.cursor, bits) {
+            Some(answer) => answer,
+            None => self.lengths().holds(bits),
+        }
+    }
+
+    /// How many bits may be left of the row.
+    pub(crate) fn lengths(&self) -> LengthSet
+        ensures { (m : ℕ) → In result m ↔ Lengths self.now [] m }
+    {
+        self.cursor.lengths()
+    }
+}
+
+#[cfg(test)]
+impl Place {
+    /// Whether `can_take` needs no set.
+    pub(crate) fn is_quick(&self, bits: usize) -> bool {
+        reaches_by_steps(&self.cursor, bits).is_some()
+    }
+
+    /// Whether `fits` needs no set.
+    pub(crate) fn is_quick_at(&self, low: u64, high: u64, bits: usize) -> bool {
+        fits_by_steps(&self.cursor, low, high, bits).is_some()
+    }
+}
+
+/// How many bits, at most 8,191, may be left of the row: the numbers at which [`reaches`] is true.
+pub fn lengths(place: &Place) -> LengthSet
+    ensures { (m : ℕ) → In result m ↔ Lengths place.now [] m }
+{
+    place.lengths()
+}
+
+/// Whether what is left of the row has a spelling of so many bits, at most 8191.
+pub fn reaches(place: &Place, bits: usize) -> bool
+    ensures { IsTrue result ↔ Lengths place.now [] bits }
+{
+    place.lengths().holds(bits)
+}

@@ -39,8 +39,8 @@ fn frame_bits(way: Way) -> usize
     }
 }
 
-/// Whether packets of this number are kept as bits.
-fn is_kept(way: Way, nid: u8) -> bool
+/// Whether packets of this number are kept as bits: not 0, not 255 and not typed.
+pub fn is_kept(way: Way, nid: u8) -> bool
     ensures { result ≡ is_kept way nid }
 {
     nid > 0 && nid < 255 && row_of(way, nid).is_none()

@@ -1,0 +1,53 @@
+-- Packets whose rows have no groups, and what is wrong with their numbers (SUBSET-026, 7.4.2).
+use Rattle.std.specs.Prelude.{ℕ, ◌==◌, Bool, true, false, List, [], ◌∷◌, length, Option, Some, None, if◌then◌else◌}
+use Rattle.std.specs.Option.{option_map, option_and_then}
+use Rattle.etcs_vars.specs.declared.var.Var.{Var}
+use Rattle.etcs_vars.specs.declared.var.Var.TheVariants.{NID_PACKET, Q_DIR}
+use Rattle.etcs_vars.specs.declared.fault.BuildFault.{BuildFault}
+use Rattle.etcs_vars.specs.declared.fault.BuildFault.TheVariants.{NotAdmitted, Count}
+use Rattle.etcs_vars.specs.Faults.{◌or_else◌, number_fault}
+use Rattle.etcs_rows.specs.declared.item.RowItem.{RowItem}
+use Rattle.etcs_rows.specs.declared.item.RowItem.TheVariants.{One, When, Many}
+use Rattle.etcs_rows.specs.declared.row.Way.TheVariants.{ToTrain}
+use Rattle.etcs_rows.specs.Layouts.{Layout, whole, one, guarded, counted}
+use Rattle.etcs_rows.specs.Rows.{row_to}
+
+-- a packet of a row without groups: its direction and its numbers
+pub record FlatParts : Type 0 where
+  pub dir : ℕ
+  pub numbers : List ℕ
+
+abbrev pub flat_parts : ℕ → List ℕ → FlatParts
+flat_parts dir ns = record { dir = dir; numbers = ns }
+
+-- the variables of a row without groups
+abbrev pub variables : Layout → Option (List Var)
+variables whole = Some []
+variables (one v rest) = option_map (λ vs. v ∷ vs) (variables rest)
+variables (guarded g group rest) = None
+variables (counted group rest) = None
+
+-- an item that is no group
+abbrev pub is_one : RowItem → Bool
+is_one (One v) = true
+is_one (When g k) = false
+is_one (Many k) = false
+
+-- the variables of a typed packet to the train, where its row has no groups
+abbrev pub flat_row : ℕ → Option (List Var)
+flat_row nid = option_and_then variables (row_to ToTrain nid)
+
+-- the first variable, in order, that doesn't admit its number
+abbrev pub numbers_fault : List Var → List ℕ → Option BuildFault
+numbers_fault [] ns = None
+numbers_fault (v ∷ vs) [] = None
+numbers_fault (v ∷ vs) (n ∷ ns) = number_fault v n or_else numbers_fault vs ns
+
+-- what is wrong with a direction and with numbers, by the variables that the packet has
+abbrev pub row_fault : Option (List Var) → ℕ → List ℕ → Option BuildFault
+row_fault None dir ns = Some (NotAdmitted NID_PACKET)
+row_fault (Some vs) dir ns = (if length ns == length vs then None else Some Count) or_else number_fault Q_DIR dir or_else numbers_fault vs ns
+
+-- what is wrong with a packet without groups
+abbrev pub flat_fault : ℕ → ℕ → List ℕ → Option BuildFault
+flat_fault nid dir ns = row_fault (flat_row nid) dir ns

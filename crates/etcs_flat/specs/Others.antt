@@ -1,0 +1,22 @@
+-- Packets that are kept as bits, and what is wrong with one (SUBSET-026, 7.4).
+use Rattle.std.specs.Prelude.{ℕ, Bool, List, Option, Some, None, if◌then◌else◌, nat_le}
+use Rattle.etcs_vars.specs.declared.var.Var.TheVariants.{NID_PACKET, Q_DIR}
+use Rattle.etcs_vars.specs.declared.fault.BuildFault.{BuildFault}
+use Rattle.etcs_vars.specs.declared.fault.BuildFault.TheVariants.{NotAdmitted, TooLong}
+use Rattle.etcs_vars.specs.Faults.{◌or_else◌, number_fault}
+use Rattle.etcs_rows.specs.declared.row.Way.TheVariants.{ToTrain}
+use Rattle.etcs_rows.specs.Layouts.{ROW_LIMIT}
+use Rattle.etcs_rows.specs.Frames.{is_kept}
+
+-- a packet that isn't typed: its number, its direction and the bits behind L_PACKET
+pub record OtherParts : Type 0 where
+  pub nid : ℕ
+  pub dir : ℕ
+  pub body : List Bool
+
+abbrev pub other_parts : ℕ → ℕ → List Bool → OtherParts
+other_parts nid dir body = record { nid = nid; dir = dir; body = body }
+
+-- what is wrong with a packet of so many bits behind L_PACKET
+abbrev pub other_fault : ℕ → ℕ → ℕ → Option BuildFault
+other_fault nid dir bits = (if is_kept ToTrain nid then None else Some (NotAdmitted NID_PACKET)) or_else number_fault Q_DIR dir or_else (if nat_le bits ROW_LIMIT then None else Some TooLong)

@@ -1,0 +1,170 @@
+//! Packets of rows without groups.
+
+ghost use Rattle.std.specs.Prelude.{◌≡◌, ◌≤◌, List, length, map, Some, None, OnOk, IfOk, IfErr, IfSome, IsSome, IsNone};
+ghost use Rattle.std.specs.List.{list_all};
+ghost use Rattle.std.specs.Option.{option_map};
+ghost use Rattle.etcs_vars.specs.declared.var.Var.{Var};
+ghost use Rattle.etcs_rows.specs.declared.item.RowItem.TheVariants.{One};
+ghost use Rattle.etcs_rows.specs.declared.row.Way.TheVariants.{ToTrain};
+ghost use Rattle.etcs_rows.specs.Typed.{IsTyped};
+ghost use Rattle.etcs_flat.specs.Flats.{flat_parts, flat_row, flat_fault, numbers_fault, is_one};
+
+use arrayvec::ArrayVec;
+use etcs_rows::{RowItem, Way, row_of};
+use etcs_vars::{BuildFault, Var, check};
+use std::marker::Model;
+
+/// A packet to the train whose row has no groups (SUBSET-026, 7.4.2). Two of them are equal where they have the
+/// same direction and the same numbers. A `NID` that isn't in the table has no packets.
+///
+/// Its numbers are those behind L_PACKET, in this order:
+///
+/// | NID | packet | numbers |
+/// |---|---|---|
+/// | 2 | order of the system's version | M_VERSION |
+/// | 16 | repositioning | Q_SCALE, L_SECTION |
+/// | 42 | session management | Q_RBC, NID_C, NID_RBC, NID_RADIO, Q_SLEEPSESSION |
+/// | 45 | registration with a radio network | NID_MN |
+/// | 64 | revocable restrictions from balises are inhibited | none |
+/// | 65 | temporary speed restriction | Q_SCALE, NID_TSR, D_TSR, L_TSR, Q_FRONT, V_TSR |
+/// | 66 | revocation of a temporary speed restriction | NID_TSR |
+/// | 132 | danger for shunting | Q_ASPECT |
+/// | 135 | stop of shunting where the desk is opened | none |
+/// | 137 | stop in staff responsible mode | Q_SRSTOP |
+/// | 140 | running number of the train | NID_OPERATIONAL |
+/// | 141 | default gradient in temporary speed restrictions | Q_GDIR, G_TSR |
+/// | 145 | the reaction to inconsistent balise groups is inhibited | none |
+/// | 254 | default information of a balise | none |
+///
+/// | variable | meaning |
+/// |---|---|
+/// | M_VERSION | the version: three bits X, four bits Y |
+/// | Q_SCALE | the unit of L_SECTION, D_TSR and L_TSR: 0 is 10 cm, 1 is 1 m, 2 is 10 m |
+/// | L_SECTION | the length of the section, by Q_SCALE |
+/// | Q_RBC | 0 ends the session, 1 opens it |
+/// | NID_C, NID_RBC | the radio block centre: its country or region, its number there |
+/// | NID_RADIO | the radio number to call, sixteen digits of four bits |
+/// | Q_SLEEPSESSION | whether sleeping equipment manages the session too: 1 for yes |
+/// | NID_MN | the radio network, six digits of four bits |
+/// | NID_TSR | the restriction's number |
+/// | D_TSR, L_TSR | the distance to the restriction and its length, by Q_SCALE |
+/// | Q_FRONT | whether the speed may rise with the train's front (1) or only with its end (0) |
+/// | V_TSR | the speed in the restriction, in steps of 5 km/h, at most 120 steps |
+/// | Q_ASPECT | whether the train stops (0) or goes on (1) in shunting mode |
+/// | Q_SRSTOP | whether the train stops (0) or goes on (1) in staff responsible mode |
+/// | NID_OPERATIONAL | the running number, eight digits of four bits |
+/// | Q_GDIR | whether the track falls (0) or climbs (1) |
+/// | G_TSR | the gradient, in thousandths |
+#[derive(Clone, Debug, Drop, PartialEq, Eq)]
+pub struct Flat<const NID: u8> {
+    dir: u8,
+    /// At most six, those of packet 65.
+    numbers: ArrayVec<u64, 6>,
+}
+
+impl<const NID: u8> Model for Flat<NID> {
+    ghost use Rattle.std.specs.Prelude.{◌≡◌, None};
+    ghost use Rattle.etcs_flat.specs.Flats.{FlatParts, flat_fault};
+
+    ghost Value = { FlatParts };
+
+    ghost view = { λ p. record { dir = p.dir; numbers = p.numbers.items } };
+
+    ghost invariant = { λ p. flat_fault NID p.dir p.numbers.items ≡ None };
+
+    ghost inverse = { λ v. record { dir = v.dir; numbers = record { items = v.numbers } } };
+}
+
+impl<const NID: u8> Flat<NID> {
+    /// A packet of this Q_DIR (0 reverse, 1 nominal, 2 both directions) and of the numbers in the table of [`Flat`].
+    /// Takes no memory.
+    ///
+    /// # Errors
+    ///
+    /// The first of these that holds:
+    ///
+    /// - `NotAdmitted(NID_PACKET)`: `NID` isn't in the table.
+    /// - `Count`: there are more or fewer numbers than the table has for it.
+    /// - `NotAdmitted(Q_DIR)`: the direction is above 2.
+    /// - `NotAdmitted` with the first variable, in order, that doesn't admit its number: it is spare, or too large
+    ///   for the variable's width.
+    pub fn new(dir: u8, numbers: &[u64]) -> Result<Self, BuildFault>
+        ensures ok { IfOk result (λ p. p ≡ flat_parts dir numbers.now) }
+        ensures fault { IfErr result (λ e. flat_fault NID dir numbers.now ≡ Some e) }
+        ensures value { IfOk result (λ p. flat_fault NID p.dir p.numbers ≡ None) }
+    {
+        check_flat(NID, dir, numbers)?;
+        let Ok(numbers) = ArrayVec::try_from(numbers) else {
+            unreachable!()
+        };
+        Ok(Flat { dir, numbers })
+    }
+
+    /// Its numbers, in the order of the table of [`Flat`].
+    pub fn numbers(&self) -> &[u64]
+        ensures { result.now ≡ self.now.numbers }
+    {
+        self.numbers.as_slice()
+    }
+
+    /// The packet of a direction and of the numbers of its row, where there is one.
+    pub(crate) fn of_fields(dir: u8, fields: &[u64]) -> Option<Self>
+        requires flat { IsSome (flat_row NID) }
+        ensures some { IfSome result (λ p. (p ≡ flat_parts dir fields.now) × (flat_fault NID p.dir p.numbers ≡ None)) }
+        ensures none { IsNone result → IsTyped ToTrain NID dir fields.now → ⊥ }
+    {
+        Flat::new(dir, fields).ok()
+    }
+
+    /// Its Q_DIR.
+    pub(crate) fn direction(&self) -> u8
+        ensures dir { result ≡ self.now.dir }
+        ensures value { flat_fault NID self.now.dir self.now.numbers ≡ None }
+    {
+        self.dir
+    }
+}
+
+/// Looks for what is wrong with a packet of this number.
+fn check_flat(nid: u8, dir: u8, numbers: &[u64]) -> Result<(), BuildFault>
+    ensures ok { OnOk result (flat_fault nid dir numbers.now ≡ None) }
+    ensures short { OnOk result (length numbers.now ≤ 6) }
+    ensures fault { IfErr result (λ e. flat_fault nid dir numbers.now ≡ Some e) }
+{
+    let Some(table) = flat_row(nid) else {
+        return Err(BuildFault::NotAdmitted(Var::NID_PACKET));
+    };
+    if numbers.len() != table.len() {
+        return Err(BuildFault::Count);
+    }
+    check(Var::Q_DIR, u64::from(dir))?;
+    check_numbers(table, numbers)
+}
+
+/// The table of the packet's row, where it has no groups.
+fn flat_row(nid: u8) -> Option<&'static [RowItem]>
+    ensures { option_map (λ table. table.now) result ≡ option_map (λ vs. map One vs) (flat_row nid) }
+{
+    let row = row_of(Way::ToTrain, nid)?;
+    is_flat(row.items).then_some(row.items)
+}
+
+/// Whether a table has no groups.
+fn is_flat(table: &[RowItem]) -> bool
+    ensures { result ≡ list_all is_one table.now }
+{
+    table.iter().all(|item| matches!(item, RowItem::One(_)))
+}
+
+/// Looks for the first variable of a table without groups that doesn't admit its number.
+fn check_numbers(table: &[RowItem], numbers: &[u64]) -> Result<(), BuildFault>
+    ensures ok { (vs : List Var) → table.now ≡ map One vs → OnOk result (numbers_fault vs numbers.now ≡ None) }
+    ensures fault { (vs : List Var) → table.now ≡ map One vs → IfErr result (λ e. numbers_fault vs numbers.now ≡ Some e) }
+{
+    for (item, number) in table.iter().zip(numbers) {
+        if let RowItem::One(var) = item {
+            check(*var, *number)?;
+        }
+    }
+    Ok(())
+}

@@ -1,0 +1,17 @@
+//! Packets without groups, packets that are kept as bits, and the virtual balise cover marker.
+#![tactic(auto)]
+
+mod flat;
+pub mod laws;
+mod marker;
+#[cfg(test)]
+mod memory_tests;
+mod other;
+mod packets;
+pub mod parts;
+#[cfg(test)]
+mod tests;
+
+pub use flat::Flat;
+pub use marker::Marker;
+pub use other::Other;

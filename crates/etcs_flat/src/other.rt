@@ -1,0 +1,109 @@
+//! Packets that are kept as bits.
+
+ghost use Rattle.std.specs.Prelude.{◌≡◌, length, Some, None, OnOk, IfOk, IfErr};
+ghost use Rattle.etcs_flat.specs.Others.{other_parts, other_fault};
+
+use etcs_bits::{BitSlice, Bits};
+use etcs_rows::Way;
+use etcs_rows::parts::is_kept;
+use etcs_vars::{BuildFault, Var, check};
+use std::alloc::{AllocError, Global};
+use std::marker::Model;
+
+/// How many bits L_PACKET leaves behind itself.
+const MOST_BITS: usize = 8168;
+
+/// A packet to the train that isn't typed, kept as bits (SUBSET-026, 7.4). Two of them are equal where they have
+/// the same number, direction and bits.
+#[derive(Debug, Drop, PartialEq, Eq)]
+pub struct Other {
+    nid: u8,
+    dir: u8,
+    body: Bits,
+}
+
+impl Model for Other {
+    ghost use Rattle.std.specs.Prelude.{◌≡◌, length, None};
+    ghost use Rattle.etcs_flat.specs.Others.{OtherParts, other_fault};
+
+    ghost Value = { OtherParts };
+
+    ghost view = { λ p. record { nid = p.nid; dir = p.dir; body = p.body } };
+
+    ghost invariant = { λ p. other_fault p.nid p.dir (length p.body) ≡ None };
+
+    ghost inverse = { λ v. record { nid = v.nid; dir = v.dir; body = v.body } };
+}
+
+impl Other {
+    /// A packet of this NID_PACKET and Q_DIR, with the bits behind L_PACKET. Takes no memory.
+    ///
+    /// # Errors
+    ///
+    /// The first of these that holds, with the same bits: `NotAdmitted(NID_PACKET)` for 0, 255 and the numbers of
+    /// typed packets; `NotAdmitted(Q_DIR)` for a direction above 2; `TooLong` for more than 8,168 bits, which
+    /// L_PACKET can't count.
+    pub fn new(nid: u8, dir: u8, body: Bits) -> Result<Other, (BuildFault, Bits)>
+        ensures ok { IfOk result (λ p. p ≡ other_parts nid dir body) }
+        ensures fits { OnOk result (other_fault nid dir (length body) ≡ None) }
+        ensures back { IfErr result (λ e. e.1 ≡ body) }
+        ensures fault { IfErr result (λ e. other_fault nid dir (length body) ≡ Some e.0) }
+    {
+        match check_other(nid, dir, body.len()) {
+            Ok(()) => Ok(Other { nid, dir, body }),
+            Err(fault) => Err((fault, body)),
+        }
+    }
+
+    /// NID_PACKET: 1 to 254, and not that of a typed packet.
+    pub fn nid(&self) -> u8
+        ensures nid { result ≡ self.now.nid }
+        ensures value { other_fault self.now.nid self.now.dir (length self.now.body) ≡ None }
+    {
+        self.nid
+    }
+
+    /// Q_DIR: 0 reverse, 1 nominal, 2 both directions.
+    pub fn dir(&self) -> u8
+        ensures { result ≡ self.now.dir }
+    {
+        self.dir
+    }
+
+    /// The bits behind L_PACKET, at most 8,168.
+    pub fn body(&self) -> BitSlice<'_>
+        ensures { result ≡ self.now.body }
+    {
+        self.body.as_slice()
+    }
+
+    /// An equal packet.
+    ///
+    /// # Errors
+    ///
+    /// `AllocError` where there is no memory.
+    pub fn try_clone(&self, alloc: Global) -> Result<Other, AllocError>
+        ensures { IfOk result (λ p. p ≡ self.now) }
+    {
+        Ok(Other {
+            nid: self.nid,
+            dir: self.dir,
+            body: Bits::from_slice(alloc, self.body())?,
+        })
+    }
+}
+
+/// Looks for what is wrong with a packet of so many bits behind L_PACKET.
+fn check_other(nid: u8, dir: u8, bits: usize) -> Result<(), BuildFault>
+    ensures ok { OnOk result (other_fault nid dir bits ≡ None) }
+    ensures fault { IfErr result (λ e. other_fault nid dir bits ≡ Some e) }
+{
+    if !is_kept(Way::ToTrain, nid) {
+        return Err(BuildFault::NotAdmitted(Var::NID_PACKET));
+    }
+    check(Var::Q_DIR, u64::from(dir))?;
+    if bits > MOST_BITS {
+        return Err(BuildFault::TooLong);
+    }
+    Ok(())
+}

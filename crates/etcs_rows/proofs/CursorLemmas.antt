@@ -34,7 +34,7 @@ enter_counted old stack group rest next here times e groups items before = rw (h
 
 -- what a loop over the stack reads past its end
 abbrev pub blank : Pending
-blank = record { group = record { ref_ptr = (0, 0); now = [] }; times = 0; items = record { ref_ptr = (0, 0); now = [] }; before = 0; steps = None }
+blank = record { group = record { ref_ptr = (0, 0); now = [] }; times = 0; items = record { ref_ptr = (0, 0); now = [] }; before = 0; steps = None; tail = None }
 
 pub one_more_waits : (xs ys : List Pending) (i : ℕ) → ys ≡ xs → i < length ys → get_or ys i blank ∷ reverse (take i xs) ≡ reverse (take (i + 1) xs)
 one_more_waits xs ys i e h =

@@ -1,5 +1,5 @@
 -- What is left of a row, as a sum whose parts are added one after the other.
-use Rattle.std.proofs.Common.{◌≡◌, ℕ, ◌+◌, ◌*◌, ◌<◌, ◌≤◌, List, [], ◌∷◌, ◌++◌, reverse, Bool, false, Option, Some, None, refl, sym, ◌∙◌, subst, arith, inl, inr}
+use Rattle.std.proofs.Common.{◌≡◌, ℕ, ◌+◌, ◌*◌, ◌<◌, ◌≤◌, List, [], ◌∷◌, ◌++◌, length, reverse, Bool, false, Option, Some, None, refl, sym, ◌∙◌, subst, arith, inl, inr}
 use Rattle.std.specs.Prelude.{◌↔◌, IsTrue, IfSome}
 use Rattle.std.proofs.lemmas.Bool.{cases_lt}
 use Rattle.etcs_vars.specs.declared.var.Var.{Var}
@@ -11,17 +11,18 @@ use Rattle.etcs_rows.specs.declared.place.Cursor.{Cursor}
 use Rattle.etcs_rows.specs.declared.steps.Steps.{Steps}
 use Rattle.etcs_rows.specs.Layouts.{Layout, whole, layout}
 use Rattle.etcs_rows.specs.Places.{onto, append}
-use Rattle.etcs_rows.specs.Cursors.{waiting, left_of}
+use Rattle.etcs_rows.specs.Cursors.{waiting, left_of, WaitsNest, KnowsTail}
 use Rattle.etcs_rows.specs.Lengths.{LengthsBy, front, behind, GroupsWithin, FirstWithin, FitsWithin}
 use Rattle.etcs_rows.specs.Steps.{InSteps, AreSteps}
 use Rattle.etcs_rows.specs.Sums.{Plus, SumOf}
 use Rattle.etcs_rows.specs.Waiting.{Agains, Tails, Onward}
 use Rattle.etcs_rows.proofs.CursorLemmas.{reverse-push}
 use Rattle.etcs_rows.proofs.PlaceLemmas.{Open-onto, Open-waiting}
-use Rattle.etcs_rows.proofs.LengthLemmas.{SameSet, set_along, set_back, set_self, Plus-same, lengths-onto, lengths-iterate}
-use Rattle.etcs_rows.proofs.SumLemmas.{lengths-parts, first_and_tail}
-use Rattle.etcs_rows.proofs.RowSums.{Plus-assoc, zero-Plus, whole_sum, first_sum}
+use Rattle.etcs_rows.proofs.LengthLemmas.{SameSet, set_along, set_back, set_self, Plus-same, lengths-onto, lengths-append, lengths-iterate}
+use Rattle.etcs_rows.proofs.SumLemmas.{lengths-parts, first_and_tail, no_items}
+use Rattle.etcs_rows.proofs.RowSums.{Plus-assoc, zero-Plus, Plus-zero, whole_sum, first_sum}
 use Rattle.etcs_rows.proofs.StepLemmas.{in_first}
+use Rattle.etcs_rows.proofs.StepSums.{plus_are}
 
 -- ---- Sums.
 
@@ -63,6 +64,15 @@ pub onward_end : (items : List RowItem) (ps : List Pending) → layout items ≡
 onward_end items ps e =
     let T = Tails (reverse ps) in
     set_along T (Plus (λ m. m ≡ 0) T) (Onward items ps) (zero-Plus T) (Plus-same (λ m. m ≡ 0) T (LengthsBy (layout items) 0) T (whole_sum (layout items) 0 e) (set_self T))
+
+-- nothing is left
+pub onward_none : (s : Steps) (S M : ℕ → Type 0) (items : List RowItem) (ps : List Pending) → length items ≡ 0 → length ps ≡ 0 → AreSteps s (Plus S M) → AreSteps s (Plus S (Plus M (Onward items ps)))
+onward_none s S M items [] none e h =
+    let Z : ℕ → Type 0 = λ m. m ≡ 0 in let X = Onward items [] in
+    set_along (InSteps s) (Plus S M) (Plus S (Plus M X)) h
+    (Plus-same S M S (Plus M X) (set_self S)
+    (set_along M (Plus M Z) (Plus M X) (Plus-zero M) (Plus-same M Z M X (set_self M) (onward_end items [] (no_items items none)))))
+onward_none s S M items (p ∷ ps) none e h = absurd (omega (arith, e))
 
 -- a part that is moved into the sum
 pub moved : (s : Steps) (S W R T L : ℕ → Type 0) → AreSteps s (Plus S W) → SameSet (Plus W R) L → SameSet (Plus (InSteps s) (Plus R T)) (Plus S (Plus L T))
@@ -210,3 +220,43 @@ fits_sum c v rest low high m again s e ha hs small =
     (set_along (Plus L (Plus A T)) (Plus L W) (FirstWithin v (append row (waiting ps)) low high) (Plus-same L (Plus A T) L W (set_self L) (set_back W (Plus A T) (waiting_split ps)))
     (set_back (FirstWithin v (append row (waiting ps)) low high) (Plus L W) (first_and_tail v row (waiting ps) low high (Open-waiting ps)))))) in
     rw e (λ x. ((all m).0 x, small), λ (x, l). (all m).1 x)
+
+-- ---- One number, and all that may be left behind it.
+
+-- the groups that wait, by the innermost of them and the rest
+pub waiting_last : (p : Pending) (ps : List Pending) → SameSet (Plus (SumOf p.times (LengthsBy (layout p.group.now) p.before)) (Plus (LengthsBy (layout p.items.now) p.before) (LengthsBy (waiting ps) 0))) (LengthsBy (waiting (p ∷ ps)) 0)
+waiting_last p ps =
+    let n = p.before in let group = layout p.group.now in let items = layout p.items.now in
+    let G = SumOf p.times (LengthsBy group n) in let I = LengthsBy items n in let W = LengthsBy (waiting ps) 0 in
+    let X = onto n items (waiting ps) in
+    set_along (Plus G (Plus I W)) (Plus G (LengthsBy X 0)) (LengthsBy (waiting (p ∷ ps)) 0)
+    (Plus-same G (Plus I W) G (LengthsBy X 0) (set_self G) (set_back (LengthsBy X 0) (Plus I W) (lengths-onto items (waiting ps) n (Open-waiting ps))))
+    (set_back (LengthsBy (waiting (p ∷ ps)) 0) (Plus G (LengthsBy X 0)) (lengths-iterate p.times n group X (Open-onto n items (waiting ps) (Open-waiting ps))))
+
+pub waits_none : (s : Steps) (ps : List Pending) → length ps ≡ 0 → AreSteps s (λ m. m ≡ 0) → AreSteps s (LengthsBy (waiting (reverse ps)) 0)
+waits_none s [] e h = set_along (InSteps s) (λ m. m ≡ 0) (LengthsBy whole 0) h (whole_sum whole 0 refl)
+waits_none s (p ∷ ps) e h = absurd (omega (arith, e))
+
+known_tail : (p : Pending) (outer ps : List Pending) → ps ≡ outer ++ p ∷ [] → WaitsNest (reverse ps) → KnowsTail p (reverse outer)
+known_tail p outer ps e waits = let h : WaitsNest (p ∷ reverse outer) = rw (e, reverse-push) at waits in h.3
+
+pub waits_known : (r : Option Steps) (again tail : Steps) (p : Pending) (outer ps : List Pending) → ps ≡ outer ++ p ∷ [] → WaitsNest (reverse ps) → p.tail ≡ Some tail → AreSteps again (SumOf p.times (LengthsBy (layout p.group.now) p.before))
+    → IfSome r (λ s. AreSteps s (Plus (InSteps again) (InSteps tail))) → IfSome r (λ s. AreSteps s (LengthsBy (waiting (reverse ps)) 0))
+waits_known r again tail p outer ps e waits is ha h =
+    let T = Plus (LengthsBy (layout p.items.now) p.before) (LengthsBy (waiting (reverse outer)) 0) in
+    let ht : AreSteps tail T = subst (λ (o : Option Steps). IfSome o (λ s. AreSteps s T)) is (known_tail p outer ps e waits) in
+    rw (e, reverse-push) (plus_are r again tail (SumOf p.times (LengthsBy (layout p.group.now) p.before)) T (LengthsBy (waiting (p ∷ reverse outer)) 0) ha ht (waiting_last p (reverse outer)) h)
+
+pub fits_number : (c : Cursor) (v : Var) (rest : List RowItem) (n m : ℕ) (left : Steps) → c.items.now ≡ One v ∷ rest → AreSteps left (Plus (LengthsBy (layout rest) n) (LengthsBy (waiting (reverse c.pending.items)) 0))
+    → (IsTrue (admits v n) × ((j : ℕ) × InSteps left j × (width v + j ≡ m)) × (m ≤ 8191)) ↔ FitsWithin (left_of c) n n m
+fits_number c v rest n m left e h =
+    let tail = waiting (reverse c.pending.items) in
+    let all : SameSet (InSteps left) (LengthsBy (append (layout rest) tail) n) =
+    set_along (InSteps left) (Plus (LengthsBy (layout rest) n) (LengthsBy tail 0)) (LengthsBy (append (layout rest) tail) n) h
+    (set_back (LengthsBy (append (layout rest) tail) n) (Plus (LengthsBy (layout rest) n) (LengthsBy tail 0)) (lengths-append (layout rest) tail n (Open-waiting (reverse c.pending.items)))) in
+    rw e (
+      λ (ok, (j, i, f), small). ((n, j, (let t : n ≤ n = omega arith in t), (let t : n ≤ n = omega arith in t), ok, (all j).0 i, f), small),
+      λ ((k, j, l, u, ok, x, f), small).
+          let same : k ≡ n = omega (arith, l, u) in
+          (subst (λ i. IsTrue (admits v i)) same ok, (j, (all j).1 (subst (λ i. LengthsBy (append (layout rest) tail) i j) same x), f), small),
+    )

@@ -1,5 +1,5 @@
 -- The lengths of a row as sums of those of its parts.
-use Rattle.std.proofs.Common.{◌≡◌, ℕ, ◌+◌, ◌≤◌, true, false, refl, subst, arith}
+use Rattle.std.proofs.Common.{◌≡◌, ℕ, ◌+◌, ◌≤◌, Bool, true, false, refl, ap, subst, arith}
 use Rattle.etcs_vars.specs.declared.var.Var.{Var}
 use Rattle.etcs_vars.specs.Vars.{width}
 use Rattle.etcs_vars.proofs.Prefixes.{admits_from, some_number}
@@ -7,7 +7,7 @@ use Rattle.etcs_rows.specs.declared.item.Guard.{Guard}
 use Rattle.etcs_rows.specs.Layouts.{Layout, whole, one, guarded, counted, passes}
 use Rattle.etcs_rows.specs.Lengths.{LengthsBy, front, behind, begins_with_group, GroupsWithin, FirstWithin}
 use Rattle.etcs_rows.specs.Sums.{Plus, SumOf}
-use Rattle.etcs_rows.proofs.LengthLemmas.{SameSet, set_along, SumOf-same, lengths-free}
+use Rattle.etcs_rows.proofs.LengthLemmas.{SameSet, set_along, set_back, set_self, Plus-same, SumOf-same, lengths-free}
 use Rattle.etcs_rows.proofs.SumLemmas.{lengths-parts, admitted_word, no_front, is_open_false}
 
 -- ---- Sums.
@@ -93,3 +93,41 @@ counted_times row group rest A e open_group none same n =
     let o = is_open_false group open_group in
     let each : SameSet (SumOf n A) (SumOf n (LengthsBy group n)) = SumOf-same n A (LengthsBy group n) (λ m. (λ x. (lengths-free group 0 n o m).0 ((same m).0 x), λ x. (same m).1 ((lengths-free group 0 n o m).1 x))) in
     rw (e, none_front) (set_along (SumOf n A) (SumOf n (LengthsBy group n)) (Plus (SumOf n (LengthsBy group n)) (λ m. m ≡ 0)) each (Plus-zero (SumOf n (LengthsBy group n))))
+
+-- ---- Groups of variables that no group looks at.
+
+pub led_alone : (row behind : Layout) (w n : ℕ) → begins_with_group row ≡ false → behind ≡ whole → SameSet (LengthsBy row 0) (Plus (λ k. k ≡ w) (LengthsBy behind 0)) → SameSet (λ k. k ≡ w) (LengthsBy row n)
+led_alone row behind w n begun none sum =
+    let W : ℕ → Type 0 = λ k. k ≡ w in let Z : ℕ → Type 0 = λ k. k ≡ 0 in
+    set_along W (Plus W Z) (LengthsBy row n) (Plus-zero W)
+    (set_along (Plus W Z) (Plus W (LengthsBy behind 0)) (LengthsBy row n) (Plus-same W Z W (LengthsBy behind 0) (set_self W) (whole_sum behind 0 none))
+    (set_along (Plus W (LengthsBy behind 0)) (LengthsBy row 0) (LengthsBy row n) (set_back (LengthsBy row 0) (Plus W (LengthsBy behind 0)) sum) (lengths-free row 0 n (is_open_false row begun))))
+
+-- one of them in front, which takes v bits
+guarded_front : (p : Bool) (left : Layout) (g : Guard) (group rest : Layout) (n v : ℕ) → passes g.test n ≡ p → left ≡ guarded g group rest → (passes g.test n ≡ true → SameSet (λ k. k ≡ v) (LengthsBy group n)) → (passes g.test n ≡ false → v ≡ 0)
+    → SameSet (Plus (λ k. k ≡ v) (LengthsBy (front rest) n)) (LengthsBy (front left) n)
+guarded_front true left g group rest n v e is passed skipped =
+    let V : ℕ → Type 0 = λ k. k ≡ v in let R = LengthsBy (front rest) n in
+    set_along (Plus V R) (Plus (LengthsBy group n) R) (LengthsBy (front left) n) (Plus-same V R (LengthsBy group n) R (passed e) (set_self R)) (passed_sum (front left) g group (front rest) n (ap (λ (x : Layout). front x) is) e)
+guarded_front false left g group rest n v e is passed skipped =
+    let R = LengthsBy (front rest) n in
+    let none : SameSet (Plus (λ k. k ≡ v) R) R = rw (skipped e) (set_back R (Plus (λ k. k ≡ 0) R) (zero-Plus R)) in
+    set_along (Plus (λ k. k ≡ v) R) R (LengthsBy (front left) n) none (not_passed_sum (front left) g group (front rest) n (ap (λ (x : Layout). front x) is) e)
+
+pub front_more : (items left : Layout) (g : Guard) (group rest : Layout) (n w v u : ℕ) → u ≡ w + v → left ≡ guarded g group rest → (passes g.test n ≡ true → SameSet (λ k. k ≡ v) (LengthsBy group n)) → (passes g.test n ≡ false → v ≡ 0)
+    → SameSet (LengthsBy (front items) n) (Plus (λ k. k ≡ w) (LengthsBy (front left) n)) → SameSet (LengthsBy (front items) n) (Plus (λ k. k ≡ u) (LengthsBy (front rest) n))
+front_more items left g group rest n w v u added is passed skipped sum =
+    more_width (LengthsBy (front items) n) (LengthsBy (front left) n) (LengthsBy (front rest) n) w v u added sum (guarded_front (passes g.test n) left g group rest n v refl is passed skipped)
+
+-- where no group is in front any more
+pub front_ends : (items left : Layout) (n w : ℕ) → begins_with_group left ≡ false → SameSet (LengthsBy (front items) n) (Plus (λ k. k ≡ w) (LengthsBy (front left) n)) → SameSet (λ k. k ≡ w) (LengthsBy (front items) n)
+front_ends items left n w none sum =
+    let W : ℕ → Type 0 = λ k. k ≡ w in let Z : ℕ → Type 0 = λ k. k ≡ 0 in let F = LengthsBy (front left) n in
+    set_along W (Plus W Z) (LengthsBy (front items) n) (Plus-zero W)
+    (set_along (Plus W Z) (Plus W F) (LengthsBy (front items) n) (Plus-same W Z W F (set_self W) (whole_sum (front left) n (no_front left none))) (set_back (LengthsBy (front items) n) (Plus W F) sum))
+
+pub behind_none : (row : Layout) → begins_with_group row ≡ false → behind row ≡ row
+behind_none whole e = refl
+behind_none (one v rest) e = refl
+behind_none (guarded g group rest) e = absurd cc
+behind_none (counted group rest) e = absurd cc

@@ -12,10 +12,11 @@ use Rattle.etcs_vars.proofs.Walk.{Regular, NextIs, May, viable_from, viable_only
 use Rattle.etcs_vars.proofs.Prefixes.{take-num, admits_parts}
 use Rattle.etcs_rows.specs.Layouts.{Layout, whole, one, guarded, counted, looks, Reads, ReadsIn, Lengths}
 use Rattle.etcs_rows.specs.Places.{onto, first_variable, after_any, after_number}
-use Rattle.etcs_rows.specs.Lengths.{LengthsBy, FirstWithin, FitsWithin}
+use Rattle.etcs_rows.specs.Lengths.{LengthsBy, FirstWithin, FitsWithin, is_free}
 use Rattle.etcs_rows.proofs.OneReading.{Reads-agree, Reads-fit}
 use Rattle.etcs_rows.proofs.Behind.{ReadsBy, by_number, head_number, tail_of}
 use Rattle.etcs_rows.proofs.LengthLemmas.{lengths_by, length-sent, lengths-onto, lengths_whole, nothing_left}
+use Rattle.etcs_rows.proofs.SumLemmas.{free_fits}
 
 pub regular : (row : Layout) (len : ℕ) → Regular (ReadsIn row len)
 regular row len = record { agree = λ a b ha hb. Reads-agree row [] a b ha.0 hb.0; fit = λ a ha. Reads-fit row [] a ha.0 }
@@ -71,6 +72,19 @@ begun_between v taken x short small =
           let bounds = prefix_between taken b n x (rw whole_is (admits_parts v n ok).1) small (ap (λ w. take taken (num w n)) whole_is ∙ e) in
           (n, bounds.0, bounds.1, ok),
       λ (n, l, h, ok). (n, ok, ap (λ w. take taken (num w n)) (sym whole_is) ∙ between_prefix taken b n x l h),
+    )
+
+-- a whole number of a variable that no group looks at
+pub free_whole : (row : Layout) (v : Var) (from to x k len : ℕ) → first_variable row ≡ Some v → IsTrue (is_free row) → FitsWithin row from to len → k ≡ 0 → IsTrue (admits v x) ↔ FitsWithin row (x * 2 ^ k) (x * 2 ^ k + (2 ^ k - 1)) len
+free_whole row v from to x k len first free reaches none =
+    let low : x * 2 ^ k ≡ x = ap (λ j. x * 2 ^ j) none ∙ (let t : x * 2 ^ 0 ≡ x = omega arith in t) in
+    let high : x * 2 ^ k + (2 ^ k - 1) ≡ x = ap (λ j. x * 2 ^ j + (2 ^ j - 1)) none ∙ (let t : x * 2 ^ 0 + (2 ^ 0 - 1) ≡ x = omega arith in t) in
+    let all = free_fits row v from to (x * 2 ^ k) (x * 2 ^ k + (2 ^ k - 1)) len first free reaches in (
+      λ ok. all.0 (x, (let t : x * 2 ^ k ≤ x = omega (arith, low) in t), (let t : x ≤ x * 2 ^ k + (2 ^ k - 1) = omega (arith, high) in t), ok),
+      λ f.
+          let (n, l, u, ok) = all.1 f in
+          let same : n ≡ x = omega (arith, l, u, low, high) in
+          subst (λ i. IsTrue (admits v i)) same ok,
     )
 
 -- ---- The bits of a variable so far.

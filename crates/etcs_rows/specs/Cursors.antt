@@ -6,6 +6,7 @@ use Rattle.etcs_rows.specs.Layouts.{Layout, whole, layout, begins, nests}
 use Rattle.etcs_rows.specs.Lengths.{LengthsBy}
 use Rattle.etcs_rows.specs.Places.{onto, iterate}
 use Rattle.etcs_rows.specs.Steps.{AreSteps}
+use Rattle.etcs_rows.specs.Sums.{Plus}
 
 -- the groups that wait, the innermost first
 abbrev pub waiting : List Pending → Layout
@@ -22,9 +23,13 @@ left_of c = onto c.before (layout c.items.now) (waiting (reverse c.pending.items
 abbrev pub KnowsSteps : Pending → Type 0
 KnowsSteps p = IfSome p.steps (λ s. AreSteps s (LengthsBy (layout p.group.now) p.before))
 
+-- the tail that is kept are the lengths of what stands behind the group, with the groups that wait further out
+abbrev pub KnowsTail : Pending → List Pending → Type 0
+KnowsTail p ps = IfSome p.tail (λ s. AreSteps s (Plus (LengthsBy (layout p.items.now) p.before) (LengthsBy (waiting ps) 0)))
+
 abbrev pub WaitsNest : List Pending → Type 0
 WaitsNest [] = Unit {0}
-WaitsNest (p ∷ ps) = IsTrue (nests (4 - length ps) (layout p.items.now)) × (0 < p.times → IsTrue (begins (layout p.group.now) && nests (3 - length ps) (layout p.group.now))) × KnowsSteps p × WaitsNest ps
+WaitsNest (p ∷ ps) = IsTrue (nests (4 - length ps) (layout p.items.now)) × (0 < p.times → IsTrue (begins (layout p.group.now) && nests (3 - length ps) (layout p.group.now))) × KnowsSteps p × KnowsTail p ps × WaitsNest ps
 
 abbrev pub Nests : Cursor → Type 0
 Nests c = (length c.pending.items ≤ 4) × IsTrue (nests (4 - length c.pending.items) (layout c.items.now)) × WaitsNest (reverse c.pending.items)

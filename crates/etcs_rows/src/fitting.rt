@@ -2,18 +2,21 @@
 //!
 //! `None` says that the lengths met aren't in equal steps, or too many; then the sets of lengths decide.
 
-ghost use Rattle.std.specs.Prelude.{◌≡◌, ◌↔◌, ℕ, ◌≤◌, IsTrue, IfSome, reverse};
+ghost use Rattle.std.specs.Prelude.{◌≡◌, ◌↔◌, ℕ, ◌+◌, ◌≤◌, IsTrue, IfSome, reverse};
+ghost use Rattle.etcs_vars.specs.Vars.{width, admits};
 ghost use Rattle.etcs_rows.specs.Layouts.{layout};
 ghost use Rattle.etcs_rows.specs.Lengths.{LengthsBy, behind, GroupsWithin, FitsWithin};
 ghost use Rattle.etcs_rows.specs.Sums.{Plus, SumOf};
 ghost use Rattle.etcs_rows.specs.Steps.{InSteps, AreSteps, TimesWithin};
-ghost use Rattle.etcs_rows.specs.Cursors.{left_of, Nests, WaitsNest, KnowsSteps};
+ghost use Rattle.etcs_rows.specs.Cursors.{waiting, left_of, Nests, WaitsNest, KnowsSteps};
 ghost use Rattle.etcs_rows.specs.Waiting.{Agains, Tails, Onward};
 
 use crate::item::RowItem;
 use crate::measure::behind_groups;
 use crate::place::{Cursor, Pending};
-use crate::steps::{Steps, counted_within, groups_steps, leading, steps_each, times_steps};
+use crate::steps::{
+    Steps, counted_within, groups_steps, leading, steps_each, steps_of, times_steps,
+};
 use etcs_vars::Var;
 
 /// How many bits a group may take, as often as it still stands.
@@ -35,6 +38,62 @@ fn waiting_steps(waiting: &[Pending]) -> Option<Steps>
     match waiting.split_last() {
         None => Some(Steps::single(0)),
         Some((pending, outer)) => again_steps(pending)?.plus(waiting_steps(outer)?),
+    }
+}
+
+/// How many bits may be left behind the current items, if that is known without a walk over the groups that wait.
+fn known_steps(outer: &[Pending]) -> Option<Steps>
+    requires { WaitsNest (reverse outer.now) }
+    ensures { IfSome result (λ s. AreSteps s (LengthsBy (waiting (reverse outer.now)) 0)) }
+{
+    match outer.split_last() {
+        None => Some(Steps::single(0)),
+        Some((pending, _)) => {
+            let tail = pending.tail?;
+            again_steps(pending)?.plus(tail)
+        }
+    }
+}
+
+/// How many bits may be left, where these items come next behind a number.
+#[inline]
+pub(crate) fn tail_steps(items: &'static [RowItem], before: u64, outer: &[Pending]) -> Option<Steps>
+    requires { WaitsNest (reverse outer.now) }
+    ensures { IfSome result (λ s. AreSteps s (Plus (LengthsBy (layout items.now) before) (LengthsBy (waiting (reverse outer.now)) 0))) }
+{
+    let all = known_steps(outer)?;
+    steps_of(items, before)?.plus(all)
+}
+
+/// Whether a number of a variable and what may be left behind it take so many bits.
+fn fits_with(var: Var, number: u64, left: Steps, bits: usize) -> bool
+    ensures { IsTrue result ↔ (IsTrue (admits var number) × ((j : ℕ) × InSteps left j × (width var + j ≡ bits)) × (bits ≤ 8191)) }
+{
+    let width = var.width();
+    if bits > 8191 {
+        return false;
+    }
+    if bits < width {
+        return false;
+    }
+    if !var.admits(number) {
+        return false;
+    }
+    left.holds(bits - width)
+}
+
+/// Whether so many bits may be left of the row, where this is the number of the variable in front.
+#[inline(always)]
+pub(crate) fn fits_at(cursor: &Cursor, number: u64, bits: usize) -> Option<bool>
+    requires { Nests cursor.now }
+    ensures { IfSome result (λ b. IsTrue b ↔ FitsWithin (left_of cursor.now) number number bits) }
+{
+    match cursor.items.split_first() {
+        Some((RowItem::One(var), rest)) => {
+            let left = tail_steps(rest, number, cursor.pending.as_slice())?;
+            Some(fits_with(*var, number, left, bits))
+        }
+        _ => None,
     }
 }
 
@@ -184,7 +243,14 @@ fn spread(
     ensures { IfSome result (λ b. IsTrue b ↔ Plus (InSteps sum) (Plus (InSteps more) (Onward items.now waiting.now)) bits) }
 {
     match sum.plus(more) {
-        Some(all) => onward(all, items, waiting, bits),
+        Some(all) => {
+            if items.is_empty() {
+                if waiting.is_empty() {
+                    return Some(all.holds(bits));
+                }
+            }
+            onward(all, items, waiting, bits)
+        }
         None => {
             if more.count > sum.count {
                 spread_each(more, sum, items, waiting, bits)

@@ -6,7 +6,7 @@ ghost use Rattle.etcs_rows.specs.Lengths.{FitsWithin, is_free};
 ghost use Rattle.etcs_rows.specs.Sets.{In};
 ghost use Rattle.etcs_rows.specs.Places.{first_variable, after_any, after_number};
 
-use crate::fitting::{fits_by_steps, reaches_by_steps};
+use crate::fitting::{fits_at, fits_by_steps, reaches_by_steps, tail_steps};
 use crate::item::{Guard, RowItem};
 use crate::length_set::LengthSet;
 use crate::measure::{first_lengths, has_group, lengths_of};
@@ -28,6 +28,8 @@ pub struct Pending {
     pub before: u64,
     /// How many bits the group may take each time, if that was asked for and is in equal steps.
     pub steps: Option<Steps>,
+    /// How many bits all may take that stands behind the group and waits further out, likewise.
+    pub tail: Option<Steps>,
 }
 
 impl Default for Pending {
@@ -38,6 +40,7 @@ impl Default for Pending {
             items: &[],
             before: 0,
             steps: None,
+            tail: None,
         }
     }
 }
@@ -104,6 +107,7 @@ impl Cursor {
                 items: rest,
                 before: self.before,
                 steps: None,
+                tail: None,
             });
             self.items = group;
             true
@@ -125,12 +129,14 @@ impl Cursor {
     {
         if self.before > 0 {
             let steps = steps_again(group, self.before);
+            let tail = tail_steps(rest, self.before, self.pending.as_slice());
             self.pending.push(Pending {
                 group,
                 times: self.before - 1,
                 items: rest,
                 before: self.before,
                 steps,
+                tail,
             });
             self.items = group;
             true
@@ -141,7 +147,22 @@ impl Cursor {
     }
 
     /// Opens groups until a variable comes next or the row has ended.
+    #[inline]
     fn settle(&mut self)
+        requires { Nests self.old }
+        ensures same { left_of self.new ≡ left_of self.old }
+        ensures nests { Nests self.new }
+        ensures settled { IsSettled self.new }
+    {
+        match self.items.split_first() {
+            Some((RowItem::One(_), _)) => {}
+            _ => self.open(),
+        }
+    }
+
+    /// The same, where no variable comes next already.
+    #[inline(never)]
+    fn open(&mut self)
         requires { Nests self.old }
         ensures same { left_of self.new ≡ left_of self.old }
         ensures nests { Nests self.new }
@@ -289,7 +310,21 @@ impl Place {
     }
 
     /// Whether so many bits may be left of the row, where the number of the next variable is from low to high.
+    #[inline(never)]
     pub(crate) fn fits(&self, low: u64, high: u64, bits: usize) -> bool
+        ensures { IsTrue result ↔ FitsWithin self.now low high bits }
+    {
+        if low == high {
+            if let Some(answer) = fits_at(&self.cursor, low, bits) {
+                return answer;
+            }
+        }
+        self.fits_between(low, high, bits)
+    }
+
+    /// The same, by a walk over the groups that wait.
+    #[inline(never)]
+    fn fits_between(&self, low: u64, high: u64, bits: usize) -> bool
         ensures { IsTrue result ↔ FitsWithin self.now low high bits }
     {
         match fits_by_steps(&self.cursor, low, high, bits) {
@@ -299,6 +334,8 @@ impl Place {
     }
 
     /// The same, by the sets of lengths.
+    #[cold]
+    #[inline(never)]
     fn fits_by_sets(&self, low: u64, high: u64, bits: usize) -> bool
         ensures { IsTrue result ↔ FitsWithin self.now low high bits }
     {

@@ -1,6 +1,6 @@
 //! Numbers in equal steps.
 
-ghost use Rattle.std.specs.Prelude.{◌≡◌, ◌↔◌, ℕ, ◌+◌, ◌*◌, ◌≤◌, IsTrue, IfSome, ◌⊎◌, length};
+ghost use Rattle.std.specs.Prelude.{◌≡◌, ◌↔◌, ℕ, ◌+◌, ◌*◌, ◌≤◌, true, false, IsTrue, IfSome, ◌⊎◌, length};
 
 use crate::item::{RowItem, Test};
 use crate::measure::{behind_groups, has_group};
@@ -125,8 +125,8 @@ impl Steps {
 }
 
 ghost use Rattle.etcs_vars.specs.Vars.{admits};
-ghost use Rattle.etcs_rows.specs.Layouts.{layout};
-ghost use Rattle.etcs_rows.specs.Lengths.{LengthsBy, front, GroupsWithin, SetsWithin};
+ghost use Rattle.etcs_rows.specs.Layouts.{layout, passes};
+ghost use Rattle.etcs_rows.specs.Lengths.{LengthsBy, front, behind, GroupsWithin, SetsWithin};
 ghost use Rattle.etcs_rows.specs.Steps.{AreSteps, InGuarded, InSteps, TimesWithin};
 ghost use Rattle.etcs_rows.specs.Sums.{Plus, SumOf};
 
@@ -173,11 +173,13 @@ pub(crate) fn times_steps(group: Steps, first: u64, last: u64) -> Option<Steps>
 pub(crate) fn steps_of(items: &'static [RowItem], before: u64) -> Option<Steps>
     ensures { IfSome result (λ s. AreSteps s (LengthsBy (layout items.now) before)) }
 {
-    if !has_group(items) {
-        return open_steps(items);
+    match plain_groups(items, before) {
+        Some((width, behind)) => Steps::single(width).plus(open_steps(behind)?),
+        None => {
+            let groups = groups_steps(items, before)?;
+            groups.plus(open_steps(behind_groups(items))?)
+        }
     }
-    let groups = groups_steps(items, before)?;
-    groups.plus(open_steps(behind_groups(items))?)
 }
 
 /// The same of a group that stands more than once. How long others are each time isn't asked.
@@ -208,6 +210,51 @@ pub(crate) fn leading(items: &'static [RowItem]) -> Option<(usize, &'static [Row
     Some((width, behind))
 }
 
+/// The width of a group of variables that no group looks at.
+fn plain_width(group: &'static [RowItem]) -> Option<usize>
+    ensures { IfSome result (λ w. (n : ℕ) → (m : ℕ) → (m ≡ w) ↔ LengthsBy (layout group.now) n m) }
+{
+    if has_group(group) {
+        return None;
+    }
+    let (width, behind) = leading(group)?;
+    if behind.is_empty() { Some(width) } else { None }
+}
+
+/// The width of such a group where a number passes the test, and else 0.
+fn guarded_width(test: Test, group: &'static [RowItem], before: u64) -> Option<usize>
+    ensures passed { passes test before ≡ true → IfSome result (λ w. (m : ℕ) → (m ≡ w) ↔ LengthsBy (layout group.now) before m) }
+    ensures skipped { passes test before ≡ false → IfSome result (λ w. w ≡ 0) }
+{
+    if test.passes(before) {
+        plain_width(group)
+    } else {
+        Some(0)
+    }
+}
+
+/// The width of the groups in front behind a number, and what stands behind them, if all are guarded and
+/// in those that stand there no variable is looked at.
+fn plain_groups(items: &'static [RowItem], before: u64) -> Option<(usize, &'static [RowItem])>
+    ensures width { IfSome result (λ r. (m : ℕ) → (m ≡ r.0) ↔ LengthsBy (front (layout items.now)) before m) }
+    ensures behind { IfSome result (λ r. layout r.1.now ≡ behind (layout items.now)) }
+    ensures shorter { IfSome result (λ r. length r.1.now ≤ length items.now) }
+{
+    let mut width = 0usize;
+    let mut left = items;
+    while let Some((RowItem::When(guard, count), rest)) = left.split_first() {
+        let (group, rest) = rest.split_at(rest.len().min(*count));
+        let more = guarded_width(guard.test, group, before)?;
+        width = width.checked_add(more)?;
+        left = rest;
+    }
+    if has_group(left) {
+        None
+    } else {
+        Some((width, left))
+    }
+}
+
 /// How many bits a row may take that begins with a variable.
 #[cycle(steps)]
 fn open_steps(items: &'static [RowItem]) -> Option<Steps>
@@ -232,6 +279,9 @@ fn open_steps(items: &'static [RowItem]) -> Option<Steps>
 pub(crate) fn groups_steps(items: &'static [RowItem], before: u64) -> Option<Steps>
     ensures { IfSome result (λ s. AreSteps s (LengthsBy (front (layout items.now)) before)) }
 {
+    if let Some((width, _)) = plain_groups(items, before) {
+        return Some(Steps::single(width));
+    }
     match items.split_first() {
         Some((RowItem::When(guard, count), rest)) => {
             let (group, rest) = rest.split_at(rest.len().min(*count));

@@ -69,6 +69,7 @@ fn digit(b: bool) -> u64
 }
 
 /// Whether some number of the next variable begins with these bits and goes on to the row's end.
+#[inline(always)]
 fn may_begin(place: &Place, var: Var, bits: u64, taken: usize, len: usize) -> bool
     requires next { first_variable place.now ≡ Some var }
     requires some { 0 < taken }
@@ -78,7 +79,11 @@ fn may_begin(place: &Place, var: Var, bits: u64, taken: usize, len: usize) -> bo
     ensures { IsTrue result ↔ FitsWithin place.now (bits * 2 ^ (width var - taken)) (bits * 2 ^ (width var - taken) + (2 ^ (width var - taken) - 1)) len }
 {
     if place.is_free() {
-        return var.admits_prefix(bits, taken);
+        return if taken == var.width() {
+            var.admits(bits)
+        } else {
+            var.admits_prefix(bits, taken)
+        };
     }
     let rest = var.width() - taken;
     let low = bits << rest;
@@ -224,6 +229,8 @@ impl RowWalk {
     }
 
     /// Takes `count` bits, one after the other, up to the first that ends a variable or isn't taken.
+    #[cold]
+    #[inline(never)]
     fn bit_by_bit(&mut self, count: usize, bits: u64) -> Result<Step, Stopped>
         requires { count ≤ 64 }
         ensures { Walks self.old (num count bits) result self.new }

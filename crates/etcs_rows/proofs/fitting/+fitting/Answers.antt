@@ -13,7 +13,7 @@ use Rattle.etcs_rows.proofs.SumLemmas.{no_items, most_admits}
 use Rattle.etcs_rows.proofs.RowSums.{Plus-assoc, first_sum, one_sum}
 use Rattle.etcs_rows.proofs.StepLemmas.{is_zero}
 use Rattle.etcs_rows.proofs.StepSums.{times_past, times_more, times_none}
-use Rattle.etcs_rows.proofs.FitLemmas.{leave_empty, chosen, waiting_first, answer_same, past_bits, onward_end, moved_two, led, leave_sum, NoneTo, none_more, none_all, each_not, at_found, at_more, at_none}
+use Rattle.etcs_rows.proofs.FitLemmas.{leave_empty, chosen, waiting_first, answer_same, past_bits, onward_end, onward_none, moved_two, led, leave_sum, NoneTo, none_more, none_all, each_not, at_found, at_more, at_none}
 use Rattle.etcs_rows.proofs.fitting.+fitting.Goals as goal
 use Rattle.etcs_rows.proofs.fitting.+fitting.Goals.{choose_each-then-admits+in_ok-groups+in_ok-spread+else-branch, choose_each-else-admits}
 
@@ -123,8 +123,14 @@ choose_each-returns t c =
     (λ n l u a. let most : n ≤ 18446744073709551615 / 2 ^ (64 - c.width.result) = rw c.width.ensures (most_admits c.args.var n a) in omega (arith, most, c.in_ok-end.ensures)) in
     subst (λ (row : Layout). IsTrue false ↔ Plus S (Plus G (Plus (LengthsBy row 0) T)) c.args.bits) c.behind_groups-behind.ensures.behind all
 
-pub spread-returns-in-Some : goal.spread-returns-in-Some
-spread-returns-in-Some t c =
+pub spread-returns-then-is_empty-2 : goal.spread-returns-then-is_empty-2
+spread-returns-then-is_empty-2 t c =
+    let items = c.args.items.now in let ps = c.args.waiting.now in
+    let all = onward_none c.in-Some.all (InSteps c.args.sum) (InSteps c.args.more) items ps (is_zero (length items) (sym c.is_empty.ensures ∙ c.if-is_empty.true)) (is_zero (length ps) (sym c.is_empty-then-is_empty.ensures ∙ c.if-is_empty-2.true)) c.in-Some.ensures c.args.bits in
+    (λ h. all.0 (c.holds.ensures.0 h), λ x. c.holds.ensures.1 (all.1 x))
+
+pub spread-returns-after-is_empty : goal.spread-returns-after-is_empty
+spread-returns-after-is_empty t c =
     let S = InSteps c.args.sum in let M = InSteps c.args.more in let X = Onward c.args.items.now c.args.waiting.now in let all = InSteps c.in-Some.all in
     answer_same c.onward.result (Plus all X c.args.bits) (Plus S (Plus M X) c.args.bits)
     (set_along (Plus all X) (Plus (Plus S M) X) (Plus S (Plus M X)) (Plus-same all X (Plus S M) X c.in-Some.ensures (set_self X)) (Plus-assoc S M X) c.args.bits) c.onward.ensures

@@ -1,4 +1,4 @@
-use Rattle.std.proofs.Common.{◌≡◌, ℕ, ◌-◌, ◌/◌, ◌^◌, ◌≤◌, take, drop, List, ◌∷◌, sym, ap, ◌∙◌, arith, Some, false}
+use Rattle.std.proofs.Common.{◌≡◌, ℕ, ◌-◌, ◌/◌, ◌^◌, ◌≤◌, take, drop, List, ◌∷◌, sym, ap, ◌∙◌, arith, Some}
 use Rattle.std.proofs.lemmas.Bool.{both_ways}
 use Rattle.etcs_vars.specs.Vars.{width}
 use Rattle.etcs_rows.specs.declared.item.RowItem.{RowItem}
@@ -7,8 +7,8 @@ use Rattle.etcs_rows.specs.Lengths.{LengthsBy, begins_with_group, front, behind,
 use Rattle.etcs_rows.specs.Steps.{InSteps, InGuarded, TimesWithin}
 use Rattle.etcs_rows.specs.Sums.{Plus, SumOf}
 use Rattle.etcs_rows.proofs.Cuts.{layout-when_cut, layout-many_cut}
-use Rattle.etcs_rows.proofs.LengthLemmas.{lengths-free, set_along, set_back, set_self, Plus-same, SameSet}
-use Rattle.etcs_rows.proofs.SumLemmas.{is_open_false, no_items, lengths-parts, most_admits}
+use Rattle.etcs_rows.proofs.LengthLemmas.{set_along, set_back, set_self, Plus-same, SameSet}
+use Rattle.etcs_rows.proofs.SumLemmas.{no_items, lengths-parts, most_admits}
 use Rattle.etcs_rows.proofs.RowSums.{Plus-zero, whole_sum, passed_sum, not_passed_sum, counted_sum, first_sum, one_sum, counted_times}
 use Rattle.etcs_rows.proofs.StepSums.{guarded_groups, some_are, some_all, times_within, plus_are, times_are, steps_none, steps_more, steps_same, steps_all}
 use Rattle.etcs_rows.proofs.steps.+steps.Goals as goal
@@ -55,7 +55,7 @@ groups_steps-returns-in-Some-One-default t c =
     let rest = c.in-Some-One-default.field-0-1.now in
     let is : layout c.args.items.now ≡ one c.in-Some-One-default.field-0-0-0 (layout rest) = ap (λ (x : List RowItem). layout x) (c.in-Some-One-default.ensures.cases.0 ∙ ap (λ (x : RowItem). x ∷ rest) c.in-Some-One-default.field-0-0-is) in
     let row = front (layout c.args.items.now) in
-    set_along (InSteps c.single.result) (λ m. m ≡ 0) (LengthsBy row c.args.before) c.single.ensures (whole_sum row c.args.before (ap (λ (x : Layout). front x) is))
+    set_along (InSteps c.single-in-Some-One-default.result) (λ m. m ≡ 0) (LengthsBy row c.args.before) c.single-in-Some-One-default.ensures (whole_sum row c.args.before (ap (λ (x : Layout). front x) is))
 
 pub groups_steps-returns-in-None : goal.groups_steps-returns-in-None
 groups_steps-returns-in-None t c =
@@ -115,17 +115,21 @@ groups_each-returns t c =
     steps_all c.args.var (λ (n : ℕ). LengthsBy (front (layout c.args.rest.now)) n) c.args.low c.args.high c.loop-number.number c.loop-number.all c.loop-number.invariant.groups c.loop-number.invariant.within
     (λ n l u a. let most : n ≤ 18446744073709551615 / 2 ^ (64 - c.width.result) = rw c.width.ensures (most_admits c.args.var n a) in omega (arith, most, c.in_ok-end.ensures))
 
-pub steps_of-returns-then-not-has_group : goal.steps_of-returns-then-not-has_group
-steps_of-returns-then-not-has_group t c =
-    let row = layout c.args.items.now in
-    let none : begins_with_group row ≡ false = sym c.has_group.ensures ∙ c.if-not-has_group.true in
-    some_are c.open_steps.result (LengthsBy row 0) (LengthsBy row c.args.before) (lengths-free row 0 c.args.before (is_open_false row none)) c.open_steps.ensures
+pub steps_of-returns-in_ok-open_steps-in-Some : goal.steps_of-returns-in_ok-open_steps-in-Some
+steps_of-returns-in_ok-open_steps-in-Some t c =
+    let row = layout c.args.items.now in let n = c.args.before in let F = LengthsBy (front row) n in
+    plus_are c.plus.result c.single.result c.in_ok-open_steps-in-Some.field-0 F (LengthsBy (behind row) 0) (LengthsBy row n) (set_along (InSteps c.single.result) (λ k. k ≡ c.in-Some.width) F c.single.ensures c.in-Some.ensures.width)
+    (rw c.in-Some.ensures.behind at c.in_ok-open_steps-in-Some.ensures) (set_back (LengthsBy row n) (Plus F (LengthsBy (behind row) 0)) (lengths-parts row n)) c.plus.ensures
 
-pub steps_of-returns : goal.steps_of-returns
-steps_of-returns t c =
+pub steps_of-returns-in_ok-open_steps-in-None : goal.steps_of-returns-in_ok-open_steps-in-None
+steps_of-returns-in_ok-open_steps-in-None t c =
     let row = layout c.args.items.now in let n = c.args.before in
-    plus_are c.plus.result c.in_ok-groups.groups c.in_ok-open_steps.field-0 (LengthsBy (front row) n) (LengthsBy (behind row) 0) (LengthsBy row n) c.in_ok-groups.ensures
-    (rw c.behind_groups.ensures.behind at c.in_ok-open_steps.ensures) (set_back (LengthsBy row n) (Plus (LengthsBy (front row) n) (LengthsBy (behind row) 0)) (lengths-parts row n)) c.plus.ensures
+    plus_are c.plus-in-None.result c.in_ok-groups-in-None.groups c.in_ok-open_steps-in-None.field-0 (LengthsBy (front row) n) (LengthsBy (behind row) 0) (LengthsBy row n) c.in_ok-groups-in-None.ensures
+    (rw c.behind_groups.ensures.behind at c.in_ok-open_steps-in-None.ensures) (set_back (LengthsBy row n) (Plus (LengthsBy (front row) n) (LengthsBy (behind row) 0)) (lengths-parts row n)) c.plus-in-None.ensures
+
+pub groups_steps-returns-in-Some : goal.groups_steps-returns-in-Some
+groups_steps-returns-in-Some t c =
+    set_along (InSteps c.single.result) (λ k. k ≡ c.in-Some.width) (LengthsBy (front (layout c.args.items.now)) c.args.before) c.single.ensures c.in-Some.ensures.width
 
 pub counted_group-returns-else-has_group-2 : goal.counted_group-returns-else-has_group-2
 counted_group-returns-else-has_group-2 t c =

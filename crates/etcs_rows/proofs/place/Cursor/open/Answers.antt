@@ -1,7 +1,7 @@
 use Rattle.std.proofs.Common.{take, drop, ◌∷◌, ap, ◌∙◌}
 use Rattle.etcs_rows.specs.declared.item.RowItem.{RowItem}
 use Rattle.etcs_rows.proofs.Cuts.{layout-when_cut, layout-many_cut}
-use Rattle.etcs_rows.proofs.place.Cursor.settle.Goals as goal
+use Rattle.etcs_rows.proofs.place.Cursor.open.Goals as goal
 
 pub enter_guarded-settled-requires-clause-here : goal.enter_guarded-settled-requires-clause-here
 enter_guarded-settled-requires-clause-here c =

@@ -1,0 +1,78 @@
+-- Where a text is shown, at its start or at its end (packets 72 and 76).
+use Rattle.std.proofs.Common.{◌≡◌, ℕ, List, [], ◌∷◌, Option, None, refl}
+use Rattle.std.specs.Option.{is_some}
+use Rattle.etcs_vars.specs.declared.var.Var.TheVariants.{M_MODETEXTDISPLAY, M_LEVELTEXTDISPLAY, NID_NTC}
+use Rattle.etcs_vars.specs.declared.fault.BuildFault.{BuildFault}
+use Rattle.etcs_vars.specs.Reading.{Reading, numbers}
+use Rattle.etcs_rows.specs.declared.item.Test.TheVariants.{IsOne}
+use Rattle.etcs_rows.specs.Layouts.{passes}
+use Rattle.etcs_rows.specs.Rows.{shown}
+use Rattle.etcs_parts.specs.Faults.{◌or_else◌, number_fault, option_fault}
+use Rattle.etcs_parts.specs.Takes.{none_of}
+use Rattle.etcs_parts.specs.Taking.{next_number}
+use Rattle.etcs_parts.specs.Codecs.{Codes, number, both, both_from, group_of, group_from, form, form_from, option_is, option_none}
+use Rattle.etcs_parts.specs.Guards.{guard_fault, group_is, group_gives, optional_group, group_reading_is}
+
+pub record ShownParts : Type 0 where
+  pub m_modetextdisplay : ℕ
+  pub m_leveltextdisplay : ℕ
+  pub nid_ntc : Option ℕ
+
+abbrev pub shown_parts : ℕ → ℕ → Option ℕ → ShownParts
+shown_parts m_modetextdisplay m_leveltextdisplay nid_ntc =
+    record { m_modetextdisplay = m_modetextdisplay; m_leveltextdisplay = m_leveltextdisplay; nid_ntc = nid_ntc }
+
+-- why it is none
+abbrev pub shown_fault : ShownParts → Option BuildFault
+shown_fault s =
+    number_fault M_MODETEXTDISPLAY s.m_modetextdisplay or_else number_fault M_LEVELTEXTDISPLAY s.m_leveltextdisplay
+    or_else guard_fault M_LEVELTEXTDISPLAY (passes IsOne s.m_leveltextdisplay) (is_some s.nid_ntc) or_else option_fault NID_NTC s.nid_ntc
+
+abbrev pub IsShown : ShownParts → Type 0
+IsShown s = shown_fault s ≡ None
+
+-- its variables in the order of sending
+abbrev pub shown_reading : ShownParts → Reading
+shown_reading s =
+    (M_MODETEXTDISPLAY, s.m_modetextdisplay) ∷ (M_LEVELTEXTDISPLAY, s.m_leveltextdisplay) ∷ optional_group (λ n. (NID_NTC, n) ∷ []) s.nid_ntc
+
+abbrev pub shown_fields : ShownParts → List ℕ
+shown_fields s = numbers (shown_reading s)
+
+-- ---- What a list of numbers begins with.
+
+abbrev pub shown_of : ℕ × (ℕ × Option ℕ) → ShownParts
+shown_of n = shown_parts n.0 n.1.0 n.1.1
+
+unfoldable pub shown_from : List ℕ → Option (ShownParts × List ℕ)
+shown_from = form_from shown_of (both_from (next_number M_MODETEXTDISPLAY) (group_from M_LEVELTEXTDISPLAY IsOne (next_number NID_NTC)))
+
+-- ---- It is what its row spells.
+
+pub record ShownFacts (s : ShownParts) : Type 0 where
+  pub m_modetextdisplay : number_fault M_MODETEXTDISPLAY s.m_modetextdisplay ≡ None
+  pub m_leveltextdisplay : number_fault M_LEVELTEXTDISPLAY s.m_leveltextdisplay ≡ None
+  pub guard : guard_fault M_LEVELTEXTDISPLAY (passes IsOne s.m_leveltextdisplay) (is_some s.nid_ntc) ≡ None
+  pub nid_ntc : option_fault NID_NTC s.nid_ntc ≡ None
+
+facts : (s : ShownParts) → IsShown s → ShownFacts s
+facts s h =
+    let guard = guard_fault M_LEVELTEXTDISPLAY (passes IsOne s.m_leveltextdisplay) (is_some s.nid_ntc) in
+    let level = number_fault M_LEVELTEXTDISPLAY s.m_leveltextdisplay in
+    let h1 = none_of (number_fault M_MODETEXTDISPLAY s.m_modetextdisplay) (level or_else guard or_else option_fault NID_NTC s.nid_ntc) h in
+    let h2 = none_of level (guard or_else option_fault NID_NTC s.nid_ntc) h1.1 in
+    let h3 = none_of guard (option_fault NID_NTC s.nid_ntc) h2.1 in
+    record { m_modetextdisplay = h1.0; m_leveltextdisplay = h2.0; guard = h3.0; nid_ntc = h3.1 }
+
+pub shown_codes : Codes shown IsShown shown_reading shown_from
+unfolding shown_from
+shown_codes =
+    form (both (number M_MODETEXTDISPLAY) (group_of M_LEVELTEXTDISPLAY IsOne (number NID_NTC)))
+    (record {
+      back = λ s. (s.m_modetextdisplay, (s.m_leveltextdisplay, s.nid_ntc));
+      there = λ s. refl;
+      again = λ v. refl;
+      is = λ s h. let k = facts s h in (k.m_modetextdisplay, group_is M_LEVELTEXTDISPLAY IsOne (λ n. number_fault NID_NTC n ≡ None) s.m_leveltextdisplay s.nid_ntc k.m_leveltextdisplay k.guard (option_is NID_NTC s.nid_ntc k.nid_ntc));
+      so = λ v h. let g = group_gives M_LEVELTEXTDISPLAY IsOne (λ n. number_fault NID_NTC n ≡ None) v.1.0 v.1.1 h.1 in rw (h.0, g.number, g.guard, option_none NID_NTC v.1.1 g.is) refl;
+      same = λ s. rw (group_reading_is M_LEVELTEXTDISPLAY (λ n. (NID_NTC, n) ∷ []) s.m_leveltextdisplay s.nid_ntc) refl;
+    })

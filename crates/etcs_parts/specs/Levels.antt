@@ -1,0 +1,111 @@
+-- A level, of packets 41 and 46, without and with its length of acknowledgement.
+use Rattle.std.proofs.Common.{◌≡◌, ℕ, List, [], ◌∷◌, ◌++◌, Option, Some, None, refl}
+use Rattle.std.specs.Prelude.{◌==◌}
+use Rattle.std.specs.Option.{is_some}
+use Rattle.etcs_vars.specs.declared.var.Var.TheVariants.{M_LEVELTR, NID_NTC, L_ACKLEVELTR}
+use Rattle.etcs_vars.specs.declared.fault.BuildFault.{BuildFault}
+use Rattle.etcs_vars.specs.Reading.{Reading, numbers}
+use Rattle.etcs_rows.specs.declared.item.Test.TheVariants.{IsOne}
+use Rattle.etcs_rows.specs.Rows.{level, level_ack}
+use Rattle.etcs_parts.specs.Faults.{◌or_else◌, number_fault}
+use Rattle.etcs_parts.specs.Takes.{none_of}
+use Rattle.etcs_parts.specs.Codecs.{Codes, number, both, both_from, IsGroup, group_of, group_from, group_reading, form, form_from}
+use Rattle.etcs_parts.specs.Taking.{next_number}
+use Rattle.etcs_parts.specs.Groups.{group_fault, guarded_is, guarded_none}
+use Rattle.etcs_parts.specs.Guards.{guard_fault}
+
+pub record LevelParts : Type 0 where
+  pub m_leveltr : ℕ
+  pub nid_ntc : Option ℕ
+
+abbrev pub level_parts : ℕ → Option ℕ → LevelParts
+level_parts m_leveltr nid_ntc = record { m_leveltr = m_leveltr; nid_ntc = nid_ntc }
+
+-- why it is none: the national system is there just where the level is 1
+abbrev pub level_fault : LevelParts → Option BuildFault
+level_fault p = number_fault M_LEVELTR p.m_leveltr or_else guard_fault M_LEVELTR (p.m_leveltr == 1) (is_some p.nid_ntc) or_else group_fault (number_fault NID_NTC) p.nid_ntc
+
+abbrev pub IsLevel : LevelParts → Type 0
+IsLevel p = level_fault p ≡ None
+
+-- the level, and behind it the national system where there is one
+abbrev pub system_reading : ℕ → Option ℕ → Reading
+system_reading m None = (M_LEVELTR, m) ∷ []
+system_reading m (Some n) = (M_LEVELTR, m) ∷ (NID_NTC, n) ∷ []
+
+-- its variables in the order of sending
+abbrev pub level_reading : LevelParts → Reading
+level_reading p = system_reading p.m_leveltr p.nid_ntc
+
+abbrev pub level_fields : LevelParts → List ℕ
+level_fields p = numbers (level_reading p)
+
+-- ---- The level that a list of numbers begins with.
+
+abbrev pub level_of : ℕ × Option ℕ → LevelParts
+level_of n = level_parts n.0 n.1
+
+unfoldable pub level_from : List ℕ → Option (LevelParts × List ℕ)
+level_from = form_from level_of (group_from M_LEVELTR IsOne (next_number NID_NTC))
+
+-- ---- A level is what its row spells.
+
+same_system : (m : ℕ) (o : Option ℕ) → group_reading M_LEVELTR (λ n. (NID_NTC, n) ∷ []) (m, o) ≡ system_reading m o
+same_system m None = refl
+same_system m (Some n) = refl
+
+level_is : (p : LevelParts) → IsLevel p → IsGroup M_LEVELTR IsOne (λ n. number_fault NID_NTC n ≡ None) (p.m_leveltr, p.nid_ntc)
+level_is p h = guarded_is M_LEVELTR IsOne (number_fault NID_NTC) p.m_leveltr p.nid_ntc h
+
+pub level_codes : Codes level IsLevel level_reading level_from
+unfolding level_from
+level_codes =
+    form (group_of M_LEVELTR IsOne (number NID_NTC))
+    (record {
+      back = λ p. (p.m_leveltr, p.nid_ntc);
+      there = λ p. refl;
+      again = λ v. refl;
+      is = λ p h. level_is p h;
+      so = λ v h. guarded_none M_LEVELTR IsOne (number_fault NID_NTC) v.0 v.1 h;
+      same = λ p. same_system p.m_leveltr p.nid_ntc;
+    })
+
+-- ---- With the length of acknowledgement.
+
+pub record LevelAckParts : Type 0 where
+  pub level : LevelParts
+  pub l_ackleveltr : ℕ
+
+abbrev pub level_ack_parts : ℕ → Option ℕ → ℕ → LevelAckParts
+level_ack_parts m_leveltr nid_ntc l_ackleveltr = record { level = level_parts m_leveltr nid_ntc; l_ackleveltr = l_ackleveltr }
+
+abbrev pub level_ack_fault : LevelAckParts → Option BuildFault
+level_ack_fault p = level_fault p.level or_else number_fault L_ACKLEVELTR p.l_ackleveltr
+
+abbrev pub IsLevelAck : LevelAckParts → Type 0
+IsLevelAck p = level_ack_fault p ≡ None
+
+abbrev pub level_ack_reading : LevelAckParts → Reading
+level_ack_reading p = level_reading p.level ++ (L_ACKLEVELTR, p.l_ackleveltr) ∷ []
+
+abbrev pub level_ack_fields : LevelAckParts → List ℕ
+level_ack_fields p = numbers (level_ack_reading p)
+
+abbrev pub level_ack_of : LevelParts × ℕ → LevelAckParts
+level_ack_of n = record { level = n.0; l_ackleveltr = n.1 }
+
+unfoldable pub level_ack_from : List ℕ → Option (LevelAckParts × List ℕ)
+level_ack_from = form_from level_ack_of (both_from level_from (next_number L_ACKLEVELTR))
+
+pub level_ack_codes : Codes level_ack IsLevelAck level_ack_reading level_ack_from
+unfolding level_ack_from
+level_ack_codes =
+    form (both level_codes (number L_ACKLEVELTR))
+    (record {
+      back = λ p. (p.level, p.l_ackleveltr);
+      there = λ p. refl;
+      again = λ v. refl;
+      is = λ p h. none_of (level_fault p.level) (number_fault L_ACKLEVELTR p.l_ackleveltr) h;
+      so = λ v h. rw (h.0, h.1) refl;
+      same = λ p. refl;
+    })

@@ -1,0 +1,17 @@
+pub mod Faults
+pub mod Taking
+pub mod Takes
+pub mod Repeats
+pub mod Codecs
+pub mod Guards
+pub mod Groups
+pub mod Choices
+pub mod Links
+pub mod Slopes
+pub mod Levels
+pub mod Sections
+pub mod Authorities
+pub mod Differings
+pub mod Speeds
+pub mod Displays
+pub mod TextFrames

@@ -1,0 +1,143 @@
+//! A speed for some trains.
+
+ghost use Rattle.std.specs.Prelude.{◌≡◌, ◌++◌, None, Some, IfOk, IfErr, IfSome, IfNone};
+ghost use Rattle.etcs_parts.specs.Differings.{category_of};
+
+use crate::faults::check;
+use crate::numbers::Numbers;
+use crate::part::Part;
+use etcs_vars::{BuildFault, Var};
+use std::alloc::{AllocError, Global};
+use std::marker::Model;
+
+/// A speed that holds for the trains of a category in place of a static speed (packet 27; SUBSET-026, 7.4 and 7.5).
+#[derive(Clone, Copy, Debug, PartialEq, Eq)]
+pub struct Differing {
+    q_diff: u8,
+    category: u8,
+    v_diff: u8,
+}
+
+impl Model for Differing {
+    ghost use Rattle.etcs_parts.specs.Differings.{DifferingParts, differing_parts, IsDiffering};
+
+    ghost Value = { DifferingParts };
+
+    ghost view = { λ s. differing_parts s.q_diff s.category s.v_diff };
+
+    ghost invariant = { λ s. IsDiffering (differing_parts s.q_diff s.category s.v_diff) };
+
+    ghost inverse = { λ s. record { q_diff = s.q_diff; category = s.category; v_diff = s.v_diff } };
+}
+
+impl Differing {
+    ghost use Rattle.etcs_parts.specs.Differings.{differing_parts, differing_fault, IsDiffering, differing_fields, differing_from};
+
+    /// A speed for the trains of a category.
+    ///
+    /// - `q_diff`: which category it is: 0 of cant deficiency, 1 another one, in place of that of cant deficiency,
+    ///   2 another one, beside that of cant deficiency;
+    /// - `category`: the number of NC_CDDIFF where `q_diff` is 0, of NC_DIFF where it is 1 or 2;
+    /// - `v_diff`: the speed of these trains, in 5 km/h.
+    ///
+    /// # Errors
+    ///
+    /// [`BuildFault::NotAdmitted`] with the first of these: Q_DIFF, above 2; NC_CDDIFF or NC_DIFF by `q_diff`, above
+    /// 15; V_DIFF, above 127.
+    pub fn new(q_diff: u8, category: u8, v_diff: u8) -> Result<Differing, BuildFault>
+        ensures ok { IfOk result (λ d. d ≡ differing_parts q_diff category v_diff) }
+        ensures fault { IfErr result (λ e. differing_fault (differing_parts q_diff category v_diff) ≡ Some e) }
+    {
+        check(Var::Q_DIFF, u64::from(q_diff))?;
+        check(category_var(q_diff), u64::from(category))?;
+        check(Var::V_DIFF, u64::from(v_diff))?;
+        Ok(Differing {
+            q_diff,
+            category,
+            v_diff,
+        })
+    }
+
+    /// Q_DIFF: what kind of category it is.
+    pub fn q_diff(&self) -> u8
+        ensures { result ≡ self.now.q_diff }
+    {
+        self.q_diff
+    }
+
+    /// The number of NC_CDDIFF where Q_DIFF is 0, of NC_DIFF where it is 1 or 2.
+    pub fn category(&self) -> u8
+        ensures { result ≡ self.now.category }
+    {
+        self.category
+    }
+
+    /// V_DIFF: the speed of the category's trains, in 5 km/h.
+    pub fn v_diff(&self) -> u8
+        ensures { result ≡ self.now.v_diff }
+    {
+        self.v_diff
+    }
+
+    /// The entry that the numbers begin with.
+    #[tactic(auto, unfolding(crate::specs::Differings::differing_from))]
+    fn from_numbers(numbers: &mut Numbers) -> Option<Differing>
+        ensures some { IfSome result (λ d. numbers.old ≡ differing_fields d ++ numbers.new) }
+        ensures part { IfSome result (λ d. IsDiffering d) }
+        ensures from { IfSome result (λ d. differing_from numbers.old ≡ Some (d, numbers.new)) }
+        ensures none { IfNone result (differing_from numbers.old ≡ None) }
+    {
+        let q_diff = numbers.next(Var::Q_DIFF)? as u8;
+        let category = if q_diff == 0 {
+            numbers.next(Var::NC_CDDIFF)? as u8
+        } else {
+            numbers.next(Var::NC_DIFF)? as u8
+        };
+        let v_diff = numbers.next(Var::V_DIFF)? as u8;
+        Some(Differing {
+            q_diff,
+            category,
+            v_diff,
+        })
+    }
+}
+
+/// The variable of the category behind Q_DIFF.
+fn category_var(q_diff: u8) -> Var
+    ensures { result ≡ category_of q_diff }
+{
+    if q_diff == 0 {
+        Var::NC_CDDIFF
+    } else {
+        Var::NC_DIFF
+    }
+}
+
+impl Part for Differing {
+    ghost use Rattle.etcs_parts.specs.Differings.{IsDiffering, differing_fields, differing_from, differing_codes};
+
+    ghost fields_of = { λ d. differing_fields d };
+
+    ghost read_from = { differing_from };
+
+    ghost is_part = { λ d. IsDiffering d };
+
+    ghost complete = { λ p f h. differing_codes.complete p f h };
+
+    fn holds(&self) {
+        let _ = &self.q_diff;
+    }
+
+    fn append(&self, out: &mut Vec<u64>) -> Result<(), AllocError> {
+        out.extend_from_slice(&[
+            u64::from(self.q_diff),
+            u64::from(self.category),
+            u64::from(self.v_diff),
+        ])?;
+        Ok(())
+    }
+
+    fn take(_alloc: Global, numbers: &mut Numbers) -> Result<Option<Differing>, AllocError> {
+        Ok(Differing::from_numbers(numbers))
+    }
+}

@@ -1,0 +1,115 @@
+//! A level.
+
+ghost use Rattle.std.specs.Prelude.{◌≡◌, ◌++◌, None, Some, IfOk, IfErr, IfSome, IfNone};
+
+use crate::faults::check;
+use crate::guards::check_guard;
+use crate::numbers::Numbers;
+use crate::part::Part;
+use etcs_vars::{BuildFault, Var};
+use std::alloc::{AllocError, Global};
+use std::marker::Model;
+
+/// A level of a conditional level transition (packet 46; SUBSET-026, 7.4 and 7.5).
+#[derive(Clone, Copy, Debug, PartialEq, Eq)]
+pub struct Level {
+    m_leveltr: u8,
+    nid_ntc: Option<u8>,
+}
+
+impl Model for Level {
+    ghost use Rattle.etcs_parts.specs.Levels.{LevelParts, level_parts, IsLevel};
+
+    ghost Value = { LevelParts };
+
+    ghost view = { λ s. level_parts s.m_leveltr s.nid_ntc };
+
+    ghost invariant = { λ s. IsLevel (level_parts s.m_leveltr s.nid_ntc) };
+
+    ghost inverse = { λ s. record { m_leveltr = s.m_leveltr; nid_ntc = s.nid_ntc } };
+}
+
+impl Level {
+    ghost use Rattle.etcs_parts.specs.Levels.{level_parts, level_fault, IsLevel, level_fields, level_from};
+
+    /// A level.
+    ///
+    /// `m_leveltr` is 0 for level 0, 1 for level NTC, 2 for level 1, 3 for level 2, 4 for level 3.
+    /// `nid_ntc` is the national system, and is given just for level NTC.
+    ///
+    /// # Errors
+    ///
+    /// - `NotAdmitted(M_LEVELTR)` where the level is above 4.
+    /// - `Guard(M_LEVELTR)` where level NTC has no national system, or another level has one.
+    pub fn new(m_leveltr: u8, nid_ntc: Option<u8>) -> Result<Level, BuildFault>
+        ensures ok { IfOk result (λ l. l ≡ level_parts m_leveltr nid_ntc) }
+        ensures fault { IfErr result (λ e. level_fault (level_parts m_leveltr nid_ntc) ≡ Some e) }
+    {
+        check(Var::M_LEVELTR, u64::from(m_leveltr))?;
+        check_guard(Var::M_LEVELTR, m_leveltr == 1, nid_ntc.is_some())?;
+        if let Some(system) = nid_ntc {
+            check(Var::NID_NTC, u64::from(system))?;
+        }
+        Ok(Level { m_leveltr, nid_ntc })
+    }
+
+    /// The number of the level: 0 for level 0, 1 for level NTC, 2 for level 1, 3 for level 2, 4
+    /// for level 3.
+    pub fn m_leveltr(&self) -> u8
+        ensures { result ≡ self.now.m_leveltr }
+    {
+        self.m_leveltr
+    }
+
+    /// The national system of level NTC.
+    pub fn nid_ntc(&self) -> Option<u8>
+        ensures { result ≡ self.now.nid_ntc }
+    {
+        self.nid_ntc
+    }
+
+    /// The level that the numbers begin with.
+    #[tactic(auto, using(crate::specs::Guards::guard_ok), unfolding(crate::specs::Levels::level_from, crate::specs::Guards::guard_fault))]
+    pub(crate) fn from_numbers(numbers: &mut Numbers) -> Option<Level>
+        ensures some { IfSome result (λ l. numbers.old ≡ level_fields l ++ numbers.new) }
+        ensures part { IfSome result (λ l. IsLevel l) }
+        ensures from { IfSome result (λ l. level_from numbers.old ≡ Some (l, numbers.new)) }
+        ensures none { IfNone result (level_from numbers.old ≡ None) }
+    {
+        let m_leveltr = numbers.next(Var::M_LEVELTR)? as u8;
+        let nid_ntc = if m_leveltr == 1 {
+            Some(numbers.next(Var::NID_NTC)? as u8)
+        } else {
+            None
+        };
+        Some(Level { m_leveltr, nid_ntc })
+    }
+}
+
+impl Part for Level {
+    ghost use Rattle.etcs_parts.specs.Levels.{IsLevel, level_fields, level_from, level_codes};
+
+    ghost fields_of = { λ l. level_fields l };
+
+    ghost read_from = { level_from };
+
+    ghost is_part = { λ l. IsLevel l };
+
+    ghost complete = { λ p f h. level_codes.complete p f h };
+
+    fn holds(&self) {
+        let _ = &self.m_leveltr;
+    }
+
+    fn append(&self, out: &mut Vec<u64>) -> Result<(), AllocError> {
+        match self.nid_ntc {
+            None => out.push(u64::from(self.m_leveltr))?,
+            Some(system) => out.extend_from_slice(&[u64::from(self.m_leveltr), u64::from(system)])?,
+        }
+        Ok(())
+    }
+
+    fn take(_alloc: Global, numbers: &mut Numbers) -> Result<Option<Level>, AllocError> {
+        Ok(Level::from_numbers(numbers))
+    }
+}

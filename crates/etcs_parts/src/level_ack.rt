@@ -1,0 +1,134 @@
+//! A level with its length of acknowledgement.
+
+ghost use Rattle.std.specs.Prelude.{◌≡◌, ◌++◌, None, Some, IfOk, IfErr, IfSome, IfNone};
+
+use crate::faults::check;
+use crate::level::Level;
+use crate::numbers::Numbers;
+use crate::part::Part;
+use etcs_vars::{BuildFault, Var};
+use std::alloc::{AllocError, Global};
+use std::marker::Model;
+
+/// A level of a level transition order (packet 41; SUBSET-026, 7.4 and 7.5).
+///
+/// Its length is in steps of Q_SCALE: 0 is 10 cm, 1 is 1 m, 2 is 10 m.
+#[derive(Clone, Copy, Debug, PartialEq, Eq)]
+pub struct LevelAck {
+    l_ackleveltr: u16,
+    level: Level,
+}
+
+impl Model for LevelAck {
+    ghost use Rattle.etcs_parts.specs.Levels.{LevelAckParts, level_ack_of, IsLevelAck};
+
+    ghost Value = { LevelAckParts };
+
+    ghost view = { λ s. level_ack_of (s.level, s.l_ackleveltr) };
+
+    ghost invariant = { λ s. IsLevelAck (level_ack_of (s.level, s.l_ackleveltr)) };
+
+    ghost inverse = { λ s. record { l_ackleveltr = s.l_ackleveltr; level = s.level } };
+}
+
+impl LevelAck {
+    ghost use Rattle.etcs_parts.specs.Levels.{level_ack_parts, level_ack_fault, IsLevelAck, level_ack_fields, level_ack_from};
+
+    /// A level and its length of acknowledgement.
+    ///
+    /// `m_leveltr` is 0 for level 0, 1 for level NTC, 2 for level 1, 3 for level 2, 4 for level 3.
+    /// `nid_ntc` is the national system, and is given just for level NTC. `l_ackleveltr` is the
+    /// length in front of the transition in which the driver has to acknowledge it, in steps of
+    /// Q_SCALE.
+    ///
+    /// # Errors
+    ///
+    /// The first that holds:
+    ///
+    /// - `NotAdmitted(M_LEVELTR)` where the level is above 4.
+    /// - `Guard(M_LEVELTR)` where level NTC has no national system, or another level has one.
+    /// - `NotAdmitted(L_ACKLEVELTR)` where the length is above 32,767.
+    pub fn new(
+        m_leveltr: u8,
+        nid_ntc: Option<u8>,
+        l_ackleveltr: u16,
+    ) -> Result<LevelAck, BuildFault>
+        ensures ok { IfOk result (λ l. l ≡ level_ack_parts m_leveltr nid_ntc l_ackleveltr) }
+        ensures fault { IfErr result (λ e. level_ack_fault (level_ack_parts m_leveltr nid_ntc l_ackleveltr) ≡ Some e) }
+    {
+        let level = Level::new(m_leveltr, nid_ntc)?;
+        check(Var::L_ACKLEVELTR, u64::from(l_ackleveltr))?;
+        Ok(LevelAck {
+            l_ackleveltr,
+            level,
+        })
+    }
+
+    /// The number of the level: 0 for level 0, 1 for level NTC, 2 for level 1, 3 for level 2, 4
+    /// for level 3.
+    pub fn m_leveltr(&self) -> u8
+        ensures { result ≡ self.now.level.m_leveltr }
+    {
+        self.level.m_leveltr()
+    }
+
+    /// The national system of level NTC.
+    pub fn nid_ntc(&self) -> Option<u8>
+        ensures { result ≡ self.now.level.nid_ntc }
+    {
+        self.level.nid_ntc()
+    }
+
+    /// The length of acknowledgement, in steps of Q_SCALE.
+    pub fn l_ackleveltr(&self) -> u16
+        ensures { result ≡ self.now.l_ackleveltr }
+    {
+        self.l_ackleveltr
+    }
+
+    /// The level that the numbers begin with.
+    #[tactic(auto, unfolding(crate::specs::Levels::level_ack_from))]
+    fn from_numbers(numbers: &mut Numbers) -> Option<LevelAck>
+        ensures some { IfSome result (λ l. numbers.old ≡ level_ack_fields l ++ numbers.new) }
+        ensures part { IfSome result (λ l. IsLevelAck l) }
+        ensures from { IfSome result (λ l. level_ack_from numbers.old ≡ Some (l, numbers.new)) }
+        ensures none { IfNone result (level_ack_from numbers.old ≡ None) }
+    {
+        let level = Level::from_numbers(numbers)?;
+        let l_ackleveltr = numbers.next(Var::L_ACKLEVELTR)? as u16;
+        Some(LevelAck {
+            l_ackleveltr,
+            level,
+        })
+    }
+}
+
+impl Part for LevelAck {
+    ghost use Rattle.etcs_parts.specs.Levels.{IsLevelAck, level_ack_fields, level_ack_from, level_ack_codes};
+
+    ghost fields_of = { λ l. level_ack_fields l };
+
+    ghost read_from = { level_ack_from };
+
+    ghost is_part = { λ l. IsLevelAck l };
+
+    ghost complete = { λ p f h. level_ack_codes.complete p f h };
+
+    fn holds(&self) {
+        let _ = &self.l_ackleveltr;
+    }
+
+    fn append(&self, out: &mut Vec<u64>) -> Result<(), AllocError> {
+        let before = out.len();
+        self.level.append(out)?;
+        if out.push(u64::from(self.l_ackleveltr)).is_err() {
+            out.truncate(before);
+            return Err(AllocError);
+        }
+        Ok(())
+    }
+
+    fn take(_alloc: Global, numbers: &mut Numbers) -> Result<Option<LevelAck>, AllocError> {
+        Ok(LevelAck::from_numbers(numbers))
+    }
+}

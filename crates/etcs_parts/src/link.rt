@@ -1,0 +1,185 @@
+//! A linked balise group.
+
+ghost use Rattle.std.specs.Prelude.{◌≡◌, ◌++◌, None, Some, IfOk, IfErr, IfSome, IfNone};
+
+use crate::faults::check;
+use crate::numbers::Numbers;
+use crate::part::Part;
+use etcs_vars::{BuildFault, Var};
+use std::alloc::{AllocError, Global};
+use std::marker::Model;
+
+/// A linked balise group (packet 5; SUBSET-026, 7.4 and 7.5).
+#[derive(Clone, Copy, Debug, PartialEq, Eq)]
+pub struct Link {
+    d_link: u16,
+    nid_c: Option<u16>,
+    nid_bg: u16,
+    q_linkorientation: bool,
+    q_linkreaction: u8,
+    q_locacc: u8,
+}
+
+impl Model for Link {
+    ghost use Rattle.etcs_parts.specs.Links.{LinkParts, link_parts, IsLink};
+
+    ghost Value = { LinkParts };
+
+    ghost view = { λ s. link_parts s.d_link s.nid_c s.nid_bg s.q_linkorientation s.q_linkreaction s.q_locacc };
+
+    ghost invariant = { λ s. IsLink (link_parts s.d_link s.nid_c s.nid_bg s.q_linkorientation s.q_linkreaction s.q_locacc) };
+
+    ghost inverse = { λ s. record { d_link = s.d_link; nid_c = s.nid_c; nid_bg = s.nid_bg; q_linkorientation = s.q_linkorientation; q_linkreaction = s.q_linkreaction; q_locacc = s.q_locacc } };
+}
+
+impl Link {
+    ghost use Rattle.etcs_parts.specs.Links.{link_parts, link_fault, IsLink, link_fields, link_from};
+
+    /// The group `d_link` behind the one before, in steps of Q_SCALE; `nid_c` is given where its country or
+    /// region is another.
+    ///
+    /// # Errors
+    ///
+    /// `NotAdmitted` with the first of D_LINK (15 bits), NID_C (10), NID_BG (14), Q_LINKREACTION (0 to 2) and
+    /// Q_LOCACC (6) that doesn't admit its number.
+    pub fn new(
+        d_link: u16,
+        nid_c: Option<u16>,
+        nid_bg: u16,
+        q_linkorientation: bool,
+        q_linkreaction: u8,
+        q_locacc: u8,
+    ) -> Result<Link, BuildFault>
+        ensures ok { IfOk result (λ l. l ≡ link_parts d_link nid_c nid_bg q_linkorientation q_linkreaction q_locacc) }
+        ensures fault { IfErr result (λ e. link_fault (link_parts d_link nid_c nid_bg q_linkorientation q_linkreaction q_locacc) ≡ Some e) }
+    {
+        check(Var::D_LINK, u64::from(d_link))?;
+        if let Some(country) = nid_c {
+            check(Var::NID_C, u64::from(country))?;
+        }
+        check(Var::NID_BG, u64::from(nid_bg))?;
+        check(Var::Q_LINKREACTION, u64::from(q_linkreaction))?;
+        check(Var::Q_LOCACC, u64::from(q_locacc))?;
+        Ok(Link {
+            d_link,
+            nid_c,
+            nid_bg,
+            q_linkorientation,
+            q_linkreaction,
+            q_locacc,
+        })
+    }
+
+    /// The distance to the group, in steps of Q_SCALE from the one before.
+    pub fn d_link(&self) -> u16
+        ensures { result ≡ self.now.d_link }
+    {
+        self.d_link
+    }
+
+    /// The group's country or region, where it is another than that of the group before.
+    pub fn nid_c(&self) -> Option<u16>
+        ensures { result ≡ self.now.nid_c }
+    {
+        self.nid_c
+    }
+
+    /// The group within its country or region.
+    pub fn nid_bg(&self) -> u16
+        ensures { result ≡ self.now.nid_bg }
+    {
+        self.nid_bg
+    }
+
+    /// Whether the train passes the group in its nominal direction.
+    pub fn q_linkorientation(&self) -> bool
+        ensures { result ≡ self.now.q_linkorientation }
+    {
+        self.q_linkorientation
+    }
+
+    /// What the train does where the group isn't found: 0 train trip, 1 service brake, 2 nothing.
+    pub fn q_linkreaction(&self) -> u8
+        ensures { result ≡ self.now.q_linkreaction }
+    {
+        self.q_linkreaction
+    }
+
+    /// How exactly the group is placed, in metres.
+    pub fn q_locacc(&self) -> u8
+        ensures { result ≡ self.now.q_locacc }
+    {
+        self.q_locacc
+    }
+
+    /// The link that the numbers begin with.
+    #[tactic(auto, unfolding(crate::specs::Links::link_from))]
+    fn from_numbers(numbers: &mut Numbers) -> Option<Link>
+        ensures some { IfSome result (λ l. numbers.old ≡ link_fields l ++ numbers.new) }
+        ensures part { IfSome result (λ l. IsLink l) }
+        ensures from { IfSome result (λ l. link_from numbers.old ≡ Some (l, numbers.new)) }
+        ensures none { IfNone result (link_from numbers.old ≡ None) }
+    {
+        let d_link = numbers.next(Var::D_LINK)? as u16;
+        let nid_c = if numbers.flag()? {
+            Some(numbers.next(Var::NID_C)? as u16)
+        } else {
+            None
+        };
+        let nid_bg = numbers.next(Var::NID_BG)? as u16;
+        let q_linkorientation = numbers.flag()?;
+        let q_linkreaction = numbers.next(Var::Q_LINKREACTION)? as u8;
+        let q_locacc = numbers.next(Var::Q_LOCACC)? as u8;
+        Some(Link {
+            d_link,
+            nid_c,
+            nid_bg,
+            q_linkorientation,
+            q_linkreaction,
+            q_locacc,
+        })
+    }
+}
+
+impl Part for Link {
+    ghost use Rattle.etcs_parts.specs.Links.{IsLink, link_fields, link_from, link_codes};
+
+    ghost fields_of = { λ l. link_fields l };
+
+    ghost read_from = { link_from };
+
+    ghost is_part = { λ l. IsLink l };
+
+    ghost complete = { λ p f h. link_codes.complete p f h };
+
+    fn holds(&self) {
+        let _ = &self.d_link;
+    }
+
+    fn append(&self, out: &mut Vec<u64>) -> Result<(), AllocError> {
+        match self.nid_c {
+            None => out.extend_from_slice(&[
+                u64::from(self.d_link),
+                0,
+                u64::from(self.nid_bg),
+                u64::from(self.q_linkorientation),
+                u64::from(self.q_linkreaction),
+                u64::from(self.q_locacc),
+            ])?,
+            Some(country) => out.extend_from_slice(&[
+                u64::from(self.d_link),
+                1,
+                u64::from(country),
+                u64::from(self.nid_bg),
+                u64::from(self.q_linkorientation),
+                u64::from(self.q_linkreaction),
+                u64::from(self.q_locacc),
+            ])?,
+        }
+        Ok(())
+    }
+
+    fn take(_alloc: Global, numbers: &mut Numbers) -> Result<Option<Link>, AllocError> {
+        Ok(Link::from_numbers(numbers))
+    }
+}

@@ -1,0 +1,145 @@
+//! Where a text is shown.
+
+ghost use Rattle.std.specs.Prelude.{◌≡◌, ◌++◌, None, Some, IfOk, IfErr, IfSome, IfNone};
+
+use crate::faults::check;
+use crate::guards::check_guard;
+use crate::numbers::Numbers;
+use crate::part::Part;
+use etcs_vars::{BuildFault, Var};
+use std::alloc::{AllocError, Global};
+use std::marker::Model;
+
+/// In which mode and level the display of a text begins or ends (packets 72 and 76; SUBSET-026, 7.4.2).
+#[derive(Clone, Copy, Debug, PartialEq, Eq)]
+pub struct Shown {
+    m_modetextdisplay: u8,
+    m_leveltextdisplay: u8,
+    nid_ntc: Option<u8>,
+}
+
+impl Model for Shown {
+    ghost use Rattle.etcs_parts.specs.Displays.{ShownParts, shown_parts, IsShown};
+
+    ghost Value = { ShownParts };
+
+    ghost view = { λ s. shown_parts s.m_modetextdisplay s.m_leveltextdisplay s.nid_ntc };
+
+    ghost invariant = { λ s. IsShown (shown_parts s.m_modetextdisplay s.m_leveltextdisplay s.nid_ntc) };
+
+    ghost inverse = { λ s. record { m_modetextdisplay = s.m_modetextdisplay; m_leveltextdisplay = s.m_leveltextdisplay; nid_ntc = s.nid_ntc } };
+}
+
+impl Shown {
+    ghost use Rattle.etcs_parts.specs.Displays.{shown_parts, shown_fault, IsShown, shown_fields, shown_from};
+
+    /// The mode (M_MODETEXTDISPLAY, SUBSET-026, 7.5: 0 to 15), the level (M_LEVELTEXTDISPLAY: 0 to 5), and for
+    /// level NTC, which is 1, the national system (NID_NTC).
+    ///
+    /// # Errors
+    ///
+    /// In this order: `NotAdmitted` with M_MODETEXTDISPLAY or M_LEVELTEXTDISPLAY; `Guard` with M_LEVELTEXTDISPLAY
+    /// where the level is 1 and `nid_ntc` is missing, or the level isn't 1 and it is there.
+    pub fn new(
+        m_modetextdisplay: u8,
+        m_leveltextdisplay: u8,
+        nid_ntc: Option<u8>,
+    ) -> Result<Shown, BuildFault>
+        ensures ok { IfOk result (λ s. s ≡ shown_parts m_modetextdisplay m_leveltextdisplay nid_ntc) }
+        ensures fault { IfErr result (λ e. shown_fault (shown_parts m_modetextdisplay m_leveltextdisplay nid_ntc) ≡ Some e) }
+    {
+        check(Var::M_MODETEXTDISPLAY, u64::from(m_modetextdisplay))?;
+        check(Var::M_LEVELTEXTDISPLAY, u64::from(m_leveltextdisplay))?;
+        check_guard(
+            Var::M_LEVELTEXTDISPLAY,
+            m_leveltextdisplay == 1,
+            nid_ntc.is_some(),
+        )?;
+        if let Some(system) = nid_ntc {
+            check(Var::NID_NTC, u64::from(system))?;
+        }
+        Ok(Shown {
+            m_modetextdisplay,
+            m_leveltextdisplay,
+            nid_ntc,
+        })
+    }
+
+    /// The mode: M_MODETEXTDISPLAY.
+    pub fn m_modetextdisplay(&self) -> u8
+        ensures { result ≡ self.now.m_modetextdisplay }
+    {
+        self.m_modetextdisplay
+    }
+
+    /// The level: M_LEVELTEXTDISPLAY.
+    pub fn m_leveltextdisplay(&self) -> u8
+        ensures { result ≡ self.now.m_leveltextdisplay }
+    {
+        self.m_leveltextdisplay
+    }
+
+    /// The national system: NID_NTC.
+    pub fn nid_ntc(&self) -> Option<u8>
+        ensures { result ≡ self.now.nid_ntc }
+    {
+        self.nid_ntc
+    }
+
+    /// The value that the numbers begin with.
+    #[tactic(auto, using(crate::specs::Guards::guard_ok), unfolding(crate::specs::Displays::shown_from, crate::specs::Guards::guard_fault))]
+    pub(crate) fn from_numbers(numbers: &mut Numbers) -> Option<Shown>
+        ensures some { IfSome result (λ s. numbers.old ≡ shown_fields s ++ numbers.new) }
+        ensures part { IfSome result (λ s. IsShown s) }
+        ensures from { IfSome result (λ s. shown_from numbers.old ≡ Some (s, numbers.new)) }
+        ensures none { IfNone result (shown_from numbers.old ≡ None) }
+    {
+        let m_modetextdisplay = numbers.next(Var::M_MODETEXTDISPLAY)? as u8;
+        let m_leveltextdisplay = numbers.next(Var::M_LEVELTEXTDISPLAY)? as u8;
+        let nid_ntc = if m_leveltextdisplay == 1 {
+            Some(numbers.next(Var::NID_NTC)? as u8)
+        } else {
+            None
+        };
+        Some(Shown {
+            m_modetextdisplay,
+            m_leveltextdisplay,
+            nid_ntc,
+        })
+    }
+}
+
+impl Part for Shown {
+    ghost use Rattle.etcs_parts.specs.Displays.{IsShown, shown_fields, shown_from, shown_codes};
+
+    ghost fields_of = { λ s. shown_fields s };
+
+    ghost read_from = { shown_from };
+
+    ghost is_part = { λ s. IsShown s };
+
+    ghost complete = { λ p f h. shown_codes.complete p f h };
+
+    fn holds(&self) {
+        let _ = &self.m_modetextdisplay;
+    }
+
+    fn append(&self, out: &mut Vec<u64>) -> Result<(), AllocError> {
+        match self.nid_ntc {
+            None => out.extend_from_slice(&[
+                u64::from(self.m_modetextdisplay),
+                u64::from(self.m_leveltextdisplay),
+            ])?,
+            Some(system) => out.extend_from_slice(&[
+                u64::from(self.m_modetextdisplay),
+                u64::from(self.m_leveltextdisplay),
+                u64::from(system),
+            ])?,
+        }
+        Ok(())
+    }
+
+    fn take(_alloc: Global, numbers: &mut Numbers) -> Result<Option<Shown>, AllocError> {
+        Ok(Shown::from_numbers(numbers))
+    }
+}

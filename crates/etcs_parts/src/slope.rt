@@ -1,0 +1,124 @@
+//! A change of gradient.
+
+ghost use Rattle.std.specs.Prelude.{◌≡◌, ◌++◌, None, Some, IfOk, IfErr, IfSome, IfNone};
+
+use crate::faults::check;
+use crate::numbers::Numbers;
+use crate::part::Part;
+use etcs_vars::{BuildFault, Var};
+use std::alloc::{AllocError, Global};
+use std::marker::Model;
+
+/// A change of gradient (packet 21; SUBSET-026, 7.4 and 7.5).
+///
+/// Distances are in steps of Q_SCALE: 0 is 10 cm, 1 is 1 m, 2 is 10 m.
+#[derive(Clone, Copy, Debug, PartialEq, Eq)]
+pub struct Slope {
+    d_gradient: u16,
+    q_gdir: bool,
+    g_a: u8,
+}
+
+impl Model for Slope {
+    ghost use Rattle.etcs_parts.specs.Slopes.{SlopeParts, slope_parts, IsSlope};
+
+    ghost Value = { SlopeParts };
+
+    ghost view = { λ s. slope_parts s.d_gradient s.q_gdir s.g_a };
+
+    ghost invariant = { λ s. IsSlope (slope_parts s.d_gradient s.q_gdir s.g_a) };
+
+    ghost inverse = { λ s. record { d_gradient = s.d_gradient; q_gdir = s.q_gdir; g_a = s.g_a } };
+}
+
+impl Slope {
+    ghost use Rattle.etcs_parts.specs.Slopes.{slope_parts, slope_fault, IsSlope, slope_fields, slope_from};
+
+    /// A gradient `g_a` from `d_gradient` on.
+    ///
+    /// `d_gradient` is the distance to it, in steps of Q_SCALE. `q_gdir` tells whether it is uphill.
+    /// `g_a` is in promille; 255 is the end of the profile.
+    ///
+    /// # Errors
+    ///
+    /// `NotAdmitted(D_GRADIENT)` where the distance is above 32,767.
+    pub fn new(d_gradient: u16, q_gdir: bool, g_a: u8) -> Result<Slope, BuildFault>
+        ensures ok { IfOk result (λ s. s ≡ slope_parts d_gradient q_gdir g_a) }
+        ensures fault { IfErr result (λ e. slope_fault (slope_parts d_gradient q_gdir g_a) ≡ Some e) }
+    {
+        check(Var::D_GRADIENT, u64::from(d_gradient))?;
+        check(Var::G_A, u64::from(g_a))?;
+        Ok(Slope {
+            d_gradient,
+            q_gdir,
+            g_a,
+        })
+    }
+
+    /// The distance to the change, in steps of Q_SCALE.
+    pub fn d_gradient(&self) -> u16
+        ensures { result ≡ self.now.d_gradient }
+    {
+        self.d_gradient
+    }
+
+    /// Whether it goes uphill.
+    pub fn q_gdir(&self) -> bool
+        ensures { result ≡ self.now.q_gdir }
+    {
+        self.q_gdir
+    }
+
+    /// The gradient in promille; 255 is the end of the profile.
+    pub fn g_a(&self) -> u8
+        ensures { result ≡ self.now.g_a }
+    {
+        self.g_a
+    }
+
+    /// The slope that the numbers begin with.
+    #[tactic(auto, unfolding(crate::specs::Slopes::slope_from))]
+    fn from_numbers(numbers: &mut Numbers) -> Option<Slope>
+        ensures some { IfSome result (λ s. numbers.old ≡ slope_fields s ++ numbers.new) }
+        ensures part { IfSome result (λ s. IsSlope s) }
+        ensures from { IfSome result (λ s. slope_from numbers.old ≡ Some (s, numbers.new)) }
+        ensures none { IfNone result (slope_from numbers.old ≡ None) }
+    {
+        let d_gradient = numbers.next(Var::D_GRADIENT)? as u16;
+        let q_gdir = numbers.flag()?;
+        let g_a = numbers.next(Var::G_A)? as u8;
+        Some(Slope {
+            d_gradient,
+            q_gdir,
+            g_a,
+        })
+    }
+}
+
+impl Part for Slope {
+    ghost use Rattle.etcs_parts.specs.Slopes.{IsSlope, slope_fields, slope_from, slope_codes};
+
+    ghost fields_of = { λ s. slope_fields s };
+
+    ghost read_from = { slope_from };
+
+    ghost is_part = { λ s. IsSlope s };
+
+    ghost complete = { λ p f h. slope_codes.complete p f h };
+
+    fn holds(&self) {
+        let _ = &self.d_gradient;
+    }
+
+    fn append(&self, out: &mut Vec<u64>) -> Result<(), AllocError> {
+        out.extend_from_slice(&[
+            u64::from(self.d_gradient),
+            u64::from(self.q_gdir),
+            u64::from(self.g_a),
+        ])
+    }
+
+    fn take(_alloc: Global, numbers: &mut Numbers) -> Result<Option<Slope>, AllocError> {
+        Ok(Slope::from_numbers(numbers))
+    }
+}

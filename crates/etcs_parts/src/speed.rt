@@ -1,0 +1,195 @@
+//! A static speed and its differences.
+
+ghost use Rattle.std.specs.Prelude.{◌≡◌, ◌++◌, ◌∷◌, None, Some, OnOk, OnErr, IfOk, IfErr, IfSome, IfNone, length, flat_map};
+ghost use Rattle.etcs_bits.specs.Bits.{bit};
+ghost use Rattle.etcs_parts.specs.Differings.{differing_fields};
+
+use crate::differing::Differing;
+use crate::faults::{check, check_count};
+use crate::items::Items;
+use crate::numbers::Numbers;
+use crate::part::{Part, append_all, hold_all, take_all};
+use etcs_vars::{BuildFault, Var};
+use std::alloc::{AllocError, Global};
+use std::marker::Model;
+
+/// A static speed and where it begins, with the speeds of the trains for which it differs (packet 27; SUBSET-026,
+/// 7.4 and 7.5).
+#[derive(Debug, Drop, PartialEq, Eq)]
+pub struct Speed {
+    d_static: u16,
+    v_static: u8,
+    q_front: bool,
+    differing: Items<Differing>,
+}
+
+impl Model for Speed {
+    ghost use Rattle.etcs_parts.specs.Speeds.{SpeedParts, speed_parts, IsSpeed};
+
+    ghost Value = { SpeedParts };
+
+    ghost view = { λ s. speed_parts s.d_static s.v_static s.q_front s.differing };
+
+    ghost invariant = { λ s. IsSpeed (speed_parts s.d_static s.v_static s.q_front s.differing) };
+
+    ghost inverse = { λ s. record { d_static = s.d_static; v_static = s.v_static; q_front = s.q_front; differing = s.differing } };
+}
+
+impl Speed {
+    ghost use Rattle.etcs_parts.specs.Speeds.{speed_parts, speed_fault, IsSpeed};
+
+    /// A speed from its place on.
+    ///
+    /// - `d_static`: how far it begins behind the place of the speed before it, in steps of Q_SCALE (0: 10 cm,
+    ///   1: 1 m, 2: 10 m);
+    /// - `v_static`: the speed in 5 km/h; 127 is the end of the profile;
+    /// - `q_front`: whether the speed before it holds no longer than till the front of the train is there, not till
+    ///   its rear end is;
+    /// - `differing`: the speeds of categories of trains for which it differs.
+    ///
+    /// # Errors
+    ///
+    /// The first of these, and the entries: [`BuildFault::NotAdmitted`] with D_STATIC or V_STATIC, where the number
+    /// is spare or too large; [`BuildFault::TooMany`] with N_ITER, where there are more than 31 entries.
+    pub fn new(
+        d_static: u16,
+        v_static: u8,
+        q_front: bool,
+        differing: Vec<Differing>,
+    ) -> Result<Speed, (BuildFault, Vec<Differing>)>
+        ensures ok { IfOk result (λ s. s ≡ speed_parts d_static v_static q_front differing.items) }
+        ensures fault { IfErr result (λ e. speed_fault (speed_parts d_static v_static q_front differing.items) ≡ Some e.0) }
+        ensures back { IfErr result (λ e. e.1.items ≡ differing.items) }
+    {
+        match Speed::faultless(d_static, v_static, q_front, differing.as_slice()) {
+            Ok(()) => Ok(Speed {
+                d_static,
+                v_static,
+                q_front,
+                differing: Items::from_vec(differing),
+            }),
+            Err(fault) => Err((fault, differing)),
+        }
+    }
+
+    /// D_STATIC: how far it begins behind the place of the speed before it, in steps of Q_SCALE.
+    pub fn d_static(&self) -> u16
+        ensures { result ≡ self.now.d_static }
+    {
+        self.d_static
+    }
+
+    /// V_STATIC: the speed in 5 km/h; 127 is the end of the profile.
+    pub fn v_static(&self) -> u8
+        ensures { result ≡ self.now.v_static }
+    {
+        self.v_static
+    }
+
+    /// Q_FRONT.
+    pub fn q_front(&self) -> bool
+        ensures { result ≡ self.now.q_front }
+    {
+        self.q_front
+    }
+
+    /// The speeds of categories of trains for which it differs.
+    pub fn differing(&self) -> &[Differing]
+        ensures { result.now ≡ self.now.differing }
+    {
+        self.differing.as_slice()
+    }
+
+    /// Refuses what is no speed.
+    fn faultless(
+        d_static: u16,
+        v_static: u8,
+        q_front: bool,
+        differing: &[Differing],
+    ) -> Result<(), BuildFault>
+        ensures ok { OnOk result (IsSpeed (speed_parts d_static v_static q_front differing.now)) }
+        ensures fault { IfErr result (λ e. speed_fault (speed_parts d_static v_static q_front differing.now) ≡ Some e) }
+    {
+        check(Var::D_STATIC, u64::from(d_static))?;
+        check(Var::V_STATIC, u64::from(v_static))?;
+        check_count(Var::N_ITER, differing.len())?;
+        hold_all(differing);
+        Ok(())
+    }
+}
+
+impl Part for Speed {
+    ghost use Rattle.etcs_parts.specs.Speeds.{IsSpeed, speed_fields, speed_from, speed_codes};
+
+    ghost fields_of = { λ s. speed_fields s };
+
+    ghost read_from = { speed_from };
+
+    ghost is_part = { λ s. IsSpeed s };
+
+    ghost complete = { λ p f h. speed_codes.complete p f h };
+
+    fn holds(&self) {
+        let _ = &self.d_static;
+    }
+
+    fn append(&self, out: &mut Vec<u64>) -> Result<(), AllocError> {
+        append_speed(
+            self.d_static,
+            self.v_static,
+            self.q_front,
+            self.differing.as_slice(),
+            out,
+        )
+    }
+
+    #[tactic(auto, using(crate::specs::Speeds::speed_read, crate::specs::Repeats::numbers_flat), unfolding(crate::specs::Speeds::speed_from))]
+    fn take(alloc: Global, numbers: &mut Numbers) -> Result<Option<Speed>, AllocError> {
+        let Some(d_static) = numbers.next(Var::D_STATIC) else {
+            return Ok(None);
+        };
+        let Some(v_static) = numbers.next(Var::V_STATIC) else {
+            return Ok(None);
+        };
+        let Some(q_front) = numbers.flag() else {
+            return Ok(None);
+        };
+        let Some(count) = numbers.next(Var::N_ITER) else {
+            return Ok(None);
+        };
+        let Some(differing) = take_all(alloc, numbers, count as usize)? else {
+            return Ok(None);
+        };
+        Ok(Some(Speed {
+            d_static: d_static as u16,
+            v_static: v_static as u8,
+            q_front,
+            differing: Items::from_vec(differing),
+        }))
+    }
+}
+
+/// Appends the numbers of a speed of these parts.
+fn append_speed(
+    d_static: u16,
+    v_static: u8,
+    q_front: bool,
+    differing: &[Differing],
+    out: &mut Vec<u64>,
+) -> Result<(), AllocError>
+    ensures ok { OnOk result (out.new.items ≡ out.old.items ++ (d_static ∷ v_static ∷ bit q_front ∷ length differing.now ∷ flat_map differing_fields differing.now)) }
+    ensures err { OnErr result (out.new.items ≡ out.old.items) }
+{
+    let before = out.len();
+    out.extend_from_slice(&[
+        u64::from(d_static),
+        u64::from(v_static),
+        u64::from(q_front),
+        differing.len() as u64,
+    ])?;
+    if append_all(differing, out).is_err() {
+        out.truncate(before);
+        return Err(AllocError);
+    }
+    Ok(())
+}

@@ -1,8 +1,10 @@
--- A choice between two groups by the number before them, and rows with nothing behind a part.
-use Rattle.std.proofs.Common.{◌≡◌, ℕ, Bool, true, false, List, [], ◌∷◌, ◌++◌, Option, Some, None, refl, sym, ap, ◌∙◌, subst}
-use Rattle.std.specs.Prelude.{MatchBool, not}
-use Rattle.std.proofs.lemmas.List.{append-nil}
+-- A choice between two groups by the number before them, rows with nothing behind a part, counts and bits of lists.
+use Rattle.std.proofs.Common.{◌≡◌, ℕ, ◌+◌, ◌*◌, ◌<◌, ◌≤◌, Bool, true, false, List, [], ◌∷◌, ◌++◌, length, Option, Some, None, refl, sym, ap, ◌∙◌, subst, arith}
+use Rattle.std.specs.Prelude.{MatchBool, not, flat_map, take, get_or}
+use Rattle.std.proofs.lemmas.List.{append-nil, take_more}
+use Rattle.std.proofs.lemmas.Grind.{flat_map-append}
 use Rattle.etcs_vars.specs.declared.var.Var.{Var}
+use Rattle.etcs_vars.specs.declared.var.Var.TheVariants.{N_ITER}
 use Rattle.etcs_vars.specs.Vars.{admits}
 use Rattle.etcs_vars.specs.Reading.{Reading, Then, numbers}
 use Rattle.etcs_rows.specs.declared.item.Guard.{Guard}
@@ -10,7 +12,8 @@ use Rattle.etcs_rows.specs.declared.item.Test.{Test}
 use Rattle.etcs_rows.specs.Layouts.{Layout, whole, one, guarded, Scope, Reads, holds, passes}
 use Rattle.etcs_parts.specs.Faults.{number_fault, count_fault}
 use Rattle.etcs_parts.specs.Taking.{◌and_then◌, next_number}
-use Rattle.etcs_parts.specs.Takes.{admitted, number_ok, next_is, count_ok}
+use Rattle.etcs_parts.specs.Takes.{admitted, number_ok, next_is, count_ok, counted_admitted, in_width}
+use Rattle.etcs_parts.specs.Repeats.{bit_count, bit_count-append}
 use Rattle.etcs_parts.specs.Codecs.{Codes, Found, holds_here}
 
 -- ---- A list behind its count.
@@ -18,6 +21,10 @@ use Rattle.etcs_parts.specs.Codecs.{Codes, Found, holds_here}
 -- a count that was read, where so many entries were read behind it
 pub counted_is : (v : Var) (n many : ℕ) → number_fault v n ≡ None → many ≡ n → count_fault v many ≡ None
 counted_is v n many h e = rw e (count_ok v n (admitted v n h))
+
+-- entries that N_ITER counts
+pub few_counted : (many : ℕ) → count_fault N_ITER many ≡ None → many ≤ 31
+few_counted many h = let few = in_width N_ITER many (counted_admitted N_ITER many h) in omega arith
 
 -- ---- Nothing behind a part.
 
@@ -118,3 +125,21 @@ module _ {W : Type 0} (v : Var) (test other : Test) (apart : (n : ℕ) → admit
         let k2 : Both (passes test n) (passes other n) = subst (Both (passes test n)) (holds_here v other n s) k1 in
         out_by (passes test n) (passes other n) n rest s r x refl (apart n h) (number_ok v n h) e k2;
   }
+
+-- ---- Bits of a list.
+
+pub bit_count-same : {V : Type 0} (reading : V → Reading) (each : ℕ) → ((v : V) → bit_count (reading v) ≡ each) → (vs : List V) → bit_count (flat_map reading vs) ≡ length vs * each
+bit_count-same reading each h [] = omega arith
+bit_count-same reading each h (v ∷ vs) =
+    let both = bit_count-append (reading v) (flat_map reading vs) in
+    let one = h v in
+    let more = bit_count-same reading each h vs in
+    omega arith
+
+-- a loop that adds the bits of one more
+pub bit_count-more : {V : Type 0} (reading : V → Reading) (vs : List V) (i : ℕ) (v : V) → i < length vs → v ≡ get_or vs i v → bit_count (flat_map reading (take (i + 1) vs)) ≡ bit_count (flat_map reading (take i vs)) + bit_count (reading v)
+bit_count-more reading vs i v lt e =
+    let front : take (i + 1) vs ≡ take i vs ++ v ∷ [] = take_more vs i v lt ∙ ap (λ x. take i vs ++ x ∷ []) (sym e) in
+    let parts : flat_map reading (take (i + 1) vs) ≡ flat_map reading (take i vs) ++ reading v =
+    ap (flat_map reading) front ∙ flat_map-append reading (take i vs) (v ∷ []) ∙ ap (λ (t : Reading). flat_map reading (take i vs) ++ t) (append-nil (reading v)) in
+    rw parts (bit_count-append (flat_map reading (take i vs)) (reading v))

@@ -1,10 +1,10 @@
 -- A speed for some trains, an entry of packet 27.
-use Rattle.std.proofs.Common.{◌≡◌, ℕ, zero, suc, ◌<◌, Bool, true, List, [], ◌∷◌, Option, None, refl, arith}
+use Rattle.std.proofs.Common.{◌≡◌, ℕ, zero, suc, ◌<◌, Bool, true, false, List, [], ◌∷◌, Option, None, refl, arith}
 use Rattle.std.specs.Prelude.{◌==◌, if◌then◌else◌, not}
 use Rattle.etcs_vars.specs.declared.var.Var.{Var}
 use Rattle.etcs_vars.specs.declared.var.Var.TheVariants.{Q_DIFF, NC_CDDIFF, NC_DIFF, V_DIFF}
 use Rattle.etcs_vars.specs.declared.fault.BuildFault.{BuildFault}
-use Rattle.etcs_vars.specs.Vars.{admits}
+use Rattle.etcs_vars.specs.Vars.{width, admits}
 use Rattle.etcs_vars.specs.Reading.{Reading, numbers}
 use Rattle.etcs_rows.specs.declared.item.Test.TheVariants.{IsZero, IsOneOrTwo}
 use Rattle.etcs_rows.specs.Layouts.{Layout, whole, guarded, passes}
@@ -12,6 +12,7 @@ use Rattle.etcs_rows.specs.Rows.{◌▸◌, is_zero, is_one_or_two}
 use Rattle.etcs_parts.specs.Faults.{◌or_else◌, number_fault}
 use Rattle.etcs_parts.specs.Taking.{next_number}
 use Rattle.etcs_parts.specs.Takes.{none_of, in_width}
+use Rattle.etcs_parts.specs.Repeats.{bit_count}
 use Rattle.etcs_parts.specs.Codecs.{Codes, number, both, both_from, form, form_from}
 use Rattle.etcs_parts.specs.Choices.{choice, choice_from}
 
@@ -92,3 +93,12 @@ differing_codes =
       so = λ v h. rw (h.0.0, h.0.1, h.1) refl;
       same = λ d. refl;
     })
+
+-- ---- Its bits.
+
+category_bits : (b : Bool) → width (category_var b) ≡ 4
+category_bits true = refl
+category_bits false = refl
+
+pub differing_bits : (d : DifferingParts) → bit_count (differing_reading d) ≡ 13
+differing_bits d = rw (category_bits (d.q_diff == 0)) refl

@@ -1,5 +1,5 @@
 -- A speed of packet 27, with the speeds for some trains that differ from it.
-use Rattle.std.proofs.Common.{◌≡◌, ℕ, Bool, List, ◌∷◌, length, Option, None, refl, ap}
+use Rattle.std.proofs.Common.{◌≡◌, ℕ, ◌+◌, ◌*◌, ◌≤◌, Bool, List, ◌∷◌, length, Option, None, refl, ap, arith}
 use Rattle.std.specs.Prelude.{All, flat_map}
 use Rattle.etcs_bits.specs.Bits.{bit}
 use Rattle.etcs_vars.specs.declared.var.Var.TheVariants.{D_STATIC, V_STATIC, Q_FRONT, N_ITER}
@@ -10,9 +10,9 @@ use Rattle.etcs_parts.specs.Faults.{◌or_else◌, number_fault, count_fault}
 use Rattle.etcs_parts.specs.Taking.{next_number, next_flag}
 use Rattle.etcs_parts.specs.Takes.{none_of}
 use Rattle.etcs_parts.specs.Codecs.{Codes, number, flag, both, both_from, list, list_reading, list_from, form, form_from}
-use Rattle.etcs_parts.specs.Differings.{DifferingParts, IsDiffering, differing_reading, differing_fields, differing_from, differing_codes}
-use Rattle.etcs_parts.specs.Choices.{counted_is}
-use Rattle.etcs_parts.specs.Repeats.{numbers_flat}
+use Rattle.etcs_parts.specs.Differings.{DifferingParts, IsDiffering, differing_reading, differing_fields, differing_from, differing_codes, differing_bits}
+use Rattle.etcs_parts.specs.Choices.{counted_is, few_counted, bit_count-same}
+use Rattle.etcs_parts.specs.Repeats.{numbers_flat, bit_count}
 
 pub record SpeedParts : Type 0 where
   pub d_static : ℕ
@@ -52,9 +52,9 @@ speed_from = form_from speed_of (
 
 -- ---- A speed is what its row spells.
 
-facts : (s : SpeedParts) → IsSpeed s → (number_fault D_STATIC s.d_static ≡ None) × (number_fault V_STATIC s.v_static ≡ None) × (count_fault N_ITER (length s.differing) ≡ None)
+facts : (s : SpeedParts) → speed_fault s ≡ None → (number_fault D_STATIC s.d_static ≡ None) × (number_fault V_STATIC s.v_static ≡ None) × (count_fault N_ITER (length s.differing) ≡ None)
 facts s h =
-    let h1 = none_of (number_fault D_STATIC s.d_static) (number_fault V_STATIC s.v_static or_else count_fault N_ITER (length s.differing)) h.faultless in
+    let h1 = none_of (number_fault D_STATIC s.d_static) (number_fault V_STATIC s.v_static or_else count_fault N_ITER (length s.differing)) h in
     let h2 = none_of (number_fault V_STATIC s.v_static) (count_fault N_ITER (length s.differing)) h1.1 in
     (h1.0, h2.0, h2.1)
 
@@ -70,7 +70,7 @@ speed_codes =
       back = λ s. (s.d_static, (s.v_static, (s.q_front, s.differing)));
       there = λ s. refl;
       again = λ v. refl;
-      is = λ s h. let k = facts s h in (k.0, (k.1, (tt, (k.2, h.differing))));
+      is = λ s h. let k = facts s h.faultless in (k.0, (k.1, (tt, (k.2, h.differing))));
       so = λ v h. record { faultless = rw (h.0, h.1.0, h.1.1.1.0) refl; differing = h.1.1.1.1 };
       same = λ s. refl;
     })
@@ -82,3 +82,11 @@ speed_read d v n q differing hd hv hn many all = record { faultless = rw (hd, hv
 
 pub speed_fields_are : (s : SpeedParts) → speed_fields s ≡ s.d_static ∷ s.v_static ∷ bit s.q_front ∷ length s.differing ∷ flat_map differing_fields s.differing
 speed_fields_are s = ap (λ (t : List ℕ). s.d_static ∷ s.v_static ∷ bit s.q_front ∷ length s.differing ∷ t) (numbers_flat differing_reading s.differing)
+
+-- ---- Its bits.
+
+pub speed_bits : (s : SpeedParts) → bit_count (speed_reading s) ≡ 28 + 13 * length s.differing
+speed_bits s = let entries = bit_count-same differing_reading 13 differing_bits s.differing in omega arith
+
+pub few_entries : (s : SpeedParts) → speed_fault s ≡ None → length s.differing ≤ 31
+few_entries s h = few_counted (length s.differing) (facts s h).2

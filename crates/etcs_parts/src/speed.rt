@@ -1,6 +1,6 @@
 //! A static speed and its differences.
 
-ghost use Rattle.std.specs.Prelude.{◌≡◌, ◌++◌, ◌∷◌, None, Some, OnOk, OnErr, IfOk, IfErr, IfSome, IfNone, length, flat_map};
+ghost use Rattle.std.specs.Prelude.{◌≡◌, ◌≤◌, ◌++◌, ◌∷◌, None, Some, OnOk, OnErr, IfOk, IfErr, IfSome, IfNone, length, flat_map};
 ghost use Rattle.etcs_bits.specs.Bits.{bit};
 ghost use Rattle.etcs_parts.specs.Differings.{differing_fields};
 
@@ -36,15 +36,16 @@ impl Model for Speed {
 }
 
 impl Speed {
-    ghost use Rattle.etcs_parts.specs.Speeds.{speed_parts, speed_fault, IsSpeed};
+    ghost use Rattle.etcs_parts.specs.Speeds.{speed_parts, speed_fault, speed_reading, IsSpeed};
+    ghost use Rattle.etcs_parts.specs.Repeats.{bit_count};
 
     /// A speed from its place on.
     ///
     /// - `d_static`: how far it begins behind the place of the speed before it, in steps of Q_SCALE (0: 10 cm,
     ///   1: 1 m, 2: 10 m);
     /// - `v_static`: the speed in 5 km/h; 127 is the end of the profile;
-    /// - `q_front`: whether the speed before it holds no longer than till the front of the train is there, not till
-    ///   its rear end is;
+    /// - `q_front`: whether the speed ends where the front of the train comes to the next one, with no delay by the
+    ///   length of the train;
     /// - `differing`: the speeds of categories of trains for which it differs.
     ///
     /// # Errors
@@ -86,7 +87,7 @@ impl Speed {
         self.v_static
     }
 
-    /// Q_FRONT.
+    /// Q_FRONT: whether it ends with no delay by the length of the train.
     pub fn q_front(&self) -> bool
         ensures { result ≡ self.now.q_front }
     {
@@ -98,6 +99,15 @@ impl Speed {
         ensures { result.now ≡ self.now.differing }
     {
         self.differing.as_slice()
+    }
+
+    /// How many bits its variables take: at most 431.
+    #[tactic(auto, using(crate::specs::Speeds::speed_bits))]
+    pub fn bit_len(&self) -> usize
+        ensures bits { result ≡ bit_count (speed_reading self.now) }
+        ensures small { result ≤ 431 }
+    {
+        28 + 13 * self.differing.len()
     }
 
     /// Refuses what is no speed.

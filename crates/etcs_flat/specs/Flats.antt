@@ -6,6 +6,7 @@ use Rattle.etcs_vars.specs.declared.var.Var.TheVariants.{NID_PACKET, Q_DIR}
 use Rattle.etcs_vars.specs.declared.fault.BuildFault.{BuildFault}
 use Rattle.etcs_vars.specs.declared.fault.BuildFault.TheVariants.{NotAdmitted, Count}
 use Rattle.etcs_vars.specs.Faults.{◌or_else◌, number_fault}
+use Rattle.etcs_vars.specs.Reading.{Reading}
 use Rattle.etcs_rows.specs.declared.item.RowItem.{RowItem}
 use Rattle.etcs_rows.specs.declared.item.RowItem.TheVariants.{One, When, Many}
 use Rattle.etcs_rows.specs.declared.row.Way.TheVariants.{ToTrain}
@@ -51,3 +52,18 @@ row_fault (Some vs) dir ns = (if length ns == length vs then None else Some Coun
 -- what is wrong with a packet without groups
 abbrev pub flat_fault : ℕ → ℕ → List ℕ → Option BuildFault
 flat_fault nid dir ns = row_fault (flat_row nid) dir ns
+
+-- variables with their numbers, as far as there are both
+abbrev pub pairs : List Var → List ℕ → Reading
+pairs [] ns = []
+pairs (v ∷ vs) [] = []
+pairs (v ∷ vs) (n ∷ ns) = (v, n) ∷ pairs vs ns
+
+-- these variables, where there are some, with their numbers
+abbrev pub row_reading : Option (List Var) → List ℕ → Reading
+row_reading None ns = []
+row_reading (Some vs) ns = pairs vs ns
+
+-- the variables of a packet without groups, with its numbers
+abbrev pub flat_reading : ℕ → List ℕ → Reading
+flat_reading nid ns = row_reading (flat_row nid) ns

@@ -4,12 +4,15 @@ ghost use Rattle.std.specs.Prelude.{◌≡◌, ◌≤◌, List, length, map, Som
 ghost use Rattle.std.specs.List.{list_all};
 ghost use Rattle.std.specs.Option.{option_map};
 ghost use Rattle.etcs_vars.specs.declared.var.Var.{Var};
+ghost use Rattle.etcs_vars.specs.Reading.{Reading, spelled};
 ghost use Rattle.etcs_rows.specs.declared.item.RowItem.TheVariants.{One};
 ghost use Rattle.etcs_rows.specs.declared.row.Way.TheVariants.{ToTrain};
-ghost use Rattle.etcs_rows.specs.Typed.{IsTyped};
-ghost use Rattle.etcs_flat.specs.Flats.{flat_parts, flat_row, flat_fault, numbers_fault, is_one};
+ghost use Rattle.etcs_rows.specs.Typed.{IsTyped, IsFramed};
+ghost use Rattle.etcs_flat.specs.Flats.{flat_parts, flat_row, flat_fault, flat_reading, numbers_fault, is_one};
 
+use crate::table::{numbers_in, table_of};
 use arrayvec::ArrayVec;
+use etcs_bits::BitSlice;
 use etcs_rows::{RowItem, Way, row_of};
 use etcs_vars::{BuildFault, Var, check};
 use std::marker::Model;
@@ -116,6 +119,46 @@ impl<const NID: u8> Flat<NID> {
         Flat::new(dir, fields).ok()
     }
 
+    /// The packet of a direction and of the bits of its row, where there is one. Takes no memory.
+    #[tactic(auto, using(crate::specs::TableLaws::table_read, crate::specs::TableLaws::table_unread, crate::specs::TableLaws::undirected))]
+    pub(crate) fn of_bits(dir: u8, bits: &BitSlice<'_>) -> Option<Self>
+        requires flat { IsSome (flat_row NID) }
+        ensures dir { IfSome result (λ p. p.dir ≡ dir) }
+        ensures value { IfSome result (λ p. flat_fault NID p.dir p.numbers ≡ None) }
+        ensures some { IfSome result (λ p. spelled (flat_reading NID p.numbers) ≡ bits.now) }
+        ensures none { IsNone result → (r : Reading) → IsFramed ToTrain NID dir r → spelled r ≡ bits.now → ⊥ }
+    {
+        if !Var::Q_DIR.admits(u64::from(dir)) {
+            return None;
+        }
+        let numbers = numbers_in(table_of(NID), bits)?;
+        Some(Flat { dir, numbers })
+    }
+
+    /// An equal packet.
+    pub(crate) fn copied(&self) -> Self
+        ensures { result ≡ self.now }
+    {
+        let Ok(numbers) = ArrayVec::try_from(self.numbers.as_slice()) else {
+            unreachable!()
+        };
+        Flat {
+            dir: self.dir,
+            numbers,
+        }
+    }
+
+    /// The table of its row.
+    #[tactic(auto, using(crate::specs::TableLaws::row_there))]
+    pub(crate) fn table(&self) -> &'static [RowItem]
+        ensures table { Some result.now ≡ option_map (λ vs. map One vs) (flat_row NID) }
+        ensures short { length result.now ≤ 6 }
+        ensures value { flat_fault NID self.now.dir self.now.numbers ≡ None }
+    {
+        let _ = &self.numbers;
+        table_of(NID)
+    }
+
     /// Its Q_DIR.
     pub(crate) fn direction(&self) -> u8
         ensures dir { result ≡ self.now.dir }
@@ -142,7 +185,7 @@ fn check_flat(nid: u8, dir: u8, numbers: &[u64]) -> Result<(), BuildFault>
 }
 
 /// The table of the packet's row, where it has no groups.
-fn flat_row(nid: u8) -> Option<&'static [RowItem]>
+pub(crate) fn flat_row(nid: u8) -> Option<&'static [RowItem]>
     ensures { option_map (λ table. table.now) result ≡ option_map (λ vs. map One vs) (flat_row nid) }
 {
     let row = row_of(Way::ToTrain, nid)?;

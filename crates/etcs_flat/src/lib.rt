@@ -2,6 +2,9 @@
 #![tactic(auto)]
 
 mod flat;
+mod framed;
+#[cfg(test)]
+mod framed_tests;
 pub mod laws;
 mod marker;
 #[cfg(test)]
@@ -9,6 +12,7 @@ mod memory_tests;
 mod other;
 mod packets;
 pub mod parts;
+mod table;
 #[cfg(test)]
 mod tests;
 

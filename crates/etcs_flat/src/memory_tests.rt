@@ -3,6 +3,7 @@
 use crate::{Flat, Other};
 use etcs_bits::{BitSlice, Bits};
 use etcs_rows::Packetlike;
+use etcs_rows::parts::Framed;
 use std::alloc::{AllocError, Global};
 use std::test::Fail;
 
@@ -30,6 +31,14 @@ fn read<P: Packetlike>(alloc: Global, dir: u8, fields: &[u64]) -> Result<Option<
     P::from_fields(alloc, dir, fields)
 }
 
+fn made<P: Framed>(alloc: Global, dir: u8, bits: BitSlice<'_>) -> Result<Option<P>, AllocError> {
+    P::from_bits(alloc, dir, bits)
+}
+
+fn copied<P: Framed>(alloc: Global, packet: &P) -> Result<P, AllocError> {
+    packet.try_clone(alloc)
+}
+
 fn kept(alloc: Global) -> Result<Other, Fail> {
     let slice = BitSlice::new(&[0x5A; 100], 0, 800).ok_or("too few bytes")?;
     match Other::new(44, 1, Bits::from_slice(alloc, slice)?) {
@@ -55,13 +64,18 @@ fn fields_without_memory(rt: HostRuntime) -> Result<(), Fail> {
 /// A packet without groups takes no memory.
 #[test]
 fn packets_without_memory(rt: HostRuntime) -> Result<(), Fail> {
+    let bits = BitSlice::new(&[0b1001_0100, 0], 0, 9).ok_or("too few bytes")?;
     let held = starve(rt.alloc())?;
     let packet = Flat::<141>::new(1, &[1, 40])?;
     let again = read::<Flat<141>>(rt.alloc(), 1, &[1, 40]);
+    let made = made::<Flat<141>>(rt.alloc(), 1, bits);
     let cloned: Result<Flat<141>, AllocError> = packet.clone();
+    let copied = copied(rt.alloc(), &packet);
     drop(held);
     assert!(rt; matches!(again, Ok(Some(again)) if again == packet));
+    assert!(rt; matches!(made, Ok(Some(made)) if made == packet));
     assert!(rt; matches!(cloned, Ok(cloned) if cloned == packet));
+    assert!(rt; matches!(copied, Ok(copied) if copied == packet));
     Ok(())
 }
 

@@ -1,6 +1,7 @@
 //! Packets that are kept as bits.
 
-ghost use Rattle.std.specs.Prelude.{◌≡◌, length, Some, None, OnOk, IfOk, IfErr};
+ghost use Rattle.std.specs.Prelude.{◌≡◌, ◌≤◌, length, Some, None, OnOk, IfOk, IfErr};
+ghost use Rattle.etcs_rows.specs.Layouts.{ROW_LIMIT};
 ghost use Rattle.etcs_flat.specs.Others.{other_parts, other_fault};
 
 use etcs_bits::{BitSlice, Bits};
@@ -23,7 +24,7 @@ pub struct Other {
 }
 
 impl Model for Other {
-    ghost use Rattle.std.specs.Prelude.{◌≡◌, length, None};
+    ghost use Rattle.std.specs.Prelude.{◌≡◌, ◌≤◌, length, None};
     ghost use Rattle.etcs_flat.specs.Others.{OtherParts, other_fault};
 
     ghost Value = { OtherParts };
@@ -75,6 +76,15 @@ impl Other {
         ensures { result ≡ self.now.body }
     {
         self.body.as_slice()
+    }
+
+    /// How many bits stand behind L_PACKET.
+    #[tactic(auto, using(crate::specs::OtherLaws::other_short))]
+    pub fn bits(&self) -> usize
+        ensures bits { result ≡ length self.now.body }
+        ensures most { result ≤ ROW_LIMIT }
+    {
+        self.body.len()
     }
 
     /// An equal packet.

@@ -259,6 +259,10 @@ fn parts(packet: &Other) -> (u8, u8, BitSlice<'_>) {
     (packet.nid(), packet.dir(), packet.body())
 }
 
+fn bits(packet: &Other) -> usize {
+    packet.bits()
+}
+
 #[test]
 fn a_kept_packet_gives_its_parts(rt: HostRuntime) -> Result<(), Fail> {
     let packet = other(rt.alloc(), 44, 2, 12)?;
@@ -266,6 +270,7 @@ fn a_kept_packet_gives_its_parts(rt: HostRuntime) -> Result<(), Fail> {
     assert_eq!(rt; nid, 44);
     assert_eq!(rt; dir, 2);
     assert_eq!(rt; body.len(), 12);
+    assert_eq!(rt; bits(&packet), 12);
     assert_eq!(rt; body.number(0, 12), Some(0xA5A));
     Ok(())
 }

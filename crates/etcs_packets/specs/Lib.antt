@@ -1,3 +1,1 @@
-pub mod Packets
-pub mod InfillLocations
-pub mod SpeedProfiles
+pub mod PacketValues

@@ -1,13 +1,16 @@
-//! Packets to the train with groups.
+//! Packets to the train: every number that is typed, and all others as bits.
 #![tactic(auto)]
 
-mod infill_location;
+mod packet;
 #[cfg(test)]
-mod infill_location_tests;
-mod lengths;
-mod speed_profile;
-#[cfg(test)]
-mod speed_profile_tests;
+mod packet_tests;
+pub mod parts;
+mod typed;
 
-pub use infill_location::InfillLocation;
-pub use speed_profile::SpeedProfile;
+pub use etcs_flat::{Flat, Marker, Other};
+pub use etcs_orders::{ConditionalLevelOrder, FixedText, InfillLocation, LevelOrder, PlainText};
+pub use etcs_parts::{
+    Authority, Differing, Level, LevelAck, Link, Section, Shown, Slope, Speed, TextFrame,
+};
+pub use etcs_profiles::{Gradient, Level1Ma, Level23Ma, Linking, SpeedProfile};
+pub use packet::Packet;

@@ -6,21 +6,17 @@ use Rattle.std.proofs.lemmas.Grind.{flat_map-append}
 use Rattle.etcs_vars.specs.declared.var.Var.{Var}
 use Rattle.etcs_vars.specs.declared.var.Var.TheVariants.{N_ITER}
 use Rattle.etcs_vars.specs.Vars.{admits}
-use Rattle.etcs_vars.specs.Reading.{Reading, Then, numbers}
+use Rattle.etcs_vars.specs.Reading.{Reading, Then}
 use Rattle.etcs_rows.specs.declared.item.Guard.{Guard}
 use Rattle.etcs_rows.specs.declared.item.Test.{Test}
 use Rattle.etcs_rows.specs.Layouts.{Layout, whole, one, guarded, Scope, Reads, holds, passes}
 use Rattle.etcs_parts.specs.Faults.{number_fault, count_fault}
-use Rattle.etcs_parts.specs.Taking.{◌and_then◌, next_number}
-use Rattle.etcs_parts.specs.Takes.{admitted, number_ok, next_is, count_ok, counted_admitted, in_width}
+use Rattle.etcs_parts.specs.Taking.{Left, ahead, ◌and_then◌, next_number}
+use Rattle.etcs_parts.specs.Takes.{admitted, number_ok, ahead_both, taken, next_is, next_sound, counted_admitted, in_width}
 use Rattle.etcs_parts.specs.Repeats.{bit_count, bit_count-append}
-use Rattle.etcs_parts.specs.Codecs.{Codes, Found, holds_here}
+use Rattle.etcs_parts.specs.Codecs.{Codes, Found, holds_here, carried}
 
 -- ---- A list behind its count.
-
--- a count that was read, where so many entries were read behind it
-pub counted_is : (v : Var) (n many : ℕ) → number_fault v n ≡ None → many ≡ n → count_fault v many ≡ None
-counted_is v n many h e = rw e (count_ok v n (admitted v n h))
 
 -- entries that N_ITER counts
 pub few_counted : (many : ℕ) → count_fault N_ITER many ≡ None → many ≤ 31
@@ -28,7 +24,7 @@ few_counted many h = let few = in_width N_ITER many (counted_admitted N_ITER man
 
 -- ---- Nothing behind a part.
 
-module _ {V : Type 0} {row : Layout → Layout} {IsV : V → Type 0} {reading : V → Reading} {from : List ℕ → Option (V × List ℕ)} (codes : Codes row IsV reading from) where
+module _ {V : Type 0} {row : Layout → Layout} {IsV : V → Type 0} {reading : V → Reading} {from : Left → Option (V × Left)} (codes : Codes row IsV reading from) where
   pub whole_in : (v : V) (s : Scope) → IsV v → Reads (row whole) s (reading v)
   unfolding Reads
   whole_in v s h = let g = codes.into v whole s [] h (λ t. refl) in rw (append-nil (reading v)) at g
@@ -47,7 +43,7 @@ IsChoice v test IsW p = (number_fault v p.0 ≡ None) × IsW (passes test p.0) p
 abbrev pub choice_reading : {W : Type 0} → Var → Test → (Bool → W → Reading) → ℕ × W → Reading
 choice_reading v test reading p = (v, p.0) ∷ reading (passes test p.0) p.1
 
-abbrev pub choice_from : {W : Type 0} → Var → Test → (Bool → List ℕ → Option (W × List ℕ)) → List ℕ → Option ((ℕ × W) × List ℕ)
+abbrev pub choice_from : {W : Type 0} → Var → Test → (Bool → Left → Option (W × Left)) → Left → Option ((ℕ × W) × Left)
 choice_from v test from f = next_number v f and_then λ n. from (passes test n.0) n.1 and_then λ w. Some ((n.0, w.0), w.1)
 
 -- the row of a choice: the first group where test holds, the second where the other does
@@ -64,7 +60,7 @@ is_left_out true P Q e q = absurd cc
 is_left_out false P Q e q = q
 
 -- of the numbers that the variable admits, each passes one of the tests
-module _ {W : Type 0} (v : Var) (test other : Test) (apart : (n : ℕ) → admits v n ≡ true → passes other n ≡ not (passes test n)) {row : Bool → Layout → Layout} {IsW : Bool → W → Type 0} {reading : Bool → W → Reading} {from : Bool → List ℕ → Option (W × List ℕ)} (groups : (b : Bool) → Codes (row b) (IsW b) (reading b) (from b)) where
+module _ {W : Type 0} (v : Var) (test other : Test) (apart : (n : ℕ) → admits v n ≡ true → passes other n ≡ not (passes test n)) {row : Bool → Layout → Layout} {IsW : Bool → W → Type 0} {reading : Bool → W → Reading} {from : Bool → Left → Option (W × Left)} (groups : (b : Bool) → Codes (row b) (IsW b) (reading b) (from b)) where
   abbrev first : Guard
   first = record { var = v; test = test }
 
@@ -112,9 +108,16 @@ module _ {W : Type 0} (v : Var) (test other : Test) (apart : (n : ℕ) → admit
   pub choice : Codes (choice_row v test other row) (IsChoice v test IsW) (choice_reading v test reading) (choice_from v test from)
   unfolding Reads
   choice = record {
-    complete = λ p f h.
+    complete = λ p s h.
         let b = passes test p.0 in
-        rw (next_is v p.0 (numbers (reading b p.1) ++ f) h.0, (groups b).complete p.1 f h.1) refl;
+        rw (ahead_both ((v, p.0) ∷ []) (reading b p.1) s, next_is v p.0 (ahead (reading b p.1) s) h.0, (groups b).complete p.1 s h.1) refl;
+    sound = λ p s t e.
+        let a = taken (next_number v s) (λ n. from (passes test n.0) n.1 and_then λ w. Some ((n.0, w.0), w.1)) (p, t) e in
+        let b = passes test a.0.0 in
+        let c = taken (from b a.0.1) (λ w. Some ((a.0.0, w.0), w.1)) (p, t) a.2 in
+        let n = next_sound v a.0.0 s a.0.1 a.1 in
+        let w = (groups b).sound c.0.0 a.0.1 c.0.1 c.1 in
+        carried (IsChoice v test IsW) (choice_reading v test reading) s (a.0.0, c.0.0) p c.0.1 t c.2 ((n.0, w.0), n.1 ∙ ap (ahead ((v, a.0.0) ∷ [])) w.1 ∙ sym (ahead_both ((v, a.0.0) ∷ []) (reading b c.0.0) c.0.1));
     into = λ p rest s x h k.
         let b = passes test p.0 in
         (p.0, reading b p.1 ++ x, admitted v p.0 h.0, refl, into_by b p.0 p.1 rest s x refl (apart p.0 (admitted v p.0 h.0)) h.1 (k ((v, p.0) ∷ s)));

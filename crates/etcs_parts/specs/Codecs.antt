@@ -2,25 +2,33 @@
 use Rattle.std.proofs.Common.{◌≡◌, ℕ, ◌<◌, ◌^◌, Bool, true, false, List, [], ◌∷◌, ◌++◌, length, Option, Some, None, refl, sym, ap, ◌∙◌, append_assoc, subst}
 use Rattle.std.specs.Prelude.{MatchBool, if◌then◌else◌, flat_map, All}
 use Rattle.std.proofs.lemmas.Slice.Eq.{bytes_eq-Decides}
-use Rattle.std.proofs.lemmas.List.{append-nil, map-append}
+use Rattle.std.proofs.lemmas.List.{append-nil}
 use Rattle.etcs_bits.specs.Bits.{bit}
 use Rattle.etcs_vars.specs.declared.var.Var.{Var}
 use Rattle.etcs_vars.specs.Vars.{width, admits, name, same_name}
-use Rattle.etcs_vars.specs.Reading.{Sent, Reading, Then, numbers}
+use Rattle.etcs_vars.specs.Reading.{Reading, Then}
 use Rattle.etcs_rows.specs.declared.item.Test.{Test}
 use Rattle.etcs_rows.specs.declared.item.Test.TheVariants.{IsOne}
 use Rattle.etcs_rows.specs.Layouts.{Layout, whole, one, guarded, counted, Scope, Reads, holds, nearest, passes}
 use Rattle.etcs_parts.specs.Faults.{number_fault, count_fault, option_fault}
-use Rattle.etcs_parts.specs.Taking.{◌and_then◌, next_number, next_flag, times_from}
-use Rattle.etcs_parts.specs.Takes.{admitted, number_ok, next_is, count_ok, counted_admitted, flag_bit, as_bit, in_width}
-use Rattle.etcs_parts.specs.Repeats.{times_in, times_out, times_complete, numbers_flat}
+use Rattle.etcs_parts.specs.Taking.{Left, ahead, ◌and_then◌, next_number, next_flag, times_from}
+use Rattle.etcs_parts.specs.Takes.{admitted, number_ok, ahead_both, taken, some_pair, next_is, next_sound, count_ok, counted_admitted, flag_is, flag_sound, as_bit, in_width}
+use Rattle.etcs_parts.specs.Repeats.{times_in, times_out, times_complete, times_sound}
 
 -- a reading of the row in front of rest is a value's, and one of rest
 abbrev pub Found : {V : Type 0} → (V → Type 0) → (V → Reading) → Layout → Reading → Type 0
 Found {V} IsValue reading rest r = (v : V) × (x : Reading) × (t : Scope) × IsValue v × (r ≡ reading v ++ x) × Reads rest t x
 
-pub record Codes {V : Type 0} (row : Layout → Layout) (IsValue : V → Type 0) (reading : V → Reading) (from : List ℕ → Option (V × List ℕ)) : Type 0 where
-  pub complete : (v : V) (f : List ℕ) → IsValue v → from (numbers (reading v) ++ f) ≡ Some (v, f)
+-- a value stands there
+abbrev pub Stands : {V : Type 0} → (V → Type 0) → (V → Reading) → Left → V → Left → Type 0
+Stands IsValue reading s v t = IsValue v × (s ≡ ahead (reading v) t)
+
+pub carried : {V : Type 0} (IsValue : V → Type 0) (reading : V → Reading) (s : Left) (a b : V) (t u : Left) → ◌≡◌ {A = Option (V × Left)} (Some (a, t)) (Some (b, u)) → Stands IsValue reading s a t → Stands IsValue reading s b u
+carried IsValue reading s a b t u e h = let p = some_pair a b t u e in subst (λ x. Stands IsValue reading s x u) p.0 (subst (λ y. Stands IsValue reading s a y) p.1 h)
+
+pub record Codes {V : Type 0} (row : Layout → Layout) (IsValue : V → Type 0) (reading : V → Reading) (from : Left → Option (V × Left)) : Type 0 where
+  pub complete : (v : V) (s : Left) → IsValue v → from (ahead (reading v) s) ≡ Some (v, s)
+  pub sound : (v : V) (s t : Left) → from s ≡ Some (v, t) → Stands IsValue reading s v t
   pub into : (v : V) (rest : Layout) (s : Scope) (x : Reading) → IsValue v → ((t : Scope) → Reads rest t x) → Reads (row rest) s (reading v ++ x)
   pub out : (rest : Layout) (s : Scope) (r : Reading) → Reads (row rest) s r → Found IsValue reading rest r
 
@@ -29,15 +37,13 @@ pub record Codes {V : Type 0} (row : Layout → Layout) (IsValue : V → Type 0)
 pub number : (v : Var) → Codes (one v) (λ (n : ℕ). number_fault v n ≡ None) (λ n. (v, n) ∷ []) (next_number v)
 unfolding Reads
 number v = record {
-  complete = λ n f h. next_is v n f h;
+  complete = λ n s h. next_is v n s h;
+  sound = λ n s t e. next_sound v n s t e;
   into = λ n rest s x h k. (n, x, admitted v n h, refl, k ((v, n) ∷ s));
   out = λ rest s r (n, x, h, e, k). (n, x, (v, n) ∷ s, number_ok v n h, e, k);
 }
 
 -- ---- One behind the other.
-
-numbers-append : (a b : Reading) → numbers (a ++ b) ≡ numbers a ++ numbers b
-numbers-append a b = map-append (λ (p : Sent). p.1) a b
 
 abbrev pub IsBoth : {V W : Type 0} → (V → Type 0) → (W → Type 0) → V × W → Type 0
 IsBoth IsV IsW p = IsV p.0 × IsW p.1
@@ -45,15 +51,19 @@ IsBoth IsV IsW p = IsV p.0 × IsW p.1
 abbrev pub both_reading : {V W : Type 0} → (V → Reading) → (W → Reading) → V × W → Reading
 both_reading reading reading' p = reading p.0 ++ reading' p.1
 
-abbrev pub both_from : {V W : Type 0} → (List ℕ → Option (V × List ℕ)) → (List ℕ → Option (W × List ℕ)) → List ℕ → Option ((V × W) × List ℕ)
+abbrev pub both_from : {V W : Type 0} → (Left → Option (V × Left)) → (Left → Option (W × Left)) → Left → Option ((V × W) × Left)
 both_from from from' f = from f and_then λ v. from' v.1 and_then λ w. Some ((v.0, w.0), w.1)
 
-pub both : {V W : Type 0} {row row' : Layout → Layout} {IsV : V → Type 0} {IsW : W → Type 0} {reading : V → Reading} {reading' : W → Reading} {from : List ℕ → Option (V × List ℕ)} {from' : List ℕ → Option (W × List ℕ)}
+pub both : {V W : Type 0} {row row' : Layout → Layout} {IsV : V → Type 0} {IsW : W → Type 0} {reading : V → Reading} {reading' : W → Reading} {from : Left → Option (V × Left)} {from' : Left → Option (W × Left)}
     → Codes row IsV reading from → Codes row' IsW reading' from' → Codes (λ rest. row (row' rest)) (IsBoth IsV IsW) (both_reading reading reading') (both_from from from')
-both {row' = row'} {reading = reading} {reading' = reading'} first second = record {
-  complete = λ p f h.
-      let split : numbers (both_reading reading reading' p) ++ f ≡ numbers (reading p.0) ++ (numbers (reading' p.1) ++ f) = ap (λ (t : List ℕ). t ++ f) (numbers-append (reading p.0) (reading' p.1)) ∙ append_assoc (numbers (reading p.0)) (numbers (reading' p.1)) f in
-      rw (split, first.complete p.0 (numbers (reading' p.1) ++ f) h.0, second.complete p.1 f h.1) refl;
+both {row' = row'} {IsV = IsV} {IsW = IsW} {reading = reading} {reading' = reading'} {from = from} {from' = from'} first second = record {
+  complete = λ p s h. rw (ahead_both (reading p.0) (reading' p.1) s, first.complete p.0 (ahead (reading' p.1) s) h.0, second.complete p.1 s h.1) refl;
+  sound = λ p s t e.
+      let a = taken (from s) (λ v. from' v.1 and_then λ w. Some ((v.0, w.0), w.1)) (p, t) e in
+      let b = taken (from' a.0.1) (λ w. Some ((a.0.0, w.0), w.1)) (p, t) a.2 in
+      let v = first.sound a.0.0 s a.0.1 a.1 in
+      let w = second.sound b.0.0 a.0.1 b.0.1 b.1 in
+      carried (IsBoth IsV IsW) (both_reading reading reading') s (a.0.0, b.0.0) p b.0.1 t b.2 ((v.0, w.0), v.1 ∙ ap (ahead (reading a.0.0)) w.1 ∙ sym (ahead_both (reading a.0.0) (reading' b.0.0) b.0.1));
   into = λ p rest s x h k.
       rw (append_assoc (reading p.0) (reading' p.1) x) (first.into p.0 (row' rest) s (reading' p.1 ++ x) h.0 (λ t. second.into p.1 rest t x h.1 k));
   out = λ rest s r reads.
@@ -68,7 +78,7 @@ pub holds_here : (v : Var) (test : Test) (n : ℕ) (s : Scope) → holds (record
 holds_here v test n s = let e : same_name v v ≡ true = (bytes_eq-Decides (name v) (name v)).1 refl in rw (e, holds, nearest) refl
 
 -- what a group takes of the numbers, where it stands there
-abbrev pub opened : {W : Type 0} → (List ℕ → Option (W × List ℕ)) → Bool → List ℕ → Option (Option W × List ℕ)
+abbrev pub opened : {W : Type 0} → (Left → Option (W × Left)) → Bool → Left → Option (Option W × Left)
 opened from b f = if b then (from f and_then λ w. Some (Some w.0, w.1)) else Some (None, f)
 
 abbrev pub IsGroup : {W : Type 0} → Var → Test → (W → Type 0) → ℕ × Option W → Type 0
@@ -79,17 +89,41 @@ abbrev pub group_reading : {W : Type 0} → Var → (W → Reading) → ℕ × O
 group_reading v reading (n, None) = (v, n) ∷ []
 group_reading v reading (n, Some w) = (v, n) ∷ reading w
 
-abbrev pub group_from : {W : Type 0} → Var → Test → (List ℕ → Option (W × List ℕ)) → List ℕ → Option ((ℕ × Option W) × List ℕ)
+abbrev pub group_from : {W : Type 0} → Var → Test → (Left → Option (W × Left)) → Left → Option ((ℕ × Option W) × Left)
 group_from v test from f = next_number v f and_then λ n. opened from (passes test n.0) n.1 and_then λ o. Some ((n.0, o.0), o.1)
 
 -- the row of a group
 abbrev pub group_row : Var → Test → (Layout → Layout) → Layout → Layout
 group_row v test row rest = one v (guarded (record { var = v; test = test }) (row whole) rest)
 
-module _ {W : Type 0} (v : Var) (test : Test) {row : Layout → Layout} {IsW : W → Type 0} {reading : W → Reading} {from : List ℕ → Option (W × List ℕ)} (group : Codes row IsW reading from) where
-  complete_at : (p : ℕ × Option W) (f : List ℕ) → IsGroup v test IsW p → group_from v test from (numbers (group_reading v reading p) ++ f) ≡ Some (p, f)
-  complete_at (n, None) f h = rw (next_is v n f h.0, h.1) refl
-  complete_at (n, Some w) f h = rw (next_is v n (numbers (reading w) ++ f) h.0, h.1, group.complete w f h.2) refl
+module _ {W : Type 0} (v : Var) (test : Test) {row : Layout → Layout} {IsW : W → Type 0} {reading : W → Reading} {from : Left → Option (W × Left)} (group : Codes row IsW reading from) where
+  complete_at : (p : ℕ × Option W) (s : Left) → IsGroup v test IsW p → group_from v test from (ahead (group_reading v reading p) s) ≡ Some (p, s)
+  complete_at (n, None) s h = rw (next_is v n s h.0, h.1) refl
+  complete_at (n, Some w) s h = rw (ahead_both ((v, n) ∷ []) (reading w) s, next_is v n (ahead (reading w) s) h.0, h.1, group.complete w s h.2) refl
+
+  opened_sound : (b : Bool) (n : ℕ) (o : Option W) (s t : Left) → passes test n ≡ b → number_fault v n ≡ None → opened from b s ≡ Some (o, t) → IsGroup v test IsW (n, o) × (ahead ((v, n) ∷ []) s ≡ ahead (group_reading v reading (n, o)) t)
+  opened_sound true n None s t p h e =
+      let a = taken (from s) (λ w. Some (Some w.0, w.1)) (None, t) e in
+      let is = some_pair (Some a.0.0) None a.0.1 t a.2 in
+      let bad = is.0 in
+      absurd cc
+  opened_sound true n (Some w) s t p h e =
+      let a = taken (from s) (λ u. Some (Some u.0, u.1)) (Some w, t) e in
+      let is = some_pair (Some a.0.0) (Some w) a.0.1 t a.2 in
+      let same : a.0.0 ≡ w = (let both = is.0 in cc) in
+      let one = group.sound a.0.0 s a.0.1 a.1 in
+      let there = subst (λ x. Stands IsW reading s x t) same (subst (λ y. Stands IsW reading s a.0.0 y) is.1 one) in
+      ((h, p, there.0), ap (ahead ((v, n) ∷ [])) there.1 ∙ sym (ahead_both ((v, n) ∷ []) (reading w) t))
+  opened_sound false n None s t p h e = let is = some_pair None None s t e in ((h, p), ap (ahead ((v, n) ∷ [])) is.1)
+  opened_sound false n (Some w) s t p h e = let is = some_pair None (Some w) s t e in let bad = is.0 in absurd cc
+
+  sound_at : (p : ℕ × Option W) (s t : Left) → group_from v test from s ≡ Some (p, t) → IsGroup v test IsW p × (s ≡ ahead (group_reading v reading p) t)
+  sound_at p s t e =
+      let a = taken (next_number v s) (λ n. opened from (passes test n.0) n.1 and_then λ o. Some ((n.0, o.0), o.1)) (p, t) e in
+      let b = taken (opened from (passes test a.0.0) a.0.1) (λ o. Some ((a.0.0, o.0), o.1)) (p, t) a.2 in
+      let n = next_sound v a.0.0 s a.0.1 a.1 in
+      let o = opened_sound (passes test a.0.0) a.0.0 b.0.0 a.0.1 b.0.1 refl n.0 b.1 in
+      carried (IsGroup v test IsW) (group_reading v reading) s (a.0.0, b.0.0) p b.0.1 t b.2 (o.0, n.1 ∙ o.1)
 
   by_test : (b : Bool) (P Q : Type 0) → b ≡ true → P → MatchBool b P Q
   by_test true P Q e p = p
@@ -125,6 +159,7 @@ module _ {W : Type 0} (v : Var) (test : Test) {row : Layout → Layout} {IsW : W
   unfolding Reads
   group_of = record {
     complete = complete_at;
+    sound = sound_at;
     into = into_at;
     out = λ rest s r (n, x, h, e, k).
         out_by (passes test n) n rest s r x refl (number_ok v n h) e
@@ -146,7 +181,8 @@ flag_of v n f ok = as_bit n (subst (λ w. n < 2 ^ w) f.0 (in_width v n ok))
 pub flag : (v : Var) → IsFlag v → Codes (one v) (λ (b : Bool). Unit {0}) (λ b. (v, bit b) ∷ []) next_flag
 unfolding Reads
 flag v is = record {
-  complete = λ b f h. flag_bit b f;
+  complete = λ b s h. flag_is v b s is.0;
+  sound = λ b s t e. (tt, flag_sound v b s t is.0 e);
   into = λ b rest s x h k. (bit b, x, flag_admitted v is b, refl, k ((v, bit b) ∷ s));
   out = λ rest s r (n, x, h, e, k). let b = flag_of v n is h in (b.0, x, (v, n) ∷ s, tt, e ∙ ap (λ m. (v, m) ∷ x) b.1, k);
 }
@@ -160,16 +196,38 @@ abbrev pub optional_reading : {W : Type 0} → Var → (W → Reading) → Optio
 optional_reading v reading None = (v, 0) ∷ []
 optional_reading v reading (Some w) = (v, 1) ∷ reading w
 
-abbrev pub optional_from : {W : Type 0} → (List ℕ → Option (W × List ℕ)) → List ℕ → Option (Option W × List ℕ)
+abbrev pub optional_from : {W : Type 0} → (Left → Option (W × Left)) → Left → Option (Option W × Left)
 optional_from from f = next_flag f and_then λ b. opened from b.0 b.1
 
-module _ {W : Type 0} (v : Var) (is : IsFlag v) {row : Layout → Layout} {IsW : W → Type 0} {reading : W → Reading} {from : List ℕ → Option (W × List ℕ)} (group : Codes row IsW reading from) where
+module _ {W : Type 0} (v : Var) (is : IsFlag v) {row : Layout → Layout} {IsW : W → Type 0} {reading : W → Reading} {from : Left → Option (W × Left)} (group : Codes row IsW reading from) where
   groups : Codes (group_row v IsOne row) (IsGroup v IsOne IsW) (group_reading v reading) (group_from v IsOne from)
   groups = group_of v IsOne group
 
-  optional_complete : (o : Option W) (f : List ℕ) → IsOptional IsW o → optional_from from (numbers (optional_reading v reading o) ++ f) ≡ Some (o, f)
-  optional_complete None f h = rw (flag_bit false f) refl
-  optional_complete (Some w) f h = rw (flag_bit true (numbers (reading w) ++ f), group.complete w f h) refl
+  optional_complete : (o : Option W) (s : Left) → IsOptional IsW o → optional_from from (ahead (optional_reading v reading o) s) ≡ Some (o, s)
+  optional_complete None s h = rw (flag_is v false s is.0) refl
+  optional_complete (Some w) s h = rw (ahead_both ((v, 1) ∷ []) (reading w) s, flag_is v true (ahead (reading w) s) is.0, group.complete w s h) refl
+
+  opened_by : (b : Bool) (o : Option W) (s t : Left) → opened from b s ≡ Some (o, t) → IsOptional IsW o × (ahead ((v, bit b) ∷ []) s ≡ ahead (optional_reading v reading o) t)
+  opened_by true None s t e =
+      let a = taken (from s) (λ w. Some (Some w.0, w.1)) (None, t) e in
+      let bad = (some_pair (Some a.0.0) None a.0.1 t a.2).0 in
+      absurd cc
+  opened_by true (Some w) s t e =
+      let a = taken (from s) (λ u. Some (Some u.0, u.1)) (Some w, t) e in
+      let i = some_pair (Some a.0.0) (Some w) a.0.1 t a.2 in
+      let same : a.0.0 ≡ w = (let both = i.0 in cc) in
+      let one = group.sound a.0.0 s a.0.1 a.1 in
+      let there = subst (λ x. Stands IsW reading s x t) same (subst (λ y. Stands IsW reading s a.0.0 y) i.1 one) in
+      (there.0, ap (ahead ((v, 1) ∷ [])) there.1 ∙ sym (ahead_both ((v, 1) ∷ []) (reading w) t))
+  opened_by false None s t e = (tt, ap (ahead ((v, 0) ∷ [])) (some_pair None None s t e).1)
+  opened_by false (Some w) s t e = let bad = (some_pair None (Some w) s t e).0 in absurd cc
+
+  optional_sound : (o : Option W) (s t : Left) → optional_from from s ≡ Some (o, t) → IsOptional IsW o × (s ≡ ahead (optional_reading v reading o) t)
+  optional_sound o s t e =
+      let a = taken (next_flag s) (λ b. opened from b.0 b.1) (o, t) e in
+      let f = flag_sound v a.0.0 s a.0.1 is.0 a.1 in
+      let b = opened_by a.0.0 o a.0.1 t a.2 in
+      (b.0, f ∙ b.1)
 
   optional_into : (o : Option W) (rest : Layout) (s : Scope) (x : Reading) → IsOptional IsW o → ((t : Scope) → Reads rest t x) → Reads (group_row v IsOne row rest) s (optional_reading v reading o ++ x)
   optional_into None rest s x h k = groups.into (0, None) rest s x (number_ok v 0 is.1, refl) k
@@ -188,6 +246,7 @@ module _ {W : Type 0} (v : Var) (is : IsFlag v) {row : Layout → Layout} {IsW :
   pub optional : Codes (group_row v IsOne row) (IsOptional IsW) (optional_reading v reading) (optional_from from)
   optional = record {
     complete = optional_complete;
+    sound = optional_sound;
     into = optional_into;
     out = λ rest s r reads.
         let a = groups.out rest s r reads in
@@ -206,7 +265,7 @@ option_none v (Some n) h = h
 
 -- ---- The same value in another form, with its reading written out.
 
-abbrev pub form_from : {V W : Type 0} → (V → W) → (List ℕ → Option (V × List ℕ)) → List ℕ → Option (W × List ℕ)
+abbrev pub form_from : {V W : Type 0} → (V → W) → (Left → Option (V × Left)) → Left → Option (W × Left)
 form_from to from f = from f and_then λ v. Some (to v.0, v.1)
 
 -- the two forms of a value, and what makes the new one a value
@@ -218,10 +277,14 @@ pub record Forms {V W : Type 0} (IsV : V → Type 0) (reading : V → Reading) (
   pub so : (v : V) → IsV v → IsW (to v)
   pub same : (w : W) → reading (back w) ≡ shown w
 
-pub form : {V W : Type 0} {row : Layout → Layout} {IsV : V → Type 0} {reading : V → Reading} {from : List ℕ → Option (V × List ℕ)} {to : V → W} {IsW : W → Type 0} {shown : W → Reading}
+pub form : {V W : Type 0} {row : Layout → Layout} {IsV : V → Type 0} {reading : V → Reading} {from : Left → Option (V × Left)} {to : V → W} {IsW : W → Type 0} {shown : W → Reading}
     → Codes row IsV reading from → Forms IsV reading to IsW shown → Codes row IsW shown (form_from to from)
-form {reading = reading} {to = to} codes f = record {
-  complete = λ w g h. rw (← f.same w) (let c = codes.complete (f.back w) g (f.is w h) in rw (c, f.there w) refl);
+form {reading = reading} {from = from} {to = to} {IsW = IsW} {shown = shown} codes f = record {
+  complete = λ w s h. rw (← f.same w) (let c = codes.complete (f.back w) s (f.is w h) in rw (c, f.there w) refl);
+  sound = λ w s t e.
+      let a = taken (from s) (λ v. Some (to v.0, v.1)) (w, t) e in
+      let v = codes.sound a.0.0 s a.0.1 a.1 in
+      carried IsW shown s (to a.0.0) w a.0.1 t a.2 (f.so a.0.0 v.0, v.1 ∙ ap (λ u. ahead (reading u) a.0.1) (sym (f.again a.0.0)) ∙ ap (λ r. ahead r a.0.1) (f.same (to a.0.0)));
   into = λ w rest s x h k. rw (← f.same w) (codes.into (f.back w) rest s x (f.is w h) k);
   out = λ rest s r reads.
       let a = codes.out rest s r reads in
@@ -236,10 +299,10 @@ IsEntries v IsV vs = (count_fault v (length vs) ≡ None) × All IsV vs
 abbrev pub list_reading : {V : Type 0} → Var → (V → Reading) → List V → Reading
 list_reading v reading vs = (v, length vs) ∷ flat_map reading vs
 
-abbrev pub list_from : {V : Type 0} → Var → (List ℕ → Option (V × List ℕ)) → List ℕ → Option (List V × List ℕ)
+abbrev pub list_from : {V : Type 0} → Var → (Left → Option (V × Left)) → Left → Option (List V × Left)
 list_from v from f = next_number v f and_then λ n. times_from from n.0 n.1
 
-module _ {V : Type 0} (v : Var) {row : Layout → Layout} {IsV : V → Type 0} {reading : V → Reading} {from : List ℕ → Option (V × List ℕ)} (entry : Codes row IsV reading from) where
+module _ {V : Type 0} (v : Var) {row : Layout → Layout} {IsV : V → Type 0} {reading : V → Reading} {from : Left → Option (V × Left)} (entry : Codes row IsV reading from) where
   one_entry : (s : Scope) (r : Reading) → Reads (row whole) s r → (w : V) × IsV w × (r ≡ reading w)
   unfolding Reads
   one_entry s r h =
@@ -249,10 +312,17 @@ module _ {V : Type 0} (v : Var) {row : Layout → Layout} {IsV : V → Type 0} {
   pub list : Codes (λ rest. one v (counted (row whole) rest)) (IsEntries v IsV) (list_reading v reading) (list_from v from)
   unfolding Reads
   list = record {
-    complete = λ vs f h.
-        let tail : numbers (flat_map reading vs) ++ f ≡ flat_map (λ w. numbers (reading w)) vs ++ f = ap (λ (t : List ℕ). t ++ f) (numbers_flat reading vs) in
-        let n = next_is v (length vs) (flat_map (λ w. numbers (reading w)) vs ++ f) (number_ok v (length vs) (counted_admitted v (length vs) h.0)) in
-        rw (tail, n, times_complete from (λ w. numbers (reading w)) IsV entry.complete vs f h.1) refl;
+    complete = λ vs s h.
+        let n = next_is v (length vs) (ahead (flat_map reading vs) s) (number_ok v (length vs) (counted_admitted v (length vs) h.0)) in
+        rw (ahead_both ((v, length vs) ∷ []) (flat_map reading vs) s, n, times_complete from reading IsV entry.complete vs s h.1) refl;
+    sound = λ vs s t e.
+        let a = taken (next_number v s) (λ n. times_from from n.0 n.1) (vs, t) e in
+        let n = next_sound v a.0.0 s a.0.1 a.1 in
+        let l = times_sound from reading IsV entry.sound a.0.0 vs a.0.1 t a.2 in
+        let many : length vs ≡ a.0.0 = l.1 in (
+          (rw many (count_ok v a.0.0 (admitted v a.0.0 n.0)), l.0),
+          n.1 ∙ ap (ahead ((v, a.0.0) ∷ [])) l.2 ∙ sym (ahead_both ((v, a.0.0) ∷ []) (flat_map reading vs) t) ∙ ap (λ m. ahead ((v, m) ∷ flat_map reading vs) t) (sym many),
+        );
     into = λ vs rest s x h k. (
       length vs,
       flat_map reading vs ++ x,

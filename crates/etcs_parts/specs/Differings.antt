@@ -1,18 +1,18 @@
 -- A speed for some trains, an entry of packet 27.
-use Rattle.std.proofs.Common.{◌≡◌, ℕ, zero, suc, ◌<◌, Bool, true, false, List, [], ◌∷◌, Option, None, refl, arith}
+use Rattle.std.proofs.Common.{◌≡◌, ℕ, zero, suc, ◌<◌, Bool, true, false, [], ◌∷◌, length, Option, None, refl, arith}
 use Rattle.std.specs.Prelude.{◌==◌, if◌then◌else◌, not}
 use Rattle.etcs_vars.specs.declared.var.Var.{Var}
 use Rattle.etcs_vars.specs.declared.var.Var.TheVariants.{Q_DIFF, NC_CDDIFF, NC_DIFF, V_DIFF}
 use Rattle.etcs_vars.specs.declared.fault.BuildFault.{BuildFault}
 use Rattle.etcs_vars.specs.Vars.{width, admits}
-use Rattle.etcs_vars.specs.Reading.{Reading, numbers}
+use Rattle.etcs_vars.specs.Reading.{Reading, spelled}
 use Rattle.etcs_rows.specs.declared.item.Test.TheVariants.{IsZero, IsOneOrTwo}
 use Rattle.etcs_rows.specs.Layouts.{Layout, whole, guarded, passes}
 use Rattle.etcs_rows.specs.Rows.{◌▸◌, is_zero, is_one_or_two}
 use Rattle.etcs_parts.specs.Faults.{◌or_else◌, number_fault}
-use Rattle.etcs_parts.specs.Taking.{next_number}
+use Rattle.etcs_parts.specs.Taking.{Left, next_number}
 use Rattle.etcs_parts.specs.Takes.{none_of, in_width}
-use Rattle.etcs_parts.specs.Repeats.{bit_count}
+use Rattle.etcs_parts.specs.Repeats.{bit_count, bit_count_is}
 use Rattle.etcs_parts.specs.Codecs.{Codes, number, both, both_from, form, form_from}
 use Rattle.etcs_parts.specs.Choices.{choice, choice_from}
 
@@ -43,19 +43,16 @@ IsDiffering d = differing_fault d ≡ None
 abbrev pub differing_reading : DifferingParts → Reading
 differing_reading d = (Q_DIFF, d.q_diff) ∷ (category_of d.q_diff, d.category) ∷ (V_DIFF, d.v_diff) ∷ []
 
-abbrev pub differing_fields : DifferingParts → List ℕ
-differing_fields d = numbers (differing_reading d)
-
 -- the entry in front of the rest of a row
 abbrev pub differing_row : Layout → Layout
 differing_row rest = Q_DIFF ▸ guarded (is_zero Q_DIFF) (NC_CDDIFF ▸ whole) (guarded (is_one_or_two Q_DIFF) (NC_DIFF ▸ whole) (V_DIFF ▸ rest))
 
--- ---- The entry that a list of numbers begins with.
+-- ---- The entry that the numbers begin with.
 
 abbrev pub differing_of : (ℕ × ℕ) × ℕ → DifferingParts
 differing_of n = differing_parts n.0.0 n.0.1 n.1
 
-unfoldable pub differing_from : List ℕ → Option (DifferingParts × List ℕ)
+unfoldable pub differing_from : Left → Option (DifferingParts × Left)
 differing_from = form_from differing_of (
     both_from (choice_from Q_DIFF IsZero (λ b. next_number (category_var b))) (
     next_number V_DIFF))
@@ -102,3 +99,6 @@ category_bits false = refl
 
 pub differing_bits : (d : DifferingParts) → bit_count (differing_reading d) ≡ 13
 differing_bits d = rw (category_bits (d.q_diff == 0)) refl
+
+pub differing_spelled : (d : DifferingParts) → 13 ≡ length (spelled (differing_reading d))
+differing_spelled d = rw (bit_count_is (differing_reading d), differing_bits d) refl

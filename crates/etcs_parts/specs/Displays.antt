@@ -1,15 +1,16 @@
 -- Where a text is shown, at its start or at its end (packets 72 and 76).
-use Rattle.std.proofs.Common.{◌≡◌, ℕ, List, [], ◌∷◌, Option, None, refl}
+use Rattle.std.proofs.Common.{◌≡◌, ℕ, [], ◌∷◌, length, Option, ◌≤◌, Some, None, refl, arith}
 use Rattle.std.specs.Option.{is_some}
 use Rattle.etcs_vars.specs.declared.var.Var.TheVariants.{M_MODETEXTDISPLAY, M_LEVELTEXTDISPLAY, NID_NTC}
 use Rattle.etcs_vars.specs.declared.fault.BuildFault.{BuildFault}
-use Rattle.etcs_vars.specs.Reading.{Reading, numbers}
+use Rattle.etcs_vars.specs.Reading.{Reading, spelled}
 use Rattle.etcs_rows.specs.declared.item.Test.TheVariants.{IsOne}
 use Rattle.etcs_rows.specs.Layouts.{passes}
 use Rattle.etcs_rows.specs.Rows.{shown}
 use Rattle.etcs_parts.specs.Faults.{◌or_else◌, number_fault, option_fault}
 use Rattle.etcs_parts.specs.Takes.{none_of}
-use Rattle.etcs_parts.specs.Taking.{next_number}
+use Rattle.etcs_parts.specs.Taking.{Left, next_number}
+use Rattle.etcs_parts.specs.Repeats.{bit_count, bit_count_is}
 use Rattle.etcs_parts.specs.Codecs.{Codes, number, both, both_from, group_of, group_from, form, form_from, option_is, option_none}
 use Rattle.etcs_parts.specs.Guards.{guard_fault, group_is, group_gives, optional_group, group_reading_is}
 
@@ -36,15 +37,12 @@ abbrev pub shown_reading : ShownParts → Reading
 shown_reading s =
     (M_MODETEXTDISPLAY, s.m_modetextdisplay) ∷ (M_LEVELTEXTDISPLAY, s.m_leveltextdisplay) ∷ optional_group (λ n. (NID_NTC, n) ∷ []) s.nid_ntc
 
-abbrev pub shown_fields : ShownParts → List ℕ
-shown_fields s = numbers (shown_reading s)
-
--- ---- What a list of numbers begins with.
+-- ---- What the numbers begin with.
 
 abbrev pub shown_of : ℕ × (ℕ × Option ℕ) → ShownParts
 shown_of n = shown_parts n.0 n.1.0 n.1.1
 
-unfoldable pub shown_from : List ℕ → Option (ShownParts × List ℕ)
+unfoldable pub shown_from : Left → Option (ShownParts × Left)
 shown_from = form_from shown_of (both_from (next_number M_MODETEXTDISPLAY) (group_from M_LEVELTEXTDISPLAY IsOne (next_number NID_NTC)))
 
 -- ---- It is what its row spells.
@@ -76,3 +74,18 @@ shown_codes =
       so = λ v h. let g = group_gives M_LEVELTEXTDISPLAY IsOne (λ n. number_fault NID_NTC n ≡ None) v.1.0 v.1.1 h.1 in rw (h.0, g.number, g.guard, option_none NID_NTC v.1.1 g.is) refl;
       same = λ s. rw (group_reading_is M_LEVELTEXTDISPLAY (λ n. (NID_NTC, n) ∷ []) s.m_leveltextdisplay s.nid_ntc) refl;
     })
+
+-- ---- Its bits.
+
+pub shown_bits_short : (s : ShownParts) → s.nid_ntc ≡ None → 7 ≡ length (spelled (shown_reading s))
+shown_bits_short s h = rw (bit_count_is (shown_reading s), h) refl
+
+pub shown_bits_long : (s : ShownParts) (n : ℕ) → s.nid_ntc ≡ Some n → 15 ≡ length (spelled (shown_reading s))
+shown_bits_long s n h = rw (bit_count_is (shown_reading s), h) refl
+
+shown_most : (o : Option ℕ) → bit_count (optional_group (λ n. (NID_NTC, n) ∷ []) o) ≤ 8
+shown_most None = omega arith
+shown_most (Some n) = omega arith
+
+pub shown_small : (s : ShownParts) → length (spelled (shown_reading s)) ≤ 15
+shown_small s = rw (bit_count_is (shown_reading s)) (omega (arith, shown_most s.nid_ntc))

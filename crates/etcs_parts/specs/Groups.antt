@@ -1,5 +1,5 @@
 -- More of codes: another account of the same values, groups that must stand just where their guard holds, and pairs.
-use Rattle.std.proofs.Common.{◌≡◌, ℕ, true, false, List, [], ◌∷◌, ◌++◌, Option, Some, None, refl, ap, ◌∙◌}
+use Rattle.std.proofs.Common.{◌≡◌, ℕ, true, false, [], ◌∷◌, ◌++◌, Option, Some, None, refl, ap, ◌∙◌}
 use Rattle.std.specs.Option.{is_some}
 use Rattle.etcs_vars.specs.declared.var.Var.{Var}
 use Rattle.etcs_vars.specs.Reading.{Reading}
@@ -9,16 +9,17 @@ use Rattle.etcs_rows.specs.declared.item.Test.TheVariants.{IsOne}
 use Rattle.etcs_rows.specs.Layouts.{Layout, one, passes}
 use Rattle.etcs_parts.specs.Faults.{◌or_else◌, number_fault}
 use Rattle.etcs_parts.specs.Guards.{guard_fault, guard_ok, there, missing}
-use Rattle.etcs_parts.specs.Taking.{next_number}
+use Rattle.etcs_parts.specs.Taking.{Left, ahead, next_number}
 use Rattle.etcs_parts.specs.Takes.{none_of}
 use Rattle.etcs_parts.specs.Codecs.{Codes, number, both, both_from, IsGroup, IsOptional, IsFlag, optional, optional_reading, optional_from, group_row}
 
 -- ---- The same values and numbers by another account of what is a value, with the reading written out.
 
-pub renamed : {V : Type 0} {row : Layout → Layout} {IsV IsW : V → Type 0} {reading shown : V → Reading} {from : List ℕ → Option (V × List ℕ)}
+pub renamed : {V : Type 0} {row : Layout → Layout} {IsV IsW : V → Type 0} {reading shown : V → Reading} {from : Left → Option (V × Left)}
     → Codes row IsV reading from → ((v : V) → IsW v → IsV v) → ((v : V) → IsV v → IsW v) → ((v : V) → reading v ≡ shown v) → Codes row IsW shown from
 renamed {reading = reading} codes is so same = record {
-  complete = λ v f h. rw (← same v) (codes.complete v f (is v h));
+  complete = λ v s h. rw (← same v) (codes.complete v s (is v h));
+  sound = λ v s t e. let a = codes.sound v s t e in (so v a.0, a.1 ∙ ap (λ r. ahead r t) (same v));
   into = λ v rest s x h k. rw (← same v) (codes.into v rest s x (is v h) k);
   out = λ rest s r reads.
       let a = codes.out rest s r reads in
@@ -41,7 +42,7 @@ group_none fault None h = refl
 group_none fault (Some w) h = h
 
 -- a group behind a flag
-pub flagged : {W : Type 0} {row : Layout → Layout} {reading : W → Reading} {from : List ℕ → Option (W × List ℕ)} (v : Var) (is : IsFlag v) (fault : W → Option BuildFault)
+pub flagged : {W : Type 0} {row : Layout → Layout} {reading : W → Reading} {from : Left → Option (W × Left)} (v : Var) (is : IsFlag v) (fault : W → Option BuildFault)
     → Codes row (λ (w : W). fault w ≡ None) reading from → Codes (group_row v IsOne row) (λ (o : Option W). group_fault fault o ≡ None) (optional_reading v reading) (optional_from from)
 flagged v is fault group = renamed (optional v is group) (λ o h. group_is fault o h) (λ o h. group_none fault o h) (λ o. refl)
 
@@ -69,7 +70,7 @@ pair_fault v w p = number_fault v p.0 or_else number_fault w p.1
 abbrev pub pair_reading : Var → Var → ℕ × ℕ → Reading
 pair_reading v w p = (v, p.0) ∷ (w, p.1) ∷ []
 
-abbrev pub pair_from : Var → Var → List ℕ → Option ((ℕ × ℕ) × List ℕ)
+abbrev pub pair_from : Var → Var → Left → Option ((ℕ × ℕ) × Left)
 pair_from v w = both_from (next_number v) (next_number w)
 
 pub pair : (v w : Var) → Codes (λ rest. one v (one w rest)) (λ (p : ℕ × ℕ). pair_fault v w p ≡ None) (pair_reading v w) (pair_from v w)

@@ -1,18 +1,19 @@
 -- A level, of packets 41 and 46, without and with its length of acknowledgement.
-use Rattle.std.proofs.Common.{◌≡◌, ℕ, List, [], ◌∷◌, ◌++◌, Option, Some, None, refl}
+use Rattle.std.proofs.Common.{◌≤◌, arith, ◌≡◌, ℕ, [], ◌∷◌, ◌++◌, Option, Some, None, refl}
 use Rattle.std.specs.Prelude.{◌==◌}
 use Rattle.std.specs.Option.{is_some}
 use Rattle.etcs_vars.specs.declared.var.Var.TheVariants.{M_LEVELTR, NID_NTC, L_ACKLEVELTR}
 use Rattle.etcs_vars.specs.declared.fault.BuildFault.{BuildFault}
-use Rattle.etcs_vars.specs.Reading.{Reading, numbers}
+use Rattle.etcs_vars.specs.Reading.{Reading}
 use Rattle.etcs_rows.specs.declared.item.Test.TheVariants.{IsOne}
 use Rattle.etcs_rows.specs.Rows.{level, level_ack}
 use Rattle.etcs_parts.specs.Faults.{◌or_else◌, number_fault}
 use Rattle.etcs_parts.specs.Takes.{none_of}
 use Rattle.etcs_parts.specs.Codecs.{Codes, number, both, both_from, IsGroup, group_of, group_from, group_reading, form, form_from}
-use Rattle.etcs_parts.specs.Taking.{next_number}
+use Rattle.etcs_parts.specs.Taking.{Left, next_number}
 use Rattle.etcs_parts.specs.Groups.{group_fault, guarded_is, guarded_none}
 use Rattle.etcs_parts.specs.Guards.{guard_fault}
+use Rattle.etcs_parts.specs.Repeats.{bit_count, bit_count-append}
 
 pub record LevelParts : Type 0 where
   pub m_leveltr : ℕ
@@ -37,15 +38,12 @@ system_reading m (Some n) = (M_LEVELTR, m) ∷ (NID_NTC, n) ∷ []
 abbrev pub level_reading : LevelParts → Reading
 level_reading p = system_reading p.m_leveltr p.nid_ntc
 
-abbrev pub level_fields : LevelParts → List ℕ
-level_fields p = numbers (level_reading p)
-
--- ---- The level that a list of numbers begins with.
+-- ---- The level that the numbers begin with.
 
 abbrev pub level_of : ℕ × Option ℕ → LevelParts
 level_of n = level_parts n.0 n.1
 
-unfoldable pub level_from : List ℕ → Option (LevelParts × List ℕ)
+unfoldable pub level_from : Left → Option (LevelParts × Left)
 level_from = form_from level_of (group_from M_LEVELTR IsOne (next_number NID_NTC))
 
 -- ---- A level is what its row spells.
@@ -88,13 +86,10 @@ IsLevelAck p = level_ack_fault p ≡ None
 abbrev pub level_ack_reading : LevelAckParts → Reading
 level_ack_reading p = level_reading p.level ++ (L_ACKLEVELTR, p.l_ackleveltr) ∷ []
 
-abbrev pub level_ack_fields : LevelAckParts → List ℕ
-level_ack_fields p = numbers (level_ack_reading p)
-
 abbrev pub level_ack_of : LevelParts × ℕ → LevelAckParts
 level_ack_of n = record { level = n.0; l_ackleveltr = n.1 }
 
-unfoldable pub level_ack_from : List ℕ → Option (LevelAckParts × List ℕ)
+unfoldable pub level_ack_from : Left → Option (LevelAckParts × Left)
 level_ack_from = form_from level_ack_of (both_from level_from (next_number L_ACKLEVELTR))
 
 pub level_ack_codes : Codes level_ack IsLevelAck level_ack_reading level_ack_from
@@ -109,3 +104,17 @@ level_ack_codes =
       so = λ v h. rw (h.0, h.1) refl;
       same = λ p. refl;
     })
+
+-- ---- Their bits.
+
+system_most : (m : ℕ) (o : Option ℕ) → bit_count (system_reading m o) ≤ 11
+system_most m None = omega arith
+system_most m (Some n) = omega arith
+
+pub level_most : (p : LevelParts) → bit_count (level_reading p) ≤ 11
+level_most p = system_most p.m_leveltr p.nid_ntc
+
+pub level_ack_most : (p : LevelAckParts) → bit_count (level_ack_reading p) ≤ 26
+level_ack_most p =
+    let both = bit_count-append (level_reading p.level) ((L_ACKLEVELTR, p.l_ackleveltr) ∷ []) in
+    omega (arith, level_most p.level)

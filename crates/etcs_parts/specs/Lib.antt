@@ -1,6 +1,7 @@
 pub mod Faults
 pub mod Taking
 pub mod Takes
+pub mod Sources
 pub mod Repeats
 pub mod Codecs
 pub mod Guards
@@ -15,3 +16,4 @@ pub mod Differings
 pub mod Speeds
 pub mod Displays
 pub mod TextFrames
+pub mod Packets

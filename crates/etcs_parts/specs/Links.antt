@@ -1,14 +1,15 @@
 -- A linked balise group of packet 5.
-use Rattle.std.proofs.Common.{◌≡◌, ℕ, Bool, List, [], ◌∷◌, ◌++◌, Option, Some, None, refl}
+use Rattle.std.proofs.Common.{◌≡◌, ℕ, Bool, [], ◌∷◌, ◌++◌, length, ◌≤◌, Option, Some, None, refl, arith}
 use Rattle.etcs_bits.specs.Bits.{bit}
 use Rattle.etcs_vars.specs.declared.var.Var.TheVariants.{D_LINK, Q_NEWCOUNTRY, NID_C, NID_BG, Q_LINKORIENTATION, Q_LINKREACTION, Q_LOCACC}
 use Rattle.etcs_vars.specs.declared.fault.BuildFault.{BuildFault}
-use Rattle.etcs_vars.specs.Reading.{Reading, numbers}
+use Rattle.etcs_vars.specs.Reading.{Reading, spelled}
 use Rattle.etcs_rows.specs.Rows.{link}
 use Rattle.etcs_parts.specs.Faults.{◌or_else◌, number_fault, option_fault}
 use Rattle.etcs_parts.specs.Takes.{none_of}
 use Rattle.etcs_parts.specs.Codecs.{Codes, number, flag, both, both_from, optional, optional_from, optional_reading, form, form_from, option_is, option_none}
-use Rattle.etcs_parts.specs.Taking.{next_number, next_flag}
+use Rattle.etcs_parts.specs.Taking.{Left, next_number, next_flag}
+use Rattle.etcs_parts.specs.Repeats.{bit_count, bit_count_is, bit_count-append}
 
 pub record LinkParts : Type 0 where
   pub d_link : ℕ
@@ -42,15 +43,12 @@ link_reading l =
     (D_LINK, l.d_link) ∷ country_reading l.nid_c ++ (NID_BG, l.nid_bg) ∷ (Q_LINKORIENTATION, bit l.q_linkorientation)
     ∷ (Q_LINKREACTION, l.q_linkreaction) ∷ (Q_LOCACC, l.q_locacc) ∷ []
 
-abbrev pub link_fields : LinkParts → List ℕ
-link_fields l = numbers (link_reading l)
-
--- ---- The link that a list of numbers begins with.
+-- ---- The link that the numbers begin with.
 
 abbrev pub link_of : ℕ × (Option ℕ × (ℕ × (Bool × (ℕ × ℕ)))) → LinkParts
 link_of n = link_parts n.0 n.1.0 n.1.1.0 n.1.1.1.0 n.1.1.1.1.0 n.1.1.1.1.1
 
-unfoldable pub link_from : List ℕ → Option (LinkParts × List ℕ)
+unfoldable pub link_from : Left → Option (LinkParts × Left)
 link_from = form_from link_of (
     both_from (next_number D_LINK) (
     both_from (optional_from (next_number NID_C)) (
@@ -99,3 +97,20 @@ link_codes =
       so = λ v h. rw (h.0, option_none NID_C v.1.0 h.1.0, h.1.1.0, h.1.1.1.1.0, h.1.1.1.1.1) refl;
       same = λ l. same_reading l.d_link l.nid_c l.nid_bg l.q_linkorientation l.q_linkreaction l.q_locacc;
     })
+
+-- ---- Its bits.
+
+pub link_bits_near : (l : LinkParts) → l.nid_c ≡ None → 39 ≡ length (spelled (link_reading l))
+link_bits_near l h = rw (bit_count_is (link_reading l), h) refl
+
+pub link_bits_far : (l : LinkParts) (c : ℕ) → l.nid_c ≡ Some c → 49 ≡ length (spelled (link_reading l))
+link_bits_far l c h = rw (bit_count_is (link_reading l), h) refl
+
+country_most : (c : Option ℕ) → bit_count (country_reading c) ≤ 11
+country_most None = omega arith
+country_most (Some n) = omega arith
+
+pub link_most : (l : LinkParts) → bit_count (link_reading l) ≤ 49
+link_most l =
+    let behind = bit_count-append (country_reading l.nid_c) ((NID_BG, l.nid_bg) ∷ (Q_LINKORIENTATION, bit l.q_linkorientation) ∷ (Q_LINKREACTION, l.q_linkreaction) ∷ (Q_LOCACC, l.q_locacc) ∷ []) in
+    omega (arith, country_most l.nid_c)

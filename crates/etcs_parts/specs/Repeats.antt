@@ -1,13 +1,15 @@
 -- Things one behind the other: of readings and of numbers.
-use Rattle.std.proofs.Common.{◌≡◌, ℕ, zero, suc, ◌<◌, ◌+◌, ◌*◌, ◌≤◌, List, [], ◌∷◌, ◌++◌, length, Option, Some, None, refl, ap, ◌∙◌, append_assoc, arith}
+use Rattle.std.proofs.Common.{◌≡◌, ℕ, zero, suc, ◌<◌, ◌+◌, ◌-◌, ◌*◌, ◌≤◌, List, [], ◌∷◌, ◌++◌, length, Option, Some, None, refl, sym, ap, ◌∙◌, append_assoc, subst, arith}
 use Rattle.std.specs.Prelude.{All, flat_map}
 use Rattle.std.proofs.lemmas.List.Elements.{All-nil, All-cons}
-use Rattle.std.proofs.lemmas.List.{map-append, length-append}
+use Rattle.std.proofs.lemmas.List.{append-nil, length-append}
 use Rattle.etcs_bits.specs.Bits.{num}
 use Rattle.etcs_bits.proofs.Numbers.{length-num}
 use Rattle.etcs_vars.specs.Vars.{width}
-use Rattle.etcs_vars.specs.Reading.{Sent, Reading, Times, numbers, spelled}
-use Rattle.etcs_parts.specs.Taking.{times_from}
+use Rattle.etcs_vars.specs.declared.var.Var.{Var}
+use Rattle.etcs_vars.specs.Reading.{Reading, Times, spelled}
+use Rattle.etcs_parts.specs.Taking.{Left, ahead, ◌and_then◌, next_number, times_from}
+use Rattle.etcs_parts.specs.Takes.{ahead_none, ahead_both, taken, some_pair}
 
 all_first : {V : Type 0} (P : V → Type 0) (v : V) (vs : List V) → All P (v ∷ vs) → P v
 all_first P v vs h = h 0 v (omega arith)
@@ -31,25 +33,69 @@ times_out P reading IsValue one (suc n) r (a, b, e, ha, hb) =
     (x.0 ∷ xs.0, All-cons IsValue x.0 xs.0 x.1 xs.1, ap suc xs.2, (let s : b ≡ flat_map reading xs.0 = xs.3 in let t : a ≡ reading x.0 = x.2 in let u : a ++ b ≡ reading x.0 ++ flat_map reading xs.0 = cc in e ∙ u))
 
 -- what is taken as often as there are values, are the values
-pub times_complete : {V : Type 0} (from : List ℕ → Option (V × List ℕ)) (fields : V → List ℕ) (IsValue : V → Type 0)
-    → ((v : V) (f : List ℕ) → IsValue v → from (fields v ++ f) ≡ Some (v, f)) → (vs : List V) (f : List ℕ) → All IsValue vs → times_from from (length vs) (flat_map fields vs ++ f) ≡ Some (vs, f)
+pub times_complete : {V : Type 0} (from : Left → Option (V × Left)) (reading : V → Reading) (IsValue : V → Type 0)
+    → ((v : V) (s : Left) → IsValue v → from (ahead (reading v) s) ≡ Some (v, s)) → (vs : List V) (s : Left) → All IsValue vs → times_from from (length vs) (ahead (flat_map reading vs) s) ≡ Some (vs, s)
 unfolding times_from
-times_complete from fields IsValue one [] f h = refl
-times_complete from fields IsValue one (v ∷ vs) f h =
-    rw (append_assoc (fields v) (flat_map fields vs) f, one v (flat_map fields vs ++ f) (all_first IsValue v vs h), times_complete from fields IsValue one vs f (all_rest IsValue v vs h)) refl
+times_complete from reading IsValue one [] s h = rw (ahead_none s) refl
+times_complete from reading IsValue one (v ∷ vs) s h =
+    rw (ahead_both (reading v) (flat_map reading vs) s, one v (ahead (flat_map reading vs) s) (all_first IsValue v vs h), times_complete from reading IsValue one vs s (all_rest IsValue v vs h)) refl
 
-pub times_none : {V : Type 0} (from : List ℕ → Option (V × List ℕ)) (fields : V → List ℕ) (IsValue : V → Type 0)
-    → ((v : V) (f : List ℕ) → IsValue v → from (fields v ++ f) ≡ Some (v, f)) → (vs : List V) (n : ℕ) (f : List ℕ) → All IsValue vs → length vs < n → from f ≡ None → times_from from n (flat_map fields vs ++ f) ≡ None
+-- entries that stand there
+abbrev Stand : {V : Type 0} → (V → Type 0) → (V → Reading) → ℕ → Left → List V → Left → Type 0
+Stand IsValue reading n s vs t = All IsValue vs × (length vs ≡ n) × (s ≡ ahead (flat_map reading vs) t)
+
+carried_all : {V : Type 0} (IsValue : V → Type 0) (reading : V → Reading) (n : ℕ) (s : Left) (a b : List V) (t u : Left) → ◌≡◌ {A = Option (List V × Left)} (Some (a, t)) (Some (b, u)) → Stand IsValue reading n s a t → Stand IsValue reading n s b u
+carried_all IsValue reading n s a b t u e h = let p = some_pair a b t u e in subst (λ x. Stand IsValue reading n s x u) p.0 (subst (λ y. Stand IsValue reading n s a y) p.1 h)
+
+-- and stand there
+pub times_sound : {V : Type 0} (from : Left → Option (V × Left)) (reading : V → Reading) (IsValue : V → Type 0)
+    → ((v : V) (s t : Left) → from s ≡ Some (v, t) → IsValue v × (s ≡ ahead (reading v) t)) → (n : ℕ) (vs : List V) (s t : Left) → times_from from n s ≡ Some (vs, t) → All IsValue vs × (length vs ≡ n) × (s ≡ ahead (flat_map reading vs) t)
 unfolding times_from
-times_none from fields IsValue one [] zero f h lt empty = absurd (omega arith)
-times_none from fields IsValue one [] (suc n) f h lt empty = rw empty refl
-times_none from fields IsValue one (v ∷ vs) zero f h lt empty = absurd (omega arith)
-times_none from fields IsValue one (v ∷ vs) (suc n) f h lt empty =
-    rw (append_assoc (fields v) (flat_map fields vs) f, one v (flat_map fields vs ++ f) (all_first IsValue v vs h), times_none from fields IsValue one vs n f (all_rest IsValue v vs h) (omega arith) empty) refl
+times_sound from reading IsValue one zero vs s t h = carried_all IsValue reading zero s [] vs s t h (All-nil IsValue, refl, sym (ahead_none s))
+times_sound from reading IsValue one (suc n) vs s t h =
+    let a = taken (from s) (λ v. times_from from n v.1 and_then λ us. Some (v.0 ∷ us.0, us.1)) (vs, t) h in
+    let b = taken (times_from from n a.0.1) (λ us. Some (a.0.0 ∷ us.0, us.1)) (vs, t) a.2 in
+    let first = one a.0.0 s a.0.1 a.1 in
+    let more = times_sound from reading IsValue one n b.0.0 a.0.1 b.0.1 b.1 in
+    carried_all IsValue reading (suc n) s (a.0.0 ∷ b.0.0) vs b.0.1 t b.2 (
+      All-cons IsValue a.0.0 b.0.0 first.0 more.0,
+      ap suc more.1,
+      first.1 ∙ ap (ahead (reading a.0.0)) more.2 ∙ sym (ahead_both (reading a.0.0) (flat_map reading b.0.0) b.0.1),
+    )
 
-pub numbers_flat : {V : Type 0} (reading : V → Reading) (vs : List V) → numbers (flat_map reading vs) ≡ flat_map (λ v. numbers (reading v)) vs
-numbers_flat reading [] = refl
-numbers_flat reading (v ∷ vs) = map-append (λ (p : Sent). p.1) (reading v) (flat_map reading vs) ∙ ap (λ (t : List ℕ). numbers (reading v) ++ t) (numbers_flat reading vs)
+-- what a loop has taken, and what it still takes
+abbrev pub behind : {V : Type 0} → List V → Option (List V × Left) → Option (List V × Left)
+behind vs None = None
+behind vs (Some more) = Some (vs ++ more.0, more.1)
+
+pub behind_more : {V : Type 0} (vs : List V) (v : V) (o : Option (List V × Left)) → behind vs (o and_then λ us. Some (v ∷ us.0, us.1)) ≡ behind (vs ++ v ∷ []) o
+behind_more vs v None = refl
+behind_more vs v (Some more) = ap (λ l. Some (l, more.1)) (sym (append_assoc vs (v ∷ []) more.0))
+
+less : (n k : ℕ) → k < n → n - k ≡ suc (n - (k + 1))
+less n k h = omega arith
+
+pub loop_none : {V : Type 0} (from : Left → Option (V × Left)) (n k : ℕ) (vs : List V) (s t : Left) → k < n → times_from from n s ≡ behind vs (times_from from (n - k) t) → from t ≡ None → times_from from n s ≡ None
+unfolding times_from
+loop_none from n k vs s t lt e none = e ∙ rw (less n k lt, none) refl
+
+pub loop_more : {V : Type 0} (from : Left → Option (V × Left)) (n k : ℕ) (vs : List V) (v : V) (s t u : Left) → k < n → times_from from n s ≡ behind vs (times_from from (n - k) t) → from t ≡ Some (v, u) → times_from from n s ≡ behind (vs ++ v ∷ []) (times_from from (n - (k + 1)) u)
+unfolding times_from
+loop_more from n k vs v s t u lt e one = e ∙ rw (less n k lt, one) (behind_more vs v (times_from from (n - (k + 1)) u))
+
+pub loop_end : {V : Type 0} (from : Left → Option (V × Left)) (n k : ℕ) (vs : List V) (s t : Left) → k ≡ n → times_from from n s ≡ behind vs (times_from from (n - k) t) → times_from from n s ≡ Some (vs, t)
+unfolding times_from
+loop_end from n k vs s t end e = let none : n - k ≡ 0 = omega arith in e ∙ rw (none, append-nil vs) refl
+
+-- a list behind its count
+pub list_is : {V : Type 0} (from : Left → Option (V × Left)) (v : Var) (n : ℕ) (vs : List V) (s t u : Left) → next_number v s ≡ Some (n, t) → times_from from n t ≡ Some (vs, u) → (next_number v s and_then λ m. times_from from m.0 m.1) ≡ Some (vs, u)
+list_is from v n vs s t u h k = rw (h, k) refl
+
+pub list_missing : {V : Type 0} (from : Left → Option (V × Left)) (v : Var) (n : ℕ) (s t : Left) → next_number v s ≡ Some (n, t) → times_from from n t ≡ None → (next_number v s and_then λ m. times_from from m.0 m.1) ≡ None
+list_missing from v n s t h k = rw (h, k) refl
+
+pub list_uncounted : {V : Type 0} (from : Left → Option (V × Left)) (v : Var) (s : Left) → next_number v s ≡ None → (next_number v s and_then λ m. times_from from m.0 m.1) ≡ None
+list_uncounted from v s h = rw h refl
 
 -- ---- How many bits.
 

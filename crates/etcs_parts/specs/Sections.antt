@@ -1,13 +1,14 @@
 -- A section of a movement authority, of packets 12 and 15. The end section has another name for its length.
-use Rattle.std.proofs.Common.{◌≡◌, ℕ, List, ◌∷◌, Option, None, refl}
+use Rattle.std.proofs.Common.{◌≡◌, ℕ, ◌∷◌, length, ◌≤◌, Option, Some, None, refl, sym, ◌∙◌, arith}
 use Rattle.etcs_vars.specs.declared.var.Var.TheVariants.{L_SECTION, L_ENDSECTION, Q_SECTIONTIMER, T_SECTIONTIMER, D_SECTIONTIMERSTOPLOC}
 use Rattle.etcs_vars.specs.declared.fault.BuildFault.{BuildFault}
-use Rattle.etcs_vars.specs.Reading.{Reading, numbers}
+use Rattle.etcs_vars.specs.Reading.{Reading, spelled}
 use Rattle.etcs_rows.specs.Rows.{section_timer, ◌▸◌}
 use Rattle.etcs_parts.specs.Faults.{◌or_else◌, number_fault}
 use Rattle.etcs_parts.specs.Takes.{none_of, number_ok, admitted}
 use Rattle.etcs_parts.specs.Codecs.{Codes, number, both, both_from, optional_from, optional_reading, form, form_from}
-use Rattle.etcs_parts.specs.Taking.{next_number}
+use Rattle.etcs_parts.specs.Taking.{Left, next_number}
+use Rattle.etcs_parts.specs.Repeats.{bit_count, bit_count_is}
 use Rattle.etcs_parts.specs.Groups.{flagged, group_fault, pair_fault, pair_reading, pair_from, pair}
 
 -- ---- The timer of a section.
@@ -18,7 +19,7 @@ timer_fault timer = group_fault (pair_fault T_SECTIONTIMER D_SECTIONTIMERSTOPLOC
 abbrev pub timer_reading : Option (ℕ × ℕ) → Reading
 timer_reading timer = optional_reading Q_SECTIONTIMER (pair_reading T_SECTIONTIMER D_SECTIONTIMERSTOPLOC) timer
 
-unfoldable pub timer_from : List ℕ → Option (Option (ℕ × ℕ) × List ℕ)
+unfoldable pub timer_from : Left → Option (Option (ℕ × ℕ) × Left)
 timer_from = optional_from (pair_from T_SECTIONTIMER D_SECTIONTIMERSTOPLOC)
 
 timer_codes : Codes section_timer (λ (o : Option (ℕ × ℕ)). timer_fault o ≡ None) timer_reading timer_from
@@ -45,25 +46,19 @@ IsSection p = section_fault p ≡ None
 abbrev pub section_reading : SectionParts → Reading
 section_reading p = (L_SECTION, p.length) ∷ timer_reading p.timer
 
-abbrev pub section_fields : SectionParts → List ℕ
-section_fields p = numbers (section_reading p)
-
 -- as the end section
 abbrev pub end_reading : SectionParts → Reading
 end_reading p = (L_ENDSECTION, p.length) ∷ timer_reading p.timer
 
-abbrev pub end_fields : SectionParts → List ℕ
-end_fields p = numbers (end_reading p)
-
--- ---- The section that a list of numbers begins with.
+-- ---- The section that the numbers begin with.
 
 abbrev pub section_of : ℕ × Option (ℕ × ℕ) → SectionParts
 section_of n = section_parts n.0 n.1
 
-unfoldable pub section_from : List ℕ → Option (SectionParts × List ℕ)
+unfoldable pub section_from : Left → Option (SectionParts × Left)
 section_from = form_from section_of (both_from (next_number L_SECTION) timer_from)
 
-unfoldable pub end_from : List ℕ → Option (SectionParts × List ℕ)
+unfoldable pub end_from : Left → Option (SectionParts × Left)
 end_from = form_from section_of (both_from (next_number L_ENDSECTION) timer_from)
 
 -- ---- A section is what its row spells.
@@ -100,3 +95,24 @@ end_codes =
       so = λ v h. rw (same_length v.0 h.0, h.1) refl;
       same = λ p. refl;
     })
+
+-- ---- Its bits, the same for both kinds.
+
+pub section_bits_short : (p : SectionParts) → p.timer ≡ None → 16 ≡ length (spelled (section_reading p))
+section_bits_short p h = rw (bit_count_is (section_reading p), h) refl
+
+pub section_bits_long : (p : SectionParts) (t : ℕ × ℕ) → p.timer ≡ Some t → 41 ≡ length (spelled (section_reading p))
+section_bits_long p t h = rw (bit_count_is (section_reading p), h) refl
+
+section_count : (t : Option (ℕ × ℕ)) → bit_count (timer_reading t) ≤ 26
+section_count None = omega arith
+section_count (Some t) = omega arith
+
+pub section_most : (p : SectionParts) → bit_count (section_reading p) ≤ 41
+section_most p = omega (arith, section_count p.timer)
+
+same_count : (p : SectionParts) → bit_count (end_reading p) ≡ bit_count (section_reading p)
+same_count p = refl
+
+pub end_bits : (p : SectionParts) → length (spelled (end_reading p)) ≡ length (spelled (section_reading p))
+end_bits p = bit_count_is (end_reading p) ∙ same_count p ∙ sym (bit_count_is (section_reading p))

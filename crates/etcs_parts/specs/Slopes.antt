@@ -1,14 +1,15 @@
 -- A change of gradient, of packet 21.
-use Rattle.std.proofs.Common.{◌≡◌, ℕ, Bool, List, [], ◌∷◌, Option, None, refl}
+use Rattle.std.proofs.Common.{◌≡◌, ℕ, Bool, [], ◌∷◌, length, ◌≤◌, Option, None, refl, arith}
 use Rattle.etcs_bits.specs.Bits.{bit}
 use Rattle.etcs_vars.specs.declared.var.Var.TheVariants.{D_GRADIENT, Q_GDIR, G_A}
 use Rattle.etcs_vars.specs.declared.fault.BuildFault.{BuildFault}
-use Rattle.etcs_vars.specs.Reading.{Reading, numbers}
+use Rattle.etcs_vars.specs.Reading.{Reading, spelled}
 use Rattle.etcs_rows.specs.Rows.{slope}
 use Rattle.etcs_parts.specs.Faults.{◌or_else◌, number_fault}
 use Rattle.etcs_parts.specs.Takes.{none_of}
 use Rattle.etcs_parts.specs.Codecs.{Codes, number, flag, both, both_from, form, form_from}
-use Rattle.etcs_parts.specs.Taking.{next_number, next_flag}
+use Rattle.etcs_parts.specs.Taking.{Left, next_number, next_flag}
+use Rattle.etcs_parts.specs.Repeats.{bit_count, bit_count_is}
 
 pub record SlopeParts : Type 0 where
   pub d_gradient : ℕ
@@ -29,15 +30,12 @@ IsSlope p = slope_fault p ≡ None
 abbrev pub slope_reading : SlopeParts → Reading
 slope_reading p = (D_GRADIENT, p.d_gradient) ∷ (Q_GDIR, bit p.q_gdir) ∷ (G_A, p.g_a) ∷ []
 
-abbrev pub slope_fields : SlopeParts → List ℕ
-slope_fields p = numbers (slope_reading p)
-
--- ---- The slope that a list of numbers begins with.
+-- ---- The slope that the numbers begin with.
 
 abbrev pub slope_of : ℕ × (Bool × ℕ) → SlopeParts
 slope_of n = slope_parts n.0 n.1.0 n.1.1
 
-unfoldable pub slope_from : List ℕ → Option (SlopeParts × List ℕ)
+unfoldable pub slope_from : Left → Option (SlopeParts × Left)
 slope_from = form_from slope_of (both_from (next_number D_GRADIENT) (both_from next_flag (next_number G_A)))
 
 -- ---- A slope is what its row spells.
@@ -54,3 +52,11 @@ slope_codes =
       so = λ v h. rw (h.0, h.1.1) refl;
       same = λ p. refl;
     })
+
+-- ---- Its bits.
+
+pub slope_bits : (p : SlopeParts) → 24 ≡ length (spelled (slope_reading p))
+slope_bits p = rw (bit_count_is (slope_reading p)) refl
+
+pub slope_most : (p : SlopeParts) → bit_count (slope_reading p) ≤ 24
+slope_most p = omega arith

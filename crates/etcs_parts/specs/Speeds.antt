@@ -1,18 +1,18 @@
 -- A speed of packet 27, with the speeds for some trains that differ from it.
-use Rattle.std.proofs.Common.{◌≡◌, ℕ, ◌+◌, ◌*◌, ◌≤◌, Bool, List, ◌∷◌, length, Option, None, refl, ap, arith}
-use Rattle.std.specs.Prelude.{All, flat_map}
+use Rattle.std.proofs.Common.{◌≡◌, ℕ, ◌+◌, ◌*◌, ◌≤◌, Bool, List, ◌∷◌, length, Option, None, refl, ◌∙◌, arith}
+use Rattle.std.specs.Prelude.{All}
 use Rattle.etcs_bits.specs.Bits.{bit}
 use Rattle.etcs_vars.specs.declared.var.Var.TheVariants.{D_STATIC, V_STATIC, Q_FRONT, N_ITER}
 use Rattle.etcs_vars.specs.declared.fault.BuildFault.{BuildFault}
-use Rattle.etcs_vars.specs.Reading.{Reading, numbers}
+use Rattle.etcs_vars.specs.Reading.{Reading, spelled}
 use Rattle.etcs_rows.specs.Rows.{speed}
 use Rattle.etcs_parts.specs.Faults.{◌or_else◌, number_fault, count_fault}
-use Rattle.etcs_parts.specs.Taking.{next_number, next_flag}
+use Rattle.etcs_parts.specs.Taking.{Left, next_number, next_flag}
 use Rattle.etcs_parts.specs.Takes.{none_of}
 use Rattle.etcs_parts.specs.Codecs.{Codes, number, flag, both, both_from, list, list_reading, list_from, form, form_from}
-use Rattle.etcs_parts.specs.Differings.{DifferingParts, IsDiffering, differing_reading, differing_fields, differing_from, differing_codes, differing_bits}
-use Rattle.etcs_parts.specs.Choices.{counted_is, few_counted, bit_count-same}
-use Rattle.etcs_parts.specs.Repeats.{numbers_flat, bit_count}
+use Rattle.etcs_parts.specs.Differings.{DifferingParts, IsDiffering, differing_reading, differing_from, differing_codes, differing_bits}
+use Rattle.etcs_parts.specs.Choices.{few_counted, bit_count-same}
+use Rattle.etcs_parts.specs.Repeats.{bit_count, bit_count_is}
 
 pub record SpeedParts : Type 0 where
   pub d_static : ℕ
@@ -35,15 +35,12 @@ pub record IsSpeed (s : SpeedParts) : Type 0 where
 abbrev pub speed_reading : SpeedParts → Reading
 speed_reading s = (D_STATIC, s.d_static) ∷ (V_STATIC, s.v_static) ∷ (Q_FRONT, bit s.q_front) ∷ list_reading N_ITER differing_reading s.differing
 
-abbrev pub speed_fields : SpeedParts → List ℕ
-speed_fields s = numbers (speed_reading s)
-
--- ---- The speed that a list of numbers begins with.
+-- ---- The speed that the numbers begin with.
 
 abbrev pub speed_of : ℕ × (ℕ × (Bool × List DifferingParts)) → SpeedParts
 speed_of n = speed_parts n.0 n.1.0 n.1.1.0 n.1.1.1
 
-unfoldable pub speed_from : List ℕ → Option (SpeedParts × List ℕ)
+unfoldable pub speed_from : Left → Option (SpeedParts × Left)
 speed_from = form_from speed_of (
     both_from (next_number D_STATIC) (
     both_from (next_number V_STATIC) (
@@ -75,14 +72,6 @@ speed_codes =
       same = λ s. refl;
     })
 
--- ---- What the code reads and writes.
-
-pub speed_read : (d v n : ℕ) (q : Bool) (differing : List DifferingParts) → number_fault D_STATIC d ≡ None → number_fault V_STATIC v ≡ None → number_fault N_ITER n ≡ None → length differing ≡ n → All IsDiffering differing → IsSpeed (speed_parts d v q differing)
-speed_read d v n q differing hd hv hn many all = record { faultless = rw (hd, hv, counted_is N_ITER n (length differing) hn many) refl; differing = all }
-
-pub speed_fields_are : (s : SpeedParts) → speed_fields s ≡ s.d_static ∷ s.v_static ∷ bit s.q_front ∷ length s.differing ∷ flat_map differing_fields s.differing
-speed_fields_are s = ap (λ (t : List ℕ). s.d_static ∷ s.v_static ∷ bit s.q_front ∷ length s.differing ∷ t) (numbers_flat differing_reading s.differing)
-
 -- ---- Its bits.
 
 pub speed_bits : (s : SpeedParts) → bit_count (speed_reading s) ≡ 28 + 13 * length s.differing
@@ -90,3 +79,6 @@ speed_bits s = let entries = bit_count-same differing_reading 13 differing_bits 
 
 pub few_entries : (s : SpeedParts) → speed_fault s ≡ None → length s.differing ≤ 31
 few_entries s h = few_counted (length s.differing) (facts s h).2
+
+pub speed_spelled : (s : SpeedParts) → length (spelled (speed_reading s)) ≡ 28 + 13 * length s.differing
+speed_spelled s = bit_count_is (speed_reading s) ∙ speed_bits s

@@ -1,20 +1,20 @@
 -- All of a text message but the text itself (packets 72 and 76).
-use Rattle.std.proofs.Common.{◌≡◌, ℕ, Bool, List, [], ◌∷◌, ◌++◌, Option, Some, None, refl, ap}
+use Rattle.std.proofs.Common.{◌≡◌, ℕ, Bool, [], ◌∷◌, ◌++◌, ◌+◌, ◌≤◌, length, Option, Some, None, refl, ap, arith}
 use Rattle.std.specs.Option.{is_some}
-use Rattle.std.proofs.lemmas.List.{map-append}
+use Rattle.etcs_parts.specs.Repeats.{bit_count, bit_count_is, bit_count-append}
 use Rattle.etcs_bits.specs.Bits.{bit}
 use Rattle.etcs_vars.specs.declared.var.Var.TheVariants.{Q_SCALE, Q_TEXTCLASS, Q_TEXTDISPLAY, D_TEXTDISPLAY, L_TEXTDISPLAY, T_TEXTDISPLAY, Q_TEXTCONFIRM, Q_CONFTEXTDISPLAY, Q_TEXTREPORT, NID_TEXTMESSAGE, NID_C, NID_RBC}
 use Rattle.etcs_vars.specs.declared.fault.BuildFault.{BuildFault}
-use Rattle.etcs_vars.specs.Reading.{Sent, Reading, numbers}
+use Rattle.etcs_vars.specs.Reading.{Reading, spelled}
 use Rattle.etcs_rows.specs.declared.item.Test.TheVariants.{IsNotZero}
 use Rattle.etcs_rows.specs.Layouts.{Layout, whole, guarded, passes}
 use Rattle.etcs_rows.specs.Rows.{◌▸◌, is_one, text_frame}
 use Rattle.etcs_parts.specs.Faults.{◌or_else◌, number_fault}
 use Rattle.etcs_parts.specs.Takes.{none_of}
-use Rattle.etcs_parts.specs.Taking.{next_number, next_flag}
+use Rattle.etcs_parts.specs.Taking.{Left, next_number, next_flag}
 use Rattle.etcs_parts.specs.Codecs.{Codes, number, flag, both, both_from, IsOptional, optional, optional_from, optional_reading, group_of, group_from, form, form_from}
 use Rattle.etcs_parts.specs.Guards.{guard_fault, group_is, group_gives, optional_group, group_reading_is}
-use Rattle.etcs_parts.specs.Displays.{ShownParts, IsShown, shown_reading, shown_fields, shown_from, shown_codes}
+use Rattle.etcs_parts.specs.Displays.{ShownParts, IsShown, shown_reading, shown_from, shown_codes, shown_small}
 
 -- ---- To whom the confirmation is reported: NID_TEXTMESSAGE, NID_C and NID_RBC.
 
@@ -30,16 +30,13 @@ IsReport r = report_fault r ≡ None
 abbrev pub report_reading : Report → Reading
 report_reading r = (NID_TEXTMESSAGE, r.0) ∷ (NID_C, r.1) ∷ (NID_RBC, r.2) ∷ []
 
-abbrev pub report_fields : Report → List ℕ
-report_fields r = numbers (report_reading r)
-
 abbrev pub report_row : Layout → Layout
 report_row rest = NID_TEXTMESSAGE ▸ NID_C ▸ NID_RBC ▸ rest
 
 abbrev pub report_of : ℕ × (ℕ × ℕ) → Report
 report_of n = (n.0, n.1.0, n.1.1)
 
-unfoldable pub report_from : List ℕ → Option (Report × List ℕ)
+unfoldable pub report_from : Left → Option (Report × Left)
 report_from = form_from report_of (both_from (next_number NID_TEXTMESSAGE) (both_from (next_number NID_C) (next_number NID_RBC)))
 
 pub report_codes : Codes report_row IsReport report_reading report_from
@@ -79,16 +76,13 @@ reported (Some report) = (Q_TEXTREPORT, 1) ∷ report_reading report
 abbrev pub confirm_reading : Confirm → Reading
 confirm_reading c = (Q_CONFTEXTDISPLAY, bit c.0) ∷ reported c.1
 
-abbrev pub confirm_fields : Confirm → List ℕ
-confirm_fields c = numbers (confirm_reading c)
-
 abbrev pub confirm_row : Layout → Layout
 confirm_row rest = Q_CONFTEXTDISPLAY ▸ Q_TEXTREPORT ▸ guarded (is_one Q_TEXTREPORT) (report_row whole) rest
 
 abbrev pub confirm_of : Bool × Option Report → Confirm
 confirm_of n = (n.0, n.1)
 
-unfoldable pub confirm_from : List ℕ → Option (Confirm × List ℕ)
+unfoldable pub confirm_from : Left → Option (Confirm × Left)
 confirm_from = form_from confirm_of (both_from next_flag (optional_from report_from))
 
 report_is : (shown : Bool) (o : Option Report) → IsConfirm (shown, o) → IsOptional IsReport o
@@ -124,10 +118,7 @@ confirmed_fault n o = number_fault Q_TEXTCONFIRM n or_else guard_fault Q_TEXTCON
 abbrev pub confirmed_reading : ℕ → Option Confirm → Reading
 confirmed_reading n o = (Q_TEXTCONFIRM, n) ∷ optional_group confirm_reading o
 
-abbrev pub confirmed_fields : ℕ → Option Confirm → List ℕ
-confirmed_fields n o = numbers (confirmed_reading n o)
-
-unfoldable pub confirmed_from : List ℕ → Option ((ℕ × Option Confirm) × List ℕ)
+unfoldable pub confirmed_from : Left → Option ((ℕ × Option Confirm) × Left)
 confirmed_from = group_from Q_TEXTCONFIRM IsNotZero confirm_from
 
 -- ---- The whole.
@@ -177,13 +168,10 @@ text_frame_reading t =
     ∷ (shown_reading t.start ++ (L_TEXTDISPLAY, t.l_textdisplay) ∷ (T_TEXTDISPLAY, t.t_textdisplay)
     ∷ (shown_reading t.end ++ confirmed_reading t.q_textconfirm t.confirm))
 
-abbrev pub text_frame_fields : TextFrameParts → List ℕ
-text_frame_fields t = numbers (text_frame_reading t)
-
 abbrev pub text_frame_of : ℕ × (ℕ × (Bool × (ℕ × (ShownParts × (ℕ × (ℕ × (ShownParts × (ℕ × Option Confirm)))))))) → TextFrameParts
 text_frame_of n = text_frame_parts n.0 n.1.0 n.1.1.0 n.1.1.1.0 n.1.1.1.1.0 n.1.1.1.1.1.0 n.1.1.1.1.1.1.0 n.1.1.1.1.1.1.1.0 n.1.1.1.1.1.1.1.1.0 n.1.1.1.1.1.1.1.1.1
 
-unfoldable pub text_frame_from : List ℕ → Option (TextFrameParts × List ℕ)
+unfoldable pub text_frame_from : Left → Option (TextFrameParts × Left)
 text_frame_from = form_from text_frame_of (
     both_from (next_number Q_SCALE) (
     both_from (next_number Q_TEXTCLASS) (
@@ -194,14 +182,6 @@ text_frame_from = form_from text_frame_of (
     both_from (next_number T_TEXTDISPLAY) (
     both_from shown_from (
     confirmed_from)))))))))
-
--- its numbers, by parts
-pub fields_are : (t : TextFrameParts) → text_frame_fields t ≡ t.q_scale ∷ t.q_textclass ∷ bit t.q_textdisplay ∷ t.d_textdisplay
-    ∷ (shown_fields t.start ++ t.l_textdisplay ∷ t.t_textdisplay ∷ (shown_fields t.end ++ confirmed_fields t.q_textconfirm t.confirm))
-fields_are t =
-    let start = map-append (λ (p : Sent). p.1) (shown_reading t.start) ((L_TEXTDISPLAY, t.l_textdisplay) ∷ (T_TEXTDISPLAY, t.t_textdisplay) ∷ (shown_reading t.end ++ confirmed_reading t.q_textconfirm t.confirm)) in
-    let end = map-append (λ (p : Sent). p.1) (shown_reading t.end) (confirmed_reading t.q_textconfirm t.confirm) in
-    rw (start, end) refl
 
 -- each of its numbers is admitted
 pub record TextFrameFacts (t : TextFrameParts) : Type 0 where
@@ -268,3 +248,32 @@ text_frame_codes =
           };
       same = λ t. rw (group_reading_is Q_TEXTCONFIRM confirm_reading t.q_textconfirm t.confirm) refl;
     })
+
+-- ---- Its bits.
+
+-- how many bits a confirmation takes with Q_TEXTCONFIRM
+abbrev pub confirmed_count : Option Confirm → ℕ
+confirmed_count None = 2
+confirmed_count (Some (shown, None)) = 4
+confirmed_count (Some (shown, Some report)) = 36
+
+confirmed_is : (n : ℕ) (o : Option Confirm) → bit_count (confirmed_reading n o) ≡ confirmed_count o
+confirmed_is n None = refl
+confirmed_is n (Some (shown, None)) = refl
+confirmed_is n (Some (shown, Some report)) = refl
+
+pub text_frame_bits : (t : TextFrameParts) → length (spelled (text_frame_reading t)) ≡ 45 + length (spelled (shown_reading t.start)) + length (spelled (shown_reading t.end)) + confirmed_count t.confirm
+text_frame_bits t =
+    let behind = confirmed_reading t.q_textconfirm t.confirm in
+    let end = bit_count-append (shown_reading t.end) behind in
+    let start = bit_count-append (shown_reading t.start) ((L_TEXTDISPLAY, t.l_textdisplay) ∷ (T_TEXTDISPLAY, t.t_textdisplay) ∷ (shown_reading t.end ++ behind)) in
+    let confirm = confirmed_is t.q_textconfirm t.confirm in
+    rw (bit_count_is (text_frame_reading t), bit_count_is (shown_reading t.start), bit_count_is (shown_reading t.end)) (omega arith)
+
+confirm_most : (o : Option Confirm) → confirmed_count o ≤ 36
+confirm_most None = omega arith
+confirm_most (Some (shown, None)) = omega arith
+confirm_most (Some (shown, Some report)) = omega arith
+
+pub text_frame_small : (t : TextFrameParts) → length (spelled (text_frame_reading t)) ≤ 111
+text_frame_small t = omega (arith, text_frame_bits t, shown_small t.start, shown_small t.end, confirm_most t.confirm)

@@ -1,21 +1,19 @@
 //! The sections of a movement authority, and what stands behind them.
 
-ghost use Rattle.std.specs.Prelude.{◌≡◌, ◌++◌, None, Some, IfOk, IfErr, IfSome, IfNone, OnOk, OnErr};
-ghost use Rattle.etcs_vars.specs.Reading.{numbers as numbers_of};
-ghost use Rattle.etcs_vars.specs.declared.var.Var.TheVariants.{N_ITER};
-ghost use Rattle.etcs_parts.specs.Codecs.{IsEntries, list_reading};
-ghost use Rattle.etcs_parts.specs.Sections.{IsSection, section_reading, end_fields};
-ghost use Rattle.etcs_parts.specs.Authorities.{sections_from, authority_parts, authority_fault, IsAuthority, authority_fields, authority_from};
+ghost use Rattle.std.specs.Prelude.{◌≡◌, ◌≤◌, ◌++◌, length, None, Some, IfOk, IfErr, IfSome, IfNone, OnOk};
+ghost use Rattle.etcs_vars.specs.Reading.{spelled};
+ghost use Rattle.etcs_parts.specs.Authorities.{authority_parts, authority_fault, IsAuthority, authority_from, end_timer_reading, danger_reading, overlap_reading};
 
 use crate::authority_groups::{
-    append_danger_point, append_end_timer, append_overlap, check_danger_point, check_end_timer,
-    check_overlap, take_danger_point, take_end_timer, take_overlap,
+    check_danger_point, check_end_timer, check_overlap, send_danger_point, send_end_timer,
+    send_overlap, take_danger_point, take_end_timer, take_overlap,
 };
 use crate::faults::check_count;
 use crate::items::Items;
 use crate::numbers::Numbers;
-use crate::part::{Part, append_all, hold_all, take_all};
+use crate::part::{Part, clone_all, hold_all, send_list, take_list};
 use crate::section::Section;
+use etcs_vars::parts::{Sink, Variables, bits_of_all};
 use etcs_vars::{BuildFault, Var};
 use std::alloc::{AllocError, Global};
 use std::marker::Model;
@@ -126,6 +124,18 @@ impl Authority {
     {
         self.overlap
     }
+
+    /// How many bits its groups behind flags take.
+    #[tactic(auto, using(crate::specs::Authorities::groups_bits))]
+    fn group_bits(&self) -> usize
+        ensures bits { result ≡ length (spelled (end_timer_reading self.now.end_timer ++ (danger_reading self.now.danger_point ++ overlap_reading self.now.overlap))) }
+        ensures small { result ≤ 97 }
+    {
+        let end_timer = if self.end_timer.is_some() { 26 } else { 1 };
+        let danger_point = if self.danger_point.is_some() { 23 } else { 1 };
+        let overlap = if self.overlap.is_some() { 48 } else { 1 };
+        end_timer + danger_point + overlap
+    }
 }
 
 /// The first fault of an authority of these parts.
@@ -148,65 +158,59 @@ fn faultless(
     Ok(())
 }
 
-impl Part for Authority {
-    ghost use Rattle.etcs_parts.specs.Authorities.{IsAuthority, authority_fields, authority_from, authority_codes};
+impl Variables for Authority {
+    ghost use Rattle.etcs_parts.specs.Authorities.{authority_reading};
 
-    ghost fields_of = { λ a. authority_fields a };
+    ghost reading_of = { λ a. authority_reading a };
+
+    #[tactic(auto, using(crate::specs::Authorities::authority_bits))]
+    fn bits(&self) -> usize {
+        5 + bits_of_all(self.sections.as_slice()) + self.end.bits() + self.group_bits()
+    }
+
+    fn send<S: Sink>(&self, out: &mut S) -> Result<(), AllocError> {
+        send_list(Var::N_ITER, self.sections.as_slice(), out)?;
+        self.end.send_end(out)?;
+        send_end_timer(self.end_timer, out)?;
+        send_danger_point(self.danger_point, out)?;
+        send_overlap(self.overlap, out)
+    }
+}
+
+impl Part for Authority {
+    ghost use Rattle.etcs_parts.specs.Authorities.{IsAuthority, authority_from};
 
     ghost read_from = { authority_from };
 
     ghost is_part = { λ a. IsAuthority a };
 
-    ghost complete = { λ p f h. authority_codes.complete p f h };
-
     fn holds(&self) {
         let _ = &self.end_timer;
-    }
-
-    fn append(&self, out: &mut Vec<u64>) -> Result<(), AllocError> {
-        let before = out.len();
-        let done = append_sections(self.sections.as_slice(), out).is_ok()
-            && self.end.append_numbers(out).is_ok()
-            && append_end_timer(self.end_timer, out).is_ok()
-            && append_danger_point(self.danger_point, out).is_ok()
-            && append_overlap(self.overlap, out).is_ok();
-        if done {
-            return Ok(());
-        }
-        out.truncate(before);
-        Err(AllocError)
     }
 
     fn take(alloc: Global, numbers: &mut Numbers) -> Result<Option<Authority>, AllocError> {
         read_authority(alloc, numbers)
     }
-}
 
-/// Appends the numbers of the sections behind their count.
-fn append_sections(sections: &[Section], out: &mut Vec<u64>) -> Result<(), AllocError>
-    ensures ok { OnOk result (out.new.items ≡ out.old.items ++ numbers_of (list_reading N_ITER section_reading sections.now)) }
-    ensures err { OnErr result (out.new.items ≡ out.old.items) }
-{
-    let before = out.len();
-    out.push(sections.len() as u64)?;
-    match append_all(sections, out) {
-        Ok(()) => Ok(()),
-        Err(refused) => {
-            out.truncate(before);
-            Err(refused)
-        }
+    fn try_clone(&self, alloc: Global) -> Result<Authority, AllocError> {
+        Ok(Authority {
+            end_timer: self.end_timer,
+            danger_point: self.danger_point,
+            overlap: self.overlap,
+            end: self.end,
+            sections: Items::from_vec(clone_all(alloc, self.sections.as_slice())?),
+        })
     }
 }
 
 /// The authority that the numbers begin with.
-#[tactic(auto, unfolding(crate::specs::Authorities::authority_from))]
+#[tactic(auto, unfolding(crate::specs::Authorities::authority_from, crate::specs::Authorities::sections_from))]
 fn read_authority(alloc: Global, numbers: &mut Numbers) -> Result<Option<Authority>, AllocError>
-    ensures some { IfOk result (λ o. IfSome o (λ a. numbers.old ≡ authority_fields a ++ numbers.new)) }
     ensures part { IfOk result (λ o. IfSome o (λ a. IsAuthority a)) }
     ensures from { IfOk result (λ o. IfSome o (λ a. authority_from numbers.old ≡ Some (a, numbers.new))) }
     ensures none { IfOk result (λ o. IfNone o (authority_from numbers.old ≡ None)) }
 {
-    let Some(sections) = take_sections(alloc, numbers)? else {
+    let Some(sections) = take_list(alloc, Var::N_ITER, numbers)? else {
         return Ok(None);
     };
     let Some(end) = Section::end_from_numbers(numbers) else {
@@ -228,21 +232,4 @@ fn read_authority(alloc: Global, numbers: &mut Numbers) -> Result<Option<Authori
         end,
         sections: Items::from_vec(sections),
     }))
-}
-
-/// The sections that the numbers begin with, behind their count.
-#[tactic(auto, unfolding(crate::specs::Authorities::sections_from), using(crate::specs::Authorities::sections_numbers, crate::specs::Authorities::sections_entries))]
-fn take_sections(alloc: Global, numbers: &mut Numbers) -> Result<Option<Vec<Section>>, AllocError>
-    ensures some { IfOk result (λ o. IfSome o (λ l. numbers.old ≡ numbers_of (list_reading N_ITER section_reading l.items) ++ numbers.new)) }
-    ensures part { IfOk result (λ o. IfSome o (λ l. IsEntries N_ITER IsSection l.items)) }
-    ensures from { IfOk result (λ o. IfSome o (λ l. sections_from numbers.old ≡ Some (l.items, numbers.new))) }
-    ensures none { IfOk result (λ o. IfNone o (sections_from numbers.old ≡ None)) }
-{
-    let Some(count) = numbers.next(Var::N_ITER) else {
-        return Ok(None);
-    };
-    let Some(sections) = take_all(alloc, numbers, count as usize)? else {
-        return Ok(None);
-    };
-    Ok(Some(sections))
 }

@@ -1,12 +1,12 @@
 //! The groups behind flags of a movement authority: the end section's timer, the danger point and the
 //! overlap.
 
-ghost use Rattle.std.specs.Prelude.{◌≡◌, ◌++◌, None, Some, IfErr, IfSome, IfNone, OnOk, OnErr};
-ghost use Rattle.etcs_vars.specs.Reading.{numbers as numbers_of};
+ghost use Rattle.std.specs.Prelude.{◌≡◌, None, Some, IfErr, IfSome, IfNone, OnOk, OnErr};
 ghost use Rattle.etcs_parts.specs.Authorities.{end_timer_fault, end_timer_reading, end_timer_from, danger_fault, danger_reading, danger_from, overlap_fault, overlap_reading, overlap_from};
 
 use crate::faults::check;
 use crate::numbers::Numbers;
+use etcs_vars::parts::Sink;
 use etcs_vars::{BuildFault, Var};
 use std::alloc::AllocError;
 
@@ -22,25 +22,27 @@ pub(crate) fn check_end_timer(end_timer: Option<(u16, u16)>) -> Result<(), Build
     Ok(())
 }
 
-/// Appends the numbers of the timer, with its flag.
-pub(crate) fn append_end_timer(
+/// Sends the timer of the end section, behind its flag.
+pub(crate) fn send_end_timer<S: Sink>(
     end_timer: Option<(u16, u16)>,
-    out: &mut Vec<u64>,
+    out: &mut S,
 ) -> Result<(), AllocError>
-    ensures ok { OnOk result (out.new.items ≡ out.old.items ++ numbers_of (end_timer_reading end_timer)) }
-    ensures err { OnErr result (out.new.items ≡ out.old.items) }
+    ensures ok { OnOk result (out.new ≡ S.with out.old (end_timer_reading end_timer)) }
+    ensures err { OnErr result (S.failed out.old out.new) }
 {
     match end_timer {
-        None => out.push(0)?,
-        Some((time, start)) => out.extend_from_slice(&[1, u64::from(time), u64::from(start)])?,
+        None => out.send(&[(Var::Q_ENDTIMER, 0)]),
+        Some((time, start)) => out.send(&[
+            (Var::Q_ENDTIMER, 1),
+            (Var::T_ENDTIMER, u64::from(time)),
+            (Var::D_ENDTIMERSTARTLOC, u64::from(start)),
+        ]),
     }
-    Ok(())
 }
 
 /// The timer of the end section that the numbers begin with, behind its flag.
 #[tactic(auto, unfolding(crate::specs::Authorities::end_timer_from))]
 pub(crate) fn take_end_timer(numbers: &mut Numbers) -> Option<Option<(u16, u16)>>
-    ensures some { IfSome result (λ t. numbers.old ≡ numbers_of (end_timer_reading t) ++ numbers.new) }
     ensures part { IfSome result (λ t. end_timer_fault t ≡ None) }
     ensures from { IfSome result (λ t. end_timer_from numbers.old ≡ Some (t, numbers.new)) }
     ensures none { IfNone result (end_timer_from numbers.old ≡ None) }
@@ -65,27 +67,27 @@ pub(crate) fn check_danger_point(danger_point: Option<(u16, u8)>) -> Result<(), 
     Ok(())
 }
 
-/// Appends the numbers of the danger point, with its flag.
-pub(crate) fn append_danger_point(
+/// Sends the danger point, behind its flag.
+pub(crate) fn send_danger_point<S: Sink>(
     danger_point: Option<(u16, u8)>,
-    out: &mut Vec<u64>,
+    out: &mut S,
 ) -> Result<(), AllocError>
-    ensures ok { OnOk result (out.new.items ≡ out.old.items ++ numbers_of (danger_reading danger_point)) }
-    ensures err { OnErr result (out.new.items ≡ out.old.items) }
+    ensures ok { OnOk result (out.new ≡ S.with out.old (danger_reading danger_point)) }
+    ensures err { OnErr result (S.failed out.old out.new) }
 {
     match danger_point {
-        None => out.push(0)?,
-        Some((distance, speed)) => {
-            out.extend_from_slice(&[1, u64::from(distance), u64::from(speed)])?
-        }
+        None => out.send(&[(Var::Q_DANGERPOINT, 0)]),
+        Some((distance, speed)) => out.send(&[
+            (Var::Q_DANGERPOINT, 1),
+            (Var::D_DP, u64::from(distance)),
+            (Var::V_RELEASEDP, u64::from(speed)),
+        ]),
     }
-    Ok(())
 }
 
 /// The danger point that the numbers begin with, behind its flag.
 #[tactic(auto, unfolding(crate::specs::Authorities::danger_from))]
 pub(crate) fn take_danger_point(numbers: &mut Numbers) -> Option<Option<(u16, u8)>>
-    ensures some { IfSome result (λ p. numbers.old ≡ numbers_of (danger_reading p) ++ numbers.new) }
     ensures part { IfSome result (λ p. danger_fault p ≡ None) }
     ensures from { IfSome result (λ p. danger_from numbers.old ≡ Some (p, numbers.new)) }
     ensures none { IfNone result (danger_from numbers.old ≡ None) }
@@ -112,31 +114,29 @@ pub(crate) fn check_overlap(overlap: Option<(u16, u16, u16, u8)>) -> Result<(), 
     Ok(())
 }
 
-/// Appends the numbers of the overlap, with its flag.
-pub(crate) fn append_overlap(
+/// Sends the overlap, behind its flag.
+pub(crate) fn send_overlap<S: Sink>(
     overlap: Option<(u16, u16, u16, u8)>,
-    out: &mut Vec<u64>,
+    out: &mut S,
 ) -> Result<(), AllocError>
-    ensures ok { OnOk result (out.new.items ≡ out.old.items ++ numbers_of (overlap_reading overlap)) }
-    ensures err { OnErr result (out.new.items ≡ out.old.items) }
+    ensures ok { OnOk result (out.new ≡ S.with out.old (overlap_reading overlap)) }
+    ensures err { OnErr result (S.failed out.old out.new) }
 {
     match overlap {
-        None => out.push(0)?,
-        Some((start, time, distance, speed)) => out.extend_from_slice(&[
-            1,
-            u64::from(start),
-            u64::from(time),
-            u64::from(distance),
-            u64::from(speed),
-        ])?,
+        None => out.send(&[(Var::Q_OVERLAP, 0)]),
+        Some((start, time, distance, speed)) => out.send(&[
+            (Var::Q_OVERLAP, 1),
+            (Var::D_STARTOL, u64::from(start)),
+            (Var::T_OL, u64::from(time)),
+            (Var::D_OL, u64::from(distance)),
+            (Var::V_RELEASEOL, u64::from(speed)),
+        ]),
     }
-    Ok(())
 }
 
 /// The overlap that the numbers begin with, behind its flag.
 #[tactic(auto, unfolding(crate::specs::Authorities::overlap_from))]
 pub(crate) fn take_overlap(numbers: &mut Numbers) -> Option<Option<(u16, u16, u16, u8)>>
-    ensures some { IfSome result (λ o. numbers.old ≡ numbers_of (overlap_reading o) ++ numbers.new) }
     ensures part { IfSome result (λ o. overlap_fault o ≡ None) }
     ensures from { IfSome result (λ o. overlap_from numbers.old ≡ Some (o, numbers.new)) }
     ensures none { IfNone result (overlap_from numbers.old ≡ None) }

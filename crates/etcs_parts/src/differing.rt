@@ -6,6 +6,7 @@ ghost use Rattle.etcs_parts.specs.Differings.{category_of};
 use crate::faults::check;
 use crate::numbers::Numbers;
 use crate::part::Part;
+use etcs_vars::parts::{Sink, Variables};
 use etcs_vars::{BuildFault, Var};
 use std::alloc::{AllocError, Global};
 use std::marker::Model;
@@ -31,7 +32,7 @@ impl Model for Differing {
 }
 
 impl Differing {
-    ghost use Rattle.etcs_parts.specs.Differings.{differing_parts, differing_fault, IsDiffering, differing_fields, differing_from};
+    ghost use Rattle.etcs_parts.specs.Differings.{differing_parts, differing_fault, IsDiffering, differing_from};
 
     /// A speed for the trains of a category.
     ///
@@ -82,7 +83,6 @@ impl Differing {
     /// The entry that the numbers begin with.
     #[tactic(auto, unfolding(crate::specs::Differings::differing_from))]
     fn from_numbers(numbers: &mut Numbers) -> Option<Differing>
-        ensures some { IfSome result (λ d. numbers.old ≡ differing_fields d ++ numbers.new) }
         ensures part { IfSome result (λ d. IsDiffering d) }
         ensures from { IfSome result (λ d. differing_from numbers.old ≡ Some (d, numbers.new)) }
         ensures none { IfNone result (differing_from numbers.old ≡ None) }
@@ -113,31 +113,41 @@ fn category_var(q_diff: u8) -> Var
     }
 }
 
-impl Part for Differing {
-    ghost use Rattle.etcs_parts.specs.Differings.{IsDiffering, differing_fields, differing_from, differing_codes};
+impl Variables for Differing {
+    ghost use Rattle.etcs_parts.specs.Differings.{differing_reading};
 
-    ghost fields_of = { λ d. differing_fields d };
+    ghost reading_of = { λ d. differing_reading d };
+
+    #[tactic(auto, using(crate::specs::Differings::differing_spelled))]
+    fn bits(&self) -> usize {
+        13
+    }
+
+    fn send<S: Sink>(&self, out: &mut S) -> Result<(), AllocError> {
+        out.send(&[
+            (Var::Q_DIFF, u64::from(self.q_diff)),
+            (category_var(self.q_diff), u64::from(self.category)),
+            (Var::V_DIFF, u64::from(self.v_diff)),
+        ])
+    }
+}
+
+impl Part for Differing {
+    ghost use Rattle.etcs_parts.specs.Differings.{differing_from, IsDiffering};
 
     ghost read_from = { differing_from };
 
     ghost is_part = { λ d. IsDiffering d };
 
-    ghost complete = { λ p f h. differing_codes.complete p f h };
-
     fn holds(&self) {
         let _ = &self.q_diff;
     }
 
-    fn append(&self, out: &mut Vec<u64>) -> Result<(), AllocError> {
-        out.extend_from_slice(&[
-            u64::from(self.q_diff),
-            u64::from(self.category),
-            u64::from(self.v_diff),
-        ])?;
-        Ok(())
-    }
-
     fn take(_alloc: Global, numbers: &mut Numbers) -> Result<Option<Differing>, AllocError> {
         Ok(Differing::from_numbers(numbers))
+    }
+
+    fn try_clone(&self, _alloc: Global) -> Result<Differing, AllocError> {
+        Ok(*self)
     }
 }

@@ -6,6 +6,7 @@ use crate::faults::check;
 use crate::guards::check_guard;
 use crate::numbers::Numbers;
 use crate::part::Part;
+use etcs_vars::parts::{Sink, Variables};
 use etcs_vars::{BuildFault, Var};
 use std::alloc::{AllocError, Global};
 use std::marker::Model;
@@ -30,7 +31,7 @@ impl Model for Level {
 }
 
 impl Level {
-    ghost use Rattle.etcs_parts.specs.Levels.{level_parts, level_fault, IsLevel, level_fields, level_from};
+    ghost use Rattle.etcs_parts.specs.Levels.{level_parts, level_fault, IsLevel, level_from};
 
     /// A level.
     ///
@@ -71,7 +72,6 @@ impl Level {
     /// The level that the numbers begin with.
     #[tactic(auto, using(crate::specs::Guards::guard_ok), unfolding(crate::specs::Levels::level_from, crate::specs::Guards::guard_fault))]
     pub(crate) fn from_numbers(numbers: &mut Numbers) -> Option<Level>
-        ensures some { IfSome result (λ l. numbers.old ≡ level_fields l ++ numbers.new) }
         ensures part { IfSome result (λ l. IsLevel l) }
         ensures from { IfSome result (λ l. level_from numbers.old ≡ Some (l, numbers.new)) }
         ensures none { IfNone result (level_from numbers.old ≡ None) }
@@ -86,30 +86,46 @@ impl Level {
     }
 }
 
-impl Part for Level {
-    ghost use Rattle.etcs_parts.specs.Levels.{IsLevel, level_fields, level_from, level_codes};
+impl Variables for Level {
+    ghost use Rattle.etcs_parts.specs.Levels.{level_reading};
 
-    ghost fields_of = { λ l. level_fields l };
+    ghost reading_of = { λ p. level_reading p };
+
+    #[tactic(auto, using(crate::specs::Repeats::bit_count_is))]
+    fn bits(&self) -> usize {
+        match self.nid_ntc {
+            None => 3,
+            Some(_) => 11,
+        }
+    }
+
+    fn send<S: Sink>(&self, out: &mut S) -> Result<(), AllocError> {
+        match self.nid_ntc {
+            None => out.send(&[(Var::M_LEVELTR, u64::from(self.m_leveltr))]),
+            Some(system) => out.send(&[
+                (Var::M_LEVELTR, u64::from(self.m_leveltr)),
+                (Var::NID_NTC, u64::from(system)),
+            ]),
+        }
+    }
+}
+
+impl Part for Level {
+    ghost use Rattle.etcs_parts.specs.Levels.{level_from, IsLevel};
 
     ghost read_from = { level_from };
 
-    ghost is_part = { λ l. IsLevel l };
-
-    ghost complete = { λ p f h. level_codes.complete p f h };
+    ghost is_part = { λ p. IsLevel p };
 
     fn holds(&self) {
         let _ = &self.m_leveltr;
     }
 
-    fn append(&self, out: &mut Vec<u64>) -> Result<(), AllocError> {
-        match self.nid_ntc {
-            None => out.push(u64::from(self.m_leveltr))?,
-            Some(system) => out.extend_from_slice(&[u64::from(self.m_leveltr), u64::from(system)])?,
-        }
-        Ok(())
-    }
-
     fn take(_alloc: Global, numbers: &mut Numbers) -> Result<Option<Level>, AllocError> {
         Ok(Level::from_numbers(numbers))
+    }
+
+    fn try_clone(&self, _alloc: Global) -> Result<Level, AllocError> {
+        Ok(*self)
     }
 }

@@ -6,6 +6,7 @@ use crate::faults::check;
 use crate::level::Level;
 use crate::numbers::Numbers;
 use crate::part::Part;
+use etcs_vars::parts::{Sink, Variables};
 use etcs_vars::{BuildFault, Var};
 use std::alloc::{AllocError, Global};
 use std::marker::Model;
@@ -32,7 +33,7 @@ impl Model for LevelAck {
 }
 
 impl LevelAck {
-    ghost use Rattle.etcs_parts.specs.Levels.{level_ack_parts, level_ack_fault, IsLevelAck, level_ack_fields, level_ack_from};
+    ghost use Rattle.etcs_parts.specs.Levels.{level_ack_parts, level_ack_fault, IsLevelAck, level_ack_from};
 
     /// A level and its length of acknowledgement.
     ///
@@ -89,7 +90,6 @@ impl LevelAck {
     /// The level that the numbers begin with.
     #[tactic(auto, unfolding(crate::specs::Levels::level_ack_from))]
     fn from_numbers(numbers: &mut Numbers) -> Option<LevelAck>
-        ensures some { IfSome result (λ l. numbers.old ≡ level_ack_fields l ++ numbers.new) }
         ensures part { IfSome result (λ l. IsLevelAck l) }
         ensures from { IfSome result (λ l. level_ack_from numbers.old ≡ Some (l, numbers.new)) }
         ensures none { IfNone result (level_ack_from numbers.old ≡ None) }
@@ -103,32 +103,38 @@ impl LevelAck {
     }
 }
 
-impl Part for LevelAck {
-    ghost use Rattle.etcs_parts.specs.Levels.{IsLevelAck, level_ack_fields, level_ack_from, level_ack_codes};
+impl Variables for LevelAck {
+    ghost use Rattle.etcs_parts.specs.Levels.{level_ack_reading};
 
-    ghost fields_of = { λ l. level_ack_fields l };
+    ghost reading_of = { λ p. level_ack_reading p };
+
+    #[tactic(auto, using(crate::specs::Repeats::bit_count_is))]
+    fn bits(&self) -> usize {
+        self.level.bits() + 15
+    }
+
+    fn send<S: Sink>(&self, out: &mut S) -> Result<(), AllocError> {
+        self.level.send(out)?;
+        out.send(&[(Var::L_ACKLEVELTR, u64::from(self.l_ackleveltr))])
+    }
+}
+
+impl Part for LevelAck {
+    ghost use Rattle.etcs_parts.specs.Levels.{level_ack_from, IsLevelAck};
 
     ghost read_from = { level_ack_from };
 
-    ghost is_part = { λ l. IsLevelAck l };
-
-    ghost complete = { λ p f h. level_ack_codes.complete p f h };
+    ghost is_part = { λ p. IsLevelAck p };
 
     fn holds(&self) {
         let _ = &self.l_ackleveltr;
     }
 
-    fn append(&self, out: &mut Vec<u64>) -> Result<(), AllocError> {
-        let before = out.len();
-        self.level.append(out)?;
-        if out.push(u64::from(self.l_ackleveltr)).is_err() {
-            out.truncate(before);
-            return Err(AllocError);
-        }
-        Ok(())
-    }
-
     fn take(_alloc: Global, numbers: &mut Numbers) -> Result<Option<LevelAck>, AllocError> {
         Ok(LevelAck::from_numbers(numbers))
+    }
+
+    fn try_clone(&self, _alloc: Global) -> Result<LevelAck, AllocError> {
+        Ok(*self)
     }
 }

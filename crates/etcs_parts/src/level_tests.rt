@@ -1,10 +1,8 @@
-//! Levels without and with their length of acknowledgement, built, written and read.
+//! Levels without and with their length of acknowledgement, built, sent and read.
 
 use crate::level::Level;
 use crate::level_ack::LevelAck;
-use crate::numbers::Numbers;
-use crate::part::Part;
-use crate::part_tests::{again, none};
+use crate::part_tests::{assert_part, none, none_in_bits};
 use etcs_vars::{BuildFault, Var};
 use std::test::Fail;
 
@@ -17,12 +15,24 @@ fn levels(rt: HostRuntime) -> Result<(), Fail> {
     let national = Level::new(1, Some(35))?;
     assert_eq!(rt; national.m_leveltr(), 1);
     assert_eq!(rt; national.nid_ntc(), Some(35));
-    assert!(rt; again(rt.alloc(), &national, &[1, 35])?);
-    for number in [0, 2, 3, 4] {
+    assert_part(
+        &rt,
+        rt.alloc(),
+        &national,
+        &[(Var::M_LEVELTR, 1), (Var::NID_NTC, 35)],
+        "001 00100011",
+    )?;
+    for (number, bits) in [(0, "000"), (2, "010"), (3, "011"), (4, "100")] {
         let level = Level::new(number, None)?;
         assert_eq!(rt; level.m_leveltr(), number);
         assert_eq!(rt; level.nid_ntc(), None);
-        assert!(rt; again(rt.alloc(), &level, &[u64::from(number)])?);
+        assert_part(
+            &rt,
+            rt.alloc(),
+            &level,
+            &[(Var::M_LEVELTR, u64::from(number))],
+            bits,
+        )?;
     }
     Ok(())
 }
@@ -38,27 +48,13 @@ fn refusals(rt: HostRuntime) {
 }
 
 #[test]
-fn numbers_of_no_level(rt: HostRuntime) -> Result<(), Fail> {
-    for numbers in [
-        [].as_slice(),
-        [5].as_slice(),
-        [7, 3].as_slice(),
-        [1].as_slice(),
-        [1, 256].as_slice(),
-    ] {
+fn no_level(rt: HostRuntime) -> Result<(), Fail> {
+    for numbers in [[5].as_slice(), [7, 3].as_slice(), [1, 256].as_slice()] {
         assert!(rt; none::<Level>(rt.alloc(), numbers)?, "{numbers:?}");
     }
-    Ok(())
-}
-
-// Where the guard doesn't hold, the next number isn't the level's.
-#[test]
-fn a_number_behind_a_level(rt: HostRuntime) -> Result<(), Fail> {
-    let numbers = [2, 35];
-    let mut left = Numbers::new(&numbers);
-    let level = Level::take(rt.alloc(), &mut left)?;
-    assert_eq!(rt; level, Some(Level::new(2, None)?));
-    assert_eq!(rt; left.next(Var::NID_NTC), Some(35));
+    for bits in ["101 00100011", "110 00100011", "111 00100011"] {
+        assert!(rt; none_in_bits::<Level>(rt.alloc(), bits)?, "{bits}");
+    }
     Ok(())
 }
 
@@ -68,10 +64,27 @@ fn levels_with_acknowledgement(rt: HostRuntime) -> Result<(), Fail> {
     assert_eq!(rt; national.m_leveltr(), 1);
     assert_eq!(rt; national.nid_ntc(), Some(99));
     assert_eq!(rt; national.l_ackleveltr(), 1500);
-    assert!(rt; again(rt.alloc(), &national, &[1, 99, 1500])?);
+    assert_part(
+        &rt,
+        rt.alloc(),
+        &national,
+        &[
+            (Var::M_LEVELTR, 1),
+            (Var::NID_NTC, 99),
+            (Var::L_ACKLEVELTR, 1500),
+        ],
+        "001 01100011 000010111011100",
+    )?;
     let other = LevelAck::new(3, None, 32767)?;
     assert_eq!(rt; other.nid_ntc(), None);
-    assert!(rt; again(rt.alloc(), &other, &[3, 32767])?);
+    assert_part(
+        &rt,
+        rt.alloc(),
+        &other,
+        &[(Var::M_LEVELTR, 3), (Var::L_ACKLEVELTR, 32767)],
+        "011 111111111111111",
+    )?;
+    assert!(rt; national != other);
     Ok(())
 }
 
@@ -86,18 +99,16 @@ fn refusals_with_acknowledgement(rt: HostRuntime) {
 }
 
 #[test]
-fn numbers_of_no_level_with_acknowledgement(rt: HostRuntime) -> Result<(), Fail> {
+fn no_level_with_acknowledgement(rt: HostRuntime) -> Result<(), Fail> {
     for numbers in [
-        [].as_slice(),
-        [1].as_slice(),
-        [1, 99].as_slice(),
         [1, 99, 32768].as_slice(),
         [1, 256, 1500].as_slice(),
-        [3].as_slice(),
         [3, 32768].as_slice(),
         [5, 1500].as_slice(),
     ] {
         assert!(rt; none::<LevelAck>(rt.alloc(), numbers)?, "{numbers:?}");
     }
+    let level_of_5 = "101 01100011 000010111011100";
+    assert!(rt; none_in_bits::<LevelAck>(rt.alloc(), level_of_5)?);
     Ok(())
 }

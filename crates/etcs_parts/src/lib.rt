@@ -18,7 +18,13 @@ mod level_tests;
 mod link;
 #[cfg(test)]
 mod link_tests;
+#[cfg(test)]
+mod list_tests;
+#[cfg(test)]
+mod memory_tests;
 mod numbers;
+#[cfg(test)]
+mod numbers_tests;
 mod part;
 #[cfg(test)]
 mod part_tests;
@@ -45,7 +51,7 @@ pub use level::Level;
 pub use level_ack::LevelAck;
 pub use link::Link;
 pub use numbers::Numbers;
-pub use part::{Part, append_all, hold_all, take_all};
+pub use part::{Part, clone_all, hold_all, send_list, take_list};
 pub use section::Section;
 pub use shown::Shown;
 pub use slope::Slope;

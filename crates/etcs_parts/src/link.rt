@@ -5,6 +5,7 @@ ghost use Rattle.std.specs.Prelude.{◌≡◌, ◌++◌, None, Some, IfOk, IfErr
 use crate::faults::check;
 use crate::numbers::Numbers;
 use crate::part::Part;
+use etcs_vars::parts::{Sink, Variables};
 use etcs_vars::{BuildFault, Var};
 use std::alloc::{AllocError, Global};
 use std::marker::Model;
@@ -33,7 +34,7 @@ impl Model for Link {
 }
 
 impl Link {
-    ghost use Rattle.etcs_parts.specs.Links.{link_parts, link_fault, IsLink, link_fields, link_from};
+    ghost use Rattle.etcs_parts.specs.Links.{link_parts, link_fault, IsLink, link_from};
 
     /// The group `d_link` behind the one before, in steps of Q_SCALE; `nid_c` is given where its country or
     /// region is another.
@@ -115,7 +116,6 @@ impl Link {
     /// The link that the numbers begin with.
     #[tactic(auto, unfolding(crate::specs::Links::link_from))]
     fn from_numbers(numbers: &mut Numbers) -> Option<Link>
-        ensures some { IfSome result (λ l. numbers.old ≡ link_fields l ++ numbers.new) }
         ensures part { IfSome result (λ l. IsLink l) }
         ensures from { IfSome result (λ l. link_from numbers.old ≡ Some (l, numbers.new)) }
         ensures none { IfNone result (link_from numbers.old ≡ None) }
@@ -141,45 +141,58 @@ impl Link {
     }
 }
 
-impl Part for Link {
-    ghost use Rattle.etcs_parts.specs.Links.{IsLink, link_fields, link_from, link_codes};
+impl Variables for Link {
+    ghost use Rattle.etcs_parts.specs.Links.{link_reading};
 
-    ghost fields_of = { λ l. link_fields l };
+    ghost reading_of = { λ l. link_reading l };
+
+    #[tactic(auto, using(crate::specs::Links::link_bits_near, crate::specs::Links::link_bits_far))]
+    fn bits(&self) -> usize {
+        match self.nid_c {
+            None => 39,
+            Some(_) => 49,
+        }
+    }
+
+    fn send<S: Sink>(&self, out: &mut S) -> Result<(), AllocError> {
+        match self.nid_c {
+            None => out.send(&[
+                (Var::D_LINK, u64::from(self.d_link)),
+                (Var::Q_NEWCOUNTRY, 0),
+                (Var::NID_BG, u64::from(self.nid_bg)),
+                (Var::Q_LINKORIENTATION, u64::from(self.q_linkorientation)),
+                (Var::Q_LINKREACTION, u64::from(self.q_linkreaction)),
+                (Var::Q_LOCACC, u64::from(self.q_locacc)),
+            ]),
+            Some(country) => out.send(&[
+                (Var::D_LINK, u64::from(self.d_link)),
+                (Var::Q_NEWCOUNTRY, 1),
+                (Var::NID_C, u64::from(country)),
+                (Var::NID_BG, u64::from(self.nid_bg)),
+                (Var::Q_LINKORIENTATION, u64::from(self.q_linkorientation)),
+                (Var::Q_LINKREACTION, u64::from(self.q_linkreaction)),
+                (Var::Q_LOCACC, u64::from(self.q_locacc)),
+            ]),
+        }
+    }
+}
+
+impl Part for Link {
+    ghost use Rattle.etcs_parts.specs.Links.{link_from, IsLink};
 
     ghost read_from = { link_from };
 
     ghost is_part = { λ l. IsLink l };
 
-    ghost complete = { λ p f h. link_codes.complete p f h };
-
     fn holds(&self) {
         let _ = &self.d_link;
     }
 
-    fn append(&self, out: &mut Vec<u64>) -> Result<(), AllocError> {
-        match self.nid_c {
-            None => out.extend_from_slice(&[
-                u64::from(self.d_link),
-                0,
-                u64::from(self.nid_bg),
-                u64::from(self.q_linkorientation),
-                u64::from(self.q_linkreaction),
-                u64::from(self.q_locacc),
-            ])?,
-            Some(country) => out.extend_from_slice(&[
-                u64::from(self.d_link),
-                1,
-                u64::from(country),
-                u64::from(self.nid_bg),
-                u64::from(self.q_linkorientation),
-                u64::from(self.q_linkreaction),
-                u64::from(self.q_locacc),
-            ])?,
-        }
-        Ok(())
-    }
-
     fn take(_alloc: Global, numbers: &mut Numbers) -> Result<Option<Link>, AllocError> {
         Ok(Link::from_numbers(numbers))
+    }
+
+    fn try_clone(&self, _alloc: Global) -> Result<Link, AllocError> {
+        Ok(*self)
     }
 }

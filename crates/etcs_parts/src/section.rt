@@ -2,11 +2,11 @@
 
 ghost use Rattle.std.specs.Prelude.{◌≡◌, ◌++◌, None, Some, IfOk, IfErr, IfSome, IfNone, OnOk, OnErr};
 ghost use Rattle.etcs_parts.specs.Sections.{timer_fault, timer_reading, timer_from};
-ghost use Rattle.etcs_vars.specs.Reading.{numbers as numbers_of};
 
 use crate::faults::check;
 use crate::numbers::Numbers;
 use crate::part::Part;
+use etcs_vars::parts::{Sink, Variables};
 use etcs_vars::{BuildFault, Var};
 use std::alloc::{AllocError, Global};
 use std::marker::Model;
@@ -34,7 +34,7 @@ impl Model for Section {
 }
 
 impl Section {
-    ghost use Rattle.etcs_parts.specs.Sections.{section_parts, section_fault, IsSection, section_fields, section_from, end_fields, end_from};
+    ghost use Rattle.etcs_parts.specs.Sections.{section_parts, section_fault, IsSection, section_from, end_reading, end_from};
 
     /// A section of this length, in steps of Q_SCALE.
     ///
@@ -79,7 +79,6 @@ impl Section {
     /// The section that the numbers begin with.
     #[tactic(auto, unfolding(crate::specs::Sections::section_from))]
     fn from_numbers(numbers: &mut Numbers) -> Option<Section>
-        ensures some { IfSome result (λ s. numbers.old ≡ section_fields s ++ numbers.new) }
         ensures part { IfSome result (λ s. IsSection s) }
         ensures from { IfSome result (λ s. section_from numbers.old ≡ Some (s, numbers.new)) }
         ensures none { IfNone result (section_from numbers.old ≡ None) }
@@ -92,7 +91,6 @@ impl Section {
     /// The end section that the numbers begin with.
     #[tactic(auto, unfolding(crate::specs::Sections::end_from), using(crate::specs::Sections::same_length))]
     pub(crate) fn end_from_numbers(numbers: &mut Numbers) -> Option<Section>
-        ensures some { IfSome result (λ s. numbers.old ≡ end_fields s ++ numbers.new) }
         ensures part { IfSome result (λ s. IsSection s) }
         ensures from { IfSome result (λ s. end_from numbers.old ≡ Some (s, numbers.new)) }
         ensures none { IfNone result (end_from numbers.old ≡ None) }
@@ -102,29 +100,34 @@ impl Section {
         Some(Section { length, timer })
     }
 
-    /// Appends its numbers, which are the same for a section and the end section.
-    pub(crate) fn append_numbers(&self, out: &mut Vec<u64>) -> Result<(), AllocError>
-        ensures ok { OnOk result (out.new.items ≡ out.old.items ++ section_fields self.now) }
-        ensures end { OnOk result (out.new.items ≡ out.old.items ++ end_fields self.now) }
-        ensures err { OnErr result (out.new.items ≡ out.old.items) }
+    /// Sends its variables as those of the end section.
+    pub(crate) fn send_end<S: Sink>(&self, out: &mut S) -> Result<(), AllocError>
+        ensures ok { OnOk result (out.new ≡ S.with out.old (end_reading self.now)) }
+        ensures err { OnErr result (S.failed out.old out.new) }
     {
-        match self.timer {
-            None => out.extend_from_slice(&[u64::from(self.length), 0])?,
-            Some((time, stop)) => out.extend_from_slice(&[
-                u64::from(self.length),
-                1,
-                u64::from(time),
-                u64::from(stop),
-            ])?,
-        }
-        Ok(())
+        out.send(&[(Var::L_ENDSECTION, u64::from(self.length))])?;
+        send_timer(self.timer, out)
+    }
+}
+
+/// Sends the timer of a section, behind its flag.
+fn send_timer<S: Sink>(timer: Option<(u16, u16)>, out: &mut S) -> Result<(), AllocError>
+    ensures ok { OnOk result (out.new ≡ S.with out.old (timer_reading timer)) }
+    ensures err { OnErr result (S.failed out.old out.new) }
+{
+    match timer {
+        None => out.send(&[(Var::Q_SECTIONTIMER, 0)]),
+        Some((time, stop)) => out.send(&[
+            (Var::Q_SECTIONTIMER, 1),
+            (Var::T_SECTIONTIMER, u64::from(time)),
+            (Var::D_SECTIONTIMERSTOPLOC, u64::from(stop)),
+        ]),
     }
 }
 
 /// The timer that the numbers begin with, behind its flag.
 #[tactic(auto, unfolding(crate::specs::Sections::timer_from))]
 fn take_timer(numbers: &mut Numbers) -> Option<Option<(u16, u16)>>
-    ensures some { IfSome result (λ t. numbers.old ≡ numbers_of (timer_reading t) ++ numbers.new) }
     ensures part { IfSome result (λ t. timer_fault t ≡ None) }
     ensures from { IfSome result (λ t. timer_from numbers.old ≡ Some (t, numbers.new)) }
     ensures none { IfNone result (timer_from numbers.old ≡ None) }
@@ -137,26 +140,41 @@ fn take_timer(numbers: &mut Numbers) -> Option<Option<(u16, u16)>>
     Some(Some((time, stop)))
 }
 
-impl Part for Section {
-    ghost use Rattle.etcs_parts.specs.Sections.{IsSection, section_fields, section_from, section_codes};
+impl Variables for Section {
+    ghost use Rattle.etcs_parts.specs.Sections.{section_reading};
 
-    ghost fields_of = { λ s. section_fields s };
+    ghost reading_of = { λ p. section_reading p };
+
+    #[tactic(auto, using(crate::specs::Sections::section_bits_short, crate::specs::Sections::section_bits_long))]
+    fn bits(&self) -> usize {
+        match self.timer {
+            None => 16,
+            Some(_) => 41,
+        }
+    }
+
+    fn send<S: Sink>(&self, out: &mut S) -> Result<(), AllocError> {
+        out.send(&[(Var::L_SECTION, u64::from(self.length))])?;
+        send_timer(self.timer, out)
+    }
+}
+
+impl Part for Section {
+    ghost use Rattle.etcs_parts.specs.Sections.{section_from, IsSection};
 
     ghost read_from = { section_from };
 
-    ghost is_part = { λ s. IsSection s };
-
-    ghost complete = { λ p f h. section_codes.complete p f h };
+    ghost is_part = { λ p. IsSection p };
 
     fn holds(&self) {
         let _ = &self.length;
     }
 
-    fn append(&self, out: &mut Vec<u64>) -> Result<(), AllocError> {
-        self.append_numbers(out)
-    }
-
     fn take(_alloc: Global, numbers: &mut Numbers) -> Result<Option<Section>, AllocError> {
         Ok(Section::from_numbers(numbers))
+    }
+
+    fn try_clone(&self, _alloc: Global) -> Result<Section, AllocError> {
+        Ok(*self)
     }
 }

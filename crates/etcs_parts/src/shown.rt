@@ -6,6 +6,7 @@ use crate::faults::check;
 use crate::guards::check_guard;
 use crate::numbers::Numbers;
 use crate::part::Part;
+use etcs_vars::parts::{Sink, Variables};
 use etcs_vars::{BuildFault, Var};
 use std::alloc::{AllocError, Global};
 use std::marker::Model;
@@ -31,7 +32,7 @@ impl Model for Shown {
 }
 
 impl Shown {
-    ghost use Rattle.etcs_parts.specs.Displays.{shown_parts, shown_fault, IsShown, shown_fields, shown_from};
+    ghost use Rattle.etcs_parts.specs.Displays.{shown_parts, shown_fault, IsShown, shown_from};
 
     /// The mode (M_MODETEXTDISPLAY, SUBSET-026, 7.5: 0 to 15), the level (M_LEVELTEXTDISPLAY: 0 to 5), and for
     /// level NTC, which is 1, the national system (NID_NTC).
@@ -89,7 +90,6 @@ impl Shown {
     /// The value that the numbers begin with.
     #[tactic(auto, using(crate::specs::Guards::guard_ok), unfolding(crate::specs::Displays::shown_from, crate::specs::Guards::guard_fault))]
     pub(crate) fn from_numbers(numbers: &mut Numbers) -> Option<Shown>
-        ensures some { IfSome result (λ s. numbers.old ≡ shown_fields s ++ numbers.new) }
         ensures part { IfSome result (λ s. IsShown s) }
         ensures from { IfSome result (λ s. shown_from numbers.old ≡ Some (s, numbers.new)) }
         ensures none { IfNone result (shown_from numbers.old ≡ None) }
@@ -109,37 +109,50 @@ impl Shown {
     }
 }
 
-impl Part for Shown {
-    ghost use Rattle.etcs_parts.specs.Displays.{IsShown, shown_fields, shown_from, shown_codes};
+impl Variables for Shown {
+    ghost use Rattle.etcs_parts.specs.Displays.{shown_reading};
 
-    ghost fields_of = { λ s. shown_fields s };
+    ghost reading_of = { λ p. shown_reading p };
+
+    #[tactic(auto, using(crate::specs::Displays::shown_bits_short, crate::specs::Displays::shown_bits_long))]
+    fn bits(&self) -> usize {
+        match self.nid_ntc {
+            None => 7,
+            Some(_) => 15,
+        }
+    }
+
+    fn send<S: Sink>(&self, out: &mut S) -> Result<(), AllocError> {
+        match self.nid_ntc {
+            None => out.send(&[
+                (Var::M_MODETEXTDISPLAY, u64::from(self.m_modetextdisplay)),
+                (Var::M_LEVELTEXTDISPLAY, u64::from(self.m_leveltextdisplay)),
+            ]),
+            Some(system) => out.send(&[
+                (Var::M_MODETEXTDISPLAY, u64::from(self.m_modetextdisplay)),
+                (Var::M_LEVELTEXTDISPLAY, u64::from(self.m_leveltextdisplay)),
+                (Var::NID_NTC, u64::from(system)),
+            ]),
+        }
+    }
+}
+
+impl Part for Shown {
+    ghost use Rattle.etcs_parts.specs.Displays.{shown_from, IsShown};
 
     ghost read_from = { shown_from };
 
-    ghost is_part = { λ s. IsShown s };
-
-    ghost complete = { λ p f h. shown_codes.complete p f h };
+    ghost is_part = { λ p. IsShown p };
 
     fn holds(&self) {
         let _ = &self.m_modetextdisplay;
     }
 
-    fn append(&self, out: &mut Vec<u64>) -> Result<(), AllocError> {
-        match self.nid_ntc {
-            None => out.extend_from_slice(&[
-                u64::from(self.m_modetextdisplay),
-                u64::from(self.m_leveltextdisplay),
-            ])?,
-            Some(system) => out.extend_from_slice(&[
-                u64::from(self.m_modetextdisplay),
-                u64::from(self.m_leveltextdisplay),
-                u64::from(system),
-            ])?,
-        }
-        Ok(())
-    }
-
     fn take(_alloc: Global, numbers: &mut Numbers) -> Result<Option<Shown>, AllocError> {
         Ok(Shown::from_numbers(numbers))
+    }
+
+    fn try_clone(&self, _alloc: Global) -> Result<Shown, AllocError> {
+        Ok(*self)
     }
 }

@@ -1,31 +1,42 @@
-//! Tests of where a text is shown.
+//! Where texts are shown, built, sent and read.
 
-use crate::numbers::Numbers;
-use crate::part::Part;
-use crate::part_tests::{again, none};
+use crate::part_tests::{assert_part, none, none_in_bits};
 use crate::shown::Shown;
 use etcs_vars::{BuildFault, Var};
-use std::process::Abort;
 use std::test::Fail;
 
 #[test]
-fn a_national_system(rt: HostRuntime) -> Result<(), Fail> {
+fn with_a_national_system(rt: HostRuntime) -> Result<(), Fail> {
     let shown = Shown::new(13, 1, Some(35))?;
     assert_eq!(rt; shown.m_modetextdisplay(), 13);
     assert_eq!(rt; shown.m_leveltextdisplay(), 1);
     assert_eq!(rt; shown.nid_ntc(), Some(35));
-    assert!(rt; again(rt.alloc(), &shown, &[13, 1, 35])?);
-    Ok(())
+    assert_part(
+        &rt,
+        rt.alloc(),
+        &shown,
+        &[
+            (Var::M_MODETEXTDISPLAY, 13),
+            (Var::M_LEVELTEXTDISPLAY, 1),
+            (Var::NID_NTC, 35),
+        ],
+        "1101 001 00100011",
+    )
 }
 
 #[test]
-fn another_level(rt: HostRuntime) -> Result<(), Fail> {
+fn at_another_level(rt: HostRuntime) -> Result<(), Fail> {
     let shown = Shown::new(15, 5, None)?;
     assert_eq!(rt; shown.m_modetextdisplay(), 15);
     assert_eq!(rt; shown.m_leveltextdisplay(), 5);
     assert_eq!(rt; shown.nid_ntc(), None);
-    assert!(rt; again(rt.alloc(), &shown, &[15, 5])?);
-    Ok(())
+    assert_part(
+        &rt,
+        rt.alloc(),
+        &shown,
+        &[(Var::M_MODETEXTDISPLAY, 15), (Var::M_LEVELTEXTDISPLAY, 5)],
+        "1111 101",
+    )
 }
 
 #[test]
@@ -38,33 +49,22 @@ fn refusals(rt: HostRuntime) {
     assert_eq!(rt; Shown::new(4, 6, None), level);
     assert_eq!(rt; Shown::new(4, 6, Some(3)), level);
     assert_eq!(rt; Shown::new(4, 1, None), guard);
-    assert_eq!(rt; Shown::new(4, 0, Some(3)), guard);
-    assert_eq!(rt; Shown::new(4, 2, Some(3)), guard);
+    for level in [0, 2, 3, 4, 5] {
+        assert_eq!(rt; Shown::new(4, level, Some(3)), guard);
+    }
 }
 
 #[test]
 fn none_is_read(rt: HostRuntime) -> Result<(), Fail> {
     for numbers in [
-        [].as_slice(),
-        [4].as_slice(),
-        [4, 1].as_slice(),
         [16, 2].as_slice(),
         [4, 6].as_slice(),
         [4, 1, 256].as_slice(),
     ] {
-        assert!(rt; none::<Shown>(rt.alloc(), numbers)?);
+        assert!(rt; none::<Shown>(rt.alloc(), numbers)?, "{numbers:?}");
     }
-    Ok(())
-}
-
-/// Behind another level no national system is read.
-#[test]
-fn a_number_is_left(rt: HostRuntime) -> Result<(), Fail> {
-    let mut left = Numbers::new(&[4, 2, 35]);
-    assert_eq!(rt;
-        Shown::take(rt.alloc(), &mut left)?,
-        Some(Shown::new(4, 2, None)?)
-    );
-    assert_eq!(rt; left.next(Var::NID_NTC), Some(35));
+    for bits in ["0100 110 00100011", "0100 111 00100011"] {
+        assert!(rt; none_in_bits::<Shown>(rt.alloc(), bits)?, "{bits}");
+    }
     Ok(())
 }

@@ -5,6 +5,7 @@ ghost use Rattle.std.specs.Prelude.{◌≡◌, ◌++◌, None, Some, IfOk, IfErr
 use crate::faults::check;
 use crate::numbers::Numbers;
 use crate::part::Part;
+use etcs_vars::parts::{Sink, Variables};
 use etcs_vars::{BuildFault, Var};
 use std::alloc::{AllocError, Global};
 use std::marker::Model;
@@ -32,7 +33,7 @@ impl Model for Slope {
 }
 
 impl Slope {
-    ghost use Rattle.etcs_parts.specs.Slopes.{slope_parts, slope_fault, IsSlope, slope_fields, slope_from};
+    ghost use Rattle.etcs_parts.specs.Slopes.{slope_parts, slope_fault, IsSlope, slope_from};
 
     /// A gradient `g_a` from `d_gradient` on.
     ///
@@ -79,7 +80,6 @@ impl Slope {
     /// The slope that the numbers begin with.
     #[tactic(auto, unfolding(crate::specs::Slopes::slope_from))]
     fn from_numbers(numbers: &mut Numbers) -> Option<Slope>
-        ensures some { IfSome result (λ s. numbers.old ≡ slope_fields s ++ numbers.new) }
         ensures part { IfSome result (λ s. IsSlope s) }
         ensures from { IfSome result (λ s. slope_from numbers.old ≡ Some (s, numbers.new)) }
         ensures none { IfNone result (slope_from numbers.old ≡ None) }
@@ -95,30 +95,41 @@ impl Slope {
     }
 }
 
-impl Part for Slope {
-    ghost use Rattle.etcs_parts.specs.Slopes.{IsSlope, slope_fields, slope_from, slope_codes};
+impl Variables for Slope {
+    ghost use Rattle.etcs_parts.specs.Slopes.{slope_reading};
 
-    ghost fields_of = { λ s. slope_fields s };
+    ghost reading_of = { λ p. slope_reading p };
+
+    #[tactic(auto, using(crate::specs::Slopes::slope_bits))]
+    fn bits(&self) -> usize {
+        24
+    }
+
+    fn send<S: Sink>(&self, out: &mut S) -> Result<(), AllocError> {
+        out.send(&[
+            (Var::D_GRADIENT, u64::from(self.d_gradient)),
+            (Var::Q_GDIR, u64::from(self.q_gdir)),
+            (Var::G_A, u64::from(self.g_a)),
+        ])
+    }
+}
+
+impl Part for Slope {
+    ghost use Rattle.etcs_parts.specs.Slopes.{slope_from, IsSlope};
 
     ghost read_from = { slope_from };
 
-    ghost is_part = { λ s. IsSlope s };
-
-    ghost complete = { λ p f h. slope_codes.complete p f h };
+    ghost is_part = { λ p. IsSlope p };
 
     fn holds(&self) {
         let _ = &self.d_gradient;
     }
 
-    fn append(&self, out: &mut Vec<u64>) -> Result<(), AllocError> {
-        out.extend_from_slice(&[
-            u64::from(self.d_gradient),
-            u64::from(self.q_gdir),
-            u64::from(self.g_a),
-        ])
-    }
-
     fn take(_alloc: Global, numbers: &mut Numbers) -> Result<Option<Slope>, AllocError> {
         Ok(Slope::from_numbers(numbers))
+    }
+
+    fn try_clone(&self, _alloc: Global) -> Result<Slope, AllocError> {
+        Ok(*self)
     }
 }

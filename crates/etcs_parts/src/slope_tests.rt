@@ -1,20 +1,32 @@
-//! Changes of gradient, built, written and read.
+//! Changes of gradient, built, sent and read.
 
-use crate::part_tests::{again, none};
+use crate::part_tests::{assert_part, none};
 use crate::slope::Slope;
 use etcs_vars::{BuildFault, Var};
 use std::test::Fail;
 
 #[test]
 fn uphill_and_downhill(rt: HostRuntime) -> Result<(), Fail> {
-    let up = Slope::new(12345, true, 38)?;
-    assert_eq!(rt; up.d_gradient(), 12345);
+    let up = Slope::new(1, true, 5)?;
+    assert_eq!(rt; up.d_gradient(), 1);
     assert!(rt; up.q_gdir());
-    assert_eq!(rt; up.g_a(), 38);
-    assert!(rt; again(rt.alloc(), &up, &[12345, 1, 38])?);
+    assert_eq!(rt; up.g_a(), 5);
+    assert_part(
+        &rt,
+        rt.alloc(),
+        &up,
+        &[(Var::D_GRADIENT, 1), (Var::Q_GDIR, 1), (Var::G_A, 5)],
+        "000000000000001 1 00000101",
+    )?;
     let down = Slope::new(32767, false, 255)?;
     assert!(rt; !down.q_gdir());
-    assert!(rt; again(rt.alloc(), &down, &[32767, 0, 255])?);
+    assert_part(
+        &rt,
+        rt.alloc(),
+        &down,
+        &[(Var::D_GRADIENT, 32767), (Var::Q_GDIR, 0), (Var::G_A, 255)],
+        "111111111111111 0 11111111",
+    )?;
     assert!(rt; up != down);
     Ok(())
 }
@@ -28,15 +40,8 @@ fn refusals(rt: HostRuntime) {
 
 #[test]
 fn numbers_of_no_slope(rt: HostRuntime) -> Result<(), Fail> {
-    for numbers in [
-        [].as_slice(),
-        [12345].as_slice(),
-        [12345, 1].as_slice(),
-        [32768, 1, 38].as_slice(),
-        [12345, 2, 38].as_slice(),
-        [12345, 1, 256].as_slice(),
-    ] {
-        assert!(rt; none::<Slope>(rt.alloc(), numbers)?, "{numbers:?}");
+    for numbers in [[32768, 1, 38], [12345, 2, 38], [12345, 1, 256]] {
+        assert!(rt; none::<Slope>(rt.alloc(), &numbers)?, "{numbers:?}");
     }
     Ok(())
 }

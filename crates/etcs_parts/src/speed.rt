@@ -1,14 +1,13 @@
 //! A static speed and its differences.
 
-ghost use Rattle.std.specs.Prelude.{◌≡◌, ◌≤◌, ◌++◌, ◌∷◌, None, Some, OnOk, OnErr, IfOk, IfErr, IfSome, IfNone, length, flat_map};
-ghost use Rattle.etcs_bits.specs.Bits.{bit};
-ghost use Rattle.etcs_parts.specs.Differings.{differing_fields};
+ghost use Rattle.std.specs.Prelude.{◌≡◌, Some, OnOk, IfOk, IfErr};
 
 use crate::differing::Differing;
 use crate::faults::{check, check_count};
 use crate::items::Items;
 use crate::numbers::Numbers;
-use crate::part::{Part, append_all, hold_all, take_all};
+use crate::part::{Part, clone_all, hold_all, send_list, take_list};
+use etcs_vars::parts::{Sink, Variables};
 use etcs_vars::{BuildFault, Var};
 use std::alloc::{AllocError, Global};
 use std::marker::Model;
@@ -36,8 +35,7 @@ impl Model for Speed {
 }
 
 impl Speed {
-    ghost use Rattle.etcs_parts.specs.Speeds.{speed_parts, speed_fault, speed_reading, IsSpeed};
-    ghost use Rattle.etcs_parts.specs.Repeats.{bit_count};
+    ghost use Rattle.etcs_parts.specs.Speeds.{speed_parts, speed_fault, IsSpeed};
 
     /// A speed from its place on.
     ///
@@ -101,15 +99,6 @@ impl Speed {
         self.differing.as_slice()
     }
 
-    /// How many bits its variables take: at most 431.
-    #[tactic(auto, using(crate::specs::Speeds::speed_bits))]
-    pub fn bit_len(&self) -> usize
-        ensures bits { result ≡ bit_count (speed_reading self.now) }
-        ensures small { result ≤ 431 }
-    {
-        28 + 13 * self.differing.len()
-    }
-
     /// Refuses what is no speed.
     fn faultless(
         d_static: u16,
@@ -128,32 +117,38 @@ impl Speed {
     }
 }
 
-impl Part for Speed {
-    ghost use Rattle.etcs_parts.specs.Speeds.{IsSpeed, speed_fields, speed_from, speed_codes};
+impl Variables for Speed {
+    ghost use Rattle.etcs_parts.specs.Speeds.{speed_reading};
 
-    ghost fields_of = { λ s. speed_fields s };
+    ghost reading_of = { λ s. speed_reading s };
+
+    #[tactic(auto, using(crate::specs::Speeds::speed_spelled, crate::specs::Speeds::few_entries))]
+    fn bits(&self) -> usize {
+        28 + 13 * self.differing.len()
+    }
+
+    fn send<S: Sink>(&self, out: &mut S) -> Result<(), AllocError> {
+        out.send(&[
+            (Var::D_STATIC, u64::from(self.d_static)),
+            (Var::V_STATIC, u64::from(self.v_static)),
+            (Var::Q_FRONT, u64::from(self.q_front)),
+        ])?;
+        send_list(Var::N_ITER, self.differing.as_slice(), out)
+    }
+}
+
+impl Part for Speed {
+    ghost use Rattle.etcs_parts.specs.Speeds.{IsSpeed, speed_from};
 
     ghost read_from = { speed_from };
 
     ghost is_part = { λ s. IsSpeed s };
 
-    ghost complete = { λ p f h. speed_codes.complete p f h };
-
     fn holds(&self) {
         let _ = &self.d_static;
     }
 
-    fn append(&self, out: &mut Vec<u64>) -> Result<(), AllocError> {
-        append_speed(
-            self.d_static,
-            self.v_static,
-            self.q_front,
-            self.differing.as_slice(),
-            out,
-        )
-    }
-
-    #[tactic(auto, using(crate::specs::Speeds::speed_read, crate::specs::Repeats::numbers_flat), unfolding(crate::specs::Speeds::speed_from))]
+    #[tactic(auto, unfolding(crate::specs::Speeds::speed_from))]
     fn take(alloc: Global, numbers: &mut Numbers) -> Result<Option<Speed>, AllocError> {
         let Some(d_static) = numbers.next(Var::D_STATIC) else {
             return Ok(None);
@@ -164,10 +159,7 @@ impl Part for Speed {
         let Some(q_front) = numbers.flag() else {
             return Ok(None);
         };
-        let Some(count) = numbers.next(Var::N_ITER) else {
-            return Ok(None);
-        };
-        let Some(differing) = take_all(alloc, numbers, count as usize)? else {
+        let Some(differing) = take_list(alloc, Var::N_ITER, numbers)? else {
             return Ok(None);
         };
         Ok(Some(Speed {
@@ -177,29 +169,13 @@ impl Part for Speed {
             differing: Items::from_vec(differing),
         }))
     }
-}
 
-/// Appends the numbers of a speed of these parts.
-fn append_speed(
-    d_static: u16,
-    v_static: u8,
-    q_front: bool,
-    differing: &[Differing],
-    out: &mut Vec<u64>,
-) -> Result<(), AllocError>
-    ensures ok { OnOk result (out.new.items ≡ out.old.items ++ (d_static ∷ v_static ∷ bit q_front ∷ length differing.now ∷ flat_map differing_fields differing.now)) }
-    ensures err { OnErr result (out.new.items ≡ out.old.items) }
-{
-    let before = out.len();
-    out.extend_from_slice(&[
-        u64::from(d_static),
-        u64::from(v_static),
-        u64::from(q_front),
-        differing.len() as u64,
-    ])?;
-    if append_all(differing, out).is_err() {
-        out.truncate(before);
-        return Err(AllocError);
+    fn try_clone(&self, alloc: Global) -> Result<Speed, AllocError> {
+        Ok(Speed {
+            d_static: self.d_static,
+            v_static: self.v_static,
+            q_front: self.q_front,
+            differing: Items::from_vec(clone_all(alloc, self.differing.as_slice())?),
+        })
     }
-    Ok(())
 }

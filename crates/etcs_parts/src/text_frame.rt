@@ -1,13 +1,14 @@
 //! All of a text message but the text itself.
 
-ghost use Rattle.std.specs.Prelude.{◌≡◌, ◌++◌, None, Some, IfOk, IfErr, IfSome, IfNone, OnOk, OnErr, length, take};
-ghost use Rattle.etcs_parts.specs.TextFrames.{IsReport, report_fields, report_from, IsConfirm, confirm_fields, confirm_from, confirmed_fault, confirmed_fields, confirmed_from};
+ghost use Rattle.std.specs.Prelude.{◌≡◌, None, Some, IfOk, IfErr, IfSome, IfNone, OnOk, OnErr, ◌≤◌};
+ghost use Rattle.etcs_parts.specs.TextFrames.{IsReport, report_from, IsConfirm, confirm_from, confirmed_fault, confirmed_reading, confirmed_count, confirmed_from};
 
 use crate::faults::check;
 use crate::guards::check_guard;
 use crate::numbers::Numbers;
 use crate::part::Part;
 use crate::shown::Shown;
+use etcs_vars::parts::{Sink, Variables};
 use etcs_vars::{BuildFault, Var};
 use std::alloc::{AllocError, Global};
 use std::marker::Model;
@@ -40,7 +41,7 @@ impl Model for TextFrame {
 }
 
 impl TextFrame {
-    ghost use Rattle.etcs_parts.specs.TextFrames.{text_frame_parts, text_frame_fault, IsTextFrame, text_frame_fields, text_frame_from};
+    ghost use Rattle.etcs_parts.specs.TextFrames.{text_frame_parts, text_frame_fault, IsTextFrame, text_frame_from};
 
     /// All of a text message but the text itself, each argument a variable of SUBSET-026, 7.5:
     ///
@@ -172,7 +173,6 @@ impl TextFrame {
     /// The value that the numbers begin with.
     #[tactic(auto, unfolding(crate::specs::TextFrames::text_frame_from))]
     fn from_numbers(numbers: &mut Numbers) -> Option<TextFrame>
-        ensures some { IfSome result (λ t. numbers.old ≡ text_frame_fields t ++ numbers.new) }
         ensures part { IfSome result (λ t. IsTextFrame t) }
         ensures from { IfSome result (λ t. text_frame_from numbers.old ≡ Some (t, numbers.new)) }
         ensures none { IfNone result (text_frame_from numbers.old ≡ None) }
@@ -199,23 +199,6 @@ impl TextFrame {
             end,
         })
     }
-
-    /// Appends its numbers, and on refusal some of them.
-    fn append_some(&self, out: &mut Vec<u64>) -> Result<(), AllocError>
-        ensures ok { OnOk result (out.new.items ≡ out.old.items ++ text_frame_fields self.now) }
-        ensures err { OnErr result (take (length out.old.items) out.new.items ≡ out.old.items) }
-    {
-        out.extend_from_slice(&[
-            u64::from(self.q_scale),
-            u64::from(self.q_textclass),
-            u64::from(self.q_textdisplay),
-            u64::from(self.d_textdisplay),
-        ])?;
-        self.start.append(out)?;
-        out.extend_from_slice(&[u64::from(self.l_textdisplay), u64::from(self.t_textdisplay)])?;
-        self.end.append(out)?;
-        append_confirmed(self.q_textconfirm, self.confirm, out)
-    }
 }
 
 /// Refuses a confirmation that can't stand behind Q_TEXTCONFIRM.
@@ -239,7 +222,6 @@ fn check_confirm(
 /// The report that the numbers begin with.
 #[tactic(auto, unfolding(crate::specs::TextFrames::report_from))]
 fn next_report(numbers: &mut Numbers) -> Option<(u8, u16, u16)>
-    ensures some { IfSome result (λ r. numbers.old ≡ report_fields r ++ numbers.new) }
     ensures part { IfSome result (λ r. IsReport r) }
     ensures from { IfSome result (λ r. report_from numbers.old ≡ Some (r, numbers.new)) }
     ensures none { IfNone result (report_from numbers.old ≡ None) }
@@ -253,7 +235,6 @@ fn next_report(numbers: &mut Numbers) -> Option<(u8, u16, u16)>
 /// The confirmation that the numbers begin with.
 #[tactic(auto, unfolding(crate::specs::TextFrames::confirm_from))]
 fn next_confirm(numbers: &mut Numbers) -> Option<(bool, Option<(u8, u16, u16)>)>
-    ensures some { IfSome result (λ c. numbers.old ≡ confirm_fields c ++ numbers.new) }
     ensures part { IfSome result (λ c. IsConfirm c) }
     ensures from { IfSome result (λ c. confirm_from numbers.old ≡ Some (c, numbers.new)) }
     ensures none { IfNone result (confirm_from numbers.old ≡ None) }
@@ -270,7 +251,6 @@ fn next_confirm(numbers: &mut Numbers) -> Option<(bool, Option<(u8, u16, u16)>)>
 /// Q_TEXTCONFIRM, and where it isn't 0 the confirmation, that the numbers begin with.
 #[tactic(auto, using(crate::specs::Guards::guard_ok), unfolding(crate::specs::TextFrames::confirmed_from, crate::specs::Guards::guard_fault))]
 fn next_confirmed(numbers: &mut Numbers) -> Option<(u8, Option<(bool, Option<(u8, u16, u16)>)>)>
-    ensures some { IfSome result (λ c. numbers.old ≡ confirmed_fields c.0 c.1 ++ numbers.new) }
     ensures part { IfSome result (λ c. confirmed_fault c.0 c.1 ≡ None) }
     ensures from { IfSome result (λ c. confirmed_from numbers.old ≡ Some ((c.0, c.1), numbers.new)) }
     ensures none { IfNone result (confirmed_from numbers.old ≡ None) }
@@ -284,57 +264,88 @@ fn next_confirmed(numbers: &mut Numbers) -> Option<(u8, Option<(bool, Option<(u8
     Some((q_textconfirm, confirm))
 }
 
-/// Appends Q_TEXTCONFIRM and the confirmation.
-fn append_confirmed(
+/// Sends Q_TEXTCONFIRM and the confirmation.
+fn send_confirmed<S: Sink>(
     q_textconfirm: u8,
     confirm: Option<(bool, Option<(u8, u16, u16)>)>,
-    out: &mut Vec<u64>,
+    out: &mut S,
 ) -> Result<(), AllocError>
-    ensures ok { OnOk result (out.new.items ≡ out.old.items ++ confirmed_fields q_textconfirm confirm) }
-    ensures err { OnErr result (out.new.items ≡ out.old.items) }
+    ensures ok { OnOk result (out.new ≡ S.with out.old (confirmed_reading q_textconfirm confirm)) }
+    ensures err { OnErr result (S.failed out.old out.new) }
 {
     match confirm {
-        None => out.push(u64::from(q_textconfirm))?,
-        Some((shown, None)) => {
-            out.extend_from_slice(&[u64::from(q_textconfirm), u64::from(shown), 0])?
-        }
-        Some((shown, Some((message, country, centre)))) => out.extend_from_slice(&[
-            u64::from(q_textconfirm),
-            u64::from(shown),
-            1,
-            u64::from(message),
-            u64::from(country),
-            u64::from(centre),
-        ])?,
+        None => out.send(&[(Var::Q_TEXTCONFIRM, u64::from(q_textconfirm))]),
+        Some((shown, None)) => out.send(&[
+            (Var::Q_TEXTCONFIRM, u64::from(q_textconfirm)),
+            (Var::Q_CONFTEXTDISPLAY, u64::from(shown)),
+            (Var::Q_TEXTREPORT, 0),
+        ]),
+        Some((shown, Some((message, country, centre)))) => out.send(&[
+            (Var::Q_TEXTCONFIRM, u64::from(q_textconfirm)),
+            (Var::Q_CONFTEXTDISPLAY, u64::from(shown)),
+            (Var::Q_TEXTREPORT, 1),
+            (Var::NID_TEXTMESSAGE, u64::from(message)),
+            (Var::NID_C, u64::from(country)),
+            (Var::NID_RBC, u64::from(centre)),
+        ]),
     }
-    Ok(())
+}
+
+/// How many bits Q_TEXTCONFIRM and the confirmation take.
+fn confirmed_bits(confirm: Option<(bool, Option<(u8, u16, u16)>)>) -> usize
+    ensures bits { result ≡ confirmed_count confirm }
+    ensures small { result ≤ 36 }
+{
+    match confirm {
+        None => 2,
+        Some((_, None)) => 4,
+        Some((_, Some(_))) => 36,
+    }
+}
+
+impl Variables for TextFrame {
+    ghost use Rattle.etcs_parts.specs.TextFrames.{text_frame_reading};
+
+    ghost reading_of = { λ t. text_frame_reading t };
+
+    #[tactic(auto, using(crate::specs::TextFrames::text_frame_bits, crate::specs::Displays::shown_small))]
+    fn bits(&self) -> usize {
+        45 + self.start.bits() + self.end.bits() + confirmed_bits(self.confirm)
+    }
+
+    fn send<S: Sink>(&self, out: &mut S) -> Result<(), AllocError> {
+        out.send(&[
+            (Var::Q_SCALE, u64::from(self.q_scale)),
+            (Var::Q_TEXTCLASS, u64::from(self.q_textclass)),
+            (Var::Q_TEXTDISPLAY, u64::from(self.q_textdisplay)),
+            (Var::D_TEXTDISPLAY, u64::from(self.d_textdisplay)),
+        ])?;
+        self.start.send(out)?;
+        out.send(&[
+            (Var::L_TEXTDISPLAY, u64::from(self.l_textdisplay)),
+            (Var::T_TEXTDISPLAY, u64::from(self.t_textdisplay)),
+        ])?;
+        self.end.send(out)?;
+        send_confirmed(self.q_textconfirm, self.confirm, out)
+    }
 }
 
 impl Part for TextFrame {
-    ghost use Rattle.etcs_parts.specs.TextFrames.{IsTextFrame, text_frame_fields, text_frame_from, text_frame_codes};
-
-    ghost fields_of = { λ t. text_frame_fields t };
+    ghost use Rattle.etcs_parts.specs.TextFrames.{IsTextFrame, text_frame_from};
 
     ghost read_from = { text_frame_from };
 
     ghost is_part = { λ t. IsTextFrame t };
 
-    ghost complete = { λ p f h. text_frame_codes.complete p f h };
-
     fn holds(&self) {
         let _ = &self.q_scale;
     }
 
-    fn append(&self, out: &mut Vec<u64>) -> Result<(), AllocError> {
-        let before = out.len();
-        if self.append_some(out).is_err() {
-            out.truncate(before);
-            return Err(AllocError);
-        }
-        Ok(())
-    }
-
     fn take(_alloc: Global, numbers: &mut Numbers) -> Result<Option<TextFrame>, AllocError> {
         Ok(TextFrame::from_numbers(numbers))
+    }
+
+    fn try_clone(&self, _alloc: Global) -> Result<TextFrame, AllocError> {
+        Ok(*self)
     }
 }

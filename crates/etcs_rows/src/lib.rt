@@ -2,6 +2,7 @@
 #![tactic(auto)]
 
 mod fitting;
+mod framed;
 mod frames;
 #[cfg(test)]
 mod frames_tests;

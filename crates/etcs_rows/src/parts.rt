@@ -9,6 +9,7 @@ ghost use Rattle.etcs_rows.specs.Layouts.{whole};
 ghost use Rattle.etcs_rows.specs.Places.{first_variable};
 ghost use Rattle.etcs_rows.specs.Walks.{Walks};
 
+pub use crate::framed::Framed;
 pub use crate::frames::{Carrier, is_kept, length_fits, number_fits};
 use crate::walk::{RowWalk, Step, Stopped};
 pub use crate::write::put_row;

@@ -4,7 +4,9 @@
 
 mod fault;
 mod feed;
+pub mod parts;
 mod ranges;
+mod sink;
 mod tables;
 #[cfg(test)]
 mod tests;

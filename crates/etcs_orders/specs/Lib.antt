@@ -1,0 +1,5 @@
+pub mod ConditionalLevelOrders
+pub mod LevelOrders
+pub mod InfillLocations
+pub mod FixedTexts
+pub mod PlainTexts

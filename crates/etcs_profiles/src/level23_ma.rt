@@ -1,0 +1,246 @@
+//! The movement authority of levels 2 and 3.
+
+ghost use Rattle.std.specs.Prelude.{◌≡◌, None, Some, OnOk, IfOk, IfErr, IfSome, IfNone};
+ghost use Rattle.etcs_profiles.specs.Level23Mas.{level23_ma_parts, level23_ma_fault, level23_ma_whole, body_of, IsLevel23Ma};
+
+use etcs_bits::BitSlice;
+use etcs_parts::{Authority, Numbers, Part, check};
+use etcs_rows::parts::Framed;
+use etcs_rows::{Packetlike, Way};
+use etcs_vars::parts::{Sink, Variables, append_numbers};
+use etcs_vars::{BuildFault, Var};
+use std::alloc::{AllocError, Global};
+use std::marker::Model;
+
+/// The movement authority of levels 2 and 3 (packet 15; SUBSET-026, 7.4.2).
+#[derive(Debug, Drop, PartialEq, Eq)]
+pub struct Level23Ma {
+    dir: u8,
+    q_scale: u8,
+    v_loa: u8,
+    t_loa: u16,
+    authority: Authority,
+}
+
+impl Model for Level23Ma {
+    ghost use Rattle.etcs_profiles.specs.Level23Mas.{Level23MaParts, level23_ma_parts, IsLevel23Ma};
+
+    ghost Value = { Level23MaParts };
+
+    ghost view = { λ s. level23_ma_parts s.dir s.q_scale s.v_loa s.t_loa s.authority };
+
+    ghost invariant = { λ s. IsLevel23Ma (level23_ma_parts s.dir s.q_scale s.v_loa s.t_loa s.authority) };
+
+    ghost inverse = { λ s. record { dir = s.dir; q_scale = s.q_scale; v_loa = s.v_loa; t_loa = s.t_loa; authority = s.authority } };
+}
+
+impl Level23Ma {
+    /// A movement authority.
+    ///
+    /// - `dir`: Q_DIR, for which direction of the train it holds (0 reverse, 1 nominal, 2 both);
+    /// - `q_scale`: the unit of all distances (0: 10 cm, 1: 1 m, 2: 10 m);
+    /// - `v_loa`: V_LOA, the speed at the limit of the authority, in 5 km/h, at most 120;
+    /// - `t_loa`: T_LOA, how long that speed holds, in seconds; 1023 is unlimited;
+    /// - `authority`: its sections, and what stands behind them.
+    ///
+    /// # Errors
+    ///
+    /// [`BuildFault::NotAdmitted`] with the first of Q_DIR, Q_SCALE, V_LOA or T_LOA that doesn't admit its number: Q_DIR and Q_SCALE
+    /// above 2, a speed above 120, a time above 1,023; and the authority.
+    pub fn new(
+        dir: u8,
+        q_scale: u8,
+        v_loa: u8,
+        t_loa: u16,
+        authority: Authority,
+    ) -> Result<Level23Ma, (BuildFault, Authority)>
+        ensures ok { IfOk result (λ p. p ≡ level23_ma_parts dir q_scale v_loa t_loa authority) }
+        ensures fault { IfErr result (λ e. level23_ma_fault (level23_ma_parts dir q_scale v_loa t_loa authority) ≡ Some e.0) }
+        ensures authority { IfErr result (λ e. e.1 ≡ authority) }
+    {
+        match faultless(dir, q_scale, v_loa, t_loa, &authority) {
+            Ok(()) => Ok(Level23Ma {
+                dir,
+                q_scale,
+                v_loa,
+                t_loa,
+                authority,
+            }),
+            Err(fault) => Err((fault, authority)),
+        }
+    }
+
+    /// Q_SCALE: the unit of all distances (0: 10 cm, 1: 1 m, 2: 10 m).
+    pub fn q_scale(&self) -> u8
+        ensures { result ≡ self.now.q_scale }
+    {
+        self.q_scale
+    }
+
+    /// V_LOA: the speed at the limit of the authority, in 5 km/h, at most 120.
+    pub fn v_loa(&self) -> u8
+        ensures { result ≡ self.now.v_loa }
+    {
+        self.v_loa
+    }
+
+    /// T_LOA: how long that speed holds, in seconds; 1023 is unlimited.
+    pub fn t_loa(&self) -> u16
+        ensures { result ≡ self.now.t_loa }
+    {
+        self.t_loa
+    }
+
+    /// Its sections, and what stands behind them.
+    pub fn authority(&self) -> &Authority
+        ensures { result.now ≡ self.now.authority }
+    {
+        &self.authority
+    }
+
+    /// The packet of a direction, of all that is left.
+    #[tactic(auto, using(etcs_parts::specs::Takes::number_ok), unfolding(crate::specs::Level23Mas::level23_ma_whole, crate::specs::Level23Mas::body_from))]
+    fn read(alloc: Global, dir: u8, mut numbers: Numbers) -> Result<Option<Level23Ma>, AllocError>
+        ensures some { IfOk result (λ o. IfSome o (λ p. level23_ma_whole dir numbers.entry ≡ Some (p.dir, body_of p))) }
+        ensures value { IfOk result (λ o. IfSome o (λ p. IsLevel23Ma p)) }
+        ensures dir { IfOk result (λ o. IfSome o (λ p. p.dir ≡ dir)) }
+        ensures none { IfOk result (λ o. IfNone o (level23_ma_whole dir numbers.entry ≡ None)) }
+    {
+        if !Var::Q_DIR.admits(u64::from(dir)) {
+            return Ok(None);
+        }
+        let Some(q_scale) = numbers.next(Var::Q_SCALE) else {
+            return Ok(None);
+        };
+        let Some(v_loa) = numbers.next(Var::V_LOA) else {
+            return Ok(None);
+        };
+        let Some(t_loa) = numbers.next(Var::T_LOA) else {
+            return Ok(None);
+        };
+        let Some(authority) = Authority::take(alloc, &mut numbers)? else {
+            return Ok(None);
+        };
+        if !numbers.is_empty() {
+            return Ok(None);
+        }
+        Ok(Some(Level23Ma {
+            dir,
+            q_scale: q_scale as u8,
+            v_loa: v_loa as u8,
+            t_loa: t_loa as u16,
+            authority,
+        }))
+    }
+}
+
+/// Refuses what is no packet.
+fn faultless(
+    dir: u8,
+    q_scale: u8,
+    v_loa: u8,
+    t_loa: u16,
+    authority: &Authority,
+) -> Result<(), BuildFault>
+    ensures ok { OnOk result (IsLevel23Ma (level23_ma_parts dir q_scale v_loa t_loa authority.now)) }
+    ensures fault { IfErr result (λ e. level23_ma_fault (level23_ma_parts dir q_scale v_loa t_loa authority.now) ≡ Some e) }
+{
+    check(Var::Q_DIR, u64::from(dir))?;
+    check(Var::Q_SCALE, u64::from(q_scale))?;
+    check(Var::V_LOA, u64::from(v_loa))?;
+    check(Var::T_LOA, u64::from(t_loa))?;
+    authority.holds();
+    Ok(())
+}
+
+impl Variables for Level23Ma {
+    ghost use Rattle.etcs_profiles.specs.Level23Mas.{level23_ma_reading};
+
+    ghost reading_of = { λ p. level23_ma_reading p };
+
+    #[tactic(auto, using(crate::specs::Level23Mas::level23_ma_length))]
+    fn bits(&self) -> usize {
+        19 + self.authority.bits()
+    }
+
+    fn send<S: Sink>(&self, out: &mut S) -> Result<(), AllocError> {
+        out.send(&[
+            (Var::Q_SCALE, u64::from(self.q_scale)),
+            (Var::V_LOA, u64::from(self.v_loa)),
+            (Var::T_LOA, u64::from(self.t_loa)),
+        ])?;
+        self.authority.send(out)
+    }
+}
+
+impl Packetlike for Level23Ma {
+    ghost use Rattle.etcs_vars.specs.Reading.{numbers};
+    ghost use Rattle.etcs_rows.specs.declared.row.Way.TheVariants.{ToTrain};
+    ghost use Rattle.etcs_profiles.specs.Level23Mas.{IsLevel23Ma, level23_ma_reading, level23_ma_admitted, level23_ma_one_to_one};
+
+    const NID: u8 = 15;
+
+    const WAY: Way = Way::ToTrain;
+
+    ghost NID = { 15 };
+
+    ghost WAY = { ToTrain };
+
+    ghost direction = { λ p. p.dir };
+
+    ghost fields_of = { λ p. numbers (level23_ma_reading p) };
+
+    ghost is_value = { λ p. IsLevel23Ma p };
+
+    ghost admitted = { level23_ma_admitted };
+
+    ghost one_to_one = { level23_ma_one_to_one };
+
+    fn dir(&self) -> u8 {
+        self.dir
+    }
+
+    fn fields(&self, out: &mut Vec<u64>) -> Result<(), AllocError> {
+        append_numbers(self, out)
+    }
+
+    #[tactic(auto, using(crate::specs::Level23Mas::level23_ma_untyped))]
+    fn from_fields(
+        alloc: Global,
+        dir: u8,
+        fields: &[u64],
+    ) -> Result<Option<Level23Ma>, AllocError> {
+        let Some(packet) = Level23Ma::read(alloc, dir, Numbers::new(fields))? else {
+            return Ok(None);
+        };
+        Ok(Some(packet))
+    }
+}
+
+impl Framed for Level23Ma {
+    ghost use Rattle.etcs_profiles.specs.Level23Mas.{level23_ma_framed};
+
+    ghost framed = { level23_ma_framed };
+
+    #[tactic(auto, using(crate::specs::Level23Mas::level23_ma_unframed))]
+    fn from_bits(
+        alloc: Global,
+        dir: u8,
+        bits: BitSlice<'_>,
+    ) -> Result<Option<Level23Ma>, AllocError> {
+        let Some(packet) = Level23Ma::read(alloc, dir, Numbers::in_bits(bits))? else {
+            return Ok(None);
+        };
+        Ok(Some(packet))
+    }
+
+    fn try_clone(&self, alloc: Global) -> Result<Level23Ma, AllocError> {
+        Ok(Level23Ma {
+            dir: self.dir,
+            q_scale: self.q_scale,
+            v_loa: self.v_loa,
+            t_loa: self.t_loa,
+            authority: self.authority.try_clone(alloc)?,
+        })
+    }
+}

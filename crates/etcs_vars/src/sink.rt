@@ -1,0 +1,151 @@
+//! Where variables are sent to.
+
+ghost use Rattle.std.specs.Prelude.{◌≡◌, ◌<◌, ◌*◌, ◌≤◌, ℕ, [], ◌++◌, length, take, flat_map, OnOk, OnErr};
+ghost use Rattle.etcs_vars.specs.Reading.{Reading, numbers, spelled};
+
+use crate::var::Var;
+use std::alloc::{AllocError, Global};
+use std::marker::Model;
+use std::mem;
+
+/// Takes variables with their numbers, one behind the other.
+pub trait Sink {
+    /// What it holds with these behind.
+    ghost with: { Self → Reading → Self };
+
+    /// What may be left of it where some weren't taken.
+    ghost failed: { Self → Self → Type 0 };
+
+    /// Takes them, in order.
+    ///
+    /// # Errors
+    ///
+    /// `AllocError` where there is no memory. Some of them may then be taken.
+    fn send(&mut self, sent: &[(Var, u64)]) -> Result<(), AllocError>
+        ensures ok { OnOk result (self.new ≡ with self.old sent.now) }
+        ensures err { OnErr result (failed self.old self.new) };
+
+    ghost with_none: { (s : Self) → with s [] ≡ s };
+
+    ghost with_both: { (s : Self) (a b : Reading) → with s (a ++ b) ≡ with (with s a) b };
+
+    ghost failed_behind: { (s : Self) (a : Reading) (t : Self) → failed (with s a) t → failed s t };
+}
+
+/// A run of variables with their numbers.
+pub trait Variables {
+    /// They, in the order of sending.
+    ghost reading_of: { Self → Reading };
+
+    /// How many bits they take.
+    fn bits(&self) -> usize
+        ensures bits { result ≡ length (spelled (reading_of self.now)) }
+        ensures small { result < 65536 };
+
+    /// Sends them, in order.
+    ///
+    /// # Errors
+    ///
+    /// That of the sink.
+    fn send<S: Sink>(&self, out: &mut S) -> Result<(), AllocError>
+        ensures ok { OnOk result (out.new ≡ S.with out.old (reading_of self.now)) }
+        ensures err { OnErr result (S.failed out.old out.new) };
+}
+
+/// Sends several runs, one behind the other.
+///
+/// # Errors
+///
+/// That of the sink.
+pub fn send_all<V: Variables, S: Sink>(runs: &[V], out: &mut S) -> Result<(), AllocError>
+    ensures ok { OnOk result (out.new ≡ S.with out.old (flat_map V.reading_of runs.now)) }
+    ensures err { OnErr result (S.failed out.old out.new) }
+{
+    for run in runs {
+        run.send(out)?;
+    }
+    Ok(())
+}
+
+/// How many bits several runs take, of at most 255.
+pub fn bits_of_all<V: Variables>(runs: &[V]) -> usize
+    requires { length runs.now ≤ 255 }
+    ensures bits { result ≡ length (spelled (flat_map V.reading_of runs.now)) }
+    ensures small { result ≤ 255 * 65536 }
+{
+    let mut bits = 0;
+    for run in runs {
+        bits += run.bits();
+    }
+    bits
+}
+
+/// Numbers without their variables, one behind the other.
+#[derive(Debug, Drop)]
+struct NumberList {
+    held: Vec<u64>,
+}
+
+impl Model for NumberList {
+    ghost use Rattle.std.specs.Prelude.{ℕ, List};
+
+    ghost Value = { List ℕ };
+
+    ghost view = { λ s. s.held.items };
+}
+
+impl NumberList {
+    /// The numbers.
+    fn into_vec(self) -> Vec<u64>
+        ensures { result.items ≡ self }
+    {
+        let NumberList { held } = self;
+        held
+    }
+}
+
+impl Sink for NumberList {
+    ghost use Rattle.std.specs.Prelude.{◌≡◌, ◌++◌, length, take};
+    ghost use Rattle.etcs_vars.specs.Reading.{numbers};
+    ghost use Rattle.etcs_vars.specs.Sinks.{numbers_none, numbers_both, numbers_begin};
+
+    ghost with = { λ f r. f ++ numbers r };
+
+    ghost failed = { λ f g. take (length f) g ≡ f };
+
+    ghost with_none = { numbers_none };
+
+    ghost with_both = { numbers_both };
+
+    ghost failed_behind = { numbers_begin };
+
+    fn send(&mut self, sent: &[(Var, u64)]) -> Result<(), AllocError> {
+        self.held.reserve(sent.len())?;
+        for pair in sent {
+            self.held.push(pair.1)?;
+        }
+        Ok(())
+    }
+}
+
+/// Appends the numbers of variables.
+///
+/// # Errors
+///
+/// `AllocError` where there is no memory; `out` then stays as it was.
+pub fn append_numbers<V: Variables>(run: &V, out: &mut Vec<u64>) -> Result<(), AllocError>
+    ensures ok { OnOk result (out.new.items ≡ out.old.items ++ numbers (V.reading_of run.now)) }
+    ensures err { OnErr result (out.new.items ≡ out.old.items) }
+{
+    let before = out.len();
+    let empty = Vec::new(*out.allocator());
+    let mut list = NumberList {
+        held: mem::replace(out, empty),
+    };
+    let done = run.send(&mut list);
+    *out = list.into_vec();
+    if done.is_err() {
+        out.truncate(before);
+    }
+    done
+}

@@ -15,7 +15,7 @@ use Rattle.etcs_parts.specs.Repeats.{bit_count_is, bit_count-append, bit_count-f
 use Rattle.etcs_parts.specs.Codecs.{Codes, both, both_from, IsBoth, list, list_reading, list_from, IsEntries}
 use Rattle.etcs_parts.specs.Choices.{few_counted}
 use Rattle.etcs_parts.specs.Levels.{LevelParts, IsLevel, level_reading, level_from, level_codes, level_most}
-use Rattle.etcs_parts.specs.Packets.{whole_from, same_body, body_of_list, body_of_bits, body_typed, body_framed, untyped, unframed}
+use Rattle.etcs_parts.specs.Packets.{whole_from, same_body, body_of_list, body_of_bits, body_typed, body_framed, body_back, untyped, unframed}
 
 pub record ConditionalLevelOrderParts : Type 0 where
   pub dir : ℕ
@@ -107,6 +107,10 @@ conditional_level_order_one_to_one p q hp hq d f =
     ap (λ n. conditional_level_order_of (n, body_of p)) d ∙ ap (λ b. conditional_level_order_of (q.dir, b)) same
 
 -- ---- What is read.
+
+pub conditional_level_order_back : (p : ConditionalLevelOrderParts) → IsConditionalLevelOrder p → conditional_level_order_whole p.dir (listed (numbers (conditional_level_order_reading p))) ≡ Some (p.dir, body_of p)
+unfolding conditional_level_order_whole
+conditional_level_order_back p h = body_back body_codes (body_of p) p.dir (body_is p h) (admitted Q_DIR p.dir (facts p h.faultless).0)
 
 pub conditional_level_order_numbers : (dir : ℕ) (f : List ℕ) (p : ConditionalLevelOrderParts) → conditional_level_order_whole dir (listed f) ≡ Some (p.dir, body_of p) → numbers (conditional_level_order_reading p) ≡ f
 unfolding conditional_level_order_whole

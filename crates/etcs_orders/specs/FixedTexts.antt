@@ -13,7 +13,7 @@ use Rattle.etcs_parts.specs.Takes.{none_of, admitted}
 use Rattle.etcs_parts.specs.Repeats.{bit_count_is, bit_count-append}
 use Rattle.etcs_parts.specs.Codecs.{Codes, number, both, both_from, IsBoth}
 use Rattle.etcs_parts.specs.TextFrames.{TextFrameParts, IsTextFrame, text_frame_reading, text_frame_from, text_frame_codes, text_frame_small}
-use Rattle.etcs_parts.specs.Packets.{whole_from, same_body, body_of_list, body_of_bits, body_typed, body_framed, untyped, unframed}
+use Rattle.etcs_parts.specs.Packets.{whole_from, same_body, body_of_list, body_of_bits, body_typed, body_framed, body_back, untyped, unframed}
 
 pub record FixedTextParts : Type 0 where
   pub dir : ℕ
@@ -100,6 +100,10 @@ fixed_text_one_to_one p q hp hq d f =
     ap (λ n. fixed_text_of (n, body_of p)) d ∙ ap (λ b. fixed_text_of (q.dir, b)) same
 
 -- ---- What is read.
+
+pub fixed_text_back : (p : FixedTextParts) → IsFixedText p → fixed_text_whole p.dir (listed (numbers (fixed_text_reading p))) ≡ Some (p.dir, body_of p)
+unfolding fixed_text_whole
+fixed_text_back p h = body_back body_codes (body_of p) p.dir (body_is p h) (admitted Q_DIR p.dir (facts p h.faultless).0)
 
 pub fixed_text_numbers : (dir : ℕ) (f : List ℕ) (p : FixedTextParts) → fixed_text_whole dir (listed f) ≡ Some (p.dir, body_of p) → numbers (fixed_text_reading p) ≡ f
 unfolding fixed_text_whole

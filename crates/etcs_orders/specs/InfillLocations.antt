@@ -12,7 +12,7 @@ use Rattle.etcs_parts.specs.Taking.{Left, listed, in_bits, next_number}
 use Rattle.etcs_parts.specs.Takes.{none_of, admitted}
 use Rattle.etcs_parts.specs.Repeats.{bit_count, bit_count_is}
 use Rattle.etcs_parts.specs.Codecs.{Codes, number, both, both_from, IsBoth, IsOptional, optional, optional_from, optional_reading, option_is}
-use Rattle.etcs_parts.specs.Packets.{whole_from, same_body, body_of_list, body_of_bits, body_typed, body_framed, untyped, unframed}
+use Rattle.etcs_parts.specs.Packets.{whole_from, same_body, body_of_list, body_of_bits, body_typed, body_framed, body_back, untyped, unframed}
 
 pub record InfillLocationParts : Type 0 where
   pub dir : ℕ
@@ -102,6 +102,10 @@ infill_location_one_to_one p q hp hq d f =
     ap (λ n. infill_location_of (n, body_of p)) d ∙ ap (λ b. infill_location_of (q.dir, b)) same
 
 -- ---- What is read.
+
+pub infill_location_back : (p : InfillLocationParts) → IsInfillLocation p → infill_location_whole p.dir (listed (numbers (infill_location_reading p))) ≡ Some (p.dir, body_of p)
+unfolding infill_location_whole
+infill_location_back p h = body_back body_codes (body_of p) p.dir (body_is p h) (admitted Q_DIR p.dir (facts p h).dir)
 
 pub infill_location_numbers : (dir : ℕ) (f : List ℕ) (p : InfillLocationParts) → infill_location_whole dir (listed f) ≡ Some (p.dir, body_of p) → numbers (infill_location_reading p) ≡ f
 unfolding infill_location_whole

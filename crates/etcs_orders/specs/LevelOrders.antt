@@ -15,7 +15,7 @@ use Rattle.etcs_parts.specs.Repeats.{bit_count_is, bit_count-append, bit_count-f
 use Rattle.etcs_parts.specs.Codecs.{Codes, number, both, both_from, IsBoth, list, list_reading, list_from, IsEntries}
 use Rattle.etcs_parts.specs.Choices.{few_counted}
 use Rattle.etcs_parts.specs.Levels.{LevelAckParts, IsLevelAck, level_ack_reading, level_ack_from, level_ack_codes, level_ack_most}
-use Rattle.etcs_parts.specs.Packets.{whole_from, same_body, body_of_list, body_of_bits, body_typed, body_framed, untyped, unframed}
+use Rattle.etcs_parts.specs.Packets.{whole_from, same_body, body_of_list, body_of_bits, body_typed, body_framed, body_back, untyped, unframed}
 
 pub record LevelOrderParts : Type 0 where
   pub dir : ℕ
@@ -122,6 +122,10 @@ level_order_one_to_one p q hp hq d f =
     ap (λ n. level_order_of (n, body_of p)) d ∙ ap (λ b. level_order_of (q.dir, b)) same
 
 -- ---- What is read.
+
+pub level_order_back : (p : LevelOrderParts) → IsLevelOrder p → level_order_whole p.dir (listed (numbers (level_order_reading p))) ≡ Some (p.dir, body_of p)
+unfolding level_order_whole
+level_order_back p h = body_back body_codes (body_of p) p.dir (body_is p h) (admitted Q_DIR p.dir (facts p h.faultless).dir)
 
 pub level_order_numbers : (dir : ℕ) (f : List ℕ) (p : LevelOrderParts) → level_order_whole dir (listed f) ≡ Some (p.dir, body_of p) → numbers (level_order_reading p) ≡ f
 unfolding level_order_whole

@@ -3,3 +3,4 @@ pub mod LevelOrders
 pub mod InfillLocations
 pub mod FixedTexts
 pub mod PlainTexts
+pub mod Equality

@@ -17,7 +17,7 @@ use Rattle.etcs_parts.specs.Repeats.{bit_count_is, bit_count-append}
 use Rattle.etcs_parts.specs.Codecs.{Codes, number, both, both_from, IsBoth, list, list_reading, list_from, IsEntries}
 use Rattle.etcs_parts.specs.Choices.{bit_count-same}
 use Rattle.etcs_parts.specs.TextFrames.{TextFrameParts, IsTextFrame, text_frame_reading, text_frame_from, text_frame_codes, text_frame_small}
-use Rattle.etcs_parts.specs.Packets.{whole_from, same_body, body_of_list, body_of_bits, body_typed, body_framed, untyped, unframed}
+use Rattle.etcs_parts.specs.Packets.{whole_from, same_body, body_of_list, body_of_bits, body_typed, body_framed, body_back, untyped, unframed}
 
 -- ---- The text: L_TEXT, and so many bytes.
 
@@ -136,6 +136,10 @@ plain_text_one_to_one p q hp hq d f =
     ap (λ n. plain_text_of (n, body_of p)) d ∙ ap (λ b. plain_text_of (q.dir, b)) same
 
 -- ---- What is read.
+
+pub plain_text_back : (p : PlainTextParts) → IsPlainText p → plain_text_whole p.dir (listed (numbers (plain_text_reading p))) ≡ Some (p.dir, body_of p)
+unfolding plain_text_whole
+plain_text_back p h = body_back body_codes (body_of p) p.dir (body_is p h) (admitted Q_DIR p.dir (facts p h.faultless).0)
 
 pub plain_text_numbers : (dir : ℕ) (f : List ℕ) (p : PlainTextParts) → plain_text_whole dir (listed f) ≡ Some (p.dir, body_of p) → numbers (plain_text_reading p) ≡ f
 unfolding plain_text_whole

@@ -10,6 +10,9 @@ mod fixed_text_tests;
 mod infill_location;
 #[cfg(test)]
 mod infill_location_tests;
+pub mod laws;
+#[cfg(test)]
+mod laws_tests;
 mod level_order;
 #[cfg(test)]
 mod level_order_tests;

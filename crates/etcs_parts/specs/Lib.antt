@@ -17,3 +17,4 @@ pub mod Speeds
 pub mod Displays
 pub mod TextFrames
 pub mod Packets
+pub mod Equality

@@ -93,6 +93,10 @@ module _ {B : Type 0} {row : Layout → Layout} {IsBody : B → Type 0} {reading
   pub read_bits : (b : B) → IsBody b → from (in_bits (spelled (reading b))) ≡ Some (b, in_bits [])
   read_bits b h = rw (append-nil (spelled (reading b))) at (codes.complete b (in_bits []) h)
 
+  -- its numbers are read as what it is
+  pub body_back : (b : B) (dir : ℕ) → IsBody b → IsTrue (admits Q_DIR dir) → whole_from from dir (listed (numbers (reading b))) ≡ Some (dir, b)
+  body_back b dir h d = is_whole from dir (listed (numbers (reading b))) (listed []) b d (read_list b h) refl
+
   -- what its numbers say which it is
   pub same_body : (a b : B) → IsBody a → IsBody b → numbers (reading a) ≡ numbers (reading b) → a ≡ b
   same_body a b ha hb e =

@@ -1,7 +1,7 @@
 -- Things one behind the other: of readings and of numbers.
 use Rattle.std.proofs.Common.{◌≡◌, ℕ, zero, suc, ◌<◌, ◌+◌, ◌-◌, ◌*◌, ◌≤◌, List, [], ◌∷◌, ◌++◌, length, Option, Some, None, refl, sym, ap, ◌∙◌, append_assoc, subst, arith}
 use Rattle.std.specs.Prelude.{All, flat_map}
-use Rattle.std.proofs.lemmas.List.Elements.{All-nil, All-cons}
+use Rattle.std.proofs.lemmas.List.Elements.{All-nil, All-cons, All-head, All-tail}
 use Rattle.std.proofs.lemmas.List.{append-nil, length-append}
 use Rattle.etcs_bits.specs.Bits.{num}
 use Rattle.etcs_bits.proofs.Numbers.{length-num}
@@ -11,17 +11,11 @@ use Rattle.etcs_vars.specs.Reading.{Reading, Times, spelled}
 use Rattle.etcs_parts.specs.Taking.{Left, ahead, ◌and_then◌, next_number, times_from}
 use Rattle.etcs_parts.specs.Takes.{ahead_none, ahead_both, taken, some_pair}
 
-all_first : {V : Type 0} (P : V → Type 0) (v : V) (vs : List V) → All P (v ∷ vs) → P v
-all_first P v vs h = h 0 v (omega arith)
-
-all_rest : {V : Type 0} (P : V → Type 0) (v : V) (vs : List V) → All P (v ∷ vs) → All P vs
-all_rest P v vs h = λ k d lt. h (suc k) d (omega arith)
-
 -- the readings of values, one behind the other
 pub times_in : {V : Type 0} (P : Reading → Type 0) (reading : V → Reading) (IsValue : V → Type 0)
     → ((v : V) → IsValue v → P (reading v)) → (vs : List V) → All IsValue vs → Times (length vs) P (flat_map reading vs)
 times_in P reading IsValue one [] h = refl
-times_in P reading IsValue one (v ∷ vs) h = (reading v, flat_map reading vs, refl, one v (all_first IsValue v vs h), times_in P reading IsValue one vs (all_rest IsValue v vs h))
+times_in P reading IsValue one (v ∷ vs) h = (reading v, flat_map reading vs, refl, one v (All-head IsValue v vs h), times_in P reading IsValue one vs (All-tail IsValue v vs h))
 
 pub times_out : {V : Type 0} (P : Reading → Type 0) (reading : V → Reading) (IsValue : V → Type 0)
     → ((r : Reading) → P r → (v : V) × IsValue v × (r ≡ reading v)) → (n : ℕ) (r : Reading) → Times n P r
@@ -38,7 +32,7 @@ pub times_complete : {V : Type 0} (from : Left → Option (V × Left)) (reading 
 unfolding times_from
 times_complete from reading IsValue one [] s h = rw (ahead_none s) refl
 times_complete from reading IsValue one (v ∷ vs) s h =
-    rw (ahead_both (reading v) (flat_map reading vs) s, one v (ahead (flat_map reading vs) s) (all_first IsValue v vs h), times_complete from reading IsValue one vs s (all_rest IsValue v vs h)) refl
+    rw (ahead_both (reading v) (flat_map reading vs) s, one v (ahead (flat_map reading vs) s) (All-head IsValue v vs h), times_complete from reading IsValue one vs s (All-tail IsValue v vs h)) refl
 
 -- entries that stand there
 abbrev Stand : {V : Type 0} → (V → Type 0) → (V → Reading) → ℕ → Left → List V → Left → Type 0

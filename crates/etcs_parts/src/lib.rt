@@ -11,6 +11,9 @@ mod differing_tests;
 mod faults;
 mod guards;
 mod items;
+pub mod laws;
+#[cfg(test)]
+mod laws_tests;
 mod level;
 mod level_ack;
 #[cfg(test)]

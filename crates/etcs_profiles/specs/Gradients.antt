@@ -15,7 +15,7 @@ use Rattle.etcs_parts.specs.Repeats.{bit_count_is, bit_count-append, bit_count-f
 use Rattle.etcs_parts.specs.Codecs.{Codes, number, both, both_from, IsBoth, list, list_reading, list_from, IsEntries}
 use Rattle.etcs_parts.specs.Choices.{few_counted}
 use Rattle.etcs_parts.specs.Slopes.{SlopeParts, IsSlope, slope_reading, slope_from, slope_codes, slope_most}
-use Rattle.etcs_parts.specs.Packets.{whole_from, same_body, body_of_list, body_of_bits, body_typed, body_framed, untyped, unframed}
+use Rattle.etcs_parts.specs.Packets.{whole_from, same_body, body_of_list, body_of_bits, body_typed, body_framed, body_back, untyped, unframed}
 
 pub record GradientParts : Type 0 where
   pub dir : ℕ
@@ -116,6 +116,10 @@ gradient_one_to_one p q hp hq d f =
     ap (λ n. gradient_of (n, body_of p)) d ∙ ap (λ b. gradient_of (q.dir, b)) same
 
 -- ---- What is read.
+
+pub gradient_back : (p : GradientParts) → IsGradient p → gradient_whole p.dir (listed (numbers (gradient_reading p))) ≡ Some (p.dir, body_of p)
+unfolding gradient_whole
+gradient_back p h = let k = facts p h.faultless in body_back body_codes (body_of p) p.dir (body_is p h) (admitted Q_DIR p.dir k.dir)
 
 pub gradient_numbers : (dir : ℕ) (f : List ℕ) (p : GradientParts) → gradient_whole dir (listed f) ≡ Some (p.dir, body_of p) → numbers (gradient_reading p) ≡ f
 unfolding gradient_whole

@@ -13,7 +13,7 @@ use Rattle.etcs_parts.specs.Takes.{none_of, admitted}
 use Rattle.etcs_parts.specs.Repeats.{bit_count_is}
 use Rattle.etcs_parts.specs.Codecs.{Codes, number, both, both_from, IsBoth}
 use Rattle.etcs_parts.specs.Authorities.{AuthorityParts, IsAuthority, authority_reading, authority_from, authority_codes, authority_then, authority_small}
-use Rattle.etcs_parts.specs.Packets.{whole_from, same_body, body_of_list, body_of_bits, body_typed, body_framed, untyped, unframed}
+use Rattle.etcs_parts.specs.Packets.{whole_from, same_body, body_of_list, body_of_bits, body_typed, body_framed, body_back, untyped, unframed}
 
 pub record Level1MaParts : Type 0 where
   pub dir : ℕ
@@ -118,6 +118,10 @@ level1_ma_one_to_one p q hp hq d f =
     ap (λ n. level1_ma_of (n, body_of p)) d ∙ ap (λ b. level1_ma_of (q.dir, b)) same
 
 -- ---- What is read.
+
+pub level1_ma_back : (p : Level1MaParts) → IsLevel1Ma p → level1_ma_whole p.dir (listed (numbers (level1_ma_reading p))) ≡ Some (p.dir, body_of p)
+unfolding level1_ma_whole
+level1_ma_back p h = let k = facts p h.faultless in body_back body_codes (body_of p) p.dir (body_is p h) (admitted Q_DIR p.dir k.dir)
 
 pub level1_ma_numbers : (dir : ℕ) (f : List ℕ) (p : Level1MaParts) → level1_ma_whole dir (listed f) ≡ Some (p.dir, body_of p) → numbers (level1_ma_reading p) ≡ f
 unfolding level1_ma_whole

@@ -15,7 +15,7 @@ use Rattle.etcs_parts.specs.Repeats.{bit_count_is, bit_count-append, bit_count-f
 use Rattle.etcs_parts.specs.Codecs.{Codes, number, both, both_from, IsBoth, list, list_reading, list_from, IsEntries}
 use Rattle.etcs_parts.specs.Choices.{few_counted}
 use Rattle.etcs_parts.specs.Links.{LinkParts, IsLink, link_reading, link_from, link_codes, link_most}
-use Rattle.etcs_parts.specs.Packets.{whole_from, same_body, body_of_list, body_of_bits, body_typed, body_framed, untyped, unframed}
+use Rattle.etcs_parts.specs.Packets.{whole_from, same_body, body_of_list, body_of_bits, body_typed, body_framed, body_back, untyped, unframed}
 
 pub record LinkingParts : Type 0 where
   pub dir : ℕ
@@ -116,6 +116,10 @@ linking_one_to_one p q hp hq d f =
     ap (λ n. linking_of (n, body_of p)) d ∙ ap (λ b. linking_of (q.dir, b)) same
 
 -- ---- What is read.
+
+pub linking_back : (p : LinkingParts) → IsLinking p → linking_whole p.dir (listed (numbers (linking_reading p))) ≡ Some (p.dir, body_of p)
+unfolding linking_whole
+linking_back p h = let k = facts p h.faultless in body_back body_codes (body_of p) p.dir (body_is p h) (admitted Q_DIR p.dir k.dir)
 
 pub linking_numbers : (dir : ℕ) (f : List ℕ) (p : LinkingParts) → linking_whole dir (listed f) ≡ Some (p.dir, body_of p) → numbers (linking_reading p) ≡ f
 unfolding linking_whole

@@ -15,7 +15,7 @@ use Rattle.etcs_parts.specs.Repeats.{bit_count_is, bit_count-append}
 use Rattle.etcs_parts.specs.Codecs.{Codes, number, both, both_from, IsBoth, list, list_reading, list_from, IsEntries}
 use Rattle.etcs_parts.specs.Choices.{few_counted}
 use Rattle.etcs_parts.specs.Speeds.{SpeedParts, IsSpeed, speed_reading, speed_from, speed_codes}
-use Rattle.etcs_parts.specs.Packets.{whole_from, same_body, body_of_list, body_of_bits, body_typed, body_framed, typed_read, framed_read, bits_fault, length_fault, length_is, length_ok, length_fits}
+use Rattle.etcs_parts.specs.Packets.{whole_from, same_body, body_of_list, body_of_bits, body_typed, body_framed, typed_read, framed_read, bits_fault, length_fault, length_is, length_ok, length_fits, body_back}
 
 pub record SpeedProfileParts : Type 0 where
   pub dir : ℕ
@@ -136,6 +136,9 @@ profile_bits dir x p h = (body_of_bits body_codes dir x (p.dir, body_of p) (was_
 is_read : (dir : ℕ) (s : Left) (b : SpeedProfileBody) → length (spelled (body_reading b)) ≤ ROW_LIMIT → whole_from body_from dir s ≡ Some (dir, b) → profile_whole dir s ≡ Some (dir, b)
 unfolding profile_whole
 is_read dir s b short h = rw (h, length_ok (body_reading b) short) refl
+
+pub profile_back : (p : SpeedProfileParts) → IsSpeedProfile p → profile_whole p.dir (listed (numbers (profile_reading p))) ≡ Some (p.dir, body_of p)
+profile_back p h = let k = facts p h.faultless in is_read p.dir (listed (numbers (profile_reading p))) (body_of p) (short p h) (body_back body_codes (body_of p) p.dir (body_is p h) (admitted Q_DIR p.dir k.dir))
 
 pub profile_untyped : (dir : ℕ) (f : List ℕ) → profile_whole dir (listed f) ≡ None → IsTyped ToTrain 27 dir f → ⊥
 profile_untyped dir f none h =

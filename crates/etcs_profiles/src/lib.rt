@@ -6,6 +6,9 @@ mod authority_tests;
 mod gradient;
 #[cfg(test)]
 mod gradient_tests;
+pub mod laws;
+#[cfg(test)]
+mod laws_tests;
 mod lengths;
 mod level1_ma;
 #[cfg(test)]

@@ -29,11 +29,11 @@ after_test true x y e = (refl, let t : x ≡ y = cc in t)
 after_test false x y e = absurd cc
 
 -- what is left behind a number that the row admits
-after_one : (v : Var) (rest mid : Layout) (n : ℕ) → after_number (one v rest) n ≡ Some mid → IsTrue (admits v n) × (onto n rest whole ≡ mid)
+pub after_one : (v : Var) (rest mid : Layout) (n : ℕ) → after_number (one v rest) n ≡ Some mid → IsTrue (admits v n) × (onto n rest whole ≡ mid)
 after_one v rest mid n e = after_test (admits v n) (onto n rest whole) mid e
 
 -- a reading of the row that begins with the number's bits begins with the number
-one_front : (v : Var) (rest mid : Layout) (len n : ℕ) (r : Reading) (d : List Bool) → IsTrue (looks None (one v rest)) → after_number (one v rest) n ≡ Some mid → ReadsIn (one v rest) len r → spelled r ≡ num (width v) n ++ d
+pub one_front : (v : Var) (rest mid : Layout) (len n : ℕ) (r : Reading) (d : List Bool) → IsTrue (looks None (one v rest)) → after_number (one v rest) n ≡ Some mid → ReadsIn (one v rest) len r → spelled r ≡ num (width v) n ++ d
     → (q : Reading) × (r ≡ (v, n) ∷ q) × ReadsIn mid (len - width v) q × (spelled q ≡ d)
 unfolding Reads
 one_front v rest mid len n r d look e ((m, q, ok, is, reads), l) b =
@@ -47,7 +47,7 @@ one_front v rest mid len n r d look e ((m, q, ok, is, reads), l) b =
     (q, is', (subst (λ (x : Layout). Reads x [] q) a.1 left, len'), parts.1)
 
 -- and back
-one_back : (v : Var) (rest mid : Layout) (len n : ℕ) (q : Reading) → IsTrue (looks None (one v rest)) → after_number (one v rest) n ≡ Some mid → width v ≤ len → ReadsIn mid (len - width v) q → ReadsIn (one v rest) len ((v, n) ∷ q)
+pub one_back : (v : Var) (rest mid : Layout) (len n : ℕ) (q : Reading) → IsTrue (looks None (one v rest)) → after_number (one v rest) n ≡ Some mid → width v ≤ len → ReadsIn mid (len - width v) q → ReadsIn (one v rest) len ((v, n) ∷ q)
 one_back v rest mid len n q look e wide (reads, l) =
     let a = after_one v rest mid n e in
     ((follows v rest n look a.0 q).1 (subst (λ (x : Layout). Reads x [] q) (sym a.1) reads), (let s = length-sent v n q in omega (arith, s, l, wide)))
@@ -58,7 +58,7 @@ one_looks v rest mid n look e = subst (λ (x : Layout). IsTrue (looks None x)) (
 -- ---- All variables that were read.
 
 -- a reading of the row that begins with their bits begins with them
-front : (row left : Layout) (len bits : ℕ) (p r : Reading) (d : List Bool) → IsTrue (looks None row) → ReadTo row len p left bits → ReadsIn row len r → spelled r ≡ spelled p ++ d → (q : Reading) × (r ≡ p ++ q) × ReadsIn left bits q × (spelled q ≡ d)
+pub front : (row left : Layout) (len bits : ℕ) (p r : Reading) (d : List Bool) → IsTrue (looks None row) → ReadTo row len p left bits → ReadsIn row len r → spelled r ≡ spelled p ++ d → (q : Reading) × (r ≡ p ++ q) × ReadsIn left bits q × (spelled q ≡ d)
 front row left len bits [] r d look (same, much) l e = (r, refl, rw (same, much) l, e)
 front whole left len bits ((v, n) ∷ p) r d look (mid, f, a, wide, to) l e = absurd cc
 front (one w rest) left len bits ((v, n) ∷ p) r d look (mid, f, a, wide, to) l e =
@@ -71,7 +71,7 @@ front (one w rest) left len bits ((v, n) ∷ p) r d look (mid, f, a, wide, to) l
 front (guarded g group rest) left len bits ((v, n) ∷ p) r d look (mid, f, a, wide, to) l e = absurd cc
 front (counted group rest) left len bits ((v, n) ∷ p) r d look (mid, f, a, wide, to) l e = absurd cc
 
-back : (row left : Layout) (len bits : ℕ) (p q : Reading) → IsTrue (looks None row) → ReadTo row len p left bits → ReadsIn left bits q → ReadsIn row len (p ++ q)
+pub back : (row left : Layout) (len bits : ℕ) (p q : Reading) → IsTrue (looks None row) → ReadTo row len p left bits → ReadsIn left bits q → ReadsIn row len (p ++ q)
 back row left len bits [] q look (same, much) l = rw (← same, ← much) l
 back whole left len bits ((v, n) ∷ p) q look (mid, f, a, wide, to) l = absurd cc
 back (one w rest) left len bits ((v, n) ∷ p) q look (mid, f, a, wide, to) l =
@@ -84,7 +84,7 @@ back (counted group rest) left len bits ((v, n) ∷ p) q look (mid, f, a, wide, 
 
 -- ---- The law.
 
-holder-append : (p q : Reading) (k : ℕ) → holder (p ++ q) (length (spelled p) + k) ≡ holder q k
+pub holder-append : (p q : Reading) (k : ℕ) → holder (p ++ q) (length (spelled p) + k) ≡ holder q k
 holder-append [] q k = ap (holder q) (let t : 0 + k ≡ k = omega arith in t)
 holder-append ((v, n) ∷ p) q k =
     let l = length-sent v n p in

@@ -1,1 +1,4 @@
 pub mod PacketValues
+pub mod OnePacket
+pub mod PacketReadings
+pub mod Equality

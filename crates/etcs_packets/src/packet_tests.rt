@@ -7,7 +7,59 @@ use etcs_flat::{Flat, Other};
 use etcs_orders::InfillLocation;
 use etcs_vars::{BuildFault, Var};
 use std::alloc::{AllocError, Global};
+use std::process::Abort;
 use std::test::Fail;
+
+/// A number behind the frame, and its digits in the width of its variable.
+pub(crate) type Spelled = (u64, &'static str);
+
+/// Asserts that a packet has this number, direction and length, that it is made of these numbers and of these
+/// digits, and that it is copied.
+pub(crate) fn assert_packet(
+    rt: &impl Abort,
+    alloc: Global,
+    packet: &Packet,
+    frame: (u8, u8, usize),
+    spelled: &[Spelled],
+) -> Result<(), Fail> {
+    let (nid, dir, bit_len) = frame;
+    let numbers: Vec<u64> = spelled.iter().map(|row| row.0).collect(alloc)?;
+    let digits = digits_of(alloc, spelled)?;
+    let bytes = bytes_of(alloc, digits.as_slice())?;
+    assert!(rt; is_like(packet, nid, Some(dir), bit_len));
+    assert_eq!(rt; digits.len(), bit_len.saturating_sub(23));
+    assert!(rt; again(alloc, packet, dir, numbers.as_slice(), bytes.as_slice())?);
+    Ok(())
+}
+
+/// The digits 0 and 1 of a spelling, without the spaces between them.
+fn digits_of(alloc: Global, spelled: &[Spelled]) -> Result<Vec<u8>, AllocError> {
+    let mut digits = Vec::new(alloc);
+    for row in spelled {
+        for byte in row.1.bytes() {
+            match byte {
+                b'0' => digits.push(0)?,
+                b'1' => digits.push(1)?,
+                _ => {}
+            }
+        }
+    }
+    Ok(digits)
+}
+
+/// The bytes of digits, filled up with zeros. The first digit is the highest bit.
+fn bytes_of(alloc: Global, digits: &[u8]) -> Result<Vec<u8>, AllocError> {
+    let mut bytes = Vec::new(alloc);
+    for eight in digits.chunks(8) {
+        let mut byte = 0u8;
+        for place in 0..8usize {
+            let digit = eight.get(place).copied().unwrap_or(0);
+            byte = (byte << 1) | digit;
+        }
+        bytes.push(byte)?;
+    }
+    Ok(bytes)
+}
 
 /// The frame and the variables of a packet: number, direction, bits.
 fn is_like(packet: &Packet, nid: u8, dir: Option<u8>, bit_len: usize) -> bool {

@@ -5,18 +5,20 @@ ghost use Rattle.etcs_vars.specs.Reading.{Reading, numbers, spelled};
 ghost use Rattle.etcs_rows.specs.declared.row.Way.TheVariants.{ToTrain};
 ghost use Rattle.etcs_rows.specs.Typed.{IsTyped, IsFramed};
 ghost use Rattle.etcs_packets.specs.PacketValues.{packet_value, dir_of, variables_of, IsTypedOf, IsPacket};
+ghost use Rattle.etcs_packets.specs.OnePacket.{IsMade};
 
 use crate::packet::Packet;
 use crate::typed::{hold, no_row, of_bits, of_fields};
 use etcs_bits::BitSlice;
 use etcs_rows::Packetlike;
 use etcs_vars::Var;
-use etcs_vars::parts::{Sink, Variables, append_numbers};
+use etcs_vars::parts::{Sink, Variables};
 use std::alloc::{AllocError, Global};
 
-/// Says of a packet that it is one.
+/// Says of a packet that it is one, and of its own type.
 pub fn holds(packet: &Packet)
-    ensures { IsPacket (packet_value packet.now) }
+    ensures made { IsMade packet.now }
+    ensures packet { IsPacket (packet_value packet.now) }
 {
     match packet {
         Packet::VbcMarker(marker) => {
@@ -137,6 +139,7 @@ pub fn from_fields(
     dir: u8,
     fields: &[u64],
 ) -> Result<Option<Packet>, AllocError>
+    ensures made { IfOk result (λ o. IfSome o (λ p. IsMade p)) }
     ensures some { IfOk result (λ o. IfSome o (λ p. IsTypedOf nid dir (packet_value p) × (numbers (variables_of (packet_value p)) ≡ fields.now))) }
     ensures none { IfOk result (λ o. IsNone o → IsTyped ToTrain nid dir fields.now → ⊥) }
 {
@@ -183,6 +186,7 @@ pub fn from_bits(
     dir: u8,
     bits: BitSlice<'_>,
 ) -> Result<Option<Packet>, AllocError>
+    ensures made { IfOk result (λ o. IfSome o (λ p. IsMade p)) }
     ensures some { IfOk result (λ o. IfSome o (λ p. IsTypedOf nid dir (packet_value p) × (spelled (variables_of (packet_value p)) ≡ bits.entry))) }
     ensures none { IfOk result (λ o. IsNone o → (r : Reading) → IsFramed ToTrain nid dir r → spelled r ≡ bits.entry → ⊥) }
 {

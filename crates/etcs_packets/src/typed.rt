@@ -15,7 +15,8 @@ const FRAME_BITS: usize = 23;
 
 /// Says of a typed packet that its variables are its row's.
 pub(crate) fn hold<P: Framed>(packet: &P)
-    ensures { IsFramed P.WAY P.NID (P.direction packet.now) (P.reading_of packet.now) }
+    ensures made { P.is_value packet.now }
+    ensures framed { IsFramed P.WAY P.NID (P.direction packet.now) (P.reading_of packet.now) }
 {
     packet.dir();
 }
@@ -35,6 +36,7 @@ pub(crate) fn of_fields<P: Framed>(
     dir: u8,
     fields: &[u64],
 ) -> Result<Option<P>, AllocError>
+    ensures made { IfOk result (λ o. IfSome o (λ p. P.is_value p)) }
     ensures dir { IfOk result (λ o. IfSome o (λ p. P.direction p ≡ dir)) }
     ensures some { IfOk result (λ o. IfSome o (λ p. numbers (P.reading_of p) ≡ fields.now)) }
     ensures none { IfOk result (λ o. IsNone o → IsTyped P.WAY P.NID dir fields.now → ⊥) }
@@ -57,6 +59,7 @@ pub(crate) fn of_bits<P: Framed>(
     dir: u8,
     bits: BitSlice<'_>,
 ) -> Result<Option<P>, AllocError>
+    ensures made { IfOk result (λ o. IfSome o (λ p. P.is_value p)) }
     ensures dir { IfOk result (λ o. IfSome o (λ p. P.direction p ≡ dir)) }
     ensures some { IfOk result (λ o. IfSome o (λ p. spelled (P.reading_of p) ≡ bits.entry)) }
     ensures none { IfOk result (λ o. IsNone o → (r : Reading) → IsFramed P.WAY P.NID dir r → spelled r ≡ bits.entry → ⊥) }

@@ -1,0 +1,5 @@
+pub mod Contents
+pub mod RowParts
+pub mod Phases
+pub mod Spellings
+pub mod Runs

@@ -1,0 +1,3 @@
+pub mod Written
+pub mod Sinks
+pub mod Fronts

@@ -1,0 +1,37 @@
+-- What a sink of bits holds.
+use Rattle.std.proofs.Common.{◌≡◌, ℕ, ◌+◌, ◌*◌, ◌-◌, ◌^◌, min, List, [], ◌∷◌, ◌++◌, length, nat_le, if◌then◌else◌, refl}
+use Rattle.etcs_bits.specs.Bits.{num}
+use Rattle.etcs_vars.specs.Vars.{width}
+use Rattle.etcs_vars.specs.Reading.{Sent, Reading}
+use Rattle.etcs_writing.specs.Written.{over}
+use Rattle.etcs_writing.specs.declared.sink.BitSink.{BitSink}
+
+-- the bytes that are written
+abbrev pub bytes_of : BitSink → List ℕ
+bytes_of s = s.bytes.now
+
+-- the bit at which the next variable begins
+abbrev pub place_of : BitSink → ℕ
+place_of s = s.place
+
+-- how many bits of bytes a place can count
+abbrev pub room : List ℕ → ℕ
+room bytes = min (8 * length bytes) (2 ^ 64 - 1)
+
+-- a variable more, where it has room
+unfoldable pub put : BitSink → Sent → BitSink
+put s p = if nat_le (s.place + width p.0) (room s.bytes.now) then record { bytes = record s.bytes { now = over s.bytes.now s.place (num (width p.0) p.1) }; place = s.place + width p.0 } else s
+
+-- variables more, one behind the other
+abbrev pub with_sent : BitSink → Reading → BitSink
+with_sent s [] = s
+with_sent s (p ∷ r) = with_sent (put s p) r
+
+-- ---- Its laws.
+
+pub with_sent_none : (s : BitSink) → with_sent s [] ≡ s
+with_sent_none s = refl
+
+pub with_sent_both : (s : BitSink) (a b : Reading) → with_sent s (a ++ b) ≡ with_sent (with_sent s a) b
+with_sent_both s [] b = refl
+with_sent_both s (p ∷ a) b = with_sent_both (put s p) a b

@@ -1,0 +1,9 @@
+//! Writing variables and packets over the bits of bytes, without memory.
+#![tactic(auto)]
+
+mod packets;
+mod sink;
+#[cfg(test)]
+mod tests;
+
+pub use packets::{write_packet, write_packets, write_reading};

@@ -29,7 +29,7 @@ use Rattle.etcs_container.proofs.Endings.{packets_more, packet_ends}
 
 -- ---- The bits behind a whole number.
 
-none : (number : ℕ) → num 0 number ≡ []
+pub none : (number : ℕ) → num 0 number ≡ []
 none number = nil_from_length (num 0 number) (length-num 0 number)
 
 -- the bits of the number's beginning and its last k
@@ -90,7 +90,7 @@ module _ (c : Carrier) (start room : ℕ) (ps : List Packet) (w : Option WalkVal
             within = within;
             made = made;
             residual = residual_same (Run c start) (packets_reading (map packet_value ps) ++ (NID_PACKET, 0) ∷ []) (AfterNumber c room 0) (left_at c room Marker) (behind_it 0) t.1;
-            stands = (refl, refl, frame_begins c room Marker refl tt left);
+            stands = (refl, refl, frame_begins c room Marker refl t.0 left);
           }
 
       pub turn_framed : (n : ℕ) → 0 < n → n < 255 → ((r : Reading) × AfterNumber c room n r) → Reached c start (Direction n) room ps [] w [] 0 0

@@ -77,7 +77,7 @@ pub goes_on : (w : WalkValue) → Open w.left → IsTrue (looks None w.left) →
 goes_on w o look free none pos (r, l) =
     let z = first_of w.left w.len r o pos l in
     let owned : Owner (language w) [] z.0 = owner_of_row w.left z.0 w.len [] z.1 (width_pos z.0) (none_of (language w) (r, l)) in
-    (z.0, record { free = free; next = z.1; looks_well = look; owned = rw none owned })
+    (z.0, record { free = free; next = z.1; looks_well = look; short = rw none (width_pos z.0); owned = rw none owned })
 
 -- ---- All bits of a step.
 
@@ -101,7 +101,7 @@ stepped old new x b bs (Ok (Whole y n)) on le other (free, (ends, inside, is, le
     (p.0, all.1, p.2, is, len)
 stepped old new x b bs (Err (Refused y)) on le other (inl (free, owned, blocked, is)) =
     let same : y ≡ x = owner_same (language old) old.part x y on.owned owned in
-    (same, (0, omega arith, rw (append-nil old.part) on.owned, blocked))
+    (same, (0, omega arith, rw (append-nil old.part) on.owned, blocked, ap (λ (w : WalkValue). w.part) is ∙ sym (append-nil old.part)))
 stepped old new x b bs (Err (Refused y)) on le other (inr (e, is)) = let bad : ◌≡◌ {A = Option Var} None (Some y) = sym on.free ∙ e in absurd cc
 stepped old new x b bs (Err Ended) on le other (free, is, len, same) =
     let f : first_variable whole ≡ Some x = subst (λ (l : Layout). first_variable l ≡ Some x) is on.next in
@@ -120,10 +120,10 @@ longer old mid new x b bs (Ok (Number y m)) l n p (same, bits, passed, on) =
     (same, sym (joined old.part bs b) ∙ ap (λ (t : List Bool). t ++ bs) (sym p) ∙ bits, record { small = passed.small; after = ap (λ (u : Layout). after_number u m) (sym l) ∙ passed.after; length_is = passed.length_is ∙ n; none = passed.none; free = passed.free }, on)
 longer old mid new x b bs (Ok (Whole y m)) l n p (same, bits, passed, is, none) =
     (same, sym (joined old.part bs b) ∙ ap (λ (t : List Bool). t ++ bs) (sym p) ∙ bits, record { small = passed.small; after = ap (λ (u : Layout). after_number u m) (sym l) ∙ passed.after; length_is = passed.length_is ∙ n; none = passed.none; free = passed.free }, is, none)
-longer old mid new x b bs (Err (Refused y)) l n p (same, (k, lt, owned, blocked)) =
+longer old mid new x b bs (Err (Refused y)) l n p (same, (k, lt, owned, blocked, stands)) =
     let language_is : language mid ≡ language old = rw (l, n) refl in
     let front : (j : ℕ) → mid.part ++ take j bs ≡ old.part ++ take (j + 1) (b ∷ bs) = λ j. ap (λ (t : List Bool). t ++ take j bs) p ∙ joined old.part (take j bs) b ∙ ap (λ (t : List Bool). old.part ++ t) (sym (take_more j b bs)) in
-    (same, (k + 1, omega (arith, lt), (let o : Owner (language old) (mid.part ++ take k bs) x = subst (λ L. Owner L (mid.part ++ take k bs) x) language_is owned in rw (front k) at o), (λ v. blocked (subst (λ L. Viable L (mid.part ++ take (k + 1) bs)) (sym language_is) (rw (← front (k + 1)) at v)))))
+    (same, (k + 1, omega (arith, lt), (let o : Owner (language old) (mid.part ++ take k bs) x = subst (λ L. Owner L (mid.part ++ take k bs) x) language_is owned in rw (front k) at o), (λ v. blocked (subst (λ L. Viable L (mid.part ++ take (k + 1) bs)) (sym language_is) (rw (← front (k + 1)) at v))), stands ∙ front k))
 longer old mid new x b bs (Err Ended) l n p none = none
 
 pub moved : (t : List Bool) (old new : WalkValue) (x : Var) (result : Result Step Stopped) → GoesOn old x → length old.part + length t ≤ width x → Walks old t result new → Moved old x t result new
@@ -136,5 +136,5 @@ moved (b ∷ bs) old new x result on le (inr (mid, (free, (y, next, short, owned
     let part : mid.part ≡ old.part ++ b ∷ [] = ap (λ (w : WalkValue). w.part) is in
     let free' : mid.refused ≡ None = ap (λ (w : WalkValue). w.refused) is ∙ on.free in
     let owned' : Owner (language mid) mid.part x = subst (λ (w : WalkValue). Owner (language w) w.part x) (sym is) (subst (Owner (language old) (old.part ++ b ∷ [])) same owned) in
-    let on' : GoesOn mid x = record { free = free'; next = ap first_variable left ∙ on.next; looks_well = subst (λ (l : Layout). IsTrue (looks None l)) (sym left) on.looks_well; owned = owned' } in
+    let on' : GoesOn mid x = record { free = free'; next = ap first_variable left ∙ on.next; looks_well = subst (λ (l : Layout). IsTrue (looks None l)) (sym left) on.looks_well; short = subst (λ (v : Var). length mid.part < width v) same (rw part short); owned = owned' } in
     longer old mid new x b bs result left len part (moved bs mid new x result on' (omega (arith, le, ap length part, length-append old.part (b ∷ []))) walks)

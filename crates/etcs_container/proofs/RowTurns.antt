@@ -86,7 +86,7 @@ passed old new x n Q look next pass = record {
 -- ---- What is reached.
 
 -- a longer list of a row's numbers, with the frame in front
-so_far_more : (c : Carrier) (nid dir : ℕ) (ps : List Packet) (row : Layout) (f : List ℕ) (old new : WalkValue) (x : Var) (n : ℕ) → row_to ToTrain nid ≡ Some row → read_of row (f ++ n ∷ []) ≡ read_of row f ++ (x, n) ∷ [] → new.len + width x ≡ old.len
+pub so_far_more : (c : Carrier) (nid dir : ℕ) (ps : List Packet) (row : Layout) (f : List ℕ) (old new : WalkValue) (x : Var) (n : ℕ) → row_to ToTrain nid ≡ Some row → read_of row (f ++ n ∷ []) ≡ read_of row f ++ (x, n) ∷ [] → new.len + width x ≡ old.len
     → so_far c (Row nid dir) ps (f ++ n ∷ []) (Some new) [] ≡ so_far c (Row nid dir) ps f (Some old) [] ++ (x, n) ∷ []
 so_far_more c nid dir ps row f old new x n typed more len =
     let front = packets_reading (map packet_value ps) in
@@ -99,18 +99,18 @@ so_far_more c nid dir ps row f old new x n typed more len =
     ap (λ (t : Reading). front ++ t) row-is ∙ sym (append_assoc front (here c (Row nid dir) f (Some old) []) ((x, n) ∷ []))
 
 module _ (c : Carrier) (start room nid dir : ℕ) (ps : List Packet) (small : start ≤ 8191) (within : room ≤ start) (made : All IsMade ps) (row : Layout) (f : List ℕ) (old new : WalkValue) (x : Var) (n : ℕ)
-    (typed : row_to ToTrain nid ≡ Some row) (directed : IsTrue (admits Q_DIR dir)) (read : ReadBy row (length (spelled (read_of row f)) + old.len) f old.left old.len) (short : length (spelled (read_of row f)) + old.len ≤ ROW_LIMIT) (on : GoesOn old x) (behind : (r : Reading) × Run c room r)
+    (typed : row_to ToTrain nid ≡ Some row) (look : IsTrue (looks None row)) (directed : IsTrue (admits Q_DIR dir)) (read : ReadBy row (length (spelled (read_of row f)) + old.len) f old.left old.len) (short : length (spelled (read_of row f)) + old.len ≤ ROW_LIMIT) (on : GoesOn old x) (behind : (r : Reading) × Run c room r)
     (residual : Residual (Run c start) (so_far c (Row nid dir) ps f (Some old) []) (Then (language old) (Run c room))) (pass : Passes old x n new) where
-  one_longer : ReadBy row (length (spelled (read_of row f)) + old.len) (f ++ n ∷ []) new.left (old.len - width x) × (read_of row (f ++ n ∷ []) ≡ read_of row f ++ (x, n) ∷ [])
+  pub one_longer : ReadBy row (length (spelled (read_of row f)) + old.len) (f ++ n ∷ []) new.left (old.len - width x) × (read_of row (f ++ n ∷ []) ≡ read_of row f ++ (x, n) ∷ [])
   one_longer = read_more row (length (spelled (read_of row f)) + old.len) f old.left new.left old.len n x read on.next pass.after (omega (arith, pass.length_is))
 
-  same_bits : length (spelled (read_of row (f ++ n ∷ []))) + new.len ≡ length (spelled (read_of row f)) + old.len
+  pub same_bits : length (spelled (read_of row (f ++ n ∷ []))) + new.len ≡ length (spelled (read_of row f)) + old.len
   same_bits =
       let e = one_longer.1 in
       let b = read_bits row (length (spelled (read_of row f)) + old.len) (f ++ n ∷ []) new.left (old.len - width x) one_longer.0 in
       omega (arith, b, pass.length_is)
 
-  read_longer : ReadBy row (length (spelled (read_of row (f ++ n ∷ []))) + new.len) (f ++ n ∷ []) new.left new.len
+  pub read_longer : ReadBy row (length (spelled (read_of row (f ++ n ∷ []))) + new.len) (f ++ n ∷ []) new.left new.len
   read_longer =
       let len : old.len - width x ≡ new.len = omega (arith, pass.length_is) in
       subst (λ (k : ℕ). ReadBy row k (f ++ n ∷ []) new.left new.len) (sym same_bits) (subst (ReadBy row (length (spelled (read_of row f)) + old.len) (f ++ n ∷ []) new.left) len one_longer.0)
@@ -128,5 +128,5 @@ module _ (c : Carrier) (start room nid dir : ℕ) (ps : List Packet) (small : st
     within = within;
     made = made;
     residual = row_behind;
-    stands = (refl, refl, record { row = row; walk_value = new; next = z; typed = typed; walk_is = refl; directed = directed; read = read_longer; short = omega (arith, same_bits, short); goes_on = next; behind = behind });
+    stands = (refl, refl, record { row = row; walk_value = new; next = z; typed = typed; looks_well = look; walk_is = refl; directed = directed; read = read_longer; short = omega (arith, same_bits, short); goes_on = next; behind = behind });
   }

@@ -59,7 +59,7 @@ only_framed c room n pos small q (inl (same, is, le, e)) = absurd (omega (arith,
 only_framed c room n pos small q (inr (inl (same, is, m))) = absurd (omega (arith, is, pos))
 only_framed c room n pos small q (inr (inr (pos', small', d))) = d
 
-row_body : (nid bits : ℕ) (row : Layout) (q : Reading) → row_to ToTrain nid ≡ Some row → BodyIn nid bits q → ReadsIn row bits q
+pub row_body : (nid bits : ℕ) (row : Layout) (q : Reading) → row_to ToTrain nid ≡ Some row → BodyIn nid bits q → ReadsIn row bits q
 row_body nid bits row q e (inl (other, f, l)) = let same : other ≡ row = (let two : Some other ≡ Some row = sym f ∙ e in cc) in subst (λ (x : Layout). ReadsIn x bits q) same l
 row_body nid bits row q e (inr (k, b)) = absurd (kept_untyped nid row k e)
 

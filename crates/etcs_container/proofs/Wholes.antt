@@ -62,7 +62,7 @@ row_value nid dir row len f (packets.typed nid' dir' r) typed look h (row', type
 
 -- ---- Kept bits.
 
-kept_append : (a b : List Bool) → kept OTHER_DATA (a ++ b) ≡ kept OTHER_DATA a ++ kept OTHER_DATA b
+pub kept_append : (a b : List Bool) → kept OTHER_DATA (a ++ b) ≡ kept OTHER_DATA a ++ kept OTHER_DATA b
 kept_append [] b = refl
 kept_append (x ∷ a) b = ap (λ (t : Reading). (OTHER_DATA, if x then 1 else 0) ∷ t) (kept_append a b)
 

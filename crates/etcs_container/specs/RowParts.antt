@@ -17,6 +17,7 @@ pub record GoesOn (w : WalkValue) (x : Var) : Type 0 where
   pub free : w.refused ≡ None
   pub next : first_variable w.left ≡ Some x
   pub looks_well : IsTrue (looks None w.left)
+  pub short : length w.part < width x
   pub owned : Owner (language w) w.part x
 
 -- the number n of x is whole, and goes on to what is left then
@@ -32,5 +33,5 @@ abbrev pub Moved : WalkValue → Var → List Bool → Result Step Stopped → W
 Moved old x t (Ok More) new = (new.left ≡ old.left) × (new.len ≡ old.len) × (new.part ≡ old.part ++ t) × GoesOn new x
 Moved old x t (Ok (Number y n)) new = (y ≡ x) × (old.part ++ t ≡ num (width x) n) × Passes old x n new × ((z : Var) × GoesOn new z)
 Moved old x t (Ok (Whole y n)) new = (y ≡ x) × (old.part ++ t ≡ num (width x) n) × Passes old x n new × (new.left ≡ whole) × (new.len ≡ 0)
-Moved old x t (Err (Refused y)) new = (y ≡ x) × ((k : ℕ) × (k < length t) × Owner (language old) (old.part ++ take k t) x × (Viable (language old) (old.part ++ take (k + 1) t) → ⊥))
+Moved old x t (Err (Refused y)) new = (y ≡ x) × ((k : ℕ) × (k < length t) × Owner (language old) (old.part ++ take k t) x × (Viable (language old) (old.part ++ take (k + 1) t) → ⊥) × (new.part ≡ old.part ++ take k t))
 Moved old x t (Err Ended) new = ⊥

@@ -1,20 +1,20 @@
 -- What a reader of packets keeps between two bits.
-use Rattle.std.specs.Prelude.{◌≡◌, ℕ, ◌+◌, ◌-◌, ◌^◌, ◌<◌, ◌≤◌, Bool, List, [], ◌∷◌, ◌++◌, length, map, IsTrue, All, Option, Some, None}
-use Rattle.etcs_bits.specs.Bits.{num}
+use Rattle.std.specs.Prelude.{◌≡◌, ℕ, ◌+◌, ◌-◌, ◌^◌, ◌<◌, ◌≤◌, Bool, List, [], ◌∷◌, ◌++◌, length, take, map, IsTrue, All, Option, Some, None}
+use Rattle.etcs_bits.specs.Bits.{num, part}
 use Rattle.etcs_vars.specs.declared.var.Var.{Var}
 use Rattle.etcs_vars.specs.declared.var.Var.TheVariants.{NID_PACKET, Q_DIR, OTHER_DATA}
 use Rattle.etcs_vars.specs.Vars.{width, admits}
-use Rattle.etcs_vars.specs.Walking.{Residual}
-use Rattle.etcs_vars.specs.Reading.{Reading, Then, spelled, kept}
+use Rattle.etcs_vars.specs.Walking.{Residual, Refuses}
+use Rattle.etcs_vars.specs.Reading.{Reading, Then, spelled, numbers, kept, Viable}
 use Rattle.etcs_rows.specs.declared.row.Way.TheVariants.{ToTrain}
 use Rattle.etcs_rows.specs.declared.frames.Carrier.{Carrier}
-use Rattle.etcs_rows.specs.Layouts.{Layout, ROW_LIMIT}
+use Rattle.etcs_rows.specs.Layouts.{Layout, looks, ROW_LIMIT}
 use Rattle.etcs_rows.specs.Rows.{row_to}
 use Rattle.etcs_rows.specs.Frames.{is_kept}
 use Rattle.etcs_rows.specs.Places.{first_variable, after_number}
 use Rattle.etcs_rows.specs.Walks.{WalkValue, language}
 use Rattle.etcs_packets.specs.declared.packet.Packet.{Packet}
-use Rattle.etcs_packets.specs.PacketValues.{packet_value}
+use Rattle.etcs_packets.specs.PacketValues.{packet_value, variables_of, IsTypedOf, IsPacket}
 use Rattle.etcs_packets.specs.PacketReadings.{frame, packets_reading}
 use Rattle.etcs_packets.specs.OnePacket.{IsMade}
 use Rattle.etcs_container.specs.declared.phase.Phase.{Phase}
@@ -22,6 +22,9 @@ use Rattle.etcs_container.specs.declared.phase.Phase.TheVariants.{Number, Marker
 use Rattle.etcs_container.specs.Contents.{closing, Run, KeptIn}
 use Rattle.etcs_container.specs.Phases.{var_at, after_at, left_at, is_open_at, Starts}
 use Rattle.etcs_container.specs.RowParts.{GoesOn}
+use Rattle.etcs_container.specs.declared.run.Run as reader
+use Rattle.etcs_container.specs.declared.run.Stop.{Stop}
+use Rattle.etcs_container.specs.declared.run.Stop.TheVariants.{Refused, Memory}
 
 -- ---- The numbers of a row that were read.
 
@@ -50,6 +53,11 @@ walk_bits (Some w) = w.len
 abbrev pub walk_part : Option WalkValue → List Bool
 walk_part None = []
 walk_part (Some w) = w.part
+
+-- the variable of a row that comes next
+abbrev pub walk_next : Option WalkValue → Option Var
+walk_next None = None
+walk_next (Some w) = first_variable w.left
 
 abbrev pub walk_language : Option WalkValue → Reading → Type 0
 walk_language None r = ⊥
@@ -107,6 +115,7 @@ pub record InRow (c : Carrier) (room nid dir : ℕ) (f : List ℕ) (walk : Optio
   pub walk_value : WalkValue
   pub next : Var
   pub typed : row_to ToTrain nid ≡ Some row
+  pub looks_well : IsTrue (looks None row)
   pub walk_is : walk ≡ Some walk_value
   pub directed : IsTrue (admits Q_DIR dir)
   pub read : ReadBy row (length (spelled (read_of row f)) + walk_value.len) f walk_value.left walk_value.len
@@ -144,3 +153,34 @@ pub record Reached (c : Carrier) (start : ℕ) (phase : Phase) (room : ℕ) (ps 
 -- the bits that were read
 abbrev pub seen : Carrier → Phase → List Packet → List ℕ → Option WalkValue → List Bool → ℕ → ℕ → List Bool
 seen c phase ps f w k number taken = spelled (so_far c phase ps f w k) ++ part_at phase w number taken
+
+-- behind these packets stands the typed packet of a number, a direction and these numbers
+pub record IsTypedIn (nid dir : ℕ) (f : List ℕ) (before after : List Packet) : Type 0 where
+  pub packet : Packet
+  pub made : IsMade packet
+  pub is_packet : IsPacket (packet_value packet)
+  pub typed : IsTypedOf nid dir (packet_value packet)
+  pub same : numbers (variables_of (packet_value packet)) ≡ f
+  pub put : after ≡ before ++ packet ∷ []
+
+-- ---- By the fields of a reader.
+
+abbrev pub seen_by : reader.Run → List Bool
+seen_by r = seen r.carrier r.phase r.packets.items r.numbers.items r.walk r.kept r.number r.taken
+
+-- the whole variables
+abbrev pub so_far_of : reader.Run → Reading
+so_far_of r = so_far r.carrier r.phase r.packets.items r.numbers.items r.walk r.kept
+
+pub record IsRun (r : reader.Run) : Type 0 where
+  pub reached : Reached r.carrier r.start r.phase r.room r.packets.items r.numbers.items r.walk r.kept r.number r.taken
+  pub counted : r.count ≡ length (seen_by r)
+
+-- why it stops within the bits b, of which it counted so many
+abbrev pub StopsIn : Carrier → ℕ → List Bool → ℕ → Stop → Type 0
+StopsIn c start b count (Refused i x) = Refuses (Run c start) b i x
+StopsIn c start b count Memory = (count ≤ length b) × Viable (Run c start) (take count b)
+
+-- n bits of xs from at on were taken behind b
+abbrev pub IsNext : List Bool → List Bool → ℕ → ℕ → List Bool → Type 0
+IsNext b xs at n s = (0 < n) × (at + n ≤ length xs) × (s ≡ b ++ part at n xs)

@@ -1,6 +1,13 @@
 //! What telegrams and messages share: packets one behind the other in a room of so many bits.
 #![tactic(auto)]
 
+mod bodies;
+mod frames;
+mod kept;
 pub mod laws;
+mod next;
 mod phase;
+mod pieces;
+mod rows;
+mod run;
 mod starts;

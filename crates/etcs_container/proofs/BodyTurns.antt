@@ -1,5 +1,5 @@
 -- Behind L_PACKET: a row that is read, or bits that are kept.
-use Rattle.std.proofs.Common.{◌≡◌, ℕ, ◌+◌, ◌-◌, ◌<◌, ◌≤◌, List, [], ◌∷◌, ◌++◌, Some, refl, sym, ap, subst, ◌∙◌, arith, append_assoc}
+use Rattle.std.proofs.Common.{◌≡◌, ℕ, ◌+◌, ◌-◌, ◌<◌, ◌≤◌, List, [], ◌∷◌, ◌++◌, None, Some, refl, sym, ap, subst, ◌∙◌, arith, append_assoc}
 use Rattle.std.specs.Prelude.{IsTrue, All, map, Option}
 use Rattle.std.proofs.lemmas.List.{append-nil}
 use Rattle.etcs_vars.specs.declared.var.Var.{Var}
@@ -10,7 +10,7 @@ use Rattle.etcs_vars.specs.Reading.{Reading, Then}
 use Rattle.etcs_vars.proofs.Languages.{Same, Then-same, same_self}
 use Rattle.etcs_rows.specs.declared.row.Way.TheVariants.{ToTrain}
 use Rattle.etcs_rows.specs.declared.frames.Carrier.{Carrier}
-use Rattle.etcs_rows.specs.Layouts.{Layout, ReadsIn}
+use Rattle.etcs_rows.specs.Layouts.{looks, Layout, ReadsIn}
 use Rattle.etcs_rows.specs.Rows.{row_to}
 use Rattle.etcs_rows.specs.Frames.{is_kept}
 use Rattle.etcs_rows.specs.Walks.{WalkValue, language}
@@ -38,7 +38,7 @@ module _ (c : Carrier) (start room : ℕ) (ps : List Packet) (w : Option WalkVal
         subst (λ (k : ℕ). Residual (Run c start) (packets_reading (map packet_value ps) ++ ((NID_PACKET, nid) ∷ (Q_DIR, dir) ∷ (L_PACKET, k) ∷ [])) (BodyLeft c nid (l - 23) (room - l))) same (rw e at s)
 
     -- a run goes on behind the packet
-    run_behind : (r : Reading) × Run c (room - l) r
+    pub run_behind : (r : Reading) × Run c (room - l) r
     run_behind = let (r, (least, most, le, (body, rest, e, b, run))) = some in (rest, run)
 
     -- a row is read
@@ -57,7 +57,7 @@ module _ (c : Carrier) (start room : ℕ) (ps : List Packet) (w : Option WalkVal
           within = omega (arith, within);
           made = made;
           residual = subst (λ (h : Reading). Residual (Run c start) (packets_reading (map packet_value ps) ++ h) (Then (language v) (Run c (room - l)))) (sym here-is) (residual_same (Run c start) (packets_reading (map packet_value ps) ++ frame nid dir (l - 23)) (BodyLeft c nid (l - 23) (room - l)) (Then (language v) (Run c (room - l))) framed same);
-          stands = (refl, refl, record { row = row; walk_value = v; next = x; typed = typed; walk_is = refl; directed = directed; read = (left, omega arith); short = omega (arith, len, t.1); goes_on = on; behind = run_behind });
+          stands = (refl, refl, record { row = row; walk_value = v; next = x; typed = typed; looks_well = subst (λ (m : Layout). IsTrue (looks None m)) left on.looks_well; walk_is = refl; directed = directed; read = (left, omega arith); short = omega (arith, len, t.1); goes_on = on; behind = run_behind });
         }
 
     -- bits are kept

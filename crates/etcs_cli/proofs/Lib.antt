@@ -4,3 +4,4 @@ pub mod Splits
 pub mod Known
 pub mod Runs
 pub mod Texts
+pub mod NumberTexts

@@ -11,9 +11,11 @@ use Rattle.etcs_vars.specs.declared.feed.Fed.TheVariants.{More, Done}
 use Rattle.etcs_vars.specs.declared.feed.ReadFault.{ReadFault}
 use Rattle.etcs_vars.specs.Reading.{spelled, kept, NoneYet, readings_of}
 use Rattle.etcs_telegram.specs.declared.size.Size.{Size}
-use Rattle.etcs_telegram.specs.Telegrams.{TelegramValue, ReadsAs, header_reading, pad_bits}
+use Rattle.etcs_telegram.specs.Telegrams.{TelegramValue, telegram_value, ReadsAs, user_bits, pad_bits}
+use Rattle.etcs_telegram.specs.declared.size.Size.TheVariants.{Short, Long}
+use Rattle.etcs_telegram.proofs.Spellings.{whole_length}
 use Rattle.etcs_telegram.specs.Readers.{ReaderValue, Stage, Feeds, reading}
-use Rattle.etcs_cli.specs.Show.{run_text, show_text}
+use Rattle.etcs_cli.specs.Items.{run_text, show_text}
 use Rattle.etcs_cli.specs.Streams.{AreSpelled}
 use Rattle.etcs_cli.specs.Steps.{Advances, Awaits, IsFinished, seen_bits, told_text}
 
@@ -39,12 +41,13 @@ run_text-append item (t ∷ ts) us =
     let e : item + 1 + length ts ≡ item + length (t ∷ ts) = omega arith in
     ap (λ (z : List ℕ). show_text t item ++ z) (run_text-append (item + 1) ts us ∙ ap (λ n. run_text (item + 1) ts ++ run_text n us) e) ∙ sym (append_assoc (show_text t item) _ _)
 
+some_bits : (size : Size) → 0 < user_bits size + pad_bits size
+some_bits Short = omega arith
+some_bits Long = omega arith
+
 -- no telegram is spelled by no bits
 pub nothing_is_spelled : (size : Size) → NoneYet (readings_of (ReadsAs size)) []
-unfolding num
-nothing_is_spelled size zero h w =
-    let e : spelled (header_reading w.1.0.header ++ (NID_PACKET, 255) ∷ kept FILL w.1.0.fill ++ kept PAD (replicate (pad_bits w.1.0.size) false)) ≡ [] = ap spelled (sym w.1.1.1.reading_is) ∙ w.2 in
-    absurd cc
+nothing_is_spelled size zero h (r, l, e) = absurd (omega (arith, whole_length size r l, ap (λ (b : List Bool). length b) e, some_bits size))
 nothing_is_spelled size (suc k) h w = absurd (omega arith)
 
 pub Advances-none : (size : Size) (seen : List Bool) (items : ℕ) (text : List ℕ) → Advances size seen seen items items [] text text
@@ -122,29 +125,29 @@ pub done_takes : (size : Size) (seen new : List Bool) (k : ℕ) (s : Stage) → 
 done_takes size seen new zero s none f =
     let e : length seen + 8 * 0 ≡ length seen = omega arith in
     let front : take (length seen + 8 * 0) (seen ++ new) ≡ take (length seen) seen = ap (λ n. take n (seen ++ new)) e ∙ take-append-le (length seen) seen new (omega arith) in
-    absurd (none (length seen) (omega arith) (f.3.1, (f.0, f.3.2), f.3.3 ∙ front))
+    absurd (none (length seen) (omega arith) (f.4.1, (telegram_value f.0, f.4.2), f.4.3 ∙ front))
 done_takes size seen new (suc k) s none f = omega arith
 
 pub done_within : (size : Size) (seen : List Bool) (bytes : List ℕ) (k : ℕ) (s : Stage) → Feeds (ReadsAs size) seen (bits bytes) (Ok (Done k)) s → k ≤ length bytes
-done_within size seen bytes k s f = omega (arith, f.2, length-bits bytes)
+done_within size seen bytes k s f = omega (arith, f.3, length-bits bytes)
 
 pub done_finished : (size : Size) (seen new : List Bool) (k : ℕ) (s : Stage) → Feeds (ReadsAs size) seen new (Ok (Done k)) s → IsFinished s
 done_finished size seen new k s f = subst IsFinished (sym f.1) tt
 
 -- the bits that spell the item
-done_bits : (size : Size) (seen : List Bool) (bytes : List ℕ) (k : ℕ) (s : Stage) (f : Feeds (ReadsAs size) seen (bits bytes) (Ok (Done k)) s) → seen ++ bits (take k bytes) ≡ spelled f.3.1
+done_bits : (size : Size) (seen : List Bool) (bytes : List ℕ) (k : ℕ) (s : Stage) (f : Feeds (ReadsAs size) seen (bits bytes) (Ok (Done k)) s) → seen ++ bits (take k bytes) ≡ spelled f.4.1
 done_bits size seen bytes k s f =
     ap (λ (z : List Bool). seen ++ z) (sym (take-bits k bytes (done_within size seen bytes k s f)))
     ∙ sym (take-append-add seen (bits bytes) (8 * k))
-    ∙ sym f.3.3
+    ∙ sym f.4.3
 
 pub done_advances : (size : Size) (seen seen' : List Bool) (bytes : List ℕ) (k : ℕ) (s : Stage) (i j : ℕ) (t u : List ℕ) → Feeds (ReadsAs size) seen (bits bytes) (Ok (Done k)) s → seen' ≡ [] → j ≡ i + 1 → u ≡ t ++ told_text s (i + 1) → Advances size seen seen' i j (take k bytes) t u
 done_advances size seen seen' bytes k s i j t u f none next text =
     record {
-      told = f.0 ∷ [];
-      spelt = spelled f.3.1;
-      are_spelled = (f.3.1, [], f.3.2, sym (append-nil (spelled f.3.1)), refl);
-      bits_are = done_bits size seen bytes k s f ∙ sym (append-nil (spelled f.3.1)) ∙ ap (λ (z : List Bool). spelled f.3.1 ++ z) (sym none);
+      told = telegram_value f.0 ∷ [];
+      spelt = spelled f.4.1;
+      are_spelled = (f.4.1, [], f.4.2, sym (append-nil (spelled f.4.1)), refl);
+      bits_are = done_bits size seen bytes k s f ∙ sym (append-nil (spelled f.4.1)) ∙ ap (λ (z : List Bool). spelled f.4.1 ++ z) (sym none);
       items_are = next;
-      text_is = text ∙ ap (λ (z : List ℕ). t ++ z) (ap (λ z. told_text z (i + 1)) f.1 ∙ sym (append-nil (show_text f.0 (i + 1))));
+      text_is = text ∙ ap (λ (z : List ℕ). t ++ z) (ap (λ z. told_text z (i + 1)) f.1 ∙ sym (append-nil (show_text (telegram_value f.0) (i + 1))));
     }

@@ -18,8 +18,11 @@ use Rattle.etcs_bits.proofs.Numbers.{length-num, bit-eqb, num-value}
 use Rattle.etcs_bits.proofs.Lists.{length-part}
 use Rattle.etcs_bits.proofs.Positions.{num_at}
 use Rattle.etcs_telegram.specs.declared.size.Size.{Size}
-use Rattle.etcs_telegram.specs.Telegrams.{TelegramValue, HeaderParts, header_reading}
-use Rattle.etcs_cli.specs.Show.{bit_digit, variable_line, item_line, fill_line, show_text}
+use Rattle.etcs_telegram.specs.Telegrams.{TelegramParts, telegram_value, HeaderParts, header_reading}
+use Rattle.etcs_packets.specs.PacketValues.{PacketValue, packet_value}
+use Rattle.etcs_cli.specs.Show.{bit_digit, variable_line, item_line, fill_line}
+use Rattle.etcs_cli.specs.Items.{show_text}
+use Rattle.etcs_cli.specs.Packets.{packets_text}
 
 -- the digit of a bit of a number
 pub digit_at : (w n k : ℕ) → k < w → 48 + bit_and (n / 2 ^ (w - 1 - k)) 1 ≡ bit_digit (get_or (num w n) k false)
@@ -73,22 +76,32 @@ four_more old a b c d one two three four e f g h =
     ∙ ap (λ (z : List ℕ). z ++ d) (g ∙ ap (λ (z : List ℕ). z ++ c) (f ∙ ap (λ (z : List ℕ). z ++ b) e))
     ∙ regroup old a b c d
 
+-- five texts one behind the other
+pub five_more : (old a b c d e one two three four five : List ℕ) → one ≡ old ++ a → two ≡ one ++ b → three ≡ two ++ c → four ≡ three ++ d → five ≡ four ++ e → five ≡ old ++ (a ++ b ++ c ++ d ++ e)
+five_more old a b c d e one two three four five f g h k l =
+    l ∙ ap (λ (z : List ℕ). z ++ e) (four_more old a b c d one two three four f g h k) ∙ append_assoc old (a ++ b ++ c ++ d) e
+
 -- what `extend_from_slice` leaves
 pub on_extended : (T E : Type 0) (r : Result T E) (old new xs ys : List ℕ) → new ≡ cond (is_ok r) (old ++ xs) old → xs ≡ ys → OnOk r (new ≡ old ++ ys)
 on_extended T E (Ok x) old new xs ys e s = e ∙ ap (λ (z : List ℕ). old ++ z) s
 on_extended T E (Err f) old new xs ys e s = tt
 
--- the text of a telegram, line by line
-pub telegram_text : (t : TelegramValue) (item : ℕ) (size : Size) (header : HeaderParts) (fill : List Bool) (old one two three four : List ℕ) → size ≡ t.size → header ≡ t.header → fill ≡ t.fill → one ≡ old ++ item_line size item → two ≡ one ++ flat_map variable_line (header_reading header) → three ≡ two ++ codes "packet 255\n" → four ≡ three ++ fill_line fill → four ≡ old ++ show_text t item
-unfolding show_text
-telegram_text t item size header fill old one two three four s h f e g k l =
-    let a = item_line t.size item in
-    let b = flat_map variable_line (header_reading t.header) in
+-- the text of a telegram with packets, part by part
+pub packets_telegram_text : (size size' : Size) (item : ℕ) (header header' : HeaderParts) (packets packets' : List PacketValue) (fill fill' : List Bool) (old one two three four five : List ℕ) → size ≡ size' → header ≡ header' → packets ≡ packets' → fill ≡ fill' → one ≡ old ++ item_line size item → two ≡ one ++ flat_map variable_line (header_reading header) → three ≡ two ++ packets_text packets → four ≡ three ++ codes "packet 255\n" → five ≡ four ++ fill_line fill → five ≡ old ++ (item_line size' item ++ flat_map variable_line (header_reading header') ++ packets_text packets' ++ codes "packet 255\n" ++ fill_line fill')
+packets_telegram_text size size' item header header' packets packets' fill fill' old one two three four five s h p f e g k l m =
+    let a = item_line size' item in
+    let b = flat_map variable_line (header_reading header') in
+    let c = packets_text packets' in
     let d = codes "packet 255\n" in
     let one' : one ≡ old ++ a = e ∙ ap (λ z. old ++ item_line z item) s in
     let two' : two ≡ one ++ b = g ∙ ap (λ z. one ++ flat_map variable_line (header_reading z)) h in
-    let four' : four ≡ three ++ fill_line t.fill = l ∙ ap (λ z. three ++ fill_line z) f in
-    four_more old a b d (fill_line t.fill) one two three four one' two' k four'
+    let three' : three ≡ two ++ c = k ∙ ap (λ z. two ++ packets_text z) p in
+    let five' : five ≡ four ++ fill_line fill' = m ∙ ap (λ z. four ++ fill_line z) f in
+    five_more old a b c d (fill_line fill') one two three four five one' two' three' l five'
+
+pub telegram_text : (t : TelegramParts) (item : ℕ) (size : Size) (header : HeaderParts) (packets : List PacketValue) (fill : List Bool) (old one two three four five : List ℕ) → size ≡ t.size → header ≡ t.header → packets ≡ map packet_value t.packets → fill ≡ t.fill → one ≡ old ++ item_line size item → two ≡ one ++ flat_map variable_line (header_reading header) → three ≡ two ++ packets_text packets → four ≡ three ++ codes "packet 255\n" → five ≡ four ++ fill_line fill → five ≡ old ++ show_text (telegram_value t) item
+unfolding show_text
+telegram_text t item size header packets fill old one two three four five s h p f e g k l m = packets_telegram_text size t.size item header t.header packets (map packet_value t.packets) fill t.fill old one two three four five s h p f e g k l m
 
 -- a number of several digits
 pub decimal_more : (n : ℕ) (old front out : List ℕ) → 10 ≤ n → n < 2 ^ 64 → front ≡ old ++ decimal (n / 10) → out ≡ front ++ (48 + n % 10) ∷ [] → out ≡ old ++ decimal n

@@ -1,13 +1,13 @@
 -- What the items of an input are.
 use Rattle.std.specs.Prelude.{ℕ, List}
-use Rattle.etcs_telegram.specs.Telegrams.{TelegramValue}
-use Rattle.etcs_cli.specs.Show.{show_text}
+use Rattle.etcs_telegram.specs.Telegrams.{TelegramValue, telegram_value}
+use Rattle.etcs_cli.specs.Items.{show_text}
 use Rattle.etcs_cli.specs.declared.engine.job.Entry.{Entry}
 use Rattle.etcs_cli.specs.declared.engine.job.Entry.TheVariants.{Telegram}
 
--- the telegram that an item is
+-- the telegram that an item stands for
 abbrev pub telegram_of : Entry → TelegramValue
-telegram_of (Telegram t) = t
+telegram_of (Telegram t) = telegram_value t
 
 -- the text of an item
 abbrev pub entry_text : Entry → ℕ → List ℕ

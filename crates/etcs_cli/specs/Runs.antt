@@ -6,7 +6,7 @@ use Rattle.etcs_telegram.specs.declared.size.Size.{Size}
 use Rattle.etcs_telegram.specs.Telegrams.{TelegramValue}
 use Rattle.etcs_cli.specs.declared.engine.job.Tally.{Tally}
 use Rattle.etcs_cli.specs.Lines.{IsHexText}
-use Rattle.etcs_cli.specs.Show.{run_text}
+use Rattle.etcs_cli.specs.Items.{run_text}
 use Rattle.etcs_cli.specs.Streams.{AreSpelled}
 
 -- the source gave text that says the telegrams, and the sink took their text; the items count from 1

@@ -3,10 +3,10 @@ use Rattle.std.specs.Prelude.{◌≡◌, ℕ, ◌+◌, Bool, List, [], ◌++◌,
 use Rattle.etcs_bits.specs.Bits.{bits}
 use Rattle.etcs_vars.specs.Reading.{NoneYet, readings_of}
 use Rattle.etcs_telegram.specs.declared.size.Size.{Size}
-use Rattle.etcs_telegram.specs.Telegrams.{TelegramValue, ReadsAs}
+use Rattle.etcs_telegram.specs.Telegrams.{TelegramValue, telegram_value, ReadsAs}
 use Rattle.etcs_telegram.specs.Readers.{ReaderValue, Stage, reading, finished, stopped, starved}
 use Rattle.etcs_cli.specs.Lines.{Splits}
-use Rattle.etcs_cli.specs.Show.{run_text, show_text}
+use Rattle.etcs_cli.specs.Items.{run_text, show_text}
 use Rattle.etcs_cli.specs.Streams.{AreSpelled}
 
 -- the bits of an item that isn't whole yet
@@ -25,7 +25,7 @@ IsFinished (starved n) = ⊥
 -- the text of a whole item
 abbrev pub told_text : Stage → ℕ → List ℕ
 told_text (reading bs) item = []
-told_text (finished t) item = show_text t item
+told_text (finished t) item = show_text (telegram_value t) item
 told_text (stopped i x) item = []
 told_text (starved n) item = []
 

@@ -6,18 +6,23 @@ mod fault;
 mod items;
 mod job;
 mod lines;
+mod packets;
 mod pump;
 mod show;
 mod text;
+mod variables;
 
 pub use ends::{Failed, Input, Output, Sink, Source};
 pub use fault::{RunFault, write_fault};
 pub use job::{Command, Entry, Form, Job, Kind, Tally};
+pub use packets::push_packets;
 pub use pump::run;
 pub use show::show_lines;
 
 #[cfg(test)]
 mod fakes;
+#[cfg(test)]
+mod packet_tests;
 #[cfg(test)]
 pub(crate) mod samples;
 #[cfg(test)]

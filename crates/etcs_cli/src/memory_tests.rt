@@ -30,11 +30,11 @@ fn long_bytes() -> [u8; 104] {
 
 /// A telegram of a plain header and ones.
 fn plain(alloc: Global) -> Result<Telegram, BuildFault> {
-    Telegram::new(
-        alloc,
-        Size::Long,
-        Header::new(32, 0, 0, 0, 255, 1, 1, true)?,
-    )
+    let header = Header::new(32, 0, 0, 0, 255, 1, 1, true)?;
+    match Telegram::new(alloc, Size::Long, header, Vec::new(alloc)) {
+        Ok(telegram) => Ok(telegram),
+        Err((fault, _)) => Err(fault),
+    }
 }
 
 /// What a feed answers.

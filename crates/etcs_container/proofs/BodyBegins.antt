@@ -21,7 +21,7 @@ use Rattle.etcs_packets.specs.declared.packet.Packet.{Packet}
 use Rattle.etcs_packets.specs.declared.packet.Packet.TheVariants.{Other}
 use Rattle.etcs_packets.specs.PacketValues.{packet_value}
 use Rattle.etcs_packets.specs.PacketReadings.{frame, packet_reading, packets_reading}
-use Rattle.etcs_packets.specs.OnePacket.{IsMade}
+use Rattle.etcs_container.specs.Runs.{IsWhole}
 use Rattle.etcs_container.specs.declared.phase.Phase.TheVariants.{Length}
 use Rattle.etcs_container.specs.Contents.{Run, BodyIn, BodyLeft, KeptIn, AfterLength}
 use Rattle.etcs_container.specs.Phases.{next_phase}
@@ -73,14 +73,14 @@ row_ends Q r = (λ (a, b, e, (ra, l), q). let f : r ≡ b = rw ra at e in rw f q
 -- ---- A whole packet behind its frame.
 
 -- a typed packet was put behind the others
-pub typed_put : (c : Carrier) (start room : ℕ) (before after : List Packet) (w : Option WalkValue) → start ≤ 8191 → room ≤ start → All IsMade before → (nid dir bits : ℕ) (row : Layout) (f : List ℕ)
+pub typed_put : (c : Carrier) (start room : ℕ) (before after : List Packet) (w : Option WalkValue) → start ≤ 8191 → room ≤ start → All IsWhole before → (nid dir bits : ℕ) (row : Layout) (f : List ℕ)
     → row_to ToTrain nid ≡ Some row → IsTrue (looks None row) → ReadBy row bits f whole 0 → length (spelled (read_of row f)) ≡ bits → IsTypedIn nid dir f before after
     → Residual (Run c start) (packets_reading (map packet_value before) ++ (frame nid dir bits ++ read_of row f)) (Run c room) → ((r : Reading) × Run c room r)
     → Reached c start (next_phase c room) room after [] w [] 0 0 × (so_far c (next_phase c room) after [] w [] ≡ packets_reading (map packet_value before) ++ (frame nid dir bits ++ read_of row f))
 typed_put c start room before after w small within made nid dir bits row f typed look read len put residual some =
     let v = row_value nid dir row bits f (packet_value put.packet) typed look read put.is_packet put.typed put.same in
     let same : packet_reading (packet_value put.packet) ≡ frame nid dir bits ++ read_of row f = ap packet_reading v ∙ ap (λ (k : ℕ). frame nid dir k ++ read_of row f) len in
-    let reached = turn_packet c start room before w small within made put.packet (frame nid dir bits ++ read_of row f) put.made residual some same in
+    let reached = turn_packet c start room before w small within made put.packet (frame nid dir bits ++ read_of row f) (put.made, put.is_packet) residual some same in
     let ends = so_far_ends c room before w put.packet (frame nid dir bits ++ read_of row f) same in
     rw put.put (reached, ends)
 
@@ -130,7 +130,7 @@ module _ (c : Carrier) (start room : ℕ) (ps : List Packet) (w : Option WalkVal
       let same : Same (BodyLeft c nid 0 (room - 23)) (Run c (room - 23)) =
       same_along (BodyLeft c nid 0 (room - 23)) (Then (KeptIn 0) (Run c (room - 23))) (Run c (room - 23)) (Then-same (BodyIn nid 0) (Run c (room - 23)) (KeptIn 0) (Run c (room - 23)) (kept_body nid 0 k) (same_self (Run c (room - 23)))) (kept_ends (Run c (room - 23))) in
       let residual = residual_same (Run c start) (packets_reading (map packet_value ps) ++ frame nid dir 0) (BodyLeft c nid 0 (room - 23)) (Run c (room - 23)) f same in
-      let made : IsMade (Other (other_parts nid dir [])) = kept_fault nid dir 0 k h.stands.4 (omega arith) in (
+      let made : IsWhole (Other (other_parts nid dir [])) = (let fault = kept_fault nid dir 0 k h.stands.4 (omega arith) in (fault, fault)) in (
         turn_packet c start (room - 23) ps None h.small (omega (arith, h.within)) h.made (Other (other_parts nid dir [])) (frame nid dir 0) made residual behind refl,
         so_far_ends c (room - 23) ps None (Other (other_parts nid dir [])) (frame nid dir 0) refl ∙ sym (append_assoc (packets_reading (map packet_value ps)) ((NID_PACKET, nid) ∷ (Q_DIR, dir) ∷ []) ((L_PACKET, 23) ∷ [])),
       )

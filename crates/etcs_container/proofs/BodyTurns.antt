@@ -17,7 +17,7 @@ use Rattle.etcs_rows.specs.Walks.{WalkValue, language}
 use Rattle.etcs_packets.specs.declared.packet.Packet.{Packet}
 use Rattle.etcs_packets.specs.PacketValues.{packet_value}
 use Rattle.etcs_packets.specs.PacketReadings.{frame, packets_reading}
-use Rattle.etcs_packets.specs.OnePacket.{IsMade}
+use Rattle.etcs_container.specs.Runs.{IsWhole}
 use Rattle.etcs_container.specs.declared.phase.Phase.TheVariants.{Length, Row, Kept}
 use Rattle.etcs_container.specs.Contents.{Run, BodyIn, BodyLeft, KeptIn, AfterLength}
 use Rattle.etcs_container.specs.RowParts.{GoesOn}
@@ -25,7 +25,7 @@ use Rattle.etcs_container.specs.Runs.{here, so_far, Left, Framing, Reached}
 use Rattle.etcs_container.proofs.Turns.{residual_same, behind_length, typed_body, kept_body}
 use Rattle.etcs_container.proofs.FrameBits.{frame_behind}
 
-module _ (c : Carrier) (start room : ℕ) (ps : List Packet) (w : Option WalkValue) (small : start ≤ 8191) (within : room ≤ start) (made : All IsMade ps) where
+module _ (c : Carrier) (start room : ℕ) (ps : List Packet) (w : Option WalkValue) (small : start ≤ 8191) (within : room ≤ start) (made : All IsWhole ps) where
   module _ (nid dir number taken l : ℕ) (directed : IsTrue (admits Q_DIR dir)) (residual : Residual (Run c start) (so_far c (Length nid dir) ps [] w []) (Left c room (Length nid dir) w)) (part : Framing c room (Length nid dir) number taken) (some : (r : Reading) × AfterLength c nid room l r) where
     -- the frame is whole
     pub framed : Residual (Run c start) (packets_reading (map packet_value ps) ++ frame nid dir (l - 23)) (BodyLeft c nid (l - 23) (room - l))

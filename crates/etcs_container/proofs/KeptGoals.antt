@@ -79,4 +79,4 @@ module _ (c : Carrier) (start room nid dir left : ℕ) (ps : List Packet) (w : O
       let same : packets_reading (map packet_value ps) ++ last ≡ so_far c (Kept nid dir left) ps [] w k ++ kept OTHER_DATA t =
       ap (λ (n : ℕ). packets_reading (map packet_value ps) ++ (frame nid dir n ++ kept OTHER_DATA (k ++ t))) (sym bits) ∙ far_more t 0 (omega (arith, e)) in
       let r2 = subst (λ (q : Reading). Residual (Run c start) q (Run c room)) (sym same) r1 in
-      (turn_packet c start room ps None h.small h.within h.made p last (kept_fits t e) r2 i.behind refl, so_far_ends c room ps None p last refl ∙ same)
+      (turn_packet c start room ps None h.small h.within h.made p last (kept_fits t e, kept_fits t e) r2 i.behind refl, so_far_ends c room ps None p last refl ∙ same)

@@ -29,3 +29,5 @@ pub mod RowRuns
 pub mod KeptGoals
 pub mod KeptRuns
 pub mod PieceParts
+pub mod Chains
+pub mod Ended

@@ -49,7 +49,7 @@ residual_along L p R q S a b = record {
 -- ---- In front of another language.
 
 -- a bit of the first is held there
-holder_front : (a b : Reading) (k : ℕ) → k < length (spelled a) → holder (a ++ b) k ≡ holder a k
+pub holder_front : (a b : Reading) (k : ℕ) → k < length (spelled a) → holder (a ++ b) k ≡ holder a k
 holder_front [] b k le = absurd (omega (arith, le))
 holder_front ((v, n) ∷ a) b k le =
     elim (cases_lt k (width v)) [

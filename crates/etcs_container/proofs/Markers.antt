@@ -35,7 +35,7 @@ module _ (start room : ℕ) (ps : List Packet) (w : Option WalkValue) (number ta
       let b = frame_behind Telegram start room Marker refl (so_far Telegram Marker ps [] w []) h.residual number taken h.stands.2 n in
       let e : so_far Telegram Marker ps [] w [] ++ (NID_VBCMK, n) ∷ [] ≡ packets_reading (map packet_value ps) ++ ((NID_PACKET, 0) ∷ (NID_VBCMK, n) ∷ []) = append_assoc (packets_reading (map packet_value ps)) ((NID_PACKET, 0) ∷ []) ((NID_VBCMK, n) ∷ []) in
       let s = residual_same (Run Telegram start) (so_far Telegram Marker ps [] w [] ++ (NID_VBCMK, n) ∷ []) (AfterMarker room n) (Run Telegram (room - 14)) b t.2 in
-      turn_packet Telegram start (room - 14) ps None h.small (omega (arith, h.within)) h.made (VbcMarker n) ((NID_PACKET, 0) ∷ (NID_VBCMK, n) ∷ []) t.0 (rw e at s) (some.0, (t.2 some.0).0 some.1) refl
+      turn_packet Telegram start (room - 14) ps None h.small (omega (arith, h.within)) h.made (VbcMarker n) ((NID_PACKET, 0) ∷ (NID_VBCMK, n) ∷ []) (t.0, t.0) (rw e at s) (some.0, (t.2 some.0).0 some.1) refl
 
 -- with the fields as they are
 pub marker_reached : (c : Carrier) (start room : ℕ) (ps : List Packet) (f : List ℕ) (w : Option WalkValue) (k : List Bool) (number taken n : ℕ) → Reached c start Marker room ps f w k number taken → ((r : Reading) × AfterMarker room n r)

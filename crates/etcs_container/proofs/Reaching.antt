@@ -18,7 +18,7 @@ use Rattle.etcs_rows.specs.Walks.{WalkValue}
 use Rattle.etcs_packets.specs.declared.packet.Packet.{Packet}
 use Rattle.etcs_packets.specs.PacketValues.{packet_value}
 use Rattle.etcs_packets.specs.PacketReadings.{packet_reading, packets_reading}
-use Rattle.etcs_packets.specs.OnePacket.{IsMade}
+use Rattle.etcs_container.specs.Runs.{IsWhole}
 use Rattle.etcs_container.specs.declared.phase.Phase.TheVariants.{Number, Marker, Direction, Length, Closed}
 use Rattle.etcs_container.specs.Contents.{closing, Run, AfterNumber, AfterDirection}
 use Rattle.etcs_container.specs.Phases.{left_at, next_phase}
@@ -62,7 +62,7 @@ module _ (c : Carrier) (start room : ℕ) (ps : List Packet) (w : Option WalkVal
   before : Reading
   before = packets_reading (map packet_value ps)
 
-  module _ (small : start ≤ 8191) (within : room ≤ start) (made : All IsMade ps) where
+  module _ (small : start ≤ 8191) (within : room ≤ start) (made : All IsWhole ps) where
     -- NID_PACKET
     module _ (number taken : ℕ) (residual : Residual (Run c start) (so_far c Number ps [] w []) (Left c room Number w)) (part : Framing c room Number number taken) where
       behind_it : (n : ℕ) → Residual (Run c start) (packets_reading (map packet_value ps) ++ (NID_PACKET, n) ∷ []) (AfterNumber c room n)
@@ -122,11 +122,11 @@ module _ (c : Carrier) (start room : ℕ) (ps : List Packet) (w : Option WalkVal
         }
 
     -- the last of a packet, behind which so much room is left
-    pub turn_packet : (p : Packet) (last : Reading) → IsMade p → Residual (Run c start) (packets_reading (map packet_value ps) ++ last) (Run c room) → ((r : Reading) × Run c room r) → packet_reading (packet_value p) ≡ last → Reached c start (next_phase c room) room (ps ++ p ∷ []) [] w [] 0 0
+    pub turn_packet : (p : Packet) (last : Reading) → IsWhole p → Residual (Run c start) (packets_reading (map packet_value ps) ++ last) (Run c room) → ((r : Reading) × Run c room r) → packet_reading (packet_value p) ≡ last → Reached c start (next_phase c room) room (ps ++ p ∷ []) [] w [] 0 0
     turn_packet p last is residual some same =
         let e : packets_reading (map packet_value (ps ++ p ∷ [])) ≡ packets_reading (map packet_value ps) ++ last = packets_more ps p ∙ ap (λ (t : Reading). packets_reading (map packet_value ps) ++ t) same in
         let ends = packet_ends start room (ps ++ p ∷ []) w c (rw e residual) some in
-        record { small = small; within = within; made = All-push IsMade ps p made is; residual = ends.0; stands = ends.1 }
+        record { small = small; within = within; made = All-push IsWhole ps p made is; residual = ends.0; stands = ends.1 }
 
     -- and its bits
     pub seen_packet : (p : Packet) (last : Reading) → packet_reading (packet_value p) ≡ last → seen c (next_phase c room) (ps ++ p ∷ []) [] w [] 0 0 ≡ spelled (packets_reading (map packet_value ps) ++ last)

@@ -19,7 +19,7 @@ use Rattle.etcs_rows.proofs.WholeWalks.{one_front, one_back}
 use Rattle.etcs_packets.specs.declared.packet.Packet.{Packet}
 use Rattle.etcs_packets.specs.PacketValues.{packet_value}
 use Rattle.etcs_packets.specs.PacketReadings.{frame, packets_reading}
-use Rattle.etcs_packets.specs.OnePacket.{IsMade}
+use Rattle.etcs_container.specs.Runs.{IsWhole}
 use Rattle.etcs_container.specs.declared.phase.Phase.TheVariants.{Row}
 use Rattle.etcs_container.specs.Contents.{Run}
 use Rattle.etcs_container.specs.RowParts.{GoesOn, Passes}
@@ -98,7 +98,7 @@ so_far_more c nid dir ps row f old new x n typed more len =
     rw (typed, more) (ap (λ (k : ℕ). frame nid dir k ++ (q ++ (x, n) ∷ [])) total ∙ sym (append_assoc (frame nid dir (length (spelled q) + old.len)) q ((x, n) ∷ []))) in
     ap (λ (t : Reading). front ++ t) row-is ∙ sym (append_assoc front (here c (Row nid dir) f (Some old) []) ((x, n) ∷ []))
 
-module _ (c : Carrier) (start room nid dir : ℕ) (ps : List Packet) (small : start ≤ 8191) (within : room ≤ start) (made : All IsMade ps) (row : Layout) (f : List ℕ) (old new : WalkValue) (x : Var) (n : ℕ)
+module _ (c : Carrier) (start room nid dir : ℕ) (ps : List Packet) (small : start ≤ 8191) (within : room ≤ start) (made : All IsWhole ps) (row : Layout) (f : List ℕ) (old new : WalkValue) (x : Var) (n : ℕ)
     (typed : row_to ToTrain nid ≡ Some row) (look : IsTrue (looks None row)) (directed : IsTrue (admits Q_DIR dir)) (read : ReadBy row (length (spelled (read_of row f)) + old.len) f old.left old.len) (short : length (spelled (read_of row f)) + old.len ≤ ROW_LIMIT) (on : GoesOn old x) (behind : (r : Reading) × Run c room r)
     (residual : Residual (Run c start) (so_far c (Row nid dir) ps f (Some old) []) (Then (language old) (Run c room))) (pass : Passes old x n new) where
   pub one_longer : ReadBy row (length (spelled (read_of row f)) + old.len) (f ++ n ∷ []) new.left (old.len - width x) × (read_of row (f ++ n ∷ []) ≡ read_of row f ++ (x, n) ∷ [])

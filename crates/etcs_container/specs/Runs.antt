@@ -141,12 +141,16 @@ Stands c room (Row nid dir) f w k number taken = (k ≡ []) × (taken ≡ 0) × 
 Stands c room (Kept nid dir left) f w k number taken = (f ≡ []) × (taken ≡ 0) × InKept c room nid dir left k
 Stands c room Closed f w k number taken = taken ≡ 0
 
+-- a packet as its own type says, which stands for one
+abbrev pub IsWhole : Packet → Type 0
+IsWhole p = IsMade p × IsPacket (packet_value p)
+
 -- it has read so much of a run in a room of `start` bits, and `room` are left: behind the packet that is being read,
 -- where its length is known, and else from its first bit on
 pub record Reached (c : Carrier) (start : ℕ) (phase : Phase) (room : ℕ) (ps : List Packet) (f : List ℕ) (w : Option WalkValue) (k : List Bool) (number taken : ℕ) : Type 0 where
   pub small : start ≤ 8191
   pub within : room ≤ start
-  pub made : All IsMade ps
+  pub made : All IsWhole ps
   pub residual : Residual (Run c start) (so_far c phase ps f w k) (Left c room phase w)
   pub stands : Stands c room phase f w k number taken
 

@@ -11,3 +11,6 @@ mod pieces;
 mod rows;
 mod run;
 mod starts;
+
+pub use next::push_next;
+pub use run::{Run, Stop};

@@ -68,6 +68,9 @@ pub(crate) fn next_phase(carrier: Carrier, room: usize) -> Phase
 }
 
 impl Run {
+    ghost use Rattle.std.specs.Prelude.{◌≡◌};
+    ghost use Rattle.etcs_container.specs.Phases.{is_closed};
+
     /// A reader of the packets of a room of so many bits. Takes no memory.
     pub fn new(alloc: Global, carrier: Carrier, room: usize) -> Run
         requires small { room ≤ 8191 }
@@ -91,6 +94,34 @@ impl Run {
             taken: 0,
             count: 0,
         }
+    }
+
+    /// Whether nothing more comes: the packets are closed.
+    pub fn is_closed(&self) -> bool
+        ensures { result ≡ is_closed self.now.phase }
+    {
+        self.phase == Phase::Closed
+    }
+
+    /// How many bits were accepted.
+    pub fn count(&self) -> usize
+        ensures { result ≡ self.now.count }
+    {
+        self.count
+    }
+
+    /// The packets that are whole.
+    pub fn packets(&self) -> &[Packet]
+        ensures { result.now ≡ self.now.packets.items }
+    {
+        self.packets.as_slice()
+    }
+
+    /// The packets that are whole, as a vector.
+    pub fn into_packets(self) -> Vec<Packet>
+        ensures { result.items ≡ self.packets.items }
+    {
+        self.packets
     }
 }
 

@@ -5,21 +5,24 @@ use Rattle.std.proofs.lemmas.List.{take_at, drop_at, length-take, length-drop, t
 use Rattle.std.proofs.Math.Seq.{drop-append-add}
 use Rattle.etcs_bits.specs.Bits.{num, bits, replaced}
 use Rattle.etcs_bits.proofs.Numbers.{length-num}
+use Rattle.etcs_bits.proofs.Positions.{length-bits}
 use Rattle.etcs_vars.specs.declared.var.Var.{Var}
+use Rattle.etcs_vars.specs.declared.var.Var.TheVariants.{FILL, PAD}
 use Rattle.etcs_vars.specs.Vars.{width}
 use Rattle.etcs_vars.specs.Reading.{Reading, spelled, numbers, kept}
 use Rattle.etcs_vars.proofs.Prefixes.{admits_parts}
-use Rattle.etcs_telegram.specs.Writing.{Written}
-use Rattle.etcs_vars.specs.declared.var.Var.TheVariants.{NID_PACKET, FILL, PAD}
 use Rattle.etcs_vars.proofs.Walk.{spelled-append}
-use Rattle.etcs_bits.proofs.Positions.{length-bits}
+use Rattle.etcs_rows.specs.declared.frames.Carrier.TheVariants as carrier
+use Rattle.etcs_packets.specs.PacketValues.{PacketValue}
+use Rattle.etcs_packets.specs.PacketReadings.{packets_reading}
+use Rattle.etcs_container.specs.Contents.{closing}
 use Rattle.etcs_telegram.specs.declared.size.Size.{Size}
 use Rattle.etcs_telegram.specs.declared.size.Size.TheVariants.{Short, Long}
-use Rattle.etcs_telegram.specs.Telegrams.{HeaderParts, TelegramValue, TelegramReads, IsTelegram, header_row, header_reading, user_bits, pad_bits, fill_bits, container_bytes}
-use Rattle.etcs_telegram.specs.Writing.{telegram_reading}
+use Rattle.etcs_telegram.specs.Telegrams.{HeaderParts, TelegramParts, TelegramValue, TelegramReads, IsTelegram, telegram_value, header_row, header_reading, closed_reading, user_bits, pad_bits, packet_room, container_bytes}
+use Rattle.etcs_telegram.specs.Headers.{labelled}
+use Rattle.etcs_telegram.specs.Writing.{Written, telegram_reading}
 use Rattle.etcs_telegram.proofs.HeaderLemmas.{header_length}
 use Rattle.etcs_telegram.proofs.Spellings.{spelled-kept}
-use Rattle.etcs_telegram.specs.Headers.{labelled}
 
 -- bits that replace those behind a front
 pub put_next : (at : ℕ) (front new b : List Bool) → at ≡ length front → replaced at new (front ++ b) ≡ (front ++ new) ++ drop (length new) b
@@ -108,49 +111,80 @@ header_written h ns b b' e w = w ∙ ap (λ (r : Reading). replaced 0 (spelled r
 
 -- ---- The telegram.
 
-pub user_more : (size : Size) → 58 + fill_bits size ≡ user_bits size
-user_more Short = refl
-user_more Long = refl
+pub room_more : (size : Size) → 50 + packet_room size ≡ user_bits size
+room_more Short = refl
+room_more Long = refl
+
+pub user_small : (size : Size) → user_bits size ≤ 830
+user_small Short = omega arith
+user_small Long = omega arith
 
 pub container_bits : (size : Size) (out : List ℕ) → length out ≡ container_bytes size → length (bits out) ≡ user_bits size + pad_bits size
 container_bits Short out e = length-bits out ∙ ap (λ (k : ℕ). 8 * k) e
 container_bits Long out e = length-bits out ∙ ap (λ (k : ℕ). 8 * k) e
 
-zeros : (size : Size) → num (pad_bits size) 0 ≡ replicate (pad_bits size) false
+zero_bits : (size : Size) → num (pad_bits size) 0 ≡ replicate (pad_bits size) false
 unfolding num
-zeros Short = refl
-zeros Long = refl
+zero_bits Short = refl
+zero_bits Long = refl
 
-pub telegram_reads : (t : TelegramValue) → IsTelegram t → TelegramReads t (telegram_reading t)
-telegram_reads t i = record { header_admitted = i.header; reading_is = refl; user_bits_is = omega (arith, header_length t.header, i.fill, user_more t.size) }
+pub telegram_reads : (t : TelegramParts) → IsTelegram t → TelegramReads (telegram_value t) (telegram_reading (telegram_value t))
+telegram_reads t i = record {
+  header_admitted = i.header;
+  packets_hold = i.packets;
+  reading_is = refl;
+  user_bits_is = omega (arith, header_length t.header, i.fill);
+}
 
-telegram_bits : (t : TelegramValue) → spelled (telegram_reading t) ≡ ((spelled (header_reading t.header) ++ num 8 255) ++ t.fill) ++ num (pad_bits t.size) 0
+closed_spelled : (vs : List PacketValue) → spelled (closed_reading vs) ≡ spelled (packets_reading vs) ++ num 8 255
+closed_spelled vs = spelled-append (packets_reading vs) (closing carrier.Telegram) ∙ ap (λ (b : List Bool). spelled (packets_reading vs) ++ b) (append-nil (num 8 255))
+
+pub closed_length : (vs : List PacketValue) → length (spelled (closed_reading vs)) ≡ length (spelled (packets_reading vs)) + 8
+closed_length vs = ap length (closed_spelled vs) ∙ length-append (spelled (packets_reading vs)) (num 8 255) ∙ ap (λ (k : ℕ). length (spelled (packets_reading vs)) + k) (length-num 8 255)
+
+telegram_bits : (t : TelegramValue) → spelled (telegram_reading t) ≡ (((spelled (header_reading t.header) ++ spelled (packets_reading t.packets)) ++ num 8 255) ++ t.fill) ++ num (pad_bits t.size) 0
 telegram_bits t =
-    let behind = (NID_PACKET, 255) ∷ kept FILL t.fill in
-    let front = header_reading t.header ++ behind in
-    let rest = kept PAD (replicate (pad_bits t.size) false) in
-    let head = spelled (header_reading t.header) in
-    let fill : spelled behind ≡ num 8 255 ++ t.fill = ap (λ (b : List Bool). num 8 255 ++ b) (spelled-kept FILL t.fill refl) in
-    let first : spelled front ≡ (head ++ num 8 255) ++ t.fill = spelled-append (header_reading t.header) behind ∙ ap (λ (b : List Bool). head ++ b) fill ∙ sym (append_assoc head (num 8 255) t.fill) in
-    let last : spelled rest ≡ num (pad_bits t.size) 0 = spelled-kept PAD (replicate (pad_bits t.size) false) refl ∙ sym (zeros t.size) in
-    spelled-append front rest ∙ ap (λ (b : List Bool). b ++ spelled rest) first ∙ ap (λ (b : List Bool). ((head ++ num 8 255) ++ t.fill) ++ b) last
+    let h = header_reading t.header in
+    let c = closed_reading t.packets in
+    let f = kept FILL t.fill in
+    let z = kept PAD (replicate (pad_bits t.size) false) in
+    let head = spelled h in
+    let packets = spelled (packets_reading t.packets) in
+    let fill : spelled f ≡ t.fill = spelled-kept FILL t.fill refl in
+    let zeros : spelled z ≡ num (pad_bits t.size) 0 = spelled-kept PAD (replicate (pad_bits t.size) false) refl ∙ sym (zero_bits t.size) in
+    let first : spelled (h ++ c) ≡ (head ++ packets) ++ num 8 255 =
+    spelled-append h c ∙ ap (λ (b : List Bool). head ++ b) (closed_spelled t.packets) ∙ sym (append_assoc head packets (num 8 255)) in
+    let second : spelled ((h ++ c) ++ f) ≡ ((head ++ packets) ++ num 8 255) ++ t.fill =
+    spelled-append (h ++ c) f ∙ ap (λ (b : List Bool). b ++ spelled f) first ∙ ap (λ (b : List Bool). ((head ++ packets) ++ num 8 255) ++ b) fill in
+    spelled-append ((h ++ c) ++ f) z ∙ ap (λ (b : List Bool). b ++ spelled z) second ∙ ap (λ (b : List Bool). (((head ++ packets) ++ num 8 255) ++ t.fill) ++ b) zeros
 
-pub telegram_written : (t : TelegramValue) (b b1 b2 b3 b4 : List Bool) → TelegramReads t (telegram_reading t) → length b ≡ user_bits t.size + pad_bits t.size → b1 ≡ replaced 0 (spelled (header_reading t.header)) b → b2 ≡ replaced 50 (num 8 255) b1 → b3 ≡ replaced 58 t.fill b2 → b4 ≡ replaced (user_bits t.size) (num (pad_bits t.size) 0) b3 → b4 ≡ spelled (telegram_reading t)
-telegram_written t b b1 b2 b3 b4 reads size e1 e2 e3 e4 =
-    let head = spelled (header_reading t.header) in
-    let nid = num 8 255 in
+-- five parts, each written behind the one before
+all_written : (h p n f z b b1 b2 b3 b4 b5 : List Bool) (i j k l : ℕ) → i ≡ length h → j ≡ i + length p → k ≡ j + length n → l ≡ k + length f → length b ≡ l + length z → b1 ≡ replaced 0 h b → b2 ≡ replaced i p b1 → b3 ≡ replaced j n b2 → b4 ≡ replaced k f b3 → b5 ≡ replaced l z b4 → b5 ≡ (((h ++ p) ++ n) ++ f) ++ z
+all_written h p n f z b b1 b2 b3 b4 b5 i j k l ei ej ek el size e1 e2 e3 e4 e5 =
+    let r1 = drop (length h) b in
+    let r2 = drop (length p) r1 in
+    let r3 = drop (length n) r2 in
+    let r4 = drop (length f) r3 in
+    let l2 : j ≡ length (h ++ p) = omega (arith, ei, ej, length-append h p) in
+    let l3 : k ≡ length ((h ++ p) ++ n) = omega (arith, l2, ek, length-append (h ++ p) n) in
+    let l4 : l ≡ length (((h ++ p) ++ n) ++ f) = omega (arith, l3, el, length-append ((h ++ p) ++ n) f) in
+    let s1 : b1 ≡ h ++ r1 = e1 ∙ put_next 0 [] h b refl in
+    let s2 : b2 ≡ (h ++ p) ++ r2 = e2 ∙ ap (replaced i p) s1 ∙ put_next i h p r1 ei in
+    let s3 : b3 ≡ ((h ++ p) ++ n) ++ r3 = e3 ∙ ap (replaced j n) s2 ∙ put_next j (h ++ p) n r2 l2 in
+    let s4 : b4 ≡ (((h ++ p) ++ n) ++ f) ++ r4 = e4 ∙ ap (replaced k f) s3 ∙ put_next k ((h ++ p) ++ n) f r3 l3 in
+    let s5 : b5 ≡ ((((h ++ p) ++ n) ++ f) ++ z) ++ drop (length z) r4 = e5 ∙ ap (replaced l z) s4 ∙ put_next l (((h ++ p) ++ n) ++ f) z r4 l4 in
+    let left : length r4 ≤ length z = omega (arith, length-drop (length f) r3, length-drop (length n) r2, length-drop (length p) r1, length-drop (length h) b, ei, ej, ek, el, size) in
+    let none : drop (length z) r4 ≡ [] = drop_all (length z) r4 left in
+    s5 ∙ ap (λ (s : List Bool). ((((h ++ p) ++ n) ++ f) ++ z) ++ s) none ∙ append-nil ((((h ++ p) ++ n) ++ f) ++ z)
+
+-- packets, packet 255 and FILL end at the user bits
+pub user_end : (t : TelegramValue) (end : ℕ) → TelegramReads t (telegram_reading t) → end ≡ 50 + length (spelled (packets_reading t.packets)) → user_bits t.size ≡ end + 8 + length t.fill
+user_end t end reads e = omega (arith, e, header_length t.header, closed_length t.packets, reads.user_bits_is)
+
+pub telegram_written : (t : TelegramValue) (end : ℕ) (b b1 b2 b3 b4 b5 : List Bool) → TelegramReads t (telegram_reading t) → length b ≡ user_bits t.size + pad_bits t.size → end ≡ 50 + length (spelled (packets_reading t.packets)) → b1 ≡ replaced 0 (spelled (header_reading t.header)) b → b2 ≡ replaced 50 (spelled (packets_reading t.packets)) b1 → b3 ≡ replaced end (num 8 255) b2 → b4 ≡ replaced (end + 8) t.fill b3 → b5 ≡ replaced (user_bits t.size) (num (pad_bits t.size) 0) b4 → b5 ≡ spelled (telegram_reading t)
+telegram_written t end b b1 b2 b3 b4 b5 reads size e e1 e2 e3 e4 e5 =
     let pad = num (pad_bits t.size) 0 in
-    let r1 = drop (length head) b in
-    let r2 = drop (length nid) r1 in
-    let r3 = drop (length t.fill) r2 in
-    let l1 : length head ≡ 50 = header_length t.header in
-    let l2 : length (head ++ nid) ≡ 58 = length-append head nid ∙ rw (l1, length-num 8 255) refl in
-    let l3 : length ((head ++ nid) ++ t.fill) ≡ user_bits t.size = omega (arith, length-append (head ++ nid) t.fill, l2, l1, reads.user_bits_is) in
-    let l4 : length pad ≡ pad_bits t.size = length-num (pad_bits t.size) 0 in
-    let s1 : b1 ≡ head ++ r1 = e1 ∙ put_next 0 [] head b refl in
-    let s2 : b2 ≡ (head ++ nid) ++ r2 = e2 ∙ ap (replaced 50 nid) s1 ∙ put_next 50 head nid r1 (sym l1) in
-    let s3 : b3 ≡ ((head ++ nid) ++ t.fill) ++ r3 = e3 ∙ ap (replaced 58 t.fill) s2 ∙ put_next 58 (head ++ nid) t.fill r2 (sym l2) in
-    let s4 : b4 ≡ (((head ++ nid) ++ t.fill) ++ pad) ++ drop (length pad) r3 = e4 ∙ ap (replaced (user_bits t.size) pad) s3 ∙ put_next (user_bits t.size) ((head ++ nid) ++ t.fill) pad r3 (sym l3) in
-    let left : length r3 ≤ length pad = omega (arith, length-drop (length t.fill) r2, length-drop (length nid) r1, length-drop (length head) b, length-num 8 255, l1, l4, size, reads.user_bits_is) in
-    let none : drop (length pad) r3 ≡ [] = drop_all (length pad) r3 left in
-    s4 ∙ ap (λ (s : List Bool). (((head ++ nid) ++ t.fill) ++ pad) ++ s) none ∙ append-nil (((head ++ nid) ++ t.fill) ++ pad) ∙ sym (telegram_bits t)
+    let nid : end + 8 ≡ end + length (num 8 255) = ap (λ (k : ℕ). end + k) (sym (length-num 8 255)) in
+    let whole : length b ≡ user_bits t.size + length pad = size ∙ ap (λ (k : ℕ). user_bits t.size + k) (sym (length-num (pad_bits t.size) 0)) in
+    all_written (spelled (header_reading t.header)) (spelled (packets_reading t.packets)) (num 8 255) t.fill pad b b1 b2 b3 b4 b5 50 end (end + 8) (user_bits t.size) (sym (header_length t.header)) e nid (user_end t end reads e) whole e1 e2 e3 e4 e5
+    ∙ sym (telegram_bits t)

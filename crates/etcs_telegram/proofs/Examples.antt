@@ -1,6 +1,7 @@
 -- The definitions, computed on whole telegrams.
 use Rattle.std.proofs.Common.{◌≡◌, ℕ, Bool, true, false, List, [], ◌∷◌, ◌++◌, refl}
 use Rattle.std.specs.Prelude.{replicate}
+use Rattle.std.proofs.lemmas.List.Elements.{All-nil}
 use Rattle.etcs_bits.specs.Bits.{num, bits}
 use Rattle.etcs_vars.specs.declared.var.Var.TheVariants.{NID_PACKET, FILL, PAD}
 use Rattle.etcs_vars.specs.Reading.{Reading, spelled, kept}
@@ -12,7 +13,7 @@ abbrev plain_header : HeaderParts
 plain_header = record { m_version = 32; n_pig = 0; n_total = 0; m_dup = 0; m_mcount = 255; nid_c = 1; nid_bg = 1; q_link = true }
 
 abbrev plain : Size → List Bool → TelegramValue
-plain size fill = record { size = size; header = plain_header; fill = fill }
+plain size fill = record { size = size; header = plain_header; packets = []; fill = fill }
 
 abbrev plain_reading : Size → List Bool → Reading
 plain_reading size fill = header_reading plain_header ++ (NID_PACKET, 255) ∷ kept FILL fill ++ kept PAD (replicate (pad_bits size) false)
@@ -26,7 +27,7 @@ with_zero = replicate 149 true ++ false ∷ true ∷ true ∷ []
 
 pub short_reads : TelegramReads (plain Short (replicate 152 true)) (plain_reading Short (replicate 152 true))
 unfolding num
-short_reads = record { header_admitted = (refl, (refl, (refl, (refl, (refl, (refl, (refl, (refl, (refl, (refl, tt)))))))))); reading_is = refl; user_bits_is = refl }
+short_reads = record { header_admitted = (refl, (refl, (refl, (refl, (refl, (refl, (refl, (refl, (refl, (refl, tt)))))))))); packets_hold = All-nil _; reading_is = refl; user_bits_is = refl }
 
 pub short_bits : spelled (plain_reading Short (replicate 152 true)) ≡ bits (first_bytes ++ (replicate 20 255 ++ 0xC0 ∷ []))
 unfolding num bits
@@ -38,7 +39,7 @@ with_zero_bits = refl
 
 pub long_reads : TelegramReads (plain Long (replicate 772 true)) (plain_reading Long (replicate 772 true))
 unfolding num
-long_reads = record { header_admitted = (refl, (refl, (refl, (refl, (refl, (refl, (refl, (refl, (refl, (refl, tt)))))))))); reading_is = refl; user_bits_is = refl }
+long_reads = record { header_admitted = (refl, (refl, (refl, (refl, (refl, (refl, (refl, (refl, (refl, (refl, tt)))))))))); packets_hold = All-nil _; reading_is = refl; user_bits_is = refl }
 
 pub long_bits : spelled (plain_reading Long (replicate 772 true)) ≡ bits (first_bytes ++ (replicate 97 255 ++ 0xFC ∷ []))
 unfolding num bits

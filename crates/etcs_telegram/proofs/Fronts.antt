@@ -13,11 +13,11 @@ use Rattle.etcs_vars.specs.Reading.{Reading}
 use Rattle.etcs_vars.proofs.Outcomes.{refuses_longer}
 use Rattle.etcs_telegram.specs.declared.size.Size.{Size}
 use Rattle.etcs_telegram.specs.declared.course.Course.{Course}
-use Rattle.etcs_telegram.specs.declared.course.Stop.{Stop}
-use Rattle.etcs_telegram.specs.declared.course.Stop.TheVariants.{Refused, Memory}
+use Rattle.etcs_container.specs.declared.run.Stop.{Stop}
+use Rattle.etcs_container.specs.declared.run.Stop.TheVariants.{Refused, Memory}
 use Rattle.etcs_telegram.specs.Telegrams.{TelegramLanguage}
 use Rattle.etcs_bits.proofs.ByteBits.{bits-append}
-use Rattle.etcs_telegram.specs.Courses.{StopsIn, IsFront, IsCourse, seen_by}
+use Rattle.etcs_telegram.specs.Courses.{StopsIn, StopsBehind, IsFront, IsCourse, seen_by}
 
 pub front_next : (b xs : List Bool) (k : ℕ) → k < length xs → (b ++ take k xs) ++ get_or xs k false ∷ [] ≡ b ++ take (k + 1) xs
 front_next b xs k h = append_assoc b (take k xs) (get_or xs k false ∷ []) ∙ ap (λ (t : List Bool). b ++ t) (sym (take_more xs k false h))
@@ -96,6 +96,35 @@ pub next_part : (b s s' xs : List Bool) (at n : ℕ) → s ≡ b ++ take at xs �
 next_part b s s' xs at n e e' =
     e' ∙ ap (λ (t : List Bool). t ++ part at n xs) e ∙ append_assoc b (take at xs) (part at n xs) ∙ ap (λ (t : List Bool). b ++ t) (sym (take-add at n xs))
 
+-- ---- Why it stops, and where.
+
+-- with more bits behind
+pub behind_longer : (L : Reading → Type 0) (b xs ys : List Bool) (count : ℕ) (e : Stop) → StopsBehind L b xs count e → StopsBehind L b (xs ++ ys) count e
+behind_longer L b xs ys count (Refused i x) (r, c) =
+    let w = refuses_longer L (b ++ xs) ys i x r in
+    (rw append_assoc at w, c)
+behind_longer L b xs ys count Memory (low, high, v, some, far) =
+    let same : (b ++ xs) ++ ys ≡ b ++ (xs ++ ys) = append_assoc b xs ys in
+    let front : take count (b ++ (xs ++ ys)) ≡ take count (b ++ xs) = ap (take count) (sym same) ∙ take-append-le count (b ++ xs) ys high in
+    let len : length (b ++ (xs ++ ys)) ≡ length (b ++ xs) + length ys = ap (λ (x : List Bool). length x) (sym same) ∙ length-append (b ++ xs) ys in
+    (low, omega (arith, high, len), rw front v, omega (arith, some, length-append xs ys), omega (arith, far, len))
+
+-- within a part of what comes
+pub behind_part : (L : Reading → Type 0) (b xs : List Bool) (at n count : ℕ) (e : Stop) → StopsBehind L b (part at n xs) count e → StopsBehind L b (drop at xs) count e
+behind_part L b xs at n count e w = let l = behind_longer L b (part at n xs) (drop n (drop at xs)) count e w in rw part_behind at l
+
+-- behind a front of what comes
+behind_front : (L : Reading → Type 0) (b ys xs : List Bool) (count : ℕ) (e : Stop) → StopsBehind L (b ++ ys) xs count e → StopsBehind L b (ys ++ xs) count e
+behind_front L b ys xs count (Refused i x) (r, c) = (rw append_assoc at r, c)
+behind_front L b ys xs count Memory (low, high, v, some, far) =
+    let same : (b ++ ys) ++ xs ≡ b ++ (ys ++ xs) = append_assoc b ys xs in
+    (omega (arith, low, length-append b ys), rw (← same) high, rw (← same) v, omega (arith, some, length-append ys xs), rw (← same) far)
+
+pub behind_rest : (size size' : Size) (b s xs : List Bool) (at count : ℕ) (e : Stop) → size' ≡ size → s ≡ b ++ take at xs → StopsBehind (TelegramLanguage size') s (drop at xs) count e → StopsBehind (TelegramLanguage size) b xs count e
+behind_rest size size' b s xs at count e es eb w =
+    let w' = behind_front (TelegramLanguage size) b (take at xs) (drop at xs) count e (rw (es, eb) at w) in
+    rw (take-append-drop at xs) at w'
+
 pub front_of_rest : (b s s' xs : List Bool) (at : ℕ) → s ≡ b ++ take at xs → IsFront s (drop at xs) s' → IsFront b xs s'
 front_of_rest b s s' xs at e f =
     let g = front_behind b (take at xs) (drop at xs) s' (rw e at f) in
@@ -119,6 +148,9 @@ bits_take xs i h =
 
 pub front_of_bytes : (b s : List Bool) (xs : List ℕ) (i : ℕ) → IsFront b (bits (take i xs)) s → IsFront b (bits xs) s
 front_of_bytes b s xs i f = let l = front_longer b (bits (take i xs)) (bits (drop i xs)) s f in rw bits_cut at l
+
+pub behind_bytes : (L : Reading → Type 0) (b : List Bool) (xs : List ℕ) (i count : ℕ) (e : Stop) → StopsBehind L b (bits (take i xs)) count e → StopsBehind L b (bits xs) count e
+behind_bytes L b xs i count e w = let l = behind_longer L b (bits (take i xs)) (bits (drop i xs)) count e w in rw bits_cut at l
 
 pub stops_in_bytes : (L : Reading → Type 0) (b : List Bool) (xs : List ℕ) (i : ℕ) (e : Stop) → StopsIn L (b ++ bits (take i xs)) e → StopsIn L (b ++ bits xs) e
 stops_in_bytes L b xs i e w =

@@ -11,7 +11,10 @@ pub mod Ends
 pub mod CourseSteps
 pub mod Fills
 pub mod Fronts
+pub mod Packeted
 pub mod Pieces
 pub mod Feeding
 pub mod RoundTrips
 pub mod Examples
+pub mod Filling
+pub mod Rooms

@@ -7,15 +7,19 @@ use Rattle.std.proofs.Math.Seq.{drop-cons}
 use Rattle.etcs_vars.specs.declared.var.Var.{Var}
 use Rattle.etcs_vars.specs.declared.var.Var.TheVariants.{NID_PACKET, FILL, PAD}
 use Rattle.etcs_vars.specs.Vars.{width, ranges, inside, begins}
-use Rattle.etcs_vars.specs.Reading.{Reading, kept}
+use Rattle.etcs_vars.specs.Reading.{Reading, spelled, kept}
+use Rattle.etcs_rows.specs.declared.frames.Carrier.TheVariants as carrier
+use Rattle.etcs_container.specs.Contents.{closing, Run}
+use Rattle.etcs_rows.proofs.LengthLemmas.{length-sent}
+use Rattle.std.proofs.lemmas.List.Elements.{All-nil}
 use Rattle.etcs_vars.proofs.Prefixes.{ordered, ranges_ordered, admits_parts, admits_from}
 use Rattle.etcs_vars.proofs.Stepping.{Opens, Tested, ranges_tested}
 use Rattle.etcs_telegram.specs.declared.size.Size.{Size}
 use Rattle.etcs_telegram.specs.declared.size.Size.TheVariants.{Short, Long}
 use Rattle.etcs_telegram.specs.declared.phase.Phase.{Phase}
-use Rattle.etcs_telegram.specs.declared.phase.Phase.TheVariants.{Header, Packet, Fill, Pad, Whole}
-use Rattle.etcs_telegram.specs.Telegrams.{header_row, fill_bits, pad_bits}
-use Rattle.etcs_telegram.specs.Phases.{var_at, ranges_at, is_going, after, IsPhase, PadLeft, FillLeft, PacketLeft, HeaderLeft, Left}
+use Rattle.etcs_telegram.specs.declared.phase.Phase.TheVariants.{Header, Packets, Fill, Pad, Whole}
+use Rattle.etcs_telegram.specs.Telegrams.{header_row, packet_room, pad_bits}
+use Rattle.etcs_telegram.specs.Phases.{var_at, ranges_at, is_own, after, IsPhase, PadLeft, FillLeft, PacketsLeft, HeaderLeft, Left}
 use Rattle.etcs_telegram.proofs.Rows.{row_read}
 
 -- n is one of the numbers of x, and R' goes on behind it
@@ -57,19 +61,35 @@ phased_same R S x rs R' S' h k s = record {
   in_order = s.in_order;
 }
 
-fill_read : (size : Size) (n : ℕ) → (r : Reading) × FillLeft size n r
+pub fill_read : (size : Size) (n : ℕ) → (r : Reading) × FillLeft size n r
 fill_read size n = (kept FILL (replicate n true) ++ kept PAD (replicate (pad_bits size) false), (replicate n true, length-replicate n true, refl))
 
-packet_read : (size : Size) → (r : Reading) × PacketLeft size r
-packet_read size = let f = fill_read size (fill_bits size) in ((NID_PACKET, 255) ∷ f.0, (f.0, refl, f.1))
+pub closing_bits : length (spelled (closing carrier.Telegram)) ≡ 8
+closing_bits = omega (arith, length-sent NID_PACKET 255 [])
+
+room_enough : (size : Size) → 8 ≤ packet_room size
+room_enough Short = omega arith
+room_enough Long = omega arith
+
+no_packets : (size : Size) → Run carrier.Telegram (packet_room size) (closing carrier.Telegram)
+no_packets size = ([], record { carried = All-nil _; reading_is = refl; fills = omega (arith, closing_bits, room_enough size) })
+
+pub some_run : (size : Size) → (r : Reading) × Run carrier.Telegram (packet_room size) r
+some_run size = (closing carrier.Telegram, no_packets size)
+
+pub packets_read : (size : Size) → (r : Reading) × PacketsLeft size r
+packets_read size =
+    let p = closing carrier.Telegram in
+    let f = fill_read size (packet_room size - length (spelled p)) in
+    (p ++ f.0, (p, f.0, refl, no_packets size, f.1))
 
 header_read : (size : Size) (vs : List Var) → (r : Reading) × HeaderLeft size vs r
-header_read size vs = let h = row_read vs in let p = packet_read size in (h.0 ++ p.0, (h.0, p.0, refl, h.1, p.1))
+header_read size vs = let h = row_read vs in let p = packets_read size in (h.0 ++ p.0, (h.0, p.0, refl, h.1, p.1))
 
 -- every phase can end
 pub left_read : (size : Size) (phase : Phase) → (r : Reading) × Left size phase r
 left_read size (Header at) = header_read size (drop at header_row)
-left_read size Packet = packet_read size
+left_read size Packets = packets_read size
 left_read size (Fill left) = fill_read size left
 left_read size (Pad left) = (kept PAD (replicate left false), refl)
 left_read size Whole = ([], refl)
@@ -82,17 +102,6 @@ header_steps size v vs = record {
   closes = λ n r' (i, f, (h', rest, e, rr, pk)). ((v, n) ∷ h', rest, ap (λ (t : Reading). (v, n) ∷ t) e, (n, h', admits_from v n i f, refl, rr), pk);
   ends = header_read size vs;
   in_order = ranges_ordered v;
-}
-
-pub only_255 : (n : ℕ) → inside ((255, 255) ∷ []) n ≡ true → n ≡ 255
-only_255 n h = grind (arith, nat_tests)
-
-packet_steps : (size : Size) → Phased (PacketLeft size) NID_PACKET ((255, 255) ∷ []) (FillLeft size (fill_bits size))
-packet_steps size = record {
-  opens = λ r (rest, e, f). (255, rest, e, (refl, omega arith, f));
-  closes = λ n r' (i, f, l). let e = only_255 n i in (r', (let g : ◌≡◌ {A = Reading} ((NID_PACKET, n) ∷ r') ((NID_PACKET, 255) ∷ r') = cc in g), l);
-  ends = fill_read size (fill_bits size);
-  in_order = refl;
 }
 
 abbrev pub bit_number : Bool → ℕ
@@ -137,14 +146,14 @@ pad_steps k = record {
 }
 
 -- what is left, as after says
-none_left : (size : Size) → Same (FillLeft size 0) (PadLeft (pad_bits size))
+pub none_left : (size : Size) → Same (FillLeft size 0) (PadLeft (pad_bits size))
 none_left size r = (λ (fill, l, e). none fill l r e, λ e. ([], refl, e))
   where
     none : (fill : List Bool) → length fill ≡ 0 → (r : Reading) → r ≡ kept FILL fill ++ kept PAD (replicate (pad_bits size) false) → PadLeft (pad_bits size) r
     none [] l r e = e
     none (b ∷ fill) l r e = absurd cc
 
-none_row : (size : Size) → Same (HeaderLeft size []) (PacketLeft size)
+none_row : (size : Size) → Same (HeaderLeft size []) (PacketsLeft size)
 none_row size r = (λ (h, rest, e, n, p). let f : r ≡ rest = rw n at e in rw f p, λ p. ([], r, refl, refl, p))
 
 pub by_test : (b : Bool) (P : Phase → Type 0) (x y : Phase) → (b ≡ true → P x) → (b ≡ false → P y) → P (if b then x else y)
@@ -159,9 +168,9 @@ below_true a b h = grind (arith, nat_tests)
 
 after_header : (size : Size) (at : ℕ) → at < 10 → Same (Left size (after size (Header at))) (HeaderLeft size (drop (suc at) header_row))
 after_header size at h =
-    by_test (ltb at 9) (λ x. Same (Left size x) (HeaderLeft size (drop (suc at) header_row))) (Header (at + 1)) Packet
+    by_test (ltb at 9) (λ x. Same (Left size x) (HeaderLeft size (drop (suc at) header_row))) (Header (at + 1)) Packets
     (λ _. let e : at + 1 ≡ suc at = omega arith in rw e (same_self (HeaderLeft size (drop (suc at) header_row))))
-    (λ t. let e : at ≡ 9 = (let b = below_false at 9 t in omega arith) in rw e (same_back (HeaderLeft size []) (PacketLeft size) (none_row size)))
+    (λ t. let e : at ≡ 9 = (let b = below_false at 9 t in omega arith) in rw e (same_back (HeaderLeft size []) (PacketsLeft size) (none_row size)))
 
 after_fill : (size : Size) (k : ℕ) → Same (Left size (after size (Fill (suc k)))) (FillLeft size k)
 after_fill size k =
@@ -176,14 +185,14 @@ after_pad size k =
     (λ t. let e : k ≡ 0 = (let b = below_false 1 (suc k) t in omega arith) in rw e (same_self (PadLeft 0)))
 
 -- each phase goes on with its variable, and then as the next phase
-pub phase_steps : (size : Size) (phase : Phase) → IsPhase size phase → is_going phase ≡ true → Phased (Left size phase) (var_at phase) (ranges_at phase) (Left size (after size phase))
+pub phase_steps : (size : Size) (phase : Phase) → IsPhase size phase → is_own phase ≡ true → Phased (Left size phase) (var_at phase) (ranges_at phase) (Left size (after size phase))
 phase_steps size (Header at) h g =
     let v = get_or header_row at PAD in
     let vs = drop (suc at) header_row in
     let e : drop at header_row ≡ v ∷ vs = drop-cons header_row at PAD h in
     let same : Same (HeaderLeft size (drop at header_row)) (HeaderLeft size (v ∷ vs)) = rw e (same_self (HeaderLeft size (v ∷ vs))) in
     phased_same (HeaderLeft size (drop at header_row)) (HeaderLeft size (v ∷ vs)) v (ranges v) (Left size (after size (Header at))) (HeaderLeft size vs) same (after_header size at h) (header_steps size v vs)
-phase_steps size Packet h g = packet_steps size
+phase_steps size Packets h g = absurd cc
 phase_steps size (Fill zero) h g = absurd (omega (arith, h.0))
 phase_steps size (Fill (suc k)) h g =
     phased_same (FillLeft size (suc k)) (FillLeft size (suc k)) FILL (ranges FILL) (Left size (after size (Fill (suc k)))) (FillLeft size k) (same_self (FillLeft size (suc k))) (after_fill size k) (fill_steps size k)
@@ -193,13 +202,9 @@ phase_steps size (Pad (suc k)) h g =
 phase_steps size Whole h g = absurd cc
 
 -- the next phase is one
-pub phase_after : (size : Size) (phase : Phase) → IsPhase size phase → is_going phase ≡ true → IsPhase size (after size phase)
-phase_after size (Header at) h g = by_test (ltb at 9) (IsPhase size) (Header (at + 1)) Packet (λ t. let b = below_true at 9 t in omega arith) (λ _. tt)
-phase_after size Packet h g = (some_fill size, omega arith)
-  where
-    some_fill : (s : Size) → 0 < fill_bits s
-    some_fill Short = omega arith
-    some_fill Long = omega arith
+pub phase_after : (size : Size) (phase : Phase) → IsPhase size phase → is_own phase ≡ true → IsPhase size (after size phase)
+phase_after size (Header at) h g = by_test (ltb at 9) (IsPhase size) (Header (at + 1)) Packets (λ t. let b = below_true at 9 t in omega arith) (λ _. tt)
+phase_after size Packets h g = tt
 phase_after size (Fill left) h g =
     by_test (ltb 1 left) (IsPhase size) (Fill (left - 1)) (Pad (pad_bits size)) (λ t. let b = below_true 1 left t in (omega arith, omega (arith, h.1))) (λ _. (some_pad size, omega arith))
   where

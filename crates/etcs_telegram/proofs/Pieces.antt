@@ -9,8 +9,7 @@ use Rattle.etcs_telegram.specs.declared.course.Course.{Course}
 use Rattle.etcs_telegram.specs.Telegrams.{container_bytes}
 use Rattle.etcs_telegram.specs.Phases.{is_going}
 use Rattle.etcs_telegram.specs.Courses.{IsCourse, seen_by, Takes, container_bits}
-use Rattle.etcs_telegram.proofs.CourseSteps.{going_count}
-use Rattle.etcs_telegram.proofs.Ends.{done_length}
+use Rattle.etcs_telegram.proofs.Packeted.{going_count, done_count}
 use Rattle.etcs_telegram.proofs.Fronts.{count_more, bits_take}
 
 pub whole_bytes : (size : Size) → container_bits size ≡ 8 * container_bytes size
@@ -23,7 +22,7 @@ goes_short k is short = by_going (is_going k.phase) refl
   where
     by_going : (g : Bool) → is_going k.phase ≡ g → is_going k.phase ≡ true
     by_going true h = h
-    by_going false h = absurd (omega (arith, short, is.counted, done_length k.size k.phase k.header.items k.fill k.number k.taken is.reached h))
+    by_going false h = absurd (omega (arith, short, done_count k is h))
 
 -- how many bytes are wanted
 pub bytes_wanted : (k : Course) → IsCourse k → is_going k.phase ≡ true → k.count / 8 ≤ container_bytes k.size

@@ -11,9 +11,9 @@ use Rattle.etcs_vars.proofs.Prefixes.{some_number, ranges_ordered, ordered, widt
 use Rattle.etcs_vars.proofs.Stepping.{Opens, Tested, ranges_tested, part_none, part_by, seen_by, next_number, holds_next, refuses, goes_on_by, residual_after}
 use Rattle.etcs_telegram.specs.declared.size.Size.{Size}
 use Rattle.etcs_telegram.specs.declared.phase.Phase.{Phase}
-use Rattle.etcs_telegram.specs.declared.phase.Phase.TheVariants.{Header, Packet, Fill, Pad, Whole}
+use Rattle.etcs_telegram.specs.declared.phase.Phase.TheVariants.{Header, Packets, Fill, Pad, Whole}
 use Rattle.etcs_telegram.specs.Telegrams.{header_row, pad_bits, user_bits, TelegramLanguage}
-use Rattle.etcs_telegram.specs.Phases.{var_at, ranges_at, is_going, after, Left, so_far, header_with, fill_with}
+use Rattle.etcs_telegram.specs.Phases.{var_at, ranges_at, is_own, after, Left, so_far, header_with, fill_with}
 use Rattle.etcs_telegram.specs.Reached.{Reached, seen}
 use Rattle.etcs_telegram.proofs.Spellings.{regular, whole_length}
 use Rattle.etcs_telegram.proofs.PhaseSteps.{Phased, Goes, phased_opens, phased_tested, phase_steps, phase_after}
@@ -30,7 +30,7 @@ of_var x = first_part x (ranges x) (ranges_ordered x) (some_number x)
 
 pub none_yet : (phase : Phase) → Part (var_at phase) (begins (ranges_at phase)) 0 0
 none_yet (Header at) = of_var (get_or header_row at PAD)
-none_yet Packet = first_part NID_PACKET ((255, 255) ∷ []) refl (255, refl, omega arith)
+none_yet Packets = of_var NID_PACKET
 none_yet (Fill left) = of_var FILL
 none_yet (Pad left) = of_var PAD
 none_yet Whole = of_var PAD
@@ -43,9 +43,9 @@ num_none n = refl
 abbrev pub Onward : Size → Phase → ℕ → Reading → Type 0
 Onward size phase n r = Goes (var_at phase) (ranges_at phase) (Left size (after size phase)) n r
 
-module _ (size : Size) (phase : Phase) (header : List ℕ) (fill : List Bool) (number taken : ℕ) (reached : Reached size phase header fill number taken) where
+module _ (size : Size) (phase : Phase) (header : List ℕ) (ps : Reading) (fill : List Bool) (number taken : ℕ) (reached : Reached size phase header ps fill number taken) where
   -- k bits more of the same variable
-  pub reached_by : (k more : ℕ) → more < 2 ^ k → begins (ranges_at phase) (width (var_at phase) - (taken + k)) (number * 2 ^ k + more) ≡ true → taken + k < width (var_at phase) → Reached size phase header fill (number * 2 ^ k + more) (taken + k)
+  pub reached_by : (k more : ℕ) → more < 2 ^ k → begins (ranges_at phase) (width (var_at phase) - (taken + k)) (number * 2 ^ k + more) ≡ true → taken + k < width (var_at phase) → Reached size phase header ps fill (number * 2 ^ k + more) (taken + k)
   reached_by k more small t short = record {
     is_phase = reached.is_phase;
     holds = reached.holds;
@@ -54,12 +54,12 @@ module _ (size : Size) (phase : Phase) (header : List ℕ) (fill : List Bool) (n
     unfinished = part_by (var_at phase) (begins (ranges_at phase)) number taken k more reached.unfinished small t short;
   }
 
-  pub seen_of_part : (k more : ℕ) → more < 2 ^ k → seen size phase header fill (number * 2 ^ k + more) (taken + k) ≡ seen size phase header fill number taken ++ num k more
-  seen_of_part k more small = seen_by (so_far size phase header fill) taken k number more small
+  pub seen_of_part : (k more : ℕ) → more < 2 ^ k → seen size phase header ps fill (number * 2 ^ k + more) (taken + k) ≡ seen size phase header ps fill number taken ++ num k more
+  seen_of_part k more small = seen_by (so_far size phase header ps fill) taken k number more small
 
-  module _ (going : is_going phase ≡ true) where
+  module _ (own : is_own phase ≡ true) where
     steps : Phased (Left size phase) (var_at phase) (ranges_at phase) (Left size (after size phase))
-    steps = phase_steps size phase reached.is_phase going
+    steps = phase_steps size phase reached.is_phase own
 
     opens : Opens (Left size phase) (var_at phase) (Onward size phase)
     opens = phased_opens (Left size phase) (var_at phase) (ranges_at phase) (Left size (after size phase)) steps
@@ -67,36 +67,36 @@ module _ (size : Size) (phase : Phase) (header : List ℕ) (fill : List Bool) (n
     tested : Tested (var_at phase) (Onward size phase) (begins (ranges_at phase))
     tested = phased_tested (Left size phase) (var_at phase) (ranges_at phase) (Left size (after size phase)) steps
 
-    pub reached_owner : Owner (TelegramLanguage size) (seen size phase header fill number taken) (var_at phase)
+    pub reached_owner : Owner (TelegramLanguage size) (seen size phase header ps fill number taken) (var_at phase)
     reached_owner =
-        holds_next (TelegramLanguage size) (regular size) (so_far size phase header fill) (Left size phase) (var_at phase) (Onward size phase) (begins (ranges_at phase)) reached.residual opens tested taken number reached.unfinished
+        holds_next (TelegramLanguage size) (regular size) (so_far size phase header ps fill) (Left size phase) (var_at phase) (Onward size phase) (begins (ranges_at phase)) reached.residual opens tested taken number reached.unfinished
 
-    pub reached_refuses : (b : Bool) → begins (ranges_at phase) (width (var_at phase) - (taken + 1)) (number * 2 + bit b) ≡ false → Viable (TelegramLanguage size) (seen size phase header fill number taken ++ b ∷ []) → ⊥
+    pub reached_refuses : (b : Bool) → begins (ranges_at phase) (width (var_at phase) - (taken + 1)) (number * 2 + bit b) ≡ false → Viable (TelegramLanguage size) (seen size phase header ps fill number taken ++ b ∷ []) → ⊥
     reached_refuses b t v =
-        refuses (TelegramLanguage size) (regular size) (so_far size phase header fill) (Left size phase) (var_at phase) (Onward size phase) (begins (ranges_at phase)) reached.residual opens tested taken number b reached.unfinished t v
+        refuses (TelegramLanguage size) (regular size) (so_far size phase header ps fill) (Left size phase) (var_at phase) (Onward size phase) (begins (ranges_at phase)) reached.residual opens tested taken number b reached.unfinished t v
 
     -- a number more
-    pub reached_number : (n : ℕ) → inside (ranges_at phase) n ≡ true → n < 2 ^ width (var_at phase) → Reached size (after size phase) (header_with phase header n) (fill_with phase fill n) 0 0
+    pub reached_number : (n : ℕ) → inside (ranges_at phase) n ≡ true → n < 2 ^ width (var_at phase) → Reached size (after size phase) (header_with phase header n) ps (fill_with phase fill n) 0 0
     reached_number n i f =
-        let e = so_far_after size phase header fill n reached.is_phase reached.holds going i f in
-        let r = residual_after (TelegramLanguage size) (regular size) (so_far size phase header fill) (Left size phase) (var_at phase) (Onward size phase) (begins (ranges_at phase)) reached.residual opens tested n in
-        let onward : Residual (TelegramLanguage size) (so_far size phase header fill ++ (var_at phase, n) ∷ []) (Left size (after size phase)) = record {
+        let e = so_far_after size phase header ps fill n reached.is_phase reached.holds own i f in
+        let r = residual_after (TelegramLanguage size) (regular size) (so_far size phase header ps fill) (Left size phase) (var_at phase) (Onward size phase) (begins (ranges_at phase)) reached.residual opens tested n in
+        let onward : Residual (TelegramLanguage size) (so_far size phase header ps fill ++ (var_at phase, n) ∷ []) (Left size (after size phase)) = record {
           to = λ q l. (r.to q l).2;
           from = λ q l. r.from q (i, f, l);
         } in
         record {
-          is_phase = phase_after size phase reached.is_phase going;
-          holds = holds_after size phase header fill n reached.is_phase reached.holds going;
-          admitted = admitted_after size phase header fill n reached.is_phase reached.holds reached.admitted i f;
+          is_phase = phase_after size phase reached.is_phase own;
+          holds = holds_after size phase header ps fill n reached.is_phase reached.holds own;
+          admitted = admitted_after size phase header ps fill n reached.is_phase reached.holds reached.admitted i f;
           residual = rw e onward;
           unfinished = none_yet (after size phase);
         }
 
-    pub seen_of_number : (n : ℕ) → inside (ranges_at phase) n ≡ true → n < 2 ^ width (var_at phase) → seen size (after size phase) (header_with phase header n) (fill_with phase fill n) 0 0 ≡ spelled (so_far size phase header fill) ++ num (width (var_at phase)) n
+    pub seen_of_number : (n : ℕ) → inside (ranges_at phase) n ≡ true → n < 2 ^ width (var_at phase) → seen size (after size phase) (header_with phase header n) ps (fill_with phase fill n) 0 0 ≡ spelled (so_far size phase header ps fill) ++ num (width (var_at phase)) n
     seen_of_number n i f =
-        let p = so_far size phase header fill in
-        let e = so_far_after size phase header fill n reached.is_phase reached.holds going i f in
-        let bits : spelled (so_far size (after size phase) (header_with phase header n) (fill_with phase fill n)) ≡ spelled p ++ num (width (var_at phase)) n =
+        let p = so_far size phase header ps fill in
+        let e = so_far_after size phase header ps fill n reached.is_phase reached.holds own i f in
+        let bits : spelled (so_far size (after size phase) (header_with phase header n) ps (fill_with phase fill n)) ≡ spelled p ++ num (width (var_at phase)) n =
         ap spelled e ∙ spelled-append p ((var_at phase, n) ∷ []) ∙ ap (λ (t : List Bool). spelled p ++ t) (append-nil (num (width (var_at phase)) n)) in
         rw num_none (append-nil _ ∙ bits)
 
@@ -104,24 +104,24 @@ module _ (size : Size) (phase : Phase) (header : List ℕ) (fill : List Bool) (n
     module _ (k more : ℕ) (small : more < 2 ^ k) (test : begins (ranges_at phase) (width (var_at phase) - (taken + k)) (number * 2 ^ k + more) ≡ true) (whole : taken + k ≡ width (var_at phase)) where
       goes : (r : Reading) × Onward size phase (number * 2 ^ k + more) r
       goes =
-          goes_on_by (TelegramLanguage size) (regular size) (so_far size phase header fill) (Left size phase) (var_at phase) (Onward size phase) (begins (ranges_at phase)) reached.residual opens tested taken number k more reached.unfinished small test whole
+          goes_on_by (TelegramLanguage size) (regular size) (so_far size phase header ps fill) (Left size phase) (var_at phase) (Onward size phase) (begins (ranges_at phase)) reached.residual opens tested taken number k more reached.unfinished small test whole
 
-      pub reached_whole : Reached size (after size phase) (header_with phase header (number * 2 ^ k + more)) (fill_with phase fill (number * 2 ^ k + more)) 0 0
+      pub reached_whole : Reached size (after size phase) (header_with phase header (number * 2 ^ k + more)) ps (fill_with phase fill (number * 2 ^ k + more)) 0 0
       reached_whole = let g = goes in reached_number (number * 2 ^ k + more) g.1.0 g.1.1
 
-      pub seen_whole : seen size (after size phase) (header_with phase header (number * 2 ^ k + more)) (fill_with phase fill (number * 2 ^ k + more)) 0 0 ≡ seen size phase header fill number taken ++ num k more
+      pub seen_whole : seen size (after size phase) (header_with phase header (number * 2 ^ k + more)) ps (fill_with phase fill (number * 2 ^ k + more)) 0 0 ≡ seen size phase header ps fill number taken ++ num k more
       seen_whole =
           let g = goes in
           let m = number * 2 ^ k + more in
-          let p = so_far size phase header fill in
+          let p = so_far size phase header ps fill in
           let last : num (width (var_at phase)) m ≡ num taken number ++ num k more = ap (λ j. num j m) (sym whole) ∙ next_number taken k number more small in
           seen_of_number m g.1.0 g.1.1 ∙ ap (λ (t : List Bool). spelled p ++ t) last ∙ sym (append_assoc (spelled p) (num taken number) (num k more))
 
     -- fewer bits than the container has, while something comes
-    pub going_length : length (seen size phase header fill number taken) < user_bits size + pad_bits size
-    going_length =
+    pub own_length : length (seen size phase header ps fill number taken) < user_bits size + pad_bits size
+    own_length =
         let o = reached_owner in
-        shorter (seen size phase header fill number taken) o.viable o.open_end
+        shorter (seen size phase header ps fill number taken) o.viable o.open_end
       where
         shorter : (b : List Bool) → Viable (TelegramLanguage size) b → (InLanguage (TelegramLanguage size) b → ⊥) → length b < user_bits size + pad_bits size
         shorter b (r, [], l, e) open_end = absurd (open_end (r, l, e ∙ append-nil b))

@@ -11,8 +11,7 @@ use Rattle.etcs_vars.specs.Vars.{width, admits, inside, ranges}
 use Rattle.etcs_vars.specs.Reading.{Reading, spelled, numbers, kept}
 use Rattle.etcs_vars.proofs.Prefixes.{admits_parts, admits_from, some_number}
 use Rattle.etcs_telegram.specs.Telegrams.{header_row, HeaderParts, header_reading, header_of, IsAdmitted}
-use Rattle.etcs_telegram.specs.Headers.{labelled}
-use Rattle.etcs_telegram.specs.Phases.{RowReads}
+use Rattle.etcs_telegram.specs.Headers.{labelled, RowReads}
 
 -- each row can be read
 pub row_read : (vs : List Var) → (r : Reading) × RowReads vs r

@@ -1,17 +1,23 @@
 -- Telegrams of one size by their spellings.
-use Rattle.std.proofs.Common.{◌≡◌, ℕ, suc, ◌+◌, Bool, true, false, List, [], ◌∷◌, ◌++◌, length, refl, sym, ap, ◌∙◌, arith, length-append}
-use Rattle.std.specs.Prelude.{replicate, map, ◌==◌}
-use Rattle.std.proofs.lemmas.List.{append-nil, length-map, length-replicate}
-use Rattle.etcs_bits.proofs.Numbers.{length-num}
+use Rattle.std.proofs.Common.{◌≡◌, ◌+◌, ◌≤◌, Bool, true, false, List, [], ◌∷◌, ◌++◌, length, refl, sym, ap, subst, ◌∙◌, arith, length-append}
+use Rattle.std.specs.Prelude.{replicate, map, All, ◌==◌}
+use Rattle.std.proofs.lemmas.List.{append-nil, length-replicate}
 use Rattle.etcs_bits.specs.Bits.{num}
 use Rattle.etcs_vars.specs.declared.var.Var.{Var}
-use Rattle.etcs_vars.specs.declared.var.Var.TheVariants.{NID_PACKET, FILL, PAD}
+use Rattle.etcs_vars.specs.declared.var.Var.TheVariants.{FILL, PAD}
 use Rattle.etcs_vars.specs.Vars.{width}
 use Rattle.etcs_vars.specs.Reading.{Sent, Reading, spelled, kept}
-use Rattle.etcs_vars.proofs.Apart.{Agree, AllFit, Agree-append, Agree-same, AllFit-append, apart, cut}
+use Rattle.etcs_vars.proofs.Apart.{Agree, AllFit, Agree-append, Agree-same, AllFit-append, Agree-cut, apart, cut}
 use Rattle.etcs_vars.proofs.Walk.{spelled-append, Regular}
+use Rattle.etcs_rows.specs.declared.frames.Carrier.TheVariants.{Telegram}
+use Rattle.etcs_packets.specs.declared.packet.Packet.{Packet}
+use Rattle.etcs_packets.specs.PacketValues.{PacketValue}
+use Rattle.etcs_packets.specs.OnePacket.{IsMade, one_list}
+use Rattle.etcs_container.specs.Contents.{RunOf}
+use Rattle.etcs_container.proofs.Agreement.{run_regular}
+use Rattle.etcs_container.proofs.OneSpelling.{packets_same}
 use Rattle.etcs_telegram.specs.declared.size.Size.{Size}
-use Rattle.etcs_telegram.specs.Telegrams.{HeaderParts, TelegramValue, TelegramReads, TelegramLanguage, OneSpelling, header_reading, user_bits, pad_bits}
+use Rattle.etcs_telegram.specs.Telegrams.{HeaderParts, TelegramParts, TelegramValue, TelegramReads, TelegramLanguage, OneSpelling, header_reading, closed_reading, telegram_value, user_bits, pad_bits, packet_room}
 use Rattle.etcs_telegram.proofs.HeaderLemmas.{admitted_fit, header_length, header_same}
 
 kept_agree : (v : Var) (bs cs : List Bool) → length bs ≡ length cs → Agree (kept v bs) (kept v cs)
@@ -41,72 +47,145 @@ spelled-kept v [] w = refl
 spelled-kept v (true ∷ bs) w = rw (w, spelled-kept v bs w) refl
 spelled-kept v (false ∷ bs) w = rw (w, spelled-kept v bs w) refl
 
-header_agree : (h k : HeaderParts) → Agree (header_reading h) (header_reading k)
+pub header_agree : (h k : HeaderParts) → Agree (header_reading h) (header_reading k)
 header_agree h k = (refl, λ _. (refl, λ _. (refl, λ _. (refl, λ _. (refl, λ _. (refl, λ _. (refl, λ _. (refl, λ _. (refl, λ _. (refl, λ _. tt))))))))))
 
-fills_alike : (t u : TelegramValue) (a b : Reading) → t.size ≡ u.size → TelegramReads t a → TelegramReads u b → length t.fill ≡ length u.fill
-fills_alike t u a b s x y = omega (arith, header_length t.header, header_length u.header, x.user_bits_is, y.user_bits_is, ap user_bits s)
+-- ---- The parts of a telegram's reading.
 
-abbrev front : TelegramValue → Reading
-front t = header_reading t.header ++ (NID_PACKET, 255) ∷ kept FILL t.fill
+abbrev closed : TelegramValue → Reading
+closed t = closed_reading t.packets
 
-abbrev zeros : Size → Reading
+abbrev pub zeros : Size → Reading
 zeros size = kept PAD (replicate (pad_bits size) false)
+
+-- packets and packet 255 are a run in the room that the header leaves
+pub closed_run : (t : TelegramValue) (r : Reading) → TelegramReads t r → RunOf Telegram (packet_room t.size) t.packets (closed_reading t.packets)
+closed_run t r x =
+    let fits : length (spelled (closed_reading t.packets)) ≤ packet_room t.size = omega (arith, header_length t.header, x.user_bits_is) in
+    record { carried = x.packets_hold; reading_is = refl; fills = fits }
+
+run_at : (size : Size) (t : TelegramValue) (r : Reading) → t.size ≡ size → TelegramReads t r → RunOf Telegram (packet_room size) t.packets (closed t)
+run_at size t r s x = subst (λ (k : Size). RunOf Telegram (packet_room k) t.packets (closed t)) s (closed_run t r x)
+
+runs_agree : (size : Size) (t u : TelegramValue) (a b : Reading) → t.size ≡ size → u.size ≡ size → TelegramReads t a → TelegramReads u b → Agree (closed t) (closed u)
+runs_agree size t u a b st su x y =
+    let runs = run_regular Telegram (packet_room size) in
+    runs.agree (closed t) (closed u) (t.packets, run_at size t a st x) (u.packets, run_at size u b su y)
+
+-- where the packets are the same, FILL has the same length
+fills_alike : (t u : TelegramValue) (a b : Reading) → t.size ≡ u.size → closed t ≡ closed u → TelegramReads t a → TelegramReads u b → length t.fill ≡ length u.fill
+fills_alike t u a b s e x y =
+    omega (arith, header_length t.header, header_length u.header, x.user_bits_is, y.user_bits_is, ap user_bits s, ap (λ (r : Reading). length (spelled r)) e)
+
+-- ---- Two telegrams of one size agree.
+
+headed_agree : (size : Size) (t u : TelegramValue) (a b : Reading) → t.size ≡ size → u.size ≡ size → TelegramReads t a → TelegramReads u b → Agree (header_reading t.header ++ closed t) (header_reading u.header ++ closed u)
+headed_agree size t u a b st su x y =
+    Agree-append (header_reading t.header) (header_reading u.header) (closed t) (closed u) (header_agree t.header u.header) (λ _. runs_agree size t u a b st su x y)
+
+fronts_agree : (size : Size) (t u : TelegramValue) (a b : Reading) → t.size ≡ size → u.size ≡ size → TelegramReads t a → TelegramReads u b → Agree ((header_reading t.header ++ closed t) ++ kept FILL t.fill) ((header_reading u.header ++ closed u) ++ kept FILL u.fill)
+fronts_agree size t u a b st su x y =
+    Agree-append (header_reading t.header ++ closed t) (header_reading u.header ++ closed u) (kept FILL t.fill) (kept FILL u.fill)
+    (headed_agree size t u a b st su x y)
+    (λ e. let same : closed t ≡ closed u = (cut (header_reading t.header) (header_reading u.header) (closed t) (closed u) refl e).1 in
+    kept_agree FILL t.fill u.fill (fills_alike t u a b (st ∙ sym su) same x y))
 
 agree : (size : Size) (a b : Reading) → TelegramLanguage size a → TelegramLanguage size b → Agree a b
 agree size a b (t, (st, x)) (u, (su, y)) =
-    let sizes : t.size ≡ u.size = st ∙ sym su in
-    let pads : zeros t.size ≡ zeros u.size = ap zeros sizes in
-    let fronts : Agree (front t) (front u) =
-    Agree-append (header_reading t.header) (header_reading u.header) ((NID_PACKET, 255) ∷ kept FILL t.fill) ((NID_PACKET, 255) ∷ kept FILL u.fill) (header_agree t.header u.header) (λ _. (refl, λ _. kept_agree FILL t.fill u.fill (fills_alike t u a b sizes x y))) in
-    rw (x.reading_is, y.reading_is, pads) (Agree-append (front t) (front u) (zeros u.size) (zeros u.size) fronts (λ _. Agree-same (zeros u.size)))
+    let pads : zeros t.size ≡ zeros u.size = ap zeros (st ∙ sym su) in
+    rw (x.reading_is, y.reading_is, pads) (
+    Agree-append ((header_reading t.header ++ closed t) ++ kept FILL t.fill) ((header_reading u.header ++ closed u) ++ kept FILL u.fill) (zeros u.size) (zeros u.size)
+    (fronts_agree size t u a b st su x y)
+    (λ _. Agree-same (zeros u.size)))
+
+runs_fit : (t : TelegramValue) (r : Reading) → TelegramReads t r → AllFit (closed t)
+runs_fit t r x = let runs = run_regular Telegram (packet_room t.size) in runs.fit (closed t) (t.packets, closed_run t r x)
 
 fit : (size : Size) (a : Reading) → TelegramLanguage size a → AllFit a
 fit size a (t, (st, x)) =
     rw x.reading_is
-    (AllFit-append (front t) (zeros t.size)
-    (AllFit-append (header_reading t.header) ((NID_PACKET, 255) ∷ kept FILL t.fill) (admitted_fit (header_reading t.header) x.header_admitted) (omega arith, kept_fit FILL t.fill refl))
+    (AllFit-append ((header_reading t.header ++ closed t) ++ kept FILL t.fill) (zeros t.size)
+    (AllFit-append (header_reading t.header ++ closed t) (kept FILL t.fill)
+    (AllFit-append (header_reading t.header) (closed t) (admitted_fit (header_reading t.header) x.header_admitted) (runs_fit t a x))
+    (kept_fit FILL t.fill refl))
     (kept_fit PAD (replicate (pad_bits t.size) false) refl))
 
 -- two readings of a size agree, and their numbers fit
 pub regular : (size : Size) → Regular (TelegramLanguage size)
 regular size = record { agree = agree size; fit = fit size }
 
+-- ---- How long they are.
+
+both_length : (a b : Reading) → length (spelled (a ++ b)) ≡ length (spelled a) + length (spelled b)
+both_length a b = ap length (spelled-append a b) ∙ length-append (spelled a) (spelled b)
+
+pub fill_length : (bs : List Bool) → length (spelled (kept FILL bs)) ≡ length bs
+fill_length bs = ap length (spelled-kept FILL bs refl)
+
+pub zeros_length : (size : Size) → length (spelled (zeros size)) ≡ pad_bits size
+zeros_length size = ap length (spelled-kept PAD (replicate (pad_bits size) false) refl) ∙ length-replicate (pad_bits size) false
+
 -- every telegram of a size has the container's bits
 pub whole_length : (size : Size) (r : Reading) → TelegramLanguage size r → length (spelled r) ≡ user_bits size + pad_bits size
 whole_length size r (t, (st, x)) =
     let head = header_reading t.header in
-    let behind = (NID_PACKET, 255) ∷ kept FILL t.fill in
-    let e : length (spelled r) ≡ length (spelled (front t)) + length (spelled (zeros t.size)) =
-    ap (λ (q : Reading). length (spelled q)) x.reading_is ∙ ap (λ (b : List Bool). length b) (spelled-append (front t) (zeros t.size)) ∙ length-append (spelled (front t)) (spelled (zeros t.size)) in
-    let z : length (spelled (zeros t.size)) ≡ pad_bits t.size = ap (λ (b : List Bool). length b) (spelled-kept PAD (replicate (pad_bits t.size) false) refl) ∙ length-replicate (pad_bits t.size) false in
-    let f : length (spelled (front t)) ≡ length (spelled head) + length (spelled behind) =
-    ap (λ (b : List Bool). length b) (spelled-append head behind) ∙ length-append (spelled head) (spelled behind) in
-    let g : length (spelled behind) ≡ 8 + length t.fill =
-    length-append (num 8 255) (spelled (kept FILL t.fill)) ∙ rw (length-num, spelled-kept FILL t.fill refl) refl in
+    let fill = kept FILL t.fill in
+    let e : length (spelled r) ≡ length (spelled (((head ++ closed t) ++ fill) ++ zeros t.size)) = ap (λ (q : Reading). length (spelled q)) x.reading_is in
+    let l1 = both_length ((head ++ closed t) ++ fill) (zeros t.size) in
+    let l2 = both_length (head ++ closed t) fill in
+    let l3 = both_length head (closed t) in
     let u : user_bits t.size ≡ user_bits size = ap user_bits st in
     let p : pad_bits t.size ≡ pad_bits size = ap pad_bits st in
-    omega (arith, e, z, f, g, u, p, x.user_bits_is)
+    omega (arith, e, l1, l2, l3, fill_length t.fill, zeros_length t.size, u, p, x.user_bits_is)
 
--- a reading is one telegram's
+-- ---- A reading is one telegram's.
+
+abbrev made : Size → HeaderParts → List PacketValue → List Bool → TelegramValue
+made s h ps f = record { size = s; header = h; packets = ps; fill = f }
+
+parts_one : (t u : TelegramValue) → t.size ≡ u.size → t.header ≡ u.header → t.packets ≡ u.packets → t.fill ≡ u.fill → t ≡ u
+parts_one t u s h p f =
+    ap (λ (x : Size). made x t.header t.packets t.fill) s
+    ∙ ap (λ (x : HeaderParts). made u.size x t.packets t.fill) h
+    ∙ ap (λ (x : List PacketValue). made u.size u.header x t.fill) p
+    ∙ ap (λ (x : List Bool). made u.size u.header u.packets x) f
+
 pub one_value : (t u : TelegramValue) (r : Reading) → t.size ≡ u.size → TelegramReads t r → TelegramReads u r → t ≡ u
 one_value t u r s x y =
-    let same : front t ++ zeros t.size ≡ front u ++ zeros u.size = sym x.reading_is ∙ y.reading_is in
-    let fills = fills_alike t u r r s x y in
-    let lengths : length (front t) ≡ length (front u) = simp length-map (ap (λ (k : ℕ). suc (suc (suc (suc (suc (suc (suc (suc (suc (suc (suc k))))))))))) fills) in
-    let fronts : front t ≡ front u = (cut (front t) (front u) (zeros t.size) (zeros u.size) lengths same).0 in
-    let parts = cut (header_reading t.header) (header_reading u.header) ((NID_PACKET, 255) ∷ kept FILL t.fill) ((NID_PACKET, 255) ∷ kept FILL u.fill) refl fronts in
+    let head = header_reading t.header in
+    let head' = header_reading u.header in
+    let whole = sym x.reading_is ∙ y.reading_is in
+    let fronts = Agree-cut ((head ++ closed t) ++ kept FILL t.fill) ((head' ++ closed u) ++ kept FILL u.fill) (zeros t.size) (zeros u.size) (fronts_agree u.size t u r r s refl x y) whole in
+    let headed = Agree-cut (head ++ closed t) (head' ++ closed u) (kept FILL t.fill) (kept FILL u.fill) (headed_agree u.size t u r r s refl x y) fronts.0 in
+    let parts = cut head head' (closed t) (closed u) refl headed.0 in
     let header : t.header ≡ u.header = header_same t.header u.header parts.0 in
-    let behind : kept FILL t.fill ≡ kept FILL u.fill = let whole = parts.1 in cc in
-    let fill : t.fill ≡ u.fill = kept_same FILL t.fill u.fill behind in
-    let made : Size → HeaderParts → List Bool → TelegramValue = λ a b c. record { size = a; header = b; fill = c } in
-    ap (λ (a : Size). made a t.header t.fill) s ∙ ap (λ (b : HeaderParts). made u.size b t.fill) header ∙ ap (λ (c : List Bool). made u.size u.header c) fill
+    let packets : t.packets ≡ u.packets = packets_same Telegram (packet_room u.size) t.packets u.packets (closed t) (closed u) (run_at u.size t r s x) (closed_run u r y) parts.1 in
+    parts_one t u s header packets (kept_same FILL t.fill u.fill headed.1)
+
+abbrev pub held : Size → HeaderParts → List Packet → List Bool → TelegramParts
+held s h ps f = record { size = s; header = h; packets = ps; fill = f }
+
+held_one : (t u : TelegramParts) → t.size ≡ u.size → t.header ≡ u.header → t.packets ≡ u.packets → t.fill ≡ u.fill → t ≡ u
+held_one t u s h p f =
+    ap (λ (x : Size). held x t.header t.packets t.fill) s
+    ∙ ap (λ (x : HeaderParts). held u.size x t.packets t.fill) h
+    ∙ ap (λ (x : List Packet). held u.size u.header x t.fill) p
+    ∙ ap (λ (x : List Bool). held u.size u.header u.packets x) f
+
+-- a value is one telegram's
+pub one_parts : (t u : TelegramParts) → All IsMade t.packets → All IsMade u.packets → telegram_value t ≡ telegram_value u → t ≡ u
+one_parts t u ht hu e =
+    held_one t u
+    (ap (λ (v : TelegramValue). v.size) e)
+    (ap (λ (v : TelegramValue). v.header) e)
+    (one_list t.packets u.packets ht hu (ap (λ (v : TelegramValue). v.packets) e))
+    (ap (λ (v : TelegramValue). v.fill) e)
 
 pub one_spelling : OneSpelling
-one_spelling size t u a b behind (st, x) (su, y) e =
-    let ta : TelegramLanguage size a = (t, (st, x)) in
-    let ub : TelegramLanguage size b = (u, (su, y)) in
+one_spelling size t u a b behind it iu (st, x) (su, y) e =
+    let ta : TelegramLanguage size a = (telegram_value t, (st, x)) in
+    let ub : TelegramLanguage size b = (telegram_value u, (su, y)) in
     let reg = regular size in
     let both = apart b a [] behind (reg.agree b a ub ta) (reg.fit b ub) (reg.fit a ta) (append-nil (spelled b) ∙ e) in
-    let y' : TelegramReads u a = rw both.0 at y in
-    (one_value t u a (st ∙ sym su) x y', sym both.1)
+    let y' : TelegramReads (telegram_value u) a = rw both.0 at y in
+    (one_parts t u it.made iu.made (one_value (telegram_value t) (telegram_value u) a (st ∙ sym su) x y'), sym both.1)

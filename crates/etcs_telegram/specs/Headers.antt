@@ -1,8 +1,9 @@
 -- What is wrong with a header, in the order of its variables (SUBSET-026, 7.5).
-use Rattle.std.specs.Prelude.{◌≡◌, ℕ, List, [], ◌∷◌, length, Option}
+use Rattle.std.specs.Prelude.{◌≡◌, ℕ, List, [], ◌∷◌, length, Option, IsTrue}
 use Rattle.etcs_vars.specs.declared.var.Var.{Var}
 use Rattle.etcs_vars.specs.declared.fault.BuildFault.{BuildFault}
 use Rattle.etcs_vars.specs.declared.var.Var.TheVariants.{M_VERSION_HEADER, N_PIG, N_TOTAL, M_DUP, M_MCOUNT, NID_C, NID_BG}
+use Rattle.etcs_vars.specs.Vars.{admits}
 use Rattle.etcs_vars.specs.Faults.{◌or_else◌, number_fault}
 use Rattle.etcs_vars.specs.Reading.{Reading}
 use Rattle.etcs_telegram.specs.Telegrams.{header_row, IsAdmitted}
@@ -16,6 +17,11 @@ abbrev pub labelled : List Var → List ℕ → Reading
 labelled [] ns = []
 labelled (v ∷ vs) [] = []
 labelled (v ∷ vs) (n ∷ ns) = (v, n) ∷ labelled vs ns
+
+-- r is a reading of the variables, one behind the other
+abbrev pub RowReads : List Var → Reading → Type 0
+RowReads [] r = r ≡ []
+RowReads (v ∷ vs) r = (n : ℕ) × (r' : Reading) × IsTrue (admits v n) × (r ≡ (v, n) ∷ r') × RowReads vs r'
 
 -- ten numbers that the header's variables admit
 pub record IsHeaderNumbers (ns : List ℕ) : Type 0 where

@@ -5,16 +5,16 @@ use Rattle.etcs_vars.specs.Reading.{Reading, Viable, readings_of, IsOutcome, don
 use Rattle.etcs_telegram.specs.declared.size.Size.{Size}
 use Rattle.etcs_vars.specs.declared.feed.Fed.{Fed}
 use Rattle.etcs_vars.specs.declared.feed.Fed.TheVariants.{More, Done}
-use Rattle.etcs_telegram.specs.declared.course.Stop.{Stop}
-use Rattle.etcs_telegram.specs.declared.course.Stop.TheVariants as stop
+use Rattle.etcs_container.specs.declared.run.Stop.{Stop}
+use Rattle.etcs_container.specs.declared.run.Stop.TheVariants as stop
 use Rattle.etcs_vars.specs.declared.feed.ReadFault.{ReadFault}
 use Rattle.etcs_vars.specs.declared.feed.ReadFault.TheVariants.{Refused, Ended, Memory}
-use Rattle.etcs_telegram.specs.Telegrams.{TelegramValue, user_bits, pad_bits}
+use Rattle.etcs_telegram.specs.Telegrams.{TelegramParts, TelegramValue, telegram_value, IsTelegram, user_bits, pad_bits}
 
 -- it has taken these bits and wants more; it has a telegram; it refused a bit; a growth was refused behind these many bits
 pub data Stage : Type 0 where
   reading : List Bool → Stage
-  finished : TelegramValue → Stage
+  finished : TelegramParts → Stage
   stopped : ℕ → Var → Stage
   starved : ℕ → Stage
 
@@ -49,7 +49,7 @@ fault_by stop.Memory = Memory
 -- the bits that were seen and the new ones together, the answer, and the stage behind it
 abbrev pub Feeds : (TelegramValue → Reading → Type 0) → List Bool → List Bool → Result Fed ReadFault → Stage → Type 0
 Feeds Reads seen new (Ok More) s = (s ≡ reading (seen ++ new)) × IsOutcome Reads (seen ++ new) more
-Feeds Reads seen new (Ok (Done k)) s = (t : TelegramValue) × (s ≡ finished t) × (8 * k ≤ length new) × IsOutcome Reads (seen ++ new) (done t (length seen + 8 * k))
+Feeds Reads seen new (Ok (Done k)) s = (t : TelegramParts) × (s ≡ finished t) × IsTelegram t × (8 * k ≤ length new) × IsOutcome Reads (seen ++ new) (done (telegram_value t) (length seen + 8 * k))
 Feeds Reads seen new (Err (Refused i x)) s = (s ≡ stopped i x) × IsOutcome Reads (seen ++ new) (refused i x)
 Feeds Reads seen new (Err Memory) s = (n : ℕ) × (s ≡ starved n) × (length seen ≤ n) × (n ≤ length (seen ++ new)) × Viable (readings_of Reads) (take n (seen ++ new)) × (0 < length new) × (48 < length (seen ++ new))
 Feeds Reads seen new (Err Ended) s = ⊥

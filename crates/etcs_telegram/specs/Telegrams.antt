@@ -1,11 +1,17 @@
--- Balise telegrams with no packets but 255: header, packet 255, FILL and zeros (SUBSET-026, chapters 7 and 8; the
--- user bits: SUBSET-036).
-use Rattle.std.specs.Prelude.{◌≡◌, ℕ, ◌+◌, ◌-◌, ◌==◌, Bool, false, List, [], ◌∷◌, ◌++◌, length, replicate, IsTrue, slice_index}
+-- Balise telegrams: header, packets, packet 255, FILL and zeros (SUBSET-026, chapters 7 and 8; the user bits:
+-- SUBSET-036).
+use Rattle.std.specs.Prelude.{◌≡◌, ℕ, ◌+◌, ◌-◌, ◌≤◌, ◌↔◌, ◌==◌, Bool, false, List, [], ◌∷◌, ◌++◌, length, map, replicate, IsTrue, All, slice_index}
 use Rattle.etcs_bits.specs.Bits.{bit}
 use Rattle.etcs_vars.specs.declared.var.Var.{Var}
-use Rattle.etcs_vars.specs.declared.var.Var.TheVariants.{Q_UPDOWN, M_VERSION_HEADER, Q_MEDIA, N_PIG, N_TOTAL, M_DUP, M_MCOUNT, NID_C, NID_BG, Q_LINK, NID_PACKET, FILL, PAD}
+use Rattle.etcs_vars.specs.declared.var.Var.TheVariants.{Q_UPDOWN, M_VERSION_HEADER, Q_MEDIA, N_PIG, N_TOTAL, M_DUP, M_MCOUNT, NID_C, NID_BG, Q_LINK, FILL, PAD}
 use Rattle.etcs_vars.specs.Vars.{admits}
-use Rattle.etcs_vars.specs.Reading.{Reading, spelled, kept, readings_of}
+use Rattle.etcs_vars.specs.Reading.{Reading, spelled, kept, readings_of, Viable}
+use Rattle.etcs_rows.specs.declared.frames.Carrier.TheVariants as carrier
+use Rattle.etcs_packets.specs.declared.packet.Packet.{Packet}
+use Rattle.etcs_packets.specs.PacketValues.{PacketValue, packet_value, IsPacket}
+use Rattle.etcs_packets.specs.PacketReadings.{packets_reading}
+use Rattle.etcs_packets.specs.OnePacket.{IsMade}
+use Rattle.etcs_container.specs.Contents.{closing}
 use Rattle.etcs_telegram.specs.declared.size.Size.{Size}
 use Rattle.etcs_telegram.specs.declared.size.Size.TheVariants.{Short, Long}
 
@@ -22,9 +28,9 @@ abbrev pub container_bytes : Size → ℕ
 container_bytes Short = 27
 container_bytes Long = 104
 
--- what 50 bits of header and 8 of packet 255 leave
-abbrev pub fill_bits : Size → ℕ
-fill_bits size = user_bits size - 58
+-- what 50 bits of header leave to packets, packet 255 and FILL
+abbrev pub packet_room : Size → ℕ
+packet_room size = user_bits size - 50
 
 -- the header's variables in the order of sending
 abbrev pub header_row : List Var
@@ -51,16 +57,37 @@ abbrev pub IsAdmitted : Reading → Type 0
 IsAdmitted [] = Unit {0}
 IsAdmitted (p ∷ r) = IsTrue (admits p.0 p.1) × IsAdmitted r
 
+-- what a telegram holds
+pub record TelegramParts : Type 0 where
+  pub size : Size
+  pub header : HeaderParts
+  pub packets : List Packet
+  pub fill : List Bool
+
+-- what it stands for
 pub record TelegramValue : Type 0 where
   pub size : Size
   pub header : HeaderParts
+  pub packets : List PacketValue
   pub fill : List Bool
 
--- r is the reading of the telegram: header, packet 255, FILL up to the user bits, and zeros
+abbrev pub telegram_value : TelegramParts → TelegramValue
+telegram_value t = record { size = t.size; header = t.header; packets = map packet_value t.packets; fill = t.fill }
+
+-- packets and packet 255 behind them
+abbrev pub closed_reading : List PacketValue → Reading
+closed_reading vs = packets_reading vs ++ closing carrier.Telegram
+
+-- how many bits these packets take with packet 255
+abbrev pub closed_bits : List Packet → ℕ
+closed_bits ps = length (spelled (closed_reading (map packet_value ps)))
+
+-- r is the reading of the telegram: header, packets, packet 255, FILL up to the user bits, and zeros
 pub record TelegramReads (t : TelegramValue) (r : Reading) : Type 0 where
   pub header_admitted : IsAdmitted (header_reading t.header)
-  pub reading_is : r ≡ header_reading t.header ++ (NID_PACKET, 255) ∷ kept FILL t.fill ++ kept PAD (replicate (pad_bits t.size) false)
-  pub user_bits_is : length (spelled (header_reading t.header)) + 8 + length t.fill ≡ user_bits t.size
+  pub packets_hold : All IsPacket t.packets
+  pub reading_is : r ≡ header_reading t.header ++ closed_reading t.packets ++ kept FILL t.fill ++ kept PAD (replicate (pad_bits t.size) false)
+  pub user_bits_is : length (spelled (header_reading t.header)) + length (spelled (closed_reading t.packets)) + length t.fill ≡ user_bits t.size
 
 -- the telegrams of a size, each with its readings
 abbrev pub ReadsAs : Size → TelegramValue → Reading → Type 0
@@ -68,10 +95,6 @@ ReadsAs size t r = (t.size ≡ size) × TelegramReads t r
 
 abbrev pub TelegramLanguage : Size → Reading → Type 0
 TelegramLanguage size = readings_of (ReadsAs size)
-
--- telegrams with one spelling are one, and no spelling begins another
-abbrev pub OneSpelling : Type 0
-OneSpelling = (size : Size) (t u : TelegramValue) (a b : Reading) (behind : List Bool) → ReadsAs size t a → ReadsAs size u b → spelled b ≡ spelled a ++ behind → (t ≡ u) × (behind ≡ [])
 
 -- the header of these ten numbers
 abbrev pub header_of : List ℕ → HeaderParts
@@ -86,7 +109,17 @@ header_of ns = record {
   q_link = slice_index ns 9 == 1;
 }
 
--- a value of the profile: its header is admitted, and FILL is the rest
-pub record IsTelegram (t : TelegramValue) : Type 0 where
+-- a value of the profile: its header is admitted, its packets are, and FILL is the rest
+pub record IsTelegram (t : TelegramParts) : Type 0 where
   pub header : IsAdmitted (header_reading t.header)
-  pub fill : length t.fill ≡ fill_bits t.size
+  pub made : All IsMade t.packets
+  pub packets : All IsPacket (map packet_value t.packets)
+  pub fill : 50 + length (spelled (closed_reading (map packet_value t.packets))) + length t.fill ≡ user_bits t.size
+
+-- telegrams with one spelling are one, and no spelling begins another
+abbrev pub OneSpelling : Type 0
+OneSpelling = (size : Size) (t u : TelegramParts) (a b : Reading) (behind : List Bool) → IsTelegram t → IsTelegram u → ReadsAs size (telegram_value t) a → ReadsAs size (telegram_value u) b → spelled b ≡ spelled a ++ behind → (t ≡ u) × (behind ≡ [])
+
+-- a header and packets begin a telegram exactly where room for packet 255 is left
+abbrev pub RoomRule : Type 0
+RoomRule = (size : Size) (h : HeaderParts) (vs : List PacketValue) → IsAdmitted (header_reading h) → All IsPacket vs → (Viable (TelegramLanguage size) (spelled (header_reading h ++ packets_reading vs)) ↔ (length (spelled (header_reading h ++ packets_reading vs)) + 8 ≤ user_bits size))

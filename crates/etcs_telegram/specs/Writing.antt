@@ -1,11 +1,11 @@
 -- A telegram's reading, and what a loop that writes one keeps.
-use Rattle.std.specs.Prelude.{◌≡◌, ◌≤◌, ℕ, Bool, false, List, ◌∷◌, ◌++◌, length, take, drop, replicate}
-use Rattle.etcs_vars.specs.declared.var.Var.TheVariants.{NID_PACKET, FILL, PAD}
+use Rattle.std.specs.Prelude.{◌≡◌, ◌≤◌, ℕ, Bool, false, List, ◌++◌, length, take, drop, replicate}
+use Rattle.etcs_vars.specs.declared.var.Var.TheVariants.{FILL, PAD}
 use Rattle.etcs_vars.specs.Reading.{Reading, spelled, kept}
-use Rattle.etcs_telegram.specs.Telegrams.{TelegramValue, IsAdmitted, header_reading, pad_bits}
+use Rattle.etcs_telegram.specs.Telegrams.{TelegramValue, IsAdmitted, header_reading, closed_reading, pad_bits}
 
 abbrev pub telegram_reading : TelegramValue → Reading
-telegram_reading t = header_reading t.header ++ (NID_PACKET, 255) ∷ kept FILL t.fill ++ kept PAD (replicate (pad_bits t.size) false)
+telegram_reading t = header_reading t.header ++ closed_reading t.packets ++ kept FILL t.fill ++ kept PAD (replicate (pad_bits t.size) false)
 
 -- the first `at` bits of all stand over those of before, and rest is to come
 pub record Written (all before : List Bool) (rest : Reading) (at : ℕ) (now : List Bool) : Type 0 where

@@ -7,31 +7,24 @@ use crate::phase::Phase;
 use crate::size::Size;
 use arrayvec::ArrayVec;
 use etcs_bits::Bits;
-use etcs_vars::Var;
+use etcs_container::Run;
 
-/// The header's numbers, FILL so far, and one unfinished variable.
+/// The header's numbers, what was read of the packets, FILL so far, and one unfinished variable.
 #[derive(Drop)]
 pub(crate) struct Course {
     pub(crate) size: Size,
     pub(crate) phase: Phase,
     /// The header's numbers so far.
     pub(crate) header: ArrayVec<u64, 10>,
+    /// The packets, with their own unfinished variable.
+    pub(crate) run: Run,
     pub(crate) fill: Bits,
-    /// The bits so far of the variable that comes next, as a number.
+    /// The bits so far of the variable that comes next, as a number; packets aside.
     pub(crate) number: u64,
     /// How many they are.
     pub(crate) taken: usize,
     /// How many bits were accepted.
     pub(crate) count: usize,
-}
-
-/// Why a reader stops.
-#[derive(Clone, Copy, Debug, PartialEq, Eq)]
-pub(crate) enum Stop {
-    /// This bit was refused, and the variable holds it.
-    Refused { bit: usize, var: Var },
-    /// Memory was refused.
-    Memory,
 }
 
 /// Takes the next number whole, with the last `count` of its bits.
@@ -43,6 +36,7 @@ pub(crate) fn take_number(course: &mut Course, number: u64, count: usize)
     ensures size { course.new.size ≡ course.old.size }
     ensures phase { course.new.phase ≡ after course.old.size course.old.phase }
     ensures header { course.new.header.items ≡ header_with course.old.phase course.old.header.items number }
+    ensures run { course.new.run ≡ course.old.run }
     ensures fill { course.new.fill ≡ course.old.fill }
     ensures number { course.new.number ≡ 0 }
     ensures taken { course.new.taken ≡ 0 }

@@ -4,7 +4,7 @@ ghost use Rattle.std.specs.Prelude.{◌≡◌, ℕ, ◌+◌, ◌*◌, ◌^◌, �
 ghost use Rattle.etcs_bits.specs.Bits.{bits, replaced};
 ghost use Rattle.etcs_vars.specs.Reading.{Reading, spelled};
 ghost use Rattle.etcs_telegram.specs.Headers.{labelled};
-ghost use Rattle.etcs_telegram.specs.Telegrams.{IsAdmitted, TelegramReads, container_bytes, header_reading};
+ghost use Rattle.etcs_telegram.specs.Telegrams.{IsAdmitted, TelegramReads, container_bytes, header_reading, telegram_value};
 ghost use Rattle.etcs_telegram.specs.Writing.{telegram_reading};
 
 use crate::header::Header;
@@ -12,6 +12,7 @@ use crate::parts::{HEADER, header_numbers};
 use crate::telegram::Telegram;
 use etcs_bits::parts;
 use etcs_vars::Var;
+use etcs_writing::write_packets;
 use std::error::Error;
 use std::fmt;
 
@@ -38,7 +39,7 @@ impl Telegram {
     /// `NoRoom` where `out` is shorter than that. All its bytes then stay.
     pub fn encode_into(&self, out: &mut [u8]) -> Result<usize, NoRoom>
         ensures room { IsOk result ↔ (container_bytes self.now.size ≤ length out.old) }
-        ensures ok { IfOk result (λ n. (n ≡ container_bytes self.now.size) × (r : Reading) × TelegramReads self.now r × (bits out.new ≡ spelled r ++ bits (drop n out.old))) }
+        ensures ok { IfOk result (λ n. (n ≡ container_bytes self.now.size) × (r : Reading) × TelegramReads (telegram_value self.now) r × (bits out.new ≡ spelled r ++ bits (drop n out.old))) }
         ensures err { OnErr result (out.new ≡ out.old) }
     {
         let len = self.size().container_bytes();
@@ -53,15 +54,16 @@ impl Telegram {
 /// Writes the telegram over exactly its bytes.
 fn write_telegram(out: &mut [u8], telegram: &Telegram)
     requires { length out.old ≡ container_bytes telegram.now.size }
-    ensures reads { TelegramReads telegram.now (telegram_reading telegram.now) }
-    ensures bits { bits out.new ≡ spelled (telegram_reading telegram.now) }
+    ensures reads { TelegramReads (telegram_value telegram.now) (telegram_reading (telegram_value telegram.now)) }
+    ensures bits { bits out.new ≡ spelled (telegram_reading (telegram_value telegram.now)) }
 {
     telegram.readable();
     let size = telegram.size();
-    // 50 bits of header, 8 of NID_PACKET, FILL up to the user bits, and zeros.
+    // 50 bits of header, the packets, 8 of NID_PACKET, FILL up to the user bits, and zeros.
     write_header(out, telegram.header());
-    parts::write(out, 50, 8, 255);
-    parts::write_slice(out, 58, &telegram.fill());
+    let end = write_packets(out, 50, telegram.packets());
+    parts::write(out, end, 8, 255);
+    parts::write_slice(out, end + 8, &telegram.fill());
     parts::write(out, size.user_bits(), size.pad_bits(), 0);
 }
 

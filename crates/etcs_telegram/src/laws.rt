@@ -1,7 +1,7 @@
 //! Laws, each the contract of a function.
 
 ghost use Rattle.std.specs.Prelude.{◌≡◌, ◌↔◌, IsTrue, IfOk};
-ghost use Rattle.etcs_telegram.specs.Telegrams.{OneSpelling};
+ghost use Rattle.etcs_telegram.specs.Telegrams.{OneSpelling, RoomRule};
 
 use crate::reader::TelegramReader;
 use crate::telegram::Telegram;
@@ -13,7 +13,13 @@ pub fn one_spelling()
     ensures { OneSpelling }
 {}
 
-/// `==` of telegrams is equality of their values: size, header and FILL.
+/// Where a header's numbers are admitted, its bits with those of packets behind them begin a telegram of a size
+/// exactly where 8 bits more, for NID_PACKET 255, stay within the user bits.
+pub fn room()
+    ensures { RoomRule }
+{}
+
+/// `==` of telegrams is equality of their values: size, header, packets and FILL.
 pub fn exact_equality(first: &Telegram, second: &Telegram) -> bool
     ensures { IsTrue result ↔ (first.now ≡ second.now) }
 {
@@ -28,6 +34,7 @@ pub fn exact_equality(first: &Telegram, second: &Telegram) -> bool
 pub fn round_trip(alloc: Global, telegram: &Telegram) -> Result<Telegram, AllocError>
     ensures { IfOk result (λ again. again ≡ telegram.now) }
 {
+    telegram.readable();
     let mut bytes = [0u8; 104];
     let Ok(len) = telegram.encode_into(&mut bytes) else {
         unreachable!()

@@ -20,6 +20,10 @@ pub use size::Size;
 pub use telegram::Telegram;
 
 #[cfg(test)]
+mod memory_tests;
+#[cfg(test)]
+mod packet_tests;
+#[cfg(test)]
 mod reader_tests;
 #[cfg(test)]
 mod tests;

@@ -20,6 +20,9 @@ pub const HEADER: [Var; 10] = [
     Var::Q_LINK,
 ];
 
+/// How many bits they take.
+pub(crate) const HEADER_BITS: usize = 50;
+
 /// The numbers of these variables. Each variable admits its number.
 pub fn header_numbers(header: &Header) -> [u64; 10]
     ensures numbers { result ≡ map (λ p. p.1) (header_reading header.now) }

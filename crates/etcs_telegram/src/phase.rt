@@ -11,8 +11,8 @@ use etcs_vars::Var;
 pub(crate) enum Phase {
     /// The variable of the header at this place.
     Header(usize),
-    /// The number that ends the packets.
-    Packet,
+    /// Packets, with packet 255 behind them.
+    Packets,
     /// FILL, with so many bits left.
     Fill(usize),
     /// PAD, with so many bits left.
@@ -33,7 +33,7 @@ impl Phase {
                 Some(var) => *var,
                 None => Var::PAD,
             },
-            Phase::Packet => Var::NID_PACKET,
+            Phase::Packets => Var::NID_PACKET,
             Phase::Fill(_) => Var::FILL,
             Phase::Pad(_) | Phase::Whole => Var::PAD,
         }
@@ -43,10 +43,7 @@ impl Phase {
     pub(crate) fn ranges(self) -> &'static [(u64, u64)]
         ensures { result.now ≡ ranges_at self }
     {
-        match self {
-            Phase::Packet => &[(255, 255)],
-            _ => self.var().ranges(),
-        }
+        self.var().ranges()
     }
 
     /// Whether something comes.
@@ -56,7 +53,7 @@ impl Phase {
         self != Phase::Whole
     }
 
-    /// What comes behind the variable that comes next.
+    /// What comes behind the variable that comes next; packets aside.
     pub(crate) fn after(self, size: Size) -> Phase
         requires { IsPhase size self }
         ensures { result ≡ after size self }
@@ -66,10 +63,10 @@ impl Phase {
                 if at < 9 {
                     Phase::Header(at + 1)
                 } else {
-                    Phase::Packet
+                    Phase::Packets
                 }
             }
-            Phase::Packet => Phase::Fill(size.fill_bits()),
+            Phase::Packets => Phase::Packets,
             Phase::Fill(left) => Phase::after_fill(size, left, 1),
             Phase::Pad(left) => {
                 if left > 1 {

@@ -3,8 +3,9 @@
 ghost use Rattle.std.specs.Prelude.{◌≡◌, ◌≢◌, ◌<◌, List, Bool, [], MatchResult};
 ghost use Rattle.etcs_bits.specs.Bits.{bits};
 ghost use Rattle.etcs_telegram.specs.Phases.{is_going};
+ghost use Rattle.etcs_telegram.specs.Readers.{fault_by};
 
-use crate::course::{Course, Stop};
+use crate::course::Course;
 use crate::header::Header;
 use crate::phase::Phase;
 use crate::size::Size;
@@ -12,27 +13,26 @@ use crate::step::push_piece;
 use crate::telegram::Telegram;
 use arrayvec::ArrayVec;
 use etcs_bits::Bits;
+use etcs_container::{Run, Stop};
+use etcs_parts::Items;
+use etcs_rows::parts::Carrier;
 use etcs_vars::{Fed, ReadFault};
 use std::alloc::Global;
 use std::marker::Model;
 
-impl Stop {
-    ghost use Rattle.std.specs.Prelude.{◌≡◌};
-    ghost use Rattle.etcs_telegram.specs.Readers.{fault_by};
-
-    /// The fault that a feed answers.
-    fn fault(self) -> ReadFault
-        ensures { result ≡ fault_by self }
-    {
-        match self {
-            Stop::Refused { bit, var } => ReadFault::Refused { bit, var },
-            Stop::Memory => ReadFault::Memory,
-        }
+/// The fault that a feed answers.
+fn fault_by(stop: Stop) -> ReadFault
+    ensures { result ≡ fault_by stop }
+{
+    match stop {
+        Stop::Refused { bit, var } => ReadFault::Refused { bit, var },
+        Stop::Memory => ReadFault::Memory,
     }
 }
 
-/// Reads a balise telegram from pieces of any length. It keeps none of the bytes: only the header's numbers, the FILL
-/// bits so far and one unfinished variable.
+/// Reads a balise telegram from pieces of any length. It keeps none of the bytes: only the header's numbers, the
+/// packets that are whole, the numbers or kept bits of the packet that is being read, the FILL bits so far and one
+/// unfinished variable.
 #[derive(Drop)]
 pub struct TelegramReader {
     course: Course,
@@ -52,10 +52,10 @@ impl Model for TelegramReader {
 }
 
 impl TelegramReader {
-    ghost use Rattle.etcs_telegram.specs.Telegrams.{TelegramValue, ReadsAs};
+    ghost use Rattle.etcs_telegram.specs.Telegrams.{TelegramParts, ReadsAs};
     ghost use Rattle.etcs_telegram.specs.Readers.{ReaderValue, Feeds, IsReading, fault_of, seen_of, reading, finished};
 
-    /// A reader of telegrams of this size. Nothing is allocated before the first FILL bit.
+    /// A reader of telegrams of this size. Nothing is allocated before the first packet or FILL bit.
     pub fn new(alloc: Global, size: Size) -> Self
         ensures { result ≡ record { size = size; stage = reading [] } }
     {
@@ -64,6 +64,7 @@ impl TelegramReader {
                 size,
                 phase: Phase::Header(0),
                 header: ArrayVec::new(),
+                run: Run::new(alloc, Carrier::Telegram, size.packet_room()),
                 fill: Bits::new(alloc),
                 number: 0,
                 taken: 0,
@@ -86,7 +87,7 @@ impl TelegramReader {
     /// # Errors
     ///
     /// `Refused` with the first bit, counted from 0 over all pieces, with which no telegram goes on, and the variable
-    /// that holds it; `Memory` where the memory of the FILL bits is refused; `Ended` where the telegram was whole
+    /// that holds it; `Memory` where memory is refused, for packets or FILL; `Ended` where the telegram was whole
     /// before. The reader then answers the same to each later piece, and `bits_seen` tells how far it came.
     pub fn feed(&mut self, piece: &[u8]) -> Result<Fed, ReadFault>
         ensures answer { (seen : List Bool) → self.old.stage ≡ reading seen → Feeds (ReadsAs self.old.size) seen (bits piece.now) result self.new.stage }
@@ -94,7 +95,7 @@ impl TelegramReader {
         ensures size { self.new.size ≡ self.old.size }
     {
         if let Some(stop) = self.stop {
-            return Err(stop.fault());
+            return Err(fault_by(stop));
         }
         if !self.course.phase.is_going() {
             return Err(ReadFault::Ended);
@@ -103,7 +104,7 @@ impl TelegramReader {
             Ok(fed) => Ok(fed),
             Err(stop) => {
                 self.stop = Some(stop);
-                Err(stop.fault())
+                Err(fault_by(stop))
             }
         }
     }
@@ -114,13 +115,14 @@ impl TelegramReader {
     ///
     /// The reader itself, as it was, where there is no whole telegram.
     pub fn take(self) -> Result<Telegram, Self>
-        ensures { MatchResult result (λ t. self.stage ≡ finished t) (λ r. (r ≡ self) × ((t : TelegramValue) → self.stage ≢ finished t)) }
+        ensures { MatchResult result (λ t. self.stage ≡ finished t) (λ r. (r ≡ self) × ((t : TelegramParts) → self.stage ≢ finished t)) }
     {
         if self.stop.is_none() && !self.course.phase.is_going() {
             let course = self.course;
             Ok(Telegram {
                 size: course.size,
                 header: Header::of_numbers(course.header.as_slice()),
+                packets: Items::from_vec(course.run.into_packets()),
                 fill: course.fill,
             })
         } else {

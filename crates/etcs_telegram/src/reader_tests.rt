@@ -129,15 +129,6 @@ fn a_spare_version(rt: HostRuntime) {
 }
 
 #[test]
-fn another_packet(rt: HostRuntime) {
-    let mut bytes = [0xC0; 7];
-    bytes[..6].copy_from_slice(&FRONT);
-    let mut reader = TelegramReader::new(rt.alloc(), Size::Long);
-    assert_eq!(rt; reader.feed(&bytes), refused(50, Var::NID_PACKET));
-    assert_eq!(rt; reader.bits_seen(), 50);
-}
-
-#[test]
 fn the_first_bit_of_a_long_piece(rt: HostRuntime) {
     let mut reader = TelegramReader::new(rt.alloc(), Size::Long);
     assert_eq!(rt; reader.feed(&[0; 4096]), refused(0, Var::Q_UPDOWN));
@@ -179,16 +170,5 @@ fn long_telegrams_cut_at_every_place(rt: HostRuntime) {
             done,
             Err(ReadFault::Ended),
         );
-    }
-}
-
-#[test]
-fn another_packet_cut_at_every_place(rt: HostRuntime) {
-    let mut bytes = [0xC0; 7];
-    bytes[..6].copy_from_slice(&FRONT);
-    let fault = refused(50, Var::NID_PACKET);
-    for at in 0..7 {
-        let reader = TelegramReader::new(rt.alloc(), Size::Short);
-        feeds(&rt, reader, &bytes[..at], &bytes[at..], fault, fault);
     }
 }

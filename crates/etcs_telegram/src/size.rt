@@ -11,7 +11,7 @@ pub enum Size {
 
 impl Size {
     ghost use Rattle.std.specs.Prelude.{◌≡◌};
-    ghost use Rattle.etcs_telegram.specs.Telegrams.{user_bits, pad_bits, fill_bits, container_bytes};
+    ghost use Rattle.etcs_telegram.specs.Telegrams.{user_bits, pad_bits, packet_room, container_bytes};
 
     /// How many bits stand before PAD.
     pub fn user_bits(self) -> usize
@@ -43,13 +43,13 @@ impl Size {
         }
     }
 
-    /// How many bits of FILL a telegram with no packets has.
-    pub fn fill_bits(self) -> usize
-        ensures { result ≡ fill_bits self }
+    /// How many bits the header leaves to packets, packet 255 and FILL: 160 or 780.
+    pub fn packet_room(self) -> usize
+        ensures { result ≡ packet_room self }
     {
         match self {
-            Size::Short => 152,
-            Size::Long => 772,
+            Size::Short => 160,
+            Size::Long => 780,
         }
     }
 }

@@ -3,14 +3,16 @@
 ghost use Rattle.std.specs.Prelude.{◌≡◌, ◌<◌, ◌≤◌, ◌+◌, ◌-◌, ◌*◌, ◌%◌, ◌^◌, slice_index_or, true, false, length, [], ◌∷◌, ◌++◌, drop, OnOk, OnErr, IfOk, IfErr};
 ghost use Rattle.etcs_bits.specs.Bits.{bit, num, bits, part};
 ghost use Rattle.etcs_vars.specs.Vars.{width};
-ghost use Rattle.etcs_telegram.specs.Phases.{var_at, is_going, is_numbered};
-ghost use Rattle.etcs_telegram.specs.Telegrams.{TelegramLanguage};
-ghost use Rattle.etcs_telegram.specs.Courses.{IsCourse, seen_by, StopsIn, IsFront, Takes, StopsAt, IsNext, container_bits};
+ghost use Rattle.etcs_telegram.specs.Phases.{var_at, is_going, is_numbered, is_own, is_packets};
+ghost use Rattle.etcs_telegram.specs.Telegrams.{TelegramLanguage, packet_room};
+ghost use Rattle.etcs_telegram.specs.Courses.{IsCourse, seen_by, StopsIn, StopsBehind, IsFront, Takes, StopsAt, IsNext, container_bits, behind_packets};
 
-use crate::course::{Course, Stop, take_number};
+use crate::course::{Course, take_number};
+use crate::parts::HEADER_BITS;
 use crate::phase::Phase;
 use etcs_bits::parts::append;
 use etcs_bits::{BitSlice, peek};
+use etcs_container::Stop;
 use etcs_vars::{Fed, begins};
 
 /// A bit as a number.
@@ -192,18 +194,56 @@ fn push_number(course: &mut Course, piece: &[u8], at: usize) -> Result<usize, St
     Ok(count)
 }
 
-/// Takes what comes next of a piece, and says how many bits it was.
-fn push_next(course: &mut Course, piece: &[u8], at: usize) -> Result<usize, Stop>
+/// Counts bits of packets, and goes on to FILL, or to PAD where there is none, once they are closed.
+fn take_packets(course: &mut Course, count: usize)
+    requires count { course.old.count + count < 2 ^ 64 }
+    requires room { course.old.run.count ≤ packet_room course.old.size }
+    ensures { course.new ≡ record course.old { count = course.old.count + count; phase = behind_packets course.old.size course.old.phase course.old.run } }
+{
+    course.count += count;
+    if course.run.is_closed() {
+        let left = course.size.packet_room() - course.run.count();
+        course.phase = Phase::after_fill(course.size, left, 0);
+    }
+}
+
+/// Takes what comes next of the packets, and says how many bits it was.
+fn push_packets(course: &mut Course, piece: &[u8], at: usize) -> Result<usize, Stop>
     requires course { IsCourse course.old }
-    requires going { is_going course.old.phase ≡ true }
+    requires packets { is_packets course.old.phase ≡ true }
     requires inside { at < length (bits piece.now) }
     requires small { length (bits piece.now) < 2 ^ 64 }
     ensures size { course.new.size ≡ course.old.size }
-    ensures course { IsCourse course.new }
+    ensures course { OnOk result (IsCourse course.new) }
     ensures ok { IfOk result (λ n. IsNext (seen_by course.old) (bits piece.now) at n (seen_by course.new)) }
-    ensures err { OnErr result (IsFront (seen_by course.old) (drop at (bits piece.now)) (seen_by course.new)) }
-    ensures stop { IfErr result (λ e. StopsIn (TelegramLanguage course.old.size) (seen_by course.old ++ drop at (bits piece.now)) e) }
-    ensures at { IfErr result (λ e. StopsAt course.new.count e) }
+    ensures stop { IfErr result (λ e. StopsBehind (TelegramLanguage course.old.size) (seen_by course.old) (drop at (bits piece.now)) course.new.count e) }
+{
+    match etcs_container::push_next(&mut course.run, piece, at) {
+        Ok(count) => {
+            take_packets(course, count);
+            Ok(count)
+        }
+        Err(Stop::Refused { bit, var }) => {
+            course.count = HEADER_BITS + bit;
+            Err(Stop::Refused {
+                bit: HEADER_BITS + bit,
+                var,
+            })
+        }
+        Err(Stop::Memory) => Err(Stop::Memory),
+    }
+}
+
+/// Takes what comes next of the header, of FILL or of PAD, and says how many bits it was.
+fn push_own(course: &mut Course, piece: &[u8], at: usize) -> Result<usize, Stop>
+    requires course { IsCourse course.old }
+    requires own { is_own course.old.phase ≡ true }
+    requires inside { at < length (bits piece.now) }
+    requires small { length (bits piece.now) < 2 ^ 64 }
+    ensures size { course.new.size ≡ course.old.size }
+    ensures course { OnOk result (IsCourse course.new) }
+    ensures ok { IfOk result (λ n. IsNext (seen_by course.old) (bits piece.now) at n (seen_by course.new)) }
+    ensures stop { IfErr result (λ e. StopsBehind (TelegramLanguage course.old.size) (seen_by course.old) (drop at (bits piece.now)) course.new.count e) }
 {
     if let Phase::Fill(left) = course.phase {
         push_run(course, left, piece, at)
@@ -212,17 +252,31 @@ fn push_next(course: &mut Course, piece: &[u8], at: usize) -> Result<usize, Stop
     }
 }
 
+/// Takes what comes next of a piece, and says how many bits it was.
+fn push_next(course: &mut Course, piece: &[u8], at: usize) -> Result<usize, Stop>
+    requires course { IsCourse course.old }
+    requires going { is_going course.old.phase ≡ true }
+    requires inside { at < length (bits piece.now) }
+    requires small { length (bits piece.now) < 2 ^ 64 }
+    ensures size { course.new.size ≡ course.old.size }
+    ensures course { OnOk result (IsCourse course.new) }
+    ensures ok { IfOk result (λ n. IsNext (seen_by course.old) (bits piece.now) at n (seen_by course.new)) }
+    ensures stop { IfErr result (λ e. StopsBehind (TelegramLanguage course.old.size) (seen_by course.old) (drop at (bits piece.now)) course.new.count e) }
+{
+    match course.phase {
+        Phase::Packets => push_packets(course, piece, at),
+        _ => push_own(course, piece, at),
+    }
+}
+
 /// Takes bytes that hold no more than the telegram wants.
 fn push_bytes(course: &mut Course, piece: &[u8]) -> Result<(), Stop>
     requires course { IsCourse course.old }
     requires wanted { course.old.count + length (bits piece.now) ≤ container_bits course.old.size }
     ensures size { course.new.size ≡ course.old.size }
-    ensures course { IsCourse course.new }
+    ensures course { OnOk result (IsCourse course.new) }
     ensures ok { OnOk result (seen_by course.new ≡ seen_by course.old ++ bits piece.now) }
-    ensures err { OnErr result (IsFront (seen_by course.old) (bits piece.now) (seen_by course.new)) }
-    ensures some { OnErr result (0 < length (bits piece.now)) }
-    ensures stop { IfErr result (λ e. StopsIn (TelegramLanguage course.old.size) (seen_by course.old ++ bits piece.now) e) }
-    ensures at { IfErr result (λ e. StopsAt course.new.count e) }
+    ensures stop { IfErr result (λ e. StopsBehind (TelegramLanguage course.old.size) (seen_by course.old) (bits piece.now) course.new.count e) }
 {
     let end = piece.len() * 8;
     let mut at = 0;
@@ -238,12 +292,9 @@ pub(crate) fn push_piece(course: &mut Course, piece: &[u8]) -> Result<Fed, Stop>
     requires going { is_going course.old.phase ≡ true }
     requires aligned { course.old.count % 8 ≡ 0 }
     ensures size { course.new.size ≡ course.old.size }
-    ensures course { IsCourse course.new }
+    ensures course { OnOk result (IsCourse course.new) }
     ensures fed { IfOk result (λ fed. Takes (seen_by course.old) (bits piece.now) fed course.new) }
-    ensures err { OnErr result (IsFront (seen_by course.old) (bits piece.now) (seen_by course.new)) }
-    ensures some { OnErr result (0 < length (bits piece.now)) }
-    ensures stop { IfErr result (λ e. StopsIn (TelegramLanguage course.old.size) (seen_by course.old ++ bits piece.now) e) }
-    ensures at { IfErr result (λ e. StopsAt course.new.count e) }
+    ensures stop { IfErr result (λ e. StopsBehind (TelegramLanguage course.old.size) (seen_by course.old) (bits piece.now) course.new.count e) }
 {
     let wanted = course.size.container_bytes() - course.count / 8;
     let taken = wanted.min(piece.len());

@@ -1,71 +1,117 @@
 //! Telegrams.
 
-ghost use Rattle.std.specs.Prelude.{◌≡◌, ◌≢◌, ℕ, ◌-◌, ◌≤◌, length, replicate, true, IfOk, IfErr, OnOk};
+ghost use Rattle.std.specs.Prelude.{◌≡◌, ◌≢◌, ℕ, ◌+◌, ◌-◌, ◌≤◌, ◌<◌, ◌⊎◌, length, map, replicate, true, All, IfOk, IfErr, OnOk, IfSome, OnSome, IfNone};
+ghost use Rattle.etcs_packets.specs.PacketValues.{packet_value, IsPacket};
+ghost use Rattle.etcs_packets.specs.OnePacket.{IsMade};
+ghost use Rattle.etcs_telegram.specs.Telegrams.{packet_room, closed_bits};
 
 use crate::header::Header;
 use crate::size::Size;
 use etcs_bits::{BitSlice, Bits};
+use etcs_packets::Packet;
+use etcs_packets::parts::holds;
+use etcs_parts::Items;
 use etcs_vars::BuildFault;
 use std::alloc::{AllocError, Global};
 use std::marker::Model;
 
-/// A balise telegram with no packets but 255: header, NID_PACKET 255, FILL up to the user bits, and zeros
-/// up to a whole number of bytes (SUBSET-026, 8).
+/// A balise telegram: header, packets, NID_PACKET 255, FILL up to the user bits, and zeros up to a whole number of
+/// bytes (SUBSET-026, 8; the user bits: SUBSET-036).
 #[derive(Debug, Drop, PartialEq, Eq)]
 pub struct Telegram {
     pub(crate) size: Size,
     pub(crate) header: Header,
+    pub(crate) packets: Items<Packet>,
     pub(crate) fill: Bits,
 }
 
 impl Model for Telegram {
-    ghost use Rattle.etcs_telegram.specs.Telegrams.{TelegramValue, IsTelegram};
+    ghost use Rattle.etcs_telegram.specs.Telegrams.{TelegramParts, IsTelegram};
 
-    ghost Value = { TelegramValue };
+    ghost Value = { TelegramParts };
 
-    ghost view = { λ t. record { size = t.size; header = t.header; fill = t.fill } };
+    ghost view = { λ t. record { size = t.size; header = t.header; packets = t.packets; fill = t.fill } };
 
-    ghost invariant = { λ t. IsTelegram (record { size = t.size; header = t.header; fill = t.fill }) };
+    ghost invariant = { λ t. IsTelegram (record { size = t.size; header = t.header; packets = t.packets; fill = t.fill }) };
 
-    ghost inverse = { λ t. record { size = t.size; header = t.header; fill = t.fill } };
+    ghost inverse = { λ t. record { size = t.size; header = t.header; packets = t.packets; fill = t.fill } };
 }
 
 impl Telegram {
-    ghost use Rattle.etcs_telegram.specs.Telegrams.{fill_bits, TelegramReads};
+    ghost use Rattle.etcs_telegram.specs.Telegrams.{TelegramReads, IsTelegram, telegram_value};
     ghost use Rattle.etcs_telegram.specs.Writing.{telegram_reading};
 
-    /// A telegram whose FILL bits are all ones.
+    /// A telegram with these packets, in this order, whose FILL bits are all ones. It takes memory for the FILL bits
+    /// alone.
+    ///
+    /// Packets, NID_PACKET 255 and FILL take 160 bits together in a short telegram, 780 in a long one.
     ///
     /// # Errors
     ///
-    /// `Memory` where the memory of the FILL bits is refused.
-    pub fn new(alloc: Global, size: Size, header: Header) -> Result<Telegram, BuildFault>
-        ensures ok { IfOk result (λ t. t ≡ record { size = size; header = header; fill = replicate (fill_bits size) true }) }
-        ensures fault { IfErr result (λ e. e ≡ BuildFault.Memory) }
+    /// With the same packets:
+    ///
+    /// - [`BuildFault::TooLong`] where the packets and the 8 bits of NID_PACKET 255 take more than these bits;
+    /// - [`BuildFault::Memory`] where they don't, and the memory of the FILL bits is refused.
+    pub fn new(
+        alloc: Global,
+        size: Size,
+        header: Header,
+        packets: Vec<Packet>,
+    ) -> Result<Telegram, (BuildFault, Vec<Packet>)>
+        ensures ok { IfOk result (λ t. t ≡ record { size = size; header = header; packets = packets.items; fill = replicate (packet_room size - closed_bits packets.items) true }) }
+        ensures fits { OnOk result (closed_bits packets.items ≤ packet_room size) }
+        ensures fault { IfErr result (λ e. ((e.0 ≡ BuildFault.TooLong) × (packet_room size < closed_bits packets.items)) ⊎ ((e.0 ≡ BuildFault.Memory) × (closed_bits packets.items ≤ packet_room size))) }
+        ensures packets { IfErr result (λ e. e.1.items ≡ packets.items) }
     {
+        let Some(left) = fill_left(size, packets.as_slice()) else {
+            return Err((BuildFault::TooLong, packets));
+        };
         header.admitted();
-        match ones(alloc, size.fill_bits()) {
-            Ok(fill) => Ok(Telegram { size, header, fill }),
-            Err(_) => Err(BuildFault::Memory),
+        match ones(alloc, left) {
+            Ok(fill) => Ok(Telegram {
+                size,
+                header,
+                packets: Items::from_vec(packets),
+                fill,
+            }),
+            Err(_) => Err((BuildFault::Memory, packets)),
         }
     }
 
-    /// A telegram with these FILL bits. Takes no memory.
+    /// A telegram with these packets, in this order, and these FILL bits. Takes no memory.
     ///
     /// # Errors
     ///
-    /// `FillLength`, with the same bits, where they aren't exactly the rest of the telegram: 152 bits of a short
-    /// one, 772 of a long one.
-    pub fn with_fill(size: Size, header: Header, fill: Bits) -> Result<Telegram, (BuildFault, Bits)>
-        ensures ok { IfOk result (λ t. t ≡ record { size = size; header = header; fill = fill }) }
-        ensures fits { OnOk result (length fill ≡ fill_bits size) }
-        ensures fault { IfErr result (λ e. (e.0 ≡ BuildFault.FillLength) × (e.1 ≡ fill) × (length fill ≢ fill_bits size)) }
+    /// With the same packets and the same bits:
+    ///
+    /// - [`BuildFault::TooLong`] where the packets and the 8 bits of NID_PACKET 255 take more than 160 bits in a short
+    ///   telegram, 780 in a long one;
+    /// - [`BuildFault::FillLength`] where they don't, and FILL isn't exactly the rest of these bits.
+    pub fn with_fill(
+        size: Size,
+        header: Header,
+        packets: Vec<Packet>,
+        fill: Bits,
+    ) -> Result<Telegram, (BuildFault, Vec<Packet>, Bits)>
+        ensures ok { IfOk result (λ t. t ≡ record { size = size; header = header; packets = packets.items; fill = fill }) }
+        ensures fits { OnOk result (closed_bits packets.items + length fill ≡ packet_room size) }
+        ensures fault { IfErr result (λ e. ((e.0 ≡ BuildFault.TooLong) × (packet_room size < closed_bits packets.items)) ⊎ ((e.0 ≡ BuildFault.FillLength) × (closed_bits packets.items ≤ packet_room size) × (closed_bits packets.items + length fill ≢ packet_room size))) }
+        ensures packets { IfErr result (λ e. e.1.items ≡ packets.items) }
+        ensures fill { IfErr result (λ e. e.2 ≡ fill) }
     {
-        if fill.len() != size.fill_bits() {
-            return Err((BuildFault::FillLength, fill));
+        let Some(left) = fill_left(size, packets.as_slice()) else {
+            return Err((BuildFault::TooLong, packets, fill));
+        };
+        if fill.len() != left {
+            return Err((BuildFault::FillLength, packets, fill));
         }
         header.admitted();
-        Ok(Telegram { size, header, fill })
+        Ok(Telegram {
+            size,
+            header,
+            packets: Items::from_vec(packets),
+            fill,
+        })
     }
 
     /// The telegram's size.
@@ -82,7 +128,14 @@ impl Telegram {
         &self.header
     }
 
-    /// The FILL bits behind NID_PACKET 255: 152 of a short telegram, 772 of a long one.
+    /// The packets in the order of sending, without NID_PACKET 255.
+    pub fn packets(&self) -> &[Packet]
+        ensures { result.now ≡ self.now.packets }
+    {
+        self.packets.as_slice()
+    }
+
+    /// The FILL bits behind NID_PACKET 255: with no packets 152 of a short telegram, 772 of a long one.
     pub fn fill(&self) -> BitSlice<'_>
         ensures { result ≡ self.now.fill }
     {
@@ -91,10 +144,30 @@ impl Telegram {
 
     /// For callers: the telegram has a reading.
     pub(crate) fn readable(&self)
-        ensures { TelegramReads self.now (telegram_reading self.now) }
+        ensures reads { TelegramReads (telegram_value self.now) (telegram_reading (telegram_value self.now)) }
+        ensures value { IsTelegram self.now }
     {
         let _ = &self.size;
     }
+}
+
+/// How many bits these packets and NID_PACKET 255 leave to FILL, or nothing where they don't fit.
+fn fill_left(size: Size, packets: &[Packet]) -> Option<usize>
+    ensures left { IfSome result (λ left. closed_bits packets.now + left ≡ packet_room size) }
+    ensures made { OnSome result (All IsMade packets.now) }
+    ensures packets { OnSome result (All IsPacket (map packet_value packets.now)) }
+    ensures none { IfNone result (packet_room size < closed_bits packets.now) }
+{
+    let mut left = size.packet_room() - 8;
+    for packet in packets {
+        holds(packet);
+        let bits = packet.bit_len();
+        if left < bits {
+            return None;
+        }
+        left -= bits;
+    }
+    Some(left)
 }
 
 /// So many bits that are all ones.

@@ -6,19 +6,42 @@ use crate::laws::{exact_equality, round_trip};
 use crate::parts::header_numbers;
 use crate::{Header, NoRoom, Size, Telegram};
 use etcs_bits::{BitSlice, Bits};
+use etcs_packets::{Other, Packet};
 use etcs_vars::{BuildFault, Var};
-use std::alloc::Global;
+use std::alloc::{AllocError, Global};
 use std::test::Fail;
 
 /// The first six bytes of a telegram with the header of `sample`.
 const FRONT: [u8; 6] = [0xA0, 0x00, 0x7F, 0x80, 0x20, 0x00];
 
-fn sample() -> Result<Header, BuildFault> {
+pub(crate) fn sample() -> Result<Header, BuildFault> {
     Header::new(32, 0, 0, 0, 255, 1, 1, true)
 }
 
+/// A telegram with the header of `sample`.
+fn with_packets(alloc: Global, size: Size, packets: Vec<Packet>) -> Result<Telegram, Fail> {
+    match Telegram::new(alloc, size, sample()?, packets) {
+        Ok(telegram) => Ok(telegram),
+        Err((fault, _)) => Err(fault)?,
+    }
+}
+
 fn telegram(alloc: Global, size: Size) -> Result<Telegram, Fail> {
-    Ok(Telegram::new(alloc, size, sample()?)?)
+    with_packets(alloc, size, Vec::new(alloc))
+}
+
+pub(crate) fn one(alloc: Global, packet: Packet) -> Result<Vec<Packet>, Fail> {
+    let mut packets = Vec::new(alloc);
+    packets.push(packet)?;
+    Ok(packets)
+}
+
+/// Packet 44 for both directions, with the first bits of these bytes behind its frame.
+fn kept(alloc: Global, bytes: &[u8], len: usize) -> Result<Vec<Packet>, Fail> {
+    match Other::new(44, 2, bits_of(alloc, bytes, len)?) {
+        Ok(other) => one(alloc, Packet::Other(other)),
+        Err((fault, _)) => Err(fault)?,
+    }
 }
 
 /// The first bits of these bytes.
@@ -32,9 +55,9 @@ fn with_last(alloc: Global, last: u8) -> Result<Telegram, Fail> {
     let mut bytes = [0xFFu8; 19];
     bytes[18] = last;
     let fill = bits_of(alloc, &bytes, 152)?;
-    match Telegram::with_fill(Size::Short, sample()?, fill) {
+    match Telegram::with_fill(Size::Short, sample()?, Vec::new(alloc), fill) {
         Ok(telegram) => Ok(telegram),
-        Err((fault, _)) => Err(fault)?,
+        Err((fault, _, _)) => Err(fault)?,
     }
 }
 
@@ -181,10 +204,11 @@ fn more_room_than_needed(rt: HostRuntime) -> Result<(), Fail> {
 #[test]
 fn fill_of_another_length(rt: HostRuntime) -> Result<(), Fail> {
     let fill = bits_of(rt.alloc(), &[0xFF; 19], 151)?;
-    match Telegram::with_fill(Size::Short, sample()?, fill) {
+    match Telegram::with_fill(Size::Short, sample()?, Vec::new(rt.alloc()), fill) {
         Ok(_) => return Err("151 bits of FILL")?,
-        Err((fault, fill)) => {
+        Err((fault, packets, fill)) => {
             assert_eq!(rt; fault, BuildFault::FillLength);
+            assert!(rt; packets.is_empty());
             assert_eq!(rt; fill, bits_of(rt.alloc(), &[0xFF; 19], 151)?);
         }
     }
@@ -202,9 +226,9 @@ fn fill_with_a_zero(rt: HostRuntime) -> Result<(), Fail> {
     Ok(())
 }
 
-/// What is read again from the telegram's encoding.
-fn again(alloc: Global, telegram: &Telegram) -> Result<Telegram, Fail> {
-    Ok(round_trip(alloc, telegram)?)
+/// A telegram by its encoding.
+fn again(alloc: Global, telegram: &Telegram) -> Result<Telegram, AllocError> {
+    round_trip(alloc, telegram)
 }
 
 #[test]
@@ -212,7 +236,7 @@ fn telegrams_are_read_again(rt: HostRuntime) -> Result<(), Fail> {
     let alloc = rt.alloc();
     let short = with_last(alloc, 0xFB)?;
     assert_eq!(rt; again(alloc, &short)?, short);
-    let long = telegram(alloc, Size::Long)?;
+    let long = with_packets(alloc, Size::Long, kept(alloc, &[0xA5], 7)?)?;
     assert_eq!(rt; again(alloc, &long)?, long);
     Ok(())
 }
@@ -230,9 +254,74 @@ fn equal_telegrams(rt: HostRuntime) -> Result<(), Fail> {
 fn different_telegrams(rt: HostRuntime) -> Result<(), Fail> {
     let first = telegram(rt.alloc(), Size::Short)?;
     assert_ne!(rt; first, telegram(rt.alloc(), Size::Long)?);
-    assert_ne!(rt; first, Telegram::new(rt.alloc(), Size::Short, another()?)?);
+    let no_packets = Vec::new(rt.alloc());
+    match Telegram::new(rt.alloc(), Size::Short, another()?, no_packets) {
+        Ok(other) => assert_ne!(rt; first, other),
+        Err((fault, _)) => return Err(fault)?,
+    }
     let second = with_last(rt.alloc(), 0xFE)?;
     assert_ne!(rt; first, second);
     assert!(rt; !exact_equality(&first, &second));
+    Ok(())
+}
+
+/// Short telegrams' bytes: those of `sample`, these behind, then ones, and the last byte.
+fn row(behind: [u8; 4]) -> [u8; 27] {
+    let mut bytes = [0xFF; 27];
+    put_ends(&mut bytes, 0xC0);
+    bytes[6..10].copy_from_slice(&behind);
+    bytes
+}
+
+#[test]
+fn one_packet_of_kept_bits(rt: HostRuntime) -> Result<(), Fail> {
+    // 11, 00101100, 10, 0000000011000, 1, 11111111
+    let packets = kept(rt.alloc(), &[0x80], 1)?;
+    let telegram = with_packets(rt.alloc(), Size::Short, packets)?;
+    assert_eq!(rt; telegram.packets().len(), 1);
+    assert_eq!(rt; telegram.fill().len(), 128);
+    let mut out = [0u8; 27];
+    assert_eq!(rt; encode(&telegram, &mut out), Ok(27));
+    assert_eq!(rt; out, row([0xCB, 0x20, 0x0C, 0x7F]));
+    Ok(())
+}
+
+#[test]
+fn one_marker(rt: HostRuntime) -> Result<(), Fail> {
+    // 11, 00000000, 000011, 11111111
+    let packets = one(rt.alloc(), Packet::vbc_marker(3)?)?;
+    let telegram = with_packets(rt.alloc(), Size::Short, packets)?;
+    let mut out = [0u8; 27];
+    assert_eq!(rt; encode(&telegram, &mut out), Ok(27));
+    assert_eq!(rt; out, row([0xC0, 0x03, 0xFF, 0xFF]));
+    Ok(())
+}
+
+#[test]
+fn packets_up_to_the_end(rt: HostRuntime) -> Result<(), Fail> {
+    // 11, 00101100, 10, 0000010011000, 129 zeros, 11111111
+    let packets = kept(rt.alloc(), &[0; 17], 129)?;
+    let telegram = with_packets(rt.alloc(), Size::Short, packets)?;
+    assert_eq!(rt; telegram.fill().len(), 0);
+    let mut out = [0xFFu8; 27];
+    assert_eq!(rt; encode(&telegram, &mut out), Ok(27));
+    let mut wanted = [0u8; 27];
+    put_ends(&mut wanted, 0xC0);
+    wanted[6..9].copy_from_slice(&[0xCB, 0x20, 0x4C]);
+    wanted[25] = 0x3F;
+    assert_eq!(rt; out, wanted);
+    Ok(())
+}
+
+#[test]
+fn packets_that_are_too_long(rt: HostRuntime) -> Result<(), Fail> {
+    let packets = kept(rt.alloc(), &[0; 17], 130)?;
+    match Telegram::new(rt.alloc(), Size::Short, sample()?, packets) {
+        Ok(_) => return Err("153 bits of packets")?,
+        Err((fault, packets)) => {
+            assert_eq!(rt; fault, BuildFault::TooLong);
+            assert_eq!(rt; packets, kept(rt.alloc(), &[0; 17], 130)?);
+        }
+    }
     Ok(())
 }

@@ -398,7 +398,10 @@ fn ends_endless_items(rt: HostRuntime) -> Result<(), Fail> {
 fn appends_the_lines_of_an_entry(rt: HostRuntime) -> Result<(), Fail> {
     let alloc = rt.alloc();
     let header = Header::new(32, 0, 0, 0, 255, 1, 1, true)?;
-    let entry = Entry::Telegram(Telegram::new(alloc, Size::Short, header)?);
+    let entry = match Telegram::new(alloc, Size::Short, header, Vec::new(alloc)) {
+        Ok(telegram) => Entry::Telegram(telegram),
+        Err((fault, _)) => return Err(fault.into()),
+    };
     let text = format!(in alloc; "before\nitem 12345{SHORT_TEXT}")?;
     let mut out = b"before\n".to_vec(alloc)?;
     show_lines(&entry, 12_345, &mut out)?;

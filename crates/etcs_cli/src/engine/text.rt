@@ -3,7 +3,7 @@
 ghost use Rattle.std.specs.Prelude.{◌≡◌, ◌^◌, ◌<◌, ◌≤◌, ◌++◌, map, OnOk};
 ghost use Rattle.std.specs.Fmt.{decimal};
 ghost use Rattle.etcs_bits.specs.Bits.{num};
-ghost use Rattle.etcs_cli.specs.Show.{bit_digit};
+ghost use Rattle.etcs_cli.specs.Show.{bit_digit, hex_digit, hex_digits};
 
 use etcs_bits::BitSlice;
 use std::alloc::AllocError;
@@ -18,6 +18,30 @@ pub(crate) fn push_decimal(number: u64, out: &mut Vec<u8>) -> Result<(), AllocEr
     }
     push_decimal(number / 10, out)?;
     out.push(b'0' + (number % 10) as u8)?;
+    Ok(())
+}
+
+/// The digit of four bits, in lower case.
+fn hex_digit_of(bits: u8) -> u8
+    requires { bits < 16 }
+    ensures { result ≡ hex_digit bits }
+{
+    if bits < 10 {
+        b'0' + bits
+    } else {
+        b'a' + (bits - 10)
+    }
+}
+
+/// Appends the last digits of a number in hexadecimal, so many of them.
+pub(crate) fn push_hex(count: usize, number: u64, out: &mut Vec<u8>) -> Result<(), AllocError>
+    ensures { OnOk result (out.new.items ≡ out.old.items ++ hex_digits count number) }
+{
+    if count == 0 {
+        return Ok(());
+    }
+    push_hex(count - 1, number / 16, out)?;
+    out.push(hex_digit_of((number % 16) as u8))?;
     Ok(())
 }
 

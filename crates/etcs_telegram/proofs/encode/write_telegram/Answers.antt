@@ -1,27 +1,53 @@
-use Rattle.std.proofs.Common.{◌≡◌, ℕ, Bool, List, length, arith, ap, ◌∙◌}
+use Rattle.std.proofs.Common.{rules, refl, ◌≡◌, ℕ, ◌+◌, ◌^◌, ◌<◌, Bool, List, length, map, arith, ap, ◌∙◌}
 use Rattle.etcs_bits.specs.Bits.{bits, num, replaced}
 use Rattle.etcs_vars.specs.Reading.{spelled}
-use Rattle.etcs_telegram.specs.Telegrams.{HeaderParts, header_reading, user_bits, pad_bits, container_bytes}
-use Rattle.etcs_telegram.proofs.HeaderLemmas.{header_length}
-use Rattle.etcs_telegram.proofs.Encoding.{container_bits, user_more, telegram_written}
+use Rattle.etcs_packets.specs.declared.packet.Packet.{Packet}
+use Rattle.etcs_packets.specs.PacketValues.{packet_value}
+use Rattle.etcs_packets.specs.PacketReadings.{packets_reading}
+use Rattle.etcs_telegram.specs.Telegrams.{HeaderParts, header_reading, telegram_value, user_bits, pad_bits, container_bytes}
+use Rattle.etcs_telegram.proofs.Encoding.{container_bits, room_more, user_small, user_end, telegram_written}
 use Rattle.etcs_telegram.proofs.encode.write_telegram.Goals as goal
 
 pub write_header-requires : goal.write_header-requires
 write_header-requires c =
     let size = c.args.telegram.now.size in
-    omega (arith, container_bits size c.args.out.now c.requires, user_more size)
+    omega (arith, container_bits size c.args.out.now c.requires, room_more size)
+
+pub write_packets-end-requires-clause-room : goal.write_packets-end-requires-clause-room
+write_packets-end-requires-clause-room c =
+    let t = telegram_value c.args.telegram.now in
+    let len : length c.write_header.new.out ≡ container_bytes t.size = omega arith in
+    let same = ap (λ (ps : List Packet). 50 + length (spelled (packets_reading (map packet_value ps)))) c.packets.ensures in
+    let end = user_end t (50 + length (spelled (packets_reading t.packets))) c.readable.ensures.reads refl in
+    omega (arith, container_bits t.size c.write_header.new.out len, same, end)
+
+pub write_packets-end-requires-clause-small : goal.write_packets-end-requires-clause-small
+write_packets-end-requires-clause-small c =
+    let t = telegram_value c.args.telegram.now in
+    let same = ap (λ (ps : List Packet). 50 + length (spelled (packets_reading (map packet_value ps)))) c.packets.ensures in
+    let end = user_end t (50 + length (spelled (packets_reading t.packets))) c.readable.ensures.reads refl in
+    omega (arith, same, end, user_small t.size)
 
 pub write-requires-clause-inside : goal.write-requires-clause-inside
 write-requires-clause-inside c =
-    let size = c.args.telegram.now.size in
-    let len : length c.write_header.new.out ≡ container_bytes size = omega arith in
-    omega (arith, container_bits size c.write_header.new.out len, user_more size)
+    let t = telegram_value c.args.telegram.now in
+    let len : length c.write_packets-end.new.out ≡ container_bytes t.size = omega arith in
+    let place = c.write_packets-end.ensures.end ∙ ap (λ (ps : List Packet). 50 + length (spelled (packets_reading (map packet_value ps)))) c.packets.ensures in
+    omega (arith, container_bits t.size c.write_packets-end.new.out len, user_end t c.write_packets-end.result c.readable.ensures.reads place)
+
+pub overflow_add-end : goal.overflow_add-end
+overflow_add-end c =
+    let t = telegram_value c.args.telegram.now in
+    let place = c.write_packets-end.ensures.end ∙ ap (λ (ps : List Packet). 50 + length (spelled (packets_reading (map packet_value ps)))) c.packets.ensures in
+    let small : c.write_packets-end.result + 8 < 2 ^ 64 = omega (arith, user_end t c.write_packets-end.result c.readable.ensures.reads place, user_small t.size) in
+    search rules
 
 pub write_slice-requires : goal.write_slice-requires
 write_slice-requires c =
-    let t = c.args.telegram.now in
+    let t = telegram_value c.args.telegram.now in
     let len : length c.write.new.bytes ≡ container_bytes t.size = omega arith in
-    omega (arith, container_bits t.size c.write.new.bytes len, header_length t.header, c.readable.ensures.user_bits_is, ap length c.fill.ensures)
+    let place = c.write_packets-end.ensures.end ∙ ap (λ (ps : List Packet). 50 + length (spelled (packets_reading (map packet_value ps)))) c.packets.ensures in
+    omega (arith, container_bits t.size c.write.new.bytes len, user_end t c.write_packets-end.result c.readable.ensures.reads place, ap length c.fill.ensures)
 
 pub write-requires-2-clause-inside : goal.write-requires-2-clause-inside
 write-requires-2-clause-inside c =
@@ -33,17 +59,21 @@ write-requires-2-clause-inside c =
 
 pub returns-clause-bits : goal.returns-clause-bits
 returns-clause-bits c =
-    let t = c.args.telegram.now in
+    let t = telegram_value c.args.telegram.now in
+    let place : c.write_packets-end.result ≡ 50 + length (spelled (packets_reading t.packets)) =
+    c.write_packets-end.ensures.end ∙ ap (λ (ps : List Packet). 50 + length (spelled (packets_reading (map packet_value ps)))) c.packets.ensures in
     let user : c.user_bits.result ≡ user_bits t.size = c.user_bits.ensures ∙ ap user_bits c.size-size.ensures in
     let pad : c.pad_bits.result ≡ pad_bits t.size = c.pad_bits.ensures ∙ ap pad_bits c.size-size.ensures in
     let zeros : bits c.write-2.new.bytes ≡ replaced (user_bits t.size) (num (pad_bits t.size) 0) (bits c.write_slice.new.bytes) =
     c.write-2.ensures
     ∙ ap (λ (k : ℕ). replaced k (num c.pad_bits.result 0) (bits c.write_slice.new.bytes)) user
     ∙ ap (λ (k : ℕ). replaced (user_bits t.size) (num k 0) (bits c.write_slice.new.bytes)) pad in
-    telegram_written t (bits c.args.out.now) (bits c.write_header.new.out) (bits c.write.new.bytes) (bits c.write_slice.new.bytes) (bits c.write-2.new.bytes)
-    c.readable.ensures
+    telegram_written t c.write_packets-end.result (bits c.args.out.now) (bits c.write_header.new.out) (bits c.write_packets-end.new.out) (bits c.write.new.bytes) (bits c.write_slice.new.bytes) (bits c.write-2.new.bytes)
+    c.readable.ensures.reads
     (container_bits t.size c.args.out.now c.requires)
+    place
     (c.write_header.ensures ∙ ap (λ (h : HeaderParts). replaced 0 (spelled (header_reading h)) (bits c.args.out.now)) c.header.ensures)
+    (c.write_packets-end.ensures.bits ∙ ap (λ (ps : List Packet). replaced 50 (spelled (packets_reading (map packet_value ps))) (bits c.write_header.new.out)) c.packets.ensures)
     c.write.ensures
-    (c.write_slice.ensures ∙ ap (λ (f : List Bool). replaced 58 f (bits c.write.new.bytes)) c.fill.ensures)
+    (c.write_slice.ensures ∙ ap (λ (f : List Bool). replaced (c.write_packets-end.result + 8) f (bits c.write.new.bytes)) c.fill.ensures)
     zeros

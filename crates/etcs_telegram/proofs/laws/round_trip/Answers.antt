@@ -8,7 +8,7 @@ unreachable-requires-in-Ok-More c =
     let e = c.in-Ok.ensures.ok in
     let len = e.0 in
     let a : Answered t c.feed.result c.feed.new.self.stage =
-    read_again t _ c.encode_into.new.out c.in-Ok.len c.new-reader.result c.feed.result c.feed.new.self.stage c.encode_into.auto.out (omega (arith, len, container_small t.size)) e c.size.result c.size.ensures c.new-reader.ensures c.feed.ensures.answer in
+    read_again t _ c.encode_into.new.out c.in-Ok.len c.new-reader.result c.feed.result c.feed.new.self.stage c.encode_into.auto.out (omega (arith, len, container_small t.size)) c.readable.ensures.value e c.size.result c.size.ensures c.new-reader.ensures c.feed.ensures.answer in
     rw (c.in-Ok-More.is, c.in-Ok-More.field-0-is) at a
 
 pub unreachable-requires-in-Err-Refused : goal.unreachable-requires-in-Err-Refused
@@ -17,7 +17,7 @@ unreachable-requires-in-Err-Refused c =
     let e = c.in-Ok.ensures.ok in
     let len = e.0 in
     let a : Answered t c.feed.result c.feed.new.self.stage =
-    read_again t _ c.encode_into.new.out c.in-Ok.len c.new-reader.result c.feed.result c.feed.new.self.stage c.encode_into.auto.out (omega (arith, len, container_small t.size)) e c.size.result c.size.ensures c.new-reader.ensures c.feed.ensures.answer in
+    read_again t _ c.encode_into.new.out c.in-Ok.len c.new-reader.result c.feed.result c.feed.new.self.stage c.encode_into.auto.out (omega (arith, len, container_small t.size)) c.readable.ensures.value e c.size.result c.size.ensures c.new-reader.ensures c.feed.ensures.answer in
     rw (c.in-Err-Refused.is, c.in-Err-Refused.field-0-is) at a
 
 pub unreachable-requires-in-Err-Ended : goal.unreachable-requires-in-Err-Ended
@@ -26,7 +26,7 @@ unreachable-requires-in-Err-Ended c =
     let e = c.in-Ok.ensures.ok in
     let len = e.0 in
     let a : Answered t c.feed.result c.feed.new.self.stage =
-    read_again t _ c.encode_into.new.out c.in-Ok.len c.new-reader.result c.feed.result c.feed.new.self.stage c.encode_into.auto.out (omega (arith, len, container_small t.size)) e c.size.result c.size.ensures c.new-reader.ensures c.feed.ensures.answer in
+    read_again t _ c.encode_into.new.out c.in-Ok.len c.new-reader.result c.feed.result c.feed.new.self.stage c.encode_into.auto.out (omega (arith, len, container_small t.size)) c.readable.ensures.value e c.size.result c.size.ensures c.new-reader.ensures c.feed.ensures.answer in
     rw (c.in-Err-Ended.is, c.in-Err-Ended.field-0-is) at a
 
 pub unreachable-requires-in-Err : goal.unreachable-requires-in-Err
@@ -35,7 +35,7 @@ unreachable-requires-in-Err c =
     let e = c.in-Ok.ensures.ok in
     let len = e.0 in
     let a : Answered t c.feed.result c.feed.new.self.stage =
-    read_again t _ c.encode_into.new.out c.in-Ok.len c.new-reader.result c.feed.result c.feed.new.self.stage c.encode_into.auto.out (omega (arith, len, container_small t.size)) e c.size.result c.size.ensures c.new-reader.ensures c.feed.ensures.answer in
+    read_again t _ c.encode_into.new.out c.in-Ok.len c.new-reader.result c.feed.result c.feed.new.self.stage c.encode_into.auto.out (omega (arith, len, container_small t.size)) c.readable.ensures.value e c.size.result c.size.ensures c.new-reader.ensures c.feed.ensures.answer in
     c.in-Err.ensures.1 t (rw (c.in-Ok-Done.is, c.in-Ok-Done.field-0-is) at a)
 
 pub returns-in-Ok-take : goal.returns-in-Ok-take
@@ -44,5 +44,5 @@ returns-in-Ok-take c =
     let e = c.in-Ok.ensures.ok in
     let len = e.0 in
     let a : Answered t c.feed.result c.feed.new.self.stage =
-    read_again t _ c.encode_into.new.out c.in-Ok.len c.new-reader.result c.feed.result c.feed.new.self.stage c.encode_into.auto.out (omega (arith, len, container_small t.size)) e c.size.result c.size.ensures c.new-reader.ensures c.feed.ensures.answer in
+    read_again t _ c.encode_into.new.out c.in-Ok.len c.new-reader.result c.feed.result c.feed.new.self.stage c.encode_into.auto.out (omega (arith, len, container_small t.size)) c.readable.ensures.value e c.size.result c.size.ensures c.new-reader.ensures c.feed.ensures.answer in
     same_telegram c.in-Ok-take.again t (sym c.in-Ok-take.ensures ∙ (rw (c.in-Ok-Done.is, c.in-Ok-Done.field-0-is) at a))

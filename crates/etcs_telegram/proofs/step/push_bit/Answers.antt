@@ -4,7 +4,7 @@ use Rattle.etcs_bits.proofs.Positions.{bit-le}
 use Rattle.etcs_vars.specs.Vars.{width}
 use Rattle.etcs_telegram.specs.Phases.{var_at, ranges_at}
 use Rattle.etcs_telegram.specs.Courses.{seen_by}
-use Rattle.etcs_telegram.proofs.CourseSteps.{numbered_going, count_small, stops, goes_on, goes_behind, tested}
+use Rattle.etcs_telegram.proofs.CourseSteps.{numbered_own, count_small, stops, goes_on, goes_behind, tested}
 use Rattle.etcs_vars.proofs.Stepping.{one_bit}
 use Rattle.etcs_telegram.proofs.step.push_bit.Goals as goal
 
@@ -16,10 +16,10 @@ returns-then-not-begins-clause-stop c =
     rw c.var-var.ensures (stops k c.requires.course c.args.one number c.requires.numbered (ap (λ n. k.number * 2 + n) c.digit.ensures) t)
 
 pub overflow_add-course-then-rest-gt0 : goal.overflow_add-course-then-rest-gt0
-overflow_add-course-then-rest-gt0 c = omega (arith, count_small c.args.course.now c.requires.course (numbered_going c.args.course.now.phase c.requires.numbered))
+overflow_add-course-then-rest-gt0 c = omega (arith, count_small c.args.course.now c.requires.course (numbered_own c.args.course.now.phase c.requires.numbered))
 
 pub take_number-requires-clause-count : goal.take_number-requires-clause-count
-take_number-requires-clause-count c = omega (arith, count_small c.args.course.now c.requires.course (numbered_going c.args.course.now.phase c.requires.numbered))
+take_number-requires-clause-count c = omega (arith, count_small c.args.course.now c.requires.course (numbered_own c.args.course.now.phase c.requires.numbered))
 
 pub returns-then-rest-gt0-clause-course : goal.returns-then-rest-gt0-clause-course
 returns-then-rest-gt0-clause-course c =
@@ -45,7 +45,7 @@ returns-else-rest-gt0-clause-course c =
     let short = c.requires.course.reached.unfinished.short in
     let whole : k.taken + 1 ≡ width (var_at k.phase) = (let w = c.width.ensures ∙ ap width c.var-var.ensures in omega (arith, w, short)) in
     let e = c.take_number.ensures in
-    (goes_behind k c.requires.course 1 (bit c.args.one) number c.requires.numbered (omega (arith, bit-le c.args.one)) (ap (λ n. k.number * 2 + n) c.digit.ensures) t c.take_number.new.course whole e.size e.phase e.header e.fill e.number e.taken e.count).0
+    (goes_behind k c.requires.course 1 (bit c.args.one) number c.requires.numbered (omega (arith, bit-le c.args.one)) (ap (λ n. k.number * 2 + n) c.digit.ensures) t c.take_number.new.course whole e.size e.phase e.header e.run e.fill e.number e.taken e.count).0
 
 pub returns-else-rest-gt0-clause-ok : goal.returns-else-rest-gt0-clause-ok
 returns-else-rest-gt0-clause-ok c =
@@ -55,4 +55,4 @@ returns-else-rest-gt0-clause-ok c =
     let short = c.requires.course.reached.unfinished.short in
     let whole : k.taken + 1 ≡ width (var_at k.phase) = (let w = c.width.ensures ∙ ap width c.var-var.ensures in omega (arith, w, short)) in
     let e = c.take_number.ensures in
-    (goes_behind k c.requires.course 1 (bit c.args.one) number c.requires.numbered (omega (arith, bit-le c.args.one)) (ap (λ n. k.number * 2 + n) c.digit.ensures) t c.take_number.new.course whole e.size e.phase e.header e.fill e.number e.taken e.count).1 ∙ ap (λ (b : List Bool). seen_by k ++ b) (one_bit c.args.one)
+    (goes_behind k c.requires.course 1 (bit c.args.one) number c.requires.numbered (omega (arith, bit-le c.args.one)) (ap (λ n. k.number * 2 + n) c.digit.ensures) t c.take_number.new.course whole e.size e.phase e.header e.run e.fill e.number e.taken e.count).1 ∙ ap (λ (b : List Bool). seen_by k ++ b) (one_bit c.args.one)

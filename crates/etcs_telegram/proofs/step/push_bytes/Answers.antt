@@ -5,7 +5,7 @@ use Rattle.etcs_bits.proofs.Positions.{length-bits}
 use Rattle.etcs_telegram.specs.declared.size.Size.{Size}
 use Rattle.etcs_telegram.specs.Courses.{seen_by, container_bits}
 use Rattle.etcs_telegram.proofs.CourseSteps.{container_small}
-use Rattle.etcs_telegram.proofs.Fronts.{front_of_rest, stops_in_rest, next_part, front_whole, count_more}
+use Rattle.etcs_telegram.proofs.Fronts.{behind_rest, next_part, front_whole, count_more}
 use Rattle.etcs_telegram.proofs.Pieces.{goes_short}
 use Rattle.etcs_telegram.proofs.step.push_bytes.Goals as goal
 
@@ -27,21 +27,11 @@ push_next-requires-clause-inside c = omega (arith, length-bits c.args.piece.now)
 pub push_next-requires-clause-small : goal.push_next-requires-clause-small
 push_next-requires-clause-small c = omega (arith, c.requires.wanted, container_small c.args.course.now.size)
 
-pub returns-in_err-at-clause-err : goal.returns-in_err-at-clause-err
-returns-in_err-at-clause-err c =
-    let p = err_from_is_err_and c.from_residual.result c.from_residual.ensures.1 in
-    rw p.1 (front_of_rest (seen_by c.args.course.now) (seen_by c.loop-at.course) (seen_by c.push_next.new.course) (bits c.args.piece.now) c.loop-at.at c.loop-at.invariant.bits c.in_err-at.ensures.err)
-
-pub returns-in_err-at-clause-some : goal.returns-in_err-at-clause-some
-returns-in_err-at-clause-some c =
-    let p = err_from_is_err_and c.from_residual.result c.from_residual.ensures.1 in
-    rw p.1 (omega (arith, length-bits c.args.piece.now))
-
 pub returns-in_err-at-clause-stop : goal.returns-in_err-at-clause-stop
 returns-in_err-at-clause-stop c =
     let p = err_from_is_err_and c.from_residual.result c.from_residual.ensures.1 in
     rw (p.1, p.2)
-    (stops_in_rest c.args.course.now.size c.loop-at.course.size (seen_by c.args.course.now) (seen_by c.loop-at.course) (bits c.args.piece.now) c.loop-at.at c.in_err-at.field-0.0 c.loop-at.invariant.size c.loop-at.invariant.bits c.in_err-at.ensures.stop)
+    (behind_rest c.args.course.now.size c.loop-at.course.size (seen_by c.args.course.now) (seen_by c.loop-at.course) (bits c.args.piece.now) c.loop-at.at c.push_next.new.course.count c.in_err-at.field-0.0 c.loop-at.invariant.size c.loop-at.invariant.bits c.in_err-at.ensures.stop)
 
 pub loop-at-preserved : goal.loop-at-preserved
 loop-at-preserved c =

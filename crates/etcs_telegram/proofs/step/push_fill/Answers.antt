@@ -21,11 +21,11 @@ overflow_add-course c = omega (arith, fill_small c.args.course.now c.args.left c
 pub returns-in-Ok-clause-course : goal.returns-in-Ok-clause-course
 returns-in-Ok-clause-course c =
     let k = c.args.course.now in
-    let k' : Course = record { size = k.size; phase = c.after_fill-course.result; header = k.header; fill = c.append.new.bits; number = k.number; taken = k.taken; count = k.count + c.len-in-Ok.result } in
-    (fills k k' c.args.left c.args.slice.now c.requires.course c.requires.phase c.requires.some c.requires.within refl (c.after_fill-course.ensures ∙ ap (after_fill k.size c.args.left) c.len.ensures) refl c.in-Ok.ensures.ok refl refl (ap (λ n. k.count + n) c.len-in-Ok.ensures)).0
+    let k' : Course = record { size = k.size; phase = c.after_fill-course.result; header = k.header; run = k.run; fill = c.append.new.bits; number = k.number; taken = k.taken; count = k.count + c.len-in-Ok.result } in
+    (fills k k' c.args.left c.args.slice.now c.requires.course c.requires.phase c.requires.some c.requires.within refl (c.after_fill-course.ensures ∙ ap (after_fill k.size c.args.left) c.len.ensures) refl refl c.in-Ok.ensures.ok refl refl (ap (λ n. k.count + n) c.len-in-Ok.ensures)).0
 
 pub returns-in-Ok-clause-ok : goal.returns-in-Ok-clause-ok
 returns-in-Ok-clause-ok c =
     let k = c.args.course.now in
-    let k' : Course = record { size = k.size; phase = c.after_fill-course.result; header = k.header; fill = c.append.new.bits; number = k.number; taken = k.taken; count = k.count + c.len-in-Ok.result } in
-    (fills k k' c.args.left c.args.slice.now c.requires.course c.requires.phase c.requires.some c.requires.within refl (c.after_fill-course.ensures ∙ ap (after_fill k.size c.args.left) c.len.ensures) refl c.in-Ok.ensures.ok refl refl (ap (λ n. k.count + n) c.len-in-Ok.ensures)).1
+    let k' : Course = record { size = k.size; phase = c.after_fill-course.result; header = k.header; run = k.run; fill = c.append.new.bits; number = k.number; taken = k.taken; count = k.count + c.len-in-Ok.result } in
+    (fills k k' c.args.left c.args.slice.now c.requires.course c.requires.phase c.requires.some c.requires.within refl (c.after_fill-course.ensures ∙ ap (after_fill k.size c.args.left) c.len.ensures) refl refl c.in-Ok.ensures.ok refl refl (ap (λ n. k.count + n) c.len-in-Ok.ensures)).1

@@ -1,10 +1,10 @@
-use Rattle.std.proofs.Common.{◌+◌, ◌≤◌, ◌++◌, List, Bool, length, ap, ◌∙◌, arith}
+use Rattle.std.proofs.Common.{◌+◌, ◌≤◌, ◌++◌, List, Bool, length, drop, ap, ◌∙◌, arith}
 use Rattle.std.proofs.lemmas.Result.{err_from_is_err_and}
 use Rattle.etcs_bits.specs.Bits.{bits}
 use Rattle.etcs_bits.proofs.Positions.{length-bits}
 use Rattle.etcs_telegram.specs.Telegrams.{TelegramLanguage}
 use Rattle.etcs_telegram.specs.Courses.{seen_by}
-use Rattle.etcs_telegram.proofs.Fronts.{stops_in_part}
+use Rattle.etcs_telegram.proofs.Fronts.{front_none, stops_in_part}
 use Rattle.etcs_bits.proofs.Lists.{length-part}
 use Rattle.etcs_telegram.proofs.Fills.{fill_some}
 use Rattle.etcs_telegram.proofs.step.push_run.Goals as goal
@@ -24,6 +24,11 @@ push_fill-requires-clause-some c =
     let len = length-part c.args.at c.min-count.result (bits c.args.piece.now) inside in
     let same = ap (λ (x : List Bool). length x) c.run_at.ensures in
     omega (arith, len, same, c.min-count.ensures, fill_some c.args.course.now c.args.left c.requires.phase c.requires.course, c.requires.inside, length-bits c.args.piece.now)
+
+pub returns-in_err-push_fill-clause-err : goal.returns-in_err-push_fill-clause-err
+returns-in_err-push_fill-clause-err c =
+    let p = err_from_is_err_and c.from_residual.result c.from_residual.ensures.1 in
+    rw (p.1, c.in_err-push_fill.ensures.err) (front_none (seen_by c.args.course.now) (drop c.args.at (bits c.args.piece.now)))
 
 pub returns-in_err-push_fill-clause-stop : goal.returns-in_err-push_fill-clause-stop
 returns-in_err-push_fill-clause-stop c =

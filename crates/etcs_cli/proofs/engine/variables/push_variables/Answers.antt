@@ -5,7 +5,7 @@ use Rattle.std.specs.List.{zip}
 use Rattle.etcs_vars.specs.Reading.{Reading}
 use Rattle.etcs_cli.specs.Show.{variable_line}
 use Rattle.etcs_cli.proofs.Texts.{line_more}
-use Rattle.etcs_cli.proofs.engine.show.push_variables.Goals as goal
+use Rattle.etcs_cli.proofs.engine.variables.push_variables.Goals as goal
 
 pub loop-var-preserved : goal.loop-var-preserved
 loop-var-preserved c =

@@ -48,7 +48,7 @@ filled room least most =
     let len : bits_of v ≡ room = omega (arith, short, least) in
     (_, in_front Message room room v [] (is, omega arith) (packet_bits v ∙ len) (omega arith) (padded (room - room) (omega arith)))
 
-run_some : (c : Carrier) (room : ℕ) → room ≤ 8191 → IsTrue (may_be_left ToTrain c room) → (r : Reading) × Run c room r
+pub run_some : (c : Carrier) (room : ℕ) → room ≤ 8191 → IsTrue (may_be_left ToTrain c room) → (r : Reading) × Run c room r
 run_some Telegram room small h = ((NID_PACKET, 255) ∷ [], ([], record { carried = All-nil _; reading_is = refl; fills = omega (arith, leb-true 8 room h, length-sent NID_PACKET 255 []) }))
 run_some Message room small h =
     elim (either (nat_le room 7) (nat_le 23 room) h) [

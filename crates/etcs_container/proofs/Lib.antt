@@ -31,3 +31,4 @@ pub mod KeptRuns
 pub mod PieceParts
 pub mod Chains
 pub mod Ended
+pub mod Packets

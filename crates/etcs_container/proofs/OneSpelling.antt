@@ -72,7 +72,7 @@ packet_same (packets.kept nid dir b) (packets.kept nid' dir' b') hv hu e =
     rw (s.0, s.1, body) refl
 
 -- packet 255 is no packet's beginning
-closed_apart : (v : PacketValue) (q : Reading) → IsPacket v → (NID_PACKET, 255) ∷ [] ≡ packet_reading v ++ q → ⊥
+pub closed_apart : (v : PacketValue) (q : Reading) → IsPacket v → (NID_PACKET, 255) ∷ [] ≡ packet_reading v ++ q → ⊥
 closed_apart v q h e =
     let b = numbered v h in
     let e' : ◌≡◌ {A = Reading} ((NID_PACKET, 255) ∷ []) ((NID_PACKET, b.0) ∷ (b.1 ++ q)) = e ∙ ap (λ (t : Reading). t ++ q) b.2 in

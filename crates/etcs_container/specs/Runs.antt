@@ -14,8 +14,8 @@ use Rattle.etcs_rows.specs.Frames.{is_kept}
 use Rattle.etcs_rows.specs.Places.{first_variable, after_number}
 use Rattle.etcs_rows.specs.Walks.{WalkValue, language}
 use Rattle.etcs_packets.specs.declared.packet.Packet.{Packet}
-use Rattle.etcs_packets.specs.PacketValues.{packet_value, variables_of, IsTypedOf, IsPacket}
-use Rattle.etcs_packets.specs.PacketReadings.{frame, packets_reading}
+use Rattle.etcs_packets.specs.PacketValues.{packet_value, nid_of, bits_of, variables_of, IsTypedOf, IsPacket}
+use Rattle.etcs_packets.specs.PacketReadings.{frame, packet_reading, packets_reading}
 use Rattle.etcs_packets.specs.OnePacket.{IsMade}
 use Rattle.etcs_container.specs.declared.phase.Phase.{Phase}
 use Rattle.etcs_container.specs.declared.phase.Phase.TheVariants.{Number, Marker, Direction, Length, Row, Kept, Closed}
@@ -188,3 +188,9 @@ StopsIn c start b count Memory = (count ≤ length b) × Viable (Run c start) (t
 -- n bits of xs from at on were taken behind b
 abbrev pub IsNext : List Bool → List Bool → ℕ → ℕ → List Bool → Type 0
 IsNext b xs at n s = (0 < n) × (at + n ≤ length xs) × (s ≡ b ++ part at n xs)
+
+-- a packet with a frame, of so many bits, whose bits are those of xs from at on
+pub record IsPieceOf (p : Packet) (xs : List Bool) (at l : ℕ) : Type 0 where
+  pub bits : spelled (packet_reading (packet_value p)) ≡ part at l xs
+  pub long : bits_of (packet_value p) ≡ l
+  pub numbered : 0 < nid_of (packet_value p)

@@ -11,6 +11,7 @@ mod pieces;
 mod rows;
 mod run;
 mod starts;
+mod whole;
 
 pub use next::push_next;
 pub use run::{Run, Stop};

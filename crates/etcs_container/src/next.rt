@@ -12,6 +12,7 @@ use crate::phase::Phase;
 use crate::pieces::{number_at, run_at};
 use crate::rows::push_row;
 use crate::run::{Run, Stop};
+use crate::whole::push_whole;
 use etcs_rows::parts::wanted;
 use etcs_vars::Var;
 
@@ -96,7 +97,29 @@ fn next_row(run: &mut Run, nid: u8, dir: u8, piece: &[u8], at: usize) -> Result<
     }
 }
 
-/// Takes what comes next of a piece, from the bit `at` on: a variable or its part, or a run of kept bits. Says how
+/// Takes a packet that lies whole in a piece, or what comes next of NID_PACKET, and says how many bits it was.
+fn next_packet(run: &mut Run, piece: &[u8], at: usize) -> Result<usize, Stop>
+    requires run { IsRun run.old }
+    requires phase { run.old.phase ≡ Phase.Number }
+    requires inside { at < length (bits piece.now) }
+    requires small { length (bits piece.now) < 2 ^ 64 }
+    ensures carrier { run.new.carrier ≡ run.old.carrier }
+    ensures start { run.new.start ≡ run.old.start }
+    ensures run { OnOk result (IsRun run.new) }
+    ensures taken { IfOk result (λ n. IsNext (seen_by run.old) (bits piece.now) at n (seen_by run.new)) }
+    ensures stop { IfErr result (λ e. StopsIn run.old.carrier run.old.start (seen_by run.old ++ drop at (bits piece.now)) run.new.count e) }
+{
+    if run.taken > 0 {
+        return next_frame(run, piece, at);
+    }
+    match push_whole(run, piece, at) {
+        Ok(Some(count)) => Ok(count),
+        Ok(None) => next_frame(run, piece, at),
+        Err(stop) => Err(stop),
+    }
+}
+
+/// Takes what comes next of a piece, from the bit `at` on: a whole typed packet, a variable or its part, or a run of kept bits. Says how
 /// many bits it was.
 pub fn push_next(run: &mut Run, piece: &[u8], at: usize) -> Result<usize, Stop>
     requires run { IsRun run.old }
@@ -113,6 +136,7 @@ pub fn push_next(run: &mut Run, piece: &[u8], at: usize) -> Result<usize, Stop>
         Phase::Row(nid, dir) => next_row(run, nid, dir, piece, at),
         Phase::Kept(nid, dir, left) => next_kept(run, nid, dir, left, piece, at),
         Phase::Closed => unreachable!(),
+        Phase::Number => next_packet(run, piece, at),
         _ => next_frame(run, piece, at),
     }
 }

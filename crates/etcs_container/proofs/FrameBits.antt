@@ -17,7 +17,7 @@ use Rattle.etcs_container.proofs.Turns.{frame_step, none_yet}
 
 module _ (c : Carrier) (start room : ℕ) (phase : Phase) (framing : is_framing phase ≡ true) (p : Reading) (residual : Residual (Run c start) p (left_at c room phase)) (number taken : ℕ) (part : Framing c room phase number taken) where
   -- a reading of what is left
-  left_some : (r : Reading) × left_at c room phase r
+  pub left_some : (r : Reading) × left_at c room phase r
   left_some = let (n, r, e, a) = part.starts in ((var_at phase, n) ∷ r, (frame_step c room phase framing part.more).closes n r a)
 
   -- its variable holds the next bit

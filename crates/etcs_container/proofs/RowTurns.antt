@@ -32,7 +32,7 @@ use Rattle.etcs_container.proofs.RowReads.{read_more, read_bits}
 
 module _ (c : Carrier) (start room : ℕ) (p : Reading) (v : WalkValue) (residual : Residual (Run c start) p (Then (language v) (Run c room))) (behind : (r : Reading) × Run c room r) (x : Var) (on : GoesOn v x) where
   -- a reading of what is left
-  row_some : (r : Reading) × Then (language v) (Run c room) r
+  pub row_some : (r : Reading) × Then (language v) (Run c room) r
   row_some = let (r, s, l, e) = on.owned.viable in (r ++ behind.0, (r, behind.0, refl, l, behind.1))
 
   pub row_owner : (t : List Bool) (y : Var) → Owner (language v) t y → Owner (Run c start) (spelled p ++ t) y

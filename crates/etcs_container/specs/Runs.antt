@@ -1,5 +1,5 @@
 -- What a reader of packets keeps between two bits.
-use Rattle.std.specs.Prelude.{◌≡◌, ℕ, ◌+◌, ◌-◌, ◌^◌, ◌<◌, ◌≤◌, Bool, List, [], ◌∷◌, ◌++◌, length, take, map, IsTrue, All, Option, Some, None}
+use Rattle.std.specs.Prelude.{◌≡◌, ℕ, ◌+◌, ◌-◌, ◌^◌, ◌<◌, ◌≤◌, Bool, List, [], ◌∷◌, ◌++◌, length, take, map, ◌⊎◌, IsTrue, All, Option, Some, None}
 use Rattle.etcs_bits.specs.Bits.{num, part}
 use Rattle.etcs_vars.specs.declared.var.Var.{Var}
 use Rattle.etcs_vars.specs.declared.var.Var.TheVariants.{NID_PACKET, Q_DIR, OTHER_DATA}
@@ -194,3 +194,13 @@ pub record IsPieceOf (p : Packet) (xs : List Bool) (at l : ℕ) : Type 0 where
   pub bits : spelled (packet_reading (packet_value p)) ≡ part at l xs
   pub long : bits_of (packet_value p) ≡ l
   pub numbered : 0 < nid_of (packet_value p)
+
+-- ---- What is held of the packet that is being read.
+
+-- its whole variables r: at most two of a frame; the frame and variables with the numbers f; the frame and kept bits k
+abbrev pub Begun : Reading → List ℕ → List Bool → Type 0
+Begun r f k = ((length r ≤ 2) × (f ≡ []) × (k ≡ [])) ⊎ (((nid : ℕ) × (dir : ℕ) × (n : ℕ) × (q : Reading) × (r ≡ frame nid dir n ++ q) × (numbers q ≡ f) × (k ≡ [])) ⊎ ((nid : ℕ) × (dir : ℕ) × (n : ℕ) × (r ≡ frame nid dir n ++ kept OTHER_DATA k) × (f ≡ [])))
+
+-- of a reader that goes on
+abbrev pub here_of : reader.Run → Reading
+here_of r = here r.carrier r.phase r.numbers.items r.walk r.kept

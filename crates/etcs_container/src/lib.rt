@@ -3,6 +3,7 @@
 
 mod bodies;
 mod frames;
+mod held;
 mod kept;
 pub mod laws;
 mod next;
@@ -13,5 +14,6 @@ mod run;
 mod starts;
 mod whole;
 
+pub use held::Held;
 pub use next::push_next;
 pub use run::{Run, Stop};

@@ -6,13 +6,14 @@ ghost use Rattle.etcs_vars.specs.Vars.{width, admits};
 ghost use Rattle.etcs_vars.specs.Reading.{Reading, spelled};
 ghost use Rattle.etcs_container.specs.Contents as contents;
 ghost use Rattle.etcs_container.specs.Phases.{next_phase};
-ghost use Rattle.etcs_container.specs.Runs.{IsRun, seen_by};
+ghost use Rattle.etcs_container.specs.Runs.{IsRun, seen_by, part_at, walk_part};
+ghost use Rattle.etcs_bits.specs.Bits.{num};
 
 use crate::phase::Phase;
-use etcs_bits::Bits;
+use etcs_bits::{BitSlice, Bits};
 use etcs_packets::Packet;
 use etcs_rows::RowWalk;
-use etcs_rows::parts::Carrier;
+use etcs_rows::parts::{Carrier, unfinished};
 use etcs_vars::Var;
 use std::alloc::Global;
 
@@ -117,11 +118,47 @@ impl Run {
         self.packets.as_slice()
     }
 
+    /// The whole numbers behind L_PACKET of the typed packet that is being read.
+    pub fn numbers(&self) -> &[u64]
+        ensures { result.now ≡ self.now.numbers.items }
+    {
+        self.numbers.as_slice()
+    }
+
+    /// The bits so far behind L_PACKET of the packet that is being kept.
+    pub fn kept(&self) -> BitSlice<'_>
+        ensures { result ≡ self.now.kept }
+    {
+        self.kept.as_slice()
+    }
+
+    /// The bits so far of the variable that isn't whole yet, as a number, and how many they are.
+    pub fn part(&self) -> (u64, usize)
+        ensures { num result.1 result.0 ≡ part_at self.now.phase self.now.walk self.now.number self.now.taken }
+    {
+        match self.phase {
+            Phase::Row(_, _) => row_part(&self.walk),
+            Phase::Kept(_, _, _) => (0, 0),
+            Phase::Closed => (0, 0),
+            _ => (self.number, self.taken),
+        }
+    }
+
     /// The packets that are whole, as a vector.
     pub fn into_packets(self) -> Vec<Packet>
         ensures { result.items ≡ self.packets.items }
     {
         self.packets
+    }
+}
+
+/// The bits so far of a row's variable, as a number, and how many they are.
+fn row_part(walk: &Option<RowWalk>) -> (u64, usize)
+    ensures { num result.1 result.0 ≡ walk_part walk.now }
+{
+    match walk {
+        Some(walk) => unfinished(walk),
+        None => (0, 0),
     }
 }
 

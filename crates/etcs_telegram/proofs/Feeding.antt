@@ -27,7 +27,7 @@ use Rattle.etcs_telegram.proofs.Spellings.{regular}
 use Rattle.etcs_telegram.proofs.Packeted.{going_owner, done_at, done_count}
 use Rattle.etcs_telegram.proofs.Ends.{reached_start}
 
-going_stage : (c : Course) → is_going c.phase ≡ true → stage_by c None ≡ reading (seen_by c)
+pub going_stage : (c : Course) → is_going c.phase ≡ true → stage_by c None ≡ reading (seen_by c)
 going_stage c g = rw g refl
 
 done_stage : (c : Course) → is_going c.phase ≡ false → stage_by c None ≡ finished (telegram_parts c.size c.header.items c.run.packets.items c.fill)

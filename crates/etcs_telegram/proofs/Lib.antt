@@ -18,3 +18,4 @@ pub mod RoundTrips
 pub mod Examples
 pub mod Filling
 pub mod Rooms
+pub mod Holding

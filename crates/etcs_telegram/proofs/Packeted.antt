@@ -40,7 +40,7 @@ use Rattle.etcs_telegram.proofs.Ends.{row_labelled, reached_done, IsDone}
 use Rattle.etcs_telegram.proofs.CourseSteps.{base, own_owner, container_small}
 
 -- some FILL stands behind all packets
-fill_some : (size : Size) (p : Reading) → Run carrier.Telegram (packet_room size) p → (r : Reading) × FillBehind size p r
+pub fill_some : (size : Size) (p : Reading) → Run carrier.Telegram (packet_room size) p → (r : Reading) × FillBehind size p r
 fill_some size p l = fill_read size (packet_room size - length (spelled p))
 
 module _ (size : Size) (h : Reading) (residual : Residual (TelegramLanguage size) h (PacketsLeft size)) where

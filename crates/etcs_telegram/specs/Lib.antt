@@ -6,3 +6,4 @@ pub mod Reached
 pub mod Courses
 pub mod Readers
 pub mod Stages
+pub mod Holdings

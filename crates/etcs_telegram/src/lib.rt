@@ -13,6 +13,7 @@ mod step;
 mod telegram;
 
 pub use encode::NoRoom;
+pub use etcs_container::Held;
 pub use etcs_vars::{Fed, ReadFault};
 pub use header::Header;
 pub use reader::TelegramReader;

@@ -148,3 +148,55 @@ fn a_speed_profile(rt: HostRuntime) -> Result<(), Fail> {
     assert_eq!(rt; profile.further().len(), 2);
     Ok(())
 }
+
+/// How many packets, numbers and kept bits a reader holds, and the unfinished variable.
+fn held(reader: &TelegramReader) -> Option<(usize, usize, usize, u64, usize)> {
+    match reader.held() {
+        Some(held) => Some((
+            held.packets.len(),
+            held.numbers.len(),
+            held.kept.len(),
+            held.part,
+            held.taken,
+        )),
+        None => None,
+    }
+}
+
+#[test]
+fn what_is_held_of_a_kept_packet(rt: HostRuntime) {
+    let bytes = short(&[0xCB, 0x20, 0x0C, 0x7F], 0xC0);
+    let mut reader = TelegramReader::new(rt.alloc(), Size::Short);
+    assert_eq!(rt; held(&reader), Some((0, 0, 0, 0, 0)));
+    assert_eq!(rt; reader.feed(&bytes[..2]), Ok(Fed::More));
+    assert_eq!(rt; held(&reader), Some((0, 0, 0, 0, 1)));
+    assert_eq!(rt; reader.feed(&bytes[2..9]), Ok(Fed::More));
+    assert_eq!(rt; held(&reader), Some((0, 0, 0, 12, 12)));
+    assert_eq!(rt; reader.feed(&bytes[9..10]), Ok(Fed::More));
+    assert_eq!(rt; held(&reader), Some((1, 0, 0, 63, 6)));
+    assert_eq!(rt; reader.feed(&bytes[10..26]), Ok(Fed::More));
+    assert_eq!(rt; held(&reader), Some((1, 0, 126, 0, 0)));
+    assert_eq!(rt; reader.feed(&bytes[26..]), Ok(Fed::Done { taken: 1 }));
+    assert_eq!(rt; held(&reader), None);
+}
+
+#[test]
+fn what_is_held_of_a_row(rt: HostRuntime) {
+    let bytes = [
+        0xA0, 0x00, 0x7F, 0x80, 0x20, 0x00, 0xC6, 0xD0, 0x4C, 0xA0, 0x00, 0x0A, 0x00, 0x20, 0x7D,
+        0x06, 0x20, 0x0F, 0xA0, 0x80,
+    ];
+    let mut reader = TelegramReader::new(rt.alloc(), Size::Long);
+    assert_eq!(rt; reader.feed(&bytes), Ok(Fed::More));
+    assert_eq!(rt; held(&reader), Some((0, 13, 0, 0, 1)));
+    assert_eq!(rt; reader.feed(&[0xFF]), refused(160, Var::N_ITER));
+    assert_eq!(rt; held(&reader), None);
+}
+
+#[test]
+fn what_is_held_of_kept_bits(rt: HostRuntime) {
+    let bytes = short(&[0xCB, 0x20, 0x4C, 0, 0, 0], 0xC0);
+    let mut reader = TelegramReader::new(rt.alloc(), Size::Short);
+    assert_eq!(rt; reader.feed(&bytes[..12]), Ok(Fed::More));
+    assert_eq!(rt; held(&reader), Some((0, 0, 23, 0, 0)));
+}

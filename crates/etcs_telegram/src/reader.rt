@@ -1,9 +1,11 @@
 //! A resumable reader of telegrams.
 
-ghost use Rattle.std.specs.Prelude.{◌≡◌, ◌≢◌, ◌<◌, List, Bool, [], MatchResult};
+ghost use Rattle.std.specs.Prelude.{◌≡◌, ◌≢◌, ◌<◌, List, Bool, [], MatchResult, true, IfSome, IsNone};
 ghost use Rattle.etcs_bits.specs.Bits.{bits};
 ghost use Rattle.etcs_telegram.specs.Phases.{is_going};
 ghost use Rattle.etcs_telegram.specs.Readers.{fault_by};
+ghost use Rattle.etcs_telegram.specs.Courses.{IsCourse, seen_by};
+ghost use Rattle.etcs_telegram.specs.Holdings.{HeldIn, IsHeld};
 
 use crate::course::Course;
 use crate::header::Header;
@@ -13,7 +15,8 @@ use crate::step::push_piece;
 use crate::telegram::Telegram;
 use arrayvec::ArrayVec;
 use etcs_bits::Bits;
-use etcs_container::{Run, Stop};
+use etcs_container::{Held, Run, Stop};
+use etcs_packets::Packet;
 use etcs_parts::Items;
 use etcs_rows::parts::Carrier;
 use etcs_vars::{Fed, ReadFault};
@@ -37,6 +40,60 @@ fn fault_by(stop: Stop) -> ReadFault
 pub struct TelegramReader {
     course: Course,
     stop: Option<Stop>,
+}
+
+/// What a reader holds that goes on.
+fn held_of(course: &Course) -> Held<'_, Packet>
+    requires course { IsCourse course.now }
+    requires going { is_going course.now.phase ≡ true }
+    ensures { HeldIn course.now.size (seen_by course.now) result.packets.now result.numbers.now result.kept result.part result.taken }
+{
+    match course.phase {
+        Phase::Packets => held_packets(course),
+        Phase::Header(_) => Held {
+            packets: &[],
+            numbers: &[],
+            kept: course.fill.as_slice(),
+            part: course.number,
+            taken: course.taken,
+        },
+        Phase::Fill(_) => held_fill(course),
+        Phase::Pad(_) => held_fill(course),
+        Phase::Whole => unreachable!(),
+    }
+}
+
+/// All packets, FILL so far and the unfinished variable.
+fn held_fill(course: &Course) -> Held<'_, Packet>
+    ensures packets { result.packets.now ≡ course.now.run.packets.items }
+    ensures numbers { result.numbers.now ≡ [] }
+    ensures kept { result.kept ≡ course.now.fill }
+    ensures part { result.part ≡ course.now.number }
+    ensures taken { result.taken ≡ course.now.taken }
+{
+    Held {
+        packets: course.run.packets(),
+        numbers: &[],
+        kept: course.fill.as_slice(),
+        part: course.number,
+        taken: course.taken,
+    }
+}
+
+/// What a reader holds that reads packets.
+fn held_packets(course: &Course) -> Held<'_, Packet>
+    requires course { IsCourse course.now }
+    requires phase { course.now.phase ≡ Phase.Packets }
+    ensures { HeldIn course.now.size (seen_by course.now) result.packets.now result.numbers.now result.kept result.part result.taken }
+{
+    let (part, taken) = course.run.part();
+    Held {
+        packets: course.run.packets(),
+        numbers: course.run.numbers(),
+        kept: course.run.kept(),
+        part,
+        taken,
+    }
 }
 
 impl Model for TelegramReader {
@@ -107,6 +164,18 @@ impl TelegramReader {
                 Err(fault_by(stop))
             }
         }
+    }
+
+    /// What it holds between two pieces: the whole packets, the numbers or kept bits of the packet that is being read
+    /// or FILL, and the unfinished variable. `None` after `Done`, `Refused` or `Memory`.
+    pub fn held(&self) -> Option<Held<'_, Packet>>
+        ensures some { IfSome result (λ h. IsHeld self.now h.packets.now h.numbers.now h.kept h.part h.taken) }
+        ensures none { IsNone result → IsReading self.now.stage → ⊥ }
+    {
+        if self.stop.is_some() || !self.course.phase.is_going() {
+            return None;
+        }
+        Some(held_of(&self.course))
     }
 
     /// The telegram, once `feed` has answered `Done`.

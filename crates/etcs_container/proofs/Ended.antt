@@ -9,7 +9,8 @@ use Rattle.etcs_vars.specs.declared.var.Var.TheVariants.{NID_PACKET, NID_VBCMK, 
 use Rattle.etcs_vars.specs.Reading.{Reading, Then, spelled, Owner}
 use Rattle.etcs_rows.specs.declared.frames.Carrier.{Carrier}
 use Rattle.etcs_rows.specs.declared.frames.Carrier.TheVariants.{Telegram}
-use Rattle.etcs_rows.specs.Walks.{WalkValue}
+use Rattle.etcs_rows.specs.Walks.{WalkValue, language}
+use Rattle.std.specs.Option.{is_some}
 use Rattle.etcs_packets.specs.declared.packet.Packet.{Packet}
 use Rattle.etcs_packets.specs.PacketValues.{packet_value, IsPacket}
 use Rattle.etcs_packets.specs.PacketReadings.{frame, packet_reading, packets_reading, packet_bits, length-kept}
@@ -19,7 +20,7 @@ use Rattle.etcs_container.specs.declared.run.Run as reader
 use Rattle.etcs_container.specs.Contents.{closing, Run, RunOf, KeptIn}
 use Rattle.etcs_container.specs.Phases.{is_closed}
 use Rattle.etcs_container.specs.Runs.{IsRun, IsWhole, Reached, InKept, Left, Begun, here_of, here, row_so_far, walk_bits, walk_part, read_of, part_at, seen, seen_by, so_far, so_far_of}
-use Rattle.etcs_container.proofs.Lifts.{lift_owner, then_owner}
+use Rattle.etcs_container.proofs.Lifts.{lift_owner, then_owner, owned_short}
 use Rattle.etcs_container.proofs.Agreement.{run_regular, some_bits}
 use Rattle.etcs_container.proofs.RowReads.{read_to}
 use Rattle.etcs_container.proofs.RunSteps.{both_length}
@@ -63,17 +64,20 @@ run_holds r h g = holds_next r.carrier r.start r.room r.phase r.packets.items r.
 -- ---- What is held.
 
 begun_at : (c : Carrier) (start room : ℕ) (phase : Phase) (ps : List Packet) (f : List ℕ) (w : Option WalkValue) (k : List Bool) (number taken : ℕ) → Reached c start phase room ps f w k number taken → is_closed phase ≡ false → Begun (here c phase f w k) f k
-begun_at c start room Number ps f w k number taken h g = inl (omega arith, h.stands.0, h.stands.1)
-begun_at c start room Marker ps f w k number taken h g = inl (omega arith, h.stands.0, h.stands.1)
-begun_at c start room (Direction nid) ps f w k number taken h g = inl (omega arith, h.stands.0, h.stands.1)
-begun_at c start room (Length nid dir) ps f w k number taken h g = inl (omega arith, h.stands.0, h.stands.1)
+begun_at c start room Number ps f w k number taken h g = inl (inl refl, h.stands.0, h.stands.1)
+begun_at c start room Marker ps f w k number taken h g = inl (inr (inl (0, refl)), h.stands.0, h.stands.1)
+begun_at c start room (Direction nid) ps f w k number taken h g = inl (inr (inl (nid, refl)), h.stands.0, h.stands.1)
+begun_at c start room (Length nid dir) ps f w k number taken h g = inl (inr (inr (nid, dir, refl)), h.stands.0, h.stands.1)
 begun_at c start room (Row nid dir) ps f w k number taken h g =
     let i = h.stands.2 in
+    let v = i.walk_value in
     let n = length (spelled (read_of i.row f)) + walk_bits w in
     let far : here c (Row nid dir) f w k ≡ frame nid dir n ++ read_of i.row f = ap (λ (row : Option Layout). row_so_far row nid dir f (walk_bits w)) i.typed in
-    let same = (read_to i.row (length (spelled (read_of i.row f)) + i.walk_value.len) f i.walk_value.left i.walk_value.len i.read).1 in
-    inr (inl (nid, dir, n, read_of i.row f, far, same, h.stands.0))
-begun_at c start room (Kept nid dir left) ps f w k number taken h g = inr (inr (nid, dir, length k + left, refl, h.stands.0))
+    let same = (read_to i.row (length (spelled (read_of i.row f)) + v.len) f v.left v.len i.read).1 in
+    let short : length v.part < v.len = owned_short (language v) (λ r. ⊥) v.len (λ a l. l.1) v.part i.next i.goes_on.owned in
+    let more : length (spelled (read_of i.row f)) < n = omega (arith, short, ap walk_bits i.walk_is) in
+    inr (inl ((nid, dir, n, read_of i.row f, far, same, more, ap is_some i.typed), h.stands.0))
+begun_at c start room (Kept nid dir left) ps f w k number taken h g = inr (inr ((nid, dir, length k + left, refl, omega (arith, h.stands.2.some), h.stands.2.kept_number), h.stands.0))
 begun_at c start room Closed ps f w k number taken h g = absurd cc
 
 pub run_begun : (r : reader.Run) → IsRun r → is_closed r.phase ≡ false → Begun (here_of r) r.numbers.items r.kept

@@ -1,5 +1,6 @@
 -- What a reader of packets keeps between two bits.
 use Rattle.std.specs.Prelude.{◌≡◌, ℕ, ◌+◌, ◌-◌, ◌^◌, ◌<◌, ◌≤◌, Bool, List, [], ◌∷◌, ◌++◌, length, take, map, ◌⊎◌, IsTrue, All, Option, Some, None}
+use Rattle.std.specs.Option.{is_some}
 use Rattle.etcs_bits.specs.Bits.{num, part}
 use Rattle.etcs_vars.specs.declared.var.Var.{Var}
 use Rattle.etcs_vars.specs.declared.var.Var.TheVariants.{NID_PACKET, Q_DIR, OTHER_DATA}
@@ -197,9 +198,20 @@ pub record IsPieceOf (p : Packet) (xs : List Bool) (at l : ℕ) : Type 0 where
 
 -- ---- What is held of the packet that is being read.
 
--- its whole variables r: at most two of a frame; the frame and variables with the numbers f; the frame and kept bits k
+-- its whole variables r, where nothing of it is whole but NID_PACKET and Q_DIR
+abbrev pub BegunFrame : Reading → Type 0
+BegunFrame r = (r ≡ []) ⊎ (((nid : ℕ) × (r ≡ (NID_PACKET, nid) ∷ [])) ⊎ ((nid : ℕ) × (dir : ℕ) × (r ≡ (NID_PACKET, nid) ∷ (Q_DIR, dir) ∷ [])))
+
+-- a typed packet's, behind whose frame so many of its n bits were read, with the numbers f
+abbrev pub BegunRow : Reading → List ℕ → Type 0
+BegunRow r f = (nid : ℕ) × (dir : ℕ) × (n : ℕ) × (q : Reading) × (r ≡ frame nid dir n ++ q) × (numbers q ≡ f) × (length (spelled q) < n) × IsTrue (is_some (row_to ToTrain nid))
+
+-- a packet's of whose n bits the first, k, were kept
+abbrev pub BegunKept : Reading → List Bool → Type 0
+BegunKept r k = (nid : ℕ) × (dir : ℕ) × (n : ℕ) × (r ≡ frame nid dir n ++ kept OTHER_DATA k) × (length k < n) × IsTrue (is_kept ToTrain nid)
+
 abbrev pub Begun : Reading → List ℕ → List Bool → Type 0
-Begun r f k = ((length r ≤ 2) × (f ≡ []) × (k ≡ [])) ⊎ (((nid : ℕ) × (dir : ℕ) × (n : ℕ) × (q : Reading) × (r ≡ frame nid dir n ++ q) × (numbers q ≡ f) × (k ≡ [])) ⊎ ((nid : ℕ) × (dir : ℕ) × (n : ℕ) × (r ≡ frame nid dir n ++ kept OTHER_DATA k) × (f ≡ [])))
+Begun r f k = (BegunFrame r × (f ≡ []) × (k ≡ [])) ⊎ ((BegunRow r f × (k ≡ [])) ⊎ (BegunKept r k × (f ≡ [])))
 
 -- of a reader that goes on
 abbrev pub here_of : reader.Run → Reading

@@ -134,7 +134,9 @@ impl Run {
 
     /// The bits so far of the variable that isn't whole yet, as a number, and how many they are.
     pub fn part(&self) -> (u64, usize)
-        ensures { num result.1 result.0 ≡ part_at self.now.phase self.now.walk self.now.number self.now.taken }
+        requires { IsRun self.now }
+        ensures bits { num result.1 result.0 ≡ part_at self.now.phase self.now.walk self.now.number self.now.taken }
+        ensures small { result.0 < 2 ^ result.1 }
     {
         match self.phase {
             Phase::Row(_, _) => row_part(&self.walk),
@@ -154,7 +156,8 @@ impl Run {
 
 /// The bits so far of a row's variable, as a number, and how many they are.
 fn row_part(walk: &Option<RowWalk>) -> (u64, usize)
-    ensures { num result.1 result.0 ≡ walk_part walk.now }
+    ensures bits { num result.1 result.0 ≡ walk_part walk.now }
+    ensures small { result.0 < 2 ^ result.1 }
 {
     match walk {
         Some(walk) => unfinished(walk),

@@ -1,5 +1,5 @@
 -- What a reader of telegrams holds.
-use Rattle.std.proofs.Common.{◌≡◌, ℕ, ◌+◌, ◌-◌, ◌<◌, Bool, true, false, List, [], ◌++◌, length, map, refl, sym, ap, subst, ◌∙◌, arith, append_assoc, append-nil, inl, inr}
+use Rattle.std.proofs.Common.{◌≡◌, ℕ, ◌+◌, ◌-◌, ◌^◌, ◌<◌, Bool, true, false, List, [], ◌++◌, length, map, refl, sym, ap, subst, ◌∙◌, arith, append_assoc, append-nil, inl, inr}
 use Rattle.std.specs.Prelude.{Option, Some, None, replicate}
 use Rattle.std.specs.Option.{is_some}
 use Rattle.etcs_bits.specs.Bits.{num}
@@ -60,6 +60,7 @@ module _ (size : Size) (phase : Phase) (header : List ℕ) (ps : Reading) (fill 
     far = so_far size phase header ps fill;
     next = var_at phase;
     bits = refl;
+    fits = r.unfinished.fits;
     members = members;
     begins = own_begins;
     owned = reached_owner size phase header ps fill number taken r own;
@@ -96,8 +97,8 @@ pad_held k left is e =
 same_length : (a b : List Bool) (n : ℕ) → a ≡ b → length a < n → length b < n
 same_length a b n e lt = rw e at lt
 
-pub packets_held : (k : Course) (part taken : ℕ) → IsCourse k → k.phase ≡ Packets → num taken part ≡ runs.part_at k.run.phase k.run.walk k.run.number k.run.taken → HeldIn k.size (seen_by k) k.run.packets.items k.run.numbers.items k.run.kept part taken
-packets_held k part taken is e p =
+pub packets_held : (k : Course) (part taken : ℕ) → IsCourse k → k.phase ≡ Packets → num taken part ≡ runs.part_at k.run.phase k.run.walk k.run.number k.run.taken → part < 2 ^ taken → HeldIn k.size (seen_by k) k.run.packets.items k.run.numbers.items k.run.kept part taken
+packets_held k part taken is e p small =
     let g : is_packets k.phase ≡ true = rw e refl in
     let a = at_packets k is g in
     let h = labelled header_row k.header.items in
@@ -116,6 +117,7 @@ packets_held k part taken is e p =
       far = h ++ far;
       next = o.0;
       bits = bits;
+      fits = small;
       members = inr (inl (k.header.items, runs.here_of k.run, a.reached.holds.0, refl, run_begun k.run is.run.is_run a.goes_on));
       begins = all_begin k.size (h ++ far) (front.0 ++ fill.0) (seen_by k) (num taken part) (rw grouped at all) bits;
       owned = rw a.bits (packets_owner k.size h a.residual (runs.seen_by k.run) o.0 owner);

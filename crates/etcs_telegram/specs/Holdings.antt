@@ -1,5 +1,5 @@
 -- What a reader of telegrams holds between two pieces.
-use Rattle.std.specs.Prelude.{◌≡◌, ℕ, ◌<◌, Bool, false, List, [], ◌++◌, length, map, replicate, ◌⊎◌}
+use Rattle.std.specs.Prelude.{◌≡◌, ℕ, ◌^◌, ◌<◌, Bool, false, List, [], ◌++◌, length, map, replicate, ◌⊎◌}
 use Rattle.etcs_bits.specs.Bits.{num}
 use Rattle.etcs_vars.specs.declared.var.Var.{Var}
 use Rattle.etcs_vars.specs.declared.var.Var.TheVariants.{FILL, PAD}
@@ -28,6 +28,7 @@ pub record HeldIn (size : Size) (b : List Bool) (ps : List Packet) (f : List ℕ
   pub far : Reading
   pub next : Var
   pub bits : b ≡ spelled far ++ num taken part
+  pub fits : part < 2 ^ taken
   pub members : Members far ps f k
   pub begins : (r : Reading) (c : List Bool) → TelegramLanguage size r → spelled r ≡ b ++ c → (q : Reading) × (r ≡ far ++ q)
   pub owned : Owner (TelegramLanguage size) b next

@@ -75,7 +75,7 @@ run_left Message room (v ∷ vs) r run =
 -- ---- Lengths and numbers.
 
 -- with no numbers in front
-front_none : (r rest : Reading) (row : Layout) → numbers r ≡ [] → Reads row [] (r ++ rest) → Reads row [] rest
+pub front_none : (r rest : Reading) (row : Layout) → numbers r ≡ [] → Reads row [] (r ++ rest) → Reads row [] rest
 front_none [] rest row e reads = reads
 front_none (p ∷ r) rest row e reads = absurd cc
 

@@ -19,7 +19,7 @@ use Rattle.etcs_container.proofs.FrameGoals.{viable_short}
 use Rattle.etcs_container.proofs.KeptGoals.{kept_viable, kept_more, kept_put, kept_fits}
 
 -- kept bits are spelled as they are
-spelled_kept : (t : List Bool) → spelled (kept OTHER_DATA t) ≡ t
+pub spelled_kept : (t : List Bool) → spelled (kept OTHER_DATA t) ≡ t
 unfolding num
 spelled_kept [] = refl
 spelled_kept (true ∷ t) = ap (λ (b : List Bool). true ∷ b) (spelled_kept t)

@@ -32,3 +32,6 @@ pub mod PieceParts
 pub mod Chains
 pub mod Ended
 pub mod Packets
+pub mod Scanning
+pub mod RowScans
+pub mod FrameScans

@@ -1,10 +1,10 @@
 -- A packet that is taken at once.
 use Rattle.std.proofs.Common.{◌≡◌, ℕ, ◌+◌, ◌-◌, ◌<◌, ◌≤◌, Bool, List, [], ◌∷◌, ◌++◌, length, map, take, drop, Option, Some, None, refl, sym, ap, subst, ◌∙◌, arith, append_assoc, append-nil, inl, inr, take-add}
 use Rattle.std.specs.Prelude.{IsTrue}
-use Rattle.std.proofs.lemmas.List.{drop-drop, take_at, length-append}
+use Rattle.std.proofs.lemmas.List.{take_at, length-append}
 use Rattle.std.proofs.lemmas.List.Elements.{All-head}
 use Rattle.etcs_bits.specs.Bits.{num, part}
-use Rattle.etcs_bits.proofs.Lists.{length-part}
+use Rattle.etcs_bits.proofs.Lists.{length-part, part-add}
 use Rattle.etcs_vars.specs.declared.var.Var.TheVariants.{NID_PACKET, Q_DIR, L_PACKET}
 use Rattle.etcs_vars.specs.Walking.{Residual}
 use Rattle.etcs_vars.specs.Reading.{Reading, spelled, Viable}
@@ -30,7 +30,7 @@ use Rattle.etcs_container.specs.Phases.{next_phase}
 use Rattle.etcs_container.specs.Runs.{IsRun, IsWhole, IsPieceOf, Reached, StopsIn, seen, seen_by}
 use Rattle.etcs_container.proofs.Agreement.{packet_agree, packet_fit, numbered}
 use Rattle.etcs_container.proofs.OneSpelling.{packet_same, closed_apart}
-use Rattle.etcs_container.proofs.RunSteps.{behind, in_front, carried_packet}
+use Rattle.etcs_container.proofs.RunSteps.{behind, in_front, carried_packet, framed_carried}
 use Rattle.etcs_container.proofs.Lifts.{residual_along}
 use Rattle.etcs_container.proofs.Reaching.{turn_packet, seen_packet, none}
 use Rattle.etcs_container.proofs.Others.{kept_parts, kept_untyped}
@@ -57,7 +57,7 @@ begins c room v (u ∷ us) q carried run =
     (us, subst (λ (r : Reading). RunOf c (room - bits_of v) us r) (sym rest.1) (subst (λ (w : PacketValue). RunOf c (room - bits_of w) us b.0) (sym same) b.3))
 
 -- what is left behind a whole packet
-behind_packet : (c : Carrier) (room : ℕ) (v : PacketValue) → Carries c v → bits_of v ≤ room → Residual (Run c room) (packet_reading v) (Run c (room - bits_of v))
+pub behind_packet : (c : Carrier) (room : ℕ) (v : PacketValue) → Carries c v → bits_of v ≤ room → Residual (Run c room) (packet_reading v) (Run c (room - bits_of v))
 behind_packet c room v carried le = record {
   to = λ q (us, run). begins c room v us q carried run;
   from = λ q l. in_front c room (bits_of v) v q carried (packet_bits v) le l;
@@ -93,10 +93,16 @@ typed_by nid dir row (packets.marker n) e h t = absurd (let d = t.1 in cc)
 typed_by nid dir row (packets.typed nid' dir' r) e h t = let d : dir' ≡ dir = (let s = t.1 in cc) in rw (t.0, d) refl
 typed_by nid dir row (packets.kept nid' dir' b) e h t = absurd (kept_untyped nid' row (kept_parts nid' dir' (length b) h).0 (ap (row_to ToTrain) t.0 ∙ e))
 
-part_more : (xs : List Bool) (at m n : ℕ) → part at m xs ++ part (at + m) n xs ≡ part at (m + n) xs
-part_more xs at m n =
-    let behind : part (at + m) n xs ≡ take n (drop m (drop at xs)) = ap (take n) (sym (drop-drop m at xs)) in
-    ap (λ (x : List Bool). part at m xs ++ x) behind ∙ sym (take-add m n (drop at xs))
+-- the bits of a frame and of what stands behind it
+pub frame_bits : (nid dir l : ℕ) (body : Reading) (xs : List Bool) (at : ℕ) → 23 ≤ l → num 8 nid ≡ part at 8 xs → num 2 dir ≡ part (at + 8) 2 xs → num 13 l ≡ part (at + 10) 13 xs → spelled body ≡ part (at + 23) (l - 23) xs → spelled (frame nid dir (l - 23) ++ body) ≡ part at l xs
+frame_bits nid dir l body xs at least a b d s =
+    let same : 23 + (l - 23) ≡ l = omega (arith, least) in
+    let all : spelled (frame nid dir (l - 23) ++ body) ≡ num 8 nid ++ (num 2 dir ++ (num 13 l ++ spelled body)) = ap (λ (k : ℕ). num 8 nid ++ (num 2 dir ++ (num 13 k ++ spelled body))) same in
+    let one : num 13 l ++ spelled body ≡ part (at + 10) (13 + (l - 23)) xs = ap (λ (x : List Bool). x ++ spelled body) d ∙ ap (λ (x : List Bool). part (at + 10) 13 xs ++ x) (s ∙ ap (λ (k : ℕ). part k (l - 23) xs) (omega arith)) ∙ sym (part-add (at + 10) 13 (l - 23) xs) in
+    let two : num 2 dir ++ (num 13 l ++ spelled body) ≡ part (at + 8) (2 + (13 + (l - 23))) xs = ap (λ (x : List Bool). x ++ (num 13 l ++ spelled body)) b ∙ ap (λ (x : List Bool). part (at + 8) 2 xs ++ x) (one ∙ ap (λ (k : ℕ). part k (13 + (l - 23)) xs) (omega arith)) ∙ sym (part-add (at + 8) 2 (13 + (l - 23)) xs) in
+    let three : num 8 nid ++ (num 2 dir ++ (num 13 l ++ spelled body)) ≡ part at (8 + (2 + (13 + (l - 23)))) xs = ap (λ (x : List Bool). x ++ (num 2 dir ++ (num 13 l ++ spelled body))) a ∙ ap (λ (x : List Bool). part at 8 xs ++ x) two ∙ sym (part-add at 8 (2 + (13 + (l - 23))) xs) in
+    let total : 8 + (2 + (13 + (l - 23))) ≡ l = omega (arith, least) in
+    all ∙ three ∙ ap (λ (k : ℕ). part at k xs) total
 
 -- the bits of a typed packet, from those of its frame and of its row
 pub typed_bits : (nid dir l : ℕ) (row : Layout) (v : PacketValue) (xs : List Bool) (at : ℕ) → row_to ToTrain nid ≡ Some row → IsPacket v → IsTypedOf nid dir v → 23 ≤ l → at + l ≤ length xs
@@ -104,17 +110,9 @@ pub typed_bits : (nid dir l : ℕ) (row : Layout) (v : PacketValue) (xs : List B
     → (spelled (packet_reading v) ≡ part at l xs) × (bits_of v ≡ l)
 typed_bits nid dir l row v xs at e h t least within a b d s =
     let r = variables_of v in
-    let is = typed_by nid dir row v e h t in
     let long : length (spelled r) ≡ l - 23 = ap (λ (x : List Bool). length x) s ∙ length-part (at + 23) (l - 23) xs (omega (arith, least, within)) in
-    let same : 23 + length (spelled r) ≡ l = omega (arith, long, least) in
-    let frame_is : spelled (packet_reading v) ≡ num 8 nid ++ (num 2 dir ++ (num 13 l ++ spelled r)) = ap spelled is ∙ ap (λ (k : ℕ). num 8 nid ++ (num 2 dir ++ (num 13 k ++ spelled r))) same in
-    let one : num 13 l ++ spelled r ≡ part (at + 10) (13 + (l - 23)) xs = ap (λ (x : List Bool). x ++ spelled r) d ∙ ap (λ (x : List Bool). part (at + 10) 13 xs ++ x) (s ∙ ap (λ (k : ℕ). part k (l - 23) xs) (omega arith)) ∙ part_more xs (at + 10) 13 (l - 23) in
-    let two : num 2 dir ++ (num 13 l ++ spelled r) ≡ part (at + 8) (2 + (13 + (l - 23))) xs = ap (λ (x : List Bool). x ++ (num 13 l ++ spelled r)) b ∙ ap (λ (x : List Bool). part (at + 8) 2 xs ++ x) (one ∙ ap (λ (k : ℕ). part k (13 + (l - 23)) xs) (omega arith)) ∙ part_more xs (at + 8) 2 (13 + (l - 23)) in
-    let three : num 8 nid ++ (num 2 dir ++ (num 13 l ++ spelled r)) ≡ part at (8 + (2 + (13 + (l - 23)))) xs = ap (λ (x : List Bool). x ++ (num 2 dir ++ (num 13 l ++ spelled r))) a ∙ ap (λ (x : List Bool). part at 8 xs ++ x) two ∙ part_more xs at 8 (2 + (13 + (l - 23))) in
-    let total : 8 + (2 + (13 + (l - 23))) ≡ l = omega (arith, least) in (
-      frame_is ∙ three ∙ ap (λ (k : ℕ). part at k xs) total,
-      sym (packet_bits v) ∙ ap (λ (x : List Bool). length x) (frame_is ∙ three ∙ ap (λ (k : ℕ). part at k xs) total) ∙ length-part at l xs within,
-    )
+    let bits : spelled (packet_reading v) ≡ part at l xs = ap spelled (typed_by nid dir row v e h t ∙ ap (λ (k : ℕ). frame nid dir k ++ r) long) ∙ frame_bits nid dir l r xs at least a b d s in
+    (bits, sym (packet_bits v) ∙ ap (λ (x : List Bool). length x) bits ∙ length-part at l xs within)
 
 pub typed_piece : (nid dir l : ℕ) (row : Layout) (p : Packet) (xs : List Bool) (at : ℕ) → row_to ToTrain nid ≡ Some row → IsPacket (packet_value p) → IsTypedOf nid dir (packet_value p) → 23 ≤ l → at + l ≤ length xs
     → num 8 nid ≡ part at 8 xs → num 2 dir ≡ part (at + 8) 2 xs → num 13 l ≡ part (at + 10) 13 xs → spelled (variables_of (packet_value p)) ≡ part (at + 23) (l - 23) xs → IsPieceOf p xs at l
@@ -123,10 +121,6 @@ typed_piece nid dir l row p xs at e h t least within a b d s =
     record { bits = both.0; long = both.1; numbered = rw t.0 (typed_number nid row e).0 }
 
 -- ---- By the fields of a reader.
-
-carried_by : (c : Carrier) (v : PacketValue) → IsPacket v → 0 < nid_of v → Carries c v
-carried_by Telegram v h pos = h
-carried_by Message v h pos = (h, pos)
 
 module _ (r : reader.Run) (h : IsRun r) (phase : r.phase ≡ Number) (zero : r.taken ≡ 0) where
   number_at : Reached r.carrier r.start Number r.room r.packets.items [] r.walk [] r.number r.taken
@@ -159,7 +153,7 @@ module _ (r : reader.Run) (h : IsRun r) (phase : r.phase ≡ Number) (zero : r.t
   whole_run p xs at l u is piece inside le left carrier start room count kept packets phase' numbers walk number taken =
       let v = packet_value p in
       let same : bits_of v ≡ l = piece.long in
-      let carried = carried_by r.carrier v is.1 piece.numbered in
+      let carried = framed_carried r.carrier v is.1 piece.numbered in
       let le' : bits_of v ≤ r.room = omega (arith, same, le) in
       let some : (q : Reading) × Run r.carrier (r.room - bits_of v) q = (let s = run_some r.carrier (r.room - l) (omega (arith, number_at.small, number_at.within)) left in rw same s) in
       let reached = packet_reached r.carrier r.start r.room r.packets.items r.walk r.number r.taken number_at p is carried le' some in

@@ -67,7 +67,7 @@ pub carried_packet : (c : Carrier) (v : PacketValue) → Carries c v → IsPacke
 carried_packet Telegram v h = h
 carried_packet Message v h = h.0
 
-framed_carried : (c : Carrier) (v : PacketValue) → IsPacket v → 0 < nid_of v → Carries c v
+pub framed_carried : (c : Carrier) (v : PacketValue) → IsPacket v → 0 < nid_of v → Carries c v
 framed_carried Telegram v h pos = h
 framed_carried Message v h pos = (h, pos)
 

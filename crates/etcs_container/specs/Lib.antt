@@ -3,3 +3,4 @@ pub mod RowParts
 pub mod Phases
 pub mod Spellings
 pub mod Runs
+pub mod Scans

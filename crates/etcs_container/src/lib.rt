@@ -11,9 +11,11 @@ mod phase;
 mod pieces;
 mod rows;
 mod run;
+mod scan;
 mod starts;
 mod whole;
 
 pub use held::Held;
 pub use next::push_next;
 pub use run::{Run, Stop};
+pub use scan::{Refusal, Scan, scan_packets};

@@ -1,0 +1,4 @@
+pub mod Fronts
+pub mod Splits
+pub mod KindBits
+pub mod Samples

@@ -1,0 +1,44 @@
+-- Packets in bytes that aren't copied: each is the bits that it spells (SUBSET-026, 7.4).
+use Rattle.std.specs.Prelude.{◌≡◌, ℕ, zero, suc, Bool, List, [], ◌∷◌, ◌++◌, length, take, drop, map, All, ◌==◌, if◌then◌else◌}
+use Rattle.etcs_bits.specs.Bits.{value, part}
+use Rattle.etcs_vars.specs.Reading.{Reading, spelled}
+use Rattle.etcs_packets.specs.PacketValues.{PacketValue, marker, typed, kept, IsPacket}
+use Rattle.etcs_packets.specs.PacketReadings.{packet_reading, packets_reading}
+
+-- these bits are one packet's
+abbrev pub IsPacketBits : List Bool → Type 0
+IsPacketBits b = (v : PacketValue) × IsPacket v × (spelled (packet_reading v) ≡ b)
+
+-- so many packets one behind the other, and anything behind them
+abbrev pub ArePackets : ℕ → List Bool → Type 0
+ArePackets n b = (vs : List PacketValue) × (c : List Bool) × All IsPacket vs × (length vs ≡ n) × (b ≡ spelled (packets_reading vs) ++ c)
+
+-- the bits of each packet, in order
+abbrev pub spellings : List PacketValue → List (List Bool)
+spellings vs = map (λ v. spelled (packet_reading v)) vs
+
+-- ---- By the lengths that the bits themselves say.
+
+-- how many bits the packet takes that these begin with: packet 0 has no L_PACKET
+abbrev pub bits_ahead : List Bool → ℕ
+bits_ahead b = if value (part 0 8 b) == 0 then 14 else value (part 10 13 b)
+
+-- the bits of each of the first n packets, in order
+abbrev pub refs : ℕ → List Bool → List (List Bool)
+refs zero b = []
+refs (suc n) b = take (bits_ahead b) b ∷ refs n (drop (bits_ahead b) b)
+
+-- these bits begin with a packet
+abbrev pub BeginsWithPacket : List Bool → Type 0
+BeginsWithPacket b = (v : PacketValue) × (c : List Bool) × IsPacket v × (b ≡ spelled (packet_reading v) ++ c)
+
+-- ---- By the kind of the packet.
+
+abbrev pub IsMarkerBits : List Bool → Type 0
+IsMarkerBits b = (n : ℕ) × IsPacket (marker n) × (spelled (packet_reading (marker n)) ≡ b)
+
+abbrev pub IsTypedBits : ℕ → List Bool → Type 0
+IsTypedBits nid b = (dir : ℕ) × (r : Reading) × IsPacket (typed nid dir r) × (spelled (packet_reading (typed nid dir r)) ≡ b)
+
+abbrev pub IsKeptBits : ℕ → List Bool → Type 0
+IsKeptBits nid b = (dir : ℕ) × (body : List Bool) × IsPacket (kept nid dir body) × (spelled (packet_reading (kept nid dir body)) ≡ b)

@@ -1,0 +1,13 @@
+//! Packets in bytes of the caller's, which aren't copied.
+#![tactic(auto)]
+
+mod inside;
+mod kinds;
+mod packet_ref;
+mod packets;
+pub mod parts;
+#[cfg(test)]
+mod tests;
+
+pub use packet_ref::PacketRef;
+pub use packets::Packets;

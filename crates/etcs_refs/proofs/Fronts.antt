@@ -12,7 +12,7 @@ use Rattle.etcs_vars.specs.Reading.{Reading, spelled}
 use Rattle.etcs_vars.specs.Reading as sent
 use Rattle.etcs_vars.proofs.Prefixes.{admits_parts}
 use Rattle.etcs_packets.specs.PacketValues.{PacketValue, marker, typed, kept, nid_of, bits_of, IsPacket}
-use Rattle.etcs_packets.specs.PacketReadings.{packet_reading, packet_bits}
+use Rattle.etcs_packets.specs.PacketReadings.{packet_reading}
 use Rattle.etcs_container.proofs.Typed.{typed_number}
 use Rattle.etcs_container.proofs.Others.{kept_parts, kept_number}
 use Rattle.etcs_refs.specs.Refs.{bits_ahead}
@@ -125,8 +125,3 @@ packet_ahead (marker n) c h =
     ap (λ (k : ℕ). if k == 0 then 14 else value (part 10 13 b)) (marker_number n c)
 packet_ahead (typed nid dir r) c h = frame_ahead nid dir (spelled r) _ (typed_frame nid dir r h) c
 packet_ahead (kept nid dir b) c h = frame_ahead nid dir b _ (kept_frame nid dir b h) c
-
-pub some_packet_bits : (v : PacketValue) → IsPacket v → 14 ≤ length (spelled (packet_reading v))
-some_packet_bits (marker n) h = omega (arith, packet_bits (marker n))
-some_packet_bits (typed nid dir r) h = omega (arith, packet_bits (typed nid dir r))
-some_packet_bits (kept nid dir b) h = omega (arith, packet_bits (kept nid dir b))

@@ -17,12 +17,12 @@ use Rattle.etcs_packets.specs.PacketValues.{PacketValue, marker, typed, kept, ni
 use Rattle.etcs_packets.specs.declared.packet.Packet.{Packet}
 use Rattle.etcs_packets.specs.PacketReadings.{packet_reading, packet_bits}
 use Rattle.etcs_container.specs.Runs.{IsWhole}
-use Rattle.etcs_container.proofs.Agreement.{packet_agree, packet_fit}
+use Rattle.etcs_container.proofs.Agreement.{packet_agree, packet_fit, some_bits}
 use Rattle.etcs_container.proofs.OneSpelling.{packet_same}
 use Rattle.etcs_container.proofs.Typed.{typed_number}
 use Rattle.etcs_container.proofs.Others.{kept_parts, kept_number, kept_untyped}
 use Rattle.etcs_refs.specs.Refs.{IsPacketBits, IsMarkerBits, IsTypedBits, IsKeptBits}
-use Rattle.etcs_refs.proofs.Fronts.{IsFrameOf, framed, some_packet_bits, frame_bits, frame_direction, frame_body, typed_frame, kept_frame, number_between, packet_number}
+use Rattle.etcs_refs.proofs.Fronts.{IsFrameOf, framed, frame_bits, frame_direction, frame_body, typed_frame, kept_frame, number_between, packet_number}
 
 -- bits are of one packet
 pub one_value : (v u : PacketValue) (b : List Bool) → IsPacket v → IsPacket u → spelled (packet_reading v) ≡ b → spelled (packet_reading u) ≡ b → v ≡ u
@@ -35,7 +35,7 @@ pub number_said : (v : PacketValue) (b : List Bool) → IsPacket v → spelled (
 number_said v b h e = ap (λ (t : List Bool). value (part 0 8 t)) (sym e ∙ sym (append-nil (spelled (packet_reading v)))) ∙ packet_number v [] h
 
 pub packet_least : (b : List Bool) → IsPacketBits b → 14 ≤ length b
-packet_least b (v, h, e) = omega (arith, some_packet_bits v h, ap (λ (t : List Bool). length t) e)
+packet_least b (v, h, e) = omega (arith, packet_bits v, some_bits v, ap (λ (t : List Bool). length t) e)
 
 -- a packet that was made of them is the one that they are
 pub same_value : (E : Type 0) (r : Result Packet E) (b c : List Bool) → IfOk r IsWhole → IfOk r (λ p. spelled (packet_reading (packet_value p)) ≡ b) → b ≡ c → IfOk r (λ p. (v : PacketValue) → IsPacket v → spelled (packet_reading v) ≡ c → packet_value p ≡ v)
@@ -49,15 +49,6 @@ row_missed (Some row) e = absurd cc
 -- n is the number of the packet that they are
 abbrev pub SaysNumber : List Bool → ℕ → Type 0
 SaysNumber b n = (v : PacketValue) → IsPacket v → spelled (packet_reading v) ≡ b → n ≡ nid_of v
-
-pub is_marker : (b : List Bool) (n : ℕ) → IsPacketBits b → SaysNumber b n → n ≡ 0 → IsMarkerBits b
-is_marker b n (marker m, h, e) said z = (m, h, e)
-is_marker b n (typed nid dir r, h, e) said z =
-    let (row, f, a, reads, short) = h in
-    absurd (let same = said (typed nid dir r) h e in omega (arith, same, z, (typed_number nid row f).0))
-is_marker b n (kept nid dir s, h, e) said z =
-    let k = kept_number nid (kept_parts nid dir (length s) h).0 in
-    absurd (let same = said (kept nid dir s) h e in omega (arith, same, z, k.0))
 
 pub is_typed : (b : List Bool) (n : ℕ) (row : Layout) → IsPacketBits b → SaysNumber b n → row_to ToTrain n ≡ Some row → IsTypedBits n b
 is_typed b n row (marker m, h, e) said f = absurd (let same = said (marker m) h e in omega (arith, same, (typed_number n row f).0))

@@ -9,8 +9,9 @@ use Rattle.etcs_vars.specs.Reading.{spelled}
 use Rattle.etcs_vars.proofs.Walk.{spelled-append}
 use Rattle.etcs_packets.specs.PacketValues.{PacketValue, marker, typed, kept, IsPacket}
 use Rattle.etcs_packets.specs.PacketReadings.{packet_reading, packets_reading, packet_bits}
+use Rattle.etcs_container.proofs.Agreement.{some_bits}
 use Rattle.etcs_refs.specs.Refs.{IsPacketBits, ArePackets, spellings, bits_ahead, refs, BeginsWithPacket}
-use Rattle.etcs_refs.proofs.Fronts.{packet_number, packet_ahead, some_packet_bits}
+use Rattle.etcs_refs.proofs.Fronts.{packet_number, packet_ahead}
 
 -- the first packet, and what is behind it
 first_packet : (v : PacketValue) (c b : List Bool) → IsPacket v → b ≡ spelled (packet_reading v) ++ c → (bits_ahead b ≡ length (spelled (packet_reading v))) × (take (bits_ahead b) b ≡ spelled (packet_reading v)) × (drop (bits_ahead b) b ≡ c)
@@ -28,7 +29,7 @@ ahead_inside b (v, c, h, e) =
 pub least_ahead : (b : List Bool) → BeginsWithPacket b → 14 ≤ length b
 least_ahead b (v, c, h, e) =
     let all : length b ≡ length (spelled (packet_reading v)) + length c = ap (λ (t : List Bool). length t) e ∙ length-append (spelled (packet_reading v)) c in
-    omega (arith, all, some_packet_bits v h)
+    omega (arith, all, packet_bits v, some_bits v)
 
 -- a packet with a frame takes as many bits as L_PACKET says, and is here
 framed_ahead : (b : List Bool) → BeginsWithPacket b → (value (part 0 8 b) ≡ 0 → ⊥) → 23 ≤ length b

@@ -50,7 +50,8 @@ impl<'a> PacketRef<'a> {
 
     /// The packet's bits, its frame among them: 14 of packet 0, of another as many as L_PACKET says, 23 to 8,191.
     pub fn bits(&self) -> BitSlice<'a>
-        ensures { result ≡ self.now }
+        ensures bits { result ≡ self.now }
+        ensures packet { IsPacketBits self.now }
     {
         cut_in(&self.bits, 0, self.bits.len())
     }

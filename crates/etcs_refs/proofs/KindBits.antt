@@ -20,7 +20,7 @@ use Rattle.etcs_container.specs.Runs.{IsWhole}
 use Rattle.etcs_container.proofs.Agreement.{packet_agree, packet_fit, some_bits}
 use Rattle.etcs_container.proofs.OneSpelling.{packet_same}
 use Rattle.etcs_container.proofs.Typed.{typed_number}
-use Rattle.etcs_container.proofs.Others.{kept_parts, kept_number, kept_untyped}
+use Rattle.etcs_container.proofs.Others.{kept_parts, kept_untyped}
 use Rattle.etcs_refs.specs.Refs.{IsPacketBits, IsMarkerBits, IsTypedBits, IsKeptBits}
 use Rattle.etcs_refs.proofs.Fronts.{IsFrameOf, framed, frame_bits, frame_direction, frame_body, typed_frame, kept_frame, number_between, packet_number}
 

@@ -1,15 +1,14 @@
 -- From one variable to the next of packets in bits that are all there, and what is refused behind them.
-use Rattle.std.proofs.Common.{◌≡◌, ℕ, ◌+◌, ◌-◌, ◌*◌, ◌/◌, ◌^◌, ◌<◌, ◌≤◌, Bool, true, List, [], ◌∷◌, ◌++◌, length, take, drop, refl, sym, ap, subst, ◌∙◌, arith, append_assoc, append-nil, take-add}
-use Rattle.std.proofs.lemmas.List.{take-append-drop, length-append, length-take, length-drop}
-use Rattle.std.proofs.Math.Nat.{div-eq_of_lt}
+use Rattle.std.proofs.Common.{◌≡◌, ℕ, ◌+◌, ◌-◌, ◌*◌, ◌/◌, ◌^◌, ◌<◌, ◌≤◌, Bool, true, List, [], ◌∷◌, ◌++◌, length, take, drop, refl, sym, ap, subst, ◌∙◌, arith, append-nil, take-add}
+use Rattle.std.proofs.lemmas.List.{take-append-drop, length-take, length-drop, take-take}
 use Rattle.etcs_bits.specs.Bits.{num, part}
-use Rattle.etcs_bits.proofs.Numbers.{length-num}
 use Rattle.etcs_vars.specs.declared.var.Var.{Var}
 use Rattle.etcs_vars.specs.Vars.{width}
 use Rattle.etcs_vars.specs.Walking.{Residual, Refuses}
 use Rattle.etcs_vars.specs.Reading.{Reading, Then, spelled, Viable, Owner}
 use Rattle.etcs_vars.proofs.Languages.{Same}
-use Rattle.etcs_vars.proofs.Outcomes.{refuses_longer}
+use Rattle.etcs_vars.proofs.Prefixes.{take-num}
+use Rattle.etcs_vars.proofs.Stepping.{Opens, quotient_below}
 use Rattle.etcs_vars.proofs.Walk.{spelled-append}
 use Rattle.etcs_rows.specs.declared.frames.Carrier.{Carrier}
 use Rattle.etcs_container.specs.declared.phase.Phase.{Phase}
@@ -18,10 +17,7 @@ use Rattle.etcs_container.specs.Phases.{var_at, is_framing, after_at, left_at, i
 use Rattle.etcs_container.specs.Scans.{Front, RefusedBehind, RefusedAt}
 use Rattle.etcs_container.proofs.Agreement.{run_regular}
 use Rattle.etcs_container.proofs.Chains.{lift_refuses}
-use Rattle.etcs_container.proofs.FrameBits.{frame_begins}
-use Rattle.etcs_container.proofs.Lifts.{lift_owner, lift_blocked, then_owner, then_front, owned_short, residual_along, opened}
-use Rattle.etcs_container.proofs.Reaching.{none}
-use Rattle.etcs_container.proofs.Refusals.{frame_refuses}
+use Rattle.etcs_container.proofs.Lifts.{lift_owner, lift_blocked, then_owner, then_front, owned_short, residual_along, opened, starts_owner, starts_blocked}
 use Rattle.etcs_container.proofs.Turns.{residual_same, frame_step}
 
 -- ---- Fronts.
@@ -68,29 +64,18 @@ pub refused_number : (c : Carrier) (room : ℕ) (phase : Phase) (b : List Bool) 
     → RefusedBehind c b (at + width (var_at phase)) (after_at c room phase n) i x → RefusedBehind c b at (left_at c room phase) i x
 refused_number c room phase b at n i x framing more bits le r p f = r (p ++ (var_at phase, n) ∷ []) (front_number c room phase b at n p framing more f bits le)
 
--- with no bits in front
-none_before : (After : ℕ → Reading → Type 0) (w k m : ℕ) → Starts After (w - k) m → Starts After (w - (0 + k)) (0 * 2 ^ k + m)
-none_before After w k m (n, r, e, a) = let rest : w - (0 + k) ≡ w - k = omega arith in (n, r, ap (λ (j : ℕ). n / 2 ^ j) rest ∙ e ∙ (omega arith), a)
-
-before_none : (After : ℕ → Reading → Type 0) (w k m : ℕ) → Starts After (w - (0 + k)) (0 * 2 ^ k + m) → Starts After (w - k) m
-before_none After w k m (n, r, e, a) = let rest : w - k ≡ w - (0 + k) = omega arith in (n, r, ap (λ (j : ℕ). n / 2 ^ j) rest ∙ e ∙ (omega arith), a)
-
--- in it
-pub number_refused : (c : Carrier) (room : ℕ) (phase : Phase) (b : List Bool) (at k n : ℕ) → is_framing phase ≡ true → is_open_at c room phase → ((r : Reading) × left_at c room phase r) → at + width (var_at phase) ≤ length b → n < 2 ^ width (var_at phase) → num (width (var_at phase)) n ≡ part at (width (var_at phase)) b → k < width (var_at phase)
-    → Starts (after_at c room phase) (width (var_at phase) - k) (n / 2 ^ (width (var_at phase) - k))
-    → (Starts (after_at c room phase) (width (var_at phase) - (k + 1)) (n / 2 ^ (width (var_at phase) - (k + 1))) → ⊥)
-    → RefusedBehind c b at (left_at c room phase) (at + k) (var_at phase)
-number_refused c room phase b at k n framing more some le fits bits less before blocked p f =
-    let w = width (var_at phase) in
-    let x = var_at phase in
-    let r = frame_refuses c (length b) room phase framing p f.residual 0 0 (frame_begins c room phase framing more some) w n k (omega arith) fits less (none_before (after_at c room phase) w k (n / 2 ^ (w - k)) before) (λ s. blocked (before_none (after_at c room phase) w (k + 1) (n / 2 ^ (w - (k + 1))) s)) in
-    let front : spelled p ++ num 0 0 ≡ take at b = ap (λ (t : List Bool). spelled p ++ t) (none 0) ∙ append-nil (spelled p) ∙ f.bits in
-    let long : length (take at b) ≡ at = length-take at b ∙ (omega (arith, f.within)) in
-    let here : (spelled p ++ num 0 0) ++ num w n ≡ take at b ++ part at w b = ap (λ (t : List Bool). t ++ num w n) front ∙ ap (λ (t : List Bool). take at b ++ t) bits in
-    let all : (take at b ++ part at w b) ++ drop w (drop at b) ≡ b = append_assoc (take at b) (part at w b) (drop w (drop at b)) ∙ ap (λ (t : List Bool). take at b ++ t) (take-append-drop w (drop at b)) ∙ take-append-drop at b in
-    let r1 : Refuses (Run c (length b)) ((spelled p ++ num 0 0) ++ num w n) (at + k) x = subst (λ (j : ℕ). Refuses (Run c (length b)) ((spelled p ++ num 0 0) ++ num w n) (j + k) x) (ap (λ (t : List Bool). length t) front ∙ long) r in
-    let r2 = refuses_longer (Run c (length b)) ((spelled p ++ num 0 0) ++ num w n) (drop w (drop at b)) (at + k) x r1 in
-    subst (λ (t : List Bool). Refuses (Run c (length b)) t (at + k) x) (ap (λ (t : List Bool). t ++ drop w (drop at b)) here ∙ all) r2
+-- in a variable with which a language begins
+pub variable_refused : (R : Reading → Type 0) (x : Var) (R' : ℕ → Reading → Type 0) → Opens R x R' → (b : List Bool) (k n : ℕ) → k < width x → width x ≤ length b → n < 2 ^ width x → num (width x) n ≡ take (width x) b → Starts R' (width x - k) (n / 2 ^ (width x - k)) → (Starts R' (width x - (k + 1)) (n / 2 ^ (width x - (k + 1))) → ⊥) → Refuses R b k x
+variable_refused R x R' o b k n less inside fits bits before blocked =
+    let w = width x in
+    let front : (j : ℕ) → j ≤ w → num j (n / 2 ^ (w - j)) ≡ take j b = λ j le.
+        (let whole : j + (w - j) ≡ w = omega arith in sym (rw whole at (take-num j (w - j) n)) ∙ ap (take j) bits ∙ take-take j w b le) in
+    let high : (j : ℕ) → j ≤ w → n / 2 ^ (w - j) < 2 ^ j = λ j le. (let whole : j + (w - j) ≡ w = omega arith in quotient_below n j (w - j) (rw whole fits)) in
+    record {
+      within = omega (arith, less, inside);
+      owned = subst (λ (t : List Bool). Owner R t x) (front k (omega (arith, less))) (starts_owner R x R' o k (n / 2 ^ (w - k)) less before);
+      blocked = λ v. starts_blocked R x R' o (k + 1) (n / 2 ^ (w - (k + 1))) (omega (arith, less)) (high (k + 1) (omega (arith, less))) blocked (subst (λ (t : List Bool). Viable R t) (sym (front (k + 1) (omega (arith, less)))) v);
+    }
 
 -- in a language of readings of one length, with another behind it
 pub then_refuses : (P Q : Reading → Type 0) (m : ℕ) → ((a : Reading) → P a → length (spelled a) ≡ m) → ((q : Reading) × Q q) → (b : List Bool) (i : ℕ) (x : Var) → Refuses P b i x → Refuses (Then P Q) b i x
@@ -107,3 +92,12 @@ refused_behind c b at R i x some (k, e, r) p f =
     let long : length (spelled p) + k ≡ i = ap (λ (t : List Bool). length t + k) f.bits ∙ (omega (arith, length-take at b, f.within, e)) in
     let whole : spelled p ++ drop at b ≡ b = ap (λ (t : List Bool). t ++ drop at b) f.bits ∙ take-append-drop at b in
     subst (λ (j : ℕ). Refuses L b j x) long (subst (λ (t : List Bool). Refuses L t (length (spelled p) + k) x) whole all)
+
+-- in a variable of a frame
+pub number_refused : (c : Carrier) (room : ℕ) (phase : Phase) (b : List Bool) (at k n : ℕ) → is_framing phase ≡ true → is_open_at c room phase → ((r : Reading) × left_at c room phase r) → at + width (var_at phase) ≤ length b → n < 2 ^ width (var_at phase) → num (width (var_at phase)) n ≡ part at (width (var_at phase)) b → k < width (var_at phase)
+    → Starts (after_at c room phase) (width (var_at phase) - k) (n / 2 ^ (width (var_at phase) - k))
+    → (Starts (after_at c room phase) (width (var_at phase) - (k + 1)) (n / 2 ^ (width (var_at phase) - (k + 1))) → ⊥)
+    → RefusedBehind c b at (left_at c room phase) (at + k) (var_at phase)
+number_refused c room phase b at k n framing more some le fits bits less before blocked =
+    let r = variable_refused (left_at c room phase) (var_at phase) (after_at c room phase) (frame_step c room phase framing more) (drop at b) k n less (omega (arith, le, length-drop at b)) fits bits before blocked in
+    refused_behind c b at (left_at c room phase) (at + k) (var_at phase) some (k, refl, r)

@@ -7,6 +7,7 @@ mod held;
 mod kept;
 pub mod laws;
 mod next;
+pub mod parts;
 mod phase;
 mod pieces;
 mod rows;

@@ -1,4 +1,4 @@
-//! Parts of a piece that is fed.
+//! Parts of a piece that is fed, and of bits that are all there.
 
 ghost use Rattle.std.specs.Prelude.{◌≡◌, ◌<◌, ◌≤◌, ◌+◌, ◌^◌, length};
 ghost use Rattle.etcs_bits.specs.Bits.{bits, num, part};
@@ -6,7 +6,7 @@ ghost use Rattle.etcs_bits.specs.Bits.{bits, num, part};
 use etcs_bits::{BitSlice, peek};
 
 /// So many bits of a piece, which holds them.
-pub(crate) fn run_at<'a>(piece: &'a [u8], at: usize, count: usize) -> BitSlice<'a>
+pub fn run_at<'a>(piece: &'a [u8], at: usize, count: usize) -> BitSlice<'a>
     requires { at + count ≤ length (bits piece.now) }
     ensures { result ≡ part at count (bits piece.now) }
 {
@@ -17,13 +17,26 @@ pub(crate) fn run_at<'a>(piece: &'a [u8], at: usize, count: usize) -> BitSlice<'
 }
 
 /// So many bits of a piece, which holds them, as a number.
-pub(crate) fn number_at(piece: &[u8], at: usize, count: usize) -> u64
+pub fn number_at(piece: &[u8], at: usize, count: usize) -> u64
     requires width { count ≤ 64 }
     requires inside { at + count ≤ length (bits piece.now) }
     ensures bits { num count result ≡ part at count (bits piece.now) }
     ensures fits { result < 2 ^ count }
 {
     match peek(piece, at, count) {
+        Some(number) => number,
+        None => unreachable!(),
+    }
+}
+
+/// So many bits of a slice, which holds them, as a number.
+pub fn number_in(slice: &BitSlice<'_>, at: usize, count: usize) -> u64
+    requires width { count ≤ 64 }
+    requires inside { at + count ≤ length slice.now }
+    ensures bits { num count result ≡ part at count slice.now }
+    ensures fits { result < 2 ^ count }
+{
+    match slice.number(at, count) {
         Some(number) => number,
         None => unreachable!(),
     }

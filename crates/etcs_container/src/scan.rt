@@ -14,6 +14,7 @@ ghost use Rattle.etcs_container.specs.Phases.{var_at, is_framing, is_open_at, le
 ghost use Rattle.etcs_container.specs.Scans.{RefusedBehind, RefusedAt, WalkStands, RowStep, FrameAt, PacketAt, ClosesAt, Scanned};
 
 use crate::phase::Phase;
+use crate::pieces::number_in;
 use crate::starts::starts;
 use etcs_bits::BitSlice;
 use etcs_rows::parts::{Carrier, take, unfinished, wanted};
@@ -35,19 +36,6 @@ pub struct Scan {
     pub packets: usize,
     /// How many bits they take with packet 255.
     pub end: usize,
-}
-
-/// So many bits of a slice, which holds them, as a number.
-fn number_in(slice: &BitSlice<'_>, at: usize, count: usize) -> u64
-    requires width { count ≤ 64 }
-    requires inside { at + count ≤ length slice.now }
-    ensures bits { num count result ≡ part at count slice.now }
-    ensures fits { result < 2 ^ count }
-{
-    match slice.number(at, count) {
-        Some(number) => number,
-        None => unreachable!(),
-    }
 }
 
 /// How many bits of a frame's variable are taken in front of the first with which no number goes on.

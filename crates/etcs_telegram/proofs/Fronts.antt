@@ -55,19 +55,6 @@ count_more k k' xs is is' e =
 
 -- ---- A part of a list.
 
-pub part_number : (xs : List Bool) (at n number : ℕ) → at + n ≤ length xs → number ≡ value (part at n xs) → num n number ≡ part at n xs
-part_number xs at n number h e =
-    let len = length-part at n xs h in
-    let w : num (length (part at n xs)) (value (part at n xs)) ≡ part at n xs = num-value (part at n xs) in
-    ap (λ m. num n m) e ∙ ap (λ m. num m (value (part at n xs))) (sym len) ∙ w
-
-pub peeked : (xs : List Bool) (at n number : ℕ) (found : Option ℕ) → at + n ≤ length xs → found ≡ number_at at n xs → found ≡ Some number → number ≡ value (part at n xs)
-peeked xs at n number found h e is =
-    let t : leb (at + n) (length xs) ≡ true = le-leb (at + n) (length xs) h in
-    let inside : number_at at n xs ≡ Some (value (part at n xs)) = rw t refl in
-    let same : ◌≡◌ {A = Option ℕ} (Some number) (Some (value (part at n xs))) = sym is ∙ e ∙ inside in
-    cc
-
 pub front_longer : (b xs ys s : List Bool) → IsFront b xs s → IsFront b (xs ++ ys) s
 front_longer b xs ys s (k, le, e) = (k, omega (arith, le, length-append xs ys), e ∙ ap (λ (t : List Bool). b ++ t) (sym (take-append-le k xs ys le)))
 

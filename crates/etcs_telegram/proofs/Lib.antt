@@ -19,3 +19,6 @@ pub mod Examples
 pub mod Filling
 pub mod Rooms
 pub mod Holding
+pub mod HeaderScans
+pub mod Endings
+pub mod Viewing

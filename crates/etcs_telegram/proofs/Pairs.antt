@@ -24,12 +24,12 @@ admitted_none : (vs : List Var) → IsAdmitted (labelled vs [])
 admitted_none [] = tt
 admitted_none (v ∷ vs) = tt
 
-labelled_more : (vs : List Var) (ns : List ℕ) (n : ℕ) → length ns < length vs → labelled vs (ns ++ n ∷ []) ≡ labelled vs ns ++ (get_or vs (length ns) PAD, n) ∷ []
+pub labelled_more : (vs : List Var) (ns : List ℕ) (n : ℕ) → length ns < length vs → labelled vs (ns ++ n ∷ []) ≡ labelled vs ns ++ (get_or vs (length ns) PAD, n) ∷ []
 labelled_more [] ns n h = absurd (omega arith)
 labelled_more (v ∷ vs) [] n h = ap (λ (t : Reading). (v, n) ∷ t) (labelled_none vs)
 labelled_more (v ∷ vs) (m ∷ ns) n h = ap (λ (t : Reading). (v, m) ∷ t) (labelled_more vs ns n (omega arith))
 
-admitted_more : (vs : List Var) (ns : List ℕ) (n : ℕ) → IsAdmitted (labelled vs ns) → length ns < length vs → IsTrue (admits (get_or vs (length ns) PAD) n) → IsAdmitted (labelled vs (ns ++ n ∷ []))
+pub admitted_more : (vs : List Var) (ns : List ℕ) (n : ℕ) → IsAdmitted (labelled vs ns) → length ns < length vs → IsTrue (admits (get_or vs (length ns) PAD) n) → IsAdmitted (labelled vs (ns ++ n ∷ []))
 admitted_more [] ns n a h k = absurd (omega arith)
 admitted_more (v ∷ vs) [] n a h k = (k, admitted_none vs)
 admitted_more (v ∷ vs) (m ∷ ns) n a h k = (a.0, admitted_more vs ns n a.1 (omega arith) k)

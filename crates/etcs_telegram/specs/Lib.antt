@@ -7,3 +7,4 @@ pub mod Courses
 pub mod Readers
 pub mod Stages
 pub mod Holdings
+pub mod Views

@@ -8,17 +8,21 @@ pub mod laws;
 pub mod parts;
 mod phase;
 mod reader;
+mod scan;
 mod size;
 mod step;
 mod telegram;
+mod view;
 
 pub use encode::NoRoom;
 pub use etcs_container::Held;
+pub use etcs_refs::{PacketRef, Packets};
 pub use etcs_vars::{Fed, ReadFault};
 pub use header::Header;
 pub use reader::TelegramReader;
 pub use size::Size;
 pub use telegram::Telegram;
+pub use view::{TelegramView, ViewFault};
 
 #[cfg(test)]
 mod memory_tests;

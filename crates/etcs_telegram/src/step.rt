@@ -11,8 +11,9 @@ use crate::course::{Course, take_number};
 use crate::parts::HEADER_BITS;
 use crate::phase::Phase;
 use etcs_bits::parts::append;
-use etcs_bits::{BitSlice, peek};
+use etcs_bits::BitSlice;
 use etcs_container::Stop;
+use etcs_container::parts::{number_at, run_at};
 use etcs_vars::{Fed, begins};
 
 /// A bit as a number.
@@ -130,30 +131,6 @@ fn push_fill(course: &mut Course, left: usize, slice: &BitSlice<'_>) -> Result<(
             Ok(())
         }
         Err(_) => Err(Stop::Memory),
-    }
-}
-
-/// So many bits of a piece, which holds them.
-fn run_at<'a>(piece: &'a [u8], at: usize, count: usize) -> BitSlice<'a>
-    requires { at + count ≤ length (bits piece.now) }
-    ensures { result ≡ part at count (bits piece.now) }
-{
-    match BitSlice::new(piece, at, count) {
-        Some(slice) => slice,
-        None => unreachable!(),
-    }
-}
-
-/// So many bits of a piece, which holds them, as a number.
-fn number_at(piece: &[u8], at: usize, count: usize) -> u64
-    requires width { count ≤ 64 }
-    requires inside { at + count ≤ length (bits piece.now) }
-    ensures bits { num count result ≡ part at count (bits piece.now) }
-    ensures fits { result < 2 ^ count }
-{
-    match peek(piece, at, count) {
-        Some(number) => number,
-        None => unreachable!(),
     }
 }
 

@@ -3,7 +3,7 @@ use Rattle.etcs_bits.specs.Bits.{part, value}
 use Rattle.etcs_bits.proofs.Numbers.{value_below}
 use Rattle.etcs_bits.proofs.Lists.{length-part}
 use Rattle.etcs_container.proofs.PieceParts.{peeked, part_number}
-use Rattle.etcs_container.proofs.scan.number_in.Goals as goal
+use Rattle.etcs_container.proofs.pieces.number_in.Goals as goal
 
 pub returns-clause-bits : goal.returns-clause-bits
 returns-clause-bits c =

@@ -1,0 +1,108 @@
+//! A telegram in bytes of the caller's.
+
+ghost use Rattle.std.specs.Prelude.{◌≡◌, ◌≢◌, ◌↔◌, ℕ, length, Err, IfOk};
+ghost use Rattle.etcs_bits.specs.Bits.{bits};
+ghost use Rattle.etcs_vars.specs.Walking.{Refuses};
+ghost use Rattle.etcs_refs.specs.Refs.{spellings};
+ghost use Rattle.etcs_telegram.specs.Telegrams.{TelegramValue, TelegramLanguage, container_bytes};
+ghost use Rattle.etcs_telegram.specs.Views.{Sees};
+
+use crate::header::Header;
+use crate::parts::HEADER_BITS;
+use crate::scan::scan_telegram;
+use crate::size::Size;
+use etcs_bits::BitSlice;
+use etcs_container::parts::run_at;
+use etcs_refs::Packets;
+use etcs_refs::parts::packets;
+use etcs_vars::Var;
+use std::marker::Model;
+
+/// Why bytes aren't a telegram.
+#[derive(Clone, Copy, Debug, PartialEq, Eq)]
+pub enum ViewFault {
+    /// They aren't as many as a telegram of this size takes: 27 or 104.
+    Length,
+    /// No telegram begins with the bits up to this one, counted from 0, which is in this variable.
+    Refused { bit: usize, var: Var },
+}
+
+/// A balise telegram in bytes of the caller's (SUBSET-026, 8; the user bits: SUBSET-036): nothing of it is copied but
+/// the header's numbers, and no memory is taken.
+#[derive(Debug, Drop)]
+pub struct TelegramView<'a> {
+    bytes: &'a [u8],
+    size: Size,
+    header: Header,
+    /// How many packets there are.
+    packets: usize,
+    /// How many bits stand in front of FILL.
+    end: usize,
+}
+
+impl<'a> Model for TelegramView<'a> {
+    ghost use Rattle.etcs_bits.specs.Bits.{bits};
+    ghost use Rattle.etcs_telegram.specs.Views.{ViewValue, ViewIn};
+
+    ghost Value = { ViewValue };
+
+    ghost view = { λ v. record { bytes = v.bytes.now; size = v.size } };
+
+    ghost invariant = { λ v. ViewIn v.size (bits v.bytes.now) v.header v.packets v.end };
+}
+
+impl<'a> TelegramView<'a> {
+    /// A view of the telegram that these bytes are. Takes no memory.
+    ///
+    /// # Errors
+    ///
+    /// [`ViewFault::Length`] where they aren't 27 or 104 bytes, as the size asks; else [`ViewFault::Refused`] with the
+    /// first bit with which no telegram goes on and the variable that holds it, as `TelegramReader::feed` answers.
+    pub fn new(bytes: &'a [u8], size: Size) -> Result<TelegramView<'a>, ViewFault>
+        ensures length { (result ≡ Err ViewFault.Length) ↔ (length bytes.now ≢ container_bytes size) }
+        ensures bytes { IfOk result (λ v. (v.bytes ≡ bytes.now) × (v.size ≡ size)) }
+        ensures ok { IfOk result (λ v. (t : TelegramValue) × Sees v t) }
+        ensures refused { (bit : ℕ) (var : Var) → result ≡ Err (ViewFault.Refused bit var) → Refuses (TelegramLanguage size) (bits bytes.now) bit var }
+    {
+        if bytes.len() != size.container_bytes() {
+            return Err(ViewFault::Length);
+        }
+        match scan_telegram(size, &run_at(bytes, 0, bytes.len() * 8)) {
+            Ok(scanned) => Ok(TelegramView {
+                bytes,
+                size,
+                header: scanned.header,
+                packets: scanned.packets,
+                end: scanned.end,
+            }),
+            Err(refusal) => Err(ViewFault::Refused {
+                bit: refusal.bit,
+                var: refusal.var,
+            }),
+        }
+    }
+
+    /// The header.
+    pub fn header(&self) -> Header
+        ensures { (t : TelegramValue) → Sees self.now t → result ≡ t.header }
+    {
+        self.header
+    }
+
+    /// The packets, in order, without packet 255: each is a slice of the bytes.
+    pub fn packets(&self) -> Packets<'a>
+        ensures { (t : TelegramValue) → Sees self.now t → result ≡ spellings t.packets }
+    {
+        packets(
+            run_at(self.bytes, HEADER_BITS, self.size.packet_room()),
+            self.packets,
+        )
+    }
+
+    /// The bits of FILL.
+    pub fn fill(&self) -> BitSlice<'a>
+        ensures { (t : TelegramValue) → Sees self.now t → result ≡ t.fill }
+    {
+        run_at(self.bytes, self.end, self.size.user_bits() - self.end)
+    }
+}

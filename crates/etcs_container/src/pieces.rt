@@ -1,7 +1,7 @@
 //! Parts of a piece that is fed, and of bits that are all there.
 
 ghost use Rattle.std.specs.Prelude.{◌≡◌, ◌<◌, ◌≤◌, ◌+◌, ◌^◌, length};
-ghost use Rattle.etcs_bits.specs.Bits.{bits, num, part};
+ghost use Rattle.etcs_bits.specs.Bits.{bits, num, value, part};
 
 use etcs_bits::{BitSlice, peek};
 
@@ -33,11 +33,23 @@ pub fn number_at(piece: &[u8], at: usize, count: usize) -> u64
 pub fn number_in(slice: &BitSlice<'_>, at: usize, count: usize) -> u64
     requires width { count ≤ 64 }
     requires inside { at + count ≤ length slice.now }
+    ensures value { result ≡ value (part at count slice.now) }
     ensures bits { num count result ≡ part at count slice.now }
     ensures fits { result < 2 ^ count }
 {
     match slice.number(at, count) {
         Some(number) => number,
+        None => unreachable!(),
+    }
+}
+
+/// So many bits of a slice, which holds them.
+pub fn cut_in<'a>(slice: &BitSlice<'a>, from: usize, len: usize) -> BitSlice<'a>
+    requires { from + len ≤ length slice.now }
+    ensures { result ≡ part from len slice.now }
+{
+    match slice.cut(from, len) {
+        Some(cut) => cut,
         None => unreachable!(),
     }
 }

@@ -8,8 +8,8 @@ ghost use Rattle.etcs_packets.specs.PacketReadings.{packet_reading};
 ghost use Rattle.etcs_container.specs.Runs.{IsWhole};
 ghost use Rattle.etcs_refs.specs.Refs.{IsMarkerBits, IsTypedBits, IsKeptBits};
 
-use crate::inside::{cut_in, number_in};
 use etcs_bits::{BitSlice, Bits};
+use etcs_container::parts::{cut_in, number_in};
 use etcs_packets::parts::{from_bits, holds};
 use etcs_packets::{Other, Packet};
 use std::alloc::{AllocError, Global};

@@ -1,7 +1,6 @@
 //! Packets in bytes of the caller's, which aren't copied.
 #![tactic(auto)]
 
-mod inside;
 mod kinds;
 mod packet_ref;
 mod packets;

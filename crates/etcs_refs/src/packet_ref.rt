@@ -7,9 +7,9 @@ ghost use Rattle.etcs_packets.specs.PacketReadings.{packet_reading};
 ghost use Rattle.etcs_container.specs.Runs.{IsWhole};
 ghost use Rattle.etcs_refs.specs.Refs.{IsPacketBits};
 
-use crate::inside::{cut_in, number_in};
 use crate::kinds::{kept_packet, marker_packet, typed_packet};
 use etcs_bits::BitSlice;
+use etcs_container::parts::{cut_in, number_in};
 use etcs_packets::Packet;
 use etcs_rows::{Way, row_of};
 use std::alloc::{AllocError, Global};

@@ -4,9 +4,9 @@ ghost use Rattle.std.specs.Prelude.{◌≡◌, ◌≤◌, length};
 ghost use Rattle.std.specs.Iterator.{YieldsFirst, item_count};
 ghost use Rattle.etcs_refs.specs.Refs.{BeginsWithPacket, ArePackets, bits_ahead, refs};
 
-use crate::inside::{cut_in, number_in};
 use crate::packet_ref::PacketRef;
 use etcs_bits::BitSlice;
+use etcs_container::parts::{cut_in, number_in};
 use std::marker::Model;
 
 /// The packets in a telegram's or a message's bytes, in order (SUBSET-026, 7.4). They are read from these bytes one by

@@ -32,3 +32,5 @@ mod packet_tests;
 mod reader_tests;
 #[cfg(test)]
 mod tests;
+#[cfg(test)]
+mod view_tests;

@@ -10,7 +10,7 @@ use std::process::Abort;
 use std::test::Fail;
 
 /// A short telegram's bytes: six of a header, these, bytes of ones, and a last one.
-fn short(packets: &[u8], last: u8) -> [u8; 27]
+pub(crate) fn short(packets: &[u8], last: u8) -> [u8; 27]
     requires { length packets.now ≤ 20 }
 {
     let mut bytes = [0xFF; 27];

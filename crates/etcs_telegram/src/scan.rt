@@ -18,7 +18,7 @@ use crate::phase::Phase;
 use crate::size::Size;
 use arrayvec::ArrayVec;
 use etcs_bits::BitSlice;
-use etcs_container::parts::number_in;
+use etcs_container::parts::{cut_in, number_in};
 use etcs_container::{Refusal, scan_packets};
 use etcs_vars::{Var, begins};
 
@@ -107,17 +107,6 @@ fn scan_pad(size: Size, bits: &BitSlice<'_>) -> Result<(), Refusal>
         at += 1;
     }
     Ok(())
-}
-
-/// So many of these bits, which hold them.
-fn cut_in<'a>(bits: &BitSlice<'a>, from: usize, len: usize) -> BitSlice<'a>
-    requires { from + len ≤ length bits.now }
-    ensures { result ≡ part from len bits.now }
-{
-    match bits.cut(from, len) {
-        Some(slice) => slice,
-        None => unreachable!(),
-    }
 }
 
 /// The telegram of these bits.

@@ -6,4 +6,4 @@ pub number_in-requires-clause-inside : goal.number_in-requires-clause-inside
 number_in-requires-clause-inside c = omega (arith, packet_least c.self.inside.bits c.self.invariant)
 
 pub returns : goal.returns
-returns c = λ v h e. c.number_in.ensures.number ∙ number_said v c.self.inside.bits h (e ∙ sym c.self.view_is)
+returns c = λ v h e. c.number_in.ensures.value ∙ number_said v c.self.inside.bits h (e ∙ sym c.self.view_is)

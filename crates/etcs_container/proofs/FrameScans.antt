@@ -9,6 +9,7 @@ use Rattle.etcs_bits.specs.Bits.{num, part}
 use Rattle.etcs_bits.proofs.Lists.{length-part, part-add}
 use Rattle.etcs_vars.specs.declared.var.Var.{Var}
 use Rattle.etcs_vars.specs.declared.var.Var.TheVariants.{NID_PACKET, Q_DIR, OTHER_DATA}
+use Rattle.etcs_vars.specs.Vars.{admits}
 use Rattle.etcs_vars.specs.Walking.{Residual}
 use Rattle.etcs_vars.specs.Reading.{Reading, Then, spelled, kept}
 use Rattle.etcs_vars.proofs.Languages.{Same, Then-same, same_self, same_along}
@@ -17,6 +18,7 @@ use Rattle.etcs_rows.specs.declared.row.Way.TheVariants.{ToTrain}
 use Rattle.etcs_rows.specs.declared.frames.Carrier.{Carrier}
 use Rattle.etcs_rows.specs.declared.frames.Carrier.TheVariants.{Telegram, Message}
 use Rattle.etcs_rows.specs.Layouts.{Layout, ReadsIn, items}
+use Rattle.etcs_rows.specs.Frames.{may_be_left}
 use Rattle.etcs_rows.specs.Rows.{row_to}
 use Rattle.etcs_rows.proofs.LengthLemmas.{length-sent}
 use Rattle.etcs_packets.specs.PacketValues as packets
@@ -28,11 +30,13 @@ use Rattle.etcs_container.specs.declared.scan.Refusal.{Refusal}
 use Rattle.etcs_container.specs.Scans.{Front, RefusedAt, RefusedBehind, FrameAt, PacketAt, ClosesAt, Scanned}
 use Rattle.etcs_container.proofs.Agreement.{some_bits}
 use Rattle.etcs_container.proofs.BodyBegins.{kept_of}
+use Rattle.etcs_container.proofs.Fits.{run_some}
 use Rattle.etcs_container.proofs.KeptRuns.{spelled_kept}
 use Rattle.etcs_container.proofs.Others.{kept_fault}
 use Rattle.etcs_container.proofs.Packets.{behind_packet, frame_bits}
 use Rattle.etcs_container.proofs.RunSteps.{number_step, framed_carried, both_length}
 use Rattle.etcs_container.proofs.Scanning.{front_more, refused_same, refused_number, refused_behind, then_refuses}
+use Rattle.etcs_container.proofs.Typed.{typed_number}
 use Rattle.etcs_container.proofs.Turns.{behind_length, behind_direction, behind_zero, behind_framed, typed_body}
 
 -- ---- Room.
@@ -174,6 +178,12 @@ framed_by c b at nid l f number pos (inr (k, (bs, len, e))) =
 
 pub framed_packet : (c : Carrier) (b : List Bool) (at nid l : ℕ) → FrameAt c b at nid l → num 8 nid ≡ part at 8 b → 0 < nid → (v : PacketValue) × PacketAt c b at l v
 framed_packet c b at nid l f number pos = framed_by c b at nid l f number pos f.body_in
+
+-- a typed packet whose row was read
+pub whole_packet : (c : Carrier) (b : List Bool) (at nid dir l : ℕ) (row : Layout) → row_to ToTrain nid ≡ Some row → num 8 nid ≡ part at 8 b → IsTrue (admits Q_DIR dir) → num 2 dir ≡ part (at + 8) 2 b → 23 ≤ l → l < 2 ^ 13 → num 13 l ≡ part (at + 10) 13 b → at + l ≤ length b → length b ≤ 8191 → IsTrue (may_be_left ToTrain c (length b - at - l)) → ((q : Reading) × ReadsIn row (l - 23) q × (spelled q ≡ part (at + 23) (l - 23) b)) → (v : PacketValue) × PacketAt c b at l v
+whole_packet c b at nid dir l row typed number directed direction least most long inside small left (q, reads, bits) =
+    let room : length b - at - l ≡ length b - (at + l) = omega arith in
+    framed_packet c b at nid l (record { dir = dir; body = q; directed = directed; least = least; most = most; room = inside; direction_bits = direction; length_bits = long; body_in = inl (row, typed, reads); body_bits = bits; behind = run_some c (length b - (at + l)) (omega (arith, small)) (rw room at left) }) number (typed_number nid row typed).0
 
 -- ---- One behind the other.
 

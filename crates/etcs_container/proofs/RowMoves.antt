@@ -42,7 +42,7 @@ open_if true x mid o e = let same : x ≡ mid = cc in (refl, subst Open same o, 
 open_if false x mid o e = absurd cc
 
 -- what is left behind a number is whole or begins with a variable, and each of its guards looks where it may
-open_after : (left mid : Layout) (n : ℕ) → IsTrue (looks None left) → after_number left n ≡ Some mid → Open mid × IsTrue (looks None mid)
+pub open_after : (left mid : Layout) (n : ℕ) → IsTrue (looks None left) → after_number left n ≡ Some mid → Open mid × IsTrue (looks None mid)
 open_after whole mid n look e = absurd cc
 open_after (one v rest) mid n look e =
     let t = open_if (admits v n) (onto n rest whole) mid (Open-onto n rest whole tt) e in

@@ -16,9 +16,10 @@ ghost use Rattle.etcs_container.specs.Scans.{RefusedBehind, RefusedAt, WalkStand
 use crate::phase::Phase;
 use crate::pieces::number_in;
 use crate::starts::starts;
+use crate::whole::may_be_left;
 use etcs_bits::BitSlice;
 use etcs_rows::parts::{Carrier, take, unfinished, wanted};
-use etcs_rows::{Row, RowWalk, Stopped, Way, row_of};
+use etcs_rows::{Place, Row, RowWalk, Stopped, Way, row_of};
 use etcs_vars::Var;
 
 /// The first bit that is refused, and the variable that holds it.
@@ -170,6 +171,62 @@ fn scan_frame(
     Ok(len)
 }
 
+/// Whether these bits are a row's, tried from variable to variable.
+fn row_reads(slice: &BitSlice<'_>, at: usize, row: Row, len: usize) -> bool
+    requires inside { at + len ≤ length slice.now }
+    requires small { length slice.now ≤ 8191 }
+    ensures { IsTrue result → (q : Reading) × ReadsIn (layout row.items.now) len q × (spelled q ≡ part at len slice.now) }
+{
+    let end = at + len;
+    let mut place = Place::start(row);
+    let mut here = at;
+    while here < end {
+        let Some(var) = place.var() else {
+            return false;
+        };
+        let count = var.width();
+        if count > end - here {
+            return false;
+        }
+        let Some(next) = place.after(number_in(slice, here, count)) else {
+            return false;
+        };
+        place = next;
+        here += count;
+    }
+    match place.var() {
+        Some(_) => false,
+        None => true,
+    }
+}
+
+/// The length of the typed packet that begins at `at`, where it is one and may stand there. No lengths are worked out.
+fn whole_at(carrier: Carrier, slice: &BitSlice<'_>, at: usize) -> Option<usize>
+    requires small { length slice.now ≤ 8191 }
+    requires within { at ≤ length slice.now }
+    ensures { IfSome result (λ l. (v : PacketValue) × PacketAt carrier slice.now at l v) }
+{
+    let room = slice.len() - at;
+    if room < 23 {
+        return None;
+    }
+    let Some(row) = row_of(Way::ToTrain, number_in(slice, at, 8) as u8) else {
+        return None;
+    };
+    let len = number_in(slice, at + 10, 13) as usize;
+    if len < 23 || len > room || !may_be_left(carrier, room - len) {
+        return None;
+    }
+    if !Var::Q_DIR.admits(number_in(slice, at + 8, 2)) {
+        return None;
+    }
+    if row_reads(slice, at + 23, row, len - 23) {
+        Some(len)
+    } else {
+        None
+    }
+}
+
 /// Walks over the packet that begins at `at`, and says how many bits it has; `None` where it is packet 255.
 fn scan_packet(
     carrier: Carrier,
@@ -184,6 +241,9 @@ fn scan_packet(
     ensures closed { IfOk result (λ o. IsNone o → ClosesAt carrier slice.now at) }
     ensures refused { IfErr result (λ e. RefusedBehind carrier slice.now at (contents.Run carrier (length slice.now - at)) e.bit e.var) }
 {
+    if let Some(len) = whole_at(carrier, slice, at) {
+        return Ok(Some(len));
+    }
     let room = slice.len() - at;
     let nid = scan_number(carrier, Phase::Number, room, slice, at)? as u8;
     if nid == 255 {

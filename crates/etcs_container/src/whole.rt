@@ -20,7 +20,7 @@ use etcs_rows::{Way, row_of};
 use std::alloc::{AllocError, Global};
 
 /// Whether so many bits may be left behind a packet.
-fn may_be_left(carrier: Carrier, left: usize) -> bool
+pub(crate) fn may_be_left(carrier: Carrier, left: usize) -> bool
     ensures { result ≡ may_be_left ToTrain carrier left }
 {
     match carrier {

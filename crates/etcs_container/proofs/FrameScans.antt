@@ -1,5 +1,5 @@
 -- Whole packets in bits that are all there.
-use Rattle.std.proofs.Common.{◌≡◌, ℕ, suc, ◌+◌, ◌-◌, ◌^◌, ◌<◌, ◌≤◌, Bool, List, [], ◌∷◌, ◌++◌, length, take, Some, None, Ok, Err, refl, sym, ap, subst, ◌∙◌, arith, append_assoc, append-nil, inl, inr, take-add}
+use Rattle.std.proofs.Common.{◌≡◌, ℕ, ◌+◌, ◌-◌, ◌^◌, ◌<◌, ◌≤◌, Bool, List, [], ◌∷◌, ◌++◌, length, take, Some, None, Ok, Err, refl, sym, ap, subst, ◌∙◌, arith, append-nil, inl, inr, take-add}
 use Rattle.std.specs.Prelude.{IsTrue, All, Option, Result, OnOk}
 use Rattle.std.specs.Option.{option_map}
 use Rattle.std.proofs.lemmas.List.{length-append, length-take}
@@ -16,7 +16,7 @@ use Rattle.etcs_vars.proofs.Languages.{Same, Then-same, same_self, same_along}
 use Rattle.etcs_vars.proofs.Walk.{spelled-append}
 use Rattle.etcs_rows.specs.declared.row.Way.TheVariants.{ToTrain}
 use Rattle.etcs_rows.specs.declared.frames.Carrier.{Carrier}
-use Rattle.etcs_rows.specs.declared.frames.Carrier.TheVariants.{Telegram, Message}
+use Rattle.etcs_rows.specs.declared.frames.Carrier.TheVariants.{Telegram}
 use Rattle.etcs_rows.specs.Layouts.{Layout, ReadsIn, items}
 use Rattle.etcs_rows.specs.Frames.{may_be_left}
 use Rattle.etcs_rows.specs.Rows.{row_to}
@@ -24,7 +24,7 @@ use Rattle.etcs_rows.proofs.LengthLemmas.{length-sent}
 use Rattle.etcs_packets.specs.PacketValues as packets
 use Rattle.etcs_packets.specs.PacketValues.{PacketValue, bits_of, IsPacket}
 use Rattle.etcs_packets.specs.PacketReadings.{frame, packet_reading, packets_reading, packet_bits}
-use Rattle.etcs_container.specs.Contents.{closing, Carries, Run, RunOf, BodyIn, BodyLeft, AfterLength, AfterDirection, AfterNumber, AfterMarker, DirectionLeft, LengthLeft, MarkerLeft, IsOpen}
+use Rattle.etcs_container.specs.Contents.{closing, Carries, Run, BodyIn, BodyLeft, AfterLength, AfterDirection, AfterNumber, AfterMarker, DirectionLeft, LengthLeft, MarkerLeft, IsOpen}
 use Rattle.etcs_container.specs.declared.phase.Phase.TheVariants.{Number, Direction, Length}
 use Rattle.etcs_container.specs.declared.scan.Refusal.{Refusal}
 use Rattle.etcs_container.specs.Scans.{Front, RefusedAt, RefusedBehind, FrameAt, PacketAt, ClosesAt, Scanned}

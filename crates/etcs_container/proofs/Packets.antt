@@ -1,11 +1,11 @@
 -- A packet that is taken at once.
-use Rattle.std.proofs.Common.{◌≡◌, ℕ, ◌+◌, ◌-◌, ◌<◌, ◌≤◌, Bool, List, [], ◌∷◌, ◌++◌, length, map, take, drop, Option, Some, None, refl, sym, ap, subst, ◌∙◌, arith, append_assoc, append-nil, inl, inr, take-add}
+use Rattle.std.proofs.Common.{◌≡◌, ℕ, ◌+◌, ◌-◌, ◌≤◌, Bool, List, [], ◌∷◌, ◌++◌, length, map, Option, Some, None, refl, sym, ap, subst, ◌∙◌, arith, append-nil}
 use Rattle.std.specs.Prelude.{IsTrue}
 use Rattle.std.proofs.lemmas.List.{take_at, length-append}
 use Rattle.std.proofs.lemmas.List.Elements.{All-head}
 use Rattle.etcs_bits.specs.Bits.{num, part}
 use Rattle.etcs_bits.proofs.Lists.{length-part, part-add}
-use Rattle.etcs_vars.specs.declared.var.Var.TheVariants.{NID_PACKET, Q_DIR, L_PACKET}
+use Rattle.etcs_vars.specs.declared.var.Var.TheVariants.{NID_PACKET}
 use Rattle.etcs_vars.specs.Walking.{Residual}
 use Rattle.etcs_vars.specs.Reading.{Reading, spelled, Viable}
 use Rattle.etcs_vars.proofs.Apart.{apart, cut}
@@ -25,7 +25,7 @@ use Rattle.etcs_container.specs.declared.phase.Phase.TheVariants.{Number}
 use Rattle.etcs_container.specs.declared.run.Run as reader
 use Rattle.etcs_container.specs.declared.run.Stop.TheVariants.{Memory}
 use Rattle.etcs_rows.specs.Frames.{may_be_left}
-use Rattle.etcs_container.specs.Contents.{closing, Carries, Run, RunOf}
+use Rattle.etcs_container.specs.Contents.{Carries, Run, RunOf}
 use Rattle.etcs_container.specs.Phases.{next_phase}
 use Rattle.etcs_container.specs.Runs.{IsRun, IsWhole, IsPieceOf, Reached, StopsIn, seen, seen_by}
 use Rattle.etcs_container.proofs.Agreement.{packet_agree, packet_fit, numbered}

@@ -1,26 +1,26 @@
 -- A walk over a row of which all bits are there.
-use Rattle.std.proofs.Common.{◌≡◌, ℕ, ◌+◌, ◌-◌, ◌^◌, ◌<◌, ◌≤◌, Bool, true, List, [], ◌∷◌, ◌++◌, length, take, drop, Option, Some, None, Ok, Err, inl, inr, refl, sym, ap, subst, ◌∙◌, arith, append_assoc, append-nil}
-use Rattle.std.specs.Prelude.{IsTrue, Result, ◌⊎◌}
-use Rattle.std.proofs.lemmas.List.{take-append-drop, length-append, length-take, length-drop, take-take, drop-drop, nil_from_length}
+use Rattle.std.proofs.Common.{◌≡◌, ℕ, ◌+◌, ◌-◌, ◌<◌, ◌≤◌, Bool, List, [], ◌∷◌, ◌++◌, length, take, drop, Some, None, Ok, Err, inl, inr, refl, sym, ap, subst, ◌∙◌, arith, append-nil}
+use Rattle.std.specs.Prelude.{IsTrue, Result}
+use Rattle.std.proofs.lemmas.List.{take-append-drop, length-append, length-take, length-drop, take-take, drop-drop}
 use Rattle.etcs_bits.specs.Bits.{num, part}
 use Rattle.etcs_bits.proofs.Lists.{length-part, part-add}
 use Rattle.etcs_bits.proofs.Numbers.{length-num}
 use Rattle.etcs_vars.specs.declared.var.Var.{Var}
 use Rattle.etcs_vars.specs.Vars.{width}
 use Rattle.etcs_vars.specs.Walking.{Refuses}
-use Rattle.etcs_vars.specs.Reading.{Reading, spelled, InLanguage, Viable, Owner}
+use Rattle.etcs_vars.specs.Reading.{Reading, spelled, Viable, Owner}
 use Rattle.etcs_vars.proofs.Walk.{spelled-append}
 use Rattle.etcs_rows.specs.declared.walk.Step.{Step}
 use Rattle.etcs_rows.specs.declared.walk.Step.TheVariants.{More, Number, Whole}
 use Rattle.etcs_rows.specs.declared.walk.Stopped.{Stopped}
-use Rattle.etcs_rows.specs.declared.walk.Stopped.TheVariants.{Refused, Ended}
+use Rattle.etcs_rows.specs.declared.walk.Stopped.TheVariants.{Refused}
 use Rattle.etcs_rows.specs.Layouts.{Layout, whole, one, guarded, counted, looks, is_sound, Reads, ReadsIn, Lengths}
 use Rattle.etcs_rows.specs.Places.{first_variable, after_number}
 use Rattle.etcs_rows.specs.Walks.{WalkValue, language, ReadTo, Walks}
 use Rattle.etcs_rows.proofs.LengthLemmas.{length-sent}
 use Rattle.etcs_rows.proofs.PlaceLemmas.{Open}
 use Rattle.etcs_rows.proofs.WholeWalks.{walks_whole, back}
-use Rattle.etcs_container.specs.RowParts.{GoesOn, Passes, Moved}
+use Rattle.etcs_container.specs.RowParts.{GoesOn, Moved}
 use Rattle.etcs_container.specs.Scans.{RefusedAt, WalkStands, RowStep}
 use Rattle.etcs_container.proofs.Chains.{lift_refuses}
 use Rattle.etcs_container.proofs.BodyBegins.{open_row, some_bits}
@@ -169,8 +169,7 @@ read_refused row len b at here i x w sound inside r (k, e, refused) =
     let all = lift_refuses (ReadsIn row len) (ReadsIn w.left w.len) q (λ t y o. (row_as t).owner y o) (λ t none v. none ((row_as t).viable.0 v)) (drop here b) k x refused in
     let long : length (spelled q) ≡ here - at = ap (λ (t : List Bool). length t) r.bits ∙ length-part at (here - at) b (omega (arith, r.from, r.left, inside)) in
     let from : at + (here - at) ≡ here = omega (arith, r.from) in
-    let same : spelled q ++ drop here b ≡ drop at b = ap (λ (t : List Bool). t ++ drop here b) r.bits ∙ ap (λ (t : List Bool). part at (here - at) b ++ t) (ap (λ (j : ℕ). drop j b) (sym from) ∙ sym (drop-drop (here - at) at b)) ∙ take-append-drop (here - at) (drop at b) in
-    (
+    let same : spelled q ++ drop here b ≡ drop at b = ap (λ (t : List Bool). t ++ drop here b) r.bits ∙ ap (λ (t : List Bool). part at (here - at) b ++ t) (ap (λ (j : ℕ). drop j b) (sym from) ∙ sym (drop-drop (here - at) at b)) ∙ take-append-drop (here - at) (drop at b) in (
       here - at + k,
       omega (arith, e, from),
       subst (λ (t : List Bool). Refuses (ReadsIn row len) t (here - at + k) x) same (subst (λ (j : ℕ). Refuses (ReadsIn row len) (spelled q ++ drop here b) (j + k) x) long all),

@@ -1,5 +1,5 @@
 -- From one variable to the next of packets in bits that are all there, and what is refused behind them.
-use Rattle.std.proofs.Common.{◌≡◌, ℕ, ◌+◌, ◌-◌, ◌*◌, ◌/◌, ◌^◌, ◌<◌, ◌≤◌, Bool, true, List, [], ◌∷◌, ◌++◌, length, take, drop, refl, sym, ap, subst, ◌∙◌, arith, append-nil, take-add}
+use Rattle.std.proofs.Common.{◌≡◌, ℕ, ◌+◌, ◌-◌, ◌/◌, ◌^◌, ◌<◌, ◌≤◌, Bool, true, List, [], ◌∷◌, ◌++◌, length, take, drop, refl, sym, ap, subst, ◌∙◌, arith, append-nil, take-add}
 use Rattle.std.proofs.lemmas.List.{take-append-drop, length-take, length-drop, take-take}
 use Rattle.etcs_bits.specs.Bits.{num, part}
 use Rattle.etcs_vars.specs.declared.var.Var.{Var}
@@ -69,7 +69,7 @@ pub variable_refused : (R : Reading → Type 0) (x : Var) (R' : ℕ → Reading 
 variable_refused R x R' o b k n less inside fits bits before blocked =
     let w = width x in
     let front : (j : ℕ) → j ≤ w → num j (n / 2 ^ (w - j)) ≡ take j b = λ j le.
-        (let whole : j + (w - j) ≡ w = omega arith in sym (rw whole at (take-num j (w - j) n)) ∙ ap (take j) bits ∙ take-take j w b le) in
+    (let whole : j + (w - j) ≡ w = omega arith in sym (rw whole at (take-num j (w - j) n)) ∙ ap (take j) bits ∙ take-take j w b le) in
     let high : (j : ℕ) → j ≤ w → n / 2 ^ (w - j) < 2 ^ j = λ j le. (let whole : j + (w - j) ≡ w = omega arith in quotient_below n j (w - j) (rw whole fits)) in
     record {
       within = omega (arith, less, inside);

@@ -1,5 +1,5 @@
 -- Packets in bits that are all there.
-use Rattle.std.specs.Prelude.{◌≡◌, ℕ, ◌+◌, ◌-◌, ◌^◌, ◌<◌, ◌≤◌, Bool, List, [], ◌++◌, length, take, drop, ◌⊎◌, IsTrue, All, Some, None}
+use Rattle.std.specs.Prelude.{◌≡◌, ℕ, ◌+◌, ◌-◌, ◌^◌, ◌<◌, ◌≤◌, Bool, List, [], ◌++◌, length, take, drop, ◌⊎◌, IsTrue}
 use Rattle.etcs_bits.specs.Bits.{num, part}
 use Rattle.etcs_vars.specs.declared.var.Var.{Var}
 use Rattle.etcs_vars.specs.declared.var.Var.TheVariants.{Q_DIR}
@@ -8,7 +8,7 @@ use Rattle.etcs_vars.specs.Walking.{Residual, Refuses}
 use Rattle.etcs_vars.specs.Reading.{Reading, spelled}
 use Rattle.etcs_rows.specs.declared.frames.Carrier.{Carrier}
 use Rattle.etcs_rows.specs.declared.frames.Carrier.TheVariants.{Telegram}
-use Rattle.etcs_rows.specs.Layouts.{Layout, whole}
+use Rattle.etcs_rows.specs.Layouts.{whole}
 use Rattle.etcs_rows.specs.Walks.{WalkValue}
 use Rattle.etcs_packets.specs.PacketValues.{PacketValue, bits_of}
 use Rattle.etcs_packets.specs.PacketReadings.{packet_reading, packets_reading}

@@ -152,12 +152,7 @@ fn scan_body(
 }
 
 /// Walks over the rest of the packet of this number that begins at `at`, and says how many bits it has.
-fn scan_frame(
-    carrier: Carrier,
-    nid: u8,
-    slice: &BitSlice<'_>,
-    at: usize,
-) -> Result<usize, Refusal>
+fn scan_frame(carrier: Carrier, nid: u8, slice: &BitSlice<'_>, at: usize) -> Result<usize, Refusal>
     requires small { length slice.now ≤ 8191 }
     requires within { at ≤ length slice.now }
     requires goes_on { (r : Reading) × DirectionLeft carrier nid (length slice.now - at) r }
@@ -228,11 +223,7 @@ fn whole_at(carrier: Carrier, slice: &BitSlice<'_>, at: usize) -> Option<usize>
 }
 
 /// Walks over the packet that begins at `at`, and says how many bits it has; `None` where it is packet 255.
-fn scan_packet(
-    carrier: Carrier,
-    slice: &BitSlice<'_>,
-    at: usize,
-) -> Result<Option<usize>, Refusal>
+fn scan_packet(carrier: Carrier, slice: &BitSlice<'_>, at: usize) -> Result<Option<usize>, Refusal>
     requires small { length slice.now ≤ 8191 }
     requires within { at ≤ length slice.now }
     requires more { IsOpen carrier (length slice.now - at) }

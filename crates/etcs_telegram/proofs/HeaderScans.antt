@@ -11,8 +11,8 @@ use Rattle.etcs_vars.specs.declared.var.Var.TheVariants.{PAD}
 use Rattle.etcs_vars.specs.Vars.{width, ranges, admits, inside, begins}
 use Rattle.etcs_vars.specs.Walking.{Residual, Refuses}
 use Rattle.etcs_vars.specs.Reading.{Reading, spelled}
-use Rattle.etcs_vars.proofs.Prefixes.{admits_parts, admits_from, ranges_ordered, some_number, begins_from}
-use Rattle.etcs_vars.proofs.Stepping.{Opens, Tested, ranges_tested, quotient_below}
+use Rattle.etcs_vars.proofs.Prefixes.{admits_parts, admits_from, ranges_ordered, some_number}
+use Rattle.etcs_vars.proofs.Stepping.{Tested, ranges_tested, quotient_below}
 use Rattle.etcs_vars.proofs.Walk.{spelled-append}
 use Rattle.etcs_container.proofs.Chains.{lift_refuses}
 use Rattle.etcs_container.proofs.Lifts.{lift_owner, lift_blocked}
@@ -23,12 +23,12 @@ use Rattle.etcs_telegram.specs.declared.phase.Phase.{Phase}
 use Rattle.etcs_telegram.specs.declared.phase.Phase.TheVariants.{Header, Packets}
 use Rattle.etcs_telegram.specs.Telegrams.{header_row, TelegramLanguage}
 use Rattle.etcs_telegram.specs.Headers.{labelled, IsHeaderNumbers}
-use Rattle.etcs_telegram.specs.Phases.{var_at, after, Left, PacketsLeft}
+use Rattle.etcs_telegram.specs.Phases.{after, Left, PacketsLeft}
 use Rattle.etcs_telegram.specs.Reached.{Reached}
 use Rattle.etcs_telegram.specs.Views.{Unadmitted}
 use Rattle.etcs_telegram.proofs.Ends.{reached_start}
 use Rattle.etcs_telegram.proofs.Pairs.{labelled_more}
-use Rattle.etcs_telegram.proofs.PhaseSteps.{Phased, phased_opens, phased_tested, phase_steps, left_read}
+use Rattle.etcs_telegram.proofs.PhaseSteps.{phased_opens, phased_tested, phase_steps, left_read}
 use Rattle.etcs_telegram.proofs.Reaching.{Onward, reached_number}
 use Rattle.etcs_telegram.proofs.Rows.{widths}
 use Rattle.etcs_telegram.proofs.Spellings.{regular}
@@ -114,8 +114,8 @@ module _ (b : List Bool) (ns : List ℕ) (at : ℕ) (h : HeaderRead b ns at) (mo
       let p = admits_parts next n a in
       let len : length (ns ++ n ∷ []) ≡ k + 1 = length-append ns (n ∷ []) in
       let reached : (size : Size) → Reached size (at_header (length (ns ++ n ∷ []))) (ns ++ n ∷ []) [] [] 0 0 = λ size.
-          (let r = reached_number size (Header k) ns [] [] 0 0 (header_at size) refl n p.0 p.1 in
-          subst (λ (x : Phase). Reached size x (ns ++ n ∷ []) [] [] 0 0) (after_header size k more ∙ ap at_header (sym len)) r) in
+      (let r = reached_number size (Header k) ns [] [] 0 0 (header_at size) refl n p.0 p.1 in
+      subst (λ (x : Phase). Reached size x (ns ++ n ∷ []) [] [] 0 0) (after_header size k more ∙ ap at_header (sym len)) r) in
       let e = labelled_more header_row ns n more in
       let both : spelled (labelled header_row (ns ++ n ∷ [])) ≡ take (at + width next) b =
       ap spelled e ∙ spelled-append (labelled header_row ns) ((next, n) ∷ []) ∙ ap (λ (t : List Bool). t ++ spelled ((next, n) ∷ [])) h.bits ∙ ap (λ (t : List Bool). take at b ++ t) (append-nil (num (width next) n) ∙ bits) ∙ sym (take-add at (width next) b) in

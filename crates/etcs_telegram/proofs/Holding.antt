@@ -1,31 +1,25 @@
 -- What a reader of telegrams holds.
-use Rattle.std.proofs.Common.{◌≡◌, ℕ, ◌+◌, ◌-◌, ◌^◌, ◌<◌, Bool, true, false, List, [], ◌++◌, length, map, refl, sym, ap, subst, ◌∙◌, arith, append_assoc, append-nil, inl, inr}
-use Rattle.std.specs.Prelude.{Option, Some, None, replicate}
+use Rattle.std.proofs.Common.{◌≡◌, ℕ, ◌-◌, ◌^◌, ◌<◌, Bool, true, false, List, [], ◌++◌, length, refl, sym, ap, subst, ◌∙◌, arith, append_assoc, inl, inr}
+use Rattle.std.specs.Prelude.{Option, Some, None}
 use Rattle.std.specs.Option.{is_some}
 use Rattle.etcs_bits.specs.Bits.{num}
 use Rattle.etcs_bits.proofs.Numbers.{length-num}
-use Rattle.etcs_vars.specs.declared.var.Var.{Var}
-use Rattle.etcs_vars.specs.declared.var.Var.TheVariants.{FILL, PAD}
 use Rattle.etcs_vars.specs.Vars.{width}
-use Rattle.etcs_vars.specs.Reading.{Reading, spelled, kept, Owner}
+use Rattle.etcs_vars.specs.Reading.{Reading, spelled, Owner}
 use Rattle.etcs_vars.proofs.Walk.{begins_with, spelled-append}
 use Rattle.etcs_rows.specs.declared.frames.Carrier.{Carrier}
 use Rattle.etcs_rows.specs.declared.frames.Carrier.TheVariants as carrier
 use Rattle.etcs_packets.specs.declared.packet.Packet.{Packet}
-use Rattle.etcs_packets.specs.PacketValues.{packet_value}
-use Rattle.etcs_packets.specs.PacketReadings.{packets_reading}
-use Rattle.etcs_container.specs.declared.run.Run as run
 use Rattle.etcs_container.specs.Contents.{Run}
-use Rattle.etcs_container.specs.Phases.{is_closed}
 use Rattle.etcs_container.specs.Runs as runs
 use Rattle.etcs_container.proofs.Ended.{run_holds, run_begun, run_front}
 use Rattle.etcs_telegram.specs.declared.size.Size.{Size}
 use Rattle.etcs_telegram.specs.declared.phase.Phase.{Phase}
-use Rattle.etcs_telegram.specs.declared.phase.Phase.TheVariants.{Header, Packets, Fill, Pad, Whole}
+use Rattle.etcs_telegram.specs.declared.phase.Phase.TheVariants.{Header, Packets, Fill, Pad}
 use Rattle.etcs_telegram.specs.declared.course.Course.{Course}
-use Rattle.etcs_telegram.specs.Telegrams.{header_row, closed_reading, packet_room, pad_bits, TelegramLanguage}
+use Rattle.etcs_telegram.specs.Telegrams.{header_row, packet_room, pad_bits, TelegramLanguage}
 use Rattle.etcs_telegram.specs.Headers.{labelled}
-use Rattle.etcs_telegram.specs.Phases.{var_at, is_going, is_own, is_packets, so_far, behind_header}
+use Rattle.etcs_telegram.specs.Phases.{var_at, is_going, is_own, is_packets, so_far}
 use Rattle.etcs_telegram.specs.Reached.{Reached, seen}
 use Rattle.etcs_telegram.specs.Courses.{packets_of, seen_by, IsCourse}
 use Rattle.etcs_container.specs.declared.run.Stop.{Stop}
@@ -36,7 +30,7 @@ use Rattle.etcs_telegram.proofs.Feeding.{going_stage}
 use Rattle.etcs_telegram.proofs.Spellings.{regular}
 use Rattle.etcs_telegram.proofs.PhaseSteps.{left_read}
 use Rattle.etcs_telegram.proofs.Reaching.{reached_owner}
-use Rattle.etcs_telegram.proofs.CourseSteps.{own_seen, base, own_owner}
+use Rattle.etcs_telegram.proofs.CourseSteps.{own_seen, base}
 use Rattle.etcs_telegram.proofs.Packeted.{at_packets, packets_owner, fill_some}
 
 -- every telegram that begins with the bits of whole variables and more begins with them, where one does

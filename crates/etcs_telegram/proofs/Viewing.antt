@@ -1,9 +1,8 @@
 -- A telegram in bits that are all there.
-use Rattle.std.proofs.Common.{◌≡◌, ℕ, ◌+◌, ◌-◌, ◌<◌, ◌≤◌, Bool, false, List, [], ◌∷◌, ◌++◌, length, take, drop, map, replicate, refl, sym, ap, subst, ◌∙◌, arith, append-nil, append_assoc, take-add}
-use Rattle.std.specs.Prelude.{All, IsTrue}
-use Rattle.std.proofs.lemmas.List.{take-append-drop, length-append, length-take, length-drop, length-replicate, take_all, take_at, take-take, drop-drop}
+use Rattle.std.proofs.Common.{◌≡◌, ℕ, ◌+◌, ◌-◌, ◌≤◌, Bool, false, List, [], ◌++◌, length, take, drop, replicate, refl, sym, ap, subst, ◌∙◌, arith, append-nil, append_assoc, take-add}
+use Rattle.std.proofs.lemmas.List.{take-append-drop, length-append, length-take, length-drop, take_all, take_at, drop-drop}
 use Rattle.etcs_bits.specs.Bits.{num, part}
-use Rattle.etcs_bits.proofs.Lists.{length-part, part-add, part-part, part-append_right, part-append_left}
+use Rattle.etcs_bits.proofs.Lists.{length-part, part-part, part-append_right}
 use Rattle.etcs_vars.specs.declared.var.Var.{Var}
 use Rattle.etcs_vars.specs.declared.var.Var.TheVariants.{FILL, PAD}
 use Rattle.etcs_vars.specs.Walking.{Residual, Refuses}
@@ -12,7 +11,7 @@ use Rattle.etcs_vars.proofs.Apart.{apart}
 use Rattle.etcs_vars.proofs.Outcomes.{refuses_longer}
 use Rattle.etcs_vars.proofs.Walk.{spelled-append}
 use Rattle.etcs_rows.specs.declared.frames.Carrier.TheVariants as carrier
-use Rattle.etcs_packets.specs.PacketValues.{PacketValue, IsPacket}
+use Rattle.etcs_packets.specs.PacketValues.{PacketValue}
 use Rattle.etcs_packets.specs.PacketReadings.{packets_reading}
 use Rattle.etcs_container.specs.Contents.{closing, Run, RunOf}
 use Rattle.etcs_container.specs.Scans.{Scanned}
@@ -21,7 +20,7 @@ use Rattle.etcs_refs.specs.Refs.{ArePackets}
 use Rattle.etcs_telegram.specs.declared.size.Size.{Size}
 use Rattle.etcs_telegram.specs.declared.view.ViewFault.{ViewFault}
 use Rattle.etcs_telegram.specs.declared.view.ViewFault.TheVariants.{Refused}
-use Rattle.etcs_telegram.specs.Telegrams.{header_row, header_of, header_reading, HeaderParts, TelegramValue, TelegramReads, TelegramLanguage, ReadsAs, closed_reading, IsAdmitted, user_bits, pad_bits, packet_room}
+use Rattle.etcs_telegram.specs.Telegrams.{header_row, header_of, header_reading, HeaderParts, TelegramValue, TelegramLanguage, ReadsAs, closed_reading, user_bits, pad_bits, packet_room}
 use Rattle.etcs_telegram.specs.Headers.{labelled, IsHeaderNumbers}
 use Rattle.etcs_telegram.specs.Phases.{PacketsLeft, PadLeft, FillLeft}
 use Rattle.etcs_telegram.specs.Courses.{container_bits}
@@ -133,12 +132,15 @@ module _ (size : Size) (b : List Bool) (long : length b ≡ container_bits size)
         record {
           telegram = t;
           reading = r;
-          reads = (refl, record {
-            header_admitted = (let a = numbers.admitted in rw is at a);
-            packets_hold = λ i d lt. scanned.run.carried i d lt;
-            reading_is = refl;
-            user_bits_is = omega (arith, header_length (header_of ns), closed_long, fill_long, end_inside, room_more size);
-          });
+          reads = (
+            refl,
+            record {
+              header_admitted = (let a = numbers.admitted in rw is at a);
+              packets_hold = λ i d lt. scanned.run.carried i d lt;
+              reading_is = refl;
+              user_bits_is = omega (arith, header_length (header_of ns), closed_long, fill_long, end_inside, room_more size);
+            },
+          );
           bits = ap (λ (q : Reading). spelled (((q ++ c) ++ kept FILL f) ++ z)) (sym is) ∙ whole;
           header_is = refl;
           packets_are = scanned.counted;
@@ -191,8 +193,7 @@ module _ (size : Size) (b : List Bool) (header : HeaderParts) (packets end : ℕ
       let z = replicate (pad_bits v.telegram.size) false in
       let closed : spelled (closed_reading v.telegram.packets) ≡ p ++ e = spelled-append (packets_reading v.telegram.packets) (closing carrier.Telegram) in
       let whole : b ≡ h ++ ((p ++ (e ++ f)) ++ z) = seen_parts ∙ ap (λ (u : List Bool). ((h ++ u) ++ f) ++ z) closed ∙ ap (λ (u : List Bool). u ++ z) (append_assoc h (p ++ e) f ∙ ap (λ (u : List Bool). h ++ u) (append_assoc p e f)) ∙ append_assoc h (p ++ (e ++ f)) z in
-      let n : length (p ++ (e ++ f)) ≡ packet_room size = (let q = ap (λ (u : List Bool). length u) closed in omega (arith, length-append p (e ++ f), length-append e f, length-append p e, q, v.end_is, seen_end.0, room_more size)) in
-      (
+      let n : length (p ++ (e ++ f)) ≡ packet_room size = (let q = ap (λ (u : List Bool). length u) closed in omega (arith, length-append p (e ++ f), length-append e f, length-append p e, q, v.end_is, seen_end.0, room_more size)) in (
         e ++ f,
         ap (λ (u : List Bool). part 50 (packet_room size) u) whole ∙ part-append_right h ((p ++ (e ++ f)) ++ z) 50 0 (packet_room size) (omega (arith, header_length v.telegram.header)) ∙ take_at (p ++ (e ++ f)) z (packet_room size) n,
       )

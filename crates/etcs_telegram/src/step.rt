@@ -10,8 +10,8 @@ ghost use Rattle.etcs_telegram.specs.Courses.{IsCourse, seen_by, StopsIn, StopsB
 use crate::course::{Course, take_number};
 use crate::parts::HEADER_BITS;
 use crate::phase::Phase;
-use etcs_bits::parts::append;
 use etcs_bits::BitSlice;
+use etcs_bits::parts::append;
 use etcs_container::Stop;
 use etcs_container::parts::{number_at, run_at};
 use etcs_vars::{Fed, begins};

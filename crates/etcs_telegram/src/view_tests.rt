@@ -136,17 +136,26 @@ fn another_number_of_bytes(rt: HostRuntime) {
     assert_eq!(rt; fault(&[], Size::Short), Some(ViewFault::Length));
     assert_eq!(rt; fault(&[0xA0; 26], Size::Short), Some(ViewFault::Length));
     assert_eq!(rt; fault(&long, Size::Short), Some(ViewFault::Length));
-    assert_eq!(rt; fault(&short(&[], 0xC0), Size::Long), Some(ViewFault::Length));
+    assert_eq!(rt;
+        fault(&short(&[], 0xC0), Size::Long),
+        Some(ViewFault::Length)
+    );
 }
 
 #[test]
 fn a_view_is_refused(rt: HostRuntime) {
     let refused = |bit: usize, var: Var| Some(ViewFault::Refused { bit, var });
-    assert_eq!(rt; fault(&short(&[], 0xC1), Size::Short), refused(215, Var::PAD));
+    assert_eq!(rt;
+        fault(&short(&[], 0xC1), Size::Short),
+        refused(215, Var::PAD)
+    );
     let twelve = short(&[0xC3, 0x20, 0x25], 0xC0);
     assert_eq!(rt; fault(&twelve, Size::Short), refused(71, Var::L_PACKET));
     let linking = short(&[0xC1, 0x60, 0x36, 0x20, 0xFA, 0x20], 0xC0);
-    assert_eq!(rt; fault(&linking, Size::Short), refused(90, Var::Q_NEWCOUNTRY));
+    assert_eq!(rt;
+        fault(&linking, Size::Short),
+        refused(90, Var::Q_NEWCOUNTRY)
+    );
     let room = short(&[0xCB, 0x20, 0x4C, 0x80], 0xC0);
     assert_eq!(rt; fault(&room, Size::Short), refused(72, Var::L_PACKET));
 }
@@ -157,8 +166,18 @@ fn reader_and_view_agree(rt: HostRuntime) -> Result<(), Fail> {
     agree(&rt, alloc, &short(&[], 0xC1), Size::Short)?;
     agree(&rt, alloc, &short(&[0xC0, 0x03], 0xC0), Size::Short)?;
     agree(&rt, alloc, &short(&[0xC3, 0x20, 0x25], 0xC0), Size::Short)?;
-    agree(&rt, alloc, &short(&[0xE2, 0x50, 0x0C, 0x7F], 0xC0), Size::Short)?;
-    agree(&rt, alloc, &short(&[0xCB, 0x20, 0x4C, 0x80], 0xC0), Size::Short)?;
+    agree(
+        &rt,
+        alloc,
+        &short(&[0xE2, 0x50, 0x0C, 0x7F], 0xC0),
+        Size::Short,
+    )?;
+    agree(
+        &rt,
+        alloc,
+        &short(&[0xCB, 0x20, 0x4C, 0x80], 0xC0),
+        Size::Short,
+    )?;
     let linking = [0xC1, 0x60, 0x36, 0x20, 0xFA, 0x20];
     agree(&rt, alloc, &short(&linking, 0xC0), Size::Short)?;
     let mut zeros = [
@@ -193,7 +212,10 @@ fn each_bit_turned(rt: HostRuntime) {
         match said_of(bit) {
             Some((bit, var)) => {
                 assert_eq!(rt; fed, Err(ReadFault::Refused { bit, var }));
-                assert_eq!(rt; fault(&turned, Size::Short), Some(ViewFault::Refused { bit, var }));
+                assert_eq!(rt;
+                    fault(&turned, Size::Short),
+                    Some(ViewFault::Refused { bit, var })
+                );
             }
             None => {
                 assert_eq!(rt; fed, Ok(Fed::Done { taken: 27 }));

@@ -15,8 +15,7 @@ starts-requires-clause-fits c =
 pub loop-taken-preserved : goal.loop-taken-preserved
 loop-taken-preserved c =
     let wide : c.width-width.result ≡ width (var_at c.args.phase) = c.width-width.ensures ∙ ap width c.var.ensures in
-    let yes = c.starts.ensures.0 c.if-not-starts.false in
-    (
+    let yes = c.starts.ensures.0 c.if-not-starts.false in (
       omega (arith, wide, c.loop-taken-test.true),
       subst (λ w. Starts (after_at c.args.carrier c.args.room c.args.phase) (w - (c.loop-taken.taken + 1)) (c.args.number / 2 ^ (w - (c.loop-taken.taken + 1)))) wide yes,
     )

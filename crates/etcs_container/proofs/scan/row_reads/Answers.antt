@@ -1,8 +1,7 @@
-use Rattle.std.proofs.Common.{◌≡◌, ◌+◌, ◌-◌, ◌≤◌, ℕ, sym, ap, subst, ◌∙◌, arith}
-use Rattle.std.specs.Prelude.{IsTrue}
+use Rattle.std.proofs.Common.{◌≡◌, ◌+◌, ◌-◌, ◌≤◌, ℕ, sym, subst, ◌∙◌, arith}
 use Rattle.etcs_bits.specs.Bits.{num, part}
 use Rattle.etcs_vars.specs.Vars.{width}
-use Rattle.etcs_rows.specs.Layouts.{layout, looks}
+use Rattle.etcs_rows.specs.Layouts.{layout}
 use Rattle.etcs_rows.proofs.PlaceLemmas.{sound_parts}
 use Rattle.etcs_container.proofs.RowMoves.{open_after}
 use Rattle.etcs_container.proofs.RowScans.{PlaceRead, place_more, place_whole}

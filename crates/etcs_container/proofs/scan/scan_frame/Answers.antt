@@ -1,4 +1,3 @@
-use Rattle.std.proofs.Common.{◌+◌, ◌-◌, length}
 use Rattle.std.proofs.lemmas.Result.{err_from_is_err_and}
 use Rattle.etcs_container.proofs.FrameScans.{length_refused, direction_refused, frame_at}
 use Rattle.etcs_container.proofs.scan.scan_frame.Goals as goal

@@ -1,4 +1,4 @@
-use Rattle.std.proofs.Common.{◌≡◌, ◌+◌, ◌-◌, length, arith}
+use Rattle.std.proofs.Common.{◌-◌, length, arith}
 use Rattle.std.proofs.lemmas.Result.{err_from_is_err_and}
 use Rattle.etcs_container.proofs.FrameScans.{run_room, marker_refused, frame_refused, marker_packet, framed_packet, framed_number}
 use Rattle.etcs_container.proofs.scan.scan_packet.Goals as goal

@@ -1,4 +1,4 @@
-use Rattle.std.proofs.Common.{◌≡◌, ◌+◌, length, refl, arith}
+use Rattle.std.proofs.Common.{length, refl, arith}
 use Rattle.etcs_container.proofs.FrameScans.{closed_run, passed_none, passed_more, passed_closed, passed_inside, passed_few}
 use Rattle.etcs_container.proofs.scan.scan_packets.Goals as goal
 

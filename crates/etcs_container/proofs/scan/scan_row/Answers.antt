@@ -1,7 +1,5 @@
-use Rattle.std.proofs.Common.{◌≡◌, ◌+◌, length, arith}
 use Rattle.std.proofs.lemmas.Result.{err_from_is_err_and}
-use Rattle.std.specs.Prelude.{IsTrue}
-use Rattle.etcs_rows.specs.Layouts.{layout, looks}
+use Rattle.etcs_rows.specs.Layouts.{layout}
 use Rattle.etcs_rows.proofs.PlaceLemmas.{sound_parts}
 use Rattle.etcs_container.proofs.RowScans.{read_none, read_more, read_refused, read_whole}
 use Rattle.etcs_container.proofs.scan.scan_row.Goals as goal

@@ -1,7 +1,7 @@
-use Rattle.std.proofs.Common.{◌≡◌, ◌+◌, List, Bool, ℕ, length, Ok, Err, sym, ap, subst, ◌∙◌, arith}
+use Rattle.std.proofs.Common.{◌≡◌, ℕ, length, Err, sym, ap, subst, ◌∙◌, arith}
 use Rattle.std.specs.Prelude.{Result}
 use Rattle.std.proofs.lemmas.List.{length-drop}
-use Rattle.etcs_bits.specs.Bits.{num, part}
+use Rattle.etcs_bits.specs.Bits.{part}
 use Rattle.etcs_bits.proofs.Lists.{length-part}
 use Rattle.etcs_bits.proofs.Numbers.{length-num}
 use Rattle.etcs_vars.specs.Vars.{width}

@@ -1,5 +1,5 @@
-use Rattle.std.proofs.Common.{◌+◌, ◌-◌, ap, ◌∙◌}
-use Rattle.etcs_bits.specs.Bits.{bits, part}
+use Rattle.std.proofs.Common.{◌∙◌}
+use Rattle.etcs_bits.specs.Bits.{bits}
 use Rattle.etcs_rows.specs.declared.row.Way.TheVariants.{ToTrain}
 use Rattle.etcs_rows.specs.Layouts.{layout}
 use Rattle.etcs_rows.specs.Rows.{row_to}

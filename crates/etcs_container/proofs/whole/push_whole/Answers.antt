@@ -1,8 +1,8 @@
-use Rattle.std.proofs.Common.{◌≡◌, ◌+◌, ◌-◌, ◌<◌, ◌++◌, length, drop, refl, sym, ap, subst, ◌∙◌, arith}
-use Rattle.etcs_bits.specs.Bits.{bits, part}
+use Rattle.std.proofs.Common.{◌≡◌, ◌+◌, drop, refl, sym, ap, subst, ◌∙◌, arith}
+use Rattle.etcs_bits.specs.Bits.{bits}
 use Rattle.etcs_container.specs.declared.run.Run as reader
 use Rattle.etcs_container.specs.declared.run.Stop.TheVariants as stop
-use Rattle.etcs_container.specs.Runs.{IsRun, seen_by, StopsIn}
+use Rattle.etcs_container.specs.Runs.{IsRun, seen_by}
 use Rattle.etcs_container.proofs.Packets.{whole_count, whole_run, whole_starved}
 use Rattle.etcs_container.proofs.whole.push_whole.Goals as goal
 

@@ -1,12 +1,10 @@
-use Rattle.std.proofs.Common.{◌≡◌, ◌+◌, List, Bool, ℕ, length, sym, ap, subst, ◌∙◌, arith}
-use Rattle.std.proofs.lemmas.Bool.{leb-true}
+use Rattle.std.proofs.Common.{◌≡◌, ◌+◌, List, Bool, length, sym, ap, subst, ◌∙◌, arith}
 use Rattle.etcs_bits.specs.Bits.{part}
 use Rattle.etcs_bits.proofs.Lists.{length-part}
 use Rattle.etcs_vars.specs.Walking.{Refuses}
 use Rattle.etcs_rows.specs.declared.frames.Carrier.TheVariants as carrier
 use Rattle.etcs_container.specs.Contents.{Run}
 use Rattle.etcs_container.specs.Scans.{Scanned}
-use Rattle.etcs_packets.specs.PacketValues.{PacketValue}
 use Rattle.etcs_telegram.specs.Telegrams.{HeaderParts, packet_room, header_of}
 use Rattle.etcs_telegram.specs.Views.{ViewIn}
 use Rattle.etcs_telegram.proofs.Encoding.{room_more}

@@ -1,7 +1,9 @@
 //! Telegrams where memory is refused.
 
+ghost use Rattle.std.specs.Prelude.{◌≤◌};
+
 use crate::tests::{one, sample};
-use crate::{ReadFault, Size, Telegram, TelegramReader};
+use crate::{Fed, ReadFault, Size, Telegram, TelegramReader, TelegramView};
 use etcs_packets::Packet;
 use etcs_vars::BuildFault;
 use std::alloc::{AllocError, Global};
@@ -49,11 +51,14 @@ fn short(packets: [u8; 4]) -> [u8; 27] {
     bytes
 }
 
-/// How many bits a reader accepted that was refused memory.
-fn starved(rt: &impl Abort, alloc: Global, bytes: &[u8; 27]) -> Result<usize, Fail> {
+/// How many bits a reader accepted that was refused memory behind so many bytes.
+fn starved(rt: &impl Abort, alloc: Global, bytes: &[u8; 27], at: usize) -> Result<usize, Fail>
+    requires { at ≤ 27 }
+{
     let mut reader = TelegramReader::new(alloc, Size::Short);
+    assert_eq!(rt; reader.feed(&bytes[..at]), Ok(Fed::More));
     let held = starve(alloc)?;
-    let fed = reader.feed(bytes);
+    let fed = reader.feed(&bytes[at..]);
     drop(held);
     assert_eq!(rt; fed, Err(ReadFault::Memory));
     assert_eq!(rt; reader.feed(&[]), Err(ReadFault::Memory));
@@ -65,10 +70,46 @@ fn starved(rt: &impl Abort, alloc: Global, bytes: &[u8; 27]) -> Result<usize, Fa
 fn packets_without_memory(rt: HostRuntime) -> Result<(), Fail> {
     // Packet 0, packet 44 with a kept bit, packet 137.
     let marker = short([0xC0, 0x03, 0xFF, 0xFF]);
-    assert_eq!(rt; starved(&rt, rt.alloc(), &marker)?, 58);
+    assert_eq!(rt; starved(&rt, rt.alloc(), &marker, 0)?, 58);
     let kept = short([0xCB, 0x20, 0x0C, 0x7F]);
-    assert_eq!(rt; starved(&rt, rt.alloc(), &kept)?, 73);
+    assert_eq!(rt; starved(&rt, rt.alloc(), &kept, 0)?, 73);
     let typed = short([0xE2, 0x50, 0x0C, 0x7F]);
-    assert_eq!(rt; starved(&rt, rt.alloc(), &typed)?, 50);
+    assert_eq!(rt; starved(&rt, rt.alloc(), &typed, 0)?, 50);
+    Ok(())
+}
+
+/// Packet 5 with one further link, of 108 bits: its last variable stands in byte 19.
+static LINKS: [u8; 27] = [
+    0xA0, 0x00, 0x7F, 0x80, 0x20, 0x00, 0xC1, 0x50, 0x36, 0x20, 0xFA, 0x00, 0x02, 0x93, 0x02, 0x0F,
+    0xA0, 0x00, 0x29, 0x33, 0xFF, 0xFF, 0xFF, 0xFF, 0xFF, 0xFF, 0xC0,
+];
+
+#[test]
+fn rows_without_memory(rt: HostRuntime) -> Result<(), Fail> {
+    // The first number of packet 137 behind its frame, and packet 5 once its last number is there.
+    let stop = short([0xE2, 0x50, 0x0C, 0x7F]);
+    assert_eq!(rt; starved(&rt, rt.alloc(), &stop, 9)?, 73);
+    assert_eq!(rt; starved(&rt, rt.alloc(), &LINKS, 19)?, 152);
+    Ok(())
+}
+
+/// The number of a view's first packet, and whether it is made.
+fn seen(alloc: Global, bytes: &[u8; 27]) -> Option<(u8, bool)> {
+    let view = TelegramView::new(bytes, Size::Short).ok()?;
+    let packet = view.packets().next()?;
+    let made = packet.to_packet(alloc);
+    Some((packet.nid(), made.is_ok()))
+}
+
+#[test]
+fn a_view_without_memory(rt: HostRuntime) -> Result<(), Fail> {
+    let kept = short([0xCB, 0x20, 0x0C, 0x7F]);
+    let held = starve(rt.alloc())?;
+    let of_kept = seen(rt.alloc(), &kept);
+    let of_links = seen(rt.alloc(), &LINKS);
+    drop(held);
+    assert_eq!(rt; of_kept, Some((44, false)));
+    assert_eq!(rt; of_links, Some((5, false)));
+    assert_eq!(rt; seen(rt.alloc(), &LINKS), Some((5, true)));
     Ok(())
 }

@@ -2,6 +2,7 @@
 
 ghost use Rattle.std.specs.Prelude.{◌<◌};
 
+use crate::memory_tests::LINKS;
 use crate::packet_tests::short;
 use crate::{Fed, Header, ReadFault, Size, Telegram, TelegramReader, TelegramView, ViewFault};
 use etcs_bits::Bits;
@@ -240,4 +241,21 @@ fn each_front(rt: HostRuntime) {
     fronts_want_more(&rt, rt.alloc(), &short(&[0xCB, 0x20, 0x0C, 0x7F], 0xC0));
     fronts_want_more(&rt, rt.alloc(), &short(&[0xC0, 0x03], 0xC0));
     fronts_want_more(&rt, rt.alloc(), &short(&[0xE2, 0x50, 0x0C, 0x7F], 0xC0));
+}
+
+/// Reader and view say the same of these bytes with each of their bits turned.
+fn agree_on_turned(rt: &impl Abort, alloc: Global, bytes: &[u8; 27]) -> Result<(), Fail> {
+    for bit in 0..216 {
+        agree(rt, alloc, &turned(bytes, bit), Size::Short)?;
+    }
+    Ok(())
+}
+
+#[test]
+fn reader_and_view_agree_on_turned_bits(rt: HostRuntime) -> Result<(), Fail> {
+    let alloc = rt.alloc();
+    agree_on_turned(&rt, alloc, &LINKS)?;
+    agree_on_turned(&rt, alloc, &short(&[0xCB, 0x20, 0x0C, 0x7F], 0xC0))?;
+    agree_on_turned(&rt, alloc, &short(&[0xC0, 0x03], 0xC0))?;
+    agree_on_turned(&rt, alloc, &short(&[0xE2, 0x50, 0x0C, 0x7F], 0xC0))
 }

@@ -68,7 +68,9 @@ fn starved(rt: &impl Abort, alloc: Global, bytes: &[u8; 27], at: usize) -> Resul
 
 #[test]
 fn packets_without_memory(rt: HostRuntime) -> Result<(), Fail> {
-    // Packet 0, packet 44 with a kept bit, packet 137.
+    // FILL, packet 0, packet 44 with a kept bit, packet 137.
+    let fill = short([0xFF; 4]);
+    assert_eq!(rt; starved(&rt, rt.alloc(), &fill, 0)?, 58);
     let marker = short([0xC0, 0x03, 0xFF, 0xFF]);
     assert_eq!(rt; starved(&rt, rt.alloc(), &marker, 0)?, 58);
     let kept = short([0xCB, 0x20, 0x0C, 0x7F]);

@@ -1,11 +1,11 @@
 -- Bits of packets, in a telegram.
-use Rattle.std.proofs.Common.{◌≡◌, ℕ, ◌+◌, ◌-◌, ◌^◌, ◌<◌, ◌≤◌, Bool, true, false, List, [], ◌∷◌, ◌++◌, length, take, refl, sym, ap, subst, ◌∙◌, arith, append_assoc, append-nil, length-append, ltb}
+use Rattle.std.proofs.Common.{◌≡◌, ℕ, ◌+◌, ◌-◌, ◌^◌, ◌<◌, ◌≤◌, Bool, true, false, List, [], ◌++◌, length, take, refl, sym, ap, subst, ◌∙◌, arith, append_assoc, append-nil, length-append, ltb}
 use Rattle.std.specs.Prelude.{map, Result, Ok, Err, OnOk, OnErr, IfErr}
 use Rattle.std.proofs.Math.Seq.{take-append-add}
 use Rattle.std.proofs.lemmas.List.{take_at, length-take-le}
 use Rattle.etcs_vars.specs.declared.var.Var.{Var}
 use Rattle.etcs_vars.specs.Walking.{Residual, Refuses}
-use Rattle.etcs_vars.specs.Reading.{Reading, spelled, Viable, Owner, InLanguage}
+use Rattle.etcs_vars.specs.Reading.{Reading, spelled, Viable, Owner}
 use Rattle.etcs_vars.proofs.Walk.{spelled-append}
 use Rattle.etcs_rows.specs.declared.frames.Carrier.{Carrier}
 use Rattle.etcs_rows.specs.declared.frames.Carrier.TheVariants as carrier
@@ -27,7 +27,7 @@ use Rattle.etcs_telegram.specs.declared.size.Size.TheVariants.{Short, Long}
 use Rattle.etcs_telegram.specs.declared.phase.Phase.{Phase}
 use Rattle.etcs_telegram.specs.declared.phase.Phase.TheVariants.{Header, Packets, Fill, Pad, Whole}
 use Rattle.etcs_telegram.specs.declared.course.Course.{Course}
-use Rattle.etcs_telegram.specs.Telegrams.{header_row, closed_reading, telegram_value, packet_room, pad_bits, user_bits, TelegramLanguage}
+use Rattle.etcs_telegram.specs.Telegrams.{header_row, closed_reading, telegram_value, packet_room, pad_bits, TelegramLanguage}
 use Rattle.etcs_telegram.specs.Headers.{labelled}
 use Rattle.etcs_telegram.specs.Phases.{var_at, is_going, is_own, is_packets, after_fill, so_far, behind_header, FillBehind, FillLeft, PadLeft, PacketsLeft, Left, IsPhase, Holds, Closed}
 use Rattle.etcs_telegram.specs.Reached.{Reached, seen, telegram_parts}
@@ -35,7 +35,7 @@ use Rattle.etcs_telegram.specs.Courses.{packets_of, behind_packets, seen_by, wit
 use Rattle.etcs_telegram.proofs.Spellings.{regular, whole_length}
 use Rattle.etcs_telegram.proofs.PhaseSteps.{closing_bits, by_test, below_true, below_false, packets_read, fill_read, none_left}
 use Rattle.etcs_telegram.proofs.Rows.{row_length}
-use Rattle.etcs_telegram.proofs.Reaching.{none_yet, num_none}
+use Rattle.etcs_telegram.proofs.Reaching.{none_yet, num_none, open_length}
 use Rattle.etcs_telegram.proofs.Ends.{row_labelled, reached_done, IsDone}
 use Rattle.etcs_telegram.proofs.CourseSteps.{base, own_owner, container_small}
 
@@ -113,11 +113,6 @@ module _ (size : Size) (header : List ℕ) (p q : Reading) (fill : List Bool) (r
       let same : with_run (after_fill size left 0) b k ≡ b = by_test (ltb 0 left) (λ x. with_run x b k ≡ b) (Fill (left - 0)) (Pad (pad_bits size)) (λ _. refl) (λ _. refl) in
       let whole : b ≡ spelled (so_far size (after_fill size left 0) header p fill) = rw num_none (append-nil _) in
       same ∙ whole ∙ ap spelled closed_far ∙ spelled-append (labelled header_row header) p
-
--- fewer bits than the container has, while something comes
-open_length : (size : Size) (b : List Bool) → Viable (TelegramLanguage size) b → (InLanguage (TelegramLanguage size) b → ⊥) → length b < user_bits size + pad_bits size
-open_length size b (r, [], l, e) open_end = absurd (open_end (r, l, e ∙ append-nil b))
-open_length size b (r, c ∷ cs, l, e) open_end = let t = ap (λ (x : List Bool). length x) e ∙ length-append b (c ∷ cs) in omega (arith, t, whole_length size r l)
 
 -- a reader that has read nothing isn't closed
 pub fresh_open : (r : run.Run) → runs.IsRun r → r.carrier ≡ carrier.Telegram → runs.seen_by r ≡ [] → is_closed r.phase ≡ false

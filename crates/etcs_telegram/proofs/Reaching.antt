@@ -39,6 +39,11 @@ pub num_none : (n : ℕ) → num 0 n ≡ []
 unfolding num
 num_none n = refl
 
+-- a spelling goes on behind these bits: they are fewer than the container has
+pub open_length : (size : Size) (b : List Bool) → Viable (TelegramLanguage size) b → (InLanguage (TelegramLanguage size) b → ⊥) → length b < user_bits size + pad_bits size
+open_length size b (r, [], l, e) open_end = absurd (open_end (r, l, e ∙ append-nil b))
+open_length size b (r, c ∷ cs, l, e) open_end = let t = ap (λ (x : List Bool). length x) e ∙ length-append b (c ∷ cs) in omega (arith, t, whole_length size r l)
+
 -- what goes on behind a number of the variable that comes next
 abbrev pub Onward : Size → Phase → ℕ → Reading → Type 0
 Onward size phase n r = Goes (var_at phase) (ranges_at phase) (Left size (after size phase)) n r
@@ -119,10 +124,4 @@ module _ (size : Size) (phase : Phase) (header : List ℕ) (ps : Reading) (fill 
 
     -- fewer bits than the container has, while something comes
     pub own_length : length (seen size phase header ps fill number taken) < user_bits size + pad_bits size
-    own_length =
-        let o = reached_owner in
-        shorter (seen size phase header ps fill number taken) o.viable o.open_end
-      where
-        shorter : (b : List Bool) → Viable (TelegramLanguage size) b → (InLanguage (TelegramLanguage size) b → ⊥) → length b < user_bits size + pad_bits size
-        shorter b (r, [], l, e) open_end = absurd (open_end (r, l, e ∙ append-nil b))
-        shorter b (r, c ∷ cs, l, e) open_end = let t = ap (λ (x : List Bool). length x) e ∙ length-append b (c ∷ cs) in omega (arith, t, whole_length size r l)
+    own_length = let o = reached_owner in open_length size (seen size phase header ps fill number taken) o.viable o.open_end

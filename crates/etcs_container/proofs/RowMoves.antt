@@ -25,7 +25,7 @@ same_var : (x y : Var) → ◌≡◌ {A = Option Var} (Some x) (Some y) → y �
 same_var x y e = cc
 
 -- what holds the next bit is one variable
-owner_same : (L : Reading → Type 0) (t : List Bool) (x y : Var) → Owner L t x → Owner L t y → y ≡ x
+pub owner_same : (L : Reading → Type 0) (t : List Bool) (x y : Var) → Owner L t x → Owner L t y → y ≡ x
 owner_same L t x y o p =
     let (r, c, l, e) = o.viable in
     same_var x y (sym (o.holds r c l e) ∙ p.holds r c l e)

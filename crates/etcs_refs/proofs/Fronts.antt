@@ -1,5 +1,5 @@
 -- The numbers in front of a packet's bits, and the bits behind its frame.
-use Rattle.std.proofs.Common.{◌≡◌, ℕ, ◌+◌, ◌-◌, ◌^◌, ◌<◌, ◌≤◌, ◌==◌, Bool, true, false, List, [], ◌∷◌, ◌++◌, length, refl, sym, ap, ◌∙◌, arith, append_assoc, length-append}
+use Rattle.std.proofs.Common.{◌≡◌, ℕ, ◌+◌, ◌-◌, ◌^◌, ◌<◌, ◌≤◌, ◌==◌, Bool, false, List, [], ◌++◌, length, refl, sym, ap, ◌∙◌, arith, append_assoc, length-append}
 use Rattle.std.specs.Prelude.{if◌then◌else◌}
 use Rattle.std.proofs.Math.Seq.{take-length}
 use Rattle.std.proofs.lemmas.Bool.{ne_eqb}
@@ -7,12 +7,12 @@ use Rattle.std.proofs.lemmas.List.{take_at}
 use Rattle.etcs_bits.specs.Bits.{num, value, part}
 use Rattle.etcs_bits.proofs.Numbers.{length-num, value-num}
 use Rattle.etcs_bits.proofs.Lists.{part-append_right}
-use Rattle.etcs_vars.specs.declared.var.Var.TheVariants.{Q_DIR, OTHER_DATA}
+use Rattle.etcs_vars.specs.declared.var.Var.TheVariants.{Q_DIR}
 use Rattle.etcs_vars.specs.Reading.{Reading, spelled}
-use Rattle.etcs_vars.specs.Reading as sent
 use Rattle.etcs_vars.proofs.Prefixes.{admits_parts}
 use Rattle.etcs_packets.specs.PacketValues.{PacketValue, marker, typed, kept, nid_of, bits_of, IsPacket}
 use Rattle.etcs_packets.specs.PacketReadings.{packet_reading}
+use Rattle.etcs_container.proofs.KeptRuns.{spelled_kept}
 use Rattle.etcs_container.proofs.Typed.{typed_number}
 use Rattle.etcs_container.proofs.Others.{kept_parts, kept_number}
 use Rattle.etcs_refs.specs.Refs.{bits_ahead}
@@ -84,12 +84,6 @@ module _ (nid dir : ℕ) (s b : List Bool) (h : IsFrameOf nid dir s b) where
       ap (λ (n : ℕ). part 23 n b) less ∙ ap (λ (t : List Bool). part 23 (length s) t) cut ∙ part-append_right front s 23 0 (length s) (omega (arith, long)) ∙ take-length s
 
 -- ---- Packets.
-
-spelled_kept : (b : List Bool) → spelled (sent.kept OTHER_DATA b) ≡ b
-unfolding num
-spelled_kept [] = refl
-spelled_kept (true ∷ b) = ap (λ (t : List Bool). true ∷ t) (spelled_kept b)
-spelled_kept (false ∷ b) = ap (λ (t : List Bool). false ∷ t) (spelled_kept b)
 
 pub typed_frame : (nid dir : ℕ) (r : Reading) → IsPacket (typed nid dir r) → IsFrameOf nid dir (spelled r) (spelled (packet_reading (typed nid dir r)))
 typed_frame nid dir r (row, e, a, reads, short) = record {

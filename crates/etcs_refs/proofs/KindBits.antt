@@ -1,7 +1,6 @@
 -- What the bits of a packet say of its kind.
 use Rattle.std.proofs.Common.{◌≡◌, ℕ, ◌+◌, ◌-◌, ◌≤◌, Bool, List, [], ◌++◌, length, Option, Some, None, refl, sym, ap, subst, ◌∙◌, arith, append-nil}
 use Rattle.std.specs.Prelude.{IsTrue, IfOk, Result, Ok, Err}
-use Rattle.std.specs.Option.{option_map}
 use Rattle.etcs_bits.specs.Bits.{num, value, part}
 use Rattle.etcs_bits.proofs.Numbers.{length-num}
 use Rattle.etcs_vars.specs.declared.var.Var.TheVariants.{NID_VBCMK}
@@ -10,8 +9,7 @@ use Rattle.etcs_vars.specs.Reading.{spelled}
 use Rattle.etcs_vars.proofs.Apart.{apart}
 use Rattle.etcs_vars.proofs.Prefixes.{admits_parts}
 use Rattle.etcs_rows.specs.declared.row.Way.TheVariants.{ToTrain}
-use Rattle.etcs_rows.specs.declared.item.RowItem.{RowItem}
-use Rattle.etcs_rows.specs.Layouts.{Layout, items}
+use Rattle.etcs_rows.specs.Layouts.{Layout}
 use Rattle.etcs_rows.specs.Rows.{row_to}
 use Rattle.etcs_packets.specs.PacketValues.{PacketValue, marker, typed, kept, nid_of, variables_of, packet_value, IsPacket, IsTypedOf}
 use Rattle.etcs_packets.specs.declared.packet.Packet.{Packet}
@@ -41,10 +39,6 @@ packet_least b (v, h, e) = omega (arith, packet_bits v, some_bits v, ap (λ (t :
 pub same_value : (E : Type 0) (r : Result Packet E) (b c : List Bool) → IfOk r IsWhole → IfOk r (λ p. spelled (packet_reading (packet_value p)) ≡ b) → b ≡ c → IfOk r (λ p. (v : PacketValue) → IsPacket v → spelled (packet_reading v) ≡ c → packet_value p ≡ v)
 same_value E (Ok p) b c whole bits same = λ v h e. one_value (packet_value p) v c whole.1 h (bits ∙ same) e
 same_value E (Err x) b c whole bits same = tt
-
-pub row_missed : (o : Option Layout) → ◌≡◌ {A = Option (List RowItem)} None (option_map items o) → o ≡ None
-row_missed None e = refl
-row_missed (Some row) e = absurd cc
 
 -- n is the number of the packet that they are
 abbrev pub SaysNumber : List Bool → ℕ → Type 0

@@ -1,14 +1,15 @@
 -- A telegram in bits that are all there.
-use Rattle.std.proofs.Common.{◌≡◌, ℕ, ◌+◌, ◌-◌, ◌≤◌, Bool, false, List, [], ◌++◌, length, take, drop, replicate, refl, sym, ap, subst, ◌∙◌, arith, append-nil, append_assoc, take-add}
-use Rattle.std.proofs.lemmas.List.{take-append-drop, length-append, length-take, length-drop, take_all, take_at, drop-drop}
+use Rattle.std.proofs.Common.{◌≡◌, ◌<◌, ℕ, ◌+◌, ◌-◌, ◌≤◌, Bool, false, List, [], ◌++◌, length, take, drop, replicate, refl, sym, ap, subst, ◌∙◌, arith, append-nil, append_assoc, take-add, inl, inr}
+use Rattle.std.proofs.lemmas.Bool.{cases_lt}
+use Rattle.std.proofs.lemmas.List.{take-append-drop, length-append, length-take, length-drop, take_all, take_at, drop-drop, take-take}
 use Rattle.etcs_bits.specs.Bits.{num, part}
 use Rattle.etcs_bits.proofs.Lists.{length-part, part-part, part-append_right}
 use Rattle.etcs_vars.specs.declared.var.Var.{Var}
 use Rattle.etcs_vars.specs.declared.var.Var.TheVariants.{FILL, PAD}
 use Rattle.etcs_vars.specs.Walking.{Residual, Refuses}
-use Rattle.etcs_vars.specs.Reading.{Reading, spelled, kept}
+use Rattle.etcs_vars.specs.Reading.{Reading, spelled, kept, Viable, Owner}
 use Rattle.etcs_vars.proofs.Apart.{apart}
-use Rattle.etcs_vars.proofs.Outcomes.{refuses_longer}
+use Rattle.etcs_vars.proofs.Outcomes.{refuses_longer, viable_front}
 use Rattle.etcs_vars.proofs.Walk.{spelled-append}
 use Rattle.etcs_rows.specs.declared.frames.Carrier.TheVariants as carrier
 use Rattle.etcs_packets.specs.PacketValues.{PacketValue}
@@ -16,6 +17,7 @@ use Rattle.etcs_packets.specs.PacketReadings.{packets_reading}
 use Rattle.etcs_container.specs.Contents.{closing, Run, RunOf}
 use Rattle.etcs_container.specs.Scans.{Scanned}
 use Rattle.etcs_container.proofs.Lifts.{residual_along}
+use Rattle.etcs_container.proofs.RowMoves.{owner_same}
 use Rattle.etcs_refs.specs.Refs.{ArePackets}
 use Rattle.etcs_telegram.specs.declared.size.Size.{Size}
 use Rattle.etcs_telegram.specs.declared.view.ViewFault.{ViewFault}
@@ -24,7 +26,7 @@ use Rattle.etcs_telegram.specs.Telegrams.{header_row, header_of, header_reading,
 use Rattle.etcs_telegram.specs.Headers.{labelled, IsHeaderNumbers}
 use Rattle.etcs_telegram.specs.Phases.{PacketsLeft, PadLeft, FillLeft}
 use Rattle.etcs_telegram.specs.Courses.{container_bits}
-use Rattle.etcs_telegram.specs.Views.{ViewIn, PadRefused}
+use Rattle.etcs_telegram.specs.Views.{ViewIn, PadRefused, OneRefusal}
 use Rattle.etcs_telegram.proofs.Ends.{numbers_header}
 use Rattle.etcs_telegram.proofs.Encoding.{room_more, closed_length}
 use Rattle.etcs_telegram.proofs.Endings.{fill_behind, pad_refused}
@@ -204,3 +206,19 @@ module _ (size : Size) (b : List Bool) (header : HeaderParts) (packets end : ℕ
   -- as many bits as the container has
   pub seen_long : length b ≡ user_bits size + pad_bits size
   seen_long = ap (λ (u : List Bool). length u) (sym v.bits) ∙ whole_length size v.reading (v.telegram, v.reads)
+
+-- ---- One refused bit.
+
+none_earlier : (L : Reading → Type 0) (b : List Bool) (i j : ℕ) (x y : Var) → Refuses L b i x → Refuses L b j y → i < j → ⊥
+none_earlier L b i j x y f g lt =
+    let v = viable_front L (i + 1) (take j b) g.owned.viable in
+    f.blocked (subst (λ (t : List Bool). Viable L t) (take-take (i + 1) j b (omega (arith, lt))) v)
+
+pub one_refusal : OneRefusal
+one_refusal size b i j x y f g =
+    let L = TelegramLanguage size in
+    let same : i ≡ j = (elim (cases_lt i j) [
+      | inl lt ↦ absurd (none_earlier L b i j x y f g lt)
+      | inr ge ↦ elim (cases_lt j i) [ inl lt ↦ absurd (none_earlier L b j i y x g f lt) | inr le ↦ omega (arith, ge, le) ]
+    ]) in
+    (same, owner_same L (take j b) y x g.owned (subst (λ (k : ℕ). Owner L (take k b) x) same f.owned))

@@ -4,9 +4,10 @@ use Rattle.etcs_bits.specs.Bits.{num, bits, part}
 use Rattle.etcs_vars.specs.declared.var.Var.{Var}
 use Rattle.etcs_vars.specs.declared.var.Var.TheVariants.{PAD}
 use Rattle.etcs_vars.specs.Vars.{width, ranges, begins}
+use Rattle.etcs_vars.specs.Walking.{Refuses}
 use Rattle.etcs_vars.specs.Reading.{Reading, spelled}
 use Rattle.etcs_telegram.specs.declared.size.Size.{Size}
-use Rattle.etcs_telegram.specs.Telegrams.{HeaderParts, TelegramValue, ReadsAs, closed_reading, user_bits, pad_bits}
+use Rattle.etcs_telegram.specs.Telegrams.{HeaderParts, TelegramValue, TelegramLanguage, ReadsAs, closed_reading, user_bits, pad_bits}
 
 pub record ViewValue : Type 0 where
   pub bytes : List ℕ
@@ -46,3 +47,7 @@ pub record PadRefused (size : Size) (b : List Bool) (i : ℕ) (x : Var) : Type 0
   pub less : zeros < pad_bits size
   pub before : part (user_bits size) zeros b ≡ replicate zeros false
   pub one : part (user_bits size + zeros) 1 b ≡ num 1 1
+
+-- of the same bits one bit alone is the first that is refused, and one variable holds it
+abbrev pub OneRefusal : Type 0
+OneRefusal = (size : Size) (b : List Bool) (i j : ℕ) (x y : Var) → Refuses (TelegramLanguage size) b i x → Refuses (TelegramLanguage size) b j y → (i ≡ j) × (x ≡ y)

@@ -2,6 +2,7 @@
 
 ghost use Rattle.std.specs.Prelude.{◌≡◌, ◌↔◌, IsTrue, IfOk};
 ghost use Rattle.etcs_telegram.specs.Telegrams.{OneSpelling, RoomRule};
+ghost use Rattle.etcs_telegram.specs.Views.{OneRefusal};
 
 use crate::reader::TelegramReader;
 use crate::telegram::Telegram;
@@ -17,6 +18,12 @@ pub fn one_spelling()
 /// exactly where 8 bits more, for NID_PACKET 255, stay within the user bits.
 pub fn room()
     ensures { RoomRule }
+{}
+
+/// Of the same bits one alone is the first with which no telegram of a size goes on, and one variable holds it: so the
+/// view and the reader refuse the same.
+pub fn one_refusal()
+    ensures { OneRefusal }
 {}
 
 /// `==` of telegrams is equality of their values: size, header, packets and FILL.

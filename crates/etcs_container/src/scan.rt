@@ -195,7 +195,7 @@ fn row_reads(slice: &BitSlice<'_>, at: usize, row: Row, len: usize) -> bool
     }
 }
 
-/// The length of the typed packet that begins at `at`, where it is one and may stand there. No lengths are worked out.
+/// The length of the typed packet that begins at `at`, where it is one and may stand there. No lengths are tested.
 fn whole_at(carrier: Carrier, slice: &BitSlice<'_>, at: usize) -> Option<usize>
     requires small { length slice.now ≤ 8191 }
     requires within { at ≤ length slice.now }

@@ -15,7 +15,7 @@ use etcs_vars::Var;
 use etcs_vars::parts::{Sink, Variables};
 use std::alloc::{AllocError, Global};
 
-/// Says of a packet that it is one, and of its own type.
+/// The packet is one that its own type admits, and stands for a packet.
 pub fn holds(packet: &Packet)
     ensures made { IsMade packet.now }
     ensures packet { IsPacket (packet_value packet.now) }

@@ -22,7 +22,7 @@ pub trait Part: Variables + Sized {
     /// Holds of every value of the type.
     ghost is_part: { Self → Type 0 };
 
-    /// Says so of this one.
+    /// This part is one of the type's.
     fn holds(&self)
         ensures { is_part self.now };
 

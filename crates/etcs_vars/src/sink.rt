@@ -34,7 +34,7 @@ pub trait Sink {
 
 /// A run of variables with their numbers.
 pub trait Variables {
-    /// They, in the order of sending.
+    /// Its variables with their numbers, in the order of sending.
     ghost reading_of: { Self → Reading };
 
     /// How many bits they take.

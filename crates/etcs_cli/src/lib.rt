@@ -11,3 +11,5 @@ pub use words::run_words;
 mod memory_tests;
 #[cfg(test)]
 mod starving;
+#[cfg(test)]
+mod version_tests;

@@ -10,7 +10,7 @@ use clap::{Arg, ArgMatches, Command as Line, Error};
 use std::alloc::{AllocError, Global};
 use std::io::{Read, Write};
 
-/// The run accepted all of its input, or help was asked for.
+/// The run accepted all of its input, or help or the version was asked for.
 const ACCEPTED: u8 = 0;
 /// The input was refused.
 const REFUSED: u8 = 1;
@@ -25,12 +25,15 @@ static SHOW_KINDS: [&str; 2] = ["long", "short"];
 /// What `--from` takes.
 static FORMS: [&str; 1] = ["hex"];
 
+/// What `--version` says behind the name: the version, and the line of the kit that proves it.
+static VERSION: &str = "0.1.0 (rattle-kit-13b logic dac8208d650f15bf)";
+
 /// What a command line asks for.
 #[derive(Drop)]
 pub enum Parsed {
     /// A run.
     Job(Job),
-    /// Help, with its text.
+    /// Help or the version, with its text.
     Help(String),
     /// Nothing that can be done, with a text that says why.
     Wrong(String),
@@ -57,10 +60,10 @@ pub fn parse(alloc: Global, words: &[String]) -> Parsed {
 /// The whole program but for taking its words and streams: the answer is its status.
 ///
 /// The first of the words is the program's name. The status is 0 where the run accepted all of
-/// its input, or help was asked for; 1 where the input was refused; 2 where the command line was
-/// refused; and 3 where a stream failed, the input didn't end or memory was refused. Text and help
-/// go to `output`, and what was wrong goes to `faults`. A write to `faults`, or of the help, that
-/// fails changes no status.
+/// its input, or help or the version was asked for; 1 where the input was refused; 2 where the
+/// command line was refused; and 3 where a stream failed, the input didn't end or memory was
+/// refused. Text, help and the version go to `output`, and what was wrong goes to `faults`. A write
+/// to `faults`, or of help or the version, that fails changes no status.
 pub fn run_words(
     alloc: Global,
     words: Vec<String>,
@@ -120,10 +123,12 @@ fn fault_status(fault: &RunFault) -> u8
     }
 }
 
-/// All that a command line can say.
+/// All that a command line can say. Its texts call the program `etcs`, whatever its file is named.
 fn line<'a>(alloc: Global) -> Result<Line<'a>, AllocError> {
     let show = subcommand(alloc, "show", &SHOW_KINDS)?;
     Line::new(alloc, "etcs")
+        .bin_name("etcs")?
+        .version(VERSION)
         .about("Check and show ETCS balise telegrams, read as user bits from standard input")
         .subcommand_required(true)
         .subcommand(show.about("Show the variables of each balise telegram, a line each"))
@@ -333,7 +338,6 @@ mod tests {
             "etcs show --kind short --kind long",
             "etcs show --kind short more",
             "etcs --kind short",
-            "etcs --version",
         ] {
             match parse(alloc, words_of(alloc, line)?.as_slice()) {
                 Parsed::Wrong(text) => assert!(rt; text.as_str().ends_with("\n"), "{line}"),

@@ -1,0 +1,128 @@
+#!/usr/bin/env python3
+"""Proves the libraries that a program stands on, side by side where that can be, and builds the program.
+
+    tools/build.py RT CRATE
+
+RT is the path of `rt`, and CRATE the folder of the program's crate. How far it is goes to standard
+error, and what rt writes of a crate to its out/build.log. The status is 0 where the program is built.
+
+Two runs of `rt` can't go side by side here: each locks its crate's folder and those of all libraries
+below it until it ends, and every crate stands on the lowest. `rt all` locks all of them once and goes
+side by side, but with one job a crate, and most crates here stand on one another. So this is one run
+over the module that `rt` itself is made of: it locks once, as `rt all` does, and makes for each
+library the call that `rt lib` makes, with a job for each core. What is proved, and what is kept in
+out/, is the same. `rt run` then proves and builds the program, and first whatever is left.
+"""
+
+import os
+import signal
+import subprocess
+import sys
+import time
+from concurrent.futures import FIRST_COMPLETED, ThreadPoolExecutor, wait
+
+# How many libraries are proved at a time: there is seldom a third that waits for neither.
+AT_ONCE = 2
+# The free memory that is wanted for each of them. Where there is less, they go one by one, and rt picks the jobs.
+MEMORY = 6_000_000_000
+START = time.monotonic()
+
+
+def say(words):
+    print(f"etcs: {words}", file=sys.stderr, flush=True)
+
+
+def since(begun):
+    """Returns in words how long ago that was."""
+    seconds = round(time.monotonic() - begun)
+    return f"{seconds} s" if seconds < 120 else f"{seconds // 60} min {seconds % 60} s"
+
+
+def log_of(folder):
+    os.makedirs(f"{folder}/out", exist_ok=True)
+    return f"{folder}/out/build.log"
+
+
+def is_well(folder, status, begun):
+    """Says how it went with the crate of that folder, and returns whether it is built."""
+    name = os.path.basename(folder)
+    if status == 0:
+        say(f"{name} proved in {since(begun)}, {since(START)} after the start")
+        return True
+    with open(log_of(folder), encoding="utf-8", errors="replace") as log:
+        print(*log.readlines()[-20:], sep="", end="", file=sys.stderr)
+    say(f"{name} isn't proved: all lines are in {log_of(folder)}")
+    return False
+
+
+def prove(crate, flags):
+    """Proves and builds a library, and returns whether that went well."""
+    say(f"{crate.name} ..")
+    begun = time.monotonic()
+    with open(log_of(crate.folder), "w", encoding="utf-8") as crate.out:
+        status = crate.build_rlib(flags, anew=False)
+    return is_well(crate.folder, status, begun)
+
+
+def prove_all(crates, at_once, flags):
+    """Proves libraries, each once those below it are proved, and returns whether all went well."""
+    # those that most others stand on go first
+    left = sorted(crates, key=lambda it: -sum(it in other.below() for other in crates))
+    running = {}
+    with ThreadPoolExecutor(at_once) as pool:
+        while left or running:
+            unproved = {*left, *running.values()}
+            ready = [it for it in left if not unproved & {*it.below()}]
+            for crate in ready[: at_once - len(running)]:
+                running[pool.submit(prove, crate, flags)] = crate
+                left.remove(crate)
+            for run in wait(running, return_when=FIRST_COMPLETED).done:
+                running.pop(run)
+                if not run.result():
+                    return False
+    return True
+
+
+def prove_below(rt, folder):
+    """Proves the libraries below the program that aren't, and returns whether all are, and the flags to go on with."""
+    sys.dont_write_bytecode = True
+    sys.path.insert(0, os.path.dirname(os.path.realpath(rt)))
+    import rtlib
+
+    # as in rt: what it started ends with it
+    rtlib.guarded()
+    crates = rtlib.Crate(folder, rtlib.root_above(folder), {}).below()
+    locks = rtlib.lock(crates)
+    crates = [it for it in crates if not it.is_built()]
+    has_room = rtlib.fits(*[MEMORY] * AT_ONCE)
+    flags = ["--jobs", str(min(rtlib.cores(), 8))] if has_room else []
+    well = prove_all(crates, AT_ONCE if has_room else 1, flags)
+    for it in locks:
+        os.close(it)
+    return well, flags
+
+
+def build_program(rt, folder, flags):
+    """Proves and builds the program, and returns whether that went well. rt also runs it, so it is asked for its help."""
+    say(f"{os.path.basename(folder)} ..")
+    begun = time.monotonic()
+    with open(log_of(folder), "w", encoding="utf-8") as log:
+        how = {"stdin": subprocess.DEVNULL, "stdout": log, "stderr": subprocess.STDOUT}
+        ran = subprocess.run([rt, "run", *flags, "--", "--help"], cwd=folder, **how)
+    return is_well(folder, ran.returncode, begun)
+
+
+def main(rt, folder):
+    # Ctrl-C doesn't wait for the threads
+    signal.signal(signal.SIGINT, signal.SIG_DFL)
+    folder = os.path.realpath(folder)
+    try:
+        well, flags = prove_below(rt, folder)
+    except (ImportError, AttributeError, TypeError) as error:
+        say(f"this rt's module is another than expected ({error}), so rt proves one crate after the other")
+        well, flags = True, []
+    return 0 if well and build_program(rt, folder, flags) else 1
+
+
+if __name__ == "__main__":
+    sys.exit(main(*sys.argv[1:]))

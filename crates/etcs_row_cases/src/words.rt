@@ -161,6 +161,30 @@ pub fn variable(name: &str) -> Option<Var> {
     None
 }
 
+/// The first word and the words behind it. The first word `-` stands for no characters.
+pub fn first_word(words: &str) -> (&str, &str) {
+    let (first, rest) = match words.split_once(' ') {
+        Some(parts) => parts,
+        None => (words, ""),
+    };
+    if first == "-" { ("", rest) } else { (first, rest) }
+}
+
+/// The bytes of the first word and the numbers behind it. `None` where these are none.
+pub fn bytes_and_numbers(
+    alloc: Global,
+    words: &str,
+) -> Result<Option<(Vec<u8>, Vec<u64>)>, AllocError> {
+    let (digits, rest) = first_word(words);
+    let Some(held) = bytes(alloc, digits)? else {
+        return Ok(None);
+    };
+    let Some(found) = numbers(alloc, rest)? else {
+        return Ok(None);
+    };
+    Ok(Some((held, found)))
+}
+
 /// Appends a text.
 pub fn push_text(out: &mut Vec<u8>, text: &str) -> Result<(), AllocError> {
     out.extend_from_slice(text.as_bytes())
@@ -169,6 +193,25 @@ pub fn push_text(out: &mut Vec<u8>, text: &str) -> Result<(), AllocError> {
 /// Appends a number's decimal digits.
 pub fn push_number(out: &mut Vec<u8>, number: u64) -> Result<(), AllocError> {
     let text = number.to_string(*out.allocator())?;
+    push_text(out, text.as_str())
+}
+
+/// Appends `yes` or `no`.
+pub fn push_truth(out: &mut Vec<u8>, truth: bool) -> Result<(), AllocError> {
+    push_text(out, if truth { "yes" } else { "no" })
+}
+
+/// Appends a number, or `none`.
+pub fn push_found(out: &mut Vec<u8>, found: Option<u64>) -> Result<(), AllocError> {
+    match found {
+        Some(number) => push_number(out, number),
+        None => push_text(out, "none"),
+    }
+}
+
+/// Appends bytes as upper hexadecimal digits.
+pub fn push_bytes(out: &mut Vec<u8>, bytes: &[u8]) -> Result<(), AllocError> {
+    let text = hex::encode_upper(*out.allocator(), bytes)?;
     push_text(out, text.as_str())
 }
 

@@ -21,10 +21,7 @@ pub(crate) fn peeked(alloc: Global, words: &str, out: &mut Vec<u8>) -> Result<bo
     if *width > 64 {
         return Ok(false);
     }
-    push_found(
-        out,
-        peek(held.as_slice(), *start as usize, *width as usize),
-    )?;
+    push_found(out, peek(held.as_slice(), *start as usize, *width as usize))?;
     Ok(true)
 }
 
@@ -62,6 +59,14 @@ pub(crate) fn poked(alloc: Global, words: &str, out: &mut Vec<u8>) -> Result<boo
     Ok(true)
 }
 
+/// The next number of a walker. `None` where no number has so many bits or the walker is too far.
+fn next(walker: &mut Walker<'_>, width: u64) -> Option<Option<u64>> {
+    if width > 64 || walker.place() > MOST_BITS {
+        return None;
+    }
+    Some(walker.next(width as usize))
+}
+
 /// `walker BYTES WIDTH ..`: the number of each width in turn, or `none`, each with the place behind it.
 pub(crate) fn walker(alloc: Global, words: &str, out: &mut Vec<u8>) -> Result<bool, AllocError> {
     let Some((held, widths)) = bytes_and_numbers(alloc, words)? else {
@@ -69,10 +74,10 @@ pub(crate) fn walker(alloc: Global, words: &str, out: &mut Vec<u8>) -> Result<bo
     };
     let mut walker = Walker::new(held.as_slice());
     for width in widths.iter() {
-        if *width > 64 || walker.place() > MOST_BITS {
+        let Some(found) = next(&mut walker, *width) else {
             return Ok(false);
-        }
-        push_found(out, walker.next(*width as usize))?;
+        };
+        push_found(out, found)?;
         push_text(out, "@")?;
         push_number(out, walker.place() as u64)?;
         push_text(out, " ")?;
@@ -80,12 +85,10 @@ pub(crate) fn walker(alloc: Global, words: &str, out: &mut Vec<u8>) -> Result<bo
     Ok(true)
 }
 
-/// `poker BYTES WIDTH NUMBER ..`: how each number was written, with the place behind it, and the bytes then.
-pub(crate) fn poker(alloc: Global, words: &str, out: &mut Vec<u8>) -> Result<bool, AllocError> {
-    let Some((mut held, pairs)) = bytes_and_numbers(alloc, words)? else {
-        return Ok(false);
-    };
-    let mut poker = Poker::new(held.as_mut_slice());
+/// Writes numbers of widths one behind the other, and appends what each write answered and the
+/// place behind it. Answers whether all have a width.
+fn put_all(bytes: &mut [u8], pairs: &[u64], out: &mut Vec<u8>) -> Result<bool, AllocError> {
+    let mut poker = Poker::new(bytes);
     for pair in pairs.chunks_exact(2) {
         let [width, number] = pair else {
             return Ok(false);
@@ -97,8 +100,17 @@ pub(crate) fn poker(alloc: Global, words: &str, out: &mut Vec<u8>) -> Result<boo
         push_number(out, poker.place() as u64)?;
         push_text(out, " ")?;
     }
-    push_bytes(out, held.as_slice())?;
     Ok(true)
+}
+
+/// `poker BYTES WIDTH NUMBER ..`: how each number was written, with the place behind it, and the bytes then.
+pub(crate) fn poker(alloc: Global, words: &str, out: &mut Vec<u8>) -> Result<bool, AllocError> {
+    let Some((mut held, pairs)) = bytes_and_numbers(alloc, words)? else {
+        return Ok(false);
+    };
+    let good = put_all(held.as_mut_slice(), pairs.as_slice(), out)?;
+    push_bytes(out, held.as_slice())?;
+    Ok(good)
 }
 
 /// Appends bits as digits, and none as `-`.
@@ -106,7 +118,29 @@ fn push_digits(out: &mut Vec<u8>, slice: BitSlice<'_>) -> Result<(), AllocError>
     if slice.is_empty() {
         return push_text(out, "-");
     }
+    if slice.bit(slice.len()).is_some() {
+        return push_text(out, "a bit too many");
+    }
     push_bits(out, slice)
+}
+
+/// Appends the bits of a slice of a slice, and their number; `none` where there are none.
+fn push_cut(
+    out: &mut Vec<u8>,
+    slice: &BitSlice<'_>,
+    from: usize,
+    count: usize,
+) -> Result<(), AllocError> {
+    if let Some(cut) = slice.cut(from, count) {
+        push_digits(out, cut)?;
+        push_text(out, " ")?;
+    }
+    let number = if count > 64 {
+        None
+    } else {
+        slice.number(from, count)
+    };
+    push_found(out, number)
 }
 
 /// `cut BYTES START LEN FROM COUNT`: the bits of a slice of a slice, and their number; `no slice`
@@ -118,24 +152,10 @@ pub(crate) fn cut(alloc: Global, words: &str, out: &mut Vec<u8>) -> Result<bool,
     let [start, len, from, count] = places.as_slice() else {
         return Ok(false);
     };
-    let Some(slice) = BitSlice::new(held.as_slice(), *start as usize, *len as usize) else {
-        push_text(out, "no slice")?;
-        return Ok(true);
-    };
-    let cut = slice.cut(*from as usize, *count as usize);
-    if let Some(cut) = cut {
-        if cut.is_empty() != (*count == 0) || cut.bit(*count as usize).is_some() {
-            return Ok(false);
-        }
-        push_digits(out, cut)?;
-        push_text(out, " ")?;
+    match BitSlice::new(held.as_slice(), *start as usize, *len as usize) {
+        Some(slice) => push_cut(out, &slice, *from as usize, *count as usize)?,
+        None => push_text(out, "no slice")?,
     }
-    let number = if *count > 64 {
-        None
-    } else {
-        slice.number(*from as usize, *count as usize)
-    };
-    push_found(out, number)?;
     Ok(true)
 }
 
@@ -165,14 +185,19 @@ pub(crate) fn owned(alloc: Global, words: &str, out: &mut Vec<u8>) -> Result<boo
 
 /// Appends a number and keeps so many bits at most. Answers whether the number is one of its width.
 fn changed(held: &mut Bits, width: u64, number: u64, keep: u64) -> Result<bool, AllocError> {
-    if width > 63 || number >> width != 0 || held.len() > MOST_BITS {
+    if width > 63 || number >= 1 << width || held.len() > MOST_BITS {
         return Ok(false);
     }
     held.push_number(width as usize, number)?;
-    if keep < held.len() as u64 {
-        held.truncate(keep as usize);
+    keep_first(held, keep as usize);
+    Ok(true)
+}
+
+/// Keeps so many bits at most.
+fn keep_first(held: &mut Bits, keep: usize) {
+    if keep < held.len() {
+        held.truncate(keep);
     }
-    Ok(held.is_empty() == (held.len() == 0))
 }
 
 /// `append DIGITS BYTES START LEN`: the bits with those of a slice behind them.
@@ -187,16 +212,30 @@ pub(crate) fn appended(alloc: Global, words: &str, out: &mut Vec<u8>) -> Result<
     let [start, len] = places.as_slice() else {
         return Ok(false);
     };
-    let Some(slice) = BitSlice::new(bytes.as_slice(), *start as usize, *len as usize) else {
-        return Ok(false);
-    };
-    if slice.len() > MOST_BITS || held.len() > MOST_BITS {
-        return Ok(false);
+    match BitSlice::new(bytes.as_slice(), *start as usize, *len as usize) {
+        Some(slice) => append(&mut held, &slice)?,
+        None => return Ok(false),
     }
-    parts::append(&mut held, &slice)?;
-    push_bits(out, held.as_slice())?;
     let copy = Bits::from_slice(alloc, held.as_slice())?;
-    Ok(copy == held)
+    push_bits(out, copy.as_slice())?;
+    Ok(true)
+}
+
+/// Appends a slice, where neither list is too long.
+fn append(held: &mut Bits, slice: &BitSlice<'_>) -> Result<(), AllocError> {
+    if slice.len() > MOST_BITS || held.len() > MOST_BITS {
+        return Ok(());
+    }
+    parts::append(held, slice)
+}
+
+/// Writes a slice over bits, and tells whether there is room.
+fn lay(into: &mut [u8], at: usize, slice: &BitSlice<'_>) -> bool {
+    if BitSlice::new(into, at, slice.len()).is_none() {
+        return false;
+    }
+    parts::write_slice(into, at, slice);
+    true
 }
 
 /// `lay BYTES INTO START LEN AT`: the bytes INTO with the bits of a slice from bit AT on.
@@ -211,13 +250,10 @@ pub(crate) fn laid(alloc: Global, words: &str, out: &mut Vec<u8>) -> Result<bool
     let [start, len, at] = places.as_slice() else {
         return Ok(false);
     };
-    let Some(slice) = BitSlice::new(held.as_slice(), *start as usize, *len as usize) else {
-        return Ok(false);
+    let good = match BitSlice::new(held.as_slice(), *start as usize, *len as usize) {
+        Some(slice) => lay(into.as_mut_slice(), *at as usize, &slice),
+        None => false,
     };
-    if BitSlice::new(into.as_slice(), *at as usize, slice.len()).is_none() {
-        return Ok(false);
-    }
-    parts::write_slice(into.as_mut_slice(), *at as usize, &slice);
     push_bytes(out, into.as_slice())?;
-    Ok(true)
+    Ok(good)
 }

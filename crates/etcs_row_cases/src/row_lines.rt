@@ -2,7 +2,7 @@
 //!
 //! A row is named by `p` and a packet's number or `m` and a message's number.
 
-ghost use Rattle.std.specs.Prelude.{◌≤◌, [], length, IfOk, IfSome};
+ghost use Rattle.std.specs.Prelude.{◌≡◌, ◌≤◌, Bool, List, [], ◌++◌, length, IsTrue, IfOk};
 ghost use Rattle.etcs_rows.specs.Layouts.{layout, AdmitsFields, Spells};
 
 use crate::set_lines::push_set;
@@ -12,9 +12,7 @@ use crate::words::{
 };
 use etcs_bits::Bits;
 use etcs_rows::parts::{Carrier, length_fits, number_fits, put_row};
-use etcs_rows::{
-    Place, Row, Way, admits_fields, lengths, message_row, reaches, row_of, write_row,
-};
+use etcs_rows::{Place, Row, Way, admits_fields, lengths, message_row, reaches, row_of, write_row};
 use std::alloc::{AllocError, Global};
 
 /// The row of a name.
@@ -41,13 +39,16 @@ pub(crate) fn row_and_numbers(
     Ok(Some((row, found)))
 }
 
-/// The place behind some numbers of a row. `None` where one of them isn't admitted.
-pub(crate) fn place_behind(row: Row, numbers: &[u64]) -> Option<Place> {
+/// The place behind some numbers of a row, and how many bits they take. `None` where one of them
+/// isn't admitted.
+pub(crate) fn place_behind(row: Row, numbers: &[u64]) -> Option<(Place, usize)> {
     let mut place = Place::start(row);
+    let mut bits = 0usize;
     for number in numbers {
+        bits = bits.saturating_add(place.var()?.width());
         place = place.after(*number)?;
     }
-    Some(place)
+    Some((place, bits))
 }
 
 /// `row ROW`: how many items its table has, or `none`.
@@ -72,6 +73,8 @@ pub(crate) fn fields(alloc: Global, words: &str, out: &mut Vec<u8>) -> Result<bo
 /// Appends a row, if it admits the numbers, and tells whether it does.
 fn append(row: Row, fields: &[u64], out: &mut Bits) -> Result<bool, AllocError>
     requires { length out.old ≤ 64 }
+    ensures admitted { IfOk result (λ good. IsTrue good → AdmitsFields (layout row.items.now) fields.now) }
+    ensures spelled { IfOk result (λ good. IsTrue good → (b : List Bool) × Spells (layout row.items.now) [] fields.now b × (out.new ≡ out.old ++ b)) }
 {
     if !admits_fields(row, fields) {
         return Ok(false);
@@ -100,19 +103,6 @@ pub(crate) fn write(alloc: Global, words: &str, out: &mut Vec<u8>) -> Result<boo
     Ok(true)
 }
 
-/// The bits of numbers. `None` where the row doesn't admit them.
-fn spelled(alloc: Global, row: Row, fields: &[u64]) -> Result<Option<Bits>, AllocError>
-    ensures admitted { IfOk result (λ o. IfSome o (λ _. AdmitsFields (layout row.items.now) fields.now)) }
-    ensures spelled { IfOk result (λ o. IfSome o (λ out. Spells (layout row.items.now) [] fields.now out)) }
-{
-    if !admits_fields(row, fields) {
-        return Ok(None);
-    }
-    let mut out = Bits::new(alloc);
-    write_row(row, fields, &mut out)?;
-    Ok(Some(out))
-}
-
 /// Writes a row over bits from `start` on, and answers the place behind it. `None` where the row
 /// doesn't admit the numbers or the bytes have no room.
 fn put_over(
@@ -122,13 +112,12 @@ fn put_over(
     bytes: &mut [u8],
     start: usize,
 ) -> Result<Option<usize>, AllocError> {
-    let Some(out) = spelled(alloc, row, fields)? else {
-        return Ok(None);
-    };
-    if start > 64 || bytes.len() > 64 || out.len() > 512 {
+    let mut out = Bits::new(alloc);
+    let admitted = append(row, fields, &mut out)?;
+    if !admitted || start > 64 || bytes.len() > 64 || out.len() > bytes.len() * 8 {
         return Ok(None);
     }
-    if start + out.len() > bytes.len() * 8 {
+    if start > bytes.len() * 8 - out.len() {
         return Ok(None);
     }
     Ok(Some(put_row(row, fields, bytes, start)))
@@ -164,7 +153,7 @@ pub(crate) fn place(alloc: Global, words: &str, out: &mut Vec<u8>) -> Result<boo
     let Some((row, found)) = row_and_numbers(alloc, words)? else {
         return Ok(false);
     };
-    let Some(place) = place_behind(row, found.as_slice()) else {
+    let Some((place, _)) = place_behind(row, found.as_slice()) else {
         push_text(out, "not admitted")?;
         return Ok(true);
     };
@@ -184,7 +173,7 @@ pub(crate) fn left(alloc: Global, words: &str, out: &mut Vec<u8>) -> Result<bool
     let Some((row, found)) = row_and_numbers(alloc, rest)? else {
         return Ok(false);
     };
-    let Some(place) = place_behind(row, found.as_slice()) else {
+    let Some((place, _)) = place_behind(row, found.as_slice()) else {
         return Ok(false);
     };
     push_set(out, &lengths(&place), most)?;
@@ -200,7 +189,7 @@ pub(crate) fn reached(alloc: Global, words: &str, out: &mut Vec<u8>) -> Result<b
     let Some((row, found)) = row_and_numbers(alloc, rest)? else {
         return Ok(false);
     };
-    let Some(place) = place_behind(row, found.as_slice()) else {
+    let Some((place, _)) = place_behind(row, found.as_slice()) else {
         return Ok(false);
     };
     push_truth(out, reaches(&place, bits))?;
@@ -256,13 +245,7 @@ pub(crate) fn number(alloc: Global, words: &str, out: &mut Vec<u8>) -> Result<bo
     }
     push_truth(
         out,
-        number_fits(
-            Way::ToTrain,
-            carrier,
-            *room as usize,
-            *rest as usize,
-            *bits,
-        ),
+        number_fits(Way::ToTrain, carrier, *room as usize, *rest as usize, *bits),
     )?;
     Ok(true)
 }

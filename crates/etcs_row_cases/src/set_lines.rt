@@ -19,39 +19,40 @@ fn made(alloc: Global, words: &str) -> Result<Option<Vec<LengthSet>>, AllocError
     Ok(Some(sets))
 }
 
+/// The two sets that were made last, the last one behind.
+fn two(sets: &mut Vec<LengthSet>) -> Option<(LengthSet, LengthSet)> {
+    let last = sets.pop()?;
+    let before = sets.pop()?;
+    Some((before, last))
+}
+
 /// The set that a word makes of those that were made before.
 fn one(sets: &mut Vec<LengthSet>, word: &str) -> Option<LengthSet> {
-    if word == "join" {
-        let set = sets.pop()?;
-        return Some(sets.pop()?.join(&set));
+    match word {
+        "join" => two(sets).map(|pair| pair.0.join(&pair.1)),
+        "plus" => two(sets).map(|pair| pair.0.plus(&pair.1)),
+        _ => match word.strip_prefix('x') {
+            Some(count) => Some(sets.pop()?.times(count.parse::<u64>().ok()?)),
+            None => shifted(sets, word),
+        },
     }
-    if word == "plus" {
-        let set = sets.pop()?;
-        return Some(sets.pop()?.plus(&set));
-    }
-    if let Some(count) = word.strip_prefix('x') {
-        return Some(sets.pop()?.times(count.parse::<u64>().ok()?));
-    }
-    let (number, shifts) = match word.strip_prefix('>') {
-        Some(number) => (number.parse::<usize>().ok()?, true),
-        None => (word.parse::<usize>().ok()?, false),
-    };
+}
+
+/// The set of a number, or the set that was made last and is shifted by a number.
+fn shifted(sets: &mut Vec<LengthSet>, word: &str) -> Option<LengthSet> {
+    let by = word.strip_prefix('>');
+    let number = by.unwrap_or(word).parse::<usize>().ok()?;
     if number > 8191 {
         return None;
     }
-    if shifts {
-        Some(sets.pop()?.shift(number))
-    } else {
-        Some(LengthSet::single(number))
+    match by {
+        Some(_) => Some(sets.pop()?.shift(number)),
+        None => Some(LengthSet::single(number)),
     }
 }
 
 /// Appends the numbers of a set up to `most`: each run of them as FIRST-LAST, or as FIRST where it has one.
-pub(crate) fn push_set(
-    out: &mut Vec<u8>,
-    set: &LengthSet,
-    most: usize,
-) -> Result<(), AllocError> {
+pub(crate) fn push_set(out: &mut Vec<u8>, set: &LengthSet, most: usize) -> Result<(), AllocError> {
     let mut begun = None;
     for number in 0..8193usize {
         let held = number <= most && set.holds(number);

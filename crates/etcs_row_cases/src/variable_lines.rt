@@ -40,6 +40,15 @@ pub(crate) fn admits(alloc: Global, words: &str, out: &mut Vec<u8>) -> Result<bo
     Ok(true)
 }
 
+/// Appends whether a variable admits a number that begins so. Answers whether it may have so many bits.
+fn push_begun(out: &mut Vec<u8>, var: Var, bits: u64, taken: usize) -> Result<bool, AllocError> {
+    if taken > var.width() || (taken < 64 && bits >= 1 << taken) {
+        return Ok(false);
+    }
+    push_truth(out, var.admits_prefix(bits, taken))?;
+    Ok(true)
+}
+
 /// `begins VAR DIGITS`: whether some admitted number begins with these bits.
 pub(crate) fn begins(alloc: Global, words: &str, out: &mut Vec<u8>) -> Result<bool, AllocError> {
     let (name, rest) = first_word(words);
@@ -50,20 +59,16 @@ pub(crate) fn begins(alloc: Global, words: &str, out: &mut Vec<u8>) -> Result<bo
         return Ok(false);
     };
     let taken = digits.len();
-    if taken > var.width() || taken > 64 {
+    if taken > 64 {
         return Ok(false);
     }
-    let Some(number) = digits.as_slice().number(0, taken) else {
-        return Ok(false);
-    };
-    if taken < 64 && number >> taken != 0 {
-        return Ok(false);
+    match digits.as_slice().number(0, taken) {
+        Some(number) => push_begun(out, var, number, taken),
+        None => Ok(false),
     }
-    push_truth(out, var.admits_prefix(number, taken))?;
-    Ok(true)
 }
 
-/// `span REST BITS LOW HIGH ..`: whether some number of the ranges is BITS without its REST lowest bits.
+/// `span REST BITS LOW HIGH ..`: whether some number of at most two ranges is BITS without its REST lowest bits.
 pub(crate) fn span(alloc: Global, words: &str, out: &mut Vec<u8>) -> Result<bool, AllocError> {
     let Some(found) = numbers(alloc, words)? else {
         return Ok(false);
@@ -74,16 +79,16 @@ pub(crate) fn span(alloc: Global, words: &str, out: &mut Vec<u8>) -> Result<bool
     if *rest > 64 {
         return Ok(false);
     }
-    let mut ranges = Vec::new(alloc);
-    for pair in ends.chunks_exact(2) {
-        if let [low, high] = pair {
-            ranges.push((*low, *high))?;
+    let rest = *rest as usize;
+    let begins = match ends {
+        [] => etcs_vars::begins(&[], rest, *bits),
+        [low, high] => etcs_vars::begins(&[(*low, *high)], rest, *bits),
+        [low, high, second, last] => {
+            etcs_vars::begins(&[(*low, *high), (*second, *last)], rest, *bits)
         }
-    }
-    push_truth(
-        out,
-        etcs_vars::begins(ranges.as_slice(), *rest as usize, *bits),
-    )?;
+        _ => return Ok(false),
+    };
+    push_truth(out, begins)?;
     Ok(true)
 }
 

@@ -4,8 +4,19 @@ use crate::row_lines::{place_behind, row_and_numbers, row_named};
 use crate::words::{bits, first_word, push_number, push_text};
 use etcs_bits::BitSlice;
 use etcs_rows::parts::{take, unfinished, wanted};
-use etcs_rows::{Place, Row, RowWalk, Step, Stopped, lengths};
+use etcs_rows::{Row, RowWalk, Step, Stopped, lengths};
 use std::alloc::{AllocError, Global};
+
+/// Takes a number of so many bits. `None` where the next variable doesn't want as many.
+fn take_some(walk: &mut RowWalk, count: usize, number: u64) -> Option<Result<Step, Stopped>> {
+    if count == 0 || count > 63 || number >= 1 << count {
+        return None;
+    }
+    if count > wanted(walk) && !walk.is_whole() {
+        return None;
+    }
+    Some(take(walk, count, number))
+}
 
 /// Takes `count` bits of the digits from `at` on: one alone by `bit` where `most` is 0, else by `take`.
 /// `None` where the digits have no such bits or the next variable doesn't want as many.
@@ -19,14 +30,10 @@ fn taken(
     if most == 0 {
         return Some(walk.bit(digits.bit(at)?));
     }
-    if count == 0 || count > 63 || (count > wanted(walk) && !walk.is_whole()) {
+    if count > 63 {
         return None;
     }
-    let number = digits.number(at, count)?;
-    if number >> count != 0 {
-        return None;
-    }
-    Some(take(walk, count, number))
+    take_some(walk, count, digits.number(at, count)?)
 }
 
 /// Whether a walk tells the same by each of its calls, behind a step.
@@ -154,11 +161,11 @@ pub(crate) fn walked(alloc: Global, words: &str, out: &mut Vec<u8>) -> Result<bo
 /// Whether a walk takes a number of its next variable, bit by bit or at once.
 fn takes(walk: &mut RowWalk, number: u64, at_once: bool) -> bool {
     let count = wanted(walk);
-    if count == 0 || count > 63 || number >> count != 0 {
-        return false;
-    }
     if at_once {
-        return take(walk, count, number).is_ok();
+        return matches!(take_some(walk, count, number), Some(Ok(_)));
+    }
+    if count == 0 || count > 63 || number >= 1 << count {
+        return false;
     }
     for place in 0..count {
         if walk.bit((number >> (count - 1 - place)) % 2 == 1).is_err() {
@@ -181,21 +188,6 @@ fn takes_all(row: Row, len: usize, numbers: &[u64], at_once: bool) -> bool {
     true
 }
 
-/// How many bits the numbers take.
-fn bits_of(row: Row, numbers: &[u64]) -> usize {
-    let mut place = Place::start(row);
-    let mut bits = 0usize;
-    for number in numbers {
-        if let Some(var) = place.var() {
-            bits = bits.saturating_add(var.width());
-        }
-        if let Some(after) = place.after(*number) {
-            place = after;
-        }
-    }
-    bits
-}
-
 /// How many lengths of the rest `fits` tries.
 const MOST_REST: usize = 400;
 
@@ -206,15 +198,18 @@ pub(crate) fn fits(alloc: Global, words: &str, out: &mut Vec<u8>) -> Result<bool
         return Ok(false);
     };
     let numbers = found.as_slice();
-    let bits = bits_of(row, numbers);
-    let left = place_behind(row, numbers).map(|place| lengths(&place));
+    let (left, bits) = match place_behind(row, numbers) {
+        Some((place, bits)) => (Some(lengths(&place)), bits),
+        None => (None, 0),
+    };
     for rest in 0..=MOST_REST {
         let len = bits.saturating_add(rest);
         let fits = match &left {
             Some(set) => set.holds(rest),
             None => false,
         };
-        if takes_all(row, len, numbers, true) != fits || takes_all(row, len, numbers, false) != fits
+        if takes_all(row, len, numbers, true) != fits
+            || takes_all(row, len, numbers, false) != fits
         {
             push_text(out, "not at ")?;
             push_number(out, len as u64)?;

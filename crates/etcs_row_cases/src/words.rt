@@ -167,7 +167,11 @@ pub fn first_word(words: &str) -> (&str, &str) {
         Some(parts) => parts,
         None => (words, ""),
     };
-    if first == "-" { ("", rest) } else { (first, rest) }
+    if first == "-" {
+        ("", rest)
+    } else {
+        (first, rest)
+    }
 }
 
 /// The bytes of the first word and the numbers behind it. `None` where these are none.

@@ -6,8 +6,6 @@ mod bytes;
 pub mod parts;
 mod poker;
 mod slice;
-#[cfg(test)]
-mod tests;
 mod walker;
 
 pub use bits::Bits;

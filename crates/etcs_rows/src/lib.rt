@@ -4,36 +4,18 @@
 mod fitting;
 mod framed;
 mod frames;
-#[cfg(test)]
-mod frames_tests;
 mod item;
 pub mod laws;
 mod length_set;
-#[cfg(test)]
-mod length_set_tests;
 mod measure;
-#[cfg(test)]
-mod memory_tests;
 mod packetlike;
-#[cfg(test)]
-mod packetlike_tests;
 pub mod parts;
 mod place;
-#[cfg(test)]
-mod place_tests;
 mod row;
-#[cfg(test)]
-mod rows_tests;
 mod steps;
-#[cfg(test)]
-mod steps_tests;
 mod tables;
 mod walk;
-#[cfg(test)]
-mod walk_tests;
 mod write;
-#[cfg(test)]
-mod write_tests;
 
 pub use item::{Guard, RowItem, Test};
 pub use length_set::LengthSet;

@@ -367,19 +367,6 @@ impl Place {
     }
 }
 
-#[cfg(test)]
-impl Place {
-    /// Whether `can_take` needs no set.
-    pub(crate) fn is_quick(&self, bits: usize) -> bool {
-        reaches_by_steps(&self.cursor, bits).is_some()
-    }
-
-    /// Whether `fits` needs no set.
-    pub(crate) fn is_quick_at(&self, low: u64, high: u64, bits: usize) -> bool {
-        fits_by_steps(&self.cursor, low, high, bits).is_some()
-    }
-}
-
 /// How many bits, at most 8,191, may be left of the row: the numbers at which [`reaches`] is true.
 pub fn lengths(place: &Place) -> LengthSet
     ensures { (m : ℕ) → In result m ↔ Lengths place.now [] m }

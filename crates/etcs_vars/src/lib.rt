@@ -8,8 +8,6 @@ pub mod parts;
 mod ranges;
 mod sink;
 mod tables;
-#[cfg(test)]
-mod tests;
 mod var;
 
 pub use fault::{BuildFault, check};

@@ -9,8 +9,8 @@ use Rattle.etcs_rows.specs.declared.row.Way.TheVariants.{ToTrain}
 use Rattle.etcs_rows.specs.Layouts.{Layout, Reads}
 use Rattle.etcs_rows.specs.Rows.{stop_in_sr}
 use Rattle.etcs_rows.specs.Typed.{IsTyped}
-use Rattle.etcs_rows.proofs.packetlike_tests.StopInSrPacketlike.from_fields.Goals as goal
-use Rattle.etcs_rows.proofs.packetlike_tests.StopInSrPacketlike.from_fields.Goals.{in_default-via-then-fields-lt1, in_default-via-else-fields-lt1+else-fields-lt2, then-not-admits-via-then-not-admits, then-not-admits-via-else-not-admits+then-not-admits-2}
+use Rattle.etcs_row_tests.proofs.packetlike_tests.StopInSrPacketlike.from_fields.Goals as goal
+use Rattle.etcs_row_tests.proofs.packetlike_tests.StopInSrPacketlike.from_fields.Goals.{in_default-via-then-fields-lt1, in_default-via-else-fields-lt1+else-fields-lt2, then-not-admits-via-then-not-admits, then-not-admits-via-else-not-admits+then-not-admits-2}
 
 -- the row has one number
 one_number : (r : Reading) → Reads stop_in_sr [] r → (n : ℕ) × IsTrue (admits Q_SRSTOP n) × (numbers r ≡ n ∷ [])

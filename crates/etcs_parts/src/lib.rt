@@ -3,47 +3,21 @@
 
 mod authority;
 mod authority_groups;
-#[cfg(test)]
-mod authority_tests;
 mod differing;
-#[cfg(test)]
-mod differing_tests;
 mod faults;
 mod guards;
 mod items;
 pub mod laws;
-#[cfg(test)]
-mod laws_tests;
 mod level;
 mod level_ack;
-#[cfg(test)]
-mod level_tests;
 mod link;
-#[cfg(test)]
-mod link_tests;
-#[cfg(test)]
-mod list_tests;
-#[cfg(test)]
-mod memory_tests;
 mod numbers;
-#[cfg(test)]
-mod numbers_tests;
 mod part;
-#[cfg(test)]
-mod part_tests;
 mod section;
 mod shown;
-#[cfg(test)]
-mod shown_tests;
 mod slope;
-#[cfg(test)]
-mod slope_tests;
 mod speed;
-#[cfg(test)]
-mod speed_tests;
 mod text_frame;
-#[cfg(test)]
-mod text_frame_tests;
 
 pub use authority::Authority;
 pub use differing::Differing;

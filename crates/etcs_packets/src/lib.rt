@@ -1,23 +1,9 @@
 //! Packets to the train: every number that is typed, and all others as bits.
 #![tactic(auto)]
 
-#[cfg(test)]
-mod flat_tests;
 pub mod laws;
-#[cfg(test)]
-mod laws_tests;
-#[cfg(test)]
-mod memory_tests;
-#[cfg(test)]
-mod order_tests;
 mod packet;
-#[cfg(test)]
-mod packet_tests;
 pub mod parts;
-#[cfg(test)]
-mod profile_tests;
-#[cfg(test)]
-mod send_tests;
 mod typed;
 
 pub use etcs_flat::{Flat, Marker, Other};

@@ -1,0 +1,10 @@
+use Rattle.std.proofs.Common.{[], ◌∷◌, true, refl}
+use Rattle.std.specs.Prelude.{replicate}
+use Rattle.etcs_bits.specs.Bits.{bits, num}
+use Rattle.etcs_packets.specs.PacketValues.{marker}
+use Rattle.etcs_telegram_tests.proofs.Samples.{one_marker}
+use Rattle.etcs_telegram_tests.proofs.refs_tests.marker.Goals as goal
+
+pub behind_header-requires : goal.behind_header-requires
+unfolding bits num
+behind_header-requires c = (marker 3 ∷ [], replicate 16 true, one_marker, refl, refl)

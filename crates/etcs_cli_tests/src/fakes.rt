@@ -21,25 +21,6 @@ impl Read for Broken<'_> {
     }
 }
 
-/// Gives one byte a read.
-#[derive(Drop)]
-pub(crate) struct Slow<'a> {
-    pub(crate) rest: &'a [u8],
-}
-
-impl Read for Slow<'_> {
-    fn read(&mut self, buf: &mut [u8]) -> io::Result<usize> {
-        match (self.rest.split_first(), buf.first_mut()) {
-            (Some((first, rest)), Some(place)) => {
-                *place = *first;
-                self.rest = rest;
-                Ok(1)
-            }
-            _ => Ok(0),
-        }
-    }
-}
-
 /// Gives the same bytes again and again, so often.
 #[derive(Drop)]
 pub(crate) struct Repeated<'a> {

@@ -1,4 +1,5 @@
-//! Tests of the program but for its words and streams.
+//! Tests of the program but for its words and streams: readers and writers that fail, and memory that is refused. What it
+//! writes of good streams is said by vectors.
 #![tactic(auto)]
 
 #[cfg(test)]
@@ -6,10 +7,6 @@ mod fakes;
 #[cfg(test)]
 mod memory_tests;
 #[cfg(test)]
-mod packet_tests;
-#[cfg(test)]
-mod run_tests;
-#[cfg(test)]
-mod samples;
+mod stream_tests;
 #[cfg(test)]
 mod words_tests;

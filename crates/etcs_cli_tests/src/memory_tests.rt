@@ -3,7 +3,6 @@
 
 ghost use Rattle.std.specs.Prelude.{◌≤◌};
 
-use crate::samples::{LONG, LONG_TEXT};
 use etcs_bits::{BitSlice, Bits};
 use etcs_cli::engine::{
     Command, Entry, Form, Input, Job, Kind, Output, RunFault, Tally, run, show_lines,
@@ -72,8 +71,8 @@ fn copies_of_bits(rt: HostRuntime) -> Result<(), Fail> {
         drop(held);
         match copy {
             Ok(bits) => {
-                assert_eq!(rt; bits.len(), 700);
-                assert_eq!(rt; bits.as_slice().number(7, 40), wanted);
+                assert!(rt; bits.len() == 700);
+                assert!(rt; bits.as_slice().number(7, 40) == wanted);
             }
             Err(_) => refused = refused.saturating_add(1),
         }
@@ -95,15 +94,9 @@ fn pushed_bits(rt: HostRuntime) -> Result<(), Fail> {
         assert!(rt; before < 10);
         let many = bits.push_number(64, u64::MAX).is_ok();
         drop(held);
-        assert_eq!(rt; before, if one { 1 } else { 0 });
-        assert_eq!(rt;
-            bits.len(),
-            if many {
-                before.saturating_add(64)
-            } else {
-                before
-            }
-        );
+        assert!(rt; before == usize::from(one));
+        let added = if many { 64 } else { 0 };
+        assert!(rt; bits.len() == before.saturating_add(added));
         if !many {
             refused = refused.saturating_add(1);
         }
@@ -122,9 +115,9 @@ fn built_telegrams(rt: HostRuntime) -> Result<(), Fail> {
         let built = plain(alloc);
         drop(held);
         match built {
-            Ok(telegram) => assert_eq!(rt; telegram.fill().len(), 772),
+            Ok(telegram) => assert!(rt; telegram.fill().len() == 772),
             Err(fault) => {
-                assert_eq!(rt; fault, BuildFault::Memory);
+                assert!(rt; fault == BuildFault::Memory);
                 refused = refused.saturating_add(1);
             }
         }
@@ -141,7 +134,7 @@ fn feed_starved(rt: &impl Abort, alloc: Global, first: usize, room: usize) -> Re
 {
     let bytes = long_bytes();
     let mut reader = TelegramReader::new(alloc, Size::Long);
-    assert_eq!(rt; feed(&mut reader, &bytes[..first]), Ok(Fed::More));
+    assert!(rt; feed(&mut reader, &bytes[..first]) == Ok(Fed::More));
     let held = starve_to(alloc, room)?;
     let fed = feed(&mut reader, &bytes[first..]);
     drop(held);
@@ -153,14 +146,14 @@ fn feed_starved(rt: &impl Abort, alloc: Global, first: usize, room: usize) -> Re
         assert!(rt; reader.take().is_ok());
         return Ok(false);
     }
-    assert_eq!(rt; fed, Err(ReadFault::Memory));
+    assert!(rt; fed == Err(ReadFault::Memory));
     let seen = reader.bits_seen();
     assert!(rt; seen >= bytes[..first].len().saturating_mul(8));
     assert!(rt; seen >= 58);
     assert!(rt; seen < 832);
-    assert_eq!(rt; feed(&mut reader, &[]), Err(ReadFault::Memory));
-    assert_eq!(rt; feed(&mut reader, &bytes), Err(ReadFault::Memory));
-    assert_eq!(rt; reader.bits_seen(), seen);
+    assert!(rt; feed(&mut reader, &[]) == Err(ReadFault::Memory));
+    assert!(rt; feed(&mut reader, &bytes) == Err(ReadFault::Memory));
+    assert!(rt; reader.bits_seen() == seen);
     assert!(rt; reader.take().is_err());
     Ok(true)
 }
@@ -174,8 +167,8 @@ fn fed_readers(rt: HostRuntime) -> Result<(), Fail> {
                 refused = refused.saturating_add(1);
             }
         }
-        assert!(rt; refused > 0, "{first}");
-        assert!(rt; refused < 9, "{first}");
+        assert!(rt; refused > 0);
+        assert!(rt; refused < 9);
     }
     Ok(())
 }
@@ -184,7 +177,8 @@ fn fed_readers(rt: HostRuntime) -> Result<(), Fail> {
 fn shown_lines(rt: HostRuntime) -> Result<(), Fail> {
     let alloc = rt.alloc();
     let entry = Entry::Telegram(plain(alloc)?);
-    let wanted = format!(in alloc; "x{}{}", "item 9", LONG_TEXT)?;
+    let mut wanted = b"x".to_vec(alloc)?;
+    show_lines(&entry, 9, &mut wanted)?;
     let mut refused = 0u32;
     for room in ROOMS {
         let mut out = b"x".to_vec(alloc)?;
@@ -192,9 +186,9 @@ fn shown_lines(rt: HostRuntime) -> Result<(), Fail> {
         let shown = is_shown(&entry, &mut out);
         drop(held);
         if shown {
-            assert_eq!(rt; out.as_slice(), wanted.as_bytes());
+            assert!(rt; out == wanted);
         } else {
-            assert_eq!(rt; out.as_slice(), b"x".as_slice());
+            assert!(rt; out.as_slice() == b"x".as_slice());
             refused = refused.saturating_add(1);
         }
     }
@@ -206,8 +200,10 @@ fn shown_lines(rt: HostRuntime) -> Result<(), Fail> {
 #[test]
 fn whole_runs(rt: HostRuntime) -> Result<(), Fail> {
     let alloc = rt.alloc();
-    let text = format!(in alloc; "{LONG}\n{LONG}\n")?;
-    let wanted = format!(in alloc; "item 1{LONG_TEXT}item 2{LONG_TEXT}")?;
+    let line = hex::encode_upper(alloc, long_bytes())?;
+    let text = format!(in alloc; "{line}\n{line}\n")?;
+    let mut wanted = Vec::new(alloc);
+    show(alloc, text.as_bytes(), &mut wanted)?;
     let mut refused = 0u32;
     for room in ROOMS {
         let mut written: Vec<u8> = Vec::with_capacity(alloc, 4096)?;
@@ -215,12 +211,12 @@ fn whole_runs(rt: HostRuntime) -> Result<(), Fail> {
         let answer = show(alloc, text.as_bytes(), &mut written);
         drop(held);
         if answer.is_ok() {
-            assert_eq!(rt; written.as_slice(), wanted.as_bytes());
+            assert!(rt; written == wanted);
         } else {
-            assert_eq!(rt; answer, Err(RunFault::Memory));
-            let first = wanted.as_bytes().len() / 2;
+            assert!(rt; answer == Err(RunFault::Memory));
+            let first = wanted.len() / 2;
             assert!(rt; written.is_empty() || written.len() == first);
-            assert!(rt; wanted.as_bytes().starts_with(written.as_slice()));
+            assert!(rt; wanted.as_slice().starts_with(written.as_slice()));
             refused = refused.saturating_add(1);
         }
     }

@@ -71,13 +71,13 @@ fn failing_writers_change_no_status(rt: HostRuntime) -> Result<(), Fail> {
         let words = words_of(alloc, line)?;
         let input: &[u8] = &[];
         let status = run_words(alloc, words, input, &mut output, &mut faults);
-        assert_eq!(rt; status, wanted, "{line}");
+        assert!(rt; status == wanted);
     }
     let mut output = Failing::at_each_flush();
     let mut faults = Failing::at_each_call();
     let words = words_of(alloc, "etcs show --kind short")?;
     let status = run_words(alloc, words, Unreadable, &mut output, &mut faults);
-    assert_eq!(rt; status, 3);
+    assert!(rt; status == 3);
     Ok(())
 }
 
@@ -89,18 +89,15 @@ fn passes_on_what_was_written(rt: HostRuntime) -> Result<(), Fail> {
     let mut output = Failing::at_each_flush();
     let words = words_of(alloc, "etcs help")?;
     let input: &[u8] = &[];
-    assert_eq!(rt; run_words(alloc, words, input, &mut output, &mut faults), 0);
-    assert_eq!(rt; output.flushes, 1);
+    assert!(rt; run_words(alloc, words, input, &mut output, &mut faults) == 0);
+    assert!(rt; output.flushes == 1);
     assert!(rt; faults.is_empty());
 
     let mut output = Failing::at_each_flush();
     let words = words_of(alloc, "etcs show --kind short")?;
-    assert_eq!(rt;
-        run_words(alloc, words, Unreadable, &mut output, &mut faults),
-        3
-    );
+    assert!(rt; run_words(alloc, words, Unreadable, &mut output, &mut faults) == 3);
     assert!(rt; output.flushes > 0);
-    assert_eq!(rt; faults.as_slice(), b"etcs: read fault\n".as_slice());
+    assert!(rt; faults.as_slice() == b"etcs: read fault\n".as_slice());
     Ok(())
 }
 
@@ -111,11 +108,8 @@ fn a_failing_flush_is_a_write_fault(rt: HostRuntime) -> Result<(), Fail> {
     let mut output = Failing::at_each_flush();
     let words = words_of(alloc, "etcs show --kind long")?;
     let input: &[u8] = &[];
-    assert_eq!(rt; run_words(alloc, words, input, &mut output, &mut faults), 3);
-    assert_eq!(rt;
-        faults.as_slice(),
-        b"etcs: write fault after 0 bytes\n".as_slice()
-    );
+    assert!(rt; run_words(alloc, words, input, &mut output, &mut faults) == 3);
+    assert!(rt; faults.as_slice() == b"etcs: write fault after 0 bytes\n".as_slice());
     Ok(())
 }
 
@@ -130,13 +124,9 @@ fn says_that_memory_was_refused(rt: HostRuntime) -> Result<(), Fail> {
         let held = starve(alloc)?;
         let status = run_words(alloc, words, input, &mut output, &mut faults);
         drop(held);
-        assert_eq!(rt; status, 3, "{line}");
-        assert!(rt; output.is_empty(), "{line}");
-        assert_eq!(rt;
-            faults.as_slice(),
-            b"etcs: out of memory\n".as_slice(),
-            "{line}"
-        );
+        assert!(rt; status == 3);
+        assert!(rt; output.is_empty());
+        assert!(rt; faults.as_slice() == b"etcs: out of memory\n".as_slice());
     }
     Ok(())
 }

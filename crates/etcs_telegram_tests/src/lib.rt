@@ -1,17 +1,5 @@
-//! Tests of telegrams, their reader and their view, of packets in bytes, and of writing over bytes.
+//! Tests of telegrams, their reader and their view, where memory is refused. What else they answer is said by vectors.
 #![tactic(auto)]
 
 #[cfg(test)]
 mod memory_tests;
-#[cfg(test)]
-mod packet_tests;
-#[cfg(test)]
-mod reader_tests;
-#[cfg(test)]
-mod refs_tests;
-#[cfg(test)]
-mod telegram_tests;
-#[cfg(test)]
-mod view_tests;
-#[cfg(test)]
-mod writing_tests;

@@ -18,12 +18,3 @@ pub use job::{Command, Entry, Form, Job, Kind, Tally};
 pub use packets::push_packets;
 pub use pump::run;
 pub use show::show_lines;
-
-#[cfg(test)]
-mod fakes;
-#[cfg(test)]
-mod packet_tests;
-#[cfg(test)]
-pub(crate) mod samples;
-#[cfg(test)]
-mod tests;

@@ -6,10 +6,3 @@ pub mod engine;
 mod words;
 
 pub use words::run_words;
-
-#[cfg(test)]
-mod memory_tests;
-#[cfg(test)]
-mod starving;
-#[cfg(test)]
-mod version_tests;

@@ -1,4 +1,3 @@
 pub mod Fronts
 pub mod Splits
 pub mod KindBits
-pub mod Samples

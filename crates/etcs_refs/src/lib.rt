@@ -5,8 +5,6 @@ mod kinds;
 mod packet_ref;
 mod packets;
 pub mod parts;
-#[cfg(test)]
-mod tests;
 
 pub use packet_ref::PacketRef;
 pub use packets::Packets;

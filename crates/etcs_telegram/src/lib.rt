@@ -23,14 +23,3 @@ pub use reader::TelegramReader;
 pub use size::Size;
 pub use telegram::Telegram;
 pub use view::{TelegramView, ViewFault};
-
-#[cfg(test)]
-mod memory_tests;
-#[cfg(test)]
-mod packet_tests;
-#[cfg(test)]
-mod reader_tests;
-#[cfg(test)]
-mod tests;
-#[cfg(test)]
-mod view_tests;

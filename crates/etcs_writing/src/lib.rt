@@ -3,7 +3,5 @@
 
 mod packets;
 mod sink;
-#[cfg(test)]
-mod tests;
 
 pub use packets::{write_packet, write_packets, write_reading};

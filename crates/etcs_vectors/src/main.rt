@@ -1,0 +1,47 @@
+//! Checks vectors: lines of standard input that say what the crates of this repository answer.
+//!
+//! A line is `KIND WORDS = EXPECTED`, with one blank between words. A line behind it that begins with a blank goes on with
+//! what is expected, as one more line of it. Lines that begin with `#` and empty lines say nothing. Each vector that isn't
+//! answered as expected is written with what was answered, and at the end how many there were of each kind.
+#![tactic(auto)]
+
+mod builds;
+mod feeds;
+mod kinds;
+mod packets;
+mod report;
+mod runs;
+mod sheet;
+mod telegrams;
+mod turns;
+mod views;
+mod words;
+mod writes;
+
+use crate::report::Report;
+use std::alloc::Global;
+use std::io::{self, Read, Write};
+use std::process::ExitCode;
+
+fn main(rt: HostRuntime) -> ExitCode {
+    match check(rt.alloc(), rt.stdin(), rt.stdout()) {
+        Ok(true) => ExitCode::from(0),
+        Ok(false) => ExitCode::from(1),
+        Err(_) => ExitCode::from(3),
+    }
+}
+
+/// Checks the vectors of the input and writes the report: whether all are answered as expected.
+fn check(
+    alloc: Global,
+    input: impl Read + Drop,
+    mut output: impl Write + Drop,
+) -> io::Result<bool> {
+    let text = io::read_to_string(alloc, input)?;
+    let mut report = Report::new(alloc);
+    sheet::check(alloc, text.as_str(), &mut report)?;
+    report.end()?;
+    output.write_all(report.text())?;
+    output.flush()?;
+    Ok(report.is_right())
+}

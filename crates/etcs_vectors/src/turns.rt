@@ -1,0 +1,103 @@
+//! Vectors of a telegram's bytes of which one bit is turned, for each bit.
+
+use crate::views::is_same;
+use crate::words::{push_refused, sized};
+use etcs_row_cases::words::{push_number, push_text};
+use etcs_telegram::{Fed, ReadFault, Size, TelegramReader, TelegramView, ViewFault};
+use std::alloc::{AllocError, Global};
+
+/// What reader and view say of turned bytes.
+#[derive(Drop)]
+enum Said {
+    /// Both have the same telegram.
+    Telegram,
+    /// Both refuse this.
+    Refused(ReadFault),
+    /// They don't agree.
+    Otherwise,
+}
+
+/// `turned SIZE HEX`: a line for each bit that can't be turned, with what is refused.
+pub(crate) fn tell(
+    alloc: Global,
+    words: &str,
+    out: &mut Vec<u8>,
+) -> Result<Option<()>, AllocError> {
+    let Some((size, bytes)) = sized(alloc, words)? else {
+        return Ok(None);
+    };
+    for bit in 0..size.container_bytes().saturating_mul(8) {
+        let turned = turned(&bytes, bit)?;
+        push_said(bit, asked(alloc, size, turned.as_slice())?, out)?;
+    }
+    out.pop();
+    Ok(Some(()))
+}
+
+/// The line of a turned bit, where there is one.
+fn push_said(bit: usize, said: Said, out: &mut Vec<u8>) -> Result<(), AllocError> {
+    if let Said::Telegram = said {
+        return Ok(());
+    }
+    push_number(out, bit as u64)?;
+    match said {
+        Said::Refused(ReadFault::Refused { bit, var }) => {
+            push_text(out, " ")?;
+            push_refused(out, bit, var)?;
+        }
+        _ => push_text(out, " otherwise")?,
+    }
+    push_text(out, "\n")
+}
+
+/// `alike SIZE HEX`: of how many bytes with one bit turned reader and view say the same.
+pub(crate) fn tell_alike(
+    alloc: Global,
+    words: &str,
+    out: &mut Vec<u8>,
+) -> Result<Option<()>, AllocError> {
+    let Some((size, bytes)) = sized(alloc, words)? else {
+        return Ok(None);
+    };
+    let mut count = 0u64;
+    for bit in 0..size.container_bytes().saturating_mul(8) {
+        let turned = turned(&bytes, bit)?;
+        match asked(alloc, size, turned.as_slice())? {
+            Said::Otherwise => {}
+            _ => count = count.saturating_add(1),
+        }
+    }
+    push_number(out, count)?;
+    Ok(Some(()))
+}
+
+/// The bytes with one bit turned.
+fn turned(bytes: &Vec<u8>, bit: usize) -> Result<Vec<u8>, AllocError> {
+    let mut bytes = bytes.clone()?;
+    if let Some(byte) = bytes.get_mut(bit / 8) {
+        *byte ^= 0x80u8 >> (bit % 8);
+    }
+    Ok(bytes)
+}
+
+/// What reader and view say of bytes.
+fn asked(alloc: Global, size: Size, bytes: &[u8]) -> Result<Said, AllocError> {
+    let mut reader = TelegramReader::new(alloc, size);
+    let fed = reader.feed(bytes);
+    match TelegramView::new(bytes, size) {
+        Ok(view) => {
+            let taken = bytes.len();
+            match reader.take() {
+                Ok(telegram)
+                    if fed == Ok(Fed::Done { taken }) && is_same(alloc, &telegram, &view)? => {
+                    Ok(Said::Telegram)
+                }
+                _ => Ok(Said::Otherwise),
+            }
+        }
+        Err(ViewFault::Refused { bit, var }) if fed == Err(ReadFault::Refused { bit, var }) => {
+            Ok(Said::Refused(ReadFault::Refused { bit, var }))
+        }
+        Err(_) => Ok(Said::Otherwise),
+    }
+}

@@ -1,6 +1,0 @@
-use Rattle.std.proofs.Common.{[], ◌∷◌, arith}
-use Rattle.etcs_bits.proofs.Positions.{length-bits}
-use Rattle.etcs_writing.proofs.tests.one_behind_the_other.Goals as goal
-
-pub write_packets-requires-clause-room : goal.write_packets-requires-clause-room
-write_packets-requires-clause-room g c = omega (arith, length-bits (165 ∷ []))

@@ -37,7 +37,7 @@ pub(crate) fn constructor_of(kind: &str) -> Option<Constructor> {
         "plain_text" => Some(Constructor::PlainText),
         "fixed_text" => Some(Constructor::FixedText),
         "infill_location" => Some(Constructor::InfillLocation),
-        "flat" => Some(Constructor::Flat),
+        "flat_packet" => Some(Constructor::Flat),
         _ => None,
     }
 }

@@ -35,7 +35,7 @@ use std::alloc::{AllocError, Global};
 /// | the same, and ` : NUMBERS : BITS` | as `packet` |
 ///
 /// A constructor's arguments are numbers: parts as the row has them, and the last list without its count. Those of
-/// `flat` begin with NID, those of `plain_text` have how many numbers the frame has behind DIR.
+/// `flat_packet` begin with NID, those of `plain_text` have how many numbers the frame has behind DIR.
 ///
 /// # Errors
 ///

@@ -20,7 +20,7 @@ pub(crate) fn answer(
         "next" => next(alloc, words, out)?,
         "next_bits" => next_in_bits(alloc, words, out)?,
         "levels" => levels(alloc, words, out)?,
-        "check" => checked(words, out)?,
+        "check_number" => checked(words, out)?,
         "check_count" => counted(words, out)?,
         "check_guard" => guarded(words, out)?,
         _ => return Ok(false),
@@ -126,7 +126,7 @@ fn push_levels(alloc: Global, levels: Vec<Level>, out: &mut Vec<u8>) -> Result<(
     Ok(())
 }
 
-/// `check VAR NUMBER`
+/// `check_number VAR NUMBER`
 fn checked(words: &str, out: &mut Vec<u8>) -> Result<(), AllocError> {
     let mut given = Given::new(words);
     let var = variable(given.word());

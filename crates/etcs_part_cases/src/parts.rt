@@ -31,7 +31,7 @@ pub(crate) fn answer(
     words: &str,
     out: &mut Vec<u8>,
 ) -> Result<bool, AllocError> {
-    if kind != "part" && kind != "same" && kind != "take" && kind != "take_bits" {
+    if kind != "part" && kind != "same_part" && kind != "take" && kind != "take_bits" {
         return Ok(false);
     }
     let mut given = Given::new(words);
@@ -60,7 +60,7 @@ fn line<P: Shape>(
 ) -> Result<(), AllocError> {
     match kind {
         "part" => built::<P>(alloc, given, out),
-        "same" => compared::<P>(alloc, given.rest(), out),
+        "same_part" => compared::<P>(alloc, given.rest(), out),
         "take" => taken::<P>(alloc, given.rest(), out),
         _ => taken_in_bits::<P>(alloc, given.rest(), out),
     }
@@ -160,7 +160,7 @@ fn begins<P: Shape>(alloc: Global, numbers: &mut Numbers) -> Result<bool, AllocE
     Ok(P::take(alloc, numbers)?.is_some())
 }
 
-/// `same NAME ARGUMENTS / ARGUMENTS`: whether two parts are equal.
+/// `same_part NAME ARGUMENTS / ARGUMENTS`: whether two parts are equal.
 fn compared<P: Shape>(alloc: Global, words: &str, out: &mut Vec<u8>) -> Result<(), AllocError> {
     let (first, second) = words.split_once(" / ").unwrap_or((words, ""));
     let (Some(first), Some(second)) = (whole::<P>(alloc, first), whole::<P>(alloc, second)) else {

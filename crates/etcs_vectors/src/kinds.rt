@@ -11,10 +11,10 @@ pub(crate) fn answer(
     words: &str,
     out: &mut Vec<u8>,
 ) -> Result<bool, AllocError> {
-    if answer_here(alloc, kind, words, out)? {
-        return Ok(true);
-    }
-    Ok(false)
+    Ok(answer_here(alloc, kind, words, out)?
+        || etcs_row_cases::answer(alloc, kind, words, out)?
+        || etcs_part_cases::answer(alloc, kind, words, out)?
+        || etcs_packet_cases::answer(alloc, kind, words, out)?)
 }
 
 /// As `answer`, for telegrams and what is made of them.

@@ -123,6 +123,9 @@ def main(rt, folder):
     except (ImportError, AttributeError, TypeError) as error:
         say(f"rt's module isn't as expected ({error}), so rt proves one crate after the other")
         is_well, flags = True, []
+    except OSError as error:
+        say(f"{error.filename}: {error.strerror}")
+        return 1
     return 0 if is_well and build_program(rt, folder, flags) else 1
 
 

@@ -43,43 +43,41 @@ def log_of(folder):
     return f"{folder}/out/build.log"
 
 
-def is_well(folder, status, begun):
-    """Says how it went with the crate of that folder, and returns whether it is built."""
-    name = os.path.basename(folder)
-    if status == 0:
-        say(f"{name} proved in {since(begun)}, {since(START)} after the start")
-        return True
+def give_up_on(folder):
+    """Says that the crate isn't proved, after the last lines of its log."""
     with open(log_of(folder), encoding="utf-8", errors="replace") as log:
         print(*log.readlines()[-20:], sep="", end="", file=sys.stderr)
-    say(f"{name} isn't proved: all lines are in {log_of(folder)}")
-    return False
+    say(f"{os.path.basename(folder)} isn't proved: all lines are in {log_of(folder)}")
 
 
 def prove(crate, flags):
-    """Proves and builds a library, and returns whether that went well."""
-    say(f"{crate.name} ..")
-    begun = time.monotonic()
+    """Proves and builds a library, and returns rt's status."""
     with open(log_of(crate.folder), "w", encoding="utf-8") as crate.out:
-        status = crate.build_rlib(flags, anew=False)
-    return is_well(crate.folder, status, begun)
+        return crate.build_rlib(flags, anew=False)
 
 
 def prove_all(crates, at_once, flags):
     """Proves libraries, each once those below it are proved, and returns whether all went well."""
     # those that most others stand on go first
     left = sorted(crates, key=lambda it: -sum(it in other.below() for other in crates))
-    running = {}
+    running, begun = {}, {}
     with ThreadPoolExecutor(at_once) as pool:
         while left or running:
             unproved = {*left, *running.values()}
             ready = [it for it in left if not unproved & {*it.below()}]
             for crate in ready[: at_once - len(running)]:
+                say(f"proving {crate.name}")
+                begun[crate] = time.monotonic()
                 running[pool.submit(prove, crate, flags)] = crate
                 left.remove(crate)
             for run in wait(running, return_when=FIRST_COMPLETED).done:
-                running.pop(run)
-                if not run.result():
+                crate = running.pop(run)
+                if run.result():
+                    give_up_on(crate.folder)
                     return False
+                done = len(crates) - len(left) - len(running)
+                took = f"{since(begun[crate])}, {since(START)} in all"
+                say(f"proved {crate.name}, {done} of {len(crates)} libraries ({took})")
     return True
 
 
@@ -96,20 +94,24 @@ def prove_below(rt, folder):
     crates = [it for it in crates if not it.is_built()]
     has_room = rtlib.fits(*[MEMORY] * AT_ONCE)
     flags = ["--jobs", str(min(rtlib.cores(), 8))] if has_room else []
-    well = prove_all(crates, AT_ONCE if has_room else 1, flags)
+    is_well = prove_all(crates, AT_ONCE if has_room else 1, flags)
     for it in locks:
         os.close(it)
-    return well, flags
+    return is_well, flags
 
 
 def build_program(rt, folder, flags):
-    """Proves and builds the program, and returns whether that went well. rt also runs it, so it is asked for its help."""
-    say(f"{os.path.basename(folder)} ..")
+    """Proves, compiles and links the program, and returns whether that went well. rt also runs it, so it is asked for its help."""
+    say(f"proving and compiling the program {os.path.basename(folder)}")
     begun = time.monotonic()
     with open(log_of(folder), "w", encoding="utf-8") as log:
         how = {"stdin": subprocess.DEVNULL, "stdout": log, "stderr": subprocess.STDOUT}
         ran = subprocess.run([rt, "run", *flags, "--", "--help"], cwd=folder, **how)
-    return is_well(folder, ran.returncode, begun)
+    if ran.returncode:
+        give_up_on(folder)
+        return False
+    say(f"the program is proved and built ({since(begun)}, {since(START)} in all)")
+    return True
 
 
 def main(rt, folder):
@@ -117,11 +119,14 @@ def main(rt, folder):
     signal.signal(signal.SIGINT, signal.SIG_DFL)
     folder = os.path.realpath(folder)
     try:
-        well, flags = prove_below(rt, folder)
+        is_well, flags = prove_below(rt, folder)
     except (ImportError, AttributeError, TypeError) as error:
-        say(f"this rt's module is another than expected ({error}), so rt proves one crate after the other")
-        well, flags = True, []
-    return 0 if well and build_program(rt, folder, flags) else 1
+        say(f"rt's module isn't as expected ({error}), so rt proves one crate after the other")
+        is_well, flags = True, []
+    except OSError as error:
+        say(f"{error.filename}: {error.strerror}")
+        return 1
+    return 0 if is_well and build_program(rt, folder, flags) else 1
 
 
 if __name__ == "__main__":

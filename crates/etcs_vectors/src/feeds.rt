@@ -22,12 +22,9 @@ pub(crate) fn tell(
     push_text(out, "new")?;
     push_state(&reader, out)?;
     for word in pieces.split(' ') {
-        let Some(piece) = piece(alloc, word)? else {
+        if !feed(alloc, &mut reader, word, out)? {
             return Ok(None);
-        };
-        push_text(out, "\n")?;
-        push_fed(reader.feed(piece.as_slice()), out)?;
-        push_state(&reader, out)?;
+        }
     }
     let end = if reader.take().is_ok() {
         "\na telegram"
@@ -36,6 +33,22 @@ pub(crate) fn tell(
     };
     push_text(out, end)?;
     Ok(Some(()))
+}
+
+/// Feeds a piece, if it is one, and writes the line of the answer.
+fn feed(
+    alloc: Global,
+    reader: &mut TelegramReader,
+    word: &str,
+    out: &mut Vec<u8>,
+) -> Result<bool, AllocError> {
+    let Some(piece) = piece(alloc, word)? else {
+        return Ok(false);
+    };
+    push_text(out, "\n")?;
+    push_fed(reader.feed(piece.as_slice()), out)?;
+    push_state(reader, out)?;
+    Ok(true)
 }
 
 /// The bytes of a piece.

@@ -3,7 +3,7 @@
 
 use crate::words::{push_refused, size};
 use etcs_row_cases::words::{bytes, push_number, push_text};
-use etcs_telegram::{Fed, ReadFault, TelegramReader};
+use etcs_telegram::{Fed, ReadFault, Size, TelegramReader};
 use std::alloc::{AllocError, Global};
 
 /// What each piece is answered, a line each, and whether a telegram is there at the end.
@@ -12,43 +12,49 @@ pub(crate) fn tell(
     words: &str,
     out: &mut Vec<u8>,
 ) -> Result<Option<()>, AllocError> {
-    let Some((word, pieces)) = words.split_once(' ') else {
+    let Some((word, rest)) = words.split_once(' ') else {
         return Ok(None);
     };
-    let Some(size) = size(word) else {
+    let (Some(size), Some(pieces)) = (size(word), pieces(alloc, rest)?) else {
         return Ok(None);
     };
-    let mut reader = TelegramReader::new(alloc, size);
-    push_text(out, "new")?;
-    push_state(&reader, out)?;
-    for word in pieces.split(' ') {
-        if !feed(alloc, &mut reader, word, out)? {
-            return Ok(None);
-        }
-    }
-    let end = if reader.take().is_ok() {
-        "\na telegram"
-    } else {
-        "\nno telegram"
-    };
-    push_text(out, end)?;
+    push_feeds(alloc, size, pieces.as_slice(), out)?;
     Ok(Some(()))
 }
 
-/// Feeds a piece, if it is one, and writes the line of the answer.
-fn feed(
+/// Feeds the pieces, and writes a line for each.
+fn push_feeds(
     alloc: Global,
-    reader: &mut TelegramReader,
-    word: &str,
+    size: Size,
+    pieces: &[Vec<u8>],
     out: &mut Vec<u8>,
-) -> Result<bool, AllocError> {
-    let Some(piece) = piece(alloc, word)? else {
-        return Ok(false);
-    };
-    push_text(out, "\n")?;
-    push_fed(reader.feed(piece.as_slice()), out)?;
-    push_state(reader, out)?;
-    Ok(true)
+) -> Result<(), AllocError> {
+    let mut reader = TelegramReader::new(alloc, size);
+    push_text(out, "new")?;
+    push_state(&reader, out)?;
+    for piece in pieces {
+        let fed = reader.feed(piece.as_slice());
+        push_text(out, "\n")?;
+        push_fed(fed, out)?;
+        push_state(&reader, out)?;
+    }
+    if reader.take().is_ok() {
+        push_text(out, "\na telegram")
+    } else {
+        push_text(out, "\nno telegram")
+    }
+}
+
+/// The pieces of words.
+fn pieces(alloc: Global, words: &str) -> Result<Option<Vec<Vec<u8>>>, AllocError> {
+    let mut pieces = Vec::new(alloc);
+    for word in words.split(' ') {
+        match piece(alloc, word)? {
+            Some(piece) => pieces.push(piece)?,
+            None => return Ok(None),
+        }
+    }
+    Ok(Some(pieces))
 }
 
 /// The bytes of a piece.

@@ -19,13 +19,9 @@ const ROOMS: [usize; 20] = [
     0, 16, 32, 48, 64, 80, 96, 112, 128, 144, 160, 192, 224, 256, 320, 512, 1024, 2048, 4096, 8192,
 ];
 
-/// The bytes of the long telegram of the samples.
-fn long_bytes() -> [u8; 104] {
-    let mut bytes = [255u8; 104];
-    bytes[..6].copy_from_slice(&[0xA0, 0x00, 0x7F, 0x80, 0x20, 0x00]);
-    bytes[103] = 0xFC;
-    bytes
-}
+/// A long telegram of a plain header and ones.
+const LONG: &str =
+    "A0007F802000FFFFFFFFFFFFFFFFFFFFFFFFFFFFFFFFFFFFFFFFFFFFFFFFFFFFFFFFFFFFFFFFFFFFFFFFFFFFFFFFFFFFFFFFFFFFFFFFFFFFFFFFFFFFFFFFFFFFFFFFFFFFFFFFFFFFFFFFFFFFFFFFFFFFFFFFFFFFFFFFFFFFFFFFFFFFFFFFFFFFFFFFFFFFFFFFFFFC";
 
 /// A telegram of a plain header and ones.
 fn plain(alloc: Global) -> Result<Telegram, BuildFault> {
@@ -34,11 +30,6 @@ fn plain(alloc: Global) -> Result<Telegram, BuildFault> {
         Ok(telegram) => Ok(telegram),
         Err((fault, _)) => Err(fault),
     }
-}
-
-/// What a feed answers.
-fn feed(reader: &mut TelegramReader, piece: &[u8]) -> Result<Fed, ReadFault> {
-    reader.feed(piece)
 }
 
 /// What a run over this text answers.
@@ -61,10 +52,10 @@ fn is_shown(entry: &Entry, out: &mut Vec<u8>) -> bool {
 #[test]
 fn copies_of_bits(rt: HostRuntime) -> Result<(), Fail> {
     let alloc = rt.alloc();
-    let bytes = long_bytes();
+    let bytes = hex::decode(alloc, LONG)?;
     let mut refused = 0u32;
     for room in ROOMS {
-        let slice = BitSlice::new(&bytes, 3, 700).ok_or("inside")?;
+        let slice = BitSlice::new(bytes.as_slice(), 3, 700).ok_or("inside")?;
         let wanted = slice.number(7, 40);
         let held = starve_to(alloc, room)?;
         let copy = Bits::from_slice(alloc, slice);
@@ -127,32 +118,31 @@ fn built_telegrams(rt: HostRuntime) -> Result<(), Fail> {
     Ok(())
 }
 
-/// Feeds the rest of a telegram with little memory, and says whether it was refused.
-fn feed_starved(rt: &impl Abort, alloc: Global, first: usize, room: usize) -> Result<bool, Fail>
-    requires first { first ≤ 104 }
-    requires room { room ≤ 8192 }
+/// Feeds the second piece of a telegram with little memory, and says whether it was refused.
+fn feed_starved(
+    rt: &impl Abort,
+    alloc: Global,
+    first: &[u8],
+    second: &[u8],
+    room: usize,
+) -> Result<bool, Fail>
+    requires { room ≤ 8192 }
 {
-    let bytes = long_bytes();
     let mut reader = TelegramReader::new(alloc, Size::Long);
-    assert!(rt; feed(&mut reader, &bytes[..first]) == Ok(Fed::More));
+    assert!(rt; reader.feed(first) == Ok(Fed::More));
     let held = starve_to(alloc, room)?;
-    let fed = feed(&mut reader, &bytes[first..]);
+    let fed = reader.feed(second);
     drop(held);
-    if fed
-        == Ok(Fed::Done {
-            taken: bytes[first..].len(),
-        })
-    {
+    let taken = second.len();
+    if fed == Ok(Fed::Done { taken }) {
         assert!(rt; reader.take().is_ok());
         return Ok(false);
     }
     assert!(rt; fed == Err(ReadFault::Memory));
     let seen = reader.bits_seen();
-    assert!(rt; seen >= bytes[..first].len().saturating_mul(8));
-    assert!(rt; seen >= 58);
-    assert!(rt; seen < 832);
-    assert!(rt; feed(&mut reader, &[]) == Err(ReadFault::Memory));
-    assert!(rt; feed(&mut reader, &bytes) == Err(ReadFault::Memory));
+    assert!(rt; seen >= first.len().saturating_mul(8) && seen >= 58 && seen < 832);
+    assert!(rt; reader.feed(&[]) == Err(ReadFault::Memory));
+    assert!(rt; reader.feed(second) == Err(ReadFault::Memory));
     assert!(rt; reader.bits_seen() == seen);
     assert!(rt; reader.take().is_err());
     Ok(true)
@@ -160,10 +150,13 @@ fn feed_starved(rt: &impl Abort, alloc: Global, first: usize, room: usize) -> Re
 
 #[test]
 fn fed_readers(rt: HostRuntime) -> Result<(), Fail> {
-    for first in [0usize, 5, 7, 8, 60] {
+    let bytes = hex::decode(rt.alloc(), LONG)?;
+    for count in [0usize, 5, 7, 8, 60] {
+        let first = bytes.as_slice().get(..count).ok_or("inside")?;
+        let second = bytes.as_slice().get(count..).ok_or("inside")?;
         let mut refused = 0u32;
         for room in [0usize, 16, 32, 64, 96, 128, 256, 512, 8192] {
-            if feed_starved(&rt, rt.alloc(), first, room)? {
+            if feed_starved(&rt, rt.alloc(), first, second, room)? {
                 refused = refused.saturating_add(1);
             }
         }
@@ -200,8 +193,9 @@ fn shown_lines(rt: HostRuntime) -> Result<(), Fail> {
 #[test]
 fn whole_runs(rt: HostRuntime) -> Result<(), Fail> {
     let alloc = rt.alloc();
-    let line = hex::encode_upper(alloc, long_bytes())?;
-    let text = format!(in alloc; "{line}\n{line}\n")?;
+    let mut text = LONG.to_string(alloc)?;
+    text.push_str("\n")?;
+    text.push_str(LONG)?;
     let mut wanted = Vec::new(alloc);
     show(alloc, text.as_bytes(), &mut wanted)?;
     let mut refused = 0u32;

@@ -1,13 +1,12 @@
 //! Vectors of headers and telegrams that are built of their parts. A header is its eight numbers in order.
 
 use crate::packets::packets;
-use crate::telegrams::telegram;
-use crate::words::{drop_line_end, header, push_fault, push_hex, push_unless, size, sized};
+use crate::telegrams::{encoded, is_read_again, telegram};
+use crate::words::{drop_line_end, header, push_fault, push_hex, push_unless, size};
 use etcs_bits::Bits;
 use etcs_cli::engine::push_packets;
 use etcs_packets::Packet;
 use etcs_row_cases::words::{bits, numbers, push_bits, push_number, push_text};
-use etcs_telegram::laws::round_trip;
 use etcs_telegram::parts::header_numbers;
 use etcs_telegram::{Header, Size, Telegram};
 use std::alloc::{AllocError, Global};
@@ -125,8 +124,10 @@ pub(crate) fn tell_filled(
     let Some((words, digits)) = words.split_once(" : ") else {
         return Ok(None);
     };
-    let (Some((size, header, packets)), Some(fill)) = (parts(alloc, words)?, bits(alloc, digits)?)
-    else {
+    let Some((size, header, packets)) = parts(alloc, words)? else {
+        return Ok(None);
+    };
+    let Some(fill) = bits(alloc, digits)? else {
         return Ok(None);
     };
     match Telegram::with_fill(size, header, packets, fill) {
@@ -148,13 +149,12 @@ fn push_built(
     header: &Header,
     out: &mut Vec<u8>,
 ) -> Result<(), AllocError> {
-    let mut bytes = [0u8; 104];
-    let len = telegram.encode_into(&mut bytes).unwrap_or(0);
-    push_hex(out, bytes.get(..len).unwrap_or(&[]))?;
+    let (len, bytes) = encoded(alloc, telegram, 104, 0)?;
+    let len = len.unwrap_or(0);
+    push_hex(out, bytes.as_slice().get(..len).unwrap_or(&[]))?;
     let parts = telegram.size() == size && telegram.header() == header;
     push_unless(out, parts, "of other parts")?;
-    let again = round_trip(alloc, telegram)? == *telegram;
-    push_unless(out, again, "not read again")
+    push_unless(out, is_read_again(alloc, telegram)?, "not read again")
 }
 
 /// The text of packets that came back.
@@ -183,19 +183,18 @@ pub(crate) fn tell_room(
     let Some((room, words)) = words.split_once(' ') else {
         return Ok(None);
     };
-    let (Ok(room), Some((size, bytes))) = (room.parse::<u8>(), sized(alloc, words)?) else {
+    let Ok(room) = room.parse::<u8>() else {
         return Ok(None);
     };
-    let Some(telegram) = telegram(alloc, size, bytes.as_slice())? else {
+    let Some(telegram) = telegram(alloc, words)? else {
         return Ok(None);
     };
-    let mut buffer = [0x55u8; 256];
-    let room = &mut buffer[..usize::from(room)];
-    match telegram.encode_into(room) {
-        Ok(len) => push_number(out, len as u64)?,
-        Err(_) => push_text(out, "no room")?,
+    let (len, buffer) = encoded(alloc, &telegram, usize::from(room), 0x55)?;
+    match len {
+        Some(len) => push_number(out, len as u64)?,
+        None => push_text(out, "no room")?,
     }
     push_text(out, " ")?;
-    push_hex(out, room)?;
+    push_hex(out, buffer.as_slice())?;
     Ok(Some(()))
 }

@@ -3,7 +3,7 @@
 
 use crate::words::{push_refused, size};
 use etcs_row_cases::words::{bytes, push_number, push_text};
-use etcs_telegram::{Fed, ReadFault, TelegramReader};
+use etcs_telegram::{Fed, ReadFault, Size, TelegramReader};
 use std::alloc::{AllocError, Global};
 
 /// What each piece is answered, a line each, and whether a telegram is there at the end.
@@ -12,30 +12,49 @@ pub(crate) fn tell(
     words: &str,
     out: &mut Vec<u8>,
 ) -> Result<Option<()>, AllocError> {
-    let Some((word, pieces)) = words.split_once(' ') else {
+    let Some((word, rest)) = words.split_once(' ') else {
         return Ok(None);
     };
-    let Some(size) = size(word) else {
+    let (Some(size), Some(pieces)) = (size(word), pieces(alloc, rest)?) else {
         return Ok(None);
     };
+    push_feeds(alloc, size, pieces.as_slice(), out)?;
+    Ok(Some(()))
+}
+
+/// Feeds the pieces, and writes a line for each.
+fn push_feeds(
+    alloc: Global,
+    size: Size,
+    pieces: &[Vec<u8>],
+    out: &mut Vec<u8>,
+) -> Result<(), AllocError> {
     let mut reader = TelegramReader::new(alloc, size);
     push_text(out, "new")?;
     push_state(&reader, out)?;
-    for word in pieces.split(' ') {
-        let Some(piece) = piece(alloc, word)? else {
-            return Ok(None);
-        };
+    for piece in pieces {
+        let fed = reader.feed(piece.as_slice());
         push_text(out, "\n")?;
-        push_fed(reader.feed(piece.as_slice()), out)?;
+        push_fed(fed, out)?;
         push_state(&reader, out)?;
     }
-    let end = if reader.take().is_ok() {
-        "\na telegram"
+    if reader.take().is_ok() {
+        push_text(out, "\na telegram")
     } else {
-        "\nno telegram"
-    };
-    push_text(out, end)?;
-    Ok(Some(()))
+        push_text(out, "\nno telegram")
+    }
+}
+
+/// The pieces of words.
+fn pieces(alloc: Global, words: &str) -> Result<Option<Vec<Vec<u8>>>, AllocError> {
+    let mut pieces = Vec::new(alloc);
+    for word in words.split(' ') {
+        match piece(alloc, word)? {
+            Some(piece) => pieces.push(piece)?,
+            None => return Ok(None),
+        }
+    }
+    Ok(Some(pieces))
 }
 
 /// The bytes of a piece.

@@ -19,24 +19,31 @@ pub(crate) fn tell(
     let (Some(size), Some(bytes)) = (size(kind), bytes(alloc, digits)?) else {
         return Ok(None);
     };
-    let bytes = bytes.as_slice();
-    let mut reader = TelegramReader::new(alloc, size);
-    match reader.feed(bytes) {
-        Ok(Fed::More) => tell_wanting(alloc, size, bytes, out)?,
-        Ok(Fed::Done { .. }) => match reader.take() {
-            Ok(telegram) => tell_accepted(alloc, telegram, bytes, out)?,
-            Err(_) => push_text(out, "no telegram")?,
-        },
-        Err(ReadFault::Refused { bit, var }) => {
-            tell_refused(alloc, size, bytes, bit, var, out)?;
-        }
-        Err(ReadFault::Memory) => return Err(AllocError),
-        Err(ReadFault::Ended) => push_text(out, "ended")?,
-    }
+    tell_bytes(alloc, size, bytes.as_slice(), out)?;
     Ok(Some(()))
 }
 
-/// The telegram's text.
+/// As `tell`, of bytes.
+fn tell_bytes(
+    alloc: Global,
+    size: Size,
+    bytes: &[u8],
+    out: &mut Vec<u8>,
+) -> Result<(), AllocError> {
+    let mut reader = TelegramReader::new(alloc, size);
+    match reader.feed(bytes) {
+        Ok(Fed::More) => tell_wanting(alloc, size, bytes, out),
+        Ok(Fed::Done { .. }) => match reader.take() {
+            Ok(telegram) => tell_accepted(alloc, telegram, bytes, out),
+            Err(_) => push_text(out, "no telegram"),
+        },
+        Err(ReadFault::Refused { bit, var }) => tell_refused(alloc, size, bytes, bit, var, out),
+        Err(ReadFault::Memory) => Err(AllocError),
+        Err(ReadFault::Ended) => push_text(out, "ended"),
+    }
+}
+
+/// The telegram's text, and what doesn't hold of it.
 fn tell_accepted(
     alloc: Global,
     telegram: Telegram,
@@ -46,15 +53,25 @@ fn tell_accepted(
     let entry = Entry::Telegram(telegram);
     show_lines(&entry, 1, out)?;
     drop_line_end(out);
-    let Entry::Telegram(telegram) = entry;
-    let singly = is_read_by_bytes(alloc, &telegram, bytes);
+    let Entry::Telegram(telegram) = &entry;
+    push_checks(alloc, telegram, bytes, out)
+}
+
+/// What doesn't hold of the telegram of these bytes.
+fn push_checks(
+    alloc: Global,
+    telegram: &Telegram,
+    bytes: &[u8],
+    out: &mut Vec<u8>,
+) -> Result<(), AllocError> {
+    let singly = is_read_by_bytes(alloc, telegram, bytes);
     push_unless(out, singly, "not byte by byte")?;
-    let cut = is_read_in_two(alloc, &telegram, bytes);
+    let cut = is_read_in_two(alloc, telegram, bytes);
     push_unless(out, cut, "not in two pieces")?;
-    push_unless(out, is_written(&telegram, bytes), "not written so")?;
-    let again = round_trip(alloc, &telegram)? == telegram;
-    push_unless(out, again, "not read again")?;
-    let viewed = is_viewed(alloc, &telegram, bytes)?;
+    let written = is_written(alloc, telegram, bytes)?;
+    push_unless(out, written, "not written so")?;
+    push_unless(out, is_read_again(alloc, telegram)?, "not read again")?;
+    let viewed = is_viewed(alloc, telegram, bytes)?;
     push_unless(out, viewed, "not viewed so")
 }
 
@@ -98,26 +115,39 @@ fn is_read_cut(alloc: Global, telegram: &Telegram, first: &[u8], second: &[u8]) 
     let size = telegram.size();
     let mut reader = TelegramReader::new(alloc, size);
     let wants = reader.feed(first) == Ok(Fed::More);
-    let seen = reader.bits_seen();
+    let seen = reader.bits_seen() == first.len().saturating_mul(8);
     let taken = second.len();
     let done = reader.feed(second) == Ok(Fed::Done { taken });
+    let all = reader.bits_seen() == size.container_bytes().saturating_mul(8);
     let ended = reader.feed(&[]) == Err(ReadFault::Ended);
     let short = TelegramView::new(first, size).err() == Some(ViewFault::Length);
-    wants
-        && done
-        && ended
-        && short
-        && seen == first.len().saturating_mul(8)
-        && gives(reader, telegram)
+    wants && done && ended && short && seen && all && gives(reader, telegram)
 }
 
 /// Whether exactly these bytes are written of the telegram.
-fn is_written(telegram: &Telegram, bytes: &[u8]) -> bool {
-    let mut out = [0u8; 104];
-    match telegram.encode_into(&mut out) {
-        Ok(len) => out.get(..len) == Some(bytes),
-        Err(_) => false,
+fn is_written(alloc: Global, telegram: &Telegram, bytes: &[u8]) -> Result<bool, AllocError> {
+    let (len, out) = encoded(alloc, telegram, bytes.len(), 0)?;
+    Ok(len == Some(bytes.len()) && out.as_slice() == bytes)
+}
+
+/// How many bytes are written of the telegram, and a buffer of so many equal bytes behind that.
+pub(crate) fn encoded(
+    alloc: Global,
+    telegram: &Telegram,
+    room: usize,
+    fill: u8,
+) -> Result<(Option<usize>, Vec<u8>), AllocError> {
+    let mut buffer = Vec::new(alloc);
+    for _ in 0..room {
+        buffer.push(fill)?;
     }
+    let len = telegram.encode_into(buffer.as_mut_slice()).ok();
+    Ok((len, buffer))
+}
+
+/// Whether the telegram is read from its encoding.
+pub(crate) fn is_read_again(alloc: Global, telegram: &Telegram) -> Result<bool, AllocError> {
+    Ok(round_trip(alloc, telegram)? == *telegram)
 }
 
 /// The refused bit and its variable.
@@ -169,7 +199,8 @@ fn is_refused_in_two(alloc: Global, size: Size, bytes: &[u8], bit: usize, var: V
             refused
         };
         let mut reader = TelegramReader::new(alloc, size);
-        if reader.feed(&bytes[..at]) != wanted {
+        let seen = at.saturating_mul(8).min(bit);
+        if reader.feed(&bytes[..at]) != wanted || reader.bits_seen() != seen {
             return false;
         }
         if reader.feed(&bytes[at..]) != refused || reader.feed(&[]) != refused {
@@ -198,14 +229,13 @@ fn tell_wanting(
     push_unless(out, viewed, "there is a view")
 }
 
-/// The telegram of these bytes.
-pub(crate) fn telegram(
-    alloc: Global,
-    size: Size,
-    bytes: &[u8],
-) -> Result<Option<Telegram>, AllocError> {
+/// The telegram of `SIZE HEX`.
+pub(crate) fn telegram(alloc: Global, words: &str) -> Result<Option<Telegram>, AllocError> {
+    let Some((size, bytes)) = sized(alloc, words)? else {
+        return Ok(None);
+    };
     let mut reader = TelegramReader::new(alloc, size);
-    match reader.feed(bytes) {
+    match reader.feed(bytes.as_slice()) {
         Ok(_) => Ok(reader.take().ok()),
         Err(ReadFault::Memory) => Err(AllocError),
         Err(_) => Ok(None),
@@ -221,10 +251,10 @@ pub(crate) fn tell_shown(
     let Some((item, words)) = words.split_once(' ') else {
         return Ok(None);
     };
-    let (Ok(item), Some((size, bytes))) = (item.parse::<u64>(), sized(alloc, words)?) else {
+    let Ok(item) = item.parse::<u64>() else {
         return Ok(None);
     };
-    let Some(telegram) = telegram(alloc, size, bytes.as_slice())? else {
+    let Some(telegram) = telegram(alloc, words)? else {
         return Ok(None);
     };
     push_text(out, "before\n")?;
@@ -242,17 +272,20 @@ pub(crate) fn tell_equal(
     let Some((first, second)) = words.split_once(" , ") else {
         return Ok(None);
     };
-    let (Some(first), Some(second)) = (sized(alloc, first)?, sized(alloc, second)?) else {
+    let Some(first) = telegram(alloc, first)? else {
         return Ok(None);
     };
-    let first = telegram(alloc, first.0, first.1.as_slice())?;
-    let second = telegram(alloc, second.0, second.1.as_slice())?;
-    let (Some(first), Some(second)) = (first, second) else {
+    let Some(second) = telegram(alloc, second)? else {
         return Ok(None);
     };
+    push_equal(&first, &second, out)?;
+    Ok(Some(()))
+}
+
+/// Whether two telegrams are the same.
+fn push_equal(first: &Telegram, second: &Telegram, out: &mut Vec<u8>) -> Result<(), AllocError> {
     let equal = first == second;
     push_text(out, if equal { "yes" } else { "no" })?;
-    let exact = exact_equality(&first, &second) == equal && (first != second) != equal;
-    push_unless(out, exact, "not exactly")?;
-    Ok(Some(()))
+    let exact = exact_equality(first, second) == equal && (first != second) != equal;
+    push_unless(out, exact, "not exactly")
 }

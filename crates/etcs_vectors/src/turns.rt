@@ -1,6 +1,6 @@
 //! Vectors of a telegram's bytes of which one bit is turned, for each bit.
 
-use crate::views::is_same;
+use crate::views::is_viewed;
 use crate::words::{push_refused, sized};
 use etcs_row_cases::words::{push_number, push_text};
 use etcs_telegram::{Fed, ReadFault, Size, TelegramReader, TelegramView, ViewFault};
@@ -84,20 +84,23 @@ fn turned(bytes: &Vec<u8>, bit: usize) -> Result<Vec<u8>, AllocError> {
 fn asked(alloc: Global, size: Size, bytes: &[u8]) -> Result<Said, AllocError> {
     let mut reader = TelegramReader::new(alloc, size);
     let fed = reader.feed(bytes);
-    match TelegramView::new(bytes, size) {
-        Ok(view) => {
-            let taken = bytes.len();
-            match reader.take() {
-                Ok(telegram)
-                    if fed == Ok(Fed::Done { taken }) && is_same(alloc, &telegram, &view)? => {
-                    Ok(Said::Telegram)
-                }
-                _ => Ok(Said::Otherwise),
-            }
+    if let Err(ReadFault::Refused { bit, var }) = fed {
+        let refused = Some(ViewFault::Refused { bit, var });
+        if TelegramView::new(bytes, size).err() == refused {
+            return Ok(Said::Refused(ReadFault::Refused { bit, var }));
         }
-        Err(ViewFault::Refused { bit, var }) if fed == Err(ReadFault::Refused { bit, var }) => {
-            Ok(Said::Refused(ReadFault::Refused { bit, var }))
-        }
-        Err(_) => Ok(Said::Otherwise),
+    }
+    let taken = bytes.len();
+    if fed == Ok(Fed::Done { taken }) && is_seen(alloc, reader, bytes)? {
+        return Ok(Said::Telegram);
+    }
+    Ok(Said::Otherwise)
+}
+
+/// Whether the reader has read what a view of the bytes has.
+fn is_seen(alloc: Global, reader: TelegramReader, bytes: &[u8]) -> Result<bool, AllocError> {
+    match reader.take() {
+        Ok(telegram) => is_viewed(alloc, &telegram, bytes),
+        Err(_) => Ok(false),
     }
 }

@@ -63,7 +63,7 @@ pub(crate) fn is_viewed(
 }
 
 /// Whether the view has what the telegram has.
-pub(crate) fn is_same(
+fn is_same(
     alloc: Global,
     telegram: &Telegram,
     view: &TelegramView<'_>,

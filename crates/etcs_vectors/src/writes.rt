@@ -32,70 +32,63 @@ pub(crate) fn tell(
     let (Some((fill, at)), Some(packets)) = (front(alloc, head)?, packets(alloc, rest)?) else {
         return Ok(None);
     };
-    match packets.as_slice() {
-        [] => push_two(with_none(fill, at), out),
-        [packet] => match with_packet(fill, at, packet) {
-            Some(bytes) => {
-                push_hex(out, &bytes)?;
-                Ok(Some(()))
-            }
-            None => Ok(None),
-        },
-        _ => {
-            let mut packets = packets;
-            match (packets.pop(), packets.pop(), packets.is_empty()) {
-                (Some(second), Some(first), true) => push_two(
-                    with_two(fill, at, first, second),
-                    out,
-                ),
-                _ => Ok(None),
-            }
-        }
+    let mut packets = packets;
+    match (packets.pop(), packets.pop(), packets.is_empty()) {
+        (None, None, true) => push_none(fill, at, out),
+        (Some(packet), None, true) => push_one(fill, at, &packet, out),
+        (Some(second), Some(first), true) => push_two(fill, at, first, second, out),
+        _ => Ok(None),
     }
 }
 
 /// Bytes, and the bit behind what was written over them.
-fn push_two(
-    written: Option<([u8; 8], usize)>,
-    out: &mut Vec<u8>,
-) -> Result<Option<()>, AllocError> {
-    let Some((bytes, end)) = written else {
-        return Ok(None);
-    };
-    push_hex(out, &bytes)?;
+fn push_written(bytes: &[u8], end: usize, out: &mut Vec<u8>) -> Result<Option<()>, AllocError> {
+    push_hex(out, bytes)?;
     push_text(out, " ")?;
     push_number(out, end as u64)?;
     Ok(Some(()))
 }
 
 /// Eight equal bytes with a packet over them, where it has room.
-fn with_packet(fill: u8, at: usize, packet: &Packet) -> Option<[u8; 8]> {
+fn push_one(
+    fill: u8,
+    at: usize,
+    packet: &Packet,
+    out: &mut Vec<u8>,
+) -> Result<Option<()>, AllocError> {
     if at > 16 || packet.bit_len() > 48 {
-        return None;
+        return Ok(None);
     }
     let mut bytes = [fill; 8];
     write_packet(&mut bytes, at, packet);
-    Some(bytes)
+    push_hex(out, &bytes)?;
+    Ok(Some(()))
 }
 
-/// Eight equal bytes with no packets over them, and the bit behind.
-fn with_none(fill: u8, at: usize) -> Option<([u8; 8], usize)> {
+/// Eight equal bytes with no packets over them.
+fn push_none(fill: u8, at: usize, out: &mut Vec<u8>) -> Result<Option<()>, AllocError> {
     if at > 16 {
-        return None;
+        return Ok(None);
     }
     let mut bytes = [fill; 8];
     let end = write_packets(&mut bytes, at, &[]);
-    Some((bytes, end))
+    push_written(&bytes, end, out)
 }
 
-/// Eight equal bytes with two packets over them, where these have room, and the bit behind.
-fn with_two(fill: u8, at: usize, first: Packet, second: Packet) -> Option<([u8; 8], usize)> {
+/// Eight equal bytes with two packets over them, where these have room.
+fn push_two(
+    fill: u8,
+    at: usize,
+    first: Packet,
+    second: Packet,
+    out: &mut Vec<u8>,
+) -> Result<Option<()>, AllocError> {
     if at > 16 || first.bit_len() > 24 || second.bit_len() > 24 {
-        return None;
+        return Ok(None);
     }
     let mut bytes = [fill; 8];
     let end = write_packets(&mut bytes, at, &[first, second]);
-    Some((bytes, end))
+    push_written(&bytes, end, out)
 }
 
 /// `sent BYTE BIT ; VARIABLE NUMBER ; ..`: thirty-two such bytes with variables over them.
@@ -117,13 +110,7 @@ pub(crate) fn tell_sent(
     let Some((fill, at)) = front(alloc, head)? else {
         return Ok(None);
     };
-    match with_reading(fill, at, sent.as_slice()) {
-        Some(bytes) => {
-            push_hex(out, &bytes)?;
-            Ok(Some(()))
-        }
-        None => Ok(None),
-    }
+    push_reading(fill, at, sent.as_slice(), out)
 }
 
 /// A variable and its number.
@@ -133,11 +120,17 @@ fn pair_of(words: &str) -> Option<(Var, u64)> {
 }
 
 /// Thirty-two equal bytes with variables over them, where these have room.
-fn with_reading(fill: u8, at: usize, sent: &[(Var, u64)]) -> Option<[u8; 32]> {
+fn push_reading(
+    fill: u8,
+    at: usize,
+    sent: &[(Var, u64)],
+    out: &mut Vec<u8>,
+) -> Result<Option<()>, AllocError> {
     if at > 64 || sent.len() > 3 {
-        return None;
+        return Ok(None);
     }
     let mut bytes = [fill; 32];
     write_reading(&mut bytes, at, sent);
-    Some(bytes)
+    push_hex(out, &bytes)?;
+    Ok(Some(()))
 }

@@ -4,7 +4,7 @@ use Rattle.etcs_vars.specs.Reading.{Reading, spelled}
 use Rattle.etcs_rows.proofs.LengthLemmas.{length-spelled}
 use Rattle.etcs_packets.specs.PacketValues.{PacketValue, packet_value, bits_of}
 use Rattle.etcs_packets.specs.PacketReadings.{packet_reading, packet_bits}
-use Rattle.etcs_vectors.proofs.writes.with_two.Goals as goal
+use Rattle.etcs_vectors.proofs.writes.push_two.Goals as goal
 
 two_bits : (v w : PacketValue) → length (spelled (packet_reading v ++ (packet_reading w ++ []))) ≡ bits_of v + bits_of w
 two_bits v w =

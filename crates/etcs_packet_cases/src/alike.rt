@@ -4,7 +4,7 @@ use crate::failing::{Failing, check};
 use crate::forms::{is_copied, is_none, is_same};
 use crate::repeats;
 use crate::sent::variables;
-use crate::typed::{frame, halves, next_byte, push_frame};
+use crate::typed::{behind, byte_at, frame, halves, push_frame};
 use etcs_flat::Other;
 use etcs_packets::{Packet, parts};
 use etcs_row_cases::words::{push_number, push_text};
@@ -27,9 +27,13 @@ fn any(alloc: Global, text: &str) -> Result<Packet, Failing> {
 /// The packet of `NID DIR NUMBERS`.
 fn typed(alloc: Global, text: &str) -> Result<Packet, Failing> {
     let words = repeats::numbers(alloc, text)?;
-    let (nid, left) = next_byte(words.as_slice())?;
-    let (dir, left) = next_byte(left)?;
-    parts::from_fields(alloc, nid, dir, left)?.ok_or(Failing::Wrong("none"))
+    listed(alloc, words.as_slice())
+}
+
+/// The packet of a number, a direction and a row's numbers.
+fn listed(alloc: Global, words: &[u64]) -> Result<Packet, Failing> {
+    let (nid, dir) = (byte_at(words, 0)?, byte_at(words, 1)?);
+    parts::from_fields(alloc, nid, dir, behind(words, 2))?.ok_or(Failing::Wrong("none"))
 }
 
 /// The packet of `NID DIR : BITS`, which has to be none of the typed ones.
@@ -48,8 +52,7 @@ fn kept(alloc: Global, text: &str) -> Result<Packet, Failing> {
 /// The packet of `NUMBER`.
 fn marker(alloc: Global, text: &str) -> Result<Packet, Failing> {
     let words = repeats::numbers(alloc, text)?;
-    let (number, _) = next_byte(words.as_slice())?;
-    match Packet::vbc_marker(number) {
+    match Packet::vbc_marker(byte_at(words.as_slice(), 0)?) {
         Ok(packet) => Ok(packet),
         Err(fault) => Err(Failing::Refused(fault)),
     }
@@ -69,14 +72,14 @@ fn push_copied(alloc: Global, packet: &Packet, out: &mut Vec<u8>) -> Result<(), 
 
 /// Answers `ANY` with the variables that it sends.
 pub(crate) fn push_variables(alloc: Global, words: &str, out: &mut Vec<u8>) -> Result<(), Failing> {
-    push_sent(alloc, &any(alloc, words)?, out)?;
-    Ok(())
+    push_sent(alloc, &any(alloc, words)?, out)
 }
 
 /// Appends the variables that a packet sends.
-fn push_sent(alloc: Global, packet: &Packet, out: &mut Vec<u8>) -> Result<(), AllocError> {
+fn push_sent(alloc: Global, packet: &Packet, out: &mut Vec<u8>) -> Result<(), Failing> {
     let sent = variables(alloc, packet)?;
-    push_pairs(sent.as_slice(), out)
+    push_pairs(sent.as_slice(), out)?;
+    Ok(())
 }
 
 /// Appends variables with their numbers.

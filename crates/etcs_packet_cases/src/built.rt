@@ -94,6 +94,14 @@ fn arguments(alloc: Global, constructor: Constructor, text: &str) -> Result<Pack
     built(alloc, constructor, words.as_slice())
 }
 
+/// The part that comes next.
+fn next_part<P: Part>(alloc: Global, numbers: &mut Numbers) -> Result<P, Failing> {
+    match P::take(alloc, numbers)? {
+        Some(part) => Ok(part),
+        None => Err(Failing::Words),
+    }
+}
+
 /// All parts that are left.
 pub(crate) fn parts_left<P: Part + Drop>(
     alloc: Global,
@@ -104,10 +112,7 @@ pub(crate) fn parts_left<P: Part + Drop>(
         if numbers.is_empty() {
             return Ok(parts);
         }
-        match P::take(alloc, numbers)? {
-            Some(part) => parts.push(part)?,
-            None => return Err(Failing::Words),
-        }
+        parts.push(next_part(alloc, numbers)?)?;
     }
     Err(Failing::Words)
 }

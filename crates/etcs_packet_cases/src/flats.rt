@@ -1,14 +1,15 @@
 //! The constructor of packets without groups.
 
 use crate::failing::Failing;
-use crate::typed::next_byte;
+use crate::typed::{behind, byte_at};
 use etcs_packets::{Flat, Packet};
 use etcs_vars::BuildFault;
 
 /// `NID DIR NUMBERS..`
 pub(crate) fn flat(words: &[u64]) -> Result<Packet, Failing> {
-    let (nid, words) = next_byte(words)?;
-    let (dir, numbers) = next_byte(words)?;
+    let nid = byte_at(words, 0)?;
+    let dir = byte_at(words, 1)?;
+    let numbers = behind(words, 2);
     match built(nid, dir, numbers) {
         Ok(packet) => Ok(packet),
         Err(fault) => Err(Failing::Refused(fault)),

@@ -52,8 +52,7 @@ fn appends<P: Packetlike>(
 
 /// Whether two packets are equal, where every law that can be asked says the same.
 pub(crate) fn is_same(first: &Packet, second: &Packet) -> Option<bool> {
-    parts::holds(first);
-    one_packet(first, second);
+    is_one(first, second);
     let same = exact_packet(first, second);
     let own = match (first, second) {
         (Packet::Linking(a), Packet::Linking(b)) => exact_linking(a, b),
@@ -77,8 +76,19 @@ pub(crate) fn is_same(first: &Packet, second: &Packet) -> Option<bool> {
     }
 }
 
-/// Whether a packet has an equal copy.
+/// Asks the law of two packets.
+fn is_one(first: &Packet, second: &Packet) {
+    one_packet(first, second);
+}
+
+/// Asks the law of a packet.
+fn holds(packet: &Packet) {
+    parts::holds(packet);
+}
+
+/// Whether a packet, which is one, has an equal copy.
 pub(crate) fn is_copied(alloc: Global, packet: &Packet) -> Result<bool, AllocError> {
+    holds(packet);
     Ok(is_equal(packet.try_clone(alloc)?, packet))
 }
 

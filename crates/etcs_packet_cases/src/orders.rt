@@ -2,7 +2,7 @@
 
 use crate::built::{check_parts, parts_left};
 use crate::failing::{Failing, check};
-use crate::typed::{byte, next_byte, next_short, short};
+use crate::typed::{behind, byte, byte_at, short, short_at};
 use etcs_orders::{ConditionalLevelOrder, FixedText, InfillLocation, LevelOrder, PlainText};
 use etcs_packets::Packet;
 use etcs_parts::{Level, LevelAck, Numbers, Part, TextFrame};
@@ -10,9 +10,10 @@ use std::alloc::{AllocError, Global};
 
 /// `DIR Q_SCALE D_LEVELTR FIRST FURTHER..`
 pub(crate) fn level_order(alloc: Global, words: &[u64]) -> Result<Packet, Failing> {
-    let (dir, words) = next_byte(words)?;
-    let (q_scale, words) = next_byte(words)?;
-    let (d_leveltr, left) = next_short(words)?;
+    let dir = byte_at(words, 0)?;
+    let q_scale = byte_at(words, 1)?;
+    let d_leveltr = short_at(words, 2)?;
+    let left = behind(words, 3);
     let mut numbers = Numbers::new(left);
     let Some(first) = LevelAck::take(alloc, &mut numbers)? else {
         return Err(Failing::Words);
@@ -45,7 +46,8 @@ fn check_level_order(
 
 /// `DIR FIRST FURTHER..`
 pub(crate) fn conditional_level_order(alloc: Global, words: &[u64]) -> Result<Packet, Failing> {
-    let (dir, left) = next_byte(words)?;
+    let dir = byte_at(words, 0)?;
+    let left = behind(words, 1);
     let mut numbers = Numbers::new(left);
     let Some(first) = Level::take(alloc, &mut numbers)? else {
         return Err(Failing::Words);
@@ -92,8 +94,9 @@ fn is_text(alloc: Global, text: &[u8], numbers: &[u64]) -> Result<bool, AllocErr
 
 /// `DIR LENGTH FRAME BYTES..`, where the frame has so many numbers
 pub(crate) fn plain_text(alloc: Global, words: &[u64]) -> Result<Packet, Failing> {
-    let (dir, words) = next_byte(words)?;
-    let (length, left) = next_byte(words)?;
+    let dir = byte_at(words, 0)?;
+    let length = byte_at(words, 1)?;
+    let left = behind(words, 2);
     let Some((framed, bytes)) = left.split_at_checked(usize::from(length)) else {
         return Err(Failing::Words);
     };
@@ -125,8 +128,9 @@ fn check_plain_text(
 
 /// `DIR Q_TEXT FRAME`
 pub(crate) fn fixed_text(alloc: Global, words: &[u64]) -> Result<Packet, Failing> {
-    let (dir, words) = next_byte(words)?;
-    let (q_text, left) = next_byte(words)?;
+    let dir = byte_at(words, 0)?;
+    let q_text = byte_at(words, 1)?;
+    let left = behind(words, 2);
     let Some(frame) = TextFrame::take(alloc, &mut Numbers::new(left))? else {
         return Err(Failing::Words);
     };
@@ -152,8 +156,9 @@ fn check_fixed_text(
 
 /// `DIR NID_BG`, or `DIR NID_BG NID_C`
 pub(crate) fn infill_location(words: &[u64]) -> Result<Packet, Failing> {
-    let (dir, words) = next_byte(words)?;
-    let (nid_bg, left) = next_short(words)?;
+    let dir = byte_at(words, 0)?;
+    let nid_bg = short_at(words, 1)?;
+    let left = behind(words, 2);
     let nid_c = match left.first() {
         Some(country) => Some(short(*country)?),
         None => None,

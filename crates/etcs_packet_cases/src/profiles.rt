@@ -2,7 +2,7 @@
 
 use crate::built::{check_parts, parts_left};
 use crate::failing::{Failing, check};
-use crate::typed::{next_byte, next_short};
+use crate::typed::{behind, byte_at, short_at};
 use etcs_packets::Packet;
 use etcs_parts::{Authority, Link, Numbers, Part, Slope, Speed};
 use etcs_profiles::{Gradient, Level1Ma, Level23Ma, Linking, SpeedProfile};
@@ -10,8 +10,9 @@ use std::alloc::Global;
 
 /// `DIR Q_SCALE FIRST FURTHER..`
 pub(crate) fn linking(alloc: Global, words: &[u64]) -> Result<Packet, Failing> {
-    let (dir, words) = next_byte(words)?;
-    let (q_scale, left) = next_byte(words)?;
+    let dir = byte_at(words, 0)?;
+    let q_scale = byte_at(words, 1)?;
+    let left = behind(words, 2);
     let mut numbers = Numbers::new(left);
     let Some(first) = Link::take(alloc, &mut numbers)? else {
         return Err(Failing::Words);
@@ -42,11 +43,12 @@ fn check_linking(
 
 /// `DIR Q_SCALE V_MAIN V_LOA T_LOA AUTHORITY`
 pub(crate) fn level1_ma(alloc: Global, words: &[u64]) -> Result<Packet, Failing> {
-    let (dir, words) = next_byte(words)?;
-    let (q_scale, words) = next_byte(words)?;
-    let (v_main, words) = next_byte(words)?;
-    let (v_loa, words) = next_byte(words)?;
-    let (t_loa, left) = next_short(words)?;
+    let dir = byte_at(words, 0)?;
+    let q_scale = byte_at(words, 1)?;
+    let v_main = byte_at(words, 2)?;
+    let v_loa = byte_at(words, 3)?;
+    let t_loa = short_at(words, 4)?;
+    let left = behind(words, 5);
     let Some(authority) = Authority::take(alloc, &mut Numbers::new(left))? else {
         return Err(Failing::Words);
     };
@@ -81,10 +83,11 @@ fn check_level1_ma(
 
 /// `DIR Q_SCALE V_LOA T_LOA AUTHORITY`
 pub(crate) fn level23_ma(alloc: Global, words: &[u64]) -> Result<Packet, Failing> {
-    let (dir, words) = next_byte(words)?;
-    let (q_scale, words) = next_byte(words)?;
-    let (v_loa, words) = next_byte(words)?;
-    let (t_loa, left) = next_short(words)?;
+    let dir = byte_at(words, 0)?;
+    let q_scale = byte_at(words, 1)?;
+    let v_loa = byte_at(words, 2)?;
+    let t_loa = short_at(words, 3)?;
+    let left = behind(words, 4);
     let Some(authority) = Authority::take(alloc, &mut Numbers::new(left))? else {
         return Err(Failing::Words);
     };
@@ -117,8 +120,9 @@ fn check_level23_ma(
 
 /// `DIR Q_SCALE FIRST FURTHER..`
 pub(crate) fn gradient(alloc: Global, words: &[u64]) -> Result<Packet, Failing> {
-    let (dir, words) = next_byte(words)?;
-    let (q_scale, left) = next_byte(words)?;
+    let dir = byte_at(words, 0)?;
+    let q_scale = byte_at(words, 1)?;
+    let left = behind(words, 2);
     let mut numbers = Numbers::new(left);
     let Some(first) = Slope::take(alloc, &mut numbers)? else {
         return Err(Failing::Words);
@@ -149,8 +153,9 @@ fn check_gradient(
 
 /// `DIR Q_SCALE FIRST FURTHER..`
 pub(crate) fn speed_profile(alloc: Global, words: &[u64]) -> Result<Packet, Failing> {
-    let (dir, words) = next_byte(words)?;
-    let (q_scale, left) = next_byte(words)?;
+    let dir = byte_at(words, 0)?;
+    let q_scale = byte_at(words, 1)?;
+    let left = behind(words, 2);
     let mut numbers = Numbers::new(left);
     let Some(first) = Speed::take(alloc, &mut numbers)? else {
         return Err(Failing::Words);

@@ -57,14 +57,28 @@ pub(crate) fn sends(
     numbers: &[u64],
     bits: BitSlice<'_>,
 ) -> Result<bool, AllocError> {
-    let mut own = Vec::new(alloc);
+    let sent = variables(alloc, packet)?;
+    Ok(are_numbers(sent.as_slice(), numbers) && are_bits(sent.as_slice(), bits))
+}
+
+/// Whether variables have just these numbers.
+fn are_numbers(sent: &[(Var, u64)], numbers: &[u64]) -> bool {
+    for (at, pair) in sent.iter().enumerate() {
+        if numbers.get(at) != Some(&pair.1) {
+            return false;
+        }
+    }
+    sent.len() == numbers.len()
+}
+
+/// Whether bits are just the variables' numbers, each in its variable's width.
+fn are_bits(sent: &[(Var, u64)], bits: BitSlice<'_>) -> bool {
     let mut at = 0usize;
-    for (var, number) in variables(alloc, packet)?.as_slice() {
+    for (var, number) in sent {
         if bits.number(at, var.width()) != Some(*number) {
-            return Ok(false);
+            return false;
         }
         at = at.saturating_add(var.width());
-        own.push(*number)?;
     }
-    Ok(at == bits.len() && own.as_slice() == numbers)
+    at == bits.len()
 }

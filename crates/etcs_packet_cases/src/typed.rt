@@ -24,19 +24,27 @@ pub(crate) fn short(number: u64) -> Result<u16, Failing> {
     }
 }
 
-/// The first number of some, which has 8 bits, and those behind it.
-pub(crate) fn next_byte(words: &[u64]) -> Result<(u8, &[u64]), Failing> {
-    match words.split_first() {
-        Some((first, left)) => Ok((byte(*first)?, left)),
+/// The number of 8 bits at a place.
+pub(crate) fn byte_at(words: &[u64], at: usize) -> Result<u8, Failing> {
+    match words.get(at) {
+        Some(number) => byte(*number),
         None => Err(Failing::Words),
     }
 }
 
-/// The first number of some, which has 16 bits, and those behind it.
-pub(crate) fn next_short(words: &[u64]) -> Result<(u16, &[u64]), Failing> {
-    match words.split_first() {
-        Some((first, left)) => Ok((short(*first)?, left)),
+/// The number of 16 bits at a place.
+pub(crate) fn short_at(words: &[u64], at: usize) -> Result<u16, Failing> {
+    match words.get(at) {
+        Some(number) => short(*number),
         None => Err(Failing::Words),
+    }
+}
+
+/// The numbers behind the first ones.
+pub(crate) fn behind(words: &[u64], count: usize) -> &[u64] {
+    match words.get(count..) {
+        Some(left) => left,
+        None => &[],
     }
 }
 

@@ -1,5 +1,5 @@
 use Rattle.std.proofs.Common.{sym, ◌∙◌}
-use Rattle.etcs_reader.proofs.Passing.{unfinished_next, unfinished_ended, none_is}
+use Rattle.etcs_reader.proofs.Parts.{unfinished_next, unfinished_ended, none_is}
 use Rattle.etcs_reader.proofs.feeder.Feeder.var.Goals as goal
 
 pub returns-clause-holds : goal.returns-clause-holds

@@ -1,7 +1,7 @@
 use Rattle.std.proofs.Common.{drop, refl, arith}
 use Rattle.std.proofs.lemmas.List.{length-drop}
 use Rattle.etcs_bits.specs.Bits.{bits, num}
-use Rattle.etcs_reader.proofs.Passing.{unfinished_leap, passed_none, passed_leap, viable_none}
+use Rattle.etcs_reader.proofs.Parts.{unfinished_leap, passed_none, passed_leap, viable_none}
 use Rattle.etcs_reader.proofs.reader.Reader.advance.Goals as goal
 
 pub returns-in-Ok-Some-clause-ok : goal.returns-in-Ok-Some-clause-ok

@@ -2,7 +2,7 @@ use Rattle.std.proofs.Common.{◌≡◌, ◌+◌, ◌-◌, ◌*◌, ◌/◌, ◌
 use Rattle.etcs_vars.specs.Vars.{width}
 use Rattle.etcs_vars.proofs.Stepping.{quotient_below}
 use Rattle.etcs_reader.specs.Rests.{Starts}
-use Rattle.etcs_reader.proofs.Passing.{none_more, no_more, high_fits, refuses_at}
+use Rattle.etcs_reader.proofs.Parts.{none_more, no_more, high_fits, refuses_at}
 use Rattle.etcs_reader.proofs.reader.Reader.refused.Goals as goal
 
 pub loop-more-init : goal.loop-more-init

@@ -4,7 +4,7 @@ use Rattle.etcs_bits.specs.Bits.{bits, num, part}
 use Rattle.etcs_bits.proofs.Positions.{length-bits}
 use Rattle.etcs_vars.specs.Vars.{width}
 use Rattle.etcs_vars.proofs.Stepping.{parts_fit}
-use Rattle.etcs_reader.proofs.Passing.{unfinished_none, unfinished_more, passed_none, passed_more, passed_front, passed_whole, goes_behind, refuses_front, starts_with}
+use Rattle.etcs_reader.proofs.Parts.{unfinished_none, unfinished_more, passed_none, passed_more, passed_front, passed_whole, goes_behind, refuses_front, starts_with}
 use Rattle.etcs_reader.proofs.reader.Reader.step.Goals as goal
 
 pub overflow_mul-piece : goal.overflow_mul-piece

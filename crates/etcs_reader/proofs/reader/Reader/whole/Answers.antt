@@ -4,7 +4,7 @@ use Rattle.etcs_bits.specs.Bits.{bits, num, part}
 use Rattle.etcs_bits.proofs.Positions.{length-bits}
 use Rattle.etcs_vars.specs.Vars.{width}
 use Rattle.etcs_vars.proofs.Prefixes.{width-le, width_pos}
-use Rattle.etcs_reader.proofs.Passing.{unfinished_leap, passed_none, passed_one, goes_behind, starts_one}
+use Rattle.etcs_reader.proofs.Parts.{unfinished_leap, passed_none, passed_one, goes_behind, starts_one}
 use Rattle.etcs_reader.proofs.reader.Reader.whole.Goals as goal
 
 pub overflow_mul-piece : goal.overflow_mul-piece

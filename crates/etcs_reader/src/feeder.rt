@@ -1,6 +1,6 @@
 //! A reader of pieces of any length.
 
-ghost use Rattle.std.specs.Prelude.{◌≡◌, ◌+◌, ◌^◌, ◌<◌, [], None, Err, length, IfSome, IsNone};
+ghost use Rattle.std.specs.Prelude.{◌≡◌, ◌+◌, ◌*◌, ◌^◌, ◌<◌, [], None, Err, length, IfSome, IsNone};
 ghost use Rattle.etcs_bits.specs.Bits.{bits, num};
 ghost use Rattle.etcs_vars.specs.Reading.{Owner};
 ghost use Rattle.etcs_reader.specs.Rests.{Goes};
@@ -73,7 +73,7 @@ impl<R: Rest> Feeder<R> {
     /// variable that holds it; `Memory` where memory is refused at a bit that goes on. The same again for
     /// each later piece.
     pub fn feed(&mut self, piece: &[u8]) -> Result<usize, Stop>
-        requires { self.old.count + length (bits piece.now) < 2 ^ 64 }
+        requires { self.old.count + 8 * length piece.now < 2 ^ 64 }
         ensures going { self.old.stop ≡ None → Feeds R R.left R.next R.follows R.fails self.old (bits piece.now) result self.new }
         ensures stopped { IfSome self.old.stop (λ stop. (result ≡ Err stop) × (self.new ≡ self.old)) }
     {

@@ -23,8 +23,10 @@ pub enum Stop {
 /// Reads a language from pieces of any length. It keeps none of the bytes: only what is left, with what
 /// that keeps of the variables that were read, and the bits of one unfinished variable.
 ///
-/// After a refused bit it stands behind the bits in front of that one. After refused memory nothing is
-/// said of what is left. Both answer each later piece alike.
+/// After a refused bit it stands where the bits in front of that one lead, as if no more had been fed: its
+/// count, its part and what is left speak of these, and the next bit is the refused one. After refused
+/// memory nothing is said of what is left, since a variable may be kept by half; the count is of bits that
+/// go on with the next one. Both answer each later piece alike.
 #[derive(Drop)]
 pub struct Feeder<R: Rest> {
     reader: Reader<R>,
@@ -103,7 +105,7 @@ impl<R: Rest> Feeder<R> {
     }
 
     /// How many bits were taken, over all pieces. Where a bit is refused, these are the bits in front of
-    /// it.
+    /// it; where memory is, those in front of what couldn't be kept.
     pub fn count(&self) -> usize
         ensures { result ≡ self.now.count }
     {

@@ -9,5 +9,4 @@ use crate::rest::Rest;
 /// what is left was of the whole.
 pub fn fed_from<R: Rest>()
     ensures { FedFrom R R.left R.next R.follows R.fails }
-{
-}
+{}

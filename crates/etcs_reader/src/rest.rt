@@ -27,7 +27,8 @@ pub trait Rest {
     /// By these variables the first comes to the second, with all that it keeps of them.
     ghost follows: { Self → Reading → Self → Type 0 };
 
-    /// Memory may be refused behind what was read so far. False everywhere of a rest that takes none.
+    /// Memory may be refused behind what was read so far. False everywhere of a rest that takes none, so
+    /// that its reader never answers that memory was refused.
     ghost fails: { Self → Type 0 };
 
     /// The variable that comes next; `None` where nothing is left.
@@ -43,7 +44,7 @@ pub trait Rest {
         requires goes { Goes (left self.now) }
         ensures { IsTrue result ↔ Starts (left self.now) var rest number };
 
-    /// Goes on behind the variable's number.
+    /// Goes on behind the variable's number, which is asked only where something goes on with it.
     ///
     /// # Errors
     ///
@@ -59,8 +60,9 @@ pub trait Rest {
     ///
     /// # Errors
     ///
-    /// `AllocError` where there is no memory; the bit at `at` is then one that goes on. Nothing is said
-    /// of what is left.
+    /// `AllocError` where there is no memory. Something goes on with the bit at `at` then, so that a reader
+    /// never answers refused memory at a refused bit; no more is asked, since what runs out of memory
+    /// inside of a packet doesn't know its last bits. Nothing is said of what is left.
     fn leap(&mut self, piece: &[u8], at: usize) -> Result<Option<usize>, AllocError>
         requires inside { at < length (bits piece.now) }
         requires small { length (bits piece.now) < 2 ^ 64 }

@@ -1,29 +1,22 @@
 -- What is read behind other bits, of all of them.
-use Rattle.std.proofs.Common.{◌≡◌, ℕ, ◌+◌, ◌-◌, ◌*◌, ◌/◌, ◌^◌, ◌<◌, ◌≤◌, Bool, List, [], ◌∷◌, ◌++◌, length, take, drop, Some, None, refl, sym, ap, subst, ◌∙◌, arith, append_assoc, take-add}
-use Rattle.std.specs.Prelude.{Option, IfSome, IsNone}
-use Rattle.std.proofs.lemmas.List.{append-nil, length-append, take-append-drop, length-take, length-drop, take-take}
+use Rattle.std.proofs.Common.{◌≡◌, ℕ, ◌+◌, ◌-◌, ◌≤◌, Bool, List, [], ◌++◌, length, take, drop, Some, None, sym, ap, subst, ◌∙◌, arith, append_assoc, take-add}
+use Rattle.std.specs.Prelude.{Option}
+use Rattle.std.proofs.lemmas.List.{append-nil, length-append, take-append-drop, length-take, length-drop}
 use Rattle.std.proofs.Math.Seq.{take-append-add}
-use Rattle.std.proofs.Math.Nat.{div-eq_of_lt}
-use Rattle.etcs_bits.specs.Bits.{num, part}
-use Rattle.etcs_bits.proofs.Numbers.{length-num}
+use Rattle.etcs_bits.specs.Bits.{part}
 use Rattle.etcs_vars.specs.declared.var.Var.{Var}
-use Rattle.etcs_vars.specs.Vars.{width}
 use Rattle.etcs_vars.specs.Walking.{Residual, Refuses}
 use Rattle.etcs_vars.specs.Reading.{Reading, spelled, InLanguage, Viable, Owner}
-use Rattle.etcs_vars.proofs.Prefixes.{take-num, width_pos}
 use Rattle.etcs_vars.proofs.Walk.{Regular, spelled-append}
-use Rattle.etcs_vars.proofs.Outcomes.{viable_front, refuses_longer}
-use Rattle.etcs_vars.proofs.Stepping.{next_number, quotient_below, parts_fit}
 use Rattle.etcs_reader.specs.declared.reader.Halt.{Halt}
 use Rattle.etcs_reader.specs.declared.reader.Halt.TheVariants.{Refused, Memory}
 use Rattle.etcs_reader.specs.declared.reader.Reader.{Reader}
-use Rattle.etcs_reader.specs.Rests.{Starts, Goes, BeginsWith, Ended, LeapsBy}
-use Rattle.etcs_reader.specs.Readers.{Unfinished, Passed, Takes, RefusesAt, StarvesAt, IsReader, part_of, Halts, HaltsIn}
-use Rattle.etcs_reader.proofs.Lifts.{lift_viable, lift_blocked, lift_owner, starts_viable, starts_owner, starts_blocked}
-use Rattle.std.specs.Prelude.{Result, Ok, Err}
-use Rattle.etcs_reader.specs.declared.feeder.Stop.{Stop}
+use Rattle.etcs_reader.specs.Rests.{Goes, BeginsWith, Ended}
+use Rattle.etcs_reader.specs.Readers.{Passed, Takes, RefusesAt, StarvesAt, IsReader, part_of, Halts, HaltsIn}
+use Rattle.etcs_reader.proofs.Lifts.{lift_viable, lift_blocked, lift_owner}
+use Rattle.std.specs.Prelude.{Ok, Err}
 use Rattle.etcs_reader.specs.declared.feeder.Stop.TheVariants as stop
-use Rattle.etcs_reader.specs.Feeders.{FeederValue, Feeds, FedFrom}
+use Rattle.etcs_reader.specs.Feeders.{FedFrom}
 use Rattle.etcs_reader.proofs.Parts.{unfinished_owner, unfinished_ended}
 
 -- what is passed behind what was

@@ -64,13 +64,19 @@ fn group(alloc: Global, room: usize) -> Feeder<Stored<Fields, Sent>> {
 fn whole_variables(rt: HostRuntime) {
     let mut feeder = group(rt.alloc(), 3);
     assert!(rt; feeder.feed(&[0xFD, 0x00, 0x02]) == Ok(24));
-    assert!(rt; feeder.rest().store.pairs.as_slice() == [(Var::Q_NEWCOUNTRY, 1), (Var::NID_C, 1000)].as_slice());
+    assert!(rt;
+        feeder.rest().store.pairs.as_slice()
+            == [(Var::Q_NEWCOUNTRY, 1), (Var::NID_C, 1000)].as_slice()
+    );
     assert!(rt; feeder.part() == (2, 13));
     assert!(rt; feeder.count() < 100);
     assert!(rt; feeder.feed(&[0xFF, 0xFF]) == Ok(1));
     let Stored { rest, store } = feeder.into_rest();
     assert!(rt; rest.var() == None);
-    assert!(rt; store.pairs.as_slice() == [(Var::Q_NEWCOUNTRY, 1), (Var::NID_C, 1000), (Var::NID_BG, 5)].as_slice());
+    assert!(rt;
+        store.pairs.as_slice()
+            == [(Var::Q_NEWCOUNTRY, 1), (Var::NID_C, 1000), (Var::NID_BG, 5)].as_slice()
+    );
 }
 
 /// The second variable isn't stored.

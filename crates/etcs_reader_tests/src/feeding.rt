@@ -1,5 +1,7 @@
 //! Variables one behind the other, from pieces.
 
+ghost use Rattle.std.specs.Prelude.{◌≡◌};
+
 use etcs_reader::{Feeder, Fields, Stop};
 use etcs_vars::Var;
 
@@ -20,19 +22,23 @@ const HEADER: [Var; 10] = [
 /// M_VERSION 33, the first of two, M_MCOUNT 17, group 2040 of country 98, and six bits behind them.
 const BYTES: [u8; 7] = [0xA1, 0x02, 0x08, 0x8C, 0x43, 0xFC, 0x41];
 
-/// A reader of the header.
-fn header() -> Feeder<Fields> {
-    Feeder::new(Fields { vars: &HEADER })
+/// A reader of these variables.
+fn reader_of(vars: &'static [Var]) -> Feeder<Fields>
+    ensures { result.count ≡ 0 }
+{
+    Feeder::new(Fields { vars })
 }
 
 #[test]
 fn one_piece(rt: HostRuntime) {
-    let mut feeder = header();
+    let mut feeder = reader_of(&HEADER);
     assert!(rt; feeder.feed(&[]) == Ok(0));
+    assert!(rt; feeder.count() == 0);
     assert!(rt; feeder.var() == Some(Var::Q_UPDOWN));
     assert!(rt; feeder.feed(&BYTES) == Ok(50));
     assert!(rt; feeder.var() == None);
     assert!(rt; feeder.part() == (0, 0));
+    assert!(rt; feeder.count() == 50);
     assert!(rt; feeder.feed(&BYTES) == Ok(0));
     assert!(rt; feeder.count() == 50);
     assert!(rt; feeder.stop() == None);
@@ -42,7 +48,7 @@ fn one_piece(rt: HostRuntime) {
 /// The variable that holds the next bit behind each byte, and its bits so far.
 #[test]
 fn byte_by_byte(rt: HostRuntime) {
-    let mut feeder = header();
+    let mut feeder = reader_of(&HEADER);
     for (byte, taken, var, part) in [
         (0xA1, 8, Some(Var::Q_MEDIA), (0, 0)),
         (0x02, 8, Some(Var::M_DUP), (0, 1)),
@@ -82,10 +88,10 @@ fn refused_bits(rt: HostRuntime) {
         ([0xA1, 0x80, 0x00], 8, Var::Q_MEDIA, (0, 0)),
         ([0xA0, 0x01, 0x80], 16, Var::M_DUP, (1, 1)),
     ] {
-        let mut whole = header();
+        let mut whole = reader_of(&HEADER);
         assert!(rt; whole.feed(&bytes) == Err(Stop::Refused { bit, var }));
         assert!(rt; stays(whole, bit, var, part));
-        let mut bitten = header();
+        let mut bitten = reader_of(&HEADER);
         for byte in bytes {
             assert!(rt; bitten.count() < 100);
             let _ = bitten.feed(&[byte]);

@@ -1,5 +1,7 @@
 //! Variables that are sent to a sink.
 
+ghost use Rattle.std.specs.Prelude.{◌≡◌};
+
 use etcs_reader::{Feeder, Fields, Rest, Stop, Stored};
 use etcs_vars::Var;
 use etcs_vars::parts::Sink;
@@ -47,14 +49,16 @@ impl Sink for Sent {
     }
 }
 
-/// A reader of a group that stores so many variables.
-fn group(alloc: Global, room: usize) -> Feeder<Stored<Fields, Sent>> {
+/// A reader of these variables that stores so many.
+fn reader_of(alloc: Global, vars: &'static [Var], room: usize) -> Feeder<Stored<Fields, Sent>>
+    ensures { result.count ≡ 0 }
+{
     let store = Sent {
         pairs: Vec::new(alloc),
         room,
     };
     Feeder::new(Stored {
-        rest: Fields { vars: &GROUP },
+        rest: Fields { vars },
         store,
     })
 }
@@ -62,7 +66,7 @@ fn group(alloc: Global, room: usize) -> Feeder<Stored<Fields, Sent>> {
 /// 1, 1000 and 5 in 25 bits, and fifteen bits behind them.
 #[test]
 fn whole_variables(rt: HostRuntime) {
-    let mut feeder = group(rt.alloc(), 3);
+    let mut feeder = reader_of(rt.alloc(), &GROUP, 3);
     assert!(rt; feeder.feed(&[0xFD, 0x00, 0x02]) == Ok(24));
     assert!(rt;
         feeder.rest().store.pairs.as_slice()
@@ -82,7 +86,7 @@ fn whole_variables(rt: HostRuntime) {
 /// The second variable isn't stored.
 #[test]
 fn refused_memory(rt: HostRuntime) {
-    let mut feeder = group(rt.alloc(), 1);
+    let mut feeder = reader_of(rt.alloc(), &GROUP, 1);
     assert!(rt; feeder.feed(&[0xFD, 0x00]) == Err(Stop::Memory));
     assert!(rt; feeder.count() == 1);
     assert!(rt; feeder.stop() == Some(Stop::Memory));

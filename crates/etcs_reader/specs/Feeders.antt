@@ -1,0 +1,29 @@
+-- What a feeder stands for, and what a piece does.
+use Rattle.std.specs.Prelude.{◌≡◌, ℕ, ◌+◌, Bool, List, Option, Some, None, Result, Ok, Err}
+use Rattle.etcs_vars.specs.declared.var.Var.{Var}
+use Rattle.etcs_vars.specs.Reading.{Reading}
+use Rattle.etcs_reader.specs.declared.feeder.Stop.{Stop}
+use Rattle.etcs_reader.specs.declared.feeder.Stop.TheVariants.{Refused, Memory}
+use Rattle.etcs_reader.specs.Readers.{Passed, Takes, RefusesAt, StarvesAt}
+
+-- what is left of the language, these bits of its next variable, how many bits were taken, and why no more are
+pub record FeederValue (R : Type 0) : Type 0 where
+  pub rest : R
+  pub part : List Bool
+  pub count : ℕ
+  pub stop : Option Stop
+
+-- the new bits xs are taken, all or up to the language's end; or the first with which nothing goes on is refused, and
+-- those in front of it are taken; or memory is refused, and nothing is said of what is left
+abbrev pub Feeds : (R : Type 0) → (R → Reading → Type 0) → (R → Option Var) → (R → Reading → R → Type 0) → (R → Type 0) → FeederValue R → List Bool → Result ℕ Stop → FeederValue R → Type 0
+Feeds R left next follows fails old xs (Ok n) new = (new.stop ≡ None) × (new.count ≡ old.count + n) × Takes R left next follows old.rest old.part xs n new.rest new.part
+Feeds R left next follows fails old xs (Err (Refused i x)) new = (new.stop ≡ Some (Refused i x)) × (new.count ≡ i) × (n : ℕ) × (i ≡ old.count + n) × RefusesAt R left follows old.rest old.part xs n x new.rest new.part
+Feeds R left next follows fails old xs (Err Memory) new = (new.stop ≡ Some Memory) × (n : ℕ) × (new.count ≡ old.count + n) × StarvesAt R left follows fails old.rest old.part xs n
+
+-- what a feeder answers holds of all bits b that were fed since start, in place of the part that stands of them
+abbrev pub FedFrom : (R : Type 0) → (R → Reading → Type 0) → (R → Option Var) → (R → Reading → R → Type 0) → (R → Type 0) → Type 0
+FedFrom R left next follows fails =
+    (start : R) (b : List Bool) (old : FeederValue R) (xs : List Bool) (result : Result ℕ Stop) (new : FeederValue R)
+    → Passed (λ p. follows start p old.rest) b old.part
+    → Feeds R left next follows fails old xs result new
+    → Feeds R left next follows fails (record old { rest = start; part = b }) xs result new

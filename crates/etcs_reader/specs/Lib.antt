@@ -1,0 +1,6 @@
+pub mod Rests
+pub mod Readers
+pub mod Feeders
+pub mod Fields
+pub mod FieldLaws
+pub mod StoredLaws

@@ -1,0 +1,74 @@
+-- What a reader keeps between two bits, and what new bits do to it. A rest that is read is told by what is left of it,
+-- the variable that comes next, what follows it and where memory may be refused.
+use Rattle.std.specs.Prelude.{◌≡◌, ℕ, ◌+◌, ◌-◌, ◌^◌, ◌<◌, ◌≤◌, Bool, List, ◌++◌, length, take, drop, Option, Some, None}
+use Rattle.etcs_bits.specs.Bits.{num, part}
+use Rattle.etcs_vars.specs.declared.var.Var.{Var}
+use Rattle.etcs_vars.specs.Vars.{width}
+use Rattle.etcs_vars.specs.Reading.{Reading, spelled, InLanguage, Viable, Owner}
+use Rattle.etcs_vars.specs.Walking.{Refuses}
+use Rattle.etcs_reader.specs.declared.reader.Halt.{Halt}
+use Rattle.etcs_reader.specs.declared.reader.Halt.TheVariants.{Refused, Memory}
+use Rattle.etcs_reader.specs.declared.reader.Reader.{Reader}
+use Rattle.etcs_reader.specs.Rests.{Starts, Goes}
+
+-- some number of the variable that comes next goes on whose first bits these are, and isn't whole
+pub record Unfinished (L : Reading → Type 0) (next : Option Var) (number taken : ℕ) : Type 0 where
+  pub fits : number < 2 ^ taken
+  pub goes : Goes L
+  pub inside : (x : Var) → next ≡ Some x → (taken < width x) × Starts L x (width x - taken) number
+  pub ended : next ≡ None → taken ≡ 0
+
+-- the bits b are whole variables, by which a rest follows, and these of the variable that comes next
+pub record Passed (Follows : Reading → Type 0) (b part : List Bool) : Type 0 where
+  pub whole : Reading
+  pub follows : Follows whole
+  pub bits : spelled whole ++ part ≡ b
+
+-- ---- What the new bits xs do behind the bits b of the variable that comes next in s.
+
+-- n of them are taken, up to t and b': all, and more are wanted, or those up to the end
+pub record Takes (R : Type 0) (left : R → Reading → Type 0) (next : R → Option Var) (follows : R → Reading → R → Type 0) (s : R) (b xs : List Bool) (n : ℕ) (t : R) (b' : List Bool) : Type 0 where
+  pub within : n ≤ length xs
+  pub passed : Passed (λ p. follows s p t) (b ++ take n xs) b'
+  pub done : next t ≡ None → InLanguage (left s) (b ++ take n xs)
+  pub more : (x : Var) → next t ≡ Some x → (n ≡ length xs) × Owner (left s) (b ++ take n xs) x
+
+-- n of them are taken, up to t and b', and the bit behind them is refused, which x holds
+pub record RefusesAt (R : Type 0) (left : R → Reading → Type 0) (follows : R → Reading → R → Type 0) (s : R) (b xs : List Bool) (n : ℕ) (x : Var) (t : R) (b' : List Bool) : Type 0 where
+  pub refuses : Refuses (left s) (b ++ xs) (length b + n) x
+  pub passed : Passed (λ p. follows s p t) (b ++ take n xs) b'
+
+-- memory is refused behind n of them, where it may be, and the bit behind them isn't
+pub record StarvesAt (R : Type 0) (left : R → Reading → Type 0) (follows : R → Reading → R → Type 0) (fails : R → Type 0) (s : R) (b xs : List Bool) (n : ℕ) : Type 0 where
+  pub within : n < length xs
+  pub viable : Viable (left s) (b ++ take (n + 1) xs)
+  pub place : R
+  pub part : List Bool
+  pub passed : Passed (λ p. follows s p place) (b ++ take n xs) part
+  pub here : fails place
+
+-- ---- By the fields of a reader.
+
+-- the bits of the variable that comes next
+abbrev pub part_of : {R : Type 0} → Reader R → List Bool
+part_of r = num r.taken r.number
+
+abbrev pub IsReader : (R : Type 0) → (R → Reading → Type 0) → (R → Option Var) → Reader R → Type 0
+IsReader R left next r = Unfinished (left r.rest) (next r.rest) r.number r.taken
+
+-- n of the bits xs are taken from at on, all of one variable or of several whole ones
+pub record Advances (R : Type 0) (left : R → Reading → Type 0) (next : R → Option Var) (follows : R → Reading → R → Type 0) (old : Reader R) (xs : List Bool) (at n : ℕ) (new : Reader R) : Type 0 where
+  pub reader : IsReader R left next new
+  pub some : 0 < n
+  pub inside : at + n ≤ length xs
+  pub passed : Passed (λ p. follows old.rest p new.rest) (part_of old ++ part at n xs) (part_of new)
+
+-- why no more of the bits xs are taken from at on
+abbrev pub Halts : (R : Type 0) → (R → Reading → Type 0) → (R → Reading → R → Type 0) → (R → Type 0) → Reader R → List Bool → ℕ → Halt → Reader R → Type 0
+Halts R left follows fails old xs at (Refused i x) new = (n : ℕ) × (i ≡ at + n) × RefusesAt R left follows old.rest (part_of old) (drop at xs) n x new.rest (part_of new)
+Halts R left follows fails old xs at (Memory i) new = (n : ℕ) × (i ≡ at + n) × StarvesAt R left follows fails old.rest (part_of old) (drop at xs) n
+
+-- and from the first of them on
+abbrev pub HaltsIn : (R : Type 0) → (R → Reading → Type 0) → (R → Reading → R → Type 0) → (R → Type 0) → Reader R → List Bool → Halt → Reader R → Type 0
+HaltsIn R left follows fails old xs (Refused i x) new = RefusesAt R left follows old.rest (part_of old) xs i x new.rest (part_of new)
+HaltsIn R left follows fails old xs (Memory i) new = StarvesAt R left follows fails old.rest (part_of old) xs i

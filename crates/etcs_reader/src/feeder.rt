@@ -1,0 +1,153 @@
+//! A reader of pieces of any length.
+
+ghost use Rattle.std.specs.Prelude.{◌≡◌, ◌+◌, ◌*◌, ◌^◌, ◌<◌, [], None, Err, length, IfSome, IsNone};
+ghost use Rattle.etcs_bits.specs.Bits.{bits, num};
+ghost use Rattle.etcs_vars.specs.Reading.{Owner};
+ghost use Rattle.etcs_reader.specs.Rests.{Goes};
+
+use crate::reader::{Halt, Reader};
+use crate::rest::Rest;
+use etcs_vars::Var;
+use std::marker::Model;
+
+/// Why no more is taken.
+#[derive(Clone, Copy, Debug, PartialEq, Eq)]
+pub enum Stop {
+    /// Nothing goes on with this bit, counted from 0 from the first that was fed, and the variable holds
+    /// it.
+    Refused { bit: usize, var: Var },
+    /// Memory was refused.
+    Memory,
+}
+
+/// Reads a language from pieces of any length. It keeps none of the bytes: only what is left, with what
+/// that keeps of the variables that were read, and the bits of one unfinished variable.
+///
+/// After a refused bit it stands where the bits in front of that one lead, as if no more had been fed: its
+/// count, its part and what is left speak of these, and the next bit is the refused one. After refused
+/// memory nothing is said of what is left, since a variable may be kept by half; the count is of bits that
+/// go on with the next one. Both answer each later piece alike.
+#[derive(Drop)]
+pub struct Feeder<R: Rest> {
+    reader: Reader<R>,
+    /// How many bits were taken.
+    count: usize,
+    stop: Option<Stop>,
+}
+
+impl<R: Rest> Model for Feeder<R> {
+    ghost use Rattle.std.specs.Prelude.{◌≡◌, None};
+    ghost use Rattle.etcs_bits.specs.Bits.{num};
+    ghost use Rattle.etcs_reader.specs.Feeders.{FeederValue};
+    ghost use Rattle.etcs_reader.specs.Readers.{Unfinished};
+
+    ghost Value = { FeederValue R };
+
+    ghost view = { λ s. record { rest = s.reader.rest; part = num s.reader.taken s.reader.number; count = s.count; stop = s.stop } };
+
+    ghost invariant = { λ s. s.stop ≡ None → Unfinished (R.left s.reader.rest) (R.next s.reader.rest) s.reader.number s.reader.taken };
+}
+
+impl<R: Rest> Feeder<R> {
+    ghost use Rattle.etcs_reader.specs.Feeders.{Feeds};
+
+    /// A reader of what is left of a language, of which something is left.
+    pub fn new(rest: R) -> Feeder<R>
+        requires { Goes (R.left rest) }
+        ensures rest { result.rest ≡ rest }
+        ensures part { result.part ≡ [] }
+        ensures count { result.count ≡ 0 }
+        ensures stop { result.stop ≡ None }
+    {
+        Feeder {
+            reader: Reader::new(rest),
+            count: 0,
+            stop: None,
+        }
+    }
+
+    /// Takes the bits of a piece, up to the language's end, and says how many it was. All are taken where
+    /// more are wanted.
+    ///
+    /// # Errors
+    ///
+    /// `Refused` with the first bit, counted from 0 over all pieces, with which nothing goes on, and the
+    /// variable that holds it; `Memory` where memory is refused at a bit that goes on. The same again for
+    /// each later piece.
+    pub fn feed(&mut self, piece: &[u8]) -> Result<usize, Stop>
+        requires { self.old.count + 8 * length piece.now < 2 ^ 64 }
+        ensures going { self.old.stop ≡ None → Feeds R R.left R.next R.follows R.fails self.old (bits piece.now) result self.new }
+        ensures stopped { IfSome self.old.stop (λ stop. (result ≡ Err stop) × (self.new ≡ self.old)) }
+    {
+        if let Some(stop) = self.stop {
+            return Err(stop);
+        }
+        match self.reader.push(piece) {
+            Ok(taken) => {
+                self.count += taken;
+                Ok(taken)
+            }
+            Err(Halt::Refused { at, var }) => {
+                self.count += at;
+                let stop = Stop::Refused {
+                    bit: self.count,
+                    var,
+                };
+                self.stop = Some(stop);
+                Err(stop)
+            }
+            Err(Halt::Memory { at }) => {
+                self.count += at;
+                self.stop = Some(Stop::Memory);
+                Err(Stop::Memory)
+            }
+        }
+    }
+
+    /// How many bits were taken, over all pieces. Where a bit is refused, these are the bits in front of
+    /// it; where memory is, those in front of what couldn't be kept.
+    pub fn count(&self) -> usize
+        ensures { result ≡ self.now.count }
+    {
+        self.count
+    }
+
+    /// Why no more is taken.
+    pub fn stop(&self) -> Option<Stop>
+        ensures { result ≡ self.now.stop }
+    {
+        self.stop
+    }
+
+    /// What is left, with what it keeps.
+    pub fn rest(&self) -> &R
+        ensures { result.now ≡ self.now.rest }
+    {
+        &self.reader.rest
+    }
+
+    /// What is left, with what it keeps.
+    pub fn into_rest(self) -> R
+        ensures { result ≡ self.rest }
+    {
+        self.reader.rest
+    }
+
+    /// The variable that holds the next bit. `None` where nothing is left.
+    #[inline]
+    pub fn var(&self) -> Option<Var>
+        ensures next { result ≡ R.next self.now.rest }
+        ensures holds { self.now.stop ≡ None → IfSome result (Owner (R.left self.now.rest) self.now.part) }
+        ensures ended { self.now.stop ≡ None → IsNone result → (self.now.part ≡ []) × R.left self.now.rest [] }
+    {
+        self.reader.rest.var()
+    }
+
+    /// The bits of the unfinished variable as a number, and how many they are.
+    pub fn part(&self) -> (u64, usize)
+        ensures bits { self.now.part ≡ num result.1 result.0 }
+        ensures fits { self.now.stop ≡ None → result.0 < 2 ^ result.1 }
+    {
+        (self.reader.number, self.reader.taken)
+    }
+}

@@ -1,0 +1,18 @@
+//! One reader of every language of variables: rows, packets, telegrams and messages.
+//!
+//! A language says what is left of it behind the variables that were read ([`Rest`]); the reader
+//! ([`Feeder`]) takes bits from pieces of any length, finds the first bit with which nothing goes on,
+//! and names the variable that holds it.
+#![tactic(auto)]
+
+mod feeder;
+mod fields;
+pub mod laws;
+mod reader;
+mod rest;
+mod stored;
+
+pub use feeder::{Feeder, Stop};
+pub use fields::Fields;
+pub use rest::Rest;
+pub use stored::Stored;

@@ -1,0 +1,213 @@
+//! Bits of a piece, behind what is left of a language.
+
+ghost use Rattle.std.specs.Prelude.{◌≡◌, ℕ, ◌+◌, ◌-◌, ◌*◌, ◌/◌, ◌^◌, ◌<◌, ◌≤◌, ◌++◌, length, Some, IfOk, IfErr};
+ghost use Rattle.etcs_bits.specs.Bits.{bits, part, num};
+ghost use Rattle.etcs_vars.specs.Vars.{width};
+ghost use Rattle.etcs_vars.specs.Walking.{Refuses};
+ghost use Rattle.etcs_reader.specs.Rests.{Starts, Goes};
+
+use crate::rest::Rest;
+use etcs_bits::peek;
+use etcs_vars::Var;
+
+/// Why a reader takes no more of a piece. Bits count from the piece's first.
+#[derive(Clone, Copy)]
+pub(crate) enum Halt {
+    /// Nothing goes on with this bit, and the variable holds it.
+    Refused { at: usize, var: Var },
+    /// Memory was refused behind so many bits.
+    Memory { at: usize },
+}
+
+/// What is left of a language, and the bits so far of the variable that comes next.
+#[derive(Drop)]
+pub(crate) struct Reader<R> {
+    pub(crate) rest: R,
+    /// The bits so far of the variable that comes next, as a number.
+    pub(crate) number: u64,
+    /// How many they are.
+    pub(crate) taken: usize,
+}
+
+/// So many bits of a piece, which holds them, as a number.
+#[inline(always)]
+fn number_at(piece: &[u8], at: usize, count: usize) -> u64
+    requires width { count ≤ 64 }
+    requires inside { at + count ≤ length (bits piece.now) }
+    ensures bits { num count result ≡ part at count (bits piece.now) }
+    ensures fits { result < 2 ^ count }
+{
+    match peek(piece, at, count) {
+        Some(number) => number,
+        None => unreachable!(),
+    }
+}
+
+/// The number of `taken` bits and `count` more.
+#[inline(always)]
+fn joined(high: u64, taken: usize, low: u64, count: usize) -> u64
+    requires room { taken + count ≤ 64 }
+    requires high { high < 2 ^ taken }
+    requires low { low < 2 ^ count }
+    ensures { result ≡ high * 2 ^ count + low }
+{
+    if count < 64 {
+        (high << count) + low
+    } else {
+        low
+    }
+}
+
+impl<R: Rest> Reader<R> {
+    ghost use Rattle.etcs_reader.specs.Readers.{IsReader, Takes, Advances, Halts, HaltsIn};
+
+    /// A reader of what is left, of which no bit is taken.
+    pub(crate) fn new(rest: R) -> Reader<R>
+        requires { Goes (R.left rest) }
+        ensures rest { result.rest ≡ rest }
+        ensures reader { IsReader R R.left R.next result }
+        ensures none { result.taken ≡ 0 }
+    {
+        Reader {
+            rest,
+            number: 0,
+            taken: 0,
+        }
+    }
+
+    /// How many of `count` bits more stand in front of the first with which no number goes on, and the
+    /// number of all bits up to there.
+    #[cold]
+    #[inline(never)]
+    fn refused(&self, var: Var, bits: u64, count: usize) -> (usize, u64)
+        requires reader { IsReader R R.left R.next self.now }
+        requires next { R.next self.now.rest ≡ Some var }
+        requires within { self.now.taken + count ≤ width var }
+        requires fits { bits < 2 ^ count }
+        requires none { Starts (R.left self.now.rest) var (width var - (self.now.taken + count)) (self.now.number * 2 ^ count + bits) → ⊥ }
+        ensures within { result.0 < count }
+        ensures refuses { Refuses (R.left self.now.rest) (num self.now.taken self.now.number ++ num count bits) (self.now.taken + result.0) var }
+        ensures number { result.1 ≡ self.now.number * 2 ^ result.0 + bits / 2 ^ (count - result.0) }
+    {
+        let mut number = self.number;
+        let mut more = 0;
+        while more < count {
+            let first = bits >> (count - (more + 1));
+            let longer = joined(self.number, self.taken, first, more + 1);
+            let rest = var.width() - (self.taken + (more + 1));
+            if !self.rest.begins(var, rest, longer) {
+                return (more, number);
+            }
+            number = longer;
+            more += 1;
+        }
+        unreachable!()
+    }
+
+    /// Takes what a piece has of the next variable, from the bit `at` on, and says how many bits it was.
+    #[cold]
+    #[inline(never)]
+    fn step(&mut self, var: Var, piece: &[u8], at: usize) -> Result<usize, Halt>
+        requires reader { IsReader R R.left R.next self.old }
+        requires next { R.next self.old.rest ≡ Some var }
+        requires inside { at < length (bits piece.now) }
+        requires small { length (bits piece.now) < 2 ^ 64 }
+        ensures ok { IfOk result (λ n. Advances R R.left R.next R.follows self.old (bits piece.now) at n self.new) }
+        ensures err { IfErr result (λ h. Halts R R.left R.follows R.fails self.old (bits piece.now) at h self.new) }
+    {
+        let wanted = var.width() - self.taken;
+        let count = wanted.min(piece.len() * 8 - at);
+        let bits = number_at(piece, at, count);
+        let number = joined(self.number, self.taken, bits, count);
+        let rest = wanted - count;
+        if !self.rest.begins(var, rest, number) {
+            let (more, number) = self.refused(var, bits, count);
+            self.number = number;
+            self.taken += more;
+            return Err(Halt::Refused { at: at + more, var });
+        }
+        if rest > 0 {
+            self.number = number;
+            self.taken += count;
+            return Ok(count);
+        }
+        match self.rest.pass(var, number) {
+            Ok(()) => {
+                self.number = 0;
+                self.taken = 0;
+                Ok(count)
+            }
+            Err(_) => Err(Halt::Memory { at }),
+        }
+    }
+
+    /// Takes the next variable, of which no bit is taken, at once where the piece has it.
+    #[inline(always)]
+    fn whole(&mut self, var: Var, piece: &[u8], at: usize) -> Result<usize, Halt>
+        requires reader { IsReader R R.left R.next self.old }
+        requires none { self.old.taken ≤ 0 }
+        requires next { R.next self.old.rest ≡ Some var }
+        requires inside { at < length (bits piece.now) }
+        requires small { length (bits piece.now) < 2 ^ 64 }
+        ensures ok { IfOk result (λ n. Advances R R.left R.next R.follows self.old (bits piece.now) at n self.new) }
+        ensures err { IfErr result (λ h. Halts R R.left R.follows R.fails self.old (bits piece.now) at h self.new) }
+    {
+        let width = var.width();
+        if piece.len() * 8 - at < width {
+            return self.step(var, piece, at);
+        }
+        let number = number_at(piece, at, width);
+        if !self.rest.begins(var, 0, number) {
+            return self.step(var, piece, at);
+        }
+        match self.rest.pass(var, number) {
+            Ok(()) => Ok(width),
+            Err(_) => Err(Halt::Memory { at }),
+        }
+    }
+
+    /// Takes whole variables together where a piece has such, and else what it has of the next one, and
+    /// says how many bits it was.
+    #[inline(always)]
+    fn advance(&mut self, var: Var, piece: &[u8], at: usize) -> Result<usize, Halt>
+        requires reader { IsReader R R.left R.next self.old }
+        requires next { R.next self.old.rest ≡ Some var }
+        requires inside { at < length (bits piece.now) }
+        requires small { length (bits piece.now) < 2 ^ 64 }
+        ensures ok { IfOk result (λ n. Advances R R.left R.next R.follows self.old (bits piece.now) at n self.new) }
+        ensures err { IfErr result (λ h. Halts R R.left R.follows R.fails self.old (bits piece.now) at h self.new) }
+    {
+        if self.taken > 0 {
+            return self.step(var, piece, at);
+        }
+        match self.rest.leap(piece, at) {
+            Ok(Some(count)) => Ok(count),
+            Ok(None) => self.whole(var, piece, at),
+            Err(_) => Err(Halt::Memory { at }),
+        }
+    }
+
+    /// Takes bits of a piece, up to the language's end, and says how many it was.
+    ///
+    /// # Errors
+    ///
+    /// `Refused` with the first bit with which nothing goes on; those in front of it are taken. `Memory`
+    /// with a bit that goes on; nothing is said then of what is left.
+    pub(crate) fn push(&mut self, piece: &[u8]) -> Result<usize, Halt>
+        requires reader { IsReader R R.left R.next self.old }
+        requires small { length (bits piece.now) < 2 ^ 64 }
+        ensures reader { IfOk result (λ _. IsReader R R.left R.next self.new) }
+        ensures ok { IfOk result (λ n. Takes R R.left R.next R.follows self.old.rest (num self.old.taken self.old.number) (bits piece.now) n self.new.rest (num self.new.taken self.new.number)) }
+        ensures err { IfErr result (λ h. HaltsIn R R.left R.follows R.fails self.old (bits piece.now) h self.new) }
+    {
+        let end = piece.len() * 8;
+        let mut at = 0;
+        while at < end {
+            let Some(var) = self.rest.var() else {
+                return Ok(at);
+            };
+            at += self.advance(var, piece, at)?;
+        }
+        Ok(at)
+    }
+}

@@ -9,6 +9,7 @@ use etcs_flat::parts::marker;
 use etcs_flat::{Marker, Other};
 use etcs_row_cases::words;
 use etcs_row_cases::words::{push_bits, push_number, push_text};
+use etcs_vars::BuildFault;
 use std::alloc::{AllocError, Global};
 
 /// The bytes that the bits of long kept packets begin.
@@ -40,18 +41,35 @@ fn kept(alloc: Global, words: &str, out: &mut Vec<u8>) -> Result<(), AllocError>
     let Some(bits) = words::bits(alloc, given.rest())? else {
         return push_text(out, "bad words");
     };
-    let Some(packet) = built(alloc, nid, dir, bits.as_slice(), out)? else {
-        return Ok(());
-    };
+    let len = bits.len();
+    match built(alloc, nid, dir, bits, out)? {
+        Some(packet) => push_parts(alloc, &packet, len, out),
+        None => Ok(()),
+    }
+}
+
+/// Appends the number, the direction and the bits of a kept packet of so many bits.
+fn push_parts(
+    alloc: Global,
+    packet: &Other,
+    len: usize,
+    out: &mut Vec<u8>,
+) -> Result<(), AllocError> {
     push_number(out, u64::from(packet.nid()))?;
     push_text(out, " ")?;
     push_number(out, u64::from(packet.dir()))?;
     push_text(out, " ")?;
     push_bits(out, packet.body())?;
-    if packet.bits() != bits.len() || packet.body().len() != bits.len() {
+    if packet.bits() != len || packet.body().len() != len || !is_cloned(alloc, packet)? {
         push_text(out, " differs")?;
     }
     Ok(())
+}
+
+/// Whether a kept packet's clone is equal.
+fn is_cloned(alloc: Global, packet: &Other) -> Result<bool, AllocError> {
+    let copy = packet.try_clone(alloc)?;
+    Ok(exact_other(packet, &copy))
 }
 
 /// `kept_long NID DIR COUNT`: the same of so many bits of bytes A5, without its parts.
@@ -62,6 +80,7 @@ fn kept_long(alloc: Global, words: &str, out: &mut Vec<u8>) -> Result<(), AllocE
     let Some(bits) = BitSlice::new(&LONG, 0, usize::from(given.half())) else {
         return push_text(out, "bad words");
     };
+    let bits = Bits::from_slice(alloc, bits)?;
     match built(alloc, nid, dir, bits, out)? {
         Some(_) => push_text(out, "ok"),
         None => Ok(()),
@@ -73,26 +92,26 @@ fn built(
     alloc: Global,
     nid: u8,
     dir: u8,
-    bits: BitSlice<'_>,
+    bits: Bits,
     out: &mut Vec<u8>,
 ) -> Result<Option<Other>, AllocError> {
-    let given = Bits::from_slice(alloc, bits)?;
-    let same = Bits::from_slice(alloc, given.as_slice())?;
-    match Other::new(nid, dir, given) {
-        Ok(packet) => {
-            if !exact_other(&packet, &packet.try_clone(alloc)?) {
-                push_text(out, "differs ")?;
-            }
-            Ok(Some(packet))
-        }
+    let same = Bits::from_slice(alloc, bits.as_slice())?;
+    match Other::new(nid, dir, bits) {
+        Ok(packet) => Ok(Some(packet)),
         Err((fault, back)) => {
-            push_fault(out, fault)?;
-            if back != same {
-                push_text(out, " differs")?;
-            }
+            push_refused(fault, back == same, out)?;
             Ok(None)
         }
     }
+}
+
+/// Appends why there is no packet, and whether other bits came back.
+fn push_refused(fault: BuildFault, is_back: bool, out: &mut Vec<u8>) -> Result<(), AllocError> {
+    push_fault(out, fault)?;
+    if !is_back {
+        push_text(out, " differs")?;
+    }
+    Ok(())
 }
 
 /// `same_kept NID DIR BITS / NID DIR BITS`: whether two kept packets are equal.

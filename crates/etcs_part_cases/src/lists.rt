@@ -103,23 +103,30 @@ fn levels(alloc: Global, words: &str, out: &mut Vec<u8>) -> Result<(), AllocErro
     push_flag(out, Some(numbers.is_empty()))
 }
 
-/// Appends how many levels these are and their numbers, by way of clones and items.
+/// Appends how many levels these are and their numbers.
 fn push_levels(alloc: Global, levels: Vec<Level>, out: &mut Vec<u8>) -> Result<(), AllocError> {
-    let copies = Items::from_vec(clone_all(alloc, levels.as_slice())?);
-    let is_same = copies.as_slice() == levels.as_slice();
-    let items = Items::from_vec(levels);
-    push_number(out, items.len() as u64)?;
-    if items != copies || !is_same {
+    push_number(out, levels.len() as u64)?;
+    if !is_held(alloc, levels.as_slice())? {
         push_text(out, " differs")?;
     }
-    if items == Items::from_vec(Vec::new(alloc)) {
-        push_text(out, " and none")?;
-    }
     let mut sent = Vec::new(alloc);
-    for level in &items.into_vec() {
+    for level in &levels {
         append_numbers(level, &mut sent)?;
     }
-    for number in &sent {
+    push_list(sent.as_slice(), out)
+}
+
+/// Whether clones of levels are held as items and given back.
+fn is_held(alloc: Global, levels: &[Level]) -> Result<bool, AllocError> {
+    let items = Items::from_vec(clone_all(alloc, levels)?);
+    let is_same = items.as_slice() == levels && items.len() == levels.len();
+    let is_none = items == Items::from_vec(Vec::new(alloc));
+    Ok(is_same && !is_none && items.into_vec().as_slice() == levels)
+}
+
+/// Appends numbers with a blank in front of each.
+fn push_list(numbers: &[u64], out: &mut Vec<u8>) -> Result<(), AllocError> {
+    for number in numbers {
         push_text(out, " ")?;
         push_number(out, *number)?;
     }

@@ -152,13 +152,33 @@ fn is_listed<P: Framed + PartialEq + Drop>(
     packet: &P,
     numbers: &[u64],
 ) -> Result<bool, AllocError> {
+    Ok(
+        has_numbers(alloc, packet, numbers)?
+            && has_fields(alloc, packet, numbers)?
+            && is_read(alloc, packet, numbers)?,
+    )
+}
+
+/// Whether these are the numbers of a packet's variables.
+fn has_numbers<P: Framed>(alloc: Global, packet: &P, numbers: &[u64]) -> Result<bool, AllocError> {
     let mut list = Vec::new(alloc);
     append_numbers(packet, &mut list)?;
-    let mut fields = Vec::new(alloc);
-    packet.fields(&mut fields)?;
-    if list.as_slice() != numbers || fields.as_slice() != numbers {
-        return Ok(false);
-    }
+    Ok(list.as_slice() == numbers)
+}
+
+/// Whether these are a packet's fields.
+fn has_fields<P: Framed>(alloc: Global, packet: &P, numbers: &[u64]) -> Result<bool, AllocError> {
+    let mut list = Vec::new(alloc);
+    packet.fields(&mut list)?;
+    Ok(list.as_slice() == numbers)
+}
+
+/// Whether these numbers make the packet.
+fn is_read<P: Framed + PartialEq + Drop>(
+    alloc: Global,
+    packet: &P,
+    numbers: &[u64],
+) -> Result<bool, AllocError> {
     match P::from_fields(alloc, packet.dir(), numbers)? {
         Some(again) => Ok(again == *packet),
         None => Ok(false),

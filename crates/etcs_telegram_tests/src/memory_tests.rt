@@ -50,13 +50,14 @@ static LINKS: [u8; 27] = [
     0xA0, 0x00, 0x29, 0x33, 0xFF, 0xFF, 0xFF, 0xFF, 0xFF, 0xFF, 0xC0,
 ];
 
-/// How many bits a reader accepted that was refused memory behind so many bytes. A first reader with memory makes the
-/// stack as large as it must be, since that can't grow where no address is left.
+/// How many bits a reader accepted that was refused memory behind so many bytes. A first reader takes the same pieces with
+/// memory, which makes the stack as large as it must be: it can't grow where no address is left.
 fn starved(rt: &impl Abort, alloc: Global, bytes: &[u8; 27], at: usize) -> Result<usize, Fail>
     requires { at ≤ 27 }
 {
     let mut first = TelegramReader::new(alloc, Size::Short);
-    assert!(rt; first.feed(bytes) == Ok(Fed::Done { taken: 27 }));
+    assert!(rt; first.feed(&bytes[..at]) == Ok(Fed::More));
+    assert!(rt; first.feed(&bytes[at..]) == Ok(Fed::Done { taken: 27 - at }));
     let mut reader = TelegramReader::new(alloc, Size::Short);
     assert!(rt; reader.feed(&bytes[..at]) == Ok(Fed::More));
     let held = starve(alloc)?;

@@ -11,10 +11,12 @@ pub(crate) fn answer(
     words: &str,
     out: &mut Vec<u8>,
 ) -> Result<bool, AllocError> {
-    Ok(answer_here(alloc, kind, words, out)?
-        || etcs_row_cases::answer(alloc, kind, words, out)?
-        || etcs_part_cases::answer(alloc, kind, words, out)?
-        || etcs_packet_cases::answer(alloc, kind, words, out)?)
+    Ok(
+        answer_here(alloc, kind, words, out)?
+            || etcs_row_cases::answer(alloc, kind, words, out)?
+            || etcs_part_cases::answer(alloc, kind, words, out)?
+            || etcs_packet_cases::answer(alloc, kind, words, out)?,
+    )
 }
 
 /// As `answer`, for telegrams and what is made of them.

@@ -4,6 +4,7 @@ use Rattle.std.specs.Prelude.{nat_le, if◌then◌else◌}
 use Rattle.std.proofs.lemmas.Bool.{lt-leb, le-leb}
 use Rattle.etcs_bits.specs.Bits.{num, value, bits, part, number_at}
 use Rattle.etcs_bits.proofs.Numbers.{num-value}
+use Rattle.etcs_bits.proofs.Positions.{number_inside}
 use Rattle.etcs_bits.proofs.Lists.{length-part, part-part, part-add}
 use Rattle.etcs_bits.proofs.Steps.{part-rest, value-part_below}
 
@@ -21,6 +22,21 @@ view_part bytes seen a n s c at from e h place =
 
 pub length-view : (bytes : List ℕ) (seen : List Bool) (a n : ℕ) → seen ≡ part a n (bits bytes) → a + n ≤ length (bits bytes) → length seen ≡ n
 length-view bytes seen a n e h = ap length e ∙ length-part a n (bits bytes) h
+
+-- what a slice is asked for, among the bits of all bytes
+pub view_bits : (bytes : List ℕ) (seen : List Bool) (a n s c start : ℕ) → seen ≡ part a n (bits bytes) → s + c ≤ n → start ≡ a + s → part start c (bits bytes) ≡ part s c seen
+view_bits bytes seen a n s c start e h place =
+    ap (λ k. part k c (bits bytes)) place ∙ sym (ap (part s c) e ∙ part-part a n s c (bits bytes) h)
+
+-- a number in the same bits of two lists
+pub number_same : (s t c : ℕ) (xs ys : List Bool) → s + c ≤ length xs → t + c ≤ length ys → part s c xs ≡ part t c ys → number_at s c xs ≡ number_at t c ys
+number_same s t c xs ys h k e =
+    sym (number_inside s c xs (value (part s c xs)) h refl) ∙ number_inside t c ys (value (part s c xs)) k (ap value e)
+
+-- a number that a slice is asked for, among the bits of all bytes
+pub number_view : (bytes : List ℕ) (seen : List Bool) (a n s c start : ℕ) → seen ≡ part a n (bits bytes) → a + n ≤ length (bits bytes) → s + c ≤ n → start ≡ a + s → number_at start c (bits bytes) ≡ number_at s c seen
+number_view bytes seen a n s c start e all h place =
+    number_same start s c (bits bytes) seen (omega (arith, place)) (omega (arith, length-view bytes seen a n e all)) (view_bits bytes seen a n s c start e h place)
 
 -- a number found inside a list of bits
 pub number_bits : (s c number : ℕ) (seen : List Bool) → s + c ≤ length seen → number_at s c seen ≡ Some number → num c number ≡ part s c seen

@@ -1,10 +1,10 @@
 //! A part of a byte slice, bit by bit.
 
-ghost use Rattle.std.specs.Prelude.{◌≡◌, ℕ, ◌+◌, ◌*◌, ◌<◌, ◌≤◌, ◌==◌, false, length, take, nat_lt, nat_le, slice_index_or, if◌then◌else◌};
+ghost use Rattle.std.specs.Prelude.{◌≡◌, ℕ, ◌+◌, ◌*◌, ◌<◌, ◌≤◌, ◌==◌, false, length, take, nat_lt, nat_le, slice_index_or, if◌then◌else◌, Some, IfSome};
 ghost use Rattle.etcs_bits.specs.Bits.{bits, part, number_at};
 
 use super::bytes::byte_of;
-use super::walker::read;
+use super::walker::{peek_at_end, peek_by_bytes, peek_word};
 use std::marker::Model;
 
 /// Bits that stand one behind the other in a byte slice, from any bit on.
@@ -94,6 +94,7 @@ impl<'a> BitSlice<'a> {
 
     /// The number in the `width` bits behind the first `from` of these, most significant bit first.
     /// `None` where those go past the end.
+    #[inline(always)]
     pub fn number(&self, from: usize, width: usize) -> Option<u64>
         requires { width ≤ 64 }
         ensures { result ≡ number_at from width self.now }
@@ -101,7 +102,37 @@ impl<'a> BitSlice<'a> {
         if from > self.len || width > self.len - from {
             return None;
         }
-        let (at, offset) = byte_of(self.offset, from);
-        Some(read(&self.bytes[at..], offset, width))
+        match self.number_in_word(from, width) {
+            Some(number) => Some(number),
+            None => self.number_at_end(from, width),
+        }
+    }
+
+    /// As `number`, of bits that stand inside, where the eight bytes from the first of them on hold them.
+    /// `None` says nothing.
+    #[inline(always)]
+    fn number_in_word(&self, from: usize, width: usize) -> Option<u64>
+        requires width { width ≤ 64 }
+        requires inside { from + width ≤ length self.now }
+        ensures { IfSome result (λ n. number_at from width self.now ≡ Some n) }
+    {
+        let start = self.offset.checked_add(from)?;
+        peek_word(self.bytes, start, width)
+    }
+
+    /// As `number`, of bits that stand inside.
+    #[inline(never)]
+    fn number_at_end(&self, from: usize, width: usize) -> Option<u64>
+        requires width { width ≤ 64 }
+        requires inside { from + width ≤ length self.now }
+        ensures { result ≡ number_at from width self.now }
+    {
+        match self.offset.checked_add(from) {
+            Some(start) => peek_at_end(self.bytes, start, width),
+            None => {
+                let (at, offset) = byte_of(self.offset, from);
+                peek_by_bytes(&self.bytes[at..], offset, width)
+            }
+        }
     }
 }

@@ -1,23 +1,10 @@
 //! Reading numbers at any bit of a byte slice.
 
-ghost use Rattle.std.specs.Prelude.{◌≡◌, ℕ, ◌+◌, ◌*◌, ◌^◌, ◌<◌, ◌≤◌, length, is_some, if◌then◌else◌};
+ghost use Rattle.std.specs.Prelude.{◌≡◌, ℕ, ◌+◌, ◌*◌, ◌^◌, ◌<◌, ◌≤◌, length, is_some, if◌then◌else◌, Some, IfSome};
 ghost use Rattle.etcs_bits.specs.Bits.{value, bits, part, number_at};
 
 use super::bytes::{byte_of, read_byte};
 use std::marker::Model;
-
-/// The number in `width` bits of `bytes` from `offset` on, which stand inside `bytes`.
-pub(crate) fn read(bytes: &[u8], offset: usize, width: usize) -> u64
-    requires offset { offset < 8 }
-    requires width { width ≤ 64 }
-    requires inside { offset + width ≤ length (bits bytes.now) }
-    ensures { result ≡ value (part offset width (bits bytes.now)) }
-{
-    if bytes.len() < 8 || offset + width > 64 || width == 0 {
-        return read_by_bytes(bytes, offset, width);
-    }
-    (first_word(bytes) << offset) >> (64 - width)
-}
 
 /// The number in the first eight bytes.
 pub(crate) fn first_word(bytes: &[u8]) -> u64
@@ -29,7 +16,7 @@ pub(crate) fn first_word(bytes: &[u8]) -> u64
     ])
 }
 
-/// As `read`, byte by byte.
+/// The number in `width` bits of `bytes` from `offset` on, which stand inside `bytes`, byte by byte.
 fn read_by_bytes(bytes: &[u8], offset: usize, width: usize) -> u64
     requires offset { offset < 8 }
     requires width { width ≤ 64 }
@@ -49,14 +36,76 @@ fn read_by_bytes(bytes: &[u8], offset: usize, width: usize) -> u64
 
 /// The number in `width` bits of `bytes` from the bit `start` on, most significant bit first.
 /// `None` where these bits go past the end.
+#[inline]
 pub fn peek(bytes: &[u8], start: usize, width: usize) -> Option<u64>
+    requires { width ≤ 64 }
+    ensures { result ≡ number_at start width (bits bytes.now) }
+{
+    match peek_word(bytes, start, width) {
+        Some(number) => Some(number),
+        None => peek_at_end(bytes, start, width),
+    }
+}
+
+/// As `peek`, where the eight bytes from the first bit on hold the bits. `None` says nothing.
+#[inline(always)]
+pub(crate) fn peek_word(bytes: &[u8], start: usize, width: usize) -> Option<u64>
+    requires { width ≤ 64 }
+    ensures { IfSome result (λ n. number_at start width (bits bytes.now) ≡ Some n) }
+{
+    let at = start / 8;
+    if at + 8 > bytes.len() {
+        return None;
+    }
+    peek_in_word(bytes, at, start % 8, width)
+}
+
+/// The number in some bits of the eight bytes from the byte `at` on. `None` says nothing.
+#[inline(always)]
+fn peek_in_word(bytes: &[u8], at: usize, offset: usize, width: usize) -> Option<u64>
+    requires width { width ≤ 64 }
+    requires inside { at + 8 ≤ length bytes.now }
+    ensures { IfSome result (λ n. number_at (8 * at + offset) width (bits bytes.now) ≡ Some n) }
+{
+    if width == 0 || offset > 64 - width {
+        return None;
+    }
+    Some((first_word(&bytes[at..]) << offset) >> (64 - width))
+}
+
+/// As `peek`, for bits near the end.
+#[inline(never)]
+pub(crate) fn peek_at_end(bytes: &[u8], start: usize, width: usize) -> Option<u64>
+    requires { width ≤ 64 }
+    ensures { result ≡ number_at start width (bits bytes.now) }
+{
+    match peek_last_word(bytes, start, width) {
+        Some(number) => Some(number),
+        None => peek_by_bytes(bytes, start, width),
+    }
+}
+
+/// As `peek`, where the last eight bytes hold the bits. `None` says nothing.
+fn peek_last_word(bytes: &[u8], start: usize, width: usize) -> Option<u64>
+    requires { width ≤ 64 }
+    ensures { IfSome result (λ n. number_at start width (bits bytes.now) ≡ Some n) }
+{
+    if bytes.len() < 8 || start / 8 < bytes.len() - 8 {
+        return None;
+    }
+    let at = bytes.len() - 8;
+    peek_in_word(bytes, at, start - 8 * at, width)
+}
+
+/// As `peek`, byte by byte.
+pub(crate) fn peek_by_bytes(bytes: &[u8], start: usize, width: usize) -> Option<u64>
     requires { width ≤ 64 }
     ensures { result ≡ number_at start width (bits bytes.now) }
 {
     if start as u128 + width as u128 > bytes.len() as u128 * 8 {
         return None;
     }
-    Some(read(&bytes[start / 8..], start % 8, width))
+    Some(read_by_bytes(&bytes[start / 8..], start % 8, width))
 }
 
 /// Reads numbers from bytes, one behind the other.

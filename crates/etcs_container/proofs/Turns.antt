@@ -1,46 +1,22 @@
 -- What is left behind each variable of a frame is what the next one wants.
-use Rattle.std.proofs.Common.{◌≡◌, ℕ, ◌-◌, ◌^◌, ◌<◌, ◌≤◌, true, [], Some, refl, sym, subst, ◌∙◌, arith, inl, inr}
+use Rattle.std.proofs.Common.{◌≡◌, ℕ, ◌-◌, ◌^◌, ◌<◌, ◌≤◌, [], Some, refl, sym, subst, ◌∙◌, arith, inl, inr}
 use Rattle.std.specs.Prelude.{IsTrue}
-use Rattle.std.proofs.Math.Nat.{div-eq_of_lt}
 use Rattle.etcs_vars.specs.declared.var.Var.TheVariants.{NID_VBCMK, Q_DIR}
-use Rattle.etcs_vars.specs.Vars.{width, admits}
+use Rattle.etcs_vars.specs.Vars.{admits}
 use Rattle.etcs_vars.specs.Walking.{Residual}
 use Rattle.etcs_vars.specs.Reading.{Reading}
 use Rattle.etcs_vars.proofs.Languages.{Same, Nothing}
-use Rattle.etcs_vars.proofs.Stepping.{Opens}
 use Rattle.etcs_rows.specs.declared.row.Way.TheVariants.{ToTrain}
 use Rattle.etcs_rows.specs.declared.frames.Carrier.{Carrier}
 use Rattle.etcs_rows.specs.declared.frames.Carrier.TheVariants.{Telegram}
 use Rattle.etcs_rows.specs.Layouts.{Layout, ReadsIn}
 use Rattle.etcs_rows.specs.Rows.{row_to}
 use Rattle.etcs_rows.specs.Frames.{is_kept}
-use Rattle.etcs_container.specs.declared.phase.Phase.{Phase}
-use Rattle.etcs_container.specs.declared.phase.Phase.TheVariants.{Number, Marker, Direction, Length, Row, Kept, Closed}
 use Rattle.etcs_container.specs.Contents.{Run, BodyIn, KeptIn, BodyLeft, AfterLength, LengthLeft, AfterDirection, DirectionLeft, AfterMarker, MarkerLeft, AfterNumber}
-use Rattle.etcs_container.specs.Phases.{var_at, is_framing, after_at, left_at, is_open_at, Starts}
 use Rattle.etcs_container.proofs.Others.{kept_untyped}
-use Rattle.etcs_container.proofs.RunSteps.{number_step, marker_step, direction_step, length_step}
 
 pub residual_same : (L : Reading → Type 0) (p : Reading) (R S : Reading → Type 0) → Residual L p R → Same R S → Residual L p S
 residual_same L p R S h same = record { to = λ q l. (same q).0 (h.to q l); from = λ q s. h.from q ((same q).1 s) }
-
--- ---- A variable of a frame.
-
-pub frame_step : (c : Carrier) (room : ℕ) (phase : Phase) → is_framing phase ≡ true → is_open_at c room phase → Opens (left_at c room phase) (var_at phase) (after_at c room phase)
-frame_step c room Number f o = number_step c room o
-frame_step c room Marker f o = marker_step room
-frame_step c room (Direction nid) f o = direction_step c nid room
-frame_step c room (Length nid dir) f o = length_step c nid room
-frame_step c room (Row nid dir) f o = absurd cc
-frame_step c room (Kept nid dir left) f o = absurd cc
-frame_step c room Closed f o = absurd cc
-
--- some number of it goes on
-pub none_yet : (c : Carrier) (room : ℕ) (phase : Phase) → is_framing phase ≡ true → is_open_at c room phase → ((r : Reading) × left_at c room phase r) → Starts (after_at c room phase) (width (var_at phase) - 0) 0
-none_yet c room phase f o (r, l) =
-    let (n, q, e, small, a) = (frame_step c room phase f o).opens r l in
-    let whole : width (var_at phase) - 0 ≡ width (var_at phase) = omega arith in
-    (n, q, rw whole (div-eq_of_lt small), a)
 
 -- ---- From one to the next.
 

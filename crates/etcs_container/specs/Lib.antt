@@ -1,6 +1,4 @@
 pub mod Contents
-pub mod RowParts
 pub mod Phases
 pub mod Spellings
 pub mod Runs
-pub mod Scans

@@ -3,7 +3,7 @@
 ghost use Rattle.std.specs.Prelude.{◌≡◌, ◌↔◌, ◌≤◌, ◌<◌, ◌-◌, ◌^◌, ℕ, true, IsTrue};
 ghost use Rattle.etcs_vars.specs.Vars.{width};
 ghost use Rattle.etcs_vars.specs.Reading.{Reading};
-ghost use Rattle.etcs_container.specs.Phases.{var_at, is_framing, after_at, Starts};
+ghost use Rattle.etcs_container.specs.Phases.{var_at, after_at, Starts};
 
 use crate::phase::Phase;
 use etcs_rows::Way;
@@ -12,9 +12,7 @@ use etcs_vars::{Var, begins};
 
 /// Whether some number of the next variable goes on that is `bits` with `rest` bits more behind them; `room` bits are
 /// left, counted from the packet's first bit.
-
-pub(crate) fn starts(carrier: Carrier, phase: Phase, room: usize, rest: usize, bits: u64) -> bool
-    requires framing { is_framing phase ≡ true }
+pub fn starts(carrier: Carrier, phase: Phase, room: usize, rest: usize, bits: u64) -> bool
     requires rest { rest ≤ width (var_at phase) }
     requires fits { bits < 2 ^ (width (var_at phase) - rest) }
     requires small { room ≤ 8191 }
@@ -26,6 +24,5 @@ pub(crate) fn starts(carrier: Carrier, phase: Phase, room: usize, rest: usize, b
         Phase::Marker => begins(Var::NID_VBCMK.ranges(), rest, bits),
         Phase::Direction(_) => begins(Var::Q_DIR.ranges(), rest, bits),
         Phase::Length(nid, _) => length_fits(Way::ToTrain, carrier, nid, room, rest, bits),
-        Phase::Row(_, _) | Phase::Kept(_, _, _) | Phase::Closed => unreachable!(),
     }
 }

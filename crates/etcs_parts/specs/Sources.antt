@@ -1,62 +1,117 @@
--- What is left of a list of numbers and of bits, as the code holds them.
-use Rattle.std.proofs.Common.{◌≡◌, ℕ, zero, suc, ◌+◌, ◌<◌, ◌≤◌, Bool, true, false, nat_eq, List, [], ◌∷◌, length, drop, Option, Some, None, refl, sym, ◌∙◌, nat_le, arith}
-use Rattle.std.proofs.lemmas.Bool.{le-leb}
-use Rattle.etcs_bits.specs.Bits.{number_at, bit}
+-- What is left of a list of numbers and of bits, as the code holds them with how many are taken.
+use Rattle.std.proofs.Common.{◌≡◌, ℕ, zero, suc, ◌+◌, ◌<◌, ◌≤◌, Bool, true, false, nat_eq, List, [], ◌∷◌, length, drop, get_or, Option, Some, None, refl, sym, ap, ◌∙◌, nat_le, arith, inl, inr}
+use Rattle.std.proofs.lemmas.Bool.{cases_lt, lt-leb, le-leb}
+use Rattle.std.proofs.lemmas.List.{at_drop_more, drop_all, drop-drop, length-drop}
+use Rattle.etcs_bits.specs.Bits.{number_at, part, bit}
+use Rattle.etcs_bits.proofs.Lists.{part-drop}
+use Rattle.etcs_bits.proofs.Positions.{number_past}
+use Rattle.etcs_bits.proofs.Views.{number_same}
 use Rattle.etcs_vars.specs.declared.var.Var.{Var}
 use Rattle.etcs_vars.specs.Vars.{width, admits}
+use Rattle.etcs_vars.proofs.Prefixes.{width_pos}
 use Rattle.etcs_parts.specs.declared.numbers.Held.{Held}
 use Rattle.etcs_parts.specs.declared.numbers.Held.TheVariants.{Listed, Bits}
-use Rattle.etcs_parts.specs.Taking.{Left, listed, in_bits, next_number, next_flag}
+use Rattle.etcs_parts.specs.Taking.{Left, listed, in_bits, is_spent, next_number, next_flag}
 
-abbrev pub left_of : Held → Left
-left_of (Listed l) = listed l.now
-left_of (Bits b) = in_bits b
+abbrev pub left_of : Held → ℕ → Left
+left_of (Listed l) k = listed (drop k l.now)
+left_of (Bits b) k = in_bits (drop k b)
 
 -- ---- Of a list.
 
-pub next_is_listed : (v : Var) (n : ℕ) (f : List ℕ) → admits v n ≡ true → next_number v (listed (n ∷ f)) ≡ Some (n, listed f)
+pub none_listed : (f : List ℕ) (k : ℕ) → nat_le (length f) k ≡ is_spent (listed (drop k f))
+none_listed f k =
+    elim (cases_lt k (length f)) [
+      | inl some ↦ lt-leb (length f) k some ∙ sym (at_drop_more (λ l. is_spent (listed l)) f k 0 some)
+      | inr none ↦ le-leb (length f) k none ∙ sym (ap (λ l. is_spent (listed l)) (drop_all k f none))
+    ]
+
+next_listed : (v : Var) (n : ℕ) (f : List ℕ) → admits v n ≡ true → next_number v (listed (n ∷ f)) ≡ Some (n, listed f)
 unfolding next_number
-next_is_listed v n f h = rw h refl
+next_listed v n f h = rw h refl
 
-pub not_listed : (v : Var) (n : ℕ) (f : List ℕ) → admits v n ≡ false → next_number v (listed (n ∷ f)) ≡ None
+refused : (v : Var) (n : ℕ) (f : List ℕ) → admits v n ≡ false → next_number v (listed (n ∷ f)) ≡ None
 unfolding next_number
-not_listed v n f h = rw h refl
+refused v n f h = rw h refl
 
-pub no_more : (v : Var) (f : List ℕ) → length f ≡ 0 → next_number v (listed f) ≡ None
+pub next_is_listed : (v : Var) (f : List ℕ) (k : ℕ) → k < length f → admits v (get_or f k 0) ≡ true → next_number v (listed (drop k f)) ≡ Some (get_or f k 0, listed (drop (k + 1) f))
+next_is_listed v f k h ok = at_drop_more (λ l. next_number v (listed l)) f k 0 h ∙ next_listed v (get_or f k 0) (drop (k + 1) f) ok
+
+pub not_listed : (v : Var) (f : List ℕ) (k : ℕ) → k < length f → admits v (get_or f k 0) ≡ false → next_number v (listed (drop k f)) ≡ None
+not_listed v f k h bad = at_drop_more (λ l. next_number v (listed l)) f k 0 h ∙ refused v (get_or f k 0) (drop (k + 1) f) bad
+
+none_next : (v : Var) → next_number v (listed []) ≡ None
 unfolding next_number
-no_more v [] h = refl
-no_more v (n ∷ f) h = absurd (omega arith)
+none_next v = refl
 
-pub no_flag_listed : (f : List ℕ) → length f ≡ 0 → next_flag (listed f) ≡ None
-unfolding next_flag
-no_flag_listed [] h = refl
-no_flag_listed (n ∷ f) h = absurd (omega arith)
+pub no_more : (v : Var) (f : List ℕ) (k : ℕ) → length f ≤ k → next_number v (listed (drop k f)) ≡ None
+no_more v f k h = ap (λ l. next_number v (listed l)) (drop_all k f h) ∙ none_next v
 
-pub flag_too_large : (n : ℕ) (f : List ℕ) → 1 < n → next_flag (listed (n ∷ f)) ≡ None
+no_flag : next_flag (listed []) ≡ None
 unfolding next_flag
-flag_too_large zero f h = absurd (omega arith)
-flag_too_large (suc zero) f h = absurd (omega arith)
-flag_too_large (suc (suc n)) f h = refl
+no_flag = refl
 
-pub flag_is_listed : (n : ℕ) (f : List ℕ) → n ≤ 1 → next_flag (listed (n ∷ f)) ≡ Some (nat_eq n 1, listed f)
+large_flag : (n : ℕ) (f : List ℕ) → 1 < n → next_flag (listed (n ∷ f)) ≡ None
 unfolding next_flag
-flag_is_listed zero f h = refl
-flag_is_listed (suc zero) f h = refl
-flag_is_listed (suc (suc n)) f h = absurd (omega arith)
+large_flag zero f h = absurd (omega arith)
+large_flag (suc zero) f h = absurd (omega arith)
+large_flag (suc (suc n)) f h = refl
+
+listed_flag : (n : ℕ) (f : List ℕ) → n ≤ 1 → next_flag (listed (n ∷ f)) ≡ Some (nat_eq n 1, listed f)
+unfolding next_flag
+listed_flag zero f h = refl
+listed_flag (suc zero) f h = refl
+listed_flag (suc (suc n)) f h = absurd (omega arith)
+
+pub no_flag_listed : (f : List ℕ) (k : ℕ) → length f ≤ k → next_flag (listed (drop k f)) ≡ None
+no_flag_listed f k h = ap (λ l. next_flag (listed l)) (drop_all k f h) ∙ no_flag
+
+pub flag_too_large : (f : List ℕ) (k : ℕ) → k < length f → 1 < get_or f k 0 → next_flag (listed (drop k f)) ≡ None
+flag_too_large f k h l = at_drop_more (λ l. next_flag (listed l)) f k 0 h ∙ large_flag (get_or f k 0) (drop (k + 1) f) l
+
+pub flag_is_listed : (f : List ℕ) (k : ℕ) → k < length f → get_or f k 0 ≤ 1 → next_flag (listed (drop k f)) ≡ Some (nat_eq (get_or f k 0) 1, listed (drop (k + 1) f))
+flag_is_listed f k h l = at_drop_more (λ l. next_flag (listed l)) f k 0 h ∙ listed_flag (get_or f k 0) (drop (k + 1) f) l
 
 -- ---- Of bits.
 
-pub next_is_in_bits : (v : Var) (n : ℕ) (b r : List Bool) → number_at 0 (width v) b ≡ Some n → r ≡ drop (width v) b → admits v n ≡ true → next_number v (in_bits b) ≡ Some (n, in_bits r)
-unfolding next_number
-next_is_in_bits v n b r h e ok = rw (h, ok, e) refl
+pub none_in_bits : (b : List Bool) (k : ℕ) → nat_le (length b) k ≡ is_spent (in_bits (drop k b))
+none_in_bits b k =
+    elim (cases_lt k (length b)) [
+      | inl some ↦ lt-leb (length b) k some ∙ sym (at_drop_more (λ l. is_spent (in_bits l)) b k false some)
+      | inr none ↦ le-leb (length b) k none ∙ sym (ap (λ l. is_spent (in_bits l)) (drop_all k b none))
+    ]
 
-pub not_in_bits : (v : Var) (n : ℕ) (b : List Bool) → number_at 0 (width v) b ≡ Some n → admits v n ≡ false → next_number v (in_bits b) ≡ None
-unfolding next_number
-not_in_bits v n b h ok = rw (h, ok) refl
+-- a number behind those that are taken
+behind : (k w : ℕ) (b : List Bool) → 0 < w → number_at 0 w (drop k b) ≡ number_at k w b
+behind k w b h =
+    elim (cases_lt (length b) (k + w)) [
+      | inl past ↦ number_past 0 w (drop k b) (omega (arith, length-drop k b)) ∙ sym (number_past k w b past)
+      | inr inside ↦
+          let none : k + 0 ≡ k = omega arith in
+          number_same 0 k w (drop k b) b (omega (arith, length-drop k b)) inside (part-drop k 0 w b ∙ ap (λ i. part i w b) none)
+    ]
 
-pub no_more_bits : (v : Var) (b : List Bool) → number_at 0 (width v) b ≡ None → next_number v (in_bits b) ≡ None
+next_in : (v : Var) (n : ℕ) (b : List Bool) → number_at 0 (width v) b ≡ Some n → admits v n ≡ true → next_number v (in_bits b) ≡ Some (n, in_bits (drop (width v) b))
 unfolding next_number
-no_more_bits v b h = rw h refl
+next_in v n b h ok = rw (h, ok) refl
+
+not_in : (v : Var) (n : ℕ) (b : List Bool) → number_at 0 (width v) b ≡ Some n → admits v n ≡ false → next_number v (in_bits b) ≡ None
+unfolding next_number
+not_in v n b h bad = rw (h, bad) refl
+
+none_in : (v : Var) (b : List Bool) → number_at 0 (width v) b ≡ None → next_number v (in_bits b) ≡ None
+unfolding next_number
+none_in v b h = rw h refl
+
+pub next_is_in_bits : (v : Var) (n : ℕ) (b : List Bool) (k : ℕ) → number_at k (width v) b ≡ Some n → admits v n ≡ true → next_number v (in_bits (drop k b)) ≡ Some (n, in_bits (drop (k + width v) b))
+next_is_in_bits v n b k h ok =
+    next_in v n (drop k b) (behind k (width v) b (width_pos v) ∙ h) ok ∙ ap (λ l. Some (n, in_bits l)) (drop-drop (width v) k b)
+
+pub not_in_bits : (v : Var) (n : ℕ) (b : List Bool) (k : ℕ) → number_at k (width v) b ≡ Some n → admits v n ≡ false → next_number v (in_bits (drop k b)) ≡ None
+not_in_bits v n b k h bad = not_in v n (drop k b) (behind k (width v) b (width_pos v) ∙ h) bad
+
+pub no_more_bits : (v : Var) (b : List Bool) (k : ℕ) → number_at k (width v) b ≡ None → next_number v (in_bits (drop k b)) ≡ None
+no_more_bits v b k h = none_in v (drop k b) (behind k (width v) b (width_pos v) ∙ h)
 
 some_bit : (b : List Bool) → nat_le (0 + 1) (suc (length b)) ≡ true
 some_bit b = le-leb (0 + 1) (suc (length b)) (omega arith)
@@ -69,15 +124,21 @@ flag_at : (c : Bool) (n : ℕ) → bit c ≡ n → c ≡ nat_eq n 1
 flag_at true n e = rw (← e) refl
 flag_at false n e = rw (← e) refl
 
-pub flag_is_in_bits : (n : ℕ) (b r : List Bool) → number_at 0 1 b ≡ Some n → r ≡ drop 1 b → next_flag (in_bits b) ≡ Some (nat_eq n 1, in_bits r)
+flag_in : (n : ℕ) (b : List Bool) → number_at 0 1 b ≡ Some n → next_flag (in_bits b) ≡ Some (nat_eq n 1, in_bits (drop 1 b))
 unfolding next_flag
-flag_is_in_bits n [] r h e = absurd cc
-flag_is_in_bits n (c ∷ b) r h e =
+flag_in n [] h = absurd cc
+flag_in n (c ∷ b) h =
     let both : ◌≡◌ {A = Option ℕ} (Some (bit c)) (Some n) = sym (first_bit c b) ∙ h in
     let one : bit c ≡ n = cc in
-    rw (← flag_at c n one, e) refl
+    rw (← flag_at c n one) refl
 
-pub no_flag_in_bits : (b : List Bool) → number_at 0 1 b ≡ None → next_flag (in_bits b) ≡ None
+no_flag_in : (b : List Bool) → number_at 0 1 b ≡ None → next_flag (in_bits b) ≡ None
 unfolding next_flag
-no_flag_in_bits [] h = refl
-no_flag_in_bits (c ∷ b) h = let both : ◌≡◌ {A = Option ℕ} (Some (bit c)) None = sym (first_bit c b) ∙ h in absurd cc
+no_flag_in [] h = refl
+no_flag_in (c ∷ b) h = let both : ◌≡◌ {A = Option ℕ} (Some (bit c)) None = sym (first_bit c b) ∙ h in absurd cc
+
+pub flag_is_in_bits : (n : ℕ) (b : List Bool) (k : ℕ) → number_at k 1 b ≡ Some n → next_flag (in_bits (drop k b)) ≡ Some (nat_eq n 1, in_bits (drop (k + 1) b))
+flag_is_in_bits n b k h = flag_in n (drop k b) (behind k 1 b (omega arith) ∙ h) ∙ ap (λ l. Some (nat_eq n 1, in_bits l)) (drop-drop 1 k b)
+
+pub no_flag_in_bits : (b : List Bool) (k : ℕ) → number_at k 1 b ≡ None → next_flag (in_bits (drop k b)) ≡ None
+no_flag_in_bits b k h = no_flag_in (drop k b) (behind k 1 b (omega arith) ∙ h)

@@ -185,6 +185,11 @@ pub unfinished_next : (L : Reading → Type 0) → Regular L → (next : Option 
 unfinished_next L regular next begins number taken u (Some x) e = unfinished_owner L regular next begins number taken u x (sym e)
 unfinished_next L regular next begins number taken u None e = tt
 
+-- of which not all bits stand
+pub unfinished_short : (L : Reading → Type 0) (next : Option Var) (number taken : ℕ) → Unfinished L next number taken → (found : Option Var) → found ≡ next → IfSome found (λ x. length (num taken number) < width x)
+unfinished_short L next number taken u (Some x) e = let (lt, s) = u.inside x (sym e) in rw length-num lt
+unfinished_short L next number taken u None e = tt
+
 pub none_is : (found : Option Var) → IsNone found → found ≡ None
 none_is None h = refl
 none_is (Some x) h = absurd cc

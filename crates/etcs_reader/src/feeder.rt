@@ -2,6 +2,7 @@
 
 ghost use Rattle.std.specs.Prelude.{◌≡◌, ◌+◌, ◌*◌, ◌^◌, ◌<◌, [], None, Err, length, IfSome, IsNone};
 ghost use Rattle.etcs_bits.specs.Bits.{bits, num};
+ghost use Rattle.etcs_vars.specs.Vars.{width};
 ghost use Rattle.etcs_vars.specs.Reading.{Owner};
 ghost use Rattle.etcs_reader.specs.Rests.{Goes};
 
@@ -133,11 +134,12 @@ impl<R: Rest> Feeder<R> {
         self.reader.rest
     }
 
-    /// The variable that holds the next bit. `None` where nothing is left.
+    /// The variable that holds the next bit, and of whose bits not all stand. `None` where nothing is left.
     #[inline]
     pub fn var(&self) -> Option<Var>
         ensures next { result ≡ R.next self.now.rest }
         ensures holds { self.now.stop ≡ None → IfSome result (Owner (R.left self.now.rest) self.now.part) }
+        ensures short { self.now.stop ≡ None → IfSome result (λ x. length self.now.part < width x) }
         ensures ended { self.now.stop ≡ None → IsNone result → (self.now.part ≡ []) × R.left self.now.rest [] }
     {
         self.reader.rest.var()

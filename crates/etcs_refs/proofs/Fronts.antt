@@ -12,7 +12,7 @@ use Rattle.etcs_vars.specs.Reading.{Reading, spelled}
 use Rattle.etcs_vars.proofs.Prefixes.{admits_parts}
 use Rattle.etcs_packets.specs.PacketValues.{PacketValue, marker, typed, kept, nid_of, bits_of, IsPacket}
 use Rattle.etcs_packets.specs.PacketReadings.{packet_reading}
-use Rattle.etcs_container.proofs.KeptRuns.{spelled_kept}
+use Rattle.etcs_container.proofs.Wholes.{spelled_kept}
 use Rattle.etcs_container.proofs.Typed.{typed_number}
 use Rattle.etcs_container.proofs.Others.{kept_parts, kept_number}
 use Rattle.etcs_refs.specs.Refs.{bits_ahead}

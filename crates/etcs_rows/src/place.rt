@@ -287,7 +287,7 @@ impl Place {
     }
 
     /// Takes the number of the next variable.
-    pub(crate) fn pass(&mut self, number: u64)
+    pub fn pass(&mut self, number: u64)
         requires next { IsSome (first_variable self.old) }
         ensures left { after_any self.old number ≡ Some self.new }
         ensures looks { IsTrue (looks None self.new) }
@@ -378,5 +378,5 @@ pub fn lengths(place: &Place) -> LengthSet
 pub fn reaches(place: &Place, bits: usize) -> bool
     ensures { IsTrue result ↔ Lengths place.now [] bits }
 {
-    place.lengths().holds(bits)
+    place.can_take(bits)
 }

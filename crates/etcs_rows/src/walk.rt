@@ -70,7 +70,7 @@ fn digit(b: bool) -> u64
 
 /// Whether some number of the next variable begins with these bits and goes on to the row's end.
 #[inline(always)]
-fn may_begin(place: &Place, var: Var, bits: u64, taken: usize, len: usize) -> bool
+pub fn may_begin(place: &Place, var: Var, bits: u64, taken: usize, len: usize) -> bool
     requires next { first_variable place.now ≡ Some var }
     requires some { 0 < taken }
     requires taken { taken ≤ width var }

@@ -5,9 +5,10 @@ use Rattle.std.proofs.lemmas.List.Elements.{All-nil}
 use Rattle.etcs_bits.specs.Bits.{num, bits}
 use Rattle.etcs_vars.specs.declared.var.Var.TheVariants.{NID_PACKET, FILL, PAD}
 use Rattle.etcs_vars.specs.Reading.{Reading, spelled, kept}
+use Rattle.etcs_reader.specs.Rests.{Goes}
 use Rattle.etcs_telegram.specs.declared.size.Size.{Size}
 use Rattle.etcs_telegram.specs.declared.size.Size.TheVariants.{Short, Long}
-use Rattle.etcs_telegram.specs.Telegrams.{HeaderParts, TelegramValue, TelegramReads, header_reading, header_of, pad_bits}
+use Rattle.etcs_telegram.specs.Telegrams.{HeaderParts, TelegramValue, TelegramReads, TelegramLanguage, header_reading, header_of, pad_bits}
 
 abbrev plain_header : HeaderParts
 plain_header = record { m_version = 32; n_pig = 0; n_total = 0; m_dup = 0; m_mcount = 255; nid_c = 1; nid_bg = 1; q_link = true }
@@ -47,3 +48,8 @@ long_bits = refl
 
 pub plain_header_of : header_of (1 ∷ 32 ∷ 0 ∷ 0 ∷ 0 ∷ 0 ∷ 255 ∷ 1 ∷ 1 ∷ 1 ∷ []) ≡ plain_header
 plain_header_of = refl
+
+-- some telegram has each size
+pub some_telegram : (size : Size) → Goes (TelegramLanguage size)
+some_telegram Short = (plain_reading Short (replicate 152 true), (plain Short (replicate 152 true), (refl, short_reads)))
+some_telegram Long = (plain_reading Long (replicate 772 true), (plain Long (replicate 772 true), (refl, long_reads)))

@@ -1,131 +1,282 @@
--- What a feed answers, from what its steps keep.
-use Rattle.std.proofs.Common.{◌≡◌, ◌*◌, ◌%◌, Bool, true, false, List, [], ◌++◌, length, refl, sym, ap, subst, ◌∙◌, arith, length-append, Some, None, Ok, Err}
-use Rattle.std.specs.Prelude.{Option}
-use Rattle.std.specs.Option.{is_some}
+-- What a reader of telegrams answers.
+use Rattle.std.proofs.Common.{◌≡◌, ℕ, ◌+◌, ◌-◌, ◌*◌, ◌/◌, ◌<◌, ◌≤◌, Bool, true, false, List, [], ◌++◌, length, take, drop, min, Some, None, Ok, Err, refl, sym, ap, subst, ◌∙◌, arith, append_assoc}
+use Rattle.std.specs.Prelude.{Option, Result, IfSome, IsNone, is_some}
+use Rattle.std.proofs.lemmas.List.{length-append, take-append-drop, take_at, take_all, length-take-le, take-take}
 use Rattle.std.proofs.Math.Seq.{take-append-add}
-use Rattle.etcs_vars.specs.Reading.{Reading}
-use Rattle.etcs_rows.specs.declared.frames.Carrier.TheVariants as carrier
-use Rattle.etcs_container.specs.Phases.{is_closed}
-use Rattle.etcs_container.specs.Runs as runs
-use Rattle.etcs_vars.proofs.Outcomes.{more_wanted, none_refused}
-use Rattle.etcs_telegram.specs.declared.size.Size.{Size}
-use Rattle.etcs_telegram.specs.declared.course.Course.{Course}
-use Rattle.etcs_container.specs.declared.run.Stop.{Stop}
-use Rattle.etcs_telegram.specs.declared.phase.Phase.TheVariants.{Header}
-use Rattle.etcs_vars.specs.declared.feed.ReadFault.{ReadFault}
-use Rattle.etcs_bits.specs.Bits.{num}
-use Rattle.etcs_container.specs.declared.run.Stop.TheVariants.{Refused, Memory}
+use Rattle.etcs_bits.specs.Bits.{bits}
+use Rattle.etcs_bits.proofs.ByteBits.{bits-append}
+use Rattle.etcs_bits.proofs.Positions.{length-bits}
+use Rattle.etcs_vars.specs.declared.var.Var.{Var}
 use Rattle.etcs_vars.specs.declared.feed.Fed.{Fed}
 use Rattle.etcs_vars.specs.declared.feed.Fed.TheVariants.{More, Done}
-use Rattle.etcs_telegram.specs.Telegrams.{ReadsAs, TelegramLanguage, packet_room}
+use Rattle.etcs_vars.specs.declared.feed.ReadFault.{ReadFault}
+use Rattle.etcs_vars.specs.Walking.{Residual}
+use Rattle.etcs_vars.specs.Reading.{Reading, spelled, InLanguage, Viable, Owner}
+use Rattle.etcs_vars.proofs.Languages.{Same}
+use Rattle.etcs_vars.proofs.Outcomes.{more_wanted, none_refused, refuses_longer}
+use Rattle.etcs_reader.specs.declared.feeder.Stop.{Stop}
+use Rattle.etcs_reader.specs.declared.feeder.Stop.TheVariants.{Refused, Memory}
+use Rattle.etcs_reader.specs.Rests.{Goes}
+use Rattle.etcs_reader.specs.Readers.{Takes, RefusesAt, StarvesAt}
+use Rattle.etcs_reader.specs.Feeders as feeders
+use Rattle.etcs_reader.specs.Feeders.{FeederValue}
+use Rattle.etcs_telegram.specs.declared.size.Size.{Size}
+use Rattle.etcs_telegram.specs.declared.size.Size.TheVariants.{Short, Long}
+use Rattle.etcs_telegram.specs.Telegrams.{TelegramLanguage, ReadsAs, container_bytes, user_bits, pad_bits}
 use Rattle.etcs_telegram.specs.Phases.{is_going}
-use Rattle.etcs_telegram.specs.Reached.{telegram_parts, seen}
-use Rattle.etcs_telegram.specs.Courses.{IsCourse, seen_by, packets_of, Takes, StopsBehind}
-use Rattle.etcs_telegram.specs.Readers.{Stage, ReaderValue, reading, finished, seen_of, Feeds, fault_by}
-use Rattle.etcs_telegram.specs.Stages.{stage_by, IsReader}
+use Rattle.etcs_telegram.specs.Readers.{Stage, ReaderValue, reading, finished, stopped, starved, Feeds, fault_by, seen_of}
+use Rattle.etcs_telegram.specs.Stages.{stage_by, telegram_parts, IsReader}
 use Rattle.etcs_telegram.proofs.Spellings.{regular}
-use Rattle.etcs_telegram.proofs.Packeted.{going_owner, done_at, done_count}
-use Rattle.etcs_telegram.proofs.Ends.{reached_start}
+use Rattle.etcs_telegram.proofs.Nexts.{some_next, none_next}
+use Rattle.etcs_telegram.proofs.Passes.{Kept, left, next, holds, follows, fails, far, seen, At, viable_length, language_viable, language_length, owned_length, all_viable, all_language, all_owner, all_refuses, seen_new, reached_new, starved_far}
+use Rattle.etcs_telegram.proofs.SoFar.{far_is}
+use Rattle.etcs_telegram.proofs.Examples.{some_telegram}
+use Rattle.etcs_telegram.proofs.Dones.{IsDone, done_at, done_length}
 
-pub going_stage : (c : Course) → is_going c.phase ≡ true → stage_by c None ≡ reading (seen_by c)
-going_stage c g = rw g refl
+abbrev pub stage : FeederValue Kept → Stage
+stage v = stage_by v.rest.size v.rest.stage v.rest.header.items v.rest.packets.left v.rest.packets.store v.part v.count v.stop
 
-done_stage : (c : Course) → is_going c.phase ≡ false → stage_by c None ≡ finished (telegram_parts c.size c.header.items c.run.packets.items c.fill)
-done_stage c g = rw g refl
+-- what a reader of this size keeps
+abbrev pub Is : Size → FeederValue Kept → Type 0
+Is size v = IsReader size v.rest.size v.rest.stage v.rest.header.items v.rest.packets.left v.rest.packets.store v.part v.count v.stop
 
-pub feeds_ok : (c c' : Course) (new : List Bool) (fed : Fed) → IsCourse c' → c'.size ≡ c.size → Takes (seen_by c) new fed c' → Feeds (ReadsAs c.size) (seen_by c) new (Ok fed) (stage_by c' None)
-feeds_ok c c' new More is e (g, a, s) =
-    let o = (going_owner c' is g).1 in
-    let w = more_wanted (TelegramLanguage c'.size) (regular c'.size) (seen_by c') o in
-    (going_stage c' g ∙ ap reading s, rw (s, e) at w)
-feeds_ok c c' new (Done k) is e (g, le, s, a) =
-    let d = done_at c' is g in
-    let t = telegram_parts c'.size c'.header.items c'.run.packets.items c'.fill in (
-      t,
-      done_stage c' g,
-      d.telegram,
-      le,
-      (
-        omega (arith, le, length-append (seen_by c) new),
-        d.reading,
-        (e, d.reads),
-        d.bits ∙ s ∙ sym (take-append-add (seen_by c) new (8 * k)),
-      ),
-    )
+-- ---- At a reader that hasn't stopped.
 
-pub feeds_err : (c c' : Course) (new : List Bool) (stop : Stop) → StopsBehind (TelegramLanguage c.size) (seen_by c) new c'.count stop → Feeds (ReadsAs c.size) (seen_by c) new (Err (fault_by stop)) (stage_by c' (Some stop))
-feeds_err c c' new (Refused i x) (h, count) =
-    (refl, ((none_refused (TelegramLanguage c.size) (regular c.size) (seen_by c ++ new) i x h, h.within, h.blocked), h.owned))
-feeds_err c c' new Memory (low, high, v, some, far) = (c'.count, refl, low, high, v, some, far)
+pub none_there : {A : Type 0} (o : Option A) → is_some o ≡ false → o ≡ None
+none_there None e = refl
+none_there (Some s) e = absurd cc
 
--- and what it keeps then
-pub stopped_at : (c c' : Course) (new : List Bool) (stop : Stop) → StopsBehind (TelegramLanguage c.size) (seen_by c) new c'.count stop → IsReader c' (Some stop)
-stopped_at c c' new (Refused i x) (h, count) = count
-stopped_at c c' new Memory h = tt
+module _ (v : FeederValue Kept) (none : v.stop ≡ None) where
+  pub size_of : (size : Size) → Is size v → v.rest.size ≡ size
+  size_of size is = (rw none at is).0
 
-fed_at : (b new : List Bool) (c' : Course) (fed : Fed) → Takes b new fed c' → c'.count % 8 ≡ 0
-fed_at b new c' More (g, a, s) = a
-fed_at b new c' (Done k) (g, le, s, a) = a
+  pub at_of : (size : Size) → Is size v → At v
+  at_of size is = (rw none at is).1
 
-pub went_on : (b new : List Bool) (c' : Course) (fed : Fed) → IsCourse c' → Takes b new fed c' → IsReader c' None
-went_on b new c' fed is t = (is, fed_at b new c' fed t)
+  pub is_of : (size : Size) → v.rest.size ≡ size → At v → Is size v
+  is_of size e at = rw none (e, at)
 
--- a reader that didn't stop
-pub whole_reader : (c : Course) (stop : Option Stop) → IsReader c stop → is_some stop ≡ false → IsCourse c
-whole_reader c None r e = r.0
-whole_reader c (Some s) r e = absurd cc
+  pub going_stage : is_going v.rest.stage ≡ true → stage v ≡ reading (seen v)
+  going_stage g = rw (none, g) refl
 
--- how many bits it counted
-pub counted : (c : Course) (stop : Option Stop) → IsReader c stop → c.count ≡ seen_of (stage_by c stop)
-counted c (Some (Refused i x)) r = r
-counted c (Some Memory) r = refl
-counted c None r = by_going (is_going c.phase) refl
-  where
-    by_going : (g : Bool) → is_going c.phase ≡ g → c.count ≡ seen_of (stage_by c None)
-    by_going true h = rw h r.0.counted
-    by_going false h = rw h (done_count c r.0 h)
+  -- at the end
+  pub whole_done : (size : Size) → Is size v → is_going v.rest.stage ≡ false → IsDone v.rest.size v.rest.header.items v.rest.packets.store.packets.items v.rest.packets.store.bits (seen v)
+  whole_done size is g = done_at v.rest.size v.rest.stage v.rest.header.items v.rest.packets.left v.rest.packets.store v.part v.count (at_of size is) g
 
--- at the stage of a reader that goes on
+  pub done_stage : is_going v.rest.stage ≡ false → stage v ≡ finished (telegram_parts v.rest.size v.rest.header.items v.rest.packets.store.packets.items v.rest.packets.store.bits)
+  done_stage g = rw (none, g) refl
+
+-- by what its calls say
+pub taken_done : (size : Size) (v : FeederValue Kept) (stop : Option Stop) (s : Kept) → Is size v → stop ≡ v.stop → is_some stop ≡ false → s ≡ v.rest → is_going s.stage ≡ false → IsDone v.rest.size v.rest.header.items v.rest.packets.store.packets.items v.rest.packets.store.bits (seen v)
+taken_done size v stop s is e none f g = whole_done v (sym e ∙ none_there stop none) size is (rw f at g)
+
+pub whole_bytes : (size : Size) → user_bits size + pad_bits size ≡ 8 * container_bytes size
+whole_bytes Short = refl
+whole_bytes Long = refl
+
+-- how many bytes are wanted
+pub bytes_wanted : (v : FeederValue Kept) → At v → v.count / 8 ≤ container_bytes v.rest.size
+bytes_wanted v at = omega (arith, viable_length v.rest.size (seen v) at.viable, at.counted, whole_bytes v.rest.size)
+
+-- ---- Bytes.
+
+bits_cut : (xs : List ℕ) (i : ℕ) → bits (take i xs) ++ bits (drop i xs) ≡ bits xs
+bits_cut xs i = sym (bits-append (take i xs) (drop i xs)) ∙ ap bits (take-append-drop i xs)
+
+bits_take : (xs : List ℕ) (i : ℕ) → i ≤ length xs → bits (take i xs) ≡ take (8 * i) (bits xs)
+bits_take xs i h =
+    let len : length (bits (take i xs)) ≡ 8 * i = omega (arith, length-bits (take i xs), length-take-le i xs h) in
+    sym (ap (take (8 * i)) (sym (bits_cut xs i)) ∙ take_at (bits (take i xs)) (bits (drop i xs)) (8 * i) len)
+
+-- ---- A piece, of which these bytes are fed.
+
+pub record Answer (size : Size) (old new : FeederValue Kept) (piece : List ℕ) (result : Result Fed ReadFault) : Type 0 where
+  pub is : Is size new
+  pub fed : Feeds (ReadsAs size) (seen old) (bits piece) result (stage new)
+
+module _ (old new : FeederValue Kept) (piece : List ℕ) (taken : ℕ) (at : At old) (e : taken ≡ min (container_bytes old.rest.size - old.count / 8) (length piece)) where
+  abbrev xs : List Bool
+  xs = bits (take taken piece)
+
+  within : taken ≤ length piece
+  within = omega (arith, e)
+
+  long : length xs ≡ 8 * taken
+  long = omega (arith, length-bits (take taken piece), length-take-le taken piece within)
+
+  -- more bits are wanted
+  pub more : (n : ℕ) (x : Var) → new.stop ≡ None → new.count ≡ old.count + n → Takes Kept left next follows old.rest old.part xs n new.rest new.part → next new.rest ≡ Some x → Owner (left new.rest) new.part x → Answer old.rest.size old new piece (Ok More)
+  more n x none count h some own =
+      let (all, o) = h.more x some in
+      let (r, c, l, m) = own.viable in
+      let owner = all_owner old at (take n xs) x o in
+      let f = seen_new old at new (take n xs) h.passed (r, l) in
+      let size = old.rest.size in
+      let short = owned_length size (seen old ++ take n xs) x owner in
+      let b = length-append (seen old) (take n xs) in
+      let t = length-take-le n xs h.within in
+      let whole : take taken piece ≡ piece = take_all taken piece (omega (arith, e, short, b, t, all, long, at.counted, at.bytes, whole_bytes size)) in
+      let new_bits : seen old ++ take n xs ≡ seen old ++ bits piece = ap (λ (u : List Bool). seen old ++ u) (take_all n xs (omega (arith, all)) ∙ ap bits whole) in
+      let reached = reached_new old at new (take n xs) h.passed (r, l) owner.viable (omega (arith, count, t)) (omega (arith, count, all, long, at.bytes)) in
+      let w = more_wanted (TelegramLanguage size) (regular size) (seen old ++ take n xs) owner in
+      record {
+        is = is_of new none size h.passed.follows.same reached;
+        fed = (
+          going_stage new none (some_next new.rest.stage new.rest.packets.left x some) ∙ ap reading (f ∙ new_bits),
+          rw new_bits at w,
+        );
+      }
+
+  fed_done : new.stop ≡ None → is_going new.rest.stage ≡ false → new.rest.size ≡ old.rest.size → (b : List Bool) → b ≡ seen old ++ take (8 * taken) (bits piece) → IsDone new.rest.size new.rest.header.items new.rest.packets.store.packets.items new.rest.packets.store.bits b → Feeds (ReadsAs old.rest.size) (seen old) (bits piece) (Ok (Done taken)) (stage new)
+  fed_done none going same b f d = (
+    telegram_parts new.rest.size new.rest.header.items new.rest.packets.store.packets.items new.rest.packets.store.bits,
+    done_stage new none going,
+    d.telegram,
+    omega (arith, within, length-bits piece),
+    (
+      omega (arith, within, length-bits piece, length-append (seen old) (bits piece)),
+      d.reading,
+      (same, d.reads),
+      d.bits ∙ f ∙ sym (take-append-add (seen old) (bits piece) (8 * taken)),
+    ),
+  )
+
+  -- the telegram is whole
+  pub done : (n : ℕ) → new.stop ≡ None → new.count ≡ old.count + n → Takes Kept left next follows old.rest old.part xs n new.rest new.part → next new.rest ≡ None → Goes (left new.rest) → Answer old.rest.size old new piece (Ok (Done taken))
+  done n none count h some g =
+      let size = old.rest.size in
+      let l = all_language old at (take n xs) (h.done some) in
+      let f = seen_new old at new (take n xs) h.passed g in
+      let going = none_next new.rest.stage (length new.rest.header.items) new.rest.packets.left new.rest.stands some in
+      let b = length-append (seen old) (take n xs) in
+      let t = length-take-le n xs h.within in
+      let total = language_length size (seen old ++ take n xs) l in
+      let all : n ≡ 8 * taken = omega (arith, e, h.within, total, b, t, long, at.counted, at.bytes, whole_bytes size) in
+      let reached = reached_new old at new (take n xs) h.passed g (language_viable (TelegramLanguage size) (seen old ++ take n xs) l) (omega (arith, count, t)) (omega (arith, count, all, at.bytes)) in
+      let d = done_at new.rest.size new.rest.stage new.rest.header.items new.rest.packets.left new.rest.packets.store new.part new.count reached going in
+      let far_bits : seen old ++ take n xs ≡ seen old ++ take (8 * taken) (bits piece) = ap (λ (u : List Bool). seen old ++ u) (ap (λ (k : ℕ). take k xs) all ∙ take_all (8 * taken) xs (omega (arith, long)) ∙ bits_take piece taken within) in
+      record {
+        is = is_of new none size h.passed.follows.same reached;
+        fed = fed_done none going h.passed.follows.same (seen new) (f ∙ far_bits) d;
+      }
+
+  -- a bit is refused
+  pub refuses : (i n : ℕ) (x : Var) → new.stop ≡ Some (Refused i x) → new.count ≡ i → i ≡ old.count + n → RefusesAt Kept left follows old.rest old.part xs n x new.rest new.part → Answer old.rest.size old new piece (Err (fault_by (Refused i x)))
+  refuses i n x stop count i_is h =
+      let L = TelegramLanguage old.rest.size in
+      let reg = regular old.rest.size in
+      let place : length (seen old) + n ≡ i = omega (arith, i_is, at.counted) in
+      let all : (seen old ++ xs) ++ bits (drop taken piece) ≡ seen old ++ bits piece = append_assoc (seen old) xs (bits (drop taken piece)) ∙ ap (λ (u : List Bool). seen old ++ u) (bits_cut piece taken) in
+      let r = refuses_longer L (seen old ++ xs) (bits (drop taken piece)) (length (seen old) + n) x (all_refuses old at xs n x h.refuses) in
+      let r' = rw (all, place) at r in
+      record {
+        is = rw stop count;
+        fed = (rw stop refl, ((none_refused L reg (seen old ++ bits piece) i x r', r'.within, r'.blocked), r'.owned));
+      }
+
+  -- memory is refused
+  pub starves : (n : ℕ) → new.stop ≡ Some Memory → new.count ≡ old.count + n → StarvesAt Kept left follows fails old.rest old.part xs n → Answer old.rest.size old new piece (Err (fault_by Memory))
+  starves n stop count h =
+      let L = TelegramLanguage old.rest.size in
+      let v = all_viable old at (take (n + 1) xs) h.viable in
+      let place : length (seen old) + (n + 1) ≡ new.count + 1 = omega (arith, count, at.counted) in
+      let cut : take (n + 1) xs ≡ take (n + 1) (bits piece) = ap (take (n + 1)) (bits_take piece taken within) ∙ take-take (n + 1) (8 * taken) (bits piece) (omega (arith, h.within, long)) in
+      let whole : seen old ++ take (n + 1) xs ≡ take (new.count + 1) (seen old ++ bits piece) =
+      ap (λ (u : List Bool). seen old ++ u) cut ∙ sym (take-append-add (seen old) (bits piece) (n + 1)) ∙ ap (λ (k : ℕ). take k (seen old ++ bits piece)) place in
+      record {
+        is = rw stop tt;
+        fed = (
+          new.count,
+          rw stop refl,
+          omega (arith, count, at.counted),
+          omega (arith, count, at.counted, h.within, long, within, length-bits piece, length-append (seen old) (bits piece)),
+          subst (Viable L) whole v,
+          omega (arith, starved_far old at xs n h, count),
+        );
+      }
+
+  -- ---- By what a feeder answers.
+
+  pub answers_more : (result : Result ℕ Stop) (n : ℕ) (found : Option Var) (x : Var) → feeders.Feeds Kept left next follows fails old xs result new → result ≡ Ok n → found ≡ Some x → found ≡ next new.rest → (new.stop ≡ None → IfSome found (Owner (left new.rest) new.part)) → Answer old.rest.size old new piece (Ok More)
+  answers_more result n found x h is some e own =
+      let (stop, count, t) = rw is at h in
+      more n x stop count t (sym e ∙ some) (rw some at (own stop))
+
+  pub answers_done : (result : Result ℕ Stop) (n : ℕ) (found : Option Var) → feeders.Feeds Kept left next follows fails old xs result new → result ≡ Ok n → found ≡ None → found ≡ next new.rest → (new.stop ≡ None → IsNone found → (new.part ≡ []) × left new.rest []) → Answer old.rest.size old new piece (Ok (Done taken))
+  answers_done result n found h is none e ended =
+      let (stop, count, t) = rw is at h in
+      done n stop count t (sym e ∙ none) ([], (ended stop (rw none refl)).1)
+
+  stops : (stop : Stop) → feeders.Feeds Kept left next follows fails old xs (Err stop) new → Answer old.rest.size old new piece (Err (fault_by stop))
+  stops (Refused i x) (stop, count, n, e, h) = refuses i n x stop count e h
+  stops Memory (stop, n, count, h) = starves n stop count h
+
+  pub answers_err : (result : Result ℕ Stop) (stop : Stop) (fault : ReadFault) → feeders.Feeds Kept left next follows fails old xs result new → result ≡ Err stop → fault ≡ fault_by stop → Answer old.rest.size old new piece (Err fault)
+  answers_err result stop fault h is e = rw e (stops stop (rw is at h))
+
+-- ---- By a reader's value.
+
 same_bits : (x y : List Bool) → ◌≡◌ {A = Stage} (reading x) (reading y) → x ≡ y
 same_bits x y e = cc
 
-pub answers_ok : (c c' : Course) (new : List Bool) (fed : Fed) (stage : Stage) (size : Size) → is_going c.phase ≡ true → size ≡ c.size → stage_by c None ≡ stage → IsCourse c' → c'.size ≡ c.size → Takes (seen_by c) new fed c' → (b : List Bool) → stage ≡ reading b → Feeds (ReadsAs size) b new (Ok fed) (stage_by c' None)
-answers_ok c c' new fed stage size g es v is e t b h =
-    let same : seen_by c ≡ b = same_bits (seen_by c) b (sym (going_stage c g) ∙ v ∙ h) in
-    let at_size : Feeds (ReadsAs size) (seen_by c) new (Ok fed) (stage_by c' None) = subst (λ (z : Size). Feeds (ReadsAs z) (seen_by c) new (Ok fed) (stage_by c' None)) (sym es) (feeds_ok c c' new fed is e t) in
-    subst (λ (z : List Bool). Feeds (ReadsAs size) z new (Ok fed) (stage_by c' None)) same at_size
+pub answers : (size : Size) (old new : FeederValue Kept) (piece : List ℕ) (result : Result Fed ReadFault) (v : ReaderValue) → old.stop ≡ None → is_going old.rest.stage ≡ true → Answer size old new piece result → ◌≡◌ {A = ReaderValue} (record { size = size; stage = stage old }) v
+    → (b : List Bool) → v.stage ≡ reading b → Feeds (ReadsAs v.size) b (bits piece) result (stage new)
+answers size old new piece result v none g a e b h =
+    let same = same_bits (seen old) b (sym (going_stage old none g) ∙ ap (λ (r : ReaderValue). r.stage) e ∙ h) in
+    subst (λ (z : Size). Feeds (ReadsAs z) b (bits piece) result (stage new)) (ap (λ (r : ReaderValue). r.size) e) (subst (λ (t : List Bool). Feeds (ReadsAs size) t (bits piece) result (stage new)) same a.fed)
 
-pub answers_err : (c c' : Course) (new : List Bool) (stop : Stop) (fault : ReadFault) (stage : Stage) (size : Size) → is_going c.phase ≡ true → size ≡ c.size → stage_by c None ≡ stage → fault ≡ fault_by stop → StopsBehind (TelegramLanguage c.size) (seen_by c) new c'.count stop
-    → (b : List Bool) → stage ≡ reading b → Feeds (ReadsAs size) b new (Err fault) (stage_by c' (Some stop))
-answers_err c c' new stop fault stage size g es v ef w b h =
-    let same : seen_by c ≡ b = same_bits (seen_by c) b (sym (going_stage c g) ∙ v ∙ h) in
-    let at_size : Feeds (ReadsAs size) (seen_by c) new (Err (fault_by stop)) (stage_by c' (Some stop)) = subst (λ (z : Size). Feeds (ReadsAs z) (seen_by c) new (Err (fault_by stop)) (stage_by c' (Some stop))) (sym es) (feeds_err c c' new stop w) in
-    let at_bits : Feeds (ReadsAs size) b new (Err (fault_by stop)) (stage_by c' (Some stop)) = subst (λ (z : List Bool). Feeds (ReadsAs size) z new (Err (fault_by stop)) (stage_by c' (Some stop))) same at_size in
-    subst (λ (z : ReadFault). Feeds (ReadsAs size) b new (Err z) (stage_by c' (Some stop))) (sym ef) at_bits
+-- how many bits it counted
+pub counted : (size : Size) (v : FeederValue Kept) → Is size v → v.count ≡ seen_of (stage v)
+counted size v is = by_stop v.stop refl
+  where
+    by_going : v.stop ≡ None → (g : Bool) → is_going v.rest.stage ≡ g → v.count ≡ seen_of (stage v)
+    by_going none true g = (at_of v none size is).counted ∙ ap seen_of (sym (going_stage v none g))
+    by_going none false g =
+        (at_of v none size is).counted ∙ done_length v.rest.size v.rest.header.items v.rest.packets.store.packets.items v.rest.packets.store.bits (seen v) (whole_done v none size is g) ∙ ap seen_of (sym (done_stage v none g))
 
-pub seen_nothing : (size : Size) (ps : Reading) → seen size (Header 0) [] ps [] 0 0 ≡ []
-unfolding num
-seen_nothing size ps = refl
+    by_stop : (stop : Option Stop) → v.stop ≡ stop → v.count ≡ seen_of (stage v)
+    by_stop None e = by_going e (is_going v.rest.stage) refl
+    by_stop (Some (Refused i x)) e = rw e (rw e at is)
+    by_stop (Some Memory) e = rw e refl
 
--- a reader before its first bit
-pub first_stage : (size : Size) (c : Course) → c.size ≡ size → c.phase ≡ Header 0 → c.header.items ≡ [] → c.fill ≡ [] → c.number ≡ 0 → c.taken ≡ 0 → c.count ≡ 0 → runs.IsRun c.run → c.run.carrier ≡ carrier.Telegram → c.run.start ≡ packet_room size → runs.seen_by c.run ≡ [] → is_closed c.run.phase ≡ false → IsReader c None × (stage_by c None ≡ reading [])
-first_stage size c es ep eh ef en et ec run ca st sn cl =
-    let bits : seen_by c ≡ [] = rw (ep, eh, en, et) (seen_nothing c.size (packets_of c.run)) in (
-      (
-        record {
-          reached = rw (es, ep, eh, ef, en, et) (reached_start size (packets_of c.run));
-          run = record { is_run = run; carrier_is = ca; start_is = rw es st; stands = rw ep (sn, cl) };
-          none = λ _. et;
-          counted = ec ∙ sym (ap (λ (t : List Bool). length t) bits);
-        },
-        rw ec refl,
-      ),
-      going_stage c (rw ep refl) ∙ ap reading bits,
-    )
+-- ---- Before the first bit.
 
-pub value_with : Size → Stage → ReaderValue
-value_with size stage = record { size = size; stage = stage }
+some_bits : (size : Size) → 0 < user_bits size + pad_bits size
+some_bits Short = omega arith
+some_bits Long = omega arith
+
+module _ (size : Size) (v : FeederValue Kept) (e : v.rest.size ≡ size) (part : v.part ≡ []) (count : v.count ≡ 0) (none : v.stop ≡ None) (same : Same (left v.rest) (TelegramLanguage size)) (held : holds v.rest []) where
+  none_far : [] ≡ far v.rest
+  none_far =
+      let (r, l) = some_telegram size in
+      far_is v.rest.size v.rest.stage v.rest.header.items v.rest.packets.left v.rest.packets.store [] (r, (same r).1 l) held
+
+  none_seen : seen v ≡ []
+  none_seen = ap (λ (r : Reading). spelled r ++ v.part) (sym none_far) ∙ part
+
+  first_at : At v
+  first_at = record {
+    residual =
+        let d : Residual (TelegramLanguage size) [] (left v.rest) = record { to = λ q l. (same q).1 l; from = λ q l. (same q).0 l } in
+        subst (λ (z : Size). Residual (TelegramLanguage z) (far v.rest) (left v.rest)) (sym e) (subst (λ (q : Reading). Residual (TelegramLanguage size) q (left v.rest)) none_far d);
+    holds = subst (holds v.rest) none_far held;
+    viable = let (r, l) = some_telegram v.rest.size in subst (Viable (TelegramLanguage v.rest.size)) (sym none_seen) (r, spelled r, l, refl);
+    counted = count ∙ sym (ap length none_seen);
+    bytes = rw count refl;
+  }
+
+  first_going : (g : Bool) → is_going v.rest.stage ≡ g → is_going v.rest.stage ≡ true
+  first_going true g = g
+  first_going false g =
+      let d = done_at v.rest.size v.rest.stage v.rest.header.items v.rest.packets.left v.rest.packets.store v.part v.count first_at g in
+      let l = done_length v.rest.size v.rest.header.items v.rest.packets.store.packets.items v.rest.packets.store.bits (seen v) d in
+      absurd (omega (arith, l, ap length none_seen, some_bits v.rest.size))
+
+  pub first_is : Is size v
+  first_is = is_of v none size e first_at
+
+  pub first_stage : stage v ≡ reading []
+  first_stage = going_stage v none (first_going (is_going v.rest.stage) refl) ∙ ap reading none_seen
 
 pub same_value : (size : Size) (s t : Stage) → s ≡ t → ◌≡◌ {A = ReaderValue} (record { size = size; stage = s }) (record { size = size; stage = t })
-unfolding value_with
-same_value size s t e = ap (value_with size) e
+same_value size s t e = ap (λ (x : Stage). let r : ReaderValue = record { size = size; stage = x } in r) e

@@ -1,127 +1,117 @@
 -- What a reader of telegrams holds.
-use Rattle.std.proofs.Common.{◌≡◌, ℕ, ◌-◌, ◌^◌, ◌<◌, Bool, true, false, List, [], ◌++◌, length, refl, sym, ap, subst, ◌∙◌, arith, append_assoc, inl, inr}
-use Rattle.std.specs.Prelude.{Option, Some, None}
-use Rattle.std.specs.Option.{is_some}
+use Rattle.std.proofs.Common.{◌≡◌, ℕ, ◌^◌, ◌<◌, ◌&&◌, Bool, true, false, List, [], ◌∷◌, ◌++◌, length, Some, None, refl, sym, ap, subst, ◌∙◌, arith, append_assoc, inl, inr}
+use Rattle.std.specs.Prelude.{Option, IsTrue, IfSome, IsNone, is_some, nat_lt, ◌==◌}
+use Rattle.std.proofs.lemmas.Bool.{and_parts, ltb-true, eqb-true}
 use Rattle.etcs_bits.specs.Bits.{num}
 use Rattle.etcs_bits.proofs.Numbers.{length-num}
+use Rattle.etcs_vars.specs.declared.var.Var.{Var}
 use Rattle.etcs_vars.specs.Vars.{width}
+use Rattle.etcs_vars.specs.Walking.{Residual}
 use Rattle.etcs_vars.specs.Reading.{Reading, spelled, Owner}
-use Rattle.etcs_vars.proofs.Walk.{begins_with, spelled-append}
-use Rattle.etcs_rows.specs.declared.frames.Carrier.{Carrier}
-use Rattle.etcs_rows.specs.declared.frames.Carrier.TheVariants as carrier
+use Rattle.etcs_vars.proofs.Walk.{begins_with}
+use Rattle.etcs_reader.specs.declared.feeder.Stop.{Stop}
+use Rattle.etcs_reader.specs.declared.feeder.Stop.TheVariants.{Refused, Memory}
+use Rattle.etcs_reader.specs.Rests.{Goes}
+use Rattle.etcs_reader.specs.Feeders.{FeederValue}
+use Rattle.etcs_reader.proofs.Passing.{passed_owner}
+use Rattle.etcs_rests.specs.declared.left.PacketsLeft.{PacketsLeft}
+use Rattle.etcs_rests.specs.declared.list.PacketList.{PacketList}
+use Rattle.etcs_rests.specs.Lefts.{left_of, ahead}
+use Rattle.etcs_rests.specs.Held.{list_holds}
+use Rattle.etcs_rests.proofs.Begun.{begun_of, nothing_held}
+use Rattle.etcs_container.specs.Runs.{Begun}
 use Rattle.etcs_packets.specs.declared.packet.Packet.{Packet}
-use Rattle.etcs_container.specs.Contents.{Run}
-use Rattle.etcs_container.specs.Runs as runs
-use Rattle.etcs_container.proofs.Ended.{run_holds, run_begun, run_front}
+use Rattle.etcs_packets.specs.PacketReadings.{packets_reading}
 use Rattle.etcs_telegram.specs.declared.size.Size.{Size}
 use Rattle.etcs_telegram.specs.declared.phase.Phase.{Phase}
-use Rattle.etcs_telegram.specs.declared.phase.Phase.TheVariants.{Header, Packets, Fill, Pad}
-use Rattle.etcs_telegram.specs.declared.course.Course.{Course}
-use Rattle.etcs_telegram.specs.Telegrams.{header_row, packet_room, pad_bits, TelegramLanguage}
+use Rattle.etcs_telegram.specs.declared.phase.Phase.TheVariants.{Header, Packets, Fill, Pad, Whole}
+use Rattle.etcs_telegram.specs.Telegrams.{header_row, pad_bits, TelegramLanguage}
 use Rattle.etcs_telegram.specs.Headers.{labelled}
-use Rattle.etcs_telegram.specs.Phases.{var_at, is_going, is_own, is_packets, so_far}
-use Rattle.etcs_telegram.specs.Reached.{Reached, seen}
-use Rattle.etcs_telegram.specs.Courses.{packets_of, seen_by, IsCourse}
-use Rattle.etcs_container.specs.declared.run.Stop.{Stop}
-use Rattle.etcs_telegram.specs.Readers.{ReaderValue, reading}
-use Rattle.etcs_telegram.specs.Stages.{stage_by}
+use Rattle.etcs_telegram.specs.Phases.{is_going}
+use Rattle.etcs_telegram.specs.ChainLaws.{chain_first}
+use Rattle.etcs_telegram.specs.Lefts.{FillBy, left_at, is_open, stands_at, HoldsIn}
+use Rattle.etcs_telegram.specs.RestLaws.{rest_begins, opens}
+use Rattle.etcs_telegram.specs.Readers.{ReaderValue, reading, IsReading}
 use Rattle.etcs_telegram.specs.Holdings.{Members, HeldIn, IsHeld}
-use Rattle.etcs_telegram.proofs.Feeding.{going_stage}
 use Rattle.etcs_telegram.proofs.Spellings.{regular}
-use Rattle.etcs_telegram.proofs.PhaseSteps.{left_read}
-use Rattle.etcs_telegram.proofs.Reaching.{reached_owner}
-use Rattle.etcs_telegram.proofs.CourseSteps.{own_seen, base}
-use Rattle.etcs_telegram.proofs.Packeted.{at_packets, packets_owner, fill_some}
+use Rattle.etcs_telegram.proofs.SoFar.{filled_far}
+use Rattle.etcs_telegram.proofs.Nexts.{some_next, none_next}
+use Rattle.etcs_telegram.proofs.Passes.{Kept, left, next, far, seen, At}
+use Rattle.etcs_telegram.proofs.Feeding.{stage, Is, size_of, at_of, going_stage, done_stage}
 
--- every telegram that begins with the bits of whole variables and more begins with them, where one does
-all_begin : (size : Size) (far rest : Reading) (b part : List Bool) → TelegramLanguage size (far ++ rest) → b ≡ spelled far ++ part → (r : Reading) (c : List Bool) → TelegramLanguage size r → spelled r ≡ b ++ c → (q : Reading) × (r ≡ far ++ q)
-all_begin size far rest b part l e r c l' s =
-    let reg = regular size in
-    let whole : spelled r ≡ spelled far ++ (part ++ c) = s ∙ ap (λ (x : List Bool). x ++ c) e ∙ append_assoc (spelled far) part c in
-    let q = begins_with r far rest (part ++ c) (reg.agree r (far ++ rest) l' l) (reg.fit r l') (reg.fit (far ++ rest) l) whole in
-    (q.0, q.1)
+-- ---- Its members.
 
--- ---- The header, FILL and PAD.
+pub members_of : (size : Size) (phase : Phase) (header : List ℕ) (l : PacketsLeft) (ps : List Packet) (f : List ℕ) (k : List Bool) (q : Reading) → IsTrue (stands_at phase (length header) l) → is_going phase ≡ true → Goes (left_at size phase l) → HoldsIn size phase header l (list_holds ps f k) q → Members q ps f k
+members_of size (Header at) header l ps f k q stands going g (is, h) =
+    let (ps_is, f_is, k_is) = nothing_held l.carrier l.stage ps f k h in
+    let both = and_parts (nat_lt at 10) ((length header == at) && is_open l) stands in
+    let same = eqb-true (length header) at (and_parts (length header == at) (is_open l) both.1).0 in
+    let less = ltb-true at 10 both.0 in
+    inl (header, is, omega (arith, same, less), ps_is, f_is, k_is)
+members_of size Packets header l ps f k q stands going g (r, e, (vs, m, b, h, (vs_is, (made, (m_is, b_is))), carried, here, e')) =
+    let both = and_parts (length header == 10) (is_open l) stands in
+    let first = chain_first (left_of l.carrier l.room l.stage) (FillBy size (ahead l.room l.stage)) g in
+    let begun : Begun h m b = begun_of l.carrier l.room l.stage m b h l.stands (opens l both.1).1 first here in
+    let whole = e ∙ ap (λ (t : Reading). labelled header_row header ++ t) (e' ∙ ap (λ v. packets_reading v ++ h) vs_is) in
+    inr (inl (header, h, eqb-true (length header) 10 both.0, whole, subst (λ (t : List Bool). Begun h f t) b_is (subst (λ (t : List ℕ). Begun h t b) m_is begun)))
+members_of size (Fill left) header l ps f k q stands going g h = inr (inr (header, 0, h.ten, filled_far header ps f k left l.room 0 q h, sym h.held.1.1.0))
+members_of size (Pad left) header l ps f k q stands going g (pad, e, h) = inr (inr (header, pad, h.ten, filled_far header ps f k 0 l.room pad q h, sym h.held.1.1.0))
+members_of size Whole header l ps f k q stands going g h = absurd cc
 
-module _ (size : Size) (phase : Phase) (header : List ℕ) (ps : Reading) (fill : List Bool) (number taken : ℕ) (r : Reached size phase header ps fill number taken) (own : is_own phase ≡ true) where
-  own_begins : (t : Reading) (c : List Bool) → TelegramLanguage size t → spelled t ≡ seen size phase header ps fill number taken ++ c → (q : Reading) × (t ≡ so_far size phase header ps fill ++ q)
-  own_begins =
-      let rest = left_read size phase in
-      all_begin size (so_far size phase header ps fill) rest.0 (seen size phase header ps fill number taken) (num taken number) (r.residual.from rest.0 rest.1) refl
+-- ---- Of all bits.
 
-  pub own_held : (packets : List Packet) (f : List ℕ) (k : List Bool) → Members (so_far size phase header ps fill) packets f k → HeldIn size (seen size phase header ps fill number taken) packets f k number taken
-  own_held packets f k members = record {
-    far = so_far size phase header ps fill;
-    next = var_at phase;
-    bits = refl;
-    fits = r.unfinished.fits;
-    members = members;
-    begins = own_begins;
-    owned = reached_owner size phase header ps fill number taken r own;
-    short = r.unfinished.short;
+module _ (v : FeederValue Kept) (at : At v) (x : Var) (e : next v.rest ≡ Some x) (own : Owner (left v.rest) v.part x) where
+  abbrev L : Reading → Type 0
+  L = TelegramLanguage v.rest.size
+
+  goes : Goes (left v.rest)
+  goes = let (r, c, l, m) = own.viable in (r, l)
+
+  all_next : (r q : Reading) → r ≡ far v.rest ++ q → L r → (n : ℕ) × (q' : Reading) × (r ≡ far v.rest ++ (x, n) ∷ q')
+  all_next r q is l =
+      let (n, q', more) = rest_begins v.rest.size v.rest.packets.left v.rest.stage (length v.rest.header.items) v.rest.stands x e q (at.residual.to q (subst L is l)) in
+      (n, q', is ∙ ap (λ (t : Reading). far v.rest ++ t) more)
+
+  -- every telegram that begins with the bits begins with the variables so far, and the next one comes behind them
+  all_begin : (r : Reading) (c : List Bool) → L r → spelled r ≡ seen v ++ c → (n : ℕ) × (q : Reading) × (r ≡ far v.rest ++ (x, n) ∷ q)
+  all_begin r c l s =
+      let reg = regular v.rest.size in
+      let other = at.residual.from goes.0 goes.1 in
+      let b = begins_with r (far v.rest) goes.0 (v.part ++ c) (reg.agree r (far v.rest ++ goes.0) l other) (reg.fit r l) (reg.fit (far v.rest ++ goes.0) other) (s ∙ append_assoc (spelled (far v.rest)) v.part c) in
+      all_next r b.0 b.1 l
+
+  pub held_in : (part taken : ℕ) → v.part ≡ num taken part → part < 2 ^ taken → length v.part < width x → HeldIn v.rest.size (seen v) v.rest.packets.store.packets.items v.rest.packets.store.numbers.items v.rest.packets.store.bits part taken
+  held_in part taken same fits short = record {
+    far = far v.rest;
+    next = x;
+    bits = ap (λ (t : List Bool). spelled (far v.rest) ++ t) same;
+    fits = fits;
+    members = members_of v.rest.size v.rest.stage v.rest.header.items v.rest.packets.left v.rest.packets.store.packets.items v.rest.packets.store.numbers.items v.rest.packets.store.bits (far v.rest) v.rest.stands (some_next v.rest.stage v.rest.packets.left x e) goes at.holds;
+    begins = all_begin;
+    owned = passed_owner L (regular v.rest.size) (left v.rest) (λ p. Residual L p (left v.rest)) (λ p h. h) (seen v) v.part (record { whole = far v.rest; follows = at.residual; bits = refl }) goes x own;
+    short = omega (arith, short, ap length same, length-num taken part);
   }
 
--- by the fields of a reader
-held_as : (k : Course) (own : is_own k.phase ≡ true) (is : IsCourse k) (packets : List Packet) (f : List ℕ) (b : List Bool) → HeldIn k.size (base k is) packets f b k.number k.taken → HeldIn k.size (seen_by k) packets f b k.number k.taken
-held_as k own is packets f b h = subst (λ (x : List Bool). HeldIn k.size x packets f b k.number k.taken) (sym (own_seen k.phase (base k is) k.run own)) h
+-- ---- By a reader's value.
 
-pub header_held : (k : Course) (at : ℕ) → IsCourse k → k.phase ≡ Header at → HeldIn k.size (seen_by k) [] [] k.fill k.number k.taken
-header_held k at is e =
-    let own : is_own k.phase ≡ true = rw e refl in
-    let r : Reached k.size (Header at) k.header.items (packets_of k.run) k.fill k.number k.taken = subst (λ (q : Phase). Reached k.size q k.header.items (packets_of k.run) k.fill k.number k.taken) e is.reached in
-    let members : Members (so_far k.size k.phase k.header.items (packets_of k.run) k.fill) [] [] k.fill = rw e (inl (k.header.items, refl, omega (arith, r.holds.0, r.is_phase), refl, refl, r.holds.1)) in
-    held_as k own is [] [] k.fill (own_held k.size k.phase k.header.items (packets_of k.run) k.fill k.number k.taken is.reached own [] [] k.fill members)
+pub is_held : (size : Size) (v : FeederValue Kept) (r : ReaderValue) (found : Option Var) (part taken : ℕ) → Is size v → v.stop ≡ None → ◌≡◌ {A = ReaderValue} (record { size = size; stage = stage v }) r
+    → is_some found ≡ true → found ≡ next v.rest → IfSome found (Owner (left v.rest) v.part) → IfSome found (λ x. length v.part < width x) → v.part ≡ num taken part → part < 2 ^ taken
+    → IsHeld r v.rest.packets.store.packets.items v.rest.packets.store.numbers.items v.rest.packets.store.bits part taken
+is_held size v r None part taken is none e some f own short same fits = absurd cc
+is_held size v r (Some x) part taken is none e some f own short same fits =
+    let h = held_in v (at_of v none size is) x (sym f) own part taken same fits short in
+    let g = some_next v.rest.stage v.rest.packets.left x (sym f) in
+    let own_size = size_of v none size is ∙ ap (λ (t : ReaderValue). t.size) e in
+    let k = v.rest.packets.store in
+    (seen v, ap (λ (t : ReaderValue). t.stage) (sym e) ∙ going_stage v none g, subst (λ (z : Size). HeldIn z (seen v) k.packets.items k.numbers.items k.bits part taken) own_size h)
 
-pub fill_held : (k : Course) (left : ℕ) → IsCourse k → k.phase ≡ Fill left → HeldIn k.size (seen_by k) k.run.packets.items [] k.fill k.number k.taken
-fill_held k left is e =
-    let own : is_own k.phase ≡ true = rw e refl in
-    let r : Reached k.size (Fill left) k.header.items (packets_of k.run) k.fill k.number k.taken = subst (λ (q : Phase). Reached k.size q k.header.items (packets_of k.run) k.fill k.number k.taken) e is.reached in
-    let members : Members (so_far k.size k.phase k.header.items (packets_of k.run) k.fill) k.run.packets.items [] k.fill = rw e (inr (inr (k.header.items, 0, r.holds.0, refl, refl))) in
-    held_as k own is k.run.packets.items [] k.fill (own_held k.size k.phase k.header.items (packets_of k.run) k.fill k.number k.taken is.reached own k.run.packets.items [] k.fill members)
+-- where nothing is held, nothing is being read
+pub none_stops : (v : FeederValue Kept) (stop : Option Stop) → v.stop ≡ stop → is_some stop ≡ true → IsReading (stage v) → ⊥
+none_stops v None e h i = absurd cc
+none_stops v (Some (Refused j x)) e h i = rw e at i
+none_stops v (Some Memory) e h i = rw e at i
 
-pub pad_held : (k : Course) (left : ℕ) → IsCourse k → k.phase ≡ Pad left → HeldIn k.size (seen_by k) k.run.packets.items [] k.fill k.number k.taken
-pad_held k left is e =
-    let own : is_own k.phase ≡ true = rw e refl in
-    let r : Reached k.size (Pad left) k.header.items (packets_of k.run) k.fill k.number k.taken = subst (λ (q : Phase). Reached k.size q k.header.items (packets_of k.run) k.fill k.number k.taken) e is.reached in
-    let members : Members (so_far k.size k.phase k.header.items (packets_of k.run) k.fill) k.run.packets.items [] k.fill = rw e (inr (inr (k.header.items, pad_bits k.size - left, r.holds.0, refl, refl))) in
-    held_as k own is k.run.packets.items [] k.fill (own_held k.size k.phase k.header.items (packets_of k.run) k.fill k.number k.taken is.reached own k.run.packets.items [] k.fill members)
-
--- ---- Packets.
-
-same_length : (a b : List Bool) (n : ℕ) → a ≡ b → length a < n → length b < n
-same_length a b n e lt = rw e at lt
-
-pub packets_held : (k : Course) (part taken : ℕ) → IsCourse k → k.phase ≡ Packets → num taken part ≡ runs.part_at k.run.phase k.run.walk k.run.number k.run.taken → part < 2 ^ taken → HeldIn k.size (seen_by k) k.run.packets.items k.run.numbers.items k.run.kept part taken
-packets_held k part taken is e p small =
-    let g : is_packets k.phase ≡ true = rw e refl in
-    let a = at_packets k is g in
-    let h = labelled header_row k.header.items in
-    let L = TelegramLanguage k.size in
-    let room = packet_room k.size in
-    let o = run_holds k.run is.run.is_run a.goes_on in
-    let owner : Owner (Run carrier.Telegram room) (runs.seen_by k.run) o.0 = subst (λ (n : ℕ). Owner (Run carrier.Telegram n) (runs.seen_by k.run) o.0) is.run.start_is (subst (λ (c : Carrier). Owner (Run c k.run.start) (runs.seen_by k.run) o.0) is.run.carrier_is o.1) in
-    let far = runs.so_far_of k.run in
-    let front = run_front k.run is.run.is_run a.goes_on in
-    let some : Run carrier.Telegram room (far ++ front.0) = subst (λ (n : ℕ). Run carrier.Telegram n (far ++ front.0)) is.run.start_is (subst (λ (c : Carrier). Run c k.run.start (far ++ front.0)) is.run.carrier_is front.1) in
-    let fill = fill_some k.size (far ++ front.0) some in
-    let all : L (h ++ ((far ++ front.0) ++ fill.0)) = a.residual.from ((far ++ front.0) ++ fill.0) (far ++ front.0, fill.0, refl, some, fill.1) in
-    let grouped : h ++ ((far ++ front.0) ++ fill.0) ≡ (h ++ far) ++ (front.0 ++ fill.0) = ap (λ (x : Reading). h ++ x) (append_assoc far front.0 fill.0) ∙ sym (append_assoc h far (front.0 ++ fill.0)) in
-    let bits : seen_by k ≡ spelled (h ++ far) ++ num taken part = a.bits ∙ ap (λ (x : List Bool). spelled h ++ (spelled far ++ x)) (sym p) ∙ sym (append_assoc (spelled h) (spelled far) (num taken part)) ∙ ap (λ (x : List Bool). x ++ num taken part) (sym (spelled-append h far)) in
-    record {
-      far = h ++ far;
-      next = o.0;
-      bits = bits;
-      fits = small;
-      members = inr (inl (k.header.items, runs.here_of k.run, a.reached.holds.0, refl, run_begun k.run is.run.is_run a.goes_on));
-      begins = all_begin k.size (h ++ far) (front.0 ++ fill.0) (seen_by k) (num taken part) (rw grouped at all) bits;
-      owned = rw a.bits (packets_owner k.size h a.residual (runs.seen_by k.run) o.0 owner);
-      short = omega (arith, length-num taken part, same_length (runs.part_at k.run.phase k.run.walk k.run.number k.run.taken) (num taken part) (width o.0) (sym p) o.2);
-    }
-
--- by the reader's value
-pub is_held : (k : Course) (stop : Option Stop) (v : ReaderValue) (packets : List Packet) (f : List ℕ) (b : List Bool) (part taken : ℕ) → is_some stop ≡ false → is_going k.phase ≡ true → ◌≡◌ {A = ReaderValue} (record { size = k.size; stage = stage_by k stop }) v → HeldIn k.size (seen_by k) packets f b part taken → IsHeld v packets f b part taken
-is_held k (Some s) v packets f b part taken none g e h = absurd cc
-is_held k None v packets f b part taken none g e h =
-    let at : v.stage ≡ reading (seen_by k) = ap (λ (x : ReaderValue). x.stage) (sym e) ∙ going_stage k g in
-    let size : k.size ≡ v.size = ap (λ (x : ReaderValue). x.size) e in
-    (seen_by k, at, subst (λ (z : Size). HeldIn z (seen_by k) packets f b part taken) size h)
+pub none_comes : (v : FeederValue Kept) → v.stop ≡ None → next v.rest ≡ None → IsReading (stage v) → ⊥
+none_comes v none e i =
+    let g = none_next v.rest.stage (length v.rest.header.items) v.rest.packets.left v.rest.stands e in
+    subst IsReading (done_stage v none g) i

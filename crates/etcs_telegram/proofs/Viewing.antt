@@ -1,38 +1,52 @@
--- A telegram in bits that are all there.
-use Rattle.std.proofs.Common.{◌≡◌, ◌<◌, ℕ, ◌+◌, ◌-◌, ◌≤◌, Bool, false, List, [], ◌++◌, length, take, drop, replicate, refl, sym, ap, subst, ◌∙◌, arith, append-nil, append_assoc, take-add, inl, inr}
-use Rattle.std.proofs.lemmas.Bool.{cases_lt}
-use Rattle.std.proofs.lemmas.List.{take-append-drop, length-append, length-take, length-drop, take_all, take_at, drop-drop, take-take}
-use Rattle.etcs_bits.specs.Bits.{num, part}
-use Rattle.etcs_bits.proofs.Lists.{length-part, part-part, part-append_right}
+-- What a view reads, and what is seen of it.
+use Rattle.std.proofs.Common.{◌≡◌, ◌<◌, ℕ, zero, suc, ◌+◌, ◌-◌, ◌%◌, ◌^◌, ◌≤◌, Bool, true, false, List, [], ◌∷◌, ◌++◌, length, take, drop, replicate, Some, None, refl, sym, ap, subst, ◌∙◌, arith, append-nil, append_assoc, inl, inr}
+use Rattle.std.specs.Prelude.{IsTrue, Option, is_some, ◌&&◌, ◌==◌, nat_lt}
+use Rattle.std.proofs.Math.Nat.{mod-eq_of_lt}
+use Rattle.std.proofs.lemmas.Bool.{cases_lt, and_parts, ltb-true}
+use Rattle.std.proofs.lemmas.List.{length-append, length-take, take_all, take_at, take-take, nil_from_length}
+use Rattle.etcs_bits.specs.Bits.{part}
+use Rattle.etcs_bits.proofs.Lists.{part-append_right}
 use Rattle.etcs_vars.specs.declared.var.Var.{Var}
-use Rattle.etcs_vars.specs.declared.var.Var.TheVariants.{FILL, PAD}
+use Rattle.etcs_vars.specs.declared.var.Var.TheVariants.{FILL, PAD, Q_DIR}
+use Rattle.etcs_vars.specs.Vars.{admits}
 use Rattle.etcs_vars.specs.Walking.{Residual, Refuses}
 use Rattle.etcs_vars.specs.Reading.{Reading, spelled, kept, Viable, Owner}
 use Rattle.etcs_vars.proofs.Apart.{apart}
-use Rattle.etcs_vars.proofs.Outcomes.{refuses_longer, viable_front}
+use Rattle.etcs_vars.proofs.Languages.{Same}
+use Rattle.etcs_vars.proofs.Outcomes.{viable_front}
 use Rattle.etcs_vars.proofs.Walk.{spelled-append}
+use Rattle.etcs_rows.specs.declared.row.Way.TheVariants.{ToTrain}
+use Rattle.etcs_rows.specs.declared.frames.Carrier.{Carrier}
 use Rattle.etcs_rows.specs.declared.frames.Carrier.TheVariants as carrier
+use Rattle.etcs_rows.specs.Rows.{row_to}
+use Rattle.etcs_rows.specs.Places.{first_variable}
+use Rattle.etcs_rows.proofs.LengthLemmas.{length-spelled}
 use Rattle.etcs_packets.specs.PacketValues.{PacketValue}
-use Rattle.etcs_packets.specs.PacketReadings.{packets_reading}
-use Rattle.etcs_container.specs.Contents.{closing, Run, RunOf}
-use Rattle.etcs_container.specs.Scans.{Scanned}
-use Rattle.etcs_container.proofs.Lifts.{residual_along}
-use Rattle.etcs_container.proofs.RowMoves.{owner_same}
+use Rattle.etcs_packets.specs.PacketReadings.{packet_reading, packets_reading, packet_bits}
+use Rattle.etcs_container.specs.Contents.{closing}
+use Rattle.etcs_container.proofs.Agreement.{some_bits}
+use Rattle.etcs_reader.specs.Fields.{first_of}
+use Rattle.etcs_rests.specs.declared.left.PacketsLeft.{PacketsLeft}
+use Rattle.etcs_rests.specs.declared.stage.Stage.{Stage}
+use Rattle.etcs_rests.specs.declared.stage.Stage.TheVariants as stage
+use Rattle.etcs_rests.specs.Lefts.{next_of, is_stage, is_closed}
 use Rattle.etcs_refs.specs.Refs.{ArePackets}
 use Rattle.etcs_telegram.specs.declared.size.Size.{Size}
+use Rattle.etcs_telegram.specs.declared.size.Size.TheVariants.{Short, Long}
+use Rattle.etcs_telegram.specs.declared.phase.Phase.{Phase}
+use Rattle.etcs_telegram.specs.declared.phase.Phase.TheVariants.{Header, Packets, Fill, Pad, Whole}
 use Rattle.etcs_telegram.specs.declared.view.ViewFault.{ViewFault}
 use Rattle.etcs_telegram.specs.declared.view.ViewFault.TheVariants.{Refused}
 use Rattle.etcs_telegram.specs.Telegrams.{header_row, header_of, header_reading, HeaderParts, TelegramValue, TelegramLanguage, ReadsAs, closed_reading, user_bits, pad_bits, packet_room}
-use Rattle.etcs_telegram.specs.Headers.{labelled, IsHeaderNumbers}
-use Rattle.etcs_telegram.specs.Phases.{PacketsLeft, PadLeft, FillLeft}
-use Rattle.etcs_telegram.specs.Courses.{container_bits}
-use Rattle.etcs_telegram.specs.Views.{ViewIn, PadRefused, OneRefusal}
-use Rattle.etcs_telegram.proofs.Ends.{numbers_header}
-use Rattle.etcs_telegram.proofs.Encoding.{room_more, closed_length}
-use Rattle.etcs_telegram.proofs.Endings.{fill_behind, pad_refused}
+use Rattle.etcs_telegram.specs.Headers.{IsHeaderNumbers}
+use Rattle.etcs_telegram.specs.Lefts.{left_at, next_at, is_open, stands_at, Filled, HoldsIn}
+use Rattle.etcs_telegram.specs.RestLaws.{opens}
+use Rattle.etcs_telegram.specs.Views.{ViewIn, OneRefusal}
+use Rattle.etcs_telegram.proofs.Encoding.{room_more, closed_length, user_small}
+use Rattle.etcs_telegram.proofs.Examples.{short_reads, long_reads}
+use Rattle.etcs_telegram.proofs.Finished.{whole_reads}
 use Rattle.etcs_telegram.proofs.HeaderLemmas.{header_length}
-use Rattle.etcs_telegram.proofs.HeaderScans.{refused_in}
-use Rattle.etcs_telegram.proofs.Packeted.{packets_refuse, packets_end}
+use Rattle.etcs_telegram.proofs.SameReadings.{owner_along, refuses_along, owner_same}
 use Rattle.etcs_telegram.proofs.Spellings.{regular, one_value, spelled-kept, whole_length}
 
 -- the fault says which bit
@@ -42,112 +56,107 @@ refused_same L b i j x y e r =
     let holder : x ≡ y = cc in
     subst (λ (v : Var). Refuses L b j v) holder (subst (λ (n : ℕ). Refuses L b n x) bit r)
 
-module _ (size : Size) (b : List Bool) (long : length b ≡ container_bits size) (ns : List ℕ) (numbers : IsHeaderNumbers ns) (header : spelled (labelled header_row ns) ≡ take 50 b) (residual : Residual (TelegramLanguage size) (labelled header_row ns) (PacketsLeft size)) where
-  room : ℕ
-  room = packet_room size
+-- a bit that is refused of what is left, where no bit stands, is refused of a telegram
+pub refused_bit : (size : Size) (L : Reading → Type 0) → Same L (TelegramLanguage size) → (front b : List Bool) (i n count : ℕ) (x : Var) → front ≡ [] → count ≡ 0 → i ≡ count + n → Refuses L (front ++ b) (length front + n) x → Refuses (TelegramLanguage size) b i x
+refused_bit size L same front b i n count x none start place r =
+    let is : length front + n ≡ i = omega (arith, ap (λ (u : List Bool). length u) none, start, place) in
+    let all = refuses_along L (TelegramLanguage size) same (front ++ b) i x (subst (λ (k : ℕ). Refuses L (front ++ b) k x) is r) in
+    subst (λ (u : List Bool). Refuses (TelegramLanguage size) (u ++ b) i x) none all
 
-  run : List Bool
-  run = part 50 (packet_room size) b
+-- some telegram
+pub some_telegram : (size : Size) → (r : Reading) × TelegramLanguage size r
+some_telegram Short = (_, (_, (refl, short_reads)))
+some_telegram Long = (_, (_, (refl, long_reads)))
 
-  all_room : 50 + packet_room size + pad_bits size ≡ length b
-  all_room = omega (arith, long, room_more size)
+-- ---- All bits are taken, and nothing comes next.
 
-  -- ---- Packets.
+-- each packet has bits
+packets_long : (vs : List PacketValue) → length vs ≤ length (spelled (packets_reading vs))
+packets_long [] = omega arith
+packets_long (v ∷ vs) = omega (arith, packets_long vs, length-spelled (packet_reading v) (packets_reading vs), packet_bits v, some_bits v)
 
-  pub packets_refused : (i : ℕ) (x : Var) → Refuses (Run carrier.Telegram (length (part 50 (packet_room size) b))) (part 50 (packet_room size) b) i x → Refuses (TelegramLanguage size) b (50 + i) x
-  packets_refused i x r =
-      let h = labelled header_row ns in
-      let t = part 50 (packet_room size) b in
-      let len : length t ≡ packet_room size = length-part 50 (packet_room size) b (omega (arith, all_room)) in
-      let r' : Refuses (Run carrier.Telegram (packet_room size)) t i x = subst (λ (n : ℕ). Refuses (Run carrier.Telegram n) t i x) len r in
-      let all = packets_refuse size h residual t i x r' in
-      let fifty : length (spelled h) ≡ 50 = ap (λ (u : List Bool). length u) header ∙ length-take 50 b ∙ (omega (arith, all_room)) in
-      let more = refuses_longer (TelegramLanguage size) (spelled h ++ t) (drop (packet_room size) (drop 50 b)) (length (spelled h) + i) x all in
-      let whole : (spelled h ++ t) ++ drop (packet_room size) (drop 50 b) ≡ b = append_assoc (spelled h) t (drop (packet_room size) (drop 50 b)) ∙ ap (λ (u : List Bool). spelled h ++ u) (take-append-drop (packet_room size) (drop 50 b)) ∙ ap (λ (u : List Bool). u ++ drop 50 b) header ∙ take-append-drop 50 b in
-      subst (λ (k : ℕ). Refuses (TelegramLanguage size) b (k + i) x) fifty (subst (λ (u : List Bool). Refuses (TelegramLanguage size) u (length (spelled h) + i) x) whole more)
+-- of all bits of a telegram no more are wanted
+none_wanted : (size : Size) (b : List Bool) (x : Var) → length b ≡ user_bits size + pad_bits size → Owner (TelegramLanguage size) b x → ⊥
+none_wanted size b x long o =
+    let (r, c, l, e) = o.viable in
+    let none : c ≡ [] = nil_from_length c (omega (arith, ap (λ (u : List Bool). length u) e, length-append b c, whole_length size r l, long)) in
+    o.open_end (r, l, e ∙ ap (λ (u : List Bool). b ++ u) none ∙ append-nil b)
 
-  -- ---- What stands behind them.
+open_next : (c : Carrier) (room : ℕ) (s : Stage) → IsTrue (is_stage c room s) → is_closed s ≡ false → next_of s ≡ None → ⊥
+open_next c room stage.Number k o e = absurd cc
+open_next c room stage.Marker k o e = absurd cc
+open_next c room (stage.Direction nid) k o e = absurd cc
+open_next c room (stage.Length nid dir) k o e = absurd cc
+open_next c room (stage.Row nid dir row) k o e =
+    let typed = and_parts (is_some (row_to ToTrain nid)) (admits Q_DIR dir && is_some (first_variable row.place)) k in
+    let some = (and_parts (admits Q_DIR dir) (is_some (first_variable row.place)) typed.1).1 in
+    let none : false ≡ true = rw e at some in
+    absurd cc
+open_next c room (stage.Kept nid dir left) k o e = absurd cc
+open_next c room stage.Closed k o e = absurd cc
 
-  module _ (vs : List PacketValue) (count end : ℕ) (scanned : Scanned (part 50 (packet_room size) b) vs count end) where
-    run_long : length (part 50 (packet_room size) b) ≡ packet_room size
-    run_long = length-part 50 (packet_room size) b (omega (arith, all_room))
+header_next : (at : ℕ) → at < length header_row → first_of (drop at header_row) ≡ None → ⊥
+header_next at lt e = by_list header_row at lt e
+  where
+    by_list : (vs : List Var) (at : ℕ) → at < length vs → first_of (drop at vs) ≡ None → ⊥
+    by_list [] at h e = absurd (omega arith)
+    by_list (v ∷ vs) zero h e = absurd cc
+    by_list (v ∷ vs) (suc at) h e = by_list vs at (omega arith) e
 
-    pub end_inside : end ≤ packet_room size
-    end_inside = omega (arith, scanned.within, run_long)
+-- where nothing comes next, the telegram is whole
+ended_whole : (phase : Phase) (n : ℕ) (l : PacketsLeft) → IsTrue (stands_at phase n l) → next_at phase l ≡ None → phase ≡ Whole
+ended_whole (Header at) n l h e = absurd (header_next at (ltb-true at 10 (and_parts (nat_lt at 10) ((n == at) && is_open l) h).0) e)
+ended_whole Packets n l h e = absurd (open_next l.carrier l.room l.stage l.stands (opens l (and_parts (n == 10) (is_open l) h).1).1 e)
+ended_whole (Fill left) n l h e = absurd cc
+ended_whole (Pad left) n l h e = absurd cc
+ended_whole Whole n l h e = refl
 
-    closed : Reading
-    closed = closed_reading vs
+-- what is read of a telegram's bits, with packets that are counted
+abbrev pub counts : ℕ → List PacketValue → List ℕ → List Bool → Type 0
+counts packets vs f k = length vs % 2 ^ 64 ≡ packets
 
-    fill : List Bool
-    fill = part (50 + end) (user_bits size - (50 + end)) b
+whole_seen : (size : Size) (b : List Bool) (header : List ℕ) (room packets : ℕ) (q : Reading) → TelegramLanguage size q → Filled header (counts packets) room 0 (pad_bits size) q → spelled q ≡ b → ViewIn size b (header_of header) packets (user_bits size - room) × IsHeaderNumbers header × (room ≤ user_bits size)
+whole_seen size b header room packets q l f e =
+    let (reads, numbers) = whole_reads size header f.packets f.fill q f.ten f.carried l f.reading_is in
+    let t : TelegramValue = record { size = size; header = header_of header; packets = f.packets; fill = f.fill } in
+    let bits : 50 + length (spelled (closed_reading f.packets)) + room ≡ user_bits size = omega (arith, header_length (header_of header), reads.user_bits_is, f.room_is) in
+    let few : length f.packets < 2 ^ 64 = omega (arith, packets_long f.packets, closed_length f.packets, bits, user_small size) in (
+      record {
+        telegram = t;
+        reading = q;
+        reads = (refl, reads);
+        bits = e;
+        header_is = refl;
+        packets_are = sym (mod-eq_of_lt few) ∙ f.held;
+        end_is = omega (arith, bits);
+      },
+      numbers,
+      omega (arith, bits),
+    )
 
-    closed_bits : spelled (closed_reading vs) ≡ part 50 end b
-    closed_bits = scanned.bits ∙ part-part 50 (packet_room size) 0 end b (omega (arith, end_inside))
+pub all_seen : (size : Size) (L : Reading → Type 0) → Same L (TelegramLanguage size) → (b : List Bool) → length b ≡ user_bits size + pad_bits size → (size' : Size) (phase : Phase) (header : List ℕ) (l : PacketsLeft) (packets n : ℕ) (front behind : List Bool) (q : Reading) → size' ≡ size → IsTrue (stands_at phase (length header) l) → n ≤ length b → front ≡ [] → Residual L q (left_at size' phase l) → HoldsIn size' phase header l (counts packets) q → spelled q ++ behind ≡ front ++ take n b
+    → ((x : Var) → next_at phase l ≡ Some x → (n ≡ length b) × Owner L (front ++ take n b) x)
+    → ViewIn size b (header_of header) packets (user_bits size - l.room) × IsHeaderNumbers header × (l.room ≤ user_bits size)
+all_seen size L same b long size' phase header l packets n front behind q st stands le none residual held bits more =
+    by_next (next_at phase l) refl
+  where
+    taken : spelled q ++ behind ≡ take n b
+    taken = bits ∙ ap (λ (u : List Bool). u ++ take n b) none
 
-    closed_long : length (spelled (closed_reading vs)) ≡ end
-    closed_long = ap (λ (u : List Bool). length u) closed_bits ∙ length-part 50 end b (omega (arith, end_inside, all_room))
-
-    fill_long : length (part (50 + end) (user_bits size - (50 + end)) b) ≡ user_bits size - (50 + end)
-    fill_long = length-part (50 + end) (user_bits size - (50 + end)) b (omega (arith, end_inside, all_room, room_more size))
-
-    -- header, packets and FILL
-    front_bits : ((spelled (labelled header_row ns) ++ spelled (closed_reading vs)) ++ part (50 + end) (user_bits size - (50 + end)) b) ≡ take (user_bits size) b
-    front_bits =
-        let total : 50 + end + (user_bits size - (50 + end)) ≡ user_bits size = omega (arith, end_inside, room_more size) in
-        ap (λ (u : List Bool). (u ++ spelled (closed_reading vs)) ++ part (50 + end) (user_bits size - (50 + end)) b) header
-        ∙ ap (λ (u : List Bool). (take 50 b ++ u) ++ part (50 + end) (user_bits size - (50 + end)) b) closed_bits
-        ∙ ap (λ (u : List Bool). u ++ part (50 + end) (user_bits size - (50 + end)) b) (sym (take-add 50 end b))
-        ∙ sym (take-add (50 + end) (user_bits size - (50 + end)) b) ∙ ap (λ (n : ℕ). take n b) total
-
-    -- the first bit of PAD that isn't zero
-    pub zeros_refused : (i : ℕ) (x : Var) → PadRefused size b i x → Refuses (TelegramLanguage size) b i x
-    zeros_refused i x p =
-        let h = labelled header_row ns in
-        let c = closed_reading vs in
-        let f = part (50 + end) (user_bits size - (50 + end)) b in
-        let is_run : Run carrier.Telegram (packet_room size) c = (vs, subst (λ (n : ℕ). Run_of n) run_long scanned.run) in
-        let left : packet_room size - length (spelled c) ≡ user_bits size - (50 + end) = omega (arith, closed_long, room_more size) in
-        let behind = packets_end size h residual c is_run in
-        let far : Residual (TelegramLanguage size) ((h ++ c) ++ kept FILL f) (PadLeft (pad_bits size)) = residual_along (TelegramLanguage size) (h ++ c) (FillLeft size (packet_room size - length (spelled c))) (kept FILL f) (PadLeft (pad_bits size)) behind (fill_behind size (packet_room size - length (spelled c)) f (fill_long ∙ sym left)) in
-        let bits : spelled ((h ++ c) ++ kept FILL f) ≡ take (user_bits size) b = spelled-append (h ++ c) (kept FILL f) ∙ ap (λ (u : List Bool). u ++ spelled (kept FILL f)) (spelled-append h c) ∙ ap (λ (u : List Bool). (spelled h ++ spelled c) ++ u) (spelled-kept FILL f refl) ∙ front_bits in
-        let one : part p.zeros 1 (drop (user_bits size) b) ≡ num 1 1 = ap (take 1) (drop-drop p.zeros (user_bits size) b) ∙ p.one in
-        let r = pad_refused (pad_bits size) p.zeros (drop (user_bits size) b) p.less (omega (arith, p.less, length-drop (user_bits size) b, all_room, room_more size)) p.before one in
-        let all = refused_in size ((h ++ c) ++ kept FILL f) (PadLeft (pad_bits size)) far (kept PAD (replicate (pad_bits size) false), refl) b (user_bits size) p.zeros PAD bits (omega (arith, all_room, room_more size)) r in
-        subst (λ (v : Var). Refuses (TelegramLanguage size) b i v) (sym p.holder_is) (subst (λ (j : ℕ). Refuses (TelegramLanguage size) b j PAD) (sym p.bit_is) all)
-      where
-        Run_of : ℕ → Type 0
-        Run_of n = RunOf carrier.Telegram n vs (closed_reading vs)
-
-    -- the telegram
-    pub seen_whole : part (user_bits size) (pad_bits size) b ≡ replicate (pad_bits size) false → ViewIn size b (header_of ns) count (50 + end)
-    seen_whole zeros =
-        let h = labelled header_row ns in
-        let c = closed_reading vs in
-        let f = part (50 + end) (user_bits size - (50 + end)) b in
-        let z = kept PAD (replicate (pad_bits size) false) in
-        let is : h ≡ header_reading (header_of ns) = numbers_header ns numbers.ten numbers.admitted in
-        let t : TelegramValue = record { size = size; header = header_of ns; packets = vs; fill = f } in
-        let r = ((header_reading (header_of ns) ++ c) ++ kept FILL f) ++ z in
-        let whole : spelled (((h ++ c) ++ kept FILL f) ++ z) ≡ b =
-        spelled-append ((h ++ c) ++ kept FILL f) z ∙ ap (λ (u : List Bool). u ++ spelled z) (spelled-append (h ++ c) (kept FILL f) ∙ ap (λ (u : List Bool). u ++ spelled (kept FILL f)) (spelled-append h c) ∙ ap (λ (u : List Bool). (spelled h ++ spelled c) ++ u) (spelled-kept FILL f refl) ∙ front_bits)
-        ∙ ap (λ (u : List Bool). take (user_bits size) b ++ u) (spelled-kept PAD (replicate (pad_bits size) false) refl ∙ sym zeros) ∙ sym (take-add (user_bits size) (pad_bits size) b) ∙ take_all (user_bits size + pad_bits size) b (omega (arith, all_room, room_more size)) in
-        record {
-          telegram = t;
-          reading = r;
-          reads = (
-            refl,
-            record {
-              header_admitted = (let a = numbers.admitted in rw is at a);
-              packets_hold = λ i d lt. scanned.run.carried i d lt;
-              reading_is = refl;
-              user_bits_is = omega (arith, header_length (header_of ns), closed_long, fill_long, end_inside, room_more size);
-            },
-          );
-          bits = ap (λ (q : Reading). spelled (((q ++ c) ++ kept FILL f) ++ z)) (sym is) ∙ whole;
-          header_is = refl;
-          packets_are = scanned.counted;
-          end_is = ap (λ (n : ℕ). 50 + n) closed_long;
-        }
+    by_next : (o : Option Var) → next_at phase l ≡ o → ViewIn size b (header_of header) packets (user_bits size - l.room) × IsHeaderNumbers header × (l.room ≤ user_bits size)
+    by_next (Some x) e =
+        let (all, o) = more x e in
+        let is : front ++ take n b ≡ b = ap (λ (u : List Bool). u ++ take n b) none ∙ take_all n b (omega (arith, all)) in
+        absurd (none_wanted size b x long (subst (λ (u : List Bool). Owner (TelegramLanguage size) u x) is (owner_along L (TelegramLanguage size) same (front ++ take n b) x o)))
+    by_next None e =
+        let whole : phase ≡ Whole = ended_whole phase (length header) l stands e in
+        let f : Filled header (counts packets) l.room 0 (pad_bits size) q = subst (λ (s : Size). Filled header (counts packets) l.room 0 (pad_bits s) q) st (subst (λ (p : Phase). HoldsIn size' p header l (counts packets) q) whole held) in
+        let d = subst (λ (p : Phase). Residual L q (left_at size' p l)) whole residual in
+        let t : TelegramLanguage size q = subst (TelegramLanguage size) (append-nil q) ((same (q ++ [])).0 (d.from [] refl)) in
+        let sum = ap (λ (u : List Bool). length u) taken ∙ length-take n b in
+        let rest : behind ≡ [] = nil_from_length behind (omega (arith, sum, length-append (spelled q) behind, whole_length size q t, long, le)) in
+        let is : spelled q ≡ b = sym (append-nil (spelled q)) ∙ ap (λ (u : List Bool). spelled q ++ u) (sym rest) ∙ taken ∙ take_all n b (omega (arith, sum, length-append (spelled q) behind, whole_length size q t, long, le)) in
+        whole_seen size b header l.room packets q t f is
 
 -- ---- What is seen.
 

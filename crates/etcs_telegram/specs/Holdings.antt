@@ -1,5 +1,5 @@
 -- What a reader of telegrams holds between two pieces.
-use Rattle.std.specs.Prelude.{◌≡◌, ℕ, ◌^◌, ◌<◌, Bool, false, List, [], ◌++◌, length, map, replicate, ◌⊎◌}
+use Rattle.std.specs.Prelude.{◌≡◌, ℕ, ◌^◌, ◌<◌, Bool, false, List, [], ◌∷◌, ◌++◌, length, map, replicate, ◌⊎◌}
 use Rattle.etcs_bits.specs.Bits.{num}
 use Rattle.etcs_vars.specs.declared.var.Var.{Var}
 use Rattle.etcs_vars.specs.declared.var.Var.TheVariants.{FILL, PAD}
@@ -22,15 +22,15 @@ Members far ps f k =
     ⊎ (((header : List ℕ) × (front : Reading) × (length header ≡ 10) × (far ≡ labelled header_row header ++ (packets_reading (map packet_value ps) ++ front)) × Begun front f k)
     ⊎ ((header : List ℕ) × (zeros : ℕ) × (length header ≡ 10) × (far ≡ labelled header_row header ++ (closed_reading (map packet_value ps) ++ (kept FILL k ++ kept PAD (replicate zeros false)))) × (f ≡ [])))
 
--- the bits b are those of whole variables, with which each telegram begins that begins with b, and the first bits of the
--- variable that holds the next bit
+-- the bits b are those of whole variables and the first bits of the next one, with which each telegram goes on behind them
+-- that begins with b
 pub record HeldIn (size : Size) (b : List Bool) (ps : List Packet) (f : List ℕ) (k : List Bool) (part taken : ℕ) : Type 0 where
   pub far : Reading
   pub next : Var
   pub bits : b ≡ spelled far ++ num taken part
   pub fits : part < 2 ^ taken
   pub members : Members far ps f k
-  pub begins : (r : Reading) (c : List Bool) → TelegramLanguage size r → spelled r ≡ b ++ c → (q : Reading) × (r ≡ far ++ q)
+  pub begins : (r : Reading) (c : List Bool) → TelegramLanguage size r → spelled r ≡ b ++ c → (n : ℕ) × (q : Reading) × (r ≡ far ++ (next, n) ∷ q)
   pub owned : Owner (TelegramLanguage size) b next
   pub short : taken < width next
 

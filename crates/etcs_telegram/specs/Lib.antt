@@ -2,9 +2,10 @@ pub mod Telegrams
 pub mod Headers
 pub mod Writing
 pub mod Phases
-pub mod Reached
-pub mod Courses
 pub mod Readers
+pub mod ChainLaws
+pub mod Lefts
+pub mod RestLaws
+pub mod Views
 pub mod Stages
 pub mod Holdings
-pub mod Views

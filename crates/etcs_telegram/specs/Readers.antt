@@ -5,8 +5,8 @@ use Rattle.etcs_vars.specs.Reading.{Reading, Viable, readings_of, IsOutcome, don
 use Rattle.etcs_telegram.specs.declared.size.Size.{Size}
 use Rattle.etcs_vars.specs.declared.feed.Fed.{Fed}
 use Rattle.etcs_vars.specs.declared.feed.Fed.TheVariants.{More, Done}
-use Rattle.etcs_container.specs.declared.run.Stop.{Stop}
-use Rattle.etcs_container.specs.declared.run.Stop.TheVariants as stop
+use Rattle.etcs_reader.specs.declared.feeder.Stop.{Stop}
+use Rattle.etcs_reader.specs.declared.feeder.Stop.TheVariants as stop
 use Rattle.etcs_vars.specs.declared.feed.ReadFault.{ReadFault}
 use Rattle.etcs_vars.specs.declared.feed.ReadFault.TheVariants.{Refused, Ended, Memory}
 use Rattle.etcs_telegram.specs.Telegrams.{TelegramParts, TelegramValue, telegram_value, IsTelegram, user_bits, pad_bits}
@@ -51,5 +51,5 @@ abbrev pub Feeds : (TelegramValue → Reading → Type 0) → List Bool → List
 Feeds Reads seen new (Ok More) s = (s ≡ reading (seen ++ new)) × IsOutcome Reads (seen ++ new) more
 Feeds Reads seen new (Ok (Done k)) s = (t : TelegramParts) × (s ≡ finished t) × IsTelegram t × (8 * k ≤ length new) × IsOutcome Reads (seen ++ new) (done (telegram_value t) (length seen + 8 * k))
 Feeds Reads seen new (Err (Refused i x)) s = (s ≡ stopped i x) × IsOutcome Reads (seen ++ new) (refused i x)
-Feeds Reads seen new (Err Memory) s = (n : ℕ) × (s ≡ starved n) × (length seen ≤ n) × (n ≤ length (seen ++ new)) × Viable (readings_of Reads) (take n (seen ++ new)) × (0 < length new) × (48 < length (seen ++ new))
+Feeds Reads seen new (Err Memory) s = (n : ℕ) × (s ≡ starved n) × (length seen ≤ n) × (n < length (seen ++ new)) × Viable (readings_of Reads) (take (n + 1) (seen ++ new)) × (50 ≤ n)
 Feeds Reads seen new (Err Ended) s = ⊥

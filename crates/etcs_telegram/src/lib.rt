@@ -1,16 +1,14 @@
 //! Balise telegrams.
 #![tactic(auto)]
 
-mod course;
 mod encode;
 mod header;
 pub mod laws;
 pub mod parts;
 mod phase;
 mod reader;
-mod scan;
+mod rest;
 mod size;
-mod step;
 mod telegram;
 mod view;
 

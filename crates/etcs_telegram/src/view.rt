@@ -9,12 +9,14 @@ ghost use Rattle.etcs_telegram.specs.Views.{Sees};
 
 use crate::header::Header;
 use crate::parts::HEADER_BITS;
-use crate::scan::scan_telegram;
+use crate::rest::TelegramRest;
 use crate::size::Size;
 use etcs_bits::BitSlice;
 use etcs_container::parts::run_at;
+use etcs_reader::{Feeder, Stop};
 use etcs_refs::Packets;
 use etcs_refs::parts::packets;
+use etcs_rests::PacketCount;
 use etcs_vars::Var;
 use std::marker::Model;
 
@@ -67,18 +69,20 @@ impl<'a> TelegramView<'a> {
         if bytes.len() != size.container_bytes() {
             return Err(ViewFault::Length);
         }
-        match scan_telegram(size, &run_at(bytes, 0, bytes.len() * 8)) {
-            Ok(scanned) => Ok(TelegramView {
-                bytes,
-                size,
-                header: scanned.header,
-                packets: scanned.packets,
-                end: scanned.end,
-            }),
-            Err(refusal) => Err(ViewFault::Refused {
-                bit: refusal.bit,
-                var: refusal.var,
-            }),
+        let mut feeder = Feeder::new(TelegramRest::new(size, PacketCount { packets: 0 }));
+        match feeder.feed(bytes) {
+            Ok(_) => {
+                let rest = feeder.rest();
+                Ok(TelegramView {
+                    bytes,
+                    size,
+                    header: Header::of_numbers(rest.header.as_slice()),
+                    packets: rest.packets.store.packets,
+                    end: size.user_bits() - rest.packets.left.room,
+                })
+            }
+            Err(Stop::Refused { bit, var }) => Err(ViewFault::Refused { bit, var }),
+            Err(Stop::Memory) => unreachable!(),
         }
     }
 

@@ -1,27 +1,48 @@
 //! Numbers in ranges with both ends.
 
-ghost use Rattle.std.specs.Prelude.{◌≡◌, ℕ, ◌<◌, ◌≤◌, ◌/◌, ◌^◌};
+ghost use Rattle.std.specs.Prelude.{◌≡◌, ℕ, ◌<◌, ◌≤◌, ◌/◌, ◌^◌, ◌&&◌, nat_le};
 ghost use Rattle.etcs_vars.specs.Vars.{inside, begins};
 
 /// Whether the number lies in one of the ranges.
+#[inline]
 pub(crate) fn inside(ranges: &[(u64, u64)], number: u64) -> bool
     ensures { result ≡ inside ranges.now number }
 {
-    ranges
-        .iter()
-        .any(|range| range.0 <= number && number <= range.1)
+    begins(ranges, 0, number)
 }
 
 /// Whether `bits` may begin a number of the ranges, with `rest` bits behind them: for ranges whose
 /// ends are in order, whether some number of them is `bits` once its `rest` lowest bits are dropped.
+#[inline]
 pub fn begins(ranges: &[(u64, u64)], rest: usize, bits: u64) -> bool
     requires { rest ≤ 64 }
     ensures { result ≡ begins ranges.now rest bits }
 {
-    ranges.iter().any(|range| top(range.0, rest) <= bits && bits <= top(range.1, rest))
+    match ranges {
+        [] => false,
+        [first, behind @ ..] => begins_one(first, rest, bits) || begins_some(behind, rest, bits),
+    }
+}
+
+/// Whether `bits` may begin a number of the range.
+#[inline]
+fn begins_one(range: &(u64, u64), rest: usize, bits: u64) -> bool
+    requires { rest ≤ 64 }
+    ensures { result ≡ (nat_le (range.now.0 / 2 ^ rest) bits && nat_le bits (range.now.1 / 2 ^ rest)) }
+{
+    top(range.0, rest) <= bits && bits <= top(range.1, rest)
+}
+
+/// As `begins`, range by range.
+fn begins_some(ranges: &[(u64, u64)], rest: usize, bits: u64) -> bool
+    requires { rest ≤ 64 }
+    ensures { result ≡ begins ranges.now rest bits }
+{
+    ranges.iter().any(|range| begins_one(range, rest, bits))
 }
 
 /// The number without its `rest` lowest bits.
+#[inline]
 fn top(number: u64, rest: usize) -> u64
     requires { rest ≤ 64 }
     ensures { result ≡ number / 2 ^ rest }

@@ -1,145 +1,136 @@
 //! The tables of the variables: widths, admitted numbers, names and texts.
 
-ghost use Rattle.std.specs.Prelude.{◌≡◌, ℕ, ◌^◌, ◌-◌, [], ◌∷◌};
+ghost use Rattle.std.specs.Prelude.{◌≡◌};
 ghost use Rattle.std.specs.Option.{option_map};
 ghost use Rattle.etcs_vars.specs.Vars.{width, ranges, name, special};
 
 use crate::var::Var;
 
+/// The width of each variable, in the order of `Var`.
+static WIDTHS: [u8; 95] = [
+    // The header of a telegram.
+    1, 7, 1, 3, 3, 2, 8, 10, 14, 1,
+    // The frame of a packet.
+    8, 2, 13, 2, 5, 6,
+    // Linking and infill.
+    15, 1, 1, 2, 6,
+    // Movement authorities.
+    7, 7, 10, 15, 1, 10, 15, 15, 1, 10, 15, 1, 15, 7, 1, 15, 10, 15, 7,
+    // Profiles of gradient and speed.
+    15, 1, 8, 8, 15, 7, 1, 2, 4, 4, 7,
+    // Levels.
+    15, 3, 8, 15,
+    // The radio network.
+    1, 14, 64, 1, 24,
+    // Temporary speed restrictions.
+    8, 15, 15, 7,
+    // Texts.
+    2, 1, 15, 4, 3, 15, 10, 2, 1, 1, 8, 8, 8, 8,
+    // Other packets.
+    1, 1, 32, 7,
+    // Radio messages.
+    8, 10, 32, 1, 24, 15, 4, 16, 1,
+    // Bits that are kept as they are, one variable for each bit.
+    1, 1, 1, 1,
+];
+
+// All numbers of so many bits.
+const BITS_1: &[(u64, u64)] = &[(0, 0x1)];
+
+const BITS_2: &[(u64, u64)] = &[(0, 0x3)];
+
+const BITS_3: &[(u64, u64)] = &[(0, 0x7)];
+
+const BITS_4: &[(u64, u64)] = &[(0, 0xF)];
+
+const BITS_5: &[(u64, u64)] = &[(0, 0x1F)];
+
+const BITS_6: &[(u64, u64)] = &[(0, 0x3F)];
+
+const BITS_7: &[(u64, u64)] = &[(0, 0x7F)];
+
+const BITS_8: &[(u64, u64)] = &[(0, 0xFF)];
+
+const BITS_10: &[(u64, u64)] = &[(0, 0x3FF)];
+
+const BITS_13: &[(u64, u64)] = &[(0, 0x1FFF)];
+
+const BITS_14: &[(u64, u64)] = &[(0, 0x3FFF)];
+
+const BITS_15: &[(u64, u64)] = &[(0, 0x7FFF)];
+
+const BITS_16: &[(u64, u64)] = &[(0, 0xFFFF)];
+
+const BITS_24: &[(u64, u64)] = &[(0, 0xFF_FFFF)];
+
+const BITS_32: &[(u64, u64)] = &[(0, 0xFFFF_FFFF)];
+
+const BITS_64: &[(u64, u64)] = &[(0, u64::MAX)];
+
+// Fewer numbers.
+const ONLY_1: &[(u64, u64)] = &[(1, 1)];
+
+const ONLY_0: &[(u64, u64)] = &[(0, 0)];
+
+const VERSIONS: &[(u64, u64)] = &[(32, 33)];
+
+const UP_TO_2: &[(u64, u64)] = &[(0, 2)];
+
+const UP_TO_4: &[(u64, u64)] = &[(0, 4)];
+
+const UP_TO_5: &[(u64, u64)] = &[(0, 5)];
+
+const SPEEDS: &[(u64, u64)] = &[(0, 120)];
+
+const PROFILE: &[(u64, u64)] = &[(0, 120), (127, 127)];
+
+const RELEASE: &[(u64, u64)] = &[(0, 120), (126, 127)];
+
+/// The ranges of each variable, in the order of `Var`.
+static RANGES: [&[(u64, u64)]; 95] = [
+    // The header of a telegram.
+    ONLY_1, VERSIONS, ONLY_0, BITS_3, BITS_3, UP_TO_2, BITS_8, BITS_10, BITS_14, BITS_1,
+    // The frame of a packet.
+    BITS_8, UP_TO_2, BITS_13, UP_TO_2, BITS_5, BITS_6,
+    // Linking and infill.
+    BITS_15, BITS_1, BITS_1, UP_TO_2, BITS_6,
+    // Movement authorities.
+    SPEEDS, SPEEDS, BITS_10, BITS_15, BITS_1, BITS_10, BITS_15, BITS_15, BITS_1, BITS_10, BITS_15,
+    BITS_1, BITS_15, RELEASE, BITS_1, BITS_15, BITS_10, BITS_15, RELEASE,
+    // Profiles of gradient and speed.
+    BITS_15, BITS_1, BITS_8, BITS_8, BITS_15, PROFILE, BITS_1, UP_TO_2, BITS_4, BITS_4, BITS_7,
+    // Levels.
+    BITS_15, UP_TO_4, BITS_8, BITS_15,
+    // The radio network.
+    BITS_1, BITS_14, BITS_64, BITS_1, BITS_24,
+    // Temporary speed restrictions.
+    BITS_8, BITS_15, BITS_15, SPEEDS,
+    // Texts.
+    BITS_2, BITS_1, BITS_15, BITS_4, UP_TO_5, BITS_15, BITS_10, BITS_2, BITS_1, BITS_1, BITS_8,
+    BITS_8, BITS_8, BITS_8,
+    // Other packets.
+    BITS_1, BITS_1, BITS_32, BITS_7,
+    // Radio messages.
+    BITS_8, BITS_10, BITS_32, BITS_1, BITS_24, BITS_15, BITS_4, BITS_16, BITS_1,
+    // Bits that are kept as they are, one variable for each bit.
+    BITS_1, BITS_1, BITS_1, ONLY_0,
+];
+
 impl Var {
     /// How many bits the variable takes, from 1 to 64.
+    #[inline]
     pub fn width(self) -> usize
         ensures { result ≡ width self }
     {
-        match self {
-            Var::Q_UPDOWN
-            | Var::Q_MEDIA
-            | Var::Q_LINK
-            | Var::Q_NEWCOUNTRY
-            | Var::Q_LINKORIENTATION
-            | Var::Q_SECTIONTIMER
-            | Var::Q_ENDTIMER
-            | Var::Q_DANGERPOINT
-            | Var::Q_OVERLAP
-            | Var::Q_GDIR
-            | Var::Q_FRONT
-            | Var::Q_RBC
-            | Var::Q_SLEEPSESSION
-            | Var::Q_TEXTDISPLAY
-            | Var::Q_CONFTEXTDISPLAY
-            | Var::Q_TEXTREPORT
-            | Var::Q_ASPECT
-            | Var::Q_SRSTOP
-            | Var::M_ACK
-            | Var::Q_ORIENTATION
-            | Var::FILL
-            | Var::OTHER_DATA
-            | Var::PADDING
-            | Var::PAD => 1,
-            Var::M_DUP
-            | Var::Q_DIR
-            | Var::Q_SCALE
-            | Var::Q_LINKREACTION
-            | Var::Q_DIFF
-            | Var::Q_TEXTCLASS
-            | Var::Q_TEXTCONFIRM => 2,
-            Var::N_PIG | Var::N_TOTAL | Var::M_LEVELTR | Var::M_LEVELTEXTDISPLAY => 3,
-            Var::NC_CDDIFF | Var::NC_DIFF | Var::M_MODETEXTDISPLAY | Var::NID_EM => 4,
-            Var::N_ITER => 5,
-            Var::NID_VBCMK | Var::Q_LOCACC => 6,
-            Var::M_VERSION_HEADER
-            | Var::V_MAIN
-            | Var::V_LOA
-            | Var::V_RELEASEDP
-            | Var::V_RELEASEOL
-            | Var::V_STATIC
-            | Var::V_DIFF
-            | Var::V_TSR
-            | Var::M_VERSION => 7,
-            Var::M_MCOUNT
-            | Var::NID_PACKET
-            | Var::G_A
-            | Var::G_TSR
-            | Var::NID_NTC
-            | Var::NID_TSR
-            | Var::NID_TEXTMESSAGE
-            | Var::L_TEXT
-            | Var::X_TEXT
-            | Var::Q_TEXT
-            | Var::NID_MESSAGE => 8,
-            Var::NID_C
-            | Var::T_LOA
-            | Var::T_SECTIONTIMER
-            | Var::T_ENDTIMER
-            | Var::T_OL
-            | Var::T_TEXTDISPLAY
-            | Var::L_MESSAGE => 10,
-            Var::L_PACKET => 13,
-            Var::NID_BG | Var::NID_RBC => 14,
-            Var::D_LINK
-            | Var::L_SECTION
-            | Var::D_SECTIONTIMERSTOPLOC
-            | Var::L_ENDSECTION
-            | Var::D_ENDTIMERSTARTLOC
-            | Var::D_DP
-            | Var::D_STARTOL
-            | Var::D_OL
-            | Var::D_GRADIENT
-            | Var::D_STATIC
-            | Var::D_LEVELTR
-            | Var::L_ACKLEVELTR
-            | Var::D_TSR
-            | Var::L_TSR
-            | Var::D_TEXTDISPLAY
-            | Var::L_TEXTDISPLAY
-            | Var::D_SR => 15,
-            Var::D_REF => 16,
-            Var::NID_MN | Var::NID_LRBG => 24,
-            Var::NID_OPERATIONAL | Var::T_TRAIN => 32,
-            Var::NID_RADIO => 64,
-        }
+        WIDTHS[self as usize] as usize
     }
 
     /// The numbers that it admits, as ranges with both ends, the least first. They are apart.
+    #[inline]
     pub fn ranges(self) -> &'static [(u64, u64)]
         ensures { result.now ≡ ranges self }
     {
-        match self {
-            Var::Q_UPDOWN => &[(1, 1)],
-            Var::M_VERSION_HEADER => &[(32, 33)],
-            Var::Q_MEDIA | Var::PAD => &[(0, 0)],
-            Var::M_DUP | Var::Q_DIR | Var::Q_SCALE | Var::Q_LINKREACTION | Var::Q_DIFF => &[(0, 2)],
-            Var::V_MAIN | Var::V_LOA | Var::V_TSR => &[(0, 120)],
-            Var::V_STATIC => &[(0, 120), (127, 127)],
-            Var::V_RELEASEDP | Var::V_RELEASEOL => &[(0, 120), (126, 127)],
-            Var::M_LEVELTR => &[(0, 4)],
-            Var::M_LEVELTEXTDISPLAY => &[(0, 5)],
-            _ => self.every_number(),
-        }
-    }
-
-    /// All numbers of its width, as one range.
-    fn every_number(self) -> &'static [(u64, u64)]
-        ensures { result.now ≡ (0, 2 ^ width self - 1) ∷ [] }
-    {
-        match self.width() {
-            1 => &[(0, 0x1)],
-            2 => &[(0, 0x3)],
-            3 => &[(0, 0x7)],
-            4 => &[(0, 0xF)],
-            5 => &[(0, 0x1F)],
-            6 => &[(0, 0x3F)],
-            7 => &[(0, 0x7F)],
-            8 => &[(0, 0xFF)],
-            10 => &[(0, 0x3FF)],
-            13 => &[(0, 0x1FFF)],
-            14 => &[(0, 0x3FFF)],
-            15 => &[(0, 0x7FFF)],
-            16 => &[(0, 0xFFFF)],
-            24 => &[(0, 0xFF_FFFF)],
-            32 => &[(0, 0xFFFF_FFFF)],
-            _ => &[(0, u64::MAX)],
-        }
+        RANGES[self as usize]
     }
 
     /// The name as the standard prints it. `M_VERSION` is the name of two variables.

@@ -233,6 +233,7 @@ impl Var {
     /// Whether the variable admits the number. It refuses spare numbers, and those that need more
     /// bits than its width.
     #[tactic(auto, using(crate::proofs::Prefixes::admits_by_ranges))]
+    #[inline]
     pub fn admits(self, number: u64) -> bool
         ensures { result ≡ admits self number }
     {
@@ -242,6 +243,7 @@ impl Var {
     /// Whether some admitted number begins with these bits, `taken` of them, which `bits` holds as
     /// a number.
     #[tactic(auto, using(crate::proofs::Prefixes::begins_admitted))]
+    #[inline]
     pub fn admits_prefix(self, bits: u64, taken: usize) -> bool
         requires taken { taken ≤ width self }
         requires fits { bits < 2 ^ taken }

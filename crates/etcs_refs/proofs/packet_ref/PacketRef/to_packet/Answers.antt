@@ -4,7 +4,7 @@ use Rattle.etcs_rows.specs.Layouts.{layout}
 use Rattle.etcs_rows.specs.Rows.{row_to}
 use Rattle.etcs_rows.proofs.FrameLemmas.{row_found}
 use Rattle.etcs_packets.specs.PacketValues.{packet_value}
-use Rattle.etcs_container.proofs.FrameScans.{row_lost}
+use Rattle.etcs_container.proofs.Typed.{row_lost}
 use Rattle.etcs_refs.proofs.KindBits.{one_value, same_value, is_typed, is_kept}
 use Rattle.etcs_refs.proofs.packet_ref.PacketRef.to_packet.Goals as goal
 

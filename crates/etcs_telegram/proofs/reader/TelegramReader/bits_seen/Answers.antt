@@ -4,4 +4,4 @@ use Rattle.etcs_telegram.proofs.Feeding.{counted}
 use Rattle.etcs_telegram.proofs.reader.TelegramReader.bits_seen.Goals as goal
 
 pub returns : goal.returns
-returns c = counted c.self.inside.course c.self.inside.stop c.self.invariant ∙ ap (λ (v : ReaderValue). seen_of v.stage) c.self.view_is
+returns c = c.count.ensures ∙ counted c.self.inside.size c.self.inside.feeder c.self.invariant ∙ ap (λ (v : ReaderValue). seen_of v.stage) c.self.view_is

@@ -1,12 +1,24 @@
-use Rattle.std.proofs.Common.{sym, ◌∙◌}
-use Rattle.etcs_telegram.proofs.Feeding.{whole_reader}
-use Rattle.etcs_telegram.proofs.Holding.{is_held}
+use Rattle.std.proofs.Common.{not, sym, ap, subst, ◌∙◌}
+use Rattle.etcs_telegram.specs.Readers.{ReaderValue, IsReading}
+use Rattle.etcs_telegram.proofs.Feeding.{none_there}
+use Rattle.etcs_telegram.proofs.Holding.{is_held, none_stops, none_comes}
 use Rattle.etcs_telegram.proofs.reader.TelegramReader.held.Goals as goal
+use Rattle.etcs_telegram.proofs.reader.TelegramReader.held.Goals.{then-is_some-via-then-is_some, then-is_some-via-else-is_some+then-is_none}
 
-pub held_of-requires-clause-course : goal.held_of-requires-clause-course
-held_of-requires-clause-course c = whole_reader c.self.inside.course c.self.inside.stop c.self.invariant (sym c.is_some.ensures ∙ c.if-is_some.false)
+pub returns-then-is_some-clause-none : goal.returns-then-is_some-clause-none
+returns-then-is_some-clause-none c _ i =
+    let v = c.self.inside.feeder in
+    let same = subst IsReading (ap (λ (r : ReaderValue). r.stage) (sym c.self.view_is)) i in
+    elim c.then-is_some.branch [
+      | then-is_some-via-then-is_some w ↦ none_stops v c.stop.result (sym c.stop.ensures) (sym c.is_some.ensures ∙ w.if-is_some.true) same
+      | then-is_some-via-else-is_some+then-is_none w ↦ none_comes v (sym c.stop.ensures ∙ none_there c.stop.result (sym c.is_some.ensures ∙ w.if-is_some.false)) (sym w.var.ensures.next ∙ none_there w.var.result (w.is_none.ensures ∙ ap not w.if-is_none.true)) same
+    ]
 
 pub returns-clause-some : goal.returns-clause-some
 returns-clause-some c =
-    let h = c.held_of.result in
-    is_held c.self.inside.course c.self.inside.stop c.args.self.now h.packets.now h.numbers.now h.kept h.part h.taken (sym c.is_some.ensures ∙ c.if-is_some.false) (sym c.is_going.ensures ∙ c.if-not-is_going.false) c.self.view_is c.held_of.ensures
+    let v = c.self.inside.feeder in
+    let none = sym c.stop.ensures ∙ none_there c.stop.result (sym c.is_some.ensures ∙ c.if-is_some.false) in
+    let e = c.var.ensures in
+    let p = c.part-part.ensures in
+    rw (c.as_slice.ensures.value, c.as_slice-2.ensures.value, c.as_slice-3.ensures, c.rest.ensures)
+    (is_held c.self.inside.size v c.args.self.now c.var.result c.part-part.result.0 c.part-part.result.1 c.self.invariant none c.self.view_is (c.is_none.ensures ∙ ap not c.if-is_none.false) e.next (e.holds none) (e.short none) p.bits (p.fits none))

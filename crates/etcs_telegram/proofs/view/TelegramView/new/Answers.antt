@@ -1,41 +1,58 @@
-use Rattle.std.proofs.Common.{◌≡◌, ◌*◌, List, Bool, ℕ, length, refl, ap, subst, ◌∙◌, arith}
-use Rattle.std.proofs.lemmas.List.{take_all}
-use Rattle.etcs_bits.specs.Bits.{bits, part}
-use Rattle.etcs_bits.proofs.Positions.{length-bits}
-use Rattle.etcs_vars.specs.Walking.{Refuses}
+use Rattle.std.proofs.Common.{◌≡◌, ◌-◌, ◌≤◌, [], ◌∙◌}
+use Rattle.etcs_bits.specs.Bits.{bits}
 use Rattle.etcs_telegram.specs.declared.view.ViewFault.{ViewFault}
 use Rattle.etcs_telegram.specs.declared.view.ViewFault.TheVariants.{Refused}
-use Rattle.etcs_telegram.specs.Telegrams.{TelegramLanguage}
+use Rattle.etcs_telegram.specs.Telegrams.{TelegramLanguage, header_of, user_bits}
+use Rattle.etcs_telegram.specs.Headers.{IsHeaderNumbers}
+use Rattle.etcs_telegram.specs.Lefts.{left_at}
 use Rattle.etcs_telegram.specs.Views.{ViewIn}
 use Rattle.etcs_telegram.proofs.Encoding.{container_bits}
-use Rattle.etcs_telegram.proofs.Viewing.{refused_same}
+use Rattle.etcs_telegram.proofs.Viewing.{refused_same, refused_bit, some_telegram, all_seen}
 use Rattle.etcs_telegram.proofs.view.TelegramView.new.Goals as goal
+use Rattle.etcs_telegram.proofs.view.TelegramView.new.Goals.{In-Ok}
 
-pub run_at-requires : goal.run_at-requires
-run_at-requires c = omega (arith, length-bits c.args.bytes.now)
+pub new-feeder-requires : goal.new-feeder-requires
+new-feeder-requires c = let (r, l) = some_telegram c.args.size in (r, (c.new.ensures.left r).1 l)
 
--- all bits
-whole : (bytes : List ℕ) (n : ℕ) → n ≡ length bytes * 8 → part 0 n (bits bytes) ≡ bits bytes
-whole bytes n e = take_all n (bits bytes) (omega (arith, e, length-bits bytes))
+-- all bits are a telegram's
+seen : (c : In-Ok) → ViewIn c.args.size (bits c.args.bytes.now) (header_of c.feed.new.self.rest.header.items) c.feed.new.self.rest.packets.store.packets (user_bits c.args.size - c.feed.new.self.rest.packets.left.room) × IsHeaderNumbers c.feed.new.self.rest.header.items × (c.feed.new.self.rest.packets.left.room ≤ user_bits c.args.size)
+seen c =
+    let s = c.new-feeder.result.rest in
+    let t = c.feed.new.self.rest in
+    let b = bits c.args.bytes.now in
+    let same = rw (← c.new-feeder.ensures.rest) at c.new.ensures.left in
+    let size = rw (← c.new-feeder.ensures.rest) at c.new.ensures.size in
+    let none = rw (← c.new-feeder.ensures.rest) at c.new.ensures.holds in
+    let (stop, count, h) = c.in-Ok.ensures.going c.new-feeder.ensures.stop in
+    let f = h.passed.follows in
+    all_seen c.args.size (left_at s.size s.stage s.packets.left) same b (container_bits c.args.size c.args.bytes.now (c.if-bytes-container_bytes.false ∙ c.container_bytes.ensures)) t.size t.stage t.header.items t.packets.left t.packets.store.packets c.in-Ok.field-0 c.new-feeder.result.part c.feed.new.self.part h.passed.whole (f.same ∙ size) t.stands h.within c.new-feeder.ensures.part f.residual (f.held [] none) h.passed.bits h.more
 
-pub scan_telegram-requires : goal.scan_telegram-requires
-scan_telegram-requires c =
-    let is = c.run_at.ensures ∙ whole c.args.bytes.now (length c.args.bytes.now * 8) refl in
-    record { long = ap (λ (b : List Bool). length b) is ∙ container_bits c.args.size c.args.bytes.now (c.if-bytes-container_bytes.false ∙ c.container_bytes.ensures) }
+pub of_numbers-requires : goal.of_numbers-requires
+of_numbers-requires c =
+    let v = seen (goal.at.of_numbers-requires c).In-Ok in
+    rw (c.as_slice.ensures.value, c.rest-rest.ensures) v.1
+
+pub overflow_sub-result : goal.overflow_sub-result
+overflow_sub-result c =
+    let v = seen (goal.at.overflow_sub-result c).In-Ok in
+    rw (c.rest-rest.ensures, c.user_bits.ensures) v.2
 
 pub invariant_of-result : goal.invariant_of-result
 invariant_of-result c =
-    let is = c.run_at.ensures ∙ whole c.args.bytes.now (length c.args.bytes.now * 8) refl in
-    subst (λ (b : List Bool). ViewIn c.args.size b c.in-Ok.scanned.header c.in-Ok.scanned.packets c.in-Ok.scanned.end) is c.in-Ok.ensures.ok
+    let v = seen (goal.at.invariant_of-result c).In-Ok in
+    rw (c.of_numbers.ensures, c.as_slice.ensures.value, c.rest-rest.ensures, c.user_bits.ensures) v.0
 
 pub returns-in-Ok-clause-ok : goal.returns-in-Ok-clause-ok
 returns-in-Ok-clause-ok c =
-    let is = c.run_at.ensures ∙ whole c.args.bytes.now (length c.args.bytes.now * 8) refl in
-    let v = c.in-Ok.ensures.ok in
-    (v.telegram, (v.reading, v.reads, v.bits ∙ is))
+    let v = seen (goal.at.returns-in-Ok-clause-ok c).In-Ok in
+    (v.0.telegram, (v.0.reading, v.0.reads, v.0.bits))
 
-pub returns-in-Err-clause-refused : goal.returns-in-Err-clause-refused
-returns-in-Err-clause-refused c i x e =
-    let is = c.run_at.ensures ∙ whole c.args.bytes.now (length c.args.bytes.now * 8) refl in
-    let r = subst (λ (b : List Bool). Refuses (TelegramLanguage c.args.size) b c.in-Err.refusal.bit c.in-Err.refusal.var) is c.in-Err.ensures.refused in
-    refused_same (TelegramLanguage c.args.size) (bits c.args.bytes.now) c.in-Err.refusal.bit i c.in-Err.refusal.var x (let f : ◌≡◌ {A = ViewFault} (Refused c.in-Err.refusal.bit c.in-Err.refusal.var) (Refused i x) = (let g = e in cc) in f) r
+pub returns-in-Err-Refused-clause-refused : goal.returns-in-Err-Refused-clause-refused
+returns-in-Err-Refused-clause-refused c i x e =
+    let s = c.new-feeder.result.rest in
+    let b = bits c.args.bytes.now in
+    let same = rw (← c.new-feeder.ensures.rest) at c.new.ensures.left in
+    let answer = c.in-Err-Refused.ensures.going c.new-feeder.ensures.stop in
+    let (stop, is, n, place, h) = rw c.in-Err-Refused.field-0-is at answer in
+    let r = refused_bit c.args.size (left_at s.size s.stage s.packets.left) same c.new-feeder.result.part b c.in-Err-Refused.bit n c.new-feeder.result.count c.in-Err-Refused.var c.new-feeder.ensures.part c.new-feeder.ensures.count place h.refuses in
+    refused_same (TelegramLanguage c.args.size) b c.in-Err-Refused.bit i c.in-Err-Refused.var x (let f : ◌≡◌ {A = ViewFault} (Refused c.in-Err-Refused.bit c.in-Err-Refused.var) (Refused i x) = (let g = e in cc) in f) r

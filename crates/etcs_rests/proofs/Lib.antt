@@ -1,0 +1,9 @@
+pub mod Holding
+pub mod Moving
+pub mod Framing
+pub mod Padding
+pub mod Values
+pub mod LeftBodies
+pub mod PacketLemmas
+pub mod LeapLemmas
+pub mod Begun

@@ -1,0 +1,89 @@
+//! Packets that are counted as they are read.
+
+ghost use Rattle.std.specs.Prelude.{◌≡◌, ℕ, ◌≤◌, ◌+◌, ◌%◌, ◌^◌, Bool, List, IsTrue, length};
+ghost use Rattle.etcs_bits.specs.Bits.{part};
+ghost use Rattle.etcs_vars.specs.Reading.{Reading, spelled};
+ghost use Rattle.etcs_rows.specs.Layouts.{layout, ReadsIn};
+ghost use Rattle.etcs_packets.specs.PacketValues.{PacketValue};
+
+use crate::store::PacketStore;
+use etcs_bits::BitSlice;
+use etcs_container::parts::number_in;
+use etcs_rows::{Place, Row, Way, row_of};
+use etcs_vars::Var;
+use std::alloc::AllocError;
+
+/// How many packets were read. Takes no memory.
+#[derive(Clone, Copy, Debug, PartialEq, Eq, Drop)]
+pub struct PacketCount {
+    /// Wraps round behind the largest `usize`, which no room of packets reaches.
+    pub packets: usize,
+}
+
+/// Whether these bits are a row's.
+fn row_reads(row: Row, bits: &BitSlice<'_>) -> bool
+    requires small { length bits.now ≤ 8191 }
+    ensures { IsTrue result → (q : Reading) × ReadsIn (layout row.items.now) (length bits.now) q × (spelled q ≡ bits.now) }
+{
+    let end = bits.len();
+    let mut place = Place::start(row);
+    let mut at = 0;
+    while at < end {
+        let Some(var) = place.var() else {
+            return false;
+        };
+        let count = var.width();
+        if count > end - at {
+            return false;
+        }
+        let number = number_in(bits, at, count);
+        if !var.admits(number) {
+            return false;
+        }
+        place.pass(number);
+        at += count;
+    }
+    place.var().is_none()
+}
+
+impl PacketStore for PacketCount {
+    ghost holds = { λ s vs f k. length vs % 2 ^ 64 ≡ s.packets };
+
+    ghost fails = { ⊥ };
+
+    #[inline]
+    fn number(&mut self, _number: u64) -> Result<(), AllocError> {
+        Ok(())
+    }
+
+    #[inline]
+    fn bits(&mut self, _slice: &BitSlice<'_>) -> Result<(), AllocError> {
+        Ok(())
+    }
+
+    fn marker(&mut self, _number: u8) -> Result<(), AllocError> {
+        self.packets = self.packets.wrapping_add(1);
+        Ok(())
+    }
+
+    fn typed(&mut self, _nid: u8, _dir: u8) -> Result<(), AllocError> {
+        self.packets = self.packets.wrapping_add(1);
+        Ok(())
+    }
+
+    fn kept(&mut self, _nid: u8, _dir: u8) -> Result<(), AllocError> {
+        self.packets = self.packets.wrapping_add(1);
+        Ok(())
+    }
+
+    fn whole(&mut self, nid: u8, dir: u8, body: BitSlice<'_>) -> Result<bool, AllocError> {
+        let Some(row) = row_of(Way::ToTrain, nid) else {
+            return Ok(false);
+        };
+        if !Var::Q_DIR.admits(u64::from(dir)) || !row_reads(row, &body) {
+            return Ok(false);
+        }
+        self.packets = self.packets.wrapping_add(1);
+        Ok(true)
+    }
+}

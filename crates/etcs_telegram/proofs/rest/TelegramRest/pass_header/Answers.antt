@@ -1,0 +1,9 @@
+use Rattle.etcs_telegram.proofs.RestHolds.{header_follows}
+use Rattle.etcs_telegram.proofs.rest.TelegramRest.pass_header.Goals as goal
+
+pub returns : goal.returns
+returns g c =
+    let s = c.args.self.now in
+    λ x next goes.
+    rw c.push.ensures.items
+    (header_follows s.size s.stage c.after-self.result c.args.at s.header.items s.packets.left (g.S.PacketStore.holds s.packets.store) x c.args.number c.requires.stage c.after-self.ensures s.stands next goes)

@@ -1,0 +1,272 @@
+//! What is left of a telegram, for the one reader.
+
+ghost use Rattle.std.specs.Prelude.{◌≡◌, ◌-◌, ◌^◌, ◌<◌, ◌≤◌, [], ◌∷◌, Some, length, IsTrue, OnOk, OnErr, IfOk, IfSome, IsNone};
+ghost use Rattle.etcs_bits.specs.Bits.{bits, part};
+ghost use Rattle.etcs_vars.specs.Reading.{kept, Viable};
+ghost use Rattle.etcs_vars.specs.declared.var.Var.{Var};
+ghost use Rattle.etcs_vars.specs.declared.var.Var.TheVariants.{FILL, PAD};
+ghost use Rattle.etcs_vars.proofs.Languages.{Same};
+ghost use Rattle.etcs_reader.specs.Rests.{Goes, Starts, LeapsBy};
+ghost use Rattle.etcs_telegram.specs.declared.size.Size.{Size};
+ghost use Rattle.etcs_telegram.specs.Telegrams.{TelegramLanguage};
+ghost use Rattle.etcs_telegram.specs.Phases.{after};
+ghost use Rattle.etcs_telegram.specs.Lefts.{left_at, next_at, stands_at, may_ask, behind_packets, FillFits, HoldsIn, Follows};
+ghost use Rattle.etcs_telegram.specs.RestLaws.{rest_regular, rest_begins, rest_ended, follows_none, follows_along};
+
+use crate::phase::Phase;
+use crate::size::Size;
+use arrayvec::ArrayVec;
+use etcs_bits::BitSlice;
+use etcs_container::parts::run_at;
+use etcs_reader::Rest;
+use etcs_rests::{PacketStore, PacketsLeft, PacketsRest, Stage};
+use etcs_rows::parts::Carrier;
+use etcs_vars::{Var, begins};
+use std::alloc::AllocError;
+
+/// What is left of a telegram, and what is kept of the variables that were read.
+#[derive(Drop)]
+pub(crate) struct TelegramRest<S: PacketStore> {
+    pub(crate) size: Size,
+    pub(crate) stage: Phase,
+    /// The header's numbers so far.
+    pub(crate) header: ArrayVec<u64, 10>,
+    /// The packets. FILL's bits are in their store.
+    pub(crate) packets: PacketsRest<S>,
+    ghost stands: { IsTrue (stands_at stage (length header.items) packets.left) },
+    ghost fits: { ∥ FillFits stage (S.holds packets.store) ∥₁ },
+}
+
+/// What comes behind a variable of the packets.
+fn behind_packets(size: Size, left: &PacketsLeft) -> Phase
+    ensures { result ≡ behind_packets size left.now }
+{
+    match &left.stage {
+        Stage::Closed => Phase::after_fill(size, left.room, 0),
+        _ => Phase::Packets,
+    }
+}
+
+/// What comes behind a bit of PAD, of which `left` are wanted.
+fn behind_pad(left: usize) -> Phase
+    ensures { (size : Size) → result ≡ after size (Phase.Pad left) }
+{
+    if left > 1 {
+        Phase::Pad(left - 1)
+    } else {
+        Phase::Whole
+    }
+}
+
+impl<S: PacketStore> TelegramRest<S> {
+    /// All of a telegram of this size, and a store that holds no packet.
+    pub(crate) fn new(size: Size, store: S) -> TelegramRest<S>
+        requires none { S.holds store [] [] [] }
+        ensures size { result.size ≡ size }
+        ensures store { result.packets.store ≡ store }
+        ensures left { Same (left_at result.size result.stage result.packets.left) (TelegramLanguage size) }
+        ensures holds { HoldsIn result.size result.stage result.header.items result.packets.left (S.holds result.packets.store) [] }
+    {
+        TelegramRest {
+            size,
+            stage: Phase::Header(0),
+            header: ArrayVec::new(),
+            packets: PacketsRest::new(Carrier::Telegram, size.packet_room(), store),
+        }
+    }
+
+    /// Behind a number of the header.
+    fn pass_header(&mut self, at: usize, number: u64)
+        requires stage { self.old.stage ≡ Phase.Header at }
+        ensures { (x : Var) → next_at self.old.stage self.old.packets.left ≡ Some x → Starts (left_at self.old.size self.old.stage self.old.packets.left) x 0 number → Follows self.old.size self.old.stage self.old.header.items self.old.packets.left (S.holds self.old.packets.store) ((x, number) ∷ []) self.new.size self.new.stage self.new.header.items self.new.packets.left (S.holds self.new.packets.store) }
+    {
+        self.header.push(number);
+        self.stage = Phase::Header(at).after(self.size);
+    }
+
+    /// Behind a variable of the packets.
+    fn pass_packets(&mut self, var: Var, number: u64) -> Result<(), AllocError>
+        requires stage { self.old.stage ≡ Phase.Packets }
+        requires next { next_at self.old.stage self.old.packets.left ≡ Some var }
+        requires goes { Starts (left_at self.old.size self.old.stage self.old.packets.left) var 0 number }
+        ensures ok { OnOk result (Follows self.old.size self.old.stage self.old.header.items self.old.packets.left (S.holds self.old.packets.store) ((var, number) ∷ []) self.new.size self.new.stage self.new.header.items self.new.packets.left (S.holds self.new.packets.store)) }
+        ensures err { OnErr result (S.fails × IsTrue (may_ask self.old.stage self.old.packets.left)) }
+    {
+        let packets = &mut self.packets;
+        match packets.pass(var, number) {
+            Ok(()) => {
+                self.stage = behind_packets(self.size, &packets.left);
+                Ok(())
+            }
+            Err(error) => {
+                self.stage = Phase::Whole;
+                Err(error)
+            }
+        }
+    }
+
+    /// Takes variables of the packets together where a piece has such, and says how many bits they are.
+    fn leap_packets(&mut self, piece: &[u8], at: usize) -> Result<Option<usize>, AllocError>
+        requires stage { self.old.stage ≡ Phase.Packets }
+        requires inside { at < length (bits piece.now) }
+        requires small { length (bits piece.now) < 2 ^ 64 }
+        requires goes { Goes (left_at self.old.size self.old.stage self.old.packets.left) }
+        ensures none { IfOk result (λ o. IsNone o → self.new ≡ self.old) }
+        ensures some { IfOk result (λ o. IfSome o (λ n. LeapsBy (left_at self.new.size self.new.stage self.new.packets.left) (λ p. Follows self.old.size self.old.stage self.old.header.items self.old.packets.left (S.holds self.old.packets.store) p self.new.size self.new.stage self.new.header.items self.new.packets.left (S.holds self.new.packets.store)) (bits piece.now) at n)) }
+        ensures err { OnErr result (S.fails × IsTrue (may_ask self.old.stage self.old.packets.left)) }
+        ensures viable { OnErr result (Viable (left_at self.old.size self.old.stage self.old.packets.left) (part at 1 (bits piece.now))) }
+    {
+        let packets = &mut self.packets;
+        match packets.leap(piece, at) {
+            Ok(Some(count)) => {
+                self.stage = behind_packets(self.size, &packets.left);
+                Ok(Some(count))
+            }
+            Ok(None) => Ok(None),
+            Err(error) => {
+                self.stage = Phase::Whole;
+                Err(error)
+            }
+        }
+    }
+
+    /// Takes bits of FILL, of which `left` are wanted.
+    fn fill(&mut self, left: usize, slice: &BitSlice<'_>) -> Result<(), AllocError>
+        requires stage { self.old.stage ≡ Phase.Fill left }
+        requires within { length slice.now ≤ left }
+        ensures ok { OnOk result (Follows self.old.size self.old.stage self.old.header.items self.old.packets.left (S.holds self.old.packets.store) (kept FILL slice.now) self.new.size self.new.stage self.new.header.items self.new.packets.left (S.holds self.new.packets.store)) }
+        ensures goes { OnOk result (Goes (left_at self.new.size self.new.stage self.new.packets.left)) }
+        ensures err { OnErr result S.fails }
+    {
+        let packets = &mut self.packets;
+        match packets.store.bits(slice) {
+            Ok(()) => {
+                self.stage = Phase::after_fill(self.size, left, slice.len());
+                Ok(())
+            }
+            Err(error) => {
+                self.stage = Phase::Whole;
+                Err(error)
+            }
+        }
+    }
+
+    /// Behind a bit of FILL, of which `left` are wanted.
+    fn pass_fill(&mut self, left: usize, number: u64) -> Result<(), AllocError>
+        requires stage { self.old.stage ≡ Phase.Fill left }
+        requires small { number < 2 }
+        ensures ok { OnOk result (Follows self.old.size self.old.stage self.old.header.items self.old.packets.left (S.holds self.old.packets.store) ((FILL, number) ∷ []) self.new.size self.new.stage self.new.header.items self.new.packets.left (S.holds self.new.packets.store)) }
+        ensures err { OnErr result S.fails }
+    {
+        let byte = [number as u8];
+        match self.fill(left, &run_at(&byte, 7, 1)) {
+            Ok(()) => Ok(()),
+            Err(error) => Err(error),
+        }
+    }
+
+    /// Takes a run of FILL, of which `left` bits are wanted, and says how many bits it was.
+    fn leap_fill(&mut self, left: usize, piece: &[u8], at: usize) -> Result<usize, AllocError>
+        requires stage { self.old.stage ≡ Phase.Fill left }
+        requires inside { at < length (bits piece.now) }
+        requires small { length (bits piece.now) < 2 ^ 64 }
+        ensures ok { IfOk result (λ n. LeapsBy (left_at self.new.size self.new.stage self.new.packets.left) (λ p. Follows self.old.size self.old.stage self.old.header.items self.old.packets.left (S.holds self.old.packets.store) p self.new.size self.new.stage self.new.header.items self.new.packets.left (S.holds self.new.packets.store)) (bits piece.now) at n) }
+        ensures err { OnErr result S.fails }
+        ensures viable { OnErr result (Viable (left_at self.old.size self.old.stage self.old.packets.left) (part at 1 (bits piece.now))) }
+    {
+        let count = left.min(piece.len() * 8 - at);
+        match self.fill(left, &run_at(piece, at, count)) {
+            Ok(()) => Ok(count),
+            Err(error) => Err(error),
+        }
+    }
+
+    /// Behind a bit of PAD, of which `left` are wanted.
+    fn pass_pad(&mut self, left: usize)
+        requires stage { self.old.stage ≡ Phase.Pad left }
+        ensures { Follows self.old.size self.old.stage self.old.header.items self.old.packets.left (S.holds self.old.packets.store) ((PAD, 0) ∷ []) self.new.size self.new.stage self.new.header.items self.new.packets.left (S.holds self.new.packets.store) }
+    {
+        self.stage = behind_pad(left);
+    }
+}
+
+impl<S: PacketStore> Rest for TelegramRest<S> {
+    ghost left = { λ s. left_at s.size s.stage s.packets.left };
+
+    ghost next = { λ s. next_at s.stage s.packets.left };
+
+    ghost follows = { λ s p t. Follows s.size s.stage s.header.items s.packets.left (S.holds s.packets.store) p t.size t.stage t.header.items t.packets.left (S.holds t.packets.store) };
+
+    ghost fails = { λ s. S.fails × IsTrue (may_ask s.stage s.packets.left) };
+
+    #[inline]
+    fn var(&self) -> Option<Var> {
+        match self.stage {
+            Phase::Header(_) => Some(self.stage.var()),
+            Phase::Packets => self.packets.var(),
+            Phase::Fill(_) => Some(Var::FILL),
+            Phase::Pad(_) => Some(Var::PAD),
+            Phase::Whole => None,
+        }
+    }
+
+    #[inline]
+    fn begins(&self, var: Var, rest: usize, number: u64) -> bool {
+        match self.stage {
+            Phase::Header(_) => begins(var.ranges(), rest, number),
+            Phase::Packets => self.packets.begins(var, rest, number),
+            Phase::Fill(_) => true,
+            Phase::Pad(_) => number == 0,
+            Phase::Whole => unreachable!(),
+        }
+    }
+
+    fn pass(&mut self, var: Var, number: u64) -> Result<(), AllocError> {
+        match self.stage {
+            Phase::Header(at) => {
+                self.pass_header(at, number);
+                Ok(())
+            }
+            Phase::Packets => match self.pass_packets(var, number) {
+                Ok(()) => Ok(()),
+                Err(error) => Err(error),
+            },
+            Phase::Fill(left) => match self.pass_fill(left, number) {
+                Ok(()) => Ok(()),
+                Err(error) => Err(error),
+            },
+            Phase::Pad(left) => {
+                self.pass_pad(left);
+                Ok(())
+            }
+            Phase::Whole => unreachable!(),
+        }
+    }
+
+    #[inline]
+    fn leap(&mut self, piece: &[u8], at: usize) -> Result<Option<usize>, AllocError> {
+        match self.stage {
+            Phase::Packets => match self.leap_packets(piece, at) {
+                Ok(taken) => Ok(taken),
+                Err(error) => Err(error),
+            },
+            Phase::Fill(left) => match self.leap_fill(left, piece, at) {
+                Ok(count) => Ok(Some(count)),
+                Err(error) => Err(error),
+            },
+            _ => Ok(None),
+        }
+    }
+
+    ghost regular = { λ s. rest_regular s.size s.packets.left s.stage };
+
+    ghost begins_with = { λ s. rest_begins s.size s.packets.left s.stage (length s.header.items) s.stands };
+
+    ghost ended = { λ s. rest_ended s.size s.stage (length s.header.items) s.packets.left s.stands };
+
+    ghost residual = { λ s t p h. h.residual };
+
+    ghost none = { λ s. follows_none s.size s.stage s.header.items s.packets.left (S.holds s.packets.store) };
+
+    ghost both = { λ s t u p q h k. follows_along s.size s.stage s.header.items s.packets.left (S.holds s.packets.store) p t.size t.stage t.header.items t.packets.left (S.holds t.packets.store) q u.size u.stage u.header.items u.packets.left (S.holds u.packets.store) h k };
+}

@@ -1,14 +1,14 @@
 -- The laws of rows: a place stands for the numbers that it was given, and numbers and bits determine each other.
 use Rattle.std.proofs.Common.{◌≡◌, ℕ, Bool, true, false, List, [], ◌∷◌, ◌++◌, length, ◌≤◌, Some, None, refl, sym, ap, ◌∙◌, subst}
-use Rattle.std.specs.Prelude.{IsTrue, ◌↔◌, if◌then◌else◌}
+use Rattle.std.specs.Prelude.{IsTrue, Option, if◌then◌else◌}
 use Rattle.std.specs.Option.{option_and_then}
 use Rattle.std.proofs.lemmas.List.{append-nil}
 use Rattle.etcs_vars.specs.declared.var.Var.{Var}
 use Rattle.etcs_vars.specs.Vars.{admits}
 use Rattle.etcs_vars.specs.Reading.{Sent, Reading, spelled, numbers}
 use Rattle.etcs_vars.proofs.Apart.{Agree}
-use Rattle.etcs_rows.specs.Layouts.{Layout, whole, one, guarded, counted, Reads, Spells, AdmitsFields, ROW_LIMIT, looks, Lengths}
-use Rattle.etcs_rows.specs.Places.{onto, left_behind, PlacesStand}
+use Rattle.etcs_rows.specs.Layouts.{Layout, whole, one, guarded, counted, Reads, Spells, AdmitsFields, ROW_LIMIT, looks}
+use Rattle.etcs_rows.specs.Places.{onto, left_behind, one_more, read_of, StandsFor, PlacesStand, PlacesMeasure}
 use Rattle.etcs_rows.specs.Writing.{OneSpelling}
 use Rattle.etcs_rows.proofs.Behind.{follows, looks-onto, tail_of}
 use Rattle.etcs_rows.proofs.OneReading.{Reads-agree, Reads-apart}
@@ -16,38 +16,67 @@ use Rattle.etcs_rows.proofs.WriteLemmas.{first_of_row}
 
 -- ---- Places.
 
--- what is left behind a number that is admitted
-behind_number : (b : Bool) (x left : Layout) (f : List ℕ) → option_and_then (λ y. left_behind y f) (if b then Some x else None) ≡ Some left → IsTrue b × (left_behind x f ≡ Some left)
-behind_number true x left f e = (refl, e)
-behind_number false x left f e = absurd cc
-
--- a reading of the row, without its first number
-without_first : (v : Var) (rest : Layout) (n : ℕ) (f : List ℕ) (r tail : Reading) → IsTrue (looks None (one v rest)) → Reads (one v rest) [] (r ++ tail) → numbers r ≡ n ∷ f → (r' : Reading) × Reads (onto n rest whole) [] (r' ++ tail) × (numbers r' ≡ f)
-without_first v rest n f [] tail sound reads e = absurd cc
-without_first v rest n f ((w, m) ∷ r) tail sound reads e =
+-- a reading of the row whose first number is n
+first_pair : (v : Var) (rest : Layout) (n : ℕ) (f : List ℕ) (r tail : Reading) → IsTrue (looks None (one v rest)) → Reads (one v rest) [] (r ++ tail) → numbers r ≡ n ∷ f
+    → (r' : Reading) × (r ≡ (v, n) ∷ r') × (numbers r' ≡ f) × IsTrue (admits v n) × Reads (onto n rest whole) [] (r' ++ tail)
+first_pair v rest n f [] tail look reads e = absurd cc
+first_pair v rest n f ((w, m) ∷ r) tail look reads e =
     let number : m ≡ n = cc in
     let others : numbers r ≡ f = cc in
-    let x = first_of_row v rest n (numbers (r ++ tail)) ((w, m) ∷ (r ++ tail)) sound reads (ap (λ k. k ∷ numbers (r ++ tail)) number) in
+    let x = first_of_row v rest n (numbers (r ++ tail)) ((w, m) ∷ (r ++ tail)) look reads (ap (λ k. k ∷ numbers (r ++ tail)) number) in
+    let pair : ◌≡◌ {A = Sent} (w, m) (v, n) = cc in
     let same : x.0 ≡ r ++ tail = sym (ap (λ (t : Reading). tail_of t) x.1) in
-    (r, subst (λ (t : Reading). Reads (onto n rest whole) [] t) same x.4, others)
+    (r, ap (λ (p : Sent). p ∷ r) pair, others, x.3, subst (λ (t : Reading). Reads (onto n rest whole) [] t) same x.4)
 
--- as many bits may follow the numbers as follow them without the first
-lengths_behind : (v : Var) (rest : Layout) (n : ℕ) (f : List ℕ) (m : ℕ) → IsTrue (looks None (one v rest)) → IsTrue (admits v n) → Lengths (one v rest) (n ∷ f) m ↔ Lengths (onto n rest whole) f m
-lengths_behind v rest n f m sound ok = (
-  λ (r, tail, reads, e, len, small). let x = without_first v rest n f r tail sound reads e in (x.0, tail, x.1, x.2, len, small),
-  λ (r, tail, reads, e, len, small). ((v, n) ∷ r, tail, (follows v rest n sound ok (r ++ tail)).1 reads, ap (λ (g : List ℕ). n ∷ g) e, len, small),
+-- what stands for the numbers behind the first stands for all
+behind_first : (v : Var) (rest : Layout) (n : ℕ) (f : List ℕ) (front : Reading) (left : Option Layout) → IsTrue (looks None (one v rest)) → IsTrue (admits v n)
+    → StandsFor (onto n rest whole) f front left → StandsFor (one v rest) (n ∷ f) ((v, n) ∷ front) left
+behind_first v rest n f front (Some left) look ok (same, reads, alone) = (
+  ap (λ (g : List ℕ). n ∷ g) same,
+  λ tail. (let first = follows v rest n look ok (front ++ tail) in (λ x. (reads tail).0 (first.0 x), λ y. first.1 ((reads tail).1 y))),
+  λ r tail h e. (let x = first_pair v rest n f r tail look h e in x.1 ∙ ap (λ (t : Reading). (v, n) ∷ t) (alone x.0 tail x.4 x.2)),
 )
+behind_first v rest n f front None look ok none = λ r tail h e. (let x = first_pair v rest n f r tail look h e in none x.0 tail x.4 x.2)
+
+by_first : (v : Var) (rest : Layout) (n : ℕ) (f : List ℕ) (b : Bool) → IsTrue (looks None (one v rest)) → admits v n ≡ b → StandsFor (onto n rest whole) f (read_of (onto n rest whole) f) (left_behind (onto n rest whole) f)
+    → StandsFor (one v rest) (n ∷ f) (one_more (Some v) (if b then Some (onto n rest whole) else None) n (λ mid. read_of mid f)) (option_and_then (λ left. left_behind left f) (if b then Some (onto n rest whole) else None))
+by_first v rest n f true look ok h = behind_first v rest n f (read_of (onto n rest whole) f) (left_behind (onto n rest whole) f) look ok h
+by_first v rest n f false look refused h = λ r tail reads e. (let x = first_pair v rest n f r tail look reads e in let ok : admits v n ≡ true = x.3 in absurd cc)
+
+none_of : (r : Reading) → numbers r ≡ [] → r ≡ []
+none_of [] e = refl
+none_of (p ∷ r) e = absurd cc
+
+not_empty : (n : ℕ) (f : List ℕ) (r tail : Reading) → ◌≡◌ {A = Reading} (r ++ tail) [] → numbers r ≡ n ∷ f → ⊥
+not_empty n f [] tail h e = absurd cc
+not_empty n f (p ∷ r) tail h e = absurd cc
 
 pub places_stand : PlacesStand
-places_stand row left [] sound e n = let same : row ≡ left = cc in subst (λ (x : Layout). Lengths row [] n ↔ Lengths x [] n) same (λ x. x, λ x. x)
-places_stand whole left (k ∷ f) sound e n = absurd cc
-places_stand (one v rest) left (k ∷ f) sound e n =
-    let here = behind_number (admits v k) (onto k rest whole) left f e in
-    let first = lengths_behind v rest k f n sound here.0 in
-    let others = places_stand (onto k rest whole) left f (looks-onto k (Some v) rest whole tt sound refl) here.1 n in
-    (λ x. others.0 (first.0 x), λ x. first.1 (others.1 x))
-places_stand (guarded g group rest) left (k ∷ f) sound e n = absurd cc
-places_stand (counted group rest) left (k ∷ f) sound e n = absurd cc
+unfolding Reads
+places_stand row [] look = (refl, λ tail. (λ x. x, λ x. x), λ r tail h e. none_of r e)
+places_stand whole (n ∷ f) look = λ r tail h e. not_empty n f r tail h e
+places_stand (one v rest) (n ∷ f) look = by_first v rest n f (admits v n) look refl (places_stand (onto n rest whole) f (looks-onto n (Some v) rest whole tt look refl))
+places_stand (guarded g group rest) (n ∷ f) look = absurd cc
+places_stand (counted group rest) (n ∷ f) look = absurd cc
+
+pub places_measure : PlacesMeasure
+places_measure row left f look e m =
+    let stands = subst (λ (o : Option Layout). StandsFor row f (read_of row f) o) e (places_stand row f look) in (
+      λ (r, tail, reads, same, len, small).
+          let is = stands.2 r tail reads same in
+          ([], tail, (stands.1 tail).0 (subst (λ (q : Reading). Reads row [] (q ++ tail)) is reads), refl, len, small),
+      λ (r, tail, reads, same, len, small).
+          let is = none_of r same in
+          (read_of row f, tail, (stands.1 tail).1 (subst (λ (q : Reading). Reads left [] (q ++ tail)) is reads), stands.0, len, small),
+    )
+
+stands_alone : (row : Layout) (read q : Reading) (o : Option Layout) → Reads row [] (read ++ q) → StandsFor row (numbers read) (read_of row (numbers read)) o → read_of row (numbers read) ≡ read
+stands_alone row read q (Some left) reads stands = sym (stands.2 read q reads refl)
+stands_alone row read q None reads stands = absurd (stands read q reads refl)
+
+-- the pairs with which a reading of the row begins are those of their numbers
+pub read_is : (row : Layout) (read q : Reading) → IsTrue (looks None row) → Reads row [] (read ++ q) → read_of row (numbers read) ≡ read
+read_is row read q look reads = stands_alone row read q (left_behind row (numbers read)) reads (places_stand row (numbers read) look)
 
 -- ---- Spellings.
 

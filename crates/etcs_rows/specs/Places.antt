@@ -1,9 +1,10 @@
 -- What is left of a row, as a row: groups on numbers that are known are opened.
-use Rattle.std.specs.Prelude.{◌≡◌, ◌↔◌, ℕ, zero, suc, List, [], ◌∷◌, IsTrue, Option, Some, None, if◌then◌else◌}
+use Rattle.std.specs.Prelude.{◌≡◌, ◌↔◌, ℕ, zero, suc, List, [], ◌∷◌, ◌++◌, IsTrue, Option, Some, None, if◌then◌else◌}
 use Rattle.std.specs.Option.{option_and_then}
 use Rattle.etcs_vars.specs.declared.var.Var.{Var}
 use Rattle.etcs_vars.specs.Vars.{admits}
-use Rattle.etcs_rows.specs.Layouts.{Layout, whole, one, guarded, counted, passes, looks, Lengths}
+use Rattle.etcs_vars.specs.Reading.{Reading, numbers}
+use Rattle.etcs_rows.specs.Layouts.{Layout, whole, one, guarded, counted, Reads, passes, looks, Lengths}
 
 -- a row, and behind it another
 abbrev pub append : Layout → Layout → Layout
@@ -49,6 +50,31 @@ abbrev pub left_behind : Layout → List ℕ → Option Layout
 left_behind row [] = Some row
 left_behind row (n ∷ f) = option_and_then (λ left. left_behind left f) (after_number row n)
 
--- what may follow numbers of a row is what is left behind them
+abbrev pub one_more : Option Var → Option Layout → ℕ → (Layout → Reading) → Reading
+one_more None mid n more = []
+one_more (Some v) None n more = []
+one_more (Some v) (Some mid) n more = (v, n) ∷ more mid
+
+-- numbers of a row with their variables, up to the first that the row doesn't admit
+abbrev pub read_of : Layout → List ℕ → Reading
+read_of row [] = []
+read_of row (n ∷ f) = one_more (first_variable row) (after_number row n) n (λ mid. read_of mid f)
+
+-- ---- What a place says of the row.
+
+-- readings of the row that begin with the numbers f are the readings of what is left, behind the pairs in front of it;
+-- where nothing is left, there are none
+abbrev pub StandsFor : Layout → List ℕ → Reading → Option Layout → Type 0
+StandsFor row f front (Some left) =
+    (numbers front ≡ f)
+    × ((tail : Reading) → Reads row [] (front ++ tail) ↔ Reads left [] tail)
+    × ((r : Reading) (tail : Reading) → Reads row [] (r ++ tail) → numbers r ≡ f → r ≡ front)
+StandsFor row f front None = (r : Reading) (tail : Reading) → Reads row [] (r ++ tail) → numbers r ≡ f → ⊥
+
+-- what is left behind numbers of a row stands for them
 abbrev pub PlacesStand : Type 0
-PlacesStand = (row left : Layout) (f : List ℕ) → IsTrue (looks None row) → left_behind row f ≡ Some left → (n : ℕ) → Lengths row f n ↔ Lengths left [] n
+PlacesStand = (row : Layout) (f : List ℕ) → IsTrue (looks None row) → StandsFor row f (read_of row f) (left_behind row f)
+
+-- so many bits may follow the numbers as what is left may take
+abbrev pub PlacesMeasure : Type 0
+PlacesMeasure = (row left : Layout) (f : List ℕ) → IsTrue (looks None row) → left_behind row f ≡ Some left → (n : ℕ) → Lengths row f n ↔ Lengths left [] n

@@ -1,7 +1,7 @@
 //! Laws, each the contract of a function.
 
 ghost use Rattle.std.specs.Prelude.{◌≡◌, IfOk, Some};
-ghost use Rattle.etcs_rows.specs.Places.{PlacesStand};
+ghost use Rattle.etcs_rows.specs.Places.{PlacesStand, PlacesMeasure};
 ghost use Rattle.etcs_rows.specs.Walks.{WalksWhole};
 ghost use Rattle.etcs_rows.specs.Writing.{OneSpelling};
 
@@ -13,9 +13,11 @@ pub fn one_spelling()
     ensures { OneSpelling }
 {}
 
-/// A place that was given numbers of a row stands for them: what may follow them is what is left there.
+/// A place that was given numbers of a row stands for them: a reading of the row goes on behind them exactly as a reading
+/// of what is left there, in as many bits; and where nothing is left, no reading of the row begins with them.
 pub fn places()
-    ensures { PlacesStand }
+    ensures readings { PlacesStand }
+    ensures lengths { PlacesMeasure }
 {}
 
 /// What a walk answers of what is left of a row holds of all bits of the row: which bits may come, whether

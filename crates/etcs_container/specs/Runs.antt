@@ -1,29 +1,19 @@
 -- What was read of a packet, whole or not.
 use Rattle.std.specs.Prelude.{◌≡◌, ℕ, ◌+◌, ◌-◌, ◌<◌, Bool, List, [], ◌∷◌, ◌++◌, length, ◌⊎◌, IsTrue, Option, Some, None}
 use Rattle.std.specs.Option.{is_some}
-use Rattle.etcs_vars.specs.declared.var.Var.{Var}
 use Rattle.etcs_vars.specs.declared.var.Var.TheVariants.{NID_PACKET, Q_DIR, OTHER_DATA}
 use Rattle.etcs_vars.specs.Reading.{Reading, spelled, numbers, kept}
 use Rattle.etcs_rows.specs.declared.row.Way.TheVariants.{ToTrain}
 use Rattle.etcs_rows.specs.Layouts.{Layout}
 use Rattle.etcs_rows.specs.Rows.{row_to}
 use Rattle.etcs_rows.specs.Frames.{is_kept}
-use Rattle.etcs_rows.specs.Places.{first_variable, after_number}
+use Rattle.etcs_rows.specs.Places.{read_of}
 use Rattle.etcs_packets.specs.declared.packet.Packet.{Packet}
 use Rattle.etcs_packets.specs.PacketValues.{packet_value, IsPacket}
 use Rattle.etcs_packets.specs.OnePacket.{IsMade}
 use Rattle.etcs_packets.specs.PacketReadings.{frame}
 
-abbrev pub one_more : Option Var → Option Layout → ℕ → (Layout → Reading) → Reading
-one_more None mid n more = []
-one_more (Some v) None n more = []
-one_more (Some v) (Some mid) n more = (v, n) ∷ more mid
-
--- with their variables
-abbrev pub read_of : Layout → List ℕ → Reading
-read_of row [] = []
-read_of row (n ∷ f) = one_more (first_variable row) (after_number row n) n (λ mid. read_of mid f)
-
+-- the variables so far of a packet of whose row so many bits are left
 abbrev pub row_so_far : Option Layout → ℕ → ℕ → List ℕ → ℕ → Reading
 row_so_far None nid dir f bits = []
 row_so_far (Some row) nid dir f bits = frame nid dir (length (spelled (read_of row f)) + bits) ++ read_of row f

@@ -6,12 +6,12 @@ use Rattle.std.proofs.lemmas.List.{length-replicate}
 use Rattle.std.proofs.lemmas.List.Elements.{All-nil, All-head}
 use Rattle.etcs_vars.specs.declared.var.Var.TheVariants.{NID_PACKET, NID_VBCMK, Q_DIR, L_PACKET, OTHER_DATA}
 use Rattle.etcs_vars.specs.Reading.{Reading, spelled, numbers, kept}
+use Rattle.etcs_vars.proofs.Sent.{length-sent}
 use Rattle.etcs_rows.specs.declared.row.Way.TheVariants.{ToTrain}
 use Rattle.etcs_rows.specs.declared.frames.Carrier.{Carrier}
 use Rattle.etcs_rows.specs.declared.frames.Carrier.TheVariants.{Telegram, Message}
 use Rattle.etcs_rows.specs.Layouts.{Layout, Reads}
 use Rattle.etcs_rows.specs.Frames.{BodyLength, may_be_left, LengthFits, NumberFits}
-use Rattle.etcs_rows.proofs.LengthLemmas.{length-sent}
 use Rattle.etcs_packets.specs.PacketValues as packets
 use Rattle.etcs_packets.specs.PacketValues.{PacketValue, bits_of}
 use Rattle.etcs_packets.specs.PacketReadings.{packets_reading, packet_bits}
@@ -19,6 +19,7 @@ use Rattle.etcs_container.specs.Contents.{closing, Carries, Run, RunOf, BodyIn, 
 use Rattle.etcs_container.proofs.Typed.{typed_number}
 use Rattle.etcs_container.proofs.Others.{kept_number, kept_fault}
 use Rattle.etcs_container.proofs.RunSteps.{behind, both_length, in_front}
+use Rattle.etcs_container.proofs.Padding.{padded}
 
 -- ---- What may be left behind a packet.
 
@@ -34,10 +35,6 @@ second_of : (a b : Bool) → IsTrue b → IsTrue (a || b)
 second_of true b h = refl
 second_of false b h = h
 
--- a message's padding
-padded : (room : ℕ) → room ≤ 7 → Run Message room []
-padded room le = ([], record { carried = All-nil _; reading_is = refl; fills = (omega arith, omega (arith, le)) })
-
 -- a packet that fills a message
 filled : (room : ℕ) → 23 ≤ room → room ≤ 8191 → (r : Reading) × Run Message room r
 filled room least most =
@@ -46,13 +43,13 @@ filled room least most =
     let short : length (replicate bits false) ≡ bits = length-replicate bits false in
     let is = kept_fault 1 0 (length (replicate bits false)) refl refl (omega (arith, short, most)) in
     let len : bits_of v ≡ room = omega (arith, short, least) in
-    (_, in_front Message room room v [] (is, omega arith) (packet_bits v ∙ len) (omega arith) (padded (room - room) (omega arith)))
+    (_, in_front Message room room v [] (is, omega arith) (packet_bits v ∙ len) (omega arith) ((padded (room - room) (omega arith) []).0 refl))
 
 pub run_some : (c : Carrier) (room : ℕ) → room ≤ 8191 → IsTrue (may_be_left ToTrain c room) → (r : Reading) × Run c room r
 run_some Telegram room small h = ((NID_PACKET, 255) ∷ [], ([], record { carried = All-nil _; reading_is = refl; fills = omega (arith, leb-true 8 room h, length-sent NID_PACKET 255 []) }))
 run_some Message room small h =
     elim (either (nat_le room 7) (nat_le 23 room) h) [
-      | inl le ↦ ([], padded room (leb-true room 7 le))
+      | inl le ↦ ([], (padded room (leb-true room 7 le) []).0 refl)
       | inr ge ↦ filled room (leb-true 23 room ge) small
     ]
 

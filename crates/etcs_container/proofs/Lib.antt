@@ -1,8 +1,8 @@
-pub mod Lifts
 pub mod Typed
 pub mod Others
 pub mod RunSteps
 pub mod Agreement
+pub mod Padding
 pub mod Fits
 pub mod Starting
 pub mod OneSpelling
@@ -10,6 +10,4 @@ pub mod Turns
 pub mod Wholes
 pub mod BodyBegins
 pub mod PlaceReads
-pub mod PieceParts
-pub mod Chains
 pub mod Packets

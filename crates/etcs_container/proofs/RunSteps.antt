@@ -9,10 +9,10 @@ use Rattle.etcs_vars.specs.Reading.{Reading, spelled, kept}
 use Rattle.etcs_vars.proofs.Prefixes.{admits_parts}
 use Rattle.etcs_vars.proofs.Walk.{spelled-append}
 use Rattle.etcs_vars.proofs.Stepping.{Opens}
+use Rattle.etcs_vars.proofs.Sent.{length-sent}
 use Rattle.etcs_rows.specs.declared.frames.Carrier.{Carrier}
 use Rattle.etcs_rows.specs.declared.frames.Carrier.TheVariants.{Telegram, Message}
 use Rattle.etcs_rows.specs.Layouts.{ROW_LIMIT}
-use Rattle.etcs_rows.proofs.LengthLemmas.{length-sent}
 use Rattle.etcs_packets.specs.PacketValues as packets
 use Rattle.etcs_packets.specs.PacketValues.{PacketValue, IsPacket, nid_of}
 use Rattle.etcs_packets.specs.PacketReadings.{frame, packet_reading, packets_reading, length-frame, length-kept}
@@ -27,10 +27,6 @@ marker_length n r = omega (arith, length-sent NID_PACKET 0 ((NID_VBCMK, n) ∷ r
 
 pub both_length : (a b : Reading) → length (spelled (a ++ b)) ≡ length (spelled a) + length (spelled b)
 both_length a b = ap length (spelled-append a b) ∙ length-append (spelled a) (spelled b)
-
-pub body_length : (nid bits : ℕ) (r : Reading) → BodyIn nid bits r → length (spelled r) ≡ bits
-body_length nid bits r (inl (row, e, (reads, l))) = l
-body_length nid bits r (inr (k, (b, l, e))) = ap (λ (t : Reading). length (spelled t)) e ∙ length-kept b ∙ l
 
 -- a packet's bits leave as much of the room behind it
 pub fills_behind : (c : Carrier) (room l m : ℕ) → Fills c room (l + m) → (l ≤ room) × Fills c (room - l) m

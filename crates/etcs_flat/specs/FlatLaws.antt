@@ -12,11 +12,11 @@ use Rattle.etcs_vars.specs.Faults.{◌or_else◌, number_fault}
 use Rattle.etcs_vars.specs.Vars.{admits}
 use Rattle.etcs_vars.specs.Reading.{Reading, spelled, numbers}
 use Rattle.etcs_vars.proofs.Prefixes.{width-le}
+use Rattle.etcs_vars.proofs.Sent.{length-sent}
 use Rattle.etcs_rows.specs.declared.row.Way.TheVariants.{ToTrain}
 use Rattle.etcs_rows.specs.Layouts.{Layout, whole, one, guarded, counted, Scope, Reads, ROW_LIMIT}
 use Rattle.etcs_rows.specs.Rows.{row_to}
 use Rattle.etcs_rows.specs.Typed.{IsTyped, IsFramed}
-use Rattle.etcs_rows.proofs.LengthLemmas.{length-sent}
 use Rattle.etcs_flat.specs.Flats.{variables, flat_row, numbers_fault, row_fault, flat_fault, pairs, row_reading, flat_reading}
 
 -- ---- Faults, one behind the other.

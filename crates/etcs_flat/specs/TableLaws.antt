@@ -16,11 +16,11 @@ use Rattle.etcs_vars.specs.Faults.{number_fault}
 use Rattle.etcs_vars.specs.Vars.{width, admits}
 use Rattle.etcs_vars.specs.Reading.{Reading, spelled, numbers}
 use Rattle.etcs_vars.proofs.Prefixes.{admits_parts, width-le}
+use Rattle.etcs_vars.proofs.Sent.{length-sent}
 use Rattle.etcs_rows.specs.declared.item.RowItem.{RowItem}
 use Rattle.etcs_rows.specs.declared.item.RowItem.TheVariants.{One, When, Many}
 use Rattle.etcs_rows.specs.declared.row.Way.TheVariants.{ToTrain}
 use Rattle.etcs_rows.specs.Typed.{IsFramed}
-use Rattle.etcs_rows.proofs.LengthLemmas.{length-sent}
 use Rattle.etcs_flat.specs.Flats.{flat_row, numbers_fault, flat_fault, pairs, row_reading, flat_reading}
 use Rattle.etcs_flat.specs.FlatLaws.{none_both, number_fine, fine_number, nothing_wrong, nothing_found, framed_flat}
 use Rattle.etcs_flat.specs.Tables.{item_width, table_pairs, numbers_in}

@@ -1,5 +1,5 @@
 -- `==` of packets is equality of values.
-use Rattle.std.proofs.Common.{rules, ◌≡◌, ◌&&◌, nat_eq, Bool, true, false, List, [], ◌∷◌, refl, ap, inl, inr}
+use Rattle.std.proofs.Common.{rules, ◌≡◌, ◌&&◌, nat_eq, Bool, false, List, [], ◌∷◌, refl, ap, inl, inr}
 use Rattle.std.specs.Bool.{Decides}
 use Rattle.std.specs.Cmp.Lexicographic.{pointwise}
 use denote.Struct.Field.{Field}
@@ -13,7 +13,6 @@ use Rattle.etcs_flat.specs.contracts.other.OtherPartialEq.TheImpl as other
 use Rattle.etcs_flat.specs.contracts.marker.MarkerPartialEq.TheImpl as marker
 use Rattle.etcs_profiles.specs.Equality.{linking_exact, level1_ma_exact, level23_ma_exact, gradient_exact, speed_profile_exact}
 use Rattle.etcs_orders.specs.Equality.{level_order_exact, conditional_level_order_exact, plain_text_exact, fixed_text_exact, infill_location_exact}
-use Rattle.etcs_packets.specs.declared.packet.Packet.{Packet}
 use Rattle.etcs_packets.specs.contracts.packet.Packet as packet
 use Rattle.etcs_packets.specs.contracts.packet.PacketPartialEq.TheImpl as packet_eq
 

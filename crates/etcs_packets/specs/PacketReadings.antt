@@ -4,7 +4,7 @@ use Rattle.std.specs.Prelude.{flat_map, if◌then◌else◌}
 use Rattle.etcs_vars.specs.declared.var.Var.TheVariants.{NID_PACKET, NID_VBCMK, Q_DIR, L_PACKET, OTHER_DATA}
 use Rattle.etcs_vars.specs.Reading.{Reading, spelled}
 use Rattle.etcs_vars.specs.Reading as sent
-use Rattle.etcs_rows.proofs.LengthLemmas.{length-sent}
+use Rattle.etcs_vars.proofs.Sent.{length-sent}
 use Rattle.etcs_packets.specs.PacketValues.{PacketValue, marker, typed, kept, bits_of}
 
 -- number, direction and length of a packet with so many bits behind its frame

@@ -1,6 +1,6 @@
 -- What holds of what is left of a language holds of all its bits.
-use Rattle.std.proofs.Common.{◌≡◌, ℕ, ◌+◌, ◌-◌, ◌/◌, ◌^◌, ◌<◌, ◌≤◌, Bool, true, false, List, [], ◌∷◌, ◌++◌, length, take, drop, refl, sym, ap, ◌∙◌, arith, append_assoc, ltb}
-use Rattle.std.proofs.lemmas.Bool.{lt-ltb, le-ltb}
+use Rattle.std.proofs.Common.{◌≡◌, ℕ, ◌+◌, ◌-◌, ◌/◌, ◌^◌, ◌<◌, ◌≤◌, Bool, true, List, ◌∷◌, ◌++◌, length, take, drop, refl, sym, ap, ◌∙◌, arith, append_assoc, ltb}
+use Rattle.std.proofs.lemmas.Bool.{lt-ltb}
 use Rattle.std.proofs.lemmas.List.{take-append-drop, length-append, length-take, take_at}
 use Rattle.etcs_bits.specs.Bits.{num}
 use Rattle.etcs_bits.proofs.Numbers.{length-num, num_same}
@@ -12,18 +12,8 @@ use Rattle.etcs_vars.proofs.Apart.{cut}
 use Rattle.etcs_vars.proofs.Prefixes.{take-num}
 use Rattle.etcs_vars.proofs.Walk.{Regular, spelled-append, begins_with}
 use Rattle.etcs_vars.proofs.Stepping.{quotient_below}
+use Rattle.etcs_vars.proofs.Sent.{length-sent, holder-append}
 use Rattle.etcs_reader.specs.Rests.{Starts, Goes, BeginsWith}
-
-pub length-sent : (v : Var) (n : ℕ) (r : Reading) → length (spelled ((v, n) ∷ r)) ≡ width v + length (spelled r)
-length-sent v n r = length-append (num (width v) n) (spelled r) ∙ ap (λ j. j + length (spelled r)) (length-num (width v) n)
-
-pub holder-append : (p q : Reading) (k : ℕ) → holder (p ++ q) (length (spelled p) + k) ≡ holder q k
-holder-append [] q k = ap (holder q) (let t : 0 + k ≡ k = omega arith in t)
-holder-append ((v, n) ∷ p) q k =
-    let l = length-sent v n p in
-    let t : ltb (length (spelled ((v, n) ∷ p)) + k) (width v) ≡ false = le-ltb _ _ (omega (arith, l)) in
-    let i : length (spelled ((v, n) ∷ p)) + k - width v ≡ length (spelled p) + k = omega (arith, l) in
-    rw (t, i) (holder-append p q k)
 
 -- ---- Behind p a language goes on as R.
 

@@ -1,9 +1,8 @@
 -- What is read behind other bits, of all of them.
-use Rattle.std.proofs.Common.{◌≡◌, ℕ, ◌+◌, ◌-◌, ◌≤◌, Bool, List, [], ◌++◌, length, take, drop, Some, None, sym, ap, subst, ◌∙◌, arith, append_assoc, take-add}
+use Rattle.std.proofs.Common.{◌≡◌, ℕ, ◌+◌, ◌≤◌, Bool, List, [], ◌++◌, length, take, drop, Some, None, sym, ap, subst, ◌∙◌, arith, append_assoc, take-add}
 use Rattle.std.specs.Prelude.{Option}
 use Rattle.std.proofs.lemmas.List.{append-nil, length-append, take-append-drop, length-take, length-drop}
 use Rattle.std.proofs.Math.Seq.{take-append-add}
-use Rattle.etcs_bits.specs.Bits.{part}
 use Rattle.etcs_vars.specs.declared.var.Var.{Var}
 use Rattle.etcs_vars.specs.Walking.{Residual, Refuses}
 use Rattle.etcs_vars.specs.Reading.{Reading, spelled, InLanguage, Viable, Owner}

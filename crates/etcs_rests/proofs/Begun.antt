@@ -1,7 +1,6 @@
 -- What is held of the packet that is being read, and that nothing is held where nothing was read.
 use Rattle.std.proofs.Common.{◌≡◌, ℕ, ◌+◌, ◌<◌, Bool, true, false, List, [], ◌∷◌, ◌++◌, ◌&&◌, length, Some, None, refl, sym, ap, ◌∙◌, arith, inl, inr}
 use Rattle.std.specs.Prelude.{IsTrue, Option, is_some, nat_lt, map}
-use Rattle.std.proofs.lemmas.Bool.{ltb-true}
 use Rattle.std.proofs.lemmas.List.{length-append}
 use Rattle.etcs_vars.specs.declared.var.Var.{Var}
 use Rattle.etcs_vars.specs.declared.var.Var.TheVariants.{Q_DIR}
@@ -9,6 +8,7 @@ use Rattle.etcs_vars.specs.Vars.{admits}
 use Rattle.etcs_vars.specs.Reading.{Reading, Then, spelled}
 use Rattle.etcs_vars.proofs.Prefixes.{width_pos}
 use Rattle.etcs_vars.proofs.Walk.{spelled-append}
+use Rattle.etcs_vars.proofs.Sent.{length-sent}
 use Rattle.etcs_rows.specs.Layouts.{Layout, ReadsIn}
 use Rattle.etcs_rows.specs.declared.row.Way.TheVariants.{ToTrain}
 use Rattle.etcs_rows.specs.declared.frames.Carrier.{Carrier}
@@ -23,7 +23,6 @@ use Rattle.etcs_container.specs.Contents.{Run}
 use Rattle.etcs_container.specs.Runs.{Begun, BegunRow}
 use Rattle.etcs_container.proofs.Agreement.{some_bits}
 use Rattle.etcs_reader.specs.Rests.{Goes}
-use Rattle.etcs_reader.proofs.Lifts.{length-sent}
 use Rattle.etcs_rests.specs.declared.stage.Stage.{Stage}
 use Rattle.etcs_rests.specs.declared.stage.Stage.TheVariants.{Number, Marker, Direction, Length, Row, Kept, Closed}
 use Rattle.etcs_rests.specs.Lefts.{left_of, is_stage, is_closed, RowHere, Here, HoldsAt}

@@ -1,13 +1,10 @@
 -- What was read is told by the numbers that are held of it.
-use Rattle.std.proofs.Common.{◌≡◌, ℕ, ◌+◌, Bool, true, false, List, [], ◌∷◌, ◌++◌, length, Some, None, refl, sym, ap, subst, ◌∙◌, arith, append_assoc}
-use Rattle.std.specs.Prelude.{IsTrue, Option, if◌then◌else◌}
-use Rattle.std.proofs.lemmas.List.{append-nil, length-append}
-use Rattle.etcs_vars.specs.declared.var.Var.{Var}
-use Rattle.etcs_vars.specs.Vars.{admits}
-use Rattle.etcs_vars.specs.Walking.{Residual}
-use Rattle.etcs_vars.specs.Reading.{Sent, Reading, Then, spelled, numbers}
+use Rattle.std.proofs.Common.{◌≡◌, ℕ, ◌+◌, Bool, List, ◌++◌, length, Some, refl, sym, ap, ◌∙◌, arith}
+use Rattle.std.specs.Prelude.{Option}
+use Rattle.std.proofs.lemmas.List.{length-append}
+use Rattle.etcs_vars.specs.Reading.{Reading, Then, spelled}
 use Rattle.etcs_vars.proofs.Walk.{spelled-append}
-use Rattle.etcs_rows.specs.Layouts.{Layout, whole, one, guarded, counted, looks, Reads, ReadsIn}
+use Rattle.etcs_rows.specs.Layouts.{Layout, ReadsIn}
 use Rattle.etcs_rows.specs.Places.{read_of}
 use Rattle.etcs_rows.proofs.RowLaws.{read_is}
 use Rattle.etcs_rows.specs.declared.row.Way.TheVariants.{ToTrain}

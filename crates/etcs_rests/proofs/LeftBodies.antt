@@ -8,13 +8,13 @@ use Rattle.etcs_vars.specs.Vars.{width, admits}
 use Rattle.etcs_vars.specs.Walking.{Residual}
 use Rattle.etcs_vars.specs.Reading.{Sent, Reading, Then, spelled, numbers, kept}
 use Rattle.etcs_vars.proofs.Languages.{Same, same_along, same_back, same_self, Then-same}
+use Rattle.etcs_vars.proofs.Sent.{length-sent}
 use Rattle.etcs_rows.specs.declared.row.Way.TheVariants.{ToTrain}
 use Rattle.etcs_rows.specs.declared.frames.Carrier.{Carrier}
 use Rattle.etcs_rows.specs.Layouts.{Layout, looks, ReadsIn}
 use Rattle.etcs_rows.specs.Places.{first_variable}
 use Rattle.etcs_rows.specs.Rows.{row_to}
 use Rattle.etcs_rows.specs.Frames.{is_kept}
-use Rattle.etcs_rows.proofs.LengthLemmas.{length-sent}
 use Rattle.etcs_packets.specs.PacketValues as packets
 use Rattle.etcs_packets.specs.PacketValues.{PacketValue, variables_of, bits_of, IsPacket, IsTypedOf}
 use Rattle.etcs_packets.specs.PacketReadings.{frame, packet_reading, packet_bits, length-kept}

@@ -1,7 +1,6 @@
 pub mod Holding
 pub mod Moving
 pub mod Framing
-pub mod Padding
 pub mod Values
 pub mod LeftBodies
 pub mod PacketLemmas

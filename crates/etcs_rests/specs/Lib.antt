@@ -4,4 +4,5 @@ pub mod OpenLaws
 pub mod KeptLaws
 pub mod Lefts
 pub mod Held
+pub mod ChainLaws
 pub mod LeftLaws

@@ -1,18 +1,18 @@
 -- What the reader asks of a row of a known number of bits.
-use Rattle.std.proofs.Common.{◌≡◌, ℕ, ◌+◌, ◌-◌, ◌*◌, ◌/◌, ◌%◌, ◌^◌, ◌<◌, ◌≤◌, Bool, true, List, [], ◌∷◌, ◌++◌, length, Some, None, refl, sym, ap, subst, ◌∙◌, arith}
-use Rattle.std.specs.Prelude.{◌↔◌, IsTrue, Option}
+use Rattle.std.proofs.Common.{◌≡◌, ℕ, ◌+◌, ◌-◌, ◌*◌, ◌/◌, ◌%◌, ◌^◌, ◌<◌, ◌≤◌, [], ◌∷◌, length, Some, None, refl, sym, ap, subst, ◌∙◌, arith}
+use Rattle.std.specs.Prelude.{◌↔◌, IsTrue}
 use Rattle.std.proofs.lemmas.Nat.{pow_pos, div-mul-add, shr_split, mod_below}
 use Rattle.etcs_vars.specs.declared.var.Var.{Var}
 use Rattle.etcs_vars.specs.Vars.{width, admits}
 use Rattle.etcs_vars.specs.Walking.{Residual}
 use Rattle.etcs_vars.specs.Reading.{Sent, Reading, spelled}
 use Rattle.etcs_vars.proofs.Prefixes.{admits_parts}
+use Rattle.etcs_vars.proofs.Sent.{length-sent}
 use Rattle.etcs_rows.specs.Layouts.{Layout, whole, one, guarded, counted, looks, Reads, ReadsIn}
-use Rattle.etcs_rows.specs.Places.{first_variable, after_any, after_number, onto}
-use Rattle.etcs_rows.specs.Lengths.{LengthsBy, FirstWithin, FitsWithin}
+use Rattle.etcs_rows.specs.Places.{first_variable, after_any, onto}
+use Rattle.etcs_rows.specs.Lengths.{FirstWithin, FitsWithin}
 use Rattle.etcs_rows.proofs.Behind.{follows}
-use Rattle.etcs_rows.proofs.LengthLemmas.{length-sent}
-use Rattle.etcs_rows.proofs.RowWalkLemmas.{may_from, may_only, MayHave}
+use Rattle.etcs_rows.proofs.RowWalkLemmas.{may_from, may_only}
 use Rattle.etcs_reader.specs.Rests.{Starts, Goes, BeginsWith, Ended}
 
 pub row_begins_with : (row : Layout) (len : ℕ) (x : Var) → first_variable row ≡ Some x → BeginsWith (ReadsIn row len) x

@@ -48,6 +48,7 @@ pub row_found : (o : Option Layout) (table : List RowItem) → Some table ≡ op
 row_found None table h = absurd cc
 row_found (Some row) table h = let e : items row ≡ table = cc in ap (λ (r : Layout). Some r) (sym (layout-items row)) ∙ ap (λ (t : List RowItem). Some (layout t)) e
 
+-- no table, no row
 pub no_row : (o : Option Layout) → ◌≡◌ {A = Option (List RowItem)} None (option_map items o) → o ≡ None
 no_row None h = refl
 no_row (Some row) h = absurd cc

@@ -2,13 +2,11 @@
 use Rattle.std.proofs.Common.{◌≡◌, ℕ, zero, suc, ◌+◌, ◌≤◌, Bool, true, false, [], ◌∷◌, ◌++◌, length, None, refl, sym, ap, ◌∙◌}
 use Rattle.std.specs.Prelude.{◌↔◌, IsTrue, MatchBool}
 use Rattle.std.proofs.lemmas.List.{length-append}
-use Rattle.etcs_bits.specs.Bits.{num}
-use Rattle.etcs_bits.proofs.Numbers.{length-num}
-use Rattle.etcs_vars.specs.declared.var.Var.{Var}
 use Rattle.etcs_vars.specs.Vars.{width}
 use Rattle.etcs_vars.specs.Reading.{Reading, spelled, numbers, Then, Times}
 use Rattle.etcs_vars.proofs.Walk.{spelled-append}
 use Rattle.etcs_vars.proofs.Languages.{Same}
+use Rattle.etcs_vars.proofs.Sent.{length-sent}
 use Rattle.etcs_rows.specs.Layouts.{Layout, whole, one, guarded, counted, passes, looks, Reads, Lengths}
 use Rattle.etcs_rows.specs.Places.{append, iterate, onto}
 use Rattle.etcs_rows.specs.Sums.{Plus, SumOf}
@@ -62,9 +60,6 @@ of_case true P Q A B h k = h
 of_case false P Q A B h k = k
 
 -- ---- The lengths of a row behind a number.
-
-pub length-sent : (v : Var) (n : ℕ) (r : Reading) → length (spelled ((v, n) ∷ r)) ≡ width v + length (spelled r)
-length-sent v n r = length-append (num (width v) n) (spelled r) ∙ ap (λ j. j + length (spelled r)) (length-num (width v) n)
 
 pub lengths_by : (row : Layout) (n : ℕ) → SameSet (LengthsBy row n) (LengthOf (ReadsBy row n))
 unfolding LengthsBy

@@ -10,12 +10,13 @@ use Rattle.etcs_vars.specs.Vars.{width, admits}
 use Rattle.etcs_vars.specs.Reading.{Reading, spelled, Viable, Owner}
 use Rattle.etcs_vars.proofs.Walk.{Regular, NextIs, May, viable_from, viable_only, owner}
 use Rattle.etcs_vars.proofs.Prefixes.{take-num, admits_parts}
+use Rattle.etcs_vars.proofs.Sent.{length-sent}
 use Rattle.etcs_rows.specs.Layouts.{Layout, whole, one, guarded, counted, looks, Reads, ReadsIn, Lengths}
 use Rattle.etcs_rows.specs.Places.{onto, first_variable, after_any, after_number}
 use Rattle.etcs_rows.specs.Lengths.{LengthsBy, FirstWithin, FitsWithin, is_free}
 use Rattle.etcs_rows.proofs.OneReading.{Reads-agree, Reads-fit}
 use Rattle.etcs_rows.proofs.Behind.{ReadsBy, by_number, head_number, tail_of}
-use Rattle.etcs_rows.proofs.LengthLemmas.{lengths_by, length-sent, lengths-onto, lengths_whole, nothing_left}
+use Rattle.etcs_rows.proofs.LengthLemmas.{lengths_by, lengths-onto, lengths_whole, nothing_left}
 use Rattle.etcs_rows.proofs.SumLemmas.{free_fits}
 
 pub regular : (row : Layout) (len : ℕ) → Regular (ReadsIn row len)

@@ -277,9 +277,6 @@ fits_none c low high m settled none h =
     let gone = settled none in
     let h' = rw (gone.0, gone.1) at h in h'
 
-pub not_begun : (items rest : List RowItem) (item : RowItem) → items ≡ item ∷ rest → begins (layout (item ∷ rest)) ≡ false → begins (layout items) ≡ false
-not_begun items rest item e h = rw e h
-
 -- ---- A variable that no group looks at.
 
 -- so it may be any number that it admits

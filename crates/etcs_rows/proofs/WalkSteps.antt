@@ -11,6 +11,7 @@ use Rattle.etcs_vars.specs.Vars.{width}
 use Rattle.etcs_vars.specs.Reading.{Reading, spelled, InLanguage, Viable}
 use Rattle.etcs_vars.proofs.Prefixes.{width_pos}
 use Rattle.etcs_vars.proofs.Stepping.{more_fits, next_bits}
+use Rattle.etcs_vars.proofs.Sent.{length-sent}
 use Rattle.etcs_rows.specs.declared.walk.Step.{Step}
 use Rattle.etcs_rows.specs.declared.walk.Step.TheVariants.{More, Number, Whole}
 use Rattle.etcs_rows.specs.declared.walk.Stopped.{Stopped}
@@ -19,7 +20,6 @@ use Rattle.etcs_rows.specs.Layouts.{Layout, whole, one, guarded, counted, looks,
 use Rattle.etcs_rows.specs.Lengths.{FitsWithin}
 use Rattle.etcs_rows.specs.Places.{first_variable, after_any, after_number}
 use Rattle.etcs_rows.specs.Walks.{WalkValue, WalkKept, language, Ends, Moves, Holds, Steps, Walks}
-use Rattle.etcs_rows.proofs.LengthLemmas.{length-sent}
 use Rattle.etcs_rows.proofs.RowWalkLemmas.{viable_fits, fits_viable, owner_of_row, passed, ended}
 
 abbrev pub value_of : Layout → ℕ → List Bool → Option Var → WalkValue

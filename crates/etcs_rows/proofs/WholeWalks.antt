@@ -1,7 +1,6 @@
 -- What a walk says of what is left of a row holds of all bits of the row.
-use Rattle.std.proofs.Common.{◌≡◌, ℕ, ◌+◌, ◌-◌, ◌≤◌, Bool, List, [], ◌∷◌, ◌++◌, length, Some, None, true, false, refl, sym, ap, subst, ◌∙◌, arith, append_assoc, ltb}
+use Rattle.std.proofs.Common.{◌≡◌, ℕ, ◌-◌, ◌≤◌, Bool, List, [], ◌∷◌, ◌++◌, length, Some, None, true, false, refl, sym, ap, subst, ◌∙◌, arith, append_assoc}
 use Rattle.std.specs.Prelude.{◌↔◌, IsTrue, if◌then◌else◌}
-use Rattle.std.proofs.lemmas.Bool.{le-ltb}
 use Rattle.std.proofs.lemmas.List.{length-append}
 use Rattle.etcs_bits.specs.Bits.{num}
 use Rattle.etcs_bits.proofs.Numbers.{length-num, num_same}
@@ -11,11 +10,11 @@ use Rattle.etcs_vars.specs.Reading.{Reading, spelled, holder, InLanguage, Viable
 use Rattle.etcs_vars.proofs.Apart.{cut}
 use Rattle.etcs_vars.proofs.Prefixes.{admits_parts}
 use Rattle.etcs_vars.proofs.Walk.{spelled-append}
+use Rattle.etcs_vars.proofs.Sent.{length-sent, holder-append}
 use Rattle.etcs_rows.specs.Layouts.{Layout, whole, one, guarded, counted, looks, Reads, ReadsIn}
 use Rattle.etcs_rows.specs.Places.{onto, after_number}
 use Rattle.etcs_rows.specs.Walks.{ReadTo, WalksWhole}
 use Rattle.etcs_rows.proofs.Behind.{follows, looks-onto}
-use Rattle.etcs_rows.proofs.LengthLemmas.{length-sent}
 use Rattle.etcs_rows.proofs.PlaceLemmas.{sound_parts}
 
 -- ---- One variable.
@@ -83,14 +82,6 @@ back (guarded g group rest) left len bits ((v, n) ∷ p) q look (mid, f, a, wide
 back (counted group rest) left len bits ((v, n) ∷ p) q look (mid, f, a, wide, to) l = absurd cc
 
 -- ---- The law.
-
-pub holder-append : (p q : Reading) (k : ℕ) → holder (p ++ q) (length (spelled p) + k) ≡ holder q k
-holder-append [] q k = ap (holder q) (let t : 0 + k ≡ k = omega arith in t)
-holder-append ((v, n) ∷ p) q k =
-    let l = length-sent v n p in
-    let t : ltb (length (spelled ((v, n) ∷ p)) + k) (width v) ≡ false = le-ltb _ _ (omega (arith, l)) in
-    let i : length (spelled ((v, n) ∷ p)) + k - width v ≡ length (spelled p) + k = omega (arith, l) in
-    rw (t, i) (holder-append p q k)
 
 module _ (row left : Layout) (len bits : ℕ) (p : Reading) (t : List Bool) (look : IsTrue (looks None row)) (to : ReadTo row len p left bits) where
   viable : Viable (ReadsIn row len) (spelled p ++ t) ↔ Viable (ReadsIn left bits) t

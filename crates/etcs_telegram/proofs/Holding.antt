@@ -28,7 +28,7 @@ use Rattle.etcs_telegram.specs.declared.phase.Phase.TheVariants.{Header, Packets
 use Rattle.etcs_telegram.specs.Telegrams.{header_row, pad_bits, TelegramLanguage}
 use Rattle.etcs_telegram.specs.Headers.{labelled}
 use Rattle.etcs_telegram.specs.Phases.{is_going}
-use Rattle.etcs_telegram.specs.ChainLaws.{chain_first}
+use Rattle.etcs_rests.specs.ChainLaws.{chain_first}
 use Rattle.etcs_telegram.specs.Lefts.{FillBy, left_at, is_open, stands_at, HoldsIn}
 use Rattle.etcs_telegram.specs.RestLaws.{rest_begins, opens}
 use Rattle.etcs_telegram.specs.Readers.{ReaderValue, reading, IsReading}

@@ -10,7 +10,7 @@ use Rattle.etcs_vars.specs.Vars.{width, ranges, inside, begins}
 use Rattle.etcs_vars.specs.Reading.{Reading, spelled, kept}
 use Rattle.etcs_rows.specs.declared.frames.Carrier.TheVariants as carrier
 use Rattle.etcs_container.specs.Contents.{closing, Run}
-use Rattle.etcs_rows.proofs.LengthLemmas.{length-sent}
+use Rattle.etcs_vars.proofs.Sent.{length-sent}
 use Rattle.std.proofs.lemmas.List.Elements.{All-nil}
 use Rattle.etcs_vars.proofs.Prefixes.{ordered, ranges_ordered, admits_parts, admits_from}
 use Rattle.etcs_vars.proofs.Stepping.{Opens, Tested, ranges_tested}

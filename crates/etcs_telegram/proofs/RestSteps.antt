@@ -11,7 +11,6 @@ use Rattle.etcs_vars.specs.Reading.{Sent, Reading, spelled, kept, Viable}
 use Rattle.etcs_vars.specs.Walking.{Residual}
 use Rattle.etcs_vars.proofs.Walk.{spelled-append}
 use Rattle.etcs_vars.proofs.Languages.{Same, same_self, same_along}
-use Rattle.etcs_container.proofs.Chains.{Chain}
 use Rattle.etcs_container.proofs.Turns.{residual_same}
 use Rattle.etcs_reader.specs.Rests.{Starts, Goes}
 use Rattle.etcs_reader.specs.Fields.{ReadsFields, first_of}
@@ -28,7 +27,7 @@ use Rattle.etcs_telegram.specs.declared.phase.Phase.{Phase}
 use Rattle.etcs_telegram.specs.declared.phase.Phase.TheVariants.{Header, Packets, Fill, Pad, Whole}
 use Rattle.etcs_telegram.specs.Telegrams.{header_row, pad_bits}
 use Rattle.etcs_telegram.specs.Phases.{var_at, after, after_fill, PadLeft, FillLeft}
-use Rattle.etcs_telegram.specs.ChainLaws.{chain_first, chain_goes, chain_starts, chain_viable, chain_along, chain_none}
+use Rattle.etcs_rests.specs.ChainLaws.{Chain, chain_first, chain_goes, chain_starts, chain_viable, chain_along, chain_none}
 use Rattle.etcs_telegram.specs.Lefts.{FillBy, PacketsBehind, left_at, next_at, is_open, stands_at, behind_packets}
 use Rattle.etcs_telegram.specs.RestLaws.{opens}
 use Rattle.etcs_telegram.proofs.PhaseSteps.{by_test, below_false, below_true, fill_read, none_left}

@@ -24,7 +24,7 @@ use Rattle.etcs_telegram.specs.declared.phase.Phase.TheVariants.{Header, Packets
 use Rattle.etcs_telegram.specs.Telegrams.{header_row, pad_bits, closed_reading}
 use Rattle.etcs_telegram.specs.Headers.{labelled}
 use Rattle.etcs_telegram.specs.Phases.{behind_header}
-use Rattle.etcs_telegram.specs.ChainLaws.{chain_first}
+use Rattle.etcs_rests.specs.ChainLaws.{chain_first}
 use Rattle.etcs_telegram.specs.Lefts.{FillBy, left_at, HoldsIn, Filled, stands_at, is_open, may_ask}
 use Rattle.etcs_telegram.specs.Stages.{so_far}
 use Rattle.etcs_telegram.proofs.HeaderLemmas.{length-spelled, bit_count}

@@ -6,7 +6,7 @@ use Rattle.etcs_vars.specs.Reading.{Reading, Then, spelled, kept}
 use Rattle.etcs_vars.specs.Walking.{Residual}
 use Rattle.etcs_reader.specs.Fields.{ReadsFields, first_of}
 use Rattle.etcs_packets.specs.PacketValues.{PacketValue, IsPacket}
-use Rattle.etcs_container.proofs.Chains.{Chain}
+use Rattle.etcs_rests.specs.ChainLaws.{Chain}
 use Rattle.etcs_rests.specs.declared.left.PacketsLeft.{PacketsLeft}
 use Rattle.etcs_rests.specs.Lefts.{next_of, left_of, ahead, is_closed, is_telegram, may_grow, HoldsAt}
 use Rattle.etcs_telegram.specs.declared.size.Size.{Size}

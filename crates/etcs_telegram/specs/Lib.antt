@@ -3,7 +3,6 @@ pub mod Headers
 pub mod Writing
 pub mod Phases
 pub mod Readers
-pub mod ChainLaws
 pub mod Lefts
 pub mod RestLaws
 pub mod Views

@@ -27,7 +27,7 @@ use Rattle.etcs_telegram.specs.declared.phase.Phase.{Phase}
 use Rattle.etcs_telegram.specs.declared.phase.Phase.TheVariants.{Header, Packets, Fill, Pad, Whole}
 use Rattle.etcs_telegram.specs.Telegrams.{header_row, pad_bits}
 use Rattle.etcs_telegram.specs.Phases.{PadLeft, FillLeft}
-use Rattle.etcs_telegram.specs.ChainLaws.{chain_regular, chain_begins}
+use Rattle.etcs_rests.specs.ChainLaws.{chain_regular, chain_begins}
 use Rattle.etcs_telegram.specs.Lefts.{FillBy, PacketsBehind, left_at, next_at, is_open, stands_at, HoldsIn, Follows}
 
 -- ---- FILL and PAD.

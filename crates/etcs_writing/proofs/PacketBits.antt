@@ -14,10 +14,11 @@ use Rattle.etcs_vars.specs.Reading as sent
 use Rattle.etcs_vars.proofs.Prefixes.{admits_parts}
 use Rattle.etcs_vars.proofs.Stepping.{next_number}
 use Rattle.etcs_vars.proofs.Walk.{spelled-append}
+use Rattle.etcs_vars.proofs.Sent.{length-sent}
 use Rattle.etcs_rows.specs.declared.row.Way.TheVariants.{ToTrain}
 use Rattle.etcs_rows.specs.Layouts.{ROW_LIMIT}
 use Rattle.etcs_rows.specs.Frames.{is_kept}
-use Rattle.etcs_rows.proofs.LengthLemmas.{length-sent, length-spelled}
+use Rattle.etcs_rows.proofs.LengthLemmas.{length-spelled}
 use Rattle.etcs_flat.specs.FlatLaws.{none_both, number_fine}
 use Rattle.etcs_flat.specs.Others.{OtherParts}
 use Rattle.etcs_packets.specs.declared.packet.Packet.{Packet}

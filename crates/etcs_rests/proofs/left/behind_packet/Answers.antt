@@ -1,4 +1,4 @@
-use Rattle.etcs_rests.proofs.Padding.{padded}
+use Rattle.etcs_container.proofs.Padding.{padded}
 use Rattle.etcs_rests.proofs.left.behind_packet.Goals as goal
 
 pub returns-then-room-le7-clause-same : goal.returns-then-room-le7-clause-same

@@ -2,7 +2,7 @@ use Rattle.std.proofs.Common.{◌*◌, ◌≤◌, [], ◌∷◌, length, arith}
 use Rattle.etcs_bits.proofs.Positions.{length-bits}
 use Rattle.etcs_vars.specs.Reading.{Reading, spelled}
 use Rattle.etcs_vars.proofs.Prefixes.{width-le}
-use Rattle.etcs_rows.proofs.LengthLemmas.{length-sent}
+use Rattle.etcs_vars.proofs.Sent.{length-sent}
 use Rattle.etcs_vectors.proofs.writes.push_reading.Goals as goal
 
 -- no variable has more than 64 bits

@@ -4,7 +4,7 @@ use Rattle.etcs_rows.specs.Layouts.{layout}
 use Rattle.etcs_rows.specs.Rows.{row_to}
 use Rattle.etcs_rows.proofs.FrameLemmas.{row_found}
 use Rattle.etcs_packets.specs.PacketValues.{packet_value}
-use Rattle.etcs_container.proofs.Typed.{row_lost}
+use Rattle.etcs_rows.proofs.FrameLemmas.{no_row}
 use Rattle.etcs_refs.proofs.KindBits.{one_value, same_value, is_typed, is_kept}
 use Rattle.etcs_refs.proofs.packet_ref.PacketRef.to_packet.Goals as goal
 
@@ -20,7 +20,7 @@ typed_packet-requires c =
 pub kept_packet-requires : goal.kept_packet-requires
 kept_packet-requires c =
     let e = rw c.in-None.is at c.row_of.ensures in
-    is_kept c.self.inside.bits c.nid-nid.result c.self.invariant (λ v h s. c.nid-nid.ensures v h (s ∙ c.self.view_is)) c.if-nid-eq0.false (row_lost (row_to ToTrain c.nid-nid.result) e)
+    is_kept c.self.inside.bits c.nid-nid.result c.self.invariant (λ v h s. c.nid-nid.ensures v h (s ∙ c.self.view_is)) c.if-nid-eq0.false (no_row (row_to ToTrain c.nid-nid.result) e)
 
 pub returns-in-Some-clause-same : goal.returns-in-Some-clause-same
 returns-in-Some-clause-same c = same_value _ c.typed_packet.result c.self.inside.bits c.args.self.now c.typed_packet.ensures.whole c.typed_packet.ensures.bits c.self.view_is

@@ -6,8 +6,11 @@ use Rattle.etcs_vars.specs.Reading.{Sent, Reading, spelled, Viable}
 use Rattle.etcs_vars.specs.Walking.{Residual}
 use Rattle.etcs_vars.proofs.Apart.{Agree, Agree-append, AllFit-append}
 use Rattle.etcs_vars.proofs.Walk.{Regular, spelled-append}
-use Rattle.etcs_container.proofs.Chains.{Chain}
 use Rattle.etcs_reader.specs.Rests.{Starts, Goes, BeginsWith}
+
+-- a reading a of P, and behind it one of Q a
+abbrev pub Chain : (Reading → Type 0) → (Reading → Reading → Type 0) → Reading → Type 0
+Chain P Q r = (a : Reading) × (b : Reading) × (r ≡ a ++ b) × P a × Q a b
 
 -- in front of others, a reading that agrees with one that begins with p begins with p where both do
 begins_alike : (p a b c q : Reading) → Agree a (p ++ c) → a ++ b ≡ p ++ q → (a' : Reading) × (a ≡ p ++ a') × (a' ++ b ≡ q)

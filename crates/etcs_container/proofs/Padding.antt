@@ -5,8 +5,8 @@ use Rattle.etcs_vars.specs.Reading.{Reading, spelled}
 use Rattle.etcs_vars.proofs.Languages.{Same}
 use Rattle.etcs_rows.specs.declared.frames.Carrier.TheVariants.{Message}
 use Rattle.etcs_packets.specs.PacketReadings.{packet_bits}
-use Rattle.etcs_packets.specs.PacketValues.{PacketValue, bits_of}
-use Rattle.etcs_container.specs.Contents.{Carries, Run, RunOf}
+use Rattle.etcs_packets.specs.PacketValues.{bits_of}
+use Rattle.etcs_container.specs.Contents.{Carries, Run}
 use Rattle.etcs_container.proofs.Agreement.{some_bits}
 use Rattle.etcs_container.proofs.RunSteps.{behind}
 

@@ -1,21 +1,12 @@
--- Where a row begins.
-use Rattle.std.proofs.Common.{◌≡◌, ℕ, ◌-◌, [], Some, None, refl, arith}
-use Rattle.std.specs.Prelude.{IsTrue}
+-- How long the row of a packet is.
+use Rattle.std.proofs.Common.{◌≡◌, ℕ, ◌-◌, [], Some, refl, arith}
 use Rattle.etcs_vars.specs.Reading.{Reading}
 use Rattle.etcs_rows.specs.declared.row.Way.TheVariants.{ToTrain}
 use Rattle.etcs_rows.specs.declared.frames.Carrier.{Carrier}
-use Rattle.etcs_rows.specs.Layouts.{Layout, whole, one, guarded, counted, looks, Lengths}
+use Rattle.etcs_rows.specs.Layouts.{Layout, Lengths}
 use Rattle.etcs_rows.specs.Rows.{row_to}
-use Rattle.etcs_rows.proofs.PlaceLemmas.{Open}
 use Rattle.etcs_container.specs.Contents.{AfterLength}
 use Rattle.etcs_container.proofs.Turns.{row_body}
-
--- a table's row is whole or begins with a variable
-pub open_row : (row : Layout) → IsTrue (looks None row) → Open row
-open_row whole look = tt
-open_row (one v rest) look = tt
-open_row (guarded g group rest) look = absurd cc
-open_row (counted group rest) look = absurd cc
 
 -- the row has a spelling of so many bits
 pub row_lengths : (c : Carrier) (nid room l : ℕ) (row : Layout) → row_to ToTrain nid ≡ Some row → ((r : Reading) × AfterLength c nid room l r) → Lengths row [] (l - 23)

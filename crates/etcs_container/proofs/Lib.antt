@@ -9,5 +9,4 @@ pub mod OneSpelling
 pub mod Turns
 pub mod Wholes
 pub mod BodyBegins
-pub mod PlaceReads
 pub mod Packets

@@ -1,3 +1,4 @@
+pub mod RowBits
 pub mod Holding
 pub mod Moving
 pub mod Framing

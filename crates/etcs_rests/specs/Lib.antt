@@ -5,4 +5,5 @@ pub mod KeptLaws
 pub mod Lefts
 pub mod Held
 pub mod ChainLaws
+pub mod RowBits
 pub mod LeftLaws

@@ -1,15 +1,11 @@
 //! Packets that are counted as they are read.
 
-ghost use Rattle.std.specs.Prelude.{◌≡◌, ℕ, ◌≤◌, ◌+◌, ◌%◌, ◌^◌, Bool, List, IsTrue, length};
-ghost use Rattle.etcs_bits.specs.Bits.{part};
-ghost use Rattle.etcs_vars.specs.Reading.{Reading, spelled};
-ghost use Rattle.etcs_rows.specs.Layouts.{layout, ReadsIn};
-ghost use Rattle.etcs_packets.specs.PacketValues.{PacketValue};
+ghost use Rattle.std.specs.Prelude.{◌≡◌, ◌%◌, ◌^◌, length};
 
+use crate::row_bits::row_reads;
 use crate::store::PacketStore;
 use etcs_bits::BitSlice;
-use etcs_container::parts::number_in;
-use etcs_rows::{Place, Row, Way, row_of};
+use etcs_rows::{Way, row_of};
 use etcs_vars::Var;
 use std::alloc::AllocError;
 
@@ -18,32 +14,6 @@ use std::alloc::AllocError;
 pub struct PacketCount {
     /// Wraps round behind the largest `usize`, which no room of packets reaches.
     pub packets: usize,
-}
-
-/// Whether these bits are a row's.
-fn row_reads(row: Row, bits: &BitSlice<'_>) -> bool
-    requires small { length bits.now ≤ 8191 }
-    ensures { IsTrue result → (q : Reading) × ReadsIn (layout row.items.now) (length bits.now) q × (spelled q ≡ bits.now) }
-{
-    let end = bits.len();
-    let mut place = Place::start(row);
-    let mut at = 0;
-    while at < end {
-        let Some(var) = place.var() else {
-            return false;
-        };
-        let count = var.width();
-        if count > end - at {
-            return false;
-        }
-        let number = number_in(bits, at, count);
-        if !var.admits(number) {
-            return false;
-        }
-        place.pass(number);
-        at += count;
-    }
-    place.var().is_none()
 }
 
 impl PacketStore for PacketCount {

@@ -10,6 +10,7 @@ mod left;
 mod list;
 mod packets;
 mod row;
+mod row_bits;
 mod stage;
 mod store;
 

@@ -20,7 +20,7 @@ pub enum Test {
 
 impl Test {
     /// Whether a number passes.
-    pub(crate) fn passes(self, number: u64) -> bool
+    pub fn passes(self, number: u64) -> bool
         ensures { result ≡ passes self number }
     {
         match self {

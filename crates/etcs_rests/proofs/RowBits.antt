@@ -1,6 +1,6 @@
 -- Readings of parts of a row, one behind the other.
 use Rattle.std.proofs.Common.{◌≡◌, ℕ, suc, ◌+◌, ◌≤◌, Bool, true, false, List, [], ◌∷◌, ◌++◌, length, Some, None, refl, sym, ap, ◌∙◌, subst, arith, leb}
-use Rattle.std.specs.Prelude.{IsTrue, IfSome, Option, if◌then◌else◌}
+use Rattle.std.specs.Prelude.{IsTrue, Option, if◌then◌else◌}
 use Rattle.std.proofs.lemmas.Bool.{leb-true}
 use Rattle.std.proofs.Math.Seq.{take-length}
 use Rattle.etcs_bits.specs.Bits.{num, value, part, number_at}
@@ -24,6 +24,9 @@ found_by false s w n x b e h = absurd cc
 
 pub found_inside : (s w n : ℕ) (b : List Bool) → number_at s w b ≡ Some n → s + w ≤ length b
 found_inside s w n b e = found_by (leb (s + w) (length b)) s w n (value (part s w b)) b refl e
+
+pub ends_none : (L : Reading → Type 0) (b : List Bool) (at : ℕ) → at ≤ length b → L [] → EndsAt L b at at
+ends_none L b at le l = record { reading = []; reads = l; long = omega arith; inside = le; bits = refl }
 
 pub ends_then : (P Q : Reading → Type 0) (b : List Bool) (at mid end : ℕ) → EndsAt P b at mid → EndsAt Q b mid end → EndsAt (Then P Q) b at end
 ends_then P Q b at mid end x y =
@@ -74,10 +77,6 @@ pub ends_again : (P : Reading → Type 0) (times n : ℕ) (b : List Bool) (at mi
 ends_again P times n b at mid end is x y =
     let t = ends_then P (Times n P) b at mid end x y in
     subst (λ k. EndsAt (Times k P) b at end) (sym is) (record { reading = t.reading; reads = t.reads; long = t.long; inside = t.inside; bits = t.bits })
-
-pub some_along : (P Q : ℕ → Type 0) (o : Option ℕ) → ((n : ℕ) → P n → Q n) → IfSome o P → IfSome o Q
-some_along P Q None h s = s
-some_along P Q (Some n) h s = h n s
 
 -- all bits of a row
 pub ends_whole : (row : Layout) (b : List Bool) (end : ℕ) → IsTrue (looks None row) → end ≡ length b → EndsAt (ReadsBy row 0) b 0 end → (q : Reading) × ReadsIn row (length b) q × (spelled q ≡ b)

@@ -1,6 +1,6 @@
 //! Rows whose bits are all there.
 
-ghost use Rattle.std.specs.Prelude.{◌≡◌, ◌≤◌, IsTrue, IfSome, length};
+ghost use Rattle.std.specs.Prelude.{◌≡◌, ◌≤◌, ◌<◌, ℕ, IsTrue, IfSome, length};
 ghost use Rattle.etcs_vars.specs.Reading.{Reading, Times, spelled};
 ghost use Rattle.etcs_rows.specs.Layouts.{layout, ReadsIn};
 ghost use Rattle.etcs_rows.proofs.Behind.{ReadsBy};
@@ -9,58 +9,99 @@ ghost use Rattle.etcs_rests.specs.RowBits.{EndsAt};
 use etcs_bits::BitSlice;
 use etcs_rows::{Row, RowItem};
 
-/// The bit behind these items, which begin at the bit `at`, behind a variable whose number is `before`. `None` where a
-/// number isn't admitted or bits are missing.
+/// What is left of a row's items, behind a variable whose number is `before`, and the bit at which it begins.
+#[derive(Clone, Copy)]
+struct Spot {
+    items: &'static [RowItem],
+    before: u64,
+    at: usize,
+}
+
+/// What is left behind the first item, which is there. `None` where a number isn't admitted or bits are missing.
 #[cycle(ends)]
-fn end_of(items: &'static [RowItem], before: u64, bits: &BitSlice<'_>, at: usize) -> Option<usize>
+#[inline(always)]
+fn step(spot: Spot, bits: &BitSlice<'_>) -> Option<Spot>
     requires small { length bits.now ≤ 8191 }
-    requires inside { at ≤ length bits.now }
-    ensures { IfSome result (λ end. EndsAt (ReadsBy (layout items.now) before) bits.now at end) }
+    requires inside { spot.at ≤ length bits.now }
+    ensures onward { IfSome result (λ t. (end : ℕ) → EndsAt (ReadsBy (layout t.items.now) t.before) bits.now t.at end → EndsAt (ReadsBy (layout spot.items.now) spot.before) bits.now spot.at end) }
+    ensures inside { IfSome result (λ t. t.at ≤ length bits.now) }
+    ensures shorter { IfSome result (λ t. length t.items.now < length spot.items.now) }
 {
-    match items.split_first() {
-        None => Some(at),
-        Some((RowItem::One(var), rest)) => {
+    let Spot { before, at, .. } = spot;
+    match spot.items.split_first() {
+        None => None,
+        Some((RowItem::One(var), items)) => {
             let width = var.width();
             let number = bits.number(at, width)?;
             if !var.admits(number) {
                 return None;
             }
-            end_of(rest, number, bits, at + width)
+            let at = at + width;
+            Some(Spot {
+                items,
+                before: number,
+                at,
+            })
         }
         Some((RowItem::When(guard, count), rest)) => {
-            let (group, rest) = rest.split_at(rest.len().min(*count));
+            let (group, items) = rest.split_at(rest.len().min(*count));
             if !guard.test.passes(before) {
-                return end_of(rest, before, bits, at);
+                return Some(Spot { items, before, at });
             }
-            let behind = end_of(group, before, bits, at)?;
-            end_of(rest, before, bits, behind)
+            let at = end_of(
+                Spot {
+                    items: group,
+                    before,
+                    at,
+                },
+                bits,
+            )?;
+            Some(Spot { items, before, at })
         }
         Some((RowItem::Many(count), rest)) => {
-            let (group, rest) = rest.split_at(rest.len().min(*count));
-            let behind = end_of_all(group, before, before, bits, at)?;
-            end_of(rest, before, bits, behind)
+            let (group, items) = rest.split_at(rest.len().min(*count));
+            let at = end_of_all(
+                Spot {
+                    items: group,
+                    before,
+                    at,
+                },
+                before,
+                bits,
+            )?;
+            Some(Spot { items, before, at })
         }
     }
 }
 
+/// The bit behind the items. `None` where a number isn't admitted or bits are missing.
+#[cycle(ends)]
+fn end_of(start: Spot, bits: &BitSlice<'_>) -> Option<usize>
+    requires small { length bits.now ≤ 8191 }
+    requires inside { start.at ≤ length bits.now }
+    ensures { IfSome result (λ end. EndsAt (ReadsBy (layout start.items.now) start.before) bits.now start.at end) }
+{
+    let mut spot = start;
+    while !spot.items.is_empty() {
+        spot = step(spot, bits)?;
+    }
+    Some(spot.at)
+}
+
 /// The same of items that stand so many times one behind the other.
 #[cycle(ends)]
-fn end_of_all(
-    items: &'static [RowItem],
-    times: u64,
-    before: u64,
-    bits: &BitSlice<'_>,
-    at: usize,
-) -> Option<usize>
+fn end_of_all(start: Spot, times: u64, bits: &BitSlice<'_>) -> Option<usize>
     requires small { length bits.now ≤ 8191 }
-    requires inside { at ≤ length bits.now }
-    ensures { IfSome result (λ end. EndsAt (Times times (ReadsBy (layout items.now) before)) bits.now at end) }
+    requires inside { start.at ≤ length bits.now }
+    ensures { IfSome result (λ end. EndsAt (Times times (ReadsBy (layout start.items.now) start.before)) bits.now start.at end) }
 {
-    if times == 0 {
-        return Some(at);
+    let mut at = start.at;
+    let mut left = times;
+    while left > 0 {
+        at = end_of(Spot { at, ..start }, bits)?;
+        left -= 1;
     }
-    let behind = end_of(items, before, bits, at)?;
-    end_of_all(items, times - 1, before, bits, behind)
+    Some(at)
 }
 
 /// Whether these bits are a row's.
@@ -68,7 +109,12 @@ pub(crate) fn row_reads(row: Row, bits: &BitSlice<'_>) -> bool
     requires small { length bits.now ≤ 8191 }
     ensures { IsTrue result → (q : Reading) × ReadsIn (layout row.items.now) (length bits.now) q × (spelled q ≡ bits.now) }
 {
-    match end_of(row.items, 0, bits, 0) {
+    let start = Spot {
+        items: row.items,
+        before: 0,
+        at: 0,
+    };
+    match end_of(start, bits) {
         Some(end) => end == bits.len(),
         None => false,
     }

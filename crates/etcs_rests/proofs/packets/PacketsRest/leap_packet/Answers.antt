@@ -4,12 +4,15 @@ use Rattle.etcs_bits.specs.Bits.{bits, part}
 use Rattle.etcs_bits.proofs.Lists.{length-part}
 use Rattle.etcs_packets.specs.PacketReadings.{packet_reading}
 use Rattle.etcs_container.proofs.Fits.{run_some}
-use Rattle.etcs_rests.proofs.LeapLemmas.{whole_at, leapt_held, packet_viable}
+use Rattle.etcs_rests.proofs.LeapLemmas.{WholeAt, whole_at, leapt_held, packet_viable}
 use Rattle.etcs_rests.specs.declared.packets.PacketsRest.{PacketsRest, held-type}
+use Rattle.etcs_rests.proofs.packets.PacketsRest.leap_packet.Given.{Over}
 use Rattle.etcs_rests.proofs.packets.PacketsRest.leap_packet.Goals as goal
+use Rattle.etcs_rests.proofs.packets.PacketsRest.leap_packet.Goals.{In-Ok-true}
 
-pub invariant_of-self : goal.invariant_of-self
-invariant_of-self g c =
+-- the packet that lies whole in the piece
+taken : (g : Over) (c : In-Ok-true g) → WholeAt c.args.self.now.left.carrier (g.S.PacketStore.holds c.args.self.now.store) (g.S.PacketStore.holds c.whole.new.self) (bits c.args.piece.now) c.args.at c.in-Some.len
+taken g c =
     let s = c.args.self.now.left in
     let xs = bits c.args.piece.now in
     let l = c.in-Some.ensures in
@@ -19,7 +22,15 @@ invariant_of-self g c =
     let H = g.S.PacketStore.holds c.args.self.now.store in
     let H' = g.S.PacketStore.holds c.whole.new.self in
     let (v, (t, (is, b))) = e.packet yes in
-    let w = whole_at s.carrier H H' xs c.args.at c.in-Some.len c.number_at-nid.result c.number_at-dir.result l.least l.within c.number_at-nid.ensures.bits c.number_at-dir.ensures.bits l.bits (λ vs u h t' is' b'. e.held yes vs u h t' is' (b' ∙ sym same)) v t is (b ∙ same) in
+    whole_at s.carrier H H' xs c.args.at c.in-Some.len c.number_at-nid.result c.number_at-dir.result l.least l.within c.number_at-nid.ensures.bits c.number_at-dir.ensures.bits l.bits (λ vs u h t' is' b'. e.held yes vs u h t' is' (b' ∙ sym same)) v t is (b ∙ same)
+
+pub invariant_of-self : goal.invariant_of-self
+invariant_of-self g c =
+    let s = c.args.self.now.left in
+    let xs = bits c.args.piece.now in
+    let H = g.S.PacketStore.holds c.args.self.now.store in
+    let H' = g.S.PacketStore.holds c.whole.new.self in
+    let w = taken g (goal.at.invariant_of-self g c).In-Ok-true in
     let moved = c.skip.ensures.moved w.packet w.carried w.long in
     let held = leapt_held s.carrier c.skip.new.self.carrier H H' xs c.args.at c.in-Some.len s.stage c.skip.new.self.stage w c.requires.stage moved.same c.skip.ensures.here in
     record { held = ∥∥₁_map c.args.self.now.held (λ old closed. let h = old (rw c.requires.stage refl) in (h.0 ++ packet_reading w.packet, held h.0 h.1)) }
@@ -34,13 +45,9 @@ returns-in-Ok-true-clause-some g c =
     let s = c.args.self.now.left in
     let xs = bits c.args.piece.now in
     let l = c.in-Some.ensures in
-    let e = c.in-Ok-true.ensures in
-    let yes = c.in-Ok-true.field-0-test in
-    let same = c.run_at.ensures in
     let H = g.S.PacketStore.holds c.args.self.now.store in
     let H' = g.S.PacketStore.holds c.whole.new.self in
-    let (v, (t, (is, b))) = e.packet yes in
-    let w = whole_at s.carrier H H' xs c.args.at c.in-Some.len c.number_at-nid.result c.number_at-dir.result l.least l.within c.number_at-nid.ensures.bits c.number_at-dir.ensures.bits l.bits (λ vs u h t' is' b'. e.held yes vs u h t' is' (b' ∙ sym same)) v t is (b ∙ same) in
+    let w = taken g (goal.at.returns-in-Ok-true-clause-some g c).In-Ok-true in
     let moved = c.skip.ensures.moved w.packet w.carried w.long in
     let held = leapt_held s.carrier c.skip.new.self.carrier H H' xs c.args.at c.in-Some.len s.stage c.skip.new.self.stage w c.requires.stage moved.same c.skip.ensures.here in
     let small : s.room ≤ 8191 = rw c.requires.stage at s.small in

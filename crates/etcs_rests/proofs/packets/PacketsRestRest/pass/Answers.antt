@@ -1,9 +1,11 @@
 use Rattle.std.proofs.Common.{List, ℕ, Bool, [], ◌∷◌, ◌++◌, sym, ◌∙◌}
 use Rattle.std.proofs.Math.Logic.{∥∥₁_elim, ∥∥₁_map}
 use Rattle.etcs_vars.specs.Reading.{Reading}
-use Rattle.etcs_rests.specs.Lefts.{keeps_at, numbers_with, bits_with}
+use Rattle.etcs_rests.specs.Lefts.{HoldsAt, keeps_at, numbers_with, bits_with}
 use Rattle.etcs_rests.proofs.PacketLemmas.{true_prop, open_next, kept_room, grows_kept, grows_whole, event_held, more_held}
+use Rattle.etcs_rests.proofs.packets.PacketsRestRest.pass.Given.{Over}
 use Rattle.etcs_rests.proofs.packets.PacketsRestRest.pass.Goals as goal
+use Rattle.etcs_rests.proofs.packets.PacketsRestRest.pass.Goals.{In-Ok-finish}
 
 pub absorb-requires : goal.absorb-requires
 absorb-requires g c =
@@ -28,33 +30,27 @@ finish-requires g c =
     let here = c.take-event.ensures.here in
     ∥∥₁_map c.args.self.now.held (λ old. let w = old (open_next s.stage c.args.var c.requires.next) in event_held s.carrier s.stage c.take-event.new.self.stage F K p c.take-event.result H M absorbed here w.0 w.1)
 
+-- what is held with the number
+passed_held : (g : Over) (c : In-Ok-finish g) (q : Reading) → HoldsAt c.args.self.now.left.carrier c.args.self.now.left.stage (g.S.PacketStore.holds c.args.self.now.store) q
+    → HoldsAt c.take-event.new.self.carrier c.take-event.new.self.stage (g.S.PacketStore.holds c.finish.new.store) (q ++ (c.args.var, c.args.number) ∷ [])
+passed_held g c =
+    let s = c.args.self.now.left in
+    let keep = keeps_at s.stage in
+    let F = λ (f : List ℕ). numbers_with keep f c.args.number in
+    let K = λ (k : List Bool). bits_with keep k c.args.number in
+    let p : Reading = (c.args.var, c.args.number) ∷ [] in
+    let H = g.S.PacketStore.holds c.args.self.now.store in
+    let M = g.S.PacketStore.holds c.absorb.new.store in
+    let absorbed = rw c.keeps-keep.ensures at c.in-Ok.ensures.ok in
+    more_held s.carrier s.stage c.take-event.new.self.stage F K p c.take-event.result H M absorbed c.take-event.ensures.here (g.S.PacketStore.holds c.finish.new.store) c.take-event.new.self.carrier c.take-event.ensures.moved.same c.in-Ok-finish.ensures.ok
+
 pub invariant_of-self-in-Ok-finish : goal.invariant_of-self-in-Ok-finish
 invariant_of-self-in-Ok-finish g c =
-    let s = c.args.self.now.left in
-    let keep = keeps_at s.stage in
-    let F = λ (f : List ℕ). numbers_with keep f c.args.number in
-    let K = λ (k : List Bool). bits_with keep k c.args.number in
-    let p : Reading = (c.args.var, c.args.number) ∷ [] in
-    let H = g.S.PacketStore.holds c.args.self.now.store in
-    let M = g.S.PacketStore.holds c.absorb.new.store in
-    let absorbed = rw c.keeps-keep.ensures at c.in-Ok.ensures.ok in
-    let here = c.take-event.ensures.here in
-    let held = more_held s.carrier s.stage c.take-event.new.self.stage F K p c.take-event.result H M absorbed here (g.S.PacketStore.holds c.finish.new.store) c.take-event.new.self.carrier c.take-event.ensures.moved.same c.in-Ok-finish.ensures.ok in
-    record { held = ∥∥₁_map c.args.self.now.held (λ old closed. let w = old (open_next s.stage c.args.var c.requires.next) in (w.0 ++ p, held w.0 w.1)) }
+    let held = passed_held g (goal.at.invariant_of-self-in-Ok-finish g c).In-Ok-finish in
+    record { held = ∥∥₁_map c.args.self.now.held (λ old closed. let w = old (open_next c.args.self.now.left.stage c.args.var c.requires.next) in (w.0 ++ (c.args.var, c.args.number) ∷ [], held w.0 w.1)) }
 
 pub returns-in-Ok-finish-clause-ok : goal.returns-in-Ok-finish-clause-ok
-returns-in-Ok-finish-clause-ok g c =
-    let s = c.args.self.now.left in
-    let keep = keeps_at s.stage in
-    let F = λ (f : List ℕ). numbers_with keep f c.args.number in
-    let K = λ (k : List Bool). bits_with keep k c.args.number in
-    let p : Reading = (c.args.var, c.args.number) ∷ [] in
-    let H = g.S.PacketStore.holds c.args.self.now.store in
-    let M = g.S.PacketStore.holds c.absorb.new.store in
-    let absorbed = rw c.keeps-keep.ensures at c.in-Ok.ensures.ok in
-    let here = c.take-event.ensures.here in
-    let held = more_held s.carrier s.stage c.take-event.new.self.stage F K p c.take-event.result H M absorbed here (g.S.PacketStore.holds c.finish.new.store) c.take-event.new.self.carrier c.take-event.ensures.moved.same c.in-Ok-finish.ensures.ok in
-    (c.take-event.ensures.moved, held)
+returns-in-Ok-finish-clause-ok g c = (c.take-event.ensures.moved, passed_held g (goal.at.returns-in-Ok-finish-clause-ok g c).In-Ok-finish)
 
 pub returns-in-Err-finish-clause-err : goal.returns-in-Err-finish-clause-err
 returns-in-Err-finish-clause-err g c =

@@ -300,7 +300,10 @@ impl PacketsLeft {
         ensures room { Same (left_of self.new.carrier self.new.room self.new.stage) (Run self.old.carrier (self.old.room - bits)) }
     {
         self.room -= bits;
-        self.stage = behind_packet(self.carrier, self.room);
+        match behind_packet(self.carrier, self.room) {
+            Stage::Number => {}
+            stage => self.stage = stage,
+        }
     }
 
     /// Wants nothing more, whatever was left.

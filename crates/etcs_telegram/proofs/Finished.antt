@@ -15,7 +15,8 @@ use Rattle.etcs_telegram.specs.Phases.{behind_header}
 use Rattle.etcs_telegram.proofs.HeaderLemmas.{header_length, header_back}
 use Rattle.etcs_telegram.proofs.Spellings.{whole_length, fill_length, zeros_length}
 
-numbers_labelled : (vs : List Var) (ns : List ℕ) → length ns ≡ length vs → (numbers (labelled vs ns) ≡ ns) × (length (labelled vs ns) ≡ length ns)
+-- as many numbers as variables give themselves
+pub numbers_labelled : (vs : List Var) (ns : List ℕ) → length ns ≡ length vs → (numbers (labelled vs ns) ≡ ns) × (length (labelled vs ns) ≡ length ns)
 numbers_labelled [] [] e = (refl, refl)
 numbers_labelled [] (n ∷ ns) e = absurd cc
 numbers_labelled (v ∷ vs) [] e = absurd cc

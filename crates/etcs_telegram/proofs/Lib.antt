@@ -22,3 +22,4 @@ pub mod Passes
 pub mod Dones
 pub mod Feeding
 pub mod Holding
+pub mod OneHolding

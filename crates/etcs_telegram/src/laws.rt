@@ -3,6 +3,7 @@
 ghost use Rattle.std.specs.Prelude.{◌≡◌, ◌↔◌, IsTrue, IfOk};
 ghost use Rattle.etcs_telegram.specs.Telegrams.{OneSpelling, RoomRule};
 ghost use Rattle.etcs_telegram.specs.Views.{OneRefusal};
+ghost use Rattle.etcs_telegram.specs.Holdings.{OneHolding};
 
 use crate::reader::TelegramReader;
 use crate::telegram::Telegram;
@@ -24,6 +25,11 @@ pub fn room()
 /// view and the reader refuse the same.
 pub fn one_refusal()
     ensures { OneRefusal }
+{}
+
+/// Of the same bits a reader holds one and the same: packets, numbers, kept bits and the unfinished variable.
+pub fn one_holding()
+    ensures { OneHolding }
 {}
 
 /// `==` of telegrams is equality of their values: size, header, packets and FILL.

@@ -1,9 +1,8 @@
 -- What is read behind other bits, of all of them.
-use Rattle.std.proofs.Common.{◌≡◌, ℕ, ◌+◌, ◌-◌, ◌≤◌, Bool, List, [], ◌++◌, length, take, drop, Some, None, sym, ap, subst, ◌∙◌, arith, append_assoc, take-add}
+use Rattle.std.proofs.Common.{◌≡◌, ℕ, ◌+◌, ◌≤◌, Bool, List, [], ◌++◌, length, take, drop, Some, None, sym, ap, subst, ◌∙◌, arith, append_assoc, take-add}
 use Rattle.std.specs.Prelude.{Option}
 use Rattle.std.proofs.lemmas.List.{append-nil, length-append, take-append-drop, length-take, length-drop}
 use Rattle.std.proofs.Math.Seq.{take-append-add}
-use Rattle.etcs_bits.specs.Bits.{part}
 use Rattle.etcs_vars.specs.declared.var.Var.{Var}
 use Rattle.etcs_vars.specs.Walking.{Residual, Refuses}
 use Rattle.etcs_vars.specs.Reading.{Reading, spelled, InLanguage, Viable, Owner}
@@ -108,6 +107,9 @@ module _ {R : Type 0} (left : R → Reading → Type 0) (regular : (s : R) → R
     part = h.part;
     passed = along h.place h.part h.passed;
     here = h.here;
+    holder = h.holder;
+    begins = h.begins;
+    owned = h.owned;
   }
 
 -- ---- Behind the first bits of the same piece.
@@ -136,6 +138,9 @@ module _ {R : Type 0} (left : R → Reading → Type 0) (follows : R → Reading
         part = h.part;
         passed = subst (λ (u : List Bool). Passed (λ p. follows s p h.place) u h.part) (front_of b xs at n) h.passed;
         here = h.here;
+        holder = h.holder;
+        begins = h.begins;
+        owned = h.owned;
       }
 
 -- why no more is taken, of all bits

@@ -1,6 +1,6 @@
 -- What a reader of telegrams holds.
-use Rattle.std.proofs.Common.{◌≡◌, ℕ, ◌^◌, ◌<◌, ◌&&◌, Bool, true, false, List, [], ◌∷◌, ◌++◌, length, Some, None, refl, sym, ap, subst, ◌∙◌, arith, append_assoc, inl, inr}
-use Rattle.std.specs.Prelude.{Option, All, map, IsTrue, IfSome, IsNone, is_some, nat_lt, ◌==◌}
+use Rattle.std.proofs.Common.{◌≡◌, ℕ, ◌^◌, ◌<◌, ◌&&◌, Bool, true, List, ◌∷◌, ◌++◌, length, Some, None, refl, sym, ap, subst, ◌∙◌, arith, append_assoc, inl, inr}
+use Rattle.std.specs.Prelude.{Option, All, map, IsTrue, IfSome, is_some, nat_lt, ◌==◌}
 use Rattle.std.proofs.lemmas.Bool.{and_parts, ltb-true, eqb-true}
 use Rattle.std.proofs.lemmas.List.Elements.{All-nil}
 use Rattle.etcs_bits.specs.Bits.{num}
@@ -16,7 +16,6 @@ use Rattle.etcs_reader.specs.Rests.{Goes}
 use Rattle.etcs_reader.specs.Feeders.{FeederValue}
 use Rattle.etcs_reader.proofs.Passing.{passed_owner}
 use Rattle.etcs_rests.specs.declared.left.PacketsLeft.{PacketsLeft}
-use Rattle.etcs_rests.specs.declared.list.PacketList.{PacketList}
 use Rattle.etcs_rests.specs.Lefts.{left_of, ahead}
 use Rattle.etcs_rests.specs.Held.{list_holds}
 use Rattle.etcs_rests.proofs.Begun.{begun_of, nothing_held}
@@ -30,13 +29,13 @@ use Rattle.etcs_packets.specs.PacketReadings.{packets_reading}
 use Rattle.etcs_telegram.specs.declared.size.Size.{Size}
 use Rattle.etcs_telegram.specs.declared.phase.Phase.{Phase}
 use Rattle.etcs_telegram.specs.declared.phase.Phase.TheVariants.{Header, Packets, Fill, Pad, Whole}
-use Rattle.etcs_telegram.specs.Telegrams.{header_row, pad_bits, TelegramLanguage}
+use Rattle.etcs_telegram.specs.Telegrams.{header_row, TelegramLanguage}
 use Rattle.etcs_telegram.specs.Headers.{labelled}
 use Rattle.etcs_telegram.specs.Phases.{is_going}
 use Rattle.etcs_telegram.specs.ChainLaws.{chain_first}
 use Rattle.etcs_telegram.specs.Lefts.{FillBy, left_at, is_open, stands_at, HoldsIn}
 use Rattle.etcs_telegram.specs.RestLaws.{rest_begins, opens}
-use Rattle.etcs_telegram.specs.Readers.{ReaderValue, reading, IsReading}
+use Rattle.etcs_telegram.specs.Readers.{ReaderValue, IsReading}
 use Rattle.etcs_telegram.specs.Holdings.{Members, HeldIn, IsHeld}
 use Rattle.etcs_telegram.proofs.Spellings.{regular}
 use Rattle.etcs_telegram.proofs.SoFar.{filled_far}

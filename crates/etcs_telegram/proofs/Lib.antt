@@ -18,6 +18,7 @@ pub mod Viewing
 pub mod Examples
 pub mod SoFar
 pub mod Nexts
+pub mod Asking
 pub mod Passes
 pub mod Dones
 pub mod Feeding

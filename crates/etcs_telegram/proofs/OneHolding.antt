@@ -23,10 +23,9 @@ use Rattle.etcs_container.specs.Runs.{Begun, BegunFrame, BegunRow, BegunKept}
 use Rattle.etcs_container.proofs.Others.{kept_untyped}
 use Rattle.etcs_container.proofs.Agreement.{packet_agree, numbered}
 use Rattle.etcs_container.proofs.OneSpelling.{packet_same}
-use Rattle.etcs_telegram.specs.declared.size.Size.{Size}
 use Rattle.etcs_telegram.specs.Telegrams.{header_row, closed_reading}
 use Rattle.etcs_telegram.specs.Headers.{labelled}
-use Rattle.etcs_telegram.specs.Holdings.{Members, HeldIn, OneHolding}
+use Rattle.etcs_telegram.specs.Holdings.{Members, OneHolding}
 use Rattle.etcs_telegram.proofs.Finished.{numbers_labelled}
 use Rattle.etcs_telegram.proofs.Spellings.{kept_same}
 

@@ -5,8 +5,7 @@ use Rattle.std.proofs.lemmas.List.{take-append-drop, take_all, take_at, length-a
 use Rattle.etcs_bits.specs.Bits.{bits}
 use Rattle.etcs_bits.proofs.Positions.{length-bits}
 use Rattle.etcs_bits.proofs.Owned.{bits-take, bits_same}
-use Rattle.etcs_vars.specs.declared.var.Var.{Var}
-use Rattle.etcs_vars.specs.Reading.{Reading, spelled, InLanguage, NoneYet}
+use Rattle.etcs_vars.specs.Reading.{Reading, spelled, InLanguage}
 use Rattle.etcs_vars.specs.declared.feed.Fed.{Fed}
 use Rattle.etcs_vars.specs.declared.feed.Fed.TheVariants.{More, Done}
 use Rattle.etcs_vars.specs.declared.feed.ReadFault.{ReadFault}

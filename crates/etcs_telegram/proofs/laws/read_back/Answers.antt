@@ -1,8 +1,5 @@
-use Rattle.std.proofs.Common.{◌≡◌, ℕ, sym, ◌∙◌, arith, Ok, Err}
+use Rattle.std.proofs.Common.{◌∙◌, arith}
 use Rattle.etcs_bits.specs.Bits.{bits}
-use Rattle.etcs_vars.specs.declared.feed.Fed.TheVariants.{Done}
-use Rattle.etcs_telegram.specs.Readers.{Feeds}
-use Rattle.etcs_telegram.specs.Telegrams.{ReadsAs}
 use Rattle.etcs_telegram.proofs.RoundTrips.{fed_first, front_read, written_back, container_small}
 use Rattle.etcs_telegram.proofs.laws.read_back.Goals as goal
 

@@ -107,6 +107,9 @@ module _ {R : Type 0} (left : R → Reading → Type 0) (regular : (s : R) → R
     part = h.part;
     passed = along h.place h.part h.passed;
     here = h.here;
+    holder = h.holder;
+    begins = h.begins;
+    owned = h.owned;
   }
 
 -- ---- Behind the first bits of the same piece.
@@ -135,6 +138,9 @@ module _ {R : Type 0} (left : R → Reading → Type 0) (follows : R → Reading
         part = h.part;
         passed = subst (λ (u : List Bool). Passed (λ p. follows s p h.place) u h.part) (front_of b xs at n) h.passed;
         here = h.here;
+        holder = h.holder;
+        begins = h.begins;
+        owned = h.owned;
       }
 
 -- why no more is taken, of all bits

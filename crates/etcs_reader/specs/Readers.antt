@@ -9,7 +9,7 @@ use Rattle.etcs_vars.specs.Walking.{Refuses}
 use Rattle.etcs_reader.specs.declared.reader.Halt.{Halt}
 use Rattle.etcs_reader.specs.declared.reader.Halt.TheVariants.{Refused, Memory}
 use Rattle.etcs_reader.specs.declared.reader.Reader.{Reader}
-use Rattle.etcs_reader.specs.Rests.{Starts, Goes}
+use Rattle.etcs_reader.specs.Rests.{Starts, Goes, BeginsWith}
 
 -- some number of the variable that comes next goes on whose first bits these are, and isn't whole
 pub record Unfinished (L : Reading → Type 0) (next : Option Var) (number taken : ℕ) : Type 0 where
@@ -38,7 +38,7 @@ pub record RefusesAt (R : Type 0) (left : R → Reading → Type 0) (follows : R
   pub refuses : Refuses (left s) (b ++ xs) (length b + n) x
   pub passed : Passed (λ p. follows s p t) (b ++ take n xs) b'
 
--- memory is refused behind n of them, where it may be, and the bit behind them isn't
+-- memory is refused behind n of them, where it may be, and the bit behind them isn't, which the holder holds
 pub record StarvesAt (R : Type 0) (left : R → Reading → Type 0) (follows : R → Reading → R → Type 0) (fails : R → Type 0) (s : R) (b xs : List Bool) (n : ℕ) : Type 0 where
   pub within : n < length xs
   pub viable : Viable (left s) (b ++ take (n + 1) xs)
@@ -46,6 +46,9 @@ pub record StarvesAt (R : Type 0) (left : R → Reading → Type 0) (follows : R
   pub part : List Bool
   pub passed : Passed (λ p. follows s p place) (b ++ take n xs) part
   pub here : fails place
+  pub holder : Var
+  pub begins : BeginsWith (left place) holder
+  pub owned : Owner (left place) part holder
 
 -- ---- By the fields of a reader.
 

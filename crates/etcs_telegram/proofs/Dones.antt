@@ -1,10 +1,10 @@
 -- A reader that has come to a telegram's end has read a telegram.
-use Rattle.std.proofs.Common.{◌≡◌, ℕ, ◌+◌, ◌≤◌, Bool, true, false, List, [], ◌∷◌, ◌++◌, length, refl, sym, ap, subst, ◌∙◌, arith}
+use Rattle.std.proofs.Common.{◌≡◌, ℕ, ◌+◌, ◌≤◌, Bool, false, List, [], ◌∷◌, ◌++◌, length, refl, sym, ap, subst, ◌∙◌, arith}
 use Rattle.std.specs.Prelude.{map, All}
 use Rattle.std.proofs.lemmas.List.{append-nil, length-append}
 use Rattle.etcs_vars.specs.Reading.{Reading, spelled}
 use Rattle.etcs_packets.specs.declared.packet.Packet.{Packet}
-use Rattle.etcs_packets.specs.PacketValues.{PacketValue, packet_value, IsPacket}
+use Rattle.etcs_packets.specs.PacketValues.{packet_value, IsPacket}
 use Rattle.etcs_rests.specs.declared.left.PacketsLeft.{PacketsLeft}
 use Rattle.etcs_rests.specs.declared.list.PacketList.{PacketList}
 use Rattle.etcs_telegram.specs.declared.size.Size.{Size}
@@ -17,7 +17,6 @@ use Rattle.etcs_telegram.specs.Stages.{so_far, seen_by, telegram_parts, Reached}
 use Rattle.etcs_telegram.proofs.Finished.{whole_reads}
 use Rattle.etcs_telegram.proofs.HeaderLemmas.{header_length}
 use Rattle.etcs_telegram.proofs.Passes.{viable_length}
-use Rattle.etcs_telegram.proofs.SoFar.{far_is}
 use Rattle.etcs_telegram.proofs.Spellings.{whole_length}
 
 -- the bits b spell the telegram that is held

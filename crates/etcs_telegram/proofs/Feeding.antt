@@ -11,7 +11,7 @@ use Rattle.etcs_vars.specs.declared.feed.Fed.{Fed}
 use Rattle.etcs_vars.specs.declared.feed.Fed.TheVariants.{More, Done}
 use Rattle.etcs_vars.specs.declared.feed.ReadFault.{ReadFault}
 use Rattle.etcs_vars.specs.Walking.{Residual}
-use Rattle.etcs_vars.specs.Reading.{Reading, spelled, InLanguage, Viable, Owner}
+use Rattle.etcs_vars.specs.Reading.{Reading, spelled, Viable, Owner}
 use Rattle.etcs_vars.proofs.Languages.{Same}
 use Rattle.etcs_vars.proofs.Outcomes.{more_wanted, none_refused, refuses_longer}
 use Rattle.etcs_reader.specs.declared.feeder.Stop.{Stop}
@@ -24,11 +24,11 @@ use Rattle.etcs_telegram.specs.declared.size.Size.{Size}
 use Rattle.etcs_telegram.specs.declared.size.Size.TheVariants.{Short, Long}
 use Rattle.etcs_telegram.specs.Telegrams.{TelegramLanguage, ReadsAs, container_bytes, user_bits, pad_bits}
 use Rattle.etcs_telegram.specs.Phases.{is_going}
-use Rattle.etcs_telegram.specs.Readers.{Stage, ReaderValue, reading, finished, stopped, starved, Feeds, fault_by, seen_of}
+use Rattle.etcs_telegram.specs.Readers.{Stage, ReaderValue, reading, finished, Feeds, fault_by, seen_of}
 use Rattle.etcs_telegram.specs.Stages.{stage_by, telegram_parts, IsReader}
 use Rattle.etcs_telegram.proofs.Spellings.{regular}
 use Rattle.etcs_telegram.proofs.Nexts.{some_next, none_next}
-use Rattle.etcs_telegram.proofs.Passes.{Kept, left, next, holds, follows, fails, far, seen, At, viable_length, language_viable, language_length, owned_length, all_viable, all_language, all_owner, all_refuses, seen_new, reached_new, starved_far}
+use Rattle.etcs_telegram.proofs.Passes.{Kept, left, next, holds, follows, fails, far, seen, At, viable_length, language_viable, language_length, owned_length, all_viable, all_language, all_owner, all_refuses, seen_new, reached_new, starved_far, starved_owner, starved_asks}
 use Rattle.etcs_telegram.proofs.SoFar.{far_is}
 use Rattle.etcs_telegram.proofs.Examples.{some_telegram}
 use Rattle.etcs_telegram.proofs.Dones.{IsDone, done_at, done_length}
@@ -183,6 +183,10 @@ module _ (old new : FeederValue Kept) (piece : List ℕ) (taken : ℕ) (at : At 
       let cut : take (n + 1) xs ≡ take (n + 1) (bits piece) = ap (take (n + 1)) (bits_take piece taken within) ∙ take-take (n + 1) (8 * taken) (bits piece) (omega (arith, h.within, long)) in
       let whole : seen old ++ take (n + 1) xs ≡ take (new.count + 1) (seen old ++ bits piece) =
       ap (λ (u : List Bool). seen old ++ u) cut ∙ sym (take-append-add (seen old) (bits piece) (n + 1)) ∙ ap (λ (k : ℕ). take k (seen old ++ bits piece)) place in
+      let behind : length (seen old) + n ≡ new.count = omega (arith, count, at.counted) in
+      let less : take n xs ≡ take n (bits piece) = ap (take n) (bits_take piece taken within) ∙ take-take n (8 * taken) (bits piece) (omega (arith, h.within, long)) in
+      let front : seen old ++ take n xs ≡ take new.count (seen old ++ bits piece) =
+      ap (λ (u : List Bool). seen old ++ u) less ∙ sym (take-append-add (seen old) (bits piece) n) ∙ ap (λ (k : ℕ). take k (seen old ++ bits piece)) behind in
       record {
         is = rw stop tt;
         fed = (
@@ -192,6 +196,9 @@ module _ (old new : FeederValue Kept) (piece : List ℕ) (taken : ℕ) (at : At 
           omega (arith, count, at.counted, h.within, long, within, length-bits piece, length-append (seen old) (bits piece)),
           subst (Viable L) whole v,
           omega (arith, starved_far old at xs n h, count),
+          h.holder,
+          subst (λ (u : List Bool). Owner L u h.holder) front (starved_owner old at xs n h),
+          starved_asks old at xs n h,
         );
       }
 

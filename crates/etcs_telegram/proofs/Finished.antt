@@ -1,5 +1,5 @@
 -- What was read of a telegram that is whole.
-use Rattle.std.proofs.Common.{◌≡◌, ℕ, suc, ◌+◌, Bool, false, List, [], ◌∷◌, ◌++◌, length, refl, sym, ap, subst, ◌∙◌, arith, append_assoc}
+use Rattle.std.proofs.Common.{◌≡◌, ℕ, suc, Bool, false, List, [], ◌∷◌, ◌++◌, length, refl, sym, ap, subst, ◌∙◌, arith, append_assoc}
 use Rattle.std.specs.Prelude.{replicate, All}
 use Rattle.std.proofs.lemmas.List.{length-append}
 use Rattle.etcs_vars.specs.declared.var.Var.{Var}
@@ -9,13 +9,14 @@ use Rattle.etcs_vars.proofs.Apart.{cut}
 use Rattle.etcs_vars.proofs.Walk.{spelled-append}
 use Rattle.etcs_packets.specs.PacketValues.{PacketValue, IsPacket}
 use Rattle.etcs_telegram.specs.declared.size.Size.{Size}
-use Rattle.etcs_telegram.specs.Telegrams.{header_row, header_reading, header_of, closed_reading, TelegramValue, IsAdmitted, pad_bits, TelegramReads, TelegramLanguage}
+use Rattle.etcs_telegram.specs.Telegrams.{header_row, header_reading, header_of, closed_reading, IsAdmitted, pad_bits, TelegramReads, TelegramLanguage}
 use Rattle.etcs_telegram.specs.Headers.{labelled, IsHeaderNumbers}
 use Rattle.etcs_telegram.specs.Phases.{behind_header}
-use Rattle.etcs_telegram.proofs.HeaderLemmas.{header_length, header_back}
+use Rattle.etcs_telegram.proofs.HeaderLemmas.{header_back}
 use Rattle.etcs_telegram.proofs.Spellings.{whole_length, fill_length, zeros_length}
 
-numbers_labelled : (vs : List Var) (ns : List ℕ) → length ns ≡ length vs → (numbers (labelled vs ns) ≡ ns) × (length (labelled vs ns) ≡ length ns)
+-- as many numbers as variables give themselves
+pub numbers_labelled : (vs : List Var) (ns : List ℕ) → length ns ≡ length vs → (numbers (labelled vs ns) ≡ ns) × (length (labelled vs ns) ≡ length ns)
 numbers_labelled [] [] e = (refl, refl)
 numbers_labelled [] (n ∷ ns) e = absurd cc
 numbers_labelled (v ∷ vs) [] e = absurd cc

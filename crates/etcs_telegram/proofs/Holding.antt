@@ -1,7 +1,8 @@
 -- What a reader of telegrams holds.
-use Rattle.std.proofs.Common.{◌≡◌, ℕ, ◌^◌, ◌<◌, ◌&&◌, Bool, true, false, List, [], ◌∷◌, ◌++◌, length, Some, None, refl, sym, ap, subst, ◌∙◌, arith, append_assoc, inl, inr}
-use Rattle.std.specs.Prelude.{Option, IsTrue, IfSome, IsNone, is_some, nat_lt, ◌==◌}
+use Rattle.std.proofs.Common.{◌≡◌, ℕ, ◌^◌, ◌<◌, ◌&&◌, Bool, true, List, ◌∷◌, ◌++◌, length, Some, None, refl, sym, ap, subst, ◌∙◌, arith, append_assoc, inl, inr}
+use Rattle.std.specs.Prelude.{Option, All, map, IsTrue, IfSome, is_some, nat_lt, ◌==◌}
 use Rattle.std.proofs.lemmas.Bool.{and_parts, ltb-true, eqb-true}
+use Rattle.std.proofs.lemmas.List.Elements.{All-nil}
 use Rattle.etcs_bits.specs.Bits.{num}
 use Rattle.etcs_bits.proofs.Numbers.{length-num}
 use Rattle.etcs_vars.specs.declared.var.Var.{Var}
@@ -15,23 +16,26 @@ use Rattle.etcs_reader.specs.Rests.{Goes}
 use Rattle.etcs_reader.specs.Feeders.{FeederValue}
 use Rattle.etcs_reader.proofs.Passing.{passed_owner}
 use Rattle.etcs_rests.specs.declared.left.PacketsLeft.{PacketsLeft}
-use Rattle.etcs_rests.specs.declared.list.PacketList.{PacketList}
 use Rattle.etcs_rests.specs.Lefts.{left_of, ahead}
 use Rattle.etcs_rests.specs.Held.{list_holds}
 use Rattle.etcs_rests.proofs.Begun.{begun_of, nothing_held}
+use Rattle.etcs_container.specs.Contents.{Carries}
 use Rattle.etcs_container.specs.Runs.{Begun}
+use Rattle.etcs_rows.specs.declared.frames.Carrier.{Carrier}
 use Rattle.etcs_packets.specs.declared.packet.Packet.{Packet}
+use Rattle.etcs_packets.specs.OnePacket.{IsMade}
+use Rattle.etcs_packets.specs.PacketValues.{packet_value, IsPacket}
 use Rattle.etcs_packets.specs.PacketReadings.{packets_reading}
 use Rattle.etcs_telegram.specs.declared.size.Size.{Size}
 use Rattle.etcs_telegram.specs.declared.phase.Phase.{Phase}
 use Rattle.etcs_telegram.specs.declared.phase.Phase.TheVariants.{Header, Packets, Fill, Pad, Whole}
-use Rattle.etcs_telegram.specs.Telegrams.{header_row, pad_bits, TelegramLanguage}
+use Rattle.etcs_telegram.specs.Telegrams.{header_row, TelegramLanguage}
 use Rattle.etcs_telegram.specs.Headers.{labelled}
 use Rattle.etcs_telegram.specs.Phases.{is_going}
 use Rattle.etcs_rests.specs.ChainLaws.{chain_first}
 use Rattle.etcs_telegram.specs.Lefts.{FillBy, left_at, is_open, stands_at, HoldsIn}
 use Rattle.etcs_telegram.specs.RestLaws.{rest_begins, opens}
-use Rattle.etcs_telegram.specs.Readers.{ReaderValue, reading, IsReading}
+use Rattle.etcs_telegram.specs.Readers.{ReaderValue, IsReading}
 use Rattle.etcs_telegram.specs.Holdings.{Members, HeldIn, IsHeld}
 use Rattle.etcs_telegram.proofs.Spellings.{regular}
 use Rattle.etcs_telegram.proofs.SoFar.{filled_far}
@@ -58,6 +62,16 @@ members_of size (Fill left) header l ps f k q stands going g h = inr (inr (heade
 members_of size (Pad left) header l ps f k q stands going g (pad, e, h) = inr (inr (header, pad, h.ten, filled_far header ps f k 0 l.room pad q h, sym h.held.1.1.0))
 members_of size Whole header l ps f k q stands going g h = absurd cc
 
+-- its packets are whole ones
+made_of : (size : Size) (phase : Phase) (header : List ℕ) (l : PacketsLeft) (ps : List Packet) (f : List ℕ) (k : List Bool) (q : Reading) → IsTrue (stands_at phase (length header) l) → HoldsIn size phase header l (list_holds ps f k) q → All IsMade ps × All IsPacket (map packet_value ps)
+made_of size (Header at) header l ps f k q stands (is, h) = subst (λ (xs : List Packet). All IsMade xs × All IsPacket (map packet_value xs)) (sym (nothing_held l.carrier l.stage ps f k h).0) (All-nil IsMade, All-nil IsPacket)
+made_of size Packets header l ps f k q stands (r, e, (vs, m, b, h, (vs_is, (made, same)), carried, here, e')) =
+    let open_is = opens l (and_parts (length header == 10) (is_open l) stands).1 in
+    (made, subst (All IsPacket) vs_is (subst (λ (c : Carrier). All (Carries c) vs) open_is.0 carried))
+made_of size (Fill n) header l ps f k q stands h = (h.held.1.0, subst (All IsPacket) h.held.0 h.carried)
+made_of size (Pad n) header l ps f k q stands (pad, e, h) = (h.held.1.0, subst (All IsPacket) h.held.0 h.carried)
+made_of size Whole header l ps f k q stands h = (h.held.1.0, subst (All IsPacket) h.held.0 h.carried)
+
 -- ---- Of all bits.
 
 module _ (v : FeederValue Kept) (at : At v) (x : Var) (e : next v.rest ≡ Some x) (own : Owner (left v.rest) v.part x) where
@@ -80,6 +94,9 @@ module _ (v : FeederValue Kept) (at : At v) (x : Var) (e : next v.rest ≡ Some 
       let b = begins_with r (far v.rest) goes.0 (v.part ++ c) (reg.agree r (far v.rest ++ goes.0) l other) (reg.fit r l) (reg.fit (far v.rest ++ goes.0) other) (s ∙ append_assoc (spelled (far v.rest)) v.part c) in
       all_next r b.0 b.1 l
 
+  held_made : All IsMade v.rest.packets.store.packets.items × All IsPacket (map packet_value v.rest.packets.store.packets.items)
+  held_made = made_of v.rest.size v.rest.stage v.rest.header.items v.rest.packets.left v.rest.packets.store.packets.items v.rest.packets.store.numbers.items v.rest.packets.store.bits (far v.rest) v.rest.stands at.holds
+
   pub held_in : (part taken : ℕ) → v.part ≡ num taken part → part < 2 ^ taken → length v.part < width x → HeldIn v.rest.size (seen v) v.rest.packets.store.packets.items v.rest.packets.store.numbers.items v.rest.packets.store.bits part taken
   held_in part taken same fits short = record {
     far = far v.rest;
@@ -87,6 +104,8 @@ module _ (v : FeederValue Kept) (at : At v) (x : Var) (e : next v.rest ≡ Some 
     bits = ap (λ (t : List Bool). spelled (far v.rest) ++ t) same;
     fits = fits;
     members = members_of v.rest.size v.rest.stage v.rest.header.items v.rest.packets.left v.rest.packets.store.packets.items v.rest.packets.store.numbers.items v.rest.packets.store.bits (far v.rest) v.rest.stands (some_next v.rest.stage v.rest.packets.left x e) goes at.holds;
+    made = held_made.0;
+    packets = held_made.1;
     begins = all_begin;
     owned = passed_owner L (regular v.rest.size) (left v.rest) (λ p. Residual L p (left v.rest)) (λ p h. h) (seen v) v.part (record { whole = far v.rest; follows = at.residual; bits = refl }) goes x own;
     short = omega (arith, short, ap length same, length-num taken part);

@@ -18,7 +18,9 @@ pub mod Viewing
 pub mod Examples
 pub mod SoFar
 pub mod Nexts
+pub mod Asking
 pub mod Passes
 pub mod Dones
 pub mod Feeding
 pub mod Holding
+pub mod OneHolding

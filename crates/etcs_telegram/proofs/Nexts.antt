@@ -1,5 +1,5 @@
 -- Something comes next exactly where a telegram isn't whole.
-use Rattle.std.proofs.Common.{◌≡◌, ℕ, zero, suc, ◌<◌, ◌&&◌, Bool, true, false, List, [], ◌∷◌, length, drop, Some, None, refl, arith}
+use Rattle.std.proofs.Common.{◌≡◌, ℕ, zero, suc, ◌<◌, ◌&&◌, true, false, List, [], ◌∷◌, length, drop, Some, None, refl, arith}
 use Rattle.std.specs.Prelude.{IsTrue, Option, is_some, nat_lt, ◌==◌}
 use Rattle.std.proofs.lemmas.Bool.{and_parts, ltb-true}
 use Rattle.etcs_vars.specs.declared.var.Var.{Var}
@@ -7,7 +7,6 @@ use Rattle.etcs_vars.specs.declared.var.Var.TheVariants.{Q_DIR}
 use Rattle.etcs_vars.specs.Vars.{admits}
 use Rattle.etcs_rows.specs.declared.row.Way.TheVariants.{ToTrain}
 use Rattle.etcs_rows.specs.declared.frames.Carrier.{Carrier}
-use Rattle.etcs_rows.specs.declared.frames.Carrier.TheVariants.{Telegram}
 use Rattle.etcs_rows.specs.Rows.{row_to}
 use Rattle.etcs_rows.specs.Places.{first_variable}
 use Rattle.etcs_reader.specs.Fields.{first_of}

@@ -1,5 +1,5 @@
 -- What a feeder of telegrams has read, of all bits that were fed.
-use Rattle.std.proofs.Common.{◌≡◌, ℕ, ◌+◌, ◌≤◌, Bool, List, [], ◌++◌, length, take, Some, None, refl, sym, ap, subst, ◌∙◌, arith, append_assoc}
+use Rattle.std.proofs.Common.{◌≡◌, ℕ, ◌+◌, ◌≤◌, Bool, List, [], ◌++◌, length, take, refl, sym, ap, subst, ◌∙◌, arith, append_assoc}
 use Rattle.std.specs.Prelude.{Option, IsTrue, ◌*◌, ◌<◌, ◌∷◌, ◌/◌}
 use Rattle.std.proofs.lemmas.List.{append-nil, length-append, length-take-le}
 use Rattle.etcs_vars.specs.declared.var.Var.{Var}
@@ -10,7 +10,7 @@ use Rattle.etcs_reader.specs.Rests.{Goes}
 use Rattle.etcs_reader.specs.Readers.{Passed, StarvesAt}
 use Rattle.etcs_reader.specs.Feeders.{FeederValue}
 use Rattle.etcs_reader.specs.FieldLaws.{residual_along}
-use Rattle.etcs_reader.proofs.Passing.{passed_viable, passed_language, passed_owners, passed_refuses}
+use Rattle.etcs_reader.proofs.Passing.{passed_viable, passed_language, passed_owner, passed_owners, passed_refuses}
 use Rattle.etcs_rests.specs.declared.list.PacketList.{PacketList}
 use Rattle.etcs_rests.specs.contracts.list.PacketListPacketStore.TheImpl as list
 use Rattle.etcs_rests.specs.Held.{list_holds}
@@ -19,6 +19,9 @@ use Rattle.etcs_telegram.specs.declared.size.Size.{Size}
 use Rattle.etcs_telegram.specs.Telegrams.{TelegramLanguage, user_bits, pad_bits}
 use Rattle.etcs_telegram.specs.Lefts.{left_at, next_at, may_ask, HoldsIn, Follows}
 use Rattle.etcs_telegram.specs.Stages.{so_far, seen_by, Reached}
+use Rattle.etcs_telegram.specs.RestLaws.{rest_regular}
+use Rattle.etcs_telegram.specs.Readers.{asks_memory}
+use Rattle.etcs_telegram.proofs.Asking.{first_asks}
 use Rattle.etcs_telegram.proofs.SoFar.{far_is, far_long}
 use Rattle.etcs_telegram.proofs.Spellings.{regular, whole_length}
 
@@ -130,3 +133,16 @@ module _ (old : FeederValue Kept) (at : At old) where
       let l1 = ap length (spelled-append (far old.rest) w) ∙ length-append (spelled (far old.rest)) (spelled w) in
       let l2 = sym (length-append (spelled w) h.part) ∙ ap length h.passed.bits ∙ length-append old.part (take n xs) in
       omega (arith, long, l1, l2, at.counted, length-append (spelled (far old.rest)) old.part, length-take-le n xs)
+
+  -- the variable that holds the bit behind which it is asked for
+  pub starved_owner : (xs : List Bool) (n : ℕ) → (h : StarvesAt Kept left follows fails old.rest old.part xs n) → Owner L (seen old ++ take n xs) h.holder
+  starved_owner xs n h =
+      let s = old.rest in
+      let (r, c, l, e) = h.owned.viable in
+      all_owner (take n xs) h.holder (passed_owner (left s) (rest_regular s.size s.packets.left s.stage) (left h.place) (λ p. follows s p h.place) (λ p k. k.residual) (old.part ++ take n xs) h.part h.passed (r, l) h.holder h.owned)
+
+  pub starved_asks : (xs : List Bool) (n : ℕ) → (h : StarvesAt Kept left follows fails old.rest old.part xs n) → IsTrue (asks_memory h.holder)
+  starved_asks xs n h =
+      let s = h.place in
+      let (r, c, l, e) = h.owned.viable in
+      first_asks s.size s.stage s.header.items s.packets.left (list_holds s.packets.store.packets.items s.packets.store.numbers.items s.packets.store.bits) (far old.rest ++ h.passed.whole) s.stands h.here.1 (h.passed.follows.held (far old.rest) at.holds) (r, l) h.holder h.begins

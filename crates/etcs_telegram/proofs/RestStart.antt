@@ -1,7 +1,7 @@
 -- What is left of a telegram at its beginning is a telegram.
 use Rattle.std.proofs.Common.{◌≡◌, ◌-◌, List, [], ◌∷◌, length, sym, subst}
 use Rattle.etcs_vars.specs.declared.var.Var.{Var}
-use Rattle.etcs_vars.specs.Reading.{Reading, spelled}
+use Rattle.etcs_vars.specs.Reading.{spelled}
 use Rattle.etcs_vars.proofs.Languages.{Same, Then-same}
 use Rattle.etcs_rows.specs.declared.frames.Carrier.TheVariants.{Telegram}
 use Rattle.etcs_container.specs.Contents.{Run}

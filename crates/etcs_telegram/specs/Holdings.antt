@@ -1,12 +1,13 @@
 -- What a reader of telegrams holds between two pieces.
-use Rattle.std.specs.Prelude.{◌≡◌, ℕ, ◌^◌, ◌<◌, Bool, false, List, [], ◌∷◌, ◌++◌, length, map, replicate, ◌⊎◌}
+use Rattle.std.specs.Prelude.{◌≡◌, ℕ, ◌^◌, ◌<◌, Bool, false, List, [], ◌∷◌, ◌++◌, length, map, replicate, ◌⊎◌, All}
 use Rattle.etcs_bits.specs.Bits.{num}
 use Rattle.etcs_vars.specs.declared.var.Var.{Var}
 use Rattle.etcs_vars.specs.declared.var.Var.TheVariants.{FILL, PAD}
 use Rattle.etcs_vars.specs.Vars.{width}
 use Rattle.etcs_vars.specs.Reading.{Reading, spelled, kept, Owner}
 use Rattle.etcs_packets.specs.declared.packet.Packet.{Packet}
-use Rattle.etcs_packets.specs.PacketValues.{packet_value}
+use Rattle.etcs_packets.specs.PacketValues.{packet_value, IsPacket}
+use Rattle.etcs_packets.specs.OnePacket.{IsMade}
 use Rattle.etcs_packets.specs.PacketReadings.{packets_reading}
 use Rattle.etcs_container.specs.Runs.{Begun}
 use Rattle.etcs_telegram.specs.declared.size.Size.{Size}
@@ -30,9 +31,15 @@ pub record HeldIn (size : Size) (b : List Bool) (ps : List Packet) (f : List ℕ
   pub bits : b ≡ spelled far ++ num taken part
   pub fits : part < 2 ^ taken
   pub members : Members far ps f k
+  pub made : All IsMade ps
+  pub packets : All IsPacket (map packet_value ps)
   pub begins : (r : Reading) (c : List Bool) → TelegramLanguage size r → spelled r ≡ b ++ c → (n : ℕ) × (q : Reading) × (r ≡ far ++ (next, n) ∷ q)
   pub owned : Owner (TelegramLanguage size) b next
   pub short : taken < width next
+
+-- the same bits are held in one way
+abbrev pub OneHolding : Type 0
+OneHolding = (size : Size) (b : List Bool) (ps qs : List Packet) (f g : List ℕ) (k l : List Bool) (part part' taken taken' : ℕ) → HeldIn size b ps f k part taken → HeldIn size b qs g l part' taken' → (ps ≡ qs) × (f ≡ g) × (k ≡ l) × (part ≡ part') × (taken ≡ taken')
 
 -- what a reader holds that wants more
 abbrev pub IsHeld : ReaderValue → List Packet → List ℕ → List Bool → ℕ → ℕ → Type 0

@@ -2,7 +2,7 @@
 use Rattle.std.specs.Prelude.{◌≡◌, ℕ, ◌+◌, ◌-◌, ◌≤◌, Bool, true, false, not, List, [], ◌++◌, ◌==◌, length, drop, Option, Some, None, ◌&&◌, nat_lt, if◌then◌else◌, All}
 use Rattle.etcs_vars.specs.declared.var.Var.{Var}
 use Rattle.etcs_vars.specs.declared.var.Var.TheVariants.{FILL, PAD}
-use Rattle.etcs_vars.specs.Reading.{Reading, Then, spelled, kept}
+use Rattle.etcs_vars.specs.Reading.{Reading, Then, spelled}
 use Rattle.etcs_vars.specs.Walking.{Residual}
 use Rattle.etcs_reader.specs.Fields.{ReadsFields, first_of}
 use Rattle.etcs_packets.specs.PacketValues.{PacketValue, IsPacket}

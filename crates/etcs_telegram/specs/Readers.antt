@@ -1,7 +1,8 @@
 -- What a reader of telegrams stands for, and what a feed answers.
-use Rattle.std.specs.Prelude.{◌≡◌, ℕ, ◌+◌, ◌*◌, ◌<◌, ◌≤◌, Bool, List, ◌++◌, length, take, Result, Ok, Err}
+use Rattle.std.specs.Prelude.{◌≡◌, ℕ, ◌+◌, ◌*◌, ◌<◌, ◌≤◌, Bool, true, false, List, ◌++◌, length, take, Result, Ok, Err, IsTrue}
 use Rattle.etcs_vars.specs.declared.var.Var.{Var}
-use Rattle.etcs_vars.specs.Reading.{Reading, Viable, readings_of, IsOutcome, done, refused, more}
+use Rattle.etcs_vars.specs.declared.var.Var.TheVariants.{Q_DIR, PAD}
+use Rattle.etcs_vars.specs.Reading.{Reading, Viable, Owner, readings_of, IsOutcome, done, refused, more}
 use Rattle.etcs_telegram.specs.declared.size.Size.{Size}
 use Rattle.etcs_vars.specs.declared.feed.Fed.{Fed}
 use Rattle.etcs_vars.specs.declared.feed.Fed.TheVariants.{More, Done}
@@ -46,10 +47,16 @@ abbrev pub fault_by : Stop → ReadFault
 fault_by (stop.Refused i x) = Refused i x
 fault_by stop.Memory = Memory
 
+-- memory may be asked for at a variable behind a telegram's header: the numbers of Q_DIR and PAD are never kept
+abbrev pub asks_memory : Var → Bool
+asks_memory Q_DIR = false
+asks_memory PAD = false
+asks_memory v = true
+
 -- the bits that were seen and the new ones together, the answer, and the stage behind it
 abbrev pub Feeds : (TelegramValue → Reading → Type 0) → List Bool → List Bool → Result Fed ReadFault → Stage → Type 0
 Feeds Reads seen new (Ok More) s = (s ≡ reading (seen ++ new)) × IsOutcome Reads (seen ++ new) more
 Feeds Reads seen new (Ok (Done k)) s = (t : TelegramParts) × (s ≡ finished t) × IsTelegram t × (8 * k ≤ length new) × IsOutcome Reads (seen ++ new) (done (telegram_value t) (length seen + 8 * k))
 Feeds Reads seen new (Err (Refused i x)) s = (s ≡ stopped i x) × IsOutcome Reads (seen ++ new) (refused i x)
-Feeds Reads seen new (Err Memory) s = (n : ℕ) × (s ≡ starved n) × (length seen ≤ n) × (n < length (seen ++ new)) × Viable (readings_of Reads) (take (n + 1) (seen ++ new)) × (50 ≤ n)
+Feeds Reads seen new (Err Memory) s = (n : ℕ) × (s ≡ starved n) × (length seen ≤ n) × (n < length (seen ++ new)) × Viable (readings_of Reads) (take (n + 1) (seen ++ new)) × (50 ≤ n) × (x : Var) × Owner (readings_of Reads) (take n (seen ++ new)) x × IsTrue (asks_memory x)
 Feeds Reads seen new (Err Ended) s = ⊥

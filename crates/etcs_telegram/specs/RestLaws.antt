@@ -1,5 +1,5 @@
 -- What the reader asks of what is left of a telegram.
-use Rattle.std.proofs.Common.{◌≡◌, ℕ, zero, suc, ◌+◌, ◌-◌, ◌<◌, Bool, true, false, List, [], ◌∷◌, ◌++◌, length, drop, Some, None, refl, sym, subst, ◌∙◌, arith, append_assoc, append-nil}
+use Rattle.std.proofs.Common.{◌≡◌, ℕ, zero, suc, ◌-◌, ◌<◌, Bool, true, false, List, [], ◌∷◌, ◌++◌, length, drop, Some, None, refl, sym, subst, ◌∙◌, arith, append_assoc, append-nil}
 use Rattle.std.specs.Prelude.{IsTrue, Option, is_some, replicate, if◌then◌else◌, not, ◌&&◌, ◌==◌, nat_lt}
 use Rattle.std.proofs.lemmas.Bool.{and_parts, ltb-true, not-true}
 use Rattle.etcs_vars.specs.declared.var.Var.{Var}

@@ -1,5 +1,5 @@
 -- The stage of a reader by what it keeps.
-use Rattle.std.specs.Prelude.{◌≡◌, ℕ, ◌-◌, ◌%◌, Bool, List, [], ◌++◌, length, map, Option, Some, None, if◌then◌else◌}
+use Rattle.std.specs.Prelude.{◌≡◌, ℕ, ◌-◌, ◌%◌, Bool, List, ◌++◌, length, map, Option, Some, None, if◌then◌else◌}
 use Rattle.etcs_vars.specs.Reading.{Reading, spelled, Viable}
 use Rattle.etcs_vars.specs.Walking.{Residual}
 use Rattle.etcs_packets.specs.declared.packet.Packet.{Packet}

@@ -1,10 +1,15 @@
 //! Laws, each the contract of a function.
 
-ghost use Rattle.std.specs.Prelude.{◌≡◌, ◌↔◌, IsTrue, IfOk};
-ghost use Rattle.etcs_telegram.specs.Telegrams.{OneSpelling, RoomRule};
+ghost use Rattle.std.specs.Prelude.{◌≡◌, ℕ, ◌≤◌, ◌<◌, ◌*◌, ◌↔◌, length, take, slice_index_or, IsTrue, IfOk, IfSome, IfNone};
+ghost use Rattle.etcs_bits.specs.Bits.{bits};
+ghost use Rattle.etcs_vars.specs.Reading.{InLanguage, NoneYet};
+ghost use Rattle.etcs_telegram.specs.Telegrams.{OneSpelling, RoomRule, TelegramLanguage, container_bytes};
 ghost use Rattle.etcs_telegram.specs.Views.{OneRefusal};
+ghost use Rattle.etcs_telegram.specs.Writing.{Writes};
+ghost use Rattle.etcs_telegram.specs.Holdings.{OneHolding};
 
 use crate::reader::TelegramReader;
+use crate::size::Size;
 use crate::telegram::Telegram;
 use etcs_vars::{Fed, ReadFault};
 use std::alloc::{AllocError, Global};
@@ -24,6 +29,11 @@ pub fn room()
 /// view and the reader refuse the same.
 pub fn one_refusal()
     ensures { OneRefusal }
+{}
+
+/// Of the same bits a reader holds one and the same: packets, numbers, kept bits and the unfinished variable.
+pub fn one_holding()
+    ensures { OneHolding }
 {}
 
 /// `==` of telegrams is equality of their values: size, header, packets and FILL.
@@ -54,6 +64,49 @@ pub fn round_trip(alloc: Global, telegram: &Telegram) -> Result<Telegram, AllocE
         },
         Ok(Fed::More) => unreachable!(),
         Err(ReadFault::Refused { .. }) => unreachable!(),
+        Err(ReadFault::Ended) => unreachable!(),
+        Err(ReadFault::Memory) => Err(AllocError),
+    }
+}
+
+/// Writes a telegram over the first bytes of a buffer that has room.
+fn write_over(telegram: &Telegram, out: &mut [u8])
+    requires { container_bytes telegram.now.size ≤ length out.old }
+    ensures writes { Writes telegram.now out.new }
+    ensures bytes { (i : ℕ) → slice_index_or out.new i 0 < 256 }
+{
+    let Ok(_) = telegram.encode_into(out) else {
+        unreachable!()
+    };
+}
+
+/// Reads a telegram of a size from the front of some bytes and writes it over the first bytes of a buffer: these are
+/// then the bytes that were read. Answers how many they are, or `None` where no telegram stands at the front.
+///
+/// # Errors
+///
+/// Where the reader was refused memory, and for no other cause.
+pub fn read_back(
+    alloc: Global,
+    size: Size,
+    bytes: &[u8],
+    out: &mut [u8; 104],
+) -> Result<Option<usize>, AllocError>
+    ensures some { IfOk result (λ found. IfSome found (λ n. (n ≤ length bytes.now) × InLanguage (TelegramLanguage size) (take (8 * n) (bits bytes.now)))) }
+    ensures none { IfOk result (λ found. IfNone found (NoneYet (TelegramLanguage size) (bits bytes.now))) }
+    ensures back { IfOk result (λ found. IfSome found (λ n. take n out.new ≡ take n bytes.now)) }
+{
+    let mut reader = TelegramReader::new(alloc, size);
+    match reader.feed(bytes) {
+        Ok(Fed::Done { taken }) => match reader.take() {
+            Ok(telegram) => {
+                write_over(&telegram, out);
+                Ok(Some(taken))
+            }
+            Err(_) => unreachable!(),
+        },
+        Ok(Fed::More) => Ok(None),
+        Err(ReadFault::Refused { .. }) => Ok(None),
         Err(ReadFault::Ended) => unreachable!(),
         Err(ReadFault::Memory) => Err(AllocError),
     }

@@ -77,9 +77,9 @@ impl TelegramReader {
     /// # Errors
     ///
     /// `Refused` with the first bit, counted from 0 over all pieces, with which no telegram goes on, and the variable
-    /// that holds it; `Memory` where memory is refused, for packets or FILL, at a bit with which a telegram goes on;
-    /// `Ended` where the telegram was whole before. The reader then answers the same to each later piece, and
-    /// `bits_seen` tells how far it came.
+    /// that holds it; `Memory` where memory is refused, for packets or FILL, at a bit with which a telegram goes on,
+    /// which is no bit of the header, Q_DIR or PAD; `Ended` where the telegram was whole before. The reader then
+    /// answers the same to each later piece, and `bits_seen` tells how far it came.
     pub fn feed(&mut self, piece: &[u8]) -> Result<Fed, ReadFault>
         ensures answer { (seen : List Bool) → self.old.stage ≡ reading seen → Feeds (ReadsAs self.old.size) seen (bits piece.now) result self.new.stage }
         ensures after { (IsReading self.old.stage → ⊥) → (self.new ≡ self.old) × (result ≡ Err (fault_of self.old.stage)) }

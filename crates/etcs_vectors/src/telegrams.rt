@@ -4,7 +4,7 @@ use crate::views::is_viewed;
 use crate::words::{drop_line_end, push_refused, push_unless, size, sized};
 use etcs_cli::engine::{Entry, show_lines};
 use etcs_row_cases::words::{bytes, push_text};
-use etcs_telegram::laws::{exact_equality, round_trip};
+use etcs_telegram::laws::{exact_equality, read_back, round_trip};
 use etcs_telegram::{Fed, ReadFault, Size, Telegram, TelegramReader, TelegramView, ViewFault};
 use etcs_vars::Var;
 use std::alloc::{AllocError, Global};
@@ -71,6 +71,8 @@ fn push_checks(
     let written = is_written(alloc, telegram, bytes)?;
     push_unless(out, written, "not written so")?;
     push_unless(out, is_read_again(alloc, telegram)?, "not read again")?;
+    let back = is_written_back(alloc, telegram.size(), bytes)?;
+    push_unless(out, back, "not written back")?;
     let viewed = is_viewed(alloc, telegram, bytes)?;
     push_unless(out, viewed, "not viewed so")
 }
@@ -148,6 +150,13 @@ pub(crate) fn encoded(
 /// Whether the telegram is read from its encoding.
 pub(crate) fn is_read_again(alloc: Global, telegram: &Telegram) -> Result<bool, AllocError> {
     Ok(round_trip(alloc, telegram)? == *telegram)
+}
+
+/// Whether what is read of these bytes is written as the same bytes.
+fn is_written_back(alloc: Global, size: Size, bytes: &[u8]) -> Result<bool, AllocError> {
+    let mut out = [0u8; 104];
+    let count = read_back(alloc, size, bytes, &mut out)?;
+    Ok(count == Some(bytes.len()) && out.as_slice().starts_with(bytes))
 }
 
 /// The refused bit and its variable.

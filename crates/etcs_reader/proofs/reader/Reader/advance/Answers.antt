@@ -1,7 +1,7 @@
 use Rattle.std.proofs.Common.{drop, refl, arith}
 use Rattle.std.proofs.lemmas.List.{length-drop}
 use Rattle.etcs_bits.specs.Bits.{bits, num}
-use Rattle.etcs_reader.proofs.Parts.{unfinished_leap, passed_none, passed_leap, viable_none}
+use Rattle.etcs_reader.proofs.Parts.{unfinished_leap, passed_none, passed_leap, viable_none, unfinished_owner}
 use Rattle.etcs_reader.proofs.reader.Reader.advance.Goals as goal
 
 pub returns-in-Ok-Some-clause-ok : goal.returns-in-Ok-Some-clause-ok
@@ -29,6 +29,9 @@ returns-in-Err-clause-err g c =
         part = num s.taken s.number;
         passed = passed_none (λ p. g.R.Rest.follows s.rest p s.rest) (g.met.R.Rest.none s.rest) (num s.taken s.number) xs;
         here = c.in-Err.ensures.err;
+        holder = c.args.var;
+        begins = g.met.R.Rest.begins_with s.rest c.args.var c.requires.next;
+        owned = unfinished_owner (g.R.Rest.left s.rest) (g.met.R.Rest.regular s.rest) (g.R.Rest.next s.rest) (g.met.R.Rest.begins_with s.rest) s.number s.taken c.requires.reader c.args.var c.requires.next;
       },
     )
 

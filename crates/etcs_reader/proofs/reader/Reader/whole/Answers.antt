@@ -4,7 +4,7 @@ use Rattle.etcs_bits.specs.Bits.{bits, num, part}
 use Rattle.etcs_bits.proofs.Positions.{length-bits}
 use Rattle.etcs_vars.specs.Vars.{width}
 use Rattle.etcs_vars.proofs.Prefixes.{width-le, width_pos}
-use Rattle.etcs_reader.proofs.Parts.{unfinished_leap, passed_none, passed_one, goes_behind, starts_one}
+use Rattle.etcs_reader.proofs.Parts.{unfinished_leap, passed_none, passed_one, goes_behind, starts_one, unfinished_owner}
 use Rattle.etcs_reader.proofs.reader.Reader.whole.Goals as goal
 
 pub overflow_mul-piece : goal.overflow_mul-piece
@@ -55,5 +55,8 @@ returns-in-Err-clause-err g c =
         part = num s.taken s.number;
         passed = passed_none (λ p. g.R.Rest.follows s.rest p s.rest) (g.met.R.Rest.none s.rest) (num s.taken s.number) xs;
         here = c.in-Err.ensures.err;
+        holder = c.args.var;
+        begins = g.met.R.Rest.begins_with s.rest c.args.var c.requires.next;
+        owned = unfinished_owner (g.R.Rest.left s.rest) (g.met.R.Rest.regular s.rest) (g.R.Rest.next s.rest) (g.met.R.Rest.begins_with s.rest) s.number s.taken c.requires.reader c.args.var c.requires.next;
       },
     )

@@ -1,7 +1,6 @@
 use Rattle.std.proofs.Common.{◌≡◌, None, sym, ap, subst, ◌∙◌, min}
 use Rattle.std.specs.Prelude.{ℕ, ◌-◌, ◌/◌, length}
 use Rattle.etcs_telegram.specs.declared.size.Size.{Size}
-use Rattle.etcs_telegram.specs.Readers.{ReaderValue}
 use Rattle.etcs_telegram.specs.Telegrams.{container_bytes}
 use Rattle.etcs_telegram.specs.Phases.{is_going}
 use Rattle.etcs_telegram.proofs.Passes.{Kept}

@@ -1,13 +1,1 @@
-pub mod Ends
-pub mod Entries
-pub mod Faults
-pub mod Items
-pub mod Jobs
-pub mod Lines
-pub mod LineSinks
-pub mod Packets
-pub mod Runs
-pub mod Show
-pub mod Streams
-pub mod Steps
 pub mod Statuses

@@ -1,7 +1,7 @@
 -- The status that the program ends with.
 use Rattle.std.specs.Prelude.{ℕ}
-use Rattle.etcs_cli.specs.declared.engine.fault.RunFault.{RunFault}
-use Rattle.etcs_cli.specs.declared.engine.fault.RunFault.TheVariants.{Refused, Truncated, BadHex, Read, Write, Endless, Memory}
+use Rattle.etcs_stream.specs.declared.fault.RunFault.{RunFault}
+use Rattle.etcs_stream.specs.declared.fault.RunFault.TheVariants.{Refused, Truncated, BadHex, Read, Write, Endless, Memory}
 
 -- 1 where the input is at fault, and 3 where the machine or the streams are
 abbrev pub fault_status : RunFault → ℕ

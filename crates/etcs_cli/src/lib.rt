@@ -1,8 +1,6 @@
-//! The program `etcs` but for taking its words and streams: the command line, and the engine that
-//! shows the telegrams of a stream.
+//! The program `etcs` but for taking its words and streams: the command line, and the statuses.
 #![tactic(auto)]
 
-pub mod engine;
 mod words;
 
 pub use words::run_words;

@@ -3,10 +3,10 @@
 ghost use Rattle.std.specs.Prelude.{◌≡◌};
 ghost use Rattle.etcs_cli.specs.Statuses.{fault_status};
 
-use crate::engine::{Command, Form, Input, Job, Kind, Output, RunFault, Sink, run, write_fault};
 use clap::builder::ValueParser;
 use clap::error::ErrorKind;
 use clap::{Arg, ArgMatches, Command as Line, Error};
+use etcs_stream::{Command, Form, Input, Job, Kind, Output, RunFault, Sink, run, write_fault};
 use std::alloc::{AllocError, Global};
 use std::io::{Read, Write};
 

@@ -4,11 +4,11 @@ use crate::packets::packets;
 use crate::telegrams::{encoded, is_read_again, telegram};
 use crate::words::{drop_line_end, header, push_fault, push_hex, push_unless, size};
 use etcs_bits::Bits;
-use etcs_cli::engine::push_packets;
 use etcs_packets::Packet;
 use etcs_row_cases::words::{bits, numbers, push_bits, push_number, push_text};
 use etcs_telegram::parts::header_numbers;
 use etcs_telegram::{Header, Size, Telegram};
+use etcs_text::parts::push_packets;
 use std::alloc::{AllocError, Global};
 
 /// `header NUMBERS`: the numbers that it gives, and those of its ten variables; or what isn't admitted.

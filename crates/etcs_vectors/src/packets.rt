@@ -2,10 +2,10 @@
 //! between two packets.
 
 use crate::words::drop_line_end;
-use etcs_cli::engine::push_packets;
 use etcs_packets::parts::from_fields;
 use etcs_packets::{Other, Packet};
 use etcs_row_cases::words::{bits, numbers, push_text};
+use etcs_text::parts::push_packets;
 use std::alloc::{AllocError, Global};
 
 /// `text PACKETS`: their text, which goes behind what stands there.

@@ -1,11 +1,11 @@
 //! Vectors of runs over lines of hexadecimal, and of the program's command line. In their texts `\n` is a LF and `\r` a CR.
 
 use crate::words::{drop_line_end, push_unless, size};
-use etcs_cli::engine::{
-    Command, Form, Input, Job, Kind, Output, RunFault, Source, Tally, run, write_fault,
-};
 use etcs_cli::run_words;
 use etcs_row_cases::words::{push_number, push_text, variable};
+use etcs_stream::{
+    Command, Form, Input, Job, Kind, Output, RunFault, Source, Tally, run, write_fault,
+};
 use etcs_telegram::Size;
 use std::alloc::{AllocError, Global};
 use std::io::{self, Read};

@@ -2,10 +2,10 @@
 
 use crate::views::is_viewed;
 use crate::words::{drop_line_end, push_refused, push_unless, size, sized};
-use etcs_cli::engine::{Entry, show_lines};
 use etcs_row_cases::words::{bytes, push_text};
 use etcs_telegram::laws::{exact_equality, read_back, round_trip};
 use etcs_telegram::{Fed, ReadFault, Size, Telegram, TelegramReader, TelegramView, ViewFault};
+use etcs_text::{Entry, show_lines};
 use etcs_vars::Var;
 use std::alloc::{AllocError, Global};
 

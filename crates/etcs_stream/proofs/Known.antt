@@ -1,0 +1,54 @@
+-- Known bytes that are read or written one text after another.
+use Rattle.std.proofs.Common.{◌≡◌, ℕ, zero, suc, ◌+◌, ◌-◌, List, [], ◌∷◌, ◌++◌, Option, Some, None, Ok, length, take, drop, refl, sym, ap, subst, ◌∙◌, append_assoc, length-drop}
+use Rattle.std.proofs.Math.Seq.{take-add}
+use Rattle.std.proofs.lemmas.List.{append-nil, take_rest}
+use Rattle.std.specs.Io.KnownBytes.{Appends, Consumes, Keeps}
+use Rattle.etcs_stream.specs.Ends.{failed_writes}
+
+pub Appends-none : (u : Option (List ℕ)) → Appends u u []
+Appends-none None = tt
+Appends-none (Some xs) = sym (append-nil xs)
+
+pub Consumes-none : (u : Option (List ℕ)) → Consumes u u []
+Consumes-none None = tt
+Consumes-none (Some xs) = refl
+
+pub Appends-then : (u v w : Option (List ℕ)) (a b : List ℕ) → Appends u v a → Appends v w b → Appends u w (a ++ b)
+Appends-then None v w a b x y = tt
+Appends-then (Some xs) None w a b x y = absurd x
+Appends-then (Some xs) (Some ys) None a b x y = y
+Appends-then (Some xs) (Some ys) (Some zs) a b x y = y ∙ ap (λ (t : List ℕ). t ++ b) x ∙ append_assoc xs a b
+
+pub Appends-kept : (u v w : Option (List ℕ)) (a : List ℕ) → Appends u v a → Keeps v w → Appends u w a
+Appends-kept None v w a x y = tt
+Appends-kept (Some xs) None w a x y = absurd x
+Appends-kept (Some xs) (Some ys) None a x y = absurd y
+Appends-kept (Some xs) (Some ys) (Some zs) a x y = y ∙ x
+
+pub Consumes-then : (u v w : Option (List ℕ)) (a b : List ℕ) → Consumes u v a → Consumes v w b → Consumes u w (a ++ b)
+Consumes-then None v w a b x y = tt
+Consumes-then (Some xs) None w a b x y = absurd x
+Consumes-then (Some xs) (Some ys) None a b x y = y
+Consumes-then (Some xs) (Some ys) (Some zs) a b x y = x ∙ ap (λ (t : List ℕ). a ++ t) y ∙ sym (append_assoc a b zs)
+
+-- the next bytes of a text
+pub Appends-slice : (u v w : Option (List ℕ)) (text : List ℕ) (at n m : ℕ) → m ≡ length text → Appends u v (take at text) → Appends v w (take n (take (m - at) (drop at text))) → Appends u w (take (at + n) text)
+Appends-slice u v w text at n m e x y =
+    let rest : take (m - at) (drop at text) ≡ drop at text = ap (λ k. take (k - at) (drop at text)) e ∙ take_rest text at in
+    let y' : Appends v w (take n (drop at text)) = subst (λ z. Appends v w (take n z)) rest y in
+    subst (λ z. Appends u w z) (sym (take-add at n text)) (Appends-then u v w (take at text) (take n (drop at text)) x y')
+
+-- a write that took some bytes is no failure
+pub wrote_some : (E : Type 0) (n : ℕ) (piece : List ℕ) → (n ≡ 0 → ⊥) → failed_writes {E = E} (Ok n) piece ≡ 0
+wrote_some E zero piece h = absurd (h refl)
+wrote_some E (suc n) [] h = refl
+wrote_some E (suc n) (x ∷ xs) h = refl
+
+-- a read that gave nothing
+pub Consumes-end : (u v w : Option (List ℕ)) (a buffer : List ℕ) (n : ℕ) → n ≡ 0 → Consumes u v a → Consumes v w (take n buffer) → Consumes u w a
+Consumes-end u v w a buffer n e x y =
+    let none : take n buffer ≡ [] = ap (λ k. take k buffer) e in
+    subst (λ z. Consumes u w z) (ap (λ (z : List ℕ). a ++ z) none ∙ append-nil a) (Consumes-then u v w a (take n buffer) x y)
+
+pub length-rest : (text : List ℕ) (at : ℕ) → length (take (length text - at) (drop at text)) ≡ length text - at
+length-rest text at = ap length (take_rest text at) ∙ length-drop at text

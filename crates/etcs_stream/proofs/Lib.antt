@@ -1,0 +1,5 @@
+pub mod HexDigits
+pub mod Streams
+pub mod Splits
+pub mod Known
+pub mod Runs

@@ -1,0 +1,169 @@
+//! Where bytes come from and where they go, with a count of reads and failures.
+
+ghost use Rattle.std.specs.Prelude.{◌≡◌, ℕ, ◌+◌, ◌-◌, ◌^◌, ◌<◌, List, Option};
+ghost use Rattle.std.specs.Io.KnownBytes.{Keeps, ReadConsumes, WriteAppends};
+ghost use Rattle.std.specs.Io.{ReadsAtMost, WritesAtMost};
+ghost use Rattle.etcs_stream.specs.Ends.{failed_calls, failed_writes};
+
+use std::io::{Read, Write};
+
+/// A call of a reader or a writer failed.
+#[derive(Clone, Copy, Debug, PartialEq, Eq)]
+pub struct Failed;
+
+/// Gives bytes.
+pub trait Source {
+    ghost remaining: { Self → Option (List ℕ) };
+
+    ghost reads: { Self → ℕ };
+
+    ghost failures: { Self → ℕ };
+
+    /// Reads some bytes into the buffer and says how many: 0 only at the end, or with no room.
+    /// `Failed` is any error of the reader; no byte is lost then.
+    fn read(&mut self, buffer: &mut [u8]) -> Result<usize, Failed>
+        requires more_reads { reads self.old < 2 ^ 64 - 1 }
+        requires more_failures { failures self.old < 2 ^ 64 - 1 }
+        ensures bound { ReadsAtMost result buffer.new }
+        ensures bytes { ReadConsumes (remaining self.old) (remaining self.new) result buffer.new }
+        ensures counted { reads self.new ≡ reads self.old + 1 }
+        ensures failed { failures self.new ≡ failures self.old + failed_calls result };
+
+    /// How often `read` was called.
+    fn reads(&self) -> u64
+        ensures { result ≡ reads self.now };
+
+    /// How often it failed.
+    fn failures(&self) -> u64
+        ensures { result ≡ failures self.now };
+}
+
+/// Takes bytes.
+pub trait Sink {
+    ghost contents: { Self → Option (List ℕ) };
+
+    ghost failures: { Self → ℕ };
+
+    /// Writes some bytes of the piece from its front on and says how many.
+    /// `Failed` is any error of the writer; no byte was written then.
+    fn write(&mut self, piece: &[u8]) -> Result<usize, Failed>
+        requires { failures self.old < 2 ^ 64 - 1 }
+        ensures bound { WritesAtMost result piece.now }
+        ensures bytes { WriteAppends (contents self.old) (contents self.new) result piece.now }
+        ensures failed { failures self.new ≡ failures self.old + failed_writes result piece.now };
+
+    /// Passes on what the writer may have kept back.
+    fn flush(&mut self) -> Result<(), Failed>
+        requires { failures self.old < 2 ^ 64 - 1 }
+        ensures bytes { Keeps (contents self.old) (contents self.new) }
+        ensures failed { failures self.new ≡ failures self.old + failed_calls result };
+
+    /// How often a call failed, or took no byte of a piece that has some.
+    fn failures(&self) -> u64
+        ensures { result ≡ failures self.now };
+}
+
+/// A source over any reader.
+#[derive(Drop)]
+pub struct Input<R> {
+    reader: R,
+    reads: u64,
+    failures: u64,
+}
+
+impl<R: Read> Input<R> {
+    /// A source over the reader, with no read so far.
+    pub fn new(reader: R) -> Input<R>
+        ensures bytes { ⟦<Input<R> as Source>⟧.remaining result ≡ R.remaining reader }
+        ensures reads { ⟦<Input<R> as Source>⟧.reads result ≡ 0 }
+        ensures failures { ⟦<Input<R> as Source>⟧.failures result ≡ 0 }
+    {
+        Input {
+            reader,
+            reads: 0,
+            failures: 0,
+        }
+    }
+}
+
+impl<R: Read> Source for Input<R> {
+    ghost remaining = { λ s. R.remaining s.reader };
+
+    ghost reads = { λ s. s.reads };
+
+    ghost failures = { λ s. s.failures };
+
+    fn read(&mut self, buffer: &mut [u8]) -> Result<usize, Failed> {
+        self.reads += 1;
+        match self.reader.read(buffer) {
+            Ok(count) => Ok(count),
+            Err(_) => {
+                self.failures += 1;
+                Err(Failed)
+            }
+        }
+    }
+
+    fn reads(&self) -> u64 {
+        self.reads
+    }
+
+    fn failures(&self) -> u64 {
+        self.failures
+    }
+}
+
+/// A sink over any writer.
+#[derive(Drop)]
+pub struct Output<W> {
+    writer: W,
+    failures: u64,
+}
+
+impl<W: Write> Output<W> {
+    /// A sink over the writer, with no failure so far.
+    pub fn new(writer: W) -> Output<W>
+        ensures bytes { ⟦<Output<W> as Sink>⟧.contents result ≡ W.contents writer }
+        ensures failures { ⟦<Output<W> as Sink>⟧.failures result ≡ 0 }
+    {
+        Output {
+            writer,
+            failures: 0,
+        }
+    }
+}
+
+impl<W: Write> Sink for Output<W> {
+    ghost contents = { λ s. W.contents s.writer };
+
+    ghost failures = { λ s. s.failures };
+
+    fn write(&mut self, piece: &[u8]) -> Result<usize, Failed> {
+        match self.writer.write(piece) {
+            Ok(count) => {
+                if count == 0 && !piece.is_empty() {
+                    self.failures += 1;
+                }
+                Ok(count)
+            }
+            Err(_) => {
+                self.failures += 1;
+                Err(Failed)
+            }
+        }
+    }
+
+    fn flush(&mut self) -> Result<(), Failed> {
+        match self.writer.flush() {
+            Ok(()) => Ok(()),
+            Err(_) => {
+                self.failures += 1;
+                Err(Failed)
+            }
+        }
+    }
+
+    fn failures(&self) -> u64 {
+        self.failures
+    }
+}

@@ -1,0 +1,62 @@
+//! Why a run ends early.
+
+ghost use Rattle.std.specs.Prelude.{◌≡◌, OnOk};
+ghost use Rattle.std.specs.Io.KnownBytes.{Appends};
+ghost use Rattle.etcs_stream.specs.Faults.{fault_line};
+
+use etcs_vars::Var;
+use std::io::{self, Write};
+use thiserror::Error;
+
+/// Why a run ends early. Items and lines count from 1, bits and places from 0.
+#[derive(Clone, Copy, Debug, PartialEq, Eq, Error)]
+pub enum RunFault {
+    /// No item goes on with this bit of the input, counted from the item's first; the variable holds it.
+    #[error("item {item} was refused at bit {bit}, {var}")]
+    Refused { item: u64, bit: usize, var: Var },
+    /// The input ends inside an item, after so many bits of it.
+    #[error("item {item} was truncated after {bits} bits")]
+    Truncated { item: u64, bits: u64 },
+    /// A line isn't hexadecimal. The place is that of the first other character, or the count of
+    /// characters where it is odd, or 4,096 where the line is longer.
+    #[error("line {line} is bad hexadecimal at {place}")]
+    BadHex { line: u64, place: u64 },
+    /// The reader failed.
+    #[error("the input could not be read")]
+    Read,
+    /// The writer failed or took nothing, after so many bytes of the run.
+    #[error("the output could not be written after {sent} bytes")]
+    Write { sent: u64 },
+    /// More reads or items than a run has.
+    #[error("the input has no end")]
+    Endless,
+    /// Memory was refused.
+    #[error("out of memory")]
+    Memory,
+}
+
+/// Writes the fault's line, with its LF. The error is the writer's.
+#[tactic(auto, using(std::proofs::Common::append_assoc))]
+pub fn write_fault<W: Write>(fault: &RunFault, out: &mut W) -> io::Result<()>
+    ensures { OnOk result (Appends (W.contents out.old) (W.contents out.new) (fault_line fault.now)) }
+{
+    match fault {
+        RunFault::Refused { item, bit, var } => {
+            write!(
+                out,
+                "etcs: item {item} refused at bit {bit}, {}\n",
+                var.name()
+            )
+        }
+        RunFault::Truncated { item, bits } => {
+            write!(out, "etcs: item {item} truncated after {bits} bits\n")
+        }
+        RunFault::BadHex { line, place } => {
+            write!(out, "etcs: line {line}: bad hexadecimal at {place}\n")
+        }
+        RunFault::Read => write!(out, "etcs: read fault\n"),
+        RunFault::Write { sent } => write!(out, "etcs: write fault after {sent} bytes\n"),
+        RunFault::Endless => write!(out, "etcs: input without end\n"),
+        RunFault::Memory => write!(out, "etcs: out of memory\n"),
+    }
+}

@@ -1,0 +1,171 @@
+//! Runs over readers and writers that fail or don't end.
+
+use etcs_fakes::{Broken, Counted, Full, Narrow, Repeated};
+use etcs_stream::{
+    Command, Form, Input, Job, Kind, Output, RunFault, Sink, Source, Tally, run, write_fault,
+};
+use std::alloc::Global;
+use std::test::Fail;
+
+/// A line of a short telegram.
+const LINE: &[u8] = b"A0007F802000FFFFFFFFFFFFFFFFFFFFFFFFFFFFFFFFFFFFFFFFC0\n";
+
+/// Lines of two short telegrams.
+const LINES: &[u8] =
+    b"A0007F802000FFFFFFFFFFFFFFFFFFFFFFFFFFFFFFFFFFFFFFFFC0\nA12A83FFE002BFD999999999999999999999999999999999999980\n";
+
+/// The same, and a bad one.
+const BAD: &[u8] =
+    b"A0007F802000FFFFFFFFFFFFFFFFFFFFFFFFFFFFFFFFFFFFFFFFC0\nA12A83FFE002BFD999999999999999999999999999999999999980\nG0\n";
+
+const SHOW_SHORT: Job = Job {
+    kind: Kind::Short,
+    from: Form::Hex,
+    command: Command::Show,
+};
+
+/// The tally of so many items.
+fn items(count: u64) -> Result<Tally, RunFault> {
+    Ok(Tally {
+        items: count,
+        clashes: 0,
+        complete: true,
+    })
+}
+
+/// What a run over good lines writes.
+fn text_of(alloc: Global, lines: &[u8]) -> Result<Vec<u8>, Fail> {
+    let mut written = Vec::new(alloc);
+    let mut source = Input::new(lines);
+    let mut sink = Output::new(&mut written);
+    run(alloc, SHOW_SHORT, &mut source, &mut sink)?;
+    drop(sink);
+    Ok(written)
+}
+
+/// What a run over lines of which the reader gives so many bytes writes, if it answers the failed read.
+fn run_broken(alloc: Global, lines: &[u8]) -> Option<Vec<u8>> {
+    let mut written = Vec::new(alloc);
+    let mut source = Input::new(Broken {
+        rest: lines,
+        step: 7,
+    });
+    let mut sink = Output::new(&mut written);
+    let answer = run(alloc, SHOW_SHORT, &mut source, &mut sink);
+    let failures = (source.failures(), sink.failures());
+    drop(sink);
+    if answer == Err(RunFault::Read) && failures == (1, 0) {
+        Some(written)
+    } else {
+        None
+    }
+}
+
+#[test]
+fn answers_a_failed_read(rt: HostRuntime) -> Result<(), Fail> {
+    let alloc = rt.alloc();
+    let first = text_of(alloc, LINE)?;
+    let both = text_of(alloc, LINES)?;
+    assert!(rt; both.len() > first.len() && !first.is_empty());
+    for count in 0..LINES.len() + 1 {
+        let written = run_broken(alloc, &LINES[..count]).ok_or("another answer")?;
+        if count < 55 {
+            assert!(rt; written.is_empty());
+        } else if count < 110 {
+            assert!(rt; written == first);
+        } else {
+            assert!(rt; written == both);
+        }
+    }
+    Ok(())
+}
+
+/// A run over a writer with room for so many bytes: the answer, and how often the writer failed.
+fn run_narrow(
+    alloc: Global,
+    input: &[u8],
+    room: usize,
+    full: Full,
+    flushes: bool,
+    written: &mut Vec<u8>,
+) -> (Result<Tally, RunFault>, u64) {
+    let mut source = Input::new(input);
+    let mut sink = Output::new(Narrow {
+        held: written,
+        room,
+        full,
+        flushes,
+    });
+    let answer = run(alloc, SHOW_SHORT, &mut source, &mut sink);
+    (answer, sink.failures())
+}
+
+#[test]
+fn answers_a_failed_write(rt: HostRuntime) -> Result<(), Fail> {
+    let alloc = rt.alloc();
+    let text = text_of(alloc, LINES)?;
+    for room in 0..text.len() {
+        let sent = room as u64;
+        for full in [Full::Fails, Full::TakesNothing] {
+            let mut written = Vec::new(alloc);
+            let found = run_narrow(alloc, BAD, room, full, true, &mut written);
+            assert!(rt; found == (Err(RunFault::Write { sent }), 1));
+            assert!(rt; text.as_slice().get(..room) == Some(written.as_slice()));
+        }
+    }
+    Ok(())
+}
+
+#[test]
+fn answers_a_failed_flush(rt: HostRuntime) -> Result<(), Fail> {
+    let alloc = rt.alloc();
+    let text = text_of(alloc, LINE)?;
+    let nothing: &[u8] = &[];
+    for (input, wanted) in [(LINE, text.as_slice()), (nothing, nothing)] {
+        let sent = wanted.len() as u64;
+        let mut written = Vec::new(alloc);
+        let found = run_narrow(alloc, input, wanted.len(), Full::Fails, false, &mut written);
+        assert!(rt; found == (Err(RunFault::Write { sent }), 1));
+        assert!(rt; written.as_slice() == wanted);
+    }
+    Ok(())
+}
+
+/// A run over bytes that are given so often: the answer, the bytes that were written, and the reads.
+fn run_often(alloc: Global, input: &[u8], left: u64) -> (Result<Tally, RunFault>, u64, u64) {
+    let mut source = Input::new(Repeated { bytes: input, left });
+    let mut counted = Counted { bytes: 0 };
+    let mut sink = Output::new(&mut counted);
+    let answer = run(alloc, SHOW_SHORT, &mut source, &mut sink);
+    drop(sink);
+    (answer, counted.bytes, source.reads())
+}
+
+#[test]
+fn ends_endless_reads(rt: HostRuntime) {
+    let endless = run_often(rt.alloc(), b"\n", u64::MAX);
+    assert!(rt; endless == (Err(RunFault::Endless), 0, 16_000_000));
+    let last = run_often(rt.alloc(), b"\n", 15_999_999);
+    assert!(rt; last == (items(0), 0, 16_000_000));
+}
+
+#[test]
+fn ends_endless_items(rt: HostRuntime) {
+    let all = run_often(rt.alloc(), LINE, 1_000_000);
+    assert!(rt; all.0 == items(1_000_000));
+    let endless = run_often(rt.alloc(), LINE, u64::MAX);
+    assert!(rt; endless.0 == Err(RunFault::Endless));
+    assert!(rt; endless.1 == all.1);
+}
+
+#[test]
+fn a_failed_write_of_a_fault_is_the_writers(rt: HostRuntime) {
+    let mut written = Vec::new(rt.alloc());
+    let mut narrow = Narrow {
+        held: &mut written,
+        room: 0,
+        full: Full::Fails,
+        flushes: true,
+    };
+    assert!(rt; write_fault(&RunFault::Read, &mut narrow).is_err());
+}

@@ -1,0 +1,128 @@
+-- Bits as digits, and lines one behind the other.
+use Rattle.std.proofs.Common.{◌≡◌, ℕ, ◌+◌, ◌-◌, ◌/◌, ◌%◌, ◌^◌, ◌<◌, ◌≤◌, Bool, false, List, [], ◌∷◌, ◌++◌, length, take, get_or, map, flat_map, set, Some, None, cond, Result, Ok, Err, sym, ap, ◌∙◌, arith, append_assoc}
+use Rattle.std.specs.Prelude.{bit_and, OnOk, codes}
+use Rattle.std.specs.Result.{is_ok}
+use Rattle.std.specs.Fmt.{decimal}
+use Rattle.std.proofs.lemmas.Fmt.{decimal_step}
+use Rattle.etcs_vars.specs.declared.var.Var.{Var}
+use Rattle.etcs_vars.specs.Reading.{Reading, Sent}
+use Rattle.std.proofs.lemmas.Nat.{and_mask}
+use Rattle.std.proofs.lemmas.Bool.{le-leb}
+use Rattle.std.proofs.Math.Seq.{take-add}
+use Rattle.std.proofs.lemmas.List.{append-nil, take_all, take_more, take_more_set, map_more, map-append}
+use Rattle.std.proofs.lemmas.Grind.{flat_map-append}
+use Rattle.std.specs.List.{zip}
+use Rattle.std.proofs.lemmas.Slice.Zip.{length-zip, get_or-zip}
+use Rattle.etcs_bits.specs.Bits.{num, bit, value, part, number_at}
+use Rattle.etcs_bits.proofs.Numbers.{length-num, bit-eqb, num-value}
+use Rattle.etcs_bits.proofs.Lists.{length-part}
+use Rattle.etcs_bits.proofs.Positions.{num_at}
+use Rattle.etcs_telegram.specs.declared.size.Size.{Size}
+use Rattle.etcs_telegram.specs.Telegrams.{TelegramParts, telegram_value, HeaderParts, header_reading}
+use Rattle.etcs_packets.specs.PacketValues.{PacketValue, packet_value}
+use Rattle.etcs_text.specs.Show.{bit_digit, variable_line, item_line, fill_line}
+use Rattle.etcs_text.specs.Telegrams.{show_text}
+use Rattle.etcs_text.specs.Packets.{packets_text}
+
+-- the digit of a bit of a number
+pub digit_at : (w n k : ℕ) → k < w → 48 + bit_and (n / 2 ^ (w - 1 - k)) 1 ≡ bit_digit (get_or (num w n) k false)
+digit_at w n k h =
+    let q = n / 2 ^ (w - 1 - k) in
+    ap (λ x. 48 + x) (and_mask q 1 ∙ sym (bit-eqb (q % 2) (omega arith)) ∙ ap bit (sym (num_at w n k h)))
+
+-- one more digit
+pub digits_more : (digits : List ℕ) (bs : List Bool) (k d : ℕ) → k < length digits → k < length bs → take k digits ≡ map bit_digit (take k bs) → d ≡ bit_digit (get_or bs k false) → take (k + 1) (set digits k d) ≡ map bit_digit (take (k + 1) bs)
+digits_more digits bs k d h g e is =
+    take_more_set digits k d h
+    ∙ ap (λ (z : List ℕ). z ++ d ∷ []) e
+    ∙ ap (λ x. map bit_digit (take k bs) ++ x ∷ []) is
+    ∙ sym (map_more bit_digit bs k false g)
+
+-- all digits
+pub digits_all : (digits : List ℕ) (w n k : ℕ) → k ≤ w → w ≤ k → take k digits ≡ map bit_digit (take k (num w n)) → take w digits ≡ map bit_digit (num w n)
+digits_all digits w n k a b e =
+    let same : k ≡ w = omega arith in
+    ap (λ j. take j digits) (sym same) ∙ e ∙ ap (λ (z : List Bool). map bit_digit z) (take_all k (num w n) (omega (arith, length-num w n)))
+
+some_same : (m n : ℕ) → Some m ≡ Some n → m ≡ n
+some_same m n e = cc
+
+-- the bits of a part, from the number that they spell
+pub part_bits : (bs : List Bool) (at w n : ℕ) → at + w ≤ length bs → Some n ≡ number_at at w bs → num w n ≡ part at w bs
+part_bits bs at w n h e =
+    let long = length-part at w bs h in
+    let number : Some (value (part at w bs)) ≡ number_at at w bs = sym (ap (λ b. cond b (Some (value (part at w bs))) None) (le-leb (at + w) (length bs) h)) in
+    let same : n ≡ value (part at w bs) = some_same _ _ (e ∙ sym number) in
+    ap (num w) same ∙ ap (λ k. num k (value (part at w bs))) (sym long) ∙ num-value (part at w bs)
+
+-- one more part
+pub part_more : (bs : List Bool) (at w : ℕ) (front out done : List ℕ) → done ≡ front ++ map bit_digit (take at bs) → out ≡ done ++ map bit_digit (part at w bs) → out ≡ front ++ map bit_digit (take (at + w) bs)
+part_more bs at w front out done e h =
+    h
+    ∙ ap (λ (z : List ℕ). z ++ map bit_digit (part at w bs)) e
+    ∙ append_assoc front (map bit_digit (take at bs)) (map bit_digit (part at w bs))
+    ∙ ap (λ (z : List ℕ). front ++ z) (sym (map-append bit_digit (take at bs) (part at w bs)) ∙ ap (λ (z : List Bool). map bit_digit z) (sym (take-add at w bs)))
+
+regroup : (old a b c d : List ℕ) → (((old ++ a) ++ b) ++ c) ++ d ≡ old ++ (((a ++ b) ++ c) ++ d)
+regroup old a b c d =
+    ap (λ (z : List ℕ). (z ++ c) ++ d) (append_assoc old a b)
+    ∙ ap (λ (z : List ℕ). z ++ d) (append_assoc old (a ++ b) c)
+    ∙ append_assoc old ((a ++ b) ++ c) d
+
+-- four texts one behind the other
+four_more : (old a b c d one two three four : List ℕ) → one ≡ old ++ a → two ≡ one ++ b → three ≡ two ++ c → four ≡ three ++ d → four ≡ old ++ (a ++ b ++ c ++ d)
+four_more old a b c d one two three four e f g h =
+    h
+    ∙ ap (λ (z : List ℕ). z ++ d) (g ∙ ap (λ (z : List ℕ). z ++ c) (f ∙ ap (λ (z : List ℕ). z ++ b) e))
+    ∙ regroup old a b c d
+
+-- five texts one behind the other
+pub five_more : (old a b c d e one two three four five : List ℕ) → one ≡ old ++ a → two ≡ one ++ b → three ≡ two ++ c → four ≡ three ++ d → five ≡ four ++ e → five ≡ old ++ (a ++ b ++ c ++ d ++ e)
+five_more old a b c d e one two three four five f g h k l =
+    l ∙ ap (λ (z : List ℕ). z ++ e) (four_more old a b c d one two three four f g h k) ∙ append_assoc old (a ++ b ++ c ++ d) e
+
+-- what `extend_from_slice` leaves
+pub on_extended : (T E : Type 0) (r : Result T E) (old new xs ys : List ℕ) → new ≡ cond (is_ok r) (old ++ xs) old → xs ≡ ys → OnOk r (new ≡ old ++ ys)
+on_extended T E (Ok x) old new xs ys e s = e ∙ ap (λ (z : List ℕ). old ++ z) s
+on_extended T E (Err f) old new xs ys e s = tt
+
+-- the text of a telegram with packets, part by part
+pub packets_telegram_text : (size size' : Size) (item : ℕ) (header header' : HeaderParts) (packets packets' : List PacketValue) (fill fill' : List Bool) (old one two three four five : List ℕ) → size ≡ size' → header ≡ header' → packets ≡ packets' → fill ≡ fill' → one ≡ old ++ item_line size item → two ≡ one ++ flat_map variable_line (header_reading header) → three ≡ two ++ packets_text packets → four ≡ three ++ codes "packet 255\n" → five ≡ four ++ fill_line fill → five ≡ old ++ (item_line size' item ++ flat_map variable_line (header_reading header') ++ packets_text packets' ++ codes "packet 255\n" ++ fill_line fill')
+packets_telegram_text size size' item header header' packets packets' fill fill' old one two three four five s h p f e g k l m =
+    let a = item_line size' item in
+    let b = flat_map variable_line (header_reading header') in
+    let c = packets_text packets' in
+    let d = codes "packet 255\n" in
+    let one' : one ≡ old ++ a = e ∙ ap (λ z. old ++ item_line z item) s in
+    let two' : two ≡ one ++ b = g ∙ ap (λ z. one ++ flat_map variable_line (header_reading z)) h in
+    let three' : three ≡ two ++ c = k ∙ ap (λ z. two ++ packets_text z) p in
+    let five' : five ≡ four ++ fill_line fill' = m ∙ ap (λ z. four ++ fill_line z) f in
+    five_more old a b c d (fill_line fill') one two three four five one' two' three' l five'
+
+pub telegram_text : (t : TelegramParts) (item : ℕ) (size : Size) (header : HeaderParts) (packets : List PacketValue) (fill : List Bool) (old one two three four five : List ℕ) → size ≡ t.size → header ≡ t.header → packets ≡ map packet_value t.packets → fill ≡ t.fill → one ≡ old ++ item_line size item → two ≡ one ++ flat_map variable_line (header_reading header) → three ≡ two ++ packets_text packets → four ≡ three ++ codes "packet 255\n" → five ≡ four ++ fill_line fill → five ≡ old ++ show_text (telegram_value t) item
+unfolding show_text
+telegram_text t item size header packets fill old one two three four five s h p f e g k l m = packets_telegram_text size t.size item header t.header packets (map packet_value t.packets) fill t.fill old one two three four five s h p f e g k l m
+
+-- a number of several digits
+pub decimal_more : (n : ℕ) (old front out : List ℕ) → 10 ≤ n → n < 2 ^ 64 → front ≡ old ++ decimal (n / 10) → out ≡ front ++ (48 + n % 10) ∷ [] → out ≡ old ++ decimal n
+decimal_more n old front out big fits e f =
+    f
+    ∙ ap (λ (z : List ℕ). z ++ (48 + n % 10) ∷ []) e
+    ∙ append_assoc old (decimal (n / 10)) ((48 + n % 10) ∷ [])
+    ∙ ap (λ (z : List ℕ). old ++ z) (sym (decimal_step n big fits))
+
+-- the line of one more variable
+pub line_more : (vars : List Var) (numbers : List ℕ) (k j : ℕ) (v : Var) (n : ℕ) (front out done : List ℕ) → j ≡ k + 1 → k < length vars → k < length numbers → v ≡ get_or vars k v → n ≡ get_or numbers k n → done ≡ front ++ flat_map variable_line (take k (zip vars numbers)) → out ≡ done ++ variable_line (v, n) → out ≡ front ++ flat_map variable_line (take j (zip vars numbers))
+line_more vars numbers k j v n front out done next h g e f was is =
+    let pairs = zip vars numbers in
+    let below : k < length pairs = omega (arith, length-zip vars numbers) in
+    let here : ◌≡◌ {A = Sent} (v, n) (get_or pairs k (v, n)) = sym (get_or-zip vars numbers k (v, n) h g ∙ ap (λ (x : Var). (x, get_or numbers k n)) (sym e) ∙ ap (λ (x : ℕ). (v, x)) (sym f)) in
+    is
+    ∙ ap (λ (z : List ℕ). z ++ variable_line (v, n)) was
+    ∙ append_assoc front (flat_map variable_line (take k pairs)) (variable_line (v, n))
+    ∙ ap (λ (z : List ℕ). front ++ z)
+    (ap (λ (z : Sent). flat_map variable_line (take k pairs) ++ variable_line z) here
+    ∙ ap (λ (z : List ℕ). flat_map variable_line (take k pairs) ++ z) (sym (append-nil (variable_line (get_or pairs k (v, n)))))
+    ∙ sym (flat_map-append variable_line (take k pairs) (get_or pairs k (v, n) ∷ []))
+    ∙ ap (λ (z : Reading). flat_map variable_line z) (sym (take_more pairs k (v, n) below))
+    ∙ ap (λ i. flat_map variable_line (take i pairs)) (sym next))

@@ -1,0 +1,12 @@
+//! The text of the items of an input: of each a line for itself, one for each variable, and one for kept bits.
+#![tactic(auto)]
+
+mod entry;
+mod packets;
+pub mod parts;
+mod show;
+mod text;
+mod variables;
+
+pub use entry::{Entry, Kind};
+pub use show::show_lines;

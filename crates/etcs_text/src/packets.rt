@@ -1,0 +1,131 @@
+//! The text of packets.
+
+ghost use Rattle.std.specs.Prelude.{◌≡◌, ◌++◌, OnOk, flat_map, map};
+ghost use Rattle.etcs_packets.specs.PacketValues.{packet_value, variables_of};
+ghost use Rattle.etcs_text.specs.Show.{variable_line};
+ghost use Rattle.etcs_text.specs.Packets.{body_lines, frame_lines, packet_line, packet_text, packets_text};
+
+use crate::text::push_decimal;
+use crate::variables::{push_bits_line, push_variable};
+use etcs_packets::Packet;
+use etcs_packets::parts::{dir, send};
+use etcs_vars::Var;
+use etcs_vars::parts::Sink;
+use std::alloc::AllocError;
+use std::marker::Model;
+use std::mem;
+
+/// A text that takes variables, a line for each.
+#[derive(Drop)]
+struct LineSink {
+    text: Vec<u8>,
+}
+
+impl Model for LineSink {
+    ghost use Rattle.std.specs.Prelude.{ℕ, List};
+
+    ghost Value = { List ℕ };
+
+    ghost view = { λ s. s.text.items };
+}
+
+impl LineSink {
+    /// The text.
+    fn into_text(self) -> Vec<u8>
+        ensures { result.items ≡ self }
+    {
+        let LineSink { text } = self;
+        text
+    }
+}
+
+impl Sink for LineSink {
+    ghost use Rattle.etcs_text.specs.LineSinks.{with_lines, with_lines_none, with_lines_both};
+
+    ghost with = { with_lines };
+
+    ghost failed = { λ s t. Unit {0} };
+
+    ghost with_none = { with_lines_none };
+
+    ghost with_both = { with_lines_both };
+
+    ghost failed_behind = { λ s a t h. tt };
+
+    fn send(&mut self, sent: &[(Var, u64)]) -> Result<(), AllocError> {
+        for pair in sent {
+            push_variable(pair.0, pair.1, &mut self.text)?;
+        }
+        Ok(())
+    }
+}
+
+/// Appends the line of a packet's number.
+fn push_number_line(nid: u8, out: &mut Vec<u8>) -> Result<(), AllocError>
+    ensures { OnOk result (out.new.items ≡ out.old.items ++ packet_line nid) }
+{
+    out.extend_from_slice(b"packet ")?;
+    push_decimal(u64::from(nid), out)?;
+    out.extend_from_slice(b"\n")
+}
+
+/// Appends the lines of Q_DIR and L_PACKET, which packet 0 doesn't have.
+fn push_frame(packet: &Packet, out: &mut Vec<u8>) -> Result<(), AllocError>
+    ensures { OnOk result (out.new.items ≡ out.old.items ++ frame_lines (packet_value packet.now)) }
+{
+    match dir(packet) {
+        Some(dir) => {
+            push_variable(Var::Q_DIR, u64::from(dir), out)?;
+            push_variable(Var::L_PACKET, packet.bit_len() as u64, out)
+        }
+        None => Ok(()),
+    }
+}
+
+/// Appends the lines of the variables behind a packet's frame.
+fn push_sent(packet: &Packet, out: &mut Vec<u8>) -> Result<(), AllocError>
+    ensures { OnOk result (out.new.items ≡ out.old.items ++ flat_map variable_line (variables_of (packet_value packet.now))) }
+{
+    let empty = Vec::new(*out.allocator());
+    let mut sink = LineSink {
+        text: mem::replace(out, empty),
+    };
+    let sent = send(packet, &mut sink);
+    *out = sink.into_text();
+    sent
+}
+
+/// Appends the lines of what stands behind a packet's frame.
+fn push_body(packet: &Packet, out: &mut Vec<u8>) -> Result<(), AllocError>
+    ensures { OnOk result (out.new.items ≡ out.old.items ++ body_lines (packet_value packet.now)) }
+{
+    match packet {
+        Packet::Other(kept) => push_bits_line(b"OTHER_DATA", &kept.body(), out),
+        _ => push_sent(packet, out),
+    }
+}
+
+/// Appends the text of a packet. A refused allocation may leave a part of it.
+fn push_packet(packet: &Packet, out: &mut Vec<u8>) -> Result<(), AllocError>
+    ensures { OnOk result (out.new.items ≡ out.old.items ++ packet_text (packet_value packet.now)) }
+{
+    push_number_line(packet.nid(), out)?;
+    push_frame(packet, out)?;
+    push_body(packet, out)
+}
+
+/// Appends the texts of packets, one behind the other: of each a line `packet` with its number, and a line for each
+/// variable behind it in the order of sending (SUBSET-026, 7.4). The bits of a packet that is kept as bits are one line,
+/// OTHER_DATA, with their count. Each line ends with a LF.
+///
+/// # Errors
+///
+/// Where memory is refused. A part of the texts may then stand in `out`.
+pub fn push_packets(packets: &[Packet], out: &mut Vec<u8>) -> Result<(), AllocError>
+    ensures { OnOk result (out.new.items ≡ out.old.items ++ packets_text (map packet_value packets.now)) }
+{
+    for packet in packets {
+        push_packet(packet, out)?;
+    }
+    Ok(())
+}

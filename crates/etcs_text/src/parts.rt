@@ -1,0 +1,3 @@
+//! For the crates above: the text of packets alone.
+
+pub use crate::packets::push_packets;

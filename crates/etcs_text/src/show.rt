@@ -1,0 +1,91 @@
+//! The text of an item.
+
+ghost use Rattle.std.specs.Prelude.{◌≡◌, ◌++◌, OnErr, OnOk, flat_map};
+ghost use Rattle.etcs_telegram.specs.Telegrams.{header_reading};
+ghost use Rattle.etcs_text.specs.Entries.{entry_text};
+ghost use Rattle.etcs_text.specs.Show.{fill_line, item_line, kind_word, variable_line};
+ghost use Rattle.etcs_text.specs.Telegrams.{show_text};
+ghost use Rattle.etcs_telegram.specs.Telegrams.{telegram_value};
+
+use crate::entry::Entry;
+use crate::packets::push_packets;
+use crate::text::push_decimal;
+use crate::variables::{push_bits_line, push_variables};
+use etcs_bits::BitSlice;
+use etcs_telegram::parts::{HEADER, header_numbers};
+use etcs_telegram::{Header, Size, Telegram};
+use std::alloc::AllocError;
+
+/// The word for telegrams of a size.
+fn kind_of(size: Size) -> &'static [u8]
+    ensures { result.now ≡ kind_word size }
+{
+    match size {
+        Size::Short => b"short",
+        Size::Long => b"long",
+    }
+}
+
+/// Appends the first line of an item.
+fn push_item(size: Size, item: u64, out: &mut Vec<u8>) -> Result<(), AllocError>
+    ensures { OnOk result (out.new.items ≡ out.old.items ++ item_line size item) }
+{
+    out.extend_from_slice(b"item ")?;
+    push_decimal(item, out)?;
+    out.extend_from_slice(b" ")?;
+    out.extend_from_slice(kind_of(size))?;
+    out.extend_from_slice(b" ")?;
+    push_decimal(size.user_bits() as u64, out)?;
+    out.extend_from_slice(b" bits\n")
+}
+
+/// Appends the lines of a header.
+fn push_header(header: &Header, out: &mut Vec<u8>) -> Result<(), AllocError>
+    ensures { OnOk result (out.new.items ≡ out.old.items ++ flat_map variable_line (header_reading header.now)) }
+{
+    push_variables(&HEADER, &header_numbers(header), out)
+}
+
+/// Appends the line of the bits behind the last packet.
+fn push_fill(fill: &BitSlice<'_>, out: &mut Vec<u8>) -> Result<(), AllocError>
+    ensures { OnOk result (out.new.items ≡ out.old.items ++ fill_line fill.now) }
+{
+    push_bits_line(b"FILL", fill, out)
+}
+
+/// Appends the text of a telegram. A refused allocation may leave a part of it.
+fn push_telegram(telegram: &Telegram, item: u64, out: &mut Vec<u8>) -> Result<(), AllocError>
+    ensures { OnOk result (out.new.items ≡ out.old.items ++ show_text (telegram_value telegram.now) item) }
+{
+    push_item(telegram.size(), item, out)?;
+    push_header(telegram.header(), out)?;
+    push_packets(telegram.packets(), out)?;
+    out.extend_from_slice(b"packet 255\n")?;
+    push_fill(&telegram.fill(), out)?;
+    Ok(())
+}
+
+/// Appends the text of an entry. A refused allocation may leave a part of it.
+fn push_entry(entry: &Entry, item: u64, out: &mut Vec<u8>) -> Result<(), AllocError>
+    ensures { OnOk result (out.new.items ≡ out.old.items ++ entry_text entry.now item) }
+{
+    match entry {
+        Entry::Telegram(telegram) => push_telegram(telegram, item, out),
+    }
+}
+
+/// Appends the text of an entry, the item of this number: a line with the number, the kind and the
+/// count of user bits, a line for each variable of the header in the order of sending (SUBSET-026,
+/// 7.5), its packets, `packet 255`, and the line of FILL. Each line ends with a LF.
+///
+/// # Errors
+///
+/// Where memory is refused. `out` is then as before.
+pub fn show_lines(entry: &Entry, item: u64, out: &mut Vec<u8>) -> Result<(), AllocError>
+    ensures ok { OnOk result (out.new.items ≡ out.old.items ++ entry_text entry.now item) }
+    ensures err { OnErr result (out.new.items ≡ out.old.items) }
+{
+    let mut text = Vec::with_capacity(*out.allocator(), 1024)?;
+    push_entry(entry, item, &mut text)?;
+    out.extend_from_slice(text.as_slice())
+}

@@ -25,9 +25,6 @@ found_by false s w n x b e h = absurd cc
 pub found_inside : (s w n : ℕ) (b : List Bool) → number_at s w b ≡ Some n → s + w ≤ length b
 found_inside s w n b e = found_by (leb (s + w) (length b)) s w n (value (part s w b)) b refl e
 
-pub ends_none : (L : Reading → Type 0) (b : List Bool) (at : ℕ) → at ≤ length b → L [] → EndsAt L b at at
-ends_none L b at le l = record { reading = []; reads = l; long = omega arith; inside = le; bits = refl }
-
 pub ends_then : (P Q : Reading → Type 0) (b : List Bool) (at mid end : ℕ) → EndsAt P b at mid → EndsAt Q b mid end → EndsAt (Then P Q) b at end
 ends_then P Q b at mid end x y =
     let m = length (spelled x.reading) in

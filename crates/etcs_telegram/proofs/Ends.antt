@@ -9,7 +9,7 @@ use Rattle.etcs_telegram.specs.declared.size.Size.TheVariants.{Short, Long}
 use Rattle.etcs_rows.specs.declared.frames.Carrier.TheVariants as carrier
 use Rattle.etcs_container.specs.Contents.{RunOf}
 use Rattle.etcs_telegram.specs.Telegrams.{header_row, header_reading, header_of, closed_reading, IsAdmitted, packet_room, pad_bits, user_bits, TelegramLanguage}
-use Rattle.etcs_telegram.specs.Headers.{labelled, RowReads}
+use Rattle.etcs_telegram.specs.Headers.{labelled}
 use Rattle.etcs_telegram.specs.Phases.{HeaderLeft}
 use Rattle.etcs_telegram.proofs.HeaderLemmas.{header_length}
 use Rattle.etcs_telegram.proofs.Rows.{header_reads, row_header, admitted_row}
@@ -43,19 +43,3 @@ start_from size q (h, rest, e, hr, (p, rest', e', (vs, run), (fill, len, e''))) 
       record { size = size; header = parts; packets = vs; fill = fill },
       (refl, record { header_admitted = admitted; packets_hold = λ i d lt. run.carried i d lt; reading_is = whole; user_bits_is = omega (arith, header_length parts, len, room_more size, fills, bits) }),
     )
-
-pub row_labelled : (vs : List Var) (ns : List ℕ) → IsAdmitted (labelled vs ns) → length ns ≡ length vs → RowReads vs (labelled vs ns)
-row_labelled [] ns a e = refl
-row_labelled (v ∷ vs) [] a e = absurd cc
-row_labelled (v ∷ vs) (n ∷ ns) a e = (n, labelled vs ns, a.0, refl, row_labelled vs ns a.1 (let k : length ns ≡ length vs = cc in k))
-
-numbers_labelled : (vs : List Var) (ns : List ℕ) → length ns ≡ length vs → numbers (labelled vs ns) ≡ ns
-numbers_labelled [] [] e = refl
-numbers_labelled [] (n ∷ ns) e = absurd cc
-numbers_labelled (v ∷ vs) [] e = absurd cc
-numbers_labelled (v ∷ vs) (n ∷ ns) e = ap (λ (t : List ℕ). n ∷ t) (numbers_labelled vs ns (let k : length ns ≡ length vs = cc in k))
-
--- ten numbers that are admitted are a header's
-pub numbers_header : (ns : List ℕ) → length ns ≡ 10 → IsAdmitted (labelled header_row ns) → labelled header_row ns ≡ header_reading (header_of ns)
-numbers_header ns l a =
-    row_header (labelled header_row ns) (row_labelled header_row ns a l) ∙ ap (λ (m : List ℕ). header_reading (header_of m)) (numbers_labelled header_row ns l)

@@ -71,22 +71,6 @@ header_admitted h e =
       ),
     )
 
-admitted_none : (v : Var) (b : Bool) → b ≡ true → (if b then None else Some (NotAdmitted v)) ≡ None
-admitted_none v b h = rw h refl
-
--- and an admitted one has no fault
-pub header_faultless : (h : HeaderParts) → IsAdmitted (header_reading h) → header_fault h.m_version h.n_pig h.n_total h.m_dup h.m_mcount h.nid_c h.nid_bg ≡ None
-header_faultless h (up, (version, (media, (pig, (total, (dup, (mcount, (country, (group, rest))))))))) =
-    rw (
-      admitted_none M_VERSION_HEADER (admits M_VERSION_HEADER h.m_version) version,
-      admitted_none N_PIG (admits N_PIG h.n_pig) pig,
-      admitted_none N_TOTAL (admits N_TOTAL h.n_total) total,
-      admitted_none M_DUP (admits M_DUP h.m_dup) dup,
-      admitted_none M_MCOUNT (admits M_MCOUNT h.m_mcount) mcount,
-      admitted_none NID_C (admits NID_C h.nid_c) country,
-    )
-    (admitted_none NID_BG (admits NID_BG h.nid_bg) group)
-
 -- admitted numbers have their variables' widths
 pub admitted_fit : (r : Reading) → IsAdmitted r → AllFit r
 admitted_fit [] h = tt

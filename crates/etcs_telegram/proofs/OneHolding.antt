@@ -13,7 +13,8 @@ use Rattle.etcs_rows.specs.declared.row.Way.TheVariants.{ToTrain}
 use Rattle.etcs_rows.specs.Layouts.{Layout}
 use Rattle.etcs_rows.specs.Rows.{row_to}
 use Rattle.etcs_rows.specs.Frames.{is_kept}
-use Rattle.etcs_rows.proofs.LengthLemmas.{length-sent, length-spelled}
+use Rattle.etcs_rows.proofs.LengthLemmas.{length-spelled}
+use Rattle.etcs_vars.proofs.Sent.{length-sent}
 use Rattle.etcs_packets.specs.declared.packet.Packet.{Packet}
 use Rattle.etcs_packets.specs.PacketValues as packets
 use Rattle.etcs_packets.specs.PacketValues.{PacketValue, packet_value, IsPacket}

@@ -2,7 +2,7 @@
 use Rattle.std.proofs.Common.{◌≡◌, ◌-◌, List, [], ◌∷◌, length, sym, subst}
 use Rattle.etcs_vars.specs.declared.var.Var.{Var}
 use Rattle.etcs_vars.specs.Reading.{spelled}
-use Rattle.etcs_vars.proofs.Languages.{Same, Then-same}
+use Rattle.etcs_vars.proofs.Languages.{Same, Then-same, same_self}
 use Rattle.etcs_rows.specs.declared.frames.Carrier.TheVariants.{Telegram}
 use Rattle.etcs_container.specs.Contents.{Run}
 use Rattle.etcs_reader.specs.Fields.{ReadsFields}
@@ -11,14 +11,9 @@ use Rattle.etcs_rests.specs.Lefts.{left_of, ahead}
 use Rattle.etcs_telegram.specs.declared.size.Size.{Size}
 use Rattle.etcs_telegram.specs.declared.phase.Phase.TheVariants.{Header}
 use Rattle.etcs_telegram.specs.Telegrams.{header_row, packet_room, TelegramLanguage}
-use Rattle.etcs_telegram.specs.Headers.{RowReads}
 use Rattle.etcs_telegram.specs.Phases.{FillLeft, PacketsLeft as AllPackets}
 use Rattle.etcs_telegram.specs.Lefts.{PacketsBehind, left_at}
 use Rattle.etcs_telegram.proofs.Ends.{start_to, start_from}
-
-fields_row : (vs : List Var) → Same (ReadsFields vs) (RowReads vs)
-fields_row [] r = (λ e. e, λ e. e)
-fields_row (v ∷ vs) r = (λ (n, q, a, e, h). (n, q, a, e, (fields_row vs q).0 h), λ (n, q, a, e, h). (n, q, a, e, (fields_row vs q).1 h))
 
 module _ (size : Size) (l : PacketsLeft) (room : ahead l.room l.stage ≡ packet_room size) (same : Same (left_of l.carrier l.room l.stage) (Run Telegram (packet_room size))) where
   all_packets : Same (PacketsBehind size l) (AllPackets size)
@@ -29,5 +24,5 @@ module _ (size : Size) (l : PacketsLeft) (room : ahead l.room l.stage ≡ packet
 
   pub new_left : Same (left_at size (Header 0) l) (TelegramLanguage size)
   new_left r =
-      let all = Then-same (ReadsFields header_row) (PacketsBehind size l) (RowReads header_row) (AllPackets size) (fields_row header_row) all_packets r in
+      let all = Then-same (ReadsFields header_row) (PacketsBehind size l) (ReadsFields header_row) (AllPackets size) (same_self (ReadsFields header_row)) all_packets r in
       (λ h. start_from size r (all.0 h), λ h. all.1 (start_to size r h))

@@ -11,34 +11,23 @@ use Rattle.etcs_vars.specs.Vars.{width, admits, inside, ranges}
 use Rattle.etcs_vars.specs.Reading.{Reading, spelled, numbers, kept}
 use Rattle.etcs_vars.proofs.Prefixes.{admits_parts, admits_from, some_number}
 use Rattle.etcs_telegram.specs.Telegrams.{header_row, HeaderParts, header_reading, header_of, IsAdmitted}
-use Rattle.etcs_telegram.specs.Headers.{labelled, RowReads}
-
--- each row can be read
-pub row_read : (vs : List Var) → (r : Reading) × RowReads vs r
-row_read [] = ([], refl)
-row_read (v ∷ vs) = let n = some_number v in let r = row_read vs in ((v, n.0) ∷ r.0, (n.0, r.0, admits_from v n.0 n.1 n.2, refl, r.1))
+use Rattle.etcs_reader.specs.Fields.{ReadsFields}
+use Rattle.etcs_telegram.specs.Headers.{labelled}
 
 abbrev pub widths : List Var → ℕ
 widths [] = 0
 widths (v ∷ vs) = width v + widths vs
 
-pub row_length : (vs : List Var) (r : Reading) → RowReads vs r → length (spelled r) ≡ widths vs
-row_length [] r h = rw h refl
-row_length (v ∷ vs) r (n, r', na, e, rr) = rw e (length-append (num (width v) n) (spelled r') ∙ rw (length-num, row_length vs r' rr) refl)
-
-pub kept_append : (v : Var) (bs cs : List Bool) → kept v (bs ++ cs) ≡ kept v bs ++ kept v cs
-kept_append v bs cs = map-append _ bs cs
-
 -- a reading with admitted pairs is one of its row
-pub row_admitted : (r : Reading) → IsAdmitted r → RowReads (map (λ p. p.0) r) r
+pub row_admitted : (r : Reading) → IsAdmitted r → ReadsFields (map (λ p. p.0) r) r
 row_admitted [] a = refl
 row_admitted (p ∷ r) a = (p.1, r, a.0, refl, row_admitted r a.1)
 
-pub admitted_row : (vs : List Var) (r : Reading) → RowReads vs r → IsAdmitted r
+pub admitted_row : (vs : List Var) (r : Reading) → ReadsFields vs r → IsAdmitted r
 admitted_row [] r h = rw h tt
 admitted_row (v ∷ vs) r (n, r', a, e, h) = rw e (a, admitted_row vs r' h)
 
-pub header_reads : (h : HeaderParts) → IsAdmitted (header_reading h) → RowReads header_row (header_reading h)
+pub header_reads : (h : HeaderParts) → IsAdmitted (header_reading h) → ReadsFields header_row (header_reading h)
 header_reads h a = row_admitted (header_reading h) a
 
 -- the row's reading is a header's
@@ -57,7 +46,7 @@ zero_only n h = let p = admits_parts Q_MEDIA n h in only_zero n p.0
 a_bit : (n : ℕ) → IsTrue (admits Q_LINK n) → bit (n == 1) ≡ n
 a_bit n h = let p = admits_parts Q_LINK n h in bit-eqb n p.1
 
-pub row_header : (r : Reading) → RowReads header_row r → r ≡ header_reading (header_of (numbers r))
+pub row_header : (r : Reading) → ReadsFields header_row r → r ≡ header_reading (header_of (numbers r))
 row_header r (n0, r0, a0, e0, (n1, r1, a1, e1, (n2, r2, a2, e2, (n3, r3, a3, e3, (n4, r4, a4, e4, (n5, r5, a5, e5, (n6, r6, a6, e6, (n7, r7, a7, e7, (n8, r8, a8, e8, (n9, r9, a9, e9, e)))))))))) =
     let all : r ≡ labelled header_row (n0 ∷ n1 ∷ n2 ∷ n3 ∷ n4 ∷ n5 ∷ n6 ∷ n7 ∷ n8 ∷ n9 ∷ []) = rw (e0, e1, e2, e3, e4, e5, e6, e7, e8, e9, e) refl in
     let up = one_only n0 a0 in

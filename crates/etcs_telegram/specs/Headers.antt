@@ -18,11 +18,6 @@ labelled [] ns = []
 labelled (v ∷ vs) [] = []
 labelled (v ∷ vs) (n ∷ ns) = (v, n) ∷ labelled vs ns
 
--- r is a reading of the variables, one behind the other
-abbrev pub RowReads : List Var → Reading → Type 0
-RowReads [] r = r ≡ []
-RowReads (v ∷ vs) r = (n : ℕ) × (r' : Reading) × IsTrue (admits v n) × (r ≡ (v, n) ∷ r') × RowReads vs r'
-
 -- ten numbers that the header's variables admit
 pub record IsHeaderNumbers (ns : List ℕ) : Type 0 where
   pub ten : length ns ≡ 10

@@ -22,7 +22,7 @@ pub(crate) enum Phase {
 }
 
 impl Phase {
-    ghost use Rattle.etcs_telegram.specs.Phases.{var_at, ranges_at, after, after_fill, is_going, IsPhase};
+    ghost use Rattle.etcs_telegram.specs.Phases.{var_at, after, after_fill, is_going, IsPhase};
 
     /// The variable that comes next.
     pub(crate) fn var(self) -> Var
@@ -37,13 +37,6 @@ impl Phase {
             Phase::Fill(_) => Var::FILL,
             Phase::Pad(_) | Phase::Whole => Var::PAD,
         }
-    }
-
-    /// The numbers that it may have.
-    pub(crate) fn ranges(self) -> &'static [(u64, u64)]
-        ensures { result.now ≡ ranges_at self }
-    {
-        self.var().ranges()
     }
 
     /// Whether something comes.

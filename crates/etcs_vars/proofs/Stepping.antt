@@ -47,31 +47,10 @@ more_fits taken bits b h = parts_fit taken 1 bits (bit b) h (omega (arith, bit-l
 pub next_bits : (taken bits : ℕ) (b : Bool) → num (taken + 1) (bits * 2 + bit b) ≡ num taken bits ++ b ∷ []
 next_bits taken bits b = next_number taken 1 bits (bit b) (omega (arith, bit-le b)) ∙ ap (λ (t : List Bool). num taken bits ++ t) (one_bit b)
 
-pub seen_by : (p : Reading) (taken k bits more : ℕ) → more < 2 ^ k → seen_with p (bits * 2 ^ k + more) (taken + k) ≡ seen_with p bits taken ++ num k more
-seen_by p taken k bits more small = ap (λ (t : List Bool). spelled p ++ t) (next_number taken k bits more small) ∙ sym (append_assoc (spelled p) (num taken bits) (num k more))
-
 pub seen_more : (p : Reading) (taken bits : ℕ) (b : Bool) → seen_with p (bits * 2 + bit b) (taken + 1) ≡ seen_with p bits taken ++ b ∷ []
 seen_more p taken bits b = ap (λ (t : List Bool). spelled p ++ t) (next_bits taken bits b) ∙ sym (append_assoc (spelled p) (num taken bits) (b ∷ []))
 
 -- ---- A part of a variable, bit by bit or by several.
-
--- k bits more of the same variable
-pub part_by : (x : Var) (begun : ℕ → ℕ → Bool) (bits taken k more : ℕ) → Part x begun bits taken → more < 2 ^ k → begun (width x - (taken + k)) (bits * 2 ^ k + more) ≡ true → taken + k < width x → Part x begun (bits * 2 ^ k + more) (taken + k)
-part_by x begun bits taken k more part small test short = record { short = short; fits = parts_fit taken k bits more part.fits small; starts = test }
-
--- one bit more of it
-pub part_more : (x : Var) (begun : ℕ → ℕ → Bool) (bits taken : ℕ) (b : Bool) → Part x begun bits taken → begun (width x - (taken + 1)) (bits * 2 + bit b) ≡ true → taken + 1 < width x → Part x begun (bits * 2 + bit b) (taken + 1)
-part_more x begun bits taken b part test short = part_by x begun bits taken 1 (bit b) part (omega (arith, bit-le b)) test short
-
--- no bit yet of a variable with which some reading goes on
-pub part_none : (x : Var) (R' : ℕ → Reading → Type 0) (begun : ℕ → ℕ → Bool) → Tested x R' begun → 0 < width x → (n : ℕ) (r : Reading) → n < 2 ^ width x → R' n r → Part x begun 0 0
-part_none x R' begun t pos n r small l = record {
-  short = pos;
-  fits = omega arith;
-  starts = (let whole : width x - 0 ≡ width x = omega arith in
-      let none : n / 2 ^ (width x - 0) ≡ 0 = rw whole (div-eq_of_lt small) in
-      rw none at (t.each (width x - 0) n r l));
-}
 
 -- ---- A test by ranges.
 

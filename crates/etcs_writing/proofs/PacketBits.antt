@@ -38,23 +38,7 @@ frame_number nid dir len d l =
 pub frame_bits : (nid dir len : ℕ) → length (spelled ((NID_PACKET, nid) ∷ (Q_DIR, dir) ∷ (L_PACKET, len) ∷ [])) ≡ 23
 frame_bits nid dir len = omega (arith, length-sent NID_PACKET nid ((Q_DIR, dir) ∷ (L_PACKET, len) ∷ []), length-sent Q_DIR dir ((L_PACKET, len) ∷ []), length-sent L_PACKET len [])
 
--- a packet's direction has two bits
-pub dir_small : (v : PacketValue) (d : ℕ) → IsPacket v → Some d ≡ dir_of v → d < 4
-dir_small (marker n) d i e = absurd cc
-dir_small (typed nid dir r) d (row, is, admitted, reads, short) e = let same : d ≡ dir = cc in rw same ((admits_parts Q_DIR dir admitted).1)
-dir_small (kept nid dir b) d i e =
-    let same : d ≡ dir = cc in
-    let long = if nat_le (length b) ROW_LIMIT then None else Some TooLong in
-    let first = if is_kept ToTrain nid then None else Some (NotAdmitted NID_PACKET) in
-    let fine = (none_both first (number_fault Q_DIR dir) (none_both (first or_else number_fault Q_DIR dir) long i).0).1 in
-    rw same ((admits_parts Q_DIR dir (number_fine Q_DIR dir fine)).1)
-
 -- ---- What stands in front.
-
-pub front_framed : (v : PacketValue) (d : ℕ) → Some d ≡ dir_of v → (NID_PACKET, nid_of v) ∷ (Q_DIR, d) ∷ (L_PACKET, bits_of v) ∷ [] ≡ front_of v
-front_framed (marker n) d e = absurd cc
-front_framed (typed nid dir r) d e = let same : d ≡ dir = cc in rw same refl
-front_framed (kept nid dir b) d e = let same : d ≡ dir = cc in rw same refl
 
 pub front_marked : (v : PacketValue) → None ≡ dir_of v → num 8 (nid_of v) ≡ spelled (front_of v)
 front_marked (marker n) e = sym (append-nil (num 8 0))

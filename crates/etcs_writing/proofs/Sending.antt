@@ -35,11 +35,6 @@ bits-packed (suc n) bs e =
     let rest : bits (packed n (drop 8 bs)) ≡ drop 8 bs = bits-packed n (drop 8 bs) (omega (arith, length-drop 8 bs, e)) in
     rw (front, rest) (take-append-drop 8 bs)
 
-pub length-packed : (n : ℕ) (bs : List Bool) → length (packed n bs) ≡ n
-unfolding packed
-length-packed zero bs = refl
-length-packed (suc n) bs = ap suc (length-packed n (drop 8 bs))
-
 pub bits-over : (bytes : List ℕ) (place : ℕ) (new : List Bool) → place + length new ≤ length (bits bytes) → bits (over bytes place new) ≡ replaced place new (bits bytes)
 bits-over bytes place new h = bits-packed (length bytes) (replaced place new (bits bytes)) (length-replaced place new (bits bytes) h ∙ length-bits bytes)
 

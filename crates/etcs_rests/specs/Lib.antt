@@ -5,3 +5,4 @@ pub mod KeptLaws
 pub mod Lefts
 pub mod Held
 pub mod LeftLaws
+pub mod Labels

@@ -1,6 +1,6 @@
 //! What comes next in a message.
 
-ghost use Rattle.std.specs.Prelude.{◌≡◌, option_map};
+ghost use Rattle.std.specs.Prelude.{◌≡◌, ◌≤◌, option_map};
 ghost use Rattle.etcs_radio.specs.Lefts.{front_row, front_bits};
 
 use etcs_vars::Var;

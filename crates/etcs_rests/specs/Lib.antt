@@ -2,7 +2,11 @@ pub mod RowLaws
 pub mod ThenLaws
 pub mod OpenLaws
 pub mod KeptLaws
+pub mod BitLaws
 pub mod Lefts
 pub mod Held
+pub mod ChainLaws
 pub mod LeftLaws
+pub mod StageLaws
 pub mod Labels
+pub mod LabelLaws

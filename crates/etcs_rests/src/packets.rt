@@ -82,12 +82,12 @@ impl<S: PacketStore> PacketsRest<S> {
     /// All packets of a room of so many bits again, where the store holds none yet.
     pub fn start(&mut self, carrier: Carrier, room: usize)
         requires small { room ≤ 8191 }
-        requires none { S.holds self.old.store [] [] [] }
+        requires none { ∥ S.holds self.old.store [] [] [] ∥₁ }
         ensures carrier { self.new.left.carrier ≡ carrier }
         ensures ahead { ahead self.new.left.room self.new.left.stage ≡ room }
         ensures left { Same (left_of self.new.left.carrier self.new.left.room self.new.left.stage) (Run carrier room) }
         ensures store { self.new.store ≡ self.old.store }
-        ensures held { HoldsAt self.new.left.carrier self.new.left.stage (S.holds self.new.store) [] }
+        ensures held { S.holds self.old.store [] [] [] → HoldsAt self.new.left.carrier self.new.left.stage (S.holds self.new.store) [] }
     {
         self.left = PacketsLeft::new(carrier, room);
     }

@@ -33,11 +33,11 @@ fields_length [] r h = rw h refl
 fields_length (v ∷ vs) r (n, r', a, e, h) = rw e (length-append (num (width v) n) (spelled r') ∙ rw (length-num, fields_length vs r' h) refl)
 
 -- the bits of what comes behind a variable
-pub bits_behind : (vs : List Var) (at : ℕ) (x : Var) → first_of (drop at vs) ≡ Some x → bits_of (drop at vs) ≡ width x + bits_of (drop (suc at) vs)
-bits_behind [] zero x e = absurd cc
-bits_behind [] (suc at) x e = absurd cc
-bits_behind (v ∷ vs) zero x e = let same : v ≡ x = cc in rw same refl
-bits_behind (v ∷ vs) (suc at) x e = bits_behind vs at x e
+pub drop_bits : (vs : List Var) (at : ℕ) (x : Var) → first_of (drop at vs) ≡ Some x → bits_of (drop at vs) ≡ width x + bits_of (drop (suc at) vs)
+drop_bits [] zero x e = absurd cc
+drop_bits [] (suc at) x e = absurd cc
+drop_bits (v ∷ vs) zero x e = let same : v ≡ x = cc in rw same refl
+drop_bits (v ∷ vs) (suc at) x e = drop_bits vs at x e
 
 -- ---- Which messages are typed.
 

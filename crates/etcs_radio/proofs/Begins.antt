@@ -103,11 +103,10 @@ ranges_ordered (Some vs) small = let le : front_bits vs ≤ 107 = small vs refl 
 
 pub length_tested : (nid rest bits : ℕ) → IsTrue (begins (message_lengths nid) rest bits) ↔ Starts (LengthLeft nid) L_MESSAGE rest bits
 length_tested nid rest bits =
-    let o = length_opens nid in
-    (
+    let o = length_opens nid in (
       λ t. let (n, i, q) = begins_some (message_lengths nid) rest bits (ranges_ordered (front_row nid) (front_small nid)) t in
-      let (r, h) = (length_fits nid n).0 i in
-      (n, r, o.closes n r h, q),
+          let (r, h) = (length_fits nid n).0 i in
+          (n, r, o.closes n r h, q),
       λ (n, r, (m, r', e, h), q).
           let number : m ≡ n = length_number n m r r' e in
           let h' : Behind (front_row nid) n r' = subst (λ k. Behind (front_row nid) k r') number h in

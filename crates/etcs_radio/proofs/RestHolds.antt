@@ -214,15 +214,17 @@ typed_follows nid here front l l' padding holds holds' len vs e h found goes beh
     let bounds = typed_bounds nid len vs found (rw e at goes) in
     rw e record {
       residual = behind;
-      held = λ q (none, k, is).
-          (none, record {
-            len = len;
-            vars = vs;
-            typed = found;
-            none = begun k;
-            reading_is = ap (λ (x : Reading). x ++ (L_MESSAGE, len) ∷ []) is ∙ ap (headed nid len) (sym (ap (labelled vs) no_front ∙ labelled_none vs));
-            room_is = (let a = heads nid len q is in let b = bounds.0 in omega (arith, a, b, room));
-          });
+      held = λ q (none, k, is). (
+        none,
+        record {
+          len = len;
+          vars = vs;
+          typed = found;
+          none = begun k;
+          reading_is = ap (λ (x : Reading). x ++ (L_MESSAGE, len) ∷ []) is ∙ ap (headed nid len) (sym (ap (labelled vs) no_front ∙ labelled_none vs));
+          room_is = (let a = heads nid len q is in let b = bounds.0 in omega (arith, a, b, room));
+        },
+      );
     }
 
 pub kept_follows : (nid : ℕ) (here : Phase) (front : List ℕ) (l : PacketsLeft) (padding : ℕ) (holds : Holds) (len : ℕ) → here ≡ phase.Length → front_row nid ≡ None → Starts (left_at nid here l) L_MESSAGE 0 len → Follows nid here front l padding holds ((L_MESSAGE, len) ∷ []) nid (phase.Data (8 * len - 18)) front l padding holds

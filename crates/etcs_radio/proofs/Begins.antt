@@ -1,7 +1,6 @@
 -- Which numbers of a message go on.
-use Rattle.std.proofs.Common.{◌≡◌, ℕ, ◌+◌, ◌-◌, ◌*◌, ◌/◌, ◌^◌, ◌<◌, ◌≤◌, Bool, true, false, List, [], ◌∷◌, ◌++◌, length, Some, None, refl, sym, ap, subst, ◌∙◌, arith, inl, inr}
-use Rattle.std.specs.Prelude.{IsTrue, ◌↔◌, Option, option_map, ◌⊎◌, nat_le, ◌||◌}
-use Rattle.std.proofs.lemmas.Bool.{leb-true, le-leb}
+use Rattle.std.proofs.Common.{◌≡◌, ℕ, ◌+◌, ◌-◌, ◌*◌, ◌/◌, ◌^◌, ◌<◌, ◌≤◌, true, List, [], ◌∷◌, ◌++◌, length, Some, None, refl, sym, ap, subst, ◌∙◌, arith, inl, inr}
+use Rattle.std.specs.Prelude.{IsTrue, ◌↔◌, Option, option_map, ◌⊎◌}
 use Rattle.std.proofs.lemmas.Bool.Decides.{nat_tests}
 use Rattle.std.proofs.lemmas.Nat.{pow_pos, div-mul-add}
 use Rattle.etcs_vars.specs.declared.var.Var.{Var}
@@ -12,7 +11,6 @@ use Rattle.etcs_vars.proofs.Prefixes.{ordered, begins_some, begins_from, below_q
 use Rattle.etcs_rows.specs.declared.row.Way.TheVariants.{ToTrain}
 use Rattle.etcs_rows.specs.declared.frames.Carrier.TheVariants.{Message}
 use Rattle.etcs_rows.specs.Frames.{may_be_left}
-use Rattle.etcs_container.specs.Contents.{Run}
 use Rattle.etcs_container.proofs.Fits.{run_some}
 use Rattle.etcs_reader.specs.Rests.{Starts, Goes}
 use Rattle.etcs_reader.specs.FieldLaws.{some_fields}
@@ -23,7 +21,7 @@ use Rattle.etcs_rests.specs.RowLaws.{head_of}
 use Rattle.etcs_rests.specs.StageLaws.{message_run}
 use Rattle.etcs_radio.specs.declared.phase.Phase.{Phase}
 use Rattle.etcs_radio.specs.declared.phase.Phase.TheVariants as phase
-use Rattle.etcs_radio.specs.Lefts.{front_row, front_bits, PacketsFrom, Behind, LengthLeft, NumberLeft, left_at, next_at}
+use Rattle.etcs_radio.specs.Lefts.{front_row, front_bits, Behind, LengthLeft, NumberLeft, left_at, next_at}
 use Rattle.etcs_radio.specs.Lengths.{lengths_behind, message_lengths}
 use Rattle.etcs_radio.specs.RestLaws.{length_opens}
 use Rattle.etcs_radio.proofs.Fronts.{front_small}

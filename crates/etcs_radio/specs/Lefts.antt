@@ -147,7 +147,7 @@ behind_data left = if nat_lt 0 left then phase.Data left else phase.Whole
 
 -- ---- What is kept of it.
 
--- nothing is held in front of packets and of bits that are kept, and behind bits that are held those have room that are left
+-- in front of packets and of bits that are kept nothing is held, and the bits that are left have room behind those that are held
 abbrev pub DataFits : Phase → (List PacketValue → List ℕ → List Bool → Type 0) → Type 0
 DataFits phase.Number holds = holds [] [] []
 DataFits phase.Length holds = holds [] [] []

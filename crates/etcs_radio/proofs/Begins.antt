@@ -6,7 +6,7 @@ use Rattle.std.proofs.lemmas.Nat.{pow_pos, div-mul-add}
 use Rattle.etcs_vars.specs.declared.var.Var.{Var}
 use Rattle.etcs_vars.specs.declared.var.Var.TheVariants.{NID_MESSAGE, L_MESSAGE, PADDING, OTHER_DATA}
 use Rattle.etcs_vars.specs.Vars.{width, ranges, begins, inside}
-use Rattle.etcs_vars.specs.Reading.{Reading, spelled}
+use Rattle.etcs_vars.specs.Reading.{spelled}
 use Rattle.etcs_vars.proofs.Prefixes.{ordered, begins_some, begins_from, below_quotient}
 use Rattle.etcs_rows.specs.declared.row.Way.TheVariants.{ToTrain}
 use Rattle.etcs_rows.specs.declared.frames.Carrier.TheVariants.{Message}

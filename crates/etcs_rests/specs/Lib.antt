@@ -2,8 +2,12 @@ pub mod RowLaws
 pub mod ThenLaws
 pub mod OpenLaws
 pub mod KeptLaws
+pub mod BitLaws
 pub mod Lefts
 pub mod Held
 pub mod ChainLaws
 pub mod RowBits
 pub mod LeftLaws
+pub mod StageLaws
+pub mod Labels
+pub mod LabelLaws

@@ -79,6 +79,19 @@ impl<S: PacketStore> PacketsRest<S> {
         }
     }
 
+    /// All packets of a room of so many bits again, where the store holds none yet.
+    pub fn start(&mut self, carrier: Carrier, room: usize)
+        requires small { room ≤ 8191 }
+        requires none { ∥ S.holds self.old.store [] [] [] ∥₁ }
+        ensures carrier { self.new.left.carrier ≡ carrier }
+        ensures ahead { ahead self.new.left.room self.new.left.stage ≡ room }
+        ensures left { Same (left_of self.new.left.carrier self.new.left.room self.new.left.stage) (Run carrier room) }
+        ensures store { self.new.store ≡ self.old.store }
+        ensures held { S.holds self.old.store [] [] [] → HoldsAt self.new.left.carrier self.new.left.stage (S.holds self.new.store) [] }
+    {
+        self.left = PacketsLeft::new(carrier, room);
+    }
+
     /// Takes the typed packet that begins at `at`, where it lies whole in the piece, and says how many bits
     /// it was.
     fn leap_packet(&mut self, piece: &[u8], at: usize) -> Result<Option<usize>, AllocError>

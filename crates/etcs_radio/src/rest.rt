@@ -1,0 +1,359 @@
+//! What is left of a message, for the one reader.
+
+ghost use Rattle.std.specs.Prelude.{◌≡◌, ℕ, ◌-◌, ◌+◌, ◌^◌, ◌<◌, ◌≤◌, [], ◌∷◌, Some, length, IsTrue, OnOk, OnErr, IfOk, IfSome, IsNone};
+ghost use Rattle.etcs_bits.specs.Bits.{bits, num, part};
+ghost use Rattle.etcs_vars.specs.Reading.{kept, Viable};
+ghost use Rattle.etcs_vars.specs.declared.var.Var.{Var};
+ghost use Rattle.etcs_vars.specs.declared.var.Var.TheVariants.{NID_MESSAGE, L_MESSAGE, PADDING, OTHER_DATA};
+ghost use Rattle.etcs_vars.proofs.Languages.{Same};
+ghost use Rattle.etcs_reader.specs.Rests.{Goes, Starts, LeapsBy};
+ghost use Rattle.etcs_radio.specs.Messages.{MessageLanguage};
+ghost use Rattle.etcs_radio.specs.Lefts.{left_at, next_at, stands_at, may_ask, behind_packets, behind_front, behind_padding, behind_data, DataFits, HoldsIn, Follows};
+ghost use Rattle.etcs_radio.specs.RestLaws.{rest_regular, rest_begins, rest_ended, follows_none, follows_along};
+
+use crate::lengths::lengths_of;
+use crate::phase::{Phase, front_bits, front_row};
+use arrayvec::ArrayVec;
+use etcs_bits::BitSlice;
+use etcs_container::parts::{number_at, run_at};
+use etcs_reader::Rest;
+use etcs_rests::{PacketStore, PacketsLeft, PacketsRest, Stage};
+use etcs_rows::parts::Carrier;
+use etcs_vars::{Var, begins};
+use std::alloc::AllocError;
+
+/// What is left of a message, and what is kept of the variables that were read.
+#[derive(Drop)]
+pub(crate) struct MessageRest<S: PacketStore> {
+    /// NID_MESSAGE, once it was read.
+    pub(crate) nid: u8,
+    pub(crate) stage: Phase,
+    /// The numbers behind L_MESSAGE and in front of the packets so far.
+    pub(crate) front: ArrayVec<u64, 5>,
+    /// The packets. The bits of a message that is kept are in their store.
+    pub(crate) packets: PacketsRest<S>,
+    /// The bits of PADDING so far, as a number.
+    pub(crate) padding: u8,
+    ghost stands: { IsTrue (stands_at nid stage (length front.items) packets.left) },
+    ghost fits: { ∥ DataFits stage (S.holds packets.store) ∥₁ },
+}
+
+/// What comes where so many bits of PADDING are left.
+fn behind_padding(left: usize) -> Phase
+    ensures { result ≡ behind_padding left }
+{
+    if left > 0 {
+        Phase::Padding(left)
+    } else {
+        Phase::Whole
+    }
+}
+
+/// What comes where so many bits of a message that is kept are left.
+fn behind_data(left: usize) -> Phase
+    ensures { result ≡ behind_data left }
+{
+    if left > 0 {
+        Phase::Data(left)
+    } else {
+        Phase::Whole
+    }
+}
+
+/// What comes behind a variable of the packets.
+fn behind_packets(left: &PacketsLeft) -> Phase
+    ensures { result ≡ behind_packets left.now }
+{
+    match &left.stage {
+        Stage::Closed => behind_padding(left.room),
+        _ => Phase::Packets,
+    }
+}
+
+/// What comes behind the variables that stand before this place, of so many in front of the packets.
+fn behind_front(count: usize, at: usize, left: &PacketsLeft) -> Phase
+    ensures { result ≡ behind_front count at left.now }
+{
+    if at < count {
+        Phase::Front(at)
+    } else {
+        behind_packets(left)
+    }
+}
+
+impl<S: PacketStore> MessageRest<S> {
+    /// All of a message, and a store that holds no packet.
+    pub(crate) fn new(store: S) -> MessageRest<S>
+        requires none { S.holds store [] [] [] }
+        ensures store { result.packets.store ≡ store }
+        ensures left { Same (left_at result.nid result.stage result.packets.left) MessageLanguage }
+        ensures holds { HoldsIn result.nid result.stage result.front.items result.packets.left result.padding (S.holds result.packets.store) [] }
+    {
+        MessageRest {
+            nid: 0,
+            stage: Phase::Number,
+            front: ArrayVec::new(),
+            packets: PacketsRest::new(Carrier::Message, 0, store),
+            padding: 0,
+        }
+    }
+
+    /// Behind NID_MESSAGE.
+    fn pass_number(&mut self, number: u64)
+        requires stage { self.old.stage ≡ Phase.Number }
+        requires goes { Starts (left_at self.old.nid self.old.stage self.old.packets.left) NID_MESSAGE 0 number }
+        ensures { Follows self.old.nid self.old.stage self.old.front.items self.old.packets.left self.old.padding (S.holds self.old.packets.store) ((NID_MESSAGE, number) ∷ []) self.new.nid self.new.stage self.new.front.items self.new.packets.left self.new.padding (S.holds self.new.packets.store) }
+    {
+        self.nid = number as u8;
+        self.stage = Phase::Length;
+    }
+
+    /// Behind L_MESSAGE.
+    fn pass_length(&mut self, number: u64)
+        requires stage { self.old.stage ≡ Phase.Length }
+        requires goes { Starts (left_at self.old.nid self.old.stage self.old.packets.left) L_MESSAGE 0 number }
+        ensures { Follows self.old.nid self.old.stage self.old.front.items self.old.packets.left self.old.padding (S.holds self.old.packets.store) ((L_MESSAGE, number) ∷ []) self.new.nid self.new.stage self.new.front.items self.new.packets.left self.new.padding (S.holds self.new.packets.store) }
+    {
+        let bits = number as usize * 8;
+        match front_row(self.nid) {
+            Some(vars) => {
+                self.packets
+                    .start(Carrier::Message, bits - front_bits(vars));
+                self.stage = Phase::Front(0);
+            }
+            None => self.stage = Phase::Data(bits - 18),
+        }
+    }
+
+    /// Behind a variable in front of the packets.
+    fn pass_front(&mut self, at: usize, number: u64)
+        requires stage { self.old.stage ≡ Phase.Front at }
+        ensures { (x : Var) → next_at self.old.nid self.old.stage self.old.packets.left ≡ Some x → Starts (left_at self.old.nid self.old.stage self.old.packets.left) x 0 number → Follows self.old.nid self.old.stage self.old.front.items self.old.packets.left self.old.padding (S.holds self.old.packets.store) ((x, number) ∷ []) self.new.nid self.new.stage self.new.front.items self.new.packets.left self.new.padding (S.holds self.new.packets.store) }
+    {
+        let count = match front_row(self.nid) {
+            Some(vars) => vars.len(),
+            None => unreachable!(),
+        };
+        let next = behind_front(count, at + 1, &self.packets.left);
+        self.front.push(number);
+        self.stage = next;
+    }
+
+    /// Behind a variable of the packets.
+    fn pass_packets(&mut self, var: Var, number: u64) -> Result<(), AllocError>
+        requires stage { self.old.stage ≡ Phase.Packets }
+        requires next { next_at self.old.nid self.old.stage self.old.packets.left ≡ Some var }
+        requires goes { Starts (left_at self.old.nid self.old.stage self.old.packets.left) var 0 number }
+        ensures ok { OnOk result (Follows self.old.nid self.old.stage self.old.front.items self.old.packets.left self.old.padding (S.holds self.old.packets.store) ((var, number) ∷ []) self.new.nid self.new.stage self.new.front.items self.new.packets.left self.new.padding (S.holds self.new.packets.store)) }
+        ensures err { OnErr result (S.fails × IsTrue (may_ask self.old.stage self.old.packets.left)) }
+    {
+        let packets = &mut self.packets;
+        match packets.pass(var, number) {
+            Ok(()) => {
+                self.stage = behind_packets(&packets.left);
+                Ok(())
+            }
+            Err(error) => {
+                self.stage = Phase::Whole;
+                Err(error)
+            }
+        }
+    }
+
+    /// Takes variables of the packets together where a piece has such, and says how many bits they are.
+    fn leap_packets(&mut self, piece: &[u8], at: usize) -> Result<Option<usize>, AllocError>
+        requires stage { self.old.stage ≡ Phase.Packets }
+        requires inside { at < length (bits piece.now) }
+        requires small { length (bits piece.now) < 2 ^ 64 }
+        requires goes { Goes (left_at self.old.nid self.old.stage self.old.packets.left) }
+        ensures none { IfOk result (λ o. IsNone o → self.new ≡ self.old) }
+        ensures some { IfOk result (λ o. IfSome o (λ n. LeapsBy (left_at self.new.nid self.new.stage self.new.packets.left) (λ p. Follows self.old.nid self.old.stage self.old.front.items self.old.packets.left self.old.padding (S.holds self.old.packets.store) p self.new.nid self.new.stage self.new.front.items self.new.packets.left self.new.padding (S.holds self.new.packets.store)) (bits piece.now) at n)) }
+        ensures err { OnErr result (S.fails × IsTrue (may_ask self.old.stage self.old.packets.left)) }
+        ensures viable { OnErr result (Viable (left_at self.old.nid self.old.stage self.old.packets.left) (part at 1 (bits piece.now))) }
+    {
+        let packets = &mut self.packets;
+        match packets.leap(piece, at) {
+            Ok(Some(count)) => {
+                self.stage = behind_packets(&packets.left);
+                Ok(Some(count))
+            }
+            Ok(None) => Ok(None),
+            Err(error) => {
+                self.stage = Phase::Whole;
+                Err(error)
+            }
+        }
+    }
+
+    /// Takes bits of a message that is kept, of which `left` are wanted.
+    fn keep(&mut self, left: usize, slice: &BitSlice<'_>) -> Result<(), AllocError>
+        requires stage { self.old.stage ≡ Phase.Data left }
+        requires within { length slice.now ≤ left }
+        ensures ok { OnOk result (Follows self.old.nid self.old.stage self.old.front.items self.old.packets.left self.old.padding (S.holds self.old.packets.store) (kept OTHER_DATA slice.now) self.new.nid self.new.stage self.new.front.items self.new.packets.left self.new.padding (S.holds self.new.packets.store)) }
+        ensures goes { OnOk result (Goes (left_at self.new.nid self.new.stage self.new.packets.left)) }
+        ensures err { OnErr result S.fails }
+    {
+        let packets = &mut self.packets;
+        match packets.store.bits(slice) {
+            Ok(()) => {
+                self.stage = behind_data(left - slice.len());
+                Ok(())
+            }
+            Err(error) => {
+                self.stage = Phase::Whole;
+                Err(error)
+            }
+        }
+    }
+
+    /// Behind a bit of a message that is kept, of which `left` are wanted.
+    fn pass_data(&mut self, left: usize, number: u64) -> Result<(), AllocError>
+        requires stage { self.old.stage ≡ Phase.Data left }
+        requires small { number < 2 }
+        ensures ok { OnOk result (Follows self.old.nid self.old.stage self.old.front.items self.old.packets.left self.old.padding (S.holds self.old.packets.store) ((OTHER_DATA, number) ∷ []) self.new.nid self.new.stage self.new.front.items self.new.packets.left self.new.padding (S.holds self.new.packets.store)) }
+        ensures err { OnErr result S.fails }
+    {
+        let byte = [number as u8];
+        match self.keep(left, &run_at(&byte, 7, 1)) {
+            Ok(()) => Ok(()),
+            Err(error) => Err(error),
+        }
+    }
+
+    /// Takes a run of bits of a message that is kept, of which `left` are wanted, and says how many it was.
+    fn leap_data(&mut self, left: usize, piece: &[u8], at: usize) -> Result<usize, AllocError>
+        requires stage { self.old.stage ≡ Phase.Data left }
+        requires inside { at < length (bits piece.now) }
+        requires small { length (bits piece.now) < 2 ^ 64 }
+        ensures ok { IfOk result (λ n. LeapsBy (left_at self.new.nid self.new.stage self.new.packets.left) (λ p. Follows self.old.nid self.old.stage self.old.front.items self.old.packets.left self.old.padding (S.holds self.old.packets.store) p self.new.nid self.new.stage self.new.front.items self.new.packets.left self.new.padding (S.holds self.new.packets.store)) (bits piece.now) at n) }
+        ensures err { OnErr result S.fails }
+        ensures viable { OnErr result (Viable (left_at self.old.nid self.old.stage self.old.packets.left) (part at 1 (bits piece.now))) }
+    {
+        let count = left.min(piece.len() * 8 - at);
+        match self.keep(left, &run_at(piece, at, count)) {
+            Ok(()) => Ok(count),
+            Err(error) => Err(error),
+        }
+    }
+
+    /// Takes so many bits of PADDING, of which `left` are wanted, as a number.
+    fn pad(&mut self, left: usize, count: usize, number: u64)
+        requires stage { self.old.stage ≡ Phase.Padding left }
+        requires within { count ≤ left }
+        requires small { number < 2 ^ count }
+        ensures follows { Follows self.old.nid self.old.stage self.old.front.items self.old.packets.left self.old.padding (S.holds self.old.packets.store) (kept PADDING (num count number)) self.new.nid self.new.stage self.new.front.items self.new.packets.left self.new.padding (S.holds self.new.packets.store) }
+        ensures goes { Goes (left_at self.new.nid self.new.stage self.new.packets.left) }
+    {
+        self.padding = (self.padding << count) | number as u8;
+        self.stage = behind_padding(left - count);
+    }
+
+    /// Takes the bits of PADDING that a piece has, of which `left` are wanted, and says how many it was.
+    fn leap_padding(&mut self, left: usize, piece: &[u8], at: usize) -> usize
+        requires stage { self.old.stage ≡ Phase.Padding left }
+        requires inside { at < length (bits piece.now) }
+        requires small { length (bits piece.now) < 2 ^ 64 }
+        ensures { LeapsBy (left_at self.new.nid self.new.stage self.new.packets.left) (λ p. Follows self.old.nid self.old.stage self.old.front.items self.old.packets.left self.old.padding (S.holds self.old.packets.store) p self.new.nid self.new.stage self.new.front.items self.new.packets.left self.new.padding (S.holds self.new.packets.store)) (bits piece.now) at result }
+    {
+        let count = left.min(piece.len() * 8 - at);
+        self.pad(left, count, number_at(piece, at, count));
+        count
+    }
+}
+
+impl<S: PacketStore> Rest for MessageRest<S> {
+    ghost left = { λ s. left_at s.nid s.stage s.packets.left };
+
+    ghost next = { λ s. next_at s.nid s.stage s.packets.left };
+
+    ghost follows = { λ s p t. Follows s.nid s.stage s.front.items s.packets.left s.padding (S.holds s.packets.store) p t.nid t.stage t.front.items t.packets.left t.padding (S.holds t.packets.store) };
+
+    ghost fails = { λ s. S.fails × IsTrue (may_ask s.stage s.packets.left) };
+
+    #[inline]
+    fn var(&self) -> Option<Var> {
+        match self.stage {
+            Phase::Number => Some(Var::NID_MESSAGE),
+            Phase::Length => Some(Var::L_MESSAGE),
+            Phase::Front(at) => match front_row(self.nid) {
+                Some(vars) => vars.get(at).copied(),
+                None => None,
+            },
+            Phase::Packets => self.packets.var(),
+            Phase::Padding(_) => Some(Var::PADDING),
+            Phase::Data(_) => Some(Var::OTHER_DATA),
+            Phase::Whole => None,
+        }
+    }
+
+    #[inline]
+    fn begins(&self, var: Var, rest: usize, number: u64) -> bool {
+        match self.stage {
+            Phase::Number => true,
+            Phase::Length => begins(lengths_of(self.nid), rest, number),
+            Phase::Front(_) => begins(var.ranges(), rest, number),
+            Phase::Packets => self.packets.begins(var, rest, number),
+            Phase::Padding(_) => true,
+            Phase::Data(_) => true,
+            Phase::Whole => unreachable!(),
+        }
+    }
+
+    fn pass(&mut self, var: Var, number: u64) -> Result<(), AllocError> {
+        match self.stage {
+            Phase::Number => {
+                self.pass_number(number);
+                Ok(())
+            }
+            Phase::Length => {
+                self.pass_length(number);
+                Ok(())
+            }
+            Phase::Front(at) => {
+                self.pass_front(at, number);
+                Ok(())
+            }
+            Phase::Packets => match self.pass_packets(var, number) {
+                Ok(()) => Ok(()),
+                Err(error) => Err(error),
+            },
+            Phase::Padding(left) => {
+                self.pad(left, 1, number);
+                Ok(())
+            }
+            Phase::Data(left) => match self.pass_data(left, number) {
+                Ok(()) => Ok(()),
+                Err(error) => Err(error),
+            },
+            Phase::Whole => unreachable!(),
+        }
+    }
+
+    #[inline]
+    fn leap(&mut self, piece: &[u8], at: usize) -> Result<Option<usize>, AllocError> {
+        match self.stage {
+            Phase::Packets => match self.leap_packets(piece, at) {
+                Ok(taken) => Ok(taken),
+                Err(error) => Err(error),
+            },
+            Phase::Padding(left) => Ok(Some(self.leap_padding(left, piece, at))),
+            Phase::Data(left) => match self.leap_data(left, piece, at) {
+                Ok(count) => Ok(Some(count)),
+                Err(error) => Err(error),
+            },
+            _ => Ok(None),
+        }
+    }
+
+    ghost regular = { λ s. rest_regular s.nid s.packets.left s.stage };
+
+    ghost begins_with = { λ s. rest_begins s.nid s.packets.left s.stage (length s.front.items) s.stands };
+
+    ghost ended = { λ s. rest_ended s.nid s.stage (length s.front.items) s.packets.left s.stands };
+
+    ghost residual = { λ s t p h. h.residual };
+
+    ghost none = { λ s. follows_none s.nid s.stage s.front.items s.packets.left s.padding (S.holds s.packets.store) };
+
+    ghost both = { λ s t u p q h k. follows_along s.nid s.stage s.front.items s.packets.left s.padding (S.holds s.packets.store) p t.nid t.stage t.front.items t.packets.left t.padding (S.holds t.packets.store) q u.nid u.stage u.front.items u.packets.left u.padding (S.holds u.packets.store) h k };
+}

@@ -1,0 +1,28 @@
+-- What holds of variables with their numbers.
+use Rattle.std.proofs.Common.{◌≡◌, ℕ, zero, suc, ◌<◌, List, [], ◌∷◌, ◌++◌, length, drop, Some, None, refl, ap, arith}
+use Rattle.etcs_vars.specs.declared.var.Var.{Var}
+use Rattle.etcs_vars.specs.Reading.{Reading, numbers}
+use Rattle.etcs_reader.specs.Fields.{first_of}
+use Rattle.etcs_rests.specs.Labels.{labelled}
+
+pub labelled_none : (vs : List Var) → labelled vs [] ≡ []
+labelled_none [] = refl
+labelled_none (v ∷ vs) = refl
+
+pub labelled_more : (vs : List Var) (ns : List ℕ) (x : Var) (n : ℕ) → first_of (drop (length ns) vs) ≡ Some x → labelled vs (ns ++ n ∷ []) ≡ labelled vs ns ++ (x, n) ∷ []
+labelled_more [] [] x n e = absurd cc
+labelled_more [] (m ∷ ns) x n e = absurd cc
+labelled_more (v ∷ vs) [] x n e = let same : v ≡ x = cc in rw (same, labelled_none vs) refl
+labelled_more (v ∷ vs) (m ∷ ns) x n e = ap (λ (t : Reading). (v, m) ∷ t) (labelled_more vs ns x n e)
+
+pub numbers_labelled : (vs : List Var) (ns : List ℕ) → length ns ≡ length vs → numbers (labelled vs ns) ≡ ns
+numbers_labelled [] [] e = refl
+numbers_labelled [] (n ∷ ns) e = absurd cc
+numbers_labelled (v ∷ vs) [] e = absurd cc
+numbers_labelled (v ∷ vs) (n ∷ ns) e = ap (λ (t : List ℕ). n ∷ t) (numbers_labelled vs ns (let k : length ns ≡ length vs = cc in k))
+
+-- within the list some variable comes next
+pub some_first : (vs : List Var) (at : ℕ) → at < length vs → first_of (drop at vs) ≡ None → ⊥
+some_first [] at h e = absurd (omega arith)
+some_first (v ∷ vs) zero h e = absurd cc
+some_first (v ∷ vs) (suc at) h e = some_first vs at (omega arith) e

@@ -8,7 +8,7 @@ use Rattle.etcs_group.specs.Groups.{Holds}
 abbrev pub IsHeldAt : List (Option TelegramParts) → ℕ → Type 0
 IsHeldAt slots p = (t : TelegramParts) × Holds slots t × (t.header.n_pig ≡ p)
 
--- and with this M_DUP: 1 where the next balise is its duplicate, 2 where the previous one is
+-- and with this M_DUP: 1 says that the balise is a duplicate of the next, 2 that it is one of the previous
 abbrev pub IsHeldAs : List (Option TelegramParts) → ℕ → ℕ → Type 0
 IsHeldAs slots p m_dup = (t : TelegramParts) × Holds slots t × (t.header.n_pig ≡ p) × (t.header.m_dup ≡ m_dup)
 

@@ -50,8 +50,8 @@ impl Assembly {
         }
     }
 
-    /// Holds the telegram, if it belongs to those that are held. The order in which telegrams come changes neither which
-    /// of them are accepted, where all are, nor what is held then (`laws::any_order`).
+    /// Holds the telegram where it belongs to those that are held. Where all of some telegrams are accepted in one order,
+    /// they are in any, and the same is held then (`laws::any_order`).
     ///
     /// # Errors
     ///
@@ -77,8 +77,8 @@ impl Assembly {
         Ok(Added::New)
     }
 
-    /// For each position up to N_TOTAL, whether it is missing: it isn't held, nor is a neighbour with M_DUP naming it as
-    /// its duplicate. All are false where nothing is held, and behind N_TOTAL.
+    /// For each of the positions 0 to 7, whether it is missing: it isn't behind N_TOTAL and isn't held, the position
+    /// before isn't held with M_DUP 1, and the one behind isn't with M_DUP 2. All are false where nothing is held.
     pub fn missing(&self) -> [bool; 8]
         ensures { (p : ℕ) → (slice_get result p ≡ Some true) ↔ IsMissing self.now p }
     {
@@ -91,7 +91,7 @@ impl Assembly {
         missing
     }
 
-    /// Whether something is held and nothing is missing.
+    /// Whether something is held and no position is missing.
     pub fn is_complete(&self) -> bool
         ensures { IsTrue result ↔ IsWhole self.now }
     {

@@ -9,13 +9,15 @@ use etcs_packets::Packet;
 use std::alloc::{AllocError, Global};
 
 impl Assembly {
-    /// The group's message: the packets of the held positions, in rising order, of two duplicates those of the first that
-    /// is held.
+    /// The group's message (SUBSET-026, 3.16.2.4): equal packets to those of the held positions, in rising order. A
+    /// position gives none where the one before is held and one of the two is the other's duplicate.
     ///
     /// # Errors
     ///
     /// - [`GroupFault::NotWhole`] exactly where nothing is held or a position is missing;
-    /// - [`GroupFault::Memory`] where none is, and the memory of the packets is refused. What is held stays either way.
+    /// - [`GroupFault::Memory`] where neither is so, and the memory of the packets is refused.
+    ///
+    /// What is held stays either way.
     pub fn message(&self, alloc: Global) -> Result<Vec<Packet>, GroupFault>
         ensures ok { IfOk result (λ ps. IsWhole self.now × IsGroupMessage self.now ps.items) }
         ensures not_whole { (result ≡ Err GroupFault.NotWhole) ↔ (IsWhole self.now → ⊥) }
@@ -30,7 +32,7 @@ impl Assembly {
         }
     }
 
-    /// What all positions give.
+    /// What all positions give together.
     fn packets(&self, alloc: Global) -> Result<Vec<Packet>, AllocError>
         ensures { IfOk result (λ ps. IsGroupMessage self.now ps.items) }
     {
@@ -67,10 +69,11 @@ impl Assembly {
     }
 }
 
-/// Equal packets behind those that are there.
+/// Appends equal packets.
 fn push_all(alloc: Global, packets: &mut Vec<Packet>, more: &[Packet]) -> Result<(), AllocError>
     ensures { IfOk result (λ _. packets.new.items ≡ packets.old.items ++ more.now) }
 {
+    packets.reserve(more.len())?;
     for packet in more {
         packets.push(packet.try_clone(alloc)?)?;
     }

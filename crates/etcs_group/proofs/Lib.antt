@@ -6,3 +6,4 @@ pub mod Adding
 pub mod AnyOrders
 pub mod Joining
 pub mod Clashing
+pub mod Examples

@@ -95,25 +95,17 @@ impl Assembly {
     pub fn is_complete(&self) -> bool
         ensures { IsTrue result ↔ IsWhole self.now }
     {
-        let Some(total) = self.total() else {
-            return false;
-        };
-        for position in 0..total + 1 {
-            if self.is_lacking(position) {
-                return false;
-            }
-        }
-        true
+        self.total().is_some() && !self.missing().contains(&true)
     }
 
     /// A telegram that is held, if one is.
-    pub(crate) fn any(&self) -> Option<&Telegram>
+    pub(crate) fn first_held(&self) -> Option<&Telegram>
         ensures some { IfSome result (λ t. Holds self.now t.now) }
         ensures small { IfSome result (λ t. t.now.header.n_total < 8) }
         ensures alike { IfSome result (λ t. (u : TelegramParts) → Holds self.now u → Alike u t.now) }
         ensures none { IfNone result (HoldsNone self.now) }
     {
-        any_of(&self.held)
+        first_in(&self.held)
     }
 
     /// N_TOTAL of those that are held, if there are any.
@@ -123,7 +115,7 @@ impl Assembly {
         ensures total { IfSome result (λ total. (t : TelegramParts) → Holds self.now t → t.header.n_total ≡ total) }
         ensures none { IfNone result (HoldsNone self.now) }
     {
-        match self.any() {
+        match self.first_held() {
             Some(telegram) => Some(telegram.header().n_total() as usize),
             None => None,
         }
@@ -164,7 +156,7 @@ impl Assembly {
 }
 
 /// The first telegram among these places.
-fn any_of(held: &[Option<Telegram>]) -> Option<&Telegram>
+fn first_in(held: &[Option<Telegram>]) -> Option<&Telegram>
     ensures some { IfSome result (λ t. Holds held.now t.now) }
     ensures none { IfNone result (HoldsNone held.now) }
 {

@@ -12,7 +12,7 @@ pub fn group(assembly: &Assembly) -> Option<(u16, u16)>
     ensures group { IfSome result (λ g. (t : TelegramParts) → Holds assembly.now t → (t.header.nid_c ≡ g.0) × (t.header.nid_bg ≡ g.1)) }
     ensures none { IfNone result (HoldsNone assembly.now) }
 {
-    match assembly.any() {
+    match assembly.first_held() {
         Some(telegram) => {
             let header = telegram.header();
             Some((header.nid_c(), header.nid_bg()))

@@ -10,10 +10,8 @@ use etcs_telegram::{Header, Size, Telegram};
 use std::alloc::Global;
 use std::test::Fail;
 
-/// How many bytes are left, step by step.
-const ROOMS: [usize; 18] = [
-    0, 16, 32, 48, 64, 80, 96, 112, 128, 160, 192, 256, 320, 512, 1024, 2048, 4096, 8192,
-];
+/// How many steps of 16 bytes are left at most: more than the message takes, packets and kept bits.
+const STEPS: usize = 48;
 
 /// Packet 44 with so many kept bits.
 fn kept(alloc: Global, len: usize) -> Result<Packet, Fail>
@@ -77,8 +75,8 @@ fn messages_without_memory(rt: HostRuntime) -> Result<(), Fail> {
     let assembly = both(alloc)?;
     assert!(rt; is_whole(assembly.message(alloc)?.as_slice()));
     let (mut refused, mut told) = (0u32, 0u32);
-    for room in ROOMS {
-        let held = starve_to(alloc, room)?;
+    for step in 0..STEPS {
+        let held = starve_to(alloc, 16 * step)?;
         let message = assembly.message(alloc);
         drop(held);
         match message {

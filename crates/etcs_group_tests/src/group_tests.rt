@@ -143,6 +143,17 @@ fn each_clash(rt: HostRuntime) -> Result<(), Fail> {
     assert_clash(&rt, alloc, &SECOND, &[(3, 0x00), (9, 0x3F)], Clash::Counter)
 }
 
+/// What is held first doesn't matter: NID_C 2 and Q_SRSTOP 0 at the second position clash with the first.
+#[test]
+fn another_group(rt: HostRuntime) -> Result<(), Fail> {
+    let alloc = rt.alloc();
+    let mut assembly = Assembly::new();
+    let other = changed(alloc, &SECOND, &[(4, 0x40), (9, 0x3F)])?;
+    assert!(rt; answer(&mut assembly, changed(alloc, &FIRST, &[])?) == Ok(Added::New));
+    assert!(rt; answer(&mut assembly, other) == Err(Clash::OtherGroup));
+    Ok(())
+}
+
 /// 254 agrees with none, itself included; 255 with every other; two others with each other where they are equal.
 #[test]
 fn counters(rt: HostRuntime) -> Result<(), Fail> {

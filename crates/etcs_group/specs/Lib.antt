@@ -1,0 +1,5 @@
+pub mod Groups
+pub mod Clashes
+pub mod Messages
+pub mod Orders
+pub mod Texts

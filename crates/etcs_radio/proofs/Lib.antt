@@ -1,1 +1,4 @@
 pub mod Bodies
+pub mod Fitting
+pub mod Kept
+pub mod Parts

@@ -2,3 +2,5 @@ pub mod Bodies
 pub mod Fitting
 pub mod Kept
 pub mod Parts
+pub mod OneReading
+pub mod Writing

@@ -4,3 +4,4 @@ pub mod Kept
 pub mod Parts
 pub mod OneReading
 pub mod Writing
+pub mod Spelling

@@ -1,7 +1,9 @@
 pub mod Bodies
 pub mod Fitting
 pub mod Kept
-pub mod Parts
+pub mod Sizes
 pub mod OneReading
 pub mod Writing
 pub mod Spelling
+pub mod Rooms
+pub mod Equality

@@ -30,7 +30,7 @@ use Rattle.etcs_radio.specs.Bodies.{IsBody, FitsSigned16, nid_of_body, is_of_var
 use Rattle.etcs_radio.specs.Messages.{IsAdmitted, all_bits, padding_room, is_marker, head_reading, IsTyped, IsMessage, MessageReads, message_value}
 use Rattle.etcs_radio.specs.Readings.{bytes_of, message_reading}
 use Rattle.etcs_radio.proofs.Bodies.{body_length, plain_row, time_row, emergency_row}
-use Rattle.etcs_radio.proofs.Parts.{no_first, no_second, test_true, faultless, kept_parts, bytes_small}
+use Rattle.etcs_radio.proofs.Sizes.{no_first, no_second, test_true, faultless, kept_parts, bytes_small}
 
 -- ---- What a variable without a fault admits.
 

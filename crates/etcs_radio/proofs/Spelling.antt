@@ -31,20 +31,20 @@ use Rattle.etcs_radio.specs.declared.message.Content.TheVariants.{Typed, Kept}
 use Rattle.etcs_radio.specs.Bodies.{IsBody, FitsSigned16, nid_of_body, body_reading, d_ref_number}
 use Rattle.etcs_radio.specs.Messages.{MessageValue, typed_message, kept_message, IsAdmitted, TypedReads, KeptReads, MessageReads, MessageLanguage, head_reading, front_of, all_bits, padding_room, IsMessage, message_value}
 use Rattle.etcs_radio.specs.Laws.{OneSpelling}
-use Rattle.etcs_radio.proofs.Parts.{head_length, faultless}
+use Rattle.etcs_radio.proofs.Sizes.{head_length, faultless}
 use Rattle.etcs_radio.proofs.Kept.{kept_agree, kept_fit, kept_same}
 
 -- ---- The header's numbers.
 
-abbrev first_number : Reading → ℕ
+abbrev pub first_number : Reading → ℕ
 first_number [] = 0
 first_number (p ∷ r) = p.1
 
-abbrev rest_of : Reading → Reading
+abbrev pub rest_of : Reading → Reading
 rest_of [] = []
 rest_of (p ∷ r) = r
 
-abbrev second_number : Reading → ℕ
+abbrev pub second_number : Reading → ℕ
 second_number r = first_number (rest_of r)
 
 abbrev third_number : Reading → ℕ
@@ -150,8 +150,7 @@ module _ (nid nid' : ℕ) (h h' : RadioHead) (body body' : Reading) (vs vs' : Li
 
 mixed_agree : (nid nid' : ℕ) (h : RadioHead) (body : Reading) (vs : List PacketValue) (padding b : List Bool) (r r' : Reading) → TypedReads nid h body vs padding r → KeptReads nid' b r' → Agree r r' × Agree r' r
 mixed_agree nid nid' h body vs padding b r r' x y =
-    rw (x.reading_is, y.reading_is)
-    (
+    rw (x.reading_is, y.reading_is) (
       (refl, λ (e : ◌≡◌ {A = Sent} (NID_MESSAGE, nid) (NID_MESSAGE, nid')). absurd (not_both nid nid' x.row (ap (λ (p : Sent). p.1) e) x.typed_number y.untyped)),
       (refl, λ (e : ◌≡◌ {A = Sent} (NID_MESSAGE, nid') (NID_MESSAGE, nid)). absurd (not_both nid nid' x.row (sym (ap (λ (p : Sent). p.1) e)) x.typed_number y.untyped)),
     )

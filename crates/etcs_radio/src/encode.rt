@@ -28,7 +28,7 @@ impl Message {
     {
         self.readable();
         let start = out.len();
-        out.resize(start + self.bit_len() / 8, 0)?;
+        out.resize(start + self.bytes(), 0)?;
         write_behind(out.as_mut_slice(), start, self);
         Ok(())
     }

@@ -1,6 +1,9 @@
 //! Laws, each the contract of a function.
 
+ghost use Rattle.std.specs.Prelude.{◌≡◌, ◌↔◌, IsTrue};
 ghost use Rattle.etcs_radio.specs.Laws.{OneSpelling, RoomRule};
+
+use crate::message::Message;
 
 /// Messages with one spelling are equal, and no spelling begins another.
 pub fn one_spelling()
@@ -13,3 +16,10 @@ pub fn one_spelling()
 pub fn room()
     ensures { RoomRule }
 {}
+
+/// `==` of messages is equality of their values: header, body, packets and PADDING, or number and kept bits.
+pub fn exact_equality(first: &Message, second: &Message) -> bool
+    ensures { IsTrue result ↔ (first.now ≡ second.now) }
+{
+    first == second
+}

@@ -5,7 +5,7 @@ use Rattle.std.proofs.Common.{List, Bool}
 use Rattle.etcs_radio.specs.declared.message.Content.{Content}
 use Rattle.etcs_radio.specs.Messages.{all_bits, padding_room}
 use Rattle.etcs_radio.specs.Readings.{message_reading}
-use Rattle.etcs_radio.proofs.Parts.{typed_length, kept_length}
+use Rattle.etcs_radio.proofs.Sizes.{typed_length, kept_length}
 use Rattle.etcs_radio.proofs.encode.write_message.Goals as goal
 
 pub write_typed-requires-clause-room : goal.write_typed-requires-clause-room

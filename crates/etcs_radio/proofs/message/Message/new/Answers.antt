@@ -1,5 +1,5 @@
 use Rattle.std.proofs.Common.{rules, sym, ◌∙◌}
-use Rattle.etcs_radio.proofs.Parts.{zero_padding}
+use Rattle.etcs_radio.proofs.Sizes.{zero_padding}
 use Rattle.etcs_radio.proofs.message.Message.new.Goals as goal
 
 pub returns-clause-fits : goal.returns-clause-fits

@@ -3,7 +3,7 @@ use Rattle.etcs_vars.specs.Reading.{spelled}
 use Rattle.etcs_radio.specs.declared.message.Content.{Content}
 use Rattle.etcs_radio.specs.Messages.{MessageReads, message_value}
 use Rattle.etcs_radio.specs.Readings.{bytes_of, message_reading}
-use Rattle.etcs_radio.proofs.Parts.{message_length}
+use Rattle.etcs_radio.proofs.Sizes.{message_length}
 use Rattle.etcs_radio.proofs.OneReading.{message_reads}
 use Rattle.etcs_radio.proofs.message.Message.readable.Goals as goal
 

@@ -7,3 +7,4 @@ pub mod Writing
 pub mod Spelling
 pub mod Rooms
 pub mod Equality
+pub mod Examples

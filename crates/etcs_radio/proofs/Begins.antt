@@ -22,7 +22,6 @@ use Rattle.etcs_rests.specs.StageLaws.{message_run}
 use Rattle.etcs_radio.specs.declared.phase.Phase.{Phase}
 use Rattle.etcs_radio.specs.declared.phase.Phase.TheVariants as phase
 use Rattle.etcs_radio.specs.Lefts.{front_row, front_bits, Behind, LengthLeft, NumberLeft, left_at, next_at}
-use Rattle.etcs_radio.specs.Lengths.{lengths_behind, message_lengths}
 use Rattle.etcs_radio.specs.RestLaws.{length_opens}
 use Rattle.etcs_radio.proofs.Fronts.{front_small}
 use Rattle.etcs_radio.proofs.RestSteps.{front_tested, packets_start}
@@ -52,55 +51,6 @@ message_some None len (r, (least, most, b)) = (least, most)
 message_some (Some vs) len (r, (fits, most, (a, q, e, fields, (p, b, f, run, padding)))) = (fits, most, left_from (8 * len - front_bits vs) (message_run (8 * len - front_bits vs) p run))
 
 -- ---- L_MESSAGE.
-
-one_range : (n : ℕ) → IsTrue (inside ((3, 1023) ∷ []) n) → (3 ≤ n) × (n < 2 ^ 10)
-one_range n h = (let a : 3 ≤ n = grind (arith, nat_tests) in a, let b : n ≤ 1023 = grind (arith, nat_tests) in omega (arith, b))
-
-in_range : (n : ℕ) → 3 ≤ n → n ≤ 1023 → IsTrue (inside ((3, 1023) ∷ []) n)
-in_range n l h = grind (arith, nat_tests)
-
-two_ranges : (a b n : ℕ) → IsTrue (inside ((a, a) ∷ (b, 1023) ∷ []) n) → (n ≡ a) ⊎ ((b ≤ n) × (n ≤ 1023))
-two_ranges a b n h = grind (arith, nat_tests)
-
-first_range : (a b n : ℕ) → n ≡ a → IsTrue (inside ((a, a) ∷ (b, 1023) ∷ []) n)
-first_range a b n e = grind (arith, nat_tests)
-
-last_range : (a b n : ℕ) → b ≤ n → n ≤ 1023 → IsTrue (inside ((a, a) ∷ (b, 1023) ∷ []) n)
-last_range a b n l h = grind (arith, nat_tests)
-
-from_left : (room : ℕ) → IsTrue (may_be_left ToTrain Message room) → (room ≤ 7) ⊎ (23 ≤ room)
-from_left room h = grind (arith, nat_tests)
-
-range_fits : (found : Option (List Var)) (n : ℕ) → ((vs : List Var) → found ≡ Some vs → front_bits vs ≤ 107) → IsTrue (inside (lengths_behind (option_map front_bits found)) n) ↔ Fits found n
-range_fits None n small = (one_range n, λ (l, h). in_range n l (omega (arith, h)))
-range_fits (Some vs) n small =
-    let f = front_bits vs in
-    let le : f ≤ 107 = small vs refl in (
-      λ h. elim (two_ranges ((f + 7) / 8) ((f + 30) / 8) n h) [
-        | inl e ↦ (omega (arith, e), omega (arith, e, le), left_from (8 * n - f) (inl (omega (arith, e))))
-        | inr k ↦ (omega (arith, k.0), omega (arith, k.1), left_from (8 * n - f) (inr (omega (arith, k.0))))
-      ],
-      λ (fits, most, left). elim (from_left (8 * n - f) left) [
-        | inl h ↦ first_range ((f + 7) / 8) ((f + 30) / 8) n (omega (arith, h, fits))
-        | inr h ↦ last_range ((f + 7) / 8) ((f + 30) / 8) n (omega (arith, h)) (omega (arith, most))
-      ],
-    )
-
--- a number of L_MESSAGE is in the ranges exactly where some message of this NID_MESSAGE goes on with it
-pub length_fits : (nid n : ℕ) → IsTrue (inside (message_lengths nid) n) ↔ Goes (Behind (front_row nid) n)
-length_fits nid n =
-    let r = range_fits (front_row nid) n (front_small nid) in
-    (λ h. some_message (front_row nid) n (r.0 h), λ g. r.1 (message_some (front_row nid) n g))
-
-two_ordered : (a b : ℕ) → b ≤ 1023 → ordered ((a, a) ∷ (b, 1023) ∷ []) ≡ true
-two_ordered a b h = grind (arith, nat_tests)
-
-ranges_ordered : (found : Option (List Var)) → ((vs : List Var) → found ≡ Some vs → front_bits vs ≤ 107) → ordered (lengths_behind (option_map front_bits found)) ≡ true
-ranges_ordered None small = refl
-ranges_ordered (Some vs) small = let le : front_bits vs ≤ 107 = small vs refl in two_ordered ((front_bits vs + 7) / 8) ((front_bits vs + 30) / 8) (omega (arith, le))
-
-pub lengths_ordered : (nid : ℕ) → ordered (message_lengths nid) ≡ true
-lengths_ordered nid = ranges_ordered (front_row nid) (front_small nid)
 
 -- by ranges of these numbers it can be told which of its first bits go on
 length_tested : (nid : ℕ) (rs : List (ℕ × ℕ)) (rest bits : ℕ) → ordered rs ≡ true → ((n : ℕ) → IsTrue (inside rs n) ↔ Goes (Behind (front_row nid) n)) → IsTrue (begins rs rest bits) ↔ Starts (LengthLeft nid) L_MESSAGE rest bits

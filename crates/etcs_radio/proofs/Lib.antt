@@ -4,3 +4,14 @@ pub mod RestSteps
 pub mod RestStands
 pub mod RestHolds
 pub mod Begins
+pub mod LengthFits
+pub mod Bodies
+pub mod Fitting
+pub mod Kept
+pub mod Sizes
+pub mod OneReading
+pub mod Writing
+pub mod Spelling
+pub mod Rooms
+pub mod Equality
+pub mod Examples

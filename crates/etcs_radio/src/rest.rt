@@ -11,14 +11,14 @@ ghost use Rattle.etcs_radio.specs.Messages.{MessageLanguage};
 ghost use Rattle.etcs_radio.specs.Lefts.{left_at, next_at, stands_at, may_ask, behind_packets, behind_front, behind_padding, behind_data, DataFits, HoldsIn, Follows};
 ghost use Rattle.etcs_radio.specs.RestLaws.{rest_regular, rest_begins, rest_ended, follows_none, follows_along};
 
-use crate::lengths::lengths_of;
 use crate::phase::{Phase, front_bits, front_row};
 use arrayvec::ArrayVec;
 use etcs_bits::BitSlice;
 use etcs_container::parts::{number_at, run_at};
 use etcs_reader::Rest;
 use etcs_rests::{PacketStore, PacketsLeft, PacketsRest, Stage};
-use etcs_rows::parts::Carrier;
+use etcs_rows::Way;
+use etcs_rows::parts::{Carrier, message_lengths};
 use etcs_vars::{Var, begins};
 use std::alloc::AllocError;
 
@@ -290,7 +290,7 @@ impl<S: PacketStore> Rest for MessageRest<S> {
     fn begins(&self, var: Var, rest: usize, number: u64) -> bool {
         match self.stage {
             Phase::Number => true,
-            Phase::Length => begins(lengths_of(self.nid), rest, number),
+            Phase::Length => begins(message_lengths(Way::ToTrain, self.nid), rest, number),
             Phase::Front(_) => begins(var.ranges(), rest, number),
             Phase::Packets => self.packets.begins(var, rest, number),
             Phase::Padding(_) => true,

@@ -24,3 +24,4 @@ pub mod WriteLemmas
 pub mod RowLaws
 pub mod WholeWalks
 pub mod FrameLemmas
+pub mod MessageLengths

@@ -12,3 +12,4 @@ pub mod Waiting
 pub mod Writing
 pub mod Walks
 pub mod Frames
+pub mod Messages

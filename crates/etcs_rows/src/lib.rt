@@ -8,6 +8,7 @@ mod item;
 pub mod laws;
 mod length_set;
 mod measure;
+mod message;
 mod packetlike;
 pub mod parts;
 mod place;

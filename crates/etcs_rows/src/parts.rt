@@ -11,6 +11,7 @@ ghost use Rattle.etcs_rows.specs.Walks.{Walks};
 
 pub use crate::framed::Framed;
 pub use crate::frames::{Carrier, is_kept, length_fits, number_fits};
+pub use crate::message::message_lengths;
 pub use crate::walk::may_begin;
 use crate::walk::{RowWalk, Step, Stopped};
 pub use crate::write::put_row;

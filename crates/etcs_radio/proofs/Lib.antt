@@ -8,3 +8,4 @@ pub mod Spelling
 pub mod Rooms
 pub mod Equality
 pub mod Examples
+pub mod Taking

@@ -1,5 +1,5 @@
 -- What the numbers of a typed message's variables make.
-use Rattle.std.specs.Prelude.{◌≡◌, ℕ, ◌-◌, ◌==◌, ◌||◌, List, drop, Option, Some, None, slice_index, nat_lt, if◌then◌else◌, ℤ, pos, negsuc, Bool}
+use Rattle.std.specs.Prelude.{◌≡◌, ℕ, ◌-◌, ◌^◌, ◌<◌, ◌≤◌, length, ◌==◌, ◌||◌, List, drop, Option, Some, None, slice_index, nat_lt, if◌then◌else◌, ℤ, pos, negsuc, Bool}
 use Rattle.etcs_vars.specs.declared.var.Var.{Var}
 use Rattle.etcs_packets.specs.declared.packet.Packet.{Packet}
 use Rattle.etcs_rows.specs.Rows.{is_plain_message}
@@ -12,6 +12,12 @@ use Rattle.etcs_radio.specs.declared.message.Content.TheVariants.{Typed, Kept}
 -- T_TRAIN, M_ACK and NID_LRBG
 abbrev pub head_by : List ℕ → RadioHead
 head_by ns = record { t_train = slice_index ns 0; m_ack = slice_index ns 1 == 1; nid_lrbg = slice_index ns 2 }
+
+-- they are within the widths of their variables
+pub record IsHeadNumbers (ns : List ℕ) : Type 0 where
+  pub three : 3 ≤ length ns
+  pub time : slice_index ns 0 < 2 ^ 32
+  pub group : slice_index ns 2 < 2 ^ 24
 
 -- the number that 16 bits of two's complement are
 abbrev pub signed : ℕ → ℤ

@@ -4,6 +4,7 @@ ghost use Rattle.std.specs.Prelude.{◌≡◌, ◌≢◌, ◌<◌, List, Bool, [
 ghost use Rattle.etcs_bits.specs.Bits.{bits};
 ghost use Rattle.etcs_rests.specs.Holdings.{IsHeld};
 ghost use Rattle.etcs_radio.specs.Messages.{MessageLanguage, MessageReads, message_value, IsMessage};
+ghost use Rattle.etcs_radio.specs.Fronts.{head_by, IsHeadNumbers};
 ghost use Rattle.etcs_radio.specs.Readers.{Members, message_bits};
 
 use crate::body::{Body, RadioHead};
@@ -18,6 +19,18 @@ use etcs_rests::{PacketList, fault_by};
 use etcs_vars::{Fed, ReadFault};
 use std::alloc::Global;
 use std::marker::Model;
+
+/// T_TRAIN, M_ACK and NID_LRBG by their numbers.
+fn head_of(numbers: &[u64]) -> RadioHead
+    requires { IsHeadNumbers numbers.now }
+    ensures { result ≡ head_by numbers.now }
+{
+    RadioHead {
+        t_train: numbers[0] as u32,
+        m_ack: numbers[1] == 1,
+        nid_lrbg: numbers[2] as u32,
+    }
+}
 
 /// How many bytes the longest message has.
 const MOST: usize = 1023;
@@ -130,7 +143,7 @@ impl MessageReader {
             Some(_) => {
                 let numbers = rest.front.as_slice();
                 Content::Typed {
-                    head: RadioHead::of_numbers(numbers),
+                    head: head_of(numbers),
                     body: Body::of_numbers(rest.nid, &numbers[3..]),
                     packets: Items::from_vec(store.packets),
                     padding: rest.padding,

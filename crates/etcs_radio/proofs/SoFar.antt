@@ -36,7 +36,7 @@ front_far nid at front l holds q h =
     let m = measured_is nid h.len (bits_of (drop at h.vars) + ahead l.room l.stage) (labelled h.vars front) q h.reading_is h.room_is in
     subst (λ (vs : List Var). q ≡ measured nid (labelled vs front) (bits_of (drop at vs) + ahead l.room l.stage)) (sym (ap some_row h.typed)) m
 
-first_goes : (l : PacketsLeft) → Goes (PacketsBehind l) → Goes (left_of l.carrier l.room l.stage)
+pub first_goes : (l : PacketsLeft) → Goes (PacketsBehind l) → Goes (left_of l.carrier l.room l.stage)
 first_goes l (r, (a, b, e, h, k)) = (a, h)
 
 packets_are : (nid : ℕ) (front : List ℕ) (l : PacketsLeft) (store : PacketList) (q : Reading) → Goes (PacketsBehind l) → PacketsHeld nid front l (list_holds store.packets.items store.numbers.items store.bits) q

@@ -1,4 +1,10 @@
 pub mod Bodies
+pub mod Fronts
+pub mod RestStart
+pub mod RestSteps
+pub mod RestStands
+pub mod RestHolds
+pub mod Begins
 pub mod Bytes
 pub mod SoFar
 pub mod Wholes

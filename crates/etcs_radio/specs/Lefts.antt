@@ -12,10 +12,10 @@ use Rattle.etcs_rows.specs.Rows.{is_plain_message}
 use Rattle.etcs_packets.specs.PacketValues.{PacketValue}
 use Rattle.etcs_packets.specs.PacketReadings.{packets_reading}
 use Rattle.etcs_container.specs.Contents.{Carries, Run, KeptIn}
-use Rattle.etcs_container.proofs.Chains.{Chain}
 use Rattle.etcs_reader.specs.Fields.{ReadsFields, first_of}
 use Rattle.etcs_rests.specs.declared.left.PacketsLeft.{PacketsLeft}
 use Rattle.etcs_rests.specs.Lefts.{next_of, left_of, ahead, is_closed, is_telegram, may_grow, HoldsAt}
+use Rattle.etcs_rests.specs.ChainLaws.{Chain}
 use Rattle.etcs_rests.specs.Labels.{labelled}
 use Rattle.etcs_radio.specs.declared.phase.Phase.{Phase}
 use Rattle.etcs_radio.specs.declared.phase.Phase.TheVariants as phase
@@ -108,18 +108,18 @@ next_at nid (phase.Padding left) l = Some PADDING
 next_at nid (phase.Data left) l = Some OTHER_DATA
 next_at nid phase.Whole l = None
 
--- packets of a message
+-- packets of a message, which leave padding once they are closed
 abbrev pub is_message : PacketsLeft → Bool
-is_message l = not (is_telegram l.carrier)
+is_message l = not (is_telegram l.carrier) && (not (is_closed l.stage) || nat_lt l.room 8)
 
 -- what holds of what comes next, where so many of the front's numbers are there
 abbrev pub stands_at : ℕ → Phase → ℕ → PacketsLeft → Bool
-stands_at nid phase.Number n l = (n == 0) && is_message l
-stands_at nid phase.Length n l = (n == 0) && is_message l
+stands_at nid phase.Number n l = (n == 0) && is_closed l.stage
+stands_at nid phase.Length n l = (n == 0) && is_closed l.stage
 stands_at nid (phase.Front at) n l = nat_lt at (length (front_vars nid)) && ((n == at) && is_message l)
 stands_at nid phase.Packets n l = is_message l && not (is_closed l.stage)
 stands_at nid (phase.Padding left) n l = nat_lt 0 left && nat_lt left 8
-stands_at nid (phase.Data left) n l = nat_lt 0 left
+stands_at nid (phase.Data left) n l = nat_lt 0 left && is_closed l.stage
 stands_at nid phase.Whole n l = true
 
 -- memory may be asked for
@@ -148,10 +148,10 @@ behind_data left = if nat_lt 0 left then phase.Data left else phase.Whole
 
 -- ---- What is kept of it.
 
--- the bits that are left have room behind those that are held
+-- nothing is held in front of packets and of bits that are kept, and behind bits that are held those have room that are left
 abbrev pub DataFits : Phase → (List PacketValue → List ℕ → List Bool → Type 0) → Type 0
-DataFits phase.Number holds = Unit {0}
-DataFits phase.Length holds = Unit {0}
+DataFits phase.Number holds = holds [] [] []
+DataFits phase.Length holds = holds [] [] []
 DataFits (phase.Front at) holds = Unit {0}
 DataFits phase.Packets holds = Unit {0}
 DataFits (phase.Padding left) holds = Unit {0}

@@ -1,7 +1,8 @@
 -- What the stage of packets says of what is left of them.
 use Rattle.std.proofs.Common.{◌≡◌, ℕ, ◌+◌, ◌-◌, ◌≤◌, Bool, true, false, [], ◌∷◌, ◌++◌, length, Some, None, refl, sym, ap, subst, ◌∙◌, arith, inl, inr, append-nil}
-use Rattle.std.specs.Prelude.{IsTrue, Option, is_some, ◌&&◌}
-use Rattle.std.proofs.lemmas.Bool.{and_parts}
+use Rattle.std.specs.Prelude.{IsTrue, Option, is_some, ◌&&◌, ◌⊎◌}
+use Rattle.std.proofs.lemmas.Bool.{and_parts, cases_lt}
+use Rattle.std.proofs.lemmas.List.Elements.{All-nil}
 use Rattle.etcs_vars.specs.declared.var.Var.{Var}
 use Rattle.etcs_vars.specs.declared.var.Var.TheVariants.{Q_DIR, L_PACKET, OTHER_DATA}
 use Rattle.etcs_vars.specs.Vars.{admits}
@@ -13,8 +14,8 @@ use Rattle.etcs_rows.specs.declared.frames.Carrier.TheVariants.{Message}
 use Rattle.etcs_rows.specs.Rows.{row_to}
 use Rattle.etcs_rows.specs.Places.{first_variable}
 use Rattle.etcs_rows.proofs.LengthLemmas.{length-sent}
-use Rattle.etcs_container.specs.Contents.{Run, KeptIn, BodyIn, LengthLeft}
-use Rattle.etcs_container.proofs.RunSteps.{both_length}
+use Rattle.etcs_container.specs.Contents.{Carries, Run, KeptIn, BodyIn, LengthLeft, AfterNumber}
+use Rattle.etcs_container.proofs.RunSteps.{both_length, number_step}
 use Rattle.etcs_rests.specs.declared.stage.Stage.{Stage}
 use Rattle.etcs_rests.specs.declared.stage.Stage.TheVariants as stage
 use Rattle.etcs_rests.specs.Lefts.{next_of, left_of, ahead, is_stage, is_closed, Moved}
@@ -102,3 +103,20 @@ none_closed c room s k h = by_test (is_closed s) refl
     by_test : (b : Bool) → is_closed s ≡ b → is_closed s ≡ true
     by_test true e = e
     by_test false e = absurd (some_next (next_of s) refl e)
+
+-- and in a message without room
+pub begun_closed : (c : Carrier) (room : ℕ) (s : Stage) → IsTrue (is_stage c room s) → Same (left_of c room s) (Run Message 0) → is_closed s ≡ true
+begun_closed c room s k same = none_closed c room s k ((same []).1 ([], record { carried = All-nil (Carries Message); reading_is = refl; fills = (omega arith, omega arith) }))
+
+-- what packets of a message fill
+pub message_run : (room : ℕ) (r : Reading) → Run Message room r → (room ≤ 7) ⊎ (23 ≤ room)
+message_run room r run =
+    elim (cases_lt 7 room) [
+      | inl lt ↦ (let (n, q, e, small, after) = (number_step Message room lt).opens r run in inr (framed n q after))
+      | inr le ↦ inl le
+    ]
+  where
+    framed : (n : ℕ) (q : Reading) → AfterNumber Message room n q → 23 ≤ room
+    framed n q (inl (same, is, le, e)) = absurd cc
+    framed n q (inr (inl (same, is, m))) = absurd cc
+    framed n q (inr (inr (pos, small, (dir, q', e, (a, (l, rest, f, (least, most, le, body))))))) = omega (arith, least, le)

@@ -1,0 +1,184 @@
+-- Which numbers of a message go on.
+use Rattle.std.proofs.Common.{◌≡◌, ℕ, ◌+◌, ◌-◌, ◌*◌, ◌/◌, ◌^◌, ◌<◌, ◌≤◌, Bool, true, false, List, [], ◌∷◌, ◌++◌, length, Some, None, refl, sym, ap, subst, ◌∙◌, arith, inl, inr}
+use Rattle.std.specs.Prelude.{IsTrue, ◌↔◌, Option, option_map, ◌⊎◌, nat_le, ◌||◌}
+use Rattle.std.proofs.lemmas.Bool.{leb-true, le-leb}
+use Rattle.std.proofs.lemmas.Bool.Decides.{nat_tests}
+use Rattle.std.proofs.lemmas.Nat.{pow_pos, div-mul-add}
+use Rattle.etcs_vars.specs.declared.var.Var.{Var}
+use Rattle.etcs_vars.specs.declared.var.Var.TheVariants.{NID_MESSAGE, L_MESSAGE, PADDING, OTHER_DATA}
+use Rattle.etcs_vars.specs.Vars.{width, ranges, begins, inside}
+use Rattle.etcs_vars.specs.Reading.{Reading, spelled}
+use Rattle.etcs_vars.proofs.Prefixes.{ordered, begins_some, begins_from, below_quotient}
+use Rattle.etcs_rows.specs.declared.row.Way.TheVariants.{ToTrain}
+use Rattle.etcs_rows.specs.declared.frames.Carrier.TheVariants.{Message}
+use Rattle.etcs_rows.specs.Frames.{may_be_left}
+use Rattle.etcs_container.specs.Contents.{Run}
+use Rattle.etcs_container.proofs.Fits.{run_some}
+use Rattle.etcs_reader.specs.Rests.{Starts, Goes}
+use Rattle.etcs_reader.specs.FieldLaws.{some_fields}
+use Rattle.etcs_rests.specs.declared.left.PacketsLeft.{PacketsLeft}
+use Rattle.etcs_rests.specs.BitLaws.{some_bits, bits_start, bits_number}
+use Rattle.etcs_rests.specs.Lefts.{left_of}
+use Rattle.etcs_rests.specs.RowLaws.{head_of}
+use Rattle.etcs_rests.specs.StageLaws.{message_run}
+use Rattle.etcs_radio.specs.declared.phase.Phase.{Phase}
+use Rattle.etcs_radio.specs.declared.phase.Phase.TheVariants as phase
+use Rattle.etcs_radio.specs.Lefts.{front_row, front_bits, PacketsFrom, Behind, LengthLeft, NumberLeft, left_at, next_at}
+use Rattle.etcs_radio.specs.Lengths.{lengths_behind, message_lengths}
+use Rattle.etcs_radio.specs.RestLaws.{length_opens}
+use Rattle.etcs_radio.proofs.Fronts.{front_small}
+use Rattle.etcs_radio.proofs.RestSteps.{front_tested, packets_start}
+
+-- ---- The lengths with which some message goes on.
+
+abbrev pub Fits : Option (List Var) → ℕ → Type 0
+Fits None len = (3 ≤ len) × (len < 2 ^ 10)
+Fits (Some vs) len = (front_bits vs ≤ 8 * len) × (len < 2 ^ 10) × IsTrue (may_be_left ToTrain Message (8 * len - front_bits vs))
+
+-- a room that packets fill but for padding
+left_from : (room : ℕ) → (room ≤ 7) ⊎ (23 ≤ room) → IsTrue (may_be_left ToTrain Message room)
+left_from room (inl h) = grind (arith, nat_tests)
+left_from room (inr h) = grind (arith, nat_tests)
+
+pub some_message : (found : Option (List Var)) (len : ℕ) → Fits found len → Goes (Behind found len)
+some_message None len (least, most) = let b = some_bits OTHER_DATA refl (8 * len - 18) in (b.0, (least, most, b.1))
+some_message (Some vs) len (fits, most, left) =
+    let room = 8 * len - front_bits vs in
+    let f = some_fields vs in
+    let p = run_some Message room (omega (arith, most)) left in
+    let b = some_bits PADDING refl (room - length (spelled p.0)) in
+    (f.0 ++ (p.0 ++ b.0), (fits, most, (f.0, p.0 ++ b.0, refl, f.1, (p.0, b.0, refl, p.1, b.1))))
+
+pub message_some : (found : Option (List Var)) (len : ℕ) → Goes (Behind found len) → Fits found len
+message_some None len (r, (least, most, b)) = (least, most)
+message_some (Some vs) len (r, (fits, most, (a, q, e, fields, (p, b, f, run, padding)))) = (fits, most, left_from (8 * len - front_bits vs) (message_run (8 * len - front_bits vs) p run))
+
+-- ---- L_MESSAGE.
+
+one_range : (n : ℕ) → IsTrue (inside ((3, 1023) ∷ []) n) → (3 ≤ n) × (n < 2 ^ 10)
+one_range n h = (let a : 3 ≤ n = grind (arith, nat_tests) in a, let b : n ≤ 1023 = grind (arith, nat_tests) in omega (arith, b))
+
+in_range : (n : ℕ) → 3 ≤ n → n ≤ 1023 → IsTrue (inside ((3, 1023) ∷ []) n)
+in_range n l h = grind (arith, nat_tests)
+
+two_ranges : (a b n : ℕ) → IsTrue (inside ((a, a) ∷ (b, 1023) ∷ []) n) → (n ≡ a) ⊎ ((b ≤ n) × (n ≤ 1023))
+two_ranges a b n h = grind (arith, nat_tests)
+
+first_range : (a b n : ℕ) → n ≡ a → IsTrue (inside ((a, a) ∷ (b, 1023) ∷ []) n)
+first_range a b n e = grind (arith, nat_tests)
+
+last_range : (a b n : ℕ) → b ≤ n → n ≤ 1023 → IsTrue (inside ((a, a) ∷ (b, 1023) ∷ []) n)
+last_range a b n l h = grind (arith, nat_tests)
+
+from_left : (room : ℕ) → IsTrue (may_be_left ToTrain Message room) → (room ≤ 7) ⊎ (23 ≤ room)
+from_left room h = grind (arith, nat_tests)
+
+range_fits : (found : Option (List Var)) (n : ℕ) → ((vs : List Var) → found ≡ Some vs → front_bits vs ≤ 107) → IsTrue (inside (lengths_behind (option_map front_bits found)) n) ↔ Fits found n
+range_fits None n small = (one_range n, λ (l, h). in_range n l (omega (arith, h)))
+range_fits (Some vs) n small =
+    let f = front_bits vs in
+    let le : f ≤ 107 = small vs refl in (
+      λ h. elim (two_ranges ((f + 7) / 8) ((f + 30) / 8) n h) [
+        | inl e ↦ (omega (arith, e), omega (arith, e, le), left_from (8 * n - f) (inl (omega (arith, e))))
+        | inr k ↦ (omega (arith, k.0), omega (arith, k.1), left_from (8 * n - f) (inr (omega (arith, k.0))))
+      ],
+      λ (fits, most, left). elim (from_left (8 * n - f) left) [
+        | inl h ↦ first_range ((f + 7) / 8) ((f + 30) / 8) n (omega (arith, h, fits))
+        | inr h ↦ last_range ((f + 7) / 8) ((f + 30) / 8) n (omega (arith, h)) (omega (arith, most))
+      ],
+    )
+
+-- a number of L_MESSAGE is in the ranges exactly where some message of this NID_MESSAGE goes on with it
+pub length_fits : (nid n : ℕ) → IsTrue (inside (message_lengths nid) n) ↔ Goes (Behind (front_row nid) n)
+length_fits nid n =
+    let r = range_fits (front_row nid) n (front_small nid) in
+    (λ h. some_message (front_row nid) n (r.0 h), λ g. r.1 (message_some (front_row nid) n g))
+
+ranges_ordered : (found : Option (List Var)) → ((vs : List Var) → found ≡ Some vs → front_bits vs ≤ 107) → ordered (lengths_behind (option_map front_bits found)) ≡ true
+ranges_ordered None small = refl
+ranges_ordered (Some vs) small = let le : front_bits vs ≤ 107 = small vs refl in two_ordered ((front_bits vs + 7) / 8) ((front_bits vs + 30) / 8) (omega (arith, le))
+  where
+    two_ordered : (a b : ℕ) → b ≤ 1023 → ordered ((a, a) ∷ (b, 1023) ∷ []) ≡ true
+    two_ordered a b h = grind (arith, nat_tests)
+
+pub length_tested : (nid rest bits : ℕ) → IsTrue (begins (message_lengths nid) rest bits) ↔ Starts (LengthLeft nid) L_MESSAGE rest bits
+length_tested nid rest bits =
+    let o = length_opens nid in
+    (
+      λ t. let (n, i, q) = begins_some (message_lengths nid) rest bits (ranges_ordered (front_row nid) (front_small nid)) t in
+      let (r, h) = (length_fits nid n).0 i in
+      (n, r, o.closes n r h, q),
+      λ (n, r, (m, r', e, h), q).
+          let number : m ≡ n = length_number n m r r' e in
+          let h' : Behind (front_row nid) n r' = subst (λ k. Behind (front_row nid) k r') number h in
+          rw q at (begins_from (message_lengths nid) rest n ((length_fits nid n).1 (r', h'))),
+    )
+  where
+    length_number : (n m : ℕ) (r r' : Reading) → ◌≡◌ {A = Reading} ((L_MESSAGE, n) ∷ r) ((L_MESSAGE, m) ∷ r') → m ≡ n
+    length_number n m r r' e = (let h = head_of L_MESSAGE n m r r' e in h.0)
+
+-- ---- NID_MESSAGE.
+
+whole_length : (found : Option (List Var)) → ((vs : List Var) → found ≡ Some vs → front_bits vs ≤ 107) → Fits found 1023
+whole_length None small = (omega arith, omega arith)
+whole_length (Some vs) small = let le : front_bits vs ≤ 107 = small vs refl in (omega (arith, le), omega arith, left_from (8 * 1023 - front_bits vs) (inr (omega (arith, le))))
+
+-- behind each NID_MESSAGE some message comes
+some_length : (nid : ℕ) → Goes (LengthLeft nid)
+some_length nid =
+    let (r, h) = some_message (front_row nid) 1023 (whole_length (front_row nid) (front_small nid)) in
+    ((L_MESSAGE, 1023) ∷ r, (1023, r, refl, h))
+
+number_start : (rest bits : ℕ) → rest < 8 → bits < 2 ^ (8 - rest) → Starts NumberLeft NID_MESSAGE rest bits
+number_start rest bits lt fits =
+    let n = bits * 2 ^ rest in
+    let q : n / 2 ^ rest ≡ bits = (let pos = pow_pos rest in let none : n + 0 ≡ n = omega arith in ap (λ k. k / 2 ^ rest) (sym none) ∙ div-mul-add bits (2 ^ rest) 0 pos) in
+    let whole : 8 - rest + rest ≡ 8 = omega arith in
+    let small : n < 2 ^ 8 = rw whole at (below_quotient n (8 - rest) rest (rw q fits)) in
+    let (r, h) = some_length n in
+    (n, r, (n, r, small, refl, h), q)
+
+pub begins_number : (nid : ℕ) (here : Phase) (l : PacketsLeft) (x : Var) (rest bits : ℕ) → here ≡ phase.Number → next_at nid here l ≡ Some x → rest < width x → bits < 2 ^ (width x - rest) → Starts (left_at nid here l) x rest bits
+begins_number nid here l x rest bits e next lt fits =
+    let next' : next_at nid phase.Number l ≡ Some x = rw e at next in
+    let same : NID_MESSAGE ≡ x = cc in
+    rw (e, ← same) (number_start rest bits (rw (← same) at lt) (rw (← same) at fits))
+
+pub begins_length : (nid : ℕ) (here : Phase) (l : PacketsLeft) (x : Var) (rest bits : ℕ) → here ≡ phase.Length → next_at nid here l ≡ Some x → IsTrue (begins (message_lengths nid) rest bits) ↔ Starts (left_at nid here l) x rest bits
+begins_length nid here l x rest bits e next =
+    let next' : next_at nid phase.Length l ≡ Some x = rw e at next in
+    let same : L_MESSAGE ≡ x = cc in
+    rw (e, ← same) (length_tested nid rest bits)
+
+-- ---- The others.
+
+pub begins_front : (nid : ℕ) (here : Phase) (at : ℕ) (l : PacketsLeft) (x : Var) (rest bits : ℕ) → here ≡ phase.Front at → next_at nid here l ≡ Some x → rest < width x → bits < 2 ^ (width x - rest) → Goes (left_at nid here l) → IsTrue (begins (ranges x) rest bits) ↔ Starts (left_at nid here l) x rest bits
+begins_front nid here at l x rest bits e next lt fits g = rw e (front_tested nid at l x rest bits (rw e at next) lt fits (rw e at g))
+
+pub begins_packets : (nid : ℕ) (here : Phase) (l : PacketsLeft) (x : Var) (rest bits : ℕ) → here ≡ phase.Packets → next_at nid here l ≡ Some x → Starts (left_of l.carrier l.room l.stage) x rest bits ↔ Starts (left_at nid here l) x rest bits
+begins_packets nid here l x rest bits e next = rw e (packets_start nid l x rest bits (rw e at next))
+
+pub begins_padding : (nid : ℕ) (here : Phase) (left : ℕ) (l : PacketsLeft) (x : Var) (rest bits : ℕ) → here ≡ phase.Padding left → 0 < left → next_at nid here l ≡ Some x → rest < width x → bits < 2 ^ (width x - rest) → Starts (left_at nid here l) x rest bits
+begins_padding nid here left l x rest bits e pos next lt fits =
+    let next' : next_at nid (phase.Padding left) l ≡ Some x = rw e at next in
+    let same : PADDING ≡ x = cc in
+    rw (e, ← same) (bits_start PADDING refl left rest bits pos (rw (← same) at lt) (rw (← same) at fits))
+
+pub begins_data : (nid : ℕ) (here : Phase) (left : ℕ) (l : PacketsLeft) (x : Var) (rest bits : ℕ) → here ≡ phase.Data left → 0 < left → next_at nid here l ≡ Some x → rest < width x → bits < 2 ^ (width x - rest) → Starts (left_at nid here l) x rest bits
+begins_data nid here left l x rest bits e pos next lt fits =
+    let next' : next_at nid (phase.Data left) l ≡ Some x = rw e at next in
+    let same : OTHER_DATA ≡ x = cc in
+    rw (e, ← same) (bits_start OTHER_DATA refl left rest bits pos (rw (← same) at lt) (rw (← same) at fits))
+
+-- what goes on of PADDING and OTHER_DATA is a bit
+pub padding_bit : (nid : ℕ) (here : Phase) (left : ℕ) (l : PacketsLeft) (x : Var) (number : ℕ) → here ≡ phase.Padding left → next_at nid here l ≡ Some x → Starts (left_at nid here l) x 0 number → (x ≡ PADDING) × (number < 2)
+padding_bit nid here left l x number e next goes =
+    let next' : next_at nid (phase.Padding left) l ≡ Some x = rw e at next in
+    let same : PADDING ≡ x = cc in
+    (sym same, bits_number PADDING refl left number (rw (e, ← same) at goes))
+
+pub data_bit : (nid : ℕ) (here : Phase) (left : ℕ) (l : PacketsLeft) (x : Var) (number : ℕ) → here ≡ phase.Data left → next_at nid here l ≡ Some x → Starts (left_at nid here l) x 0 number → (x ≡ OTHER_DATA) × (number < 2)
+data_bit nid here left l x number e next goes =
+    let next' : next_at nid (phase.Data left) l ≡ Some x = rw e at next in
+    let same : OTHER_DATA ≡ x = cc in
+    (sym same, bits_number OTHER_DATA refl left number (rw (e, ← same) at goes))

@@ -1,0 +1,208 @@
+-- What is left of a message behind each of its variables.
+use Rattle.std.proofs.Common.{◌≡◌, ℕ, zero, suc, ◌+◌, ◌-◌, ◌*◌, ◌/◌, ◌^◌, ◌<◌, ◌≤◌, Bool, true, false, List, [], ◌∷◌, ◌++◌, length, drop, get_or, Some, None, refl, sym, ap, subst, ◌∙◌, arith, ltb, length-append}
+use Rattle.std.specs.Prelude.{IsTrue, ◌↔◌, Option, if◌then◌else◌}
+use Rattle.std.proofs.lemmas.Bool.Decides.{nat_tests}
+use Rattle.std.proofs.Math.Seq.{drop-cons}
+use Rattle.std.proofs.Math.ListN.{drop_of_length-le}
+use Rattle.etcs_vars.specs.declared.var.Var.{Var}
+use Rattle.etcs_vars.specs.declared.var.Var.TheVariants.{NID_MESSAGE, L_MESSAGE, PADDING, OTHER_DATA}
+use Rattle.etcs_vars.specs.Vars.{width, ranges, begins}
+use Rattle.etcs_vars.specs.Reading.{Reading, Then, spelled, kept, Viable}
+use Rattle.etcs_vars.specs.Walking.{Residual}
+use Rattle.etcs_vars.proofs.Walk.{spelled-append}
+use Rattle.etcs_vars.proofs.Languages.{Same, same_self, same_along, Then-same}
+use Rattle.etcs_rows.specs.declared.frames.Carrier.TheVariants.{Message}
+use Rattle.etcs_container.specs.Contents.{Run, KeptIn}
+use Rattle.etcs_container.proofs.Turns.{residual_same}
+use Rattle.etcs_reader.specs.Rests.{Starts, Goes}
+use Rattle.etcs_reader.specs.Fields.{ReadsFields, first_of}
+use Rattle.etcs_reader.specs.FieldLaws.{fields_regular, fields_begin, fields_tested, fields_behind, some_fields}
+use Rattle.etcs_rests.specs.declared.left.PacketsLeft.{PacketsLeft}
+use Rattle.etcs_rests.specs.declared.stage.Stage.TheVariants as stage
+use Rattle.etcs_rests.specs.BitLaws.{bits_behind, some_bits, no_bits}
+use Rattle.etcs_rests.specs.ChainLaws.{Chain, chain_first, chain_goes, chain_starts, chain_viable, chain_along, chain_none}
+use Rattle.etcs_rests.specs.Lefts.{next_of, left_of, ahead, is_closed, Moved}
+use Rattle.etcs_rests.specs.LeftLaws.{left_regular, left_begins}
+use Rattle.etcs_rests.specs.OpenLaws.{opens_behind, opens_number}
+use Rattle.etcs_rests.specs.StageLaws.{closed_stage}
+use Rattle.etcs_radio.specs.declared.phase.Phase.{Phase}
+use Rattle.etcs_radio.specs.declared.phase.Phase.TheVariants as phase
+use Rattle.etcs_radio.specs.Lefts.{front_row, front_vars, front_bits, PaddingLeft, PaddedBy, PacketsBehind, PacketsFrom, Behind, LengthLeft, NumberLeft, left_at, next_at, behind_packets, behind_front, behind_padding, behind_data}
+use Rattle.etcs_radio.specs.RestLaws.{AfterNumber, number_opens, length_opens}
+
+pub by_test : (b : Bool) (P : Phase → Type 0) (x y : Phase) → (b ≡ true → P x) → (b ≡ false → P y) → P (if b then x else y)
+by_test true P x y f g = f refl
+by_test false P x y f g = g refl
+
+pub below_false : (a b : ℕ) → ltb a b ≡ false → b ≤ a
+below_false a b h = grind (arith, nat_tests)
+
+pub below_true : (a b : ℕ) → ltb a b ≡ true → a < b
+below_true a b h = grind (arith, nat_tests)
+
+-- ---- NID_MESSAGE and L_MESSAGE.
+
+pub number_behind : (n : ℕ) → Starts NumberLeft NID_MESSAGE 0 n → (n < 2 ^ 8) × Residual NumberLeft ((NID_MESSAGE, n) ∷ []) (LengthLeft n)
+number_behind n s =
+    let h = opens_number NumberLeft NID_MESSAGE AfterNumber number_opens n s in
+    let small = h.1.0 in
+    (small, residual_same NumberLeft ((NID_MESSAGE, n) ∷ []) (AfterNumber n) (LengthLeft n) (opens_behind NumberLeft NID_MESSAGE AfterNumber number_opens n) (λ r. (λ k. k.1, λ k. (small, k))))
+
+-- some message of this length goes on
+pub length_goes : (nid len : ℕ) → Starts (LengthLeft nid) L_MESSAGE 0 len → Goes (Behind (front_row nid) len)
+length_goes nid len s = opens_number (LengthLeft nid) L_MESSAGE (Behind (front_row nid)) (length_opens nid) len s
+
+length_behind : (nid len : ℕ) (found : Option (List Var)) → front_row nid ≡ found → Residual (LengthLeft nid) ((L_MESSAGE, len) ∷ []) (Behind found len)
+length_behind nid len found e =
+    subst (λ (o : Option (List Var)). Residual (LengthLeft nid) ((L_MESSAGE, len) ∷ []) (Behind o len)) e (opens_behind (LengthLeft nid) L_MESSAGE (Behind (front_row nid)) (length_opens nid) len)
+
+-- packets and PADDING in the same room
+packets_begun : (front len : ℕ) (l : PacketsLeft) → ahead l.room l.stage ≡ 8 * len - front → Same (left_of l.carrier l.room l.stage) (Run Message (8 * len - front)) → Same (PacketsFrom front len) (PacketsBehind l)
+packets_begun front len l room same r = (
+  λ (a, b, e, h, k). (a, b, e, (same a).1 h, subst (λ n. PaddingLeft (n - length (spelled a)) b) (sym room) k),
+  λ (a, b, e, h, k). (a, b, e, (same a).0 h, subst (λ n. PaddingLeft (n - length (spelled a)) b) room k),
+)
+
+pub typed_behind : (nid len : ℕ) (vs : List Var) (l l' : PacketsLeft) → front_row nid ≡ Some vs → Starts (LengthLeft nid) L_MESSAGE 0 len → ahead l'.room l'.stage ≡ 8 * len - front_bits vs → Same (left_of l'.carrier l'.room l'.stage) (Run Message (8 * len - front_bits vs))
+    → Residual (left_at nid phase.Length l) ((L_MESSAGE, len) ∷ []) (left_at nid (phase.Front 0) l')
+typed_behind nid len vs l l' found s room same =
+    let (r, (fits, most, rest)) : Goes (Behind (Some vs) len) = subst (λ (o : Option (List Var)). Goes (Behind o len)) found (length_goes nid len s) in
+    let packets = packets_begun (front_bits vs) len l' room same in
+    let parts : Same (Then (ReadsFields vs) (PacketsFrom (front_bits vs) len)) (Then (ReadsFields vs) (PacketsBehind l')) = Then-same (ReadsFields vs) (PacketsFrom (front_bits vs) len) (ReadsFields vs) (PacketsBehind l') (same_self (ReadsFields vs)) packets in
+    let all : Same (Behind (Some vs) len) (left_at nid (phase.Front 0) l') = rw found (λ r. (λ h. (parts r).0 h.2, λ h. (fits, most, (parts r).1 h))) in
+    residual_same (LengthLeft nid) ((L_MESSAGE, len) ∷ []) (Behind (Some vs) len) (left_at nid (phase.Front 0) l') (length_behind nid len (Some vs) found) all
+
+pub data_begun : (nid len : ℕ) (l l' : PacketsLeft) → front_row nid ≡ None → Starts (LengthLeft nid) L_MESSAGE 0 len → Residual (left_at nid phase.Length l) ((L_MESSAGE, len) ∷ []) (left_at nid (phase.Data (8 * len - 18)) l')
+data_begun nid len l l' found s =
+    let (r, (least, most, rest)) : Goes (Behind None len) = subst (λ (o : Option (List Var)). Goes (Behind o len)) found (length_goes nid len s) in
+    residual_same (LengthLeft nid) ((L_MESSAGE, len) ∷ []) (Behind None len) (KeptIn (8 * len - 18)) (length_behind nid len None found) (λ r. (λ h. h.2, λ h. (least, most, h)))
+
+-- the bounds of a length
+pub typed_bounds : (nid len : ℕ) (vs : List Var) → front_row nid ≡ Some vs → Starts (LengthLeft nid) L_MESSAGE 0 len → (front_bits vs ≤ 8 * len) × (len < 2 ^ 10)
+typed_bounds nid len vs found s = let goes : Goes (Behind (Some vs) len) = subst (λ (o : Option (List Var)). Goes (Behind o len)) found (length_goes nid len s) in let (r, (least, most, rest)) = goes in (least, most)
+
+pub kept_bounds : (nid len : ℕ) → front_row nid ≡ None → Starts (LengthLeft nid) L_MESSAGE 0 len → (3 ≤ len) × (len < 2 ^ 10)
+kept_bounds nid len found s = let goes : Goes (Behind None len) = subst (λ (o : Option (List Var)). Goes (Behind o len)) found (length_goes nid len s) in let (r, (least, most, rest)) = goes in (least, most)
+
+-- ---- Padding, and bits that are kept.
+
+pub behind_bits : (nid left : ℕ) (l : PacketsLeft) → Same (PaddingLeft left) (left_at nid (behind_padding left) l)
+behind_bits nid left l =
+    by_test (ltb 0 left) (λ x. Same (PaddingLeft left) (left_at nid x l)) (phase.Padding left) phase.Whole
+    (λ _. same_self (PaddingLeft left))
+    (λ t. let e : left ≡ 0 = (let b = below_false 0 left t in omega arith) in rw e (no_bits PADDING))
+
+behind_kept : (nid left : ℕ) (l : PacketsLeft) → Same (KeptIn left) (left_at nid (behind_data left) l)
+behind_kept nid left l =
+    by_test (ltb 0 left) (λ x. Same (KeptIn left) (left_at nid x l)) (phase.Data left) phase.Whole
+    (λ _. same_self (KeptIn left))
+    (λ t. let e : left ≡ 0 = (let b = below_false 0 left t in omega arith) in rw e (no_bits OTHER_DATA))
+
+pub padding_behind : (nid left : ℕ) (l : PacketsLeft) (t : List Bool) → length t ≤ left → Residual (left_at nid (phase.Padding left) l) (kept PADDING t) (left_at nid (behind_padding (left - length t)) l)
+padding_behind nid left l t le = residual_same (PaddingLeft left) (kept PADDING t) (PaddingLeft (left - length t)) (left_at nid (behind_padding (left - length t)) l) (bits_behind PADDING refl left t le) (behind_bits nid (left - length t) l)
+
+pub data_behind : (nid left : ℕ) (l : PacketsLeft) (t : List Bool) → length t ≤ left → Residual (left_at nid (phase.Data left) l) (kept OTHER_DATA t) (left_at nid (behind_data (left - length t)) l)
+data_behind nid left l t le = residual_same (KeptIn left) (kept OTHER_DATA t) (KeptIn (left - length t)) (left_at nid (behind_data (left - length t)) l) (bits_behind OTHER_DATA refl left t le) (behind_kept nid (left - length t) l)
+
+pub padding_goes : (nid left : ℕ) (l : PacketsLeft) → Goes (left_at nid (behind_padding left) l)
+padding_goes nid left l = let s = some_bits PADDING refl left in (s.0, (behind_bits nid left l s.0).0 s.1)
+
+pub data_goes : (nid left : ℕ) (l : PacketsLeft) → Goes (left_at nid (behind_data left) l)
+data_goes nid left l = let s = some_bits OTHER_DATA refl left in (s.0, (behind_kept nid left l s.0).0 s.1)
+
+-- ---- The packets.
+
+module _ (nid : ℕ) (l : PacketsLeft) where
+  -- PADDING can stand behind all of them
+  padding_some : (a : Reading) → left_of l.carrier l.room l.stage a → Goes (PaddedBy (ahead l.room l.stage) a)
+  padding_some a h = some_bits PADDING refl (ahead l.room l.stage - length (spelled a))
+
+  pub packets_go : Goes (left_at nid phase.Packets l) → Goes (left_of l.carrier l.room l.stage)
+  packets_go g = chain_first (left_of l.carrier l.room l.stage) (PaddedBy (ahead l.room l.stage)) g
+
+  pub packets_start : (x : Var) (rest bits : ℕ) → next_of l.stage ≡ Some x → Starts (left_of l.carrier l.room l.stage) x rest bits ↔ Starts (left_at nid phase.Packets l) x rest bits
+  packets_start x rest bits e = chain_starts (left_of l.carrier l.room l.stage) (PaddedBy (ahead l.room l.stage)) padding_some x rest bits (left_begins l.carrier l.room l.stage l.stands x e)
+
+  pub packets_viable : (t : List Bool) → Viable (left_of l.carrier l.room l.stage) t → Viable (left_at nid phase.Packets l) t
+  packets_viable t v = chain_viable (left_of l.carrier l.room l.stage) (PaddedBy (ahead l.room l.stage)) padding_some t v
+
+-- behind closed packets comes PADDING
+behind_closed : (nid : ℕ) (l : PacketsLeft) → l.stage ≡ stage.Closed → Same (PacketsBehind l) (left_at nid (behind_padding l.room) l)
+behind_closed nid l e =
+    let none : Same (PacketsBehind l) (PaddingLeft (l.room - 0)) = rw e (chain_none (PaddedBy l.room)) in
+    let all : l.room - 0 ≡ l.room = omega arith in
+    same_along (PacketsBehind l) (PaddingLeft l.room) (left_at nid (behind_padding l.room) l) (subst (λ n. Same (PacketsBehind l) (PaddingLeft n)) all none) (behind_bits nid l.room l)
+
+behind_any : (nid : ℕ) (l : PacketsLeft) → Same (PacketsBehind l) (left_at nid (behind_packets l) l)
+behind_any nid l =
+    by_test (is_closed l.stage) (λ x. Same (PacketsBehind l) (left_at nid x l)) (behind_padding l.room) phase.Packets
+    (λ t. behind_closed nid l (closed_stage l.stage t))
+    (λ _. same_self (PacketsBehind l))
+
+-- so many bits more leave so much less to PADDING
+same_padding : (room room' : ℕ) (p a : Reading) → room ≡ length (spelled p) + room' → Same (PaddedBy room (p ++ a)) (PaddedBy room' a)
+same_padding room room' p a e r =
+    let len : length (spelled (p ++ a)) ≡ length (spelled p) + length (spelled a) = ap (λ (t : List Bool). length t) (spelled-append p a) ∙ length-append (spelled p) (spelled a) in
+    let left : room - length (spelled (p ++ a)) ≡ room' - length (spelled a) = omega (arith, len, e) in
+    (λ f. subst (λ n. PaddingLeft n r) left f, λ f. subst (λ n. PaddingLeft n r) (sym left) f)
+
+pub packets_behind : (nid : ℕ) (l l' : PacketsLeft) (p : Reading) → Moved l.carrier l.room l.stage p l'.carrier l'.room l'.stage → Goes (left_of l'.carrier l'.room l'.stage) → Residual (left_at nid phase.Packets l) p (left_at nid (behind_packets l') l')
+packets_behind nid l l' p m g =
+    let P : Reading → Type 0 = left_of l.carrier l.room l.stage in
+    let R : Reading → Type 0 = left_of l'.carrier l'.room l'.stage in
+    let room = ahead l.room l.stage in
+    let room' = ahead l'.room l'.stage in
+    let all = chain_along P R (PaddedBy room) (PaddedBy room') p (left_regular l.carrier l.room l.stage) m.residual g (λ a b. same_padding room room' p a m.ahead_is b) in
+    residual_same (left_at nid phase.Packets l) p (PacketsBehind l') (left_at nid (behind_packets l') l') all (behind_any nid l')
+
+-- behind a number something is left
+pub packets_left : (l l' : PacketsLeft) (x : Var) (number : ℕ) → Starts (left_of l.carrier l.room l.stage) x 0 number → Moved l.carrier l.room l.stage ((x, number) ∷ []) l'.carrier l'.room l'.stage → Goes (left_of l'.carrier l'.room l'.stage)
+packets_left l l' x number (n, r, h, e) m =
+    let whole : n ≡ number = (let one : n / 2 ^ 0 ≡ n = omega arith in sym one ∙ e) in
+    let P : ℕ → Type 0 = λ k. left_of l.carrier l.room l.stage ((x, k) ∷ r) in
+    (r, m.residual.to r (subst P whole h))
+
+-- all of it goes on where the packets do
+pub packets_all : (nid : ℕ) (l : PacketsLeft) → Goes (left_of l.carrier l.room l.stage) → Goes (left_at nid (behind_packets l) l)
+packets_all nid l g =
+    let h = chain_goes (left_of l.carrier l.room l.stage) (PaddedBy (ahead l.room l.stage)) (padding_some nid l) g in
+    (h.0, (behind_any nid l h.0).0 h.1)
+
+-- ---- The front.
+
+-- what stands behind numbers that go on goes on
+front_goes : (vs : List Var) (Q : Reading → Type 0) (x : Var) (rest bits : ℕ) → Starts (Chain (ReadsFields vs) (λ _. Q)) x rest bits → Goes Q
+front_goes vs Q x rest bits (n, r, (a, b, e, h, k), q) = (b, k)
+
+pub front_tested : (nid at : ℕ) (l : PacketsLeft) (x : Var) (rest bits : ℕ) → next_at nid (phase.Front at) l ≡ Some x → rest < width x → bits < 2 ^ (width x - rest) → Goes (left_at nid (phase.Front at) l) → IsTrue (begins (ranges x) rest bits) ↔ Starts (left_at nid (phase.Front at) l) x rest bits
+front_tested nid at l x rest bits e lt fits (r, (a, b, f, h, k)) =
+    let vs = drop at (front_vars nid) in
+    let one = fields_tested vs x rest bits e lt fits in
+    let two = chain_starts (ReadsFields vs) (λ _. PacketsBehind l) (λ _ _. (b, k)) x rest bits (fields_begin vs x e) in
+    (λ t. two.0 (one.0 t), λ s. one.1 (two.1 s))
+
+after_front : (nid at : ℕ) (l : PacketsLeft) → Same (Chain (ReadsFields (drop (suc at) (front_vars nid))) (λ _. PacketsBehind l)) (left_at nid (behind_front (length (front_vars nid)) (at + 1) l) l)
+after_front nid at l =
+    let vs = front_vars nid in
+    by_test (ltb (at + 1) (length vs)) (λ x. Same (Chain (ReadsFields (drop (suc at) vs)) (λ _. PacketsBehind l)) (left_at nid x l)) (phase.Front (at + 1)) (behind_packets l)
+    (λ _. let e : at + 1 ≡ suc at = omega arith in rw e (same_self (Chain (ReadsFields (drop (suc at) vs)) (λ _. PacketsBehind l))))
+    (λ t. let e : drop (suc at) vs ≡ [] = (let b = below_false (at + 1) (length vs) t in drop_of_length-le vs {i = suc at} (omega arith)) in
+    let none : Same (Chain (ReadsFields (drop (suc at) vs)) (λ _. PacketsBehind l)) (PacketsBehind l) = rw e (chain_none (λ _. PacketsBehind l)) in
+    same_along (Chain (ReadsFields (drop (suc at) vs)) (λ _. PacketsBehind l)) (PacketsBehind l) (left_at nid (behind_packets l) l) none (behind_any nid l))
+
+pub front_behind : (nid at : ℕ) (l : PacketsLeft) (x : Var) (number : ℕ) → at < length (front_vars nid) → next_at nid (phase.Front at) l ≡ Some x → Starts (left_at nid (phase.Front at) l) x 0 number
+    → Residual (left_at nid (phase.Front at) l) ((x, number) ∷ []) (left_at nid (behind_front (length (front_vars nid)) (at + 1) l) l)
+front_behind nid at l x number h e s =
+    let v = get_or (front_vars nid) at PADDING in
+    let vs = drop (suc at) (front_vars nid) in
+    let Q : Reading → Type 0 = PacketsBehind l in
+    let row : drop at (front_vars nid) ≡ v ∷ vs = drop-cons (front_vars nid) at PADDING h in
+    let first : first_of (v ∷ vs) ≡ Some x = rw row at e in
+    let s' : Starts (Chain (ReadsFields (v ∷ vs)) (λ _. Q)) x 0 number = rw row at s in
+    let g = front_goes (v ∷ vs) Q x 0 number s' in
+    let one = (chain_starts (ReadsFields (v ∷ vs)) (λ _. Q) (λ _ _. g) x 0 number (fields_begin (v ∷ vs) x first)).1 s' in
+    let behind = fields_behind v vs x number first one in
+    let all : Residual (Chain (ReadsFields (v ∷ vs)) (λ _. Q)) ((x, number) ∷ []) (Chain (ReadsFields vs) (λ _. Q)) =
+    chain_along (ReadsFields (v ∷ vs)) (ReadsFields vs) (λ _. Q) (λ _. Q) ((x, number) ∷ []) (fields_regular (v ∷ vs)) behind (some_fields vs) (λ a b. (λ k. k, λ k. k)) in
+    let all' : Residual (Chain (ReadsFields (drop at (front_vars nid))) (λ _. Q)) ((x, number) ∷ []) (Chain (ReadsFields vs) (λ _. Q)) = rw row all in
+    residual_same (left_at nid (phase.Front at) l) ((x, number) ∷ []) (Chain (ReadsFields vs) (λ _. Q)) (left_at nid (behind_front (length (front_vars nid)) (at + 1) l) l) all' (after_front nid at l)

@@ -1,0 +1,15 @@
+use Rattle.std.proofs.Common.{◌-◌, length, arith}
+use Rattle.etcs_radio.proofs.RestSteps.{padding_goes}
+use Rattle.etcs_radio.proofs.RestStands.{padding_parts, padding_stands}
+use Rattle.etcs_radio.proofs.RestHolds.{padding_follows, no_data_padding}
+use Rattle.etcs_radio.proofs.rest.MessageRest.pad.Goals as goal
+
+pub returns-clause-follows : goal.returns-clause-follows
+returns-clause-follows g c =
+    let s = c.args.self.now in
+    padding_follows s.nid s.stage c.behind_padding-self.result c.args.left c.args.count c.args.number s.front.items s.packets.left s.padding (g.S.PacketStore.holds s.packets.store) c.requires.stage c.behind_padding-self.ensures c.requires.within c.requires.small
+
+pub returns-clause-goes : goal.returns-clause-goes
+returns-clause-goes g c =
+    let s = c.args.self.now in
+    rw c.behind_padding-self.ensures (padding_goes s.nid (c.args.left - c.args.count) s.packets.left)

@@ -1,0 +1,55 @@
+use Rattle.std.proofs.Common.{◌≡◌, ◌-◌, ◌*◌, length, Some, None, sym, ap, subst, ◌∙◌, arith}
+use Rattle.std.specs.Prelude.{nat_lt}
+use Rattle.std.proofs.Math.Logic.{∥∥₁_map}
+use Rattle.std.proofs.lemmas.Bool.{and_from, lt-ltb}
+use Rattle.etcs_vars.proofs.Languages.{Same}
+use Rattle.etcs_rows.specs.declared.frames.Carrier.TheVariants.{Message}
+use Rattle.etcs_container.specs.Contents.{Run}
+use Rattle.etcs_rests.specs.Lefts.{left_of, ahead, is_closed}
+use Rattle.etcs_radio.specs.declared.phase.Phase.TheVariants as phase
+use Rattle.etcs_radio.specs.Lefts.{front_row, front_bits, some_row, DataFits}
+use Rattle.etcs_radio.proofs.Fronts.{front_short}
+use Rattle.etcs_radio.proofs.RestSteps.{typed_behind, kept_bounds}
+use Rattle.etcs_radio.proofs.RestStands.{begin_parts, begun_message, begun_stands}
+use Rattle.etcs_radio.proofs.RestHolds.{typed_follows, begun_fits}
+use Rattle.etcs_radio.proofs.rest.MessageRest.pass_length.Goals as goal
+
+pub invariant_of-self : goal.invariant_of-self
+invariant_of-self g c =
+    let s = c.args.self.now in
+    let l' = c.start.new.self.left in
+    let vs = c.in-Some.vars.now in
+    let found : front_row s.nid ≡ Some vs = sym c.in-Some.ensures in
+    let room = c.args.number * 8 - c.front_bits.result in
+    record {
+      stands = begun_stands s.nid (length s.front.items) vs l' (ap some_row found) (front_short s.nid vs found).0 (begin_parts s.nid s.stage (length s.front.items) s.packets.left c.requires.stage s.stands).0 (begun_message l' room c.start.ensures.carrier c.start.ensures.ahead c.start.ensures.left);
+      fits = ∣ tt ∣₁;
+    }
+
+pub invariant_of-self-in-None : goal.invariant_of-self-in-None
+invariant_of-self-in-None g c =
+    let s = c.args.self.now in
+    let l = s.packets.left in
+    let holds = g.S.PacketStore.holds s.packets.store in
+    let len = c.args.number in
+    let found : front_row s.nid ≡ None = sym c.in-None.ensures in
+    let closed = (begin_parts s.nid s.stage (length s.front.items) l c.requires.stage s.stands).1 in
+    let bounds = kept_bounds s.nid len found (rw c.requires.stage at c.requires.goes) in
+    let bits : 8 * len - 18 ≡ len * 8 - 18 = omega arith in
+    record {
+      stands = and_from (nat_lt 0 (len * 8 - 18)) (is_closed l.stage) (let b = bounds.0 in lt-ltb 0 (len * 8 - 18) (omega (arith, b))) closed;
+      fits = ∥∥₁_map s.fits (λ h. subst (λ n. DataFits (phase.Data n) holds) bits (begun_fits s.nid s.stage l holds len c.requires.stage found c.requires.goes h));
+    }
+
+pub returns-in-Some : goal.returns-in-Some
+returns-in-Some g c =
+    let s = c.args.self.now in
+    let l = s.packets.left in
+    let l' = c.start.new.self.left in
+    let vs = c.in-Some.vars.now in
+    let len = c.args.number in
+    let found : front_row s.nid ≡ Some vs = sym c.in-Some.ensures in
+    let room : len * 8 - c.front_bits.result ≡ 8 * len - front_bits vs = omega (arith, c.front_bits.ensures) in
+    let bits : ahead l'.room l'.stage ≡ 8 * len - front_bits vs = c.start.ensures.ahead ∙ room in
+    let left : Same (left_of l'.carrier l'.room l'.stage) (Run Message (8 * len - front_bits vs)) = subst (λ n. Same (left_of l'.carrier l'.room l'.stage) (Run Message n)) room c.start.ensures.left in
+    typed_follows s.nid s.stage s.front.items l l' s.padding (g.S.PacketStore.holds s.packets.store) (g.S.PacketStore.holds c.start.new.self.store) len vs c.requires.stage s.stands found c.requires.goes (typed_behind s.nid len vs l l' found (rw c.requires.stage at c.requires.goes) bits left) bits c.start.ensures.held

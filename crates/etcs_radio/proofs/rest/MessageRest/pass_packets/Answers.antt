@@ -1,0 +1,34 @@
+use Rattle.std.proofs.Common.{[], ◌∷◌, length}
+use Rattle.etcs_rests.specs.Lefts.{left_of}
+use Rattle.etcs_reader.specs.Rests.{Starts}
+use Rattle.etcs_radio.proofs.RestSteps.{packets_left}
+use Rattle.etcs_radio.proofs.RestStands.{packets_stands, packets_message}
+use Rattle.etcs_radio.proofs.RestHolds.{packets_follow, no_data_packets}
+use Rattle.etcs_radio.proofs.Begins.{begins_packets}
+use Rattle.etcs_radio.proofs.rest.MessageRest.pass_packets.Goals as goal
+
+pub pass-requires-clause-goes : goal.pass-requires-clause-goes
+pass-requires-clause-goes g c =
+    let s = c.args.self.now in
+    (begins_packets s.nid s.stage s.packets.left c.args.var 0 c.args.number c.requires.stage c.requires.next).1 c.requires.goes
+
+pub invariant_of-self : goal.invariant_of-self
+invariant_of-self g c =
+    let s = c.args.self.now in
+    let l' = c.pass.new.self.left in
+    let e = c.behind_packets-self.ensures in
+    record {
+      stands = packets_stands s.nid s.stage c.behind_packets-self.result (length s.front.items) s.packets.left l' ((c.args.var, c.args.number) ∷ []) c.requires.stage e s.stands c.in-Ok.ensures.ok.0;
+      fits = ∣ no_data_packets c.behind_packets-self.result l' (g.S.PacketStore.holds c.pass.new.self.store) e ∣₁;
+    }
+
+pub returns-in-Ok-clause-ok : goal.returns-in-Ok-clause-ok
+returns-in-Ok-clause-ok g c =
+    let s = c.args.self.now in
+    let l = s.packets.left in
+    let l' = c.pass.new.self.left in
+    let one = (c.args.var, c.args.number) ∷ [] in
+    let goes : Starts (left_of l.carrier l.room l.stage) c.args.var 0 c.args.number = (begins_packets s.nid s.stage l c.args.var 0 c.args.number c.requires.stage c.requires.next).1 c.requires.goes in
+    let moved = c.in-Ok.ensures.ok.0 in
+    let message = packets_message s.nid s.stage (length s.front.items) l l' one c.requires.stage s.stands moved in
+    packets_follow s.nid s.stage c.behind_packets-self.result s.front.items l l' s.padding (g.S.PacketStore.holds s.packets.store) (g.S.PacketStore.holds c.pass.new.self.store) one c.requires.stage c.behind_packets-self.ensures message moved (packets_left l l' c.args.var c.args.number goes moved) c.in-Ok.ensures.ok.1

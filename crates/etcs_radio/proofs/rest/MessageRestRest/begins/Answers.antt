@@ -1,0 +1,37 @@
+use Rattle.std.proofs.Common.{length, refl}
+use Rattle.etcs_radio.proofs.Begins.{begins_number, begins_length, begins_front, begins_packets, begins_padding, begins_data}
+use Rattle.etcs_radio.proofs.RestStands.{padding_parts, data_parts}
+use Rattle.etcs_radio.proofs.rest.MessageRestRest.begins.Goals as goal
+
+pub returns-in-Number : goal.returns-in-Number
+returns-in-Number g c =
+    let s = c.args.self.now in
+    (λ _. begins_number s.nid s.stage s.packets.left c.args.var c.args.rest c.args.number c.in-Number.is c.requires.next c.requires.rest c.requires.fits, λ _. refl)
+
+pub returns-in-Length : goal.returns-in-Length
+returns-in-Length g c =
+    let s = c.args.self.now in
+    rw (c.begins.ensures, c.lengths_of.ensures) (begins_length s.nid s.stage s.packets.left c.args.var c.args.rest c.args.number c.in-Length.is c.requires.next)
+
+pub returns-in-Front : goal.returns-in-Front
+returns-in-Front g c =
+    let s = c.args.self.now in
+    rw (c.begins-in-Front.ensures, c.ranges-in-Front.ensures) (begins_front s.nid s.stage c.in-Front.field-0 s.packets.left c.args.var c.args.rest c.args.number c.in-Front.is c.requires.next c.requires.rest c.requires.fits c.requires.goes)
+
+pub returns-in-Packets : goal.returns-in-Packets
+returns-in-Packets g c =
+    let s = c.args.self.now in
+    let two = begins_packets s.nid s.stage s.packets.left c.args.var c.args.rest c.args.number c.in-Packets.is c.requires.next in
+    (λ t. two.0 (c.begins-in-Packets.ensures.0 t), λ t. c.begins-in-Packets.ensures.1 (two.1 t))
+
+pub returns-in-Padding : goal.returns-in-Padding
+returns-in-Padding g c =
+    let s = c.args.self.now in
+    let pos = (padding_parts s.nid s.stage c.in-Padding.field-0 (length s.front.items) s.packets.left c.in-Padding.is s.stands).0 in
+    (λ _. begins_padding s.nid s.stage c.in-Padding.field-0 s.packets.left c.args.var c.args.rest c.args.number c.in-Padding.is pos c.requires.next c.requires.rest c.requires.fits, λ _. refl)
+
+pub returns-in-Data : goal.returns-in-Data
+returns-in-Data g c =
+    let s = c.args.self.now in
+    let pos = (data_parts s.nid s.stage c.in-Data.field-0 (length s.front.items) s.packets.left c.in-Data.is s.stands).0 in
+    (λ _. begins_data s.nid s.stage c.in-Data.field-0 s.packets.left c.args.var c.args.rest c.args.number c.in-Data.is pos c.requires.next c.requires.rest c.requires.fits, λ _. refl)

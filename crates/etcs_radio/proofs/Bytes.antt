@@ -39,7 +39,7 @@ pad_bits b = ap length (bits_spelled PADDING b refl)
 pub headed_length : (nid len : ℕ) (r : Reading) → length (spelled ((NID_MESSAGE, nid) ∷ (L_MESSAGE, len) ∷ r)) ≡ 18 + length (spelled r)
 headed_length nid len r = omega (arith, length-sent NID_MESSAGE nid ((L_MESSAGE, len) ∷ r), length-sent L_MESSAGE len r)
 
-typed_length : (nid len : ℕ) (h : RadioHead) (body : Reading) (vs : List PacketValue) (padding : List Bool) → length (spelled (head_reading nid len h ++ body ++ packets_reading vs ++ kept PADDING padding)) ≡ 75 + length (spelled body) + length (spelled (packets_reading vs)) + length padding
+pub typed_length : (nid len : ℕ) (h : RadioHead) (body : Reading) (vs : List PacketValue) (padding : List Bool) → length (spelled (head_reading nid len h ++ body ++ packets_reading vs ++ kept PADDING padding)) ≡ 75 + length (spelled body) + length (spelled (packets_reading vs)) + length padding
 typed_length nid len h body vs padding =
     let a = head_reading nid len h in
     let p = packets_reading vs in
@@ -49,11 +49,11 @@ typed_length nid len h body vs padding =
     let l3 = ap length (spelled-append a body) ∙ length-append (spelled a) (spelled body) in
     omega (arith, l1, l2, l3, headed_length nid len (run_of_head h), head_length h, pad_bits padding)
 
-kept_length : (nid len : ℕ) (b : List Bool) → length (spelled ((NID_MESSAGE, nid) ∷ (L_MESSAGE, len) ∷ kept OTHER_DATA b)) ≡ 18 + length b
+pub kept_length : (nid len : ℕ) (b : List Bool) → length (spelled ((NID_MESSAGE, nid) ∷ (L_MESSAGE, len) ∷ kept OTHER_DATA b)) ≡ 18 + length b
 kept_length nid len b = headed_length nid len (kept OTHER_DATA b) ∙ ap (λ (n : ℕ). 18 + n) (one_bits b)
 
 -- L_MESSAGE counts the bytes
-reads_length : (v : MessageValue) (r : Reading) → MessageReads v r → (len : ℕ) × (length (spelled r) ≡ 8 * len) × (len ≤ 1023)
+pub reads_length : (v : MessageValue) (r : Reading) → MessageReads v r → (len : ℕ) × (length (spelled r) ≡ 8 * len) × (len ≤ 1023)
 reads_length (typed_message nid h body vs padding) r t =
     let l = ap (λ (q : Reading). length (spelled q)) t.reading_is ∙ typed_length nid t.len h body vs padding in
     (t.len, omega (arith, l, t.bytes), (let s = (admits_parts L_MESSAGE t.len t.head_admitted.1.0).1 in omega (arith, s)))
@@ -73,7 +73,7 @@ bits_counted (Typed head body ps padding) r i t =
     let room = padding_room (all_bits body ps) in
     let l = ap (λ (q : Reading). length (spelled q)) t.reading_is ∙ typed_length (nid_of_body body) t.len head (body_reading body) (map packet_value ps) (num room padding) in
     omega (arith, l, t.bytes, body_length body, length-num room padding)
-bits_counted (Kept nid b) r i k = ap (λ (q : Reading). length (spelled q)) k.reading_is ∙ kept_length nid k.len b
+bits_counted (Kept nid b) r i k = omega (arith, ap (λ (q : Reading). length (spelled q)) k.reading_is ∙ kept_length nid k.len b, k.bytes)
 
 -- three bytes of a number that isn't typed
 pub some_message : Goes MessageLanguage

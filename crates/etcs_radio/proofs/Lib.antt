@@ -7,6 +7,8 @@ pub mod RestHolds
 pub mod Begins
 pub mod Bytes
 pub mod SoFar
+pub mod BodyNumbers
+pub mod Faults
 pub mod Wholes
 pub mod Holding
 pub mod Reading

@@ -18,9 +18,8 @@ use Rattle.etcs_rests.specs.Stages.{Stage, stage_by, IsReader}
 use Rattle.etcs_radio.specs.declared.phase.Phase.{Phase}
 use Rattle.etcs_radio.specs.declared.phase.Phase.TheVariants as phase
 use Rattle.etcs_radio.specs.declared.message.Content.{Content}
-use Rattle.etcs_radio.specs.declared.message.Content.TheVariants.{Typed, Kept}
-use Rattle.etcs_radio.specs.Bodies.{nid_of_body}
-use Rattle.etcs_radio.specs.Messages.{padding_room, all_bits, MessageLanguage}
+use Rattle.etcs_radio.specs.Messages.{padding_room, MessageLanguage}
+use Rattle.etcs_radio.specs.Readings.{bytes_of}
 use Rattle.etcs_radio.specs.Lefts.{front_row, front_vars, bits_of, headed, left_at, next_at, HoldsIn}
 use Rattle.etcs_radio.specs.Fronts.{content_by}
 
@@ -66,8 +65,7 @@ IsMessageReader nid phase front l store number part count stop =
 
 -- 8 times L_MESSAGE
 abbrev pub message_bits : Content → ℕ
-message_bits (Typed head body ps padding) = 8 * ((all_bits body ps + 7) / 8)
-message_bits (Kept nid b) = 18 + length b
+message_bits m = 8 * bytes_of m
 
 -- ---- What it holds between two pieces.
 

@@ -13,6 +13,7 @@ use Rattle.etcs_radio.specs.declared.body.Body.TheVariants.{SrAuthorisation, Pla
 use Rattle.etcs_radio.specs.declared.body.RadioHead.{RadioHead}
 use Rattle.etcs_radio.specs.Bodies.{run_of_head, nid_of_body, body_reading, d_ref_number, FitsSigned16, IsBody, IsBodyNumbers, ReadsBack}
 use Rattle.etcs_radio.specs.Fronts.{head_by, body_by, signed}
+use Rattle.etcs_radio.proofs.Spelling.{one_body}
 use Rattle.etcs_radio.proofs.Bodies.{one_number, two_numbers, second_below, plain_row, time_row, emergency_row, sr_body, time_body, emergency_body, version_body, shifted_body, one_flag, back_none, back_one, back_two}
 
 -- ---- The head.
@@ -33,18 +34,6 @@ signed_two n h = by_test (nat_lt n 32768) refl
     by_test true e = let l = ltb-true n 32768 e in rw e (omega (arith, l), refl)
     by_test false e = let l = ltb-false n 32768 e in rw e (omega (arith, l, h), omega (arith, l, h))
 
-below_test : (n : ℕ) → n < 2 ^ 15 → nat_lt n 32768 ≡ true
-below_test n h = grind (arith, nat_tests)
-
-above_test : (n : ℕ) → n < 2 ^ 15 → nat_lt (65535 - n) 32768 ≡ false
-above_test n h = grind (arith, nat_tests)
-
-signed_back : (d : ℤ) → FitsSigned16 d → signed (d_ref_number d) ≡ d
-signed_back (pos n) h = rw (below_test n h) refl
-signed_back (negsuc n) h =
-    let same : 65535 - (65535 - n) ≡ n = omega (arith, h) in
-    rw (above_test n h) (ap negsuc same)
-
 -- ---- The body.
 
 pub record BodyMade (nid : ℕ) (g : List ℕ) (b : Body) : Type 0 where
@@ -55,12 +44,9 @@ pub record BodyMade (nid : ℕ) (g : List ℕ) (b : Body) : Type 0 where
 pub body_made : (nid : ℕ) (g : List ℕ) → IsBodyNumbers nid g → BodyMade nid g (body_by nid g)
 body_made nid g h = by_sr (nid == 2) refl
   where
-    first : ℕ
-    first = slice_index_or g 0 0
-
     none_typed : (nid == 2) ≡ false → is_plain_message nid ≡ false → (nid == 8 || nid == 27 || nid == 28) ≡ false → (nid == 16 || nid == 18) ≡ false → (nid == 32) ≡ false → (nid == 33) ≡ false → (nid == 45) ≡ false → ⊥
     none_typed e2 ep et ee ev es eo =
-        let (row, r, typed, more) = h in
+        let (row, r, typed, reads, nums) = h in
         let none : message_row_to ToTrain nid ≡ None = rw (e2, ep, et, ee, ev, es, eo) refl in
         absurd cc
 
@@ -116,27 +102,8 @@ body_made nid g h = by_sr (nid == 2) refl
 
 -- ---- And no other body is.
 
-plain_else : (n : ℕ) → is_plain_message n ≡ true → (n == 2) ≡ false
-plain_else n h = grind (arith, nat_tests)
-
-time_else : (n : ℕ) → (n == 8 || n == 27 || n == 28) ≡ true → ((n == 2) ≡ false) × (is_plain_message n ≡ false)
-time_else n h = (grind (arith, nat_tests), grind (arith, nat_tests))
-
-emergency_else : (n : ℕ) → (n == 16 || n == 18) ≡ true → ((n == 2) ≡ false) × (is_plain_message n ≡ false) × ((n == 8 || n == 27 || n == 28) ≡ false)
-emergency_else n h = (grind (arith, nat_tests), grind (arith, nat_tests), grind (arith, nat_tests))
-
-flag_number : (b : Bool) → (bit b == 1) ≡ b
-flag_number true = refl
-flag_number false = refl
-
-by_reading : (b : Body) (nid : ℕ) → nid_of_body b ≡ nid → IsBody b → b ≡ body_by nid (numbers (body_reading b))
-by_reading (SrAuthorisation q d) nid e h = rw (sym e) refl
-by_reading (Plain n) nid e h = rw (sym e, plain_else n h.variant, h.variant) refl
-by_reading (TrainTime n t) nid e h = let (a, b) = time_else n h.variant in rw (sym e, a, b, h.variant) refl
-by_reading (Emergency n m) nid e h = let (a, b, c) = emergency_else n h.variant in rw (sym e, a, b, c, h.variant) refl
-by_reading (Version v) nid e h = rw (sym e) refl
-by_reading (Shifted q d) nid e h = rw (sym e) (ap (Shifted q) (sym (signed_back d h.types)))
-by_reading (Orientation o) nid e h = rw (sym e) (ap Orientation (sym (flag_number o)))
-
 pub body_is : (nid : ℕ) (g : List ℕ) (b : Body) → IsBodyNumbers nid g → nid_of_body b ≡ nid → IsBody b → ReadsBack nid g b → b ≡ body_by nid g
-body_is nid g b (row, r, typed, reads, n) e h back = by_reading b nid e h ∙ ap (body_by nid) (ap numbers (back row r typed reads n) ∙ n)
+body_is nid g b h e own back =
+    let (row, r, typed, reads, n) = h in
+    let m = body_made nid g h in
+    one_body b (body_by nid g) own m.body (e ∙ sym m.number) (back row r typed reads n ∙ sym (m.back row r typed reads n))

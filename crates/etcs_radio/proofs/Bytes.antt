@@ -22,12 +22,7 @@ use Rattle.etcs_radio.specs.Bodies.{run_of_head, body_reading, nid_of_body}
 use Rattle.etcs_radio.specs.Messages.{MessageValue, typed_message, kept_message, MessageReads, MessageLanguage, head_reading, IsMessage, message_value, TypedReads, KeptReads, all_bits, padding_room}
 use Rattle.etcs_radio.specs.Lefts.{NumberLeft}
 use Rattle.etcs_radio.specs.Readers.{message_bits}
-use Rattle.etcs_radio.specs.RestLaws.{number_regular}
-use Rattle.etcs_radio.proofs.RestStart.{new_left}
 use Rattle.etcs_radio.proofs.Bodies.{head_length, body_length}
-
-pub regular : Regular MessageLanguage
-regular = part_regular MessageLanguage NumberLeft (λ r l. (new_left r).1 l) number_regular
 
 -- bits of one-bit variables
 pub one_bits : (b : List Bool) → length (spelled (kept OTHER_DATA b)) ≡ length b

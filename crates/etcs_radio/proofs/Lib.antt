@@ -1,4 +1,12 @@
 pub mod Bodies
+pub mod Fitting
+pub mod Kept
+pub mod Sizes
+pub mod OneReading
+pub mod Writing
+pub mod Spelling
+pub mod Rooms
+pub mod Equality
 pub mod Fronts
 pub mod RestStart
 pub mod RestSteps

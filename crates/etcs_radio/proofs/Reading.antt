@@ -16,7 +16,8 @@ use Rattle.etcs_radio.specs.Lefts.{NumberLeft, left_at, next_at, may_ask, HoldsI
 use Rattle.etcs_radio.specs.RestLaws.{rest_begins, rest_ended}
 use Rattle.etcs_radio.specs.Messages.{MessageValue, MessageReads, MessageLanguage, IsMessage, message_value}
 use Rattle.etcs_radio.specs.Readers.{so_far, message_by, message_bits}
-use Rattle.etcs_radio.proofs.Bytes.{regular, message_bytes}
+use Rattle.etcs_radio.proofs.Bytes.{message_bytes}
+use Rattle.etcs_radio.proofs.Spelling.{regular}
 use Rattle.etcs_radio.proofs.SoFar.{far_is, far_long}
 use Rattle.etcs_radio.proofs.Wholes.{whole_reads}
 

@@ -118,7 +118,7 @@ typed_of nid h g t m l body ps bits number q r nums time ack group made carried 
       message = record {
         no_fault = no_typed_fault (head_by (t ∷ m ∷ l ∷ g)) b ps number is.body (rw group group_ok) carried few (rw room small);
         time = time_small;
-        body = is.body;
+        own = is.body;
         made = made;
         packets = carried_packets (map packet_value ps) carried;
       };

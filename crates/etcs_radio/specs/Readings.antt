@@ -10,7 +10,7 @@ use Rattle.etcs_radio.specs.declared.body.Body.{Body}
 use Rattle.etcs_radio.specs.declared.body.RadioHead.{RadioHead}
 use Rattle.etcs_radio.specs.declared.message.Content.{Content}
 use Rattle.etcs_radio.specs.declared.message.Content.TheVariants.{Typed, Kept}
-use Rattle.etcs_radio.specs.Bodies.{nid_of_body, body_reading}
+use Rattle.etcs_radio.specs.Bodies.{nid_of_body, body_reading, run_of_head}
 use Rattle.etcs_radio.specs.Messages.{all_bits, padding_room, head_reading}
 
 abbrev pub nid_of_message : Content → ℕ
@@ -50,6 +50,11 @@ unpadded_bits (Kept nid b) = 18 + length b
 -- L_MESSAGE: all bits in whole bytes
 abbrev pub bytes_of : Content → ℕ
 bytes_of m = (unpadded_bits m + 7) / 8
+
+-- what stands between L_MESSAGE and the packets
+abbrev pub own_reading : Content → Reading
+own_reading (Typed head body ps padding) = run_of_head head ++ body_reading body
+own_reading (Kept nid b) = []
 
 -- the variables in front of the packets, or of kept bits
 abbrev pub front_reading : Content → Reading

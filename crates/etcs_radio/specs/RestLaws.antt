@@ -65,7 +65,7 @@ after_length (Some vs) len =
 length_regular : (nid : ℕ) → Regular (LengthLeft nid)
 length_regular nid = opens_regular (LengthLeft nid) L_MESSAGE (Behind (front_row nid)) (length_opens nid) (λ n. after_length (front_row nid) n)
 
-pub number_regular : Regular NumberLeft
+number_regular : Regular NumberLeft
 number_regular = opens_regular NumberLeft NID_MESSAGE AfterNumber number_opens (λ n. part_regular (AfterNumber n) (LengthLeft n) (λ r h. h.1) (length_regular n))
 
 -- ---- Any phase.

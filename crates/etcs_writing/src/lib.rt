@@ -4,4 +4,4 @@
 mod packets;
 mod sink;
 
-pub use packets::{write_packet, write_packets, write_reading};
+pub use packets::{write_packet, write_packets, write_reading, write_variables};

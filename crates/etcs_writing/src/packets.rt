@@ -13,7 +13,7 @@ use etcs_bits::parts;
 use etcs_packets::Packet;
 use etcs_packets::parts::{dir, holds, send};
 use etcs_vars::Var;
-use etcs_vars::parts::Sink;
+use etcs_vars::parts::{Sink, Variables};
 
 /// Writes variables over the bits from `at` on, one behind the other, each with the lowest bits of its number.
 pub fn write_reading(out: &mut [u8], at: usize, sent: &[(Var, u64)])
@@ -23,6 +23,19 @@ pub fn write_reading(out: &mut [u8], at: usize, sent: &[(Var, u64)])
 {
     let mut sink = BitSink::new(out, at);
     match sink.send(sent) {
+        Ok(()) => {}
+        Err(_) => unreachable!(),
+    }
+}
+
+/// Writes a run of variables over the bits from `at` on, as [`write_reading`] does.
+pub fn write_variables<V: Variables>(out: &mut [u8], at: usize, run: &V)
+    requires room { at + length (spelled (V.reading_of run.now)) ≤ length (bits out.old) }
+    requires small { at + length (spelled (V.reading_of run.now)) < 2 ^ 64 }
+    ensures { bits out.new ≡ replaced at (spelled (V.reading_of run.now)) (bits out.old) }
+{
+    let mut sink = BitSink::new(out, at);
+    match run.send(&mut sink) {
         Ok(()) => {}
         Err(_) => unreachable!(),
     }

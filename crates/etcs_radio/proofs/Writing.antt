@@ -1,0 +1,106 @@
+-- The parts of a message, written one behind the other.
+use Rattle.std.proofs.Common.{◌≡◌, ℕ, ◌+◌, ◌-◌, ◌*◌, ◌/◌, ◌^◌, ◌<◌, ◌≤◌, Bool, List, [], ◌∷◌, ◌++◌, length, take, drop, refl, sym, ap, ◌∙◌, arith, append_assoc, append-nil, length-append}
+use Rattle.std.specs.Prelude.{map}
+use Rattle.std.proofs.lemmas.List.{take_at, length-drop, drop_all}
+use Rattle.std.proofs.Math.Seq.{drop-append-add}
+use Rattle.etcs_bits.specs.Bits.{num, bits, replaced}
+use Rattle.etcs_bits.proofs.Numbers.{length-num}
+use Rattle.etcs_bits.proofs.Positions.{length-bits}
+use Rattle.etcs_vars.specs.declared.var.Var.TheVariants.{NID_MESSAGE, L_MESSAGE, PADDING, OTHER_DATA}
+use Rattle.etcs_vars.specs.Reading.{Reading, spelled, kept}
+use Rattle.etcs_vars.proofs.Walk.{spelled-append}
+use Rattle.etcs_packets.specs.declared.packet.Packet.{Packet}
+use Rattle.etcs_packets.specs.PacketValues.{packet_value}
+use Rattle.etcs_packets.specs.PacketReadings.{packets_reading}
+use Rattle.etcs_radio.specs.declared.body.Body.{Body}
+use Rattle.etcs_radio.specs.declared.body.RadioHead.{RadioHead}
+use Rattle.etcs_radio.specs.declared.message.Content.TheVariants.{Typed, Kept}
+use Rattle.etcs_radio.specs.Bodies.{nid_of_body, body_bits, body_reading, run_of_head}
+use Rattle.etcs_radio.specs.Messages.{all_bits, packets_bits, padding_room, head_reading}
+use Rattle.etcs_radio.specs.Readings.{bytes_of, message_reading}
+use Rattle.etcs_radio.proofs.Bodies.{body_length, head_length, length-widths}
+use Rattle.etcs_radio.proofs.Kept.{spelled-kept}
+
+-- NID_MESSAGE and L_MESSAGE
+abbrev pub numbers_front : ℕ → ℕ → Reading
+numbers_front nid len = (NID_MESSAGE, nid) ∷ (L_MESSAGE, len) ∷ []
+
+pub front_18 : (nid len : ℕ) → length (spelled (numbers_front nid len)) ≡ 18
+front_18 nid len = length-widths (numbers_front nid len)
+
+-- bits that replace those behind a front
+put_next : (at : ℕ) (front new b : List Bool) → at ≡ length front → replaced at new (front ++ b) ≡ (front ++ new) ++ drop (length new) b
+put_next at front new b e =
+    let first : take at (front ++ b) ≡ front = take_at front b at (sym e) in
+    let behind : drop (at + length new) (front ++ b) ≡ drop (length new) b = ap (λ (k : ℕ). drop (k + length new) (front ++ b)) e ∙ drop-append-add front b (length new) in
+    rw (first, behind) refl
+
+-- the last bits
+put_last : (at : ℕ) (front new b : List Bool) → at ≡ length front → length b ≤ length new → replaced at new (front ++ b) ≡ front ++ new
+put_last at front new b e short = put_next at front new b e ∙ ap (λ (s : List Bool). (front ++ new) ++ s) (drop_all (length new) b short) ∙ append-nil (front ++ new)
+
+-- two parts, and five
+two_written : (h z b b1 b2 : List Bool) (i : ℕ) → i ≡ length h → length b ≡ i + length z → b1 ≡ replaced 0 h b → b2 ≡ replaced i z b1 → b2 ≡ h ++ z
+two_written h z b b1 b2 i ei size e1 e2 =
+    let r1 = drop (length h) b in
+    let s1 : b1 ≡ h ++ r1 = e1 ∙ put_next 0 [] h b refl in
+    e2 ∙ ap (replaced i z) s1 ∙ put_last i h z r1 ei (omega (arith, length-drop (length h) b, ei, size))
+
+five_written : (h t p q z b b1 b2 b3 b4 b5 : List Bool) (i j k l : ℕ) → i ≡ length h → j ≡ i + length t → k ≡ j + length p → l ≡ k + length q → length b ≡ l + length z → b1 ≡ replaced 0 h b → b2 ≡ replaced i t b1 → b3 ≡ replaced j p b2 → b4 ≡ replaced k q b3 → b5 ≡ replaced l z b4 → b5 ≡ (((h ++ t) ++ p) ++ q) ++ z
+five_written h t p q z b b1 b2 b3 b4 b5 i j k l ei ej ek el size e1 e2 e3 e4 e5 =
+    let r1 = drop (length h) b in
+    let r2 = drop (length t) r1 in
+    let r3 = drop (length p) r2 in
+    let r4 = drop (length q) r3 in
+    let l2 : j ≡ length (h ++ t) = omega (arith, ei, ej, length-append h t) in
+    let l3 : k ≡ length ((h ++ t) ++ p) = omega (arith, l2, ek, length-append (h ++ t) p) in
+    let l4 : l ≡ length (((h ++ t) ++ p) ++ q) = omega (arith, l3, el, length-append ((h ++ t) ++ p) q) in
+    let s1 : b1 ≡ h ++ r1 = e1 ∙ put_next 0 [] h b refl in
+    let s2 : b2 ≡ (h ++ t) ++ r2 = e2 ∙ ap (replaced i t) s1 ∙ put_next i h t r1 ei in
+    let s3 : b3 ≡ ((h ++ t) ++ p) ++ r3 = e3 ∙ ap (replaced j p) s2 ∙ put_next j (h ++ t) p r2 l2 in
+    let s4 : b4 ≡ (((h ++ t) ++ p) ++ q) ++ r4 = e4 ∙ ap (replaced k q) s3 ∙ put_next k ((h ++ t) ++ p) q r3 l3 in
+    e5 ∙ ap (replaced l z) s4 ∙ put_last l (((h ++ t) ++ p) ++ q) z r4 l4 (omega (arith, length-drop (length q) r3, length-drop (length p) r2, length-drop (length t) r1, length-drop (length h) b, ei, ej, ek, el, size))
+
+-- ---- A typed message.
+
+module _ (head : RadioHead) (body : Body) (ps : List Packet) (padding : ℕ) where
+  abbrev whole : ℕ
+  whole = all_bits body ps
+
+  abbrev len : ℕ
+  len = bytes_of (Typed head body ps padding)
+
+  typed_bits : spelled (message_reading (Typed head body ps padding)) ≡ (((spelled (numbers_front (nid_of_body body) len) ++ spelled (run_of_head head)) ++ spelled (body_reading body)) ++ spelled (packets_reading (map packet_value ps))) ++ num (padding_room whole) padding
+  typed_bits =
+      let n = numbers_front (nid_of_body body) len in
+      let h = head_reading (nid_of_body body) len head in
+      let b = body_reading body in
+      let p = packets_reading (map packet_value ps) in
+      let z = num (padding_room whole) padding in
+      let first : spelled h ≡ spelled n ++ spelled (run_of_head head) = spelled-append n (run_of_head head) in
+      let second : spelled (h ++ b) ≡ (spelled n ++ spelled (run_of_head head)) ++ spelled b = spelled-append h b ∙ ap (λ (s : List Bool). s ++ spelled b) first in
+      let third : spelled ((h ++ b) ++ p) ≡ ((spelled n ++ spelled (run_of_head head)) ++ spelled b) ++ spelled p = spelled-append (h ++ b) p ∙ ap (λ (s : List Bool). s ++ spelled p) second in
+      spelled-append ((h ++ b) ++ p) (kept PADDING z)
+      ∙ ap (λ (s : List Bool). s ++ spelled (kept PADDING z)) third
+      ∙ ap (λ (s : List Bool). (((spelled n ++ spelled (run_of_head head)) ++ spelled b) ++ spelled p) ++ s) (spelled-kept PADDING z refl)
+
+  pub typed_written : (end nid bytes room : ℕ) (b b1 b2 b3 b4 b5 : List Bool) → nid ≡ nid_of_body body → bytes ≡ len → room ≡ padding_room whole → end ≡ whole → length b ≡ whole + padding_room whole → b1 ≡ replaced 0 (spelled (numbers_front nid bytes)) b → b2 ≡ replaced 18 (spelled (run_of_head head)) b1 → b3 ≡ replaced 75 (spelled (body_reading body)) b2 → b4 ≡ replaced (75 + body_bits body) (spelled (packets_reading (map packet_value ps))) b3 → b5 ≡ replaced end (num room padding) b4 → b5 ≡ spelled (message_reading (Typed head body ps padding))
+  typed_written end nid bytes room b b1 b2 b3 b4 b5 en el er ee size e1 e2 e3 e4 e5 =
+      let n = spelled (numbers_front (nid_of_body body) len) in
+      let z = num (padding_room whole) padding in
+      let f1 : b1 ≡ replaced 0 n b = e1 ∙ ap (λ (k : ℕ). replaced 0 (spelled (numbers_front k bytes)) b) en ∙ ap (λ (k : ℕ). replaced 0 (spelled (numbers_front (nid_of_body body) k)) b) el in
+      let f5 : b5 ≡ replaced end z b4 = e5 ∙ ap (λ (k : ℕ). replaced end (num k padding) b4) er in
+      let last : length z ≡ padding_room whole = length-num (padding_room whole) padding in
+      five_written n (spelled (run_of_head head)) (spelled (body_reading body)) (spelled (packets_reading (map packet_value ps))) z b b1 b2 b3 b4 b5 18 75 (75 + body_bits body) end
+      (sym (front_18 (nid_of_body body) len)) (omega (arith, head_length head)) (omega (arith, body_length body)) (omega (arith, ee)) (omega (arith, size, ee, last)) f1 e2 e3 e4 f5
+      ∙ sym typed_bits
+
+-- ---- A kept message.
+
+pub kept_written : (nid number bytes : ℕ) (k b b1 b2 : List Bool) → number ≡ nid → bytes ≡ bytes_of (Kept nid k) → length b ≡ 18 + length k → b1 ≡ replaced 0 (spelled (numbers_front number bytes)) b → b2 ≡ replaced 18 k b1 → b2 ≡ spelled (message_reading (Kept nid k))
+kept_written nid number bytes k b b1 b2 en el size e1 e2 =
+    let len = bytes_of (Kept nid k) in
+    let n = numbers_front nid len in
+    let f1 : b1 ≡ replaced 0 (spelled n) b = e1 ∙ ap (λ (i : ℕ). replaced 0 (spelled (numbers_front i bytes)) b) en ∙ ap (λ (i : ℕ). replaced 0 (spelled (numbers_front nid i)) b) el in
+    two_written (spelled n) k b b1 b2 18 (sym (front_18 nid len)) size f1 e2
+    ∙ sym (spelled-append n (kept OTHER_DATA k) ∙ ap (λ (s : List Bool). spelled n ++ s) (spelled-kept OTHER_DATA k refl))

@@ -238,3 +238,16 @@ pub whole_reads : (nid : ℕ) (phase : Phase) (front : List ℕ) (l : PacketsLef
     → IsMessage (message_by nid front store number) × MessageReads (message_value (message_by nid front store number)) (so_far nid phase front l store number)
 whole_reads nid phase front l store number n s e lang h =
     whole_ends nid front l store number (so_far nid phase front l store number) lang (subst (λ (p : Phase). HoldsIn nid p front l number (list_holds store.packets.items store.numbers.items store.bits) (so_far nid phase front l store number)) (none_whole nid phase l n s e) h)
+
+-- the numbers that its front is made of
+pub whole_numbers : (nid : ℕ) (phase : Phase) (front : List ℕ) (l : PacketsLeft) (store : PacketList) (number n : ℕ) → IsTrue (stands_at nid phase n l) → next_at nid phase l ≡ None → MessageLanguage (so_far nid phase front l store number) → HoldsIn nid phase front l number (list_holds store.packets.items store.numbers.items store.bits) (so_far nid phase front l store number)
+    → (vars : List Var) → front_row nid ≡ Some vars → IsHeadNumbers front × IsBodyNumbers nid (drop 3 front)
+whole_numbers nid phase front l store number n s e lang h vars typed =
+    let q = so_far nid phase front l store number in
+    by_end (subst (λ (p : Phase). HoldsIn nid p front l number (list_holds store.packets.items store.numbers.items store.bits) q) (none_whole nid phase l n s e) h)
+  where
+    by_end : HoldsIn nid Whole front l number (list_holds store.packets.items store.numbers.items store.bits) (so_far nid phase front l store number) → IsHeadNumbers front × IsBodyNumbers nid (drop 3 front)
+    by_end (inl p) =
+        let t = typed_is nid front store.packets.items store.numbers.items store.bits number (so_far nid phase front l store number) lang p in
+        (t.head, t.body)
+    by_end (inr d) = let none = d.untyped in absurd cc

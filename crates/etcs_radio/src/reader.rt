@@ -1,10 +1,13 @@
 //! A resumable reader of messages.
 
-ghost use Rattle.std.specs.Prelude.{◌≡◌, ◌≢◌, ◌<◌, List, Bool, [], MatchResult, IfSome, IsNone};
+ghost use Rattle.std.specs.Prelude.{◌≡◌, ◌≢◌, ◌<◌, List, Bool, [], MatchResult, IfSome, IsNone, Some, drop};
 ghost use Rattle.etcs_bits.specs.Bits.{bits};
 ghost use Rattle.etcs_rests.specs.Holdings.{IsHeld};
 ghost use Rattle.etcs_radio.specs.Messages.{MessageLanguage, MessageReads, message_value, IsMessage};
-ghost use Rattle.etcs_radio.specs.Fronts.{head_by, IsHeadNumbers};
+ghost use Rattle.etcs_vars.specs.declared.var.Var.{Var};
+ghost use Rattle.etcs_radio.specs.Bodies.{IsBodyNumbers};
+ghost use Rattle.etcs_radio.specs.Lefts.{front_row};
+ghost use Rattle.etcs_radio.specs.Fronts.{head_by, content_by, IsHeadNumbers};
 ghost use Rattle.etcs_radio.specs.Readers.{Members, message_bits};
 
 use crate::body::{Body, RadioHead};
@@ -29,6 +32,25 @@ fn head_of(numbers: &[u64]) -> RadioHead
         t_train: numbers[0] as u32,
         m_ack: numbers[1] == 1,
         nid_lrbg: numbers[2] as u32,
+    }
+}
+
+/// A whole message by what was kept of it.
+fn content_of(nid: u8, front: &[u64], store: PacketList, padding: u8) -> Content
+    requires { (vars : List Var) → front_row nid ≡ Some vars → IsHeadNumbers front.now × IsBodyNumbers nid (drop 3 front.now) }
+    ensures { result ≡ content_by (front_row nid) nid front.now store.packets.items store.bits padding }
+{
+    match front_row(nid) {
+        Some(_) => Content::Typed {
+            head: head_of(front),
+            body: Body::of_numbers(nid, &front[3..]),
+            packets: Items::from_vec(store.packets),
+            padding,
+        },
+        None => Content::Kept {
+            nid,
+            bits: store.bits,
+        },
     }
 }
 
@@ -138,22 +160,10 @@ impl MessageReader {
             return Err(self);
         }
         let rest = self.feeder.into_rest();
+        let (nid, padding) = (rest.nid, rest.padding);
+        let front = rest.front;
         let store = rest.packets.store;
-        let content = match front_row(rest.nid) {
-            Some(_) => {
-                let numbers = rest.front.as_slice();
-                Content::Typed {
-                    head: head_of(numbers),
-                    body: Body::of_numbers(rest.nid, &numbers[3..]),
-                    packets: Items::from_vec(store.packets),
-                    padding: rest.padding,
-                }
-            }
-            None => Content::Kept {
-                nid: rest.nid,
-                bits: store.bits,
-            },
-        };
+        let content = content_of(nid, front.as_slice(), store, padding);
         Ok(Message { content })
     }
 }

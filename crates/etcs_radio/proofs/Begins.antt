@@ -1,18 +1,16 @@
 -- Which numbers of a message go on.
-use Rattle.std.proofs.Common.{◌≡◌, ℕ, ◌+◌, ◌-◌, ◌*◌, ◌/◌, ◌^◌, ◌<◌, ◌≤◌, Bool, true, false, List, [], ◌∷◌, ◌++◌, length, Some, None, refl, sym, ap, subst, ◌∙◌, arith, inl, inr}
-use Rattle.std.specs.Prelude.{IsTrue, ◌↔◌, Option, option_map, ◌⊎◌, nat_le, ◌||◌}
-use Rattle.std.proofs.lemmas.Bool.{leb-true, le-leb}
+use Rattle.std.proofs.Common.{◌≡◌, ℕ, ◌+◌, ◌-◌, ◌*◌, ◌/◌, ◌^◌, ◌<◌, ◌≤◌, true, List, [], ◌∷◌, ◌++◌, length, Some, None, refl, sym, ap, subst, ◌∙◌, arith, inl, inr}
+use Rattle.std.specs.Prelude.{IsTrue, ◌↔◌, Option, option_map, ◌⊎◌}
 use Rattle.std.proofs.lemmas.Bool.Decides.{nat_tests}
 use Rattle.std.proofs.lemmas.Nat.{pow_pos, div-mul-add}
 use Rattle.etcs_vars.specs.declared.var.Var.{Var}
 use Rattle.etcs_vars.specs.declared.var.Var.TheVariants.{NID_MESSAGE, L_MESSAGE, PADDING, OTHER_DATA}
 use Rattle.etcs_vars.specs.Vars.{width, ranges, begins, inside}
-use Rattle.etcs_vars.specs.Reading.{Reading, spelled}
+use Rattle.etcs_vars.specs.Reading.{spelled}
 use Rattle.etcs_vars.proofs.Prefixes.{ordered, begins_some, begins_from, below_quotient}
 use Rattle.etcs_rows.specs.declared.row.Way.TheVariants.{ToTrain}
 use Rattle.etcs_rows.specs.declared.frames.Carrier.TheVariants.{Message}
 use Rattle.etcs_rows.specs.Frames.{may_be_left}
-use Rattle.etcs_container.specs.Contents.{Run}
 use Rattle.etcs_container.proofs.Fits.{run_some}
 use Rattle.etcs_reader.specs.Rests.{Starts, Goes}
 use Rattle.etcs_reader.specs.FieldLaws.{some_fields}
@@ -23,7 +21,7 @@ use Rattle.etcs_rests.specs.RowLaws.{head_of}
 use Rattle.etcs_rests.specs.StageLaws.{message_run}
 use Rattle.etcs_radio.specs.declared.phase.Phase.{Phase}
 use Rattle.etcs_radio.specs.declared.phase.Phase.TheVariants as phase
-use Rattle.etcs_radio.specs.Lefts.{front_row, front_bits, PacketsFrom, Behind, LengthLeft, NumberLeft, left_at, next_at}
+use Rattle.etcs_radio.specs.Lefts.{front_row, front_bits, Behind, LengthLeft, NumberLeft, left_at, next_at}
 use Rattle.etcs_radio.specs.Lengths.{lengths_behind, message_lengths}
 use Rattle.etcs_radio.specs.RestLaws.{length_opens}
 use Rattle.etcs_radio.proofs.Fronts.{front_small}
@@ -94,28 +92,28 @@ length_fits nid n =
     let r = range_fits (front_row nid) n (front_small nid) in
     (λ h. some_message (front_row nid) n (r.0 h), λ g. r.1 (message_some (front_row nid) n g))
 
+two_ordered : (a b : ℕ) → b ≤ 1023 → ordered ((a, a) ∷ (b, 1023) ∷ []) ≡ true
+two_ordered a b h = grind (arith, nat_tests)
+
 ranges_ordered : (found : Option (List Var)) → ((vs : List Var) → found ≡ Some vs → front_bits vs ≤ 107) → ordered (lengths_behind (option_map front_bits found)) ≡ true
 ranges_ordered None small = refl
 ranges_ordered (Some vs) small = let le : front_bits vs ≤ 107 = small vs refl in two_ordered ((front_bits vs + 7) / 8) ((front_bits vs + 30) / 8) (omega (arith, le))
-  where
-    two_ordered : (a b : ℕ) → b ≤ 1023 → ordered ((a, a) ∷ (b, 1023) ∷ []) ≡ true
-    two_ordered a b h = grind (arith, nat_tests)
 
-pub length_tested : (nid rest bits : ℕ) → IsTrue (begins (message_lengths nid) rest bits) ↔ Starts (LengthLeft nid) L_MESSAGE rest bits
-length_tested nid rest bits =
-    let o = length_opens nid in
-    (
-      λ t. let (n, i, q) = begins_some (message_lengths nid) rest bits (ranges_ordered (front_row nid) (front_small nid)) t in
-      let (r, h) = (length_fits nid n).0 i in
-      (n, r, o.closes n r h, q),
-      λ (n, r, (m, r', e, h), q).
-          let number : m ≡ n = length_number n m r r' e in
-          let h' : Behind (front_row nid) n r' = subst (λ k. Behind (front_row nid) k r') number h in
-          rw q at (begins_from (message_lengths nid) rest n ((length_fits nid n).1 (r', h'))),
-    )
-  where
-    length_number : (n m : ℕ) (r r' : Reading) → ◌≡◌ {A = Reading} ((L_MESSAGE, n) ∷ r) ((L_MESSAGE, m) ∷ r') → m ≡ n
-    length_number n m r r' e = (let h = head_of L_MESSAGE n m r r' e in h.0)
+pub lengths_ordered : (nid : ℕ) → ordered (message_lengths nid) ≡ true
+lengths_ordered nid = ranges_ordered (front_row nid) (front_small nid)
+
+-- by ranges of these numbers it can be told which of its first bits go on
+length_tested : (nid : ℕ) (rs : List (ℕ × ℕ)) (rest bits : ℕ) → ordered rs ≡ true → ((n : ℕ) → IsTrue (inside rs n) ↔ Goes (Behind (front_row nid) n)) → IsTrue (begins rs rest bits) ↔ Starts (LengthLeft nid) L_MESSAGE rest bits
+length_tested nid rs rest bits order fits = (
+  λ t.
+      let (n, i, q) = begins_some rs rest bits order t in
+      let (r, h) = (fits n).0 i in
+      (n, r, (length_opens nid).closes n r h, q),
+  λ (n, r, (m, r', e, h), q).
+      let number : m ≡ n = (head_of L_MESSAGE n m r r' e).0 in
+      let h' : Behind (front_row nid) n r' = subst (λ k. Behind (front_row nid) k r') number h in
+      rw q at (begins_from rs rest n ((fits n).1 (r', h'))),
+)
 
 -- ---- NID_MESSAGE.
 
@@ -144,11 +142,12 @@ begins_number nid here l x rest bits e next lt fits =
     let same : NID_MESSAGE ≡ x = cc in
     rw (e, ← same) (number_start rest bits (rw (← same) at lt) (rw (← same) at fits))
 
-pub begins_length : (nid : ℕ) (here : Phase) (l : PacketsLeft) (x : Var) (rest bits : ℕ) → here ≡ phase.Length → next_at nid here l ≡ Some x → IsTrue (begins (message_lengths nid) rest bits) ↔ Starts (left_at nid here l) x rest bits
-begins_length nid here l x rest bits e next =
+pub begins_length : (nid : ℕ) (rs : List (ℕ × ℕ)) (here : Phase) (l : PacketsLeft) (x : Var) (rest bits : ℕ) → ordered rs ≡ true → ((n : ℕ) → IsTrue (inside rs n) ↔ Goes (Behind (front_row nid) n)) → here ≡ phase.Length → next_at nid here l ≡ Some x
+    → IsTrue (begins rs rest bits) ↔ Starts (left_at nid here l) x rest bits
+begins_length nid rs here l x rest bits order fits e next =
     let next' : next_at nid phase.Length l ≡ Some x = rw e at next in
     let same : L_MESSAGE ≡ x = cc in
-    rw (e, ← same) (length_tested nid rest bits)
+    rw (e, ← same) (length_tested nid rs rest bits order fits)
 
 -- ---- The others.
 

@@ -1,5 +1,5 @@
 -- The variables in front of a message's packets, and the row of its own.
-use Rattle.std.proofs.Common.{◌≡◌, ℕ, zero, suc, ◌+◌, ◌≤◌, ◌<◌, Bool, true, false, List, [], ◌∷◌, length, drop, Some, None, refl, sym, ap, subst, ◌∙◌, arith, length-append}
+use Rattle.std.proofs.Common.{◌≡◌, ℕ, zero, suc, ◌+◌, ◌≤◌, ◌<◌, Bool, true, false, List, [], ◌∷◌, length, drop, Some, None, refl, subst, ◌∙◌, arith, length-append}
 use Rattle.std.specs.Prelude.{Option, option_map, if◌then◌else◌, ◌==◌, ◌||◌}
 use Rattle.etcs_bits.specs.Bits.{num}
 use Rattle.etcs_bits.proofs.Numbers.{length-num}

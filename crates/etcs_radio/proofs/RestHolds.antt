@@ -1,6 +1,6 @@
 -- What is kept of a message behind each of its variables.
-use Rattle.std.proofs.Common.{◌≡◌, ℕ, zero, suc, ◌+◌, ◌-◌, ◌*◌, ◌%◌, ◌^◌, ◌<◌, ◌≤◌, Bool, true, false, List, [], ◌∷◌, ◌++◌, length, drop, Some, None, refl, sym, ap, subst, ◌∙◌, arith, ltb, append_assoc, append-nil, length-append, inl, inr}
-use Rattle.std.specs.Prelude.{All, IsTrue, Option}
+use Rattle.std.proofs.Common.{◌≡◌, ℕ, suc, ◌+◌, ◌-◌, ◌*◌, ◌%◌, ◌^◌, ◌<◌, ◌≤◌, Bool, List, [], ◌∷◌, ◌++◌, length, drop, Some, None, refl, sym, ap, subst, ◌∙◌, arith, ltb, append_assoc, append-nil, length-append, inl, inr}
+use Rattle.std.specs.Prelude.{All, IsTrue}
 use Rattle.std.specs.Int.RustNames.{bit_or}
 use Rattle.std.proofs.lemmas.List.{nil_from_length}
 use Rattle.std.proofs.lemmas.Nat.{or_shifted}
@@ -32,10 +32,10 @@ use Rattle.etcs_rests.specs.Lefts.{left_of, ahead, is_closed, HoldsAt, Moved}
 use Rattle.etcs_rests.specs.StageLaws.{closed_stage}
 use Rattle.etcs_radio.specs.declared.phase.Phase.{Phase}
 use Rattle.etcs_radio.specs.declared.phase.Phase.TheVariants as phase
-use Rattle.etcs_radio.specs.Lefts.{front_row, front_vars, some_row, front_bits, bits_of, headed, left_at, next_at, is_message, stands_at, behind_packets, behind_front, behind_padding, behind_data, DataFits, FrontHeld, PacketsHeld, PaddingHeld, DataHeld, HoldsIn, Follows}
+use Rattle.etcs_radio.specs.Lefts.{front_row, front_vars, some_row, front_bits, bits_of, headed, left_at, next_at, is_message, stands_at, behind_packets, behind_front, behind_padding, behind_data, DataFits, PacketsHeld, PaddingHeld, DataHeld, HoldsIn, Follows}
 use Rattle.etcs_radio.proofs.Fronts.{drop_bits}
-use Rattle.etcs_radio.proofs.RestSteps.{by_test, below_false, below_true, number_behind, typed_behind, typed_bounds, data_begun, kept_bounds, front_behind, packets_behind, padding_behind, data_behind}
-use Rattle.etcs_radio.proofs.RestStands.{begin_parts, front_parts, packets_parts, message_parts}
+use Rattle.etcs_radio.proofs.RestSteps.{by_test, below_false, typed_bounds, kept_bounds, front_behind, packets_behind, padding_behind, data_behind}
+use Rattle.etcs_radio.proofs.RestStands.{begin_parts, front_parts, message_parts}
 
 -- what a store holds
 abbrev pub Holds : Type 1
@@ -190,13 +190,6 @@ data_more nid left holds holds' t q le more f = record {
 
 -- ---- From one to the next.
 
-pub number_follows : (nid : ℕ) (here : Phase) (front : List ℕ) (l : PacketsLeft) (padding : ℕ) (holds : Holds) (n : ℕ) → here ≡ phase.Number → Starts (left_at nid here l) NID_MESSAGE 0 n → Follows nid here front l padding holds ((NID_MESSAGE, n) ∷ []) n phase.Length front l padding holds
-number_follows nid here front l padding holds n e goes =
-    rw e record {
-      residual = (number_behind n (rw e at goes)).1;
-      held = λ q (none, h, is). (none, h, ap (λ (x : Reading). x ++ (NID_MESSAGE, n) ∷ []) is);
-    }
-
 -- with NID_MESSAGE and L_MESSAGE
 heads : (nid len : ℕ) (q : Reading) → q ≡ (NID_MESSAGE, nid) ∷ [] → length (spelled (q ++ (L_MESSAGE, len) ∷ [])) ≡ 18
 heads nid len q is =
@@ -214,32 +207,17 @@ typed_follows nid here front l l' padding holds holds' len vs e h found goes beh
     let bounds = typed_bounds nid len vs found (rw e at goes) in
     rw e record {
       residual = behind;
-      held = λ q (none, k, is).
-          (none, record {
-            len = len;
-            vars = vs;
-            typed = found;
-            none = begun k;
-            reading_is = ap (λ (x : Reading). x ++ (L_MESSAGE, len) ∷ []) is ∙ ap (headed nid len) (sym (ap (labelled vs) no_front ∙ labelled_none vs));
-            room_is = (let a = heads nid len q is in let b = bounds.0 in omega (arith, a, b, room));
-          });
-    }
-
-pub kept_follows : (nid : ℕ) (here : Phase) (front : List ℕ) (l : PacketsLeft) (padding : ℕ) (holds : Holds) (len : ℕ) → here ≡ phase.Length → front_row nid ≡ None → Starts (left_at nid here l) L_MESSAGE 0 len → Follows nid here front l padding holds ((L_MESSAGE, len) ∷ []) nid (phase.Data (8 * len - 18)) front l padding holds
-kept_follows nid here front l padding holds len e found goes =
-    let goes' = rw e at goes in
-    let bounds = kept_bounds nid len found goes' in
-    rw e record {
-      residual = data_begun nid len l l found goes';
-      held = λ q (none, k, is). record {
-        len = len;
-        bits = [];
-        untyped = found;
-        least = bounds.0;
-        held = k;
-        reading_is = ap (λ (x : Reading). x ++ (L_MESSAGE, len) ∷ []) is;
-        room_is = (let b = bounds.0 in omega (arith, b));
-      };
+      held = λ q (none, k, is). (
+        none,
+        record {
+          len = len;
+          vars = vs;
+          typed = found;
+          none = begun k;
+          reading_is = ap (λ (x : Reading). x ++ (L_MESSAGE, len) ∷ []) is ∙ ap (headed nid len) (sym (ap (labelled vs) no_front ∙ labelled_none vs));
+          room_is = (let a = heads nid len q is in let b = bounds.0 in omega (arith, a, b, room));
+        },
+      );
     }
 
 pub front_follows : (nid : ℕ) (here here' : Phase) (at : ℕ) (front : List ℕ) (l : PacketsLeft) (padding : ℕ) (holds : Holds) (x : Var) (n : ℕ)
@@ -314,9 +292,6 @@ front_fits : (count at : ℕ) (l : PacketsLeft) (holds : Holds) → DataFits (be
 front_fits count at l holds = by_test (ltb at count) (λ x. DataFits x holds) (phase.Front at) (behind_packets l) (λ _. tt) (λ _. packets_fit l holds)
 
 -- nothing is asked where no bits are kept
-pub no_data_padding : (here : Phase) (left : ℕ) (holds : Holds) → here ≡ behind_padding left → DataFits here holds
-no_data_padding here left holds e = rw e (padding_fits left holds)
-
 pub no_data_packets : (here : Phase) (l : PacketsLeft) (holds : Holds) → here ≡ behind_packets l → DataFits here holds
 no_data_packets here l holds e = rw e (packets_fit l holds)
 

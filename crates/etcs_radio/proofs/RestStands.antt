@@ -1,6 +1,6 @@
 -- What holds of what comes next in a message.
-use Rattle.std.proofs.Common.{◌≡◌, ℕ, ◌+◌, ◌-◌, ◌*◌, ◌^◌, ◌<◌, ◌≤◌, Bool, true, false, List, [], length, drop, Some, refl, ap, subst, ◌∙◌, arith, ltb}
-use Rattle.std.specs.Prelude.{IsTrue, not, ◌&&◌, ◌||◌, ◌==◌, nat_lt, Option}
+use Rattle.std.proofs.Common.{◌≡◌, ℕ, ◌<◌, ◌≤◌, Bool, true, false, List, length, refl, ap, subst, arith, ltb}
+use Rattle.std.specs.Prelude.{IsTrue, not, ◌&&◌, ◌||◌, ◌==◌, nat_lt}
 use Rattle.std.proofs.lemmas.Bool.{and_parts, and_from, ltb-true, lt-ltb, eqb-true, eq-eqb, not-true}
 use Rattle.etcs_vars.specs.declared.var.Var.{Var}
 use Rattle.etcs_vars.specs.Reading.{Reading}
@@ -9,14 +9,13 @@ use Rattle.etcs_rows.specs.declared.frames.Carrier.{Carrier}
 use Rattle.etcs_rows.specs.declared.frames.Carrier.TheVariants.{Telegram, Message}
 use Rattle.etcs_container.specs.Contents.{Run}
 use Rattle.etcs_rests.specs.declared.left.PacketsLeft.{PacketsLeft}
-use Rattle.etcs_rests.specs.declared.stage.Stage.{Stage}
 use Rattle.etcs_rests.specs.declared.stage.Stage.TheVariants as stage
 use Rattle.etcs_rests.specs.Lefts.{left_of, ahead, is_stage, is_closed, is_telegram, Moved}
 use Rattle.etcs_rests.specs.StageLaws.{closed_stage, closed_room, begun_room}
 use Rattle.etcs_radio.specs.declared.phase.Phase.{Phase}
 use Rattle.etcs_radio.specs.declared.phase.Phase.TheVariants as phase
 use Rattle.etcs_radio.specs.Lefts.{front_vars, is_message, stands_at, behind_packets, behind_front, behind_padding, behind_data}
-use Rattle.etcs_radio.proofs.RestSteps.{by_test, below_true}
+use Rattle.etcs_radio.proofs.RestSteps.{by_test}
 
 -- ---- Packets of a message.
 

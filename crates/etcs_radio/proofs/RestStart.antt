@@ -1,5 +1,5 @@
 -- What is left of a message at its beginning is a message.
-use Rattle.std.proofs.Common.{◌≡◌, ℕ, ◌+◌, ◌-◌, ◌*◌, ◌^◌, ◌<◌, ◌≤◌, Bool, true, List, [], ◌∷◌, ◌++◌, length, Some, None, refl, sym, ap, subst, ◌∙◌, arith, append_assoc, append-nil}
+use Rattle.std.proofs.Common.{◌≡◌, ℕ, ◌-◌, ◌*◌, ◌^◌, ◌<◌, ◌≤◌, Bool, true, List, [], ◌∷◌, ◌++◌, length, Some, None, refl, sym, ap, subst, ◌∙◌, arith, append_assoc, append-nil}
 use Rattle.std.specs.Prelude.{IsTrue, Option, option_map, ◌==◌}
 use Rattle.std.proofs.lemmas.Bool.Decides.{nat_tests}
 use Rattle.etcs_bits.specs.Bits.{bit}
@@ -17,7 +17,7 @@ use Rattle.etcs_packets.specs.PacketReadings.{packets_reading}
 use Rattle.etcs_container.specs.Contents.{Run, RunOf}
 use Rattle.etcs_reader.specs.Fields.{ReadsFields}
 use Rattle.etcs_radio.specs.declared.body.RadioHead.{RadioHead}
-use Rattle.etcs_radio.specs.Messages.{head_reading, front_of, IsAdmitted, MessageValue, typed_message, kept_message, TypedReads, KeptReads, MessageLanguage}
+use Rattle.etcs_radio.specs.Messages.{head_reading, front_of, IsAdmitted, typed_message, kept_message, TypedReads, KeptReads, MessageLanguage}
 use Rattle.etcs_radio.specs.Lefts.{own_row, front_behind, front_row, front_bits, bits_of, headed, PacketsFrom, Behind, NumberLeft}
 use Rattle.etcs_radio.proofs.Fronts.{as_row, row_fields, fields_row, fields_length, rows_alike, typed_own, kept_own}
 

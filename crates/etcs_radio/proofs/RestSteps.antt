@@ -1,11 +1,11 @@
 -- What is left of a message behind each of its variables.
-use Rattle.std.proofs.Common.{◌≡◌, ℕ, zero, suc, ◌+◌, ◌-◌, ◌*◌, ◌/◌, ◌^◌, ◌<◌, ◌≤◌, Bool, true, false, List, [], ◌∷◌, ◌++◌, length, drop, get_or, Some, None, refl, sym, ap, subst, ◌∙◌, arith, ltb, length-append}
+use Rattle.std.proofs.Common.{◌≡◌, ℕ, suc, ◌+◌, ◌-◌, ◌*◌, ◌/◌, ◌^◌, ◌<◌, ◌≤◌, Bool, true, false, List, [], ◌∷◌, ◌++◌, length, drop, get_or, Some, None, refl, sym, ap, subst, ◌∙◌, arith, ltb, length-append}
 use Rattle.std.specs.Prelude.{IsTrue, ◌↔◌, Option, if◌then◌else◌}
 use Rattle.std.proofs.lemmas.Bool.Decides.{nat_tests}
 use Rattle.std.proofs.Math.Seq.{drop-cons}
 use Rattle.std.proofs.Math.ListN.{drop_of_length-le}
 use Rattle.etcs_vars.specs.declared.var.Var.{Var}
-use Rattle.etcs_vars.specs.declared.var.Var.TheVariants.{NID_MESSAGE, L_MESSAGE, PADDING, OTHER_DATA}
+use Rattle.etcs_vars.specs.declared.var.Var.TheVariants.{L_MESSAGE, PADDING, OTHER_DATA}
 use Rattle.etcs_vars.specs.Vars.{width, ranges, begins}
 use Rattle.etcs_vars.specs.Reading.{Reading, Then, spelled, kept, Viable}
 use Rattle.etcs_vars.specs.Walking.{Residual}
@@ -20,15 +20,15 @@ use Rattle.etcs_reader.specs.FieldLaws.{fields_regular, fields_begin, fields_tes
 use Rattle.etcs_rests.specs.declared.left.PacketsLeft.{PacketsLeft}
 use Rattle.etcs_rests.specs.declared.stage.Stage.TheVariants as stage
 use Rattle.etcs_rests.specs.BitLaws.{bits_behind, some_bits, no_bits}
-use Rattle.etcs_rests.specs.ChainLaws.{Chain, chain_first, chain_goes, chain_starts, chain_viable, chain_along, chain_none}
+use Rattle.etcs_rests.specs.ChainLaws.{Chain, chain_goes, chain_starts, chain_viable, chain_along, chain_none}
 use Rattle.etcs_rests.specs.Lefts.{next_of, left_of, ahead, is_closed, Moved}
 use Rattle.etcs_rests.specs.LeftLaws.{left_regular, left_begins}
 use Rattle.etcs_rests.specs.OpenLaws.{opens_behind, opens_number}
 use Rattle.etcs_rests.specs.StageLaws.{closed_stage}
 use Rattle.etcs_radio.specs.declared.phase.Phase.{Phase}
 use Rattle.etcs_radio.specs.declared.phase.Phase.TheVariants as phase
-use Rattle.etcs_radio.specs.Lefts.{front_row, front_vars, front_bits, PaddingLeft, PaddedBy, PacketsBehind, PacketsFrom, Behind, LengthLeft, NumberLeft, left_at, next_at, behind_packets, behind_front, behind_padding, behind_data}
-use Rattle.etcs_radio.specs.RestLaws.{AfterNumber, number_opens, length_opens}
+use Rattle.etcs_radio.specs.Lefts.{front_row, front_vars, front_bits, PaddingLeft, PaddedBy, PacketsBehind, PacketsFrom, Behind, LengthLeft, left_at, next_at, behind_packets, behind_front, behind_padding, behind_data}
+use Rattle.etcs_radio.specs.RestLaws.{length_opens}
 
 pub by_test : (b : Bool) (P : Phase → Type 0) (x y : Phase) → (b ≡ true → P x) → (b ≡ false → P y) → P (if b then x else y)
 by_test true P x y f g = f refl
@@ -37,16 +37,7 @@ by_test false P x y f g = g refl
 pub below_false : (a b : ℕ) → ltb a b ≡ false → b ≤ a
 below_false a b h = grind (arith, nat_tests)
 
-pub below_true : (a b : ℕ) → ltb a b ≡ true → a < b
-below_true a b h = grind (arith, nat_tests)
-
--- ---- NID_MESSAGE and L_MESSAGE.
-
-pub number_behind : (n : ℕ) → Starts NumberLeft NID_MESSAGE 0 n → (n < 2 ^ 8) × Residual NumberLeft ((NID_MESSAGE, n) ∷ []) (LengthLeft n)
-number_behind n s =
-    let h = opens_number NumberLeft NID_MESSAGE AfterNumber number_opens n s in
-    let small = h.1.0 in
-    (small, residual_same NumberLeft ((NID_MESSAGE, n) ∷ []) (AfterNumber n) (LengthLeft n) (opens_behind NumberLeft NID_MESSAGE AfterNumber number_opens n) (λ r. (λ k. k.1, λ k. (small, k))))
+-- ---- L_MESSAGE.
 
 -- some message of this length goes on
 pub length_goes : (nid len : ℕ) → Starts (LengthLeft nid) L_MESSAGE 0 len → Goes (Behind (front_row nid) len)
@@ -71,11 +62,6 @@ typed_behind nid len vs l l' found s room same =
     let parts : Same (Then (ReadsFields vs) (PacketsFrom (front_bits vs) len)) (Then (ReadsFields vs) (PacketsBehind l')) = Then-same (ReadsFields vs) (PacketsFrom (front_bits vs) len) (ReadsFields vs) (PacketsBehind l') (same_self (ReadsFields vs)) packets in
     let all : Same (Behind (Some vs) len) (left_at nid (phase.Front 0) l') = rw found (λ r. (λ h. (parts r).0 h.2, λ h. (fits, most, (parts r).1 h))) in
     residual_same (LengthLeft nid) ((L_MESSAGE, len) ∷ []) (Behind (Some vs) len) (left_at nid (phase.Front 0) l') (length_behind nid len (Some vs) found) all
-
-pub data_begun : (nid len : ℕ) (l l' : PacketsLeft) → front_row nid ≡ None → Starts (LengthLeft nid) L_MESSAGE 0 len → Residual (left_at nid phase.Length l) ((L_MESSAGE, len) ∷ []) (left_at nid (phase.Data (8 * len - 18)) l')
-data_begun nid len l l' found s =
-    let (r, (least, most, rest)) : Goes (Behind None len) = subst (λ (o : Option (List Var)). Goes (Behind o len)) found (length_goes nid len s) in
-    residual_same (LengthLeft nid) ((L_MESSAGE, len) ∷ []) (Behind None len) (KeptIn (8 * len - 18)) (length_behind nid len None found) (λ r. (λ h. h.2, λ h. (least, most, h)))
 
 -- the bounds of a length
 pub typed_bounds : (nid len : ℕ) (vs : List Var) → front_row nid ≡ Some vs → Starts (LengthLeft nid) L_MESSAGE 0 len → (front_bits vs ≤ 8 * len) × (len < 2 ^ 10)
@@ -116,9 +102,6 @@ module _ (nid : ℕ) (l : PacketsLeft) where
   -- PADDING can stand behind all of them
   padding_some : (a : Reading) → left_of l.carrier l.room l.stage a → Goes (PaddedBy (ahead l.room l.stage) a)
   padding_some a h = some_bits PADDING refl (ahead l.room l.stage - length (spelled a))
-
-  pub packets_go : Goes (left_at nid phase.Packets l) → Goes (left_of l.carrier l.room l.stage)
-  packets_go g = chain_first (left_of l.carrier l.room l.stage) (PaddedBy (ahead l.room l.stage)) g
 
   pub packets_start : (x : Var) (rest bits : ℕ) → next_of l.stage ≡ Some x → Starts (left_of l.carrier l.room l.stage) x rest bits ↔ Starts (left_at nid phase.Packets l) x rest bits
   packets_start x rest bits e = chain_starts (left_of l.carrier l.room l.stage) (PaddedBy (ahead l.room l.stage)) padding_some x rest bits (left_begins l.carrier l.room l.stage l.stands x e)

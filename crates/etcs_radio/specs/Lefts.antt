@@ -1,13 +1,12 @@
 -- What is left of a message, what comes next of it, and what its variables so far are (SUBSET-026, 8).
-use Rattle.std.specs.Prelude.{◌≡◌, ℕ, ◌+◌, ◌-◌, ◌*◌, ◌^◌, ◌<◌, ◌≤◌, Bool, true, false, not, List, [], ◌∷◌, ◌++◌, ◌==◌, ◌||◌, ◌&&◌, length, drop, Option, Some, None, option_map, is_some, nat_lt, if◌then◌else◌, All, ◌⊎◌}
+use Rattle.std.specs.Prelude.{◌≡◌, ℕ, ◌+◌, ◌-◌, ◌*◌, ◌^◌, ◌<◌, ◌≤◌, Bool, true, false, not, List, [], ◌∷◌, ◌++◌, ◌==◌, ◌||◌, ◌&&◌, length, drop, Option, Some, None, option_map, nat_lt, if◌then◌else◌, All, ◌⊎◌}
 use Rattle.etcs_bits.specs.Bits.{num}
 use Rattle.etcs_vars.specs.declared.var.Var.{Var}
 use Rattle.etcs_vars.specs.declared.var.Var.TheVariants.{NID_MESSAGE, L_MESSAGE, T_TRAIN, M_ACK, NID_LRBG, NID_EM, M_VERSION, Q_SCALE, D_SR, D_REF, Q_ORIENTATION, PADDING, OTHER_DATA}
 use Rattle.etcs_vars.specs.Vars.{width}
 use Rattle.etcs_vars.specs.Reading.{Reading, Then, spelled, kept}
 use Rattle.etcs_vars.specs.Walking.{Residual}
-use Rattle.etcs_rows.specs.declared.frames.Carrier.{Carrier}
-use Rattle.etcs_rows.specs.declared.frames.Carrier.TheVariants.{Telegram, Message}
+use Rattle.etcs_rows.specs.declared.frames.Carrier.TheVariants.{Message}
 use Rattle.etcs_rows.specs.Rows.{is_plain_message}
 use Rattle.etcs_packets.specs.PacketValues.{PacketValue}
 use Rattle.etcs_packets.specs.PacketReadings.{packets_reading}
@@ -148,7 +147,7 @@ behind_data left = if nat_lt 0 left then phase.Data left else phase.Whole
 
 -- ---- What is kept of it.
 
--- nothing is held in front of packets and of bits that are kept, and behind bits that are held those have room that are left
+-- in front of packets and of bits that are kept nothing is held, and the bits that are left have room behind those that are held
 abbrev pub DataFits : Phase → (List PacketValue → List ℕ → List Bool → Type 0) → Type 0
 DataFits phase.Number holds = holds [] [] []
 DataFits phase.Length holds = holds [] [] []

@@ -1,7 +1,6 @@
-use Rattle.std.proofs.Common.{◌-◌, length, arith}
+use Rattle.std.proofs.Common.{◌-◌}
 use Rattle.etcs_radio.proofs.RestSteps.{padding_goes}
-use Rattle.etcs_radio.proofs.RestStands.{padding_parts, padding_stands}
-use Rattle.etcs_radio.proofs.RestHolds.{padding_follows, no_data_padding}
+use Rattle.etcs_radio.proofs.RestHolds.{padding_follows}
 use Rattle.etcs_radio.proofs.rest.MessageRest.pad.Goals as goal
 
 pub returns-clause-follows : goal.returns-clause-follows

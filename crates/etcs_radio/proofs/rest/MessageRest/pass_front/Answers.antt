@@ -1,6 +1,6 @@
-use Rattle.std.proofs.Common.{◌≡◌, ◌+◌, [], ◌∷◌, ◌++◌, length, Some, sym, ap, ◌∙◌, arith, length-append}
+use Rattle.std.proofs.Common.{◌≡◌, ◌+◌, [], ◌∷◌, ◌++◌, length, sym, ap, ◌∙◌, length-append}
 use Rattle.std.specs.Prelude.{IsTrue}
-use Rattle.etcs_radio.specs.Lefts.{front_row, front_vars, some_row, stands_at, behind_front}
+use Rattle.etcs_radio.specs.Lefts.{front_vars, some_row, stands_at, behind_front}
 use Rattle.etcs_radio.proofs.RestStands.{front_parts, front_stands}
 use Rattle.etcs_radio.proofs.RestHolds.{front_follows, no_data_front}
 use Rattle.etcs_radio.proofs.rest.MessageRest.pass_front.Goals as goal

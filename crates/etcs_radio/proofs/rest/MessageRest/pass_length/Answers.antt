@@ -1,4 +1,4 @@
-use Rattle.std.proofs.Common.{◌≡◌, ◌-◌, ◌*◌, length, Some, None, sym, ap, subst, ◌∙◌, arith}
+use Rattle.std.proofs.Common.{◌≡◌, ◌-◌, ◌*◌, length, Some, None, sym, ap, subst, arith}
 use Rattle.std.specs.Prelude.{nat_lt}
 use Rattle.std.proofs.Math.Logic.{∥∥₁_map}
 use Rattle.std.proofs.lemmas.Bool.{and_from, lt-ltb}
@@ -50,6 +50,6 @@ returns-in-Some g c =
     let len = c.args.number in
     let found : front_row s.nid ≡ Some vs = sym c.in-Some.ensures in
     let room : len * 8 - c.front_bits.result ≡ 8 * len - front_bits vs = omega (arith, c.front_bits.ensures) in
-    let bits : ahead l'.room l'.stage ≡ 8 * len - front_bits vs = c.start.ensures.ahead ∙ room in
+    let bits : ahead l'.room l'.stage ≡ 8 * len - front_bits vs = subst (λ n. ahead l'.room l'.stage ≡ n) room c.start.ensures.ahead in
     let left : Same (left_of l'.carrier l'.room l'.stage) (Run Message (8 * len - front_bits vs)) = subst (λ n. Same (left_of l'.carrier l'.room l'.stage) (Run Message n)) room c.start.ensures.left in
     typed_follows s.nid s.stage s.front.items l l' s.padding (g.S.PacketStore.holds s.packets.store) (g.S.PacketStore.holds c.start.new.self.store) len vs c.requires.stage s.stands found c.requires.goes (typed_behind s.nid len vs l l' found (rw c.requires.stage at c.requires.goes) bits left) bits c.start.ensures.held

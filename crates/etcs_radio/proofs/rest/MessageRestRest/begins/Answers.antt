@@ -1,5 +1,6 @@
 use Rattle.std.proofs.Common.{length, refl}
-use Rattle.etcs_radio.proofs.Begins.{begins_number, begins_length, begins_front, begins_packets, begins_padding, begins_data}
+use Rattle.etcs_radio.proofs.Begins.{length_fits, lengths_ordered, begins_number, begins_length, begins_front, begins_packets, begins_padding, begins_data}
+use Rattle.etcs_radio.specs.Lengths.{message_lengths}
 use Rattle.etcs_radio.proofs.RestStands.{padding_parts, data_parts}
 use Rattle.etcs_radio.proofs.rest.MessageRestRest.begins.Goals as goal
 
@@ -11,7 +12,7 @@ returns-in-Number g c =
 pub returns-in-Length : goal.returns-in-Length
 returns-in-Length g c =
     let s = c.args.self.now in
-    rw (c.begins.ensures, c.lengths_of.ensures) (begins_length s.nid s.stage s.packets.left c.args.var c.args.rest c.args.number c.in-Length.is c.requires.next)
+    rw (c.begins.ensures, c.lengths_of.ensures) (begins_length s.nid (message_lengths s.nid) s.stage s.packets.left c.args.var c.args.rest c.args.number (lengths_ordered s.nid) (length_fits s.nid) c.in-Length.is c.requires.next)
 
 pub returns-in-Front : goal.returns-in-Front
 returns-in-Front g c =

@@ -1,4 +1,3 @@
-use Rattle.std.proofs.Common.{length}
 use Rattle.etcs_vars.specs.declared.var.Var.TheVariants.{PADDING}
 use Rattle.etcs_rests.specs.BitLaws.{bit_number}
 use Rattle.etcs_radio.proofs.Begins.{padding_bit, data_bit}

@@ -1,13 +1,13 @@
 -- The variables of a message's own: their bits, and a body of its numbers.
-use Rattle.std.proofs.Common.{◌≡◌, ℕ, ◌+◌, ◌^◌, ◌<◌, ◌≤◌, Bool, true, false, List, [], ◌∷◌, length, Option, Some, None, refl, sym, ap, ◌∙◌, subst, arith}
+use Rattle.std.proofs.Common.{◌≡◌, ℕ, ◌+◌, ◌^◌, ◌<◌, ◌≤◌, Bool, true, List, [], ◌∷◌, length, Some, None, refl, sym, ap, ◌∙◌, subst, arith}
 use Rattle.std.proofs.lemmas.Bool.Decides.{nat_tests}
-use Rattle.std.specs.Prelude.{◌||◌, IsTrue, if◌then◌else◌, ℤ, pos, negsuc, slice_index_or, ◌==◌}
-use Rattle.etcs_bits.specs.Bits.{num, bit}
-use Rattle.etcs_bits.proofs.Numbers.{length-num, bit-eqb}
+use Rattle.std.specs.Prelude.{◌||◌, IsTrue, if◌then◌else◌, ℤ, slice_index_or, ◌==◌}
+use Rattle.etcs_bits.specs.Bits.{bit}
+use Rattle.etcs_bits.proofs.Numbers.{bit-eqb}
 use Rattle.etcs_vars.specs.declared.var.Var.{Var}
-use Rattle.etcs_vars.specs.declared.var.Var.TheVariants.{T_TRAIN, NID_EM, M_VERSION, Q_SCALE, D_REF, D_SR, Q_ORIENTATION}
+use Rattle.etcs_vars.specs.declared.var.Var.TheVariants.{T_TRAIN, NID_EM, M_VERSION, Q_SCALE, D_SR, Q_ORIENTATION}
 use Rattle.etcs_vars.specs.declared.fault.BuildFault.TheVariants.{NotAdmitted}
-use Rattle.etcs_vars.specs.Faults.{◌or_else◌, number_fault}
+use Rattle.etcs_vars.specs.Faults.{number_fault}
 use Rattle.etcs_vars.specs.Vars.{width, admits}
 use Rattle.etcs_vars.specs.Reading.{Sent, Reading, spelled, numbers}
 use Rattle.etcs_vars.proofs.Prefixes.{admits_parts}
@@ -18,7 +18,7 @@ use Rattle.etcs_rows.proofs.LengthLemmas.{length-sent}
 use Rattle.etcs_radio.specs.declared.body.Body.{Body}
 use Rattle.etcs_radio.specs.declared.body.Body.TheVariants.{SrAuthorisation, Plain, TrainTime, Emergency, Version, Shifted, Orientation}
 use Rattle.etcs_radio.specs.declared.body.RadioHead.{RadioHead}
-use Rattle.etcs_radio.specs.Bodies.{run_of_head, body_reading, body_bits, d_ref_number, FitsSigned16, IsBody, IsBodyNumbers, ReadsBack}
+use Rattle.etcs_radio.specs.Bodies.{run_of_head, body_reading, body_bits, FitsSigned16, IsBody, IsBodyNumbers, ReadsBack}
 
 -- ---- How many bits they take.
 

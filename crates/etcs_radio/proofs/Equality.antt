@@ -1,5 +1,5 @@
 -- `==` of messages is equality of their values.
-use Rattle.std.proofs.Common.{rules, ◌≡◌, ◌&&◌, Bool, true, false, List, [], ◌∷◌, refl, ap, sym, ◌∙◌, inl, inr}
+use Rattle.std.proofs.Common.{rules, ◌≡◌, ◌&&◌, Bool, false, List, [], ◌∷◌, refl, ap, inl, inr}
 use Rattle.std.specs.Bool.{Decides}
 use denote.Struct.Field.{Field}
 use denote.Struct.Values.{Values}
@@ -7,8 +7,6 @@ use denote.Enum.Declared.{Choice, Record, values_one}
 use denote.Enum.Compared.{Each, by}
 use Rattle.etcs_parts.specs.Equality.{IsExact, number_exact, flag_exact, list_exact, both_exact, fields_exact}
 use Rattle.etcs_packets.specs.Equality.{packet_exact}
-use Rattle.etcs_radio.specs.declared.body.RadioHead.{RadioHead}
-use Rattle.etcs_radio.specs.declared.body.Body.{Body}
 use Rattle.etcs_radio.specs.declared.message.Content.{Content}
 use Rattle.std.specs.contracts.prelude.I16PartialEq.TheImpl as shift
 use Rattle.etcs_radio.specs.contracts.body.RadioHeadPartialEq.TheImpl as head

@@ -7,6 +7,7 @@ pub mod Writing
 pub mod Spelling
 pub mod Rooms
 pub mod Equality
+pub mod Examples
 pub mod Fronts
 pub mod RestStart
 pub mod RestSteps

@@ -1,24 +1,23 @@
 -- A message's parts are those of its reading.
-use Rattle.std.proofs.Common.{◌≡◌, ℕ, ◌+◌, ◌-◌, ◌*◌, ◌/◌, ◌^◌, ◌<◌, ◌≤◌, Bool, true, false, List, [], ◌∷◌, ◌++◌, length, map, Option, Some, None, refl, sym, ap, ◌∙◌, subst, arith}
+use Rattle.std.proofs.Common.{◌≡◌, ℕ, ◌^◌, ◌<◌, ◌≤◌, Bool, true, false, List, [], ◌∷◌, length, map, Some, None, refl, sym, arith}
 use Rattle.std.specs.Prelude.{IsTrue, All, ℤ, pos, negsuc, ◌||◌, ◌==◌, if◌then◌else◌}
 use Rattle.std.specs.List.{list_any}
 use Rattle.std.proofs.lemmas.Bool.Decides.{nat_tests}
 use Rattle.std.proofs.lemmas.List.{append-nil}
 use Rattle.std.proofs.lemmas.List.Elements.{All-nil, All-cons, All-head, All-tail}
-use Rattle.etcs_bits.specs.Bits.{num, bit}
+use Rattle.etcs_bits.specs.Bits.{bit}
 use Rattle.etcs_bits.proofs.Numbers.{length-num}
 use Rattle.etcs_vars.specs.declared.var.Var.{Var}
-use Rattle.etcs_vars.specs.declared.var.Var.TheVariants.{NID_MESSAGE, L_MESSAGE, T_TRAIN, M_ACK, NID_LRBG, NID_EM, M_VERSION, Q_SCALE, D_REF, D_SR, Q_ORIENTATION, PADDING}
+use Rattle.etcs_vars.specs.declared.var.Var.TheVariants.{NID_MESSAGE, L_MESSAGE, T_TRAIN, M_ACK, NID_LRBG, NID_EM, M_VERSION, Q_SCALE, D_REF, D_SR, Q_ORIENTATION}
 use Rattle.etcs_vars.specs.declared.fault.BuildFault.TheVariants.{NotAdmitted}
-use Rattle.etcs_vars.specs.Faults.{◌or_else◌, number_fault}
+use Rattle.etcs_vars.specs.Faults.{number_fault}
 use Rattle.etcs_vars.specs.Vars.{admits}
-use Rattle.etcs_vars.specs.Reading.{Reading, spelled}
 use Rattle.etcs_rows.specs.declared.row.Way.TheVariants.{ToTrain}
 use Rattle.etcs_rows.specs.declared.frames.Carrier.TheVariants as carrier
 use Rattle.etcs_rows.specs.Layouts.{Layout, whole, one, Reads}
 use Rattle.etcs_rows.specs.Rows.{message_row_to, is_plain_message}
 use Rattle.etcs_packets.specs.declared.packet.Packet.{Packet}
-use Rattle.etcs_packets.specs.PacketValues.{PacketValue, packet_value, nid_of, IsPacket}
+use Rattle.etcs_packets.specs.PacketValues.{packet_value, nid_of, IsPacket}
 use Rattle.etcs_packets.specs.PacketReadings.{packets_reading}
 use Rattle.etcs_container.specs.Contents.{Carries}
 use Rattle.etcs_radio.specs.declared.body.Body.{Body}
@@ -27,7 +26,7 @@ use Rattle.etcs_radio.specs.declared.body.RadioHead.{RadioHead}
 use Rattle.etcs_radio.specs.declared.message.Content.{Content}
 use Rattle.etcs_radio.specs.declared.message.Content.TheVariants.{Typed, Kept}
 use Rattle.etcs_radio.specs.Bodies.{IsBody, FitsSigned16, nid_of_body, is_of_variant, body_reading, body_fault, head_fault, d_ref_number}
-use Rattle.etcs_radio.specs.Messages.{IsAdmitted, all_bits, padding_room, is_marker, head_reading, IsTyped, IsMessage, MessageReads, message_value}
+use Rattle.etcs_radio.specs.Messages.{all_bits, padding_room, is_marker, IsTyped, IsMessage, MessageReads, message_value}
 use Rattle.etcs_radio.specs.Readings.{bytes_of, message_reading}
 use Rattle.etcs_radio.proofs.Bodies.{body_length, plain_row, time_row, emergency_row}
 use Rattle.etcs_radio.proofs.Sizes.{no_first, no_second, test_true, faultless, kept_parts, bytes_small}

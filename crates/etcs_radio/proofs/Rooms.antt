@@ -1,13 +1,13 @@
 -- A header, its row and packets begin a message exactly where they leave padding or the frame of a packet.
-use Rattle.std.proofs.Common.{◌≡◌, ℕ, ◌+◌, ◌-◌, ◌*◌, ◌≤◌, Bool, false, ◌||◌, List, [], ◌∷◌, ◌++◌, length, Some, refl, sym, ap, subst, ◌∙◌, arith, inl, inr, append_assoc}
+use Rattle.std.proofs.Common.{◌≡◌, ℕ, ◌+◌, ◌-◌, ◌*◌, ◌≤◌, Bool, false, List, [], ◌∷◌, ◌++◌, length, Some, refl, sym, ap, subst, ◌∙◌, arith, inl, inr, append_assoc}
 use Rattle.std.specs.Prelude.{All, IsTrue, ◌⊎◌, replicate, nat_le}
 use Rattle.std.proofs.lemmas.Bool.{or_left, or_right, le-leb}
 use Rattle.std.proofs.lemmas.Grind.{flat_map-append}
 use Rattle.std.proofs.lemmas.List.{append-nil, length-append, length-replicate}
 use Rattle.std.proofs.lemmas.List.Elements.{All-head, All-tail, All-append}
 use Rattle.etcs_vars.specs.declared.var.Var.TheVariants.{NID_MESSAGE, L_MESSAGE, PADDING, OTHER_DATA}
-use Rattle.etcs_vars.specs.Reading.{Sent, Reading, spelled, kept, Viable}
-use Rattle.etcs_vars.proofs.Apart.{Agree, apart}
+use Rattle.etcs_vars.specs.Reading.{Reading, spelled, kept, Viable}
+use Rattle.etcs_vars.proofs.Apart.{apart}
 use Rattle.etcs_vars.proofs.Walk.{spelled-append}
 use Rattle.etcs_rows.specs.declared.row.Way.TheVariants.{ToTrain}
 use Rattle.etcs_rows.specs.declared.frames.Carrier.TheVariants.{Message}
@@ -19,11 +19,11 @@ use Rattle.etcs_rows.proofs.OneReading.{Reads-apart}
 use Rattle.etcs_packets.specs.PacketValues as packets
 use Rattle.etcs_packets.specs.PacketValues.{PacketValue, IsPacket, bits_of, nid_of}
 use Rattle.etcs_packets.specs.PacketReadings.{packet_reading, packets_reading, packet_bits}
-use Rattle.etcs_container.specs.Contents.{Carries, Run, RunOf}
+use Rattle.etcs_container.specs.Contents.{Carries, RunOf}
 use Rattle.etcs_container.proofs.Agreement.{packet_agree, packet_fit}
 use Rattle.etcs_container.proofs.Fits.{run_some}
 use Rattle.etcs_radio.specs.declared.body.RadioHead.{RadioHead}
-use Rattle.etcs_radio.specs.Messages.{MessageValue, typed_message, kept_message, IsAdmitted, TypedReads, KeptReads, MessageReads, MessageLanguage, head_reading, front_of}
+use Rattle.etcs_radio.specs.Messages.{typed_message, kept_message, IsAdmitted, TypedReads, KeptReads, MessageLanguage, head_reading}
 use Rattle.etcs_radio.specs.Laws.{begun, RoomRule}
 use Rattle.etcs_radio.proofs.Sizes.{head_length}
 use Rattle.etcs_radio.proofs.Kept.{length-kept}

@@ -1,6 +1,6 @@
 -- What is wrong with the parts of a message, and how many bits they take.
-use Rattle.std.proofs.Common.{◌≡◌, ℕ, ◌+◌, ◌-◌, ◌*◌, ◌/◌, ◌%◌, ◌^◌, ◌<◌, ◌≤◌, Bool, true, false, List, [], ◌∷◌, ◌++◌, length, map, Option, Some, None, refl, sym, ap, ◌∙◌, subst, arith, leb, ltb}
-use Rattle.std.specs.Prelude.{All, nat_lt, nat_le, if◌then◌else◌, ◌||◌, ◌==◌}
+use Rattle.std.proofs.Common.{◌≡◌, ℕ, ◌+◌, ◌*◌, ◌/◌, ◌%◌, ◌^◌, ◌<◌, ◌≤◌, Bool, true, false, List, ◌++◌, length, map, Option, Some, None, refl, ◌∙◌, arith}
+use Rattle.std.specs.Prelude.{nat_lt, if◌then◌else◌, ◌||◌, ◌==◌}
 use Rattle.std.specs.List.{list_any}
 use Rattle.std.specs.Option.{is_some}
 use Rattle.std.proofs.lemmas.Bool.{lt-ltb, ltb-true}
@@ -9,25 +9,24 @@ use Rattle.std.proofs.Math.Nat.{le-div_iff_mul-le, div-lt_iff_lt-mul}
 use Rattle.std.proofs.Math.Pow.{pow_pos}
 use Rattle.etcs_bits.specs.Bits.{num}
 use Rattle.etcs_bits.proofs.Numbers.{length-num}
-use Rattle.etcs_vars.specs.declared.var.Var.TheVariants.{NID_MESSAGE, L_MESSAGE, NID_PACKET, PADDING, OTHER_DATA}
+use Rattle.etcs_vars.specs.declared.var.Var.TheVariants.{NID_MESSAGE, NID_PACKET, PADDING, OTHER_DATA}
 use Rattle.etcs_vars.specs.declared.fault.BuildFault.{BuildFault}
 use Rattle.etcs_vars.specs.declared.fault.BuildFault.TheVariants.{NotAdmitted, TooLong, FillLength}
 use Rattle.etcs_vars.specs.Faults.{◌or_else◌}
-use Rattle.etcs_vars.specs.Reading.{Reading, spelled, kept}
+use Rattle.etcs_vars.specs.Reading.{spelled, kept}
 use Rattle.etcs_rows.specs.declared.row.Way.TheVariants.{ToTrain}
 use Rattle.etcs_rows.specs.Rows.{message_row_to}
 use Rattle.etcs_rows.proofs.LengthLemmas.{length-spelled}
 use Rattle.etcs_packets.specs.declared.packet.Packet.{Packet}
-use Rattle.etcs_packets.specs.PacketValues.{packet_value, IsPacket}
+use Rattle.etcs_packets.specs.PacketValues.{packet_value}
 use Rattle.etcs_packets.specs.PacketReadings.{packets_reading}
-use Rattle.etcs_packets.specs.OnePacket.{IsMade}
 use Rattle.etcs_radio.specs.declared.body.Body.{Body}
 use Rattle.etcs_radio.specs.declared.body.RadioHead.{RadioHead}
 use Rattle.etcs_radio.specs.declared.message.Content.{Content}
 use Rattle.etcs_radio.specs.declared.message.Content.TheVariants.{Typed, Kept}
-use Rattle.etcs_radio.specs.Bodies.{IsBody, nid_of_body, body_bits, body_reading, body_fault, head_fault}
-use Rattle.etcs_radio.specs.Messages.{all_bits, packets_bits, padding_room, is_marker, message_fault, padded_fault, kept_fault, head_reading, IsTyped, IsMessage}
-use Rattle.etcs_radio.specs.Readings.{bytes_of, unpadded_bits, front_reading, message_reading}
+use Rattle.etcs_radio.specs.Bodies.{nid_of_body, body_bits, body_reading, body_fault, head_fault}
+use Rattle.etcs_radio.specs.Messages.{all_bits, padding_room, is_marker, message_fault, padded_fault, kept_fault, head_reading, IsMessage}
+use Rattle.etcs_radio.specs.Readings.{bytes_of, front_reading, message_reading}
 use Rattle.etcs_radio.proofs.Bodies.{body_length, length-widths}
 use Rattle.etcs_radio.proofs.Kept.{length-kept}
 

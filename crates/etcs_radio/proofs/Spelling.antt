@@ -1,6 +1,6 @@
 -- Messages by their spellings.
-use Rattle.std.proofs.Common.{◌≡◌, ℕ, ◌+◌, ◌-◌, ◌*◌, ◌/◌, ◌^◌, ◌<◌, ◌≤◌, Bool, true, false, List, [], ◌∷◌, ◌++◌, length, Option, Some, None, refl, sym, ap, subst, ◌∙◌, arith}
-use Rattle.std.specs.Prelude.{map, All, ℤ, pos, negsuc, nat_lt, ◌==◌, ◌||◌, if◌then◌else◌}
+use Rattle.std.proofs.Common.{◌≡◌, ℕ, ◌+◌, ◌-◌, ◌*◌, ◌^◌, ◌<◌, Bool, true, false, List, [], ◌∷◌, ◌++◌, length, Some, None, refl, sym, ap, subst, ◌∙◌, arith}
+use Rattle.std.specs.Prelude.{ℤ, pos, negsuc, nat_lt, ◌==◌, ◌||◌, if◌then◌else◌}
 use Rattle.std.proofs.lemmas.Bool.Decides.{nat_tests}
 use Rattle.std.proofs.lemmas.List.{append-nil}
 use Rattle.etcs_bits.specs.Bits.{num, bit}
@@ -16,10 +16,9 @@ use Rattle.etcs_rows.specs.Layouts.{Layout, Reads}
 use Rattle.etcs_rows.specs.Rows.{message_row_to, is_plain_message}
 use Rattle.etcs_rows.proofs.LengthLemmas.{length-spelled}
 use Rattle.etcs_rows.proofs.OneReading.{Reads-agree, Reads-fit}
-use Rattle.etcs_packets.specs.declared.packet.Packet.{Packet}
-use Rattle.etcs_packets.specs.PacketValues.{PacketValue, packet_value}
+use Rattle.etcs_packets.specs.PacketValues.{PacketValue}
 use Rattle.etcs_packets.specs.PacketReadings.{packets_reading}
-use Rattle.etcs_packets.specs.OnePacket.{IsMade, one_list}
+use Rattle.etcs_packets.specs.OnePacket.{one_list}
 use Rattle.etcs_container.specs.Contents.{RunOf}
 use Rattle.etcs_container.proofs.Agreement.{run_regular}
 use Rattle.etcs_container.proofs.OneSpelling.{packets_same}

@@ -1,11 +1,10 @@
 -- The parts of a message, written one behind the other.
-use Rattle.std.proofs.Common.{◌≡◌, ℕ, ◌+◌, ◌-◌, ◌*◌, ◌/◌, ◌^◌, ◌<◌, ◌≤◌, Bool, List, [], ◌∷◌, ◌++◌, length, take, drop, refl, sym, ap, ◌∙◌, arith, append_assoc, append-nil, length-append}
+use Rattle.std.proofs.Common.{◌≡◌, ℕ, ◌+◌, ◌≤◌, Bool, List, [], ◌∷◌, ◌++◌, length, take, drop, refl, sym, ap, ◌∙◌, arith, append-nil, length-append}
 use Rattle.std.specs.Prelude.{map}
 use Rattle.std.proofs.lemmas.List.{take_at, length-drop, drop_all}
 use Rattle.std.proofs.Math.Seq.{drop-append-add}
-use Rattle.etcs_bits.specs.Bits.{num, bits, replaced}
+use Rattle.etcs_bits.specs.Bits.{num, replaced}
 use Rattle.etcs_bits.proofs.Numbers.{length-num}
-use Rattle.etcs_bits.proofs.Positions.{length-bits}
 use Rattle.etcs_vars.specs.declared.var.Var.TheVariants.{NID_MESSAGE, L_MESSAGE, PADDING, OTHER_DATA}
 use Rattle.etcs_vars.specs.Reading.{Reading, spelled, kept}
 use Rattle.etcs_vars.proofs.Walk.{spelled-append}
@@ -16,7 +15,7 @@ use Rattle.etcs_radio.specs.declared.body.Body.{Body}
 use Rattle.etcs_radio.specs.declared.body.RadioHead.{RadioHead}
 use Rattle.etcs_radio.specs.declared.message.Content.TheVariants.{Typed, Kept}
 use Rattle.etcs_radio.specs.Bodies.{nid_of_body, body_bits, body_reading, run_of_head}
-use Rattle.etcs_radio.specs.Messages.{all_bits, packets_bits, padding_room, head_reading}
+use Rattle.etcs_radio.specs.Messages.{all_bits, padding_room, head_reading}
 use Rattle.etcs_radio.specs.Readings.{bytes_of, message_reading}
 use Rattle.etcs_radio.proofs.Bodies.{body_length, head_length, length-widths}
 use Rattle.etcs_radio.proofs.Kept.{spelled-kept}

@@ -87,13 +87,13 @@ fn write_kept(out: &mut [u8], nid: u8, kept: BitSlice<'_>)
     requires short { length kept ≤ 8166 }
     ensures { bits out.new ≡ spelled (message_reading (Kept nid kept.entry)) }
 {
-    let len = out.len();
+    let bytes = out.len();
     write_reading(
         out,
         0,
         &[
             (Var::NID_MESSAGE, u64::from(nid)),
-            (Var::L_MESSAGE, len as u64),
+            (Var::L_MESSAGE, bytes as u64),
         ],
     );
     parts::write_slice(out, 18, &kept);

@@ -9,3 +9,4 @@ pub mod LeapLemmas
 pub mod Begun
 pub mod Feeding
 pub mod HoldingBetween
+pub mod RoundTrips

@@ -1,10 +1,8 @@
-use Rattle.std.proofs.Common.{◌≡◌, ℕ, ◌-◌, ◌*◌, ◌≤◌, List, [], ◌++◌, length, take, drop, sym, ap, ◌∙◌, arith, append-nil}
+use Rattle.std.proofs.Common.{◌≡◌, ℕ, ◌-◌, ◌*◌, List, [], ◌++◌, length, take, drop, ap, ◌∙◌, arith, append-nil}
 use Rattle.std.proofs.lemmas.List.{take_all, drop_all, length-drop}
 use Rattle.etcs_bits.specs.Bits.{bits}
 use Rattle.etcs_bits.proofs.ByteBits.{bits-append}
 use Rattle.etcs_bits.proofs.Positions.{length-bits}
-use Rattle.etcs_vars.specs.Reading.{spelled}
-use Rattle.etcs_radio.specs.Readings.{message_reading}
 use Rattle.etcs_radio.proofs.encode.write_behind.Goals as goal
 
 -- the rest of a list is all that is behind its front

@@ -1,9 +1,6 @@
-use Rattle.std.proofs.Common.{rules, ◌≡◌, ◌+◌, length, sym, ap, ◌∙◌, arith}
+use Rattle.std.proofs.Common.{length, sym, ap, ◌∙◌}
 use Rattle.etcs_vars.specs.Reading.{spelled}
-use Rattle.etcs_packets.specs.declared.packet.Packet.{Packet}
-use Rattle.std.proofs.Common.{List, Bool}
 use Rattle.etcs_radio.specs.declared.message.Content.{Content}
-use Rattle.etcs_radio.specs.Messages.{all_bits, padding_room}
 use Rattle.etcs_radio.specs.Readings.{message_reading}
 use Rattle.etcs_radio.proofs.Sizes.{typed_length, kept_length}
 use Rattle.etcs_radio.proofs.encode.write_message.Goals as goal

@@ -1,14 +1,12 @@
-use Rattle.std.proofs.Common.{rules, ◌≡◌, ℕ, ◌+◌, ◌-◌, ◌*◌, ◌/◌, ◌^◌, ◌<◌, ◌≤◌, List, length, sym, ap, subst, ◌∙◌, arith}
+use Rattle.std.proofs.Common.{rules, ◌≡◌, ℕ, ◌+◌, ◌-◌, ◌*◌, ◌^◌, ◌<◌, length, sym, ap, subst, ◌∙◌, arith}
 use Rattle.std.specs.Prelude.{map}
 use Rattle.etcs_bits.specs.Bits.{bits, num, replaced}
 use Rattle.etcs_vars.specs.Reading.{spelled}
 use Rattle.etcs_packets.specs.PacketValues.{packet_value}
 use Rattle.etcs_packets.specs.PacketReadings.{packets_reading}
 use Rattle.etcs_bits.proofs.Positions.{length-bits}
-use Rattle.etcs_radio.specs.declared.message.Content.TheVariants.{Typed}
-use Rattle.etcs_radio.specs.Bodies.{body_bits, nid_of_body}
+use Rattle.etcs_radio.specs.Bodies.{body_bits}
 use Rattle.etcs_radio.specs.Messages.{all_bits, padding_room}
-use Rattle.etcs_radio.specs.Readings.{bytes_of}
 use Rattle.etcs_radio.proofs.Bodies.{body_length, head_length, body_few}
 use Rattle.etcs_radio.proofs.Writing.{front_18, typed_written}
 use Rattle.etcs_radio.proofs.encode.write_typed.Goals as goal

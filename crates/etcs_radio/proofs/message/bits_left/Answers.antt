@@ -1,6 +1,5 @@
-use Rattle.std.proofs.Common.{rules, ◌≡◌, ◌-◌, ◌≤◌, ◌<◌, ap, ◌∙◌, arith}
+use Rattle.std.proofs.Common.{◌-◌, ◌≤◌, ◌<◌, ap, ◌∙◌, arith}
 use Rattle.etcs_packets.specs.PacketValues.{packet_value, bits_of}
-use Rattle.etcs_radio.specs.Bodies.{body_bits}
 use Rattle.etcs_radio.proofs.Bodies.{body_length, body_few}
 use Rattle.etcs_radio.proofs.Fitting.{leaves_first, leaves_next, leaves_none, leaves_end, made_end, packets_end}
 use Rattle.etcs_radio.proofs.message.bits_left.Goals as goal

@@ -1,6 +1,6 @@
-use Rattle.std.proofs.Common.{rules, ◌≡◌, ◌+◌, ◌%◌, ◌^◌, ◌<◌, ◌≤◌, false, sym, ap, ◌∙◌, arith}
+use Rattle.std.proofs.Common.{◌≡◌, ◌%◌, false, sym, ◌∙◌, arith}
 use Rattle.std.specs.List.{list_any}
-use Rattle.etcs_radio.specs.Messages.{all_bits, padding_room, is_marker}
+use Rattle.etcs_radio.specs.Messages.{all_bits, is_marker}
 use Rattle.etcs_radio.proofs.Sizes.{room_left, few_bits, many_bits, padded_long, padded_bad, padded_good}
 use Rattle.etcs_radio.proofs.message.check_typed.Goals as goal
 

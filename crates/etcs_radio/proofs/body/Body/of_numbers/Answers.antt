@@ -1,16 +1,13 @@
-use Rattle.std.proofs.Common.{rules, ◌≡◌, ◌^◌, ◌<◌, ℕ, List, [], ◌∷◌, true, length, Some, ap, refl, sym, ◌∙◌, arith, inl, inr}
+use Rattle.std.proofs.Common.{rules, ◌≡◌, ◌^◌, ◌<◌, ℕ, List, [], ◌∷◌, true, length, ap, refl, sym, ◌∙◌, arith, inl, inr}
 use Rattle.std.specs.Prelude.{slice_index_or, ◌==◌, ◌||◌, ◌⊎◌}
-use Rattle.etcs_vars.specs.declared.var.Var.{Var}
 use Rattle.etcs_vars.specs.declared.var.Var.TheVariants.{T_TRAIN, NID_EM, M_VERSION, Q_SCALE, D_REF, D_SR, Q_ORIENTATION}
 use Rattle.etcs_vars.specs.Reading.{Reading}
 use mir.Val.{SFits}
 use mir.Syntax.{w16}
 use Rattle.std.proofs.lemmas.Int.{to_z-of_z}
-use Rattle.etcs_rows.specs.declared.row.Way.TheVariants.{ToTrain}
-use Rattle.etcs_rows.specs.Layouts.{Layout, whole, one}
-use Rattle.etcs_rows.specs.Rows.{message_row_to, message_row_to_train}
+use Rattle.etcs_rows.specs.Rows.{message_row_to_train}
 use Rattle.etcs_radio.specs.declared.body.Body.TheVariants.{SrAuthorisation, Plain, TrainTime, Emergency, Version, Shifted, Orientation}
-use Rattle.etcs_radio.specs.Bodies.{body_reading, IsBodyNumbers}
+use Rattle.etcs_radio.specs.Bodies.{IsBodyNumbers}
 use Rattle.etcs_radio.proofs.Bodies.{One, Two, one_number, two_numbers, one_below, first_below, second_below, plain_row, time_row, emergency_row, sr_body, time_body, emergency_body, version_body, shifted_body, one_flag, back_none, back_one, back_two}
 use Rattle.etcs_radio.proofs.body.Body.of_numbers.Goals as goal
 

@@ -1,5 +1,4 @@
 use Rattle.std.proofs.Common.{sym, ap, ◌∙◌}
-use Rattle.etcs_radio.specs.declared.body.Body.{Body}
 use Rattle.etcs_radio.specs.Bodies.{body_bits}
 use Rattle.etcs_radio.proofs.Bodies.{body_length}
 use Rattle.etcs_radio.proofs.body.BodyVariables.bits.Goals as goal

@@ -1,11 +1,10 @@
-use Rattle.std.proofs.Common.{rules, ◌≡◌, ◌+◌, ◌-◌, ◌*◌, ◌/◌, ◌%◌, List, length, sym, ap, ◌∙◌, arith}
+use Rattle.std.proofs.Common.{◌≡◌, ◌+◌, List, length, sym, ap, ◌∙◌, arith}
 use Rattle.etcs_vars.specs.Reading.{spelled}
 use Rattle.etcs_radio.specs.declared.message.Content.{Content}
-use Rattle.etcs_radio.specs.declared.message.Content.TheVariants.{Typed, Kept}
 use Rattle.etcs_packets.specs.declared.packet.Packet.{Packet}
 use Rattle.etcs_radio.specs.Messages.{all_bits, padding_room}
 use Rattle.etcs_radio.specs.Readings.{message_reading}
-use Rattle.etcs_radio.proofs.Sizes.{room_left, typed_length, kept_length}
+use Rattle.etcs_radio.proofs.Sizes.{typed_length, kept_length}
 use Rattle.etcs_radio.proofs.message.Message.bit_len.Goals as goal
 
 pub returns-in-Typed : goal.returns-in-Typed

@@ -1,4 +1,3 @@
-use Rattle.std.proofs.Common.{rules, sym, ◌∙◌}
 use Rattle.etcs_radio.proofs.Sizes.{zero_padding}
 use Rattle.etcs_radio.proofs.message.Message.new.Goals as goal
 

@@ -21,3 +21,4 @@ pub mod Faults
 pub mod Wholes
 pub mod Holding
 pub mod Reading
+pub mod RoundTrips

@@ -79,7 +79,7 @@ no_packet (v ∷ vs) h e =
     let three = ap length (spelled-append (packet_reading v) (packets_reading vs)) ∙ length-append (spelled (packet_reading v)) (spelled (packets_reading vs)) in
     absurd (omega (arith, one, two, three, packet_bits v, some_bits v))
 
-none_listed : (ps : List Packet) → [] ≡ map packet_value ps → ps ≡ []
+pub none_listed : (ps : List Packet) → [] ≡ map packet_value ps → ps ≡ []
 none_listed [] e = refl
 none_listed (p ∷ ps) e = absurd cc
 

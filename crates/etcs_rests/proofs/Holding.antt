@@ -10,14 +10,15 @@ use Rattle.etcs_rows.proofs.RowLaws.{read_is}
 use Rattle.etcs_rows.specs.declared.row.Way.TheVariants.{ToTrain}
 use Rattle.etcs_rows.specs.declared.frames.Carrier.{Carrier}
 use Rattle.etcs_rows.specs.Rows.{row_to}
+use Rattle.etcs_packets.specs.declared.packet.Packet.{Packet}
 use Rattle.etcs_packets.specs.PacketReadings.{frame}
 use Rattle.etcs_container.specs.Contents.{Run}
 use Rattle.etcs_container.specs.Runs.{row_so_far}
 use Rattle.etcs_reader.specs.Rests.{Goes}
 use Rattle.etcs_rests.specs.declared.stage.Stage.{Stage}
 use Rattle.etcs_rests.specs.declared.stage.Stage.TheVariants.{Number, Marker, Direction, Length, Row, Kept, Closed}
-use Rattle.etcs_rests.specs.Lefts.{left_of, RowHere, Here}
-use Rattle.etcs_rests.specs.Held.{here_of}
+use Rattle.etcs_rests.specs.Lefts.{left_of, RowHere, Here, HoldsAt}
+use Rattle.etcs_rests.specs.Held.{here_of, list_holds, packets_so_far}
 
 row_is : (nid dir len : ℕ) (left : Layout) (f : List ℕ) (h : Reading) → ((u : Reading) × ReadsIn left len u) → RowHere nid dir left len f h → h ≡ row_so_far (row_to ToTrain nid) nid dir f len
 row_is nid dir len left f h (u, l) r =
@@ -40,3 +41,9 @@ here_is c room (Length nid dir) f k h g (e, e', is) = is
 here_is c room (Row nid dir row) f k h g (e, is) = row_is nid dir row.len row.place f h (first_of (ReadsIn row.place row.len) (Run c room) g) is
 here_is c room (Kept nid dir left) f k h g (e, le, is) = is
 here_is c room Closed f k h g (e, e', is) = is
+
+-- those of packets
+pub packets_far : (c : Carrier) (room : ℕ) (s : Stage) (ps : List Packet) (f : List ℕ) (k : List Bool) (h : Reading) → Goes (left_of c room s) → HoldsAt c s (list_holds ps f k) h → h ≡ packets_so_far c s ps f k
+packets_far c room s ps f k h g (vs, m, l, r, (vs_is, (made, (m_is, l_is))), carried, here, e) =
+    let is : r ≡ here_of c s f k = here_is c room s m l r g here ∙ rw (m_is, l_is) refl in
+    e ∙ rw (vs_is, is) refl

@@ -7,3 +7,6 @@ pub mod LeftBodies
 pub mod PacketLemmas
 pub mod LeapLemmas
 pub mod Begun
+pub mod Feeding
+pub mod HoldingBetween
+pub mod RoundTrips

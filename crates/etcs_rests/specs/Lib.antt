@@ -11,3 +11,5 @@ pub mod LeftLaws
 pub mod StageLaws
 pub mod Labels
 pub mod LabelLaws
+pub mod Stages
+pub mod Holdings

@@ -1,0 +1,100 @@
+-- The variables so far are those that the fields tell.
+use Rattle.std.proofs.Common.{◌≡◌, ℕ, ◌+◌, ◌-◌, ◌*◌, ◌/◌, ◌≤◌, List, Bool, true, false, [], ◌∷◌, ◌++◌, length, drop, Some, None, refl, sym, ap, subst, ◌∙◌, arith, append_assoc, inl, inr}
+use Rattle.std.specs.Prelude.{IsTrue, map, Option}
+use Rattle.std.proofs.lemmas.List.{length-append}
+use Rattle.etcs_bits.specs.Bits.{num}
+use Rattle.etcs_vars.specs.declared.var.Var.{Var}
+use Rattle.etcs_vars.specs.declared.var.Var.TheVariants.{PADDING, OTHER_DATA}
+use Rattle.etcs_vars.specs.Reading.{Reading, spelled, kept}
+use Rattle.etcs_vars.proofs.Walk.{spelled-append}
+use Rattle.etcs_packets.specs.declared.packet.Packet.{Packet}
+use Rattle.etcs_packets.specs.PacketValues.{PacketValue, packet_value}
+use Rattle.etcs_packets.specs.PacketReadings.{packets_reading}
+use Rattle.etcs_reader.specs.Rests.{Goes}
+use Rattle.etcs_rests.specs.declared.left.PacketsLeft.{PacketsLeft}
+use Rattle.etcs_rests.specs.declared.list.PacketList.{PacketList}
+use Rattle.etcs_rests.specs.Labels.{labelled}
+use Rattle.etcs_rests.specs.Lefts.{left_of, ahead}
+use Rattle.etcs_rests.specs.Held.{list_holds, packets_so_far}
+use Rattle.etcs_rests.proofs.Holding.{packets_far}
+use Rattle.etcs_radio.specs.declared.phase.Phase.{Phase}
+use Rattle.etcs_radio.specs.declared.phase.Phase.TheVariants.{Number, Length, Front, Packets, Padding, Data, Whole}
+use Rattle.etcs_radio.specs.Messages.{padding_room}
+use Rattle.etcs_radio.specs.Lefts.{front_row, front_vars, some_row, bits_of, headed, left_at, may_ask, PacketsBehind, HoldsIn, FrontHeld, PacketsHeld, PaddingHeld, DataHeld}
+use Rattle.etcs_radio.specs.Readers.{measured, padded, packed, whole_far, so_far}
+use Rattle.etcs_radio.proofs.Bytes.{headed_length, pad_bits, one_bits}
+
+-- L_MESSAGE is told by how many bits there are
+measured_is : (nid len more : ℕ) (r q : Reading) → q ≡ headed nid len r → length (spelled q) + more ≡ 8 * len → q ≡ measured nid r more
+measured_is nid len more r q e room =
+    let l = ap (λ (t : Reading). length (spelled t)) e ∙ headed_length nid len r in
+    let same : (18 + length (spelled r) + more) / 8 ≡ len = omega (arith, l, room) in
+    e ∙ ap (λ (k : ℕ). headed nid k r) (sym same)
+
+front_far : (nid at : ℕ) (front : List ℕ) (l : PacketsLeft) (holds : List PacketValue → List ℕ → List Bool → Type 0) (q : Reading) → FrontHeld nid at front l holds q → q ≡ measured nid (labelled (front_vars nid) front) (bits_of (drop at (front_vars nid)) + ahead l.room l.stage)
+front_far nid at front l holds q h =
+    let m = measured_is nid h.len (bits_of (drop at h.vars) + ahead l.room l.stage) (labelled h.vars front) q h.reading_is h.room_is in
+    subst (λ (vs : List Var). q ≡ measured nid (labelled vs front) (bits_of (drop at vs) + ahead l.room l.stage)) (sym (ap some_row h.typed)) m
+
+pub first_goes : (l : PacketsLeft) → Goes (PacketsBehind l) → Goes (left_of l.carrier l.room l.stage)
+first_goes l (r, (a, b, e, h, k)) = (a, h)
+
+packets_are : (nid : ℕ) (front : List ℕ) (l : PacketsLeft) (store : PacketList) (q : Reading) → Goes (PacketsBehind l) → PacketsHeld nid front l (list_holds store.packets.items store.numbers.items store.bits) q
+    → q ≡ measured nid (labelled (front_vars nid) front ++ packets_so_far l.carrier l.stage store.packets.items store.numbers.items store.bits) (ahead l.room l.stage)
+packets_are nid front l store q g h =
+    let here = packets_far l.carrier l.room l.stage store.packets.items store.numbers.items store.bits h.here (first_goes l g) h.held in
+    let is = h.reading_is ∙ ap (λ (t : Reading). headed nid h.len (labelled h.vars front ++ t)) here in
+    let m = measured_is nid h.len (ahead l.room l.stage) (labelled h.vars front ++ packets_so_far l.carrier l.stage store.packets.items store.numbers.items store.bits) q is h.room_is in
+    subst (λ (vs : List Var). q ≡ measured nid (labelled vs front ++ packets_so_far l.carrier l.stage store.packets.items store.numbers.items store.bits) (ahead l.room l.stage)) (sym (ap some_row h.typed)) m
+
+-- PADDING is what is left up to whole bytes
+padding_far : (nid : ℕ) (front : List ℕ) (ps : List Packet) (f : List ℕ) (k : List Bool) (number left : ℕ) (q : Reading) → PaddingHeld nid front (list_holds ps f k) number left q → q ≡ measured nid (padded (packed nid front ps) number left) left
+padding_far nid front ps f k number left q h =
+    let a = labelled (front_vars nid) front in
+    let p = packets_reading (map packet_value ps) in
+    let r = packed nid front ps in
+    let parts : labelled h.vars front ++ (packets_reading h.packets ++ kept PADDING h.bits) ≡ r ++ kept PADDING h.bits =
+    ap (λ (vs : List Var). labelled vs front ++ (packets_reading h.packets ++ kept PADDING h.bits)) (sym (ap some_row h.typed))
+    ∙ ap (λ (vs : List PacketValue). a ++ (packets_reading vs ++ kept PADDING h.bits)) h.held.0
+    ∙ sym (append_assoc a p (kept PADDING h.bits)) in
+    let is = h.reading_is ∙ ap (headed nid h.len) parts in
+    let l1 = ap (λ (t : Reading). length (spelled t)) is ∙ headed_length nid h.len (r ++ kept PADDING h.bits) in
+    let l2 = ap length (spelled-append r (kept PADDING h.bits)) ∙ length-append (spelled r) (spelled (kept PADDING h.bits)) in
+    let count : length h.bits ≡ padding_room (18 + length (spelled r)) - left = omega (arith, l1, l2, pad_bits h.bits, h.room_is, h.short) in
+    let bits : h.bits ≡ num (padding_room (18 + length (spelled r)) - left) number = h.padding_is ∙ ap (λ (n : ℕ). num n number) count in
+    let is' : q ≡ headed nid h.len (padded r number left) = is ∙ ap (λ (b : List Bool). headed nid h.len (r ++ kept PADDING b)) bits in
+    measured_is nid h.len left (padded r number left) q is' h.room_is
+
+data_far : (nid : ℕ) (ps : List Packet) (f : List ℕ) (k : List Bool) (left : ℕ) (q : Reading) → DataHeld nid (list_holds ps f k) left q → q ≡ measured nid (kept OTHER_DATA k) left
+data_far nid ps f k left q h =
+    let (vs_is, (made, (m_is, l_is))) = h.held in
+    let is = h.reading_is ∙ ap (λ (b : List Bool). headed nid h.len (kept OTHER_DATA b)) l_is in
+    let l = ap (λ (t : Reading). length (spelled t)) is ∙ headed_length nid h.len (kept OTHER_DATA k) in
+    measured_is nid h.len left (kept OTHER_DATA k) q is (let n = ap length l_is in omega (arith, l, one_bits k, h.room_is, n))
+
+-- all of them
+pub far_is : (nid : ℕ) (phase : Phase) (front : List ℕ) (l : PacketsLeft) (store : PacketList) (number : ℕ) (q : Reading) → Goes (left_at nid phase l) → HoldsIn nid phase front l number (list_holds store.packets.items store.numbers.items store.bits) q → q ≡ so_far nid phase front l store number
+far_is nid Number front l store number q g (z, h, e) = e
+far_is nid Length front l store number q g (z, h, e) = e
+far_is nid (Front at) front l store number q g (z, h) = front_far nid at front l (list_holds store.packets.items store.numbers.items store.bits) q h
+far_is nid Packets front l store number q g (z, h) = packets_are nid front l store q g h
+far_is nid (Padding left) front l store number q g h = padding_far nid front store.packets.items store.numbers.items store.bits number left q h
+far_is nid (Data left) front l store number q g h = data_far nid store.packets.items store.numbers.items store.bits left q h
+far_is nid Whole front l store number q g (inl h) =
+    subst (λ (o : Option (List Var)). q ≡ whole_far o nid front store number) (sym h.typed) (padding_far nid front store.packets.items store.numbers.items store.bits number 0 q h)
+far_is nid Whole front l store number q g (inr h) =
+    subst (λ (o : Option (List Var)). q ≡ whole_far o nid front store number) (sym h.untyped) (data_far nid store.packets.items store.numbers.items store.bits 0 q h)
+
+-- ---- How long they are where memory may be asked for.
+
+headed_long : (nid len : ℕ) (r q : Reading) → q ≡ headed nid len r → 18 ≤ length (spelled q)
+headed_long nid len r q e = omega (arith, ap (λ (t : Reading). length (spelled t)) e ∙ headed_length nid len r)
+
+pub far_long : (nid : ℕ) (phase : Phase) (front : List ℕ) (l : PacketsLeft) (number : ℕ) (holds : List PacketValue → List ℕ → List Bool → Type 0) (q : Reading) → IsTrue (may_ask phase l) → HoldsIn nid phase front l number holds q → 18 ≤ length (spelled q)
+far_long nid Number front l number holds q a h = absurd cc
+far_long nid Length front l number holds q a h = absurd cc
+far_long nid (Front at) front l number holds q a h = absurd cc
+far_long nid Packets front l number holds q a (z, h) = headed_long nid h.len (labelled h.vars front ++ h.here) q h.reading_is
+far_long nid (Padding left) front l number holds q a h = absurd cc
+far_long nid (Data left) front l number holds q a h = headed_long nid h.len (kept OTHER_DATA h.bits) q h.reading_is
+far_long nid Whole front l number holds q a h = absurd cc

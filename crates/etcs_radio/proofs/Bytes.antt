@@ -7,7 +7,7 @@ use Rattle.etcs_vars.specs.Reading.{Reading, spelled, kept, readings_of}
 use Rattle.etcs_vars.proofs.Prefixes.{admits_parts}
 use Rattle.etcs_vars.proofs.Languages.{Same}
 use Rattle.etcs_vars.proofs.Walk.{Regular, spelled-append}
-use Rattle.etcs_rows.proofs.LengthLemmas.{length-sent}
+use Rattle.etcs_vars.proofs.Sent.{length-sent}
 use Rattle.etcs_bits.specs.Bits.{num}
 use Rattle.etcs_bits.proofs.Numbers.{length-num}
 use Rattle.etcs_packets.specs.PacketValues.{PacketValue, packet_value}

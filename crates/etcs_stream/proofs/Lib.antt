@@ -1,5 +1,8 @@
 pub mod HexDigits
-pub mod Splits
 pub mod Known
 pub mod Printing
 pub mod Endings
+pub mod ItemKinds
+pub mod Cutting
+pub mod OneLines
+pub mod OneItems

@@ -18,14 +18,14 @@ use Rattle.etcs_stream.specs.Engines.{Tells, Ends, Stops, StopsAtEnd, Prints}
 firsts : (form : Form) (kind : Kind) (given bytes : List ℕ) (es : List EntryValue) (end : End) → SaysFirst form given bytes → BitItems kind (bits bytes) es end → FirstItems form kind given es
 firsts form kind given bytes es end says h = record { bytes = bytes; says = says; spelt = h.spelt; rest = h.rest; are_spelled = h.are_spelled; bits_are = h.bits_are; few = h.few }
 
--- so are those of the lines before a bad one
-before_bad : (form : Form) (kind : Kind) (given bytes : List ℕ) (es : List EntryValue) (line place : ℕ) (end : End) → SaysFirst form given bytes → BadItems kind (bits bytes) es line place end → FirstItems form kind given es
-before_bad form kind given bytes es line place ended says h = absurd h
-before_bad form kind given bytes es line place (refused i x) says h = firsts form kind given bytes es (refused i x) says h
-before_bad form kind given bytes es line place (truncated k) says h = absurd h
-before_bad form kind given bytes es line place (bad_hex l p) says (el, ep, inl h) = firsts form kind given bytes es ended says h
-before_bad form kind given bytes es line place (bad_hex l p) says (el, ep, inr (k, h)) = firsts form kind given bytes es (truncated k) says h
-before_bad form kind given bytes es line place endless says h = firsts form kind given bytes es endless says h
+-- the items of the lines before a bad one end in some way
+pub bad_items : (kind : Kind) (b : List Bool) (es : List EntryValue) (line place : ℕ) (end : End) → BadItems kind b es line place end → (end' : End) × BitItems kind b es end'
+bad_items kind b es line place ended h = absurd h
+bad_items kind b es line place (refused i x) h = (refused i x, h)
+bad_items kind b es line place (truncated k) h = absurd h
+bad_items kind b es line place (bad_hex l p) (el, ep, inl h) = (ended, h)
+bad_items kind b es line place (bad_hex l p) (el, ep, inr (k, h)) = (truncated k, h)
+bad_items kind b es line place endless h = (endless, h)
 
 front_of : (text bytes : List ℕ) (line place : ℕ) → IsBad text bytes line place → SaysFirst Hex text bytes
 front_of text bytes line place bad = elim bad.text_is [
@@ -36,7 +36,9 @@ front_of text bytes line place bad = elim bad.text_is [
 pub all_first : (form : Form) (kind : Kind) (input : List ℕ) (es : List EntryValue) (end : End) → ItemsOf form kind input es end → FirstItems form kind input es
 all_first Bin kind input es end h = firsts Bin kind input input es end refl h
 all_first Hex kind input es end (inl (bytes, says, h)) = firsts Hex kind input bytes es end (inr says) h
-all_first Hex kind input es end (inr (bytes, line, place, bad, h)) = before_bad Hex kind input bytes es line place end (front_of input bytes line place bad) h
+all_first Hex kind input es end (inr (bytes, line, place, bad, h)) =
+    let (end', items) = bad_items kind (bits bytes) es line place end h in
+    firsts Hex kind input bytes es end' (front_of input bytes line place bad) items
 
 so_far_first : (form : Form) (given bytes : List ℕ) → SaysSoFar form given bytes → SaysFirst form given bytes
 so_far_first Bin given bytes h = h

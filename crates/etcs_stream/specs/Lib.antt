@@ -10,3 +10,4 @@ pub mod Pipes
 pub mod Passes
 pub mod Stands
 pub mod StandLaws
+pub mod OneRuns

@@ -9,6 +9,7 @@ mod entries;
 mod fault;
 mod items;
 mod job;
+pub mod laws;
 mod lines;
 mod pump;
 mod runs;

@@ -1,3 +1,8 @@
 pub mod HexDigits
-pub mod Splits
+pub mod ItemKinds
+pub mod Streams
+pub mod Standing
+pub mod Cutting
+pub mod BinSteps
+pub mod HexSteps
 pub mod Known

@@ -1,8 +1,12 @@
 pub mod HexDigits
+pub mod ItemKinds
+pub mod Streams
+pub mod Standing
+pub mod Cutting
+pub mod BinSteps
+pub mod HexSteps
 pub mod Known
 pub mod Printing
 pub mod Endings
-pub mod ItemKinds
-pub mod Cutting
 pub mod OneLines
 pub mod OneItems

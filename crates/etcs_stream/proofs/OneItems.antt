@@ -1,5 +1,5 @@
 -- Bits are items in one way.
-use Rattle.std.proofs.Common.{◌≡◌, ℕ, zero, suc, ◌+◌, ◌^◌, ◌<◌, ◌≤◌, Bool, List, [], ◌∷◌, ◌++◌, length, take, get_or, refl, sym, ap, subst, ◌∙◌, arith, append_assoc, length-append, inl, inr}
+use Rattle.std.proofs.Common.{◌≡◌, ℕ, ◌+◌, ◌^◌, ◌<◌, ◌≤◌, Bool, List, [], ◌∷◌, ◌++◌, length, take, get_or, refl, sym, ap, subst, ◌∙◌, arith, append_assoc, length-append, inl, inr}
 use Rattle.std.specs.Prelude.{◌⊎◌, All}
 use Rattle.std.proofs.lemmas.Bool.{cases_lt}
 use Rattle.std.proofs.lemmas.List.{append-nil, take_at, take_all, get_or_past}
@@ -14,11 +14,9 @@ use Rattle.etcs_vars.specs.Reading as reading
 use Rattle.etcs_vars.proofs.Apart.{apart}
 use Rattle.etcs_vars.proofs.Languages.{same_back}
 use Rattle.etcs_vars.proofs.Outcomes.{viable_front}
-use Rattle.etcs_telegram.specs.declared.size.Size.{Size}
-use Rattle.etcs_telegram.specs.declared.size.Size.TheVariants.{Short, Long}
-use Rattle.etcs_telegram.specs.Telegrams.{TelegramLanguage, user_bits, pad_bits}
+use Rattle.etcs_telegram.specs.Telegrams.{TelegramLanguage}
 use Rattle.etcs_telegram.proofs.SameReadings.{refuses_along}
-use Rattle.etcs_telegram.proofs.Spellings.{one_value, whole_length}
+use Rattle.etcs_telegram.proofs.Spellings.{one_value}
 use Rattle.etcs_telegram.proofs.Viewing.{one_refusal}
 use Rattle.etcs_text.specs.declared.entry.Kind.{Kind}
 use Rattle.etcs_text.specs.declared.command.Command.{Command}
@@ -31,19 +29,11 @@ use Rattle.etcs_stream.specs.Inputs.{End, ended, refused, truncated, bad_hex, en
 use Rattle.etcs_stream.specs.Streams.{AreSpelled}
 use Rattle.etcs_stream.specs.OneRuns.{OneEnd, OneWhole, OneFront, OneText}
 use Rattle.etcs_stream.proofs.ItemKinds.{Language, same_readings, kind_regular}
+use Rattle.etcs_stream.proofs.Streams.{nothing_is_spelled}
 use Rattle.etcs_stream.proofs.Printing.{bad_items}
 use Rattle.etcs_stream.proofs.OneLines.{one_hex, one_bad, hex_or_bad, one_so_far, front_hex, front_bad}
 
 -- ---- One item.
-
-some_bits : (size : Size) → 0 < user_bits size + pad_bits size
-some_bits Short = omega arith
-some_bits Long = omega arith
-
-nothing_is_spelled : (kind : Kind) → NoneYet (Language kind) []
-nothing_is_spelled kind zero h (r, l, e) =
-    absurd (omega (arith, whole_length (size_of kind) r ((same_readings kind r).1 l), ap (λ (b : List Bool). length b) e, some_bits (size_of kind)))
-nothing_is_spelled kind (suc k) h w = absurd (omega arith)
 
 one_item : (kind : Kind) (e f : EntryValue) (r : Reading) → EntryReads kind e r → EntryReads kind f r → e ≡ f
 one_item kind (of_telegram t) (of_telegram u) r x y = ap of_telegram (one_value t u r (x.0 ∙ sym y.0) x.1 y.1)

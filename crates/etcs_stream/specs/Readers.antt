@@ -1,7 +1,7 @@
 -- What a reader of items stands for, and what a feed answers.
-use Rattle.std.specs.Prelude.{◌≡◌, ℕ, ◌+◌, ◌*◌, ◌≤◌, Bool, List, [], ◌++◌, length, Result, Ok, Err}
+use Rattle.std.specs.Prelude.{◌≡◌, ℕ, ◌+◌, ◌*◌, ◌<◌, ◌≤◌, Bool, List, [], ◌++◌, length, Result, Ok, Err}
 use Rattle.etcs_vars.specs.declared.var.Var.{Var}
-use Rattle.etcs_vars.specs.Reading.{Reading, NoneYet, readings_of, IsOutcome, done, refused, more}
+use Rattle.etcs_vars.specs.Reading.{Reading, NoneYet, Viable, readings_of, IsOutcome, done, refused, more}
 use Rattle.etcs_vars.specs.declared.feed.Fed.{Fed}
 use Rattle.etcs_vars.specs.declared.feed.Fed.TheVariants.{More, Done}
 use Rattle.etcs_vars.specs.declared.feed.ReadFault.{ReadFault}
@@ -42,8 +42,13 @@ Feeds Reads seen new (Err (Refused i x)) s = IsOutcome Reads (seen ++ new) (refu
 Feeds Reads seen new (Err Memory) s = Unit {0}
 Feeds Reads seen new (Err Ended) s = ⊥
 
--- the reader wants more bits of an item of this kind, and no front of those that came is one
+-- the reader wants more bits of an item of this kind: some item begins with those that came, and no front of them is one
 pub record Awaits (kind : Kind) (r : ReaderValue) : Type 0 where
   pub kind_is : r.kind ≡ kind
   pub stage_is : r.stage ≡ reading (seen_bits r.stage)
   pub unfinished : NoneYet (readings_of (EntryReads kind)) (seen_bits r.stage)
+  pub viable : Viable (readings_of (EntryReads kind)) (seen_bits r.stage)
+
+-- an item was begun only where a run may have one more
+abbrev pub HasRoom : ℕ → List Bool → Type 0
+HasRoom told seen = 0 < length seen → told < 1000000

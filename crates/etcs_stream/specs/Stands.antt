@@ -8,7 +8,7 @@ use Rattle.etcs_text.specs.Commands.{ItemsText}
 use Rattle.etcs_stream.specs.declared.job.Job.{Job}
 use Rattle.etcs_stream.specs.Lines.{lines_text, lines_bytes, AreGood}
 use Rattle.etcs_stream.specs.Inputs.{IsLine}
-use Rattle.etcs_stream.specs.Readers.{ReaderValue, Awaits, seen_bits}
+use Rattle.etcs_stream.specs.Readers.{ReaderValue, Awaits, HasRoom, seen_bits}
 use Rattle.etcs_stream.specs.Streams.{AreSpelled}
 
 -- of these bytes so many items were told, and these bits of the next were seen
@@ -19,6 +19,7 @@ pub record ItemsStand (job : Job) (seen : List Bool) (count : ℕ) (bytes told :
   pub bits_are : bits bytes ≡ spelt ++ seen
   pub count_is : count ≡ length items
   pub few : count ≤ 1000000
+  pub room : HasRoom count seen
   pub none_more : NoneYet (readings_of (EntryReads job.kind)) seen
   pub text : ItemsText job.command 1 items told
 

@@ -1,5 +1,5 @@
 -- How a run goes on with each piece that it is given, and how it ends early.
-use Rattle.std.specs.Prelude.{◌≡◌, ℕ, ◌+◌, ◌<◌, ◌≤◌, ◌⊎◌, Bool, List, [], ◌∷◌, ◌++◌, length, Some}
+use Rattle.std.specs.Prelude.{◌≡◌, ℕ, ◌+◌, ◌<◌, ◌≤◌, Bool, List, ◌++◌, length}
 use Rattle.etcs_bits.specs.Bits.{bits}
 use Rattle.etcs_vars.specs.Reading.{readings_of}
 use Rattle.etcs_vars.specs.Walking.{Refuses}
@@ -9,8 +9,6 @@ use Rattle.etcs_text.specs.Entries.{EntryValue, EntryReads}
 use Rattle.etcs_text.specs.Commands.{ItemsText}
 use Rattle.etcs_stream.specs.declared.fault.RunFault.{RunFault}
 use Rattle.etcs_stream.specs.declared.fault.RunFault.TheVariants.{Refused, Truncated, BadHex, Read, Write, Endless, Memory}
-use Rattle.etcs_stream.specs.Lines.{Splits, AreGood, bad_place, strip_cr, line_bytes, lines_text, lines_bytes}
-use Rattle.etcs_stream.specs.Inputs.{IsLine}
 use Rattle.etcs_stream.specs.Streams.{AreSpelled}
 
 -- with these bytes behind the bits seen before, some items became whole and were told, and bits are left
@@ -46,9 +44,3 @@ pub record Halts (kind : Kind) (command : Command) (seen : List Bool) (items : �
   pub added_is : ItemsText command (items + 1) told added
   pub text_is : text' ≡ text ++ added
   pub why : HaltsBy kind (items + length told) rest fault
-
--- the same with a piece of text behind the characters of a line that were kept
-pub record HexAdvances (kind : Kind) (command : Command) (seen seen' : List Bool) (items items' : ℕ) (kept kept' piece text text' : List ℕ) : Type 0 where
-  pub bytes : List ℕ
-  pub splits : Splits kept kept' piece bytes
-  pub advances : Advances kind command seen seen' items items' bytes text text'

@@ -4,7 +4,7 @@ ghost use Rattle.std.specs.Prelude.{◌≡◌, ◌+◌, ◌<◌, ◌≤◌, ◌+
 ghost use Rattle.etcs_text.specs.Entries.{EntryValue};
 ghost use Rattle.etcs_text.specs.Commands.{ItemText};
 ghost use Rattle.etcs_stream.specs.declared.fault.RunFault.{RunFault};
-ghost use Rattle.etcs_stream.specs.Readers.{Awaits, seen_bits, reading, finished};
+ghost use Rattle.etcs_stream.specs.Readers.{Awaits, HasRoom, seen_bits, reading, finished};
 ghost use Rattle.etcs_stream.specs.Steps.{Advances, Halts};
 
 use crate::entries::EntryReader;
@@ -55,6 +55,7 @@ impl Items {
         ensures job { self.new.job ≡ self.old.job }
         ensures waits { OnOk result (Awaits self.old.job.kind self.new.reader) }
         ensures told { OnOk result (self.new.told ≤ 1000000) }
+        ensures room { HasRoom self.old.told (seen_bits self.old.reader.stage) → OnOk result (HasRoom self.new.told (seen_bits self.new.reader.stage)) }
         ensures ok { OnOk result (Advances self.old.job.kind self.old.job.command (seen_bits self.old.reader.stage) (seen_bits self.new.reader.stage) self.old.told self.new.told bytes.now text.old.items text.new.items) }
         ensures err { IfErr result (λ e. Halts self.old.job.kind self.old.job.command (seen_bits self.old.reader.stage) self.old.told bytes.now text.old.items text.new.items e) }
     {
@@ -98,6 +99,7 @@ impl Items {
         ensures job { self.new.job ≡ self.old.job }
         ensures waits { OnOk result (Awaits self.old.job.kind self.new.reader) }
         ensures told { OnOk result (self.new.told ≤ 1000000) }
+        ensures room { OnOk result (HasRoom self.new.told (seen_bits self.new.reader.stage)) }
         ensures ok { IfOk result (λ n. Advances self.old.job.kind self.old.job.command (seen_bits self.old.reader.stage) (seen_bits self.new.reader.stage) self.old.told self.new.told (take n bytes.now) text.old.items text.new.items) }
         ensures err { IfErr result (λ e. Halts self.old.job.kind self.old.job.command (seen_bits self.old.reader.stage) self.old.told bytes.now text.old.items text.new.items e) }
     {

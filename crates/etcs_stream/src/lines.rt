@@ -1,11 +1,12 @@
 //! Cuts text into lines of hexadecimal, and gives their bytes to the items.
 
-ghost use Rattle.std.specs.Prelude.{◌≡◌, ◌+◌, ◌-◌, ◌^◌, ◌<◌, ◌≤◌, ◌⊎◌, ◌++◌, ◌∷◌, ℕ, List, [], None, Some, length, vec_len, IfSome, IfErr, OnOk, OnErr};
+ghost use Rattle.std.specs.Prelude.{◌≡◌, ◌+◌, ◌-◌, ◌^◌, ◌<◌, ◌≤◌, ◌⊎◌, ◌++◌, ◌∷◌, ℕ, List, [], None, Some, length, vec_len, IfSome, IfErr, OnOk, IsNone};
 ghost use Rattle.etcs_text.specs.declared.command.Form.TheVariants as form;
 ghost use Rattle.etcs_stream.specs.declared.fault.RunFault.{RunFault};
+ghost use Rattle.etcs_stream.specs.Inputs.{IsLine};
 ghost use Rattle.etcs_stream.specs.Lines.{bad_place, line_bytes, strip_cr};
-ghost use Rattle.etcs_stream.specs.Readers.{Awaits, seen_bits};
-ghost use Rattle.etcs_stream.specs.Steps.{Advances, Halts, HexAdvances};
+ghost use Rattle.etcs_stream.specs.Readers.{Awaits, HasRoom, seen_bits};
+ghost use Rattle.etcs_stream.specs.Steps.{Advances, Halts};
 ghost use Rattle.etcs_stream.specs.Stands.{HexStands};
 ghost use Rattle.etcs_stream.specs.StandLaws.{hex_tells};
 
@@ -30,7 +31,8 @@ pub(crate) struct Lines {
 
 /// The characters before the first LF, and those behind it.
 fn split_line(text: &[u8]) -> Option<(&[u8], &[u8])>
-    ensures { IfSome result (λ p. text.now ≡ p.0.now ++ 10 ∷ p.1.now) }
+    ensures some { IfSome result (λ p. (text.now ≡ p.0.now ++ 10 ∷ p.1.now) × IsLine p.0.now) }
+    ensures none { IsNone result → IsLine text.now }
 {
     let at = text.iter().position(|character| *character == b'\n')?;
     Some((&text[..at], &text[at + 1..]))
@@ -61,6 +63,7 @@ fn take_line(
     ensures good { OnOk result (bad_place line.now ≡ None) }
     ensures waits { OnOk result (Awaits items.old.job.kind items.new.reader) }
     ensures told { OnOk result (items.new.told ≤ 1000000) }
+    ensures room { HasRoom items.old.told (seen_bits items.old.reader.stage) → OnOk result (HasRoom items.new.told (seen_bits items.new.reader.stage)) }
     ensures ok { OnOk result (Advances items.old.job.kind items.old.job.command (seen_bits items.old.reader.stage) (seen_bits items.new.reader.stage) items.old.told items.new.told (line_bytes line.now) text.old.items text.new.items) }
     ensures err { IfErr result (λ e. ((place : ℕ) × (bad_place line.now ≡ Some place) × (e ≡ RunFault.BadHex number place) × (text.new.items ≡ text.old.items)) ⊎ ((bad_place line.now ≡ None) × Halts items.old.job.kind items.old.job.command (seen_bits items.old.reader.stage) items.old.told (line_bytes line.now) text.old.items text.new.items e)) }
 {
@@ -122,6 +125,7 @@ impl Lines {
         ensures line { OnOk result (self.new.line ≡ self.old.line + 1) }
         ensures waits { OnOk result (Awaits self.old.items.job.kind self.new.items.reader) }
         ensures told { OnOk result (self.new.items.told ≤ 1000000) }
+        ensures room { HasRoom self.old.items.told (seen_bits self.old.items.reader.stage) → OnOk result (HasRoom self.new.items.told (seen_bits self.new.items.reader.stage)) }
         ensures ok { OnOk result (Advances self.old.items.job.kind self.old.items.job.command (seen_bits self.old.items.reader.stage) (seen_bits self.new.items.reader.stage) self.old.items.told self.new.items.told (line_bytes (strip_cr self.old.kept.items)) text.old.items text.new.items) }
         ensures err { IfErr result (λ e. ((place : ℕ) × (bad_place (strip_cr self.old.kept.items) ≡ Some place) × (e ≡ RunFault.BadHex (self.old.line + 1) place) × (text.new.items ≡ text.old.items)) ⊎ ((bad_place (strip_cr self.old.kept.items) ≡ None) × Halts self.old.items.job.kind self.old.items.job.command (seen_bits self.old.items.reader.stage) self.old.items.told (line_bytes (strip_cr self.old.kept.items)) text.old.items text.new.items e)) }
     {

@@ -1,4 +1,4 @@
-use Rattle.std.proofs.Common.{arith, length, ◌++◌, ◌≡◌, ◌+◌, List, ℕ, take, ap, sym, ◌∙◌, subst, inl, inr, Err, refl}
+use Rattle.std.proofs.Common.{arith, length, ◌++◌, ◌≡◌, ◌+◌, take, ap, sym, ◌∙◌, inl, inr, Err, refl}
 use Rattle.std.proofs.lemmas.Result.{err_from_is_err_and}
 use Rattle.etcs_stream.specs.declared.fault.RunFault.TheVariants.{Write}
 use Rattle.etcs_stream.specs.Engines.{Ends, Stops, StopsAtEnd, Prints}

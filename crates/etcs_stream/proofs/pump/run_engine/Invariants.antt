@@ -1,4 +1,4 @@
-use Rattle.std.proofs.Common.{◌≡◌, ◌+◌, ◌*◌, ◌≤◌, List, [], length, ℕ}
+use Rattle.std.proofs.Common.{◌≡◌, ◌+◌, ◌*◌, ◌≤◌, List, length, ℕ}
 use Rattle.std.specs.Io.KnownBytes.{Appends, Consumes}
 use Rattle.etcs_stream.proofs.pump.run_engine.Given as goal
 

@@ -6,3 +6,5 @@ pub mod Cutting
 pub mod BinSteps
 pub mod HexSteps
 pub mod Known
+pub mod Printing
+pub mod Shortness

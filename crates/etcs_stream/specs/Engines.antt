@@ -29,9 +29,13 @@ pub record Ends (job : Job) (given told : List ℕ) (tally : Tally) : Type 0 whe
   pub no_clash : tally.clashes ≡ 0
   pub complete : tally.complete ≡ true
 
--- memory was refused behind some items at the front of the input, with this text
+-- the text of the first items of an input that begins so
+abbrev pub Prints : Job → List ℕ → List ℕ → Type 0
+Prints job given told = (es : List EntryValue) × FirstItems job.from job.kind given es × ItemsText job.command 1 es told
+
+-- memory was refused behind such items
 abbrev pub Starves : Job → List ℕ → List ℕ → RunFault → Type 0
-Starves job given told f = (f ≡ Memory) × ((es : List EntryValue) × FirstItems job.from job.kind given es × ItemsText job.command 1 es told)
+Starves job given told f = (f ≡ Memory) × Prints job given told
 
 -- each input that begins with these bytes ends by the fault, behind the items of this text; or memory was refused
 abbrev pub Stops : Job → List ℕ → List ℕ → RunFault → Type 0
@@ -40,7 +44,3 @@ Stops job given told f = Starves job given told f ⊎ ((es : List EntryValue) ×
 -- the input of these bytes does
 abbrev pub StopsAtEnd : Job → List ℕ → List ℕ → RunFault → Type 0
 StopsAtEnd job given told f = Starves job given told f ⊎ ((es : List EntryValue) × (end : End) × EndsBy (length es) end f × ItemsText job.command 1 es told × ItemsOf job.from job.kind given es end)
-
--- this text is the front of that of the first items of an input that begins so
-abbrev pub Prints : Job → List ℕ → List ℕ → Type 0
-Prints job given told = (es : List EntryValue) × (text : List ℕ) × (behind : List ℕ) × FirstItems job.from job.kind given es × ItemsText job.command 1 es text × (text ≡ told ++ behind)

@@ -1,4 +1,4 @@
-use Rattle.std.proofs.Common.{◌≡◌, ◌∙◌, refl, [], ◌++◌, take, ap, subst}
+use Rattle.std.proofs.Common.{◌∙◌, refl, [], ◌++◌, take, subst}
 use Rattle.std.proofs.lemmas.Result.{err_from_is_err_and}
 use Rattle.etcs_stream.specs.declared.job.Job.{Job}
 use Rattle.etcs_stream.specs.Readers.{Awaits, seen_bits}

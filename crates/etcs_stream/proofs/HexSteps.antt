@@ -1,7 +1,10 @@
 -- Lines of hexadecimal, piece by piece.
-use Rattle.std.proofs.Common.{◌≡◌, ℕ, zero, suc, ◌+◌, ◌<◌, ◌≤◌, Bool, true, List, [], ◌∷◌, ◌++◌, length, Option, Some, None, refl, sym, ap, subst, ◌∙◌, arith, append_assoc, length-append, inl, inr}
-use Rattle.std.specs.Prelude.{◌⊎◌}
+use Rattle.std.proofs.Common.{◌≡◌, ℕ, ◌+◌, ◌<◌, ◌≤◌, Bool, true, List, [], ◌∷◌, ◌++◌, length, eqb, Some, None, Result, Ok, Err, refl, sym, ap, subst, ◌∙◌, arith, append_assoc, length-append, inl, inr}
+use Rattle.std.specs.Prelude.{◌⊎◌, OnOk, IfErr}
+use Rattle.std.proofs.lemmas.Bool.{eqb-true}
 use Rattle.std.proofs.lemmas.List.{append-nil}
+use Rattle.hex.specs.Hex.{decode_pairs}
+use Rattle.etcs_text.specs.declared.command.Command.{Command}
 use Rattle.std.proofs.lemmas.List.Elements.{All-append, All-nil}
 use Rattle.etcs_bits.specs.Bits.{bits}
 use Rattle.etcs_vars.specs.Reading.{Viable}
@@ -9,6 +12,7 @@ use Rattle.etcs_text.specs.declared.entry.Kind.{Kind}
 use Rattle.etcs_text.specs.declared.command.Form.{Form}
 use Rattle.etcs_text.specs.declared.command.Form.TheVariants.{Hex}
 use Rattle.etcs_text.specs.Entries.{EntryValue}
+use Rattle.etcs_stream.specs.declared.items.Items.{Items}
 use Rattle.etcs_stream.specs.declared.job.Job.{Job}
 use Rattle.etcs_stream.specs.declared.fault.RunFault.{RunFault}
 use Rattle.etcs_stream.specs.declared.fault.RunFault.TheVariants.{Truncated, BadHex, Memory}
@@ -17,10 +21,10 @@ use Rattle.etcs_stream.specs.Lines.{bad_place, strip_cr, line_bytes, lines_text,
 use Rattle.etcs_stream.specs.Readers.{ReaderValue, Awaits, HasRoom, seen_bits}
 use Rattle.etcs_stream.specs.Steps.{Advances, Halts}
 use Rattle.etcs_stream.specs.Stands.{ItemsStand, HexStands}
-use Rattle.etcs_stream.specs.Inputs.{End, ended, refused, truncated, bad_hex, endless, BitItems, BadItems, IsLine, IsBad, ItemsOf, SaysFirst, FirstItems}
+use Rattle.etcs_stream.specs.Inputs.{End, ended, refused, truncated, bad_hex, endless, BitItems, IsLine, IsBad, ItemsOf, SaysFirst, FirstItems}
 use Rattle.etcs_stream.specs.Engines.{Ends, Stops, StopsAtEnd}
 use Rattle.etcs_stream.proofs.ItemKinds.{Language}
-use Rattle.etcs_stream.proofs.Streams.{bits-append}
+use Rattle.etcs_stream.proofs.Streams.{bits-append, Advances-none}
 use Rattle.etcs_stream.proofs.Standing.{ItemsHalt, IsEarly, stand_more, stand_halts, stand_nothing, halt_stops, halt_ends, stand_ended, stand_truncated}
 use Rattle.etcs_stream.proofs.Cutting.{Says, AreGood-append, lines_text-append, lines_bytes-append, lines_few, first_lf, one_line, cut_text, says_behind, long_bad, long_bad_stripped}
 
@@ -47,11 +51,11 @@ hex_halts job lines given told behind fault form good is h =
     halt_stops job given (lines_bytes lines) told fault h
     (says_first job given (lines_bytes lines) form (inl (lines, behind, is, good, refl)))
     (λ more es end early k. (
-      let (bytes, says) = cut_text (behind ++ more) in
-      let text : lines_text lines ++ (behind ++ more) ≡ given ++ more = sym (append_assoc (lines_text lines) behind more) ∙ ap (λ (z : List ℕ). z ++ more) (sym is) in
-      let both : Says (given ++ more) (lines_bytes lines ++ bytes) = subst (λ z. Says z (lines_bytes lines ++ bytes)) text (says_behind lines good (behind ++ more) bytes says) in
-      let items : BitItems job.kind (bits (lines_bytes lines ++ bytes)) es end = subst (λ z. BitItems job.kind z es end) (sym (bits-append (lines_bytes lines) bytes)) (k (bits bytes)) in
-      items_of job (given ++ more) es end form (early_items job.kind (given ++ more) (lines_bytes lines ++ bytes) es end early both items)
+    let (bytes, says) = cut_text (behind ++ more) in
+    let text : lines_text lines ++ (behind ++ more) ≡ given ++ more = sym (append_assoc (lines_text lines) behind more) ∙ ap (λ (z : List ℕ). z ++ more) (sym is) in
+    let both : Says (given ++ more) (lines_bytes lines ++ bytes) = subst (λ z. Says z (lines_bytes lines ++ bytes)) text (says_behind lines good (behind ++ more) bytes says) in
+    let items : BitItems job.kind (bits (lines_bytes lines ++ bytes)) es end = subst (λ z. BitItems job.kind z es end) (sym (bits-append (lines_bytes lines) bytes)) (k (bits bytes)) in
+    items_of job (given ++ more) es end form (early_items job.kind (given ++ more) (lines_bytes lines ++ bytes) es end early both items)
     ))
 
 -- ---- A line more.
@@ -154,13 +158,13 @@ module _ (job : Job) (r : ReaderValue) (n : ℕ) (kept : List ℕ) (line : ℕ) 
       e,
       h.items.text,
       λ more. items_of job ((given ++ rest) ++ more) h.items.items (bad_hex (line + 1) place) h.form
-      (inr (
-        lines_bytes h.lines,
-        line + 1,
-        place,
-        bad_is h.lines kept (rest ++ more) ((given ++ rest) ++ more) given line place h.lines_good h.given_is h.line_is (append_assoc given rest more) (bad more),
-        (refl, refl, open_end job (seen_bits r.stage) (seen_bits r.stage) n (lines_bytes h.lines) (told ++ t) h.items h.waits.viable refl),
-      )),
+          (inr (
+            lines_bytes h.lines,
+            line + 1,
+            place,
+            bad_is h.lines kept (rest ++ more) ((given ++ rest) ++ more) given line place h.lines_good h.given_is h.line_is (append_assoc given rest more) (bad more),
+            (refl, refl, open_end job (seen_bits r.stage) (seen_bits r.stage) n (lines_bytes h.lines) (told ++ t) h.items h.waits.viable refl),
+          )),
     ),
   )
 
@@ -169,9 +173,9 @@ module _ (job : Job) (r : ReaderValue) (n : ℕ) (kept : List ℕ) (line : ℕ) 
   hex_bad_line part behind place fault l bad e =
       hex_bad (part ++ 10 ∷ behind) place fault e
       (λ more. (
-        let text : kept ++ ((part ++ 10 ∷ behind) ++ more) ≡ (kept ++ part) ++ 10 ∷ (behind ++ more) =
-        ap (λ (z : List ℕ). kept ++ z) (append_assoc part (10 ∷ behind) more) ∙ sym (append_assoc kept part (10 ∷ (behind ++ more))) in
-        (kept ++ part, behind ++ more, All-append (λ c. c ≡ 10 → ⊥) kept part h.is_line l, inl (text, bad))
+      let text : kept ++ ((part ++ 10 ∷ behind) ++ more) ≡ (kept ++ part) ++ 10 ∷ (behind ++ more) =
+      ap (λ (z : List ℕ). kept ++ z) (append_assoc part (10 ∷ behind) more) ∙ sym (append_assoc kept part (10 ∷ (behind ++ more))) in
+      (kept ++ part, behind ++ more, All-append (λ c. c ≡ 10 → ⊥) kept part h.is_line l, inl (text, bad))
       ))
 
   pub hex_long : (part behind : List ℕ) (fault : RunFault) → IsLine part → 4097 < length kept + length part → fault ≡ BadHex (line + 1) 4096 → IsOfEngine fault × Stops job (given ++ (part ++ 10 ∷ behind)) (told ++ t) fault
@@ -217,13 +221,13 @@ module _ (job : Job) (r : ReaderValue) (n : ℕ) (kept : List ℕ) (line : ℕ) 
       e,
       h.items.text,
       items_of job given h.items.items (bad_hex (line + 1) place) h.form
-      (inr (
-        lines_bytes h.lines,
-        line + 1,
-        place,
-        bad_is h.lines kept [] given given line place h.lines_good h.given_is h.line_is (sym (append-nil given)) (kept, [], h.is_line, inr (append-nil kept, bad)),
-        (refl, refl, open_end job (seen_bits r.stage) (seen_bits r.stage) n (lines_bytes h.lines) (told ++ t) h.items h.waits.viable refl),
-      )),
+          (inr (
+            lines_bytes h.lines,
+            line + 1,
+            place,
+            bad_is h.lines kept [] given given line place h.lines_good h.given_is h.line_is (sym (append-nil given)) (kept, [], h.is_line, inr (append-nil kept, bad)),
+            (refl, refl, open_end job (seen_bits r.stage) (seen_bits r.stage) n (lines_bytes h.lines) (told ++ t) h.items h.waits.viable refl),
+          )),
     ),
   )
 
@@ -234,6 +238,39 @@ module _ (job : Job) (r : ReaderValue) (n : ℕ) (kept : List ℕ) (line : ℕ) 
       (stand_halts job (seen_bits r.stage) n (lines_bytes h.lines) told t h.items (line_bytes kept) t' fault halts)
       (says_first job given (lines_bytes h.lines ++ line_bytes kept) h.form (inr text))
       (λ es end early k. items_of job given es end h.form (inl (lines_bytes h.lines ++ line_bytes kept, text, k)))
+
+  -- ---- What the code answers.
+
+  -- a part of a line could not be kept
+  abbrev pub NotKept : List ℕ → RunFault → Type 0
+  NotKept part fault = (fault ≡ Memory) ⊎ ((4097 < length kept + length part) × (fault ≡ BadHex (line + 1) 4096))
+
+  pub hex_keep_stops : (part behind : List ℕ) (fault : RunFault) → IsLine part → NotKept part fault → IsOfEngine fault × Stops job (given ++ (part ++ 10 ∷ behind)) (told ++ t) fault
+  hex_keep_stops part behind fault l (inl e) = hex_starves (part ++ 10 ∷ behind) fault e
+  hex_keep_stops part behind fault l (inr p) = hex_long part behind fault l p.0 p.1
+
+  -- the last part, which has no LF
+  pub hex_part_stops : (part : List ℕ) (answer : Result Unit RunFault) → IsLine part → IfErr answer (λ e. NotKept part e) → IfErr answer (λ e. IsOfEngine e × Stops job (given ++ part) (told ++ t) e)
+  hex_part_stops part (Ok u) l h' = tt
+  hex_part_stops part (Err e) l (inl m) = hex_starves part e m
+  hex_part_stops part (Err e) l (inr p) = hex_long_open part e l p.0 p.1
+
+  pub hex_part_kept : (part whole : List ℕ) (answer : Result Unit RunFault) → IsLine part → OnOk answer (whole ≡ kept ++ part) → OnOk answer (HexStands job r n whole line (given ++ part) (told ++ t))
+  hex_part_kept part whole (Ok u) l w = hex_part part whole w l
+  hex_part_kept part whole (Err e) l w = tt
+
+  -- a line is bad, or its items halted
+  pub hex_line_stops : (part whole behind t' : List ℕ) (fault : RunFault) → IsLine part → whole ≡ kept ++ part → ((place : ℕ) × (bad_place (strip_cr whole) ≡ Some place) × (fault ≡ BadHex (line + 1) place) × (t' ≡ t)) ⊎ ((bad_place (strip_cr whole) ≡ None) × Halts job.kind job.command (seen_bits r.stage) n (line_bytes (strip_cr whole)) t t' fault) → IsOfEngine fault × Stops job (given ++ (part ++ 10 ∷ behind)) (told ++ t') fault
+  hex_line_stops part whole behind t' fault l w (inl (place, bad, e, same)) =
+      let bad' : bad_place (strip_cr (kept ++ part)) ≡ Some place = subst (λ z. bad_place (strip_cr z) ≡ Some place) w bad in
+      subst (λ z. IsOfEngine fault × Stops job (given ++ (part ++ 10 ∷ behind)) (told ++ z) fault) (sym same) (hex_bad_line part behind place fault l bad' e)
+  hex_line_stops part whole behind t' fault l w (inr (good, halts)) = hex_line_halts part whole behind t' fault w good halts
+
+  -- the last line is
+  pub hex_last_stops : (t' : List ℕ) (fault : RunFault) → ((place : ℕ) × (bad_place kept ≡ Some place) × (fault ≡ BadHex (line + 1) place) × (t' ≡ t)) ⊎ ((bad_place kept ≡ None) × Halts job.kind job.command (seen_bits r.stage) n (line_bytes kept) t t' fault) → IsOfEngine fault × StopsAtEnd job given (told ++ t') fault
+  hex_last_stops t' fault (inl (place, bad, e, same)) =
+      subst (λ z. IsOfEngine fault × StopsAtEnd job given (told ++ z) fault) (sym same) (hex_last_bad place fault bad e)
+  hex_last_stops t' fault (inr (good, halts)) = hex_last_halts t' fault good halts
 
   module _ (r' : ReaderValue) (n' : ℕ) (t' : List ℕ) (good : bad_place kept ≡ None) (waits : Awaits job.kind r') (few : n' ≤ 1000000) (room : HasRoom n (seen_bits r.stage) → HasRoom n' (seen_bits r'.stage)) (more : Advances job.kind job.command (seen_bits r.stage) (seen_bits r'.stage) n n' (line_bytes kept) t t') where
     last_items : ItemsStand job (seen_bits r'.stage) n' (lines_bytes h.lines ++ line_bytes kept) (told ++ t')
@@ -261,3 +298,42 @@ module _ (job : Job) (r : ReaderValue) (n : ℕ) (kept : List ℕ) (line : ℕ) 
             items_of job given last_items.items (truncated (length seen)) h.form (inl (lines_bytes h.lines ++ line_bytes kept, last_text good, stand_truncated job seen n' (lines_bytes h.lines ++ line_bytes kept) (told ++ t') last_items some waits.viable)),
           ),
         )
+
+-- nothing has come
+pub hex_nothing : (job : Job) (r : ReaderValue) (n : ℕ) (kept : List ℕ) → job.from ≡ Hex → Awaits job.kind r → seen_bits r.stage ≡ [] → n ≡ 0 → kept ≡ [] → HexStands job r n kept 0 [] []
+hex_nothing job r n kept form waits seen count e = record {
+  form = form;
+  waits = waits;
+  lines = [];
+  given_is = sym e;
+  lines_good = tt;
+  is_line = subst IsLine (sym e) (All-nil (λ c. c ≡ 10 → ⊥));
+  line_is = refl;
+  items = stand_nothing job (seen_bits r.stage) n seen count waits.unfinished;
+}
+
+-- an empty line says nothing
+pub Advances-empty : (kind : Kind) (c : Command) (seen : List Bool) (items : ℕ) (text line : List ℕ) → eqb (length line) 0 ≡ true → Advances kind c seen seen items items (line_bytes line) text text
+unfolding decode_pairs
+Advances-empty kind c seen items text [] h = Advances-none kind c seen items text
+Advances-empty kind c seen items text (x ∷ xs) h = absurd (omega (arith, eqb-true (length (x ∷ xs)) 0 h))
+
+-- no text was told since
+pub hex_start : (job : Job) (r : ReaderValue) (n : ℕ) (kept : List ℕ) (line : ℕ) (given told t : List ℕ) → t ≡ [] → HexStands job r n kept line given told → HexStands job r n kept line given (told ++ t)
+hex_start job r n kept line given told t e h = subst (λ z. HexStands job r n kept line given z) (sym (ap (λ (z : List ℕ). told ++ z) e ∙ append-nil told)) h
+
+-- the state of the items is the same
+pub hex_same : (i i' : Items) (kept : List ℕ) (line line' : ℕ) (given told : List ℕ) → i' ≡ i → line' ≡ line → HexStands i.job i.reader i.told kept line given told → HexStands i'.job i'.reader i'.told kept line' given told
+hex_same i i' kept line line' given told e m h =
+    subst (λ (k : Items). HexStands k.job k.reader k.told kept line' given told) (sym e) (subst (λ k. HexStands i.job i.reader i.told kept k given told) (sym m) h)
+
+-- one more line is taken off
+pub cut_line : (piece front rest line behind : List ℕ) → piece ≡ front ++ rest → rest ≡ line ++ 10 ∷ behind → piece ≡ (front ++ (line ++ 10 ∷ [])) ++ behind
+cut_line piece front rest line behind h e =
+    h
+    ∙ ap (λ (z : List ℕ). front ++ z) (e ∙ sym (append_assoc line (10 ∷ []) behind))
+    ∙ sym (append_assoc front (line ++ 10 ∷ []) behind)
+
+-- all of the input so far
+pub cut_given : (given piece front rest : List ℕ) → piece ≡ front ++ rest → (given ++ front) ++ rest ≡ given ++ piece
+cut_given given piece front rest e = append_assoc given front rest ∙ ap (λ (z : List ℕ). given ++ z) (sym e)

@@ -1,5 +1,5 @@
 -- The items of a kind: their languages, and what a feed of their reader answers.
-use Rattle.std.proofs.Common.{◌≡◌, ℕ, Bool, List, length, Result, Ok, Err, ap, refl}
+use Rattle.std.proofs.Common.{◌≡◌, Bool, List, Result, Ok, Err, ap, refl}
 use Rattle.etcs_vars.specs.declared.feed.Fed.{Fed}
 use Rattle.etcs_vars.specs.declared.feed.Fed.TheVariants.{More, Done}
 use Rattle.etcs_vars.specs.declared.feed.ReadFault.{ReadFault}
@@ -7,8 +7,6 @@ use Rattle.etcs_vars.specs.declared.feed.ReadFault.TheVariants.{Refused, Ended, 
 use Rattle.etcs_vars.specs.Reading.{Reading, NoneYet, readings_of}
 use Rattle.etcs_vars.proofs.Languages.{Same, same_back}
 use Rattle.etcs_vars.proofs.Walk.{Regular}
-use Rattle.etcs_telegram.specs.declared.size.Size.{Size}
-use Rattle.etcs_telegram.specs.declared.size.Size.TheVariants as size
 use Rattle.etcs_telegram.specs.Telegrams.{TelegramLanguage, TelegramParts, ReadsAs, telegram_value}
 use Rattle.etcs_telegram.specs.Readers as telegram
 use Rattle.etcs_telegram.proofs.SameReadings.{viable_along, owner_along}

@@ -7,6 +7,7 @@ pub mod BinSteps
 pub mod HexSteps
 pub mod Known
 pub mod Printing
+pub mod Shortness
 pub mod Endings
 pub mod OneLines
 pub mod OneItems

@@ -1,5 +1,5 @@
 -- What stands of an input behind each piece, and how its items end.
-use Rattle.std.proofs.Common.{◌≡◌, ℕ, ◌+◌, ◌<◌, ◌≤◌, Bool, List, [], ◌∷◌, ◌++◌, length, refl, sym, ap, subst, ◌∙◌, arith, append_assoc, length-append, inl, inr}
+use Rattle.std.proofs.Common.{◌≡◌, ℕ, ◌+◌, ◌<◌, ◌≤◌, Bool, List, [], ◌++◌, length, refl, sym, ap, subst, ◌∙◌, arith, append_assoc, length-append, inl, inr}
 use Rattle.std.specs.Prelude.{◌⊎◌}
 use Rattle.std.proofs.lemmas.List.{append-nil}
 use Rattle.etcs_bits.specs.Bits.{bits}
@@ -9,8 +9,6 @@ use Rattle.etcs_vars.specs.Reading.{IsOutcome, NoneYet, Viable}
 use Rattle.etcs_vars.specs.Walking.{Refuses}
 use Rattle.etcs_vars.proofs.Outcomes.{none_refused, refuses_longer}
 use Rattle.etcs_text.specs.declared.entry.Kind.{Kind}
-use Rattle.etcs_text.specs.declared.command.Form.{Form}
-use Rattle.etcs_text.specs.declared.command.Form.TheVariants.{Hex, Bin}
 use Rattle.etcs_text.specs.Entries.{EntryValue, EntryReads}
 use Rattle.etcs_text.specs.Commands.{ItemsText}
 use Rattle.etcs_stream.specs.declared.job.Job.{Job}
@@ -18,11 +16,11 @@ use Rattle.etcs_stream.specs.declared.fault.RunFault.{RunFault}
 use Rattle.etcs_stream.specs.declared.fault.RunFault.TheVariants.{Refused, Truncated, BadHex, Read, Write, Endless, Memory}
 use Rattle.etcs_stream.specs.Faults.{IsOfEngine}
 use Rattle.etcs_stream.specs.Streams.{AreSpelled}
-use Rattle.etcs_stream.specs.Readers.{Awaits, HasRoom}
+use Rattle.etcs_stream.specs.Readers.{HasRoom}
 use Rattle.etcs_stream.specs.Steps.{Advances, Halts, HaltsBy}
 use Rattle.etcs_stream.specs.Stands.{ItemsStand}
 use Rattle.etcs_stream.specs.Inputs.{End, ended, refused, truncated, bad_hex, endless, BitItems, FirstItems, SaysFirst, ItemsOf}
-use Rattle.etcs_stream.specs.Engines.{EndsBy, Starves, Stops, StopsAtEnd}
+use Rattle.etcs_stream.specs.Engines.{EndsBy, Stops, StopsAtEnd}
 use Rattle.etcs_stream.proofs.ItemKinds.{Language, kind_regular}
 use Rattle.etcs_stream.proofs.Streams.{bits-append, AreSpelled-append, ItemsText-append}
 
@@ -125,36 +123,42 @@ module _ (job : Job) (bytes told : List ℕ) where
 
   -- memory was refused, or the items end early
   pub ends_early : (fault : RunFault) (h : ItemsHalt job bytes told fault) → IsOfEngine fault × ((fault ≡ Memory) ⊎ EndsEarly job bytes h.items fault)
-  ends_early (Refused item i x) h = (tt, inr (record {
-    end = refused i x;
-    early = tt;
-    by = ap (λ n. Refused n i x) h.why.0;
-    are = λ more. record {
-      spelt = h.spelt;
-      rest = h.rest ++ more;
-      are_spelled = h.are_spelled;
-      bits_are = longer (Refused item i x) h more;
-      few = h.few;
-      ends = (h.why.1, refused_longer job.kind h.rest more i x h.why.2);
-    };
-  }))
+  ends_early (Refused item i x) h = (
+    tt,
+    inr (record {
+      end = refused i x;
+      early = tt;
+      by = ap (λ n. Refused n i x) h.why.0;
+      are = λ more. record {
+        spelt = h.spelt;
+        rest = h.rest ++ more;
+        are_spelled = h.are_spelled;
+        bits_are = longer (Refused item i x) h more;
+        few = h.few;
+        ends = (h.why.1, refused_longer job.kind h.rest more i x h.why.2);
+      };
+    }),
+  )
   ends_early (Truncated item k) h = absurd h.why
   ends_early (BadHex line place) h = absurd h.why
   ends_early Read h = absurd h.why
   ends_early (Write sent) h = absurd h.why
-  ends_early Endless h = (tt, inr (record {
-    end = endless;
-    early = tt;
-    by = refl;
-    are = λ more. record {
-      spelt = h.spelt;
-      rest = h.rest ++ more;
-      are_spelled = h.are_spelled;
-      bits_are = longer Endless h more;
-      few = h.few;
-      ends = (h.why.0, omega (arith, h.why.1, length-append h.rest more));
-    };
-  }))
+  ends_early Endless h = (
+    tt,
+    inr (record {
+      end = endless;
+      early = tt;
+      by = refl;
+      are = λ more. record {
+        spelt = h.spelt;
+        rest = h.rest ++ more;
+        are_spelled = h.are_spelled;
+        bits_are = longer Endless h more;
+        few = h.few;
+        ends = (h.why.0, omega (arith, h.why.1, length-append h.rest more));
+      };
+    }),
+  )
   ends_early Memory h = (tt, inl refl)
 
   pub halt_first : (fault : RunFault) (given : List ℕ) (h : ItemsHalt job bytes told fault) → SaysFirst job.from given bytes → FirstItems job.from job.kind given h.items
@@ -163,21 +167,25 @@ module _ (job : Job) (bytes told : List ℕ) where
 -- from the items of the bytes to those of the input that says them
 pub halt_stops : (job : Job) (given bytes told : List ℕ) (fault : RunFault) → ItemsHalt job bytes told fault → SaysFirst job.from given bytes → ((more : List ℕ) (es : List EntryValue) (end : End) → IsEarly end → ((b : List Bool) → BitItems job.kind (bits bytes ++ b) es end) → ItemsOf job.from job.kind (given ++ more) es end) → IsOfEngine fault × Stops job given told fault
 halt_stops job given bytes told fault h says on =
-    let both = ends_early job bytes told fault h in
-    (both.0, elim both.1 [
-      | inl m ↦ inl (m, (h.items, halt_first job bytes told fault given h says, h.text))
-      | inr e ↦ inr (h.items, e.end, e.by, h.text, λ more. on more h.items e.end e.early e.are)
-    ])
+    let both = ends_early job bytes told fault h in (
+      both.0,
+      elim both.1 [
+        | inl m ↦ inl (m, (h.items, halt_first job bytes told fault given h says, h.text))
+        | inr e ↦ inr (h.items, e.end, e.by, h.text, λ more. on more h.items e.end e.early e.are)
+      ],
+    )
 
 pub halt_ends : (job : Job) (given bytes told : List ℕ) (fault : RunFault) → ItemsHalt job bytes told fault → SaysFirst job.from given bytes → ((es : List EntryValue) (end : End) → IsEarly end → BitItems job.kind (bits bytes) es end → ItemsOf job.from job.kind given es end) → IsOfEngine fault × StopsAtEnd job given told fault
 halt_ends job given bytes told fault h says on =
-    let both = ends_early job bytes told fault h in
-    (both.0, elim both.1 [
-      | inl m ↦ inl (m, (h.items, halt_first job bytes told fault given h says, h.text))
-      | inr e ↦
-          let here : BitItems job.kind (bits bytes) h.items e.end = subst (λ z. BitItems job.kind z h.items e.end) (append-nil (bits bytes)) (e.are []) in
-          inr (h.items, e.end, e.by, h.text, on h.items e.end e.early here)
-    ])
+    let both = ends_early job bytes told fault h in (
+      both.0,
+      elim both.1 [
+        | inl m ↦ inl (m, (h.items, halt_first job bytes told fault given h says, h.text))
+        | inr e ↦
+            let here : BitItems job.kind (bits bytes) h.items e.end = subst (λ z. BitItems job.kind z h.items e.end) (append-nil (bits bytes)) (e.are []) in
+            inr (h.items, e.end, e.by, h.text, on h.items e.end e.early here)
+      ],
+    )
 
 -- ---- The input ends here.
 

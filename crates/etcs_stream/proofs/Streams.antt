@@ -21,7 +21,7 @@ use Rattle.etcs_text.specs.declared.command.Command.{Command}
 use Rattle.etcs_text.specs.Entries.{EntryValue, EntryReads, size_of}
 use Rattle.etcs_text.specs.Commands.{ItemText, ItemsText}
 use Rattle.etcs_stream.specs.declared.fault.RunFault.{RunFault}
-use Rattle.etcs_stream.specs.Readers.{ReaderValue, Stage, Feeds, Awaits, HasRoom, seen_bits, reading, finished}
+use Rattle.etcs_stream.specs.Readers.{ReaderValue, Stage, Feeds, Awaits, seen_bits, reading}
 use Rattle.etcs_stream.specs.Streams.{AreSpelled}
 use Rattle.etcs_stream.specs.Steps.{Advances, Halts, HaltsBy}
 use Rattle.etcs_stream.proofs.ItemKinds.{Language, same_readings}

@@ -1,9 +1,8 @@
 -- What was told of an input's front is the text of the items that are whole there.
-use Rattle.std.proofs.Common.{◌≡◌, ℕ, ◌≤◌, List, length, refl, sym, subst, arith}
+use Rattle.std.proofs.Common.{ℕ, ◌≤◌, List, length, refl, sym, subst, arith}
 use Rattle.etcs_text.specs.declared.command.Form.{Form}
-use Rattle.etcs_text.specs.declared.command.Form.TheVariants.{Hex, Bin}
 use Rattle.etcs_stream.specs.declared.job.Job.{Job}
-use Rattle.etcs_stream.specs.Inputs.{SaysSoFar, WholeItems}
+use Rattle.etcs_stream.specs.Inputs.{SaysSoFar}
 use Rattle.etcs_stream.specs.Lines.{lines_bytes}
 use Rattle.etcs_stream.specs.Readers.{ReaderValue, seen_bits}
 use Rattle.etcs_stream.specs.Engines.{Tells}

@@ -26,6 +26,12 @@ all_digits line h k d lt =
     let far : length line ≤ position_or_len (λ c. not (is_hex_digit c)) line = not_below _ _ none.0 in
     sym (not-not (is_hex_digit (get_or line k d))) ∙ prefix_len_passes (λ c. not (not (is_hex_digit c))) line k d (omega arith)
 
+pub good_digits : (line : List ℕ) → bad_place line ≡ None → AllPass is_hex_digit line
+good_digits line h =
+    let short = cond_none (ltb 4096 (length line)) 4096 _ h in
+    let even = cond_none (eqb (length line % 2) 1) (length line) _ short.1 in
+    all_digits line even.1
+
 pub good_decodes : (line : List ℕ) → bad_place line ≡ None → (length line % 2 ≡ 0) × ((bytes : List ℕ) × (decode_of line ≡ Ok bytes))
 good_decodes line h =
     let short = cond_none (ltb 4096 (length line)) 4096 _ h in

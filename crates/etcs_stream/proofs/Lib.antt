@@ -1,5 +1,13 @@
 pub mod HexDigits
+pub mod ItemKinds
 pub mod Streams
-pub mod Splits
+pub mod Standing
+pub mod Cutting
+pub mod BinSteps
+pub mod HexSteps
 pub mod Known
-pub mod Runs
+pub mod Printing
+pub mod Shortness
+pub mod Endings
+pub mod OneLines
+pub mod OneItems

@@ -1,22 +1,30 @@
--- Streams of telegrams, piece by piece.
-use Rattle.std.proofs.Common.{◌≡◌, ℕ, zero, suc, ◌+◌, ◌-◌, ◌*◌, ◌<◌, ◌≤◌, Bool, List, [], ◌∷◌, ◌++◌, length, take, drop, Result, Ok, add-zero, refl, sym, ap, subst, ◌∙◌, arith, append_assoc, length-append}
+-- Streams of items, piece by piece.
+use Rattle.std.proofs.Common.{◌≡◌, ℕ, zero, suc, ◌+◌, ◌-◌, ◌*◌, ◌<◌, ◌≤◌, Bool, List, [], ◌∷◌, ◌++◌, length, take, drop, Result, Ok, Err, add-zero, refl, sym, ap, subst, ◌∙◌, arith, append_assoc, length-append}
 use Rattle.std.proofs.Math.Seq.{take-append-add}
 use Rattle.std.proofs.lemmas.List.{append-nil, length-take-le, take-append-drop, take-append-le, take_all, take_at, take_rest}
 use Rattle.etcs_bits.specs.Bits.{num, bits}
 use Rattle.etcs_bits.proofs.Positions.{length-bits}
+use Rattle.etcs_vars.specs.declared.var.Var.{Var}
 use Rattle.etcs_vars.specs.declared.feed.Fed.{Fed}
 use Rattle.etcs_vars.specs.declared.feed.Fed.TheVariants.{More, Done}
 use Rattle.etcs_vars.specs.declared.feed.ReadFault.{ReadFault}
-use Rattle.etcs_vars.specs.Reading.{spelled, NoneYet, readings_of}
+use Rattle.etcs_vars.specs.declared.feed.ReadFault.TheVariants.{Refused}
+use Rattle.etcs_vars.specs.Reading.{spelled, NoneYet, Viable}
+use Rattle.etcs_vars.specs.Walking.{Refuses}
 use Rattle.etcs_telegram.specs.declared.size.Size.{Size}
-use Rattle.etcs_telegram.specs.Telegrams.{TelegramValue, telegram_value, ReadsAs, user_bits, pad_bits}
 use Rattle.etcs_telegram.specs.declared.size.Size.TheVariants.{Short, Long}
+use Rattle.etcs_telegram.specs.Telegrams.{user_bits, pad_bits}
 use Rattle.etcs_telegram.proofs.Spellings.{whole_length}
-use Rattle.etcs_telegram.specs.Readers.{ReaderValue, Stage, Feeds, reading}
-use Rattle.etcs_text.specs.Telegrams.{show_text}
-use Rattle.etcs_stream.specs.Items.{run_text}
+use Rattle.etcs_telegram.proofs.Viewing.{some_telegram}
+use Rattle.etcs_text.specs.declared.entry.Kind.{Kind}
+use Rattle.etcs_text.specs.declared.command.Command.{Command}
+use Rattle.etcs_text.specs.Entries.{EntryValue, EntryReads, size_of}
+use Rattle.etcs_text.specs.Commands.{ItemText, ItemsText}
+use Rattle.etcs_stream.specs.declared.fault.RunFault.{RunFault}
+use Rattle.etcs_stream.specs.Readers.{ReaderValue, Stage, Feeds, Awaits, seen_bits, reading}
 use Rattle.etcs_stream.specs.Streams.{AreSpelled}
-use Rattle.etcs_stream.specs.Steps.{Advances, Awaits, IsFinished, seen_bits, told_text}
+use Rattle.etcs_stream.specs.Steps.{Advances, Halts, HaltsBy}
+use Rattle.etcs_stream.proofs.ItemKinds.{Language, same_readings}
 
 pub bits-append : (xs ys : List ℕ) → bits (xs ++ ys) ≡ bits xs ++ bits ys
 unfolding bits
@@ -24,65 +32,112 @@ bits-append [] ys = refl
 bits-append (x ∷ xs) ys = ap (λ (t : List Bool). num 8 x ++ t) (bits-append xs ys) ∙ sym (append_assoc (num 8 x) (bits xs) (bits ys))
 
 -- the bits of the first k bytes
-pub take-bits : (k : ℕ) (bytes : List ℕ) → k ≤ length bytes → take (8 * k) (bits bytes) ≡ bits (take k bytes)
+take-bits : (k : ℕ) (bytes : List ℕ) → k ≤ length bytes → take (8 * k) (bits bytes) ≡ bits (take k bytes)
 take-bits k bytes h =
     ap (λ (z : List Bool). take (8 * k) z) (ap bits (sym (take-append-drop k bytes)) ∙ bits-append (take k bytes) (drop k bytes))
     ∙ take_at (bits (take k bytes)) (bits (drop k bytes)) (8 * k) (length-bits (take k bytes) ∙ ap (λ n. 8 * n) (length-take-le k bytes h))
 
-pub AreSpelled-append : (size : Size) (ts us : List TelegramValue) (a b : List Bool) → AreSpelled size ts a → AreSpelled size us b → AreSpelled size (ts ++ us) (a ++ b)
-AreSpelled-append size [] us a b h g = subst (AreSpelled size us) (sym (ap (λ (t : List Bool). t ++ b) h)) g
-AreSpelled-append size (t ∷ ts) us a b h g =
-    (h.0, h.1 ++ b, h.2, ap (λ (z : List Bool). z ++ b) h.3 ∙ append_assoc (spelled h.0) h.1 b, AreSpelled-append size ts us h.1 b h.4 g)
+pub AreSpelled-append : (kind : Kind) (ts us : List EntryValue) (a b : List Bool) → AreSpelled kind ts a → AreSpelled kind us b → AreSpelled kind (ts ++ us) (a ++ b)
+AreSpelled-append kind [] us a b h g = subst (AreSpelled kind us) (sym (ap (λ (t : List Bool). t ++ b) h)) g
+AreSpelled-append kind (t ∷ ts) us a b h g =
+    (h.0, h.1 ++ b, h.2, ap (λ (z : List Bool). z ++ b) h.3 ∙ append_assoc (spelled h.0) h.1 b, AreSpelled-append kind ts us h.1 b h.4 g)
 
-pub run_text-append : (item : ℕ) (ts us : List TelegramValue) → run_text item (ts ++ us) ≡ run_text item ts ++ run_text (item + length ts) us
-run_text-append item [] us = ap (λ n. run_text n us) (sym (add-zero item))
-run_text-append item (t ∷ ts) us =
-    let e : item + 1 + length ts ≡ item + length (t ∷ ts) = omega arith in
-    ap (λ (z : List ℕ). show_text t item ++ z) (run_text-append (item + 1) ts us ∙ ap (λ n. run_text (item + 1) ts ++ run_text n us) e) ∙ sym (append_assoc (show_text t item) _ _)
+pub ItemsText-append : (c : Command) (item : ℕ) (ds es : List EntryValue) (t u : List ℕ) → ItemsText c item ds t → ItemsText c (item + length ds) es u → ItemsText c item (ds ++ es) (t ++ u)
+ItemsText-append c item [] es t u h g =
+    subst (λ (z : List ℕ). ItemsText c item es (z ++ u)) (sym h) (subst (λ n. ItemsText c n es u) (add-zero item) g)
+ItemsText-append c item (d ∷ ds) es t u h g =
+    let e : item + length (d ∷ ds) ≡ item + 1 + length ds = omega arith in
+    (h.0, h.1 ++ u, ap (λ (z : List ℕ). z ++ u) h.2 ∙ append_assoc h.0 h.1 u, h.3, ItemsText-append c (item + 1) ds es h.1 u h.4 (subst (λ n. ItemsText c n es u) e g))
 
 some_bits : (size : Size) → 0 < user_bits size + pad_bits size
 some_bits Short = omega arith
 some_bits Long = omega arith
 
--- no telegram is spelled by no bits
-pub nothing_is_spelled : (size : Size) → NoneYet (readings_of (ReadsAs size)) []
-nothing_is_spelled size zero h (r, l, e) = absurd (omega (arith, whole_length size r l, ap (λ (b : List Bool). length b) e, some_bits size))
-nothing_is_spelled size (suc k) h w = absurd (omega arith)
+-- no item is spelled by no bits
+pub nothing_is_spelled : (kind : Kind) → NoneYet (Language kind) []
+nothing_is_spelled kind zero h (r, l, e) =
+    absurd (omega (arith, whole_length (size_of kind) r ((same_readings kind r).1 l), ap (λ (b : List Bool). length b) e, some_bits (size_of kind)))
+nothing_is_spelled kind (suc k) h w = absurd (omega arith)
 
-pub Advances-none : (size : Size) (seen : List Bool) (items : ℕ) (text : List ℕ) → Advances size seen seen items items [] text text
-unfolding bits
-Advances-none size seen items text = record { told = []; spelt = []; are_spelled = refl; bits_are = append-nil seen; items_are = omega arith; text_is = sym (append-nil text) }
-
-pub Advances-then : (size : Size) (a b c : List Bool) (i j k : ℕ) (xs ys s t u : List ℕ) → Advances size a b i j xs s t → Advances size b c j k ys t u → Advances size a c i k (xs ++ ys) s u
-Advances-then size a b c i j k xs ys s t u h g =
-    record {
-      told = h.told ++ g.told;
-      spelt = h.spelt ++ g.spelt;
-      are_spelled = AreSpelled-append size h.told g.told h.spelt g.spelt h.are_spelled g.are_spelled;
-      bits_are =
-          ap (λ (z : List Bool). a ++ z) (bits-append xs ys)
-          ∙ sym (append_assoc a (bits xs) (bits ys))
-          ∙ ap (λ (z : List Bool). z ++ bits ys) h.bits_are
-          ∙ append_assoc h.spelt b (bits ys)
-          ∙ ap (λ (z : List Bool). h.spelt ++ z) g.bits_are
-          ∙ sym (append_assoc h.spelt g.spelt c);
-      items_are = omega (arith, h.items_are, g.items_are, length-append h.told g.told);
-      text_is =
-          g.text_is
-          ∙ ap (λ (z : List ℕ). z ++ run_text (j + 1) g.told) h.text_is
-          ∙ append_assoc s (run_text (i + 1) h.told) (run_text (j + 1) g.told)
-          ∙ ap (λ (z : List ℕ). s ++ z) (ap (λ n. run_text (i + 1) h.told ++ run_text n g.told) (let e : j + 1 ≡ i + 1 + length h.told = omega (arith, h.items_are) in e) ∙ sym (run_text-append (i + 1) h.told g.told));
-    }
+-- and there is one
+begun : (kind : Kind) → Viable (Language kind) []
+begun kind = let (r, l) = some_telegram (size_of kind) in (r, spelled r, (same_readings kind r).0 l, refl)
 
 -- a reader that has seen nothing
-pub Awaits-fresh : (size : Size) (r : ReaderValue) → r ≡ record { size = size; stage = reading [] } → Awaits size r
-Awaits-fresh size r h =
-    let fresh : ReaderValue = record { size = size; stage = reading [] } in
-    let a : Awaits size fresh = record { size_is = refl; stage_is = refl; unfinished = nothing_is_spelled size } in
-    subst (Awaits size) (sym h) a
+pub Awaits-fresh : (kind : Kind) (r : ReaderValue) → r ≡ record { kind = kind; stage = reading [] } → Awaits kind r
+Awaits-fresh kind r h =
+    let fresh : ReaderValue = record { kind = kind; stage = reading [] } in
+    let a : Awaits kind fresh = record { kind_is = refl; stage_is = refl; unfinished = nothing_is_spelled kind; viable = begun kind } in
+    subst (Awaits kind) (sym h) a
 
-pub Advances-size : {size size' : Size} {a b : List Bool} {i j : ℕ} {bytes t u : List ℕ} → size ≡ size' → Advances size a b i j bytes t u → Advances size' a b i j bytes t u
-Advances-size {a = a} {b = b} {i = i} {j = j} {bytes = bytes} {t = t} {u = u} e h = subst (λ z. Advances z a b i j bytes t u) e h
+-- ---- one piece behind the other
+
+pub Advances-none : (kind : Kind) (c : Command) (seen : List Bool) (items : ℕ) (text : List ℕ) → Advances kind c seen seen items items [] text text
+unfolding bits
+Advances-none kind c seen items text = record { told = []; spelt = []; added = []; are_spelled = refl; bits_are = append-nil seen; items_are = omega arith; added_is = refl; text_is = sym (append-nil text) }
+
+numbered : (c : Command) (i j n : ℕ) (es : List EntryValue) (t : List ℕ) → j ≡ i + n → ItemsText c (j + 1) es t → ItemsText c (i + 1 + n) es t
+numbered c i j n es t e h = subst (λ k. ItemsText c k es t) (let f : j + 1 ≡ i + 1 + n = omega arith in f) h
+
+behind_bits : (a b c p q : List Bool) (xs ys : List ℕ) → a ++ bits xs ≡ p ++ b → b ++ bits ys ≡ q ++ c → a ++ bits (xs ++ ys) ≡ (p ++ q) ++ c
+behind_bits a b c p q xs ys h g =
+    ap (λ (z : List Bool). a ++ z) (bits-append xs ys)
+    ∙ sym (append_assoc a (bits xs) (bits ys))
+    ∙ ap (λ (z : List Bool). z ++ bits ys) h
+    ∙ append_assoc p b (bits ys)
+    ∙ ap (λ (z : List Bool). p ++ z) g
+    ∙ sym (append_assoc p q c)
+
+behind_text : (s t u x y : List ℕ) → t ≡ s ++ x → u ≡ t ++ y → u ≡ s ++ (x ++ y)
+behind_text s t u x y h g = g ∙ ap (λ (z : List ℕ). z ++ y) h ∙ append_assoc s x y
+
+module _ (kind : Kind) (command : Command) (a b : List Bool) (i j : ℕ) (xs ys s t u : List ℕ) (h : Advances kind command a b i j xs s t) where
+  pub Advances-then : (c : List Bool) (k : ℕ) → Advances kind command b c j k ys t u → Advances kind command a c i k (xs ++ ys) s u
+  Advances-then c k g = record {
+    told = h.told ++ g.told;
+    spelt = h.spelt ++ g.spelt;
+    added = h.added ++ g.added;
+    are_spelled = AreSpelled-append kind h.told g.told h.spelt g.spelt h.are_spelled g.are_spelled;
+    bits_are = behind_bits a b c h.spelt g.spelt xs ys h.bits_are g.bits_are;
+    items_are = omega (arith, h.items_are, g.items_are, length-append h.told g.told);
+    added_is = ItemsText-append command (i + 1) h.told g.told h.added g.added h.added_is (numbered command i j (length h.told) g.told g.added h.items_are g.added_is);
+    text_is = behind_text s t u h.added g.added h.text_is g.text_is;
+  }
+
+  pub Halts-then : (fault : RunFault) → Halts kind command b j ys t u fault → Halts kind command a i (xs ++ ys) s u fault
+  Halts-then fault g =
+      let all : j + length g.told ≡ i + length (h.told ++ g.told) = omega (arith, h.items_are, length-append h.told g.told) in
+      record {
+        told = h.told ++ g.told;
+        spelt = h.spelt ++ g.spelt;
+        rest = g.rest;
+        added = h.added ++ g.added;
+        are_spelled = AreSpelled-append kind h.told g.told h.spelt g.spelt h.are_spelled g.are_spelled;
+        bits_are = behind_bits a b g.rest h.spelt g.spelt xs ys h.bits_are g.bits_are;
+        few = omega (arith, all, g.few);
+        added_is = ItemsText-append command (i + 1) h.told g.told h.added g.added h.added_is (numbered command i j (length h.told) g.told g.added h.items_are g.added_is);
+        text_is = behind_text s t u h.added g.added h.text_is g.text_is;
+        why = subst (λ n. HaltsBy kind n g.rest fault) all g.why;
+      }
+
+-- it halts before any item is whole
+pub Halts-here : (kind : Kind) (c : Command) (seen : List Bool) (items : ℕ) (bytes text text' : List ℕ) (fault : RunFault) → items ≤ 1000000 → text' ≡ text → HaltsBy kind items (seen ++ bits bytes) fault → Halts kind c seen items bytes text text' fault
+Halts-here kind c seen items bytes text text' fault few same why = record {
+  told = [];
+  spelt = [];
+  rest = seen ++ bits bytes;
+  added = [];
+  are_spelled = refl;
+  bits_are = refl;
+  few = omega arith;
+  added_is = refl;
+  text_is = same ∙ sym (append-nil text);
+  why = subst (λ n. HaltsBy kind n (seen ++ bits bytes) fault) (sym (add-zero items)) why;
+}
+
+-- the same of one kind
+pub Advances-kind : {kind kind' : Kind} {c : Command} {a b : List Bool} {i j : ℕ} {bytes t u : List ℕ} → kind ≡ kind' → Advances kind c a b i j bytes t u → Advances kind' c a b i j bytes t u
+Advances-kind {c = c} {a = a} {b = b} {i = i} {j = j} {bytes = bytes} {t = t} {u = u} e h = subst (λ z. Advances z c a b i j bytes t u) e h
 
 -- one more front is taken off
 pub cut_front : (bytes front rest : List ℕ) (n m : ℕ) → m ≡ length rest → bytes ≡ front ++ rest → bytes ≡ (front ++ take n rest) ++ take (m - n) (drop n rest)
@@ -95,58 +150,63 @@ cut_front bytes front rest n m e h =
 -- ---- what a feed of the reader brings
 
 -- its answer, where it waits for bits
-pub fed : (size : Size) (r : ReaderValue) (new : List Bool) (answer wanted : Result Fed ReadFault) (after : Stage) → Awaits size r → answer ≡ wanted → ((seen : List Bool) → r.stage ≡ reading seen → Feeds (ReadsAs r.size) seen new answer after) → Feeds (ReadsAs size) (seen_bits r.stage) new wanted after
-fed size r new answer wanted after h is f =
-    subst (λ z. Feeds (ReadsAs z) (seen_bits r.stage) new wanted after) h.size_is
-    (subst (λ z. Feeds (ReadsAs r.size) (seen_bits r.stage) new z after) is (f (seen_bits r.stage) h.stage_is))
+pub fed : (kind : Kind) (r : ReaderValue) (new : List Bool) (answer wanted : Result Fed ReadFault) (after : Stage) → Awaits kind r → answer ≡ wanted → ((seen : List Bool) → r.stage ≡ reading seen → Feeds (EntryReads r.kind) seen new answer after) → Feeds (EntryReads kind) (seen_bits r.stage) new wanted after
+fed kind r new answer wanted after h is f =
+    subst (λ z. Feeds (EntryReads z) (seen_bits r.stage) new wanted after) h.kind_is
+    (subst (λ z. Feeds (EntryReads r.kind) (seen_bits r.stage) new z after) is (f (seen_bits r.stage) h.stage_is))
 
-pub more_awaits : (size : Size) (seen new : List Bool) (r : ReaderValue) → r.size ≡ size → Feeds (ReadsAs size) seen new (Ok More) r.stage → Awaits size r
-more_awaits size seen new r e f =
+pub more_awaits : (kind : Kind) (seen new : List Bool) (r : ReaderValue) → r.kind ≡ kind → Feeds (EntryReads kind) seen new (Ok More) r.stage → Awaits kind r
+more_awaits kind seen new r e f =
     let all : seen_bits r.stage ≡ seen ++ new = ap seen_bits f.0 in
     record {
-      size_is = e;
+      kind_is = e;
       stage_is = f.0 ∙ ap reading (sym all);
-      unfinished = subst (λ z. NoneYet (readings_of (ReadsAs size)) z) (sym all) f.1.0;
+      unfinished = subst (λ z. NoneYet (Language kind) z) (sym all) f.1.0;
+      viable = subst (λ z. Viable (Language kind) z) (sym all) f.1.1;
     }
 
-pub more_advances : (size : Size) (seen : List Bool) (bytes : List ℕ) (s : Stage) (items : ℕ) (text : List ℕ) → Feeds (ReadsAs size) seen (bits bytes) (Ok More) s → Advances size seen (seen_bits s) items items (take (length bytes) bytes) text text
-more_advances size seen bytes s items text f =
+pub more_advances : (kind : Kind) (c : Command) (seen : List Bool) (bytes : List ℕ) (s : Stage) (items : ℕ) (text : List ℕ) → Feeds (EntryReads kind) seen (bits bytes) (Ok More) s → Advances kind c seen (seen_bits s) items items (take (length bytes) bytes) text text
+more_advances kind c seen bytes s items text f =
     record {
       told = [];
       spelt = [];
+      added = [];
       are_spelled = refl;
       bits_are = ap (λ (z : List ℕ). seen ++ bits z) (take_all (length bytes) bytes (omega arith)) ∙ sym (ap seen_bits f.0);
       items_are = omega arith;
+      added_is = refl;
       text_is = sym (append-nil text);
     }
 
-pub done_takes : (size : Size) (seen new : List Bool) (k : ℕ) (s : Stage) → NoneYet (readings_of (ReadsAs size)) seen → Feeds (ReadsAs size) seen new (Ok (Done k)) s → 0 < k
-done_takes size seen new zero s none f =
+pub done_takes : (kind : Kind) (seen new : List Bool) (k : ℕ) (s : Stage) → NoneYet (Language kind) seen → Feeds (EntryReads kind) seen new (Ok (Done k)) s → 0 < k
+done_takes kind seen new zero s none f =
     let e : length seen + 8 * 0 ≡ length seen = omega arith in
     let front : take (length seen + 8 * 0) (seen ++ new) ≡ take (length seen) seen = ap (λ n. take n (seen ++ new)) e ∙ take-append-le (length seen) seen new (omega arith) in
-    absurd (none (length seen) (omega arith) (f.4.1, (telegram_value f.0, f.4.2), f.4.3 ∙ front))
-done_takes size seen new (suc k) s none f = omega arith
+    absurd (none (length seen) (omega arith) (f.3.1, (f.0, f.3.2), f.3.3 ∙ front))
+done_takes kind seen new (suc k) s none f = omega arith
 
-pub done_within : (size : Size) (seen : List Bool) (bytes : List ℕ) (k : ℕ) (s : Stage) → Feeds (ReadsAs size) seen (bits bytes) (Ok (Done k)) s → k ≤ length bytes
-done_within size seen bytes k s f = omega (arith, f.3, length-bits bytes)
-
-pub done_finished : (size : Size) (seen new : List Bool) (k : ℕ) (s : Stage) → Feeds (ReadsAs size) seen new (Ok (Done k)) s → IsFinished s
-done_finished size seen new k s f = subst IsFinished (sym f.1) tt
+pub done_within : (kind : Kind) (seen : List Bool) (bytes : List ℕ) (k : ℕ) (s : Stage) → Feeds (EntryReads kind) seen (bits bytes) (Ok (Done k)) s → k ≤ length bytes
+done_within kind seen bytes k s f = omega (arith, f.2, length-bits bytes)
 
 -- the bits that spell the item
-done_bits : (size : Size) (seen : List Bool) (bytes : List ℕ) (k : ℕ) (s : Stage) (f : Feeds (ReadsAs size) seen (bits bytes) (Ok (Done k)) s) → seen ++ bits (take k bytes) ≡ spelled f.4.1
-done_bits size seen bytes k s f =
-    ap (λ (z : List Bool). seen ++ z) (sym (take-bits k bytes (done_within size seen bytes k s f)))
+done_bits : (kind : Kind) (seen : List Bool) (bytes : List ℕ) (k : ℕ) (s : Stage) (f : Feeds (EntryReads kind) seen (bits bytes) (Ok (Done k)) s) → seen ++ bits (take k bytes) ≡ spelled f.3.1
+done_bits kind seen bytes k s f =
+    ap (λ (z : List Bool). seen ++ z) (sym (take-bits k bytes (done_within kind seen bytes k s f)))
     ∙ sym (take-append-add seen (bits bytes) (8 * k))
-    ∙ sym f.4.3
+    ∙ sym f.3.3
 
-pub done_advances : (size : Size) (seen seen' : List Bool) (bytes : List ℕ) (k : ℕ) (s : Stage) (i j : ℕ) (t u : List ℕ) → Feeds (ReadsAs size) seen (bits bytes) (Ok (Done k)) s → seen' ≡ [] → j ≡ i + 1 → u ≡ t ++ told_text s (i + 1) → Advances size seen seen' i j (take k bytes) t u
-done_advances size seen seen' bytes k s i j t u f none next text =
+pub done_advances : (kind : Kind) (c : Command) (seen seen' : List Bool) (bytes : List ℕ) (k : ℕ) (s : Stage) (i j : ℕ) (t u : List ℕ) (f : Feeds (EntryReads kind) seen (bits bytes) (Ok (Done k)) s) → seen' ≡ [] → j ≡ i + 1 → (added : List ℕ) × ItemText c f.0 (i + 1) added × (u ≡ t ++ added) → Advances kind c seen seen' i j (take k bytes) t u
+done_advances kind c seen seen' bytes k s i j t u f none next text =
     record {
-      told = telegram_value f.0 ∷ [];
-      spelt = spelled f.4.1;
-      are_spelled = (f.4.1, [], f.4.2, sym (append-nil (spelled f.4.1)), refl);
-      bits_are = done_bits size seen bytes k s f ∙ sym (append-nil (spelled f.4.1)) ∙ ap (λ (z : List Bool). spelled f.4.1 ++ z) (sym none);
+      told = f.0 ∷ [];
+      spelt = spelled f.3.1;
+      added = text.0;
+      are_spelled = (f.3.1, [], f.3.2, sym (append-nil (spelled f.3.1)), refl);
+      bits_are = done_bits kind seen bytes k s f ∙ sym (append-nil (spelled f.3.1)) ∙ ap (λ (z : List Bool). spelled f.3.1 ++ z) (sym none);
       items_are = next;
-      text_is = text ∙ ap (λ (z : List ℕ). t ++ z) (ap (λ z. told_text z (i + 1)) f.1 ∙ sym (append-nil (show_text (telegram_value f.0) (i + 1))));
+      added_is = (text.0, [], sym (append-nil text.0), text.1, refl);
+      text_is = text.2;
     }
+
+pub feed_refuses : (kind : Kind) (seen new : List Bool) (i : ℕ) (x : Var) (s : Stage) → Feeds (EntryReads kind) seen new (Err (Refused i x)) s → Refuses (Language kind) (seen ++ new) i x
+feed_refuses kind seen new i x s f = record { within = f.0.1; owned = f.1; blocked = f.0.2 }

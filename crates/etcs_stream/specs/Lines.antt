@@ -42,10 +42,3 @@ pub record IsHexText (text bytes : List ℕ) : Type 0 where
   pub lines_good : AreGood lines
   pub last_good : bad_place last ≡ None
   pub bytes_are : bytes ≡ lines_bytes lines ++ line_bytes last
-
--- some characters were kept of a line without its LF; with a piece behind them, some lines end, and these are kept
-pub record Splits (kept kept' piece bytes : List ℕ) : Type 0 where
-  pub lines : List (List ℕ)
-  pub text_is : kept ++ piece ≡ lines_text lines ++ kept'
-  pub good : AreGood lines
-  pub bytes_are : bytes ≡ lines_bytes lines

@@ -1,4 +1,5 @@
 pub mod Entries
+pub mod Commands
 pub mod LineSinks
 pub mod Packets
 pub mod Show

@@ -1,15 +1,17 @@
 use Rattle.std.proofs.Common.{◌≡◌, ◌≤◌, ◌++◌, List, length, ℕ}
-use Rattle.etcs_stream.specs.Steps.{Advances, Awaits, seen_bits}
+use Rattle.etcs_stream.specs.Readers.{Awaits, HasRoom, seen_bits}
+use Rattle.etcs_stream.specs.Steps.{Advances}
 use Rattle.etcs_stream.proofs.items.Items.take_bytes.Given as goal
 
 abbrev pub invariant-loop-rest : goal.invariant-loop-rest
 invariant-loop-rest l = record {
   front : List ℕ;
-  size_is : l.self.size ≡ l.fn.self.size;
-  waits : Awaits l.self.size l.self.reader;
-  few : l.self.shown ≤ 1000000;
+  job_is : l.self.job ≡ l.fn.self.job;
+  waits : Awaits l.fn.self.job.kind l.self.reader;
+  few : l.self.told ≤ 1000000;
+  room : HasRoom l.fn.self.told (seen_bits l.fn.self.reader.stage) → HasRoom l.self.told (seen_bits l.self.reader.stage);
   all : l.bytes ≡ front ++ l.rest;
-  advances : Advances l.fn.self.size (seen_bits l.fn.self.reader.stage) (seen_bits l.self.reader.stage) l.fn.self.shown l.self.shown front l.fn.text.items l.text.items;
+  advances : Advances l.fn.self.job.kind l.fn.self.job.command (seen_bits l.fn.self.reader.stage) (seen_bits l.self.reader.stage) l.fn.self.told l.self.told front l.fn.text.items l.text.items;
 }
 
 abbrev pub decreases-loop-rest : goal.decreases-loop-rest

@@ -1,67 +1,101 @@
-use Rattle.std.proofs.Common.{◌≡◌, ◌∙◌, ap, sym, subst, Ok, Err, Result}
+use Rattle.std.proofs.Common.{◌≡◌, ◌+◌, ◌<◌, ◌∙◌, ap, Ok, Err, Result, refl, arith, length-append}
+use Rattle.std.proofs.lemmas.Result.{err_from_is_err_and}
 use Rattle.etcs_bits.specs.Bits.{bits}
 use Rattle.etcs_vars.specs.declared.feed.Fed.{Fed}
 use Rattle.etcs_vars.specs.declared.feed.Fed.TheVariants.{More, Done}
 use Rattle.etcs_vars.specs.declared.feed.ReadFault.{ReadFault}
-use Rattle.etcs_vars.specs.declared.feed.ReadFault.TheVariants.{Ended}
-use Rattle.etcs_telegram.specs.Readers.{ReaderValue}
-use Rattle.etcs_stream.specs.Steps.{Awaits, seen_bits}
-use Rattle.etcs_stream.proofs.Streams.{Awaits-fresh, fed, more_awaits, more_advances, done_takes, done_within, done_finished, done_advances}
+use Rattle.etcs_vars.specs.declared.feed.ReadFault.TheVariants.{Refused, Ended}
+use Rattle.etcs_bits.proofs.Positions.{length-bits}
+use Rattle.etcs_text.specs.Entries.{EntryReads}
+use Rattle.etcs_stream.specs.declared.fault.RunFault.TheVariants as fault
+use Rattle.etcs_stream.specs.Readers.{ReaderValue, Feeds, seen_bits}
+use Rattle.etcs_stream.proofs.Streams.{Awaits-fresh, Halts-here, fed, more_awaits, more_advances, done_takes, done_within, done_advances, feed_refuses}
 use Rattle.etcs_stream.proofs.items.Items.take_front.Goals as goal
 
-pub show-requires-clause-whole : goal.show-requires-clause-whole
-show-requires-clause-whole c =
+pub tell-requires-clause-whole : goal.tell-requires-clause-whole
+tell-requires-clause-whole c =
     let r = c.args.self.now.reader in
     let new = bits c.args.bytes.now in
     let is : ◌≡◌ {A = Result Fed ReadFault} c.feed.result (Ok (Done c.in-Ok-Done.taken)) = c.in-Ok-Done.is ∙ ap Ok c.in-Ok-Done.field-0-is in
-    done_finished c.args.self.now.size (seen_bits r.stage) new _ _ (fed c.args.self.now.size r new _ _ _ c.requires.open is c.feed.ensures.answer)
+    let f = fed c.args.self.now.job.kind r new _ _ _ c.requires.waits is c.feed.ensures.answer in
+    (f.0, f.1)
 
 pub unreachable-requires : goal.unreachable-requires
 unreachable-requires c =
     let r = c.args.self.now.reader in
     let new = bits c.args.bytes.now in
     let is : ◌≡◌ {A = Result Fed ReadFault} c.feed.result (Err Ended) = c.in-Err-Ended.is ∙ ap Err c.in-Err-Ended.field-0-is in
-    fed c.args.self.now.size r new _ _ _ c.requires.open is c.feed.ensures.answer
+    fed c.args.self.now.job.kind r new _ _ _ c.requires.waits is c.feed.ensures.answer
 
-pub returns-in-Ok-More-clause-open : goal.returns-in-Ok-More-clause-open
-returns-in-Ok-More-clause-open c =
+pub returns-in-Ok-More-clause-waits : goal.returns-in-Ok-More-clause-waits
+returns-in-Ok-More-clause-waits c =
     let r = c.args.self.now.reader in
     let new = bits c.args.bytes.now in
     let is : ◌≡◌ {A = Result Fed ReadFault} c.feed.result (Ok More) = c.in-Ok-More.is ∙ ap Ok c.in-Ok-More.field-0-is in
-    more_awaits c.args.self.now.size (seen_bits r.stage) new c.feed.new.self (c.feed.ensures.size ∙ c.requires.open.size_is) (fed c.args.self.now.size r new _ _ _ c.requires.open is c.feed.ensures.answer)
+    more_awaits c.args.self.now.job.kind (seen_bits r.stage) new c.feed.new.self (c.feed.ensures.kind ∙ c.requires.waits.kind_is) (fed c.args.self.now.job.kind r new _ _ _ c.requires.waits is c.feed.ensures.answer)
 
-pub returns-in-Ok-More-clause-advances : goal.returns-in-Ok-More-clause-advances
-returns-in-Ok-More-clause-advances c =
+pub returns-in-Ok-More-clause-ok : goal.returns-in-Ok-More-clause-ok
+returns-in-Ok-More-clause-ok c =
     let r = c.args.self.now.reader in
     let new = bits c.args.bytes.now in
     let is : ◌≡◌ {A = Result Fed ReadFault} c.feed.result (Ok More) = c.in-Ok-More.is ∙ ap Ok c.in-Ok-More.field-0-is in
-    more_advances c.args.self.now.size (seen_bits r.stage) c.args.bytes.now _ _ _ (fed c.args.self.now.size r new _ _ _ c.requires.open is c.feed.ensures.answer)
+    more_advances c.args.self.now.job.kind c.args.self.now.job.command (seen_bits r.stage) c.args.bytes.now _ _ _ (fed c.args.self.now.job.kind r new _ _ _ c.requires.waits is c.feed.ensures.answer)
 
-pub returns-in_ok-show-in-Ok-Done-clause-some : goal.returns-in_ok-show-in-Ok-Done-clause-some
-returns-in_ok-show-in-Ok-Done-clause-some c =
+pub returns-in_ok-tell-in-Ok-Done-clause-some : goal.returns-in_ok-tell-in-Ok-Done-clause-some
+returns-in_ok-tell-in-Ok-Done-clause-some c =
     let r = c.args.self.now.reader in
     let new = bits c.args.bytes.now in
     let is : ◌≡◌ {A = Result Fed ReadFault} c.feed.result (Ok (Done c.in-Ok-Done.taken)) = c.in-Ok-Done.is ∙ ap Ok c.in-Ok-Done.field-0-is in
-    done_takes c.args.self.now.size (seen_bits r.stage) new _ _ c.requires.open.unfinished (fed c.args.self.now.size r new _ _ _ c.requires.open is c.feed.ensures.answer)
+    done_takes c.args.self.now.job.kind (seen_bits r.stage) new _ _ c.requires.waits.unfinished (fed c.args.self.now.job.kind r new _ _ _ c.requires.waits is c.feed.ensures.answer)
 
-pub returns-in_ok-show-in-Ok-Done-clause-within : goal.returns-in_ok-show-in-Ok-Done-clause-within
-returns-in_ok-show-in-Ok-Done-clause-within c =
+pub returns-in_ok-tell-in-Ok-Done-clause-within : goal.returns-in_ok-tell-in-Ok-Done-clause-within
+returns-in_ok-tell-in-Ok-Done-clause-within c =
     let r = c.args.self.now.reader in
     let new = bits c.args.bytes.now in
     let is : ◌≡◌ {A = Result Fed ReadFault} c.feed.result (Ok (Done c.in-Ok-Done.taken)) = c.in-Ok-Done.is ∙ ap Ok c.in-Ok-Done.field-0-is in
-    done_within c.args.self.now.size (seen_bits r.stage) c.args.bytes.now _ _ (fed c.args.self.now.size r new _ _ _ c.requires.open is c.feed.ensures.answer)
+    done_within c.args.self.now.job.kind (seen_bits r.stage) c.args.bytes.now _ _ (fed c.args.self.now.job.kind r new _ _ _ c.requires.waits is c.feed.ensures.answer)
 
-pub returns-in_ok-show-in-Ok-Done-clause-open : goal.returns-in_ok-show-in-Ok-Done-clause-open
-returns-in_ok-show-in-Ok-Done-clause-open c =
-    let fresh : Awaits c.args.self.now.size c.show.new.self.reader = Awaits-fresh c.args.self.now.size c.show.new.self.reader c.in_ok-show-in-Ok-Done.ensures.next in
-    subst (λ z. Awaits z c.show.new.self.reader) (sym c.show.ensures.size) fresh
+pub returns-in_ok-tell-in-Ok-Done-clause-waits : goal.returns-in_ok-tell-in-Ok-Done-clause-waits
+returns-in_ok-tell-in-Ok-Done-clause-waits c =
+    Awaits-fresh c.args.self.now.job.kind c.tell.new.self.reader c.in_ok-tell-in-Ok-Done.ensures.next
 
-pub returns-in_ok-show-in-Ok-Done-clause-advances : goal.returns-in_ok-show-in-Ok-Done-clause-advances
-returns-in_ok-show-in-Ok-Done-clause-advances c =
+pub returns-in_ok-tell-in-Ok-Done-clause-ok : goal.returns-in_ok-tell-in-Ok-Done-clause-ok
+returns-in_ok-tell-in-Ok-Done-clause-ok c =
     let r = c.args.self.now.reader in
     let new = bits c.args.bytes.now in
     let is : ◌≡◌ {A = Result Fed ReadFault} c.feed.result (Ok (Done c.in-Ok-Done.taken)) = c.in-Ok-Done.is ∙ ap Ok c.in-Ok-Done.field-0-is in
-    done_advances c.args.self.now.size (seen_bits r.stage) _ c.args.bytes.now _ _ _ _ _ _ (fed c.args.self.now.size r new _ _ _ c.requires.open is c.feed.ensures.answer)
-    (ap (λ (z : ReaderValue). seen_bits z.stage) c.in_ok-show-in-Ok-Done.ensures.next)
-    c.in_ok-show-in-Ok-Done.ensures.shown
-    c.in_ok-show-in-Ok-Done.ensures.text
+    let f : Feeds (EntryReads c.args.self.now.job.kind) (seen_bits r.stage) new (Ok (Done c.in-Ok-Done.taken)) c.feed.new.self.stage = fed c.args.self.now.job.kind r new _ _ _ c.requires.waits is c.feed.ensures.answer in
+    done_advances c.args.self.now.job.kind c.args.self.now.job.command (seen_bits r.stage) _ c.args.bytes.now _ _ _ _ _ _ f
+    (ap (λ (z : ReaderValue). seen_bits z.stage) c.in_ok-tell-in-Ok-Done.ensures.next)
+    c.in_ok-tell-in-Ok-Done.ensures.told
+    (c.in_ok-tell-in-Ok-Done.ensures.ok f.0 f.1)
+
+pub returns-then-self-eq-MOST_ITEMS-clause-err : goal.returns-then-self-eq-MOST_ITEMS-clause-err
+returns-then-self-eq-MOST_ITEMS-clause-err c =
+    let s = c.args.self.now in
+    Halts-here s.job.kind s.job.command (seen_bits s.reader.stage) s.told c.args.bytes.now _ _ fault.Endless c.requires.told refl
+    (c.if-self-eq-MOST_ITEMS.true, omega (arith, length-append (seen_bits s.reader.stage) (bits c.args.bytes.now), length-bits c.args.bytes.now, c.requires.some))
+
+pub returns-in-Err-Refused-clause-err : goal.returns-in-Err-Refused-clause-err
+returns-in-Err-Refused-clause-err c =
+    let s = c.args.self.now in
+    let r = s.reader in
+    let new = bits c.args.bytes.now in
+    let is : ◌≡◌ {A = Result Fed ReadFault} c.feed.result (Err (Refused c.in-Err-Refused.bit c.in-Err-Refused.var)) = c.in-Err-Refused.is ∙ ap Err c.in-Err-Refused.field-0-is in
+    let f = fed s.job.kind r new _ _ _ c.requires.waits is c.feed.ensures.answer in
+    let room : s.told < 1000000 = omega (arith, c.requires.told, c.if-self-eq-MOST_ITEMS.false) in
+    Halts-here s.job.kind s.job.command (seen_bits r.stage) s.told c.args.bytes.now _ _ (fault.Refused (s.told + 1) c.in-Err-Refused.bit c.in-Err-Refused.var) c.requires.told refl
+    (refl, room, feed_refuses s.job.kind (seen_bits r.stage) new _ _ c.feed.new.self.stage f)
+
+pub returns-in-Err-Memory-clause-err : goal.returns-in-Err-Memory-clause-err
+returns-in-Err-Memory-clause-err c =
+    let s = c.args.self.now in
+    Halts-here s.job.kind s.job.command (seen_bits s.reader.stage) s.told c.args.bytes.now _ _ fault.Memory c.requires.told refl tt
+
+pub returns-in_err-tell-in-Ok-Done-clause-err : goal.returns-in_err-tell-in-Ok-Done-clause-err
+returns-in_err-tell-in-Ok-Done-clause-err c =
+    let s = c.args.self.now in
+    let p = err_from_is_err_and c.from_residual.result c.from_residual.ensures.1 in
+    let e = c.in_err-tell-in-Ok-Done.ensures.err in
+    rw (p.1, p.2, e.0)
+    (Halts-here s.job.kind s.job.command (seen_bits s.reader.stage) s.told c.args.bytes.now _ _ fault.Memory c.requires.told e.1 tt)

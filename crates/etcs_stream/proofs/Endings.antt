@@ -1,0 +1,58 @@
+-- How a step and a run end.
+use Rattle.std.proofs.Common.{◌≡◌, ℕ, ◌+◌, ◌≤◌, List, ◌++◌, length, take, Option, Result, Ok, Err, sym, ap, subst, ◌∙◌, arith, length-append, inl, inr}
+use Rattle.std.specs.Prelude.{◌⊎◌, IfErr, IfOk}
+use Rattle.std.proofs.Math.Seq.{take-append-add}
+use Rattle.std.proofs.lemmas.List.{take_all}
+use Rattle.std.specs.Io.KnownBytes.{Appends, Consumes, Keeps}
+use Rattle.etcs_stream.specs.declared.fault.RunFault.{RunFault}
+use Rattle.etcs_stream.specs.declared.fault.RunFault.TheVariants.{Write}
+use Rattle.etcs_stream.specs.declared.job.Tally.{Tally}
+use Rattle.etcs_stream.specs.Faults.{IsOfEngine}
+use Rattle.etcs_stream.specs.Pipes.{Piped, PipedFirst}
+use Rattle.etcs_stream.specs.Passes.{Stopped, Broken}
+use Rattle.etcs_stream.proofs.Known.{Appends-then, Appends-kept}
+
+module _ (held held' : Option (List ℕ)) (told text slice : List ℕ) (same : slice ≡ text) where
+  -- the text was written, whatever the engine answers
+  pub stopped_if : {T : Type 0} (Stops : List ℕ → RunFault → Type 0) (Other : RunFault → Type 0) (r : Result T RunFault) → IfErr r (λ e. IsOfEngine e × Stops (told ++ text) e) → Appends held held' slice → IfErr r (λ e. Stopped Stops told text held held' e ⊎ Other e)
+  stopped_if Stops Other (Ok t) h took = tt
+  stopped_if Stops Other (Err e) h took = inl (h.0, h.1, subst (λ (z : List ℕ). Appends held held' z) same took)
+
+  -- a part of it was
+  pub broke : (Prints : List ℕ → Type 0) (before after sent sent' : ℕ) → sent ≡ length told → (n : ℕ) × (n ≤ length slice) × (sent' ≡ sent + n) × Appends held held' (take n slice) → after ≡ before + 1 → Prints (told ++ text) → Broken Prints told text held held' before after (Write sent')
+  broke Prints before after sent sent' at part count prints =
+      (part.0, ap Write (part.2 ∙ ap (λ n. n + part.0) at), subst (λ (z : List ℕ). part.0 ≤ length z) same part.1, subst (λ (z : List ℕ). Appends held held' (take part.0 z)) same part.3, prints, count)
+
+-- all of it was, but perhaps not passed on
+pub not_flushed : (held mid held' : Option (List ℕ)) (told text slice : List ℕ) (Prints : List ℕ → Type 0) (before between after sent sent' : ℕ) → slice ≡ text → sent ≡ length told → Appends held mid slice × (sent' ≡ sent + length slice) → Keeps mid held' → between ≡ before → after ≡ between + 1 → Prints (told ++ text) → Broken Prints told text held held' before after (Write sent')
+not_flushed held mid held' told text slice Prints before between after sent sent' same at took keeps none one prints =
+    let all : take (length slice) slice ≡ slice = take_all (length slice) slice (omega arith) in
+    let kept : Appends held held' slice = Appends-kept held mid held' slice took.0 keeps in
+    broke held held' told text slice same Prints before after sent sent' at (length slice, omega arith, took.1, subst (λ (z : List ℕ). Appends held held' z) (sym all) kept) (omega (arith, none, one)) prints
+
+module _ (left left' held mid held' : Option (List ℕ)) (given told text : List ℕ) (gave : Consumes left left' given) (took : Appends held mid told) (Stops : List ℕ → RunFault → Type 0) (Prints : List ℕ → Type 0) (before after : ℕ) where
+  pub engine_of : (T : List ℕ → List ℕ → Type 0) (e : RunFault) → Stopped Stops told text mid held' e ⊎ Broken Prints told text mid held' before after e → ((t : List ℕ) → Stops t e → T given t) → IsOfEngine e → Piped T left left' held held'
+  engine_of T e (inl s) k h = (given, told ++ text, gave, Appends-then held mid held' told text took s.2, k (told ++ text) s.1)
+  engine_of T e (inr b) k h = absurd (subst IsOfEngine b.1 h)
+
+  pub write_of : (P : List ℕ → List ℕ → Type 0) (e : RunFault) → Stopped Stops told text mid held' e ⊎ Broken Prints told text mid held' before after e → ((t : List ℕ) → Prints t → P given t) → (n : ℕ) → e ≡ Write n → PipedFirst n P left left' held held' × (after ≡ before + 1)
+  write_of P e (inl s) k n h = absurd (subst IsOfEngine h s.0)
+  write_of P e (inr b) k n h =
+      let w : ◌≡◌ {A = RunFault} (Write (length told + b.0)) (Write n) = sym b.1 ∙ h in
+      let same : length told + b.0 ≡ n = cc in
+      let all : take n (told ++ text) ≡ told ++ take b.0 text = ap (λ (m : ℕ). take m (told ++ text)) (sym same) ∙ take-append-add told text b.0 in
+      let len = length-append told text in
+      ((given, told ++ text, gave, omega (arith, same, b.2, len), subst (λ (t : List ℕ). Appends held held' t) (sym all) (Appends-then held mid held' told (take b.0 text) took b.3), k (told ++ text) b.4), b.5)
+
+  -- by the answer of the last step
+  pub engine_if : (T : RunFault → List ℕ → List ℕ → Type 0) (r : Result Tally RunFault) → IfErr r (λ e. Stopped Stops told text mid held' e ⊎ Broken Prints told text mid held' before after e) → ((e : RunFault) (t : List ℕ) → Stops t e → T e given t) → IfErr r (λ e. IsOfEngine e → Piped (T e) left left' held held')
+  engine_if T (Ok t) h k = tt
+  engine_if T (Err e) h k = engine_of (T e) e h (k e)
+
+  pub write_if : (P : List ℕ → List ℕ → Type 0) (r : Result Tally RunFault) → IfErr r (λ e. Stopped Stops told text mid held' e ⊎ Broken Prints told text mid held' before after e) → ((t : List ℕ) → Prints t → P given t) → (n : ℕ) → r ≡ Err (Write n) → PipedFirst n P left left' held held' × (after ≡ before + 1)
+  write_if P (Ok t) h k n e = absurd cc
+  write_if P (Err f) h k n e = let same : f ≡ Write n = cc in write_of P f h k n same
+
+  pub ends_if : (T : Tally → List ℕ → List ℕ → Type 0) (r : Result Tally RunFault) (Last : Tally → Type 0) → IfOk r (λ t. T t given (told ++ text) × Appends mid held' text × Last t) → IfOk r (λ t. Piped (T t) left left' held held')
+  ends_if T (Ok t) Last h = (given, told ++ text, gave, Appends-then held mid held' told text took h.1, h.0)
+  ends_if T (Err e) Last h = tt

@@ -1,0 +1,205 @@
+-- What stands of an input behind each piece, and how its items end.
+use Rattle.std.proofs.Common.{◌≡◌, ℕ, ◌+◌, ◌<◌, ◌≤◌, Bool, List, [], ◌++◌, length, refl, sym, ap, subst, ◌∙◌, arith, append_assoc, length-append, inl, inr}
+use Rattle.std.specs.Prelude.{◌⊎◌}
+use Rattle.std.proofs.lemmas.List.{append-nil}
+use Rattle.etcs_bits.specs.Bits.{bits}
+use Rattle.etcs_vars.specs.declared.var.Var.{Var}
+use Rattle.etcs_vars.specs.Reading as reading
+use Rattle.etcs_vars.specs.Reading.{IsOutcome, NoneYet, Viable}
+use Rattle.etcs_vars.specs.Walking.{Refuses}
+use Rattle.etcs_vars.proofs.Outcomes.{none_refused, refuses_longer}
+use Rattle.etcs_text.specs.declared.entry.Kind.{Kind}
+use Rattle.etcs_text.specs.Entries.{EntryValue, EntryReads}
+use Rattle.etcs_text.specs.Commands.{ItemsText}
+use Rattle.etcs_stream.specs.declared.job.Job.{Job}
+use Rattle.etcs_stream.specs.declared.fault.RunFault.{RunFault}
+use Rattle.etcs_stream.specs.declared.fault.RunFault.TheVariants.{Refused, Truncated, BadHex, Read, Write, Endless, Memory}
+use Rattle.etcs_stream.specs.Faults.{IsOfEngine}
+use Rattle.etcs_stream.specs.Streams.{AreSpelled}
+use Rattle.etcs_stream.specs.Readers.{HasRoom}
+use Rattle.etcs_stream.specs.Steps.{Advances, Halts, HaltsBy}
+use Rattle.etcs_stream.specs.Stands.{ItemsStand}
+use Rattle.etcs_stream.specs.Inputs.{End, ended, refused, truncated, bad_hex, endless, BitItems, FirstItems, SaysFirst, ItemsOf}
+use Rattle.etcs_stream.specs.Engines.{EndsBy, Stops, StopsAtEnd}
+use Rattle.etcs_stream.proofs.ItemKinds.{Language, kind_regular}
+use Rattle.etcs_stream.proofs.Streams.{bits-append, AreSpelled-append, ItemsText-append}
+
+-- ---- Some bytes more.
+
+-- of these bytes the items were told, and then no more was taken
+pub record ItemsHalt (job : Job) (bytes told : List ℕ) (fault : RunFault) : Type 0 where
+  pub items : List EntryValue
+  pub spelt : List Bool
+  pub rest : List Bool
+  pub are_spelled : AreSpelled job.kind items spelt
+  pub bits_are : bits bytes ≡ spelt ++ rest
+  pub few : length items ≤ 1000000
+  pub text : ItemsText job.command 1 items told
+  pub why : HaltsBy job.kind (length items) rest fault
+
+more_bits : (bytes piece : List ℕ) (p seen q rest : List Bool) → bits bytes ≡ p ++ seen → seen ++ bits piece ≡ q ++ rest → bits (bytes ++ piece) ≡ (p ++ q) ++ rest
+more_bits bytes piece p seen q rest h g =
+    bits-append bytes piece
+    ∙ ap (λ (z : List Bool). z ++ bits piece) h
+    ∙ append_assoc p seen (bits piece)
+    ∙ ap (λ (z : List Bool). p ++ z) g
+    ∙ sym (append_assoc p q rest)
+
+-- the text of the items that were told, and of those behind them
+all_text : (job : Job) (ds es : List EntryValue) (told t added t' : List ℕ) (n : ℕ) → n ≡ length ds → ItemsText job.command 1 ds (told ++ t) → ItemsText job.command (n + 1) es added → t' ≡ t ++ added → ItemsText job.command 1 (ds ++ es) (told ++ t')
+all_text job ds es told t added t' n e h g is =
+    let from : n + 1 ≡ 1 + length ds = omega arith in
+    subst (λ z. ItemsText job.command 1 (ds ++ es) z) (append_assoc told t added ∙ ap (λ (z : List ℕ). told ++ z) (sym is))
+    (ItemsText-append job.command 1 ds es (told ++ t) added h (subst (λ k. ItemsText job.command k es added) from g))
+
+module _ (job : Job) (seen : List Bool) (count : ℕ) (bytes told t : List ℕ) (h : ItemsStand job seen count bytes (told ++ t)) (piece t' : List ℕ) where
+  pub stand_more : (seen' : List Bool) (count' : ℕ) → Advances job.kind job.command seen seen' count count' piece t t' → count' ≤ 1000000 → HasRoom count' seen' → NoneYet (Language job.kind) seen' → ItemsStand job seen' count' (bytes ++ piece) (told ++ t')
+  stand_more seen' count' g few room none = record {
+    items = h.items ++ g.told;
+    spelt = h.spelt ++ g.spelt;
+    are_spelled = AreSpelled-append job.kind h.items g.told h.spelt g.spelt h.are_spelled g.are_spelled;
+    bits_are = more_bits bytes piece h.spelt seen g.spelt seen' h.bits_are g.bits_are;
+    count_is = omega (arith, h.count_is, g.items_are, length-append h.items g.told);
+    few = few;
+    room = room;
+    none_more = none;
+    text = all_text job h.items g.told told t g.added t' count h.count_is h.text g.added_is g.text_is;
+  }
+
+  pub stand_halts : (fault : RunFault) → Halts job.kind job.command seen count piece t t' fault → ItemsHalt job (bytes ++ piece) (told ++ t') fault
+  stand_halts fault g =
+      let all : count + length g.told ≡ length (h.items ++ g.told) = omega (arith, h.count_is, length-append h.items g.told) in
+      record {
+        items = h.items ++ g.told;
+        spelt = h.spelt ++ g.spelt;
+        rest = g.rest;
+        are_spelled = AreSpelled-append job.kind h.items g.told h.spelt g.spelt h.are_spelled g.are_spelled;
+        bits_are = more_bits bytes piece h.spelt seen g.spelt g.rest h.bits_are g.bits_are;
+        few = omega (arith, all, g.few);
+        text = all_text job h.items g.told told t g.added t' count h.count_is h.text g.added_is g.text_is;
+        why = subst (λ n. HaltsBy job.kind n g.rest fault) all g.why;
+      }
+
+-- nothing has come
+pub stand_nothing : (job : Job) (seen : List Bool) (count : ℕ) → seen ≡ [] → count ≡ 0 → NoneYet (Language job.kind) seen → ItemsStand job seen count [] []
+unfolding bits
+stand_nothing job seen count e n none = record {
+  items = [];
+  spelt = [];
+  are_spelled = refl;
+  bits_are = sym e;
+  count_is = n;
+  few = omega arith;
+  room = λ h. omega arith;
+  none_more = none;
+  text = refl;
+}
+
+-- ---- The items end in each longer input.
+
+-- an end that more bytes don't change
+abbrev pub IsEarly : End → Type 0
+IsEarly ended = ⊥
+IsEarly (refused i x) = Unit {0}
+IsEarly (truncated k) = ⊥
+IsEarly (bad_hex line place) = ⊥
+IsEarly endless = Unit {0}
+
+-- the items of the bytes, with any bits behind them, end by the fault
+pub record EndsEarly (job : Job) (bytes : List ℕ) (items : List EntryValue) (fault : RunFault) : Type 0 where
+  pub end : End
+  pub early : IsEarly end
+  pub by : EndsBy (length items) end fault
+  pub are : (more : List Bool) → BitItems job.kind (bits bytes ++ more) items end
+
+refused_longer : (kind : Kind) (rest more : List Bool) (i : ℕ) (x : Var) → Refuses (Language kind) rest i x → IsOutcome (EntryReads kind) (rest ++ more) (reading.refused i x)
+refused_longer kind rest more i x h =
+    let r = refuses_longer (Language kind) rest more i x h in
+    ((none_refused (Language kind) (kind_regular kind) (rest ++ more) i x r, r.within, r.blocked), r.owned)
+
+module _ (job : Job) (bytes told : List ℕ) where
+  longer : (fault : RunFault) (h : ItemsHalt job bytes told fault) (more : List Bool) → bits bytes ++ more ≡ h.spelt ++ (h.rest ++ more)
+  longer fault h more = ap (λ (z : List Bool). z ++ more) h.bits_are ∙ append_assoc h.spelt h.rest more
+
+  -- memory was refused, or the items end early
+  pub ends_early : (fault : RunFault) (h : ItemsHalt job bytes told fault) → IsOfEngine fault × ((fault ≡ Memory) ⊎ EndsEarly job bytes h.items fault)
+  ends_early (Refused item i x) h = (
+    tt,
+    inr (record {
+      end = refused i x;
+      early = tt;
+      by = ap (λ n. Refused n i x) h.why.0;
+      are = λ more. record {
+        spelt = h.spelt;
+        rest = h.rest ++ more;
+        are_spelled = h.are_spelled;
+        bits_are = longer (Refused item i x) h more;
+        few = h.few;
+        ends = (h.why.1, refused_longer job.kind h.rest more i x h.why.2);
+      };
+    }),
+  )
+  ends_early (Truncated item k) h = absurd h.why
+  ends_early (BadHex line place) h = absurd h.why
+  ends_early Read h = absurd h.why
+  ends_early (Write sent) h = absurd h.why
+  ends_early Endless h = (
+    tt,
+    inr (record {
+      end = endless;
+      early = tt;
+      by = refl;
+      are = λ more. record {
+        spelt = h.spelt;
+        rest = h.rest ++ more;
+        are_spelled = h.are_spelled;
+        bits_are = longer Endless h more;
+        few = h.few;
+        ends = (h.why.0, omega (arith, h.why.1, length-append h.rest more));
+      };
+    }),
+  )
+  ends_early Memory h = (tt, inl refl)
+
+  pub halt_first : (fault : RunFault) (given : List ℕ) (h : ItemsHalt job bytes told fault) → SaysFirst job.from given bytes → FirstItems job.from job.kind given h.items
+  halt_first fault given h says = record { bytes = bytes; says = says; spelt = h.spelt; rest = h.rest; are_spelled = h.are_spelled; bits_are = h.bits_are; few = h.few }
+
+-- from the items of the bytes to those of the input that says them
+pub halt_stops : (job : Job) (given bytes told : List ℕ) (fault : RunFault) → ItemsHalt job bytes told fault → SaysFirst job.from given bytes → ((more : List ℕ) (es : List EntryValue) (end : End) → IsEarly end → ((b : List Bool) → BitItems job.kind (bits bytes ++ b) es end) → ItemsOf job.from job.kind (given ++ more) es end) → IsOfEngine fault × Stops job given told fault
+halt_stops job given bytes told fault h says on =
+    let both = ends_early job bytes told fault h in (
+      both.0,
+      elim both.1 [
+        | inl m ↦ inl (m, (h.items, halt_first job bytes told fault given h says, h.text))
+        | inr e ↦ inr (h.items, e.end, e.by, h.text, λ more. on more h.items e.end e.early e.are)
+      ],
+    )
+
+pub halt_ends : (job : Job) (given bytes told : List ℕ) (fault : RunFault) → ItemsHalt job bytes told fault → SaysFirst job.from given bytes → ((es : List EntryValue) (end : End) → IsEarly end → BitItems job.kind (bits bytes) es end → ItemsOf job.from job.kind given es end) → IsOfEngine fault × StopsAtEnd job given told fault
+halt_ends job given bytes told fault h says on =
+    let both = ends_early job bytes told fault h in (
+      both.0,
+      elim both.1 [
+        | inl m ↦ inl (m, (h.items, halt_first job bytes told fault given h says, h.text))
+        | inr e ↦
+            let here : BitItems job.kind (bits bytes) h.items e.end = subst (λ z. BitItems job.kind z h.items e.end) (append-nil (bits bytes)) (e.are []) in
+            inr (h.items, e.end, e.by, h.text, on h.items e.end e.early here)
+      ],
+    )
+
+-- ---- The input ends here.
+
+-- it ends with its items, or inside one
+module _ (job : Job) (seen : List Bool) (count : ℕ) (bytes told : List ℕ) (h : ItemsStand job seen count bytes told) where
+  pub stand_ended : seen ≡ [] → BitItems job.kind (bits bytes) h.items ended
+  stand_ended e = record { spelt = h.spelt; rest = seen; are_spelled = h.are_spelled; bits_are = h.bits_are; few = omega (arith, h.few, h.count_is); ends = e }
+
+  pub stand_truncated : 0 < length seen → Viable (Language job.kind) seen → BitItems job.kind (bits bytes) h.items (truncated (length seen))
+  stand_truncated some viable = record {
+    spelt = h.spelt;
+    rest = seen;
+    are_spelled = h.are_spelled;
+    bits_are = h.bits_are;
+    few = omega (arith, h.few, h.count_is);
+    ends = (let n : length h.items < 1000000 = omega (arith, h.room some, h.count_is) in n, refl, some, (h.none_more, viable));
+  }

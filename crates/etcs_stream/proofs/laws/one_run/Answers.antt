@@ -1,0 +1,5 @@
+use Rattle.etcs_stream.proofs.OneItems.{one_end, one_whole, one_front, one_text}
+use Rattle.etcs_stream.proofs.laws.one_run.Goals as goal
+
+pub returns : goal.returns
+returns c = record { end = one_end; whole = one_whole; front = one_front; text = one_text }

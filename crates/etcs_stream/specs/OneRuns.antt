@@ -1,0 +1,24 @@
+-- What a run says of an input is said of one list of items, one end and one text.
+use Rattle.std.specs.Prelude.{◌≡◌, ℕ, List, ◌++◌}
+use Rattle.etcs_text.specs.declared.entry.Kind.{Kind}
+use Rattle.etcs_text.specs.declared.command.Command.{Command}
+use Rattle.etcs_text.specs.declared.command.Form.{Form}
+use Rattle.etcs_text.specs.Entries.{EntryValue}
+use Rattle.etcs_text.specs.Commands.{ItemsText}
+use Rattle.etcs_stream.specs.Inputs.{End, ItemsOf, WholeItems, FirstItems}
+
+-- an input has one list of items, and ends in one way
+abbrev pub OneEnd : Type 0
+OneEnd = (form : Form) (kind : Kind) (input : List ℕ) (es es' : List EntryValue) (end end' : End) → ItemsOf form kind input es end → ItemsOf form kind input es' end' → (es ≡ es') × (end ≡ end')
+
+-- what is there of an input has one list of all items that are whole
+abbrev pub OneWhole : Type 0
+OneWhole = (form : Form) (kind : Kind) (given : List ℕ) (es es' : List EntryValue) → WholeItems form kind given es → WholeItems form kind given es' → es ≡ es'
+
+-- the items of an input begin with any first items of it
+abbrev pub OneFront : Type 0
+OneFront = (form : Form) (kind : Kind) (input : List ℕ) (es es' : List EntryValue) (end : End) → FirstItems form kind input es → ItemsOf form kind input es' end → (behind : List EntryValue) × (es' ≡ es ++ behind)
+
+-- items have one text
+abbrev pub OneText : Type 0
+OneText = (command : Command) (item : ℕ) (es : List EntryValue) (text text' : List ℕ) → ItemsText command item es text → ItemsText command item es text' → text ≡ text'

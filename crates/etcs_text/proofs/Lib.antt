@@ -1,2 +1,4 @@
 pub mod Texts
 pub mod NumberTexts
+pub mod Encoded
+pub mod Refusals

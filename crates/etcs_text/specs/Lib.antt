@@ -1,6 +1,8 @@
+pub mod Fronts
 pub mod Entries
 pub mod Commands
 pub mod LineSinks
 pub mod Packets
 pub mod Show
 pub mod Telegrams
+pub mod TextLengths

@@ -19,11 +19,11 @@ const WRONG_WORDS: u8 = 2;
 /// A stream failed or didn't end, or memory was refused.
 const BROKEN: u8 = 3;
 
-/// What `show` takes as `--kind`.
-static SHOW_KINDS: [&str; 2] = ["long", "short"];
+/// What `--kind` takes.
+static KINDS: [&str; 2] = ["long", "short"];
 
-/// What `--from` takes.
-static FORMS: [&str; 1] = ["hex"];
+/// What `--from` and `--to` take.
+static FORMS: [&str; 2] = ["hex", "bin"];
 
 /// What `--version` says behind the name: the version, and the line of the kit that proves it.
 static VERSION: &str = "0.1.0 (rattle-kit-13b logic dac8208d650f15bf)";
@@ -125,33 +125,35 @@ fn fault_status(fault: &RunFault) -> u8
 
 /// All that a command line can say. Its texts call the program `etcs`, whatever its file is named.
 fn line<'a>(alloc: Global) -> Result<Line<'a>, AllocError> {
-    let show = subcommand(alloc, "show", &SHOW_KINDS)?;
+    let show = subcommand(alloc, "show")?;
+    let check = subcommand(alloc, "check")?;
+    let convert = subcommand(alloc, "convert")?.arg(to_option(alloc))?;
     Line::new(alloc, "etcs")
         .bin_name("etcs")?
         .version(VERSION)
-        .about("Check and show ETCS balise telegrams, read as user bits from standard input")
+        .about(
+            "Show, check and convert ETCS balise telegrams, read as user bits from standard input",
+        )
         .subcommand_required(true)
-        .subcommand(show.about("Show the variables of each balise telegram, a line each"))
+        .subcommand(show.about("Show the variables of each balise telegram, a line each"))?
+        .subcommand(check.about("Check each balise telegram: a line with its number of bits"))?
+        .subcommand(convert.about("Write each balise telegram in another form"))
 }
 
-/// A subcommand that takes items of these kinds.
-fn subcommand<'a>(
-    alloc: Global,
-    name: &'static str,
-    kinds: &'static [&'static str],
-) -> Result<Line<'a>, AllocError> {
+/// A subcommand that takes items.
+fn subcommand<'a>(alloc: Global, name: &'static str) -> Result<Line<'a>, AllocError> {
     Line::new(alloc, name)
-        .arg(kind_option(alloc, kinds))?
+        .arg(kind_option(alloc))?
         .arg(from_option(alloc))
 }
 
 /// `--kind`, which has no default.
-fn kind_option<'a>(alloc: Global, kinds: &'static [&'static str]) -> Arg<'a> {
+fn kind_option<'a>(alloc: Global) -> Arg<'a> {
     Arg::new(alloc, "kind")
         .long("kind")
         .required(true)
         .value_name("KIND")
-        .value_parser(ValueParser::from(kinds))
+        .value_parser(ValueParser::from(KINDS.as_slice()))
         .help("Balise telegrams of 830 user bits (long) or of 210 (short)")
 }
 
@@ -162,7 +164,19 @@ fn from_option<'a>(alloc: Global) -> Arg<'a> {
         .value_name("FORM")
         .value_parser(ValueParser::from(FORMS.as_slice()))
         .default_value("hex")
-        .help("Form of the input")
+        .help("Form of the input: lines of hexadecimal digits (hex) or the bytes themselves (bin)")
+}
+
+/// `--to`, which has no default.
+fn to_option<'a>(alloc: Global) -> Arg<'a> {
+    Arg::new(alloc, "to")
+        .long("to")
+        .required(true)
+        .value_name("FORM")
+        .value_parser(ValueParser::from(FORMS.as_slice()))
+        .help(
+            "Form of the output: a line of hexadecimal digits each (hex) or the bytes themselves (bin)",
+        )
 }
 
 /// What clap answered in place of matches.
@@ -188,14 +202,16 @@ fn job_of(matches: &ArgMatches) -> Option<Job> {
     Some(Job {
         kind: kind_of(options.get_str("kind")?)?,
         from: form_of(options.get_str("from")?)?,
-        command: command_of(name)?,
+        command: command_of(name, options)?,
     })
 }
 
-/// The subcommand of that name.
-fn command_of(name: &str) -> Option<Command> {
+/// The subcommand of that name, with its options.
+fn command_of(name: &str, options: &ArgMatches) -> Option<Command> {
     match name {
         "show" => Some(Command::Show),
+        "check" => Some(Command::Check),
+        "convert" => Some(Command::Convert(form_of(options.get_str("to")?)?)),
         _ => None,
     }
 }
@@ -213,6 +229,7 @@ fn kind_of(name: &str) -> Option<Kind> {
 fn form_of(name: &str) -> Option<Form> {
     match name {
         "hex" => Some(Form::Hex),
+        "bin" => Some(Form::Bin),
         _ => None,
     }
 }

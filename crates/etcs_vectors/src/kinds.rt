@@ -48,6 +48,7 @@ fn answer_here(
         "repeated" => runs::tell_repeated(alloc, words, out)?,
         "status" => runs::tell_status(alloc, words, out)?,
         "program" => runs::tell_program(alloc, words, out)?,
+        "bytes" => runs::tell_bytes(alloc, words, out)?,
         "fault" => runs::tell_fault(alloc, words, out)?,
         _ => return Ok(false),
     };

@@ -1,8 +1,8 @@
 //! Vectors of runs over lines of hexadecimal, and of the program's command line. In their texts `\n` is a LF and `\r` a CR.
 
-use crate::words::{drop_line_end, push_unless, size};
+use crate::words::{drop_line_end, push_hex, push_unless, size};
 use etcs_cli::run_words;
-use etcs_row_cases::words::{push_number, push_text, variable};
+use etcs_row_cases::words::{bytes, push_number, push_text, variable};
 use etcs_stream::{
     Command, Form, Input, Job, Kind, Output, RunFault, Source, Tally, run, write_fault,
 };
@@ -290,6 +290,30 @@ pub(crate) fn tell_program(
     push_number(out, u64::from(status))?;
     push_written(output.as_slice(), out)?;
     push_written(faults.as_slice(), out)?;
+    Ok(Some(()))
+}
+
+/// `bytes LINE < HEX`: the status of this command line over these bytes, and what it writes, as hexadecimal digits.
+pub(crate) fn tell_bytes(
+    alloc: Global,
+    words: &str,
+    out: &mut Vec<u8>,
+) -> Result<Option<()>, AllocError> {
+    let Some((line, digits)) = words.split_once(" < ") else {
+        return Ok(None);
+    };
+    let Some(input) = bytes(alloc, digits)? else {
+        return Ok(None);
+    };
+    let mut output: Vec<u8> = Vec::new(alloc);
+    let mut faults: Vec<u8> = Vec::new(alloc);
+    let words = line_words(alloc, line)?;
+    let status = run_words(alloc, words, input.as_slice(), &mut output, &mut faults);
+    push_number(out, u64::from(status))?;
+    if !output.is_empty() {
+        push_text(out, "\n")?;
+        push_hex(out, output.as_slice())?;
+    }
     Ok(Some(()))
 }
 

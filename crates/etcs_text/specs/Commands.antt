@@ -9,6 +9,10 @@ use Rattle.etcs_text.specs.declared.command.Form.TheVariants.{Hex, Bin}
 use Rattle.etcs_text.specs.declared.command.Command.{Command}
 use Rattle.etcs_text.specs.declared.command.Command.TheVariants.{Show, Check, Convert}
 
+-- the bits of the bytes are the item's spelling
+abbrev pub Encodes : EntryValue → List ℕ → Type 0
+Encodes e bytes = (r : Reading) × Spells e r × (bits bytes ≡ spelled r)
+
 -- the bytes whose bits are the item's spelling
 pub record IsEncoded (e : EntryValue) (bytes : List ℕ) : Type 0 where
   pub reading : Reading

@@ -3,7 +3,7 @@ use Rattle.std.specs.Prelude.{◌≡◌, ℕ, List}
 use Rattle.etcs_vars.specs.Reading.{Reading}
 use Rattle.etcs_telegram.specs.declared.size.Size.{Size}
 use Rattle.etcs_telegram.specs.declared.size.Size.TheVariants as size
-use Rattle.etcs_telegram.specs.Telegrams.{TelegramValue, TelegramReads, IsTelegram, telegram_value, user_bits}
+use Rattle.etcs_telegram.specs.Telegrams.{TelegramValue, TelegramReads, telegram_value, user_bits}
 use Rattle.etcs_text.specs.Telegrams.{show_text}
 use Rattle.etcs_text.specs.declared.entry.Kind.{Kind}
 use Rattle.etcs_text.specs.declared.entry.Kind.TheVariants.{Long, Short}

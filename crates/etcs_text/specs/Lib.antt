@@ -4,3 +4,4 @@ pub mod LineSinks
 pub mod Packets
 pub mod Show
 pub mod Telegrams
+pub mod TextLengths

@@ -13,7 +13,7 @@ use Rattle.etcs_telegram.proofs.SameReadings.{viable_along, owner_along}
 use Rattle.etcs_telegram.proofs.Spellings.{regular}
 use Rattle.etcs_text.specs.declared.entry.Kind.{Kind}
 use Rattle.etcs_text.specs.Entries.{EntryValue, of_telegram, size_of, EntryReads}
-use Rattle.etcs_stream.specs.Readers.{Stage, stage_of, reading, finished, Feeds}
+use Rattle.etcs_stream.specs.Readers.{stage_of, reading, finished, Feeds}
 
 abbrev pub Language : Kind → Reading → Type 0
 Language kind = readings_of (EntryReads kind)

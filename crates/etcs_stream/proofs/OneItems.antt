@@ -2,7 +2,7 @@
 use Rattle.std.proofs.Common.{◌≡◌, ℕ, ◌+◌, ◌^◌, ◌<◌, ◌≤◌, Bool, List, [], ◌∷◌, ◌++◌, length, take, get_or, refl, sym, ap, subst, ◌∙◌, arith, append_assoc, length-append, inl, inr}
 use Rattle.std.specs.Prelude.{◌⊎◌, All}
 use Rattle.std.proofs.lemmas.Bool.{cases_lt}
-use Rattle.std.proofs.lemmas.List.{append-nil, take_at, take_all, get_or_past}
+use Rattle.std.proofs.lemmas.List.{append-nil, take_at, get_or_past}
 use Rattle.hex.specs.Hex.{encode_upper}
 use Rattle.etcs_bits.specs.Bits.{bits}
 use Rattle.etcs_bits.proofs.ByteBits.{bits-append}
@@ -24,8 +24,8 @@ use Rattle.etcs_text.specs.declared.command.Command.TheVariants.{Show, Check, Co
 use Rattle.etcs_text.specs.declared.command.Form.{Form}
 use Rattle.etcs_text.specs.declared.command.Form.TheVariants.{Hex, Bin}
 use Rattle.etcs_text.specs.Entries.{EntryValue, of_telegram, EntryReads, Spells, size_of}
-use Rattle.etcs_text.specs.Commands.{IsEncoded, ItemText, ItemsText}
-use Rattle.etcs_stream.specs.Inputs.{End, ended, refused, truncated, bad_hex, endless, EndsWith, BitItems, BadItems, ItemsOf, SaysSoFar, WholeItems, FirstItems}
+use Rattle.etcs_text.specs.Commands.{IsEncoded, ItemText}
+use Rattle.etcs_stream.specs.Inputs.{End, ended, refused, truncated, bad_hex, endless, EndsWith, BitItems, BadItems, SaysSoFar, FirstItems}
 use Rattle.etcs_stream.specs.Streams.{AreSpelled}
 use Rattle.etcs_stream.specs.OneRuns.{OneEnd, OneWhole, OneFront, OneText}
 use Rattle.etcs_stream.proofs.ItemKinds.{Language, same_readings, kind_regular}

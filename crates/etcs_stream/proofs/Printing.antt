@@ -1,6 +1,6 @@
 -- What was told is the text of the first items.
-use Rattle.std.proofs.Common.{◌≡◌, ℕ, Bool, List, [], ◌∷◌, ◌++◌, length, ◌+◌, ◌≤◌, Result, Ok, Err, inl, inr, refl, sym, subst}
-use Rattle.std.specs.Prelude.{◌⊎◌, IfErr, IfOk, OnOk}
+use Rattle.std.proofs.Common.{◌≡◌, ℕ, Bool, List, [], ◌∷◌, ◌++◌, Result, Ok, Err, inl, inr, refl, subst}
+use Rattle.std.specs.Prelude.{IfErr, IfOk, OnOk}
 use Rattle.std.proofs.lemmas.List.{append-nil}
 use Rattle.etcs_bits.specs.Bits.{bits}
 use Rattle.etcs_text.specs.declared.entry.Kind.{Kind}

@@ -1,5 +1,5 @@
 -- What the items of an input are, and how it ends.
-use Rattle.std.specs.Prelude.{◌≡◌, ℕ, ◌+◌, ◌<◌, ◌≤◌, Bool, List, [], ◌∷◌, ◌++◌, length, ◌⊎◌, Some, None, All}
+use Rattle.std.specs.Prelude.{◌≡◌, ℕ, ◌+◌, ◌<◌, ◌≤◌, Bool, List, [], ◌∷◌, ◌++◌, length, ◌⊎◌, Some, All}
 use Rattle.etcs_bits.specs.Bits.{bits}
 use Rattle.etcs_vars.specs.declared.var.Var.{Var}
 use Rattle.etcs_vars.specs.Reading as reading
@@ -8,7 +8,7 @@ use Rattle.etcs_text.specs.declared.entry.Kind.{Kind}
 use Rattle.etcs_text.specs.declared.command.Form.{Form}
 use Rattle.etcs_text.specs.declared.command.Form.TheVariants.{Hex, Bin}
 use Rattle.etcs_text.specs.Entries.{EntryValue, EntryReads}
-use Rattle.etcs_stream.specs.Lines.{bad_place, strip_cr, line_bytes, lines_text, lines_bytes, AreGood, IsHexText}
+use Rattle.etcs_stream.specs.Lines.{bad_place, strip_cr, lines_text, lines_bytes, AreGood, IsHexText}
 use Rattle.etcs_stream.specs.Streams.{AreSpelled}
 
 -- how the items of an input end: with the input; at a bit of an item, which the variable holds; inside an item, after so

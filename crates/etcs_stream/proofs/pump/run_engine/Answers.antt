@@ -1,7 +1,9 @@
-use Rattle.std.proofs.Common.{arith, length, ◌++◌, ◌≡◌, ◌+◌, take, ap, sym, ◌∙◌, inl, inr, Err, refl}
+use Rattle.std.proofs.Common.{arith, length, ◌++◌, ◌≡◌, ◌+◌, ◌≤◌, take, ap, sym, ◌∙◌, inl, inr, Err, refl}
+use Rattle.std.specs.Prelude.{◌⊎◌}
+use Rattle.std.specs.Io.KnownBytes.{IsAtEnd}
 use Rattle.std.proofs.lemmas.Result.{err_from_is_err_and}
-use Rattle.etcs_stream.specs.declared.fault.RunFault.TheVariants.{Write}
-use Rattle.etcs_stream.specs.Engines.{Ends, Stops, StopsAtEnd, Prints}
+use Rattle.etcs_stream.specs.declared.fault.RunFault.TheVariants.{Write, Endless}
+use Rattle.etcs_stream.specs.Engines.{Tells, Ends, Stops, StopsAtEnd, Prints}
 use Rattle.etcs_stream.proofs.Known.{Consumes-end, Consumes-then}
 use Rattle.etcs_stream.proofs.Endings.{engine_of, write_of, engine_if, write_if, ends_if}
 use Rattle.etcs_stream.proofs.pump.run_engine.Goals as goal
@@ -31,7 +33,7 @@ returns-in_err-pass-clause-engine g c =
     let i = c.loop.invariant in
     let p = err_from_is_err_and c.from_residual.result c.from_residual.ensures.1 in
     let gave = Consumes-then _ (g.S.Source.remaining c.loop.source) _ i.given (take c.in-Ok.count c.read.new.buffer) i.consumes c.in-Ok.ensures.bytes.0 in
-    rw (p.1, p.2) (engine_of _ _ _ _ _ _ i.told c.pass.new.text.items gave i.appends (λ t f. Stops (g.E.Engine.job c.args.engine.now) (i.given ++ take c.in-Ok.count c.read.new.buffer) t f) (Prints (g.E.Engine.job c.args.engine.now) (i.given ++ take c.in-Ok.count c.read.new.buffer)) (g.W.Sink.failures c.loop.sink) (g.W.Sink.failures c.pass.new.sink) _ c.in_err-pass.field-0.0 (rw i.job at c.in_err-pass.ensures.err i.given i.told i.stands i.sent) (λ t s. inl s))
+    rw (p.1, p.2) (engine_of _ _ _ _ _ _ i.told c.pass.new.text.items gave i.appends (λ t f. Stops (g.E.Engine.job c.args.engine.now) (i.given ++ take c.in-Ok.count c.read.new.buffer) t f) (Prints (g.E.Engine.job c.args.engine.now) (i.given ++ take c.in-Ok.count c.read.new.buffer)) (g.W.Sink.failures c.loop.sink) (g.W.Sink.failures c.pass.new.sink) (λ given told. Stops (g.E.Engine.job c.args.engine.now) given told c.in_err-pass.field-0.0 ⊎ ((IsAtEnd (g.S.Source.remaining c.read.new.self) × StopsAtEnd (g.E.Engine.job c.args.engine.now) given told c.in_err-pass.field-0.0) ⊎ ((c.in_err-pass.field-0.0 ≡ Endless) × (g.S.Source.reads c.read.new.self ≡ g.S.Source.reads c.args.source.now + 16000000) × (16000000 ≤ length given) × Tells (g.E.Engine.job c.args.engine.now) given told))) c.in_err-pass.field-0.0 (rw i.job at c.in_err-pass.ensures.err i.given i.told i.stands i.sent) (λ t s. inl s))
 
 pub returns-in_err-pass-clause-write : goal.returns-in_err-pass-clause-write
 returns-in_err-pass-clause-write g c =

@@ -1,9 +1,9 @@
 //! A reader of the items of a kind.
 
-ghost use Rattle.std.specs.Prelude.{◌≡◌, ◌*◌, List, Bool, [], OnErr, IfOk, length, ℕ};
+ghost use Rattle.std.specs.Prelude.{◌≡◌, List, Bool, [], OnErr, IfOk, length};
 ghost use Rattle.etcs_bits.specs.Bits.{bits};
 ghost use Rattle.etcs_text.specs.Entries.{EntryReads, EntryValue, entry_value};
-ghost use Rattle.etcs_stream.specs.Readers.{Feeds, reading, finished, seen_bits};
+ghost use Rattle.etcs_stream.specs.Readers.{Feeds, reading, finished};
 
 use etcs_telegram::{Fed, ReadFault, Size, TelegramReader};
 use etcs_text::{Entry, Kind};

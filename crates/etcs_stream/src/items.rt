@@ -1,6 +1,6 @@
 //! The items of bytes, one behind the other.
 
-ghost use Rattle.std.specs.Prelude.{◌≡◌, ◌+◌, ◌<◌, ◌≤◌, ◌++◌, ◌∷◌, ℕ, List, [], length, take, IfErr, IfOk, OnErr, OnOk};
+ghost use Rattle.std.specs.Prelude.{◌≡◌, ◌+◌, ◌<◌, ◌≤◌, ◌++◌, ℕ, List, [], length, take, IfErr, IfOk, OnOk};
 ghost use Rattle.etcs_text.specs.Entries.{EntryValue};
 ghost use Rattle.etcs_text.specs.Commands.{ItemText};
 ghost use Rattle.etcs_stream.specs.declared.fault.RunFault.{RunFault};

@@ -1,6 +1,6 @@
 //! Cuts text into lines of hexadecimal, and gives their bytes to the items.
 
-ghost use Rattle.std.specs.Prelude.{◌≡◌, ◌+◌, ◌-◌, ◌^◌, ◌<◌, ◌≤◌, ◌⊎◌, ◌++◌, ◌∷◌, ℕ, List, [], None, Some, length, vec_len, IfSome, IfErr, OnOk, IsNone};
+ghost use Rattle.std.specs.Prelude.{◌≡◌, ◌+◌, ◌-◌, ◌^◌, ◌<◌, ◌≤◌, ◌⊎◌, ◌++◌, ◌∷◌, ℕ, [], None, Some, length, vec_len, IfSome, IfErr, OnOk, IsNone};
 ghost use Rattle.etcs_text.specs.declared.command.Form.TheVariants as form;
 ghost use Rattle.etcs_stream.specs.declared.fault.RunFault.{RunFault};
 ghost use Rattle.etcs_stream.specs.Inputs.{IsLine};

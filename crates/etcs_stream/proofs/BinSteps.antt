@@ -15,7 +15,7 @@ use Rattle.etcs_stream.specs.Steps.{Advances, Halts}
 use Rattle.etcs_stream.specs.Stands.{ItemsStand, BinStands}
 use Rattle.etcs_stream.specs.Inputs.{End, ended, truncated, BitItems, ItemsOf, SaysFirst}
 use Rattle.etcs_stream.specs.Engines.{Ends, Stops, StopsAtEnd}
-use Rattle.etcs_stream.proofs.Streams.{bits-append}
+use Rattle.etcs_bits.proofs.ByteBits.{bits-append}
 use Rattle.etcs_stream.proofs.Standing.{stand_more, stand_halts, halt_stops, stand_ended, stand_truncated}
 
 items_of : (job : Job) (given : List ℕ) (es : List EntryValue) (end : End) → job.from ≡ Bin → BitItems job.kind (bits given) es end → ItemsOf job.from job.kind given es end

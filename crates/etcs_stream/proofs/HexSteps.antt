@@ -24,7 +24,8 @@ use Rattle.etcs_stream.specs.Stands.{ItemsStand, HexStands}
 use Rattle.etcs_stream.specs.Inputs.{End, ended, refused, truncated, bad_hex, endless, BitItems, IsLine, IsBad, ItemsOf, SaysFirst, FirstItems}
 use Rattle.etcs_stream.specs.Engines.{Ends, Stops, StopsAtEnd}
 use Rattle.etcs_stream.proofs.ItemKinds.{Language}
-use Rattle.etcs_stream.proofs.Streams.{bits-append, Advances-none}
+use Rattle.etcs_bits.proofs.ByteBits.{bits-append}
+use Rattle.etcs_stream.proofs.Streams.{Advances-none}
 use Rattle.etcs_stream.proofs.Standing.{ItemsHalt, IsEarly, stand_more, stand_halts, stand_nothing, halt_stops, halt_ends, stand_ended, stand_truncated}
 use Rattle.etcs_stream.proofs.Cutting.{Says, AreGood-append, lines_text-append, lines_bytes-append, lines_few, first_lf, one_line, cut_text, says_behind, long_bad, long_bad_stripped}
 

@@ -22,7 +22,8 @@ use Rattle.etcs_stream.specs.Stands.{ItemsStand}
 use Rattle.etcs_stream.specs.Inputs.{End, ended, refused, truncated, bad_hex, endless, BitItems, FirstItems, SaysFirst, ItemsOf}
 use Rattle.etcs_stream.specs.Engines.{EndsBy, Stops, StopsAtEnd}
 use Rattle.etcs_stream.proofs.ItemKinds.{Language, kind_regular}
-use Rattle.etcs_stream.proofs.Streams.{bits-append, AreSpelled-append, ItemsText-append}
+use Rattle.etcs_bits.proofs.ByteBits.{bits-append}
+use Rattle.etcs_stream.proofs.Streams.{AreSpelled-append, ItemsText-append}
 
 -- ---- Some bytes more.
 

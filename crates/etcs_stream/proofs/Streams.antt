@@ -2,7 +2,8 @@
 use Rattle.std.proofs.Common.{◌≡◌, ℕ, zero, suc, ◌+◌, ◌-◌, ◌*◌, ◌<◌, ◌≤◌, Bool, List, [], ◌∷◌, ◌++◌, length, take, drop, Result, Ok, Err, add-zero, refl, sym, ap, subst, ◌∙◌, arith, append_assoc, length-append}
 use Rattle.std.proofs.Math.Seq.{take-append-add}
 use Rattle.std.proofs.lemmas.List.{append-nil, length-take-le, take-append-drop, take-append-le, take_all, take_at, take_rest}
-use Rattle.etcs_bits.specs.Bits.{num, bits}
+use Rattle.etcs_bits.specs.Bits.{bits}
+use Rattle.etcs_bits.proofs.ByteBits.{bits-append}
 use Rattle.etcs_bits.proofs.Positions.{length-bits}
 use Rattle.etcs_vars.specs.declared.var.Var.{Var}
 use Rattle.etcs_vars.specs.declared.feed.Fed.{Fed}
@@ -25,11 +26,6 @@ use Rattle.etcs_stream.specs.Readers.{ReaderValue, Stage, Feeds, Awaits, seen_bi
 use Rattle.etcs_stream.specs.Streams.{AreSpelled}
 use Rattle.etcs_stream.specs.Steps.{Advances, Halts, HaltsBy}
 use Rattle.etcs_stream.proofs.ItemKinds.{Language, same_readings}
-
-pub bits-append : (xs ys : List ℕ) → bits (xs ++ ys) ≡ bits xs ++ bits ys
-unfolding bits
-bits-append [] ys = refl
-bits-append (x ∷ xs) ys = ap (λ (t : List Bool). num 8 x ++ t) (bits-append xs ys) ∙ sym (append_assoc (num 8 x) (bits xs) (bits ys))
 
 -- the bits of the first k bytes
 take-bits : (k : ℕ) (bytes : List ℕ) → k ≤ length bytes → take (8 * k) (bits bytes) ≡ bits (take k bytes)

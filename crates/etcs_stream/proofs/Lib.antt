@@ -1,5 +1,3 @@
 pub mod HexDigits
-pub mod Streams
 pub mod Splits
 pub mod Known
-pub mod Runs

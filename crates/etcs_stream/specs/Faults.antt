@@ -14,3 +14,13 @@ fault_line Read = codes "etcs: read fault\n"
 fault_line (Write sent) = codes "etcs: write fault after " ++ decimal sent ++ codes " bytes\n"
 fault_line Endless = codes "etcs: input without end\n"
 fault_line Memory = codes "etcs: out of memory\n"
+
+-- it is of the input, and not of the source or the sink; or memory was refused
+abbrev pub IsOfEngine : RunFault → Type 0
+IsOfEngine (Refused item bit var) = Unit {0}
+IsOfEngine (Truncated item bits) = Unit {0}
+IsOfEngine (BadHex line place) = Unit {0}
+IsOfEngine Read = ⊥
+IsOfEngine (Write sent) = ⊥
+IsOfEngine Endless = Unit {0}
+IsOfEngine Memory = Unit {0}

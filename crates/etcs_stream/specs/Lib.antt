@@ -1,8 +1,12 @@
 pub mod Ends
 pub mod Faults
-pub mod Items
-pub mod Jobs
 pub mod Lines
-pub mod Runs
+pub mod Readers
 pub mod Streams
 pub mod Steps
+pub mod Inputs
+pub mod Engines
+pub mod Pipes
+pub mod Passes
+pub mod Stands
+pub mod StandLaws

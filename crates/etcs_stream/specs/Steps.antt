@@ -1,52 +1,54 @@
--- How a run goes on with each piece that it is given.
-use Rattle.std.specs.Prelude.{◌≡◌, ℕ, ◌+◌, Bool, List, [], ◌++◌, length}
+-- How a run goes on with each piece that it is given, and how it ends early.
+use Rattle.std.specs.Prelude.{◌≡◌, ℕ, ◌+◌, ◌<◌, ◌≤◌, ◌⊎◌, Bool, List, [], ◌∷◌, ◌++◌, length, Some}
 use Rattle.etcs_bits.specs.Bits.{bits}
-use Rattle.etcs_vars.specs.Reading.{NoneYet, readings_of}
-use Rattle.etcs_telegram.specs.declared.size.Size.{Size}
-use Rattle.etcs_telegram.specs.Telegrams.{TelegramValue, telegram_value, ReadsAs}
-use Rattle.etcs_telegram.specs.Readers.{ReaderValue, Stage, reading, finished, stopped, starved}
-use Rattle.etcs_stream.specs.Lines.{Splits}
-use Rattle.etcs_text.specs.Telegrams.{show_text}
-use Rattle.etcs_stream.specs.Items.{run_text}
+use Rattle.etcs_vars.specs.Reading.{readings_of}
+use Rattle.etcs_vars.specs.Walking.{Refuses}
+use Rattle.etcs_text.specs.declared.entry.Kind.{Kind}
+use Rattle.etcs_text.specs.declared.command.Command.{Command}
+use Rattle.etcs_text.specs.Entries.{EntryValue, EntryReads}
+use Rattle.etcs_text.specs.Commands.{ItemsText}
+use Rattle.etcs_stream.specs.declared.fault.RunFault.{RunFault}
+use Rattle.etcs_stream.specs.declared.fault.RunFault.TheVariants.{Refused, Truncated, BadHex, Read, Write, Endless, Memory}
+use Rattle.etcs_stream.specs.Lines.{Splits, AreGood, bad_place, strip_cr, line_bytes, lines_text, lines_bytes}
+use Rattle.etcs_stream.specs.Inputs.{IsLine}
 use Rattle.etcs_stream.specs.Streams.{AreSpelled}
 
--- the bits of an item that isn't whole yet
-abbrev pub seen_bits : Stage → List Bool
-seen_bits (reading bs) = bs
-seen_bits (finished t) = []
-seen_bits (stopped i x) = []
-seen_bits (starved n) = []
-
-abbrev pub IsFinished : Stage → Type 0
-IsFinished (reading bs) = ⊥
-IsFinished (finished t) = Unit {0}
-IsFinished (stopped i x) = ⊥
-IsFinished (starved n) = ⊥
-
--- the text of a whole item
-abbrev pub told_text : Stage → ℕ → List ℕ
-told_text (reading bs) item = []
-told_text (finished t) item = show_text (telegram_value t) item
-told_text (stopped i x) item = []
-told_text (starved n) item = []
-
--- the reader wants more bits of a telegram of this size, and no front of those that came is one
-pub record Awaits (size : Size) (r : ReaderValue) : Type 0 where
-  pub size_is : r.size ≡ size
-  pub stage_is : r.stage ≡ reading (seen_bits r.stage)
-  pub unfinished : NoneYet (readings_of (ReadsAs size)) (seen_bits r.stage)
-
--- with these bytes behind the bits seen before, some telegrams became whole and were told, and bits are left
-pub record Advances (size : Size) (seen seen' : List Bool) (items items' : ℕ) (bytes text text' : List ℕ) : Type 0 where
-  pub told : List TelegramValue
+-- with these bytes behind the bits seen before, some items became whole and were told, and bits are left
+pub record Advances (kind : Kind) (command : Command) (seen seen' : List Bool) (items items' : ℕ) (bytes text text' : List ℕ) : Type 0 where
+  pub told : List EntryValue
   pub spelt : List Bool
-  pub are_spelled : AreSpelled size told spelt
+  pub added : List ℕ
+  pub are_spelled : AreSpelled kind told spelt
   pub bits_are : seen ++ bits bytes ≡ spelt ++ seen'
   pub items_are : items' ≡ items + length told
-  pub text_is : text' ≡ text ++ run_text (items + 1) told
+  pub added_is : ItemsText command (items + 1) told added
+  pub text_is : text' ≡ text ++ added
+
+-- why no more is taken of the bits behind so many items
+abbrev pub HaltsBy : Kind → ℕ → List Bool → RunFault → Type 0
+HaltsBy kind n rest (Refused item i x) = (item ≡ n + 1) × (n < 1000000) × Refuses (readings_of (EntryReads kind)) rest i x
+HaltsBy kind n rest (Truncated item k) = ⊥
+HaltsBy kind n rest (BadHex line place) = ⊥
+HaltsBy kind n rest Read = ⊥
+HaltsBy kind n rest (Write sent) = ⊥
+HaltsBy kind n rest Endless = (n ≡ 1000000) × (0 < length rest)
+HaltsBy kind n rest Memory = Unit {0}
+
+-- with these bytes behind the bits seen before, some items became whole and were told, and then no more was taken
+pub record Halts (kind : Kind) (command : Command) (seen : List Bool) (items : ℕ) (bytes text text' : List ℕ) (fault : RunFault) : Type 0 where
+  pub told : List EntryValue
+  pub spelt : List Bool
+  pub rest : List Bool
+  pub added : List ℕ
+  pub are_spelled : AreSpelled kind told spelt
+  pub bits_are : seen ++ bits bytes ≡ spelt ++ rest
+  pub few : items + length told ≤ 1000000
+  pub added_is : ItemsText command (items + 1) told added
+  pub text_is : text' ≡ text ++ added
+  pub why : HaltsBy kind (items + length told) rest fault
 
 -- the same with a piece of text behind the characters of a line that were kept
-pub record HexAdvances (size : Size) (seen seen' : List Bool) (items items' : ℕ) (kept kept' piece text text' : List ℕ) : Type 0 where
+pub record HexAdvances (kind : Kind) (command : Command) (seen seen' : List Bool) (items items' : ℕ) (kept kept' piece text text' : List ℕ) : Type 0 where
   pub bytes : List ℕ
   pub splits : Splits kept kept' piece bytes
-  pub advances : Advances size seen seen' items items' bytes text text'
+  pub advances : Advances kind command seen seen' items items' bytes text text'

@@ -1,10 +1,10 @@
--- Telegrams one behind the other.
+-- Items one behind the other.
 use Rattle.std.specs.Prelude.{◌≡◌, Bool, List, [], ◌∷◌, ◌++◌}
 use Rattle.etcs_vars.specs.Reading.{Reading, spelled}
-use Rattle.etcs_telegram.specs.declared.size.Size.{Size}
-use Rattle.etcs_telegram.specs.Telegrams.{TelegramValue, ReadsAs}
+use Rattle.etcs_text.specs.declared.entry.Kind.{Kind}
+use Rattle.etcs_text.specs.Entries.{EntryValue, EntryReads}
 
--- the bits are the spellings of the telegrams, one behind the other, and nothing more
-abbrev pub AreSpelled : Size → List TelegramValue → List Bool → Type 0
-AreSpelled size [] bits = bits ≡ []
-AreSpelled size (t ∷ ts) bits = (r : Reading) × (behind : List Bool) × ReadsAs size t r × (bits ≡ spelled r ++ behind) × AreSpelled size ts behind
+-- the bits are the spellings of the items, one behind the other, and nothing more
+abbrev pub AreSpelled : Kind → List EntryValue → List Bool → Type 0
+AreSpelled kind [] bits = bits ≡ []
+AreSpelled kind (e ∷ es) bits = (r : Reading) × (behind : List Bool) × EntryReads kind e r × (bits ≡ spelled r ++ behind) × AreSpelled kind es behind

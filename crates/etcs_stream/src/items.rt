@@ -1,58 +1,62 @@
-//! Cuts bytes into items, and writes the text of each.
+//! The items of bytes, one behind the other.
 
-ghost use Rattle.std.specs.Prelude.{◌≡◌, ◌+◌, ◌<◌, ◌≤◌, ◌++◌, [], length, take, IfOk, OnOk};
-ghost use Rattle.etcs_telegram.specs.Readers.{reading};
-ghost use Rattle.etcs_stream.specs.Steps.{Advances, Awaits, IsFinished, seen_bits, told_text};
+ghost use Rattle.std.specs.Prelude.{◌≡◌, ◌+◌, ◌<◌, ◌≤◌, ◌++◌, ◌∷◌, ℕ, List, [], length, take, IfErr, IfOk, OnErr, OnOk};
+ghost use Rattle.etcs_text.specs.Entries.{EntryValue};
+ghost use Rattle.etcs_text.specs.Commands.{ItemText};
+ghost use Rattle.etcs_stream.specs.declared.fault.RunFault.{RunFault};
+ghost use Rattle.etcs_stream.specs.Readers.{Awaits, seen_bits, reading, finished};
+ghost use Rattle.etcs_stream.specs.Steps.{Advances, Halts};
 
+use crate::entries::EntryReader;
 use crate::fault::RunFault;
-use etcs_telegram::{Fed, ReadFault, Size, TelegramReader};
-use etcs_text::{Entry, show_lines};
+use crate::job::Job;
+use etcs_telegram::{Fed, ReadFault};
+use etcs_text::tell;
 use std::alloc::{AllocError, Global};
 use std::mem;
 
 /// How many items a run has at most.
-pub(crate) const MOST_ITEMS: u64 = 1_000_000;
+const MOST_ITEMS: u64 = 1_000_000;
 
-/// The item that isn't whole yet, and how many were shown.
+/// The item that isn't whole yet, and how many were told.
 #[derive(Drop)]
 pub(crate) struct Items {
     alloc: Global,
-    size: Size,
-    reader: TelegramReader,
-    shown: u64,
+    pub(crate) job: Job,
+    pub(crate) reader: EntryReader,
+    pub(crate) told: u64,
 }
 
 impl Items {
-    /// Nothing was shown, and nothing has come.
-    pub(crate) fn new(alloc: Global, size: Size) -> Items
-        ensures size { result.size ≡ size }
-        ensures open { Awaits size result.reader }
+    /// Nothing was told, and nothing has come.
+    pub(crate) fn new(alloc: Global, job: Job) -> Items
+        ensures job { result.job ≡ job }
+        ensures waits { Awaits job.kind result.reader }
         ensures seen { seen_bits result.reader.stage ≡ [] }
-        ensures shown { result.shown ≡ 0 }
+        ensures told { result.told ≡ 0 }
     {
         Items {
             alloc,
-            size,
-            reader: TelegramReader::new(alloc, size),
-            shown: 0,
+            job,
+            reader: EntryReader::new(alloc, job.kind),
+            told: 0,
         }
     }
 
-    /// How many items were shown.
-    pub(crate) fn shown(&self) -> u64
-        ensures { result ≡ self.now.shown }
-    {
-        self.shown
-    }
-
     /// Takes bytes, and appends the text of each item that becomes whole.
+    ///
+    /// # Errors
+    ///
+    /// `Refused` with the number of the item, `Endless` where there is a byte behind the last item that a run may have,
+    /// `Memory`. The text of the items in front was appended.
     pub(crate) fn take_bytes(&mut self, bytes: &[u8], text: &mut Vec<u8>) -> Result<(), RunFault>
-        requires open { Awaits self.old.size self.old.reader }
-        requires shown { self.old.shown ≤ 1000000 }
-        ensures size { OnOk result (self.new.size ≡ self.old.size) }
-        ensures open { OnOk result (Awaits self.new.size self.new.reader) }
-        ensures shown { OnOk result (self.new.shown ≤ 1000000) }
-        ensures advances { OnOk result (Advances self.old.size (seen_bits self.old.reader.stage) (seen_bits self.new.reader.stage) self.old.shown self.new.shown bytes.now text.old.items text.new.items) }
+        requires waits { Awaits self.old.job.kind self.old.reader }
+        requires told { self.old.told ≤ 1000000 }
+        ensures job { self.new.job ≡ self.old.job }
+        ensures waits { OnOk result (Awaits self.old.job.kind self.new.reader) }
+        ensures told { OnOk result (self.new.told ≤ 1000000) }
+        ensures ok { OnOk result (Advances self.old.job.kind self.old.job.command (seen_bits self.old.reader.stage) (seen_bits self.new.reader.stage) self.old.told self.new.told bytes.now text.old.items text.new.items) }
+        ensures err { IfErr result (λ e. Halts self.old.job.kind self.old.job.command (seen_bits self.old.reader.stage) self.old.told bytes.now text.old.items text.new.items e) }
     {
         let mut rest = bytes;
         while !rest.is_empty() {
@@ -62,46 +66,52 @@ impl Items {
         Ok(())
     }
 
-    /// The input ends here: `Truncated` inside an item.
+    /// The input ends here.
+    ///
+    /// # Errors
+    ///
+    /// `Truncated` inside an item, with the number of its bits.
     pub(crate) fn finish(&self) -> Result<(), RunFault>
-        requires open { Awaits self.now.size self.now.reader }
-        requires shown { self.now.shown ≤ 1000000 }
-        ensures { OnOk result (seen_bits self.now.reader.stage ≡ []) }
+        requires waits { Awaits self.now.job.kind self.now.reader }
+        requires told { self.now.told ≤ 1000000 }
+        ensures ok { OnOk result (seen_bits self.now.reader.stage ≡ []) }
+        ensures err { IfErr result (λ e. (e ≡ RunFault.Truncated (self.now.told + 1) (length (seen_bits self.now.reader.stage))) × (0 < length (seen_bits self.now.reader.stage))) }
     {
         let bits = self.reader.bits_seen();
         if bits == 0 {
             Ok(())
         } else {
             Err(RunFault::Truncated {
-                item: self.shown + 1,
+                item: self.told + 1,
                 bits: bits as u64,
             })
         }
     }
 
-    /// Takes bytes up to the end of an item, which it shows, or all of them, and says how many.
+    /// Takes bytes up to the end of an item, which it tells, or all of them, and says how many.
     fn take_front(&mut self, bytes: &[u8], text: &mut Vec<u8>) -> Result<usize, RunFault>
         requires some { 0 < length bytes.now }
-        requires open { Awaits self.old.size self.old.reader }
-        requires shown { self.old.shown ≤ 1000000 }
+        requires waits { Awaits self.old.job.kind self.old.reader }
+        requires told { self.old.told ≤ 1000000 }
         ensures some { IfOk result (λ n. 0 < n) }
         ensures within { IfOk result (λ n. n ≤ length bytes.now) }
-        ensures size { OnOk result (self.new.size ≡ self.old.size) }
-        ensures open { OnOk result (Awaits self.new.size self.new.reader) }
-        ensures shown { OnOk result (self.new.shown ≤ 1000000) }
-        ensures advances { IfOk result (λ n. Advances self.old.size (seen_bits self.old.reader.stage) (seen_bits self.new.reader.stage) self.old.shown self.new.shown (take n bytes.now) text.old.items text.new.items) }
+        ensures job { self.new.job ≡ self.old.job }
+        ensures waits { OnOk result (Awaits self.old.job.kind self.new.reader) }
+        ensures told { OnOk result (self.new.told ≤ 1000000) }
+        ensures ok { IfOk result (λ n. Advances self.old.job.kind self.old.job.command (seen_bits self.old.reader.stage) (seen_bits self.new.reader.stage) self.old.told self.new.told (take n bytes.now) text.old.items text.new.items) }
+        ensures err { IfErr result (λ e. Halts self.old.job.kind self.old.job.command (seen_bits self.old.reader.stage) self.old.told bytes.now text.old.items text.new.items e) }
     {
-        if self.shown == MOST_ITEMS {
+        if self.told == MOST_ITEMS {
             return Err(RunFault::Endless);
         }
         match self.reader.feed(bytes) {
             Ok(Fed::More) => Ok(bytes.len()),
             Ok(Fed::Done { taken }) => {
-                self.show(text)?;
+                self.tell(text)?;
                 Ok(taken)
             }
             Err(ReadFault::Refused { bit, var }) => Err(RunFault::Refused {
-                item: self.shown + 1,
+                item: self.told + 1,
                 bit,
                 var,
             }),
@@ -111,23 +121,24 @@ impl Items {
     }
 
     /// Appends the text of the whole item, and begins the next.
-    fn show(&mut self, text: &mut Vec<u8>) -> Result<(), RunFault>
-        requires whole { IsFinished self.old.reader.stage }
-        requires shown { self.old.shown < 1000000 }
-        ensures size { self.new.size ≡ self.old.size }
-        ensures next { OnOk result (self.new.reader ≡ record { size = self.old.size; stage = reading [] }) }
-        ensures shown { OnOk result (self.new.shown ≡ self.old.shown + 1) }
-        ensures text { OnOk result (text.new.items ≡ text.old.items ++ told_text self.old.reader.stage (self.old.shown + 1)) }
+    fn tell(&mut self, text: &mut Vec<u8>) -> Result<(), RunFault>
+        requires whole { (e : EntryValue) × (self.old.reader.stage ≡ finished e) }
+        requires told { self.old.told < 1000000 }
+        ensures job { self.new.job ≡ self.old.job }
+        ensures next { OnOk result (self.new.reader ≡ record { kind = self.old.job.kind; stage = reading [] }) }
+        ensures told { OnOk result (self.new.told ≡ self.old.told + 1) }
+        ensures ok { (e : EntryValue) → self.old.reader.stage ≡ finished e → OnOk result ((added : List ℕ) × ItemText self.old.job.command e (self.old.told + 1) added × (text.new.items ≡ text.old.items ++ added)) }
+        ensures err { IfErr result (λ e. (e ≡ RunFault.Memory) × (text.new.items ≡ text.old.items)) }
     {
-        let next = TelegramReader::new(self.alloc, self.size);
+        let next = EntryReader::new(self.alloc, self.job.kind);
         let reader = mem::replace(&mut self.reader, next);
         let entry = match reader.take() {
-            Ok(telegram) => Entry::Telegram(telegram),
-            Err(_) => unreachable!(),
+            Ok(entry) => entry,
+            Err(()) => unreachable!(),
         };
-        match show_lines(&entry, self.shown + 1, text) {
+        match tell(self.job.command, &entry, self.told + 1, text) {
             Ok(()) => {
-                self.shown += 1;
+                self.told += 1;
                 Ok(())
             }
             Err(AllocError) => Err(RunFault::Memory),

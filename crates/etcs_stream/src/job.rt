@@ -1,21 +1,6 @@
 //! What the program is asked to do, and what it answers.
 
-use etcs_telegram::Size;
-use etcs_text::Kind;
-
-/// The form of the input.
-#[derive(Clone, Copy, Debug, PartialEq, Eq)]
-pub enum Form {
-    /// Lines of hexadecimal digits.
-    Hex,
-}
-
-/// What is done with the items.
-#[derive(Clone, Copy, Debug, PartialEq, Eq)]
-pub enum Command {
-    /// Each item is written as lines of text.
-    Show,
-}
+use etcs_text::{Command, Form, Kind};
 
 /// One run.
 #[derive(Clone, Copy, Debug, PartialEq, Eq)]
@@ -31,25 +16,10 @@ pub struct Job {
 /// What a whole run met.
 #[derive(Clone, Copy, Debug, PartialEq, Eq)]
 pub struct Tally {
-    /// How many items were shown.
+    /// How many items were told.
     pub items: u64,
     /// How many items of a group contradict each other: 0 where nothing is grouped.
     pub clashes: u64,
     /// Whether each group is whole: true where nothing is grouped.
     pub complete: bool,
-}
-
-impl Job {
-    ghost use Rattle.std.specs.Prelude.{◌≡◌};
-    ghost use Rattle.etcs_stream.specs.Jobs.{size_of};
-
-    /// The size of the telegrams that the input holds.
-    pub(crate) fn size(self) -> Size
-        ensures { result ≡ size_of self.kind }
-    {
-        match self.kind {
-            Kind::Long => Size::Long,
-            Kind::Short => Size::Short,
-        }
-    }
 }

@@ -1,13 +1,19 @@
 //! Cuts text into lines of hexadecimal, and gives their bytes to the items.
 
-ghost use Rattle.std.specs.Prelude.{◌≡◌, ◌+◌, ◌-◌, ◌^◌, ◌<◌, ◌≤◌, ◌++◌, ◌∷◌, [], None, length, vec_len, IfSome, OnOk, OnErr};
+ghost use Rattle.std.specs.Prelude.{◌≡◌, ◌+◌, ◌-◌, ◌^◌, ◌<◌, ◌≤◌, ◌⊎◌, ◌++◌, ◌∷◌, ℕ, List, [], None, Some, length, vec_len, IfSome, IfErr, OnOk, OnErr};
+ghost use Rattle.etcs_text.specs.declared.command.Form.TheVariants as form;
+ghost use Rattle.etcs_stream.specs.declared.fault.RunFault.{RunFault};
 ghost use Rattle.etcs_stream.specs.Lines.{bad_place, line_bytes, strip_cr};
-ghost use Rattle.etcs_stream.specs.Steps.{Advances, Awaits, HexAdvances, seen_bits};
+ghost use Rattle.etcs_stream.specs.Readers.{Awaits, seen_bits};
+ghost use Rattle.etcs_stream.specs.Steps.{Advances, Halts, HexAdvances};
+ghost use Rattle.etcs_stream.specs.Stands.{HexStands};
+ghost use Rattle.etcs_stream.specs.StandLaws.{hex_tells};
 
 use crate::digits::{MOST_CHARACTERS, decode_line};
+use crate::engine::Engine;
 use crate::fault::RunFault;
 use crate::items::Items;
-use etcs_telegram::Size;
+use crate::job::{Job, Tally};
 use std::alloc::{AllocError, Global};
 
 /// How many characters of an unfinished line are kept at most: a good line and a CR.
@@ -49,13 +55,14 @@ fn take_line(
     number: u64,
     text: &mut Vec<u8>,
 ) -> Result<(), RunFault>
-    requires waits { Awaits items.old.size items.old.reader }
-    requires shown { items.old.shown ≤ 1000000 }
+    requires waits { Awaits items.old.job.kind items.old.reader }
+    requires told { items.old.told ≤ 1000000 }
+    ensures job { items.new.job ≡ items.old.job }
     ensures good { OnOk result (bad_place line.now ≡ None) }
-    ensures size { OnOk result (items.new.size ≡ items.old.size) }
-    ensures waits { OnOk result (Awaits items.new.size items.new.reader) }
-    ensures shown { OnOk result (items.new.shown ≤ 1000000) }
-    ensures advances { OnOk result (Advances items.old.size (seen_bits items.old.reader.stage) (seen_bits items.new.reader.stage) items.old.shown items.new.shown (line_bytes line.now) text.old.items text.new.items) }
+    ensures waits { OnOk result (Awaits items.old.job.kind items.new.reader) }
+    ensures told { OnOk result (items.new.told ≤ 1000000) }
+    ensures ok { OnOk result (Advances items.old.job.kind items.old.job.command (seen_bits items.old.reader.stage) (seen_bits items.new.reader.stage) items.old.told items.new.told (line_bytes line.now) text.old.items text.new.items) }
+    ensures err { IfErr result (λ e. ((place : ℕ) × (bad_place line.now ≡ Some place) × (e ≡ RunFault.BadHex number place) × (text.new.items ≡ text.old.items)) ⊎ ((bad_place line.now ≡ None) × Halts items.old.job.kind items.old.job.command (seen_bits items.old.reader.stage) items.old.told (line_bytes line.now) text.old.items text.new.items e)) }
 {
     if line.is_empty() {
         return Ok(());
@@ -72,26 +79,16 @@ fn take_line(
 
 impl Lines {
     /// Nothing has come yet.
-    pub(crate) fn new(alloc: Global, size: Size) -> Lines
-        ensures kept { result.kept.items ≡ [] }
-        ensures line { result.line ≡ 0 }
-        ensures size { result.items.size ≡ size }
-        ensures waits { Awaits size result.items.reader }
-        ensures seen { seen_bits result.items.reader.stage ≡ [] }
-        ensures shown { result.items.shown ≡ 0 }
+    pub(crate) fn new(alloc: Global, job: Job) -> Lines
+        requires { job.from ≡ form.Hex }
+        ensures job { result.items.job ≡ job }
+        ensures stands { HexStands job result.items.reader result.items.told result.kept.items result.line [] [] }
     {
         Lines {
             kept: Vec::new(alloc),
             line: 0,
-            items: Items::new(alloc, size),
+            items: Items::new(alloc, job),
         }
-    }
-
-    /// How many items were shown.
-    pub(crate) fn shown(&self) -> u64
-        ensures { result ≡ self.now.items.shown }
-    {
-        self.items.shown()
     }
 
     /// Keeps a part of a line.
@@ -100,6 +97,7 @@ impl Lines {
         ensures kept { OnOk result (self.new.kept.items ≡ self.old.kept.items ++ part.now) }
         ensures line { self.new.line ≡ self.old.line }
         ensures items { self.new.items ≡ self.old.items }
+        ensures err { IfErr result (λ e. (e ≡ RunFault.Memory) ⊎ ((4097 < length self.old.kept.items + length part.now) × (e ≡ RunFault.BadHex (self.old.line + 1) 4096))) }
     {
         if part.len() > MOST_KEPT - self.kept.len() {
             return Err(RunFault::BadHex {
@@ -116,15 +114,16 @@ impl Lines {
     /// The kept line ends with a LF.
     fn end_line(&mut self, text: &mut Vec<u8>) -> Result<(), RunFault>
         requires line { self.old.line < 2 ^ 64 - 1 }
-        requires waits { Awaits self.old.items.size self.old.items.reader }
-        requires shown { self.old.items.shown ≤ 1000000 }
+        requires waits { Awaits self.old.items.job.kind self.old.items.reader }
+        requires told { self.old.items.told ≤ 1000000 }
+        ensures job { self.new.items.job ≡ self.old.items.job }
         ensures good { OnOk result (bad_place (strip_cr self.old.kept.items) ≡ None) }
         ensures kept { OnOk result (self.new.kept.items ≡ []) }
         ensures line { OnOk result (self.new.line ≡ self.old.line + 1) }
-        ensures size { OnOk result (self.new.items.size ≡ self.old.items.size) }
-        ensures waits { OnOk result (Awaits self.new.items.size self.new.items.reader) }
-        ensures shown { OnOk result (self.new.items.shown ≤ 1000000) }
-        ensures advances { OnOk result (Advances self.old.items.size (seen_bits self.old.items.reader.stage) (seen_bits self.new.items.reader.stage) self.old.items.shown self.new.items.shown (line_bytes (strip_cr self.old.kept.items)) text.old.items text.new.items) }
+        ensures waits { OnOk result (Awaits self.old.items.job.kind self.new.items.reader) }
+        ensures told { OnOk result (self.new.items.told ≤ 1000000) }
+        ensures ok { OnOk result (Advances self.old.items.job.kind self.old.items.job.command (seen_bits self.old.items.reader.stage) (seen_bits self.new.items.reader.stage) self.old.items.told self.new.items.told (line_bytes (strip_cr self.old.kept.items)) text.old.items text.new.items) }
+        ensures err { IfErr result (λ e. ((place : ℕ) × (bad_place (strip_cr self.old.kept.items) ≡ Some place) × (e ≡ RunFault.BadHex (self.old.line + 1) place) × (text.new.items ≡ text.old.items)) ⊎ ((bad_place (strip_cr self.old.kept.items) ≡ None) × Halts self.old.items.job.kind self.old.items.job.command (seen_bits self.old.items.reader.stage) self.old.items.told (line_bytes (strip_cr self.old.kept.items)) text.old.items text.new.items e)) }
     {
         self.line += 1;
         take_line(
@@ -136,18 +135,14 @@ impl Lines {
         self.kept.clear();
         Ok(())
     }
+}
 
-    /// Takes a piece of the text, and appends the text of each item that becomes whole.
-    pub(crate) fn feed(&mut self, piece: &[u8], text: &mut Vec<u8>) -> Result<(), RunFault>
-        requires line { self.old.line + length piece.now < 2 ^ 64 - 1 }
-        requires waits { Awaits self.old.items.size self.old.items.reader }
-        requires shown { self.old.items.shown ≤ 1000000 }
-        ensures line { OnOk result (self.new.line ≤ self.old.line + length piece.now) }
-        ensures size { OnOk result (self.new.items.size ≡ self.old.items.size) }
-        ensures waits { OnOk result (Awaits self.new.items.size self.new.items.reader) }
-        ensures shown { OnOk result (self.new.items.shown ≤ 1000000) }
-        ensures advances { OnOk result (HexAdvances self.old.items.size (seen_bits self.old.items.reader.stage) (seen_bits self.new.items.reader.stage) self.old.items.shown self.new.items.shown self.old.kept.items self.new.kept.items piece.now text.old.items text.new.items) }
-    {
+impl Engine for Lines {
+    ghost job = { λ s. s.items.job };
+
+    ghost stands = { λ s given told. HexStands s.items.job s.items.reader s.items.told s.kept.items s.line given told };
+
+    fn feed(&mut self, piece: &[u8], text: &mut Vec<u8>) -> Result<(), RunFault> {
         let mut rest = piece;
         while let Some((line, behind)) = split_line(rest) {
             self.keep(line)?;
@@ -157,15 +152,15 @@ impl Lines {
         self.keep(rest)
     }
 
-    /// The text ends here: what is kept is the last line, which has no LF.
-    pub(crate) fn finish(&mut self, text: &mut Vec<u8>) -> Result<(), RunFault>
-        requires line { self.old.line < 2 ^ 64 - 1 }
-        requires waits { Awaits self.old.items.size self.old.items.reader }
-        requires shown { self.old.items.shown ≤ 1000000 }
-        ensures good { OnOk result (bad_place self.old.kept.items ≡ None) }
-        ensures advances { OnOk result (Advances self.old.items.size (seen_bits self.old.items.reader.stage) [] self.old.items.shown self.new.items.shown (line_bytes self.old.kept.items) text.old.items text.new.items) }
-    {
+    fn finish(&mut self, text: &mut Vec<u8>) -> Result<Tally, RunFault> {
         take_line(&mut self.items, self.kept.as_slice(), self.line + 1, text)?;
-        self.items.finish()
+        self.items.finish()?;
+        Ok(Tally {
+            items: self.items.told,
+            clashes: 0,
+            complete: true,
+        })
     }
+
+    ghost stands_tells = { λ s given told h. hex_tells s.items.job s.items.reader s.items.told s.kept.items s.line given told h };
 }

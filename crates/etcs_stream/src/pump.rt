@@ -1,16 +1,17 @@
-//! One run: from a source, through the lines and the items, to a sink.
+//! Bytes from a source through an engine to a sink.
 
-ghost use Rattle.std.specs.Prelude.{◌≡◌, ◌+◌, ◌-◌, ◌^◌, ◌<◌, ◌≤◌, [], None, true, length, IfOk, OnErr, OnOk};
+ghost use Rattle.std.specs.Prelude.{◌≡◌, ◌+◌, ◌^◌, ◌<◌, ◌≤◌, ◌⊎◌, ◌++◌, ℕ, List, [], length, take, Err, IfOk, IfErr, OnErr, OnOk};
 ghost use Rattle.std.specs.Io.KnownBytes.{Appends, IsAtEnd};
-ghost use Rattle.etcs_stream.specs.Jobs.{size_of};
-ghost use Rattle.etcs_stream.specs.Lines.{bad_place, line_bytes};
-ghost use Rattle.etcs_stream.specs.Runs.{ShowsAll};
-ghost use Rattle.etcs_stream.specs.Steps.{Advances, Awaits, HexAdvances, seen_bits};
+ghost use Rattle.etcs_stream.specs.declared.fault.RunFault.{RunFault};
+ghost use Rattle.etcs_stream.specs.Faults.{IsOfEngine};
+ghost use Rattle.etcs_stream.specs.Engines.{Tells, Ends, Stops, StopsAtEnd, Prints};
+ghost use Rattle.etcs_stream.specs.Pipes.{Piped, PipedFirst};
+ghost use Rattle.etcs_stream.specs.Passes.{Stopped, Broken};
 
 use crate::ends::{Failed, Sink, Source};
+use crate::engine::Engine;
 use crate::fault::RunFault;
-use crate::job::{Job, Tally};
-use crate::lines::Lines;
+use crate::job::Tally;
 use std::alloc::Global;
 
 /// How many reads a run has at most.
@@ -18,10 +19,12 @@ const MOST_READS: u64 = 16_000_000;
 
 /// Writes all of the text, and adds to `sent` how many bytes were taken.
 fn send<W: Sink>(sink: &mut W, text: &[u8], sent: &mut u64) -> Result<(), Failed>
-    requires { W.failures sink.old < 2 ^ 63 }
-    ensures ok { OnOk result (Appends (W.contents sink.old) (W.contents sink.new) text.now) }
+    requires failures { W.failures sink.old < 2 ^ 63 }
+    requires room { sent.old + length text.now < 2 ^ 64 }
+    ensures ok { OnOk result (Appends (W.contents sink.old) (W.contents sink.new) text.now × (sent.new ≡ sent.old + length text.now)) }
     ensures none { OnOk result (W.failures sink.new ≡ W.failures sink.old) }
     ensures one { OnErr result (W.failures sink.new ≡ W.failures sink.old + 1) }
+    ensures part { OnErr result ((n : ℕ) × (n ≤ length text.now) × (sent.new ≡ sent.old + n) × Appends (W.contents sink.old) (W.contents sink.new) (take n text.now)) }
 {
     let mut at = 0;
     while at < text.len() {
@@ -31,7 +34,7 @@ fn send<W: Sink>(sink: &mut W, text: &[u8], sent: &mut u64) -> Result<(), Failed
                     return Err(Failed);
                 }
                 at += count;
-                *sent = sent.saturating_add(count as u64);
+                *sent += count as u64;
             }
             Err(Failed) => return Err(Failed),
         }
@@ -40,28 +43,22 @@ fn send<W: Sink>(sink: &mut W, text: &[u8], sent: &mut u64) -> Result<(), Failed
 }
 
 /// Passes a piece of the input through to the sink. What was told before a fault is written first.
-fn pass<W: Sink>(
-    lines: &mut Lines,
+fn pass<E: Engine, W: Sink>(
+    engine: &mut E,
     piece: &[u8],
     text: &mut Vec<u8>,
     sink: &mut W,
     sent: &mut u64,
 ) -> Result<(), RunFault>
-    requires line { lines.old.line + length piece.now < 2 ^ 64 - 1 }
-    requires waits { Awaits lines.old.items.size lines.old.items.reader }
-    requires shown { lines.old.items.shown ≤ 1000000 }
+    requires stands { (given : List ℕ) × (told : List ℕ) × E.stands engine.old given told × (length given + length piece.now < 2 ^ 40) × (sent.old ≡ length told) }
     requires failures { W.failures sink.old < 2 ^ 63 }
-    ensures line { OnOk result (lines.new.line ≤ lines.old.line + length piece.now) }
-    ensures size { OnOk result (lines.new.items.size ≡ lines.old.items.size) }
-    ensures waits { OnOk result (Awaits lines.new.items.size lines.new.items.reader) }
-    ensures shown { OnOk result (lines.new.items.shown ≤ 1000000) }
-    ensures advances { OnOk result (HexAdvances lines.old.items.size (seen_bits lines.old.items.reader.stage) (seen_bits lines.new.items.reader.stage) lines.old.items.shown lines.new.items.shown lines.old.kept.items lines.new.kept.items piece.now [] text.new.items) }
-    ensures sent { OnOk result (Appends (W.contents sink.old) (W.contents sink.new) text.new.items) }
-    ensures none { OnOk result (W.failures sink.new ≡ W.failures sink.old) }
+    ensures job { E.job engine.new ≡ E.job engine.old }
+    ensures ok { (given told : List ℕ) → E.stands engine.old given told → sent.old ≡ length told → OnOk result (E.stands engine.new (given ++ piece.now) (told ++ text.new.items) × Appends (W.contents sink.old) (W.contents sink.new) text.new.items × (sent.new ≡ length (told ++ text.new.items)) × (W.failures sink.new ≡ W.failures sink.old)) }
+    ensures err { (given told : List ℕ) → E.stands engine.old given told → sent.old ≡ length told → IfErr result (λ e. Stopped (Stops (E.job engine.old) (given ++ piece.now)) told text.new.items (W.contents sink.old) (W.contents sink.new) e ⊎ Broken (Prints (E.job engine.old) (given ++ piece.now)) told text.new.items (W.contents sink.old) (W.contents sink.new) (W.failures sink.old) (W.failures sink.new) e) }
     ensures counts { W.failures sink.new ≤ W.failures sink.old + 1 }
 {
     text.clear();
-    let fed = lines.feed(piece, text);
+    let fed = engine.feed(piece, text);
     match send(sink, text.as_slice(), sent) {
         Ok(()) => fed,
         Err(Failed) => Err(RunFault::Write { sent: *sent }),
@@ -69,64 +66,54 @@ fn pass<W: Sink>(
 }
 
 /// The input is at its end: passes on what is left, and flushes the sink.
-fn close<W: Sink>(
-    lines: &mut Lines,
+fn close<E: Engine, W: Sink>(
+    engine: &mut E,
     text: &mut Vec<u8>,
     sink: &mut W,
     sent: &mut u64,
 ) -> Result<Tally, RunFault>
-    requires line { lines.old.line < 2 ^ 64 - 1 }
-    requires waits { Awaits lines.old.items.size lines.old.items.reader }
-    requires shown { lines.old.items.shown ≤ 1000000 }
+    requires stands { (given : List ℕ) × (told : List ℕ) × E.stands engine.old given told × (length given < 2 ^ 40) × (sent.old ≡ length told) }
     requires failures { W.failures sink.old < 2 ^ 63 }
-    ensures good { OnOk result (bad_place lines.old.kept.items ≡ None) }
-    ensures advances { IfOk result (λ tally. Advances lines.old.items.size (seen_bits lines.old.items.reader.stage) [] lines.old.items.shown tally.items (line_bytes lines.old.kept.items) [] text.new.items) }
-    ensures sent { OnOk result (Appends (W.contents sink.old) (W.contents sink.new) text.new.items) }
-    ensures tally { IfOk result (λ tally. (tally.clashes ≡ 0) × (tally.complete ≡ true)) }
-    ensures none { OnOk result (W.failures sink.new ≡ W.failures sink.old) }
+    ensures ok { (given told : List ℕ) → E.stands engine.old given told → sent.old ≡ length told → IfOk result (λ tally. Ends (E.job engine.old) given (told ++ text.new.items) tally × Appends (W.contents sink.old) (W.contents sink.new) text.new.items × (W.failures sink.new ≡ W.failures sink.old)) }
+    ensures err { (given told : List ℕ) → E.stands engine.old given told → sent.old ≡ length told → IfErr result (λ e. Stopped (StopsAtEnd (E.job engine.old) given) told text.new.items (W.contents sink.old) (W.contents sink.new) e ⊎ Broken (Prints (E.job engine.old) given) told text.new.items (W.contents sink.old) (W.contents sink.new) (W.failures sink.old) (W.failures sink.new) e) }
     ensures counts { W.failures sink.new ≤ W.failures sink.old + 1 }
 {
     text.clear();
-    let finished = lines.finish(text);
+    let finished = engine.finish(text);
     match send(sink, text.as_slice(), sent) {
         Ok(()) => {}
         Err(Failed) => return Err(RunFault::Write { sent: *sent }),
     }
-    finished?;
+    let tally = match finished {
+        Ok(tally) => tally,
+        Err(fault) => return Err(fault),
+    };
     match sink.flush() {
-        Ok(()) => Ok(Tally {
-            items: lines.shown(),
-            clashes: 0,
-            complete: true,
-        }),
+        Ok(()) => Ok(tally),
         Err(Failed) => Err(RunFault::Write { sent: *sent }),
     }
 }
 
-/// Shows each telegram of the input as text, and says how many they were. The input is lines of
-/// hexadecimal, whose bytes are telegrams of the job's kind one behind the other.
-///
-/// Each fault says what the run met: `Refused` and `Truncated` an item, `BadHex` a line, `Read` and
-/// `Write` a call that failed, `Endless` more than 16,000,000 reads or 1,000,000 items, `Memory` a
-/// refused allocation. The text of the items that were whole before a fault is written out first.
-pub fn run<S: Source, W: Sink>(
+/// Runs an engine over the whole input.
+pub(crate) fn run_engine<E: Engine, S: Source, W: Sink>(
+    engine: &mut E,
     alloc: Global,
-    job: Job,
     source: &mut S,
     sink: &mut W,
 ) -> Result<Tally, RunFault>
+    requires fresh { E.stands engine.old [] [] }
     requires reads { S.reads source.old < 2 ^ 63 }
     requires read_failures { S.failures source.old < 2 ^ 63 }
     requires write_failures { W.failures sink.old < 2 ^ 63 }
-    ensures ok { IfOk result (λ tally. ShowsAll (size_of job.kind) (S.remaining source.old) (S.remaining source.new) (W.contents sink.old) (W.contents sink.new) tally) }
-    ensures at_end { OnOk result (IsAtEnd (S.remaining source.new)) }
-    ensures no_read_failed { OnOk result (S.failures source.new ≡ S.failures source.old) }
-    ensures no_write_failed { OnOk result (W.failures sink.new ≡ W.failures sink.old) }
+    ensures ok { IfOk result (λ tally. Piped (λ given told. Ends (E.job engine.old) given told tally) (S.remaining source.old) (S.remaining source.new) (W.contents sink.old) (W.contents sink.new)) }
+    ensures at_end { OnOk result (IsAtEnd (S.remaining source.new) × (S.failures source.new ≡ S.failures source.old) × (W.failures sink.new ≡ W.failures sink.old)) }
+    ensures engine { IfErr result (λ e. IsOfEngine e → Piped (λ given told. Stops (E.job engine.old) given told e ⊎ ((IsAtEnd (S.remaining source.new) × StopsAtEnd (E.job engine.old) given told e) ⊎ ((e ≡ RunFault.Endless) × (S.reads source.new ≡ S.reads source.old + 16000000) × (16000000 ≤ length given) × Tells (E.job engine.old) given told))) (S.remaining source.old) (S.remaining source.new) (W.contents sink.old) (W.contents sink.new)) }
+    ensures read { result ≡ Err RunFault.Read → Piped (Tells (E.job engine.old)) (S.remaining source.old) (S.remaining source.new) (W.contents sink.old) (W.contents sink.new) × (S.failures source.new ≡ S.failures source.old + 1) }
+    ensures write { (n : ℕ) → result ≡ Err (RunFault.Write n) → PipedFirst n (Prints (E.job engine.old)) (S.remaining source.old) (S.remaining source.new) (W.contents sink.old) (W.contents sink.new) × (W.failures sink.new ≡ W.failures sink.old + 1) }
     ensures counts { W.failures sink.new ≤ W.failures sink.old + 1 }
     ensures reads { S.reads source.new ≤ S.reads source.old + 16000000 }
     ensures read_counts { S.failures source.new ≤ S.failures source.old + 1 }
 {
-    let mut lines = Lines::new(alloc, job.size());
     let mut text = Vec::new(alloc);
     let mut buffer = [0u8; 4096];
     let mut sent = 0u64;
@@ -136,9 +123,9 @@ pub fn run<S: Source, W: Sink>(
             Err(Failed) => return Err(RunFault::Read),
         };
         if count == 0 {
-            return close(&mut lines, &mut text, sink, &mut sent);
+            return close(engine, &mut text, sink, &mut sent);
         }
-        pass(&mut lines, &buffer[..count], &mut text, sink, &mut sent)?;
+        pass(engine, &buffer[..count], &mut text, sink, &mut sent)?;
     }
     Err(RunFault::Endless)
 }

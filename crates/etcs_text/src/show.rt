@@ -2,7 +2,7 @@
 
 ghost use Rattle.std.specs.Prelude.{◌≡◌, ◌++◌, OnErr, OnOk, flat_map};
 ghost use Rattle.etcs_telegram.specs.Telegrams.{header_reading};
-ghost use Rattle.etcs_text.specs.Entries.{entry_text};
+ghost use Rattle.etcs_text.specs.Entries.{entry_text, entry_value};
 ghost use Rattle.etcs_text.specs.Show.{fill_line, item_line, kind_word, variable_line};
 ghost use Rattle.etcs_text.specs.Telegrams.{show_text};
 ghost use Rattle.etcs_telegram.specs.Telegrams.{telegram_value};
@@ -67,7 +67,7 @@ fn push_telegram(telegram: &Telegram, item: u64, out: &mut Vec<u8>) -> Result<()
 
 /// Appends the text of an entry. A refused allocation may leave a part of it.
 fn push_entry(entry: &Entry, item: u64, out: &mut Vec<u8>) -> Result<(), AllocError>
-    ensures { OnOk result (out.new.items ≡ out.old.items ++ entry_text entry.now item) }
+    ensures { OnOk result (out.new.items ≡ out.old.items ++ entry_text (entry_value entry.now) item) }
 {
     match entry {
         Entry::Telegram(telegram) => push_telegram(telegram, item, out),
@@ -82,7 +82,7 @@ fn push_entry(entry: &Entry, item: u64, out: &mut Vec<u8>) -> Result<(), AllocEr
 ///
 /// Where memory is refused. `out` is then as before.
 pub fn show_lines(entry: &Entry, item: u64, out: &mut Vec<u8>) -> Result<(), AllocError>
-    ensures ok { OnOk result (out.new.items ≡ out.old.items ++ entry_text entry.now item) }
+    ensures ok { OnOk result (out.new.items ≡ out.old.items ++ entry_text (entry_value entry.now) item) }
     ensures err { OnErr result (out.new.items ≡ out.old.items) }
 {
     let mut text = Vec::with_capacity(*out.allocator(), 1024)?;

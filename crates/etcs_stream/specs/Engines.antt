@@ -1,0 +1,46 @@
+-- What a run tells of its input, by its job.
+use Rattle.std.specs.Prelude.{◌≡◌, ℕ, ◌+◌, true, List, ◌++◌, length, ◌⊎◌}
+use Rattle.etcs_text.specs.Entries.{EntryValue}
+use Rattle.etcs_text.specs.Commands.{ItemsText}
+use Rattle.etcs_stream.specs.declared.job.Job.{Job}
+use Rattle.etcs_stream.specs.declared.job.Tally.{Tally}
+use Rattle.etcs_stream.specs.declared.fault.RunFault.{RunFault}
+use Rattle.etcs_stream.specs.declared.fault.RunFault.TheVariants.{Refused, Truncated, BadHex, Endless, Memory}
+use Rattle.etcs_stream.specs.Inputs.{End, ended, refused, truncated, bad_hex, endless, ItemsOf, WholeItems, FirstItems}
+
+-- the fault by which the items of an input end, behind so many of them
+abbrev pub EndsBy : ℕ → End → RunFault → Type 0
+EndsBy n ended f = ⊥
+EndsBy n (refused i x) f = f ≡ Refused (n + 1) i x
+EndsBy n (truncated k) f = f ≡ Truncated (n + 1) k
+EndsBy n (bad_hex line place) f = f ≡ BadHex line place
+EndsBy n endless f = f ≡ Endless
+
+-- the text of the items that are whole in what is there of the input
+abbrev pub Tells : Job → List ℕ → List ℕ → Type 0
+Tells job given told = (es : List EntryValue) × WholeItems job.from job.kind given es × ItemsText job.command 1 es told
+
+-- these bytes are a whole input of nothing but items, with this text and this tally
+pub record Ends (job : Job) (given told : List ℕ) (tally : Tally) : Type 0 where
+  pub items : List EntryValue
+  pub items_of : ItemsOf job.from job.kind given items ended
+  pub text : ItemsText job.command 1 items told
+  pub items_are : tally.items ≡ length items
+  pub no_clash : tally.clashes ≡ 0
+  pub complete : tally.complete ≡ true
+
+-- memory was refused behind some items at the front of the input, with this text
+abbrev pub Starves : Job → List ℕ → List ℕ → RunFault → Type 0
+Starves job given told f = (f ≡ Memory) × ((es : List EntryValue) × FirstItems job.from job.kind given es × ItemsText job.command 1 es told)
+
+-- each input that begins with these bytes ends by the fault, behind the items of this text; or memory was refused
+abbrev pub Stops : Job → List ℕ → List ℕ → RunFault → Type 0
+Stops job given told f = Starves job given told f ⊎ ((es : List EntryValue) × (end : End) × EndsBy (length es) end f × ItemsText job.command 1 es told × ((more : List ℕ) → ItemsOf job.from job.kind (given ++ more) es end))
+
+-- the input of these bytes does
+abbrev pub StopsAtEnd : Job → List ℕ → List ℕ → RunFault → Type 0
+StopsAtEnd job given told f = Starves job given told f ⊎ ((es : List EntryValue) × (end : End) × EndsBy (length es) end f × ItemsText job.command 1 es told × ItemsOf job.from job.kind given es end)
+
+-- this text is the front of that of the first items of an input that begins so
+abbrev pub Prints : Job → List ℕ → List ℕ → Type 0
+Prints job given told = (es : List EntryValue) × (text : List ℕ) × (behind : List ℕ) × FirstItems job.from job.kind given es × ItemsText job.command 1 es text × (text ≡ told ++ behind)

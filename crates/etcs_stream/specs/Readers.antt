@@ -1,0 +1,49 @@
+-- What a reader of items stands for, and what a feed answers.
+use Rattle.std.specs.Prelude.{◌≡◌, ℕ, ◌+◌, ◌*◌, ◌≤◌, Bool, List, [], ◌++◌, length, Result, Ok, Err}
+use Rattle.etcs_vars.specs.declared.var.Var.{Var}
+use Rattle.etcs_vars.specs.Reading.{Reading, NoneYet, readings_of, IsOutcome, done, refused, more}
+use Rattle.etcs_vars.specs.declared.feed.Fed.{Fed}
+use Rattle.etcs_vars.specs.declared.feed.Fed.TheVariants.{More, Done}
+use Rattle.etcs_vars.specs.declared.feed.ReadFault.{ReadFault}
+use Rattle.etcs_vars.specs.declared.feed.ReadFault.TheVariants.{Refused, Ended, Memory}
+use Rattle.etcs_telegram.specs.Telegrams.{telegram_value}
+use Rattle.etcs_telegram.specs.Readers as telegram
+use Rattle.etcs_text.specs.declared.entry.Kind.{Kind}
+use Rattle.etcs_text.specs.Entries.{EntryValue, of_telegram, EntryReads}
+
+-- it has taken these bits and wants more; it has an item; it takes no more
+pub data Stage : Type 0 where
+  reading : List Bool → Stage
+  finished : EntryValue → Stage
+  stopped : Stage
+
+pub record ReaderValue : Type 0 where
+  pub kind : Kind
+  pub stage : Stage
+
+-- that of a reader of telegrams
+abbrev pub stage_of : telegram.Stage → Stage
+stage_of (telegram.reading b) = reading b
+stage_of (telegram.finished t) = finished (of_telegram (telegram_value t))
+stage_of (telegram.stopped i x) = stopped
+stage_of (telegram.starved n) = stopped
+
+-- the bits of an item that isn't whole yet
+abbrev pub seen_bits : Stage → List Bool
+seen_bits (reading b) = b
+seen_bits (finished e) = []
+seen_bits stopped = []
+
+-- the bits that were seen and the new ones together, the answer, and the stage behind it
+abbrev pub Feeds : (EntryValue → Reading → Type 0) → List Bool → List Bool → Result Fed ReadFault → Stage → Type 0
+Feeds Reads seen new (Ok More) s = (s ≡ reading (seen ++ new)) × IsOutcome Reads (seen ++ new) more
+Feeds Reads seen new (Ok (Done k)) s = (e : EntryValue) × (s ≡ finished e) × (8 * k ≤ length new) × IsOutcome Reads (seen ++ new) (done e (length seen + 8 * k))
+Feeds Reads seen new (Err (Refused i x)) s = IsOutcome Reads (seen ++ new) (refused i x)
+Feeds Reads seen new (Err Memory) s = Unit {0}
+Feeds Reads seen new (Err Ended) s = ⊥
+
+-- the reader wants more bits of an item of this kind, and no front of those that came is one
+pub record Awaits (kind : Kind) (r : ReaderValue) : Type 0 where
+  pub kind_is : r.kind ≡ kind
+  pub stage_is : r.stage ≡ reading (seen_bits r.stage)
+  pub unfinished : NoneYet (readings_of (EntryReads kind)) (seen_bits r.stage)

@@ -1,0 +1,52 @@
+//! The engine of bytes that are the items themselves.
+
+ghost use Rattle.std.specs.Prelude.{◌≡◌, []};
+ghost use Rattle.etcs_text.specs.declared.command.Form.TheVariants as form;
+ghost use Rattle.etcs_stream.specs.Stands.{BinStands};
+ghost use Rattle.etcs_stream.specs.StandLaws.{bin_tells};
+
+use crate::engine::Engine;
+use crate::fault::RunFault;
+use crate::items::Items;
+use crate::job::{Job, Tally};
+use std::alloc::Global;
+
+/// Tells the items of bytes.
+#[derive(Drop)]
+pub(crate) struct Bin {
+    items: Items,
+}
+
+impl Bin {
+    /// Nothing has come yet.
+    pub(crate) fn new(alloc: Global, job: Job) -> Bin
+        requires { job.from ≡ form.Bin }
+        ensures job { result.items.job ≡ job }
+        ensures stands { BinStands job result.items.reader result.items.told [] [] }
+    {
+        Bin {
+            items: Items::new(alloc, job),
+        }
+    }
+}
+
+impl Engine for Bin {
+    ghost job = { λ s. s.items.job };
+
+    ghost stands = { λ s given told. BinStands s.items.job s.items.reader s.items.told given told };
+
+    fn feed(&mut self, piece: &[u8], text: &mut Vec<u8>) -> Result<(), RunFault> {
+        self.items.take_bytes(piece, text)
+    }
+
+    fn finish(&mut self, _text: &mut Vec<u8>) -> Result<Tally, RunFault> {
+        self.items.finish()?;
+        Ok(Tally {
+            items: self.items.told,
+            clashes: 0,
+            complete: true,
+        })
+    }
+
+    ghost stands_tells = { λ s given told h. bin_tells s.items.job s.items.reader s.items.told given told h };
+}

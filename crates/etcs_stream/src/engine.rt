@@ -1,0 +1,48 @@
+//! What is fed with the input, and tells text of it.
+
+ghost use Rattle.std.specs.Prelude.{◌≡◌, ◌<◌, ◌+◌, ◌^◌, ℕ, List, [], ◌++◌, length, IfOk, IfErr, OnOk};
+ghost use Rattle.etcs_stream.specs.Faults.{IsOfEngine};
+ghost use Rattle.etcs_stream.specs.Engines.{Tells, Ends, Stops, StopsAtEnd};
+
+use crate::fault::RunFault;
+use crate::job::{Job, Tally};
+
+/// Tells text of the bytes that it is fed.
+pub(crate) trait Engine {
+    ghost use Rattle.std.specs.Prelude.{◌≡◌, ◌<◌, ◌+◌, ◌^◌, ℕ, List, [], ◌++◌, length};
+    ghost use Rattle.etcs_stream.specs.declared.job.Job.{Job};
+    ghost use Rattle.etcs_stream.specs.Engines.{Tells};
+
+    ghost job: { Self → Job };
+
+    /// These bytes were fed, and this text was told of them.
+    ghost stands: { Self → List ℕ → List ℕ → Type 0 };
+
+    /// Takes a piece of the input, and appends the text of each item that becomes whole.
+    ///
+    /// # Errors
+    ///
+    /// `Refused`, `BadHex` and `Endless` where each input that begins so ends so, and `Memory`. The text of the items
+    /// in front was appended.
+    fn feed(&mut self, piece: &[u8], text: &mut Vec<u8>) -> Result<(), RunFault>
+        requires stands { (given : List ℕ) × (told : List ℕ) × stands self.old given told × (length given + length piece.now < 2 ^ 40) }
+        requires empty { text.old.items ≡ [] }
+        ensures job { job self.new ≡ job self.old }
+        ensures ok { (given told : List ℕ) → stands self.old given told → OnOk result (stands self.new (given ++ piece.now) (told ++ text.new.items)) }
+        ensures err { (given told : List ℕ) → stands self.old given told → IfErr result (λ e. IsOfEngine e × Stops (job self.old) (given ++ piece.now) (told ++ text.new.items) e) }
+        ensures short { (given told : List ℕ) → stands self.old given told → length told + length text.new.items < 2 ^ 62 };
+
+    /// The input ends here.
+    ///
+    /// # Errors
+    ///
+    /// The same, `Truncated` inside an item, and `BadHex` where the last line is bad.
+    fn finish(&mut self, text: &mut Vec<u8>) -> Result<Tally, RunFault>
+        requires stands { (given : List ℕ) × (told : List ℕ) × stands self.old given told × (length given < 2 ^ 40) }
+        requires empty { text.old.items ≡ [] }
+        ensures ok { (given told : List ℕ) → stands self.old given told → IfOk result (λ tally. Ends (job self.old) given (told ++ text.new.items) tally) }
+        ensures err { (given told : List ℕ) → stands self.old given told → IfErr result (λ e. IsOfEngine e × StopsAtEnd (job self.old) given (told ++ text.new.items) e) }
+        ensures short { (given told : List ℕ) → stands self.old given told → length told + length text.new.items < 2 ^ 62 };
+
+    ghost stands_tells: { (e : Self) (given told : List ℕ) → stands e given told → Tells (job e) given told };
+}

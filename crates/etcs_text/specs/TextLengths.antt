@@ -1,0 +1,344 @@
+-- How long the text of an item can be.
+use Rattle.std.proofs.Common.{◌≡◌, ℕ, zero, suc, ◌+◌, ◌*◌, ◌^◌, ◌<◌, ◌≤◌, Bool, true, false, List, [], ◌∷◌, ◌++◌, length, flat_map, Some, None, refl, ap, subst, ◌∙◌, arith, decimal, ◌==◌}
+use Rattle.std.specs.Prelude.{Option, codes, if◌then◌else◌, ◌/◌, ◌%◌}
+use Rattle.std.proofs.Math.Nat.{pow-le-pow_right}
+use Rattle.std.specs.Prelude.{replicate}
+use Rattle.std.proofs.lemmas.List.{length-append, length-map}
+use Rattle.std.proofs.lemmas.Fmt.{length-decimal-le}
+use Rattle.hex.specs.Hex.{encode_upper, upper_digits}
+use Rattle.hex.proofs.HexLemmas.{length-encode_with}
+use Rattle.etcs_bits.specs.Bits.{num, bits}
+use Rattle.etcs_bits.proofs.Numbers.{length-num}
+use Rattle.etcs_bits.proofs.Positions.{length-bits}
+use Rattle.etcs_vars.specs.declared.var.Var.{Var}
+use Rattle.etcs_vars.specs.declared.var.Var.TheVariants.{Q_UPDOWN, M_VERSION_HEADER, Q_MEDIA, N_PIG, N_TOTAL, M_DUP, M_MCOUNT, NID_C, NID_BG, Q_LINK, NID_PACKET, Q_DIR, L_PACKET, Q_SCALE, N_ITER, NID_VBCMK, D_LINK, Q_NEWCOUNTRY, Q_LINKORIENTATION, Q_LINKREACTION, Q_LOCACC, V_MAIN, V_LOA, T_LOA, L_SECTION, Q_SECTIONTIMER, T_SECTIONTIMER, D_SECTIONTIMERSTOPLOC, L_ENDSECTION, Q_ENDTIMER, T_ENDTIMER, D_ENDTIMERSTARTLOC, Q_DANGERPOINT, D_DP, V_RELEASEDP, Q_OVERLAP, D_STARTOL, T_OL, D_OL, V_RELEASEOL, D_GRADIENT, Q_GDIR, G_A, G_TSR, D_STATIC, V_STATIC, Q_FRONT, Q_DIFF, NC_CDDIFF, NC_DIFF, V_DIFF, D_LEVELTR, M_LEVELTR, NID_NTC, L_ACKLEVELTR, Q_RBC, NID_RBC, NID_RADIO, Q_SLEEPSESSION, NID_MN, NID_TSR, D_TSR, L_TSR, V_TSR, Q_TEXTCLASS, Q_TEXTDISPLAY, D_TEXTDISPLAY, M_MODETEXTDISPLAY, M_LEVELTEXTDISPLAY, L_TEXTDISPLAY, T_TEXTDISPLAY, Q_TEXTCONFIRM, Q_CONFTEXTDISPLAY, Q_TEXTREPORT, NID_TEXTMESSAGE, L_TEXT, X_TEXT, Q_TEXT, Q_ASPECT, Q_SRSTOP, NID_OPERATIONAL, M_VERSION, NID_MESSAGE, L_MESSAGE, T_TRAIN, M_ACK, NID_LRBG, D_SR, NID_EM, D_REF, Q_ORIENTATION, FILL, OTHER_DATA, PADDING, PAD}
+use Rattle.etcs_vars.specs.Vars.{name, special, width}
+use Rattle.etcs_vars.specs.Reading.{Reading, Sent, spelled, kept}
+use Rattle.etcs_vars.proofs.Prefixes.{width-le, width_pos}
+use Rattle.etcs_vars.proofs.Apart.{AllFit}
+use Rattle.etcs_vars.proofs.Walk.{spelled-append}
+use Rattle.etcs_packets.specs.PacketValues.{PacketValue, nid_of}
+use Rattle.etcs_packets.specs.PacketValues as packet
+use Rattle.etcs_packets.specs.PacketReadings.{packet_reading, packets_reading, packet_bits}
+use Rattle.etcs_telegram.specs.declared.size.Size.{Size}
+use Rattle.etcs_telegram.specs.declared.size.Size.TheVariants as size
+use Rattle.etcs_telegram.specs.Telegrams.{TelegramValue, TelegramReads, header_reading, closed_reading, user_bits, pad_bits}
+use Rattle.etcs_telegram.proofs.Spellings.{regular, whole_length}
+use Rattle.etcs_text.specs.declared.entry.Kind.{Kind}
+use Rattle.etcs_text.specs.declared.command.Form.TheVariants.{Hex, Bin}
+use Rattle.etcs_text.specs.declared.command.Command.{Command}
+use Rattle.etcs_text.specs.declared.command.Command.TheVariants.{Show, Check, Convert}
+use Rattle.etcs_text.specs.Commands.{IsEncoded, ItemText, ItemsText, check_line}
+use Rattle.etcs_text.specs.Entries.{EntryValue, of_telegram, EntryReads}
+use Rattle.etcs_text.specs.Packets.{packet_line, frame_lines, body_lines, packet_text, packets_text}
+use Rattle.etcs_text.specs.Show.{variable_line, number_text, special_text, hex_digit, hex_digits, bit_digit, bits_text, bits_line, item_line, kind_word, fill_line}
+use Rattle.etcs_text.specs.Telegrams.{show_text}
+
+-- ---- A variable.
+
+hex_long : (count n : ℕ) → length (hex_digits count n) ≡ count
+hex_long zero n = refl
+hex_long (suc count) n = length-append (hex_digits count (n / 16)) (hex_digit (n % 16) ∷ []) ∙ omega (arith, hex_long count (n / 16))
+
+chosen : (b : Bool) (text : List ℕ) (o : Option (List ℕ)) → length (special_text (Some text)) ≤ 24 → length (special_text o) ≤ 24 → length (special_text (if b then Some text else o)) ≤ 24
+chosen true text o h k = h
+chosen false text o h k = k
+
+-- what stands behind its two blanks, but for the blank and the LF
+parts_short : (v : Var) (n : ℕ) → length (decimal n) ≤ 20 → length (name v) + (length (number_text v n) + length (special_text (special v n))) ≤ 68
+parts_short Q_UPDOWN n h = omega (arith, h)
+parts_short M_VERSION_HEADER n h = omega (arith, h)
+parts_short Q_MEDIA n h = omega (arith, h)
+parts_short N_PIG n h = omega (arith, h)
+parts_short N_TOTAL n h = omega (arith, h)
+parts_short M_DUP n h = omega (arith, h)
+parts_short M_MCOUNT n h = omega (arith, h)
+parts_short NID_C n h = omega (arith, h)
+parts_short NID_BG n h = omega (arith, h)
+parts_short Q_LINK n h = omega (arith, h)
+parts_short NID_PACKET n h = omega (arith, h)
+parts_short Q_DIR n h = omega (arith, h)
+parts_short L_PACKET n h = omega (arith, h)
+parts_short Q_SCALE n h = omega (arith, h)
+parts_short N_ITER n h = omega (arith, h)
+parts_short NID_VBCMK n h = omega (arith, h)
+parts_short D_LINK n h = omega (arith, h)
+parts_short Q_NEWCOUNTRY n h = omega (arith, h)
+parts_short Q_LINKORIENTATION n h = omega (arith, h)
+parts_short Q_LINKREACTION n h = omega (arith, h)
+parts_short Q_LOCACC n h = omega (arith, h)
+parts_short V_MAIN n h = omega (arith, h)
+parts_short V_LOA n h = omega (arith, h)
+parts_short T_LOA n h = let s = chosen (n == 1023) (codes "unlimited") (None) (omega arith) (omega arith) in omega (arith, h, s)
+parts_short L_SECTION n h = omega (arith, h)
+parts_short Q_SECTIONTIMER n h = omega (arith, h)
+parts_short T_SECTIONTIMER n h = let s = chosen (n == 1023) (codes "unlimited") (None) (omega arith) (omega arith) in omega (arith, h, s)
+parts_short D_SECTIONTIMERSTOPLOC n h = omega (arith, h)
+parts_short L_ENDSECTION n h = omega (arith, h)
+parts_short Q_ENDTIMER n h = omega (arith, h)
+parts_short T_ENDTIMER n h = let s = chosen (n == 1023) (codes "unlimited") (None) (omega arith) (omega arith) in omega (arith, h, s)
+parts_short D_ENDTIMERSTARTLOC n h = omega (arith, h)
+parts_short Q_DANGERPOINT n h = omega (arith, h)
+parts_short D_DP n h = omega (arith, h)
+parts_short V_RELEASEDP n h = let s = chosen (n == 126) (codes "calculated on board") (if n == 127 then Some (codes "national value") else None) (omega arith) (chosen (n == 127) (codes "national value") (None) (omega arith) (omega arith)) in omega (arith, h, s)
+parts_short Q_OVERLAP n h = omega (arith, h)
+parts_short D_STARTOL n h = omega (arith, h)
+parts_short T_OL n h = let s = chosen (n == 1023) (codes "unlimited") (None) (omega arith) (omega arith) in omega (arith, h, s)
+parts_short D_OL n h = omega (arith, h)
+parts_short V_RELEASEOL n h = let s = chosen (n == 126) (codes "calculated on board") (if n == 127 then Some (codes "national value") else None) (omega arith) (chosen (n == 127) (codes "national value") (None) (omega arith) (omega arith)) in omega (arith, h, s)
+parts_short D_GRADIENT n h = omega (arith, h)
+parts_short Q_GDIR n h = omega (arith, h)
+parts_short G_A n h = let s = chosen (n == 255) (codes "end of profile") (None) (omega arith) (omega arith) in omega (arith, h, s)
+parts_short G_TSR n h = omega (arith, h)
+parts_short D_STATIC n h = omega (arith, h)
+parts_short V_STATIC n h = let s = chosen (n == 127) (codes "end of profile") (None) (omega arith) (omega arith) in omega (arith, h, s)
+parts_short Q_FRONT n h = omega (arith, h)
+parts_short Q_DIFF n h = omega (arith, h)
+parts_short NC_CDDIFF n h = omega (arith, h)
+parts_short NC_DIFF n h = omega (arith, h)
+parts_short V_DIFF n h = omega (arith, h)
+parts_short D_LEVELTR n h = let s = chosen (n == 32767) (codes "now") (None) (omega arith) (omega arith) in omega (arith, h, s)
+parts_short M_LEVELTR n h = omega (arith, h)
+parts_short NID_NTC n h = omega (arith, h)
+parts_short L_ACKLEVELTR n h = omega (arith, h)
+parts_short Q_RBC n h = omega (arith, h)
+parts_short NID_RBC n h = omega (arith, h)
+parts_short NID_RADIO n h = omega (arith, hex_long 16 n)
+parts_short Q_SLEEPSESSION n h = omega (arith, h)
+parts_short NID_MN n h = omega (arith, h)
+parts_short NID_TSR n h = omega (arith, h)
+parts_short D_TSR n h = omega (arith, h)
+parts_short L_TSR n h = omega (arith, h)
+parts_short V_TSR n h = omega (arith, h)
+parts_short Q_TEXTCLASS n h = omega (arith, h)
+parts_short Q_TEXTDISPLAY n h = omega (arith, h)
+parts_short D_TEXTDISPLAY n h = omega (arith, h)
+parts_short M_MODETEXTDISPLAY n h = omega (arith, h)
+parts_short M_LEVELTEXTDISPLAY n h = omega (arith, h)
+parts_short L_TEXTDISPLAY n h = omega (arith, h)
+parts_short T_TEXTDISPLAY n h = omega (arith, h)
+parts_short Q_TEXTCONFIRM n h = omega (arith, h)
+parts_short Q_CONFTEXTDISPLAY n h = omega (arith, h)
+parts_short Q_TEXTREPORT n h = omega (arith, h)
+parts_short NID_TEXTMESSAGE n h = omega (arith, h)
+parts_short L_TEXT n h = omega (arith, h)
+parts_short X_TEXT n h = omega (arith, h)
+parts_short Q_TEXT n h = omega (arith, h)
+parts_short Q_ASPECT n h = omega (arith, h)
+parts_short Q_SRSTOP n h = omega (arith, h)
+parts_short NID_OPERATIONAL n h = omega (arith, h)
+parts_short M_VERSION n h = omega (arith, h)
+parts_short NID_MESSAGE n h = omega (arith, h)
+parts_short L_MESSAGE n h = omega (arith, h)
+parts_short T_TRAIN n h = omega (arith, h)
+parts_short M_ACK n h = omega (arith, h)
+parts_short NID_LRBG n h = let s = chosen (n == 16777215) (codes "unknown") (None) (omega arith) (omega arith) in omega (arith, h, s)
+parts_short D_SR n h = omega (arith, h)
+parts_short NID_EM n h = omega (arith, h)
+parts_short D_REF n h = omega (arith, h)
+parts_short Q_ORIENTATION n h = omega (arith, h)
+parts_short FILL n h = omega (arith, h)
+parts_short OTHER_DATA n h = omega (arith, h)
+parts_short PADDING n h = omega (arith, h)
+parts_short PAD n h = omega (arith, h)
+
+small_number : (v : Var) (n : ℕ) → n < 2 ^ width v → n < 2 ^ 64
+small_number v n h = let le = pow-le-pow_right {n = 2} (omega arith) (width-le v) in omega (arith, h, le)
+
+decimal_short : (n : ℕ) → n < 2 ^ 64 → length (decimal n) ≤ 20
+decimal_short n h = length-decimal-le 20 n (omega arith) (omega (arith, h)) h
+
+line_long : (a b c : List ℕ) → length (codes "  " ++ a ++ codes " " ++ b ++ c ++ codes "\n") ≡ 4 + (length a + (length b + length c))
+line_long a b c =
+    let v = length-append (codes "  " ++ a ++ codes " " ++ b ++ c) (codes "\n") in
+    let w = length-append (codes "  " ++ a ++ codes " " ++ b) c in
+    let x = length-append (codes "  " ++ a ++ codes " ") b in
+    let y = length-append (codes "  " ++ a) (codes " ") in
+    let z = length-append (codes "  ") a in
+    omega (arith, v, w, x, y, z)
+
+pub variable_short : (p : Sent) → p.1 < 2 ^ width p.0 → length (variable_line p) ≤ 128
+variable_short (v, n) h =
+    let d = parts_short v n (decimal_short n (small_number v n h)) in
+    let l = line_long (name v) (number_text v n) (special_text (special v n)) in
+    omega (arith, l, d)
+
+length-sent : (v : Var) (n : ℕ) (r : Reading) → length (spelled ((v, n) ∷ r)) ≡ width v + length (spelled r)
+length-sent v n r = let a = length-append (num (width v) n) (spelled r) in omega (arith, a, length-num (width v) n)
+
+pub variables_short : (r : Reading) → AllFit r → length (flat_map variable_line r) ≤ 128 * length (spelled r)
+variables_short [] h = omega arith
+variables_short ((v, n) ∷ r) h =
+    let a = length-append (variable_line (v, n)) (flat_map variable_line r) in
+    omega (arith, a, variable_short (v, n) h.0, variables_short r h.1, length-sent v n r, width_pos v)
+
+bits_short : (bs : List Bool) → length (bits_text bs) ≤ 1 + length bs
+bits_short [] = omega arith
+bits_short (b ∷ bs) = let m = length-map (b ∷ bs) bit_digit in omega (arith, m)
+
+pub line_short : (text : List ℕ) (bs : List Bool) → length bs < 2 ^ 64 → length text ≤ 24 → length (bits_line text bs) ≤ 64 + length bs
+line_short text bs small h =
+    let d = decimal_short (length bs) small in
+    let l = line_long text (decimal (length bs)) (bits_text bs) in
+    omega (arith, l, d, h, bits_short bs)
+
+-- ---- Packets.
+
+number_line_short : (nid : ℕ) → nid < 2 ^ 64 → length (packet_line nid) ≤ 28
+number_line_short nid h =
+    let v = length-append (codes "packet " ++ decimal nid) (codes "\n") in
+    let w = length-append (codes "packet ") (decimal nid) in
+    omega (arith, v, w, decimal_short nid h)
+
+packet_long : (v : PacketValue) → length (packet_text v) ≡ length (packet_line (nid_of v)) + length (frame_lines v) + length (body_lines v)
+packet_long v =
+    let a = length-append (packet_line (nid_of v) ++ frame_lines v) (body_lines v) in
+    let b = length-append (packet_line (nid_of v)) (frame_lines v) in
+    omega (arith, a, b)
+
+frame_short : (dir bits : ℕ) → dir < 2 ^ width Q_DIR → bits < 2 ^ width L_PACKET → length (variable_line (Q_DIR, dir) ++ variable_line (L_PACKET, bits)) ≤ 256
+frame_short dir bits h g =
+    let l = length-append (variable_line (Q_DIR, dir)) (variable_line (L_PACKET, bits)) in
+    omega (arith, l, variable_short (Q_DIR, dir) h, variable_short (L_PACKET, bits) g)
+
+packet_short : (v : PacketValue) → AllFit (packet_reading v) → length (packet_text v) ≤ 128 * length (spelled (packet_reading v))
+packet_short (packet.marker n) h =
+    let l = packet_long (packet.marker n) in
+    let b = packet_bits (packet.marker n) in
+    omega (arith, l, b, number_line_short 0 (omega arith), variable_short (NID_VBCMK, n) h.1.0)
+packet_short (packet.typed nid dir r) h =
+    let l = packet_long (packet.typed nid dir r) in
+    let b = packet_bits (packet.typed nid dir r) in
+    let f = frame_short dir (23 + length (spelled r)) h.1.0 h.1.1.0 in
+    let n = number_line_short nid (small_number NID_PACKET nid h.0) in
+    omega (arith, l, b, f, n, variables_short r h.1.1.1)
+packet_short (packet.kept nid dir bs) h =
+    let l = packet_long (packet.kept nid dir bs) in
+    let b = packet_bits (packet.kept nid dir bs) in
+    let f = frame_short dir (23 + length bs) h.1.0 h.1.1.0 in
+    let n = number_line_short nid (small_number NID_PACKET nid h.0) in
+    let small : 23 + length bs < 2 ^ 64 = small_number L_PACKET (23 + length bs) h.1.1.0 in
+    let k = line_short (codes "OTHER_DATA") bs (omega (arith, small)) (omega arith) in
+    omega (arith, l, b, f, n, k)
+
+fit_front : (a b : Reading) → AllFit (a ++ b) → AllFit a
+fit_front [] b h = tt
+fit_front (p ∷ a) b h = (h.0, fit_front a b h.1)
+
+fit_behind : (a b : Reading) → AllFit (a ++ b) → AllFit b
+fit_behind [] b h = h
+fit_behind (p ∷ a) b h = fit_behind a b h.1
+
+spelled_long : (a b : Reading) → length (spelled (a ++ b)) ≡ length (spelled a) + length (spelled b)
+spelled_long a b = ap length (spelled-append a b) ∙ length-append (spelled a) (spelled b)
+
+packets_short : (vs : List PacketValue) → AllFit (packets_reading vs) → length (packets_text vs) ≤ 128 * length (spelled (packets_reading vs))
+packets_short [] h = omega arith
+packets_short (v ∷ vs) h =
+    let first = packet_short v (fit_front (packet_reading v) (packets_reading vs) h) in
+    let rest = packets_short vs (fit_behind (packet_reading v) (packets_reading vs) h) in
+    let l = length-append (packet_text v) (packets_text vs) in
+    let b = spelled_long (packet_reading v) (packets_reading vs) in
+    omega (arith, first, rest, l, b)
+
+-- ---- A telegram.
+
+user_short : (s : Size) → user_bits s ≤ 830
+user_short size.Short = omega arith
+user_short size.Long = omega arith
+
+whole_short : (s : Size) → user_bits s + pad_bits s ≤ 832
+whole_short size.Short = omega arith
+whole_short size.Long = omega arith
+
+kind_short : (s : Size) → length (kind_word s) ≤ 5
+kind_short size.Short = omega arith
+kind_short size.Long = omega arith
+
+six_long : (a b c d e f : List ℕ) → length (a ++ b ++ c ++ d ++ e ++ f) ≡ length a + length b + length c + length d + length e + length f
+six_long a b c d e f =
+    let v = length-append (a ++ b ++ c ++ d ++ e) f in
+    let w = length-append (a ++ b ++ c ++ d) e in
+    let x = length-append (a ++ b ++ c) d in
+    let y = length-append (a ++ b) c in
+    let z = length-append a b in
+    omega (arith, v, w, x, y, z)
+
+five_long : (a b c d e : List ℕ) → length (a ++ b ++ c ++ d ++ e) ≡ length a + length b + length c + length d + length e
+five_long a b c d e = let l = six_long a b c d e [] in omega (arith, l, length-append (a ++ b ++ c ++ d ++ e) [])
+
+item_short : (s : Size) (item : ℕ) → item < 2 ^ 64 → length (item_line s item) ≤ 64
+item_short s item h =
+    let d = decimal_short item h in
+    let e = decimal_short (user_bits s) (omega (arith, user_short s)) in
+    let l = length-append (codes "item " ++ decimal item ++ codes " " ++ kind_word s ++ codes " " ++ decimal (user_bits s)) (codes " bits\n") in
+    let m = six_long (codes "item ") (decimal item) (codes " ") (kind_word s) (codes " ") (decimal (user_bits s)) in
+    omega (arith, d, e, l, m, kind_short s)
+
+-- packet 255
+abbrev closing : Reading
+closing = (NID_PACKET, 255) ∷ []
+
+reading_fit : (t : TelegramValue) (r : Reading) → TelegramReads t r → AllFit (header_reading t.header) × AllFit (packets_reading t.packets)
+reading_fit t r x =
+    let head = header_reading t.header in
+    let packets = packets_reading t.packets in
+    let fill = kept FILL t.fill in
+    let zeros = kept PAD (replicate (pad_bits t.size) false) in
+    let whole : AllFit r = let language = regular t.size in language.fit r (t, (refl, x)) in
+    let parts : AllFit (((head ++ closed_reading t.packets) ++ fill) ++ zeros) = subst AllFit x.reading_is whole in
+    let headed = fit_front (head ++ closed_reading t.packets) fill (fit_front ((head ++ closed_reading t.packets) ++ fill) zeros parts) in
+    (fit_front head (closed_reading t.packets) headed, fit_front packets closing (fit_behind head (closed_reading t.packets) headed))
+
+telegram_short : (t : TelegramValue) (r : Reading) (item : ℕ) → TelegramReads t r → item < 2 ^ 64 → length (show_text t item) ≤ 2 ^ 20
+unfolding show_text
+telegram_short t r item x h =
+    let fits = reading_fit t r x in
+    let line = item_short t.size item h in
+    let header = variables_short (header_reading t.header) fits.0 in
+    let packets = packets_short t.packets fits.1 in
+    let closed = spelled_long (packets_reading t.packets) closing in
+    let user = user_short t.size in
+    let small : length t.fill ≤ 830 = omega (arith, x.user_bits_is, user) in
+    let fill = line_short (codes "FILL") t.fill (omega (arith, small)) (omega arith) in
+    let l = five_long (item_line t.size item) (flat_map variable_line (header_reading t.header)) (packets_text t.packets) (codes "packet 255\n") (fill_line t.fill) in
+    omega (arith, line, header, packets, closed, user, x.user_bits_is, fill, l)
+
+-- ---- What is written of an item.
+
+check_short : (e : EntryValue) (item : ℕ) → item < 2 ^ 64 → length (check_line e item) ≤ 64
+check_short (of_telegram t) item h =
+    let d = decimal_short item h in
+    let e = decimal_short (user_bits t.size) (omega (arith, user_short t.size)) in
+    let l = five_long (codes "item ") (decimal item) (codes " ok ") (decimal (user_bits t.size)) (codes " bits\n") in
+    omega (arith, d, e, l)
+
+encoded_short : (e : EntryValue) (bytes : List ℕ) → IsEncoded e bytes → length bytes ≤ 104
+encoded_short (of_telegram t) bytes x =
+    let whole = whole_length t.size x.reading (t, (refl, x.reads)) in
+    let is : length (bits bytes) ≡ length (spelled x.reading) = ap length x.bits_are in
+    omega (arith, whole, is, length-bits bytes, whole_short t.size)
+
+-- what is written of one item
+pub told_short : (command : Command) (kind : Kind) (e : EntryValue) (r : Reading) (item : ℕ) (text : List ℕ) → EntryReads kind e r → item < 2 ^ 64 → ItemText command e item text → length text ≤ 2097152
+told_short Show kind (of_telegram t) r item text x h is = let l = telegram_short t r item x.1 h in rw is (omega (arith, l))
+told_short Check kind e r item text x h is = let l = check_short e item h in rw is (omega (arith, l))
+told_short (Convert Hex) kind e r item text x h (bytes, encoded, is) =
+    let l = length-append (encode_upper bytes) (10 ∷ []) in
+    let d = length-encode_with upper_digits bytes in
+    rw is (omega (arith, l, d, encoded_short e bytes encoded))
+told_short (Convert Bin) kind e r item text x h encoded = omega (arith, encoded_short e text encoded)
+
+-- each item has a reading of this kind
+abbrev pub AreRead : Kind → List EntryValue → Type 0
+AreRead kind [] = Unit {0}
+AreRead kind (e ∷ es) = (r : Reading) × EntryReads kind e r × AreRead kind es
+
+-- what is written of items one behind the other
+pub items_short : (command : Command) (kind : Kind) (item : ℕ) (es : List EntryValue) (text : List ℕ) → AreRead kind es → item + length es ≤ 1000001 → ItemsText command item es text → length text ≤ 2097152 * length es
+items_short command kind item [] text reads h is = rw is (omega arith)
+items_short command kind item (e ∷ es) text (r, reads, others) h (first, rest, is, told, behind) =
+    let one = told_short command kind e r item first reads (omega (arith, h)) told in
+    let more = items_short command kind (item + 1) es rest others (omega (arith, h)) behind in
+    let l : length text ≡ length first + length rest = ap length is ∙ length-append first rest in
+    omega (arith, one, more, l)

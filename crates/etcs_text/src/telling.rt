@@ -1,0 +1,115 @@
+//! What a run writes of an item.
+
+ghost use Rattle.std.specs.Prelude.{◌≡◌, ◌++◌, ◌<◌, ◌≤◌, ◌∷◌, All, ℕ, List, [], IfOk, OnErr, OnOk, length, take};
+ghost use Rattle.hex.specs.Hex.{encode_upper};
+ghost use Rattle.etcs_telegram.specs.Telegrams.{telegram_value};
+ghost use Rattle.etcs_text.specs.Entries.{entry_bits, entry_value, of_telegram};
+ghost use Rattle.etcs_text.specs.Commands.{IsEncoded, ItemText, check_line};
+
+use crate::command::{Command, Form};
+use crate::entry::Entry;
+use crate::show::show_lines;
+use crate::text::push_decimal;
+use etcs_telegram::Telegram;
+use std::alloc::AllocError;
+
+/// Appends what the command writes of an entry, the item of this number: the lines of `show_lines`, a line that says
+/// that it was accepted, its encoding in upper case digits with a LF, or its encoding.
+///
+/// # Errors
+///
+/// Where memory is refused. `out` is then as before.
+pub fn tell(command: Command, entry: &Entry, item: u64, out: &mut Vec<u8>) -> Result<(), AllocError>
+    ensures ok { OnOk result ((added : List ℕ) × ItemText command (entry_value entry.now) item added × (out.new.items ≡ out.old.items ++ added)) }
+    ensures err { OnErr result (out.new.items ≡ out.old.items) }
+{
+    match command {
+        Command::Show => show_lines(entry, item, out),
+        Command::Check => tell_check(entry, item, out),
+        Command::Convert(Form::Hex) => tell_hex(entry, out),
+        Command::Convert(Form::Bin) => tell_bytes(entry, out),
+    }
+}
+
+/// How many bits an entry has: user bits.
+fn bits_of(entry: &Entry) -> usize
+    ensures { result ≡ entry_bits (entry_value entry.now) }
+{
+    match entry {
+        Entry::Telegram(telegram) => telegram.size().user_bits(),
+    }
+}
+
+/// Appends the line that says that an item was accepted. A refused allocation may leave a part of it.
+fn push_check(entry: &Entry, item: u64, out: &mut Vec<u8>) -> Result<(), AllocError>
+    ensures { OnOk result (out.new.items ≡ out.old.items ++ check_line (entry_value entry.now) item) }
+{
+    out.extend_from_slice(b"item ")?;
+    push_decimal(item, out)?;
+    out.extend_from_slice(b" ok ")?;
+    push_decimal(bits_of(entry) as u64, out)?;
+    out.extend_from_slice(b" bits\n")
+}
+
+/// Appends the line that says that an item was accepted, or nothing.
+fn tell_check(entry: &Entry, item: u64, out: &mut Vec<u8>) -> Result<(), AllocError>
+    ensures ok { OnOk result (out.new.items ≡ out.old.items ++ check_line (entry_value entry.now) item) }
+    ensures err { OnErr result (out.new.items ≡ out.old.items) }
+{
+    let mut text = Vec::with_capacity(*out.allocator(), 64)?;
+    push_check(entry, item, &mut text)?;
+    out.extend_from_slice(text.as_slice())
+}
+
+/// For callers: each byte is below 256.
+#[inline]
+fn are_bytes(bytes: &[u8])
+    ensures { All (λ b. b < 256) bytes.now }
+{
+    let _ = bytes;
+}
+
+/// The telegram's encoding at the front of so many bytes, and how many of them it is.
+fn encode_telegram(telegram: &Telegram) -> ([u8; 104], usize)
+    ensures within { result.1 ≤ length result.0 }
+    ensures bytes { IsEncoded (of_telegram (telegram_value telegram.now)) (take result.1 result.0) }
+{
+    let mut room = [0u8; 104];
+    match telegram.encode_into(&mut room) {
+        Ok(count) => {
+            are_bytes(&room);
+            (room, count)
+        }
+        Err(_) => unreachable!(),
+    }
+}
+
+/// The entry's encoding at the front of so many bytes, and how many of them it is.
+fn encode(entry: &Entry) -> ([u8; 104], usize)
+    ensures within { result.1 ≤ length result.0 }
+    ensures bytes { IsEncoded (entry_value entry.now) (take result.1 result.0) }
+{
+    match entry {
+        Entry::Telegram(telegram) => encode_telegram(telegram),
+    }
+}
+
+/// Appends the entry's encoding, or nothing.
+fn tell_bytes(entry: &Entry, out: &mut Vec<u8>) -> Result<(), AllocError>
+    ensures ok { OnOk result ((added : List ℕ) × IsEncoded (entry_value entry.now) added × (out.new.items ≡ out.old.items ++ added)) }
+    ensures err { OnErr result (out.new.items ≡ out.old.items) }
+{
+    let (room, count) = encode(entry);
+    out.extend_from_slice(&room[..count])
+}
+
+/// Appends the entry's encoding in upper case digits and a LF, or nothing.
+fn tell_hex(entry: &Entry, out: &mut Vec<u8>) -> Result<(), AllocError>
+    ensures ok { OnOk result ((bytes : List ℕ) × IsEncoded (entry_value entry.now) bytes × (out.new.items ≡ out.old.items ++ (encode_upper bytes ++ 10 ∷ []))) }
+    ensures err { OnErr result (out.new.items ≡ out.old.items) }
+{
+    let (room, count) = encode(entry);
+    let mut text = hex::encode_upper(*out.allocator(), &room[..count])?;
+    text.push('\n')?;
+    out.extend_from_slice(text.as_bytes())
+}

@@ -15,3 +15,4 @@ pub mod Spelling
 pub mod Rooms
 pub mod Equality
 pub mod Examples
+pub mod Taking

@@ -20,7 +20,7 @@ use Rattle.etcs_telegram.specs.declared.size.Size.{Size}
 use Rattle.etcs_telegram.specs.declared.phase.Phase.{Phase}
 use Rattle.etcs_telegram.specs.declared.phase.Phase.TheVariants.{Header, Packets, Fill, Pad, Whole}
 use Rattle.etcs_telegram.specs.Phases.{is_going}
-use Rattle.etcs_telegram.specs.ChainLaws.{chain_first}
+use Rattle.etcs_rests.specs.ChainLaws.{chain_first}
 use Rattle.etcs_telegram.specs.Lefts.{FillBy, left_at, next_at, stands_at, may_ask, HoldsIn}
 use Rattle.etcs_telegram.specs.RestLaws.{rest_begins}
 use Rattle.etcs_telegram.specs.Readers.{asks_memory}

@@ -1,3 +1,5 @@
 pub mod Texts
 pub mod NumberTexts
 pub mod Encoded
+pub mod MessageTexts
+pub mod MessageExamples

@@ -1,6 +1,7 @@
 pub mod Entries
 pub mod Commands
 pub mod LineSinks
+pub mod Messages
 pub mod Packets
 pub mod Show
 pub mod Telegrams

@@ -3,9 +3,11 @@
 
 mod command;
 mod entry;
+mod messages;
 mod packets;
 pub mod parts;
 mod show;
+mod signed;
 mod telling;
 mod text;
 mod variables;

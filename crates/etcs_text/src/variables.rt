@@ -5,6 +5,7 @@ ghost use Rattle.std.specs.List.{zip};
 ghost use Rattle.etcs_vars.specs.Vars.{special};
 ghost use Rattle.etcs_text.specs.Show.{bits_line, bits_text, number_text, special_text, variable_line};
 
+use crate::signed::push_signed;
 use crate::text::{push_decimal, push_hex, push_slice};
 use etcs_bits::BitSlice;
 use etcs_vars::Var;
@@ -24,12 +25,13 @@ fn push_special(var: Var, number: u64, out: &mut Vec<u8>) -> Result<(), AllocErr
     }
 }
 
-/// Appends the number of a variable: NID_RADIO in hexadecimal, all others in decimal.
+/// Appends the number of a variable: NID_RADIO in hexadecimal, D_REF with its sign, all others in decimal.
 fn push_number(var: Var, number: u64, out: &mut Vec<u8>) -> Result<(), AllocError>
     ensures { OnOk result (out.new.items ≡ out.old.items ++ number_text var number) }
 {
     match var {
         Var::NID_RADIO => push_hex(16, number, out),
+        Var::D_REF => push_signed(number, out),
         _ => push_decimal(number, out),
     }
 }

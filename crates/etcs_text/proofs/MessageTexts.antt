@@ -1,20 +1,24 @@
 -- The text of a message, part by part.
 use Rattle.std.proofs.Common.{◌≡◌, ℕ, ◌+◌, ◌*◌, ◌/◌, ◌^◌, ◌<◌, ◌≤◌, Bool, List, [], ◌∷◌, ◌++◌, length, map, flat_map, Some, None, refl, sym, ap, ◌∙◌, arith, append_assoc}
-use Rattle.std.specs.Prelude.{codes}
+use Rattle.std.specs.Prelude.{◌-◌, All, codes, if◌then◌else◌, nat_le}
 use Rattle.std.proofs.lemmas.List.{take_all}
 use Rattle.etcs_bits.specs.Bits.{num, bits, part}
 use Rattle.etcs_bits.proofs.ByteBits.{bits-part}
 use Rattle.etcs_bits.proofs.Lists.{part-append_right}
 use Rattle.etcs_bits.proofs.Numbers.{length-num, num-add}
+use Rattle.etcs_bits.proofs.Positions.{length-bits}
+use Rattle.etcs_bits.proofs.Views.{part_inside}
 use Rattle.etcs_vars.specs.Reading.{Reading, spelled}
 use Rattle.etcs_packets.specs.PacketValues.{packet_value}
 use Rattle.etcs_radio.specs.declared.message.Content.{Content}
 use Rattle.etcs_radio.specs.declared.message.Content.TheVariants.{Typed, Kept}
 use Rattle.etcs_radio.specs.Bodies.{nid_of_body, body_reading}
-use Rattle.etcs_radio.specs.Messages.{all_bits, head_reading, message_value, padding_room}
+use Rattle.etcs_radio.specs.Messages.{MessageValue, MessageReads, all_bits, head_reading, message_value, padding_room}
 use Rattle.etcs_radio.specs.Readings.{bytes_of, front_reading, kept_of, message_reading, packets_of, padding_bits_of, padding_of}
 use Rattle.etcs_radio.proofs.Bodies.{body_length}
 use Rattle.etcs_radio.proofs.Sizes.{typed_length, kept_length}
+use Rattle.etcs_text.specs.Commands.{IsEncoded}
+use Rattle.etcs_text.specs.Entries.{of_message}
 use Rattle.etcs_text.specs.Messages.{message_bits, message_bytes, message_line, front_variables, behind_lines, message_text}
 use Rattle.etcs_text.specs.Packets.{packets_text}
 use Rattle.etcs_text.specs.Show.{variable_line, bits_line}
@@ -77,3 +81,22 @@ text_is m item bits old one two three long e f g =
     (e ∙ ap (λ (k : ℕ). old ++ message_line k item) (long ∙ bits_are m))
     (f ∙ ap (λ (r : Reading). one ++ flat_map variable_line r) (front_is m))
     g
+
+-- ---- The encoding.
+
+pub message_encoded : (m : MessageValue) (old new : List ℕ) (r : Reading) → old ≡ [] → MessageReads m r → bits new ≡ bits old ++ spelled r → All (λ b. b < 256) new → IsEncoded (of_message m) new
+unfolding bits
+message_encoded m old new r none reads is small = record {
+  reading = r;
+  reads = reads;
+  small = small;
+  bits_are = is ∙ ap (λ (z : List ℕ). bits z ++ spelled r) none;
+}
+
+-- ---- PADDING.
+
+-- it's cut from a byte
+pub padding_cut : (m : Content) (o k n : ℕ) → k ≡ padding_bits_of m → n ≡ padding_of m → o ≡ 8 - k → (if nat_le (o + k) (length (bits (n ∷ []))) then Some (part o k (bits (n ∷ []))) else None) ≡ Some (num (padding_bits_of m) (padding_of m))
+padding_cut m o k n same number rest =
+    let whole : o + k ≡ 8 = omega (arith, rest, same, padding_few m) in
+    sym (part_inside o k (bits (n ∷ [])) (num (padding_bits_of m) (padding_of m)) (omega (arith, whole, length-bits (n ∷ []))) (ap (λ (w : ℕ). num w (padding_of m)) (sym same) ∙ ap (num k) (sym number) ∙ sym (low_bits o k n whole)))

@@ -1,3 +1,4 @@
+pub mod Fronts
 pub mod Entries
 pub mod Commands
 pub mod LineSinks

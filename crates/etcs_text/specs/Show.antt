@@ -42,9 +42,13 @@ number_text NID_RADIO n = hex_digits 16 n
 number_text D_REF n = signed_text n
 number_text v n = decimal n
 
+-- what stands before it in its line
+abbrev pub line_front : Var → List ℕ
+line_front v = codes "  " ++ name v ++ codes " "
+
 -- a variable and its number
 abbrev pub variable_line : Sent → List ℕ
-variable_line p = codes "  " ++ name p.0 ++ codes " " ++ number_text p.0 p.1 ++ special_text (special p.0 p.1) ++ codes "\n"
+variable_line p = line_front p.0 ++ number_text p.0 p.1 ++ special_text (special p.0 p.1) ++ codes "\n"
 
 -- a bit as a digit, 0 or 1
 abbrev pub bit_digit : Bool → ℕ

@@ -389,7 +389,7 @@ message_short : (m : MessageValue) (r : Reading) (item : ℕ) → MessageReads m
 unfolding message_text
 message_short m r item x h =
     let w = whole_message m r x in
-    let bits : message_bits m ≤ 8184 = omega (arith, w.0, w.1.0) in
+    let bits : message_bits m ≤ 8184 = omega (arith, w.0, w.1) in
     let line = message_line_short (message_bits m) item (omega (arith, bits)) h in
     let front = variables_short (front_variables m) (front_fit m r x) in
     let behind = behind_short m r x in
@@ -411,7 +411,7 @@ check_short e r item x h =
 
 spelled_short : (e : EntryValue) (r : Reading) → Spells e r → length (spelled r) ≤ 8192
 spelled_short (of_telegram t) r x = let whole = whole_length t.size r (t, (refl, x)) in omega (arith, whole, whole_short t.size)
-spelled_short (of_message m) r x = let w = whole_message m r x in omega (arith, w.0, w.1.1)
+spelled_short (of_message m) r x = let w = whole_message m r x in omega (arith, w.0, w.2)
 
 encoded_short : (e : EntryValue) (bytes : List ℕ) → IsEncoded e bytes → length bytes ≤ 1024
 encoded_short e bytes x =

@@ -1,8 +1,9 @@
 //! The text of the items of an input: of each a line for itself, one for each variable, and one for kept bits.
-#![tactic(auto)]
+#![tactic(auto, using(crate::specs::Fronts::begins_more))]
 
 mod command;
 mod entry;
+mod fronts;
 mod messages;
 mod packets;
 pub mod parts;

@@ -1,11 +1,12 @@
 //! The text of packets.
 
-ghost use Rattle.std.specs.Prelude.{◌≡◌, ◌++◌, OnOk, flat_map, map};
+ghost use Rattle.std.specs.Prelude.{◌≡◌, ◌++◌, OnErr, OnOk, flat_map, map};
 ghost use Rattle.etcs_packets.specs.PacketValues.{packet_value, variables_of};
+ghost use Rattle.etcs_text.specs.Fronts.{Begins};
 ghost use Rattle.etcs_text.specs.Show.{variable_line};
 ghost use Rattle.etcs_text.specs.Packets.{body_lines, frame_lines, packet_line, packet_text, packets_text};
 
-use crate::text::push_decimal;
+use crate::text::push_decimal_line;
 use crate::variables::{push_bits_line, push_variable};
 use etcs_packets::Packet;
 use etcs_packets::parts::{dir, send};
@@ -40,17 +41,18 @@ impl LineSink {
 }
 
 impl Sink for LineSink {
-    ghost use Rattle.etcs_text.specs.LineSinks.{with_lines, with_lines_none, with_lines_both};
+    ghost use Rattle.etcs_text.specs.Fronts.{Begins};
+    ghost use Rattle.etcs_text.specs.LineSinks.{with_lines, with_lines_begins, with_lines_both, with_lines_none};
 
     ghost with = { with_lines };
 
-    ghost failed = { λ s t. Unit {0} };
+    ghost failed = { Begins };
 
     ghost with_none = { with_lines_none };
 
     ghost with_both = { with_lines_both };
 
-    ghost failed_behind = { λ s a t h. tt };
+    ghost failed_behind = { with_lines_begins };
 
     fn send(&mut self, sent: &[(Var, u64)]) -> Result<(), AllocError> {
         for pair in sent {
@@ -62,16 +64,17 @@ impl Sink for LineSink {
 
 /// Appends the line of a packet's number.
 fn push_number_line(nid: u8, out: &mut Vec<u8>) -> Result<(), AllocError>
-    ensures { OnOk result (out.new.items ≡ out.old.items ++ packet_line nid) }
+    ensures ok { OnOk result (out.new.items ≡ out.old.items ++ packet_line nid) }
+    ensures err { OnErr result (Begins out.old.items out.new.items) }
 {
     out.extend_from_slice(b"packet ")?;
-    push_decimal(u64::from(nid), out)?;
-    out.extend_from_slice(b"\n")
+    push_decimal_line(u64::from(nid), out)
 }
 
 /// Appends the lines of Q_DIR and L_PACKET, which packet 0 doesn't have.
 fn push_frame(packet: &Packet, out: &mut Vec<u8>) -> Result<(), AllocError>
-    ensures { OnOk result (out.new.items ≡ out.old.items ++ frame_lines (packet_value packet.now)) }
+    ensures ok { OnOk result (out.new.items ≡ out.old.items ++ frame_lines (packet_value packet.now)) }
+    ensures err { OnErr result (Begins out.old.items out.new.items) }
 {
     match dir(packet) {
         Some(dir) => {
@@ -84,7 +87,8 @@ fn push_frame(packet: &Packet, out: &mut Vec<u8>) -> Result<(), AllocError>
 
 /// Appends the lines of the variables behind a packet's frame.
 fn push_sent(packet: &Packet, out: &mut Vec<u8>) -> Result<(), AllocError>
-    ensures { OnOk result (out.new.items ≡ out.old.items ++ flat_map variable_line (variables_of (packet_value packet.now))) }
+    ensures ok { OnOk result (out.new.items ≡ out.old.items ++ flat_map variable_line (variables_of (packet_value packet.now))) }
+    ensures err { OnErr result (Begins out.old.items out.new.items) }
 {
     let empty = Vec::new(*out.allocator());
     let mut sink = LineSink {
@@ -97,17 +101,19 @@ fn push_sent(packet: &Packet, out: &mut Vec<u8>) -> Result<(), AllocError>
 
 /// Appends the lines of what stands behind a packet's frame.
 fn push_body(packet: &Packet, out: &mut Vec<u8>) -> Result<(), AllocError>
-    ensures { OnOk result (out.new.items ≡ out.old.items ++ body_lines (packet_value packet.now)) }
+    ensures ok { OnOk result (out.new.items ≡ out.old.items ++ body_lines (packet_value packet.now)) }
+    ensures err { OnErr result (Begins out.old.items out.new.items) }
 {
     match packet {
-        Packet::Other(kept) => push_bits_line(b"OTHER_DATA", &kept.body(), out),
+        Packet::Other(kept) => push_bits_line(Var::OTHER_DATA, &kept.body(), out),
         _ => push_sent(packet, out),
     }
 }
 
-/// Appends the text of a packet. A refused allocation may leave a part of it.
+/// Appends the text of a packet.
 fn push_packet(packet: &Packet, out: &mut Vec<u8>) -> Result<(), AllocError>
-    ensures { OnOk result (out.new.items ≡ out.old.items ++ packet_text (packet_value packet.now)) }
+    ensures ok { OnOk result (out.new.items ≡ out.old.items ++ packet_text (packet_value packet.now)) }
+    ensures err { OnErr result (Begins out.old.items out.new.items) }
 {
     push_number_line(packet.nid(), out)?;
     push_frame(packet, out)?;
@@ -120,9 +126,10 @@ fn push_packet(packet: &Packet, out: &mut Vec<u8>) -> Result<(), AllocError>
 ///
 /// # Errors
 ///
-/// Where memory is refused. A part of the texts may then stand in `out`.
+/// Where memory is refused. A part of the texts may then stand in `out`, behind what was there.
 pub fn push_packets(packets: &[Packet], out: &mut Vec<u8>) -> Result<(), AllocError>
-    ensures { OnOk result (out.new.items ≡ out.old.items ++ packets_text (map packet_value packets.now)) }
+    ensures ok { OnOk result (out.new.items ≡ out.old.items ++ packets_text (map packet_value packets.now)) }
+    ensures err { OnErr result (Begins out.old.items out.new.items) }
 {
     for packet in packets {
         push_packet(packet, out)?;

@@ -1,8 +1,10 @@
 //! The text of an item.
 
-ghost use Rattle.std.specs.Prelude.{◌≡◌, ◌++◌, OnErr, OnOk, flat_map};
-ghost use Rattle.etcs_telegram.specs.Telegrams.{header_reading};
+ghost use Rattle.std.specs.Fmt.{decimal};
+ghost use Rattle.std.specs.Prelude.{◌≡◌, ◌++◌, OnErr, OnOk, codes, flat_map};
+ghost use Rattle.etcs_telegram.specs.Telegrams.{header_reading, user_bits};
 ghost use Rattle.etcs_text.specs.Entries.{entry_text, entry_value};
+ghost use Rattle.etcs_text.specs.Fronts.{Begins};
 ghost use Rattle.etcs_text.specs.Show.{fill_line, item_line, kind_word, variable_line};
 ghost use Rattle.etcs_text.specs.Telegrams.{show_text};
 ghost use Rattle.etcs_telegram.specs.Telegrams.{telegram_value};
@@ -10,53 +12,53 @@ ghost use Rattle.etcs_telegram.specs.Telegrams.{telegram_value};
 use crate::entry::Entry;
 use crate::messages::push_message;
 use crate::packets::push_packets;
-use crate::text::push_decimal;
+use crate::text::push_item_number;
 use crate::variables::{push_bits_line, push_variables};
 use etcs_bits::BitSlice;
 use etcs_telegram::parts::{HEADER, header_numbers};
 use etcs_telegram::{Header, Size, Telegram};
+use etcs_vars::Var;
 use std::alloc::AllocError;
 
-/// The word for telegrams of a size.
-fn kind_of(size: Size) -> &'static [u8]
-    ensures { result.now ≡ kind_word size }
+/// What stands behind the number in the first line of a telegram: its kind and its count of bits.
+fn size_words(size: Size) -> &'static [u8]
+    ensures { result.now ≡ codes " " ++ kind_word size ++ codes " " ++ decimal (user_bits size) ++ codes " bits\n" }
 {
     match size {
-        Size::Short => b"short",
-        Size::Long => b"long",
+        Size::Short => b" short 210 bits\n",
+        Size::Long => b" long 830 bits\n",
     }
 }
 
-/// Appends the first line of an item.
+/// Appends the first line of a telegram.
 fn push_item(size: Size, item: u64, out: &mut Vec<u8>) -> Result<(), AllocError>
-    ensures { OnOk result (out.new.items ≡ out.old.items ++ item_line size item) }
+    ensures ok { OnOk result (out.new.items ≡ out.old.items ++ item_line size item) }
+    ensures err { OnErr result (Begins out.old.items out.new.items) }
 {
-    out.extend_from_slice(b"item ")?;
-    push_decimal(item, out)?;
-    out.extend_from_slice(b" ")?;
-    out.extend_from_slice(kind_of(size))?;
-    out.extend_from_slice(b" ")?;
-    push_decimal(size.user_bits() as u64, out)?;
-    out.extend_from_slice(b" bits\n")
+    push_item_number(item, out)?;
+    out.extend_from_slice(size_words(size))
 }
 
 /// Appends the lines of a header.
 fn push_header(header: &Header, out: &mut Vec<u8>) -> Result<(), AllocError>
-    ensures { OnOk result (out.new.items ≡ out.old.items ++ flat_map variable_line (header_reading header.now)) }
+    ensures ok { OnOk result (out.new.items ≡ out.old.items ++ flat_map variable_line (header_reading header.now)) }
+    ensures err { OnErr result (Begins out.old.items out.new.items) }
 {
     push_variables(&HEADER, &header_numbers(header), out)
 }
 
 /// Appends the line of the bits behind the last packet.
 fn push_fill(fill: &BitSlice<'_>, out: &mut Vec<u8>) -> Result<(), AllocError>
-    ensures { OnOk result (out.new.items ≡ out.old.items ++ fill_line fill.now) }
+    ensures ok { OnOk result (out.new.items ≡ out.old.items ++ fill_line fill.now) }
+    ensures err { OnErr result (Begins out.old.items out.new.items) }
 {
-    push_bits_line(b"FILL", fill, out)
+    push_bits_line(Var::FILL, fill, out)
 }
 
-/// Appends the text of a telegram. A refused allocation may leave a part of it.
+/// Appends the text of a telegram.
 fn push_telegram(telegram: &Telegram, item: u64, out: &mut Vec<u8>) -> Result<(), AllocError>
-    ensures { OnOk result (out.new.items ≡ out.old.items ++ show_text (telegram_value telegram.now) item) }
+    ensures ok { OnOk result (out.new.items ≡ out.old.items ++ show_text (telegram_value telegram.now) item) }
+    ensures err { OnErr result (Begins out.old.items out.new.items) }
 {
     push_item(telegram.size(), item, out)?;
     push_header(telegram.header(), out)?;
@@ -66,9 +68,10 @@ fn push_telegram(telegram: &Telegram, item: u64, out: &mut Vec<u8>) -> Result<()
     Ok(())
 }
 
-/// Appends the text of an entry. A refused allocation may leave a part of it.
+/// Appends the text of an entry.
 fn push_entry(entry: &Entry, item: u64, out: &mut Vec<u8>) -> Result<(), AllocError>
-    ensures { OnOk result (out.new.items ≡ out.old.items ++ entry_text (entry_value entry.now) item) }
+    ensures ok { OnOk result (out.new.items ≡ out.old.items ++ entry_text (entry_value entry.now) item) }
+    ensures err { OnErr result (Begins out.old.items out.new.items) }
 {
     match entry {
         Entry::Telegram(telegram) => push_telegram(telegram, item, out),
@@ -92,7 +95,10 @@ pub fn show_lines(entry: &Entry, item: u64, out: &mut Vec<u8>) -> Result<(), All
     ensures ok { OnOk result (out.new.items ≡ out.old.items ++ entry_text (entry_value entry.now) item) }
     ensures err { OnErr result (out.new.items ≡ out.old.items) }
 {
-    let mut text = Vec::with_capacity(*out.allocator(), 1024)?;
-    push_entry(entry, item, &mut text)?;
-    out.extend_from_slice(text.as_slice())
+    let len = out.len();
+    let shown = push_entry(entry, item, out);
+    if shown.is_err() {
+        out.truncate(len);
+    }
+    shown
 }

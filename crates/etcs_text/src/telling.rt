@@ -5,12 +5,13 @@ ghost use Rattle.hex.specs.Hex.{encode_upper};
 ghost use Rattle.etcs_radio.specs.Messages.{message_value};
 ghost use Rattle.etcs_telegram.specs.Telegrams.{telegram_value};
 ghost use Rattle.etcs_text.specs.Entries.{entry_bits, entry_value, of_message, of_telegram};
+ghost use Rattle.etcs_text.specs.Fronts.{Begins};
 ghost use Rattle.etcs_text.specs.Commands.{IsEncoded, ItemText, check_line};
 
 use crate::command::{Command, Form};
 use crate::entry::Entry;
 use crate::show::show_lines;
-use crate::text::push_decimal;
+use crate::text::{push_decimal, push_item_number};
 use etcs_radio::Message;
 use etcs_telegram::Telegram;
 use std::alloc::{AllocError, Global};
@@ -43,12 +44,12 @@ fn bits_of(entry: &Entry) -> usize
     }
 }
 
-/// Appends the line that says that an item was accepted. A refused allocation may leave a part of it.
+/// Appends the line that says that an item was accepted.
 fn push_check(entry: &Entry, item: u64, out: &mut Vec<u8>) -> Result<(), AllocError>
-    ensures { OnOk result (out.new.items ≡ out.old.items ++ check_line (entry_value entry.now) item) }
+    ensures ok { OnOk result (out.new.items ≡ out.old.items ++ check_line (entry_value entry.now) item) }
+    ensures err { OnErr result (Begins out.old.items out.new.items) }
 {
-    out.extend_from_slice(b"item ")?;
-    push_decimal(item, out)?;
+    push_item_number(item, out)?;
     out.extend_from_slice(b" ok ")?;
     push_decimal(bits_of(entry) as u64, out)?;
     out.extend_from_slice(b" bits\n")
@@ -59,9 +60,12 @@ fn tell_check(entry: &Entry, item: u64, out: &mut Vec<u8>) -> Result<(), AllocEr
     ensures ok { OnOk result (out.new.items ≡ out.old.items ++ check_line (entry_value entry.now) item) }
     ensures err { OnErr result (out.new.items ≡ out.old.items) }
 {
-    let mut text = Vec::with_capacity(*out.allocator(), 64)?;
-    push_check(entry, item, &mut text)?;
-    out.extend_from_slice(text.as_slice())
+    let len = out.len();
+    let told = push_check(entry, item, out);
+    if told.is_err() {
+        out.truncate(len);
+    }
+    told
 }
 
 /// For callers: each byte is below 256.

@@ -1,24 +1,44 @@
 //! Numbers and bits as digits.
 
-ghost use Rattle.std.specs.Prelude.{◌≡◌, ◌^◌, ◌<◌, ◌≤◌, ◌++◌, map, OnOk};
+ghost use Rattle.std.specs.Prelude.{◌≡◌, ◌^◌, ◌<◌, ◌≤◌, ◌++◌, codes, map, OnErr, OnOk};
 ghost use Rattle.std.specs.Fmt.{decimal};
 ghost use Rattle.etcs_bits.specs.Bits.{num};
+ghost use Rattle.etcs_text.specs.Fronts.{Begins};
 ghost use Rattle.etcs_text.specs.Show.{bit_digit, hex_digit, hex_digits};
 
 use etcs_bits::BitSlice;
+use itoa::{Buffer, write_digits};
 use std::alloc::AllocError;
 
 /// Appends the digits of a number, with no leading zero.
 pub(crate) fn push_decimal(number: u64, out: &mut Vec<u8>) -> Result<(), AllocError>
-    ensures { OnOk result (out.new.items ≡ out.old.items ++ decimal number) }
+    ensures ok { OnOk result (out.new.items ≡ out.old.items ++ decimal number) }
+    ensures err { OnErr result (Begins out.old.items out.new.items) }
+{
+    let mut buffer = Buffer::new();
+    out.extend_from_slice(buffer.format(number).as_bytes())
+}
+
+/// Appends the digits of a number and a LF.
+pub(crate) fn push_decimal_line(number: u64, out: &mut Vec<u8>) -> Result<(), AllocError>
+    ensures ok { OnOk result (out.new.items ≡ out.old.items ++ decimal number ++ codes "\n") }
+    ensures err { OnErr result (Begins out.old.items out.new.items) }
 {
     if number < 10 {
-        out.push(b'0' + number as u8)?;
-        return Ok(());
+        return out.extend_from_slice(&[b'0' + number as u8, b'\n']);
     }
-    push_decimal(number / 10, out)?;
-    out.push(b'0' + (number % 10) as u8)?;
-    Ok(())
+    let mut line = [b'\n'; 21];
+    let start = write_digits(number, &mut line, 20);
+    out.extend_from_slice(&line[start..])
+}
+
+/// Appends the word and the number that the line of an item begins with.
+pub(crate) fn push_item_number(item: u64, out: &mut Vec<u8>) -> Result<(), AllocError>
+    ensures ok { OnOk result (out.new.items ≡ out.old.items ++ (codes "item " ++ decimal item)) }
+    ensures err { OnErr result (Begins out.old.items out.new.items) }
+{
+    out.extend_from_slice(b"item ")?;
+    push_decimal(item, out)
 }
 
 /// The digit of four bits, in lower case.
@@ -35,7 +55,8 @@ fn hex_digit_of(bits: u8) -> u8
 
 /// Appends the last digits of a number in hexadecimal, so many of them.
 pub(crate) fn push_hex(count: usize, number: u64, out: &mut Vec<u8>) -> Result<(), AllocError>
-    ensures { OnOk result (out.new.items ≡ out.old.items ++ hex_digits count number) }
+    ensures ok { OnOk result (out.new.items ≡ out.old.items ++ hex_digits count number) }
+    ensures err { OnErr result (Begins out.old.items out.new.items) }
 {
     if count == 0 {
         return Ok(());
@@ -48,7 +69,8 @@ pub(crate) fn push_hex(count: usize, number: u64, out: &mut Vec<u8>) -> Result<(
 /// Appends the lowest bits of a number as digits, the most significant first.
 fn push_bits(number: u64, width: usize, out: &mut Vec<u8>) -> Result<(), AllocError>
     requires { width ≤ 64 }
-    ensures { OnOk result (out.new.items ≡ out.old.items ++ map bit_digit (num width number)) }
+    ensures ok { OnOk result (out.new.items ≡ out.old.items ++ map bit_digit (num width number)) }
+    ensures err { OnErr result (Begins out.old.items out.new.items) }
 {
     let mut digits = [0u8; 64];
     for place in 0..width {
@@ -59,7 +81,8 @@ fn push_bits(number: u64, width: usize, out: &mut Vec<u8>) -> Result<(), AllocEr
 
 /// Appends bits as digits.
 pub(crate) fn push_slice(bits: &BitSlice<'_>, out: &mut Vec<u8>) -> Result<(), AllocError>
-    ensures { OnOk result (out.new.items ≡ out.old.items ++ map bit_digit bits.now) }
+    ensures ok { OnOk result (out.new.items ≡ out.old.items ++ map bit_digit bits.now) }
+    ensures err { OnErr result (Begins out.old.items out.new.items) }
 {
     let mut at = 0;
     while at < bits.len() {

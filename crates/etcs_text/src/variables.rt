@@ -1,51 +1,50 @@
 //! Variables and bits, a line for each.
 
-ghost use Rattle.std.specs.Prelude.{◌≡◌, ◌++◌, OnOk, flat_map, length};
+ghost use Rattle.std.specs.Prelude.{◌≡◌, ◌++◌, OnErr, OnOk, codes, flat_map, length};
 ghost use Rattle.std.specs.List.{zip};
-ghost use Rattle.etcs_vars.specs.Vars.{special};
+ghost use Rattle.etcs_vars.specs.Vars.{name, special};
+ghost use Rattle.etcs_text.specs.Fronts.{Begins};
 ghost use Rattle.etcs_text.specs.Show.{bits_line, bits_text, number_text, special_text, variable_line};
 
+use crate::fronts::front;
 use crate::signed::push_signed;
-use crate::text::{push_decimal, push_hex, push_slice};
+use crate::text::{push_decimal, push_decimal_line, push_hex, push_slice};
 use etcs_bits::BitSlice;
 use etcs_vars::Var;
 use std::alloc::AllocError;
 
-/// Appends what stands behind a number that has a meaning of its own.
-fn push_special(var: Var, number: u64, out: &mut Vec<u8>) -> Result<(), AllocError>
-    ensures { OnOk result (out.new.items ≡ out.old.items ++ special_text (special var number)) }
+/// Appends the number of a variable, what it stands for where it has a meaning of its own, and a LF. NID_RADIO is in
+/// hexadecimal, all others are in decimal, D_REF with its sign.
+fn push_number_line(var: Var, number: u64, out: &mut Vec<u8>) -> Result<(), AllocError>
+    ensures ok { OnOk result (out.new.items ≡ out.old.items ++ number_text var number ++ special_text (special var number) ++ codes "\n") }
+    ensures err { OnErr result (Begins out.old.items out.new.items) }
 {
+    if var == Var::NID_RADIO {
+        push_hex(16, number, out)?;
+        return out.extend_from_slice(b"\n");
+    }
+    if var == Var::D_REF {
+        push_signed(number, out)?;
+        return out.extend_from_slice(b"\n");
+    }
     match var.special(number) {
+        None => push_decimal_line(number, out),
         Some(text) => {
+            push_decimal(number, out)?;
             out.extend_from_slice(b" (")?;
             out.extend_from_slice(text.as_bytes())?;
-            out.extend_from_slice(b")")
+            out.extend_from_slice(b")\n")
         }
-        None => Ok(()),
-    }
-}
-
-/// Appends the number of a variable: NID_RADIO in hexadecimal, D_REF with its sign, all others in decimal.
-fn push_number(var: Var, number: u64, out: &mut Vec<u8>) -> Result<(), AllocError>
-    ensures { OnOk result (out.new.items ≡ out.old.items ++ number_text var number) }
-{
-    match var {
-        Var::NID_RADIO => push_hex(16, number, out),
-        Var::D_REF => push_signed(number, out),
-        _ => push_decimal(number, out),
     }
 }
 
 /// Appends the line of a variable.
 pub(crate) fn push_variable(var: Var, number: u64, out: &mut Vec<u8>) -> Result<(), AllocError>
-    ensures { OnOk result (out.new.items ≡ out.old.items ++ variable_line (var, number)) }
+    ensures ok { OnOk result (out.new.items ≡ out.old.items ++ variable_line (var, number)) }
+    ensures err { OnErr result (Begins out.old.items out.new.items) }
 {
-    out.extend_from_slice(b"  ")?;
-    out.extend_from_slice(var.name().as_bytes())?;
-    out.extend_from_slice(b" ")?;
-    push_number(var, number, out)?;
-    push_special(var, number, out)?;
-    out.extend_from_slice(b"\n")
+    out.extend_from_slice(front(var))?;
+    push_number_line(var, number, out)
 }
 
 /// Appends the lines of variables with their numbers.
@@ -55,7 +54,8 @@ pub(crate) fn push_variables(
     out: &mut Vec<u8>,
 ) -> Result<(), AllocError>
     requires { length numbers.now ≡ length vars.now }
-    ensures { OnOk result (out.new.items ≡ out.old.items ++ flat_map variable_line (zip vars.now numbers.now)) }
+    ensures ok { OnOk result (out.new.items ≡ out.old.items ++ flat_map variable_line (zip vars.now numbers.now)) }
+    ensures err { OnErr result (Begins out.old.items out.new.items) }
 {
     for (var, number) in vars.iter().zip(numbers) {
         push_variable(*var, *number, out)?;
@@ -65,7 +65,8 @@ pub(crate) fn push_variables(
 
 /// Appends what stands behind the count of bits.
 fn push_bits_text(bits: &BitSlice<'_>, out: &mut Vec<u8>) -> Result<(), AllocError>
-    ensures { OnOk result (out.new.items ≡ out.old.items ++ bits_text bits.now) }
+    ensures ok { OnOk result (out.new.items ≡ out.old.items ++ bits_text bits.now) }
+    ensures err { OnErr result (Begins out.old.items out.new.items) }
 {
     if bits.is_empty() {
         return Ok(());
@@ -74,17 +75,16 @@ fn push_bits_text(bits: &BitSlice<'_>, out: &mut Vec<u8>) -> Result<(), AllocErr
     push_slice(bits, out)
 }
 
-/// Appends the line of bits under a name.
+/// Appends the line of bits under a variable's name.
 pub(crate) fn push_bits_line(
-    name: &[u8],
+    var: Var,
     bits: &BitSlice<'_>,
     out: &mut Vec<u8>,
 ) -> Result<(), AllocError>
-    ensures { OnOk result (out.new.items ≡ out.old.items ++ bits_line name.now bits.now) }
+    ensures ok { OnOk result (out.new.items ≡ out.old.items ++ bits_line (name var) bits.now) }
+    ensures err { OnErr result (Begins out.old.items out.new.items) }
 {
-    out.extend_from_slice(b"  ")?;
-    out.extend_from_slice(name)?;
-    out.extend_from_slice(b" ")?;
+    out.extend_from_slice(front(var))?;
     push_decimal(bits.len() as u64, out)?;
     push_bits_text(bits, out)?;
     out.extend_from_slice(b"\n")

@@ -14,7 +14,7 @@ loop-place-preserved c =
       digits_more digits (num c.args.width c.args.number) k _ (omega (arith, c.loop-place.invariant.0)) (omega (arith, length-num c.args.width c.args.number)) c.loop-place.invariant.1 (digit_at c.args.width c.args.number k below),
     )
 
-pub returns : goal.returns
-returns c =
+pub returns-clause-ok : goal.returns-clause-ok
+returns-clause-ok c =
     on_extended _ _ c.extend_from_slice.result _ _ _ _ c.extend_from_slice.ensures.items
     (digits_all c.loop-place.digits c.args.width c.args.number c.loop-place.place (omega arith) (omega arith) c.loop-place.invariant.1)

@@ -13,5 +13,5 @@ loop-at-preserved c =
     let number : Some c.in-Some.number ≡ number_at at width bits = c.in-Some.ensures in (
       inside,
       part_more bits at width c.args.out.now.items _ _ c.loop-at.invariant.1
-          (c.in_ok-push_bits-in-Some.ensures ∙ ap (λ (z : List Bool). c.loop-at.out.items ++ map bit_digit z) (part_bits bits at width c.in-Some.number inside number)),
+          (c.in_ok-push_bits-in-Some.ensures.ok ∙ ap (λ (z : List Bool). c.loop-at.out.items ++ map bit_digit z) (part_bits bits at width c.in-Some.number inside number)),
     )

@@ -24,6 +24,9 @@ pub(crate) fn push_decimal_line(number: u64, out: &mut Vec<u8>) -> Result<(), Al
     ensures ok { OnOk result (out.new.items ≡ out.old.items ++ decimal number ++ codes "\n") }
     ensures err { OnErr result (Begins out.old.items out.new.items) }
 {
+    if number < 10 {
+        return out.extend_from_slice(&[b'0' + number as u8, b'\n']);
+    }
     let mut line = [b'\n'; 21];
     let start = write_digits(number, &mut line, 20);
     out.extend_from_slice(&line[start..])

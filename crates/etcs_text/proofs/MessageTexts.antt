@@ -1,5 +1,5 @@
 -- The text of a message, part by part.
-use Rattle.std.proofs.Common.{◌≡◌, ℕ, ◌+◌, ◌*◌, ◌/◌, ◌^◌, ◌<◌, ◌≤◌, Bool, List, [], ◌∷◌, ◌++◌, length, map, flat_map, Some, None, Result, Ok, Err, refl, sym, ap, ◌∙◌, arith, append_assoc}
+use Rattle.std.proofs.Common.{◌≡◌, ℕ, ◌+◌, ◌/◌, ◌^◌, ◌<◌, ◌≤◌, Bool, List, [], ◌∷◌, ◌++◌, length, map, flat_map, Some, None, Result, Ok, Err, refl, sym, ap, ◌∙◌, arith, append_assoc}
 use Rattle.std.specs.Prelude.{◌-◌, All, OnOk, codes, if◌then◌else◌, nat_le}
 use Rattle.std.proofs.lemmas.List.{take_all}
 use Rattle.etcs_bits.specs.Bits.{num, bits, part}

@@ -1,6 +1,6 @@
 -- The text of a message, part by part.
-use Rattle.std.proofs.Common.{◌≡◌, ℕ, ◌+◌, ◌*◌, ◌/◌, ◌^◌, ◌<◌, ◌≤◌, Bool, List, [], ◌∷◌, ◌++◌, length, map, flat_map, Some, None, refl, sym, ap, ◌∙◌, arith, append_assoc}
-use Rattle.std.specs.Prelude.{◌-◌, All, codes, if◌then◌else◌, nat_le}
+use Rattle.std.proofs.Common.{◌≡◌, ℕ, ◌+◌, ◌/◌, ◌^◌, ◌<◌, ◌≤◌, Bool, List, [], ◌∷◌, ◌++◌, length, map, flat_map, Some, None, Result, Ok, Err, refl, sym, ap, ◌∙◌, arith, append_assoc}
+use Rattle.std.specs.Prelude.{◌-◌, All, OnOk, codes, if◌then◌else◌, nat_le}
 use Rattle.std.proofs.lemmas.List.{take_all}
 use Rattle.etcs_bits.specs.Bits.{num, bits, part}
 use Rattle.etcs_bits.proofs.ByteBits.{bits-part}
@@ -73,7 +73,7 @@ three_more old a b c one two three e f g =
     ∙ ap (λ (z : List ℕ). z ++ c) (f ∙ ap (λ (z : List ℕ). z ++ b) e ∙ append_assoc old a b)
     ∙ append_assoc old (a ++ b) c
 
-pub text_is : (m : Content) (item bits : ℕ) (old one two three : List ℕ) → bits ≡ length (spelled (message_reading m)) → one ≡ old ++ message_line bits item → two ≡ one ++ flat_map variable_line (front_reading m) → three ≡ two ++ behind_lines (message_value m) → three ≡ old ++ message_text (message_value m) item
+text_is : (m : Content) (item bits : ℕ) (old one two three : List ℕ) → bits ≡ length (spelled (message_reading m)) → one ≡ old ++ message_line bits item → two ≡ one ++ flat_map variable_line (front_reading m) → three ≡ two ++ behind_lines (message_value m) → three ≡ old ++ message_text (message_value m) item
 unfolding message_text
 text_is m item bits old one two three long e f g =
     let v = message_value m in
@@ -81,6 +81,10 @@ text_is m item bits old one two three long e f g =
     (e ∙ ap (λ (k : ℕ). old ++ message_line k item) (long ∙ bits_are m))
     (f ∙ ap (λ (r : Reading). one ++ flat_map variable_line r) (front_is m))
     g
+
+pub text_ok : {T E : Type 0} (r : Result T E) (m : Content) (item bits : ℕ) (old one two three : List ℕ) → bits ≡ length (spelled (message_reading m)) → one ≡ old ++ message_line bits item → two ≡ one ++ flat_map variable_line (front_reading m) → OnOk r (three ≡ two ++ behind_lines (message_value m)) → OnOk r (three ≡ old ++ message_text (message_value m) item)
+text_ok (Ok x) m item bits old one two three long e f g = text_is m item bits old one two three long e f g
+text_ok (Err x) m item bits old one two three long e f g = tt
 
 -- ---- The encoding.
 
@@ -100,3 +104,9 @@ pub padding_cut : (m : Content) (o k n : ℕ) → k ≡ padding_bits_of m → n 
 padding_cut m o k n same number rest =
     let whole : o + k ≡ 8 = omega (arith, rest, same, padding_few m) in
     sym (part_inside o k (bits (n ∷ [])) (num (padding_bits_of m) (padding_of m)) (omega (arith, whole, length-bits (n ∷ []))) (ap (λ (w : ℕ). num w (padding_of m)) (sym same) ∙ ap (num k) (sym number) ∙ sym (low_bits o k n whole)))
+
+pub some_bits : (a b : List Bool) → Some a ≡ Some b → a ≡ b
+some_bits a b e = cc
+
+pub no_bits : (a : List Bool) → None ≡ Some a → ⊥
+no_bits a e = cc

@@ -1,4 +1,3 @@
-use Rattle.std.proofs.Common.{◌∙◌}
 use Rattle.etcs_radio.specs.Messages.{message_value}
 use Rattle.etcs_text.proofs.MessageTexts.{message_encoded}
 use Rattle.etcs_text.proofs.telling.encode_message.Goals as goal

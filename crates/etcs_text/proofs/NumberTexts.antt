@@ -17,12 +17,6 @@ hex_more below count n digit old front out same e d f =
     ∙ ap (λ (x : ℕ). old ++ (hex_digits below (n / 16) ++ x ∷ [])) d
     ∙ ap (λ (k : ℕ). old ++ hex_digits k n) (sym same)
 
--- any variable but NID_RADIO and D_REF
-pub number_decimal : (v : Var) (n : ℕ) → (v ≡ NID_RADIO → ⊥) → (v ≡ D_REF → ⊥) → decimal n ≡ number_text v n
-number_decimal NID_RADIO n h g = absurd (h refl)
-number_decimal D_REF n h g = absurd (g refl)
-number_decimal v n h g = refl
-
 -- a number of one digit and a LF
 pub digit_line : (T E : Type 0) (r : Result T E) (n : ℕ) (old new : List ℕ) → n < 10 → new ≡ cond (is_ok r) (old ++ (48 + n) ∷ 10 ∷ []) old → OnOk r (new ≡ old ++ decimal n ++ codes "\n")
 digit_line T E (Ok x) n old new h e = e ∙ sym (ap (λ (z : List ℕ). (old ++ z) ++ 10 ∷ []) (decimal_digit n h) ∙ append_assoc old ((48 + n) ∷ []) (10 ∷ []))

@@ -1,12 +1,10 @@
 -- Numbers of variables as text.
-use Rattle.std.proofs.Common.{◌≡◌, ℕ, suc, ◌+◌, ◌<◌, Result, Ok, Err, cond, ◌/◌, ◌%◌, List, [], ◌∷◌, ◌++◌, refl, sym, ap, ◌∙◌, append_assoc}
+use Rattle.std.proofs.Common.{◌≡◌, ℕ, suc, ◌+◌, ◌<◌, Result, Ok, Err, cond, ◌/◌, ◌%◌, List, [], ◌∷◌, ◌++◌, sym, ap, ◌∙◌, append_assoc}
 use Rattle.std.specs.Prelude.{OnOk, codes}
 use Rattle.std.specs.Result.{is_ok}
 use Rattle.std.specs.Fmt.{decimal}
 use Rattle.std.proofs.lemmas.Fmt.{decimal_digit}
-use Rattle.etcs_vars.specs.declared.var.Var.{Var}
-use Rattle.etcs_vars.specs.declared.var.Var.TheVariants.{NID_RADIO, D_REF}
-use Rattle.etcs_text.specs.Show.{hex_digit, hex_digits, number_text}
+use Rattle.etcs_text.specs.Show.{hex_digit, hex_digits}
 
 -- one more digit of a number in hexadecimal
 pub hex_more : (below count n digit : ℕ) (old front out : List ℕ) → count ≡ suc below → front ≡ old ++ hex_digits below (n / 16) → digit ≡ hex_digit (n % 16) → out ≡ front ++ digit ∷ [] → out ≡ old ++ hex_digits count n

@@ -20,7 +20,7 @@ const WRONG_WORDS: u8 = 2;
 const BROKEN: u8 = 3;
 
 /// What `--kind` takes.
-static KINDS: [&str; 2] = ["long", "short"];
+static KINDS: [&str; 3] = ["long", "short", "radio"];
 
 /// What `--from` and `--to` take.
 static FORMS: [&str; 2] = ["hex", "bin"];
@@ -132,12 +132,12 @@ fn line<'a>(alloc: Global) -> Result<Line<'a>, AllocError> {
         .bin_name("etcs")?
         .version(VERSION)
         .about(
-            "Show, check and convert ETCS balise telegrams, read as user bits from standard input",
+            "Show, check and convert ETCS balise telegrams (user bits) and radio messages from standard input",
         )
         .subcommand_required(true)
-        .subcommand(show.about("Show the variables of each balise telegram, a line each"))?
-        .subcommand(check.about("Check each balise telegram: a line with its number of bits"))?
-        .subcommand(convert.about("Write each balise telegram in another form"))
+        .subcommand(show.about("Show the variables of each telegram or message, a line each"))?
+        .subcommand(check.about("Check each telegram or message: a line with its number of bits"))?
+        .subcommand(convert.about("Write each telegram or message in another form"))
 }
 
 /// A subcommand that takes items.
@@ -154,7 +154,9 @@ fn kind_option<'a>(alloc: Global) -> Arg<'a> {
         .required(true)
         .value_name("KIND")
         .value_parser(ValueParser::from(KINDS.as_slice()))
-        .help("Balise telegrams of 830 user bits (long) or of 210 (short)")
+        .help(
+            "Balise telegrams of 830 user bits (long) or of 210 (short), or radio messages (radio)",
+        )
 }
 
 /// `--from`, whose default is hex.
@@ -221,6 +223,7 @@ fn kind_of(name: &str) -> Option<Kind> {
     match name {
         "long" => Some(Kind::Long),
         "short" => Some(Kind::Short),
+        "radio" => Some(Kind::Radio),
         _ => None,
     }
 }

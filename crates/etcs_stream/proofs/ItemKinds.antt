@@ -1,62 +1,149 @@
 -- The items of a kind: their languages, and what a feed of their reader answers.
-use Rattle.std.proofs.Common.{◌≡◌, Bool, List, Result, Ok, Err, ap, refl}
+use Rattle.std.proofs.Common.{◌≡◌, ℕ, ◌+◌, ◌<◌, Bool, List, length, Result, Ok, Err, ap, refl, sym, ◌∙◌, arith}
+use Rattle.etcs_vars.specs.declared.var.Var.{Var}
 use Rattle.etcs_vars.specs.declared.feed.Fed.{Fed}
 use Rattle.etcs_vars.specs.declared.feed.Fed.TheVariants.{More, Done}
 use Rattle.etcs_vars.specs.declared.feed.ReadFault.{ReadFault}
 use Rattle.etcs_vars.specs.declared.feed.ReadFault.TheVariants.{Refused, Ended, Memory}
-use Rattle.etcs_vars.specs.Reading.{Reading, NoneYet, readings_of}
+use Rattle.etcs_vars.specs.Reading.{Reading, spelled, NoneYet, readings_of, IsOutcome, refused, more}
 use Rattle.etcs_vars.proofs.Languages.{Same, same_back}
 use Rattle.etcs_vars.proofs.Walk.{Regular}
-use Rattle.etcs_telegram.specs.Telegrams.{TelegramLanguage, TelegramParts, ReadsAs, telegram_value}
+use Rattle.etcs_telegram.specs.declared.size.Size.{Size}
+use Rattle.etcs_telegram.specs.declared.size.Size.TheVariants as size
+use Rattle.etcs_telegram.specs.Telegrams.{TelegramLanguage, TelegramParts, ReadsAs, telegram_value, user_bits, pad_bits}
 use Rattle.etcs_telegram.specs.Readers as telegram
 use Rattle.etcs_telegram.proofs.SameReadings.{viable_along, owner_along}
-use Rattle.etcs_telegram.proofs.Spellings.{regular}
+use Rattle.etcs_telegram.proofs.Spellings as telegrams
+use Rattle.etcs_telegram.proofs.Viewing.{some_telegram}
+use Rattle.etcs_rests.specs.Stages as message
+use Rattle.etcs_radio.specs.declared.message.Content.{Content}
+use Rattle.etcs_radio.specs.Messages.{MessageLanguage, MessageReads, IsMessage, message_value}
+use Rattle.etcs_radio.proofs.Spelling as messages
+use Rattle.etcs_radio.proofs.Bytes.{some_bits, some_message}
 use Rattle.etcs_text.specs.declared.entry.Kind.{Kind}
-use Rattle.etcs_text.specs.Entries.{EntryValue, of_telegram, size_of, EntryReads}
-use Rattle.etcs_stream.specs.Readers.{stage_of, reading, finished, Feeds}
+use Rattle.etcs_text.specs.declared.entry.Kind.TheVariants.{Long, Short, Radio}
+use Rattle.etcs_text.specs.Entries.{EntryValue, of_telegram, of_message, kind_of, EntryReads}
+use Rattle.etcs_stream.specs.Readers.{telegram_stage, message_stage, reading, finished, Feeds}
 
 abbrev pub Language : Kind → Reading → Type 0
 Language kind = readings_of (EntryReads kind)
 
-from_item : (kind : Kind) (r : Reading) → Language kind r → TelegramLanguage (size_of kind) r
-from_item kind r (of_telegram t, h) = (t, h)
+-- ---- The kinds of telegrams and of messages.
 
--- the readings of items of a kind are those of the telegrams of its size
-pub same_readings : (kind : Kind) → Same (TelegramLanguage (size_of kind)) (Language kind)
-same_readings kind r = (λ (t, h). (of_telegram t, h), from_item kind r)
+pub same_size : (s u : Size) → kind_of s ≡ kind_of u → s ≡ u
+same_size size.Long size.Long h = refl
+same_size size.Long size.Short h = absurd (let e : Long ≡ Short = h in cc)
+same_size size.Short size.Long h = absurd (let e : Short ≡ Long = h in cc)
+same_size size.Short size.Short h = refl
 
-pub kind_regular : (kind : Kind) → Regular (Language kind)
-kind_regular kind = record {
-  agree = λ a b l m. (regular (size_of kind)).agree a b (from_item kind a l) (from_item kind b m);
-  fit = λ a l. (regular (size_of kind)).fit a (from_item kind a l);
+pub not_radio : (s : Size) → kind_of s ≡ Radio → ⊥
+not_radio size.Long h = let e : Long ≡ Radio = h in absurd cc
+not_radio size.Short h = let e : Short ≡ Radio = h in absurd cc
+
+from_sized : (s : Size) (r : Reading) → Language (kind_of s) r → TelegramLanguage s r
+from_sized s r (of_telegram t, h) = (t, (same_size t.size s h.0, h.1))
+from_sized s r (of_message m, h) = absurd (not_radio s (sym h.0))
+
+from_radio : (r : Reading) → Language Radio r → MessageLanguage r
+from_radio r (of_telegram t, h) = absurd (not_radio t.size h.0)
+from_radio r (of_message m, h) = (m, h.1)
+
+-- the readings of items of a kind are those of the telegrams of its size, or those of messages
+same_telegrams : (s : Size) → Same (TelegramLanguage s) (Language (kind_of s))
+same_telegrams s r = (λ (t, h). (of_telegram t, (ap kind_of h.0, h.1)), from_sized s r)
+
+same_messages : Same MessageLanguage (Language Radio)
+same_messages r = (λ (m, h). (of_message m, (refl, h)), from_radio r)
+
+-- ---- What holds of each kind.
+
+regular_along : (P Q : Reading → Type 0) → Same P Q → Regular P → Regular Q
+regular_along P Q same regular = record {
+  agree = λ a b l m. regular.agree a b ((same a).1 l) ((same b).1 m);
+  fit = λ a l. regular.fit a ((same a).1 l);
 }
 
-none_yet : (kind : Kind) (b : List Bool) → NoneYet (TelegramLanguage (size_of kind)) b → NoneYet (Language kind) b
-none_yet kind b h k le (r, l, e) = h k le (r, from_item kind r l, e)
+pub kind_regular : (kind : Kind) → Regular (Language kind)
+kind_regular Long = regular_along (TelegramLanguage size.Long) (Language Long) (same_telegrams size.Long) (telegrams.regular size.Long)
+kind_regular Short = regular_along (TelegramLanguage size.Short) (Language Short) (same_telegrams size.Short) (telegrams.regular size.Short)
+kind_regular Radio = regular_along MessageLanguage (Language Radio) same_messages messages.regular
 
--- what a feed answers
-pub feeds_item : (kind : Kind) (seen new : List Bool) (answer : Result Fed ReadFault) (s : telegram.Stage) → telegram.Feeds (ReadsAs (size_of kind)) seen new answer s → Feeds (EntryReads kind) seen new answer (stage_of s)
-feeds_item kind seen new (Ok More) s f =
-    (ap stage_of f.0, (none_yet kind _ f.1.0, viable_along (TelegramLanguage (size_of kind)) (Language kind) (same_readings kind) _ f.1.1))
-feeds_item kind seen new (Ok (Done k)) s f = (of_telegram (telegram_value f.0), ap stage_of f.1, f.3, (f.4.0, f.4.1, f.4.2, f.4.3))
-feeds_item kind seen new (Err (Refused i x)) s f =
-    let same = same_readings kind in
-    let back = same_back (TelegramLanguage (size_of kind)) (Language kind) same in
-    let o = f.1 in (
-      (none_yet kind _ o.0.0, o.0.1, λ v. o.0.2 (viable_along (Language kind) (TelegramLanguage (size_of kind)) back _ v)),
-      owner_along (TelegramLanguage (size_of kind)) (Language kind) same _ x o.1,
-    )
-feeds_item kind seen new (Err Memory) s f = tt
-feeds_item kind seen new (Err Ended) s f = absurd f
+sized_bits : (s : Size) → 0 < user_bits s + pad_bits s
+sized_bits size.Short = omega arith
+sized_bits size.Long = omega arith
 
-pub reading_stage : (s : telegram.Stage) (seen : List Bool) → stage_of s ≡ reading seen → s ≡ telegram.reading seen
-reading_stage (telegram.reading b) seen h = let e : b ≡ seen = cc in ap telegram.reading e
-reading_stage (telegram.finished t) seen h = absurd cc
-reading_stage (telegram.stopped i x) seen h = absurd cc
-reading_stage (telegram.starved n) seen h = absurd cc
+telegram_bits : (s : Size) (r : Reading) → Language (kind_of s) r → 0 < length (spelled r)
+telegram_bits s r l = omega (arith, telegrams.whole_length s r ((same_telegrams s r).1 l), sized_bits s)
 
-pub finished_stage : (s : telegram.Stage) (e : EntryValue) → stage_of s ≡ finished e → (t : TelegramParts) × (s ≡ telegram.finished t)
-finished_stage (telegram.reading b) e h = absurd cc
-finished_stage (telegram.finished t) e h = (t, refl)
-finished_stage (telegram.stopped i x) e h = absurd cc
-finished_stage (telegram.starved n) e h = absurd cc
+-- each item has a bit
+pub item_bits : (kind : Kind) (r : Reading) → Language kind r → 0 < length (spelled r)
+item_bits Long r l = telegram_bits size.Long r l
+item_bits Short r l = telegram_bits size.Short r l
+item_bits Radio r l = some_bits r ((same_messages r).1 l)
+
+sized_item : (s : Size) → (r : Reading) × Language (kind_of s) r
+sized_item s = let (r, l) = some_telegram s in (r, (same_telegrams s r).0 l)
+
+-- and there is one
+pub some_item : (kind : Kind) → (r : Reading) × Language kind r
+some_item Long = sized_item size.Long
+some_item Short = sized_item size.Short
+some_item Radio = let (r, l) = some_message in (r, (same_messages r).0 l)
+
+-- ---- What a feed answers.
+
+module _ {V : Type 0} (Reads : V → Reading → Type 0) (kind : Kind) (same : Same (readings_of Reads) (Language kind)) where
+  none_along : (b : List Bool) → NoneYet (readings_of Reads) b → NoneYet (Language kind) b
+  none_along b h k le (r, l, e) = h k le (r, (same r).1 l, e)
+
+  more_along : (b : List Bool) → IsOutcome Reads b more → IsOutcome (EntryReads kind) b more
+  more_along b o = (none_along b o.0, viable_along (readings_of Reads) (Language kind) same b o.1)
+
+  refused_along : (b : List Bool) (i : ℕ) (x : Var) → IsOutcome Reads b (refused i x) → IsOutcome (EntryReads kind) b (refused i x)
+  refused_along b i x o =
+      let back = same_back (readings_of Reads) (Language kind) same in (
+        (none_along b o.0.0, o.0.1, λ v. o.0.2 (viable_along (Language kind) (readings_of Reads) back _ v)),
+        owner_along (readings_of Reads) (Language kind) same _ x o.1,
+      )
+
+pub telegram_feeds : (s : Size) (seen new : List Bool) (answer : Result Fed ReadFault) (at : telegram.Stage) → telegram.Feeds (ReadsAs s) seen new answer at → Feeds (EntryReads (kind_of s)) seen new answer (telegram_stage at)
+telegram_feeds s seen new (Ok More) at f = (ap telegram_stage f.0, more_along (ReadsAs s) (kind_of s) (same_telegrams s) _ f.1)
+telegram_feeds s seen new (Ok (Done k)) at f =
+    (of_telegram (telegram_value f.0), ap telegram_stage f.1, f.3, (f.4.0, f.4.1, (ap kind_of f.4.2.0, f.4.2.1), f.4.3))
+telegram_feeds s seen new (Err (Refused i x)) at f = refused_along (ReadsAs s) (kind_of s) (same_telegrams s) _ i x f.1
+telegram_feeds s seen new (Err Memory) at f = tt
+telegram_feeds s seen new (Err Ended) at f = absurd f
+
+pub message_feeds : (seen new : List Bool) (answer : Result Fed ReadFault) (at : message.Stage Content) → message.Feeds MessageReads message_value IsMessage 18 seen new answer at → Feeds (EntryReads Radio) seen new answer (message_stage at)
+message_feeds seen new (Ok More) at f = (ap message_stage f.0, more_along MessageReads Radio same_messages _ f.1)
+message_feeds seen new (Ok (Done k)) at f =
+    (of_message (message_value f.0), ap message_stage f.1, f.3, (f.4.0, f.4.1, (refl, f.4.2), f.4.3))
+message_feeds seen new (Err (Refused i x)) at f = refused_along MessageReads Radio same_messages _ i x f.1
+message_feeds seen new (Err Memory) at f = tt
+message_feeds seen new (Err Ended) at f = absurd f
+
+-- ---- The stages of the reader inside.
+
+pub telegram_reading : (s : telegram.Stage) (seen : List Bool) → telegram_stage s ≡ reading seen → s ≡ telegram.reading seen
+telegram_reading (telegram.reading b) seen h = let e : b ≡ seen = cc in ap telegram.reading e
+telegram_reading (telegram.finished t) seen h = absurd cc
+telegram_reading (telegram.stopped i x) seen h = absurd cc
+telegram_reading (telegram.starved n) seen h = absurd cc
+
+pub message_reading : (s : message.Stage Content) (seen : List Bool) → message_stage s ≡ reading seen → s ≡ message.reading seen
+message_reading (message.reading b) seen h = let e : b ≡ seen = cc in ap message.reading e
+message_reading (message.finished m) seen h = absurd cc
+message_reading (message.stopped i x) seen h = absurd cc
+message_reading (message.starved n) seen h = absurd cc
+
+pub telegram_finished : (s : telegram.Stage) (e : EntryValue) → telegram_stage s ≡ finished e → (t : TelegramParts) × (s ≡ telegram.finished t)
+telegram_finished (telegram.reading b) e h = absurd cc
+telegram_finished (telegram.finished t) e h = (t, refl)
+telegram_finished (telegram.stopped i x) e h = absurd cc
+telegram_finished (telegram.starved n) e h = absurd cc
+
+pub message_finished : (s : message.Stage Content) (e : EntryValue) → message_stage s ≡ finished e → (m : Content) × (s ≡ message.finished m)
+message_finished (message.reading b) e h = absurd cc
+message_finished (message.finished m) e h = (m, refl)
+message_finished (message.stopped i x) e h = absurd cc
+message_finished (message.starved n) e h = absurd cc

@@ -2,33 +2,32 @@
 use Rattle.std.proofs.Common.{◌≡◌, ℕ, ◌+◌, ◌^◌, ◌<◌, ◌≤◌, Bool, List, [], ◌∷◌, ◌++◌, length, take, get_or, refl, sym, ap, subst, ◌∙◌, arith, append_assoc, length-append, inl, inr}
 use Rattle.std.specs.Prelude.{◌⊎◌, All}
 use Rattle.std.proofs.lemmas.Bool.{cases_lt}
-use Rattle.std.proofs.lemmas.List.{append-nil, take_at, get_or_past}
+use Rattle.std.proofs.lemmas.List.{append-nil, take_at, take-take, get_or_past}
 use Rattle.hex.specs.Hex.{encode_upper}
 use Rattle.etcs_bits.specs.Bits.{bits}
 use Rattle.etcs_bits.proofs.ByteBits.{bits-append}
 use Rattle.etcs_bits.proofs.Owned.{bits_same}
 use Rattle.etcs_vars.specs.declared.var.Var.{Var}
 use Rattle.etcs_vars.specs.Walking.{Refuses}
-use Rattle.etcs_vars.specs.Reading.{Reading, spelled, IsOutcome, NoneYet, Viable}
+use Rattle.etcs_vars.specs.Reading.{Reading, spelled, IsOutcome, NoneYet, Viable, Owner}
 use Rattle.etcs_vars.specs.Reading as reading
 use Rattle.etcs_vars.proofs.Apart.{apart}
-use Rattle.etcs_vars.proofs.Languages.{same_back}
 use Rattle.etcs_vars.proofs.Outcomes.{viable_front}
-use Rattle.etcs_telegram.specs.Telegrams.{TelegramLanguage}
-use Rattle.etcs_telegram.proofs.SameReadings.{refuses_along}
-use Rattle.etcs_telegram.proofs.Spellings.{one_value}
-use Rattle.etcs_telegram.proofs.Viewing.{one_refusal}
+use Rattle.etcs_telegram.proofs.SameReadings.{owner_same}
+use Rattle.etcs_telegram.proofs.Spellings as telegrams
+use Rattle.etcs_radio.specs.Messages.{MessageValue, typed_message, kept_message, MessageReads}
+use Rattle.etcs_radio.proofs.Spelling as messages
 use Rattle.etcs_text.specs.declared.entry.Kind.{Kind}
 use Rattle.etcs_text.specs.declared.command.Command.{Command}
 use Rattle.etcs_text.specs.declared.command.Command.TheVariants.{Show, Check, Convert}
 use Rattle.etcs_text.specs.declared.command.Form.{Form}
 use Rattle.etcs_text.specs.declared.command.Form.TheVariants.{Hex, Bin}
-use Rattle.etcs_text.specs.Entries.{EntryValue, of_telegram, EntryReads, Spells, size_of}
+use Rattle.etcs_text.specs.Entries.{EntryValue, of_telegram, of_message, EntryReads, Spells}
 use Rattle.etcs_text.specs.Commands.{IsEncoded, ItemText}
 use Rattle.etcs_stream.specs.Inputs.{End, ended, refused, truncated, bad_hex, endless, EndsWith, BitItems, BadItems, SaysSoFar, FirstItems}
 use Rattle.etcs_stream.specs.Streams.{AreSpelled}
 use Rattle.etcs_stream.specs.OneRuns.{OneEnd, OneWhole, OneFront, OneText}
-use Rattle.etcs_stream.proofs.ItemKinds.{Language, same_readings, kind_regular}
+use Rattle.etcs_stream.proofs.ItemKinds.{Language, kind_regular, same_size, not_radio}
 use Rattle.etcs_stream.proofs.Streams.{nothing_is_spelled}
 use Rattle.etcs_stream.proofs.Printing.{bad_items}
 use Rattle.etcs_stream.proofs.OneLines.{one_hex, one_bad, hex_or_bad, one_so_far, front_hex, front_bad}
@@ -36,7 +35,10 @@ use Rattle.etcs_stream.proofs.OneLines.{one_hex, one_bad, hex_or_bad, one_so_far
 -- ---- One item.
 
 one_item : (kind : Kind) (e f : EntryValue) (r : Reading) → EntryReads kind e r → EntryReads kind f r → e ≡ f
-one_item kind (of_telegram t) (of_telegram u) r x y = ap of_telegram (one_value t u r (x.0 ∙ sym y.0) x.1 y.1)
+one_item kind (of_telegram t) (of_telegram u) r x y = ap of_telegram (telegrams.one_value t u r (same_size t.size u.size (x.0 ∙ sym y.0)) x.1 y.1)
+one_item kind (of_telegram t) (of_message n) r x y = absurd (not_radio t.size (x.0 ∙ sym y.0))
+one_item kind (of_message m) (of_telegram u) r x y = absurd (not_radio u.size (y.0 ∙ sym x.0))
+one_item kind (of_message m) (of_message n) r x y = ap of_message (messages.one_value m n r x.1 y.1)
 
 -- items with the same spelling in front are one, and so is what is behind
 first_same : (kind : Kind) (e f : EntryValue) (r q : Reading) (b c : List Bool) → EntryReads kind e r → EntryReads kind f q → spelled r ++ b ≡ spelled q ++ c → (e ≡ f) × (b ≡ c)
@@ -114,11 +116,22 @@ same_items kind es es' s s' rest rest' h h' few few' last last' is =
 
 -- ---- One end.
 
-refuses_item : (kind : Kind) (b : List Bool) (i : ℕ) (x : Var) → IsOutcome (EntryReads kind) b (reading.refused i x) → Refuses (TelegramLanguage (size_of kind)) b i x
-refuses_item kind b i x h =
-    let back = same_back (TelegramLanguage (size_of kind)) (Language kind) (same_readings kind) in
-    let here : Refuses (Language kind) b i x = record { within = h.0.1; owned = h.1; blocked = h.0.2 } in
-    refuses_along (Language kind) (TelegramLanguage (size_of kind)) back b i x here
+-- a bit of a language is refused once: none before it is, and one variable holds it
+none_earlier : (L : Reading → Type 0) (b : List Bool) (i j : ℕ) (x y : Var) → Refuses L b i x → Refuses L b j y → i < j → ⊥
+none_earlier L b i j x y f g lt =
+    let v = viable_front L (i + 1) (take j b) g.owned.viable in
+    f.blocked (subst (λ (t : List Bool). Viable L t) (take-take (i + 1) j b (omega (arith, lt))) v)
+
+one_refusal : (L : Reading → Type 0) (b : List Bool) (i j : ℕ) (x y : Var) → Refuses L b i x → Refuses L b j y → (i ≡ j) × (x ≡ y)
+one_refusal L b i j x y f g =
+    let same : i ≡ j = (elim (cases_lt i j) [
+      | inl lt ↦ absurd (none_earlier L b i j x y f g lt)
+      | inr ge ↦ elim (cases_lt j i) [ inl lt ↦ absurd (none_earlier L b j i y x g f lt) | inr le ↦ omega (arith, ge, le) ]
+    ]) in
+    (same, owner_same L (take j b) y x g.owned (subst (λ (k : ℕ). Owner L (take k b) x) same f.owned))
+
+refuses_item : (kind : Kind) (b : List Bool) (i : ℕ) (x : Var) → IsOutcome (EntryReads kind) b (reading.refused i x) → Refuses (Language kind) b i x
+refuses_item kind b i x h = record { within = h.0.1; owned = h.1; blocked = h.0.2 }
 
 refused_or_wanted : (kind : Kind) (b : List Bool) (i : ℕ) (x : Var) → IsOutcome (EntryReads kind) b (reading.refused i x) → IsOutcome (EntryReads kind) b reading.more → ⊥
 refused_or_wanted kind b i x h m = h.0.2 (viable_front (Language kind) (i + 1) b m.1)
@@ -131,7 +144,7 @@ ends_once kind n rest ended (bad_hex line place) h k = absurd k
 ends_once kind n rest ended endless h k = absurd (omega (arith, ap (λ (z : List Bool). length z) h, k.1))
 ends_once kind n rest (refused i x) ended h k = absurd (omega (arith, ap (λ (z : List Bool). length z) k, h.1.0.1))
 ends_once kind n rest (refused i x) (refused j y) h k =
-    let same = one_refusal (size_of kind) rest i j x y (refuses_item kind rest i x h.1) (refuses_item kind rest j y k.1) in cc
+    let same = one_refusal (Language kind) rest i j x y (refuses_item kind rest i x h.1) (refuses_item kind rest j y k.1) in cc
 ends_once kind n rest (refused i x) (truncated l) h k = absurd (refused_or_wanted kind rest i x h.1 k.3)
 ends_once kind n rest (refused i x) (bad_hex line place) h k = absurd k
 ends_once kind n rest (refused i x) endless h k = absurd (omega (arith, h.0, k.0))
@@ -241,8 +254,18 @@ one_front Hex kind input es es' end h (inr (bytes, line, place, bad, k)) =
 
 -- ---- One text.
 
+-- L_MESSAGE is of the bits
+one_message : (m : MessageValue) (r q : Reading) → MessageReads m r → MessageReads m q → r ≡ q
+one_message (typed_message nid h body vs padding) r q x y =
+    let len : x.len ≡ y.len = omega (arith, x.bytes, y.bytes) in
+    rw (x.reading_is, y.reading_is, len) refl
+one_message (kept_message nid b) r q x y =
+    let len : x.len ≡ y.len = omega (arith, x.bytes, y.bytes) in
+    rw (x.reading_is, y.reading_is, len) refl
+
 one_spelling : (e : EntryValue) (r q : Reading) → Spells e r → Spells e q → r ≡ q
 one_spelling (of_telegram t) r q x y = x.reading_is ∙ sym y.reading_is
+one_spelling (of_message m) r q x y = one_message m r q x y
 
 all_small : (bytes : List ℕ) → All (λ b. b < 256) bytes → (i : ℕ) → get_or bytes i 0 < 2 ^ 8
 all_small bytes h i = elim (cases_lt i (length bytes)) [

@@ -12,20 +12,15 @@ use Rattle.etcs_vars.specs.declared.feed.ReadFault.{ReadFault}
 use Rattle.etcs_vars.specs.declared.feed.ReadFault.TheVariants.{Refused}
 use Rattle.etcs_vars.specs.Reading.{spelled, NoneYet, Viable}
 use Rattle.etcs_vars.specs.Walking.{Refuses}
-use Rattle.etcs_telegram.specs.declared.size.Size.{Size}
-use Rattle.etcs_telegram.specs.declared.size.Size.TheVariants.{Short, Long}
-use Rattle.etcs_telegram.specs.Telegrams.{user_bits, pad_bits}
-use Rattle.etcs_telegram.proofs.Spellings.{whole_length}
-use Rattle.etcs_telegram.proofs.Viewing.{some_telegram}
 use Rattle.etcs_text.specs.declared.entry.Kind.{Kind}
 use Rattle.etcs_text.specs.declared.command.Command.{Command}
-use Rattle.etcs_text.specs.Entries.{EntryValue, EntryReads, size_of}
+use Rattle.etcs_text.specs.Entries.{EntryValue, EntryReads}
 use Rattle.etcs_text.specs.Commands.{ItemText, ItemsText}
 use Rattle.etcs_stream.specs.declared.fault.RunFault.{RunFault}
 use Rattle.etcs_stream.specs.Readers.{ReaderValue, Stage, Feeds, Awaits, seen_bits, reading}
 use Rattle.etcs_stream.specs.Streams.{AreSpelled}
 use Rattle.etcs_stream.specs.Steps.{Advances, Halts, HaltsBy}
-use Rattle.etcs_stream.proofs.ItemKinds.{Language, same_readings}
+use Rattle.etcs_stream.proofs.ItemKinds.{Language, item_bits, some_item}
 
 -- the bits of the first k bytes
 take-bits : (k : ℕ) (bytes : List ℕ) → k ≤ length bytes → take (8 * k) (bits bytes) ≡ bits (take k bytes)
@@ -45,19 +40,15 @@ ItemsText-append c item (d ∷ ds) es t u h g =
     let e : item + length (d ∷ ds) ≡ item + 1 + length ds = omega arith in
     (h.0, h.1 ++ u, ap (λ (z : List ℕ). z ++ u) h.2 ∙ append_assoc h.0 h.1 u, h.3, ItemsText-append c (item + 1) ds es h.1 u h.4 (subst (λ n. ItemsText c n es u) e g))
 
-some_bits : (size : Size) → 0 < user_bits size + pad_bits size
-some_bits Short = omega arith
-some_bits Long = omega arith
-
 -- no item is spelled by no bits
 pub nothing_is_spelled : (kind : Kind) → NoneYet (Language kind) []
 nothing_is_spelled kind zero h (r, l, e) =
-    absurd (omega (arith, whole_length (size_of kind) r ((same_readings kind r).1 l), ap (λ (b : List Bool). length b) e, some_bits (size_of kind)))
+    absurd (omega (arith, item_bits kind r l, ap (λ (b : List Bool). length b) e))
 nothing_is_spelled kind (suc k) h w = absurd (omega arith)
 
 -- and there is one
 begun : (kind : Kind) → Viable (Language kind) []
-begun kind = let (r, l) = some_telegram (size_of kind) in (r, spelled r, (same_readings kind r).0 l, refl)
+begun kind = let (r, l) = some_item kind in (r, spelled r, l, refl)
 
 -- a reader that has seen nothing
 pub Awaits-fresh : (kind : Kind) (r : ReaderValue) → r ≡ record { kind = kind; stage = reading [] } → Awaits kind r

@@ -7,8 +7,14 @@ use Rattle.etcs_vars.specs.declared.feed.ReadFault.{ReadFault}
 use Rattle.etcs_vars.specs.declared.feed.ReadFault.TheVariants.{Refused, Ended, Memory}
 use Rattle.etcs_telegram.specs.Telegrams.{telegram_value}
 use Rattle.etcs_telegram.specs.Readers as telegram
+use Rattle.etcs_rests.specs.Stages as message
+use Rattle.etcs_radio.specs.declared.message.Content.{Content}
+use Rattle.etcs_radio.specs.Messages.{message_value}
 use Rattle.etcs_text.specs.declared.entry.Kind.{Kind}
-use Rattle.etcs_text.specs.Entries.{EntryValue, of_telegram, EntryReads}
+use Rattle.etcs_text.specs.declared.entry.Kind.TheVariants.{Radio}
+use Rattle.etcs_text.specs.Entries.{EntryValue, of_telegram, of_message, kind_of, EntryReads}
+use Rattle.etcs_stream.specs.declared.entries.Inner.{Inner}
+use Rattle.etcs_stream.specs.declared.entries.Inner.TheVariants.{Telegram, Message}
 
 -- it has taken these bits and wants more; it has an item; it takes no more
 pub data Stage : Type 0 where
@@ -21,11 +27,23 @@ pub record ReaderValue : Type 0 where
   pub stage : Stage
 
 -- that of a reader of telegrams
-abbrev pub stage_of : telegram.Stage → Stage
-stage_of (telegram.reading b) = reading b
-stage_of (telegram.finished t) = finished (of_telegram (telegram_value t))
-stage_of (telegram.stopped i x) = stopped
-stage_of (telegram.starved n) = stopped
+abbrev pub telegram_stage : telegram.Stage → Stage
+telegram_stage (telegram.reading b) = reading b
+telegram_stage (telegram.finished t) = finished (of_telegram (telegram_value t))
+telegram_stage (telegram.stopped i x) = stopped
+telegram_stage (telegram.starved n) = stopped
+
+-- that of a reader of messages
+abbrev pub message_stage : message.Stage Content → Stage
+message_stage (message.reading b) = reading b
+message_stage (message.finished m) = finished (of_message (message_value m))
+message_stage (message.stopped i x) = stopped
+message_stage (message.starved n) = stopped
+
+-- the reader of a kind reads items of that kind alone
+abbrev pub value_of : Inner → ReaderValue
+value_of (Telegram r) = record { kind = kind_of r.size; stage = telegram_stage r.stage }
+value_of (Message s) = record { kind = Radio; stage = message_stage s }
 
 -- the bits of an item that isn't whole yet
 abbrev pub seen_bits : Stage → List Bool

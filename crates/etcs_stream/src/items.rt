@@ -10,8 +10,8 @@ ghost use Rattle.etcs_stream.specs.Steps.{Advances, Halts};
 use crate::entries::EntryReader;
 use crate::fault::RunFault;
 use crate::job::Job;
-use etcs_telegram::{Fed, ReadFault};
 use etcs_text::tell;
+use etcs_vars::{Fed, ReadFault};
 use std::alloc::{AllocError, Global};
 use std::mem;
 

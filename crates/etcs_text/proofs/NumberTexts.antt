@@ -1,12 +1,10 @@
 -- Numbers of variables as text.
-use Rattle.std.proofs.Common.{◌≡◌, ℕ, suc, ◌+◌, ◌<◌, Result, Ok, Err, cond, ◌/◌, ◌%◌, List, [], ◌∷◌, ◌++◌, refl, sym, ap, ◌∙◌, append_assoc}
+use Rattle.std.proofs.Common.{◌≡◌, ℕ, suc, ◌+◌, ◌<◌, Result, Ok, Err, cond, ◌/◌, ◌%◌, List, [], ◌∷◌, ◌++◌, sym, ap, ◌∙◌, append_assoc}
 use Rattle.std.specs.Prelude.{OnOk, codes}
 use Rattle.std.specs.Result.{is_ok}
 use Rattle.std.specs.Fmt.{decimal}
 use Rattle.std.proofs.lemmas.Fmt.{decimal_digit}
-use Rattle.etcs_vars.specs.declared.var.Var.{Var}
-use Rattle.etcs_vars.specs.declared.var.Var.TheVariants.{NID_RADIO}
-use Rattle.etcs_text.specs.Show.{hex_digit, hex_digits, number_text}
+use Rattle.etcs_text.specs.Show.{hex_digit, hex_digits}
 
 -- one more digit of a number in hexadecimal
 pub hex_more : (below count n digit : ℕ) (old front out : List ℕ) → count ≡ suc below → front ≡ old ++ hex_digits below (n / 16) → digit ≡ hex_digit (n % 16) → out ≡ front ++ digit ∷ [] → out ≡ old ++ hex_digits count n
@@ -16,11 +14,6 @@ hex_more below count n digit old front out same e d f =
     ∙ append_assoc old (hex_digits below (n / 16)) (digit ∷ [])
     ∙ ap (λ (x : ℕ). old ++ (hex_digits below (n / 16) ++ x ∷ [])) d
     ∙ ap (λ (k : ℕ). old ++ hex_digits k n) (sym same)
-
--- any variable but NID_RADIO
-pub number_decimal : (v : Var) (n : ℕ) → (v ≡ NID_RADIO → ⊥) → decimal n ≡ number_text v n
-number_decimal NID_RADIO n h = absurd (h refl)
-number_decimal v n h = refl
 
 -- a number of one digit and a LF
 pub digit_line : (T E : Type 0) (r : Result T E) (n : ℕ) (old new : List ℕ) → n < 10 → new ≡ cond (is_ok r) (old ++ (48 + n) ∷ 10 ∷ []) old → OnOk r (new ≡ old ++ decimal n ++ codes "\n")

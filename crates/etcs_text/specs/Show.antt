@@ -1,9 +1,9 @@
 -- The text of an item: a line for it, one for each variable, and one for the bits behind the last packet.
-use Rattle.std.specs.Prelude.{ℕ, zero, suc, ◌+◌, ◌/◌, ◌%◌, Bool, List, [], ◌∷◌, ◌++◌, length, map, Option, Some, None, codes, nat_lt, if◌then◌else◌}
+use Rattle.std.specs.Prelude.{ℕ, zero, suc, ◌+◌, ◌-◌, ◌/◌, ◌%◌, Bool, List, [], ◌∷◌, ◌++◌, length, map, Option, Some, None, codes, nat_lt, if◌then◌else◌}
 use Rattle.std.specs.Fmt.{decimal}
 use Rattle.etcs_bits.specs.Bits.{bit}
 use Rattle.etcs_vars.specs.declared.var.Var.{Var}
-use Rattle.etcs_vars.specs.declared.var.Var.TheVariants.{NID_RADIO}
+use Rattle.etcs_vars.specs.declared.var.Var.TheVariants.{NID_RADIO, D_REF}
 use Rattle.etcs_vars.specs.Vars.{name, special}
 use Rattle.etcs_vars.specs.Reading.{Sent}
 use Rattle.etcs_telegram.specs.declared.size.Size.{Size}
@@ -32,9 +32,14 @@ abbrev pub hex_digits : ℕ → ℕ → List ℕ
 hex_digits zero n = []
 hex_digits (suc count) n = hex_digits count (n / 16) ++ hex_digit (n % 16) ∷ []
 
--- the number of a variable: NID_RADIO as its sixteen digits of four bits, all others in decimal
+-- a number that is sent in two's complement of 16 bits
+abbrev pub signed_text : ℕ → List ℕ
+signed_text n = if nat_lt n 32768 then decimal n else codes "-" ++ decimal (65536 - n)
+
+-- the number of a variable: NID_RADIO as its sixteen digits of four bits, D_REF with its sign, all others in decimal
 abbrev pub number_text : Var → ℕ → List ℕ
 number_text NID_RADIO n = hex_digits 16 n
+number_text D_REF n = signed_text n
 number_text v n = decimal n
 
 -- what stands before it in its line

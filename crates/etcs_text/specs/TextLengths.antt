@@ -1,6 +1,6 @@
 -- How long the text of an item can be.
 use Rattle.std.proofs.Common.{◌≡◌, ℕ, zero, suc, ◌+◌, ◌*◌, ◌^◌, ◌<◌, ◌≤◌, Bool, true, false, List, [], ◌∷◌, ◌++◌, length, flat_map, Some, None, refl, ap, subst, ◌∙◌, arith, decimal, ◌==◌}
-use Rattle.std.specs.Prelude.{Option, codes, if◌then◌else◌, ◌/◌, ◌%◌}
+use Rattle.std.specs.Prelude.{Option, codes, if◌then◌else◌, nat_lt, ◌-◌, ◌/◌, ◌%◌}
 use Rattle.std.proofs.Math.Nat.{pow-le-pow_right}
 use Rattle.std.specs.Prelude.{replicate}
 use Rattle.std.proofs.lemmas.List.{length-append, length-map}
@@ -20,6 +20,11 @@ use Rattle.etcs_vars.proofs.Walk.{spelled-append}
 use Rattle.etcs_packets.specs.PacketValues.{PacketValue, nid_of}
 use Rattle.etcs_packets.specs.PacketValues as packet
 use Rattle.etcs_packets.specs.PacketReadings.{packet_reading, packets_reading, packet_bits}
+use Rattle.etcs_radio.specs.declared.body.RadioHead.{RadioHead}
+use Rattle.etcs_radio.specs.Messages.{MessageValue, typed_message, kept_message, MessageReads, TypedReads, head_reading}
+use Rattle.etcs_radio.proofs.Kept.{length-kept}
+use Rattle.etcs_radio.proofs.Sizes.{head_length}
+use Rattle.etcs_radio.proofs.Spelling.{regular as radio}
 use Rattle.etcs_telegram.specs.declared.size.Size.{Size}
 use Rattle.etcs_telegram.specs.declared.size.Size.TheVariants as size
 use Rattle.etcs_telegram.specs.Telegrams.{TelegramValue, TelegramReads, header_reading, closed_reading, user_bits, pad_bits}
@@ -29,9 +34,10 @@ use Rattle.etcs_text.specs.declared.command.Form.TheVariants.{Hex, Bin}
 use Rattle.etcs_text.specs.declared.command.Command.{Command}
 use Rattle.etcs_text.specs.declared.command.Command.TheVariants.{Show, Check, Convert}
 use Rattle.etcs_text.specs.Commands.{IsEncoded, ItemText, ItemsText, check_line}
-use Rattle.etcs_text.specs.Entries.{EntryValue, of_telegram, EntryReads}
+use Rattle.etcs_text.specs.Entries.{EntryValue, of_telegram, of_message, EntryReads, Spells, entry_bits, entry_text}
+use Rattle.etcs_text.specs.Messages.{message_bits, message_bytes, message_line, front_variables, behind_lines, message_text}
 use Rattle.etcs_text.specs.Packets.{packet_line, frame_lines, body_lines, packet_text, packets_text}
-use Rattle.etcs_text.specs.Show.{variable_line, number_text, special_text, hex_digit, hex_digits, bit_digit, bits_text, bits_line, item_line, kind_word, fill_line}
+use Rattle.etcs_text.specs.Show.{variable_line, number_text, special_text, signed_text, hex_digit, hex_digits, bit_digit, bits_text, bits_line, item_line, kind_word, fill_line}
 use Rattle.etcs_text.specs.Telegrams.{show_text}
 
 -- ---- A variable.
@@ -43,6 +49,16 @@ hex_long (suc count) n = length-append (hex_digits count (n / 16)) (hex_digit (n
 chosen : (b : Bool) (text : List ℕ) (o : Option (List ℕ)) → length (special_text (Some text)) ≤ 24 → length (special_text o) ≤ 24 → length (special_text (if b then Some text else o)) ≤ 24
 chosen true text o h k = h
 chosen false text o h k = k
+
+decimal_short : (n : ℕ) → n < 2 ^ 64 → length (decimal n) ≤ 20
+decimal_short n h = length-decimal-le 20 n (omega arith) (omega (arith, h)) h
+
+with_sign : (b : Bool) (x y : List ℕ) → length x ≤ 20 → length y ≤ 20 → length (if b then x else codes "-" ++ y) ≤ 21
+with_sign true x y h k = omega (arith, h)
+with_sign false x y h k = let l = length-append (codes "-") y in omega (arith, l, k)
+
+signed_short : (n : ℕ) → length (decimal n) ≤ 20 → length (signed_text n) ≤ 21
+signed_short n h = with_sign (nat_lt n 32768) (decimal n) (decimal (65536 - n)) h (decimal_short (65536 - n) (omega arith))
 
 -- what stands behind its two blanks, but for the blank and the LF
 parts_short : (v : Var) (n : ℕ) → length (decimal n) ≤ 20 → length (name v) + (length (number_text v n) + length (special_text (special v n))) ≤ 68
@@ -135,7 +151,7 @@ parts_short M_ACK n h = omega (arith, h)
 parts_short NID_LRBG n h = let s = chosen (n == 16777215) (codes "unknown") (None) (omega arith) (omega arith) in omega (arith, h, s)
 parts_short D_SR n h = omega (arith, h)
 parts_short NID_EM n h = omega (arith, h)
-parts_short D_REF n h = omega (arith, h)
+parts_short D_REF n h = omega (arith, signed_short n h)
 parts_short Q_ORIENTATION n h = omega (arith, h)
 parts_short FILL n h = omega (arith, h)
 parts_short OTHER_DATA n h = omega (arith, h)
@@ -144,9 +160,6 @@ parts_short PAD n h = omega (arith, h)
 
 small_number : (v : Var) (n : ℕ) → n < 2 ^ width v → n < 2 ^ 64
 small_number v n h = let le = pow-le-pow_right {n = 2} (omega arith) (width-le v) in omega (arith, h, le)
-
-decimal_short : (n : ℕ) → n < 2 ^ 64 → length (decimal n) ≤ 20
-decimal_short n h = length-decimal-le 20 n (omega arith) (omega (arith, h)) h
 
 line_long : (a b c : List ℕ) → length (codes "  " ++ a ++ codes " " ++ b ++ c ++ codes "\n") ≡ 4 + (length a + (length b + length c))
 line_long a b c =
@@ -304,25 +317,115 @@ telegram_short t r item x h =
     let l = five_long (item_line t.size item) (flat_map variable_line (header_reading t.header)) (packets_text t.packets) (codes "packet 255\n") (fill_line t.fill) in
     omega (arith, line, header, packets, closed, user, x.user_bits_is, fill, l)
 
--- ---- What is written of an item.
+-- ---- A message.
 
-check_short : (e : EntryValue) (item : ℕ) → item < 2 ^ 64 → length (check_line e item) ≤ 64
-check_short (of_telegram t) item h =
+three_long : (a b c : List ℕ) → length (a ++ b ++ c) ≡ length a + length b + length c
+three_long a b c = omega (arith, length-append (a ++ b) c, length-append a b)
+
+message_line_short : (bits item : ℕ) → bits ≤ 8192 → item < 2 ^ 64 → length (message_line bits item) ≤ 64
+message_line_short bits item small h =
     let d = decimal_short item h in
-    let e = decimal_short (user_bits t.size) (omega (arith, user_short t.size)) in
-    let l = five_long (codes "item ") (decimal item) (codes " ok ") (decimal (user_bits t.size)) (codes " bits\n") in
+    let e = decimal_short bits (omega (arith, small)) in
+    let l = five_long (codes "item ") (decimal item) (codes " radio ") (decimal bits) (codes " bits\n") in
     omega (arith, d, e, l)
 
-encoded_short : (e : EntryValue) (bytes : List ℕ) → IsEncoded e bytes → length bytes ≤ 104
-encoded_short (of_telegram t) bytes x =
-    let whole = whole_length t.size x.reading (t, (refl, x.reads)) in
+-- its bits are those of L_MESSAGE bytes
+whole_message : (m : MessageValue) (r : Reading) → MessageReads m r → (message_bits m < 8192) × (8 * message_bytes m ≡ message_bits m) × (length (spelled r) ≡ message_bits m)
+whole_message (typed_message nid head body vs padding) r x =
+    let front = head_reading nid x.len head in
+    let whole : AllFit r = radio.fit r (typed_message nid head body vs padding, x) in
+    let parts : AllFit (((front ++ body) ++ packets_reading vs) ++ kept PADDING padding) = subst AllFit x.reading_is whole in
+    let len : x.len < 2 ^ 10 = parts.1.0 in
+    let l = spelled_long ((front ++ body) ++ packets_reading vs) (kept PADDING padding) in
+    let k = spelled_long (front ++ body) (packets_reading vs) in
+    let j = spelled_long front body in
+    let p = length-kept PADDING padding refl in
+    let all : length (spelled r) ≡ length (spelled (((front ++ body) ++ packets_reading vs) ++ kept PADDING padding)) = ap (λ (q : Reading). length (spelled q)) x.reading_is in
+    (omega (arith, x.bytes, len), omega (arith, x.bytes), omega (arith, all, l, k, j, p, head_length nid x.len head))
+whole_message (kept_message nid b) r x =
+    let l = length-sent NID_MESSAGE nid ((L_MESSAGE, x.len) ∷ kept OTHER_DATA b) in
+    let k = length-sent L_MESSAGE x.len (kept OTHER_DATA b) in
+    let p = length-kept OTHER_DATA b refl in
+    let all : length (spelled r) ≡ length (spelled ((NID_MESSAGE, nid) ∷ (L_MESSAGE, x.len) ∷ kept OTHER_DATA b)) = ap (λ (q : Reading). length (spelled q)) x.reading_is in
+    (omega (arith, x.bytes, x.most), omega (arith, x.bytes), omega (arith, all, l, k, p))
+
+-- L_MESSAGE is that of the reading
+bytes_same : (nid : ℕ) (head : RadioHead) (body : Reading) (vs : List PacketValue) (padding : List Bool) (r : Reading) (x : TypedReads nid head body vs padding r) → x.len ≡ message_bytes (typed_message nid head body vs padding)
+bytes_same nid head body vs padding r x = omega (arith, x.bytes)
+
+front_fit : (m : MessageValue) (r : Reading) → MessageReads m r → AllFit (front_variables m)
+front_fit (typed_message nid head body vs padding) r x =
+    let whole : AllFit r = radio.fit r (typed_message nid head body vs padding, x) in
+    let parts : AllFit (((head_reading nid x.len head ++ body) ++ packets_reading vs) ++ kept PADDING padding) = subst AllFit x.reading_is whole in
+    let front : AllFit (head_reading nid x.len head ++ body) = fit_front (head_reading nid x.len head ++ body) (packets_reading vs) (fit_front ((head_reading nid x.len head ++ body) ++ packets_reading vs) (kept PADDING padding) parts) in
+    subst (λ (k : ℕ). AllFit (head_reading nid k head ++ body)) (bytes_same nid head body vs padding r x) front
+front_fit (kept_message nid b) r x =
+    let len : message_bytes (kept_message nid b) ≡ x.len = omega (arith, x.bytes) in
+    (x.small, (omega (arith, len, x.most), tt))
+
+behind_short : (m : MessageValue) (r : Reading) → MessageReads m r → length (behind_lines m) + 128 * length (spelled (front_variables m)) ≤ 128 * message_bits m + 256
+behind_short (typed_message nid head body vs padding) r x =
+    let whole : AllFit r = radio.fit r (typed_message nid head body vs padding, x) in
+    let parts : AllFit (((head_reading nid x.len head ++ body) ++ packets_reading vs) ++ kept PADDING padding) = subst AllFit x.reading_is whole in
+    let fits : AllFit (packets_reading vs) = fit_behind (head_reading nid x.len head ++ body) (packets_reading vs) (fit_front ((head_reading nid x.len head ++ body) ++ packets_reading vs) (kept PADDING padding) parts) in
+    let w = whole_message (typed_message nid head body vs padding) r x in
+    let len = message_bytes (typed_message nid head body vs padding) in
+    let front = spelled_long (head_reading nid len head) body in
+    let packets = packets_short vs fits in
+    let small : length padding ≤ 8192 = omega (arith, w.0) in
+    let closed = line_short (codes "PADDING") padding (omega (arith, small)) (omega arith) in
+    let l = three_long (packets_text vs) (codes "end\n") (bits_line (codes "PADDING") padding) in
+    omega (arith, front, head_length nid len head, packets, closed, l)
+behind_short (kept_message nid b) r x =
+    let len = message_bytes (kept_message nid b) in
+    let k = length-sent NID_MESSAGE nid ((L_MESSAGE, len) ∷ []) in
+    let j = length-sent L_MESSAGE len [] in
+    let w = whole_message (kept_message nid b) r x in
+    let small : length b ≤ 8192 = omega (arith, w.0) in
+    let closed = line_short (codes "OTHER_DATA") b (omega (arith, small)) (omega arith) in
+    omega (arith, k, j, closed)
+
+message_short : (m : MessageValue) (r : Reading) (item : ℕ) → MessageReads m r → item < 2 ^ 64 → length (message_text m item) ≤ 2 ^ 20
+unfolding message_text
+message_short m r item x h =
+    let w = whole_message m r x in
+    let bits : message_bits m ≤ 8184 = omega (arith, w.0, w.1) in
+    let line = message_line_short (message_bits m) item (omega (arith, bits)) h in
+    let front = variables_short (front_variables m) (front_fit m r x) in
+    let behind = behind_short m r x in
+    let l = three_long (message_line (message_bits m) item) (flat_map variable_line (front_variables m)) (behind_lines m) in
+    omega (arith, bits, line, front, behind, l)
+
+-- ---- What is written of an item.
+
+bits_small : (e : EntryValue) (r : Reading) → Spells e r → entry_bits e < 8192
+bits_small (of_telegram t) r x = omega (arith, user_short t.size)
+bits_small (of_message m) r x = (whole_message m r x).0
+
+check_short : (e : EntryValue) (r : Reading) (item : ℕ) → Spells e r → item < 2 ^ 64 → length (check_line e item) ≤ 64
+check_short e r item x h =
+    let d = decimal_short item h in
+    let b = decimal_short (entry_bits e) (omega (arith, bits_small e r x)) in
+    let l = five_long (codes "item ") (decimal item) (codes " ok ") (decimal (entry_bits e)) (codes " bits\n") in
+    omega (arith, d, b, l)
+
+spelled_short : (e : EntryValue) (r : Reading) → Spells e r → length (spelled r) ≤ 8192
+spelled_short (of_telegram t) r x = let whole = whole_length t.size r (t, (refl, x)) in omega (arith, whole, whole_short t.size)
+spelled_short (of_message m) r x = let w = whole_message m r x in omega (arith, w.0, w.2)
+
+encoded_short : (e : EntryValue) (bytes : List ℕ) → IsEncoded e bytes → length bytes ≤ 1024
+encoded_short e bytes x =
     let is : length (bits bytes) ≡ length (spelled x.reading) = ap length x.bits_are in
-    omega (arith, whole, is, length-bits bytes, whole_short t.size)
+    omega (arith, spelled_short e x.reading x.reads, is, length-bits bytes)
+
+entry_short : (e : EntryValue) (r : Reading) (item : ℕ) → Spells e r → item < 2 ^ 64 → length (entry_text e item) ≤ 2 ^ 20
+entry_short (of_telegram t) r item x h = telegram_short t r item x h
+entry_short (of_message m) r item x h = message_short m r item x h
 
 -- what is written of one item
 pub told_short : (command : Command) (kind : Kind) (e : EntryValue) (r : Reading) (item : ℕ) (text : List ℕ) → EntryReads kind e r → item < 2 ^ 64 → ItemText command e item text → length text ≤ 2097152
-told_short Show kind (of_telegram t) r item text x h is = let l = telegram_short t r item x.1 h in rw is (omega (arith, l))
-told_short Check kind e r item text x h is = let l = check_short e item h in rw is (omega (arith, l))
+told_short Show kind e r item text x h is = let l = entry_short e r item x.1 h in rw is (omega (arith, l))
+told_short Check kind e r item text x h is = let l = check_short e r item x.1 h in rw is (omega (arith, l))
 told_short (Convert Hex) kind e r item text x h (bytes, encoded, is) =
     let l = length-append (encode_upper bytes) (10 ∷ []) in
     let d = length-encode_with upper_digits bytes in

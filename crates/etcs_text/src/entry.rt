@@ -1,5 +1,6 @@
 //! What the items of an input are.
 
+use etcs_radio::Message;
 use etcs_telegram::Telegram;
 
 /// What the input holds.
@@ -9,6 +10,8 @@ pub enum Kind {
     Long,
     /// Balise telegrams of 210 user bits.
     Short,
+    /// Radio messages to the train.
+    Radio,
 }
 
 /// One item of the input.
@@ -16,4 +19,6 @@ pub enum Kind {
 pub enum Entry {
     /// A balise telegram.
     Telegram(Telegram),
+    /// A radio message.
+    Message(Message),
 }

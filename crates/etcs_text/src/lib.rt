@@ -4,9 +4,11 @@
 mod command;
 mod entry;
 mod fronts;
+mod messages;
 mod packets;
 pub mod parts;
 mod show;
+mod signed;
 mod telling;
 mod text;
 mod variables;

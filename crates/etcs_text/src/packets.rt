@@ -18,8 +18,8 @@ use std::mem;
 
 /// A text that takes variables, a line for each.
 #[derive(Drop)]
-struct LineSink {
-    text: Vec<u8>,
+pub(crate) struct LineSink {
+    pub(crate) text: Vec<u8>,
 }
 
 impl Model for LineSink {
@@ -32,7 +32,7 @@ impl Model for LineSink {
 
 impl LineSink {
     /// The text.
-    fn into_text(self) -> Vec<u8>
+    pub(crate) fn into_text(self) -> Vec<u8>
         ensures { result.items ≡ self }
     {
         let LineSink { text } = self;

@@ -10,6 +10,7 @@ ghost use Rattle.etcs_text.specs.Telegrams.{show_text};
 ghost use Rattle.etcs_telegram.specs.Telegrams.{telegram_value};
 
 use crate::entry::Entry;
+use crate::messages::push_message;
 use crate::packets::push_packets;
 use crate::text::push_item_number;
 use crate::variables::{push_bits_line, push_variables};
@@ -74,12 +75,18 @@ fn push_entry(entry: &Entry, item: u64, out: &mut Vec<u8>) -> Result<(), AllocEr
 {
     match entry {
         Entry::Telegram(telegram) => push_telegram(telegram, item, out),
+        Entry::Message(message) => push_message(message, item, out),
     }
 }
 
 /// Appends the text of an entry, the item of this number: a line with the number, the kind and the
-/// count of user bits, a line for each variable of the header in the order of sending (SUBSET-026,
-/// 7.5), its packets, `packet 255`, and the line of FILL. Each line ends with a LF.
+/// count of bits, of a telegram user bits, a line for each variable of the header and of a message's
+/// own in the order of sending (SUBSET-026, 7.5 and 8), its packets, and what closes it. Each line
+/// ends with a LF.
+///
+/// A telegram is closed by `packet 255` and the line of FILL, a typed message by `end` and the line
+/// of PADDING. A message that is kept as bits has the lines of NID_MESSAGE, L_MESSAGE and OTHER_DATA
+/// alone behind the first.
 ///
 /// # Errors
 ///

@@ -2,8 +2,9 @@
 
 ghost use Rattle.std.specs.Prelude.{◌≡◌, ◌++◌, ◌<◌, ◌≤◌, ◌∷◌, All, ℕ, List, [], IfOk, OnErr, OnOk, length, take};
 ghost use Rattle.hex.specs.Hex.{encode_upper};
+ghost use Rattle.etcs_radio.specs.Messages.{message_value};
 ghost use Rattle.etcs_telegram.specs.Telegrams.{telegram_value};
-ghost use Rattle.etcs_text.specs.Entries.{entry_bits, entry_value, of_telegram};
+ghost use Rattle.etcs_text.specs.Entries.{entry_bits, entry_value, of_message, of_telegram};
 ghost use Rattle.etcs_text.specs.Fronts.{Begins};
 ghost use Rattle.etcs_text.specs.Commands.{IsEncoded, ItemText, check_line};
 
@@ -11,8 +12,9 @@ use crate::command::{Command, Form};
 use crate::entry::Entry;
 use crate::show::show_lines;
 use crate::text::{push_decimal, push_item_number};
+use etcs_radio::Message;
 use etcs_telegram::Telegram;
-use std::alloc::AllocError;
+use std::alloc::{AllocError, Global};
 
 /// Appends what the command writes of an entry, the item of this number: the lines of `show_lines`, a line that says
 /// that it was accepted, its encoding in upper case digits with a LF, or its encoding.
@@ -32,12 +34,13 @@ pub fn tell(command: Command, entry: &Entry, item: u64, out: &mut Vec<u8>) -> Re
     }
 }
 
-/// How many bits an entry has: user bits.
+/// How many bits an entry has: of a telegram user bits.
 fn bits_of(entry: &Entry) -> usize
     ensures { result ≡ entry_bits (entry_value entry.now) }
 {
     match entry {
         Entry::Telegram(telegram) => telegram.size().user_bits(),
+        Entry::Message(message) => message.bit_len(),
     }
 }
 
@@ -88,14 +91,14 @@ fn encode_telegram(telegram: &Telegram) -> ([u8; 104], usize)
     }
 }
 
-/// The entry's encoding at the front of so many bytes, and how many of them it is.
-fn encode(entry: &Entry) -> ([u8; 104], usize)
-    ensures within { result.1 ≤ length result.0 }
-    ensures bytes { IsEncoded (entry_value entry.now) (take result.1 result.0) }
+/// The message's encoding.
+fn encode_message(message: &Message, alloc: Global) -> Result<Vec<u8>, AllocError>
+    ensures { IfOk result (λ bytes. IsEncoded (of_message (message_value message.now)) bytes.items) }
 {
-    match entry {
-        Entry::Telegram(telegram) => encode_telegram(telegram),
-    }
+    let mut bytes = Vec::new(alloc);
+    message.encode(&mut bytes)?;
+    are_bytes(bytes.as_slice());
+    Ok(bytes)
 }
 
 /// Appends the entry's encoding, or nothing.
@@ -103,8 +106,26 @@ fn tell_bytes(entry: &Entry, out: &mut Vec<u8>) -> Result<(), AllocError>
     ensures ok { OnOk result ((added : List ℕ) × IsEncoded (entry_value entry.now) added × (out.new.items ≡ out.old.items ++ added)) }
     ensures err { OnErr result (out.new.items ≡ out.old.items) }
 {
-    let (room, count) = encode(entry);
-    out.extend_from_slice(&room[..count])
+    match entry {
+        Entry::Telegram(telegram) => {
+            let (room, count) = encode_telegram(telegram);
+            out.extend_from_slice(&room[..count])
+        }
+        Entry::Message(message) => {
+            let bytes = encode_message(message, *out.allocator())?;
+            out.extend_from_slice(bytes.as_slice())
+        }
+    }
+}
+
+/// Appends bytes as upper case digits and a LF, or nothing.
+fn push_digits(bytes: &[u8], out: &mut Vec<u8>) -> Result<(), AllocError>
+    ensures ok { OnOk result (out.new.items ≡ out.old.items ++ (encode_upper bytes.now ++ 10 ∷ [])) }
+    ensures err { OnErr result (out.new.items ≡ out.old.items) }
+{
+    let mut text = hex::encode_upper(*out.allocator(), bytes)?;
+    text.push('\n')?;
+    out.extend_from_slice(text.as_bytes())
 }
 
 /// Appends the entry's encoding in upper case digits and a LF, or nothing.
@@ -112,8 +133,14 @@ fn tell_hex(entry: &Entry, out: &mut Vec<u8>) -> Result<(), AllocError>
     ensures ok { OnOk result ((bytes : List ℕ) × IsEncoded (entry_value entry.now) bytes × (out.new.items ≡ out.old.items ++ (encode_upper bytes ++ 10 ∷ []))) }
     ensures err { OnErr result (out.new.items ≡ out.old.items) }
 {
-    let (room, count) = encode(entry);
-    let mut text = hex::encode_upper(*out.allocator(), &room[..count])?;
-    text.push('\n')?;
-    out.extend_from_slice(text.as_bytes())
+    match entry {
+        Entry::Telegram(telegram) => {
+            let (room, count) = encode_telegram(telegram);
+            push_digits(&room[..count], out)
+        }
+        Entry::Message(message) => {
+            let bytes = encode_message(message, *out.allocator())?;
+            push_digits(bytes.as_slice(), out)
+        }
+    }
 }

@@ -7,19 +7,24 @@ ghost use Rattle.etcs_text.specs.Fronts.{Begins};
 ghost use Rattle.etcs_text.specs.Show.{bits_line, bits_text, number_text, special_text, variable_line};
 
 use crate::fronts::front;
+use crate::signed::push_signed;
 use crate::text::{push_decimal, push_decimal_line, push_hex, push_slice};
 use etcs_bits::BitSlice;
 use etcs_vars::Var;
 use std::alloc::AllocError;
 
 /// Appends the number of a variable, what it stands for where it has a meaning of its own, and a LF. NID_RADIO is in
-/// hexadecimal, all others are in decimal.
+/// hexadecimal, all others are in decimal, D_REF with its sign.
 fn push_number_line(var: Var, number: u64, out: &mut Vec<u8>) -> Result<(), AllocError>
     ensures ok { OnOk result (out.new.items ≡ out.old.items ++ number_text var number ++ special_text (special var number) ++ codes "\n") }
     ensures err { OnErr result (Begins out.old.items out.new.items) }
 {
     if var == Var::NID_RADIO {
         push_hex(16, number, out)?;
+        return out.extend_from_slice(b"\n");
+    }
+    if var == Var::D_REF {
+        push_signed(number, out)?;
         return out.extend_from_slice(b"\n");
     }
     match var.special(number) {

@@ -1,0 +1,112 @@
+-- The text of a message, part by part.
+use Rattle.std.proofs.Common.{◌≡◌, ℕ, ◌+◌, ◌/◌, ◌^◌, ◌<◌, ◌≤◌, Bool, List, [], ◌∷◌, ◌++◌, length, map, flat_map, Some, None, Result, Ok, Err, refl, sym, ap, ◌∙◌, arith, append_assoc}
+use Rattle.std.specs.Prelude.{◌-◌, All, OnOk, codes, if◌then◌else◌, nat_le}
+use Rattle.std.proofs.lemmas.List.{take_all}
+use Rattle.etcs_bits.specs.Bits.{num, bits, part}
+use Rattle.etcs_bits.proofs.ByteBits.{bits-part}
+use Rattle.etcs_bits.proofs.Lists.{part-append_right}
+use Rattle.etcs_bits.proofs.Numbers.{length-num, num-add}
+use Rattle.etcs_bits.proofs.Positions.{length-bits}
+use Rattle.etcs_bits.proofs.Views.{part_inside}
+use Rattle.etcs_vars.specs.Reading.{Reading, spelled}
+use Rattle.etcs_packets.specs.PacketValues.{packet_value}
+use Rattle.etcs_radio.specs.declared.message.Content.{Content}
+use Rattle.etcs_radio.specs.declared.message.Content.TheVariants.{Typed, Kept}
+use Rattle.etcs_radio.specs.Bodies.{nid_of_body, body_reading}
+use Rattle.etcs_radio.specs.Messages.{MessageValue, MessageReads, all_bits, head_reading, message_value, padding_room}
+use Rattle.etcs_radio.specs.Readings.{bytes_of, front_reading, kept_of, message_reading, packets_of, padding_bits_of, padding_of}
+use Rattle.etcs_radio.proofs.Bodies.{body_length}
+use Rattle.etcs_radio.proofs.Sizes.{typed_length, kept_length}
+use Rattle.etcs_text.specs.Commands.{IsEncoded}
+use Rattle.etcs_text.specs.Entries.{of_message}
+use Rattle.etcs_text.specs.Messages.{message_bits, message_bytes, message_line, front_variables, behind_lines, message_text}
+use Rattle.etcs_text.specs.Packets.{packets_text}
+use Rattle.etcs_text.specs.Show.{variable_line, bits_line}
+
+-- ---- How many bits there are.
+
+pub bits_are : (m : Content) → length (spelled (message_reading m)) ≡ message_bits (message_value m)
+bits_are (Typed head body ps padding) = omega (arith, typed_length head body ps padding, body_length body, length-num (padding_room (all_bits body ps)) padding)
+bits_are (Kept nid b) = kept_length nid b
+
+bytes_are : (m : Content) → bytes_of m ≡ message_bytes (message_value m)
+bytes_are (Typed head body ps padding) = omega (arith, body_length body, length-num (padding_room (all_bits body ps)) padding)
+bytes_are (Kept nid b) = refl
+
+-- ---- The variables in front.
+
+pub front_is : (m : Content) → front_reading m ≡ front_variables (message_value m)
+front_is (Typed head body ps padding) = ap (λ (k : ℕ). head_reading (nid_of_body body) k head ++ body_reading body) (bytes_are (Typed head body ps padding))
+front_is (Kept nid b) = refl
+
+-- ---- What stands behind them.
+
+pub padding_few : (m : Content) → padding_bits_of m ≤ 7
+padding_few (Typed head body ps padding) = omega arith
+padding_few (Kept nid b) = omega arith
+
+-- the last bits of a byte
+pub low_bits : (o k n : ℕ) → o + k ≡ 8 → part o k (bits (n ∷ [])) ≡ num k n
+low_bits o k n h =
+    bits-part (n ∷ []) 0 o o k (omega arith) (omega arith) (omega (arith, h))
+    ∙ ap (λ (w : ℕ). part o k (num w n)) (sym h)
+    ∙ ap (λ (b : List Bool). part o k b) (num-add o k n)
+    ∙ part-append_right (num o (n / 2 ^ k)) (num k n) o 0 k (omega (arith, length-num o (n / 2 ^ k)))
+    ∙ take_all k (num k n) (omega (arith, length-num k n))
+
+-- packets, the end and PADDING
+abbrev pub closed_lines : Content → List ℕ
+closed_lines m = packets_text (map packet_value (packets_of m)) ++ codes "end\n" ++ bits_line (codes "PADDING") (num (padding_bits_of m) (padding_of m))
+
+pub typed_behind : (m : Content) → kept_of m ≡ None → closed_lines m ≡ behind_lines (message_value m)
+typed_behind (Typed head body ps padding) e = refl
+typed_behind (Kept nid b) e = absurd cc
+
+pub kept_behind : (m : Content) (b : List Bool) → kept_of m ≡ Some b → bits_line (codes "OTHER_DATA") b ≡ behind_lines (message_value m)
+kept_behind (Typed head body ps padding) b e = absurd cc
+kept_behind (Kept nid k) b e = let same : k ≡ b = cc in rw same refl
+
+-- three texts one behind the other
+pub three_more : (old a b c one two three : List ℕ) → one ≡ old ++ a → two ≡ one ++ b → three ≡ two ++ c → three ≡ old ++ (a ++ b ++ c)
+three_more old a b c one two three e f g =
+    g
+    ∙ ap (λ (z : List ℕ). z ++ c) (f ∙ ap (λ (z : List ℕ). z ++ b) e ∙ append_assoc old a b)
+    ∙ append_assoc old (a ++ b) c
+
+text_is : (m : Content) (item bits : ℕ) (old one two three : List ℕ) → bits ≡ length (spelled (message_reading m)) → one ≡ old ++ message_line bits item → two ≡ one ++ flat_map variable_line (front_reading m) → three ≡ two ++ behind_lines (message_value m) → three ≡ old ++ message_text (message_value m) item
+unfolding message_text
+text_is m item bits old one two three long e f g =
+    let v = message_value m in
+    three_more old (message_line (message_bits v) item) (flat_map variable_line (front_variables v)) (behind_lines v) one two three
+    (e ∙ ap (λ (k : ℕ). old ++ message_line k item) (long ∙ bits_are m))
+    (f ∙ ap (λ (r : Reading). one ++ flat_map variable_line r) (front_is m))
+    g
+
+pub text_ok : {T E : Type 0} (r : Result T E) (m : Content) (item bits : ℕ) (old one two three : List ℕ) → bits ≡ length (spelled (message_reading m)) → one ≡ old ++ message_line bits item → two ≡ one ++ flat_map variable_line (front_reading m) → OnOk r (three ≡ two ++ behind_lines (message_value m)) → OnOk r (three ≡ old ++ message_text (message_value m) item)
+text_ok (Ok x) m item bits old one two three long e f g = text_is m item bits old one two three long e f g
+text_ok (Err x) m item bits old one two three long e f g = tt
+
+-- ---- The encoding.
+
+pub message_encoded : (m : MessageValue) (old new : List ℕ) (r : Reading) → old ≡ [] → MessageReads m r → bits new ≡ bits old ++ spelled r → All (λ b. b < 256) new → IsEncoded (of_message m) new
+unfolding bits
+message_encoded m old new r none reads is small = record {
+  reading = r;
+  reads = reads;
+  small = small;
+  bits_are = is ∙ ap (λ (z : List ℕ). bits z ++ spelled r) none;
+}
+
+-- ---- PADDING.
+
+-- it's cut from a byte
+pub padding_cut : (m : Content) (o k n : ℕ) → k ≡ padding_bits_of m → n ≡ padding_of m → o ≡ 8 - k → (if nat_le (o + k) (length (bits (n ∷ []))) then Some (part o k (bits (n ∷ []))) else None) ≡ Some (num (padding_bits_of m) (padding_of m))
+padding_cut m o k n same number rest =
+    let whole : o + k ≡ 8 = omega (arith, rest, same, padding_few m) in
+    sym (part_inside o k (bits (n ∷ [])) (num (padding_bits_of m) (padding_of m)) (omega (arith, whole, length-bits (n ∷ []))) (ap (λ (w : ℕ). num w (padding_of m)) (sym same) ∙ ap (num k) (sym number) ∙ sym (low_bits o k n whole)))
+
+pub some_bits : (a b : List Bool) → Some a ≡ Some b → a ≡ b
+some_bits a b e = cc
+
+pub no_bits : (a : List Bool) → None ≡ Some a → ⊥
+no_bits a e = cc

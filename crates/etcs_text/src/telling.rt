@@ -101,6 +101,17 @@ fn encode_message(message: &Message, alloc: Global) -> Result<Vec<u8>, AllocErro
     Ok(bytes)
 }
 
+/// Appends the message's encoding, or nothing.
+fn append_message(message: &Message, out: &mut Vec<u8>) -> Result<(), AllocError>
+    ensures ok { OnOk result ((added : List ℕ) × IsEncoded (of_message (message_value message.now)) added × (out.new.items ≡ out.old.items ++ added)) }
+    ensures err { OnErr result (out.new.items ≡ out.old.items) }
+{
+    are_bytes(out.as_slice());
+    let appended = message.encode(out);
+    are_bytes(out.as_slice());
+    appended
+}
+
 /// Appends the entry's encoding, or nothing.
 fn tell_bytes(entry: &Entry, out: &mut Vec<u8>) -> Result<(), AllocError>
     ensures ok { OnOk result ((added : List ℕ) × IsEncoded (entry_value entry.now) added × (out.new.items ≡ out.old.items ++ added)) }
@@ -111,10 +122,7 @@ fn tell_bytes(entry: &Entry, out: &mut Vec<u8>) -> Result<(), AllocError>
             let (room, count) = encode_telegram(telegram);
             out.extend_from_slice(&room[..count])
         }
-        Entry::Message(message) => {
-            let bytes = encode_message(message, *out.allocator())?;
-            out.extend_from_slice(bytes.as_slice())
-        }
+        Entry::Message(message) => append_message(message, out),
     }
 }
 

@@ -1,4 +1,4 @@
-use Rattle.std.proofs.Common.{◌≡◌, List, Bool, Result, ap, sym, subst, ◌∙◌}
+use Rattle.std.proofs.Common.{◌≡◌, List, Bool, Result, ap, sym, ◌∙◌}
 use Rattle.etcs_bits.specs.Bits.{bits}
 use Rattle.etcs_vars.specs.declared.feed.Fed.{Fed}
 use Rattle.etcs_vars.specs.declared.feed.ReadFault.{ReadFault}

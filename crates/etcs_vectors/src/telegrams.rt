@@ -53,8 +53,10 @@ fn tell_accepted(
     let entry = Entry::Telegram(telegram);
     show_lines(&entry, 1, out)?;
     drop_line_end(out);
-    let Entry::Telegram(telegram) = &entry;
-    push_checks(alloc, telegram, bytes, out)
+    match &entry {
+        Entry::Telegram(telegram) => push_checks(alloc, telegram, bytes, out),
+        Entry::Message(_) => push_text(out, "a message"),
+    }
 }
 
 /// What doesn't hold of the telegram of these bytes.

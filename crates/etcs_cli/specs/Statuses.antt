@@ -1,5 +1,6 @@
 -- The status that the program ends with.
-use Rattle.std.specs.Prelude.{ℕ}
+use Rattle.std.specs.Prelude.{ℕ, Bool, true, false, ◌==◌, if◌then◌else◌}
+use Rattle.etcs_stream.specs.declared.job.Tally.{Tally}
 use Rattle.etcs_stream.specs.declared.fault.RunFault.{RunFault}
 use Rattle.etcs_stream.specs.declared.fault.RunFault.TheVariants.{Refused, Truncated, BadHex, Read, Write, Endless, Memory}
 
@@ -12,3 +13,7 @@ fault_status Read = 3
 fault_status (Write sent) = 3
 fault_status Endless = 3
 fault_status Memory = 3
+
+-- of a run that met its input's end: 1 where a group has a clash or isn't whole
+abbrev pub tally_status : Tally → ℕ
+tally_status t = if t.complete then (if t.clashes == 0 then 0 else 1) else 1

@@ -1,12 +1,16 @@
 //! The command line, and the whole program but for taking its words and streams.
 
-ghost use Rattle.std.specs.Prelude.{◌≡◌};
-ghost use Rattle.etcs_cli.specs.Statuses.{fault_status};
+ghost use Rattle.std.specs.Prelude.{◌≡◌, IfSome};
+ghost use Rattle.etcs_stream.specs.declared.job.Job.{Job};
+ghost use Rattle.etcs_stream.specs.Tellers.{IsRunnable};
+ghost use Rattle.etcs_cli.specs.Statuses.{fault_status, tally_status};
 
 use clap::builder::ValueParser;
 use clap::error::ErrorKind;
 use clap::{Arg, ArgMatches, Command as Line, Error};
-use etcs_stream::{Command, Form, Input, Job, Kind, Output, RunFault, Sink, run, write_fault};
+use etcs_stream::{
+    Command, Form, Input, Job, Kind, Output, RunFault, Sink, Tally, run, write_fault,
+};
 use std::alloc::{AllocError, Global};
 use std::io::{Read, Write};
 
@@ -22,8 +26,21 @@ const BROKEN: u8 = 3;
 /// What `--kind` takes.
 static KINDS: [&str; 3] = ["long", "short", "radio"];
 
-/// What `--from` and `--to` take.
+/// What help says of them.
+static KINDS_HELP: &str =
+    "Balise telegrams of 830 user bits (long) or of 210 (short), or radio messages (radio)";
+
+/// What it takes for the telegrams of a group.
+static GROUP_KINDS: [&str; 2] = ["long", "short"];
+
+/// What help says of them.
+static GROUP_KINDS_HELP: &str = "Balise telegrams of 830 user bits (long) or of 210 (short)";
+
+/// What `--from` takes.
 static FORMS: [&str; 2] = ["hex", "bin"];
+
+/// What `--to` takes.
+static OUTPUT_FORMS: [&str; 3] = ["hex", "bin", "json"];
 
 /// What `--version` says behind the name: the version, and the line of the kit that proves it.
 static VERSION: &str = "0.1.0 (rattle-kit-13b logic dac8208d650f15bf)";
@@ -42,7 +59,9 @@ pub enum Parsed {
 }
 
 /// Reads a command line, whose first word is the program's name.
-pub fn parse(alloc: Global, words: &[String]) -> Parsed {
+pub fn parse(alloc: Global, words: &[String]) -> Parsed
+    ensures { (job : Job) → result ≡ Parsed.Job job → IsRunnable job }
+{
     let line = match line(alloc) {
         Ok(line) => line,
         Err(AllocError) => return Parsed::Memory,
@@ -60,8 +79,8 @@ pub fn parse(alloc: Global, words: &[String]) -> Parsed {
 /// The whole program but for taking its words and streams: the answer is its status.
 ///
 /// The first of the words is the program's name. The status is 0 where the run accepted all of
-/// its input, or help or the version was asked for; 1 where the input was refused; 2 where the
-/// command line was refused; and 3 where a stream failed, the input didn't end or memory was
+/// its input, or help or the version was asked for; 1 where the input was refused, and where a group has
+/// a clash or isn't whole; 2 where the command line was refused; and 3 where a stream failed, the input didn't end or memory was
 /// refused. Text, help and the version go to `output`, and what was wrong goes to `faults`. A write
 /// to `faults`, or of help or the version, that fails changes no status.
 pub fn run_words(
@@ -93,11 +112,13 @@ fn run_job(
     input: impl Read + Drop,
     output: impl Write + Drop,
     faults: &mut impl Write,
-) -> u8 {
+) -> u8
+    requires { IsRunnable job }
+{
     let mut source = Input::new(input);
     let mut sink = Output::new(output);
     match run(alloc, job, &mut source, &mut sink) {
-        Ok(_) => ACCEPTED,
+        Ok(tally) => tally_status(&tally),
         Err(fault) => {
             let _ = sink.flush();
             answer_fault(&fault, faults)
@@ -113,6 +134,17 @@ fn answer_fault(fault: &RunFault, faults: &mut impl Write) -> u8
     fault_status(fault)
 }
 
+/// The status of a run that met its input's end: whether the group is whole, where one was asked for, and has no clash.
+fn tally_status(tally: &Tally) -> u8
+    ensures { result ≡ tally_status tally.now }
+{
+    if tally.complete && tally.clashes == 0 {
+        ACCEPTED
+    } else {
+        REFUSED
+    }
+}
+
 /// The status of a run that ended with the fault.
 fn fault_status(fault: &RunFault) -> u8
     ensures { result ≡ fault_status fault.now }
@@ -125,38 +157,65 @@ fn fault_status(fault: &RunFault) -> u8
 
 /// All that a command line can say. Its texts call the program `etcs`, whatever its file is named.
 fn line<'a>(alloc: Global) -> Result<Line<'a>, AllocError> {
-    let show = subcommand(alloc, "show")?;
-    let check = subcommand(alloc, "check")?;
-    let convert = subcommand(alloc, "convert")?.arg(to_option(alloc))?;
     Line::new(alloc, "etcs")
         .bin_name("etcs")?
         .version(VERSION)
         .about(
-            "Show, check and convert ETCS balise telegrams (user bits) and radio messages from standard input",
+            "Show, check, convert and group ETCS balise telegrams (user bits) and radio messages from standard input",
         )
         .subcommand_required(true)
-        .subcommand(show.about("Show the variables of each telegram or message, a line each"))?
-        .subcommand(check.about("Check each telegram or message: a line with its number of bits"))?
-        .subcommand(convert.about("Write each telegram or message in another form"))
+        .subcommand(show(alloc)?)?
+        .subcommand(check(alloc)?)?
+        .subcommand(convert(alloc)?)?
+        .subcommand(group(alloc)?)
 }
 
-/// A subcommand that takes items.
-fn subcommand<'a>(alloc: Global, name: &'static str) -> Result<Line<'a>, AllocError> {
+/// `show`.
+fn show<'a>(alloc: Global) -> Result<Line<'a>, AllocError> {
+    let line = subcommand(alloc, "show", &KINDS, KINDS_HELP)?;
+    Ok(line.about("Show the variables of each telegram or message, a line each"))
+}
+
+/// `check`.
+fn check<'a>(alloc: Global) -> Result<Line<'a>, AllocError> {
+    let line = subcommand(alloc, "check", &KINDS, KINDS_HELP)?;
+    Ok(line.about("Check each telegram or message: a line with its number of bits"))
+}
+
+/// `convert`.
+fn convert<'a>(alloc: Global) -> Result<Line<'a>, AllocError> {
+    let line = subcommand(alloc, "convert", &KINDS, KINDS_HELP)?.arg(to_option(alloc))?;
+    Ok(line.about("Write each telegram or message in another form"))
+}
+
+/// `group`.
+fn group<'a>(alloc: Global) -> Result<Line<'a>, AllocError> {
+    let line = subcommand(alloc, "group", &GROUP_KINDS, GROUP_KINDS_HELP)?;
+    Ok(line.about(
+        "Put the telegrams of a balise group together, in any order, and show its message",
+    ))
+}
+
+/// A subcommand that takes items of some kinds.
+fn subcommand<'a>(
+    alloc: Global,
+    name: &'static str,
+    kinds: &'static [&'static str],
+    help: &'static str,
+) -> Result<Line<'a>, AllocError> {
     Line::new(alloc, name)
-        .arg(kind_option(alloc))?
+        .arg(kind_option(alloc, kinds, help))?
         .arg(from_option(alloc))
 }
 
 /// `--kind`, which has no default.
-fn kind_option<'a>(alloc: Global) -> Arg<'a> {
+fn kind_option<'a>(alloc: Global, kinds: &'static [&'static str], help: &'static str) -> Arg<'a> {
     Arg::new(alloc, "kind")
         .long("kind")
         .required(true)
         .value_name("KIND")
-        .value_parser(ValueParser::from(KINDS.as_slice()))
-        .help(
-            "Balise telegrams of 830 user bits (long) or of 210 (short), or radio messages (radio)",
-        )
+        .value_parser(ValueParser::from(kinds))
+        .help(help)
 }
 
 /// `--from`, whose default is hex.
@@ -175,14 +234,16 @@ fn to_option<'a>(alloc: Global) -> Arg<'a> {
         .long("to")
         .required(true)
         .value_name("FORM")
-        .value_parser(ValueParser::from(FORMS.as_slice()))
+        .value_parser(ValueParser::from(OUTPUT_FORMS.as_slice()))
         .help(
-            "Form of the output: a line of hexadecimal digits each (hex) or the bytes themselves (bin)",
+            "Form of the output: a line of hexadecimal digits each (hex), the bytes themselves (bin) or a line of JSON each (json)",
         )
 }
 
 /// What clap answered in place of matches.
-fn refused(alloc: Global, error: Error) -> Parsed {
+fn refused(alloc: Global, error: Error) -> Parsed
+    ensures { (job : Job) → result ≡ Parsed.Job job → ⊥ }
+{
     if error.kind() == ErrorKind::OutOfMemory {
         return Parsed::Memory;
     }
@@ -198,13 +259,21 @@ fn refused(alloc: Global, error: Error) -> Parsed {
     }
 }
 
-/// The job that the matches name.
-fn job_of(matches: &ArgMatches) -> Option<Job> {
+/// The job that the matches name. Messages aren't grouped, and JSON isn't read.
+fn job_of(matches: &ArgMatches) -> Option<Job>
+    ensures { IfSome result (λ job. IsRunnable job) }
+{
     let (name, options) = matches.subcommand()?;
+    let kind = kind_of(options.get_str("kind")?)?;
+    let from = form_of(options.get_str("from")?)?;
+    let command = command_of(name, options)?;
+    if from == Form::Json || (command == Command::Group && kind == Kind::Radio) {
+        return None;
+    }
     Some(Job {
-        kind: kind_of(options.get_str("kind")?)?,
-        from: form_of(options.get_str("from")?)?,
-        command: command_of(name, options)?,
+        kind,
+        from,
+        command,
     })
 }
 
@@ -213,6 +282,7 @@ fn command_of(name: &str, options: &ArgMatches) -> Option<Command> {
     match name {
         "show" => Some(Command::Show),
         "check" => Some(Command::Check),
+        "group" => Some(Command::Group),
         "convert" => Some(Command::Convert(form_of(options.get_str("to")?)?)),
         _ => None,
     }
@@ -233,6 +303,7 @@ fn form_of(name: &str) -> Option<Form> {
     match name {
         "hex" => Some(Form::Hex),
         "bin" => Some(Form::Bin),
+        "json" => Some(Form::Json),
         _ => None,
     }
 }

@@ -1,8 +1,8 @@
 //! The telegrams of a group.
 
-ghost use Rattle.std.specs.Prelude.{◌≡◌, ◌↔◌, ◌<◌, ℕ, List, ◌∷◌, true, IsTrue, IfSome, IfNone, IfErr, OnErr, slice_get};
+ghost use Rattle.std.specs.Prelude.{◌≡◌, ◌↔◌, ◌<◌, ℕ, None, replicate, List, ◌∷◌, true, IsTrue, IfSome, IfNone, IfErr, OnErr, slice_get};
 ghost use Rattle.etcs_telegram.specs.Telegrams.{TelegramParts};
-ghost use Rattle.etcs_group.specs.Groups.{Alike, Holds, HoldsNone, Joins, HeldAfter, IsHeldOf};
+ghost use Rattle.etcs_group.specs.Groups.{Alike, Holds, HoldsNone, IsGroup, Joins, HeldAfter, IsHeldOf};
 ghost use Rattle.etcs_group.specs.Clashes.{IsFirstClash};
 ghost use Rattle.etcs_group.specs.Messages.{IsHeldAt, IsHeldAs, IsMissing, IsLacking, IsWhole};
 
@@ -43,7 +43,8 @@ impl Model for Assembly {
 impl Assembly {
     /// Nothing is held.
     pub fn new() -> Assembly
-        ensures { HoldsNone result }
+        ensures none { HoldsNone result }
+        ensures places { result ≡ replicate 8 None }
     {
         Assembly {
             held: [None, None, None, None, None, None, None, None],
@@ -58,6 +59,7 @@ impl Assembly {
     /// The first [`Clash`] that the telegram has with what is held, and the same telegram. What is held stays as it was.
     pub fn add(&mut self, telegram: Telegram) -> Result<Added, (Clash, Telegram)>
         ensures held { HeldAfter self.old telegram self.new }
+        ensures placed { IsGroup self.new }
         // So what is held after calls is what their telegrams make of nothing.
         ensures adds { (earlier : List TelegramParts) → IsHeldOf earlier self.old → IsHeldOf (telegram ∷ earlier) self.new }
         ensures new { (result ≡ Ok Added.New) ↔ (Joins self.old telegram × (Holds self.old telegram → ⊥)) }

@@ -1,5 +1,5 @@
 -- The variables of a message's own: their bits, and a body of its numbers.
-use Rattle.std.proofs.Common.{◌≡◌, ℕ, ◌+◌, ◌^◌, ◌<◌, ◌≤◌, Bool, true, List, [], ◌∷◌, length, Some, None, refl, sym, ap, ◌∙◌, subst, arith}
+use Rattle.std.proofs.Common.{◌≡◌, ℕ, ◌^◌, ◌<◌, ◌≤◌, Bool, true, List, [], ◌∷◌, length, Some, None, refl, sym, ap, ◌∙◌, subst, arith}
 use Rattle.std.proofs.lemmas.Bool.Decides.{nat_tests}
 use Rattle.std.specs.Prelude.{◌||◌, IsTrue, if◌then◌else◌, ℤ, slice_index_or, ◌==◌}
 use Rattle.etcs_bits.specs.Bits.{bit}
@@ -14,22 +14,13 @@ use Rattle.etcs_vars.proofs.Prefixes.{admits_parts}
 use Rattle.etcs_rows.specs.declared.row.Way.TheVariants.{ToTrain}
 use Rattle.etcs_rows.specs.Layouts.{Layout, whole, one, Reads}
 use Rattle.etcs_rows.specs.Rows.{message_row_to, is_plain_message}
-use Rattle.etcs_vars.proofs.Sent.{length-sent}
+use Rattle.etcs_rests.specs.LabelLaws.{length-widths}
 use Rattle.etcs_radio.specs.declared.body.Body.{Body}
 use Rattle.etcs_radio.specs.declared.body.Body.TheVariants.{SrAuthorisation, Plain, TrainTime, Emergency, Version, Shifted, Orientation}
 use Rattle.etcs_radio.specs.declared.body.RadioHead.{RadioHead}
 use Rattle.etcs_radio.specs.Bodies.{run_of_head, body_reading, body_bits, FitsSigned16, IsBody, IsBodyNumbers, ReadsBack}
 
 -- ---- How many bits they take.
-
--- how many bits the variables of a reading take
-abbrev pub widths_of : Reading → ℕ
-widths_of [] = 0
-widths_of (p ∷ r) = width p.0 + widths_of r
-
-pub length-widths : (r : Reading) → length (spelled r) ≡ widths_of r
-length-widths [] = refl
-length-widths (p ∷ r) = length-sent p.0 p.1 r ∙ ap (λ (k : ℕ). width p.0 + k) (length-widths r)
 
 pub head_length : (h : RadioHead) → length (spelled (run_of_head h)) ≡ 57
 head_length h = length-widths (run_of_head h)
@@ -113,9 +104,6 @@ one_number nid f v e h = one_of v f (numbered nid f (v ∷ []) e h)
 
 pub two_numbers : (nid : ℕ) (f : List ℕ) (v w : Var) → message_row_to ToTrain nid ≡ Some (one v (one w whole)) → IsBodyNumbers nid f → Two v w f
 two_numbers nid f v w e h = two_of v w f (numbered nid f (v ∷ w ∷ []) e h)
-
-pub no_number : (nid : ℕ) (f : List ℕ) → message_row_to ToTrain nid ≡ Some whole → IsBodyNumbers nid f → f ≡ []
-no_number nid f e h = numbered nid f [] e h
 
 pub one_below : (v : Var) (f : List ℕ) → One v f → slice_index_or f 0 0 < 2 ^ width v
 one_below v f h = (admits_parts v (slice_index_or f 0 0) h.admitted).1

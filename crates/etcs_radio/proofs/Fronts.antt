@@ -10,7 +10,8 @@ use Rattle.etcs_rows.specs.declared.row.Way.TheVariants.{ToTrain}
 use Rattle.etcs_rows.specs.Layouts.{Layout, Scope, whole, one, Reads}
 use Rattle.etcs_rows.specs.Rows.{message_row_to, is_plain_message}
 use Rattle.etcs_reader.specs.Fields.{ReadsFields, first_of}
-use Rattle.etcs_radio.specs.Lefts.{own_row, front_behind, front_row, bits_of, front_bits}
+use Rattle.etcs_rests.specs.Labels.{widths}
+use Rattle.etcs_radio.specs.Lefts.{own_row, front_behind, front_row, front_bits}
 
 -- ---- A row of variables alone.
 
@@ -28,12 +29,12 @@ unfolding Reads
 fields_row [] s r h = h
 fields_row (v ∷ vs) s r (n, r', a, e, h) = (n, r', a, e, fields_row vs ((v, n) ∷ s) r' h)
 
-pub fields_length : (vs : List Var) (r : Reading) → ReadsFields vs r → length (spelled r) ≡ bits_of vs
+pub fields_length : (vs : List Var) (r : Reading) → ReadsFields vs r → length (spelled r) ≡ widths vs
 fields_length [] r h = rw h refl
 fields_length (v ∷ vs) r (n, r', a, e, h) = rw e (length-append (num (width v) n) (spelled r') ∙ rw (length-num, fields_length vs r' h) refl)
 
 -- the bits of what comes behind a variable
-pub drop_bits : (vs : List Var) (at : ℕ) (x : Var) → first_of (drop at vs) ≡ Some x → bits_of (drop at vs) ≡ width x + bits_of (drop (suc at) vs)
+pub drop_bits : (vs : List Var) (at : ℕ) (x : Var) → first_of (drop at vs) ≡ Some x → widths (drop at vs) ≡ width x + widths (drop (suc at) vs)
 drop_bits [] zero x e = absurd cc
 drop_bits [] (suc at) x e = absurd cc
 drop_bits (v ∷ vs) zero x e = let same : v ≡ x = cc in rw same refl
@@ -66,7 +67,7 @@ kept_own (Some own) e = absurd cc
 
 abbrev SmallRow : Option (List Var) → Type 0
 SmallRow None = Unit {0}
-SmallRow (Some own) = bits_of own ≤ 32
+SmallRow (Some own) = widths own ≤ 32
 
 small_if : (b : Bool) (x y : Option (List Var)) → SmallRow x → SmallRow y → SmallRow (if b then x else y)
 small_if true x y h k = h

@@ -1,19 +1,18 @@
 -- A length that fits is one with which some message goes on.
-use Rattle.std.proofs.Common.{◌≡◌, ℕ, ◌+◌, ◌-◌, ◌*◌, ◌^◌, ◌<◌, ◌≤◌, List, [], length, Some, None, refl, sym, ap, subst, ◌∙◌, arith, inl, inr}
+use Rattle.std.proofs.Common.{◌≡◌, ℕ, ◌+◌, ◌-◌, ◌*◌, List, [], Some, None, refl, sym, ap, subst, ◌∙◌, arith, inl, inr}
 use Rattle.std.specs.Prelude.{IsTrue, ◌↔◌, Option, option_map}
 use Rattle.etcs_vars.specs.declared.var.Var.{Var}
-use Rattle.etcs_vars.specs.Reading.{Reading, spelled}
 use Rattle.etcs_rows.specs.declared.row.Way.TheVariants.{ToTrain}
 use Rattle.etcs_rows.specs.declared.frames.Carrier.TheVariants.{Message}
 use Rattle.etcs_rows.specs.Frames.{may_be_left}
 use Rattle.etcs_rows.specs.Layouts.{Layout, Reads}
-use Rattle.etcs_rows.specs.Rows.{message_row_to}
 use Rattle.etcs_container.proofs.Fits.{front_none}
 use Rattle.etcs_reader.specs.Rests.{Goes}
 use Rattle.etcs_reader.specs.Fields.{ReadsFields}
 use Rattle.etcs_reader.specs.FieldLaws.{some_fields}
 use Rattle.etcs_rows.specs.Messages.{MessageLengthFits}
-use Rattle.etcs_radio.specs.Lefts.{own_row, front_behind, front_row, front_bits, bits_of, Behind}
+use Rattle.etcs_rests.specs.Labels.{widths}
+use Rattle.etcs_radio.specs.Lefts.{own_row, front_behind, front_row, front_bits, Behind}
 use Rattle.etcs_radio.proofs.Fronts.{as_row, row_fields, fields_row, fields_length, rows_alike, typed_own, kept_own, front_small}
 use Rattle.etcs_radio.proofs.Begins.{Fits, some_message, message_some}
 
@@ -21,7 +20,7 @@ fits_row : (nid n : ℕ) → MessageLengthFits ToTrain nid n → Fits (front_row
 fits_row nid n (most, inl (row, m, e, (r, rest, reads, none, len, small), (le, left))) =
     let (own, found, same) = typed_own (own_row nid) row (sym (rows_alike nid) ∙ e) in
     let fields : ReadsFields own rest = row_fields own [] rest (subst (λ (x : Layout). Reads x [] rest) (sym same) (front_none r rest row none reads)) in
-    let bits : bits_of own ≡ m = sym (fields_length own rest fields) ∙ len in
+    let bits : widths own ≡ m = sym (fields_length own rest fields) ∙ len in
     let room : 8 * n - (75 + m) ≡ 8 * n - front_bits (front_behind own) = omega (arith, bits) in
     let fits : Fits (Some (front_behind own)) n = (omega (arith, bits, le), most, subst (λ k. IsTrue (may_be_left ToTrain Message k)) room left) in
     subst (λ (o : Option (List Var)). Fits o n) (sym (ap (option_map front_behind) found)) fits
@@ -32,7 +31,7 @@ fits_row nid n (most, inr (untyped, least)) =
 row_fits : (nid n : ℕ) (found : Option (List Var)) → own_row nid ≡ found → Fits (option_map front_behind found) n → MessageLengthFits ToTrain nid n
 row_fits nid n None is (least, most) = (most, inr (rows_alike nid ∙ ap (option_map as_row) is, least))
 row_fits nid n (Some own) is (fits, most, left) =
-    let m = bits_of own in
+    let m = widths own in
     let (r, reads) = some_fields own in
     let short = front_small nid (front_behind own) (ap (option_map front_behind) is) in
     let room : 8 * n - front_bits (front_behind own) ≡ 8 * n - (75 + m) = omega arith in

@@ -1,6 +1,5 @@
 pub mod Bodies
 pub mod Fitting
-pub mod Kept
 pub mod Sizes
 pub mod OneReading
 pub mod Writing
@@ -8,7 +7,6 @@ pub mod Spelling
 pub mod Rooms
 pub mod Equality
 pub mod Examples
-pub mod Taking
 pub mod Fronts
 pub mod RestStart
 pub mod RestSteps

@@ -1,10 +1,8 @@
 -- What a reader of messages asks of what is left of one.
-use Rattle.std.proofs.Common.{◌≡◌, ℕ, ◌*◌, ◌%◌, ◌<◌, ◌≤◌, List, Bool, [], length, drop, None, Some, arith}
+use Rattle.std.proofs.Common.{◌≡◌, ℕ, List, length, drop, None, Some}
 use Rattle.std.specs.Prelude.{Option, IsTrue}
 use Rattle.etcs_vars.specs.declared.var.Var.{Var}
-use Rattle.etcs_vars.specs.Reading.{Reading, spelled}
-use Rattle.etcs_vars.proofs.Languages.{Same}
-use Rattle.etcs_vars.proofs.Walk.{Regular}
+use Rattle.etcs_vars.specs.Reading.{Reading}
 use Rattle.etcs_reader.specs.Feeders.{FeederValue}
 use Rattle.etcs_rests.specs.declared.list.PacketList.{PacketList}
 use Rattle.etcs_rests.specs.contracts.list.PacketListPacketStore.TheImpl as list
@@ -16,11 +14,11 @@ use Rattle.etcs_radio.specs.Lefts.{front_row, left_at, next_at, may_ask, HoldsIn
 use Rattle.etcs_radio.specs.Bodies.{IsBodyNumbers}
 use Rattle.etcs_radio.specs.Fronts.{IsHeadNumbers}
 use Rattle.etcs_radio.specs.RestLaws.{rest_begins, rest_ended}
-use Rattle.etcs_radio.specs.Messages.{MessageValue, MessageReads, MessageLanguage, IsMessage, message_value}
-use Rattle.etcs_radio.specs.Readers.{so_far, message_by, message_bits}
+use Rattle.etcs_radio.specs.Messages.{MessageValue, MessageReads, IsMessage, message_value}
+use Rattle.etcs_radio.specs.Readers.{so_far, message_by}
 use Rattle.etcs_radio.proofs.Bytes.{message_bytes}
 use Rattle.etcs_radio.proofs.Spelling.{regular}
-use Rattle.etcs_radio.proofs.SoFar.{far_is, far_long}
+use Rattle.etcs_radio.proofs.SoFar.{far_is, far_long, next_asks}
 use Rattle.etcs_radio.proofs.Wholes.{whole_reads, whole_numbers}
 
 -- ---- What is left of a message whose packets go to a list.
@@ -61,6 +59,7 @@ messages = record {
   held = λ s t p q h k. h.held q k;
   far_is = λ s q g h. far_is s.nid s.stage s.front.items s.packets.left s.packets.store s.padding q g h;
   starved = λ s q f h. far_long s.nid s.stage s.front.items s.packets.left s.padding (list_holds s.packets.store.packets.items s.packets.store.numbers.items s.packets.store.bits) q f.1 h;
+  asks = λ s q x e g f h. next_asks s.nid s.stage s.front.items s.packets.left s.padding (list_holds s.packets.store.packets.items s.packets.store.numbers.items s.packets.store.bits) q x f.1 h g e;
   whole = λ s e l h. whole_reads s.nid s.stage s.front.items s.packets.left s.packets.store s.padding (length s.front.items) s.stands e l h;
 }
 

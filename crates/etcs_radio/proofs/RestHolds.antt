@@ -26,13 +26,13 @@ use Rattle.etcs_reader.specs.Fields.{first_of}
 use Rattle.etcs_rests.specs.declared.left.PacketsLeft.{PacketsLeft}
 use Rattle.etcs_rests.specs.declared.stage.Stage.TheVariants as stage
 use Rattle.etcs_rests.specs.BitLaws.{bits_append, bits_spelled}
-use Rattle.etcs_rests.specs.Labels.{labelled}
+use Rattle.etcs_rests.specs.Labels.{labelled, widths}
 use Rattle.etcs_rests.specs.LabelLaws.{labelled_none, labelled_more}
 use Rattle.etcs_rests.specs.Lefts.{left_of, ahead, is_closed, HoldsAt, Moved}
 use Rattle.etcs_rests.specs.StageLaws.{closed_stage}
 use Rattle.etcs_radio.specs.declared.phase.Phase.{Phase}
 use Rattle.etcs_radio.specs.declared.phase.Phase.TheVariants as phase
-use Rattle.etcs_radio.specs.Lefts.{front_row, front_vars, some_row, front_bits, bits_of, headed, left_at, next_at, is_message, stands_at, behind_packets, behind_front, behind_padding, behind_data, DataFits, PacketsHeld, PaddingHeld, DataHeld, HoldsIn, Follows}
+use Rattle.etcs_radio.specs.Lefts.{front_row, front_vars, some_row, front_bits, headed, left_at, next_at, is_message, stands_at, behind_packets, behind_front, behind_padding, behind_data, DataFits, PacketsHeld, PaddingHeld, DataHeld, HoldsIn, Follows}
 use Rattle.etcs_radio.proofs.Fronts.{drop_bits}
 use Rattle.etcs_radio.proofs.RestSteps.{by_test, below_false, typed_bounds, kept_bounds, front_behind, packets_behind, padding_behind, data_behind}
 use Rattle.etcs_radio.proofs.RestStands.{begin_parts, front_parts, message_parts}
@@ -149,7 +149,7 @@ front_held nid at front l padding holds x n q below len m next (none, h) =
     let first : first_of (drop at h.vars) ≡ Some x = rw vars at next in
     let first' : first_of (drop (length front) h.vars) ≡ Some x = rw len first in
     let reading : q ++ (x, n) ∷ [] ≡ headed nid h.len (labelled h.vars (front ++ n ∷ [])) = ap (λ (t : Reading). t ++ (x, n) ∷ []) h.reading_is ∙ ap (headed nid h.len) (sym (labelled_more h.vars front x n first')) in
-    let room : length (spelled (q ++ (x, n) ∷ [])) + (bits_of (drop (suc at) h.vars) + ahead l.room l.stage) ≡ 8 * h.len = (let a = more_bits q x n in let b = h.room_is in let d = drop_bits h.vars at x first in omega (arith, a, b, d)) in
+    let room : length (spelled (q ++ (x, n) ∷ [])) + (widths (drop (suc at) h.vars) + ahead l.room l.stage) ≡ 8 * h.len = (let a = more_bits q x n in let b = h.room_is in let d = drop_bits h.vars at x first in omega (arith, a, b, d)) in
     let long : length (front ++ n ∷ []) ≡ suc at = length-append front (n ∷ []) ∙ omega (arith, len) in
     let next_at-is : at + 1 ≡ suc at = omega arith in
     by_test (ltb (at + 1) (length (front_vars nid))) (λ p. HoldsIn nid p (front ++ n ∷ []) l padding holds (q ++ (x, n) ∷ [])) (phase.Front (at + 1)) (behind_packets l)
@@ -157,7 +157,7 @@ front_held nid at front l padding holds x n q below len m next (none, h) =
     (λ t. let over = below_false (at + 1) (length (front_vars nid)) t in
     let size = ap (λ (vs : List Var). length vs) vars in
     let all : drop (suc at) h.vars ≡ [] = drop_of_length-le h.vars {i = suc at} (omega (arith, over, size)) in
-    let no_more : bits_of (drop (suc at) h.vars) ≡ 0 = ap bits_of all in
+    let no_more : widths (drop (suc at) h.vars) ≡ 0 = ap widths all in
     packets_first nid (front ++ n ∷ []) l padding holds (q ++ (x, n) ∷ []) m none record {
       len = h.len;
       vars = h.vars;

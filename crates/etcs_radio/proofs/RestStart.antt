@@ -18,7 +18,8 @@ use Rattle.etcs_container.specs.Contents.{Run, RunOf}
 use Rattle.etcs_reader.specs.Fields.{ReadsFields}
 use Rattle.etcs_radio.specs.declared.body.RadioHead.{RadioHead}
 use Rattle.etcs_radio.specs.Messages.{head_reading, front_of, IsAdmitted, typed_message, kept_message, TypedReads, KeptReads, MessageLanguage}
-use Rattle.etcs_radio.specs.Lefts.{own_row, front_behind, front_row, front_bits, bits_of, headed, PacketsFrom, Behind, NumberLeft}
+use Rattle.etcs_rests.specs.Labels.{widths}
+use Rattle.etcs_radio.specs.Lefts.{own_row, front_behind, front_row, front_bits, headed, PacketsFrom, Behind, NumberLeft}
 use Rattle.etcs_radio.proofs.Fronts.{as_row, row_fields, fields_row, fields_length, rows_alike, typed_own, kept_own}
 
 -- ---- From a message.
@@ -32,7 +33,7 @@ typed_left nid h body vs padding r t =
     let row = front_behind own in
     let front : Reading = (T_TRAIN, h.t_train) ∷ (M_ACK, bit h.m_ack) ∷ (NID_LRBG, h.nid_lrbg) ∷ body in
     let fields : ReadsFields row front = (h.t_train, (M_ACK, bit h.m_ack) ∷ (NID_LRBG, h.nid_lrbg) ∷ body, time_ok, refl, (bit h.m_ack, (NID_LRBG, h.nid_lrbg) ∷ body, ack_ok, refl, (h.nid_lrbg, body, group_ok, refl, reads))) in
-    let bits : length (spelled body) ≡ bits_of own = fields_length own body reads in
+    let bits : length (spelled body) ≡ widths own = fields_length own body reads in
     let p = packets_reading vs in
     let room : 8 * len - front_of body ≡ 8 * len - front_bits row = omega (arith, bits) in
     let run : Run Message (8 * len - front_bits row) p = (vs, subst (λ n. RunOf Message n vs p) room t.run) in
@@ -81,7 +82,7 @@ from_left None nid len r rest is small e (least, most, (b, l, f)) = (
 )
 from_left (Some own) nid len r rest is small e (fits, most, (front, behind, f, (t, r1, time, e1, (m, r2, ack, e2, (n, body, group, e3, reads))), (p, q, e4, (vs, run), (padding, wide, e5)))) =
     let h : RadioHead = record { t_train = t; m_ack = m == 1; nid_lrbg = n } in
-    let bits : length (spelled body) ≡ bits_of own = fields_length own body reads in
+    let bits : length (spelled body) ≡ widths own = fields_length own body reads in
     let packets : p ≡ packets_reading vs = run.reading_is ∙ append-nil (packets_reading vs) in
     let long = ap (λ (x : Reading). length (spelled x)) packets in
     let room : 8 * len - front_bits (front_behind own) ≡ 8 * len - front_of body = omega (arith, bits) in

@@ -1,29 +1,27 @@
 -- What is left of a message behind each of its variables.
-use Rattle.std.proofs.Common.{◌≡◌, ℕ, suc, ◌+◌, ◌-◌, ◌*◌, ◌/◌, ◌^◌, ◌<◌, ◌≤◌, Bool, true, false, List, [], ◌∷◌, ◌++◌, length, drop, get_or, Some, None, refl, sym, ap, subst, ◌∙◌, arith, ltb, length-append}
+use Rattle.std.proofs.Common.{◌≡◌, ℕ, suc, ◌+◌, ◌-◌, ◌*◌, ◌^◌, ◌<◌, ◌≤◌, Bool, true, false, List, [], ◌∷◌, length, drop, Some, None, refl, sym, subst, arith, ltb}
 use Rattle.std.specs.Prelude.{IsTrue, ◌↔◌, Option, if◌then◌else◌}
 use Rattle.std.proofs.lemmas.Bool.Decides.{nat_tests}
-use Rattle.std.proofs.Math.Seq.{drop-cons}
 use Rattle.std.proofs.Math.ListN.{drop_of_length-le}
 use Rattle.etcs_vars.specs.declared.var.Var.{Var}
 use Rattle.etcs_vars.specs.declared.var.Var.TheVariants.{L_MESSAGE, PADDING, OTHER_DATA}
 use Rattle.etcs_vars.specs.Vars.{width, ranges, begins}
 use Rattle.etcs_vars.specs.Reading.{Reading, Then, spelled, kept, Viable}
 use Rattle.etcs_vars.specs.Walking.{Residual}
-use Rattle.etcs_vars.proofs.Walk.{spelled-append}
 use Rattle.etcs_vars.proofs.Languages.{Same, same_self, same_along, Then-same}
 use Rattle.etcs_rows.specs.declared.frames.Carrier.TheVariants.{Message}
 use Rattle.etcs_container.specs.Contents.{Run, KeptIn}
 use Rattle.etcs_container.proofs.Turns.{residual_same}
 use Rattle.etcs_reader.specs.Rests.{Starts, Goes}
-use Rattle.etcs_reader.specs.Fields.{ReadsFields, first_of}
-use Rattle.etcs_reader.specs.FieldLaws.{fields_regular, fields_begin, fields_tested, fields_behind, some_fields}
+use Rattle.etcs_reader.specs.Fields.{ReadsFields}
 use Rattle.etcs_rests.specs.declared.left.PacketsLeft.{PacketsLeft}
 use Rattle.etcs_rests.specs.declared.stage.Stage.TheVariants as stage
 use Rattle.etcs_rests.specs.BitLaws.{bits_behind, some_bits, no_bits}
-use Rattle.etcs_rests.specs.ChainLaws.{Chain, chain_goes, chain_starts, chain_viable, chain_along, chain_none}
+use Rattle.etcs_rests.specs.ChainLaws.{Chain, chain_none}
 use Rattle.etcs_rests.specs.Lefts.{next_of, left_of, ahead, is_closed, Moved}
-use Rattle.etcs_rests.specs.LeftLaws.{left_regular, left_begins}
 use Rattle.etcs_rests.specs.OpenLaws.{opens_behind, opens_number}
+use Rattle.etcs_rests.specs.FrontLaws as fronts
+use Rattle.etcs_rests.specs.FilledLaws.{filled_behind, filled_starts, filled_viable, filled_goes}
 use Rattle.etcs_rests.specs.StageLaws.{closed_stage}
 use Rattle.etcs_radio.specs.declared.phase.Phase.{Phase}
 use Rattle.etcs_radio.specs.declared.phase.Phase.TheVariants as phase
@@ -98,16 +96,11 @@ data_goes nid left l = let s = some_bits OTHER_DATA refl left in (s.0, (behind_k
 
 -- ---- The packets.
 
-module _ (nid : ℕ) (l : PacketsLeft) where
-  -- PADDING can stand behind all of them
-  padding_some : (a : Reading) → left_of l.carrier l.room l.stage a → Goes (PaddedBy (ahead l.room l.stage) a)
-  padding_some a h = some_bits PADDING refl (ahead l.room l.stage - length (spelled a))
+pub packets_start : (nid : ℕ) (l : PacketsLeft) (x : Var) (rest bits : ℕ) → next_of l.stage ≡ Some x → Starts (left_of l.carrier l.room l.stage) x rest bits ↔ Starts (left_at nid phase.Packets l) x rest bits
+packets_start nid l = filled_starts PaddingLeft (some_bits PADDING refl) l
 
-  pub packets_start : (x : Var) (rest bits : ℕ) → next_of l.stage ≡ Some x → Starts (left_of l.carrier l.room l.stage) x rest bits ↔ Starts (left_at nid phase.Packets l) x rest bits
-  packets_start x rest bits e = chain_starts (left_of l.carrier l.room l.stage) (PaddedBy (ahead l.room l.stage)) padding_some x rest bits (left_begins l.carrier l.room l.stage l.stands x e)
-
-  pub packets_viable : (t : List Bool) → Viable (left_of l.carrier l.room l.stage) t → Viable (left_at nid phase.Packets l) t
-  packets_viable t v = chain_viable (left_of l.carrier l.room l.stage) (PaddedBy (ahead l.room l.stage)) padding_some t v
+pub packets_viable : (nid : ℕ) (l : PacketsLeft) (t : List Bool) → Viable (left_of l.carrier l.room l.stage) t → Viable (left_at nid phase.Packets l) t
+packets_viable nid l = filled_viable PaddingLeft (some_bits PADDING refl) l
 
 -- behind closed packets comes PADDING
 behind_closed : (nid : ℕ) (l : PacketsLeft) → l.stage ≡ stage.Closed → Same (PacketsBehind l) (left_at nid (behind_padding l.room) l)
@@ -122,47 +115,17 @@ behind_any nid l =
     (λ t. behind_closed nid l (closed_stage l.stage t))
     (λ _. same_self (PacketsBehind l))
 
--- so many bits more leave so much less to PADDING
-same_padding : (room room' : ℕ) (p a : Reading) → room ≡ length (spelled p) + room' → Same (PaddedBy room (p ++ a)) (PaddedBy room' a)
-same_padding room room' p a e r =
-    let len : length (spelled (p ++ a)) ≡ length (spelled p) + length (spelled a) = ap (λ (t : List Bool). length t) (spelled-append p a) ∙ length-append (spelled p) (spelled a) in
-    let left : room - length (spelled (p ++ a)) ≡ room' - length (spelled a) = omega (arith, len, e) in
-    (λ f. subst (λ n. PaddingLeft n r) left f, λ f. subst (λ n. PaddingLeft n r) (sym left) f)
-
 pub packets_behind : (nid : ℕ) (l l' : PacketsLeft) (p : Reading) → Moved l.carrier l.room l.stage p l'.carrier l'.room l'.stage → Goes (left_of l'.carrier l'.room l'.stage) → Residual (left_at nid phase.Packets l) p (left_at nid (behind_packets l') l')
-packets_behind nid l l' p m g =
-    let P : Reading → Type 0 = left_of l.carrier l.room l.stage in
-    let R : Reading → Type 0 = left_of l'.carrier l'.room l'.stage in
-    let room = ahead l.room l.stage in
-    let room' = ahead l'.room l'.stage in
-    let all = chain_along P R (PaddedBy room) (PaddedBy room') p (left_regular l.carrier l.room l.stage) m.residual g (λ a b. same_padding room room' p a m.ahead_is b) in
-    residual_same (left_at nid phase.Packets l) p (PacketsBehind l') (left_at nid (behind_packets l') l') all (behind_any nid l')
-
--- behind a number something is left
-pub packets_left : (l l' : PacketsLeft) (x : Var) (number : ℕ) → Starts (left_of l.carrier l.room l.stage) x 0 number → Moved l.carrier l.room l.stage ((x, number) ∷ []) l'.carrier l'.room l'.stage → Goes (left_of l'.carrier l'.room l'.stage)
-packets_left l l' x number (n, r, h, e) m =
-    let whole : n ≡ number = (let one : n / 2 ^ 0 ≡ n = omega arith in sym one ∙ e) in
-    let P : ℕ → Type 0 = λ k. left_of l.carrier l.room l.stage ((x, k) ∷ r) in
-    (r, m.residual.to r (subst P whole h))
+packets_behind nid l l' p m g = residual_same (left_at nid phase.Packets l) p (PacketsBehind l') (left_at nid (behind_packets l') l') (filled_behind PaddingLeft l l' p m g) (behind_any nid l')
 
 -- all of it goes on where the packets do
 pub packets_all : (nid : ℕ) (l : PacketsLeft) → Goes (left_of l.carrier l.room l.stage) → Goes (left_at nid (behind_packets l) l)
-packets_all nid l g =
-    let h = chain_goes (left_of l.carrier l.room l.stage) (PaddedBy (ahead l.room l.stage)) (padding_some nid l) g in
-    (h.0, (behind_any nid l h.0).0 h.1)
+packets_all nid l g = let h = filled_goes PaddingLeft (some_bits PADDING refl) l g in (h.0, (behind_any nid l h.0).0 h.1)
 
 -- ---- The front.
 
--- what stands behind numbers that go on goes on
-front_goes : (vs : List Var) (Q : Reading → Type 0) (x : Var) (rest bits : ℕ) → Starts (Chain (ReadsFields vs) (λ _. Q)) x rest bits → Goes Q
-front_goes vs Q x rest bits (n, r, (a, b, e, h, k), q) = (b, k)
-
 pub front_tested : (nid at : ℕ) (l : PacketsLeft) (x : Var) (rest bits : ℕ) → next_at nid (phase.Front at) l ≡ Some x → rest < width x → bits < 2 ^ (width x - rest) → Goes (left_at nid (phase.Front at) l) → IsTrue (begins (ranges x) rest bits) ↔ Starts (left_at nid (phase.Front at) l) x rest bits
-front_tested nid at l x rest bits e lt fits (r, (a, b, f, h, k)) =
-    let vs = drop at (front_vars nid) in
-    let one = fields_tested vs x rest bits e lt fits in
-    let two = chain_starts (ReadsFields vs) (λ _. PacketsBehind l) (λ _ _. (b, k)) x rest bits (fields_begin vs x e) in
-    (λ t. two.0 (one.0 t), λ s. one.1 (two.1 s))
+front_tested nid at l x rest bits e lt fits g = fronts.front_tested (PacketsBehind l) (drop at (front_vars nid)) x rest bits e lt fits g
 
 after_front : (nid at : ℕ) (l : PacketsLeft) → Same (Chain (ReadsFields (drop (suc at) (front_vars nid))) (λ _. PacketsBehind l)) (left_at nid (behind_front (length (front_vars nid)) (at + 1) l) l)
 after_front nid at l =
@@ -176,16 +139,5 @@ after_front nid at l =
 pub front_behind : (nid at : ℕ) (l : PacketsLeft) (x : Var) (number : ℕ) → at < length (front_vars nid) → next_at nid (phase.Front at) l ≡ Some x → Starts (left_at nid (phase.Front at) l) x 0 number
     → Residual (left_at nid (phase.Front at) l) ((x, number) ∷ []) (left_at nid (behind_front (length (front_vars nid)) (at + 1) l) l)
 front_behind nid at l x number h e s =
-    let v = get_or (front_vars nid) at PADDING in
-    let vs = drop (suc at) (front_vars nid) in
-    let Q : Reading → Type 0 = PacketsBehind l in
-    let row : drop at (front_vars nid) ≡ v ∷ vs = drop-cons (front_vars nid) at PADDING h in
-    let first : first_of (v ∷ vs) ≡ Some x = rw row at e in
-    let s' : Starts (Chain (ReadsFields (v ∷ vs)) (λ _. Q)) x 0 number = rw row at s in
-    let g = front_goes (v ∷ vs) Q x 0 number s' in
-    let one = (chain_starts (ReadsFields (v ∷ vs)) (λ _. Q) (λ _ _. g) x 0 number (fields_begin (v ∷ vs) x first)).1 s' in
-    let behind = fields_behind v vs x number first one in
-    let all : Residual (Chain (ReadsFields (v ∷ vs)) (λ _. Q)) ((x, number) ∷ []) (Chain (ReadsFields vs) (λ _. Q)) =
-    chain_along (ReadsFields (v ∷ vs)) (ReadsFields vs) (λ _. Q) (λ _. Q) ((x, number) ∷ []) (fields_regular (v ∷ vs)) behind (some_fields vs) (λ a b. (λ k. k, λ k. k)) in
-    let all' : Residual (Chain (ReadsFields (drop at (front_vars nid))) (λ _. Q)) ((x, number) ∷ []) (Chain (ReadsFields vs) (λ _. Q)) = rw row all in
-    residual_same (left_at nid (phase.Front at) l) ((x, number) ∷ []) (Chain (ReadsFields vs) (λ _. Q)) (left_at nid (behind_front (length (front_vars nid)) (at + 1) l) l) all' (after_front nid at l)
+    let vs = front_vars nid in
+    residual_same (left_at nid (phase.Front at) l) ((x, number) ∷ []) (Then (ReadsFields (drop (suc at) vs)) (PacketsBehind l)) (left_at nid (behind_front (length vs) (at + 1) l) l) (fronts.front_behind (PacketsBehind l) vs at x number h e s) (after_front nid at l)

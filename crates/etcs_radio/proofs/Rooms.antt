@@ -17,7 +17,7 @@ use Rattle.etcs_rows.specs.Rows.{message_row_to}
 use Rattle.etcs_rows.proofs.LengthLemmas.{length-spelled}
 use Rattle.etcs_rows.proofs.OneReading.{Reads-apart}
 use Rattle.etcs_packets.specs.PacketValues as packets
-use Rattle.etcs_packets.specs.PacketValues.{PacketValue, IsPacket, bits_of, nid_of}
+use Rattle.etcs_packets.specs.PacketValues.{PacketValue}
 use Rattle.etcs_packets.specs.PacketReadings.{packet_reading, packets_reading, packet_bits}
 use Rattle.etcs_container.specs.Contents.{Carries, RunOf}
 use Rattle.etcs_container.proofs.Agreement.{packet_agree, packet_fit}
@@ -26,7 +26,7 @@ use Rattle.etcs_radio.specs.declared.body.RadioHead.{RadioHead}
 use Rattle.etcs_radio.specs.Messages.{typed_message, kept_message, IsAdmitted, TypedReads, KeptReads, MessageLanguage, head_reading}
 use Rattle.etcs_radio.specs.Laws.{begun, RoomRule}
 use Rattle.etcs_radio.proofs.Sizes.{head_length}
-use Rattle.etcs_radio.proofs.Kept.{length-kept}
+use Rattle.etcs_rests.specs.BitLaws.{bits_length}
 use Rattle.etcs_radio.proofs.Spelling.{first_number, rest_of, second_number, heads_agree, admitted_fit, not_both}
 
 both_spelled : (a b : Reading) (c : List Bool) → spelled (a ++ b) ++ c ≡ spelled a ++ (spelled b ++ c)
@@ -107,7 +107,7 @@ module _ (nid len : ℕ) (h : RadioHead) (row : Layout) (body : Reading) (vs : L
       let same : x.row ≡ row = cc in
       let bodies = Reads-apart row [] body body' (spelled sent ++ c) (spelled sent' ++ pad) reads (subst (λ (l : Layout). Reads l [] body') same x.body_reads) heads.1 in
       let own : length (spelled body) ≡ length (spelled body') = ap (λ (q : Reading). length (spelled q)) bodies.0 in
-      let lp = length-kept PADDING padding refl in
+      let lp = bits_length PADDING padding refl in
       let short : length pad ≤ 7 = omega (arith, lp, x.bytes, x.run.fills.1) in
       let rest = packets_leave vs us c pad carried x.run.carried short bodies.1 in
       let more = more_leaves (75 + length (spelled body)) (length (spelled sent') + length pad) (length (spelled sent)) rest in

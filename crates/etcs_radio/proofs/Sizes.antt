@@ -27,8 +27,9 @@ use Rattle.etcs_radio.specs.declared.message.Content.TheVariants.{Typed, Kept}
 use Rattle.etcs_radio.specs.Bodies.{nid_of_body, body_bits, body_reading, body_fault, head_fault}
 use Rattle.etcs_radio.specs.Messages.{all_bits, padding_room, is_marker, message_fault, padded_fault, kept_fault, head_reading, IsMessage}
 use Rattle.etcs_radio.specs.Readings.{bytes_of, front_reading, message_reading}
-use Rattle.etcs_radio.proofs.Bodies.{body_length, length-widths}
-use Rattle.etcs_radio.proofs.Kept.{length-kept}
+use Rattle.etcs_rests.specs.LabelLaws.{length-widths}
+use Rattle.etcs_radio.proofs.Bodies.{body_length}
+use Rattle.etcs_rests.specs.BitLaws.{bits_length}
 
 -- ---- One fault behind another.
 
@@ -69,9 +70,6 @@ pub many_bits : (n k : ℕ) → 0 < n / 2 ^ k → 2 ^ k ≤ n
 many_bits n k e = let m : 1 * 2 ^ k ≤ n = (le-div_iff_mul-le {k = 2 ^ k} {x = 1} {y = n} (pow_pos k)).0 (omega (arith, e)) in omega (arith, m)
 
 module _ (head : RadioHead) (body : Body) (ps : List Packet) (padding : ℕ) (front : (head_fault head body or_else body_fault body) ≡ None) (none : list_any is_marker ps ≡ false) where
-  pub message_by : message_fault head body ps ≡ (if nat_lt 8184 (all_bits body ps) then Some TooLong else None)
-  message_by = rw (front, none) refl
-
   pub padded_long : 8184 < all_bits body ps → padded_fault head body ps padding ≡ Some TooLong
   padded_long long = rw (front, none, lt-ltb 8184 (all_bits body ps) long) refl
 
@@ -158,7 +156,7 @@ typed_length head body ps padding =
     let bits = num (padding_room (all_bits body ps)) padding in
     let l1 = length-spelled (front ++ packets) (kept PADDING bits) in
     let l2 = length-spelled front packets in
-    let l3 = length-kept PADDING bits refl in
+    let l3 = bits_length PADDING bits refl in
     let l4 = length-num (padding_room (all_bits body ps)) padding in
     omega (arith, l1, l2, l3, l4, front_length head body ps padding)
 
@@ -166,7 +164,7 @@ pub kept_length : (nid : ℕ) (b : List Bool) → length (spelled (message_readi
 kept_length nid b =
     let front = front_reading (Kept nid b) in
     let l1 = length-spelled front (kept OTHER_DATA b) in
-    let l2 = length-kept OTHER_DATA b refl in
+    let l2 = bits_length OTHER_DATA b refl in
     let l3 = length-widths front in
     omega (arith, l1, l2, l3)
 

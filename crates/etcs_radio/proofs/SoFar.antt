@@ -1,5 +1,5 @@
 -- The variables so far are those that the fields tell.
-use Rattle.std.proofs.Common.{◌≡◌, ℕ, ◌+◌, ◌-◌, ◌*◌, ◌/◌, ◌≤◌, List, Bool, true, false, [], ◌∷◌, ◌++◌, length, drop, Some, None, refl, sym, ap, subst, ◌∙◌, arith, append_assoc, inl, inr}
+use Rattle.std.proofs.Common.{◌≡◌, ℕ, ◌+◌, ◌-◌, ◌*◌, ◌/◌, ◌≤◌, List, Bool, ◌++◌, length, drop, Some, refl, sym, ap, subst, ◌∙◌, arith, append_assoc, inl, inr}
 use Rattle.std.specs.Prelude.{IsTrue, map, Option}
 use Rattle.std.proofs.lemmas.List.{length-append}
 use Rattle.etcs_bits.specs.Bits.{num}
@@ -13,14 +13,16 @@ use Rattle.etcs_packets.specs.PacketReadings.{packets_reading}
 use Rattle.etcs_reader.specs.Rests.{Goes}
 use Rattle.etcs_rests.specs.declared.left.PacketsLeft.{PacketsLeft}
 use Rattle.etcs_rests.specs.declared.list.PacketList.{PacketList}
-use Rattle.etcs_rests.specs.Labels.{labelled}
+use Rattle.etcs_rests.specs.Labels.{labelled, widths}
 use Rattle.etcs_rests.specs.Lefts.{left_of, ahead}
 use Rattle.etcs_rests.specs.Held.{list_holds, packets_so_far}
+use Rattle.etcs_rests.specs.Stages.{asks_memory}
+use Rattle.etcs_rests.proofs.Asking.{packets_ask}
 use Rattle.etcs_rests.proofs.Holding.{packets_far}
 use Rattle.etcs_radio.specs.declared.phase.Phase.{Phase}
 use Rattle.etcs_radio.specs.declared.phase.Phase.TheVariants.{Number, Length, Front, Packets, Padding, Data, Whole}
 use Rattle.etcs_radio.specs.Messages.{padding_room}
-use Rattle.etcs_radio.specs.Lefts.{front_row, front_vars, some_row, bits_of, headed, left_at, may_ask, PacketsBehind, HoldsIn, FrontHeld, PacketsHeld, PaddingHeld, DataHeld}
+use Rattle.etcs_radio.specs.Lefts.{front_vars, some_row, headed, left_at, next_at, may_ask, PacketsBehind, HoldsIn, FrontHeld, PacketsHeld, PaddingHeld, DataHeld}
 use Rattle.etcs_radio.specs.Readers.{measured, padded, packed, whole_far, so_far}
 use Rattle.etcs_radio.proofs.Bytes.{headed_length, pad_bits, one_bits}
 
@@ -31,10 +33,10 @@ measured_is nid len more r q e room =
     let same : (18 + length (spelled r) + more) / 8 ≡ len = omega (arith, l, room) in
     e ∙ ap (λ (k : ℕ). headed nid k r) (sym same)
 
-front_far : (nid at : ℕ) (front : List ℕ) (l : PacketsLeft) (holds : List PacketValue → List ℕ → List Bool → Type 0) (q : Reading) → FrontHeld nid at front l holds q → q ≡ measured nid (labelled (front_vars nid) front) (bits_of (drop at (front_vars nid)) + ahead l.room l.stage)
+front_far : (nid at : ℕ) (front : List ℕ) (l : PacketsLeft) (holds : List PacketValue → List ℕ → List Bool → Type 0) (q : Reading) → FrontHeld nid at front l holds q → q ≡ measured nid (labelled (front_vars nid) front) (widths (drop at (front_vars nid)) + ahead l.room l.stage)
 front_far nid at front l holds q h =
-    let m = measured_is nid h.len (bits_of (drop at h.vars) + ahead l.room l.stage) (labelled h.vars front) q h.reading_is h.room_is in
-    subst (λ (vs : List Var). q ≡ measured nid (labelled vs front) (bits_of (drop at vs) + ahead l.room l.stage)) (sym (ap some_row h.typed)) m
+    let m = measured_is nid h.len (widths (drop at h.vars) + ahead l.room l.stage) (labelled h.vars front) q h.reading_is h.room_is in
+    subst (λ (vs : List Var). q ≡ measured nid (labelled vs front) (widths (drop at vs) + ahead l.room l.stage)) (sym (ap some_row h.typed)) m
 
 pub first_goes : (l : PacketsLeft) → Goes (PacketsBehind l) → Goes (left_of l.carrier l.room l.stage)
 first_goes l (r, (a, b, e, h, k)) = (a, h)
@@ -98,3 +100,13 @@ far_long nid Packets front l number holds q a (z, h) = headed_long nid h.len (la
 far_long nid (Padding left) front l number holds q a h = absurd cc
 far_long nid (Data left) front l number holds q a h = headed_long nid h.len (kept OTHER_DATA h.bits) q h.reading_is
 far_long nid Whole front l number holds q a h = absurd cc
+
+-- the variable that comes next there asks for it
+pub next_asks : (nid : ℕ) (phase : Phase) (front : List ℕ) (l : PacketsLeft) (number : ℕ) (holds : List PacketValue → List ℕ → List Bool → Type 0) (q : Reading) (x : Var) → IsTrue (may_ask phase l) → HoldsIn nid phase front l number holds q → Goes (left_at nid phase l) → next_at nid phase l ≡ Some x → IsTrue (asks_memory x)
+next_asks nid Number front l number holds q x a h g e = absurd cc
+next_asks nid Length front l number holds q x a h g e = absurd cc
+next_asks nid (Front at) front l number holds q x a h g e = absurd cc
+next_asks nid Packets front l number holds q x a (z, h) g e = packets_ask l.carrier l.room l.stage holds h.here a h.held (first_goes l g) x e
+next_asks nid (Padding left) front l number holds q x a h g e = absurd cc
+next_asks nid (Data left) front l number holds q x a h g e = let same : OTHER_DATA ≡ x = cc in subst (λ (v : Var). IsTrue (asks_memory v)) same refl
+next_asks nid Whole front l number holds q x a h g e = absurd cc

@@ -31,7 +31,7 @@ use Rattle.etcs_radio.specs.Bodies.{IsBody, FitsSigned16, nid_of_body, body_read
 use Rattle.etcs_radio.specs.Messages.{MessageValue, typed_message, kept_message, IsAdmitted, TypedReads, KeptReads, MessageReads, MessageLanguage, head_reading, front_of, all_bits, padding_room, IsMessage, message_value}
 use Rattle.etcs_radio.specs.Laws.{OneSpelling}
 use Rattle.etcs_radio.proofs.Sizes.{head_length, faultless}
-use Rattle.etcs_radio.proofs.Kept.{kept_agree, kept_fit, kept_same}
+use Rattle.etcs_rests.specs.BitLaws.{bits_agree, bits_fit, bits_known}
 
 -- ---- The header's numbers.
 
@@ -130,7 +130,7 @@ module _ (nid nid' : ℕ) (h h' : RadioHead) (body body' : Reading) (vs vs' : Li
   pub typed_agree : Agree r r'
   typed_agree =
       rw (x.reading_is, y.reading_is)
-      (Agree-append ((head ++ body) ++ sent) ((head' ++ body') ++ sent') (kept PADDING padding) (kept PADDING padding') packed_agree (λ e. kept_agree PADDING padding padding' (paddings e)))
+      (Agree-append ((head ++ body) ++ sent) ((head' ++ body') ++ sent') (kept PADDING padding) (kept PADDING padding') packed_agree (λ e. bits_agree PADDING padding padding' (paddings e)))
 
   pub typed_same : r ≡ r' → typed_message nid h body vs padding ≡ typed_message nid' h' body' vs' padding'
   typed_same e =
@@ -141,7 +141,7 @@ module _ (nid nid' : ℕ) (h h' : RadioHead) (body body' : Reading) (vs vs' : Li
       let number : nid ≡ nid' = ap first_number heads.0 in
       let one : h ≡ h' = sym (head_back nid x.len h) ∙ ap head_from heads.0 ∙ head_back nid' y.len h' in
       let packets : vs ≡ vs' = packets_same Message (8 * x.len - front_of body) vs vs' sent sent' x.run (run_same fronts.0) fronts.1 in
-      let pad : padding ≡ padding' = kept_same PADDING padding padding' packed.1 in
+      let pad : padding ≡ padding' = bits_known PADDING padding padding' packed.1 in
       let own : body ≡ body' = heads.1 in
       rw (number, one, own, packets, pad) refl
 
@@ -157,13 +157,13 @@ mixed_agree nid nid' h body vs padding b r r' x y =
 kept_both : (nid nid' : ℕ) (b b' : List Bool) (r r' : Reading) → KeptReads nid b r → KeptReads nid' b' r' → Agree r r'
 kept_both nid nid' b b' r r' x y =
     rw (x.reading_is, y.reading_is)
-    (refl, λ _. (refl, λ (e : ◌≡◌ {A = Sent} (L_MESSAGE, x.len) (L_MESSAGE, y.len)). kept_agree OTHER_DATA b b' (let l : x.len ≡ y.len = ap (λ (p : Sent). p.1) e in omega (arith, l, x.bytes, y.bytes))))
+    (refl, λ _. (refl, λ (e : ◌≡◌ {A = Sent} (L_MESSAGE, x.len) (L_MESSAGE, y.len)). bits_agree OTHER_DATA b b' (let l : x.len ≡ y.len = ap (λ (p : Sent). p.1) e in omega (arith, l, x.bytes, y.bytes))))
 
 kept_one : (nid nid' : ℕ) (b b' : List Bool) (r : Reading) → KeptReads nid b r → KeptReads nid' b' r → kept_message nid b ≡ kept_message nid' b'
 kept_one nid nid' b b' r x y =
     let whole = sym x.reading_is ∙ y.reading_is in
     let number : nid ≡ nid' = ap first_number whole in
-    let held : b ≡ b' = kept_same OTHER_DATA b b' (ap (λ (q : Reading). rest_of (rest_of q)) whole) in
+    let held : b ≡ b' = bits_known OTHER_DATA b b' (ap (λ (q : Reading). rest_of (rest_of q)) whole) in
     rw (number, held) refl
 
 -- ---- All messages.
@@ -182,8 +182,8 @@ fit (typed_message nid h body vs padding) a x =
     rw x.reading_is
     (AllFit-append ((head ++ body) ++ sent) (kept PADDING padding)
     (AllFit-append (head ++ body) sent (AllFit-append head body (admitted_fit head x.head_admitted) (Reads-fit x.row [] body x.body_reads)) (runs.fit sent (vs, x.run)))
-    (kept_fit PADDING padding refl))
-fit (kept_message nid k) a x = rw x.reading_is (x.small, (x.most, kept_fit OTHER_DATA k refl))
+    (bits_fit PADDING padding refl))
+fit (kept_message nid k) a x = rw x.reading_is (x.small, (x.most, bits_fit OTHER_DATA k refl))
 
 -- readings of messages agree, and their numbers fit
 pub regular : Regular MessageLanguage

@@ -1,8 +1,7 @@
 -- What was read of a message that is whole.
-use Rattle.std.proofs.Common.{◌≡◌, ℕ, suc, ◌+◌, ◌-◌, ◌*◌, ◌/◌, ◌^◌, ◌<◌, ◌≤◌, ◌&&◌, Bool, true, false, List, [], ◌∷◌, ◌++◌, length, drop, Some, None, refl, sym, ap, subst, ◌∙◌, arith, append_assoc, append-nil, inl, inr}
+use Rattle.std.proofs.Common.{◌≡◌, ℕ, suc, ◌+◌, ◌-◌, ◌*◌, ◌^◌, ◌<◌, ◌≤◌, ◌&&◌, Bool, List, [], ◌∷◌, ◌++◌, length, drop, Some, None, refl, sym, ap, subst, ◌∙◌, arith, append_assoc, append-nil, inl, inr}
 use Rattle.std.specs.Prelude.{IsTrue, Option, option_map, map, All, not, nat_lt, ◌==◌}
 use Rattle.std.proofs.lemmas.Bool.{and_parts, ltb-true, not-true}
-use Rattle.std.proofs.lemmas.List.{length-append}
 use Rattle.etcs_bits.specs.Bits.{bit, num}
 use Rattle.etcs_vars.specs.declared.var.Var.{Var}
 use Rattle.etcs_vars.specs.declared.var.Var.TheVariants.{NID_MESSAGE, L_MESSAGE, T_TRAIN, M_ACK, NID_LRBG, PADDING, OTHER_DATA}
@@ -14,32 +13,30 @@ use Rattle.etcs_rows.specs.declared.frames.Carrier.TheVariants.{Message}
 use Rattle.etcs_rows.specs.Layouts.{Layout, Reads}
 use Rattle.etcs_rows.specs.Rows.{message_row_to}
 use Rattle.etcs_packets.specs.declared.packet.Packet.{Packet}
-use Rattle.etcs_packets.specs.PacketValues.{PacketValue, packet_value, IsPacket}
+use Rattle.etcs_packets.specs.PacketValues.{PacketValue, packet_value}
 use Rattle.etcs_packets.specs.OnePacket.{IsMade}
 use Rattle.etcs_packets.specs.PacketReadings.{packets_reading}
-use Rattle.etcs_container.specs.Contents.{Carries, RunOf}
+use Rattle.etcs_container.specs.Contents.{Carries}
 use Rattle.etcs_reader.specs.Fields.{ReadsFields}
 use Rattle.etcs_rests.specs.declared.left.PacketsLeft.{PacketsLeft}
 use Rattle.etcs_rests.specs.declared.list.PacketList.{PacketList}
 use Rattle.etcs_rests.specs.Labels.{labelled}
-use Rattle.etcs_rests.specs.LabelLaws.{numbers_labelled, some_first}
+use Rattle.etcs_rests.specs.LabelLaws.{numbers_labelled, labelled_count, some_first}
 use Rattle.etcs_rests.specs.Lefts.{is_closed}
 use Rattle.etcs_rests.specs.Held.{list_holds}
 use Rattle.etcs_rests.specs.StageLaws.{open_next}
-use Rattle.etcs_radio.specs.declared.body.Body.{Body}
 use Rattle.etcs_radio.specs.declared.body.RadioHead.{RadioHead}
 use Rattle.etcs_radio.specs.declared.phase.Phase.{Phase}
 use Rattle.etcs_radio.specs.declared.phase.Phase.TheVariants.{Number, Length, Front, Packets, Padding, Data, Whole}
-use Rattle.etcs_radio.specs.declared.message.Content.{Content}
 use Rattle.etcs_radio.specs.declared.message.Content.TheVariants as content
-use Rattle.etcs_radio.specs.Bodies.{IsBody, IsBodyNumbers, nid_of_body, body_bits, body_reading}
-use Rattle.etcs_radio.specs.Messages.{MessageValue, typed_message, kept_message, TypedReads, KeptReads, MessageReads, MessageLanguage, IsAdmitted, IsTyped, IsMessage, message_value, head_reading, front_of, all_bits, padding_room}
+use Rattle.etcs_radio.specs.Bodies.{IsBodyNumbers, nid_of_body, body_reading}
+use Rattle.etcs_radio.specs.Messages.{typed_message, kept_message, TypedReads, KeptReads, MessageReads, MessageLanguage, IsMessage, message_value, head_reading, front_of, all_bits, padding_room}
 use Rattle.etcs_radio.specs.Lefts.{own_row, front_behind, front_row, front_vars, headed, next_at, is_message, stands_at, HoldsIn, PaddingHeld, DataHeld}
 use Rattle.etcs_radio.specs.Fronts.{head_by, body_by, content_by, IsHeadNumbers}
 use Rattle.etcs_radio.specs.Readers.{so_far, message_by}
 use Rattle.etcs_radio.proofs.Bodies.{body_length}
-use Rattle.etcs_radio.proofs.BodyNumbers.{head_back, BodyMade, body_made}
-use Rattle.etcs_radio.proofs.Bytes.{typed_length, kept_length, reads_length}
+use Rattle.etcs_radio.proofs.BodyNumbers.{head_back, body_made}
+use Rattle.etcs_radio.proofs.Bytes.{typed_length, reads_length}
 use Rattle.etcs_radio.proofs.Faults.{carried_packets, no_typed_fault, no_kept_fault}
 use Rattle.etcs_radio.proofs.Fronts.{as_row, row_fields, rows_alike}
 
@@ -59,11 +56,6 @@ row_none nid e = rows_alike nid ∙ ap (option_map as_row) (no_own (own_row nid)
 fields_count : (vs : List Var) (r : Reading) → ReadsFields vs r → length r ≡ length vs
 fields_count [] r h = ap length h
 fields_count (v ∷ vs) r (n, r', a, e, h) = ap length e ∙ ap suc (fields_count vs r' h)
-
-labelled_count : (vs : List Var) (ns : List ℕ) → length ns ≡ length vs → length (labelled vs ns) ≡ length vs
-labelled_count [] ns e = refl
-labelled_count (v ∷ vs) [] e = absurd cc
-labelled_count (v ∷ vs) (n ∷ ns) e = ap suc (labelled_count vs ns (let k : length ns ≡ length vs = cc in k))
 
 -- ---- A typed message.
 

@@ -1,8 +1,6 @@
 -- The parts of a message, written one behind the other.
-use Rattle.std.proofs.Common.{◌≡◌, ℕ, ◌+◌, ◌≤◌, Bool, List, [], ◌∷◌, ◌++◌, length, take, drop, refl, sym, ap, ◌∙◌, arith, append-nil, length-append}
+use Rattle.std.proofs.Common.{◌≡◌, ℕ, ◌+◌, Bool, List, [], ◌∷◌, ◌++◌, length, refl, sym, ap, ◌∙◌, arith}
 use Rattle.std.specs.Prelude.{map}
-use Rattle.std.proofs.lemmas.List.{take_at, length-drop, drop_all}
-use Rattle.std.proofs.Math.Seq.{drop-append-add}
 use Rattle.etcs_bits.specs.Bits.{num, replaced}
 use Rattle.etcs_bits.proofs.Numbers.{length-num}
 use Rattle.etcs_vars.specs.declared.var.Var.TheVariants.{NID_MESSAGE, L_MESSAGE, PADDING, OTHER_DATA}
@@ -17,8 +15,10 @@ use Rattle.etcs_radio.specs.declared.message.Content.TheVariants.{Typed, Kept}
 use Rattle.etcs_radio.specs.Bodies.{nid_of_body, body_bits, body_reading, run_of_head}
 use Rattle.etcs_radio.specs.Messages.{all_bits, padding_room, head_reading}
 use Rattle.etcs_radio.specs.Readings.{bytes_of, message_reading}
-use Rattle.etcs_radio.proofs.Bodies.{body_length, head_length, length-widths}
-use Rattle.etcs_radio.proofs.Kept.{spelled-kept}
+use Rattle.etcs_rests.specs.LabelLaws.{length-widths}
+use Rattle.etcs_radio.proofs.Bodies.{body_length, head_length}
+use Rattle.etcs_rests.specs.BitLaws.{bits_spelled}
+use Rattle.etcs_writing.proofs.Parts.{two_written, five_written}
 
 -- NID_MESSAGE and L_MESSAGE
 abbrev pub numbers_front : ℕ → ℕ → Reading
@@ -26,39 +26,6 @@ numbers_front nid len = (NID_MESSAGE, nid) ∷ (L_MESSAGE, len) ∷ []
 
 pub front_18 : (nid len : ℕ) → length (spelled (numbers_front nid len)) ≡ 18
 front_18 nid len = length-widths (numbers_front nid len)
-
--- bits that replace those behind a front
-put_next : (at : ℕ) (front new b : List Bool) → at ≡ length front → replaced at new (front ++ b) ≡ (front ++ new) ++ drop (length new) b
-put_next at front new b e =
-    let first : take at (front ++ b) ≡ front = take_at front b at (sym e) in
-    let behind : drop (at + length new) (front ++ b) ≡ drop (length new) b = ap (λ (k : ℕ). drop (k + length new) (front ++ b)) e ∙ drop-append-add front b (length new) in
-    rw (first, behind) refl
-
--- the last bits
-put_last : (at : ℕ) (front new b : List Bool) → at ≡ length front → length b ≤ length new → replaced at new (front ++ b) ≡ front ++ new
-put_last at front new b e short = put_next at front new b e ∙ ap (λ (s : List Bool). (front ++ new) ++ s) (drop_all (length new) b short) ∙ append-nil (front ++ new)
-
--- two parts, and five
-two_written : (h z b b1 b2 : List Bool) (i : ℕ) → i ≡ length h → length b ≡ i + length z → b1 ≡ replaced 0 h b → b2 ≡ replaced i z b1 → b2 ≡ h ++ z
-two_written h z b b1 b2 i ei size e1 e2 =
-    let r1 = drop (length h) b in
-    let s1 : b1 ≡ h ++ r1 = e1 ∙ put_next 0 [] h b refl in
-    e2 ∙ ap (replaced i z) s1 ∙ put_last i h z r1 ei (omega (arith, length-drop (length h) b, ei, size))
-
-five_written : (h t p q z b b1 b2 b3 b4 b5 : List Bool) (i j k l : ℕ) → i ≡ length h → j ≡ i + length t → k ≡ j + length p → l ≡ k + length q → length b ≡ l + length z → b1 ≡ replaced 0 h b → b2 ≡ replaced i t b1 → b3 ≡ replaced j p b2 → b4 ≡ replaced k q b3 → b5 ≡ replaced l z b4 → b5 ≡ (((h ++ t) ++ p) ++ q) ++ z
-five_written h t p q z b b1 b2 b3 b4 b5 i j k l ei ej ek el size e1 e2 e3 e4 e5 =
-    let r1 = drop (length h) b in
-    let r2 = drop (length t) r1 in
-    let r3 = drop (length p) r2 in
-    let r4 = drop (length q) r3 in
-    let l2 : j ≡ length (h ++ t) = omega (arith, ei, ej, length-append h t) in
-    let l3 : k ≡ length ((h ++ t) ++ p) = omega (arith, l2, ek, length-append (h ++ t) p) in
-    let l4 : l ≡ length (((h ++ t) ++ p) ++ q) = omega (arith, l3, el, length-append ((h ++ t) ++ p) q) in
-    let s1 : b1 ≡ h ++ r1 = e1 ∙ put_next 0 [] h b refl in
-    let s2 : b2 ≡ (h ++ t) ++ r2 = e2 ∙ ap (replaced i t) s1 ∙ put_next i h t r1 ei in
-    let s3 : b3 ≡ ((h ++ t) ++ p) ++ r3 = e3 ∙ ap (replaced j p) s2 ∙ put_next j (h ++ t) p r2 l2 in
-    let s4 : b4 ≡ (((h ++ t) ++ p) ++ q) ++ r4 = e4 ∙ ap (replaced k q) s3 ∙ put_next k ((h ++ t) ++ p) q r3 l3 in
-    e5 ∙ ap (replaced l z) s4 ∙ put_last l (((h ++ t) ++ p) ++ q) z r4 l4 (omega (arith, length-drop (length q) r3, length-drop (length p) r2, length-drop (length t) r1, length-drop (length h) b, ei, ej, ek, el, size))
 
 -- ---- A typed message.
 
@@ -81,7 +48,7 @@ module _ (head : RadioHead) (body : Body) (ps : List Packet) (padding : ℕ) whe
       let third : spelled ((h ++ b) ++ p) ≡ ((spelled n ++ spelled (run_of_head head)) ++ spelled b) ++ spelled p = spelled-append (h ++ b) p ∙ ap (λ (s : List Bool). s ++ spelled p) second in
       spelled-append ((h ++ b) ++ p) (kept PADDING z)
       ∙ ap (λ (s : List Bool). s ++ spelled (kept PADDING z)) third
-      ∙ ap (λ (s : List Bool). (((spelled n ++ spelled (run_of_head head)) ++ spelled b) ++ spelled p) ++ s) (spelled-kept PADDING z refl)
+      ∙ ap (λ (s : List Bool). (((spelled n ++ spelled (run_of_head head)) ++ spelled b) ++ spelled p) ++ s) (bits_spelled PADDING z refl)
 
   pub typed_written : (end nid bytes room : ℕ) (b b1 b2 b3 b4 b5 : List Bool) → nid ≡ nid_of_body body → bytes ≡ len → room ≡ padding_room whole → end ≡ whole → length b ≡ whole + padding_room whole → b1 ≡ replaced 0 (spelled (numbers_front nid bytes)) b → b2 ≡ replaced 18 (spelled (run_of_head head)) b1 → b3 ≡ replaced 75 (spelled (body_reading body)) b2 → b4 ≡ replaced (75 + body_bits body) (spelled (packets_reading (map packet_value ps))) b3 → b5 ≡ replaced end (num room padding) b4 → b5 ≡ spelled (message_reading (Typed head body ps padding))
   typed_written end nid bytes room b b1 b2 b3 b4 b5 en el er ee size e1 e2 e3 e4 e5 =
@@ -102,4 +69,4 @@ kept_written nid number bytes k b b1 b2 en el size e1 e2 =
     let n = numbers_front nid len in
     let f1 : b1 ≡ replaced 0 (spelled n) b = e1 ∙ ap (λ (i : ℕ). replaced 0 (spelled (numbers_front i bytes)) b) en ∙ ap (λ (i : ℕ). replaced 0 (spelled (numbers_front nid i)) b) el in
     two_written (spelled n) k b b1 b2 18 (sym (front_18 nid len)) size f1 e2
-    ∙ sym (spelled-append n (kept OTHER_DATA k) ∙ ap (λ (s : List Bool). spelled n ++ s) (spelled-kept OTHER_DATA k refl))
+    ∙ sym (spelled-append n (kept OTHER_DATA k) ∙ ap (λ (s : List Bool). spelled n ++ s) (bits_spelled OTHER_DATA k refl))

@@ -3,7 +3,6 @@ use Rattle.std.specs.Prelude.{◌≡◌, ℕ, ◌+◌, ◌-◌, ◌*◌, ◌^◌
 use Rattle.etcs_bits.specs.Bits.{num}
 use Rattle.etcs_vars.specs.declared.var.Var.{Var}
 use Rattle.etcs_vars.specs.declared.var.Var.TheVariants.{NID_MESSAGE, L_MESSAGE, T_TRAIN, M_ACK, NID_LRBG, NID_EM, M_VERSION, Q_SCALE, D_SR, D_REF, Q_ORIENTATION, PADDING, OTHER_DATA}
-use Rattle.etcs_vars.specs.Vars.{width}
 use Rattle.etcs_vars.specs.Reading.{Reading, Then, spelled, kept}
 use Rattle.etcs_vars.specs.Walking.{Residual}
 use Rattle.etcs_rows.specs.declared.frames.Carrier.TheVariants.{Message}
@@ -15,7 +14,7 @@ use Rattle.etcs_reader.specs.Fields.{ReadsFields, first_of}
 use Rattle.etcs_rests.specs.declared.left.PacketsLeft.{PacketsLeft}
 use Rattle.etcs_rests.specs.Lefts.{next_of, left_of, ahead, is_closed, is_telegram, may_grow, HoldsAt}
 use Rattle.etcs_rests.specs.ChainLaws.{Chain}
-use Rattle.etcs_rests.specs.Labels.{labelled}
+use Rattle.etcs_rests.specs.Labels.{labelled, widths}
 use Rattle.etcs_radio.specs.declared.phase.Phase.{Phase}
 use Rattle.etcs_radio.specs.declared.phase.Phase.TheVariants as phase
 
@@ -46,14 +45,9 @@ some_row (Some vs) = vs
 abbrev pub front_vars : ℕ → List Var
 front_vars n = some_row (front_row n)
 
--- how many bits these variables take
-abbrev pub bits_of : List Var → ℕ
-bits_of [] = 0
-bits_of (v ∷ vs) = width v + bits_of vs
-
 -- how many bits stand in front of the packets
 abbrev pub front_bits : List Var → ℕ
-front_bits vs = 18 + bits_of vs
+front_bits vs = 18 + widths vs
 
 -- ---- The readings that are left.
 
@@ -168,7 +162,7 @@ pub record FrontHeld (nid : ℕ) (at : ℕ) (front : List ℕ) (l : PacketsLeft)
   pub typed : front_row nid ≡ Some vars
   pub none : HoldsAt l.carrier l.stage holds []
   pub reading_is : q ≡ headed nid len (labelled vars front)
-  pub room_is : length (spelled q) + (bits_of (drop at vars) + ahead l.room l.stage) ≡ 8 * len
+  pub room_is : length (spelled q) + (widths (drop at vars) + ahead l.room l.stage) ≡ 8 * len
 
 -- q are all of the front, packets, and variables of the packet that is being read
 pub record PacketsHeld (nid : ℕ) (front : List ℕ) (l : PacketsLeft) (holds : List PacketValue → List ℕ → List Bool → Type 0) (q : Reading) : Type 0 where

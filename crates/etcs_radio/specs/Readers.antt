@@ -11,7 +11,7 @@ use Rattle.etcs_container.specs.Runs.{Begun}
 use Rattle.etcs_reader.specs.declared.feeder.Stop.{Stop}
 use Rattle.etcs_rests.specs.declared.left.PacketsLeft.{PacketsLeft}
 use Rattle.etcs_rests.specs.declared.list.PacketList.{PacketList}
-use Rattle.etcs_rests.specs.Labels.{labelled}
+use Rattle.etcs_rests.specs.Labels.{labelled, widths}
 use Rattle.etcs_rests.specs.Lefts.{ahead}
 use Rattle.etcs_rests.specs.Held.{list_holds, packets_so_far}
 use Rattle.etcs_rests.specs.Stages.{Stage, stage_by, IsReader}
@@ -20,7 +20,7 @@ use Rattle.etcs_radio.specs.declared.phase.Phase.TheVariants as phase
 use Rattle.etcs_radio.specs.declared.message.Content.{Content}
 use Rattle.etcs_radio.specs.Messages.{padding_room, MessageLanguage}
 use Rattle.etcs_radio.specs.Readings.{bytes_of}
-use Rattle.etcs_radio.specs.Lefts.{front_row, front_vars, bits_of, headed, left_at, next_at, HoldsIn}
+use Rattle.etcs_radio.specs.Lefts.{front_row, front_vars, headed, left_at, next_at, HoldsIn}
 use Rattle.etcs_radio.specs.Fronts.{content_by}
 
 -- NID_MESSAGE, the L_MESSAGE of a message with so many bits more, and these variables
@@ -43,7 +43,7 @@ whole_far (Some vars) nid front store number = measured nid (padded (packed nid 
 abbrev pub so_far : ℕ → Phase → List ℕ → PacketsLeft → PacketList → ℕ → Reading
 so_far nid phase.Number front l store number = []
 so_far nid phase.Length front l store number = (NID_MESSAGE, nid) ∷ []
-so_far nid (phase.Front at) front l store number = measured nid (labelled (front_vars nid) front) (bits_of (drop at (front_vars nid)) + ahead l.room l.stage)
+so_far nid (phase.Front at) front l store number = measured nid (labelled (front_vars nid) front) (widths (drop at (front_vars nid)) + ahead l.room l.stage)
 so_far nid phase.Packets front l store number = measured nid (labelled (front_vars nid) front ++ packets_so_far l.carrier l.stage store.packets.items store.numbers.items store.bits) (ahead l.room l.stage)
 so_far nid (phase.Padding left) front l store number = measured nid (padded (packed nid front store.packets.items) number left) left
 so_far nid (phase.Data left) front l store number = measured nid (kept OTHER_DATA store.bits) left

@@ -1,7 +1,10 @@
 //! Laws, each the contract of a function.
 
-ghost use Rattle.std.specs.Prelude.{◌≡◌, ◌↔◌, IsTrue, IfOk};
+ghost use Rattle.std.specs.Prelude.{◌≡◌, ℕ, ◌≤◌, ◌<◌, ◌*◌, ◌↔◌, ◌++◌, length, take, slice_index_or, IsTrue, IfOk, OnOk, OnErr, IfSome, IfNone};
+ghost use Rattle.etcs_bits.specs.Bits.{bits};
+ghost use Rattle.etcs_vars.specs.Reading.{Reading, spelled, InLanguage, NoneYet};
 ghost use Rattle.etcs_radio.specs.Laws.{OneSpelling, RoomRule};
+ghost use Rattle.etcs_radio.specs.Messages.{MessageLanguage, MessageReads, message_value};
 
 use crate::message::Message;
 use crate::reader::MessageReader;
@@ -49,6 +52,57 @@ pub fn round_trip(alloc: Global, message: &Message) -> Result<Message, AllocErro
         },
         Ok(Fed::More) => unreachable!(),
         Err(ReadFault::Refused { .. }) => unreachable!(),
+        Err(ReadFault::Ended) => unreachable!(),
+        Err(ReadFault::Memory) => Err(AllocError),
+    }
+}
+
+/// For callers: each byte is below 256.
+fn are_bytes(bytes: &[u8])
+    ensures { (i : ℕ) → slice_index_or bytes.now i 0 < 256 }
+{
+    let _ = bytes;
+}
+
+/// Appends the message that these bytes spell: the bytes themselves.
+fn append_again(message: &Message, bytes: &[u8], out: &mut Vec<u8>) -> Result<(), AllocError>
+    requires { (r : Reading) × MessageReads (message_value message.now) r × (spelled r ≡ bits bytes.now) }
+    ensures ok { OnOk result (out.new.items ≡ out.old.items ++ bytes.now) }
+    ensures err { OnErr result (out.new.items ≡ out.old.items) }
+{
+    are_bytes(out.as_slice());
+    message.encode(out)?;
+    Ok(())
+}
+
+/// Reads a message from the front of some bytes and appends its encoding: these are then the bytes that were read.
+/// Answers how many they are, or `None` where no message stands at the front, and then appends nothing.
+///
+/// # Errors
+///
+/// Where memory was refused, for the reader or for the bytes, and for no other cause. `out` then stays as it was.
+pub fn read_back(
+    alloc: Global,
+    bytes: &[u8],
+    out: &mut Vec<u8>,
+) -> Result<Option<usize>, AllocError>
+    ensures some { IfOk result (λ found. IfSome found (λ n. (n ≤ length bytes.now) × InLanguage MessageLanguage (take (8 * n) (bits bytes.now)))) }
+    ensures none { IfOk result (λ found. IfNone found (NoneYet MessageLanguage (bits bytes.now))) }
+    ensures back { IfOk result (λ found. IfSome found (λ n. out.new.items ≡ out.old.items ++ take n bytes.now)) }
+    ensures kept { IfOk result (λ found. IfNone found (out.new.items ≡ out.old.items)) }
+    ensures err { OnErr result (out.new.items ≡ out.old.items) }
+{
+    let mut reader = MessageReader::new(alloc);
+    match reader.feed(bytes) {
+        Ok(Fed::Done { taken }) => match reader.take() {
+            Ok(message) => {
+                append_again(&message, &bytes[..taken], out)?;
+                Ok(Some(taken))
+            }
+            Err(_) => unreachable!(),
+        },
+        Ok(Fed::More) => Ok(None),
+        Err(ReadFault::Refused { .. }) => Ok(None),
         Err(ReadFault::Ended) => unreachable!(),
         Err(ReadFault::Memory) => Err(AllocError),
     }

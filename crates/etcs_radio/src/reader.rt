@@ -105,8 +105,8 @@ impl MessageReader {
     ///
     /// `Refused` with the first bit, counted from 0 over all pieces, with which no message goes on, and the variable
     /// that holds it; `Memory` where memory is refused, for packets or kept bits behind NID_MESSAGE and L_MESSAGE, at
-    /// a bit with which a message goes on; `Ended` where the message was whole before. The reader then answers the
-    /// same to each later piece, and `bits_seen` tells how far it came.
+    /// a bit with which a message goes on, which is no bit of Q_DIR or PADDING; `Ended` where the message was whole
+    /// before. The reader then answers the same to each later piece, and `bits_seen` tells how far it came.
     pub fn feed(&mut self, piece: &[u8]) -> Result<Fed, ReadFault>
         ensures answer { (seen : List Bool) → self.old ≡ reading seen → Feeds MessageReads message_value IsMessage 18 seen (bits piece.now) result self.new }
         ensures after { (IsReading self.old → ⊥) → (self.new ≡ self.old) × (result ≡ Err (fault_of self.old)) }

@@ -1,6 +1,6 @@
 -- What a reader of any language of values answers.
 use Rattle.std.proofs.Common.{◌≡◌, ℕ, ◌+◌, ◌-◌, ◌*◌, ◌/◌, ◌%◌, ◌<◌, ◌≤◌, Bool, true, false, List, [], ◌∷◌, ◌++◌, length, take, drop, min, Some, None, Ok, Err, refl, sym, ap, subst, ◌∙◌, arith, append_assoc}
-use Rattle.std.specs.Prelude.{Option, Result, IfSome, IsNone, is_some}
+use Rattle.std.specs.Prelude.{Option, Result, IsTrue, IfSome, IsNone, is_some}
 use Rattle.std.proofs.lemmas.List.{append-nil, length-append, take-append-drop, take_at, take_all, length-take-le, take-take}
 use Rattle.std.proofs.Math.Seq.{take-append-add}
 use Rattle.etcs_bits.specs.Bits.{bits}
@@ -11,7 +11,7 @@ use Rattle.etcs_vars.specs.declared.feed.Fed.{Fed}
 use Rattle.etcs_vars.specs.declared.feed.Fed.TheVariants.{More, Done}
 use Rattle.etcs_vars.specs.declared.feed.ReadFault.{ReadFault}
 use Rattle.etcs_vars.specs.Walking.{Residual, Refuses}
-use Rattle.etcs_vars.specs.Reading.{Reading, spelled, InLanguage, Viable, Owner, readings_of}
+use Rattle.etcs_vars.specs.Reading.{Sent, Reading, spelled, InLanguage, Viable, Owner, readings_of}
 use Rattle.etcs_vars.proofs.Apart.{apart}
 use Rattle.etcs_vars.proofs.Languages.{Same}
 use Rattle.etcs_vars.proofs.Walk.{Regular, spelled-append}
@@ -23,8 +23,8 @@ use Rattle.etcs_reader.specs.Readers.{Passed, Takes, RefusesAt, StarvesAt}
 use Rattle.etcs_reader.specs.Feeders as feeders
 use Rattle.etcs_reader.specs.Feeders.{FeederValue}
 use Rattle.etcs_reader.specs.FieldLaws.{residual_along}
-use Rattle.etcs_reader.proofs.Passing.{passed_viable, passed_language, passed_owners, passed_refuses}
-use Rattle.etcs_rests.specs.Stages.{Stage, reading, finished, Feeds, fault_by, seen_of, stage_by, Reached, IsReader}
+use Rattle.etcs_reader.proofs.Passing.{passed_viable, passed_language, passed_owner, passed_owners, passed_refuses}
+use Rattle.etcs_rests.specs.Stages.{Stage, reading, finished, asks_memory, Feeds, fault_by, seen_of, stage_by, Reached, IsReader}
 
 -- What R keeps of a language, whose readings are those of values W: what is left of it, the variable that comes next, what
 -- follows, where memory may be refused, the variables so far, what is held of them, and at the end the value V.
@@ -37,8 +37,9 @@ pub record Readable (R V W : Type 0) (left : R → Reading → Type 0) (next : R
   pub residual : (s t : R) (p : Reading) → follows s p t → Residual (left s) p (left t)
   pub held : (s t : R) (p q : Reading) → follows s p t → holds s q → holds t (q ++ p)
   pub far_is : (s : R) (q : Reading) → Goes (left s) → holds s q → q ≡ far s
-  -- memory is refused behind so many bits alone
+  -- memory is refused behind so many bits alone, and at a variable that asks for it
   pub starved : (s : R) (q : Reading) → fails s → holds s q → least ≤ length (spelled q)
+  pub asks : (s : R) (q : Reading) (x : Var) → next s ≡ Some x → Goes (left s) → fails s → holds s q → IsTrue (asks_memory x)
   pub whole : (s : R) → next s ≡ None → readings_of Reads (far s) → holds s (far s) → IsValue (made s) × Reads (value (made s)) (far s)
 
 -- ---- Bytes.
@@ -136,6 +137,22 @@ module _ {R V W : Type 0} {left : R → Reading → Type 0} {next : R → Option
   pub bytes_wanted : (v : FeederValue R) → At v → v.count / 8 ≤ most
   bytes_wanted v at = omega (arith, viable_length (seen v) at.viable, at.counted)
 
+  -- where memory is refused, the variable with which all that is left begins asks for it
+  first_asks : (s : R) (q : Reading) (x : Var) → Goes (left s) → BeginsWith (left s) x → fails s → holds s q → IsTrue (asks_memory x)
+  first_asks s q x g begins f h = by_next (next s) refl
+    where
+      by_next : (o : Option Var) → next s ≡ o → IsTrue (asks_memory x)
+      by_next None e =
+          let (n, r, is) = begins g.0 g.1 in
+          let none : ◌≡◌ {A = Reading} [] ((x, n) ∷ r) = sym (w.ended s e g.0 g.1) ∙ is in
+          absurd cc
+      by_next (Some y) e =
+          let (n, r, is) = begins g.0 g.1 in
+          let (m, t, is') = w.begins_with s y e g.0 g.1 in
+          let two : ◌≡◌ {A = Reading} ((y, m) ∷ t) ((x, n) ∷ r) = sym is' ∙ is in
+          let head : ◌≡◌ {A = Sent} (y, m) (x, n) = cc in
+          subst (λ (v : Var). IsTrue (asks_memory v)) (ap (λ (u : Sent). u.0) head) (w.asks s q y e g f h)
+
   -- ---- Of all bits, by what was left.
 
   module _ (old : FeederValue R) (at : At old) where
@@ -154,22 +171,29 @@ module _ {R V W : Type 0} {left : R → Reading → Type 0} {next : R → Option
     all_refuses : (xs : List Bool) (n : ℕ) (x : Var) → Refuses (left old.rest) (old.part ++ xs) (length old.part + n) x → Refuses L (seen old ++ xs) (length (seen old) + n) x
     all_refuses xs n x h = passed_refuses L w.regular (left old.rest) (λ p. Residual L p (left old.rest)) (λ p h. h) (seen old) old.part by_far at.goes xs n x h
 
+    -- what was passed behind what was left
+    abbrev passed_all : (place : R) (t part : List Bool) → Passed (λ p. follows old.rest p place) (old.part ++ t) part → Passed (λ p. Residual L p (left place)) (seen old ++ t) part
+    passed_all place t part f = record {
+      whole = far old.rest ++ f.whole;
+      follows = residual_along L (far old.rest) (left old.rest) f.whole (left place) at.residual (w.residual old.rest place f.whole f.follows);
+      bits =
+          ap (λ (u : List Bool). u ++ part) (spelled-append (far old.rest) f.whole)
+          ∙ append_assoc (spelled (far old.rest)) (spelled f.whole) part
+          ∙ ap (λ (u : List Bool). spelled (far old.rest) ++ u) f.bits
+          ∙ sym (append_assoc (spelled (far old.rest)) old.part t);
+    }
+
     -- and where it has come to
     module _ (new : FeederValue R) (b : List Bool) (f : Passed (λ p. follows old.rest p new.rest) (old.part ++ b) new.part) (g : Goes (left new.rest)) where
       far_new : far old.rest ++ f.whole ≡ far new.rest
       far_new = w.far_is new.rest (far old.rest ++ f.whole) g (w.held old.rest new.rest f.whole (far old.rest) f.follows at.held)
 
       seen_new : seen new ≡ seen old ++ b
-      seen_new =
-          ap (λ (r : Reading). spelled r ++ new.part) (sym far_new)
-          ∙ ap (λ (t : List Bool). t ++ new.part) (spelled-append (far old.rest) f.whole)
-          ∙ append_assoc (spelled (far old.rest)) (spelled f.whole) new.part
-          ∙ ap (λ (t : List Bool). spelled (far old.rest) ++ t) f.bits
-          ∙ sym (append_assoc (spelled (far old.rest)) old.part b)
+      seen_new = ap (λ (r : Reading). spelled r ++ new.part) (sym far_new) ∙ (passed_all new.rest b new.part f).bits
 
       reached_new : Viable L (seen old ++ b) → new.count ≡ old.count + length b → new.count % 8 ≡ 0 → At new
       reached_new v count bytes = record {
-        residual = subst (λ (q : Reading). Residual L q (left new.rest)) far_new (residual_along L (far old.rest) (left old.rest) f.whole (left new.rest) at.residual (w.residual old.rest new.rest f.whole f.follows));
+        residual = subst (λ (q : Reading). Residual L q (left new.rest)) far_new (passed_all new.rest b new.part f).follows;
         goes = g;
         held = subst (holds new.rest) far_new (w.held old.rest new.rest f.whole (far old.rest) f.follows at.held);
         viable = subst (Viable L) (sym seen_new) v;
@@ -185,6 +209,17 @@ module _ {R V W : Type 0} {left : R → Reading → Type 0} {next : R → Option
         let l1 = ap length (spelled-append (far old.rest) p) ∙ length-append (spelled (far old.rest)) (spelled p) in
         let l2 = sym (length-append (spelled p) h.part) ∙ ap length h.passed.bits ∙ length-append old.part (take n xs) in
         omega (arith, long, l1, l2, at.counted, length-append (spelled (far old.rest)) old.part, length-take-le n xs, h.within)
+
+    -- at a variable of what was passed that asks for it
+    starved_owner : (xs : List Bool) (n : ℕ) → (h : StarvesAt R left follows fails old.rest old.part xs n) → Owner L (seen old ++ take n xs) h.holder
+    starved_owner xs n h =
+        let (r, c, l, e) = h.owned.viable in
+        passed_owner L w.regular (left h.place) (λ p. Residual L p (left h.place)) (λ p k. k) (seen old ++ take n xs) h.part (passed_all h.place (take n xs) h.part h.passed) (r, l) h.holder h.owned
+
+    starved_asks : (xs : List Bool) (n : ℕ) → (h : StarvesAt R left follows fails old.rest old.part xs n) → IsTrue (asks_memory h.holder)
+    starved_asks xs n h =
+        let (r, c, l, e) = h.owned.viable in
+        first_asks h.place (far old.rest ++ h.passed.whole) h.holder (r, l) h.begins h.here (w.held old.rest h.place h.passed.whole (far old.rest) h.passed.follows at.held)
 
   -- ---- A piece, of which these bytes are fed.
 
@@ -273,6 +308,10 @@ module _ {R V W : Type 0} {left : R → Reading → Type 0} {next : R → Option
         let cut : take (n + 1) xs ≡ take (n + 1) (bits piece) = ap (take (n + 1)) (bits_take piece taken within) ∙ take-take (n + 1) (8 * taken) (bits piece) (omega (arith, h.within, long)) in
         let whole : seen old ++ take (n + 1) xs ≡ take (new.count + 1) (seen old ++ bits piece) =
         ap (λ (u : List Bool). seen old ++ u) cut ∙ sym (take-append-add (seen old) (bits piece) (n + 1)) ∙ ap (λ (k : ℕ). take k (seen old ++ bits piece)) place in
+        let behind : length (seen old) + n ≡ new.count = omega (arith, count, at.counted) in
+        let less : take n xs ≡ take n (bits piece) = ap (take n) (bits_take piece taken within) ∙ take-take n (8 * taken) (bits piece) (omega (arith, h.within, long)) in
+        let front : seen old ++ take n xs ≡ take new.count (seen old ++ bits piece) =
+        ap (λ (u : List Bool). seen old ++ u) less ∙ sym (take-append-add (seen old) (bits piece) n) ∙ ap (λ (k : ℕ). take k (seen old ++ bits piece)) behind in
         record {
           is = rw stop tt;
           fed = (
@@ -282,6 +321,9 @@ module _ {R V W : Type 0} {left : R → Reading → Type 0} {next : R → Option
             omega (arith, count, at.counted, h.within, long, within, length-bits piece, length-append (seen old) (bits piece)),
             subst (Viable L) whole v,
             omega (arith, starved_far old at xs n h, count),
+            h.holder,
+            subst (λ (u : List Bool). Owner L u h.holder) front (starved_owner old at xs n h),
+            starved_asks old at xs n h,
           );
         }
 

@@ -10,3 +10,5 @@ pub mod Begun
 pub mod Feeding
 pub mod HoldingBetween
 pub mod RoundTrips
+pub mod Asking
+pub mod OneHolding

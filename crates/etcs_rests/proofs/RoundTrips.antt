@@ -1,8 +1,11 @@
 -- A reader that is fed a spelling.
-use Rattle.std.proofs.Common.{◌≡◌, ℕ, ◌+◌, ◌*◌, Bool, List, [], ◌++◌, length, take, drop, sym, ap, ◌∙◌, arith, Ok, Err}
+use Rattle.std.proofs.Common.{◌≡◌, ℕ, ◌+◌, ◌*◌, ◌≤◌, Bool, List, [], ◌++◌, length, take, drop, sym, ap, subst, ◌∙◌, arith, Ok, Err}
 use Rattle.std.specs.Prelude.{Result}
 use Rattle.std.proofs.lemmas.List.{take-append-drop, take_all}
-use Rattle.etcs_vars.specs.Reading.{Reading, spelled}
+use Rattle.etcs_bits.specs.Bits.{bits}
+use Rattle.etcs_bits.proofs.Positions.{length-bits}
+use Rattle.etcs_bits.proofs.Owned.{bits-take}
+use Rattle.etcs_vars.specs.Reading.{Reading, spelled, InLanguage, readings_of}
 use Rattle.etcs_vars.specs.declared.feed.Fed.{Fed}
 use Rattle.etcs_vars.specs.declared.feed.Fed.TheVariants.{More, Done}
 use Rattle.etcs_vars.specs.declared.feed.ReadFault.{ReadFault}
@@ -36,3 +39,20 @@ answered Reads value IsValue least one v r b (Err Memory) s is reads e f = tt
 
 pub same_value : {V : Type 0} (u v : V) → ◌≡◌ {A = Stage V} (finished u) (finished v) → u ≡ v
 same_value u v e = cc
+
+-- ---- What a reader that is fed bytes has read of them.
+
+module _ {V W : Type 0} (Reads : W → Reading → Type 0) (value : V → W) (IsValue : V → Type 0) (least : ℕ) (bytes : List ℕ) (n : ℕ) (s : Stage V) where
+  -- a front
+  pub front_read : Feeds Reads value IsValue least [] (bits bytes) (Ok (Done n)) s → (n ≤ length bytes) × InLanguage (readings_of Reads) (take (8 * n) (bits bytes))
+  front_read (v, at, is, le, (inside, r, reads, e)) =
+      let count : 0 + 8 * n ≡ 8 * n = omega arith in
+      (omega (arith, le, length-bits bytes), (r, (value v, reads), e ∙ ap (λ (k : ℕ). take k (bits bytes)) count))
+
+  -- which the value spells
+  pub front_spelled : (v : V) → Feeds Reads value IsValue least [] (bits bytes) (Ok (Done n)) s → s ≡ finished v → (r : Reading) × Reads (value v) r × (spelled r ≡ bits (take n bytes))
+  front_spelled v (u, at, is, le, (inside, r, reads, e)) whole =
+      let same = same_value u v (sym at ∙ whole) in
+      let less : n ≤ length bytes = omega (arith, le, length-bits bytes) in
+      let count : 0 + 8 * n ≡ 8 * n = omega arith in
+      (r, subst (λ (w : V). Reads (value w) r) same reads, e ∙ ap (λ (k : ℕ). take k (bits bytes)) count ∙ sym (bits-take bytes n less))

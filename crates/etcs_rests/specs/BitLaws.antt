@@ -1,6 +1,6 @@
 -- What the reader asks of so many bits, each a number of one variable.
 use Rattle.std.proofs.Common.{◌≡◌, ℕ, zero, suc, ◌+◌, ◌-◌, ◌/◌, ◌^◌, ◌<◌, ◌≤◌, Bool, true, false, List, [], ◌∷◌, ◌++◌, length, replicate, refl, sym, ap, ◌∙◌, arith, length-append}
-use Rattle.std.specs.Prelude.{if◌then◌else◌, ◌==◌}
+use Rattle.std.specs.Prelude.{map, if◌then◌else◌, ◌==◌}
 use Rattle.std.proofs.lemmas.List.{length-replicate}
 use Rattle.etcs_bits.specs.Bits.{num, bits, part}
 use Rattle.etcs_vars.specs.declared.var.Var.{Var}
@@ -22,16 +22,25 @@ pub bits_append : (v : Var) (a b : List Bool) → kept v (a ++ b) ≡ kept v a +
 bits_append v [] b = refl
 bits_append v (x ∷ a) b = ap (λ (t : Reading). (v, if x then 1 else 0) ∷ t) (bits_append v a b)
 
-bits_agree : (v : Var) (a b : List Bool) → length a ≡ length b → Agree (kept v a) (kept v b)
+pub bits_agree : (v : Var) (a b : List Bool) → length a ≡ length b → Agree (kept v a) (kept v b)
 bits_agree v [] [] e = tt
 bits_agree v [] (y ∷ b) e = absurd cc
 bits_agree v (x ∷ a) [] e = absurd cc
 bits_agree v (x ∷ a) (y ∷ b) e = (refl, λ _. bits_agree v a b (let k : length a ≡ length b = cc in k))
 
-bits_fit : (v : Var) (a : List Bool) → width v ≡ 1 → AllFit (kept v a)
+pub bits_fit : (v : Var) (a : List Bool) → width v ≡ 1 → AllFit (kept v a)
 bits_fit v [] w = tt
 bits_fit v (true ∷ a) w = (rw w (omega arith), bits_fit v a w)
 bits_fit v (false ∷ a) w = (rw w (omega arith), bits_fit v a w)
+
+bits_back : (v : Var) (a : List Bool) → map (λ (p : Sent). p.1 == 1) (kept v a) ≡ a
+bits_back v [] = refl
+bits_back v (true ∷ a) = ap (λ (s : List Bool). true ∷ s) (bits_back v a)
+bits_back v (false ∷ a) = ap (λ (s : List Bool). false ∷ s) (bits_back v a)
+
+-- they follow from their reading
+pub bits_known : (v : Var) (a b : List Bool) → kept v a ≡ kept v b → a ≡ b
+bits_known v a b e = sym (bits_back v a) ∙ ap (λ (r : Reading). map (λ (p : Sent). p.1 == 1) r) e ∙ bits_back v b
 
 -- they spell themselves
 pub bits_spelled : (v : Var) (b : List Bool) → width v ≡ 1 → spelled (kept v b) ≡ b
@@ -39,6 +48,9 @@ unfolding num
 bits_spelled v [] w = refl
 bits_spelled v (true ∷ b) w = rw (w, bits_spelled v b w) refl
 bits_spelled v (false ∷ b) w = rw (w, bits_spelled v b w) refl
+
+pub bits_length : (v : Var) (b : List Bool) → width v ≡ 1 → length (spelled (kept v b)) ≡ length b
+bits_length v b w = ap length (bits_spelled v b w)
 
 -- a bit of a byte that is one or zero
 pub byte_bit : (n : ℕ) → n < 2 → part 7 1 (bits (n ∷ [])) ≡ (n == 1) ∷ []

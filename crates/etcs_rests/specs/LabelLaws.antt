@@ -1,9 +1,11 @@
 -- What holds of variables with their numbers.
-use Rattle.std.proofs.Common.{◌≡◌, ℕ, zero, suc, ◌<◌, List, [], ◌∷◌, ◌++◌, length, drop, Some, None, refl, ap, arith}
+use Rattle.std.proofs.Common.{◌≡◌, ℕ, zero, suc, ◌+◌, ◌<◌, List, [], ◌∷◌, ◌++◌, length, drop, Some, None, refl, ap, ◌∙◌, arith}
 use Rattle.etcs_vars.specs.declared.var.Var.{Var}
-use Rattle.etcs_vars.specs.Reading.{Reading, numbers}
+use Rattle.etcs_vars.specs.Vars.{width}
+use Rattle.etcs_vars.specs.Reading.{Reading, spelled, numbers}
+use Rattle.etcs_vars.proofs.Sent.{length-sent}
 use Rattle.etcs_reader.specs.Fields.{first_of}
-use Rattle.etcs_rests.specs.Labels.{labelled}
+use Rattle.etcs_rests.specs.Labels.{labelled, widths, widths_of}
 
 pub labelled_none : (vs : List Var) → labelled vs [] ≡ []
 labelled_none [] = refl
@@ -20,6 +22,21 @@ numbers_labelled [] [] e = refl
 numbers_labelled [] (n ∷ ns) e = absurd cc
 numbers_labelled (v ∷ vs) [] e = absurd cc
 numbers_labelled (v ∷ vs) (n ∷ ns) e = ap (λ (t : List ℕ). n ∷ t) (numbers_labelled vs ns (let k : length ns ≡ length vs = cc in k))
+
+pub labelled_count : (vs : List Var) (ns : List ℕ) → length ns ≡ length vs → length (labelled vs ns) ≡ length vs
+labelled_count [] ns e = refl
+labelled_count (v ∷ vs) [] e = absurd cc
+labelled_count (v ∷ vs) (n ∷ ns) e = ap suc (labelled_count vs ns (let k : length ns ≡ length vs = cc in k))
+
+-- how many bits they take
+pub length-widths : (r : Reading) → length (spelled r) ≡ widths_of r
+length-widths [] = refl
+length-widths (p ∷ r) = length-sent p.0 p.1 r ∙ ap (λ (k : ℕ). width p.0 + k) (length-widths r)
+
+pub labelled_widths : (vs : List Var) (ns : List ℕ) → length ns ≡ length vs → widths_of (labelled vs ns) ≡ widths vs
+labelled_widths [] ns e = refl
+labelled_widths (v ∷ vs) [] e = absurd cc
+labelled_widths (v ∷ vs) (n ∷ ns) e = ap (λ (k : ℕ). width v + k) (labelled_widths vs ns (let k : length ns ≡ length vs = cc in k))
 
 -- within the list some variable comes next
 pub some_first : (vs : List Var) (at : ℕ) → at < length vs → first_of (drop at vs) ≡ None → ⊥

@@ -30,7 +30,7 @@ use Rattle.etcs_rests.specs.Lefts.{next_of, left_of, is_open, is_stage, Moved, H
 use Rattle.etcs_rests.specs.RowLaws.{row_begins_with}
 use Rattle.etcs_rests.specs.ThenLaws.{then_regular, then_begins_with}
 use Rattle.etcs_rests.specs.OpenLaws.{part_regular, opens_begins, opens_regular}
-use Rattle.etcs_rests.specs.KeptLaws.{kept_regular, kept_begins}
+use Rattle.etcs_rests.specs.BitLaws.{bits_regular, bits_begin}
 
 kept_by : (nid bits : ℕ) (r : Reading) → row_to ToTrain nid ≡ None → BodyIn nid bits r → KeptIn bits r
 kept_by nid bits r none (inl (row, e, l)) = let two : ◌≡◌ {A = Option Layout} None (Some row) = sym none ∙ e in absurd cc
@@ -38,7 +38,7 @@ kept_by nid bits r none (inr (k, b)) = b
 
 body_regular : (nid bits : ℕ) (found : Option Layout) → row_to ToTrain nid ≡ found → Regular (BodyIn nid bits)
 body_regular nid bits (Some row) e = part_regular (BodyIn nid bits) (ReadsIn row bits) (λ r b. row_body nid bits row r e b) (rows.regular row bits)
-body_regular nid bits None e = part_regular (BodyIn nid bits) (KeptIn bits) (λ r b. kept_by nid bits r e b) (kept_regular bits)
+body_regular nid bits None e = part_regular (BodyIn nid bits) (KeptIn bits) (λ r b. kept_by nid bits r e b) (bits_regular OTHER_DATA refl bits)
 
 length_regular : (c : Carrier) (nid room : ℕ) → Regular (LengthLeft c nid room)
 length_regular c nid room =
@@ -60,7 +60,7 @@ left_regular c room Marker = marker_regular (room + 8)
 left_regular c room (Direction nid) = direction_regular c nid (room + 8)
 left_regular c room (Length nid dir) = length_regular c nid (room + 10)
 left_regular c room (Row nid dir row) = then_regular (ReadsIn row.place row.len) (Run c room) (rows.regular row.place row.len) (run_regular c room)
-left_regular c room (Kept nid dir left) = then_regular (KeptIn left) (Run c room) (kept_regular left) (run_regular c room)
+left_regular c room (Kept nid dir left) = then_regular (KeptIn left) (Run c room) (bits_regular OTHER_DATA refl left) (run_regular c room)
 left_regular c room Closed = record { agree = λ a b e f. rw (e, f) tt; fit = λ a e. rw e tt }
 
 -- more packets come, or packet 255
@@ -84,7 +84,7 @@ left_begins c room (Length nid dir) stands x e =
 left_begins c room (Row nid dir row) stands x e = then_begins_with (ReadsIn row.place row.len) (Run c room) x (row_begins_with row.place row.len x e)
 left_begins c room (Kept nid dir left) stands x e =
     let same : OTHER_DATA ≡ x = cc in
-    subst (BeginsWith (Then (KeptIn left) (Run c room))) same (then_begins_with (KeptIn left) (Run c room) OTHER_DATA (kept_begins left (some_left c room nid dir left stands)))
+    subst (BeginsWith (Then (KeptIn left) (Run c room))) same (then_begins_with (KeptIn left) (Run c room) OTHER_DATA (bits_begin OTHER_DATA refl left (some_left c room nid dir left stands)))
 left_begins c room Closed stands x e = absurd cc
 
 pub left_ended : (c : Carrier) (room : ℕ) (s : Stage) → IsTrue (is_stage c room s) → next_of s ≡ None → Ended (left_of c room s)

@@ -13,3 +13,5 @@ pub mod Labels
 pub mod LabelLaws
 pub mod Stages
 pub mod Holdings
+pub mod FrontLaws
+pub mod FilledLaws

@@ -1,7 +1,8 @@
 -- What a reader of a language of values stands for, and what a feed answers.
-use Rattle.std.specs.Prelude.{◌≡◌, ℕ, ◌+◌, ◌*◌, ◌%◌, ◌<◌, ◌≤◌, Bool, List, ◌++◌, length, take, Option, Some, None, is_some, Result, Ok, Err, if◌then◌else◌}
+use Rattle.std.specs.Prelude.{◌≡◌, ℕ, ◌+◌, ◌*◌, ◌%◌, ◌<◌, ◌≤◌, Bool, true, false, List, ◌++◌, length, take, Option, Some, None, is_some, Result, Ok, Err, IsTrue, if◌then◌else◌}
 use Rattle.etcs_vars.specs.declared.var.Var.{Var}
-use Rattle.etcs_vars.specs.Reading.{Reading, spelled, Viable, readings_of, IsOutcome, done, refused, more}
+use Rattle.etcs_vars.specs.declared.var.Var.TheVariants.{Q_DIR, PAD, PADDING}
+use Rattle.etcs_vars.specs.Reading.{Reading, spelled, Viable, Owner, readings_of, IsOutcome, done, refused, more}
 use Rattle.etcs_vars.specs.Walking.{Residual}
 use Rattle.etcs_vars.specs.declared.feed.Fed.{Fed}
 use Rattle.etcs_vars.specs.declared.feed.Fed.TheVariants.{More, Done}
@@ -42,13 +43,21 @@ abbrev pub fault_by : Stop → ReadFault
 fault_by (stop.Refused i x) = Refused i x
 fault_by stop.Memory = Memory
 
+-- memory may be asked for at a variable of packets and at bits that are kept: no number of Q_DIR, PAD or PADDING is among
+-- what grows
+abbrev pub asks_memory : Var → Bool
+asks_memory Q_DIR = false
+asks_memory PAD = false
+asks_memory PADDING = false
+asks_memory v = true
+
 -- the bits that were seen and the new ones together, the answer, and the stage behind it: a value as it is kept stands for
--- one that has readings, and no memory is refused before so many bits
+-- one that has readings, and memory is refused behind so many bits alone, at a variable that asks for it
 abbrev pub Feeds : {V W : Type 0} → (W → Reading → Type 0) → (V → W) → (V → Type 0) → ℕ → List Bool → List Bool → Result Fed ReadFault → Stage V → Type 0
 Feeds {V} Reads value IsValue least seen new (Ok More) s = (s ≡ reading (seen ++ new)) × IsOutcome Reads (seen ++ new) more
 Feeds {V} Reads value IsValue least seen new (Ok (Done k)) s = (v : V) × (s ≡ finished v) × IsValue v × (8 * k ≤ length new) × IsOutcome Reads (seen ++ new) (done (value v) (length seen + 8 * k))
 Feeds {V} Reads value IsValue least seen new (Err (Refused i x)) s = (s ≡ stopped i x) × IsOutcome Reads (seen ++ new) (refused i x)
-Feeds {V} Reads value IsValue least seen new (Err Memory) s = (n : ℕ) × (s ≡ starved n) × (length seen ≤ n) × (n < length (seen ++ new)) × Viable (readings_of Reads) (take (n + 1) (seen ++ new)) × (least ≤ n)
+Feeds {V} Reads value IsValue least seen new (Err Memory) s = (n : ℕ) × (s ≡ starved n) × (length seen ≤ n) × (n < length (seen ++ new)) × Viable (readings_of Reads) (take (n + 1) (seen ++ new)) × (least ≤ n) × (x : Var) × Owner (readings_of Reads) (take n (seen ++ new)) x × IsTrue (asks_memory x)
 Feeds {V} Reads value IsValue least seen new (Err Ended) s = ⊥
 
 -- ---- The stage by what is kept.

@@ -1,16 +1,16 @@
 -- Lines of hexadecimal, piece by piece.
 use Rattle.std.proofs.Common.{◌≡◌, ℕ, ◌+◌, ◌<◌, ◌≤◌, Bool, true, List, [], ◌∷◌, ◌++◌, length, eqb, Some, None, Result, Ok, Err, refl, sym, ap, subst, ◌∙◌, arith, append_assoc, length-append, inl, inr}
-use Rattle.std.specs.Prelude.{◌⊎◌, OnOk, IfErr}
+use Rattle.std.specs.Prelude.{◌⊎◌, OnOk, IfOk, IfErr}
 use Rattle.std.proofs.lemmas.Bool.{eqb-true}
 use Rattle.std.proofs.lemmas.List.{append-nil}
 use Rattle.hex.specs.Hex.{decode_pairs}
-use Rattle.etcs_text.specs.declared.command.Command.{Command}
+use Rattle.etcs_stream.specs.declared.job.Command.{Command}
 use Rattle.std.proofs.lemmas.List.Elements.{All-append, All-nil}
 use Rattle.etcs_bits.specs.Bits.{bits}
 use Rattle.etcs_vars.specs.Reading.{Viable}
 use Rattle.etcs_text.specs.declared.entry.Kind.{Kind}
-use Rattle.etcs_text.specs.declared.command.Form.{Form}
-use Rattle.etcs_text.specs.declared.command.Form.TheVariants.{Hex}
+use Rattle.etcs_stream.specs.declared.job.Form.{Form}
+use Rattle.etcs_stream.specs.declared.job.Form.TheVariants.{Hex}
 use Rattle.etcs_text.specs.Entries.{EntryValue}
 use Rattle.etcs_stream.specs.declared.items.Items.{Items}
 use Rattle.etcs_stream.specs.declared.job.Job.{Job}
@@ -18,6 +18,9 @@ use Rattle.etcs_stream.specs.declared.fault.RunFault.{RunFault}
 use Rattle.etcs_stream.specs.declared.fault.RunFault.TheVariants.{Truncated, BadHex, Memory}
 use Rattle.etcs_stream.specs.Faults.{IsOfEngine}
 use Rattle.etcs_stream.specs.Lines.{bad_place, strip_cr, line_bytes, lines_text, lines_bytes, AreGood, IsHexText}
+use Rattle.etcs_stream.specs.Told.{Told}
+use Rattle.etcs_stream.specs.Tellers.{Closes, nothing_told}
+use Rattle.etcs_stream.specs.declared.job.Tally.{Tally}
 use Rattle.etcs_stream.specs.Readers.{ReaderValue, Awaits, HasRoom, seen_bits}
 use Rattle.etcs_stream.specs.Steps.{Advances, Halts}
 use Rattle.etcs_stream.specs.Stands.{ItemsStand, HexStands}
@@ -26,7 +29,8 @@ use Rattle.etcs_stream.specs.Engines.{Ends, Stops, StopsAtEnd}
 use Rattle.etcs_stream.proofs.ItemKinds.{Language}
 use Rattle.etcs_bits.proofs.ByteBits.{bits-append}
 use Rattle.etcs_stream.proofs.Streams.{Advances-none}
-use Rattle.etcs_stream.proofs.Standing.{ItemsHalt, IsEarly, stand_more, stand_halts, stand_nothing, halt_stops, halt_ends, stand_ended, stand_truncated}
+use Rattle.etcs_stream.proofs.Tellings.{closes_items}
+use Rattle.etcs_stream.proofs.Standing.{ItemsHalt, stand_first, IsEarly, stand_more, stand_halts, stand_nothing, halt_stops, halt_ends, stand_ended, stand_truncated}
 use Rattle.etcs_stream.proofs.Cutting.{Says, AreGood-append, lines_text-append, lines_bytes-append, lines_few, first_lf, one_line, cut_text, says_behind, long_bad, long_bad_stripped}
 
 -- ---- The items of a text.
@@ -95,14 +99,14 @@ bad_is lines kept rest input given line place good is n e (bad, behind, l, how) 
     }
 
 -- an item is whole there, or begun
-open_end : (job : Job) (seen b : List Bool) (count : ℕ) (bytes told : List ℕ) (h : ItemsStand job seen count bytes told) → Viable (Language job.kind) seen → seen ≡ b → BitItems job.kind (bits bytes) h.items ended ⊎ ((k : ℕ) × BitItems job.kind (bits bytes) h.items (truncated k))
+open_end : (job : Job) (seen b : List Bool) (count : Told) (bytes told : List ℕ) (h : ItemsStand job seen count bytes told) → Viable (Language job.kind) seen → seen ≡ b → BitItems job.kind (bits bytes) h.items ended ⊎ ((k : ℕ) × BitItems job.kind (bits bytes) h.items (truncated k))
 open_end job seen [] count bytes told h v e = inl (stand_ended job seen count bytes told h e)
 open_end job seen (x ∷ b) count bytes told h v e =
     let some : 0 < length seen = omega (arith, ap length e) in
     inr (length seen, stand_truncated job seen count bytes told h some v)
 
-module _ (job : Job) (r : ReaderValue) (n : ℕ) (kept : List ℕ) (line : ℕ) (given told t : List ℕ) (h : HexStands job r n kept line given (told ++ t)) where
-  pub hex_line : (r' : ReaderValue) (n' : ℕ) (part whole none : List ℕ) (line' : ℕ) (t' : List ℕ) → whole ≡ kept ++ part → none ≡ [] → line' ≡ line + 1 → bad_place (strip_cr whole) ≡ None → Awaits job.kind r' → n' ≤ 1000000 → (HasRoom n (seen_bits r.stage) → HasRoom n' (seen_bits r'.stage)) → Advances job.kind job.command (seen_bits r.stage) (seen_bits r'.stage) n n' (line_bytes (strip_cr whole)) t t' → HexStands job r' n' none line' (given ++ (part ++ 10 ∷ [])) (told ++ t')
+module _ (job : Job) (r : ReaderValue) (n : Told) (kept : List ℕ) (line : ℕ) (given told t : List ℕ) (h : HexStands job r n kept line given (told ++ t)) where
+  pub hex_line : (r' : ReaderValue) (n' : Told) (part whole none : List ℕ) (line' : ℕ) (t' : List ℕ) → whole ≡ kept ++ part → none ≡ [] → line' ≡ line + 1 → bad_place (strip_cr whole) ≡ None → Awaits job.kind r' → n'.count ≤ 1000000 → (HasRoom n.count (seen_bits r.stage) → HasRoom n'.count (seen_bits r'.stage)) → Advances job.kind job.command (seen_bits r.stage) (seen_bits r'.stage) n n' (line_bytes (strip_cr whole)) t t' → HexStands job r' n' none line' (given ++ (part ++ 10 ∷ [])) (told ++ t')
   hex_line r' n' part whole none line' t' w z m good waits few room more = record {
     form = h.form;
     waits = waits;
@@ -136,18 +140,10 @@ module _ (job : Job) (r : ReaderValue) (n : ℕ) (kept : List ℕ) (line : ℕ) 
   pub hex_starves : (rest : List ℕ) (fault : RunFault) → fault ≡ Memory → IsOfEngine fault × Stops job (given ++ rest) (told ++ t) fault
   hex_starves rest fault e =
       let text : given ++ rest ≡ lines_text h.lines ++ (kept ++ rest) = ap (λ (z : List ℕ). z ++ rest) h.given_is ∙ append_assoc (lines_text h.lines) kept rest in
-      let few : length h.items.items ≤ 1000000 = omega (arith, h.items.few, h.items.count_is) in
-      let first : FirstItems job.from job.kind (given ++ rest) h.items.items = record {
-        bytes = lines_bytes h.lines;
-        says = says_first job (given ++ rest) (lines_bytes h.lines) h.form (inl (h.lines, kept ++ rest, text, h.lines_good, refl));
-        spelt = h.items.spelt;
-        rest = seen_bits r.stage;
-        are_spelled = h.items.are_spelled;
-        bits_are = h.items.bits_are;
-        few = few;
-      } in (
+      let says = says_first job (given ++ rest) (lines_bytes h.lines) h.form (inl (h.lines, kept ++ rest, text, h.lines_good, refl)) in
+      let first = stand_first job (seen_bits r.stage) n (given ++ rest) (lines_bytes h.lines) (told ++ t) h.items says in (
         subst IsOfEngine (sym e) tt,
-        inl (e, (h.items.items, first, h.items.text)),
+        inl (e, (h.items.items, first, (n, h.items.text))),
       )
 
   hex_bad : (rest : List ℕ) (place : ℕ) (fault : RunFault) → fault ≡ BadHex (line + 1) place → ((more : List ℕ) → IsBadLine (kept ++ (rest ++ more)) place) → IsOfEngine fault × Stops job (given ++ rest) (told ++ t) fault
@@ -157,7 +153,7 @@ module _ (job : Job) (r : ReaderValue) (n : ℕ) (kept : List ℕ) (line : ℕ) 
       h.items.items,
       bad_hex (line + 1) place,
       e,
-      h.items.text,
+      (n, h.items.text),
       λ more. items_of job ((given ++ rest) ++ more) h.items.items (bad_hex (line + 1) place) h.form
           (inr (
             lines_bytes h.lines,
@@ -220,7 +216,7 @@ module _ (job : Job) (r : ReaderValue) (n : ℕ) (kept : List ℕ) (line : ℕ) 
       h.items.items,
       bad_hex (line + 1) place,
       e,
-      h.items.text,
+      (n, h.items.text),
       items_of job given h.items.items (bad_hex (line + 1) place) h.form
           (inr (
             lines_bytes h.lines,
@@ -273,21 +269,32 @@ module _ (job : Job) (r : ReaderValue) (n : ℕ) (kept : List ℕ) (line : ℕ) 
       subst (λ z. IsOfEngine fault × StopsAtEnd job given (told ++ z) fault) (sym same) (hex_last_bad place fault bad e)
   hex_last_stops t' fault (inr (good, halts)) = hex_last_halts t' fault good halts
 
-  module _ (r' : ReaderValue) (n' : ℕ) (t' : List ℕ) (good : bad_place kept ≡ None) (waits : Awaits job.kind r') (few : n' ≤ 1000000) (room : HasRoom n (seen_bits r.stage) → HasRoom n' (seen_bits r'.stage)) (more : Advances job.kind job.command (seen_bits r.stage) (seen_bits r'.stage) n n' (line_bytes kept) t t') where
+  module _ (r' : ReaderValue) (n' : Told) (t' : List ℕ) (good : bad_place kept ≡ None) (waits : Awaits job.kind r') (few : n'.count ≤ 1000000) (room : HasRoom n.count (seen_bits r.stage) → HasRoom n'.count (seen_bits r'.stage)) (more : Advances job.kind job.command (seen_bits r.stage) (seen_bits r'.stage) n n' (line_bytes kept) t t') where
     last_items : ItemsStand job (seen_bits r'.stage) n' (lines_bytes h.lines ++ line_bytes kept) (told ++ t')
     last_items = stand_more job (seen_bits r.stage) n (lines_bytes h.lines) told t h.items (line_bytes kept) t' (seen_bits r'.stage) n' more few (room h.items.room) waits.unfinished
 
-    pub hex_ends : seen_bits r'.stage ≡ [] → Ends job given (told ++ t') (record { items = n'; clashes = 0; complete = true })
-    hex_ends e = record {
+    hex_ends : (last t'' : List ℕ) (tally : Tally) → seen_bits r'.stage ≡ [] → Closes job.command n' last tally → t'' ≡ t' ++ last → Ends job given (told ++ t'') tally
+    hex_ends last t'' tally e closes is = record {
       items = last_items.items;
       items_of = items_of job given last_items.items ended h.form (inl (lines_bytes h.lines ++ line_bytes kept, last_text good, stand_ended job (seen_bits r'.stage) n' (lines_bytes h.lines ++ line_bytes kept) (told ++ t') last_items e));
+      lines = told ++ t';
+      last = last;
+      after = n';
       text = last_items.text;
-      items_are = last_items.count_is;
-      no_clash = refl;
-      complete = refl;
+      closes = closes;
+      told_is = ap (λ (z : List ℕ). told ++ z) is ∙ sym (append_assoc told t' last);
+      items_are = closes_items job.command n' last tally closes ∙ last_items.count_is;
     }
 
-    pub hex_truncated : (fault : RunFault) → fault ≡ Truncated (n' + 1) (length (seen_bits r'.stage)) → 0 < length (seen_bits r'.stage) → IsOfEngine fault × StopsAtEnd job given (told ++ t') fault
+    hex_closes_starved : (fault : RunFault) → fault ≡ Memory → IsOfEngine fault × StopsAtEnd job given (told ++ t') fault
+    hex_closes_starved fault e =
+        let says = says_first job given (lines_bytes h.lines ++ line_bytes kept) h.form (inr (last_text good)) in
+        let first = stand_first job (seen_bits r'.stage) n' given (lines_bytes h.lines ++ line_bytes kept) (told ++ t') last_items says in (
+          subst IsOfEngine (sym e) tt,
+          inl (e, (last_items.items, first, (n', last_items.text))),
+        )
+
+    hex_truncated : (fault : RunFault) → fault ≡ Truncated (n'.count + 1) (length (seen_bits r'.stage)) → 0 < length (seen_bits r'.stage) → IsOfEngine fault × StopsAtEnd job given (told ++ t') fault
     hex_truncated fault e some =
         let seen = seen_bits r'.stage in (
           subst IsOfEngine (sym e) tt,
@@ -295,13 +302,27 @@ module _ (job : Job) (r : ReaderValue) (n : ℕ) (kept : List ℕ) (line : ℕ) 
             last_items.items,
             truncated (length seen),
             e ∙ ap (λ k. Truncated (k + 1) (length seen)) last_items.count_is,
-            last_items.text,
+            (n', last_items.text),
             items_of job given last_items.items (truncated (length seen)) h.form (inl (lines_bytes h.lines ++ line_bytes kept, last_text good, stand_truncated job seen n' (lines_bytes h.lines ++ line_bytes kept) (told ++ t') last_items some waits.viable)),
           ),
         )
 
+    -- an item isn't whole, or memory was refused for the last lines
+    hex_not_closed : (t'' : List ℕ) (fault : RunFault) → t'' ≡ t' → ((fault ≡ Truncated (n'.count + 1) (length (seen_bits r'.stage))) × (0 < length (seen_bits r'.stage))) ⊎ (fault ≡ Memory) → IsOfEngine fault × StopsAtEnd job given (told ++ t'') fault
+    hex_not_closed t'' fault same (inl h') = subst (λ z. IsOfEngine fault × StopsAtEnd job given (told ++ z) fault) (sym same) (hex_truncated fault h'.0 h'.1)
+    hex_not_closed t'' fault same (inr e) = subst (λ z. IsOfEngine fault × StopsAtEnd job given (told ++ z) fault) (sym same) (hex_closes_starved fault e)
+
+    -- what the end of the input answers
+    pub hex_finish_ends : (t'' : List ℕ) (answer : Result Tally RunFault) → OnOk answer (seen_bits r'.stage ≡ []) → IfOk answer (λ tally. (last : List ℕ) × Closes job.command n' last tally × (t'' ≡ t' ++ last)) → IfOk answer (λ tally. Ends job given (told ++ t'') tally)
+    hex_finish_ends t'' (Ok tally) e (last, closes, is) = hex_ends last t'' tally e closes is
+    hex_finish_ends t'' (Err f) e h' = tt
+
+    pub hex_finish_stops : (t'' : List ℕ) (answer : Result Tally RunFault) → IfErr answer (λ e. (t'' ≡ t') × (((e ≡ Truncated (n'.count + 1) (length (seen_bits r'.stage))) × (0 < length (seen_bits r'.stage))) ⊎ (e ≡ Memory))) → IfErr answer (λ e. IsOfEngine e × StopsAtEnd job given (told ++ t'') e)
+    hex_finish_stops t'' (Ok tally) h' = tt
+    hex_finish_stops t'' (Err f) (same, why) = hex_not_closed t'' f same why
+
 -- nothing has come
-pub hex_nothing : (job : Job) (r : ReaderValue) (n : ℕ) (kept : List ℕ) → job.from ≡ Hex → Awaits job.kind r → seen_bits r.stage ≡ [] → n ≡ 0 → kept ≡ [] → HexStands job r n kept 0 [] []
+pub hex_nothing : (job : Job) (r : ReaderValue) (n : Told) (kept : List ℕ) → job.from ≡ Hex → Awaits job.kind r → seen_bits r.stage ≡ [] → n ≡ nothing_told → kept ≡ [] → HexStands job r n kept 0 [] []
 hex_nothing job r n kept form waits seen count e = record {
   form = form;
   waits = waits;
@@ -314,19 +335,19 @@ hex_nothing job r n kept form waits seen count e = record {
 }
 
 -- an empty line says nothing
-pub Advances-empty : (kind : Kind) (c : Command) (seen : List Bool) (items : ℕ) (text line : List ℕ) → eqb (length line) 0 ≡ true → Advances kind c seen seen items items (line_bytes line) text text
+pub Advances-empty : (kind : Kind) (c : Command) (seen : List Bool) (items : Told) (text line : List ℕ) → eqb (length line) 0 ≡ true → Advances kind c seen seen items items (line_bytes line) text text
 unfolding decode_pairs
 Advances-empty kind c seen items text [] h = Advances-none kind c seen items text
 Advances-empty kind c seen items text (x ∷ xs) h = absurd (omega (arith, eqb-true (length (x ∷ xs)) 0 h))
 
 -- no text was told since
-pub hex_start : (job : Job) (r : ReaderValue) (n : ℕ) (kept : List ℕ) (line : ℕ) (given told t : List ℕ) → t ≡ [] → HexStands job r n kept line given told → HexStands job r n kept line given (told ++ t)
+pub hex_start : (job : Job) (r : ReaderValue) (n : Told) (kept : List ℕ) (line : ℕ) (given told t : List ℕ) → t ≡ [] → HexStands job r n kept line given told → HexStands job r n kept line given (told ++ t)
 hex_start job r n kept line given told t e h = subst (λ z. HexStands job r n kept line given z) (sym (ap (λ (z : List ℕ). told ++ z) e ∙ append-nil told)) h
 
 -- the state of the items is the same
-pub hex_same : (i i' : Items) (kept : List ℕ) (line line' : ℕ) (given told : List ℕ) → i' ≡ i → line' ≡ line → HexStands i.job i.reader i.told kept line given told → HexStands i'.job i'.reader i'.told kept line' given told
+pub hex_same : (i i' : Items) (kept : List ℕ) (line line' : ℕ) (given told : List ℕ) → i' ≡ i → line' ≡ line → HexStands i.job i.reader i.teller kept line given told → HexStands i'.job i'.reader i'.teller kept line' given told
 hex_same i i' kept line line' given told e m h =
-    subst (λ (k : Items). HexStands k.job k.reader k.told kept line' given told) (sym e) (subst (λ k. HexStands i.job i.reader i.told kept k given told) (sym m) h)
+    subst (λ (k : Items). HexStands k.job k.reader k.teller kept line' given told) (sym e) (subst (λ k. HexStands i.job i.reader i.teller kept k given told) (sym m) h)
 
 -- one more line is taken off
 pub cut_line : (piece front rest line behind : List ℕ) → piece ≡ front ++ rest → rest ≡ line ++ 10 ∷ behind → piece ≡ (front ++ (line ++ 10 ∷ [])) ++ behind

@@ -10,12 +10,11 @@ use Rattle.etcs_vars.proofs.Languages.{Same, same_back}
 use Rattle.etcs_vars.proofs.Walk.{Regular}
 use Rattle.etcs_telegram.specs.declared.size.Size.{Size}
 use Rattle.etcs_telegram.specs.declared.size.Size.TheVariants as size
-use Rattle.etcs_telegram.specs.Telegrams.{TelegramLanguage, TelegramParts, ReadsAs, telegram_value, user_bits, pad_bits}
-use Rattle.etcs_telegram.specs.Readers as telegram
+use Rattle.etcs_telegram.specs.Telegrams.{TelegramLanguage, TelegramParts, ReadsAs, IsTelegram, telegram_value, user_bits, pad_bits}
 use Rattle.etcs_telegram.proofs.SameReadings.{viable_along, owner_along}
 use Rattle.etcs_telegram.proofs.Spellings as telegrams
-use Rattle.etcs_telegram.proofs.Viewing.{some_telegram}
-use Rattle.etcs_rests.specs.Stages as message
+use Rattle.etcs_telegram.proofs.Examples.{some_telegram}
+use Rattle.etcs_rests.specs.Stages as inner
 use Rattle.etcs_radio.specs.declared.message.Content.{Content}
 use Rattle.etcs_radio.specs.Messages.{MessageLanguage, MessageReads, IsMessage, message_value}
 use Rattle.etcs_radio.proofs.Spelling as messages
@@ -23,7 +22,7 @@ use Rattle.etcs_radio.proofs.Bytes.{some_bits, some_message}
 use Rattle.etcs_text.specs.declared.entry.Kind.{Kind}
 use Rattle.etcs_text.specs.declared.entry.Kind.TheVariants.{Long, Short, Radio}
 use Rattle.etcs_text.specs.Entries.{EntryValue, of_telegram, of_message, kind_of, EntryReads}
-use Rattle.etcs_stream.specs.Readers.{telegram_stage, message_stage, reading, finished, Feeds}
+use Rattle.etcs_stream.specs.Readers.{stage_of, telegram_item, message_item, reading, finished, Feeds}
 
 abbrev pub Language : Kind → Reading → Type 0
 Language kind = readings_of (EntryReads kind)
@@ -106,44 +105,34 @@ module _ {V : Type 0} (Reads : V → Reading → Type 0) (kind : Kind) (same : S
         owner_along (readings_of Reads) (Language kind) same _ x o.1,
       )
 
-pub telegram_feeds : (s : Size) (seen new : List Bool) (answer : Result Fed ReadFault) (at : telegram.Stage) → telegram.Feeds (ReadsAs s) seen new answer at → Feeds (EntryReads (kind_of s)) seen new answer (telegram_stage at)
-telegram_feeds s seen new (Ok More) at f = (ap telegram_stage f.0, more_along (ReadsAs s) (kind_of s) (same_telegrams s) _ f.1)
-telegram_feeds s seen new (Ok (Done k)) at f =
-    (of_telegram (telegram_value f.0), ap telegram_stage f.1, f.3, (f.4.0, f.4.1, (ap kind_of f.4.2.0, f.4.2.1), f.4.3))
-telegram_feeds s seen new (Err (Refused i x)) at f = refused_along (ReadsAs s) (kind_of s) (same_telegrams s) _ i x f.1
-telegram_feeds s seen new (Err Memory) at f = tt
-telegram_feeds s seen new (Err Ended) at f = absurd f
+-- by what a feed of the reader inside answers, whose values are items of the kind
+module _ {V W : Type 0} (Reads : W → Reading → Type 0) (value : V → W) (IsValue : V → Type 0) (least : ℕ) (item : W → EntryValue) (kind : Kind) (same : Same (readings_of Reads) (Language kind)) (reads : (w : W) (r : Reading) → Reads w r → EntryReads kind (item w) r) where
+  abbrev as_item : V → EntryValue
+  as_item v = item (value v)
 
-pub message_feeds : (seen new : List Bool) (answer : Result Fed ReadFault) (at : message.Stage Content) → message.Feeds MessageReads message_value IsMessage 18 seen new answer at → Feeds (EntryReads Radio) seen new answer (message_stage at)
-message_feeds seen new (Ok More) at f = (ap message_stage f.0, more_along MessageReads Radio same_messages _ f.1)
-message_feeds seen new (Ok (Done k)) at f =
-    (of_message (message_value f.0), ap message_stage f.1, f.3, (f.4.0, f.4.1, (refl, f.4.2), f.4.3))
-message_feeds seen new (Err (Refused i x)) at f = refused_along MessageReads Radio same_messages _ i x f.1
-message_feeds seen new (Err Memory) at f = tt
-message_feeds seen new (Err Ended) at f = absurd f
+  inner_feeds : (seen new : List Bool) (answer : Result Fed ReadFault) (at : inner.Stage V) → inner.Feeds Reads value IsValue least seen new answer at → Feeds (EntryReads kind) seen new answer (stage_of as_item at)
+  inner_feeds seen new (Ok More) at f = (ap (stage_of as_item) f.0, more_along Reads kind same _ f.1)
+  inner_feeds seen new (Ok (Done k)) at f = (as_item f.0, ap (stage_of as_item) f.1, f.3, (f.4.0, f.4.1, reads (value f.0) f.4.1 f.4.2, f.4.3))
+  inner_feeds seen new (Err (Refused i x)) at f = refused_along Reads kind same _ i x f.1
+  inner_feeds seen new (Err Memory) at f = tt
+  inner_feeds seen new (Err Ended) at f = absurd f
+
+pub telegram_feeds : (s : Size) (seen new : List Bool) (answer : Result Fed ReadFault) (at : inner.Stage TelegramParts) → inner.Feeds (ReadsAs s) telegram_value IsTelegram 50 seen new answer at → Feeds (EntryReads (kind_of s)) seen new answer (stage_of telegram_item at)
+telegram_feeds s = inner_feeds (ReadsAs s) telegram_value IsTelegram 50 of_telegram (kind_of s) (same_telegrams s) (λ t r h. (ap kind_of h.0, h.1))
+
+pub message_feeds : (seen new : List Bool) (answer : Result Fed ReadFault) (at : inner.Stage Content) → inner.Feeds MessageReads message_value IsMessage 18 seen new answer at → Feeds (EntryReads Radio) seen new answer (stage_of message_item at)
+message_feeds = inner_feeds MessageReads message_value IsMessage 18 of_message Radio same_messages (λ m r h. (refl, h))
 
 -- ---- The stages of the reader inside.
 
-pub telegram_reading : (s : telegram.Stage) (seen : List Bool) → telegram_stage s ≡ reading seen → s ≡ telegram.reading seen
-telegram_reading (telegram.reading b) seen h = let e : b ≡ seen = cc in ap telegram.reading e
-telegram_reading (telegram.finished t) seen h = absurd cc
-telegram_reading (telegram.stopped i x) seen h = absurd cc
-telegram_reading (telegram.starved n) seen h = absurd cc
+pub inner_reading : {V : Type 0} (item : V → EntryValue) (s : inner.Stage V) (seen : List Bool) → stage_of item s ≡ reading seen → s ≡ inner.reading seen
+inner_reading item (inner.reading b) seen h = let e : b ≡ seen = cc in ap inner.reading e
+inner_reading item (inner.finished v) seen h = absurd cc
+inner_reading item (inner.stopped i x) seen h = absurd cc
+inner_reading item (inner.starved n) seen h = absurd cc
 
-pub message_reading : (s : message.Stage Content) (seen : List Bool) → message_stage s ≡ reading seen → s ≡ message.reading seen
-message_reading (message.reading b) seen h = let e : b ≡ seen = cc in ap message.reading e
-message_reading (message.finished m) seen h = absurd cc
-message_reading (message.stopped i x) seen h = absurd cc
-message_reading (message.starved n) seen h = absurd cc
-
-pub telegram_finished : (s : telegram.Stage) (e : EntryValue) → telegram_stage s ≡ finished e → (t : TelegramParts) × (s ≡ telegram.finished t)
-telegram_finished (telegram.reading b) e h = absurd cc
-telegram_finished (telegram.finished t) e h = (t, refl)
-telegram_finished (telegram.stopped i x) e h = absurd cc
-telegram_finished (telegram.starved n) e h = absurd cc
-
-pub message_finished : (s : message.Stage Content) (e : EntryValue) → message_stage s ≡ finished e → (m : Content) × (s ≡ message.finished m)
-message_finished (message.reading b) e h = absurd cc
-message_finished (message.finished m) e h = (m, refl)
-message_finished (message.stopped i x) e h = absurd cc
-message_finished (message.starved n) e h = absurd cc
+pub inner_finished : {V : Type 0} (item : V → EntryValue) (s : inner.Stage V) (e : EntryValue) → stage_of item s ≡ finished e → (v : V) × (s ≡ inner.finished v)
+inner_finished item (inner.reading b) e h = absurd cc
+inner_finished item (inner.finished v) e h = (v, refl)
+inner_finished item (inner.stopped i x) e h = absurd cc
+inner_finished item (inner.starved n) e h = absurd cc

@@ -1,5 +1,12 @@
 pub mod HexDigits
 pub mod ItemKinds
+pub mod Tellings
+pub mod Answering
+pub mod Positions
+pub mod GroupLengths
+pub mod TellLengths
+pub mod OneGroups
+pub mod OneTexts
 pub mod Streams
 pub mod Standing
 pub mod Cutting

@@ -3,10 +3,8 @@ use Rattle.std.proofs.Common.{◌≡◌, ℕ, ◌+◌, ◌^◌, ◌<◌, ◌≤�
 use Rattle.std.specs.Prelude.{◌⊎◌, All}
 use Rattle.std.proofs.lemmas.Bool.{cases_lt}
 use Rattle.std.proofs.lemmas.List.{append-nil, take_at, take-take, get_or_past}
-use Rattle.hex.specs.Hex.{encode_upper}
 use Rattle.etcs_bits.specs.Bits.{bits}
 use Rattle.etcs_bits.proofs.ByteBits.{bits-append}
-use Rattle.etcs_bits.proofs.Owned.{bits_same}
 use Rattle.etcs_vars.specs.declared.var.Var.{Var}
 use Rattle.etcs_vars.specs.Walking.{Refuses}
 use Rattle.etcs_vars.specs.Reading.{Reading, spelled, IsOutcome, NoneYet, Viable, Owner}
@@ -18,15 +16,12 @@ use Rattle.etcs_telegram.proofs.Spellings as telegrams
 use Rattle.etcs_radio.specs.Messages.{MessageValue, typed_message, kept_message, MessageReads}
 use Rattle.etcs_radio.proofs.Spelling as messages
 use Rattle.etcs_text.specs.declared.entry.Kind.{Kind}
-use Rattle.etcs_text.specs.declared.command.Command.{Command}
-use Rattle.etcs_text.specs.declared.command.Command.TheVariants.{Show, Check, Convert}
-use Rattle.etcs_text.specs.declared.command.Form.{Form}
-use Rattle.etcs_text.specs.declared.command.Form.TheVariants.{Hex, Bin}
+use Rattle.etcs_stream.specs.declared.job.Form.{Form}
+use Rattle.etcs_stream.specs.declared.job.Form.TheVariants.{Hex, Bin, Json}
 use Rattle.etcs_text.specs.Entries.{EntryValue, of_telegram, of_message, EntryReads, Spells}
-use Rattle.etcs_text.specs.Commands.{IsEncoded, ItemText}
 use Rattle.etcs_stream.specs.Inputs.{End, ended, refused, truncated, bad_hex, endless, EndsWith, BitItems, BadItems, SaysSoFar, FirstItems}
 use Rattle.etcs_stream.specs.Streams.{AreSpelled}
-use Rattle.etcs_stream.specs.OneRuns.{OneEnd, OneWhole, OneFront, OneText}
+use Rattle.etcs_stream.specs.OneRuns.{OneEnd, OneWhole, OneFront}
 use Rattle.etcs_stream.proofs.ItemKinds.{Language, kind_regular, same_size, not_radio}
 use Rattle.etcs_stream.proofs.Streams.{nothing_is_spelled}
 use Rattle.etcs_stream.proofs.Printing.{bad_items}
@@ -212,6 +207,7 @@ bad_once kind b es es' line place endless endless h k = one_of_bits kind b b es 
 pub one_end : OneEnd
 unfolding Same
 one_end Bin kind input es es' end end' h k = one_of_bits kind (bits input) (bits input) es es' end end' refl h k
+one_end Json kind input es es' end end' h k = absurd h
 one_end Hex kind input es es' end end' (inl (b, says, h)) (inl (c, says', k)) = one_of_bits kind (bits b) (bits c) es es' end end' (ap bits (one_hex input b c says says')) h k
 one_end Hex kind input es es' end end' (inl (b, says, h)) (inr (c, line, place, bad, k)) = absurd (hex_or_bad input b c line place says bad)
 one_end Hex kind input es es' end end' (inr (b, line, place, bad, h)) (inl (c, says, k)) = absurd (hex_or_bad input c b line place says bad)
@@ -226,6 +222,7 @@ one_end Hex kind input es es' end end' (inr (b, line, place, bad, h)) (inr (c, l
 
 one_says : (form : Form) (given bytes bytes' : List ℕ) → SaysSoFar form given bytes → SaysSoFar form given bytes' → bytes ≡ bytes'
 one_says Bin given bytes bytes' h k = h ∙ sym k
+one_says Json given bytes bytes' h k = absurd h
 one_says Hex given bytes bytes' h k = one_so_far given bytes bytes' h k
 
 pub one_whole : OneWhole
@@ -247,46 +244,8 @@ front_items form kind input bytes' es es' end h k (more, is) =
 
 pub one_front : OneFront
 one_front Bin kind input es es' end h k = front_items Bin kind input input es es' end h k ([], sym h.says ∙ sym (append-nil h.bytes))
+one_front Json kind input es es' end h k = absurd k
 one_front Hex kind input es es' end h (inl (bytes, says, k)) = front_items Hex kind input bytes es es' end h k (front_hex input h.bytes bytes h.says says)
 one_front Hex kind input es es' end h (inr (bytes, line, place, bad, k)) =
     let (end', items) = bad_items kind (bits bytes) es' line place end k in
     front_items Hex kind input bytes es es' end' h items (front_bad input h.bytes bytes line place h.says bad)
-
--- ---- One text.
-
--- L_MESSAGE is of the bits
-one_message : (m : MessageValue) (r q : Reading) → MessageReads m r → MessageReads m q → r ≡ q
-one_message (typed_message nid h body vs padding) r q x y =
-    let len : x.len ≡ y.len = omega (arith, x.bytes, y.bytes) in
-    rw (x.reading_is, y.reading_is, len) refl
-one_message (kept_message nid b) r q x y =
-    let len : x.len ≡ y.len = omega (arith, x.bytes, y.bytes) in
-    rw (x.reading_is, y.reading_is, len) refl
-
-one_spelling : (e : EntryValue) (r q : Reading) → Spells e r → Spells e q → r ≡ q
-one_spelling (of_telegram t) r q x y = x.reading_is ∙ sym y.reading_is
-one_spelling (of_message m) r q x y = one_message m r q x y
-
-all_small : (bytes : List ℕ) → All (λ b. b < 256) bytes → (i : ℕ) → get_or bytes i 0 < 2 ^ 8
-all_small bytes h i = elim (cases_lt i (length bytes)) [
-  | inl lt ↦ h i 0 lt
-  | inr ge ↦ omega (arith, get_or_past bytes i 0 ge)
-]
-
-one_encoding : (e : EntryValue) (bytes bytes' : List ℕ) → IsEncoded e bytes → IsEncoded e bytes' → bytes ≡ bytes'
-one_encoding e bytes bytes' h k =
-    bits_same bytes bytes' (all_small bytes h.small) (all_small bytes' k.small) (h.bits_are ∙ ap spelled (one_spelling e h.reading k.reading h.reads k.reads) ∙ sym k.bits_are)
-
-one_line : (command : Command) (e : EntryValue) (item : ℕ) (text text' : List ℕ) → ItemText command e item text → ItemText command e item text' → text ≡ text'
-one_line Show e item text text' h k = h ∙ sym k
-one_line Check e item text text' h k = h ∙ sym k
-one_line (Convert Hex) e item text text' h k = h.2 ∙ ap (λ (z : List ℕ). encode_upper z ++ 10 ∷ []) (one_encoding e h.0 k.0 h.1 k.1) ∙ sym k.2
-one_line (Convert Bin) e item text text' h k = one_encoding e text text' h k
-
-pub one_text : OneText
-one_text command item [] text text' h k = h ∙ sym k
-one_text command item (e ∷ es) text text' h k =
-    h.2
-    ∙ ap (λ (z : List ℕ). z ++ h.1) (one_line command e item h.0 k.0 h.3 k.3)
-    ∙ ap (λ (z : List ℕ). k.0 ++ z) (one_text command (item + 1) es h.1 k.1 h.4 k.4)
-    ∙ sym k.2

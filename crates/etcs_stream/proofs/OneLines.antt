@@ -8,7 +8,7 @@ use Rattle.std.proofs.lemmas.List.Elements.{All-tail}
 use Rattle.hex.specs.Hex.{is_hex_digit}
 use Rattle.etcs_stream.specs.Lines.{bad_place, strip_cr, line_bytes, lines_text, lines_bytes, AreGood, IsHexText}
 use Rattle.etcs_stream.specs.Inputs.{IsLine, IsBad, SaysSoFar, SaysFirst}
-use Rattle.etcs_text.specs.declared.command.Form.TheVariants.{Hex}
+use Rattle.etcs_stream.specs.declared.job.Form.TheVariants.{Hex}
 use Rattle.etcs_stream.proofs.HexDigits.{good_digits}
 use Rattle.etcs_stream.proofs.Cutting.{lines_bytes-append}
 

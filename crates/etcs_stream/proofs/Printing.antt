@@ -1,18 +1,18 @@
 -- What was told is the text of the first items.
 use Rattle.std.proofs.Common.{◌≡◌, ℕ, Bool, List, [], ◌∷◌, ◌++◌, Result, Ok, Err, inl, inr, refl, subst}
-use Rattle.std.specs.Prelude.{IfErr, IfOk, OnOk}
+use Rattle.std.specs.Prelude.{◌⊎◌, IfErr, IfOk, OnOk}
 use Rattle.std.proofs.lemmas.List.{append-nil}
 use Rattle.etcs_bits.specs.Bits.{bits}
 use Rattle.etcs_text.specs.declared.entry.Kind.{Kind}
-use Rattle.etcs_text.specs.declared.command.Form.{Form}
-use Rattle.etcs_text.specs.declared.command.Form.TheVariants.{Hex, Bin}
+use Rattle.etcs_stream.specs.declared.job.Form.{Form}
+use Rattle.etcs_stream.specs.declared.job.Form.TheVariants.{Hex, Bin, Json}
 use Rattle.etcs_text.specs.Entries.{EntryValue}
 use Rattle.etcs_stream.specs.declared.job.Job.{Job}
 use Rattle.etcs_stream.specs.declared.job.Tally.{Tally}
 use Rattle.etcs_stream.specs.declared.fault.RunFault.{RunFault}
 use Rattle.etcs_stream.specs.Faults.{IsOfEngine}
 use Rattle.etcs_stream.specs.Inputs.{End, ended, refused, truncated, bad_hex, endless, IsBad, BitItems, BadItems, ItemsOf, SaysSoFar, SaysFirst, WholeItems, FirstItems}
-use Rattle.etcs_stream.specs.Engines.{Tells, Ends, Stops, StopsAtEnd, Prints}
+use Rattle.etcs_stream.specs.Engines.{Tells, Ends, EndsWhole, Stops, StopsAtEnd, Prints}
 
 -- the items of these bytes are the first of an input that says them first
 firsts : (form : Form) (kind : Kind) (given bytes : List ℕ) (es : List EntryValue) (end : End) → SaysFirst form given bytes → BitItems kind (bits bytes) es end → FirstItems form kind given es
@@ -35,6 +35,7 @@ front_of text bytes line place bad = elim bad.text_is [
 
 pub all_first : (form : Form) (kind : Kind) (input : List ℕ) (es : List EntryValue) (end : End) → ItemsOf form kind input es end → FirstItems form kind input es
 all_first Bin kind input es end h = firsts Bin kind input input es end refl h
+all_first Json kind input es end h = absurd h
 all_first Hex kind input es end (inl (bytes, says, h)) = firsts Hex kind input bytes es end (inr says) h
 all_first Hex kind input es end (inr (bytes, line, place, bad, h)) =
     let (end', items) = bad_items kind (bits bytes) es line place end h in
@@ -42,6 +43,7 @@ all_first Hex kind input es end (inr (bytes, line, place, bad, h)) =
 
 so_far_first : (form : Form) (given bytes : List ℕ) → SaysSoFar form given bytes → SaysFirst form given bytes
 so_far_first Bin given bytes h = h
+so_far_first Json given bytes h = absurd h
 so_far_first Hex given bytes h = inl (h.0, h.1, h.2, h.3, h.5)
 
 pub whole_first : (form : Form) (kind : Kind) (given : List ℕ) (es : List EntryValue) → WholeItems form kind given es → FirstItems form kind given es
@@ -49,9 +51,6 @@ whole_first form kind given es h = record { bytes = h.bytes; says = so_far_first
 
 pub tells_prints : (job : Job) (given told : List ℕ) → Tells job given told → Prints job given told
 tells_prints job given told h = (h.0, whole_first job.from job.kind given h.0 h.1, h.2)
-
-pub ends_prints : (job : Job) (given told : List ℕ) (tally : Tally) → Ends job given told tally → Prints job given told
-ends_prints job given told tally h = (h.items, all_first job.from job.kind given h.items ended h.items_of, h.text)
 
 pub end_prints : (job : Job) (given told : List ℕ) (f : RunFault) → StopsAtEnd job given told f → Prints job given told
 end_prints job given told f (inl h) = h.1
@@ -69,6 +68,6 @@ fed_prints job job' given told Stands (Ok u) e tells ok err = tells_prints job g
 fed_prints job job' given told Stands (Err f) e tells ok err = stops_prints job given told f err.1
 
 -- whatever the end of the input does
-pub finished_prints : (job : Job) (given told : List ℕ) (r : Result Tally RunFault) → IfOk r (λ tally. Ends job given told tally) → IfErr r (λ e. IsOfEngine e × StopsAtEnd job given told e) → Prints job given told
-finished_prints job given told (Ok tally) ok err = ends_prints job given told tally ok
-finished_prints job given told (Err f) ok err = end_prints job given told f err.1
+pub finished_prints : (job : Job) (given told : List ℕ) (r : Result Tally RunFault) → IfOk r (λ tally. Ends job given told tally) → IfErr r (λ e. IsOfEngine e × StopsAtEnd job given told e) → Prints job given told ⊎ EndsWhole job given told
+finished_prints job given told (Ok tally) ok err = inr (tally, ok)
+finished_prints job given told (Err f) ok err = inl (end_prints job given told f err.1)

@@ -1,27 +1,23 @@
 -- What an engine tells is short.
-use Rattle.std.proofs.Common.{◌≡◌, ℕ, ◌+◌, ◌*◌, ◌<◌, ◌≤◌, ◌^◌, Bool, List, [], ◌∷◌, ◌++◌, length, Result, Ok, Err, subst, arith, length-append}
-use Rattle.std.specs.Prelude.{OnOk, IfErr}
+use Rattle.std.proofs.Common.{◌≡◌, ℕ, ◌+◌, ◌*◌, ◌<◌, ◌≤◌, ◌^◌, Bool, List, [], ◌∷◌, ◌++◌, length, Result, Ok, Err, ap, subst, arith, length-append}
+use Rattle.std.specs.Prelude.{OnOk, IfOk, IfErr}
 use Rattle.etcs_text.specs.declared.entry.Kind.{Kind}
 use Rattle.etcs_text.specs.Entries.{EntryValue}
-use Rattle.etcs_text.specs.TextLengths.{AreRead, items_short}
+use Rattle.etcs_stream.specs.Tellers.{nothing_told}
+use Rattle.etcs_stream.proofs.TellLengths.{are_read, items_short, last_short}
 use Rattle.etcs_stream.specs.declared.job.Job.{Job}
 use Rattle.etcs_stream.specs.declared.job.Tally.{Tally}
 use Rattle.etcs_stream.specs.declared.fault.RunFault.{RunFault}
 use Rattle.etcs_stream.specs.Faults.{IsOfEngine}
-use Rattle.etcs_stream.specs.Streams.{AreSpelled}
+use Rattle.etcs_stream.specs.Inputs.{ended, FirstItems}
 use Rattle.etcs_stream.specs.Engines.{Tells, Ends, Stops, StopsAtEnd, Prints}
-use Rattle.etcs_stream.proofs.Printing.{tells_prints, ends_prints, end_prints, stops_prints}
-
--- the items of a spelling have readings
-are_read : (kind : Kind) (es : List EntryValue) (b : List Bool) → AreSpelled kind es b → AreRead kind es
-are_read kind [] b h = tt
-are_read kind (e ∷ es) b h = (h.0, h.2, are_read kind es h.1 h.4)
+use Rattle.etcs_stream.proofs.Printing.{all_first, tells_prints, end_prints, stops_prints}
 
 module _ (job : Job) (given told text : List ℕ) where
   prints_short : Prints job given (told ++ text) → length told + length text < 2 ^ 62
   prints_short h =
-      let few : 1 + length h.0 ≤ 1000001 = omega (arith, h.1.few) in
-      let short = items_short job.command job.kind 1 h.0 (told ++ text) (are_read job.kind h.0 h.1.spelt h.1.are_spelled) few h.2 in
+      let few : nothing_told.count + length h.0 ≤ 1000000 = omega (arith, h.1.few) in
+      let short = items_short job.command job.kind nothing_told h.0 (told ++ text) h.2.0 (are_read job.kind h.0 h.1.spelt h.1.are_spelled) few h.2.1 in
       let bound : 2097152 * 1000000 < 2 ^ 62 = omega arith in
       omega (arith, short, h.1.few, bound, length-append told text)
 
@@ -35,9 +31,19 @@ module _ (job : Job) (given told text : List ℕ) where
   stop_short (Err e) f is err = prints_short (stops_prints job given (told ++ text) e err.1)
 
   -- at the end of the input
-  pub end_short : (tally : Tally) → Ends job given (told ++ text) tally → length told + length text < 2 ^ 62
-  end_short tally h = prints_short (ends_prints job given (told ++ text) tally h)
+  whole_short : (tally : Tally) → Ends job given (told ++ text) tally → length told + length text < 2 ^ 62
+  whole_short tally h =
+      let first : FirstItems job.from job.kind given h.items = all_first job.from job.kind given h.items ended h.items_of in
+      let few : nothing_told.count + length h.items ≤ 1000000 = omega (arith, first.few) in
+      let short = items_short job.command job.kind nothing_told h.items h.lines h.after (are_read job.kind h.items first.spelt first.are_spelled) few h.text in
+      let last = last_short job.command h.items h.lines h.after h.last tally h.text h.closes in
+      let bound : 2097152 * 1000000 + 2 ^ 40 < 2 ^ 62 = omega arith in
+      omega (arith, short, first.few, bound, last, length-append told text, ap length h.told_is, length-append h.lines h.last)
 
-  pub fault_short : (answer : Result Tally RunFault) (f : RunFault) → answer ≡ Err f → IfErr answer (λ e. IsOfEngine e × StopsAtEnd job given (told ++ text) e) → length told + length text < 2 ^ 62
+  pub fault_short : {A : Type 0} (answer : Result A RunFault) (f : RunFault) → answer ≡ Err f → IfErr answer (λ e. IsOfEngine e × StopsAtEnd job given (told ++ text) e) → length told + length text < 2 ^ 62
   fault_short (Ok tally) f is err = absurd cc
   fault_short (Err e) f is err = prints_short (end_prints job given (told ++ text) e err.1)
+
+  pub finished_short : (answer : Result Tally RunFault) → IfOk answer (λ tally. Ends job given (told ++ text) tally) → IfErr answer (λ e. IsOfEngine e × StopsAtEnd job given (told ++ text) e) → length told + length text < 2 ^ 62
+  finished_short (Ok tally) ok err = whole_short tally ok
+  finished_short (Err e) ok err = prints_short (end_prints job given (told ++ text) e err.1)

@@ -10,7 +10,8 @@ use Rattle.etcs_vars.specs.Walking.{Refuses}
 use Rattle.etcs_vars.proofs.Outcomes.{none_refused, refuses_longer}
 use Rattle.etcs_text.specs.declared.entry.Kind.{Kind}
 use Rattle.etcs_text.specs.Entries.{EntryValue, EntryReads}
-use Rattle.etcs_text.specs.Commands.{ItemsText}
+use Rattle.etcs_stream.specs.Told.{Told}
+use Rattle.etcs_stream.specs.Tellers.{TellsItems, ItemsText, nothing_told}
 use Rattle.etcs_stream.specs.declared.job.Job.{Job}
 use Rattle.etcs_stream.specs.declared.fault.RunFault.{RunFault}
 use Rattle.etcs_stream.specs.declared.fault.RunFault.TheVariants.{Refused, Truncated, BadHex, Read, Write, Endless, Memory}
@@ -23,7 +24,8 @@ use Rattle.etcs_stream.specs.Inputs.{End, ended, refused, truncated, bad_hex, en
 use Rattle.etcs_stream.specs.Engines.{EndsBy, Stops, StopsAtEnd}
 use Rattle.etcs_stream.proofs.ItemKinds.{Language, kind_regular}
 use Rattle.etcs_bits.proofs.ByteBits.{bits-append}
-use Rattle.etcs_stream.proofs.Streams.{AreSpelled-append, ItemsText-append}
+use Rattle.etcs_stream.proofs.Streams.{AreSpelled-append}
+use Rattle.etcs_stream.proofs.Tellings.{tells_append, tells_count}
 
 -- ---- Some bytes more.
 
@@ -35,7 +37,7 @@ pub record ItemsHalt (job : Job) (bytes told : List ℕ) (fault : RunFault) : Ty
   pub are_spelled : AreSpelled job.kind items spelt
   pub bits_are : bits bytes ≡ spelt ++ rest
   pub few : length items ≤ 1000000
-  pub text : ItemsText job.command 1 items told
+  pub text : ItemsText job.command items told
   pub why : HaltsBy job.kind (length items) rest fault
 
 more_bits : (bytes piece : List ℕ) (p seen q rest : List Bool) → bits bytes ≡ p ++ seen → seen ++ bits piece ≡ q ++ rest → bits (bytes ++ piece) ≡ (p ++ q) ++ rest
@@ -47,29 +49,28 @@ more_bits bytes piece p seen q rest h g =
     ∙ sym (append_assoc p q rest)
 
 -- the text of the items that were told, and of those behind them
-all_text : (job : Job) (ds es : List EntryValue) (told t added t' : List ℕ) (n : ℕ) → n ≡ length ds → ItemsText job.command 1 ds (told ++ t) → ItemsText job.command (n + 1) es added → t' ≡ t ++ added → ItemsText job.command 1 (ds ++ es) (told ++ t')
-all_text job ds es told t added t' n e h g is =
-    let from : n + 1 ≡ 1 + length ds = omega arith in
-    subst (λ z. ItemsText job.command 1 (ds ++ es) z) (append_assoc told t added ∙ ap (λ (z : List ℕ). told ++ z) (sym is))
-    (ItemsText-append job.command 1 ds es (told ++ t) added h (subst (λ k. ItemsText job.command k es added) from g))
+all_text : (job : Job) (s s' : Told) (ds es : List EntryValue) (told t added t' : List ℕ) → TellsItems job.command nothing_told ds (told ++ t) s → TellsItems job.command s es added s' → t' ≡ t ++ added → TellsItems job.command nothing_told (ds ++ es) (told ++ t') s'
+all_text job s s' ds es told t added t' h g is =
+    subst (λ z. TellsItems job.command nothing_told (ds ++ es) z s') (append_assoc told t added ∙ ap (λ (z : List ℕ). told ++ z) (sym is))
+    (tells_append job.command nothing_told s s' ds es (told ++ t) added h g)
 
-module _ (job : Job) (seen : List Bool) (count : ℕ) (bytes told t : List ℕ) (h : ItemsStand job seen count bytes (told ++ t)) (piece t' : List ℕ) where
-  pub stand_more : (seen' : List Bool) (count' : ℕ) → Advances job.kind job.command seen seen' count count' piece t t' → count' ≤ 1000000 → HasRoom count' seen' → NoneYet (Language job.kind) seen' → ItemsStand job seen' count' (bytes ++ piece) (told ++ t')
-  stand_more seen' count' g few room none = record {
+module _ (job : Job) (seen : List Bool) (s : Told) (bytes told t : List ℕ) (h : ItemsStand job seen s bytes (told ++ t)) (piece t' : List ℕ) where
+  pub stand_more : (seen' : List Bool) (s' : Told) → Advances job.kind job.command seen seen' s s' piece t t' → s'.count ≤ 1000000 → HasRoom s'.count seen' → NoneYet (Language job.kind) seen' → ItemsStand job seen' s' (bytes ++ piece) (told ++ t')
+  stand_more seen' s' g few room none = record {
     items = h.items ++ g.told;
     spelt = h.spelt ++ g.spelt;
     are_spelled = AreSpelled-append job.kind h.items g.told h.spelt g.spelt h.are_spelled g.are_spelled;
     bits_are = more_bits bytes piece h.spelt seen g.spelt seen' h.bits_are g.bits_are;
-    count_is = omega (arith, h.count_is, g.items_are, length-append h.items g.told);
+    count_is = omega (arith, h.count_is, tells_count job.command s g.told g.added s' g.added_is, length-append h.items g.told);
     few = few;
     room = room;
     none_more = none;
-    text = all_text job h.items g.told told t g.added t' count h.count_is h.text g.added_is g.text_is;
+    text = all_text job s s' h.items g.told told t g.added t' h.text g.added_is g.text_is;
   }
 
-  pub stand_halts : (fault : RunFault) → Halts job.kind job.command seen count piece t t' fault → ItemsHalt job (bytes ++ piece) (told ++ t') fault
+  pub stand_halts : (fault : RunFault) → Halts job.kind job.command seen s piece t t' fault → ItemsHalt job (bytes ++ piece) (told ++ t') fault
   stand_halts fault g =
-      let all : count + length g.told ≡ length (h.items ++ g.told) = omega (arith, h.count_is, length-append h.items g.told) in
+      let all : s.count + length g.told ≡ length (h.items ++ g.told) = omega (arith, h.count_is, length-append h.items g.told) in
       record {
         items = h.items ++ g.told;
         spelt = h.spelt ++ g.spelt;
@@ -77,24 +78,28 @@ module _ (job : Job) (seen : List Bool) (count : ℕ) (bytes told t : List ℕ) 
         are_spelled = AreSpelled-append job.kind h.items g.told h.spelt g.spelt h.are_spelled g.are_spelled;
         bits_are = more_bits bytes piece h.spelt seen g.spelt g.rest h.bits_are g.bits_are;
         few = omega (arith, all, g.few);
-        text = all_text job h.items g.told told t g.added t' count h.count_is h.text g.added_is g.text_is;
+        text = (g.after, all_text job s g.after h.items g.told told t g.added t' h.text g.added_is g.text_is);
         why = subst (λ n. HaltsBy job.kind n g.rest fault) all g.why;
       }
 
 -- nothing has come
-pub stand_nothing : (job : Job) (seen : List Bool) (count : ℕ) → seen ≡ [] → count ≡ 0 → NoneYet (Language job.kind) seen → ItemsStand job seen count [] []
+pub stand_nothing : (job : Job) (seen : List Bool) (s : Told) → seen ≡ [] → s ≡ nothing_told → NoneYet (Language job.kind) seen → ItemsStand job seen s [] []
 unfolding bits
-stand_nothing job seen count e n none = record {
+stand_nothing job seen s e n none = record {
   items = [];
   spelt = [];
   are_spelled = refl;
   bits_are = sym e;
-  count_is = n;
-  few = omega arith;
-  room = λ h. omega arith;
+  count_is = ap (λ (k : Told). k.count) n;
+  few = omega (arith, ap (λ (k : Told). k.count) n);
+  room = λ h. omega (arith, ap (λ (k : Told). k.count) n);
   none_more = none;
-  text = refl;
+  text = (refl, n);
 }
+
+-- the items that were told are the first of an input that says the bytes first
+pub stand_first : (job : Job) (seen : List Bool) (s : Told) (given bytes told : List ℕ) (h : ItemsStand job seen s bytes told) → SaysFirst job.from given bytes → FirstItems job.from job.kind given h.items
+stand_first job seen s given bytes told h says = record { bytes = bytes; says = says; spelt = h.spelt; rest = seen; are_spelled = h.are_spelled; bits_are = h.bits_are; few = omega (arith, h.few, h.count_is) }
 
 -- ---- The items end in each longer input.
 
@@ -191,7 +196,7 @@ halt_ends job given bytes told fault h says on =
 -- ---- The input ends here.
 
 -- it ends with its items, or inside one
-module _ (job : Job) (seen : List Bool) (count : ℕ) (bytes told : List ℕ) (h : ItemsStand job seen count bytes told) where
+module _ (job : Job) (seen : List Bool) (s : Told) (bytes told : List ℕ) (h : ItemsStand job seen s bytes told) where
   pub stand_ended : seen ≡ [] → BitItems job.kind (bits bytes) h.items ended
   stand_ended e = record { spelt = h.spelt; rest = seen; are_spelled = h.are_spelled; bits_are = h.bits_are; few = omega (arith, h.few, h.count_is); ends = e }
 

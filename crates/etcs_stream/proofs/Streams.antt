@@ -13,14 +13,16 @@ use Rattle.etcs_vars.specs.declared.feed.ReadFault.TheVariants.{Refused}
 use Rattle.etcs_vars.specs.Reading.{spelled, NoneYet, Viable}
 use Rattle.etcs_vars.specs.Walking.{Refuses}
 use Rattle.etcs_text.specs.declared.entry.Kind.{Kind}
-use Rattle.etcs_text.specs.declared.command.Command.{Command}
+use Rattle.etcs_stream.specs.declared.job.Command.{Command}
 use Rattle.etcs_text.specs.Entries.{EntryValue, EntryReads}
-use Rattle.etcs_text.specs.Commands.{ItemText, ItemsText}
+use Rattle.etcs_stream.specs.Told.{Told}
+use Rattle.etcs_stream.specs.Tellers.{TellsItem, TellsItems}
 use Rattle.etcs_stream.specs.declared.fault.RunFault.{RunFault}
 use Rattle.etcs_stream.specs.Readers.{ReaderValue, Stage, Feeds, Awaits, seen_bits, reading}
 use Rattle.etcs_stream.specs.Streams.{AreSpelled}
 use Rattle.etcs_stream.specs.Steps.{Advances, Halts, HaltsBy}
 use Rattle.etcs_stream.proofs.ItemKinds.{Language, item_bits, some_item}
+use Rattle.etcs_stream.proofs.Tellings.{tells_append, tells_count, tells_one}
 
 -- the bits of the first k bytes
 take-bits : (k : ℕ) (bytes : List ℕ) → k ≤ length bytes → take (8 * k) (bits bytes) ≡ bits (take k bytes)
@@ -32,13 +34,6 @@ pub AreSpelled-append : (kind : Kind) (ts us : List EntryValue) (a b : List Bool
 AreSpelled-append kind [] us a b h g = subst (AreSpelled kind us) (sym (ap (λ (t : List Bool). t ++ b) h)) g
 AreSpelled-append kind (t ∷ ts) us a b h g =
     (h.0, h.1 ++ b, h.2, ap (λ (z : List Bool). z ++ b) h.3 ∙ append_assoc (spelled h.0) h.1 b, AreSpelled-append kind ts us h.1 b h.4 g)
-
-pub ItemsText-append : (c : Command) (item : ℕ) (ds es : List EntryValue) (t u : List ℕ) → ItemsText c item ds t → ItemsText c (item + length ds) es u → ItemsText c item (ds ++ es) (t ++ u)
-ItemsText-append c item [] es t u h g =
-    subst (λ (z : List ℕ). ItemsText c item es (z ++ u)) (sym h) (subst (λ n. ItemsText c n es u) (add-zero item) g)
-ItemsText-append c item (d ∷ ds) es t u h g =
-    let e : item + length (d ∷ ds) ≡ item + 1 + length ds = omega arith in
-    (h.0, h.1 ++ u, ap (λ (z : List ℕ). z ++ u) h.2 ∙ append_assoc h.0 h.1 u, h.3, ItemsText-append c (item + 1) ds es h.1 u h.4 (subst (λ n. ItemsText c n es u) e g))
 
 -- no item is spelled by no bits
 pub nothing_is_spelled : (kind : Kind) → NoneYet (Language kind) []
@@ -59,12 +54,9 @@ Awaits-fresh kind r h =
 
 -- ---- one piece behind the other
 
-pub Advances-none : (kind : Kind) (c : Command) (seen : List Bool) (items : ℕ) (text : List ℕ) → Advances kind c seen seen items items [] text text
+pub Advances-none : (kind : Kind) (c : Command) (seen : List Bool) (s : Told) (text : List ℕ) → Advances kind c seen seen s s [] text text
 unfolding bits
-Advances-none kind c seen items text = record { told = []; spelt = []; added = []; are_spelled = refl; bits_are = append-nil seen; items_are = omega arith; added_is = refl; text_is = sym (append-nil text) }
-
-numbered : (c : Command) (i j n : ℕ) (es : List EntryValue) (t : List ℕ) → j ≡ i + n → ItemsText c (j + 1) es t → ItemsText c (i + 1 + n) es t
-numbered c i j n es t e h = subst (λ k. ItemsText c k es t) (let f : j + 1 ≡ i + 1 + n = omega arith in f) h
+Advances-none kind c seen s text = record { told = []; spelt = []; added = []; are_spelled = refl; bits_are = append-nil seen; added_is = (refl, refl); text_is = sym (append-nil text) }
 
 behind_bits : (a b c p q : List Bool) (xs ys : List ℕ) → a ++ bits xs ≡ p ++ b → b ++ bits ys ≡ q ++ c → a ++ bits (xs ++ ys) ≡ (p ++ q) ++ c
 behind_bits a b c p q xs ys h g =
@@ -78,22 +70,21 @@ behind_bits a b c p q xs ys h g =
 behind_text : (s t u x y : List ℕ) → t ≡ s ++ x → u ≡ t ++ y → u ≡ s ++ (x ++ y)
 behind_text s t u x y h g = g ∙ ap (λ (z : List ℕ). z ++ y) h ∙ append_assoc s x y
 
-module _ (kind : Kind) (command : Command) (a b : List Bool) (i j : ℕ) (xs ys s t u : List ℕ) (h : Advances kind command a b i j xs s t) where
-  pub Advances-then : (c : List Bool) (k : ℕ) → Advances kind command b c j k ys t u → Advances kind command a c i k (xs ++ ys) s u
+module _ (kind : Kind) (command : Command) (a b : List Bool) (i j : Told) (xs ys s t u : List ℕ) (h : Advances kind command a b i j xs s t) where
+  pub Advances-then : (c : List Bool) (k : Told) → Advances kind command b c j k ys t u → Advances kind command a c i k (xs ++ ys) s u
   Advances-then c k g = record {
     told = h.told ++ g.told;
     spelt = h.spelt ++ g.spelt;
     added = h.added ++ g.added;
     are_spelled = AreSpelled-append kind h.told g.told h.spelt g.spelt h.are_spelled g.are_spelled;
     bits_are = behind_bits a b c h.spelt g.spelt xs ys h.bits_are g.bits_are;
-    items_are = omega (arith, h.items_are, g.items_are, length-append h.told g.told);
-    added_is = ItemsText-append command (i + 1) h.told g.told h.added g.added h.added_is (numbered command i j (length h.told) g.told g.added h.items_are g.added_is);
+    added_is = tells_append command i j k h.told g.told h.added g.added h.added_is g.added_is;
     text_is = behind_text s t u h.added g.added h.text_is g.text_is;
   }
 
   pub Halts-then : (fault : RunFault) → Halts kind command b j ys t u fault → Halts kind command a i (xs ++ ys) s u fault
   Halts-then fault g =
-      let all : j + length g.told ≡ i + length (h.told ++ g.told) = omega (arith, h.items_are, length-append h.told g.told) in
+      let all : j.count + length g.told ≡ i.count + length (h.told ++ g.told) = omega (arith, tells_count command i h.told h.added j h.added_is, length-append h.told g.told) in
       record {
         told = h.told ++ g.told;
         spelt = h.spelt ++ g.spelt;
@@ -102,28 +93,30 @@ module _ (kind : Kind) (command : Command) (a b : List Bool) (i j : ℕ) (xs ys 
         are_spelled = AreSpelled-append kind h.told g.told h.spelt g.spelt h.are_spelled g.are_spelled;
         bits_are = behind_bits a b g.rest h.spelt g.spelt xs ys h.bits_are g.bits_are;
         few = omega (arith, all, g.few);
-        added_is = ItemsText-append command (i + 1) h.told g.told h.added g.added h.added_is (numbered command i j (length h.told) g.told g.added h.items_are g.added_is);
+        after = g.after;
+        added_is = tells_append command i j g.after h.told g.told h.added g.added h.added_is g.added_is;
         text_is = behind_text s t u h.added g.added h.text_is g.text_is;
         why = subst (λ n. HaltsBy kind n g.rest fault) all g.why;
       }
 
 -- it halts before any item is whole
-pub Halts-here : (kind : Kind) (c : Command) (seen : List Bool) (items : ℕ) (bytes text text' : List ℕ) (fault : RunFault) → items ≤ 1000000 → text' ≡ text → HaltsBy kind items (seen ++ bits bytes) fault → Halts kind c seen items bytes text text' fault
-Halts-here kind c seen items bytes text text' fault few same why = record {
+pub Halts-here : (kind : Kind) (c : Command) (seen : List Bool) (s : Told) (bytes text text' : List ℕ) (fault : RunFault) → s.count ≤ 1000000 → text' ≡ text → HaltsBy kind s.count (seen ++ bits bytes) fault → Halts kind c seen s bytes text text' fault
+Halts-here kind c seen s bytes text text' fault few same why = record {
   told = [];
   spelt = [];
   rest = seen ++ bits bytes;
   added = [];
   are_spelled = refl;
   bits_are = refl;
+  after = s;
   few = omega arith;
-  added_is = refl;
+  added_is = (refl, refl);
   text_is = same ∙ sym (append-nil text);
-  why = subst (λ n. HaltsBy kind n (seen ++ bits bytes) fault) (sym (add-zero items)) why;
+  why = subst (λ n. HaltsBy kind n (seen ++ bits bytes) fault) (sym (add-zero s.count)) why;
 }
 
 -- the same of one kind
-pub Advances-kind : {kind kind' : Kind} {c : Command} {a b : List Bool} {i j : ℕ} {bytes t u : List ℕ} → kind ≡ kind' → Advances kind c a b i j bytes t u → Advances kind' c a b i j bytes t u
+pub Advances-kind : {kind kind' : Kind} {c : Command} {a b : List Bool} {i j : Told} {bytes t u : List ℕ} → kind ≡ kind' → Advances kind c a b i j bytes t u → Advances kind' c a b i j bytes t u
 Advances-kind {c = c} {a = a} {b = b} {i = i} {j = j} {bytes = bytes} {t = t} {u = u} e h = subst (λ z. Advances z c a b i j bytes t u) e h
 
 -- one more front is taken off
@@ -152,16 +145,15 @@ more_awaits kind seen new r e f =
       viable = subst (λ z. Viable (Language kind) z) (sym all) f.1.1;
     }
 
-pub more_advances : (kind : Kind) (c : Command) (seen : List Bool) (bytes : List ℕ) (s : Stage) (items : ℕ) (text : List ℕ) → Feeds (EntryReads kind) seen (bits bytes) (Ok More) s → Advances kind c seen (seen_bits s) items items (take (length bytes) bytes) text text
-more_advances kind c seen bytes s items text f =
+pub more_advances : (kind : Kind) (c : Command) (seen : List Bool) (bytes : List ℕ) (s : Stage) (told : Told) (text : List ℕ) → Feeds (EntryReads kind) seen (bits bytes) (Ok More) s → Advances kind c seen (seen_bits s) told told (take (length bytes) bytes) text text
+more_advances kind c seen bytes s told text f =
     record {
       told = [];
       spelt = [];
       added = [];
       are_spelled = refl;
       bits_are = ap (λ (z : List ℕ). seen ++ bits z) (take_all (length bytes) bytes (omega arith)) ∙ sym (ap seen_bits f.0);
-      items_are = omega arith;
-      added_is = refl;
+      added_is = (refl, refl);
       text_is = sym (append-nil text);
     }
 
@@ -182,16 +174,15 @@ done_bits kind seen bytes k s f =
     ∙ sym (take-append-add seen (bits bytes) (8 * k))
     ∙ sym f.3.3
 
-pub done_advances : (kind : Kind) (c : Command) (seen seen' : List Bool) (bytes : List ℕ) (k : ℕ) (s : Stage) (i j : ℕ) (t u : List ℕ) (f : Feeds (EntryReads kind) seen (bits bytes) (Ok (Done k)) s) → seen' ≡ [] → j ≡ i + 1 → (added : List ℕ) × ItemText c f.0 (i + 1) added × (u ≡ t ++ added) → Advances kind c seen seen' i j (take k bytes) t u
-done_advances kind c seen seen' bytes k s i j t u f none next text =
+pub done_advances : (kind : Kind) (c : Command) (seen seen' : List Bool) (bytes : List ℕ) (k : ℕ) (s : Stage) (i j : Told) (t u : List ℕ) (f : Feeds (EntryReads kind) seen (bits bytes) (Ok (Done k)) s) → seen' ≡ [] → (added : List ℕ) × TellsItem c f.0 i added j × (u ≡ t ++ added) → Advances kind c seen seen' i j (take k bytes) t u
+done_advances kind c seen seen' bytes k s i j t u f none text =
     record {
       told = f.0 ∷ [];
       spelt = spelled f.3.1;
       added = text.0;
       are_spelled = (f.3.1, [], f.3.2, sym (append-nil (spelled f.3.1)), refl);
       bits_are = done_bits kind seen bytes k s f ∙ sym (append-nil (spelled f.3.1)) ∙ ap (λ (z : List Bool). spelled f.3.1 ++ z) (sym none);
-      items_are = next;
-      added_is = (text.0, [], sym (append-nil text.0), text.1, refl);
+      added_is = tells_one c i j f.0 text.0 text.1;
       text_is = text.2;
     }
 

@@ -1,7 +1,8 @@
 -- What a run tells of its input, by its job.
-use Rattle.std.specs.Prelude.{◌≡◌, ℕ, ◌+◌, true, List, ◌++◌, length, ◌⊎◌}
+use Rattle.std.specs.Prelude.{◌≡◌, ℕ, ◌+◌, List, ◌++◌, length, ◌⊎◌}
 use Rattle.etcs_text.specs.Entries.{EntryValue}
-use Rattle.etcs_text.specs.Commands.{ItemsText}
+use Rattle.etcs_stream.specs.Told.{Told}
+use Rattle.etcs_stream.specs.Tellers.{TellsItems, ItemsText, Closes, nothing_told}
 use Rattle.etcs_stream.specs.declared.job.Job.{Job}
 use Rattle.etcs_stream.specs.declared.job.Tally.{Tally}
 use Rattle.etcs_stream.specs.declared.fault.RunFault.{RunFault}
@@ -18,20 +19,27 @@ EndsBy n endless f = f ≡ Endless
 
 -- the text of the items that are whole in what is there of the input
 abbrev pub Tells : Job → List ℕ → List ℕ → Type 0
-Tells job given told = (es : List EntryValue) × WholeItems job.from job.kind given es × ItemsText job.command 1 es told
+Tells job given told = (es : List EntryValue) × WholeItems job.from job.kind given es × ItemsText job.command es told
 
 -- these bytes are a whole input of nothing but items, with this text and this tally
 pub record Ends (job : Job) (given told : List ℕ) (tally : Tally) : Type 0 where
   pub items : List EntryValue
   pub items_of : ItemsOf job.from job.kind given items ended
-  pub text : ItemsText job.command 1 items told
+  pub lines : List ℕ
+  pub last : List ℕ
+  pub after : Told
+  pub text : TellsItems job.command nothing_told items lines after
+  pub closes : Closes job.command after last tally
+  pub told_is : told ≡ lines ++ last
   pub items_are : tally.items ≡ length items
-  pub no_clash : tally.clashes ≡ 0
-  pub complete : tally.complete ≡ true
+
+-- and for some tally
+abbrev pub EndsWhole : Job → List ℕ → List ℕ → Type 0
+EndsWhole job given told = (tally : Tally) × Ends job given told tally
 
 -- the text of the first items of an input that begins so
 abbrev pub Prints : Job → List ℕ → List ℕ → Type 0
-Prints job given told = (es : List EntryValue) × FirstItems job.from job.kind given es × ItemsText job.command 1 es told
+Prints job given told = (es : List EntryValue) × FirstItems job.from job.kind given es × ItemsText job.command es told
 
 -- memory was refused behind such items
 abbrev pub Starves : Job → List ℕ → List ℕ → RunFault → Type 0
@@ -39,8 +47,8 @@ Starves job given told f = (f ≡ Memory) × Prints job given told
 
 -- each input that begins with these bytes ends by the fault, behind the items of this text; or memory was refused
 abbrev pub Stops : Job → List ℕ → List ℕ → RunFault → Type 0
-Stops job given told f = Starves job given told f ⊎ ((es : List EntryValue) × (end : End) × EndsBy (length es) end f × ItemsText job.command 1 es told × ((more : List ℕ) → ItemsOf job.from job.kind (given ++ more) es end))
+Stops job given told f = Starves job given told f ⊎ ((es : List EntryValue) × (end : End) × EndsBy (length es) end f × ItemsText job.command es told × ((more : List ℕ) → ItemsOf job.from job.kind (given ++ more) es end))
 
 -- the input of these bytes does
 abbrev pub StopsAtEnd : Job → List ℕ → List ℕ → RunFault → Type 0
-StopsAtEnd job given told f = Starves job given told f ⊎ ((es : List EntryValue) × (end : End) × EndsBy (length es) end f × ItemsText job.command 1 es told × ItemsOf job.from job.kind given es end)
+StopsAtEnd job given told f = Starves job given told f ⊎ ((es : List EntryValue) × (end : End) × EndsBy (length es) end f × ItemsText job.command es told × ItemsOf job.from job.kind given es end)

@@ -5,8 +5,8 @@ use Rattle.etcs_vars.specs.declared.var.Var.{Var}
 use Rattle.etcs_vars.specs.Reading as reading
 use Rattle.etcs_vars.specs.Reading.{IsOutcome, NoneYet, readings_of}
 use Rattle.etcs_text.specs.declared.entry.Kind.{Kind}
-use Rattle.etcs_text.specs.declared.command.Form.{Form}
-use Rattle.etcs_text.specs.declared.command.Form.TheVariants.{Hex, Bin}
+use Rattle.etcs_stream.specs.declared.job.Form.{Form}
+use Rattle.etcs_stream.specs.declared.job.Form.TheVariants.{Hex, Bin, Json}
 use Rattle.etcs_text.specs.Entries.{EntryValue, EntryReads}
 use Rattle.etcs_stream.specs.Lines.{bad_place, strip_cr, lines_text, lines_bytes, AreGood, IsHexText}
 use Rattle.etcs_stream.specs.Streams.{AreSpelled}
@@ -61,9 +61,10 @@ BadItems kind b es line place (truncated k) = ⊥
 BadItems kind b es line place (bad_hex l p) = (l ≡ line) × (p ≡ place) × (BitItems kind b es ended ⊎ ((k : ℕ) × BitItems kind b es (truncated k)))
 BadItems kind b es line place endless = BitItems kind b es endless
 
--- the items of an input of this form, and how it ends. A line is checked before any of its bytes is used
+-- the items of an input of this form, and how it ends. A line is checked before any of its bytes is used. JSON isn't read
 abbrev pub ItemsOf : Form → Kind → List ℕ → List EntryValue → End → Type 0
 ItemsOf Bin kind input es end = BitItems kind (bits input) es end
+ItemsOf Json kind input es end = ⊥
 ItemsOf Hex kind input es end =
     ((bytes : List ℕ) × IsHexText input bytes × BitItems kind (bits bytes) es end)
     ⊎ ((bytes : List ℕ) × (line : ℕ) × (place : ℕ) × IsBad input bytes line place × BadItems kind (bits bytes) es line place end)
@@ -73,6 +74,7 @@ ItemsOf Hex kind input es end =
 -- what is there of an input says these bytes: of lines, those that have a LF
 abbrev pub SaysSoFar : Form → List ℕ → List ℕ → Type 0
 SaysSoFar Bin given bytes = bytes ≡ given
+SaysSoFar Json given bytes = ⊥
 SaysSoFar Hex given bytes = (lines : List (List ℕ)) × (rest : List ℕ) × (given ≡ lines_text lines ++ rest) × AreGood lines × IsLine rest × (bytes ≡ lines_bytes lines)
 
 -- these are all items that are whole in what is there
@@ -89,6 +91,7 @@ pub record WholeItems (form : Form) (kind : Kind) (given : List ℕ) (es : List 
 -- some lines at its front say these bytes, the last of them perhaps without a LF
 abbrev pub SaysFirst : Form → List ℕ → List ℕ → Type 0
 SaysFirst Bin given bytes = bytes ≡ given
+SaysFirst Json given bytes = ⊥
 SaysFirst Hex given bytes = ((lines : List (List ℕ)) × (rest : List ℕ) × (given ≡ lines_text lines ++ rest) × AreGood lines × (bytes ≡ lines_bytes lines)) ⊎ IsHexText given bytes
 
 -- these are the first items of an input that begins so

@@ -3,6 +3,9 @@ pub mod Faults
 pub mod Lines
 pub mod Readers
 pub mod Streams
+pub mod Told
+pub mod Groups
+pub mod Tellers
 pub mod Steps
 pub mod Inputs
 pub mod Engines

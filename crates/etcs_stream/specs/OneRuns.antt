@@ -1,10 +1,10 @@
 -- What a run says of an input is said of one list of items, one end and one text.
 use Rattle.std.specs.Prelude.{◌≡◌, ℕ, List, ◌++◌}
 use Rattle.etcs_text.specs.declared.entry.Kind.{Kind}
-use Rattle.etcs_text.specs.declared.command.Command.{Command}
-use Rattle.etcs_text.specs.declared.command.Form.{Form}
+use Rattle.etcs_stream.specs.declared.job.Command.{Command}
+use Rattle.etcs_stream.specs.declared.job.Form.{Form}
 use Rattle.etcs_text.specs.Entries.{EntryValue}
-use Rattle.etcs_text.specs.Commands.{ItemsText}
+use Rattle.etcs_stream.specs.Tellers.{ItemsText}
 use Rattle.etcs_stream.specs.Inputs.{End, ItemsOf, WholeItems, FirstItems}
 
 -- an input has one list of items, and ends in one way
@@ -21,4 +21,4 @@ OneFront = (form : Form) (kind : Kind) (input : List ℕ) (es es' : List EntryVa
 
 -- items have one text
 abbrev pub OneText : Type 0
-OneText = (command : Command) (item : ℕ) (es : List EntryValue) (text text' : List ℕ) → ItemsText command item es text → ItemsText command item es text' → text ≡ text'
+OneText = (command : Command) (es : List EntryValue) (text text' : List ℕ) → ItemsText command es text → ItemsText command es text' → text ≡ text'

@@ -5,9 +5,8 @@ use Rattle.etcs_vars.specs.declared.feed.Fed.{Fed}
 use Rattle.etcs_vars.specs.declared.feed.Fed.TheVariants.{More, Done}
 use Rattle.etcs_vars.specs.declared.feed.ReadFault.{ReadFault}
 use Rattle.etcs_vars.specs.declared.feed.ReadFault.TheVariants.{Refused, Ended, Memory}
-use Rattle.etcs_telegram.specs.Telegrams.{telegram_value}
-use Rattle.etcs_telegram.specs.Readers as telegram
-use Rattle.etcs_rests.specs.Stages as message
+use Rattle.etcs_rests.specs.Stages as inner
+use Rattle.etcs_telegram.specs.Telegrams.{TelegramParts, telegram_value}
 use Rattle.etcs_radio.specs.declared.message.Content.{Content}
 use Rattle.etcs_radio.specs.Messages.{message_value}
 use Rattle.etcs_text.specs.declared.entry.Kind.{Kind}
@@ -26,24 +25,23 @@ pub record ReaderValue : Type 0 where
   pub kind : Kind
   pub stage : Stage
 
--- that of a reader of telegrams
-abbrev pub telegram_stage : telegram.Stage → Stage
-telegram_stage (telegram.reading b) = reading b
-telegram_stage (telegram.finished t) = finished (of_telegram (telegram_value t))
-telegram_stage (telegram.stopped i x) = stopped
-telegram_stage (telegram.starved n) = stopped
+-- that of the reader inside, each of whose values is an item
+abbrev pub stage_of : {V : Type 0} → (V → EntryValue) → inner.Stage V → Stage
+stage_of item (inner.reading b) = reading b
+stage_of item (inner.finished v) = finished (item v)
+stage_of item (inner.stopped i x) = stopped
+stage_of item (inner.starved n) = stopped
 
--- that of a reader of messages
-abbrev pub message_stage : message.Stage Content → Stage
-message_stage (message.reading b) = reading b
-message_stage (message.finished m) = finished (of_message (message_value m))
-message_stage (message.stopped i x) = stopped
-message_stage (message.starved n) = stopped
+abbrev pub telegram_item : TelegramParts → EntryValue
+telegram_item t = of_telegram (telegram_value t)
+
+abbrev pub message_item : Content → EntryValue
+message_item m = of_message (message_value m)
 
 -- the reader of a kind reads items of that kind alone
 abbrev pub value_of : Inner → ReaderValue
-value_of (Telegram r) = record { kind = kind_of r.size; stage = telegram_stage r.stage }
-value_of (Message s) = record { kind = Radio; stage = message_stage s }
+value_of (Telegram r) = record { kind = kind_of r.size; stage = stage_of telegram_item r.stage }
+value_of (Message s) = record { kind = Radio; stage = stage_of message_item s }
 
 -- the bits of an item that isn't whole yet
 abbrev pub seen_bits : Stage → List Bool

@@ -1,9 +1,10 @@
 //! The engine of bytes that are the items themselves.
 
 ghost use Rattle.std.specs.Prelude.{◌≡◌, []};
-ghost use Rattle.etcs_text.specs.declared.command.Form.TheVariants as form;
+ghost use Rattle.etcs_stream.specs.declared.job.Form.TheVariants as form;
 ghost use Rattle.etcs_stream.specs.Stands.{BinStands};
 ghost use Rattle.etcs_stream.specs.StandLaws.{bin_tells};
+ghost use Rattle.etcs_stream.specs.Tellers.{IsGroupable};
 
 use crate::engine::Engine;
 use crate::fault::RunFault;
@@ -20,9 +21,10 @@ pub(crate) struct Bin {
 impl Bin {
     /// Nothing has come yet.
     pub(crate) fn new(alloc: Global, job: Job) -> Bin
-        requires { job.from ≡ form.Bin }
+        requires form { job.from ≡ form.Bin }
+        requires groupable { IsGroupable job }
         ensures job { result.items.job ≡ job }
-        ensures stands { BinStands job result.items.reader result.items.told [] [] }
+        ensures stands { BinStands job result.items.reader result.items.teller [] [] }
     {
         Bin {
             items: Items::new(alloc, job),
@@ -33,20 +35,15 @@ impl Bin {
 impl Engine for Bin {
     ghost job = { λ s. s.items.job };
 
-    ghost stands = { λ s given told. BinStands s.items.job s.items.reader s.items.told given told };
+    ghost stands = { λ s given told. BinStands s.items.job s.items.reader s.items.teller given told };
 
     fn feed(&mut self, piece: &[u8], text: &mut Vec<u8>) -> Result<(), RunFault> {
         self.items.take_bytes(piece, text)
     }
 
-    fn finish(&mut self, _text: &mut Vec<u8>) -> Result<Tally, RunFault> {
-        self.items.finish()?;
-        Ok(Tally {
-            items: self.items.told,
-            clashes: 0,
-            complete: true,
-        })
+    fn finish(&mut self, text: &mut Vec<u8>) -> Result<Tally, RunFault> {
+        self.items.finish(text)
     }
 
-    ghost stands_tells = { λ s given told h. bin_tells s.items.job s.items.reader s.items.told given told h };
+    ghost stands_tells = { λ s given told h. bin_tells s.items.job s.items.reader s.items.teller given told h };
 }

@@ -1,16 +1,16 @@
 //! The items of bytes, one behind the other.
 
-ghost use Rattle.std.specs.Prelude.{◌≡◌, ◌+◌, ◌<◌, ◌≤◌, ◌++◌, ℕ, List, [], length, take, IfErr, IfOk, OnOk};
-ghost use Rattle.etcs_text.specs.Entries.{EntryValue};
-ghost use Rattle.etcs_text.specs.Commands.{ItemText};
+ghost use Rattle.std.specs.Prelude.{◌≡◌, ◌+◌, ◌<◌, ◌≤◌, ◌⊎◌, ◌++◌, ℕ, List, [], length, take, IfErr, IfOk, OnOk};
+ghost use Rattle.etcs_text.specs.Entries.{EntryValue, entry_kind};
 ghost use Rattle.etcs_stream.specs.declared.fault.RunFault.{RunFault};
 ghost use Rattle.etcs_stream.specs.Readers.{Awaits, HasRoom, seen_bits, reading, finished};
 ghost use Rattle.etcs_stream.specs.Steps.{Advances, Halts};
+ghost use Rattle.etcs_stream.specs.Tellers.{Closes, IsGroupable, TellsItem, nothing_told};
 
 use crate::entries::EntryReader;
 use crate::fault::RunFault;
-use crate::job::Job;
-use etcs_text::tell;
+use crate::job::{Job, Tally};
+use crate::teller::Teller;
 use etcs_vars::{Fed, ReadFault};
 use std::alloc::{AllocError, Global};
 use std::mem;
@@ -18,28 +18,30 @@ use std::mem;
 /// How many items a run has at most.
 const MOST_ITEMS: u64 = 1_000_000;
 
-/// The item that isn't whole yet, and how many were told.
+/// The item that isn't whole yet, and what was told.
 #[derive(Drop)]
 pub(crate) struct Items {
     alloc: Global,
     pub(crate) job: Job,
     pub(crate) reader: EntryReader,
-    pub(crate) told: u64,
+    pub(crate) teller: Teller,
+    ghost groupable: { IsGroupable job },
 }
 
 impl Items {
     /// Nothing was told, and nothing has come.
     pub(crate) fn new(alloc: Global, job: Job) -> Items
+        requires { IsGroupable job }
         ensures job { result.job ≡ job }
         ensures waits { Awaits job.kind result.reader }
         ensures seen { seen_bits result.reader.stage ≡ [] }
-        ensures told { result.told ≡ 0 }
+        ensures told { result.teller ≡ nothing_told }
     {
         Items {
             alloc,
             job,
             reader: EntryReader::new(alloc, job.kind),
-            told: 0,
+            teller: Teller::new(),
         }
     }
 
@@ -51,13 +53,13 @@ impl Items {
     /// `Memory`. The text of the items in front was appended.
     pub(crate) fn take_bytes(&mut self, bytes: &[u8], text: &mut Vec<u8>) -> Result<(), RunFault>
         requires waits { Awaits self.old.job.kind self.old.reader }
-        requires told { self.old.told ≤ 1000000 }
+        requires told { self.old.teller.count ≤ 1000000 }
         ensures job { self.new.job ≡ self.old.job }
         ensures waits { OnOk result (Awaits self.old.job.kind self.new.reader) }
-        ensures told { OnOk result (self.new.told ≤ 1000000) }
-        ensures room { HasRoom self.old.told (seen_bits self.old.reader.stage) → OnOk result (HasRoom self.new.told (seen_bits self.new.reader.stage)) }
-        ensures ok { OnOk result (Advances self.old.job.kind self.old.job.command (seen_bits self.old.reader.stage) (seen_bits self.new.reader.stage) self.old.told self.new.told bytes.now text.old.items text.new.items) }
-        ensures err { IfErr result (λ e. Halts self.old.job.kind self.old.job.command (seen_bits self.old.reader.stage) self.old.told bytes.now text.old.items text.new.items e) }
+        ensures told { OnOk result (self.new.teller.count ≤ 1000000) }
+        ensures room { HasRoom self.old.teller.count (seen_bits self.old.reader.stage) → OnOk result (HasRoom self.new.teller.count (seen_bits self.new.reader.stage)) }
+        ensures ok { OnOk result (Advances self.old.job.kind self.old.job.command (seen_bits self.old.reader.stage) (seen_bits self.new.reader.stage) self.old.teller self.new.teller bytes.now text.old.items text.new.items) }
+        ensures err { IfErr result (λ e. Halts self.old.job.kind self.old.job.command (seen_bits self.old.reader.stage) self.old.teller bytes.now text.old.items text.new.items e) }
     {
         let mut rest = bytes;
         while !rest.is_empty() {
@@ -67,25 +69,28 @@ impl Items {
         Ok(())
     }
 
-    /// The input ends here.
+    /// The input ends here: appends what the command writes then.
     ///
     /// # Errors
     ///
-    /// `Truncated` inside an item, with the number of its bits.
-    pub(crate) fn finish(&self) -> Result<(), RunFault>
+    /// `Truncated` inside an item, with the number of its bits; `Memory`. Nothing was appended.
+    pub(crate) fn finish(&self, text: &mut Vec<u8>) -> Result<Tally, RunFault>
         requires waits { Awaits self.now.job.kind self.now.reader }
-        requires told { self.now.told ≤ 1000000 }
-        ensures ok { OnOk result (seen_bits self.now.reader.stage ≡ []) }
-        ensures err { IfErr result (λ e. (e ≡ RunFault.Truncated (self.now.told + 1) (length (seen_bits self.now.reader.stage))) × (0 < length (seen_bits self.now.reader.stage))) }
+        requires told { self.now.teller.count ≤ 1000000 }
+        ensures whole { OnOk result (seen_bits self.now.reader.stage ≡ []) }
+        ensures ok { IfOk result (λ tally. (last : List ℕ) × Closes self.now.job.command self.now.teller last tally × (text.new.items ≡ text.old.items ++ last)) }
+        ensures err { IfErr result (λ e. (text.new.items ≡ text.old.items) × (((e ≡ RunFault.Truncated (self.now.teller.count + 1) (length (seen_bits self.now.reader.stage))) × (0 < length (seen_bits self.now.reader.stage))) ⊎ (e ≡ RunFault.Memory))) }
     {
         let bits = self.reader.bits_seen();
-        if bits == 0 {
-            Ok(())
-        } else {
-            Err(RunFault::Truncated {
-                item: self.told + 1,
+        if bits > 0 {
+            return Err(RunFault::Truncated {
+                item: self.teller.count() + 1,
                 bits: bits as u64,
-            })
+            });
+        }
+        match self.teller.close(self.job.command, text) {
+            Ok(tally) => Ok(tally),
+            Err(AllocError) => Err(RunFault::Memory),
         }
     }
 
@@ -93,17 +98,17 @@ impl Items {
     fn take_front(&mut self, bytes: &[u8], text: &mut Vec<u8>) -> Result<usize, RunFault>
         requires some { 0 < length bytes.now }
         requires waits { Awaits self.old.job.kind self.old.reader }
-        requires told { self.old.told ≤ 1000000 }
+        requires told { self.old.teller.count ≤ 1000000 }
         ensures some { IfOk result (λ n. 0 < n) }
         ensures within { IfOk result (λ n. n ≤ length bytes.now) }
         ensures job { self.new.job ≡ self.old.job }
         ensures waits { OnOk result (Awaits self.old.job.kind self.new.reader) }
-        ensures told { OnOk result (self.new.told ≤ 1000000) }
-        ensures room { OnOk result (HasRoom self.new.told (seen_bits self.new.reader.stage)) }
-        ensures ok { IfOk result (λ n. Advances self.old.job.kind self.old.job.command (seen_bits self.old.reader.stage) (seen_bits self.new.reader.stage) self.old.told self.new.told (take n bytes.now) text.old.items text.new.items) }
-        ensures err { IfErr result (λ e. Halts self.old.job.kind self.old.job.command (seen_bits self.old.reader.stage) self.old.told bytes.now text.old.items text.new.items e) }
+        ensures told { OnOk result (self.new.teller.count ≤ 1000000) }
+        ensures room { OnOk result (HasRoom self.new.teller.count (seen_bits self.new.reader.stage)) }
+        ensures ok { IfOk result (λ n. Advances self.old.job.kind self.old.job.command (seen_bits self.old.reader.stage) (seen_bits self.new.reader.stage) self.old.teller self.new.teller (take n bytes.now) text.old.items text.new.items) }
+        ensures err { IfErr result (λ e. Halts self.old.job.kind self.old.job.command (seen_bits self.old.reader.stage) self.old.teller bytes.now text.old.items text.new.items e) }
     {
-        if self.told == MOST_ITEMS {
+        if self.teller.count() == MOST_ITEMS {
             return Err(RunFault::Endless);
         }
         match self.reader.feed(bytes) {
@@ -113,7 +118,7 @@ impl Items {
                 Ok(taken)
             }
             Err(ReadFault::Refused { bit, var }) => Err(RunFault::Refused {
-                item: self.told + 1,
+                item: self.teller.count() + 1,
                 bit,
                 var,
             }),
@@ -124,12 +129,12 @@ impl Items {
 
     /// Appends the text of the whole item, and begins the next.
     fn tell(&mut self, text: &mut Vec<u8>) -> Result<(), RunFault>
-        requires whole { (e : EntryValue) × (self.old.reader.stage ≡ finished e) }
-        requires told { self.old.told < 1000000 }
+        requires whole { (e : EntryValue) × (self.old.reader.stage ≡ finished e) × (entry_kind e ≡ self.old.job.kind) }
+        requires told { self.old.teller.count < 1000000 }
         ensures job { self.new.job ≡ self.old.job }
         ensures next { OnOk result (self.new.reader ≡ record { kind = self.old.job.kind; stage = reading [] }) }
-        ensures told { OnOk result (self.new.told ≡ self.old.told + 1) }
-        ensures ok { (e : EntryValue) → self.old.reader.stage ≡ finished e → OnOk result ((added : List ℕ) × ItemText self.old.job.command e (self.old.told + 1) added × (text.new.items ≡ text.old.items ++ added)) }
+        ensures told { OnOk result (self.new.teller.count ≡ self.old.teller.count + 1) }
+        ensures ok { (e : EntryValue) → self.old.reader.stage ≡ finished e → OnOk result ((added : List ℕ) × TellsItem self.old.job.command e self.old.teller added self.new.teller × (text.new.items ≡ text.old.items ++ added)) }
         ensures err { IfErr result (λ e. (e ≡ RunFault.Memory) × (text.new.items ≡ text.old.items)) }
     {
         let next = EntryReader::new(self.alloc, self.job.kind);
@@ -138,11 +143,8 @@ impl Items {
             Ok(entry) => entry,
             Err(()) => unreachable!(),
         };
-        match tell(self.job.command, &entry, self.told + 1, text) {
-            Ok(()) => {
-                self.told += 1;
-                Ok(())
-            }
+        match self.teller.tell(self.job.command, entry, text) {
+            Ok(()) => Ok(()),
             Err(AllocError) => Err(RunFault::Memory),
         }
     }

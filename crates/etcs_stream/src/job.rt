@@ -1,6 +1,31 @@
 //! What the program is asked to do, and what it answers.
 
-use etcs_text::{Command, Form, Kind};
+use etcs_text::Kind;
+
+/// The form of items.
+#[derive(Clone, Copy, Debug, PartialEq, Eq)]
+pub enum Form {
+    /// Lines of hexadecimal digits.
+    Hex,
+    /// The bytes themselves.
+    Bin,
+    /// A line of JSON each.
+    Json,
+}
+
+/// What is done with the items.
+#[derive(Clone, Copy, Debug, PartialEq, Eq)]
+pub enum Command {
+    /// Each item is written as lines of text.
+    Show,
+    /// Each item is written as a line that says that it was accepted.
+    Check,
+    /// Each item is written in this form.
+    Convert(Form),
+    /// The items are the telegrams of a balise group, in any order: of each a line says what it is to those before it,
+    /// and at the end the message of the group is written, or which positions are missing.
+    Group,
+}
 
 /// One run.
 #[derive(Clone, Copy, Debug, PartialEq, Eq)]
@@ -18,8 +43,8 @@ pub struct Job {
 pub struct Tally {
     /// How many items were told.
     pub items: u64,
-    /// How many items of a group contradict each other: 0 where nothing is grouped.
+    /// How many telegrams of a group clash with those before them: 0 where nothing is grouped.
     pub clashes: u64,
-    /// Whether each group is whole: true where nothing is grouped.
+    /// Whether the group is whole: true where nothing is grouped.
     pub complete: bool,
 }

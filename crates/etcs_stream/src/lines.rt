@@ -1,7 +1,7 @@
 //! Cuts text into lines of hexadecimal, and gives their bytes to the items.
 
 ghost use Rattle.std.specs.Prelude.{◌≡◌, ◌+◌, ◌-◌, ◌^◌, ◌<◌, ◌≤◌, ◌⊎◌, ◌++◌, ◌∷◌, ℕ, [], None, Some, length, vec_len, IfSome, IfErr, OnOk, IsNone};
-ghost use Rattle.etcs_text.specs.declared.command.Form.TheVariants as form;
+ghost use Rattle.etcs_stream.specs.declared.job.Form.TheVariants as form;
 ghost use Rattle.etcs_stream.specs.declared.fault.RunFault.{RunFault};
 ghost use Rattle.etcs_stream.specs.Inputs.{IsLine};
 ghost use Rattle.etcs_stream.specs.Lines.{bad_place, line_bytes, strip_cr};
@@ -9,6 +9,7 @@ ghost use Rattle.etcs_stream.specs.Readers.{Awaits, HasRoom, seen_bits};
 ghost use Rattle.etcs_stream.specs.Steps.{Advances, Halts};
 ghost use Rattle.etcs_stream.specs.Stands.{HexStands};
 ghost use Rattle.etcs_stream.specs.StandLaws.{hex_tells};
+ghost use Rattle.etcs_stream.specs.Tellers.{IsGroupable};
 
 use crate::digits::{MOST_CHARACTERS, decode_line};
 use crate::engine::Engine;
@@ -58,14 +59,14 @@ fn take_line(
     text: &mut Vec<u8>,
 ) -> Result<(), RunFault>
     requires waits { Awaits items.old.job.kind items.old.reader }
-    requires told { items.old.told ≤ 1000000 }
+    requires told { items.old.teller.count ≤ 1000000 }
     ensures job { items.new.job ≡ items.old.job }
     ensures good { OnOk result (bad_place line.now ≡ None) }
     ensures waits { OnOk result (Awaits items.old.job.kind items.new.reader) }
-    ensures told { OnOk result (items.new.told ≤ 1000000) }
-    ensures room { HasRoom items.old.told (seen_bits items.old.reader.stage) → OnOk result (HasRoom items.new.told (seen_bits items.new.reader.stage)) }
-    ensures ok { OnOk result (Advances items.old.job.kind items.old.job.command (seen_bits items.old.reader.stage) (seen_bits items.new.reader.stage) items.old.told items.new.told (line_bytes line.now) text.old.items text.new.items) }
-    ensures err { IfErr result (λ e. ((place : ℕ) × (bad_place line.now ≡ Some place) × (e ≡ RunFault.BadHex number place) × (text.new.items ≡ text.old.items)) ⊎ ((bad_place line.now ≡ None) × Halts items.old.job.kind items.old.job.command (seen_bits items.old.reader.stage) items.old.told (line_bytes line.now) text.old.items text.new.items e)) }
+    ensures told { OnOk result (items.new.teller.count ≤ 1000000) }
+    ensures room { HasRoom items.old.teller.count (seen_bits items.old.reader.stage) → OnOk result (HasRoom items.new.teller.count (seen_bits items.new.reader.stage)) }
+    ensures ok { OnOk result (Advances items.old.job.kind items.old.job.command (seen_bits items.old.reader.stage) (seen_bits items.new.reader.stage) items.old.teller items.new.teller (line_bytes line.now) text.old.items text.new.items) }
+    ensures err { IfErr result (λ e. ((place : ℕ) × (bad_place line.now ≡ Some place) × (e ≡ RunFault.BadHex number place) × (text.new.items ≡ text.old.items)) ⊎ ((bad_place line.now ≡ None) × Halts items.old.job.kind items.old.job.command (seen_bits items.old.reader.stage) items.old.teller (line_bytes line.now) text.old.items text.new.items e)) }
 {
     if line.is_empty() {
         return Ok(());
@@ -83,9 +84,10 @@ fn take_line(
 impl Lines {
     /// Nothing has come yet.
     pub(crate) fn new(alloc: Global, job: Job) -> Lines
-        requires { job.from ≡ form.Hex }
+        requires form { job.from ≡ form.Hex }
+        requires groupable { IsGroupable job }
         ensures job { result.items.job ≡ job }
-        ensures stands { HexStands job result.items.reader result.items.told result.kept.items result.line [] [] }
+        ensures stands { HexStands job result.items.reader result.items.teller result.kept.items result.line [] [] }
     {
         Lines {
             kept: Vec::new(alloc),
@@ -118,16 +120,16 @@ impl Lines {
     fn end_line(&mut self, text: &mut Vec<u8>) -> Result<(), RunFault>
         requires line { self.old.line < 2 ^ 64 - 1 }
         requires waits { Awaits self.old.items.job.kind self.old.items.reader }
-        requires told { self.old.items.told ≤ 1000000 }
+        requires told { self.old.items.teller.count ≤ 1000000 }
         ensures job { self.new.items.job ≡ self.old.items.job }
         ensures good { OnOk result (bad_place (strip_cr self.old.kept.items) ≡ None) }
         ensures kept { OnOk result (self.new.kept.items ≡ []) }
         ensures line { OnOk result (self.new.line ≡ self.old.line + 1) }
         ensures waits { OnOk result (Awaits self.old.items.job.kind self.new.items.reader) }
-        ensures told { OnOk result (self.new.items.told ≤ 1000000) }
-        ensures room { HasRoom self.old.items.told (seen_bits self.old.items.reader.stage) → OnOk result (HasRoom self.new.items.told (seen_bits self.new.items.reader.stage)) }
-        ensures ok { OnOk result (Advances self.old.items.job.kind self.old.items.job.command (seen_bits self.old.items.reader.stage) (seen_bits self.new.items.reader.stage) self.old.items.told self.new.items.told (line_bytes (strip_cr self.old.kept.items)) text.old.items text.new.items) }
-        ensures err { IfErr result (λ e. ((place : ℕ) × (bad_place (strip_cr self.old.kept.items) ≡ Some place) × (e ≡ RunFault.BadHex (self.old.line + 1) place) × (text.new.items ≡ text.old.items)) ⊎ ((bad_place (strip_cr self.old.kept.items) ≡ None) × Halts self.old.items.job.kind self.old.items.job.command (seen_bits self.old.items.reader.stage) self.old.items.told (line_bytes (strip_cr self.old.kept.items)) text.old.items text.new.items e)) }
+        ensures told { OnOk result (self.new.items.teller.count ≤ 1000000) }
+        ensures room { HasRoom self.old.items.teller.count (seen_bits self.old.items.reader.stage) → OnOk result (HasRoom self.new.items.teller.count (seen_bits self.new.items.reader.stage)) }
+        ensures ok { OnOk result (Advances self.old.items.job.kind self.old.items.job.command (seen_bits self.old.items.reader.stage) (seen_bits self.new.items.reader.stage) self.old.items.teller self.new.items.teller (line_bytes (strip_cr self.old.kept.items)) text.old.items text.new.items) }
+        ensures err { IfErr result (λ e. ((place : ℕ) × (bad_place (strip_cr self.old.kept.items) ≡ Some place) × (e ≡ RunFault.BadHex (self.old.line + 1) place) × (text.new.items ≡ text.old.items)) ⊎ ((bad_place (strip_cr self.old.kept.items) ≡ None) × Halts self.old.items.job.kind self.old.items.job.command (seen_bits self.old.items.reader.stage) self.old.items.teller (line_bytes (strip_cr self.old.kept.items)) text.old.items text.new.items e)) }
     {
         self.line += 1;
         take_line(
@@ -144,7 +146,7 @@ impl Lines {
 impl Engine for Lines {
     ghost job = { λ s. s.items.job };
 
-    ghost stands = { λ s given told. HexStands s.items.job s.items.reader s.items.told s.kept.items s.line given told };
+    ghost stands = { λ s given told. HexStands s.items.job s.items.reader s.items.teller s.kept.items s.line given told };
 
     fn feed(&mut self, piece: &[u8], text: &mut Vec<u8>) -> Result<(), RunFault> {
         let mut rest = piece;
@@ -158,13 +160,8 @@ impl Engine for Lines {
 
     fn finish(&mut self, text: &mut Vec<u8>) -> Result<Tally, RunFault> {
         take_line(&mut self.items, self.kept.as_slice(), self.line + 1, text)?;
-        self.items.finish()?;
-        Ok(Tally {
-            items: self.items.told,
-            clashes: 0,
-            complete: true,
-        })
+        self.items.finish(text)
     }
 
-    ghost stands_tells = { λ s given told h. hex_tells s.items.job s.items.reader s.items.told s.kept.items s.line given told h };
+    ghost stands_tells = { λ s given told h. hex_tells s.items.job s.items.reader s.items.teller s.kept.items s.line given told h };
 }

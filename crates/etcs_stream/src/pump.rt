@@ -4,7 +4,7 @@ ghost use Rattle.std.specs.Prelude.{◌≡◌, ◌+◌, ◌^◌, ◌<◌, ◌≤
 ghost use Rattle.std.specs.Io.KnownBytes.{Appends, IsAtEnd};
 ghost use Rattle.etcs_stream.specs.declared.fault.RunFault.{RunFault};
 ghost use Rattle.etcs_stream.specs.Faults.{IsOfEngine};
-ghost use Rattle.etcs_stream.specs.Engines.{Tells, Ends, Stops, StopsAtEnd, Prints};
+ghost use Rattle.etcs_stream.specs.Engines.{Tells, Ends, EndsWhole, Stops, StopsAtEnd, Prints};
 ghost use Rattle.etcs_stream.specs.Pipes.{Piped, PipedFirst};
 ghost use Rattle.etcs_stream.specs.Passes.{Stopped, Broken};
 
@@ -75,7 +75,7 @@ fn close<E: Engine, W: Sink>(
     requires stands { (given : List ℕ) × (told : List ℕ) × E.stands engine.old given told × (length given < 2 ^ 40) × (sent.old ≡ length told) }
     requires failures { W.failures sink.old < 2 ^ 63 }
     ensures ok { (given told : List ℕ) → E.stands engine.old given told → sent.old ≡ length told → IfOk result (λ tally. Ends (E.job engine.old) given (told ++ text.new.items) tally × Appends (W.contents sink.old) (W.contents sink.new) text.new.items × (W.failures sink.new ≡ W.failures sink.old)) }
-    ensures err { (given told : List ℕ) → E.stands engine.old given told → sent.old ≡ length told → IfErr result (λ e. Stopped (StopsAtEnd (E.job engine.old) given) told text.new.items (W.contents sink.old) (W.contents sink.new) e ⊎ Broken (Prints (E.job engine.old) given) told text.new.items (W.contents sink.old) (W.contents sink.new) (W.failures sink.old) (W.failures sink.new) e) }
+    ensures err { (given told : List ℕ) → E.stands engine.old given told → sent.old ≡ length told → IfErr result (λ e. Stopped (StopsAtEnd (E.job engine.old) given) told text.new.items (W.contents sink.old) (W.contents sink.new) e ⊎ Broken (λ t. Prints (E.job engine.old) given t ⊎ EndsWhole (E.job engine.old) given t) told text.new.items (W.contents sink.old) (W.contents sink.new) (W.failures sink.old) (W.failures sink.new) e) }
     ensures counts { W.failures sink.new ≤ W.failures sink.old + 1 }
 {
     text.clear();
@@ -109,7 +109,7 @@ pub(crate) fn run_engine<E: Engine, S: Source, W: Sink>(
     ensures at_end { OnOk result (IsAtEnd (S.remaining source.new) × (S.failures source.new ≡ S.failures source.old) × (W.failures sink.new ≡ W.failures sink.old)) }
     ensures engine { IfErr result (λ e. IsOfEngine e → Piped (λ given told. Stops (E.job engine.old) given told e ⊎ ((IsAtEnd (S.remaining source.new) × StopsAtEnd (E.job engine.old) given told e) ⊎ ((e ≡ RunFault.Endless) × (S.reads source.new ≡ S.reads source.old + 16000000) × (16000000 ≤ length given) × Tells (E.job engine.old) given told))) (S.remaining source.old) (S.remaining source.new) (W.contents sink.old) (W.contents sink.new)) }
     ensures read { result ≡ Err RunFault.Read → Piped (Tells (E.job engine.old)) (S.remaining source.old) (S.remaining source.new) (W.contents sink.old) (W.contents sink.new) × (S.failures source.new ≡ S.failures source.old + 1) }
-    ensures write { (n : ℕ) → result ≡ Err (RunFault.Write n) → PipedFirst n (Prints (E.job engine.old)) (S.remaining source.old) (S.remaining source.new) (W.contents sink.old) (W.contents sink.new) × (W.failures sink.new ≡ W.failures sink.old + 1) }
+    ensures write { (n : ℕ) → result ≡ Err (RunFault.Write n) → PipedFirst n (λ given told. Prints (E.job engine.old) given told ⊎ (IsAtEnd (S.remaining source.new) × EndsWhole (E.job engine.old) given told)) (S.remaining source.old) (S.remaining source.new) (W.contents sink.old) (W.contents sink.new) × (W.failures sink.new ≡ W.failures sink.old + 1) }
     ensures counts { W.failures sink.new ≤ W.failures sink.old + 1 }
     ensures reads { S.reads source.new ≤ S.reads source.old + 16000000 }
     ensures read_counts { S.failures source.new ≤ S.failures source.old + 1 }

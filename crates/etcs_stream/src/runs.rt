@@ -4,19 +4,20 @@ ghost use Rattle.std.specs.Prelude.{◌≡◌, ◌+◌, ◌^◌, ◌<◌, ◌≤
 ghost use Rattle.std.specs.Io.KnownBytes.{IsAtEnd};
 ghost use Rattle.etcs_stream.specs.declared.fault.RunFault.{RunFault};
 ghost use Rattle.etcs_stream.specs.Faults.{IsOfEngine};
-ghost use Rattle.etcs_stream.specs.Engines.{Tells, Ends, Stops, StopsAtEnd, Prints};
+ghost use Rattle.etcs_stream.specs.Engines.{Tells, Ends, EndsWhole, Stops, StopsAtEnd, Prints};
+ghost use Rattle.etcs_stream.specs.Tellers.{IsRunnable};
 ghost use Rattle.etcs_stream.specs.Pipes.{Piped, PipedFirst};
 
 use crate::bin::Bin;
 use crate::ends::{Sink, Source};
 use crate::fault::RunFault;
-use crate::job::{Job, Tally};
+use crate::job::{Form, Job, Tally};
 use crate::lines::Lines;
 use crate::pump::run_engine;
-use etcs_text::Form;
 use std::alloc::Global;
 
-/// Does the job: reads the items of the input, which are one behind the other, and writes of each what the command
+/// Does the job, which doesn't read JSON and groups no messages: reads the items of the input, which are one behind the
+/// other, and writes of each what the command
 /// says, once it is whole. A line's end doesn't end an item.
 ///
 /// # Errors
@@ -30,6 +31,7 @@ pub fn run<S: Source, W: Sink>(
     source: &mut S,
     sink: &mut W,
 ) -> Result<Tally, RunFault>
+    requires runnable { IsRunnable job }
     requires reads { S.reads source.old < 2 ^ 63 }
     requires read_failures { S.failures source.old < 2 ^ 63 }
     requires write_failures { W.failures sink.old < 2 ^ 63 }
@@ -37,7 +39,7 @@ pub fn run<S: Source, W: Sink>(
     ensures at_end { OnOk result (IsAtEnd (S.remaining source.new) × (S.failures source.new ≡ S.failures source.old) × (W.failures sink.new ≡ W.failures sink.old)) }
     ensures engine { IfErr result (λ e. IsOfEngine e → Piped (λ given told. Stops job given told e ⊎ ((IsAtEnd (S.remaining source.new) × StopsAtEnd job given told e) ⊎ ((e ≡ RunFault.Endless) × (S.reads source.new ≡ S.reads source.old + 16000000) × (16000000 ≤ length given) × Tells job given told))) (S.remaining source.old) (S.remaining source.new) (W.contents sink.old) (W.contents sink.new)) }
     ensures read { result ≡ Err RunFault.Read → Piped (Tells job) (S.remaining source.old) (S.remaining source.new) (W.contents sink.old) (W.contents sink.new) × (S.failures source.new ≡ S.failures source.old + 1) }
-    ensures write { (n : ℕ) → result ≡ Err (RunFault.Write n) → PipedFirst n (Prints job) (S.remaining source.old) (S.remaining source.new) (W.contents sink.old) (W.contents sink.new) × (W.failures sink.new ≡ W.failures sink.old + 1) }
+    ensures write { (n : ℕ) → result ≡ Err (RunFault.Write n) → PipedFirst n (λ given told. Prints job given told ⊎ (IsAtEnd (S.remaining source.new) × EndsWhole job given told)) (S.remaining source.old) (S.remaining source.new) (W.contents sink.old) (W.contents sink.new) × (W.failures sink.new ≡ W.failures sink.old + 1) }
     ensures counts { W.failures sink.new ≤ W.failures sink.old + 1 }
     ensures reads { S.reads source.new ≤ S.reads source.old + 16000000 }
     ensures read_counts { S.failures source.new ≤ S.failures source.old + 1 }
@@ -45,5 +47,6 @@ pub fn run<S: Source, W: Sink>(
     match job.from {
         Form::Hex => run_engine(&mut Lines::new(alloc, job), alloc, source, sink),
         Form::Bin => run_engine(&mut Bin::new(alloc, job), alloc, source, sink),
+        Form::Json => unreachable!(),
     }
 }

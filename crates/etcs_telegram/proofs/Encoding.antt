@@ -1,8 +1,7 @@
 -- Bits written one behind the other.
-use Rattle.std.proofs.Common.{◌≡◌, ℕ, ◌+◌, ◌-◌, ◌*◌, ◌^◌, ◌<◌, ◌≤◌, Bool, false, List, [], ◌∷◌, ◌++◌, length, take, drop, get_or, refl, sym, ap, ◌∙◌, arith, append_assoc, append-nil, length-append}
+use Rattle.std.proofs.Common.{◌≡◌, ℕ, ◌+◌, ◌-◌, ◌*◌, ◌<◌, ◌≤◌, Bool, false, List, [], ◌∷◌, ◌++◌, length, take, drop, get_or, refl, sym, ap, ◌∙◌, arith, append_assoc, append-nil, length-append}
 use Rattle.std.specs.Prelude.{replicate}
 use Rattle.std.proofs.lemmas.List.{take_at, drop_at, length-take, length-drop, take-append-drop, drop-drop, drop_more, drop_all, take_all}
-use Rattle.std.proofs.Math.Seq.{drop-append-add}
 use Rattle.etcs_bits.specs.Bits.{num, bits, replaced}
 use Rattle.etcs_bits.proofs.Numbers.{length-num}
 use Rattle.etcs_bits.proofs.Positions.{length-bits}
@@ -10,26 +9,19 @@ use Rattle.etcs_vars.specs.declared.var.Var.{Var}
 use Rattle.etcs_vars.specs.declared.var.Var.TheVariants.{FILL, PAD}
 use Rattle.etcs_vars.specs.Vars.{width}
 use Rattle.etcs_vars.specs.Reading.{Reading, spelled, numbers, kept}
-use Rattle.etcs_vars.proofs.Prefixes.{admits_parts}
 use Rattle.etcs_vars.proofs.Walk.{spelled-append}
 use Rattle.etcs_rows.specs.declared.frames.Carrier.TheVariants as carrier
 use Rattle.etcs_packets.specs.PacketValues.{PacketValue}
 use Rattle.etcs_packets.specs.PacketReadings.{packets_reading}
 use Rattle.etcs_container.specs.Contents.{closing}
+use Rattle.etcs_rests.specs.Labels.{labelled}
+use Rattle.etcs_rests.specs.BitLaws.{bits_spelled}
+use Rattle.etcs_writing.proofs.Parts.{put_next, five_written}
 use Rattle.etcs_telegram.specs.declared.size.Size.{Size}
 use Rattle.etcs_telegram.specs.declared.size.Size.TheVariants.{Short, Long}
 use Rattle.etcs_telegram.specs.Telegrams.{HeaderParts, TelegramParts, TelegramValue, TelegramReads, IsTelegram, telegram_value, header_row, header_reading, closed_reading, user_bits, pad_bits, packet_room, container_bytes}
-use Rattle.etcs_telegram.specs.Headers.{labelled}
 use Rattle.etcs_telegram.specs.Writing.{Written, telegram_reading}
 use Rattle.etcs_telegram.proofs.HeaderLemmas.{header_length}
-use Rattle.etcs_telegram.proofs.Spellings.{spelled-kept}
-
--- bits that replace those behind a front
-pub put_next : (at : ℕ) (front new b : List Bool) → at ≡ length front → replaced at new (front ++ b) ≡ (front ++ new) ++ drop (length new) b
-put_next at front new b e =
-    let first : take at (front ++ b) ≡ front = take_at front b at (sym e) in
-    let behind : drop (at + length new) (front ++ b) ≡ drop (length new) b = ap (λ (k : ℕ). drop (k + length new) (front ++ b)) e ∙ drop-append-add front b (length new) in
-    rw (first, behind) refl
 
 -- a part of a list, from its front and what is behind
 take_by : (all new rest : List Bool) (at : ℕ) → at ≤ length all → drop at all ≡ new ++ rest → all ≡ (take at all ++ new) ++ rest
@@ -49,9 +41,6 @@ module _ (all before : List Bool) (v : Var) (n : ℕ) (rest : Reading) (at : ℕ
   written_inside =
       let e : length now ≡ length (take at all) + length (drop at before) = ap length w.stands ∙ length-append (take at all) (drop at before) in
       omega (arith, e, lengths, w.room, length-take at all, length-drop at before)
-
-  pub written_fits : n < 2 ^ width v
-  written_fits = (admits_parts v n w.admitted.0).1
 
   pub written_more : (next : List Bool) → next ≡ replaced at (num (width v) n) now → Written all before rest (at + width v) next
   written_more next e =
@@ -150,32 +139,13 @@ telegram_bits t =
     let z = kept PAD (replicate (pad_bits t.size) false) in
     let head = spelled h in
     let packets = spelled (packets_reading t.packets) in
-    let fill : spelled f ≡ t.fill = spelled-kept FILL t.fill refl in
-    let zeros : spelled z ≡ num (pad_bits t.size) 0 = spelled-kept PAD (replicate (pad_bits t.size) false) refl ∙ sym (zero_bits t.size) in
+    let fill : spelled f ≡ t.fill = bits_spelled FILL t.fill refl in
+    let zeros : spelled z ≡ num (pad_bits t.size) 0 = bits_spelled PAD (replicate (pad_bits t.size) false) refl ∙ sym (zero_bits t.size) in
     let first : spelled (h ++ c) ≡ (head ++ packets) ++ num 8 255 =
     spelled-append h c ∙ ap (λ (b : List Bool). head ++ b) (closed_spelled t.packets) ∙ sym (append_assoc head packets (num 8 255)) in
     let second : spelled ((h ++ c) ++ f) ≡ ((head ++ packets) ++ num 8 255) ++ t.fill =
     spelled-append (h ++ c) f ∙ ap (λ (b : List Bool). b ++ spelled f) first ∙ ap (λ (b : List Bool). ((head ++ packets) ++ num 8 255) ++ b) fill in
     spelled-append ((h ++ c) ++ f) z ∙ ap (λ (b : List Bool). b ++ spelled z) second ∙ ap (λ (b : List Bool). (((head ++ packets) ++ num 8 255) ++ t.fill) ++ b) zeros
-
--- five parts, each written behind the one before
-all_written : (h p n f z b b1 b2 b3 b4 b5 : List Bool) (i j k l : ℕ) → i ≡ length h → j ≡ i + length p → k ≡ j + length n → l ≡ k + length f → length b ≡ l + length z → b1 ≡ replaced 0 h b → b2 ≡ replaced i p b1 → b3 ≡ replaced j n b2 → b4 ≡ replaced k f b3 → b5 ≡ replaced l z b4 → b5 ≡ (((h ++ p) ++ n) ++ f) ++ z
-all_written h p n f z b b1 b2 b3 b4 b5 i j k l ei ej ek el size e1 e2 e3 e4 e5 =
-    let r1 = drop (length h) b in
-    let r2 = drop (length p) r1 in
-    let r3 = drop (length n) r2 in
-    let r4 = drop (length f) r3 in
-    let l2 : j ≡ length (h ++ p) = omega (arith, ei, ej, length-append h p) in
-    let l3 : k ≡ length ((h ++ p) ++ n) = omega (arith, l2, ek, length-append (h ++ p) n) in
-    let l4 : l ≡ length (((h ++ p) ++ n) ++ f) = omega (arith, l3, el, length-append ((h ++ p) ++ n) f) in
-    let s1 : b1 ≡ h ++ r1 = e1 ∙ put_next 0 [] h b refl in
-    let s2 : b2 ≡ (h ++ p) ++ r2 = e2 ∙ ap (replaced i p) s1 ∙ put_next i h p r1 ei in
-    let s3 : b3 ≡ ((h ++ p) ++ n) ++ r3 = e3 ∙ ap (replaced j n) s2 ∙ put_next j (h ++ p) n r2 l2 in
-    let s4 : b4 ≡ (((h ++ p) ++ n) ++ f) ++ r4 = e4 ∙ ap (replaced k f) s3 ∙ put_next k ((h ++ p) ++ n) f r3 l3 in
-    let s5 : b5 ≡ ((((h ++ p) ++ n) ++ f) ++ z) ++ drop (length z) r4 = e5 ∙ ap (replaced l z) s4 ∙ put_next l (((h ++ p) ++ n) ++ f) z r4 l4 in
-    let left : length r4 ≤ length z = omega (arith, length-drop (length f) r3, length-drop (length n) r2, length-drop (length p) r1, length-drop (length h) b, ei, ej, ek, el, size) in
-    let none : drop (length z) r4 ≡ [] = drop_all (length z) r4 left in
-    s5 ∙ ap (λ (s : List Bool). ((((h ++ p) ++ n) ++ f) ++ z) ++ s) none ∙ append-nil ((((h ++ p) ++ n) ++ f) ++ z)
 
 -- packets, packet 255 and FILL end at the user bits
 pub user_end : (t : TelegramValue) (end : ℕ) → TelegramReads t (telegram_reading t) → end ≡ 50 + length (spelled (packets_reading t.packets)) → user_bits t.size ≡ end + 8 + length t.fill
@@ -186,5 +156,5 @@ telegram_written t end b b1 b2 b3 b4 b5 reads size e e1 e2 e3 e4 e5 =
     let pad = num (pad_bits t.size) 0 in
     let nid : end + 8 ≡ end + length (num 8 255) = ap (λ (k : ℕ). end + k) (sym (length-num 8 255)) in
     let whole : length b ≡ user_bits t.size + length pad = size ∙ ap (λ (k : ℕ). user_bits t.size + k) (sym (length-num (pad_bits t.size) 0)) in
-    all_written (spelled (header_reading t.header)) (spelled (packets_reading t.packets)) (num 8 255) t.fill pad b b1 b2 b3 b4 b5 50 end (end + 8) (user_bits t.size) (sym (header_length t.header)) e nid (user_end t end reads e) whole e1 e2 e3 e4 e5
+    five_written (spelled (header_reading t.header)) (spelled (packets_reading t.packets)) (num 8 255) t.fill pad b b1 b2 b3 b4 b5 50 end (end + 8) (user_bits t.size) (sym (header_length t.header)) e nid (user_end t end reads e) whole e1 e2 e3 e4 e5
     ∙ sym (telegram_bits t)

@@ -1,17 +1,17 @@
 -- What a header's reading is: admitted, 50 bits long, and one for each header.
-use Rattle.std.proofs.Common.{◌≡◌, ℕ, ◌+◌, Bool, true, false, [], ◌∷◌, length, Option, Some, None, refl, sym, ap, ◌∙◌, length-append}
+use Rattle.std.proofs.Common.{◌≡◌, ℕ, Bool, true, false, [], ◌∷◌, length, Option, Some, None, refl, sym, ap, ◌∙◌}
 use Rattle.std.specs.Prelude.{IsTrue, if◌then◌else◌}
-use Rattle.etcs_bits.specs.Bits.{num, bit}
-use Rattle.etcs_bits.proofs.Numbers.{length-num}
+use Rattle.etcs_bits.specs.Bits.{bit}
 use Rattle.etcs_vars.specs.declared.var.Var.{Var}
 use Rattle.etcs_vars.specs.declared.fault.BuildFault.{BuildFault}
 use Rattle.etcs_vars.specs.declared.fault.BuildFault.TheVariants.{NotAdmitted}
 use Rattle.etcs_vars.specs.declared.var.Var.TheVariants.{M_VERSION_HEADER, N_PIG, N_TOTAL, M_DUP, M_MCOUNT, NID_C, NID_BG, Q_LINK}
-use Rattle.etcs_vars.specs.Vars.{width, admits}
+use Rattle.etcs_vars.specs.Vars.{admits}
 use Rattle.etcs_vars.specs.Faults.{◌or_else◌, number_fault}
 use Rattle.etcs_vars.specs.Reading.{Reading, spelled, numbers}
 use Rattle.etcs_vars.proofs.Apart.{AllFit}
 use Rattle.etcs_vars.proofs.Prefixes.{admits_parts}
+use Rattle.etcs_rests.specs.LabelLaws.{length-widths}
 use Rattle.etcs_telegram.specs.Telegrams.{HeaderParts, header_reading, header_of, IsAdmitted}
 use Rattle.etcs_telegram.specs.Headers.{header_fault}
 
@@ -76,17 +76,8 @@ pub admitted_fit : (r : Reading) → IsAdmitted r → AllFit r
 admitted_fit [] h = tt
 admitted_fit (p ∷ r) h = ((admits_parts p.0 p.1 h.0).1, admitted_fit r h.1)
 
--- how many bits a reading takes
-abbrev pub bit_count : Reading → ℕ
-bit_count [] = 0
-bit_count (p ∷ r) = width p.0 + bit_count r
-
-pub length-spelled : (r : Reading) → length (spelled r) ≡ bit_count r
-length-spelled [] = refl
-length-spelled (p ∷ r) = length-append (num (width p.0) p.1) (spelled r) ∙ rw (length-num, length-spelled r) refl
-
 pub header_length : (h : HeaderParts) → length (spelled (header_reading h)) ≡ 50
-header_length h = length-spelled (header_reading h)
+header_length h = length-widths (header_reading h)
 
 link_back : (b : Bool) (h : HeaderParts) → h.q_link ≡ b → header_of (numbers (header_reading h)) ≡ h
 link_back true h e = rw e refl

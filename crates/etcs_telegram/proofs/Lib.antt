@@ -17,10 +17,6 @@ pub mod SameReadings
 pub mod Viewing
 pub mod Examples
 pub mod SoFar
-pub mod Nexts
-pub mod Asking
-pub mod Passes
-pub mod Dones
-pub mod Feeding
+pub mod Reading
 pub mod Holding
 pub mod OneHolding

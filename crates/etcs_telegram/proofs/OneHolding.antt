@@ -1,20 +1,16 @@
 -- What a reader holds between two pieces is told by the bits that it has seen.
-use Rattle.std.proofs.Common.{◌≡◌, ℕ, zero, suc, ◌+◌, ◌^◌, ◌<◌, Bool, false, List, [], ◌∷◌, ◌++◌, length, Some, None, refl, sym, ap, subst, ◌∙◌, arith, append_assoc, length-append, inl, inr}
+use Rattle.std.proofs.Common.{◌≡◌, ℕ, zero, suc, ◌+◌, ◌<◌, Bool, false, List, [], ◌∷◌, ◌++◌, length, Some, None, refl, sym, ap, subst, ◌∙◌, arith, append_assoc, length-append, inl, inr}
 use Rattle.std.specs.Prelude.{replicate, map, All, is_some, Option, IsTrue, if◌then◌else◌, ◌≤◌}
 use Rattle.std.proofs.lemmas.List.Elements.{All-head, All-tail}
-use Rattle.etcs_bits.specs.Bits.{num}
-use Rattle.etcs_bits.proofs.Numbers.{length-num, num_same}
 use Rattle.etcs_vars.specs.declared.var.Var.{Var}
 use Rattle.etcs_vars.specs.declared.var.Var.TheVariants.{NID_PACKET, NID_VBCMK, Q_DIR, L_PACKET, OTHER_DATA, FILL, PAD}
-use Rattle.etcs_vars.specs.Vars.{width}
-use Rattle.etcs_vars.specs.Reading.{Sent, Reading, spelled, numbers, kept}
+use Rattle.etcs_vars.specs.Reading.{Reading, spelled, numbers, kept}
 use Rattle.etcs_vars.proofs.Apart.{cut, Agree-cut}
 use Rattle.etcs_rows.specs.declared.row.Way.TheVariants.{ToTrain}
 use Rattle.etcs_rows.specs.Layouts.{Layout}
 use Rattle.etcs_rows.specs.Rows.{row_to}
 use Rattle.etcs_rows.specs.Frames.{is_kept}
 use Rattle.etcs_rows.proofs.LengthLemmas.{length-spelled}
-use Rattle.etcs_vars.proofs.Sent.{length-sent}
 use Rattle.etcs_packets.specs.declared.packet.Packet.{Packet}
 use Rattle.etcs_packets.specs.PacketValues as packets
 use Rattle.etcs_packets.specs.PacketValues.{PacketValue, packet_value, IsPacket}
@@ -24,35 +20,12 @@ use Rattle.etcs_container.specs.Runs.{Begun, BegunFrame, BegunRow, BegunKept}
 use Rattle.etcs_container.proofs.Others.{kept_untyped}
 use Rattle.etcs_container.proofs.Agreement.{packet_agree, numbered}
 use Rattle.etcs_container.proofs.OneSpelling.{packet_same}
-use Rattle.etcs_telegram.specs.Telegrams.{header_row, closed_reading}
-use Rattle.etcs_telegram.specs.Headers.{labelled}
-use Rattle.etcs_telegram.specs.Holdings.{Members, OneHolding}
-use Rattle.etcs_telegram.proofs.Finished.{numbers_labelled}
-use Rattle.etcs_telegram.proofs.Spellings.{kept_same}
-
--- ---- The whole variables are the most that stand.
-
-sent_parts : (v w : Var) (n m : ℕ) (r s : Reading) → ◌≡◌ {A = Reading} ((v, n) ∷ r) ((w, m) ∷ s) → (v ≡ w) × (n ≡ m) × (r ≡ s)
-sent_parts v w n m r s e =
-    let head : ◌≡◌ {A = Sent} (v, n) (w, m) = cc in
-    let rest : r ≡ s = cc in
-    (ap (λ (u : Sent). u.0) head, ap (λ (u : Sent). u.1) head, rest)
-
--- a variable that isn't whole begins no whole one
-part_below : (x v : Var) (n m : ℕ) (q a t : Reading) (taken more : ℕ) → ◌≡◌ {A = Reading} ((x, n) ∷ q) ((v, m) ∷ t) → taken ≡ length (spelled ((v, m) ∷ a)) + more → taken < width x → ⊥
-part_below x v n m q a t taken more e l s =
-    let wide = ap width (sent_parts x v n m q t e).0 in
-    omega (arith, l, s, wide, length-sent v m a)
-
-fronts_same : (a b : Reading) (x y : Var) (n m : ℕ) (q r : Reading) (taken taken' : ℕ) → a ++ (x, n) ∷ q ≡ b ++ (y, m) ∷ r → length (spelled a) + taken ≡ length (spelled b) + taken' → taken < width x → taken' < width y → a ≡ b
-fronts_same [] [] x y n m q r taken taken' e l s t = refl
-fronts_same [] ((v, k) ∷ b) x y n m q r taken taken' e l s t = absurd (part_below x v n k q b (b ++ (y, m) ∷ r) taken taken' e (omega (arith, l)) s)
-fronts_same ((v, k) ∷ a) [] x y n m q r taken taken' e l s t = absurd (part_below y v m k r a (a ++ (x, n) ∷ q) taken' taken (sym e) (omega (arith, l)) t)
-fronts_same ((v, k) ∷ a) ((w, i) ∷ b) x y n m q r taken taken' e l s t =
-    let (v_is, k_is, rest) = sent_parts v w k i (a ++ (x, n) ∷ q) (b ++ (y, m) ∷ r) e in
-    let wide = ap width v_is in
-    let f = fronts_same a b x y n m q r taken taken' rest (omega (arith, l, wide, length-sent v k a, length-sent w i b)) s t in
-    rw (v_is, k_is, f) refl
+use Rattle.etcs_rests.specs.Labels.{labelled}
+use Rattle.etcs_rests.specs.LabelLaws.{labelled_count}
+use Rattle.etcs_rests.specs.BitLaws.{bits_known}
+use Rattle.etcs_rests.proofs.OneHolding.{sent_parts, one_held}
+use Rattle.etcs_telegram.specs.Telegrams.{header_row, closed_reading, TelegramLanguage}
+use Rattle.etcs_telegram.specs.Readers.{Standing, Members, OneHolding}
 
 -- ---- What stands behind whole packets.
 
@@ -152,7 +125,7 @@ rows_known r f g (nid, dir, n, q, is, same, less, typed) (nid', dir', n', q', is
 
 kept_known : (r : Reading) (k l : List Bool) → BegunKept r k → BegunKept r l → k ≡ l
 kept_known r k l (nid, dir, n, is, less, other) (nid', dir', n', is', less', other') =
-    kept_same OTHER_DATA k l (frame_parts nid nid' dir dir' n n' (kept OTHER_DATA k) (kept OTHER_DATA l) (sym is ∙ is')).2
+    bits_known OTHER_DATA k l (frame_parts nid nid' dir dir' n n' (kept OTHER_DATA k) (kept OTHER_DATA l) (sym is ∙ is')).2
 
 row_kept : (r : Reading) (f : List ℕ) (k : List Bool) → BegunRow r f → BegunKept r k → ⊥
 row_kept r f k (nid, dir, n, q, is, same, less, typed) (nid', dir', n', is', less', other) =
@@ -183,7 +156,7 @@ fills_known (b ∷ k) [] i (suc j) e = let s = sent_parts FILL PAD (if b then 1 
 fills_known (b ∷ k) (c ∷ l) i j e =
     let s = sent_parts FILL FILL (if b then 1 else 0) (if c then 1 else 0) (kept FILL k ++ kept PAD (replicate i false)) (kept FILL l ++ kept PAD (replicate j false)) e in
     let first : ◌≡◌ {A = Reading} (kept FILL (b ∷ [])) (kept FILL (c ∷ [])) = ap (λ (n : ℕ). let r : Reading = (FILL, n) ∷ [] in r) s.1 in
-    let same = kept_same FILL (b ∷ []) (c ∷ []) first in
+    let same = bits_known FILL (b ∷ []) (c ∷ []) first in
     let rest = fills_known k l i j s.2 in
     cc
 
@@ -219,20 +192,20 @@ labelled_most (v ∷ vs) (n ∷ ns) = omega (arith, labelled_most vs ns)
 header_apart : (far : Reading) (some all : List ℕ) (t : Reading) → far ≡ labelled header_row some → length some < 10 → far ≡ labelled header_row all ++ t → length all ≡ 10 → ⊥
 header_apart far some all t e less e' ten =
     let same = ap (λ (u : Reading). length u) (sym e ∙ e') in
-    omega (arith, less, ten, same, labelled_most header_row some, length-append (labelled header_row all) t, (numbers_labelled header_row all ten).1)
+    omega (arith, less, ten, same, labelled_most header_row some, length-append (labelled header_row all) t, labelled_count header_row all ten)
 
 behind_known : (far : Reading) (h h' : List ℕ) (t t' : Reading) → far ≡ labelled header_row h ++ t → length h ≡ 10 → far ≡ labelled header_row h' ++ t' → length h' ≡ 10 → t ≡ t'
 behind_known far h h' t t' e ten e' ten' =
-    let long = (numbers_labelled header_row h ten).1 in
-    let long' = (numbers_labelled header_row h' ten').1 in
-    (cut (labelled header_row h) (labelled header_row h') t t' (long ∙ ten ∙ sym ten' ∙ sym long') (sym e ∙ e')).1
+    let long = labelled_count header_row h ten in
+    let long' = labelled_count header_row h' ten' in
+    (cut (labelled header_row h) (labelled header_row h') t t' (long ∙ sym long') (sym e ∙ e')).1
 
 -- ---- All that is held.
 
 closed_is : (vs : List PacketValue) (k : List Bool) (zeros : ℕ) → closed_reading vs ++ (kept FILL k ++ kept PAD (replicate zeros false)) ≡ packets_reading vs ++ filled k zeros
 closed_is vs k zeros = append_assoc (packets_reading vs) ((NID_PACKET, 255) ∷ []) (kept FILL k ++ kept PAD (replicate zeros false))
 
-members_known : (far : Reading) (ps qs : List Packet) (f g : List ℕ) (k l : List Bool) → All IsPacket (map packet_value ps) → All IsPacket (map packet_value qs) → Members far ps f k → Members far qs g l → (map packet_value ps ≡ map packet_value qs) × (f ≡ g) × (k ≡ l)
+members_known : (far : Reading) (ps qs : List Packet) (f g : List ℕ) (k l : List Bool) → All IsPacket (map packet_value ps) → All IsPacket (map packet_value qs) → Standing ps f k far → Standing qs g l far → (map packet_value ps ≡ map packet_value qs) × (f ≡ g) × (k ≡ l)
 members_known far ps qs f g k l hp hq (inl (h, e, less, a, b, c)) (inl (h', e', less', a', b', c')) = (ap (map packet_value) (a ∙ sym a'), b ∙ sym b', c ∙ sym c')
 members_known far ps qs f g k l hp hq (inl (h, e, less, a, b, c)) (inr (inl (h', r, ten, e', begun))) = absurd (header_apart far h h' (packets_reading (map packet_value qs) ++ r) e less e' ten)
 members_known far ps qs f g k l hp hq (inl (h, e, less, a, b, c)) (inr (inr (h', z, ten, e', none))) = absurd (header_apart far h h' (closed_reading (map packet_value qs) ++ (kept FILL l ++ kept PAD (replicate z false))) e less e' ten)
@@ -269,16 +242,8 @@ members_known far ps qs f g k l hp hq (inr (inr (h, z, ten, e, none))) (inr (inr
 
 pub one_holding : OneHolding
 one_holding size b ps qs f g k l part part' taken taken' h i =
-    let (r, c, lang, e) = h.owned.viable in
-    let (n, q, whole) = h.begins r c lang e in
-    let (m, q', whole') = i.begins r c lang e in
-    let bits = sym h.bits ∙ i.bits in
-    let long = ap (λ (u : List Bool). length u) bits in
-    let lengths : length (spelled h.far) + taken ≡ length (spelled i.far) + taken' = omega (arith, long, length-append (spelled h.far) (num taken part), length-append (spelled i.far) (num taken' part'), length-num taken part, length-num taken' part') in
-    let far = fronts_same h.far i.far h.next i.next n m q q' taken taken' (sym whole ∙ whole') lengths h.short i.short in
-    let front = ap (λ (u : Reading). length (spelled u)) far in
-    let count : taken ≡ taken' = omega (arith, lengths, front) in
-    let bit = (cut (spelled h.far) (spelled i.far) (num taken part) (num taken' part') front bits).1 in
-    let number = num_same taken part part' h.fits (subst (λ (j : ℕ). part' < 2 ^ j) (sym count) i.fits) (bit ∙ ap (λ (j : ℕ). num j part') (sym count)) in
-    let parts = members_known i.far ps qs f g k l h.packets i.packets (subst (λ (u : Reading). Members u ps f k) far h.members) i.members in
-    (one_list ps qs h.made i.made parts.0, parts.1, parts.2, number, count)
+    let (far, number, count) = one_held (TelegramLanguage size) (Members ps f k) (Members qs g l) b part part' taken taken' h i in
+    let (stand, made, carried) = h.members in
+    let (stand', made', carried') = i.members in
+    let parts = members_known i.far ps qs f g k l carried carried' (subst (Standing ps f k) far stand) stand' in
+    (one_list ps qs made made' parts.0, parts.1, parts.2, number, count)

@@ -13,28 +13,21 @@ use Rattle.etcs_reader.specs.Rests.{Starts, Goes}
 use Rattle.etcs_reader.specs.Fields.{first_of}
 use Rattle.etcs_rests.specs.declared.left.PacketsLeft.{PacketsLeft}
 use Rattle.etcs_rests.specs.declared.stage.Stage.TheVariants as stage
+use Rattle.etcs_rests.specs.Labels.{labelled}
+use Rattle.etcs_rests.specs.LabelLaws.{labelled_more}
 use Rattle.etcs_rests.specs.Lefts.{left_of, is_closed, HoldsAt, Moved}
+use Rattle.etcs_rests.specs.BitLaws.{bits_append}
+use Rattle.etcs_rests.specs.StageLaws.{closed_stage}
 use Rattle.etcs_telegram.specs.declared.size.Size.{Size}
 use Rattle.etcs_telegram.specs.declared.phase.Phase.{Phase}
 use Rattle.etcs_telegram.specs.declared.phase.Phase.TheVariants.{Header, Packets, Fill, Pad, Whole}
 use Rattle.etcs_telegram.specs.Telegrams.{header_row, pad_bits, closed_reading}
-use Rattle.etcs_telegram.specs.Headers.{labelled}
 use Rattle.etcs_telegram.specs.Phases.{after, after_fill}
 use Rattle.etcs_telegram.specs.Lefts.{left_at, next_at, stands_at, behind_packets, FillFits, Filled, HoldsIn, Follows}
 use Rattle.etcs_telegram.proofs.PhaseSteps.{by_test, below_false, below_true}
-use Rattle.etcs_telegram.proofs.RestSteps.{bits_append, closed_stage, header_behind, packets_behind, fill_behind, pad_behind, header_parts, packets_parts}
+use Rattle.etcs_telegram.proofs.RestSteps.{header_behind, packets_behind, fill_behind, pad_behind, header_parts, packets_parts}
 
 -- ---- The header.
-
-labelled_none : (vs : List Var) → labelled vs [] ≡ []
-labelled_none [] = refl
-labelled_none (v ∷ vs) = refl
-
-labelled_more : (vs : List Var) (ns : List ℕ) (x : Var) (n : ℕ) → first_of (drop (length ns) vs) ≡ Some x → labelled vs (ns ++ n ∷ []) ≡ labelled vs ns ++ (x, n) ∷ []
-labelled_more [] [] x n e = absurd cc
-labelled_more [] (m ∷ ns) x n e = absurd cc
-labelled_more (v ∷ vs) [] x n e = let same : v ≡ x = cc in rw (same, labelled_none vs) refl
-labelled_more (v ∷ vs) (m ∷ ns) x n e = ap (λ (t : Reading). (v, m) ∷ t) (labelled_more vs ns x n e)
 
 header_held : (size : Size) (at : ℕ) (header : List ℕ) (l : PacketsLeft) (holds : List PacketValue → List ℕ → List Bool → Type 0) (x : Var) (n : ℕ) (q : Reading)
     → length header ≡ at → next_at (Header at) l ≡ Some x → HoldsIn size (Header at) header l holds q → HoldsIn size (after size (Header at)) (header ++ n ∷ []) l holds (q ++ (x, n) ∷ [])

@@ -1,22 +1,17 @@
 -- Rows of variables, kept bits, and why telegrams of one size agree.
-use Rattle.std.proofs.Common.{◌≡◌, ℕ, ◌+◌, Bool, true, List, [], ◌∷◌, ◌++◌, length, refl, ◌∙◌, arith, length-append}
+use Rattle.std.proofs.Common.{◌≡◌, ℕ, true, List, [], ◌∷◌, refl, arith}
 use Rattle.std.specs.Prelude.{map, IsTrue, ◌==◌}
 use Rattle.std.proofs.lemmas.Bool.Decides.{nat_tests}
-use Rattle.std.proofs.lemmas.List.{map-append}
-use Rattle.etcs_bits.proofs.Numbers.{length-num, bit-eqb}
-use Rattle.etcs_bits.specs.Bits.{num, bit}
+use Rattle.etcs_bits.proofs.Numbers.{bit-eqb}
+use Rattle.etcs_bits.specs.Bits.{bit}
 use Rattle.etcs_vars.specs.declared.var.Var.{Var}
 use Rattle.etcs_vars.specs.declared.var.Var.TheVariants.{Q_UPDOWN, Q_MEDIA, Q_LINK}
-use Rattle.etcs_vars.specs.Vars.{width, admits, inside, ranges}
-use Rattle.etcs_vars.specs.Reading.{Reading, spelled, numbers, kept}
-use Rattle.etcs_vars.proofs.Prefixes.{admits_parts, admits_from, some_number}
+use Rattle.etcs_vars.specs.Vars.{admits, inside, ranges}
+use Rattle.etcs_vars.specs.Reading.{Reading, numbers}
+use Rattle.etcs_vars.proofs.Prefixes.{admits_parts}
 use Rattle.etcs_telegram.specs.Telegrams.{header_row, HeaderParts, header_reading, header_of, IsAdmitted}
 use Rattle.etcs_reader.specs.Fields.{ReadsFields}
-use Rattle.etcs_telegram.specs.Headers.{labelled}
-
-abbrev pub widths : List Var → ℕ
-widths [] = 0
-widths (v ∷ vs) = width v + widths vs
+use Rattle.etcs_rests.specs.Labels.{labelled}
 
 -- a reading with admitted pairs is one of its row
 pub row_admitted : (r : Reading) → IsAdmitted r → ReadsFields (map (λ p. p.0) r) r

@@ -1,39 +1,32 @@
 -- The variables so far are those that the fields tell.
-use Rattle.std.proofs.Common.{◌≡◌, ℕ, ◌+◌, ◌-◌, ◌≤◌, Bool, List, [], ◌∷◌, ◌++◌, length, refl, ap, ◌∙◌, arith}
+use Rattle.std.proofs.Common.{◌≡◌, ℕ, ◌+◌, ◌-◌, ◌≤◌, Bool, List, ◌++◌, length, Some, refl, ap, subst, ◌∙◌, arith}
 use Rattle.std.specs.Prelude.{IsTrue, map, ◌==◌}
 use Rattle.std.proofs.lemmas.Bool.{and_parts, eqb-true}
 use Rattle.std.proofs.lemmas.List.{length-append}
 use Rattle.etcs_vars.specs.declared.var.Var.{Var}
-use Rattle.etcs_vars.specs.Vars.{width}
+use Rattle.etcs_vars.specs.declared.var.Var.TheVariants.{FILL}
 use Rattle.etcs_vars.specs.Reading.{Reading, spelled}
 use Rattle.etcs_vars.proofs.Walk.{spelled-append}
 use Rattle.etcs_packets.specs.declared.packet.Packet.{Packet}
 use Rattle.etcs_packets.specs.PacketValues.{PacketValue, packet_value}
-use Rattle.etcs_rows.specs.declared.frames.Carrier.{Carrier}
 use Rattle.etcs_reader.specs.Rests.{Goes}
 use Rattle.etcs_rests.specs.declared.left.PacketsLeft.{PacketsLeft}
 use Rattle.etcs_rests.specs.declared.list.PacketList.{PacketList}
-use Rattle.etcs_rests.specs.declared.stage.Stage.{Stage}
-use Rattle.etcs_rests.specs.Lefts.{left_of, ahead, HoldsAt}
-use Rattle.etcs_rests.specs.Held.{here_of, list_holds, packets_so_far}
-use Rattle.etcs_rests.proofs.Holding.{here_is}
+use Rattle.etcs_rests.specs.ChainLaws.{chain_first}
+use Rattle.etcs_rests.specs.Labels.{labelled}
+use Rattle.etcs_rests.specs.LabelLaws.{length-widths, labelled_widths}
+use Rattle.etcs_rests.specs.Lefts.{left_of, ahead}
+use Rattle.etcs_rests.specs.Held.{list_holds}
+use Rattle.etcs_rests.specs.Stages.{asks_memory}
+use Rattle.etcs_rests.proofs.Asking.{packets_ask}
+use Rattle.etcs_rests.proofs.Holding.{packets_far}
 use Rattle.etcs_telegram.specs.declared.size.Size.{Size}
 use Rattle.etcs_telegram.specs.declared.phase.Phase.{Phase}
 use Rattle.etcs_telegram.specs.declared.phase.Phase.TheVariants.{Header, Packets, Fill, Pad, Whole}
 use Rattle.etcs_telegram.specs.Telegrams.{header_row, pad_bits, closed_reading}
-use Rattle.etcs_telegram.specs.Headers.{labelled}
 use Rattle.etcs_telegram.specs.Phases.{behind_header}
-use Rattle.etcs_rests.specs.ChainLaws.{chain_first}
-use Rattle.etcs_telegram.specs.Lefts.{FillBy, left_at, HoldsIn, Filled, stands_at, is_open, may_ask}
-use Rattle.etcs_telegram.specs.Stages.{so_far}
-use Rattle.etcs_telegram.proofs.HeaderLemmas.{length-spelled, bit_count}
-use Rattle.etcs_telegram.proofs.Rows.{widths}
-
--- those of packets
-packets_far : (c : Carrier) (room : ℕ) (s : Stage) (ps : List Packet) (f : List ℕ) (k : List Bool) (h : Reading) → Goes (left_of c room s) → HoldsAt c s (list_holds ps f k) h → h ≡ packets_so_far c s ps f k
-packets_far c room s ps f k h g (vs, m, l, r, (vs_is, (made, (m_is, l_is))), carried, here, e) =
-    let is : r ≡ here_of c s f k = here_is c room s m l r g here ∙ rw (m_is, l_is) refl in
-    e ∙ rw (vs_is, is) refl
+use Rattle.etcs_telegram.specs.Lefts.{FillBy, left_at, next_at, HoldsIn, Filled, stands_at, is_open, may_ask}
+use Rattle.etcs_telegram.specs.Readers.{so_far}
 
 -- those with FILL and PAD behind packet 255
 pub filled_far : (header : List ℕ) (ps : List Packet) (f : List ℕ) (k : List Bool) (left room pad : ℕ) (q : Reading) → Filled header (list_holds ps f k) room left pad q → q ≡ labelled header_row header ++ behind_header (closed_reading (map packet_value ps)) k pad
@@ -55,17 +48,12 @@ far_is size Whole header l store q g h = filled_far header store.packets.items s
 
 -- ---- How long they are where memory may be asked for.
 
-labelled_bits : (vs : List Var) (ns : List ℕ) → length ns ≡ length vs → bit_count (labelled vs ns) ≡ widths vs
-labelled_bits [] ns e = refl
-labelled_bits (v ∷ vs) [] e = absurd cc
-labelled_bits (v ∷ vs) (n ∷ ns) e = ap (λ (k : ℕ). width v + k) (labelled_bits vs ns (let k : length ns ≡ length vs = cc in k))
-
 -- ten numbers of the header take 50 bits
 front_long : (header : List ℕ) (rest q : Reading) → length header ≡ 10 → q ≡ labelled header_row header ++ rest → 50 ≤ length (spelled q)
 front_long header rest q ten e =
     let h = labelled header_row header in
     let all = ap (λ (t : Reading). length (spelled t)) e ∙ ap length (spelled-append h rest) ∙ length-append (spelled h) (spelled rest) in
-    omega (arith, all, length-spelled h ∙ labelled_bits header_row header ten)
+    omega (arith, all, length-widths h ∙ labelled_widths header_row header ten)
 
 pub far_long : (size : Size) (phase : Phase) (header : List ℕ) (l : PacketsLeft) (holds : List PacketValue → List ℕ → List Bool → Type 0) (q : Reading) → IsTrue (stands_at phase (length header) l) → IsTrue (may_ask phase l) → HoldsIn size phase header l holds q → 50 ≤ length (spelled q)
 far_long size (Header at) header l holds q stands ask h = absurd cc
@@ -73,3 +61,11 @@ far_long size Packets header l holds q stands ask (r, e, h) = front_long header 
 far_long size (Fill left) header l holds q stands ask h = front_long header (behind_header (closed_reading h.packets) h.fill 0) q h.ten h.reading_is
 far_long size (Pad left) header l holds q stands ask h = absurd cc
 far_long size Whole header l holds q stands ask h = absurd cc
+
+-- the variable that comes next there asks for it
+pub next_asks : (size : Size) (phase : Phase) (header : List ℕ) (l : PacketsLeft) (holds : List PacketValue → List ℕ → List Bool → Type 0) (q : Reading) (x : Var) → IsTrue (may_ask phase l) → HoldsIn size phase header l holds q → Goes (left_at size phase l) → next_at phase l ≡ Some x → IsTrue (asks_memory x)
+next_asks size (Header at) header l holds q x ask h g e = absurd cc
+next_asks size Packets header l holds q x ask (r, is, h) g e = packets_ask l.carrier l.room l.stage holds r ask h (chain_first (left_of l.carrier l.room l.stage) (FillBy size (ahead l.room l.stage)) g) x e
+next_asks size (Fill left) header l holds q x ask h g e = let same : FILL ≡ x = cc in subst (λ (v : Var). IsTrue (asks_memory v)) same refl
+next_asks size (Pad left) header l holds q x ask h g e = absurd cc
+next_asks size Whole header l holds q x ask h g e = absurd cc

@@ -1,14 +1,11 @@
 -- Telegrams of one size by their spellings.
-use Rattle.std.proofs.Common.{◌≡◌, ◌+◌, ◌≤◌, Bool, true, false, List, [], ◌∷◌, ◌++◌, length, refl, sym, ap, subst, ◌∙◌, arith, length-append}
-use Rattle.std.specs.Prelude.{replicate, map, All, ◌==◌}
+use Rattle.std.proofs.Common.{◌≡◌, ◌+◌, ◌≤◌, Bool, false, List, [], ◌++◌, length, refl, sym, ap, subst, ◌∙◌, arith}
+use Rattle.std.specs.Prelude.{replicate, All}
 use Rattle.std.proofs.lemmas.List.{append-nil, length-replicate}
-use Rattle.etcs_bits.specs.Bits.{num}
-use Rattle.etcs_vars.specs.declared.var.Var.{Var}
 use Rattle.etcs_vars.specs.declared.var.Var.TheVariants.{FILL, PAD}
-use Rattle.etcs_vars.specs.Vars.{width}
-use Rattle.etcs_vars.specs.Reading.{Sent, Reading, spelled, kept}
+use Rattle.etcs_vars.specs.Reading.{Reading, spelled, kept}
 use Rattle.etcs_vars.proofs.Apart.{Agree, AllFit, Agree-append, Agree-same, AllFit-append, Agree-cut, apart, cut}
-use Rattle.etcs_vars.proofs.Walk.{spelled-append, Regular}
+use Rattle.etcs_vars.proofs.Walk.{Regular}
 use Rattle.etcs_rows.specs.declared.frames.Carrier.TheVariants.{Telegram}
 use Rattle.etcs_packets.specs.declared.packet.Packet.{Packet}
 use Rattle.etcs_packets.specs.PacketValues.{PacketValue}
@@ -16,36 +13,11 @@ use Rattle.etcs_packets.specs.OnePacket.{IsMade, one_list}
 use Rattle.etcs_container.specs.Contents.{RunOf}
 use Rattle.etcs_container.proofs.Agreement.{run_regular}
 use Rattle.etcs_container.proofs.OneSpelling.{packets_same}
+use Rattle.etcs_container.proofs.RunSteps.{both_length}
+use Rattle.etcs_rests.specs.BitLaws.{bits_agree, bits_fit, bits_known, bits_length}
 use Rattle.etcs_telegram.specs.declared.size.Size.{Size}
 use Rattle.etcs_telegram.specs.Telegrams.{HeaderParts, TelegramParts, TelegramValue, TelegramReads, TelegramLanguage, OneSpelling, header_reading, closed_reading, telegram_value, user_bits, pad_bits, packet_room}
 use Rattle.etcs_telegram.proofs.HeaderLemmas.{admitted_fit, header_length, header_same}
-
-kept_agree : (v : Var) (bs cs : List Bool) → length bs ≡ length cs → Agree (kept v bs) (kept v cs)
-kept_agree v [] [] e = tt
-kept_agree v [] (c ∷ cs) e = absurd cc
-kept_agree v (b ∷ bs) [] e = absurd cc
-kept_agree v (b ∷ bs) (c ∷ cs) e = (refl, λ _. kept_agree v bs cs (let k : length bs ≡ length cs = cc in k))
-
-kept_fit : (v : Var) (bs : List Bool) → width v ≡ 1 → AllFit (kept v bs)
-kept_fit v [] w = tt
-kept_fit v (true ∷ bs) w = (rw w (omega arith), kept_fit v bs w)
-kept_fit v (false ∷ bs) w = (rw w (omega arith), kept_fit v bs w)
-
-kept_back : (v : Var) (bs : List Bool) → map (λ (p : Sent). p.1 == 1) (kept v bs) ≡ bs
-kept_back v [] = refl
-kept_back v (true ∷ bs) = ap (λ (s : List Bool). true ∷ s) (kept_back v bs)
-kept_back v (false ∷ bs) = ap (λ (s : List Bool). false ∷ s) (kept_back v bs)
-
--- kept bits by their reading
-pub kept_same : (v : Var) (bs cs : List Bool) → kept v bs ≡ kept v cs → bs ≡ cs
-kept_same v bs cs e = sym (kept_back v bs) ∙ ap (λ (r : Reading). map (λ (p : Sent). p.1 == 1) r) e ∙ kept_back v cs
-
--- kept bits spell themselves
-pub spelled-kept : (v : Var) (bs : List Bool) → width v ≡ 1 → spelled (kept v bs) ≡ bs
-unfolding num
-spelled-kept v [] w = refl
-spelled-kept v (true ∷ bs) w = rw (w, spelled-kept v bs w) refl
-spelled-kept v (false ∷ bs) w = rw (w, spelled-kept v bs w) refl
 
 pub header_agree : (h k : HeaderParts) → Agree (header_reading h) (header_reading k)
 header_agree h k = (refl, λ _. (refl, λ _. (refl, λ _. (refl, λ _. (refl, λ _. (refl, λ _. (refl, λ _. (refl, λ _. (refl, λ _. (refl, λ _. tt))))))))))
@@ -88,7 +60,7 @@ fronts_agree size t u a b st su x y =
     Agree-append (header_reading t.header ++ closed t) (header_reading u.header ++ closed u) (kept FILL t.fill) (kept FILL u.fill)
     (headed_agree size t u a b st su x y)
     (λ e. let same : closed t ≡ closed u = (cut (header_reading t.header) (header_reading u.header) (closed t) (closed u) refl e).1 in
-    kept_agree FILL t.fill u.fill (fills_alike t u a b (st ∙ sym su) same x y))
+    bits_agree FILL t.fill u.fill (fills_alike t u a b (st ∙ sym su) same x y))
 
 agree : (size : Size) (a b : Reading) → TelegramLanguage size a → TelegramLanguage size b → Agree a b
 agree size a b (t, (st, x)) (u, (su, y)) =
@@ -107,8 +79,8 @@ fit size a (t, (st, x)) =
     (AllFit-append ((header_reading t.header ++ closed t) ++ kept FILL t.fill) (zeros t.size)
     (AllFit-append (header_reading t.header ++ closed t) (kept FILL t.fill)
     (AllFit-append (header_reading t.header) (closed t) (admitted_fit (header_reading t.header) x.header_admitted) (runs_fit t a x))
-    (kept_fit FILL t.fill refl))
-    (kept_fit PAD (replicate (pad_bits t.size) false) refl))
+    (bits_fit FILL t.fill refl))
+    (bits_fit PAD (replicate (pad_bits t.size) false) refl))
 
 -- two readings of a size agree, and their numbers fit
 pub regular : (size : Size) → Regular (TelegramLanguage size)
@@ -116,14 +88,8 @@ regular size = record { agree = agree size; fit = fit size }
 
 -- ---- How long they are.
 
-both_length : (a b : Reading) → length (spelled (a ++ b)) ≡ length (spelled a) + length (spelled b)
-both_length a b = ap length (spelled-append a b) ∙ length-append (spelled a) (spelled b)
-
-pub fill_length : (bs : List Bool) → length (spelled (kept FILL bs)) ≡ length bs
-fill_length bs = ap length (spelled-kept FILL bs refl)
-
 pub zeros_length : (size : Size) → length (spelled (zeros size)) ≡ pad_bits size
-zeros_length size = ap length (spelled-kept PAD (replicate (pad_bits size) false) refl) ∙ length-replicate (pad_bits size) false
+zeros_length size = bits_length PAD (replicate (pad_bits size) false) refl ∙ length-replicate (pad_bits size) false
 
 -- every telegram of a size has the container's bits
 pub whole_length : (size : Size) (r : Reading) → TelegramLanguage size r → length (spelled r) ≡ user_bits size + pad_bits size
@@ -136,7 +102,7 @@ whole_length size r (t, (st, x)) =
     let l3 = both_length head (closed t) in
     let u : user_bits t.size ≡ user_bits size = ap user_bits st in
     let p : pad_bits t.size ≡ pad_bits size = ap pad_bits st in
-    omega (arith, e, l1, l2, l3, fill_length t.fill, zeros_length t.size, u, p, x.user_bits_is)
+    omega (arith, e, l1, l2, l3, bits_length FILL t.fill refl, zeros_length t.size, u, p, x.user_bits_is)
 
 -- ---- A reading is one telegram's.
 
@@ -160,7 +126,7 @@ one_value t u r s x y =
     let parts = cut head head' (closed t) (closed u) refl headed.0 in
     let header : t.header ≡ u.header = header_same t.header u.header parts.0 in
     let packets : t.packets ≡ u.packets = packets_same Telegram (packet_room u.size) t.packets u.packets (closed t) (closed u) (run_at u.size t r s x) (closed_run u r y) parts.1 in
-    parts_one t u s header packets (kept_same FILL t.fill u.fill headed.1)
+    parts_one t u s header packets (bits_known FILL t.fill u.fill headed.1)
 
 abbrev pub held : Size → HeaderParts → List Packet → List Bool → TelegramParts
 held s h ps f = record { size = s; header = h; packets = ps; fill = f }

@@ -1,53 +1,43 @@
 -- What a view reads, and what is seen of it.
-use Rattle.std.proofs.Common.{◌≡◌, ◌<◌, ℕ, zero, suc, ◌+◌, ◌-◌, ◌%◌, ◌^◌, ◌≤◌, Bool, true, false, List, [], ◌∷◌, ◌++◌, length, take, drop, replicate, Some, None, refl, sym, ap, subst, ◌∙◌, arith, append-nil, append_assoc, inl, inr}
-use Rattle.std.specs.Prelude.{IsTrue, Option, is_some, ◌&&◌, ◌==◌, nat_lt}
+use Rattle.std.proofs.Common.{◌≡◌, ◌<◌, ℕ, ◌+◌, ◌-◌, ◌%◌, ◌^◌, ◌≤◌, Bool, false, List, [], ◌∷◌, ◌++◌, length, take, replicate, Some, None, refl, sym, ap, subst, ◌∙◌, arith, append-nil, append_assoc, inl, inr}
+use Rattle.std.specs.Prelude.{IsTrue, Option}
 use Rattle.std.proofs.Math.Nat.{mod-eq_of_lt}
-use Rattle.std.proofs.lemmas.Bool.{cases_lt, and_parts, ltb-true}
+use Rattle.std.proofs.lemmas.Bool.{cases_lt}
 use Rattle.std.proofs.lemmas.List.{length-append, length-take, take_all, take_at, take-take, nil_from_length}
 use Rattle.etcs_bits.specs.Bits.{part}
 use Rattle.etcs_bits.proofs.Lists.{part-append_right}
 use Rattle.etcs_vars.specs.declared.var.Var.{Var}
-use Rattle.etcs_vars.specs.declared.var.Var.TheVariants.{FILL, PAD, Q_DIR}
-use Rattle.etcs_vars.specs.Vars.{admits}
+use Rattle.etcs_vars.specs.declared.var.Var.TheVariants.{FILL, PAD}
 use Rattle.etcs_vars.specs.Walking.{Residual, Refuses}
 use Rattle.etcs_vars.specs.Reading.{Reading, spelled, kept, Viable, Owner}
 use Rattle.etcs_vars.proofs.Apart.{apart}
 use Rattle.etcs_vars.proofs.Languages.{Same}
 use Rattle.etcs_vars.proofs.Outcomes.{viable_front}
 use Rattle.etcs_vars.proofs.Walk.{spelled-append}
-use Rattle.etcs_rows.specs.declared.row.Way.TheVariants.{ToTrain}
-use Rattle.etcs_rows.specs.declared.frames.Carrier.{Carrier}
 use Rattle.etcs_rows.specs.declared.frames.Carrier.TheVariants as carrier
-use Rattle.etcs_rows.specs.Rows.{row_to}
-use Rattle.etcs_rows.specs.Places.{first_variable}
 use Rattle.etcs_rows.proofs.LengthLemmas.{length-spelled}
 use Rattle.etcs_packets.specs.PacketValues.{PacketValue}
 use Rattle.etcs_packets.specs.PacketReadings.{packet_reading, packets_reading, packet_bits}
 use Rattle.etcs_container.specs.Contents.{closing}
 use Rattle.etcs_container.proofs.Agreement.{some_bits}
-use Rattle.etcs_reader.specs.Fields.{first_of}
 use Rattle.etcs_rests.specs.declared.left.PacketsLeft.{PacketsLeft}
-use Rattle.etcs_rests.specs.declared.stage.Stage.{Stage}
-use Rattle.etcs_rests.specs.declared.stage.Stage.TheVariants as stage
-use Rattle.etcs_rests.specs.Lefts.{next_of, is_stage, is_closed}
+use Rattle.etcs_rests.specs.BitLaws.{bits_spelled}
 use Rattle.etcs_refs.specs.Refs.{ArePackets}
 use Rattle.etcs_telegram.specs.declared.size.Size.{Size}
-use Rattle.etcs_telegram.specs.declared.size.Size.TheVariants.{Short, Long}
 use Rattle.etcs_telegram.specs.declared.phase.Phase.{Phase}
-use Rattle.etcs_telegram.specs.declared.phase.Phase.TheVariants.{Header, Packets, Fill, Pad, Whole}
+use Rattle.etcs_telegram.specs.declared.phase.Phase.TheVariants.{Whole}
 use Rattle.etcs_telegram.specs.declared.view.ViewFault.{ViewFault}
 use Rattle.etcs_telegram.specs.declared.view.ViewFault.TheVariants.{Refused}
-use Rattle.etcs_telegram.specs.Telegrams.{header_row, header_of, header_reading, HeaderParts, TelegramValue, TelegramLanguage, ReadsAs, closed_reading, user_bits, pad_bits, packet_room}
+use Rattle.etcs_telegram.specs.Telegrams.{header_of, header_reading, HeaderParts, TelegramValue, TelegramLanguage, ReadsAs, closed_reading, user_bits, pad_bits, packet_room}
 use Rattle.etcs_telegram.specs.Headers.{IsHeaderNumbers}
-use Rattle.etcs_telegram.specs.Lefts.{left_at, next_at, is_open, stands_at, Filled, HoldsIn}
-use Rattle.etcs_telegram.specs.RestLaws.{opens}
+use Rattle.etcs_telegram.specs.Lefts.{left_at, next_at, stands_at, Filled, HoldsIn}
+use Rattle.etcs_telegram.specs.RestLaws.{ended_whole}
 use Rattle.etcs_telegram.specs.Views.{ViewIn, OneRefusal}
 use Rattle.etcs_telegram.proofs.Encoding.{room_more, closed_length, user_small}
-use Rattle.etcs_telegram.proofs.Examples.{short_reads, long_reads}
 use Rattle.etcs_telegram.proofs.Finished.{whole_reads}
 use Rattle.etcs_telegram.proofs.HeaderLemmas.{header_length}
 use Rattle.etcs_telegram.proofs.SameReadings.{owner_along, refuses_along, owner_same}
-use Rattle.etcs_telegram.proofs.Spellings.{regular, one_value, spelled-kept, whole_length}
+use Rattle.etcs_telegram.proofs.Spellings.{regular, one_value, whole_length}
 
 -- the fault says which bit
 pub refused_same : (L : Reading → Type 0) (b : List Bool) (i j : ℕ) (x y : Var) → ◌≡◌ {A = ViewFault} (Refused i x) (Refused j y) → Refuses L b i x → Refuses L b j y
@@ -63,11 +53,6 @@ refused_bit size L same front b i n count x none start place r =
     let all = refuses_along L (TelegramLanguage size) same (front ++ b) i x (subst (λ (k : ℕ). Refuses L (front ++ b) k x) is r) in
     subst (λ (u : List Bool). Refuses (TelegramLanguage size) (u ++ b) i x) none all
 
--- some telegram
-pub some_telegram : (size : Size) → (r : Reading) × TelegramLanguage size r
-some_telegram Short = (_, (_, (refl, short_reads)))
-some_telegram Long = (_, (_, (refl, long_reads)))
-
 -- ---- All bits are taken, and nothing comes next.
 
 -- each packet has bits
@@ -81,35 +66,6 @@ none_wanted size b x long o =
     let (r, c, l, e) = o.viable in
     let none : c ≡ [] = nil_from_length c (omega (arith, ap (λ (u : List Bool). length u) e, length-append b c, whole_length size r l, long)) in
     o.open_end (r, l, e ∙ ap (λ (u : List Bool). b ++ u) none ∙ append-nil b)
-
-open_next : (c : Carrier) (room : ℕ) (s : Stage) → IsTrue (is_stage c room s) → is_closed s ≡ false → next_of s ≡ None → ⊥
-open_next c room stage.Number k o e = absurd cc
-open_next c room stage.Marker k o e = absurd cc
-open_next c room (stage.Direction nid) k o e = absurd cc
-open_next c room (stage.Length nid dir) k o e = absurd cc
-open_next c room (stage.Row nid dir row) k o e =
-    let typed = and_parts (is_some (row_to ToTrain nid)) (admits Q_DIR dir && is_some (first_variable row.place)) k in
-    let some = (and_parts (admits Q_DIR dir) (is_some (first_variable row.place)) typed.1).1 in
-    let none : false ≡ true = rw e at some in
-    absurd cc
-open_next c room (stage.Kept nid dir left) k o e = absurd cc
-open_next c room stage.Closed k o e = absurd cc
-
-header_next : (at : ℕ) → at < length header_row → first_of (drop at header_row) ≡ None → ⊥
-header_next at lt e = by_list header_row at lt e
-  where
-    by_list : (vs : List Var) (at : ℕ) → at < length vs → first_of (drop at vs) ≡ None → ⊥
-    by_list [] at h e = absurd (omega arith)
-    by_list (v ∷ vs) zero h e = absurd cc
-    by_list (v ∷ vs) (suc at) h e = by_list vs at (omega arith) e
-
--- where nothing comes next, the telegram is whole
-ended_whole : (phase : Phase) (n : ℕ) (l : PacketsLeft) → IsTrue (stands_at phase n l) → next_at phase l ≡ None → phase ≡ Whole
-ended_whole (Header at) n l h e = absurd (header_next at (ltb-true at 10 (and_parts (nat_lt at 10) ((n == at) && is_open l) h).0) e)
-ended_whole Packets n l h e = absurd (open_next l.carrier l.room l.stage l.stands (opens l (and_parts (n == 10) (is_open l) h).1).1 e)
-ended_whole (Fill left) n l h e = absurd cc
-ended_whole (Pad left) n l h e = absurd cc
-ended_whole Whole n l h e = refl
 
 -- what is read of a telegram's bits, with packets that are counted
 abbrev pub counts : ℕ → List PacketValue → List ℕ → List Bool → Type 0
@@ -177,7 +133,7 @@ module _ (size : Size) (b : List Bool) (header : HeaderParts) (packets end : ℕ
       let c = closed_reading v.telegram.packets in
       let f = v.telegram.fill in
       let z = replicate (pad_bits v.telegram.size) false in
-      sym v.bits ∙ ap spelled v.reads.1.reading_is ∙ spelled-append ((h ++ c) ++ kept FILL f) (kept PAD z) ∙ ap (λ (u : List Bool). u ++ spelled (kept PAD z)) (spelled-append (h ++ c) (kept FILL f) ∙ ap (λ (u : List Bool). u ++ spelled (kept FILL f)) (spelled-append h c) ∙ ap (λ (u : List Bool). (spelled h ++ spelled c) ++ u) (spelled-kept FILL f refl)) ∙ ap (λ (u : List Bool). ((spelled h ++ spelled c) ++ f) ++ u) (spelled-kept PAD z refl)
+      sym v.bits ∙ ap spelled v.reads.1.reading_is ∙ spelled-append ((h ++ c) ++ kept FILL f) (kept PAD z) ∙ ap (λ (u : List Bool). u ++ spelled (kept PAD z)) (spelled-append (h ++ c) (kept FILL f) ∙ ap (λ (u : List Bool). u ++ spelled (kept FILL f)) (spelled-append h c) ∙ ap (λ (u : List Bool). (spelled h ++ spelled c) ++ u) (bits_spelled FILL f refl)) ∙ ap (λ (u : List Bool). ((spelled h ++ spelled c) ++ f) ++ u) (bits_spelled PAD z refl)
 
   front_long : length (spelled (header_reading v.telegram.header) ++ spelled (closed_reading v.telegram.packets)) ≡ end
   front_long = length-append (spelled (header_reading v.telegram.header)) (spelled (closed_reading v.telegram.packets)) ∙ ap (λ (n : ℕ). n + length (spelled (closed_reading v.telegram.packets))) (header_length v.telegram.header) ∙ v.end_is

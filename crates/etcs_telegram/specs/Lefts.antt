@@ -13,7 +13,7 @@ use Rattle.etcs_telegram.specs.declared.size.Size.{Size}
 use Rattle.etcs_telegram.specs.declared.phase.Phase.{Phase}
 use Rattle.etcs_telegram.specs.declared.phase.Phase.TheVariants.{Header, Packets, Fill, Pad, Whole}
 use Rattle.etcs_telegram.specs.Telegrams.{header_row, pad_bits, closed_reading}
-use Rattle.etcs_telegram.specs.Headers.{labelled}
+use Rattle.etcs_rests.specs.Labels.{labelled}
 use Rattle.etcs_telegram.specs.Phases.{PadLeft, FillLeft, behind_header, after_fill}
 
 -- FILL behind packets, up to so many bits, and PAD behind it

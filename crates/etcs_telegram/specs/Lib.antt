@@ -2,9 +2,7 @@ pub mod Telegrams
 pub mod Headers
 pub mod Writing
 pub mod Phases
-pub mod Readers
 pub mod Lefts
 pub mod RestLaws
 pub mod Views
-pub mod Stages
-pub mod Holdings
+pub mod Readers

@@ -1,8 +1,7 @@
 -- What comes next in a telegram.
-use Rattle.std.specs.Prelude.{◌≡◌, ℕ, ◌+◌, ◌-◌, ◌<◌, ◌≤◌, Bool, true, false, List, [], ◌∷◌, ◌++◌, ◌==◌, length, drop, replicate, slice_index_or, if◌then◌else◌, nat_lt}
+use Rattle.std.specs.Prelude.{◌≡◌, ℕ, ◌+◌, ◌-◌, ◌<◌, ◌≤◌, Bool, false, List, ◌++◌, length, replicate, slice_index_or, if◌then◌else◌, nat_lt}
 use Rattle.etcs_vars.specs.declared.var.Var.{Var}
 use Rattle.etcs_vars.specs.declared.var.Var.TheVariants.{NID_PACKET, FILL, PAD}
-use Rattle.etcs_vars.specs.Vars.{ranges}
 use Rattle.etcs_vars.specs.Reading.{Reading, kept, spelled, Then}
 use Rattle.etcs_telegram.specs.declared.size.Size.{Size}
 use Rattle.etcs_telegram.specs.declared.phase.Phase.{Phase}
@@ -11,6 +10,7 @@ use Rattle.etcs_rows.specs.declared.frames.Carrier.TheVariants as carrier
 use Rattle.etcs_container.specs.Contents.{Run}
 use Rattle.etcs_telegram.specs.Telegrams.{header_row, packet_room, pad_bits}
 use Rattle.etcs_reader.specs.Fields.{ReadsFields}
+use Rattle.etcs_rests.specs.BitLaws.{BitsLeft}
 
 abbrev pub var_at : Phase → Var
 var_at (Header at) = slice_index_or header_row at PAD
@@ -18,13 +18,6 @@ var_at Packets = NID_PACKET
 var_at (Fill left) = FILL
 var_at (Pad left) = PAD
 var_at Whole = PAD
-
-abbrev pub is_going : Phase → Bool
-is_going (Header at) = true
-is_going Packets = true
-is_going (Fill left) = true
-is_going (Pad left) = true
-is_going Whole = false
 
 -- behind n bits of FILL, of which so many were left
 abbrev pub after_fill : Size → ℕ → ℕ → Phase
@@ -50,7 +43,7 @@ abbrev pub PadLeft : ℕ → Reading → Type 0
 PadLeft n r = r ≡ kept PAD (replicate n false)
 
 abbrev pub FillLeft : Size → ℕ → Reading → Type 0
-FillLeft size n r = (fill : List Bool) × (length fill ≡ n) × (r ≡ kept FILL fill ++ kept PAD (replicate (pad_bits size) false))
+FillLeft size n r = Then (BitsLeft FILL n) (PadLeft (pad_bits size)) r
 
 -- FILL behind packets and packet 255
 abbrev pub FillBehind : Size → Reading → Reading → Type 0

@@ -1,62 +1,76 @@
--- What a reader of telegrams stands for, and what a feed answers.
-use Rattle.std.specs.Prelude.{◌≡◌, ℕ, ◌+◌, ◌*◌, ◌<◌, ◌≤◌, Bool, true, false, List, ◌++◌, length, take, Result, Ok, Err, IsTrue}
-use Rattle.etcs_vars.specs.declared.var.Var.{Var}
-use Rattle.etcs_vars.specs.declared.var.Var.TheVariants.{Q_DIR, PAD}
-use Rattle.etcs_vars.specs.Reading.{Reading, Viable, Owner, readings_of, IsOutcome, done, refused, more}
-use Rattle.etcs_telegram.specs.declared.size.Size.{Size}
-use Rattle.etcs_vars.specs.declared.feed.Fed.{Fed}
-use Rattle.etcs_vars.specs.declared.feed.Fed.TheVariants.{More, Done}
+-- What a reader of telegrams stands for, by what it keeps, and what it holds.
+use Rattle.std.specs.Prelude.{◌≡◌, ℕ, ◌+◌, ◌-◌, ◌<◌, Bool, false, List, [], ◌++◌, length, map, replicate, Option, All, ◌⊎◌}
+use Rattle.etcs_vars.specs.declared.var.Var.TheVariants.{FILL, PAD}
+use Rattle.etcs_vars.specs.Reading.{Reading, spelled, kept}
+use Rattle.etcs_packets.specs.declared.packet.Packet.{Packet}
+use Rattle.etcs_packets.specs.PacketValues.{packet_value, IsPacket}
+use Rattle.etcs_packets.specs.OnePacket.{IsMade}
+use Rattle.etcs_packets.specs.PacketReadings.{packets_reading}
+use Rattle.etcs_container.specs.Runs.{Begun}
 use Rattle.etcs_reader.specs.declared.feeder.Stop.{Stop}
-use Rattle.etcs_reader.specs.declared.feeder.Stop.TheVariants as stop
-use Rattle.etcs_vars.specs.declared.feed.ReadFault.{ReadFault}
-use Rattle.etcs_vars.specs.declared.feed.ReadFault.TheVariants.{Refused, Ended, Memory}
-use Rattle.etcs_telegram.specs.Telegrams.{TelegramParts, TelegramValue, telegram_value, IsTelegram, user_bits, pad_bits}
-
--- it has taken these bits and wants more; it has a telegram; it refused a bit; a growth was refused behind these many bits
-pub data Stage : Type 0 where
-  reading : List Bool → Stage
-  finished : TelegramParts → Stage
-  stopped : ℕ → Var → Stage
-  starved : ℕ → Stage
+use Rattle.etcs_rests.specs.declared.left.PacketsLeft.{PacketsLeft}
+use Rattle.etcs_rests.specs.declared.list.PacketList.{PacketList}
+use Rattle.etcs_rests.specs.Labels.{labelled}
+use Rattle.etcs_rests.specs.Held.{list_holds, packets_so_far}
+use Rattle.etcs_rests.specs.Stages.{Stage, stage_by, IsReader}
+use Rattle.etcs_rests.specs.Holdings.{HeldIn}
+use Rattle.etcs_telegram.specs.declared.size.Size.{Size}
+use Rattle.etcs_telegram.specs.declared.phase.Phase.{Phase}
+use Rattle.etcs_telegram.specs.declared.phase.Phase.TheVariants.{Header, Packets, Fill, Pad, Whole}
+use Rattle.etcs_telegram.specs.Telegrams.{header_row, user_bits, pad_bits, closed_reading, header_of, TelegramParts, TelegramLanguage}
+use Rattle.etcs_telegram.specs.Phases.{behind_header}
+use Rattle.etcs_telegram.specs.Lefts.{left_at, next_at, HoldsIn}
 
 pub record ReaderValue : Type 0 where
   pub size : Size
-  pub stage : Stage
+  pub stage : Stage TelegramParts
 
--- how many leading bits were accepted
-abbrev pub seen_of : Stage → ℕ
-seen_of (reading b) = length b
-seen_of (finished t) = user_bits t.size + pad_bits t.size
-seen_of (stopped i x) = i
-seen_of (starved n) = n
+-- as many as its container has
+abbrev pub telegram_bits : TelegramParts → ℕ
+telegram_bits t = user_bits t.size + pad_bits t.size
 
-abbrev pub IsReading : Stage → Type 0
-IsReading (reading b) = Unit {0}
-IsReading (finished t) = ⊥
-IsReading (stopped i x) = ⊥
-IsReading (starved n) = ⊥
+-- the variables so far
+abbrev pub so_far : Size → Phase → List ℕ → PacketsLeft → PacketList → Reading
+so_far size (Header at) header left store = labelled header_row header
+so_far size Packets header left store = labelled header_row header ++ packets_so_far left.carrier left.stage store.packets.items store.numbers.items store.bits
+so_far size (Fill n) header left store = labelled header_row header ++ behind_header (closed_reading (map packet_value store.packets.items)) store.bits 0
+so_far size (Pad n) header left store = labelled header_row header ++ behind_header (closed_reading (map packet_value store.packets.items)) store.bits (pad_bits size - n)
+so_far size Whole header left store = labelled header_row header ++ behind_header (closed_reading (map packet_value store.packets.items)) store.bits (pad_bits size)
 
--- what each later feed answers
-abbrev pub fault_of : Stage → ReadFault
-fault_of (reading b) = Ended
-fault_of (finished t) = Ended
-fault_of (stopped i x) = Refused i x
-fault_of (starved n) = Memory
+-- and the bits of the unfinished one
+abbrev pub seen_by : Size → Phase → List ℕ → PacketsLeft → PacketList → List Bool → List Bool
+seen_by size phase header left store part = spelled (so_far size phase header left store) ++ part
 
-abbrev pub fault_by : Stop → ReadFault
-fault_by (stop.Refused i x) = Refused i x
-fault_by stop.Memory = Memory
+abbrev pub telegram_by : Size → List ℕ → PacketList → TelegramParts
+telegram_by size header store = record { size = size; header = header_of header; packets = store.packets.items; fill = store.bits }
 
--- memory may be asked for at a variable behind a telegram's header: the numbers of Q_DIR and PAD are never kept
-abbrev pub asks_memory : Var → Bool
-asks_memory Q_DIR = false
-asks_memory PAD = false
-asks_memory v = true
+abbrev pub stage_of : Size → Phase → List ℕ → PacketsLeft → PacketList → List Bool → ℕ → Option Stop → Stage TelegramParts
+stage_of size phase header left store part count stop = stage_by (next_at phase left) (seen_by size phase header left store part) (telegram_by size header store) count stop
 
--- the bits that were seen and the new ones together, the answer, and the stage behind it
-abbrev pub Feeds : (TelegramValue → Reading → Type 0) → List Bool → List Bool → Result Fed ReadFault → Stage → Type 0
-Feeds Reads seen new (Ok More) s = (s ≡ reading (seen ++ new)) × IsOutcome Reads (seen ++ new) more
-Feeds Reads seen new (Ok (Done k)) s = (t : TelegramParts) × (s ≡ finished t) × IsTelegram t × (8 * k ≤ length new) × IsOutcome Reads (seen ++ new) (done (telegram_value t) (length seen + 8 * k))
-Feeds Reads seen new (Err (Refused i x)) s = (s ≡ stopped i x) × IsOutcome Reads (seen ++ new) (refused i x)
-Feeds Reads seen new (Err Memory) s = (n : ℕ) × (s ≡ starved n) × (length seen ≤ n) × (n < length (seen ++ new)) × Viable (readings_of Reads) (take (n + 1) (seen ++ new)) × (50 ≤ n) × (x : Var) × Owner (readings_of Reads) (take n (seen ++ new)) x × IsTrue (asks_memory x)
-Feeds Reads seen new (Err Ended) s = ⊥
+-- q are the variables so far, of which so much is held, of a telegram of the reader's own size
+abbrev pub OwnHeld : Size → Size → Phase → List ℕ → PacketsLeft → PacketList → Reading → Type 0
+OwnHeld own size phase header left store q = (size ≡ own) × HoldsIn size phase header left (list_holds store.packets.items store.numbers.items store.bits) q
+
+abbrev pub IsTelegramReader : Size → Size → Phase → List ℕ → PacketsLeft → PacketList → List Bool → ℕ → Option Stop → Type 0
+IsTelegramReader own size phase header left store part count stop =
+    IsReader (TelegramLanguage own) (left_at size phase left) (OwnHeld own size phase header left store) (so_far size phase header left store) part count stop
+
+-- ---- What it holds between two pieces.
+
+-- some of the header; the header, whole packets and what stands of the next one; or all packets with 255, and bits of FILL
+-- and of PAD behind them
+abbrev pub Standing : List Packet → List ℕ → List Bool → Reading → Type 0
+Standing ps f k far =
+    ((header : List ℕ) × (far ≡ labelled header_row header) × (length header < 10) × (ps ≡ []) × (f ≡ []) × (k ≡ []))
+    ⊎ (((header : List ℕ) × (front : Reading) × (length header ≡ 10) × (far ≡ labelled header_row header ++ (packets_reading (map packet_value ps) ++ front)) × Begun front f k)
+    ⊎ ((header : List ℕ) × (zeros : ℕ) × (length header ≡ 10) × (far ≡ labelled header_row header ++ (closed_reading (map packet_value ps) ++ (kept FILL k ++ kept PAD (replicate zeros false)))) × (f ≡ [])))
+
+-- these are all whole variables, with packets of the profile
+abbrev pub Members : List Packet → List ℕ → List Bool → Reading → Type 0
+Members ps f k far = Standing ps f k far × All IsMade ps × All IsPacket (map packet_value ps)
+
+-- the same bits are held in one way
+abbrev pub OneHolding : Type 0
+OneHolding =
+    (size : Size) (b : List Bool) (ps qs : List Packet) (f g : List ℕ) (k l : List Bool) (part part' taken taken' : ℕ)
+    → HeldIn (TelegramLanguage size) (Members ps f k) b part taken → HeldIn (TelegramLanguage size) (Members qs g l) b part' taken' → (ps ≡ qs) × (f ≡ g) × (k ≡ l) × (part ≡ part') × (taken ≡ taken')

@@ -1,47 +1,34 @@
 -- What the reader asks of what is left of a telegram.
-use Rattle.std.proofs.Common.{◌≡◌, ℕ, zero, suc, ◌-◌, ◌<◌, Bool, true, false, List, [], ◌∷◌, ◌++◌, length, drop, Some, None, refl, sym, subst, ◌∙◌, arith, append_assoc, append-nil}
-use Rattle.std.specs.Prelude.{IsTrue, Option, is_some, replicate, if◌then◌else◌, not, ◌&&◌, ◌==◌, nat_lt}
+use Rattle.std.proofs.Common.{◌≡◌, ℕ, zero, suc, ◌-◌, ◌<◌, Bool, true, false, List, [], ◌++◌, length, drop, Some, None, refl, sym, subst, ◌∙◌, arith, append_assoc, append-nil}
+use Rattle.std.specs.Prelude.{IsTrue, replicate, not, ◌&&◌, ◌==◌, nat_lt}
 use Rattle.std.proofs.lemmas.Bool.{and_parts, ltb-true, not-true}
 use Rattle.etcs_vars.specs.declared.var.Var.{Var}
-use Rattle.etcs_vars.specs.declared.var.Var.TheVariants.{FILL, PAD, Q_DIR}
-use Rattle.etcs_vars.specs.Vars.{width, admits}
+use Rattle.etcs_vars.specs.declared.var.Var.TheVariants.{FILL, PAD}
 use Rattle.etcs_vars.specs.Reading.{Reading, spelled, kept}
-use Rattle.etcs_vars.proofs.Apart.{Agree, AllFit, Agree-append, Agree-same, AllFit-append}
+use Rattle.etcs_vars.proofs.Apart.{Agree-same}
 use Rattle.etcs_vars.proofs.Walk.{Regular}
-use Rattle.etcs_rows.specs.declared.row.Way.TheVariants.{ToTrain}
 use Rattle.etcs_rows.specs.declared.frames.Carrier.{Carrier}
 use Rattle.etcs_rows.specs.declared.frames.Carrier.TheVariants.{Telegram, Message}
-use Rattle.etcs_rows.specs.Rows.{row_to}
-use Rattle.etcs_rows.specs.Places.{first_variable}
 use Rattle.etcs_packets.specs.PacketValues.{PacketValue}
 use Rattle.etcs_reader.specs.Rests.{BeginsWith, Ended}
-use Rattle.etcs_reader.specs.Fields.{ReadsFields, first_of}
+use Rattle.etcs_reader.specs.Fields.{ReadsFields}
 use Rattle.etcs_reader.specs.FieldLaws.{residual_none, residual_along, fields_regular, fields_begin}
 use Rattle.etcs_rests.specs.declared.left.PacketsLeft.{PacketsLeft}
-use Rattle.etcs_rests.specs.declared.stage.Stage.{Stage}
-use Rattle.etcs_rests.specs.declared.stage.Stage.TheVariants as stage
-use Rattle.etcs_rests.specs.Lefts.{next_of, left_of, ahead, is_stage, is_closed, is_telegram}
+use Rattle.etcs_rests.specs.Lefts.{left_of, ahead, is_closed, is_telegram}
+use Rattle.etcs_rests.specs.BitLaws.{BitsLeft, bits_fit, bits_regular, bits_begin}
+use Rattle.etcs_rests.specs.ChainLaws.{chain_regular, chain_begins}
+use Rattle.etcs_rests.specs.LabelLaws.{some_first}
 use Rattle.etcs_rests.specs.LeftLaws.{left_regular, left_begins}
+use Rattle.etcs_rests.specs.StageLaws.{open_next}
+use Rattle.etcs_rests.specs.ThenLaws.{then_regular, then_begins_with}
 use Rattle.etcs_telegram.specs.declared.size.Size.{Size}
 use Rattle.etcs_telegram.specs.declared.phase.Phase.{Phase}
 use Rattle.etcs_telegram.specs.declared.phase.Phase.TheVariants.{Header, Packets, Fill, Pad, Whole}
 use Rattle.etcs_telegram.specs.Telegrams.{header_row, pad_bits}
 use Rattle.etcs_telegram.specs.Phases.{PadLeft, FillLeft}
-use Rattle.etcs_rests.specs.ChainLaws.{chain_regular, chain_begins}
 use Rattle.etcs_telegram.specs.Lefts.{FillBy, PacketsBehind, left_at, next_at, is_open, stands_at, HoldsIn, Follows}
 
 -- ---- FILL and PAD.
-
-bits_agree : (v : Var) (a b : List Bool) → length a ≡ length b → Agree (kept v a) (kept v b)
-bits_agree v [] [] e = tt
-bits_agree v [] (y ∷ b) e = absurd cc
-bits_agree v (x ∷ a) [] e = absurd cc
-bits_agree v (x ∷ a) (y ∷ b) e = (refl, λ _. bits_agree v a b (let k : length a ≡ length b = cc in k))
-
-bits_fit : (v : Var) (a : List Bool) → width v ≡ 1 → AllFit (kept v a)
-bits_fit v [] w = tt
-bits_fit v (true ∷ a) w = (rw w (omega arith), bits_fit v a w)
-bits_fit v (false ∷ a) w = (rw w (omega arith), bits_fit v a w)
 
 pub pad_regular : (n : ℕ) → Regular (PadLeft n)
 pad_regular n = record {
@@ -50,15 +37,10 @@ pad_regular n = record {
 }
 
 pub fill_regular : (size : Size) (n : ℕ) → Regular (FillLeft size n)
-fill_regular size n =
-    let pad = kept PAD (replicate (pad_bits size) false) in record {
-      agree = λ a b (f, l, e) (g, m, h). rw (e, h) (Agree-append (kept FILL f) (kept FILL g) pad pad (bits_agree FILL f g (l ∙ sym m)) (λ _. Agree-same pad));
-      fit = λ a (f, l, e). rw e (AllFit-append (kept FILL f) pad (bits_fit FILL f refl) (bits_fit PAD (replicate (pad_bits size) false) refl));
-    }
+fill_regular size n = then_regular (BitsLeft FILL n) (PadLeft (pad_bits size)) (bits_regular FILL refl n) (pad_regular (pad_bits size))
 
 pub fill_begins : (size : Size) (n : ℕ) → 0 < n → BeginsWith (FillLeft size n) FILL
-fill_begins size n some r ([], l, e) = absurd (omega (arith, l, some))
-fill_begins size n some r (b ∷ f, l, e) = (if b then 1 else 0, kept FILL f ++ kept PAD (replicate (pad_bits size) false), e)
+fill_begins size n some = then_begins_with (BitsLeft FILL n) (PadLeft (pad_bits size)) FILL (bits_begin FILL refl n some)
 
 pub pad_begins : (n : ℕ) → 0 < n → BeginsWith (PadLeft n) PAD
 pad_begins zero some r e = absurd (omega arith)
@@ -92,27 +74,6 @@ module _ (size : Size) (l : PacketsLeft) where
 
 -- ---- Nothing comes next.
 
-some_first : (vs : List Var) (at : ℕ) → at < length vs → first_of (drop at vs) ≡ None → ⊥
-some_first [] at h e = absurd (omega arith)
-some_first (v ∷ vs) zero h e = absurd cc
-some_first (v ∷ vs) (suc at) h e = some_first vs at (omega arith) e
-
-none_first : (o : Option Var) → is_some o ≡ true → o ≡ None → ⊥
-none_first None h e = absurd cc
-none_first (Some v) h e = absurd cc
-
--- packets that aren't closed go on
-open_next : (c : Carrier) (room : ℕ) (s : Stage) → IsTrue (is_stage c room s) → is_closed s ≡ false → next_of s ≡ None → ⊥
-open_next c room stage.Number k o e = absurd cc
-open_next c room stage.Marker k o e = absurd cc
-open_next c room (stage.Direction nid) k o e = absurd cc
-open_next c room (stage.Length nid dir) k o e = absurd cc
-open_next c room (stage.Row nid dir row) k o e =
-    let some = and_parts (is_some (row_to ToTrain nid)) (admits Q_DIR dir && is_some (first_variable row.place)) k in
-    none_first (first_variable row.place) (and_parts (admits Q_DIR dir) (is_some (first_variable row.place)) some.1).1 e
-open_next c room (stage.Kept nid dir left) k o e = absurd cc
-open_next c room stage.Closed k o e = absurd cc
-
 -- what a value that stands says of its packets
 pub opens : (l : PacketsLeft) → is_open l ≡ true → (l.carrier ≡ Telegram) × (is_closed l.stage ≡ false)
 opens l h =
@@ -123,16 +84,20 @@ opens l h =
     telegram Telegram e = refl
     telegram Message e = absurd cc
 
-pub rest_ended : (size : Size) (phase : Phase) (n : ℕ) (l : PacketsLeft) → IsTrue (stands_at phase n l) → next_at phase l ≡ None → Ended (left_at size phase l)
-rest_ended size (Header at) n l h e =
+-- the telegram is whole
+pub ended_whole : (phase : Phase) (n : ℕ) (l : PacketsLeft) → IsTrue (stands_at phase n l) → next_at phase l ≡ None → phase ≡ Whole
+ended_whole (Header at) n l h e =
     let below = and_parts (nat_lt at 10) ((n == at) && is_open l) h in
     absurd (some_first header_row at (ltb-true at 10 below.0) e)
-rest_ended size Packets n l h e =
+ended_whole Packets n l h e =
     let both = and_parts (n == 10) (is_open l) h in
     absurd (open_next l.carrier l.room l.stage l.stands (opens l both.1).1 e)
-rest_ended size (Fill left) n l h e = absurd cc
-rest_ended size (Pad left) n l h e = absurd cc
-rest_ended size Whole n l h e = λ r k. k
+ended_whole (Fill left) n l h e = absurd cc
+ended_whole (Pad left) n l h e = absurd cc
+ended_whole Whole n l h e = refl
+
+pub rest_ended : (size : Size) (phase : Phase) (n : ℕ) (l : PacketsLeft) → IsTrue (stands_at phase n l) → next_at phase l ≡ None → Ended (left_at size phase l)
+rest_ended size phase n l h e = subst (λ (p : Phase). Ended (left_at size p l)) (sym (ended_whole phase n l h e)) (λ r k. k)
 
 -- ---- From one to the next.
 

@@ -3,7 +3,7 @@
 ghost use Rattle.std.specs.Prelude.{◌≡◌, ℕ, ◌+◌, ◌*◌, ◌^◌, ◌≤◌, ◌<◌, ◌↔◌, ◌++◌, length, drop, codes, Some, IsOk, IfOk, OnErr};
 ghost use Rattle.etcs_bits.specs.Bits.{bits, replaced};
 ghost use Rattle.etcs_vars.specs.Reading.{Reading, spelled};
-ghost use Rattle.etcs_telegram.specs.Headers.{labelled};
+ghost use Rattle.etcs_rests.specs.Labels.{labelled};
 ghost use Rattle.etcs_telegram.specs.Telegrams.{IsAdmitted, TelegramReads, container_bytes, header_reading, telegram_value};
 ghost use Rattle.etcs_telegram.specs.Writing.{telegram_reading};
 

@@ -6,7 +6,7 @@ ghost use Rattle.etcs_vars.specs.Reading.{InLanguage, NoneYet};
 ghost use Rattle.etcs_telegram.specs.Telegrams.{OneSpelling, RoomRule, TelegramLanguage, container_bytes};
 ghost use Rattle.etcs_telegram.specs.Views.{OneRefusal};
 ghost use Rattle.etcs_telegram.specs.Writing.{Writes};
-ghost use Rattle.etcs_telegram.specs.Holdings.{OneHolding};
+ghost use Rattle.etcs_telegram.specs.Readers.{OneHolding};
 
 use crate::reader::TelegramReader;
 use crate::size::Size;

@@ -22,7 +22,7 @@ pub(crate) enum Phase {
 }
 
 impl Phase {
-    ghost use Rattle.etcs_telegram.specs.Phases.{var_at, after, after_fill, is_going, IsPhase};
+    ghost use Rattle.etcs_telegram.specs.Phases.{var_at, after, after_fill, IsPhase};
 
     /// The variable that comes next.
     pub(crate) fn var(self) -> Var
@@ -37,13 +37,6 @@ impl Phase {
             Phase::Fill(_) => Var::FILL,
             Phase::Pad(_) | Phase::Whole => Var::PAD,
         }
-    }
-
-    /// Whether something comes.
-    pub(crate) fn is_going(self) -> bool
-        ensures { result ≡ is_going self }
-    {
-        self != Phase::Whole
     }
 
     /// What comes behind the variable that comes next; packets aside.

@@ -9,9 +9,9 @@ use crate::header::Header;
 use crate::size::Size;
 use etcs_bits::{BitSlice, Bits};
 use etcs_packets::Packet;
-use etcs_packets::parts::holds;
 use etcs_parts::Items;
 use etcs_vars::BuildFault;
+use etcs_writing::room_left;
 use std::alloc::{AllocError, Global};
 use std::marker::Model;
 
@@ -158,16 +158,7 @@ fn fill_left(size: Size, packets: &[Packet]) -> Option<usize>
     ensures packets { OnSome result (All IsPacket (map packet_value packets.now)) }
     ensures none { IfNone result (packet_room size < closed_bits packets.now) }
 {
-    let mut left = size.packet_room() - 8;
-    for packet in packets {
-        holds(packet);
-        let bits = packet.bit_len();
-        if left < bits {
-            return None;
-        }
-        left -= bits;
-    }
-    Some(left)
+    room_left(size.packet_room() - 8, packets)
 }
 
 /// So many bits that are all ones.

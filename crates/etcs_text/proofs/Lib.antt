@@ -1,6 +1,8 @@
 pub mod Texts
 pub mod NumberTexts
-pub mod Encoded
+pub mod Encoding
 pub mod Refusals
 pub mod MessageTexts
 pub mod MessageExamples
+pub mod JsonExamples
+pub mod TreeTexts

@@ -19,7 +19,7 @@ use Rattle.etcs_radio.specs.Messages.{MessageValue, MessageReads, all_bits, head
 use Rattle.etcs_radio.specs.Readings.{bytes_of, front_reading, kept_of, message_reading, packets_of, padding_bits_of, padding_of}
 use Rattle.etcs_radio.proofs.Bodies.{body_length}
 use Rattle.etcs_radio.proofs.Sizes.{typed_length, kept_length}
-use Rattle.etcs_text.specs.Commands.{IsEncoded}
+use Rattle.etcs_text.specs.Encodings.{IsEncoded}
 use Rattle.etcs_text.specs.Entries.{of_message}
 use Rattle.etcs_text.specs.Messages.{message_bits, message_bytes, message_line, front_variables, behind_lines, message_text}
 use Rattle.etcs_text.specs.Packets.{packets_text}

@@ -1,6 +1,6 @@
 -- Numbers of variables as text.
 use Rattle.std.proofs.Common.{◌≡◌, ℕ, suc, ◌+◌, ◌<◌, Result, Ok, Err, cond, ◌/◌, ◌%◌, List, [], ◌∷◌, ◌++◌, sym, ap, ◌∙◌, append_assoc}
-use Rattle.std.specs.Prelude.{OnOk, codes}
+use Rattle.std.specs.Prelude.{OnOk}
 use Rattle.std.specs.Result.{is_ok}
 use Rattle.std.specs.Fmt.{decimal}
 use Rattle.std.proofs.lemmas.Fmt.{decimal_digit}
@@ -15,7 +15,7 @@ hex_more below count n digit old front out same e d f =
     ∙ ap (λ (x : ℕ). old ++ (hex_digits below (n / 16) ++ x ∷ [])) d
     ∙ ap (λ (k : ℕ). old ++ hex_digits k n) (sym same)
 
--- a number of one digit and a LF
-pub digit_line : (T E : Type 0) (r : Result T E) (n : ℕ) (old new : List ℕ) → n < 10 → new ≡ cond (is_ok r) (old ++ (48 + n) ∷ 10 ∷ []) old → OnOk r (new ≡ old ++ decimal n ++ codes "\n")
-digit_line T E (Ok x) n old new h e = e ∙ sym (ap (λ (z : List ℕ). (old ++ z) ++ 10 ∷ []) (decimal_digit n h) ∙ append_assoc old ((48 + n) ∷ []) (10 ∷ []))
-digit_line T E (Err f) n old new h e = tt
+-- a number of one digit and a byte more
+pub digit_and : (T E : Type 0) (r : Result T E) (n end : ℕ) (old new : List ℕ) → n < 10 → new ≡ cond (is_ok r) (old ++ (48 + n) ∷ end ∷ []) old → OnOk r (new ≡ old ++ (decimal n ++ end ∷ []))
+digit_and T E (Ok x) n end old new h e = e ∙ sym (ap (λ (z : List ℕ). old ++ (z ++ end ∷ [])) (decimal_digit n h))
+digit_and T E (Err f) n end old new h e = tt

@@ -1,9 +1,13 @@
 pub mod Fronts
 pub mod Entries
-pub mod Commands
+pub mod Encodings
+pub mod JsonParts
 pub mod LineSinks
 pub mod Messages
 pub mod Packets
+pub mod PairSinks
+pub mod PlainTexts
 pub mod Show
 pub mod Telegrams
 pub mod TextLengths
+pub mod Trees

@@ -1,12 +1,13 @@
 -- How long the text of an item can be.
-use Rattle.std.proofs.Common.{◌≡◌, ℕ, zero, suc, ◌+◌, ◌*◌, ◌^◌, ◌<◌, ◌≤◌, Bool, true, false, List, [], ◌∷◌, ◌++◌, length, flat_map, Some, None, refl, ap, subst, ◌∙◌, arith, decimal, ◌==◌}
+use Rattle.std.proofs.Common.{◌≡◌, ℕ, zero, suc, ◌+◌, ◌*◌, ◌^◌, ◌<◌, ◌≤◌, Bool, true, false, List, [], ◌∷◌, ◌++◌, length, flat_map, map, Some, None, refl, ap, subst, ◌∙◌, arith, decimal, ◌==◌}
 use Rattle.std.specs.Prelude.{Option, codes, if◌then◌else◌, nat_lt, ◌-◌, ◌/◌, ◌%◌}
 use Rattle.std.proofs.Math.Nat.{pow-le-pow_right}
 use Rattle.std.specs.Prelude.{replicate}
 use Rattle.std.proofs.lemmas.List.{length-append, length-map}
 use Rattle.std.proofs.lemmas.Fmt.{length-decimal-le}
-use Rattle.hex.specs.Hex.{encode_upper, upper_digits}
-use Rattle.hex.proofs.HexLemmas.{length-encode_with}
+use Rattle.json.specs.Print.{escape, escape_byte, quoted}
+use Rattle.serde_json.specs.View.{items_of}
+use Rattle.serde_json.specs.Written.{comma_if, compact_text, items_text}
 use Rattle.etcs_bits.specs.Bits.{num, bits}
 use Rattle.etcs_bits.proofs.Numbers.{length-num}
 use Rattle.etcs_bits.proofs.Positions.{length-bits}
@@ -21,22 +22,22 @@ use Rattle.etcs_packets.specs.PacketValues.{PacketValue, nid_of}
 use Rattle.etcs_packets.specs.PacketValues as packet
 use Rattle.etcs_packets.specs.PacketReadings.{packet_reading, packets_reading, packet_bits}
 use Rattle.etcs_radio.specs.declared.body.RadioHead.{RadioHead}
+use Rattle.etcs_radio.specs.Bodies.{run_of_head}
+use Rattle.etcs_radio.proofs.Bodies.{head_length as head_long}
 use Rattle.etcs_radio.specs.Messages.{MessageValue, typed_message, kept_message, MessageReads, TypedReads, head_reading}
-use Rattle.etcs_radio.proofs.Kept.{length-kept}
+use Rattle.etcs_radio.proofs.Bytes.{one_bits, pad_bits as padding_bits}
 use Rattle.etcs_radio.proofs.Sizes.{head_length}
 use Rattle.etcs_radio.proofs.Spelling.{regular as radio}
 use Rattle.etcs_telegram.specs.declared.size.Size.{Size}
 use Rattle.etcs_telegram.specs.declared.size.Size.TheVariants as size
 use Rattle.etcs_telegram.specs.Telegrams.{TelegramValue, TelegramReads, header_reading, closed_reading, user_bits, pad_bits}
 use Rattle.etcs_telegram.proofs.Spellings.{regular, whole_length}
-use Rattle.etcs_text.specs.declared.entry.Kind.{Kind}
-use Rattle.etcs_text.specs.declared.command.Form.TheVariants.{Hex, Bin}
-use Rattle.etcs_text.specs.declared.command.Command.{Command}
-use Rattle.etcs_text.specs.declared.command.Command.TheVariants.{Show, Check, Convert}
-use Rattle.etcs_text.specs.Commands.{IsEncoded, ItemText, ItemsText, check_line}
+use Rattle.etcs_text.specs.Encodings.{IsEncoded, check_line}
 use Rattle.etcs_text.specs.Entries.{EntryValue, of_telegram, of_message, EntryReads, Spells, entry_bits, entry_text}
 use Rattle.etcs_text.specs.Messages.{message_bits, message_bytes, message_line, front_variables, behind_lines, message_text}
 use Rattle.etcs_text.specs.Packets.{packet_line, frame_lines, body_lines, packet_text, packets_text}
+use Rattle.etcs_text.specs.PlainTexts.{plain_bits, plain_hex}
+use Rattle.etcs_text.specs.Trees.{json_tree, message_tree, number_tree, packet_tree, packets_tree, pair_tree, pairs_tree, telegram_tree}
 use Rattle.etcs_text.specs.Show.{variable_line, number_text, special_text, signed_text, hex_digit, hex_digits, bit_digit, bits_text, bits_line, item_line, kind_word, fill_line}
 use Rattle.etcs_text.specs.Telegrams.{show_text}
 
@@ -50,7 +51,7 @@ chosen : (b : Bool) (text : List ℕ) (o : Option (List ℕ)) → length (specia
 chosen true text o h k = h
 chosen false text o h k = k
 
-decimal_short : (n : ℕ) → n < 2 ^ 64 → length (decimal n) ≤ 20
+pub decimal_short : (n : ℕ) → n < 2 ^ 64 → length (decimal n) ≤ 20
 decimal_short n h = length-decimal-le 20 n (omega arith) (omega (arith, h)) h
 
 with_sign : (b : Bool) (x y : List ℕ) → length x ≤ 20 → length y ≤ 20 → length (if b then x else codes "-" ++ y) ≤ 21
@@ -234,18 +235,18 @@ packet_short (packet.kept nid dir bs) h =
     let k = line_short (codes "OTHER_DATA") bs (omega (arith, small)) (omega arith) in
     omega (arith, l, b, f, n, k)
 
-fit_front : (a b : Reading) → AllFit (a ++ b) → AllFit a
+pub fit_front : (a b : Reading) → AllFit (a ++ b) → AllFit a
 fit_front [] b h = tt
 fit_front (p ∷ a) b h = (h.0, fit_front a b h.1)
 
-fit_behind : (a b : Reading) → AllFit (a ++ b) → AllFit b
+pub fit_behind : (a b : Reading) → AllFit (a ++ b) → AllFit b
 fit_behind [] b h = h
 fit_behind (p ∷ a) b h = fit_behind a b h.1
 
-spelled_long : (a b : Reading) → length (spelled (a ++ b)) ≡ length (spelled a) + length (spelled b)
+pub spelled_long : (a b : Reading) → length (spelled (a ++ b)) ≡ length (spelled a) + length (spelled b)
 spelled_long a b = ap length (spelled-append a b) ∙ length-append (spelled a) (spelled b)
 
-packets_short : (vs : List PacketValue) → AllFit (packets_reading vs) → length (packets_text vs) ≤ 128 * length (spelled (packets_reading vs))
+pub packets_short : (vs : List PacketValue) → AllFit (packets_reading vs) → length (packets_text vs) ≤ 128 * length (spelled (packets_reading vs))
 packets_short [] h = omega arith
 packets_short (v ∷ vs) h =
     let first = packet_short v (fit_front (packet_reading v) (packets_reading vs) h) in
@@ -268,7 +269,7 @@ kind_short : (s : Size) → length (kind_word s) ≤ 5
 kind_short size.Short = omega arith
 kind_short size.Long = omega arith
 
-six_long : (a b c d e f : List ℕ) → length (a ++ b ++ c ++ d ++ e ++ f) ≡ length a + length b + length c + length d + length e + length f
+pub six_long : (a b c d e f : List ℕ) → length (a ++ b ++ c ++ d ++ e ++ f) ≡ length a + length b + length c + length d + length e + length f
 six_long a b c d e f =
     let v = length-append (a ++ b ++ c ++ d ++ e) f in
     let w = length-append (a ++ b ++ c ++ d) e in
@@ -277,7 +278,7 @@ six_long a b c d e f =
     let z = length-append a b in
     omega (arith, v, w, x, y, z)
 
-five_long : (a b c d e : List ℕ) → length (a ++ b ++ c ++ d ++ e) ≡ length a + length b + length c + length d + length e
+pub five_long : (a b c d e : List ℕ) → length (a ++ b ++ c ++ d ++ e) ≡ length a + length b + length c + length d + length e
 five_long a b c d e = let l = six_long a b c d e [] in omega (arith, l, length-append (a ++ b ++ c ++ d ++ e) [])
 
 item_short : (s : Size) (item : ℕ) → item < 2 ^ 64 → length (item_line s item) ≤ 64
@@ -292,7 +293,7 @@ item_short s item h =
 abbrev closing : Reading
 closing = (NID_PACKET, 255) ∷ []
 
-reading_fit : (t : TelegramValue) (r : Reading) → TelegramReads t r → AllFit (header_reading t.header) × AllFit (packets_reading t.packets)
+pub reading_fit : (t : TelegramValue) (r : Reading) → TelegramReads t r → AllFit (header_reading t.header) × AllFit (packets_reading t.packets)
 reading_fit t r x =
     let head = header_reading t.header in
     let packets = packets_reading t.packets in
@@ -339,13 +340,13 @@ whole_message (typed_message nid head body vs padding) r x =
     let l = spelled_long ((front ++ body) ++ packets_reading vs) (kept PADDING padding) in
     let k = spelled_long (front ++ body) (packets_reading vs) in
     let j = spelled_long front body in
-    let p = length-kept PADDING padding refl in
+    let p = padding_bits padding in
     let all : length (spelled r) ≡ length (spelled (((front ++ body) ++ packets_reading vs) ++ kept PADDING padding)) = ap (λ (q : Reading). length (spelled q)) x.reading_is in
     (omega (arith, x.bytes, len), omega (arith, x.bytes), omega (arith, all, l, k, j, p, head_length nid x.len head))
 whole_message (kept_message nid b) r x =
     let l = length-sent NID_MESSAGE nid ((L_MESSAGE, x.len) ∷ kept OTHER_DATA b) in
     let k = length-sent L_MESSAGE x.len (kept OTHER_DATA b) in
-    let p = length-kept OTHER_DATA b refl in
+    let p = one_bits b in
     let all : length (spelled r) ≡ length (spelled ((NID_MESSAGE, nid) ∷ (L_MESSAGE, x.len) ∷ kept OTHER_DATA b)) = ap (λ (q : Reading). length (spelled q)) x.reading_is in
     (omega (arith, x.bytes, x.most), omega (arith, x.bytes), omega (arith, all, l, k, p))
 
@@ -396,13 +397,233 @@ message_short m r item x h =
     let l = three_long (message_line (message_bits m) item) (flat_map variable_line (front_variables m)) (behind_lines m) in
     omega (arith, bits, line, front, behind, l)
 
+-- ---- JSON.
+
+comma_short : (b : Bool) → length (comma_if b) ≤ 1
+comma_short true = omega arith
+comma_short false = omega arith
+
+radio_long : (count n : ℕ) → length (quoted (hex_digits count n)) ≡ 2 + count
+radio_long count n =
+    let l = length-append (escape (hex_digits count n)) (34 ∷ []) in
+    let e = ap length (plain_hex count n) in
+    omega (arith, l, e, hex_long count n)
+
+digits_long : (bs : List Bool) → length (quoted (map bit_digit bs)) ≡ 2 + length bs
+digits_long bs =
+    let l = length-append (escape (map bit_digit bs)) (34 ∷ []) in
+    let e = ap length (plain_bits bs) in
+    omega (arith, l, e, length-map bs bit_digit)
+
+-- texts one behind the other
+abbrev joined : List (List ℕ) → List ℕ
+joined [] = []
+joined (x ∷ xs) = x ++ joined xs
+
+abbrev total : List (List ℕ) → ℕ
+total [] = 0
+total (x ∷ xs) = length x + total xs
+
+joined_long : (xs : List (List ℕ)) → length (joined xs) ≡ total xs
+joined_long [] = refl
+joined_long (x ∷ xs) = omega (arith, length-append x (joined xs), joined_long xs)
+
+-- a name and a number, but for the quotes of the name
+named_short : (v : Var) (n : ℕ) → length (decimal n) ≤ 20 → length (escape (name v)) + length (compact_text (number_tree v n)) ≤ 44
+unfolding escape_byte
+named_short Q_UPDOWN n h = omega (arith, h)
+named_short M_VERSION_HEADER n h = omega (arith, h)
+named_short Q_MEDIA n h = omega (arith, h)
+named_short N_PIG n h = omega (arith, h)
+named_short N_TOTAL n h = omega (arith, h)
+named_short M_DUP n h = omega (arith, h)
+named_short M_MCOUNT n h = omega (arith, h)
+named_short NID_C n h = omega (arith, h)
+named_short NID_BG n h = omega (arith, h)
+named_short Q_LINK n h = omega (arith, h)
+named_short NID_PACKET n h = omega (arith, h)
+named_short Q_DIR n h = omega (arith, h)
+named_short L_PACKET n h = omega (arith, h)
+named_short Q_SCALE n h = omega (arith, h)
+named_short N_ITER n h = omega (arith, h)
+named_short NID_VBCMK n h = omega (arith, h)
+named_short D_LINK n h = omega (arith, h)
+named_short Q_NEWCOUNTRY n h = omega (arith, h)
+named_short Q_LINKORIENTATION n h = omega (arith, h)
+named_short Q_LINKREACTION n h = omega (arith, h)
+named_short Q_LOCACC n h = omega (arith, h)
+named_short V_MAIN n h = omega (arith, h)
+named_short V_LOA n h = omega (arith, h)
+named_short T_LOA n h = omega (arith, h)
+named_short L_SECTION n h = omega (arith, h)
+named_short Q_SECTIONTIMER n h = omega (arith, h)
+named_short T_SECTIONTIMER n h = omega (arith, h)
+named_short D_SECTIONTIMERSTOPLOC n h = omega (arith, h)
+named_short L_ENDSECTION n h = omega (arith, h)
+named_short Q_ENDTIMER n h = omega (arith, h)
+named_short T_ENDTIMER n h = omega (arith, h)
+named_short D_ENDTIMERSTARTLOC n h = omega (arith, h)
+named_short Q_DANGERPOINT n h = omega (arith, h)
+named_short D_DP n h = omega (arith, h)
+named_short V_RELEASEDP n h = omega (arith, h)
+named_short Q_OVERLAP n h = omega (arith, h)
+named_short D_STARTOL n h = omega (arith, h)
+named_short T_OL n h = omega (arith, h)
+named_short D_OL n h = omega (arith, h)
+named_short V_RELEASEOL n h = omega (arith, h)
+named_short D_GRADIENT n h = omega (arith, h)
+named_short Q_GDIR n h = omega (arith, h)
+named_short G_A n h = omega (arith, h)
+named_short G_TSR n h = omega (arith, h)
+named_short D_STATIC n h = omega (arith, h)
+named_short V_STATIC n h = omega (arith, h)
+named_short Q_FRONT n h = omega (arith, h)
+named_short Q_DIFF n h = omega (arith, h)
+named_short NC_CDDIFF n h = omega (arith, h)
+named_short NC_DIFF n h = omega (arith, h)
+named_short V_DIFF n h = omega (arith, h)
+named_short D_LEVELTR n h = omega (arith, h)
+named_short M_LEVELTR n h = omega (arith, h)
+named_short NID_NTC n h = omega (arith, h)
+named_short L_ACKLEVELTR n h = omega (arith, h)
+named_short Q_RBC n h = omega (arith, h)
+named_short NID_RBC n h = omega (arith, h)
+named_short NID_RADIO n h = omega (arith, radio_long 16 n)
+named_short Q_SLEEPSESSION n h = omega (arith, h)
+named_short NID_MN n h = omega (arith, h)
+named_short NID_TSR n h = omega (arith, h)
+named_short D_TSR n h = omega (arith, h)
+named_short L_TSR n h = omega (arith, h)
+named_short V_TSR n h = omega (arith, h)
+named_short Q_TEXTCLASS n h = omega (arith, h)
+named_short Q_TEXTDISPLAY n h = omega (arith, h)
+named_short D_TEXTDISPLAY n h = omega (arith, h)
+named_short M_MODETEXTDISPLAY n h = omega (arith, h)
+named_short M_LEVELTEXTDISPLAY n h = omega (arith, h)
+named_short L_TEXTDISPLAY n h = omega (arith, h)
+named_short T_TEXTDISPLAY n h = omega (arith, h)
+named_short Q_TEXTCONFIRM n h = omega (arith, h)
+named_short Q_CONFTEXTDISPLAY n h = omega (arith, h)
+named_short Q_TEXTREPORT n h = omega (arith, h)
+named_short NID_TEXTMESSAGE n h = omega (arith, h)
+named_short L_TEXT n h = omega (arith, h)
+named_short X_TEXT n h = omega (arith, h)
+named_short Q_TEXT n h = omega (arith, h)
+named_short Q_ASPECT n h = omega (arith, h)
+named_short Q_SRSTOP n h = omega (arith, h)
+named_short NID_OPERATIONAL n h = omega (arith, h)
+named_short M_VERSION n h = omega (arith, h)
+named_short NID_MESSAGE n h = omega (arith, h)
+named_short L_MESSAGE n h = omega (arith, h)
+named_short T_TRAIN n h = omega (arith, h)
+named_short M_ACK n h = omega (arith, h)
+named_short NID_LRBG n h = omega (arith, h)
+named_short D_SR n h = omega (arith, h)
+named_short NID_EM n h = omega (arith, h)
+named_short D_REF n h = omega (arith, h)
+named_short Q_ORIENTATION n h = omega (arith, h)
+named_short FILL n h = omega (arith, h)
+named_short OTHER_DATA n h = omega (arith, h)
+named_short PADDING n h = omega (arith, h)
+named_short PAD n h = omega (arith, h)
+
+pair_json_short : (p : Sent) → p.1 < 2 ^ width p.0 → length (compact_text (pair_tree p)) ≤ 49
+pair_json_short (v, n) h =
+    let same = length-append (escape (name v)) (34 ∷ []) in
+    let whole = length-append (escape (name v) ++ 34 ∷ []) (44 ∷ (compact_text (number_tree v n) ++ 93 ∷ [])) in
+    let behind = length-append (compact_text (number_tree v n)) (93 ∷ []) in
+    omega (arith, same, whole, behind, named_short v n (decimal_short n (small_number v n h)))
+
+pair_items_short : (later : Bool) (r : Reading) → AllFit r → length (items_text later (items_of (map pair_tree r))) ≤ 64 * length (spelled r) + 1
+pair_items_short later [] h = omega arith
+pair_items_short later ((v, n) ∷ r) h =
+    let rest = items_text true (items_of (map pair_tree r)) in
+    let a = length-append (comma_if later) (compact_text (pair_tree (v, n)) ++ rest) in
+    let b = length-append (compact_text (pair_tree (v, n))) rest in
+    omega (arith, a, b, comma_short later, pair_json_short (v, n) h.0, pair_items_short true r h.1, length-sent v n r, width_pos v)
+
+pairs_json_short : (r : Reading) → AllFit r → length (compact_text (pairs_tree r)) ≤ 64 * length (spelled r) + 2
+pairs_json_short r h = omega (arith, pair_items_short false r h)
+
+-- with a comma
+packet_json_short : (v : PacketValue) → AllFit (packet_reading v) → length (compact_text (packet_tree v)) + 1 ≤ 64 * length (spelled (packet_reading v))
+unfolding escape_byte
+packet_json_short (packet.marker n) h =
+    let r = (NID_VBCMK, n) ∷ [] in
+    let l : length (compact_text (packet_tree (packet.marker n))) ≡ total (codes "{\"fields\":" ∷ compact_text (pairs_tree r) ∷ codes ",\"nid\":" ∷ decimal 0 ∷ codes "}" ∷ []) = joined_long (codes "{\"fields\":" ∷ compact_text (pairs_tree r) ∷ codes ",\"nid\":" ∷ decimal 0 ∷ codes "}" ∷ []) in
+    let b = packet_bits (packet.marker n) in
+    omega (arith, l, b, pairs_json_short r (h.1.0, tt), length-sent NID_VBCMK n [], decimal_short 0 (omega arith))
+packet_json_short (packet.typed nid dir r) h =
+    let l : length (compact_text (packet_tree (packet.typed nid dir r))) ≡ total (codes "{\"dir\":" ∷ decimal dir ∷ codes ",\"fields\":" ∷ compact_text (pairs_tree r) ∷ codes ",\"nid\":" ∷ decimal nid ∷ codes "}" ∷ []) = joined_long (codes "{\"dir\":" ∷ decimal dir ∷ codes ",\"fields\":" ∷ compact_text (pairs_tree r) ∷ codes ",\"nid\":" ∷ decimal nid ∷ codes "}" ∷ []) in
+    let b = packet_bits (packet.typed nid dir r) in
+    omega (arith, l, b, pairs_json_short r h.1.1.1, decimal_short dir (small_number Q_DIR dir h.1.0), decimal_short nid (small_number NID_PACKET nid h.0))
+packet_json_short (packet.kept nid dir bs) h =
+    let l : length (compact_text (packet_tree (packet.kept nid dir bs))) ≡ total (codes "{\"data\":" ∷ quoted (map bit_digit bs) ∷ codes ",\"dir\":" ∷ decimal dir ∷ codes ",\"nid\":" ∷ decimal nid ∷ codes "}" ∷ []) = joined_long (codes "{\"data\":" ∷ quoted (map bit_digit bs) ∷ codes ",\"dir\":" ∷ decimal dir ∷ codes ",\"nid\":" ∷ decimal nid ∷ codes "}" ∷ []) in
+    let b = packet_bits (packet.kept nid dir bs) in
+    omega (arith, l, b, digits_long bs, decimal_short dir (small_number Q_DIR dir h.1.0), decimal_short nid (small_number NID_PACKET nid h.0))
+
+packet_items_short : (later : Bool) (vs : List PacketValue) → AllFit (packets_reading vs) → length (items_text later (items_of (map packet_tree vs))) ≤ 64 * length (spelled (packets_reading vs)) + 1
+packet_items_short later [] h = omega arith
+packet_items_short later (v ∷ vs) h =
+    let rest = items_text true (items_of (map packet_tree vs)) in
+    let a = length-append (comma_if later) (compact_text (packet_tree v) ++ rest) in
+    let b = length-append (compact_text (packet_tree v)) rest in
+    let first = packet_json_short v (fit_front (packet_reading v) (packets_reading vs) h) in
+    let more = packet_items_short true vs (fit_behind (packet_reading v) (packets_reading vs) h) in
+    omega (arith, a, b, comma_short later, first, more, spelled_long (packet_reading v) (packets_reading vs))
+
+packets_json_short : (vs : List PacketValue) → AllFit (packets_reading vs) → length (compact_text (packets_tree vs)) ≤ 64 * length (spelled (packets_reading vs)) + 2
+packets_json_short vs h = omega (arith, packet_items_short false vs h)
+
+kind_json_short : (s : Size) → length (quoted (kind_word s)) ≤ 7
+unfolding escape_byte
+kind_json_short size.Short = omega arith
+kind_json_short size.Long = omega arith
+
+telegram_json_short : (t : TelegramValue) (r : Reading) → TelegramReads t r → length (compact_text (telegram_tree t)) ≤ 524288
+unfolding escape_byte
+telegram_json_short t r x =
+    let fits = reading_fit t r x in
+    let header = pairs_json_short (header_reading t.header) fits.0 in
+    let packets = packets_json_short t.packets fits.1 in
+    let parts = codes "{\"fill\":" ∷ quoted (map bit_digit t.fill) ∷ codes ",\"header\":" ∷ compact_text (pairs_tree (header_reading t.header)) ∷ codes ",\"kind\":" ∷ quoted (kind_word t.size) ∷ codes ",\"packets\":" ∷ compact_text (packets_tree t.packets) ∷ codes "}" ∷ [] in
+    let l : length (compact_text (telegram_tree t)) ≡ total parts = joined_long parts in
+    omega (arith, l, header, packets, digits_long t.fill, kind_json_short t.size, spelled_long (packets_reading t.packets) closing, x.user_bits_is, user_short t.size)
+
+message_json_short : (m : MessageValue) (r : Reading) → MessageReads m r → length (compact_text (message_tree m)) ≤ 524288
+unfolding escape_byte
+message_json_short (typed_message nid head body vs padding) r x =
+    let m = typed_message nid head body vs padding in
+    let len = message_bytes m in
+    let w = whole_message m r x in
+    let fits = front_fit m r x in
+    let headed = fit_front (head_reading nid len head) body fits in
+    let whole : AllFit r = radio.fit r (m, x) in
+    let shape : AllFit (((head_reading nid x.len head ++ body) ++ packets_reading vs) ++ kept PADDING padding) = subst AllFit x.reading_is whole in
+    let fields = pairs_json_short body (fit_behind (head_reading nid len head) body fits) in
+    let header = pairs_json_short (run_of_head head) headed.1.1 in
+    let packets = packets_json_short vs (fit_behind (head_reading nid x.len head ++ body) (packets_reading vs) (fit_front ((head_reading nid x.len head ++ body) ++ packets_reading vs) (kept PADDING padding) shape)) in
+    let parts = codes "{\"fields\":" ∷ compact_text (pairs_tree body) ∷ codes ",\"header\":" ∷ compact_text (pairs_tree (run_of_head head)) ∷ codes ",\"kind\":\"radio\",\"nid\":" ∷ decimal nid ∷ codes ",\"packets\":" ∷ compact_text (packets_tree vs) ∷ codes ",\"padding\":" ∷ quoted (map bit_digit padding) ∷ codes "}" ∷ [] in
+    let l : length (compact_text (message_tree m)) ≡ total parts = joined_long parts in
+    omega (arith, l, fields, header, packets, digits_long padding, decimal_short nid (small_number NID_MESSAGE nid headed.0), head_long head, w.0, w.1)
+message_json_short (kept_message nid b) r x =
+    let w = whole_message (kept_message nid b) r x in
+    let parts = codes "{\"data\":" ∷ quoted (map bit_digit b) ∷ codes ",\"kind\":\"radio\",\"nid\":" ∷ decimal nid ∷ codes "}" ∷ [] in
+    let l : length (compact_text (message_tree (kept_message nid b))) ≡ total parts = joined_long parts in
+    omega (arith, l, digits_long b, decimal_short nid (omega (arith, x.small)), w.0)
+
+-- the JSON of one item
+pub json_short : (e : EntryValue) (r : Reading) → Spells e r → length (compact_text (json_tree e)) ≤ 524288
+json_short (of_telegram t) r x = telegram_json_short t r x
+json_short (of_message m) r x = message_json_short m r x
+
 -- ---- What is written of an item.
 
 bits_small : (e : EntryValue) (r : Reading) → Spells e r → entry_bits e < 8192
 bits_small (of_telegram t) r x = omega (arith, user_short t.size)
 bits_small (of_message m) r x = (whole_message m r x).0
 
-check_short : (e : EntryValue) (r : Reading) (item : ℕ) → Spells e r → item < 2 ^ 64 → length (check_line e item) ≤ 64
+pub check_short : (e : EntryValue) (r : Reading) (item : ℕ) → Spells e r → item < 2 ^ 64 → length (check_line e item) ≤ 64
 check_short e r item x h =
     let d = decimal_short item h in
     let b = decimal_short (entry_bits e) (omega (arith, bits_small e r x)) in
@@ -413,35 +634,11 @@ spelled_short : (e : EntryValue) (r : Reading) → Spells e r → length (spelle
 spelled_short (of_telegram t) r x = let whole = whole_length t.size r (t, (refl, x)) in omega (arith, whole, whole_short t.size)
 spelled_short (of_message m) r x = let w = whole_message m r x in omega (arith, w.0, w.2)
 
-encoded_short : (e : EntryValue) (bytes : List ℕ) → IsEncoded e bytes → length bytes ≤ 1024
+pub encoded_short : (e : EntryValue) (bytes : List ℕ) → IsEncoded e bytes → length bytes ≤ 1024
 encoded_short e bytes x =
     let is : length (bits bytes) ≡ length (spelled x.reading) = ap length x.bits_are in
     omega (arith, spelled_short e x.reading x.reads, is, length-bits bytes)
 
-entry_short : (e : EntryValue) (r : Reading) (item : ℕ) → Spells e r → item < 2 ^ 64 → length (entry_text e item) ≤ 2 ^ 20
+pub entry_short : (e : EntryValue) (r : Reading) (item : ℕ) → Spells e r → item < 2 ^ 64 → length (entry_text e item) ≤ 2 ^ 20
 entry_short (of_telegram t) r item x h = telegram_short t r item x h
 entry_short (of_message m) r item x h = message_short m r item x h
-
--- what is written of one item
-pub told_short : (command : Command) (kind : Kind) (e : EntryValue) (r : Reading) (item : ℕ) (text : List ℕ) → EntryReads kind e r → item < 2 ^ 64 → ItemText command e item text → length text ≤ 2097152
-told_short Show kind e r item text x h is = let l = entry_short e r item x.1 h in rw is (omega (arith, l))
-told_short Check kind e r item text x h is = let l = check_short e r item x.1 h in rw is (omega (arith, l))
-told_short (Convert Hex) kind e r item text x h (bytes, encoded, is) =
-    let l = length-append (encode_upper bytes) (10 ∷ []) in
-    let d = length-encode_with upper_digits bytes in
-    rw is (omega (arith, l, d, encoded_short e bytes encoded))
-told_short (Convert Bin) kind e r item text x h encoded = omega (arith, encoded_short e text encoded)
-
--- each item has a reading of this kind
-abbrev pub AreRead : Kind → List EntryValue → Type 0
-AreRead kind [] = Unit {0}
-AreRead kind (e ∷ es) = (r : Reading) × EntryReads kind e r × AreRead kind es
-
--- what is written of items one behind the other
-pub items_short : (command : Command) (kind : Kind) (item : ℕ) (es : List EntryValue) (text : List ℕ) → AreRead kind es → item + length es ≤ 1000001 → ItemsText command item es text → length text ≤ 2097152 * length es
-items_short command kind item [] text reads h is = rw is (omega arith)
-items_short command kind item (e ∷ es) text (r, reads, others) h (first, rest, is, told, behind) =
-    let one = told_short command kind e r item first reads (omega (arith, h)) told in
-    let more = items_short command kind (item + 1) es rest others (omega (arith, h)) behind in
-    let l : length text ≡ length first + length rest = ap length is ∙ length-append first rest in
-    omega (arith, one, more, l)

@@ -1,11 +1,14 @@
 //! The text of the items of an input: of each a line for itself, one for each variable, and one for kept bits.
 #![tactic(auto, using(crate::specs::Fronts::begins_more))]
 
-mod command;
 mod entry;
 mod fronts;
+mod json_lines;
+mod json_packets;
 mod messages;
 mod packets;
+mod pair_fronts;
+mod pairs;
 pub mod parts;
 mod show;
 mod signed;
@@ -13,7 +16,7 @@ mod telling;
 mod text;
 mod variables;
 
-pub use command::{Command, Form};
 pub use entry::{Entry, Kind};
+pub use json_lines::json_line;
 pub use show::show_lines;
-pub use telling::tell;
+pub use telling::{check_line, encoded, hex_line};

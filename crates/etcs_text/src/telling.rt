@@ -1,4 +1,4 @@
-//! What a run writes of an item.
+//! The encoding of an item, and the line that says that it was accepted.
 
 ghost use Rattle.std.specs.Prelude.{◌≡◌, ◌++◌, ◌<◌, ◌≤◌, ◌∷◌, All, ℕ, List, [], IfOk, OnErr, OnOk, length, take};
 ghost use Rattle.hex.specs.Hex.{encode_upper};
@@ -6,33 +6,13 @@ ghost use Rattle.etcs_radio.specs.Messages.{message_value};
 ghost use Rattle.etcs_telegram.specs.Telegrams.{telegram_value};
 ghost use Rattle.etcs_text.specs.Entries.{entry_bits, entry_value, of_message, of_telegram};
 ghost use Rattle.etcs_text.specs.Fronts.{Begins};
-ghost use Rattle.etcs_text.specs.Commands.{IsEncoded, ItemText, check_line};
+ghost use Rattle.etcs_text.specs.Encodings.{IsEncoded, check_line};
 
-use crate::command::{Command, Form};
 use crate::entry::Entry;
-use crate::show::show_lines;
 use crate::text::{push_decimal, push_item_number};
 use etcs_radio::Message;
 use etcs_telegram::Telegram;
 use std::alloc::{AllocError, Global};
-
-/// Appends what the command writes of an entry, the item of this number: the lines of `show_lines`, a line that says
-/// that it was accepted, its encoding in upper case digits with a LF, or its encoding.
-///
-/// # Errors
-///
-/// Where memory is refused. `out` is then as before.
-pub fn tell(command: Command, entry: &Entry, item: u64, out: &mut Vec<u8>) -> Result<(), AllocError>
-    ensures ok { OnOk result ((added : List ℕ) × ItemText command (entry_value entry.now) item added × (out.new.items ≡ out.old.items ++ added)) }
-    ensures err { OnErr result (out.new.items ≡ out.old.items) }
-{
-    match command {
-        Command::Show => show_lines(entry, item, out),
-        Command::Check => tell_check(entry, item, out),
-        Command::Convert(Form::Hex) => tell_hex(entry, out),
-        Command::Convert(Form::Bin) => tell_bytes(entry, out),
-    }
-}
 
 /// How many bits an entry has: of a telegram user bits.
 fn bits_of(entry: &Entry) -> usize
@@ -55,8 +35,13 @@ fn push_check(entry: &Entry, item: u64, out: &mut Vec<u8>) -> Result<(), AllocEr
     out.extend_from_slice(b" bits\n")
 }
 
-/// Appends the line that says that an item was accepted, or nothing.
-fn tell_check(entry: &Entry, item: u64, out: &mut Vec<u8>) -> Result<(), AllocError>
+/// Appends the line that says that an entry, the item of this number, was accepted: `item`, the number, `ok` and how many
+/// bits it has, of a telegram user bits.
+///
+/// # Errors
+///
+/// Where memory is refused. `out` is then as before.
+pub fn check_line(entry: &Entry, item: u64, out: &mut Vec<u8>) -> Result<(), AllocError>
     ensures ok { OnOk result (out.new.items ≡ out.old.items ++ check_line (entry_value entry.now) item) }
     ensures err { OnErr result (out.new.items ≡ out.old.items) }
 {
@@ -112,8 +97,12 @@ fn append_message(message: &Message, out: &mut Vec<u8>) -> Result<(), AllocError
     appended
 }
 
-/// Appends the entry's encoding, or nothing.
-fn tell_bytes(entry: &Entry, out: &mut Vec<u8>) -> Result<(), AllocError>
+/// Appends the entry's encoding.
+///
+/// # Errors
+///
+/// Where memory is refused. `out` is then as before.
+pub fn encoded(entry: &Entry, out: &mut Vec<u8>) -> Result<(), AllocError>
     ensures ok { OnOk result ((added : List ℕ) × IsEncoded (entry_value entry.now) added × (out.new.items ≡ out.old.items ++ added)) }
     ensures err { OnErr result (out.new.items ≡ out.old.items) }
 {
@@ -136,8 +125,12 @@ fn push_digits(bytes: &[u8], out: &mut Vec<u8>) -> Result<(), AllocError>
     out.extend_from_slice(text.as_bytes())
 }
 
-/// Appends the entry's encoding in upper case digits and a LF, or nothing.
-fn tell_hex(entry: &Entry, out: &mut Vec<u8>) -> Result<(), AllocError>
+/// Appends the entry's encoding in upper case hexadecimal digits and a LF.
+///
+/// # Errors
+///
+/// Where memory is refused. `out` is then as before.
+pub fn hex_line(entry: &Entry, out: &mut Vec<u8>) -> Result<(), AllocError>
     ensures ok { OnOk result ((bytes : List ℕ) × IsEncoded (entry_value entry.now) bytes × (out.new.items ≡ out.old.items ++ (encode_upper bytes ++ 10 ∷ []))) }
     ensures err { OnErr result (out.new.items ≡ out.old.items) }
 {

@@ -1,6 +1,6 @@
 //! Numbers and bits as digits.
 
-ghost use Rattle.std.specs.Prelude.{◌≡◌, ◌^◌, ◌<◌, ◌≤◌, ◌++◌, codes, map, OnErr, OnOk};
+ghost use Rattle.std.specs.Prelude.{◌≡◌, ◌^◌, ◌<◌, ◌≤◌, ◌++◌, ◌∷◌, [], codes, map, OnErr, OnOk};
 ghost use Rattle.std.specs.Fmt.{decimal};
 ghost use Rattle.etcs_bits.specs.Bits.{num};
 ghost use Rattle.etcs_text.specs.Fronts.{Begins};
@@ -11,7 +11,11 @@ use itoa::{Buffer, write_digits};
 use std::alloc::AllocError;
 
 /// Appends the digits of a number, with no leading zero.
-pub(crate) fn push_decimal(number: u64, out: &mut Vec<u8>) -> Result<(), AllocError>
+///
+/// # Errors
+///
+/// Where memory is refused. A part of the text may then stand in `out`, behind what was there.
+pub fn push_decimal(number: u64, out: &mut Vec<u8>) -> Result<(), AllocError>
     ensures ok { OnOk result (out.new.items ≡ out.old.items ++ decimal number) }
     ensures err { OnErr result (Begins out.old.items out.new.items) }
 {
@@ -19,21 +23,34 @@ pub(crate) fn push_decimal(number: u64, out: &mut Vec<u8>) -> Result<(), AllocEr
     out.extend_from_slice(buffer.format(number).as_bytes())
 }
 
+/// Appends the digits of a number and one byte more.
+pub(crate) fn push_decimal_and(number: u64, end: u8, out: &mut Vec<u8>) -> Result<(), AllocError>
+    ensures ok { OnOk result (out.new.items ≡ out.old.items ++ (decimal number ++ end ∷ [])) }
+    ensures err { OnErr result (Begins out.old.items out.new.items) }
+{
+    if number < 10 {
+        return out.extend_from_slice(&[b'0' + number as u8, end]);
+    }
+    let mut text = [end; 21];
+    let start = write_digits(number, &mut text, 20);
+    out.extend_from_slice(&text[start..])
+}
+
 /// Appends the digits of a number and a LF.
+#[tactic(auto, using(crate::specs::Fronts::begins_more, std::proofs::Common::append_assoc))]
 pub(crate) fn push_decimal_line(number: u64, out: &mut Vec<u8>) -> Result<(), AllocError>
     ensures ok { OnOk result (out.new.items ≡ out.old.items ++ decimal number ++ codes "\n") }
     ensures err { OnErr result (Begins out.old.items out.new.items) }
 {
-    if number < 10 {
-        return out.extend_from_slice(&[b'0' + number as u8, b'\n']);
-    }
-    let mut line = [b'\n'; 21];
-    let start = write_digits(number, &mut line, 20);
-    out.extend_from_slice(&line[start..])
+    push_decimal_and(number, b'\n', out)
 }
 
 /// Appends the word and the number that the line of an item begins with.
-pub(crate) fn push_item_number(item: u64, out: &mut Vec<u8>) -> Result<(), AllocError>
+///
+/// # Errors
+///
+/// Where memory is refused. A part of the text may then stand in `out`, behind what was there.
+pub fn push_item_number(item: u64, out: &mut Vec<u8>) -> Result<(), AllocError>
     ensures ok { OnOk result (out.new.items ≡ out.old.items ++ (codes "item " ++ decimal item)) }
     ensures err { OnErr result (Begins out.old.items out.new.items) }
 {
@@ -67,7 +84,7 @@ pub(crate) fn push_hex(count: usize, number: u64, out: &mut Vec<u8>) -> Result<(
 }
 
 /// Appends the lowest bits of a number as digits, the most significant first.
-fn push_bits(number: u64, width: usize, out: &mut Vec<u8>) -> Result<(), AllocError>
+pub(crate) fn push_bits(number: u64, width: usize, out: &mut Vec<u8>) -> Result<(), AllocError>
     requires { width ≤ 64 }
     ensures ok { OnOk result (out.new.items ≡ out.old.items ++ map bit_digit (num width number)) }
     ensures err { OnErr result (Begins out.old.items out.new.items) }

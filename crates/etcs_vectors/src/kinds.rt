@@ -1,6 +1,6 @@
 //! The kinds of vectors.
 
-use crate::{builds, feeds, packets, runs, telegrams, turns, views, writes};
+use crate::{builds, feeds, messages, packets, runs, telegrams, turns, views, writes};
 use etcs_row_cases::words::push_text;
 use std::alloc::{AllocError, Global};
 
@@ -19,7 +19,7 @@ pub(crate) fn answer(
     )
 }
 
-/// As `answer`, for telegrams and what is made of them.
+/// As `answer`, for telegrams and messages and what is made of them.
 fn answer_here(
     alloc: Global,
     kind: &str,
@@ -28,6 +28,8 @@ fn answer_here(
 ) -> Result<bool, AllocError> {
     let told = match kind {
         "short" | "long" => telegrams::tell(alloc, kind, words, out)?,
+        "radio" => messages::tell(alloc, words, out)?,
+        "message" => messages::tell_message(alloc, words, out)?,
         "shown" => telegrams::tell_shown(alloc, words, out)?,
         "equal" => telegrams::tell_equal(alloc, words, out)?,
         "fed" => feeds::tell(alloc, words, out)?,

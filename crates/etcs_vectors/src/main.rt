@@ -8,6 +8,8 @@
 mod builds;
 mod feeds;
 mod kinds;
+mod message_turns;
+mod messages;
 mod packets;
 mod report;
 mod runs;

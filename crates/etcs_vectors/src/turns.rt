@@ -1,5 +1,6 @@
-//! Vectors of a telegram's bytes of which one bit is turned, for each bit.
+//! Vectors of the bytes of a telegram or a message of which one bit is turned, for each bit.
 
+use crate::message_turns;
 use crate::views::is_viewed;
 use crate::words::{push_refused, sized};
 use etcs_row_cases::words::{push_number, push_text};
@@ -17,12 +18,15 @@ enum Said {
     Otherwise,
 }
 
-/// `turned SIZE HEX`: a line for each bit that can't be turned, with what is refused.
+/// `turned SIZE HEX`: a line for each bit that can't be turned, with what is refused; `turned radio HEX` of a message.
 pub(crate) fn tell(
     alloc: Global,
     words: &str,
     out: &mut Vec<u8>,
 ) -> Result<Option<()>, AllocError> {
+    if let Some(digits) = words.strip_prefix("radio ") {
+        return message_turns::tell(alloc, digits, out);
+    }
     let Some((size, bytes)) = sized(alloc, words)? else {
         return Ok(None);
     };
@@ -72,7 +76,7 @@ pub(crate) fn tell_alike(
 }
 
 /// The bytes with one bit turned.
-fn turned(bytes: &Vec<u8>, bit: usize) -> Result<Vec<u8>, AllocError> {
+pub(crate) fn turned(bytes: &Vec<u8>, bit: usize) -> Result<Vec<u8>, AllocError> {
     let mut bytes = bytes.clone()?;
     if let Some(byte) = bytes.get_mut(bit / 8) {
         *byte ^= 0x80u8 >> (bit % 8);

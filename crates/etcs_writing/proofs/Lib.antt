@@ -1,2 +1,4 @@
 pub mod Sending
 pub mod PacketBits
+pub mod Leaving
+pub mod Parts

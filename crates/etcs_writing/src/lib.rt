@@ -4,4 +4,4 @@
 mod packets;
 mod sink;
 
-pub use packets::{write_packet, write_packets, write_reading, write_variables};
+pub use packets::{room_left, write_packet, write_packets, write_reading, write_variables};

@@ -1,10 +1,11 @@
 //! Variables and packets written over bits.
 
-ghost use Rattle.std.specs.Prelude.{◌≡◌, ◌+◌, ◌≤◌, ◌<◌, ◌^◌, ◌∷◌, [], length, map};
+ghost use Rattle.std.specs.Prelude.{◌≡◌, ◌+◌, ◌≤◌, ◌<◌, ◌^◌, ◌∷◌, [], length, map, All, IfSome, IfNone, OnSome};
 ghost use Rattle.etcs_bits.specs.Bits.{bits, replaced};
 ghost use Rattle.etcs_vars.specs.declared.var.Var.TheVariants.{NID_PACKET, Q_DIR, L_PACKET};
 ghost use Rattle.etcs_vars.specs.Reading.{spelled};
-ghost use Rattle.etcs_packets.specs.PacketValues.{packet_value, variables_of, bits_of};
+ghost use Rattle.etcs_packets.specs.PacketValues.{packet_value, variables_of, bits_of, IsPacket};
+ghost use Rattle.etcs_packets.specs.OnePacket.{IsMade};
 ghost use Rattle.etcs_packets.specs.PacketReadings.{packet_reading, packets_reading};
 ghost use Rattle.etcs_writing.specs.Fronts.{front_of};
 
@@ -64,6 +65,25 @@ pub fn write_packets(out: &mut [u8], at: usize, packets: &[Packet]) -> usize
         place += len;
     }
     place
+}
+
+/// How many of so many bits packets leave, one behind the other, or nothing where they don't fit.
+pub fn room_left(room: usize, packets: &[Packet]) -> Option<usize>
+    ensures left { IfSome result (λ left. length (spelled (packets_reading (map packet_value packets.now))) + left ≡ room) }
+    ensures made { OnSome result (All IsMade packets.now) }
+    ensures packets { OnSome result (All IsPacket (map packet_value packets.now)) }
+    ensures none { IfNone result (room < length (spelled (packets_reading (map packet_value packets.now)))) }
+{
+    let mut left = room;
+    for packet in packets {
+        holds(packet);
+        let bits = packet.bit_len();
+        if left < bits {
+            return None;
+        }
+        left -= bits;
+    }
+    Some(left)
 }
 
 /// Writes a packet of so many bits, its frame among them.

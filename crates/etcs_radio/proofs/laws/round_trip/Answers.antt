@@ -2,33 +2,33 @@ use Rattle.std.proofs.Common.{sym, ◌∙◌}
 use Rattle.etcs_rests.proofs.RoundTrips.{Answered, same_value}
 use Rattle.etcs_radio.proofs.RoundTrips.{read_again}
 use Rattle.etcs_radio.proofs.laws.round_trip.Goals as goal
+use Rattle.etcs_radio.proofs.laws.round_trip.Goals.{After-feed}
+
+answered : (c : After-feed) → Answered c.args.message.now c.feed.result c.feed.new.self
+answered c =
+    read_again c.args.message.now c.new-bytes.result.items c.encode.new.out.items c.as_slice.result.now c.new-reader.result c.feed.result c.feed.new.self c.readable.ensures.value c.new-bytes.ensures.items c.in-Ok.ensures.ok c.as_slice.ensures.value c.new-reader.ensures c.feed.ensures.answer
 
 pub unreachable-requires-in-Ok-More : goal.unreachable-requires-in-Ok-More
 unreachable-requires-in-Ok-More c =
-    let a : Answered c.args.message.now c.feed.result c.feed.new.self =
-    read_again c.args.message.now c.new-bytes.result.items c.encode.new.out.items c.as_slice.result.now c.new-reader.result c.feed.result c.feed.new.self c.readable.ensures.value c.new-bytes.ensures.items c.in-Ok.ensures.ok c.as_slice.ensures.value c.new-reader.ensures c.feed.ensures.answer in
+    let a = answered (goal.at.unreachable-requires-in-Ok-More c).After-feed in
     rw (c.in-Ok-More.is, c.in-Ok-More.field-0-is) at a
 
 pub unreachable-requires-in-Err-Refused : goal.unreachable-requires-in-Err-Refused
 unreachable-requires-in-Err-Refused c =
-    let a : Answered c.args.message.now c.feed.result c.feed.new.self =
-    read_again c.args.message.now c.new-bytes.result.items c.encode.new.out.items c.as_slice.result.now c.new-reader.result c.feed.result c.feed.new.self c.readable.ensures.value c.new-bytes.ensures.items c.in-Ok.ensures.ok c.as_slice.ensures.value c.new-reader.ensures c.feed.ensures.answer in
+    let a = answered (goal.at.unreachable-requires-in-Err-Refused c).After-feed in
     rw (c.in-Err-Refused.is, c.in-Err-Refused.field-0-is) at a
 
 pub unreachable-requires-in-Err-Ended : goal.unreachable-requires-in-Err-Ended
 unreachable-requires-in-Err-Ended c =
-    let a : Answered c.args.message.now c.feed.result c.feed.new.self =
-    read_again c.args.message.now c.new-bytes.result.items c.encode.new.out.items c.as_slice.result.now c.new-reader.result c.feed.result c.feed.new.self c.readable.ensures.value c.new-bytes.ensures.items c.in-Ok.ensures.ok c.as_slice.ensures.value c.new-reader.ensures c.feed.ensures.answer in
+    let a = answered (goal.at.unreachable-requires-in-Err-Ended c).After-feed in
     rw (c.in-Err-Ended.is, c.in-Err-Ended.field-0-is) at a
 
 pub unreachable-requires : goal.unreachable-requires
 unreachable-requires c =
-    let a : Answered c.args.message.now c.feed.result c.feed.new.self =
-    read_again c.args.message.now c.new-bytes.result.items c.encode.new.out.items c.as_slice.result.now c.new-reader.result c.feed.result c.feed.new.self c.readable.ensures.value c.new-bytes.ensures.items c.in-Ok.ensures.ok c.as_slice.ensures.value c.new-reader.ensures c.feed.ensures.answer in
+    let a = answered (goal.at.unreachable-requires c).After-feed in
     c.in-Err-take.ensures.1 c.args.message.now (rw (c.in-Ok-Done.is, c.in-Ok-Done.field-0-is) at a)
 
 pub returns-in-Ok-take : goal.returns-in-Ok-take
 returns-in-Ok-take c =
-    let a : Answered c.args.message.now c.feed.result c.feed.new.self =
-    read_again c.args.message.now c.new-bytes.result.items c.encode.new.out.items c.as_slice.result.now c.new-reader.result c.feed.result c.feed.new.self c.readable.ensures.value c.new-bytes.ensures.items c.in-Ok.ensures.ok c.as_slice.ensures.value c.new-reader.ensures c.feed.ensures.answer in
+    let a = answered (goal.at.returns-in-Ok-take c).After-feed in
     same_value c.in-Ok-take.again c.args.message.now (sym c.in-Ok-take.ensures ∙ (rw (c.in-Ok-Done.is, c.in-Ok-Done.field-0-is) at a))

@@ -1,4 +1,5 @@
-use Rattle.etcs_stream.proofs.OneItems.{one_end, one_whole, one_front, one_text}
+use Rattle.etcs_stream.proofs.OneItems.{one_end, one_whole, one_front}
+use Rattle.etcs_stream.proofs.OneTexts.{one_text}
 use Rattle.etcs_stream.proofs.laws.one_run.Goals as goal
 
 pub returns : goal.returns

@@ -6,4 +6,4 @@ use Rattle.etcs_stream.proofs.lines.take_line.Goals as goal
 pub returns-then-is_empty-clause-ok : goal.returns-then-is_empty-clause-ok
 returns-then-is_empty-clause-ok c =
     let i = c.args.items.now in
-    Advances-empty i.job.kind i.job.command (seen_bits i.reader.stage) i.told c.args.text.now.items c.args.line.now (sym c.is_empty.ensures ∙ c.if-is_empty.true)
+    Advances-empty i.job.kind i.job.command (seen_bits i.reader.stage) i.teller c.args.text.now.items c.args.line.now (sym c.is_empty.ensures ∙ c.if-is_empty.true)

@@ -1,6 +1,7 @@
 use Rattle.std.proofs.Common.{◌++◌, inl, inr}
-use Rattle.etcs_stream.specs.Engines.{Prints}
-use Rattle.etcs_stream.proofs.Printing.{finished_prints, ends_prints}
+use Rattle.std.specs.Prelude.{◌⊎◌}
+use Rattle.etcs_stream.specs.Engines.{Prints, EndsWhole}
+use Rattle.etcs_stream.proofs.Printing.{finished_prints}
 use Rattle.etcs_stream.proofs.Endings.{broke, not_flushed}
 use Rattle.etcs_stream.proofs.pump.close.Goals as goal
 
@@ -10,7 +11,7 @@ returns-in-Err-clause-err g c = λ given told stands sent.
     let finished = c.finish-finished in
     let prints = finished_prints job given (told ++ finished.new.text.items) finished.result (finished.ensures.ok given told stands) (finished.ensures.err given told stands) in
     inr (broke (g.W.Sink.contents c.args.sink.now) (g.W.Sink.contents c.send.new.sink) told c.finish-finished.new.text.items c.as_slice.result.now c.as_slice.ensures.value
-    (Prints job given) (g.W.Sink.failures c.args.sink.now) (g.W.Sink.failures c.send.new.sink) c.args.sent.now c.send.new.sent sent c.in-Err.ensures.part c.in-Err.ensures.one prints)
+    (λ t. Prints job given t ⊎ EndsWhole job given t) (g.W.Sink.failures c.args.sink.now) (g.W.Sink.failures c.send.new.sink) c.args.sent.now c.send.new.sent sent c.in-Err.ensures.part c.in-Err.ensures.one prints)
 
 pub returns-in-Err-finished-clause-err : goal.returns-in-Err-finished-clause-err
 returns-in-Err-finished-clause-err g c = λ given told stands sent.
@@ -21,7 +22,7 @@ pub returns-in-Err-flush-clause-err : goal.returns-in-Err-flush-clause-err
 returns-in-Err-flush-clause-err g c = λ given told stands sent.
     let job = g.E.Engine.job c.args.engine.now in
     let text = c.finish-finished.new.text.items in
-    let prints = ends_prints job given (told ++ text) c.in-Ok-finished.tally (c.in-Ok-finished.ensures.ok given told stands) in
+    let ends = c.in-Ok-finished.ensures.ok given told stands in
     inr (not_flushed (g.W.Sink.contents c.args.sink.now) (g.W.Sink.contents c.send.new.sink) (g.W.Sink.contents c.flush.new.self) told text c.as_slice.result.now
-    (Prints job given) (g.W.Sink.failures c.args.sink.now) (g.W.Sink.failures c.send.new.sink) (g.W.Sink.failures c.flush.new.self) c.args.sent.now c.send.new.sent
-    c.as_slice.ensures.value sent c.in-Ok.ensures.ok c.in-Err-flush.ensures.bytes c.in-Ok.ensures.none c.in-Err-flush.ensures.failed prints)
+    (λ t. Prints job given t ⊎ EndsWhole job given t) (g.W.Sink.failures c.args.sink.now) (g.W.Sink.failures c.send.new.sink) (g.W.Sink.failures c.flush.new.self) c.args.sent.now c.send.new.sent
+    c.as_slice.ensures.value sent c.in-Ok.ensures.ok c.in-Err-flush.ensures.bytes c.in-Ok.ensures.none c.in-Err-flush.ensures.failed (inr (c.in-Ok-finished.tally, ends)))

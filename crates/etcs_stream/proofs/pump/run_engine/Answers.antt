@@ -3,7 +3,7 @@ use Rattle.std.specs.Prelude.{◌⊎◌}
 use Rattle.std.specs.Io.KnownBytes.{IsAtEnd}
 use Rattle.std.proofs.lemmas.Result.{err_from_is_err_and}
 use Rattle.etcs_stream.specs.declared.fault.RunFault.TheVariants.{Write, Endless}
-use Rattle.etcs_stream.specs.Engines.{Tells, Ends, Stops, StopsAtEnd, Prints}
+use Rattle.etcs_stream.specs.Engines.{Tells, Ends, EndsWhole, Stops, StopsAtEnd, Prints}
 use Rattle.etcs_stream.proofs.Known.{Consumes-end, Consumes-then}
 use Rattle.etcs_stream.proofs.Endings.{engine_of, write_of, engine_if, write_if, ends_if}
 use Rattle.etcs_stream.proofs.pump.run_engine.Goals as goal
@@ -12,7 +12,7 @@ pub returns-then-count-eq0-clause-ok : goal.returns-then-count-eq0-clause-ok
 returns-then-count-eq0-clause-ok g c =
     let i = c.loop.invariant in
     let gave = Consumes-end _ _ _ i.given c.read.new.buffer c.in-Ok.count c.if-count-eq0.true i.consumes c.in-Ok.ensures.bytes.0 in
-    ends_if _ _ _ _ _ i.given i.told c.close.new.text.items gave i.appends (λ t f. StopsAtEnd (g.E.Engine.job c.args.engine.now) i.given t f) (Prints (g.E.Engine.job c.args.engine.now) i.given) 0 0 (λ t given told. Ends (g.E.Engine.job c.args.engine.now) given told t) _ _ (rw i.job at c.close.ensures.ok i.given i.told i.stands i.sent)
+    ends_if _ _ _ _ _ i.given i.told c.close.new.text.items gave i.appends (λ t f. StopsAtEnd (g.E.Engine.job c.args.engine.now) i.given t f) (λ t. Prints (g.E.Engine.job c.args.engine.now) i.given t ⊎ EndsWhole (g.E.Engine.job c.args.engine.now) i.given t) 0 0 (λ t given told. Ends (g.E.Engine.job c.args.engine.now) given told t) _ _ (rw i.job at c.close.ensures.ok i.given i.told i.stands i.sent)
 
 pub returns-then-count-eq0-clause-engine : goal.returns-then-count-eq0-clause-engine
 returns-then-count-eq0-clause-engine g c =
@@ -20,13 +20,15 @@ returns-then-count-eq0-clause-engine g c =
     let gave = Consumes-end _ _ _ i.given c.read.new.buffer c.in-Ok.count c.if-count-eq0.true i.consumes c.in-Ok.ensures.bytes.0 in
     let room : length c.read.new.buffer ≡ 4096 = c.read.auto.buffer ∙ i.room in
     let at_end = c.in-Ok.ensures.bytes.1 c.if-count-eq0.true (omega (arith, room)) in
-    engine_if _ _ _ _ _ i.given i.told c.close.new.text.items gave i.appends (λ t f. StopsAtEnd (g.E.Engine.job c.args.engine.now) i.given t f) (Prints (g.E.Engine.job c.args.engine.now) i.given) (g.W.Sink.failures c.loop.sink) (g.W.Sink.failures c.close.new.sink) _ _ (rw i.job at c.close.ensures.err i.given i.told i.stands i.sent) (λ e t s. inr (inl (at_end, s)))
+    engine_if _ _ _ _ _ i.given i.told c.close.new.text.items gave i.appends (λ t f. StopsAtEnd (g.E.Engine.job c.args.engine.now) i.given t f) (λ t. Prints (g.E.Engine.job c.args.engine.now) i.given t ⊎ EndsWhole (g.E.Engine.job c.args.engine.now) i.given t) (g.W.Sink.failures c.loop.sink) (g.W.Sink.failures c.close.new.sink) _ _ (rw i.job at c.close.ensures.err i.given i.told i.stands i.sent) (λ e t s. inr (inl (at_end, s)))
 
 pub returns-then-count-eq0-clause-write : goal.returns-then-count-eq0-clause-write
 returns-then-count-eq0-clause-write g c =
     let i = c.loop.invariant in
     let gave = Consumes-end _ _ _ i.given c.read.new.buffer c.in-Ok.count c.if-count-eq0.true i.consumes c.in-Ok.ensures.bytes.0 in
-    λ n h. (let r = write_if _ _ _ _ _ i.given i.told c.close.new.text.items gave i.appends (λ t f. StopsAtEnd (g.E.Engine.job c.args.engine.now) i.given t f) (Prints (g.E.Engine.job c.args.engine.now) i.given) (g.W.Sink.failures c.loop.sink) (g.W.Sink.failures c.close.new.sink) (Prints (g.E.Engine.job c.args.engine.now)) _ (rw i.job at c.close.ensures.err i.given i.told i.stands i.sent) (λ t q. q) n h in (r.0, r.1 ∙ ap (λ m. m + 1) i.write_failures))
+    let room : length c.read.new.buffer ≡ 4096 = c.read.auto.buffer ∙ i.room in
+    let at_end = c.in-Ok.ensures.bytes.1 c.if-count-eq0.true (omega (arith, room)) in
+    λ n h. (let r = write_if _ _ _ _ _ i.given i.told c.close.new.text.items gave i.appends (λ t f. StopsAtEnd (g.E.Engine.job c.args.engine.now) i.given t f) (λ t. Prints (g.E.Engine.job c.args.engine.now) i.given t ⊎ EndsWhole (g.E.Engine.job c.args.engine.now) i.given t) (g.W.Sink.failures c.loop.sink) (g.W.Sink.failures c.close.new.sink) (λ given told. Prints (g.E.Engine.job c.args.engine.now) given told ⊎ (IsAtEnd (g.S.Source.remaining c.read.new.self) × EndsWhole (g.E.Engine.job c.args.engine.now) given told)) _ (rw i.job at c.close.ensures.err i.given i.told i.stands i.sent) (λ t q. elim q [ | inl p ↦ inl p | inr e ↦ inr (at_end, e) ]) n h in (r.0, r.1 ∙ ap (λ m. m + 1) i.write_failures))
 
 pub returns-in_err-pass-clause-engine : goal.returns-in_err-pass-clause-engine
 returns-in_err-pass-clause-engine g c =
@@ -42,7 +44,7 @@ returns-in_err-pass-clause-write g c =
     let gave = Consumes-then _ (g.S.Source.remaining c.loop.source) _ i.given (take c.in-Ok.count c.read.new.buffer) i.consumes c.in-Ok.ensures.bytes.0 in
     λ n h. (let all : Err c.in_err-pass.field-0.0 ≡ Err (Write n) = sym (p.1 ∙ ap Err p.2) ∙ h in
     let e : c.in_err-pass.field-0.0 ≡ Write n = cc in
-    let r = write_of _ _ _ _ _ _ i.told c.pass.new.text.items gave i.appends (λ t f. Stops (g.E.Engine.job c.args.engine.now) (i.given ++ take c.in-Ok.count c.read.new.buffer) t f) (Prints (g.E.Engine.job c.args.engine.now) (i.given ++ take c.in-Ok.count c.read.new.buffer)) (g.W.Sink.failures c.loop.sink) (g.W.Sink.failures c.pass.new.sink) (Prints (g.E.Engine.job c.args.engine.now)) c.in_err-pass.field-0.0 (rw i.job at c.in_err-pass.ensures.err i.given i.told i.stands i.sent) (λ t q. q) n e in
+    let r = write_of _ _ _ _ _ _ i.told c.pass.new.text.items gave i.appends (λ t f. Stops (g.E.Engine.job c.args.engine.now) (i.given ++ take c.in-Ok.count c.read.new.buffer) t f) (Prints (g.E.Engine.job c.args.engine.now) (i.given ++ take c.in-Ok.count c.read.new.buffer)) (g.W.Sink.failures c.loop.sink) (g.W.Sink.failures c.pass.new.sink) (λ given told. Prints (g.E.Engine.job c.args.engine.now) given told ⊎ (IsAtEnd (g.S.Source.remaining c.read.new.self) × EndsWhole (g.E.Engine.job c.args.engine.now) given told)) c.in_err-pass.field-0.0 (rw i.job at c.in_err-pass.ensures.err i.given i.told i.stands i.sent) (λ t q. inl q) n e in
     (r.0, r.1 ∙ ap (λ m. m + 1) i.write_failures))
 
 pub returns-clause-engine : goal.returns-clause-engine

@@ -1,7 +1,7 @@
 use Rattle.std.proofs.Common.{◌≤◌, length, arith}
 use Rattle.etcs_bits.specs.Bits.{bits}
 use Rattle.etcs_vars.specs.Reading.{spelled}
-use Rattle.etcs_telegram.specs.Headers.{labelled}
+use Rattle.etcs_rests.specs.Labels.{labelled}
 use Rattle.etcs_telegram.specs.Telegrams.{header_row}
 use Rattle.etcs_telegram.proofs.Encoding.{header_room, header_written}
 use Rattle.etcs_telegram.proofs.encode.write_header.Goals as goal

@@ -3,7 +3,7 @@ use Rattle.etcs_bits.specs.Bits.{bits}
 use Rattle.etcs_vars.specs.declared.var.Var.TheVariants.{Q_UPDOWN}
 use Rattle.etcs_vars.specs.Vars.{width}
 use Rattle.etcs_vars.specs.Reading.{spelled}
-use Rattle.etcs_telegram.specs.Headers.{labelled}
+use Rattle.etcs_rests.specs.Labels.{labelled}
 use Rattle.etcs_telegram.specs.Writing.{Written}
 use Rattle.etcs_telegram.proofs.Encoding.{row_left, row_done, written_room, written_inside, written_more, written_whole}
 use Rattle.etcs_telegram.proofs.encode.write_row.Goals as goal

@@ -1,7 +1,7 @@
 use Rattle.std.proofs.Common.{drop}
 use Rattle.etcs_bits.specs.Bits.{bits}
 use Rattle.etcs_vars.specs.Reading.{spelled}
-use Rattle.etcs_telegram.specs.Headers.{labelled}
+use Rattle.etcs_rests.specs.Labels.{labelled}
 use Rattle.etcs_telegram.specs.Writing.{Written}
 use Rattle.etcs_telegram.proofs.encode.write_row.Given as goal
 

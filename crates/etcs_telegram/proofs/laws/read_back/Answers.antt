@@ -1,6 +1,8 @@
 use Rattle.std.proofs.Common.{◌∙◌, arith}
 use Rattle.etcs_bits.specs.Bits.{bits}
-use Rattle.etcs_telegram.proofs.RoundTrips.{fed_first, front_read, written_back, container_small}
+use Rattle.etcs_rests.proofs.RoundTrips.{front_read}
+use Rattle.etcs_telegram.specs.Telegrams.{ReadsAs, IsTelegram, telegram_value}
+use Rattle.etcs_telegram.proofs.RoundTrips.{fed_first, written_back, container_small}
 use Rattle.etcs_telegram.proofs.laws.read_back.Goals as goal
 
 pub write_over-requires : goal.write_over-requires
@@ -9,7 +11,7 @@ write_over-requires c = omega (arith, container_small c.in-Ok.telegram.size, c.t
 pub returns-in-Ok-clause-some : goal.returns-in-Ok-clause-some
 returns-in-Ok-clause-some c =
     let f = fed_first c.args.size c.new-reader.result (bits c.args.bytes.now) c.feed.result c.feed.new.self.stage c.new-reader.ensures c.feed.ensures.answer in
-    front_read c.args.size c.args.bytes.now c.in-Ok-Done.taken c.feed.new.self.stage (rw (c.in-Ok-Done.is, c.in-Ok-Done.field-0-is) at f)
+    front_read (ReadsAs c.args.size) telegram_value IsTelegram 50 c.args.bytes.now c.in-Ok-Done.taken c.feed.new.self.stage (rw (c.in-Ok-Done.is, c.in-Ok-Done.field-0-is) at f)
 
 pub returns-in-Ok-clause-back : goal.returns-in-Ok-clause-back
 returns-in-Ok-clause-back c =

@@ -1,40 +1,14 @@
-use Rattle.std.proofs.Common.{rules, ◌-◌, ◌≤◌, ◌<◌, ap, arith}
-use Rattle.etcs_packets.specs.PacketValues.{packet_value, bits_of}
-use Rattle.etcs_telegram.proofs.Filling.{room_closed, fill_first, fill_next, fill_none, fill_end, made_end, packets_end}
+use Rattle.std.proofs.Common.{rules, ◌-◌, ◌≤◌, ap, arith}
+use Rattle.etcs_telegram.proofs.Filling.{room_closed, fill_some, fill_none}
 use Rattle.etcs_telegram.proofs.telegram.fill_left.Goals as goal
 
-pub overflow_sub-left : goal.overflow_sub-left
-overflow_sub-left c =
-    let least : 8 ≤ c.packet_room-left.result = omega (arith, room_closed c.args.size, c.packet_room-left.ensures) in
+pub overflow_sub-packet_room : goal.overflow_sub-packet_room
+overflow_sub-packet_room c =
+    let least : 8 ≤ c.packet_room.result = omega (arith, room_closed c.args.size, c.packet_room.ensures) in
     search rules
 
-pub loop-packet-init : goal.loop-packet-init
-loop-packet-init c = fill_first c.args.size c.args.packets.now _ (ap (λ k. k - 8) c.packet_room-left.ensures)
-
-pub loop-packet-preserved : goal.loop-packet-preserved
-loop-packet-preserved c =
-    let l = c.loop-packet in
-    let p = c.packet-item.result in
-    let fits : bits_of (packet_value p) ≤ l.left = omega (arith, c.bit_len-bits.ensures.bits) in
-    rw c.bit_len-bits.ensures.bits (fill_next c.args.size c.args.packets.now l.packet-index l.left p c.loop-packet-test.true c.packet-item.is l.invariant fits c.holds.ensures.made c.holds.ensures.packet)
-
-pub returns-then-left-bits-clause-none : goal.returns-then-left-bits-clause-none
-returns-then-left-bits-clause-none c =
-    let l = c.loop-packet in
-    let short : l.left < bits_of (packet_value c.packet-item.result) = omega (arith, c.bit_len-bits.ensures.bits) in
-    fill_none c.args.size c.args.packets.now l.packet-index l.left c.packet-item.result c.loop-packet-test.true c.packet-item.is l.invariant short
-
 pub returns-clause-left : goal.returns-clause-left
-returns-clause-left c =
-    let l = c.loop-packet in
-    fill_end c.args.size c.args.packets.now l.packet-index l.left (omega arith) l.invariant
+returns-clause-left c = fill_some c.args.size c.args.packets.now _ (ap (λ k. k - 8) c.packet_room.ensures) c.room_left.result c.room_left.ensures.left
 
-pub returns-clause-made : goal.returns-clause-made
-returns-clause-made c =
-    let l = c.loop-packet in
-    made_end c.args.size c.args.packets.now l.packet-index l.left (omega arith) l.invariant
-
-pub returns-clause-packets : goal.returns-clause-packets
-returns-clause-packets c =
-    let l = c.loop-packet in
-    packets_end c.args.size c.args.packets.now l.packet-index l.left (omega arith) l.invariant
+pub returns-clause-none : goal.returns-clause-none
+returns-clause-none c = fill_none c.args.size c.args.packets.now _ (ap (λ k. k - 8) c.packet_room.ensures) c.room_left.result c.room_left.ensures.none

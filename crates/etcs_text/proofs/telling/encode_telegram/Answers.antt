@@ -1,7 +1,7 @@
 use Rattle.std.proofs.Common.{refl}
 use Rattle.etcs_telegram.specs.Telegrams.{telegram_value}
 use Rattle.etcs_text.specs.Entries.{of_telegram}
-use Rattle.etcs_text.proofs.Encoded.{encoded, encodes}
+use Rattle.etcs_text.proofs.Encoding.{encoded, encodes}
 use Rattle.etcs_text.proofs.telling.encode_telegram.Goals as goal
 
 pub returns-clause-bytes : goal.returns-clause-bytes

@@ -44,6 +44,10 @@ pub invariant_of-self : goal.invariant_of-self
 invariant_of-self c =
     group_after c.self.inside.held c.position_of-position.result c.args.telegram c.index-self-position.result c.position_of-position.ensures.position c.self.invariant c.in_default.ensures.joins c.index-self-position.is (ap is_some c.index-self-position.is ∙ sym c.is_some.ensures ∙ c.if-is_some.false) c.position_of-position.ensures.small c.position_of-position.ensures.total
 
+pub returns-clause-placed : goal.returns-clause-placed
+returns-clause-placed c =
+    group_after c.self.inside.held c.position_of-position.result c.args.telegram c.index-self-position.result c.position_of-position.ensures.position c.self.invariant c.in_default.ensures.joins c.index-self-position.is (ap is_some c.index-self-position.is ∙ sym c.is_some.ensures ∙ c.if-is_some.false) c.position_of-position.ensures.small c.position_of-position.ensures.total
+
 pub returns-clause-held : goal.returns-clause-held
 returns-clause-held c = (is_added (goal.at.returns-clause-held c).Else-is_some).after
 

@@ -1,7 +1,7 @@
 use Rattle.std.proofs.Common.{[], ◌∷◌, length}
 use Rattle.etcs_rests.specs.Lefts.{left_of}
 use Rattle.etcs_reader.specs.Rests.{Starts}
-use Rattle.etcs_radio.proofs.RestSteps.{packets_left}
+use Rattle.etcs_rests.specs.FilledLaws.{moved_left}
 use Rattle.etcs_radio.proofs.RestStands.{packets_stands, packets_message}
 use Rattle.etcs_radio.proofs.RestHolds.{packets_follow, no_data_packets}
 use Rattle.etcs_radio.proofs.Begins.{begins_packets}
@@ -31,4 +31,4 @@ returns-in-Ok-clause-ok g c =
     let goes : Starts (left_of l.carrier l.room l.stage) c.args.var 0 c.args.number = (begins_packets s.nid s.stage l c.args.var 0 c.args.number c.requires.stage c.requires.next).1 c.requires.goes in
     let moved = c.in-Ok.ensures.ok.0 in
     let message = packets_message s.nid s.stage (length s.front.items) l l' one c.requires.stage s.stands moved in
-    packets_follow s.nid s.stage c.behind_packets-self.result s.front.items l l' s.padding (g.S.PacketStore.holds s.packets.store) (g.S.PacketStore.holds c.pass.new.self.store) one c.requires.stage c.behind_packets-self.ensures message moved (packets_left l l' c.args.var c.args.number goes moved) c.in-Ok.ensures.ok.1
+    packets_follow s.nid s.stage c.behind_packets-self.result s.front.items l l' s.padding (g.S.PacketStore.holds s.packets.store) (g.S.PacketStore.holds c.pass.new.self.store) one c.requires.stage c.behind_packets-self.ensures message moved (moved_left l l' c.args.var c.args.number goes moved) c.in-Ok.ensures.ok.1

@@ -9,16 +9,16 @@ pub returns-clause-ok : goal.returns-clause-ok
 returns-clause-ok c given told h =
     let s = c.args.self.now.items in
     let e = c.take_bytes.ensures in
-    bin_fed s.job s.reader s.told given told c.args.text.now.items h c.requires.empty _ c.take_bytes.new.self.reader _ c.args.piece.now _ c.take_bytes.result e.job e.waits e.told e.room e.ok
+    bin_fed s.job s.reader s.teller given told c.args.text.now.items h c.requires.empty _ c.take_bytes.new.self.reader _ c.args.piece.now _ c.take_bytes.result e.job e.waits e.told e.room e.ok
 
 pub returns-clause-err : goal.returns-clause-err
 returns-clause-err c given told h =
     let s = c.args.self.now.items in
-    bin_stops s.job s.reader s.told given told c.args.text.now.items h c.requires.empty c.args.piece.now _ c.take_bytes.result c.take_bytes.ensures.err
+    bin_stops s.job s.reader s.teller given told c.args.text.now.items h c.requires.empty c.args.piece.now _ c.take_bytes.result c.take_bytes.ensures.err
 
 pub returns-clause-short : goal.returns-clause-short
 returns-clause-short c given told h =
     let i = c.take_bytes.new.self in
     let input = given ++ c.args.piece.now in
     let text = c.take_bytes.new.text.items in
-    fed_short c.args.self.now.items.job input told text i.job c.take_bytes.result (BinStands i.job i.reader i.told input (told ++ text)) c.take_bytes.ensures.job (returns-clause-ok c given told h) (bin_tells i.job i.reader i.told input (told ++ text)) (returns-clause-err c given told h)
+    fed_short c.args.self.now.items.job input told text i.job c.take_bytes.result (BinStands i.job i.reader i.teller input (told ++ text)) c.take_bytes.ensures.job (returns-clause-ok c given told h) (bin_tells i.job i.reader i.teller input (told ++ text)) (returns-clause-err c given told h)

@@ -6,8 +6,8 @@ use Rattle.etcs_text.specs.Entries.{EntryReads}
 use Rattle.etcs_stream.specs.declared.entries.EntryReader.TheInside.{Inside}
 use Rattle.etcs_stream.specs.declared.entries.Inner.{Inner}
 use Rattle.etcs_stream.specs.declared.entries.Inner.TheVariants.{Telegram, Message}
-use Rattle.etcs_stream.specs.Readers.{ReaderValue, Feeds, value_of}
-use Rattle.etcs_stream.proofs.ItemKinds.{telegram_feeds, telegram_reading, message_feeds, message_reading}
+use Rattle.etcs_stream.specs.Readers.{ReaderValue, Feeds, telegram_item, message_item, value_of}
+use Rattle.etcs_stream.proofs.ItemKinds.{telegram_feeds, message_feeds, inner_reading}
 use Rattle.etcs_stream.proofs.entries.EntryReader.feed.Goals.{in-Telegram, in-Message}
 use Rattle.etcs_stream.proofs.entries.EntryReader.feed.Goals as goal
 
@@ -22,13 +22,13 @@ returns-clause-answer c seen h =
       | in-Telegram w ↦
           let r = w.in-Telegram.reader in
           let before : value_of (Telegram r) ≡ c.args.self.now = ap value_of (sym w.in-Telegram.is) ∙ c.self.view_is in
-          let at = telegram_reading r.stage seen (ap (λ (v : ReaderValue). v.stage) before ∙ h) in
+          let at = inner_reading telegram_item r.stage seen (ap (λ (v : ReaderValue). v.stage) before ∙ h) in
           of_inside (Telegram r) (Telegram w.feed.new.self) c.args.self.now (value_of c.match-self.self-inside.inner) seen b w.feed.result c.match-self.result before (sym (ap (λ (i : Inside). value_of i.inner) w.self-inside-is)) w.result-is
           (telegram_feeds r.size seen b w.feed.result w.feed.new.self.stage (w.feed.ensures.answer seen at))
       | in-Message w ↦
           let r = w.in-Message.reader in
           let before : value_of (Message r) ≡ c.args.self.now = ap value_of (sym w.in-Message.is) ∙ c.self.view_is in
-          let at = message_reading r seen (ap (λ (v : ReaderValue). v.stage) before ∙ h) in
+          let at = inner_reading message_item r seen (ap (λ (v : ReaderValue). v.stage) before ∙ h) in
           of_inside (Message r) (Message w.feed-in-Message.new.self) c.args.self.now (value_of c.match-self.self-inside.inner) seen b w.feed-in-Message.result c.match-self.result before (sym (ap (λ (i : Inside). value_of i.inner) w.self-inside-is)) w.result-is
           (message_feeds seen b w.feed-in-Message.result w.feed-in-Message.new.self (w.feed-in-Message.ensures.answer seen at))
     ]

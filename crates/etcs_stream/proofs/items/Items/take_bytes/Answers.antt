@@ -13,7 +13,7 @@ loop-rest-init c = record {
   few = c.requires.told;
   room = λ h. h;
   all = refl;
-  advances = Advances-none c.args.self.now.job.kind c.args.self.now.job.command (seen_bits c.args.self.now.reader.stage) c.args.self.now.told c.args.text.now.items;
+  advances = Advances-none c.args.self.now.job.kind c.args.self.now.job.command (seen_bits c.args.self.now.reader.stage) c.args.self.now.teller c.args.text.now.items;
 }
 
 pub loop-rest-preserved : goal.loop-rest-preserved

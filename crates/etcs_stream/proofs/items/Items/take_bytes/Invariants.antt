@@ -8,10 +8,10 @@ invariant-loop-rest l = record {
   front : List ℕ;
   job_is : l.self.job ≡ l.fn.self.job;
   waits : Awaits l.fn.self.job.kind l.self.reader;
-  few : l.self.told ≤ 1000000;
-  room : HasRoom l.fn.self.told (seen_bits l.fn.self.reader.stage) → HasRoom l.self.told (seen_bits l.self.reader.stage);
+  few : l.self.teller.count ≤ 1000000;
+  room : HasRoom l.fn.self.teller.count (seen_bits l.fn.self.reader.stage) → HasRoom l.self.teller.count (seen_bits l.self.reader.stage);
   all : l.bytes ≡ front ++ l.rest;
-  advances : Advances l.fn.self.job.kind l.fn.self.job.command (seen_bits l.fn.self.reader.stage) (seen_bits l.self.reader.stage) l.fn.self.told l.self.told front l.fn.text.items l.text.items;
+  advances : Advances l.fn.self.job.kind l.fn.self.job.command (seen_bits l.fn.self.reader.stage) (seen_bits l.self.reader.stage) l.fn.self.teller l.self.teller front l.fn.text.items l.text.items;
 }
 
 abbrev pub decreases-loop-rest : goal.decreases-loop-rest

@@ -1,4 +1,4 @@
-use Rattle.std.proofs.Common.{◌≡◌, ◌+◌, ◌<◌, ◌∙◌, ap, Ok, Err, Result, refl, arith, length-append}
+use Rattle.std.proofs.Common.{◌≡◌, ◌+◌, ◌<◌, ◌∙◌, sym, ap, Ok, Err, Result, refl, arith, length-append}
 use Rattle.std.proofs.lemmas.Result.{err_from_is_err_and}
 use Rattle.etcs_bits.specs.Bits.{bits}
 use Rattle.etcs_vars.specs.declared.feed.Fed.{Fed}
@@ -18,7 +18,7 @@ tell-requires-clause-whole c =
     let new = bits c.args.bytes.now in
     let is : ◌≡◌ {A = Result Fed ReadFault} c.feed.result (Ok (Done c.in-Ok-Done.taken)) = c.in-Ok-Done.is ∙ ap Ok c.in-Ok-Done.field-0-is in
     let f = fed c.args.self.now.job.kind r new _ _ _ c.requires.waits is c.feed.ensures.answer in
-    (f.0, f.1)
+    (f.0, f.1, f.3.2.0)
 
 pub unreachable-requires : goal.unreachable-requires
 unreachable-requires c =
@@ -67,14 +67,13 @@ returns-in_ok-tell-in-Ok-Done-clause-ok c =
     let f : Feeds (EntryReads c.args.self.now.job.kind) (seen_bits r.stage) new (Ok (Done c.in-Ok-Done.taken)) c.feed.new.self.stage = fed c.args.self.now.job.kind r new _ _ _ c.requires.waits is c.feed.ensures.answer in
     done_advances c.args.self.now.job.kind c.args.self.now.job.command (seen_bits r.stage) _ c.args.bytes.now _ _ _ _ _ _ f
     (ap (λ (z : ReaderValue). seen_bits z.stage) c.in_ok-tell-in-Ok-Done.ensures.next)
-    c.in_ok-tell-in-Ok-Done.ensures.told
     (c.in_ok-tell-in-Ok-Done.ensures.ok f.0 f.1)
 
-pub returns-then-self-eq-MOST_ITEMS-clause-err : goal.returns-then-self-eq-MOST_ITEMS-clause-err
-returns-then-self-eq-MOST_ITEMS-clause-err c =
+pub returns-then-count-eq-MOST_ITEMS-clause-err : goal.returns-then-count-eq-MOST_ITEMS-clause-err
+returns-then-count-eq-MOST_ITEMS-clause-err c =
     let s = c.args.self.now in
-    Halts-here s.job.kind s.job.command (seen_bits s.reader.stage) s.told c.args.bytes.now _ _ fault.Endless c.requires.told refl
-    (c.if-self-eq-MOST_ITEMS.true, omega (arith, length-append (seen_bits s.reader.stage) (bits c.args.bytes.now), length-bits c.args.bytes.now, c.requires.some))
+    Halts-here s.job.kind s.job.command (seen_bits s.reader.stage) s.teller c.args.bytes.now _ _ fault.Endless c.requires.told refl
+    (sym c.count.ensures ∙ c.if-count-eq-MOST_ITEMS.true, omega (arith, length-append (seen_bits s.reader.stage) (bits c.args.bytes.now), length-bits c.args.bytes.now, c.requires.some))
 
 pub returns-in-Err-Refused-clause-err : goal.returns-in-Err-Refused-clause-err
 returns-in-Err-Refused-clause-err c =
@@ -83,14 +82,15 @@ returns-in-Err-Refused-clause-err c =
     let new = bits c.args.bytes.now in
     let is : ◌≡◌ {A = Result Fed ReadFault} c.feed.result (Err (Refused c.in-Err-Refused.bit c.in-Err-Refused.var)) = c.in-Err-Refused.is ∙ ap Err c.in-Err-Refused.field-0-is in
     let f = fed s.job.kind r new _ _ _ c.requires.waits is c.feed.ensures.answer in
-    let room : s.told < 1000000 = omega (arith, c.requires.told, c.if-self-eq-MOST_ITEMS.false) in
-    Halts-here s.job.kind s.job.command (seen_bits r.stage) s.told c.args.bytes.now _ _ (fault.Refused (s.told + 1) c.in-Err-Refused.bit c.in-Err-Refused.var) c.requires.told refl
-    (refl, room, feed_refuses s.job.kind (seen_bits r.stage) new _ _ c.feed.new.self.stage f)
+    let room : s.teller.count < 1000000 = omega (arith, c.requires.told, c.if-count-eq-MOST_ITEMS.false, c.count.ensures) in
+    rw c.count-in-Err-Refused.ensures
+    (Halts-here s.job.kind s.job.command (seen_bits r.stage) s.teller c.args.bytes.now _ _ (fault.Refused (s.teller.count + 1) c.in-Err-Refused.bit c.in-Err-Refused.var) c.requires.told refl
+    (refl, room, feed_refuses s.job.kind (seen_bits r.stage) new _ _ c.feed.new.self.stage f))
 
 pub returns-in-Err-Memory-clause-err : goal.returns-in-Err-Memory-clause-err
 returns-in-Err-Memory-clause-err c =
     let s = c.args.self.now in
-    Halts-here s.job.kind s.job.command (seen_bits s.reader.stage) s.told c.args.bytes.now _ _ fault.Memory c.requires.told refl tt
+    Halts-here s.job.kind s.job.command (seen_bits s.reader.stage) s.teller c.args.bytes.now _ _ fault.Memory c.requires.told refl tt
 
 pub returns-in_err-tell-in-Ok-Done-clause-err : goal.returns-in_err-tell-in-Ok-Done-clause-err
 returns-in_err-tell-in-Ok-Done-clause-err c =
@@ -98,4 +98,4 @@ returns-in_err-tell-in-Ok-Done-clause-err c =
     let p = err_from_is_err_and c.from_residual.result c.from_residual.ensures.1 in
     let e = c.in_err-tell-in-Ok-Done.ensures.err in
     rw (p.1, p.2, e.0)
-    (Halts-here s.job.kind s.job.command (seen_bits s.reader.stage) s.told c.args.bytes.now _ _ fault.Memory c.requires.told e.1 tt)
+    (Halts-here s.job.kind s.job.command (seen_bits s.reader.stage) s.teller c.args.bytes.now _ _ fault.Memory c.requires.told e.1 tt)

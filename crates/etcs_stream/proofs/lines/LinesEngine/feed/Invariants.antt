@@ -7,7 +7,7 @@ invariant-loop-line l = record {
   front : List ℕ;
   job_is : l.self.items.job ≡ l.fn.self.items.job;
   all : l.piece ≡ front ++ l.rest;
-  stands : (given told : List ℕ) → HexStands l.fn.self.items.job l.fn.self.items.reader l.fn.self.items.told l.fn.self.kept.items l.fn.self.line given told → HexStands l.self.items.job l.self.items.reader l.self.items.told l.self.kept.items l.self.line (given ++ front) (told ++ l.text.items);
+  stands : (given told : List ℕ) → HexStands l.fn.self.items.job l.fn.self.items.reader l.fn.self.items.teller l.fn.self.kept.items l.fn.self.line given told → HexStands l.self.items.job l.self.items.reader l.self.items.teller l.self.kept.items l.self.line (given ++ front) (told ++ l.text.items);
 }
 
 abbrev pub decreases-loop-line : goal.decreases-loop-line

@@ -1,9 +1,11 @@
-use Rattle.std.proofs.Common.{[], ◌≡◌, sym, subst}
+use Rattle.std.proofs.Common.{[], ◌≡◌, sym, ap, subst}
 use Rattle.etcs_vars.proofs.Languages.{Same}
-use Rattle.etcs_telegram.specs.Telegrams.{TelegramLanguage}
+use Rattle.etcs_rests.specs.Stages.{Stage}
+use Rattle.etcs_rests.proofs.Feeding.{first_is, first_stage}
+use Rattle.etcs_telegram.specs.Telegrams.{TelegramLanguage, TelegramParts}
+use Rattle.etcs_telegram.specs.Readers.{ReaderValue}
 use Rattle.etcs_telegram.proofs.Examples.{some_telegram}
-use Rattle.etcs_telegram.proofs.Feeding.{first_is, first_stage, same_value}
-use Rattle.etcs_telegram.proofs.Passes.{Kept, left, holds}
+use Rattle.etcs_telegram.proofs.Reading.{Kept, left, holds, telegrams, some_bits}
 use Rattle.etcs_telegram.proofs.reader.TelegramReader.new.Goals as goal
 
 pub new-requires-3 : goal.new-requires-3
@@ -16,15 +18,16 @@ module _ (c : goal.After-new-3) where
   same : Same (left c.new-3.result.rest) (TelegramLanguage c.args.size)
   same = subst (λ (s : Kept). Same (left s) (TelegramLanguage c.args.size)) (sym rest) c.new-2.ensures.left
 
-  held : holds c.new-3.result.rest []
-  held = subst (λ (s : Kept). holds s []) (sym rest) c.new-2.ensures.holds
+  held : holds c.args.size c.new-3.result.rest []
+  held = subst (λ (s : Kept). holds c.args.size s []) (sym rest) (c.new-2.ensures.size, c.new-2.ensures.holds)
 
 pub invariant_of-result : goal.invariant_of-result
 invariant_of-result c =
     let e = c.new-3.ensures in
-    first_is c.args.size c.new-3.result (rw e.rest c.new-2.ensures.size) e.part e.count e.stop (same c) (held c)
+    first_is (telegrams c.args.size) c.new-3.result e.part e.count e.stop (same c) (some_telegram c.args.size) (held c)
 
 pub returns : goal.returns
 returns c =
     let e = c.new-3.ensures in
-    same_value c.args.size _ _ (first_stage c.args.size c.new-3.result (rw e.rest c.new-2.ensures.size) e.part e.count e.stop (same c) (held c))
+    let size = c.args.size in
+    ap (λ (s : Stage TelegramParts). let v : ReaderValue = record { size = size; stage = s } in v) (first_stage (telegrams size) c.new-3.result e.part e.count e.stop (same c) (some_telegram size) (held c) (some_bits size))

@@ -4,7 +4,7 @@ use Rattle.etcs_bits.proofs.Positions.{length-bits}
 use Rattle.etcs_bits.proofs.Lists.{length-part}
 use Rattle.etcs_vars.specs.declared.var.Var.TheVariants.{FILL}
 use Rattle.etcs_vars.specs.Reading.{kept}
-use Rattle.etcs_telegram.proofs.Spellings.{spelled-kept}
+use Rattle.etcs_rests.specs.BitLaws.{bits_spelled}
 use Rattle.etcs_telegram.proofs.RestSteps.{fill_parts, fill_viable}
 use Rattle.etcs_telegram.proofs.rest.TelegramRest.leap_fill.Goals as goal
 
@@ -27,7 +27,7 @@ returns-in-Ok-clause-ok g c =
       goes = c.in-Ok.ensures.goes;
       whole = kept FILL c.run_at.result;
       follows = c.in-Ok.ensures.ok;
-      bits = spelled-kept FILL c.run_at.result refl ∙ c.run_at.ensures;
+      bits = bits_spelled FILL c.run_at.result refl ∙ c.run_at.ensures;
     }
 
 pub returns-in-Err-clause-viable : goal.returns-in-Err-clause-viable

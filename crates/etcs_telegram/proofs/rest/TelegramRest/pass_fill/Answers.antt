@@ -2,7 +2,7 @@ use Rattle.std.proofs.Common.{◌≡◌, [], ◌∷◌, ap, ◌∙◌, arith}
 use Rattle.etcs_bits.proofs.Positions.{length-bits}
 use Rattle.etcs_vars.specs.declared.var.Var.TheVariants.{FILL}
 use Rattle.etcs_vars.specs.Reading.{Reading, kept}
-use Rattle.etcs_telegram.proofs.RestSteps.{byte_bit, bit_read}
+use Rattle.etcs_rests.specs.BitLaws.{byte_bit, bit_read}
 use Rattle.etcs_telegram.proofs.rest.TelegramRest.pass_fill.Goals as goal
 
 pub run_at-requires : goal.run_at-requires
@@ -10,5 +10,5 @@ run_at-requires g c = omega (arith, length-bits (c.args.number ∷ []))
 
 pub returns-in-Ok-clause-ok : goal.returns-in-Ok-clause-ok
 returns-in-Ok-clause-ok g c =
-    let read : ◌≡◌ {A = Reading} (kept FILL c.run_at.result) ((FILL, c.args.number) ∷ []) = ap (kept FILL) (c.run_at.ensures ∙ byte_bit c.args.number c.requires.small) ∙ bit_read c.args.number c.requires.small in
+    let read : ◌≡◌ {A = Reading} (kept FILL c.run_at.result) ((FILL, c.args.number) ∷ []) = ap (kept FILL) (c.run_at.ensures ∙ byte_bit c.args.number c.requires.small) ∙ bit_read FILL c.args.number c.requires.small in
     rw read at c.in-Ok.ensures.ok

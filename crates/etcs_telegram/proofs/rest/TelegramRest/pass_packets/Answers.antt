@@ -2,7 +2,8 @@ use Rattle.std.proofs.Common.{[], ◌∷◌, length}
 use Rattle.std.proofs.Math.Logic.{∥∥₁_map}
 use Rattle.etcs_rests.specs.Lefts.{left_of}
 use Rattle.etcs_reader.specs.Rests.{Starts}
-use Rattle.etcs_telegram.proofs.RestSteps.{begins_packets, packets_left, packets_stands}
+use Rattle.etcs_rests.specs.FilledLaws.{moved_left}
+use Rattle.etcs_telegram.proofs.RestSteps.{begins_packets, packets_stands}
 use Rattle.etcs_telegram.proofs.RestHolds.{packets_follow, packets_fits}
 use Rattle.etcs_telegram.proofs.rest.TelegramRest.pass_packets.Goals as goal
 
@@ -30,4 +31,4 @@ returns-in-Ok-clause-ok g c =
     let l' = c.pass.new.self.left in
     let goes : Starts (left_of l.carrier l.room l.stage) c.args.var 0 c.args.number = (begins_packets s.size s.stage l c.args.var 0 c.args.number c.requires.stage c.requires.next).1 c.requires.goes in
     let moved = c.in-Ok.ensures.ok.0 in
-    packets_follow s.size s.stage c.behind_packets-self.result s.header.items l l' (g.S.PacketStore.holds s.packets.store) (g.S.PacketStore.holds c.pass.new.self.store) ((c.args.var, c.args.number) ∷ []) c.requires.stage c.behind_packets-self.ensures s.stands moved (packets_left l l' c.args.var c.args.number goes moved) c.in-Ok.ensures.ok.1
+    packets_follow s.size s.stage c.behind_packets-self.result s.header.items l l' (g.S.PacketStore.holds s.packets.store) (g.S.PacketStore.holds c.pass.new.self.store) ((c.args.var, c.args.number) ∷ []) c.requires.stage c.behind_packets-self.ensures s.stands moved (moved_left l l' c.args.var c.args.number goes moved) c.in-Ok.ensures.ok.1

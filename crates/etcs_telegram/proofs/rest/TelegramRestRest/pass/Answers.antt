@@ -1,9 +1,12 @@
 use Rattle.std.proofs.Common.{length}
-use Rattle.etcs_telegram.proofs.RestSteps.{fill_bit, pad_parts, pad_bit}
+use Rattle.etcs_telegram.proofs.RestSteps.{fill_parts, fill_bit, pad_parts, pad_bit}
 use Rattle.etcs_telegram.proofs.rest.TelegramRestRest.pass.Goals as goal
 
 pub pass_fill-requires-clause-small : goal.pass_fill-requires-clause-small
-pass_fill-requires-clause-small g c = let s = c.args.self.now in (fill_bit s.size s.stage c.in-Fill.left s.packets.left c.args.var c.args.number c.in-Fill.is c.requires.next c.requires.goes).1
+pass_fill-requires-clause-small g c =
+    let s = c.args.self.now in
+    let pos = (fill_parts s.stage c.in-Fill.left (length s.header.items) s.packets.left c.in-Fill.is s.stands).0 in
+    (fill_bit s.size s.stage c.in-Fill.left s.packets.left c.args.var c.args.number c.in-Fill.is pos c.requires.next c.requires.goes).1
 
 pub returns-in-Pad-clause-ok : goal.returns-in-Pad-clause-ok
 returns-in-Pad-clause-ok g c =

@@ -7,7 +7,8 @@ use Rattle.etcs_telegram.specs.Headers.{IsHeaderNumbers}
 use Rattle.etcs_telegram.specs.Lefts.{left_at}
 use Rattle.etcs_telegram.specs.Views.{ViewIn}
 use Rattle.etcs_telegram.proofs.Encoding.{container_bits}
-use Rattle.etcs_telegram.proofs.Viewing.{refused_same, refused_bit, some_telegram, all_seen}
+use Rattle.etcs_telegram.proofs.Examples.{some_telegram}
+use Rattle.etcs_telegram.proofs.Viewing.{refused_same, refused_bit, all_seen}
 use Rattle.etcs_telegram.proofs.view.TelegramView.new.Goals as goal
 use Rattle.etcs_telegram.proofs.view.TelegramView.new.Goals.{In-Ok}
 

@@ -1,0 +1,11 @@
+pub mod PlainTexts
+pub mod PlainTrees
+pub mod OneTrees
+pub mod OwnTrees
+pub mod Shapes
+pub mod OneItems
+pub mod DigitLemmas
+pub mod PairLemmas
+pub mod PacketTrees
+pub mod TelegramTrees
+pub mod MessageTrees

@@ -1,0 +1,145 @@
+-- A tree is that of one item alone.
+use Rattle.std.proofs.Common.{◌≡◌, ℕ, zero, suc, ◌+◌, ◌/◌, ◌%◌, ◌^◌, ◌<◌, Bool, true, false, List, [], ◌∷◌, ◌++◌, map, Some, refl, sym, ap, ap₂, subst, ◌∙◌, arith, inl, inr, ◌==◌}
+use Rattle.std.specs.Prelude.{◌⊎◌, ◌≤◌, All}
+use Rattle.std.proofs.lemmas.Bool.{cases_lt, le-ltb, lt-ltb}
+use Rattle.std.proofs.lemmas.List.Elements.{All-head, All-tail}
+use Rattle.serde_json.specs.Data.{Data, number, unsigned, string, array, Items, no_items, item}
+use Rattle.etcs_vars.specs.declared.var.Var.{Var}
+use Rattle.etcs_vars.specs.declared.var.Var.TheVariants.{NID_RADIO, NID_VBCMK}
+use Rattle.etcs_vars.specs.Vars.{name, width}
+use Rattle.etcs_vars.specs.Reading.{Reading, Sent}
+use Rattle.etcs_vars.proofs.Apart.{Agree, AllFit}
+use Rattle.etcs_vars.proofs.Prefixes.{admits_parts}
+use Rattle.etcs_rows.specs.declared.row.Way.TheVariants.{ToTrain}
+use Rattle.etcs_rows.specs.Layouts.{Layout, Reads}
+use Rattle.etcs_rows.specs.Typed.{IsFramed}
+use Rattle.etcs_rows.proofs.OneReading.{Reads-agree, Reads-fit}
+use Rattle.etcs_packets.specs.PacketValues.{PacketValue, marker, typed, kept, IsPacket}
+use Rattle.etcs_text.specs.Show.{hex_digit, hex_digits, bit_digit}
+use Rattle.etcs_text.specs.Trees.{bits_tree}
+use Rattle.etcs_json.specs.TreeReading.{SaysNumber, IsPairTree, ArePairTrees, IsPacketTree, ArePacketTrees}
+
+-- ---- Numbers.
+
+last_same : (a b : List ℕ) (x y : ℕ) → a ++ x ∷ [] ≡ b ++ y ∷ [] → (a ≡ b) × (x ≡ y)
+last_same [] [] x y e = (refl, cc)
+last_same [] (c ∷ []) x y e = absurd cc
+last_same [] (c ∷ d ∷ b) x y e = absurd cc
+last_same (c ∷ []) [] x y e = absurd cc
+last_same (c ∷ d ∷ a) [] x y e = absurd cc
+last_same (c ∷ a) (d ∷ b) x y e =
+    let first : c ≡ d = cc in
+    let rest : a ++ x ∷ [] ≡ b ++ y ∷ [] = cc in
+    let both = last_same a b x y rest in
+    (ap₂ (λ (z : ℕ) (l : List ℕ). z ∷ l) first both.0, both.1)
+
+pub digit_is : (d : ℕ) → d < 16 → ((d < 10) × (hex_digit d ≡ 48 + d)) ⊎ ((10 ≤ d) × (hex_digit d ≡ 87 + d))
+digit_is d h = elim (cases_lt d 10) [
+  | inl small ↦ inl (small, rw (lt-ltb d 10 small) refl)
+  | inr big ↦ inr (big, rw (le-ltb d 10 big) refl)
+]
+
+digit_same : (d e : ℕ) → d < 16 → e < 16 → hex_digit d ≡ hex_digit e → d ≡ e
+digit_same d e h k same = elim (digit_is d h) [
+  | inl p ↦ elim (digit_is e k) [
+    | inl q ↦ omega (arith, p.1, q.1, same)
+    | inr q ↦ omega (arith, p.0, p.1, q.0, q.1, same)
+  ]
+  | inr p ↦ elim (digit_is e k) [
+    | inl q ↦ omega (arith, p.0, p.1, q.0, q.1, same)
+    | inr q ↦ omega (arith, p.1, q.1, same)
+  ]
+]
+
+hex_same : (count n m : ℕ) → n < 16 ^ count → m < 16 ^ count → hex_digits count n ≡ hex_digits count m → n ≡ m
+hex_same zero n m h k e = omega (arith, h, k)
+hex_same (suc count) n m h k e =
+    let both = last_same (hex_digits count (n / 16)) (hex_digits count (m / 16)) (hex_digit (n % 16)) (hex_digit (m % 16)) e in
+    let front = hex_same count (n / 16) (m / 16) (omega (arith, h)) (omega (arith, k)) both.0 in
+    let last = digit_same (n % 16) (m % 16) (omega arith) (omega arith) both.1 in
+    omega (arith, front, last)
+
+number_same : (v : Var) (n m : ℕ) (d : Data) → n < 2 ^ width v → m < 2 ^ width v → SaysNumber v n d → SaysNumber v m d → n ≡ m
+number_same NID_RADIO n m d h k (s, is, digits) (t, is', digits') =
+    let both : string s ≡ string t = sym is ∙ is' in
+    let same : t ≡ s = cc in
+    hex_same 16 n m (omega (arith, h)) (omega (arith, k)) (sym digits ∙ rw same at digits')
+number_same v n m d h k is is' = let both : number (unsigned n) ≡ number (unsigned m) = sym is ∙ is' in cc
+
+-- ---- Variables.
+
+pair_same : (p q : Sent) (d : Data) → p.0 ≡ q.0 → p.1 < 2 ^ width p.0 → q.1 < 2 ^ width q.0 → IsPairTree p d → IsPairTree q d → p ≡ q
+pair_same (v, n) (w, m) d var h k (x, is, says) (y, is', says') =
+    let both : array (item (string (name v)) (item x no_items)) ≡ array (item (string (name w)) (item y no_items)) = sym is ∙ is' in
+    let same : y ≡ x = cc in
+    let back : w ≡ v = sym var in
+    let number = number_same v n m x h (rw back at k) says (rw (same, back) at says') in
+    rw (back, number) refl
+
+pub pairs_same : (r q : Reading) (ds : Items) → Agree r q → AllFit r → AllFit q → ArePairTrees r ds → ArePairTrees q ds → r ≡ q
+pairs_same [] [] ds a h k x y = refl
+pairs_same [] (q ∷ qs) ds a h k x y = absurd a
+pairs_same (p ∷ ps) [] ds a h k x y = absurd a
+pairs_same (p ∷ ps) (q ∷ qs) no_items a h k x y = absurd x
+pairs_same (p ∷ ps) (q ∷ qs) (item d ds) a h k x y =
+    let first = pair_same p q d a.0 h.0 k.0 x.0 y.0 in
+    ap₂ (λ (s : Sent) (r : Reading). s ∷ r) first (pairs_same ps qs ds (a.1 first) h.1 k.1 x.1 y.1)
+
+-- those of a row
+pub row_same : (row : Layout) (r q : Reading) (ds : Items) → Reads row [] r → Reads row [] q → ArePairTrees r ds → ArePairTrees q ds → r ≡ q
+row_same row r q ds x y = pairs_same r q ds (Reads-agree row [] r q x y) (Reads-fit row [] r x) (Reads-fit row [] q y)
+
+-- ---- Bits.
+
+digits_back : (b : List Bool) → map (λ c. c == 49) (map bit_digit b) ≡ b
+digits_back [] = refl
+digits_back (true ∷ b) = ap (λ (l : List Bool). true ∷ l) (digits_back b)
+digits_back (false ∷ b) = ap (λ (l : List Bool). false ∷ l) (digits_back b)
+
+pub bits_same : (b c : List Bool) → bits_tree b ≡ bits_tree c → b ≡ c
+bits_same b c e = let same : map bit_digit b ≡ map bit_digit c = cc in sym (digits_back b) ∙ ap (map (λ c. c == 49)) same ∙ digits_back c
+
+-- ---- Packets.
+
+framed_same : (nid dir : ℕ) (r q : Reading) (ds : Items) → IsFramed ToTrain nid dir r → IsFramed ToTrain nid dir q → ArePairTrees r ds → ArePairTrees q ds → r ≡ q
+framed_same nid dir r q ds (row, e, directed, reads, short) (row', e', directed', reads', short') x y =
+    let one : row' ≡ row = (let two : Some row' ≡ Some row = sym e' ∙ e in cc) in
+    row_same row r q ds reads (subst (λ (l : Layout). Reads l [] q) one reads') x y
+
+first_number : Reading → ℕ
+first_number [] = 0
+first_number (p ∷ r) = p.1
+
+packet_same : (v w : PacketValue) (d : Data) → IsPacket v → IsPacket w → IsPacketTree v d → IsPacketTree w d → v ≡ w
+unfolding first_number
+packet_same (marker n) (marker m) d h k (ps, is, x) (qs, is', y) =
+    let same : qs ≡ ps = cc in
+    ap (λ (r : Reading). marker (first_number r)) (pairs_same ((NID_VBCMK, n) ∷ []) ((NID_VBCMK, m) ∷ []) ps (refl, λ _. tt) ((admits_parts NID_VBCMK n h).1, tt) ((admits_parts NID_VBCMK m k).1, tt) x (rw same at y))
+packet_same (marker n) (typed nid dir r) d h k (ps, is, x) (qs, is', y) = absurd cc
+packet_same (marker n) (kept nid dir b) d h k (ps, is, x) is' = absurd cc
+packet_same (typed nid dir r) (marker n) d h k (ps, is, x) (qs, is', y) = absurd cc
+packet_same (typed nid dir r) (typed nid' dir' q) d h k (ps, is, x) (qs, is', y) =
+    let same : qs ≡ ps = cc in
+    let number : nid' ≡ nid = cc in
+    let to : dir' ≡ dir = cc in
+    let one = framed_same nid dir r q ps h (rw (number, to) at k) x (rw same at y) in
+    rw (number, to, one) refl
+packet_same (typed nid dir r) (kept nid' dir' b) d h k (ps, is, x) is' = absurd cc
+packet_same (kept nid dir b) (marker n) d h k is (qs, is', y) = absurd cc
+packet_same (kept nid dir b) (typed nid' dir' q) d h k is (qs, is', y) = absurd cc
+packet_same (kept nid dir b) (kept nid' dir' c) d h k is is' =
+    let bits : bits_tree c ≡ bits_tree b = cc in
+    let number : nid' ≡ nid = cc in
+    let to : dir' ≡ dir = cc in
+    rw (number, to, bits_same c b bits) refl
+
+pub packets_same : (vs ws : List PacketValue) (ds : Items) → All IsPacket vs → All IsPacket ws → ArePacketTrees vs ds → ArePacketTrees ws ds → vs ≡ ws
+packets_same [] [] ds h k x y = refl
+packets_same [] (w ∷ ws) no_items h k x y = absurd y
+packets_same [] (w ∷ ws) (item d ds) h k x y = absurd x
+packets_same (v ∷ vs) [] no_items h k x y = absurd x
+packets_same (v ∷ vs) [] (item d ds) h k x y = absurd y
+packets_same (v ∷ vs) (w ∷ ws) no_items h k x y = absurd x
+packets_same (v ∷ vs) (w ∷ ws) (item d ds) h k x y =
+    let first = packet_same v w d (All-head IsPacket v vs h) (All-head IsPacket w ws k) x.0 y.0 in
+    ap₂ (λ (p : PacketValue) (ps : List PacketValue). p ∷ ps) first (packets_same vs ws ds (All-tail IsPacket v vs h) (All-tail IsPacket w ws k) x.1 y.1)

@@ -1,0 +1,161 @@
+-- Telegrams and their trees.
+use Rattle.std.proofs.Common.{◌≡◌, ℕ, ◌+◌, ◌-◌, ◌≤◌, ◌<◌, Bool, false, List, [], ◌∷◌, ◌++◌, length, map, Option, None, Some, inl, inr, refl, sym, ap, subst, ◌∙◌, arith}
+use Rattle.std.specs.Prelude.{◌⊎◌, ◌≢◌, All, IfSome, IsTrue, option_map, replicate, slice_index}
+use Rattle.serde_json.specs.Data.{Data, array, string, Items}
+use Rattle.etcs_bits.specs.Bits.{bit}
+use Rattle.etcs_vars.specs.Vars.{admits}
+use Rattle.etcs_vars.specs.Reading.{Reading, numbers, spelled, kept}
+use Rattle.etcs_vars.specs.declared.var.Var.TheVariants.{FILL, PAD}
+use Rattle.etcs_rows.specs.Layouts.{Layout, Reads}
+use Rattle.etcs_packets.specs.declared.packet.Packet.{Packet}
+use Rattle.etcs_packets.specs.PacketValues.{PacketValue, IsPacket, packet_value}
+use Rattle.etcs_telegram.specs.declared.size.Size.{Size}
+use Rattle.etcs_telegram.specs.declared.size.Size.TheVariants.{Short, Long}
+use Rattle.etcs_telegram.specs.Headers.{header_fault, IsHeaderNumbers}
+use Rattle.etcs_telegram.specs.Telegrams.{HeaderParts, IsAdmitted, TelegramReads, TelegramValue, TelegramParts, telegram_value, header_row, header_of, header_reading, closed_reading, closed_bits, packet_room, pad_bits, user_bits}
+use Rattle.etcs_telegram.proofs.HeaderLemmas.{header_length, header_back}
+use Rattle.etcs_telegram.proofs.Rows.{row_header, admitted_row, header_reads}
+use Rattle.etcs_radio.proofs.Fronts.{as_row, row_fields, fields_row}
+use Rattle.etcs_text.specs.Entries.{EntryValue, of_telegram, of_message, EntryReads, kind_of}
+use Rattle.etcs_text.specs.declared.entry.Kind.TheVariants as kind
+use Rattle.etcs_text.specs.Show.{kind_word}
+use Rattle.etcs_text.specs.Trees.{bits_tree}
+use Rattle.etcs_json.specs.TreeReading.{ArePairTrees, ArePacketTrees, IsTelegramTree, IsTreeOf, telegram_tree}
+use Rattle.etcs_json.proofs.PacketTrees.{SaysNumbers, OnlyNumbers}
+
+-- ---- The header.
+
+pub record HeaderRead (r : Reading) : Type 0 where
+  pub is : r ≡ header_reading (header_of (numbers r))
+  pub admitted : IsAdmitted (header_reading (header_of (numbers r)))
+  pub fine : IsHeaderNumbers (numbers r)
+
+pub header_read : (r : Reading) → Reads (as_row header_row) [] r → HeaderRead r
+header_read r h =
+    let f = row_fields header_row [] r h in
+    let is = row_header r f in
+    let a = admitted_row header_row r f in
+    let k = header_of (numbers r) in
+    let ns : numbers r ≡ numbers (header_reading k) = ap numbers is in
+    let a' : IsAdmitted (header_reading k) = subst IsAdmitted is a in
+    let ten : length (numbers (header_reading k)) ≡ 10 = refl in
+    let fine : IsHeaderNumbers (numbers (header_reading k)) = record { ten = refl; admitted = a' } in
+    record { is = is; admitted = a'; fine = subst IsHeaderNumbers (sym ns) fine }
+
+pub header_row_of : (h : HeaderParts) → IsAdmitted (header_reading h) → Reads (as_row header_row) [] (header_reading h)
+header_row_of h a = fields_row header_row [] (header_reading h) (header_reads h a)
+
+pub header_fine : (ns : List ℕ) → IsHeaderNumbers ns → header_fault (slice_index ns 1) (slice_index ns 3) (slice_index ns 4) (slice_index ns 5) (slice_index ns 6) (slice_index ns 7) (slice_index ns 8) ≡ None
+header_fine [] h = absurd (omega (arith, h.ten))
+header_fine (a ∷ []) h = absurd (omega (arith, h.ten))
+header_fine (a ∷ b ∷ []) h = absurd (omega (arith, h.ten))
+header_fine (a ∷ b ∷ c ∷ []) h = absurd (omega (arith, h.ten))
+header_fine (a ∷ b ∷ c ∷ d ∷ []) h = absurd (omega (arith, h.ten))
+header_fine (a ∷ b ∷ c ∷ d ∷ e ∷ []) h = absurd (omega (arith, h.ten))
+header_fine (a ∷ b ∷ c ∷ d ∷ e ∷ f ∷ []) h = absurd (omega (arith, h.ten))
+header_fine (a ∷ b ∷ c ∷ d ∷ e ∷ f ∷ g ∷ []) h = absurd (omega (arith, h.ten))
+header_fine (a ∷ b ∷ c ∷ d ∷ e ∷ f ∷ g ∷ i ∷ []) h = absurd (omega (arith, h.ten))
+header_fine (a ∷ b ∷ c ∷ d ∷ e ∷ f ∷ g ∷ i ∷ j ∷ ns) h =
+    let (a0, (a1, (a2, (a3, (a4, (a5, (a6, (a7, (a8, rest))))))))) = h.admitted in
+    rw (a1, a3, a4, a5, a6, a7, a8) refl
+
+-- what a clause says of an option, at what it is
+pub some_at : (X : Type 0) (o : Option X) (x : X) (g : X → List ℕ) (row : Layout) (d : Data) → o ≡ Some x → IfSome o (λ y. SaysNumbers row d (g y)) → SaysNumbers row d (g x)
+some_at X None x g row d e h = absurd cc
+some_at X (Some y) x g row d e h = let same : y ≡ x = cc in subst (λ (z : X). SaysNumbers row d (g z)) same h
+
+pub only_at : (X : Type 0) (o : Option X) (x : X) (g : X → List ℕ) (row : Layout) (d : Data) → o ≡ Some x → OnlyNumbers row d (option_map g o) → OnlyNumbers row d (Some (g x))
+only_at X o x g row d e h = subst (λ (z : Option X). OnlyNumbers row d (option_map g z)) e h
+
+pub none_at : (X : Type 0) (o : Option X) (g : X → List ℕ) (row : Layout) (d : Data) → o ≡ None → OnlyNumbers row d (option_map g o) → OnlyNumbers row d None
+none_at X o g row d e h = subst (λ (z : Option X). OnlyNumbers row d (option_map g z)) e h
+
+pub values_at : (X : Type 0) (o : Option X) (x : X) (g : X → List PacketValue) (vs : List PacketValue) → o ≡ Some x → option_map g o ≡ Some vs → vs ≡ g x
+values_at X None x g vs e h = absurd cc
+values_at X (Some y) x g vs e h =
+    let same : y ≡ x = cc in
+    let two : g y ≡ vs = cc in
+    sym two ∙ ap g same
+
+pub header_some : (d : Data) (f g : List ℕ) (h : HeaderParts) → SaysNumbers (as_row header_row) d f → g ≡ f → h ≡ header_of g → (hs : Items) × (d ≡ array hs) × IsAdmitted (header_reading h) × ArePairTrees (header_reading h) hs
+header_some d f g h (r, ps, is, reads, trees, nums) same e =
+    let k = header_read r reads in
+    let h_is : h ≡ header_of (numbers r) = e ∙ ap header_of (same ∙ sym nums) in
+    let trees' : ArePairTrees (header_reading (header_of (numbers r))) ps = subst (λ (x : Reading). ArePairTrees x ps) k.is trees in
+    (ps, is, subst (λ (x : HeaderParts). IsAdmitted (header_reading x)) (sym h_is) k.admitted, subst (λ (x : HeaderParts). ArePairTrees (header_reading x) ps) (sym h_is) trees')
+
+pub header_numbers : (d : Data) (f g : List ℕ) → SaysNumbers (as_row header_row) d f → g ≡ f → IsHeaderNumbers g
+header_numbers d f g (r, ps, is, reads, trees, nums) same =
+    let k = header_read r reads in
+    subst IsHeaderNumbers (nums ∙ sym same) k.fine
+
+pub header_only : (d : Data) (o : Option (List ℕ)) (h : HeaderParts) (hs : Items) → OnlyNumbers (as_row header_row) d o → IsAdmitted (header_reading h) → d ≡ array hs → ArePairTrees (header_reading h) hs → o ≡ Some (numbers (header_reading h))
+header_only d o h hs only a is t = only (header_reading h) hs is (header_row_of h a) t
+
+pub header_same : (f g : List ℕ) (k h : HeaderParts) → Some f ≡ Some (numbers (header_reading h)) → g ≡ f → k ≡ header_of g → k ≡ h
+header_same f g k h two same e =
+    let nums : f ≡ numbers (header_reading h) = cc in
+    e ∙ ap header_of (same ∙ nums) ∙ header_back h
+
+-- ---- A telegram.
+
+pub no_fault : (P Q : Type 0) (closed fill room : ℕ) → (P × (room < closed)) ⊎ (Q × (closed ≤ room) × (closed + fill ≢ room)) → closed + fill ≡ room → ⊥
+no_fault P Q closed fill room (inl (p, l)) e = omega (arith, l, e)
+no_fault P Q closed fill room (inr (q, l, n)) e = n e
+
+same_kind : (a b : Size) → kind_of a ≡ kind_of b → a ≡ b
+same_kind Short Short e = refl
+same_kind Short Long e = absurd cc
+same_kind Long Short e = absurd cc
+same_kind Long Long e = refl
+
+no_radio : (s : Size) → kind.Radio ≡ kind_of s → ⊥
+no_radio Short e = absurd cc
+no_radio Long e = absurd cc
+
+pub telegram_only : (size : Size) (e : EntryValue) (r : Reading) (d : Data) → ((t : TelegramValue) (q : Reading) → t.size ≡ size → TelegramReads t q → IsTelegramTree t d → ⊥) → EntryReads (kind_of size) e r → IsTreeOf e d → ⊥
+telegram_only size (of_telegram t) r d wrong (k, reads) tree = wrong t r (same_kind t.size size k) reads tree
+telegram_only size (of_message m) r d wrong (k, reads) tree = no_radio size k
+
+-- what a tree with these members says
+pub record TelegramSays (t : TelegramValue) (x y z w : Data) : Type 0 where
+  pub pairs : Items
+  pub trees : Items
+  pub fill_is : x ≡ bits_tree t.fill
+  pub header_is : y ≡ array pairs
+  pub kind_is : z ≡ string (kind_word t.size)
+  pub packets_is : w ≡ array trees
+  pub header : ArePairTrees (header_reading t.header) pairs
+  pub packets : ArePacketTrees t.packets trees
+
+pub telegram_says : (t : TelegramValue) (x y z w : Data) → IsTelegramTree t (telegram_tree x y z w) → TelegramSays t x y z w
+telegram_says t x y z w (hs, ps, e, h, p) = record {
+  pairs = hs;
+  trees = ps;
+  fill_is = cc;
+  header_is = cc;
+  kind_is = cc;
+  packets_is = cc;
+  header = h;
+  packets = p;
+}
+
+-- a telegram of these parts fills its room
+pub telegram_room : (t : TelegramValue) (r : Reading) (size : Size) (ps : List Packet) (fill : List Bool) → TelegramReads t r → t.size ≡ size → t.packets ≡ map packet_value ps → t.fill ≡ fill → closed_bits ps + length fill ≡ packet_room size
+telegram_room t r size ps fill h s p f =
+    let head = header_length t.header in
+    let closed : length (spelled (closed_reading t.packets)) ≡ closed_bits ps = ap (λ (vs : List PacketValue). length (spelled (closed_reading vs))) p in
+    let filled = ap length f in
+    let users : user_bits t.size ≡ user_bits size = ap user_bits s in
+    omega (arith, head, closed, filled, users, h.user_bits_is)
+
+-- parts that fill the room are a telegram
+pub parts_read : (size : Size) (header : HeaderParts) (ps : List Packet) (fill : List Bool) → IsAdmitted (header_reading header) → All IsPacket (map packet_value ps) → closed_bits ps + length fill ≡ packet_room size → (r : Reading) × TelegramReads (telegram_value (record { size = size; header = header; packets = ps; fill = fill })) r
+parts_read size header ps fill a p room = (
+  header_reading header ++ closed_reading (map packet_value ps) ++ kept FILL fill ++ kept PAD (replicate (pad_bits size) false),
+  record { header_admitted = a; packets_hold = p; reading_is = refl; user_bits_is = filled size room },
+)
+  where
+    filled : (s : Size) → closed_bits ps + length fill ≡ packet_room s → length (spelled (header_reading header)) + length (spelled (closed_reading (map packet_value ps))) + length fill ≡ user_bits s
+    filled Short e = let head = header_length header in omega (arith, head, e)
+    filled Long e = let head = header_length header in omega (arith, head, e)

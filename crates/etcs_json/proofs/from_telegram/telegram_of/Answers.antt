@@ -1,0 +1,19 @@
+use Rattle.std.proofs.Common.{◌≡◌, map, refl, sym, ap, ◌∙◌, Some}
+use Rattle.etcs_packets.specs.PacketValues.{packet_value}
+use Rattle.etcs_json.proofs.TelegramTrees.{telegram_says, values_at}
+use Rattle.etcs_json.proofs.from_telegram.telegram_of.Goals as goal
+
+pub returns-in_default-clause-only : goal.returns-in_default-clause-only
+returns-in_default-clause-only c = λ t r s h tree.
+    (let says = telegram_says t _ _ _ _ tree in
+    absurd (c.in_default.not-Some t.header (c.in_ok-header.ensures.only t.header says.pairs h.header_admitted says.header_is says.header)))
+
+pub returns-clause-only : goal.returns-clause-only
+returns-clause-only c = λ t r s h tree.
+    (let says = telegram_says t _ _ _ _ tree in
+    let packets = values_at _ c.in_ok-packets.field-0 c.in-Some-2.packets (λ ps. map packet_value ps.items) t.packets c.in-Some-2.is (c.in_ok-packets.ensures.only t.packets says.trees h.packets_hold says.packets_is says.packets) in
+    let two = c.in_ok-fill.ensures.only t.fill says.fill_is in
+    let is = c.in-Some-3.is in
+    let both : Some t.fill ≡ Some c.in-Some-3.fill = sym two ∙ is in
+    let fill : t.fill ≡ c.in-Some-3.fill = cc in
+    c.telegram_by.ensures.only t r h s packets fill)

@@ -1,0 +1,3 @@
+pub mod TreeParts
+pub mod TreeReading
+pub mod FaultTexts

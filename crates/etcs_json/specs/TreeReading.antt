@@ -1,0 +1,84 @@
+-- What the JSON of an item says, as it is read: the digits of NID_RADIO may be in either case.
+use Rattle.std.specs.Prelude.{◌≡◌, ℕ, ◌+◌, ◌&&◌, List, [], ◌∷◌, map, codes, nat_le, if◌then◌else◌}
+use Rattle.serde_json.specs.Data.{Data, number, unsigned, string, array, object, Items, no_items, item, no_members, member}
+use Rattle.etcs_vars.specs.declared.var.Var.{Var}
+use Rattle.etcs_vars.specs.declared.var.Var.TheVariants.{NID_RADIO, NID_VBCMK}
+use Rattle.etcs_vars.specs.Vars.{name}
+use Rattle.etcs_vars.specs.Reading.{Reading, Sent}
+use Rattle.etcs_packets.specs.PacketValues.{PacketValue, marker, typed, kept}
+use Rattle.etcs_telegram.specs.Telegrams.{TelegramValue, header_reading}
+use Rattle.etcs_radio.specs.Bodies.{run_of_head}
+use Rattle.etcs_radio.specs.Messages.{MessageValue, typed_message, kept_message}
+use Rattle.etcs_text.specs.Entries.{EntryValue, of_telegram, of_message}
+use Rattle.etcs_text.specs.Show.{hex_digits, kind_word}
+use Rattle.etcs_text.specs.Trees.{bits_tree}
+
+-- A to F in lower case, all else as it is
+abbrev pub lower : ℕ → ℕ
+lower c = if nat_le 65 c && nat_le c 70 then c + 32 else c
+
+-- a number without fraction or exponent
+abbrev pub plain : ℕ → Data
+plain n = number (unsigned n)
+
+-- d is the number n of the variable: sixteen hexadecimal digits of NID_RADIO, else a number without fraction or exponent
+abbrev pub SaysNumber : Var → ℕ → Data → Type 0
+SaysNumber NID_RADIO n d = (text : List ℕ) × (d ≡ string text) × (map lower text ≡ hex_digits 16 n)
+SaysNumber v n d = d ≡ plain n
+
+-- d is a pair: the variable's name and its number
+abbrev pub IsPairTree : Sent → Data → Type 0
+IsPairTree p d = (x : Data) × (d ≡ array (item (string (name p.0)) (item x no_items))) × SaysNumber p.0 p.1 x
+
+-- the pairs of variables in order
+abbrev pub ArePairTrees : Reading → Items → Type 0
+ArePairTrees [] no_items = Unit {0}
+ArePairTrees [] (item d ds) = ⊥
+ArePairTrees (p ∷ r) no_items = ⊥
+ArePairTrees (p ∷ r) (item d ds) = IsPairTree p d × ArePairTrees r ds
+
+-- the members of a packet: packet 0 has no Q_DIR
+abbrev pub marker_tree : Data → Data → Data
+marker_tree fields nid = object (member (codes "fields") fields (member (codes "nid") nid no_members))
+
+abbrev pub typed_tree : Data → Data → Data → Data
+typed_tree dir fields nid = object (member (codes "dir") dir (member (codes "fields") fields (member (codes "nid") nid no_members)))
+
+abbrev pub kept_tree : Data → Data → Data → Data
+kept_tree data' dir nid = object (member (codes "data") data' (member (codes "dir") dir (member (codes "nid") nid no_members)))
+
+-- d is a packet
+abbrev pub IsPacketTree : PacketValue → Data → Type 0
+IsPacketTree (marker n) d = (ps : Items) × (d ≡ marker_tree (array ps) (plain 0)) × ArePairTrees ((NID_VBCMK, n) ∷ []) ps
+IsPacketTree (typed nid dir r) d = (ps : Items) × (d ≡ typed_tree (plain dir) (array ps) (plain nid)) × ArePairTrees r ps
+IsPacketTree (kept nid dir b) d = d ≡ kept_tree (bits_tree b) (plain dir) (plain nid)
+
+-- packets in order
+abbrev pub ArePacketTrees : List PacketValue → Items → Type 0
+ArePacketTrees [] no_items = Unit {0}
+ArePacketTrees [] (item d ds) = ⊥
+ArePacketTrees (v ∷ vs) no_items = ⊥
+ArePacketTrees (v ∷ vs) (item d ds) = IsPacketTree v d × ArePacketTrees vs ds
+
+-- d is a telegram
+abbrev pub telegram_tree : Data → Data → Data → Data → Data
+telegram_tree fill header kind packets = object (member (codes "fill") fill (member (codes "header") header (member (codes "kind") kind (member (codes "packets") packets no_members))))
+
+abbrev pub IsTelegramTree : TelegramValue → Data → Type 0
+IsTelegramTree t d = (hs : Items) × (ps : Items) × (d ≡ telegram_tree (bits_tree t.fill) (array hs) (string (kind_word t.size)) (array ps)) × ArePairTrees (header_reading t.header) hs × ArePacketTrees t.packets ps
+
+-- d is a message: L_MESSAGE follows from the rest
+abbrev pub message_tree : Data → Data → Data → Data → Data → Data → Data
+message_tree fields header kind nid packets padding = object (member (codes "fields") fields (member (codes "header") header (member (codes "kind") kind (member (codes "nid") nid (member (codes "packets") packets (member (codes "padding") padding no_members))))))
+
+abbrev pub kept_message_tree : Data → Data → Data → Data
+kept_message_tree data' kind nid = object (member (codes "data") data' (member (codes "kind") kind (member (codes "nid") nid no_members)))
+
+abbrev pub IsMessageTree : MessageValue → Data → Type 0
+IsMessageTree (typed_message nid head body vs padding) d = (fs : Items) × (hs : Items) × (ps : Items) × (d ≡ message_tree (array fs) (array hs) (string (codes "radio")) (plain nid) (array ps) (bits_tree padding)) × ArePairTrees body fs × ArePairTrees (run_of_head head) hs × ArePacketTrees vs ps
+IsMessageTree (kept_message nid b) d = d ≡ kept_message_tree (bits_tree b) (string (codes "radio")) (plain nid)
+
+-- d is the tree of the item
+abbrev pub IsTreeOf : EntryValue → Data → Type 0
+IsTreeOf (of_telegram t) d = IsTelegramTree t d
+IsTreeOf (of_message m) d = IsMessageTree m d

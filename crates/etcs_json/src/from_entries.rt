@@ -1,0 +1,68 @@
+//! Items of their trees.
+
+ghost use Rattle.std.specs.Prelude.{◌≡◌, Err, IfOk, IfSome, IsSome};
+ghost use Rattle.serde_json.specs.View.{view};
+ghost use Rattle.etcs_vars.specs.Reading.{Reading};
+ghost use Rattle.etcs_text.specs.Entries.{EntryReads, EntryValue, entry_value, kind_of};
+ghost use Rattle.etcs_json.specs.TreeReading.{IsTreeOf};
+
+use crate::fault::JsonFault;
+use crate::from_message::message_in;
+use crate::from_telegram::telegram_in;
+use etcs_telegram::Size;
+use etcs_text::{Entry, Kind};
+use serde_json::Value;
+use std::alloc::{AllocError, Global};
+
+/// The item of the kind whose tree the value is: an object of exactly the members of a telegram of the kind's size, or of
+/// a radio message, whose pairs stand in the order of sending and whose numbers are whole numbers without fraction or
+/// exponent. The digits of NID_RADIO may be in either case.
+///
+/// # Errors
+///
+/// - [`JsonFault::Shape`] where no item of the kind has this tree;
+/// - [`JsonFault::Memory`] where memory was refused, whatever the value is.
+pub fn from_value(alloc: Global, kind: Kind, value: &Value) -> Result<Entry, JsonFault>
+    ensures ok { IfOk result (λ e. (r : Reading) × EntryReads kind (entry_value e) r × IsTreeOf (entry_value e) (view value.now)) }
+    ensures shape { result ≡ Err JsonFault.Shape → (e : EntryValue) (r : Reading) → EntryReads kind e r → IsTreeOf e (view value.now) → ⊥ }
+{
+    match entry_in(alloc, kind, value) {
+        Ok(Some(entry)) => Ok(entry),
+        Ok(None) => Err(JsonFault::Shape),
+        Err(_) => Err(JsonFault::Memory),
+    }
+}
+
+/// The item of a tree, if there is one of the kind.
+fn entry_in(alloc: Global, kind: Kind, value: &Value) -> Result<Option<Entry>, AllocError>
+    ensures some { IfOk result (λ o. IfSome o (λ e. (r : Reading) × EntryReads kind (entry_value e) r × IsTreeOf (entry_value e) (view value.now))) }
+    ensures only { IfOk result (λ o. (e : EntryValue) (r : Reading) → EntryReads kind e r → IsTreeOf e (view value.now) → IsSome o) }
+{
+    match kind {
+        Kind::Long => telegram_entry(alloc, Size::Long, value),
+        Kind::Short => telegram_entry(alloc, Size::Short, value),
+        Kind::Radio => message_entry(alloc, value),
+    }
+}
+
+/// The telegram of a tree, if there is one of the size.
+fn telegram_entry(alloc: Global, size: Size, value: &Value) -> Result<Option<Entry>, AllocError>
+    ensures some { IfOk result (λ o. IfSome o (λ e. (r : Reading) × EntryReads (kind_of size) (entry_value e) r × IsTreeOf (entry_value e) (view value.now))) }
+    ensures only { IfOk result (λ o. (e : EntryValue) (r : Reading) → EntryReads (kind_of size) e r → IsTreeOf e (view value.now) → IsSome o) }
+{
+    match telegram_in(alloc, size, value)? {
+        Some(telegram) => Ok(Some(Entry::Telegram(telegram))),
+        None => Ok(None),
+    }
+}
+
+/// The message of a tree, if there is one.
+fn message_entry(alloc: Global, value: &Value) -> Result<Option<Entry>, AllocError>
+    ensures some { IfOk result (λ o. IfSome o (λ e. (r : Reading) × EntryReads Kind.Radio (entry_value e) r × IsTreeOf (entry_value e) (view value.now))) }
+    ensures only { IfOk result (λ o. (e : EntryValue) (r : Reading) → EntryReads Kind.Radio e r → IsTreeOf e (view value.now) → IsSome o) }
+{
+    match message_in(alloc, value)? {
+        Some(message) => Ok(Some(Entry::Message(message))),
+        None => Ok(None),
+    }
+}

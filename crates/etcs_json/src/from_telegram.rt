@@ -1,0 +1,139 @@
+//! Telegrams of their trees.
+
+ghost use Rattle.std.specs.Prelude.{◌≡◌, ◌↔◌, All, Some, IfOk, IfSome, IsSome, IsTrue, map};
+ghost use Rattle.serde_json.specs.Data.{Items, array, string};
+ghost use Rattle.serde_json.specs.View.{view};
+ghost use Rattle.etcs_vars.specs.Reading.{Reading};
+ghost use Rattle.etcs_packets.specs.PacketValues.{IsPacket, packet_value};
+ghost use Rattle.etcs_telegram.specs.Headers.{IsHeaderNumbers};
+ghost use Rattle.etcs_telegram.specs.Telegrams.{HeaderParts, IsAdmitted, TelegramReads, TelegramValue, header_of, header_reading, telegram_value};
+ghost use Rattle.etcs_text.specs.Show.{kind_word};
+ghost use Rattle.etcs_json.specs.TreeReading.{ArePairTrees, IsTelegramTree, telegram_tree};
+
+use crate::digits::{bits_in, is_text};
+use crate::from_packets::packets_in;
+use crate::members::four_members;
+use crate::numbers::numbers_in;
+use etcs_bits::Bits;
+use etcs_packets::Packet;
+use etcs_rows::{Row, RowItem};
+use etcs_telegram::{Header, Size, Telegram};
+use etcs_vars::Var;
+use serde_json::Value;
+use std::alloc::{AllocError, Global};
+
+/// The header's variables, in the order of sending.
+static HEADER: [RowItem; 10] = [
+    RowItem::One(Var::Q_UPDOWN),
+    RowItem::One(Var::M_VERSION_HEADER),
+    RowItem::One(Var::Q_MEDIA),
+    RowItem::One(Var::N_PIG),
+    RowItem::One(Var::N_TOTAL),
+    RowItem::One(Var::M_DUP),
+    RowItem::One(Var::M_MCOUNT),
+    RowItem::One(Var::NID_C),
+    RowItem::One(Var::NID_BG),
+    RowItem::One(Var::Q_LINK),
+];
+
+/// The header of its ten numbers in the order of sending.
+fn header_by(numbers: &[u64]) -> Header
+    requires { IsHeaderNumbers numbers.now }
+    ensures { result ≡ header_of numbers.now }
+{
+    match Header::new(
+        numbers[1] as u8,
+        numbers[3] as u8,
+        numbers[4] as u8,
+        numbers[5] as u8,
+        numbers[6] as u8,
+        numbers[7] as u16,
+        numbers[8] as u16,
+        numbers[9] == 1,
+    ) {
+        Ok(header) => header,
+        Err(_) => unreachable!(),
+    }
+}
+
+/// The header of the list of its pairs, if there is one.
+fn header_in(alloc: Global, value: &Value) -> Result<Option<Header>, AllocError>
+    ensures some { IfOk result (λ o. IfSome o (λ h. (hs : Items) × (view value.now ≡ array hs) × IsAdmitted (header_reading h) × ArePairTrees (header_reading h) hs)) }
+    ensures only { IfOk result (λ o. (h : HeaderParts) (hs : Items) → IsAdmitted (header_reading h) → view value.now ≡ array hs → ArePairTrees (header_reading h) hs → o ≡ Some h) }
+{
+    match numbers_in(alloc, Row { items: &HEADER }, value)? {
+        Some(numbers) => Ok(Some(header_by(numbers.as_slice()))),
+        None => Ok(None),
+    }
+}
+
+/// The word for a size.
+fn size_word(size: Size) -> &'static str
+    ensures { result.now ≡ kind_word size }
+{
+    match size {
+        Size::Short => "short",
+        Size::Long => "long",
+    }
+}
+
+/// The telegram of these parts, if there is one.
+fn telegram_by(size: Size, header: Header, packets: Vec<Packet>, fill: Bits) -> Option<Telegram>
+    requires header { IsAdmitted (header_reading header) }
+    requires packets { All IsPacket (map packet_value packets.items) }
+    ensures some { IfSome result (λ t. telegram_value t ≡ record { size = size; header = header; packets = map packet_value packets.items; fill = fill }) }
+    ensures reads { IfSome result (λ t. (r : Reading) × TelegramReads (telegram_value t) r) }
+    ensures only { (t : TelegramValue) (r : Reading) → TelegramReads t r → t.size ≡ size → t.packets ≡ map packet_value packets.items → t.fill ≡ fill → IsSome result }
+{
+    match Telegram::with_fill(size, header, packets, fill) {
+        Ok(telegram) => Some(telegram),
+        Err(_) => None,
+    }
+}
+
+/// The telegram of a tree, if there is one of this size.
+pub(crate) fn telegram_in(
+    alloc: Global,
+    size: Size,
+    value: &Value,
+) -> Result<Option<Telegram>, AllocError>
+    ensures size { IfOk result (λ o. IfSome o (λ t. t.size ≡ size)) }
+    ensures reads { IfOk result (λ o. IfSome o (λ t. (r : Reading) × TelegramReads (telegram_value t) r)) }
+    ensures some { IfOk result (λ o. IfSome o (λ t. IsTelegramTree (telegram_value t) (view value.now))) }
+    ensures only { IfOk result (λ o. (t : TelegramValue) (r : Reading) → t.size ≡ size → TelegramReads t r → IsTelegramTree t (view value.now) → IsSome o) }
+{
+    match four_members(value, "fill", "header", "kind", "packets") {
+        Some((fill, header, kind, packets)) => {
+            if !is_text(kind, size_word(size)) {
+                return Ok(None);
+            }
+            telegram_of(alloc, size, fill, header, packets)
+        }
+        None => Ok(None),
+    }
+}
+
+/// The telegram of these members, if there is one of this size.
+fn telegram_of(
+    alloc: Global,
+    size: Size,
+    fill: &Value,
+    header: &Value,
+    packets: &Value,
+) -> Result<Option<Telegram>, AllocError>
+    ensures size { IfOk result (λ o. IfSome o (λ t. t.size ≡ size)) }
+    ensures reads { IfOk result (λ o. IfSome o (λ t. (r : Reading) × TelegramReads (telegram_value t) r)) }
+    ensures some { IfOk result (λ o. IfSome o (λ t. IsTelegramTree (telegram_value t) (telegram_tree (view fill.now) (view header.now) (string (kind_word size)) (view packets.now)))) }
+    ensures only { IfOk result (λ o. (t : TelegramValue) (r : Reading) → t.size ≡ size → TelegramReads t r → IsTelegramTree t (telegram_tree (view fill.now) (view header.now) (string (kind_word size)) (view packets.now)) → IsSome o) }
+{
+    let Some(header) = header_in(alloc, header)? else {
+        return Ok(None);
+    };
+    let Some(packets) = packets_in(alloc, packets)? else {
+        return Ok(None);
+    };
+    let Some(fill) = bits_in(alloc, fill)? else {
+        return Ok(None);
+    };
+    Ok(telegram_by(size, header, packets, fill))
+}

@@ -1,0 +1,18 @@
+//! The items of an input as JSON.
+#![tactic(auto)]
+
+mod digits;
+mod fault;
+mod from_entries;
+mod from_message;
+mod from_packets;
+mod from_telegram;
+pub mod laws;
+mod members;
+mod numbers;
+mod pairs;
+mod trees;
+
+pub use fault::JsonFault;
+pub use from_entries::from_value;
+pub use trees::to_value;

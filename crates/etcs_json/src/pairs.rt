@@ -1,0 +1,159 @@
+//! The trees of variables with their numbers, and of bits.
+
+ghost use Rattle.std.specs.List.{zip};
+ghost use Rattle.std.specs.Prelude.{◌≡◌, ◌<◌, ◌++◌, [], IfOk, OnOk, length, string_bytes};
+ghost use Rattle.serde_json.specs.View.{view};
+ghost use Rattle.etcs_text.specs.Show.{hex_digit, hex_digits};
+ghost use Rattle.etcs_text.specs.Trees.{bits_tree, number_tree, pair_tree, pairs_tree};
+
+use etcs_bits::BitSlice;
+use etcs_vars::Var;
+use etcs_vars::parts::{Sink, Variables};
+use serde_json::{Value, json};
+use std::alloc::{AllocError, Global};
+use std::marker::Model;
+
+/// The digit of four bits, in lower case.
+fn hex_digit_of(bits: u8) -> char
+    requires { bits < 16 }
+    ensures digit { result ≡ hex_digit bits }
+    ensures ascii { result < 128 }
+{
+    if bits < 10 {
+        (b'0' + bits) as char
+    } else {
+        (b'a' + (bits - 10)) as char
+    }
+}
+
+/// Appends the last digits of a number in hexadecimal, so many of them.
+fn push_hex(count: usize, number: u64, text: &mut String) -> Result<(), AllocError>
+    ensures { OnOk result (string_bytes text.new ≡ string_bytes text.old ++ hex_digits count number) }
+{
+    if count == 0 {
+        return Ok(());
+    }
+    push_hex(count - 1, number / 16, text)?;
+    text.push(hex_digit_of((number % 16) as u8))
+}
+
+/// The number of a variable: that of NID_RADIO as its sixteen digits of four bits.
+fn number_json(alloc: Global, var: Var, number: u64) -> Result<Value, AllocError>
+    ensures { IfOk result (λ v. view v ≡ number_tree var number) }
+{
+    if var == Var::NID_RADIO {
+        let mut text = String::new(alloc);
+        push_hex(16, number, &mut text)?;
+        return json!(in alloc; text);
+    }
+    json!(in alloc; number)
+}
+
+/// A variable with its number.
+fn pair_json(alloc: Global, var: Var, number: u64) -> Result<Value, AllocError>
+    ensures { IfOk result (λ v. view v ≡ pair_tree (var, number)) }
+{
+    let number = number_json(alloc, var, number)?;
+    json!(in alloc; [var.name(), number])
+}
+
+/// Variables with their numbers, each as a pair.
+pub(crate) fn pairs_json(alloc: Global, pairs: &[(Var, u64)]) -> Result<Value, AllocError>
+    ensures { IfOk result (λ v. view v ≡ pairs_tree pairs.now) }
+{
+    let mut list = Vec::new(alloc);
+    for pair in pairs {
+        list.push(pair_json(alloc, pair.0, pair.1)?)?;
+    }
+    Ok(Value::Array(list))
+}
+
+/// Variables, each as a pair with the number at its place.
+pub(crate) fn numbered_json(
+    alloc: Global,
+    vars: &[Var],
+    numbers: &[u64],
+) -> Result<Value, AllocError>
+    requires { length numbers.now ≡ length vars.now }
+    ensures { IfOk result (λ v. view v ≡ pairs_tree (zip vars.now numbers.now)) }
+{
+    let mut list = Vec::new(alloc);
+    for (var, number) in vars.iter().zip(numbers) {
+        list.push(pair_json(alloc, *var, *number)?)?;
+    }
+    Ok(Value::Array(list))
+}
+
+/// Bits as a text of the digits 0 and 1.
+pub(crate) fn bits_json(alloc: Global, bits: &BitSlice<'_>) -> Result<Value, AllocError>
+    ensures { IfOk result (λ v. view v ≡ bits_tree bits.now) }
+{
+    let mut text = String::new(alloc);
+    for place in 0..bits.len() {
+        text.push(if bits.bit(place) == Some(true) {
+            '1'
+        } else {
+            '0'
+        })?;
+    }
+    json!(in alloc; text)
+}
+
+/// Variables with their numbers, in the order of sending.
+#[derive(Drop)]
+pub(crate) struct SentList {
+    held: Vec<(Var, u64)>,
+}
+
+impl Model for SentList {
+    ghost use Rattle.etcs_vars.specs.Reading.{Reading};
+
+    ghost Value = { Reading };
+
+    ghost view = { λ s. s.held.items };
+}
+
+impl SentList {
+    /// An empty one.
+    pub(crate) fn new(alloc: Global) -> SentList
+        ensures { result ≡ [] }
+    {
+        SentList {
+            held: Vec::new(alloc),
+        }
+    }
+
+    /// They as they stand.
+    pub(crate) fn as_slice(&self) -> &[(Var, u64)]
+        ensures { result.now ≡ self.now }
+    {
+        self.held.as_slice()
+    }
+}
+
+impl Sink for SentList {
+    ghost use Rattle.std.proofs.Common.{◌++◌, append-nil, append_assoc, sym};
+
+    ghost with = { λ s r. s ++ r };
+
+    ghost failed = { λ s t. Unit {0} };
+
+    ghost with_none = { λ s. append-nil s };
+
+    ghost with_both = { λ s a b. sym (append_assoc s a b) };
+
+    ghost failed_behind = { λ s a t h. tt };
+
+    fn send(&mut self, sent: &[(Var, u64)]) -> Result<(), AllocError> {
+        self.held.extend_from_slice(sent)
+    }
+}
+
+/// The variables of a run, each as a pair.
+pub(crate) fn run_json<V: Variables>(alloc: Global, run: &V) -> Result<Value, AllocError>
+    ensures { IfOk result (λ v. view v ≡ pairs_tree (V.reading_of run.now)) }
+{
+    let mut sent = SentList::new(alloc);
+    run.send(&mut sent)?;
+    pairs_json(alloc, sent.as_slice())
+}

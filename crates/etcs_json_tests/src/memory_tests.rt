@@ -1,0 +1,90 @@
+//! The trees of items where memory is refused.
+
+ghost use Rattle.std.specs.Prelude.{◌≤◌};
+
+use crate::items::{KEPT, MESSAGE, PACKETS, digits, item, tree};
+use etcs_json::{JsonFault, from_value, to_value};
+use etcs_starving::starve_to;
+use etcs_text::Kind;
+use std::alloc::Global;
+use std::process::Abort;
+use std::test::Fail;
+
+/// How many bytes are left, step by step.
+const ROOMS: [usize; 24] = [
+    0, 16, 32, 48, 64, 96, 128, 192, 256, 384, 512, 640, 768, 896, 1024, 1280, 1536, 1792, 2048,
+    2560, 3072, 4096, 6144, 8192,
+];
+
+/// With less and less memory the tree is whole, or memory was refused. It is made with memory first: the stack can't grow
+/// once the addresses are used up.
+fn assert_trees(
+    rt: &impl Abort,
+    alloc: Global,
+    (kind, bytes, _): (Kind, &str, &str),
+) -> Result<(), Fail> {
+    let item = item(alloc, kind, bytes)?;
+    let whole = to_value(alloc, &item)?;
+    let (mut refused, mut told) = (false, false);
+    for room in ROOMS {
+        let held = starve_to(alloc, room)?;
+        let tree = to_value(alloc, &item);
+        drop(held);
+        match tree {
+            Ok(tree) => {
+                told = true;
+                assert!(rt; tree == whole);
+            }
+            Err(_) => refused = true,
+        }
+    }
+    assert!(rt; refused && told);
+    Ok(())
+}
+
+/// With less and less memory the item is whole, or memory was refused. It is read with memory first.
+fn assert_items(
+    rt: &impl Abort,
+    alloc: Global,
+    (kind, bytes, given): (Kind, &str, &str),
+) -> Result<(), Fail> {
+    let tree = tree(alloc, given)?;
+    from_value(alloc, kind, &tree)?;
+    let (mut refused, mut told) = (false, false);
+    for room in ROOMS {
+        let held = starve_to(alloc, room)?;
+        let item = from_value(alloc, kind, &tree);
+        drop(held);
+        match item {
+            Ok(item) => {
+                told = true;
+                let written = digits(alloc, &item)?;
+                assert!(rt; written.as_str() == bytes);
+            }
+            Err(fault) => {
+                refused = true;
+                assert!(rt; fault == JsonFault::Memory);
+            }
+        }
+    }
+    assert!(rt; refused && told);
+    Ok(())
+}
+
+#[test]
+fn telegrams_without_memory(rt: HostRuntime) -> Result<(), Fail> {
+    assert_trees(&rt, rt.alloc(), PACKETS)?;
+    assert_items(&rt, rt.alloc(), PACKETS)
+}
+
+#[test]
+fn messages_without_memory(rt: HostRuntime) -> Result<(), Fail> {
+    assert_trees(&rt, rt.alloc(), MESSAGE)?;
+    assert_items(&rt, rt.alloc(), MESSAGE)
+}
+
+#[test]
+fn kept_messages_without_memory(rt: HostRuntime) -> Result<(), Fail> {
+    assert_trees(&rt, rt.alloc(), KEPT)?;
+    assert_items(&rt, rt.alloc(), KEPT)
+}

@@ -1,0 +1,32 @@
+use Rattle.std.proofs.Common.{arith}
+use Rattle.std.proofs.lemmas.List.{length-take}
+use Rattle.etcs_rests.proofs.RoundTrips.{front_read, front_spelled}
+use Rattle.etcs_radio.specs.Messages.{MessageReads, message_value, IsMessage}
+use Rattle.etcs_radio.proofs.RoundTrips.{FedFirst}
+use Rattle.etcs_radio.proofs.laws.read_back.Goals as goal
+
+pub slice_bounds-append_again-end : goal.slice_bounds-append_again-end
+slice_bounds-append_again-end c =
+    let f : FedFirst c.args.bytes.now c.feed.result c.feed.new.self = c.feed.ensures.answer _ c.new-reader.ensures in
+    let front = front_read MessageReads message_value IsMessage 18 c.args.bytes.now c.in-Ok-Done.taken c.feed.new.self (rw (c.in-Ok-Done.is, c.in-Ok-Done.field-0-is) at f) in
+    omega (arith, front.0, length-take c.in-Ok-Done.taken c.args.bytes.now)
+
+pub append_again-requires : goal.append_again-requires
+append_again-requires c =
+    let f : FedFirst c.args.bytes.now c.feed.result c.feed.new.self = c.feed.ensures.answer _ c.new-reader.ensures in
+    front_spelled MessageReads message_value IsMessage 18 c.args.bytes.now c.in-Ok-Done.taken c.feed.new.self c.in-Ok.message (rw (c.in-Ok-Done.is, c.in-Ok-Done.field-0-is) at f) c.in-Ok.ensures
+
+pub returns-in-Ok-clause-some : goal.returns-in-Ok-clause-some
+returns-in-Ok-clause-some c =
+    let f : FedFirst c.args.bytes.now c.feed.result c.feed.new.self = c.feed.ensures.answer _ c.new-reader.ensures in
+    front_read MessageReads message_value IsMessage 18 c.args.bytes.now c.in-Ok-Done.taken c.feed.new.self (rw (c.in-Ok-Done.is, c.in-Ok-Done.field-0-is) at f)
+
+pub returns-in-Ok-More-clause-none : goal.returns-in-Ok-More-clause-none
+returns-in-Ok-More-clause-none c =
+    let f : FedFirst c.args.bytes.now c.feed.result c.feed.new.self = c.feed.ensures.answer _ c.new-reader.ensures in
+    (rw (c.in-Ok-More.is, c.in-Ok-More.field-0-is) at f).1.0
+
+pub returns-in-Err-Refused-clause-none : goal.returns-in-Err-Refused-clause-none
+returns-in-Err-Refused-clause-none c =
+    let f : FedFirst c.args.bytes.now c.feed.result c.feed.new.self = c.feed.ensures.answer _ c.new-reader.ensures in
+    (rw (c.in-Err-Refused.is, c.in-Err-Refused.field-0-is) at f).1.0.0

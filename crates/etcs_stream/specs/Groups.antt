@@ -1,0 +1,84 @@
+-- The lines of a balise group.
+use Rattle.std.specs.Prelude.{◌≡◌, ◌⊎◌, ◌↔◌, ℕ, zero, suc, ◌+◌, Bool, true, false, if◌then◌else◌, List, [], ◌∷◌, ◌++◌, Option, Some, Result, Ok, Err, codes, map, flat_map, slice_get, slice_index_or}
+use Rattle.std.specs.Fmt.{decimal}
+use Rattle.etcs_packets.specs.declared.packet.Packet.{Packet}
+use Rattle.etcs_packets.specs.PacketValues.{packet_value}
+use Rattle.etcs_telegram.specs.Telegrams.{TelegramParts, TelegramValue, IsTelegram, telegram_value}
+use Rattle.etcs_group.specs.declared.assembly.Added.{Added}
+use Rattle.etcs_group.specs.declared.assembly.Added.TheVariants.{New, Repeat}
+use Rattle.etcs_group.specs.declared.clash.Clash.{Clash}
+use Rattle.etcs_group.specs.declared.clash.Clash.TheVariants.{BadPosition, BadDuplicate, OtherGroup, OtherTotal, Counter, Differs}
+use Rattle.etcs_group.specs.Groups.{IsGroup, Holds, HoldsNone, Joins, HeldAfter}
+use Rattle.etcs_group.specs.Clashes.{IsFirstClash}
+use Rattle.etcs_group.specs.Messages.{IsMissing, IsWhole, IsGroupMessage}
+use Rattle.etcs_text.specs.Packets.{packets_text}
+use Rattle.etcs_stream.specs.Told.{Told}
+
+abbrev pub clash_name : Clash → List ℕ
+clash_name BadPosition = codes "BadPosition"
+clash_name BadDuplicate = codes "BadDuplicate"
+clash_name OtherGroup = codes "OtherGroup"
+clash_name OtherTotal = codes "OtherTotal"
+clash_name Counter = codes "Counter"
+clash_name Differs = codes "Differs"
+
+abbrev pub answer_words : Result Added Clash → List ℕ
+answer_words (Ok New) = codes "new"
+answer_words (Ok Repeat) = codes "repeat"
+answer_words (Err clash) = codes "clash " ++ clash_name clash
+
+-- what a telegram is to those that are held
+abbrev pub Answers : List (Option TelegramParts) → TelegramParts → Result Added Clash → Type 0
+Answers held t (Ok New) = Joins held t × (Holds held t → ⊥)
+Answers held t (Ok Repeat) = Joins held t × Holds held t
+Answers held t (Err clash) = IsFirstClash clash held t
+
+abbrev pub clashes_with : ℕ → Result Added Clash → ℕ
+clashes_with n (Ok added) = n
+clashes_with n (Err clash) = n + 1
+
+-- the line of the item of this number
+abbrev pub answer_line : ℕ → Result Added Clash → List ℕ
+answer_line item answer = codes "item " ++ decimal item ++ codes " " ++ answer_words answer ++ codes "\n"
+
+-- what is written of a telegram, and what is held then: it too where it fits those held
+pub record GroupItem (v : TelegramValue) (s : Told) (text : List ℕ) (s' : Told) : Type 0 where
+  pub telegram : TelegramParts
+  pub made : IsTelegram telegram
+  pub value_is : v ≡ telegram_value telegram
+  pub answer : Result Added Clash
+  pub answers : Answers s.held telegram answer
+  pub text_is : text ≡ answer_line (s.count + 1) answer
+  pub count_is : s'.count ≡ s.count + 1
+  pub clashes_are : s'.clashes ≡ clashes_with s.clashes answer
+  pub held_is : HeldAfter s.held telegram s'.held
+  pub placed : IsGroup s'.held
+
+-- of the first places, so many of them, those that are true, in rising order
+abbrev pub trues : ℕ → List Bool → List ℕ
+trues zero bs = []
+trues (suc n) bs = trues n bs ++ (if slice_index_or bs n false then n ∷ [] else [])
+
+-- for each of the eight positions, whether it is missing
+abbrev pub AreMissing : List (Option TelegramParts) → List Bool → Type 0
+AreMissing held bs = (p : ℕ) → (slice_get bs p ≡ Some true) ↔ IsMissing held p
+
+-- positions, each behind a blank
+abbrev pub positions_text : List ℕ → List ℕ
+positions_text ps = flat_map (λ p. codes " " ++ decimal p) ps
+
+-- NID_C and NID_BG of a group
+abbrev pub group_front : ℕ → ℕ → List ℕ
+group_front country group = codes "group " ++ decimal country ++ codes " " ++ decimal group
+
+-- what a group is whole or not: its message, or the positions that are missing
+abbrev pub GroupLines : List (Option TelegramParts) → List ℕ → List ℕ → Type 0
+GroupLines held front text =
+    (IsWhole held × ((ps : List Packet) × IsGroupMessage held ps × (text ≡ front ++ codes " complete\n" ++ packets_text (map packet_value ps))))
+    ⊎ ((IsWhole held → ⊥) × ((bs : List Bool) × AreMissing held bs × (text ≡ front ++ codes " missing" ++ positions_text (trues 8 bs) ++ codes "\n")))
+
+-- the last lines of a run over a group
+abbrev pub LastLines : List (Option TelegramParts) → List ℕ → Type 0
+LastLines held text =
+    (HoldsNone held × (text ≡ codes "group empty\n"))
+    ⊎ ((t : TelegramParts) × Holds held t × GroupLines held (group_front t.header.nid_c t.header.nid_bg) text)

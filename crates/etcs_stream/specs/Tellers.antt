@@ -1,0 +1,55 @@
+-- What a run writes of its items, one behind the other, and behind the last.
+use Rattle.std.specs.Prelude.{◌≡◌, ◌↔◌, ℕ, ◌+◌, true, List, [], ◌∷◌, ◌++◌, None, replicate}
+use Rattle.hex.specs.Hex.{encode_upper}
+use Rattle.serde_json.specs.Written.{compact_text}
+use Rattle.etcs_group.specs.Messages.{IsWhole}
+use Rattle.etcs_text.specs.declared.entry.Kind.TheVariants.{Radio}
+use Rattle.etcs_text.specs.Encodings.{IsEncoded, check_line}
+use Rattle.etcs_text.specs.Trees.{json_tree}
+use Rattle.etcs_text.specs.Entries.{EntryValue, of_telegram, of_message, entry_text}
+use Rattle.etcs_stream.specs.declared.job.Form.TheVariants.{Hex, Bin, Json}
+use Rattle.etcs_stream.specs.declared.job.Command.{Command}
+use Rattle.etcs_stream.specs.declared.job.Command.TheVariants.{Show, Check, Convert, Group}
+use Rattle.etcs_stream.specs.declared.job.Job.{Job}
+use Rattle.etcs_stream.specs.declared.job.Tally.{Tally}
+use Rattle.etcs_stream.specs.Groups.{GroupItem, LastLines}
+use Rattle.etcs_stream.specs.Told.{Told}
+
+-- messages aren't grouped
+abbrev pub IsGroupable : Job → Type 0
+IsGroupable job = job.command ≡ Group → job.kind ≡ Radio → ⊥
+
+-- and lines of JSON aren't read
+abbrev pub IsRunnable : Job → Type 0
+IsRunnable job = IsGroupable job × (job.from ≡ Json → ⊥)
+
+abbrev pub nothing_told : Told
+nothing_told = record { count = 0; clashes = 0; held = replicate 8 None }
+
+-- one item more
+abbrev pub one_more : Told → Told
+one_more s = record { count = s.count + 1; clashes = s.clashes; held = s.held }
+
+-- what is written of an item behind those told
+abbrev pub TellsItem : Command → EntryValue → Told → List ℕ → Told → Type 0
+TellsItem Show e s text s' = (text ≡ entry_text e (s.count + 1)) × (s' ≡ one_more s)
+TellsItem Check e s text s' = (text ≡ check_line e (s.count + 1)) × (s' ≡ one_more s)
+TellsItem (Convert Hex) e s text s' = ((bytes : List ℕ) × IsEncoded e bytes × (text ≡ encode_upper bytes ++ 10 ∷ [])) × (s' ≡ one_more s)
+TellsItem (Convert Bin) e s text s' = IsEncoded e text × (s' ≡ one_more s)
+TellsItem (Convert Json) e s text s' = (text ≡ compact_text (json_tree e) ++ 10 ∷ []) × (s' ≡ one_more s)
+TellsItem Group (of_telegram t) s text s' = GroupItem t s text s'
+TellsItem Group (of_message m) s text s' = ⊥
+
+-- and of items one behind the other
+abbrev pub TellsItems : Command → Told → List EntryValue → List ℕ → Told → Type 0
+TellsItems c s [] text s' = (text ≡ []) × (s' ≡ s)
+TellsItems c s (e ∷ es) text s' = (mid : Told) × (first : List ℕ) × (rest : List ℕ) × (text ≡ first ++ rest) × TellsItem c e s first mid × TellsItems c mid es rest s'
+
+-- what is written of the items of an input
+abbrev pub ItemsText : Command → List EntryValue → List ℕ → Type 0
+ItemsText c es text = (s : Told) × TellsItems c nothing_told es text s
+
+-- what is written at the end of the input, and what a run answers then
+abbrev pub Closes : Command → Told → List ℕ → Tally → Type 0
+Closes Group s last tally = LastLines s.held last × (tally.items ≡ s.count) × (tally.clashes ≡ s.clashes) × ((tally.complete ≡ true) ↔ IsWhole s.held)
+Closes c s last tally = (last ≡ []) × (tally.items ≡ s.count) × (tally.clashes ≡ 0) × (tally.complete ≡ true)

@@ -1,0 +1,169 @@
+//! What is written of the items, and behind the last of them.
+
+ghost use Rattle.std.specs.Prelude.{◌≡◌, ◌+◌, ◌<◌, ◌++◌, ℕ, List, Ok, Err, IfOk, OnErr, OnOk};
+ghost use Rattle.etcs_telegram.specs.Telegrams.{IsTelegram};
+ghost use Rattle.etcs_group.specs.Groups.{HeldAfter, IsGroup};
+ghost use Rattle.etcs_text.specs.Entries.{entry_kind, entry_value};
+ghost use Rattle.etcs_text.specs.declared.entry.Kind.TheVariants as kind;
+ghost use Rattle.etcs_stream.specs.Groups.{Answers, clashes_with};
+ghost use Rattle.etcs_stream.specs.Told.{Told};
+ghost use Rattle.etcs_stream.specs.Tellers.{Closes, TellsItem, nothing_told, one_more};
+
+use crate::group_lines::{answer_line, last_lines};
+use crate::job::{Command, Form, Tally};
+use etcs_group::{Added, Assembly, Clash};
+use etcs_telegram::Telegram;
+use etcs_text::{Entry, check_line, encoded, hex_line, json_line, show_lines};
+use std::alloc::AllocError;
+use std::marker::Model;
+
+/// How many items were told, and of a balise group how many of them clash and what is held.
+#[derive(Drop)]
+pub(crate) struct Teller {
+    count: u64,
+    clashes: u64,
+    assembly: Assembly,
+}
+
+impl Model for Teller {
+    ghost use Rattle.std.specs.Prelude.{◌≤◌};
+    ghost use Rattle.etcs_stream.specs.Told.{Told};
+
+    ghost Value = { Told };
+
+    ghost view = { λ t. record { count = t.count; clashes = t.clashes; held = t.assembly } };
+
+    ghost invariant = { λ t. t.clashes ≤ t.count };
+}
+
+impl Teller {
+    /// Nothing was told.
+    pub(crate) fn new() -> Teller
+        ensures { result ≡ nothing_told }
+    {
+        Teller {
+            count: 0,
+            clashes: 0,
+            assembly: Assembly::new(),
+        }
+    }
+
+    /// How many items were told.
+    pub(crate) fn count(&self) -> u64
+        ensures { result ≡ self.now.count }
+    {
+        self.count
+    }
+
+    /// Appends what the command writes of the next item, or nothing.
+    ///
+    /// # Errors
+    ///
+    /// Where memory is refused.
+    pub(crate) fn tell(
+        &mut self,
+        command: Command,
+        entry: Entry,
+        text: &mut Vec<u8>,
+    ) -> Result<(), AllocError>
+        requires few { self.old.count < 1000000 }
+        requires grouped { command ≡ Command.Group → entry_kind (entry_value entry) ≡ kind.Radio → ⊥ }
+        ensures count { OnOk result (self.new.count ≡ self.old.count + 1) }
+        ensures ok { OnOk result ((added : List ℕ) × TellsItem command (entry_value entry) self.old added self.new × (text.new.items ≡ text.old.items ++ added)) }
+        ensures err { OnErr result (text.new.items ≡ text.old.items) }
+    {
+        if command == Command::Group {
+            return self.tell_grouped(entry, text);
+        }
+        self.count += 1;
+        tell_alone(command, &entry, self.count, text)
+    }
+
+    /// Appends what the command writes at the end of the input, or nothing, and says what the run met.
+    ///
+    /// # Errors
+    ///
+    /// Where memory is refused.
+    pub(crate) fn close(&self, command: Command, text: &mut Vec<u8>) -> Result<Tally, AllocError>
+        ensures ok { IfOk result (λ tally. (last : List ℕ) × Closes command self.now last tally × (text.new.items ≡ text.old.items ++ last)) }
+        ensures err { OnErr result (text.new.items ≡ text.old.items) }
+    {
+        match command {
+            Command::Group => self.close_group(text),
+            Command::Show | Command::Check | Command::Convert(_) => Ok(Tally {
+                items: self.count,
+                clashes: 0,
+                complete: true,
+            }),
+        }
+    }
+
+    /// Appends the last lines of a group, or nothing, and says what the run met.
+    fn close_group(&self, text: &mut Vec<u8>) -> Result<Tally, AllocError>
+        ensures ok { IfOk result (λ tally. (last : List ℕ) × Closes Command.Group self.now last tally × (text.new.items ≡ text.old.items ++ last)) }
+        ensures err { OnErr result (text.new.items ≡ text.old.items) }
+    {
+        last_lines(&self.assembly, text)?;
+        Ok(Tally {
+            items: self.count,
+            clashes: self.clashes,
+            complete: self.assembly.is_complete(),
+        })
+    }
+
+    /// Appends the line that says what a telegram is to the group, or nothing.
+    fn tell_grouped(&mut self, entry: Entry, text: &mut Vec<u8>) -> Result<(), AllocError>
+        requires few { self.old.count < 1000000 }
+        requires grouped { entry_kind (entry_value entry) ≡ kind.Radio → ⊥ }
+        ensures count { OnOk result (self.new.count ≡ self.old.count + 1) }
+        ensures ok { OnOk result ((added : List ℕ) × TellsItem Command.Group (entry_value entry) self.old added self.new × (text.new.items ≡ text.old.items ++ added)) }
+        ensures err { OnErr result (text.new.items ≡ text.old.items) }
+    {
+        let answer = match entry {
+            Entry::Telegram(telegram) => self.add(telegram),
+            Entry::Message(_) => unreachable!(),
+        };
+        answer_line(self.count, answer, text)
+    }
+
+    /// Counts a telegram, and holds it where it fits those that are held.
+    fn add(&mut self, telegram: Telegram) -> Result<Added, Clash>
+        requires { self.old.count < 1000000 }
+        ensures made { IsTelegram telegram }
+        ensures answer { Answers self.old.held telegram result }
+        ensures count { self.new.count ≡ self.old.count + 1 }
+        ensures clashes { self.new.clashes ≡ clashes_with self.old.clashes result }
+        ensures held { HeldAfter self.old.held telegram self.new.held }
+        ensures placed { IsGroup self.new.held }
+    {
+        self.count += 1;
+        match self.assembly.add(telegram) {
+            Ok(added) => Ok(added),
+            Err(refused) => {
+                self.clashes += 1;
+                Err(refused.0)
+            }
+        }
+    }
+}
+
+/// Appends what a command writes of an item by itself, or nothing.
+fn tell_alone(
+    command: Command,
+    entry: &Entry,
+    item: u64,
+    text: &mut Vec<u8>,
+) -> Result<(), AllocError>
+    requires { command ≡ Command.Group → ⊥ }
+    ensures ok { (s : Told) → item ≡ s.count + 1 → OnOk result ((added : List ℕ) × TellsItem command (entry_value entry.now) s added (one_more s) × (text.new.items ≡ text.old.items ++ added)) }
+    ensures err { OnErr result (text.new.items ≡ text.old.items) }
+{
+    match command {
+        Command::Show => show_lines(entry, item, text),
+        Command::Check => check_line(entry, item, text),
+        Command::Convert(Form::Hex) => hex_line(entry, text),
+        Command::Convert(Form::Bin) => encoded(entry, text),
+        Command::Convert(Form::Json) => json_line(entry, text),
+        Command::Group => unreachable!(),
+    }
+}

@@ -1,0 +1,51 @@
+-- The JSON of an item.
+use Rattle.std.specs.Prelude.{ℕ, Bool, List, [], ◌∷◌, map, codes}
+use Rattle.serde_json.specs.Data.{Data, number, unsigned, string, array, object, no_items, item, no_members, member}
+use Rattle.serde_json.specs.View.{items_of}
+use Rattle.etcs_vars.specs.declared.var.Var.{Var}
+use Rattle.etcs_vars.specs.declared.var.Var.TheVariants.{NID_RADIO, NID_VBCMK}
+use Rattle.etcs_vars.specs.Vars.{name}
+use Rattle.etcs_vars.specs.Reading.{Reading, Sent}
+use Rattle.etcs_packets.specs.PacketValues.{PacketValue, marker, typed, kept}
+use Rattle.etcs_telegram.specs.Telegrams.{TelegramValue, header_reading}
+use Rattle.etcs_radio.specs.Bodies.{run_of_head}
+use Rattle.etcs_radio.specs.Messages.{MessageValue, typed_message, kept_message}
+use Rattle.etcs_text.specs.Entries.{EntryValue, of_telegram, of_message}
+use Rattle.etcs_text.specs.Show.{bit_digit, hex_digits, kind_word}
+
+-- the number of a variable: that of NID_RADIO is a text, its sixteen digits of four bits
+abbrev pub number_tree : Var → ℕ → Data
+number_tree NID_RADIO n = string (hex_digits 16 n)
+number_tree v n = number (unsigned n)
+
+-- a variable with its number
+abbrev pub pair_tree : Sent → Data
+pair_tree p = array (item (string (name p.0)) (item (number_tree p.0 p.1) no_items))
+
+abbrev pub pairs_tree : Reading → Data
+pairs_tree r = array (items_of (map pair_tree r))
+
+-- bits as digits 0 and 1
+abbrev pub bits_tree : List Bool → Data
+bits_tree bs = string (map bit_digit bs)
+
+-- a packet: packet 0 has no Q_DIR
+abbrev pub packet_tree : PacketValue → Data
+packet_tree (marker n) = object (member (codes "fields") (pairs_tree ((NID_VBCMK, n) ∷ [])) (member (codes "nid") (number (unsigned 0)) no_members))
+packet_tree (typed nid dir r) = object (member (codes "dir") (number (unsigned dir)) (member (codes "fields") (pairs_tree r) (member (codes "nid") (number (unsigned nid)) no_members)))
+packet_tree (kept nid dir b) = object (member (codes "data") (bits_tree b) (member (codes "dir") (number (unsigned dir)) (member (codes "nid") (number (unsigned nid)) no_members)))
+
+abbrev pub packets_tree : List PacketValue → Data
+packets_tree vs = array (items_of (map packet_tree vs))
+
+abbrev pub telegram_tree : TelegramValue → Data
+telegram_tree t = object (member (codes "fill") (bits_tree t.fill) (member (codes "header") (pairs_tree (header_reading t.header)) (member (codes "kind") (string (kind_word t.size)) (member (codes "packets") (packets_tree t.packets) no_members))))
+
+-- L_MESSAGE follows from the rest
+abbrev pub message_tree : MessageValue → Data
+message_tree (typed_message nid head body vs padding) = object (member (codes "fields") (pairs_tree body) (member (codes "header") (pairs_tree (run_of_head head)) (member (codes "kind") (string (codes "radio")) (member (codes "nid") (number (unsigned nid)) (member (codes "packets") (packets_tree vs) (member (codes "padding") (bits_tree padding) no_members))))))
+message_tree (kept_message nid b) = object (member (codes "data") (bits_tree b) (member (codes "kind") (string (codes "radio")) (member (codes "nid") (number (unsigned nid)) no_members)))
+
+abbrev pub json_tree : EntryValue → Data
+json_tree (of_telegram t) = telegram_tree t
+json_tree (of_message m) = message_tree m

@@ -1,0 +1,167 @@
+//! Variables as pairs of name and number.
+
+ghost use Rattle.std.specs.Prelude.{◌≡◌, ◌∷◌, ◌++◌, [], false, OnErr, OnOk};
+ghost use Rattle.serde_json.specs.Written.{comma_if, compact_text};
+ghost use Rattle.etcs_text.specs.Fronts.{Begins};
+ghost use Rattle.etcs_vars.specs.declared.var.Var.TheVariants.{NID_RADIO};
+ghost use Rattle.etcs_packets.specs.PacketValues.{packet_value, variables_of};
+ghost use Rattle.etcs_telegram.specs.Telegrams.{header_reading};
+ghost use Rattle.etcs_text.specs.Trees.{number_tree, pair_tree, pairs_tree};
+
+use crate::pair_fronts::pair_front;
+use crate::text::{push_decimal_and, push_hex};
+use etcs_packets::Packet;
+use etcs_packets::parts::send;
+use etcs_telegram::Header;
+use etcs_vars::Var;
+use etcs_vars::parts::{Sink, Variables};
+use std::alloc::AllocError;
+use std::marker::Model;
+use std::mem;
+
+/// Appends the sixteen digits of NID_RADIO in quotes, and the end of its pair.
+fn push_radio(number: u64, out: &mut Vec<u8>) -> Result<(), AllocError>
+    ensures ok { OnOk result (out.new.items ≡ out.old.items ++ (compact_text (number_tree NID_RADIO number) ++ 93 ∷ [])) }
+    ensures err { OnErr result (Begins out.old.items out.new.items) }
+{
+    out.extend_from_slice(b"\"")?;
+    push_hex(16, number, out)?;
+    out.extend_from_slice(b"\"]")
+}
+
+/// Appends the number of a variable and the end of its pair.
+fn push_number(var: Var, number: u64, out: &mut Vec<u8>) -> Result<(), AllocError>
+    ensures ok { OnOk result (out.new.items ≡ out.old.items ++ (compact_text (number_tree var number) ++ 93 ∷ [])) }
+    ensures err { OnErr result (Begins out.old.items out.new.items) }
+{
+    if var == Var::NID_RADIO {
+        return push_radio(number, out);
+    }
+    push_decimal_and(number, b']', out)
+}
+
+/// Appends the pair of a variable, behind a comma where it isn't the first of its list.
+#[tactic(auto, using(crate::specs::Fronts::begins_more, std::proofs::Common::append_assoc))]
+fn push_pair(later: bool, var: Var, number: u64, out: &mut Vec<u8>) -> Result<(), AllocError>
+    ensures ok { OnOk result (out.new.items ≡ out.old.items ++ (comma_if later ++ compact_text (pair_tree (var, number)))) }
+    ensures err { OnErr result (Begins out.old.items out.new.items) }
+{
+    out.extend_from_slice(pair_front(later, var))?;
+    push_number(var, number, out)
+}
+
+/// A list of pairs before its end, which takes variables, and whether it has a pair.
+#[derive(Drop)]
+struct PairSink {
+    text: Vec<u8>,
+    later: bool,
+}
+
+impl Model for PairSink {
+    ghost use Rattle.etcs_text.specs.PairSinks.{Listed};
+
+    ghost Value = { Listed };
+
+    ghost view = { λ s. (s.text.items, s.later) };
+}
+
+impl PairSink {
+    /// A list at the end of the text, which is taken.
+    fn open(text: &mut Vec<u8>) -> PairSink
+        ensures { result ≡ (text.old.items, false) }
+    {
+        let empty = Vec::new(*text.allocator());
+        PairSink {
+            text: mem::replace(text, empty),
+            later: false,
+        }
+    }
+
+    /// The text.
+    fn into_text(self) -> Vec<u8>
+        ensures { result.items ≡ self.0 }
+    {
+        let PairSink { text, .. } = self;
+        text
+    }
+}
+
+impl Sink for PairSink {
+    ghost use Rattle.etcs_text.specs.Fronts.{Begins};
+    ghost use Rattle.etcs_text.specs.PairSinks.{with_pairs, with_pairs_begins, with_pairs_both, with_pairs_none};
+
+    ghost with = { with_pairs };
+
+    ghost failed = { λ s t. Begins s.0 t.0 };
+
+    ghost with_none = { with_pairs_none };
+
+    ghost with_both = { with_pairs_both };
+
+    ghost failed_behind = { with_pairs_begins };
+
+    fn send(&mut self, sent: &[(Var, u64)]) -> Result<(), AllocError> {
+        for pair in sent {
+            push_pair(self.later, pair.0, pair.1, &mut self.text)?;
+            self.later = true;
+        }
+        Ok(())
+    }
+}
+
+/// Appends the pairs of a run of variables, as a list.
+pub(crate) fn push_run<V: Variables>(run: &V, out: &mut Vec<u8>) -> Result<(), AllocError>
+    ensures ok { OnOk result (out.new.items ≡ out.old.items ++ compact_text (pairs_tree (V.reading_of run.now))) }
+    ensures err { OnErr result (Begins out.old.items out.new.items) }
+{
+    out.extend_from_slice(b"[")?;
+    let mut sink = PairSink::open(out);
+    let sent = run.send(&mut sink);
+    *out = sink.into_text();
+    sent?;
+    out.extend_from_slice(b"]")
+}
+
+/// Appends the pairs of a packet's variables behind its frame, as a list.
+pub(crate) fn push_fields(packet: &Packet, out: &mut Vec<u8>) -> Result<(), AllocError>
+    ensures ok { OnOk result (out.new.items ≡ out.old.items ++ compact_text (pairs_tree (variables_of (packet_value packet.now)))) }
+    ensures err { OnErr result (Begins out.old.items out.new.items) }
+{
+    out.extend_from_slice(b"[")?;
+    let mut sink = PairSink::open(out);
+    let sent = send(packet, &mut sink);
+    *out = sink.into_text();
+    sent?;
+    out.extend_from_slice(b"]")
+}
+
+/// The header's variables with their numbers.
+fn header_pairs(header: &Header) -> [(Var, u64); 10]
+    ensures { result ≡ header_reading header.now }
+{
+    [
+        (Var::Q_UPDOWN, 1),
+        (Var::M_VERSION_HEADER, u64::from(header.m_version())),
+        (Var::Q_MEDIA, 0),
+        (Var::N_PIG, u64::from(header.n_pig())),
+        (Var::N_TOTAL, u64::from(header.n_total())),
+        (Var::M_DUP, u64::from(header.m_dup())),
+        (Var::M_MCOUNT, u64::from(header.m_mcount())),
+        (Var::NID_C, u64::from(header.nid_c())),
+        (Var::NID_BG, u64::from(header.nid_bg())),
+        (Var::Q_LINK, u64::from(header.q_link())),
+    ]
+}
+
+/// Appends the pairs of a header, as a list.
+pub(crate) fn push_header(header: &Header, out: &mut Vec<u8>) -> Result<(), AllocError>
+    ensures ok { OnOk result (out.new.items ≡ out.old.items ++ compact_text (pairs_tree (header_reading header.now))) }
+    ensures err { OnErr result (Begins out.old.items out.new.items) }
+{
+    out.extend_from_slice(b"[")?;
+    let mut sink = PairSink::open(out);
+    let sent = sink.send(&header_pairs(header));
+    *out = sink.into_text();
+    sent?;
+    out.extend_from_slice(b"]")
+}

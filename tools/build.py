@@ -1,9 +1,9 @@
 #!/usr/bin/env python3
 """Proves the libraries that a program stands on, side by side where that can be, and builds the program.
 
-    tools/build.py RT CRATE
+    tools/build.py RT CRATE [VERB ..]
 
-RT is the path of `rt`, and CRATE the folder of the program's crate. How far it is goes to standard
+With a verb it does what `rt VERB ..` does in the folder that it is called in. RT is the path of `rt`, and CRATE the folder of the program's crate. How far it is goes to standard
 error, and what rt writes of a crate to its out/build.log. The status is 0 where the program is built.
 
 Two runs of `rt` can't go side by side here: each locks its crate's folder and those of all libraries
@@ -12,12 +12,16 @@ side by side, but with one job a crate, and most crates here stand on one anothe
 over the module that `rt` itself is made of: it locks once, as `rt all` does, and makes for each
 library the call that `rt lib` makes, with a job for each core. What is proved, and what is kept in
 out/, is the same. `rt run` then proves and builds the program, and first whatever is left.
+
+To see what changed, rt sums a crate's files and those of each library below it, once for each way
+down to it: thousands of times for the upper crates here. In this run each is summed once a time.
 """
 
 import os
 import signal
 import subprocess
 import sys
+import threading
 import time
 from concurrent.futures import FIRST_COMPLETED, ThreadPoolExecutor, wait
 
@@ -48,6 +52,34 @@ def give_up_on(folder):
     with open(log_of(folder), encoding="utf-8", errors="replace") as log:
         print(*log.readlines()[-20:], sep="", end="", file=sys.stderr)
     say(f"{os.path.basename(folder)} isn't proved: all lines are in {log_of(folder)}")
+
+
+def sum_once(stamp):
+    """Returns rt's sum of a crate such that it takes each crate below once, and not once for each way down to it."""
+    local = threading.local()
+
+    def summed(crate):
+        if hasattr(local, "made"):
+            if crate.folder not in local.made:
+                local.made[crate.folder] = stamp(crate)
+            return local.made[crate.folder]
+        local.made = {}
+        try:
+            return summed(crate)
+        finally:
+            del local.made
+
+    return summed
+
+
+def module_of(rt):
+    """Returns the module that rt is made of."""
+    sys.dont_write_bytecode = True
+    sys.path.insert(0, os.path.dirname(os.path.realpath(rt)))
+    import rtlib
+
+    rtlib.Crate.stamp = sum_once(rtlib.Crate.stamp)
+    return rtlib
 
 
 def prove(crate, flags):
@@ -83,10 +115,7 @@ def prove_all(crates, at_once, flags):
 
 def prove_below(rt, folder):
     """Proves the libraries below the program that aren't, and returns whether all are, and the flags to go on with."""
-    sys.dont_write_bytecode = True
-    sys.path.insert(0, os.path.dirname(os.path.realpath(rt)))
-    import rtlib
-
+    rtlib = module_of(rt)
     # as in rt: what it started ends with it
     rtlib.guarded()
     crates = rtlib.Crate(folder, rtlib.root_above(folder), {}).below()
@@ -100,13 +129,13 @@ def prove_below(rt, folder):
     return is_well, flags
 
 
-def build_program(rt, folder, flags):
+def build_program(words, folder, flags):
     """Proves, compiles and links the program, and returns whether that went well. rt also runs it, so it is asked for its help."""
     say(f"proving and compiling the program {os.path.basename(folder)}")
     begun = time.monotonic()
     with open(log_of(folder), "w", encoding="utf-8") as log:
         how = {"stdin": subprocess.DEVNULL, "stdout": log, "stderr": subprocess.STDOUT}
-        ran = subprocess.run([rt, "run", *flags, "--", "--help"], cwd=folder, **how)
+        ran = subprocess.run([*words, "run", *flags, "--", "--help"], cwd=folder, **how)
     if ran.returncode:
         give_up_on(folder)
         return False
@@ -114,19 +143,21 @@ def build_program(rt, folder, flags):
     return True
 
 
-def main(rt, folder):
+def main(rt, folder, *run):
     # Ctrl-C doesn't wait for the threads
     signal.signal(signal.SIGINT, signal.SIG_DFL)
-    folder = os.path.realpath(folder)
+    if run:
+        return module_of(rt).main(*run)
+    folder, words = os.path.realpath(folder), [sys.executable, os.path.realpath(__file__), rt, folder]
     try:
         is_well, flags = prove_below(rt, folder)
     except (ImportError, AttributeError, TypeError) as error:
         say(f"rt's module isn't as expected ({error}), so rt proves one crate after the other")
-        is_well, flags = True, []
+        is_well, flags, words = True, [], [rt]
     except OSError as error:
         say(f"{error.filename}: {error.strerror}")
         return 1
-    return 0 if is_well and build_program(rt, folder, flags) else 1
+    return 0 if is_well and build_program(words, folder, flags) else 1
 
 
 if __name__ == "__main__":

@@ -10,10 +10,9 @@ use std::alloc::Global;
 use std::process::Abort;
 use std::test::Fail;
 
-/// How many bytes are left, step by step.
-const ROOMS: [usize; 24] = [
-    0, 16, 32, 48, 64, 96, 128, 192, 256, 384, 512, 640, 768, 896, 1024, 1280, 1536, 1792, 2048,
-    2560, 3072, 4096, 6144, 8192,
+/// How many steps of 32 bytes are left.
+const ROOMS: [u8; 24] = [
+    0, 1, 2, 3, 4, 5, 6, 7, 8, 10, 12, 16, 20, 24, 32, 40, 48, 64, 80, 96, 128, 160, 192, 255,
 ];
 
 /// With less and less memory the tree is whole, or memory was refused. It is made with memory first: the stack can't grow
@@ -27,7 +26,7 @@ fn assert_trees(
     let whole = to_value(alloc, &item)?;
     let (mut refused, mut told) = (false, false);
     for room in ROOMS {
-        let held = starve_to(alloc, room)?;
+        let held = starve_to(alloc, 32 * usize::from(room))?;
         let tree = to_value(alloc, &item);
         drop(held);
         match tree {
@@ -52,7 +51,7 @@ fn assert_items(
     from_value(alloc, kind, &tree)?;
     let (mut refused, mut told) = (false, false);
     for room in ROOMS {
-        let held = starve_to(alloc, room)?;
+        let held = starve_to(alloc, 32 * usize::from(room))?;
         let item = from_value(alloc, kind, &tree);
         drop(held);
         match item {

@@ -1,3 +1,4 @@
 pub mod TreeParts
 pub mod TreeReading
+pub mod JsonLines
 pub mod FaultTexts

@@ -6,6 +6,8 @@ ghost use Rattle.etcs_vars.specs.Reading.{Reading};
 ghost use Rattle.etcs_text.specs.Entries.{EntryReads, EntryValue, entry_value, kind_of};
 ghost use Rattle.etcs_json.specs.TreeReading.{IsTreeOf};
 
+ghost use Rattle.etcs_json.specs.JsonLines.{SaysItem};
+
 use crate::fault::JsonFault;
 use crate::from_message::message_in;
 use crate::from_telegram::telegram_in;
@@ -30,6 +32,26 @@ pub fn from_value(alloc: Global, kind: Kind, value: &Value) -> Result<Entry, Jso
         Ok(Some(entry)) => Ok(entry),
         Ok(None) => Err(JsonFault::Shape),
         Err(_) => Err(JsonFault::Memory),
+    }
+}
+
+/// The item of the kind whose JSON the line is.
+///
+/// # Errors
+///
+/// - [`JsonFault::Shape`] where the line isn't UTF-8 or JSON, or no item of the kind has its tree;
+/// - [`JsonFault::Memory`] where memory was refused, whatever the line is.
+pub fn from_line(alloc: Global, kind: Kind, line: &[u8]) -> Result<Entry, JsonFault>
+    ensures ok { IfOk result (λ e. SaysItem kind line.now (entry_value e)) }
+    ensures shape { result ≡ Err JsonFault.Shape → (e : EntryValue) → SaysItem kind line.now e → ⊥ }
+{
+    match Value::from_slice(alloc, line) {
+        Ok(value) => from_value(alloc, kind, &value),
+        Err(error) => Err(if error.is_memory() {
+            JsonFault::Memory
+        } else {
+            JsonFault::Shape
+        }),
     }
 }
 

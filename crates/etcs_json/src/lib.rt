@@ -14,5 +14,5 @@ mod pairs;
 mod trees;
 
 pub use fault::JsonFault;
-pub use from_entries::from_value;
+pub use from_entries::{from_line, from_value};
 pub use trees::to_value;

@@ -1,5 +1,9 @@
 //! Vectors of runs over lines of hexadecimal, and of the program's command line. In their texts `\n` is a LF and `\r` a CR.
 
+ghost use Rattle.std.specs.Prelude.{◌≡◌};
+ghost use Rattle.etcs_stream.specs.declared.job.Command.TheVariants as command;
+ghost use Rattle.etcs_stream.specs.declared.job.Form.TheVariants as form;
+
 use crate::words::{drop_line_end, push_hex, push_unless, size};
 use etcs_cli::run_words;
 use etcs_row_cases::words::{bytes, push_number, push_text, variable};
@@ -30,7 +34,10 @@ impl Read for Slow<'_> {
 }
 
 /// The job of showing telegrams of a size.
-fn job(size: Size) -> Job {
+fn job(size: Size) -> Job
+    ensures shows { result.command ≡ command.Show }
+    ensures reads { result.from ≡ form.Hex }
+{
     Job {
         kind: match size {
             Size::Short => Kind::Short,

@@ -5,7 +5,6 @@ ghost use Rattle.serde_json.specs.View.{view};
 ghost use Rattle.etcs_vars.specs.Reading.{Reading};
 ghost use Rattle.etcs_text.specs.Entries.{EntryReads, EntryValue, entry_value, kind_of};
 ghost use Rattle.etcs_json.specs.TreeReading.{IsTreeOf};
-
 ghost use Rattle.etcs_json.specs.JsonLines.{SaysItem};
 
 use crate::fault::JsonFault;

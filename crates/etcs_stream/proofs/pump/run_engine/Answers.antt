@@ -28,7 +28,7 @@ returns-then-count-eq0-clause-write g c =
     let gave = Consumes-end _ _ _ i.given c.read.new.buffer c.in-Ok.count c.if-count-eq0.true i.consumes c.in-Ok.ensures.bytes.0 in
     let room : length c.read.new.buffer ≡ 4096 = c.read.auto.buffer ∙ i.room in
     let at_end = c.in-Ok.ensures.bytes.1 c.if-count-eq0.true (omega (arith, room)) in
-    λ n h. (let r = write_if _ _ _ _ _ i.given i.told c.close.new.text.items gave i.appends (λ t f. StopsAtEnd (g.E.Engine.job c.args.engine.now) i.given t f) (λ t. Prints (g.E.Engine.job c.args.engine.now) i.given t ⊎ EndsWhole (g.E.Engine.job c.args.engine.now) i.given t) (g.W.Sink.failures c.loop.sink) (g.W.Sink.failures c.close.new.sink) (λ given told. Prints (g.E.Engine.job c.args.engine.now) given told ⊎ (IsAtEnd (g.S.Source.remaining c.read.new.self) × EndsWhole (g.E.Engine.job c.args.engine.now) given told)) _ (rw i.job at c.close.ensures.err i.given i.told i.stands i.sent) (λ t q. elim q [ | inl p ↦ inl p | inr e ↦ inr (at_end, e) ]) n h in (r.0, r.1 ∙ ap (λ m. m + 1) i.write_failures))
+    λ n h. (let r = write_if _ _ _ _ _ i.given i.told c.close.new.text.items gave i.appends (λ t f. StopsAtEnd (g.E.Engine.job c.args.engine.now) i.given t f) (λ t. Prints (g.E.Engine.job c.args.engine.now) i.given t ⊎ EndsWhole (g.E.Engine.job c.args.engine.now) i.given t) (g.W.Sink.failures c.loop.sink) (g.W.Sink.failures c.close.new.sink) (λ given told. Prints (g.E.Engine.job c.args.engine.now) given told ⊎ (IsAtEnd (g.S.Source.remaining c.read.new.self) × EndsWhole (g.E.Engine.job c.args.engine.now) given told)) _ (rw i.job at c.close.ensures.err i.given i.told i.stands i.sent) (λ t q. elim q [ inl p ↦ inl p | inr e ↦ inr (at_end, e) ]) n h in (r.0, r.1 ∙ ap (λ m. m + 1) i.write_failures))
 
 pub returns-in_err-pass-clause-engine : goal.returns-in_err-pass-clause-engine
 returns-in_err-pass-clause-engine g c =

@@ -2,7 +2,7 @@
 
 ghost use Rattle.std.specs.Prelude.{◌≡◌, IfSome};
 ghost use Rattle.etcs_stream.specs.declared.job.Job.{Job};
-ghost use Rattle.etcs_stream.specs.Tellers.{IsRunnable};
+ghost use Rattle.etcs_stream.specs.Tellers.{IsGroupable};
 ghost use Rattle.etcs_cli.specs.Statuses.{fault_status, tally_status};
 
 use clap::builder::ValueParser;
@@ -36,11 +36,8 @@ static GROUP_KINDS: [&str; 2] = ["long", "short"];
 /// What help says of them.
 static GROUP_KINDS_HELP: &str = "Balise telegrams of 830 user bits (long) or of 210 (short)";
 
-/// What `--from` takes.
-static FORMS: [&str; 2] = ["hex", "bin"];
-
-/// What `--to` takes.
-static OUTPUT_FORMS: [&str; 3] = ["hex", "bin", "json"];
+/// What `--from` and `--to` take.
+static FORMS: [&str; 3] = ["hex", "bin", "json"];
 
 /// What `--version` says behind the name: the version, and the line of the kit that proves it.
 static VERSION: &str = "0.1.0 (rattle-kit-13b logic dac8208d650f15bf)";
@@ -60,7 +57,7 @@ pub enum Parsed {
 
 /// Reads a command line, whose first word is the program's name.
 pub fn parse(alloc: Global, words: &[String]) -> Parsed
-    ensures { (job : Job) → result ≡ Parsed.Job job → IsRunnable job }
+    ensures { (job : Job) → result ≡ Parsed.Job job → IsGroupable job }
 {
     let line = match line(alloc) {
         Ok(line) => line,
@@ -113,7 +110,7 @@ fn run_job(
     output: impl Write + Drop,
     faults: &mut impl Write,
 ) -> u8
-    requires { IsRunnable job }
+    requires { IsGroupable job }
 {
     let mut source = Input::new(input);
     let mut sink = Output::new(output);
@@ -150,7 +147,10 @@ fn fault_status(fault: &RunFault) -> u8
     ensures { result ≡ fault_status fault.now }
 {
     match fault {
-        RunFault::Refused { .. } | RunFault::Truncated { .. } | RunFault::BadHex { .. } => REFUSED,
+        RunFault::Refused { .. }
+        | RunFault::Truncated { .. }
+        | RunFault::BadHex { .. }
+        | RunFault::BadJson { .. } => REFUSED,
         RunFault::Read | RunFault::Write { .. } | RunFault::Endless | RunFault::Memory => BROKEN,
     }
 }
@@ -225,7 +225,9 @@ fn from_option<'a>(alloc: Global) -> Arg<'a> {
         .value_name("FORM")
         .value_parser(ValueParser::from(FORMS.as_slice()))
         .default_value("hex")
-        .help("Form of the input: lines of hexadecimal digits (hex) or the bytes themselves (bin)")
+        .help(
+            "Form of the input: lines of hexadecimal digits (hex), the bytes themselves (bin) or lines of JSON (json)",
+        )
 }
 
 /// `--to`, which has no default.
@@ -234,7 +236,7 @@ fn to_option<'a>(alloc: Global) -> Arg<'a> {
         .long("to")
         .required(true)
         .value_name("FORM")
-        .value_parser(ValueParser::from(OUTPUT_FORMS.as_slice()))
+        .value_parser(ValueParser::from(FORMS.as_slice()))
         .help(
             "Form of the output: a line of hexadecimal digits each (hex), the bytes themselves (bin) or a line of JSON each (json)",
         )
@@ -259,15 +261,15 @@ fn refused(alloc: Global, error: Error) -> Parsed
     }
 }
 
-/// The job that the matches name. Messages aren't grouped, and JSON isn't read.
+/// The job that the matches name. Messages aren't grouped.
 fn job_of(matches: &ArgMatches) -> Option<Job>
-    ensures { IfSome result (λ job. IsRunnable job) }
+    ensures { IfSome result (λ job. IsGroupable job) }
 {
     let (name, options) = matches.subcommand()?;
     let kind = kind_of(options.get_str("kind")?)?;
     let from = form_of(options.get_str("from")?)?;
     let command = command_of(name, options)?;
-    if from == Form::Json || (command == Command::Group && kind == Kind::Radio) {
+    if command == Command::Group && kind == Kind::Radio {
         return None;
     }
     Some(Job {

@@ -7,8 +7,8 @@ use Rattle.std.proofs.lemmas.Bool.Decides.{nat_tests}
 use Rattle.std.proofs.lemmas.Grind.{flat_map-append}
 use Rattle.std.proofs.lemmas.List.{append-nil, length-take-le}
 use Rattle.std.proofs.lemmas.List.Elements.{All-nil, All-cons}
-use Rattle.etcs_stream.specs.Lines.{bad_place, strip_cr, line_bytes, lines_text, lines_bytes, AreGood, IsHexText}
-use Rattle.etcs_stream.specs.Inputs.{IsLine, IsBad}
+use Rattle.etcs_stream.specs.Lines.{IsLine, bad_place, strip_cr, line_bytes, lines_text, lines_bytes, AreGood, IsHexText}
+use Rattle.etcs_stream.specs.Inputs.{IsBad}
 
 pub AreGood-append : (xs ys : List (List ℕ)) → AreGood xs → AreGood ys → AreGood (xs ++ ys)
 AreGood-append [] ys h g = g
@@ -127,7 +127,7 @@ cut_text text = cut (length text) text (omega arith)
 pub long_bad : (line : List ℕ) → 4096 < length line → bad_place line ≡ Some 4096
 long_bad line h = let t : ltb 4096 (length line) ≡ true = lt-ltb 4096 (length line) h in rw t refl
 
-stripped : (b : Bool) (line : List ℕ) → length line ≤ length (cond b (take (length line - 1) line) line) + 1
+pub stripped : (b : Bool) (line : List ℕ) → length line ≤ length (cond b (take (length line - 1) line) line) + 1
 stripped true line = omega (arith, length-take-le (length line - 1) line (omega arith))
 stripped false line = omega arith
 

@@ -17,14 +17,14 @@ use Rattle.etcs_stream.specs.declared.job.Job.{Job}
 use Rattle.etcs_stream.specs.declared.fault.RunFault.{RunFault}
 use Rattle.etcs_stream.specs.declared.fault.RunFault.TheVariants.{Truncated, BadHex, Memory}
 use Rattle.etcs_stream.specs.Faults.{IsOfEngine}
-use Rattle.etcs_stream.specs.Lines.{bad_place, strip_cr, line_bytes, lines_text, lines_bytes, AreGood, IsHexText}
+use Rattle.etcs_stream.specs.Lines.{IsLine, bad_place, strip_cr, line_bytes, lines_text, lines_bytes, AreGood, IsHexText}
 use Rattle.etcs_stream.specs.Told.{Told}
 use Rattle.etcs_stream.specs.Tellers.{Closes, nothing_told}
 use Rattle.etcs_stream.specs.declared.job.Tally.{Tally}
 use Rattle.etcs_stream.specs.Readers.{ReaderValue, Awaits, HasRoom, seen_bits}
 use Rattle.etcs_stream.specs.Steps.{Advances, Halts}
 use Rattle.etcs_stream.specs.Stands.{ItemsStand, HexStands}
-use Rattle.etcs_stream.specs.Inputs.{End, ended, refused, truncated, bad_hex, endless, BitItems, IsLine, IsBad, ItemsOf, SaysFirst, FirstItems}
+use Rattle.etcs_stream.specs.Inputs.{End, ended, refused, truncated, bad_hex, bad_json, endless, BitItems, IsBad, ItemsOf, SaysFirst, FirstItems}
 use Rattle.etcs_stream.specs.Engines.{Ends, Stops, StopsAtEnd}
 use Rattle.etcs_stream.proofs.ItemKinds.{Language}
 use Rattle.etcs_bits.proofs.ByteBits.{bits-append}
@@ -48,6 +48,7 @@ early_items kind text bytes es ended early (inr s) h = absurd early
 early_items kind text bytes es (refused i x) early (inr (line, place, bad)) h = inr (bytes, line, place, bad, h)
 early_items kind text bytes es (truncated k) early (inr s) h = absurd early
 early_items kind text bytes es (bad_hex l p) early (inr s) h = absurd early
+early_items kind text bytes es (bad_json l) early (inr s) h = absurd early
 early_items kind text bytes es endless early (inr (line, place, bad)) h = inr (bytes, line, place, bad, h)
 
 -- the items of good lines halted, whatever is behind them
@@ -73,7 +74,7 @@ line_text lines kept line whole given behind is w =
     ∙ sym (append_assoc (lines_text lines) (lines_text (whole ∷ [])) behind)
     ∙ ap (λ (z : List ℕ). z ++ behind) (sym (lines_text-append lines (whole ∷ [])))
 
-line_says : (lines : List (List ℕ)) (whole : List ℕ) → lines_bytes lines ++ line_bytes (strip_cr whole) ≡ lines_bytes (lines ++ (whole ∷ []))
+pub line_says : (lines : List (List ℕ)) (whole : List ℕ) → lines_bytes lines ++ line_bytes (strip_cr whole) ≡ lines_bytes (lines ++ (whole ∷ []))
 line_says lines whole =
     ap (λ (z : List ℕ). lines_bytes lines ++ z) (sym (append-nil (line_bytes (strip_cr whole)))) ∙ sym (lines_bytes-append lines (whole ∷ []))
 

@@ -12,9 +12,13 @@ pub mod Standing
 pub mod Cutting
 pub mod BinSteps
 pub mod HexSteps
+pub mod HexTakes
+pub mod JsonSteps
 pub mod Known
 pub mod Printing
 pub mod Shortness
 pub mod Endings
 pub mod OneLines
+pub mod OneJson
 pub mod OneItems
+pub mod LineSteps

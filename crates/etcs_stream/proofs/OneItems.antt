@@ -1,8 +1,8 @@
 -- Bits are items in one way.
-use Rattle.std.proofs.Common.{◌≡◌, ℕ, ◌+◌, ◌^◌, ◌<◌, ◌≤◌, Bool, List, [], ◌∷◌, ◌++◌, length, take, get_or, refl, sym, ap, subst, ◌∙◌, arith, append_assoc, length-append, inl, inr}
-use Rattle.std.specs.Prelude.{◌⊎◌, All}
+use Rattle.std.proofs.Common.{◌≡◌, ℕ, ◌+◌, ◌<◌, ◌≤◌, Bool, List, [], ◌∷◌, ◌++◌, length, take, refl, sym, ap, subst, ◌∙◌, arith, append_assoc, length-append, inl, inr}
+use Rattle.std.specs.Prelude.{◌⊎◌}
 use Rattle.std.proofs.lemmas.Bool.{cases_lt}
-use Rattle.std.proofs.lemmas.List.{append-nil, take_at, take-take, get_or_past}
+use Rattle.std.proofs.lemmas.List.{append-nil, take_at, take-take}
 use Rattle.etcs_bits.specs.Bits.{bits}
 use Rattle.etcs_bits.proofs.ByteBits.{bits-append}
 use Rattle.etcs_vars.specs.declared.var.Var.{Var}
@@ -13,19 +13,19 @@ use Rattle.etcs_vars.proofs.Apart.{apart}
 use Rattle.etcs_vars.proofs.Outcomes.{viable_front}
 use Rattle.etcs_telegram.proofs.SameReadings.{owner_same}
 use Rattle.etcs_telegram.proofs.Spellings as telegrams
-use Rattle.etcs_radio.specs.Messages.{MessageValue, typed_message, kept_message, MessageReads}
 use Rattle.etcs_radio.proofs.Spelling as messages
 use Rattle.etcs_text.specs.declared.entry.Kind.{Kind}
 use Rattle.etcs_stream.specs.declared.job.Form.{Form}
 use Rattle.etcs_stream.specs.declared.job.Form.TheVariants.{Hex, Bin, Json}
-use Rattle.etcs_text.specs.Entries.{EntryValue, of_telegram, of_message, EntryReads, Spells}
-use Rattle.etcs_stream.specs.Inputs.{End, ended, refused, truncated, bad_hex, endless, EndsWith, BitItems, BadItems, SaysSoFar, FirstItems}
+use Rattle.etcs_text.specs.Entries.{EntryValue, of_telegram, of_message, EntryReads}
+use Rattle.etcs_stream.specs.Inputs.{End, ended, refused, truncated, bad_hex, bad_json, endless, EndsWith, BitItems, BadItems, SaysSoFar, WholeBytes, FirstBytes}
 use Rattle.etcs_stream.specs.Streams.{AreSpelled}
 use Rattle.etcs_stream.specs.OneRuns.{OneEnd, OneWhole, OneFront}
 use Rattle.etcs_stream.proofs.ItemKinds.{Language, kind_regular, same_size, not_radio}
 use Rattle.etcs_stream.proofs.Streams.{nothing_is_spelled}
 use Rattle.etcs_stream.proofs.Printing.{bad_items}
 use Rattle.etcs_stream.proofs.OneLines.{one_hex, one_bad, hex_or_bad, one_so_far, front_hex, front_bad}
+use Rattle.etcs_stream.proofs.OneJson.{one_json, one_whole_json, front_json}
 
 -- ---- One item.
 
@@ -55,6 +55,7 @@ ends_last kind n rest ended h = inl (subst (λ (z : List Bool). NoneYet (Languag
 ends_last kind n rest (refused i x) h = inl h.1.0.0
 ends_last kind n rest (truncated k) h = inl h.3.0
 ends_last kind n rest (bad_hex line place) h = absurd h
+ends_last kind n rest (bad_json line) h = absurd h
 ends_last kind n rest endless h = inr h.0
 
 no_item : (kind : Kind) (n : ℕ) (e : EntryValue) (r : Reading) (b rest : List Bool) → Last kind n rest → n + 1 ≤ 1000000 → EntryReads kind e r → rest ≡ spelled r ++ b → ⊥
@@ -136,23 +137,28 @@ ends_once kind n rest ended ended h k = refl
 ends_once kind n rest ended (refused j y) h k = absurd (omega (arith, ap (λ (z : List Bool). length z) h, k.1.0.1))
 ends_once kind n rest ended (truncated l) h k = absurd (omega (arith, ap (λ (z : List Bool). length z) h, k.1, k.2))
 ends_once kind n rest ended (bad_hex line place) h k = absurd k
+ends_once kind n rest ended (bad_json line) h k = absurd k
 ends_once kind n rest ended endless h k = absurd (omega (arith, ap (λ (z : List Bool). length z) h, k.1))
 ends_once kind n rest (refused i x) ended h k = absurd (omega (arith, ap (λ (z : List Bool). length z) k, h.1.0.1))
 ends_once kind n rest (refused i x) (refused j y) h k =
     let same = one_refusal (Language kind) rest i j x y (refuses_item kind rest i x h.1) (refuses_item kind rest j y k.1) in cc
 ends_once kind n rest (refused i x) (truncated l) h k = absurd (refused_or_wanted kind rest i x h.1 k.3)
 ends_once kind n rest (refused i x) (bad_hex line place) h k = absurd k
+ends_once kind n rest (refused i x) (bad_json line) h k = absurd k
 ends_once kind n rest (refused i x) endless h k = absurd (omega (arith, h.0, k.0))
 ends_once kind n rest (truncated l) ended h k = absurd (omega (arith, ap (λ (z : List Bool). length z) k, h.1, h.2))
 ends_once kind n rest (truncated l) (refused j y) h k = absurd (refused_or_wanted kind rest j y k.1 h.3)
 ends_once kind n rest (truncated l) (truncated m) h k = ap truncated (h.1 ∙ sym k.1)
 ends_once kind n rest (truncated l) (bad_hex line place) h k = absurd k
+ends_once kind n rest (truncated l) (bad_json line) h k = absurd k
 ends_once kind n rest (truncated l) endless h k = absurd (omega (arith, h.0, k.0))
 ends_once kind n rest (bad_hex line place) end' h k = absurd h
+ends_once kind n rest (bad_json line) end' h k = absurd h
 ends_once kind n rest endless ended h k = absurd (omega (arith, ap (λ (z : List Bool). length z) k, h.1))
 ends_once kind n rest endless (refused j y) h k = absurd (omega (arith, h.0, k.0))
 ends_once kind n rest endless (truncated m) h k = absurd (omega (arith, h.0, k.0))
 ends_once kind n rest endless (bad_hex line place) h k = absurd k
+ends_once kind n rest endless (bad_json line) h k = absurd k
 ends_once kind n rest endless endless h k = refl
 
 Same : List EntryValue → List EntryValue → End → End → Type 0
@@ -187,27 +193,31 @@ bad_once : (kind : Kind) (b : List Bool) (es es' : List EntryValue) (line place 
 unfolding Same
 bad_once kind b es es' line place ended end' h k = absurd h
 bad_once kind b es es' line place (truncated m) end' h k = absurd h
+bad_once kind b es es' line place (bad_json m) end' h k = absurd h
 bad_once kind b es es' line place (refused i x) ended h k = absurd k
 bad_once kind b es es' line place (refused i x) (refused j y) h k = one_of_bits kind b b es es' (refused i x) (refused j y) refl h k
 bad_once kind b es es' line place (refused i x) (truncated n) h k = absurd k
+bad_once kind b es es' line place (refused i x) (bad_json n) h k = absurd k
 bad_once kind b es es' line place (refused i x) (bad_hex l p) h k = absurd (stays_not kind b es' es (refused i x) (λ e. cc) (λ n e. cc) k.2 h)
 bad_once kind b es es' line place (refused i x) endless h k = one_of_bits kind b b es es' (refused i x) endless refl h k
 bad_once kind b es es' line place (bad_hex l p) ended h k = absurd k
 bad_once kind b es es' line place (bad_hex l p) (refused j y) h k = absurd (stays_not kind b es es' (refused j y) (λ e. cc) (λ n e. cc) h.2 k)
 bad_once kind b es es' line place (bad_hex l p) (truncated n) h k = absurd k
+bad_once kind b es es' line place (bad_hex l p) (bad_json n) h k = absurd k
 bad_once kind b es es' line place (bad_hex l p) (bad_hex m q) h k =
     (stays_same kind b es es' h.2 k.2, let e = h.0 ∙ sym k.0 in let f = h.1 ∙ sym k.1 in cc)
 bad_once kind b es es' line place (bad_hex l p) endless h k = absurd (stays_not kind b es es' endless (λ e. cc) (λ n e. cc) h.2 k)
 bad_once kind b es es' line place endless ended h k = absurd k
 bad_once kind b es es' line place endless (refused j y) h k = one_of_bits kind b b es es' endless (refused j y) refl h k
 bad_once kind b es es' line place endless (truncated n) h k = absurd k
+bad_once kind b es es' line place endless (bad_json n) h k = absurd k
 bad_once kind b es es' line place endless (bad_hex l p) h k = absurd (stays_not kind b es' es endless (λ e. cc) (λ n e. cc) k.2 h)
 bad_once kind b es es' line place endless endless h k = one_of_bits kind b b es es' endless endless refl h k
 
 pub one_end : OneEnd
 unfolding Same
 one_end Bin kind input es es' end end' h k = one_of_bits kind (bits input) (bits input) es es' end end' refl h k
-one_end Json kind input es es' end end' h k = absurd h
+one_end Json kind input es es' end end' h k = one_json kind input es es' end end' h k
 one_end Hex kind input es es' end end' (inl (b, says, h)) (inl (c, says', k)) = one_of_bits kind (bits b) (bits c) es es' end end' (ap bits (one_hex input b c says says')) h k
 one_end Hex kind input es es' end end' (inl (b, says, h)) (inr (c, line, place, bad, k)) = absurd (hex_or_bad input b c line place says bad)
 one_end Hex kind input es es' end end' (inr (b, line, place, bad, h)) (inl (c, says, k)) = absurd (hex_or_bad input c b line place says bad)
@@ -225,14 +235,19 @@ one_says Bin given bytes bytes' h k = h ∙ sym k
 one_says Json given bytes bytes' h k = absurd h
 one_says Hex given bytes bytes' h k = one_so_far given bytes bytes' h k
 
-pub one_whole : OneWhole
+whole_bytes : (form : Form) (kind : Kind) (given : List ℕ) (es es' : List EntryValue) → WholeBytes form kind given es → WholeBytes form kind given es' → es ≡ es'
 unfolding Last
-one_whole form kind given es es' h k =
+whole_bytes form kind given es es' h k =
     let same = one_says form given h.bytes k.bytes h.says k.says in
     (same_items kind es es' h.spelt k.spelt h.rest k.rest h.are_spelled k.are_spelled h.few k.few (inl h.none_more) (inl k.none_more) (sym h.bits_are ∙ ap bits same ∙ k.bits_are)).0
 
+pub one_whole : OneWhole
+one_whole Hex kind given es es' h k = whole_bytes Hex kind given es es' h k
+one_whole Bin kind given es es' h k = whole_bytes Bin kind given es es' h k
+one_whole Json kind given es es' h k = one_whole_json kind given es es' h k
+
 -- bytes whose bits begin with items, and more behind them
-front_items : (form : Form) (kind : Kind) (input bytes' : List ℕ) (es es' : List EntryValue) (end : End) (h : FirstItems form kind input es) → BitItems kind (bits bytes') es' end → (more : List ℕ) × (bytes' ≡ h.bytes ++ more) → (behind : List EntryValue) × (es' ≡ es ++ behind)
+front_items : (form : Form) (kind : Kind) (input bytes' : List ℕ) (es es' : List EntryValue) (end : End) (h : FirstBytes form kind input es) → BitItems kind (bits bytes') es' end → (more : List ℕ) × (bytes' ≡ h.bytes ++ more) → (behind : List EntryValue) × (es' ≡ es ++ behind)
 front_items form kind input bytes' es es' end h k (more, is) =
     let whole : h.spelt ++ (h.rest ++ bits more) ≡ k.spelt ++ k.rest =
     sym (append_assoc h.spelt h.rest (bits more)) ∙ ap (λ (z : List Bool). z ++ bits more) (sym h.bits_are) ∙ sym (bits-append h.bytes more) ∙ ap bits (sym is) ∙ k.bits_are in
@@ -244,7 +259,7 @@ front_items form kind input bytes' es es' end h k (more, is) =
 
 pub one_front : OneFront
 one_front Bin kind input es es' end h k = front_items Bin kind input input es es' end h k ([], sym h.says ∙ sym (append-nil h.bytes))
-one_front Json kind input es es' end h k = absurd k
+one_front Json kind input es es' end h k = front_json kind input es es' end h k
 one_front Hex kind input es es' end h (inl (bytes, says, k)) = front_items Hex kind input bytes es es' end h k (front_hex input h.bytes bytes h.says says)
 one_front Hex kind input es es' end h (inr (bytes, line, place, bad, k)) =
     let (end', items) = bad_items kind (bits bytes) es' line place end k in

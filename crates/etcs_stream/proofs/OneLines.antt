@@ -1,13 +1,13 @@
 -- A text is lines in one way.
 use Rattle.std.proofs.Common.{◌≡◌, ℕ, ◌+◌, ◌-◌, Bool, true, false, cond, eqb, ltb, List, [], ◌∷◌, ◌++◌, length, take, get_or, Option, Some, None, refl, sym, ap, subst, ◌∙◌, arith, append_assoc, inl, inr}
-use Rattle.std.specs.Prelude.{◌⊎◌, ◌&&◌, slice_index}
+use Rattle.std.specs.Prelude.{◌⊎◌, ◌&&◌, slice_index, All}
 use Rattle.std.specs.Io.BufRead.{ends_with_byte}
 use Rattle.std.proofs.lemmas.Bool.{cases_lt, eqb-true}
 use Rattle.std.proofs.lemmas.List.{get_or-take, get_or_default, length-take-le, append-nil}
-use Rattle.std.proofs.lemmas.List.Elements.{All-tail}
+use Rattle.std.proofs.lemmas.List.Elements.{All-nil, All-cons, All-head, All-tail}
 use Rattle.hex.specs.Hex.{is_hex_digit}
-use Rattle.etcs_stream.specs.Lines.{bad_place, strip_cr, line_bytes, lines_text, lines_bytes, AreGood, IsHexText}
-use Rattle.etcs_stream.specs.Inputs.{IsLine, IsBad, SaysSoFar, SaysFirst}
+use Rattle.etcs_stream.specs.Lines.{IsLine, bad_place, strip_cr, line_bytes, lines_text, lines_bytes, AreGood, IsHexText}
+use Rattle.etcs_stream.specs.Inputs.{IsBad, SaysSoFar, SaysFirst}
 use Rattle.etcs_stream.specs.declared.job.Form.TheVariants.{Hex}
 use Rattle.etcs_stream.proofs.HexDigits.{good_digits}
 use Rattle.etcs_stream.proofs.Cutting.{lines_bytes-append}
@@ -65,6 +65,37 @@ has_lf [] (d ∷ y) u h e = absurd cc
 has_lf (c ∷ x) [] u h e = let f : c ≡ 10 = cc in head_line c x h f
 has_lf (c ∷ x) (d ∷ y) u h e = let tails : x ≡ y ++ 10 ∷ u = cc in has_lf x y u (tail_line c x h) tails
 
+-- ---- Lines, and what is behind the last of them.
+
+pub first_of : (line : List ℕ) (lines : List (List ℕ)) (t : List ℕ) → lines_text (line ∷ lines) ++ t ≡ line ++ 10 ∷ (lines_text lines ++ t)
+first_of line lines t = append_assoc (line ++ 10 ∷ []) (lines_text lines) t ∙ append_assoc line (10 ∷ []) (lines_text lines ++ t)
+
+-- the lines of one are the first of the other
+pub record Longer (lines lines' : List (List ℕ)) (t t' : List ℕ) : Type 0 where
+  pub more : List (List ℕ)
+  pub lines_are : lines' ≡ lines ++ more
+  pub text_is : t ≡ lines_text more ++ t'
+  pub are_lines : All IsLine more
+
+longer_behind : (line line' : List ℕ) (lines lines' : List (List ℕ)) (t t' : List ℕ) → line ≡ line' → Longer lines lines' t t' → Longer (line ∷ lines) (line' ∷ lines') t t'
+longer_behind line line' lines lines' t t' same l = record {
+  more = l.more;
+  lines_are = let tails = l.lines_are in cc;
+  text_is = l.text_is;
+  are_lines = l.are_lines;
+}
+
+-- of two splits of one text
+pub fronts : (lines lines' : List (List ℕ)) (t t' : List ℕ) → All IsLine lines → All IsLine lines' → lines_text lines ++ t ≡ lines_text lines' ++ t' → Longer lines lines' t t' ⊎ Longer lines' lines t' t
+fronts [] lines' t t' h h' e = inl (record { more = lines'; lines_are = refl; text_is = e; are_lines = h' })
+fronts (line ∷ lines) [] t t' h h' e = inr (record { more = line ∷ lines; lines_are = refl; text_is = sym e; are_lines = h })
+fronts (line ∷ lines) (line' ∷ lines') t t' h h' e =
+    let same = cut_lf line line' (lines_text lines ++ t) (lines_text lines' ++ t') (All-head IsLine line lines h) (All-head IsLine line' lines' h') (sym (first_of line lines t) ∙ e ∙ first_of line' lines' t') in
+    elim (fronts lines lines' t t' (All-tail IsLine line lines h) (All-tail IsLine line' lines' h') same.1) [
+      | inl l ↦ inl (longer_behind line line' lines lines' t t' same.0 l)
+      | inr l ↦ inr (longer_behind line' line lines' lines t' t (sym same.0) l)
+    ]
+
 -- ---- Good lines, and what is behind the last of them.
 
 -- it doesn't begin with one more
@@ -82,42 +113,38 @@ bad_next bad behind place h is line rest good e =
     let also : bad_place (strip_cr bad) ≡ None = ap (λ (z : List ℕ). bad_place (strip_cr z)) same.0 ∙ good in
     absurd cc
 
-first_of : (line : List ℕ) (lines : List (List ℕ)) (t : List ℕ) → lines_text (line ∷ lines) ++ t ≡ line ++ 10 ∷ (lines_text lines ++ t)
-first_of line lines t = append_assoc (line ++ 10 ∷ []) (lines_text lines) t ∙ append_assoc line (10 ∷ []) (lines_text lines ++ t)
-
-record Longer (lines lines' : List (List ℕ)) (t t' : List ℕ) : Type 0 where
-  more : List (List ℕ)
-  lines_are : lines' ≡ lines ++ more
-  text_is : t ≡ lines_text more ++ t'
-  good : AreGood more
-
--- the lines of one are the first of the other
-longer : (lines lines' : List (List ℕ)) (t t' : List ℕ) → AreGood lines → AreGood lines' → NoMore t' → lines_text lines ++ t ≡ lines_text lines' ++ t' → Longer lines lines' t t'
-unfolding NoMore
-longer [] lines' t t' g g' last e = record { more = lines'; lines_are = refl; text_is = e; good = g' }
-longer (line ∷ lines) [] t t' g g' last e = absurd (last line (lines_text lines ++ t) g.0 (sym e ∙ first_of line lines t))
-longer (line ∷ lines) (line' ∷ lines') t t' g g' last e =
-    let same = cut_lf line line' (lines_text lines ++ t) (lines_text lines' ++ t') (good_line line g.0) (good_line line' g'.0) (sym (first_of line lines t) ∙ e ∙ first_of line' lines' t') in
-    let rest = longer lines lines' t t' g.1 g'.1 last same.1 in
-    record {
-      more = rest.more;
-      lines_are = let tails = rest.lines_are in let heads = same.0 in cc;
-      text_is = rest.text_is;
-      good = rest.good;
-    }
-
 no_lines : (more : List (List ℕ)) (t t' : List ℕ) → AreGood more → NoMore t → t ≡ lines_text more ++ t' → more ≡ []
 unfolding NoMore
 no_lines [] t t' g last e = refl
 no_lines (line ∷ more) t t' g last e = absurd (last line (lines_text more ++ t') g.0 (e ∙ first_of line more t'))
 
-one_way : (lines lines' : List (List ℕ)) (t t' : List ℕ) → AreGood lines → AreGood lines' → NoMore t → NoMore t' → lines_text lines ++ t ≡ lines_text lines' ++ t' → (lines ≡ lines') × (t ≡ t')
-one_way lines lines' t t' g g' last last' e =
-    let l = longer lines lines' t t' g g' last' e in
-    let none = no_lines l.more t t' l.good last l.text_is in (
+all_lines : (lines : List (List ℕ)) → AreGood lines → All IsLine lines
+all_lines [] g = All-nil IsLine
+all_lines (line ∷ lines) g = All-cons IsLine line lines (good_line line g.0) (all_lines lines g.1)
+
+good_behind : (lines more : List (List ℕ)) → AreGood (lines ++ more) → AreGood more
+good_behind [] more g = g
+good_behind (line ∷ lines) more g = good_behind lines more g.1
+
+-- two splits into good lines, of which one ends at the last of them
+same_split : (lines lines' : List (List ℕ)) (t t' : List ℕ) → AreGood lines' → NoMore t → Longer lines lines' t t' → (lines ≡ lines') × (t ≡ t')
+same_split lines lines' t t' g last l =
+    let none = no_lines l.more t t' (good_behind lines l.more (subst AreGood l.lines_are g)) last l.text_is in (
       sym (l.lines_are ∙ ap (λ (z : List (List ℕ)). lines ++ z) none ∙ append-nil lines),
       l.text_is ∙ ap (λ (z : List (List ℕ)). lines_text z ++ t') none,
     )
+
+-- the lines of one are the first of the other, which ends at the last of them
+longer : (lines lines' : List (List ℕ)) (t t' : List ℕ) → AreGood lines → AreGood lines' → NoMore t' → lines_text lines ++ t ≡ lines_text lines' ++ t' → Longer lines lines' t t'
+longer lines lines' t t' g g' last e = elim (fronts lines lines' t t' (all_lines lines g) (all_lines lines' g') e) [
+  | inl l ↦ l
+  | inr l ↦
+      let same = same_split lines' lines t' t g last l in
+      record { more = []; lines_are = same.0 ∙ sym (append-nil lines); text_is = sym same.1; are_lines = All-nil IsLine }
+]
+
+one_way : (lines lines' : List (List ℕ)) (t t' : List ℕ) → AreGood lines → AreGood lines' → NoMore t → NoMore t' → lines_text lines ++ t ≡ lines_text lines' ++ t' → (lines ≡ lines') × (t ≡ t')
+one_way lines lines' t t' g g' last last' e = same_split lines lines' t t' g' last (longer lines lines' t t' g g' last' e)
 
 -- ---- What a text says.
 

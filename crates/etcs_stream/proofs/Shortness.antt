@@ -4,22 +4,23 @@ use Rattle.std.specs.Prelude.{OnOk, IfOk, IfErr}
 use Rattle.etcs_text.specs.declared.entry.Kind.{Kind}
 use Rattle.etcs_text.specs.Entries.{EntryValue}
 use Rattle.etcs_stream.specs.Tellers.{nothing_told}
-use Rattle.etcs_stream.proofs.TellLengths.{are_read, items_short, last_short}
+use Rattle.etcs_stream.proofs.TellLengths.{items_short, last_short}
 use Rattle.etcs_stream.specs.declared.job.Job.{Job}
 use Rattle.etcs_stream.specs.declared.job.Tally.{Tally}
 use Rattle.etcs_stream.specs.declared.fault.RunFault.{RunFault}
 use Rattle.etcs_stream.specs.Faults.{IsOfEngine}
-use Rattle.etcs_stream.specs.Inputs.{ended, FirstItems}
+use Rattle.etcs_stream.specs.Inputs.{ended}
 use Rattle.etcs_stream.specs.Engines.{Tells, Ends, Stops, StopsAtEnd, Prints}
-use Rattle.etcs_stream.proofs.Printing.{all_first, tells_prints, end_prints, stops_prints}
+use Rattle.etcs_stream.proofs.Printing.{all_first, first_read, tells_prints, end_prints, stops_prints}
 
 module _ (job : Job) (given told text : List ℕ) where
   prints_short : Prints job given (told ++ text) → length told + length text < 2 ^ 62
   prints_short h =
-      let few : nothing_told.count + length h.0 ≤ 1000000 = omega (arith, h.1.few) in
-      let short = items_short job.command job.kind nothing_told h.0 (told ++ text) h.2.0 (are_read job.kind h.0 h.1.spelt h.1.are_spelled) few h.2.1 in
+      let first = first_read job.from job.kind given h.0 h.1 in
+      let few : nothing_told.count + length h.0 ≤ 1000000 = omega (arith, first.0) in
+      let short = items_short job.command job.kind nothing_told h.0 (told ++ text) h.2.0 first.1 few h.2.1 in
       let bound : 2097152 * 1000000 < 2 ^ 62 = omega arith in
-      omega (arith, short, h.1.few, bound, length-append told text)
+      omega (arith, short, first.0, bound, length-append told text)
 
   -- behind a piece
   pub fed_short : (job' : Job) (answer : Result Unit RunFault) (Stands : Type 0) → job' ≡ job → OnOk answer Stands → (Stands → Tells job' given (told ++ text)) → IfErr answer (λ e. IsOfEngine e × Stops job given (told ++ text) e) → length told + length text < 2 ^ 62
@@ -33,12 +34,12 @@ module _ (job : Job) (given told text : List ℕ) where
   -- at the end of the input
   whole_short : (tally : Tally) → Ends job given (told ++ text) tally → length told + length text < 2 ^ 62
   whole_short tally h =
-      let first : FirstItems job.from job.kind given h.items = all_first job.from job.kind given h.items ended h.items_of in
-      let few : nothing_told.count + length h.items ≤ 1000000 = omega (arith, first.few) in
-      let short = items_short job.command job.kind nothing_told h.items h.lines h.after (are_read job.kind h.items first.spelt first.are_spelled) few h.text in
+      let first = first_read job.from job.kind given h.items (all_first job.from job.kind given h.items ended h.items_of) in
+      let few : nothing_told.count + length h.items ≤ 1000000 = omega (arith, first.0) in
+      let short = items_short job.command job.kind nothing_told h.items h.lines h.after first.1 few h.text in
       let last = last_short job.command h.items h.lines h.after h.last tally h.text h.closes in
       let bound : 2097152 * 1000000 + 2 ^ 40 < 2 ^ 62 = omega arith in
-      omega (arith, short, first.few, bound, last, length-append told text, ap length h.told_is, length-append h.lines h.last)
+      omega (arith, short, first.0, bound, last, length-append told text, ap length h.told_is, length-append h.lines h.last)
 
   pub fault_short : {A : Type 0} (answer : Result A RunFault) (f : RunFault) → answer ≡ Err f → IfErr answer (λ e. IsOfEngine e × StopsAtEnd job given (told ++ text) e) → length told + length text < 2 ^ 62
   fault_short (Ok tally) f is err = absurd cc

@@ -12,15 +12,17 @@ use Rattle.etcs_text.specs.declared.entry.Kind.{Kind}
 use Rattle.etcs_text.specs.Entries.{EntryValue, EntryReads}
 use Rattle.etcs_stream.specs.Told.{Told}
 use Rattle.etcs_stream.specs.Tellers.{TellsItems, ItemsText, nothing_told}
+use Rattle.etcs_stream.specs.declared.job.Form.{Form}
+use Rattle.etcs_stream.specs.declared.job.Form.TheVariants.{Hex, Bin, Json}
 use Rattle.etcs_stream.specs.declared.job.Job.{Job}
 use Rattle.etcs_stream.specs.declared.fault.RunFault.{RunFault}
-use Rattle.etcs_stream.specs.declared.fault.RunFault.TheVariants.{Refused, Truncated, BadHex, Read, Write, Endless, Memory}
+use Rattle.etcs_stream.specs.declared.fault.RunFault.TheVariants.{Refused, Truncated, BadHex, BadJson, Read, Write, Endless, Memory}
 use Rattle.etcs_stream.specs.Faults.{IsOfEngine}
 use Rattle.etcs_stream.specs.Streams.{AreSpelled}
 use Rattle.etcs_stream.specs.Readers.{HasRoom}
 use Rattle.etcs_stream.specs.Steps.{Advances, Halts, HaltsBy}
 use Rattle.etcs_stream.specs.Stands.{ItemsStand}
-use Rattle.etcs_stream.specs.Inputs.{End, ended, refused, truncated, bad_hex, endless, BitItems, FirstItems, SaysFirst, ItemsOf}
+use Rattle.etcs_stream.specs.Inputs.{End, ended, refused, truncated, bad_hex, bad_json, endless, BitItems, FirstBytes, FirstItems, SaysFirst, ItemsOf}
 use Rattle.etcs_stream.specs.Engines.{EndsBy, Stops, StopsAtEnd}
 use Rattle.etcs_stream.proofs.ItemKinds.{Language, kind_regular}
 use Rattle.etcs_bits.proofs.ByteBits.{bits-append}
@@ -97,9 +99,15 @@ stand_nothing job seen s e n none = record {
   text = (refl, n);
 }
 
+-- an input that says bytes isn't JSON
+pub first_bytes : (form : Form) (kind : Kind) (given : List ℕ) (es : List EntryValue) → FirstBytes form kind given es → FirstItems form kind given es
+first_bytes Hex kind given es h = h
+first_bytes Bin kind given es h = h
+first_bytes Json kind given es h = absurd h.says
+
 -- the items that were told are the first of an input that says the bytes first
 pub stand_first : (job : Job) (seen : List Bool) (s : Told) (given bytes told : List ℕ) (h : ItemsStand job seen s bytes told) → SaysFirst job.from given bytes → FirstItems job.from job.kind given h.items
-stand_first job seen s given bytes told h says = record { bytes = bytes; says = says; spelt = h.spelt; rest = seen; are_spelled = h.are_spelled; bits_are = h.bits_are; few = omega (arith, h.few, h.count_is) }
+stand_first job seen s given bytes told h says = first_bytes job.from job.kind given h.items (record { bytes = bytes; says = says; spelt = h.spelt; rest = seen; are_spelled = h.are_spelled; bits_are = h.bits_are; few = omega (arith, h.few, h.count_is) })
 
 -- ---- The items end in each longer input.
 
@@ -109,6 +117,7 @@ IsEarly ended = ⊥
 IsEarly (refused i x) = Unit {0}
 IsEarly (truncated k) = ⊥
 IsEarly (bad_hex line place) = ⊥
+IsEarly (bad_json line) = ⊥
 IsEarly endless = Unit {0}
 
 -- the items of the bytes, with any bits behind them, end by the fault
@@ -147,6 +156,7 @@ module _ (job : Job) (bytes told : List ℕ) where
   )
   ends_early (Truncated item k) h = absurd h.why
   ends_early (BadHex line place) h = absurd h.why
+  ends_early (BadJson line) h = absurd h.why
   ends_early Read h = absurd h.why
   ends_early (Write sent) h = absurd h.why
   ends_early Endless h = (
@@ -168,7 +178,7 @@ module _ (job : Job) (bytes told : List ℕ) where
   ends_early Memory h = (tt, inl refl)
 
   pub halt_first : (fault : RunFault) (given : List ℕ) (h : ItemsHalt job bytes told fault) → SaysFirst job.from given bytes → FirstItems job.from job.kind given h.items
-  halt_first fault given h says = record { bytes = bytes; says = says; spelt = h.spelt; rest = h.rest; are_spelled = h.are_spelled; bits_are = h.bits_are; few = h.few }
+  halt_first fault given h says = first_bytes job.from job.kind given h.items (record { bytes = bytes; says = says; spelt = h.spelt; rest = h.rest; are_spelled = h.are_spelled; bits_are = h.bits_are; few = h.few })
 
 -- from the items of the bytes to those of the input that says them
 pub halt_stops : (job : Job) (given bytes told : List ℕ) (fault : RunFault) → ItemsHalt job bytes told fault → SaysFirst job.from given bytes → ((more : List ℕ) (es : List EntryValue) (end : End) → IsEarly end → ((b : List Bool) → BitItems job.kind (bits bytes ++ b) es end) → ItemsOf job.from job.kind (given ++ more) es end) → IsOfEngine fault × Stops job given told fault

@@ -6,8 +6,8 @@ use Rattle.etcs_stream.specs.Tellers.{TellsItems, ItemsText, Closes, nothing_tol
 use Rattle.etcs_stream.specs.declared.job.Job.{Job}
 use Rattle.etcs_stream.specs.declared.job.Tally.{Tally}
 use Rattle.etcs_stream.specs.declared.fault.RunFault.{RunFault}
-use Rattle.etcs_stream.specs.declared.fault.RunFault.TheVariants.{Refused, Truncated, BadHex, Endless, Memory}
-use Rattle.etcs_stream.specs.Inputs.{End, ended, refused, truncated, bad_hex, endless, ItemsOf, WholeItems, FirstItems}
+use Rattle.etcs_stream.specs.declared.fault.RunFault.TheVariants.{Refused, Truncated, BadHex, BadJson, Endless, Memory}
+use Rattle.etcs_stream.specs.Inputs.{End, ended, refused, truncated, bad_hex, bad_json, endless, ItemsOf, WholeItems, FirstItems}
 
 -- the fault by which the items of an input end, behind so many of them
 abbrev pub EndsBy : ℕ → End → RunFault → Type 0
@@ -15,6 +15,7 @@ EndsBy n ended f = ⊥
 EndsBy n (refused i x) f = f ≡ Refused (n + 1) i x
 EndsBy n (truncated k) f = f ≡ Truncated (n + 1) k
 EndsBy n (bad_hex line place) f = f ≡ BadHex line place
+EndsBy n (bad_json line) f = f ≡ BadJson line
 EndsBy n endless f = f ≡ Endless
 
 -- the text of the items that are whole in what is there of the input

@@ -1,5 +1,5 @@
 -- What the items of an input are, and how it ends.
-use Rattle.std.specs.Prelude.{◌≡◌, ℕ, ◌+◌, ◌<◌, ◌≤◌, Bool, List, [], ◌∷◌, ◌++◌, length, ◌⊎◌, Some, All}
+use Rattle.std.specs.Prelude.{◌≡◌, ℕ, ◌+◌, ◌<◌, ◌≤◌, Bool, List, [], ◌∷◌, ◌++◌, length, ◌⊎◌, Some}
 use Rattle.etcs_bits.specs.Bits.{bits}
 use Rattle.etcs_vars.specs.declared.var.Var.{Var}
 use Rattle.etcs_vars.specs.Reading as reading
@@ -8,16 +8,18 @@ use Rattle.etcs_text.specs.declared.entry.Kind.{Kind}
 use Rattle.etcs_stream.specs.declared.job.Form.{Form}
 use Rattle.etcs_stream.specs.declared.job.Form.TheVariants.{Hex, Bin, Json}
 use Rattle.etcs_text.specs.Entries.{EntryValue, EntryReads}
-use Rattle.etcs_stream.specs.Lines.{bad_place, strip_cr, lines_text, lines_bytes, AreGood, IsHexText}
+use Rattle.etcs_stream.specs.Lines.{IsLine, bad_place, strip_cr, lines_text, lines_bytes, AreGood, IsHexText}
+use Rattle.etcs_stream.specs.JsonItems.{EndedJson, BadJsonLine, EndlessJson, WholeJson, FirstJson}
 use Rattle.etcs_stream.specs.Streams.{AreSpelled}
 
 -- how the items of an input end: with the input; at a bit of an item, which the variable holds; inside an item, after so
--- many bits of it; at a place of a line; at a byte behind the last item that a run may have
+-- many bits of it; at a place of a line; in a line of JSON; at a byte behind the last item that a run may have
 pub data End : Type 0 where
   ended : End
   refused : ℕ → Var → End
   truncated : ℕ → End
   bad_hex : ℕ → ℕ → End
+  bad_json : ℕ → End
   endless : End
 
 -- the bits behind so many items end so
@@ -26,6 +28,7 @@ EndsWith kind n rest ended = rest ≡ []
 EndsWith kind n rest (refused i x) = (n < 1000000) × IsOutcome (EntryReads kind) rest (reading.refused i x)
 EndsWith kind n rest (truncated k) = (n < 1000000) × (k ≡ length rest) × (0 < k) × IsOutcome (EntryReads kind) rest reading.more
 EndsWith kind n rest (bad_hex line place) = ⊥
+EndsWith kind n rest (bad_json line) = ⊥
 EndsWith kind n rest endless = (n ≡ 1000000) × (0 < length rest)
 
 -- these items stand one behind the other in the bits, which then end so
@@ -36,10 +39,6 @@ pub record BitItems (kind : Kind) (b : List Bool) (es : List EntryValue) (end : 
   pub bits_are : b ≡ spelt ++ rest
   pub few : length es ≤ 1000000
   pub ends : EndsWith kind (length es) rest end
-
--- no LF
-abbrev pub IsLine : List ℕ → Type 0
-IsLine line = All (λ c. c ≡ 10 → ⊥) line
 
 -- the line of this number is the first that isn't hexadecimal, by its character at this place, and the lines before it say
 -- these bytes
@@ -59,26 +58,36 @@ BadItems kind b es line place ended = ⊥
 BadItems kind b es line place (refused i x) = BitItems kind b es (refused i x)
 BadItems kind b es line place (truncated k) = ⊥
 BadItems kind b es line place (bad_hex l p) = (l ≡ line) × (p ≡ place) × (BitItems kind b es ended ⊎ ((k : ℕ) × BitItems kind b es (truncated k)))
+BadItems kind b es line place (bad_json l) = ⊥
 BadItems kind b es line place endless = BitItems kind b es endless
 
--- the items of an input of this form, and how it ends. A line is checked before any of its bytes is used. JSON isn't read
+-- the items of lines of JSON
+abbrev pub JsonItems : Kind → List ℕ → List EntryValue → End → Type 0
+JsonItems kind input es ended = EndedJson kind input es
+JsonItems kind input es (refused i x) = ⊥
+JsonItems kind input es (truncated k) = ⊥
+JsonItems kind input es (bad_hex line place) = ⊥
+JsonItems kind input es (bad_json line) = BadJsonLine kind input es line
+JsonItems kind input es endless = EndlessJson kind input es
+
+-- the items of an input of this form, and how it ends. A line is checked before any of its bytes is used
 abbrev pub ItemsOf : Form → Kind → List ℕ → List EntryValue → End → Type 0
 ItemsOf Bin kind input es end = BitItems kind (bits input) es end
-ItemsOf Json kind input es end = ⊥
+ItemsOf Json kind input es end = JsonItems kind input es end
 ItemsOf Hex kind input es end =
     ((bytes : List ℕ) × IsHexText input bytes × BitItems kind (bits bytes) es end)
     ⊎ ((bytes : List ℕ) × (line : ℕ) × (place : ℕ) × IsBad input bytes line place × BadItems kind (bits bytes) es line place end)
 
 -- ---- The front of an input.
 
--- what is there of an input says these bytes: of lines, those that have a LF
+-- what is there of an input, which isn't JSON, says these bytes: of lines, those that have a LF
 abbrev pub SaysSoFar : Form → List ℕ → List ℕ → Type 0
 SaysSoFar Bin given bytes = bytes ≡ given
 SaysSoFar Json given bytes = ⊥
 SaysSoFar Hex given bytes = (lines : List (List ℕ)) × (rest : List ℕ) × (given ≡ lines_text lines ++ rest) × AreGood lines × IsLine rest × (bytes ≡ lines_bytes lines)
 
--- these are all items that are whole in what is there
-pub record WholeItems (form : Form) (kind : Kind) (given : List ℕ) (es : List EntryValue) : Type 0 where
+-- these are all items that are whole there
+pub record WholeBytes (form : Form) (kind : Kind) (given : List ℕ) (es : List EntryValue) : Type 0 where
   pub bytes : List ℕ
   pub says : SaysSoFar form given bytes
   pub spelt : List Bool
@@ -88,14 +97,20 @@ pub record WholeItems (form : Form) (kind : Kind) (given : List ℕ) (es : List 
   pub few : length es ≤ 1000000
   pub none_more : NoneYet (readings_of (EntryReads kind)) rest
 
+-- these are all items that are whole in what is there
+abbrev pub WholeItems : Form → Kind → List ℕ → List EntryValue → Type 0
+WholeItems Hex kind given es = WholeBytes Hex kind given es
+WholeItems Bin kind given es = WholeBytes Bin kind given es
+WholeItems Json kind given es = WholeJson kind given es
+
 -- some lines at its front say these bytes, the last of them perhaps without a LF
 abbrev pub SaysFirst : Form → List ℕ → List ℕ → Type 0
 SaysFirst Bin given bytes = bytes ≡ given
 SaysFirst Json given bytes = ⊥
 SaysFirst Hex given bytes = ((lines : List (List ℕ)) × (rest : List ℕ) × (given ≡ lines_text lines ++ rest) × AreGood lines × (bytes ≡ lines_bytes lines)) ⊎ IsHexText given bytes
 
--- these are the first items of an input that begins so
-pub record FirstItems (form : Form) (kind : Kind) (given : List ℕ) (es : List EntryValue) : Type 0 where
+-- these are the first items of bytes that begin so
+pub record FirstBytes (form : Form) (kind : Kind) (given : List ℕ) (es : List EntryValue) : Type 0 where
   pub bytes : List ℕ
   pub says : SaysFirst form given bytes
   pub spelt : List Bool
@@ -103,3 +118,9 @@ pub record FirstItems (form : Form) (kind : Kind) (given : List ℕ) (es : List 
   pub are_spelled : AreSpelled kind es spelt
   pub bits_are : bits bytes ≡ spelt ++ rest
   pub few : length es ≤ 1000000
+
+-- these are the first items of an input that begins so
+abbrev pub FirstItems : Form → Kind → List ℕ → List EntryValue → Type 0
+FirstItems Hex kind given es = FirstBytes Hex kind given es
+FirstItems Bin kind given es = FirstBytes Bin kind given es
+FirstItems Json kind given es = FirstJson kind given es

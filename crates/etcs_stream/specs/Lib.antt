@@ -6,6 +6,7 @@ pub mod Streams
 pub mod Told
 pub mod Groups
 pub mod Tellers
+pub mod JsonItems
 pub mod Steps
 pub mod Inputs
 pub mod Engines

@@ -1,9 +1,21 @@
--- Lines of hexadecimal digits, and the bytes that they say.
-use Rattle.std.specs.Prelude.{◌≡◌, ℕ, ◌%◌, List, [], ◌∷◌, ◌++◌, length, Option, Some, None, nat_lt, not, ◌==◌, if◌then◌else◌, flat_map}
+-- Lines, and the bytes that those of hexadecimal digits say.
+use Rattle.std.specs.Prelude.{◌≡◌, ℕ, ◌%◌, List, [], ◌∷◌, ◌++◌, length, Option, Some, None, nat_lt, not, ◌==◌, if◌then◌else◌, flat_map, All}
 use Rattle.std.specs.List.{position}
 use Rattle.std.specs.Io.BufRead.{strip_last}
 use Rattle.std.specs.Result.{result_unwrap_or}
+use Rattle.etcs_stream.specs.declared.job.Form.{Form}
+use Rattle.etcs_stream.specs.declared.job.Form.TheVariants.{Hex, Bin, Json}
 use Rattle.hex.specs.Hex.{is_hex_digit, decode_of}
+
+-- no LF
+abbrev pub IsLine : List ℕ → Type 0
+IsLine line = All (λ c. c ≡ 10 → ⊥) line
+
+-- how many characters a line of an input has at most
+abbrev pub most_characters : Form → ℕ
+most_characters Hex = 4096
+most_characters Bin = 0
+most_characters Json = 1048576
 
 -- the place at which a line isn't hexadecimal: it is too long, odd, or has another character
 abbrev pub bad_place : List ℕ → Option ℕ

@@ -1,14 +1,14 @@
 -- What was told of the bytes that an engine was fed.
-use Rattle.std.specs.Prelude.{◌≡◌, ℕ, ◌≤◌, Bool, List, ◌++◌, length}
+use Rattle.std.specs.Prelude.{◌≡◌, ℕ, ◌≤◌, Bool, List, ◌++◌, length, map, All}
 use Rattle.etcs_bits.specs.Bits.{bits}
 use Rattle.etcs_vars.specs.Reading.{NoneYet, readings_of}
-use Rattle.etcs_stream.specs.declared.job.Form.TheVariants.{Hex, Bin}
+use Rattle.etcs_stream.specs.declared.job.Form.TheVariants.{Hex, Bin, Json}
 use Rattle.etcs_text.specs.Entries.{EntryValue, EntryReads}
 use Rattle.etcs_stream.specs.Told.{Told}
 use Rattle.etcs_stream.specs.Tellers.{TellsItems, nothing_told}
 use Rattle.etcs_stream.specs.declared.job.Job.{Job}
-use Rattle.etcs_stream.specs.Lines.{lines_text, lines_bytes, AreGood}
-use Rattle.etcs_stream.specs.Inputs.{IsLine}
+use Rattle.etcs_stream.specs.Lines.{IsLine, strip_cr, lines_text, lines_bytes, AreGood}
+use Rattle.etcs_stream.specs.JsonItems.{AreItemLines}
 use Rattle.etcs_stream.specs.Readers.{ReaderValue, Awaits, HasRoom, seen_bits}
 use Rattle.etcs_stream.specs.Streams.{AreSpelled}
 
@@ -38,3 +38,30 @@ pub record HexStands (job : Job) (reader : ReaderValue) (after : Told) (kept : L
   pub is_line : IsLine kept
   pub line_is : line ≡ length lines
   pub items : ItemsStand job (seen_bits reader.stage) after (lines_bytes lines) told
+
+-- ---- Lines.
+
+-- the bytes are lines, of which the last has no LF yet; the others were taken, and this text was told of them
+pub record LinesStand (Took : List (List ℕ) → List ℕ → Type 0) (kept : List ℕ) (line : ℕ) (given told : List ℕ) : Type 0 where
+  pub lines : List (List ℕ)
+  pub given_is : given ≡ lines_text lines ++ kept
+  pub is_line : IsLine kept
+  pub line_is : line ≡ length lines
+  pub took : Took lines told
+
+-- lines of hexadecimal were taken
+pub record HexTook (job : Job) (reader : ReaderValue) (after : Told) (lines : List (List ℕ)) (told : List ℕ) : Type 0 where
+  pub form : job.from ≡ Hex
+  pub waits : Awaits job.kind reader
+  pub lines_good : AreGood lines
+  pub items : ItemsStand job (seen_bits reader.stage) after (lines_bytes lines) told
+
+-- lines of JSON were
+pub record JsonTook (job : Job) (after : Told) (lines : List (List ℕ)) (told : List ℕ) : Type 0 where
+  pub form : job.from ≡ Json
+  pub are_lines : All IsLine lines
+  pub items : List EntryValue
+  pub are_items : AreItemLines job.kind (map strip_cr lines) items
+  pub count_is : after.count ≡ length items
+  pub few : after.count ≤ 1000000
+  pub text : TellsItems job.command nothing_told items told after

@@ -1,5 +1,5 @@
 -- How a run goes on with each piece that it is given, and how it ends early.
-use Rattle.std.specs.Prelude.{◌≡◌, ℕ, ◌+◌, ◌<◌, ◌≤◌, Bool, List, ◌++◌, length}
+use Rattle.std.specs.Prelude.{◌≡◌, ℕ, ◌+◌, ◌<◌, ◌≤◌, Bool, List, [], ◌++◌, length}
 use Rattle.etcs_bits.specs.Bits.{bits}
 use Rattle.etcs_vars.specs.Reading.{readings_of}
 use Rattle.etcs_vars.specs.Walking.{Refuses}
@@ -7,9 +7,11 @@ use Rattle.etcs_text.specs.declared.entry.Kind.{Kind}
 use Rattle.etcs_stream.specs.declared.job.Command.{Command}
 use Rattle.etcs_text.specs.Entries.{EntryValue, EntryReads}
 use Rattle.etcs_stream.specs.Told.{Told}
-use Rattle.etcs_stream.specs.Tellers.{TellsItems}
+use Rattle.etcs_stream.specs.Tellers.{TellsItem, TellsItems}
+use Rattle.etcs_stream.specs.declared.job.Job.{Job}
+use Rattle.etcs_stream.specs.JsonItems.{IsItemLine}
 use Rattle.etcs_stream.specs.declared.fault.RunFault.{RunFault}
-use Rattle.etcs_stream.specs.declared.fault.RunFault.TheVariants.{Refused, Truncated, BadHex, Read, Write, Endless, Memory}
+use Rattle.etcs_stream.specs.declared.fault.RunFault.TheVariants.{Refused, Truncated, BadHex, BadJson, Read, Write, Endless, Memory}
 use Rattle.etcs_stream.specs.Streams.{AreSpelled}
 
 -- with these bytes behind the bits seen before, some items became whole and were told, and bits are left
@@ -27,6 +29,7 @@ abbrev pub HaltsBy : Kind → ℕ → List Bool → RunFault → Type 0
 HaltsBy kind n rest (Refused item i x) = (item ≡ n + 1) × (n < 1000000) × Refuses (readings_of (EntryReads kind)) rest i x
 HaltsBy kind n rest (Truncated item k) = ⊥
 HaltsBy kind n rest (BadHex line place) = ⊥
+HaltsBy kind n rest (BadJson line) = ⊥
 HaltsBy kind n rest Read = ⊥
 HaltsBy kind n rest (Write sent) = ⊥
 HaltsBy kind n rest Endless = (n ≡ 1000000) × (0 < length rest)
@@ -45,3 +48,21 @@ pub record Halts (kind : Kind) (command : Command) (seen : List Bool) (before : 
   pub added_is : TellsItems command before told added after
   pub text_is : text' ≡ text ++ added
   pub why : HaltsBy kind (before.count + length told) rest fault
+
+-- ---- Lines of JSON.
+
+-- the item of a line was told; an empty line is none
+pub data TakesJson (job : Job) (line : List ℕ) (before after : Told) (text text' : List ℕ) : Type 0 where
+  empty_line : line ≡ [] → after ≡ before → text' ≡ text → TakesJson job line before after text text'
+  item_line : (e : EntryValue) (added : List ℕ) → IsItemLine job.kind line e → before.count < 1000000 → TellsItem job.command e before added after → text' ≡ text ++ added → TakesJson job line before after text text'
+
+-- why it wasn't
+abbrev pub HaltsJson : Job → List ℕ → ℕ → Told → RunFault → Type 0
+HaltsJson job line number before (Refused item i x) = ⊥
+HaltsJson job line number before (Truncated item k) = ⊥
+HaltsJson job line number before (BadHex l place) = ⊥
+HaltsJson job line number before (BadJson l) = (l ≡ number) × (0 < length line) × (before.count < 1000000) × ((e : EntryValue) → IsItemLine job.kind line e → ⊥)
+HaltsJson job line number before Read = ⊥
+HaltsJson job line number before (Write sent) = ⊥
+HaltsJson job line number before Endless = (before.count ≡ 1000000) × (0 < length line)
+HaltsJson job line number before Memory = Unit {0}

@@ -19,10 +19,6 @@ use Rattle.etcs_stream.specs.Told.{Told}
 abbrev pub IsGroupable : Job → Type 0
 IsGroupable job = job.command ≡ Group → job.kind ≡ Radio → ⊥
 
--- and lines of JSON aren't read
-abbrev pub IsRunnable : Job → Type 0
-IsRunnable job = IsGroupable job × (job.from ≡ Json → ⊥)
-
 abbrev pub nothing_told : Told
 nothing_told = record { count = 0; clashes = 0; held = replicate 8 None }
 

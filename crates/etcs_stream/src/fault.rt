@@ -21,6 +21,9 @@ pub enum RunFault {
     /// characters where it is odd, or 4,096 where the line is longer.
     #[error("line {line} is bad hexadecimal at {place}")]
     BadHex { line: u64, place: u64 },
+    /// A line isn't the JSON of an item of the kind, or is longer than 1,048,576 bytes.
+    #[error("line {line} is bad JSON")]
+    BadJson { line: u64 },
     /// The reader failed.
     #[error("the input could not be read")]
     Read,
@@ -54,6 +57,7 @@ pub fn write_fault<W: Write>(fault: &RunFault, out: &mut W) -> io::Result<()>
         RunFault::BadHex { line, place } => {
             write!(out, "etcs: line {line}: bad hexadecimal at {place}\n")
         }
+        RunFault::BadJson { line } => write!(out, "etcs: line {line}: bad JSON\n"),
         RunFault::Read => write!(out, "etcs: read fault\n"),
         RunFault::Write { sent } => write!(out, "etcs: write fault after {sent} bytes\n"),
         RunFault::Endless => write!(out, "etcs: input without end\n"),

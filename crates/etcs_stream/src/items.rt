@@ -16,7 +16,7 @@ use std::alloc::{AllocError, Global};
 use std::mem;
 
 /// How many items a run has at most.
-const MOST_ITEMS: u64 = 1_000_000;
+pub(crate) const MOST_ITEMS: u64 = 1_000_000;
 
 /// The item that isn't whole yet, and what was told.
 #[derive(Drop)]

@@ -1,4 +1,5 @@
-//! A run: it reads lines of hexadecimal from a source, and writes what they say to a sink.
+//! A run: it reads items from a source, as lines of hexadecimal, bytes or lines of JSON, and writes what a command says of
+//! them to a sink.
 #![tactic(auto)]
 
 mod bin;
@@ -8,8 +9,10 @@ mod engine;
 mod entries;
 mod fault;
 mod group_lines;
+mod hex_lines;
 mod items;
 mod job;
+mod json_lines;
 pub mod laws;
 mod lines;
 mod pump;
@@ -17,6 +20,7 @@ mod runs;
 mod teller;
 
 pub use ends::{Failed, Input, Output, Sink, Source};
+pub use etcs_json::{JsonFault, from_value, to_value};
 pub use etcs_text::{Entry, Kind, show_lines};
 pub use fault::{RunFault, write_fault};
 pub use job::{Command, Form, Job, Tally};

@@ -1,33 +1,68 @@
-//! Cuts text into lines of hexadecimal, and gives their bytes to the items.
+//! Cuts text into lines.
 
-ghost use Rattle.std.specs.Prelude.{◌≡◌, ◌+◌, ◌-◌, ◌^◌, ◌<◌, ◌≤◌, ◌⊎◌, ◌++◌, ◌∷◌, ℕ, [], None, Some, length, vec_len, IfSome, IfErr, OnOk, IsNone};
-ghost use Rattle.etcs_stream.specs.declared.job.Form.TheVariants as form;
-ghost use Rattle.etcs_stream.specs.declared.fault.RunFault.{RunFault};
-ghost use Rattle.etcs_stream.specs.Inputs.{IsLine};
-ghost use Rattle.etcs_stream.specs.Lines.{bad_place, line_bytes, strip_cr};
-ghost use Rattle.etcs_stream.specs.Readers.{Awaits, HasRoom, seen_bits};
-ghost use Rattle.etcs_stream.specs.Steps.{Advances, Halts};
-ghost use Rattle.etcs_stream.specs.Stands.{HexStands};
-ghost use Rattle.etcs_stream.specs.StandLaws.{hex_tells};
-ghost use Rattle.etcs_stream.specs.Tellers.{IsGroupable};
+ghost use Rattle.std.specs.Prelude.{◌≡◌, ◌+◌, ◌-◌, ◌^◌, ◌<◌, ◌≤◌, ◌++◌, ◌∷◌, ℕ, List, [], length, vec_len, IfSome, IfOk, IfErr, OnOk, IsNone};
+ghost use Rattle.etcs_stream.specs.Engines.{Ends, Stops, StopsAtEnd, Tells};
+ghost use Rattle.etcs_stream.specs.Faults.{IsOfEngine};
+ghost use Rattle.etcs_stream.specs.Lines.{IsLine, lines_text, most_characters, strip_cr};
+ghost use Rattle.etcs_stream.specs.StandLaws.{lines_tell};
+ghost use Rattle.etcs_stream.specs.Stands.{LinesStand};
 
-use crate::digits::{MOST_CHARACTERS, decode_line};
 use crate::engine::Engine;
 use crate::fault::RunFault;
-use crate::items::Items;
 use crate::job::{Job, Tally};
 use std::alloc::{AllocError, Global};
 
-/// How many characters of an unfinished line are kept at most: a good line and a CR.
-const MOST_KEPT: usize = MOST_CHARACTERS + 1;
+/// Takes the lines of a text one after the other, and tells the items in them.
+pub(crate) trait TakesLines {
+    ghost use Rattle.std.specs.Prelude.{◌≡◌, ◌+◌, ◌<◌, ℕ, List, [], ◌++◌, ◌∷◌, length};
+    ghost use Rattle.etcs_stream.specs.declared.job.Job.{Job};
+    ghost use Rattle.etcs_stream.specs.Engines.{Tells};
+    ghost use Rattle.etcs_stream.specs.Lines.{IsLine, lines_text, most_characters};
 
-/// The line that isn't whole yet, how many came before it, and the items.
+    ghost job: { Self → Job };
+
+    /// These lines were taken, and this text was told of them.
+    ghost took: { Self → List (List ℕ) → List ℕ → Type 0 };
+
+    /// How many characters a line has at most.
+    fn most(&self) -> usize
+        ensures { result ≡ most_characters (job self.now).from };
+
+    /// Takes the line of this number, which had a LF, and perhaps a CR before it.
+    ///
+    /// # Errors
+    ///
+    /// Where each input that begins so ends so, and `Memory`. The text of the items in front was appended.
+    fn take_line(&mut self, line: &[u8], number: u64, text: &mut Vec<u8>) -> Result<(), RunFault>
+        requires took { (lines : List (List ℕ)) × (told : List ℕ) × took self.old lines told }
+        ensures job { job self.new ≡ job self.old }
+        ensures ok { (lines : List (List ℕ)) (raw told : List ℕ) → took self.old lines (told ++ text.old.items) → IsLine raw → line.now ≡ strip_cr raw → OnOk result (took self.new (lines ++ raw ∷ []) (told ++ text.new.items)) }
+        ensures err { (lines : List (List ℕ)) (raw told : List ℕ) → took self.old lines (told ++ text.old.items) → IsLine raw → line.now ≡ strip_cr raw → number ≡ length lines + 1 → IfErr result (λ e. IsOfEngine e × Stops (job self.old) (lines_text lines ++ (raw ++ 10 ∷ [])) (told ++ text.new.items) e) };
+
+    /// Why the line of this number, of which there are more characters than a line and its CR have, isn't taken.
+    fn refuse_long(&self, number: u64) -> RunFault
+        ensures { (lines : List (List ℕ)) (part told : List ℕ) → took self.now lines told → IsLine part → most_characters (job self.now).from + 1 < length part → number ≡ length lines + 1 → IsOfEngine result × Stops (job self.now) (lines_text lines ++ part) told result };
+
+    /// Takes the last line, of this number, which may be empty and has no LF.
+    ///
+    /// # Errors
+    ///
+    /// As `take_line`, and `Truncated` inside an item.
+    fn take_last(&mut self, line: &[u8], number: u64, text: &mut Vec<u8>) -> Result<Tally, RunFault>
+        requires took { (lines : List (List ℕ)) × (told : List ℕ) × took self.old lines told }
+        requires empty { text.old.items ≡ [] }
+        ensures ok { (lines : List (List ℕ)) (told : List ℕ) → took self.old lines told → IsLine line.now → IfOk result (λ tally. Ends (job self.old) (lines_text lines ++ line.now) (told ++ text.new.items) tally) }
+        ensures err { (lines : List (List ℕ)) (told : List ℕ) → took self.old lines told → IsLine line.now → number ≡ length lines + 1 → IfErr result (λ e. IsOfEngine e × StopsAtEnd (job self.old) (lines_text lines ++ line.now) (told ++ text.new.items) e) };
+
+    ghost took_tells: { (t : Self) (lines : List (List ℕ)) (kept told : List ℕ) → took t lines told → IsLine kept → Tells (job t) (lines_text lines ++ kept) told };
+}
+
+/// The line that isn't whole yet, how many came before it, and what they are given to.
 #[derive(Drop)]
-pub(crate) struct Lines {
+pub(crate) struct Lines<T: TakesLines> {
     kept: Vec<u8>,
     line: u64,
-    items: Items,
-    ghost short: { vec_len kept ≤ 4097 },
+    taker: T,
 }
 
 /// The characters before the first LF, and those behind it.
@@ -51,64 +86,35 @@ fn without_cr(line: &[u8]) -> &[u8]
     }
 }
 
-/// Gives the bytes of a line to the items. The line is checked before any of it is used.
-fn take_line(
-    items: &mut Items,
-    line: &[u8],
-    number: u64,
-    text: &mut Vec<u8>,
-) -> Result<(), RunFault>
-    requires waits { Awaits items.old.job.kind items.old.reader }
-    requires told { items.old.teller.count ≤ 1000000 }
-    ensures job { items.new.job ≡ items.old.job }
-    ensures good { OnOk result (bad_place line.now ≡ None) }
-    ensures waits { OnOk result (Awaits items.old.job.kind items.new.reader) }
-    ensures told { OnOk result (items.new.teller.count ≤ 1000000) }
-    ensures room { HasRoom items.old.teller.count (seen_bits items.old.reader.stage) → OnOk result (HasRoom items.new.teller.count (seen_bits items.new.reader.stage)) }
-    ensures ok { OnOk result (Advances items.old.job.kind items.old.job.command (seen_bits items.old.reader.stage) (seen_bits items.new.reader.stage) items.old.teller items.new.teller (line_bytes line.now) text.old.items text.new.items) }
-    ensures err { IfErr result (λ e. ((place : ℕ) × (bad_place line.now ≡ Some place) × (e ≡ RunFault.BadHex number place) × (text.new.items ≡ text.old.items)) ⊎ ((bad_place line.now ≡ None) × Halts items.old.job.kind items.old.job.command (seen_bits items.old.reader.stage) items.old.teller (line_bytes line.now) text.old.items text.new.items e)) }
-{
-    if line.is_empty() {
-        return Ok(());
-    }
-    let mut room = [0u8; 2048];
-    match decode_line(line, &mut room) {
-        Ok(count) => items.take_bytes(&room[..count], text),
-        Err(place) => Err(RunFault::BadHex {
-            line: number,
-            place: place as u64,
-        }),
-    }
-}
-
-impl Lines {
+impl<T: TakesLines> Lines<T> {
     /// Nothing has come yet.
-    pub(crate) fn new(alloc: Global, job: Job) -> Lines
-        requires form { job.from ≡ form.Hex }
-        requires groupable { IsGroupable job }
-        ensures job { result.items.job ≡ job }
-        ensures stands { HexStands job result.items.reader result.items.teller result.kept.items result.line [] [] }
+    pub(crate) fn new(alloc: Global, taker: T) -> Lines<T>
+        requires { T.took taker [] [] }
+        ensures job { T.job result.taker ≡ T.job taker }
+        ensures stands { LinesStand (T.took result.taker) result.kept.items result.line [] [] }
     {
         Lines {
             kept: Vec::new(alloc),
             line: 0,
-            items: Items::new(alloc, job),
+            taker,
         }
     }
 
-    /// Keeps a part of a line.
+    /// Keeps a part of a line, of which no more is kept than a line and its CR have.
+    ///
+    /// # Errors
+    ///
+    /// That the line is too long, and `Memory`.
     fn keep(&mut self, part: &[u8]) -> Result<(), RunFault>
-        requires { self.old.line < 2 ^ 64 - 1 }
-        ensures kept { OnOk result (self.new.kept.items ≡ self.old.kept.items ++ part.now) }
+        requires stands { (given : List ℕ) × (told : List ℕ) × LinesStand (T.took self.old.taker) self.old.kept.items self.old.line given told × (length given < 2 ^ 40) }
+        ensures taker { self.new.taker ≡ self.old.taker }
         ensures line { self.new.line ≡ self.old.line }
-        ensures items { self.new.items ≡ self.old.items }
-        ensures err { IfErr result (λ e. (e ≡ RunFault.Memory) ⊎ ((4097 < length self.old.kept.items + length part.now) × (e ≡ RunFault.BadHex (self.old.line + 1) 4096))) }
+        ensures ok { (given told : List ℕ) → LinesStand (T.took self.old.taker) self.old.kept.items self.old.line given told → IsLine part.now → OnOk result (LinesStand (T.took self.new.taker) self.new.kept.items self.new.line (given ++ part.now) told) }
+        ensures err { (given told more : List ℕ) → LinesStand (T.took self.old.taker) self.old.kept.items self.old.line given told → IsLine part.now → IfErr result (λ e. IsOfEngine e × Stops (T.job self.old.taker) (given ++ (part.now ++ more)) told e) }
     {
-        if part.len() > MOST_KEPT - self.kept.len() {
-            return Err(RunFault::BadHex {
-                line: self.line + 1,
-                place: MOST_CHARACTERS as u64,
-            });
+        let room = (self.taker.most() + 1).saturating_sub(self.kept.len());
+        if part.len() > room {
+            return Err(self.taker.refuse_long(self.line + 1));
         }
         match self.kept.extend_from_slice(part) {
             Ok(()) => Ok(()),
@@ -116,52 +122,44 @@ impl Lines {
         }
     }
 
-    /// The kept line ends with a LF.
-    fn end_line(&mut self, text: &mut Vec<u8>) -> Result<(), RunFault>
-        requires line { self.old.line < 2 ^ 64 - 1 }
-        requires waits { Awaits self.old.items.job.kind self.old.items.reader }
-        requires told { self.old.items.teller.count ≤ 1000000 }
-        ensures job { self.new.items.job ≡ self.old.items.job }
-        ensures good { OnOk result (bad_place (strip_cr self.old.kept.items) ≡ None) }
-        ensures kept { OnOk result (self.new.kept.items ≡ []) }
-        ensures line { OnOk result (self.new.line ≡ self.old.line + 1) }
-        ensures waits { OnOk result (Awaits self.old.items.job.kind self.new.items.reader) }
-        ensures told { OnOk result (self.new.items.teller.count ≤ 1000000) }
-        ensures room { HasRoom self.old.items.teller.count (seen_bits self.old.items.reader.stage) → OnOk result (HasRoom self.new.items.teller.count (seen_bits self.new.items.reader.stage)) }
-        ensures ok { OnOk result (Advances self.old.items.job.kind self.old.items.job.command (seen_bits self.old.items.reader.stage) (seen_bits self.new.items.reader.stage) self.old.items.teller self.new.items.teller (line_bytes (strip_cr self.old.kept.items)) text.old.items text.new.items) }
-        ensures err { IfErr result (λ e. ((place : ℕ) × (bad_place (strip_cr self.old.kept.items) ≡ Some place) × (e ≡ RunFault.BadHex (self.old.line + 1) place) × (text.new.items ≡ text.old.items)) ⊎ ((bad_place (strip_cr self.old.kept.items) ≡ None) × Halts self.old.items.job.kind self.old.items.job.command (seen_bits self.old.items.reader.stage) self.old.items.teller (line_bytes (strip_cr self.old.kept.items)) text.old.items text.new.items e)) }
+    /// A line ends here, of which this is the last part. One that lies whole in it isn't kept.
+    fn end_line(&mut self, part: &[u8], text: &mut Vec<u8>) -> Result<(), RunFault>
+        requires stands { (given : List ℕ) × (told : List ℕ) × LinesStand (T.took self.old.taker) self.old.kept.items self.old.line given told × (length given < 2 ^ 40) }
+        ensures job { T.job self.new.taker ≡ T.job self.old.taker }
+        ensures ok { (given told : List ℕ) → LinesStand (T.took self.old.taker) self.old.kept.items self.old.line given (told ++ text.old.items) → IsLine part.now → OnOk result (LinesStand (T.took self.new.taker) self.new.kept.items self.new.line (given ++ (part.now ++ 10 ∷ [])) (told ++ text.new.items)) }
+        ensures err { (given told : List ℕ) → LinesStand (T.took self.old.taker) self.old.kept.items self.old.line given (told ++ text.old.items) → IsLine part.now → IfErr result (λ e. IsOfEngine e × Stops (T.job self.old.taker) (given ++ (part.now ++ 10 ∷ [])) (told ++ text.new.items) e) }
     {
+        if self.kept.is_empty() {
+            self.line += 1;
+            return self.taker.take_line(without_cr(part), self.line, text);
+        }
+        self.keep(part)?;
         self.line += 1;
-        take_line(
-            &mut self.items,
-            without_cr(self.kept.as_slice()),
-            self.line,
-            text,
-        )?;
+        self.taker
+            .take_line(without_cr(self.kept.as_slice()), self.line, text)?;
         self.kept.clear();
         Ok(())
     }
 }
 
-impl Engine for Lines {
-    ghost job = { λ s. s.items.job };
+impl<T: TakesLines> Engine for Lines<T> {
+    ghost job = { λ s. T.job s.taker };
 
-    ghost stands = { λ s given told. HexStands s.items.job s.items.reader s.items.teller s.kept.items s.line given told };
+    ghost stands = { λ s given told. LinesStand (T.took s.taker) s.kept.items s.line given told };
 
     fn feed(&mut self, piece: &[u8], text: &mut Vec<u8>) -> Result<(), RunFault> {
         let mut rest = piece;
         while let Some((line, behind)) = split_line(rest) {
-            self.keep(line)?;
-            self.end_line(text)?;
+            self.end_line(line, text)?;
             rest = behind;
         }
         self.keep(rest)
     }
 
     fn finish(&mut self, text: &mut Vec<u8>) -> Result<Tally, RunFault> {
-        take_line(&mut self.items, self.kept.as_slice(), self.line + 1, text)?;
-        self.items.finish(text)
+        self.taker
+            .take_last(self.kept.as_slice(), self.line + 1, text)
     }
 
-    ghost stands_tells = { λ s given told h. hex_tells s.items.job s.items.reader s.items.teller s.kept.items s.line given told h };
+    ghost stands_tells = { λ s given told h. lines_tell (T.job s.taker) (T.took s.taker) (T.took_tells s.taker) s.kept.items s.line given told h };
 }

@@ -5,25 +5,27 @@ ghost use Rattle.std.specs.Io.KnownBytes.{IsAtEnd};
 ghost use Rattle.etcs_stream.specs.declared.fault.RunFault.{RunFault};
 ghost use Rattle.etcs_stream.specs.Faults.{IsOfEngine};
 ghost use Rattle.etcs_stream.specs.Engines.{Tells, Ends, EndsWhole, Stops, StopsAtEnd, Prints};
-ghost use Rattle.etcs_stream.specs.Tellers.{IsRunnable};
+ghost use Rattle.etcs_stream.specs.Tellers.{IsGroupable};
 ghost use Rattle.etcs_stream.specs.Pipes.{Piped, PipedFirst};
 
 use crate::bin::Bin;
 use crate::ends::{Sink, Source};
 use crate::fault::RunFault;
+use crate::hex_lines::HexLines;
 use crate::job::{Form, Job, Tally};
+use crate::json_lines::JsonLines;
 use crate::lines::Lines;
 use crate::pump::run_engine;
 use std::alloc::Global;
 
-/// Does the job, which doesn't read JSON and groups no messages: reads the items of the input, which are one behind the
-/// other, and writes of each what the command
-/// says, once it is whole. A line's end doesn't end an item.
+/// Does the job, which groups no messages: reads the items of the input, and writes of each what the command says, once it
+/// is whole; for a group, last lines at the end. Items of bytes and of hexadecimal stand one behind the other, and a line's
+/// end doesn't end an item; of JSON each line is one. Empty lines are passed over.
 ///
 /// # Errors
 ///
-/// `Refused` and `Truncated` tell of an item, `BadHex` of a line; `Read` and `Write` of a call that failed, `Write`
-/// with how many bytes of the text the sink took; `Endless` of more than 16,000,000 reads or 1,000,000 items, and
+/// `Refused` and `Truncated` tell of an item, `BadHex` and `BadJson` of a line; `Read` and `Write` of a call that failed,
+/// `Write` with how many bytes of the text the sink took; `Endless` of more than 16,000,000 reads or 1,000,000 items, and
 /// `Memory` of a refused allocation. The text of the items that were whole before a fault is written first.
 pub fn run<S: Source, W: Sink>(
     alloc: Global,
@@ -31,7 +33,7 @@ pub fn run<S: Source, W: Sink>(
     source: &mut S,
     sink: &mut W,
 ) -> Result<Tally, RunFault>
-    requires runnable { IsRunnable job }
+    requires groupable { IsGroupable job }
     requires reads { S.reads source.old < 2 ^ 63 }
     requires read_failures { S.failures source.old < 2 ^ 63 }
     requires write_failures { W.failures sink.old < 2 ^ 63 }
@@ -45,8 +47,14 @@ pub fn run<S: Source, W: Sink>(
     ensures read_counts { S.failures source.new ≤ S.failures source.old + 1 }
 {
     match job.from {
-        Form::Hex => run_engine(&mut Lines::new(alloc, job), alloc, source, sink),
+        Form::Hex => {
+            let taker = HexLines::new(alloc, job);
+            run_engine(&mut Lines::new(alloc, taker), alloc, source, sink)
+        }
         Form::Bin => run_engine(&mut Bin::new(alloc, job), alloc, source, sink),
-        Form::Json => unreachable!(),
+        Form::Json => {
+            let taker = JsonLines::new(alloc, job);
+            run_engine(&mut Lines::new(alloc, taker), alloc, source, sink)
+        }
     }
 }

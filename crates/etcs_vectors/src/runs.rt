@@ -361,6 +361,7 @@ fn fault(name: &str, rest: &str) -> Option<RunFault> {
             line: number.ok()?,
             place: second.parse::<u64>().ok()?,
         }),
+        "json" => Some(RunFault::BadJson { line: number.ok()? }),
         "read" => Some(RunFault::Read),
         "write" => Some(RunFault::Write { sent: number.ok()? }),
         "endless" => Some(RunFault::Endless),

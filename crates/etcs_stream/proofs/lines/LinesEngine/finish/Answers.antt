@@ -1,47 +1,35 @@
-use Rattle.std.proofs.Common.{arith}
-use Rattle.std.proofs.lemmas.Result.{err_from_is_err_and}
-use Rattle.etcs_stream.proofs.HexSteps.{hex_start, hex_lines, hex_last_stops, hex_finish_ends, hex_finish_stops}
-use Rattle.etcs_stream.proofs.Shortness.{finished_short, fault_short}
+use Rattle.std.proofs.Common.{◌≡◌, ℕ, List, ◌++◌, sym, ap, subst, ◌∙◌, arith}
+use Rattle.std.specs.Prelude.{IfOk, IfErr}
+use Rattle.etcs_stream.specs.Faults.{IsOfEngine}
+use Rattle.etcs_stream.specs.Lines.{IsLine, lines_text}
+use Rattle.etcs_stream.specs.Engines.{Ends, StopsAtEnd}
+use Rattle.etcs_stream.proofs.LineSteps.{lines_count}
+use Rattle.etcs_stream.proofs.Shortness.{finished_short}
 use Rattle.etcs_stream.proofs.lines.LinesEngine.finish.Goals as goal
 
 pub overflow_add-self : goal.overflow_add-self
-overflow_add-self c =
+overflow_add-self g c =
     let s = c.args.self.now in
     let (given, told, h, short) = c.requires.stands in
-    let h' = hex_start s.items.job s.items.reader s.items.teller s.kept.items s.line given told c.args.text.now.items c.requires.empty h in
-    let lines = hex_lines s.items.job s.items.reader s.items.teller s.kept.items s.line given told c.args.text.now.items h' in
+    let lines = lines_count (g.T.TakesLines.took s.taker) s.kept.items s.line given told h in
     omega (arith, lines, short)
 
-pub returns-in_err-take_line-clause-err : goal.returns-in_err-take_line-clause-err
-returns-in_err-take_line-clause-err c given told h =
-    let s = c.args.self.now in
-    let h' = hex_start s.items.job s.items.reader s.items.teller s.kept.items s.line given told c.args.text.now.items c.requires.empty h in
-    let p = err_from_is_err_and c.from_residual.result c.from_residual.ensures.1 in
-    rw (p.1, p.2)
-    (hex_last_stops s.items.job s.items.reader s.items.teller s.kept.items s.line given told c.args.text.now.items h' c.take_line.new.text.items c.in_err-take_line.field-0.0 (rw c.as_slice.ensures.value at c.in_err-take_line.ensures.err))
-
 pub returns-clause-ok : goal.returns-clause-ok
-returns-clause-ok c given told h =
-    let s = c.args.self.now in
-    let i = c.take_line.new.items in
-    let h' = hex_start s.items.job s.items.reader s.items.teller s.kept.items s.line given told c.args.text.now.items c.requires.empty h in
-    let e = c.in_ok-take_line.ensures in
-    let f = c.finish.ensures in
-    hex_finish_ends s.items.job s.items.reader s.items.teller s.kept.items s.line given told c.args.text.now.items h' i.reader i.teller c.take_line.new.text.items (rw c.as_slice.ensures.value at e.good) e.waits e.told e.room (rw c.as_slice.ensures.value at e.ok) c.finish.new.text.items c.finish.result f.whole (rw e.job at f.ok)
+returns-clause-ok g c given told h =
+    let is = c.as_slice.ensures.value in
+    let all : lines_text h.lines ++ c.as_slice.result.now ≡ given = ap (λ (z : List ℕ). lines_text h.lines ++ z) is ∙ sym h.given_is in
+    let line : IsLine c.as_slice.result.now = subst IsLine (sym is) h.is_line in
+    subst (λ (z : List ℕ). IfOk c.take_last.result (λ tally. Ends (g.T.TakesLines.job c.args.self.now.taker) z (told ++ c.take_last.new.text.items) tally)) all
+    (c.take_last.ensures.ok h.lines told h.took line)
 
 pub returns-clause-err : goal.returns-clause-err
-returns-clause-err c given told h =
-    let s = c.args.self.now in
-    let i = c.take_line.new.items in
-    let h' = hex_start s.items.job s.items.reader s.items.teller s.kept.items s.line given told c.args.text.now.items c.requires.empty h in
-    let e = c.in_ok-take_line.ensures in
-    hex_finish_stops s.items.job s.items.reader s.items.teller s.kept.items s.line given told c.args.text.now.items h' i.reader i.teller c.take_line.new.text.items (rw c.as_slice.ensures.value at e.good) e.waits e.told e.room (rw c.as_slice.ensures.value at e.ok) c.finish.new.text.items c.finish.result c.finish.ensures.err
-
-pub returns-in_err-take_line-clause-short : goal.returns-in_err-take_line-clause-short
-returns-in_err-take_line-clause-short c given told h =
-    let p = err_from_is_err_and c.from_residual.result c.from_residual.ensures.1 in
-    fault_short c.args.self.now.items.job given told c.take_line.new.text.items c.from_residual.result p.0 p.1 (returns-in_err-take_line-clause-err c given told h)
+returns-clause-err g c given told h =
+    let is = c.as_slice.ensures.value in
+    let all : lines_text h.lines ++ c.as_slice.result.now ≡ given = ap (λ (z : List ℕ). lines_text h.lines ++ z) is ∙ sym h.given_is in
+    let line : IsLine c.as_slice.result.now = subst IsLine (sym is) h.is_line in
+    subst (λ (z : List ℕ). IfErr c.take_last.result (λ e. IsOfEngine e × StopsAtEnd (g.T.TakesLines.job c.args.self.now.taker) z (told ++ c.take_last.new.text.items) e)) all
+    (c.take_last.ensures.err h.lines told h.took line (omega (arith, h.line_is)))
 
 pub returns-clause-short : goal.returns-clause-short
-returns-clause-short c given told h =
-    finished_short c.args.self.now.items.job given told c.finish.new.text.items c.finish.result (returns-clause-ok c given told h) (returns-clause-err c given told h)
+returns-clause-short g c given told h =
+    finished_short (g.T.TakesLines.job c.args.self.now.taker) given told c.take_last.new.text.items c.take_last.result (returns-clause-ok g c given told h) (returns-clause-err g c given told h)

@@ -1,9 +1,9 @@
 use Rattle.std.proofs.Common.{◌∙◌, sym}
 use Rattle.etcs_stream.specs.Readers.{seen_bits}
 use Rattle.etcs_stream.proofs.HexSteps.{Advances-empty}
-use Rattle.etcs_stream.proofs.lines.take_line.Goals as goal
+use Rattle.etcs_stream.proofs.hex_lines.HexLines.take.Goals as goal
 
 pub returns-then-is_empty-clause-ok : goal.returns-then-is_empty-clause-ok
 returns-then-is_empty-clause-ok c =
-    let i = c.args.items.now in
+    let i = c.args.self.now.items in
     Advances-empty i.job.kind i.job.command (seen_bits i.reader.stage) i.teller c.args.text.now.items c.args.line.now (sym c.is_empty.ensures ∙ c.if-is_empty.true)

@@ -1,0 +1,280 @@
+-- Lines of JSON, one after the other.
+use Rattle.std.proofs.Common.{◌≡◌, ℕ, ◌+◌, ◌<◌, ◌≤◌, List, [], ◌∷◌, ◌++◌, length, Result, Ok, Err, refl, sym, ap, subst, ◌∙◌, arith, append_assoc, length-append, inl, inr}
+use Rattle.std.specs.Prelude.{◌⊎◌, map, OnOk, IfErr}
+use Rattle.std.specs.Io.BufRead.{ends_with_byte}
+use Rattle.std.proofs.lemmas.List.{append-nil, map-append}
+use Rattle.std.proofs.lemmas.List.Elements.{All-append, All-cons, All-nil}
+use Rattle.etcs_text.specs.declared.entry.Kind.{Kind}
+use Rattle.etcs_text.specs.Entries.{EntryValue}
+use Rattle.etcs_stream.specs.declared.job.Form.{Form}
+use Rattle.etcs_stream.specs.declared.job.Form.TheVariants.{Json}
+use Rattle.etcs_stream.specs.declared.job.Job.{Job}
+use Rattle.etcs_stream.specs.declared.job.Tally.{Tally}
+use Rattle.etcs_stream.specs.declared.fault.RunFault.{RunFault}
+use Rattle.etcs_stream.specs.declared.fault.RunFault.TheVariants.{Refused, Truncated, BadHex, BadJson, Read, Write, Endless, Memory}
+use Rattle.etcs_stream.specs.Faults.{IsOfEngine}
+use Rattle.etcs_stream.specs.Lines.{IsLine, strip_cr, lines_text, most_characters}
+use Rattle.etcs_stream.specs.JsonItems.{IsItemLine, AreItemLines, JsonFront, BeginsWith, EndedJson, FirstJson, FurtherLine}
+use Rattle.etcs_stream.specs.Told.{Told}
+use Rattle.etcs_stream.specs.Tellers.{TellsItems, Closes, nothing_told}
+use Rattle.etcs_stream.specs.Stands.{JsonTook}
+use Rattle.etcs_stream.specs.Steps.{TakesJson, empty_line, item_line, HaltsJson}
+use Rattle.etcs_stream.specs.Inputs.{End, ended, bad_json, endless, ItemsOf, FirstItems}
+use Rattle.etcs_stream.specs.Engines.{EndsBy, Ends, Prints, Stops, StopsAtEnd}
+use Rattle.etcs_stream.proofs.Tellings.{tells_append, tells_count, tells_one, one_count, closes_items}
+use Rattle.etcs_stream.proofs.Cutting.{first_lf, stripped}
+
+-- ---- The items of lines.
+
+pub AreItemLines-append : (kind : Kind) (ls ms : List (List ℕ)) (es fs : List EntryValue) → AreItemLines kind ls es → AreItemLines kind ms fs → AreItemLines kind (ls ++ ms) (es ++ fs)
+AreItemLines-append kind [] ms es fs h g = subst (λ (z : List EntryValue). AreItemLines kind ms (z ++ fs)) (sym h) g
+AreItemLines-append kind (l ∷ ls) ms es fs (inl h) g = inl (h.0, AreItemLines-append kind ls ms es fs h.1 g)
+AreItemLines-append kind (l ∷ ls) ms es fs (inr (e, behind, is, item, more)) g =
+    inr (e, behind ++ fs, ap (λ (z : List EntryValue). z ++ fs) is, item, AreItemLines-append kind ls ms behind fs more g)
+
+-- the items of a line were told
+record LineTold (job : Job) (line : List ℕ) (before after : Told) (t t' : List ℕ) : Type 0 where
+  items : List EntryValue
+  added : List ℕ
+  are_items : AreItemLines job.kind (line ∷ []) items
+  few : before.count ≤ 1000000 → after.count ≤ 1000000
+  text : TellsItems job.command before items added after
+  text_is : t' ≡ t ++ added
+
+line_told : (job : Job) (line : List ℕ) (before after : Told) (t t' : List ℕ) → TakesJson job line before after t t' → LineTold job line before after t t'
+line_told job line before after t t' (empty_line none same is) = record {
+  items = [];
+  added = [];
+  are_items = inl (none, refl);
+  few = λ few. omega (arith, few, ap (λ (k : Told). k.count) same);
+  text = (refl, same);
+  text_is = is ∙ sym (append-nil t);
+}
+line_told job line before after t t' (item_line e added item room tells is) = record {
+  items = e ∷ [];
+  added = added;
+  are_items = inr (e, [], refl, item, refl);
+  few = λ few. omega (arith, room, one_count job.command e before added after tells);
+  text = tells_one job.command before after e added tells;
+  text_is = is;
+}
+
+-- the text goes on with this line behind those
+record GoesOn (lines : List (List ℕ)) (line input : List ℕ) : Type 0 where
+  rest : List ℕ
+  text_is : input ≡ lines_text lines ++ rest
+  begins : BeginsWith rest line
+
+-- a line is too long, wherever it ends
+long_line : (part more : List ℕ) → IsLine part → 1048577 < length part → (line : List ℕ) × BeginsWith (part ++ more) line × (1048576 < length line)
+long_line part more l long = elim (first_lf more) [
+  | inl m ↦ (part ++ more, inr (All-append (λ c. c ≡ 10 → ⊥) part more l m, refl), omega (arith, length-append part more))
+  | inr (last, behind, m, is) ↦
+      let text : part ++ more ≡ (part ++ last) ++ 10 ∷ behind = ap (λ (z : List ℕ). part ++ z) is ∙ sym (append_assoc part last (10 ∷ behind)) in (
+        strip_cr (part ++ last),
+        inl (part ++ last, behind, All-append (λ c. c ≡ 10 → ⊥) part last l m, text, refl),
+        omega (arith, stripped (ends_with_byte 13 (part ++ last)) (part ++ last), length-append part last),
+      )
+]
+
+module _ (job : Job) (n : Told) (lines : List (List ℕ)) (told : List ℕ) (h : JsonTook job n lines told) where
+  json_front : (input rest : List ℕ) → input ≡ lines_text lines ++ rest → JsonFront job.kind input h.items lines rest
+  json_front input rest is = record { text_is = is; are_lines = h.are_lines; are_items = h.are_items; few = omega (arith, h.few, h.count_is) }
+
+  items_of : (input : List ℕ) (es : List EntryValue) (end : End) → ItemsOf Json job.kind input es end → ItemsOf job.from job.kind input es end
+  items_of input es end k = subst (λ (f : Form). ItemsOf f job.kind input es end) (sym h.form) k
+
+  first_items : (input : List ℕ) (es : List EntryValue) → FirstJson job.kind input es → FirstItems job.from job.kind input es
+  first_items input es k = subst (λ (f : Form). FirstItems f job.kind input es) (sym h.form) k
+
+  json_prints : (rest : List ℕ) → Prints job (lines_text lines ++ rest) told
+  json_prints rest =
+      let given = lines_text lines ++ rest in
+      (h.items, first_items given h.items (inl (lines, rest, json_front given rest refl)), (n, h.text))
+
+  -- ---- A line that isn't taken.
+
+  further : (input line : List ℕ) → GoesOn lines line input → 0 < length line → FurtherLine job.kind input h.items lines line
+  further input line g some = record { rest = g.rest; front = json_front input g.rest g.text_is; begins = g.begins; some = some }
+
+  bad : (input line : List ℕ) (number : ℕ) → GoesOn lines line input → 0 < length line → number ≡ length lines + 1 → n.count < 1000000 → ((e : EntryValue) → IsItemLine job.kind line e → ⊥) → ItemsOf job.from job.kind input h.items (bad_json number)
+  bad input line number g some at few none =
+      items_of input h.items (bad_json number) (lines, line, further input line g some, at, omega (arith, few, h.count_is), none)
+
+  too_many : (input line : List ℕ) → GoesOn lines line input → 0 < length line → n.count ≡ 1000000 → ItemsOf job.from job.kind input h.items endless
+  too_many input line g some full = items_of input h.items endless (lines, line, further input line g some, sym h.count_is ∙ full)
+
+  -- memory was refused, or each input ends so that goes on with this line
+  abbrev Halted : List ℕ → RunFault → Type 0
+  Halted line fault = (fault ≡ Memory) ⊎ ((end : End) × EndsBy (length h.items) end fault × ((input : List ℕ) → GoesOn lines line input → ItemsOf job.from job.kind input h.items end))
+
+  halted : (line : List ℕ) (number : ℕ) (fault : RunFault) → number ≡ length lines + 1 → HaltsJson job line number n fault → IsOfEngine fault × Halted line fault
+  halted line number (Refused i b x) at why = absurd why
+  halted line number (Truncated i k) at why = absurd why
+  halted line number (BadHex l p) at why = absurd why
+  halted line number (BadJson l) at (same, some, few, none) = (tt, inr (bad_json l, refl, λ input g. bad input line l g some (same ∙ at) few none))
+  halted line number Read at why = absurd why
+  halted line number (Write sent) at why = absurd why
+  halted line number Endless at (full, some) = (tt, inr (endless, refl, λ input g. too_many input line g some full))
+  halted line number Memory at why = (tt, inl refl)
+
+  stops_by : (line rest : List ℕ) (fault : RunFault) → ((more : List ℕ) → GoesOn lines line ((lines_text lines ++ rest) ++ more)) → Halted line fault → Stops job (lines_text lines ++ rest) told fault
+  stops_by line rest fault goes (inl e) = inl (e, json_prints rest)
+  stops_by line rest fault goes (inr (end, by, ends)) =
+      inr (h.items, end, by, (n, h.text), λ more. ends ((lines_text lines ++ rest) ++ more) (goes more))
+
+  -- the line has its LF
+  with_lf : (raw line behind more : List ℕ) → IsLine raw → line ≡ strip_cr raw → GoesOn lines line ((lines_text lines ++ (raw ++ 10 ∷ behind)) ++ more)
+  with_lf raw line behind more l e = record {
+    rest = raw ++ 10 ∷ (behind ++ more);
+    text_is = append_assoc (lines_text lines) (raw ++ 10 ∷ behind) more ∙ ap (λ (z : List ℕ). lines_text lines ++ z) (append_assoc raw (10 ∷ behind) more);
+    begins = inl (raw, behind ++ more, l, refl, e);
+  }
+
+  json_line_halts : (raw line behind : List ℕ) (number : ℕ) (fault : RunFault) → IsLine raw → line ≡ strip_cr raw → number ≡ length lines + 1 → HaltsJson job line number n fault → IsOfEngine fault × Stops job (lines_text lines ++ (raw ++ 10 ∷ behind)) told fault
+  json_line_halts raw line behind number fault l e at why =
+      let k = halted line number fault at why in
+      (k.0, stops_by line (raw ++ 10 ∷ behind) fault (λ more. with_lf raw line behind more l e) k.1)
+
+  -- it is the last
+  ends_by : (line : List ℕ) (fault : RunFault) → IsLine line → Halted line fault → StopsAtEnd job (lines_text lines ++ line) told fault
+  ends_by line fault l (inl e) = inl (e, json_prints line)
+  ends_by line fault l (inr (end, by, ends)) =
+      inr (h.items, end, by, (n, h.text), ends (lines_text lines ++ line) (record { rest = line; text_is = refl; begins = inr (l, refl) }))
+
+  json_last_halts : (line : List ℕ) (number : ℕ) (fault : RunFault) → IsLine line → number ≡ length lines + 1 → HaltsJson job line number n fault → IsOfEngine fault × StopsAtEnd job (lines_text lines ++ line) told fault
+  json_last_halts line number fault l at why =
+      let k = halted line number fault at why in
+      (k.0, ends_by line fault l k.1)
+
+  -- ---- A line that is too long.
+
+  -- so each input goes on, whatever follows the part
+  goes_long : (part more : List ℕ) → IsLine part → most_characters job.from + 1 < length part → (line : List ℕ) × GoesOn lines line ((lines_text lines ++ part) ++ more) × (1048576 < length line)
+  goes_long part more l long =
+      let (line, begins, longer) = long_line part more l (omega (arith, long, ap most_characters h.form)) in
+      (line, record { rest = part ++ more; text_is = append_assoc (lines_text lines) part more; begins = begins }, longer)
+
+  pub json_long_bad : (part : List ℕ) (number : ℕ) → IsLine part → most_characters job.from + 1 < length part → number ≡ length lines + 1 → n.count < 1000000 → Stops job (lines_text lines ++ part) told (BadJson number)
+  json_long_bad part number l long at few =
+      inr (
+        h.items,
+        bad_json number,
+        refl,
+        (n, h.text),
+        λ more. let (line, goes, longer) = goes_long part more l long in
+            bad ((lines_text lines ++ part) ++ more) line number goes (omega (arith, longer)) at few (λ e item. absurd (omega (arith, longer, item.1))),
+      )
+
+  pub json_long_full : (part : List ℕ) → IsLine part → most_characters job.from + 1 < length part → n.count ≡ 1000000 → Stops job (lines_text lines ++ part) told Endless
+  json_long_full part l long full =
+      inr (
+        h.items,
+        endless,
+        refl,
+        (n, h.text),
+        λ more. let (line, goes, longer) = goes_long part more l long in
+            too_many ((lines_text lines ++ part) ++ more) line goes (omega (arith, longer)) full,
+      )
+
+module _ (job : Job) (n : Told) (lines : List (List ℕ)) (told t : List ℕ) (h : JsonTook job n lines (told ++ t)) where
+  -- ---- A line that is taken.
+
+  module _ (line : List ℕ) (n' : Told) (t' : List ℕ) (m : LineTold job line n n' t t') where
+    all_text : TellsItems job.command nothing_told (h.items ++ m.items) (told ++ t') n'
+    all_text =
+        let is : (told ++ t) ++ m.added ≡ told ++ t' = append_assoc told t m.added ∙ ap (λ (z : List ℕ). told ++ z) (sym m.text_is) in
+        subst (λ (z : List ℕ). TellsItems job.command nothing_told (h.items ++ m.items) z n') is
+        (tells_append job.command nothing_told n n' h.items m.items (told ++ t) m.added h.text m.text)
+
+    all_count : n'.count ≡ length (h.items ++ m.items)
+    all_count = omega (arith, tells_count job.command n m.items m.added n' m.text, h.count_is, length-append h.items m.items)
+
+    took_more : (raw : List ℕ) → IsLine raw → line ≡ strip_cr raw → JsonTook job n' (lines ++ (raw ∷ [])) (told ++ t')
+    took_more raw l e =
+        let more : AreItemLines job.kind (strip_cr raw ∷ []) m.items = subst (λ (z : List ℕ). AreItemLines job.kind (z ∷ []) m.items) e m.are_items in
+        let both = AreItemLines-append job.kind (map strip_cr lines) (strip_cr raw ∷ []) h.items m.items h.are_items more in
+        record {
+          form = h.form;
+          are_lines = All-append IsLine lines (raw ∷ []) h.are_lines (All-cons IsLine raw [] l (All-nil IsLine));
+          items = h.items ++ m.items;
+          are_items = subst (λ (z : List (List ℕ)). AreItemLines job.kind z (h.items ++ m.items)) (sym (map-append strip_cr lines (raw ∷ []))) both;
+          count_is = all_count;
+          few = m.few h.few;
+          text = all_text;
+        }
+
+    ended_json : IsLine line → EndedJson job.kind (lines_text lines ++ line) (h.items ++ m.items)
+    ended_json l = record {
+      lines = lines;
+      last = line;
+      front = h.items;
+      behind = m.items;
+      lines_are = json_front job n lines (told ++ t) h (lines_text lines ++ line) line refl;
+      is_line = l;
+      last_is = m.are_items;
+      items_are = refl;
+      few = omega (arith, all_count, m.few h.few);
+    }
+
+    all_ends : (last t'' : List ℕ) (tally : Tally) → IsLine line → Closes job.command n' last tally → t'' ≡ t' ++ last → Ends job (lines_text lines ++ line) (told ++ t'') tally
+    all_ends last t'' tally l closes is = record {
+      items = h.items ++ m.items;
+      items_of = items_of job n lines (told ++ t) h (lines_text lines ++ line) (h.items ++ m.items) ended (ended_json l);
+      lines = told ++ t';
+      last = last;
+      after = n';
+      text = all_text;
+      closes = closes;
+      told_is = ap (λ (z : List ℕ). told ++ z) is ∙ sym (append_assoc told t' last);
+      items_are = closes_items job.command n' last tally closes ∙ all_count;
+    }
+
+    all_prints : IsLine line → Prints job (lines_text lines ++ line) (told ++ t')
+    all_prints l =
+        let given = lines_text lines ++ line in
+        let es = h.items ++ m.items in
+        (es, first_items job n lines (told ++ t) h given es (inr (ended_json l)), (n', all_text))
+
+  -- ---- What the code answers.
+
+  pub json_line_took : (raw line : List ℕ) (n' : Told) (t' : List ℕ) (answer : Result Unit RunFault) → IsLine raw → line ≡ strip_cr raw → OnOk answer (TakesJson job line n n' t t') → OnOk answer (JsonTook job n' (lines ++ (raw ∷ [])) (told ++ t'))
+  json_line_took raw line n' t' (Ok u) l e takes = took_more line n' t' (line_told job line n n' t t' takes) raw l e
+  json_line_took raw line n' t' (Err f) l e takes = tt
+
+  pub json_line_stops : (raw line behind : List ℕ) (number : ℕ) (t' : List ℕ) (answer : Result Unit RunFault) → IsLine raw → line ≡ strip_cr raw → number ≡ length lines + 1 → IfErr answer (λ f. HaltsJson job line number n f × (t' ≡ t)) → IfErr answer (λ f. IsOfEngine f × Stops job (lines_text lines ++ (raw ++ 10 ∷ behind)) (told ++ t') f)
+  json_line_stops raw line behind number t' (Ok u) l e at why = tt
+  json_line_stops raw line behind number t' (Err f) l e at (why, same) =
+      subst (λ (z : List ℕ). IsOfEngine f × Stops job (lines_text lines ++ (raw ++ 10 ∷ behind)) (told ++ z) f) (sym same)
+      (json_line_halts job n lines (told ++ t) h raw line behind number f l e at why)
+
+  pub json_last_stops : (line : List ℕ) (number : ℕ) (t' : List ℕ) (fault : RunFault) → IsLine line → number ≡ length lines + 1 → HaltsJson job line number n fault × (t' ≡ t) → IsOfEngine fault × StopsAtEnd job (lines_text lines ++ line) (told ++ t') fault
+  json_last_stops line number t' fault l at (why, same) =
+      subst (λ (z : List ℕ). IsOfEngine fault × StopsAtEnd job (lines_text lines ++ line) (told ++ z) fault) (sym same)
+      (json_last_halts job n lines (told ++ t) h line number fault l at why)
+
+  -- the last line was taken, and the last text was told
+  pub json_ends : (line : List ℕ) (n' : Told) (t' last t'' : List ℕ) (tally : Tally) → IsLine line → TakesJson job line n n' t t' → Closes job.command n' last tally → t'' ≡ t' ++ last → Ends job (lines_text lines ++ line) (told ++ t'') tally
+  json_ends line n' t' last t'' tally l takes closes is = all_ends line n' t' (line_told job line n n' t t' takes) last t'' tally l closes is
+
+  -- or memory was refused for it
+  pub json_not_closed : (line : List ℕ) (n' : Told) (t' t'' : List ℕ) → IsLine line → TakesJson job line n n' t t' → t'' ≡ t' → IsOfEngine Memory × StopsAtEnd job (lines_text lines ++ line) (told ++ t'') Memory
+  json_not_closed line n' t' t'' l takes same =
+      let prints = all_prints line n' t' (line_told job line n n' t t' takes) l in
+      (tt, inl (refl, subst (λ (z : List ℕ). Prints job (lines_text lines ++ line) (told ++ z)) (sym same) prints))
+
+-- no line was taken
+pub json_nothing : (job : Job) (n : Told) → job.from ≡ Json → n ≡ nothing_told → JsonTook job n [] []
+json_nothing job n form e = record {
+  form = form;
+  are_lines = All-nil IsLine;
+  items = [];
+  are_items = refl;
+  count_is = ap (λ (k : Told). k.count) e;
+  few = omega (arith, ap (λ (k : Told). k.count) e);
+  text = (refl, e);
+}
+
+-- no text was told since
+pub json_start : (job : Job) (n : Told) (lines : List (List ℕ)) (told t : List ℕ) → t ≡ [] → JsonTook job n lines told → JsonTook job n lines (told ++ t)
+json_start job n lines told t e h = subst (λ (z : List ℕ). JsonTook job n lines z) (sym (ap (λ (z : List ℕ). told ++ z) e ∙ append-nil told)) h

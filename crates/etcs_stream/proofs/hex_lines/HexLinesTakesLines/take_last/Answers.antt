@@ -1,0 +1,43 @@
+use Rattle.std.proofs.Common.{◌≡◌, ℕ, List, ◌++◌, length, sym, ap, subst, ◌∙◌}
+use Rattle.std.proofs.lemmas.Result.{err_from_is_err_and}
+use Rattle.etcs_stream.specs.Lines.{lines_text}
+use Rattle.etcs_stream.proofs.HexSteps.{hex_start, hex_last_stops, hex_finish_ends, hex_finish_stops}
+use Rattle.etcs_stream.proofs.HexTakes.{kept_behind}
+use Rattle.etcs_stream.proofs.hex_lines.HexLinesTakesLines.take_last.Goals as goal
+
+pub take-requires-clause-waits : goal.take-requires-clause-waits
+take-requires-clause-waits c = c.requires.took.2.waits
+
+pub take-requires-clause-told : goal.take-requires-clause-told
+take-requires-clause-told c = c.requires.took.2.items.few
+
+pub returns-in_err-take-clause-err : goal.returns-in_err-take-clause-err
+returns-in_err-take-clause-err c lines told h l m =
+    let i = c.args.self.now.items in
+    let line = c.args.line.now in
+    let given = lines_text lines ++ line in
+    let h' = hex_start i.job i.reader i.teller line (length lines) given told c.args.text.now.items c.requires.empty (kept_behind i.job i.reader i.teller lines line told h l) in
+    let p = err_from_is_err_and c.from_residual.result c.from_residual.ensures.1 in
+    rw (p.1, p.2)
+    (hex_last_stops i.job i.reader i.teller line (length lines) given told c.args.text.now.items h' c.take.new.text.items c.in_err-take.field-0.0 (rw m at c.in_err-take.ensures.err))
+
+pub returns-clause-ok : goal.returns-clause-ok
+returns-clause-ok c lines told h l =
+    let i = c.args.self.now.items in
+    let i' = c.take.new.self.items in
+    let line = c.args.line.now in
+    let given = lines_text lines ++ line in
+    let h' = hex_start i.job i.reader i.teller line (length lines) given told c.args.text.now.items c.requires.empty (kept_behind i.job i.reader i.teller lines line told h l) in
+    let e = c.in_ok-take.ensures in
+    let f = c.finish.ensures in
+    hex_finish_ends i.job i.reader i.teller line (length lines) given told c.args.text.now.items h' i'.reader i'.teller c.take.new.text.items e.good e.waits e.told e.room e.ok c.finish.new.text.items c.finish.result f.whole (rw e.job at f.ok)
+
+pub returns-clause-err : goal.returns-clause-err
+returns-clause-err c lines told h l m =
+    let i = c.args.self.now.items in
+    let i' = c.take.new.self.items in
+    let line = c.args.line.now in
+    let given = lines_text lines ++ line in
+    let h' = hex_start i.job i.reader i.teller line (length lines) given told c.args.text.now.items c.requires.empty (kept_behind i.job i.reader i.teller lines line told h l) in
+    let e = c.in_ok-take.ensures in
+    hex_finish_stops i.job i.reader i.teller line (length lines) given told c.args.text.now.items h' i'.reader i'.teller c.take.new.text.items e.good e.waits e.told e.room e.ok c.finish.new.text.items c.finish.result c.finish.ensures.err

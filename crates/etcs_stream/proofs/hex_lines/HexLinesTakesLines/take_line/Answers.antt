@@ -1,0 +1,20 @@
+use Rattle.etcs_stream.proofs.HexTakes.{took_more, took_stops}
+use Rattle.etcs_stream.proofs.hex_lines.HexLinesTakesLines.take_line.Goals as goal
+
+pub take-requires-clause-waits : goal.take-requires-clause-waits
+take-requires-clause-waits c = c.requires.took.2.waits
+
+pub take-requires-clause-told : goal.take-requires-clause-told
+take-requires-clause-told c = c.requires.took.2.items.few
+
+pub returns-clause-ok : goal.returns-clause-ok
+returns-clause-ok c lines raw told h l e =
+    let i = c.args.self.now.items in
+    let i' = c.take.new.self.items in
+    let k = c.take.ensures in
+    rw k.job (took_more i.job i.reader i.teller lines told c.args.text.now.items h raw i'.reader i'.teller c.take.new.text.items c.args.line.now c.take.result e k.good k.waits k.told k.room k.ok)
+
+pub returns-clause-err : goal.returns-clause-err
+returns-clause-err c lines raw told h l e m =
+    let i = c.args.self.now.items in
+    took_stops i.job i.reader i.teller lines told c.args.text.now.items h raw c.take.new.text.items c.args.line.now c.args.number c.take.result l e m c.take.ensures.err

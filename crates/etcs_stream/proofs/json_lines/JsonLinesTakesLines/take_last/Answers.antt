@@ -1,0 +1,32 @@
+use Rattle.std.proofs.Common.{subst}
+use Rattle.std.proofs.lemmas.Result.{err_from_is_err_and}
+use Rattle.etcs_stream.specs.declared.job.Job.{Job}
+use Rattle.etcs_stream.specs.Tellers.{Closes}
+use Rattle.etcs_stream.proofs.JsonSteps.{json_start, json_last_stops, json_ends, json_not_closed}
+use Rattle.etcs_stream.proofs.json_lines.JsonLinesTakesLines.take_last.Goals as goal
+
+pub returns-in_err-take-clause-err : goal.returns-in_err-take-clause-err
+returns-in_err-take-clause-err c lines told h l at =
+    let s = c.args.self.now in
+    let text = c.args.text.now.items in
+    let h' = json_start s.job s.teller lines told text c.requires.empty h in
+    let p = err_from_is_err_and c.from_residual.result c.from_residual.ensures.1 in
+    rw (p.1, p.2)
+    (json_last_stops s.job s.teller lines told text h' c.args.line.now c.args.number c.take.new.text.items c.in_err-take.field-0.0 l at c.in_err-take.ensures.err)
+
+pub returns-in-Ok-clause-ok : goal.returns-in-Ok-clause-ok
+returns-in-Ok-clause-ok c lines told h l =
+    let s = c.args.self.now in
+    let n = c.take.new.self.teller in
+    let text = c.args.text.now.items in
+    let h' = json_start s.job s.teller lines told text c.requires.empty h in
+    let (last, closes, is) = c.in-Ok.ensures.ok in
+    let closes' = subst (λ (j : Job). Closes j.command n last c.in-Ok.tally) c.in_ok-take.ensures.job closes in
+    json_ends s.job s.teller lines told text h' c.args.line.now n c.take.new.text.items last c.close.new.text.items c.in-Ok.tally l c.in_ok-take.ensures.ok closes' is
+
+pub returns-in-Err-clause-err : goal.returns-in-Err-clause-err
+returns-in-Err-clause-err c lines told h l at =
+    let s = c.args.self.now in
+    let text = c.args.text.now.items in
+    let h' = json_start s.job s.teller lines told text c.requires.empty h in
+    json_not_closed s.job s.teller lines told text h' c.args.line.now c.take.new.self.teller c.take.new.text.items c.close.new.text.items l c.in_ok-take.ensures.ok c.in-Err.ensures.err

@@ -1,0 +1,19 @@
+use Rattle.std.proofs.Common.{[], ◌∷◌, ◌++◌, sym, subst}
+use Rattle.std.specs.Prelude.{OnOk}
+use Rattle.etcs_stream.specs.declared.job.Job.{Job}
+use Rattle.etcs_stream.specs.Stands.{JsonTook}
+use Rattle.etcs_stream.proofs.JsonSteps.{json_line_took, json_line_stops}
+use Rattle.etcs_stream.proofs.json_lines.JsonLinesTakesLines.take_line.Goals as goal
+
+pub returns-clause-ok : goal.returns-clause-ok
+returns-clause-ok c lines raw told h l e =
+    let s = c.args.self.now in
+    let s' = c.take.new.self in
+    let text = c.take.new.text.items in
+    subst (λ (j : Job). OnOk c.take.result (JsonTook j s'.teller (lines ++ (raw ∷ [])) (told ++ text))) (sym c.take.ensures.job)
+    (json_line_took s.job s.teller lines told c.args.text.now.items h raw c.args.line.now s'.teller text c.take.result l e c.take.ensures.ok)
+
+pub returns-clause-err : goal.returns-clause-err
+returns-clause-err c lines raw told h l e at =
+    let s = c.args.self.now in
+    json_line_stops s.job s.teller lines told c.args.text.now.items h raw c.args.line.now [] c.args.number c.take.new.text.items c.take.result l e at c.take.ensures.err

@@ -1,0 +1,61 @@
+-- Lines of JSON: an item each, or empty.
+use Rattle.std.specs.Prelude.{◌≡◌, ℕ, ◌+◌, ◌<◌, ◌≤◌, List, [], ◌∷◌, ◌++◌, length, ◌⊎◌, All, map}
+use Rattle.etcs_text.specs.declared.entry.Kind.{Kind}
+use Rattle.etcs_text.specs.Entries.{EntryValue}
+use Rattle.etcs_json.specs.JsonLines.{SaysItem}
+use Rattle.etcs_stream.specs.Lines.{IsLine, strip_cr, lines_text}
+
+-- the line is the JSON of an item of the kind, and isn't too long
+abbrev pub IsItemLine : Kind → List ℕ → EntryValue → Type 0
+IsItemLine kind line e = (0 < length line) × (length line ≤ 1048576) × SaysItem kind line e
+
+-- the lines are those of the items, and empty ones
+abbrev pub AreItemLines : Kind → List (List ℕ) → List EntryValue → Type 0
+AreItemLines kind [] es = es ≡ []
+AreItemLines kind (line ∷ lines) es = ((line ≡ []) × AreItemLines kind lines es) ⊎ ((e : EntryValue) × (behind : List EntryValue) × (es ≡ e ∷ behind) × IsItemLine kind line e × AreItemLines kind lines behind)
+
+-- the text begins with these lines, of which each has its LF, and they are these items
+pub record JsonFront (kind : Kind) (text : List ℕ) (es : List EntryValue) (lines : List (List ℕ)) (rest : List ℕ) : Type 0 where
+  pub text_is : text ≡ lines_text lines ++ rest
+  pub are_lines : All IsLine lines
+  pub are_items : AreItemLines kind (map strip_cr lines) es
+  pub few : length es ≤ 1000000
+
+-- the text begins with this line, but for its LF and a CR before it; or it is the line
+abbrev pub BeginsWith : List ℕ → List ℕ → Type 0
+BeginsWith text line = ((raw : List ℕ) × (behind : List ℕ) × IsLine raw × (text ≡ raw ++ 10 ∷ behind) × (line ≡ strip_cr raw)) ⊎ (IsLine text × (line ≡ text))
+
+-- these are all items that are whole in what is there: those of the lines that have a LF
+abbrev pub WholeJson : Kind → List ℕ → List EntryValue → Type 0
+WholeJson kind given es = (lines : List (List ℕ)) × (rest : List ℕ) × JsonFront kind given es lines rest × IsLine rest
+
+-- the text is the lines of the items; the last one may have no LF
+pub record EndedJson (kind : Kind) (text : List ℕ) (es : List EntryValue) : Type 0 where
+  pub lines : List (List ℕ)
+  pub last : List ℕ
+  pub front : List EntryValue
+  pub behind : List EntryValue
+  pub lines_are : JsonFront kind text front lines last
+  pub is_line : IsLine last
+  pub last_is : AreItemLines kind (last ∷ []) behind
+  pub items_are : es ≡ front ++ behind
+  pub few : length es ≤ 1000000
+
+-- these are the first items of a text that begins so
+abbrev pub FirstJson : Kind → List ℕ → List EntryValue → Type 0
+FirstJson kind given es = ((lines : List (List ℕ)) × (rest : List ℕ) × JsonFront kind given es lines rest) ⊎ EndedJson kind given es
+
+-- behind the lines of the items stands one more that isn't empty
+pub record FurtherLine (kind : Kind) (text : List ℕ) (es : List EntryValue) (lines : List (List ℕ)) (line : List ℕ) : Type 0 where
+  pub rest : List ℕ
+  pub front : JsonFront kind text es lines rest
+  pub begins : BeginsWith rest line
+  pub some : 0 < length line
+
+-- it is the first that is no item
+abbrev pub BadJsonLine : Kind → List ℕ → List EntryValue → ℕ → Type 0
+BadJsonLine kind text es number = (lines : List (List ℕ)) × (line : List ℕ) × FurtherLine kind text es lines line × (number ≡ length lines + 1) × (length es < 1000000) × ((e : EntryValue) → IsItemLine kind line e → ⊥)
+
+-- a run may have no more items
+abbrev pub EndlessJson : Kind → List ℕ → List EntryValue → Type 0
+EndlessJson kind text es = (lines : List (List ℕ)) × (line : List ℕ) × FurtherLine kind text es lines line × (length es ≡ 1000000)

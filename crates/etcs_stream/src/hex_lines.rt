@@ -1,0 +1,97 @@
+//! Lines of hexadecimal.
+
+ghost use Rattle.std.specs.Prelude.{◌≡◌, ◌≤◌, ◌⊎◌, ℕ, [], None, Some, IfErr, OnOk};
+ghost use Rattle.etcs_stream.specs.declared.fault.RunFault.{RunFault};
+ghost use Rattle.etcs_stream.specs.declared.job.Form.TheVariants as form;
+ghost use Rattle.etcs_stream.specs.Lines.{bad_place, line_bytes};
+ghost use Rattle.etcs_stream.specs.Readers.{Awaits, HasRoom, seen_bits};
+ghost use Rattle.etcs_stream.specs.StandLaws.{hex_tells};
+ghost use Rattle.etcs_stream.specs.Stands.{HexTook};
+ghost use Rattle.etcs_stream.specs.Steps.{Advances, Halts};
+ghost use Rattle.etcs_stream.specs.Tellers.{IsGroupable};
+
+use crate::digits::{MOST_CHARACTERS, decode_line};
+use crate::fault::RunFault;
+use crate::items::Items;
+use crate::job::{Job, Tally};
+use crate::lines::TakesLines;
+use std::alloc::Global;
+
+/// Gives the bytes of lines of hexadecimal to the items.
+#[derive(Drop)]
+pub(crate) struct HexLines {
+    items: Items,
+    ghost form: { items.job.from ≡ form.Hex },
+}
+
+impl HexLines {
+    /// Nothing was taken yet.
+    pub(crate) fn new(alloc: Global, job: Job) -> HexLines
+        requires form { job.from ≡ form.Hex }
+        requires groupable { IsGroupable job }
+        ensures job { result.items.job ≡ job }
+        ensures took { HexTook job result.items.reader result.items.teller [] [] }
+    {
+        HexLines {
+            items: Items::new(alloc, job),
+        }
+    }
+
+    /// Gives the bytes of a line to the items. The line is checked before any of it is used.
+    fn take(&mut self, line: &[u8], number: u64, text: &mut Vec<u8>) -> Result<(), RunFault>
+        requires waits { Awaits self.old.items.job.kind self.old.items.reader }
+        requires told { self.old.items.teller.count ≤ 1000000 }
+        ensures job { self.new.items.job ≡ self.old.items.job }
+        ensures good { OnOk result (bad_place line.now ≡ None) }
+        ensures waits { OnOk result (Awaits self.old.items.job.kind self.new.items.reader) }
+        ensures told { OnOk result (self.new.items.teller.count ≤ 1000000) }
+        ensures room { HasRoom self.old.items.teller.count (seen_bits self.old.items.reader.stage) → OnOk result (HasRoom self.new.items.teller.count (seen_bits self.new.items.reader.stage)) }
+        ensures ok { OnOk result (Advances self.old.items.job.kind self.old.items.job.command (seen_bits self.old.items.reader.stage) (seen_bits self.new.items.reader.stage) self.old.items.teller self.new.items.teller (line_bytes line.now) text.old.items text.new.items) }
+        ensures err { IfErr result (λ e. ((place : ℕ) × (bad_place line.now ≡ Some place) × (e ≡ RunFault.BadHex number place) × (text.new.items ≡ text.old.items)) ⊎ ((bad_place line.now ≡ None) × Halts self.old.items.job.kind self.old.items.job.command (seen_bits self.old.items.reader.stage) self.old.items.teller (line_bytes line.now) text.old.items text.new.items e)) }
+    {
+        if line.is_empty() {
+            return Ok(());
+        }
+        let mut room = [0u8; 2048];
+        match decode_line(line, &mut room) {
+            Ok(count) => self.items.take_bytes(&room[..count], text),
+            Err(place) => Err(RunFault::BadHex {
+                line: number,
+                place: place as u64,
+            }),
+        }
+    }
+}
+
+impl TakesLines for HexLines {
+    ghost job = { λ s. s.items.job };
+
+    ghost took = { λ s lines told. HexTook s.items.job s.items.reader s.items.teller lines told };
+
+    fn most(&self) -> usize {
+        MOST_CHARACTERS
+    }
+
+    fn take_line(&mut self, line: &[u8], number: u64, text: &mut Vec<u8>) -> Result<(), RunFault> {
+        self.take(line, number, text)
+    }
+
+    fn refuse_long(&self, number: u64) -> RunFault {
+        RunFault::BadHex {
+            line: number,
+            place: MOST_CHARACTERS as u64,
+        }
+    }
+
+    fn take_last(
+        &mut self,
+        line: &[u8],
+        number: u64,
+        text: &mut Vec<u8>,
+    ) -> Result<Tally, RunFault> {
+        self.take(line, number, text)?;
+        self.items.finish(text)
+    }
+
+    ghost took_tells = { λ s lines kept told h l. hex_tells s.items.job s.items.reader s.items.teller lines kept told h l };
+}

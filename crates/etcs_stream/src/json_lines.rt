@@ -1,0 +1,130 @@
+//! Lines of JSON, an item each.
+
+ghost use Rattle.std.specs.Prelude.{◌≡◌, ◌+◌, ◌<◌, ◌≤◌, ◌⊎◌, ◌++◌, ℕ, List, [], length, IfOk, IfErr, OnOk};
+ghost use Rattle.etcs_text.specs.Entries.{EntryValue, entry_kind, entry_value};
+ghost use Rattle.etcs_stream.specs.declared.fault.RunFault.{RunFault};
+ghost use Rattle.etcs_stream.specs.declared.job.Form.TheVariants as form;
+ghost use Rattle.etcs_stream.specs.JsonItems.{IsItemLine};
+ghost use Rattle.etcs_stream.specs.StandLaws.{json_tells};
+ghost use Rattle.etcs_stream.specs.Stands.{JsonTook};
+ghost use Rattle.etcs_stream.specs.Steps.{TakesJson, HaltsJson};
+ghost use Rattle.etcs_stream.specs.Tellers.{IsGroupable};
+
+use crate::fault::RunFault;
+use crate::items::MOST_ITEMS;
+use crate::job::{Job, Tally};
+use crate::lines::TakesLines;
+use crate::teller::Teller;
+use etcs_json::{JsonFault, from_line};
+use etcs_text::Entry;
+use std::alloc::{AllocError, Global};
+
+/// How many bytes a line has at most.
+const MOST_BYTES: usize = 1_048_576;
+
+/// Tells the items of lines of JSON.
+#[derive(Drop)]
+pub(crate) struct JsonLines {
+    alloc: Global,
+    job: Job,
+    teller: Teller,
+    ghost form: { job.from ≡ form.Json },
+    ghost groupable: { IsGroupable job },
+}
+
+impl JsonLines {
+    /// Nothing was taken yet.
+    pub(crate) fn new(alloc: Global, job: Job) -> JsonLines
+        requires form { job.from ≡ form.Json }
+        requires groupable { IsGroupable job }
+        ensures job { result.job ≡ job }
+        ensures took { JsonTook job result.teller [] [] }
+    {
+        JsonLines {
+            alloc,
+            job,
+            teller: Teller::new(),
+        }
+    }
+
+    /// The item of a line.
+    ///
+    /// # Errors
+    ///
+    /// `BadJson` where no item of the kind has this JSON, or the line is too long; `Memory`.
+    fn entry_in(&self, line: &[u8], number: u64) -> Result<Entry, RunFault>
+        requires some { 0 < length line.now }
+        ensures ok { IfOk result (λ e. IsItemLine self.now.job.kind line.now (entry_value e)) }
+        ensures err { IfErr result (λ e. ((e ≡ RunFault.BadJson number) × ((x : EntryValue) → IsItemLine self.now.job.kind line.now x → ⊥)) ⊎ (e ≡ RunFault.Memory)) }
+    {
+        if line.len() > MOST_BYTES {
+            return Err(RunFault::BadJson { line: number });
+        }
+        match from_line(self.alloc, self.job.kind, line) {
+            Ok(entry) => Ok(entry),
+            Err(JsonFault::Shape) => Err(RunFault::BadJson { line: number }),
+            Err(JsonFault::Memory) => Err(RunFault::Memory),
+        }
+    }
+
+    /// Tells the item of a line; an empty one is none.
+    ///
+    /// # Errors
+    ///
+    /// `Endless` where a run may have no more items, else as of `entry_in`. Nothing was appended.
+    fn take(&mut self, line: &[u8], number: u64, text: &mut Vec<u8>) -> Result<(), RunFault>
+        requires told { self.old.teller.count ≤ 1000000 }
+        ensures job { self.new.job ≡ self.old.job }
+        ensures ok { OnOk result (TakesJson self.old.job line.now self.old.teller self.new.teller text.old.items text.new.items) }
+        ensures err { IfErr result (λ e. HaltsJson self.old.job line.now number self.old.teller e × (text.new.items ≡ text.old.items)) }
+    {
+        if line.is_empty() {
+            return Ok(());
+        }
+        if self.teller.count() == MOST_ITEMS {
+            return Err(RunFault::Endless);
+        }
+        let entry = self.entry_in(line, number)?;
+        match self.teller.tell(self.job.command, entry, text) {
+            Ok(()) => Ok(()),
+            Err(AllocError) => Err(RunFault::Memory),
+        }
+    }
+}
+
+impl TakesLines for JsonLines {
+    ghost job = { λ s. s.job };
+
+    ghost took = { λ s lines told. JsonTook s.job s.teller lines told };
+
+    fn most(&self) -> usize {
+        MOST_BYTES
+    }
+
+    fn take_line(&mut self, line: &[u8], number: u64, text: &mut Vec<u8>) -> Result<(), RunFault> {
+        self.take(line, number, text)
+    }
+
+    fn refuse_long(&self, number: u64) -> RunFault {
+        if self.teller.count() == MOST_ITEMS {
+            RunFault::Endless
+        } else {
+            RunFault::BadJson { line: number }
+        }
+    }
+
+    fn take_last(
+        &mut self,
+        line: &[u8],
+        number: u64,
+        text: &mut Vec<u8>,
+    ) -> Result<Tally, RunFault> {
+        self.take(line, number, text)?;
+        match self.teller.close(self.job.command, text) {
+            Ok(tally) => Ok(tally),
+            Err(AllocError) => Err(RunFault::Memory),
+        }
+    }
+
+    ghost took_tells = { λ s lines kept told h l. json_tells s.job s.teller lines kept told h l };
+}

@@ -177,9 +177,7 @@ impl PacketsLeft {
         ensures moved { Moved self.old.carrier self.old.room self.old.stage ((L_PACKET, length) ∷ []) self.new.carrier self.new.room self.new.stage }
         ensures here { Becomes self.old.carrier self.old.stage L_PACKET length result self.new.stage }
     {
-        let Some(left) = RowRest::start(row, length - 23) else {
-            unreachable!()
-        };
+        let left = RowRest::begin(row, length - 23);
         self.room = self.room + 10 - length;
         if left.var().is_none() {
             self.stage = behind_packet(self.carrier, self.room);

@@ -38,6 +38,17 @@ impl RowRest {
         Some(RowRest { place, len })
     }
 
+    /// What is left at the beginning of a row, which has a spelling of so many bits.
+    pub(crate) fn begin(row: Row, len: usize) -> RowRest
+        requires { Lengths (layout row.items.now) [] len }
+        ensures { (result.place ≡ layout row.items.now) × (result.len ≡ len) × Goes (ReadsIn result.place result.len) }
+    {
+        RowRest {
+            place: Place::start(row),
+            len,
+        }
+    }
+
     /// Goes on behind the number of the variable that comes next.
     #[inline]
     pub fn go_on(&mut self, var: Var, number: u64)

@@ -5,14 +5,12 @@ use Rattle.std.specs.Option.{option_map}
 use Rattle.std.proofs.Math.Nat.{le-div_iff_mul-le, div-lt_iff_lt-mul}
 use Rattle.etcs_vars.proofs.Prefixes.{below_quotient}
 use Rattle.etcs_rows.specs.declared.item.RowItem.{RowItem}
-use Rattle.etcs_rows.specs.declared.length_set.LengthSet.{LengthSet}
 use Rattle.etcs_rows.specs.declared.row.Way.{Way}
 use Rattle.etcs_rows.specs.declared.frames.Carrier.{Carrier}
 use Rattle.etcs_rows.specs.declared.frames.Windows.{Windows}
 use Rattle.etcs_rows.specs.Layouts.{Layout, Lengths, items, layout}
 use Rattle.etcs_rows.specs.Flat.{layout-items}
 use Rattle.etcs_rows.specs.Rows.{row_to}
-use Rattle.etcs_rows.specs.Sets.{In}
 use Rattle.etcs_rows.proofs.PlaceLemmas.{and_both}
 use Rattle.etcs_rows.specs.Frames.{frame_bits, is_kept, BodyLength, Leaves, LengthFits, UnframedFits, NumberFits, InWindows, IsBlock, AreBodies}
 
@@ -100,11 +98,11 @@ none_fits way nid w none = (λ f. absurd cc, λ (m, inside, body). none (m, insi
 pub kept_fits : (way : Way) (nid : ℕ) (w : Windows) (r : Bool) → row_to way nid ≡ None → r ≡ is_kept way nid → ((m : ℕ) × InWindows w m) → IsTrue r ↔ ((m : ℕ) × InWindows w m × BodyLength way nid m)
 kept_fits way nid w r none e (m, inside) = rw e (λ kept. (m, inside, inr kept), λ (k, in-w, body). (body_kept way nid k none).0 body)
 
--- a row whose lengths are a set
-pub row_fits : (way : Way) (nid : ℕ) (row : Layout) (w : Windows) (s : LengthSet) (r : Bool) → row_to way nid ≡ Some row → ((m : ℕ) → In s m ↔ Lengths row [] m) → IsTrue r ↔ ((m : ℕ) × InWindows w m × In s m) → IsTrue r ↔ ((m : ℕ) × InWindows w m × BodyLength way nid m)
-row_fits way nid row w s r e set any = (
-  λ t. (let x = any.0 t in (x.0, x.1, (body_row way nid row x.0 e).1 ((set x.0).0 x.2))),
-  λ (m, inside, body). any.1 (m, inside, (set m).1 ((body_row way nid row m e).0 body)),
+-- any length of a row
+pub row_fits : (way : Way) (nid : ℕ) (row : Layout) (w : Windows) (r : Bool) → row_to way nid ≡ Some row → IsTrue r ↔ ((m : ℕ) × InWindows w m × Lengths row [] m) → IsTrue r ↔ ((m : ℕ) × InWindows w m × BodyLength way nid m)
+row_fits way nid row w r e any = (
+  λ t. (let x = any.0 t in (x.0, x.1, (body_row way nid row x.0 e).1 x.2)),
+  λ (m, inside, body). any.1 (m, inside, (body_row way nid row m e).0 body),
 )
 
 -- one length alone

@@ -3,6 +3,7 @@ pub mod OneReading
 pub mod CursorLemmas
 pub mod PlaceLemmas
 pub mod Behind
+pub mod LeastLengths
 pub mod LengthLemmas
 pub mod Blocks
 pub mod Shifts

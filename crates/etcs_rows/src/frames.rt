@@ -1,12 +1,14 @@
 //! Which numbers and which lengths of packets still fit.
 
-ghost use Rattle.std.specs.Prelude.{◌≡◌, ◌↔◌, ℕ, ◌-◌, ◌/◌, ◌^◌, ◌<◌, ◌≤◌, IsTrue};
+ghost use Rattle.std.specs.Prelude.{◌≡◌, ◌↔◌, ℕ, ◌-◌, ◌/◌, ◌^◌, ◌<◌, ◌≤◌, [], IsTrue};
 ghost use Rattle.etcs_rows.specs.Frames.{frame_bits, is_kept, LengthFits, UnframedFits, NumberFits, IsBlock, Within, InWindows, AreBodies};
+ghost use Rattle.etcs_rows.specs.Layouts.{layout, Lengths};
 ghost use Rattle.etcs_rows.specs.Sets.{In};
 
+use crate::least::some_length;
 use crate::length_set::LengthSet;
 use crate::place::Place;
-use crate::row::Way;
+use crate::row::{Row, Way};
 use crate::tables::row_of;
 
 /// What carries packets.
@@ -29,6 +31,9 @@ const MOST_PADDING: usize = 7;
 
 /// The largest L_PACKET.
 const MOST_LENGTH: usize = 8191;
+
+/// How many numbers of bits are tried one by one before all of a row are worked out.
+const TRIES: usize = 64;
 
 /// The bits in front of a packet's row: NID_PACKET, Q_DIR to the train, and L_PACKET.
 fn frame_bits(way: Way) -> usize
@@ -73,6 +78,26 @@ impl Window {
         ensures { IsTrue result ↔ ((m : ℕ) × Within self m) }
     {
         self.low < self.end
+    }
+
+    /// Whether this is one of its numbers.
+    fn holds(self, bits: usize) -> bool
+        ensures { IsTrue result → Within self bits }
+    {
+        self.low <= bits && bits < self.end
+    }
+
+    /// Whether one of its first numbers is, by equal steps, a number of bits that may be left of the row.
+    fn tries(self, place: &Place) -> bool
+        ensures { IsTrue result → (m : ℕ) × Within self m × Lengths place.now [] m }
+    {
+        let end = self.end.min(self.low.saturating_add(TRIES));
+        for bits in self.low..end {
+            if place.takes_by_steps(bits) {
+                return true;
+            }
+        }
+        false
     }
 
     /// Whether a number of the set lies in it.
@@ -135,6 +160,29 @@ impl Windows {
     {
         self.followed.meets(set) || self.last.meets(set)
     }
+
+    /// Whether a number of bits that is found at once, and that the row takes, lies in one of them.
+    fn meet_least(self, row: Row) -> bool
+        ensures { IsTrue result → (m : ℕ) × InWindows self m × Lengths (layout row.items.now) [] m }
+    {
+        match some_length(row.items, 0) {
+            Some(bits) => {
+                bits <= MOST_LENGTH && (self.followed.holds(bits) || self.last.holds(bits))
+            }
+            None => false,
+        }
+    }
+
+    /// Whether the row takes a number of bits in one of them. All its lengths are worked out only where none is found before.
+    fn meet_row(self, row: Row) -> bool
+        ensures { IsTrue result ↔ ((m : ℕ) × InWindows self m × Lengths (layout row.items.now) [] m) }
+    {
+        if self.meet_least(row) {
+            return true;
+        }
+        let place = Place::start(row);
+        self.followed.tries(&place) || self.last.tries(&place) || self.meet(&place.lengths())
+    }
 }
 
 /// Whether some L_PACKET fits that is `bits` with `rest` bits more behind them, for a packet of this number
@@ -152,11 +200,10 @@ pub fn length_fits(way: Way, carrier: Carrier, nid: u8, room: usize, rest: usize
     match row_of(way, nid) {
         None => is_kept(way, nid),
         Some(row) => {
-            let place = Place::start(row);
             if rest == 0 {
-                place.can_take(low - frame_bits(way))
+                Place::start(row).can_take(low - frame_bits(way))
             } else {
-                windows.meet(&place.lengths())
+                windows.meet_row(row)
             }
         }
     }

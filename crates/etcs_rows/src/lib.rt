@@ -6,6 +6,7 @@ mod framed;
 mod frames;
 mod item;
 pub mod laws;
+mod least;
 mod length_set;
 mod measure;
 mod message;

@@ -359,6 +359,16 @@ impl Place {
         }
     }
 
+    /// Whether so many bits may be left of the row, where equal steps tell.
+    pub(crate) fn takes_by_steps(&self, bits: usize) -> bool
+        ensures { IsTrue result → Lengths self.now [] bits }
+    {
+        match reaches_by_steps(&self.cursor, bits) {
+            Some(answer) => answer,
+            None => false,
+        }
+    }
+
     /// How many bits may be left of the row.
     pub(crate) fn lengths(&self) -> LengthSet
         ensures { (m : ℕ) → In result m ↔ Lengths self.now [] m }

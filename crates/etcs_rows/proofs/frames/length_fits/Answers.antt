@@ -1,6 +1,6 @@
 use Rattle.std.proofs.Common.{◌≡◌, ℕ, ◌-◌, ◌^◌, [], Some, arith, subst, sym, ap, ◌∙◌}
 use Rattle.std.specs.Prelude.{◌↔◌, IsTrue, false}
-use Rattle.etcs_rows.specs.Layouts.{Layout, Lengths}
+use Rattle.etcs_rows.specs.Layouts.{Layout, Lengths, layout}
 use Rattle.etcs_rows.specs.Rows.{row_to}
 use Rattle.etcs_rows.specs.Frames.{InWindows}
 use Rattle.etcs_rows.proofs.FrameLemmas.{by_windows, none_fits, kept_fits, row_fits, one_fits, row_found, no_row}
@@ -29,17 +29,18 @@ pub returns-then-rest-eq0 : goal.returns-then-rest-eq0
 returns-then-rest-eq0 c =
     let a = c.args in let e = c.ends-low in let w = c.new-windows in
     let some = c.any.ensures.0 c.if-not-any.false in
-    let found : row_to a.way a.nid ≡ Some c.start-place.result = row_found (row_to a.way a.nid) c.in-Some.row.items.now c.in-Some.ensures ∙ ap (λ (r : Layout). Some r) (sym c.start-place.ensures.left) in
+    let found : row_to a.way a.nid ≡ Some c.start.result = row_found (row_to a.way a.nid) c.in-Some.row.items.now c.in-Some.ensures ∙ ap (λ (r : Layout). Some r) (sym c.start.ensures.left) in
     let ends-are = e.ensures.one c.if-rest-eq0.true in
     let first = (w.ensures some.0).0 some.1 in
     let only : (k : ℕ) → InWindows w.result k → k ≡ some.0 = λ k inside. (let x = (w.ensures k).0 inside in omega (arith, ends-are, x.0, x.1, first.0, first.1)) in
     let is : e.result.0 - c.frame_bits.result ≡ some.0 = omega (arith, ends-are, c.frame_bits.ensures, first.0, first.1) in
     by_windows a.way a.carrier a.nid a.room (2 ^ a.rest) a.bits e.result.0 e.result.1 w.result c.can_take.result e.ensures.small e.ensures.all w.ensures
-    (one_fits a.way a.nid c.start-place.result w.result some.0 c.can_take.result found some.1 only (subst (λ k. IsTrue c.can_take.result ↔ Lengths c.start-place.result [] k) is c.can_take.ensures))
+    (one_fits a.way a.nid c.start.result w.result some.0 c.can_take.result found some.1 only (subst (λ k. IsTrue c.can_take.result ↔ Lengths c.start.result [] k) is c.can_take.ensures))
 
 pub returns-else-rest-eq0 : goal.returns-else-rest-eq0
 returns-else-rest-eq0 c =
     let a = c.args in let e = c.ends-low in let w = c.new-windows in
-    let found : row_to a.way a.nid ≡ Some c.start-place.result = row_found (row_to a.way a.nid) c.in-Some.row.items.now c.in-Some.ensures ∙ ap (λ (r : Layout). Some r) (sym c.start-place.ensures.left) in
-    by_windows a.way a.carrier a.nid a.room (2 ^ a.rest) a.bits e.result.0 e.result.1 w.result c.meet.result e.ensures.small e.ensures.all w.ensures
-    (row_fits a.way a.nid c.start-place.result w.result c.lengths.result c.meet.result found c.lengths.ensures c.meet.ensures)
+    let row = layout c.in-Some.row.items.now in
+    let found : row_to a.way a.nid ≡ Some row = row_found (row_to a.way a.nid) c.in-Some.row.items.now c.in-Some.ensures in
+    by_windows a.way a.carrier a.nid a.room (2 ^ a.rest) a.bits e.result.0 e.result.1 w.result c.meet_row.result e.ensures.small e.ensures.all w.ensures
+    (row_fits a.way a.nid row w.result c.meet_row.result found c.meet_row.ensures)

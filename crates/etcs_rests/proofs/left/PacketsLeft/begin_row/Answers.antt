@@ -12,21 +12,19 @@ use Rattle.etcs_rests.specs.Lefts.{is_framed, is_stage, first_room}
 use Rattle.etcs_rests.proofs.LeftBodies.{some_after, row_begun, row_whole, here_begun, here_whole}
 use Rattle.etcs_rests.proofs.left.PacketsLeft.begin_row.Goals as goal
 
-pub unreachable-requires : goal.unreachable-requires
-unreachable-requires c =
+pub begin-left-requires : goal.begin-left-requires
+begin-left-requires c =
     let s = c.args.self.now in
     let some = some_after s.carrier c.args.nid (s.room + 10) c.args.length (rw c.requires.stage at c.requires.goes) in
-    let lengths = row_lengths s.carrier c.args.nid (s.room + 10) c.args.length (layout c.args.row.items.now) c.requires.row some in
-    let yes = rw c.in_default.is at (c.start.ensures.some.1 lengths) in
-    absurd cc
+    row_lengths s.carrier c.args.nid (s.room + 10) c.args.length (layout c.args.row.items.now) c.requires.row some
 
 pub returns-then-is_none-clause-moved : goal.returns-then-is_none-clause-moved
 returns-then-is_none-clause-moved c =
     let s = c.args.self.now in
     let a = c.args in
     let b = c.behind_packet-self in
-    let v = c.in-Some.left in
-    let w = c.in-Some.ensures.rest in
+    let v = c.begin-left.result in
+    let w = c.begin-left.ensures in
     let none = rw c.var.ensures at (none_is c.var.result c.if-is_none.ensures) in
     let m = row_begun s.carrier a.nid a.dir s.room a.length (layout a.row.items.now) v (rw c.requires.stage at c.requires.goes) c.requires.row w.0 w.1 in
     rw c.requires.stage (row_whole s.carrier s.room (Length a.nid a.dir) ((L_PACKET, a.length) ∷ []) s.carrier (s.room + 10 - a.length) a.nid a.dir v b.result m none w.2 b.ensures.same b.ensures.ahead)
@@ -35,8 +33,8 @@ pub returns-then-is_none-clause-here : goal.returns-then-is_none-clause-here
 returns-then-is_none-clause-here c f k h here =
     let s = c.args.self.now in
     let a = c.args in
-    let v = c.in-Some.left in
-    let w = c.in-Some.ensures.rest in
+    let v = c.begin-left.result in
+    let w = c.begin-left.ensures in
     let i = rw c.requires.stage at here in
     let stands : IsTrue (is_stage s.carrier s.room s.stage) = s.stands in
     let directed = (and_both (is_framed a.nid) (admits Q_DIR a.dir) (rw c.requires.stage at stands)).1 in
@@ -51,19 +49,19 @@ invariant_of-self-2 c =
     let small : first_room s.room s.stage ≤ 8191 = s.small in
     let whole = rw c.requires.stage at small in
     let directed = (and_both (is_framed c.args.nid) (admits Q_DIR c.args.dir) (rw c.requires.stage at stands)).1 in
-    let some : is_some (first_variable c.in-Some.left.place) ≡ true = rw c.var.ensures at c.if-is_none.ensures in
+    let some : is_some (first_variable c.begin-left.result.place) ≡ true = rw c.var.ensures at c.if-is_none.ensures in
     record { small = omega (arith, whole); stands = rw (c.requires.row, directed) some }
 
 pub returns-clause-moved : goal.returns-clause-moved
 returns-clause-moved c =
     let s = c.args.self.now in
-    let w = c.in-Some.ensures.rest in
-    rw c.requires.stage (row_begun s.carrier c.args.nid c.args.dir s.room c.args.length (layout c.args.row.items.now) c.in-Some.left (rw c.requires.stage at c.requires.goes) c.requires.row w.0 w.1)
+    let w = c.begin-left.ensures in
+    rw c.requires.stage (row_begun s.carrier c.args.nid c.args.dir s.room c.args.length (layout c.args.row.items.now) c.begin-left.result (rw c.requires.stage at c.requires.goes) c.requires.row w.0 w.1)
 
 pub returns-clause-here : goal.returns-clause-here
 returns-clause-here c f k h here =
     let s = c.args.self.now in
-    let w = c.in-Some.ensures.rest in
+    let w = c.begin-left.ensures in
     let i = rw c.requires.stage at here in
-    let begun = here_begun s.carrier s.room c.args.nid c.args.dir c.args.length (layout c.args.row.items.now) c.in-Some.left h (rw c.requires.stage at c.requires.goes) c.requires.row w.0 w.1 i.2 in
+    let begun = here_begun s.carrier s.room c.args.nid c.args.dir c.args.length (layout c.args.row.items.now) c.begin-left.result h (rw c.requires.stage at c.requires.goes) c.requires.row w.0 w.1 i.2 in
     rw (c.requires.stage, i.0) (i.1, begun)

@@ -1,0 +1,47 @@
+//! A number of bits that a row takes, found by one pass over its items.
+
+ghost use Rattle.std.specs.Prelude.{◌≡◌, IsTrue, IfSome};
+ghost use Rattle.etcs_vars.specs.Vars.{admits};
+ghost use Rattle.etcs_rows.specs.Layouts.{layout};
+ghost use Rattle.etcs_rows.specs.Lengths.{LengthsBy};
+
+use crate::item::RowItem;
+use etcs_vars::Var;
+
+/// The least number that a variable admits.
+fn least_of(var: Var) -> Option<u64>
+    ensures { IfSome result (λ n. IsTrue (admits var n)) }
+{
+    let (least, _) = *var.ranges().first()?;
+    if var.admits(least) { Some(least) } else { None }
+}
+
+/// How many bits a row takes behind a number, where each variable has its least number. `None` where a group would be
+/// counted by a number above 0.
+pub(crate) fn some_length(items: &'static [RowItem], before: u64) -> Option<usize>
+    ensures { IfSome result (λ m. LengthsBy (layout items.now) before m) }
+{
+    match items.split_first() {
+        None => Some(0),
+        Some((RowItem::One(var), rest)) => {
+            let behind = some_length(rest, least_of(*var)?)?;
+            behind.checked_add(var.width())
+        }
+        Some((RowItem::When(guard, count), rest)) => {
+            let (group, rest) = rest.split_at(rest.len().min(*count));
+            let behind = some_length(rest, before)?;
+            if guard.test.passes(before) {
+                behind.checked_add(some_length(group, before)?)
+            } else {
+                Some(behind)
+            }
+        }
+        Some((RowItem::Many(count), rest)) => {
+            let (_, rest) = rest.split_at(rest.len().min(*count));
+            if before > 0 {
+                return None;
+            }
+            some_length(rest, before)
+        }
+    }
+}

@@ -5,6 +5,7 @@ pub mod laws;
 mod packet;
 pub mod parts;
 mod typed;
+mod variant;
 
 pub use etcs_flat::{Flat, Marker, Other};
 pub use etcs_orders::{ConditionalLevelOrder, FixedText, InfillLocation, LevelOrder, PlainText};

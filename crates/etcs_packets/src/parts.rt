@@ -8,8 +8,12 @@ ghost use Rattle.etcs_packets.specs.PacketValues.{packet_value, dir_of, variable
 ghost use Rattle.etcs_packets.specs.OnePacket.{IsMade};
 
 use crate::packet::Packet;
-use crate::typed::{hold, no_row, of_bits, of_fields};
+use crate::typed::{hold, no_row};
+use crate::variant::{packet_of_bits, packet_of_fields};
 use etcs_bits::BitSlice;
+use etcs_flat::Flat;
+use etcs_orders::{ConditionalLevelOrder, FixedText, InfillLocation, LevelOrder, PlainText};
+use etcs_profiles::{Gradient, Level1Ma, Level23Ma, Linking, SpeedProfile};
 use etcs_rows::Packetlike;
 use etcs_vars::Var;
 use etcs_vars::parts::{Sink, Variables};
@@ -144,30 +148,30 @@ pub fn from_fields(
     ensures none { IfOk result (λ o. IsNone o → IsTyped ToTrain nid dir fields.now → ⊥) }
 {
     match nid {
-        2 => Ok(of_fields(alloc, dir, fields)?.map(Packet::SystemVersion)),
-        5 => Ok(of_fields(alloc, dir, fields)?.map(Packet::Linking)),
-        12 => Ok(of_fields(alloc, dir, fields)?.map(Packet::Level1Ma)),
-        15 => Ok(of_fields(alloc, dir, fields)?.map(Packet::Level23Ma)),
-        16 => Ok(of_fields(alloc, dir, fields)?.map(Packet::Repositioning)),
-        21 => Ok(of_fields(alloc, dir, fields)?.map(Packet::Gradient)),
-        27 => Ok(of_fields(alloc, dir, fields)?.map(Packet::SpeedProfile)),
-        41 => Ok(of_fields(alloc, dir, fields)?.map(Packet::LevelOrder)),
-        42 => Ok(of_fields(alloc, dir, fields)?.map(Packet::SessionManagement)),
-        45 => Ok(of_fields(alloc, dir, fields)?.map(Packet::RadioNetwork)),
-        46 => Ok(of_fields(alloc, dir, fields)?.map(Packet::ConditionalLevelOrder)),
-        64 => Ok(of_fields(alloc, dir, fields)?.map(Packet::InhibitTsr)),
-        65 => Ok(of_fields(alloc, dir, fields)?.map(Packet::Tsr)),
-        66 => Ok(of_fields(alloc, dir, fields)?.map(Packet::TsrRevocation)),
-        72 => Ok(of_fields(alloc, dir, fields)?.map(Packet::PlainText)),
-        76 => Ok(of_fields(alloc, dir, fields)?.map(Packet::FixedText)),
-        132 => Ok(of_fields(alloc, dir, fields)?.map(Packet::DangerForShunting)),
-        135 => Ok(of_fields(alloc, dir, fields)?.map(Packet::StopShunting)),
-        136 => Ok(of_fields(alloc, dir, fields)?.map(Packet::InfillLocation)),
-        137 => Ok(of_fields(alloc, dir, fields)?.map(Packet::StopInSr)),
-        140 => Ok(of_fields(alloc, dir, fields)?.map(Packet::TrainRunningNumber)),
-        141 => Ok(of_fields(alloc, dir, fields)?.map(Packet::TsrGradient)),
-        145 => Ok(of_fields(alloc, dir, fields)?.map(Packet::InhibitConsistency)),
-        254 => Ok(of_fields(alloc, dir, fields)?.map(Packet::DefaultInformation)),
+        2 => packet_of_fields::<Flat<2>>(alloc, dir, fields),
+        5 => packet_of_fields::<Linking>(alloc, dir, fields),
+        12 => packet_of_fields::<Level1Ma>(alloc, dir, fields),
+        15 => packet_of_fields::<Level23Ma>(alloc, dir, fields),
+        16 => packet_of_fields::<Flat<16>>(alloc, dir, fields),
+        21 => packet_of_fields::<Gradient>(alloc, dir, fields),
+        27 => packet_of_fields::<SpeedProfile>(alloc, dir, fields),
+        41 => packet_of_fields::<LevelOrder>(alloc, dir, fields),
+        42 => packet_of_fields::<Flat<42>>(alloc, dir, fields),
+        45 => packet_of_fields::<Flat<45>>(alloc, dir, fields),
+        46 => packet_of_fields::<ConditionalLevelOrder>(alloc, dir, fields),
+        64 => packet_of_fields::<Flat<64>>(alloc, dir, fields),
+        65 => packet_of_fields::<Flat<65>>(alloc, dir, fields),
+        66 => packet_of_fields::<Flat<66>>(alloc, dir, fields),
+        72 => packet_of_fields::<PlainText>(alloc, dir, fields),
+        76 => packet_of_fields::<FixedText>(alloc, dir, fields),
+        132 => packet_of_fields::<Flat<132>>(alloc, dir, fields),
+        135 => packet_of_fields::<Flat<135>>(alloc, dir, fields),
+        136 => packet_of_fields::<InfillLocation>(alloc, dir, fields),
+        137 => packet_of_fields::<Flat<137>>(alloc, dir, fields),
+        140 => packet_of_fields::<Flat<140>>(alloc, dir, fields),
+        141 => packet_of_fields::<Flat<141>>(alloc, dir, fields),
+        145 => packet_of_fields::<Flat<145>>(alloc, dir, fields),
+        254 => packet_of_fields::<Flat<254>>(alloc, dir, fields),
         _ => {
             no_row(nid);
             Ok(None)
@@ -191,30 +195,30 @@ pub fn from_bits(
     ensures none { IfOk result (λ o. IsNone o → (r : Reading) → IsFramed ToTrain nid dir r → spelled r ≡ bits.entry → ⊥) }
 {
     match nid {
-        2 => Ok(of_bits(alloc, dir, bits)?.map(Packet::SystemVersion)),
-        5 => Ok(of_bits(alloc, dir, bits)?.map(Packet::Linking)),
-        12 => Ok(of_bits(alloc, dir, bits)?.map(Packet::Level1Ma)),
-        15 => Ok(of_bits(alloc, dir, bits)?.map(Packet::Level23Ma)),
-        16 => Ok(of_bits(alloc, dir, bits)?.map(Packet::Repositioning)),
-        21 => Ok(of_bits(alloc, dir, bits)?.map(Packet::Gradient)),
-        27 => Ok(of_bits(alloc, dir, bits)?.map(Packet::SpeedProfile)),
-        41 => Ok(of_bits(alloc, dir, bits)?.map(Packet::LevelOrder)),
-        42 => Ok(of_bits(alloc, dir, bits)?.map(Packet::SessionManagement)),
-        45 => Ok(of_bits(alloc, dir, bits)?.map(Packet::RadioNetwork)),
-        46 => Ok(of_bits(alloc, dir, bits)?.map(Packet::ConditionalLevelOrder)),
-        64 => Ok(of_bits(alloc, dir, bits)?.map(Packet::InhibitTsr)),
-        65 => Ok(of_bits(alloc, dir, bits)?.map(Packet::Tsr)),
-        66 => Ok(of_bits(alloc, dir, bits)?.map(Packet::TsrRevocation)),
-        72 => Ok(of_bits(alloc, dir, bits)?.map(Packet::PlainText)),
-        76 => Ok(of_bits(alloc, dir, bits)?.map(Packet::FixedText)),
-        132 => Ok(of_bits(alloc, dir, bits)?.map(Packet::DangerForShunting)),
-        135 => Ok(of_bits(alloc, dir, bits)?.map(Packet::StopShunting)),
-        136 => Ok(of_bits(alloc, dir, bits)?.map(Packet::InfillLocation)),
-        137 => Ok(of_bits(alloc, dir, bits)?.map(Packet::StopInSr)),
-        140 => Ok(of_bits(alloc, dir, bits)?.map(Packet::TrainRunningNumber)),
-        141 => Ok(of_bits(alloc, dir, bits)?.map(Packet::TsrGradient)),
-        145 => Ok(of_bits(alloc, dir, bits)?.map(Packet::InhibitConsistency)),
-        254 => Ok(of_bits(alloc, dir, bits)?.map(Packet::DefaultInformation)),
+        2 => packet_of_bits::<Flat<2>>(alloc, dir, bits),
+        5 => packet_of_bits::<Linking>(alloc, dir, bits),
+        12 => packet_of_bits::<Level1Ma>(alloc, dir, bits),
+        15 => packet_of_bits::<Level23Ma>(alloc, dir, bits),
+        16 => packet_of_bits::<Flat<16>>(alloc, dir, bits),
+        21 => packet_of_bits::<Gradient>(alloc, dir, bits),
+        27 => packet_of_bits::<SpeedProfile>(alloc, dir, bits),
+        41 => packet_of_bits::<LevelOrder>(alloc, dir, bits),
+        42 => packet_of_bits::<Flat<42>>(alloc, dir, bits),
+        45 => packet_of_bits::<Flat<45>>(alloc, dir, bits),
+        46 => packet_of_bits::<ConditionalLevelOrder>(alloc, dir, bits),
+        64 => packet_of_bits::<Flat<64>>(alloc, dir, bits),
+        65 => packet_of_bits::<Flat<65>>(alloc, dir, bits),
+        66 => packet_of_bits::<Flat<66>>(alloc, dir, bits),
+        72 => packet_of_bits::<PlainText>(alloc, dir, bits),
+        76 => packet_of_bits::<FixedText>(alloc, dir, bits),
+        132 => packet_of_bits::<Flat<132>>(alloc, dir, bits),
+        135 => packet_of_bits::<Flat<135>>(alloc, dir, bits),
+        136 => packet_of_bits::<InfillLocation>(alloc, dir, bits),
+        137 => packet_of_bits::<Flat<137>>(alloc, dir, bits),
+        140 => packet_of_bits::<Flat<140>>(alloc, dir, bits),
+        141 => packet_of_bits::<Flat<141>>(alloc, dir, bits),
+        145 => packet_of_bits::<Flat<145>>(alloc, dir, bits),
+        254 => packet_of_bits::<Flat<254>>(alloc, dir, bits),
         _ => {
             no_row(nid);
             Ok(None)

@@ -1,14 +1,12 @@
 //! What every typed packet does alike.
 
-ghost use Rattle.std.specs.Prelude.{◌≡◌, ◌≤◌, ◌+◌, ℕ, List, None, length, IfOk, IfSome, IsNone};
+ghost use Rattle.std.specs.Prelude.{◌≡◌, ◌≤◌, ◌+◌, ℕ, List, None, length};
 ghost use Rattle.etcs_rows.specs.declared.row.Way.TheVariants.{ToTrain};
 ghost use Rattle.etcs_rows.specs.Rows.{row_to};
-ghost use Rattle.etcs_vars.specs.Reading.{Reading, numbers, spelled};
+ghost use Rattle.etcs_vars.specs.Reading.{Reading, spelled};
 ghost use Rattle.etcs_rows.specs.Typed.{IsTyped, IsFramed};
 
-use etcs_bits::BitSlice;
 use etcs_rows::parts::Framed;
-use std::alloc::{AllocError, Global};
 
 /// The bits of NID_PACKET, Q_DIR and L_PACKET.
 const FRAME_BITS: usize = 23;
@@ -30,20 +28,6 @@ pub(crate) fn typed_bits<P: Framed>(packet: &P) -> usize
     FRAME_BITS + packet.bits()
 }
 
-/// The typed packet of a direction and these numbers, if there is one.
-pub(crate) fn of_fields<P: Framed>(
-    alloc: Global,
-    dir: u8,
-    fields: &[u64],
-) -> Result<Option<P>, AllocError>
-    ensures made { IfOk result (λ o. IfSome o (λ p. P.is_value p)) }
-    ensures dir { IfOk result (λ o. IfSome o (λ p. P.direction p ≡ dir)) }
-    ensures some { IfOk result (λ o. IfSome o (λ p. numbers (P.reading_of p) ≡ fields.now)) }
-    ensures none { IfOk result (λ o. IsNone o → IsTyped P.WAY P.NID dir fields.now → ⊥) }
-{
-    P::from_fields(alloc, dir, fields)
-}
-
 /// Says of a number without a row that no typed packet has it.
 pub(crate) fn no_row(nid: u8)
     requires { row_to ToTrain nid ≡ None }
@@ -51,18 +35,4 @@ pub(crate) fn no_row(nid: u8)
     ensures bits { (dir : ℕ) (r : Reading) → IsFramed ToTrain nid dir r → ⊥ }
 {
     let _ = nid;
-}
-
-/// The typed packet of a direction and these bits, if there is one.
-pub(crate) fn of_bits<P: Framed>(
-    alloc: Global,
-    dir: u8,
-    bits: BitSlice<'_>,
-) -> Result<Option<P>, AllocError>
-    ensures made { IfOk result (λ o. IfSome o (λ p. P.is_value p)) }
-    ensures dir { IfOk result (λ o. IfSome o (λ p. P.direction p ≡ dir)) }
-    ensures some { IfOk result (λ o. IfSome o (λ p. spelled (P.reading_of p) ≡ bits.entry)) }
-    ensures none { IfOk result (λ o. IsNone o → (r : Reading) → IsFramed P.WAY P.NID dir r → spelled r ≡ bits.entry → ⊥) }
-{
-    P::from_bits(alloc, dir, bits)
 }

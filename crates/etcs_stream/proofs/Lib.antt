@@ -1,4 +1,5 @@
 pub mod HexDigits
+pub mod GoodLines
 pub mod ItemKinds
 pub mod Tellings
 pub mod Answering
@@ -7,6 +8,7 @@ pub mod GroupLengths
 pub mod TellLengths
 pub mod OneGroups
 pub mod OneTexts
+pub mod ReadingBack
 pub mod Streams
 pub mod Standing
 pub mod Cutting

@@ -20,7 +20,7 @@ no_digit c e h = let t : is_hex_digit 10 ≡ true = subst (λ (n : ℕ). is_hex_
 pub good_last : (line : List ℕ) → bad_place line ≡ None → IsLine line
 good_last line h = λ k d lt e. no_digit (get_or line k d) e (good_digits line h k d lt)
 
-both_true : (a b : Bool) → a && b ≡ true → (a ≡ true) × (b ≡ true)
+pub both_true : (a b : Bool) → a && b ≡ true → (a ≡ true) × (b ≡ true)
 both_true true b h = (refl, h)
 both_true false b h = absurd cc
 

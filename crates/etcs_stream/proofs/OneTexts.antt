@@ -1,5 +1,5 @@
 -- Items have one text.
-use Rattle.std.proofs.Common.{◌≡◌, ℕ, ◌+◌, ◌^◌, ◌<◌, List, [], ◌∷◌, ◌++◌, length, get_or, refl, sym, ap, subst, ◌∙◌, arith, inl, inr}
+use Rattle.std.proofs.Common.{◌≡◌, ℕ, ◌^◌, ◌<◌, List, [], ◌∷◌, ◌++◌, length, get_or, refl, sym, ap, subst, ◌∙◌, arith, inl, inr}
 use Rattle.std.specs.Prelude.{All}
 use Rattle.std.proofs.lemmas.Bool.{cases_lt}
 use Rattle.std.proofs.lemmas.List.{get_or_past}
@@ -30,7 +30,7 @@ one_spelling : (e : EntryValue) (r q : Reading) → Spells e r → Spells e q �
 one_spelling (of_telegram t) r q x y = x.reading_is ∙ sym y.reading_is
 one_spelling (of_message m) r q x y = one_message m r q x y
 
-all_small : (bytes : List ℕ) → All (λ b. b < 256) bytes → (i : ℕ) → get_or bytes i 0 < 2 ^ 8
+pub all_small : (bytes : List ℕ) → All (λ b. b < 256) bytes → (i : ℕ) → get_or bytes i 0 < 2 ^ 8
 all_small bytes h i = elim (cases_lt i (length bytes)) [
   | inl lt ↦ h i 0 lt
   | inr ge ↦ omega (arith, get_or_past bytes i 0 ge)

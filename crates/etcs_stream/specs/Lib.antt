@@ -15,3 +15,4 @@ pub mod Passes
 pub mod Stands
 pub mod StandLaws
 pub mod OneRuns
+pub mod ReadBacks

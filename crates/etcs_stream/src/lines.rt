@@ -10,6 +10,7 @@ ghost use Rattle.etcs_stream.specs.Stands.{LinesStand};
 use crate::engine::Engine;
 use crate::fault::RunFault;
 use crate::job::{Job, Tally};
+use memchr::memchr;
 use std::alloc::{AllocError, Global};
 
 /// Takes the lines of a text one after the other, and tells the items in them.
@@ -70,7 +71,7 @@ fn split_line(text: &[u8]) -> Option<(&[u8], &[u8])>
     ensures some { IfSome result (λ p. (text.now ≡ p.0.now ++ 10 ∷ p.1.now) × IsLine p.0.now) }
     ensures none { IsNone result → IsLine text.now }
 {
-    let at = text.iter().position(|character| *character == b'\n')?;
+    let at = memchr(b'\n', text)?;
     Some((&text[..at], &text[at + 1..]))
 }
 

@@ -1,0 +1,13 @@
+-- What a conversion writes is read again as the items that it was written of.
+use Rattle.std.specs.Prelude.{ℕ, ◌≤◌, Bool, List, length}
+use Rattle.etcs_text.specs.declared.entry.Kind.{Kind}
+use Rattle.etcs_text.specs.Entries.{EntryValue}
+use Rattle.etcs_stream.specs.declared.job.Command.TheVariants.{Convert}
+use Rattle.etcs_stream.specs.declared.job.Form.{Form}
+use Rattle.etcs_stream.specs.Inputs.{ItemsOf, ended}
+use Rattle.etcs_stream.specs.Streams.{AreSpelled}
+use Rattle.etcs_stream.specs.Tellers.{ItemsText}
+
+-- the text that a conversion writes of at most a million items of a kind is, in that form, these items and no more
+abbrev pub ReadBack : Type 0
+ReadBack = (form : Form) (kind : Kind) (es : List EntryValue) (spelt : List Bool) (text : List ℕ) → AreSpelled kind es spelt → length es ≤ 1000000 → ItemsText (Convert form) es text → ItemsOf form kind text es ended

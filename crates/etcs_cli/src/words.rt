@@ -173,27 +173,38 @@ fn line<'a>(alloc: Global) -> Result<Line<'a>, AllocError> {
 /// `show`.
 fn show<'a>(alloc: Global) -> Result<Line<'a>, AllocError> {
     let line = subcommand(alloc, "show", &KINDS, KINDS_HELP)?;
-    Ok(line.about("Show the variables of each telegram or message, a line each"))
+    Ok(
+        line.about("Show the variables of each telegram or message, a line each")
+            .after_help("Example: etcs show --kind long < telegrams.hex"),
+    )
 }
 
 /// `check`.
 fn check<'a>(alloc: Global) -> Result<Line<'a>, AllocError> {
     let line = subcommand(alloc, "check", &KINDS, KINDS_HELP)?;
-    Ok(line.about("Check each telegram or message: a line with its number of bits"))
+    Ok(
+        line.about("Check each telegram or message: a line with its number of bits")
+            .after_help("Example: etcs check --kind radio --from bin < messages.bin"),
+    )
 }
 
 /// `convert`.
 fn convert<'a>(alloc: Global) -> Result<Line<'a>, AllocError> {
     let line = subcommand(alloc, "convert", &KINDS, KINDS_HELP)?.arg(to_option(alloc))?;
-    Ok(line.about("Write each telegram or message in another form"))
+    Ok(
+        line.about("Write each telegram or message in another form")
+            .after_help("Example: etcs convert --kind short --to json < telegrams.hex"),
+    )
 }
 
 /// `group`.
 fn group<'a>(alloc: Global) -> Result<Line<'a>, AllocError> {
     let line = subcommand(alloc, "group", &GROUP_KINDS, GROUP_KINDS_HELP)?;
-    Ok(line.about(
-        "Put the telegrams of a balise group together, in any order, and show its message",
-    ))
+    Ok(
+        line.about(
+            "Put the telegrams of a balise group together, in any order, and show its message",
+        ).after_help("Example: etcs group --kind short --from json < group.json"),
+    )
 }
 
 /// A subcommand that takes items of some kinds.

@@ -218,3 +218,59 @@ fn whole_runs(rt: HostRuntime) -> Result<(), Fail> {
     assert!(rt; refused < 20);
     Ok(())
 }
+
+/// A message that is kept, as JSON.
+const JSON: &[u8] = b"{\"data\":\"111111\",\"kind\":\"radio\",\"nid\":15}";
+
+/// What a run over lines of JSON answers.
+fn check_json(alloc: Global, text: &[u8], written: &mut Vec<u8>) -> Result<Tally, RunFault> {
+    let job = Job {
+        kind: Kind::Radio,
+        from: Form::Json,
+        command: Command::Check,
+    };
+    let mut source = Input::new(text);
+    let mut sink = Output::new(written);
+    run(alloc, job, &mut source, &mut sink)
+}
+
+/// Two lines of JSON, so many blanks in front of the second.
+fn json_lines(alloc: Global, blanks: u32) -> Result<Vec<u8>, Fail> {
+    let mut text = JSON.to_vec(alloc)?;
+    text.push(b'\n')?;
+    for _ in 0..blanks {
+        text.push(b' ')?;
+    }
+    text.extend_from_slice(JSON)?;
+    Ok(text)
+}
+
+/// Runs over lines of JSON, of which the second comes in one piece and in several.
+#[test]
+fn whole_runs_from_json(rt: HostRuntime) -> Result<(), Fail> {
+    let alloc = rt.alloc();
+    let wanted = b"item 1 ok 24 bits\nitem 2 ok 24 bits\n".as_slice();
+    for blanks in [0, 5000, 20_000] {
+        let text = json_lines(alloc, blanks)?;
+        let mut written = Vec::new(alloc);
+        check_json(alloc, text.as_slice(), &mut written)?;
+        assert!(rt; written.as_slice() == wanted);
+        let mut refused = 0u32;
+        for room in ROOMS {
+            let mut written: Vec<u8> = Vec::with_capacity(alloc, 4096)?;
+            let held = starve_to(alloc, room)?;
+            let answer = check_json(alloc, text.as_slice(), &mut written);
+            drop(held);
+            if answer.is_ok() {
+                assert!(rt; written.as_slice() == wanted);
+            } else {
+                assert!(rt; answer == Err(RunFault::Memory));
+                assert!(rt; written.is_empty() || written.len() == wanted.len() / 2);
+                assert!(rt; wanted.starts_with(written.as_slice()));
+                refused = refused.saturating_add(1);
+            }
+        }
+        assert!(rt; refused > 0);
+    }
+    Ok(())
+}

@@ -1,8 +1,9 @@
 //! Vectors of headers and telegrams that are built of their parts. A header is its eight numbers in order.
 
 use crate::packets::packets;
-use crate::telegrams::{encoded, is_read_again, telegram};
-use crate::words::{drop_line_end, header, push_fault, push_hex, push_unless, size};
+use crate::telegrams::{encoded, telegram};
+use crate::ways::Ways;
+use crate::words::{counted, drop_line_end, header, push_fault, push_hex, push_unless, size};
 use etcs_bits::Bits;
 use etcs_packets::Packet;
 use etcs_row_cases::words::{bits, numbers, push_bits, push_number, push_text};
@@ -154,7 +155,8 @@ fn push_built(
     push_hex(out, bytes.as_slice().get(..len).unwrap_or(&[]))?;
     let parts = telegram.size() == size && telegram.header() == header;
     push_unless(out, parts, "of other parts")?;
-    push_unless(out, is_read_again(alloc, telegram)?, "not read again")
+    let again = size.is_read_again(alloc, telegram)?;
+    push_unless(out, again, "not read again")
 }
 
 /// The text of packets that came back.
@@ -180,13 +182,10 @@ pub(crate) fn tell_room(
     words: &str,
     out: &mut Vec<u8>,
 ) -> Result<Option<()>, AllocError> {
-    let Some((room, words)) = words.split_once(' ') else {
+    let Some((room, words)) = counted(words) else {
         return Ok(None);
     };
-    let Ok(room) = room.parse::<u8>() else {
-        return Ok(None);
-    };
-    let Some(telegram) = telegram(alloc, words)? else {
+    let (Ok(room), Some(telegram)) = (u8::try_from(room), telegram(alloc, words)?) else {
         return Ok(None);
     };
     let (len, buffer) = encoded(alloc, &telegram, usize::from(room), 0x55)?;

@@ -84,7 +84,7 @@ fn push_part(alloc: Global, part: &str, all: &mut Vec<u8>) -> Result<bool, Alloc
 }
 
 /// What a feed answered.
-fn push_fed(fed: Result<Fed, ReadFault>, out: &mut Vec<u8>) -> Result<(), AllocError> {
+pub(crate) fn push_fed(fed: Result<Fed, ReadFault>, out: &mut Vec<u8>) -> Result<(), AllocError> {
     match fed {
         Ok(Fed::More) => push_text(out, "more"),
         Ok(Fed::Done { taken }) => {

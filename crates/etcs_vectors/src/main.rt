@@ -8,7 +8,6 @@
 mod builds;
 mod feeds;
 mod kinds;
-mod message_turns;
 mod messages;
 mod packets;
 mod report;
@@ -17,6 +16,7 @@ mod sheet;
 mod telegrams;
 mod turns;
 mod views;
+mod ways;
 mod words;
 mod writes;
 

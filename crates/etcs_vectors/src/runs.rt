@@ -4,7 +4,7 @@ ghost use Rattle.std.specs.Prelude.{◌≡◌};
 ghost use Rattle.etcs_stream.specs.declared.job.Command.TheVariants as command;
 ghost use Rattle.etcs_stream.specs.declared.job.Form.TheVariants as form;
 
-use crate::words::{drop_line_end, push_hex, push_unless, size};
+use crate::words::{counted, drop_line_end, push_hex, push_unless, size};
 use etcs_cli::run_words;
 use etcs_row_cases::words::{bytes, push_number, push_text, variable};
 use etcs_stream::{
@@ -203,10 +203,10 @@ pub(crate) fn tell_repeated(
     words: &str,
     out: &mut Vec<u8>,
 ) -> Result<Option<()>, AllocError> {
-    let Some((count, rest)) = words.split_once(' ') else {
+    let Some((count, rest)) = counted(words) else {
         return Ok(None);
     };
-    let (Ok(count), Some((size, line))) = (count.parse::<u16>(), sized_text(alloc, rest)?) else {
+    let (Ok(count), Some((size, line))) = (u16::try_from(count), sized_text(alloc, rest)?) else {
         return Ok(None);
     };
     let mut one = Vec::new(alloc);
@@ -249,6 +249,27 @@ fn line_words(alloc: Global, line: &str) -> Result<Vec<String>, AllocError> {
     Ok(words)
 }
 
+/// What the program answers to a command line: its status, what it writes, and its faults.
+#[derive(Drop)]
+struct Answered {
+    status: u8,
+    output: Vec<u8>,
+    faults: Vec<u8>,
+}
+
+/// What the program answers to a command line over an input.
+fn run_line(alloc: Global, line: &str, input: &[u8]) -> Result<Answered, AllocError> {
+    let mut output: Vec<u8> = Vec::new(alloc);
+    let mut faults: Vec<u8> = Vec::new(alloc);
+    let words = line_words(alloc, line)?;
+    let status = run_words(alloc, words, input, &mut output, &mut faults);
+    Ok(Answered {
+        status,
+        output,
+        faults,
+    })
+}
+
 /// `status LINE`: the status of this command line over an empty input, and whether lines went to the output and to the
 /// faults.
 pub(crate) fn tell_status(
@@ -256,16 +277,12 @@ pub(crate) fn tell_status(
     line: &str,
     out: &mut Vec<u8>,
 ) -> Result<Option<()>, AllocError> {
-    let mut output: Vec<u8> = Vec::new(alloc);
-    let mut faults: Vec<u8> = Vec::new(alloc);
-    let input: &[u8] = &[];
-    let words = line_words(alloc, line)?;
-    let status = run_words(alloc, words, input, &mut output, &mut faults);
-    push_number(out, u64::from(status))?;
+    let answered = run_line(alloc, line, &[])?;
+    push_number(out, u64::from(answered.status))?;
     push_text(out, ", output ")?;
-    push_text(out, shape(output.as_slice()))?;
+    push_text(out, shape(answered.output.as_slice()))?;
     push_text(out, ", faults ")?;
-    push_text(out, shape(faults.as_slice()))?;
+    push_text(out, shape(answered.faults.as_slice()))?;
     Ok(Some(()))
 }
 
@@ -290,13 +307,10 @@ pub(crate) fn tell_program(
     let Some(input) = text(alloc, rest)? else {
         return Ok(None);
     };
-    let mut output: Vec<u8> = Vec::new(alloc);
-    let mut faults: Vec<u8> = Vec::new(alloc);
-    let words = line_words(alloc, line)?;
-    let status = run_words(alloc, words, input.as_slice(), &mut output, &mut faults);
-    push_number(out, u64::from(status))?;
-    push_written(output.as_slice(), out)?;
-    push_written(faults.as_slice(), out)?;
+    let answered = run_line(alloc, line, input.as_slice())?;
+    push_number(out, u64::from(answered.status))?;
+    push_written(answered.output.as_slice(), out)?;
+    push_written(answered.faults.as_slice(), out)?;
     Ok(Some(()))
 }
 
@@ -312,14 +326,11 @@ pub(crate) fn tell_bytes(
     let Some(input) = bytes(alloc, digits)? else {
         return Ok(None);
     };
-    let mut output: Vec<u8> = Vec::new(alloc);
-    let mut faults: Vec<u8> = Vec::new(alloc);
-    let words = line_words(alloc, line)?;
-    let status = run_words(alloc, words, input.as_slice(), &mut output, &mut faults);
-    push_number(out, u64::from(status))?;
-    if !output.is_empty() {
+    let answered = run_line(alloc, line, input.as_slice())?;
+    push_number(out, u64::from(answered.status))?;
+    if !answered.output.is_empty() {
         push_text(out, "\n")?;
-        push_hex(out, output.as_slice())?;
+        push_hex(out, answered.output.as_slice())?;
     }
     Ok(Some(()))
 }

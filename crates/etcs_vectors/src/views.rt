@@ -50,20 +50,8 @@ fn push_packet(packet: &PacketRef<'_>, out: &mut Vec<u8>) -> Result<(), AllocErr
     push_text(out, "\n")
 }
 
-/// Whether a view of the bytes has what the telegram has.
-pub(crate) fn is_viewed(
-    alloc: Global,
-    telegram: &Telegram,
-    bytes: &[u8],
-) -> Result<bool, AllocError> {
-    match TelegramView::new(bytes, telegram.size()) {
-        Ok(view) => is_same(alloc, telegram, &view),
-        Err(_) => Ok(false),
-    }
-}
-
 /// Whether the view has what the telegram has.
-fn is_same(
+pub(crate) fn is_same(
     alloc: Global,
     telegram: &Telegram,
     view: &TelegramView<'_>,

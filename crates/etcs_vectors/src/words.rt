@@ -26,6 +26,12 @@ pub(crate) fn sized(alloc: Global, words: &str) -> Result<Option<(Size, Vec<u8>)
     }
 }
 
+/// A number, and the words behind it.
+pub(crate) fn counted(words: &str) -> Option<(u64, &str)> {
+    let (count, rest) = words.split_once(' ')?;
+    Some((count.parse::<u64>().ok()?, rest))
+}
+
 /// The header of eight numbers, or why there is none. `None` where they aren't eight, or too large for their types.
 pub(crate) fn header(numbers: &[u64]) -> Option<Result<Header, BuildFault>> {
     let [version, pig, total, dup, count, country, group, link] = numbers else {

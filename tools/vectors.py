@@ -1,0 +1,256 @@
+#!/usr/bin/env python3
+"""Runs a program over the vectors that a command line can answer.
+
+    tools/vectors.py [--kinds KIND,KIND] [--seconds N] PROGRAM [WORD ..]
+
+PROGRAM is `etcs`, or another codec with its command line; the WORDs go before those of each vector, as
+in `tools/vectors.py python3 my_wrapper.py`. The vectors are those of crates/etcs_vectors/stdin, and
+docs/VECTORS.md has their form. Kinds that speak of the library's calls alone are passed over. Each
+vector that isn't answered as expected is written with what was answered, and at the end how many there
+were of each kind. A call has N seconds, 60 where nothing is said. The status is 0 where none differs, 1
+where one does, and 2 where the words here are wrong or the program can't be run.
+"""
+
+import os
+import re
+import subprocess
+import sys
+
+REFUSED = re.compile(rb"etcs: item 1 refused at bit (\d+), (.+)\n")
+TRUNCATED = re.compile(rb"etcs: item 1 truncated after (\d+) bits\n")
+OK_LINE = re.compile(rb"item 1 ok (\d+) bits\n")
+
+
+class Program:
+    """The program, with the words that go before those of each vector."""
+
+    def __init__(self, words, seconds):
+        self.words = words
+        self.seconds = seconds
+
+    def run(self, words, given):
+        """Returns the status, the output and the faults of a command line over these bytes."""
+        done = subprocess.run(
+            [*self.words, *words], input=given, capture_output=True, timeout=self.seconds
+        )
+        return done.returncode, done.stdout, done.stderr
+
+
+def vectors_of(text):
+    """Yields each vector: where its first line stands, its kind, its words, what is expected."""
+    vector = None
+    for number, line in enumerate(text.split("\n"), 1):
+        if line.startswith(" "):
+            if vector:
+                vector[3] += ("\n" if vector[3] else "") + line[1:]
+            continue
+        if vector:
+            yield tuple(vector)
+        vector = None
+        if line and not line.startswith("#"):
+            head, _, expected = line.partition(" =")
+            kind, _, words = head.partition(" ")
+            vector = [number, kind, words, expected.removeprefix(" ")]
+    if vector:
+        yield tuple(vector)
+
+
+def text_bytes(text):
+    """The bytes of a text in which \\n is a LF and \\r a CR."""
+    return text.replace("\\n", "\n").replace("\\r", "\r").encode()
+
+
+def number(count):
+    """The bytes of a number."""
+    return str(count).encode()
+
+
+def behind(text):
+    """A text behind a LF, without the LF at its end; of nothing nothing."""
+    return b"\n" + text.removesuffix(b"\n") if text else b""
+
+
+def whole(status, output, faults):
+    """All that a call answered."""
+    return number(status) + behind(output) + behind(faults)
+
+
+def shown(program, kind, given):
+    """What is said of the bytes of one item: its text, what is refused, or that more are wanted."""
+    status, output, faults = program.run(["show", "--kind", kind], given.hex().upper().encode())
+    if status == 0 and not faults:
+        return output.removesuffix(b"\n") if given else b"wants more" + behind(output)
+    refused = REFUSED.fullmatch(faults)
+    truncated = TRUNCATED.fullmatch(faults)
+    if (status, output) == (1, b"") and refused:
+        return b"refused %b %b" % refused.groups()
+    if (status, output) == (1, b"") and truncated and int(truncated[1]) == 8 * len(given):
+        return b"wants more"
+    return whole(status, output, faults)
+
+
+def answer_item(program, kind, words):
+    """`short HEX`, `long HEX`, `radio HEX`."""
+    return shown(program, kind, bytes.fromhex(words))
+
+
+def answer_message(program, _, words):
+    """`message HEX`: how many bits and packets it has."""
+    lines = shown(program, "radio", bytes.fromhex(words)).split(b"\n")
+    packets = sum(line.startswith(b"packet ") for line in lines)
+    return lines[0].removeprefix(b"item 1 radio ") + b", packets " + number(packets)
+
+
+def answer_turned(program, _, words):
+    """`turned KIND HEX`: a line for each bit that can't be turned, with what is answered then."""
+    kind, _, digits = words.partition(" ")
+    lines = []
+    given = bytes.fromhex(digits)
+    for bit in range(8 * len(given)):
+        turned = bytearray(given)
+        turned[bit // 8] ^= 0x80 >> bit % 8
+        said = said_turned(program, kind, bytes(turned))
+        if said:
+            lines.append(number(bit) + b" " + said)
+    return b"\n".join(lines)
+
+
+def said_turned(program, kind, given):
+    """What is said of turned bytes; nothing where they are an item."""
+    _, output, _ = program.run(["check", "--kind", kind], given.hex().upper().encode())
+    found = OK_LINE.match(output)
+    if not found:
+        return shown(program, kind, given)
+    if kind != "radio" or int(found[1]) == 8 * len(given):
+        return b""
+    return b"done " + number(int(found[1]) // 8)
+
+
+def answer_text(program, size, given):
+    """What a run over a text answers, and what it writes."""
+    status, output, faults = program.run(["show", "--kind", size], given)
+    if (status, faults) == (0, b""):
+        items = len(re.findall(rb"^item ", output, re.MULTILINE))
+        return b"ok " + number(items) + behind(output)
+    if status in (1, 3):
+        return faults.removesuffix(b"\n") + behind(output)
+    return whole(status, output, faults)
+
+
+def answer_run(program, _, words):
+    """`run SIZE TEXT`."""
+    size, _, text = words.partition(" ")
+    return answer_text(program, size, text_bytes(text))
+
+
+def answer_zeros(program, _, words):
+    """`zeros SIZE COUNT TEXT`: as `run`, with so many zeros in front."""
+    size, count, text = [*words.split(" ", 2), ""][:3]
+    return answer_text(program, size, b"0" * int(count) + text_bytes(text))
+
+
+def answer_repeated(program, _, words):
+    """`repeated COUNT SIZE HEX`: the text of item 1, where all items have it with their numbers."""
+    count, size, digits = words.split(" ")
+    _, one, _ = program.run(["show", "--kind", size], digits.encode())
+    given = (digits.encode() + b"\n") * int(count)
+    status, output, faults = program.run(["show", "--kind", size], given)
+    rest = one.removeprefix(b"item 1")
+    wanted = b"".join(b"item " + number(item) + rest for item in range(1, int(count) + 1))
+    if (status, output, faults) != (0, wanted, b""):
+        return whole(status, output, faults)
+    return b"ok " + count.encode() + behind(one)
+
+
+def shape(text):
+    """Whether a text is nothing, or whole lines."""
+    if not text:
+        return "none"
+    return "lines" if text.endswith(b"\n") else "more than lines"
+
+
+def answer_status(program, _, words):
+    """`status LINE`: what a command line over an empty input answers; nothing of one without words."""
+    if not words:
+        return None
+    status, output, faults = program.run(words.split(" ")[1:], b"")
+    return f"{status}, output {shape(output)}, faults {shape(faults)}".encode()
+
+
+def answer_program(program, _, words):
+    """`program LINE < TEXT`."""
+    line, _, text = words.partition(" < ")
+    return whole(*program.run(line.split(" ")[1:], text_bytes(text)))
+
+
+def answer_bytes(program, _, words):
+    """`bytes LINE < HEX`: status and output."""
+    line, _, digits = words.partition(" < ")
+    status, output, _ = program.run(line.split(" ")[1:], bytes.fromhex(digits))
+    return number(status) + behind(output.hex().upper().encode())
+
+
+ANSWERS = {
+    "short": answer_item,
+    "long": answer_item,
+    "radio": answer_item,
+    "message": answer_message,
+    "turned": answer_turned,
+    "run": answer_run,
+    "zeros": answer_zeros,
+    "repeated": answer_repeated,
+    "status": answer_status,
+    "program": answer_program,
+    "bytes": answer_bytes,
+}
+
+
+def check(program, kinds, text):
+    """Writes each vector that differs, and the counts: whether none differs."""
+    counts = dict.fromkeys(kinds, 0)
+    wrong = 0
+    for line, kind, words, expected in vectors_of(text):
+        if kind not in kinds:
+            continue
+        try:
+            found = ANSWERS[kind](program, kind, words)
+        except subprocess.TimeoutExpired:
+            found = b"no answer in time"
+        if found is None:
+            continue
+        counts[kind] += 1
+        if found != expected.encode():
+            wrong += 1
+            print(f"line {line}: {kind} {words} =\n{found.decode(errors='replace')}")
+    for kind, count in counts.items():
+        print(f"{kind} {count}")
+    print(f"{sum(counts.values())} vectors, {wrong} wrong")
+    return wrong == 0
+
+
+def main(words):
+    kinds, seconds = list(ANSWERS), 60
+    while len(words) > 1 and words[0] in ("--kinds", "--seconds"):
+        if words[0] == "--kinds":
+            kinds = words[1].split(",")
+        else:
+            seconds = int(words[1])
+        words = words[2:]
+    if missing := {*kinds} - {*ANSWERS}:
+        print(f"no command line answers: {' '.join(sorted(missing))}", file=sys.stderr)
+        return 2
+    if not words or words[0].startswith("-"):
+        print(__doc__, file=sys.stderr)
+        return 2
+    top = os.path.dirname(os.path.dirname(os.path.realpath(__file__)))
+    with open(f"{top}/crates/etcs_vectors/stdin", encoding="utf-8", newline="") as sheet:
+        text = sheet.read()
+    try:
+        return 0 if check(Program(words, seconds), kinds, text) else 1
+    except OSError as error:
+        print(f"{words[0]}: {error.strerror}", file=sys.stderr)
+        return 2
+
+
+if __name__ == "__main__":
+    sys.exit(main(sys.argv[1:]))

@@ -1,5 +1,5 @@
 -- Variables over the bits of bytes.
-use Rattle.std.proofs.Common.{◌≡◌, ℕ, zero, suc, ◌+◌, ◌-◌, ◌*◌, ◌/◌, ◌%◌, ◌^◌, ◌<◌, ◌≤◌, Bool, true, false, List, [], ◌∷◌, ◌++◌, length, take, drop, get_or, leb, refl, sym, ap, ◌∙◌, arith, le-leb}
+use Rattle.std.proofs.Common.{◌≡◌, ℕ, zero, suc, ◌+◌, ◌-◌, ◌*◌, ◌/◌, ◌%◌, ◌^◌, ◌<◌, ◌≤◌, Bool, true, false, List, [], ◌∷◌, ◌++◌, length, take, drop, get_or, leb, refl, sym, ap, ◌∙◌, arith, le-leb, append-nil, append_assoc}
 use Rattle.std.proofs.Math.Nat.{mod-mod}
 use Rattle.std.proofs.lemmas.Bool.{lt-leb}
 use Rattle.std.proofs.lemmas.List.{take_at, drop_at, length-take-le, length-drop, length-append, take-append-drop}
@@ -11,8 +11,9 @@ use Rattle.etcs_bits.proofs.WordWrites.{word_lower}
 use Rattle.etcs_vars.specs.Vars.{width}
 use Rattle.etcs_vars.specs.Reading.{Sent, Reading, spelled}
 use Rattle.etcs_writing.specs.declared.sink.BitSink.{BitSink}
+use Rattle.etcs_writing.specs.Joins.{Joins}
 use Rattle.etcs_writing.specs.Written.{packed, over}
-use Rattle.etcs_writing.specs.Sinks.{put, with_sent, room}
+use Rattle.etcs_writing.specs.Sinks.{put, with_sent, written, room}
 
 -- ---- Bytes and their bits.
 
@@ -54,7 +55,7 @@ num-low w n =
 
 -- ---- One variable.
 
-pub put_some : (s : BitSink) (p : Sent) → s.place + width p.0 ≤ room s.bytes.now → record { bytes = record s.bytes { now = over s.bytes.now s.place (num (width p.0) p.1) }; place = s.place + width p.0 } ≡ put s p
+pub put_some : (s : BitSink) (p : Sent) → s.place + width p.0 ≤ room s.bytes.now → written s (width p.0) (num (width p.0) p.1) ≡ put s p
 unfolding put
 put_some s p h = let t : leb (s.place + width p.0) (room s.bytes.now) ≡ true = le-leb _ _ h in rw t refl
 
@@ -63,6 +64,65 @@ unfolding put
 put_none s p h = let t : leb (s.place + width p.0) (room s.bytes.now) ≡ false = lt-leb _ _ h in rw t refl
 
 -- ---- Several.
+
+length-packed : (n : ℕ) (bs : List Bool) → length (packed n bs) ≡ n
+unfolding packed
+length-packed zero bs = refl
+length-packed (suc n) bs = ap suc (length-packed n (drop 8 bs))
+
+-- bits over bits
+pub over_more : (bytes : List ℕ) (place next : ℕ) (a b : List Bool) → next ≡ place + length a → next + length b ≤ length (bits bytes) → over (over bytes place a) next b ≡ over bytes place (a ++ b)
+over_more bytes place next a b e h =
+    let inside : place + length a ≤ length (bits bytes) = omega (arith, e, h) in
+    ap (λ (k : ℕ). packed k (replaced next b (bits (over bytes place a)))) (length-packed (length bytes) (replaced place a (bits bytes)))
+    ∙ ap (λ (t : List Bool). packed (length bytes) (replaced next b t)) (bits-over bytes place a inside)
+    ∙ ap (packed (length bytes)) (replaced_more place next a b (bits bytes) e (omega (arith, h)))
+
+-- bits behind bits, at once
+written_more : (s : BitSink) (a b : List Bool) → s.place + (length a + length b) ≤ length (bits s.bytes.now) → written (written s (length a) a) (length b) b ≡ written s (length a + length b) (a ++ b)
+written_more s a b h =
+    let one = over_more s.bytes.now s.place (s.place + length a) a b refl (omega (arith, h)) in
+    let two : (s.place + length a) + length b ≡ s.place + (length a + length b) = omega arith in
+    rw (one, two) refl
+
+-- all of them at once, where there is room for them
+with_room : (s : BitSink) (bs : List Bool) (r : Reading) → s.place + (length bs + length (spelled r)) ≤ room s.bytes.now → with_sent (written s (length bs) bs) r ≡ written s (length bs + length (spelled r)) (bs ++ spelled r)
+with_room s bs [] h = let none : length bs + 0 ≡ length bs = omega arith in rw (append-nil bs, none) refl
+with_room s bs ((v, n) ∷ r) h =
+    let new = num (width v) n in
+    let size : length new ≡ width v = length-num (width v) n in
+    let all : length (new ++ spelled r) ≡ length new + length (spelled r) = length-append new (spelled r) in
+    let both : length (bs ++ new) ≡ length bs + length new = length-append bs new in
+    let inside = length-bits s.bytes.now in
+    let same : length (over s.bytes.now s.place bs) ≡ length s.bytes.now = length-packed (length s.bytes.now) (replaced s.place bs (bits s.bytes.now)) in
+    let fits : (s.place + length bs) + width v ≤ room (over s.bytes.now s.place bs) = omega (arith, h, all, size, same) in
+    let more = written_more s bs new (omega (arith, h, all, inside)) in
+    let first : put (written s (length bs) bs) (v, n) ≡ written s (length (bs ++ new)) (bs ++ new) =
+    sym (put_some (written s (length bs) bs) (v, n) fits) ∙ ap (λ (k : ℕ). written (written s (length bs) bs) k new) (sym size) ∙ more ∙ ap (λ (k : ℕ). written s k (bs ++ new)) (sym both) in
+    let rest = with_room s (bs ++ new) r (omega (arith, h, all, both)) in
+    let count : length (bs ++ new) + length (spelled r) ≡ length bs + length (new ++ spelled r) = omega (arith, all, both) in
+    ap (λ (t : BitSink). with_sent t r) first ∙ rest ∙ ap (λ (k : ℕ). written s k ((bs ++ new) ++ spelled r)) count ∙ ap (λ (t : List Bool). written s (length bs + length (new ++ spelled r)) t) (append_assoc bs new (spelled r))
+
+front_written : (s : BitSink) (r : Reading) → 0 < length r → s.place + length (spelled r) ≤ room s.bytes.now → written s (length (spelled r)) (spelled r) ≡ with_sent s r
+front_written s [] pos h = absurd (omega (arith, pos))
+front_written s ((v, n) ∷ r) pos h =
+    let new = num (width v) n in
+    let size : length new ≡ width v = length-num (width v) n in
+    let all : length (new ++ spelled r) ≡ length new + length (spelled r) = length-append new (spelled r) in
+    let first = sym (put_some s (v, n) (omega (arith, h, all, size))) ∙ ap (λ (k : ℕ). written s k new) (sym size) in
+    let rest = with_room s new r (omega (arith, h, all)) in
+    sym (ap (λ (t : BitSink). with_sent t r) first ∙ rest ∙ ap (λ (k : ℕ). written s k (new ++ spelled r)) (sym all))
+
+-- the first of some variables, joined into one number
+pub joined_written : (s : BitSink) (sent : Reading) (count wide number : ℕ) → Joins sent count wide number → s.place + wide ≤ room s.bytes.now → written s wide (num wide number) ≡ with_sent s (take count sent)
+joined_written s sent count wide number j h =
+    let r = take count sent in
+    let long : length r ≡ count = length-take-le count sent j.most in
+    let some = j.some in
+    let width-is = j.width_is in
+    ap (λ (t : List Bool). written s wide t) j.bits_are
+    ∙ ap (λ (k : ℕ). written s k (spelled r)) width-is
+    ∙ front_written s r (omega (arith, long, some)) (omega (arith, h, width-is))
 
 -- with room for all of them
 pub record Stands (s : BitSink) (r : Reading) : Type 0 where

@@ -1,3 +1,4 @@
 pub mod Written
 pub mod Sinks
 pub mod Fronts
+pub mod Joins

@@ -1,5 +1,5 @@
 -- What a sink of bits holds.
-use Rattle.std.proofs.Common.{◌≡◌, ℕ, ◌+◌, ◌*◌, ◌-◌, ◌^◌, min, List, [], ◌∷◌, ◌++◌, length, nat_le, if◌then◌else◌, refl}
+use Rattle.std.proofs.Common.{◌≡◌, ℕ, ◌+◌, ◌*◌, ◌-◌, ◌^◌, min, Bool, List, [], ◌∷◌, ◌++◌, length, nat_le, if◌then◌else◌, refl}
 use Rattle.etcs_bits.specs.Bits.{num}
 use Rattle.etcs_vars.specs.Vars.{width}
 use Rattle.etcs_vars.specs.Reading.{Sent, Reading}
@@ -18,9 +18,13 @@ place_of s = s.place
 abbrev pub room : List ℕ → ℕ
 room bytes = min (8 * length bytes) (2 ^ 64 - 1)
 
+-- so many bits more, where they have room
+abbrev pub written : BitSink → ℕ → List Bool → BitSink
+written s width new = record { bytes = record s.bytes { now = over s.bytes.now s.place new }; place = s.place + width }
+
 -- a variable more, where it has room
 unfoldable pub put : BitSink → Sent → BitSink
-put s p = if nat_le (s.place + width p.0) (room s.bytes.now) then record { bytes = record s.bytes { now = over s.bytes.now s.place (num (width p.0) p.1) }; place = s.place + width p.0 } else s
+put s p = if nat_le (s.place + width p.0) (room s.bytes.now) then written s (width p.0) (num (width p.0) p.1) else s
 
 -- variables more, one behind the other
 abbrev pub with_sent : BitSink → Reading → BitSink

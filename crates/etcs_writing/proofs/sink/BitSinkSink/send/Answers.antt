@@ -1,18 +1,26 @@
-use Rattle.std.proofs.Common.{◌≡◌, ◌+◌, take, get_or, ap, ◌∙◌, sym, [], ◌∷◌, ◌++◌}
-use Rattle.std.proofs.lemmas.List.{take_more}
-use Rattle.etcs_vars.specs.declared.var.Var.TheVariants.{Q_UPDOWN}
-use Rattle.etcs_vars.specs.Reading.{Sent}
+use Rattle.std.proofs.Common.{◌≡◌, ◌+◌, ◌-◌, ◌≤◌, List, length, take, drop, sym, ap, ◌∙◌, arith}
+use Rattle.std.proofs.Math.Seq.{take-add}
+use Rattle.std.proofs.lemmas.List.{take_all, length-drop}
+use Rattle.etcs_vars.specs.Reading.{Reading}
 use Rattle.etcs_writing.specs.declared.sink.BitSink.{BitSink}
-use Rattle.etcs_writing.specs.Sinks.{put, with_sent, with_sent_both}
+use Rattle.etcs_writing.specs.Sinks.{with_sent, with_sent_both}
 use Rattle.etcs_writing.proofs.sink.BitSinkSink.send.Goals as goal
 
-pub loop-pair-preserved : goal.loop-pair-preserved
-loop-pair-preserved c =
+pub loop-done-preserved : goal.loop-done-preserved
+loop-done-preserved c =
+    let l = c.loop-done in
     let sent = c.args.sent.now in
-    let i = c.loop-pair.pair-index in
-    let p : Sent = get_or sent i (Q_UPDOWN, 0) in
-    let more : take (i + 1) sent ≡ take i sent ++ p ∷ [] = take_more sent i (Q_UPDOWN, 0) c.loop-pair-test.true in
-    c.put.ensures
-    ∙ ap (λ (s : BitSink). put s p) c.loop-pair.invariant
-    ∙ sym (with_sent_both c.args.self.now (take i sent) (p ∷ []))
-    ∙ ap (with_sent c.args.self.now) (sym more)
+    let n = c.send_front-done.result in
+    let rest = drop l.done sent in
+    let within = l.invariant.within in
+    let size : length rest ≡ length sent - l.done = length-drop l.done sent in
+    let whole : take (length sent - l.done) rest ≡ rest = take_all (length sent - l.done) rest (omega (arith, size)) in
+    record {
+      within = (let m = c.send_front-done.ensures.most in omega (arith, within, m, ap length whole, size));
+      sent =
+          c.send_front-done.ensures.sent
+          ∙ ap (λ (r : Reading). with_sent l.self (take n r)) whole
+          ∙ ap (λ (s : BitSink). with_sent s (take n rest)) l.invariant.sent
+          ∙ sym (with_sent_both c.args.self.now (take l.done sent) (take n rest))
+          ∙ ap (with_sent c.args.self.now) (sym (take-add l.done n sent));
+    }

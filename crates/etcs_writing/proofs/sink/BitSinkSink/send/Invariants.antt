@@ -1,6 +1,9 @@
-use Rattle.std.proofs.Common.{◌≡◌, take}
+use Rattle.std.proofs.Common.{◌≡◌, ◌-◌, ◌≤◌, length, take}
 use Rattle.etcs_writing.specs.Sinks.{with_sent}
 use Rattle.etcs_writing.proofs.sink.BitSinkSink.send.Given as goal
 
-abbrev pub invariant-loop-pair : goal.invariant-loop-pair
-invariant-loop-pair l = l.self ≡ with_sent l.fn.self (take l.pair-index l.sent)
+abbrev pub invariant-loop-done : goal.invariant-loop-done
+invariant-loop-done l = record { within : l.done ≤ length l.sent; sent : l.self ≡ with_sent l.fn.self (take l.done l.sent) }
+
+abbrev pub decreases-loop-done : goal.decreases-loop-done
+decreases-loop-done l = length l.sent - l.done

@@ -1,9 +1,10 @@
 -- How a step and a run end.
-use Rattle.std.proofs.Common.{◌≡◌, ℕ, ◌+◌, ◌≤◌, List, ◌++◌, length, take, Option, Result, Ok, Err, sym, ap, subst, ◌∙◌, arith, length-append, inl, inr}
+use Rattle.std.proofs.Common.{◌≡◌, ℕ, ◌+◌, ◌%◌, ◌^◌, ◌≤◌, List, ◌++◌, length, take, Option, Result, Ok, Err, sym, ap, subst, ◌∙◌, arith, length-append, inl, inr}
 use Rattle.std.specs.Prelude.{◌⊎◌, IfErr, IfOk}
 use Rattle.std.proofs.Math.Seq.{take-append-add}
 use Rattle.std.proofs.lemmas.List.{take_all}
 use Rattle.std.specs.Io.KnownBytes.{Appends, Consumes, Keeps}
+use Rattle.etcs_stream.specs.Ends.{FlushedOnlyWhere}
 use Rattle.etcs_stream.specs.declared.fault.RunFault.{RunFault}
 use Rattle.etcs_stream.specs.declared.fault.RunFault.TheVariants.{Write}
 use Rattle.etcs_stream.specs.declared.job.Tally.{Tally}
@@ -56,3 +57,22 @@ module _ (left left' held mid held' : Option (List ℕ)) (given told text : List
   pub ends_if : (T : Tally → List ℕ → List ℕ → Type 0) (r : Result Tally RunFault) (Last : Tally → Type 0) → IfOk r (λ t. T t given (told ++ text) × Appends mid held' text × Last t) → IfOk r (λ t. Piped (T t) left left' held held')
   ends_if T (Ok t) Last h = (given, told ++ text, gave, Appends-then held mid held' told text took h.1, h.0)
   ends_if T (Err e) Last h = tt
+
+-- ---- How often the sink is flushed.
+
+-- all of the text was written, and then its flush failed
+pub flush_failed : (held mid held' : Option (List ℕ)) (told text slice : List ℕ) (Whole : List ℕ → Type 0) (first before after sent sent' : ℕ) → slice ≡ text → sent ≡ length told → Appends held mid slice × (sent' ≡ sent + length slice) → Keeps mid held' → before ≡ first → after ≡ (before + 1) % 2 ^ 64 → Whole (told ++ text) → FlushedOnlyWhere first after (◌≡◌ {A = RunFault} (Write sent') (Write (length (told ++ text))) × Appends held held' text × Whole (told ++ text))
+flush_failed held mid held' told text slice Whole first before after sent sent' same at took keeps none one whole =
+    let all : sent' ≡ length (told ++ text) = omega (arith, took.1, at, ap length same, length-append told text) in
+    let kept : Appends held held' text = subst (λ (z : List ℕ). Appends held held' z) same (Appends-kept held mid held' slice took.0 keeps) in
+    inr (one ∙ ap (λ n. (n + 1) % 2 ^ 64) none, (ap Write all, kept, whole))
+
+-- from the last step to the run
+module _ (left left' held mid held' : Option (List ℕ)) (given told text : List ℕ) (gave : Consumes left left' given) (took : Appends held mid told) (AtEnd : Type 0) (at : AtEnd) (Whole : List ℕ → List ℕ → Type 0) (first before after : ℕ) (none : before ≡ first) where
+  flushed_of : (e : RunFault) → FlushedOnlyWhere before after ((e ≡ Write (length (told ++ text))) × Appends mid held' text × Whole given (told ++ text)) → FlushedOnlyWhere first after (Piped (λ given told. (e ≡ Write (length told)) × AtEnd × Whole given told) left left' held held')
+  flushed_of e (inl kept) = inl (kept ∙ none)
+  flushed_of e (inr both) = inr (both.0 ∙ ap (λ n. (n + 1) % 2 ^ 64) none, (given, told ++ text, gave, Appends-then held mid held' told text took both.1.1, (both.1.0, at, both.1.2)))
+
+  pub flushed_if : (r : Result Tally RunFault) → IfErr r (λ e. FlushedOnlyWhere before after ((e ≡ Write (length (told ++ text))) × Appends mid held' text × Whole given (told ++ text))) → IfErr r (λ e. FlushedOnlyWhere first after (Piped (λ given told. (e ≡ Write (length told)) × AtEnd × Whole given told) left left' held held'))
+  flushed_if (Ok t) h = tt
+  flushed_if (Err e) h = flushed_of e h

@@ -1,6 +1,6 @@
-//! Where bytes come from and where they go, with a count of reads and failures.
+//! Where bytes come from and where they go, with a count of reads, flushes and failures.
 
-ghost use Rattle.std.specs.Prelude.{◌≡◌, ℕ, ◌+◌, ◌-◌, ◌^◌, ◌<◌, List, Option};
+ghost use Rattle.std.specs.Prelude.{◌≡◌, ℕ, ◌+◌, ◌-◌, ◌%◌, ◌^◌, ◌<◌, List, Option};
 ghost use Rattle.std.specs.Io.KnownBytes.{Keeps, ReadConsumes, WriteAppends};
 ghost use Rattle.std.specs.Io.{ReadsAtMost, WritesAtMost};
 ghost use Rattle.etcs_stream.specs.Ends.{failed_calls, failed_writes};
@@ -44,19 +44,24 @@ pub trait Sink {
 
     ghost failures: { Self → ℕ };
 
+    /// How often `flush` was called. Behind 2^64 - 1 comes 0.
+    ghost flushes: { Self → ℕ };
+
     /// Writes some bytes of the piece from its front on and says how many.
     /// `Failed` is any error of the writer; no byte was written then.
     fn write(&mut self, piece: &[u8]) -> Result<usize, Failed>
         requires { failures self.old < 2 ^ 64 - 1 }
         ensures bound { WritesAtMost result piece.now }
         ensures bytes { WriteAppends (contents self.old) (contents self.new) result piece.now }
-        ensures failed { failures self.new ≡ failures self.old + failed_writes result piece.now };
+        ensures failed { failures self.new ≡ failures self.old + failed_writes result piece.now }
+        ensures unflushed { flushes self.new ≡ flushes self.old };
 
     /// Passes on what the writer may have kept back.
     fn flush(&mut self) -> Result<(), Failed>
         requires { failures self.old < 2 ^ 64 - 1 }
         ensures bytes { Keeps (contents self.old) (contents self.new) }
-        ensures failed { failures self.new ≡ failures self.old + failed_calls result };
+        ensures failed { failures self.new ≡ failures self.old + failed_calls result }
+        ensures flushed { flushes self.new ≡ (flushes self.old + 1) % 2 ^ 64 };
 
     /// How often a call failed, or took no byte of a piece that has some.
     fn failures(&self) -> u64
@@ -118,17 +123,20 @@ impl<R: Read> Source for Input<R> {
 pub struct Output<W> {
     writer: W,
     failures: u64,
+    flushes: u64,
 }
 
 impl<W: Write> Output<W> {
-    /// A sink over the writer, with no failure so far.
+    /// A sink over the writer, with no failure and no flush so far.
     pub fn new(writer: W) -> Output<W>
         ensures bytes { ⟦<Output<W> as Sink>⟧.contents result ≡ W.contents writer }
         ensures failures { ⟦<Output<W> as Sink>⟧.failures result ≡ 0 }
+        ensures flushes { ⟦<Output<W> as Sink>⟧.flushes result ≡ 0 }
     {
         Output {
             writer,
             failures: 0,
+            flushes: 0,
         }
     }
 }
@@ -137,6 +145,8 @@ impl<W: Write> Sink for Output<W> {
     ghost contents = { λ s. W.contents s.writer };
 
     ghost failures = { λ s. s.failures };
+
+    ghost flushes = { λ s. s.flushes };
 
     fn write(&mut self, piece: &[u8]) -> Result<usize, Failed> {
         match self.writer.write(piece) {
@@ -154,6 +164,7 @@ impl<W: Write> Sink for Output<W> {
     }
 
     fn flush(&mut self) -> Result<(), Failed> {
+        self.flushes = self.flushes.wrapping_add(1);
         match self.writer.flush() {
             Ok(()) => Ok(()),
             Err(_) => {

@@ -1,7 +1,8 @@
 //! Bytes from a source through an engine to a sink.
 
-ghost use Rattle.std.specs.Prelude.{◌≡◌, ◌+◌, ◌^◌, ◌<◌, ◌≤◌, ◌⊎◌, ◌++◌, ℕ, List, [], length, take, Err, IfOk, IfErr, OnErr, OnOk};
+ghost use Rattle.std.specs.Prelude.{◌≡◌, ◌+◌, ◌%◌, ◌^◌, ◌<◌, ◌≤◌, ◌⊎◌, ◌++◌, ℕ, List, [], length, take, Err, IfOk, IfErr, OnErr, OnOk};
 ghost use Rattle.std.specs.Io.KnownBytes.{Appends, IsAtEnd};
+ghost use Rattle.etcs_stream.specs.Ends.{FlushedOnlyWhere};
 ghost use Rattle.etcs_stream.specs.declared.fault.RunFault.{RunFault};
 ghost use Rattle.etcs_stream.specs.Faults.{IsOfEngine};
 ghost use Rattle.etcs_stream.specs.Engines.{Tells, Ends, EndsWhole, Stops, StopsAtEnd, Prints};
@@ -25,6 +26,7 @@ fn send<W: Sink>(sink: &mut W, text: &[u8], sent: &mut u64) -> Result<(), Failed
     ensures none { OnOk result (W.failures sink.new ≡ W.failures sink.old) }
     ensures one { OnErr result (W.failures sink.new ≡ W.failures sink.old + 1) }
     ensures part { OnErr result ((n : ℕ) × (n ≤ length text.now) × (sent.new ≡ sent.old + n) × Appends (W.contents sink.old) (W.contents sink.new) (take n text.now)) }
+    ensures unflushed { W.flushes sink.new ≡ W.flushes sink.old }
 {
     let mut at = 0;
     while at < text.len() {
@@ -56,6 +58,7 @@ fn pass<E: Engine, W: Sink>(
     ensures ok { (given told : List ℕ) → E.stands engine.old given told → sent.old ≡ length told → OnOk result (E.stands engine.new (given ++ piece.now) (told ++ text.new.items) × Appends (W.contents sink.old) (W.contents sink.new) text.new.items × (sent.new ≡ length (told ++ text.new.items)) × (W.failures sink.new ≡ W.failures sink.old)) }
     ensures err { (given told : List ℕ) → E.stands engine.old given told → sent.old ≡ length told → IfErr result (λ e. Stopped (Stops (E.job engine.old) (given ++ piece.now)) told text.new.items (W.contents sink.old) (W.contents sink.new) e ⊎ Broken (Prints (E.job engine.old) (given ++ piece.now)) told text.new.items (W.contents sink.old) (W.contents sink.new) (W.failures sink.old) (W.failures sink.new) e) }
     ensures counts { W.failures sink.new ≤ W.failures sink.old + 1 }
+    ensures unflushed { W.flushes sink.new ≡ W.flushes sink.old }
 {
     text.clear();
     let fed = engine.feed(piece, text);
@@ -77,6 +80,8 @@ fn close<E: Engine, W: Sink>(
     ensures ok { (given told : List ℕ) → E.stands engine.old given told → sent.old ≡ length told → IfOk result (λ tally. Ends (E.job engine.old) given (told ++ text.new.items) tally × Appends (W.contents sink.old) (W.contents sink.new) text.new.items × (W.failures sink.new ≡ W.failures sink.old)) }
     ensures err { (given told : List ℕ) → E.stands engine.old given told → sent.old ≡ length told → IfErr result (λ e. Stopped (StopsAtEnd (E.job engine.old) given) told text.new.items (W.contents sink.old) (W.contents sink.new) e ⊎ Broken (λ t. Prints (E.job engine.old) given t ⊎ EndsWhole (E.job engine.old) given t) told text.new.items (W.contents sink.old) (W.contents sink.new) (W.failures sink.old) (W.failures sink.new) e) }
     ensures counts { W.failures sink.new ≤ W.failures sink.old + 1 }
+    ensures flushed { OnOk result (W.flushes sink.new ≡ (W.flushes sink.old + 1) % 2 ^ 64) }
+    ensures unflushed { (given told : List ℕ) → E.stands engine.old given told → sent.old ≡ length told → IfErr result (λ e. FlushedOnlyWhere (W.flushes sink.old) (W.flushes sink.new) ((e ≡ RunFault.Write (length (told ++ text.new.items))) × Appends (W.contents sink.old) (W.contents sink.new) text.new.items × EndsWhole (E.job engine.old) given (told ++ text.new.items))) }
 {
     text.clear();
     let finished = engine.finish(text);
@@ -111,6 +116,8 @@ pub(crate) fn run_engine<E: Engine, S: Source, W: Sink>(
     ensures read { result ≡ Err RunFault.Read → Piped (Tells (E.job engine.old)) (S.remaining source.old) (S.remaining source.new) (W.contents sink.old) (W.contents sink.new) × (S.failures source.new ≡ S.failures source.old + 1) }
     ensures write { (n : ℕ) → result ≡ Err (RunFault.Write n) → PipedFirst n (λ given told. Prints (E.job engine.old) given told ⊎ (IsAtEnd (S.remaining source.new) × EndsWhole (E.job engine.old) given told)) (S.remaining source.old) (S.remaining source.new) (W.contents sink.old) (W.contents sink.new) × (W.failures sink.new ≡ W.failures sink.old + 1) }
     ensures counts { W.failures sink.new ≤ W.failures sink.old + 1 }
+    ensures flushed { OnOk result (W.flushes sink.new ≡ (W.flushes sink.old + 1) % 2 ^ 64) }
+    ensures unflushed { IfErr result (λ e. FlushedOnlyWhere (W.flushes sink.old) (W.flushes sink.new) (Piped (λ given told. (e ≡ RunFault.Write (length told)) × IsAtEnd (S.remaining source.new) × EndsWhole (E.job engine.old) given told) (S.remaining source.old) (S.remaining source.new) (W.contents sink.old) (W.contents sink.new))) }
     ensures reads { S.reads source.new ≤ S.reads source.old + 16000000 }
     ensures read_counts { S.failures source.new ≤ S.failures source.old + 1 }
 {

@@ -1,7 +1,8 @@
 //! One run: from a source, through the items, to a sink.
 
-ghost use Rattle.std.specs.Prelude.{◌≡◌, ◌+◌, ◌^◌, ◌<◌, ◌≤◌, ◌⊎◌, ℕ, List, [], length, Err, IfOk, IfErr, OnOk};
+ghost use Rattle.std.specs.Prelude.{◌≡◌, ◌+◌, ◌%◌, ◌^◌, ◌<◌, ◌≤◌, ◌⊎◌, ℕ, List, [], length, Err, IfOk, IfErr, OnOk};
 ghost use Rattle.std.specs.Io.KnownBytes.{IsAtEnd};
+ghost use Rattle.etcs_stream.specs.Ends.{FlushedOnlyWhere};
 ghost use Rattle.etcs_stream.specs.declared.fault.RunFault.{RunFault};
 ghost use Rattle.etcs_stream.specs.Faults.{IsOfEngine};
 ghost use Rattle.etcs_stream.specs.Engines.{Tells, Ends, EndsWhole, Stops, StopsAtEnd, Prints};
@@ -43,6 +44,8 @@ pub fn run<S: Source, W: Sink>(
     ensures read { result ≡ Err RunFault.Read → Piped (Tells job) (S.remaining source.old) (S.remaining source.new) (W.contents sink.old) (W.contents sink.new) × (S.failures source.new ≡ S.failures source.old + 1) }
     ensures write { (n : ℕ) → result ≡ Err (RunFault.Write n) → PipedFirst n (λ given told. Prints job given told ⊎ (IsAtEnd (S.remaining source.new) × EndsWhole job given told)) (S.remaining source.old) (S.remaining source.new) (W.contents sink.old) (W.contents sink.new) × (W.failures sink.new ≡ W.failures sink.old + 1) }
     ensures counts { W.failures sink.new ≤ W.failures sink.old + 1 }
+    ensures flushed { OnOk result (W.flushes sink.new ≡ (W.flushes sink.old + 1) % 2 ^ 64) }
+    ensures unflushed { IfErr result (λ e. FlushedOnlyWhere (W.flushes sink.old) (W.flushes sink.new) (Piped (λ given told. (e ≡ RunFault.Write (length told)) × IsAtEnd (S.remaining source.new) × EndsWhole job given told) (S.remaining source.old) (S.remaining source.new) (W.contents sink.old) (W.contents sink.new))) }
     ensures reads { S.reads source.new ≤ S.reads source.old + 16000000 }
     ensures read_counts { S.failures source.new ≤ S.failures source.old + 1 }
 {

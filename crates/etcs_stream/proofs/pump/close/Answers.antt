@@ -2,7 +2,7 @@ use Rattle.std.proofs.Common.{◌++◌, inl, inr}
 use Rattle.std.specs.Prelude.{◌⊎◌}
 use Rattle.etcs_stream.specs.Engines.{Prints, EndsWhole}
 use Rattle.etcs_stream.proofs.Printing.{finished_prints}
-use Rattle.etcs_stream.proofs.Endings.{broke, not_flushed}
+use Rattle.etcs_stream.proofs.Endings.{broke, not_flushed, flush_failed}
 use Rattle.etcs_stream.proofs.pump.close.Goals as goal
 
 pub returns-in-Err-clause-err : goal.returns-in-Err-clause-err
@@ -26,3 +26,16 @@ returns-in-Err-flush-clause-err g c = λ given told stands sent.
     inr (not_flushed (g.W.Sink.contents c.args.sink.now) (g.W.Sink.contents c.send.new.sink) (g.W.Sink.contents c.flush.new.self) told text c.as_slice.result.now
     (λ t. Prints job given t ⊎ EndsWhole job given t) (g.W.Sink.failures c.args.sink.now) (g.W.Sink.failures c.send.new.sink) (g.W.Sink.failures c.flush.new.self) c.args.sent.now c.send.new.sent
     c.as_slice.ensures.value sent c.in-Ok.ensures.ok c.in-Err-flush.ensures.bytes c.in-Ok.ensures.none c.in-Err-flush.ensures.failed (inr (c.in-Ok-finished.tally, ends)))
+
+pub returns-in-Err-clause-unflushed : goal.returns-in-Err-clause-unflushed
+returns-in-Err-clause-unflushed g c = λ given told stands sent. inl c.send.ensures.unflushed
+
+pub returns-in-Err-finished-clause-unflushed : goal.returns-in-Err-finished-clause-unflushed
+returns-in-Err-finished-clause-unflushed g c = λ given told stands sent. inl c.send.ensures.unflushed
+
+pub returns-in-Err-flush-clause-unflushed : goal.returns-in-Err-flush-clause-unflushed
+returns-in-Err-flush-clause-unflushed g c = λ given told stands sent.
+    let ends = c.in-Ok-finished.ensures.ok given told stands in
+    flush_failed (g.W.Sink.contents c.args.sink.now) (g.W.Sink.contents c.send.new.sink) (g.W.Sink.contents c.flush.new.self) told c.finish-finished.new.text.items c.as_slice.result.now
+    (EndsWhole (g.E.Engine.job c.args.engine.now) given) (g.W.Sink.flushes c.args.sink.now) (g.W.Sink.flushes c.send.new.sink) (g.W.Sink.flushes c.flush.new.self) c.args.sent.now c.send.new.sent
+    c.as_slice.ensures.value sent c.in-Ok.ensures.ok c.in-Err-flush.ensures.bytes c.send.ensures.unflushed c.flush.ensures.flushed (c.in-Ok-finished.tally, ends)

@@ -5,7 +5,7 @@ use Rattle.std.proofs.lemmas.Result.{err_from_is_err_and}
 use Rattle.etcs_stream.specs.declared.fault.RunFault.TheVariants.{Write, Endless}
 use Rattle.etcs_stream.specs.Engines.{Tells, Ends, EndsWhole, Stops, StopsAtEnd, Prints}
 use Rattle.etcs_stream.proofs.Known.{Consumes-end, Consumes-then}
-use Rattle.etcs_stream.proofs.Endings.{engine_of, write_of, engine_if, write_if, ends_if}
+use Rattle.etcs_stream.proofs.Endings.{engine_of, write_of, engine_if, write_if, ends_if, flushed_if}
 use Rattle.etcs_stream.proofs.pump.run_engine.Goals as goal
 
 pub returns-then-count-eq0-clause-ok : goal.returns-then-count-eq0-clause-ok
@@ -53,3 +53,16 @@ returns-clause-engine g c =
     let end : c.loop.counter ≡ 16000000 = omega arith in
     let tells = g.met.E.Engine.stands_tells c.loop.engine i.given i.told i.stands in
     λ _. (i.given, i.told, i.consumes, i.appends, inr (inr (refl, i.reads ∙ ap (λ n. g.S.Source.reads c.args.source.now + n) end, omega (arith, i.least, end), rw i.job at tells)))
+
+pub returns-then-count-eq0-clause-unflushed : goal.returns-then-count-eq0-clause-unflushed
+returns-then-count-eq0-clause-unflushed g c =
+    let i = c.loop.invariant in
+    let gave = Consumes-end _ _ _ i.given c.read.new.buffer c.in-Ok.count c.if-count-eq0.true i.consumes c.in-Ok.ensures.bytes.0 in
+    let room : length c.read.new.buffer ≡ 4096 = c.read.auto.buffer ∙ i.room in
+    let at_end = c.in-Ok.ensures.bytes.1 c.if-count-eq0.true (omega (arith, room)) in
+    flushed_if _ _ _ _ _ i.given i.told c.close.new.text.items gave i.appends (IsAtEnd (g.S.Source.remaining c.read.new.self)) at_end (EndsWhole (g.E.Engine.job c.args.engine.now)) (g.W.Sink.flushes c.args.sink.now) (g.W.Sink.flushes c.loop.sink) (g.W.Sink.flushes c.close.new.sink) i.flushes _ (rw i.job at c.close.ensures.unflushed i.given i.told i.stands i.sent)
+
+pub returns-in_err-pass-clause-unflushed : goal.returns-in_err-pass-clause-unflushed
+returns-in_err-pass-clause-unflushed g c =
+    let p = err_from_is_err_and c.from_residual.result c.from_residual.ensures.1 in
+    rw (p.1, p.2) (inl (c.pass.ensures.unflushed ∙ c.loop.invariant.flushes))

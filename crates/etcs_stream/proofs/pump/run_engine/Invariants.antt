@@ -17,4 +17,5 @@ invariant-loop g l = record {
   reads : g.S.Source.reads l.source ≡ g.S.Source.reads l.fn.source + l.counter;
   read_failures : g.S.Source.failures l.source ≡ g.S.Source.failures l.fn.source;
   write_failures : g.W.Sink.failures l.sink ≡ g.W.Sink.failures l.fn.sink;
+  flushes : g.W.Sink.flushes l.sink ≡ g.W.Sink.flushes l.fn.sink;
 }

@@ -11,6 +11,7 @@ loop-at-preserved g c =
     record {
       within = omega (arith, c.in-Ok.ensures.bound, length-rest text at);
       failures = c.in-Ok.ensures.failed ∙ ap (λ n. g.W.Sink.failures c.loop-at.sink + n) some ∙ add-zero _ ∙ c.loop-at.invariant.failures;
+      flushes = c.in-Ok.ensures.unflushed ∙ c.loop-at.invariant.flushes;
       sent = omega (arith, c.loop-at.invariant.sent);
       appends = Appends-slice _ (g.W.Sink.contents c.loop-at.sink) _ text at c.in-Ok.count _ refl c.loop-at.invariant.appends c.in-Ok.ensures.bytes;
     }

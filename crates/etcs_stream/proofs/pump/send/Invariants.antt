@@ -6,6 +6,7 @@ abbrev pub invariant-loop-at : goal.invariant-loop-at
 invariant-loop-at g l = record {
   within : l.at ≤ length l.text;
   failures : g.W.Sink.failures l.sink ≡ g.W.Sink.failures l.fn.sink;
+  flushes : g.W.Sink.flushes l.sink ≡ g.W.Sink.flushes l.fn.sink;
   sent : l.sent ≡ l.fn.sent + l.at;
   appends : Appends (g.W.Sink.contents l.fn.sink) (g.W.Sink.contents l.sink) (take l.at l.text);
 }

@@ -6,14 +6,23 @@ returns-in-Hex-clause-engine g c = rw c.new-taker.ensures.job at (rw c.new.ensur
 pub returns-in-Hex-clause-write : goal.returns-in-Hex-clause-write
 returns-in-Hex-clause-write g c = rw c.new-taker.ensures.job at (rw c.new.ensures.job at c.run_engine.ensures.write)
 
+pub returns-in-Hex-clause-unflushed : goal.returns-in-Hex-clause-unflushed
+returns-in-Hex-clause-unflushed g c = rw c.new-taker.ensures.job at (rw c.new.ensures.job at c.run_engine.ensures.unflushed)
+
 pub returns-in-Bin-clause-engine : goal.returns-in-Bin-clause-engine
 returns-in-Bin-clause-engine g c = rw c.new-in-Bin.ensures.job at c.run_engine-in-Bin.ensures.engine
 
 pub returns-in-Bin-clause-write : goal.returns-in-Bin-clause-write
 returns-in-Bin-clause-write g c = rw c.new-in-Bin.ensures.job at c.run_engine-in-Bin.ensures.write
 
+pub returns-in-Bin-clause-unflushed : goal.returns-in-Bin-clause-unflushed
+returns-in-Bin-clause-unflushed g c = rw c.new-in-Bin.ensures.job at c.run_engine-in-Bin.ensures.unflushed
+
 pub returns-in-Json-clause-engine : goal.returns-in-Json-clause-engine
 returns-in-Json-clause-engine g c = rw c.new-taker-in-Json.ensures.job at (rw c.new-in-Json.ensures.job at c.run_engine-in-Json.ensures.engine)
 
 pub returns-in-Json-clause-write : goal.returns-in-Json-clause-write
 returns-in-Json-clause-write g c = rw c.new-taker-in-Json.ensures.job at (rw c.new-in-Json.ensures.job at c.run_engine-in-Json.ensures.write)
+
+pub returns-in-Json-clause-unflushed : goal.returns-in-Json-clause-unflushed
+returns-in-Json-clause-unflushed g c = rw c.new-taker-in-Json.ensures.job at (rw c.new-in-Json.ensures.job at c.run_engine-in-Json.ensures.unflushed)

@@ -52,7 +52,7 @@ fn bit_value(digit: u8) -> Option<bool>
 }
 
 /// The bits that digits 0 and 1 say.
-fn bits_of(alloc: Global, text: &[u8]) -> Result<Option<Bits>, AllocError>
+pub(crate) fn bits_of(alloc: Global, text: &[u8]) -> Result<Option<Bits>, AllocError>
     ensures some { IfOk result (λ o. IfSome o (λ b. text.now ≡ map bit_digit b)) }
     ensures only { IfOk result (λ o. (b : List Bool) → text.now ≡ map bit_digit b → o ≡ Some b) }
 {

@@ -10,6 +10,7 @@ ghost use Rattle.etcs_json.specs.JsonLines.{SaysItem};
 use crate::fault::JsonFault;
 use crate::from_message::message_in;
 use crate::from_telegram::telegram_in;
+use crate::written::written;
 use etcs_telegram::Size;
 use etcs_text::{Entry, Kind};
 use serde_json::Value;
@@ -41,6 +42,18 @@ pub fn from_value(alloc: Global, kind: Kind, value: &Value) -> Result<Entry, Jso
 /// - [`JsonFault::Shape`] where the line isn't UTF-8 or JSON, or no item of the kind has its tree;
 /// - [`JsonFault::Memory`] where memory was refused, whatever the line is.
 pub fn from_line(alloc: Global, kind: Kind, line: &[u8]) -> Result<Entry, JsonFault>
+    ensures ok { IfOk result (λ e. SaysItem kind line.now (entry_value e)) }
+    ensures shape { result ≡ Err JsonFault.Shape → (e : EntryValue) → SaysItem kind line.now e → ⊥ }
+{
+    match written(alloc, kind, line) {
+        Ok(Some(entry)) => Ok(entry),
+        Ok(None) => from_any_line(alloc, kind, line),
+        Err(AllocError) => Err(JsonFault::Memory),
+    }
+}
+
+/// The item of the kind whose JSON the line is, by way of its tree. The errors are those of [`from_line`].
+fn from_any_line(alloc: Global, kind: Kind, line: &[u8]) -> Result<Entry, JsonFault>
     ensures ok { IfOk result (λ e. SaysItem kind line.now (entry_value e)) }
     ensures shape { result ≡ Err JsonFault.Shape → (e : EntryValue) → SaysItem kind line.now e → ⊥ }
 {

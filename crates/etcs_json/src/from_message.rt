@@ -73,7 +73,7 @@ fn body_in(alloc: Global, nid: u8, value: &Value) -> Result<Option<Body>, AllocE
 }
 
 /// The number of at most seven bits.
-fn padding_number(bits: &Bits) -> Option<u8>
+pub(crate) fn padding_number(bits: &Bits) -> Option<u8>
     ensures some { IfSome result (λ n. (length bits.now ≤ 7) × (n < 2 ^ length bits.now) × (bits.now ≡ num (length bits.now) n)) }
     ensures none { IsNone result → 7 < length bits.now }
 {

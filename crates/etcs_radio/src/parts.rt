@@ -2,7 +2,8 @@
 
 ghost use Rattle.std.specs.Prelude.{◌≡◌, map, OnOk, OnErr};
 ghost use Rattle.etcs_radio.specs.Bodies.{run_of_head};
-ghost use Rattle.etcs_radio.specs.Readings.{front_reading, own_reading};
+ghost use Rattle.etcs_radio.specs.Messages.{MessageReads, message_value};
+ghost use Rattle.etcs_radio.specs.Readings.{front_reading, message_reading, own_reading};
 
 use crate::body::RadioHead;
 use crate::message::{Content, Message};
@@ -54,4 +55,11 @@ fn send_own<S: Sink>(message: &Message, out: &mut S) -> Result<(), AllocError>
         }
         Content::Kept { .. } => out.send(&[]),
     }
+}
+
+/// For proofs: the message has a reading. Does nothing.
+pub fn reads(message: &Message)
+    ensures { MessageReads (message_value message.now) (message_reading message.now) }
+{
+    message.readable();
 }

@@ -1,9 +1,11 @@
 //! For the crates above: the header's variables with their numbers.
 
 ghost use Rattle.std.specs.Prelude.{◌≡◌, map};
-ghost use Rattle.etcs_telegram.specs.Telegrams.{header_reading, header_row, IsAdmitted};
+ghost use Rattle.etcs_telegram.specs.Telegrams.{header_reading, header_row, telegram_value, IsAdmitted, TelegramReads};
+ghost use Rattle.etcs_telegram.specs.Writing.{telegram_reading};
 
 use crate::header::Header;
+use crate::telegram::Telegram;
 use etcs_vars::Var;
 
 /// The header's variables in the order of sending.
@@ -43,4 +45,11 @@ pub fn header_numbers(header: &Header) -> [u64; 10]
         header.nid_bg() as u64,
         header.q_link() as u64,
     ]
+}
+
+/// For proofs: the telegram has a reading. Does nothing.
+pub fn reads(telegram: &Telegram)
+    ensures { TelegramReads (telegram_value telegram.now) (telegram_reading (telegram_value telegram.now)) }
+{
+    telegram.readable();
 }

@@ -17,6 +17,7 @@ use Rattle.etcs_container.specs.Contents.{closing}
 use Rattle.etcs_rests.specs.Labels.{labelled}
 use Rattle.etcs_rests.specs.BitLaws.{bits_spelled}
 use Rattle.etcs_writing.proofs.Parts.{put_next, five_written}
+use Rattle.etcs_telegram.proofs.Ones.{num-zeros}
 use Rattle.etcs_telegram.specs.declared.size.Size.{Size}
 use Rattle.etcs_telegram.specs.declared.size.Size.TheVariants.{Short, Long}
 use Rattle.etcs_telegram.specs.Telegrams.{HeaderParts, TelegramParts, TelegramValue, TelegramReads, IsTelegram, telegram_value, header_row, header_reading, closed_reading, user_bits, pad_bits, packet_room, container_bytes}
@@ -112,11 +113,6 @@ pub container_bits : (size : Size) (out : List ℕ) → length out ≡ container
 container_bits Short out e = length-bits out ∙ ap (λ (k : ℕ). 8 * k) e
 container_bits Long out e = length-bits out ∙ ap (λ (k : ℕ). 8 * k) e
 
-zero_bits : (size : Size) → num (pad_bits size) 0 ≡ replicate (pad_bits size) false
-unfolding num
-zero_bits Short = refl
-zero_bits Long = refl
-
 pub telegram_reads : (t : TelegramParts) → IsTelegram t → TelegramReads (telegram_value t) (telegram_reading (telegram_value t))
 telegram_reads t i = record {
   header_admitted = i.header;
@@ -140,7 +136,7 @@ telegram_bits t =
     let head = spelled h in
     let packets = spelled (packets_reading t.packets) in
     let fill : spelled f ≡ t.fill = bits_spelled FILL t.fill refl in
-    let zeros : spelled z ≡ num (pad_bits t.size) 0 = bits_spelled PAD (replicate (pad_bits t.size) false) refl ∙ sym (zero_bits t.size) in
+    let zeros : spelled z ≡ num (pad_bits t.size) 0 = bits_spelled PAD (replicate (pad_bits t.size) false) refl ∙ sym (num-zeros (pad_bits t.size)) in
     let first : spelled (h ++ c) ≡ (head ++ packets) ++ num 8 255 =
     spelled-append h c ∙ ap (λ (b : List Bool). head ++ b) (closed_spelled t.packets) ∙ sym (append_assoc head packets (num 8 255)) in
     let second : spelled ((h ++ c) ++ f) ≡ ((head ++ packets) ++ num 8 255) ++ t.fill =

@@ -6,6 +6,7 @@ pub mod Rows
 pub mod PhaseSteps
 pub mod Ends
 pub mod Filling
+pub mod FrontSteps
 pub mod RestSteps
 pub mod RestHolds
 pub mod RestStart

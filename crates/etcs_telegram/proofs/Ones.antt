@@ -1,5 +1,5 @@
--- Numbers whose bits are all ones.
-use Rattle.std.proofs.Common.{◌≡◌, ℕ, ◌+◌, ◌-◌, ◌/◌, ◌^◌, ◌<◌, ◌≤◌, Bool, true, List, ◌++◌, take, refl, sym, ap, ◌∙◌, arith}
+-- Numbers whose bits are all ones, or all zeros.
+use Rattle.std.proofs.Common.{◌≡◌, ℕ, zero, suc, ◌+◌, ◌-◌, ◌/◌, ◌%◌, ◌^◌, ◌<◌, ◌≤◌, Bool, true, false, List, ◌∷◌, ◌++◌, take, refl, sym, ap, ◌∙◌, arith}
 use Rattle.std.specs.Prelude.{replicate}
 use Rattle.std.proofs.lemmas.List.{take-replicate, replicate-append-replicate}
 use Rattle.etcs_bits.specs.Bits.{num}
@@ -29,3 +29,9 @@ ones_more len left width bs small le room e =
     ∙ ap (λ (s : List Bool). replicate (len - left) true ++ s) (num-ones width small)
     ∙ replicate-append-replicate (len - left) width true
     ∙ ap (λ (k : ℕ). replicate k true) count
+
+-- zeros
+pub num-zeros : (n : ℕ) → num n 0 ≡ replicate n false
+unfolding num
+num-zeros zero = refl
+num-zeros (suc n) = let none : 0 / 2 ^ n % 2 ≡ 0 = omega arith in rw none (ap (λ (t : List Bool). false ∷ t) (num-zeros n))

@@ -1,6 +1,7 @@
 -- What is kept of a telegram behind each of its variables.
 use Rattle.std.proofs.Common.{◌≡◌, ℕ, zero, suc, ◌+◌, ◌-◌, ◌<◌, ◌≤◌, Bool, false, List, [], ◌∷◌, ◌++◌, length, drop, Some, refl, sym, ap, subst, ◌∙◌, arith, ltb, append_assoc, append-nil, length-append}
-use Rattle.std.specs.Prelude.{All, IsTrue, replicate}
+use Rattle.std.specs.Prelude.{All, IsTrue, replicate, ◌&&◌, ◌==◌, nat_lt}
+use Rattle.std.proofs.lemmas.Bool.{and_parts, and_from, eq-eqb}
 use Rattle.etcs_vars.specs.declared.var.Var.{Var}
 use Rattle.etcs_vars.specs.declared.var.Var.TheVariants.{FILL, PAD}
 use Rattle.etcs_vars.specs.Reading.{Reading, kept}
@@ -15,6 +16,8 @@ use Rattle.etcs_rests.specs.declared.left.PacketsLeft.{PacketsLeft}
 use Rattle.etcs_rests.specs.declared.stage.Stage.TheVariants as stage
 use Rattle.etcs_rests.specs.Labels.{labelled}
 use Rattle.etcs_rests.specs.LabelLaws.{labelled_more}
+use Rattle.etcs_telegram.specs.Fronts.{FrontAt}
+use Rattle.etcs_telegram.proofs.FrontSteps.{front_all}
 use Rattle.etcs_rests.specs.Lefts.{left_of, is_closed, HoldsAt, Moved}
 use Rattle.etcs_rests.specs.BitLaws.{bits_append}
 use Rattle.etcs_rests.specs.StageLaws.{closed_stage}
@@ -23,7 +26,7 @@ use Rattle.etcs_telegram.specs.declared.phase.Phase.{Phase}
 use Rattle.etcs_telegram.specs.declared.phase.Phase.TheVariants.{Header, Packets, Fill, Pad, Whole}
 use Rattle.etcs_telegram.specs.Telegrams.{header_row, pad_bits, closed_reading}
 use Rattle.etcs_telegram.specs.Phases.{after, after_fill}
-use Rattle.etcs_telegram.specs.Lefts.{left_at, next_at, stands_at, behind_packets, FillFits, Filled, HoldsIn, Follows}
+use Rattle.etcs_telegram.specs.Lefts.{PacketsBehind, left_at, next_at, is_open, stands_at, behind_packets, FillFits, Filled, HoldsIn, Follows}
 use Rattle.etcs_telegram.proofs.PhaseSteps.{by_test, below_false, below_true}
 use Rattle.etcs_telegram.proofs.RestSteps.{header_behind, packets_behind, fill_behind, pad_behind, header_parts, packets_parts}
 
@@ -218,3 +221,60 @@ fits_behind size phase phase' left holds holds' t e e' le more h =
 
 pub pad_fits : (size : Size) (phase' : Phase) (left : ℕ) (holds : List PacketValue → List ℕ → List Bool → Type 0) → phase' ≡ after size (Pad left) → FillFits phase' holds
 pad_fits size phase' left holds e = rw e (by_test (ltb 1 left) (λ x. FillFits x holds) (Pad (left - 1)) Whole (λ _. tt) (λ _. tt))
+
+-- ---- All of the header, and all of PAD.
+
+no_numbers : (xs : List ℕ) → length xs ≡ 0 → xs ≡ []
+no_numbers [] e = refl
+no_numbers (x ∷ xs) e = absurd cc
+
+pub whole_header : (size : Size) (phase phase' : Phase) (header ns : List ℕ) (l : PacketsLeft) (holds : List PacketValue → List ℕ → List Bool → Type 0) (xs : List Bool) (at end : ℕ)
+    → phase ≡ Header 0 → phase' ≡ Packets → IsTrue (stands_at phase (length header) l) → FrontAt header_row xs at ns end → Follows size phase header l holds (labelled header_row ns) size phase' ns l holds
+whole_header size phase phase' header ns l holds xs at end e e' h f =
+    let p = labelled header_row ns in
+    let none : header ≡ [] = no_numbers header (header_parts phase 0 (length header) l e h).1 in
+    let all : Follows size (Header 0) header l holds p size Packets ns l holds = record {
+      same = refl;
+      residual = front_all (PacketsBehind size l) header_row ns f.reads;
+      held = λ q (is, nothing).
+          (let whole : q ++ p ≡ p ++ [] = ap (λ (t : Reading). t ++ p) (is ∙ ap (λ (t : List ℕ). labelled header_row t) none) ∙ sym (append-nil p) in
+          ([], whole, nothing));
+    } in
+    subst (λ (x : Phase). Follows size x header l holds p size phase' ns l holds) (sym e)
+    (subst (λ (x : Phase). Follows size (Header 0) header l holds p size x ns l holds) (sym e') all)
+
+pub header_stands : (phase phase' : Phase) (n m : ℕ) (l : PacketsLeft) → phase ≡ Header 0 → phase' ≡ Packets → m ≡ 10 → IsTrue (stands_at phase n l) → IsTrue (stands_at phase' m l)
+header_stands phase phase' n m l e e' ten h =
+    let h' : IsTrue (stands_at (Header 0) n l) = subst (λ (x : Phase). IsTrue (stands_at x n l)) e h in
+    let open_is = (and_parts (n == 0) (is_open l) (and_parts (nat_lt 0 10) ((n == 0) && is_open l) h').1).1 in
+    rw e' (and_from (m == 10) (is_open l) (eq-eqb m 10 ten) open_is)
+
+-- so many zeros more of PAD
+zeros_all : (header : List ℕ) (holds : List PacketValue → List ℕ → List Bool → Type 0) (room zeros left : ℕ) (q : Reading) → Filled header holds room 0 zeros q → Filled header holds room 0 (zeros + left) (q ++ kept PAD (replicate left false))
+zeros_all header holds room zeros zero q f =
+    let e : zeros + 0 ≡ zeros = omega arith in
+    rw e (rw (append-nil q) f)
+zeros_all header holds room zeros (suc left) q f =
+    let one : Reading = (PAD, 0) ∷ [] in
+    let rest = kept PAD (replicate left false) in
+    let e : zeros + suc left ≡ suc zeros + left = omega arith in
+    rw e (subst (λ (t : Reading). Filled header holds room 0 (suc zeros + left) t) (append_assoc q one rest) (zeros_all header holds room (suc zeros) left (q ++ one) (padded_more header holds room zeros q f)))
+
+none_behind : (xs q : Reading) → xs ++ q ≡ xs → q ≡ []
+none_behind [] q e = e
+none_behind (x ∷ xs) q e = none_behind xs q (let k : xs ++ q ≡ xs = cc in k)
+
+pub whole_pad : (size : Size) (phase phase' : Phase) (left : ℕ) (header : List ℕ) (l : PacketsLeft) (holds : List PacketValue → List ℕ → List Bool → Type 0)
+    → phase ≡ Pad left → phase' ≡ Whole → Follows size phase header l holds (kept PAD (replicate left false)) size phase' header l holds
+whole_pad size phase phase' left header l holds e e' =
+    let p = kept PAD (replicate left false) in
+    let all : Follows size (Pad left) header l holds p size Whole header l holds = record {
+      same = refl;
+      residual = record {
+        to = λ q h. none_behind p q h;
+        from = λ q h. rw h (append-nil p);
+      };
+      held = λ q (zeros, n, f). subst (λ m. Filled header holds l.room 0 m (q ++ p)) n (zeros_all header holds l.room zeros left q f);
+    } in
+    subst (λ (x : Phase). Follows size x header l holds p size phase' header l holds) (sym e)
+    (subst (λ (x : Phase). Follows size (Pad left) header l holds p size x header l holds) (sym e') all)

@@ -1,6 +1,5 @@
 -- What is left of a telegram at its beginning is a telegram.
-use Rattle.std.proofs.Common.{◌≡◌, ◌-◌, List, [], ◌∷◌, length, sym, subst}
-use Rattle.etcs_vars.specs.declared.var.Var.{Var}
+use Rattle.std.proofs.Common.{◌≡◌, ◌-◌, length, sym, subst}
 use Rattle.etcs_vars.specs.Reading.{spelled}
 use Rattle.etcs_vars.proofs.Languages.{Same, Then-same, same_self}
 use Rattle.etcs_rows.specs.declared.frames.Carrier.TheVariants.{Telegram}

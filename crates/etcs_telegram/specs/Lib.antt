@@ -1,6 +1,7 @@
 pub mod Telegrams
 pub mod Headers
 pub mod Writing
+pub mod Fronts
 pub mod Phases
 pub mod Lefts
 pub mod RestLaws

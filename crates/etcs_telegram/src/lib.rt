@@ -3,6 +3,7 @@
 
 mod encode;
 mod header;
+mod header_bits;
 pub mod laws;
 pub mod parts;
 mod phase;

@@ -13,11 +13,12 @@ ghost use Rattle.etcs_telegram.specs.Phases.{after};
 ghost use Rattle.etcs_telegram.specs.Lefts.{left_at, next_at, stands_at, may_ask, behind_packets, FillFits, HoldsIn, Follows};
 ghost use Rattle.etcs_telegram.specs.RestLaws.{rest_regular, rest_begins, rest_ended, follows_none, follows_along};
 
+use crate::header_bits::header_at;
 use crate::phase::Phase;
 use crate::size::Size;
 use arrayvec::ArrayVec;
 use etcs_bits::BitSlice;
-use etcs_container::parts::run_at;
+use etcs_container::parts::{number_at, run_at};
 use etcs_reader::Rest;
 use etcs_rests::{PacketStore, PacketsLeft, PacketsRest, Stage};
 use etcs_rows::parts::Carrier;
@@ -82,6 +83,21 @@ impl<S: PacketStore> TelegramRest<S> {
     {
         self.header.push(number);
         self.stage = Phase::Header(at).after(self.size);
+    }
+
+    /// Takes the whole header, where the piece has it and each number is admitted, and says how many bits it was.
+    fn leap_header(&mut self, piece: &[u8], at: usize) -> Option<usize>
+        requires stage { self.old.stage ≡ Phase.Header 0 }
+        requires inside { at < length (bits piece.now) }
+        requires small { length (bits piece.now) < 2 ^ 64 }
+        requires goes { Goes (left_at self.old.size self.old.stage self.old.packets.left) }
+        ensures none { IsNone result → self.new ≡ self.old }
+        ensures some { IfSome result (λ n. LeapsBy (left_at self.new.size self.new.stage self.new.packets.left) (λ p. Follows self.old.size self.old.stage self.old.header.items self.old.packets.left (S.holds self.old.packets.store) p self.new.size self.new.stage self.new.header.items self.new.packets.left (S.holds self.new.packets.store)) (bits piece.now) at n) }
+    {
+        let (numbers, end) = header_at(piece, at)?;
+        self.header = numbers;
+        self.stage = Phase::Packets;
+        Some(end - at)
     }
 
     /// Behind a variable of the packets.
@@ -188,6 +204,22 @@ impl<S: PacketStore> TelegramRest<S> {
     {
         self.stage = behind_pad(left);
     }
+
+    /// Takes the bits of PAD, of which `left` are wanted, where the piece has them all and they are zeros, and says how
+    /// many it was.
+    fn leap_pad(&mut self, left: usize, piece: &[u8], at: usize) -> Option<usize>
+        requires stage { self.old.stage ≡ Phase.Pad left }
+        requires inside { at < length (bits piece.now) }
+        requires small { length (bits piece.now) < 2 ^ 64 }
+        ensures none { IsNone result → self.new ≡ self.old }
+        ensures some { IfSome result (λ n. LeapsBy (left_at self.new.size self.new.stage self.new.packets.left) (λ p. Follows self.old.size self.old.stage self.old.header.items self.old.packets.left (S.holds self.old.packets.store) p self.new.size self.new.stage self.new.header.items self.new.packets.left (S.holds self.new.packets.store)) (bits piece.now) at n) }
+    {
+        if left > 8 || piece.len() * 8 - at < left || number_at(piece, at, left) > 0 {
+            return None;
+        }
+        self.stage = Phase::Whole;
+        Some(left)
+    }
 }
 
 impl<S: PacketStore> Rest for TelegramRest<S> {
@@ -246,6 +278,7 @@ impl<S: PacketStore> Rest for TelegramRest<S> {
     #[inline]
     fn leap(&mut self, piece: &[u8], at: usize) -> Result<Option<usize>, AllocError> {
         match self.stage {
+            Phase::Header(0) => Ok(self.leap_header(piece, at)),
             Phase::Packets => match self.leap_packets(piece, at) {
                 Ok(taken) => Ok(taken),
                 Err(error) => Err(error),
@@ -254,6 +287,7 @@ impl<S: PacketStore> Rest for TelegramRest<S> {
                 Ok(count) => Ok(Some(count)),
                 Err(error) => Err(error),
             },
+            Phase::Pad(left) => Ok(self.leap_pad(left, piece, at)),
             _ => Ok(None),
         }
     }

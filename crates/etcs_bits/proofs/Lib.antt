@@ -2,6 +2,7 @@ pub mod Numbers
 pub mod Positions
 pub mod Lists
 pub mod ByteBits
+mod Copies
 pub mod Steps
 pub mod Views
 pub mod Owned

@@ -3,6 +3,7 @@
 
 mod bits;
 mod bytes;
+mod copying;
 pub mod parts;
 mod poker;
 mod slice;

@@ -1,6 +1,6 @@
 //! For the crates above: writes that are known to fit, and moves of many bits.
 
-ghost use Rattle.std.specs.Prelude.{◌≡◌, ℕ, ◌+◌, ◌*◌, ◌^◌, ◌<◌, ◌≤◌, ◌++◌, length, OnOk, OnErr};
+ghost use Rattle.std.specs.Prelude.{◌≡◌, ℕ, ◌+◌, ◌-◌, ◌*◌, ◌^◌, ◌<◌, ◌≤◌, ◌++◌, length, OnOk, OnErr};
 ghost use Rattle.etcs_bits.specs.Bits.{num, bits, part, replaced};
 
 use super::bits::Bits;
@@ -16,7 +16,7 @@ pub fn write(bytes: &mut [u8], start: usize, width: usize, value: u64)
     requires fits { value < 2 ^ width }
     ensures { bits bytes.new ≡ replaced start (num width value) (bits bytes.old) }
 {
-    poker::write(&mut bytes[start / 8..], start % 8, width, value);
+    poker::write(bytes, start / 8, start % 8, width, value);
 }
 
 /// Adds the bits of `slice` at the end of `bits`.
@@ -37,14 +37,32 @@ pub fn write_slice(bytes: &mut [u8], start: usize, slice: &BitSlice<'_>)
     requires { start + length slice.now ≤ length (bits bytes.old) }
     ensures { bits bytes.new ≡ replaced start slice.now (bits bytes.old) }
 {
-    let mut left = slice.len();
-    while left > 0 {
-        let count = left.min(56);
-        let done = slice.len() - left;
+    if slice.len() < 80 {
+        return write_part(bytes, start, slice, 0, slice.len());
+    }
+    let front = (8 - start % 8) % 8;
+    let words = (slice.len() - front - 8) / 64;
+    let (at, _) = byte_of(start, front);
+    write_part(bytes, start, slice, 0, front);
+    slice.copy_words(front, &mut bytes[at..], words);
+    write_part(bytes, start, slice, front + 64 * words, slice.len());
+}
+
+/// Writes the bits of `slice` behind the first `from`, up to `end`, where the first of all would stand at the bit
+/// `start`.
+fn write_part(bytes: &mut [u8], start: usize, slice: &BitSlice<'_>, from: usize, end: usize)
+    requires order { from ≤ end }
+    requires within { end ≤ length slice.now }
+    requires inside { start + end ≤ length (bits bytes.old) }
+    ensures { bits bytes.new ≡ replaced (start + from) (part from (end - from) slice.now) (bits bytes.old) }
+{
+    let mut done = from;
+    while done < end {
+        let count = (end - done).min(56);
         let (at, offset) = byte_of(start, done);
         let number = chunk(slice, done, count);
-        poker::write(&mut bytes[at..], offset, count, number);
-        left -= count;
+        poker::write(bytes, at, offset, count, number);
+        done += count;
     }
 }
 

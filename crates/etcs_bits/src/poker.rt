@@ -16,24 +16,24 @@ pub enum PokeFault {
     TooLarge,
 }
 
-/// Writes a number into `width` bits of `bytes` from `offset` on, which stand inside `bytes`.
-pub(crate) fn write(bytes: &mut [u8], offset: usize, width: usize, value: u64)
+/// Writes a number into `width` bits of `bytes` from the bit `offset` of the byte `at` on, which stand inside `bytes`.
+pub(crate) fn write(bytes: &mut [u8], at: usize, offset: usize, width: usize, value: u64)
     requires offset { offset < 8 }
     requires width { width ≤ 64 }
-    requires inside { offset + width ≤ length (bits bytes.old) }
+    requires inside { 8 * at + offset + width ≤ length (bits bytes.old) }
     requires fits { value < 2 ^ width }
-    ensures { bits bytes.new ≡ replaced offset (num width value) (bits bytes.old) }
+    ensures { bits bytes.new ≡ replaced (8 * at + offset) (num width value) (bits bytes.old) }
 {
-    if bytes.len() < 8 || offset + width > 64 || width == 0 {
-        write_by_bytes(bytes, offset, width, value);
+    if width > 0 && offset + width <= 64 && bytes.len() >= 8 {
+        let first = at.min(bytes.len() - 8);
+        write_in_word(&mut bytes[first..], 8 * (at - first) + offset, width, value);
     } else {
-        write_in_word(bytes, offset, width, value);
+        write_by_bytes(&mut bytes[at..], offset, width, value);
     }
 }
 
-/// As `write`, in the first eight bytes at once.
+/// As `write`, of the first eight bytes, at once.
 fn write_in_word(bytes: &mut [u8], offset: usize, width: usize, value: u64)
-    requires offset { offset < 8 }
     requires width { 0 < width }
     requires word { 8 ≤ length bytes.old }
     requires inside { offset + width ≤ 64 }
@@ -46,7 +46,6 @@ fn write_in_word(bytes: &mut [u8], offset: usize, width: usize, value: u64)
 
 /// The word with `width` of its bits from `offset` on replaced by a number.
 fn with_number_in_word(word: u64, offset: usize, width: usize, value: u64) -> u64
-    requires offset { offset < 8 }
     requires width { 0 < width }
     requires inside { offset + width ≤ 64 }
     requires fits { value < 2 ^ width }
@@ -57,7 +56,7 @@ fn with_number_in_word(word: u64, offset: usize, width: usize, value: u64) -> u6
     (word - lower) + (value << behind) + lower % (1 << behind)
 }
 
-/// As `write`, byte by byte.
+/// Writes a number into `width` bits of `bytes` from `offset` on, which stand inside `bytes`, byte by byte.
 fn write_by_bytes(bytes: &mut [u8], offset: usize, width: usize, value: u64)
     requires offset { offset < 8 }
     requires width { width ≤ 64 }

@@ -1,9 +1,10 @@
 //! A part of a byte slice, bit by bit.
 
 ghost use Rattle.std.specs.Prelude.{◌≡◌, ℕ, ◌+◌, ◌*◌, ◌<◌, ◌≤◌, ◌==◌, false, length, take, nat_lt, nat_le, slice_index_or, if◌then◌else◌, Some, IfSome};
-ghost use Rattle.etcs_bits.specs.Bits.{bits, part, number_at};
+ghost use Rattle.etcs_bits.specs.Bits.{bits, part, number_at, replaced};
 
 use super::bytes::byte_of;
+use super::copying::copy_words;
 use super::walker::{peek_at_end, peek_by_bytes, peek_word};
 use std::marker::Model;
 
@@ -134,5 +135,15 @@ impl<'a> BitSlice<'a> {
                 peek_by_bytes(&self.bytes[at..], offset, width)
             }
         }
+    }
+
+    /// Copies so many words behind the first `from` of these bits to the front of `to`.
+    pub(crate) fn copy_words(&self, from: usize, to: &mut [u8], words: usize)
+        requires inside { from + 64 * words + 8 ≤ length self.now }
+        requires room { 8 * words ≤ length to.old }
+        ensures { bits to.new ≡ replaced 0 (part from (64 * words) self.now) (bits to.old) }
+    {
+        let (at, offset) = byte_of(self.offset, from);
+        copy_words(&self.bytes[at..], offset, to, words);
     }
 }

@@ -1,32 +1,51 @@
-use Rattle.std.proofs.Common.{◌+◌, ◌-◌, length, take, ap, ◌∙◌, arith}
-use Rattle.std.proofs.lemmas.List.{length-take}
-use Rattle.etcs_bits.specs.Bits.{bits, num, part, replaced}
-use Rattle.etcs_bits.proofs.Numbers.{length-num}
+use Rattle.std.proofs.Common.{◌≡◌, ◌+◌, ◌-◌, ◌*◌, ◌/◌, ◌%◌, length, drop, ap, ◌∙◌, arith}
+use Rattle.std.proofs.lemmas.List.{length-take, length-drop}
+use borrow.Rule.Slice.PartMut.{put_mid}
+use Rattle.etcs_bits.specs.Bits.{bits, part, replaced}
 use Rattle.etcs_bits.proofs.Positions.{length-bits}
-use Rattle.etcs_bits.proofs.Lists.{replaced_more}
-use Rattle.etcs_bits.proofs.Steps.{rest_inside, replaced-rest}
-use Rattle.etcs_bits.proofs.Views.{taken_more}
+use Rattle.etcs_bits.proofs.Steps.{replaced-rest}
+use Rattle.etcs_bits.proofs.Copies.{part_length, written_by_three}
 use Rattle.etcs_bits.proofs.parts.write_slice.Goals as goal
 
-pub slice_bounds-write-count : goal.slice_bounds-write-count
-slice_bounds-write-count c = omega (arith, length-bits c.args.bytes.now)
+pub slice_bounds-copy_words-count : goal.slice_bounds-copy_words-count
+slice_bounds-copy_words-count c =
+    let front = (8 - c.args.start % 8) % 8 in
+    let same = part_length c.args.bytes.now c.write_part-2.new.bytes (c.args.start + 0) 0 (front - 0) c.args.slice.now (omega arith) (omega arith) c.write_part-2.ensures in
+    omega (arith, same, length-bits c.args.bytes.now)
 
-pub slice_bounds-write-start : goal.slice_bounds-write-start
-slice_bounds-write-start c = omega (arith, length-bits c.args.bytes.now)
+pub slice_bounds-copy_words-start : goal.slice_bounds-copy_words-start
+slice_bounds-copy_words-start c =
+    let front = (8 - c.args.start % 8) % 8 in
+    let same = part_length c.args.bytes.now c.write_part-2.new.bytes (c.args.start + 0) 0 (front - 0) c.args.slice.now (omega arith) (omega arith) c.write_part-2.ensures in
+    omega (arith, same, length-bits c.args.bytes.now)
 
-pub write-requires-clause-inside : goal.write-requires-clause-inside
-write-requires-clause-inside c =
-    let s = c.loop-left in
-    rest_inside s.bytes c.byte_of-at.result.0 (c.args.start + (length c.args.slice.now - s.left)) c.byte_of-at.result.1 c.min-count.result (omega arith) (omega (arith, length-bits c.args.bytes.now, length-bits s.bytes))
+pub copy_words-requires-clause-room : goal.copy_words-requires-clause-room
+copy_words-requires-clause-room c =
+    let front = (8 - c.args.start % 8) % 8 in
+    let one = c.write_part-2.new.bytes in
+    let at = c.byte_of-at.result.0 in
+    let same = part_length c.args.bytes.now one (c.args.start + 0) 0 (front - 0) c.args.slice.now (omega arith) (omega arith) c.write_part-2.ensures in
+    omega (arith, same, length-bits c.args.bytes.now, length-take (length one - at) (drop at one), length-drop at one)
 
-pub loop-left-preserved : goal.loop-left-preserved
-loop-left-preserved c =
-    let s = c.loop-left in
-    let seen = c.args.slice.now in
-    let done = length seen - s.left in
-    let at = c.args.start + done in
-    let x = num c.min-count.result c.chunk-number.result in
-    let written = replaced-rest s.bytes c.write.new.bytes c.byte_of-at.result.0 at c.byte_of-at.result.1 x (omega (arith, length-bits c.args.bytes.now)) (omega arith) c.write.ensures in
-    let two = replaced_more c.args.start at (take done seen) x (bits c.args.bytes.now) (omega (arith, length-take done seen)) (omega (arith, length-num c.min-count.result c.chunk-number.result)) in
-    let moved = taken_more seen x s.left c.min-count.result (omega arith) (omega arith) (c.chunk-number.ensures.bits ∙ ap (λ k. part (k - s.left) c.min-count.result seen) c.len.ensures) in
-    (omega arith, written ∙ ap (replaced at x) s.invariant.1 ∙ two ∙ ap (λ l. replaced c.args.start l (bits c.args.bytes.now)) moved)
+pub write_part-requires-3-clause-inside : goal.write_part-requires-3-clause-inside
+write_part-requires-3-clause-inside c =
+    let front = (8 - c.args.start % 8) % 8 in
+    let words = 64 * ((c.len-2.result - front - 8) / 64) in
+    let one = c.write_part-2.new.bytes in
+    let at = c.byte_of-at.result.0 in
+    let same = part_length c.args.bytes.now one (c.args.start + 0) 0 (front - 0) c.args.slice.now (omega arith) (omega arith) c.write_part-2.ensures in
+    let two = put_mid at (length one - at) one c.copy_words.new.to in
+    let written : bits two ≡ replaced (c.args.start + front) (part front words c.args.slice.now) (bits one) = replaced-rest one c.copy_words.new.to at (c.args.start + front) 0 (part front words c.args.slice.now) (omega (arith, same, length-bits c.args.bytes.now)) (omega arith) c.copy_words.ensures in
+    let again = part_length one two (c.args.start + front) front words c.args.slice.now (omega arith) (omega (arith, same, length-bits c.args.bytes.now, length-bits one)) written in
+    omega (arith, again, same, length-bits c.args.bytes.now, length-bits two)
+
+pub returns : goal.returns
+returns c =
+    let front = (8 - c.args.start % 8) % 8 in
+    let words = 64 * ((c.len-2.result - front - 8) / 64) in
+    let one = c.write_part-2.new.bytes in
+    let at = c.byte_of-at.result.0 in
+    let same = part_length c.args.bytes.now one (c.args.start + 0) 0 (front - 0) c.args.slice.now (omega arith) (omega arith) c.write_part-2.ensures in
+    let two = put_mid at (length one - at) one c.copy_words.new.to in
+    let written : bits two ≡ replaced (c.args.start + front) (part front words c.args.slice.now) (bits one) = replaced-rest one c.copy_words.new.to at (c.args.start + front) 0 (part front words c.args.slice.now) (omega (arith, same, length-bits c.args.bytes.now)) (omega arith) c.copy_words.ensures in
+    c.write_part-3.ensures ∙ ap (λ k. replaced (c.args.start + (front + words)) (part (front + words) (k - (front + words)) c.args.slice.now) (bits two)) c.len-3.ensures ∙ written_by_three c.args.slice.now (bits c.args.bytes.now) (bits one) (bits two) c.args.start front words (omega arith) (omega arith) c.write_part-2.ensures written

@@ -1,17 +1,20 @@
 -- Variables of a piece that are taken together.
-use Rattle.std.proofs.Common.{◌≡◌, ℕ, ◌+◌, ◌-◌, ◌≤◌, ◌<◌, Bool, true, false, List, [], ◌∷◌, ◌++◌, length, replicate, refl, sym, ap, ◌∙◌, arith, append-nil}
+use Rattle.std.proofs.Common.{◌≡◌, ℕ, ◌+◌, ◌-◌, ◌/◌, ◌^◌, ◌≤◌, ◌<◌, Bool, true, false, List, [], ◌∷◌, ◌++◌, length, replicate, refl, sym, ap, subst, ◌∙◌, arith, append-nil, append_assoc}
 use Rattle.std.specs.Prelude.{IsTrue, ◌&&◌, nat_lt}
 use Rattle.std.proofs.lemmas.Bool.{ltb-true}
 use Rattle.std.proofs.lemmas.List.{length-replicate}
+use Rattle.std.proofs.lemmas.List.Elements.{All-nil}
 use Rattle.etcs_bits.specs.Bits.{num, part}
 use Rattle.etcs_bits.proofs.Lists.{length-part}
-use Rattle.etcs_vars.specs.declared.var.Var.TheVariants.{Q_DIR, L_PACKET, OTHER_DATA}
+use Rattle.etcs_vars.specs.declared.var.Var.TheVariants.{NID_PACKET, Q_DIR, L_PACKET, OTHER_DATA}
 use Rattle.etcs_vars.specs.Vars.{admits}
 use Rattle.etcs_vars.specs.Reading.{Reading, Then, spelled, kept, Viable}
 use Rattle.etcs_vars.specs.Walking.{Residual}
+use Rattle.etcs_vars.proofs.Sent.{length-sent}
 use Rattle.etcs_vars.proofs.Walk.{spelled-append}
 use Rattle.etcs_rows.specs.declared.row.Way.TheVariants.{ToTrain}
 use Rattle.etcs_rows.specs.declared.frames.Carrier.{Carrier}
+use Rattle.etcs_rows.specs.declared.frames.Carrier.TheVariants.{Telegram}
 use Rattle.etcs_rows.specs.Frames.{is_kept, may_be_left}
 use Rattle.etcs_rows.proofs.PlaceLemmas.{and_both}
 use Rattle.etcs_packets.specs.PacketValues as packets
@@ -25,10 +28,12 @@ use Rattle.etcs_container.proofs.Packets.{frame_bits, typed_bits}
 use Rattle.etcs_container.proofs.RunSteps.{in_front, framed_carried}
 use Rattle.etcs_container.proofs.Typed.{typed_number}
 use Rattle.etcs_container.proofs.Wholes.{kept_behind}
-use Rattle.etcs_reader.specs.Rests.{Goes}
+use Rattle.etcs_reader.specs.Rests.{Goes, Starts}
+use Rattle.etcs_rests.specs.declared.stage.Event.TheVariants as event
+use Rattle.etcs_rests.specs.declared.stage.Keep.TheVariants as keep
 use Rattle.etcs_rests.specs.declared.stage.Stage.{Stage}
 use Rattle.etcs_rests.specs.declared.stage.Stage.TheVariants.{Number, Kept}
-use Rattle.etcs_rests.specs.Lefts.{left_of, is_stage, Here, HoldsAt}
+use Rattle.etcs_rests.specs.Lefts.{left_of, is_stage, keeps_at, Becomes, Here, HoldsAt, Moved}
 use Rattle.etcs_rests.proofs.PacketLemmas.{Holds, held_whole}
 
 -- ---- A packet that lies whole in a piece.
@@ -123,3 +128,30 @@ module _ (c : Carrier) (room : ℕ) (s : Stage) (nid dir left : ℕ) (e : s ≡ 
 
   pub kept_goes : (t : List Bool) (R : Reading → Type 0) → length t ≤ left → Residual (left_of c room s) (kept OTHER_DATA t) R → Goes R
   kept_goes t R le behind = let q = on t le in (q.0, behind.to q.0 q.1)
+
+-- ---- Packet 255.
+
+-- it may come next in a telegram that has room for it
+pub closing_starts : (c : Carrier) (room : ℕ) → c ≡ Telegram → 8 ≤ room → Starts (Run c room) NID_PACKET 0 255
+closing_starts c room is le =
+    let last : Reading = (NID_PACKET, 255) ∷ [] in
+    let run : Run Telegram room last = ([], record { carried = All-nil (Carries Telegram); reading_is = refl; fills = omega (arith, le, length-sent NID_PACKET 255 []) }) in
+    (255, [], rw is run, refl)
+
+-- something is left behind it
+pub closing_goes : (c c' : Carrier) (room room' n : ℕ) (s s' : Stage) → Starts (left_of c room s) NID_PACKET 0 n → Moved c room s ((NID_PACKET, n) ∷ []) c' room' s' → Goes (left_of c' room' s')
+closing_goes c c' room room' n s s' (m, r, l, e) moved =
+    let same : m ≡ n = (let none : m / 2 ^ 0 ≡ m = omega arith in sym none ∙ e) in
+    (r, moved.residual.to r (subst (λ (k : ℕ). left_of c room s ((NID_PACKET, k) ∷ r)) same l))
+
+-- what is held with it
+pub closing_held : (c c' : Carrier) (s s' : Stage) (n : ℕ) (H : Holds) → s ≡ Number → c' ≡ c → Becomes c s NID_PACKET n event.More s' → (q : Reading) → HoldsAt c s H q → HoldsAt c' s' H (q ++ (NID_PACKET, n) ∷ [])
+closing_held c c' s s' n H number same becomes q (vs, f, k, h, holds, all, here, eq) =
+    let none : keeps_at s ≡ keep.Nothing = ap keeps_at number in
+    let here' : Here c s' f k (h ++ (NID_PACKET, n) ∷ []) = rw none at becomes f k h here in
+    let whole : q ++ (NID_PACKET, n) ∷ [] ≡ packets_reading vs ++ (h ++ (NID_PACKET, n) ∷ []) = ap (λ (t : Reading). t ++ (NID_PACKET, n) ∷ []) eq ∙ append_assoc (packets_reading vs) h ((NID_PACKET, n) ∷ []) in
+    rw same (vs, f, k, h ++ (NID_PACKET, n) ∷ [], holds, all, here', whole)
+
+-- its bits
+pub closing_bits : (n : ℕ) (t : List Bool) → num 8 n ≡ t → spelled ((NID_PACKET, n) ∷ []) ≡ t
+closing_bits n t e = append-nil (num 8 n) ∙ e

@@ -132,8 +132,20 @@ impl PacketsLeft {
         }
     }
 
+    /// Whether packet 255 may come next.
+    #[inline]
+    pub(crate) fn may_close(&self) -> bool
+        requires stage { self.now.stage ≡ Stage.Number }
+        ensures { IsTrue result → Starts (left_of self.now.carrier self.now.room self.now.stage) NID_PACKET 0 255 }
+    {
+        match self.carrier {
+            Carrier::Telegram => self.room >= 8,
+            Carrier::Message => false,
+        }
+    }
+
     /// Behind NID_PACKET.
-    fn take_number(&mut self, number: u64)
+    pub(crate) fn take_number(&mut self, number: u64)
         requires stage { self.old.stage ≡ Stage.Number }
         requires goes { Starts (left_of self.old.carrier self.old.room self.old.stage) NID_PACKET 0 number }
         ensures moved { Moved self.old.carrier self.old.room self.old.stage ((NID_PACKET, number) ∷ []) self.new.carrier self.new.room self.new.stage }

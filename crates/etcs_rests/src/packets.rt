@@ -92,6 +92,28 @@ impl<S: PacketStore> PacketsRest<S> {
         self.left = PacketsLeft::new(carrier, room);
     }
 
+    /// Takes packet 255, where the piece has it and it may come next, and says how many bits it was.
+    #[inline]
+    fn leap_closing(&mut self, piece: &[u8], at: usize) -> Option<usize>
+        requires stage { self.old.left.stage ≡ Stage.Number }
+        requires inside { at < length (bits piece.now) }
+        requires small { length (bits piece.now) < 2 ^ 64 }
+        ensures none { IsNone result → self.new ≡ self.old }
+        ensures some { IfSome result (λ n. LeapsBy (left_of self.new.left.carrier self.new.left.room self.new.left.stage) (λ p. Moved self.old.left.carrier self.old.left.room self.old.left.stage p self.new.left.carrier self.new.left.room self.new.left.stage × ((q : Reading) → HoldsAt self.old.left.carrier self.old.left.stage (S.holds self.old.store) q → HoldsAt self.new.left.carrier self.new.left.stage (S.holds self.new.store) (q ++ p))) (bits piece.now) at n) }
+    {
+        if piece.len() * 8 - at < 8 {
+            return None;
+        }
+        if number_at(piece, at, 8) != 255 {
+            return None;
+        }
+        if !self.left.may_close() {
+            return None;
+        }
+        self.left.take_number(255);
+        Some(8)
+    }
+
     /// Takes the typed packet that begins at `at`, where it lies whole in the piece, and says how many bits
     /// it was.
     fn leap_packet(&mut self, piece: &[u8], at: usize) -> Result<Option<usize>, AllocError>
@@ -118,6 +140,26 @@ impl<S: PacketStore> PacketsRest<S> {
                 self.left.close();
                 Err(error)
             }
+        }
+    }
+
+    /// Takes packet 255, or the typed packet that begins at `at`, where it lies whole in the piece, and says how many
+    /// bits it was.
+    fn leap_number(&mut self, piece: &[u8], at: usize) -> Result<Option<usize>, AllocError>
+        requires stage { self.old.left.stage ≡ Stage.Number }
+        requires inside { at < length (bits piece.now) }
+        requires small { length (bits piece.now) < 2 ^ 64 }
+        ensures none { IfOk result (λ o. IsNone o → self.new ≡ self.old) }
+        ensures some { IfOk result (λ o. IfSome o (λ n. LeapsBy (left_of self.new.left.carrier self.new.left.room self.new.left.stage) (λ p. Moved self.old.left.carrier self.old.left.room self.old.left.stage p self.new.left.carrier self.new.left.room self.new.left.stage × ((q : Reading) → HoldsAt self.old.left.carrier self.old.left.stage (S.holds self.old.store) q → HoldsAt self.new.left.carrier self.new.left.stage (S.holds self.new.store) (q ++ p))) (bits piece.now) at n)) }
+        ensures err { OnErr result S.fails }
+        ensures viable { OnErr result (Viable (left_of self.old.left.carrier self.old.left.room self.old.left.stage) (part at 1 (bits piece.now))) }
+    {
+        if let Some(count) = self.leap_closing(piece, at) {
+            return Ok(Some(count));
+        }
+        match self.leap_packet(piece, at) {
+            Ok(taken) => Ok(taken),
+            Err(error) => Err(error),
         }
     }
 
@@ -198,10 +240,7 @@ impl<S: PacketStore> Rest for PacketsRest<S> {
     #[inline]
     fn leap(&mut self, piece: &[u8], at: usize) -> Result<Option<usize>, AllocError> {
         match &self.left.stage {
-            Stage::Number => match self.leap_packet(piece, at) {
-                Ok(taken) => Ok(taken),
-                Err(error) => Err(error),
-            },
+            Stage::Number => self.leap_number(piece, at),
             Stage::Kept(nid, dir, left) => {
                 let (nid, dir, left) = (*nid, *dir, *left);
                 match self.leap_kept(nid, dir, left, piece, at) {

@@ -1,60 +1,53 @@
--- Variables one behind the other whose bits are all there: one more each time, and all of them.
-use Rattle.std.proofs.Common.{◌≡◌, ℕ, ◌+◌, ◌-◌, ◌<◌, ◌≤◌, Bool, List, [], ◌∷◌, ◌++◌, length, refl, sym, ap, subst, ◌∙◌, arith, append-nil, length-append}
-use Rattle.std.specs.Prelude.{IsTrue}
+-- Variables one behind the other whose bits are all there.
+use Rattle.std.proofs.Common.{◌≡◌, ℕ, suc, ◌+◌, ◌-◌, ◌/◌, ◌%◌, ◌^◌, ◌<◌, ◌≤◌, Bool, List, [], ◌∷◌, ◌++◌, length, refl, sym, ap, subst, ◌∙◌, arith}
+use Rattle.std.proofs.lemmas.Nat.{mod_below, pow_pos}
+use Rattle.std.proofs.Math.Nat.{mod-eq_of_lt}
 use Rattle.etcs_bits.specs.Bits.{num, part}
-use Rattle.etcs_bits.proofs.Lists.{part-add, length-part}
+use Rattle.etcs_bits.proofs.Numbers.{num-add}
+use Rattle.etcs_bits.proofs.Lists.{length-part}
+use Rattle.etcs_bits.proofs.ByteBits.{num_low}
 use Rattle.etcs_vars.specs.declared.var.Var.{Var}
-use Rattle.etcs_vars.specs.Vars.{width, admits}
+use Rattle.etcs_vars.specs.Vars.{width}
 use Rattle.etcs_vars.specs.Reading.{Reading, Then, spelled}
 use Rattle.etcs_vars.specs.Walking.{Residual}
-use Rattle.etcs_vars.proofs.Walk.{spelled-append}
 use Rattle.etcs_reader.specs.Rests.{Goes, LeapsBy}
 use Rattle.etcs_reader.specs.Fields.{ReadsFields}
 use Rattle.etcs_reader.specs.FieldLaws.{first_number}
 use Rattle.etcs_rests.specs.Labels.{labelled, widths}
 use Rattle.etcs_rests.specs.LabelLaws.{length-widths, labelled_widths}
-use Rattle.etcs_telegram.specs.Fronts.{FrontAt}
+use Rattle.etcs_telegram.specs.Fronts.{FieldsIn, FrontAt}
 
-labelled-append : (vs ws : List Var) (ns ms : List ℕ) → length ns ≡ length vs → labelled (vs ++ ws) (ns ++ ms) ≡ labelled vs ns ++ labelled ws ms
-labelled-append [] ws [] ms e = refl
-labelled-append [] ws (n ∷ ns) ms e = absurd cc
-labelled-append (v ∷ vs) ws [] ms e = absurd cc
-labelled-append (v ∷ vs) ws (n ∷ ns) ms e = ap (λ (t : Reading). (v, n) ∷ t) (labelled-append vs ws ns ms (let k : length ns ≡ length vs = cc in k))
+fields_count : (vs : List Var) (word : ℕ) (ns : List ℕ) → FieldsIn vs word ns → length ns ≡ length vs
+fields_count [] word ns h = ap length h
+fields_count (v ∷ vs) word [] h = absurd h
+fields_count (v ∷ vs) word (n ∷ ns) (a, e, h) = ap suc (fields_count vs word ns h)
 
-fields-append : (vs ws : List Var) (p q : Reading) → ReadsFields vs p → ReadsFields ws q → ReadsFields (vs ++ ws) (p ++ q)
-fields-append [] ws p q h k = rw h k
-fields-append (v ∷ vs) ws p q (n, p', a, e, h) k = rw e (n, p' ++ q, a, refl, fields-append vs ws p' q h k)
+fields_read : (vs : List Var) (word : ℕ) (ns : List ℕ) → FieldsIn vs word ns → ReadsFields vs (labelled vs ns)
+fields_read [] word ns h = refl
+fields_read (v ∷ vs) word [] h = absurd h
+fields_read (v ∷ vs) word (n ∷ ns) (a, e, h) = (n, labelled vs ns, a, refl, fields_read vs word ns h)
 
-pub front_none : (xs : List Bool) (at : ℕ) → at ≤ length xs → FrontAt [] xs at [] at
-front_none xs at h = record {
-  count = refl;
-  onward = omega arith;
-  inside = h;
-  reads = refl;
-  bits = (let e : at - at ≡ 0 = omega arith in rw e refl);
-}
+fields_bits : (vs : List Var) (word : ℕ) (ns : List ℕ) → FieldsIn vs word ns → spelled (labelled vs ns) ≡ num (widths vs) word
+unfolding num
+fields_bits [] word ns h = refl
+fields_bits (v ∷ vs) word [] h = absurd h
+fields_bits (v ∷ vs) word (n ∷ ns) (a, e, h) =
+    let front = word / 2 ^ widths vs in
+    let twice : n % 2 ^ width v ≡ front % 2 ^ width v = ap (λ k. k % 2 ^ width v) e ∙ mod-eq_of_lt (mod_below front (2 ^ width v) (pow_pos (width v))) in
+    ap (λ (t : List Bool). num (width v) n ++ t) (fields_bits vs word ns h)
+    ∙ ap (λ (t : List Bool). t ++ num (widths vs) word) (num_low (width v) n front twice)
+    ∙ sym (num-add (width v) (widths vs) word)
 
-pub front_more : (vs : List Var) (v : Var) (xs : List Bool) (at : ℕ) (ns : List ℕ) (n end : ℕ) → FrontAt vs xs at ns end → IsTrue (admits v n) → end + width v ≤ length xs → num (width v) n ≡ part end (width v) xs → FrontAt (vs ++ v ∷ []) xs at (ns ++ n ∷ []) (end + width v)
-front_more vs v xs at ns n end f a inside bits =
-    let p = labelled vs ns in
-    let one : Reading = (v, n) ∷ [] in
-    let all : labelled (vs ++ v ∷ []) (ns ++ n ∷ []) ≡ p ++ one = labelled-append vs (v ∷ []) ns (n ∷ []) f.count in
-    let onward = f.onward in
-    let len : end + width v - at ≡ (end - at) + width v = omega arith in
-    let place : at + (end - at) ≡ end = omega arith in
+-- the numbers of variables, in a word of their bits
+pub front_in : (vs : List Var) (xs : List Bool) (at : ℕ) (ns : List ℕ) (word end : ℕ) → end ≡ at + widths vs → end ≤ length xs → FieldsIn vs word ns → num (widths vs) word ≡ part at (widths vs) xs → FrontAt vs xs at ns end
+front_in vs xs at ns word end place inside h bits =
+    let len : widths vs ≡ end - at = omega arith in
     record {
-      count = length-append ns (n ∷ []) ∙ ap (λ k. k + 1) f.count ∙ sym (length-append vs (v ∷ []));
+      count = fields_count vs word ns h;
       onward = omega arith;
       inside = inside;
-      reads = rw all (fields-append vs (v ∷ []) p one f.reads (n, [], a, refl, refl));
-      bits =
-          ap spelled all
-          ∙ spelled-append p one
-          ∙ ap (λ (t : List Bool). spelled p ++ t) (append-nil (num (width v) n) ∙ bits)
-          ∙ ap (λ (t : List Bool). t ++ part end (width v) xs) f.bits
-          ∙ ap (λ k. part at (end - at) xs ++ part k (width v) xs) (sym place)
-          ∙ sym (part-add at (end - at) (width v) xs)
-          ∙ ap (λ k. part at k xs) (sym len);
+      reads = fields_read vs word ns h;
+      bits = fields_bits vs word ns h ∙ bits ∙ ap (λ k. part at k xs) len;
     }
 
 -- ---- All of them.

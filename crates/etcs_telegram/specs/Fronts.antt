@@ -1,10 +1,11 @@
 -- Variables one behind the other whose bits are all there.
-use Rattle.std.specs.Prelude.{◌≡◌, ℕ, ◌-◌, ◌≤◌, Bool, List, length}
+use Rattle.std.specs.Prelude.{◌≡◌, ℕ, ◌-◌, ◌/◌, ◌%◌, ◌^◌, ◌≤◌, Bool, List, [], ◌∷◌, length, IsTrue}
 use Rattle.etcs_bits.specs.Bits.{part}
 use Rattle.etcs_vars.specs.declared.var.Var.{Var}
+use Rattle.etcs_vars.specs.Vars.{width, admits}
 use Rattle.etcs_vars.specs.Reading.{spelled}
 use Rattle.etcs_reader.specs.Fields.{ReadsFields}
-use Rattle.etcs_rests.specs.Labels.{labelled}
+use Rattle.etcs_rests.specs.Labels.{labelled, widths}
 
 -- the bits of xs from at up to end spell the variables with these numbers, each of which is admitted
 pub record FrontAt (vs : List Var) (xs : List Bool) (at : ℕ) (ns : List ℕ) (end : ℕ) : Type 0 where
@@ -13,3 +14,9 @@ pub record FrontAt (vs : List Var) (xs : List Bool) (at : ℕ) (ns : List ℕ) (
   pub inside : end ≤ length xs
   pub reads : ReadsFields vs (labelled vs ns)
   pub bits : spelled (labelled vs ns) ≡ part at (end - at) xs
+
+-- the numbers of the variables in the lowest bits of a word, the last one's at the end; each is admitted
+abbrev pub FieldsIn : List Var → ℕ → List ℕ → Type 0
+FieldsIn [] word ns = ns ≡ []
+FieldsIn (v ∷ vs) word [] = ⊥
+FieldsIn (v ∷ vs) word (n ∷ ns) = IsTrue (admits v n) × (n ≡ word / 2 ^ widths vs % 2 ^ width v) × FieldsIn vs word ns

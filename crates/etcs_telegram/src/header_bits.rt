@@ -1,35 +1,59 @@
 //! The header's bits, all at once.
 
-ghost use Rattle.std.specs.Prelude.{◌≤◌, ◌^◌, ◌<◌, length, IfSome};
+ghost use Rattle.std.specs.Prelude.{◌≡◌, ◌+◌, ◌/◌, ◌%◌, ◌≤◌, ◌^◌, ◌<◌, length, IfSome, IsTrue};
 ghost use Rattle.etcs_bits.specs.Bits.{bits};
+ghost use Rattle.etcs_vars.specs.Vars.{width, admits};
 ghost use Rattle.etcs_telegram.specs.Telegrams.{header_row};
-ghost use Rattle.etcs_telegram.specs.Fronts.{FrontAt};
+ghost use Rattle.etcs_telegram.specs.Fronts.{FieldsIn, FrontAt};
 
-use crate::parts::HEADER;
+use crate::parts::HEADER_BITS;
 use arrayvec::ArrayVec;
 use etcs_container::parts::number_at;
+use etcs_vars::Var;
+
+/// The number of a variable in a word, with so many bits behind it. `None` where the variable doesn't admit it.
+#[inline(always)]
+fn field(word: u64, behind: usize, var: Var) -> Option<u64>
+    requires { behind + width var < 64 }
+    ensures { IfSome result (λ n. IsTrue (admits var n) × (n ≡ word / 2 ^ behind % 2 ^ width var)) }
+{
+    let number = (word >> behind) % (1 << var.width());
+    if !var.admits(number) {
+        return None;
+    }
+    Some(number)
+}
+
+/// The numbers of the header's variables in the lowest 50 bits of a word. `None` where one doesn't admit its number.
+#[inline(always)]
+fn header_in(word: u64) -> Option<[u64; 10]>
+    ensures { IfSome result (λ ns. FieldsIn header_row word ns) }
+{
+    Some([
+        field(word, 49, Var::Q_UPDOWN)?,
+        field(word, 42, Var::M_VERSION_HEADER)?,
+        field(word, 41, Var::Q_MEDIA)?,
+        field(word, 38, Var::N_PIG)?,
+        field(word, 35, Var::N_TOTAL)?,
+        field(word, 33, Var::M_DUP)?,
+        field(word, 25, Var::M_MCOUNT)?,
+        field(word, 15, Var::NID_C)?,
+        field(word, 1, Var::NID_BG)?,
+        field(word, 0, Var::Q_LINK)?,
+    ])
+}
 
 /// The numbers of the header's variables from the bit `at` on, and the bit behind them. `None` where the piece doesn't
 /// have them all, or one doesn't admit its number.
+#[inline]
 pub(crate) fn header_at(piece: &[u8], at: usize) -> Option<(ArrayVec<u64, 10>, usize)>
     requires inside { at ≤ length (bits piece.now) }
     requires small { length (bits piece.now) < 2 ^ 64 }
     ensures { IfSome result (λ r. FrontAt header_row (bits piece.now) at r.0.items r.1) }
 {
-    let end = piece.len() * 8;
-    let mut numbers = ArrayVec::new();
-    let mut behind = at;
-    for var in &HEADER {
-        let width = var.width();
-        if end - behind < width {
-            return None;
-        }
-        let number = number_at(piece, behind, width);
-        if !var.admits(number) {
-            return None;
-        }
-        numbers.push(number);
-        behind += width;
+    if piece.len() * 8 - at < HEADER_BITS {
+        return None;
     }
-    Some((numbers, behind))
+    let numbers = header_in(number_at(piece, at, HEADER_BITS))?;
+    Some((ArrayVec::from(numbers), at + HEADER_BITS))
 }

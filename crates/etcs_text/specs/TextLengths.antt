@@ -33,7 +33,7 @@ use Rattle.etcs_telegram.specs.declared.size.Size.TheVariants as size
 use Rattle.etcs_telegram.specs.Telegrams.{TelegramValue, TelegramReads, header_reading, closed_reading, user_bits, pad_bits}
 use Rattle.etcs_telegram.proofs.Spellings.{regular, whole_length}
 use Rattle.etcs_text.specs.Encodings.{IsEncoded, check_line}
-use Rattle.etcs_text.specs.Entries.{EntryValue, of_telegram, of_message, EntryReads, Spells, entry_bits, entry_text}
+use Rattle.etcs_text.specs.Entries.{EntryValue, of_telegram, of_message, Spells, entry_bits, entry_text}
 use Rattle.etcs_text.specs.Messages.{message_bits, message_bytes, message_line, front_variables, behind_lines, message_text}
 use Rattle.etcs_text.specs.Packets.{packet_line, frame_lines, body_lines, packet_text, packets_text}
 use Rattle.etcs_text.specs.PlainTexts.{plain_bits, plain_hex}

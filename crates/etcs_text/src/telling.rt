@@ -1,27 +1,38 @@
 //! The encoding of an item, and the line that says that it was accepted.
 
-ghost use Rattle.std.specs.Prelude.{◌≡◌, ◌++◌, ◌<◌, ◌≤◌, ◌∷◌, All, ℕ, List, [], IfOk, OnErr, OnOk, length, take};
+ghost use Rattle.std.specs.Prelude.{◌≡◌, ◌++◌, ◌<◌, ◌≤◌, ◌∷◌, All, ℕ, List, [], IfOk, OnErr, OnOk, codes, length, take};
+ghost use Rattle.std.specs.Fmt.{decimal};
 ghost use Rattle.hex.specs.Hex.{encode_upper};
 ghost use Rattle.etcs_radio.specs.Messages.{message_value};
-ghost use Rattle.etcs_telegram.specs.Telegrams.{telegram_value};
-ghost use Rattle.etcs_text.specs.Entries.{entry_bits, entry_value, of_message, of_telegram};
+ghost use Rattle.etcs_telegram.specs.Telegrams.{telegram_value, user_bits};
+ghost use Rattle.etcs_text.specs.Entries.{entry_value, of_message, of_telegram};
 ghost use Rattle.etcs_text.specs.Fronts.{Begins};
 ghost use Rattle.etcs_text.specs.Encodings.{IsEncoded, check_line};
 
 use crate::entry::Entry;
 use crate::text::{push_decimal, push_item_number};
 use etcs_radio::Message;
-use etcs_telegram::Telegram;
+use etcs_telegram::{Size, Telegram};
 use std::alloc::{AllocError, Global};
 
-/// How many bits an entry has: of a telegram user bits.
-fn bits_of(entry: &Entry) -> usize
-    ensures { result ≡ entry_bits (entry_value entry.now) }
+/// What stands behind the number in the line that says that a telegram was accepted.
+fn accepted(size: Size) -> &'static [u8]
+    ensures { result.now ≡ codes " ok " ++ decimal (user_bits size) ++ codes " bits\n" }
 {
-    match entry {
-        Entry::Telegram(telegram) => telegram.size().user_bits(),
-        Entry::Message(message) => message.bit_len(),
+    match size {
+        Size::Short => b" ok 210 bits\n",
+        Size::Long => b" ok 830 bits\n",
     }
+}
+
+/// Appends what stands behind the number in the line that says that a message of so many bits was accepted.
+fn push_accepted(bits: usize, out: &mut Vec<u8>) -> Result<(), AllocError>
+    ensures ok { OnOk result (out.new.items ≡ out.old.items ++ (codes " ok " ++ decimal bits ++ codes " bits\n")) }
+    ensures err { OnErr result (Begins out.old.items out.new.items) }
+{
+    out.extend_from_slice(b" ok ")?;
+    push_decimal(bits as u64, out)?;
+    out.extend_from_slice(b" bits\n")
 }
 
 /// Appends the line that says that an item was accepted.
@@ -30,9 +41,10 @@ fn push_check(entry: &Entry, item: u64, out: &mut Vec<u8>) -> Result<(), AllocEr
     ensures err { OnErr result (Begins out.old.items out.new.items) }
 {
     push_item_number(item, out)?;
-    out.extend_from_slice(b" ok ")?;
-    push_decimal(bits_of(entry) as u64, out)?;
-    out.extend_from_slice(b" bits\n")
+    match entry {
+        Entry::Telegram(telegram) => out.extend_from_slice(accepted(telegram.size())),
+        Entry::Message(message) => push_accepted(message.bit_len(), out),
+    }
 }
 
 /// Appends the line that says that an entry, the item of this number, was accepted: `item`, the number, `ok` and how many

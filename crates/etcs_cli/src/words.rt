@@ -40,7 +40,7 @@ static GROUP_KINDS_HELP: &str = "Balise telegrams of 830 user bits (long) or of 
 static FORMS: [&str; 3] = ["hex", "bin", "json"];
 
 /// What `--version` says behind the name: the version, and the line of the kit that proves it.
-static VERSION: &str = "0.1.0 (rattle-kit-13b logic dac8208d650f15bf)";
+static VERSION: &str = "0.1.0 (rattle-kit-13f logic dac8208d650f15bf)";
 
 /// What a command line asks for.
 #[derive(Drop)]

@@ -22,7 +22,7 @@ fn says_the_version_in_a_line(rt: HostRuntime) -> Result<(), Fail> {
     for word in ["--version", "-V"] {
         let (status, output, is_wrong) = run_line(rt.alloc(), &["etcs", word])?;
         assert!(rt; status == 0 && !is_wrong);
-        let wanted = b"etcs 0.1.0 (rattle-kit-13b logic dac8208d650f15bf)\n";
+        let wanted = b"etcs 0.1.0 (rattle-kit-13f logic dac8208d650f15bf)\n";
         assert!(rt; output.as_slice() == wanted.as_slice());
     }
     Ok(())

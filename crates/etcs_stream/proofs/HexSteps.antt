@@ -24,7 +24,7 @@ use Rattle.etcs_stream.specs.declared.job.Tally.{Tally}
 use Rattle.etcs_stream.specs.Readers.{ReaderValue, Awaits, HasRoom, seen_bits}
 use Rattle.etcs_stream.specs.Steps.{Advances, Halts}
 use Rattle.etcs_stream.specs.Stands.{ItemsStand, HexStands}
-use Rattle.etcs_stream.specs.Inputs.{End, ended, refused, truncated, bad_hex, bad_json, endless, BitItems, IsBad, ItemsOf, SaysFirst, FirstItems}
+use Rattle.etcs_stream.specs.Inputs.{End, ended, refused, truncated, bad_hex, bad_json, endless, BitItems, IsBad, ItemsOf, SaysFirst}
 use Rattle.etcs_stream.specs.Engines.{Ends, Stops, StopsAtEnd}
 use Rattle.etcs_stream.proofs.ItemKinds.{Language}
 use Rattle.etcs_bits.proofs.ByteBits.{bits-append}

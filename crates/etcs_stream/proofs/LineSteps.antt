@@ -1,6 +1,6 @@
 -- Lines, piece by piece, whatever takes them.
-use Rattle.std.proofs.Common.{◌≡◌, ℕ, ◌+◌, ◌<◌, ◌≤◌, ◌^◌, Bool, true, eqb, List, [], ◌∷◌, ◌++◌, length, Result, Ok, Err, refl, sym, ap, subst, ◌∙◌, arith, append_assoc, length-append, inl, inr}
-use Rattle.std.specs.Prelude.{◌⊎◌, OnOk, IfErr}
+use Rattle.std.proofs.Common.{◌≡◌, ℕ, ◌+◌, ◌≤◌, Bool, true, eqb, List, [], ◌∷◌, ◌++◌, length, Result, Ok, Err, refl, sym, ap, subst, ◌∙◌, arith, append_assoc, length-append, inl, inr}
+use Rattle.std.specs.Prelude.{OnOk, IfErr}
 use Rattle.std.proofs.lemmas.Bool.{eqb-true}
 use Rattle.std.proofs.lemmas.List.{append-nil}
 use Rattle.std.proofs.lemmas.List.Elements.{All-append, All-nil, All-tail}
@@ -15,9 +15,9 @@ use Rattle.etcs_stream.specs.declared.job.Job.{Job}
 use Rattle.etcs_stream.specs.declared.fault.RunFault.{RunFault}
 use Rattle.etcs_stream.specs.declared.fault.RunFault.TheVariants.{Memory}
 use Rattle.etcs_stream.specs.Faults.{IsOfEngine}
-use Rattle.etcs_stream.specs.Lines.{IsLine, lines_text, most_characters, IsHexText, line_bytes, lines_bytes}
-use Rattle.etcs_stream.specs.JsonItems.{AreItemLines, JsonFront, EndedJson, FirstJson}
-use Rattle.etcs_stream.specs.Inputs.{ItemsOf, SaysFirst, FirstBytes, FirstItems, WholeBytes, WholeItems}
+use Rattle.etcs_stream.specs.Lines.{IsLine, lines_text, most_characters, line_bytes, lines_bytes}
+use Rattle.etcs_stream.specs.JsonItems.{AreItemLines, JsonFront, FirstJson}
+use Rattle.etcs_stream.specs.Inputs.{ItemsOf, SaysFirst, FirstItems, WholeItems}
 use Rattle.etcs_stream.specs.Engines.{Tells, Stops, Prints}
 use Rattle.etcs_stream.specs.Stands.{LinesStand}
 use Rattle.etcs_stream.proofs.Cutting.{lines_few, lines_text-append, one_line}

@@ -1,8 +1,6 @@
 -- What an engine tells is short.
-use Rattle.std.proofs.Common.{◌≡◌, ℕ, ◌+◌, ◌*◌, ◌<◌, ◌≤◌, ◌^◌, Bool, List, [], ◌∷◌, ◌++◌, length, Result, Ok, Err, ap, subst, arith, length-append}
+use Rattle.std.proofs.Common.{◌≡◌, ℕ, ◌+◌, ◌*◌, ◌<◌, ◌≤◌, ◌^◌, List, ◌++◌, length, Result, Ok, Err, ap, subst, arith, length-append}
 use Rattle.std.specs.Prelude.{OnOk, IfOk, IfErr}
-use Rattle.etcs_text.specs.declared.entry.Kind.{Kind}
-use Rattle.etcs_text.specs.Entries.{EntryValue}
 use Rattle.etcs_stream.specs.Tellers.{nothing_told}
 use Rattle.etcs_stream.proofs.TellLengths.{items_short, last_short}
 use Rattle.etcs_stream.specs.declared.job.Job.{Job}

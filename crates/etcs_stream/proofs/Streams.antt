@@ -16,7 +16,7 @@ use Rattle.etcs_text.specs.declared.entry.Kind.{Kind}
 use Rattle.etcs_stream.specs.declared.job.Command.{Command}
 use Rattle.etcs_text.specs.Entries.{EntryValue, EntryReads}
 use Rattle.etcs_stream.specs.Told.{Told}
-use Rattle.etcs_stream.specs.Tellers.{TellsItem, TellsItems}
+use Rattle.etcs_stream.specs.Tellers.{TellsItem}
 use Rattle.etcs_stream.specs.declared.fault.RunFault.{RunFault}
 use Rattle.etcs_stream.specs.Readers.{ReaderValue, Stage, Feeds, Awaits, seen_bits, reading}
 use Rattle.etcs_stream.specs.Streams.{AreSpelled}

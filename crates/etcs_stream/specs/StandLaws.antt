@@ -1,7 +1,7 @@
 -- What was told of an input's front is the text of the items that are whole there.
-use Rattle.std.proofs.Common.{◌≡◌, ℕ, ◌≤◌, List, ◌++◌, length, refl, sym, subst, arith}
+use Rattle.std.proofs.Common.{ℕ, ◌≤◌, List, ◌++◌, length, refl, sym, subst, arith}
 use Rattle.etcs_stream.specs.declared.job.Form.{Form}
-use Rattle.etcs_stream.specs.declared.job.Form.TheVariants.{Hex, Bin, Json}
+use Rattle.etcs_stream.specs.declared.job.Form.TheVariants.{Hex, Bin}
 use Rattle.etcs_stream.specs.declared.job.Job.{Job}
 use Rattle.etcs_stream.specs.Inputs.{SaysSoFar, WholeBytes, WholeItems}
 use Rattle.etcs_stream.specs.Lines.{IsLine, lines_text, lines_bytes}

@@ -2,8 +2,10 @@
 
 ghost use Rattle.std.specs.Prelude.{◌≡◌, List, Bool, [], OnErr, IfOk, length};
 ghost use Rattle.etcs_bits.specs.Bits.{bits};
-ghost use Rattle.etcs_text.specs.Entries.{EntryReads, EntryValue, entry_value};
-ghost use Rattle.etcs_stream.specs.Readers.{Feeds, reading, finished};
+ghost use Rattle.etcs_rests.specs.Stages as inner;
+ghost use Rattle.etcs_text.specs.declared.entry.Kind.TheVariants.{Radio};
+ghost use Rattle.etcs_text.specs.Entries.{EntryReads, EntryValue, entry_value, kind_of};
+ghost use Rattle.etcs_stream.specs.Readers.{Feeds, reading, finished, stage_of, telegram_item, message_item};
 
 use etcs_radio::MessageReader;
 use etcs_telegram::{Size, TelegramReader};
@@ -11,6 +13,7 @@ use etcs_text::{Entry, Kind};
 use etcs_vars::{Fed, ReadFault};
 use std::alloc::Global;
 use std::marker::Model;
+use std::mem;
 
 /// The reader of telegrams or of messages.
 #[derive(Drop)]
@@ -71,24 +74,56 @@ impl EntryReader {
         }
     }
 
-    /// The item, once `feed` has answered `Done`.
+    /// The item, once `feed` has answered `Done`. The next one of this kind, which is the reader's, is read then.
     ///
     /// # Errors
     ///
     /// Where no item is whole.
-    pub(crate) fn take(self) -> Result<Entry, ()>
-        ensures some { IfOk result (λ e. self.stage ≡ finished (entry_value e)) }
-        ensures none { OnErr result ((e : EntryValue) → self.stage ≡ finished e → ⊥) }
+    pub(crate) fn next(&mut self, alloc: Global, kind: Kind) -> Result<Entry, ()>
+        requires { kind ≡ self.old.kind }
+        ensures some { IfOk result (λ e. self.old.stage ≡ finished (entry_value e)) }
+        ensures none { OnErr result ((e : EntryValue) → self.old.stage ≡ finished e → ⊥) }
+        ensures next { self.new ≡ record { kind = kind; stage = reading [] } }
     {
-        match self.inner {
-            Inner::Telegram(reader) => match reader.take() {
-                Ok(telegram) => Ok(Entry::Telegram(telegram)),
-                Err(_) => Err(()),
-            },
-            Inner::Message(reader) => match reader.take() {
-                Ok(message) => Ok(Entry::Message(message)),
-                Err(_) => Err(()),
-            },
+        match &mut self.inner {
+            Inner::Telegram(reader) => next_telegram(reader, alloc, size_of(kind)),
+            Inner::Message(reader) => next_message(reader, alloc),
         }
+    }
+}
+
+/// The size of a kind's telegrams.
+fn size_of(kind: Kind) -> Size
+    requires { kind ≡ Radio → ⊥ }
+    ensures { kind_of result ≡ kind }
+{
+    match kind {
+        Kind::Long => Size::Long,
+        Kind::Short => Size::Short,
+        Kind::Radio => unreachable!(),
+    }
+}
+
+/// The telegram that is whole. The next one is read then.
+fn next_telegram(reader: &mut TelegramReader, alloc: Global, size: Size) -> Result<Entry, ()>
+    ensures some { IfOk result (λ e. stage_of telegram_item reader.old.stage ≡ finished (entry_value e)) }
+    ensures none { OnErr result ((e : EntryValue) → stage_of telegram_item reader.old.stage ≡ finished e → ⊥) }
+    ensures next { reader.new ≡ record { size = size; stage = inner.reading [] } }
+{
+    match mem::replace(reader, TelegramReader::new(alloc, size)).take() {
+        Ok(telegram) => Ok(Entry::Telegram(telegram)),
+        Err(_) => Err(()),
+    }
+}
+
+/// The message that is whole. The next one is read then.
+fn next_message(reader: &mut MessageReader, alloc: Global) -> Result<Entry, ()>
+    ensures some { IfOk result (λ e. stage_of message_item reader.old ≡ finished (entry_value e)) }
+    ensures none { OnErr result ((e : EntryValue) → stage_of message_item reader.old ≡ finished e → ⊥) }
+    ensures next { reader.new ≡ inner.reading [] }
+{
+    match mem::replace(reader, MessageReader::new(alloc)).take() {
+        Ok(message) => Ok(Entry::Message(message)),
+        Err(_) => Err(()),
     }
 }

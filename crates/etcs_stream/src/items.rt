@@ -13,7 +13,6 @@ use crate::job::{Job, Tally};
 use crate::teller::Teller;
 use etcs_vars::{Fed, ReadFault};
 use std::alloc::{AllocError, Global};
-use std::mem;
 
 /// How many items a run has at most.
 pub(crate) const MOST_ITEMS: u64 = 1_000_000;
@@ -129,6 +128,7 @@ impl Items {
 
     /// Appends the text of the whole item, and begins the next.
     fn tell(&mut self, text: &mut Vec<u8>) -> Result<(), RunFault>
+        requires kind { self.old.reader.kind ≡ self.old.job.kind }
         requires whole { (e : EntryValue) × (self.old.reader.stage ≡ finished e) × (entry_kind e ≡ self.old.job.kind) }
         requires told { self.old.teller.count < 1000000 }
         ensures job { self.new.job ≡ self.old.job }
@@ -137,9 +137,7 @@ impl Items {
         ensures ok { (e : EntryValue) → self.old.reader.stage ≡ finished e → OnOk result ((added : List ℕ) × TellsItem self.old.job.command e self.old.teller added self.new.teller × (text.new.items ≡ text.old.items ++ added)) }
         ensures err { IfErr result (λ e. (e ≡ RunFault.Memory) × (text.new.items ≡ text.old.items)) }
     {
-        let next = EntryReader::new(self.alloc, self.job.kind);
-        let reader = mem::replace(&mut self.reader, next);
-        let entry = match reader.take() {
+        let entry = match self.reader.next(self.alloc, self.job.kind) {
             Ok(entry) => entry,
             Err(()) => unreachable!(),
         };

@@ -1,4 +1,3 @@
-use Rattle.std.proofs.Common.{◌++◌}
 use Rattle.etcs_stream.proofs.BinSteps.{bin_finish_ends, bin_finish_stops}
 use Rattle.etcs_stream.proofs.Shortness.{finished_short}
 use Rattle.etcs_stream.proofs.bin.BinEngine.finish.Goals as goal

@@ -1,4 +1,4 @@
-use Rattle.std.proofs.Common.{◌≡◌, ℕ, List, ◌++◌, length, sym, ap, subst, ◌∙◌}
+use Rattle.std.proofs.Common.{◌++◌, length}
 use Rattle.std.proofs.lemmas.Result.{err_from_is_err_and}
 use Rattle.etcs_stream.specs.Lines.{lines_text}
 use Rattle.etcs_stream.proofs.HexSteps.{hex_start, hex_last_stops, hex_finish_ends, hex_finish_stops}

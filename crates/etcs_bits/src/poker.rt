@@ -24,7 +24,7 @@ pub(crate) fn write(bytes: &mut [u8], at: usize, offset: usize, width: usize, va
     requires fits { value < 2 ^ width }
     ensures { bits bytes.new ≡ replaced (8 * at + offset) (num width value) (bits bytes.old) }
 {
-    if width > 0 && offset + width <= 64 && bytes.len() >= 8 {
+    if offset + width > 8 && offset + width <= 64 && bytes.len() >= 8 {
         let first = at.min(bytes.len() - 8);
         write_in_word(&mut bytes[first..], 8 * (at - first) + offset, width, value);
     } else {

@@ -25,5 +25,5 @@ slice_bounds-write_by_bytes-start c = omega (arith, length-bits c.args.bytes.now
 pub write_by_bytes-requires-clause-inside : goal.write_by_bytes-requires-clause-inside
 write_by_bytes-requires-clause-inside c = rest_inside c.args.bytes.now c.args.at (8 * c.args.at + c.args.offset) c.args.offset c.args.width (omega arith) c.requires.inside
 
-pub returns-else-width-gt0 : goal.returns-else-width-gt0
-returns-else-width-gt0 c = replaced-rest c.args.bytes.now c.write_by_bytes.new.bytes c.args.at (8 * c.args.at + c.args.offset) c.args.offset (num c.args.width c.args.value) (omega (arith, length-bits c.args.bytes.now)) (omega arith) c.write_by_bytes.ensures
+pub returns-else-offset-width-gt8 : goal.returns-else-offset-width-gt8
+returns-else-offset-width-gt8 c = replaced-rest c.args.bytes.now c.write_by_bytes.new.bytes c.args.at (8 * c.args.at + c.args.offset) c.args.offset (num c.args.width c.args.value) (omega (arith, length-bits c.args.bytes.now)) (omega arith) c.write_by_bytes.ensures

@@ -33,7 +33,7 @@ impl<'a> BitSink<'a> {
     }
 
     /// Writes the first of some variables, as one number where they have room, and answers how many.
-    #[inline]
+    #[inline(always)]
     fn send_front(&mut self, sent: &[(Var, u64)]) -> usize
         requires { 0 < length sent.now }
         ensures some { 0 < result }
@@ -47,6 +47,17 @@ impl<'a> BitSink<'a> {
             self.put_each(&sent[..front.count]);
         }
         front.count
+    }
+
+    /// Writes variables behind the others, as few numbers as they take.
+    #[inline(never)]
+    fn send_behind(&mut self, sent: &[(Var, u64)])
+        ensures { self.new ≡ with_sent self.old sent.now }
+    {
+        let mut done = 0;
+        while done < sent.len() {
+            done += self.send_front(&sent[done..]);
+        }
     }
 
     /// Writes variables behind the others, each where it has room.
@@ -115,7 +126,7 @@ struct Front {
 }
 
 /// The first of some variables, as many as a word takes at any bit of a byte, joined into one number.
-#[inline]
+#[inline(always)]
 fn joined(sent: &[(Var, u64)]) -> Front
     requires { 0 < length sent.now }
     ensures { Joins sent.now result.count result.width result.number }
@@ -163,10 +174,13 @@ impl Sink for BitSink<'_> {
 
     ghost failed_behind = { λ s a t h. h };
 
+    #[inline(always)]
     fn send(&mut self, sent: &[(Var, u64)]) -> Result<(), AllocError> {
-        let mut done = 0;
-        while done < sent.len() {
-            done += self.send_front(&sent[done..]);
+        if !sent.is_empty() {
+            let done = self.send_front(sent);
+            if done < sent.len() {
+                self.send_behind(&sent[done..]);
+            }
         }
         Ok(())
     }

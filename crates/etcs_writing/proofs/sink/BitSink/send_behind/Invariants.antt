@@ -1,6 +1,6 @@
 use Rattle.std.proofs.Common.{◌≡◌, ◌-◌, ◌≤◌, length, take}
 use Rattle.etcs_writing.specs.Sinks.{with_sent}
-use Rattle.etcs_writing.proofs.sink.BitSinkSink.send.Given as goal
+use Rattle.etcs_writing.proofs.sink.BitSink.send_behind.Given as goal
 
 abbrev pub invariant-loop-done : goal.invariant-loop-done
 invariant-loop-done l = record { within : l.done ≤ length l.sent; sent : l.self ≡ with_sent l.fn.self (take l.done l.sent) }

@@ -1,105 +1,24 @@
 -- Bits written one behind the other.
-use Rattle.std.proofs.Common.{◌≡◌, ℕ, ◌+◌, ◌-◌, ◌*◌, ◌<◌, ◌≤◌, Bool, false, List, [], ◌∷◌, ◌++◌, length, take, drop, get_or, refl, sym, ap, ◌∙◌, arith, append_assoc, append-nil, length-append}
+use Rattle.std.proofs.Common.{◌≡◌, ℕ, ◌+◌, ◌*◌, ◌≤◌, Bool, false, List, ◌++◌, length, refl, sym, ap, ◌∙◌, arith, append_assoc, append-nil, length-append}
 use Rattle.std.specs.Prelude.{replicate}
-use Rattle.std.proofs.lemmas.List.{take_at, drop_at, length-take, length-drop, take-append-drop, drop-drop, drop_more, drop_all, take_all}
 use Rattle.etcs_bits.specs.Bits.{num, bits, replaced}
 use Rattle.etcs_bits.proofs.Numbers.{length-num}
 use Rattle.etcs_bits.proofs.Positions.{length-bits}
-use Rattle.etcs_vars.specs.declared.var.Var.{Var}
 use Rattle.etcs_vars.specs.declared.var.Var.TheVariants.{FILL, PAD}
-use Rattle.etcs_vars.specs.Vars.{width}
-use Rattle.etcs_vars.specs.Reading.{Reading, spelled, numbers, kept}
+use Rattle.etcs_vars.specs.Reading.{spelled, kept}
 use Rattle.etcs_vars.proofs.Walk.{spelled-append}
 use Rattle.etcs_rows.specs.declared.frames.Carrier.TheVariants as carrier
 use Rattle.etcs_packets.specs.PacketValues.{PacketValue}
 use Rattle.etcs_packets.specs.PacketReadings.{packets_reading}
 use Rattle.etcs_container.specs.Contents.{closing}
-use Rattle.etcs_rests.specs.Labels.{labelled}
 use Rattle.etcs_rests.specs.BitLaws.{bits_spelled}
-use Rattle.etcs_writing.proofs.Parts.{put_next, five_written}
+use Rattle.etcs_writing.proofs.Parts.{five_written}
 use Rattle.etcs_telegram.proofs.Ones.{num-zeros}
 use Rattle.etcs_telegram.specs.declared.size.Size.{Size}
 use Rattle.etcs_telegram.specs.declared.size.Size.TheVariants.{Short, Long}
-use Rattle.etcs_telegram.specs.Telegrams.{HeaderParts, TelegramParts, TelegramValue, TelegramReads, IsTelegram, telegram_value, header_row, header_reading, closed_reading, user_bits, pad_bits, packet_room, container_bytes}
-use Rattle.etcs_telegram.specs.Writing.{Written, telegram_reading}
+use Rattle.etcs_telegram.specs.Telegrams.{TelegramParts, TelegramValue, TelegramReads, IsTelegram, telegram_value, header_reading, closed_reading, user_bits, pad_bits, packet_room, container_bytes}
+use Rattle.etcs_telegram.specs.Writing.{telegram_reading}
 use Rattle.etcs_telegram.proofs.HeaderLemmas.{header_length}
-
--- a part of a list, from its front and what is behind
-take_by : (all new rest : List Bool) (at : ℕ) → at ≤ length all → drop at all ≡ new ++ rest → all ≡ (take at all ++ new) ++ rest
-take_by all new rest at le e = sym (take-append-drop at all) ∙ ap (λ (s : List Bool). take at all ++ s) e ∙ sym (append_assoc (take at all) new rest)
-
-module _ (all before : List Bool) (v : Var) (n : ℕ) (rest : Reading) (at : ℕ) (now : List Bool) (w : Written all before ((v, n) ∷ rest) at now) where
-  lengths : length all ≡ at + (width v + length (spelled rest))
-  lengths =
-      let e : length all - at ≡ width v + length (spelled rest) =
-      sym (length-drop at all) ∙ ap length w.left ∙ length-append (num (width v) n) (spelled rest) ∙ rw length-num refl in
-      omega (arith, w.within)
-
-  pub written_room : at + width v ≤ length all
-  written_room = omega (arith, lengths)
-
-  pub written_inside : at + width v ≤ length now
-  written_inside =
-      let e : length now ≡ length (take at all) + length (drop at before) = ap length w.stands ∙ length-append (take at all) (drop at before) in
-      omega (arith, e, lengths, w.room, length-take at all, length-drop at before)
-
-  pub written_more : (next : List Bool) → next ≡ replaced at (num (width v) n) now → Written all before rest (at + width v) next
-  written_more next e =
-      let new = num (width v) n in
-      let size : length new ≡ width v = length-num (width v) n in
-      let front : length (take at all) ≡ at = omega (arith, length-take at all, w.within) in
-      let whole : all ≡ (take at all ++ new) ++ spelled rest = take_by all new (spelled rest) at w.within w.left in
-      let count : length (take at all ++ new) ≡ at + width v = length-append (take at all) new ∙ rw (front, size) refl in
-      let taken : take (at + width v) all ≡ take at all ++ new =
-      ap (take (at + width v)) whole ∙ take_at (take at all ++ new) (spelled rest) (at + width v) count in
-      let dropped : drop (at + width v) all ≡ spelled rest =
-      ap (drop (at + width v)) whole ∙ drop_at (take at all ++ new) (spelled rest) (at + width v) count in
-      let behind : drop (length new) (drop at before) ≡ drop (at + width v) before = drop-drop (length new) at before ∙ ap (λ (k : ℕ). drop (at + k) before) size in
-      let stands : next ≡ take (at + width v) all ++ drop (at + width v) before =
-      e ∙ ap (replaced at new) w.stands ∙ put_next at (take at all) new (drop at before) (sym front) ∙ ap (λ (s : List Bool). (take at all ++ new) ++ s) behind ∙ ap (λ (s : List Bool). s ++ drop (at + width v) before) (sym taken) in
-      record {
-        within = written_room;
-        room = w.room;
-        stands = stands;
-        left = dropped;
-        admitted = w.admitted.1;
-      }
-
--- nothing is to come
-pub written_whole : (all before : List Bool) (at : ℕ) (now : List Bool) → Written all before [] at now → now ≡ replaced 0 all before
-written_whole all before at now w =
-    let e : length all - at ≡ 0 = sym (length-drop at all) ∙ ap length w.left in
-    let same : at ≡ length all = omega (arith, e, w.within) in
-    let taken : take at all ≡ all = take_all at all (omega (arith, same)) in
-    let dropped : drop at before ≡ drop (0 + length all) before = ap (λ (k : ℕ). drop k before) (omega (arith, same)) in
-    w.stands ∙ ap (λ (s : List Bool). s ++ drop at before) taken ∙ ap (λ (s : List Bool). all ++ s) dropped
-
--- the next variable and its number
-pub row_left : (vs : List Var) (ns : List ℕ) (i : ℕ) (d : Var) → i < length vs → length vs ≡ length ns → labelled (drop i vs) (drop i ns) ≡ (get_or vs i d, get_or ns i 0) ∷ labelled (drop (i + 1) vs) (drop (i + 1) ns)
-row_left vs ns i d h e =
-    let k : i < length ns = omega (arith, h, e) in
-    let first = drop_more vs i d h in
-    let second = drop_more ns i 0 k in
-    rw (first, second) refl
-
-pub row_done : (vs : List Var) (ns : List ℕ) (i : ℕ) → length vs ≤ i → labelled (drop i vs) (drop i ns) ≡ []
-row_done vs ns i h = ap (λ (ws : List Var). labelled ws (drop i ns)) (drop_all i vs h)
-
--- ---- The header.
-
-header_labelled : (h : HeaderParts) (ns : List ℕ) → ns ≡ numbers (header_reading h) → labelled header_row ns ≡ header_reading h
-header_labelled h ns e = rw e refl
-
-header_bits : (h : HeaderParts) (ns : List ℕ) → ns ≡ numbers (header_reading h) → length (spelled (labelled header_row ns)) ≡ 50
-header_bits h ns e = ap (λ (r : Reading). length (spelled r)) (header_labelled h ns e) ∙ header_length h
-
-pub header_room : (h : HeaderParts) (ns : List ℕ) (k : ℕ) → ns ≡ numbers (header_reading h) → 50 ≤ k → length (spelled (labelled header_row ns)) ≤ k
-header_room h ns k e le = omega (arith, header_bits h ns e, le)
-
-pub header_written : (h : HeaderParts) (ns : List ℕ) (b b' : List Bool) → ns ≡ numbers (header_reading h) → b' ≡ replaced 0 (spelled (labelled header_row ns)) b → b' ≡ replaced 0 (spelled (header_reading h)) b
-header_written h ns b b' e w = w ∙ ap (λ (r : Reading). replaced 0 (spelled r) b) (header_labelled h ns e)
-
--- ---- The telegram.
 
 pub room_more : (size : Size) → 50 + packet_room size ≡ user_bits size
 room_more Short = refl

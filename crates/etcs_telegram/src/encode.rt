@@ -1,18 +1,14 @@
 //! Writing telegrams.
 
-ghost use Rattle.std.specs.Prelude.{◌≡◌, ℕ, ◌+◌, ◌*◌, ◌^◌, ◌≤◌, ◌<◌, ◌↔◌, ◌++◌, length, drop, codes, Some, IsOk, IfOk, OnErr};
-ghost use Rattle.etcs_bits.specs.Bits.{bits, replaced};
+ghost use Rattle.std.specs.Prelude.{◌≡◌, ◌≤◌, ◌↔◌, ◌++◌, length, drop, codes, Some, IsOk, IfOk, OnErr};
+ghost use Rattle.etcs_bits.specs.Bits.{bits};
 ghost use Rattle.etcs_vars.specs.Reading.{Reading, spelled};
-ghost use Rattle.etcs_rests.specs.Labels.{labelled};
-ghost use Rattle.etcs_telegram.specs.Telegrams.{IsAdmitted, TelegramReads, container_bytes, header_reading, telegram_value};
+ghost use Rattle.etcs_telegram.specs.Telegrams.{TelegramReads, container_bytes, telegram_value};
 ghost use Rattle.etcs_telegram.specs.Writing.{telegram_reading};
 
-use crate::header::Header;
-use crate::parts::{HEADER, header_numbers};
 use crate::telegram::Telegram;
 use etcs_bits::parts;
-use etcs_vars::Var;
-use etcs_writing::write_packets;
+use etcs_writing::{write_packets, write_variables};
 use std::error::Error;
 use std::fmt;
 
@@ -60,32 +56,9 @@ fn write_telegram(out: &mut [u8], telegram: &Telegram)
     telegram.readable();
     let size = telegram.size();
     // 50 bits of header, the packets, 8 of NID_PACKET, FILL up to the user bits, and zeros.
-    write_header(out, telegram.header());
+    write_variables(out, 0, telegram.header());
     let end = write_packets(out, 50, telegram.packets());
     parts::write(out, end, 8, 255);
     parts::write_slice(out, end + 8, &telegram.fill());
     parts::write(out, size.user_bits(), size.pad_bits(), 0);
-}
-
-/// Writes a header over the first 50 bits.
-fn write_header(out: &mut [u8], header: &Header)
-    requires { 50 ≤ length (bits out.old) }
-    ensures { bits out.new ≡ replaced 0 (spelled (header_reading header.now)) (bits out.old) }
-{
-    write_row(out, &HEADER, &header_numbers(header));
-}
-
-/// Writes numbers in their variables' widths over the first bits.
-fn write_row(out: &mut [u8], vars: &[Var], numbers: &[u64])
-    requires same { length vars.now ≡ length numbers.now }
-    requires admitted { IsAdmitted (labelled vars.now numbers.now) }
-    requires room { length (spelled (labelled vars.now numbers.now)) ≤ length (bits out.old) }
-    requires small { length (spelled (labelled vars.now numbers.now)) < 2 ^ 64 }
-    ensures { bits out.new ≡ replaced 0 (spelled (labelled vars.now numbers.now)) (bits out.old) }
-{
-    let mut at = 0;
-    for (index, var) in vars.iter().enumerate() {
-        parts::write(out, at, var.width(), numbers[index]);
-        at += var.width();
-    }
 }

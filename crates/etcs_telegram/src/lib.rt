@@ -9,6 +9,7 @@ pub mod parts;
 mod phase;
 mod reader;
 mod rest;
+mod sent;
 mod size;
 mod telegram;
 mod view;

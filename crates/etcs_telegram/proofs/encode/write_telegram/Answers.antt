@@ -5,21 +5,25 @@ use Rattle.etcs_packets.specs.declared.packet.Packet.{Packet}
 use Rattle.etcs_packets.specs.PacketValues.{packet_value}
 use Rattle.etcs_packets.specs.PacketReadings.{packets_reading}
 use Rattle.etcs_telegram.specs.Telegrams.{HeaderParts, header_reading, telegram_value, user_bits, pad_bits, container_bytes}
+use Rattle.etcs_telegram.proofs.HeaderLemmas.{header_length}
 use Rattle.etcs_telegram.proofs.Encoding.{container_bits, room_more, user_small, user_end, telegram_written}
 use Rattle.etcs_telegram.proofs.encode.write_telegram.Goals as goal
 
-pub write_header-requires : goal.write_header-requires
-write_header-requires c =
+pub write_variables-requires-clause-room : goal.write_variables-requires-clause-room
+write_variables-requires-clause-room c =
     let size = c.args.telegram.now.size in
-    omega (arith, container_bits size c.args.out.now c.requires, room_more size)
+    omega (arith, container_bits size c.args.out.now c.requires, room_more size, header_length c.header.result.now)
+
+pub write_variables-requires-clause-small : goal.write_variables-requires-clause-small
+write_variables-requires-clause-small c = omega (arith, header_length c.header.result.now)
 
 pub write_packets-end-requires-clause-room : goal.write_packets-end-requires-clause-room
 write_packets-end-requires-clause-room c =
     let t = telegram_value c.args.telegram.now in
-    let len : length c.write_header.new.out ≡ container_bytes t.size = omega arith in
+    let len : length c.write_variables.new.out ≡ container_bytes t.size = omega arith in
     let same = ap (λ (ps : List Packet). 50 + length (spelled (packets_reading (map packet_value ps)))) c.packets.ensures in
     let end = user_end t (50 + length (spelled (packets_reading t.packets))) c.readable.ensures.reads refl in
-    omega (arith, container_bits t.size c.write_header.new.out len, same, end)
+    omega (arith, container_bits t.size c.write_variables.new.out len, same, end)
 
 pub write_packets-end-requires-clause-small : goal.write_packets-end-requires-clause-small
 write_packets-end-requires-clause-small c =
@@ -68,12 +72,12 @@ returns-clause-bits c =
     c.write-2.ensures
     ∙ ap (λ (k : ℕ). replaced k (num c.pad_bits.result 0) (bits c.write_slice.new.bytes)) user
     ∙ ap (λ (k : ℕ). replaced (user_bits t.size) (num k 0) (bits c.write_slice.new.bytes)) pad in
-    telegram_written t c.write_packets-end.result (bits c.args.out.now) (bits c.write_header.new.out) (bits c.write_packets-end.new.out) (bits c.write.new.bytes) (bits c.write_slice.new.bytes) (bits c.write-2.new.bytes)
+    telegram_written t c.write_packets-end.result (bits c.args.out.now) (bits c.write_variables.new.out) (bits c.write_packets-end.new.out) (bits c.write.new.bytes) (bits c.write_slice.new.bytes) (bits c.write-2.new.bytes)
     c.readable.ensures.reads
     (container_bits t.size c.args.out.now c.requires)
     place
-    (c.write_header.ensures ∙ ap (λ (h : HeaderParts). replaced 0 (spelled (header_reading h)) (bits c.args.out.now)) c.header.ensures)
-    (c.write_packets-end.ensures.bits ∙ ap (λ (ps : List Packet). replaced 50 (spelled (packets_reading (map packet_value ps))) (bits c.write_header.new.out)) c.packets.ensures)
+    (c.write_variables.ensures ∙ ap (λ (h : HeaderParts). replaced 0 (spelled (header_reading h)) (bits c.args.out.now)) c.header.ensures)
+    (c.write_packets-end.ensures.bits ∙ ap (λ (ps : List Packet). replaced 50 (spelled (packets_reading (map packet_value ps))) (bits c.write_variables.new.out)) c.packets.ensures)
     c.write.ensures
     (c.write_slice.ensures ∙ ap (λ (f : List Bool). replaced (c.write_packets-end.result + 8) f (bits c.write.new.bytes)) c.fill.ensures)
     zeros

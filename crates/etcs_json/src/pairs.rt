@@ -1,7 +1,6 @@
 //! The trees of variables with their numbers, and of bits.
 
-ghost use Rattle.std.specs.List.{zip};
-ghost use Rattle.std.specs.Prelude.{◌≡◌, ◌<◌, ◌++◌, [], IfOk, OnOk, length, string_bytes};
+ghost use Rattle.std.specs.Prelude.{◌≡◌, ◌<◌, ◌++◌, [], IfOk, OnOk, string_bytes};
 ghost use Rattle.serde_json.specs.View.{view};
 ghost use Rattle.etcs_text.specs.Show.{hex_digit, hex_digits};
 ghost use Rattle.etcs_text.specs.Trees.{bits_tree, number_tree, pair_tree, pairs_tree};
@@ -64,22 +63,6 @@ pub(crate) fn pairs_json(alloc: Global, pairs: &[(Var, u64)]) -> Result<Value, A
     let mut list = Vec::new(alloc);
     for pair in pairs {
         list.push(pair_json(alloc, pair.0, pair.1)?)?;
-    }
-    Ok(Value::Array(list))
-}
-
-/// Variables, each as a pair with the number at its place.
-pub(crate) fn numbered_json(
-    alloc: Global,
-    vars: &[Var],
-    numbers: &[u64],
-) -> Result<Value, AllocError>
-    requires { length numbers.now ≡ length vars.now }
-    ensures { IfOk result (λ v. view v ≡ pairs_tree (zip vars.now numbers.now)) }
-{
-    let mut list = Vec::new(alloc);
-    for (var, number) in vars.iter().zip(numbers) {
-        list.push(pair_json(alloc, *var, *number)?)?;
     }
     Ok(Value::Array(list))
 }

@@ -6,19 +6,18 @@ ghost use Rattle.etcs_bits.specs.Bits.{num};
 ghost use Rattle.etcs_packets.specs.PacketValues.{kept, packet_value, variables_of};
 ghost use Rattle.etcs_radio.specs.Messages.{message_value};
 ghost use Rattle.etcs_radio.specs.Readings.{kept_of, padding_bits_of, padding_of};
-ghost use Rattle.etcs_telegram.specs.Telegrams.{header_reading, telegram_value};
+ghost use Rattle.etcs_telegram.specs.Telegrams.{telegram_value};
 ghost use Rattle.etcs_text.specs.Entries.{entry_value};
 ghost use Rattle.etcs_text.specs.Show.{kind_word};
 ghost use Rattle.etcs_text.specs.Trees.{bits_tree, json_tree, message_tree, packet_tree, packets_tree, pairs_tree, telegram_tree};
 ghost use Rattle.etcs_json.specs.TreeParts.{IsSent, typed_members};
 
-use crate::pairs::{SentList, bits_json, numbered_json, pairs_json, run_json};
+use crate::pairs::{SentList, bits_json, pairs_json, run_json};
 use etcs_bits::BitSlice;
 use etcs_packets::parts::{dir, send};
 use etcs_packets::{Other, Packet};
 use etcs_radio::Message;
-use etcs_telegram::parts::{HEADER, header_numbers};
-use etcs_telegram::{Header, Size, Telegram};
+use etcs_telegram::{Size, Telegram};
 use etcs_text::Entry;
 use serde_json::{Value, json};
 use std::alloc::{AllocError, Global};
@@ -73,13 +72,6 @@ fn packets_json(alloc: Global, packets: &[Packet]) -> Result<Value, AllocError>
     Ok(Value::Array(list))
 }
 
-/// The header of a telegram.
-fn header_json(alloc: Global, header: &Header) -> Result<Value, AllocError>
-    ensures { IfOk result (λ v. view v ≡ pairs_tree (header_reading header.now)) }
-{
-    numbered_json(alloc, &HEADER, &header_numbers(header))
-}
-
 /// The kind of the telegrams of a size.
 fn size_word(size: Size) -> &'static str
     ensures { result.now ≡ kind_word size }
@@ -95,7 +87,7 @@ fn telegram_json(alloc: Global, telegram: &Telegram) -> Result<Value, AllocError
     ensures { IfOk result (λ v. view v ≡ telegram_tree (telegram_value telegram.now)) }
 {
     let fill = bits_json(alloc, &telegram.fill())?;
-    let header = header_json(alloc, telegram.header())?;
+    let header = run_json(alloc, telegram.header())?;
     let kind = size_word(telegram.size());
     let packets = packets_json(alloc, telegram.packets())?;
     json!(in alloc; {"fill": fill, "header": header, "kind": kind, "packets": packets})

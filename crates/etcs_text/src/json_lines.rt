@@ -15,7 +15,7 @@ ghost use Rattle.etcs_text.specs.Trees.{json_tree, message_tree, telegram_tree};
 
 use crate::entry::Entry;
 use crate::json_packets::push_packets;
-use crate::pairs::{push_header, push_run};
+use crate::pairs::push_run;
 use crate::text::{push_bits, push_decimal, push_decimal_and, push_slice};
 use etcs_bits::BitSlice;
 use etcs_radio::{Body, Message, RadioHead};
@@ -40,7 +40,7 @@ fn push_telegram(telegram: &Telegram, out: &mut Vec<u8>) -> Result<(), AllocErro
     out.extend_from_slice(b"{\"fill\":\"")?;
     push_slice(&telegram.fill(), out)?;
     out.extend_from_slice(b"\",\"header\":")?;
-    push_header(telegram.header(), out)?;
+    push_run(telegram.header(), out)?;
     out.extend_from_slice(kind_member(telegram.size()))?;
     push_packets(telegram.packets(), out)?;
     out.extend_from_slice(b"}")

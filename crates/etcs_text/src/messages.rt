@@ -18,7 +18,6 @@ use etcs_radio::Message;
 use etcs_radio::parts::send_front;
 use etcs_vars::Var;
 use std::alloc::AllocError;
-use std::mem;
 
 /// Appends the first line of an item of so many bits.
 fn push_item(bits: usize, item: u64, out: &mut Vec<u8>) -> Result<(), AllocError>
@@ -36,10 +35,7 @@ fn push_front(message: &Message, out: &mut Vec<u8>) -> Result<(), AllocError>
     ensures ok { OnOk result (out.new.items ≡ out.old.items ++ flat_map variable_line (front_reading message.now)) }
     ensures err { OnErr result (Begins out.old.items out.new.items) }
 {
-    let empty = Vec::new(*out.allocator());
-    let mut sink = LineSink {
-        text: mem::replace(out, empty),
-    };
+    let mut sink = LineSink::open(out);
     let sent = send_front(message, &mut sink);
     *out = sink.into_text();
     sent

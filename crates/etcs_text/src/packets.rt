@@ -19,7 +19,7 @@ use std::mem;
 /// A text that takes variables, a line for each.
 #[derive(Drop)]
 pub(crate) struct LineSink {
-    pub(crate) text: Vec<u8>,
+    text: Vec<u8>,
 }
 
 impl Model for LineSink {
@@ -31,6 +31,16 @@ impl Model for LineSink {
 }
 
 impl LineSink {
+    /// A sink behind the text, which is taken.
+    pub(crate) fn open(text: &mut Vec<u8>) -> LineSink
+        ensures { result ≡ text.old.items }
+    {
+        let empty = Vec::new(*text.allocator());
+        LineSink {
+            text: mem::replace(text, empty),
+        }
+    }
+
     /// The text.
     pub(crate) fn into_text(self) -> Vec<u8>
         ensures { result.items ≡ self }
@@ -90,10 +100,7 @@ fn push_sent(packet: &Packet, out: &mut Vec<u8>) -> Result<(), AllocError>
     ensures ok { OnOk result (out.new.items ≡ out.old.items ++ flat_map variable_line (variables_of (packet_value packet.now))) }
     ensures err { OnErr result (Begins out.old.items out.new.items) }
 {
-    let empty = Vec::new(*out.allocator());
-    let mut sink = LineSink {
-        text: mem::replace(out, empty),
-    };
+    let mut sink = LineSink::open(out);
     let sent = send(packet, &mut sink);
     *out = sink.into_text();
     sent

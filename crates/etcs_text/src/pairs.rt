@@ -5,14 +5,12 @@ ghost use Rattle.serde_json.specs.Written.{comma_if, compact_text};
 ghost use Rattle.etcs_text.specs.Fronts.{Begins};
 ghost use Rattle.etcs_vars.specs.declared.var.Var.TheVariants.{NID_RADIO};
 ghost use Rattle.etcs_packets.specs.PacketValues.{packet_value, variables_of};
-ghost use Rattle.etcs_telegram.specs.Telegrams.{header_reading};
 ghost use Rattle.etcs_text.specs.Trees.{number_tree, pair_tree, pairs_tree};
 
 use crate::pair_fronts::pair_front;
 use crate::text::{push_decimal_and, push_hex};
 use etcs_packets::Packet;
 use etcs_packets::parts::send;
-use etcs_telegram::Header;
 use etcs_vars::Var;
 use etcs_vars::parts::{Sink, Variables};
 use std::alloc::AllocError;
@@ -130,37 +128,6 @@ pub(crate) fn push_fields(packet: &Packet, out: &mut Vec<u8>) -> Result<(), Allo
     out.extend_from_slice(b"[")?;
     let mut sink = PairSink::open(out);
     let sent = send(packet, &mut sink);
-    *out = sink.into_text();
-    sent?;
-    out.extend_from_slice(b"]")
-}
-
-/// The header's variables with their numbers.
-fn header_pairs(header: &Header) -> [(Var, u64); 10]
-    ensures { result ≡ header_reading header.now }
-{
-    [
-        (Var::Q_UPDOWN, 1),
-        (Var::M_VERSION_HEADER, u64::from(header.m_version())),
-        (Var::Q_MEDIA, 0),
-        (Var::N_PIG, u64::from(header.n_pig())),
-        (Var::N_TOTAL, u64::from(header.n_total())),
-        (Var::M_DUP, u64::from(header.m_dup())),
-        (Var::M_MCOUNT, u64::from(header.m_mcount())),
-        (Var::NID_C, u64::from(header.nid_c())),
-        (Var::NID_BG, u64::from(header.nid_bg())),
-        (Var::Q_LINK, u64::from(header.q_link())),
-    ]
-}
-
-/// Appends the pairs of a header, as a list.
-pub(crate) fn push_header(header: &Header, out: &mut Vec<u8>) -> Result<(), AllocError>
-    ensures ok { OnOk result (out.new.items ≡ out.old.items ++ compact_text (pairs_tree (header_reading header.now))) }
-    ensures err { OnErr result (Begins out.old.items out.new.items) }
-{
-    out.extend_from_slice(b"[")?;
-    let mut sink = PairSink::open(out);
-    let sent = sink.send(&header_pairs(header));
     *out = sink.into_text();
     sent?;
     out.extend_from_slice(b"]")

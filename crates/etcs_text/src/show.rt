@@ -11,13 +11,13 @@ ghost use Rattle.etcs_telegram.specs.Telegrams.{telegram_value};
 
 use crate::entry::Entry;
 use crate::messages::push_message;
-use crate::packets::push_packets;
+use crate::packets::{LineSink, push_packets};
 use crate::text::push_item_number;
-use crate::variables::{push_bits_line, push_variables};
+use crate::variables::push_bits_line;
 use etcs_bits::BitSlice;
-use etcs_telegram::parts::{HEADER, header_numbers};
 use etcs_telegram::{Header, Size, Telegram};
 use etcs_vars::Var;
+use etcs_vars::parts::Variables;
 use std::alloc::AllocError;
 
 /// What stands behind the number in the first line of a telegram: its kind and its count of bits.
@@ -44,7 +44,10 @@ fn push_header(header: &Header, out: &mut Vec<u8>) -> Result<(), AllocError>
     ensures ok { OnOk result (out.new.items ≡ out.old.items ++ flat_map variable_line (header_reading header.now)) }
     ensures err { OnErr result (Begins out.old.items out.new.items) }
 {
-    push_variables(&HEADER, &header_numbers(header), out)
+    let mut sink = LineSink::open(out);
+    let sent = header.send(&mut sink);
+    *out = sink.into_text();
+    sent
 }
 
 /// Appends the line of the bits behind the last packet.

@@ -1,7 +1,6 @@
 //! Variables and bits, a line for each.
 
-ghost use Rattle.std.specs.Prelude.{◌≡◌, ◌++◌, OnErr, OnOk, codes, flat_map, length};
-ghost use Rattle.std.specs.List.{zip};
+ghost use Rattle.std.specs.Prelude.{◌≡◌, ◌++◌, OnErr, OnOk, codes};
 ghost use Rattle.etcs_vars.specs.Vars.{name, special};
 ghost use Rattle.etcs_text.specs.Fronts.{Begins};
 ghost use Rattle.etcs_text.specs.Show.{bits_line, bits_text, number_text, special_text, variable_line};
@@ -45,22 +44,6 @@ pub(crate) fn push_variable(var: Var, number: u64, out: &mut Vec<u8>) -> Result<
 {
     out.extend_from_slice(front(var))?;
     push_number_line(var, number, out)
-}
-
-/// Appends the lines of variables with their numbers.
-pub(crate) fn push_variables(
-    vars: &[Var],
-    numbers: &[u64],
-    out: &mut Vec<u8>,
-) -> Result<(), AllocError>
-    requires { length numbers.now ≡ length vars.now }
-    ensures ok { OnOk result (out.new.items ≡ out.old.items ++ flat_map variable_line (zip vars.now numbers.now)) }
-    ensures err { OnErr result (Begins out.old.items out.new.items) }
-{
-    for (var, number) in vars.iter().zip(numbers) {
-        push_variable(*var, *number, out)?;
-    }
-    Ok(())
 }
 
 /// Appends what stands behind the count of bits.

@@ -14,28 +14,28 @@ use Rattle.etcs_text.proofs.Texts.{on_extended}
 use Rattle.etcs_text.proofs.TreeTexts.{telegram_is}
 use Rattle.etcs_text.proofs.json_lines.push_telegram.Goals as goal
 
-pub returns-in_err-push_header-clause-err : goal.returns-in_err-push_header-clause-err
-returns-in_err-push_header-clause-err c =
+pub returns-in_err-push_run-clause-err : goal.returns-in_err-push_run-clause-err
+returns-in_err-push_run-clause-err c =
     let one = c.extend_from_slice.new.self.items in
     let two = c.push_slice.new.out.items in
     let three = c.extend_from_slice-2.new.self.items in
-    let new = c.push_header.new.out.items in
+    let new = c.push_run.new.out.items in
     on_err _ (begins_more c.args.out.now.items one new _ c.in_ok-extend_from_slice.ensures.items
     (begins_more one two new _ c.in_ok-push_slice.ensures.ok
-    (begins_more two three new _ c.in_ok-extend_from_slice-2.ensures.items c.in_err-push_header.ensures.err)))
+    (begins_more two three new _ c.in_ok-extend_from_slice-2.ensures.items c.in_err-push_run.ensures.err)))
 
 pub returns-in_err-push_packets-clause-err : goal.returns-in_err-push_packets-clause-err
 returns-in_err-push_packets-clause-err c =
     let one = c.extend_from_slice.new.self.items in
     let two = c.push_slice.new.out.items in
     let three = c.extend_from_slice-2.new.self.items in
-    let four = c.push_header.new.out.items in
+    let four = c.push_run.new.out.items in
     let five = c.extend_from_slice-3.new.self.items in
     let new = c.push_packets.new.out.items in
     on_err _ (begins_more c.args.out.now.items one new _ c.in_ok-extend_from_slice.ensures.items
     (begins_more one two new _ c.in_ok-push_slice.ensures.ok
     (begins_more two three new _ c.in_ok-extend_from_slice-2.ensures.items
-    (begins_more three four new (compact_text (pairs_tree (header_reading c.header.result.now))) c.in_ok-push_header.ensures.ok
+    (begins_more three four new (compact_text (pairs_tree (header_reading c.header.result.now))) c.in_ok-push_run.ensures.ok
     (begins_more four five new _ c.in_ok-extend_from_slice-3.ensures.items c.in_err-push_packets.ensures.err)))))
 
 pub returns-clause-ok : goal.returns-clause-ok
@@ -46,7 +46,7 @@ returns-clause-ok c =
     let one = c.extend_from_slice.new.self.items in
     let two = c.push_slice.new.out.items in
     let three = c.extend_from_slice-2.new.self.items in
-    let four = c.push_header.new.out.items in
+    let four = c.push_run.new.out.items in
     let five = c.extend_from_slice-3.new.self.items in
     let six = c.push_packets.new.out.items in
     let new = c.extend_from_slice-4.new.self.items in
@@ -60,7 +60,7 @@ returns-clause-ok c =
     (behind_ok r old (codes "{\"fill\":\"") one (x ++ (b ++ (y ++ (k ++ (z ++ e))))) new c.in_ok-extend_from_slice.ensures.items
     (behind_ok r one x two (b ++ (y ++ (k ++ (z ++ e)))) new (c.in_ok-push_slice.ensures.ok ∙ ap (λ (f : List Bool). one ++ map bit_digit f) c.fill.ensures)
     (behind_ok r two b three (y ++ (k ++ (z ++ e))) new c.in_ok-extend_from_slice-2.ensures.items
-    (behind_ok r three y four (k ++ (z ++ e)) new (c.in_ok-push_header.ensures.ok ∙ ap (λ (h : HeaderParts). three ++ compact_text (pairs_tree (header_reading h))) c.header.ensures)
+    (behind_ok r three y four (k ++ (z ++ e)) new (c.in_ok-push_run.ensures.ok ∙ ap (λ (h : HeaderParts). three ++ compact_text (pairs_tree (header_reading h))) c.header.ensures)
     (behind_ok r four k five (z ++ e) new (c.in_ok-extend_from_slice-3.ensures.items ∙ ap (λ (w : List ℕ). four ++ w) (c.kind_member.ensures ∙ ap (λ (s : Size). kind_member s) c.size.ensures))
     (behind_ok r five z six e new (c.in_ok-push_packets.ensures.ok ∙ ap (λ (ps : List Packet). five ++ compact_text (packets_tree (map packet_value ps))) c.packets.ensures)
     (on_extended _ _ r six new e e c.extend_from_slice-4.ensures.items refl)))))))

@@ -75,12 +75,16 @@ replaced-rest bytes new i n o x h e same =
     ap bits written ∙ bits-append front new ∙ ap (λ l. bits front ++ l) now
     ∙ sym (replaced-append_right (bits front) (bits rest) x n o (omega (arith, size))) ∙ ap (replaced n x) (sym whole)
 
+-- no bits written
+pub written_none : (bytes : List ℕ) (o width v : ℕ) → width ≤ 0 → bits bytes ≡ replaced o (num width v) (bits bytes)
+unfolding num
+written_none bytes o width v h =
+    let e : width ≡ 0 = omega arith in
+    rw e (sym (replaced_none o (bits bytes)))
+
 -- nothing written yet
 pub write_none : (bytes : List ℕ) (o width v : ℕ) → bits bytes ≡ replaced o (num (width - width) (v / 2 ^ width)) (bits bytes)
-unfolding num
-write_none bytes o width v =
-    let e : width - width ≡ 0 = omega arith in
-    rw e (sym (replaced_none o (bits bytes)))
+write_none bytes o width v = written_none bytes o (width - width) (v / 2 ^ width) (omega arith)
 
 -- a step of a write, as the code finds it
 pub write_next : (old bytes : List ℕ) (o width left count at from v piece byte : ℕ) → left ≤ width → count ≤ left → 8 * at + from ≡ o + (width - left) → from + count ≤ 8 → at < length bytes → o + width ≤ length (bits old) → bits bytes ≡ replaced o (num (width - left) (v / 2 ^ left)) (bits old) → piece ≡ v / 2 ^ (left - count) % (1 * 2 ^ count % 2 ^ 64) → num 8 byte ≡ replaced from (num count piece) (num 8 (get_or bytes at 0)) → bits (set bytes at byte) ≡ replaced o (num (width - (left - count)) (v / 2 ^ (left - count))) (bits old)

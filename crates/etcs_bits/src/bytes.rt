@@ -22,6 +22,7 @@ pub(crate) fn read_byte(byte: u8, offset: usize, width: usize) -> u64
 }
 
 /// The byte with `width` of its bits from `offset` on replaced by a number.
+#[inline(always)]
 pub(crate) fn with_number(byte: u8, offset: usize, width: usize, value: u64) -> u8
     requires inside { offset + width ≤ 8 }
     requires fits { value < 2 ^ width }

@@ -17,6 +17,7 @@ pub enum PokeFault {
 }
 
 /// Writes a number into `width` bits of `bytes` from the bit `offset` of the byte `at` on, which stand inside `bytes`.
+#[inline]
 pub(crate) fn write(bytes: &mut [u8], at: usize, offset: usize, width: usize, value: u64)
     requires offset { offset < 8 }
     requires width { width ≤ 64 }
@@ -24,15 +25,29 @@ pub(crate) fn write(bytes: &mut [u8], at: usize, offset: usize, width: usize, va
     requires fits { value < 2 ^ width }
     ensures { bits bytes.new ≡ replaced (8 * at + offset) (num width value) (bits bytes.old) }
 {
-    if offset + width > 8 && offset + width <= 64 && bytes.len() >= 8 {
+    if offset + width > 64 || bytes.len() < 8 {
+        write_by_bytes(&mut bytes[at..], offset, width, value);
+    } else if offset + width > 8 {
         let first = at.min(bytes.len() - 8);
         write_in_word(&mut bytes[first..], 8 * (at - first) + offset, width, value);
-    } else {
-        write_by_bytes(&mut bytes[at..], offset, width, value);
+    } else if width > 0 {
+        write_in_byte(bytes, at, offset, width, value);
     }
 }
 
+/// As `write`, of one byte.
+#[inline]
+fn write_in_byte(bytes: &mut [u8], at: usize, offset: usize, width: usize, value: u64)
+    requires byte { at < length bytes.old }
+    requires inside { offset + width ≤ 8 }
+    requires fits { value < 2 ^ width }
+    ensures { bits bytes.new ≡ replaced (8 * at + offset) (num width value) (bits bytes.old) }
+{
+    bytes[at] = with_number(bytes[at], offset, width, value);
+}
+
 /// As `write`, of the first eight bytes, at once.
+#[inline]
 fn write_in_word(bytes: &mut [u8], offset: usize, width: usize, value: u64)
     requires width { 0 < width }
     requires word { 8 ≤ length bytes.old }
@@ -45,6 +60,7 @@ fn write_in_word(bytes: &mut [u8], offset: usize, width: usize, value: u64)
 }
 
 /// The word with `width` of its bits from `offset` on replaced by a number.
+#[inline]
 fn with_number_in_word(word: u64, offset: usize, width: usize, value: u64) -> u64
     requires width { 0 < width }
     requires inside { offset + width ≤ 64 }
@@ -57,6 +73,7 @@ fn with_number_in_word(word: u64, offset: usize, width: usize, value: u64) -> u6
 }
 
 /// Writes a number into `width` bits of `bytes` from `offset` on, which stand inside `bytes`, byte by byte.
+#[inline(never)]
 fn write_by_bytes(bytes: &mut [u8], offset: usize, width: usize, value: u64)
     requires offset { offset < 8 }
     requires width { width ≤ 64 }

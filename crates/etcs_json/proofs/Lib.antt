@@ -4,7 +4,6 @@ pub mod OneTrees
 pub mod OwnTrees
 pub mod Shapes
 pub mod OneItems
-pub mod DigitLemmas
 pub mod PairLemmas
 pub mod PacketTrees
 pub mod TelegramTrees

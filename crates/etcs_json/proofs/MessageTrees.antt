@@ -2,10 +2,7 @@
 use Rattle.std.proofs.Common.{◌≡◌, ℕ, ◌+◌, ◌-◌, ◌*◌, ◌/◌, ◌^◌, ◌≤◌, ◌<◌, Bool, List, [], ◌∷◌, ◌++◌, length, map, Option, None, Some, refl, sym, ap, subst, ◌∙◌, arith}
 use Rattle.std.specs.Prelude.{All, IsTrue, codes}
 use Rattle.serde_json.specs.Data.{Data, array, string, Items}
-use Rattle.std.proofs.Math.Nat.{pow-le-pow_right}
-use Rattle.std.proofs.lemmas.List.{take_all}
-use Rattle.etcs_bits.specs.Bits.{bit, num, number_at}
-use Rattle.etcs_bits.proofs.Views.{number_bits, number_below}
+use Rattle.etcs_bits.specs.Bits.{bit, num}
 use Rattle.etcs_vars.specs.declared.var.Var.{Var}
 use Rattle.etcs_vars.specs.declared.var.Var.TheVariants.{T_TRAIN, M_ACK, NID_LRBG, L_MESSAGE}
 use Rattle.etcs_vars.specs.Vars.{admits}
@@ -182,16 +179,6 @@ pub head_same : (f g : List ℕ) (k h : RadioHead) → Some f ≡ Some (numbers 
 head_same f g k h two same e =
     let nums : f ≡ numbers (run_of_head h) = cc in
     e ∙ ap head_by (same ∙ nums) ∙ head_back h h.t_train (bit h.m_ack) h.nid_lrbg [] refl refl refl
-
--- ---- PADDING.
-
-pub pad_number : (bs seen : List Bool) (count n : ℕ) → seen ≡ bs → count ≡ length bs → Some n ≡ number_at 0 count seen → (n < 2 ^ length bs) × (bs ≡ num (length bs) n)
-pad_number bs seen count n same long e =
-    let e' : number_at 0 (length bs) bs ≡ Some n = sym (e ∙ ap (λ (k : ℕ). number_at 0 k seen) long ∙ ap (λ (x : List Bool). number_at 0 (length bs) x) same) in
-    (number_below 0 (length bs) n bs (omega arith) e', sym (number_bits 0 (length bs) n bs (omega arith) e' ∙ take_all (length bs) bs (omega arith)))
-
-pub small_number : (n count : ℕ) → count ≤ 7 → n < 2 ^ count → n < 256
-small_number n count h k = let p = pow-le-pow_right {n = 2} (omega arith) {i = count} {j = 7} h in omega (arith, p, k)
 
 -- ---- An item.
 

@@ -17,21 +17,10 @@ use Rattle.etcs_rows.proofs.OneReading.{Reads-agree, Reads-fit}
 use Rattle.etcs_packets.specs.PacketValues.{PacketValue, marker, typed, kept, IsPacket}
 use Rattle.etcs_text.specs.Show.{hex_digit, hex_digits, bit_digit}
 use Rattle.etcs_text.specs.Trees.{bits_tree}
+use Rattle.etcs_json_lines.proofs.DigitLemmas.{one_bits, one_hex}
 use Rattle.etcs_json.specs.TreeReading.{SaysNumber, IsPairTree, ArePairTrees, IsPacketTree, ArePacketTrees}
 
 -- ---- Numbers.
-
-last_same : (a b : List ℕ) (x y : ℕ) → a ++ x ∷ [] ≡ b ++ y ∷ [] → (a ≡ b) × (x ≡ y)
-last_same [] [] x y e = (refl, cc)
-last_same [] (c ∷ []) x y e = absurd cc
-last_same [] (c ∷ d ∷ b) x y e = absurd cc
-last_same (c ∷ []) [] x y e = absurd cc
-last_same (c ∷ d ∷ a) [] x y e = absurd cc
-last_same (c ∷ a) (d ∷ b) x y e =
-    let first : c ≡ d = cc in
-    let rest : a ++ x ∷ [] ≡ b ++ y ∷ [] = cc in
-    let both = last_same a b x y rest in
-    (ap₂ (λ (z : ℕ) (l : List ℕ). z ∷ l) first both.0, both.1)
 
 pub digit_is : (d : ℕ) → d < 16 → ((d < 10) × (hex_digit d ≡ 48 + d)) ⊎ ((10 ≤ d) × (hex_digit d ≡ 87 + d))
 digit_is d h = elim (cases_lt d 10) [
@@ -39,31 +28,11 @@ digit_is d h = elim (cases_lt d 10) [
   | inr big ↦ inr (big, rw (le-ltb d 10 big) refl)
 ]
 
-digit_same : (d e : ℕ) → d < 16 → e < 16 → hex_digit d ≡ hex_digit e → d ≡ e
-digit_same d e h k same = elim (digit_is d h) [
-  | inl p ↦ elim (digit_is e k) [
-    | inl q ↦ omega (arith, p.1, q.1, same)
-    | inr q ↦ omega (arith, p.0, p.1, q.0, q.1, same)
-  ]
-  | inr p ↦ elim (digit_is e k) [
-    | inl q ↦ omega (arith, p.0, p.1, q.0, q.1, same)
-    | inr q ↦ omega (arith, p.1, q.1, same)
-  ]
-]
-
-hex_same : (count n m : ℕ) → n < 16 ^ count → m < 16 ^ count → hex_digits count n ≡ hex_digits count m → n ≡ m
-hex_same zero n m h k e = omega (arith, h, k)
-hex_same (suc count) n m h k e =
-    let both = last_same (hex_digits count (n / 16)) (hex_digits count (m / 16)) (hex_digit (n % 16)) (hex_digit (m % 16)) e in
-    let front = hex_same count (n / 16) (m / 16) (omega (arith, h)) (omega (arith, k)) both.0 in
-    let last = digit_same (n % 16) (m % 16) (omega arith) (omega arith) both.1 in
-    omega (arith, front, last)
-
 number_same : (v : Var) (n m : ℕ) (d : Data) → n < 2 ^ width v → m < 2 ^ width v → SaysNumber v n d → SaysNumber v m d → n ≡ m
 number_same NID_RADIO n m d h k (s, is, digits) (t, is', digits') =
     let both : string s ≡ string t = sym is ∙ is' in
     let same : t ≡ s = cc in
-    hex_same 16 n m (omega (arith, h)) (omega (arith, k)) (sym digits ∙ rw same at digits')
+    one_hex 16 n m (omega (arith, h)) (omega (arith, k)) (sym digits ∙ rw same at digits')
 number_same v n m d h k is is' = let both : number (unsigned n) ≡ number (unsigned m) = sym is ∙ is' in cc
 
 -- ---- Variables.
@@ -91,13 +60,8 @@ row_same row r q ds x y = pairs_same r q ds (Reads-agree row [] r q x y) (Reads-
 
 -- ---- Bits.
 
-digits_back : (b : List Bool) → map (λ c. c == 49) (map bit_digit b) ≡ b
-digits_back [] = refl
-digits_back (true ∷ b) = ap (λ (l : List Bool). true ∷ l) (digits_back b)
-digits_back (false ∷ b) = ap (λ (l : List Bool). false ∷ l) (digits_back b)
-
 pub bits_same : (b c : List Bool) → bits_tree b ≡ bits_tree c → b ≡ c
-bits_same b c e = let same : map bit_digit b ≡ map bit_digit c = cc in sym (digits_back b) ∙ ap (map (λ c. c == 49)) same ∙ digits_back c
+bits_same b c e = let same : map bit_digit b ≡ map bit_digit c = cc in one_bits b c same
 
 -- ---- Packets.
 

@@ -17,7 +17,8 @@ use Rattle.etcs_rows.specs.Layouts.{Layout, whole, one, guarded, counted, Reads,
 use Rattle.etcs_rows.specs.Places.{onto, first_variable, after_any}
 use Rattle.etcs_rows.proofs.Behind.{follows}
 use Rattle.etcs_text.specs.Show.{hex_digits}
-use Rattle.etcs_json.specs.TreeReading.{lower, SaysNumber, IsPairTree, ArePairTrees}
+use Rattle.etcs_json_lines.specs.Digits.{lower}
+use Rattle.etcs_json.specs.TreeReading.{SaysNumber, IsPairTree, ArePairTrees}
 
 -- ---- One pair.
 

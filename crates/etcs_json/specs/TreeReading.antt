@@ -1,6 +1,7 @@
 -- What the JSON of an item says, as it is read: the digits of NID_RADIO may be in either case.
 use Rattle.std.specs.Prelude.{◌≡◌, ℕ, ◌+◌, ◌&&◌, List, [], ◌∷◌, map, codes, nat_le, if◌then◌else◌}
 use Rattle.serde_json.specs.Data.{Data, number, unsigned, string, array, object, Items, no_items, item, no_members, member}
+use Rattle.etcs_json_lines.specs.Digits.{lower}
 use Rattle.etcs_vars.specs.declared.var.Var.{Var}
 use Rattle.etcs_vars.specs.declared.var.Var.TheVariants.{NID_RADIO, NID_VBCMK}
 use Rattle.etcs_vars.specs.Vars.{name}
@@ -12,10 +13,6 @@ use Rattle.etcs_radio.specs.Messages.{MessageValue, typed_message, kept_message}
 use Rattle.etcs_text.specs.Entries.{EntryValue, of_telegram, of_message}
 use Rattle.etcs_text.specs.Show.{hex_digits, kind_word}
 use Rattle.etcs_text.specs.Trees.{bits_tree}
-
--- A to F in lower case, all else as it is
-abbrev pub lower : ℕ → ℕ
-lower c = if nat_le 65 c && nat_le c 70 then c + 32 else c
 
 -- a number without fraction or exponent
 abbrev pub plain : ℕ → Data

@@ -10,7 +10,7 @@ ghost use Rattle.etcs_json.specs.JsonLines.{SaysItem};
 use crate::fault::JsonFault;
 use crate::from_message::message_in;
 use crate::from_telegram::telegram_in;
-use crate::written::written;
+use etcs_json_lines::written_item;
 use etcs_telegram::Size;
 use etcs_text::{Entry, Kind};
 use serde_json::Value;
@@ -45,7 +45,7 @@ pub fn from_line(alloc: Global, kind: Kind, line: &[u8]) -> Result<Entry, JsonFa
     ensures ok { IfOk result (λ e. SaysItem kind line.now (entry_value e)) }
     ensures shape { result ≡ Err JsonFault.Shape → (e : EntryValue) → SaysItem kind line.now e → ⊥ }
 {
-    match written(alloc, kind, line) {
+    match written_item(alloc, kind, line) {
         Ok(Some(entry)) => Ok(entry),
         Ok(None) => from_any_line(alloc, kind, line),
         Err(AllocError) => Err(JsonFault::Memory),

@@ -20,6 +20,7 @@ use crate::from_packets::packets_in;
 use crate::members::{message_members, three_members};
 use crate::numbers::numbers_in;
 use etcs_bits::Bits;
+use etcs_json_lines::padding_number;
 use etcs_packets::Packet;
 use etcs_radio::{Body, Message, RadioHead};
 use etcs_rows::{Row, RowItem, Way, message_row};
@@ -69,21 +70,6 @@ fn body_in(alloc: Global, nid: u8, value: &Value) -> Result<Option<Body>, AllocE
             None => Ok(None),
         },
         None => Ok(None),
-    }
-}
-
-/// The number of at most seven bits.
-pub(crate) fn padding_number(bits: &Bits) -> Option<u8>
-    ensures some { IfSome result (λ n. (length bits.now ≤ 7) × (n < 2 ^ length bits.now) × (bits.now ≡ num (length bits.now) n)) }
-    ensures none { IsNone result → 7 < length bits.now }
-{
-    let count = bits.len();
-    if count > 7 {
-        return None;
-    }
-    match bits.as_slice().number(0, count) {
-        Some(number) => Some(number as u8),
-        None => unreachable!(),
     }
 }
 

@@ -7,15 +7,11 @@ mod from_entries;
 mod from_message;
 mod from_packets;
 mod from_telegram;
-mod guess;
-mod guess_message;
 pub mod laws;
 mod members;
 mod numbers;
 mod pairs;
-mod text;
 mod trees;
-mod written;
 
 pub use fault::JsonFault;
 pub use from_entries::{from_line, from_value};

@@ -10,7 +10,7 @@ ghost use Rattle.etcs_rows.specs.Layouts.{Reads, layout};
 ghost use Rattle.etcs_rows.specs.Places.{first_variable};
 ghost use Rattle.etcs_json.specs.TreeReading.{ArePairTrees, IsPairTree, SaysNumber};
 
-use crate::digits::hex_number;
+use etcs_json_lines::hex_number;
 use etcs_rows::{Place, Row};
 use etcs_vars::Var;
 use serde_json::Value;

@@ -1,7 +1,7 @@
 use Rattle.std.proofs.Common.{◌≡◌, ℕ, ◌<◌, List, length, take, map, refl, sym, ap, ◌∙◌, arith, Some}
 use Rattle.std.proofs.lemmas.List.{take_all}
-use Rattle.etcs_json.proofs.DigitLemmas.{not_bit, one_bits}
-use Rattle.etcs_json.proofs.digits.bits_of.Goals as goal
+use Rattle.etcs_json_lines.proofs.DigitLemmas.{not_bit, one_bits}
+use Rattle.etcs_json_lines.proofs.digits.bits_of.Goals as goal
 
 pub returns-in-None-clause-only : goal.returns-in-None-clause-only
 returns-in-None-clause-only c = λ b e.

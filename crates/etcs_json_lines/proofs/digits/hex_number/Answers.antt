@@ -1,9 +1,9 @@
 use Rattle.std.proofs.Common.{◌≡◌, ℕ, ◌<◌, List, length, take, map, refl, sym, ap, ◌∙◌, arith, Some}
 use Rattle.std.proofs.lemmas.List.{take_all}
 use Rattle.etcs_text.specs.Show.{hex_digits}
-use Rattle.etcs_json.specs.TreeReading.{lower}
-use Rattle.etcs_json.proofs.DigitLemmas.{hex_room, not_digit, one_hex}
-use Rattle.etcs_json.proofs.digits.hex_number.Goals as goal
+use Rattle.etcs_json_lines.specs.Digits.{lower}
+use Rattle.etcs_json_lines.proofs.DigitLemmas.{hex_room, not_digit, one_hex}
+use Rattle.etcs_json_lines.proofs.digits.hex_number.Goals as goal
 
 pub overflow_mul-number : goal.overflow_mul-number
 overflow_mul-number c =

@@ -18,8 +18,13 @@ use etcs_telegram::{Size, parts as telegram_parts};
 use etcs_text::{Entry, Kind, json_line};
 use std::alloc::{AllocError, Global};
 
-/// The item of the kind that `json_line` writes as this line. `None` where there is none.
-pub(crate) fn written(alloc: Global, kind: Kind, line: &[u8]) -> Result<Option<Entry>, AllocError>
+/// An item of the kind that `json_line` writes as this line, without its LF. `None` says nothing: the line may still
+/// be JSON of an item, as with blanks between its parts.
+///
+/// # Errors
+///
+/// - [`AllocError`] where memory was refused; nothing is kept.
+pub fn written_item(alloc: Global, kind: Kind, line: &[u8]) -> Result<Option<Entry>, AllocError>
     ensures { IfOk result (λ o. IfSome o (λ e. (r : Reading) × EntryReads kind (entry_value e) r × (line.now ≡ compact_text (json_tree (entry_value e))))) }
 {
     match guessed(alloc, kind, line)? {

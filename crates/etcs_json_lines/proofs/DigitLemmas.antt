@@ -1,4 +1,4 @@
--- Digits of hexadecimal numbers, and of bits.
+-- Digits of hexadecimal numbers and of bits, and the number of PADDING.
 use Rattle.std.proofs.Common.{◌≡◌, ℕ, zero, suc, ◌+◌, ◌*◌, ◌/◌, ◌%◌, ◌^◌, ◌<◌, ◌≤◌, Bool, true, false, List, [], ◌∷◌, ◌++◌, length, get_or, take, Option, Some, None, map, refl, sym, ap, subst, ◌∙◌, arith, add-one}
 use Rattle.std.specs.Prelude.{All, nat_lt}
 use Rattle.std.proofs.Math.Nat.{pow-le-pow_right}
@@ -6,8 +6,10 @@ use Rattle.std.proofs.lemmas.Bool.{ltb-true, ltb-false}
 use Rattle.std.proofs.lemmas.Grind.{pow_more}
 use Rattle.std.proofs.lemmas.List.{map_push, take_more, take_all, get_or-map, length-append, length-map}
 use Rattle.std.proofs.lemmas.List.Elements.{All-nil, All-push}
+use Rattle.etcs_bits.specs.Bits.{num, number_at}
+use Rattle.etcs_bits.proofs.Views.{number_bits, number_below}
 use Rattle.etcs_text.specs.Show.{hex_digit, hex_digits, bit_digit}
-use Rattle.etcs_json.specs.TreeReading.{lower}
+use Rattle.etcs_json_lines.specs.Digits.{lower}
 
 -- ---- Hexadecimal digits.
 
@@ -110,3 +112,13 @@ not_bit text i c b inside at e other =
     let l = length-map b bit_digit in
     let there : i < length b = omega (arith, l, ap length e) in
     other (get_or b i true) (at ∙ ap (λ (z : List ℕ). get_or z i 0) e ∙ get_or-map bit_digit b i true 0 there)
+
+-- ---- PADDING.
+
+pub pad_number : (bs seen : List Bool) (count n : ℕ) → seen ≡ bs → count ≡ length bs → Some n ≡ number_at 0 count seen → (n < 2 ^ length bs) × (bs ≡ num (length bs) n)
+pad_number bs seen count n same long e =
+    let e' : number_at 0 (length bs) bs ≡ Some n = sym (e ∙ ap (λ (k : ℕ). number_at 0 k seen) long ∙ ap (λ (x : List Bool). number_at 0 (length bs) x) same) in
+    (number_below 0 (length bs) n bs (omega arith) e', sym (number_bits 0 (length bs) n bs (omega arith) e' ∙ take_all (length bs) bs (omega arith)))
+
+pub small_number : (n count : ℕ) → count ≤ 7 → n < 2 ^ count → n < 256
+small_number n count h k = let p = pow-le-pow_right {n = 2} (omega arith) {i = count} {j = 7} h in omega (arith, p, k)

@@ -1,7 +1,7 @@
 //! Messages guessed of a text, by the shape of what `json_line` writes. No clause says which they are: each is compared
 //! with the text in the end.
 
-use crate::from_message::padding_number;
+use crate::digits::padding_number;
 use crate::guess::packets;
 use crate::text::Text;
 use etcs_bits::Bits;

@@ -1,6 +1,6 @@
 use Rattle.std.proofs.Common.{length, arith}
-use Rattle.etcs_json.proofs.MessageTrees.{pad_number, small_number}
-use Rattle.etcs_json.proofs.from_message.padding_number.Goals as goal
+use Rattle.etcs_json_lines.proofs.DigitLemmas.{pad_number, small_number}
+use Rattle.etcs_json_lines.proofs.digits.padding_number.Goals as goal
 
 pub overflow_cast-result : goal.overflow_cast-result
 overflow_cast-result c =

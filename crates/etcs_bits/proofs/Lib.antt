@@ -8,3 +8,4 @@ pub mod Views
 pub mod Owned
 pub mod Words
 pub mod WordWrites
+mod Kept

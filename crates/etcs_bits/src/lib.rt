@@ -7,9 +7,11 @@ mod copying;
 pub mod parts;
 mod poker;
 mod slice;
+mod slice_walker;
 mod walker;
 
 pub use bits::Bits;
 pub use poker::{PokeFault, Poker, poke};
 pub use slice::BitSlice;
+pub use slice_walker::SliceWalker;
 pub use walker::{Walker, peek};

@@ -2,10 +2,11 @@
 
 ghost use Rattle.std.specs.Prelude.{◌≡◌, ℕ, ◌+◌, ◌*◌, ◌<◌, ◌≤◌, ◌==◌, false, length, take, nat_lt, nat_le, slice_index_or, if◌then◌else◌, Some, IfSome};
 ghost use Rattle.etcs_bits.specs.Bits.{bits, part, number_at, replaced};
+ghost use Rattle.etcs_bits.specs.SliceWalker.{Keeps};
 
 use super::bytes::byte_of;
 use super::copying::copy_words;
-use super::walker::{peek_at_end, peek_by_bytes, peek_word};
+use super::walker::{first_word, peek_at_end, peek_by_bytes, peek_word};
 use std::marker::Model;
 
 /// Bits that stand one behind the other in a byte slice, from any bit on.
@@ -119,6 +120,22 @@ impl<'a> BitSlice<'a> {
     {
         let start = self.offset.checked_add(from)?;
         peek_word(self.bytes, start, width)
+    }
+
+    /// The eight bytes from the bit `from` on, that bit highest, and how many of these bits are the slice's.
+    /// `None` says nothing.
+    #[inline(always)]
+    pub(crate) fn word_from(&self, from: usize) -> Option<(u64, usize)>
+        requires { from ≤ length self.now }
+        ensures { IfSome result (λ r. Keeps r.0 r.1 self.now (from + r.1)) }
+    {
+        let start = self.offset.checked_add(from)?;
+        let at = start / 8;
+        if at + 8 > self.bytes.len() {
+            return None;
+        }
+        let count = (64 - start % 8).min(self.len - from);
+        Some((first_word(&self.bytes[at..]) << (start % 8), count))
     }
 
     /// As `number`, of bits that stand inside.

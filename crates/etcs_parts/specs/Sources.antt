@@ -1,76 +1,63 @@
--- What is left of a list of numbers and of bits, as the code holds them with how many are taken.
-use Rattle.std.proofs.Common.{◌≡◌, ℕ, zero, suc, ◌+◌, ◌<◌, ◌≤◌, Bool, true, false, nat_eq, List, [], ◌∷◌, length, drop, get_or, Option, Some, None, refl, sym, ap, ◌∙◌, nat_le, arith, inl, inr}
+-- What is left of a list of numbers and of bits, as the code holds them.
+use Rattle.std.proofs.Common.{◌≡◌, ℕ, zero, suc, ◌+◌, ◌<◌, ◌≤◌, Bool, true, false, nat_eq, List, [], ◌∷◌, length, drop, Option, Some, None, refl, sym, ap, ◌∙◌, nat_le, arith, inl, inr}
+use Rattle.std.proofs.Math.Dec.{eqb-suc-zero}
 use Rattle.std.proofs.lemmas.Bool.{cases_lt, lt-leb, le-leb}
 use Rattle.std.proofs.lemmas.List.{at_drop_more, drop_all, drop-drop, length-drop}
 use Rattle.etcs_bits.specs.Bits.{number_at, part, bit}
+use Rattle.etcs_bits.specs.SliceWalker.{SliceWalk}
 use Rattle.etcs_bits.proofs.Lists.{part-drop}
 use Rattle.etcs_bits.proofs.Positions.{number_past}
 use Rattle.etcs_bits.proofs.Views.{number_same}
 use Rattle.etcs_vars.specs.declared.var.Var.{Var}
 use Rattle.etcs_vars.specs.Vars.{width, admits}
 use Rattle.etcs_vars.proofs.Prefixes.{width_pos}
-use Rattle.etcs_parts.specs.declared.numbers.Held.{Held}
-use Rattle.etcs_parts.specs.declared.numbers.Held.TheVariants.{Listed, Bits}
+use Rattle.etcs_parts.specs.declared.numbers.Source.{Source}
+use Rattle.etcs_parts.specs.declared.numbers.Source.TheVariants.{Listed, Spelled}
 use Rattle.etcs_parts.specs.Taking.{Left, listed, in_bits, is_spent, next_number, next_flag}
 
-abbrev pub left_of : Held → ℕ → Left
-left_of (Listed l) k = listed (drop k l.now)
-left_of (Bits b) k = in_bits (drop k b)
+-- the bits that a walker has still to read
+abbrev pub bits_left : SliceWalk → Left
+bits_left w = in_bits (drop w.place w.bits)
+
+abbrev pub left_of : Source → Left
+left_of (Listed l) = listed l.now
+left_of (Spelled w) = bits_left w
 
 -- ---- Of a list.
 
-pub none_listed : (f : List ℕ) (k : ℕ) → nat_le (length f) k ≡ is_spent (listed (drop k f))
-none_listed f k =
-    elim (cases_lt k (length f)) [
-      | inl some ↦ lt-leb (length f) k some ∙ sym (at_drop_more (λ l. is_spent (listed l)) f k 0 some)
-      | inr none ↦ le-leb (length f) k none ∙ sym (ap (λ l. is_spent (listed l)) (drop_all k f none))
-    ]
+pub none_listed : (f : List ℕ) → nat_eq (length f) 0 ≡ is_spent (listed f)
+none_listed [] = refl
+none_listed (n ∷ f) = eqb-suc-zero (length f)
 
-next_listed : (v : Var) (n : ℕ) (f : List ℕ) → admits v n ≡ true → next_number v (listed (n ∷ f)) ≡ Some (n, listed f)
+pub next_is_listed : (v : Var) (n : ℕ) (f : List ℕ) → admits v n ≡ true → next_number v (listed (n ∷ f)) ≡ Some (n, listed f)
 unfolding next_number
-next_listed v n f h = rw h refl
+next_is_listed v n f h = rw h refl
 
-refused : (v : Var) (n : ℕ) (f : List ℕ) → admits v n ≡ false → next_number v (listed (n ∷ f)) ≡ None
+pub not_listed : (v : Var) (n : ℕ) (f : List ℕ) → admits v n ≡ false → next_number v (listed (n ∷ f)) ≡ None
 unfolding next_number
-refused v n f h = rw h refl
+not_listed v n f h = rw h refl
 
-pub next_is_listed : (v : Var) (f : List ℕ) (k : ℕ) → k < length f → admits v (get_or f k 0) ≡ true → next_number v (listed (drop k f)) ≡ Some (get_or f k 0, listed (drop (k + 1) f))
-next_is_listed v f k h ok = at_drop_more (λ l. next_number v (listed l)) f k 0 h ∙ next_listed v (get_or f k 0) (drop (k + 1) f) ok
-
-pub not_listed : (v : Var) (f : List ℕ) (k : ℕ) → k < length f → admits v (get_or f k 0) ≡ false → next_number v (listed (drop k f)) ≡ None
-not_listed v f k h bad = at_drop_more (λ l. next_number v (listed l)) f k 0 h ∙ refused v (get_or f k 0) (drop (k + 1) f) bad
-
-none_next : (v : Var) → next_number v (listed []) ≡ None
+pub none_next : (v : Var) (f : List ℕ) → length f ≡ 0 → next_number v (listed f) ≡ None
 unfolding next_number
-none_next v = refl
+none_next v [] e = refl
+none_next v (n ∷ f) e = absurd cc
 
-pub no_more : (v : Var) (f : List ℕ) (k : ℕ) → length f ≤ k → next_number v (listed (drop k f)) ≡ None
-no_more v f k h = ap (λ l. next_number v (listed l)) (drop_all k f h) ∙ none_next v
-
-no_flag : next_flag (listed []) ≡ None
+pub no_flag : (f : List ℕ) → length f ≡ 0 → next_flag (listed f) ≡ None
 unfolding next_flag
-no_flag = refl
+no_flag [] e = refl
+no_flag (n ∷ f) e = absurd cc
 
-large_flag : (n : ℕ) (f : List ℕ) → 1 < n → next_flag (listed (n ∷ f)) ≡ None
+pub flag_too_large : (n : ℕ) (f : List ℕ) → 1 < n → next_flag (listed (n ∷ f)) ≡ None
 unfolding next_flag
-large_flag zero f h = absurd (omega arith)
-large_flag (suc zero) f h = absurd (omega arith)
-large_flag (suc (suc n)) f h = refl
+flag_too_large zero f h = absurd (omega arith)
+flag_too_large (suc zero) f h = absurd (omega arith)
+flag_too_large (suc (suc n)) f h = refl
 
-listed_flag : (n : ℕ) (f : List ℕ) → n ≤ 1 → next_flag (listed (n ∷ f)) ≡ Some (nat_eq n 1, listed f)
+pub flag_is_listed : (n : ℕ) (f : List ℕ) → n ≤ 1 → next_flag (listed (n ∷ f)) ≡ Some (nat_eq n 1, listed f)
 unfolding next_flag
-listed_flag zero f h = refl
-listed_flag (suc zero) f h = refl
-listed_flag (suc (suc n)) f h = absurd (omega arith)
-
-pub no_flag_listed : (f : List ℕ) (k : ℕ) → length f ≤ k → next_flag (listed (drop k f)) ≡ None
-no_flag_listed f k h = ap (λ l. next_flag (listed l)) (drop_all k f h) ∙ no_flag
-
-pub flag_too_large : (f : List ℕ) (k : ℕ) → k < length f → 1 < get_or f k 0 → next_flag (listed (drop k f)) ≡ None
-flag_too_large f k h l = at_drop_more (λ l. next_flag (listed l)) f k 0 h ∙ large_flag (get_or f k 0) (drop (k + 1) f) l
-
-pub flag_is_listed : (f : List ℕ) (k : ℕ) → k < length f → get_or f k 0 ≤ 1 → next_flag (listed (drop k f)) ≡ Some (nat_eq (get_or f k 0) 1, listed (drop (k + 1) f))
-flag_is_listed f k h l = at_drop_more (λ l. next_flag (listed l)) f k 0 h ∙ listed_flag (get_or f k 0) (drop (k + 1) f) l
+flag_is_listed zero f h = refl
+flag_is_listed (suc zero) f h = refl
+flag_is_listed (suc (suc n)) f h = absurd (omega arith)
 
 -- ---- Of bits.
 

@@ -50,7 +50,7 @@ impl PacketStore for PacketCount {
         let Some(row) = row_of(Way::ToTrain, nid) else {
             return Ok(false);
         };
-        if !Var::Q_DIR.admits(u64::from(dir)) || !row_reads(row, &body) {
+        if !Var::Q_DIR.admits(u64::from(dir)) || !row_reads(row, body) {
             return Ok(false);
         }
         self.packets = self.packets.wrapping_add(1);

@@ -6,116 +6,95 @@ ghost use Rattle.etcs_rows.specs.Layouts.{layout, ReadsIn};
 ghost use Rattle.etcs_rows.proofs.Behind.{ReadsBy};
 ghost use Rattle.etcs_rests.specs.RowBits.{EndsAt};
 
-use etcs_bits::BitSlice;
+use etcs_bits::{BitSlice, SliceWalker};
 use etcs_rows::{Row, RowItem};
 
-/// What is left of a row's items, behind a variable whose number is `before`, and the bit at which it begins.
+/// What is left of a row's items, behind a variable whose number is `before`.
 #[derive(Clone, Copy)]
 struct Spot {
     items: &'static [RowItem],
     before: u64,
-    at: usize,
 }
 
-/// What is left behind the first item, which is there. `None` where a number isn't admitted or bits are missing.
+/// Passes over the first item, which is there. `None` where a number isn't admitted or bits are missing.
 #[cycle(ends)]
 #[inline(always)]
-fn step(spot: Spot, bits: &BitSlice<'_>) -> Option<Spot>
-    requires small { length bits.now ≤ 8191 }
-    requires inside { spot.at ≤ length bits.now }
-    ensures onward { IfSome result (λ t. (end : ℕ) → EndsAt (ReadsBy (layout t.items.now) t.before) bits.now t.at end → EndsAt (ReadsBy (layout spot.items.now) spot.before) bits.now spot.at end) }
-    ensures inside { IfSome result (λ t. t.at ≤ length bits.now) }
+fn step(spot: Spot, walker: &mut SliceWalker<'_>) -> Option<Spot>
+    requires { walker.old.place ≤ length walker.old.bits }
+    ensures onward { IfSome result (λ t. (end : ℕ) → EndsAt (ReadsBy (layout t.items.now) t.before) walker.old.bits walker.new.place end → EndsAt (ReadsBy (layout spot.items.now) spot.before) walker.old.bits walker.old.place end) }
+    ensures inside { IfSome result (λ t. walker.new.place ≤ length walker.old.bits) }
+    ensures bits { walker.new.bits ≡ walker.old.bits }
     ensures shorter { IfSome result (λ t. length t.items.now < length spot.items.now) }
 {
-    let Spot { before, at, .. } = spot;
-    match spot.items.split_first() {
+    let Spot { items, before } = spot;
+    match items.split_first() {
         None => None,
         Some((RowItem::One(var), items)) => {
-            let width = var.width();
-            let number = bits.number(at, width)?;
-            if !var.admits(number) {
+            let before = walker.next(var.width())?;
+            if !var.admits(before) {
                 return None;
             }
-            let at = at + width;
-            Some(Spot {
-                items,
-                before: number,
-                at,
-            })
+            Some(Spot { items, before })
         }
         Some((RowItem::When(guard, count), rest)) => {
             let (group, items) = rest.split_at(rest.len().min(*count));
             if !guard.test.passes(before) {
-                return Some(Spot { items, before, at });
+                return Some(Spot { items, before });
             }
-            let at = end_of(
-                Spot {
-                    items: group,
-                    before,
-                    at,
-                },
-                bits,
-            )?;
-            Some(Spot { items, before, at })
+            if !passes(group, before, walker) {
+                return None;
+            }
+            Some(Spot { items, before })
         }
         Some((RowItem::Many(count), rest)) => {
             let (group, items) = rest.split_at(rest.len().min(*count));
-            let at = end_of_all(
-                Spot {
-                    items: group,
-                    before,
-                    at,
-                },
-                before,
-                bits,
-            )?;
-            Some(Spot { items, before, at })
+            if !passes_all(group, before, walker) {
+                return None;
+            }
+            Some(Spot { items, before })
         }
     }
 }
 
-/// The bit behind the items. `None` where a number isn't admitted or bits are missing.
+/// Passes over the items behind a variable whose number is `before`, and says whether all bits are there and each
+/// number is admitted.
 #[cycle(ends)]
-fn end_of(start: Spot, bits: &BitSlice<'_>) -> Option<usize>
-    requires small { length bits.now ≤ 8191 }
-    requires inside { start.at ≤ length bits.now }
-    ensures { IfSome result (λ end. EndsAt (ReadsBy (layout start.items.now) start.before) bits.now start.at end) }
+fn passes(items: &'static [RowItem], before: u64, walker: &mut SliceWalker<'_>) -> bool
+    requires { walker.old.place ≤ length walker.old.bits }
+    ensures reads { IsTrue result → EndsAt (ReadsBy (layout items.now) before) walker.old.bits walker.old.place walker.new.place }
+    ensures bits { walker.new.bits ≡ walker.old.bits }
 {
-    let mut spot = start;
+    let mut spot = Spot { items, before };
     while !spot.items.is_empty() {
-        spot = step(spot, bits)?;
+        match step(spot, walker) {
+            Some(next) => spot = next,
+            None => return false,
+        }
     }
-    Some(spot.at)
+    true
 }
 
-/// The same of items that stand so many times one behind the other.
+/// The same of items that stand as often as the number before them says.
 #[cycle(ends)]
-fn end_of_all(start: Spot, times: u64, bits: &BitSlice<'_>) -> Option<usize>
-    requires small { length bits.now ≤ 8191 }
-    requires inside { start.at ≤ length bits.now }
-    ensures { IfSome result (λ end. EndsAt (Times times (ReadsBy (layout start.items.now) start.before)) bits.now start.at end) }
+fn passes_all(items: &'static [RowItem], before: u64, walker: &mut SliceWalker<'_>) -> bool
+    requires { walker.old.place ≤ length walker.old.bits }
+    ensures reads { IsTrue result → EndsAt (Times before (ReadsBy (layout items.now) before)) walker.old.bits walker.old.place walker.new.place }
+    ensures bits { walker.new.bits ≡ walker.old.bits }
 {
-    let mut at = start.at;
-    let mut left = times;
+    let mut left = before;
     while left > 0 {
-        at = end_of(Spot { at, ..start }, bits)?;
+        if !passes(items, before, walker) {
+            return false;
+        }
         left -= 1;
     }
-    Some(at)
+    true
 }
 
 /// Whether these bits are a row's.
-pub(crate) fn row_reads(row: Row, bits: &BitSlice<'_>) -> bool
-    requires small { length bits.now ≤ 8191 }
-    ensures { IsTrue result → (q : Reading) × ReadsIn (layout row.items.now) (length bits.now) q × (spelled q ≡ bits.now) }
+pub(crate) fn row_reads(row: Row, bits: BitSlice<'_>) -> bool
+    ensures { IsTrue result → (q : Reading) × ReadsIn (layout row.items.now) (length bits.entry) q × (spelled q ≡ bits.entry) }
 {
-    let start = Spot {
-        items: row.items,
-        before: 0,
-        at: 0,
-    };
-    match end_of(start, bits) {
-        Some(end) => end == bits.len(),
-        None => false,
-    }
+    let mut walker = SliceWalker::new(bits);
+    passes(row.items, 0, &mut walker) && walker.is_at_end()
 }

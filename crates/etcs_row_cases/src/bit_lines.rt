@@ -4,7 +4,7 @@ use crate::words::{
     bits, bytes, bytes_and_numbers, first_word, numbers, push_bits, push_bytes, push_found,
     push_number, push_text,
 };
-use etcs_bits::{BitSlice, Bits, PokeFault, Poker, Walker, parts, peek, poke};
+use etcs_bits::{BitSlice, Bits, PokeFault, Poker, SliceWalker, Walker, parts, peek, poke};
 use std::alloc::{AllocError, Global};
 
 /// How many bits a list of a line may have.
@@ -83,6 +83,43 @@ pub(crate) fn walker(alloc: Global, words: &str, out: &mut Vec<u8>) -> Result<bo
         push_text(out, " ")?;
     }
     Ok(true)
+}
+
+/// Appends the number of each width in turn, each with the place behind it, and `.` at the end of the bits. Answers
+/// whether all have a width.
+fn push_walked(
+    out: &mut Vec<u8>,
+    mut walker: SliceWalker<'_>,
+    widths: &[u64],
+) -> Result<bool, AllocError> {
+    for width in widths {
+        if *width > 64 {
+            return Ok(false);
+        }
+        push_found(out, walker.next(*width as usize))?;
+        push_text(out, "@")?;
+        push_number(out, walker.place() as u64)?;
+        push_text(out, if walker.is_at_end() { ". " } else { " " })?;
+    }
+    Ok(true)
+}
+
+/// `slice BYTES START LEN WIDTH ..`: of the bits of a slice the number of each width in turn, or `none`, each with the
+/// place behind it, and `.` at the end of the bits; `no slice` where there are no such bits.
+pub(crate) fn slice(alloc: Global, words: &str, out: &mut Vec<u8>) -> Result<bool, AllocError> {
+    let Some((held, places)) = bytes_and_numbers(alloc, words)? else {
+        return Ok(false);
+    };
+    let [start, len, widths @ ..] = places.as_slice() else {
+        return Ok(false);
+    };
+    match BitSlice::new(held.as_slice(), *start as usize, *len as usize) {
+        Some(slice) => push_walked(out, SliceWalker::new(slice), widths),
+        None => {
+            push_text(out, "no slice")?;
+            Ok(true)
+        }
+    }
 }
 
 /// Writes numbers of widths one behind the other, and appends what each write answered and the

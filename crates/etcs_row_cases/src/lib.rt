@@ -22,6 +22,7 @@ pub fn answer(
         "peek" => bit_lines::peeked(alloc, words, out)?,
         "poke" => bit_lines::poked(alloc, words, out)?,
         "walker" => bit_lines::walker(alloc, words, out)?,
+        "slice" => bit_lines::slice(alloc, words, out)?,
         "poker" => bit_lines::poker(alloc, words, out)?,
         "cut" => bit_lines::cut(alloc, words, out)?,
         "bits" => bit_lines::owned(alloc, words, out)?,

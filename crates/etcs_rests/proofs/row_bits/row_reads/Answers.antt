@@ -1,11 +1,18 @@
-use Rattle.std.proofs.Common.{◌∙◌}
-use Rattle.std.proofs.lemmas.Bool.{eqb-true}
+use Rattle.std.proofs.Common.{◌≤◌, length, ap, subst, sym, ◌∙◌, arith}
+use Rattle.std.proofs.lemmas.Bool.{leb-true}
+use Rattle.etcs_bits.specs.SliceWalker.{SliceWalk}
 use Rattle.etcs_rows.specs.Layouts.{layout}
+use Rattle.etcs_rows.proofs.Behind.{ReadsBy}
 use Rattle.etcs_rows.proofs.PlaceLemmas.{sound_parts}
+use Rattle.etcs_rests.specs.RowBits.{EndsAt}
 use Rattle.etcs_rests.proofs.RowBits.{ends_whole}
 use Rattle.etcs_rests.proofs.row_bits.row_reads.Goals as goal
 
-pub returns-in-Some : goal.returns-in-Some
-returns-in-Some c = λ same.
+pub returns-then-passes : goal.returns-then-passes
+returns-then-passes c = λ same.
     (let row = layout c.args.row.items.now in
-    ends_whole row c.args.bits.now c.in-Some.end (sound_parts row c.args.row.sound).1 (eqb-true c.in-Some.end c.len.result same ∙ c.len.ensures) c.in-Some.ensures)
+    let w = c.passes.new.walker in
+    let reads = subst (λ (x : SliceWalk). EndsAt (ReadsBy row 0) x.bits x.place w.place) c.new-walker.ensures (c.passes.ensures.reads c.if-passes.true) in
+    let bits = c.passes.ensures.bits ∙ ap (λ (x : SliceWalk). x.bits) c.new-walker.ensures in
+    let last = leb-true (length w.bits) w.place (sym c.is_at_end.ensures ∙ same) in
+    ends_whole row c.args.bits w.place (sound_parts row c.args.row.sound).1 (omega (arith, last, reads.inside, ap length bits)) reads)

@@ -1,0 +1,129 @@
+//! Numbers of a slice's bits, one behind the other.
+
+ghost use Rattle.std.specs.Prelude.{◌≡◌, ℕ, ◌+◌, ◌-◌, ◌<◌, ◌≤◌, Bool, List, None, Some, IfSome, IsNone, if◌then◌else◌, is_some, length, nat_le};
+ghost use Rattle.etcs_bits.specs.Bits.{number_at};
+ghost use Rattle.etcs_bits.specs.SliceWalker.{Keeps};
+
+use crate::slice::BitSlice;
+use std::marker::Model;
+
+/// Bits that stand one behind the other, the first one highest in the word. Below them anything may stand.
+#[derive(Clone, Copy)]
+struct Kept {
+    word: u64,
+    count: usize,
+}
+
+/// The number in the first `width` bits, and what is kept behind them.
+#[inline(always)]
+fn first_of(kept: Kept, width: usize) -> (u64, Kept)
+    requires some { 0 < width }
+    requires enough { width ≤ kept.count }
+    requires small { kept.count ≤ 64 }
+    ensures kept { (bs : List Bool) (end : ℕ) → Keeps kept.word kept.count bs end → (number_at (end - kept.count) width bs ≡ Some result.0) × Keeps result.1.word result.1.count bs end }
+    ensures count { result.1.count + width ≡ kept.count }
+{
+    let behind = Kept {
+        word: kept.word.wrapping_shl(width as u32),
+        count: kept.count - width,
+    };
+    (kept.word >> (64 - width), behind)
+}
+
+/// The bits from `at` on, at most 64 of them, and at least `width`. `None` where so many go past the end.
+#[inline(never)]
+fn kept_from(bits: &BitSlice<'_>, at: usize, width: usize) -> Option<Kept>
+    requires some { 0 < width }
+    requires width { width ≤ 64 }
+    requires inside { at ≤ length bits.now }
+    ensures kept { IfSome result (λ k. Keeps k.word k.count bits.now (at + k.count)) }
+    ensures enough { IfSome result (λ k. width ≤ k.count) }
+    ensures none { IsNone result → number_at at width bits.now ≡ None }
+{
+    let left = bits.len() - at;
+    if width > left {
+        return None;
+    }
+    match bits.word_from(at) {
+        Some((word, count)) if width <= count => Some(Kept { word, count }),
+        _ => {
+            let count = left.min(64);
+            let number = bits.number(at, count)?;
+            Some(Kept {
+                word: number << (64 - count),
+                count,
+            })
+        }
+    }
+}
+
+/// Reads numbers from the bits of a slice, one behind the other. It keeps the next bits, at most 64, in a word, so that
+/// few reads look at the bytes.
+#[derive(Drop)]
+pub struct SliceWalker<'a> {
+    bits: BitSlice<'a>,
+    /// How many of the bits are behind the walker or kept.
+    end: usize,
+    kept: Kept,
+}
+
+impl<'a> Model for SliceWalker<'a> {
+    ghost use Rattle.std.specs.Prelude.{◌-◌};
+    ghost use Rattle.etcs_bits.specs.SliceWalker.{SliceWalk, Keeps};
+
+    ghost Value = { SliceWalk };
+
+    ghost view = { λ w. record { bits = w.bits; place = w.end - w.kept.count } };
+
+    ghost invariant = { λ w. Keeps w.kept.word w.kept.count w.bits w.end };
+}
+
+impl<'a> SliceWalker<'a> {
+    /// A walker at the first of the bits.
+    pub fn new(bits: BitSlice<'a>) -> SliceWalker<'a>
+        ensures { result ≡ record { bits = bits.entry; place = 0 } }
+    {
+        SliceWalker {
+            bits,
+            end: 0,
+            kept: Kept { word: 0, count: 0 },
+        }
+    }
+
+    /// The number in the next `width` bits, most significant bit first, which are then behind the walker.
+    /// `None` where these go past the end; the walker then stays where it is.
+    #[inline(always)]
+    pub fn next(&mut self, width: usize) -> Option<u64>
+        requires { width ≤ 64 }
+        ensures number { result ≡ number_at self.old.place width self.old.bits }
+        ensures moved { self.new ≡ record self.old { place = if is_some result then self.old.place + width else self.old.place } }
+    {
+        if width == 0 {
+            return self.bits.number(self.place(), width);
+        }
+        if width > self.kept.count {
+            let place = self.place();
+            let kept = kept_from(&self.bits, place, width)?;
+            prove!(kept.count <= self.bits.len() - place);
+            self.end = place + kept.count;
+            self.kept = kept;
+        }
+        let (number, behind) = first_of(self.kept, width);
+        self.kept = behind;
+        Some(number)
+    }
+
+    /// How many of the bits are behind the walker.
+    pub fn place(&self) -> usize
+        ensures { result ≡ self.now.place }
+    {
+        self.end - self.kept.count
+    }
+
+    /// Whether all of the bits are behind the walker.
+    pub fn is_at_end(&self) -> bool
+        ensures { result ≡ nat_le (length self.now.bits) self.now.place }
+    {
+        self.place() >= self.bits.len()
+    }
+}

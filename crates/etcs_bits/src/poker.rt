@@ -25,13 +25,15 @@ pub(crate) fn write(bytes: &mut [u8], at: usize, offset: usize, width: usize, va
     requires fits { value < 2 ^ width }
     ensures { bits bytes.new ≡ replaced (8 * at + offset) (num width value) (bits bytes.old) }
 {
-    if offset + width > 64 || bytes.len() < 8 {
+    if offset + width <= 8 {
+        if width > 0 {
+            write_in_byte(bytes, at, offset, width, value);
+        }
+    } else if offset + width > 64 || bytes.len() < 8 {
         write_by_bytes(&mut bytes[at..], offset, width, value);
-    } else if offset + width > 8 {
+    } else {
         let first = at.min(bytes.len() - 8);
         write_in_word(&mut bytes[first..], 8 * (at - first) + offset, width, value);
-    } else if width > 0 {
-        write_in_byte(bytes, at, offset, width, value);
     }
 }
 

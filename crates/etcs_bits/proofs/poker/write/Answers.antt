@@ -28,8 +28,8 @@ write_in_byte-requires-clause-byte c = omega (arith, length-bits c.args.bytes.no
 pub returns-then-bytes-lt8 : goal.returns-then-bytes-lt8
 returns-then-bytes-lt8 c = replaced-rest c.args.bytes.now c.write_by_bytes.new.bytes c.args.at (8 * c.args.at + c.args.offset) c.args.offset (num c.args.width c.args.value) (omega (arith, length-bits c.args.bytes.now)) (omega arith) c.write_by_bytes.ensures
 
-pub returns-then-offset-width-gt8 : goal.returns-then-offset-width-gt8
-returns-then-offset-width-gt8 c = replaced-rest c.args.bytes.now c.write_in_word.new.bytes c.min-first.result (8 * c.args.at + c.args.offset) (8 * (c.args.at - c.min-first.result) + c.args.offset) (num c.args.width c.args.value) (omega (arith, c.min-first.ensures, length-bits c.args.bytes.now)) (omega (arith, c.min-first.ensures, length-bits c.args.bytes.now)) c.write_in_word.ensures
+pub returns-else-bytes-lt8 : goal.returns-else-bytes-lt8
+returns-else-bytes-lt8 c = replaced-rest c.args.bytes.now c.write_in_word.new.bytes c.min-first.result (8 * c.args.at + c.args.offset) (8 * (c.args.at - c.min-first.result) + c.args.offset) (num c.args.width c.args.value) (omega (arith, c.min-first.ensures, length-bits c.args.bytes.now)) (omega (arith, c.min-first.ensures, length-bits c.args.bytes.now)) c.write_in_word.ensures
 
 pub returns-else-width-gt0 : goal.returns-else-width-gt0
 returns-else-width-gt0 c = written_none c.args.bytes.now (8 * c.args.at + c.args.offset) c.args.width c.args.value (omega arith)

@@ -1,6 +1,6 @@
 -- Numbers by their first bits, and which of them a variable's ranges hold.
 use Rattle.std.proofs.Common.{◌≡◌, ℕ, ◌+◌, ◌-◌, ◌*◌, ◌/◌, ◌^◌, ◌<◌, ◌≤◌, Bool, true, false, List, [], ◌∷◌, take, refl, sym, ap, ◌∙◌, arith, inl, inr, leb, ltb}
-use Rattle.std.specs.Prelude.{IsTrue, ◌&&◌, ◌↔◌}
+use Rattle.std.specs.Prelude.{IsTrue, ◌&&◌, ◌↔◌, Some, slice_get}
 use Rattle.std.specs.List.{list_all}
 use Rattle.std.proofs.lemmas.Bool.{and_parts, and_from, or_cases, or_left, or_right, cases_lt, leb-true, le-leb, lt-ltb, ltb-true}
 use Rattle.std.proofs.lemmas.List.{take_at}
@@ -122,6 +122,14 @@ and_second false false h = refl
 -- the ranges alone say which numbers are admitted
 pub admits_by_ranges : (v : Var) (n : ℕ) → admits v n ≡ inside (ranges v) n
 admits_by_ranges v n = and_second (ltb n (2 ^ width v)) (inside (ranges v) n) (λ h. lt-ltb n (2 ^ width v) (inside_below (ranges v) (2 ^ width v) n (ranges_below v) h))
+
+inside_first : (rs : List (ℕ × ℕ)) (n : ℕ) (r : ℕ × ℕ) → slice_get rs 0 ≡ Some r → IsTrue (leb r.0 n && leb n r.1) → IsTrue (inside rs n)
+inside_first [] n r first here = absurd cc
+inside_first (q ∷ rs) n r first here = (let same : r ≡ q = cc in or_left (leb q.0 n && leb n q.1) (inside rs n) (rw same at here))
+
+-- a number of the first range is admitted
+pub admits_by_first : (v : Var) (n : ℕ) (r : ℕ × ℕ) → slice_get (ranges v) 0 ≡ Some r → IsTrue (leb r.0 n && leb n r.1) → IsTrue (admits v n)
+admits_by_first v n r first here = admits_by_ranges v n ∙ inside_first (ranges v) n r first here
 
 -- bits with which some admitted number begins
 pub begins_admitted : (v : Var) (taken bits : ℕ) → taken ≤ width v → bits < 2 ^ taken → IsTrue (begins (ranges v) (width v - taken) bits) ↔ ((n : ℕ) × IsTrue (admits v n) × (take taken (num (width v) n) ≡ num taken bits))

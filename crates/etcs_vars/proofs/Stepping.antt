@@ -3,7 +3,6 @@
 use Rattle.std.proofs.Common.{◌≡◌, ℕ, ◌+◌, ◌-◌, ◌*◌, ◌/◌, ◌^◌, ◌<◌, ◌≤◌, Bool, true, false, List, [], ◌∷◌, ◌++◌, take, refl, sym, ap, ◌∙◌, arith, append_assoc}
 use Rattle.std.specs.Prelude.{IsTrue}
 use Rattle.std.proofs.lemmas.Nat.{div-mul-add, mod-mul-add}
-use Rattle.std.proofs.Math.Nat.{div-eq_of_lt}
 use Rattle.etcs_bits.specs.Bits.{num, bit}
 use Rattle.etcs_bits.proofs.Numbers.{length-num, num-add, num_same, value_same, value-num_low, value-num}
 use Rattle.etcs_bits.proofs.Positions.{bit-le}

@@ -3,6 +3,14 @@
 ghost use Rattle.std.specs.Prelude.{◌≡◌, ℕ, ◌<◌, ◌≤◌, ◌/◌, ◌^◌, ◌&&◌, nat_le};
 ghost use Rattle.etcs_vars.specs.Vars.{inside, begins};
 
+/// Whether the number lies in the range.
+#[inline]
+pub(crate) fn within(range: (u64, u64), number: u64) -> bool
+    ensures { result ≡ (nat_le range.0 number && nat_le number range.1) }
+{
+    range.0 <= number && number <= range.1
+}
+
 /// Whether the number lies in one of the ranges.
 #[inline]
 pub(crate) fn inside(ranges: &[(u64, u64)], number: u64) -> bool
@@ -30,7 +38,7 @@ fn begins_one(range: &(u64, u64), rest: usize, bits: u64) -> bool
     requires { rest ≤ 64 }
     ensures { result ≡ (nat_le (range.now.0 / 2 ^ rest) bits && nat_le bits (range.now.1 / 2 ^ rest)) }
 {
-    top(range.0, rest) <= bits && bits <= top(range.1, rest)
+    within((top(range.0, rest), top(range.1, rest)), bits)
 }
 
 /// As `begins`, range by range.

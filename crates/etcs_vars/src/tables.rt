@@ -1,10 +1,11 @@
 //! The tables of the variables: widths, admitted numbers, names and texts.
 
-ghost use Rattle.std.specs.Prelude.{◌≡◌};
+ghost use Rattle.std.specs.Prelude.{◌≡◌, Some, slice_get};
 ghost use Rattle.std.specs.Option.{option_map};
 ghost use Rattle.etcs_vars.specs.Vars.{width, ranges, name, special};
 
 use crate::var::Var;
+use std::slice;
 
 /// The width of each variable, in the order of `Var`.
 static WIDTHS: [u8; 95] = [
@@ -35,59 +36,59 @@ static WIDTHS: [u8; 95] = [
 ];
 
 // All numbers of so many bits.
-const BITS_1: &[(u64, u64)] = &[(0, 0x1)];
+const BITS_1: (u64, u64) = (0, 0x1);
 
-const BITS_2: &[(u64, u64)] = &[(0, 0x3)];
+const BITS_2: (u64, u64) = (0, 0x3);
 
-const BITS_3: &[(u64, u64)] = &[(0, 0x7)];
+const BITS_3: (u64, u64) = (0, 0x7);
 
-const BITS_4: &[(u64, u64)] = &[(0, 0xF)];
+const BITS_4: (u64, u64) = (0, 0xF);
 
-const BITS_5: &[(u64, u64)] = &[(0, 0x1F)];
+const BITS_5: (u64, u64) = (0, 0x1F);
 
-const BITS_6: &[(u64, u64)] = &[(0, 0x3F)];
+const BITS_6: (u64, u64) = (0, 0x3F);
 
-const BITS_7: &[(u64, u64)] = &[(0, 0x7F)];
+const BITS_7: (u64, u64) = (0, 0x7F);
 
-const BITS_8: &[(u64, u64)] = &[(0, 0xFF)];
+const BITS_8: (u64, u64) = (0, 0xFF);
 
-const BITS_10: &[(u64, u64)] = &[(0, 0x3FF)];
+const BITS_10: (u64, u64) = (0, 0x3FF);
 
-const BITS_13: &[(u64, u64)] = &[(0, 0x1FFF)];
+const BITS_13: (u64, u64) = (0, 0x1FFF);
 
-const BITS_14: &[(u64, u64)] = &[(0, 0x3FFF)];
+const BITS_14: (u64, u64) = (0, 0x3FFF);
 
-const BITS_15: &[(u64, u64)] = &[(0, 0x7FFF)];
+const BITS_15: (u64, u64) = (0, 0x7FFF);
 
-const BITS_16: &[(u64, u64)] = &[(0, 0xFFFF)];
+const BITS_16: (u64, u64) = (0, 0xFFFF);
 
-const BITS_24: &[(u64, u64)] = &[(0, 0xFF_FFFF)];
+const BITS_24: (u64, u64) = (0, 0xFF_FFFF);
 
-const BITS_32: &[(u64, u64)] = &[(0, 0xFFFF_FFFF)];
+const BITS_32: (u64, u64) = (0, 0xFFFF_FFFF);
 
-const BITS_64: &[(u64, u64)] = &[(0, u64::MAX)];
+const BITS_64: (u64, u64) = (0, u64::MAX);
 
 // Fewer numbers.
-const ONLY_1: &[(u64, u64)] = &[(1, 1)];
+const ONLY_1: (u64, u64) = (1, 1);
 
-const ONLY_0: &[(u64, u64)] = &[(0, 0)];
+const ONLY_0: (u64, u64) = (0, 0);
 
-const VERSIONS: &[(u64, u64)] = &[(32, 33)];
+const VERSIONS: (u64, u64) = (32, 33);
 
-const UP_TO_2: &[(u64, u64)] = &[(0, 2)];
+const UP_TO_2: (u64, u64) = (0, 2);
 
-const UP_TO_4: &[(u64, u64)] = &[(0, 4)];
+const UP_TO_4: (u64, u64) = (0, 4);
 
-const UP_TO_5: &[(u64, u64)] = &[(0, 5)];
+const UP_TO_5: (u64, u64) = (0, 5);
 
-const SPEEDS: &[(u64, u64)] = &[(0, 120)];
+const SPEEDS: (u64, u64) = (0, 120);
 
-const PROFILE: &[(u64, u64)] = &[(0, 120), (127, 127)];
+const PROFILE: &[(u64, u64)] = &[SPEEDS, (127, 127)];
 
-const RELEASE: &[(u64, u64)] = &[(0, 120), (126, 127)];
+const RELEASE: &[(u64, u64)] = &[SPEEDS, (126, 127)];
 
-/// The ranges of each variable, in the order of `Var`.
-static RANGES: [&[(u64, u64)]; 95] = [
+/// The first range of each variable, in the order of `Var`. Few have a second one.
+static FIRST_RANGES: [(u64, u64); 95] = [
     // The header of a telegram.
     ONLY_1, VERSIONS, ONLY_0, BITS_3, BITS_3, UP_TO_2, BITS_8, BITS_10, BITS_14, BITS_1,
     // The frame of a packet.
@@ -96,9 +97,9 @@ static RANGES: [&[(u64, u64)]; 95] = [
     BITS_15, BITS_1, BITS_1, UP_TO_2, BITS_6,
     // Movement authorities.
     SPEEDS, SPEEDS, BITS_10, BITS_15, BITS_1, BITS_10, BITS_15, BITS_15, BITS_1, BITS_10, BITS_15,
-    BITS_1, BITS_15, RELEASE, BITS_1, BITS_15, BITS_10, BITS_15, RELEASE,
+    BITS_1, BITS_15, SPEEDS, BITS_1, BITS_15, BITS_10, BITS_15, SPEEDS,
     // Profiles of gradient and speed.
-    BITS_15, BITS_1, BITS_8, BITS_8, BITS_15, PROFILE, BITS_1, UP_TO_2, BITS_4, BITS_4, BITS_7,
+    BITS_15, BITS_1, BITS_8, BITS_8, BITS_15, SPEEDS, BITS_1, UP_TO_2, BITS_4, BITS_4, BITS_7,
     // Levels.
     BITS_15, UP_TO_4, BITS_8, BITS_15,
     // The radio network.
@@ -130,7 +131,19 @@ impl Var {
     pub fn ranges(self) -> &'static [(u64, u64)]
         ensures { result.now ≡ ranges self }
     {
-        RANGES[self as usize]
+        match self {
+            Var::V_STATIC => PROFILE,
+            Var::V_RELEASEDP | Var::V_RELEASEOL => RELEASE,
+            _ => slice::from_ref(&FIRST_RANGES[self as usize]),
+        }
+    }
+
+    /// The first of the ranges.
+    #[inline]
+    pub(crate) fn first_range(self) -> (u64, u64)
+        ensures { slice_get (ranges self) 0 ≡ Some result }
+    {
+        FIRST_RANGES[self as usize]
     }
 
     /// The name as the standard prints it. `M_VERSION` is the name of two variables.

@@ -131,6 +131,11 @@ inside_first (q ∷ rs) n r first here = (let same : r ≡ q = cc in or_left (le
 pub admits_by_first : (v : Var) (n : ℕ) (r : ℕ × ℕ) → slice_get (ranges v) 0 ≡ Some r → IsTrue (leb r.0 n && leb n r.1) → IsTrue (admits v n)
 admits_by_first v n r first here = admits_by_ranges v n ∙ inside_first (ranges v) n r first here
 
+-- bits with which a number of the first range begins
+pub begins_first : (rs : List (ℕ × ℕ)) (rest b : ℕ) (r : ℕ × ℕ) → slice_get rs 0 ≡ Some r → IsTrue (leb (r.0 / 2 ^ rest) b && leb b (r.1 / 2 ^ rest)) → IsTrue (begins rs rest b)
+begins_first [] rest b r first here = absurd cc
+begins_first (q ∷ rs) rest b r first here = (let same : r ≡ q = cc in or_left (leb (q.0 / 2 ^ rest) b && leb b (q.1 / 2 ^ rest)) (begins rs rest b) (rw same at here))
+
 -- bits with which some admitted number begins
 pub begins_admitted : (v : Var) (taken bits : ℕ) → taken ≤ width v → bits < 2 ^ taken → IsTrue (begins (ranges v) (width v - taken) bits) ↔ ((n : ℕ) × IsTrue (admits v n) × (take taken (num (width v) n) ≡ num taken bits))
 begins_admitted v taken bits short fits =

@@ -34,7 +34,7 @@ pub fn begins(ranges: &[(u64, u64)], rest: usize, bits: u64) -> bool
 
 /// Whether `bits` may begin a number of the range.
 #[inline]
-fn begins_one(range: &(u64, u64), rest: usize, bits: u64) -> bool
+pub(crate) fn begins_one(range: &(u64, u64), rest: usize, bits: u64) -> bool
     requires { rest ≤ 64 }
     ensures { result ≡ (nat_le (range.now.0 / 2 ^ rest) bits && nat_le bits (range.now.1 / 2 ^ rest)) }
 {

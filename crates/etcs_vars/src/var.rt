@@ -3,9 +3,9 @@
 ghost use Rattle.std.specs.Prelude.{◌≡◌, ℕ, ◌^◌, ◌<◌, ◌≤◌, ◌-◌, ◌↔◌, IsTrue, Some, take};
 ghost use Rattle.std.specs.Fmt.{padded};
 ghost use Rattle.etcs_bits.specs.Bits.{num};
-ghost use Rattle.etcs_vars.specs.Vars.{width, admits, name};
+ghost use Rattle.etcs_vars.specs.Vars.{width, ranges, admits, begins, name};
 
-use crate::ranges::{begins, inside, within};
+use crate::ranges::{begins, begins_one, inside, within};
 use std::fmt;
 
 /// A variable of telegrams and radio messages, under its name in the standard (SUBSET-026, 7.5).
@@ -258,7 +258,17 @@ impl Var {
         requires fits { bits < 2 ^ taken }
         ensures { IsTrue result ↔ ((n : ℕ) × IsTrue (admits self n) × (take taken (num (width self) n) ≡ num taken bits)) }
     {
-        begins(self.ranges(), self.width() - taken, bits)
+        self.begins(self.width() - taken, bits)
+    }
+
+    /// Whether `bits` may begin a number that the variable admits, with `rest` bits behind them.
+    #[tactic(auto, using(crate::proofs::Prefixes::begins_first))]
+    #[inline]
+    fn begins(self, rest: usize, bits: u64) -> bool
+        requires { rest ≤ 64 }
+        ensures { result ≡ begins (ranges self) rest bits }
+    {
+        begins_one(&self.first_range(), rest, bits) || begins(self.ranges(), rest, bits)
     }
 }
 

@@ -9,3 +9,4 @@ pub mod Owned
 pub mod Words
 pub mod WordWrites
 mod Kept
+pub mod Equality

@@ -2,4 +2,3 @@ pub mod Bits
 pub mod Walker
 pub mod SliceWalker
 pub mod Poker
-pub mod Equality

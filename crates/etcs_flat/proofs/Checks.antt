@@ -1,7 +1,6 @@
 -- How the numbers of a packet are looked through, beside the items of its table.
-use Rattle.std.proofs.Common.{◌≡◌, ℕ, ◌==◌, true, false, List, [], ◌∷◌, length, map, inl, inr, Option, Some, None, refl, sym, ap, ◌∙◌, arith, subst}
-use Rattle.std.specs.Prelude.{if◌then◌else◌, ◌⊎◌, IsNone, IfErr, is_some, Result, Ok, Err}
-use Rattle.std.specs.Result.{result_ok}
+use Rattle.std.proofs.Common.{◌≡◌, ℕ, ◌==◌, List, [], ◌∷◌, length, map, inl, inr, Option, Some, None, refl, sym, ap, ◌∙◌, arith, subst}
+use Rattle.std.specs.Prelude.{if◌then◌else◌, ◌⊎◌}
 use Rattle.std.specs.Option.{option_map}
 use Rattle.std.proofs.lemmas.List.{length-map}
 use Rattle.etcs_vars.specs.declared.var.Var.{Var}
@@ -9,10 +8,10 @@ use Rattle.etcs_vars.specs.declared.var.Var.TheVariants.{Q_DIR}
 use Rattle.etcs_vars.specs.declared.fault.BuildFault.{BuildFault}
 use Rattle.etcs_vars.specs.declared.fault.BuildFault.TheVariants.{Count}
 use Rattle.etcs_vars.specs.Faults.{◌or_else◌, number_fault}
-use Rattle.etcs_rows.specs.declared.item.RowItem.{RowItem}
-use Rattle.etcs_rows.specs.declared.item.RowItem.TheVariants.{One}
+use Rattle.etcs_tables.specs.declared.item.RowItem.{RowItem}
+use Rattle.etcs_tables.specs.declared.item.RowItem.TheVariants.{One}
 use Rattle.etcs_flat.specs.Flats.{numbers_fault, row_fault}
-use Rattle.etcs_flat.specs.FlatLaws.{same_count}
+use Rattle.etcs_flat.specs.laws.FlatLaws.{same_count}
 
 -- ---- Faults, one behind the other.
 
@@ -44,10 +43,3 @@ numbers_left (Some vs) table dir ns is long fine =
     let count : length ns ≡ length vs = omega (arith, long, ap length are, length-map vs One) in
     let counted : (if length ns == length vs then None else Some Count) ≡ None = same_count (length ns) (length vs) None (Some Count) count in
     (vs, are, rw (counted, fine) refl)
-
--- ---- What isn't made.
-
--- where nothing is made, something is wrong
-pub not_made : {T : Type 0} (r : Result T BuildFault) (made : Option T) (f : Option BuildFault) → made ≡ result_ok r → IsNone made → IfErr r (λ e. f ≡ Some e) → f ≡ None → ⊥
-not_made (Ok x) made f is none fault fine = let t : true ≡ false = sym (ap is_some is) ∙ none in absurd cc
-not_made (Err e) made f is none fault fine = absurd cc

@@ -1,2 +1,5 @@
 pub mod Checks
 pub mod Equality
+pub mod FlatCodes
+pub mod FlatLaws
+pub mod TableLaws

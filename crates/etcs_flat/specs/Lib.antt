@@ -1,6 +1,5 @@
 pub mod Flats
-pub mod FlatLaws
-pub mod OtherLaws
+pub mod FlatCodes
 pub mod Others
-pub mod TableLaws
 pub mod Tables
+pub mod laws

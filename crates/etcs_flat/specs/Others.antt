@@ -4,9 +4,9 @@ use Rattle.etcs_vars.specs.declared.var.Var.TheVariants.{NID_PACKET, Q_DIR}
 use Rattle.etcs_vars.specs.declared.fault.BuildFault.{BuildFault}
 use Rattle.etcs_vars.specs.declared.fault.BuildFault.TheVariants.{NotAdmitted, TooLong}
 use Rattle.etcs_vars.specs.Faults.{◌or_else◌, number_fault}
-use Rattle.etcs_rows.specs.declared.row.Way.TheVariants.{ToTrain}
-use Rattle.etcs_rows.specs.Layouts.{ROW_LIMIT}
-use Rattle.etcs_rows.specs.Frames.{is_kept}
+use Rattle.etcs_tables.specs.declared.row.Way.TheVariants.{ToTrain}
+use Rattle.etcs_tables.specs.Layouts.{ROW_LIMIT}
+use Rattle.etcs_tables.specs.Frames.{is_kept}
 
 -- a packet that isn't typed: its number, its direction and the bits behind L_PACKET
 pub record OtherParts : Type 0 where

@@ -1,11 +1,10 @@
 -- What loops over a table compute.
-use Rattle.std.specs.Prelude.{ℕ, ◌+◌, ◌==◌, Bool, List, [], ◌∷◌, ◌++◌, length, Option, Some, None, if◌then◌else◌}
-use Rattle.std.specs.Option.{option_map, option_and_then}
-use Rattle.etcs_bits.specs.Bits.{number_at}
-use Rattle.etcs_vars.specs.Vars.{width, admits}
+use Rattle.std.specs.Prelude.{ℕ, List, [], ◌∷◌, ◌++◌, Option, Some, None}
+use Rattle.etcs_vars.specs.Vars.{width}
 use Rattle.etcs_vars.specs.Reading.{Reading}
-use Rattle.etcs_rows.specs.declared.item.RowItem.{RowItem}
-use Rattle.etcs_rows.specs.declared.item.RowItem.TheVariants.{One, When, Many}
+use Rattle.etcs_tables.specs.declared.item.RowItem.{RowItem}
+use Rattle.etcs_tables.specs.declared.item.RowItem.TheVariants.{One, When, Many}
+use Rattle.etcs_bodies.specs.Taking.{Left, ◌and_then◌, next_number}
 
 -- how many bits the variable of an item takes
 abbrev pub item_width : RowItem → ℕ
@@ -25,9 +24,9 @@ table_pairs [] ns = []
 table_pairs (item ∷ table) [] = []
 table_pairs (item ∷ table) (n ∷ ns) = item_pair item n ++ table_pairs table ns
 
--- the numbers of a table without groups in the bits from a place on, which they fill to the end
-abbrev pub numbers_in : List RowItem → ℕ → List Bool → Option (List ℕ)
-numbers_in [] at b = if at == length b then Some [] else None
-numbers_in (One v ∷ table) at b = option_and_then (λ n. if admits v n then option_map (λ ns. n ∷ ns) (numbers_in table (at + width v) b) else None) (number_at at (width v) b)
-numbers_in (When g k ∷ table) at b = None
-numbers_in (Many k ∷ table) at b = None
+-- the numbers of a table without groups, taken one after another
+abbrev pub table_from : List RowItem → Left → Option (List ℕ × Left)
+table_from [] s = Some ([], s)
+table_from (One v ∷ table) s = next_number v s and_then λ n. table_from table n.1 and_then λ ns. Some (n.0 ∷ ns.0, ns.1)
+table_from (When g k ∷ table) s = None
+table_from (Many k ∷ table) s = None

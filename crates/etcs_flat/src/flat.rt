@@ -1,19 +1,17 @@
 //! Packets of rows without groups.
 
-ghost use Rattle.std.specs.Prelude.{◌≡◌, ◌≤◌, List, length, map, Some, None, OnOk, IfOk, IfErr, IfSome, IsSome, IsNone};
+ghost use Rattle.std.specs.Prelude.{◌≡◌, ◌≤◌, List, length, map, Some, None, OnOk, IfOk, IfErr, IfSome, IfNone, IsSome};
 ghost use Rattle.std.specs.List.{list_all};
 ghost use Rattle.std.specs.Option.{option_map};
 ghost use Rattle.etcs_vars.specs.declared.var.Var.{Var};
-ghost use Rattle.etcs_vars.specs.Reading.{Reading, spelled};
-ghost use Rattle.etcs_rows.specs.declared.item.RowItem.TheVariants.{One};
-ghost use Rattle.etcs_rows.specs.declared.row.Way.TheVariants.{ToTrain};
-ghost use Rattle.etcs_rows.specs.Typed.{IsTyped, IsFramed};
-ghost use Rattle.etcs_flat.specs.Flats.{flat_parts, flat_row, flat_fault, flat_reading, numbers_fault, is_one};
+ghost use Rattle.etcs_tables.specs.declared.item.RowItem.TheVariants.{One};
+ghost use Rattle.etcs_flat.specs.Flats.{flat_parts, flat_row, flat_fault, numbers_fault, is_one};
+ghost use Rattle.etcs_flat.specs.FlatCodes.{flat_from};
 
-use crate::table::{numbers_in, table_of};
+use crate::table::{table_of, take_table};
 use arrayvec::ArrayVec;
-use etcs_bits::BitSlice;
-use etcs_rows::{RowItem, Way, row_of};
+use etcs_bodies::Numbers;
+use etcs_tables::{RowItem, Way, row_of};
 use etcs_vars::{BuildFault, Var, check};
 use std::marker::Model;
 
@@ -110,29 +108,24 @@ impl<const NID: u8> Flat<NID> {
         self.numbers.as_slice()
     }
 
-    /// The packet of a direction and of the numbers of its row, where there is one.
-    pub(crate) fn of_fields(dir: u8, fields: &[u64]) -> Option<Self>
+    /// The packet of a direction and of all of the numbers, where there is one. Takes no memory.
+    #[tactic(auto, using(crate::specs::laws::FlatCodes::table_none, crate::specs::laws::FlatCodes::undirected))]
+    pub(crate) fn taken(dir: u8, mut numbers: Numbers<'_>) -> Option<Self>
         requires flat { IsSome (flat_row NID) }
-        ensures some { IfSome result (λ p. (p ≡ flat_parts dir fields.now) × (flat_fault NID p.dir p.numbers ≡ None)) }
-        ensures none { IsNone result → IsTyped ToTrain NID dir fields.now → ⊥ }
-    {
-        Flat::new(dir, fields).ok()
-    }
-
-    /// The packet of a direction and of the bits of its row, where there is one. Takes no memory.
-    #[tactic(auto, using(crate::specs::TableLaws::table_read, crate::specs::TableLaws::table_unread, crate::specs::TableLaws::undirected))]
-    pub(crate) fn of_bits(dir: u8, bits: &BitSlice<'_>) -> Option<Self>
-        requires flat { IsSome (flat_row NID) }
-        ensures dir { IfSome result (λ p. p.dir ≡ dir) }
-        ensures value { IfSome result (λ p. flat_fault NID p.dir p.numbers ≡ None) }
-        ensures some { IfSome result (λ p. spelled (flat_reading NID p.numbers) ≡ bits.now) }
-        ensures none { IsNone result → (r : Reading) → IsFramed ToTrain NID dir r → spelled r ≡ bits.now → ⊥ }
+        ensures some { IfSome result (λ p. flat_from NID dir numbers.entry ≡ Some p) }
+        ensures none { IfNone result (flat_from NID dir numbers.entry ≡ None) }
     {
         if !Var::Q_DIR.admits(u64::from(dir)) {
             return None;
         }
-        let numbers = numbers_in(table_of(NID), bits)?;
-        Some(Flat { dir, numbers })
+        let taken = take_table(table_of(NID), &mut numbers)?;
+        if !numbers.is_empty() {
+            return None;
+        }
+        Some(Flat {
+            dir,
+            numbers: taken,
+        })
     }
 
     /// An equal packet.
@@ -149,7 +142,7 @@ impl<const NID: u8> Flat<NID> {
     }
 
     /// The table of its row.
-    #[tactic(auto, using(crate::specs::TableLaws::row_there))]
+    #[tactic(auto, using(crate::specs::laws::TableLaws::row_there))]
     pub(crate) fn table(&self) -> &'static [RowItem]
         ensures table { Some result.now ≡ option_map (λ vs. map One vs) (flat_row NID) }
         ensures short { length result.now ≤ 6 }
@@ -185,6 +178,7 @@ fn check_flat(nid: u8, dir: u8, numbers: &[u64]) -> Result<(), BuildFault>
 }
 
 /// The table of the packet's row, where it has no groups.
+#[tactic(auto, using(crate::specs::laws::TableLaws::flat_table))]
 pub(crate) fn flat_row(nid: u8) -> Option<&'static [RowItem]>
     ensures { option_map (λ table. table.now) result ≡ option_map (λ vs. map One vs) (flat_row nid) }
 {

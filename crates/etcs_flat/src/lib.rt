@@ -1,12 +1,11 @@
 //! Packets without groups, packets that are kept as bits, and the virtual balise cover marker.
 #![tactic(auto)]
 
+mod body;
 mod flat;
-mod framed;
 pub mod laws;
 mod marker;
 mod other;
-mod packets;
 pub mod parts;
 mod table;
 

@@ -1,12 +1,11 @@
 //! Packets that are kept as bits.
 
 ghost use Rattle.std.specs.Prelude.{◌≡◌, ◌≤◌, length, Some, None, OnOk, IfOk, IfErr};
-ghost use Rattle.etcs_rows.specs.Layouts.{ROW_LIMIT};
+ghost use Rattle.etcs_tables.specs.Layouts.{ROW_LIMIT};
 ghost use Rattle.etcs_flat.specs.Others.{other_parts, other_fault};
 
 use etcs_bits::{BitSlice, Bits};
-use etcs_rows::Way;
-use etcs_rows::parts::is_kept;
+use etcs_tables::{Way, is_kept};
 use etcs_vars::{BuildFault, Var, check};
 use std::alloc::{AllocError, Global};
 use std::marker::Model;
@@ -79,7 +78,7 @@ impl Other {
     }
 
     /// How many bits stand behind L_PACKET.
-    #[tactic(auto, using(crate::specs::OtherLaws::other_short))]
+    #[tactic(auto, using(crate::specs::laws::OtherLaws::other_short))]
     pub fn bits(&self) -> usize
         ensures bits { result ≡ length self.now.body }
         ensures most { result ≤ ROW_LIMIT }

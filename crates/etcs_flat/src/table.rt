@@ -2,19 +2,19 @@
 
 ghost use Rattle.std.specs.Prelude.{◌≡◌, ◌*◌, ◌≤◌, Some, None, length, map, sum_by, OnOk, OnErr, IfSome, IfNone, IsSome};
 ghost use Rattle.std.specs.Option.{option_map};
-ghost use Rattle.etcs_rows.specs.declared.item.RowItem.TheVariants.{One};
+ghost use Rattle.etcs_tables.specs.declared.item.RowItem.TheVariants.{One};
 ghost use Rattle.etcs_flat.specs.Flats.{flat_row};
-ghost use Rattle.etcs_flat.specs.Tables.{item_width, table_pairs, numbers_in};
+ghost use Rattle.etcs_flat.specs.Tables.{item_width, table_pairs, table_from};
 
 use crate::flat::flat_row;
 use arrayvec::ArrayVec;
-use etcs_bits::BitSlice;
-use etcs_rows::RowItem;
-use etcs_vars::Var;
+use etcs_bodies::Numbers;
+use etcs_tables::RowItem;
 use etcs_vars::parts::Sink;
 use std::alloc::AllocError;
 
 /// The table of a packet whose row has no groups.
+#[tactic(auto, using(crate::specs::laws::TableLaws::table_short))]
 pub(crate) fn table_of(nid: u8) -> &'static [RowItem]
     requires { IsSome (flat_row nid) }
     ensures table { Some result.now ≡ option_map (λ vs. map One vs) (flat_row nid) }
@@ -27,7 +27,7 @@ pub(crate) fn table_of(nid: u8) -> &'static [RowItem]
 }
 
 /// How many bits the variables of a table take.
-#[tactic(auto, using(crate::specs::TableLaws::item_narrow, crate::specs::TableLaws::width_narrow))]
+#[tactic(auto, using(crate::specs::laws::TableLaws::item_narrow, crate::specs::laws::TableLaws::width_narrow))]
 pub(crate) fn table_bits(table: &[RowItem]) -> usize
     requires { length table.now ≤ 6 }
     ensures bits { result ≡ sum_by item_width table.now }
@@ -63,30 +63,19 @@ pub(crate) fn send_table<S: Sink>(
     Ok(())
 }
 
-/// The numbers of a table's variables in bits that they fill to the end. `None` where a variable doesn't admit its
-/// number, or there are more or fewer bits.
-#[tactic(auto, using(crate::specs::TableLaws::width_narrow))]
-pub(crate) fn numbers_in(table: &[RowItem], bits: &BitSlice<'_>) -> Option<ArrayVec<u64, 6>>
+/// Takes the numbers of a table's variables. `None` where a variable doesn't admit its number, or there are too few.
+#[tactic(auto, using(crate::specs::laws::TableLaws::taken_more, crate::specs::laws::TableLaws::taken_none))]
+pub(crate) fn take_table(table: &[RowItem], numbers: &mut Numbers<'_>) -> Option<ArrayVec<u64, 6>>
     requires { length table.now ≤ 6 }
-    ensures some { IfSome result (λ ns. numbers_in table.now 0 bits.now ≡ Some ns.items) }
-    ensures none { IfNone result (numbers_in table.now 0 bits.now ≡ None) }
+    ensures some { IfSome result (λ ns. table_from table.now numbers.old ≡ Some (ns.items, numbers.new)) }
+    ensures none { IfNone result (table_from table.now numbers.old ≡ None) }
 {
-    let mut numbers = ArrayVec::new();
-    let mut at = 0;
+    let mut taken = ArrayVec::new();
     for item in table {
         let RowItem::One(var) = item else {
             return None;
         };
-        let width = var.width();
-        let number = bits.number(at, width)?;
-        if !var.admits(number) {
-            return None;
-        }
-        numbers.push(number);
-        at += width;
+        taken.push(numbers.next(*var)?);
     }
-    if at != bits.len() {
-        return None;
-    }
-    Some(numbers)
+    Some(taken)
 }

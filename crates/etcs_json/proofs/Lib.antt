@@ -1,10 +1,11 @@
-pub mod PlainTexts
-pub mod PlainTrees
+pub mod DigitLemmas
+pub mod MessageTrees
+pub mod OneItems
 pub mod OneTrees
 pub mod OwnTrees
-pub mod Shapes
-pub mod OneItems
-pub mod PairLemmas
 pub mod PacketTrees
+pub mod PairLemmas
+pub mod PlainTexts
+pub mod PlainTrees
+pub mod Shapes
 pub mod TelegramTrees
-pub mod MessageTrees

@@ -8,12 +8,11 @@ use Rattle.etcs_vars.specs.declared.var.Var.TheVariants.{T_TRAIN, M_ACK, NID_LRB
 use Rattle.etcs_vars.specs.Vars.{admits}
 use Rattle.etcs_vars.specs.Reading.{Reading, numbers, spelled}
 use Rattle.etcs_vars.proofs.Prefixes.{admits_parts}
-use Rattle.etcs_rows.specs.declared.row.Way.TheVariants.{ToTrain}
-use Rattle.etcs_rows.specs.Layouts.{Layout, Reads}
-use Rattle.etcs_rows.specs.Rows.{message_row_to}
+use Rattle.etcs_tables.specs.declared.row.Way.TheVariants.{ToTrain}
+use Rattle.etcs_tables.specs.Layouts.{Layout, Reads}
+use Rattle.etcs_tables.specs.Rows.{message_row_to}
 use Rattle.etcs_packets.specs.declared.packet.Packet.{Packet}
-use Rattle.etcs_packets.specs.OnePacket.{IsMade}
-use Rattle.etcs_packets.specs.PacketValues.{PacketValue, IsPacket, packet_value}
+use Rattle.etcs_packets.specs.PacketValues.{PacketValue, IsPacket, packet_value, IsMade}
 use Rattle.etcs_packets.specs.PacketReadings.{packets_reading}
 use Rattle.etcs_radio.specs.declared.body.Body.{Body}
 use Rattle.etcs_radio.specs.declared.body.RadioHead.{RadioHead}

@@ -7,11 +7,11 @@ use Rattle.serde_json.specs.View.{items_of}
 use Rattle.etcs_vars.specs.Reading.{Reading, numbers}
 use Rattle.etcs_vars.proofs.Apart.{AllFit}
 use Rattle.etcs_rows.specs.declared.frames.Carrier.TheVariants as carrier
-use Rattle.etcs_rows.specs.declared.row.Way.TheVariants.{ToTrain}
-use Rattle.etcs_rows.specs.Layouts.{Layout, Reads}
-use Rattle.etcs_rows.specs.Rows.{message_row_to}
+use Rattle.etcs_tables.specs.declared.row.Way.TheVariants.{ToTrain}
+use Rattle.etcs_tables.specs.Layouts.{Layout, Reads}
+use Rattle.etcs_tables.specs.Rows.{message_row_to}
 use Rattle.etcs_packets.specs.PacketValues.{PacketValue, IsPacket}
-use Rattle.etcs_container.specs.Contents.{Carries}
+use Rattle.etcs_sequence.specs.Contents.{Carries}
 use Rattle.etcs_radio.specs.declared.body.RadioHead.{RadioHead}
 use Rattle.etcs_radio.specs.Bodies.{run_of_head}
 use Rattle.etcs_radio.specs.Messages.{MessageValue, typed_message, kept_message, MessageReads, head_reading}

@@ -10,14 +10,14 @@ use Rattle.etcs_vars.specs.Vars.{name, width}
 use Rattle.etcs_vars.specs.Reading.{Reading, Sent}
 use Rattle.etcs_vars.proofs.Apart.{Agree, AllFit}
 use Rattle.etcs_vars.proofs.Prefixes.{admits_parts}
-use Rattle.etcs_rows.specs.declared.row.Way.TheVariants.{ToTrain}
-use Rattle.etcs_rows.specs.Layouts.{Layout, Reads}
-use Rattle.etcs_rows.specs.Typed.{IsFramed}
+use Rattle.etcs_tables.specs.declared.row.Way.TheVariants.{ToTrain}
+use Rattle.etcs_tables.specs.Layouts.{Layout, Reads}
+use Rattle.etcs_tables.specs.Typed.{IsFramed}
 use Rattle.etcs_rows.proofs.OneReading.{Reads-agree, Reads-fit}
 use Rattle.etcs_packets.specs.PacketValues.{PacketValue, marker, typed, kept, IsPacket}
 use Rattle.etcs_text.specs.Show.{hex_digit, hex_digits, bit_digit}
 use Rattle.etcs_text.specs.Trees.{bits_tree}
-use Rattle.etcs_json_lines.proofs.DigitLemmas.{one_bits, one_hex}
+use Rattle.etcs_json.proofs.DigitLemmas.{one_bits, one_hex}
 use Rattle.etcs_json.specs.TreeReading.{SaysNumber, IsPairTree, ArePairTrees, IsPacketTree, ArePacketTrees}
 
 -- ---- Numbers.

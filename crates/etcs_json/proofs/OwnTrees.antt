@@ -10,7 +10,7 @@ use Rattle.etcs_packets.specs.PacketValues.{PacketValue, marker, typed, kept}
 use Rattle.etcs_text.specs.Show.{hex_digit, hex_digits}
 use Rattle.etcs_text.specs.Trees.{number_tree, pair_tree, packet_tree}
 use Rattle.etcs_json.proofs.OneTrees.{digit_is}
-use Rattle.etcs_json_lines.specs.Digits.{lower}
+use Rattle.etcs_json.specs.Digits.{lower}
 use Rattle.etcs_json.specs.TreeReading.{SaysNumber, ArePairTrees, IsPacketTree, ArePacketTrees}
 
 lower_small : (c : ℕ) → c < 65 → lower c ≡ c

@@ -9,17 +9,16 @@ use Rattle.etcs_vars.specs.declared.var.Var.TheVariants.{NID_VBCMK, Q_DIR}
 use Rattle.etcs_vars.specs.Vars.{admits}
 use Rattle.etcs_vars.specs.Reading.{Reading, numbers, spelled}
 use Rattle.etcs_vars.proofs.Prefixes.{admits_parts}
-use Rattle.etcs_rows.specs.declared.row.Way.TheVariants.{ToTrain}
-use Rattle.etcs_rows.specs.Layouts.{Layout, Reads, one, whole}
-use Rattle.etcs_rows.specs.Rows.{row_to}
-use Rattle.etcs_rows.specs.Typed.{IsTyped, IsFramed}
+use Rattle.etcs_tables.specs.declared.row.Way.TheVariants.{ToTrain}
+use Rattle.etcs_tables.specs.Layouts.{Layout, Reads, one, whole}
+use Rattle.etcs_tables.specs.Rows.{row_to}
+use Rattle.etcs_tables.specs.Typed.{IsTyped, IsFramed}
 use Rattle.etcs_rows.proofs.OneReading.{Reads-apart}
 use Rattle.etcs_rows.proofs.RowLaws.{one_spelling}
 use Rattle.etcs_packets.specs.declared.packet.Packet.{Packet}
-use Rattle.etcs_packets.specs.OnePacket.{IsMade}
-use Rattle.etcs_packets.specs.PacketValues.{PacketValue, packet_value, marker, typed, kept, variables_of, IsTypedOf, IsPacket}
-use Rattle.etcs_container.proofs.Typed.{typed_number}
-use Rattle.etcs_container.proofs.Others.{kept_parts, kept_number, kept_untyped}
+use Rattle.etcs_packets.specs.PacketValues.{PacketValue, packet_value, marker, typed, kept, variables_of, IsTypedOf, IsPacket, IsMade}
+use Rattle.etcs_sequence.specs.laws.Typed.{typed_number}
+use Rattle.etcs_sequence.specs.laws.Others.{kept_parts, kept_number, kept_untyped}
 use Rattle.etcs_text.specs.Trees.{bits_tree}
 use Rattle.etcs_json.specs.TreeReading.{ArePairTrees, IsPacketTree, ArePacketTrees, marker_tree, typed_tree, kept_tree, plain}
 

@@ -17,7 +17,7 @@ use Rattle.etcs_packets.specs.PacketValues.{PacketValue}
 use Rattle.etcs_packets.specs.PacketValues as packet
 use Rattle.etcs_packets.specs.PacketReadings.{packet_reading, packets_reading}
 use Rattle.etcs_rows.specs.declared.frames.Carrier.TheVariants as carrier
-use Rattle.etcs_container.specs.Contents.{closing}
+use Rattle.etcs_sequence.specs.Contents.{closing}
 use Rattle.etcs_radio.specs.Bodies.{run_of_head}
 use Rattle.etcs_radio.specs.Messages.{MessageValue, typed_message, kept_message, MessageReads, head_reading}
 use Rattle.etcs_radio.proofs.Spelling.{regular as radio}

@@ -6,7 +6,7 @@ use Rattle.etcs_bits.specs.Bits.{bit}
 use Rattle.etcs_vars.specs.Vars.{admits}
 use Rattle.etcs_vars.specs.Reading.{Reading, numbers, spelled, kept}
 use Rattle.etcs_vars.specs.declared.var.Var.TheVariants.{FILL, PAD}
-use Rattle.etcs_rows.specs.Layouts.{Layout, Reads}
+use Rattle.etcs_tables.specs.Layouts.{Layout, Reads}
 use Rattle.etcs_packets.specs.declared.packet.Packet.{Packet}
 use Rattle.etcs_packets.specs.PacketValues.{PacketValue, IsPacket, packet_value}
 use Rattle.etcs_telegram.specs.declared.size.Size.{Size}

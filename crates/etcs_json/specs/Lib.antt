@@ -1,4 +1,5 @@
+pub mod Digits
+pub mod FaultTexts
+pub mod JsonLines
 pub mod TreeParts
 pub mod TreeReading
-pub mod JsonLines
-pub mod FaultTexts

@@ -6,8 +6,8 @@ ghost use Rattle.serde_json.specs.View.{view};
 ghost use Rattle.etcs_text.specs.Trees.{bits_tree};
 ghost use Rattle.etcs_json.specs.TreeReading.{plain};
 
+use crate::written::digits::bits_of;
 use etcs_bits::Bits;
-use etcs_json_lines::bits_of;
 use serde_json::Value;
 use std::alloc::{AllocError, Global};
 

@@ -10,7 +10,7 @@ ghost use Rattle.etcs_json.specs.JsonLines.{SaysItem};
 use crate::fault::JsonFault;
 use crate::from_message::message_in;
 use crate::from_telegram::telegram_in;
-use etcs_json_lines::written_item;
+use crate::written::written_item;
 use etcs_telegram::Size;
 use etcs_text::{Entry, Kind};
 use serde_json::Value;

@@ -6,8 +6,7 @@ ghost use Rattle.serde_json.specs.View.{view, items_view};
 ghost use Rattle.etcs_vars.specs.declared.var.Var.TheVariants.{NID_VBCMK};
 ghost use Rattle.etcs_vars.specs.Vars.{admits};
 ghost use Rattle.etcs_vars.specs.Reading.{Reading, numbers};
-ghost use Rattle.etcs_packets.specs.OnePacket.{IsMade};
-ghost use Rattle.etcs_packets.specs.PacketValues.{PacketValue, IsPacket, IsTypedOf, kept, marker, packet_value, typed, variables_of};
+ghost use Rattle.etcs_packets.specs.PacketValues.{PacketValue, IsPacket, IsTypedOf, kept, marker, packet_value, typed, variables_of, IsMade};
 ghost use Rattle.etcs_json.specs.TreeReading.{ArePairTrees, ArePacketTrees, IsPacketTree, kept_tree, marker_tree, plain, typed_tree};
 
 use crate::digits::{bits_in, is_zero, two_bytes};
@@ -16,7 +15,7 @@ use crate::numbers::numbers_in;
 use etcs_bits::Bits;
 use etcs_packets::parts::{from_fields, holds};
 use etcs_packets::{Other, Packet};
-use etcs_rows::{Row, RowItem, Way, row_of};
+use etcs_tables::{Row, RowItem, Way, row_of};
 use etcs_vars::Var;
 use serde_json::Value;
 use std::alloc::{AllocError, Global};

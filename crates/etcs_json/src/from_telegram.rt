@@ -16,7 +16,7 @@ use crate::members::four_members;
 use crate::numbers::numbers_in;
 use etcs_bits::Bits;
 use etcs_packets::Packet;
-use etcs_rows::{Row, RowItem};
+use etcs_tables::{Row, RowItem};
 use etcs_telegram::{Header, Size, Telegram};
 use etcs_vars::Var;
 use serde_json::Value;

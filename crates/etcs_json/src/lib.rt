@@ -12,6 +12,7 @@ mod members;
 mod numbers;
 mod pairs;
 mod trees;
+mod written;
 
 pub use fault::JsonFault;
 pub use from_entries::{from_line, from_value};

@@ -6,12 +6,13 @@ ghost use Rattle.serde_json.specs.View.{view, items_view};
 ghost use Rattle.etcs_vars.specs.declared.var.Var.{Var};
 ghost use Rattle.etcs_vars.specs.Reading.{Reading, numbers};
 ghost use Rattle.etcs_vars.specs.Vars.{admits};
-ghost use Rattle.etcs_rows.specs.Layouts.{Reads, layout};
+ghost use Rattle.etcs_tables.specs.Layouts.{Reads, layout};
 ghost use Rattle.etcs_rows.specs.Places.{first_variable};
 ghost use Rattle.etcs_json.specs.TreeReading.{ArePairTrees, IsPairTree, SaysNumber};
 
-use etcs_json_lines::hex_number;
-use etcs_rows::{Place, Row};
+use crate::written::digits::hex_number;
+use etcs_rows::Place;
+use etcs_tables::Row;
 use etcs_vars::Var;
 use serde_json::Value;
 use std::alloc::{AllocError, Global};

@@ -1,4 +1,7 @@
-pub mod PacketValues
-pub mod OnePacket
+pub mod Fronts
+pub mod Joins
 pub mod PacketReadings
-pub mod Equality
+pub mod PacketValues
+pub mod Sinks
+pub mod Written
+pub mod laws

@@ -1,22 +1,21 @@
--- What a packet stands for: its number, its direction, and its variables or the bits that are kept.
+-- What a packet stands for: its number, its direction, and its variables or the bits that are kept; and what its own type
+-- says of it.
 use Rattle.std.specs.Prelude.{◌≡◌, ℕ, ◌+◌, Bool, List, [], ◌∷◌, length, Option, Some, None, IsTrue}
 use Rattle.etcs_vars.specs.declared.var.Var.TheVariants.{NID_VBCMK}
 use Rattle.etcs_vars.specs.Vars.{admits}
 use Rattle.etcs_vars.specs.Reading.{Reading, spelled}
-use Rattle.etcs_rows.specs.declared.row.Way.TheVariants.{ToTrain}
-use Rattle.etcs_rows.specs.Typed.{IsFramed}
-use Rattle.etcs_flat.specs.Flats.{flat_reading}
+use Rattle.etcs_tables.specs.declared.row.Way.TheVariants.{ToTrain}
+use Rattle.etcs_tables.specs.Typed.{IsFramed}
+use Rattle.etcs_flat.specs.Flats.{FlatParts, flat_fault, flat_reading}
 use Rattle.etcs_flat.specs.Others.{other_fault}
-use Rattle.etcs_profiles.specs.Linkings.{linking_reading}
-use Rattle.etcs_profiles.specs.Level1Mas.{level1_ma_reading}
-use Rattle.etcs_profiles.specs.Level23Mas.{level23_ma_reading}
-use Rattle.etcs_profiles.specs.Gradients.{gradient_reading}
-use Rattle.etcs_profiles.specs.SpeedProfiles.{profile_reading}
-use Rattle.etcs_orders.specs.LevelOrders.{level_order_reading}
-use Rattle.etcs_orders.specs.ConditionalLevelOrders.{conditional_level_order_reading}
-use Rattle.etcs_orders.specs.PlainTexts.{plain_text_reading}
-use Rattle.etcs_orders.specs.FixedTexts.{fixed_text_reading}
-use Rattle.etcs_orders.specs.InfillLocations.{infill_location_reading}
+use Rattle.etcs_grouped.specs.Chains.{IsLinking, linking_reading, IsGradient, gradient_reading, IsSpeedProfile, profile_reading}
+use Rattle.etcs_grouped.specs.Level1Mas.{IsLevel1Ma, level1_ma_reading}
+use Rattle.etcs_grouped.specs.Level23Mas.{IsLevel23Ma, level23_ma_reading}
+use Rattle.etcs_grouped.specs.LevelOrders.{IsLevelOrder, level_order_reading}
+use Rattle.etcs_grouped.specs.ConditionalLevelOrders.{IsConditionalLevelOrder, conditional_level_order_reading}
+use Rattle.etcs_grouped.specs.PlainTexts.{IsPlainText, plain_text_reading}
+use Rattle.etcs_grouped.specs.FixedTexts.{IsFixedText, fixed_text_reading}
+use Rattle.etcs_grouped.specs.InfillLocations.{IsInfillLocation, infill_location_reading}
 use Rattle.etcs_packets.specs.declared.packet.Packet.{Packet}
 use Rattle.etcs_packets.specs.declared.packet.Packet.TheVariants.{VbcMarker, SystemVersion, Linking, Level1Ma, Level23Ma, Repositioning, Gradient, SpeedProfile, LevelOrder, SessionManagement, RadioNetwork, ConditionalLevelOrder, InhibitTsr, Tsr, TsrRevocation, PlainText, FixedText, DangerForShunting, StopShunting, InfillLocation, StopInSr, TrainRunningNumber, TsrGradient, InhibitConsistency, DefaultInformation, Other}
 
@@ -25,33 +24,50 @@ pub data PacketValue : Type 0 where
   typed : ℕ → ℕ → Reading → PacketValue
   kept : ℕ → ℕ → List Bool → PacketValue
 
+-- what a packet stands for, and what its own type says of it
+pub record Form : Type 1 where
+  pub value : PacketValue
+  pub made : Type 0
+
+abbrev form_of : PacketValue → Type 0 → Form
+form_of v h = record { value = v; made = h }
+
+abbrev flat_form : ℕ → FlatParts → Form
+flat_form nid p = form_of (typed nid p.dir (flat_reading nid p.numbers)) (flat_fault nid p.dir p.numbers ≡ None)
+
+abbrev pub form : Packet → Form
+form (VbcMarker n) = form_of (marker n) (IsTrue (admits NID_VBCMK n))
+form (SystemVersion p) = flat_form 2 p
+form (Linking p) = form_of (typed 5 p.dir (linking_reading p)) (IsLinking p)
+form (Level1Ma p) = form_of (typed 12 p.dir (level1_ma_reading p)) (IsLevel1Ma p)
+form (Level23Ma p) = form_of (typed 15 p.dir (level23_ma_reading p)) (IsLevel23Ma p)
+form (Repositioning p) = flat_form 16 p
+form (Gradient p) = form_of (typed 21 p.dir (gradient_reading p)) (IsGradient p)
+form (SpeedProfile p) = form_of (typed 27 p.dir (profile_reading p)) (IsSpeedProfile p)
+form (LevelOrder p) = form_of (typed 41 p.dir (level_order_reading p)) (IsLevelOrder p)
+form (SessionManagement p) = flat_form 42 p
+form (RadioNetwork p) = flat_form 45 p
+form (ConditionalLevelOrder p) = form_of (typed 46 p.dir (conditional_level_order_reading p)) (IsConditionalLevelOrder p)
+form (InhibitTsr p) = flat_form 64 p
+form (Tsr p) = flat_form 65 p
+form (TsrRevocation p) = flat_form 66 p
+form (PlainText p) = form_of (typed 72 p.dir (plain_text_reading p)) (IsPlainText p)
+form (FixedText p) = form_of (typed 76 p.dir (fixed_text_reading p)) (IsFixedText p)
+form (DangerForShunting p) = flat_form 132 p
+form (StopShunting p) = flat_form 135 p
+form (InfillLocation p) = form_of (typed 136 p.dir (infill_location_reading p)) (IsInfillLocation p)
+form (StopInSr p) = flat_form 137 p
+form (TrainRunningNumber p) = flat_form 140 p
+form (TsrGradient p) = flat_form 141 p
+form (InhibitConsistency p) = flat_form 145 p
+form (DefaultInformation p) = flat_form 254 p
+form (Other p) = form_of (kept p.nid p.dir p.body) (other_fault p.nid p.dir (length p.body) ≡ None)
+
 abbrev pub packet_value : Packet → PacketValue
-packet_value (VbcMarker m) = marker m
-packet_value (SystemVersion p) = typed 2 p.dir (flat_reading 2 p.numbers)
-packet_value (Linking p) = typed 5 p.dir (linking_reading p)
-packet_value (Level1Ma p) = typed 12 p.dir (level1_ma_reading p)
-packet_value (Level23Ma p) = typed 15 p.dir (level23_ma_reading p)
-packet_value (Repositioning p) = typed 16 p.dir (flat_reading 16 p.numbers)
-packet_value (Gradient p) = typed 21 p.dir (gradient_reading p)
-packet_value (SpeedProfile p) = typed 27 p.dir (profile_reading p)
-packet_value (LevelOrder p) = typed 41 p.dir (level_order_reading p)
-packet_value (SessionManagement p) = typed 42 p.dir (flat_reading 42 p.numbers)
-packet_value (RadioNetwork p) = typed 45 p.dir (flat_reading 45 p.numbers)
-packet_value (ConditionalLevelOrder p) = typed 46 p.dir (conditional_level_order_reading p)
-packet_value (InhibitTsr p) = typed 64 p.dir (flat_reading 64 p.numbers)
-packet_value (Tsr p) = typed 65 p.dir (flat_reading 65 p.numbers)
-packet_value (TsrRevocation p) = typed 66 p.dir (flat_reading 66 p.numbers)
-packet_value (PlainText p) = typed 72 p.dir (plain_text_reading p)
-packet_value (FixedText p) = typed 76 p.dir (fixed_text_reading p)
-packet_value (DangerForShunting p) = typed 132 p.dir (flat_reading 132 p.numbers)
-packet_value (StopShunting p) = typed 135 p.dir (flat_reading 135 p.numbers)
-packet_value (InfillLocation p) = typed 136 p.dir (infill_location_reading p)
-packet_value (StopInSr p) = typed 137 p.dir (flat_reading 137 p.numbers)
-packet_value (TrainRunningNumber p) = typed 140 p.dir (flat_reading 140 p.numbers)
-packet_value (TsrGradient p) = typed 141 p.dir (flat_reading 141 p.numbers)
-packet_value (InhibitConsistency p) = typed 145 p.dir (flat_reading 145 p.numbers)
-packet_value (DefaultInformation p) = typed 254 p.dir (flat_reading 254 p.numbers)
-packet_value (Other p) = kept p.nid p.dir p.body
+packet_value p = (form p).value
+
+abbrev pub IsMade : Packet → Type 0
+IsMade p = (form p).made
 
 -- NID_PACKET
 abbrev pub nid_of : PacketValue → ℕ
@@ -80,6 +96,10 @@ bits_of (kept nid dir b) = 23 + length b
 -- a typed packet of this number and direction
 abbrev pub IsTypedOf : ℕ → ℕ → PacketValue → Type 0
 IsTypedOf nid dir p = (nid_of p ≡ nid) × (dir_of p ≡ Some dir)
+
+-- what is called makes of each value of a type the packet that it is
+abbrev pub Makes : {P : Type 0} → (P → Packet → Type 0) → (P → Type 0) → ℕ → (P → ℕ) → (P → Reading) → Type 0
+Makes {P} post IsValue nid dir reading = (p : P) (q : Packet) → IsValue p → post p q → IsMade q × (packet_value q ≡ typed nid (dir p) (reading p))
 
 -- it is a packet
 abbrev pub IsPacket : PacketValue → Type 0

@@ -7,7 +7,7 @@ use crate::packet::Packet;
 use crate::parts::holds;
 
 /// Packets of one number, one direction and the same variables or kept bits are equal.
-#[tactic(auto, using(crate::specs::OnePacket::one_packet))]
+#[tactic(auto, using(crate::specs::laws::OnePacket::one_packet))]
 pub fn one_packet(first: &Packet, second: &Packet)
     ensures { packet_value first.now ≡ packet_value second.now → first.now ≡ second.now }
 {

@@ -2,15 +2,19 @@
 #![tactic(auto)]
 
 pub mod laws;
+mod list;
 mod packet;
 pub mod parts;
+mod sink;
 mod typed;
-mod variant;
+mod write;
 
 pub use etcs_flat::{Flat, Marker, Other};
-pub use etcs_orders::{ConditionalLevelOrder, FixedText, InfillLocation, LevelOrder, PlainText};
+pub use etcs_grouped::{
+    ConditionalLevelOrder, FixedText, Gradient, InfillLocation, Level1Ma, Level23Ma, LevelOrder,
+    Linking, PlainText, SpeedProfile,
+};
 pub use etcs_parts::{
     Authority, Differing, Level, LevelAck, Link, Section, Shown, Slope, Speed, TextFrame,
 };
-pub use etcs_profiles::{Gradient, Level1Ma, Level23Ma, Linking, SpeedProfile};
 pub use packet::Packet;

@@ -4,11 +4,14 @@ ghost use Rattle.std.specs.Prelude.{◌≡◌, ◌≤◌, Some, IfOk, IfErr};
 ghost use Rattle.etcs_vars.specs.declared.var.Var.TheVariants.{NID_VBCMK};
 ghost use Rattle.etcs_vars.specs.Faults.{number_fault};
 
-use crate::typed::typed_bits;
+use crate::list::{copied, of_each, packets};
+use crate::typed::{typed_bits, typed_nid};
+use etcs_bodies::Framed;
 use etcs_flat::{Flat, Marker, Other, parts};
-use etcs_orders::{ConditionalLevelOrder, FixedText, InfillLocation, LevelOrder, PlainText};
-use etcs_profiles::{Gradient, Level1Ma, Level23Ma, Linking, SpeedProfile};
-use etcs_rows::parts::Framed;
+use etcs_grouped::{
+    ConditionalLevelOrder, FixedText, Gradient, InfillLocation, Level1Ma, Level23Ma, LevelOrder,
+    Linking, PlainText, SpeedProfile,
+};
 use etcs_vars::BuildFault;
 use std::alloc::{AllocError, Global};
 
@@ -92,34 +95,7 @@ impl Packet {
     pub fn nid(&self) -> u8
         ensures { result ≡ nid_of (packet_value self.now) }
     {
-        match self {
-            Packet::VbcMarker(_) => 0,
-            Packet::SystemVersion(_) => 2,
-            Packet::Linking(_) => 5,
-            Packet::Level1Ma(_) => 12,
-            Packet::Level23Ma(_) => 15,
-            Packet::Repositioning(_) => 16,
-            Packet::Gradient(_) => 21,
-            Packet::SpeedProfile(_) => 27,
-            Packet::LevelOrder(_) => 41,
-            Packet::SessionManagement(_) => 42,
-            Packet::RadioNetwork(_) => 45,
-            Packet::ConditionalLevelOrder(_) => 46,
-            Packet::InhibitTsr(_) => 64,
-            Packet::Tsr(_) => 65,
-            Packet::TsrRevocation(_) => 66,
-            Packet::PlainText(_) => 72,
-            Packet::FixedText(_) => 76,
-            Packet::DangerForShunting(_) => 132,
-            Packet::StopShunting(_) => 135,
-            Packet::InfillLocation(_) => 136,
-            Packet::StopInSr(_) => 137,
-            Packet::TrainRunningNumber(_) => 140,
-            Packet::TsrGradient(_) => 141,
-            Packet::InhibitConsistency(_) => 145,
-            Packet::DefaultInformation(_) => 254,
-            Packet::Other(packet) => packet.nid(),
-        }
+        packets!(of_each, self, _ => 0, packet => typed_nid(packet), packet => packet.nid())
     }
 
     /// How many bits the packet takes, its frame among them: at most 8,191.
@@ -127,34 +103,7 @@ impl Packet {
         ensures bits { result ≡ bits_of (packet_value self.now) }
         ensures small { result ≤ 8191 }
     {
-        match self {
-            Packet::VbcMarker(_) => 14,
-            Packet::SystemVersion(packet) => typed_bits(packet),
-            Packet::Linking(packet) => typed_bits(packet),
-            Packet::Level1Ma(packet) => typed_bits(packet),
-            Packet::Level23Ma(packet) => typed_bits(packet),
-            Packet::Repositioning(packet) => typed_bits(packet),
-            Packet::Gradient(packet) => typed_bits(packet),
-            Packet::SpeedProfile(packet) => typed_bits(packet),
-            Packet::LevelOrder(packet) => typed_bits(packet),
-            Packet::SessionManagement(packet) => typed_bits(packet),
-            Packet::RadioNetwork(packet) => typed_bits(packet),
-            Packet::ConditionalLevelOrder(packet) => typed_bits(packet),
-            Packet::InhibitTsr(packet) => typed_bits(packet),
-            Packet::Tsr(packet) => typed_bits(packet),
-            Packet::TsrRevocation(packet) => typed_bits(packet),
-            Packet::PlainText(packet) => typed_bits(packet),
-            Packet::FixedText(packet) => typed_bits(packet),
-            Packet::DangerForShunting(packet) => typed_bits(packet),
-            Packet::StopShunting(packet) => typed_bits(packet),
-            Packet::InfillLocation(packet) => typed_bits(packet),
-            Packet::StopInSr(packet) => typed_bits(packet),
-            Packet::TrainRunningNumber(packet) => typed_bits(packet),
-            Packet::TsrGradient(packet) => typed_bits(packet),
-            Packet::InhibitConsistency(packet) => typed_bits(packet),
-            Packet::DefaultInformation(packet) => typed_bits(packet),
-            Packet::Other(packet) => 23 + packet.bits(),
-        }
+        packets!(of_each, self, _ => 14, packet => typed_bits(packet), packet => 23 + packet.bits())
     }
 
     /// An equal packet.
@@ -165,45 +114,6 @@ impl Packet {
     pub fn try_clone(&self, alloc: Global) -> Result<Packet, AllocError>
         ensures { IfOk result (λ p. p ≡ self.now) }
     {
-        Ok(match self {
-            Packet::VbcMarker(marker) => Packet::VbcMarker(*marker),
-            Packet::SystemVersion(packet) => Packet::SystemVersion(packet.try_clone(alloc)?),
-            Packet::Linking(packet) => Packet::Linking(packet.try_clone(alloc)?),
-            Packet::Level1Ma(packet) => Packet::Level1Ma(packet.try_clone(alloc)?),
-            Packet::Level23Ma(packet) => Packet::Level23Ma(packet.try_clone(alloc)?),
-            Packet::Repositioning(packet) => Packet::Repositioning(packet.try_clone(alloc)?),
-            Packet::Gradient(packet) => Packet::Gradient(packet.try_clone(alloc)?),
-            Packet::SpeedProfile(packet) => Packet::SpeedProfile(packet.try_clone(alloc)?),
-            Packet::LevelOrder(packet) => Packet::LevelOrder(packet.try_clone(alloc)?),
-            Packet::SessionManagement(packet) => Packet::SessionManagement(packet.try_clone(
-                alloc,
-            )?),
-            Packet::RadioNetwork(packet) => Packet::RadioNetwork(packet.try_clone(alloc)?),
-            Packet::ConditionalLevelOrder(packet) => Packet::ConditionalLevelOrder(packet.try_clone(
-                alloc,
-            )?),
-            Packet::InhibitTsr(packet) => Packet::InhibitTsr(packet.try_clone(alloc)?),
-            Packet::Tsr(packet) => Packet::Tsr(packet.try_clone(alloc)?),
-            Packet::TsrRevocation(packet) => Packet::TsrRevocation(packet.try_clone(alloc)?),
-            Packet::PlainText(packet) => Packet::PlainText(packet.try_clone(alloc)?),
-            Packet::FixedText(packet) => Packet::FixedText(packet.try_clone(alloc)?),
-            Packet::DangerForShunting(packet) => Packet::DangerForShunting(packet.try_clone(
-                alloc,
-            )?),
-            Packet::StopShunting(packet) => Packet::StopShunting(packet.try_clone(alloc)?),
-            Packet::InfillLocation(packet) => Packet::InfillLocation(packet.try_clone(alloc)?),
-            Packet::StopInSr(packet) => Packet::StopInSr(packet.try_clone(alloc)?),
-            Packet::TrainRunningNumber(packet) => Packet::TrainRunningNumber(packet.try_clone(
-                alloc,
-            )?),
-            Packet::TsrGradient(packet) => Packet::TsrGradient(packet.try_clone(alloc)?),
-            Packet::InhibitConsistency(packet) => Packet::InhibitConsistency(packet.try_clone(
-                alloc,
-            )?),
-            Packet::DefaultInformation(packet) => Packet::DefaultInformation(packet.try_clone(
-                alloc,
-            )?),
-            Packet::Other(packet) => Packet::Other(packet.try_clone(alloc)?),
-        })
+        Ok(packets!(copied, self, alloc))
     }
 }

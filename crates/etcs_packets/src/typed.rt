@@ -1,12 +1,16 @@
 //! What every typed packet does alike.
 
-ghost use Rattle.std.specs.Prelude.{◌≡◌, ◌≤◌, ◌+◌, ℕ, List, None, length};
-ghost use Rattle.etcs_rows.specs.declared.row.Way.TheVariants.{ToTrain};
-ghost use Rattle.etcs_rows.specs.Rows.{row_to};
-ghost use Rattle.etcs_vars.specs.Reading.{Reading, spelled};
-ghost use Rattle.etcs_rows.specs.Typed.{IsTyped, IsFramed};
+ghost use Rattle.std.specs.Prelude.{◌≡◌, ◌≤◌, ◌+◌, ℕ, List, None, length, IfOk, IfSome, IsNone};
+ghost use Rattle.etcs_tables.specs.declared.row.Way.TheVariants.{ToTrain};
+ghost use Rattle.etcs_tables.specs.Rows.{row_to};
+ghost use Rattle.etcs_vars.specs.Reading.{Reading, numbers, spelled};
+ghost use Rattle.etcs_tables.specs.Typed.{IsTyped, IsFramed};
+ghost use Rattle.etcs_packets.specs.PacketValues.{packet_value, variables_of, IsTypedOf, IsMade, Makes};
 
-use etcs_rows::parts::Framed;
+use crate::packet::Packet;
+use etcs_bits::BitSlice;
+use etcs_bodies::{Framed, Packetlike};
+use std::alloc::{AllocError, Global};
 
 /// The bits of NID_PACKET, Q_DIR and L_PACKET.
 const FRAME_BITS: usize = 23;
@@ -35,4 +39,53 @@ pub(crate) fn no_row(nid: u8)
     ensures bits { (dir : ℕ) (r : Reading) → IsFramed ToTrain nid dir r → ⊥ }
 {
     let _ = nid;
+}
+
+/// NID_PACKET of a typed packet.
+pub(crate) fn typed_nid<P: Packetlike>(_packet: &P) -> u8
+    ensures { result ≡ P.NID }
+{
+    P::NID
+}
+
+/// The packet of a direction and these numbers of one type, if there is one; `packet` makes it.
+#[inline(never)]
+pub(crate) fn packet_of_fields<P: Framed, F: FnOnce(P) -> Packet>(
+    alloc: Global,
+    dir: u8,
+    fields: &[u64],
+    packet: F,
+) -> Result<Option<Packet>, AllocError>
+    requires callable { F.IsAlwaysCallable packet }
+    requires value { Makes (F.post packet) P.is_value P.NID P.direction P.reading_of }
+    ensures made { IfOk result (λ o. IfSome o (λ p. IsMade p)) }
+    ensures some { IfOk result (λ o. IfSome o (λ p. IsTypedOf P.NID dir (packet_value p) × (numbers (variables_of (packet_value p)) ≡ fields.now))) }
+    ensures none { IfOk result (λ o. IsNone o → IsTyped P.WAY P.NID dir fields.now → ⊥) }
+{
+    match P::from_fields(alloc, dir, fields) {
+        Ok(Some(typed)) => Ok(Some(packet(typed))),
+        Ok(None) => Ok(None),
+        Err(error) => Err(error),
+    }
+}
+
+/// The packet of a direction and these bits of one type, if there is one; `packet` makes it.
+#[inline(never)]
+pub(crate) fn packet_of_bits<P: Framed, F: FnOnce(P) -> Packet>(
+    alloc: Global,
+    dir: u8,
+    bits: BitSlice<'_>,
+    packet: F,
+) -> Result<Option<Packet>, AllocError>
+    requires callable { F.IsAlwaysCallable packet }
+    requires value { Makes (F.post packet) P.is_value P.NID P.direction P.reading_of }
+    ensures made { IfOk result (λ o. IfSome o (λ p. IsMade p)) }
+    ensures some { IfOk result (λ o. IfSome o (λ p. IsTypedOf P.NID dir (packet_value p) × (spelled (variables_of (packet_value p)) ≡ bits.entry))) }
+    ensures none { IfOk result (λ o. IsNone o → (r : Reading) → IsFramed P.WAY P.NID dir r → spelled r ≡ bits.entry → ⊥) }
+{
+    match P::from_bits(alloc, dir, bits) {
+        Ok(Some(typed)) => Ok(Some(packet(typed))),
+        Ok(None) => Ok(None),
+        Err(error) => Err(error),
+    }
 }

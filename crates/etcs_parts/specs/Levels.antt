@@ -1,19 +1,17 @@
 -- A level, of packets 41 and 46, without and with its length of acknowledgement.
-use Rattle.std.proofs.Common.{◌≤◌, arith, ◌≡◌, ℕ, [], ◌∷◌, ◌++◌, Option, Some, None, refl}
+use Rattle.std.proofs.Common.{◌≡◌, ℕ, [], ◌∷◌, ◌++◌, Option, Some, None}
 use Rattle.std.specs.Prelude.{◌==◌}
 use Rattle.std.specs.Option.{is_some}
 use Rattle.etcs_vars.specs.declared.var.Var.TheVariants.{M_LEVELTR, NID_NTC, L_ACKLEVELTR}
 use Rattle.etcs_vars.specs.declared.fault.BuildFault.{BuildFault}
 use Rattle.etcs_vars.specs.Reading.{Reading}
-use Rattle.etcs_rows.specs.declared.item.Test.TheVariants.{IsOne}
-use Rattle.etcs_rows.specs.Rows.{level, level_ack}
-use Rattle.etcs_parts.specs.Faults.{◌or_else◌, number_fault}
-use Rattle.etcs_parts.specs.Takes.{none_of}
-use Rattle.etcs_parts.specs.Codecs.{Codes, number, both, both_from, IsGroup, group_of, group_from, group_reading, form, form_from}
-use Rattle.etcs_parts.specs.Taking.{Left, next_number}
-use Rattle.etcs_parts.specs.Groups.{group_fault, guarded_is, guarded_none}
-use Rattle.etcs_parts.specs.Guards.{guard_fault}
-use Rattle.etcs_parts.specs.Repeats.{bit_count, bit_count-append}
+use Rattle.etcs_tables.specs.declared.item.Test.TheVariants.{IsOne}
+use Rattle.etcs_tables.specs.Rows.{level}
+use Rattle.etcs_bodies.specs.Faults.{◌or_else◌, number_fault}
+use Rattle.etcs_bodies.specs.Codecs.{both_from, group_from, form_from}
+use Rattle.etcs_bodies.specs.Taking.{Left, next_number}
+use Rattle.etcs_bodies.specs.Groups.{group_fault}
+use Rattle.etcs_bodies.specs.Guards.{guard_fault}
 
 pub record LevelParts : Type 0 where
   pub m_leveltr : ℕ
@@ -46,28 +44,6 @@ level_of n = level_parts n.0 n.1
 unfoldable pub level_from : Left → Option (LevelParts × Left)
 level_from = form_from level_of (group_from M_LEVELTR IsOne (next_number NID_NTC))
 
--- ---- A level is what its row spells.
-
-same_system : (m : ℕ) (o : Option ℕ) → group_reading M_LEVELTR (λ n. (NID_NTC, n) ∷ []) (m, o) ≡ system_reading m o
-same_system m None = refl
-same_system m (Some n) = refl
-
-level_is : (p : LevelParts) → IsLevel p → IsGroup M_LEVELTR IsOne (λ n. number_fault NID_NTC n ≡ None) (p.m_leveltr, p.nid_ntc)
-level_is p h = guarded_is M_LEVELTR IsOne (number_fault NID_NTC) p.m_leveltr p.nid_ntc h
-
-pub level_codes : Codes level IsLevel level_reading level_from
-unfolding level_from
-level_codes =
-    form (group_of M_LEVELTR IsOne (number NID_NTC))
-    (record {
-      back = λ p. (p.m_leveltr, p.nid_ntc);
-      there = λ p. refl;
-      again = λ v. refl;
-      is = λ p h. level_is p h;
-      so = λ v h. guarded_none M_LEVELTR IsOne (number_fault NID_NTC) v.0 v.1 h;
-      same = λ p. same_system p.m_leveltr p.nid_ntc;
-    })
-
 -- ---- With the length of acknowledgement.
 
 pub record LevelAckParts : Type 0 where
@@ -91,30 +67,3 @@ level_ack_of n = record { level = n.0; l_ackleveltr = n.1 }
 
 unfoldable pub level_ack_from : Left → Option (LevelAckParts × Left)
 level_ack_from = form_from level_ack_of (both_from level_from (next_number L_ACKLEVELTR))
-
-pub level_ack_codes : Codes level_ack IsLevelAck level_ack_reading level_ack_from
-unfolding level_ack_from
-level_ack_codes =
-    form (both level_codes (number L_ACKLEVELTR))
-    (record {
-      back = λ p. (p.level, p.l_ackleveltr);
-      there = λ p. refl;
-      again = λ v. refl;
-      is = λ p h. none_of (level_fault p.level) (number_fault L_ACKLEVELTR p.l_ackleveltr) h;
-      so = λ v h. rw (h.0, h.1) refl;
-      same = λ p. refl;
-    })
-
--- ---- Their bits.
-
-system_most : (m : ℕ) (o : Option ℕ) → bit_count (system_reading m o) ≤ 11
-system_most m None = omega arith
-system_most m (Some n) = omega arith
-
-pub level_most : (p : LevelParts) → bit_count (level_reading p) ≤ 11
-level_most p = system_most p.m_leveltr p.nid_ntc
-
-pub level_ack_most : (p : LevelAckParts) → bit_count (level_ack_reading p) ≤ 26
-level_ack_most p =
-    let both = bit_count-append (level_reading p.level) ((L_ACKLEVELTR, p.l_ackleveltr) ∷ []) in
-    omega (arith, level_most p.level)

@@ -8,11 +8,8 @@ use crate::authority_groups::{
     check_danger_point, check_end_timer, check_overlap, send_danger_point, send_end_timer,
     send_overlap, take_danger_point, take_end_timer, take_overlap,
 };
-use crate::faults::check_count;
-use crate::items::Items;
-use crate::numbers::Numbers;
-use crate::part::{Part, clone_all, hold_all, send_list, take_list};
 use crate::section::Section;
+use etcs_bodies::{Items, Numbers, Part, check_count, clone_all, hold_all, send_list, take_list};
 use etcs_vars::parts::{Sink, Variables, bits_of_all};
 use etcs_vars::{BuildFault, Var};
 use std::alloc::{AllocError, Global};
@@ -126,7 +123,7 @@ impl Authority {
     }
 
     /// How many bits its groups behind flags take.
-    #[tactic(auto, using(crate::specs::Authorities::groups_bits))]
+    #[tactic(auto, using(crate::specs::laws::Authorities::groups_bits))]
     fn group_bits(&self) -> usize
         ensures bits { result ≡ length (spelled (end_timer_reading self.now.end_timer ++ (danger_reading self.now.danger_point ++ overlap_reading self.now.overlap))) }
         ensures small { result ≤ 97 }
@@ -163,7 +160,7 @@ impl Variables for Authority {
 
     ghost reading_of = { λ a. authority_reading a };
 
-    #[tactic(auto, using(crate::specs::Authorities::authority_bits))]
+    #[tactic(auto, using(crate::specs::laws::Authorities::authority_bits))]
     fn bits(&self) -> usize {
         5 + bits_of_all(self.sections.as_slice()) + self.end.bits() + self.group_bits()
     }

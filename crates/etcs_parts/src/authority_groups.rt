@@ -4,8 +4,7 @@
 ghost use Rattle.std.specs.Prelude.{◌≡◌, None, Some, IfErr, IfSome, IfNone, OnOk, OnErr};
 ghost use Rattle.etcs_parts.specs.Authorities.{end_timer_fault, end_timer_reading, end_timer_from, danger_fault, danger_reading, danger_from, overlap_fault, overlap_reading, overlap_from};
 
-use crate::faults::check;
-use crate::numbers::Numbers;
+use etcs_bodies::{Numbers, check};
 use etcs_vars::parts::Sink;
 use etcs_vars::{BuildFault, Var};
 use std::alloc::AllocError;

@@ -3,9 +3,7 @@
 ghost use Rattle.std.specs.Prelude.{◌≡◌, ◌++◌, None, Some, IfOk, IfErr, IfSome, IfNone};
 ghost use Rattle.etcs_parts.specs.Differings.{category_of};
 
-use crate::faults::check;
-use crate::numbers::Numbers;
-use crate::part::Part;
+use etcs_bodies::{Numbers, Part, check};
 use etcs_vars::parts::{Sink, Variables};
 use etcs_vars::{BuildFault, Var};
 use std::alloc::{AllocError, Global};
@@ -118,7 +116,7 @@ impl Variables for Differing {
 
     ghost reading_of = { λ d. differing_reading d };
 
-    #[tactic(auto, using(crate::specs::Differings::differing_spelled))]
+    #[tactic(auto, using(crate::specs::laws::Differings::differing_spelled))]
     fn bits(&self) -> usize {
         13
     }

@@ -1,6 +1,4 @@
-//! Laws, each the contract of a function: `==` is equality of values.
-
-ghost use Rattle.std.specs.Prelude.{◌≡◌, ◌↔◌, IsTrue};
+//! `==` of each part is equality of values.
 
 use crate::authority::Authority;
 use crate::differing::Differing;
@@ -12,73 +10,64 @@ use crate::shown::Shown;
 use crate::slope::Slope;
 use crate::speed::Speed;
 use crate::text_frame::TextFrame;
+use etcs_bodies::laws::Exact;
 
-/// `==` of authorities is equality of their sections, time-outs, danger points and overlaps.
-pub fn exact_authority(first: &Authority, second: &Authority) -> bool
-    ensures { IsTrue result ↔ (first.now ≡ second.now) }
-{
-    first == second
+impl Exact for Authority {
+    ghost use Rattle.etcs_parts.specs.laws.Equality.{authority_exact};
+
+    ghost exact = { authority_exact };
 }
 
-/// `==` of speeds of a category is equality of category and speed.
-pub fn exact_differing(first: &Differing, second: &Differing) -> bool
-    ensures { IsTrue result ↔ (first.now ≡ second.now) }
-{
-    first == second
+impl Exact for Differing {
+    ghost use Rattle.etcs_parts.specs.laws.Equality.{differing_exact};
+
+    ghost exact = { differing_exact };
 }
 
-/// `==` of levels is equality of level and national system.
-pub fn exact_level(first: &Level, second: &Level) -> bool
-    ensures { IsTrue result ↔ (first.now ≡ second.now) }
-{
-    first == second
+impl Exact for Level {
+    ghost use Rattle.etcs_parts.specs.laws.Equality.{level_exact};
+
+    ghost exact = { level_exact };
 }
 
-/// `==` of levels to acknowledge is equality of level and distance.
-pub fn exact_level_ack(first: &LevelAck, second: &LevelAck) -> bool
-    ensures { IsTrue result ↔ (first.now ≡ second.now) }
-{
-    first == second
+impl Exact for LevelAck {
+    ghost use Rattle.etcs_parts.specs.laws.Equality.{level_ack_exact};
+
+    ghost exact = { level_ack_exact };
 }
 
-/// `==` of links is equality of all their numbers.
-pub fn exact_link(first: &Link, second: &Link) -> bool
-    ensures { IsTrue result ↔ (first.now ≡ second.now) }
-{
-    first == second
+impl Exact for Link {
+    ghost use Rattle.etcs_parts.specs.laws.Equality.{link_exact};
+
+    ghost exact = { link_exact };
 }
 
-/// `==` of sections is equality of length and timer.
-pub fn exact_section(first: &Section, second: &Section) -> bool
-    ensures { IsTrue result ↔ (first.now ≡ second.now) }
-{
-    first == second
+impl Exact for Section {
+    ghost use Rattle.etcs_parts.specs.laws.Equality.{section_exact};
+
+    ghost exact = { section_exact };
 }
 
-/// `==` of conditions of a text is equality of all their numbers.
-pub fn exact_shown(first: &Shown, second: &Shown) -> bool
-    ensures { IsTrue result ↔ (first.now ≡ second.now) }
-{
-    first == second
+impl Exact for Shown {
+    ghost use Rattle.etcs_parts.specs.laws.Equality.{shown_exact};
+
+    ghost exact = { shown_exact };
 }
 
-/// `==` of slopes is equality of distance, direction and gradient.
-pub fn exact_slope(first: &Slope, second: &Slope) -> bool
-    ensures { IsTrue result ↔ (first.now ≡ second.now) }
-{
-    first == second
+impl Exact for Slope {
+    ghost use Rattle.etcs_parts.specs.laws.Equality.{slope_exact};
+
+    ghost exact = { slope_exact };
 }
 
-/// `==` of speeds is equality of all their numbers and of the speeds that differ, in order.
-pub fn exact_speed(first: &Speed, second: &Speed) -> bool
-    ensures { IsTrue result ↔ (first.now ≡ second.now) }
-{
-    first == second
+impl Exact for Speed {
+    ghost use Rattle.etcs_parts.specs.laws.Equality.{speed_exact};
+
+    ghost exact = { speed_exact };
 }
 
-/// `==` of frames of a text is equality of all their numbers and conditions.
-pub fn exact_text_frame(first: &TextFrame, second: &TextFrame) -> bool
-    ensures { IsTrue result ↔ (first.now ≡ second.now) }
-{
-    first == second
+impl Exact for TextFrame {
+    ghost use Rattle.etcs_parts.specs.laws.Equality.{text_frame_exact};
+
+    ghost exact = { text_frame_exact };
 }

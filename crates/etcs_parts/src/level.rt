@@ -2,10 +2,7 @@
 
 ghost use Rattle.std.specs.Prelude.{◌≡◌, ◌++◌, None, Some, IfOk, IfErr, IfSome, IfNone};
 
-use crate::faults::check;
-use crate::guards::check_guard;
-use crate::numbers::Numbers;
-use crate::part::Part;
+use etcs_bodies::{Entry, Numbers, Part, check, check_guard};
 use etcs_vars::parts::{Sink, Variables};
 use etcs_vars::{BuildFault, Var};
 use std::alloc::{AllocError, Global};
@@ -70,7 +67,7 @@ impl Level {
     }
 
     /// The level that the numbers begin with.
-    #[tactic(auto, using(crate::specs::Guards::guard_ok), unfolding(crate::specs::Levels::level_from, crate::specs::Guards::guard_fault))]
+    #[tactic(auto, using(etcs_bodies::specs::laws::Guards::guard_ok), unfolding(crate::specs::Levels::level_from, etcs_bodies::specs::Guards::guard_fault))]
     pub(crate) fn from_numbers(numbers: &mut Numbers) -> Option<Level>
         ensures part { IfSome result (λ l. IsLevel l) }
         ensures from { IfSome result (λ l. level_from numbers.old ≡ Some (l, numbers.new)) }
@@ -91,7 +88,7 @@ impl Variables for Level {
 
     ghost reading_of = { λ p. level_reading p };
 
-    #[tactic(auto, using(crate::specs::Repeats::bit_count_is))]
+    #[tactic(auto, using(etcs_bodies::specs::laws::Repeats::bit_count_is))]
     fn bits(&self) -> usize {
         match self.nid_ntc {
             None => 3,
@@ -128,4 +125,22 @@ impl Part for Level {
     fn try_clone(&self, _alloc: Global) -> Result<Level, AllocError> {
         Ok(*self)
     }
+}
+
+impl Entry for Level {
+    ghost use Rattle.std.specs.Prelude.{refl};
+    ghost use Rattle.etcs_tables.specs.Rows.{level};
+    ghost use Rattle.etcs_parts.specs.laws.Levels.{level_codes, level_most};
+
+    const MOST: usize = 11;
+
+    ghost MOST = { 11 };
+
+    ghost row = { level };
+
+    ghost codes = { level_codes };
+
+    ghost most = { λ p h. level_most p };
+
+    ghost short = { refl };
 }

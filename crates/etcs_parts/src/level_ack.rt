@@ -2,10 +2,8 @@
 
 ghost use Rattle.std.specs.Prelude.{◌≡◌, ◌++◌, None, Some, IfOk, IfErr, IfSome, IfNone};
 
-use crate::faults::check;
 use crate::level::Level;
-use crate::numbers::Numbers;
-use crate::part::Part;
+use etcs_bodies::{Entry, Numbers, Part, check};
 use etcs_vars::parts::{Sink, Variables};
 use etcs_vars::{BuildFault, Var};
 use std::alloc::{AllocError, Global};
@@ -108,7 +106,7 @@ impl Variables for LevelAck {
 
     ghost reading_of = { λ p. level_ack_reading p };
 
-    #[tactic(auto, using(crate::specs::Repeats::bit_count_is))]
+    #[tactic(auto, using(etcs_bodies::specs::laws::Repeats::bit_count_is))]
     fn bits(&self) -> usize {
         self.level.bits() + 15
     }
@@ -137,4 +135,22 @@ impl Part for LevelAck {
     fn try_clone(&self, _alloc: Global) -> Result<LevelAck, AllocError> {
         Ok(*self)
     }
+}
+
+impl Entry for LevelAck {
+    ghost use Rattle.std.specs.Prelude.{refl};
+    ghost use Rattle.etcs_tables.specs.Rows.{level_ack};
+    ghost use Rattle.etcs_parts.specs.laws.Levels.{level_ack_codes, level_ack_most};
+
+    const MOST: usize = 26;
+
+    ghost MOST = { 26 };
+
+    ghost row = { level_ack };
+
+    ghost codes = { level_ack_codes };
+
+    ghost most = { λ p h. level_ack_most p };
+
+    ghost short = { refl };
 }

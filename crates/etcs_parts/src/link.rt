@@ -2,9 +2,7 @@
 
 ghost use Rattle.std.specs.Prelude.{◌≡◌, ◌++◌, None, Some, IfOk, IfErr, IfSome, IfNone};
 
-use crate::faults::check;
-use crate::numbers::Numbers;
-use crate::part::Part;
+use etcs_bodies::{Entry, Numbers, Part, check};
 use etcs_vars::parts::{Sink, Variables};
 use etcs_vars::{BuildFault, Var};
 use std::alloc::{AllocError, Global};
@@ -146,7 +144,7 @@ impl Variables for Link {
 
     ghost reading_of = { λ l. link_reading l };
 
-    #[tactic(auto, using(crate::specs::Links::link_bits_near, crate::specs::Links::link_bits_far))]
+    #[tactic(auto, using(crate::specs::laws::Links::link_bits_near, crate::specs::laws::Links::link_bits_far))]
     fn bits(&self) -> usize {
         match self.nid_c {
             None => 39,
@@ -195,4 +193,22 @@ impl Part for Link {
     fn try_clone(&self, _alloc: Global) -> Result<Link, AllocError> {
         Ok(*self)
     }
+}
+
+impl Entry for Link {
+    ghost use Rattle.std.specs.Prelude.{refl};
+    ghost use Rattle.etcs_tables.specs.Rows.{link};
+    ghost use Rattle.etcs_parts.specs.laws.Links.{link_codes, link_most};
+
+    const MOST: usize = 49;
+
+    ghost MOST = { 49 };
+
+    ghost row = { link };
+
+    ghost codes = { link_codes };
+
+    ghost most = { λ p h. link_most p };
+
+    ghost short = { refl };
 }

@@ -3,9 +3,7 @@
 ghost use Rattle.std.specs.Prelude.{◌≡◌, ◌++◌, None, Some, IfOk, IfErr, IfSome, IfNone, OnOk, OnErr};
 ghost use Rattle.etcs_parts.specs.Sections.{timer_fault, timer_reading, timer_from};
 
-use crate::faults::check;
-use crate::numbers::Numbers;
-use crate::part::Part;
+use etcs_bodies::{Numbers, Part, check};
 use etcs_vars::parts::{Sink, Variables};
 use etcs_vars::{BuildFault, Var};
 use std::alloc::{AllocError, Global};
@@ -89,7 +87,7 @@ impl Section {
     }
 
     /// The end section that the numbers begin with.
-    #[tactic(auto, unfolding(crate::specs::Sections::end_from), using(crate::specs::Sections::same_length))]
+    #[tactic(auto, unfolding(crate::specs::Sections::end_from), using(crate::specs::laws::Sections::same_length))]
     pub(crate) fn end_from_numbers(numbers: &mut Numbers) -> Option<Section>
         ensures part { IfSome result (λ s. IsSection s) }
         ensures from { IfSome result (λ s. end_from numbers.old ≡ Some (s, numbers.new)) }
@@ -145,7 +143,7 @@ impl Variables for Section {
 
     ghost reading_of = { λ p. section_reading p };
 
-    #[tactic(auto, using(crate::specs::Sections::section_bits_short, crate::specs::Sections::section_bits_long))]
+    #[tactic(auto, using(crate::specs::laws::Sections::section_bits_short, crate::specs::laws::Sections::section_bits_long))]
     fn bits(&self) -> usize {
         match self.timer {
             None => 16,

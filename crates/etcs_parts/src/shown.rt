@@ -2,10 +2,7 @@
 
 ghost use Rattle.std.specs.Prelude.{◌≡◌, ◌++◌, None, Some, IfOk, IfErr, IfSome, IfNone};
 
-use crate::faults::check;
-use crate::guards::check_guard;
-use crate::numbers::Numbers;
-use crate::part::Part;
+use etcs_bodies::{Numbers, Part, check, check_guard};
 use etcs_vars::parts::{Sink, Variables};
 use etcs_vars::{BuildFault, Var};
 use std::alloc::{AllocError, Global};
@@ -88,7 +85,7 @@ impl Shown {
     }
 
     /// The value that the numbers begin with.
-    #[tactic(auto, using(crate::specs::Guards::guard_ok), unfolding(crate::specs::Displays::shown_from, crate::specs::Guards::guard_fault))]
+    #[tactic(auto, using(etcs_bodies::specs::laws::Guards::guard_ok), unfolding(crate::specs::Displays::shown_from, etcs_bodies::specs::Guards::guard_fault))]
     pub(crate) fn from_numbers(numbers: &mut Numbers) -> Option<Shown>
         ensures part { IfSome result (λ s. IsShown s) }
         ensures from { IfSome result (λ s. shown_from numbers.old ≡ Some (s, numbers.new)) }
@@ -114,7 +111,7 @@ impl Variables for Shown {
 
     ghost reading_of = { λ p. shown_reading p };
 
-    #[tactic(auto, using(crate::specs::Displays::shown_bits_short, crate::specs::Displays::shown_bits_long))]
+    #[tactic(auto, using(crate::specs::laws::Displays::shown_bits_short, crate::specs::laws::Displays::shown_bits_long))]
     fn bits(&self) -> usize {
         match self.nid_ntc {
             None => 7,

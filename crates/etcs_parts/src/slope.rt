@@ -2,9 +2,7 @@
 
 ghost use Rattle.std.specs.Prelude.{◌≡◌, ◌++◌, None, Some, IfOk, IfErr, IfSome, IfNone};
 
-use crate::faults::check;
-use crate::numbers::Numbers;
-use crate::part::Part;
+use etcs_bodies::{Entry, Numbers, Part, check};
 use etcs_vars::parts::{Sink, Variables};
 use etcs_vars::{BuildFault, Var};
 use std::alloc::{AllocError, Global};
@@ -100,7 +98,7 @@ impl Variables for Slope {
 
     ghost reading_of = { λ p. slope_reading p };
 
-    #[tactic(auto, using(crate::specs::Slopes::slope_bits))]
+    #[tactic(auto, using(crate::specs::laws::Slopes::slope_bits))]
     fn bits(&self) -> usize {
         24
     }
@@ -132,4 +130,22 @@ impl Part for Slope {
     fn try_clone(&self, _alloc: Global) -> Result<Slope, AllocError> {
         Ok(*self)
     }
+}
+
+impl Entry for Slope {
+    ghost use Rattle.std.specs.Prelude.{refl};
+    ghost use Rattle.etcs_tables.specs.Rows.{slope};
+    ghost use Rattle.etcs_parts.specs.laws.Slopes.{slope_codes, slope_most};
+
+    const MOST: usize = 24;
+
+    ghost MOST = { 24 };
+
+    ghost row = { slope };
+
+    ghost codes = { slope_codes };
+
+    ghost most = { λ p h. slope_most p };
+
+    ghost short = { refl };
 }

@@ -3,10 +3,9 @@
 ghost use Rattle.std.specs.Prelude.{◌≡◌, Some, OnOk, IfOk, IfErr};
 
 use crate::differing::Differing;
-use crate::faults::{check, check_count};
-use crate::items::Items;
-use crate::numbers::Numbers;
-use crate::part::{Part, clone_all, hold_all, send_list, take_list};
+use etcs_bodies::{
+    Entry, Items, Numbers, Part, check, check_count, clone_all, hold_all, send_list, take_list,
+};
 use etcs_vars::parts::{Sink, Variables};
 use etcs_vars::{BuildFault, Var};
 use std::alloc::{AllocError, Global};
@@ -122,7 +121,7 @@ impl Variables for Speed {
 
     ghost reading_of = { λ s. speed_reading s };
 
-    #[tactic(auto, using(crate::specs::Speeds::speed_spelled, crate::specs::Speeds::few_entries))]
+    #[tactic(auto, using(crate::specs::laws::Speeds::speed_spelled, crate::specs::laws::Speeds::few_entries))]
     fn bits(&self) -> usize {
         28 + 13 * self.differing.len()
     }
@@ -178,4 +177,22 @@ impl Part for Speed {
             differing: Items::from_vec(clone_all(alloc, self.differing.as_slice())?),
         })
     }
+}
+
+impl Entry for Speed {
+    ghost use Rattle.std.specs.Prelude.{refl};
+    ghost use Rattle.etcs_tables.specs.Rows.{speed};
+    ghost use Rattle.etcs_parts.specs.laws.Speeds.{speed_codes, speed_most};
+
+    const MOST: usize = 431;
+
+    ghost MOST = { 431 };
+
+    ghost row = { speed };
+
+    ghost codes = { speed_codes };
+
+    ghost most = { speed_most };
+
+    ghost short = { refl };
 }

@@ -3,11 +3,8 @@
 ghost use Rattle.std.specs.Prelude.{◌≡◌, None, Some, IfOk, IfErr, IfSome, IfNone, OnOk, OnErr, ◌≤◌};
 ghost use Rattle.etcs_parts.specs.TextFrames.{IsReport, report_from, IsConfirm, confirm_from, confirmed_fault, confirmed_reading, confirmed_count, confirmed_from};
 
-use crate::faults::check;
-use crate::guards::check_guard;
-use crate::numbers::Numbers;
-use crate::part::Part;
 use crate::shown::Shown;
+use etcs_bodies::{Numbers, Part, check, check_guard};
 use etcs_vars::parts::{Sink, Variables};
 use etcs_vars::{BuildFault, Var};
 use std::alloc::{AllocError, Global};
@@ -249,7 +246,7 @@ fn next_confirm(numbers: &mut Numbers) -> Option<(bool, Option<(u8, u16, u16)>)>
 }
 
 /// Q_TEXTCONFIRM, and where it isn't 0 the confirmation, that the numbers begin with.
-#[tactic(auto, using(crate::specs::Guards::guard_ok), unfolding(crate::specs::TextFrames::confirmed_from, crate::specs::Guards::guard_fault))]
+#[tactic(auto, using(etcs_bodies::specs::laws::Guards::guard_ok), unfolding(crate::specs::TextFrames::confirmed_from, etcs_bodies::specs::Guards::guard_fault))]
 fn next_confirmed(numbers: &mut Numbers) -> Option<(u8, Option<(bool, Option<(u8, u16, u16)>)>)>
     ensures part { IfSome result (λ c. confirmed_fault c.0 c.1 ≡ None) }
     ensures from { IfSome result (λ c. confirmed_from numbers.old ≡ Some ((c.0, c.1), numbers.new)) }
@@ -308,7 +305,7 @@ impl Variables for TextFrame {
 
     ghost reading_of = { λ t. text_frame_reading t };
 
-    #[tactic(auto, using(crate::specs::TextFrames::text_frame_bits, crate::specs::Displays::shown_small))]
+    #[tactic(auto, using(crate::specs::laws::TextFrames::text_frame_bits, crate::specs::laws::Displays::shown_small))]
     fn bits(&self) -> usize {
         45 + self.start.bits() + self.end.bits() + confirmed_bits(self.confirm)
     }

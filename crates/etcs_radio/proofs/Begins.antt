@@ -8,21 +8,21 @@ use Rattle.etcs_vars.specs.declared.var.Var.TheVariants.{NID_MESSAGE, L_MESSAGE,
 use Rattle.etcs_vars.specs.Vars.{width, ranges, begins, inside}
 use Rattle.etcs_vars.specs.Reading.{spelled}
 use Rattle.etcs_vars.proofs.Prefixes.{ordered, begins_some, begins_from, below_quotient}
-use Rattle.etcs_rows.specs.declared.row.Way.TheVariants.{ToTrain}
+use Rattle.etcs_tables.specs.declared.row.Way.TheVariants.{ToTrain}
 use Rattle.etcs_rows.specs.declared.frames.Carrier.TheVariants.{Message}
 use Rattle.etcs_rows.specs.Frames.{may_be_left}
-use Rattle.etcs_container.proofs.Fits.{run_some}
+use Rattle.etcs_sequence.proofs.Fits.{run_some}
 use Rattle.etcs_reader.specs.Rests.{Starts, Goes}
-use Rattle.etcs_reader.specs.FieldLaws.{some_fields}
-use Rattle.etcs_rests.specs.declared.left.PacketsLeft.{PacketsLeft}
-use Rattle.etcs_rests.specs.BitLaws.{some_bits, bits_start, bits_number}
-use Rattle.etcs_rests.specs.Lefts.{left_of}
-use Rattle.etcs_rests.specs.RowLaws.{head_of}
-use Rattle.etcs_rests.specs.StageLaws.{message_run}
+use Rattle.etcs_reader.proofs.FieldLaws.{some_fields}
+use Rattle.etcs_sequence.specs.declared.left.PacketsLeft.{PacketsLeft}
+use Rattle.etcs_sequence.specs.laws.BitLaws.{some_bits, bits_start, bits_number}
+use Rattle.etcs_sequence.specs.Lefts.{left_of}
+use Rattle.etcs_sequence.specs.laws.RowLaws.{head_of}
+use Rattle.etcs_sequence.proofs.StageLaws.{message_run}
 use Rattle.etcs_radio.specs.declared.phase.Phase.{Phase}
 use Rattle.etcs_radio.specs.declared.phase.Phase.TheVariants as phase
 use Rattle.etcs_radio.specs.Lefts.{front_row, front_bits, Behind, LengthLeft, NumberLeft, left_at, next_at}
-use Rattle.etcs_radio.specs.RestLaws.{length_opens}
+use Rattle.etcs_radio.specs.laws.RestLaws.{length_opens}
 use Rattle.etcs_radio.proofs.Fronts.{front_small}
 use Rattle.etcs_radio.proofs.RestSteps.{front_tested, packets_start}
 

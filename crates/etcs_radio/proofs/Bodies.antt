@@ -1,7 +1,7 @@
 -- The variables of a message's own: their bits, and a body of its numbers.
-use Rattle.std.proofs.Common.{◌≡◌, ℕ, ◌^◌, ◌<◌, ◌≤◌, Bool, true, List, [], ◌∷◌, length, Some, None, refl, sym, ap, ◌∙◌, subst, arith}
-use Rattle.std.proofs.lemmas.Bool.Decides.{nat_tests}
-use Rattle.std.specs.Prelude.{◌||◌, IsTrue, if◌then◌else◌, ℤ, slice_index_or, ◌==◌}
+use Rattle.std.proofs.Common.{◌≡◌, ℕ, ◌^◌, ◌<◌, ◌≤◌, Bool, true, false, List, [], ◌∷◌, length, Option, Some, None, refl, sym, ap, ◌∙◌, subst, inl, inr, arith}
+use Rattle.std.proofs.lemmas.Bool.{or_cases, eqb-true, ne_eqb}
+use Rattle.std.specs.Prelude.{◌||◌, ◌++◌, option_map, IsTrue, if◌then◌else◌, ℤ, slice_index_or, ◌==◌}
 use Rattle.etcs_bits.specs.Bits.{bit}
 use Rattle.etcs_bits.proofs.Numbers.{bit-eqb}
 use Rattle.etcs_vars.specs.declared.var.Var.{Var}
@@ -11,14 +11,17 @@ use Rattle.etcs_vars.specs.Faults.{number_fault}
 use Rattle.etcs_vars.specs.Vars.{width, admits}
 use Rattle.etcs_vars.specs.Reading.{Sent, Reading, spelled, numbers}
 use Rattle.etcs_vars.proofs.Prefixes.{admits_parts}
-use Rattle.etcs_rows.specs.declared.row.Way.TheVariants.{ToTrain}
-use Rattle.etcs_rows.specs.Layouts.{Layout, whole, one, Reads}
-use Rattle.etcs_rows.specs.Rows.{message_row_to, is_plain_message}
-use Rattle.etcs_rests.specs.LabelLaws.{length-widths}
+use Rattle.etcs_tables.specs.declared.item.RowItem.{RowItem}
+use Rattle.etcs_tables.specs.declared.item.RowItem.TheVariants as item
+use Rattle.etcs_tables.specs.declared.row.Way.TheVariants.{ToTrain}
+use Rattle.etcs_tables.specs.Layouts.{Layout, whole, one, guarded, counted, Reads, items}
+use Rattle.etcs_tables.specs.Rows.{message_row_to, message_rows_to}
+use Rattle.etcs_tables.proofs.EachRow.{of_each}
+use Rattle.etcs_sequence.proofs.LabelLaws.{length-widths}
 use Rattle.etcs_radio.specs.declared.body.Body.{Body}
 use Rattle.etcs_radio.specs.declared.body.Body.TheVariants.{SrAuthorisation, Plain, TrainTime, Emergency, Version, Shifted, Orientation}
 use Rattle.etcs_radio.specs.declared.body.RadioHead.{RadioHead}
-use Rattle.etcs_radio.specs.Bodies.{run_of_head, body_reading, body_bits, FitsSigned16, IsBody, IsBodyNumbers, ReadsBack}
+use Rattle.etcs_radio.specs.Bodies.{run_of_head, body_reading, body_bits, is_plain, is_plain_message, FitsSigned16, IsBody, IsBodyNumbers, ReadsBack}
 
 -- ---- How many bits they take.
 
@@ -116,14 +119,58 @@ second_below v w f h = (admits_parts w (slice_index_or f 1 0) h.second).1
 
 -- ---- The rows by number.
 
+plain_whole : (o : Option Layout) → is_plain o ≡ true → o ≡ Some whole
+plain_whole None h = absurd cc
+plain_whole (Some whole) h = refl
+plain_whole (Some (one v rest)) h = absurd cc
+plain_whole (Some (guarded g group rest)) h = absurd cc
+plain_whole (Some (counted group rest)) h = absurd cc
+
 pub plain_row : (nid : ℕ) → is_plain_message nid ≡ true → message_row_to ToTrain nid ≡ Some whole
-plain_row nid h = grind (arith, nat_tests)
+plain_row nid h = plain_whole (message_row_to ToTrain nid) h
+
+some_items : (first : RowItem) (table : List RowItem) → (length (first ∷ table) == 0) ≡ false
+some_items first table = ne_eqb (length (first ∷ table)) 0 (λ e. omega (arith, e))
+
+-- the table of a plain message's row is empty
+pub plain_items : (o : Option Layout) (table : List RowItem) → Some table ≡ option_map items o → (length table == 0) ≡ is_plain o
+plain_items None table e = absurd cc
+plain_items (Some whole) table e = let same : table ≡ [] = cc in rw same refl
+plain_items (Some (one v rest)) table e = let same : table ≡ item.One v ∷ items rest = cc in rw same (some_items (item.One v) (items rest))
+plain_items (Some (guarded g group rest)) table e = let same : table ≡ item.When g (length (items group)) ∷ (items group ++ items rest) = cc in rw same (some_items (item.When g (length (items group))) (items group ++ items rest))
+plain_items (Some (counted group rest)) table e = let same : table ≡ item.Many (length (items group)) ∷ (items group ++ items rest) = cc in rw same (some_items (item.Many (length (items group))) (items group ++ items rest))
+
+pub plain_none : (o : Option Layout) → None ≡ option_map items o → false ≡ is_plain o
+plain_none None e = refl
+plain_none (Some row) e = absurd cc
+
+-- what holds at the numbers of messages with T_TRAIN, or with NID_EM
+pub at_time : (P : ℕ → Type 0) (nid : ℕ) → (nid == 8 || nid == 27 || nid == 28) ≡ true → P 8 → P 27 → P 28 → P nid
+at_time P nid h a b c = elim (or_cases (nid == 8 || nid == 27) (nid == 28) h) [
+  | inl y ↦ elim (or_cases (nid == 8) (nid == 27) y) [
+    | inl x ↦ subst P (sym (eqb-true nid 8 x)) a
+    | inr x ↦ subst P (sym (eqb-true nid 27 x)) b
+  ]
+  | inr x ↦ subst P (sym (eqb-true nid 28 x)) c
+]
+
+pub at_emergency : (P : ℕ → Type 0) (nid : ℕ) → (nid == 16 || nid == 18) ≡ true → P 16 → P 18 → P nid
+at_emergency P nid h a b = elim (or_cases (nid == 16) (nid == 18) h) [
+  | inl x ↦ subst P (sym (eqb-true nid 16 x)) a
+  | inr x ↦ subst P (sym (eqb-true nid 18 x)) b
+]
 
 pub time_row : (nid : ℕ) → (nid == 8 || nid == 27 || nid == 28) ≡ true → message_row_to ToTrain nid ≡ Some (one T_TRAIN whole)
-time_row nid h = grind (arith, nat_tests)
+time_row nid h = at_time (λ n. message_row_to ToTrain n ≡ Some (one T_TRAIN whole)) nid h refl refl refl
 
 pub emergency_row : (nid : ℕ) → (nid == 16 || nid == 18) ≡ true → message_row_to ToTrain nid ≡ Some (one NID_EM whole)
-emergency_row nid h = grind (arith, nat_tests)
+emergency_row nid h = at_emergency (λ n. message_row_to ToTrain n ≡ Some (one NID_EM whole)) nid h refl refl
+
+-- a typed message of no other number is plain
+pub plain_else : (nid : ℕ) (row : Layout) → message_row_to ToTrain nid ≡ Some row → (nid == 2) ≡ false → (nid == 8 || nid == 27 || nid == 28) ≡ false → (nid == 16 || nid == 18) ≡ false → (nid == 32) ≡ false → (nid == 33) ≡ false → (nid == 45) ≡ false → is_plain_message nid ≡ true
+plain_else nid row is e2 et ee ev es eo =
+    let known : (nid == 2 || (nid == 8 || nid == 27 || nid == 28) || (nid == 16 || nid == 18) || nid == 32 || nid == 33 || nid == 45 || is_plain (Some row)) ≡ true = of_each (λ n r. n == 2 || (n == 8 || n == 27 || n == 28) || (n == 16 || n == 18) || n == 32 || n == 33 || n == 45 || is_plain (Some r)) (message_rows_to ToTrain) nid row refl is in
+    ap is_plain is ∙ (rw (e2, et, ee, ev, es, eo) at known)
 
 -- ---- Bodies without a fault.
 

@@ -1,20 +1,19 @@
 -- The head and the body of a typed message are those of its numbers.
-use Rattle.std.proofs.Common.{◌≡◌, ℕ, ◌+◌, ◌-◌, ◌^◌, ◌<◌, ◌≤◌, Bool, true, false, List, [], ◌∷◌, length, Some, None, refl, sym, ap, subst, ◌∙◌, arith}
-use Rattle.std.specs.Prelude.{IsTrue, Option, ◌==◌, ◌||◌, nat_lt, if◌then◌else◌, slice_index_or, ℤ, pos, negsuc}
+use Rattle.std.proofs.Common.{◌≡◌, ℕ, ◌^◌, ◌<◌, Bool, true, false, List, [], ◌∷◌, refl, sym, ap, ◌∙◌, arith}
+use Rattle.std.specs.Prelude.{◌==◌, ◌||◌, nat_lt, slice_index_or}
 use Rattle.std.proofs.lemmas.Bool.{eqb-true, ltb-true, ltb-false}
-use Rattle.std.proofs.lemmas.Bool.Decides.{nat_tests}
 use Rattle.etcs_bits.specs.Bits.{bit}
 use Rattle.etcs_vars.specs.declared.var.Var.TheVariants.{T_TRAIN, NID_EM, M_VERSION, Q_SCALE, D_REF, D_SR, Q_ORIENTATION}
 use Rattle.etcs_vars.specs.Reading.{Reading, numbers}
-use Rattle.etcs_rows.specs.declared.row.Way.TheVariants.{ToTrain}
-use Rattle.etcs_rows.specs.Rows.{message_row_to, message_row_to_train, is_plain_message}
+use Rattle.etcs_tables.specs.declared.row.Way.TheVariants.{ToTrain}
+use Rattle.etcs_tables.specs.Rows.{message_row_to}
 use Rattle.etcs_radio.specs.declared.body.Body.{Body}
 use Rattle.etcs_radio.specs.declared.body.Body.TheVariants.{SrAuthorisation, Plain, TrainTime, Emergency, Version, Shifted, Orientation}
 use Rattle.etcs_radio.specs.declared.body.RadioHead.{RadioHead}
-use Rattle.etcs_radio.specs.Bodies.{run_of_head, nid_of_body, body_reading, d_ref_number, FitsSigned16, IsBody, IsBodyNumbers, ReadsBack}
+use Rattle.etcs_radio.specs.Bodies.{run_of_head, nid_of_body, is_plain_message, d_ref_number, FitsSigned16, IsBody, IsBodyNumbers, ReadsBack}
 use Rattle.etcs_radio.specs.Fronts.{head_by, body_by, signed}
 use Rattle.etcs_radio.proofs.Spelling.{one_body}
-use Rattle.etcs_radio.proofs.Bodies.{one_number, two_numbers, second_below, plain_row, time_row, emergency_row, sr_body, time_body, emergency_body, version_body, shifted_body, one_flag, back_none, back_one, back_two}
+use Rattle.etcs_radio.proofs.Bodies.{one_number, two_numbers, second_below, plain_row, plain_else, time_row, emergency_row, sr_body, time_body, emergency_body, version_body, shifted_body, one_flag, back_none, back_one, back_two}
 
 -- ---- The head.
 
@@ -47,57 +46,57 @@ body_made nid g h = by_sr (nid == 2) refl
     none_typed : (nid == 2) ≡ false → is_plain_message nid ≡ false → (nid == 8 || nid == 27 || nid == 28) ≡ false → (nid == 16 || nid == 18) ≡ false → (nid == 32) ≡ false → (nid == 33) ≡ false → (nid == 45) ≡ false → ⊥
     none_typed e2 ep et ee ev es eo =
         let (row, r, typed, reads, nums) = h in
-        let none : message_row_to ToTrain nid ≡ None = rw (e2, ep, et, ee, ev, es, eo) refl in
+        let plain = plain_else nid row typed e2 et ee ev es eo in
         absurd cc
 
     by_orientation : (b : Bool) → (nid == 45) ≡ b → (nid == 2) ≡ false → is_plain_message nid ≡ false → (nid == 8 || nid == 27 || nid == 28) ≡ false → (nid == 16 || nid == 18) ≡ false → (nid == 32) ≡ false → (nid == 33) ≡ false → BodyMade nid g (body_by nid g)
     by_orientation true e e2 ep et ee ev es =
         let n : nid ≡ 45 = eqb-true nid 45 e in
-        let t = one_number nid g Q_ORIENTATION (ap message_row_to_train n) h in
-        rw (e2, ep, et, ee, ev, es)
-        (record { number = sym n; body = record { variant = refl; variables = refl; types = tt }; back = back_one nid g (Orientation (slice_index_or g 0 0 == 1)) Q_ORIENTATION (ap message_row_to_train n) t (ap (λ (k : ℕ). let r : Reading = (Q_ORIENTATION, k) ∷ [] in r) (one_flag (slice_index_or g 0 0) t.admitted)) })
+        let t = one_number nid g Q_ORIENTATION (ap (message_row_to ToTrain) n) h in
+        rw (ep, e2, et, ee, ev, es)
+        (record { number = sym n; body = record { variant = refl; variables = refl; types = tt }; back = back_one nid g (Orientation (slice_index_or g 0 0 == 1)) Q_ORIENTATION (ap (message_row_to ToTrain) n) t (ap (λ (k : ℕ). let r : Reading = (Q_ORIENTATION, k) ∷ [] in r) (one_flag (slice_index_or g 0 0) t.admitted)) })
     by_orientation false e e2 ep et ee ev es = absurd (none_typed e2 ep et ee ev es e)
 
     by_shifted : (b : Bool) → (nid == 33) ≡ b → (nid == 2) ≡ false → is_plain_message nid ≡ false → (nid == 8 || nid == 27 || nid == 28) ≡ false → (nid == 16 || nid == 18) ≡ false → (nid == 32) ≡ false → BodyMade nid g (body_by nid g)
     by_shifted true e e2 ep et ee ev =
         let n : nid ≡ 33 = eqb-true nid 33 e in
-        let t = two_numbers nid g Q_SCALE D_REF (ap message_row_to_train n) h in
+        let t = two_numbers nid g Q_SCALE D_REF (ap (message_row_to ToTrain) n) h in
         let s = signed_two (slice_index_or g 1 0) (second_below Q_SCALE D_REF g t) in
-        rw (e2, ep, et, ee, ev, e)
-        (record { number = sym n; body = shifted_body (slice_index_or g 0 0) (signed (slice_index_or g 1 0)) t.first s.0; back = back_two nid g (Shifted (slice_index_or g 0 0) (signed (slice_index_or g 1 0))) Q_SCALE D_REF (ap message_row_to_train n) t (ap (λ (k : ℕ). let r : Reading = (Q_SCALE, slice_index_or g 0 0) ∷ (D_REF, k) ∷ [] in r) s.1) })
+        rw (ep, e2, et, ee, ev, e)
+        (record { number = sym n; body = shifted_body (slice_index_or g 0 0) (signed (slice_index_or g 1 0)) t.first s.0; back = back_two nid g (Shifted (slice_index_or g 0 0) (signed (slice_index_or g 1 0))) Q_SCALE D_REF (ap (message_row_to ToTrain) n) t (ap (λ (k : ℕ). let r : Reading = (Q_SCALE, slice_index_or g 0 0) ∷ (D_REF, k) ∷ [] in r) s.1) })
     by_shifted false e e2 ep et ee ev = by_orientation (nid == 45) refl e2 ep et ee ev e
 
     by_version : (b : Bool) → (nid == 32) ≡ b → (nid == 2) ≡ false → is_plain_message nid ≡ false → (nid == 8 || nid == 27 || nid == 28) ≡ false → (nid == 16 || nid == 18) ≡ false → BodyMade nid g (body_by nid g)
     by_version true e e2 ep et ee =
         let n : nid ≡ 32 = eqb-true nid 32 e in
-        let t = one_number nid g M_VERSION (ap message_row_to_train n) h in
-        rw (e2, ep, et, ee, e)
-        (record { number = sym n; body = version_body (slice_index_or g 0 0) t.admitted; back = back_one nid g (Version (slice_index_or g 0 0)) M_VERSION (ap message_row_to_train n) t refl })
+        let t = one_number nid g M_VERSION (ap (message_row_to ToTrain) n) h in
+        rw (ep, e2, et, ee, e)
+        (record { number = sym n; body = version_body (slice_index_or g 0 0) t.admitted; back = back_one nid g (Version (slice_index_or g 0 0)) M_VERSION (ap (message_row_to ToTrain) n) t refl })
     by_version false e e2 ep et ee = by_shifted (nid == 33) refl e2 ep et ee e
 
     by_emergency : (b : Bool) → (nid == 16 || nid == 18) ≡ b → (nid == 2) ≡ false → is_plain_message nid ≡ false → (nid == 8 || nid == 27 || nid == 28) ≡ false → BodyMade nid g (body_by nid g)
     by_emergency true e e2 ep et =
         let t = one_number nid g NID_EM (emergency_row nid e) h in
-        rw (e2, ep, et, e)
+        rw (ep, e2, et, e)
         (record { number = refl; body = emergency_body nid (slice_index_or g 0 0) e t.admitted; back = back_one nid g (Emergency nid (slice_index_or g 0 0)) NID_EM (emergency_row nid e) t refl })
     by_emergency false e e2 ep et = by_version (nid == 32) refl e2 ep et e
 
     by_time : (b : Bool) → (nid == 8 || nid == 27 || nid == 28) ≡ b → (nid == 2) ≡ false → is_plain_message nid ≡ false → BodyMade nid g (body_by nid g)
     by_time true e e2 ep =
         let t = one_number nid g T_TRAIN (time_row nid e) h in
-        rw (e2, ep, e)
+        rw (ep, e2, e)
         (record { number = refl; body = time_body nid (slice_index_or g 0 0) e t.admitted; back = back_one nid g (TrainTime nid (slice_index_or g 0 0)) T_TRAIN (time_row nid e) t refl })
     by_time false e e2 ep = by_emergency (nid == 16 || nid == 18) refl e2 ep e
 
     by_plain : (b : Bool) → is_plain_message nid ≡ b → (nid == 2) ≡ false → BodyMade nid g (body_by nid g)
-    by_plain true e e2 = rw (e2, e) (record { number = refl; body = record { variant = e; variables = refl; types = tt }; back = back_none nid g (Plain nid) (plain_row nid e) h refl })
+    by_plain true e e2 = rw (e, e2) (record { number = refl; body = record { variant = e; variables = refl; types = tt }; back = back_none nid g (Plain nid) (plain_row nid e) h refl })
     by_plain false e e2 = by_time (nid == 8 || nid == 27 || nid == 28) refl e2 e
 
     by_sr : (b : Bool) → (nid == 2) ≡ b → BodyMade nid g (body_by nid g)
     by_sr true e =
         let n : nid ≡ 2 = eqb-true nid 2 e in
-        let t = two_numbers nid g Q_SCALE D_SR (ap message_row_to_train n) h in
-        rw e (record { number = sym n; body = sr_body (slice_index_or g 0 0) (slice_index_or g 1 0) t.first t.second; back = back_two nid g (SrAuthorisation (slice_index_or g 0 0) (slice_index_or g 1 0)) Q_SCALE D_SR (ap message_row_to_train n) t refl })
+        let t = two_numbers nid g Q_SCALE D_SR (ap (message_row_to ToTrain) n) h in
+        rw e (record { number = sym n; body = sr_body (slice_index_or g 0 0) (slice_index_or g 1 0) t.first t.second; back = back_two nid g (SrAuthorisation (slice_index_or g 0 0) (slice_index_or g 1 0)) Q_SCALE D_SR (ap (message_row_to ToTrain) n) t refl })
     by_sr false e = by_plain (is_plain_message nid) refl e
 
 -- ---- And no other body is.

@@ -13,8 +13,8 @@ use Rattle.etcs_bits.proofs.Numbers.{length-num}
 use Rattle.etcs_packets.specs.PacketValues.{PacketValue, packet_value}
 use Rattle.etcs_packets.specs.PacketReadings.{packets_reading}
 use Rattle.etcs_reader.specs.Rests.{Goes}
-use Rattle.etcs_rests.specs.BitLaws.{bits_spelled}
-use Rattle.etcs_rests.specs.OpenLaws.{part_regular}
+use Rattle.etcs_sequence.specs.laws.BitLaws.{bits_spelled}
+use Rattle.etcs_sequence.specs.laws.OpenLaws.{part_regular}
 use Rattle.etcs_radio.specs.declared.body.RadioHead.{RadioHead}
 use Rattle.etcs_radio.specs.declared.message.Content.{Content}
 use Rattle.etcs_radio.specs.declared.message.Content.TheVariants.{Typed, Kept}

@@ -5,8 +5,9 @@ use denote.Struct.Field.{Field}
 use denote.Struct.Values.{Values}
 use denote.Enum.Declared.{Choice, Record, values_one}
 use denote.Enum.Compared.{Each, by}
-use Rattle.etcs_parts.specs.Equality.{IsExact, number_exact, flag_exact, list_exact, both_exact, fields_exact}
-use Rattle.etcs_packets.specs.Equality.{packet_exact}
+use Rattle.etcs_bodies.specs.Equality.{IsExact}
+use Rattle.etcs_bodies.specs.laws.Equality.{number_exact, flag_exact, list_exact, both_exact, fields_exact}
+use Rattle.etcs_packets.proofs.Equality.{packet_exact}
 use Rattle.etcs_radio.specs.declared.message.Content.{Content}
 use Rattle.std.specs.contracts.prelude.I16PartialEq.TheImpl as shift
 use Rattle.etcs_radio.specs.contracts.body.RadioHeadPartialEq.TheImpl as head

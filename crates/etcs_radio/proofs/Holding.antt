@@ -1,5 +1,5 @@
 -- What a reader of messages holds.
-use Rattle.std.proofs.Common.{◌≡◌, ℕ, ◌+◌, ◌%◌, ◌<◌, ◌&&◌, List, Bool, false, [], ◌++◌, length, Some, refl, sym, ap, subst, ◌∙◌, arith, inl, inr}
+use Rattle.std.proofs.Common.{◌≡◌, ℕ, ◌%◌, ◌<◌, ◌&&◌, List, Bool, false, [], ◌++◌, length, Some, sym, ap, subst, ◌∙◌, arith, inl, inr}
 use Rattle.std.specs.Prelude.{IsTrue, not, nat_lt, ◌==◌}
 use Rattle.std.proofs.lemmas.Bool.{and_parts, ltb-true, eqb-true, not-true}
 use Rattle.std.proofs.lemmas.List.{length-append}
@@ -9,21 +9,18 @@ use Rattle.etcs_vars.specs.Vars.{width}
 use Rattle.etcs_vars.specs.Reading.{Reading, spelled, kept}
 use Rattle.etcs_packets.specs.declared.packet.Packet.{Packet}
 use Rattle.etcs_packets.specs.PacketReadings.{packets_reading}
-use Rattle.etcs_container.specs.Runs.{Begun}
+use Rattle.etcs_sequence.specs.Runs.{Begun}
 use Rattle.etcs_reader.specs.Rests.{Goes}
-use Rattle.etcs_reader.specs.Feeders.{FeederValue}
-use Rattle.etcs_rests.specs.declared.left.PacketsLeft.{PacketsLeft}
-use Rattle.etcs_rests.specs.Labels.{labelled}
-use Rattle.etcs_rests.specs.Lefts.{is_closed}
-use Rattle.etcs_rests.specs.Held.{list_holds}
-use Rattle.etcs_rests.proofs.Begun.{begun_of, nothing_held, none_listed}
-use Rattle.etcs_rests.proofs.Feeding.{At}
+use Rattle.etcs_sequence.specs.declared.left.PacketsLeft.{PacketsLeft}
+use Rattle.etcs_sequence.specs.Labels.{labelled}
+use Rattle.etcs_sequence.specs.Lefts.{is_closed}
+use Rattle.etcs_sequence.specs.Held.{list_holds}
+use Rattle.etcs_sequence.proofs.Begun.{begun_of, nothing_held, none_listed}
 use Rattle.etcs_radio.specs.declared.phase.Phase.{Phase}
 use Rattle.etcs_radio.specs.declared.phase.Phase.TheVariants.{Number, Length, Front, Packets, Padding, Data, Whole}
 use Rattle.etcs_radio.specs.Lefts.{front_vars, some_row, headed, left_at, next_at, is_message, stands_at, PacketsBehind, HoldsIn, FrontHeld, PacketsHeld, DataHeld}
 use Rattle.etcs_radio.specs.Readers.{Members}
 use Rattle.etcs_radio.proofs.SoFar.{first_goes}
-use Rattle.etcs_radio.proofs.Reading.{Kept, next, far, messages}
 
 -- no packet, number or bit is held
 none_held : (ps : List Packet) (f : List ℕ) (k : List Bool) → list_holds ps f k [] [] [] → (ps ≡ []) × (f ≡ []) × (k ≡ [])
@@ -51,7 +48,7 @@ data_members nid left ps f k q h =
     inr (inr ((nid, h.len, h.untyped, h.reading_is ∙ ap (λ (b : List Bool). headed nid h.len (kept OTHER_DATA b)) b_is), none_listed ps vs_is, sym m_is))
 
 -- between two pieces no bit of PADDING was read: all bits are whole bytes, and fewer are left than one
-members_of : (nid : ℕ) (phase : Phase) (front : List ℕ) (l : PacketsLeft) (ps : List Packet) (f : List ℕ) (k : List Bool) (number : ℕ) (q : Reading) (part : List Bool) (x : Var) → IsTrue (stands_at nid phase (length front) l) → next_at nid phase l ≡ Some x → Goes (left_at nid phase l) → HoldsIn nid phase front l number (list_holds ps f k) q → length part < width x → length (spelled q ++ part) % 8 ≡ 0 → Members ps f k q
+pub members_of : (nid : ℕ) (phase : Phase) (front : List ℕ) (l : PacketsLeft) (ps : List Packet) (f : List ℕ) (k : List Bool) (number : ℕ) (q : Reading) (part : List Bool) (x : Var) → IsTrue (stands_at nid phase (length front) l) → next_at nid phase l ≡ Some x → Goes (left_at nid phase l) → HoldsIn nid phase front l number (list_holds ps f k) q → length part < width x → length (spelled q ++ part) % 8 ≡ 0 → Members ps f k q
 members_of nid Number front l ps f k number q part x stands e g (z, h, is) short bytes = let (a, b, c) = none_held ps f k h in inl (inl is, a, b, c)
 members_of nid Length front l ps f k number q part x stands e g (z, h, is) short bytes = let (a, b, c) = none_held ps f k h in inl (inr (inl (nid, is)), a, b, c)
 members_of nid (Front at) front l ps f k number q part x stands e g (z, h) short bytes = front_members nid at front l ps f k q stands h
@@ -69,9 +66,3 @@ members_of nid (Padding left) front l ps f k number q part x stands e g h short 
     absurd (omega (arith, some, few, none, room, bytes, length-append (spelled q) part))
 members_of nid (Data left) front l ps f k number q part x stands e g h short bytes = data_members nid left ps f k q h
 members_of nid Whole front l ps f k number q part x stands e g h short bytes = absurd cc
-
-pub members_at : (v : FeederValue Kept) (x : Var) → next v.rest ≡ Some x → At messages v → length v.part < width x → Members v.rest.packets.store.packets.items v.rest.packets.store.numbers.items v.rest.packets.store.bits (far v.rest)
-members_at v x e at short =
-    let k = v.rest.packets.store in
-    let c = at.counted in
-    members_of v.rest.nid v.rest.stage v.rest.front.items v.rest.packets.left k.packets.items k.numbers.items k.bits v.rest.padding (far v.rest) v.part x v.rest.stands e at.goes at.held short (rw c at at.bytes)

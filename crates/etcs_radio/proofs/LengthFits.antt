@@ -2,16 +2,16 @@
 use Rattle.std.proofs.Common.{◌≡◌, ℕ, ◌+◌, ◌-◌, ◌*◌, List, [], Some, None, refl, sym, ap, subst, ◌∙◌, arith, inl, inr}
 use Rattle.std.specs.Prelude.{IsTrue, ◌↔◌, Option, option_map}
 use Rattle.etcs_vars.specs.declared.var.Var.{Var}
-use Rattle.etcs_rows.specs.declared.row.Way.TheVariants.{ToTrain}
+use Rattle.etcs_tables.specs.declared.row.Way.TheVariants.{ToTrain}
 use Rattle.etcs_rows.specs.declared.frames.Carrier.TheVariants.{Message}
 use Rattle.etcs_rows.specs.Frames.{may_be_left}
-use Rattle.etcs_rows.specs.Layouts.{Layout, Reads}
-use Rattle.etcs_container.proofs.Fits.{front_none}
+use Rattle.etcs_tables.specs.Layouts.{Layout, Reads}
+use Rattle.etcs_sequence.proofs.Fits.{front_none}
 use Rattle.etcs_reader.specs.Rests.{Goes}
 use Rattle.etcs_reader.specs.Fields.{ReadsFields}
-use Rattle.etcs_reader.specs.FieldLaws.{some_fields}
+use Rattle.etcs_reader.proofs.FieldLaws.{some_fields}
 use Rattle.etcs_rows.specs.Messages.{MessageLengthFits}
-use Rattle.etcs_rests.specs.Labels.{widths}
+use Rattle.etcs_sequence.specs.Labels.{widths}
 use Rattle.etcs_radio.specs.Lefts.{own_row, front_behind, front_row, front_bits, Behind}
 use Rattle.etcs_radio.proofs.Fronts.{as_row, row_fields, fields_row, fields_length, rows_alike, typed_own, kept_own, front_small}
 use Rattle.etcs_radio.proofs.Begins.{Fits, some_message, message_some}

@@ -1,7 +1,8 @@
 -- A message's parts are those of its reading.
-use Rattle.std.proofs.Common.{◌≡◌, ℕ, ◌^◌, ◌<◌, ◌≤◌, Bool, true, false, List, [], ◌∷◌, length, map, Some, None, refl, sym, arith}
+use Rattle.std.proofs.Common.{◌≡◌, ℕ, ◌^◌, ◌<◌, ◌≤◌, ltb, Bool, true, false, List, [], ◌∷◌, length, map, Some, None, refl, sym, arith}
 use Rattle.std.specs.Prelude.{IsTrue, All, ℤ, pos, negsuc, ◌||◌, ◌==◌, if◌then◌else◌}
 use Rattle.std.specs.List.{list_any}
+use Rattle.std.proofs.lemmas.Bool.{ltb-true}
 use Rattle.std.proofs.lemmas.Bool.Decides.{nat_tests}
 use Rattle.std.proofs.lemmas.List.{append-nil}
 use Rattle.std.proofs.lemmas.List.Elements.{All-nil, All-cons, All-head, All-tail}
@@ -12,14 +13,15 @@ use Rattle.etcs_vars.specs.declared.var.Var.TheVariants.{NID_MESSAGE, L_MESSAGE,
 use Rattle.etcs_vars.specs.declared.fault.BuildFault.TheVariants.{NotAdmitted}
 use Rattle.etcs_vars.specs.Faults.{number_fault}
 use Rattle.etcs_vars.specs.Vars.{admits}
-use Rattle.etcs_rows.specs.declared.row.Way.TheVariants.{ToTrain}
+use Rattle.etcs_tables.specs.declared.row.Way.TheVariants.{ToTrain}
 use Rattle.etcs_rows.specs.declared.frames.Carrier.TheVariants as carrier
-use Rattle.etcs_rows.specs.Layouts.{Layout, whole, one, Reads}
-use Rattle.etcs_rows.specs.Rows.{message_row_to, is_plain_message}
+use Rattle.etcs_tables.specs.Layouts.{Layout, whole, one, Reads}
+use Rattle.etcs_tables.specs.Rows.{message_row_to, message_rows_to}
+use Rattle.etcs_tables.proofs.EachRow.{of_each}
 use Rattle.etcs_packets.specs.declared.packet.Packet.{Packet}
 use Rattle.etcs_packets.specs.PacketValues.{packet_value, nid_of, IsPacket}
 use Rattle.etcs_packets.specs.PacketReadings.{packets_reading}
-use Rattle.etcs_container.specs.Contents.{Carries}
+use Rattle.etcs_sequence.specs.Contents.{Carries}
 use Rattle.etcs_radio.specs.declared.body.Body.{Body}
 use Rattle.etcs_radio.specs.declared.body.Body.TheVariants.{SrAuthorisation, Plain, TrainTime, Emergency, Version, Shifted, Orientation}
 use Rattle.etcs_radio.specs.declared.body.RadioHead.{RadioHead}
@@ -90,23 +92,10 @@ body_reads (Version v) h = (_, refl, one_reads M_VERSION v (admits_of M_VERSION 
 body_reads (Shifted q d) h = (_, refl, two_reads Q_SCALE D_REF q (d_ref_number d) (admits_of Q_SCALE q h.variables) (shift_admitted (d_ref_number d) (shift_small d h.types)))
 body_reads (Orientation o) h = (_, refl, one_reads Q_ORIENTATION (bit o) (orientation_admitted o))
 
-plain_small : (n : ℕ) → is_plain_message n ≡ true → n < 2 ^ 8
-plain_small n h = grind (arith, nat_tests)
-
-time_small : (n : ℕ) → (n == 8 || n == 27 || n == 28) ≡ true → n < 2 ^ 8
-time_small n h = grind (arith, nat_tests)
-
-emergency_small : (n : ℕ) → (n == 16 || n == 18) ≡ true → n < 2 ^ 8
-emergency_small n h = grind (arith, nat_tests)
-
 body_small : (b : Body) → IsBody b → nid_of_body b < 2 ^ 8
-body_small (SrAuthorisation q d) h = omega arith
-body_small (Plain n) h = plain_small n h.variant
-body_small (TrainTime n t) h = time_small n h.variant
-body_small (Emergency n e) h = emergency_small n h.variant
-body_small (Version v) h = omega arith
-body_small (Shifted q d) h = omega arith
-body_small (Orientation o) h = omega arith
+body_small b h =
+    let (row, is, reads) = body_reads b h in
+    ltb-true (nid_of_body b) 256 (of_each (λ n r. ltb n 256) (message_rows_to ToTrain) (nid_of_body b) row refl is)
 
 -- ---- Packets of a message.
 

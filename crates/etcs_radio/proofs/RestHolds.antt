@@ -19,17 +19,17 @@ use Rattle.etcs_rows.specs.declared.frames.Carrier.TheVariants.{Message}
 use Rattle.etcs_vars.proofs.Sent.{length-sent}
 use Rattle.etcs_packets.specs.PacketValues.{PacketValue}
 use Rattle.etcs_packets.specs.PacketReadings.{packets_reading}
-use Rattle.etcs_container.specs.Contents.{Carries, closing}
-use Rattle.etcs_container.proofs.RunSteps.{both_length}
+use Rattle.etcs_sequence.specs.Contents.{Carries, closing}
+use Rattle.etcs_sequence.specs.laws.RunSteps.{both_length}
 use Rattle.etcs_reader.specs.Rests.{Starts, Goes}
 use Rattle.etcs_reader.specs.Fields.{first_of}
-use Rattle.etcs_rests.specs.declared.left.PacketsLeft.{PacketsLeft}
-use Rattle.etcs_rests.specs.declared.stage.Stage.TheVariants as stage
-use Rattle.etcs_rests.specs.BitLaws.{bits_append, bits_spelled}
-use Rattle.etcs_rests.specs.Labels.{labelled, widths}
-use Rattle.etcs_rests.specs.LabelLaws.{labelled_none, labelled_more}
-use Rattle.etcs_rests.specs.Lefts.{left_of, ahead, is_closed, HoldsAt, Moved}
-use Rattle.etcs_rests.specs.StageLaws.{closed_stage}
+use Rattle.etcs_sequence.specs.declared.left.PacketsLeft.{PacketsLeft}
+use Rattle.etcs_sequence.specs.declared.stage.Stage.TheVariants as stage
+use Rattle.etcs_sequence.specs.laws.BitLaws.{bits_append, bits_spelled}
+use Rattle.etcs_sequence.specs.Labels.{labelled, widths}
+use Rattle.etcs_sequence.proofs.LabelLaws.{labelled_none, labelled_more}
+use Rattle.etcs_sequence.specs.Lefts.{left_of, ahead, is_closed, HoldsAt, Moved}
+use Rattle.etcs_sequence.proofs.StageLaws.{closed_stage}
 use Rattle.etcs_radio.specs.declared.phase.Phase.{Phase}
 use Rattle.etcs_radio.specs.declared.phase.Phase.TheVariants as phase
 use Rattle.etcs_radio.specs.Lefts.{front_row, front_vars, some_row, front_bits, headed, left_at, next_at, is_message, stands_at, behind_packets, behind_front, behind_padding, behind_data, DataFits, PacketsHeld, PaddingHeld, DataHeld, HoldsIn, Follows}

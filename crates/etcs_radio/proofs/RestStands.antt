@@ -1,5 +1,5 @@
 -- What holds of what comes next in a message.
-use Rattle.std.proofs.Common.{◌≡◌, ℕ, ◌<◌, ◌≤◌, Bool, true, false, List, length, refl, ap, subst, arith, ltb}
+use Rattle.std.proofs.Common.{◌≡◌, ℕ, ◌<◌, ◌≤◌, Bool, true, false, List, length, drop, Option, Some, None, refl, sym, ap, subst, arith, ltb}
 use Rattle.std.specs.Prelude.{IsTrue, not, ◌&&◌, ◌||◌, ◌==◌, nat_lt}
 use Rattle.std.proofs.lemmas.Bool.{and_parts, and_from, ltb-true, lt-ltb, eqb-true, eq-eqb, not-true}
 use Rattle.etcs_vars.specs.declared.var.Var.{Var}
@@ -7,14 +7,15 @@ use Rattle.etcs_vars.specs.Reading.{Reading}
 use Rattle.etcs_vars.proofs.Languages.{Same}
 use Rattle.etcs_rows.specs.declared.frames.Carrier.{Carrier}
 use Rattle.etcs_rows.specs.declared.frames.Carrier.TheVariants.{Telegram, Message}
-use Rattle.etcs_container.specs.Contents.{Run}
-use Rattle.etcs_rests.specs.declared.left.PacketsLeft.{PacketsLeft}
-use Rattle.etcs_rests.specs.declared.stage.Stage.TheVariants as stage
-use Rattle.etcs_rests.specs.Lefts.{left_of, ahead, is_stage, is_closed, is_telegram, Moved}
-use Rattle.etcs_rests.specs.StageLaws.{closed_stage, closed_room, begun_room}
+use Rattle.etcs_sequence.specs.Contents.{Run}
+use Rattle.etcs_reader.specs.Fields.{first_of}
+use Rattle.etcs_sequence.specs.declared.left.PacketsLeft.{PacketsLeft}
+use Rattle.etcs_sequence.specs.declared.stage.Stage.TheVariants as stage
+use Rattle.etcs_sequence.specs.Lefts.{left_of, ahead, is_stage, is_closed, is_telegram, Moved}
+use Rattle.etcs_sequence.proofs.StageLaws.{closed_stage, closed_room, begun_room}
 use Rattle.etcs_radio.specs.declared.phase.Phase.{Phase}
 use Rattle.etcs_radio.specs.declared.phase.Phase.TheVariants as phase
-use Rattle.etcs_radio.specs.Lefts.{front_vars, is_message, stands_at, behind_packets, behind_front, behind_padding, behind_data}
+use Rattle.etcs_radio.specs.Lefts.{front_row, front_vars, some_row, next_at, is_message, stands_at, behind_packets, behind_front, behind_padding, behind_data}
 use Rattle.etcs_radio.proofs.RestSteps.{by_test}
 
 -- ---- Packets of a message.
@@ -65,6 +66,14 @@ front_parts nid here at m l e h =
     let all = and_parts (nat_lt at (length (front_vars nid))) ((m == at) && is_message l) h' in
     let both = and_parts (m == at) (is_message l) all.1 in
     (ltb-true at (length (front_vars nid)) all.0, eqb-true m at both.0, both.1)
+
+-- the variable that comes next, by what is known of those of a typed message
+pub front_next : (nid : ℕ) (here : Phase) (at m : ℕ) (l : PacketsLeft) (x : Option Var) → here ≡ phase.Front at → IsTrue (stands_at nid here m l) → ((vars : List Var) → front_row nid ≡ Some vars → x ≡ first_of (drop at vars)) → x ≡ next_at nid here l
+front_next nid here at m l x e h next = subst (λ (s : Phase). x ≡ next_at nid s l) (sym e) (of (front_row nid) refl (front_parts nid here at m l e h).0)
+  where
+    of : (o : Option (List Var)) → front_row nid ≡ o → at < length (some_row o) → x ≡ first_of (drop at (some_row o))
+    of None is far = absurd (omega arith)
+    of (Some vars) is far = next vars is
 
 pub packets_parts : (nid : ℕ) (here : Phase) (m : ℕ) (l : PacketsLeft) → here ≡ phase.Packets → IsTrue (stands_at nid here m l) → (l.carrier ≡ Message) × (is_closed l.stage ≡ false)
 packets_parts nid here m l e h =

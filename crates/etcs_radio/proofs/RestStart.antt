@@ -10,15 +10,15 @@ use Rattle.etcs_vars.specs.Vars.{admits, inside}
 use Rattle.etcs_vars.specs.Reading.{Reading, spelled, kept}
 use Rattle.etcs_vars.proofs.Languages.{Same}
 use Rattle.etcs_vars.proofs.Prefixes.{admits_parts, admits_from}
-use Rattle.etcs_rows.specs.Layouts.{Layout, Reads}
+use Rattle.etcs_tables.specs.Layouts.{Layout, Reads}
 use Rattle.etcs_rows.specs.declared.frames.Carrier.TheVariants.{Message}
 use Rattle.etcs_packets.specs.PacketValues.{PacketValue}
 use Rattle.etcs_packets.specs.PacketReadings.{packets_reading}
-use Rattle.etcs_container.specs.Contents.{Run, RunOf}
+use Rattle.etcs_sequence.specs.Contents.{Run, RunOf}
 use Rattle.etcs_reader.specs.Fields.{ReadsFields}
 use Rattle.etcs_radio.specs.declared.body.RadioHead.{RadioHead}
 use Rattle.etcs_radio.specs.Messages.{head_reading, front_of, IsAdmitted, typed_message, kept_message, TypedReads, KeptReads, MessageLanguage}
-use Rattle.etcs_rests.specs.Labels.{widths}
+use Rattle.etcs_sequence.specs.Labels.{widths}
 use Rattle.etcs_radio.specs.Lefts.{own_row, front_behind, front_row, front_bits, headed, PacketsFrom, Behind, NumberLeft}
 use Rattle.etcs_radio.proofs.Fronts.{as_row, row_fields, fields_row, fields_length, rows_alike, typed_own, kept_own}
 

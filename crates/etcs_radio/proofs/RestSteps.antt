@@ -10,23 +10,25 @@ use Rattle.etcs_vars.specs.Reading.{Reading, Then, spelled, kept, Viable}
 use Rattle.etcs_vars.specs.Walking.{Residual}
 use Rattle.etcs_vars.proofs.Languages.{Same, same_self, same_along, Then-same}
 use Rattle.etcs_rows.specs.declared.frames.Carrier.TheVariants.{Message}
-use Rattle.etcs_container.specs.Contents.{Run, KeptIn}
-use Rattle.etcs_container.proofs.Turns.{residual_same}
+use Rattle.etcs_sequence.specs.Contents.{Run, KeptIn}
+use Rattle.etcs_sequence.proofs.Turns.{residual_same}
 use Rattle.etcs_reader.specs.Rests.{Starts, Goes}
 use Rattle.etcs_reader.specs.Fields.{ReadsFields}
-use Rattle.etcs_rests.specs.declared.left.PacketsLeft.{PacketsLeft}
-use Rattle.etcs_rests.specs.declared.stage.Stage.TheVariants as stage
-use Rattle.etcs_rests.specs.BitLaws.{bits_behind, some_bits, no_bits}
-use Rattle.etcs_rests.specs.ChainLaws.{Chain, chain_none}
-use Rattle.etcs_rests.specs.Lefts.{next_of, left_of, ahead, is_closed, Moved}
-use Rattle.etcs_rests.specs.OpenLaws.{opens_behind, opens_number}
-use Rattle.etcs_rests.specs.FrontLaws as fronts
-use Rattle.etcs_rests.specs.FilledLaws.{filled_behind, filled_starts, filled_viable, filled_goes}
-use Rattle.etcs_rests.specs.StageLaws.{closed_stage}
+use Rattle.etcs_sequence.specs.declared.left.PacketsLeft.{PacketsLeft}
+use Rattle.etcs_sequence.specs.declared.stage.Stage.TheVariants as stage
+use Rattle.etcs_sequence.specs.laws.BitLaws.{bits_behind, some_bits}
+use Rattle.etcs_sequence.proofs.BitLaws.{no_bits}
+use Rattle.etcs_sequence.specs.ChainLaws.{Chain}
+use Rattle.etcs_sequence.proofs.ChainLaws.{chain_none}
+use Rattle.etcs_sequence.specs.Lefts.{next_of, left_of, ahead, is_closed, Moved}
+use Rattle.etcs_sequence.specs.laws.OpenLaws.{opens_behind, opens_number}
+use Rattle.etcs_sequence.proofs.FrontLaws as fronts
+use Rattle.etcs_sequence.proofs.FilledLaws.{filled_behind, filled_starts, filled_viable, filled_goes}
+use Rattle.etcs_sequence.proofs.StageLaws.{closed_stage}
 use Rattle.etcs_radio.specs.declared.phase.Phase.{Phase}
 use Rattle.etcs_radio.specs.declared.phase.Phase.TheVariants as phase
 use Rattle.etcs_radio.specs.Lefts.{front_row, front_vars, front_bits, PaddingLeft, PaddedBy, PacketsBehind, PacketsFrom, Behind, LengthLeft, left_at, next_at, behind_packets, behind_front, behind_padding, behind_data}
-use Rattle.etcs_radio.specs.RestLaws.{length_opens}
+use Rattle.etcs_radio.specs.laws.RestLaws.{length_opens}
 
 pub by_test : (b : Bool) (P : Phase → Type 0) (x y : Phase) → (b ≡ true → P x) → (b ≡ false → P y) → P (if b then x else y)
 by_test true P x y f g = f refl

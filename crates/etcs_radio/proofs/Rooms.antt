@@ -9,24 +9,25 @@ use Rattle.etcs_vars.specs.declared.var.Var.TheVariants.{NID_MESSAGE, L_MESSAGE,
 use Rattle.etcs_vars.specs.Reading.{Reading, spelled, kept, Viable}
 use Rattle.etcs_vars.proofs.Apart.{apart}
 use Rattle.etcs_vars.proofs.Walk.{spelled-append}
-use Rattle.etcs_rows.specs.declared.row.Way.TheVariants.{ToTrain}
+use Rattle.etcs_tables.specs.declared.row.Way.TheVariants.{ToTrain}
 use Rattle.etcs_rows.specs.declared.frames.Carrier.TheVariants.{Message}
 use Rattle.etcs_rows.specs.Frames.{may_be_left}
-use Rattle.etcs_rows.specs.Layouts.{Layout, Reads}
-use Rattle.etcs_rows.specs.Rows.{message_row_to}
+use Rattle.etcs_tables.specs.Layouts.{Layout, Reads}
+use Rattle.etcs_tables.specs.Rows.{message_row_to}
 use Rattle.etcs_rows.proofs.LengthLemmas.{length-spelled}
 use Rattle.etcs_rows.proofs.OneReading.{Reads-apart}
 use Rattle.etcs_packets.specs.PacketValues as packets
 use Rattle.etcs_packets.specs.PacketValues.{PacketValue}
-use Rattle.etcs_packets.specs.PacketReadings.{packet_reading, packets_reading, packet_bits}
-use Rattle.etcs_container.specs.Contents.{Carries, RunOf}
-use Rattle.etcs_container.proofs.Agreement.{packet_agree, packet_fit}
-use Rattle.etcs_container.proofs.Fits.{run_some}
+use Rattle.etcs_packets.specs.PacketReadings.{packet_reading, packets_reading}
+use Rattle.etcs_packets.specs.laws.PacketReadings.{packet_bits}
+use Rattle.etcs_sequence.specs.Contents.{Carries, RunOf}
+use Rattle.etcs_sequence.specs.laws.Agreement.{packet_agree, packet_fit}
+use Rattle.etcs_sequence.proofs.Fits.{run_some}
 use Rattle.etcs_radio.specs.declared.body.RadioHead.{RadioHead}
 use Rattle.etcs_radio.specs.Messages.{typed_message, kept_message, IsAdmitted, TypedReads, KeptReads, MessageLanguage, head_reading}
-use Rattle.etcs_radio.specs.Laws.{begun, RoomRule}
+use Rattle.etcs_radio.specs.Promises.{begun, RoomRule}
 use Rattle.etcs_radio.proofs.Sizes.{head_length}
-use Rattle.etcs_rests.specs.BitLaws.{bits_length}
+use Rattle.etcs_sequence.proofs.BitLaws.{bits_length}
 use Rattle.etcs_radio.proofs.Spelling.{first_number, rest_of, second_number, heads_agree, admitted_fit, not_both}
 
 both_spelled : (a b : Reading) (c : List Bool) → spelled (a ++ b) ++ c ≡ spelled a ++ (spelled b ++ c)

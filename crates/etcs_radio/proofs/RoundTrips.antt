@@ -9,8 +9,8 @@ use Rattle.etcs_vars.specs.Reading.{Reading, spelled, kept}
 use Rattle.etcs_vars.specs.declared.feed.Fed.{Fed}
 use Rattle.etcs_vars.specs.declared.feed.ReadFault.{ReadFault}
 use Rattle.etcs_packets.specs.PacketReadings.{packets_reading}
-use Rattle.etcs_rests.specs.Stages.{Stage, reading, Feeds}
-use Rattle.etcs_rests.proofs.RoundTrips.{Answered, answered}
+use Rattle.etcs_sequence.specs.Stages.{Stage, reading, Feeds}
+use Rattle.etcs_sequence.proofs.RoundTrips.{Answered, answered}
 use Rattle.etcs_radio.specs.declared.message.Content.{Content}
 use Rattle.etcs_radio.specs.Messages.{MessageValue, typed_message, kept_message, MessageReads, head_reading, message_value, IsMessage}
 use Rattle.etcs_radio.proofs.Spelling.{one_spelling}

@@ -14,8 +14,8 @@ use Rattle.etcs_vars.specs.declared.fault.BuildFault.{BuildFault}
 use Rattle.etcs_vars.specs.declared.fault.BuildFault.TheVariants.{NotAdmitted, TooLong, FillLength}
 use Rattle.etcs_vars.specs.Faults.{◌or_else◌}
 use Rattle.etcs_vars.specs.Reading.{spelled, kept}
-use Rattle.etcs_rows.specs.declared.row.Way.TheVariants.{ToTrain}
-use Rattle.etcs_rows.specs.Rows.{message_row_to}
+use Rattle.etcs_tables.specs.declared.row.Way.TheVariants.{ToTrain}
+use Rattle.etcs_tables.specs.Rows.{message_row_to}
 use Rattle.etcs_rows.proofs.LengthLemmas.{length-spelled}
 use Rattle.etcs_packets.specs.declared.packet.Packet.{Packet}
 use Rattle.etcs_packets.specs.PacketValues.{packet_value}
@@ -27,9 +27,9 @@ use Rattle.etcs_radio.specs.declared.message.Content.TheVariants.{Typed, Kept}
 use Rattle.etcs_radio.specs.Bodies.{nid_of_body, body_bits, body_reading, body_fault, head_fault}
 use Rattle.etcs_radio.specs.Messages.{all_bits, padding_room, is_marker, message_fault, padded_fault, kept_fault, head_reading, IsMessage}
 use Rattle.etcs_radio.specs.Readings.{bytes_of, front_reading, message_reading}
-use Rattle.etcs_rests.specs.LabelLaws.{length-widths}
+use Rattle.etcs_sequence.proofs.LabelLaws.{length-widths}
 use Rattle.etcs_radio.proofs.Bodies.{body_length}
-use Rattle.etcs_rests.specs.BitLaws.{bits_length}
+use Rattle.etcs_sequence.proofs.BitLaws.{bits_length}
 
 -- ---- One fault behind another.
 

@@ -11,14 +11,14 @@ use Rattle.etcs_packets.specs.declared.packet.Packet.{Packet}
 use Rattle.etcs_packets.specs.PacketValues.{PacketValue, packet_value}
 use Rattle.etcs_packets.specs.PacketReadings.{packets_reading}
 use Rattle.etcs_reader.specs.Rests.{Goes}
-use Rattle.etcs_rests.specs.declared.left.PacketsLeft.{PacketsLeft}
-use Rattle.etcs_rests.specs.declared.list.PacketList.{PacketList}
-use Rattle.etcs_rests.specs.Labels.{labelled, widths}
-use Rattle.etcs_rests.specs.Lefts.{left_of, ahead}
-use Rattle.etcs_rests.specs.Held.{list_holds, packets_so_far}
-use Rattle.etcs_rests.specs.Stages.{asks_memory}
-use Rattle.etcs_rests.proofs.Asking.{packets_ask}
-use Rattle.etcs_rests.proofs.Holding.{packets_far}
+use Rattle.etcs_sequence.specs.declared.left.PacketsLeft.{PacketsLeft}
+use Rattle.etcs_sequence.specs.declared.list.PacketList.{PacketList}
+use Rattle.etcs_sequence.specs.Labels.{labelled, widths}
+use Rattle.etcs_sequence.specs.Lefts.{left_of, ahead}
+use Rattle.etcs_sequence.specs.Held.{list_holds, packets_so_far}
+use Rattle.etcs_sequence.specs.Stages.{asks_memory}
+use Rattle.etcs_sequence.proofs.Asking.{packets_ask}
+use Rattle.etcs_sequence.proofs.Holding.{packets_far}
 use Rattle.etcs_radio.specs.declared.phase.Phase.{Phase}
 use Rattle.etcs_radio.specs.declared.phase.Phase.TheVariants.{Number, Length, Front, Packets, Padding, Data, Whole}
 use Rattle.etcs_radio.specs.Messages.{padding_room}

@@ -10,28 +10,30 @@ use Rattle.etcs_vars.specs.Reading.{Sent, Reading, spelled, kept}
 use Rattle.etcs_vars.proofs.Apart.{Agree, AllFit, Agree-append, AllFit-append, Agree-cut, apart}
 use Rattle.etcs_vars.proofs.Prefixes.{admits_parts}
 use Rattle.etcs_vars.proofs.Walk.{Regular}
-use Rattle.etcs_rows.specs.declared.row.Way.TheVariants.{ToTrain}
+use Rattle.etcs_tables.specs.declared.row.Way.TheVariants.{ToTrain}
 use Rattle.etcs_rows.specs.declared.frames.Carrier.TheVariants.{Message}
-use Rattle.etcs_rows.specs.Layouts.{Layout, Reads}
-use Rattle.etcs_rows.specs.Rows.{message_row_to, is_plain_message}
+use Rattle.etcs_tables.specs.Layouts.{Layout, Reads}
+use Rattle.etcs_tables.specs.Rows.{message_row_to}
 use Rattle.etcs_rows.proofs.LengthLemmas.{length-spelled}
 use Rattle.etcs_rows.proofs.OneReading.{Reads-agree, Reads-fit}
 use Rattle.etcs_packets.specs.PacketValues.{PacketValue}
 use Rattle.etcs_packets.specs.PacketReadings.{packets_reading}
-use Rattle.etcs_packets.specs.OnePacket.{one_list}
-use Rattle.etcs_container.specs.Contents.{RunOf}
-use Rattle.etcs_container.proofs.Agreement.{run_regular}
-use Rattle.etcs_container.proofs.OneSpelling.{packets_same}
+use Rattle.etcs_packets.proofs.OnePacket.{one_list}
+use Rattle.etcs_sequence.specs.Contents.{RunOf}
+use Rattle.etcs_sequence.specs.laws.Agreement.{run_regular}
+use Rattle.etcs_sequence.proofs.OneSpelling.{packets_same}
 use Rattle.etcs_radio.specs.declared.body.Body.{Body}
 use Rattle.etcs_radio.specs.declared.body.Body.TheVariants.{SrAuthorisation, Plain, TrainTime, Emergency, Version, Shifted, Orientation}
 use Rattle.etcs_radio.specs.declared.body.RadioHead.{RadioHead}
 use Rattle.etcs_radio.specs.declared.message.Content.{Content}
 use Rattle.etcs_radio.specs.declared.message.Content.TheVariants.{Typed, Kept}
-use Rattle.etcs_radio.specs.Bodies.{IsBody, FitsSigned16, nid_of_body, body_reading, d_ref_number}
+use Rattle.etcs_radio.specs.Bodies.{IsBody, FitsSigned16, nid_of_body, is_plain_message, body_reading, d_ref_number}
+use Rattle.etcs_radio.proofs.Bodies.{at_time, at_emergency}
 use Rattle.etcs_radio.specs.Messages.{MessageValue, typed_message, kept_message, IsAdmitted, TypedReads, KeptReads, MessageReads, MessageLanguage, head_reading, front_of, all_bits, padding_room, IsMessage, message_value}
-use Rattle.etcs_radio.specs.Laws.{OneSpelling}
+use Rattle.etcs_radio.specs.Promises.{OneSpelling}
 use Rattle.etcs_radio.proofs.Sizes.{head_length, faultless}
-use Rattle.etcs_rests.specs.BitLaws.{bits_agree, bits_fit, bits_known}
+use Rattle.etcs_sequence.specs.laws.BitLaws.{bits_agree, bits_fit}
+use Rattle.etcs_sequence.proofs.BitLaws.{bits_known}
 
 -- ---- The header's numbers.
 
@@ -215,10 +217,10 @@ body_from nid r =
     if nid == 33 then Shifted (first_number r) (signed (second_number r)) else Orientation (first_number r == 1)
 
 time_not_plain : (n : ℕ) → (n == 8 || n == 27 || n == 28) ≡ true → is_plain_message n ≡ false
-time_not_plain n h = grind (arith, nat_tests)
+time_not_plain n h = at_time (λ k. is_plain_message k ≡ false) n h refl refl refl
 
 emergency_not_plain : (n : ℕ) → (n == 16 || n == 18) ≡ true → is_plain_message n ≡ false
-emergency_not_plain n h = grind (arith, nat_tests)
+emergency_not_plain n h = at_emergency (λ k. is_plain_message k ≡ false) n h refl refl
 
 emergency_not_time : (n : ℕ) → (n == 16 || n == 18) ≡ true → (n == 8 || n == 27 || n == 28) ≡ false
 emergency_not_time n h = grind (arith, nat_tests)

@@ -8,23 +8,23 @@ use Rattle.etcs_vars.specs.declared.var.Var.TheVariants.{NID_MESSAGE, L_MESSAGE,
 use Rattle.etcs_vars.specs.Reading.{Reading, spelled, kept, numbers}
 use Rattle.etcs_vars.proofs.Apart.{cut}
 use Rattle.etcs_vars.proofs.Prefixes.{admits_parts}
-use Rattle.etcs_rows.specs.declared.row.Way.TheVariants.{ToTrain}
+use Rattle.etcs_tables.specs.declared.row.Way.TheVariants.{ToTrain}
 use Rattle.etcs_rows.specs.declared.frames.Carrier.TheVariants.{Message}
-use Rattle.etcs_rows.specs.Layouts.{Layout, Reads}
-use Rattle.etcs_rows.specs.Rows.{message_row_to}
+use Rattle.etcs_tables.specs.Layouts.{Layout, Reads}
+use Rattle.etcs_tables.specs.Rows.{message_row_to}
 use Rattle.etcs_packets.specs.declared.packet.Packet.{Packet}
-use Rattle.etcs_packets.specs.PacketValues.{PacketValue, packet_value}
-use Rattle.etcs_packets.specs.OnePacket.{IsMade}
+use Rattle.etcs_packets.specs.PacketValues.{PacketValue, packet_value, IsMade}
 use Rattle.etcs_packets.specs.PacketReadings.{packets_reading}
-use Rattle.etcs_container.specs.Contents.{Carries}
+use Rattle.etcs_sequence.specs.Contents.{Carries}
 use Rattle.etcs_reader.specs.Fields.{ReadsFields}
-use Rattle.etcs_rests.specs.declared.left.PacketsLeft.{PacketsLeft}
-use Rattle.etcs_rests.specs.declared.list.PacketList.{PacketList}
-use Rattle.etcs_rests.specs.Labels.{labelled}
-use Rattle.etcs_rests.specs.LabelLaws.{numbers_labelled, labelled_count, some_first}
-use Rattle.etcs_rests.specs.Lefts.{is_closed}
-use Rattle.etcs_rests.specs.Held.{list_holds}
-use Rattle.etcs_rests.specs.StageLaws.{open_next}
+use Rattle.etcs_sequence.specs.declared.left.PacketsLeft.{PacketsLeft}
+use Rattle.etcs_sequence.specs.declared.list.PacketList.{PacketList}
+use Rattle.etcs_sequence.specs.Labels.{labelled}
+use Rattle.etcs_sequence.proofs.LabelLaws.{numbers_labelled, labelled_count}
+use Rattle.etcs_sequence.specs.laws.LabelLaws.{some_first}
+use Rattle.etcs_sequence.specs.Lefts.{is_closed}
+use Rattle.etcs_sequence.specs.Held.{list_holds}
+use Rattle.etcs_sequence.specs.laws.StageLaws.{open_next}
 use Rattle.etcs_radio.specs.declared.body.RadioHead.{RadioHead}
 use Rattle.etcs_radio.specs.declared.phase.Phase.{Phase}
 use Rattle.etcs_radio.specs.declared.phase.Phase.TheVariants.{Number, Length, Front, Packets, Padding, Data, Whole}

@@ -15,10 +15,10 @@ use Rattle.etcs_radio.specs.declared.message.Content.TheVariants.{Typed, Kept}
 use Rattle.etcs_radio.specs.Bodies.{nid_of_body, body_bits, body_reading, run_of_head}
 use Rattle.etcs_radio.specs.Messages.{all_bits, padding_room, head_reading}
 use Rattle.etcs_radio.specs.Readings.{bytes_of, message_reading}
-use Rattle.etcs_rests.specs.LabelLaws.{length-widths}
+use Rattle.etcs_sequence.proofs.LabelLaws.{length-widths}
 use Rattle.etcs_radio.proofs.Bodies.{body_length, head_length}
-use Rattle.etcs_rests.specs.BitLaws.{bits_spelled}
-use Rattle.etcs_writing.proofs.Parts.{two_written, five_written}
+use Rattle.etcs_sequence.specs.laws.BitLaws.{bits_spelled}
+use Rattle.etcs_packets.proofs.PartBits.{two_written, five_written}
 
 -- NID_MESSAGE and L_MESSAGE
 abbrev pub numbers_front : ℕ → ℕ → Reading

@@ -1,13 +1,13 @@
 -- What the numbers of a typed message's variables make.
-use Rattle.std.specs.Prelude.{◌≡◌, ℕ, ◌-◌, ◌^◌, ◌<◌, ◌≤◌, length, ◌==◌, ◌||◌, List, drop, Option, Some, None, slice_index, nat_lt, if◌then◌else◌, ℤ, pos, negsuc, Bool}
+use Rattle.std.specs.Prelude.{ℕ, ◌-◌, ◌^◌, ◌<◌, ◌≤◌, length, ◌==◌, ◌||◌, List, drop, Option, Some, None, slice_index, nat_lt, if◌then◌else◌, ℤ, pos, negsuc, Bool}
 use Rattle.etcs_vars.specs.declared.var.Var.{Var}
 use Rattle.etcs_packets.specs.declared.packet.Packet.{Packet}
-use Rattle.etcs_rows.specs.Rows.{is_plain_message}
 use Rattle.etcs_radio.specs.declared.body.Body.{Body}
 use Rattle.etcs_radio.specs.declared.body.Body.TheVariants.{SrAuthorisation, Plain, TrainTime, Emergency, Version, Shifted, Orientation}
 use Rattle.etcs_radio.specs.declared.body.RadioHead.{RadioHead}
 use Rattle.etcs_radio.specs.declared.message.Content.{Content}
 use Rattle.etcs_radio.specs.declared.message.Content.TheVariants.{Typed, Kept}
+use Rattle.etcs_radio.specs.Bodies.{is_plain_message}
 
 -- T_TRAIN, M_ACK and NID_LRBG
 abbrev pub head_by : List ℕ → RadioHead

@@ -1,20 +1,23 @@
 -- What is left of a message, what comes next of it, and what its variables so far are (SUBSET-026, 8).
 use Rattle.std.specs.Prelude.{◌≡◌, ℕ, ◌+◌, ◌-◌, ◌*◌, ◌^◌, ◌<◌, ◌≤◌, Bool, true, false, not, List, [], ◌∷◌, ◌++◌, ◌==◌, ◌||◌, ◌&&◌, length, drop, Option, Some, None, option_map, nat_lt, if◌then◌else◌, All, ◌⊎◌}
+use Rattle.std.specs.Option.{option_and_then}
 use Rattle.etcs_bits.specs.Bits.{num}
 use Rattle.etcs_vars.specs.declared.var.Var.{Var}
-use Rattle.etcs_vars.specs.declared.var.Var.TheVariants.{NID_MESSAGE, L_MESSAGE, T_TRAIN, M_ACK, NID_LRBG, NID_EM, M_VERSION, Q_SCALE, D_SR, D_REF, Q_ORIENTATION, PADDING, OTHER_DATA}
+use Rattle.etcs_vars.specs.declared.var.Var.TheVariants.{NID_MESSAGE, L_MESSAGE, T_TRAIN, M_ACK, NID_LRBG, PADDING, OTHER_DATA}
 use Rattle.etcs_vars.specs.Reading.{Reading, Then, spelled, kept}
 use Rattle.etcs_vars.specs.Walking.{Residual}
 use Rattle.etcs_rows.specs.declared.frames.Carrier.TheVariants.{Message}
-use Rattle.etcs_rows.specs.Rows.{is_plain_message}
+use Rattle.etcs_tables.specs.declared.row.Way.TheVariants.{ToTrain}
+use Rattle.etcs_tables.specs.Rows.{message_row_to}
+use Rattle.etcs_flat.specs.Flats.{variables}
 use Rattle.etcs_packets.specs.PacketValues.{PacketValue}
 use Rattle.etcs_packets.specs.PacketReadings.{packets_reading}
-use Rattle.etcs_container.specs.Contents.{Carries, Run, KeptIn}
+use Rattle.etcs_sequence.specs.Contents.{Carries, Run, KeptIn}
 use Rattle.etcs_reader.specs.Fields.{ReadsFields, first_of}
-use Rattle.etcs_rests.specs.declared.left.PacketsLeft.{PacketsLeft}
-use Rattle.etcs_rests.specs.Lefts.{next_of, left_of, ahead, is_closed, is_telegram, may_grow, HoldsAt}
-use Rattle.etcs_rests.specs.ChainLaws.{Chain}
-use Rattle.etcs_rests.specs.Labels.{labelled, widths}
+use Rattle.etcs_sequence.specs.declared.left.PacketsLeft.{PacketsLeft}
+use Rattle.etcs_sequence.specs.Lefts.{next_of, left_of, ahead, is_closed, is_telegram, may_grow, HoldsAt}
+use Rattle.etcs_sequence.specs.ChainLaws.{Chain}
+use Rattle.etcs_sequence.specs.Labels.{labelled, widths}
 use Rattle.etcs_radio.specs.declared.phase.Phase.{Phase}
 use Rattle.etcs_radio.specs.declared.phase.Phase.TheVariants as phase
 
@@ -22,14 +25,7 @@ use Rattle.etcs_radio.specs.declared.phase.Phase.TheVariants as phase
 
 -- the variables of the message's own
 abbrev pub own_row : ℕ → Option (List Var)
-own_row n =
-    if n == 2 then Some (Q_SCALE ∷ D_SR ∷ []) else
-    if is_plain_message n then Some [] else
-    if n == 8 || n == 27 || n == 28 then Some (T_TRAIN ∷ []) else
-    if n == 16 || n == 18 then Some (NID_EM ∷ []) else
-    if n == 32 then Some (M_VERSION ∷ []) else
-    if n == 33 then Some (Q_SCALE ∷ D_REF ∷ []) else
-    if n == 45 then Some (Q_ORIENTATION ∷ []) else None
+own_row n = option_and_then variables (message_row_to ToTrain n)
 
 abbrev pub front_behind : List Var → List Var
 front_behind own = T_TRAIN ∷ M_ACK ∷ NID_LRBG ∷ own

@@ -7,20 +7,18 @@ use Rattle.etcs_vars.specs.Reading.{Reading, spelled, kept}
 use Rattle.etcs_packets.specs.declared.packet.Packet.{Packet}
 use Rattle.etcs_packets.specs.PacketValues.{packet_value}
 use Rattle.etcs_packets.specs.PacketReadings.{packets_reading}
-use Rattle.etcs_container.specs.Runs.{Begun}
-use Rattle.etcs_reader.specs.declared.feeder.Stop.{Stop}
-use Rattle.etcs_rests.specs.declared.left.PacketsLeft.{PacketsLeft}
-use Rattle.etcs_rests.specs.declared.list.PacketList.{PacketList}
-use Rattle.etcs_rests.specs.Labels.{labelled, widths}
-use Rattle.etcs_rests.specs.Lefts.{ahead}
-use Rattle.etcs_rests.specs.Held.{list_holds, packets_so_far}
-use Rattle.etcs_rests.specs.Stages.{Stage, stage_by, IsReader}
+use Rattle.etcs_sequence.specs.Runs.{Begun}
+use Rattle.etcs_sequence.specs.declared.left.PacketsLeft.{PacketsLeft}
+use Rattle.etcs_sequence.specs.declared.list.PacketList.{PacketList}
+use Rattle.etcs_sequence.specs.Labels.{labelled, widths}
+use Rattle.etcs_sequence.specs.Lefts.{ahead}
+use Rattle.etcs_sequence.specs.Held.{packets_so_far}
 use Rattle.etcs_radio.specs.declared.phase.Phase.{Phase}
 use Rattle.etcs_radio.specs.declared.phase.Phase.TheVariants as phase
 use Rattle.etcs_radio.specs.declared.message.Content.{Content}
-use Rattle.etcs_radio.specs.Messages.{padding_room, MessageLanguage}
+use Rattle.etcs_radio.specs.Messages.{padding_room}
 use Rattle.etcs_radio.specs.Readings.{bytes_of}
-use Rattle.etcs_radio.specs.Lefts.{front_row, front_vars, headed, left_at, next_at, HoldsIn}
+use Rattle.etcs_radio.specs.Lefts.{front_row, front_vars, headed}
 use Rattle.etcs_radio.specs.Fronts.{content_by}
 
 -- NID_MESSAGE, the L_MESSAGE of a message with so many bits more, and these variables
@@ -49,19 +47,8 @@ so_far nid (phase.Padding left) front l store number = measured nid (padded (pac
 so_far nid (phase.Data left) front l store number = measured nid (kept OTHER_DATA store.bits) left
 so_far nid phase.Whole front l store number = whole_far (front_row nid) nid front store number
 
--- and the bits of the unfinished one
-abbrev pub seen_by : ℕ → Phase → List ℕ → PacketsLeft → PacketList → ℕ → List Bool → List Bool
-seen_by nid phase front l store number part = spelled (so_far nid phase front l store number) ++ part
-
 abbrev pub message_by : ℕ → List ℕ → PacketList → ℕ → Content
 message_by nid front store number = content_by (front_row nid) nid front store.packets.items store.bits number
-
-abbrev pub stage_of : ℕ → Phase → List ℕ → PacketsLeft → PacketList → ℕ → List Bool → ℕ → Option Stop → Stage Content
-stage_of nid phase front l store number part count stop = stage_by (next_at nid phase l) (seen_by nid phase front l store number part) (message_by nid front store number) count stop
-
-abbrev pub IsMessageReader : ℕ → Phase → List ℕ → PacketsLeft → PacketList → ℕ → List Bool → ℕ → Option Stop → Type 0
-IsMessageReader nid phase front l store number part count stop =
-    IsReader MessageLanguage (left_at nid phase l) (HoldsIn nid phase front l number (list_holds store.packets.items store.numbers.items store.bits)) (so_far nid phase front l store number) part count stop
 
 -- 8 times L_MESSAGE
 abbrev pub message_bits : Content → ℕ

@@ -11,9 +11,9 @@ use crate::body::{Body, RadioHead};
 use crate::message::{Content, HEADER_BITS, Message};
 use etcs_bits::{BitSlice, parts};
 use etcs_packets::Packet;
+use etcs_packets::parts::{write_packets, write_reading, write_variables};
 use etcs_vars::Var;
 use etcs_vars::parts::Variables;
-use etcs_writing::{write_packets, write_reading, write_variables};
 use std::alloc::AllocError;
 
 impl Message {

@@ -3,7 +3,7 @@
 ghost use Rattle.std.specs.Prelude.{◌≡◌, ℕ, ◌≤◌, ◌<◌, ◌*◌, ◌↔◌, ◌++◌, length, take, slice_index_or, IsTrue, IfOk, OnOk, OnErr, IfSome, IfNone};
 ghost use Rattle.etcs_bits.specs.Bits.{bits};
 ghost use Rattle.etcs_vars.specs.Reading.{Reading, spelled, InLanguage, NoneYet};
-ghost use Rattle.etcs_radio.specs.Laws.{OneSpelling, RoomRule};
+ghost use Rattle.etcs_radio.specs.Promises.{OneSpelling, RoomRule};
 ghost use Rattle.etcs_radio.specs.Messages.{MessageLanguage, MessageReads, message_value};
 
 use crate::message::Message;

@@ -1,8 +1,11 @@
 //! What comes next in a message.
 
-ghost use Rattle.std.specs.Prelude.{◌≡◌, ◌≤◌, option_map};
+ghost use Rattle.std.specs.Prelude.{◌≡◌, List, Some, length, drop, option_map};
+ghost use Rattle.etcs_vars.specs.declared.var.Var.{Var};
+ghost use Rattle.etcs_reader.specs.Fields.{first_of};
 ghost use Rattle.etcs_radio.specs.Lefts.{front_row, front_bits};
 
+use etcs_tables::{RowItem, Way, message_bits, message_row};
 use etcs_vars::Var;
 
 /// What comes next in a message.
@@ -24,58 +27,39 @@ pub(crate) enum Phase {
     Whole,
 }
 
-/// What stands between L_MESSAGE and the packets of messages without variables of their own.
-static PLAIN: [Var; 3] = [Var::T_TRAIN, Var::M_ACK, Var::NID_LRBG];
-/// That of message 2.
-static SR_AUTHORISATION: [Var; 5] = [
-    Var::T_TRAIN,
-    Var::M_ACK,
-    Var::NID_LRBG,
-    Var::Q_SCALE,
-    Var::D_SR,
-];
-/// That of messages 8, 27 and 28.
-static TRAIN_TIME: [Var; 4] = [Var::T_TRAIN, Var::M_ACK, Var::NID_LRBG, Var::T_TRAIN];
-/// That of messages 16 and 18.
-static EMERGENCY: [Var; 4] = [Var::T_TRAIN, Var::M_ACK, Var::NID_LRBG, Var::NID_EM];
-/// That of message 32.
-static VERSION: [Var; 4] = [Var::T_TRAIN, Var::M_ACK, Var::NID_LRBG, Var::M_VERSION];
-/// That of message 33.
-static SHIFTED: [Var; 5] = [
-    Var::T_TRAIN,
-    Var::M_ACK,
-    Var::NID_LRBG,
-    Var::Q_SCALE,
-    Var::D_REF,
-];
-/// That of message 45.
-static ORIENTATION: [Var; 4] = [Var::T_TRAIN, Var::M_ACK, Var::NID_LRBG, Var::Q_ORIENTATION];
+/// The variables of a typed message's header behind L_MESSAGE. Those of its own follow, and then packets.
+static HEAD: [Var; 3] = [Var::T_TRAIN, Var::M_ACK, Var::NID_LRBG];
 
-/// The variables between L_MESSAGE and the packets of a message of this number (SUBSET-026, 8).
+/// How many bits the header of a typed message has.
+const HEADER_BITS: usize = 75;
+
+/// How many variables stand between L_MESSAGE and the packets of a message of this number (SUBSET-026, 8).
 /// `None` where the number isn't typed.
-pub(crate) fn front_row(nid: u8) -> Option<&'static [Var]>
-    ensures { option_map (λ vars. vars.now) result ≡ front_row nid }
+pub(crate) fn front_count(nid: u8) -> Option<usize>
+    ensures { result ≡ option_map length (front_row nid) }
 {
-    match nid {
-        2 => Some(&SR_AUTHORISATION),
-        3 | 6 | 9 | 24 | 38 | 39 | 40 | 41 | 43 => Some(&PLAIN),
-        8 | 27 | 28 => Some(&TRAIN_TIME),
-        16 | 18 => Some(&EMERGENCY),
-        32 => Some(&VERSION),
-        33 => Some(&SHIFTED),
-        45 => Some(&ORIENTATION),
-        _ => None,
-    }
+    let row = message_row(Way::ToTrain, nid)?;
+    Some(HEAD.len() + row.items.len())
 }
 
-/// How many bits stand in front of the packets of a message with these variables behind L_MESSAGE.
-pub(crate) fn front_bits(vars: &[Var]) -> usize
-    requires { front_bits vars.now ≤ 107 }
-    ensures { result ≡ front_bits vars.now }
+/// How many bits stand in front of the packets of a message of this number. `None` where the number isn't typed.
+pub(crate) fn front_bits(nid: u8) -> Option<usize>
+    ensures { result ≡ option_map front_bits (front_row nid) }
 {
-    let mut bits = 18;
-    for var in vars {
-        bits += var.width();
+    let own = message_bits(Way::ToTrain, nid)?;
+    Some(HEADER_BITS + own)
+}
+
+/// The variable at a place of those between L_MESSAGE and the packets.
+pub(crate) fn front_var(nid: u8, at: usize) -> Option<Var>
+    ensures { (vars : List Var) → front_row nid ≡ Some vars → result ≡ first_of (drop at vars) }
+{
+    if let Some(var) = HEAD.get(at) {
+        return Some(*var);
     }
-    bits
+    let row = message_row(Way::ToTrain, nid)?;
+    match row.items.get(at - HEAD.len()) {
+        Some(RowItem::One(var)) => Some(*var),
+        _ => None,
+    }
 }

@@ -2,23 +2,22 @@
 
 ghost use Rattle.std.specs.Prelude.{◌≡◌, ◌≢◌, ◌<◌, List, Bool, [], MatchResult, IfSome, IsNone, Some, drop};
 ghost use Rattle.etcs_bits.specs.Bits.{bits};
-ghost use Rattle.etcs_rests.specs.Holdings.{IsHeld};
-ghost use Rattle.etcs_radio.specs.Messages.{MessageLanguage, MessageReads, message_value, IsMessage};
+ghost use Rattle.etcs_sequence.specs.Holdings.{IsHeld};
+ghost use Rattle.etcs_radio.specs.Messages.{MessageValue, MessageLanguage, MessageReads, message_value, IsMessage};
 ghost use Rattle.etcs_vars.specs.declared.var.Var.{Var};
 ghost use Rattle.etcs_radio.specs.Bodies.{IsBodyNumbers};
-ghost use Rattle.etcs_radio.specs.Lefts.{front_row};
+ghost use Rattle.etcs_radio.specs.Lefts.{front_row, HoldsIn};
 ghost use Rattle.etcs_radio.specs.Fronts.{head_by, content_by, IsHeadNumbers};
-ghost use Rattle.etcs_radio.specs.Readers.{Members, message_bits};
+ghost use Rattle.etcs_sequence.specs.Held.{list_holds};
+ghost use Rattle.etcs_radio.specs.Readers.{Members, so_far, message_by, message_bits};
 
 use crate::body::{Body, RadioHead};
 use crate::message::{Content, Message};
-use crate::phase::front_row;
+use crate::phase::front_count;
 use crate::rest::MessageRest;
-use etcs_container::Held;
+use etcs_bodies::Items;
 use etcs_packets::Packet;
-use etcs_parts::Items;
-use etcs_reader::Feeder;
-use etcs_rests::{PacketList, fault_by};
+use etcs_sequence::{Held, ItemReader, ItemRest, PacketList};
 use etcs_vars::{Fed, ReadFault};
 use std::alloc::Global;
 use std::marker::Model;
@@ -40,7 +39,7 @@ fn content_of(nid: u8, front: &[u64], store: PacketList, padding: u8) -> Content
     requires { (vars : List Var) → front_row nid ≡ Some vars → IsHeadNumbers front.now × IsBodyNumbers nid (drop 3 front.now) }
     ensures { result ≡ content_by (front_row nid) nid front.now store.packets.items store.bits padding }
 {
-    match front_row(nid) {
+    match front_count(nid) {
         Some(_) => Content::Typed {
             head: head_of(front),
             body: Body::of_numbers(nid, &front[3..]),
@@ -54,32 +53,74 @@ fn content_of(nid: u8, front: &[u64], store: PacketList, padding: u8) -> Content
     }
 }
 
-/// How many bytes the longest message has.
-const MOST: usize = 1023;
+impl ItemRest for MessageRest<PacketList> {
+    type Size = ();
+
+    type Item = Message;
+
+    ghost Shown = { MessageValue };
+
+    ghost Reads = { λ size. MessageReads };
+
+    ghost value = { message_value };
+
+    ghost IsValue = { IsMessage };
+
+    ghost bits = { message_bits };
+
+    ghost most = { λ size. 1023 };
+
+    ghost least = { 18 };
+
+    ghost far = { λ s. so_far s.nid s.stage s.front.items s.packets.left s.packets.store s.padding };
+
+    ghost holds = { λ size s. HoldsIn s.nid s.stage s.front.items s.packets.left s.padding (list_holds s.packets.store.packets.items s.packets.store.numbers.items s.packets.store.bits) };
+
+    ghost made = { λ s. message_by s.nid s.front.items s.packets.store s.padding };
+
+    ghost store = { λ s. s.packets.store };
+
+    ghost Members = { Members };
+
+    #[inline]
+    fn most(_size: ()) -> usize {
+        1023
+    }
+
+    #[inline]
+    fn store(&self) -> &PacketList {
+        &self.packets.store
+    }
+
+    #[inline]
+    fn into_item(self, _size: ()) -> Message {
+        let (nid, padding) = (self.nid, self.padding);
+        let front = self.front;
+        let store = self.packets.store;
+        let content = content_of(nid, front.as_slice(), store, padding);
+        Message { content }
+    }
+}
 
 /// Reads a radio message from pieces of any length (SUBSET-026, 8). It keeps none of the bytes: only NID_MESSAGE,
 /// the numbers in front of the packets, the packets that are whole, the numbers or kept bits of the packet that is
 /// being read or of a message that is kept whole, PADDING and one unfinished variable.
 #[derive(Drop)]
 pub struct MessageReader {
-    feeder: Feeder<MessageRest<PacketList>>,
+    reader: ItemReader<MessageRest<PacketList>>,
 }
 
 impl Model for MessageReader {
-    ghost use Rattle.etcs_rests.specs.Stages.{Stage};
+    ghost use Rattle.etcs_sequence.specs.Stages.{Stage};
     ghost use Rattle.etcs_radio.specs.declared.message.Content.{Content};
 
     ghost Value = { Stage Content };
 
-    ghost use Rattle.etcs_radio.specs.Readers.{stage_of, IsMessageReader};
-
-    ghost view = { λ r. stage_of r.feeder.rest.nid r.feeder.rest.stage r.feeder.rest.front.items r.feeder.rest.packets.left r.feeder.rest.packets.store r.feeder.rest.padding r.feeder.part r.feeder.count r.feeder.stop };
-
-    ghost invariant = { λ r. IsMessageReader r.feeder.rest.nid r.feeder.rest.stage r.feeder.rest.front.items r.feeder.rest.packets.left r.feeder.rest.packets.store r.feeder.rest.padding r.feeder.part r.feeder.count r.feeder.stop };
+    ghost view = { λ r. r.reader.stage };
 }
 
 impl MessageReader {
-    ghost use Rattle.etcs_rests.specs.Stages.{Feeds, IsReading, fault_of, seen_of, reading, finished};
+    ghost use Rattle.etcs_sequence.specs.Stages.{Feeds, IsReading, fault_of, seen_of, reading, finished};
     ghost use Rattle.etcs_radio.specs.declared.message.Content.{Content};
 
     /// A reader of one message. Nothing is allocated before the first packet or kept bit.
@@ -87,7 +128,7 @@ impl MessageReader {
         ensures { result ≡ reading [] }
     {
         MessageReader {
-            feeder: Feeder::new(MessageRest::new(PacketList::new(alloc))),
+            reader: ItemReader::new((), MessageRest::new(PacketList::new(alloc))),
         }
     }
 
@@ -95,7 +136,7 @@ impl MessageReader {
     pub fn bits_seen(&self) -> usize
         ensures { result ≡ seen_of message_bits self.now }
     {
-        self.feeder.count()
+        self.reader.bits_seen()
     }
 
     /// Takes the next piece: `More` where all of it was taken and the message isn't whole yet, `Done` with the
@@ -111,21 +152,7 @@ impl MessageReader {
         ensures answer { (seen : List Bool) → self.old ≡ reading seen → Feeds MessageReads message_value IsMessage 18 seen (bits piece.now) result self.new }
         ensures after { (IsReading self.old → ⊥) → (self.new ≡ self.old) × (result ≡ Err (fault_of self.old)) }
     {
-        if let Some(stop) = self.feeder.stop() {
-            return Err(fault_by(stop));
-        }
-        if self.feeder.var().is_none() {
-            return Err(ReadFault::Ended);
-        }
-        let wanted = MOST - self.feeder.count() / 8;
-        let fed = wanted.min(piece.len());
-        match self.feeder.feed(&piece[..fed]) {
-            Ok(taken) => match self.feeder.var() {
-                Some(_) => Ok(Fed::More),
-                None => Ok(Fed::Done { taken: taken / 8 }),
-            },
-            Err(stop) => Err(fault_by(stop)),
-        }
+        self.reader.feed(piece)
     }
 
     /// What it holds between two pieces: the whole packets, the numbers or kept bits of the packet that is being read
@@ -134,18 +161,7 @@ impl MessageReader {
         ensures some { IfSome result (λ h. IsHeld MessageLanguage (Members h.packets.now h.numbers.now h.kept) self.now h.part h.taken) }
         ensures none { IsNone result → IsReading self.now → ⊥ }
     {
-        if self.feeder.stop().is_some() || self.feeder.var().is_none() {
-            return None;
-        }
-        let store = &self.feeder.rest().packets.store;
-        let (part, taken) = self.feeder.part();
-        Some(Held {
-            packets: store.packets.as_slice(),
-            numbers: store.numbers.as_slice(),
-            kept: store.bits.as_slice(),
-            part,
-            taken,
-        })
+        self.reader.held()
     }
 
     /// The message, once `feed` has answered `Done`.
@@ -156,14 +172,9 @@ impl MessageReader {
     pub fn take(self) -> Result<Message, Self>
         ensures { MatchResult result (λ m. self ≡ finished m) (λ r. (r ≡ self) × ((m : Content) → self ≢ finished m)) }
     {
-        if self.feeder.stop().is_some() || self.feeder.var().is_some() {
-            return Err(self);
+        match self.reader.take() {
+            Ok(message) => Ok(message),
+            Err(reader) => Err(MessageReader { reader }),
         }
-        let rest = self.feeder.into_rest();
-        let (nid, padding) = (rest.nid, rest.padding);
-        let front = rest.front;
-        let store = rest.packets.store;
-        let content = content_of(nid, front.as_slice(), store, padding);
-        Ok(Message { content })
     }
 }

@@ -9,16 +9,16 @@ ghost use Rattle.etcs_vars.proofs.Languages.{Same};
 ghost use Rattle.etcs_reader.specs.Rests.{Goes, Starts, LeapsBy};
 ghost use Rattle.etcs_radio.specs.Messages.{MessageLanguage};
 ghost use Rattle.etcs_radio.specs.Lefts.{left_at, next_at, stands_at, may_ask, behind_packets, behind_front, behind_padding, behind_data, DataFits, HoldsIn, Follows};
-ghost use Rattle.etcs_radio.specs.RestLaws.{rest_regular, rest_begins, rest_ended, follows_none, follows_along};
+ghost use Rattle.etcs_radio.specs.laws.RestLaws.{rest_regular, rest_begins, rest_ended, follows_none, follows_along};
 
-use crate::phase::{Phase, front_bits, front_row};
+use crate::phase::{Phase, front_bits, front_count, front_var};
 use arrayvec::ArrayVec;
 use etcs_bits::BitSlice;
-use etcs_container::parts::{number_at, run_at};
 use etcs_reader::Rest;
-use etcs_rests::{PacketStore, PacketsLeft, PacketsRest, Stage};
-use etcs_rows::Way;
 use etcs_rows::parts::{Carrier, message_lengths};
+use etcs_sequence::parts::{number_at, run_at};
+use etcs_sequence::{PacketStore, PacketsLeft, PacketsRest, Stage};
+use etcs_tables::Way;
 use etcs_vars::{Var, begins};
 use std::alloc::AllocError;
 
@@ -115,10 +115,9 @@ impl<S: PacketStore> MessageRest<S> {
         ensures { Follows self.old.nid self.old.stage self.old.front.items self.old.packets.left self.old.padding (S.holds self.old.packets.store) ((L_MESSAGE, number) ∷ []) self.new.nid self.new.stage self.new.front.items self.new.packets.left self.new.padding (S.holds self.new.packets.store) }
     {
         let bits = number as usize * 8;
-        match front_row(self.nid) {
-            Some(vars) => {
-                self.packets
-                    .start(Carrier::Message, bits - front_bits(vars));
+        match front_bits(self.nid) {
+            Some(front) => {
+                self.packets.start(Carrier::Message, bits - front);
                 self.stage = Phase::Front(0);
             }
             None => self.stage = Phase::Data(bits - 18),
@@ -130,8 +129,8 @@ impl<S: PacketStore> MessageRest<S> {
         requires stage { self.old.stage ≡ Phase.Front at }
         ensures { (x : Var) → next_at self.old.nid self.old.stage self.old.packets.left ≡ Some x → Starts (left_at self.old.nid self.old.stage self.old.packets.left) x 0 number → Follows self.old.nid self.old.stage self.old.front.items self.old.packets.left self.old.padding (S.holds self.old.packets.store) ((x, number) ∷ []) self.new.nid self.new.stage self.new.front.items self.new.packets.left self.new.padding (S.holds self.new.packets.store) }
     {
-        let count = match front_row(self.nid) {
-            Some(vars) => vars.len(),
+        let count = match front_count(self.nid) {
+            Some(count) => count,
             None => unreachable!(),
         };
         let next = behind_front(count, at + 1, &self.packets.left);
@@ -275,10 +274,7 @@ impl<S: PacketStore> Rest for MessageRest<S> {
         match self.stage {
             Phase::Number => Some(Var::NID_MESSAGE),
             Phase::Length => Some(Var::L_MESSAGE),
-            Phase::Front(at) => match front_row(self.nid) {
-                Some(vars) => vars.get(at).copied(),
-                None => None,
-            },
+            Phase::Front(at) => front_var(self.nid, at),
             Phase::Packets => self.packets.var(),
             Phase::Padding(_) => Some(Var::PADDING),
             Phase::Data(_) => Some(Var::OTHER_DATA),

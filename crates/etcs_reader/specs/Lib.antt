@@ -2,5 +2,4 @@ pub mod Rests
 pub mod Readers
 pub mod Feeders
 pub mod Fields
-pub mod FieldLaws
-pub mod StoredLaws
+pub mod laws

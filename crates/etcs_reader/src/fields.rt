@@ -2,7 +2,7 @@
 
 ghost use Rattle.etcs_vars.specs.Walking.{Residual};
 ghost use Rattle.etcs_reader.specs.Fields.{ReadsFields, first_of};
-ghost use Rattle.etcs_reader.specs.FieldLaws.{residual_none, residual_along, fields_regular, fields_begin, fields_ended};
+ghost use Rattle.etcs_reader.specs.laws.FieldLaws.{residual_none, residual_along, fields_regular, fields_begin, fields_ended};
 
 use crate::rest::Rest;
 use etcs_vars::{Var, begins};

@@ -2,7 +2,7 @@
 
 ghost use Rattle.std.specs.Prelude.{◌≡◌, ⊤};
 ghost use Rattle.std.proofs.Common.{sym};
-ghost use Rattle.etcs_reader.specs.StoredLaws.{with_along};
+ghost use Rattle.etcs_reader.specs.laws.StoredLaws.{with_along};
 
 use crate::rest::Rest;
 use etcs_vars::Var;

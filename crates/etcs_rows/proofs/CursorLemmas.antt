@@ -1,10 +1,10 @@
 -- Steps of a cursor keep what is left of the row.
 use Rattle.std.proofs.Common.{◌≡◌, ℕ, suc, ◌+◌, ◌<◌, true, List, [], ◌∷◌, ◌++◌, length, take, get_or, reverse, None, refl, sym, ap, ◌∙◌}
 use Rattle.std.proofs.lemmas.List.{reverse-append, take_more}
-use Rattle.etcs_rows.specs.declared.item.Guard.{Guard}
+use Rattle.etcs_tables.specs.declared.item.Guard.{Guard}
 use Rattle.etcs_rows.specs.declared.place.Pending.{Pending}
 use Rattle.etcs_rows.specs.declared.place.Cursor.{Cursor}
-use Rattle.etcs_rows.specs.Layouts.{Layout, layout, guarded, counted, passes}
+use Rattle.etcs_tables.specs.Layouts.{Layout, layout, guarded, counted, passes}
 use Rattle.etcs_rows.specs.Places.{onto, iterate}
 use Rattle.etcs_rows.specs.Cursors.{waiting, left_of}
 

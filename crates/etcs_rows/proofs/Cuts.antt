@@ -3,11 +3,11 @@ use Rattle.std.proofs.Common.{◌≡◌, ℕ, List, ◌∷◌, length, take, dro
 use Rattle.std.specs.Prelude.{min}
 use Rattle.std.proofs.Math.Nat.{min_comm}
 use Rattle.std.proofs.lemmas.List.{take_min, drop_min}
-use Rattle.etcs_rows.specs.declared.item.Guard.{Guard}
-use Rattle.etcs_rows.specs.declared.item.RowItem.{RowItem}
-use Rattle.etcs_rows.specs.declared.item.RowItem.TheVariants.{When, Many}
-use Rattle.etcs_rows.specs.Layouts.{guarded, counted, layout}
-use Rattle.etcs_rows.specs.Flat.{layout-when, layout-many}
+use Rattle.etcs_tables.specs.declared.item.Guard.{Guard}
+use Rattle.etcs_tables.specs.declared.item.RowItem.{RowItem}
+use Rattle.etcs_tables.specs.declared.item.RowItem.TheVariants.{When, Many}
+use Rattle.etcs_tables.specs.Layouts.{guarded, counted, layout}
+use Rattle.etcs_tables.specs.laws.Flat.{layout-when, layout-many}
 
 take_clamped : {A : Type 0} (n : ℕ) (xs : List A) → take (min (length xs) n) xs ≡ take n xs
 take_clamped n xs = ap (λ k. take k xs) (min_comm (length xs) n) ∙ take_min n xs

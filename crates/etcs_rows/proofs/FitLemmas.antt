@@ -4,12 +4,12 @@ use Rattle.std.specs.Prelude.{◌↔◌, IsTrue, IfSome}
 use Rattle.std.proofs.lemmas.Bool.{cases_lt}
 use Rattle.etcs_vars.specs.declared.var.Var.{Var}
 use Rattle.etcs_vars.specs.Vars.{width, admits}
-use Rattle.etcs_rows.specs.declared.item.RowItem.{RowItem}
-use Rattle.etcs_rows.specs.declared.item.RowItem.TheVariants.{One}
+use Rattle.etcs_tables.specs.declared.item.RowItem.{RowItem}
+use Rattle.etcs_tables.specs.declared.item.RowItem.TheVariants.{One}
 use Rattle.etcs_rows.specs.declared.place.Pending.{Pending}
 use Rattle.etcs_rows.specs.declared.place.Cursor.{Cursor}
 use Rattle.etcs_rows.specs.declared.steps.Steps.{Steps}
-use Rattle.etcs_rows.specs.Layouts.{Layout, whole, layout}
+use Rattle.etcs_tables.specs.Layouts.{Layout, whole, layout}
 use Rattle.etcs_rows.specs.Places.{onto, append}
 use Rattle.etcs_rows.specs.Cursors.{waiting, left_of, WaitsNest, KnowsTail}
 use Rattle.etcs_rows.specs.Lengths.{LengthsBy, front, behind, GroupsWithin, FirstWithin, FitsWithin}

@@ -4,15 +4,16 @@ use Rattle.std.specs.Prelude.{◌↔◌, IsTrue, Bool, false, ◌&&◌, not, nat
 use Rattle.std.specs.Option.{option_map}
 use Rattle.std.proofs.Math.Nat.{le-div_iff_mul-le, div-lt_iff_lt-mul}
 use Rattle.etcs_vars.proofs.Prefixes.{below_quotient}
-use Rattle.etcs_rows.specs.declared.item.RowItem.{RowItem}
-use Rattle.etcs_rows.specs.declared.row.Way.{Way}
+use Rattle.etcs_tables.specs.declared.item.RowItem.{RowItem}
+use Rattle.etcs_tables.specs.declared.row.Way.{Way}
 use Rattle.etcs_rows.specs.declared.frames.Carrier.{Carrier}
 use Rattle.etcs_rows.specs.declared.frames.Windows.{Windows}
-use Rattle.etcs_rows.specs.Layouts.{Layout, Lengths, items, layout}
-use Rattle.etcs_rows.specs.Flat.{layout-items}
-use Rattle.etcs_rows.specs.Rows.{row_to}
+use Rattle.etcs_tables.specs.Layouts.{Layout, Lengths, items, layout}
+use Rattle.etcs_tables.specs.laws.Flat.{layout-items}
+use Rattle.etcs_tables.specs.Rows.{row_to}
 use Rattle.etcs_rows.proofs.PlaceLemmas.{and_both}
-use Rattle.etcs_rows.specs.Frames.{frame_bits, is_kept, BodyLength, Leaves, LengthFits, UnframedFits, NumberFits, InWindows, IsBlock, AreBodies}
+use Rattle.etcs_tables.specs.Frames.{frame_bits, is_kept}
+use Rattle.etcs_rows.specs.Frames.{BodyLength, Leaves, LengthFits, UnframedFits, NumberFits, InWindows, IsBlock, AreBodies}
 
 -- ---- Numbers that begin alike.
 

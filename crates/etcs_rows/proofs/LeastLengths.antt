@@ -4,8 +4,8 @@ use Rattle.std.specs.Prelude.{IsTrue, true, false, IfSome}
 use Rattle.std.specs.Option.{SomeIff}
 use Rattle.etcs_vars.specs.declared.var.Var.{Var}
 use Rattle.etcs_vars.specs.Vars.{width, admits}
-use Rattle.etcs_rows.specs.declared.item.Guard.{Guard}
-use Rattle.etcs_rows.specs.Layouts.{Layout, whole, one, guarded, counted, passes}
+use Rattle.etcs_tables.specs.declared.item.Guard.{Guard}
+use Rattle.etcs_tables.specs.Layouts.{Layout, whole, one, guarded, counted, passes}
 use Rattle.etcs_rows.specs.Lengths.{LengthsBy}
 
 pub least_whole : (row : Layout) (n : ℕ) → row ≡ whole → LengthsBy row n 0

@@ -7,7 +7,7 @@ use Rattle.etcs_vars.specs.Reading.{Reading, spelled, numbers, Then, Times}
 use Rattle.etcs_vars.proofs.Walk.{spelled-append}
 use Rattle.etcs_vars.proofs.Languages.{Same}
 use Rattle.etcs_vars.proofs.Sent.{length-sent}
-use Rattle.etcs_rows.specs.Layouts.{Layout, whole, one, guarded, counted, passes, looks, Reads, Lengths}
+use Rattle.etcs_tables.specs.Layouts.{Layout, whole, one, guarded, counted, passes, looks, Reads, Lengths}
 use Rattle.etcs_rows.specs.Places.{append, iterate, onto}
 use Rattle.etcs_rows.specs.Sums.{Plus, SumOf}
 use Rattle.etcs_rows.specs.Lengths.{LengthOf, LengthsBy}

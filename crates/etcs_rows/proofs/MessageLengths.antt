@@ -1,19 +1,21 @@
 -- The lengths of a message are those that leave what may be left behind its row.
 use Rattle.std.proofs.Common.{◌≡◌, ℕ, ◌+◌, ◌-◌, ◌*◌, ◌/◌, ◌^◌, ◌<◌, ◌≤◌, Bool, true, false, Option, Some, None, [], refl, sym, arith, inl, inr, subst, leb}
-use Rattle.std.specs.Prelude.{◌↔◌, IsTrue, ◌&&◌, ◌||◌, ◌==◌, nat_le, if◌then◌else◌}
+use Rattle.std.specs.Prelude.{◌↔◌, IsTrue, ◌&&◌, ◌||◌, nat_le}
 use Rattle.std.specs.List.{list_all}
 use Rattle.std.proofs.lemmas.Bool.{and_parts, and_from, or_cases, or_left, or_right, leb-true, le-leb}
 use Rattle.etcs_vars.specs.declared.var.Var.{Var}
 use Rattle.etcs_vars.specs.Vars.{inside}
 use Rattle.etcs_vars.proofs.Prefixes.{some_number, admits_from}
-use Rattle.etcs_rows.specs.declared.row.Way.{Way}
-use Rattle.etcs_rows.specs.declared.row.Way.TheVariants.{ToTrain}
+use Rattle.etcs_tables.specs.declared.row.Way.{Way}
+use Rattle.etcs_tables.specs.declared.row.Way.TheVariants.{ToTrain}
 use Rattle.etcs_rows.specs.declared.frames.Carrier.TheVariants.{Message}
-use Rattle.etcs_rows.specs.Layouts.{Layout, whole, one, guarded, counted, looks, Lengths}
-use Rattle.etcs_rows.specs.Rows.{message_row_to, message_row_to_train, is_plain_message}
+use Rattle.etcs_tables.specs.Layouts.{Layout, whole, one, guarded, counted, looks, Lengths}
+use Rattle.etcs_tables.specs.Rows.{message_row_to, message_rows_to}
 use Rattle.etcs_rows.specs.Frames.{Leaves}
 use Rattle.etcs_rows.specs.Lengths.{LengthsBy}
-use Rattle.etcs_rows.specs.Messages.{MessageLengthFits, row_bits, behind_bits, lengths_behind}
+use Rattle.etcs_tables.specs.MessageRows.{row_bits, behind_bits, lengths_behind}
+use Rattle.etcs_rows.specs.Messages.{MessageLengthFits}
+use Rattle.etcs_tables.proofs.EachRow.{of_each}
 use Rattle.etcs_rows.proofs.LengthLemmas.{lengths_are}
 
 -- ---- Rows of variables without groups.
@@ -94,19 +96,11 @@ abbrev IsShort : Option Layout → Type 0
 IsShort None = Unit {0}
 IsShort (Some row) = (is_flat row ≡ true) × (row_bits row ≤ 100)
 
-either : (b : Bool) (x y : Option Layout) → IsShort x → IsShort y → IsShort (if b then x else y)
-either true x y h k = h
-either false x y h k = k
-
-rows_short : (nid : ℕ) → IsShort (message_row_to_train nid)
-rows_short n =
-    either (n == 2) _ _ (refl, omega arith) (
-    either (is_plain_message n) _ _ (refl, omega arith) (
-    either (n == 8 || n == 27 || n == 28) _ _ (refl, omega arith) (
-    either (n == 16 || n == 18) _ _ (refl, omega arith) (
-    either (n == 32) _ _ (refl, omega arith) (
-    either (n == 33) _ _ (refl, omega arith) (
-    either (n == 45) _ _ (refl, omega arith) tt))))))
+rows_short : (nid : ℕ) (o : Option Layout) → message_row_to ToTrain nid ≡ o → IsShort o
+rows_short nid None is = tt
+rows_short nid (Some row) is =
+    let both = and_parts (is_flat row) (leb (row_bits row) 100) (of_each (λ n row. is_flat row && leb (row_bits row) 100) (message_rows_to ToTrain) nid row refl is) in
+    (both.0, leb-true (row_bits row) 100 both.1)
 
 typed_fits : (nid l : ℕ) (row : Layout) → message_row_to ToTrain nid ≡ Some row → is_flat row ≡ true → row_bits row ≤ 100 → ((l < 2 ^ 10) × Leaves ToTrain Message (8 * l) (75 + row_bits row)) ↔ MessageLengthFits ToTrain nid l
 typed_fits nid l row e flat short = (
@@ -136,8 +130,8 @@ fits_as nid (Some row) e short l =
     let k = behind_fits (75 + row_bits row) l (omega (arith, short.1)) in
     let m = typed_fits nid l row e short.0 short.1 in (λ h. m.0 (k.0 h), λ h. k.1 (m.1 h))
 
-pub lengths_fit : (way : Way) (nid l : ℕ) → IsTrue (inside (lengths_behind (message_row_to ToTrain nid)) l) ↔ MessageLengthFits way nid l
-lengths_fit ToTrain nid l = fits_as nid (message_row_to ToTrain nid) refl (rows_short nid) l
+pub lengths_fit : (way : Way) (nid l : ℕ) → IsTrue (inside (lengths_behind (message_row_to way nid)) l) ↔ MessageLengthFits way nid l
+lengths_fit ToTrain nid l = fits_as nid (message_row_to ToTrain nid) refl (rows_short nid (message_row_to ToTrain nid) refl) l
 
 ordered_behind : (o : Option Layout) → IsShort o → IsTrue (list_all (λ r. nat_le r.0 r.1) (lengths_behind o))
 ordered_behind None h = refl
@@ -147,5 +141,5 @@ ordered_behind (Some row) h =
     let b = (bits + 30) / 8 in
     and_from (leb a a) (leb b 1023 && true) (le-leb a a (omega arith)) (and_from (leb b 1023) true (le-leb b 1023 (omega (arith, h.1))) refl)
 
-pub lengths_ordered : (nid : ℕ) → IsTrue (list_all (λ r. nat_le r.0 r.1) (lengths_behind (message_row_to ToTrain nid)))
-lengths_ordered nid = ordered_behind (message_row_to ToTrain nid) (rows_short nid)
+pub lengths_ordered : (way : Way) (nid : ℕ) → IsTrue (list_all (λ r. nat_le r.0 r.1) (lengths_behind (message_row_to way nid)))
+lengths_ordered ToTrain nid = ordered_behind (message_row_to ToTrain nid) (rows_short nid (message_row_to ToTrain nid) refl)

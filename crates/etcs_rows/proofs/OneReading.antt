@@ -4,7 +4,7 @@ use Rattle.std.specs.Prelude.{MatchBool}
 use Rattle.etcs_vars.specs.Reading.{Sent, Reading, spelled, Times}
 use Rattle.etcs_vars.proofs.Prefixes.{admits_parts}
 use Rattle.etcs_vars.proofs.Apart.{Agree, AllFit, Then-agree, Times-agree, Then-fit, Times-fit, apart}
-use Rattle.etcs_rows.specs.Layouts.{Layout, whole, one, guarded, counted, Scope, holds, count_before, Reads}
+use Rattle.etcs_tables.specs.Layouts.{Layout, whole, one, guarded, counted, Scope, holds, count_before, Reads}
 
 -- by the two cases of a guard
 both : (b : Bool) {P Q P' Q' : Type 0} (A : Type 0) → (P → P' → A) → (Q → Q' → A) → MatchBool b P Q → MatchBool b P' Q' → A

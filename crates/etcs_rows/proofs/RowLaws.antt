@@ -7,7 +7,7 @@ use Rattle.etcs_vars.specs.declared.var.Var.{Var}
 use Rattle.etcs_vars.specs.Vars.{admits}
 use Rattle.etcs_vars.specs.Reading.{Sent, Reading, spelled, numbers}
 use Rattle.etcs_vars.proofs.Apart.{Agree}
-use Rattle.etcs_rows.specs.Layouts.{Layout, whole, one, guarded, counted, Reads, Spells, AdmitsFields, ROW_LIMIT, looks}
+use Rattle.etcs_tables.specs.Layouts.{Layout, whole, one, guarded, counted, Reads, Spells, AdmitsFields, ROW_LIMIT, looks}
 use Rattle.etcs_rows.specs.Places.{onto, left_behind, one_more, read_of, StandsFor, PlacesStand, PlacesMeasure}
 use Rattle.etcs_rows.specs.Writing.{OneSpelling}
 use Rattle.etcs_rows.proofs.Behind.{follows, looks-onto, tail_of}

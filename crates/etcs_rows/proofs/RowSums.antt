@@ -3,8 +3,8 @@ use Rattle.std.proofs.Common.{◌≡◌, ℕ, ◌+◌, ◌≤◌, Bool, true, fa
 use Rattle.etcs_vars.specs.declared.var.Var.{Var}
 use Rattle.etcs_vars.specs.Vars.{width}
 use Rattle.etcs_vars.proofs.Prefixes.{admits_from, some_number}
-use Rattle.etcs_rows.specs.declared.item.Guard.{Guard}
-use Rattle.etcs_rows.specs.Layouts.{Layout, whole, one, guarded, counted, passes}
+use Rattle.etcs_tables.specs.declared.item.Guard.{Guard}
+use Rattle.etcs_tables.specs.Layouts.{Layout, whole, one, guarded, counted, passes}
 use Rattle.etcs_rows.specs.Lengths.{LengthsBy, front, behind, begins_with_group, GroupsWithin, FirstWithin}
 use Rattle.etcs_rows.specs.Sums.{Plus, SumOf}
 use Rattle.etcs_rows.proofs.LengthLemmas.{SameSet, set_along, set_back, set_self, Plus-same, SumOf-same, lengths-free}

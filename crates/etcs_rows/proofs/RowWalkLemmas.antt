@@ -11,7 +11,7 @@ use Rattle.etcs_vars.specs.Reading.{Reading, spelled, Viable, Owner}
 use Rattle.etcs_vars.proofs.Walk.{Regular, NextIs, May, viable_from, viable_only, owner}
 use Rattle.etcs_vars.proofs.Prefixes.{take-num, admits_parts}
 use Rattle.etcs_vars.proofs.Sent.{length-sent}
-use Rattle.etcs_rows.specs.Layouts.{Layout, whole, one, guarded, counted, looks, Reads, ReadsIn, Lengths}
+use Rattle.etcs_tables.specs.Layouts.{Layout, whole, one, guarded, counted, looks, Reads, ReadsIn, Lengths}
 use Rattle.etcs_rows.specs.Places.{onto, first_variable, after_any, after_number}
 use Rattle.etcs_rows.specs.Lengths.{LengthsBy, FirstWithin, FitsWithin, is_free}
 use Rattle.etcs_rows.proofs.OneReading.{Reads-agree, Reads-fit}

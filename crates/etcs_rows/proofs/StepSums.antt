@@ -5,9 +5,9 @@ use Rattle.std.proofs.lemmas.Bool.{cases_lt}
 use Rattle.std.proofs.Math.Nat.{mul-add, zero-mul, mul_comm, mul-le-mul_left}
 use Rattle.etcs_vars.specs.declared.var.Var.{Var}
 use Rattle.etcs_vars.specs.Vars.{admits}
-use Rattle.etcs_rows.specs.declared.item.Guard.{Guard}
+use Rattle.etcs_tables.specs.declared.item.Guard.{Guard}
 use Rattle.etcs_rows.specs.declared.steps.Steps.{Steps}
-use Rattle.etcs_rows.specs.Layouts.{Layout, guarded, passes}
+use Rattle.etcs_tables.specs.Layouts.{Layout, guarded, passes}
 use Rattle.etcs_rows.specs.Lengths.{LengthsBy, begins_with_group, front, GroupsWithin, SetsWithin}
 use Rattle.etcs_rows.specs.Steps.{InSteps, AreSteps, InAny, InGuarded, TimesWithin}
 use Rattle.etcs_rows.specs.Sums.{Plus, SumOf}

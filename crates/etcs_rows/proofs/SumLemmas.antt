@@ -8,10 +8,10 @@ use Rattle.std.proofs.Math.Pow.{pow_mono}
 use Rattle.etcs_vars.specs.Vars.{width, admits}
 use Rattle.etcs_vars.proofs.Prefixes.{admits_parts, admits_from, some_number, width-le}
 use Rattle.etcs_rows.specs.declared.length_set.LengthSet.{LengthSet}
-use Rattle.etcs_rows.specs.declared.item.Guard.{Guard}
-use Rattle.etcs_rows.specs.declared.item.RowItem.{RowItem}
-use Rattle.etcs_rows.specs.declared.item.RowItem.TheVariants.{One}
-use Rattle.etcs_rows.specs.Layouts.{Layout, whole, one, guarded, counted, passes, layout, begins}
+use Rattle.etcs_tables.specs.declared.item.Guard.{Guard}
+use Rattle.etcs_tables.specs.declared.item.RowItem.{RowItem}
+use Rattle.etcs_tables.specs.declared.item.RowItem.TheVariants.{One}
+use Rattle.etcs_tables.specs.Layouts.{Layout, whole, one, guarded, counted, passes, layout, begins}
 use Rattle.etcs_rows.specs.Places.{append, onto, first_variable}
 use Rattle.etcs_rows.specs.Cursors.{waiting, left_of, IsSettled}
 use Rattle.etcs_rows.specs.declared.place.Pending.{Pending}

@@ -16,7 +16,7 @@ use Rattle.etcs_rows.specs.declared.walk.Step.{Step}
 use Rattle.etcs_rows.specs.declared.walk.Step.TheVariants.{More, Number, Whole}
 use Rattle.etcs_rows.specs.declared.walk.Stopped.{Stopped}
 use Rattle.etcs_rows.specs.declared.walk.Stopped.TheVariants.{Refused, Ended}
-use Rattle.etcs_rows.specs.Layouts.{Layout, whole, one, guarded, counted, looks, Reads, ReadsIn}
+use Rattle.etcs_tables.specs.Layouts.{Layout, whole, one, guarded, counted, looks, Reads, ReadsIn}
 use Rattle.etcs_rows.specs.Lengths.{FitsWithin}
 use Rattle.etcs_rows.specs.Places.{first_variable, after_any, after_number}
 use Rattle.etcs_rows.specs.Walks.{WalkValue, WalkKept, language, Ends, Moves, Holds, Steps, Walks}

@@ -11,7 +11,7 @@ use Rattle.etcs_vars.proofs.Apart.{cut}
 use Rattle.etcs_vars.proofs.Prefixes.{admits_parts}
 use Rattle.etcs_vars.proofs.Walk.{spelled-append}
 use Rattle.etcs_vars.proofs.Sent.{length-sent, holder-append}
-use Rattle.etcs_rows.specs.Layouts.{Layout, whole, one, guarded, counted, looks, Reads, ReadsIn}
+use Rattle.etcs_tables.specs.Layouts.{Layout, whole, one, guarded, counted, looks, Reads, ReadsIn}
 use Rattle.etcs_rows.specs.Places.{onto, after_number}
 use Rattle.etcs_rows.specs.Walks.{ReadTo, WalksWhole}
 use Rattle.etcs_rows.proofs.Behind.{follows, looks-onto}

@@ -10,7 +10,7 @@ use Rattle.etcs_vars.specs.Vars.{width, admits}
 use Rattle.etcs_vars.specs.Reading.{Reading, spelled, numbers}
 use Rattle.etcs_vars.proofs.Prefixes.{admits_parts}
 use Rattle.etcs_vars.proofs.Sent.{length-sent}
-use Rattle.etcs_rows.specs.Layouts.{Layout, whole, one, guarded, counted, Reads, Spells, AdmitsFields, ROW_LIMIT, looks}
+use Rattle.etcs_tables.specs.Layouts.{Layout, whole, one, guarded, counted, Reads, Spells, AdmitsFields, ROW_LIMIT, looks}
 use Rattle.etcs_rows.specs.Places.{onto, first_variable, after_any}
 use Rattle.etcs_rows.specs.Writing.{AdmitsRest, Admits, Writes, Appends, Puts}
 use Rattle.etcs_rows.proofs.PlaceLemmas.{sound_open}

@@ -2,7 +2,7 @@
 use Rattle.std.specs.Prelude.{◌≡◌, ℕ, ◌+◌, ◌-◌, ◌<◌, ◌≤◌, false, ◌&&◌, List, [], ◌∷◌, length, reverse, IsTrue, IfSome, sum_by}
 use Rattle.etcs_rows.specs.declared.place.Pending.{Pending}
 use Rattle.etcs_rows.specs.declared.place.Cursor.{Cursor}
-use Rattle.etcs_rows.specs.Layouts.{Layout, whole, layout, begins, nests}
+use Rattle.etcs_tables.specs.Layouts.{Layout, whole, layout, begins, nests}
 use Rattle.etcs_rows.specs.Lengths.{LengthsBy}
 use Rattle.etcs_rows.specs.Places.{onto, iterate}
 use Rattle.etcs_rows.specs.Steps.{AreSteps}

@@ -3,7 +3,7 @@ use Rattle.std.specs.Prelude.{◌≡◌, ℕ, ◌+◌, ◌≤◌, Bool, true, fa
 use Rattle.etcs_vars.specs.declared.var.Var.{Var}
 use Rattle.etcs_vars.specs.Vars.{width, admits}
 use Rattle.etcs_vars.specs.Reading.{Reading, spelled}
-use Rattle.etcs_rows.specs.Layouts.{Layout, whole, one, guarded, counted, passes}
+use Rattle.etcs_tables.specs.Layouts.{Layout, whole, one, guarded, counted, passes}
 use Rattle.etcs_rows.specs.Sums.{Plus, SumOf}
 
 -- the lengths of the readings of a language

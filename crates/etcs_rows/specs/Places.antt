@@ -4,7 +4,7 @@ use Rattle.std.specs.Option.{option_and_then}
 use Rattle.etcs_vars.specs.declared.var.Var.{Var}
 use Rattle.etcs_vars.specs.Vars.{admits}
 use Rattle.etcs_vars.specs.Reading.{Reading, numbers}
-use Rattle.etcs_rows.specs.Layouts.{Layout, whole, one, guarded, counted, Reads, passes, looks, Lengths}
+use Rattle.etcs_tables.specs.Layouts.{Layout, whole, one, guarded, counted, Reads, passes, looks, Lengths}
 
 -- a row, and behind it another
 abbrev pub append : Layout → Layout → Layout

@@ -1,8 +1,8 @@
 -- Numbers in equal steps.
 use Rattle.std.specs.Prelude.{◌≡◌, ℕ, ◌+◌, ◌*◌, ◌≤◌, ◌↔◌, Option, Some, None, MatchBool}
-use Rattle.etcs_rows.specs.declared.item.Test.{Test}
+use Rattle.etcs_tables.specs.declared.item.Test.{Test}
 use Rattle.etcs_rows.specs.declared.steps.Steps.{Steps}
-use Rattle.etcs_rows.specs.Layouts.{passes}
+use Rattle.etcs_tables.specs.Layouts.{passes}
 use Rattle.etcs_rows.specs.Sums.{SumOf}
 
 -- first, first + step and so on, count times

@@ -1,8 +1,8 @@
 -- What the groups that wait leave, apart: how often each still stands, and what is behind it.
 use Rattle.std.specs.Prelude.{◌≡◌, ℕ, List, [], ◌∷◌, reverse}
-use Rattle.etcs_rows.specs.declared.item.RowItem.{RowItem}
+use Rattle.etcs_tables.specs.declared.item.RowItem.{RowItem}
 use Rattle.etcs_rows.specs.declared.place.Pending.{Pending}
-use Rattle.etcs_rows.specs.Layouts.{layout}
+use Rattle.etcs_tables.specs.Layouts.{layout}
 use Rattle.etcs_rows.specs.Lengths.{LengthsBy}
 use Rattle.etcs_rows.specs.Sums.{Plus, SumOf}
 

@@ -1,17 +1,14 @@
 -- Reading a row of a known number of bits, bit by bit.
-use Rattle.std.specs.Prelude.{◌≡◌, ◌↔◌, ℕ, ◌+◌, ◌-◌, ◌^◌, ◌<◌, ◌≤◌, Bool, List, [], ◌∷◌, ◌++◌, length, IsTrue, Option, Some, None, Result, Ok, Err, ◌⊎◌, refl}
-use Rattle.std.specs.Coded.{Coded, code_by, coded×, coded_ℕ, coded_bool, coded_list, coded_option}
+use Rattle.std.specs.Prelude.{◌≡◌, ◌↔◌, ℕ, ◌+◌, ◌-◌, ◌^◌, ◌<◌, ◌≤◌, Bool, List, [], ◌∷◌, ◌++◌, length, IsTrue, Option, Some, None, Result, Ok, Err, ◌⊎◌}
 use Rattle.etcs_bits.specs.Bits.{num}
 use Rattle.etcs_vars.specs.declared.var.Var.{Var}
-use Rattle.etcs_vars.specs.contracts.var.Var as variable
 use Rattle.etcs_vars.specs.Vars.{width}
 use Rattle.etcs_vars.specs.Reading.{Reading, spelled, InLanguage, Viable, Owner}
 use Rattle.etcs_rows.specs.declared.walk.Step.{Step}
 use Rattle.etcs_rows.specs.declared.walk.Step.TheVariants.{More, Number, Whole}
 use Rattle.etcs_rows.specs.declared.walk.Stopped.{Stopped}
 use Rattle.etcs_rows.specs.declared.walk.Stopped.TheVariants.{Refused, Ended}
-use Rattle.etcs_rows.specs.Layouts.{Layout, whole, looks, is_sound, ReadsIn}
-use Rattle.etcs_rows.specs.Flat.{layout_code}
+use Rattle.etcs_tables.specs.Layouts.{Layout, whole, looks, is_sound, ReadsIn}
 use Rattle.etcs_rows.specs.Places.{first_variable, after_number}
 
 -- what is left of the row, how many bits that is with those of the unfinished variable, these bits, and the variable
@@ -21,11 +18,6 @@ pub record WalkValue : Type 0 where
   pub len : ℕ
   pub part : List Bool
   pub refused : Option Var
-
-abbrev pub walk_code : Coded WalkValue
-walk_code =
-    code_by (Layout × (ℕ × (List Bool × Option Var))) (coded× layout_code (coded× coded_ℕ (coded× (coded_list coded_bool) (coded_option variable.the_row.coded))))
-    (λ w. (w.left, (w.len, (w.part, w.refused)))) (λ p. record { left = p.0; len = p.1.0; part = p.1.1.0; refused = p.1.1.1 }) (λ _. refl)
 
 -- the readings of what is left
 abbrev pub language : WalkValue → Reading → Type 0

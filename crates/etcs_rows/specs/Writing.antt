@@ -2,7 +2,7 @@
 use Rattle.std.specs.Prelude.{◌≡◌, ℕ, ◌+◌, ◌≤◌, ◌↔◌, Bool, List, [], ◌++◌, length, IsTrue, None}
 use Rattle.etcs_bits.specs.Bits.{replaced}
 use Rattle.etcs_vars.specs.Reading.{Reading, spelled, numbers}
-use Rattle.etcs_rows.specs.Layouts.{Layout, Reads, Spells, AdmitsFields, ROW_LIMIT, looks}
+use Rattle.etcs_tables.specs.Layouts.{Layout, Reads, Spells, AdmitsFields, ROW_LIMIT, looks}
 
 -- what is left of a row admits the numbers to come, behind so many bits
 abbrev pub AdmitsRest : Layout → List ℕ → ℕ → Type 0

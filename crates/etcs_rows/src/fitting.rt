@@ -4,19 +4,19 @@
 
 ghost use Rattle.std.specs.Prelude.{◌≡◌, ◌↔◌, ℕ, ◌+◌, ◌≤◌, IsTrue, IfSome, reverse};
 ghost use Rattle.etcs_vars.specs.Vars.{width, admits};
-ghost use Rattle.etcs_rows.specs.Layouts.{layout};
+ghost use Rattle.etcs_tables.specs.Layouts.{layout};
 ghost use Rattle.etcs_rows.specs.Lengths.{LengthsBy, behind, GroupsWithin, FitsWithin};
 ghost use Rattle.etcs_rows.specs.Sums.{Plus, SumOf};
 ghost use Rattle.etcs_rows.specs.Steps.{InSteps, AreSteps, TimesWithin};
 ghost use Rattle.etcs_rows.specs.Cursors.{waiting, left_of, Nests, WaitsNest, KnowsSteps};
 ghost use Rattle.etcs_rows.specs.Waiting.{Agains, Tails, Onward};
 
-use crate::item::RowItem;
 use crate::measure::behind_groups;
 use crate::place::{Cursor, Pending};
 use crate::steps::{
     Steps, counted_within, groups_steps, leading, steps_each, steps_of, times_steps,
 };
+use etcs_tables::RowItem;
 use etcs_vars::Var;
 
 /// How many bits a group may take, as often as it still stands.

@@ -1,15 +1,15 @@
 //! Which numbers and which lengths of packets still fit.
 
 ghost use Rattle.std.specs.Prelude.{◌≡◌, ◌↔◌, ℕ, ◌-◌, ◌/◌, ◌^◌, ◌<◌, ◌≤◌, [], IsTrue};
-ghost use Rattle.etcs_rows.specs.Frames.{frame_bits, is_kept, LengthFits, UnframedFits, NumberFits, IsBlock, Within, InWindows, AreBodies};
-ghost use Rattle.etcs_rows.specs.Layouts.{layout, Lengths};
+ghost use Rattle.etcs_tables.specs.Frames.{frame_bits, is_kept};
+ghost use Rattle.etcs_rows.specs.Frames.{LengthFits, UnframedFits, NumberFits, IsBlock, Within, InWindows, AreBodies};
+ghost use Rattle.etcs_tables.specs.Layouts.{layout, Lengths};
 ghost use Rattle.etcs_rows.specs.Sets.{In};
 
 use crate::least::some_length;
 use crate::length_set::LengthSet;
 use crate::place::Place;
-use crate::row::{Row, Way};
-use crate::tables::row_of;
+use etcs_tables::{Row, Way, frame_bits, is_kept, row_of};
 
 /// What carries packets.
 #[derive(Clone, Copy, Debug, PartialEq, Eq)]
@@ -34,22 +34,6 @@ const MOST_LENGTH: usize = 8191;
 
 /// How many numbers of bits are tried one by one before all of a row are worked out.
 const TRIES: usize = 64;
-
-/// The bits in front of a packet's row: NID_PACKET, Q_DIR to the train, and L_PACKET.
-fn frame_bits(way: Way) -> usize
-    ensures { result ≡ frame_bits way }
-{
-    match way {
-        Way::ToTrain => 23,
-    }
-}
-
-/// Whether packets of this number are kept as bits: not 0, not 255 and not typed.
-pub fn is_kept(way: Way, nid: u8) -> bool
-    ensures { result ≡ is_kept way nid }
-{
-    nid > 0 && nid < 255 && row_of(way, nid).is_none()
-}
 
 /// The least and the greatest number of `width` bits that begins with `bits` and has `rest` bits more.
 fn ends(width: usize, rest: usize, bits: u64) -> (usize, usize)

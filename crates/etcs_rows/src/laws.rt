@@ -5,7 +5,7 @@ ghost use Rattle.etcs_rows.specs.Places.{PlacesStand, PlacesMeasure};
 ghost use Rattle.etcs_rows.specs.Walks.{WalksWhole};
 ghost use Rattle.etcs_rows.specs.Writing.{OneSpelling};
 
-use crate::packetlike::Packetlike;
+use etcs_bodies::Packetlike;
 use std::alloc::{AllocError, Global};
 
 /// Numbers of a row and their bits determine each other, and no spelling begins another.

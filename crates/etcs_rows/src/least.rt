@@ -2,10 +2,10 @@
 
 ghost use Rattle.std.specs.Prelude.{◌≡◌, IsTrue, IfSome};
 ghost use Rattle.etcs_vars.specs.Vars.{admits};
-ghost use Rattle.etcs_rows.specs.Layouts.{layout};
+ghost use Rattle.etcs_tables.specs.Layouts.{layout};
 ghost use Rattle.etcs_rows.specs.Lengths.{LengthsBy};
 
-use crate::item::RowItem;
+use etcs_tables::RowItem;
 use etcs_vars::Var;
 
 /// The least number that a variable admits.

@@ -1,13 +1,13 @@
 //! How many bits a row may take.
 
 ghost use Rattle.std.specs.Prelude.{◌≡◌, ◌↔◌, ℕ, ◌+◌, ◌≤◌, ◌<◌, length, IsTrue};
-ghost use Rattle.etcs_rows.specs.Layouts.{layout};
+ghost use Rattle.etcs_tables.specs.Layouts.{layout};
 ghost use Rattle.etcs_rows.specs.Lengths.{LengthsBy, front, behind, begins_with_group, GroupsWithin, FirstWithin, SetsWithin};
 ghost use Rattle.etcs_rows.specs.Sums.{SumOf};
 ghost use Rattle.etcs_rows.specs.Sets.{IsSet, In};
 
-use crate::item::RowItem;
 use crate::length_set::LengthSet;
+use etcs_tables::RowItem;
 use etcs_vars::Var;
 
 /// What stands behind the groups in front.

@@ -5,16 +5,16 @@ ghost use Rattle.std.specs.Prelude.{◌≡◌, ◌<◌, ◌≤◌, ◌+◌, ◌^
 ghost use Rattle.etcs_bits.specs.Bits.{num};
 ghost use Rattle.etcs_vars.specs.declared.var.Var.{Var};
 ghost use Rattle.etcs_vars.specs.Vars.{width};
-ghost use Rattle.etcs_rows.specs.Layouts.{whole};
+ghost use Rattle.etcs_tables.specs.Layouts.{whole};
 ghost use Rattle.etcs_rows.specs.Places.{first_variable};
 ghost use Rattle.etcs_rows.specs.Walks.{Walks};
 
-pub use crate::framed::Framed;
-pub use crate::frames::{Carrier, is_kept, length_fits, number_fits};
+pub use crate::frames::{Carrier, length_fits, number_fits};
 pub use crate::message::message_lengths;
 pub use crate::walk::may_begin;
 use crate::walk::{RowWalk, Step, Stopped};
 pub use crate::write::put_row;
+pub use etcs_tables::message_bits;
 
 /// How many bits the next variable of a walk wants. 0 where the row is whole.
 pub fn wanted(walk: &RowWalk) -> usize

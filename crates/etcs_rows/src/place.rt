@@ -1,18 +1,17 @@
 //! Places in rows.
 
 ghost use Rattle.std.specs.Prelude.{◌≡◌, ◌↔◌, false, ℕ, ◌+◌, ◌-◌, ◌<◌, ◌≤◌, [], ◌∷◌, length, take, drop, IsTrue, IsSome, Some, None, option_map};
-ghost use Rattle.etcs_rows.specs.Layouts.{layout, passes, guarded, counted, looks, Lengths};
+ghost use Rattle.etcs_tables.specs.Layouts.{layout, passes, guarded, counted, looks, Lengths};
 ghost use Rattle.etcs_rows.specs.Lengths.{FitsWithin, is_free};
 ghost use Rattle.etcs_rows.specs.Sets.{In};
 ghost use Rattle.etcs_rows.specs.Places.{first_variable, after_any, after_number};
 
 use crate::fitting::{fits_at, fits_by_steps, reaches_by_steps, tail_steps};
-use crate::item::{Guard, RowItem};
 use crate::length_set::LengthSet;
 use crate::measure::{first_lengths, has_group, lengths_of};
-use crate::row::Row;
 use crate::steps::{Steps, steps_again};
 use arrayvec::ArrayVec;
+use etcs_tables::{Guard, Row, RowItem};
 use etcs_vars::Var;
 use std::marker::Model;
 
@@ -221,9 +220,9 @@ pub struct Place {
 
 impl Model for Place {
     ghost use Rattle.std.specs.Prelude.{IsTrue, None};
-    ghost use Rattle.etcs_rows.specs.Layouts.{Layout, looks};
+    ghost use Rattle.etcs_tables.specs.Layouts.{Layout, looks};
     ghost use Rattle.etcs_rows.specs.Cursors.{left_of, Nests, IsSettled};
-    ghost use Rattle.etcs_rows.specs.Flat.{layout_code};
+    ghost use Rattle.etcs_tables.specs.laws.Flat.{layout_code};
 
     ghost Value = { Layout };
 

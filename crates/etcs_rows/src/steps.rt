@@ -2,8 +2,8 @@
 
 ghost use Rattle.std.specs.Prelude.{◌≡◌, ◌↔◌, ℕ, ◌+◌, ◌*◌, ◌≤◌, true, false, IsTrue, IfSome, ◌⊎◌, length};
 
-use crate::item::{RowItem, Test};
 use crate::measure::{behind_groups, has_group};
+use etcs_tables::{RowItem, Test};
 use etcs_vars::Var;
 
 /// The numbers first, first + step and so on, count + 1 of them.
@@ -125,7 +125,7 @@ impl Steps {
 }
 
 ghost use Rattle.etcs_vars.specs.Vars.{admits};
-ghost use Rattle.etcs_rows.specs.Layouts.{layout, passes};
+ghost use Rattle.etcs_tables.specs.Layouts.{layout, passes};
 ghost use Rattle.etcs_rows.specs.Lengths.{LengthsBy, front, behind, GroupsWithin, SetsWithin};
 ghost use Rattle.etcs_rows.specs.Steps.{AreSteps, InGuarded, InSteps, TimesWithin};
 ghost use Rattle.etcs_rows.specs.Sums.{Plus, SumOf};

@@ -3,13 +3,13 @@
 ghost use Rattle.std.specs.Prelude.{◌≡◌, ◌↔◌, ℕ, ◌<◌, ◌≤◌, ◌+◌, ◌-◌, ◌*◌, ◌^◌, [], length, IsTrue, IsSome, IfSome, Ok, Some, None};
 ghost use Rattle.etcs_bits.specs.Bits.{bit, num};
 ghost use Rattle.etcs_vars.specs.Vars.{width};
-ghost use Rattle.etcs_rows.specs.Layouts.{layout, whole, Lengths};
+ghost use Rattle.etcs_tables.specs.Layouts.{layout, whole, Lengths};
 ghost use Rattle.etcs_rows.specs.Lengths.{FitsWithin};
 ghost use Rattle.etcs_rows.specs.Places.{first_variable};
 ghost use Rattle.etcs_rows.specs.Walks.{Holds, Steps, Moves, Walks};
 
 use crate::place::Place;
-use crate::row::Row;
+use etcs_tables::Row;
 use etcs_vars::Var;
 use std::marker::Model;
 
@@ -50,7 +50,8 @@ pub struct RowWalk {
 
 impl Model for RowWalk {
     ghost use Rattle.etcs_bits.specs.Bits.{num};
-    ghost use Rattle.etcs_rows.specs.Walks.{WalkValue, WalkKept, walk_code};
+    ghost use Rattle.etcs_rows.specs.Walks.{WalkValue, WalkKept};
+    ghost use Rattle.etcs_rows.specs.laws.Walks.{walk_code};
 
     ghost Value = { WalkValue };
 

@@ -2,11 +2,11 @@
 
 ghost use Rattle.std.specs.Prelude.{◌≡◌, ◌↔◌, ◌+◌, ◌^◌, ◌<◌, ◌≤◌, Bool, List, [], ◌++◌, length, IsTrue, OnOk, OnErr};
 ghost use Rattle.etcs_bits.specs.Bits.{bits, replaced};
-ghost use Rattle.etcs_rows.specs.Layouts.{layout, AdmitsFields, Spells};
+ghost use Rattle.etcs_tables.specs.Layouts.{layout, AdmitsFields, Spells};
 
 use crate::place::Place;
-use crate::row::Row;
 use etcs_bits::{Bits, parts};
+use etcs_tables::Row;
 use std::alloc::AllocError;
 
 /// How many bits of its row the length of a packet can count.

@@ -14,7 +14,7 @@ use Rattle.etcs_telegram.specs.Telegrams.{TelegramLanguage, TelegramParts, Reads
 use Rattle.etcs_telegram.proofs.SameReadings.{viable_along, owner_along}
 use Rattle.etcs_telegram.proofs.Spellings as telegrams
 use Rattle.etcs_telegram.proofs.Examples.{some_telegram}
-use Rattle.etcs_rests.specs.Stages as inner
+use Rattle.etcs_sequence.specs.Stages as inner
 use Rattle.etcs_radio.specs.declared.message.Content.{Content}
 use Rattle.etcs_radio.specs.Messages.{MessageLanguage, MessageReads, IsMessage, message_value}
 use Rattle.etcs_radio.proofs.Spelling as messages

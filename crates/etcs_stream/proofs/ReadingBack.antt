@@ -20,7 +20,7 @@ use Rattle.etcs_vars.specs.Reading.{Reading}
 use Rattle.etcs_text.specs.declared.entry.Kind.{Kind}
 use Rattle.etcs_text.specs.Encodings.{IsEncoded}
 use Rattle.etcs_text.specs.Entries.{EntryValue, of_telegram, of_message, EntryReads}
-use Rattle.etcs_text.specs.TextLengths.{encoded_short, json_short}
+use Rattle.etcs_text.proofs.TextLengths.{encoded_short, json_short}
 use Rattle.etcs_text.specs.Trees.{json_tree}
 use Rattle.etcs_radio.specs.Messages.{typed_message, kept_message}
 use Rattle.etcs_json.proofs.OneItems.{tree_of}

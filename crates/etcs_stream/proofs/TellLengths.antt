@@ -7,7 +7,7 @@ use Rattle.serde_json.specs.Written.{compact_text}
 use Rattle.etcs_vars.specs.Reading.{Reading}
 use Rattle.etcs_text.specs.declared.entry.Kind.{Kind}
 use Rattle.etcs_text.specs.Entries.{EntryValue, of_telegram, of_message, EntryReads}
-use Rattle.etcs_text.specs.TextLengths.{entry_short, check_short, encoded_short, json_short}
+use Rattle.etcs_text.proofs.TextLengths.{entry_short, check_short, encoded_short, json_short}
 use Rattle.etcs_text.specs.Trees.{json_tree}
 use Rattle.etcs_stream.specs.declared.job.Command.{Command}
 use Rattle.etcs_stream.specs.declared.job.Command.TheVariants.{Show, Check, Convert, Group}

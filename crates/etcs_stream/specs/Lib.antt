@@ -13,6 +13,6 @@ pub mod Engines
 pub mod Pipes
 pub mod Passes
 pub mod Stands
-pub mod StandLaws
 pub mod OneRuns
 pub mod ReadBacks
+pub mod laws

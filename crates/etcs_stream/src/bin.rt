@@ -3,7 +3,7 @@
 ghost use Rattle.std.specs.Prelude.{◌≡◌, []};
 ghost use Rattle.etcs_stream.specs.declared.job.Form.TheVariants as form;
 ghost use Rattle.etcs_stream.specs.Stands.{BinStands};
-ghost use Rattle.etcs_stream.specs.StandLaws.{bin_tells};
+ghost use Rattle.etcs_stream.specs.laws.StandLaws.{bin_tells};
 ghost use Rattle.etcs_stream.specs.Tellers.{IsGroupable};
 
 use crate::engine::Engine;

@@ -2,7 +2,7 @@
 
 ghost use Rattle.std.specs.Prelude.{◌≡◌, List, Bool, [], OnErr, IfOk, length};
 ghost use Rattle.etcs_bits.specs.Bits.{bits};
-ghost use Rattle.etcs_rests.specs.Stages as inner;
+ghost use Rattle.etcs_sequence.specs.Stages as inner;
 ghost use Rattle.etcs_text.specs.declared.entry.Kind.TheVariants.{Radio};
 ghost use Rattle.etcs_text.specs.Entries.{EntryReads, EntryValue, entry_value, kind_of};
 ghost use Rattle.etcs_stream.specs.Readers.{Feeds, reading, finished, stage_of, telegram_item, message_item};

@@ -67,7 +67,7 @@ fn name_of(clash: Clash) -> &'static str
 }
 
 /// Appends the words of an answer.
-#[tactic(auto, using(etcs_text::specs::Fronts::begins_more))]
+#[tactic(auto, using(etcs_text::specs::laws::Fronts::begins_more))]
 fn push_words(answer: Result<Added, Clash>, text: &mut Vec<u8>) -> Result<(), AllocError>
     ensures ok { OnOk result (text.new.items ≡ text.old.items ++ answer_words answer) }
     ensures err { OnErr result (Begins text.old.items text.new.items) }
@@ -83,7 +83,7 @@ fn push_words(answer: Result<Added, Clash>, text: &mut Vec<u8>) -> Result<(), Al
 }
 
 /// Appends the line of an answer.
-#[tactic(auto, using(etcs_text::specs::Fronts::begins_more))]
+#[tactic(auto, using(etcs_text::specs::laws::Fronts::begins_more))]
 fn push_answer(
     item: u64,
     answer: Result<Added, Clash>,
@@ -99,7 +99,7 @@ fn push_answer(
 }
 
 /// Appends a number behind what stands before it.
-#[tactic(auto, using(etcs_text::specs::Fronts::begins_more))]
+#[tactic(auto, using(etcs_text::specs::laws::Fronts::begins_more))]
 fn push_number(front: &[u8], number: u64, text: &mut Vec<u8>) -> Result<(), AllocError>
     ensures ok { OnOk result (text.new.items ≡ text.old.items ++ (front.now ++ decimal number)) }
     ensures err { OnErr result (Begins text.old.items text.new.items) }
@@ -109,7 +109,7 @@ fn push_number(front: &[u8], number: u64, text: &mut Vec<u8>) -> Result<(), Allo
 }
 
 /// Appends NID_C and NID_BG of a group.
-#[tactic(auto, using(etcs_text::specs::Fronts::begins_more))]
+#[tactic(auto, using(etcs_text::specs::laws::Fronts::begins_more))]
 fn push_group(country: u16, group: u16, text: &mut Vec<u8>) -> Result<(), AllocError>
     ensures ok { OnOk result (text.new.items ≡ text.old.items ++ group_front country group) }
     ensures err { OnErr result (Begins text.old.items text.new.items) }
@@ -119,7 +119,7 @@ fn push_group(country: u16, group: u16, text: &mut Vec<u8>) -> Result<(), AllocE
 }
 
 /// Appends the positions that are missing, each behind a blank.
-#[tactic(auto, using(etcs_text::specs::Fronts::begins_more))]
+#[tactic(auto, using(etcs_text::specs::laws::Fronts::begins_more))]
 fn push_missing(missing: &[bool; 8], text: &mut Vec<u8>) -> Result<(), AllocError>
     ensures ok { OnOk result (text.new.items ≡ text.old.items ++ positions_text (trues 8 missing.now)) }
     ensures err { OnErr result (Begins text.old.items text.new.items) }
@@ -133,7 +133,7 @@ fn push_missing(missing: &[bool; 8], text: &mut Vec<u8>) -> Result<(), AllocErro
 }
 
 /// Appends the end of the line of a whole group, and the packets of its message.
-#[tactic(auto, using(etcs_text::specs::Fronts::begins_more))]
+#[tactic(auto, using(etcs_text::specs::laws::Fronts::begins_more))]
 fn push_complete(packets: &[Packet], text: &mut Vec<u8>) -> Result<(), AllocError>
     ensures ok { OnOk result (text.new.items ≡ text.old.items ++ (codes " complete\n" ++ packets_text (map packet_value packets.now))) }
     ensures err { OnErr result (Begins text.old.items text.new.items) }
@@ -143,7 +143,7 @@ fn push_complete(packets: &[Packet], text: &mut Vec<u8>) -> Result<(), AllocErro
 }
 
 /// Appends the end of the line of a group that isn't whole.
-#[tactic(auto, using(etcs_text::specs::Fronts::begins_more))]
+#[tactic(auto, using(etcs_text::specs::laws::Fronts::begins_more))]
 fn push_lacking(missing: &[bool; 8], text: &mut Vec<u8>) -> Result<(), AllocError>
     ensures ok { OnOk result (text.new.items ≡ text.old.items ++ (codes " missing" ++ positions_text (trues 8 missing.now) ++ codes "\n")) }
     ensures err { OnErr result (Begins text.old.items text.new.items) }
@@ -154,7 +154,7 @@ fn push_lacking(missing: &[bool; 8], text: &mut Vec<u8>) -> Result<(), AllocErro
 }
 
 /// Appends the last lines.
-#[tactic(auto, using(etcs_text::specs::Fronts::begins_more))]
+#[tactic(auto, using(etcs_text::specs::laws::Fronts::begins_more))]
 fn push_last(assembly: &Assembly, text: &mut Vec<u8>) -> Result<(), AllocError>
     ensures ok { OnOk result ((last : List ℕ) × LastLines assembly.now last × (text.new.items ≡ text.old.items ++ last)) }
     ensures err { OnErr result (Begins text.old.items text.new.items) }

@@ -5,7 +5,7 @@ ghost use Rattle.etcs_stream.specs.declared.fault.RunFault.{RunFault};
 ghost use Rattle.etcs_stream.specs.declared.job.Form.TheVariants as form;
 ghost use Rattle.etcs_stream.specs.Lines.{bad_place, line_bytes};
 ghost use Rattle.etcs_stream.specs.Readers.{Awaits, HasRoom, seen_bits};
-ghost use Rattle.etcs_stream.specs.StandLaws.{hex_tells};
+ghost use Rattle.etcs_stream.specs.laws.StandLaws.{hex_tells};
 ghost use Rattle.etcs_stream.specs.Stands.{HexTook};
 ghost use Rattle.etcs_stream.specs.Steps.{Advances, Halts};
 ghost use Rattle.etcs_stream.specs.Tellers.{IsGroupable};

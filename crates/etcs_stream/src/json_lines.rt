@@ -5,7 +5,7 @@ ghost use Rattle.etcs_text.specs.Entries.{EntryValue, entry_kind, entry_value};
 ghost use Rattle.etcs_stream.specs.declared.fault.RunFault.{RunFault};
 ghost use Rattle.etcs_stream.specs.declared.job.Form.TheVariants as form;
 ghost use Rattle.etcs_stream.specs.JsonItems.{IsItemLine};
-ghost use Rattle.etcs_stream.specs.StandLaws.{json_tells};
+ghost use Rattle.etcs_stream.specs.laws.StandLaws.{json_tells};
 ghost use Rattle.etcs_stream.specs.Stands.{JsonTook};
 ghost use Rattle.etcs_stream.specs.Steps.{TakesJson, HaltsJson};
 ghost use Rattle.etcs_stream.specs.Tellers.{IsGroupable};

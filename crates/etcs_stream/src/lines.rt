@@ -4,7 +4,7 @@ ghost use Rattle.std.specs.Prelude.{◌≡◌, ◌+◌, ◌-◌, ◌^◌, ◌<�
 ghost use Rattle.etcs_stream.specs.Engines.{Ends, Stops, StopsAtEnd, Tells};
 ghost use Rattle.etcs_stream.specs.Faults.{IsOfEngine};
 ghost use Rattle.etcs_stream.specs.Lines.{IsLine, lines_text, most_characters, strip_cr};
-ghost use Rattle.etcs_stream.specs.StandLaws.{lines_tell};
+ghost use Rattle.etcs_stream.specs.laws.StandLaws.{lines_tell};
 ghost use Rattle.etcs_stream.specs.Stands.{LinesStand};
 
 use crate::engine::Engine;

@@ -1,18 +1,15 @@
 //! Runs over lines of JSON that are long, aren't UTF-8, hold what JSON doesn't have, or nest deep.
 
-use etcs_fakes::Repeated;
+use etcs_fakes::{Checks, Repeated};
 use etcs_stream::{Command, Form, Input, Job, Kind, Output, RunFault, Source, Tally, run};
 use std::alloc::{AllocError, Global};
-use std::process::Abort;
 use std::test::Fail;
 
 /// A message that is kept.
 const LINE: &[u8] = b"{\"data\":\"111111\",\"kind\":\"radio\",\"nid\":15}";
 
-/// What is told of it, one, two and three times.
+/// What is written of it, once and three times.
 const ONE: &[u8] = b"item 1 ok 24 bits\n";
-
-const TWO: &[u8] = b"item 1 ok 24 bits\nitem 2 ok 24 bits\n";
 
 const THREE: &[u8] = b"item 1 ok 24 bits\nitem 2 ok 24 bits\nitem 3 ok 24 bits\n";
 
@@ -44,28 +41,38 @@ fn check(alloc: Global, text: &[u8]) -> (Result<Tally, RunFault>, Vec<u8>) {
     (answer, written)
 }
 
-/// Whether this line between two good ones is a third, or is the first bad one.
-fn is_between(alloc: Global, line: &[u8], is_good: bool) -> Result<bool, AllocError> {
+/// Checks that a run over a text is answered so and writes this.
+fn check_run(checks: &mut Checks, alloc: Global, text: &[u8], answer: Result<Tally, RunFault>) {
+    let (found, written) = check(alloc, text);
+    checks.check(found == answer, "another answer");
+    let wanted = match answer {
+        Ok(tally) => tally.items,
+        Err(RunFault::BadJson { line }) => line.saturating_sub(1),
+        Err(_) => 0,
+    };
+    let lines = THREE.get(..ONE.len().saturating_mul(wanted as usize));
+    checks.check(lines == Some(written.as_slice()), "another text");
+}
+
+/// Checks that this line between two good ones is a third, or is the first bad one.
+fn check_between(
+    checks: &mut Checks,
+    alloc: Global,
+    line: &[u8],
+    is_good: bool,
+) -> Result<(), AllocError> {
     let mut text = LINE.to_vec(alloc)?;
     text.push(b'\n')?;
     text.extend_from_slice(line)?;
     text.push(b'\n')?;
     text.extend_from_slice(LINE)?;
-    let (answer, written) = check(alloc, text.as_slice());
-    Ok(if is_good {
-        answer == items(3) && written.as_slice() == THREE
-    } else {
-        answer == Err(RunFault::BadJson { line: 2 }) && written.as_slice() == ONE
-    })
-}
-
-/// Appends so many bytes.
-fn push_many(text: &mut Vec<u8>, byte: u8, count: u32) -> Result<(), AllocError> {
-    for _ in 0..count {
-        text.push(byte)?;
-    }
+    let answer = if is_good { items(3) } else { Err(BAD) };
+    check_run(checks, alloc, text.as_slice(), answer);
     Ok(())
 }
+
+/// The second line is no item.
+const BAD: RunFault = RunFault::BadJson { line: 2 };
 
 /// How a last line ends that has so many bytes with the blanks in front of its item, and whether it is read.
 static LONG: [(u32, &[u8], bool); 14] = [
@@ -85,62 +92,72 @@ static LONG: [(u32, &[u8], bool); 14] = [
     (MOST + 9000, b"\n", false),
 ];
 
-/// An item behind blanks, so that the line has so many bytes.
-fn push_long(text: &mut Vec<u8>, count: u32) -> Result<(), AllocError> {
-    push_many(text, b' ', count.saturating_sub(LINE.len() as u32))?;
-    text.extend_from_slice(LINE)
-}
-
-#[test]
-fn long_first_lines(rt: HostRuntime) -> Result<(), Fail> {
-    for (count, end, is_good) in LONG {
-        let mut text = Vec::new(rt.alloc());
-        push_long(&mut text, count)?;
-        text.extend_from_slice(end)?;
-        let (answer, written) = check(rt.alloc(), text.as_slice());
-        if is_good {
-            assert!(rt; answer == items(1), "{count}");
-            assert!(rt; written.as_slice() == ONE, "{count}");
-        } else {
-            assert!(rt; answer == Err(RunFault::BadJson { line: 1 }), "{count}");
-            assert!(rt; written.is_empty(), "{count}");
-        }
-    }
+/// Checks a text and after it an item in so many bytes, most of which are blanks, and these.
+fn check_long(
+    checks: &mut Checks,
+    alloc: Global,
+    before: &[u8],
+    (count, end, is_good): (u32, &[u8], bool),
+) -> Result<(), AllocError> {
+    let first = if before.is_empty() { 1 } else { 2 };
+    let mut text = before.to_vec(alloc)?;
+    let blanks = (count as usize).saturating_sub(LINE.len());
+    text.resize(before.len().saturating_add(blanks), b' ')?;
+    text.extend_from_slice(LINE)?;
+    text.extend_from_slice(end)?;
+    let bad = Err(RunFault::BadJson { line: first });
+    let answer = if is_good { items(first) } else { bad };
+    check_run(checks, alloc, text.as_slice(), answer);
     Ok(())
 }
 
 #[test]
-fn long_second_lines(rt: HostRuntime) -> Result<(), Fail> {
-    for (count, end, is_good) in LONG {
-        let mut text = LINE.to_vec(rt.alloc())?;
-        text.push(b'\n')?;
-        push_long(&mut text, count)?;
-        text.extend_from_slice(end)?;
-        let (answer, written) = check(rt.alloc(), text.as_slice());
-        if is_good {
-            assert!(rt; answer == items(2), "{count}");
-            assert!(rt; written.as_slice() == TWO, "{count}");
-        } else {
-            assert!(rt; answer == Err(RunFault::BadJson { line: 2 }), "{count}");
-            assert!(rt; written.as_slice() == ONE, "{count}");
-        }
+fn long_lines(rt: HostRuntime) -> Result<(), Fail> {
+    let (checks, alloc) = (&mut Checks::new(), rt.alloc());
+    let mut first = LINE.to_vec(alloc)?;
+    first.push(b'\n')?;
+    for long in LONG {
+        check_long(checks, alloc, &[], long)?;
+        check_long(checks, alloc, first.as_slice(), long)?;
     }
+    assert_eq!(rt; checks.wrong(), None);
     Ok(())
 }
 
-#[test]
-fn long_lines_of_blanks(rt: HostRuntime) -> Result<(), Fail> {
-    for count in [1, 4096, MOST - 1, MOST, MOST + 1, MOST + 2] {
-        let mut line = Vec::new(rt.alloc());
-        push_many(&mut line, b' ', count)?;
-        assert!(rt; is_between(rt.alloc(), line.as_slice(), false)?, "{count}");
+/// So many of each of these bytes, one after another.
+fn repeated(alloc: Global, bytes: &[u8], count: u32) -> Result<Vec<u8>, AllocError> {
+    let mut text = Vec::new(alloc);
+    for byte in bytes {
+        text.resize(text.len().saturating_add(count as usize), *byte)?;
     }
+    Ok(text)
+}
+
+/// Lines of blanks, and brackets alone, open and closed, up to as many as a line has.
+#[test]
+fn lines_that_are_no_items(rt: HostRuntime) -> Result<(), Fail> {
+    let (checks, alloc) = (&mut Checks::new(), rt.alloc());
+    for (bytes, counts) in [
+        (
+            b" ".as_slice(),
+            [1, 4096, MOST - 1, MOST, MOST + 1, MOST + 2],
+        ),
+        (b"[", [100, 127, 128, 129, 100_000, MOST]),
+        (b"[]", [100, 127, 128, 129, 100_000, 500_000]),
+    ] {
+        for count in counts {
+            let line = repeated(alloc, bytes, count)?;
+            check_between(checks, alloc, line.as_slice(), false)?;
+        }
+    }
+    assert_eq!(rt; checks.wrong(), None);
     Ok(())
 }
 
 /// A line that doesn't end is refused, and isn't read on.
 #[test]
 fn endless_lines(rt: HostRuntime) {
+    let checks = &mut Checks::new();
     let mut written = Vec::new(rt.alloc());
     let mut source = Input::new(Repeated {
         bytes: b"                                                                ",
@@ -149,9 +166,13 @@ fn endless_lines(rt: HostRuntime) {
     let mut sink = Output::new(&mut written);
     let answer = run(rt.alloc(), CHECK_RADIO, &mut source, &mut sink);
     drop(sink);
-    assert!(rt; answer == Err(RunFault::BadJson { line: 1 }));
-    assert!(rt; source.reads() < 20_000);
-    assert!(rt; written.is_empty());
+    checks.check(
+        answer == Err(RunFault::BadJson { line: 1 }),
+        "another answer",
+    );
+    checks.check(source.reads() < 20_000, "too many reads");
+    checks.check(written.is_empty(), "something is written");
+    assert_eq!(rt; checks.wrong(), None);
 }
 
 /// What stands in a text, and whether it may.
@@ -195,21 +216,6 @@ static IN_TEXTS: [(&[u8], bool); 37] = [
     (b"\t", false),
 ];
 
-/// The text is that of a member that another of its name replaces, so nothing else is wrong with the line.
-#[test]
-fn bytes_in_texts(rt: HostRuntime) -> Result<(), Fail> {
-    for (bytes, is_good) in IN_TEXTS {
-        let mut line = b"{\"data\":\"".to_vec(rt.alloc())?;
-        line.extend_from_slice(bytes)?;
-        line.extend_from_slice(b"\",\"data\":\"111111\",\"kind\":\"radio\",\"nid\":15}")?;
-        assert!(rt;
-            is_between(rt.alloc(), line.as_slice(), is_good)?,
-            "{bytes:?}"
-        );
-    }
-    Ok(())
-}
-
 /// What stands in front of an item, and whether it may. The second is a mark of the order of bytes.
 static IN_FRONT: [(&[u8], bool); 8] = [
     (b" \t\r \t", true),
@@ -222,53 +228,51 @@ static IN_FRONT: [(&[u8], bool); 8] = [
     (b"\xC2\xA0", false),
 ];
 
+/// A line of three parts.
+fn joined(alloc: Global, front: &[u8], middle: &[u8], end: &[u8]) -> Result<Vec<u8>, AllocError> {
+    let mut line = front.to_vec(alloc)?;
+    line.extend_from_slice(middle)?;
+    line.extend_from_slice(end)?;
+    Ok(line)
+}
+
+/// The end of an item with a member that another of its name replaces, so that nothing else is wrong with the line.
+const REPLACED: &[u8] = b",\"data\":\"111111\",\"kind\":\"radio\",\"nid\":15}";
+
 #[test]
-fn bytes_around_items(rt: HostRuntime) -> Result<(), Fail> {
-    for (bytes, is_good) in IN_FRONT {
-        let mut line = bytes.to_vec(rt.alloc())?;
-        line.extend_from_slice(LINE)?;
-        assert!(rt;
-            is_between(rt.alloc(), line.as_slice(), is_good)?,
-            "{bytes:?}"
-        );
-        let mut line = LINE.to_vec(rt.alloc())?;
-        line.extend_from_slice(bytes)?;
-        assert!(rt;
-            is_between(rt.alloc(), line.as_slice(), is_good)?,
-            "{bytes:?}"
-        );
+fn bytes_in_texts(rt: HostRuntime) -> Result<(), Fail> {
+    let (checks, alloc) = (&mut Checks::new(), rt.alloc());
+    for (bytes, is_good) in IN_TEXTS {
+        let text = joined(alloc, b"\"", bytes, b"\"")?;
+        let line = joined(alloc, b"{\"data\":", text.as_slice(), REPLACED)?;
+        check_between(checks, alloc, line.as_slice(), is_good)?;
     }
+    assert_eq!(rt; checks.wrong(), None);
     Ok(())
 }
 
-/// Brackets alone, open and closed, up to as many as a line has.
 #[test]
-fn deep_lists(rt: HostRuntime) -> Result<(), Fail> {
-    for depth in [100, 127, 128, 129, 100_000, 500_000] {
-        let mut line = Vec::new(rt.alloc());
-        push_many(&mut line, b'[', depth)?;
-        assert!(rt; is_between(rt.alloc(), line.as_slice(), false)?, "{depth}");
-        push_many(&mut line, b']', depth)?;
-        assert!(rt; is_between(rt.alloc(), line.as_slice(), false)?, "{depth}");
+fn bytes_around_items(rt: HostRuntime) -> Result<(), Fail> {
+    let (checks, alloc) = (&mut Checks::new(), rt.alloc());
+    for (bytes, is_good) in IN_FRONT {
+        let line = joined(alloc, bytes, LINE, &[])?;
+        check_between(checks, alloc, line.as_slice(), is_good)?;
+        let line = joined(alloc, LINE, bytes, &[])?;
+        check_between(checks, alloc, line.as_slice(), is_good)?;
     }
-    let mut line = Vec::new(rt.alloc());
-    push_many(&mut line, b'[', MOST)?;
-    assert!(rt; is_between(rt.alloc(), line.as_slice(), false)?);
+    assert_eq!(rt; checks.wrong(), None);
     Ok(())
 }
 
 /// An item with a member that nests deep, of which another one of its name replaces all: the object and 126 lists are read.
 #[test]
 fn deep_members(rt: HostRuntime) -> Result<(), Fail> {
+    let (checks, alloc) = (&mut Checks::new(), rt.alloc());
     for depth in [1, 126, 127, 128, 100_000] {
-        let mut line = b"{\"data\":".to_vec(rt.alloc())?;
-        push_many(&mut line, b'[', depth)?;
-        push_many(&mut line, b']', depth)?;
-        line.extend_from_slice(b",\"data\":\"111111\",\"kind\":\"radio\",\"nid\":15}")?;
-        assert!(rt;
-            is_between(rt.alloc(), line.as_slice(), depth < 127)?,
-            "{depth}"
-        );
+        let lists = repeated(alloc, b"[]", depth)?;
+        let line = joined(alloc, b"{\"data\":", lists.as_slice(), REPLACED)?;
+        check_between(checks, alloc, line.as_slice(), depth < 127)?;
     }
+    assert_eq!(rt; checks.wrong(), None);
     Ok(())
 }

@@ -1,10 +1,16 @@
-//! Tests of runs: readers and writers that fail or don't end, and memory that is refused. What a run writes of good streams
-//! is said by vectors.
+//! Tests of runs and of the program where readers and writers fail or don't end, and over lines of JSON that are long, deep
+//! or no UTF-8; and of what a group answers to its caller alone. What a run writes of good streams is said by vectors.
 #![tactic(auto)]
 
 #[cfg(test)]
+mod fault_tests;
+#[cfg(test)]
+mod group_tests;
+#[cfg(test)]
 mod json_tests;
 #[cfg(test)]
-mod memory_tests;
+mod message_tests;
+#[cfg(test)]
+mod program_tests;
 #[cfg(test)]
 mod stream_tests;

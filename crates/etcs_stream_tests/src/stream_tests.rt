@@ -1,6 +1,6 @@
 //! Runs over readers and writers that fail or don't end.
 
-use etcs_fakes::{Broken, Counted, Full, Narrow, Repeated};
+use etcs_fakes::{Broken, Checks, Counted, Full, Narrow, Repeated};
 use etcs_stream::{
     Command, Form, Input, Job, Kind, Output, RunFault, Sink, Source, Tally, run, write_fault,
 };
@@ -63,20 +63,21 @@ fn run_broken(alloc: Global, lines: &[u8]) -> Option<Vec<u8>> {
 
 #[test]
 fn answers_a_failed_read(rt: HostRuntime) -> Result<(), Fail> {
-    let alloc = rt.alloc();
+    let (checks, alloc) = (&mut Checks::new(), rt.alloc());
     let first = text_of(alloc, LINE)?;
     let both = text_of(alloc, LINES)?;
-    assert!(rt; both.len() > first.len() && !first.is_empty());
-    for count in 0..LINES.len() + 1 {
-        let written = run_broken(alloc, &LINES[..count]).ok_or("another answer")?;
-        if count < 55 {
-            assert!(rt; written.is_empty());
-        } else if count < 110 {
-            assert!(rt; written == first);
-        } else {
-            assert!(rt; written == both);
-        }
+    checks.check(both.len() > first.len() && !first.is_empty(), "no texts");
+    for count in 0..=LINES.len() {
+        let lines = LINES.get(..count).unwrap_or(&[]);
+        let written = run_broken(alloc, lines).ok_or("another answer")?;
+        let wanted = match count {
+            0..55 => &[],
+            55..110 => first.as_slice(),
+            _ => both.as_slice(),
+        };
+        checks.check(written.as_slice() == wanted, "another text");
     }
+    assert_eq!(rt; checks.wrong(), None);
     Ok(())
 }
 
@@ -100,34 +101,45 @@ fn run_narrow(
     (answer, sink.failures())
 }
 
+/// Checks that a run over a writer with room for so many bytes answers its failure once, and writes just these.
+fn check_narrow(
+    checks: &mut Checks,
+    alloc: Global,
+    input: &[u8],
+    text: &[u8],
+    full: Full,
+    flushes: bool,
+) {
+    let mut written = Vec::new(alloc);
+    let sent = text.len() as u64;
+    let found = run_narrow(alloc, input, text.len(), full, flushes, &mut written);
+    checks.check(
+        found == (Err(RunFault::Write { sent }), 1),
+        "another answer",
+    );
+    checks.check(written.as_slice() == text, "another text");
+}
+
 #[test]
 fn answers_a_failed_write(rt: HostRuntime) -> Result<(), Fail> {
-    let alloc = rt.alloc();
+    let (checks, alloc) = (&mut Checks::new(), rt.alloc());
     let text = text_of(alloc, LINES)?;
     for room in 0..text.len() {
-        let sent = room as u64;
-        for full in [Full::Fails, Full::TakesNothing] {
-            let mut written = Vec::new(alloc);
-            let found = run_narrow(alloc, BAD, room, full, true, &mut written);
-            assert!(rt; found == (Err(RunFault::Write { sent }), 1));
-            assert!(rt; text.as_slice().get(..room) == Some(written.as_slice()));
-        }
+        let front = text.as_slice().get(..room).unwrap_or(&[]);
+        check_narrow(checks, alloc, BAD, front, Full::Fails, true);
+        check_narrow(checks, alloc, BAD, front, Full::TakesNothing, true);
     }
+    assert_eq!(rt; checks.wrong(), None);
     Ok(())
 }
 
 #[test]
 fn answers_a_failed_flush(rt: HostRuntime) -> Result<(), Fail> {
-    let alloc = rt.alloc();
+    let (checks, alloc) = (&mut Checks::new(), rt.alloc());
     let text = text_of(alloc, LINE)?;
-    let nothing: &[u8] = &[];
-    for (input, wanted) in [(LINE, text.as_slice()), (nothing, nothing)] {
-        let sent = wanted.len() as u64;
-        let mut written = Vec::new(alloc);
-        let found = run_narrow(alloc, input, wanted.len(), Full::Fails, false, &mut written);
-        assert!(rt; found == (Err(RunFault::Write { sent }), 1));
-        assert!(rt; written.as_slice() == wanted);
-    }
+    check_narrow(checks, alloc, LINE, text.as_slice(), Full::Fails, false);
+    check_narrow(checks, alloc, &[], &[], Full::Fails, false);
+    assert_eq!(rt; checks.wrong(), None);
     Ok(())
 }
 
@@ -143,23 +155,32 @@ fn run_often(alloc: Global, input: &[u8], left: u64) -> (Result<Tally, RunFault>
 
 #[test]
 fn ends_endless_reads(rt: HostRuntime) {
+    let checks = &mut Checks::new();
     let endless = run_often(rt.alloc(), b"\n", u64::MAX);
-    assert!(rt; endless == (Err(RunFault::Endless), 0, 16_000_000));
+    let wanted = (Err(RunFault::Endless), 0, 16_000_000);
+    checks.check(endless == wanted, "another end");
     let last = run_often(rt.alloc(), b"\n", 15_999_999);
-    assert!(rt; last == (items(0), 0, 16_000_000));
+    checks.check(
+        last == (items(0), 0, 16_000_000),
+        "another end of the most reads",
+    );
+    assert_eq!(rt; checks.wrong(), None);
 }
 
 #[test]
 fn ends_endless_items(rt: HostRuntime) {
-    let all = run_often(rt.alloc(), LINE, 1_000_000);
-    assert!(rt; all.0 == items(1_000_000));
-    let endless = run_often(rt.alloc(), LINE, u64::MAX);
-    assert!(rt; endless.0 == Err(RunFault::Endless));
-    assert!(rt; endless.1 == all.1);
+    let checks = &mut Checks::new();
+    let (all, bytes, _) = run_often(rt.alloc(), LINE, 1_000_000);
+    checks.check(all == items(1_000_000), "another end of the most items");
+    let (endless, same, _) = run_often(rt.alloc(), LINE, u64::MAX);
+    checks.check(endless == Err(RunFault::Endless), "another end");
+    checks.check(same == bytes, "other bytes");
+    assert_eq!(rt; checks.wrong(), None);
 }
 
 #[test]
 fn a_failed_write_of_a_fault_is_the_writers(rt: HostRuntime) {
+    let checks = &mut Checks::new();
     let mut written = Vec::new(rt.alloc());
     let mut narrow = Narrow {
         held: &mut written,
@@ -167,5 +188,7 @@ fn a_failed_write_of_a_fault_is_the_writers(rt: HostRuntime) {
         full: Full::Fails,
         flushes: true,
     };
-    assert!(rt; write_fault(&RunFault::Read, &mut narrow).is_err());
+    let failed = write_fault(&RunFault::Read, &mut narrow).is_err();
+    checks.check(failed, "written in no room");
+    assert_eq!(rt; checks.wrong(), None);
 }

@@ -6,7 +6,7 @@ use Rattle.etcs_vars.specs.Reading.{Reading, spelled, numbers, kept}
 use Rattle.etcs_telegram.specs.declared.size.Size.{Size}
 use Rattle.etcs_telegram.specs.declared.size.Size.TheVariants.{Short, Long}
 use Rattle.etcs_rows.specs.declared.frames.Carrier.TheVariants as carrier
-use Rattle.etcs_container.specs.Contents.{RunOf}
+use Rattle.etcs_sequence.specs.Contents.{RunOf}
 use Rattle.etcs_telegram.specs.Telegrams.{header_row, header_reading, header_of, closed_reading, IsAdmitted, packet_room, pad_bits, user_bits, TelegramLanguage}
 use Rattle.etcs_telegram.specs.Phases.{HeaderLeft}
 use Rattle.etcs_telegram.proofs.HeaderLemmas.{header_length}

@@ -1,8 +1,9 @@
 -- `==` of telegrams is equality of their values.
 use Rattle.std.proofs.Common.{rules, ◌≡◌, refl}
 use Rattle.std.specs.Bool.{Decides}
-use Rattle.etcs_parts.specs.Equality.{IsExact, flag_exact, list_exact, both_exact, fields_exact}
-use Rattle.etcs_packets.specs.Equality.{packet_exact}
+use Rattle.etcs_bodies.specs.Equality.{IsExact}
+use Rattle.etcs_bodies.specs.laws.Equality.{flag_exact, list_exact, both_exact, fields_exact}
+use Rattle.etcs_packets.proofs.Equality.{packet_exact}
 use Rattle.etcs_telegram.specs.Telegrams.{TelegramParts}
 use Rattle.etcs_telegram.specs.contracts.size.SizePartialEq.TheImpl as size
 use Rattle.etcs_telegram.specs.contracts.header.HeaderPartialEq.TheImpl as header

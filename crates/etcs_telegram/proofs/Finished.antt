@@ -7,11 +7,11 @@ use Rattle.etcs_vars.specs.Reading.{Reading, spelled, numbers, kept}
 use Rattle.etcs_vars.proofs.Apart.{cut}
 use Rattle.etcs_vars.proofs.Walk.{spelled-append}
 use Rattle.etcs_packets.specs.PacketValues.{PacketValue, packet_value, IsPacket}
-use Rattle.etcs_rests.specs.declared.left.PacketsLeft.{PacketsLeft}
-use Rattle.etcs_rests.specs.declared.list.PacketList.{PacketList}
-use Rattle.etcs_rests.specs.Labels.{labelled}
-use Rattle.etcs_rests.specs.LabelLaws.{numbers_labelled, labelled_count}
-use Rattle.etcs_rests.specs.BitLaws.{bits_length}
+use Rattle.etcs_sequence.specs.declared.left.PacketsLeft.{PacketsLeft}
+use Rattle.etcs_sequence.specs.declared.list.PacketList.{PacketList}
+use Rattle.etcs_sequence.specs.Labels.{labelled}
+use Rattle.etcs_sequence.proofs.LabelLaws.{numbers_labelled, labelled_count}
+use Rattle.etcs_sequence.proofs.BitLaws.{bits_length}
 use Rattle.etcs_telegram.specs.declared.size.Size.{Size}
 use Rattle.etcs_telegram.specs.declared.phase.Phase.{Phase}
 use Rattle.etcs_telegram.specs.declared.phase.Phase.TheVariants.{Whole}
@@ -19,7 +19,7 @@ use Rattle.etcs_telegram.specs.Telegrams.{header_row, header_reading, header_of,
 use Rattle.etcs_telegram.specs.Headers.{IsHeaderNumbers}
 use Rattle.etcs_telegram.specs.Phases.{behind_header}
 use Rattle.etcs_telegram.specs.Lefts.{next_at, stands_at}
-use Rattle.etcs_telegram.specs.RestLaws.{ended_whole}
+use Rattle.etcs_telegram.specs.laws.RestLaws.{ended_whole}
 use Rattle.etcs_telegram.specs.Readers.{so_far, telegram_by, OwnHeld}
 use Rattle.etcs_telegram.proofs.HeaderLemmas.{header_back, header_length}
 use Rattle.etcs_telegram.proofs.Spellings.{whole_length, zeros_length}

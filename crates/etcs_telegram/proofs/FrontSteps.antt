@@ -12,9 +12,9 @@ use Rattle.etcs_vars.specs.Reading.{Reading, Then, spelled}
 use Rattle.etcs_vars.specs.Walking.{Residual}
 use Rattle.etcs_reader.specs.Rests.{Goes, LeapsBy}
 use Rattle.etcs_reader.specs.Fields.{ReadsFields}
-use Rattle.etcs_reader.specs.FieldLaws.{first_number}
-use Rattle.etcs_rests.specs.Labels.{labelled, widths}
-use Rattle.etcs_rests.specs.LabelLaws.{length-widths, labelled_widths}
+use Rattle.etcs_reader.proofs.FieldLaws.{first_number}
+use Rattle.etcs_sequence.specs.Labels.{labelled, widths}
+use Rattle.etcs_sequence.proofs.LabelLaws.{length-widths, labelled_widths}
 use Rattle.etcs_telegram.specs.Fronts.{FieldsIn, FrontAt}
 
 fields_count : (vs : List Var) (word : ℕ) (ns : List ℕ) → FieldsIn vs word ns → length ns ≡ length vs

@@ -11,7 +11,7 @@ use Rattle.etcs_vars.specs.Faults.{◌or_else◌, number_fault}
 use Rattle.etcs_vars.specs.Reading.{Reading, spelled, numbers}
 use Rattle.etcs_vars.proofs.Apart.{AllFit}
 use Rattle.etcs_vars.proofs.Prefixes.{admits_parts}
-use Rattle.etcs_rests.specs.LabelLaws.{length-widths}
+use Rattle.etcs_sequence.proofs.LabelLaws.{length-widths}
 use Rattle.etcs_telegram.specs.Telegrams.{HeaderParts, header_reading, header_of, IsAdmitted}
 use Rattle.etcs_telegram.specs.Headers.{header_fault}
 

@@ -1,36 +1,31 @@
 -- What a reader of telegrams holds.
-use Rattle.std.proofs.Common.{◌≡◌, ℕ, ◌<◌, ◌&&◌, Bool, List, ◌++◌, length, Some, sym, ap, subst, ◌∙◌, arith, inl, inr}
+use Rattle.std.proofs.Common.{◌≡◌, ℕ, ◌&&◌, Bool, List, ◌++◌, length, Some, sym, ap, subst, ◌∙◌, arith, inl, inr}
 use Rattle.std.specs.Prelude.{All, map, IsTrue, nat_lt, ◌==◌}
 use Rattle.std.proofs.lemmas.Bool.{and_parts, ltb-true, eqb-true}
 use Rattle.std.proofs.lemmas.List.Elements.{All-nil}
 use Rattle.etcs_vars.specs.declared.var.Var.{Var}
-use Rattle.etcs_vars.specs.Vars.{width}
 use Rattle.etcs_vars.specs.Reading.{Reading}
 use Rattle.etcs_rows.specs.declared.frames.Carrier.{Carrier}
 use Rattle.etcs_packets.specs.declared.packet.Packet.{Packet}
-use Rattle.etcs_packets.specs.OnePacket.{IsMade}
-use Rattle.etcs_packets.specs.PacketValues.{packet_value, IsPacket}
+use Rattle.etcs_packets.specs.PacketValues.{packet_value, IsPacket, IsMade}
 use Rattle.etcs_packets.specs.PacketReadings.{packets_reading}
-use Rattle.etcs_container.specs.Contents.{Carries}
-use Rattle.etcs_container.specs.Runs.{Begun}
+use Rattle.etcs_sequence.specs.Contents.{Carries}
+use Rattle.etcs_sequence.specs.Runs.{Begun}
 use Rattle.etcs_reader.specs.Rests.{Goes}
-use Rattle.etcs_reader.specs.Feeders.{FeederValue}
-use Rattle.etcs_rests.specs.declared.left.PacketsLeft.{PacketsLeft}
-use Rattle.etcs_rests.specs.ChainLaws.{chain_first}
-use Rattle.etcs_rests.specs.Labels.{labelled}
-use Rattle.etcs_rests.specs.Lefts.{left_of, ahead}
-use Rattle.etcs_rests.specs.Held.{list_holds}
-use Rattle.etcs_rests.proofs.Begun.{begun_of, nothing_held}
-use Rattle.etcs_rests.proofs.Feeding.{At}
+use Rattle.etcs_sequence.specs.declared.left.PacketsLeft.{PacketsLeft}
+use Rattle.etcs_sequence.specs.laws.ChainLaws.{chain_first}
+use Rattle.etcs_sequence.specs.Labels.{labelled}
+use Rattle.etcs_sequence.specs.Lefts.{left_of, ahead}
+use Rattle.etcs_sequence.specs.Held.{list_holds}
+use Rattle.etcs_sequence.proofs.Begun.{begun_of, nothing_held}
 use Rattle.etcs_telegram.specs.declared.size.Size.{Size}
 use Rattle.etcs_telegram.specs.declared.phase.Phase.{Phase}
 use Rattle.etcs_telegram.specs.declared.phase.Phase.TheVariants.{Header, Packets, Fill, Pad, Whole}
 use Rattle.etcs_telegram.specs.Telegrams.{header_row}
 use Rattle.etcs_telegram.specs.Lefts.{FillBy, left_at, next_at, is_open, stands_at, HoldsIn}
-use Rattle.etcs_telegram.specs.RestLaws.{opens}
+use Rattle.etcs_telegram.specs.laws.RestLaws.{opens}
 use Rattle.etcs_telegram.specs.Readers.{Standing, Members}
 use Rattle.etcs_telegram.proofs.SoFar.{filled_far}
-use Rattle.etcs_telegram.proofs.Reading.{Kept, next, far, telegrams}
 
 members_of : (size : Size) (phase : Phase) (header : List ℕ) (l : PacketsLeft) (ps : List Packet) (f : List ℕ) (k : List Bool) (q : Reading) → (x : Var) → IsTrue (stands_at phase (length header) l) → next_at phase l ≡ Some x → Goes (left_at size phase l) → HoldsIn size phase header l (list_holds ps f k) q → Standing ps f k q
 members_of size (Header at) header l ps f k q x stands next g (is, h) =
@@ -59,10 +54,7 @@ made_of size (Fill n) header l ps f k q stands h = (h.held.1.0, subst (All IsPac
 made_of size (Pad n) header l ps f k q stands (pad, e, h) = (h.held.1.0, subst (All IsPacket) h.held.0 h.carried)
 made_of size Whole header l ps f k q stands h = (h.held.1.0, subst (All IsPacket) h.held.0 h.carried)
 
-pub members_at : (size : Size) (v : FeederValue Kept) (x : Var) → next v.rest ≡ Some x → At (telegrams size) v → length v.part < width x → Members v.rest.packets.store.packets.items v.rest.packets.store.numbers.items v.rest.packets.store.bits (far v.rest)
-members_at size v x e at short =
-    let s = v.rest in
-    let k = s.packets.store in
-    let stand = members_of s.size s.stage s.header.items s.packets.left k.packets.items k.numbers.items k.bits (far s) x s.stands e at.goes at.held.1 in
-    let whole = made_of s.size s.stage s.header.items s.packets.left k.packets.items k.numbers.items k.bits (far s) s.stands at.held.1 in
-    (stand, whole.0, whole.1)
+pub members_at : (size : Size) (phase : Phase) (header : List ℕ) (l : PacketsLeft) (ps : List Packet) (f : List ℕ) (k : List Bool) (q : Reading) (x : Var) → IsTrue (stands_at phase (length header) l) → next_at phase l ≡ Some x → Goes (left_at size phase l) → HoldsIn size phase header l (list_holds ps f k) q → Members ps f k q
+members_at size phase header l ps f k q x stands next g h =
+    let whole = made_of size phase header l ps f k q stands h in
+    (members_of size phase header l ps f k q x stands next g h, whole.0, whole.1)

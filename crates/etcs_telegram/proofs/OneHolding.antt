@@ -6,24 +6,25 @@ use Rattle.etcs_vars.specs.declared.var.Var.{Var}
 use Rattle.etcs_vars.specs.declared.var.Var.TheVariants.{NID_PACKET, NID_VBCMK, Q_DIR, L_PACKET, OTHER_DATA, FILL, PAD}
 use Rattle.etcs_vars.specs.Reading.{Reading, spelled, numbers, kept}
 use Rattle.etcs_vars.proofs.Apart.{cut, Agree-cut}
-use Rattle.etcs_rows.specs.declared.row.Way.TheVariants.{ToTrain}
-use Rattle.etcs_rows.specs.Layouts.{Layout}
-use Rattle.etcs_rows.specs.Rows.{row_to}
-use Rattle.etcs_rows.specs.Frames.{is_kept}
+use Rattle.etcs_tables.specs.declared.row.Way.TheVariants.{ToTrain}
+use Rattle.etcs_tables.specs.Layouts.{Layout}
+use Rattle.etcs_tables.specs.Rows.{row_to}
+use Rattle.etcs_tables.specs.Frames.{is_kept}
 use Rattle.etcs_rows.proofs.LengthLemmas.{length-spelled}
 use Rattle.etcs_packets.specs.declared.packet.Packet.{Packet}
 use Rattle.etcs_packets.specs.PacketValues as packets
 use Rattle.etcs_packets.specs.PacketValues.{PacketValue, packet_value, IsPacket}
-use Rattle.etcs_packets.specs.OnePacket.{one_list}
-use Rattle.etcs_packets.specs.PacketReadings.{frame, packet_reading, packets_reading, length-kept}
-use Rattle.etcs_container.specs.Runs.{Begun, BegunFrame, BegunRow, BegunKept}
-use Rattle.etcs_container.proofs.Others.{kept_untyped}
-use Rattle.etcs_container.proofs.Agreement.{packet_agree, numbered}
-use Rattle.etcs_container.proofs.OneSpelling.{packet_same}
-use Rattle.etcs_rests.specs.Labels.{labelled}
-use Rattle.etcs_rests.specs.LabelLaws.{labelled_count}
-use Rattle.etcs_rests.specs.BitLaws.{bits_known}
-use Rattle.etcs_rests.proofs.OneHolding.{sent_parts, one_held}
+use Rattle.etcs_packets.proofs.OnePacket.{one_list}
+use Rattle.etcs_packets.specs.PacketReadings.{frame, packet_reading, packets_reading}
+use Rattle.etcs_packets.specs.laws.PacketReadings.{length-kept}
+use Rattle.etcs_sequence.specs.Runs.{Begun, BegunFrame, BegunRow, BegunKept}
+use Rattle.etcs_sequence.specs.laws.Others.{kept_untyped}
+use Rattle.etcs_sequence.specs.laws.Agreement.{packet_agree, numbered}
+use Rattle.etcs_sequence.proofs.OneSpelling.{packet_same}
+use Rattle.etcs_sequence.specs.Labels.{labelled}
+use Rattle.etcs_sequence.proofs.LabelLaws.{labelled_count}
+use Rattle.etcs_sequence.proofs.BitLaws.{bits_known}
+use Rattle.etcs_sequence.proofs.OneHolding.{sent_parts, one_held}
 use Rattle.etcs_telegram.specs.Telegrams.{header_row, closed_reading, TelegramLanguage}
 use Rattle.etcs_telegram.specs.Readers.{Standing, Members, OneHolding}
 

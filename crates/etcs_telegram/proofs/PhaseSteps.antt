@@ -6,8 +6,10 @@ use Rattle.etcs_vars.specs.declared.var.Var.TheVariants.{FILL, PAD}
 use Rattle.etcs_vars.specs.Reading.{kept}
 use Rattle.etcs_vars.proofs.Languages.{Same}
 use Rattle.etcs_reader.specs.Rests.{Goes}
-use Rattle.etcs_rests.specs.BitLaws.{BitsLeft, some_bits, no_bits}
-use Rattle.etcs_rests.specs.ThenLaws.{then_second}
+use Rattle.etcs_sequence.specs.BitLaws.{BitsLeft}
+use Rattle.etcs_sequence.specs.laws.BitLaws.{some_bits}
+use Rattle.etcs_sequence.proofs.BitLaws.{no_bits}
+use Rattle.etcs_sequence.proofs.ThenLaws.{then_second}
 use Rattle.etcs_telegram.specs.declared.size.Size.{Size}
 use Rattle.etcs_telegram.specs.declared.phase.Phase.{Phase}
 use Rattle.etcs_telegram.specs.Telegrams.{pad_bits}

@@ -1,74 +1,84 @@
 -- What a reader of telegrams asks of what is left of one.
-use Rattle.std.proofs.Common.{◌≡◌, ◌+◌, ◌*◌, ◌%◌, ◌<◌, ◌≤◌, length, None, refl, ◌∙◌, arith}
+use Rattle.std.proofs.Common.{◌≡◌, ◌+◌, ◌*◌, ◌%◌, ◌^◌, ◌<◌, ◌≤◌, length, refl, ◌∙◌, arith}
 use Rattle.std.specs.Prelude.{Option, IsTrue}
 use Rattle.etcs_vars.specs.declared.var.Var.{Var}
 use Rattle.etcs_vars.specs.Reading.{Reading, spelled}
-use Rattle.etcs_reader.specs.Feeders.{FeederValue}
-use Rattle.etcs_rests.specs.declared.list.PacketList.{PacketList}
-use Rattle.etcs_rests.specs.contracts.list.PacketListPacketStore.TheImpl as list
-use Rattle.etcs_rests.specs.Held.{list_holds}
-use Rattle.etcs_rests.proofs.Feeding.{Readable, At, whole_reading}
+use Rattle.etcs_sequence.specs.declared.list.PacketList.{PacketList}
+use Rattle.etcs_sequence.specs.contracts.list.PacketListPacketStore.TheImpl as list
+use Rattle.etcs_sequence.specs.Held.{list_holds}
+use Rattle.etcs_sequence.specs.Readables.{Readable}
 use Rattle.etcs_telegram.specs.declared.size.Size.{Size}
 use Rattle.etcs_telegram.specs.declared.size.Size.TheVariants.{Short, Long}
 use Rattle.etcs_telegram.specs.declared.rest.TelegramRest.{TelegramRest}
 use Rattle.etcs_telegram.specs.Telegrams.{TelegramParts, TelegramValue, TelegramLanguage, ReadsAs, IsTelegram, telegram_value, container_bytes, user_bits, pad_bits}
-use Rattle.etcs_telegram.specs.Headers.{IsHeaderNumbers}
 use Rattle.etcs_telegram.specs.Lefts.{left_at, next_at, may_ask, Follows}
-use Rattle.etcs_telegram.specs.RestLaws.{rest_begins, rest_ended}
-use Rattle.etcs_telegram.specs.Readers.{so_far, telegram_by, telegram_bits, OwnHeld}
+use Rattle.etcs_telegram.specs.laws.RestLaws.{rest_begins, rest_ended}
+use Rattle.etcs_telegram.specs.Readers.{so_far, telegram_by, telegram_bits, OwnHeld, Members}
+use Rattle.etcs_telegram.proofs.Examples.{some_telegram}
 use Rattle.etcs_telegram.proofs.Finished.{finished_is}
+use Rattle.etcs_telegram.proofs.Holding.{members_at}
 use Rattle.etcs_telegram.proofs.Spellings.{regular, whole_length}
 use Rattle.etcs_telegram.proofs.SoFar.{far_is, far_long, next_asks}
 
 -- ---- What is left of a telegram whose packets go to a list.
 
-abbrev pub Kept : Type 0
+abbrev Kept : Type 0
 Kept = TelegramRest PacketList list.ghosts
 
-abbrev pub left : Kept → Reading → Type 0
+abbrev left : Kept → Reading → Type 0
 left s = left_at s.size s.stage s.packets.left
 
-abbrev pub next : Kept → Option Var
+abbrev next : Kept → Option Var
 next s = next_at s.stage s.packets.left
 
-abbrev pub holds : Size → Kept → Reading → Type 0
+abbrev holds : Size → Kept → Reading → Type 0
 holds own s = OwnHeld own s.size s.stage s.header.items s.packets.left s.packets.store
 
-abbrev pub follows : Kept → Reading → Kept → Type 0
+abbrev follows : Kept → Reading → Kept → Type 0
 follows s p t = Follows s.size s.stage s.header.items s.packets.left (list_holds s.packets.store.packets.items s.packets.store.numbers.items s.packets.store.bits) p t.size t.stage t.header.items t.packets.left (list_holds t.packets.store.packets.items t.packets.store.numbers.items t.packets.store.bits)
 
-abbrev pub fails : Kept → Type 0
+abbrev fails : Kept → Type 0
 fails s = Unit {0} × IsTrue (may_ask s.stage s.packets.left)
 
 -- the variables so far
-abbrev pub far : Kept → Reading
+abbrev far : Kept → Reading
 far s = so_far s.size s.stage s.header.items s.packets.left s.packets.store
 
 -- the telegram, where nothing is left
-abbrev pub made : Kept → TelegramParts
+abbrev made : Kept → TelegramParts
 made s = telegram_by s.size s.header.items s.packets.store
+
+abbrev store : Kept → PacketList
+store s = s.packets.store
 
 -- every telegram of a size has the container's bytes
 whole_bytes : (size : Size) → user_bits size + pad_bits size ≡ 8 * container_bytes size
 whole_bytes Short = refl
 whole_bytes Long = refl
 
+small : (size : Size) → 8 * container_bytes size < 2 ^ 64
+small Short = omega arith
+small Long = omega arith
+
 bytes_of : (size : Size) (r : Reading) → TelegramLanguage size r → (length (spelled r) % 8 ≡ 0) × (length (spelled r) ≤ 8 * container_bytes size)
 bytes_of size r l =
     let long : length (spelled r) ≡ 8 * container_bytes size = whole_length size r l ∙ whole_bytes size in
     (omega (arith, long), omega (arith, long))
 
-pub some_bits : (size : Size) (r : Reading) → TelegramLanguage size r → 0 < length (spelled r)
+some_bits : (size : Size) (r : Reading) → TelegramLanguage size r → 0 < length (spelled r)
 some_bits Short r l = omega (arith, whole_length Short r l)
 some_bits Long r l = omega (arith, whole_length Long r l)
 
-pub bits_counted : (size : Size) (t : TelegramParts) (r : Reading) → IsTelegram t → ReadsAs size (telegram_value t) r → length (spelled r) ≡ telegram_bits t
+bits_counted : (size : Size) (t : TelegramParts) (r : Reading) → IsTelegram t → ReadsAs size (telegram_value t) r → length (spelled r) ≡ telegram_bits t
 bits_counted size t r is (same, reads) = whole_length t.size r (telegram_value t, (refl, reads))
 
-pub telegrams : (size : Size) → Readable Kept TelegramParts TelegramValue left next follows fails far (holds size) (ReadsAs size) telegram_value IsTelegram made (container_bytes size) 50
+pub telegrams : (size : Size) → Readable Kept TelegramParts TelegramValue left next follows fails far (holds size) (ReadsAs size) telegram_value IsTelegram telegram_bits made store Members (container_bytes size) 50
 telegrams size = record {
   regular = regular size;
+  some = some_telegram size;
   bytes = bytes_of size;
+  room = small size;
+  long = some_bits size;
   begins_with = λ s x e. rest_begins s.size s.packets.left s.stage (length s.header.items) s.stands x e;
   ended = λ s e. rest_ended s.size s.stage (length s.header.items) s.packets.left s.stands e;
   residual = λ s t p h. h.residual;
@@ -77,10 +87,6 @@ telegrams size = record {
   starved = λ s q f h. far_long s.size s.stage s.header.items s.packets.left (list_holds s.packets.store.packets.items s.packets.store.numbers.items s.packets.store.bits) q s.stands f.1 h.1;
   asks = λ s q x e g f h. next_asks s.size s.stage s.header.items s.packets.left (list_holds s.packets.store.packets.items s.packets.store.numbers.items s.packets.store.bits) q x f.1 h.1 g e;
   whole = λ s e l h. (let is = finished_is size s.size s.stage s.header.items s.packets.left s.packets.store s.stands e l h in (is.telegram, is.reads));
+  counted = bits_counted size;
+  members = λ s part x e g h short whole. (let k = s.packets.store in members_at s.size s.stage s.header.items s.packets.left k.packets.items k.numbers.items k.bits (far s) x s.stands e g h.1);
 }
-
--- the header of a whole telegram is made of its numbers
-pub end_numbers : (size : Size) (v : FeederValue Kept) → At (telegrams size) v → next v.rest ≡ None → IsHeaderNumbers v.rest.header.items
-end_numbers size v at e =
-    let s = v.rest in
-    (finished_is size s.size s.stage s.header.items s.packets.left s.packets.store s.stands e (whole_reading (telegrams size) v at e) at.held).numbers

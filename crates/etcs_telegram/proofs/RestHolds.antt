@@ -9,18 +9,18 @@ use Rattle.etcs_rows.specs.declared.frames.Carrier.{Carrier}
 use Rattle.etcs_rows.specs.declared.frames.Carrier.TheVariants.{Telegram}
 use Rattle.etcs_packets.specs.PacketValues.{PacketValue, IsPacket}
 use Rattle.etcs_packets.specs.PacketReadings.{packets_reading}
-use Rattle.etcs_container.specs.Contents.{Carries, closing}
+use Rattle.etcs_sequence.specs.Contents.{Carries, closing}
 use Rattle.etcs_reader.specs.Rests.{Starts, Goes}
 use Rattle.etcs_reader.specs.Fields.{first_of}
-use Rattle.etcs_rests.specs.declared.left.PacketsLeft.{PacketsLeft}
-use Rattle.etcs_rests.specs.declared.stage.Stage.TheVariants as stage
-use Rattle.etcs_rests.specs.Labels.{labelled}
-use Rattle.etcs_rests.specs.LabelLaws.{labelled_more}
+use Rattle.etcs_sequence.specs.declared.left.PacketsLeft.{PacketsLeft}
+use Rattle.etcs_sequence.specs.declared.stage.Stage.TheVariants as stage
+use Rattle.etcs_sequence.specs.Labels.{labelled}
+use Rattle.etcs_sequence.proofs.LabelLaws.{labelled_more}
 use Rattle.etcs_telegram.specs.Fronts.{FrontAt}
 use Rattle.etcs_telegram.proofs.FrontSteps.{front_all}
-use Rattle.etcs_rests.specs.Lefts.{left_of, is_closed, HoldsAt, Moved}
-use Rattle.etcs_rests.specs.BitLaws.{bits_append}
-use Rattle.etcs_rests.specs.StageLaws.{closed_stage}
+use Rattle.etcs_sequence.specs.Lefts.{left_of, is_closed, HoldsAt, Moved}
+use Rattle.etcs_sequence.specs.laws.BitLaws.{bits_append}
+use Rattle.etcs_sequence.proofs.StageLaws.{closed_stage}
 use Rattle.etcs_telegram.specs.declared.size.Size.{Size}
 use Rattle.etcs_telegram.specs.declared.phase.Phase.{Phase}
 use Rattle.etcs_telegram.specs.declared.phase.Phase.TheVariants.{Header, Packets, Fill, Pad, Whole}

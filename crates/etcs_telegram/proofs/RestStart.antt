@@ -3,10 +3,10 @@ use Rattle.std.proofs.Common.{◌≡◌, ◌-◌, length, sym, subst}
 use Rattle.etcs_vars.specs.Reading.{spelled}
 use Rattle.etcs_vars.proofs.Languages.{Same, Then-same, same_self}
 use Rattle.etcs_rows.specs.declared.frames.Carrier.TheVariants.{Telegram}
-use Rattle.etcs_container.specs.Contents.{Run}
+use Rattle.etcs_sequence.specs.Contents.{Run}
 use Rattle.etcs_reader.specs.Fields.{ReadsFields}
-use Rattle.etcs_rests.specs.declared.left.PacketsLeft.{PacketsLeft}
-use Rattle.etcs_rests.specs.Lefts.{left_of, ahead}
+use Rattle.etcs_sequence.specs.declared.left.PacketsLeft.{PacketsLeft}
+use Rattle.etcs_sequence.specs.Lefts.{left_of, ahead}
 use Rattle.etcs_telegram.specs.declared.size.Size.{Size}
 use Rattle.etcs_telegram.specs.declared.phase.Phase.TheVariants.{Header}
 use Rattle.etcs_telegram.specs.Telegrams.{header_row, packet_room, TelegramLanguage}

@@ -9,17 +9,18 @@ use Rattle.etcs_vars.specs.Vars.{width, ranges, begins}
 use Rattle.etcs_vars.specs.Reading.{Sent, Reading, kept, Viable, Then}
 use Rattle.etcs_vars.specs.Walking.{Residual}
 use Rattle.etcs_vars.proofs.Languages.{Same, same_self, same_along}
-use Rattle.etcs_container.proofs.Turns.{residual_same}
+use Rattle.etcs_sequence.proofs.Turns.{residual_same}
 use Rattle.etcs_reader.specs.Rests.{Starts, Goes}
 use Rattle.etcs_reader.specs.Fields.{ReadsFields}
-use Rattle.etcs_rests.specs.declared.left.PacketsLeft.{PacketsLeft}
-use Rattle.etcs_rests.specs.declared.stage.Stage.TheVariants as stage
-use Rattle.etcs_rests.specs.Lefts.{left_of, is_closed, is_telegram, Moved}
-use Rattle.etcs_rests.specs.BitLaws.{BitsLeft, some_bits, bits_regular, bits_begin, bits_start, bits_number, bits_behind, bits_viable}
-use Rattle.etcs_rests.specs.StageLaws.{closed_stage}
-use Rattle.etcs_rests.specs.FrontLaws.{front_tested, front_behind}
-use Rattle.etcs_rests.specs.FilledLaws.{filled_behind, filled_starts, filled_viable, filled_goes}
-use Rattle.etcs_rests.specs.ThenLaws.{then_starts}
+use Rattle.etcs_sequence.specs.declared.left.PacketsLeft.{PacketsLeft}
+use Rattle.etcs_sequence.specs.declared.stage.Stage.TheVariants as stage
+use Rattle.etcs_sequence.specs.Lefts.{left_of, is_closed, is_telegram, Moved}
+use Rattle.etcs_sequence.specs.BitLaws.{BitsLeft}
+use Rattle.etcs_sequence.specs.laws.BitLaws.{some_bits, bits_regular, bits_begin, bits_start, bits_number, bits_behind, bits_viable}
+use Rattle.etcs_sequence.proofs.StageLaws.{closed_stage}
+use Rattle.etcs_sequence.proofs.FrontLaws.{front_tested, front_behind}
+use Rattle.etcs_sequence.proofs.FilledLaws.{filled_behind, filled_starts, filled_viable, filled_goes}
+use Rattle.etcs_sequence.proofs.ThenLaws.{then_starts}
 use Rattle.etcs_rows.specs.declared.frames.Carrier.TheVariants.{Telegram}
 use Rattle.etcs_telegram.specs.declared.size.Size.{Size}
 use Rattle.etcs_telegram.specs.declared.size.Size.TheVariants.{Short, Long}
@@ -27,9 +28,11 @@ use Rattle.etcs_telegram.specs.declared.phase.Phase.{Phase}
 use Rattle.etcs_telegram.specs.declared.phase.Phase.TheVariants.{Header, Packets, Fill, Pad, Whole}
 use Rattle.etcs_telegram.specs.Telegrams.{header_row, pad_bits}
 use Rattle.etcs_telegram.specs.Phases.{var_at, after, after_fill, PadLeft, FillLeft}
-use Rattle.etcs_rests.specs.ChainLaws.{Chain, chain_viable, chain_along, chain_none}
+use Rattle.etcs_sequence.specs.ChainLaws.{Chain}
+use Rattle.etcs_sequence.specs.laws.ChainLaws.{chain_viable}
+use Rattle.etcs_sequence.proofs.ChainLaws.{chain_along, chain_none}
 use Rattle.etcs_telegram.specs.Lefts.{FillBy, PacketsBehind, left_at, next_at, is_open, stands_at, behind_packets}
-use Rattle.etcs_telegram.specs.RestLaws.{opens}
+use Rattle.etcs_telegram.specs.laws.RestLaws.{opens}
 use Rattle.etcs_telegram.proofs.PhaseSteps.{by_test, below_false, below_true, pad_goes, some_fill, none_left}
 
 -- ---- The header.

@@ -10,7 +10,7 @@ use Rattle.etcs_vars.proofs.Walk.{spelled-append}
 use Rattle.etcs_rows.proofs.LengthLemmas.{length-spelled}
 use Rattle.etcs_packets.specs.PacketValues.{PacketValue, IsPacket}
 use Rattle.etcs_packets.specs.PacketReadings.{packet_reading, packets_reading}
-use Rattle.etcs_container.proofs.Agreement.{packet_agree, packet_fit, numbered}
+use Rattle.etcs_sequence.specs.laws.Agreement.{packet_agree, packet_fit, numbered}
 use Rattle.etcs_telegram.specs.declared.size.Size.{Size}
 use Rattle.etcs_telegram.specs.Telegrams.{HeaderParts, TelegramValue, TelegramReads, TelegramLanguage, RoomRule, IsAdmitted, header_reading, closed_reading, user_bits}
 use Rattle.etcs_telegram.specs.Writing.{telegram_reading}

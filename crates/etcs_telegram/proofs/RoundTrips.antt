@@ -9,8 +9,8 @@ use Rattle.etcs_vars.specs.Reading.{Reading, spelled}
 use Rattle.etcs_vars.specs.declared.feed.Fed.{Fed}
 use Rattle.etcs_vars.specs.declared.feed.Fed.TheVariants.{Done}
 use Rattle.etcs_vars.specs.declared.feed.ReadFault.{ReadFault}
-use Rattle.etcs_rests.specs.Stages.{Stage, reading, finished, Feeds}
-use Rattle.etcs_rests.proofs.RoundTrips.{Answered, answered, front_read, front_spelled}
+use Rattle.etcs_sequence.specs.Stages.{Stage, reading, finished, Feeds}
+use Rattle.etcs_sequence.proofs.RoundTrips.{Answered, answered, front_read, front_spelled}
 use Rattle.etcs_telegram.specs.declared.size.Size.{Size}
 use Rattle.etcs_telegram.specs.declared.size.Size.TheVariants.{Short, Long}
 use Rattle.etcs_telegram.specs.Telegrams.{TelegramParts, TelegramValue, telegram_value, TelegramReads, IsTelegram, ReadsAs, container_bytes}

@@ -11,7 +11,7 @@ use Rattle.etcs_vars.specs.Reading.{Reading, numbers}
 use Rattle.etcs_vars.proofs.Prefixes.{admits_parts}
 use Rattle.etcs_telegram.specs.Telegrams.{header_row, HeaderParts, header_reading, header_of, IsAdmitted}
 use Rattle.etcs_reader.specs.Fields.{ReadsFields}
-use Rattle.etcs_rests.specs.Labels.{labelled}
+use Rattle.etcs_sequence.specs.Labels.{labelled}
 
 -- a reading with admitted pairs is one of its row
 pub row_admitted : (r : Reading) → IsAdmitted r → ReadsFields (map (λ p. p.0) r) r

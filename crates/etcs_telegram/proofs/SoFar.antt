@@ -10,16 +10,16 @@ use Rattle.etcs_vars.proofs.Walk.{spelled-append}
 use Rattle.etcs_packets.specs.declared.packet.Packet.{Packet}
 use Rattle.etcs_packets.specs.PacketValues.{PacketValue, packet_value}
 use Rattle.etcs_reader.specs.Rests.{Goes}
-use Rattle.etcs_rests.specs.declared.left.PacketsLeft.{PacketsLeft}
-use Rattle.etcs_rests.specs.declared.list.PacketList.{PacketList}
-use Rattle.etcs_rests.specs.ChainLaws.{chain_first}
-use Rattle.etcs_rests.specs.Labels.{labelled}
-use Rattle.etcs_rests.specs.LabelLaws.{length-widths, labelled_widths}
-use Rattle.etcs_rests.specs.Lefts.{left_of, ahead}
-use Rattle.etcs_rests.specs.Held.{list_holds}
-use Rattle.etcs_rests.specs.Stages.{asks_memory}
-use Rattle.etcs_rests.proofs.Asking.{packets_ask}
-use Rattle.etcs_rests.proofs.Holding.{packets_far}
+use Rattle.etcs_sequence.specs.declared.left.PacketsLeft.{PacketsLeft}
+use Rattle.etcs_sequence.specs.declared.list.PacketList.{PacketList}
+use Rattle.etcs_sequence.specs.laws.ChainLaws.{chain_first}
+use Rattle.etcs_sequence.specs.Labels.{labelled}
+use Rattle.etcs_sequence.proofs.LabelLaws.{length-widths, labelled_widths}
+use Rattle.etcs_sequence.specs.Lefts.{left_of, ahead}
+use Rattle.etcs_sequence.specs.Held.{list_holds}
+use Rattle.etcs_sequence.specs.Stages.{asks_memory}
+use Rattle.etcs_sequence.proofs.Asking.{packets_ask}
+use Rattle.etcs_sequence.proofs.Holding.{packets_far}
 use Rattle.etcs_telegram.specs.declared.size.Size.{Size}
 use Rattle.etcs_telegram.specs.declared.phase.Phase.{Phase}
 use Rattle.etcs_telegram.specs.declared.phase.Phase.TheVariants.{Header, Packets, Fill, Pad, Whole}

@@ -8,13 +8,14 @@ use Rattle.etcs_vars.proofs.Apart.{Agree, AllFit, Agree-append, Agree-same, AllF
 use Rattle.etcs_vars.proofs.Walk.{Regular}
 use Rattle.etcs_rows.specs.declared.frames.Carrier.TheVariants.{Telegram}
 use Rattle.etcs_packets.specs.declared.packet.Packet.{Packet}
-use Rattle.etcs_packets.specs.PacketValues.{PacketValue}
-use Rattle.etcs_packets.specs.OnePacket.{IsMade, one_list}
-use Rattle.etcs_container.specs.Contents.{RunOf}
-use Rattle.etcs_container.proofs.Agreement.{run_regular}
-use Rattle.etcs_container.proofs.OneSpelling.{packets_same}
-use Rattle.etcs_container.proofs.RunSteps.{both_length}
-use Rattle.etcs_rests.specs.BitLaws.{bits_agree, bits_fit, bits_known, bits_length}
+use Rattle.etcs_packets.specs.PacketValues.{PacketValue, IsMade}
+use Rattle.etcs_packets.proofs.OnePacket.{one_list}
+use Rattle.etcs_sequence.specs.Contents.{RunOf}
+use Rattle.etcs_sequence.specs.laws.Agreement.{run_regular}
+use Rattle.etcs_sequence.proofs.OneSpelling.{packets_same}
+use Rattle.etcs_sequence.specs.laws.RunSteps.{both_length}
+use Rattle.etcs_sequence.specs.laws.BitLaws.{bits_agree, bits_fit}
+use Rattle.etcs_sequence.proofs.BitLaws.{bits_known, bits_length}
 use Rattle.etcs_telegram.specs.declared.size.Size.{Size}
 use Rattle.etcs_telegram.specs.Telegrams.{HeaderParts, TelegramParts, TelegramValue, TelegramReads, TelegramLanguage, OneSpelling, header_reading, closed_reading, telegram_value, user_bits, pad_bits, packet_room}
 use Rattle.etcs_telegram.proofs.HeaderLemmas.{admitted_fit, header_length, header_same}

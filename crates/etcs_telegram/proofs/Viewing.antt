@@ -17,12 +17,13 @@ use Rattle.etcs_vars.proofs.Walk.{spelled-append}
 use Rattle.etcs_rows.specs.declared.frames.Carrier.TheVariants as carrier
 use Rattle.etcs_rows.proofs.LengthLemmas.{length-spelled}
 use Rattle.etcs_packets.specs.PacketValues.{PacketValue}
-use Rattle.etcs_packets.specs.PacketReadings.{packet_reading, packets_reading, packet_bits}
-use Rattle.etcs_container.specs.Contents.{closing}
-use Rattle.etcs_container.proofs.Agreement.{some_bits}
-use Rattle.etcs_rests.specs.declared.left.PacketsLeft.{PacketsLeft}
-use Rattle.etcs_rests.specs.BitLaws.{bits_spelled}
-use Rattle.etcs_refs.specs.Refs.{ArePackets}
+use Rattle.etcs_packets.specs.PacketReadings.{packet_reading, packets_reading}
+use Rattle.etcs_packets.specs.laws.PacketReadings.{packet_bits}
+use Rattle.etcs_sequence.specs.Contents.{closing}
+use Rattle.etcs_sequence.specs.laws.Agreement.{some_bits}
+use Rattle.etcs_sequence.specs.declared.left.PacketsLeft.{PacketsLeft}
+use Rattle.etcs_sequence.specs.laws.BitLaws.{bits_spelled}
+use Rattle.etcs_sequence.specs.Refs.{ArePackets}
 use Rattle.etcs_telegram.specs.declared.size.Size.{Size}
 use Rattle.etcs_telegram.specs.declared.phase.Phase.{Phase}
 use Rattle.etcs_telegram.specs.declared.phase.Phase.TheVariants.{Whole}
@@ -31,7 +32,7 @@ use Rattle.etcs_telegram.specs.declared.view.ViewFault.TheVariants.{Refused}
 use Rattle.etcs_telegram.specs.Telegrams.{header_of, header_reading, HeaderParts, TelegramValue, TelegramLanguage, ReadsAs, closed_reading, user_bits, pad_bits, packet_room}
 use Rattle.etcs_telegram.specs.Headers.{IsHeaderNumbers}
 use Rattle.etcs_telegram.specs.Lefts.{left_at, next_at, stands_at, Filled, HoldsIn}
-use Rattle.etcs_telegram.specs.RestLaws.{ended_whole}
+use Rattle.etcs_telegram.specs.laws.RestLaws.{ended_whole}
 use Rattle.etcs_telegram.specs.Views.{ViewIn, OneRefusal}
 use Rattle.etcs_telegram.proofs.Encoding.{room_more, closed_length, user_small}
 use Rattle.etcs_telegram.proofs.Finished.{whole_reads}

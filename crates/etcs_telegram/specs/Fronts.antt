@@ -5,7 +5,7 @@ use Rattle.etcs_vars.specs.declared.var.Var.{Var}
 use Rattle.etcs_vars.specs.Vars.{width, admits}
 use Rattle.etcs_vars.specs.Reading.{spelled}
 use Rattle.etcs_reader.specs.Fields.{ReadsFields}
-use Rattle.etcs_rests.specs.Labels.{labelled, widths}
+use Rattle.etcs_sequence.specs.Labels.{labelled, widths}
 
 -- the bits of xs from at up to end spell the variables with these numbers, each of which is admitted
 pub record FrontAt (vs : List Var) (xs : List Bool) (at : ℕ) (ns : List ℕ) (end : ℕ) : Type 0 where

@@ -3,7 +3,7 @@ use Rattle.std.specs.Prelude.{◌≡◌, ℕ, List, length, Option}
 use Rattle.etcs_vars.specs.declared.fault.BuildFault.{BuildFault}
 use Rattle.etcs_vars.specs.declared.var.Var.TheVariants.{M_VERSION_HEADER, N_PIG, N_TOTAL, M_DUP, M_MCOUNT, NID_C, NID_BG}
 use Rattle.etcs_vars.specs.Faults.{◌or_else◌, number_fault}
-use Rattle.etcs_rests.specs.Labels.{labelled}
+use Rattle.etcs_sequence.specs.Labels.{labelled}
 use Rattle.etcs_telegram.specs.Telegrams.{header_row, IsAdmitted}
 
 abbrev pub header_fault : ℕ → ℕ → ℕ → ℕ → ℕ → ℕ → ℕ → Option BuildFault

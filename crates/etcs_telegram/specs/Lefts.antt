@@ -6,14 +6,14 @@ use Rattle.etcs_vars.specs.Reading.{Reading, Then, spelled}
 use Rattle.etcs_vars.specs.Walking.{Residual}
 use Rattle.etcs_reader.specs.Fields.{ReadsFields, first_of}
 use Rattle.etcs_packets.specs.PacketValues.{PacketValue, IsPacket}
-use Rattle.etcs_rests.specs.ChainLaws.{Chain}
-use Rattle.etcs_rests.specs.declared.left.PacketsLeft.{PacketsLeft}
-use Rattle.etcs_rests.specs.Lefts.{next_of, left_of, ahead, is_closed, is_telegram, may_grow, HoldsAt}
+use Rattle.etcs_sequence.specs.ChainLaws.{Chain}
+use Rattle.etcs_sequence.specs.declared.left.PacketsLeft.{PacketsLeft}
+use Rattle.etcs_sequence.specs.Lefts.{next_of, left_of, ahead, is_closed, is_telegram, may_grow, HoldsAt}
 use Rattle.etcs_telegram.specs.declared.size.Size.{Size}
 use Rattle.etcs_telegram.specs.declared.phase.Phase.{Phase}
 use Rattle.etcs_telegram.specs.declared.phase.Phase.TheVariants.{Header, Packets, Fill, Pad, Whole}
 use Rattle.etcs_telegram.specs.Telegrams.{header_row, pad_bits, closed_reading}
-use Rattle.etcs_rests.specs.Labels.{labelled}
+use Rattle.etcs_sequence.specs.Labels.{labelled}
 use Rattle.etcs_telegram.specs.Phases.{PadLeft, FillLeft, behind_header, after_fill}
 
 -- FILL behind packets, up to so many bits, and PAD behind it

@@ -4,6 +4,6 @@ pub mod Writing
 pub mod Fronts
 pub mod Phases
 pub mod Lefts
-pub mod RestLaws
 pub mod Views
 pub mod Readers
+pub mod laws

@@ -7,10 +7,10 @@ use Rattle.etcs_telegram.specs.declared.size.Size.{Size}
 use Rattle.etcs_telegram.specs.declared.phase.Phase.{Phase}
 use Rattle.etcs_telegram.specs.declared.phase.Phase.TheVariants.{Header, Packets, Fill, Pad, Whole}
 use Rattle.etcs_rows.specs.declared.frames.Carrier.TheVariants as carrier
-use Rattle.etcs_container.specs.Contents.{Run}
+use Rattle.etcs_sequence.specs.Contents.{Run}
 use Rattle.etcs_telegram.specs.Telegrams.{header_row, packet_room, pad_bits}
 use Rattle.etcs_reader.specs.Fields.{ReadsFields}
-use Rattle.etcs_rests.specs.BitLaws.{BitsLeft}
+use Rattle.etcs_sequence.specs.BitLaws.{BitsLeft}
 
 abbrev pub var_at : Phase → Var
 var_at (Header at) = slice_index_or header_row at PAD

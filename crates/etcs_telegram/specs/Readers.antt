@@ -1,29 +1,26 @@
 -- What a reader of telegrams stands for, by what it keeps, and what it holds.
-use Rattle.std.specs.Prelude.{◌≡◌, ℕ, ◌+◌, ◌-◌, ◌<◌, Bool, false, List, [], ◌++◌, length, map, replicate, Option, All, ◌⊎◌}
+use Rattle.std.specs.Prelude.{◌≡◌, ℕ, ◌+◌, ◌-◌, ◌<◌, Bool, false, List, [], ◌++◌, length, map, replicate, All, ◌⊎◌}
 use Rattle.etcs_vars.specs.declared.var.Var.TheVariants.{FILL, PAD}
-use Rattle.etcs_vars.specs.Reading.{Reading, spelled, kept}
+use Rattle.etcs_vars.specs.Reading.{Reading, kept}
 use Rattle.etcs_packets.specs.declared.packet.Packet.{Packet}
-use Rattle.etcs_packets.specs.PacketValues.{packet_value, IsPacket}
-use Rattle.etcs_packets.specs.OnePacket.{IsMade}
+use Rattle.etcs_packets.specs.PacketValues.{packet_value, IsPacket, IsMade}
 use Rattle.etcs_packets.specs.PacketReadings.{packets_reading}
-use Rattle.etcs_container.specs.Runs.{Begun}
-use Rattle.etcs_reader.specs.declared.feeder.Stop.{Stop}
-use Rattle.etcs_rests.specs.declared.left.PacketsLeft.{PacketsLeft}
-use Rattle.etcs_rests.specs.declared.list.PacketList.{PacketList}
-use Rattle.etcs_rests.specs.Labels.{labelled}
-use Rattle.etcs_rests.specs.Held.{list_holds, packets_so_far}
-use Rattle.etcs_rests.specs.Stages.{Stage, stage_by, IsReader}
-use Rattle.etcs_rests.specs.Holdings.{HeldIn}
+use Rattle.etcs_sequence.specs.Runs.{Begun}
+use Rattle.etcs_sequence.specs.declared.left.PacketsLeft.{PacketsLeft}
+use Rattle.etcs_sequence.specs.declared.list.PacketList.{PacketList}
+use Rattle.etcs_sequence.specs.Labels.{labelled}
+use Rattle.etcs_sequence.specs.Held.{list_holds, packets_so_far}
+use Rattle.etcs_sequence.specs.Readables.{ItemValue}
+use Rattle.etcs_sequence.specs.Holdings.{HeldIn}
 use Rattle.etcs_telegram.specs.declared.size.Size.{Size}
 use Rattle.etcs_telegram.specs.declared.phase.Phase.{Phase}
 use Rattle.etcs_telegram.specs.declared.phase.Phase.TheVariants.{Header, Packets, Fill, Pad, Whole}
 use Rattle.etcs_telegram.specs.Telegrams.{header_row, user_bits, pad_bits, closed_reading, header_of, TelegramParts, TelegramLanguage}
 use Rattle.etcs_telegram.specs.Phases.{behind_header}
-use Rattle.etcs_telegram.specs.Lefts.{left_at, next_at, HoldsIn}
+use Rattle.etcs_telegram.specs.Lefts.{HoldsIn}
 
-pub record ReaderValue : Type 0 where
-  pub size : Size
-  pub stage : Stage TelegramParts
+abbrev pub ReaderValue : Type 0
+ReaderValue = ItemValue Size TelegramParts
 
 -- as many as its container has
 abbrev pub telegram_bits : TelegramParts → ℕ
@@ -37,23 +34,12 @@ so_far size (Fill n) header left store = labelled header_row header ++ behind_he
 so_far size (Pad n) header left store = labelled header_row header ++ behind_header (closed_reading (map packet_value store.packets.items)) store.bits (pad_bits size - n)
 so_far size Whole header left store = labelled header_row header ++ behind_header (closed_reading (map packet_value store.packets.items)) store.bits (pad_bits size)
 
--- and the bits of the unfinished one
-abbrev pub seen_by : Size → Phase → List ℕ → PacketsLeft → PacketList → List Bool → List Bool
-seen_by size phase header left store part = spelled (so_far size phase header left store) ++ part
-
 abbrev pub telegram_by : Size → List ℕ → PacketList → TelegramParts
 telegram_by size header store = record { size = size; header = header_of header; packets = store.packets.items; fill = store.bits }
-
-abbrev pub stage_of : Size → Phase → List ℕ → PacketsLeft → PacketList → List Bool → ℕ → Option Stop → Stage TelegramParts
-stage_of size phase header left store part count stop = stage_by (next_at phase left) (seen_by size phase header left store part) (telegram_by size header store) count stop
 
 -- q are the variables so far, of which so much is held, of a telegram of the reader's own size
 abbrev pub OwnHeld : Size → Size → Phase → List ℕ → PacketsLeft → PacketList → Reading → Type 0
 OwnHeld own size phase header left store q = (size ≡ own) × HoldsIn size phase header left (list_holds store.packets.items store.numbers.items store.bits) q
-
-abbrev pub IsTelegramReader : Size → Size → Phase → List ℕ → PacketsLeft → PacketList → List Bool → ℕ → Option Stop → Type 0
-IsTelegramReader own size phase header left store part count stop =
-    IsReader (TelegramLanguage own) (left_at size phase left) (OwnHeld own size phase header left store) (so_far size phase header left store) part count stop
 
 -- ---- What it holds between two pieces.
 

@@ -8,10 +8,9 @@ use Rattle.etcs_vars.specs.Vars.{admits}
 use Rattle.etcs_vars.specs.Reading.{Reading, spelled, kept, readings_of, Viable}
 use Rattle.etcs_rows.specs.declared.frames.Carrier.TheVariants as carrier
 use Rattle.etcs_packets.specs.declared.packet.Packet.{Packet}
-use Rattle.etcs_packets.specs.PacketValues.{PacketValue, packet_value, IsPacket}
+use Rattle.etcs_packets.specs.PacketValues.{PacketValue, packet_value, IsPacket, IsMade}
 use Rattle.etcs_packets.specs.PacketReadings.{packets_reading}
-use Rattle.etcs_packets.specs.OnePacket.{IsMade}
-use Rattle.etcs_container.specs.Contents.{closing}
+use Rattle.etcs_sequence.specs.Contents.{closing}
 use Rattle.etcs_telegram.specs.declared.size.Size.{Size}
 use Rattle.etcs_telegram.specs.declared.size.Size.TheVariants.{Short, Long}
 

@@ -8,7 +8,7 @@ ghost use Rattle.etcs_telegram.specs.Writing.{telegram_reading};
 
 use crate::telegram::Telegram;
 use etcs_bits::parts;
-use etcs_writing::{write_packets, write_variables};
+use etcs_packets::parts::{write_packets, write_variables};
 use std::error::Error;
 use std::fmt;
 

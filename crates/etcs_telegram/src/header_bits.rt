@@ -8,7 +8,7 @@ ghost use Rattle.etcs_telegram.specs.Fronts.{FieldsIn, FrontAt};
 
 use crate::parts::HEADER_BITS;
 use arrayvec::ArrayVec;
-use etcs_container::parts::number_at;
+use etcs_sequence::parts::number_at;
 use etcs_vars::Var;
 
 /// The number of a variable in a word, with so many bits behind it. `None` where the variable doesn't admit it.

@@ -15,8 +15,7 @@ mod telegram;
 mod view;
 
 pub use encode::NoRoom;
-pub use etcs_container::Held;
-pub use etcs_refs::{PacketRef, Packets};
+pub use etcs_sequence::{Held, PacketRef, Packets};
 pub use etcs_vars::{Fed, ReadFault};
 pub use header::Header;
 pub use reader::TelegramReader;

@@ -1,31 +1,78 @@
 //! A resumable reader of telegrams.
 
-ghost use Rattle.std.specs.Prelude.{◌≡◌, ◌≢◌, ◌<◌, List, Bool, [], MatchResult, IfSome, IsNone};
+ghost use Rattle.std.specs.Prelude.{◌≡◌, ◌≢◌, List, Bool, [], MatchResult, IfSome, IsNone};
 ghost use Rattle.etcs_bits.specs.Bits.{bits};
-ghost use Rattle.etcs_rests.specs.Holdings.{IsHeld};
-ghost use Rattle.etcs_telegram.specs.Telegrams.{TelegramLanguage};
-ghost use Rattle.etcs_telegram.specs.Readers.{Members};
+ghost use Rattle.etcs_sequence.specs.Holdings.{IsHeld};
+ghost use Rattle.etcs_telegram.specs.Telegrams.{TelegramValue, TelegramLanguage, ReadsAs, IsTelegram, telegram_value, container_bytes};
+ghost use Rattle.etcs_telegram.specs.Readers.{Members, OwnHeld, so_far, telegram_by, telegram_bits};
 
 use crate::header::Header;
 use crate::rest::TelegramRest;
 use crate::size::Size;
 use crate::telegram::Telegram;
-use etcs_container::Held;
+use etcs_bodies::Items;
 use etcs_packets::Packet;
-use etcs_parts::Items;
-use etcs_reader::Feeder;
-use etcs_rests::{PacketList, fault_by};
+use etcs_sequence::{Held, ItemReader, ItemRest, PacketList};
 use etcs_vars::{Fed, ReadFault};
 use std::alloc::Global;
 use std::marker::Model;
+
+impl ItemRest for TelegramRest<PacketList> {
+    type Size = Size;
+
+    type Item = Telegram;
+
+    ghost Shown = { TelegramValue };
+
+    ghost Reads = { ReadsAs };
+
+    ghost value = { telegram_value };
+
+    ghost IsValue = { IsTelegram };
+
+    ghost bits = { telegram_bits };
+
+    ghost most = { container_bytes };
+
+    ghost least = { 50 };
+
+    ghost far = { λ s. so_far s.size s.stage s.header.items s.packets.left s.packets.store };
+
+    ghost holds = { λ size s. OwnHeld size s.size s.stage s.header.items s.packets.left s.packets.store };
+
+    ghost made = { λ s. telegram_by s.size s.header.items s.packets.store };
+
+    ghost store = { λ s. s.packets.store };
+
+    ghost Members = { Members };
+
+    #[inline]
+    fn most(size: Size) -> usize {
+        size.container_bytes()
+    }
+
+    #[inline]
+    fn store(&self) -> &PacketList {
+        &self.packets.store
+    }
+
+    #[inline]
+    fn into_item(self, _size: Size) -> Telegram {
+        Telegram {
+            size: self.size,
+            header: Header::of_numbers(self.header.as_slice()),
+            packets: Items::from_vec(self.packets.store.packets),
+            fill: self.packets.store.bits,
+        }
+    }
+}
 
 /// Reads a balise telegram from pieces of any length. It keeps none of the bytes: only the header's numbers, the
 /// packets that are whole, the numbers or kept bits of the packet that is being read, the FILL bits so far and one
 /// unfinished variable.
 #[derive(Drop)]
 pub struct TelegramReader {
-    size: Size,
-    feeder: Feeder<TelegramRest<PacketList>>,
+    reader: ItemReader<TelegramRest<PacketList>>,
 }
 
 impl Model for TelegramReader {
@@ -33,25 +80,20 @@ impl Model for TelegramReader {
 
     ghost Value = { ReaderValue };
 
-    ghost use Rattle.etcs_telegram.specs.Readers.{stage_of, IsTelegramReader};
-
-    ghost view = { λ r. record { size = r.size; stage = stage_of r.feeder.rest.size r.feeder.rest.stage r.feeder.rest.header.items r.feeder.rest.packets.left r.feeder.rest.packets.store r.feeder.part r.feeder.count r.feeder.stop } };
-
-    ghost invariant = { λ r. IsTelegramReader r.size r.feeder.rest.size r.feeder.rest.stage r.feeder.rest.header.items r.feeder.rest.packets.left r.feeder.rest.packets.store r.feeder.part r.feeder.count r.feeder.stop };
+    ghost view = { λ r. r.reader };
 }
 
 impl TelegramReader {
-    ghost use Rattle.etcs_rests.specs.Stages.{Feeds, IsReading, fault_of, seen_of, reading, finished};
-    ghost use Rattle.etcs_telegram.specs.Telegrams.{TelegramParts, ReadsAs, IsTelegram, telegram_value};
-    ghost use Rattle.etcs_telegram.specs.Readers.{ReaderValue, telegram_bits};
+    ghost use Rattle.etcs_sequence.specs.Stages.{Feeds, IsReading, fault_of, seen_of, reading, finished};
+    ghost use Rattle.etcs_telegram.specs.Telegrams.{TelegramParts};
 
     /// A reader of telegrams of this size. Nothing is allocated before the first packet or FILL bit.
     pub fn new(alloc: Global, size: Size) -> Self
         ensures { result ≡ record { size = size; stage = reading [] } }
     {
+        let rest = TelegramRest::new(size, PacketList::new(alloc));
         TelegramReader {
-            size,
-            feeder: Feeder::new(TelegramRest::new(size, PacketList::new(alloc))),
+            reader: ItemReader::new(size, rest),
         }
     }
 
@@ -59,7 +101,7 @@ impl TelegramReader {
     pub fn bits_seen(&self) -> usize
         ensures { result ≡ seen_of telegram_bits self.now.stage }
     {
-        self.feeder.count()
+        self.reader.bits_seen()
     }
 
     /// Takes the next piece: `More` where all of it was taken and the telegram isn't whole yet, `Done` with the
@@ -76,21 +118,7 @@ impl TelegramReader {
         ensures after { (IsReading self.old.stage → ⊥) → (self.new ≡ self.old) × (result ≡ Err (fault_of self.old.stage)) }
         ensures size { self.new.size ≡ self.old.size }
     {
-        if let Some(stop) = self.feeder.stop() {
-            return Err(fault_by(stop));
-        }
-        if self.feeder.var().is_none() {
-            return Err(ReadFault::Ended);
-        }
-        let wanted = self.size.container_bytes() - self.feeder.count() / 8;
-        let fed = wanted.min(piece.len());
-        match self.feeder.feed(&piece[..fed]) {
-            Ok(taken) => match self.feeder.var() {
-                Some(_) => Ok(Fed::More),
-                None => Ok(Fed::Done { taken: taken / 8 }),
-            },
-            Err(stop) => Err(fault_by(stop)),
-        }
+        self.reader.feed(piece)
     }
 
     /// What it holds between two pieces: the whole packets, the numbers or kept bits of the packet that is being read
@@ -99,18 +127,7 @@ impl TelegramReader {
         ensures some { IfSome result (λ h. IsHeld (TelegramLanguage self.now.size) (Members h.packets.now h.numbers.now h.kept) self.now.stage h.part h.taken) }
         ensures none { IsNone result → IsReading self.now.stage → ⊥ }
     {
-        if self.feeder.stop().is_some() || self.feeder.var().is_none() {
-            return None;
-        }
-        let store = &self.feeder.rest().packets.store;
-        let (part, taken) = self.feeder.part();
-        Some(Held {
-            packets: store.packets.as_slice(),
-            numbers: store.numbers.as_slice(),
-            kept: store.bits.as_slice(),
-            part,
-            taken,
-        })
+        self.reader.held()
     }
 
     /// The telegram, once `feed` has answered `Done`.
@@ -121,15 +138,9 @@ impl TelegramReader {
     pub fn take(self) -> Result<Telegram, Self>
         ensures { MatchResult result (λ t. self.stage ≡ finished t) (λ r. (r ≡ self) × ((t : TelegramParts) → self.stage ≢ finished t)) }
     {
-        if self.feeder.stop().is_some() || self.feeder.var().is_some() {
-            return Err(self);
+        match self.reader.take() {
+            Ok(telegram) => Ok(telegram),
+            Err(reader) => Err(TelegramReader { reader }),
         }
-        let rest = self.feeder.into_rest();
-        Ok(Telegram {
-            size: rest.size,
-            header: Header::of_numbers(rest.header.as_slice()),
-            packets: Items::from_vec(rest.packets.store.packets),
-            fill: rest.packets.store.bits,
-        })
     }
 }

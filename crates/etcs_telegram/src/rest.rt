@@ -11,17 +11,17 @@ ghost use Rattle.etcs_telegram.specs.declared.size.Size.{Size};
 ghost use Rattle.etcs_telegram.specs.Telegrams.{TelegramLanguage};
 ghost use Rattle.etcs_telegram.specs.Phases.{after};
 ghost use Rattle.etcs_telegram.specs.Lefts.{left_at, next_at, stands_at, may_ask, behind_packets, FillFits, HoldsIn, Follows};
-ghost use Rattle.etcs_telegram.specs.RestLaws.{rest_regular, rest_begins, rest_ended, follows_none, follows_along};
+ghost use Rattle.etcs_telegram.specs.laws.RestLaws.{rest_regular, rest_begins, rest_ended, follows_none, follows_along};
 
 use crate::header_bits::header_at;
 use crate::phase::Phase;
 use crate::size::Size;
 use arrayvec::ArrayVec;
 use etcs_bits::BitSlice;
-use etcs_container::parts::{number_at, run_at};
 use etcs_reader::Rest;
-use etcs_rests::{PacketStore, PacketsLeft, PacketsRest, Stage};
 use etcs_rows::parts::Carrier;
+use etcs_sequence::parts::{number_at, run_at};
+use etcs_sequence::{PacketStore, PacketsLeft, PacketsRest, Stage};
 use etcs_vars::{Var, begins};
 use std::alloc::AllocError;
 

@@ -1,17 +1,16 @@
 //! Telegrams.
 
 ghost use Rattle.std.specs.Prelude.{◌≡◌, ◌≢◌, ℕ, ◌+◌, ◌-◌, ◌≤◌, ◌<◌, ◌⊎◌, length, map, replicate, true, All, IfOk, IfErr, OnOk, IfSome, OnSome, IfNone};
-ghost use Rattle.etcs_packets.specs.PacketValues.{packet_value, IsPacket};
-ghost use Rattle.etcs_packets.specs.OnePacket.{IsMade};
+ghost use Rattle.etcs_packets.specs.PacketValues.{packet_value, IsPacket, IsMade};
 ghost use Rattle.etcs_telegram.specs.Telegrams.{packet_room, closed_bits};
 
 use crate::header::Header;
 use crate::size::Size;
 use etcs_bits::{BitSlice, Bits};
+use etcs_bodies::Items;
 use etcs_packets::Packet;
-use etcs_parts::Items;
+use etcs_packets::parts::room_left;
 use etcs_vars::BuildFault;
-use etcs_writing::room_left;
 use std::alloc::{AllocError, Global};
 use std::marker::Model;
 

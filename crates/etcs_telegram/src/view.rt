@@ -3,7 +3,7 @@
 ghost use Rattle.std.specs.Prelude.{◌≡◌, ◌≢◌, ◌↔◌, ℕ, length, Err, IfOk};
 ghost use Rattle.etcs_bits.specs.Bits.{bits};
 ghost use Rattle.etcs_vars.specs.Walking.{Refuses};
-ghost use Rattle.etcs_refs.specs.Refs.{spellings};
+ghost use Rattle.etcs_sequence.specs.Refs.{spellings};
 ghost use Rattle.etcs_telegram.specs.Telegrams.{TelegramValue, TelegramLanguage, container_bytes};
 ghost use Rattle.etcs_telegram.specs.Views.{Sees};
 
@@ -12,11 +12,9 @@ use crate::parts::HEADER_BITS;
 use crate::rest::TelegramRest;
 use crate::size::Size;
 use etcs_bits::BitSlice;
-use etcs_container::parts::run_at;
 use etcs_reader::{Feeder, Stop};
-use etcs_refs::Packets;
-use etcs_refs::parts::packets;
-use etcs_rests::PacketCount;
+use etcs_sequence::parts::{packets, run_at};
+use etcs_sequence::{PacketCount, Packets};
 use etcs_vars::Var;
 use std::marker::Model;
 

@@ -1,8 +1,12 @@
-pub mod Texts
-pub mod NumberTexts
 pub mod Encoding
-pub mod Refusals
-pub mod MessageTexts
-pub mod MessageExamples
+pub mod FrameLines
 pub mod JsonExamples
+pub mod MessageExamples
+pub mod MessageTexts
+pub mod NumberTexts
+pub mod PairSinks
+pub mod PlainTexts
+pub mod Refusals
+pub mod TextLengths
+pub mod Texts
 pub mod TreeTexts

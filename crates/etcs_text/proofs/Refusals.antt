@@ -1,7 +1,8 @@
 -- What holds on an error, and without one.
 use Rattle.std.proofs.Common.{◌≡◌, ℕ, List, [], ◌∷◌, ◌++◌, Result, Ok, Err, ap, ◌∙◌, append_assoc}
 use Rattle.std.specs.Prelude.{OnErr, OnOk}
-use Rattle.etcs_text.specs.Fronts.{Begins, begins_more}
+use Rattle.etcs_text.specs.Fronts.{Begins}
+use Rattle.etcs_text.specs.laws.Fronts.{begins_more}
 
 -- what holds anyway
 pub on_err : {T E P : Type 0} (r : Result T E) → P → OnErr r P

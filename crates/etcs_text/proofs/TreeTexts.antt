@@ -20,10 +20,13 @@ use Rattle.etcs_radio.specs.Readings.{body_of, head_of, kept_of, nid_of_message,
 use Rattle.etcs_telegram.specs.declared.size.Size.{Size}
 use Rattle.etcs_telegram.specs.declared.size.Size.TheVariants.{Short, Long}
 use Rattle.etcs_telegram.specs.Telegrams.{HeaderParts, header_reading}
-use Rattle.etcs_text.specs.Fronts.{Begins, begins_more}
+use Rattle.etcs_text.specs.Fronts.{Begins}
+use Rattle.etcs_text.specs.laws.Fronts.{begins_more}
 use Rattle.etcs_text.specs.JsonParts.{fields_text, is_kept, message_behind, message_front, telegram_text}
-use Rattle.etcs_text.specs.PairSinks.{Listed, with_each, with_pairs, each_begins, list_text}
-use Rattle.etcs_text.specs.PlainTexts.{quoted_bits}
+use Rattle.etcs_text.specs.PairSinks.{Listed, with_each, with_pairs}
+use Rattle.etcs_text.specs.laws.PairSinks.{each_begins}
+use Rattle.etcs_text.proofs.PairSinks.{list_text}
+use Rattle.etcs_text.proofs.PlainTexts.{quoted_bits}
 use Rattle.etcs_text.specs.Show.{bit_digit}
 use Rattle.etcs_text.specs.Trees.{message_tree, packet_tree, packets_tree, pair_tree, pairs_tree, telegram_tree}
 

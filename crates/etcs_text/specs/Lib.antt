@@ -6,8 +6,7 @@ pub mod LineSinks
 pub mod Messages
 pub mod Packets
 pub mod PairSinks
-pub mod PlainTexts
 pub mod Show
 pub mod Telegrams
-pub mod TextLengths
 pub mod Trees
+pub mod laws

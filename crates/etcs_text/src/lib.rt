@@ -1,5 +1,5 @@
 //! The text of the items of an input: of each a line for itself, one for each variable, and one for kept bits.
-#![tactic(auto, using(crate::specs::Fronts::begins_more))]
+#![tactic(auto, using(crate::specs::laws::Fronts::begins_more))]
 
 mod entry;
 mod fronts;
@@ -7,7 +7,6 @@ mod json_lines;
 mod json_packets;
 mod messages;
 mod packets;
-mod pair_fronts;
 mod pairs;
 pub mod parts;
 mod show;

@@ -1,6 +1,7 @@
 //! The text of packets.
 
 ghost use Rattle.std.specs.Prelude.{◌≡◌, ◌++◌, OnErr, OnOk, flat_map, map};
+ghost use Rattle.etcs_vars.specs.declared.var.Var.TheVariants.{Q_DIR, L_PACKET};
 ghost use Rattle.etcs_packets.specs.PacketValues.{packet_value, variables_of};
 ghost use Rattle.etcs_text.specs.Fronts.{Begins};
 ghost use Rattle.etcs_text.specs.Show.{variable_line};
@@ -52,7 +53,8 @@ impl LineSink {
 
 impl Sink for LineSink {
     ghost use Rattle.etcs_text.specs.Fronts.{Begins};
-    ghost use Rattle.etcs_text.specs.LineSinks.{with_lines, with_lines_begins, with_lines_both, with_lines_none};
+    ghost use Rattle.etcs_text.specs.LineSinks.{with_lines};
+    ghost use Rattle.etcs_text.specs.laws.LineSinks.{with_lines_begins, with_lines_both, with_lines_none};
 
     ghost with = { with_lines };
 
@@ -81,16 +83,22 @@ fn push_number_line(nid: u8, out: &mut Vec<u8>) -> Result<(), AllocError>
     push_decimal_line(u64::from(nid), out)
 }
 
+/// Appends the lines of Q_DIR and L_PACKET.
+fn push_direction_and_length(dir: u8, bits: u64, out: &mut Vec<u8>) -> Result<(), AllocError>
+    ensures ok { OnOk result (out.new.items ≡ out.old.items ++ (variable_line (Q_DIR, dir) ++ variable_line (L_PACKET, bits))) }
+    ensures err { OnErr result (Begins out.old.items out.new.items) }
+{
+    push_variable(Var::Q_DIR, u64::from(dir), out)?;
+    push_variable(Var::L_PACKET, bits, out)
+}
+
 /// Appends the lines of Q_DIR and L_PACKET, which packet 0 doesn't have.
 fn push_frame(packet: &Packet, out: &mut Vec<u8>) -> Result<(), AllocError>
     ensures ok { OnOk result (out.new.items ≡ out.old.items ++ frame_lines (packet_value packet.now)) }
     ensures err { OnErr result (Begins out.old.items out.new.items) }
 {
     match dir(packet) {
-        Some(dir) => {
-            push_variable(Var::Q_DIR, u64::from(dir), out)?;
-            push_variable(Var::L_PACKET, packet.bit_len() as u64, out)
-        }
+        Some(dir) => push_direction_and_length(dir, packet.bit_len() as u64, out),
         None => Ok(()),
     }
 }

@@ -7,7 +7,7 @@ ghost use Rattle.etcs_vars.specs.declared.var.Var.TheVariants.{NID_RADIO};
 ghost use Rattle.etcs_packets.specs.PacketValues.{packet_value, variables_of};
 ghost use Rattle.etcs_text.specs.Trees.{number_tree, pair_tree, pairs_tree};
 
-use crate::pair_fronts::pair_front;
+use crate::fronts::pair_front;
 use crate::text::{push_decimal_and, push_hex};
 use etcs_packets::Packet;
 use etcs_packets::parts::send;
@@ -39,7 +39,7 @@ fn push_number(var: Var, number: u64, out: &mut Vec<u8>) -> Result<(), AllocErro
 }
 
 /// Appends the pair of a variable, behind a comma where it isn't the first of its list.
-#[tactic(auto, using(crate::specs::Fronts::begins_more, std::proofs::Common::append_assoc))]
+#[tactic(auto, using(crate::specs::laws::Fronts::begins_more, std::proofs::Common::append_assoc))]
 fn push_pair(later: bool, var: Var, number: u64, out: &mut Vec<u8>) -> Result<(), AllocError>
     ensures ok { OnOk result (out.new.items ≡ out.old.items ++ (comma_if later ++ compact_text (pair_tree (var, number)))) }
     ensures err { OnErr result (Begins out.old.items out.new.items) }
@@ -86,7 +86,8 @@ impl PairSink {
 
 impl Sink for PairSink {
     ghost use Rattle.etcs_text.specs.Fronts.{Begins};
-    ghost use Rattle.etcs_text.specs.PairSinks.{with_pairs, with_pairs_begins, with_pairs_both, with_pairs_none};
+    ghost use Rattle.etcs_text.specs.PairSinks.{with_pairs};
+    ghost use Rattle.etcs_text.specs.laws.PairSinks.{with_pairs_begins, with_pairs_both, with_pairs_none};
 
     ghost with = { with_pairs };
 

@@ -37,7 +37,7 @@ pub(crate) fn push_decimal_and(number: u64, end: u8, out: &mut Vec<u8>) -> Resul
 }
 
 /// Appends the digits of a number and a LF.
-#[tactic(auto, using(crate::specs::Fronts::begins_more, std::proofs::Common::append_assoc))]
+#[tactic(auto, using(crate::specs::laws::Fronts::begins_more, std::proofs::Common::append_assoc))]
 pub(crate) fn push_decimal_line(number: u64, out: &mut Vec<u8>) -> Result<(), AllocError>
     ensures ok { OnOk result (out.new.items ≡ out.old.items ++ decimal number ++ codes "\n") }
     ensures err { OnErr result (Begins out.old.items out.new.items) }

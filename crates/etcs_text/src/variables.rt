@@ -5,7 +5,7 @@ ghost use Rattle.etcs_vars.specs.Vars.{name, special};
 ghost use Rattle.etcs_text.specs.Fronts.{Begins};
 ghost use Rattle.etcs_text.specs.Show.{bits_line, bits_text, number_text, special_text, variable_line};
 
-use crate::fronts::front;
+use crate::fronts::line_front;
 use crate::signed::push_signed;
 use crate::text::{push_decimal, push_decimal_line, push_hex, push_slice};
 use etcs_bits::BitSlice;
@@ -42,7 +42,7 @@ pub(crate) fn push_variable(var: Var, number: u64, out: &mut Vec<u8>) -> Result<
     ensures ok { OnOk result (out.new.items ≡ out.old.items ++ variable_line (var, number)) }
     ensures err { OnErr result (Begins out.old.items out.new.items) }
 {
-    out.extend_from_slice(front(var))?;
+    out.extend_from_slice(line_front(var))?;
     push_number_line(var, number, out)
 }
 
@@ -67,7 +67,7 @@ pub(crate) fn push_bits_line(
     ensures ok { OnOk result (out.new.items ≡ out.old.items ++ bits_line (name var) bits.now) }
     ensures err { OnErr result (Begins out.old.items out.new.items) }
 {
-    out.extend_from_slice(front(var))?;
+    out.extend_from_slice(line_front(var))?;
     push_decimal(bits.len() as u64, out)?;
     push_bits_text(bits, out)?;
     out.extend_from_slice(b"\n")

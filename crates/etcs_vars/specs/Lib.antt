@@ -2,4 +2,4 @@ pub mod Vars
 pub mod Reading
 pub mod Walking
 pub mod Faults
-pub mod Sinks
+pub mod laws

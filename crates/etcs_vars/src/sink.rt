@@ -107,7 +107,7 @@ impl NumberList {
 impl Sink for NumberList {
     ghost use Rattle.std.specs.Prelude.{◌≡◌, ◌++◌, length, take};
     ghost use Rattle.etcs_vars.specs.Reading.{numbers};
-    ghost use Rattle.etcs_vars.specs.Sinks.{numbers_none, numbers_both, numbers_begin};
+    ghost use Rattle.etcs_vars.specs.laws.Sinks.{numbers_none, numbers_both, numbers_begin};
 
     ghost with = { λ f r. f ++ numbers r };
 

@@ -1,36 +1,51 @@
-//! Vectors of headers and telegrams that are built of their parts. A header is its eight numbers in order.
+//! Vectors of headers and telegrams that are built of their parts. A header is its eight numbers in order. Packets are
+//! `0 NUMBER`, `NID Q_DIR NUMBERS` after L_PACKET, or `NID Q_DIR bDIGITS` for kept bits, with ` ; ` between two packets.
 
-use crate::packets::packets;
-use crate::telegrams::{encoded, telegram};
-use crate::ways::Ways;
-use crate::words::{counted, drop_line_end, header, push_fault, push_hex, push_unless, size};
+use crate::telegrams::{check_read, encoded, next_size};
 use etcs_bits::Bits;
-use etcs_packets::Packet;
-use etcs_row_cases::words::{bits, numbers, push_bits, push_number, push_text};
+use etcs_cases::{Case, FaultTexts};
+use etcs_packets::{Other, Packet, parts};
 use etcs_telegram::parts::header_numbers;
 use etcs_telegram::{Header, Size, Telegram};
 use etcs_text::parts::push_packets;
-use std::alloc::{AllocError, Global};
+use etcs_vars::BuildFault;
 
-/// `header NUMBERS`: the numbers that it gives, and those of its ten variables; or what isn't admitted.
-pub(crate) fn tell_header(
-    alloc: Global,
-    words: &str,
-    out: &mut Vec<u8>,
-) -> Result<Option<()>, AllocError> {
-    let Some(numbers) = numbers(alloc, words)? else {
-        return Ok(None);
-    };
-    match header(numbers.as_slice()) {
-        Some(Ok(header)) => push_header(&header, out)?,
-        Some(Err(fault)) => push_fault(out, fault)?,
-        None => return Ok(None),
+/// What is answered of a fault.
+const FAULTS: FaultTexts = [
+    "not admitted ",
+    "guard ",
+    "too many ",
+    "count",
+    "too long",
+    "fill length",
+];
+
+/// Answers a line about what is built: whether it is one.
+pub(crate) fn answer(case: &mut Case, kind: &str) -> bool {
+    match kind {
+        "header" => match header(case) {
+            Ok(header) => say_header(case, &header),
+            Err(fault) => case.say_fault(fault, &FAULTS),
+        },
+        "headers" => headers(case),
+        "built" | "filled" => built(case, kind),
+        "text" => text(case),
+        _ => return false,
     }
-    Ok(Some(()))
+    true
 }
 
-/// What a header gives.
-fn push_header(header: &Header, out: &mut Vec<u8>) -> Result<(), AllocError> {
+/// The header of the next eight numbers, or why there is none.
+fn header(case: &mut Case) -> Result<Header, BuildFault> {
+    let (version, pig, total) = (case.byte(), case.byte(), case.byte());
+    let (dup, count) = (case.byte(), case.byte());
+    let (country, group) = (case.half(), case.half());
+    let link = case.number() == 1;
+    Header::new(version, pig, total, dup, count, country, group, link)
+}
+
+/// `header NUMBERS`: the numbers that it gives, and those of its ten variables; or what isn't admitted.
+fn say_header(case: &mut Case, header: &Header) {
     let given = [
         u64::from(header.m_version()),
         u64::from(header.n_pig()),
@@ -41,159 +56,167 @@ fn push_header(header: &Header, out: &mut Vec<u8>) -> Result<(), AllocError> {
         u64::from(header.nid_bg()),
         u64::from(header.q_link()),
     ];
-    push_numbers(&given, out)?;
-    push_text(out, "/")?;
-    push_numbers(&header_numbers(header), out)?;
-    out.pop();
-    Ok(())
+    say_numbers(case, &given);
+    case.say("/");
+    say_numbers(case, &header_numbers(header));
 }
 
-/// Numbers with a blank behind each.
-fn push_numbers(numbers: &[u64], out: &mut Vec<u8>) -> Result<(), AllocError> {
+/// Numbers with a blank after each.
+fn say_numbers(case: &mut Case, numbers: &[u64]) {
     for number in numbers {
-        push_number(out, *number)?;
-        push_text(out, " ")?;
+        case.say_next(*number);
     }
-    Ok(())
 }
 
 /// `headers NUMBERS , NUMBERS`: whether these are the same header.
-pub(crate) fn tell_headers(
-    alloc: Global,
-    words: &str,
-    out: &mut Vec<u8>,
-) -> Result<Option<()>, AllocError> {
-    let Some((first, second)) = words.split_once(" , ") else {
-        return Ok(None);
-    };
-    let (Some(first), Some(second)) = (numbers(alloc, first)?, numbers(alloc, second)?) else {
-        return Ok(None);
-    };
-    match (header(first.as_slice()), header(second.as_slice())) {
-        (Some(Ok(first)), Some(Ok(second))) => {
-            push_text(out, if first == second { "yes" } else { "no" })?;
-            Ok(Some(()))
-        }
-        _ => Ok(None),
+fn headers(case: &mut Case) {
+    let behind = case.split(" , ");
+    let first = header(case);
+    case.go_on(behind);
+    let second = header(case);
+    case.say_truth(first == second);
+    if first.is_err() || second.is_err() {
+        case.bad();
     }
 }
 
-/// The size, the header and the packets of words.
-fn parts(alloc: Global, words: &str) -> Result<Option<(Size, Header, Vec<Packet>)>, AllocError> {
-    let (head, rest) = words.split_once(" ; ").unwrap_or((words, ""));
-    let Some((word, head)) = head.split_once(' ') else {
-        return Ok(None);
-    };
-    let (Some(size), Some(numbers), Some(packets)) = (
-        size(word),
-        numbers(alloc, head)?,
-        packets(alloc, rest)?,
-    ) else {
-        return Ok(None);
-    };
-    match header(numbers.as_slice()) {
-        Some(Ok(header)) => Ok(Some((size, header, packets))),
-        _ => Ok(None),
+/// The packets of all words that are left.
+pub(crate) fn packets(case: &mut Case) -> Vec<Packet> {
+    let mut packets = Vec::new(case.alloc());
+    for _ in 0..100u8 {
+        if case.is_empty() {
+            break;
+        }
+        let behind = case.split(" ; ");
+        match packet(case) {
+            Some(packet) => case.kept(packets.push(packet).is_ok()),
+            None => case.bad(),
+        }
+        case.go_on(behind);
+    }
+    packets
+}
+
+/// The packet of all words that are left.
+fn packet(case: &mut Case) -> Option<Packet> {
+    let nid = case.byte();
+    let dir = case.byte();
+    if nid == 0 {
+        return Packet::vbc_marker(dir).ok();
+    }
+    let rest = case.rest();
+    match rest.strip_prefix('b') {
+        Some(digits) => kept(case, nid, dir, digits),
+        None => {
+            case.go_on(rest);
+            typed(case, nid, dir)
+        }
+    }
+}
+
+/// The packet that is kept as these bits.
+fn kept(case: &mut Case, nid: u8, dir: u8, digits: &str) -> Option<Packet> {
+    let body = case.bits_between("", digits, "");
+    match Other::new(nid, dir, body) {
+        Ok(kept) => Some(Packet::Other(kept)),
+        Err(_) => None,
+    }
+}
+
+/// The packet of the numbers that are left.
+fn typed(case: &mut Case, nid: u8, dir: u8) -> Option<Packet> {
+    let numbers = case.numbers();
+    match parts::from_fields(case.alloc(), nid, dir, numbers.as_slice()) {
+        Ok(packet) => packet,
+        Err(_) => {
+            case.kept(false);
+            None
+        }
     }
 }
 
 /// `built SIZE HEADER ; PACKETS`: the bytes of the telegram, or what is refused and the packets that come back.
-pub(crate) fn tell(
-    alloc: Global,
-    words: &str,
-    out: &mut Vec<u8>,
-) -> Result<Option<()>, AllocError> {
-    let Some((size, header, packets)) = parts(alloc, words)? else {
-        return Ok(None);
-    };
-    match Telegram::new(alloc, size, header, packets) {
-        Ok(telegram) => push_built(alloc, &telegram, size, &header, out)?,
-        Err((fault, packets)) => {
-            push_fault(out, fault)?;
-            push_back(packets.as_slice(), out)?;
-        }
+/// `filled SIZE HEADER ; PACKETS : DIGITS`: the same with this FILL, which comes back too.
+fn built(case: &mut Case, kind: &str) {
+    let digits = case.split(" : ");
+    let behind = case.split(" ; ");
+    let size = next_size(case);
+    let header = header(case);
+    case.go_on(behind);
+    let packets = packets(case);
+    let fill = case.bits_between("", digits, "");
+    match header {
+        Ok(header) => say_new(case, kind, size, header, packets, fill),
+        Err(_) => case.bad(),
     }
-    Ok(Some(()))
 }
 
-/// `filled SIZE HEADER ; PACKETS : DIGITS`: as `built`, with this FILL, which comes back too.
-pub(crate) fn tell_filled(
-    alloc: Global,
-    words: &str,
-    out: &mut Vec<u8>,
-) -> Result<Option<()>, AllocError> {
-    let Some((words, digits)) = words.split_once(" : ") else {
-        return Ok(None);
-    };
-    let Some((size, header, packets)) = parts(alloc, words)? else {
-        return Ok(None);
-    };
-    let Some(fill) = bits(alloc, digits)? else {
-        return Ok(None);
-    };
-    match Telegram::with_fill(size, header, packets, fill) {
-        Ok(telegram) => push_built(alloc, &telegram, size, &header, out)?,
-        Err((fault, packets, fill)) => {
-            push_fault(out, fault)?;
-            push_back(packets.as_slice(), out)?;
-            push_fill(&fill, out)?;
+fn say_new(
+    case: &mut Case,
+    kind: &str,
+    size: Size,
+    header: Header,
+    packets: Vec<Packet>,
+    fill: Bits,
+) {
+    if kind == "built" {
+        plain(case, size, header, packets);
+    } else {
+        with_fill(case, size, header, packets, fill);
+    }
+}
+
+fn plain(case: &mut Case, size: Size, header: Header, packets: Vec<Packet>) {
+    let built = Telegram::new(case.alloc(), size, header, packets);
+    match built.as_ref() {
+        Ok(telegram) => say_built(case, telegram, size, &header),
+        Err((fault, packets)) => {
+            case.say_fault(*fault, &FAULTS);
+            say_back(case, packets.as_slice());
         }
     }
-    Ok(Some(()))
+}
+
+fn with_fill(case: &mut Case, size: Size, header: Header, packets: Vec<Packet>, fill: Bits) {
+    let built = Telegram::with_fill(size, header, packets, fill);
+    match built.as_ref() {
+        Ok(telegram) => say_built(case, telegram, size, &header),
+        Err((fault, packets, fill)) => {
+            case.say_fault(*fault, &FAULTS);
+            say_back(case, packets.as_slice());
+            case.say("\nFILL ");
+            case.say_bits(&fill.as_slice());
+        }
+    }
 }
 
 /// The bytes of a telegram that was built.
-fn push_built(
-    alloc: Global,
-    telegram: &Telegram,
-    size: Size,
-    header: &Header,
-    out: &mut Vec<u8>,
-) -> Result<(), AllocError> {
-    let (len, bytes) = encoded(alloc, telegram, 104, 0)?;
-    let len = len.unwrap_or(0);
-    push_hex(out, bytes.as_slice().get(..len).unwrap_or(&[]))?;
+fn say_built(case: &mut Case, telegram: &Telegram, size: Size, header: &Header) {
+    let (_, bytes) = encoded(case, telegram, size.container_bytes(), 0);
+    case.say_hex(bytes.as_slice());
     let parts = telegram.size() == size && telegram.header() == header;
-    push_unless(out, parts, "of other parts")?;
-    let again = size.is_read_again(alloc, telegram)?;
-    push_unless(out, again, "not read again")
+    case.check(parts, "of other parts");
+    check_read(case, telegram, size, bytes.as_slice());
 }
 
 /// The text of packets that came back.
-fn push_back(packets: &[Packet], out: &mut Vec<u8>) -> Result<(), AllocError> {
-    if packets.is_empty() {
-        return Ok(());
+fn say_back(case: &mut Case, packets: &[Packet]) {
+    if !packets.is_empty() {
+        case.say("\n");
+        say_packets(case, packets);
     }
-    push_text(out, "\n")?;
-    push_packets(packets, out)?;
-    drop_line_end(out);
-    Ok(())
 }
 
-/// The line of FILL that came back.
-fn push_fill(fill: &Bits, out: &mut Vec<u8>) -> Result<(), AllocError> {
-    push_text(out, "\nFILL ")?;
-    push_bits(out, fill.as_slice())
+/// The text of packets.
+fn say_packets(case: &mut Case, packets: &[Packet]) {
+    let mut text = Vec::new(case.alloc());
+    case.kept(push_packets(packets, &mut text).is_ok());
+    case.say_line(text.as_slice());
 }
 
-/// `room COUNT SIZE HEX`: what the telegram leaves in a buffer of so many bytes 55.
-pub(crate) fn tell_room(
-    alloc: Global,
-    words: &str,
-    out: &mut Vec<u8>,
-) -> Result<Option<()>, AllocError> {
-    let Some((room, words)) = counted(words) else {
-        return Ok(None);
-    };
-    let (Ok(room), Some(telegram)) = (u8::try_from(room), telegram(alloc, words)?) else {
-        return Ok(None);
-    };
-    let (len, buffer) = encoded(alloc, &telegram, usize::from(room), 0x55)?;
-    match len {
-        Some(len) => push_number(out, len as u64)?,
-        None => push_text(out, "no room")?,
-    }
-    push_text(out, " ")?;
-    push_hex(out, buffer.as_slice())?;
-    Ok(Some(()))
+/// `text PACKETS`: their text.
+fn text(case: &mut Case) {
+    case.say("before\n");
+    let packets = packets(case);
+    say_packets(case, packets.as_slice());
 }

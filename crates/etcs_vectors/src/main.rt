@@ -1,26 +1,19 @@
 //! Checks vectors: lines of standard input that say what the crates of this repository answer.
 //!
-//! A line is `KIND WORDS = EXPECTED`, with one blank between words. A line behind it that begins with a blank goes on with
+//! A line is `KIND WORDS = EXPECTED`, with one blank between words. A line after it that begins with a blank continues
 //! what is expected, as one more line of it. Lines that begin with `#` and empty lines say nothing. Each vector that isn't
 //! answered as expected is written with what was answered, and at the end how many there were of each kind.
 #![tactic(auto)]
 
 mod builds;
-mod feeds;
-mod kinds;
-mod messages;
-mod packets;
-mod report;
+mod items;
+mod radio;
 mod runs;
 mod sheet;
 mod telegrams;
-mod turns;
-mod views;
-mod ways;
-mod words;
 mod writes;
 
-use crate::report::Report;
+use crate::sheet::Sheet;
 use std::alloc::Global;
 use std::io::{self, Read, Write};
 use std::process::ExitCode;
@@ -40,10 +33,8 @@ fn check(
     mut output: impl Write + Drop,
 ) -> io::Result<bool> {
     let text = io::read_to_string(alloc, input)?;
-    let mut report = Report::new(alloc);
-    sheet::check(alloc, text.as_str(), &mut report)?;
-    report.end()?;
-    output.write_all(report.text())?;
+    let (report, is_right) = Sheet::check(alloc, text.as_str())?;
+    output.write_all(report.as_slice())?;
     output.flush()?;
-    Ok(report.is_right())
+    Ok(is_right)
 }

@@ -4,14 +4,14 @@ ghost use Rattle.std.specs.Prelude.{◌≡◌};
 ghost use Rattle.etcs_stream.specs.declared.job.Command.TheVariants as command;
 ghost use Rattle.etcs_stream.specs.declared.job.Form.TheVariants as form;
 
-use crate::words::{counted, drop_line_end, push_hex, push_unless, size};
+use crate::telegrams::next_size;
+use etcs_cases::Case;
 use etcs_cli::run_words;
-use etcs_row_cases::words::{bytes, push_number, push_text, variable};
 use etcs_stream::{
     Command, Form, Input, Job, Kind, Output, RunFault, Source, Tally, run, write_fault,
 };
 use etcs_telegram::Size;
-use std::alloc::{AllocError, Global};
+use std::alloc::Global;
 use std::io::{self, Read};
 
 /// Gives one byte a read.
@@ -33,6 +33,19 @@ impl Read for Slow<'_> {
     }
 }
 
+/// Answers a line about runs: whether it is one.
+pub(crate) fn answer(case: &mut Case, kind: &str) -> bool {
+    match kind {
+        "run" | "zeros" => shown(case, kind),
+        "slow" => run_slowly(case),
+        "repeated" => repeated(case),
+        "program" | "bytes" | "status" => program(case, kind),
+        "fault" => fault(case),
+        _ => return false,
+    }
+    true
+}
+
 /// The job of showing telegrams of a size.
 fn job(size: Size) -> Job
     ensures shows { result.command ≡ command.Show }
@@ -48,7 +61,7 @@ fn job(size: Size) -> Job
     }
 }
 
-/// What a run over a reader answers, and how often it read; what it writes goes behind `written`.
+/// What a run over a reader answers, and how often it read; what it writes is appended to `written`.
 fn run_over<R: Read + Drop>(
     alloc: Global,
     size: Size,
@@ -61,229 +74,176 @@ fn run_over<R: Read + Drop>(
     (answer, source.reads())
 }
 
-/// The bytes of a text.
-fn text(alloc: Global, words: &str) -> Result<Option<Vec<u8>>, AllocError> {
-    let mut found = Vec::new(alloc);
+/// Appends the bytes of a text.
+fn push_text(case: &mut Case, found: &mut Vec<u8>, words: &str) {
     let mut escaped = false;
     for byte in words.as_bytes() {
-        let byte = *byte;
-        if escaped {
-            match byte {
-                b'n' => found.push(b'\n')?,
-                b'r' => found.push(b'\r')?,
-                _ => return Ok(None),
-            }
-            escaped = false;
-        } else if byte == b'\\' {
+        if *byte == b'\\' {
             escaped = true;
-        } else {
-            found.push(byte)?;
+            continue;
         }
+        let byte = match (escaped, *byte) {
+            (false, byte) => byte,
+            (true, b'n') => b'\n',
+            (true, b'r') => b'\r',
+            _ => {
+                case.bad();
+                0
+            }
+        };
+        escaped = false;
+        case.kept(found.push(byte).is_ok());
     }
-    Ok(if escaped { None } else { Some(found) })
 }
 
 /// What a run answered.
-fn push_answer(answer: Result<Tally, RunFault>, out: &mut Vec<u8>) -> Result<(), AllocError> {
+fn say_answer(case: &mut Case, answer: Result<Tally, RunFault>) {
     match answer {
         Ok(tally) => {
-            push_text(out, "ok ")?;
-            push_number(out, tally.items)?;
-            push_unless(out, tally.clashes == 0 && tally.complete, "of groups")
+            case.say("ok ");
+            case.say_number(tally.items);
+            case.check(tally.clashes == 0 && tally.complete, "of groups");
         }
-        Err(fault) => push_fault(&fault, out),
+        Err(fault) => say_fault(case, &fault),
     }
 }
 
 /// The line of a fault.
-fn push_fault(fault: &RunFault, out: &mut Vec<u8>) -> Result<(), AllocError> {
-    match write_fault(fault, out) {
-        Ok(()) => {
-            drop_line_end(out);
-            Ok(())
-        }
-        Err(_) => Err(AllocError),
+fn say_fault(case: &mut Case, fault: &RunFault) {
+    let mut line: Vec<u8> = Vec::new(case.alloc());
+    case.kept(write_fault(fault, &mut line).is_ok());
+    case.say_line(line.as_slice());
+}
+
+/// What was written, after a LF.
+fn say_written(case: &mut Case, written: &[u8]) {
+    if !written.is_empty() {
+        case.say("\n");
+        case.say_line(written);
     }
 }
 
-/// What was written, behind a LF.
-fn push_written(written: &[u8], out: &mut Vec<u8>) -> Result<(), AllocError> {
-    if written.is_empty() {
-        return Ok(());
+/// `run SIZE TEXT`: what a run answers and writes, also where it reads byte by byte; and `zeros SIZE COUNT TEXT`: the same
+/// with COUNT zeros in front of the text.
+fn shown(case: &mut Case, kind: &str) {
+    let size = next_size(case);
+    let mut input = Vec::new(case.alloc());
+    if kind == "zeros" {
+        let zeros = case.half();
+        case.kept(input.resize(usize::from(zeros), b'0').is_ok());
     }
-    push_text(out, "\n")?;
-    out.extend_from_slice(written)?;
-    drop_line_end(out);
-    Ok(())
-}
-
-/// A size and the text behind it.
-fn sized_text(alloc: Global, words: &str) -> Result<Option<(Size, Vec<u8>)>, AllocError> {
-    let (word, rest) = words.split_once(' ').unwrap_or((words, ""));
-    match (size(word), text(alloc, rest)?) {
-        (Some(size), Some(text)) => Ok(Some((size, text))),
-        _ => Ok(None),
-    }
-}
-
-/// `run SIZE TEXT`: what a run answers and writes, also where it reads byte by byte.
-pub(crate) fn tell(
-    alloc: Global,
-    words: &str,
-    out: &mut Vec<u8>,
-) -> Result<Option<()>, AllocError> {
-    match sized_text(alloc, words)? {
-        Some((size, text)) => {
-            push_run(alloc, size, text.as_slice(), out)?;
-            Ok(Some(()))
-        }
-        None => Ok(None),
-    }
+    let text = case.rest();
+    push_text(case, &mut input, text);
+    say_run(case, size, input.as_slice());
 }
 
 /// What a run answers and writes.
-fn push_run(alloc: Global, size: Size, input: &[u8], out: &mut Vec<u8>) -> Result<(), AllocError> {
-    let mut written = Vec::new(alloc);
-    let (answer, _) = run_over(alloc, size, input, &mut written);
-    push_answer(answer, out)?;
-    push_written(written.as_slice(), out)?;
-    let mut slowly = Vec::new(alloc);
-    let (slow, _) = run_over(alloc, size, Slow { rest: input }, &mut slowly);
-    push_unless(out, slow == answer && slowly == written, "not byte by byte")
-}
-
-/// `zeros SIZE COUNT TEXT`: as `run`, with so many zeros in front of the text.
-pub(crate) fn tell_zeros(
-    alloc: Global,
-    words: &str,
-    out: &mut Vec<u8>,
-) -> Result<Option<()>, AllocError> {
-    let Some((word, rest)) = words.split_once(' ') else {
-        return Ok(None);
-    };
-    let (count, rest) = rest.split_once(' ').unwrap_or((rest, ""));
-    let (Some(size), Ok(count), Some(end)) = (size(word), count.parse::<u16>(), text(alloc, rest)?)
-    else {
-        return Ok(None);
-    };
-    let mut input = Vec::new(alloc);
-    for _ in 0..count {
-        input.push(b'0')?;
-    }
-    input.extend_from_slice(end.as_slice())?;
-    push_run(alloc, size, input.as_slice(), out)?;
-    Ok(Some(()))
+fn say_run(case: &mut Case, size: Size, input: &[u8]) {
+    let mut written = Vec::new(case.alloc());
+    let (answer, _) = run_over(case.alloc(), size, input, &mut written);
+    say_answer(case, answer);
+    say_written(case, written.as_slice());
+    let mut slowly = Vec::new(case.alloc());
+    let (slow, _) = run_over(case.alloc(), size, Slow { rest: input }, &mut slowly);
+    case.check(slow == answer && slowly == written, "not byte by byte");
 }
 
 /// `slow SIZE TEXT`: what a run answers that gets one byte a read, and how often it reads.
-pub(crate) fn tell_slow(
-    alloc: Global,
-    words: &str,
-    out: &mut Vec<u8>,
-) -> Result<Option<()>, AllocError> {
-    let Some((size, input)) = sized_text(alloc, words)? else {
-        return Ok(None);
-    };
-    let mut written = Vec::new(alloc);
+fn run_slowly(case: &mut Case) {
+    let size = next_size(case);
+    let mut input = Vec::new(case.alloc());
+    let text = case.rest();
+    push_text(case, &mut input, text);
+    let mut written = Vec::new(case.alloc());
     let slow = Slow {
         rest: input.as_slice(),
     };
-    let (answer, reads) = run_over(alloc, size, slow, &mut written);
-    push_answer(answer, out)?;
-    push_text(out, ", reads ")?;
-    push_number(out, reads)?;
-    push_written(written.as_slice(), out)?;
-    Ok(Some(()))
+    let (answer, reads) = run_over(case.alloc(), size, slow, &mut written);
+    say_answer(case, answer);
+    case.say(", reads ");
+    case.say_number(reads);
+    say_written(case, written.as_slice());
 }
 
-/// `repeated COUNT SIZE HEX`: the text of this telegram where it is item 1; a run over so many lines of it writes it so
+/// `repeated COUNT SIZE HEX`: the text of this telegram where it is item 1; a run over COUNT lines of it writes it so
 /// often, with their numbers.
-pub(crate) fn tell_repeated(
-    alloc: Global,
-    words: &str,
-    out: &mut Vec<u8>,
-) -> Result<Option<()>, AllocError> {
-    let Some((count, rest)) = counted(words) else {
-        return Ok(None);
-    };
-    let (Ok(count), Some((size, line))) = (u16::try_from(count), sized_text(alloc, rest)?) else {
-        return Ok(None);
-    };
-    let mut one = Vec::new(alloc);
-    let (_, reads) = run_over(alloc, size, line.as_slice(), &mut one);
-    let mut input = Vec::new(alloc);
-    for _ in 0..count {
-        input.extend_from_slice(line.as_slice())?;
-        input.push(b'\n')?;
+fn repeated(case: &mut Case) {
+    let count = case.half();
+    let size = next_size(case);
+    let line = case.rest();
+    let mut one = Vec::new(case.alloc());
+    let (_, reads) = run_over(case.alloc(), size, line.as_bytes(), &mut one);
+    case.check(reads > 0, "no read");
+    let mut input = Vec::new(case.alloc());
+    let mut wanted = Case::new(case.alloc(), "");
+    let rest = one.as_slice().strip_prefix(b"item 1").unwrap_or(&[]);
+    for item in 0..count {
+        push_text(case, &mut input, line);
+        case.kept(input.push(b'\n').is_ok());
+        wanted.say("item ");
+        wanted.say_number(u64::from(item).saturating_add(1));
+        wanted.say_bytes(rest);
     }
-    let mut written = Vec::new(alloc);
-    let (answer, _) = run_over(alloc, size, input.as_slice(), &mut written);
-    push_answer(answer, out)?;
-    push_written(one.as_slice(), out)?;
-    let all = items(alloc, count, one.as_slice())?;
-    push_unless(out, reads > 0 && written == all, "not each so")?;
-    Ok(Some(()))
-}
-
-/// The text of an item so often, with the numbers from 1 on.
-fn items(alloc: Global, count: u16, one: &[u8]) -> Result<Vec<u8>, AllocError> {
-    let rest = one.strip_prefix(b"item 1").unwrap_or(&[]);
-    let mut all = Vec::new(alloc);
-    for index in 0..count {
-        push_text(&mut all, "item ")?;
-        push_number(&mut all, u64::from(index).saturating_add(1))?;
-        all.extend_from_slice(rest)?;
-    }
-    Ok(all)
+    let mut all = Vec::new(case.alloc());
+    let (answer, _) = run_over(case.alloc(), size, input.as_slice(), &mut all);
+    say_answer(case, answer);
+    say_written(case, one.as_slice());
+    case.check(wanted.has_said(all.as_slice()), "not each so");
 }
 
 /// The words of a command line, which stand between single blanks.
-fn line_words(alloc: Global, line: &str) -> Result<Vec<String>, AllocError> {
-    let mut words = Vec::new(alloc);
-    if line.is_empty() {
-        return Ok(words);
+fn line_words(case: &mut Case, line: &str) -> Vec<String> {
+    let mut words = Vec::new(case.alloc());
+    if !line.is_empty() {
+        for word in line.split(' ') {
+            if let Some(word) = case.got(word.to_string(case.alloc())) {
+                case.kept(words.push(word).is_ok());
+            }
+        }
     }
-    for word in line.split(' ') {
-        words.push(word.to_string(alloc)?)?;
-    }
-    Ok(words)
+    words
 }
 
-/// What the program answers to a command line: its status, what it writes, and its faults.
-#[derive(Drop)]
-struct Answered {
-    status: u8,
-    output: Vec<u8>,
-    faults: Vec<u8>,
-}
-
-/// What the program answers to a command line over an input.
-fn run_line(alloc: Global, line: &str, input: &[u8]) -> Result<Answered, AllocError> {
-    let mut output: Vec<u8> = Vec::new(alloc);
-    let mut faults: Vec<u8> = Vec::new(alloc);
-    let words = line_words(alloc, line)?;
-    let status = run_words(alloc, words, input, &mut output, &mut faults);
-    Ok(Answered {
-        status,
-        output,
-        faults,
-    })
-}
-
+/// `program LINE < TEXT`: the status of this command line over the text, what it writes and its faults.
+/// `bytes LINE < HEX`: the status of this command line over these bytes, and what it writes, as hexadecimal digits.
 /// `status LINE`: the status of this command line over an empty input, and whether lines went to the output and to the
 /// faults.
-pub(crate) fn tell_status(
-    alloc: Global,
-    line: &str,
-    out: &mut Vec<u8>,
-) -> Result<Option<()>, AllocError> {
-    let answered = run_line(alloc, line, &[])?;
-    push_number(out, u64::from(answered.status))?;
-    push_text(out, ", output ")?;
-    push_text(out, shape(answered.output.as_slice()))?;
-    push_text(out, ", faults ")?;
-    push_text(out, shape(answered.faults.as_slice()))?;
-    Ok(Some(()))
+fn program(case: &mut Case, kind: &str) {
+    let given = case.split(" < ");
+    let line = case.rest();
+    let words = line_words(case, line);
+    let mut input = Vec::new(case.alloc());
+    if kind == "bytes" {
+        input = case.bytes_of(given);
+    } else {
+        push_text(case, &mut input, given);
+    }
+    let mut output: Vec<u8> = Vec::new(case.alloc());
+    let mut faults: Vec<u8> = Vec::new(case.alloc());
+    let alloc = case.alloc();
+    let status = run_words(alloc, words, input.as_slice(), &mut output, &mut faults);
+    case.say_number(u64::from(status));
+    say_streams(case, kind, output.as_slice(), faults.as_slice());
+}
+
+/// What the program wrote, as this kind of lines says it.
+fn say_streams(case: &mut Case, kind: &str, output: &[u8], faults: &[u8]) {
+    match kind {
+        "program" => {
+            say_written(case, output);
+            say_written(case, faults);
+        }
+        "status" => {
+            case.say(", output ");
+            case.say(shape(output));
+            case.say(", faults ");
+            case.say(shape(faults));
+        }
+        _ => {
+            case.say("\n");
+            case.say_hex(output);
+        }
+    }
 }
 
 /// Whether a text is nothing, or whole lines.
@@ -295,88 +255,49 @@ fn shape(text: &[u8]) -> &'static str {
     }
 }
 
-/// `program LINE < TEXT`: the status of this command line over the text, what it writes and its faults.
-pub(crate) fn tell_program(
-    alloc: Global,
-    words: &str,
-    out: &mut Vec<u8>,
-) -> Result<Option<()>, AllocError> {
-    let Some((line, rest)) = words.split_once(" < ") else {
-        return Ok(None);
-    };
-    let Some(input) = text(alloc, rest)? else {
-        return Ok(None);
-    };
-    let answered = run_line(alloc, line, input.as_slice())?;
-    push_number(out, u64::from(answered.status))?;
-    push_written(answered.output.as_slice(), out)?;
-    push_written(answered.faults.as_slice(), out)?;
-    Ok(Some(()))
-}
-
-/// `bytes LINE < HEX`: the status of this command line over these bytes, and what it writes, as hexadecimal digits.
-pub(crate) fn tell_bytes(
-    alloc: Global,
-    words: &str,
-    out: &mut Vec<u8>,
-) -> Result<Option<()>, AllocError> {
-    let Some((line, digits)) = words.split_once(" < ") else {
-        return Ok(None);
-    };
-    let Some(input) = bytes(alloc, digits)? else {
-        return Ok(None);
-    };
-    let answered = run_line(alloc, line, input.as_slice())?;
-    push_number(out, u64::from(answered.status))?;
-    if !answered.output.is_empty() {
-        push_text(out, "\n")?;
-        push_hex(out, answered.output.as_slice())?;
-    }
-    Ok(Some(()))
-}
-
 /// `fault NAME NUMBERS`: the line of a fault, and its text in a sentence.
-pub(crate) fn tell_fault(
-    alloc: Global,
-    words: &str,
-    out: &mut Vec<u8>,
-) -> Result<Option<()>, AllocError> {
-    let (name, rest) = words.split_once(' ').unwrap_or((words, ""));
-    let Some(fault) = fault(name, rest) else {
-        return Ok(None);
-    };
-    push_fault(&fault, out)?;
-    push_text(out, "\n")?;
-    push_text(out, format!(in alloc; "{fault}")?.as_str())?;
-    Ok(Some(()))
+fn fault(case: &mut Case) {
+    match fault_of(case) {
+        Some(fault) => {
+            say_fault(case, &fault);
+            case.say("\n");
+            match fault.to_string(case.alloc()) {
+                Ok(text) => case.say(text.as_str()),
+                Err(_) => case.kept(false),
+            }
+        }
+        None => case.bad(),
+    }
 }
 
 /// The fault of this name with these numbers.
-fn fault(name: &str, rest: &str) -> Option<RunFault> {
-    let (first, second) = rest.split_once(' ').unwrap_or((rest, ""));
-    let number = first.parse::<u64>();
-    match name {
-        "refused" => {
-            let (bit, var) = second.split_once(' ')?;
-            Some(RunFault::Refused {
-                item: number.ok()?,
-                bit: bit.parse::<usize>().ok()?,
-                var: variable(var)?,
-            })
+fn fault_of(case: &mut Case) -> Option<RunFault> {
+    Some(match case.word() {
+        "read" => RunFault::Read,
+        "endless" => RunFault::Endless,
+        "memory" => RunFault::Memory,
+        "json" => RunFault::BadJson {
+            line: case.number(),
+        },
+        "write" => RunFault::Write {
+            sent: case.number(),
+        },
+        "hex" => {
+            let line = case.number();
+            let place = case.number();
+            RunFault::BadHex { line, place }
         }
-        "truncated" => Some(RunFault::Truncated {
-            item: number.ok()?,
-            bits: second.parse::<u64>().ok()?,
-        }),
-        "hex" => Some(RunFault::BadHex {
-            line: number.ok()?,
-            place: second.parse::<u64>().ok()?,
-        }),
-        "json" => Some(RunFault::BadJson { line: number.ok()? }),
-        "read" => Some(RunFault::Read),
-        "write" => Some(RunFault::Write { sent: number.ok()? }),
-        "endless" => Some(RunFault::Endless),
-        "memory" => Some(RunFault::Memory),
-        _ => None,
-    }
+        "truncated" => {
+            let item = case.number();
+            let bits = case.number();
+            RunFault::Truncated { item, bits }
+        }
+        "refused" => {
+            let item = case.number();
+            let bit = case.place();
+            let var = case.var()?;
+            RunFault::Refused { item, bit, var }
+        }
+        _ => return None,
+    })
 }

@@ -1,102 +1,161 @@
-//! The lines of vectors.
+//! The lines of vectors, and what is written of them.
 
-use crate::kinds;
-use crate::report::Report;
-use etcs_row_cases::words::push_text;
+use crate::{builds, items, runs, telegrams, writes};
+use etcs_cases::Case;
 use std::alloc::{AllocError, Global};
 
-/// A vector: where its first line stands, kind and words, and what is expected.
+/// How many vectors of a kind there are.
 #[derive(Drop)]
-struct Vector<'a> {
+struct Count<'a> {
+    kind: &'a str,
+    vectors: u64,
+}
+
+/// The vectors so far; the last one, whose head is empty where there is none; and what was written.
+#[derive(Drop)]
+pub(crate) struct Sheet<'a> {
+    alloc: Global,
     line: u64,
+    first_line: u64,
     head: &'a str,
     expected: Vec<u8>,
+    counts: Vec<Count<'a>>,
+    vectors: u64,
+    wrong: u64,
+    report: Case<'a>,
 }
 
-/// Checks each vector of a text.
-pub(crate) fn check<'a>(
-    alloc: Global,
-    text: &'a str,
-    report: &mut Report<'a>,
-) -> Result<(), AllocError> {
-    let mut vector: Option<Vector<'a>> = None;
-    let mut number = 0u64;
-    for line in text.split('\n') {
-        number = number.saturating_add(1);
+impl<'a> Sheet<'a> {
+    /// Checks each vector of a text: the report, and whether all are right.
+    pub(crate) fn check(alloc: Global, text: &'a str) -> Result<(Vec<u8>, bool), AllocError> {
+        let mut sheet = Sheet {
+            alloc,
+            line: 0,
+            first_line: 0,
+            head: "",
+            expected: Vec::new(alloc),
+            counts: Vec::new(alloc),
+            vectors: 0,
+            wrong: 0,
+            report: Case::new(alloc, ""),
+        };
+        for line in text.split('\n') {
+            sheet.take(line);
+        }
+        sheet.judge();
+        sheet.say_counts();
+        let Sheet { report, wrong, .. } = sheet;
+        Ok((report.into_answer()?, wrong == 0))
+    }
+
+    /// Takes the next line.
+    fn take(&mut self, line: &'a str) {
+        self.line = self.line.saturating_add(1);
         match line.strip_prefix(' ') {
-            Some(more) => go_on(&mut vector, number, more, report)?,
+            Some(more) if self.head.is_empty() => self.say_wrong(more, b"after no vector"),
+            Some(more) => self.expect(more),
             None => {
-                judge(alloc, vector.take(), report)?;
-                vector = begin(alloc, number, line, report)?;
+                self.judge();
+                self.begin(line);
             }
         }
     }
-    judge(alloc, vector.take(), report)
-}
 
-/// The vector that this line begins.
-fn begin<'a>(
-    alloc: Global,
-    number: u64,
-    line: &'a str,
-    report: &mut Report<'a>,
-) -> Result<Option<Vector<'a>>, AllocError> {
-    if line.is_empty() || line.starts_with('#') {
-        return Ok(None);
-    }
-    match line.split_once(" =") {
-        Some((head, rest)) => {
-            let mut expected = Vec::new(alloc);
-            push_text(&mut expected, rest.strip_prefix(' ').unwrap_or(rest))?;
-            Ok(Some(Vector {
-                line: number,
-                head,
-                expected,
-            }))
+    /// Begins the vector of a line.
+    fn begin(&mut self, line: &'a str) {
+        self.head = "";
+        self.expected.clear();
+        self.first_line = self.line;
+        if line.is_empty() || line.starts_with('#') {
+            return;
         }
-        None => {
-            report.wrong(number, line, b"no vector")?;
-            Ok(None)
-        }
-    }
-}
-
-/// Goes on with what is expected.
-fn go_on(
-    vector: &mut Option<Vector<'_>>,
-    number: u64,
-    more: &str,
-    report: &mut Report<'_>,
-) -> Result<(), AllocError> {
-    match vector {
-        Some(vector) => {
-            if !vector.expected.is_empty() {
-                push_text(&mut vector.expected, "\n")?;
+        match line.split_once(" =") {
+            Some((head, rest)) => {
+                self.head = head;
+                self.expect(rest.strip_prefix(' ').unwrap_or(rest));
             }
-            push_text(&mut vector.expected, more)
+            None => self.say_wrong(line, b"no vector"),
         }
-        None => report.wrong(number, more, b"behind no vector"),
+    }
+
+    /// Continues what is expected.
+    fn expect(&mut self, more: &str) {
+        if !self.expected.is_empty() {
+            self.report.kept(self.expected.push(b'\n').is_ok());
+        }
+        let kept = self.expected.extend_from_slice(more.as_bytes()).is_ok();
+        self.report.kept(kept);
+    }
+
+    /// Asks what the vector asks, and compares.
+    fn judge(&mut self) {
+        let head = self.head;
+        if head.is_empty() {
+            return;
+        }
+        let (kind, words) = head.split_once(' ').unwrap_or((head, ""));
+        let mut case = Case::new(self.alloc, words);
+        if !answer(&mut case, kind) {
+            case.say("no such kind");
+        }
+        self.count(kind);
+        match case.into_answer() {
+            Ok(answer) => {
+                if answer != self.expected {
+                    self.say_wrong(head, answer.as_slice());
+                }
+            }
+            Err(_) => self.report.kept(false),
+        }
+    }
+
+    /// Counts a vector of this kind.
+    fn count(&mut self, kind: &'a str) {
+        self.vectors = self.vectors.saturating_add(1);
+        for count in self.counts.iter_mut() {
+            if count.kind == kind {
+                count.vectors = count.vectors.saturating_add(1);
+                return;
+            }
+        }
+        let counted = self.counts.push(Count { kind, vectors: 1 }).is_ok();
+        self.report.kept(counted);
+    }
+
+    /// Writes that a vector isn't as it should be, and what there is in its place.
+    fn say_wrong(&mut self, head: &str, found: &[u8]) {
+        self.wrong = self.wrong.saturating_add(1);
+        self.report.say("line ");
+        self.report.say_number(self.first_line);
+        self.report.say(": ");
+        self.report.say(head);
+        self.report.say(" =\n");
+        self.report.say_bytes(found);
+        self.report.say("\n");
+    }
+
+    /// Writes how many there were of each kind, and of all.
+    fn say_counts(&mut self) {
+        for count in self.counts.as_slice() {
+            self.report.say(count.kind);
+            self.report.say(" ");
+            self.report.say_number(count.vectors);
+            self.report.say("\n");
+        }
+        self.report.say_number(self.vectors);
+        self.report.say(" vectors, ");
+        self.report.say_number(self.wrong);
+        self.report.say(" wrong\n\n");
     }
 }
 
-/// Asks what the vector asks, and compares.
-fn judge<'a>(
-    alloc: Global,
-    vector: Option<Vector<'a>>,
-    report: &mut Report<'a>,
-) -> Result<(), AllocError> {
-    let Some(vector) = vector else {
-        return Ok(());
-    };
-    let head = vector.head;
-    let (kind, words) = head.split_once(' ').unwrap_or((head, ""));
-    let mut answer = Vec::new(alloc);
-    if !kinds::answer(alloc, kind, words, &mut answer)? {
-        push_text(&mut answer, "no such kind")?;
-    }
-    report.count(kind)?;
-    if answer == vector.expected {
-        return Ok(());
-    }
-    report.wrong(vector.line, head, answer.as_slice())
+/// Answers a line of this kind: whether there is such a kind.
+fn answer(case: &mut Case, kind: &str) -> bool {
+    let mut is_known = items::answer(case, kind);
+    is_known |= telegrams::answer(case, kind);
+    is_known |= builds::answer(case, kind);
+    is_known |= writes::answer(case, kind);
+    is_known |= runs::answer(case, kind);
+    is_known |= etcs_cases::answer(case, kind);
+    is_known
 }

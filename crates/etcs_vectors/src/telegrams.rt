@@ -1,16 +1,17 @@
-//! Vectors of whole telegrams: `short HEX` and `long HEX` are shown, refused or want more, however they are read.
+//! Telegrams, as items; and lines about their readers and views.
 
-use crate::views::is_same;
-use crate::ways::{self, ReadsItem, Ways};
-use crate::words::{counted, drop_line_end, push_unless, size, sized};
-use etcs_row_cases::words::{bytes, push_text};
+use crate::items::{Reads, Ways, say_fed, say_refused, say_text};
+use etcs_bits::{BitSlice, Bits};
+use etcs_cases::Case;
+use etcs_packets::Packet;
 use etcs_telegram::laws::{exact_equality, read_back, round_trip};
-use etcs_telegram::{Fed, ReadFault, Size, Telegram, TelegramReader, TelegramView, ViewFault};
-use etcs_text::{Entry, show_lines};
-use etcs_vars::Var;
-use std::alloc::{AllocError, Global};
+use etcs_telegram::{
+    Fed, PacketRef, ReadFault, Size, Telegram, TelegramReader, TelegramView, ViewFault,
+};
+use etcs_text::Entry;
+use std::alloc::Global;
 
-impl ReadsItem for TelegramReader {
+impl Reads for TelegramReader {
     type Item = Telegram;
 
     fn feed(&mut self, piece: &[u8]) -> Result<Fed, ReadFault> {
@@ -35,143 +36,264 @@ impl Ways for Size {
         TelegramReader::new(alloc, self)
     }
 
-    fn bit_len(self, _telegram: &Telegram) -> usize {
-        self.container_bytes().saturating_mul(8)
-    }
-
     fn entry(self, telegram: Telegram) -> Entry {
         Entry::Telegram(telegram)
     }
 
-    fn is_written(
-        self,
-        alloc: Global,
-        telegram: &Telegram,
-        bytes: &[u8],
-    ) -> Result<bool, AllocError> {
-        let (len, out) = encoded(alloc, telegram, bytes.len(), 0)?;
-        Ok(len == Some(bytes.len()) && out.as_slice() == bytes)
+    fn check(self, case: &mut Case, telegram: &Telegram, bytes: &[u8]) {
+        check_written(case, telegram, bytes);
+        check_view(case, telegram, self, bytes);
     }
 
-    fn is_read_again(self, alloc: Global, telegram: &Telegram) -> Result<bool, AllocError> {
-        Ok(round_trip(alloc, telegram)? == *telegram)
+    fn check_laws(self, case: &mut Case, telegram: &Telegram, bytes: &[u8]) {
+        check_read(case, telegram, self, bytes);
     }
 
-    fn is_written_back(self, alloc: Global, bytes: &[u8]) -> Result<bool, AllocError> {
-        let mut out = [0u8; 104];
-        let count = read_back(alloc, self, bytes, &mut out)?;
-        Ok(count == Some(bytes.len()) && out.as_slice().starts_with(bytes))
-    }
-
-    fn is_viewed(
-        self,
-        alloc: Global,
-        telegram: &Telegram,
-        bytes: &[u8],
-    ) -> Result<bool, AllocError> {
-        match TelegramView::new(bytes, self) {
-            Ok(view) => is_same(alloc, telegram, &view),
-            Err(_) => Ok(false),
-        }
-    }
-
-    fn is_not_viewed(self, bytes: &[u8]) -> bool {
-        TelegramView::new(bytes, self).err() == Some(ViewFault::Length)
-    }
-
-    fn is_view_refused(self, bytes: &[u8], bit: usize, var: Var) -> bool {
-        let wanted = if bytes.len() == self.container_bytes() {
-            ViewFault::Refused { bit, var }
-        } else {
-            ViewFault::Length
+    fn is_no_view(self, bytes: &[u8], fed: Result<Fed, ReadFault>) -> bool {
+        let wanted = match fed {
+            Err(ReadFault::Refused { bit, var }) if bytes.len() == self.container_bytes() => {
+                ViewFault::Refused { bit, var }
+            }
+            _ => ViewFault::Length,
         };
         TelegramView::new(bytes, self).err() == Some(wanted)
     }
 }
 
-/// `short HEX`, `long HEX`: what reader and view say of the bytes of a telegram.
-pub(crate) fn tell(
-    alloc: Global,
-    kind: &str,
-    digits: &str,
-    out: &mut Vec<u8>,
-) -> Result<Option<()>, AllocError> {
-    let (Some(size), Some(bytes)) = (size(kind), bytes(alloc, digits)?) else {
-        return Ok(None);
-    };
-    ways::tell(alloc, size, bytes.as_slice(), out)?;
-    Ok(Some(()))
+/// Answers a line about telegrams: whether it is one.
+pub(crate) fn answer(case: &mut Case, kind: &str) -> bool {
+    match kind {
+        "shown" => shown(case),
+        "equal" => equal(case),
+        "fed" => fed(case),
+        "view" => viewed(case),
+        "room" => room(case),
+        _ => return false,
+    }
+    true
 }
 
-/// How many bytes are written of the telegram, and a buffer of so many equal bytes behind that.
-pub(crate) fn encoded(
-    alloc: Global,
-    telegram: &Telegram,
-    room: usize,
-    fill: u8,
-) -> Result<(Option<usize>, Vec<u8>), AllocError> {
-    let mut buffer = Vec::new(alloc);
-    for _ in 0..room {
-        buffer.push(fill)?;
+/// The size of a word.
+pub(crate) fn size_of(case: &mut Case, word: &str) -> Size {
+    match word {
+        "short" => Size::Short,
+        "long" => Size::Long,
+        _ => {
+            case.bad();
+            Size::Short
+        }
     }
-    let len = telegram.encode_into(buffer.as_mut_slice()).ok();
-    Ok((len, buffer))
+}
+
+/// The size of the next word.
+pub(crate) fn next_size(case: &mut Case) -> Size {
+    let word = case.word();
+    size_of(case, word)
 }
 
 /// The telegram of `SIZE HEX`.
-pub(crate) fn telegram(alloc: Global, words: &str) -> Result<Option<Telegram>, AllocError> {
-    let Some((size, bytes)) = sized(alloc, words)? else {
-        return Ok(None);
-    };
-    let mut reader = TelegramReader::new(alloc, size);
-    match reader.feed(bytes.as_slice()) {
-        Ok(_) => Ok(reader.take().ok()),
-        Err(ReadFault::Memory) => Err(AllocError),
-        Err(_) => Ok(None),
+fn telegram(case: &mut Case) -> Option<Telegram> {
+    let size = next_size(case);
+    let bytes = case.bytes();
+    let mut reader = TelegramReader::new(case.alloc(), size);
+    let fed = reader.feed(bytes.as_slice());
+    case.kept(fed != Err(ReadFault::Memory));
+    reader.take().ok()
+}
+
+/// How many bytes are written of the telegram over so many equal bytes, and all bytes then.
+pub(crate) fn encoded(
+    case: &mut Case,
+    telegram: &Telegram,
+    room: usize,
+    fill: u8,
+) -> (Option<usize>, Vec<u8>) {
+    let mut buffer = Vec::new(case.alloc());
+    case.kept(buffer.resize(room, fill).is_ok());
+    let len = telegram.encode_into(buffer.as_mut_slice()).ok();
+    (len, buffer)
+}
+
+/// Checks that just these bytes are written of a telegram.
+fn check_written(case: &mut Case, telegram: &Telegram, bytes: &[u8]) {
+    let (len, written) = encoded(case, telegram, bytes.len(), 0);
+    case.check(len == Some(bytes.len()), "another length");
+    case.check(written.as_slice() == bytes, "not written so");
+}
+
+/// Checks that a telegram is read from its encoding, and bytes are written as what they are read as.
+pub(crate) fn check_read(case: &mut Case, telegram: &Telegram, size: Size, bytes: &[u8]) {
+    let alloc = case.alloc();
+    if let Some(again) = case.got(round_trip(alloc, telegram)) {
+        case.check(again == *telegram, "not read again");
+    }
+    let mut back = [0u8; 104];
+    let count = case.got(read_back(alloc, size, bytes, &mut back));
+    case.check(count == Some(Some(bytes.len())), "not written back");
+    case.check(
+        back.as_slice().starts_with(bytes),
+        "other bytes written back",
+    );
+}
+
+/// Checks that a view of bytes has what the telegram has.
+fn check_view(case: &mut Case, telegram: &Telegram, size: Size, bytes: &[u8]) {
+    let view = TelegramView::new(bytes, size);
+    if let Ok(view) = view.as_ref() {
+        let header = view.header() == *telegram.header();
+        case.check(header, "another header viewed");
+        check_fill(case, view.fill(), telegram.fill());
+        check_packets(case, view, telegram.packets());
+    }
+    case.check(view.is_ok(), "no view");
+}
+
+/// Checks that two slices have the same bits.
+fn check_fill(case: &mut Case, first: BitSlice<'_>, second: BitSlice<'_>) {
+    case.check(first.bit(first.len()).is_none(), "the fill continues");
+    let first = case.got(Bits::from_slice(case.alloc(), first));
+    let second = case.got(Bits::from_slice(case.alloc(), second));
+    case.check(first == second, "another fill viewed");
+}
+
+/// Checks that the packets of a view are these.
+fn check_packets(case: &mut Case, view: &TelegramView<'_>, packets: &[Packet]) {
+    let mut made = Vec::new(case.alloc());
+    for packet in view.packets() {
+        if let Some(packet) = case.got(packet.to_packet(case.alloc())) {
+            case.kept(made.push(packet).is_ok());
+        }
+    }
+    case.check(made.as_slice() == packets, "other packets viewed");
+}
+
+/// `shown ITEM SIZE HEX`: the text with this number.
+fn shown(case: &mut Case) {
+    let number = case.number();
+    case.say("before\n");
+    match telegram(case) {
+        Some(telegram) => say_text(case, &Entry::Telegram(telegram), number),
+        None => case.bad(),
     }
 }
 
-/// `shown ITEM SIZE HEX`: the text with this number, which goes behind what stands there.
-pub(crate) fn tell_shown(
-    alloc: Global,
-    words: &str,
-    out: &mut Vec<u8>,
-) -> Result<Option<()>, AllocError> {
-    let Some((item, words)) = counted(words) else {
-        return Ok(None);
-    };
-    let Some(telegram) = telegram(alloc, words)? else {
-        return Ok(None);
-    };
-    push_text(out, "before\n")?;
-    show_lines(&Entry::Telegram(telegram), item, out)?;
-    drop_line_end(out);
-    Ok(Some(()))
-}
-
 /// `equal SIZE HEX , SIZE HEX`: whether these are the same telegram.
-pub(crate) fn tell_equal(
-    alloc: Global,
-    words: &str,
-    out: &mut Vec<u8>,
-) -> Result<Option<()>, AllocError> {
-    let Some((first, second)) = words.split_once(" , ") else {
-        return Ok(None);
-    };
-    let Some(first) = telegram(alloc, first)? else {
-        return Ok(None);
-    };
-    let Some(second) = telegram(alloc, second)? else {
-        return Ok(None);
-    };
-    push_equal(&first, &second, out)?;
-    Ok(Some(()))
+fn equal(case: &mut Case) {
+    let behind = case.split(" , ");
+    let first = telegram(case);
+    case.go_on(behind);
+    let second = telegram(case);
+    match (first.as_ref(), second.as_ref()) {
+        (Some(first), Some(second)) => say_equal(case, first, second),
+        _ => case.bad(),
+    }
 }
 
-/// Whether two telegrams are the same.
-fn push_equal(first: &Telegram, second: &Telegram, out: &mut Vec<u8>) -> Result<(), AllocError> {
+fn say_equal(case: &mut Case, first: &Telegram, second: &Telegram) {
     let equal = first == second;
-    push_text(out, if equal { "yes" } else { "no" })?;
-    let exact = exact_equality(first, second) == equal && (first != second) != equal;
-    push_unless(out, exact, "not exactly")
+    case.say_truth(equal);
+    case.check(exact_equality(first, second) == equal, "not by the law");
+    case.check((first != second) != equal, "not unequal");
+}
+
+/// `fed SIZE PIECE PIECE ..`: what a reader answers to each piece, how many bits it has seen and what it holds. A piece is
+/// hexadecimal parts with `+` between them, each of which `*COUNT` repeats; `-` is the empty one.
+fn fed(case: &mut Case) {
+    let size = next_size(case);
+    let mut reader = TelegramReader::new(case.alloc(), size);
+    case.say("new");
+    say_state(case, &reader);
+    for word in case.rest().split(' ') {
+        let piece = piece(case, word);
+        case.say("\n");
+        say_fed(case, reader.feed(piece.as_slice()));
+        say_state(case, &reader);
+    }
+    case.say_either(reader.take().is_ok(), "\na telegram", "\nno telegram");
+}
+
+/// The bytes of a piece.
+fn piece(case: &mut Case, word: &str) -> Vec<u8> {
+    let mut all = Vec::new(case.alloc());
+    if word != "-" {
+        for part in word.split('+') {
+            let (digits, count) = part.split_once('*').unwrap_or((part, "1"));
+            let bytes = case.bytes_of(digits);
+            for _ in 0..case.read(count).min(65535) {
+                case.kept(all.extend_from_slice(bytes.as_slice()).is_ok());
+            }
+        }
+    }
+    all
+}
+
+/// How many bits the reader has seen, and how many packets, numbers and kept bits it holds, with the first bits of the
+/// unfinished variable as a number, and how many they are.
+fn say_state(case: &mut Case, reader: &TelegramReader) {
+    case.say(", seen ");
+    case.say_number(reader.bits_seen() as u64);
+    match reader.held() {
+        Some(held) => {
+            case.say(", held ");
+            case.say_next(held.packets.len() as u64);
+            case.say_next(held.numbers.len() as u64);
+            case.say_next(held.kept.len() as u64);
+            case.say_next(held.part);
+            case.say_number(held.taken as u64);
+        }
+        None => case.say(", nothing held"),
+    }
+}
+
+/// `view SIZE HEX`: the packets a line each, with their number, their length and their bits, and the length of FILL; or
+/// why there is no view.
+fn viewed(case: &mut Case) {
+    let size = next_size(case);
+    let bytes = case.bytes();
+    let view = TelegramView::new(bytes.as_slice(), size);
+    match view.as_ref() {
+        Ok(view) => say_view(case, view),
+        Err(ViewFault::Length) => case.say("length"),
+        Err(ViewFault::Refused { bit, var }) => say_refused(case, *bit, *var),
+    }
+}
+
+fn say_view(case: &mut Case, view: &TelegramView<'_>) {
+    let mut packets = view.packets();
+    for _ in 0..128u8 {
+        if let Some(packet) = packets.next() {
+            say_viewed(case, &packet);
+        }
+    }
+    case.say("FILL ");
+    case.say_number(view.fill().len() as u64);
+    case.check(packets.next().is_none(), "packets continue");
+}
+
+/// The line of a packet.
+fn say_viewed(case: &mut Case, packet: &PacketRef<'_>) {
+    case.say_next(u64::from(packet.nid()));
+    case.say_next(packet.bits().len() as u64);
+    case.say_bits(&packet.bits());
+    case.say("\n");
+}
+
+/// `room COUNT SIZE HEX`: what the telegram leaves in a buffer of so many bytes 55.
+fn room(case: &mut Case) {
+    let room = usize::from(case.byte());
+    let telegram = telegram(case);
+    match telegram.as_ref() {
+        Some(telegram) => say_room(case, telegram, room),
+        None => case.bad(),
+    }
+}
+
+fn say_room(case: &mut Case, telegram: &Telegram, room: usize) {
+    let (len, buffer) = encoded(case, telegram, room, 0x55);
+    match len {
+        Some(len) => case.say_number(len as u64),
+        None => case.say("no room"),
+    }
+    case.say(" ");
+    case.say_hex(buffer.as_slice());
 }

@@ -1,136 +1,97 @@
 //! Vectors of what is written over equal bytes, from a bit on.
 
-use crate::packets::packets;
-use crate::words::push_hex;
+use crate::builds::packets;
+use etcs_bits::BitSlice;
+use etcs_cases::Case;
 use etcs_packets::Packet;
-use etcs_row_cases::words::{bytes, push_number, push_text, variable};
+use etcs_packets::parts::{room_left, write_packet, write_packets, write_reading};
 use etcs_vars::Var;
-use etcs_writing::{write_packet, write_packets, write_reading};
-use std::alloc::{AllocError, Global};
 
-/// The byte that is written over, and the bit from which on.
-fn front(alloc: Global, words: &str) -> Result<Option<(u8, usize)>, AllocError> {
-    let Some((byte, at)) = words.split_once(' ') else {
-        return Ok(None);
-    };
-    let (Some(bytes), Ok(at)) = (bytes(alloc, byte)?, at.parse::<usize>()) else {
-        return Ok(None);
-    };
+/// Answers a line about what is written: whether it is one.
+pub(crate) fn answer(case: &mut Case, kind: &str) -> bool {
+    match kind {
+        "written" => written(case),
+        "sent" => sent(case),
+        _ => return false,
+    }
+    true
+}
+
+/// `written BYTE BIT ; PACKETS`: eight such bytes with one packet over them; or with none or several, and the bit after
+/// them.
+fn written(case: &mut Case) {
+    let (fill, at) = front(case);
+    let packets = packets(case);
+    let mut bytes = [fill; 8];
+    match packets.as_slice() {
+        [packet] => write_one(case, &mut bytes, at, packet),
+        packets => write_all(case, &mut bytes, at, packets),
+    }
+}
+
+/// `BYTE BIT ; ..`: the byte that is written over, and the bit from which on.
+fn front(case: &mut Case) -> (u8, usize) {
+    let behind = case.split(" ; ");
+    let bytes = case.bytes();
+    let at = case.place();
+    case.go_on(behind);
     match bytes.as_slice() {
-        [byte] => Ok(Some((*byte, at))),
-        _ => Ok(None),
+        [byte] => (*byte, at),
+        _ => {
+            case.bad();
+            (0, at)
+        }
     }
 }
 
-/// `written BYTE BIT ; PACKETS`: eight such bytes with one packet over them; or with none or two, and the bit behind.
-pub(crate) fn tell(
-    alloc: Global,
-    words: &str,
-    out: &mut Vec<u8>,
-) -> Result<Option<()>, AllocError> {
-    let (head, rest) = words.split_once(" ; ").unwrap_or((words, ""));
-    let (Some((fill, at)), Some(packets)) = (front(alloc, head)?, packets(alloc, rest)?) else {
-        return Ok(None);
+/// Bytes with a packet over them, where it has room.
+fn write_one(case: &mut Case, bytes: &mut [u8], at: usize, packet: &Packet) {
+    let len = packet.bit_len();
+    if at > 64 || len > 64 || BitSlice::new(bytes, at, len).is_none() {
+        return case.bad();
+    }
+    write_packet(bytes, at, packet);
+    case.say_hex(bytes);
+}
+
+/// Bytes with packets over their first 64 bits, where these have room, and the bit after them.
+fn write_all(case: &mut Case, bytes: &mut [u8], at: usize, packets: &[Packet]) {
+    if at > 64 || BitSlice::new(bytes, 0, 64).is_none() {
+        return case.bad();
+    }
+    let Some(_) = room_left(64 - at, packets) else {
+        return case.bad();
     };
-    let mut packets = packets;
-    match (packets.pop(), packets.pop(), packets.is_empty()) {
-        (None, None, true) => push_none(fill, at, out),
-        (Some(packet), None, true) => push_one(fill, at, &packet, out),
-        (Some(second), Some(first), true) => push_two(fill, at, first, second, out),
-        _ => Ok(None),
-    }
-}
-
-/// Bytes, and the bit behind what was written over them.
-fn push_written(bytes: &[u8], end: usize, out: &mut Vec<u8>) -> Result<Option<()>, AllocError> {
-    push_hex(out, bytes)?;
-    push_text(out, " ")?;
-    push_number(out, end as u64)?;
-    Ok(Some(()))
-}
-
-/// Eight equal bytes with a packet over them, where it has room.
-fn push_one(
-    fill: u8,
-    at: usize,
-    packet: &Packet,
-    out: &mut Vec<u8>,
-) -> Result<Option<()>, AllocError> {
-    if at > 16 || packet.bit_len() > 48 {
-        return Ok(None);
-    }
-    let mut bytes = [fill; 8];
-    write_packet(&mut bytes, at, packet);
-    push_hex(out, &bytes)?;
-    Ok(Some(()))
-}
-
-/// Eight equal bytes with no packets over them.
-fn push_none(fill: u8, at: usize, out: &mut Vec<u8>) -> Result<Option<()>, AllocError> {
-    if at > 16 {
-        return Ok(None);
-    }
-    let mut bytes = [fill; 8];
-    let end = write_packets(&mut bytes, at, &[]);
-    push_written(&bytes, end, out)
-}
-
-/// Eight equal bytes with two packets over them, where these have room.
-fn push_two(
-    fill: u8,
-    at: usize,
-    first: Packet,
-    second: Packet,
-    out: &mut Vec<u8>,
-) -> Result<Option<()>, AllocError> {
-    if at > 16 || first.bit_len() > 24 || second.bit_len() > 24 {
-        return Ok(None);
-    }
-    let mut bytes = [fill; 8];
-    let end = write_packets(&mut bytes, at, &[first, second]);
-    push_written(&bytes, end, out)
+    let end = write_packets(bytes, at, packets);
+    case.say_hex(bytes);
+    case.say(" ");
+    case.say_number(end as u64);
 }
 
 /// `sent BYTE BIT ; VARIABLE NUMBER ; ..`: thirty-two such bytes with variables over them.
-pub(crate) fn tell_sent(
-    alloc: Global,
-    words: &str,
-    out: &mut Vec<u8>,
-) -> Result<Option<()>, AllocError> {
-    let Some((head, rest)) = words.split_once(" ; ") else {
-        return Ok(None);
-    };
-    let mut sent: Vec<(Var, u64)> = Vec::new(alloc);
-    for pair in rest.split(" ; ") {
-        match pair_of(pair) {
-            Some(pair) => sent.push(pair)?,
-            None => return Ok(None),
+fn sent(case: &mut Case) {
+    let (fill, at) = front(case);
+    let mut sent: Vec<(Var, u64)> = Vec::new(case.alloc());
+    for _ in 0..3u8 {
+        if case.is_empty() {
+            break;
         }
+        let behind = case.split(" ; ");
+        if let Some(var) = case.var() {
+            let number = case.number();
+            case.kept(sent.push((var, number)).is_ok());
+        }
+        case.go_on(behind);
     }
-    let Some((fill, at)) = front(alloc, head)? else {
-        return Ok(None);
-    };
-    push_reading(fill, at, sent.as_slice(), out)
-}
-
-/// A variable and its number.
-fn pair_of(words: &str) -> Option<(Var, u64)> {
-    let (name, number) = words.split_once(' ')?;
-    Some((variable(name)?, number.parse::<u64>().ok()?))
+    write_sent(case, fill, at, sent.as_slice());
 }
 
 /// Thirty-two equal bytes with variables over them, where these have room.
-fn push_reading(
-    fill: u8,
-    at: usize,
-    sent: &[(Var, u64)],
-    out: &mut Vec<u8>,
-) -> Result<Option<()>, AllocError> {
+fn write_sent(case: &mut Case, fill: u8, at: usize, sent: &[(Var, u64)]) {
     if at > 64 || sent.len() > 3 {
-        return Ok(None);
+        return case.bad();
     }
     let mut bytes = [fill; 32];
     write_reading(&mut bytes, at, sent);
-    push_hex(out, &bytes)?;
-    Ok(Some(()))
+    case.say_hex(&bytes);
 }

@@ -1,7 +1,7 @@
 use Rattle.std.proofs.Common.{◌∙◌}
 use Rattle.std.proofs.lemmas.Result.{on_ok_weaker}
 use Rattle.etcs_flat.specs.Flats.{flat_row}
-use Rattle.etcs_flat.specs.FlatLaws.{flat_short}
+use Rattle.etcs_flat.proofs.FlatLaws.{flat_short}
 use Rattle.etcs_flat.proofs.Checks.{numbers_left}
 use Rattle.etcs_flat.proofs.flat.check_flat.Goals as goal
 

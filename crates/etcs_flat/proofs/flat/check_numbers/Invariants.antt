@@ -2,7 +2,7 @@ use Rattle.std.proofs.Common.{◌≡◌, List, map}
 use Rattle.std.specs.Iterator.Adapters.{zip_first, zip_second}
 use Rattle.std.specs.Slice.Iter.{iter_rest}
 use Rattle.etcs_vars.specs.declared.var.Var.{Var}
-use Rattle.etcs_rows.specs.declared.item.RowItem.TheVariants.{One}
+use Rattle.etcs_tables.specs.declared.item.RowItem.TheVariants.{One}
 use Rattle.etcs_flat.specs.Flats.{numbers_fault}
 use Rattle.etcs_flat.proofs.flat.check_numbers.Given as goal
 

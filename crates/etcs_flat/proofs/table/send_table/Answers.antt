@@ -3,7 +3,7 @@ use Rattle.std.specs.Iterator.Adapters.{zip_first, zip_second}
 use Rattle.std.specs.Slice.Iter.{iter_rest}
 use Rattle.std.proofs.lemmas.Slice.Zip.{either_empty_from_Zip}
 use Rattle.etcs_vars.specs.Reading.{Reading}
-use Rattle.etcs_flat.specs.TableLaws.{pairs_end}
+use Rattle.etcs_flat.proofs.TableLaws.{pairs_end}
 use Rattle.etcs_flat.specs.Tables.{table_pairs}
 use Rattle.etcs_flat.proofs.table.send_table.Goals as goal
 

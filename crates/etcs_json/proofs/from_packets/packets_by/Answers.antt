@@ -5,8 +5,7 @@ use Rattle.std.proofs.lemmas.List.Elements.{All-push}
 use Rattle.serde_json.specs.Data.{Items, item}
 use Rattle.serde_json.specs.View.{view, items_view}
 use Rattle.serde_json.specs.declared.value.Value.{Value}
-use Rattle.etcs_packets.specs.OnePacket.{IsMade}
-use Rattle.etcs_packets.specs.PacketValues.{IsPacket, packet_value}
+use Rattle.etcs_packets.specs.PacketValues.{IsPacket, packet_value, IsMade}
 use Rattle.etcs_json.proofs.PacketTrees.{next_listed, wrong_listed, all_listed, only_listed}
 use Rattle.etcs_json.proofs.from_packets.packets_by.Goals as goal
 

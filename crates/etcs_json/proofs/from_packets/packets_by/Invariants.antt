@@ -1,8 +1,7 @@
 use Rattle.std.proofs.Common.{drop, map}
 use Rattle.std.specs.Prelude.{All}
 use Rattle.serde_json.specs.View.{items_view}
-use Rattle.etcs_packets.specs.OnePacket.{IsMade}
-use Rattle.etcs_packets.specs.PacketValues.{IsPacket, packet_value}
+use Rattle.etcs_packets.specs.PacketValues.{IsPacket, packet_value, IsMade}
 use Rattle.etcs_json.proofs.PacketTrees.{Listed}
 use Rattle.etcs_json.proofs.from_packets.packets_by.Given as goal
 

@@ -1,8 +1,8 @@
 use Rattle.std.proofs.Common.{ap, ◌∙◌, Some}
 use Rattle.serde_json.specs.View.{view}
-use Rattle.etcs_rows.specs.declared.row.Way.TheVariants.{ToTrain}
-use Rattle.etcs_rows.specs.Layouts.{layout}
-use Rattle.etcs_rows.specs.Rows.{row_to}
+use Rattle.etcs_tables.specs.declared.row.Way.TheVariants.{ToTrain}
+use Rattle.etcs_tables.specs.Layouts.{layout}
+use Rattle.etcs_tables.specs.Rows.{row_to}
 use Rattle.etcs_rows.proofs.FrameLemmas.{row_found}
 use Rattle.etcs_json.proofs.PacketTrees.{typed_some, typed_only, typed_none}
 use Rattle.etcs_json.proofs.from_packets.typed_by.Goals as goal

@@ -3,7 +3,7 @@ use Rattle.std.proofs.lemmas.List.{at_drop_more, at_drop_all}
 use Rattle.serde_json.specs.Data.{Items, item, no_items}
 use Rattle.serde_json.specs.View.{view, items_view}
 use Rattle.serde_json.specs.declared.value.Value.{Value}
-use Rattle.etcs_rows.specs.Layouts.{layout}
+use Rattle.etcs_tables.specs.Layouts.{layout}
 use Rattle.etcs_json.proofs.PairLemmas.{goes_next, goes_wrong, goes_short, goes_some, goes_only}
 use Rattle.etcs_json.proofs.numbers.numbers_by.Goals as goal
 

@@ -1,6 +1,6 @@
 use Rattle.std.proofs.Common.{drop}
 use Rattle.serde_json.specs.View.{items_view}
-use Rattle.etcs_rows.specs.Layouts.{layout}
+use Rattle.etcs_tables.specs.Layouts.{layout}
 use Rattle.etcs_json.proofs.PairLemmas.{Goes}
 use Rattle.etcs_json.proofs.numbers.numbers_by.Given as goal
 

@@ -1,4 +1,4 @@
-use Rattle.etcs_packets.specs.Equality.{packet_exact}
+use Rattle.etcs_packets.proofs.Equality.{packet_exact}
 use Rattle.etcs_packets.proofs.laws.exact_packet.Goals as goal
 
 pub returns : goal.returns

@@ -1,6 +1,6 @@
-use Rattle.std.proofs.Common.{arith}
+use Rattle.std.proofs.Common.{[], arith}
 use Rattle.std.proofs.lemmas.List.{length-take}
-use Rattle.etcs_rests.proofs.RoundTrips.{front_read, front_spelled}
+use Rattle.etcs_sequence.proofs.RoundTrips.{front_read, front_spelled}
 use Rattle.etcs_radio.specs.Messages.{MessageReads, message_value, IsMessage}
 use Rattle.etcs_radio.proofs.RoundTrips.{FedFirst}
 use Rattle.etcs_radio.proofs.laws.read_back.Goals as goal
@@ -30,3 +30,9 @@ pub returns-in-Err-Refused-clause-none : goal.returns-in-Err-Refused-clause-none
 returns-in-Err-Refused-clause-none c =
     let f : FedFirst c.args.bytes.now c.feed.result c.feed.new.self = c.feed.ensures.answer _ c.new-reader.ensures in
     (rw (c.in-Err-Refused.is, c.in-Err-Refused.field-0-is) at f).1.0.0
+
+pub unreachable-requires : goal.unreachable-requires
+unreachable-requires c =
+    let f = c.feed.ensures.answer [] c.new-reader.ensures in
+    let (m, at, is, le, read) = rw (c.in-Ok-Done.is, c.in-Ok-Done.field-0-is) at f in
+    c.in-Err.ensures.1 m at

@@ -1,5 +1,5 @@
 use Rattle.std.proofs.Common.{sym, ◌∙◌}
-use Rattle.etcs_rests.proofs.RoundTrips.{Answered, same_value}
+use Rattle.etcs_sequence.proofs.RoundTrips.{Answered, same_value}
 use Rattle.etcs_radio.proofs.RoundTrips.{read_again}
 use Rattle.etcs_radio.proofs.laws.round_trip.Goals as goal
 use Rattle.etcs_radio.proofs.laws.round_trip.Goals.{After-feed}

@@ -1,16 +1,16 @@
-use Rattle.std.proofs.Common.{◌≡◌, ℕ, ◌-◌, ◌≤◌, Some, None, List, Bool, length, take, drop, refl, sym, ap, subst, ◌∙◌, arith}
-use Rattle.std.specs.Prelude.{Option, option_map}
+use Rattle.std.proofs.Common.{◌≡◌, ℕ, ◌-◌, Some, List, Bool, length, take, drop, refl, sym, subst, arith}
+use Rattle.std.specs.Prelude.{Option}
 use Rattle.std.proofs.lemmas.List.{take_all, length-drop}
 use Rattle.etcs_vars.specs.declared.var.Var.{Var}
 use Rattle.etcs_packets.specs.declared.packet.Packet.{Packet}
 use Rattle.etcs_radio.specs.declared.body.Body.{Body}
 use Rattle.etcs_radio.specs.declared.body.RadioHead.{RadioHead}
-use Rattle.etcs_radio.specs.declared.message.Content.{Content}
 use Rattle.etcs_radio.specs.declared.message.Content.TheVariants.{Typed, Kept}
 use Rattle.etcs_radio.specs.Bodies.{IsBody, IsBodyNumbers, ReadsBack, nid_of_body}
 use Rattle.etcs_radio.specs.Lefts.{front_row}
-use Rattle.etcs_radio.specs.Fronts.{head_by, body_by, content_by, IsHeadNumbers}
+use Rattle.etcs_radio.specs.Fronts.{head_by, body_by, content_by}
 use Rattle.etcs_radio.proofs.BodyNumbers.{body_is}
+use Rattle.etcs_radio.proofs.Fronts.{front_there, no_front}
 use Rattle.etcs_radio.proofs.reader.content_of.Goals as goal
 
 own_numbers : (front : List ℕ) → take (length front - 3) (drop 3 front) ≡ drop 3 front
@@ -24,21 +24,27 @@ typed_parts nid front vars ps items bits padding head body typed own h i n is ba
     subst (λ (o : Option (List Var)). Typed head body items padding ≡ content_by o nid front ps bits padding) (sym typed) all
 
 pub head_of-requires : goal.head_of-requires
-head_of-requires c = (c.requires c.in-Some.field-0.now (sym c.front_row.ensures ∙ ap (option_map (λ v. v.now)) c.in-Some.is)).0
+head_of-requires c =
+    let (vars, typed, count) = front_there length (front_row c.args.nid) c.in-Some.field-0 (rw c.in-Some.is at c.front_count.ensures) in
+    (c.requires vars typed).0
 
 pub slice_bounds-of_numbers-count : goal.slice_bounds-of_numbers-count
-slice_bounds-of_numbers-count c = (c.requires c.in-Some.field-0.now (sym c.front_row.ensures ∙ ap (option_map (λ v. v.now)) c.in-Some.is)).0.three
+slice_bounds-of_numbers-count c =
+    let (vars, typed, count) = front_there length (front_row c.args.nid) c.in-Some.field-0 (rw c.in-Some.is at c.front_count.ensures) in
+    (c.requires vars typed).0.three
 
 pub of_numbers-requires : goal.of_numbers-requires
-of_numbers-requires c = subst (IsBodyNumbers c.args.nid) (sym (own_numbers c.args.front.now)) (c.requires c.in-Some.field-0.now (sym c.front_row.ensures ∙ ap (option_map (λ v. v.now)) c.in-Some.is)).1
+of_numbers-requires c =
+    let (vars, typed, count) = front_there length (front_row c.args.nid) c.in-Some.field-0 (rw c.in-Some.is at c.front_count.ensures) in
+    subst (IsBodyNumbers c.args.nid) (sym (own_numbers c.args.front.now)) (c.requires vars typed).1
 
 pub returns-in-Some : goal.returns-in-Some
 returns-in-Some c =
-    let typed = sym c.front_row.ensures ∙ ap (option_map (λ v. v.now)) c.in-Some.is in
+    let (vars, typed, count) = front_there length (front_row c.args.nid) c.in-Some.field-0 (rw c.in-Some.is at c.front_count.ensures) in
     let e = c.of_numbers.ensures in
-    typed_parts c.args.nid c.args.front.now c.in-Some.field-0.now c.args.store.packets.items c.from_vec.result c.args.store.bits c.args.padding c.head_of.result c.of_numbers.result typed (c.requires c.in-Some.field-0.now typed).1 c.head_of.ensures c.from_vec.ensures e.nid e.body e.reading
+    typed_parts c.args.nid c.args.front.now vars c.args.store.packets.items c.from_vec.result c.args.store.bits c.args.padding c.head_of.result c.of_numbers.result typed (c.requires vars typed).1 c.head_of.ensures c.from_vec.ensures e.nid e.body e.reading
 
 pub returns-in-None : goal.returns-in-None
 returns-in-None c =
-    let untyped = sym c.front_row.ensures ∙ ap (option_map (λ v. v.now)) c.in-None.is in
+    let untyped = no_front length (front_row c.args.nid) (rw c.in-None.is at c.front_count.ensures) in
     subst (λ (o : Option (List Var)). Kept c.args.nid c.args.store.bits ≡ content_by o c.args.nid c.args.front.now c.args.store.packets.items c.args.store.bits c.args.padding) (sym untyped) refl

@@ -2,8 +2,8 @@ use Rattle.std.proofs.Common.{◌≡◌, ℕ, ◌-◌, ◌/◌, ◌^◌, ◌≤�
 use Rattle.std.specs.Prelude.{◌↔◌}
 use Rattle.std.proofs.lemmas.Bool.{both_ways}
 use Rattle.etcs_vars.specs.Vars.{width}
-use Rattle.etcs_rows.specs.declared.item.RowItem.{RowItem}
-use Rattle.etcs_rows.specs.Layouts.{Layout, layout, one}
+use Rattle.etcs_tables.specs.declared.item.RowItem.{RowItem}
+use Rattle.etcs_tables.specs.Layouts.{Layout, layout, one}
 use Rattle.etcs_rows.specs.Lengths.{LengthsBy, front, behind, GroupsWithin, FirstWithin}
 use Rattle.etcs_rows.specs.Steps.{InSteps, AreSteps, TimesWithin}
 use Rattle.etcs_rows.specs.Sums.{Plus}

@@ -1,8 +1,8 @@
 use Rattle.std.proofs.Common.{ℕ, ◌+◌, ◌*◌, ◌≤◌, ◌<◌, List, length}
 use Rattle.std.specs.Prelude.{sum_by}
-use Rattle.etcs_rows.specs.declared.item.RowItem.{RowItem}
+use Rattle.etcs_tables.specs.declared.item.RowItem.{RowItem}
 use Rattle.etcs_rows.specs.declared.place.Pending.{Pending}
-use Rattle.etcs_rows.specs.Layouts.{layout}
+use Rattle.etcs_tables.specs.Layouts.{layout}
 use Rattle.etcs_rows.specs.Lengths.{LengthsBy, front}
 use Rattle.etcs_rows.specs.Steps.{InSteps}
 use Rattle.etcs_rows.specs.Waiting.{Onward}

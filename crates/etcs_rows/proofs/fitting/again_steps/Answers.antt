@@ -1,4 +1,4 @@
-use Rattle.etcs_rows.specs.Layouts.{layout}
+use Rattle.etcs_tables.specs.Layouts.{layout}
 use Rattle.etcs_rows.specs.Lengths.{LengthsBy}
 use Rattle.etcs_rows.specs.Steps.{InSteps}
 use Rattle.etcs_rows.specs.Sums.{SumOf}

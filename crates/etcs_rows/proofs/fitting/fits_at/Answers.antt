@@ -1,8 +1,8 @@
 use Rattle.std.proofs.Common.{reverse, List, ◌∷◌, ap, ◌∙◌, subst}
-use Rattle.etcs_rows.specs.declared.item.RowItem.{RowItem}
+use Rattle.etcs_tables.specs.declared.item.RowItem.{RowItem}
 use Rattle.etcs_rows.specs.declared.place.Pending.{Pending}
 use Rattle.etcs_rows.specs.Cursors.{waiting}
-use Rattle.etcs_rows.specs.Layouts.{layout}
+use Rattle.etcs_tables.specs.Layouts.{layout}
 use Rattle.etcs_rows.specs.Lengths.{LengthsBy}
 use Rattle.etcs_rows.specs.Steps.{AreSteps}
 use Rattle.etcs_rows.specs.Sums.{Plus}

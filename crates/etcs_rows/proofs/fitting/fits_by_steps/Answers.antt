@@ -1,11 +1,11 @@
 use Rattle.std.proofs.Common.{reverse, arith, ◌≡◌, ◌≤◌, ℕ, List, ◌∷◌, ap, ◌∙◌, subst}
 use Rattle.std.specs.Prelude.{IsTrue, ◌↔◌, IfSome}
 use Rattle.etcs_vars.specs.Vars.{width}
-use Rattle.etcs_rows.specs.declared.item.RowItem.{RowItem}
-use Rattle.etcs_rows.specs.declared.item.RowItem.TheVariants.{One}
+use Rattle.etcs_tables.specs.declared.item.RowItem.{RowItem}
+use Rattle.etcs_tables.specs.declared.item.RowItem.TheVariants.{One}
 use Rattle.etcs_rows.specs.declared.place.Pending.{Pending}
 use Rattle.etcs_rows.specs.Cursors.{left_of}
-use Rattle.etcs_rows.specs.Layouts.{layout}
+use Rattle.etcs_tables.specs.Layouts.{layout}
 use Rattle.etcs_rows.specs.Lengths.{LengthsBy, behind, GroupsWithin, FitsWithin}
 use Rattle.etcs_rows.specs.Steps.{InSteps, AreSteps}
 use Rattle.etcs_rows.specs.Sums.{Plus}

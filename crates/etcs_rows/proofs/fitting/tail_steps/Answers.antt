@@ -1,6 +1,6 @@
 use Rattle.std.proofs.Common.{reverse}
 use Rattle.etcs_rows.specs.Cursors.{waiting}
-use Rattle.etcs_rows.specs.Layouts.{layout}
+use Rattle.etcs_tables.specs.Layouts.{layout}
 use Rattle.etcs_rows.specs.Lengths.{LengthsBy}
 use Rattle.etcs_rows.specs.Sums.{Plus}
 use Rattle.etcs_rows.proofs.LengthLemmas.{set_self}

@@ -1,5 +1,5 @@
 use Rattle.std.proofs.Common.{ℕ, ◌<◌, ◌≤◌, IsTrue}
-use Rattle.etcs_rows.specs.Frames.{is_kept}
+use Rattle.etcs_tables.specs.Frames.{is_kept}
 use Rattle.etcs_rows.proofs.frames.any_kept.Given as goal
 
 -- none of the numbers so far is kept

@@ -1,7 +1,7 @@
 use Rattle.std.proofs.Common.{◌≡◌, ℕ, ◌-◌, ◌^◌, [], Some, arith, subst, sym, ap, ◌∙◌}
 use Rattle.std.specs.Prelude.{◌↔◌, IsTrue, false}
-use Rattle.etcs_rows.specs.Layouts.{Layout, Lengths, layout}
-use Rattle.etcs_rows.specs.Rows.{row_to}
+use Rattle.etcs_tables.specs.Layouts.{Layout, Lengths, layout}
+use Rattle.etcs_tables.specs.Rows.{row_to}
 use Rattle.etcs_rows.specs.Frames.{InWindows}
 use Rattle.etcs_rows.proofs.FrameLemmas.{by_windows, none_fits, kept_fits, row_fits, one_fits, row_found, no_row}
 use Rattle.etcs_rows.proofs.frames.length_fits.Goals as goal

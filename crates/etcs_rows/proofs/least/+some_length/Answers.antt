@@ -1,6 +1,6 @@
 use Rattle.std.proofs.Common.{◌≡◌, ◌∷◌, take, drop, List, sym, ap, ◌∙◌, arith}
-use Rattle.etcs_rows.specs.declared.item.RowItem.{RowItem}
-use Rattle.etcs_rows.specs.Layouts.{layout, one}
+use Rattle.etcs_tables.specs.declared.item.RowItem.{RowItem}
+use Rattle.etcs_tables.specs.Layouts.{layout, one}
 use Rattle.etcs_rows.proofs.Cuts.{layout-when_cut, layout-many_cut}
 use Rattle.etcs_rows.proofs.SumLemmas.{no_items}
 use Rattle.etcs_rows.proofs.LeastLengths.{least_whole, least_one, least_passed, least_not_passed, least_counted}

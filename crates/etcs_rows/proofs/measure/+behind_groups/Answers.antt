@@ -1,7 +1,7 @@
 use Rattle.std.proofs.Common.{take, drop, ◌∷◌, sym, ap, ◌∙◌}
-use Rattle.etcs_rows.specs.declared.item.Guard.{Guard}
-use Rattle.etcs_rows.specs.declared.item.RowItem.{RowItem}
-use Rattle.etcs_rows.specs.Layouts.{Layout}
+use Rattle.etcs_tables.specs.declared.item.Guard.{Guard}
+use Rattle.etcs_tables.specs.declared.item.RowItem.{RowItem}
+use Rattle.etcs_tables.specs.Layouts.{Layout}
 use Rattle.etcs_rows.specs.Lengths.{behind}
 use Rattle.etcs_rows.proofs.Cuts.{layout-when_cut, layout-many_cut}
 use Rattle.etcs_rows.proofs.measure.+behind_groups.Goals as goal

@@ -1,7 +1,7 @@
 use Rattle.std.proofs.Common.{◌≡◌, ℕ, ◌+◌, ◌-◌, ◌/◌, ◌^◌, ◌≤◌, take, drop, List, ◌∷◌, sym, ap, ◌∙◌, arith}
 use Rattle.std.proofs.lemmas.Bool.{both_ways}
-use Rattle.etcs_rows.specs.declared.item.RowItem.{RowItem}
-use Rattle.etcs_rows.specs.Layouts.{Layout, layout, one}
+use Rattle.etcs_tables.specs.declared.item.RowItem.{RowItem}
+use Rattle.etcs_tables.specs.Layouts.{Layout, layout, one}
 use Rattle.etcs_rows.specs.Lengths.{LengthsBy, front}
 use Rattle.etcs_rows.proofs.Cuts.{layout-when_cut, layout-many_cut}
 use Rattle.etcs_rows.proofs.SumLemmas.{set_whole, set_passed, set_not_passed, set_counted, set_one, set_free_one, set_first, groups_none, groups_more, groups_same, groups_all, GroupsTo, most_admits, no_items, set_no_front, counted_all}

@@ -1,8 +1,8 @@
 use Rattle.std.proofs.Common.{◌≡◌, ℕ, ◌-◌, ◌/◌, ◌^◌, ◌≤◌, take, drop, List, ◌∷◌, sym, ap, ◌∙◌, arith, Some}
 use Rattle.std.proofs.lemmas.Bool.{both_ways}
 use Rattle.etcs_vars.specs.Vars.{width}
-use Rattle.etcs_rows.specs.declared.item.RowItem.{RowItem}
-use Rattle.etcs_rows.specs.Layouts.{Layout, layout, one}
+use Rattle.etcs_tables.specs.declared.item.RowItem.{RowItem}
+use Rattle.etcs_tables.specs.Layouts.{Layout, layout, one}
 use Rattle.etcs_rows.specs.Lengths.{LengthsBy, begins_with_group, front, behind, GroupsWithin, SetsWithin, FirstWithin}
 use Rattle.etcs_rows.specs.Steps.{InSteps, InGuarded, TimesWithin}
 use Rattle.etcs_rows.specs.Sums.{Plus, SumOf}

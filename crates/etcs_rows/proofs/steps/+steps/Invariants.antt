@@ -1,5 +1,5 @@
 use Rattle.std.proofs.Common.{ℕ, ◌+◌, ◌*◌, ◌≤◌, ◌<◌, length}
-use Rattle.etcs_rows.specs.Layouts.{layout}
+use Rattle.etcs_tables.specs.Layouts.{layout}
 use Rattle.etcs_rows.specs.Lengths.{LengthsBy, front}
 use Rattle.etcs_rows.proofs.StepSums.{StepsTo}
 use Rattle.etcs_rows.proofs.steps.+steps.Given as goal

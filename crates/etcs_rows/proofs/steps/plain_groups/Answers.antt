@@ -1,6 +1,6 @@
 use Rattle.std.proofs.Common.{take, drop, ◌∷◌, sym, ap, ◌∙◌, arith}
-use Rattle.etcs_rows.specs.declared.item.RowItem.{RowItem}
-use Rattle.etcs_rows.specs.Layouts.{Layout, layout}
+use Rattle.etcs_tables.specs.declared.item.RowItem.{RowItem}
+use Rattle.etcs_tables.specs.Layouts.{Layout, layout}
 use Rattle.etcs_rows.specs.Lengths.{behind}
 use Rattle.etcs_rows.proofs.Cuts.{layout-when_cut}
 use Rattle.etcs_rows.proofs.RowSums.{front_more, front_ends, behind_none}

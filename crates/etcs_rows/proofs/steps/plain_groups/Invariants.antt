@@ -1,6 +1,6 @@
 use Rattle.std.proofs.Common.{◌≡◌, ℕ, ◌≤◌, length}
 use Rattle.std.specs.Prelude.{◌↔◌}
-use Rattle.etcs_rows.specs.Layouts.{layout}
+use Rattle.etcs_tables.specs.Layouts.{layout}
 use Rattle.etcs_rows.specs.Lengths.{LengthsBy, front, behind}
 use Rattle.etcs_rows.specs.Sums.{Plus}
 use Rattle.etcs_rows.proofs.steps.plain_groups.Given as goal

@@ -1,5 +1,5 @@
 use Rattle.std.proofs.Common.{sym, ◌∙◌}
-use Rattle.etcs_rows.specs.Layouts.{layout}
+use Rattle.etcs_tables.specs.Layouts.{layout}
 use Rattle.etcs_rows.proofs.SumLemmas.{no_items}
 use Rattle.etcs_rows.proofs.StepLemmas.{is_zero}
 use Rattle.etcs_rows.proofs.RowSums.{led_alone}

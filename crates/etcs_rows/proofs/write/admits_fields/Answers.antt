@@ -2,7 +2,7 @@ use Rattle.std.proofs.Common.{◌≡◌, ◌+◌, ◌≤◌, get_or, false, sym,
 use Rattle.std.specs.Option.{is_some}
 use Rattle.std.proofs.lemmas.List.{drop_more, drop_all}
 use Rattle.etcs_vars.specs.Vars.{width, admits}
-use Rattle.etcs_rows.specs.Layouts.{ROW_LIMIT}
+use Rattle.etcs_tables.specs.Layouts.{ROW_LIMIT}
 use Rattle.etcs_rows.proofs.WriteLemmas.{admits_ended, admits_next, admits_step, admits_done, refused}
 use Rattle.etcs_rows.proofs.write.admits_fields.Goals as goal
 use Rattle.etcs_rows.proofs.write.admits_fields.Goals.{then-taken-gt-ROW_LIMIT-via-then-taken-gt-ROW_LIMIT, then-taken-gt-ROW_LIMIT-via-else-taken-gt-ROW_LIMIT+then-not-admits}

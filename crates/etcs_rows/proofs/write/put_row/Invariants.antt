@@ -1,6 +1,6 @@
 use Rattle.std.proofs.Common.{drop}
 use Rattle.etcs_bits.specs.Bits.{bits}
-use Rattle.etcs_rows.specs.Layouts.{layout}
+use Rattle.etcs_tables.specs.Layouts.{layout}
 use Rattle.etcs_rows.specs.Writing.{Puts}
 use Rattle.etcs_rows.proofs.write.put_row.Given as goal
 

@@ -9,6 +9,9 @@ returns-in-Hex-clause-write g c = rw c.new-taker.ensures.job at (rw c.new.ensure
 pub returns-in-Hex-clause-unflushed : goal.returns-in-Hex-clause-unflushed
 returns-in-Hex-clause-unflushed g c = rw c.new-taker.ensures.job at (rw c.new.ensures.job at c.run_engine.ensures.unflushed)
 
+pub returns-in-Bin-clause-ok : goal.returns-in-Bin-clause-ok
+returns-in-Bin-clause-ok g c = rw c.new-in-Bin.ensures.job at c.run_engine-in-Bin.ensures.ok
+
 pub returns-in-Bin-clause-engine : goal.returns-in-Bin-clause-engine
 returns-in-Bin-clause-engine g c = rw c.new-in-Bin.ensures.job at c.run_engine-in-Bin.ensures.engine
 

@@ -1,6 +1,6 @@
 use Rattle.std.proofs.Common.{◌∙◌, arith}
 use Rattle.etcs_bits.specs.Bits.{bits}
-use Rattle.etcs_rests.proofs.RoundTrips.{front_read}
+use Rattle.etcs_sequence.proofs.RoundTrips.{front_read}
 use Rattle.etcs_telegram.specs.Telegrams.{ReadsAs, IsTelegram, telegram_value}
 use Rattle.etcs_telegram.proofs.RoundTrips.{fed_first, written_back, container_small}
 use Rattle.etcs_telegram.proofs.laws.read_back.Goals as goal

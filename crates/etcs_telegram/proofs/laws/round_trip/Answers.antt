@@ -1,5 +1,5 @@
 use Rattle.std.proofs.Common.{arith, ◌∙◌, sym}
-use Rattle.etcs_rests.proofs.RoundTrips.{Answered, same_value}
+use Rattle.etcs_sequence.proofs.RoundTrips.{Answered, same_value}
 use Rattle.etcs_telegram.proofs.RoundTrips.{read_again, container_small}
 use Rattle.etcs_telegram.proofs.laws.round_trip.Goals as goal
 use Rattle.etcs_telegram.proofs.laws.round_trip.Goals.{After-feed}

@@ -2,7 +2,7 @@ use Rattle.std.proofs.Common.{◌++◌, refl}
 use Rattle.std.specs.Prelude.{codes}
 use Rattle.serde_json.specs.Written.{compact_text}
 use Rattle.etcs_radio.specs.Bodies.{body_reading, run_of_head}
-use Rattle.etcs_text.specs.Fronts.{begins_more}
+use Rattle.etcs_text.specs.laws.Fronts.{begins_more}
 use Rattle.etcs_text.specs.Trees.{pairs_tree}
 use Rattle.etcs_text.proofs.Refusals.{behind_ok, on_err}
 use Rattle.etcs_text.proofs.Texts.{on_extended}

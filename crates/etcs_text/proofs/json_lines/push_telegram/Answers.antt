@@ -5,7 +5,7 @@ use Rattle.etcs_packets.specs.declared.packet.Packet.{Packet}
 use Rattle.etcs_packets.specs.PacketValues.{packet_value}
 use Rattle.etcs_telegram.specs.declared.size.Size.{Size}
 use Rattle.etcs_telegram.specs.Telegrams.{HeaderParts, header_reading}
-use Rattle.etcs_text.specs.Fronts.{begins_more}
+use Rattle.etcs_text.specs.laws.Fronts.{begins_more}
 use Rattle.etcs_text.specs.JsonParts.{kind_member}
 use Rattle.etcs_text.specs.Show.{bit_digit}
 use Rattle.etcs_text.specs.Trees.{packets_tree, pairs_tree}

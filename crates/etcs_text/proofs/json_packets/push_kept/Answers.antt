@@ -1,6 +1,6 @@
 use Rattle.std.proofs.Common.{◌++◌, ◌∷◌, ◌∙◌, [], ℕ, Bool, List, ap, decimal, map}
 use Rattle.std.specs.Prelude.{codes}
-use Rattle.etcs_text.specs.Fronts.{begins_more}
+use Rattle.etcs_text.specs.laws.Fronts.{begins_more}
 use Rattle.etcs_text.specs.Show.{bit_digit}
 use Rattle.etcs_text.proofs.Refusals.{behind_and_ok, behind_ok, on_err, on_error, on_ok}
 use Rattle.etcs_text.proofs.TreeTexts.{kept_packet}

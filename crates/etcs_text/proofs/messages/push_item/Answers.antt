@@ -1,4 +1,4 @@
-use Rattle.etcs_text.specs.Fronts.{begins_more}
+use Rattle.etcs_text.specs.laws.Fronts.{begins_more}
 use Rattle.etcs_text.proofs.Refusals.{on_err}
 use Rattle.etcs_text.proofs.messages.push_item.Goals as goal
 

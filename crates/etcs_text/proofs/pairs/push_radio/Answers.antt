@@ -1,5 +1,5 @@
 use Rattle.std.proofs.Common.{◌∷◌, ◌++◌, [], refl, sym}
-use Rattle.etcs_text.specs.PlainTexts.{plain_hex, quoted_plain}
+use Rattle.etcs_text.proofs.PlainTexts.{plain_hex, quoted_plain}
 use Rattle.etcs_text.specs.Show.{hex_digits}
 use Rattle.etcs_text.proofs.Refusals.{behind_ok, on_ok}
 use Rattle.etcs_text.proofs.Texts.{on_extended}

@@ -1,6 +1,6 @@
 use Rattle.std.proofs.Common.{map, ap}
 use Rattle.etcs_packets.specs.PacketValues.{packet_value}
-use Rattle.etcs_text.specs.Fronts.{begins_more}
+use Rattle.etcs_text.specs.laws.Fronts.{begins_more}
 use Rattle.etcs_text.proofs.Refusals.{on_err}
 use Rattle.etcs_text.proofs.Texts.{telegram_text}
 use Rattle.etcs_text.proofs.show.push_telegram.Goals as goal

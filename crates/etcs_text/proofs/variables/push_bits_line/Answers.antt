@@ -1,4 +1,4 @@
-use Rattle.etcs_text.specs.Fronts.{begins_more}
+use Rattle.etcs_text.specs.laws.Fronts.{begins_more}
 use Rattle.etcs_text.proofs.Refusals.{on_err}
 use Rattle.etcs_text.proofs.variables.push_bits_line.Goals as goal
 

@@ -1,5 +1,6 @@
 use Rattle.std.proofs.Common.{arith}
-use Rattle.etcs_parts.specs.Authorities.{authority_parts, authority_bits, authority_small, few_sections}
+use Rattle.etcs_parts.specs.Authorities.{authority_parts}
+use Rattle.etcs_parts.specs.laws.Authorities.{authority_bits, authority_small, few_sections}
 use Rattle.etcs_parts.proofs.authority.AuthorityVariables.bits.Goals as goal
 
 pub bits_of_all-requires : goal.bits_of_all-requires

@@ -1,5 +1,6 @@
 use Rattle.std.proofs.Common.{arith}
-use Rattle.etcs_parts.specs.Speeds.{few_entries, speed_parts}
+use Rattle.etcs_parts.specs.Speeds.{speed_parts}
+use Rattle.etcs_parts.specs.laws.Speeds.{few_entries}
 use Rattle.etcs_parts.proofs.speed.SpeedVariables.bits.Goals as goal
 
 pub returns-clause-small : goal.returns-clause-small

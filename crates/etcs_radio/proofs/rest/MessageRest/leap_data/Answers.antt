@@ -4,7 +4,7 @@ use Rattle.etcs_bits.proofs.Positions.{length-bits}
 use Rattle.etcs_bits.proofs.Lists.{length-part}
 use Rattle.etcs_vars.specs.declared.var.Var.TheVariants.{OTHER_DATA}
 use Rattle.etcs_vars.specs.Reading.{kept}
-use Rattle.etcs_rests.specs.BitLaws.{bits_spelled, bits_viable}
+use Rattle.etcs_sequence.specs.laws.BitLaws.{bits_spelled, bits_viable}
 use Rattle.etcs_radio.proofs.RestStands.{data_parts}
 use Rattle.etcs_radio.proofs.rest.MessageRest.leap_data.Goals as goal
 

@@ -4,7 +4,7 @@ use Rattle.std.proofs.Math.Logic.{∥∥₁_prop}
 use mathlib.Core.HLevel.{is_prop→PathP}
 use mathlib.Core.Bool.{Bool-set}
 use Rattle.etcs_bits.specs.Bits.{bits, part}
-use Rattle.etcs_rests.specs.declared.packets.PacketsRest.{PacketsRest}
+use Rattle.etcs_sequence.specs.declared.packets.PacketsRest.{PacketsRest}
 use Rattle.etcs_radio.specs.declared.rest.MessageRest.{MessageRest}
 use Rattle.etcs_radio.specs.Lefts.{stands_at, DataFits}
 use Rattle.etcs_radio.proofs.RestSteps.{packets_all, packets_viable}

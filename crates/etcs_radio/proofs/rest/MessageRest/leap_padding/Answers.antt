@@ -3,7 +3,7 @@ use Rattle.etcs_bits.specs.Bits.{num}
 use Rattle.etcs_bits.proofs.Positions.{length-bits}
 use Rattle.etcs_vars.specs.declared.var.Var.TheVariants.{PADDING}
 use Rattle.etcs_vars.specs.Reading.{kept}
-use Rattle.etcs_rests.specs.BitLaws.{bits_spelled}
+use Rattle.etcs_sequence.specs.laws.BitLaws.{bits_spelled}
 use Rattle.etcs_radio.proofs.RestStands.{padding_parts}
 use Rattle.etcs_radio.proofs.rest.MessageRest.leap_padding.Goals as goal
 

@@ -1,5 +1,5 @@
 use Rattle.std.proofs.Common.{refl}
-use Rattle.etcs_rests.specs.StageLaws.{begun_closed}
+use Rattle.etcs_sequence.proofs.StageLaws.{begun_closed}
 use Rattle.etcs_radio.proofs.RestStart.{new_left}
 use Rattle.etcs_radio.proofs.rest.MessageRest.new.Goals as goal
 

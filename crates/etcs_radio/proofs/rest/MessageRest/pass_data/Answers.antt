@@ -2,7 +2,7 @@ use Rattle.std.proofs.Common.{◌≡◌, [], ◌∷◌, ap, ◌∙◌, arith}
 use Rattle.etcs_bits.proofs.Positions.{length-bits}
 use Rattle.etcs_vars.specs.declared.var.Var.TheVariants.{OTHER_DATA}
 use Rattle.etcs_vars.specs.Reading.{Reading, kept}
-use Rattle.etcs_rests.specs.BitLaws.{byte_bit, bit_read}
+use Rattle.etcs_sequence.proofs.BitLaws.{byte_bit, bit_read}
 use Rattle.etcs_radio.proofs.rest.MessageRest.pass_data.Goals as goal
 
 pub run_at-requires : goal.run_at-requires

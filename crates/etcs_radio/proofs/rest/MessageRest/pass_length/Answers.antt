@@ -1,14 +1,14 @@
-use Rattle.std.proofs.Common.{◌≡◌, ◌-◌, ◌*◌, length, Some, None, sym, ap, subst, arith}
+use Rattle.std.proofs.Common.{◌≡◌, ◌-◌, ◌*◌, length, ap, subst, arith}
 use Rattle.std.specs.Prelude.{nat_lt}
 use Rattle.std.proofs.Math.Logic.{∥∥₁_map}
 use Rattle.std.proofs.lemmas.Bool.{and_from, lt-ltb}
 use Rattle.etcs_vars.proofs.Languages.{Same}
 use Rattle.etcs_rows.specs.declared.frames.Carrier.TheVariants.{Message}
-use Rattle.etcs_container.specs.Contents.{Run}
-use Rattle.etcs_rests.specs.Lefts.{left_of, ahead, is_closed}
+use Rattle.etcs_sequence.specs.Contents.{Run}
+use Rattle.etcs_sequence.specs.Lefts.{left_of, ahead, is_closed}
 use Rattle.etcs_radio.specs.declared.phase.Phase.TheVariants as phase
 use Rattle.etcs_radio.specs.Lefts.{front_row, front_bits, some_row, DataFits}
-use Rattle.etcs_radio.proofs.Fronts.{front_short}
+use Rattle.etcs_radio.proofs.Fronts.{front_short, front_there, no_front}
 use Rattle.etcs_radio.proofs.RestSteps.{typed_behind, kept_bounds}
 use Rattle.etcs_radio.proofs.RestStands.{begin_parts, begun_message, begun_stands}
 use Rattle.etcs_radio.proofs.RestHolds.{typed_follows, begun_fits}
@@ -18,9 +18,8 @@ pub invariant_of-self : goal.invariant_of-self
 invariant_of-self g c =
     let s = c.args.self.now in
     let l' = c.start.new.self.left in
-    let vs = c.in-Some.vars.now in
-    let found : front_row s.nid ≡ Some vs = sym c.in-Some.ensures in
-    let room = c.args.number * 8 - c.front_bits.result in
+    let (vs, found, wide) = front_there front_bits (front_row s.nid) c.in-Some.front c.in-Some.ensures in
+    let room = c.args.number * 8 - c.in-Some.front in
     record {
       stands = begun_stands s.nid (length s.front.items) vs l' (ap some_row found) (front_short s.nid vs found).0 (begin_parts s.nid s.stage (length s.front.items) s.packets.left c.requires.stage s.stands).0 (begun_message l' room c.start.ensures.carrier c.start.ensures.ahead c.start.ensures.left);
       fits = ∣ tt ∣₁;
@@ -32,7 +31,7 @@ invariant_of-self-in-None g c =
     let l = s.packets.left in
     let holds = g.S.PacketStore.holds s.packets.store in
     let len = c.args.number in
-    let found : front_row s.nid ≡ None = sym c.in-None.ensures in
+    let found = no_front front_bits (front_row s.nid) c.in-None.ensures in
     let closed = (begin_parts s.nid s.stage (length s.front.items) l c.requires.stage s.stands).1 in
     let bounds = kept_bounds s.nid len found (rw c.requires.stage at c.requires.goes) in
     let bits : 8 * len - 18 ≡ len * 8 - 18 = omega arith in
@@ -46,10 +45,9 @@ returns-in-Some g c =
     let s = c.args.self.now in
     let l = s.packets.left in
     let l' = c.start.new.self.left in
-    let vs = c.in-Some.vars.now in
     let len = c.args.number in
-    let found : front_row s.nid ≡ Some vs = sym c.in-Some.ensures in
-    let room : len * 8 - c.front_bits.result ≡ 8 * len - front_bits vs = omega (arith, c.front_bits.ensures) in
+    let (vs, found, wide) = front_there front_bits (front_row s.nid) c.in-Some.front c.in-Some.ensures in
+    let room : len * 8 - c.in-Some.front ≡ 8 * len - front_bits vs = omega (arith, wide) in
     let bits : ahead l'.room l'.stage ≡ 8 * len - front_bits vs = subst (λ n. ahead l'.room l'.stage ≡ n) room c.start.ensures.ahead in
     let left : Same (left_of l'.carrier l'.room l'.stage) (Run Message (8 * len - front_bits vs)) = subst (λ n. Same (left_of l'.carrier l'.room l'.stage) (Run Message n)) room c.start.ensures.left in
     typed_follows s.nid s.stage s.front.items l l' s.padding (g.S.PacketStore.holds s.packets.store) (g.S.PacketStore.holds c.start.new.self.store) len vs c.requires.stage s.stands found c.requires.goes (typed_behind s.nid len vs l l' found (rw c.requires.stage at c.requires.goes) bits left) bits c.start.ensures.held

@@ -1,7 +1,7 @@
 use Rattle.std.proofs.Common.{[], ◌∷◌, length}
-use Rattle.etcs_rests.specs.Lefts.{left_of}
+use Rattle.etcs_sequence.specs.Lefts.{left_of}
 use Rattle.etcs_reader.specs.Rests.{Starts}
-use Rattle.etcs_rests.specs.FilledLaws.{moved_left}
+use Rattle.etcs_sequence.proofs.FilledLaws.{moved_left}
 use Rattle.etcs_radio.proofs.RestStands.{packets_stands, packets_message}
 use Rattle.etcs_radio.proofs.RestHolds.{packets_follow, no_data_packets}
 use Rattle.etcs_radio.proofs.Begins.{begins_packets}

@@ -1,5 +1,5 @@
 use Rattle.etcs_vars.specs.declared.var.Var.TheVariants.{PADDING}
-use Rattle.etcs_rests.specs.BitLaws.{bit_number}
+use Rattle.etcs_sequence.proofs.BitLaws.{bit_number}
 use Rattle.etcs_radio.proofs.Begins.{padding_bit, data_bit}
 use Rattle.etcs_radio.proofs.rest.MessageRestRest.pass.Goals as goal
 

@@ -1,4 +1,4 @@
-use Rattle.etcs_reader.specs.FieldLaws.{fields_tested}
+use Rattle.etcs_reader.proofs.FieldLaws.{fields_tested}
 use Rattle.etcs_reader.proofs.fields.FieldsRest.begins.Goals as goal
 
 pub returns : goal.returns

@@ -1,5 +1,5 @@
 use Rattle.std.proofs.Common.{inl, inr}
-use Rattle.etcs_rows.specs.Layouts.{layout}
+use Rattle.etcs_tables.specs.Layouts.{layout}
 use Rattle.etcs_rows.proofs.LengthLemmas.{lengths_are}
 use Rattle.etcs_rows.proofs.PlaceLemmas.{sound_parts}
 use Rattle.etcs_rows.proofs.frames.Windows.meet_least.Goals as goal

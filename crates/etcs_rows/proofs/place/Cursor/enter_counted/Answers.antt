@@ -1,5 +1,5 @@
 use Rattle.std.proofs.Common.{refl, sym, ◌-◌, arith}
-use Rattle.etcs_rows.specs.Layouts.{layout}
+use Rattle.etcs_tables.specs.Layouts.{layout}
 use Rattle.etcs_rows.proofs.CursorLemmas.{enter_counted}
 use Rattle.etcs_rows.proofs.place.Cursor.enter_counted.Goals as goal
 

@@ -1,5 +1,5 @@
 use Rattle.std.proofs.Common.{take, drop, ◌∷◌, ap, ◌∙◌}
-use Rattle.etcs_rows.specs.declared.item.RowItem.{RowItem}
+use Rattle.etcs_tables.specs.declared.item.RowItem.{RowItem}
 use Rattle.etcs_rows.proofs.Cuts.{layout-when_cut, layout-many_cut}
 use Rattle.etcs_rows.proofs.place.Cursor.open.Goals as goal
 

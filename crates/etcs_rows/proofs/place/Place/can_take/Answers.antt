@@ -1,6 +1,6 @@
 use Rattle.std.proofs.Common.{◌≡◌, [], subst}
 use Rattle.std.specs.Prelude.{IsTrue, ◌↔◌}
-use Rattle.etcs_rows.specs.Layouts.{Layout, Lengths}
+use Rattle.etcs_tables.specs.Layouts.{Layout, Lengths}
 use Rattle.etcs_rows.specs.Cursors.{left_of}
 use Rattle.etcs_rows.proofs.LengthLemmas.{lengths_are}
 use Rattle.etcs_rows.proofs.place.Place.can_take.Goals as goal

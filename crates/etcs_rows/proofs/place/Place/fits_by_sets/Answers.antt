@@ -1,7 +1,7 @@
 use Rattle.std.proofs.Common.{◌≡◌, ◌∷◌, sym, ap, ◌∙◌, subst}
 use Rattle.std.specs.Prelude.{◌↔◌, IsTrue}
-use Rattle.etcs_rows.specs.declared.item.RowItem.{RowItem}
-use Rattle.etcs_rows.specs.Layouts.{Layout, begins}
+use Rattle.etcs_tables.specs.declared.item.RowItem.{RowItem}
+use Rattle.etcs_tables.specs.Layouts.{Layout, begins}
 use Rattle.etcs_rows.specs.Lengths.{FitsWithin}
 use Rattle.etcs_rows.specs.Cursors.{left_of}
 use Rattle.etcs_rows.proofs.SumLemmas.{fits_left, fits_none, no_items}

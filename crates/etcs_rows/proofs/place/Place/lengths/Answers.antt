@@ -1,6 +1,6 @@
 use Rattle.std.proofs.Common.{◌≡◌, [], subst}
 use Rattle.std.specs.Prelude.{◌↔◌}
-use Rattle.etcs_rows.specs.Layouts.{Layout, Lengths}
+use Rattle.etcs_tables.specs.Layouts.{Layout, Lengths}
 use Rattle.etcs_rows.specs.Cursors.{left_of}
 use Rattle.etcs_rows.specs.Sets.{In}
 use Rattle.etcs_rows.proofs.LengthLemmas.{lengths_are}

@@ -1,5 +1,5 @@
 use Rattle.std.proofs.Common.{sym, ap, ◌∙◌, Some, None, IsTrue, subst}
-use Rattle.etcs_rows.specs.Layouts.{Layout, looks}
+use Rattle.etcs_tables.specs.Layouts.{Layout, looks}
 use Rattle.etcs_rows.specs.Places.{after_any}
 use Rattle.etcs_rows.proofs.PlaceLemmas.{pass_item}
 use Rattle.etcs_rows.proofs.LooksLemmas.{looks-pass}

@@ -1,5 +1,5 @@
 use Rattle.std.proofs.Common.{◌≡◌, sym, ◌∙◌, arith, None, IsTrue, subst}
-use Rattle.etcs_rows.specs.Layouts.{Layout, layout, looks}
+use Rattle.etcs_tables.specs.Layouts.{Layout, layout, looks}
 use Rattle.etcs_rows.specs.Cursors.{left_of}
 use Rattle.etcs_rows.proofs.PlaceLemmas.{sound_parts, sound_open, onto-open}
 use Rattle.etcs_rows.proofs.place.Place.start.Goals as goal

@@ -1,5 +1,5 @@
 use Rattle.std.proofs.Common.{◌≡◌, [], subst}
-use Rattle.etcs_rows.specs.Layouts.{Layout, Lengths}
+use Rattle.etcs_tables.specs.Layouts.{Layout, Lengths}
 use Rattle.etcs_rows.specs.Cursors.{left_of}
 use Rattle.etcs_rows.proofs.LengthLemmas.{lengths_are}
 use Rattle.etcs_rows.proofs.place.Place.takes_by_steps.Goals as goal

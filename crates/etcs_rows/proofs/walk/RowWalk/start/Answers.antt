@@ -1,7 +1,7 @@
 use Rattle.std.proofs.Common.{[], refl, arith}
 use Rattle.etcs_bits.specs.Bits.{num}
 use Rattle.etcs_vars.proofs.Prefixes.{width_pos}
-use Rattle.etcs_rows.specs.Layouts.{Lengths}
+use Rattle.etcs_tables.specs.Layouts.{Lengths}
 use Rattle.etcs_rows.proofs.RowWalkLemmas.{start_viable}
 use Rattle.etcs_rows.proofs.walk.RowWalk.start.Goals as goal
 

@@ -1,6 +1,6 @@
 use Rattle.std.proofs.Common.{◌++◌}
 use Rattle.etcs_stream.specs.Stands.{BinStands}
-use Rattle.etcs_stream.specs.StandLaws.{bin_tells}
+use Rattle.etcs_stream.specs.laws.StandLaws.{bin_tells}
 use Rattle.etcs_stream.proofs.BinSteps.{bin_fed, bin_stops}
 use Rattle.etcs_stream.proofs.Shortness.{fed_short}
 use Rattle.etcs_stream.proofs.bin.BinEngine.feed.Goals as goal

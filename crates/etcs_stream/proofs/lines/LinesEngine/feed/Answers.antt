@@ -7,7 +7,7 @@ use Rattle.etcs_stream.specs.Faults.{IsOfEngine}
 use Rattle.etcs_stream.specs.Lines.{IsLine}
 use Rattle.etcs_stream.specs.Stands.{LinesStand}
 use Rattle.etcs_stream.specs.Engines.{Stops}
-use Rattle.etcs_stream.specs.StandLaws.{lines_tell}
+use Rattle.etcs_stream.specs.laws.StandLaws.{lines_tell}
 use Rattle.etcs_stream.proofs.Shortness.{fed_short, stop_short}
 use Rattle.etcs_stream.proofs.LineSteps.{told_none, cut_line, cut_given, piece_stops}
 use Rattle.etcs_stream.proofs.lines.LinesEngine.feed.Goals as goal

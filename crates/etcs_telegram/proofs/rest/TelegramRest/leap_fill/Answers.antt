@@ -4,7 +4,7 @@ use Rattle.etcs_bits.proofs.Positions.{length-bits}
 use Rattle.etcs_bits.proofs.Lists.{length-part}
 use Rattle.etcs_vars.specs.declared.var.Var.TheVariants.{FILL}
 use Rattle.etcs_vars.specs.Reading.{kept}
-use Rattle.etcs_rests.specs.BitLaws.{bits_spelled}
+use Rattle.etcs_sequence.specs.laws.BitLaws.{bits_spelled}
 use Rattle.etcs_telegram.proofs.RestSteps.{fill_parts, fill_viable}
 use Rattle.etcs_telegram.proofs.rest.TelegramRest.leap_fill.Goals as goal
 

@@ -7,7 +7,7 @@ use Rattle.etcs_bits.specs.Bits.{bits, part}
 use Rattle.etcs_telegram.specs.Lefts.{stands_at, FillFits}
 use Rattle.etcs_telegram.proofs.RestSteps.{packets_all, packets_viable, packets_stands}
 use Rattle.etcs_telegram.proofs.RestHolds.{packets_follow, packets_fits}
-use Rattle.etcs_rests.specs.declared.packets.PacketsRest.{PacketsRest}
+use Rattle.etcs_sequence.specs.declared.packets.PacketsRest.{PacketsRest}
 use Rattle.etcs_telegram.specs.declared.rest.TelegramRest.{TelegramRest}
 use Rattle.etcs_telegram.proofs.rest.TelegramRest.leap_packets.Given.{Over}
 use Rattle.etcs_telegram.proofs.rest.TelegramRest.leap_packets.Goals as goal

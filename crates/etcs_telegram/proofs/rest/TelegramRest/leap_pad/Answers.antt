@@ -4,7 +4,7 @@ use Rattle.etcs_bits.specs.Bits.{num}
 use Rattle.etcs_bits.proofs.Positions.{length-bits}
 use Rattle.etcs_vars.specs.declared.var.Var.TheVariants.{PAD}
 use Rattle.etcs_vars.specs.Reading.{kept}
-use Rattle.etcs_rests.specs.BitLaws.{bits_spelled}
+use Rattle.etcs_sequence.specs.laws.BitLaws.{bits_spelled}
 use Rattle.etcs_telegram.specs.declared.phase.Phase.TheVariants.{Whole}
 use Rattle.etcs_telegram.proofs.Ones.{num-zeros}
 use Rattle.etcs_telegram.proofs.RestSteps.{pad_parts}

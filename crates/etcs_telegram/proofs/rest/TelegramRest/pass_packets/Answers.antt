@@ -1,8 +1,8 @@
 use Rattle.std.proofs.Common.{[], ◌∷◌, length}
 use Rattle.std.proofs.Math.Logic.{∥∥₁_map}
-use Rattle.etcs_rests.specs.Lefts.{left_of}
+use Rattle.etcs_sequence.specs.Lefts.{left_of}
 use Rattle.etcs_reader.specs.Rests.{Starts}
-use Rattle.etcs_rests.specs.FilledLaws.{moved_left}
+use Rattle.etcs_sequence.proofs.FilledLaws.{moved_left}
 use Rattle.etcs_telegram.proofs.RestSteps.{begins_packets, packets_stands}
 use Rattle.etcs_telegram.proofs.RestHolds.{packets_follow, packets_fits}
 use Rattle.etcs_telegram.proofs.rest.TelegramRest.pass_packets.Goals as goal

@@ -1,6 +1,6 @@
 use Rattle.std.proofs.Common.{◌≡◌, sym, ap, subst, ◌∙◌, arith, List, Bool}
 use Rattle.etcs_bits.specs.Bits.{bits, part}
-use Rattle.etcs_refs.specs.Refs.{ArePackets, spellings}
+use Rattle.etcs_sequence.specs.Refs.{ArePackets, spellings}
 use Rattle.etcs_telegram.specs.Telegrams.{TelegramValue, packet_room}
 use Rattle.etcs_telegram.specs.Views.{ViewValue, Sees}
 use Rattle.etcs_telegram.proofs.Encoding.{room_more}

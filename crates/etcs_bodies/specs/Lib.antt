@@ -1,0 +1,13 @@
+pub mod Choices
+pub mod Codecs
+pub mod Entries
+pub mod Equality
+pub mod Faults
+pub mod Groups
+pub mod Guards
+pub mod PacketCodes
+pub mod Packets
+pub mod Repeats
+pub mod Sources
+pub mod Taking
+pub mod laws

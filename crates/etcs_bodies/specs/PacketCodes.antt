@@ -1,0 +1,45 @@
+-- A packet's numbers and bits say which packet it is: what each typed packet keeps, and what follows for all.
+use Rattle.std.proofs.Common.{◌≡◌, ℕ, ◌≤◌, Bool, List, length, Option, Some, None}
+use Rattle.etcs_vars.specs.declared.var.Var.TheVariants.{Q_DIR}
+use Rattle.etcs_vars.specs.declared.fault.BuildFault.{BuildFault}
+use Rattle.etcs_vars.specs.Reading.{Reading, numbers, spelled}
+use Rattle.etcs_tables.specs.declared.row.Way.{Way}
+use Rattle.etcs_tables.specs.Layouts.{ROW_LIMIT}
+use Rattle.etcs_tables.specs.Typed.{IsTyped, IsFramed}
+use Rattle.etcs_bodies.specs.Taking.{Left, listed, in_bits, ◌and_then◌}
+use Rattle.etcs_bodies.specs.Faults.{number_fault}
+use Rattle.etcs_bodies.specs.Packets.{whole_from}
+
+-- what is read as a packet is one, and a packet is read of what it spells
+pub record PacketCodes {P : Type 0} (way : Way) (nid : ℕ) (direction : P → ℕ) (IsValue : P → Type 0) (reading : P → Reading) (from : ℕ → Left → Option P) : Type 0 where
+  pub of_numbers : (dir : ℕ) (f : List ℕ) (p : P) → from dir (listed f) ≡ Some p → IsValue p × (direction p ≡ dir) × (numbers (reading p) ≡ f)
+  pub of_bits : (dir : ℕ) (x : List Bool) (p : P) → from dir (in_bits x) ≡ Some p → IsValue p × (direction p ≡ dir) × (spelled (reading p) ≡ x)
+  pub untyped : (dir : ℕ) (f : List ℕ) → from dir (listed f) ≡ None → IsTyped way nid dir f → ⊥
+  pub unframed : (dir : ℕ) (x : List Bool) → from dir (in_bits x) ≡ None → (r : Reading) → IsFramed way nid dir r → spelled r ≡ x → ⊥
+  pub framed : (p : P) → IsValue p → IsFramed way nid (direction p) (reading p)
+  pub back : (p : P) → IsValue p → from (direction p) (listed (numbers (reading p))) ≡ Some p
+
+-- ---- A packet is a direction and a body.
+
+-- what is read, where it has no fault
+abbrev pub fitting : {A : Type 0} → Option BuildFault → A → Option A
+fitting None a = Some a
+fitting (Some e) a = None
+
+-- the packet of this direction that takes all that is left, where it isn't too long
+unfoldable pub packet_from : {B P : Type 0} → (Left → Option (B × Left)) → (P → Option BuildFault) → (ℕ → B → P) → ℕ → Left → Option P
+packet_from from too_long make dir s = whole_from from dir s and_then λ b. fitting (too_long (make b.0 b.1)) (make b.0 b.1)
+
+-- of packets that can't be too long
+abbrev pub never : {P : Type 0} → P → Option BuildFault
+never p = None
+
+-- a packet as a direction and a body: what makes it a value, and that its length is counted
+pub record Directed {B P : Type 0} (IsBody : B → Type 0) (body_reading : B → Reading) (too_long : P → Option BuildFault) (direction : P → ℕ) (IsValue : P → Type 0) (reading : P → Reading) (make : ℕ → B → P) : Type 0 where
+  pub body : P → B
+  pub again : (p : P) → make (direction p) (body p) ≡ p
+  pub dir_is : (dir : ℕ) (b : B) → direction (make dir b) ≡ dir
+  pub same : (dir : ℕ) (b : B) → body_reading b ≡ reading (make dir b)
+  pub is : (p : P) → IsValue p → IsBody (body p) × (number_fault Q_DIR (direction p) ≡ None) × (length (spelled (reading p)) ≤ ROW_LIMIT)
+  pub so : (dir : ℕ) (b : B) → IsBody b → number_fault Q_DIR dir ≡ None → too_long (make dir b) ≡ None → IsValue (make dir b)
+  pub fits : (dir : ℕ) (b : B) → length (spelled (reading (make dir b))) ≤ ROW_LIMIT → too_long (make dir b) ≡ None

@@ -1,0 +1,35 @@
+-- A packet behind its frame: a direction, and a body that is the whole of its row.
+use Rattle.std.proofs.Common.{◌≡◌, ℕ, true, Option, Some, None}
+use Rattle.std.specs.Prelude.{IsTrue, if◌then◌else◌, nat_le}
+use Rattle.etcs_vars.specs.declared.var.Var.TheVariants.{Q_DIR}
+use Rattle.etcs_vars.specs.declared.fault.BuildFault.{BuildFault}
+use Rattle.etcs_vars.specs.declared.fault.BuildFault.TheVariants.{TooLong}
+use Rattle.etcs_vars.specs.Vars.{admits}
+use Rattle.etcs_vars.specs.Reading.{Reading}
+use Rattle.etcs_tables.specs.Layouts.{ROW_LIMIT}
+use Rattle.etcs_bodies.specs.Taking.{Left, is_spent, ◌and_then◌}
+use Rattle.etcs_bodies.specs.laws.Takes.{taken}
+use Rattle.etcs_bodies.specs.Repeats.{bit_count}
+
+-- ---- The length.
+
+-- of a row of so many bits: more than the length of a packet counts
+unfoldable pub bits_fault : ℕ → Option BuildFault
+bits_fault bits = if nat_le bits ROW_LIMIT then None else Some TooLong
+
+unfoldable pub length_fault : Reading → Option BuildFault
+length_fault r = bits_fault (bit_count r)
+
+-- ---- What is read as a packet.
+
+-- the direction, where Q_DIR admits it, and the body that takes all that is left
+abbrev pub whole_from : {B : Type 0} → (Left → Option (B × Left)) → ℕ → Left → Option (ℕ × B)
+whole_from from dir s = if admits Q_DIR dir then (from s and_then λ b. if is_spent b.1 then Some (dir, b.0) else None) else None
+
+-- what a packet was read from
+pub record Whole {B : Type 0} (from : Left → Option (B × Left)) (dir : ℕ) (s : Left) (p : ℕ × B) : Type 0 where
+  pub left : Left
+  pub taken : from s ≡ Some (p.1, left)
+  pub spent : is_spent left ≡ true
+  pub dir_is : p.0 ≡ dir
+  pub dir_ok : IsTrue (admits Q_DIR dir)

@@ -1,0 +1,111 @@
+//! What a typed packet has to give: its body, the whole of its row after a direction.
+
+ghost use Rattle.std.specs.Prelude.{◌≡◌, ℕ, Option, Some, None, IfOk, IfSome, IfNone};
+ghost use Rattle.etcs_bodies.specs.Taking.{Left};
+ghost use Rattle.etcs_bodies.specs.PacketCodes.{PacketCodes};
+
+use crate::framed::Framed;
+use crate::numbers::Numbers;
+use crate::packetlike::Packetlike;
+use etcs_bits::BitSlice;
+use etcs_tables::Way;
+use etcs_vars::parts::{Variables, append_numbers};
+use std::alloc::{AllocError, Global};
+
+/// The body of a typed packet, which makes it a `Packetlike` and a `Framed`.
+pub trait Body: Variables + Sized {
+    ghost use Rattle.etcs_tables.specs.declared.row.Way.{Way};
+
+    /// Its NID_PACKET.
+    const NID: u8;
+
+    /// Which way it goes.
+    const WAY: Way;
+
+    ghost NID: { ℕ };
+
+    ghost WAY: { Way };
+
+    /// Its Q_DIR.
+    ghost direction: { Self → ℕ };
+
+    /// Holds of every packet of the type.
+    ghost is_value: { Self → Type 0 };
+
+    /// The packet of a direction that takes all that is left.
+    ghost read_from: { ℕ → Left → Option Self };
+
+    /// Its Q_DIR.
+    fn q_dir(&self) -> u8
+        ensures dir { result ≡ direction self.now }
+        ensures value { is_value self.now };
+
+    /// The packet of a direction that takes all of the numbers.
+    ///
+    /// # Errors
+    ///
+    /// `AllocError` where there is no memory.
+    fn read(alloc: Global, dir: u8, numbers: Numbers<'_>) -> Result<Option<Self>, AllocError>
+        ensures some { IfOk result (λ o. IfSome o (λ p. read_from dir numbers.entry ≡ Some p)) }
+        ensures none { IfOk result (λ o. IfNone o (read_from dir numbers.entry ≡ None)) };
+
+    /// An equal packet.
+    ///
+    /// # Errors
+    ///
+    /// `AllocError` where there is no memory.
+    fn copy(&self, alloc: Global) -> Result<Self, AllocError>
+        ensures { IfOk result (λ p. p ≡ self.now) };
+
+    /// What it is read from is what it spells.
+    ghost codes: { PacketCodes WAY NID direction is_value Self.reading_of read_from };
+}
+
+impl<P: Body> Packetlike for P {
+    ghost use Rattle.etcs_vars.specs.Reading.{numbers};
+    ghost use Rattle.etcs_bodies.specs.laws.PacketCodes.{all_typed, all_apart};
+
+    const NID: u8 = <P as Body>::NID;
+
+    const WAY: Way = <P as Body>::WAY;
+
+    ghost NID = { P.Body.NID };
+
+    ghost WAY = { P.Body.WAY };
+
+    ghost direction = { λ p. P.Body.direction p };
+
+    ghost fields_of = { λ p. numbers (P.reading_of p) };
+
+    ghost is_value = { λ p. P.Body.is_value p };
+
+    ghost admitted = { all_typed P.codes };
+
+    ghost one_to_one = { all_apart P.codes };
+
+    fn dir(&self) -> u8 {
+        self.q_dir()
+    }
+
+    fn fields(&self, out: &mut Vec<u64>) -> Result<(), AllocError> {
+        append_numbers(self, out)
+    }
+
+    fn from_fields(alloc: Global, dir: u8, fields: &[u64]) -> Result<Option<P>, AllocError> {
+        P::read(alloc, dir, Numbers::new(fields))
+    }
+}
+
+impl<P: Body> Framed for P {
+    ghost use Rattle.etcs_bodies.specs.laws.PacketCodes.{all_framed};
+
+    ghost framed = { all_framed P.codes };
+
+    fn from_bits(alloc: Global, dir: u8, bits: BitSlice<'_>) -> Result<Option<P>, AllocError> {
+        P::read(alloc, dir, Numbers::in_bits(bits))
+    }
+
+    fn try_clone(&self, alloc: Global) -> Result<P, AllocError> {
+        self.copy(alloc)
+    }
+}

@@ -1,0 +1,34 @@
+//! What the crates above ask of a typed packet.
+
+ghost use Rattle.std.specs.Prelude.{◌≡◌, IfOk, IfSome, IsNone};
+ghost use Rattle.etcs_vars.specs.Reading.{Reading, numbers, spelled};
+ghost use Rattle.etcs_tables.specs.Typed.{IsFramed};
+
+use crate::packetlike::Packetlike;
+use etcs_bits::BitSlice;
+use etcs_vars::parts::Variables;
+use std::alloc::{AllocError, Global};
+
+/// A typed packet with its variables behind L_PACKET, which it also is made of.
+pub trait Framed: Packetlike + Variables {
+    /// The packet of a direction and of the bits behind L_PACKET; `None` exactly where the direction isn't admitted
+    /// or the bits are no spelling of the row.
+    ///
+    /// # Errors
+    ///
+    /// `AllocError` where there is no memory.
+    fn from_bits(alloc: Global, dir: u8, bits: BitSlice<'_>) -> Result<Option<Self>, AllocError>
+        ensures some { IfOk result (λ o. IfSome o (λ p. Self.is_value p × (Self.direction p ≡ dir) × (spelled (Self.reading_of p) ≡ bits.entry))) }
+        ensures none { IfOk result (λ o. IsNone o → (r : Reading) → IsFramed Self.WAY Self.NID dir r → spelled r ≡ bits.entry → ⊥) };
+
+    /// An equal packet.
+    ///
+    /// # Errors
+    ///
+    /// `AllocError` where there is no memory.
+    fn try_clone(&self, alloc: Global) -> Result<Self, AllocError>
+        ensures { IfOk result (λ p. p ≡ self.now) };
+
+    /// Its variables are those of its row, and their numbers are its own.
+    ghost framed: { (p : Self) → Self.is_value p → IsFramed Self.WAY Self.NID (Self.direction p) (Self.reading_of p) × (numbers (Self.reading_of p) ≡ Self.fields_of p) };
+}

@@ -1,0 +1,23 @@
+//! What the body of a packet is made of: numbers that are taken one after another, parts, lists of parts.
+#![tactic(auto)]
+
+mod body;
+mod entries;
+mod faults;
+mod framed;
+mod guards;
+mod items;
+pub mod laws;
+mod numbers;
+mod packetlike;
+mod part;
+
+pub use body::Body;
+pub use entries::{Entries, Entry};
+pub use faults::{check, check_count};
+pub use framed::Framed;
+pub use guards::check_guard;
+pub use items::Items;
+pub use numbers::Numbers;
+pub use packetlike::Packetlike;
+pub use part::{Part, clone_all, hold_all, send_list, take_list};

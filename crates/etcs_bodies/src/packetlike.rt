@@ -1,0 +1,63 @@
+//! What every typed packet is.
+
+ghost use Rattle.std.specs.Prelude.{◌≡◌, ℕ, List, ◌++◌, OnOk, OnErr, IfOk, IfSome, IsNone};
+ghost use Rattle.etcs_tables.specs.Typed.{IsTyped};
+
+use etcs_tables::Way;
+use std::alloc::{AllocError, Global};
+
+/// A typed packet: its number, its direction and the numbers of its row.
+///
+/// A type has a value for each direction that Q_DIR admits and each list of numbers that the row of its
+/// packet spells, and no other value.
+pub trait Packetlike: Sized {
+    ghost use Rattle.etcs_tables.specs.declared.row.Way.{Way};
+
+    /// Its NID_PACKET.
+    const NID: u8;
+
+    /// Which way it goes.
+    const WAY: Way;
+
+    ghost NID: { ℕ };
+
+    ghost WAY: { Way };
+
+    ghost direction: { Self → ℕ };
+
+    /// The numbers behind L_PACKET, in the row's order.
+    ghost fields_of: { Self → List ℕ };
+
+    /// Holds of every packet of the type, as `dir` says; a law's variables range over more.
+    ghost is_value: { Self → Type 0 };
+
+    /// Its Q_DIR.
+    fn dir(&self) -> u8
+        ensures dir { result ≡ direction self.now }
+        ensures value { is_value self.now };
+
+    /// Appends the numbers behind L_PACKET in the order of the row, one for each variable that stands there.
+    ///
+    /// # Errors
+    ///
+    /// `AllocError` where there is no memory; `out` then stays as it was.
+    fn fields(&self, out: &mut Vec<u64>) -> Result<(), AllocError>
+        ensures ok { OnOk result (out.new.items ≡ out.old.items ++ fields_of self.now) }
+        ensures err { OnErr result (out.new.items ≡ out.old.items) };
+
+    /// The packet of a direction and of the numbers behind L_PACKET; `None` exactly where the direction isn't
+    /// admitted or the row has no such numbers.
+    ///
+    /// # Errors
+    ///
+    /// `AllocError` where there is no memory.
+    fn from_fields(alloc: Global, dir: u8, fields: &[u64]) -> Result<Option<Self>, AllocError>
+        ensures some { IfOk result (λ o. IfSome o (λ p. is_value p × (direction p ≡ dir) × (fields_of p ≡ fields.now))) }
+        ensures none { IfOk result (λ o. IsNone o → IsTyped WAY NID dir fields.now → ⊥) };
+
+    /// Each value is a packet.
+    ghost admitted: { (p : Self) → is_value p → IsTyped WAY NID (direction p) (fields_of p) };
+
+    /// No two values have one direction and the same numbers.
+    ghost one_to_one: { (p q : Self) → is_value p → is_value q → direction p ≡ direction q → fields_of p ≡ fields_of q → p ≡ q };
+}

@@ -1,0 +1,113 @@
+//! What every part of a packet is, and lists of parts.
+
+ghost use Rattle.std.specs.Prelude.{◌≡◌, ◌++◌, ◌<◌, ℕ, List, Option, Some, None, OnOk, OnErr, IfOk, IfSome, IfNone, length, All};
+ghost use Rattle.etcs_vars.specs.Reading.{spelled};
+ghost use Rattle.etcs_bodies.specs.Taking.{Left, times_from};
+ghost use Rattle.etcs_bodies.specs.Codecs.{IsEntries, list_reading, list_from, both_from};
+ghost use Rattle.etcs_vars.specs.declared.var.Var.TheVariants.{N_ITER};
+ghost use Rattle.etcs_bodies.specs.Faults.{count_fault};
+
+use crate::numbers::Numbers;
+use etcs_vars::Var;
+use etcs_vars::parts::{Sink, Variables, bits_of_all, send_all};
+use std::alloc::{AllocError, Global};
+
+/// A part of a packet: a run of variables of its row.
+pub trait Part: Variables + Sized {
+    ghost use Rattle.etcs_bodies.specs.Taking.{Left};
+
+    /// The part with which what is left begins, and what is behind it.
+    ghost read_from: { Left → Option (Self × Left) };
+
+    /// Holds of every value of the type.
+    ghost is_part: { Self → Type 0 };
+
+    /// This part is one of the type's.
+    fn holds(&self)
+        ensures { is_part self.now };
+
+    /// Takes the part that the numbers begin with, if they begin with one.
+    fn take(alloc: Global, numbers: &mut Numbers) -> Result<Option<Self>, AllocError>
+        ensures part { IfOk result (λ o. IfSome o (λ p. is_part p)) }
+        ensures from { IfOk result (λ o. IfSome o (λ p. read_from numbers.old ≡ Some (p, numbers.new))) }
+        ensures none { IfOk result (λ o. IfNone o (read_from numbers.old ≡ None)) };
+
+    /// An equal part.
+    fn try_clone(&self, alloc: Global) -> Result<Self, AllocError>
+        ensures { IfOk result (λ p. p ≡ self.now) };
+}
+
+/// Says of each of them that it is a part.
+pub fn hold_all<P: Part>(parts: &[P])
+    ensures { All P.is_part parts.now }
+{
+    for part in parts {
+        part.holds();
+    }
+}
+
+/// Equal parts.
+pub fn clone_all<P: Part + Drop>(alloc: Global, parts: &[P]) -> Result<Vec<P>, AllocError>
+    ensures { IfOk result (λ ps. ps.items ≡ parts.now) }
+{
+    let mut copies = Vec::with_capacity(alloc, parts.len())?;
+    for part in parts {
+        copies.push(part.try_clone(alloc)?)?;
+    }
+    Ok(copies)
+}
+
+/// Takes so many parts.
+fn take_all<P: Part + Drop>(
+    alloc: Global,
+    numbers: &mut Numbers,
+    count: usize,
+) -> Result<Option<Vec<P>>, AllocError>
+    ensures count { IfOk result (λ o. IfSome o (λ ps. length ps.items ≡ count)) }
+    ensures parts { IfOk result (λ o. IfSome o (λ ps. All P.is_part ps.items)) }
+    ensures from { IfOk result (λ o. IfSome o (λ ps. times_from P.read_from count numbers.old ≡ Some (ps.items, numbers.new))) }
+    ensures none { IfOk result (λ o. IfNone o (times_from P.read_from count numbers.old ≡ None)) }
+{
+    let mut parts = Vec::with_capacity(alloc, count)?;
+    for _ in 0..count {
+        match P::take(alloc, numbers)? {
+            Some(part) => parts.push(part)?,
+            None => return Ok(None),
+        }
+    }
+    Ok(Some(parts))
+}
+
+/// Takes a list of parts behind its count.
+#[tactic(auto, using(crate::specs::laws::Repeats::list_is, crate::specs::laws::Repeats::list_missing, crate::specs::laws::Repeats::list_uncounted, crate::specs::laws::Takes::counted_is))]
+pub fn take_list<P: Part + Drop>(
+    alloc: Global,
+    count: Var,
+    numbers: &mut Numbers,
+) -> Result<Option<Vec<P>>, AllocError>
+    ensures count { IfOk result (λ o. IfSome o (λ ps. count_fault count (length ps.items) ≡ None)) }
+    ensures parts { IfOk result (λ o. IfSome o (λ ps. All P.is_part ps.items)) }
+    ensures from { IfOk result (λ o. IfSome o (λ ps. list_from count P.read_from numbers.old ≡ Some (ps.items, numbers.new))) }
+    ensures none { IfOk result (λ o. IfNone o (list_from count P.read_from numbers.old ≡ None)) }
+{
+    let Some(many) = numbers.next(count) else {
+        return Ok(None);
+    };
+    let Some(parts) = take_all(alloc, numbers, many as usize)? else {
+        return Ok(None);
+    };
+    Ok(Some(parts))
+}
+
+/// Sends a list of parts behind its count.
+///
+/// # Errors
+///
+/// That of the sink.
+pub fn send_list<P: Part, S: Sink>(count: Var, parts: &[P], out: &mut S) -> Result<(), AllocError>
+    ensures ok { OnOk result (out.new ≡ S.with out.old (list_reading count P.reading_of parts.now)) }
+    ensures err { OnErr result (S.failed out.old out.new) }
+{
+    out.send(&[(count, parts.len() as u64)])?;
+    send_all(parts, out)
+}

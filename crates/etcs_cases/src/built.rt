@@ -1,0 +1,456 @@
+//! Lines about packets that are built by their constructors.
+//!
+//! A constructor's name, and `DIR ..`: `refused` and the fault. The same, and ` : NUMBERS : BITS`: as `packet`.
+//!
+//! A constructor's arguments are numbers: parts as the row has them, and the last list without its count. Those of
+//! `flat_packet` begin with NID, those of `plain_text` have how many numbers the frame has after DIR.
+
+use crate::case::{Case, FaultTexts};
+use crate::packets::{FAULTS, Spelled, check_packet, kept, marker, say_checked};
+use crate::parts::{FAULTS as FAULTS_OF_PARTS, check_numbers, next_part};
+use crate::sent::packet_sent;
+use etcs_bits::Bits;
+use etcs_bodies::{Numbers, Part};
+use etcs_packets::{
+    Authority, ConditionalLevelOrder, FixedText, Flat, Gradient, InfillLocation, Level, Level1Ma,
+    Level23Ma, LevelAck, LevelOrder, Link, Linking, Other, Packet, PlainText, Slope, Speed,
+    SpeedProfile, TextFrame, parts,
+};
+use etcs_vars::BuildFault;
+use etcs_vars::parts::append_numbers;
+
+/// Answers a line about a packet that is built: whether it is one.
+pub(crate) fn answer(case: &mut Case, kind: &str) -> bool {
+    match kind {
+        "flat" => flat(case),
+        "kept" => kept_bits(case),
+        "kept_long" => kept_long(case),
+        "marker" => say_marker(case),
+        "linking"
+        | "gradient"
+        | "speed_profile"
+        | "level1_ma"
+        | "level23_ma"
+        | "level_order"
+        | "conditional_level_order"
+        | "plain_text"
+        | "fixed_text"
+        | "infill_location"
+        | "flat_packet" => built(case, kind),
+        _ => return false,
+    }
+    true
+}
+
+/// Answers a constructor's arguments, or them and `: NUMBERS : BITS`.
+fn built(case: &mut Case, kind: &str) {
+    let behind = case.split(":");
+    let words = case.numbers();
+    let packet = made(case, kind, words.as_slice());
+    case.go_on(behind);
+    match packet.as_ref() {
+        Some(packet) if !behind.is_empty() => say_built(case, packet),
+        packet => case.say(if packet.is_some() { "built" } else { "" }),
+    }
+}
+
+/// The frame of a packet that is as `NUMBERS : BITS` has it.
+fn say_built(case: &mut Case, packet: &Packet) {
+    let dir = parts::dir(packet).unwrap_or(3);
+    let spelled = Spelled::next(case, packet.nid(), dir);
+    say_checked(case, packet, &spelled);
+}
+
+/// The packet that a constructor builds of these numbers.
+fn made(case: &mut Case, kind: &str, words: &[u64]) -> Option<Packet> {
+    let [first, left @ ..] = words else {
+        return None;
+    };
+    let first = case.byte_of(*first);
+    match kind {
+        "linking" => linking(case, first, left),
+        "gradient" => gradient(case, first, left),
+        "speed_profile" => speed_profile(case, first, left),
+        "level1_ma" => level1_ma(case, first, left),
+        "level23_ma" => level23_ma(case, first, left),
+        "level_order" => level_order(case, first, left),
+        "conditional_level_order" => conditional_level_order(case, first, left),
+        "plain_text" => plain_text(case, first, left),
+        "fixed_text" => fixed_text(case, first, left),
+        "infill_location" => infill_location(case, first, left),
+        _ => {
+            let [dir, left @ ..] = left else {
+                return None;
+            };
+            let dir = case.byte_of(*dir);
+            found(case, flat_packet(first, dir, left), &FAULTS)
+        }
+    }
+}
+
+/// What was built, or why nothing was.
+fn found(
+    case: &mut Case,
+    built: Result<Packet, BuildFault>,
+    faults: &FaultTexts,
+) -> Option<Packet> {
+    match built {
+        Ok(packet) => Some(packet),
+        Err(fault) => {
+            case.say_fault(fault, faults);
+            None
+        }
+    }
+}
+
+/// The parts of all these numbers.
+fn all<P: Part + Drop>(case: &mut Case, numbers: &[u64]) -> Option<(P, Vec<P>)> {
+    let mut numbers = Numbers::new(numbers);
+    let mut further = Vec::new(case.alloc());
+    let first = next_part(case, &mut numbers)?;
+    for _ in 0..1000u16 {
+        if !numbers.is_empty() {
+            let part = next_part(case, &mut numbers)?;
+            case.kept(further.push(part).is_ok());
+        }
+    }
+    Some((first, further))
+}
+
+/// Checks that parts are those of these numbers.
+fn check_parts<P: Part>(case: &mut Case, first: &P, further: &[P], numbers: &[u64]) {
+    let mut own = Vec::new(case.alloc());
+    case.kept(append_numbers(first, &mut own).is_ok());
+    for part in further {
+        case.kept(append_numbers(part, &mut own).is_ok());
+    }
+    case.check(own.as_slice() == numbers, "other parts");
+}
+
+/// `DIR Q_SCALE FIRST FURTHER..`
+fn linking(case: &mut Case, dir: u8, words: &[u64]) -> Option<Packet> {
+    let [scale, left @ ..] = words else {
+        return None;
+    };
+    let scale = case.byte_of(*scale);
+    let (first, further): (Link, Vec<Link>) = all(case, left)?;
+    match Linking::new(dir, scale, first, further) {
+        Ok(packet) => {
+            case.check(packet.q_scale() == scale, "another scale");
+            check_parts(case, &packet.first(), packet.further(), left);
+            Some(Packet::Linking(packet))
+        }
+        Err((fault, back)) => {
+            case.say_fault(fault, &FAULTS);
+            check_parts(case, &first, back.as_slice(), left);
+            None
+        }
+    }
+}
+
+/// `DIR Q_SCALE FIRST FURTHER..`
+fn gradient(case: &mut Case, dir: u8, words: &[u64]) -> Option<Packet> {
+    let [scale, left @ ..] = words else {
+        return None;
+    };
+    let scale = case.byte_of(*scale);
+    let (first, further): (Slope, Vec<Slope>) = all(case, left)?;
+    match Gradient::new(dir, scale, first, further) {
+        Ok(packet) => {
+            case.check(packet.q_scale() == scale, "another scale");
+            check_parts(case, &packet.first(), packet.further(), left);
+            Some(Packet::Gradient(packet))
+        }
+        Err((fault, back)) => {
+            case.say_fault(fault, &FAULTS);
+            check_parts(case, &first, back.as_slice(), left);
+            None
+        }
+    }
+}
+
+/// `DIR Q_SCALE FIRST FURTHER..`
+fn speed_profile(case: &mut Case, dir: u8, words: &[u64]) -> Option<Packet> {
+    let [scale, left @ ..] = words else {
+        return None;
+    };
+    let scale = case.byte_of(*scale);
+    let (first, further): (Speed, Vec<Speed>) = all(case, left)?;
+    match SpeedProfile::new(dir, scale, first, further) {
+        Ok(packet) => {
+            case.check(packet.q_scale() == scale, "another scale");
+            check_parts(case, packet.first(), packet.further(), left);
+            Some(Packet::SpeedProfile(packet))
+        }
+        Err((fault, first, back)) => {
+            case.say_fault(fault, &FAULTS);
+            check_parts(case, &first, back.as_slice(), left);
+            None
+        }
+    }
+}
+
+/// `DIR Q_SCALE V_MAIN V_LOA T_LOA AUTHORITY`
+fn level1_ma(case: &mut Case, dir: u8, words: &[u64]) -> Option<Packet> {
+    let [scale, v_main, v_loa, t_loa, left @ ..] = words else {
+        return None;
+    };
+    let scale = case.byte_of(*scale);
+    let v_main = case.byte_of(*v_main);
+    let v_loa = case.byte_of(*v_loa);
+    let t_loa = case.half_of(*t_loa);
+    let authority: Authority = next_part(case, &mut Numbers::new(left))?;
+    match Level1Ma::new(dir, scale, v_main, v_loa, t_loa, authority) {
+        Ok(packet) => {
+            case.check(packet.q_scale() == scale, "another scale");
+            case.check(packet.v_main() == v_main, "another signal");
+            case.check(packet.v_loa() == v_loa, "another speed");
+            case.check(packet.t_loa() == t_loa, "another time");
+            check_numbers(case, packet.authority(), left);
+            Some(Packet::Level1Ma(packet))
+        }
+        Err((fault, back)) => {
+            case.say_fault(fault, &FAULTS);
+            check_numbers(case, &back, left);
+            None
+        }
+    }
+}
+
+/// `DIR Q_SCALE V_LOA T_LOA AUTHORITY`
+fn level23_ma(case: &mut Case, dir: u8, words: &[u64]) -> Option<Packet> {
+    let [scale, v_loa, t_loa, left @ ..] = words else {
+        return None;
+    };
+    let scale = case.byte_of(*scale);
+    let v_loa = case.byte_of(*v_loa);
+    let t_loa = case.half_of(*t_loa);
+    let authority: Authority = next_part(case, &mut Numbers::new(left))?;
+    match Level23Ma::new(dir, scale, v_loa, t_loa, authority) {
+        Ok(packet) => {
+            case.check(packet.q_scale() == scale, "another scale");
+            case.check(packet.v_loa() == v_loa, "another speed");
+            case.check(packet.t_loa() == t_loa, "another time");
+            check_numbers(case, packet.authority(), left);
+            Some(Packet::Level23Ma(packet))
+        }
+        Err((fault, back)) => {
+            case.say_fault(fault, &FAULTS);
+            check_numbers(case, &back, left);
+            None
+        }
+    }
+}
+
+/// `DIR Q_SCALE D_LEVELTR FIRST FURTHER..`
+fn level_order(case: &mut Case, dir: u8, words: &[u64]) -> Option<Packet> {
+    let [scale, d_leveltr, left @ ..] = words else {
+        return None;
+    };
+    let scale = case.byte_of(*scale);
+    let d_leveltr = case.half_of(*d_leveltr);
+    let (first, further): (LevelAck, Vec<LevelAck>) = all(case, left)?;
+    match LevelOrder::new(dir, scale, d_leveltr, first, further) {
+        Ok(packet) => {
+            case.check(packet.q_scale() == scale, "another scale");
+            case.check(packet.d_leveltr() == d_leveltr, "another distance");
+            check_parts(case, &packet.first(), packet.further(), left);
+            Some(Packet::LevelOrder(packet))
+        }
+        Err((fault, back)) => {
+            case.say_fault(fault, &FAULTS);
+            check_parts(case, &first, back.as_slice(), left);
+            None
+        }
+    }
+}
+
+/// `DIR FIRST FURTHER..`
+fn conditional_level_order(case: &mut Case, dir: u8, left: &[u64]) -> Option<Packet> {
+    let (first, further): (Level, Vec<Level>) = all(case, left)?;
+    match ConditionalLevelOrder::new(dir, first, further) {
+        Ok(packet) => {
+            check_parts(case, &packet.first(), packet.further(), left);
+            Some(Packet::ConditionalLevelOrder(packet))
+        }
+        Err((fault, back)) => {
+            case.say_fault(fault, &FAULTS);
+            check_parts(case, &first, back.as_slice(), left);
+            None
+        }
+    }
+}
+
+/// The bytes of a text.
+fn text_of(case: &mut Case, numbers: &[u64]) -> Vec<u8> {
+    let mut text = Vec::new(case.alloc());
+    for number in numbers {
+        let byte = case.byte_of(*number);
+        case.kept(text.push(byte).is_ok());
+    }
+    text
+}
+
+/// `DIR LENGTH FRAME BYTES..`, where the frame has so many numbers
+fn plain_text(case: &mut Case, dir: u8, words: &[u64]) -> Option<Packet> {
+    let [length, left @ ..] = words else {
+        return None;
+    };
+    let (framed, bytes) = left.split_at_checked(usize::from(case.byte_of(*length)))?;
+    let frame: TextFrame = next_part(case, &mut Numbers::new(framed))?;
+    let text = text_of(case, bytes);
+    let same = text_of(case, bytes);
+    match PlainText::new(dir, frame, text) {
+        Ok(packet) => {
+            case.check(packet.text() == same.as_slice(), "another text");
+            check_numbers(case, &packet.frame(), framed);
+            Some(Packet::PlainText(packet))
+        }
+        Err((fault, back)) => {
+            case.say_fault(fault, &FAULTS);
+            case.check(back == same, "another text back");
+            None
+        }
+    }
+}
+
+/// `DIR Q_TEXT FRAME`
+fn fixed_text(case: &mut Case, dir: u8, words: &[u64]) -> Option<Packet> {
+    let [q_text, left @ ..] = words else {
+        return None;
+    };
+    let q_text = case.byte_of(*q_text);
+    let frame: TextFrame = next_part(case, &mut Numbers::new(left))?;
+    match FixedText::new(dir, frame, q_text) {
+        Ok(packet) => {
+            case.check(packet.q_text() == q_text, "another text");
+            check_numbers(case, &packet.frame(), left);
+            Some(Packet::FixedText(packet))
+        }
+        Err(fault) => found(case, Err(fault), &FAULTS),
+    }
+}
+
+/// `DIR NID_BG`, or `DIR NID_BG NID_C`
+fn infill_location(case: &mut Case, dir: u8, words: &[u64]) -> Option<Packet> {
+    let [nid_bg, left @ ..] = words else {
+        return None;
+    };
+    let nid_bg = case.half_of(*nid_bg);
+    let nid_c = match left.first() {
+        Some(country) => Some(case.half_of(*country)),
+        None => None,
+    };
+    match InfillLocation::new(dir, nid_c, nid_bg) {
+        Ok(packet) => {
+            case.check(packet.nid_c() == nid_c, "another country");
+            case.check(packet.nid_bg() == nid_bg, "another group");
+            Some(Packet::InfillLocation(packet))
+        }
+        Err(fault) => found(case, Err(fault), &FAULTS),
+    }
+}
+
+/// The packet without groups of a number, a direction and its numbers.
+fn flat_packet(nid: u8, dir: u8, numbers: &[u64]) -> Result<Packet, BuildFault> {
+    Ok(match nid {
+        2 => Packet::SystemVersion(Flat::new(dir, numbers)?),
+        16 => Packet::Repositioning(Flat::new(dir, numbers)?),
+        42 => Packet::SessionManagement(Flat::new(dir, numbers)?),
+        45 => Packet::RadioNetwork(Flat::new(dir, numbers)?),
+        64 => Packet::InhibitTsr(Flat::new(dir, numbers)?),
+        65 => Packet::Tsr(Flat::new(dir, numbers)?),
+        66 => Packet::TsrRevocation(Flat::new(dir, numbers)?),
+        132 => Packet::DangerForShunting(Flat::new(dir, numbers)?),
+        135 => Packet::StopShunting(Flat::new(dir, numbers)?),
+        137 => Packet::StopInSr(Flat::new(dir, numbers)?),
+        140 => Packet::TrainRunningNumber(Flat::new(dir, numbers)?),
+        141 => Packet::TsrGradient(Flat::new(dir, numbers)?),
+        145 => Packet::InhibitConsistency(Flat::new(dir, numbers)?),
+        254 => Packet::DefaultInformation(Flat::new(dir, numbers)?),
+        0 => return Err(refused::<0>(dir, numbers)),
+        44 => return Err(refused::<44>(dir, numbers)),
+        46 => return Err(refused::<46>(dir, numbers)),
+        136 => return Err(refused::<136>(dir, numbers)),
+        255 => return Err(refused::<255>(dir, numbers)),
+        _ => return Err(BuildFault::Count),
+    })
+}
+
+/// Why there is no packet without groups of this number.
+fn refused<const NID: u8>(dir: u8, numbers: &[u64]) -> BuildFault {
+    match Flat::<NID>::new(dir, numbers) {
+        Ok(_) => BuildFault::FillLength,
+        Err(fault) => fault,
+    }
+}
+
+/// `flat NID DIR NUMBERS`: the variables and bits of a packet without groups, or why there is none.
+fn flat(case: &mut Case) {
+    let nid = case.byte();
+    let dir = case.byte();
+    let numbers = case.numbers();
+    let built = flat_packet(nid, dir, numbers.as_slice());
+    let packet = found(case, built, &FAULTS_OF_PARTS);
+    if let Some(packet) = packet.as_ref() {
+        say_flat(case, packet, nid, dir, numbers);
+    }
+}
+
+/// The variables and the bits of a packet of these numbers.
+fn say_flat(case: &mut Case, packet: &Packet, nid: u8, dir: u8, numbers: Vec<u64>) {
+    let sent = packet_sent(case, packet);
+    let inner = sent.say_spelled(case);
+    let spelled = Spelled::new(nid, dir, numbers, inner, sent.len());
+    check_packet(case, packet, &spelled);
+}
+
+/// `kept NID DIR BITS`: the parts of a kept packet, or why there is none.
+fn kept_bits(case: &mut Case) {
+    let nid = case.byte();
+    let dir = case.byte();
+    let bits = case.bits();
+    let len = bits.len();
+    let packet = kept(case, nid, dir, bits, &FAULTS_OF_PARTS);
+    if let Some(Packet::Other(packet)) = packet.as_ref() {
+        say_kept(case, packet, len);
+    }
+}
+
+/// The parts of a packet that is kept as so many bits.
+fn say_kept(case: &mut Case, packet: &Other, len: usize) {
+    case.say_next(u64::from(packet.nid()));
+    case.say_next(u64::from(packet.dir()));
+    case.say_bits(&packet.body());
+    let same = packet.bits() == len && packet.body().len() == len;
+    case.check(same, "another length");
+    let copy = case.got(packet.try_clone(case.alloc()));
+    case.check(copy.as_ref() == Some(packet), "another copy");
+}
+
+/// `kept_long NID DIR COUNT`: `ok` for so many bits of bytes A5, or why there is no such packet.
+fn kept_long(case: &mut Case) {
+    let nid = case.byte();
+    let dir = case.byte();
+    let len = case.up_to(8176) as usize;
+    let body = case.bits_between("", "1022 x 10100101", "");
+    let packet = kept(case, nid, dir, first_bits(body, len), &FAULTS_OF_PARTS);
+    case.say(if packet.is_some() { "ok" } else { "" });
+}
+
+/// So many of these bits.
+fn first_bits(mut bits: Bits, len: usize) -> Bits {
+    if len < bits.len() {
+        bits.truncate(len);
+    }
+    bits
+}
+
+/// The marker's number, or why there is none: `marker NID_VBCMK`.
+fn say_marker(case: &mut Case) {
+    let packet = marker(case);
+    if let Some(packet) = packet.as_ref() {
+        let numbers = packet_sent(case, packet).numbers(case);
+        case.say_found(numbers.as_slice().first().copied());
+    }
+}

@@ -1,0 +1,32 @@
+//! Vector lines about bits, variables, rows, packets and their parts, and the words that all such lines are made of.
+#![tactic(auto)]
+
+mod bits;
+mod built;
+mod case;
+mod forms;
+mod names;
+mod packets;
+mod parts;
+mod rows;
+mod sent;
+mod sets;
+mod shapes;
+mod vars;
+mod walks;
+
+pub use case::{Case, FaultTexts};
+pub use names::variable;
+
+/// Answers a line of this kind: whether there is such a kind here.
+pub fn answer(case: &mut Case, kind: &str) -> bool {
+    let mut is_known = bits::answer(case, kind);
+    is_known |= vars::answer(case, kind);
+    is_known |= sets::answer(case, kind);
+    is_known |= rows::answer(case, kind);
+    is_known |= walks::answer(case, kind);
+    is_known |= parts::answer(case, kind);
+    is_known |= packets::answer(case, kind);
+    is_known |= built::answer(case, kind);
+    is_known
+}

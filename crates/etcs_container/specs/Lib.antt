@@ -1,4 +1,0 @@
-pub mod Contents
-pub mod Phases
-pub mod Spellings
-pub mod Runs

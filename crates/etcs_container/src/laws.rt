@@ -1,8 +1,0 @@
-//! Laws, each the contract of a function.
-
-ghost use Rattle.etcs_container.specs.Spellings.{OneSpelling};
-
-/// Packets of one room with one spelling are the same, and no spelling of them begins another.
-pub fn one_spelling()
-    ensures { OneSpelling }
-{}

@@ -1,0 +1,28 @@
+-- Further lemmas beside specs/laws/FlatLaws.antt.
+use Rattle.std.proofs.Common.{◌≡◌, ℕ, ◌≤◌, List, [], ◌∷◌, length, Option, None, refl, ap, ◌∙◌, arith}
+use Rattle.etcs_vars.specs.declared.var.Var.{Var}
+use Rattle.etcs_vars.specs.Reading.{numbers}
+use Rattle.etcs_flat.specs.Flats.{flat_row, flat_fault, pairs, row_reading, flat_reading}
+use Rattle.etcs_flat.specs.laws.FlatLaws.{row_short, nothing_wrong}
+
+-- ---- Readings of a row without groups.
+
+-- as many numbers as variables stand beside these
+pub pairs-numbers : (vs : List Var) (ns : List ℕ) → length ns ≡ length vs → numbers (pairs vs ns) ≡ ns
+pairs-numbers [] [] long = refl
+pairs-numbers [] (n ∷ ns) long = absurd (omega arith)
+pairs-numbers (v ∷ vs) [] long = absurd (omega arith)
+pairs-numbers (v ∷ vs) (n ∷ ns) long = ap (λ (g : List ℕ). n ∷ g) (pairs-numbers vs ns (omega (arith, long)))
+
+-- ---- What nothing is wrong with.
+
+pub flat_short : (nid dir : ℕ) (ns : List ℕ) → flat_fault nid dir ns ≡ None → length ns ≤ 6
+flat_short nid dir ns fine =
+    let x = nothing_wrong (flat_row nid) dir ns fine in
+    omega (arith, x.2, row_short nid x.0 x.1)
+
+-- its variables have its numbers
+pub flat_numbers : (nid dir : ℕ) (ns : List ℕ) → flat_fault nid dir ns ≡ None → numbers (flat_reading nid ns) ≡ ns
+flat_numbers nid dir ns fine =
+    let x = nothing_wrong (flat_row nid) dir ns fine in
+    ap (λ (o : Option (List Var)). numbers (row_reading o ns)) x.1 ∙ pairs-numbers x.0 ns x.2

@@ -1,0 +1,34 @@
+-- A packet without groups is a typed packet: what is taken for the variables of its row is what they spell.
+use Rattle.std.proofs.Common.{◌≡◌, ℕ, List, [], ◌∷◌, length, map, Option, Some, None}
+use Rattle.etcs_vars.specs.declared.var.Var.{Var}
+use Rattle.etcs_tables.specs.declared.item.RowItem.TheVariants.{One}
+use Rattle.etcs_tables.specs.Layouts.{Layout, one}
+use Rattle.etcs_bodies.specs.Taking.{Left}
+use Rattle.etcs_bodies.specs.PacketCodes.{packet_from, never}
+use Rattle.etcs_flat.specs.Flats.{FlatParts, flat_parts, flat_row, numbers_fault}
+use Rattle.etcs_flat.specs.Tables.{table_from}
+
+-- ---- The numbers of some variables.
+
+-- the row of these variables in front of a rest
+abbrev pub row_of : List Var → Layout → Layout
+row_of [] rest = rest
+row_of (v ∷ vs) rest = one v (row_of vs rest)
+
+-- as many as the variables, and admitted by them
+abbrev pub AreNumbers : List Var → List ℕ → Type 0
+AreNumbers vs ns = (length ns ≡ length vs) × (numbers_fault vs ns ≡ None)
+
+-- ---- A packet is a direction and such numbers.
+
+-- these variables, where there are some
+abbrev pub known : Option (List Var) → List Var
+known None = []
+known (Some vs) = vs
+
+abbrev pub row_from : Option (List Var) → ℕ → Left → Option FlatParts
+row_from o = packet_from (table_from (map One (known o))) never flat_parts
+
+-- the packet of a direction that takes all that is left
+abbrev pub flat_from : ℕ → ℕ → Left → Option FlatParts
+flat_from nid = row_from (flat_row nid)

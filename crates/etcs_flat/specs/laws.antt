@@ -1,0 +1,4 @@
+pub mod FlatCodes
+pub mod FlatLaws
+pub mod OtherLaws
+pub mod TableLaws

@@ -1,0 +1,79 @@
+-- Packets without groups with which nothing is wrong.
+use Rattle.std.proofs.Common.{◌≡◌, ℕ, ◌*◌, ◌≤◌, ◌==◌, Bool, true, false, List, [], ◌∷◌, length, Option, Some, None, refl, arith, rules}
+use Rattle.std.specs.Prelude.{IsTrue, if◌then◌else◌, nat_le}
+use Rattle.std.specs.Option.{option_map}
+use Rattle.std.proofs.lemmas.Option.{option_and_then_some}
+use Rattle.std.proofs.lemmas.Bool.Decides.{nat_tests}
+use Rattle.etcs_vars.specs.declared.var.Var.{Var}
+use Rattle.etcs_vars.specs.declared.var.Var.TheVariants.{Q_DIR}
+use Rattle.etcs_vars.specs.declared.fault.BuildFault.{BuildFault}
+use Rattle.etcs_vars.specs.declared.fault.BuildFault.TheVariants.{NotAdmitted, Count}
+use Rattle.etcs_vars.specs.Faults.{◌or_else◌, number_fault}
+use Rattle.etcs_vars.specs.Vars.{admits}
+use Rattle.etcs_vars.specs.Reading.{spelled}
+use Rattle.etcs_vars.proofs.Prefixes.{width-le}
+use Rattle.etcs_vars.proofs.Sent.{length-sent}
+use Rattle.etcs_tables.specs.declared.row.Way.TheVariants.{ToTrain}
+use Rattle.etcs_tables.specs.Rows.{row_to, rows_to}
+use Rattle.etcs_tables.proofs.EachRow.{of_each}
+use Rattle.etcs_flat.specs.Flats.{variables, flat_row, numbers_fault, row_fault, pairs}
+
+-- ---- Faults, one behind the other.
+
+pub none_both : (a b : Option BuildFault) → a or_else b ≡ None → (a ≡ None) × (b ≡ None)
+none_both None b e = (refl, e)
+none_both (Some x) b e = absurd cc
+
+pub number_fine : (v : Var) (n : ℕ) → number_fault v n ≡ None → IsTrue (admits v n)
+number_fine v n e = elim (admits v n) as (λ b. (if b then None else Some (NotAdmitted v)) ≡ None → IsTrue b) [ true ↦ λ _. refl | false ↦ λ x. absurd cc ] e
+
+pub fine_number : (v : Var) (n : ℕ) → IsTrue (admits v n) → number_fault v n ≡ None
+fine_number v n h = rw h refl
+
+count_fine : (ns : List ℕ) (vs : List Var) → (if length ns == length vs then None else Some Count) ≡ None → length ns ≡ length vs
+count_fine ns vs e = grind (arith, rules)
+
+pub same_count : {A : Type 0} (m n : ℕ) (x y : A) → m ≡ n → (if m == n then x else y) ≡ x
+same_count m n x y e = grind (arith, rules)
+
+-- ---- Readings of a row without groups.
+
+-- the variables of a row that begins with one
+pub behind_first : (v : Var) (o : Option (List Var)) (vs : List Var) → option_map (λ ws. v ∷ ws) o ≡ Some vs → (ws : List Var) × (o ≡ Some ws) × (v ∷ ws ≡ vs)
+behind_first v (Some ws) vs e = (ws, refl, cc)
+behind_first v None vs e = absurd cc
+
+pub pairs-short : (vs : List Var) (ns : List ℕ) → length (spelled (pairs vs ns)) ≤ 64 * length vs
+pairs-short [] ns = omega arith
+pairs-short (v ∷ vs) [] = omega arith
+pairs-short (v ∷ vs) (n ∷ ns) = omega (arith, length-sent v n (pairs vs ns), width-le v, pairs-short vs ns)
+
+-- ---- Every row without groups is short.
+
+-- at most six variables
+abbrev short : Option (List Var) → Bool
+short None = true
+short (Some vs) = nat_le (length vs) 6
+
+at_most_six : (o : Option (List Var)) (vs : List Var) → IsTrue (short o) → o ≡ Some vs → length vs ≤ 6
+at_most_six None vs h e = absurd cc
+at_most_six (Some ws) vs h e =
+    let same : ws ≡ vs = cc in
+    rw (← same) (grind (arith, nat_tests))
+
+pub row_short : (nid : ℕ) (vs : List Var) → flat_row nid ≡ Some vs → length vs ≤ 6
+row_short nid vs e =
+    option_and_then_some variables (row_to ToTrain nid) vs e
+    (λ row is its. at_most_six (variables row) vs (of_each (λ n r. short (variables r)) (rows_to ToTrain) nid row refl is) its)
+
+-- ---- What nothing is wrong with.
+
+pub nothing_wrong : (o : Option (List Var)) (dir : ℕ) (ns : List ℕ) → row_fault o dir ns ≡ None → (vs : List Var) × (o ≡ Some vs) × (length ns ≡ length vs) × IsTrue (admits Q_DIR dir) × (numbers_fault vs ns ≡ None)
+nothing_wrong None dir ns fine = absurd cc
+nothing_wrong (Some vs) dir ns fine =
+    let a = none_both ((if length ns == length vs then None else Some Count) or_else number_fault Q_DIR dir) (numbers_fault vs ns) fine in
+    let b = none_both (if length ns == length vs then None else Some Count) (number_fault Q_DIR dir) a.0 in
+    (vs, refl, count_fine ns vs b.0, number_fine Q_DIR dir b.1, a.1)
+
+pub nothing_found : (o : Option (List Var)) (vs : List Var) (dir : ℕ) (ns : List ℕ) → o ≡ Some vs → length ns ≡ length vs → IsTrue (admits Q_DIR dir) → numbers_fault vs ns ≡ None → row_fault o dir ns ≡ None
+nothing_found o vs dir ns is long admitted fine = rw (is, same_count (length ns) (length vs) None (Some Count) long, fine_number Q_DIR dir admitted) fine

@@ -1,0 +1,11 @@
+use Rattle.std.proofs.Common.{◌≡◌, ◌-◌, length, All}
+use Rattle.etcs_vars.specs.declared.var.Var.TheVariants.{X_TEXT}
+use Rattle.etcs_bodies.specs.Taking.{next_number, times_from}
+use Rattle.etcs_bodies.specs.Repeats.{behind}
+use Rattle.etcs_grouped.specs.PlainTexts.{IsByte}
+use Rattle.etcs_grouped.proofs.plain_text.take_bytes.Given as goal
+
+abbrev pub invariant-loop : goal.invariant-loop
+invariant-loop l =
+    (times_from (next_number X_TEXT) l.count l.fn.numbers ≡ behind l.bytes.items (times_from (next_number X_TEXT) (l.count - l.counter) l.numbers))
+    × (length l.bytes.items ≡ l.counter) × All IsByte l.bytes.items

@@ -1,0 +1,92 @@
+-- Packets of a scale, a first entry and further ones: 5, 21 and 27 (SUBSET-026, 7.4.2).
+use Rattle.std.proofs.Common.{◌≡◌, ℕ, List, ◌∷◌, length, Option, None, nat_le}
+use Rattle.std.specs.Prelude.{if◌then◌else◌}
+use Rattle.etcs_vars.specs.declared.var.Var.TheVariants.{Q_DIR, Q_SCALE, N_ITER}
+use Rattle.etcs_vars.specs.declared.fault.BuildFault.{BuildFault}
+use Rattle.etcs_vars.specs.Reading.{Reading}
+use Rattle.etcs_tables.specs.Layouts.{Layout}
+use Rattle.etcs_tables.specs.Rows.{◌▸◌}
+use Rattle.etcs_bodies.specs.Faults.{◌or_else◌, number_fault, count_fault}
+use Rattle.etcs_bodies.specs.Taking.{Left, next_number}
+use Rattle.etcs_bodies.specs.Codecs.{both_from, IsBoth}
+use Rattle.etcs_bodies.specs.Entries.{AreEntries, entries_reading, entries_from, entries_row}
+use Rattle.etcs_bodies.specs.Packets.{length_fault}
+use Rattle.etcs_bodies.specs.PacketCodes.{packet_from}
+use Rattle.etcs_parts.specs.Links.{LinkParts, IsLink, link_reading}
+use Rattle.etcs_parts.specs.Slopes.{SlopeParts, IsSlope, slope_reading}
+use Rattle.etcs_parts.specs.Speeds.{SpeedParts, IsSpeed, speed_reading}
+
+pub record ChainParts (V : Type 0) : Type 0 where
+  pub dir : ℕ
+  pub q_scale : ℕ
+  pub first : V
+  pub further : List V
+
+abbrev pub chain_parts : {V : Type 0} → ℕ → ℕ → V → List V → ChainParts V
+chain_parts dir q_scale first further = record { dir = dir; q_scale = q_scale; first = first; further = further }
+
+-- its variables in the order of sending
+abbrev pub chain_reading : {V : Type 0} → (V → Reading) → ChainParts V → Reading
+chain_reading reading p = (Q_SCALE, p.q_scale) ∷ entries_reading reading (p.first, p.further)
+
+-- more bits than L_PACKET counts, which only entries of more than 255 bits can take
+abbrev pub too_long : {V : Type 0} → ℕ → (V → Reading) → ChainParts V → Option BuildFault
+too_long most reading p = if nat_le most 255 then None else length_fault (chain_reading reading p)
+
+-- why it is none, where each of its entries is one, of at most so many bits
+abbrev pub chain_fault : {V : Type 0} → ℕ → (V → Reading) → ChainParts V → Option BuildFault
+chain_fault most reading p = number_fault Q_DIR p.dir or_else number_fault Q_SCALE p.q_scale or_else count_fault N_ITER (length p.further) or_else too_long most reading p
+
+-- ---- All but the direction.
+
+abbrev pub ChainBody : Type 0 → Type 0
+ChainBody V = ℕ × (V × List V)
+
+abbrev pub chain_of : {V : Type 0} → ℕ → ChainBody V → ChainParts V
+chain_of dir b = chain_parts dir b.0 b.1.0 b.1.1
+
+abbrev pub body_of : {V : Type 0} → ChainParts V → ChainBody V
+body_of p = (p.q_scale, (p.first, p.further))
+
+abbrev pub IsBody : {V : Type 0} → (V → Type 0) → ChainBody V → Type 0
+IsBody IsV = IsBoth (λ n. number_fault Q_SCALE n ≡ None) (AreEntries IsV)
+
+abbrev pub IsChain : {V : Type 0} → (V → Type 0) → ℕ → (V → Reading) → ChainParts V → Type 0
+IsChain IsV most reading p = (number_fault Q_DIR p.dir ≡ None) × IsBody IsV (body_of p) × (too_long most reading p ≡ None)
+
+-- the row in front of a rest
+abbrev pub chain_row : (Layout → Layout) → Layout → Layout
+chain_row row rest = Q_SCALE ▸ entries_row row rest
+
+-- the packet of a direction that takes all that is left
+unfoldable pub chain_from : {V : Type 0} → ℕ → (V → Reading) → (Left → Option (V × Left)) → ℕ → Left → Option (ChainParts V)
+chain_from most reading from = packet_from (both_from (next_number Q_SCALE) (entries_from from)) (too_long most reading) chain_of
+
+-- ---- Of links, slopes and speeds.
+
+abbrev pub linking_reading : ChainParts LinkParts → Reading
+linking_reading = chain_reading link_reading
+
+abbrev pub linking_fault : ChainParts LinkParts → Option BuildFault
+linking_fault = chain_fault 49 link_reading
+
+abbrev pub IsLinking : ChainParts LinkParts → Type 0
+IsLinking = IsChain IsLink 49 link_reading
+
+abbrev pub gradient_reading : ChainParts SlopeParts → Reading
+gradient_reading = chain_reading slope_reading
+
+abbrev pub gradient_fault : ChainParts SlopeParts → Option BuildFault
+gradient_fault = chain_fault 24 slope_reading
+
+abbrev pub IsGradient : ChainParts SlopeParts → Type 0
+IsGradient = IsChain IsSlope 24 slope_reading
+
+abbrev pub profile_reading : ChainParts SpeedParts → Reading
+profile_reading = chain_reading speed_reading
+
+abbrev pub profile_fault : ChainParts SpeedParts → Option BuildFault
+profile_fault = chain_fault 431 speed_reading
+
+abbrev pub IsSpeedProfile : ChainParts SpeedParts → Type 0
+IsSpeedProfile = IsChain IsSpeed 431 speed_reading

@@ -1,0 +1,47 @@
+-- Packet 76, the fixed text message (SUBSET-026, 7.4.2).
+use Rattle.std.proofs.Common.{◌≡◌, ℕ, [], ◌∷◌, ◌++◌, Option, None}
+use Rattle.etcs_vars.specs.declared.var.Var.TheVariants.{Q_DIR, Q_TEXT}
+use Rattle.etcs_vars.specs.declared.fault.BuildFault.{BuildFault}
+use Rattle.etcs_vars.specs.Reading.{Reading}
+use Rattle.etcs_bodies.specs.Faults.{◌or_else◌, number_fault}
+use Rattle.etcs_bodies.specs.Taking.{Left, next_number}
+use Rattle.etcs_bodies.specs.Codecs.{both_from, IsBoth}
+use Rattle.etcs_bodies.specs.PacketCodes.{packet_from, never}
+use Rattle.etcs_parts.specs.TextFrames.{TextFrameParts, IsTextFrame, text_frame_reading, text_frame_from}
+
+pub record FixedTextParts : Type 0 where
+  pub dir : ℕ
+  pub frame : TextFrameParts
+  pub q_text : ℕ
+
+abbrev pub fixed_text_parts : ℕ → TextFrameParts → ℕ → FixedTextParts
+fixed_text_parts dir frame q_text = record { dir = dir; frame = frame; q_text = q_text }
+
+-- its variables in the order of sending
+abbrev pub fixed_text_reading : FixedTextParts → Reading
+fixed_text_reading p = text_frame_reading p.frame ++ (Q_TEXT, p.q_text) ∷ []
+
+-- why it is none, where its frame is one
+abbrev pub fixed_text_fault : FixedTextParts → Option BuildFault
+fixed_text_fault p = number_fault Q_DIR p.dir or_else number_fault Q_TEXT p.q_text
+
+-- ---- All but the direction.
+
+abbrev pub FixedTextBody : Type 0
+FixedTextBody = TextFrameParts × ℕ
+
+abbrev pub body_of : FixedTextParts → FixedTextBody
+body_of p = (p.frame, p.q_text)
+
+abbrev pub fixed_text_of : ℕ → FixedTextBody → FixedTextParts
+fixed_text_of dir b = fixed_text_parts dir b.0 b.1
+
+abbrev pub IsBody : FixedTextBody → Type 0
+IsBody = IsBoth IsTextFrame (λ n. number_fault Q_TEXT n ≡ None)
+
+abbrev pub IsFixedText : FixedTextParts → Type 0
+IsFixedText p = (number_fault Q_DIR p.dir ≡ None) × IsBody (body_of p)
+
+-- the packet of a direction that takes all that is left
+unfoldable pub fixed_text_from : ℕ → Left → Option FixedTextParts
+fixed_text_from = packet_from (both_from text_frame_from (next_number Q_TEXT)) never fixed_text_of

@@ -1,0 +1,9 @@
+pub mod Chains
+pub mod ConditionalLevelOrders
+pub mod Equality
+pub mod FixedTexts
+pub mod InfillLocations
+pub mod Level1Mas
+pub mod Level23Mas
+pub mod LevelOrders
+pub mod PlainTexts

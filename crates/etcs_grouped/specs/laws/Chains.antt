@@ -1,0 +1,96 @@
+-- Lemmas about specs/Chains.antt.
+use Rattle.std.proofs.Common.{◌≡◌, ℕ, ◌+◌, ◌<◌, ◌≤◌, Bool, true, false, nat_eq, ◌&&◌, length, Option, Some, None, nat_le, refl, ◌∙◌, arith}
+use Rattle.std.specs.Prelude.{if◌then◌else◌}
+use Rattle.std.specs.Cmp.Lexicographic.{pointwise}
+use Rattle.std.proofs.lemmas.Bool.{leb-true, le-leb, lt-leb}
+use Rattle.etcs_vars.specs.declared.var.Var.TheVariants.{Q_SCALE}
+use Rattle.etcs_vars.specs.declared.fault.BuildFault.TheVariants.{TooLong}
+use Rattle.etcs_vars.specs.Reading.{Reading, spelled}
+use Rattle.etcs_tables.specs.declared.row.Way.{Way}
+use Rattle.etcs_tables.specs.declared.row.Way.TheVariants.{ToTrain}
+use Rattle.etcs_tables.specs.Layouts.{Layout, whole, ROW_LIMIT}
+use Rattle.etcs_tables.specs.Rows.{row_to}
+use Rattle.etcs_bodies.specs.Taking.{Left}
+use Rattle.etcs_bodies.specs.Repeats.{bit_count}
+use Rattle.etcs_bodies.specs.laws.Repeats.{bit_count_is}
+use Rattle.etcs_bodies.specs.Codecs.{Codes}
+use Rattle.etcs_bodies.specs.laws.Codecs.{number, both}
+use Rattle.etcs_bodies.specs.Entries.{AreEntries, entries_reading}
+use Rattle.etcs_bodies.specs.laws.Entries.{entries_codes, entries_most}
+use Rattle.etcs_bodies.specs.Packets.{bits_fault, length_fault}
+use Rattle.etcs_bodies.specs.laws.Packets.{length_fits, length_ok, length_is}
+use Rattle.etcs_bodies.specs.PacketCodes.{PacketCodes}
+use Rattle.etcs_bodies.specs.laws.PacketCodes.{packet_codes}
+use Rattle.etcs_bodies.specs.Equality.{IsExact}
+use Rattle.etcs_bodies.specs.laws.Equality.{number_exact, list_exact, both_exact, fields_exact}
+use Rattle.etcs_parts.specs.Links.{LinkParts, link_reading, link_from}
+use Rattle.etcs_parts.specs.laws.Links.{link_codes, link_most}
+use Rattle.etcs_parts.specs.Slopes.{SlopeParts, slope_reading, slope_from}
+use Rattle.etcs_parts.specs.laws.Slopes.{slope_codes, slope_most}
+use Rattle.etcs_parts.specs.Speeds.{SpeedParts, speed_reading, speed_from}
+use Rattle.etcs_parts.specs.laws.Speeds.{speed_codes, speed_most}
+use Rattle.etcs_grouped.specs.Chains.{ChainParts, chain_reading, too_long, chain_of, body_of, IsChain, chain_row, chain_from, linking_reading, IsLinking, gradient_reading, IsGradient, profile_reading, IsSpeedProfile}
+
+-- ---- Its bits.
+
+pub surely_short : {V : Type 0} (most : ℕ) (reading : V → Reading) (p : ChainParts V) → most ≤ 255 → too_long most reading p ≡ None
+surely_short most reading p h = rw (le-leb most 255 h) refl
+
+by_length : {V : Type 0} (most : ℕ) (reading : V → Reading) (p : ChainParts V) → 255 < most → (bits : ℕ) → bits ≡ length (spelled (entries_reading reading (p.first, p.further))) → too_long most reading p ≡ bits_fault (2 + bits)
+by_length most reading p h bits e = rw (lt-leb most 255 h) (length_is (chain_reading reading p) (2 + bits) (let c = e ∙ bit_count_is (entries_reading reading (p.first, p.further)) in omega arith))
+
+pub short_enough : {V : Type 0} (most : ℕ) (reading : V → Reading) (p : ChainParts V) → 255 < most → (bits : ℕ) → bits ≡ length (spelled (entries_reading reading (p.first, p.further))) → 2 + bits ≤ 8168 → too_long most reading p ≡ None
+unfolding bits_fault
+short_enough most reading p h bits e short = by_length most reading p h bits e ∙ rw (le-leb (2 + bits) ROW_LIMIT short) refl
+
+pub not_short : {V : Type 0} (most : ℕ) (reading : V → Reading) (p : ChainParts V) → 255 < most → (bits : ℕ) → bits ≡ length (spelled (entries_reading reading (p.first, p.further))) → 8168 < 2 + bits → too_long most reading p ≡ Some TooLong
+unfolding bits_fault
+not_short most reading p h bits e long = by_length most reading p h bits e ∙ rw (lt-leb (2 + bits) ROW_LIMIT long) refl
+
+module _ {V : Type 0} (IsV : V → Type 0) (reading : V → Reading) (most : ℕ) (each : (v : V) → IsV v → bit_count (reading v) ≤ most) where
+  by_most : (b : Bool) (p : ChainParts V) → nat_le most 255 ≡ b → AreEntries IsV (p.first, p.further) → (if b then None else length_fault (chain_reading reading p)) ≡ None → length (spelled (chain_reading reading p)) ≤ ROW_LIMIT
+  by_most true p few h none =
+      let few = leb-true most 255 few in
+      let entries = entries_most IsV reading most each (p.first, p.further) h in
+      rw (bit_count_is (chain_reading reading p)) (omega arith)
+  by_most false p few h none = length_fits (chain_reading reading p) none
+
+  pub chain_short : (p : ChainParts V) → IsChain IsV most reading p → length (spelled (chain_reading reading p)) ≤ ROW_LIMIT
+  chain_short p h = by_most (nat_le most 255) p refl h.1.1 h.2
+
+no_fault : {V : Type 0} (reading : V → Reading) (b : Bool) (p : ChainParts V) → length (spelled (chain_reading reading p)) ≤ ROW_LIMIT → (if b then None else length_fault (chain_reading reading p)) ≡ None
+no_fault reading true p short = refl
+no_fault reading false p short = length_ok (chain_reading reading p) short
+
+module _ {V : Type 0} {row : Layout → Layout} {IsV : V → Type 0} {reading : V → Reading} {from : Left → Option (V × Left)} (codes : Codes row IsV reading from) (most : ℕ) (each : (v : V) → IsV v → bit_count (reading v) ≤ most) where
+  pub chain_codes : (way : Way) (nid : ℕ) → row_to way nid ≡ Some (chain_row row whole) → PacketCodes way nid (λ (p : ChainParts V). p.dir) (IsChain IsV most reading) (chain_reading reading) (chain_from most reading from)
+  unfolding chain_from
+  chain_codes way nid is =
+      packet_codes (both (number Q_SCALE) (entries_codes codes)) way nid is
+      (record {
+        body = body_of;
+        again = λ p. refl;
+        dir_is = λ dir b. refl;
+        same = λ dir b. refl;
+        is = λ p h. (h.1, h.0, chain_short IsV reading most each p h);
+        so = λ dir b h ok fits. (ok, h, fits);
+        fits = λ dir b short. no_fault reading (nat_le most 255) (chain_of dir b) short;
+      })
+
+-- ---- Of links, slopes and speeds.
+
+pub linking_codes : PacketCodes ToTrain 5 (λ (p : ChainParts LinkParts). p.dir) IsLinking linking_reading (chain_from 49 link_reading link_from)
+linking_codes = chain_codes link_codes 49 (λ l _. link_most l) ToTrain 5 refl
+
+pub gradient_codes : PacketCodes ToTrain 21 (λ (p : ChainParts SlopeParts). p.dir) IsGradient gradient_reading (chain_from 24 slope_reading slope_from)
+gradient_codes = chain_codes slope_codes 24 (λ s _. slope_most s) ToTrain 21 refl
+
+pub profile_codes : PacketCodes ToTrain 27 (λ (p : ChainParts SpeedParts). p.dir) IsSpeedProfile profile_reading (chain_from 431 speed_reading speed_from)
+profile_codes = chain_codes speed_codes 431 speed_most ToTrain 27 refl
+
+-- ---- Its equality.
+
+pub chain_exact : {V : Type 0} {E : V → V → Bool} → IsExact E → IsExact (λ (a b : ChainParts V). nat_eq a.dir b.dir && (nat_eq a.q_scale b.q_scale && (E a.first b.first && pointwise E a.further b.further)))
+chain_exact {V} e =
+    fields_exact (λ (p : ChainParts V). (p.dir, body_of p)) (λ n. chain_of n.0 n.1) (λ p. refl) (
+    both_exact number_exact (both_exact number_exact (both_exact e (list_exact e))))

@@ -1,0 +1,208 @@
+//! Packets of a scale, a first entry and further ones.
+
+ghost use Rattle.std.specs.Prelude.{◌≡◌, None, Some, OnOk, IfOk, IfErr};
+ghost use Rattle.etcs_tables.specs.Layouts.{whole};
+ghost use Rattle.etcs_tables.specs.Rows.{row_to};
+ghost use Rattle.etcs_vars.specs.declared.var.Var.TheVariants.{Q_DIR, Q_SCALE};
+ghost use Rattle.etcs_bodies.specs.Faults.{◌or_else◌, number_fault};
+ghost use Rattle.etcs_grouped.specs.Chains.{chain_parts, chain_fault, chain_row, too_long};
+
+use etcs_bodies::{Body, Entries, Entry, Numbers, Part, check};
+use etcs_tables::Way;
+use etcs_vars::parts::{Sink, Variables};
+use etcs_vars::{BuildFault, Var};
+use std::alloc::{AllocError, Global};
+use std::marker::Model;
+
+/// How many bits of its row the length of a packet can count.
+const ROW_LIMIT: usize = 8168;
+
+/// The entry of a packet that has a scale, a first entry and further ones.
+pub trait Chained: Entry {
+    ghost use Rattle.std.specs.Prelude.{ℕ};
+    ghost use Rattle.etcs_tables.specs.declared.row.Way.{Way};
+
+    /// NID_PACKET of the packet.
+    const PACKET: u8;
+
+    /// Which way the packet goes.
+    const PACKET_WAY: Way;
+
+    ghost PACKET: { ℕ };
+
+    ghost PACKET_WAY: { Way };
+
+    ghost typed: { row_to PACKET_WAY PACKET ≡ Some (chain_row Self.Entry.row whole) };
+}
+
+/// A packet of a scale, a first entry and further ones.
+#[derive(Debug, Drop, PartialEq, Eq)]
+pub struct Chain<E: Entry> {
+    dir: u8,
+    q_scale: u8,
+    entries: Entries<E>,
+}
+
+impl<E: Entry> Model for Chain<E> {
+    ghost use Rattle.etcs_grouped.specs.Chains.{ChainParts, chain_parts, IsChain};
+
+    ghost Value = { ChainParts E };
+
+    ghost view = { λ s. chain_parts s.dir s.q_scale s.entries.0 s.entries.1 };
+
+    ghost invariant = { λ s. IsChain E.is_part E.MOST E.reading_of (chain_parts s.dir s.q_scale s.entries.0 s.entries.1) };
+
+    ghost inverse = { λ s. record { dir = s.dir; q_scale = s.q_scale; entries = (s.first, s.further) } };
+}
+
+impl<E: Entry> Chain<E> {
+    /// Q_SCALE: the unit of all distances (0: 10 cm, 1: 1 m, 2: 10 m).
+    pub fn q_scale(&self) -> u8
+        ensures { result ≡ self.now.q_scale }
+    {
+        self.q_scale
+    }
+
+    /// The entries after the first.
+    pub fn further(&self) -> &[E]
+        ensures { result.now ≡ self.now.further }
+    {
+        self.entries.further()
+    }
+
+    /// The first entry.
+    pub(crate) fn first_entry(&self) -> &E
+        ensures { result.now ≡ self.now.first }
+    {
+        self.entries.first()
+    }
+
+    /// The packet of these entries, or the first fault and the entries.
+    pub(crate) fn build(
+        dir: u8,
+        q_scale: u8,
+        first: E,
+        further: Vec<E>,
+    ) -> Result<Chain<E>, (BuildFault, E, Vec<E>)>
+        ensures ok { IfOk result (λ p. p ≡ chain_parts dir q_scale first further.items) }
+        ensures none { IfOk result (λ p. chain_fault E.MOST E.reading_of (chain_parts dir q_scale first further.items) ≡ None) }
+        ensures fault { IfErr result (λ e. chain_fault E.MOST E.reading_of (chain_parts dir q_scale first further.items) ≡ Some e.0) }
+        ensures first { IfErr result (λ e. e.1 ≡ first) }
+        ensures further { IfErr result (λ e. e.2.items ≡ further.items) }
+    {
+        if let Err(fault) = check_head(dir, q_scale) {
+            return Err((fault, first, further));
+        }
+        let entries = match Entries::new(first, further) {
+            Ok(entries) => entries,
+            Err(back) => return Err(back),
+        };
+        if let Err(fault) = check_length(dir, q_scale, &entries) {
+            let (first, further) = entries.into_parts();
+            return Err((fault, first, further));
+        }
+        Ok(Chain {
+            dir,
+            q_scale,
+            entries,
+        })
+    }
+}
+
+/// Refuses a direction or a scale that is none.
+fn check_head(dir: u8, q_scale: u8) -> Result<(), BuildFault>
+    ensures dir { OnOk result (number_fault Q_DIR dir ≡ None) }
+    ensures q_scale { OnOk result (number_fault Q_SCALE q_scale ≡ None) }
+    ensures fault { IfErr result (λ e. number_fault Q_DIR dir or_else number_fault Q_SCALE q_scale ≡ Some e) }
+{
+    check(Var::Q_DIR, u64::from(dir))?;
+    check(Var::Q_SCALE, u64::from(q_scale))
+}
+
+/// Refuses entries that take more bits than L_PACKET can count.
+#[tactic(auto, using(crate::specs::laws::Chains::surely_short, crate::specs::laws::Chains::short_enough, crate::specs::laws::Chains::not_short))]
+fn check_length<E: Entry>(dir: u8, q_scale: u8, entries: &Entries<E>) -> Result<(), BuildFault>
+    ensures ok { OnOk result (too_long E.MOST E.reading_of (chain_parts dir q_scale entries.now.0 entries.now.1) ≡ None) }
+    ensures fault { IfErr result (λ e. too_long E.MOST E.reading_of (chain_parts dir q_scale entries.now.0 entries.now.1) ≡ Some e) }
+{
+    if E::MOST <= 255 {
+        return Ok(());
+    }
+    if 2 + entries.bits() > ROW_LIMIT {
+        return Err(BuildFault::TooLong);
+    }
+    Ok(())
+}
+
+impl<E: Entry> Variables for Chain<E> {
+    ghost use Rattle.etcs_grouped.specs.Chains.{chain_reading};
+
+    ghost reading_of = { λ p. chain_reading E.reading_of p };
+
+    fn bits(&self) -> usize {
+        2 + self.entries.bits()
+    }
+
+    fn send<S: Sink>(&self, out: &mut S) -> Result<(), AllocError> {
+        out.send(&[(Var::Q_SCALE, u64::from(self.q_scale))])?;
+        self.entries.send(out)
+    }
+}
+
+impl<E: Chained> Body for Chain<E> {
+    ghost use Rattle.etcs_grouped.specs.Chains.{IsChain, chain_from};
+    ghost use Rattle.etcs_grouped.specs.laws.Chains.{chain_codes};
+
+    const NID: u8 = E::PACKET;
+
+    const WAY: Way = E::PACKET_WAY;
+
+    ghost NID = { E.PACKET };
+
+    ghost WAY = { E.PACKET_WAY };
+
+    ghost direction = { λ p. p.dir };
+
+    ghost is_value = { λ p. IsChain E.is_part E.MOST E.reading_of p };
+
+    ghost read_from = { λ dir s. chain_from E.MOST E.reading_of E.read_from dir s };
+
+    ghost codes = { chain_codes E.codes E.MOST E.most E.PACKET_WAY E.PACKET E.typed };
+
+    fn q_dir(&self) -> u8 {
+        self.dir
+    }
+
+    #[tactic(auto, using(etcs_bodies::specs::laws::Takes::number_ok), unfolding(etcs_bodies::specs::PacketCodes::packet_from, crate::specs::Chains::chain_from))]
+    fn read(
+        alloc: Global,
+        dir: u8,
+        mut numbers: Numbers<'_>,
+    ) -> Result<Option<Chain<E>>, AllocError> {
+        if !Var::Q_DIR.admits(u64::from(dir)) {
+            return Ok(None);
+        }
+        let Some(q_scale) = numbers.next(Var::Q_SCALE) else {
+            return Ok(None);
+        };
+        let Some(entries) = Entries::take(alloc, &mut numbers)? else {
+            return Ok(None);
+        };
+        if !numbers.is_empty() || check_length(dir, q_scale as u8, &entries).is_err() {
+            return Ok(None);
+        }
+        Ok(Some(Chain {
+            dir,
+            q_scale: q_scale as u8,
+            entries,
+        }))
+    }
+
+    fn copy(&self, alloc: Global) -> Result<Chain<E>, AllocError> {
+        Ok(Chain {
+            dir: self.dir,
+            q_scale: self.q_scale,
+            entries: self.entries.try_clone(alloc)?,
+        })
+    }
+}

@@ -1,0 +1,142 @@
+//! The conditional level transition order.
+
+ghost use Rattle.std.specs.Prelude.{◌≡◌, None, Some, OnOk, IfOk, IfErr, IfSome, IfNone};
+ghost use Rattle.etcs_grouped.specs.ConditionalLevelOrders.{conditional_level_order_parts, conditional_level_order_fault};
+
+use etcs_bodies::{Body, Entries, Numbers, Part, check};
+use etcs_parts::Level;
+use etcs_tables::Way;
+use etcs_vars::parts::{Sink, Variables};
+use etcs_vars::{BuildFault, Var};
+use std::alloc::{AllocError, Global};
+use std::marker::Model;
+
+/// The conditional level transition order: to one of these levels, where the train isn't in one of them (packet 46;
+/// SUBSET-026, 7.4.2).
+#[derive(Debug, Drop, PartialEq, Eq)]
+pub struct ConditionalLevelOrder {
+    dir: u8,
+    levels: Entries<Level>,
+}
+
+impl Model for ConditionalLevelOrder {
+    ghost use Rattle.etcs_grouped.specs.ConditionalLevelOrders.{ConditionalLevelOrderParts, conditional_level_order_parts, IsConditionalLevelOrder};
+
+    ghost Value = { ConditionalLevelOrderParts };
+
+    ghost view = { λ s. conditional_level_order_parts s.dir s.levels.0 s.levels.1 };
+
+    ghost invariant = { λ s. IsConditionalLevelOrder (conditional_level_order_parts s.dir s.levels.0 s.levels.1) };
+
+    ghost inverse = { λ s. record { dir = s.dir; levels = (s.first, s.further) } };
+}
+
+impl ConditionalLevelOrder {
+    /// The order.
+    ///
+    /// - `dir`: Q_DIR, for which direction of the train it holds (0 reverse, 1 nominal, 2 both);
+    /// - `first`: the level of the highest priority;
+    /// - `further`: the other levels, in falling priority.
+    ///
+    /// # Errors
+    ///
+    /// The first of these, and the further levels: [`BuildFault::NotAdmitted`] with Q_DIR, above 2;
+    /// [`BuildFault::TooMany`] with N_ITER, where `further` has more than 31 levels.
+    pub fn new(
+        dir: u8,
+        first: Level,
+        further: Vec<Level>,
+    ) -> Result<ConditionalLevelOrder, (BuildFault, Vec<Level>)>
+        ensures ok { IfOk result (λ p. p ≡ conditional_level_order_parts dir first further.items) }
+        ensures none { IfOk result (λ p. conditional_level_order_fault (conditional_level_order_parts dir first further.items) ≡ None) }
+        ensures fault { IfErr result (λ e. conditional_level_order_fault (conditional_level_order_parts dir first further.items) ≡ Some e.0) }
+        ensures further { IfErr result (λ e. e.1.items ≡ further.items) }
+    {
+        if let Err(fault) = check(Var::Q_DIR, u64::from(dir)) {
+            return Err((fault, further));
+        }
+        match Entries::new(first, further) {
+            Ok(levels) => Ok(ConditionalLevelOrder { dir, levels }),
+            Err((fault, _, further)) => Err((fault, further)),
+        }
+    }
+
+    /// The level of the highest priority.
+    pub fn first(&self) -> Level
+        ensures { result ≡ self.now.first }
+    {
+        *self.levels.first()
+    }
+
+    /// The other levels, in falling priority.
+    pub fn further(&self) -> &[Level]
+        ensures { result.now ≡ self.now.further }
+    {
+        self.levels.further()
+    }
+}
+
+impl Variables for ConditionalLevelOrder {
+    ghost use Rattle.etcs_grouped.specs.ConditionalLevelOrders.{conditional_level_order_reading};
+
+    ghost reading_of = { λ p. conditional_level_order_reading p };
+
+    fn bits(&self) -> usize {
+        self.levels.bits()
+    }
+
+    fn send<S: Sink>(&self, out: &mut S) -> Result<(), AllocError> {
+        self.levels.send(out)
+    }
+}
+
+impl Body for ConditionalLevelOrder {
+    ghost use Rattle.etcs_tables.specs.declared.row.Way.TheVariants.{ToTrain};
+    ghost use Rattle.etcs_grouped.specs.ConditionalLevelOrders.{IsConditionalLevelOrder, conditional_level_order_from};
+    ghost use Rattle.etcs_grouped.specs.laws.ConditionalLevelOrders.{conditional_level_order_codes};
+
+    const NID: u8 = 46;
+
+    const WAY: Way = Way::ToTrain;
+
+    ghost NID = { 46 };
+
+    ghost WAY = { ToTrain };
+
+    ghost direction = { λ p. p.dir };
+
+    ghost is_value = { λ p. IsConditionalLevelOrder p };
+
+    ghost read_from = { λ dir s. conditional_level_order_from dir s };
+
+    ghost codes = { conditional_level_order_codes };
+
+    fn q_dir(&self) -> u8 {
+        self.dir
+    }
+
+    #[tactic(auto, using(etcs_bodies::specs::laws::Takes::number_ok), unfolding(etcs_bodies::specs::PacketCodes::packet_from, crate::specs::ConditionalLevelOrders::conditional_level_order_from))]
+    fn read(
+        alloc: Global,
+        dir: u8,
+        mut numbers: Numbers<'_>,
+    ) -> Result<Option<ConditionalLevelOrder>, AllocError> {
+        if !Var::Q_DIR.admits(u64::from(dir)) {
+            return Ok(None);
+        }
+        let Some(levels) = Entries::take(alloc, &mut numbers)? else {
+            return Ok(None);
+        };
+        if !numbers.is_empty() {
+            return Ok(None);
+        }
+        Ok(Some(ConditionalLevelOrder { dir, levels }))
+    }
+
+    fn copy(&self, alloc: Global) -> Result<ConditionalLevelOrder, AllocError> {
+        Ok(ConditionalLevelOrder {
+            dir: self.dir,
+            levels: self.levels.try_clone(alloc)?,
+        })
+    }
+}

@@ -1,0 +1,140 @@
+//! The fixed text message.
+
+ghost use Rattle.std.specs.Prelude.{◌≡◌, None, Some, IfOk, IfErr, IfSome, IfNone};
+ghost use Rattle.etcs_grouped.specs.FixedTexts.{fixed_text_parts, fixed_text_fault, IsFixedText};
+
+use etcs_bodies::{Body, Numbers, Part, check};
+use etcs_parts::TextFrame;
+use etcs_tables::Way;
+use etcs_vars::parts::{Sink, Variables};
+use etcs_vars::{BuildFault, Var};
+use std::alloc::{AllocError, Global};
+use std::marker::Model;
+
+/// The fixed text message: one of the texts that the train knows, and when and where it is shown (packet 76;
+/// SUBSET-026, 7.4.2).
+#[derive(Clone, Copy, Debug, PartialEq, Eq)]
+pub struct FixedText {
+    dir: u8,
+    q_text: u8,
+    frame: TextFrame,
+}
+
+impl Model for FixedText {
+    ghost use Rattle.etcs_grouped.specs.FixedTexts.{FixedTextParts, fixed_text_parts, IsFixedText};
+
+    ghost Value = { FixedTextParts };
+
+    ghost view = { λ s. fixed_text_parts s.dir s.frame s.q_text };
+
+    ghost invariant = { λ s. IsFixedText (fixed_text_parts s.dir s.frame s.q_text) };
+
+    ghost inverse = { λ s. record { dir = s.dir; q_text = s.q_text; frame = s.frame } };
+}
+
+impl FixedText {
+    /// The message.
+    ///
+    /// - `dir`: Q_DIR, for which direction of the train it holds (0 reverse, 1 nominal, 2 both);
+    /// - `frame`: when and where the text is shown, and how it is confirmed;
+    /// - `q_text`: the number of the text, 0 to 255.
+    ///
+    /// # Errors
+    ///
+    /// [`BuildFault::NotAdmitted`] with Q_DIR, above 2.
+    pub fn new(dir: u8, frame: TextFrame, q_text: u8) -> Result<FixedText, BuildFault>
+        ensures ok { IfOk result (λ p. p ≡ fixed_text_parts dir frame q_text) }
+        ensures none { IfOk result (λ p. fixed_text_fault (fixed_text_parts dir frame q_text) ≡ None) }
+        ensures fault { IfErr result (λ e. fixed_text_fault (fixed_text_parts dir frame q_text) ≡ Some e) }
+    {
+        check(Var::Q_DIR, u64::from(dir))?;
+        check(Var::Q_TEXT, u64::from(q_text))?;
+        frame.holds();
+        Ok(FixedText { dir, q_text, frame })
+    }
+
+    /// When and where the text is shown, and how it is confirmed.
+    pub fn frame(&self) -> TextFrame
+        ensures { result ≡ self.now.frame }
+    {
+        self.frame
+    }
+
+    /// Q_TEXT: the number of the text.
+    pub fn q_text(&self) -> u8
+        ensures { result ≡ self.now.q_text }
+    {
+        self.q_text
+    }
+}
+
+impl Variables for FixedText {
+    ghost use Rattle.etcs_grouped.specs.FixedTexts.{fixed_text_reading};
+
+    ghost reading_of = { λ p. fixed_text_reading p };
+
+    #[tactic(auto, using(crate::specs::laws::FixedTexts::fixed_text_length))]
+    fn bits(&self) -> usize {
+        self.frame.bits() + 8
+    }
+
+    fn send<S: Sink>(&self, out: &mut S) -> Result<(), AllocError> {
+        self.frame.send(out)?;
+        out.send(&[(Var::Q_TEXT, u64::from(self.q_text))])
+    }
+}
+
+impl Body for FixedText {
+    ghost use Rattle.etcs_tables.specs.declared.row.Way.TheVariants.{ToTrain};
+    ghost use Rattle.etcs_grouped.specs.FixedTexts.{IsFixedText, fixed_text_from};
+    ghost use Rattle.etcs_grouped.specs.laws.FixedTexts.{fixed_text_codes};
+
+    const NID: u8 = 76;
+
+    const WAY: Way = Way::ToTrain;
+
+    ghost NID = { 76 };
+
+    ghost WAY = { ToTrain };
+
+    ghost direction = { λ p. p.dir };
+
+    ghost is_value = { λ p. IsFixedText p };
+
+    ghost read_from = { λ dir s. fixed_text_from dir s };
+
+    ghost codes = { fixed_text_codes };
+
+    fn q_dir(&self) -> u8 {
+        self.dir
+    }
+
+    #[tactic(auto, using(etcs_bodies::specs::laws::Takes::number_ok), unfolding(etcs_bodies::specs::PacketCodes::packet_from, crate::specs::FixedTexts::fixed_text_from))]
+    fn read(
+        alloc: Global,
+        dir: u8,
+        mut numbers: Numbers<'_>,
+    ) -> Result<Option<FixedText>, AllocError> {
+        if !Var::Q_DIR.admits(u64::from(dir)) {
+            return Ok(None);
+        }
+        let Some(frame) = TextFrame::take(alloc, &mut numbers)? else {
+            return Ok(None);
+        };
+        let Some(q_text) = numbers.next(Var::Q_TEXT) else {
+            return Ok(None);
+        };
+        if !numbers.is_empty() {
+            return Ok(None);
+        }
+        Ok(Some(FixedText {
+            dir,
+            q_text: q_text as u8,
+            frame,
+        }))
+    }
+
+    fn copy(&self, _alloc: Global) -> Result<FixedText, AllocError> {
+        Ok(*self)
+    }
+}

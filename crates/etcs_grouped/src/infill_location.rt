@@ -1,0 +1,159 @@
+//! Where the infill that follows begins.
+
+ghost use Rattle.std.specs.Prelude.{◌≡◌, None, Some, IfOk, IfErr, IfSome, IfNone};
+ghost use Rattle.etcs_grouped.specs.InfillLocations.{infill_location_parts, infill_location_fault, infill_location_from};
+
+use etcs_bodies::{Body, Numbers, check};
+use etcs_tables::Way;
+use etcs_vars::parts::{Sink, Variables};
+use etcs_vars::{BuildFault, Var};
+use std::alloc::{AllocError, Global};
+use std::marker::Model;
+
+/// The infill location reference: the balise group at which the infill that follows begins (packet 136; SUBSET-026,
+/// 7.4.2).
+#[derive(Clone, Copy, Debug, PartialEq, Eq)]
+pub struct InfillLocation {
+    dir: u8,
+    nid_c: Option<u16>,
+    nid_bg: u16,
+}
+
+impl Model for InfillLocation {
+    ghost use Rattle.etcs_grouped.specs.InfillLocations.{InfillLocationParts, infill_location_parts, IsInfillLocation};
+
+    ghost Value = { InfillLocationParts };
+
+    ghost view = { λ s. infill_location_parts s.dir s.nid_c s.nid_bg };
+
+    ghost invariant = { λ s. IsInfillLocation (infill_location_parts s.dir s.nid_c s.nid_bg) };
+
+    ghost inverse = { λ s. record { dir = s.dir; nid_c = s.nid_c; nid_bg = s.nid_bg } };
+}
+
+impl InfillLocation {
+    /// The location.
+    ///
+    /// - `dir`: Q_DIR, for which direction of the train it holds (0 reverse, 1 nominal, 2 both);
+    /// - `nid_c`: the country or region of the group, 0 to 1,023, where it is another than that of the group that sends
+    ///   the packet;
+    /// - `nid_bg`: the number of the group, 0 to 16,383.
+    ///
+    /// # Errors
+    ///
+    /// The first of these: [`BuildFault::NotAdmitted`] with Q_DIR, above 2, with NID_C, above 1,023, or with NID_BG,
+    /// above 16,383.
+    pub fn new(dir: u8, nid_c: Option<u16>, nid_bg: u16) -> Result<InfillLocation, BuildFault>
+        ensures ok { IfOk result (λ p. p ≡ infill_location_parts dir nid_c nid_bg) }
+        ensures none { IfOk result (λ p. infill_location_fault (infill_location_parts dir nid_c nid_bg) ≡ None) }
+        ensures fault { IfErr result (λ e. infill_location_fault (infill_location_parts dir nid_c nid_bg) ≡ Some e) }
+    {
+        check(Var::Q_DIR, u64::from(dir))?;
+        if let Some(country) = nid_c {
+            check(Var::NID_C, u64::from(country))?;
+        }
+        check(Var::NID_BG, u64::from(nid_bg))?;
+        Ok(InfillLocation { dir, nid_c, nid_bg })
+    }
+
+    /// NID_C: the country or region of the group, where it is another than that of the group that sends the packet.
+    pub fn nid_c(&self) -> Option<u16>
+        ensures { result ≡ self.now.nid_c }
+    {
+        self.nid_c
+    }
+
+    /// NID_BG: the number of the group.
+    pub fn nid_bg(&self) -> u16
+        ensures { result ≡ self.now.nid_bg }
+    {
+        self.nid_bg
+    }
+
+    /// The packet of a direction that takes all of the numbers.
+    #[tactic(auto, using(etcs_bodies::specs::laws::Takes::number_ok), unfolding(etcs_bodies::specs::PacketCodes::packet_from, crate::specs::InfillLocations::infill_location_from))]
+    fn of_numbers(dir: u8, mut numbers: Numbers) -> Option<InfillLocation>
+        ensures some { IfSome result (λ p. infill_location_from dir numbers.entry ≡ Some p) }
+        ensures none { IfNone result (infill_location_from dir numbers.entry ≡ None) }
+    {
+        if !Var::Q_DIR.admits(u64::from(dir)) {
+            return None;
+        }
+        let nid_c = if numbers.flag()? {
+            Some(numbers.next(Var::NID_C)? as u16)
+        } else {
+            None
+        };
+        let nid_bg = numbers.next(Var::NID_BG)? as u16;
+        if !numbers.is_empty() {
+            return None;
+        }
+        Some(InfillLocation { dir, nid_c, nid_bg })
+    }
+}
+
+impl Variables for InfillLocation {
+    ghost use Rattle.etcs_grouped.specs.InfillLocations.{infill_location_reading};
+
+    ghost reading_of = { λ p. infill_location_reading p };
+
+    #[tactic(auto, using(crate::specs::laws::InfillLocations::infill_location_bits_near, crate::specs::laws::InfillLocations::infill_location_bits_far))]
+    fn bits(&self) -> usize {
+        match self.nid_c {
+            None => 15,
+            Some(_) => 25,
+        }
+    }
+
+    fn send<S: Sink>(&self, out: &mut S) -> Result<(), AllocError> {
+        match self.nid_c {
+            None => out.send(&[
+                (Var::Q_NEWCOUNTRY, 0),
+                (Var::NID_BG, u64::from(self.nid_bg)),
+            ]),
+            Some(country) => out.send(&[
+                (Var::Q_NEWCOUNTRY, 1),
+                (Var::NID_C, u64::from(country)),
+                (Var::NID_BG, u64::from(self.nid_bg)),
+            ]),
+        }
+    }
+}
+
+impl Body for InfillLocation {
+    ghost use Rattle.etcs_tables.specs.declared.row.Way.TheVariants.{ToTrain};
+    ghost use Rattle.etcs_grouped.specs.InfillLocations.{IsInfillLocation, infill_location_from};
+    ghost use Rattle.etcs_grouped.specs.laws.InfillLocations.{infill_location_codes};
+
+    const NID: u8 = 136;
+
+    const WAY: Way = Way::ToTrain;
+
+    ghost NID = { 136 };
+
+    ghost WAY = { ToTrain };
+
+    ghost direction = { λ p. p.dir };
+
+    ghost is_value = { λ p. IsInfillLocation p };
+
+    ghost read_from = { λ dir s. infill_location_from dir s };
+
+    ghost codes = { infill_location_codes };
+
+    fn q_dir(&self) -> u8 {
+        self.dir
+    }
+
+    fn read(
+        _alloc: Global,
+        dir: u8,
+        numbers: Numbers<'_>,
+    ) -> Result<Option<InfillLocation>, AllocError> {
+        Ok(InfillLocation::of_numbers(dir, numbers))
+    }
+
+    fn copy(&self, _alloc: Global) -> Result<InfillLocation, AllocError> {
+        Ok(*self)
+    }
+}

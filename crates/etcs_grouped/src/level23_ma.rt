@@ -1,0 +1,208 @@
+//! The movement authority of levels 2 and 3.
+
+ghost use Rattle.std.specs.Prelude.{◌≡◌, None, Some, OnOk, IfOk, IfErr, IfSome, IfNone};
+ghost use Rattle.etcs_grouped.specs.Level23Mas.{level23_ma_parts, level23_ma_fault, IsLevel23Ma};
+
+use etcs_bodies::{Body, Numbers, Part, check};
+use etcs_parts::Authority;
+use etcs_tables::Way;
+use etcs_vars::parts::{Sink, Variables};
+use etcs_vars::{BuildFault, Var};
+use std::alloc::{AllocError, Global};
+use std::marker::Model;
+
+/// The movement authority of levels 2 and 3 (packet 15; SUBSET-026, 7.4.2).
+#[derive(Debug, Drop, PartialEq, Eq)]
+pub struct Level23Ma {
+    dir: u8,
+    q_scale: u8,
+    v_loa: u8,
+    t_loa: u16,
+    authority: Authority,
+}
+
+impl Model for Level23Ma {
+    ghost use Rattle.etcs_grouped.specs.Level23Mas.{Level23MaParts, level23_ma_parts, IsLevel23Ma};
+
+    ghost Value = { Level23MaParts };
+
+    ghost view = { λ s. level23_ma_parts s.dir s.q_scale s.v_loa s.t_loa s.authority };
+
+    ghost invariant = { λ s. IsLevel23Ma (level23_ma_parts s.dir s.q_scale s.v_loa s.t_loa s.authority) };
+
+    ghost inverse = { λ s. record { dir = s.dir; q_scale = s.q_scale; v_loa = s.v_loa; t_loa = s.t_loa; authority = s.authority } };
+}
+
+impl Level23Ma {
+    /// A movement authority.
+    ///
+    /// - `dir`: Q_DIR, for which direction of the train it holds (0 reverse, 1 nominal, 2 both);
+    /// - `q_scale`: the unit of all distances (0: 10 cm, 1: 1 m, 2: 10 m);
+    /// - `v_loa`: V_LOA, the speed at the limit of the authority, in 5 km/h, at most 120;
+    /// - `t_loa`: T_LOA, how long that speed holds, in seconds; 1023 is unlimited;
+    /// - `authority`: its sections, and what is after them.
+    ///
+    /// # Errors
+    ///
+    /// [`BuildFault::NotAdmitted`] with the first of Q_DIR, Q_SCALE, V_LOA or T_LOA that doesn't admit its number: Q_DIR and Q_SCALE
+    /// above 2, a speed above 120, a time above 1,023; and the authority.
+    pub fn new(
+        dir: u8,
+        q_scale: u8,
+        v_loa: u8,
+        t_loa: u16,
+        authority: Authority,
+    ) -> Result<Level23Ma, (BuildFault, Authority)>
+        ensures ok { IfOk result (λ p. p ≡ level23_ma_parts dir q_scale v_loa t_loa authority) }
+        ensures none { IfOk result (λ p. level23_ma_fault (level23_ma_parts dir q_scale v_loa t_loa authority) ≡ None) }
+        ensures fault { IfErr result (λ e. level23_ma_fault (level23_ma_parts dir q_scale v_loa t_loa authority) ≡ Some e.0) }
+        ensures authority { IfErr result (λ e. e.1 ≡ authority) }
+    {
+        match faultless(dir, q_scale, v_loa, t_loa, &authority) {
+            Ok(()) => Ok(Level23Ma {
+                dir,
+                q_scale,
+                v_loa,
+                t_loa,
+                authority,
+            }),
+            Err(fault) => Err((fault, authority)),
+        }
+    }
+
+    /// Q_SCALE: the unit of all distances (0: 10 cm, 1: 1 m, 2: 10 m).
+    pub fn q_scale(&self) -> u8
+        ensures { result ≡ self.now.q_scale }
+    {
+        self.q_scale
+    }
+
+    /// V_LOA: the speed at the limit of the authority, in 5 km/h, at most 120.
+    pub fn v_loa(&self) -> u8
+        ensures { result ≡ self.now.v_loa }
+    {
+        self.v_loa
+    }
+
+    /// T_LOA: how long that speed holds, in seconds; 1023 is unlimited.
+    pub fn t_loa(&self) -> u16
+        ensures { result ≡ self.now.t_loa }
+    {
+        self.t_loa
+    }
+
+    /// Its sections, and what is after them.
+    pub fn authority(&self) -> &Authority
+        ensures { result.now ≡ self.now.authority }
+    {
+        &self.authority
+    }
+}
+
+/// Refuses what is no packet.
+fn faultless(
+    dir: u8,
+    q_scale: u8,
+    v_loa: u8,
+    t_loa: u16,
+    authority: &Authority,
+) -> Result<(), BuildFault>
+    ensures ok { OnOk result (IsLevel23Ma (level23_ma_parts dir q_scale v_loa t_loa authority.now)) }
+    ensures fault { IfErr result (λ e. level23_ma_fault (level23_ma_parts dir q_scale v_loa t_loa authority.now) ≡ Some e) }
+{
+    check(Var::Q_DIR, u64::from(dir))?;
+    check(Var::Q_SCALE, u64::from(q_scale))?;
+    check(Var::V_LOA, u64::from(v_loa))?;
+    check(Var::T_LOA, u64::from(t_loa))?;
+    authority.holds();
+    Ok(())
+}
+
+impl Variables for Level23Ma {
+    ghost use Rattle.etcs_grouped.specs.Level23Mas.{level23_ma_reading};
+
+    ghost reading_of = { λ p. level23_ma_reading p };
+
+    #[tactic(auto, using(crate::specs::laws::Level23Mas::level23_ma_length))]
+    fn bits(&self) -> usize {
+        19 + self.authority.bits()
+    }
+
+    fn send<S: Sink>(&self, out: &mut S) -> Result<(), AllocError> {
+        out.send(&[
+            (Var::Q_SCALE, u64::from(self.q_scale)),
+            (Var::V_LOA, u64::from(self.v_loa)),
+            (Var::T_LOA, u64::from(self.t_loa)),
+        ])?;
+        self.authority.send(out)
+    }
+}
+
+impl Body for Level23Ma {
+    ghost use Rattle.etcs_tables.specs.declared.row.Way.TheVariants.{ToTrain};
+    ghost use Rattle.etcs_grouped.specs.Level23Mas.{IsLevel23Ma, level23_ma_from};
+    ghost use Rattle.etcs_grouped.specs.laws.Level23Mas.{level23_ma_codes};
+
+    const NID: u8 = 15;
+
+    const WAY: Way = Way::ToTrain;
+
+    ghost NID = { 15 };
+
+    ghost WAY = { ToTrain };
+
+    ghost direction = { λ p. p.dir };
+
+    ghost is_value = { λ p. IsLevel23Ma p };
+
+    ghost read_from = { λ dir s. level23_ma_from dir s };
+
+    ghost codes = { level23_ma_codes };
+
+    fn q_dir(&self) -> u8 {
+        self.dir
+    }
+
+    #[tactic(auto, using(etcs_bodies::specs::laws::Takes::number_ok), unfolding(etcs_bodies::specs::PacketCodes::packet_from, crate::specs::Level23Mas::level23_ma_from))]
+    fn read(
+        alloc: Global,
+        dir: u8,
+        mut numbers: Numbers<'_>,
+    ) -> Result<Option<Level23Ma>, AllocError> {
+        if !Var::Q_DIR.admits(u64::from(dir)) {
+            return Ok(None);
+        }
+        let Some(q_scale) = numbers.next(Var::Q_SCALE) else {
+            return Ok(None);
+        };
+        let Some(v_loa) = numbers.next(Var::V_LOA) else {
+            return Ok(None);
+        };
+        let Some(t_loa) = numbers.next(Var::T_LOA) else {
+            return Ok(None);
+        };
+        let Some(authority) = Authority::take(alloc, &mut numbers)? else {
+            return Ok(None);
+        };
+        if !numbers.is_empty() {
+            return Ok(None);
+        }
+        Ok(Some(Level23Ma {
+            dir,
+            q_scale: q_scale as u8,
+            v_loa: v_loa as u8,
+            t_loa: t_loa as u16,
+            authority,
+        }))
+    }
+
+    fn copy(&self, alloc: Global) -> Result<Level23Ma, AllocError> {
+        Ok(Level23Ma {
+            dir: self.dir,
+            q_scale: self.q_scale,
+            v_loa: self.v_loa,
+            t_loa: self.t_loa,
+            authority: self.authority.try_clone(alloc)?,
+        })
+    }
+}

@@ -1,0 +1,231 @@
+//! The plain text message.
+
+ghost use Rattle.std.specs.Prelude.{◌≡◌, None, Some, OnOk, OnErr, IfOk, IfErr, IfSome, IfNone, length, All};
+ghost use Rattle.etcs_bodies.specs.Taking.{next_number, times_from};
+ghost use Rattle.etcs_bodies.specs.Codecs.{list_from};
+ghost use Rattle.etcs_bodies.specs.Faults.{count_fault};
+ghost use Rattle.etcs_vars.specs.declared.var.Var.TheVariants.{L_TEXT, X_TEXT};
+ghost use Rattle.etcs_grouped.specs.PlainTexts.{plain_text_parts, plain_text_fault, IsPlainText, IsByte, text_reading, bytes_reading};
+
+use etcs_bodies::{Body, Items, Numbers, Part, check, check_count};
+use etcs_parts::TextFrame;
+use etcs_tables::Way;
+use etcs_vars::parts::{Sink, Variables};
+use etcs_vars::{BuildFault, Var};
+use std::alloc::{AllocError, Global};
+use std::marker::Model;
+
+/// The plain text message: a text, and when and where it is shown (packet 72; SUBSET-026, 7.4.2).
+#[derive(Debug, Drop, PartialEq, Eq)]
+pub struct PlainText {
+    dir: u8,
+    text: Items<u8>,
+    frame: TextFrame,
+}
+
+impl Model for PlainText {
+    ghost use Rattle.etcs_grouped.specs.PlainTexts.{PlainTextParts, plain_text_parts, IsPlainText};
+
+    ghost Value = { PlainTextParts };
+
+    ghost view = { λ s. plain_text_parts s.dir s.frame s.text };
+
+    ghost invariant = { λ s. IsPlainText (plain_text_parts s.dir s.frame s.text) };
+
+    ghost inverse = { λ s. record { dir = s.dir; text = s.text; frame = s.frame } };
+}
+
+impl PlainText {
+    /// The message.
+    ///
+    /// - `dir`: Q_DIR, for which direction of the train it holds (0 reverse, 1 nominal, 2 both);
+    /// - `frame`: when and where the text is shown, and how it is confirmed;
+    /// - `text`: the characters of the text, each a byte of ISO 8859-1, at most 255.
+    ///
+    /// # Errors
+    ///
+    /// The first of these, and the text: [`BuildFault::NotAdmitted`] with Q_DIR, above 2; [`BuildFault::TooMany`] with
+    /// L_TEXT, where the text has more than 255 bytes.
+    pub fn new(dir: u8, frame: TextFrame, text: Vec<u8>) -> Result<PlainText, (BuildFault, Vec<u8>)>
+        ensures ok { IfOk result (λ p. p ≡ plain_text_parts dir frame text.items) }
+        ensures none { IfOk result (λ p. plain_text_fault (plain_text_parts dir frame text.items) ≡ None) }
+        ensures fault { IfErr result (λ e. plain_text_fault (plain_text_parts dir frame text.items) ≡ Some e.0) }
+        ensures text { IfErr result (λ e. e.1.items ≡ text.items) }
+    {
+        match faultless(dir, &frame, text.as_slice()) {
+            Ok(()) => Ok(PlainText {
+                dir,
+                text: Items::from_vec(text),
+                frame,
+            }),
+            Err(fault) => Err((fault, text)),
+        }
+    }
+
+    /// When and where the text is shown, and how it is confirmed.
+    pub fn frame(&self) -> TextFrame
+        ensures { result ≡ self.now.frame }
+    {
+        self.frame
+    }
+
+    /// X_TEXT: the characters of the text, each a byte of ISO 8859-1.
+    pub fn text(&self) -> &[u8]
+        ensures { result.now ≡ self.now.text }
+    {
+        self.text.as_slice()
+    }
+}
+
+/// Refuses what is no packet.
+fn faultless(dir: u8, frame: &TextFrame, text: &[u8]) -> Result<(), BuildFault>
+    ensures ok { OnOk result (IsPlainText (plain_text_parts dir frame.now text.now)) }
+    ensures fault { IfErr result (λ e. plain_text_fault (plain_text_parts dir frame.now text.now) ≡ Some e) }
+{
+    check(Var::Q_DIR, u64::from(dir))?;
+    check_count(Var::L_TEXT, text.len())?;
+    frame.holds();
+    Ok(())
+}
+
+/// Takes so many bytes.
+fn take_bytes(
+    alloc: Global,
+    numbers: &mut Numbers,
+    count: usize,
+) -> Result<Option<Vec<u8>>, AllocError>
+    ensures count { IfOk result (λ o. IfSome o (λ bytes. length bytes.items ≡ count)) }
+    ensures bytes { IfOk result (λ o. IfSome o (λ bytes. All IsByte bytes.items)) }
+    ensures from { IfOk result (λ o. IfSome o (λ bytes. times_from (next_number X_TEXT) count numbers.old ≡ Some (bytes.items, numbers.new))) }
+    ensures none { IfOk result (λ o. IfNone o (times_from (next_number X_TEXT) count numbers.old ≡ None)) }
+{
+    let mut bytes = Vec::with_capacity(alloc, count)?;
+    for _ in 0..count {
+        match numbers.next(Var::X_TEXT) {
+            Some(byte) => bytes.push(byte as u8)?,
+            None => return Ok(None),
+        }
+    }
+    Ok(Some(bytes))
+}
+
+/// Takes the text after its count.
+#[tactic(auto, using(etcs_bodies::specs::laws::Repeats::list_is, etcs_bodies::specs::laws::Repeats::list_missing, etcs_bodies::specs::laws::Repeats::list_uncounted, etcs_bodies::specs::laws::Takes::counted_is))]
+fn take_text(alloc: Global, numbers: &mut Numbers) -> Result<Option<Vec<u8>>, AllocError>
+    ensures count { IfOk result (λ o. IfSome o (λ bytes. count_fault L_TEXT (length bytes.items) ≡ None)) }
+    ensures bytes { IfOk result (λ o. IfSome o (λ bytes. All IsByte bytes.items)) }
+    ensures from { IfOk result (λ o. IfSome o (λ bytes. list_from L_TEXT (next_number X_TEXT) numbers.old ≡ Some (bytes.items, numbers.new))) }
+    ensures none { IfOk result (λ o. IfNone o (list_from L_TEXT (next_number X_TEXT) numbers.old ≡ None)) }
+{
+    let Some(count) = numbers.next(Var::L_TEXT) else {
+        return Ok(None);
+    };
+    let Some(bytes) = take_bytes(alloc, numbers, count as usize)? else {
+        return Ok(None);
+    };
+    Ok(Some(bytes))
+}
+
+/// Sends the bytes, in order.
+fn send_bytes<S: Sink>(bytes: &[u8], out: &mut S) -> Result<(), AllocError>
+    ensures ok { OnOk result (out.new ≡ S.with out.old (bytes_reading bytes.now)) }
+    ensures err { OnErr result (S.failed out.old out.new) }
+{
+    for byte in bytes {
+        out.send(&[(Var::X_TEXT, u64::from(*byte))])?;
+    }
+    Ok(())
+}
+
+/// Sends the text after its count.
+fn send_text<S: Sink>(text: &[u8], out: &mut S) -> Result<(), AllocError>
+    ensures ok { OnOk result (out.new ≡ S.with out.old (text_reading text.now)) }
+    ensures err { OnErr result (S.failed out.old out.new) }
+{
+    out.send(&[(Var::L_TEXT, text.len() as u64)])?;
+    send_bytes(text, out)
+}
+
+impl Variables for PlainText {
+    ghost use Rattle.etcs_grouped.specs.PlainTexts.{plain_text_reading};
+
+    ghost reading_of = { λ p. plain_text_reading p };
+
+    #[tactic(auto, using(crate::specs::laws::PlainTexts::plain_text_length))]
+    fn bits(&self) -> usize {
+        self.frame.bits() + 8 + 8 * self.text.len()
+    }
+
+    fn send<S: Sink>(&self, out: &mut S) -> Result<(), AllocError> {
+        self.frame.send(out)?;
+        send_text(self.text.as_slice(), out)
+    }
+}
+
+impl Body for PlainText {
+    ghost use Rattle.etcs_tables.specs.declared.row.Way.TheVariants.{ToTrain};
+    ghost use Rattle.etcs_grouped.specs.PlainTexts.{IsPlainText, plain_text_from};
+    ghost use Rattle.etcs_grouped.specs.laws.PlainTexts.{plain_text_codes};
+
+    const NID: u8 = 72;
+
+    const WAY: Way = Way::ToTrain;
+
+    ghost NID = { 72 };
+
+    ghost WAY = { ToTrain };
+
+    ghost direction = { λ p. p.dir };
+
+    ghost is_value = { λ p. IsPlainText p };
+
+    ghost read_from = { λ dir s. plain_text_from dir s };
+
+    ghost codes = { plain_text_codes };
+
+    fn q_dir(&self) -> u8 {
+        self.dir
+    }
+
+    #[tactic(auto, using(etcs_bodies::specs::laws::Takes::number_ok), unfolding(etcs_bodies::specs::PacketCodes::packet_from, crate::specs::PlainTexts::plain_text_from))]
+    fn read(
+        alloc: Global,
+        dir: u8,
+        mut numbers: Numbers<'_>,
+    ) -> Result<Option<PlainText>, AllocError> {
+        if !Var::Q_DIR.admits(u64::from(dir)) {
+            return Ok(None);
+        }
+        let Some(frame) = TextFrame::take(alloc, &mut numbers)? else {
+            return Ok(None);
+        };
+        let Some(text) = take_text(alloc, &mut numbers)? else {
+            return Ok(None);
+        };
+        if !numbers.is_empty() {
+            return Ok(None);
+        }
+        Ok(Some(PlainText {
+            dir,
+            text: Items::from_vec(text),
+            frame,
+        }))
+    }
+
+    fn copy(&self, alloc: Global) -> Result<PlainText, AllocError> {
+        Ok(PlainText {
+            dir: self.dir,
+            text: Items::from_vec(copy(alloc, self.text.as_slice())?),
+            frame: self.frame,
+        })
+    }
+}
+
+/// The same bytes again.
+fn copy(alloc: Global, bytes: &[u8]) -> Result<Vec<u8>, AllocError>
+    ensures { IfOk result (λ b. b.items ≡ bytes.now) }
+{
+    let mut copied = Vec::with_capacity(alloc, bytes.len())?;
+    copied.extend_from_slice(bytes)?;
+    Ok(copied)
+}

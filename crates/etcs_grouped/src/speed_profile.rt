@@ -1,0 +1,63 @@
+//! The static speed profile.
+
+ghost use Rattle.std.specs.Prelude.{◌≡◌, Some, None, IfOk, IfErr};
+ghost use Rattle.etcs_grouped.specs.Chains.{chain_parts, profile_fault};
+
+use crate::chain::{Chain, Chained};
+use etcs_parts::Speed;
+use etcs_tables::Way;
+use etcs_vars::BuildFault;
+
+/// The static speeds ahead (packet 27; SUBSET-026, 7.4.2).
+pub type SpeedProfile = Chain<Speed>;
+
+impl Chained for Speed {
+    ghost use Rattle.std.specs.Prelude.{refl};
+    ghost use Rattle.etcs_tables.specs.declared.row.Way.TheVariants.{ToTrain};
+
+    const PACKET: u8 = 27;
+
+    const PACKET_WAY: Way = Way::ToTrain;
+
+    ghost PACKET = { 27 };
+
+    ghost PACKET_WAY = { ToTrain };
+
+    ghost typed = { refl };
+}
+
+impl Chain<Speed> {
+    /// A profile of speeds.
+    ///
+    /// - `dir`: Q_DIR, for which direction of the train it holds (0 reverse, 1 nominal, 2 both);
+    /// - `q_scale`: the unit of all distances (0: 10 cm, 1: 1 m, 2: 10 m);
+    /// - `first`: the first speed, whose distance counts from the reference point of the packet;
+    /// - `further`: the speeds after it, in order, each at its distance from the one before.
+    ///
+    /// # Errors
+    ///
+    /// The first of these, and the speeds: [`BuildFault::NotAdmitted`] with Q_DIR or Q_SCALE, above 2;
+    /// [`BuildFault::TooMany`] with N_ITER, where `further` has more than 31 speeds; [`BuildFault::TooLong`], where
+    /// the variables after L_PACKET take more than 8,168 bits.
+    pub fn new(
+        dir: u8,
+        q_scale: u8,
+        first: Speed,
+        further: Vec<Speed>,
+    ) -> Result<SpeedProfile, (BuildFault, Speed, Vec<Speed>)>
+        ensures ok { IfOk result (λ p. p ≡ chain_parts dir q_scale first further.items) }
+        ensures none { IfOk result (λ p. profile_fault (chain_parts dir q_scale first further.items) ≡ None) }
+        ensures fault { IfErr result (λ e. profile_fault (chain_parts dir q_scale first further.items) ≡ Some e.0) }
+        ensures first { IfErr result (λ e. e.1 ≡ first) }
+        ensures further { IfErr result (λ e. e.2.items ≡ further.items) }
+    {
+        Chain::build(dir, q_scale, first, further)
+    }
+
+    /// The first speed.
+    pub fn first(&self) -> &Speed
+        ensures { result.now ≡ self.now.first }
+    {
+        self.first_entry()
+    }
+}

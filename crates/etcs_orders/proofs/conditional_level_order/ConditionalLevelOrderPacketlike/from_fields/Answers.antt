@@ -1,8 +1,0 @@
-use Rattle.etcs_orders.specs.ConditionalLevelOrders.{conditional_level_order_numbers}
-use Rattle.etcs_orders.proofs.conditional_level_order.ConditionalLevelOrderPacketlike.from_fields.Goals as goal
-
-pub returns-clause-some : goal.returns-clause-some
-returns-clause-some c =
-    let read = c.in_ok-packet.ensures in
-    let whole = rw c.in-Some.is at read.some in
-    (rw c.in-Some.is at read.value, rw c.in-Some.is at read.dir, conditional_level_order_numbers c.args.dir c.args.fields.now c.in-Some.packet (rw c.new.ensures at whole))

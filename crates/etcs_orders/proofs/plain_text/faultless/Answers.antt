@@ -1,6 +1,0 @@
-use Rattle.std.proofs.Common.{rules}
-use Rattle.etcs_orders.specs.PlainTexts.{bytes_ok}
-use Rattle.etcs_orders.proofs.plain_text.faultless.Goals as goal
-
-pub returns-clause-ok : goal.returns-clause-ok
-returns-clause-ok c = let text = bytes_ok c.args.text.now (λ k. (c.type_inv.text k).fits) in search rules

@@ -1,0 +1,159 @@
+-- Packets over the bits of bytes.
+use Rattle.std.proofs.Common.{◌≡◌, ℕ, ◌+◌, ◌*◌, ◌<◌, ◌≤◌, Bool, true, false, List, [], ◌∷◌, ◌++◌, length, take, drop, get_or, map, Some, None, refl, sym, ap, ◌∙◌, arith, append_assoc, append-nil, length-append}
+use Rattle.std.specs.Prelude.{nat_le, if◌then◌else◌}
+use Rattle.std.proofs.lemmas.List.{map_more, map-append, take-append-drop}
+use Rattle.std.proofs.lemmas.Grind.{flat_map-append}
+use Rattle.etcs_bits.specs.Bits.{num, replaced}
+use Rattle.etcs_bits.proofs.Numbers.{length-num}
+use Rattle.etcs_bits.proofs.Lists.{replaced_more, length-replaced}
+use Rattle.etcs_vars.specs.declared.var.Var.TheVariants.{NID_PACKET, Q_DIR, L_PACKET, OTHER_DATA}
+use Rattle.etcs_vars.specs.declared.fault.BuildFault.TheVariants.{NotAdmitted, TooLong}
+use Rattle.etcs_vars.specs.Faults.{◌or_else◌, number_fault}
+use Rattle.etcs_vars.specs.Reading.{Reading, spelled}
+use Rattle.etcs_vars.specs.Reading as sent
+use Rattle.etcs_vars.proofs.Prefixes.{admits_parts}
+use Rattle.etcs_vars.proofs.Stepping.{next_number}
+use Rattle.etcs_vars.proofs.Walk.{spelled-append}
+use Rattle.etcs_vars.proofs.Sent.{length-sent}
+use Rattle.etcs_tables.specs.declared.row.Way.TheVariants.{ToTrain}
+use Rattle.etcs_tables.specs.Layouts.{ROW_LIMIT}
+use Rattle.etcs_tables.specs.Frames.{is_kept}
+use Rattle.etcs_flat.specs.laws.FlatLaws.{none_both, number_fine}
+use Rattle.etcs_flat.specs.Others.{OtherParts}
+use Rattle.etcs_packets.specs.declared.packet.Packet.{Packet}
+use Rattle.etcs_packets.specs.declared.packet.Packet.TheVariants.{Other}
+use Rattle.etcs_packets.specs.PacketValues.{PacketValue, marker, typed, kept, packet_value, nid_of, dir_of, variables_of, bits_of, IsPacket}
+use Rattle.etcs_packets.specs.PacketReadings.{packet_reading, packets_reading}
+use Rattle.etcs_packets.specs.laws.PacketReadings.{packet_bits}
+use Rattle.etcs_packets.specs.Fronts.{front_of}
+
+pub length-spelled : (p q : Reading) → length (spelled (p ++ q)) ≡ length (spelled p) + length (spelled q)
+length-spelled p q = ap length (spelled-append p q) ∙ length-append (spelled p) (spelled q)
+
+-- ---- The frame.
+
+pub frame_number : (nid dir len : ℕ) → dir < 4 → len < 8192 → num 23 ((nid * 4 + dir) * 8192 + len) ≡ spelled ((NID_PACKET, nid) ∷ (Q_DIR, dir) ∷ (L_PACKET, len) ∷ [])
+frame_number nid dir len d l =
+    let first : num 23 ((nid * 4 + dir) * 8192 + len) ≡ num 10 (nid * 4 + dir) ++ num 13 len = next_number 10 13 (nid * 4 + dir) len l in
+    let second : num 10 (nid * 4 + dir) ≡ num 8 nid ++ num 2 dir = next_number 8 2 nid dir d in
+    first ∙ ap (λ (b : List Bool). b ++ num 13 len) second ∙ append_assoc (num 8 nid) (num 2 dir) (num 13 len) ∙ ap (λ (b : List Bool). num 8 nid ++ (num 2 dir ++ b)) (sym (append-nil (num 13 len)))
+
+pub frame_bits : (nid dir len : ℕ) → length (spelled ((NID_PACKET, nid) ∷ (Q_DIR, dir) ∷ (L_PACKET, len) ∷ [])) ≡ 23
+frame_bits nid dir len = omega (arith, length-sent NID_PACKET nid ((Q_DIR, dir) ∷ (L_PACKET, len) ∷ []), length-sent Q_DIR dir ((L_PACKET, len) ∷ []), length-sent L_PACKET len [])
+
+-- ---- What stands in front.
+
+pub front_marked : (v : PacketValue) → None ≡ dir_of v → num 8 (nid_of v) ≡ spelled (front_of v)
+front_marked (marker n) e = sym (append-nil (num 8 0))
+front_marked (typed nid dir r) e = absurd cc
+front_marked (kept nid dir b) e = absurd cc
+
+-- how many bits it takes
+pub front_framed_bits : (v : PacketValue) (d : ℕ) → Some d ≡ dir_of v → (length (spelled (front_of v)) ≡ 23) × (23 ≤ bits_of v)
+front_framed_bits (marker n) d e = absurd cc
+front_framed_bits (typed nid dir r) d e = (frame_bits nid dir (23 + length (spelled r)), omega arith)
+front_framed_bits (kept nid dir b) d e = (frame_bits nid dir (23 + length b), omega arith)
+
+pub front_marked_bits : (v : PacketValue) → None ≡ dir_of v → (length (spelled (front_of v)) ≡ 8) × (8 ≤ bits_of v)
+front_marked_bits (marker n) e = (ap length (sym (front_marked (marker n) e)) ∙ length-num 8 0, omega arith)
+front_marked_bits (typed nid dir r) e = absurd cc
+front_marked_bits (kept nid dir b) e = absurd cc
+
+-- ---- What stands behind.
+
+-- the variables or the kept bits
+abbrev pub rest_of : PacketValue → List Bool
+rest_of (marker n) = spelled (variables_of (marker n))
+rest_of (typed nid dir r) = spelled r
+rest_of (kept nid dir b) = b
+
+spelled_kept : (b : List Bool) → spelled (sent.kept OTHER_DATA b) ≡ b
+unfolding num
+spelled_kept [] = refl
+spelled_kept (true ∷ b) = ap (λ (l : List Bool). true ∷ l) (spelled_kept b)
+spelled_kept (false ∷ b) = ap (λ (l : List Bool). false ∷ l) (spelled_kept b)
+
+pub spelled_parts : (v : PacketValue) → spelled (packet_reading v) ≡ spelled (front_of v) ++ rest_of v
+spelled_parts (marker n) = spelled-append (front_of (marker n)) (variables_of (marker n))
+spelled_parts (typed nid dir r) = spelled-append (front_of (typed nid dir r)) r
+spelled_parts (kept nid dir b) = spelled-append (front_of (kept nid dir b)) (sent.kept OTHER_DATA b) ∙ ap (λ (l : List Bool). spelled (front_of (kept nid dir b)) ++ l) (spelled_kept b)
+
+pub rest_kept : (p : Packet) (o : OtherParts) → p ≡ Other o → o.body ≡ rest_of (packet_value p)
+rest_kept p o e = sym (ap (λ (q : Packet). rest_of (packet_value q)) e)
+
+pub rest_sent : (p : Packet) → ((o : OtherParts) → p ≡ Other o → ⊥) → spelled (variables_of (packet_value p)) ≡ rest_of (packet_value p)
+rest_sent (Other o) h = absurd (h o refl)
+rest_sent p h = refl
+
+-- how many bits both take
+pub parts_bits : (v : PacketValue) → length (spelled (front_of v)) + length (rest_of v) ≡ bits_of v
+parts_bits v = sym (length-append (spelled (front_of v)) (rest_of v)) ∙ sym (ap length (spelled_parts v)) ∙ packet_bits v
+
+-- ---- One behind the other.
+
+module _ (v : PacketValue) (at : ℕ) (before front rest : List Bool) (is : rest ≡ rest_of v) (room : at + bits_of v ≤ length before) (wrote : front ≡ replaced at (spelled (front_of v)) before) where
+  lengths : length (spelled (front_of v)) + length rest ≡ bits_of v
+  lengths = ap (λ (b : List Bool). length (spelled (front_of v)) + length b) is ∙ parts_bits v
+
+  pub rest_room : at + length (spelled (front_of v)) + length rest ≤ length front
+  rest_room =
+      let inside : at + length (spelled (front_of v)) ≤ length before = omega (arith, lengths, room) in
+      omega (arith, lengths, room, ap length wrote, length-replaced at (spelled (front_of v)) before inside)
+
+  pub both_written : (now : List Bool) → now ≡ replaced (at + length (spelled (front_of v))) rest front → now ≡ replaced at (spelled (packet_reading v)) before
+  both_written now e =
+      let place = at + length (spelled (front_of v)) in
+      let inside : place + length rest ≤ length before = omega (arith, lengths, room) in
+      e
+      ∙ ap (replaced place rest) wrote
+      ∙ replaced_more at place (spelled (front_of v)) rest before refl inside
+      ∙ ap (λ (b : List Bool). replaced at (spelled (front_of v) ++ b) before) is
+      ∙ sym (ap (λ (b : List Bool). replaced at b before) (spelled_parts v))
+
+-- ---- Packets in turn.
+
+pub packets_more : (ps : List Packet) (i : ℕ) (p : Packet) → i < length ps → p ≡ get_or ps i p → packets_reading (map packet_value (take (i + 1) ps)) ≡ packets_reading (map packet_value (take i ps)) ++ packet_reading (packet_value p)
+packets_more ps i p h e =
+    let before = map packet_value (take i ps) in
+    ap packets_reading (map_more packet_value ps i p h)
+    ∙ flat_map-append packet_reading before (packet_value (get_or ps i p) ∷ [])
+    ∙ ap (λ (r : Reading). packets_reading before ++ r) (append-nil (packet_reading (packet_value (get_or ps i p))))
+    ∙ ap (λ (q : Packet). packets_reading before ++ packet_reading (packet_value q)) (sym e)
+
+pub packets_room : (ps : List Packet) (i : ℕ) (p : Packet) → i < length ps → p ≡ get_or ps i p → length (spelled (packets_reading (map packet_value (take i ps)))) + bits_of (packet_value p) ≤ length (spelled (packets_reading (map packet_value ps)))
+packets_room ps i p h e =
+    let before = packets_reading (map packet_value (take i ps)) in
+    let behind = packets_reading (map packet_value (drop (i + 1) ps)) in
+    let one = packet_reading (packet_value p) in
+    let cut : packets_reading (map packet_value ps) ≡ (before ++ one) ++ behind =
+    ap (λ (qs : List Packet). packets_reading (map packet_value qs)) (sym (take-append-drop (i + 1) ps))
+    ∙ ap packets_reading (map-append packet_value (take (i + 1) ps) (drop (i + 1) ps))
+    ∙ flat_map-append packet_reading (map packet_value (take (i + 1) ps)) (map packet_value (drop (i + 1) ps))
+    ∙ ap (λ (r : Reading). r ++ behind) (packets_more ps i p h e) in
+    let all : length (spelled (packets_reading (map packet_value ps))) ≡ length (spelled before) + length (spelled one) + length (spelled behind) =
+    ap (λ (r : Reading). length (spelled r)) cut ∙ length-spelled (before ++ one) behind ∙ ap (λ (k : ℕ). k + length (spelled behind)) (length-spelled before one) in
+    omega (arith, all, packet_bits (packet_value p))
+
+-- a packet more behind those that stand
+module _ (ps : List Packet) (i : ℕ) (p : Packet) (h : i < length ps) (e : p ≡ get_or ps i p) (at place : ℕ) (before now : List Bool) (is : place ≡ at + length (spelled (packets_reading (map packet_value (take i ps))))) (wrote : now ≡ replaced at (spelled (packets_reading (map packet_value (take i ps)))) before) (room : at + length (spelled (packets_reading (map packet_value ps))) ≤ length before) where
+  pub next_room : place + bits_of (packet_value p) ≤ length now
+  next_room =
+      let more = packets_room ps i p h e in
+      let inside : at + length (spelled (packets_reading (map packet_value (take i ps)))) ≤ length before = omega (arith, more, room) in
+      omega (arith, more, room, is, ap length wrote, length-replaced at (spelled (packets_reading (map packet_value (take i ps)))) before inside)
+
+  pub next_place : place + bits_of (packet_value p) ≡ at + length (spelled (packets_reading (map packet_value (take (i + 1) ps))))
+  next_place =
+      let all : length (spelled (packets_reading (map packet_value (take (i + 1) ps)))) ≡ length (spelled (packets_reading (map packet_value (take i ps)))) + length (spelled (packet_reading (packet_value p))) =
+      ap (λ (r : Reading). length (spelled r)) (packets_more ps i p h e) ∙ length-spelled (packets_reading (map packet_value (take i ps))) (packet_reading (packet_value p)) in
+      omega (arith, all, is, packet_bits (packet_value p))
+
+  pub next_bits : (next : List Bool) → next ≡ replaced place (spelled (packet_reading (packet_value p))) now → next ≡ replaced at (spelled (packets_reading (map packet_value (take (i + 1) ps)))) before
+  next_bits next w =
+      let front = packets_reading (map packet_value (take i ps)) in
+      let one = packet_reading (packet_value p) in
+      let inside : place + length (spelled one) ≤ length before = omega (arith, packets_room ps i p h e, room, is, packet_bits (packet_value p)) in
+      w
+      ∙ ap (replaced place (spelled one)) wrote
+      ∙ replaced_more at place (spelled front) (spelled one) before is inside
+      ∙ ap (λ (b : List Bool). replaced at b before) (sym (spelled-append front one) ∙ ap spelled (sym (packets_more ps i p h e)))

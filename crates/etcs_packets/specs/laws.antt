@@ -1,0 +1,3 @@
+pub mod OnePacket
+pub mod PacketReadings
+pub mod Sinks

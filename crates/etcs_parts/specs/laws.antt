@@ -1,0 +1,10 @@
+pub mod Authorities
+pub mod Differings
+pub mod Displays
+pub mod Equality
+pub mod Levels
+pub mod Links
+pub mod Sections
+pub mod Slopes
+pub mod Speeds
+pub mod TextFrames

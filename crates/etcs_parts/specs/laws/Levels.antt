@@ -1,0 +1,64 @@
+-- Lemmas about specs/Levels.antt.
+use Rattle.std.proofs.Common.{◌≤◌, arith, ◌≡◌, ℕ, [], ◌∷◌, Option, Some, None, refl}
+use Rattle.etcs_vars.specs.declared.var.Var.TheVariants.{M_LEVELTR, NID_NTC, L_ACKLEVELTR}
+use Rattle.etcs_tables.specs.declared.item.Test.TheVariants.{IsOne}
+use Rattle.etcs_tables.specs.Rows.{level, level_ack}
+use Rattle.etcs_bodies.specs.Faults.{number_fault}
+use Rattle.etcs_bodies.specs.laws.Takes.{none_of}
+use Rattle.etcs_bodies.specs.Codecs.{Codes, IsGroup, group_reading}
+use Rattle.etcs_bodies.specs.laws.Codecs.{number, both, group_of, form}
+use Rattle.etcs_bodies.specs.laws.Groups.{guarded_is, guarded_none}
+use Rattle.etcs_bodies.specs.Repeats.{bit_count}
+use Rattle.etcs_bodies.specs.laws.Repeats.{bit_count-append}
+use Rattle.etcs_parts.specs.Levels.{LevelParts, level_fault, IsLevel, system_reading, level_reading, level_from, LevelAckParts, IsLevelAck, level_ack_reading, level_ack_from}
+
+-- ---- A level is what its row spells.
+
+same_system : (m : ℕ) (o : Option ℕ) → group_reading M_LEVELTR (λ n. (NID_NTC, n) ∷ []) (m, o) ≡ system_reading m o
+same_system m None = refl
+same_system m (Some n) = refl
+
+level_is : (p : LevelParts) → IsLevel p → IsGroup M_LEVELTR IsOne (λ n. number_fault NID_NTC n ≡ None) (p.m_leveltr, p.nid_ntc)
+level_is p h = guarded_is M_LEVELTR IsOne (number_fault NID_NTC) p.m_leveltr p.nid_ntc h
+
+pub level_codes : Codes level IsLevel level_reading level_from
+unfolding level_from
+level_codes =
+    form (group_of M_LEVELTR IsOne (number NID_NTC))
+    (record {
+      back = λ p. (p.m_leveltr, p.nid_ntc);
+      there = λ p. refl;
+      again = λ v. refl;
+      is = λ p h. level_is p h;
+      so = λ v h. guarded_none M_LEVELTR IsOne (number_fault NID_NTC) v.0 v.1 h;
+      same = λ p. same_system p.m_leveltr p.nid_ntc;
+    })
+
+-- ---- With the length of acknowledgement.
+
+pub level_ack_codes : Codes level_ack IsLevelAck level_ack_reading level_ack_from
+unfolding level_ack_from
+level_ack_codes =
+    form (both level_codes (number L_ACKLEVELTR))
+    (record {
+      back = λ p. (p.level, p.l_ackleveltr);
+      there = λ p. refl;
+      again = λ v. refl;
+      is = λ p h. none_of (level_fault p.level) (number_fault L_ACKLEVELTR p.l_ackleveltr) h;
+      so = λ v h. rw (h.0, h.1) refl;
+      same = λ p. refl;
+    })
+
+-- ---- Their bits.
+
+system_most : (m : ℕ) (o : Option ℕ) → bit_count (system_reading m o) ≤ 11
+system_most m None = omega arith
+system_most m (Some n) = omega arith
+
+pub level_most : (p : LevelParts) → bit_count (level_reading p) ≤ 11
+level_most p = system_most p.m_leveltr p.nid_ntc
+
+pub level_ack_most : (p : LevelAckParts) → bit_count (level_ack_reading p) ≤ 26
+level_ack_most p =
+    let both = bit_count-append (level_reading p.level) ((L_ACKLEVELTR, p.l_ackleveltr) ∷ []) in
+    omega (arith, level_most p.level)

@@ -1,0 +1,54 @@
+-- Lemmas about specs/Speeds.antt.
+use Rattle.std.proofs.Common.{◌≡◌, ◌+◌, ◌*◌, ◌≤◌, length, None, refl, ◌∙◌, arith}
+use Rattle.etcs_vars.specs.declared.var.Var.TheVariants.{D_STATIC, V_STATIC, Q_FRONT, N_ITER}
+use Rattle.etcs_vars.specs.Reading.{spelled}
+use Rattle.etcs_tables.specs.Rows.{speed}
+use Rattle.etcs_bodies.specs.Faults.{◌or_else◌, number_fault, count_fault}
+use Rattle.etcs_bodies.specs.laws.Takes.{none_of}
+use Rattle.etcs_bodies.specs.Codecs.{Codes}
+use Rattle.etcs_bodies.specs.laws.Codecs.{number, flag, both, list, form}
+use Rattle.etcs_parts.specs.Differings.{differing_reading}
+use Rattle.etcs_parts.specs.laws.Differings.{differing_codes, differing_bits}
+use Rattle.etcs_bodies.specs.laws.Choices.{few_counted, bit_count-same}
+use Rattle.etcs_bodies.specs.Repeats.{bit_count}
+use Rattle.etcs_bodies.specs.laws.Repeats.{bit_count_is}
+use Rattle.etcs_parts.specs.Speeds.{SpeedParts, speed_fault, IsSpeed, speed_reading, speed_from}
+
+-- ---- A speed is what its row spells.
+
+facts : (s : SpeedParts) → speed_fault s ≡ None → (number_fault D_STATIC s.d_static ≡ None) × (number_fault V_STATIC s.v_static ≡ None) × (count_fault N_ITER (length s.differing) ≡ None)
+facts s h =
+    let h1 = none_of (number_fault D_STATIC s.d_static) (number_fault V_STATIC s.v_static or_else count_fault N_ITER (length s.differing)) h in
+    let h2 = none_of (number_fault V_STATIC s.v_static) (count_fault N_ITER (length s.differing)) h1.1 in
+    (h1.0, h2.0, h2.1)
+
+pub speed_codes : Codes speed IsSpeed speed_reading speed_from
+unfolding speed_from
+speed_codes =
+    form (
+    both (number D_STATIC) (
+    both (number V_STATIC) (
+    both (flag Q_FRONT (refl, refl, refl)) (
+    list N_ITER differing_codes))))
+    (record {
+      back = λ s. (s.d_static, (s.v_static, (s.q_front, s.differing)));
+      there = λ s. refl;
+      again = λ v. refl;
+      is = λ s h. let k = facts s h.faultless in (k.0, (k.1, (tt, (k.2, h.differing))));
+      so = λ v h. record { faultless = rw (h.0, h.1.0, h.1.1.1.0) refl; differing = h.1.1.1.1 };
+      same = λ s. refl;
+    })
+
+-- ---- Its bits.
+
+pub speed_bits : (s : SpeedParts) → bit_count (speed_reading s) ≡ 28 + 13 * length s.differing
+speed_bits s = let entries = bit_count-same differing_reading 13 differing_bits s.differing in omega arith
+
+pub few_entries : (s : SpeedParts) → speed_fault s ≡ None → length s.differing ≤ 31
+few_entries s h = few_counted (length s.differing) (facts s h).2
+
+pub speed_spelled : (s : SpeedParts) → length (spelled (speed_reading s)) ≡ 28 + 13 * length s.differing
+speed_spelled s = bit_count_is (speed_reading s) ∙ speed_bits s
+
+pub speed_most : (s : SpeedParts) → IsSpeed s → bit_count (speed_reading s) ≤ 431
+speed_most s h = omega (arith, speed_bits s, few_entries s h.faultless)

@@ -1,8 +1,0 @@
-use Rattle.etcs_rests.proofs.Framing.{marker_moved}
-use Rattle.etcs_rests.proofs.left.PacketsLeft.take_marker.Goals as goal
-
-pub returns-clause-moved : goal.returns-clause-moved
-returns-clause-moved c =
-    let s = c.args.self.now in
-    let e = c.behind_packet-self.ensures in
-    rw c.requires.stage (marker_moved s.carrier s.room c.args.number c.behind_packet-self.result (rw c.requires.stage at s.stands) (rw c.requires.stage at c.requires.goes) e.same e.ahead)

@@ -1,5 +1,0 @@
-use Rattle.etcs_container.proofs.Padding.{padded}
-use Rattle.etcs_rests.proofs.left.behind_packet.Goals as goal
-
-pub returns-then-room-le7-clause-same : goal.returns-then-room-le7-clause-same
-returns-then-room-le7-clause-same c = rw c.in-Message.is (padded c.args.room c.if-room-le7.true)

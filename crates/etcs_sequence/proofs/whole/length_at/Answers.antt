@@ -1,0 +1,18 @@
+use Rattle.std.proofs.Common.{arith}
+use Rattle.etcs_bits.proofs.Positions.{length-bits}
+use Rattle.etcs_sequence.proofs.whole.length_at.Goals as goal
+
+pub overflow_mul-count : goal.overflow_mul-count
+overflow_mul-count c = omega (arith, c.requires.small, length-bits c.args.piece.now)
+
+pub overflow_sub-count : goal.overflow_sub-count
+overflow_sub-count c = omega (arith, c.requires.inside, length-bits c.args.piece.now)
+
+pub overflow_add-at : goal.overflow_add-at
+overflow_add-at c = omega (arith, c.requires.inside, c.requires.small, length-bits c.args.piece.now)
+
+pub number_at-len-requires-clause-inside : goal.number_at-len-requires-clause-inside
+number_at-len-requires-clause-inside c = omega (arith, length-bits c.args.piece.now)
+
+pub returns-clause-within : goal.returns-clause-within
+returns-clause-within c = omega (arith, length-bits c.args.piece.now)

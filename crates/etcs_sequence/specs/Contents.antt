@@ -1,0 +1,79 @@
+-- Packets one behind the other in a room of so many bits, up to what closes them: packet 255 in a telegram, padding in
+-- a message (SUBSET-026, 7.4 and 8).
+use Rattle.std.specs.Prelude.{◌≡◌, ℕ, ◌+◌, ◌-◌, ◌≤◌, ◌<◌, ◌^◌, Bool, List, [], ◌∷◌, ◌++◌, length, IsTrue, Some, All, ◌⊎◌}
+use Rattle.etcs_vars.specs.declared.var.Var.TheVariants.{NID_PACKET, NID_VBCMK, Q_DIR, L_PACKET, OTHER_DATA}
+use Rattle.etcs_vars.specs.Vars.{admits}
+use Rattle.etcs_vars.specs.Reading.{Reading, Then, spelled, kept}
+use Rattle.etcs_tables.specs.declared.row.Way.TheVariants.{ToTrain}
+use Rattle.etcs_rows.specs.declared.frames.Carrier.{Carrier}
+use Rattle.etcs_rows.specs.declared.frames.Carrier.TheVariants.{Telegram, Message}
+use Rattle.etcs_tables.specs.Layouts.{Layout, ReadsIn}
+use Rattle.etcs_tables.specs.Rows.{row_to}
+use Rattle.etcs_tables.specs.Frames.{is_kept}
+use Rattle.etcs_packets.specs.PacketValues.{PacketValue, nid_of, IsPacket}
+use Rattle.etcs_packets.specs.PacketReadings.{packets_reading}
+
+-- what closes the packets
+abbrev pub closing : Carrier → Reading
+closing Telegram = (NID_PACKET, 255) ∷ []
+closing Message = []
+
+-- packets of so many bits, with what closes them, fill the room: in a message but for its padding
+abbrev pub Fills : Carrier → ℕ → ℕ → Type 0
+Fills Telegram room bits = bits ≤ room
+Fills Message room bits = (bits ≤ room) × (room ≤ bits + 7)
+
+-- packet 0 is a telegram's
+abbrev pub Carries : Carrier → PacketValue → Type 0
+Carries Telegram v = IsPacket v
+Carries Message v = IsPacket v × (0 < nid_of v)
+
+-- these packets in a room, with what closes them
+pub record RunOf (c : Carrier) (room : ℕ) (vs : List PacketValue) (r : Reading) : Type 0 where
+  pub carried : All (Carries c) vs
+  pub reading_is : r ≡ packets_reading vs ++ closing c
+  pub fills : Fills c room (length (spelled r))
+
+abbrev pub Run : Carrier → ℕ → Reading → Type 0
+Run c room r = (vs : List PacketValue) × RunOf c room vs r
+
+-- ---- What is left of it behind some of its variables.
+
+-- so many bits of OTHER_DATA
+abbrev pub KeptIn : ℕ → Reading → Type 0
+KeptIn bits r = (b : List Bool) × (length b ≡ bits) × (r ≡ kept OTHER_DATA b)
+
+-- so many bits behind the frame of a packet
+abbrev pub BodyIn : ℕ → ℕ → Reading → Type 0
+BodyIn nid bits r = ((row : Layout) × (row_to ToTrain nid ≡ Some row) × ReadsIn row bits r) ⊎ (IsTrue (is_kept ToTrain nid) × KeptIn bits r)
+
+abbrev pub BodyLeft : Carrier → ℕ → ℕ → ℕ → Reading → Type 0
+BodyLeft c nid bits room = Then (BodyIn nid bits) (Run c room)
+
+-- behind L_PACKET; the room counts from the packet's first bit
+abbrev pub AfterLength : Carrier → ℕ → ℕ → ℕ → Reading → Type 0
+AfterLength c nid room l r = (23 ≤ l) × (l < 2 ^ 13) × (l ≤ room) × BodyLeft c nid (l - 23) (room - l) r
+
+abbrev pub LengthLeft : Carrier → ℕ → ℕ → Reading → Type 0
+LengthLeft c nid room r = (l : ℕ) × (rest : Reading) × (r ≡ (L_PACKET, l) ∷ rest) × AfterLength c nid room l rest
+
+abbrev pub AfterDirection : Carrier → ℕ → ℕ → ℕ → Reading → Type 0
+AfterDirection c nid room dir r = IsTrue (admits Q_DIR dir) × LengthLeft c nid room r
+
+abbrev pub DirectionLeft : Carrier → ℕ → ℕ → Reading → Type 0
+DirectionLeft c nid room r = (dir : ℕ) × (rest : Reading) × (r ≡ (Q_DIR, dir) ∷ rest) × AfterDirection c nid room dir rest
+
+abbrev pub AfterMarker : ℕ → ℕ → Reading → Type 0
+AfterMarker room n r = IsTrue (admits NID_VBCMK n) × (14 ≤ room) × Run Telegram (room - 14) r
+
+abbrev pub MarkerLeft : ℕ → Reading → Type 0
+MarkerLeft room r = (n : ℕ) × (rest : Reading) × (r ≡ (NID_VBCMK, n) ∷ rest) × AfterMarker room n rest
+
+-- behind NID_PACKET: nothing behind 255, NID_VBCMK behind 0, else a frame
+abbrev pub AfterNumber : Carrier → ℕ → ℕ → Reading → Type 0
+AfterNumber c room n r = ((c ≡ Telegram) × (n ≡ 255) × (8 ≤ room) × (r ≡ [])) ⊎ (((c ≡ Telegram) × (n ≡ 0) × MarkerLeft room r) ⊎ ((0 < n) × (n < 255) × DirectionLeft c n room r))
+
+-- more packets come, or packet 255
+abbrev pub IsOpen : Carrier → ℕ → Type 0
+IsOpen Telegram room = Unit {0}
+IsOpen Message room = 7 < room

@@ -1,0 +1,15 @@
+pub mod BitLaws
+pub mod ChainLaws
+pub mod Contents
+pub mod Held
+pub mod Holdings
+pub mod Labels
+pub mod Lefts
+pub mod Phases
+pub mod Readables
+pub mod Refs
+pub mod RowBits
+pub mod Runs
+pub mod Spellings
+pub mod Stages
+pub mod laws

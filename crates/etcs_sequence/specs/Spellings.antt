@@ -1,0 +1,10 @@
+-- What the spellings of packets in a room say.
+use Rattle.std.specs.Prelude.{◌≡◌, ℕ, Bool, List, [], ◌++◌}
+use Rattle.etcs_vars.specs.Reading.{Reading, spelled}
+use Rattle.etcs_rows.specs.declared.frames.Carrier.{Carrier}
+use Rattle.etcs_packets.specs.PacketValues.{PacketValue}
+use Rattle.etcs_sequence.specs.Contents.{RunOf}
+
+-- packets with one spelling are one, and no spelling begins another
+abbrev pub OneSpelling : Type 0
+OneSpelling = (c : Carrier) (room : ℕ) (vs us : List PacketValue) (a b : Reading) (behind : List Bool) → RunOf c room vs a → RunOf c room us b → spelled b ≡ spelled a ++ behind → (vs ≡ us) × (behind ≡ [])

@@ -1,0 +1,13 @@
+pub mod Agreement
+pub mod BitLaws
+pub mod ChainLaws
+pub mod LabelLaws
+pub mod LeftLaws
+pub mod OpenLaws
+pub mod Others
+pub mod RowLaws
+pub mod RunSteps
+pub mod StageLaws
+pub mod ThenLaws
+pub mod Turns
+pub mod Typed

@@ -1,0 +1,181 @@
+//! One reader of every item: telegrams, and messages.
+
+ghost use Rattle.std.specs.Prelude.{◌≡◌, ◌≢◌, ℕ, List, Bool, [], Err, None, MatchResult, IfSome, IsNone};
+ghost use Rattle.etcs_bits.specs.Bits.{bits};
+ghost use Rattle.etcs_vars.specs.Reading.{Reading, readings_of};
+ghost use Rattle.etcs_vars.proofs.Languages.{Same};
+ghost use Rattle.etcs_packets.specs.declared.packet.Packet.{Packet};
+ghost use Rattle.etcs_sequence.specs.declared.list.PacketList.{PacketList};
+ghost use Rattle.etcs_sequence.specs.Holdings.{IsHeld};
+ghost use Rattle.etcs_sequence.specs.Readables.{Readable};
+
+use crate::Held;
+use crate::fault::fault_by;
+use crate::list::PacketList;
+use etcs_packets::Packet;
+use etcs_reader::{Feeder, Rest};
+use etcs_vars::{Fed, ReadFault};
+use std::marker::Model;
+
+/// What is left of an item whose packets go to a list, and the item that is made of what is kept of it.
+pub trait ItemRest: Rest {
+    /// What is known of the item's size before its first bit.
+    type Size: Copy;
+
+    /// The item.
+    type Item;
+
+    /// What an item shows to a reader of its bits.
+    ghost Shown: { Type 0 };
+
+    /// These variables are those of an item of this size.
+    ghost Reads: { Self.Size → Shown → Reading → Type 0 };
+
+    ghost value: { Self.Item → Shown };
+
+    ghost IsValue: { Self.Item → Type 0 };
+
+    /// How many bits it has.
+    ghost bits: { Self.Item → ℕ };
+
+    /// The most bytes that an item of this size has.
+    ghost most: { Self.Size → ℕ };
+
+    /// Memory is refused behind so many bits alone.
+    ghost least: { ℕ };
+
+    /// The variables that were read.
+    ghost far: { Self → Reading };
+
+    /// These variables were read, and so much is kept of them.
+    ghost holds: { Self.Size → Self → Reading → Type 0 };
+
+    /// The item, where nothing is left.
+    ghost made: { Self → Self.Item };
+
+    ghost store: { Self → PacketList };
+
+    /// These variables have these whole packets, and of the one that is being read these numbers or bits.
+    ghost Members: { List Packet → List ℕ → List Bool → Reading → Type 0 };
+
+    /// The most bytes that an item of this size has.
+    fn most(size: Self::Size) -> usize
+        ensures { result ≡ most size };
+
+    /// Where the packets go.
+    fn store(&self) -> &PacketList
+        ensures { result.now ≡ store self.now };
+
+    /// The item, where nothing is left of it.
+    fn into_item(self, size: Self::Size) -> Self::Item
+        requires ended { Self.next self ≡ None }
+        requires whole { readings_of (Reads size) (far self) }
+        requires holds { holds size self (far self) }
+        ensures { result ≡ made self };
+}
+
+/// Reads an item from pieces of any length. It keeps none of the bytes: only what the rest keeps, and the
+/// bits of one unfinished variable.
+#[derive(Drop)]
+pub struct ItemReader<R: ItemRest> {
+    size: R::Size,
+    feeder: Feeder<R>,
+}
+
+impl<R: ItemRest> Model for ItemReader<R> {
+    ghost use Rattle.etcs_sequence.specs.Readables.{ItemValue, stage_at, IsItemReader};
+
+    ghost Value = { ItemValue R.Size R.Item };
+
+    ghost view = { λ r. record { size = r.size; stage = stage_at R.next R.far R.made r.feeder } };
+
+    ghost invariant = { λ r. IsItemReader R R.Item R.Shown R.left R.next R.follows R.fails R.far (R.holds r.size) (R.Reads r.size) R.value R.IsValue R.bits R.made R.store R.Members (R.most r.size) R.least r.feeder };
+}
+
+impl<R: ItemRest> ItemReader<R> {
+    ghost use Rattle.etcs_sequence.specs.Stages.{Feeds, IsReading, fault_of, seen_of, reading, finished};
+
+    /// A reader of an item of this size, of which all is left.
+    pub fn new(size: R::Size, rest: R) -> Self
+        requires readable { Readable R R.Item R.Shown R.left R.next R.follows R.fails R.far (R.holds size) (R.Reads size) R.value R.IsValue R.bits R.made R.store R.Members (R.most size) R.least }
+        requires same { Same (R.left rest) (readings_of (R.Reads size)) }
+        requires holds { R.holds size rest [] }
+        ensures { result ≡ record { size = size; stage = reading [] } }
+    {
+        ItemReader {
+            size,
+            feeder: Feeder::new(rest),
+        }
+    }
+
+    /// How many leading bits were accepted, over all pieces.
+    pub fn bits_seen(&self) -> usize
+        ensures { result ≡ seen_of R.bits self.now.stage }
+    {
+        self.feeder.count()
+    }
+
+    /// Takes the next piece: `More` where all of it was taken and the item isn't whole yet, `Done` with the
+    /// number of its bytes up to the item's end.
+    ///
+    /// # Errors
+    ///
+    /// `Refused` with the first bit, counted from 0 over all pieces, with which no item goes on, and the
+    /// variable that holds it; `Memory` where memory is refused at a bit with which an item goes on; `Ended`
+    /// where the item was whole before. The reader then answers the same to each later piece.
+    pub fn feed(&mut self, piece: &[u8]) -> Result<Fed, ReadFault>
+        ensures answer { (seen : List Bool) → self.old.stage ≡ reading seen → Feeds (R.Reads self.old.size) R.value R.IsValue R.least seen (bits piece.now) result self.new.stage }
+        ensures after { (IsReading self.old.stage → ⊥) → (self.new ≡ self.old) × (result ≡ Err (fault_of self.old.stage)) }
+        ensures size { self.new.size ≡ self.old.size }
+    {
+        if let Some(stop) = self.feeder.stop() {
+            return Err(fault_by(stop));
+        }
+        if self.feeder.var().is_none() {
+            return Err(ReadFault::Ended);
+        }
+        let wanted = R::most(self.size) - self.feeder.count() / 8;
+        let fed = wanted.min(piece.len());
+        match self.feeder.feed(&piece[..fed]) {
+            Ok(taken) => match self.feeder.var() {
+                Some(_) => Ok(Fed::More),
+                None => Ok(Fed::Done { taken: taken / 8 }),
+            },
+            Err(stop) => Err(fault_by(stop)),
+        }
+    }
+
+    /// What it holds between two pieces: the whole packets, the numbers or kept bits of what is being read,
+    /// and the unfinished variable. `None` after `Done`, `Refused` or `Memory`.
+    pub fn held(&self) -> Option<Held<'_, Packet>>
+        ensures some { IfSome result (λ h. IsHeld (readings_of (R.Reads self.now.size)) (R.Members h.packets.now h.numbers.now h.kept) self.now.stage h.part h.taken) }
+        ensures none { IsNone result → IsReading self.now.stage → ⊥ }
+    {
+        if self.feeder.stop().is_some() || self.feeder.var().is_none() {
+            return None;
+        }
+        let store = self.feeder.rest().store();
+        let (part, taken) = self.feeder.part();
+        Some(Held {
+            packets: store.packets.as_slice(),
+            numbers: store.numbers.as_slice(),
+            kept: store.bits.as_slice(),
+            part,
+            taken,
+        })
+    }
+
+    /// The item, once `feed` has answered `Done`.
+    ///
+    /// # Errors
+    ///
+    /// The reader itself, as it was, where there is no whole item.
+    pub fn take(self) -> Result<R::Item, Self>
+        ensures { MatchResult result (λ t. self.stage ≡ finished t) (λ r. (r ≡ self) × ((t : R.Item) → self.stage ≢ finished t)) }
+    {
+        if self.feeder.stop().is_some() || self.feeder.var().is_some() {
+            return Err(self);
+        }
+        Ok(self.feeder.into_rest().into_item(self.size))
+    }
+}

@@ -1,0 +1,8 @@
+//! Laws, each the contract of a function.
+
+ghost use Rattle.etcs_sequence.specs.Spellings.{OneSpelling};
+
+/// Packets of one room with one spelling are the same, and no spelling of them begins another.
+pub fn one_spelling()
+    ensures { OneSpelling }
+{}

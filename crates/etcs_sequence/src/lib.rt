@@ -1,0 +1,41 @@
+//! Packets one after another in a room of bits, as telegrams and messages hold them.
+//!
+//! [`RowRest`] is what is left of a row of a known number of bits, [`PacketsRest`] what is left of packets
+//! in a room. What is read goes into a [`PacketStore`]: [`PacketList`] makes packets of it,
+//! [`PacketCount`] counts them and takes no memory. [`Packets`] are those in bytes of the caller's, which
+//! aren't copied. `specs/Stages.antt` and `proofs/Feeding.antt` say what a reader of any such language
+//! is and answers.
+#![tactic(auto)]
+
+mod count;
+mod fault;
+mod held;
+mod item;
+mod kinds;
+pub mod laws;
+mod left;
+mod list;
+mod packet_ref;
+mod packets;
+mod packets_in;
+pub mod parts;
+mod phase;
+mod pieces;
+mod row;
+mod row_bits;
+mod stage;
+mod starts;
+mod store;
+mod whole;
+
+pub use count::PacketCount;
+pub use held::Held;
+pub use item::{ItemReader, ItemRest};
+pub use left::PacketsLeft;
+pub use list::PacketList;
+pub use packet_ref::PacketRef;
+pub use packets::PacketsRest;
+pub use packets_in::Packets;
+pub use row::RowRest;
+pub use stage::Stage;
+pub use store::PacketStore;

@@ -1,0 +1,114 @@
+//! Packets that are made as they are read.
+
+ghost use Rattle.std.specs.Prelude.{◌≡◌, ℕ, Bool, List, [], ◌∷◌, ◌++◌, ⊤, OnOk, map, All};
+ghost use Rattle.etcs_sequence.specs.Held.{list_holds};
+
+use crate::store::PacketStore;
+use etcs_bits::parts::append;
+use etcs_bits::{BitSlice, Bits};
+use etcs_packets::parts::{from_bits, from_fields, holds};
+use etcs_packets::{Other, Packet};
+use etcs_tables::{Way, row_of};
+use std::alloc::{AllocError, Global};
+use std::mem;
+
+/// The packets that were read, and the numbers or bits of the one that is being read.
+#[derive(Drop)]
+pub struct PacketList {
+    pub alloc: Global,
+    pub packets: Vec<Packet>,
+    /// The numbers behind L_PACKET of the typed packet that is being read.
+    pub numbers: Vec<u64>,
+    /// The bits behind L_PACKET of the packet that is being kept, or those of FILL.
+    pub bits: Bits,
+}
+
+impl PacketList {
+    /// Nothing yet. Takes no memory.
+    pub fn new(alloc: Global) -> PacketList
+        ensures packets { result.packets.items ≡ [] }
+        ensures numbers { result.numbers.items ≡ [] }
+        ensures bits { result.bits ≡ [] }
+    {
+        PacketList {
+            alloc,
+            packets: Vec::new(alloc),
+            numbers: Vec::new(alloc),
+            bits: Bits::new(alloc),
+        }
+    }
+}
+
+/// Puts a packet behind the others.
+fn put(packets: &mut Vec<Packet>, packet: Packet) -> Result<(), AllocError>
+    ensures { OnOk result (packets.new.items ≡ packets.old.items ++ packet ∷ []) }
+{
+    match packets.push(packet) {
+        Ok(()) => Ok(()),
+        Err(_) => Err(AllocError),
+    }
+}
+
+impl PacketStore for PacketList {
+    ghost holds = { λ s. list_holds s.packets.items s.numbers.items s.bits };
+
+    ghost fails = { ⊤ };
+
+    #[inline]
+    fn number(&mut self, number: u64) -> Result<(), AllocError> {
+        match self.numbers.push(number) {
+            Ok(()) => Ok(()),
+            Err(_) => Err(AllocError),
+        }
+    }
+
+    fn bits(&mut self, slice: &BitSlice<'_>) -> Result<(), AllocError> {
+        match append(&mut self.bits, slice) {
+            Ok(()) => Ok(()),
+            Err(error) => Err(error),
+        }
+    }
+
+    fn marker(&mut self, number: u8) -> Result<(), AllocError> {
+        let Ok(packet) = Packet::vbc_marker(number) else {
+            unreachable!()
+        };
+        put(&mut self.packets, packet)
+    }
+
+    fn typed(&mut self, nid: u8, dir: u8) -> Result<(), AllocError> {
+        match from_fields(self.alloc, nid, dir, self.numbers.as_slice()) {
+            Ok(Some(packet)) => {
+                holds(&packet);
+                put(&mut self.packets, packet)?;
+                self.numbers.clear();
+                Ok(())
+            }
+            Ok(None) => unreachable!(),
+            Err(error) => Err(error),
+        }
+    }
+
+    fn kept(&mut self, nid: u8, dir: u8) -> Result<(), AllocError> {
+        let body = mem::replace(&mut self.bits, Bits::new(self.alloc));
+        match Other::new(nid, dir, body) {
+            Ok(other) => put(&mut self.packets, Packet::Other(other)),
+            Err(_) => unreachable!(),
+        }
+    }
+
+    fn whole(&mut self, nid: u8, dir: u8, body: BitSlice<'_>) -> Result<bool, AllocError> {
+        let Some(_) = row_of(Way::ToTrain, nid) else {
+            return Ok(false);
+        };
+        match from_bits(self.alloc, nid, dir, body) {
+            Ok(Some(packet)) => {
+                holds(&packet);
+                put(&mut self.packets, packet)?;
+                Ok(true)
+            }
+            Ok(None) => Ok(false),
+            Err(error) => Err(error),
+        }
+    }
+}

@@ -1,0 +1,266 @@
+//! What is left of packets, and what is kept of those that were read.
+
+ghost use Rattle.std.specs.Prelude.{◌≡◌, ◌≢◌, ◌↔◌, ℕ, ◌+◌, ◌-◌, ◌*◌, ◌^◌, ◌<◌, ◌≤◌, [], ◌∷◌, ◌++◌, Some, None, true, false, Bool, List, length, All, IsTrue, OnOk, OnErr, IfOk, IfSome, IsNone};
+ghost use Rattle.etcs_bits.specs.Bits.{bits, part};
+ghost use Rattle.etcs_vars.specs.Vars.{width};
+ghost use Rattle.etcs_vars.specs.Reading.{Reading, Viable};
+ghost use Rattle.etcs_vars.proofs.Languages.{Same};
+ghost use Rattle.etcs_packets.specs.PacketValues.{PacketValue};
+ghost use Rattle.etcs_packets.specs.PacketReadings.{packets_reading};
+ghost use Rattle.etcs_sequence.specs.Contents.{Carries, Run};
+ghost use Rattle.etcs_rows.specs.declared.frames.Carrier.{Carrier};
+ghost use Rattle.etcs_reader.specs.Rests.{Goes, Starts, LeapsBy};
+ghost use Rattle.etcs_sequence.specs.declared.stage.Stage.{Stage};
+ghost use Rattle.etcs_sequence.specs.Lefts.{next_of, left_of, ahead, is_closed, may_grow, numbers_with, bits_with, Here, After, Moved, HoldsAt};
+ghost use Rattle.etcs_sequence.specs.laws.LeftLaws.{left_regular, left_begins, left_ended, moved_none, moved_along, held_none, held_along};
+
+use crate::left::PacketsLeft;
+use crate::parts::{length_at, number_at, run_at};
+use crate::stage::{Event, Keep, Stage};
+use crate::store::PacketStore;
+use etcs_bits::BitSlice;
+use etcs_reader::Rest;
+use etcs_rows::parts::Carrier;
+use etcs_vars::Var;
+use std::alloc::AllocError;
+
+/// What is left of packets one behind the other in a room of bits, and where those go that were read.
+#[derive(Drop)]
+pub struct PacketsRest<S: PacketStore> {
+    pub left: PacketsLeft,
+    pub store: S,
+    pub ghost held: { ∥ (is_closed left.stage ≡ false → ((q : Reading) × HoldsAt left.carrier left.stage (S.holds store) q)) ∥₁ },
+}
+
+/// Keeps what a number says, which goes to a row's numbers or to kept bits.
+fn absorb<S: PacketStore>(store: &mut S, keep: Keep, number: u64) -> Result<(), AllocError>
+    requires { keep ≡ Keep.Bit → ∥ ((vs : List PacketValue) × ((f : List ℕ) × ((k : List Bool) × (S.holds store.old vs f k × (length k < 8191))))) ∥₁ }
+    ensures ok { OnOk result ((vs : List PacketValue) (f : List ℕ) (k : List Bool) → S.holds store.old vs f k → S.holds store.new vs (numbers_with keep f number) (bits_with keep k number)) }
+    ensures err { OnErr result (S.fails × (keep ≢ Keep.Nothing)) }
+{
+    match keep {
+        Keep::Number => store.number(number),
+        Keep::Bit => {
+            let byte = [if number == 1 { 1 } else { 0 }];
+            store.bits(&run_at(&byte, 7, 1))
+        }
+        Keep::Nothing => Ok(()),
+    }
+}
+
+/// Makes the packet that is whole.
+fn finish<S: PacketStore>(store: &mut S, event: Event) -> Result<(), AllocError>
+    requires { ∥ ((c : Carrier) × ((s : Stage) × ((vs : List PacketValue) × ((f : List ℕ) × ((k : List Bool) × ((h : Reading) × (S.holds store.old vs f k × After c s f k h event))))))) ∥₁ }
+    ensures ok { OnOk result ((c : Carrier) (s : Stage) (vs : List PacketValue) (f : List ℕ) (k : List Bool) (h : Reading) → S.holds store.old vs f k → All (Carries c) vs → After c s f k h event → HoldsAt c s (S.holds store.new) (packets_reading vs ++ h)) }
+    ensures err { OnErr result (S.fails × (event ≢ Event.More)) }
+{
+    match event {
+        Event::More => Ok(()),
+        Event::Marker(number) => store.marker(number),
+        Event::Typed(nid, dir) => store.typed(nid, dir),
+        Event::Kept(nid, dir) => store.kept(nid, dir),
+    }
+}
+
+impl<S: PacketStore> PacketsRest<S> {
+    /// All packets of a room of so many bits, and a store that holds none.
+    pub fn new(carrier: Carrier, room: usize, store: S) -> PacketsRest<S>
+        requires small { room ≤ 8191 }
+        requires none { S.holds store [] [] [] }
+        ensures carrier { result.left.carrier ≡ carrier }
+        ensures ahead { ahead result.left.room result.left.stage ≡ room }
+        ensures left { Same (left_of result.left.carrier result.left.room result.left.stage) (Run carrier room) }
+        ensures store { result.store ≡ store }
+        ensures held { HoldsAt result.left.carrier result.left.stage (S.holds result.store) [] }
+    {
+        PacketsRest {
+            left: PacketsLeft::new(carrier, room),
+            store,
+        }
+    }
+
+    /// All packets of a room of so many bits again, where the store holds none yet.
+    pub fn start(&mut self, carrier: Carrier, room: usize)
+        requires small { room ≤ 8191 }
+        requires none { ∥ S.holds self.old.store [] [] [] ∥₁ }
+        ensures carrier { self.new.left.carrier ≡ carrier }
+        ensures ahead { ahead self.new.left.room self.new.left.stage ≡ room }
+        ensures left { Same (left_of self.new.left.carrier self.new.left.room self.new.left.stage) (Run carrier room) }
+        ensures store { self.new.store ≡ self.old.store }
+        ensures held { S.holds self.old.store [] [] [] → HoldsAt self.new.left.carrier self.new.left.stage (S.holds self.new.store) [] }
+    {
+        self.left = PacketsLeft::new(carrier, room);
+    }
+
+    /// Takes packet 255, where the piece has it and it may come next, and says how many bits it was.
+    #[inline]
+    fn leap_closing(&mut self, piece: &[u8], at: usize) -> Option<usize>
+        requires stage { self.old.left.stage ≡ Stage.Number }
+        requires inside { at < length (bits piece.now) }
+        requires small { length (bits piece.now) < 2 ^ 64 }
+        ensures none { IsNone result → self.new ≡ self.old }
+        ensures some { IfSome result (λ n. LeapsBy (left_of self.new.left.carrier self.new.left.room self.new.left.stage) (λ p. Moved self.old.left.carrier self.old.left.room self.old.left.stage p self.new.left.carrier self.new.left.room self.new.left.stage × ((q : Reading) → HoldsAt self.old.left.carrier self.old.left.stage (S.holds self.old.store) q → HoldsAt self.new.left.carrier self.new.left.stage (S.holds self.new.store) (q ++ p))) (bits piece.now) at n) }
+    {
+        if piece.len() * 8 - at < 8 {
+            return None;
+        }
+        if number_at(piece, at, 8) != 255 {
+            return None;
+        }
+        if !self.left.may_close() {
+            return None;
+        }
+        self.left.take_number(255);
+        Some(8)
+    }
+
+    /// Takes the typed packet that begins at `at`, where it lies whole in the piece, and says how many bits
+    /// it was.
+    fn leap_packet(&mut self, piece: &[u8], at: usize) -> Result<Option<usize>, AllocError>
+        requires stage { self.old.left.stage ≡ Stage.Number }
+        requires inside { at < length (bits piece.now) }
+        requires small { length (bits piece.now) < 2 ^ 64 }
+        ensures none { IfOk result (λ o. IsNone o → self.new ≡ self.old) }
+        ensures some { IfOk result (λ o. IfSome o (λ n. LeapsBy (left_of self.new.left.carrier self.new.left.room self.new.left.stage) (λ p. Moved self.old.left.carrier self.old.left.room self.old.left.stage p self.new.left.carrier self.new.left.room self.new.left.stage × ((q : Reading) → HoldsAt self.old.left.carrier self.old.left.stage (S.holds self.old.store) q → HoldsAt self.new.left.carrier self.new.left.stage (S.holds self.new.store) (q ++ p))) (bits piece.now) at n)) }
+        ensures err { OnErr result S.fails }
+        ensures viable { OnErr result (Viable (left_of self.old.left.carrier self.old.left.room self.old.left.stage) (part at 1 (bits piece.now))) }
+    {
+        let Some(len) = length_at(self.left.carrier, self.left.room, piece, at) else {
+            return Ok(None);
+        };
+        let nid = number_at(piece, at, 8) as u8;
+        let dir = number_at(piece, at + 8, 2) as u8;
+        match self.store.whole(nid, dir, run_at(piece, at + 23, len - 23)) {
+            Ok(true) => {
+                self.left.skip(len);
+                Ok(Some(len))
+            }
+            Ok(false) => Ok(None),
+            Err(error) => {
+                self.left.close();
+                Err(error)
+            }
+        }
+    }
+
+    /// Takes packet 255, or the typed packet that begins at `at`, where it lies whole in the piece, and says how many
+    /// bits it was.
+    fn leap_number(&mut self, piece: &[u8], at: usize) -> Result<Option<usize>, AllocError>
+        requires stage { self.old.left.stage ≡ Stage.Number }
+        requires inside { at < length (bits piece.now) }
+        requires small { length (bits piece.now) < 2 ^ 64 }
+        ensures none { IfOk result (λ o. IsNone o → self.new ≡ self.old) }
+        ensures some { IfOk result (λ o. IfSome o (λ n. LeapsBy (left_of self.new.left.carrier self.new.left.room self.new.left.stage) (λ p. Moved self.old.left.carrier self.old.left.room self.old.left.stage p self.new.left.carrier self.new.left.room self.new.left.stage × ((q : Reading) → HoldsAt self.old.left.carrier self.old.left.stage (S.holds self.old.store) q → HoldsAt self.new.left.carrier self.new.left.stage (S.holds self.new.store) (q ++ p))) (bits piece.now) at n)) }
+        ensures err { OnErr result S.fails }
+        ensures viable { OnErr result (Viable (left_of self.old.left.carrier self.old.left.room self.old.left.stage) (part at 1 (bits piece.now))) }
+    {
+        if let Some(count) = self.leap_closing(piece, at) {
+            return Ok(Some(count));
+        }
+        match self.leap_packet(piece, at) {
+            Ok(taken) => Ok(taken),
+            Err(error) => Err(error),
+        }
+    }
+
+    /// Takes a run of OTHER_DATA, of which `left` bits are wanted, and says how many bits it was.
+    fn leap_kept(
+        &mut self,
+        nid: u8,
+        dir: u8,
+        left: usize,
+        piece: &[u8],
+        at: usize,
+    ) -> Result<Option<usize>, AllocError>
+        requires stage { self.old.left.stage ≡ Stage.Kept nid dir left }
+        requires inside { at < length (bits piece.now) }
+        requires small { length (bits piece.now) < 2 ^ 64 }
+        requires goes { Goes (left_of self.old.left.carrier self.old.left.room self.old.left.stage) }
+        ensures some { IfOk result (λ o. (n : ℕ) × ((o ≡ Some n) × LeapsBy (left_of self.new.left.carrier self.new.left.room self.new.left.stage) (λ p. Moved self.old.left.carrier self.old.left.room self.old.left.stage p self.new.left.carrier self.new.left.room self.new.left.stage × ((q : Reading) → HoldsAt self.old.left.carrier self.old.left.stage (S.holds self.old.store) q → HoldsAt self.new.left.carrier self.new.left.stage (S.holds self.new.store) (q ++ p))) (bits piece.now) at n)) }
+        ensures err { OnErr result S.fails }
+        ensures viable { OnErr result (Viable (left_of self.old.left.carrier self.old.left.room self.old.left.stage) (part at 1 (bits piece.now))) }
+    {
+        let count = left.min(piece.len() * 8 - at);
+        match self.store.bits(&run_at(piece, at, count)) {
+            Ok(()) => {}
+            Err(error) => {
+                self.left.close();
+                return Err(error);
+            }
+        }
+        let event = self.left.take_bits(nid, dir, left, count);
+        match finish(&mut self.store, event) {
+            Ok(()) => Ok(Some(count)),
+            Err(error) => {
+                self.left.close();
+                Err(error)
+            }
+        }
+    }
+}
+
+impl<S: PacketStore> Rest for PacketsRest<S> {
+    ghost left = { λ s. left_of s.left.carrier s.left.room s.left.stage };
+
+    ghost next = { λ s. next_of s.left.stage };
+
+    ghost follows = { λ s p t. Moved s.left.carrier s.left.room s.left.stage p t.left.carrier t.left.room t.left.stage × ((q : Reading) → HoldsAt s.left.carrier s.left.stage (S.holds s.store) q → HoldsAt t.left.carrier t.left.stage (S.holds t.store) (q ++ p)) };
+
+    ghost fails = { λ s. S.fails × IsTrue (may_grow s.left.stage) };
+
+    #[inline]
+    fn var(&self) -> Option<Var> {
+        self.left.var()
+    }
+
+    #[inline]
+    fn begins(&self, var: Var, rest: usize, number: u64) -> bool {
+        self.left.begins(var, rest, number)
+    }
+
+    fn pass(&mut self, var: Var, number: u64) -> Result<(), AllocError> {
+        let keep = self.left.keeps();
+        match absorb(&mut self.store, keep, number) {
+            Ok(()) => {}
+            Err(error) => {
+                self.left.close();
+                return Err(error);
+            }
+        }
+        let event = self.left.take(var, number);
+        match finish(&mut self.store, event) {
+            Ok(()) => Ok(()),
+            Err(error) => {
+                self.left.close();
+                Err(error)
+            }
+        }
+    }
+
+    #[inline]
+    fn leap(&mut self, piece: &[u8], at: usize) -> Result<Option<usize>, AllocError> {
+        match &self.left.stage {
+            Stage::Number => self.leap_number(piece, at),
+            Stage::Kept(nid, dir, left) => {
+                let (nid, dir, left) = (*nid, *dir, *left);
+                match self.leap_kept(nid, dir, left, piece, at) {
+                    Ok(taken) => Ok(taken),
+                    Err(error) => Err(error),
+                }
+            }
+            _ => Ok(None),
+        }
+    }
+
+    ghost regular = { λ s. left_regular s.left.carrier s.left.room s.left.stage };
+
+    ghost begins_with = { λ s. left_begins s.left.carrier s.left.room s.left.stage s.left.stands };
+
+    ghost ended = { λ s. left_ended s.left.carrier s.left.room s.left.stage s.left.stands };
+
+    ghost residual = { λ s t p h. h.0.residual };
+
+    ghost none = { λ s. (moved_none s.left.carrier s.left.room s.left.stage, held_none s.left.carrier s.left.stage (S.holds s.store)) };
+
+    ghost both = { λ s t u p q h k. (moved_along s.left.carrier s.left.room s.left.stage p t.left.carrier t.left.room t.left.stage q u.left.carrier u.left.room u.left.stage h.0 k.0, held_along s.left.carrier s.left.stage (S.holds s.store) p t.left.carrier t.left.stage (S.holds t.store) q u.left.carrier u.left.stage (S.holds u.store) h.1 k.1) };
+}

@@ -1,0 +1,23 @@
+//! For the crates above: bits and numbers that a piece or a slice holds, and packets in bits that are known
+//! to hold them.
+
+ghost use Rattle.std.specs.Prelude.{◌≡◌, List, Bool, ◌++◌, length, All};
+ghost use Rattle.etcs_vars.specs.Reading.{spelled};
+ghost use Rattle.etcs_packets.specs.PacketValues.{PacketValue, IsPacket};
+ghost use Rattle.etcs_packets.specs.PacketReadings.{packets_reading};
+ghost use Rattle.etcs_sequence.specs.Refs.{ArePackets, spellings};
+
+use crate::packets_in::Packets;
+pub use crate::phase::Phase;
+pub use crate::pieces::{cut_in, number_at, number_in, run_at};
+pub use crate::starts::starts;
+pub use crate::whole::length_at;
+use etcs_bits::BitSlice;
+
+/// The first `count` packets in these bits. Anything may stand behind them.
+pub fn packets<'a>(rest: BitSlice<'a>, count: usize) -> Packets<'a>
+    requires { ArePackets count rest }
+    ensures { (vs : List PacketValue) (c : List Bool) → All IsPacket vs → length vs ≡ count → rest.entry ≡ spelled (packets_reading vs) ++ c → result ≡ spellings vs }
+{
+    Packets::new(rest, count)
+}

@@ -1,0 +1,6 @@
+pub mod Frames
+pub mod Layouts
+pub mod MessageRows
+pub mod Rows
+pub mod Typed
+pub mod laws

@@ -1,0 +1,201 @@
+-- The rows of packets and messages as they are nested. A packet's row stands behind NID_PACKET, Q_DIR and L_PACKET,
+-- a message's behind its header (SUBSET-026, 7.4 and 8).
+use Rattle.std.specs.Prelude.{ℕ, ◌==◌, List, [], ◌∷◌, Option, Some, None, if◌then◌else◌}
+use Rattle.etcs_vars.specs.declared.var.Var.{Var}
+use Rattle.etcs_vars.specs.declared.var.Var.TheVariants.{D_DP, D_ENDTIMERSTARTLOC, D_GRADIENT, D_LEVELTR, D_LINK, D_OL, D_REF, D_SECTIONTIMERSTOPLOC, D_SR, D_STARTOL, D_STATIC, D_TEXTDISPLAY, D_TSR, G_A, G_TSR, L_ACKLEVELTR, L_ENDSECTION, L_SECTION, L_TEXT, L_TEXTDISPLAY, L_TSR, M_LEVELTEXTDISPLAY, M_LEVELTR, M_MODETEXTDISPLAY, M_VERSION, NC_CDDIFF, NC_DIFF, NID_BG, NID_C, NID_EM, NID_MN, NID_NTC, NID_OPERATIONAL, NID_RADIO, NID_RBC, NID_TEXTMESSAGE, NID_TSR, N_ITER, Q_ASPECT, Q_CONFTEXTDISPLAY, Q_DANGERPOINT, Q_DIFF, Q_ENDTIMER, Q_FRONT, Q_GDIR, Q_LINKORIENTATION, Q_LINKREACTION, Q_LOCACC, Q_NEWCOUNTRY, Q_ORIENTATION, Q_OVERLAP, Q_RBC, Q_SCALE, Q_SECTIONTIMER, Q_SLEEPSESSION, Q_SRSTOP, Q_TEXT, Q_TEXTCLASS, Q_TEXTCONFIRM, Q_TEXTDISPLAY, Q_TEXTREPORT, T_ENDTIMER, T_LOA, T_OL, T_SECTIONTIMER, T_TEXTDISPLAY, T_TRAIN, V_DIFF, V_LOA, V_MAIN, V_RELEASEDP, V_RELEASEOL, V_STATIC, V_TSR, X_TEXT}
+use Rattle.etcs_tables.specs.declared.item.Test.TheVariants.{IsZero, IsOne, IsOneOrTwo, IsNotZero}
+use Rattle.etcs_tables.specs.declared.item.Guard.{Guard}
+use Rattle.etcs_tables.specs.declared.row.Way.{Way}
+use Rattle.etcs_tables.specs.declared.row.Way.TheVariants.{ToTrain}
+use Rattle.etcs_tables.specs.Layouts.{Layout, whole, one, guarded, counted}
+
+-- a variable, and then the rest
+infixr 40 ◌▸◌
+abbrev pub ◌▸◌ : Var → Layout → Layout
+v ▸ rest = one v rest
+
+abbrev pub is_zero : Var → Guard
+is_zero v = record { var = v; test = IsZero }
+
+abbrev pub is_one : Var → Guard
+is_one v = record { var = v; test = IsOne }
+
+abbrev pub is_one_or_two : Var → Guard
+is_one_or_two v = record { var = v; test = IsOneOrTwo }
+
+abbrev pub is_not_zero : Var → Guard
+is_not_zero v = record { var = v; test = IsNotZero }
+
+-- ---- Parts, each in front of the rest of a row.
+
+-- packet 5: a linked balise group
+abbrev pub link : Layout → Layout
+link rest = D_LINK ▸ Q_NEWCOUNTRY ▸ guarded (is_one Q_NEWCOUNTRY) (NID_C ▸ whole) (NID_BG ▸ Q_LINKORIENTATION ▸ Q_LINKREACTION ▸ Q_LOCACC ▸ rest)
+
+-- packets 12 and 15: the timer of a section
+abbrev pub section_timer : Layout → Layout
+section_timer rest = Q_SECTIONTIMER ▸ guarded (is_one Q_SECTIONTIMER) (T_SECTIONTIMER ▸ D_SECTIONTIMERSTOPLOC ▸ whole) rest
+
+-- packets 12 and 15: the sections, the end section, and what stands behind flags
+abbrev pub authority : Layout
+authority =
+    N_ITER ▸ counted (L_SECTION ▸ section_timer whole) (L_ENDSECTION ▸ section_timer (
+    Q_ENDTIMER ▸ guarded (is_one Q_ENDTIMER) (T_ENDTIMER ▸ D_ENDTIMERSTARTLOC ▸ whole) (
+    Q_DANGERPOINT ▸ guarded (is_one Q_DANGERPOINT) (D_DP ▸ V_RELEASEDP ▸ whole) (
+    Q_OVERLAP ▸ guarded (is_one Q_OVERLAP) (D_STARTOL ▸ T_OL ▸ D_OL ▸ V_RELEASEOL ▸ whole) whole))))
+
+-- packet 21: a slope
+abbrev pub slope : Layout → Layout
+slope rest = D_GRADIENT ▸ Q_GDIR ▸ G_A ▸ rest
+
+-- packet 27: a speed, and its differences for categories of trains
+abbrev pub speed : Layout → Layout
+speed rest =
+    D_STATIC ▸ V_STATIC ▸ Q_FRONT ▸ N_ITER ▸ counted (
+    Q_DIFF ▸ guarded (is_zero Q_DIFF) (NC_CDDIFF ▸ whole) (guarded (is_one_or_two Q_DIFF) (NC_DIFF ▸ whole) (V_DIFF ▸ whole))) rest
+
+-- packet 41: a level with its length of acknowledgement
+abbrev pub level_ack : Layout → Layout
+level_ack rest = M_LEVELTR ▸ guarded (is_one M_LEVELTR) (NID_NTC ▸ whole) (L_ACKLEVELTR ▸ rest)
+
+-- packet 46: a level
+abbrev pub level : Layout → Layout
+level rest = M_LEVELTR ▸ guarded (is_one M_LEVELTR) (NID_NTC ▸ whole) rest
+
+-- packets 72 and 76: where a text is shown, at its start or at its end
+abbrev pub shown : Layout → Layout
+shown rest = M_MODETEXTDISPLAY ▸ M_LEVELTEXTDISPLAY ▸ guarded (is_one M_LEVELTEXTDISPLAY) (NID_NTC ▸ whole) rest
+
+-- packets 72 and 76: all but the text itself
+abbrev pub text_frame : Layout → Layout
+text_frame rest =
+    Q_SCALE ▸ Q_TEXTCLASS ▸ Q_TEXTDISPLAY ▸ D_TEXTDISPLAY ▸ shown (L_TEXTDISPLAY ▸ T_TEXTDISPLAY ▸ shown (
+    Q_TEXTCONFIRM ▸ guarded (is_not_zero Q_TEXTCONFIRM)
+    (Q_CONFTEXTDISPLAY ▸ Q_TEXTREPORT ▸ guarded (is_one Q_TEXTREPORT) (NID_TEXTMESSAGE ▸ NID_C ▸ NID_RBC ▸ whole) whole) rest))
+
+-- ---- Packets.
+
+abbrev pub system_version : Layout
+system_version = M_VERSION ▸ whole
+
+abbrev pub linking : Layout
+linking = Q_SCALE ▸ link (N_ITER ▸ counted (link whole) whole)
+
+abbrev pub level_1_authority : Layout
+level_1_authority = Q_SCALE ▸ V_MAIN ▸ V_LOA ▸ T_LOA ▸ authority
+
+abbrev pub level_2_3_authority : Layout
+level_2_3_authority = Q_SCALE ▸ V_LOA ▸ T_LOA ▸ authority
+
+abbrev pub repositioning : Layout
+repositioning = Q_SCALE ▸ L_SECTION ▸ whole
+
+abbrev pub gradient : Layout
+gradient = Q_SCALE ▸ slope (N_ITER ▸ counted (slope whole) whole)
+
+abbrev pub speed_profile : Layout
+speed_profile = Q_SCALE ▸ speed (N_ITER ▸ counted (speed whole) whole)
+
+abbrev pub level_order : Layout
+level_order = Q_SCALE ▸ D_LEVELTR ▸ level_ack (N_ITER ▸ counted (level_ack whole) whole)
+
+abbrev pub session_management : Layout
+session_management = Q_RBC ▸ NID_C ▸ NID_RBC ▸ NID_RADIO ▸ Q_SLEEPSESSION ▸ whole
+
+abbrev pub radio_network : Layout
+radio_network = NID_MN ▸ whole
+
+abbrev pub conditional_level_order : Layout
+conditional_level_order = level (N_ITER ▸ counted (level whole) whole)
+
+abbrev pub temporary_restriction : Layout
+temporary_restriction = Q_SCALE ▸ NID_TSR ▸ D_TSR ▸ L_TSR ▸ Q_FRONT ▸ V_TSR ▸ whole
+
+abbrev pub restriction_revocation : Layout
+restriction_revocation = NID_TSR ▸ whole
+
+abbrev pub plain_text : Layout
+plain_text = text_frame (L_TEXT ▸ counted (X_TEXT ▸ whole) whole)
+
+abbrev pub fixed_text : Layout
+fixed_text = text_frame (Q_TEXT ▸ whole)
+
+abbrev pub danger_for_shunting : Layout
+danger_for_shunting = Q_ASPECT ▸ whole
+
+abbrev pub infill_location : Layout
+infill_location = Q_NEWCOUNTRY ▸ guarded (is_one Q_NEWCOUNTRY) (NID_C ▸ whole) (NID_BG ▸ whole)
+
+abbrev pub stop_in_sr : Layout
+stop_in_sr = Q_SRSTOP ▸ whole
+
+abbrev pub train_running_number : Layout
+train_running_number = NID_OPERATIONAL ▸ whole
+
+abbrev pub restriction_gradient : Layout
+restriction_gradient = Q_GDIR ▸ G_TSR ▸ whole
+
+-- ---- The rows by number.
+
+-- the row beside the first number that is n
+abbrev pub found : List (ℕ × Layout) → ℕ → Option Layout
+found [] n = None
+found (row ∷ rows) n = if n == row.0 then Some row.1 else found rows n
+
+-- the rows of typed packets, each beside its number; 0 and 255 aren't typed
+abbrev pub rows_to : Way → List (ℕ × Layout)
+rows_to ToTrain =
+    (2, system_version) ∷
+    (5, linking) ∷
+    (12, level_1_authority) ∷
+    (15, level_2_3_authority) ∷
+    (16, repositioning) ∷
+    (21, gradient) ∷
+    (27, speed_profile) ∷
+    (41, level_order) ∷
+    (42, session_management) ∷
+    (45, radio_network) ∷
+    (46, conditional_level_order) ∷
+    (64, whole) ∷
+    (65, temporary_restriction) ∷
+    (66, restriction_revocation) ∷
+    (72, plain_text) ∷
+    (76, fixed_text) ∷
+    (132, danger_for_shunting) ∷
+    (135, whole) ∷
+    (136, infill_location) ∷
+    (137, stop_in_sr) ∷
+    (140, train_running_number) ∷
+    (141, restriction_gradient) ∷
+    (145, whole) ∷
+    (254, whole) ∷ []
+
+-- the row of a typed packet
+abbrev pub row_to : Way → ℕ → Option Layout
+row_to way n = found (rows_to way) n
+
+-- the rows of typed messages, each beside its number
+abbrev pub message_rows_to : Way → List (ℕ × Layout)
+message_rows_to ToTrain =
+    (2, Q_SCALE ▸ D_SR ▸ whole) ∷
+    (3, whole) ∷
+    (6, whole) ∷
+    (8, T_TRAIN ▸ whole) ∷
+    (9, whole) ∷
+    (16, NID_EM ▸ whole) ∷
+    (18, NID_EM ▸ whole) ∷
+    (24, whole) ∷
+    (27, T_TRAIN ▸ whole) ∷
+    (28, T_TRAIN ▸ whole) ∷
+    (32, M_VERSION ▸ whole) ∷
+    (33, Q_SCALE ▸ D_REF ▸ whole) ∷
+    (38, whole) ∷
+    (39, whole) ∷
+    (40, whole) ∷
+    (41, whole) ∷
+    (43, whole) ∷
+    (45, Q_ORIENTATION ▸ whole) ∷ []
+
+-- the row of a typed message
+abbrev pub message_row_to : Way → ℕ → Option Layout
+message_row_to way n = found (message_rows_to way) n

@@ -1,0 +1,25 @@
+//! Rows and the two ways that they go.
+
+ghost use Rattle.std.specs.Prelude.{IsTrue};
+ghost use Rattle.etcs_tables.specs.Layouts.{layout, is_sound};
+
+use crate::item::RowItem;
+
+/// Which way a packet or a message goes.
+#[derive(Clone, Copy, Debug, PartialEq, Eq)]
+pub enum Way {
+    /// From track to train.
+    ToTrain,
+}
+
+/// A constant table of items.
+///
+/// Its groups stand at most four inside one another, and each begins with a variable; a guard looks at
+/// the variable just before it, with nothing between them but groups on that variable; a count has at
+/// most 8 bits.
+#[derive(Clone, Copy)]
+pub struct Row {
+    /// The items, in the order of sending.
+    pub items: &'static [RowItem],
+    ghost sound: { IsTrue (is_sound (layout items.now)) },
+}

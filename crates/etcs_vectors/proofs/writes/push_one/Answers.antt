@@ -1,6 +1,0 @@
-use Rattle.std.proofs.Common.{[], ◌∷◌, arith}
-use Rattle.etcs_bits.proofs.Positions.{length-bits}
-use Rattle.etcs_vectors.proofs.writes.push_one.Goals as goal
-
-pub write_packet-requires-clause-room : goal.write_packet-requires-clause-room
-write_packet-requires-clause-room c = let b = c.args.fill in omega (arith, length-bits (b ∷ b ∷ b ∷ b ∷ b ∷ b ∷ b ∷ b ∷ []))

@@ -1,4 +1,0 @@
-pub mod Written
-pub mod Sinks
-pub mod Fronts
-pub mod Joins

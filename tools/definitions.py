@@ -1,0 +1,299 @@
+#!/usr/bin/env python3
+"""Prints the definitions that the contracts of public calls stand on, each after those that it names.
+
+    tools/definitions.py [--count] [--clauses] [--most N] (--headline | CALL ..)
+
+A CALL is `etcs_telegram::TelegramReader::feed` or `etcs_stream::run`; --headline names those that read and write
+telegrams and messages. It follows the names in `requires` and `ensures`, in the ghost members of types and traits in
+the call's head that these name, in `Value` and `view` of the types' `impl Model` (--clauses leaves these two out), and
+in the definitions of crates/*/specs; not invariants, names of the kit, and items of the code, which are listed at the
+end. A line has a file and line, a name and how many lines it has without comments; the last one, which --count prints
+alone, has the counts. The status is 1 where a name isn't found, where a contract stands on a lemma (it lies in
+specs/laws or proofs, or is neither `abbrev` nor `unfoldable` nor a type), and where there are more than N definitions.
+"""
+
+import os
+import re
+import sys
+from collections import namedtuple
+from functools import lru_cache
+from graphlib import TopologicalSorter
+
+TOP = os.path.dirname(os.path.dirname(os.path.realpath(__file__)))
+HEADLINE = [f"etcs_telegram::{it}" for it in ("TelegramReader::feed", "TelegramReader::take", "Telegram::encode_into")]
+HEADLINE += [f"etcs_radio::{it}" for it in ("MessageReader::feed", "MessageReader::take", "Message::encode")]
+NAME = r'[^\s(){}.;,@"«»]+'
+TOKEN = re.compile(rf'"(?:\\.|[^"\\])*"|(?<!\S)--.*|⟦.*?⟧|{NAME}(?:\.{NAME})*|\.{NAME}|\S')
+SIGNATURE = re.compile(rf"( *)((?:(?:unfoldable|abbrev|pub|data|record) )*)({NAME})(?: [({{][^=]*[)}}])? :(?: |$)")
+MEMBER = re.compile(rf"\s+(?:pub )?({NAME}) :")
+BINDER = re.compile(r"λ (.*?) \. |let (.*?) [:=] |[\[|] ([^\[|]*?) ↦ |[({] ([^(){}]*?) : ")
+WORDS = set("Type Unit tt ⊥ absurd × → = : | λ ↦ [ ] _ let in as elim record data where Ok Err Some None ∥ ∥₁".split())
+WORDS |= set("unfoldable abbrev pub".split())
+CodeItem = namedtuple("CodeItem", "path line name")
+place = "{0.path}:{0.line}: {0.name}".format
+CLAUSE = r"\s+(?:requires|ensures)\b"
+
+
+class Declaration:
+    """A definition, a type or a lemma of an antt file."""
+
+    def __init__(self, file, line, signature):
+        self.file, self.path, self.line, self.lines = file, file.path, line, [signature[0]]
+        self.indent, self.marks, self.name = len(signature[1]), signature[2].split(), signature[3]
+        self.is_type = bool({"data", "record"} & set(self.marks))
+
+    def size(self):
+        """Returns how many lines it has without comments, with that of its fixity."""
+        said = [it for it in self.lines if it.strip() and not it.strip().startswith("--")]
+        return len(said) + (self.name in self.file.fixities)
+
+    def members(self):
+        """Returns the names of its constructors or fields."""
+        return [it[1] for it in map(MEMBER.match, self.lines[1:]) if it and self.is_type]
+
+    def parts(self):
+        """Yields its signature and each of its clauses, with the first line."""
+        head = re.compile(" " * self.indent + r"[^\s}]")
+        starts = [i for i, it in enumerate(self.lines) if i == 0 or head.match(it) and not self.is_type]
+        for first, end in zip(starts, [*starts[1:], len(self.lines)]):
+            if not self.lines[first].strip().startswith(("unfolding ", "--")):
+                yield self.line + first, self.lines[first:end]
+
+
+@lru_cache(maxsize=None)
+class Antt:
+    """An antt file of the repository: what its `use` lines bring, and its declarations."""
+
+    def __init__(self, module):
+        self.path = "/".join(["crates", *module.split(".")[1:]]) + ".antt"
+        self.declared, self.fixities, now = {}, set(), None
+        lines = open(f"{TOP}/{self.path}", encoding="utf-8").read().splitlines()
+        self.uses = brought(lines)
+        for number, line in enumerate(lines, 1):
+            indent = len(line) - len(line.lstrip())
+            if line.lstrip().startswith(("use ", "pub use ", "module ", "infix")):
+                self.fixities |= {line.split()[-1]} if line.startswith("infix") else set()
+                now = None
+            elif (found := SIGNATURE.match(line)) and (now is None or indent <= now.indent):
+                now = self.declared[found[3]] = Declaration(self, number, found)
+            elif now:
+                now.lines.append(line)
+
+    def find(self, name):
+        """Returns the declaration of a name or of a type with such a constructor, or None."""
+        types = (it for it in self.declared.values() if "data" in it.marks and name in it.members())
+        return self.declared.get(name) or next(types, None)
+
+
+def brought(lines):
+    """Returns the items and the modules that `use` lines bring, each by its name here."""
+    items, modules = {}, {}
+    for line in lines:
+        found = re.match(r"\s*(?:pub |ghost )?use (Rattle\.[^\s{;]+?)(?:\.\{([^}]*)\}|(?: as (\S+?))?);?$", line)
+        if found and found[2] is None:
+            modules[found[3] or found[1].split(".")[-1]] = found[1]
+        for leaf in filter(None, (it.strip() for it in (found and found[2] or "").split(","))):
+            path, _, name = leaf.partition(" as ")
+            module, _, item = f"{found[1]}.{path}".rpartition(".")
+            items[name or item] = (module, item)
+    return items, modules
+
+
+@lru_cache(maxsize=None)
+def found_in(module, name):
+    """Returns what a module's name means: a declaration, a type of the code, or None for one of the kit."""
+    crate, *parts = module.split(".")[1:]
+    if not os.path.isdir(f"{TOP}/crates/{crate}"):
+        return None
+    if parts[:2] == ["specs", "declared"]:
+        item = code_item(crate, next(it for it in [*parts[2:], name] if it[0].isupper()))
+    else:
+        passed_on = Antt(module).uses[0].get(name)
+        item = found_in(*passed_on) if passed_on else Antt(module).find(name)
+    if item is None:
+        raise LookupError(f"{module}: no {name}")
+    return item
+
+
+class Scope:
+    """What names mean at some lines of a file: what `use` lines bring, the file's own, and variables."""
+
+    def __init__(self, file, uses, bound):
+        self.file, self.items, self.modules, self.bound = file, *uses, set(bound)
+        names = [*self.items, *file.declared]
+        self.operators = {part: it for it in names for part in it.split("◌") if part not in ("", it)}
+
+    def meaning(self, word):
+        """Returns whether a word is known, and what it means: None for those of the kit and of the language."""
+        head, *rest = word.split(".")
+        name = self.operators.get(head.replace("◌", ""), head)
+        if head == "Rattle":
+            return True, found_in(*word.rsplit(".", 1))
+        if name in self.items:
+            return True, found_in(*self.items[name])
+        if rest and head in self.modules:
+            return True, found_in(self.modules[head], rest[0])
+        if item := self.file.find(name):
+            return True, item
+        return name in WORDS or bool(re.match(r'["\d(){};,.@«»⟦]', word)), None
+
+    def variables(self, pattern):
+        """Returns the variables of a pattern: no constructors, and none of the kit's names."""
+        for word in re.sub(r" : [^)}]*", "", pattern).split():
+            known, item = self.meaning(word)
+            if not known or isinstance(item, Declaration) and word == item.name:
+                yield word
+
+    def meanings(self, first, lines, is_clause=False):
+        """Yields what the names of a term, or of a clause with its left side, mean."""
+        placed = [(it, first + i) for i, line in enumerate(lines) for it in TOKEN.findall(line) if it[:2] != "--"]
+        text = " ".join(it for it, _ in placed)
+        bound = self.bound | {it for found in BINDER.findall(text) for it in self.variables("".join(found))}
+        if is_clause:
+            bound |= set(self.variables(text.partition(" = ")[0]))
+        for (word, line), (follows, _) in zip(placed, placed[1:] + [("", 0)]):
+            if word[0] == "." and len(word) > 1 or word.split(".")[0] in bound or follows == "=":
+                continue
+            known, item = self.meaning(word)
+            if not known:
+                raise LookupError(f"{self.file.path}:{line}: {word} isn't found")
+            if item:
+                yield item
+
+
+class Code:
+    """A file of the code, in the layout of rt fmt, which gives a clause one line."""
+
+    def __init__(self, path):
+        self.path, self.declared = os.path.relpath(path, TOP), {}
+        self.lines = open(path, encoding="utf-8").read().splitlines()
+
+    def blocks(self, head):
+        """Yields the first line and the end of each item whose first line begins so."""
+        for first, line in enumerate(self.lines):
+            if re.match(rf"(?:pub(?:\(crate\))? )?(?:{head})\b", line):
+                ends = (i for i in range(first, len(self.lines)) if re.match(r"\}|\{\}", self.lines[i]))
+                yield first, next(ends, first) + 1
+
+    def find(self, name):
+        """Returns the type or constant of the repository's code that a name of the code means, or None."""
+        return re.fullmatch(r"[A-Z]\w*", name) and code_item(self.crate_of(name), name)
+
+    def crate_of(self, name):
+        """Returns the crate that a name of this file is from: its own where no other is given."""
+        uses = re.findall(r"^(?:pub )?use (?!crate|self|super)(\w+)::([^;]*);", "\n".join(self.lines), re.M)
+        return next((crate for crate, rest in uses if name in re.findall(r"\w+", rest)), self.path.split("/")[1])
+
+    def terms(self, head, first, end, at, bound):
+        """Yields the meanings of the clauses or ghost members with such heads from the line `at` of a block on."""
+        outside = [it for it in self.lines if not it.startswith(" ")]
+        ghosts = re.findall(r"^    ghost (\w+):", "\n".join(self.lines[first:end]), re.M)
+        scope = Scope(self, brought(outside + self.lines[first:end]), {*bound, *ghosts})
+        for number in range(at, end):
+            if found := re.match(rf"(?:{head})[^{{]*\{{(.*)\}};?$", self.lines[number]):
+                yield from scope.meanings(number + 1, [found[1]])
+
+
+@lru_cache(maxsize=None)
+def code_of(crate):
+    """Returns the files of a crate's code; none of a library that isn't of this repository."""
+    found = (f"{place}/{it}" for place, _, names in os.walk(f"{TOP}/crates/{crate}/src") for it in names)
+    return [Code(it) for it in sorted(found) if it.endswith(".rt")]
+
+
+@lru_cache(maxsize=None)
+def code_item(crate, name):
+    """Returns a type or constant of a crate's code, or None."""
+    head = f"(?:struct|enum|type|const|static) {re.escape(name)}"
+    return next((CodeItem(it.path, first + 1, name) for it in code_of(crate) for first, _ in it.blocks(head)), None)
+
+
+def function_of(call):
+    """Returns a call's file, its block and its line, and its type or trait."""
+    crate, *path, name = call.split("::")
+    owner = path.pop() if path and path[-1][0].isupper() else None
+    function = rf"(?:pub(?:\(crate\))? )?(?:const )?fn {name}\b"
+    found = [
+        (code, first, end, at, owner)
+        for code in code_of(crate)
+        if not path or code.path.endswith("/".join(["src", *path]) + ".rt")
+        for first, end in code.blocks(rf"impl(?:<.*?>)? (?:.* for )?{owner}|trait {owner}" if owner else function)
+        for at in range(first, end)
+        if re.match(("    " if owner else "") + function, code.lines[at])
+    ]
+    if len(found) != 1:
+        sys.exit(f"{call}: {len(found)} functions of that name")
+    return found[0]
+
+
+def named_by(call, clauses_alone):
+    """Yields the definitions and items of the code that a call's clauses, and members of its types and traits, name."""
+    code, first, end, at, owner = function_of(call)
+    body = next(i for i in range(at, end) if re.match(r" *\{|.*[^}] \{$|.*\{\}$|.*;$", code.lines[i])) + 1
+    head = code.lines[first] + " ".join(it for it in code.lines[at:body] if not re.match(CLAUSE, it))
+    clauses = [it.partition("{")[2] for it in code.lines[at:body] if re.match(CLAUSE, it)]
+    if not clauses:
+        sys.exit(f"{code.path}:{at + 1}: {call} has no clauses of its own")
+    generics = [it for part in re.findall(r"<(.*?)>", head) for it in re.findall(r"(?:^|, |const )(\w+)", part)]
+    bound = {*re.findall(r"(\w+)\s*:", head), *generics, "self", "Self", "result"}
+    yield from code.terms(CLAUSE, first, body, at, bound)
+    members = {*re.findall(r"\w+", " ".join(clauses)), *([] if clauses_alone else ["Value", "view"])}
+    for name in sorted({*re.findall(r"\b[A-Z]\w*", head), owner} - {None, *bound}):
+        for other in code_of(code.crate_of(name)):
+            for block in other.blocks(rf"trait {name}|impl(?:<.*?>)? .* for {name}"):
+                yield from other.terms(rf" +ghost (?:{'|'.join(members)})(?:: | = )", *block, block[0], bound)
+
+
+class Reached:
+    """The definitions that are reached, which files name which, the types of the code, and what is refused."""
+
+    def __init__(self):
+        self.seen, self.names, self.types, self.refused = {}, {}, set(), {}
+
+    def visit_all(self, items, user=None):
+        """Visits what names mean; where one isn't found, notes that."""
+        try:
+            for item in items:
+                self.visit(item, user)
+        except (LookupError, OSError) as fault:
+            self.refused[f"{place(user) if user else 'a clause'}: {fault}"] = None
+
+    def visit(self, item, user):
+        """Visits a definition and those that it names."""
+        if isinstance(item, CodeItem):
+            return self.types.add(place(item))
+        self.names.setdefault(item.path, {})
+        if user and user.path != item.path:
+            self.names[user.path][item.path] = None
+        if not {*item.marks} - {"pub"} or re.search(r"/(specs/laws|proofs)/", item.path):
+            self.refused[f"{place(user) if user else 'a clause'} names {place(item)}, a lemma or among lemmas"] = None
+        elif item not in self.seen:
+            self.seen[item] = None
+            scope = Scope(item.file, item.file.uses, item.members() if "record" in item.marks else [])
+            for first, lines in item.parts():
+                self.visit_all(scope.meanings(first, lines, first != item.line), item)
+
+    def in_order(self):
+        """Returns the definitions, each after those that it names: by files, and by lines in a file."""
+        order = {path: at for at, path in enumerate(TopologicalSorter(self.names).static_order())}
+        return sorted(self.seen, key=lambda it: (order[it.path], it.line))
+
+
+def main(words):
+    most = int(words[words.index("--most") + 1]) if "--most" in words else sys.maxsize
+    calls = [it for it in words if "::" in it] + (HEADLINE if "--headline" in words else [])
+    reached = Reached()
+    for call in calls or sys.exit(__doc__):
+        reached.visit_all(named_by(call, "--clauses" in words))
+    found = reached.in_order()
+    if "--count" not in words:
+        print("\n".join([*(f"{place(it)}, {it.size()}" for it in found), "types of the code:", *sorted(reached.types)]))
+    files, crates = {it.path for it in found}, {it.path.split("/")[1] for it in found}
+    print(f"{len(found)} definitions, {sum(it.size() for it in found)} lines, {len(files)} files, {len(crates)} crates")
+    faults = [*reached.refused, *[f"more than {most} definitions"] * (len(found) > most)]
+    sys.stderr.writelines(f"{it}\n" for it in faults)
+    return 1 if faults else 0
+
+
+if __name__ == "__main__":
+    sys.exit(main(sys.argv[1:]))

@@ -127,58 +127,72 @@ fn check_parts<P: Part>(case: &mut Case, first: &P, further: &[P], numbers: &[u6
     case.check(own.as_slice() == numbers, "other parts");
 }
 
+/// The packet of a constructor whose last arguments are a first part and further ones, which come back with a fault.
+macro_rules! listed {
+    ($case:ident, $left:ident, $packet:ident of $part:ident, $first:ident $further:ident $built:expr; $($reader:ident)*) => {{
+        let ($first, $further): ($part, Vec<$part>) = all($case, $left)?;
+        match $built {
+            Ok(packet) => {
+                same!($case, packet: $($reader)*);
+                check_parts($case, &packet.first(), packet.further(), $left);
+                Some(Packet::$packet(packet))
+            }
+            Err((fault, back)) => {
+                $case.say_fault(fault, &FAULTS);
+                check_parts($case, &$first, back.as_slice(), $left);
+                None
+            }
+        }
+    }};
+}
+
+/// The packet of a constructor whose last argument is an authority, which comes back with a fault.
+macro_rules! authorised {
+    ($case:ident, $left:ident, $packet:ident, $authority:ident $built:expr; $($reader:ident)*) => {{
+        let $authority: Authority = next_part($case, &mut Numbers::new($left))?;
+        match $built {
+            Ok(packet) => {
+                same!($case, packet: $($reader)*);
+                check_numbers($case, packet.authority(), $left);
+                Some(Packet::$packet(packet))
+            }
+            Err((fault, back)) => {
+                $case.say_fault(fault, &FAULTS);
+                check_numbers($case, &back, $left);
+                None
+            }
+        }
+    }};
+}
+
 /// `DIR Q_SCALE FIRST FURTHER..`
 fn linking(case: &mut Case, dir: u8, words: &[u64]) -> Option<Packet> {
-    let [scale, left @ ..] = words else {
+    let [q_scale, left @ ..] = words else {
         return None;
     };
-    let scale = case.byte_of(*scale);
-    let (first, further): (Link, Vec<Link>) = all(case, left)?;
-    match Linking::new(dir, scale, first, further) {
-        Ok(packet) => {
-            case.check(packet.q_scale() == scale, "another scale");
-            check_parts(case, &packet.first(), packet.further(), left);
-            Some(Packet::Linking(packet))
-        }
-        Err((fault, back)) => {
-            case.say_fault(fault, &FAULTS);
-            check_parts(case, &first, back.as_slice(), left);
-            None
-        }
-    }
+    let q_scale = case.byte_of(*q_scale);
+    listed!(case, left, Linking of Link, first further Linking::new(dir, q_scale, first, further); q_scale)
 }
 
 /// `DIR Q_SCALE FIRST FURTHER..`
 fn gradient(case: &mut Case, dir: u8, words: &[u64]) -> Option<Packet> {
-    let [scale, left @ ..] = words else {
+    let [q_scale, left @ ..] = words else {
         return None;
     };
-    let scale = case.byte_of(*scale);
-    let (first, further): (Slope, Vec<Slope>) = all(case, left)?;
-    match Gradient::new(dir, scale, first, further) {
-        Ok(packet) => {
-            case.check(packet.q_scale() == scale, "another scale");
-            check_parts(case, &packet.first(), packet.further(), left);
-            Some(Packet::Gradient(packet))
-        }
-        Err((fault, back)) => {
-            case.say_fault(fault, &FAULTS);
-            check_parts(case, &first, back.as_slice(), left);
-            None
-        }
-    }
+    let q_scale = case.byte_of(*q_scale);
+    listed!(case, left, Gradient of Slope, first further Gradient::new(dir, q_scale, first, further); q_scale)
 }
 
 /// `DIR Q_SCALE FIRST FURTHER..`
 fn speed_profile(case: &mut Case, dir: u8, words: &[u64]) -> Option<Packet> {
-    let [scale, left @ ..] = words else {
+    let [q_scale, left @ ..] = words else {
         return None;
     };
-    let scale = case.byte_of(*scale);
+    let q_scale = case.byte_of(*q_scale);
     let (first, further): (Speed, Vec<Speed>) = all(case, left)?;
-    match SpeedProfile::new(dir, scale, first, further) {
+    match SpeedProfile::new(dir, q_scale, first, further) {
         Ok(packet) => {
-            case.check(packet.q_scale() == scale, "another scale");
+            same!(case, packet: q_scale);
             check_parts(case, packet.first(), packet.further(), left);
             Some(Packet::SpeedProfile(packet))
         }
@@ -192,93 +206,40 @@ fn speed_profile(case: &mut Case, dir: u8, words: &[u64]) -> Option<Packet> {
 
 /// `DIR Q_SCALE V_MAIN V_LOA T_LOA AUTHORITY`
 fn level1_ma(case: &mut Case, dir: u8, words: &[u64]) -> Option<Packet> {
-    let [scale, v_main, v_loa, t_loa, left @ ..] = words else {
+    let [q_scale, v_main, v_loa, t_loa, left @ ..] = words else {
         return None;
     };
-    let scale = case.byte_of(*scale);
+    let q_scale = case.byte_of(*q_scale);
     let v_main = case.byte_of(*v_main);
     let v_loa = case.byte_of(*v_loa);
     let t_loa = case.half_of(*t_loa);
-    let authority: Authority = next_part(case, &mut Numbers::new(left))?;
-    match Level1Ma::new(dir, scale, v_main, v_loa, t_loa, authority) {
-        Ok(packet) => {
-            case.check(packet.q_scale() == scale, "another scale");
-            case.check(packet.v_main() == v_main, "another signal");
-            case.check(packet.v_loa() == v_loa, "another speed");
-            case.check(packet.t_loa() == t_loa, "another time");
-            check_numbers(case, packet.authority(), left);
-            Some(Packet::Level1Ma(packet))
-        }
-        Err((fault, back)) => {
-            case.say_fault(fault, &FAULTS);
-            check_numbers(case, &back, left);
-            None
-        }
-    }
+    authorised!(case, left, Level1Ma, authority Level1Ma::new(dir, q_scale, v_main, v_loa, t_loa, authority); q_scale v_main v_loa t_loa)
 }
 
 /// `DIR Q_SCALE V_LOA T_LOA AUTHORITY`
 fn level23_ma(case: &mut Case, dir: u8, words: &[u64]) -> Option<Packet> {
-    let [scale, v_loa, t_loa, left @ ..] = words else {
+    let [q_scale, v_loa, t_loa, left @ ..] = words else {
         return None;
     };
-    let scale = case.byte_of(*scale);
+    let q_scale = case.byte_of(*q_scale);
     let v_loa = case.byte_of(*v_loa);
     let t_loa = case.half_of(*t_loa);
-    let authority: Authority = next_part(case, &mut Numbers::new(left))?;
-    match Level23Ma::new(dir, scale, v_loa, t_loa, authority) {
-        Ok(packet) => {
-            case.check(packet.q_scale() == scale, "another scale");
-            case.check(packet.v_loa() == v_loa, "another speed");
-            case.check(packet.t_loa() == t_loa, "another time");
-            check_numbers(case, packet.authority(), left);
-            Some(Packet::Level23Ma(packet))
-        }
-        Err((fault, back)) => {
-            case.say_fault(fault, &FAULTS);
-            check_numbers(case, &back, left);
-            None
-        }
-    }
+    authorised!(case, left, Level23Ma, authority Level23Ma::new(dir, q_scale, v_loa, t_loa, authority); q_scale v_loa t_loa)
 }
 
 /// `DIR Q_SCALE D_LEVELTR FIRST FURTHER..`
 fn level_order(case: &mut Case, dir: u8, words: &[u64]) -> Option<Packet> {
-    let [scale, d_leveltr, left @ ..] = words else {
+    let [q_scale, d_leveltr, left @ ..] = words else {
         return None;
     };
-    let scale = case.byte_of(*scale);
+    let q_scale = case.byte_of(*q_scale);
     let d_leveltr = case.half_of(*d_leveltr);
-    let (first, further): (LevelAck, Vec<LevelAck>) = all(case, left)?;
-    match LevelOrder::new(dir, scale, d_leveltr, first, further) {
-        Ok(packet) => {
-            case.check(packet.q_scale() == scale, "another scale");
-            case.check(packet.d_leveltr() == d_leveltr, "another distance");
-            check_parts(case, &packet.first(), packet.further(), left);
-            Some(Packet::LevelOrder(packet))
-        }
-        Err((fault, back)) => {
-            case.say_fault(fault, &FAULTS);
-            check_parts(case, &first, back.as_slice(), left);
-            None
-        }
-    }
+    listed!(case, left, LevelOrder of LevelAck, first further LevelOrder::new(dir, q_scale, d_leveltr, first, further); q_scale d_leveltr)
 }
 
 /// `DIR FIRST FURTHER..`
 fn conditional_level_order(case: &mut Case, dir: u8, left: &[u64]) -> Option<Packet> {
-    let (first, further): (Level, Vec<Level>) = all(case, left)?;
-    match ConditionalLevelOrder::new(dir, first, further) {
-        Ok(packet) => {
-            check_parts(case, &packet.first(), packet.further(), left);
-            Some(Packet::ConditionalLevelOrder(packet))
-        }
-        Err((fault, back)) => {
-            case.say_fault(fault, &FAULTS);
-            check_parts(case, &first, back.as_slice(), left);
-            None
-        }
-    }
+    listed!(case, left, ConditionalLevelOrder of Level, first further ConditionalLevelOrder::new(dir, first, further);)
 }
 
 /// The bytes of a text.
@@ -323,7 +284,7 @@ fn fixed_text(case: &mut Case, dir: u8, words: &[u64]) -> Option<Packet> {
     let frame: TextFrame = next_part(case, &mut Numbers::new(left))?;
     match FixedText::new(dir, frame, q_text) {
         Ok(packet) => {
-            case.check(packet.q_text() == q_text, "another text");
+            same!(case, packet: q_text);
             check_numbers(case, &packet.frame(), left);
             Some(Packet::FixedText(packet))
         }
@@ -343,8 +304,7 @@ fn infill_location(case: &mut Case, dir: u8, words: &[u64]) -> Option<Packet> {
     };
     match InfillLocation::new(dir, nid_c, nid_bg) {
         Ok(packet) => {
-            case.check(packet.nid_c() == nid_c, "another country");
-            case.check(packet.nid_bg() == nid_bg, "another group");
+            same!(case, packet: nid_c nid_bg);
             Some(Packet::InfillLocation(packet))
         }
         Err(fault) => found(case, Err(fault), &FAULTS),

@@ -1,6 +1,13 @@
 //! Vector lines about bits, variables, rows, packets and their parts, and the words that all such lines are made of.
 #![tactic(auto)]
 
+/// Checks that these readers give back what a value was made of.
+macro_rules! same {
+    ($case:ident, $value:ident: $($reader:ident)*) => {
+        $($case.check($value.$reader() == $reader, concat!("another ", stringify!($reader)));)*
+    };
+}
+
 mod bits;
 mod built;
 mod case;

@@ -4,6 +4,7 @@ use crate::case::{Case, FaultTexts};
 use crate::names::variable;
 use crate::sent::{BEFORE, BEHIND, Sent, sent_of};
 use etcs_bits::BitSlice;
+use etcs_bodies::laws::{Exact, exact_equality};
 use etcs_bodies::{Items, Numbers, Part, check, check_count, check_guard, clone_all, take_list};
 use etcs_packets::{
     Authority, Differing, Level, LevelAck, Link, Section, Shown, Slope, Speed, TextFrame,
@@ -22,12 +23,9 @@ pub(crate) const FAULTS: FaultTexts = [
 ];
 
 /// A part that words make.
-pub(crate) trait Shape: Part + PartialEq + Drop {
+pub(crate) trait Shape: Part + Exact + Drop {
     /// The part of the arguments that come next; notes where its readers don't give them back.
     fn of_words(case: &mut Case) -> Result<Self, BuildFault>;
-
-    /// Whether the law of `==` says that these are equal.
-    fn is_same(&self, other: &Self) -> bool;
 }
 
 /// Answers a line about parts: whether it is one.
@@ -170,10 +168,8 @@ fn compared<P: Shape>(case: &mut Case) {
     match (first, P::of_words(case)) {
         (Ok(first), Ok(second)) => {
             case.say_truth(first == second);
-            case.check(
-                first.is_same(&second) == (first == second),
-                "not by the law",
-            );
+            let same = exact_equality(&first, &second);
+            case.check(same == (first == second), "not by the law");
         }
         _ => case.bad(),
     }

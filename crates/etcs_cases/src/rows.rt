@@ -170,7 +170,7 @@ fn say_place(case: &mut Case, kind: &str, place: &Place, bits: usize) {
 fn of_carrier(case: &mut Case, kind: &str) {
     let carrier = match case.word() {
         "telegram" => Carrier::Telegram,
-        "message" => Carrier::Message,
+        "message" => Carrier::Message(Way::ToTrain),
         _ => return case.bad(),
     };
     match kind {
@@ -186,7 +186,7 @@ fn length(case: &mut Case, carrier: Carrier) {
     let room = case.place();
     let rest = case.up_to(13) as usize;
     let bits = case.bits_of(13 - rest);
-    case.say_truth(length_fits(Way::ToTrain, carrier, nid, room, rest, bits));
+    case.say_truth(length_fits(carrier, nid, room, rest, bits));
 }
 
 /// `number CARRIER ROOM REST BITS`: whether some number of a packet fits that is BITS with REST bits more.
@@ -194,14 +194,14 @@ fn number(case: &mut Case, carrier: Carrier) {
     let room = case.place();
     let rest = case.up_to(8) as usize;
     let bits = case.bits_of(8 - rest);
-    case.say_truth(number_fits(Way::ToTrain, carrier, room, rest, bits));
+    case.say_truth(number_fits(carrier, room, rest, bits));
 }
 
 /// `packets CARRIER ROOM`: the numbers of the packets that fit.
 fn packets(case: &mut Case, carrier: Carrier) {
     let room = case.place();
     for nid in 0..256u64 {
-        if number_fits(Way::ToTrain, carrier, room, 0, nid) {
+        if number_fits(carrier, room, 0, nid) {
             case.say_next(nid);
         }
     }

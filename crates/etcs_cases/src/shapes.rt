@@ -3,7 +3,6 @@
 use crate::case::Case;
 use crate::parts::Shape;
 use etcs_bodies::clone_all;
-use etcs_bodies::laws::exact_equality;
 use etcs_packets::{
     Authority, Differing, Level, LevelAck, Link, Section, Shown, Slope, Speed, TextFrame,
 };
@@ -15,24 +14,19 @@ impl Shape for Link {
         let d_link = case.half();
         let nid_c = case.half_or_none();
         let nid_bg = case.half();
-        let orientation = case.flag();
-        let reaction = case.byte();
-        let locacc = case.byte();
-        let link = Link::new(d_link, nid_c, nid_bg, orientation, reaction, locacc)?;
-        case.check(link.d_link() == d_link, "another d_link");
-        case.check(link.nid_c() == nid_c, "another nid_c");
-        case.check(link.nid_bg() == nid_bg, "another nid_bg");
-        case.check(
-            link.q_linkorientation() == orientation,
-            "another q_linkorientation",
-        );
-        case.check(link.q_linkreaction() == reaction, "another q_linkreaction");
-        case.check(link.q_locacc() == locacc, "another q_locacc");
+        let q_linkorientation = case.flag();
+        let q_linkreaction = case.byte();
+        let q_locacc = case.byte();
+        let link = Link::new(
+            d_link,
+            nid_c,
+            nid_bg,
+            q_linkorientation,
+            q_linkreaction,
+            q_locacc,
+        )?;
+        same!(case, link: d_link nid_c nid_bg q_linkorientation q_linkreaction q_locacc);
         Ok(link)
-    }
-
-    fn is_same(&self, other: &Link) -> bool {
-        exact_equality(self, other)
     }
 }
 
@@ -43,14 +37,8 @@ impl Shape for Slope {
         let q_gdir = case.flag();
         let g_a = case.byte();
         let slope = Slope::new(d_gradient, q_gdir, g_a)?;
-        case.check(slope.d_gradient() == d_gradient, "another d_gradient");
-        case.check(slope.q_gdir() == q_gdir, "another q_gdir");
-        case.check(slope.g_a() == g_a, "another g_a");
+        same!(case, slope: d_gradient q_gdir g_a);
         Ok(slope)
-    }
-
-    fn is_same(&self, other: &Slope) -> bool {
-        exact_equality(self, other)
     }
 }
 
@@ -60,13 +48,8 @@ impl Shape for Level {
         let m_leveltr = case.byte();
         let nid_ntc = case.byte_or_none();
         let level = Level::new(m_leveltr, nid_ntc)?;
-        case.check(level.m_leveltr() == m_leveltr, "another m_leveltr");
-        case.check(level.nid_ntc() == nid_ntc, "another nid_ntc");
+        same!(case, level: m_leveltr nid_ntc);
         Ok(level)
-    }
-
-    fn is_same(&self, other: &Level) -> bool {
-        exact_equality(self, other)
     }
 }
 
@@ -75,16 +58,10 @@ impl Shape for LevelAck {
     fn of_words(case: &mut Case) -> Result<LevelAck, BuildFault> {
         let m_leveltr = case.byte();
         let nid_ntc = case.byte_or_none();
-        let length = case.half();
-        let level = LevelAck::new(m_leveltr, nid_ntc, length)?;
-        case.check(level.m_leveltr() == m_leveltr, "another m_leveltr");
-        case.check(level.nid_ntc() == nid_ntc, "another nid_ntc");
-        case.check(level.l_ackleveltr() == length, "another l_ackleveltr");
+        let l_ackleveltr = case.half();
+        let level = LevelAck::new(m_leveltr, nid_ntc, l_ackleveltr)?;
+        same!(case, level: m_leveltr nid_ntc l_ackleveltr);
         Ok(level)
-    }
-
-    fn is_same(&self, other: &LevelAck) -> bool {
-        exact_equality(self, other)
     }
 }
 
@@ -94,37 +71,20 @@ impl Shape for Section {
         let length = case.half();
         let timer = halves_or_none(case);
         let section = Section::new(length, timer)?;
-        case.check(section.length() == length, "another length");
-        case.check(section.timer() == timer, "another timer");
+        same!(case, section: length timer);
         Ok(section)
-    }
-
-    fn is_same(&self, other: &Section) -> bool {
-        exact_equality(self, other)
     }
 }
 
 /// `M_MODETEXTDISPLAY M_LEVELTEXTDISPLAY NID_NTC|-`
 impl Shape for Shown {
     fn of_words(case: &mut Case) -> Result<Shown, BuildFault> {
-        let mode = case.byte();
-        let level = case.byte();
+        let m_modetextdisplay = case.byte();
+        let m_leveltextdisplay = case.byte();
         let nid_ntc = case.byte_or_none();
-        let shown = Shown::new(mode, level, nid_ntc)?;
-        case.check(
-            shown.m_modetextdisplay() == mode,
-            "another m_modetextdisplay",
-        );
-        case.check(
-            shown.m_leveltextdisplay() == level,
-            "another m_leveltextdisplay",
-        );
-        case.check(shown.nid_ntc() == nid_ntc, "another nid_ntc");
+        let shown = Shown::new(m_modetextdisplay, m_leveltextdisplay, nid_ntc)?;
+        same!(case, shown: m_modetextdisplay m_leveltextdisplay nid_ntc);
         Ok(shown)
-    }
-
-    fn is_same(&self, other: &Shown) -> bool {
-        exact_equality(self, other)
     }
 }
 
@@ -135,14 +95,8 @@ impl Shape for Differing {
         let category = case.byte();
         let v_diff = case.byte();
         let differing = Differing::new(q_diff, category, v_diff)?;
-        case.check(differing.q_diff() == q_diff, "another q_diff");
-        case.check(differing.category() == category, "another category");
-        case.check(differing.v_diff() == v_diff, "another v_diff");
+        same!(case, differing: q_diff category v_diff);
         Ok(differing)
-    }
-
-    fn is_same(&self, other: &Differing) -> bool {
-        exact_equality(self, other)
     }
 }
 
@@ -158,9 +112,7 @@ impl Shape for Speed {
         };
         match Speed::new(d_static, v_static, q_front, entries) {
             Ok(speed) => {
-                case.check(speed.d_static() == d_static, "another d_static");
-                case.check(speed.v_static() == v_static, "another v_static");
-                case.check(speed.q_front() == q_front, "another q_front");
+                same!(case, speed: d_static v_static q_front);
                 case.check(speed.differing() == same.as_slice(), "another differing");
                 Ok(speed)
             }
@@ -169,10 +121,6 @@ impl Shape for Speed {
                 Err(fault)
             }
         }
-    }
-
-    fn is_same(&self, other: &Speed) -> bool {
-        exact_equality(self, other)
     }
 }
 
@@ -190,14 +138,8 @@ impl Shape for Authority {
         };
         match Authority::new(sections, end, end_timer, danger_point, overlap) {
             Ok(authority) => {
+                same!(case, authority: end end_timer danger_point overlap);
                 case.check(authority.sections() == same.as_slice(), "another sections");
-                case.check(authority.end() == end, "another end");
-                case.check(authority.end_timer() == end_timer, "another end_timer");
-                case.check(
-                    authority.danger_point() == danger_point,
-                    "another danger_point",
-                );
-                case.check(authority.overlap() == overlap, "another overlap");
                 Ok(authority)
             }
             Err((fault, back)) => {
@@ -206,44 +148,36 @@ impl Shape for Authority {
             }
         }
     }
-
-    fn is_same(&self, other: &Authority) -> bool {
-        exact_equality(self, other)
-    }
 }
 
 /// `Q_SCALE Q_TEXTCLASS Q_TEXTDISPLAY D_TEXTDISPLAY`, where it begins, `L_TEXTDISPLAY T_TEXTDISPLAY`, where it ends,
 /// `Q_TEXTCONFIRM`, and `-`, or `Q_CONFTEXTDISPLAY -`, or `Q_CONFTEXTDISPLAY NID_TEXTMESSAGE NID_C NID_RBC`
 impl Shape for TextFrame {
     fn of_words(case: &mut Case) -> Result<TextFrame, BuildFault> {
-        let scale = case.byte();
-        let class = case.byte();
-        let all = case.flag();
-        let from = case.half();
+        let q_scale = case.byte();
+        let q_textclass = case.byte();
+        let q_textdisplay = case.flag();
+        let d_textdisplay = case.half();
         let start = Shown::of_words(case)?;
-        let length = case.half();
-        let time = case.half();
+        let l_textdisplay = case.half();
+        let t_textdisplay = case.half();
         let end = Shown::of_words(case)?;
-        let must = case.byte();
+        let q_textconfirm = case.byte();
         let confirm = confirm_of(case);
         let frame = TextFrame::new(
-            scale, class, all, from, start, length, time, end, must, confirm,
+            q_scale,
+            q_textclass,
+            q_textdisplay,
+            d_textdisplay,
+            start,
+            l_textdisplay,
+            t_textdisplay,
+            end,
+            q_textconfirm,
+            confirm,
         )?;
-        case.check(frame.q_scale() == scale, "another q_scale");
-        case.check(frame.q_textclass() == class, "another q_textclass");
-        case.check(frame.q_textdisplay() == all, "another q_textdisplay");
-        case.check(frame.d_textdisplay() == from, "another d_textdisplay");
-        case.check(frame.start() == start, "another start");
-        case.check(frame.l_textdisplay() == length, "another l_textdisplay");
-        case.check(frame.t_textdisplay() == time, "another t_textdisplay");
-        case.check(frame.end() == end, "another end");
-        case.check(frame.q_textconfirm() == must, "another q_textconfirm");
-        case.check(frame.confirm() == confirm, "another confirm");
+        same!(case, frame: q_scale q_textclass q_textdisplay d_textdisplay start l_textdisplay t_textdisplay end q_textconfirm confirm);
         Ok(frame)
-    }
-
-    fn is_same(&self, other: &TextFrame) -> bool {
-        exact_equality(self, other)
     }
 }
 

@@ -4,9 +4,9 @@ use Rattle.etcs_vars.specs.declared.var.Var.TheVariants.{NID_PACKET, Q_DIR}
 use Rattle.etcs_vars.specs.declared.fault.BuildFault.{BuildFault}
 use Rattle.etcs_vars.specs.declared.fault.BuildFault.TheVariants.{NotAdmitted, TooLong}
 use Rattle.etcs_vars.specs.Faults.{◌or_else◌, number_fault}
+use Rattle.etcs_tables.specs.declared.row.Way.{Way}
 use Rattle.etcs_tables.specs.declared.row.Way.TheVariants.{ToTrain}
-use Rattle.etcs_tables.specs.Layouts.{ROW_LIMIT}
-use Rattle.etcs_tables.specs.Frames.{is_kept}
+use Rattle.etcs_tables.specs.Frames.{is_kept, kept_limit}
 
 -- a packet that isn't typed: its number, its direction and the bits behind L_PACKET
 pub record OtherParts : Type 0 where
@@ -17,6 +17,10 @@ pub record OtherParts : Type 0 where
 abbrev pub other_parts : ℕ → ℕ → List Bool → OtherParts
 other_parts nid dir body = record { nid = nid; dir = dir; body = body }
 
+-- what is wrong with a direction
+abbrev pub direction_fault : Way → ℕ → Option BuildFault
+direction_fault ToTrain dir = number_fault Q_DIR dir
+
 -- what is wrong with a packet of so many bits behind L_PACKET
-abbrev pub other_fault : ℕ → ℕ → ℕ → Option BuildFault
-other_fault nid dir bits = (if is_kept ToTrain nid then None else Some (NotAdmitted NID_PACKET)) or_else number_fault Q_DIR dir or_else (if nat_le bits ROW_LIMIT then None else Some TooLong)
+abbrev pub other_fault : Way → ℕ → ℕ → ℕ → Option BuildFault
+other_fault way nid dir bits = (if is_kept way nid then None else Some (NotAdmitted NID_PACKET)) or_else direction_fault way dir or_else (if nat_le bits (kept_limit way) then None else Some TooLong)

@@ -1,17 +1,15 @@
 //! Packets that are kept as bits.
 
 ghost use Rattle.std.specs.Prelude.{◌≡◌, ◌≤◌, length, Some, None, OnOk, IfOk, IfErr};
+ghost use Rattle.etcs_tables.specs.declared.row.Way.TheVariants.{ToTrain};
 ghost use Rattle.etcs_tables.specs.Layouts.{ROW_LIMIT};
-ghost use Rattle.etcs_flat.specs.Others.{other_parts, other_fault};
+ghost use Rattle.etcs_flat.specs.Others.{other_parts, direction_fault, other_fault};
 
 use etcs_bits::{BitSlice, Bits};
-use etcs_tables::{Way, is_kept};
+use etcs_tables::{Way, is_kept, kept_limit};
 use etcs_vars::{BuildFault, Var, check};
 use std::alloc::{AllocError, Global};
 use std::marker::Model;
-
-/// How many bits L_PACKET leaves behind itself.
-const MOST_BITS: usize = 8168;
 
 /// A packet to the train that isn't typed, kept as bits (SUBSET-026, 7.4). Two of them are equal where they have
 /// the same number, direction and bits.
@@ -24,13 +22,14 @@ pub struct Other {
 
 impl Model for Other {
     ghost use Rattle.std.specs.Prelude.{◌≡◌, ◌≤◌, length, None};
+    ghost use Rattle.etcs_tables.specs.declared.row.Way.TheVariants.{ToTrain};
     ghost use Rattle.etcs_flat.specs.Others.{OtherParts, other_fault};
 
     ghost Value = { OtherParts };
 
     ghost view = { λ p. record { nid = p.nid; dir = p.dir; body = p.body } };
 
-    ghost invariant = { λ p. other_fault p.nid p.dir (length p.body) ≡ None };
+    ghost invariant = { λ p. other_fault ToTrain p.nid p.dir (length p.body) ≡ None };
 
     ghost inverse = { λ v. record { nid = v.nid; dir = v.dir; body = v.body } };
 }
@@ -45,11 +44,11 @@ impl Other {
     /// L_PACKET can't count.
     pub fn new(nid: u8, dir: u8, body: Bits) -> Result<Other, (BuildFault, Bits)>
         ensures ok { IfOk result (λ p. p ≡ other_parts nid dir body) }
-        ensures fits { OnOk result (other_fault nid dir (length body) ≡ None) }
+        ensures fits { OnOk result (other_fault ToTrain nid dir (length body) ≡ None) }
         ensures back { IfErr result (λ e. e.1 ≡ body) }
-        ensures fault { IfErr result (λ e. other_fault nid dir (length body) ≡ Some e.0) }
+        ensures fault { IfErr result (λ e. other_fault ToTrain nid dir (length body) ≡ Some e.0) }
     {
-        match check_other(nid, dir, body.len()) {
+        match check_other(Way::ToTrain, nid, dir, body.len()) {
             Ok(()) => Ok(Other { nid, dir, body }),
             Err(fault) => Err((fault, body)),
         }
@@ -58,7 +57,7 @@ impl Other {
     /// NID_PACKET: 1 to 254, and not that of a typed packet.
     pub fn nid(&self) -> u8
         ensures nid { result ≡ self.now.nid }
-        ensures value { other_fault self.now.nid self.now.dir (length self.now.body) ≡ None }
+        ensures value { other_fault ToTrain self.now.nid self.now.dir (length self.now.body) ≡ None }
     {
         self.nid
     }
@@ -102,16 +101,26 @@ impl Other {
     }
 }
 
-/// Looks for what is wrong with a packet of so many bits behind L_PACKET.
-fn check_other(nid: u8, dir: u8, bits: usize) -> Result<(), BuildFault>
-    ensures ok { OnOk result (other_fault nid dir bits ≡ None) }
-    ensures fault { IfErr result (λ e. other_fault nid dir bits ≡ Some e) }
+/// Looks for what is wrong with a direction.
+fn check_direction(way: Way, dir: u8) -> Result<(), BuildFault>
+    ensures ok { OnOk result (direction_fault way dir ≡ None) }
+    ensures fault { IfErr result (λ e. direction_fault way dir ≡ Some e) }
 {
-    if !is_kept(Way::ToTrain, nid) {
+    match way {
+        Way::ToTrain => check(Var::Q_DIR, u64::from(dir)),
+    }
+}
+
+/// Looks for what is wrong with a packet of so many bits behind L_PACKET.
+fn check_other(way: Way, nid: u8, dir: u8, bits: usize) -> Result<(), BuildFault>
+    ensures ok { OnOk result (other_fault way nid dir bits ≡ None) }
+    ensures fault { IfErr result (λ e. other_fault way nid dir bits ≡ Some e) }
+{
+    if !is_kept(way, nid) {
         return Err(BuildFault::NotAdmitted(Var::NID_PACKET));
     }
-    check(Var::Q_DIR, u64::from(dir))?;
-    if bits > MOST_BITS {
+    check_direction(way, dir)?;
+    if bits > kept_limit(way) {
         return Err(BuildFault::TooLong);
     }
     Ok(())

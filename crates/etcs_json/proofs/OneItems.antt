@@ -64,8 +64,8 @@ head_same h k e = sym (ack_back h.m_ack h refl) ∙ ap (λ (r : Reading). head_f
 run_fit : (nid len : ℕ) (h : RadioHead) → AllFit (head_reading nid len h) → AllFit (run_of_head h)
 run_fit nid len h f = f.1.1
 
-carried : (vs : List PacketValue) → All (Carries carrier.Message) vs → All IsPacket vs
-carried vs h = All-weaker (Carries carrier.Message) IsPacket (λ v c. c.0) vs h
+carried : (vs : List PacketValue) → All (Carries (carrier.Message ToTrain)) vs → All IsPacket vs
+carried vs h = All-weaker (Carries (carrier.Message ToTrain)) IsPacket (λ v c. c.0) vs h
 
 message_same : (m n : MessageValue) (d : Data) (r q : Reading) → MessageReads m r → MessageReads n q → IsMessageTree m d → IsMessageTree n d → m ≡ n
 message_same (typed_message nid head body vs padding) (typed_message nid' head' body' vs' padding') d r q x y (fs, hs, ps, is, fields, header, packets) (fs', hs', ps', is', fields', header', packets') =

@@ -34,7 +34,7 @@ one_reading row r q h k same =
 pub typed_is : (nid dir : ℕ) (row : Layout) (r : Reading) (w : PacketValue) → row_to ToTrain nid ≡ Some row → Reads row [] r → IsPacket w → IsTypedOf nid dir w → numbers (variables_of w) ≡ numbers r → w ≡ typed nid dir r
 typed_is nid dir row r (marker n) e reads is (nid_is, direction) same = absurd cc
 typed_is nid dir row r (kept nid' dir' b) e reads is (nid_is, direction) same =
-    absurd (kept_untyped nid row (rw nid_is at (kept_parts nid' dir' (length b) is).0) e)
+    absurd (kept_untyped ToTrain nid row (rw nid_is at (kept_parts ToTrain nid' dir' (length b) is).0) e)
 typed_is nid dir row r (typed nid' dir' q) e reads (row', e', directed, reads', short) (nid_is, direction) same =
     let two : Some row' ≡ Some row = sym e' ∙ ap (row_to ToTrain) nid_is ∙ e in
     let one : row' ≡ row = cc in
@@ -87,7 +87,7 @@ typed_small nid dir r (row, e, directed, reads, short) =
 
 pub kept_small : (nid dir : ℕ) (b : List Bool) → IsPacket (kept nid dir b) → (nid < 256) × (dir < 256)
 kept_small nid dir b h =
-    let k = kept_parts nid dir (length b) h in
+    let k = kept_parts ToTrain nid dir (length b) h in
     let n = kept_number nid k.0 in
     let d = (admits_parts Q_DIR dir k.1).1 in
     (omega (arith, n.1), omega (arith, d))

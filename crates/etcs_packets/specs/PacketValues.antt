@@ -4,7 +4,9 @@ use Rattle.std.specs.Prelude.{◌≡◌, ℕ, ◌+◌, Bool, List, [], ◌∷◌
 use Rattle.etcs_vars.specs.declared.var.Var.TheVariants.{NID_VBCMK}
 use Rattle.etcs_vars.specs.Vars.{admits}
 use Rattle.etcs_vars.specs.Reading.{Reading, spelled}
+use Rattle.etcs_tables.specs.declared.row.Way.{Way}
 use Rattle.etcs_tables.specs.declared.row.Way.TheVariants.{ToTrain}
+use Rattle.etcs_tables.specs.Frames.{frame_bits, is_marker}
 use Rattle.etcs_tables.specs.Typed.{IsFramed}
 use Rattle.etcs_flat.specs.Flats.{FlatParts, flat_fault, flat_reading}
 use Rattle.etcs_flat.specs.Others.{other_fault}
@@ -61,7 +63,7 @@ form (TrainRunningNumber p) = flat_form 140 p
 form (TsrGradient p) = flat_form 141 p
 form (InhibitConsistency p) = flat_form 145 p
 form (DefaultInformation p) = flat_form 254 p
-form (Other p) = form_of (kept p.nid p.dir p.body) (other_fault p.nid p.dir (length p.body) ≡ None)
+form (Other p) = form_of (kept p.nid p.dir p.body) (other_fault ToTrain p.nid p.dir (length p.body) ≡ None)
 
 abbrev pub packet_value : Packet → PacketValue
 packet_value p = (form p).value
@@ -87,12 +89,6 @@ variables_of (marker n) = (NID_VBCMK, n) ∷ []
 variables_of (typed nid dir r) = r
 variables_of (kept nid dir b) = []
 
--- how many bits the packet takes with its frame
-abbrev pub bits_of : PacketValue → ℕ
-bits_of (marker n) = 14
-bits_of (typed nid dir r) = 23 + length (spelled r)
-bits_of (kept nid dir b) = 23 + length b
-
 -- a typed packet of this number and direction
 abbrev pub IsTypedOf : ℕ → ℕ → PacketValue → Type 0
 IsTypedOf nid dir p = (nid_of p ≡ nid) × (dir_of p ≡ Some dir)
@@ -101,8 +97,24 @@ IsTypedOf nid dir p = (nid_of p ≡ nid) × (dir_of p ≡ Some dir)
 abbrev pub Makes : {P : Type 0} → (P → Packet → Type 0) → (P → Type 0) → ℕ → (P → ℕ) → (P → Reading) → Type 0
 Makes {P} post IsValue nid dir reading = (p : P) (q : Packet) → IsValue p → post p q → IsMade q × (packet_value q ≡ typed nid (dir p) (reading p))
 
+-- ---- As it goes one way.
+
+-- how many bits the packet takes with its frame
+abbrev pub bits_to : Way → PacketValue → ℕ
+bits_to way (marker n) = 14
+bits_to way (typed nid dir r) = frame_bits way + length (spelled r)
+bits_to way (kept nid dir b) = frame_bits way + length b
+
 -- it is a packet
+abbrev pub IsPacketTo : Way → PacketValue → Type 0
+IsPacketTo way (marker n) = IsTrue (is_marker way n)
+IsPacketTo way (typed nid dir r) = IsFramed way nid dir r
+IsPacketTo way (kept nid dir b) = other_fault way nid dir (length b) ≡ None
+
+-- ---- To the train, as all packets of this crate.
+
+abbrev pub bits_of : PacketValue → ℕ
+bits_of v = bits_to ToTrain v
+
 abbrev pub IsPacket : PacketValue → Type 0
-IsPacket (marker n) = IsTrue (admits NID_VBCMK n)
-IsPacket (typed nid dir r) = IsFramed ToTrain nid dir r
-IsPacket (kept nid dir b) = other_fault nid dir (length b) ≡ None
+IsPacket v = IsPacketTo ToTrain v

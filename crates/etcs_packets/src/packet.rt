@@ -12,6 +12,7 @@ use etcs_grouped::{
     ConditionalLevelOrder, FixedText, Gradient, InfillLocation, Level1Ma, Level23Ma, LevelOrder,
     Linking, PlainText, SpeedProfile,
 };
+use etcs_tables::{MARKER_BITS, Way, frame_bits};
 use etcs_vars::BuildFault;
 use std::alloc::{AllocError, Global};
 
@@ -103,7 +104,7 @@ impl Packet {
         ensures bits { result ≡ bits_of (packet_value self.now) }
         ensures small { result ≤ 8191 }
     {
-        packets!(of_each, self, _ => 14, packet => typed_bits(packet), packet => 23 + packet.bits())
+        packets!(of_each, self, _ => MARKER_BITS, packet => typed_bits(packet), packet => frame_bits(Way::ToTrain) + packet.bits())
     }
 
     /// An equal packet.

@@ -4,16 +4,15 @@ ghost use Rattle.std.specs.Prelude.{◌≡◌, ◌≤◌, ◌+◌, ℕ, List, No
 ghost use Rattle.etcs_tables.specs.declared.row.Way.TheVariants.{ToTrain};
 ghost use Rattle.etcs_tables.specs.Rows.{row_to};
 ghost use Rattle.etcs_vars.specs.Reading.{Reading, numbers, spelled};
+ghost use Rattle.etcs_tables.specs.Frames.{frame_bits};
 ghost use Rattle.etcs_tables.specs.Typed.{IsTyped, IsFramed};
 ghost use Rattle.etcs_packets.specs.PacketValues.{packet_value, variables_of, IsTypedOf, IsMade, Makes};
 
 use crate::packet::Packet;
 use etcs_bits::BitSlice;
 use etcs_bodies::{Framed, Packetlike};
+use etcs_tables::frame_bits;
 use std::alloc::{AllocError, Global};
-
-/// The bits of NID_PACKET, Q_DIR and L_PACKET.
-const FRAME_BITS: usize = 23;
 
 /// Says of a typed packet that its variables are its row's.
 pub(crate) fn hold<P: Framed>(packet: &P)
@@ -25,11 +24,11 @@ pub(crate) fn hold<P: Framed>(packet: &P)
 
 /// How many bits a typed packet takes with its frame.
 pub(crate) fn typed_bits<P: Framed>(packet: &P) -> usize
-    ensures bits { result ≡ 23 + length (spelled (P.reading_of packet.now)) }
+    ensures bits { result ≡ frame_bits P.WAY + length (spelled (P.reading_of packet.now)) }
     ensures small { result ≤ 8191 }
 {
     hold(packet);
-    FRAME_BITS + packet.bits()
+    frame_bits(P::WAY) + packet.bits()
 }
 
 /// Says of a number without a row that no typed packet has it.

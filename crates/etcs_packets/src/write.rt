@@ -12,6 +12,7 @@ use crate::Packet;
 use crate::parts::{dir, holds, send};
 use crate::sink::BitSink;
 use etcs_bits::parts;
+use etcs_tables::{Way, frame_bits};
 use etcs_vars::Var;
 use etcs_vars::parts::{Sink, Variables};
 
@@ -111,7 +112,7 @@ fn put_front(out: &mut [u8], at: usize, packet: &Packet, len: usize) -> usize
     match dir(packet) {
         Some(dir) => {
             put_frame(out, at, packet.nid(), dir, len);
-            at + 23
+            at + frame_bits(Way::ToTrain)
         }
         None => {
             parts::write(out, at, 8, u64::from(packet.nid()));
@@ -120,7 +121,7 @@ fn put_front(out: &mut [u8], at: usize, packet: &Packet, len: usize) -> usize
     }
 }
 
-/// Writes NID_PACKET, Q_DIR and L_PACKET, 23 bits.
+/// Writes NID_PACKET, Q_DIR and L_PACKET.
 fn put_frame(out: &mut [u8], at: usize, nid: u8, dir: u8, len: usize)
     requires dir { dir < 4 }
     requires len { len < 8192 }
@@ -128,7 +129,7 @@ fn put_frame(out: &mut [u8], at: usize, nid: u8, dir: u8, len: usize)
     ensures { bits out.new ≡ replaced at (spelled ((NID_PACKET, nid) ∷ (Q_DIR, dir) ∷ (L_PACKET, len) ∷ [])) (bits out.old) }
 {
     let number = (u64::from(nid) * 4 + u64::from(dir)) * 8192 + len as u64;
-    parts::write(out, at, 23, number);
+    parts::write(out, at, frame_bits(Way::ToTrain), number);
 }
 
 /// Writes the variables behind a packet's front.

@@ -30,10 +30,10 @@ use Rattle.etcs_radio.proofs.RestSteps.{front_tested, packets_start}
 
 abbrev pub Fits : Option (List Var) → ℕ → Type 0
 Fits None len = (3 ≤ len) × (len < 2 ^ 10)
-Fits (Some vs) len = (front_bits vs ≤ 8 * len) × (len < 2 ^ 10) × IsTrue (may_be_left ToTrain Message (8 * len - front_bits vs))
+Fits (Some vs) len = (front_bits vs ≤ 8 * len) × (len < 2 ^ 10) × IsTrue (may_be_left (Message ToTrain) (8 * len - front_bits vs))
 
 -- a room that packets fill but for padding
-left_from : (room : ℕ) → (room ≤ 7) ⊎ (23 ≤ room) → IsTrue (may_be_left ToTrain Message room)
+left_from : (room : ℕ) → (room ≤ 7) ⊎ (23 ≤ room) → IsTrue (may_be_left (Message ToTrain) room)
 left_from room (inl h) = grind (arith, nat_tests)
 left_from room (inr h) = grind (arith, nat_tests)
 
@@ -42,13 +42,13 @@ some_message None len (least, most) = let b = some_bits OTHER_DATA refl (8 * len
 some_message (Some vs) len (fits, most, left) =
     let room = 8 * len - front_bits vs in
     let f = some_fields vs in
-    let p = run_some Message room (omega (arith, most)) left in
+    let p = run_some (Message ToTrain) room (omega (arith, most)) left in
     let b = some_bits PADDING refl (room - length (spelled p.0)) in
     (f.0 ++ (p.0 ++ b.0), (fits, most, (f.0, p.0 ++ b.0, refl, f.1, (p.0, b.0, refl, p.1, b.1))))
 
 pub message_some : (found : Option (List Var)) (len : ℕ) → Goes (Behind found len) → Fits found len
 message_some None len (r, (least, most, b)) = (least, most)
-message_some (Some vs) len (r, (fits, most, (a, q, e, fields, (p, b, f, run, padding)))) = (fits, most, left_from (8 * len - front_bits vs) (message_run (8 * len - front_bits vs) p run))
+message_some (Some vs) len (r, (fits, most, (a, q, e, fields, (p, b, f, run, padding)))) = (fits, most, left_from (8 * len - front_bits vs) (message_run ToTrain (8 * len - front_bits vs) p run))
 
 -- ---- L_MESSAGE.
 

@@ -40,16 +40,16 @@ below : (a b : ℕ) → a < b → nat_lt a b ≡ true
 below a b h = grind (arith, nat_tests)
 
 -- packets that a message carries
-unmarked : (ps : List Packet) → All (Carries Message) (map packet_value ps) → All (λ p. is_marker p ≡ false) ps
+unmarked : (ps : List Packet) → All (Carries (Message ToTrain)) (map packet_value ps) → All (λ p. is_marker p ≡ false) ps
 unmarked [] h = All-nil (λ p. is_marker p ≡ false)
 unmarked (p ∷ ps) h =
-    let first = All-head (Carries Message) (packet_value p) (map packet_value ps) h in
-    All-cons (λ q. is_marker q ≡ false) p ps (some_number (nid_of (packet_value p)) first.1) (unmarked ps (All-tail (Carries Message) (packet_value p) (map packet_value ps) h))
+    let first = All-head (Carries (Message ToTrain)) (packet_value p) (map packet_value ps) h in
+    All-cons (λ q. is_marker q ≡ false) p ps (some_number (nid_of (packet_value p)) first.1) (unmarked ps (All-tail (Carries (Message ToTrain)) (packet_value p) (map packet_value ps) h))
 
-pub carried_packets : (vs : List PacketValue) → All (Carries Message) vs → All IsPacket vs
-carried_packets vs h = All-weaker (Carries Message) IsPacket (λ v k. k.0) vs h
+pub carried_packets : (vs : List PacketValue) → All (Carries (Message ToTrain)) vs → All IsPacket vs
+carried_packets vs h = All-weaker (Carries (Message ToTrain)) IsPacket (λ v k. k.0) vs h
 
-pub no_typed_fault : (head : RadioHead) (body : Body) (ps : List Packet) (padding : ℕ) → IsBody body → IsTrue (admits NID_LRBG head.nid_lrbg) → All (Carries Message) (map packet_value ps) → all_bits body ps ≤ 8184 → padding < 2 ^ padding_room (all_bits body ps) → padded_fault head body ps padding ≡ None
+pub no_typed_fault : (head : RadioHead) (body : Body) (ps : List Packet) (padding : ℕ) → IsBody body → IsTrue (admits NID_LRBG head.nid_lrbg) → All (Carries (Message ToTrain)) (map packet_value ps) → all_bits body ps ≤ 8184 → padding < 2 ^ padding_room (all_bits body ps) → padded_fault head body ps padding ≡ None
 no_typed_fault head body ps padding b group carried short small =
     let variant = then_none (is_of_variant body) (NotAdmitted NID_MESSAGE) b.variant in
     let lrbg = then_none (admits NID_LRBG head.nid_lrbg) (NotAdmitted NID_LRBG) group in

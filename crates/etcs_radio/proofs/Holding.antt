@@ -1,5 +1,5 @@
 -- What a reader of messages holds.
-use Rattle.std.proofs.Common.{◌≡◌, ℕ, ◌%◌, ◌<◌, ◌&&◌, List, Bool, false, [], ◌++◌, length, Some, sym, ap, subst, ◌∙◌, arith, inl, inr}
+use Rattle.std.proofs.Common.{◌≡◌, ℕ, ◌%◌, ◌<◌, ◌&&◌, List, Bool, false, [], ◌++◌, length, Some, refl, sym, ap, subst, ◌∙◌, arith, inl, inr}
 use Rattle.std.specs.Prelude.{IsTrue, not, nat_lt, ◌==◌}
 use Rattle.std.proofs.lemmas.Bool.{and_parts, ltb-true, eqb-true, not-true}
 use Rattle.std.proofs.lemmas.List.{length-append}
@@ -8,7 +8,12 @@ use Rattle.etcs_vars.specs.declared.var.Var.TheVariants.{PADDING, OTHER_DATA}
 use Rattle.etcs_vars.specs.Vars.{width}
 use Rattle.etcs_vars.specs.Reading.{Reading, spelled, kept}
 use Rattle.etcs_packets.specs.declared.packet.Packet.{Packet}
-use Rattle.etcs_packets.specs.PacketReadings.{packets_reading}
+use Rattle.etcs_tables.specs.declared.row.Way.TheVariants.{ToTrain}
+use Rattle.etcs_rows.specs.declared.frames.Carrier.{Carrier}
+use Rattle.etcs_rows.specs.declared.frames.Carrier.TheVariants.{Telegram, Message}
+use Rattle.etcs_rows.specs.Frames.{way_of}
+use Rattle.etcs_packets.specs.PacketValues.{PacketValue}
+use Rattle.etcs_packets.specs.PacketReadings.{packets_reading, readings_to}
 use Rattle.etcs_sequence.specs.Runs.{Begun}
 use Rattle.etcs_reader.specs.Rests.{Goes}
 use Rattle.etcs_sequence.specs.declared.left.PacketsLeft.{PacketsLeft}
@@ -35,11 +40,16 @@ front_members nid at front l ps f k q stands h =
     let vars = ap (λ o. length (some_row o)) h.typed in
     inl (inr (inr (nid, h.len, h.vars, front, h.typed, omega (arith, same, less, vars), h.reading_is)), ps_is, f_is, k_is)
 
+-- a message's packets go to the train
+to_train : (c : Carrier) (vs : List PacketValue) → readings_to (way_of c) vs ≡ packets_reading vs
+to_train Telegram vs = refl
+to_train (Message ToTrain) vs = refl
+
 packets_members : (nid : ℕ) (front : List ℕ) (l : PacketsLeft) (ps : List Packet) (f : List ℕ) (k : List Bool) (q : Reading) → is_closed l.stage ≡ false → Goes (PacketsBehind l) → PacketsHeld nid front l (list_holds ps f k) q → Members ps f k q
 packets_members nid front l ps f k q more g h =
     let (vs, m, b, r, (vs_is, (made, (m_is, b_is))), carried, here, e) = h.held in
     let begun : Begun r m b = begun_of l.carrier l.room l.stage m b r l.stands more (first_goes l g) here in
-    let whole = h.reading_is ∙ ap (λ (t : Reading). headed nid h.len (labelled h.vars front ++ t)) (e ∙ ap (λ v. packets_reading v ++ r) vs_is) in
+    let whole = h.reading_is ∙ ap (λ (t : Reading). headed nid h.len (labelled h.vars front ++ t)) (e ∙ ap (λ (t : Reading). t ++ r) (to_train l.carrier vs) ∙ ap (λ v. packets_reading v ++ r) vs_is) in
     inr (inl (nid, h.len, h.vars, front, r, h.typed, h.count, whole, subst (λ (t : List Bool). Begun r f t) b_is (subst (λ (t : List ℕ). Begun r t b) m_is begun)))
 
 data_members : (nid left : ℕ) (ps : List Packet) (f : List ℕ) (k : List Bool) (q : Reading) → DataHeld nid (list_holds ps f k) left q → Members ps f k q

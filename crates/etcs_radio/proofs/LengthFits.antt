@@ -22,7 +22,7 @@ fits_row nid n (most, inl (row, m, e, (r, rest, reads, none, len, small), (le, l
     let fields : ReadsFields own rest = row_fields own [] rest (subst (λ (x : Layout). Reads x [] rest) (sym same) (front_none r rest row none reads)) in
     let bits : widths own ≡ m = sym (fields_length own rest fields) ∙ len in
     let room : 8 * n - (75 + m) ≡ 8 * n - front_bits (front_behind own) = omega (arith, bits) in
-    let fits : Fits (Some (front_behind own)) n = (omega (arith, bits, le), most, subst (λ k. IsTrue (may_be_left ToTrain Message k)) room left) in
+    let fits : Fits (Some (front_behind own)) n = (omega (arith, bits, le), most, subst (λ k. IsTrue (may_be_left (Message ToTrain) k)) room left) in
     subst (λ (o : Option (List Var)). Fits o n) (sym (ap (option_map front_behind) found)) fits
 fits_row nid n (most, inr (untyped, least)) =
     let found = kept_own (own_row nid) (sym (rows_alike nid) ∙ untyped) in
@@ -35,7 +35,7 @@ row_fits nid n (Some own) is (fits, most, left) =
     let (r, reads) = some_fields own in
     let short = front_small nid (front_behind own) (ap (option_map front_behind) is) in
     let room : 8 * n - front_bits (front_behind own) ≡ 8 * n - (75 + m) = omega arith in
-    (most, inl (as_row own, m, rows_alike nid ∙ ap (option_map as_row) is, ([], r, fields_row own [] r reads, refl, fields_length own r reads, omega (arith, short)), (omega (arith, fits), subst (λ k. IsTrue (may_be_left ToTrain Message k)) room left)))
+    (most, inl (as_row own, m, rows_alike nid ∙ ap (option_map as_row) is, ([], r, fields_row own [] r reads, refl, fields_length own r reads, omega (arith, short)), (omega (arith, fits), subst (λ k. IsTrue (may_be_left (Message ToTrain) k)) room left)))
 
 -- a number of L_MESSAGE fits exactly where some message of this NID_MESSAGE goes on with it
 pub length_fits : (nid n : ℕ) → MessageLengthFits ToTrain nid n ↔ Goes (Behind (front_row nid) n)

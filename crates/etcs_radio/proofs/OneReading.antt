@@ -106,13 +106,13 @@ or_false : (a b : Bool) → (a || b) ≡ false → (a ≡ false) × (b ≡ false
 or_false true b h = absurd cc
 or_false false b h = (refl, h)
 
-pub carried : (ps : List Packet) → list_any is_marker ps ≡ false → All IsPacket (map packet_value ps) → All (Carries carrier.Message) (map packet_value ps)
-carried [] h all = All-nil (Carries carrier.Message)
+pub carried : (ps : List Packet) → list_any is_marker ps ≡ false → All IsPacket (map packet_value ps) → All (Carries (carrier.Message ToTrain)) (map packet_value ps)
+carried [] h all = All-nil (Carries (carrier.Message ToTrain))
 carried (p ∷ ps) h all =
     let both = or_false (is_marker p) (list_any is_marker ps) h in
     let v = packet_value p in
     let vs = map packet_value ps in
-    All-cons (Carries carrier.Message) v vs (All-head IsPacket v vs all, not_zero (nid_of v) both.0) (carried ps both.1 (All-tail IsPacket v vs all))
+    All-cons (Carries (carrier.Message ToTrain)) v vs (All-head IsPacket v vs all, not_zero (nid_of v) both.0) (carried ps both.1 (All-tail IsPacket v vs all))
 
 -- ---- A message is its reading's.
 

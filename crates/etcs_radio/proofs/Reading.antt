@@ -25,23 +25,23 @@ abbrev Kept : Type 0
 Kept = MessageRest PacketList list.ghosts
 
 abbrev left : Kept → Reading → Type 0
-left s = left_at s.nid s.stage s.packets.left
+left s = left_at s.nid s.phase s.packets.left
 
 abbrev next : Kept → Option Var
-next s = next_at s.nid s.stage s.packets.left
+next s = next_at s.nid s.phase s.packets.left
 
 abbrev holds : Kept → Reading → Type 0
-holds s = HoldsIn s.nid s.stage s.front.items s.packets.left s.padding (list_holds s.packets.store.packets.items s.packets.store.numbers.items s.packets.store.bits)
+holds s = HoldsIn s.nid s.phase s.front.items s.packets.left s.padding (list_holds s.packets.store.packets.items s.packets.store.numbers.items s.packets.store.bits)
 
 abbrev follows : Kept → Reading → Kept → Type 0
-follows s p t = Follows s.nid s.stage s.front.items s.packets.left s.padding (list_holds s.packets.store.packets.items s.packets.store.numbers.items s.packets.store.bits) p t.nid t.stage t.front.items t.packets.left t.padding (list_holds t.packets.store.packets.items t.packets.store.numbers.items t.packets.store.bits)
+follows s p t = Follows s.nid s.phase s.front.items s.packets.left s.padding (list_holds s.packets.store.packets.items s.packets.store.numbers.items s.packets.store.bits) p t.nid t.phase t.front.items t.packets.left t.padding (list_holds t.packets.store.packets.items t.packets.store.numbers.items t.packets.store.bits)
 
 abbrev fails : Kept → Type 0
-fails s = Unit {0} × IsTrue (may_ask s.stage s.packets.left)
+fails s = Unit {0} × IsTrue (may_ask s.phase s.packets.left)
 
 -- the variables so far
 abbrev far : Kept → Reading
-far s = so_far s.nid s.stage s.front.items s.packets.left s.packets.store s.padding
+far s = so_far s.nid s.phase s.front.items s.packets.left s.packets.store s.padding
 
 -- the message, where nothing is left
 abbrev made : Kept → Content
@@ -57,14 +57,14 @@ messages = record {
   bytes = message_bytes;
   room = omega arith;
   long = some_bits;
-  begins_with = λ s x e. rest_begins s.nid s.packets.left s.stage (length s.front.items) s.stands x e;
-  ended = λ s e. rest_ended s.nid s.stage (length s.front.items) s.packets.left s.stands e;
+  begins_with = λ s x e. rest_begins s.nid s.packets.left s.phase (length s.front.items) s.stands x e;
+  ended = λ s e. rest_ended s.nid s.phase (length s.front.items) s.packets.left s.stands e;
   residual = λ s t p h. h.residual;
   held = λ s t p q h k. h.held q k;
-  far_is = λ s q g h. far_is s.nid s.stage s.front.items s.packets.left s.packets.store s.padding q g h;
-  starved = λ s q f h. far_long s.nid s.stage s.front.items s.packets.left s.padding (list_holds s.packets.store.packets.items s.packets.store.numbers.items s.packets.store.bits) q f.1 h;
-  asks = λ s q x e g f h. next_asks s.nid s.stage s.front.items s.packets.left s.padding (list_holds s.packets.store.packets.items s.packets.store.numbers.items s.packets.store.bits) q x f.1 h g e;
-  whole = λ s e l h. whole_reads s.nid s.stage s.front.items s.packets.left s.packets.store s.padding (length s.front.items) s.stands e l h;
+  far_is = λ s q g h. far_is s.nid s.phase s.front.items s.packets.left s.packets.store s.padding q g h;
+  starved = λ s q f h. far_long s.nid s.phase s.front.items s.packets.left s.padding (list_holds s.packets.store.packets.items s.packets.store.numbers.items s.packets.store.bits) q f.1 h;
+  asks = λ s q x e g f h. next_asks s.nid s.phase s.front.items s.packets.left s.padding (list_holds s.packets.store.packets.items s.packets.store.numbers.items s.packets.store.bits) q x f.1 h g e;
+  whole = λ s e l h. whole_reads s.nid s.phase s.front.items s.packets.left s.packets.store s.padding (length s.front.items) s.stands e l h;
   counted = bits_counted;
-  members = λ s part x e g h short whole. (let k = s.packets.store in members_of s.nid s.stage s.front.items s.packets.left k.packets.items k.numbers.items k.bits s.padding (far s) part x s.stands e g h short whole);
+  members = λ s part x e g h short whole. (let k = s.packets.store in members_of s.nid s.phase s.front.items s.packets.left k.packets.items k.numbers.items k.bits s.padding (far s) part x s.stands e g h short whole);
 }

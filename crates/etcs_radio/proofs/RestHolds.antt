@@ -14,11 +14,13 @@ use Rattle.etcs_vars.specs.Vars.{width}
 use Rattle.etcs_vars.specs.Reading.{Reading, spelled, kept}
 use Rattle.etcs_vars.specs.Walking.{Residual}
 use Rattle.etcs_vars.proofs.Stepping.{parts_fit, next_number}
+use Rattle.etcs_tables.specs.declared.row.Way.TheVariants.{ToTrain}
 use Rattle.etcs_rows.specs.declared.frames.Carrier.{Carrier}
 use Rattle.etcs_rows.specs.declared.frames.Carrier.TheVariants.{Message}
 use Rattle.etcs_vars.proofs.Sent.{length-sent}
+use Rattle.etcs_rows.specs.Frames.{way_of}
 use Rattle.etcs_packets.specs.PacketValues.{PacketValue}
-use Rattle.etcs_packets.specs.PacketReadings.{packets_reading}
+use Rattle.etcs_packets.specs.PacketReadings.{packets_reading, readings_to}
 use Rattle.etcs_sequence.specs.Contents.{Carries, closing}
 use Rattle.etcs_sequence.specs.laws.RunSteps.{both_length}
 use Rattle.etcs_reader.specs.Rests.{Starts, Goes}
@@ -93,11 +95,11 @@ padding_more nid left c number padding front holds q le fits f =
 -- ---- The packets.
 
 -- packets that are closed, with none of PADDING
-closed_held : (nid : ℕ) (front : List ℕ) (c : Carrier) (room padding : ℕ) (holds : Holds) (len : ℕ) (vars : List Var) (here q : Reading) → c ≡ Message → room ≤ 7 → padding ≡ 0 → front_row nid ≡ Some vars → length front ≡ length vars → q ≡ headed nid len (labelled vars front ++ here)
+closed_held : (nid : ℕ) (front : List ℕ) (c : Carrier) (room padding : ℕ) (holds : Holds) (len : ℕ) (vars : List Var) (here q : Reading) → c ≡ (Message ToTrain) → room ≤ 7 → padding ≡ 0 → front_row nid ≡ Some vars → length front ≡ length vars → q ≡ headed nid len (labelled vars front ++ here)
     → length (spelled q) + room ≡ 8 * len → HoldsAt c stage.Closed holds here → PaddingHeld nid front holds padding room q
 unfolding num
 closed_held nid front c room padding holds len vars here q same short none typed count is bits (vs, f, k, t, held, carried, (no_numbers, no_bits, all), reading) =
-    let here-is : here ≡ packets_reading vs ++ kept PADDING [] = reading ∙ ap (λ (x : Reading). packets_reading vs ++ x) (all ∙ ap closing same) in
+    let here-is : here ≡ packets_reading vs ++ kept PADDING [] = reading ∙ ap (λ (x : Reading). readings_to (way_of c) vs ++ x) (all ∙ ap closing same) ∙ ap (λ (d : Carrier). readings_to (way_of d) vs ++ []) same in
     record {
       len = len;
       vars = vars;
@@ -149,7 +151,7 @@ front_held nid at front l padding holds x n q below len m next (none, h) =
     let first : first_of (drop at h.vars) ≡ Some x = rw vars at next in
     let first' : first_of (drop (length front) h.vars) ≡ Some x = rw len first in
     let reading : q ++ (x, n) ∷ [] ≡ headed nid h.len (labelled h.vars (front ++ n ∷ [])) = ap (λ (t : Reading). t ++ (x, n) ∷ []) h.reading_is ∙ ap (headed nid h.len) (sym (labelled_more h.vars front x n first')) in
-    let room : length (spelled (q ++ (x, n) ∷ [])) + (widths (drop (suc at) h.vars) + ahead l.room l.stage) ≡ 8 * h.len = (let a = more_bits q x n in let b = h.room_is in let d = drop_bits h.vars at x first in omega (arith, a, b, d)) in
+    let room : length (spelled (q ++ (x, n) ∷ [])) + (widths (drop (suc at) h.vars) + ahead l.carrier l.room l.stage) ≡ 8 * h.len = (let a = more_bits q x n in let b = h.room_is in let d = drop_bits h.vars at x first in omega (arith, a, b, d)) in
     let long : length (front ++ n ∷ []) ≡ suc at = length-append front (n ∷ []) ∙ omega (arith, len) in
     let next_at-is : at + 1 ≡ suc at = omega arith in
     by_test (ltb (at + 1) (length (front_vars nid))) (λ p. HoldsIn nid p (front ++ n ∷ []) l padding holds (q ++ (x, n) ∷ [])) (phase.Front (at + 1)) (behind_packets l)
@@ -200,7 +202,7 @@ heads nid len q is =
 
 pub typed_follows : (nid : ℕ) (here : Phase) (front : List ℕ) (l l' : PacketsLeft) (padding : ℕ) (holds holds' : Holds) (len : ℕ) (vs : List Var)
     → here ≡ phase.Length → IsTrue (stands_at nid here (length front) l) → front_row nid ≡ Some vs → Starts (left_at nid here l) L_MESSAGE 0 len
-    → Residual (left_at nid phase.Length l) ((L_MESSAGE, len) ∷ []) (left_at nid (phase.Front 0) l') → ahead l'.room l'.stage ≡ 8 * len - front_bits vs → (holds [] [] [] → HoldsAt l'.carrier l'.stage holds' [])
+    → Residual (left_at nid phase.Length l) ((L_MESSAGE, len) ∷ []) (left_at nid (phase.Front 0) l') → ahead l'.carrier l'.room l'.stage ≡ 8 * len - front_bits vs → (holds [] [] [] → HoldsAt l'.carrier l'.stage holds' [])
     → Follows nid here front l padding holds ((L_MESSAGE, len) ∷ []) nid (phase.Front 0) front l' padding holds'
 typed_follows nid here front l l' padding holds holds' len vs e h found goes behind room begun =
     let no_front : front ≡ [] = nil_from_length front (begin_parts nid here (length front) l e h).0 in

@@ -5,6 +5,7 @@ use Rattle.std.proofs.lemmas.Bool.{and_parts, and_from, ltb-true, lt-ltb, eqb-tr
 use Rattle.etcs_vars.specs.declared.var.Var.{Var}
 use Rattle.etcs_vars.specs.Reading.{Reading}
 use Rattle.etcs_vars.proofs.Languages.{Same}
+use Rattle.etcs_tables.specs.declared.row.Way.TheVariants.{ToTrain}
 use Rattle.etcs_rows.specs.declared.frames.Carrier.{Carrier}
 use Rattle.etcs_rows.specs.declared.frames.Carrier.TheVariants.{Telegram, Message}
 use Rattle.etcs_sequence.specs.Contents.{Run}
@@ -28,29 +29,29 @@ from_then : (a b : Bool) → (a ≡ true → IsTrue b) → IsTrue (not a || b)
 from_then true b h = h refl
 from_then false b h = refl
 
-message_carrier : (c : Carrier) → not (is_telegram c) ≡ true → c ≡ Message
+message_carrier : (c : Carrier) → not (is_telegram c) ≡ true → c ≡ (Message ToTrain)
 message_carrier Telegram e = absurd cc
-message_carrier Message e = refl
+message_carrier (Message ToTrain) e = refl
 
-pub message_parts : (l : PacketsLeft) → IsTrue (is_message l) → (l.carrier ≡ Message) × (is_closed l.stage ≡ true → l.room < 8)
+pub message_parts : (l : PacketsLeft) → IsTrue (is_message l) → (l.carrier ≡ (Message ToTrain)) × (is_closed l.stage ≡ true → l.room < 8)
 message_parts l h =
     let both = and_parts (not (is_telegram l.carrier)) (not (is_closed l.stage) || nat_lt l.room 8) h in
     (message_carrier l.carrier both.0, λ e. ltb-true l.room 8 (then_true (is_closed l.stage) (nat_lt l.room 8) both.1 e))
 
-pub message_from : (l : PacketsLeft) → l.carrier ≡ Message → (l.stage ≡ stage.Closed → l.room ≤ 7) → IsTrue (is_message l)
+pub message_from : (l : PacketsLeft) → l.carrier ≡ (Message ToTrain) → (l.stage ≡ stage.Closed → l.room ≤ 7) → IsTrue (is_message l)
 message_from l same room =
     let first : not (is_telegram l.carrier) ≡ true = rw same refl in
     and_from (not (is_telegram l.carrier)) (not (is_closed l.stage) || nat_lt l.room 8) first
     (from_then (is_closed l.stage) (nat_lt l.room 8) (λ e. let r = room (closed_stage l.stage e) in lt-ltb l.room 8 (omega (arith, r))))
 
-pub begun_message : (l : PacketsLeft) (room : ℕ) → l.carrier ≡ Message → ahead l.room l.stage ≡ room → Same (left_of l.carrier l.room l.stage) (Run Message room) → IsTrue (is_message l)
-begun_message l room same a left = message_from l same (begun_room room l.carrier l.room l.stage a left)
+pub begun_message : (l : PacketsLeft) (room : ℕ) → l.carrier ≡ (Message ToTrain) → ahead l.carrier l.room l.stage ≡ room → Same (left_of l.carrier l.room l.stage) (Run (Message ToTrain) room) → IsTrue (is_message l)
+begun_message l room same a left = message_from l same (begun_room ToTrain room l.carrier l.room l.stage a left)
 
-moved_message : (l l' : PacketsLeft) (p : Reading) → l.carrier ≡ Message → is_closed l.stage ≡ false → Moved l.carrier l.room l.stage p l'.carrier l'.room l'.stage → IsTrue (is_message l')
+moved_message : (l l' : PacketsLeft) (p : Reading) → l.carrier ≡ (Message ToTrain) → is_closed l.stage ≡ false → Moved l.carrier l.room l.stage p l'.carrier l'.room l'.stage → IsTrue (is_message l')
 moved_message l l' p same open_now m =
-    let m' : Moved Message l.room l.stage p l'.carrier l'.room l'.stage = subst (λ (c : Carrier). Moved c l.room l.stage p l'.carrier l'.room l'.stage) same m in
-    let stands : IsTrue (is_stage Message l.room l.stage) = subst (λ (c : Carrier). IsTrue (is_stage c l.room l.stage)) same l.stands in
-    message_from l' m'.same (closed_room l.room l.stage p l'.carrier l'.room l'.stage stands open_now m')
+    let m' : Moved (Message ToTrain) l.room l.stage p l'.carrier l'.room l'.stage = subst (λ (c : Carrier). Moved c l.room l.stage p l'.carrier l'.room l'.stage) same m in
+    let stands : IsTrue (is_stage (Message ToTrain) l.room l.stage) = subst (λ (c : Carrier). IsTrue (is_stage c l.room l.stage)) same l.stands in
+    message_from l' m'.same (closed_room ToTrain l.room l.stage p l'.carrier l'.room l'.stage stands open_now m')
 
 -- ---- What stands says.
 
@@ -75,7 +76,7 @@ front_next nid here at m l x e h next = subst (λ (s : Phase). x ≡ next_at nid
     of None is far = absurd (omega arith)
     of (Some vars) is far = next vars is
 
-pub packets_parts : (nid : ℕ) (here : Phase) (m : ℕ) (l : PacketsLeft) → here ≡ phase.Packets → IsTrue (stands_at nid here m l) → (l.carrier ≡ Message) × (is_closed l.stage ≡ false)
+pub packets_parts : (nid : ℕ) (here : Phase) (m : ℕ) (l : PacketsLeft) → here ≡ phase.Packets → IsTrue (stands_at nid here m l) → (l.carrier ≡ Message ToTrain) × (is_closed l.stage ≡ false)
 packets_parts nid here m l e h =
     let h' : IsTrue (stands_at nid phase.Packets m l) = subst (λ (x : Phase). IsTrue (stands_at nid x m l)) e h in
     let both = and_parts (is_message l) (not (is_closed l.stage)) h' in

@@ -9,6 +9,7 @@ use Rattle.etcs_vars.specs.Vars.{width, ranges, begins}
 use Rattle.etcs_vars.specs.Reading.{Reading, Then, spelled, kept, Viable}
 use Rattle.etcs_vars.specs.Walking.{Residual}
 use Rattle.etcs_vars.proofs.Languages.{Same, same_self, same_along, Then-same}
+use Rattle.etcs_tables.specs.declared.row.Way.TheVariants.{ToTrain}
 use Rattle.etcs_rows.specs.declared.frames.Carrier.TheVariants.{Message}
 use Rattle.etcs_sequence.specs.Contents.{Run, KeptIn}
 use Rattle.etcs_sequence.proofs.Turns.{residual_same}
@@ -48,13 +49,13 @@ length_behind nid len found e =
     subst (λ (o : Option (List Var)). Residual (LengthLeft nid) ((L_MESSAGE, len) ∷ []) (Behind o len)) e (opens_behind (LengthLeft nid) L_MESSAGE (Behind (front_row nid)) (length_opens nid) len)
 
 -- packets and PADDING in the same room
-packets_begun : (front len : ℕ) (l : PacketsLeft) → ahead l.room l.stage ≡ 8 * len - front → Same (left_of l.carrier l.room l.stage) (Run Message (8 * len - front)) → Same (PacketsFrom front len) (PacketsBehind l)
+packets_begun : (front len : ℕ) (l : PacketsLeft) → ahead l.carrier l.room l.stage ≡ 8 * len - front → Same (left_of l.carrier l.room l.stage) (Run (Message ToTrain) (8 * len - front)) → Same (PacketsFrom front len) (PacketsBehind l)
 packets_begun front len l room same r = (
   λ (a, b, e, h, k). (a, b, e, (same a).1 h, subst (λ n. PaddingLeft (n - length (spelled a)) b) (sym room) k),
   λ (a, b, e, h, k). (a, b, e, (same a).0 h, subst (λ n. PaddingLeft (n - length (spelled a)) b) room k),
 )
 
-pub typed_behind : (nid len : ℕ) (vs : List Var) (l l' : PacketsLeft) → front_row nid ≡ Some vs → Starts (LengthLeft nid) L_MESSAGE 0 len → ahead l'.room l'.stage ≡ 8 * len - front_bits vs → Same (left_of l'.carrier l'.room l'.stage) (Run Message (8 * len - front_bits vs))
+pub typed_behind : (nid len : ℕ) (vs : List Var) (l l' : PacketsLeft) → front_row nid ≡ Some vs → Starts (LengthLeft nid) L_MESSAGE 0 len → ahead l'.carrier l'.room l'.stage ≡ 8 * len - front_bits vs → Same (left_of l'.carrier l'.room l'.stage) (Run (Message ToTrain) (8 * len - front_bits vs))
     → Residual (left_at nid phase.Length l) ((L_MESSAGE, len) ∷ []) (left_at nid (phase.Front 0) l')
 typed_behind nid len vs l l' found s room same =
     let (r, (fits, most, rest)) : Goes (Behind (Some vs) len) = subst (λ (o : Option (List Var)). Goes (Behind o len)) found (length_goes nid len s) in

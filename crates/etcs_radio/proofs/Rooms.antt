@@ -33,7 +33,7 @@ use Rattle.etcs_radio.proofs.Spelling.{first_number, rest_of, second_number, hea
 both_spelled : (a b : Reading) (c : List Bool) → spelled (a ++ b) ++ c ≡ spelled a ++ (spelled b ++ c)
 both_spelled a b c = ap (λ (s : List Bool). s ++ c) (spelled-append a b) ∙ append_assoc (spelled a) (spelled b) c
 
-framed : (v : PacketValue) → Carries Message v → 23 ≤ length (spelled (packet_reading v))
+framed : (v : PacketValue) → Carries (Message ToTrain) v → 23 ≤ length (spelled (packet_reading v))
 framed (packets.marker n) h = absurd (omega (arith, h.1))
 framed (packets.typed nid dir r) h = omega (arith, packet_bits (packets.typed nid dir r))
 framed (packets.kept nid dir b) h = omega (arith, packet_bits (packets.kept nid dir b))
@@ -47,22 +47,22 @@ more_leaves n all some (le, inl few) = (omega (arith, le), inl (omega (arith, fe
 more_leaves n all some (le, inr many) = (omega (arith, le), inr (omega (arith, many)))
 
 -- packets that begin the bits of others and padding
-packets_leave : (vs us : List PacketValue) (c d : List Bool) → All (Carries Message) vs → All (Carries Message) us → length d ≤ 7 → spelled (packets_reading vs) ++ c ≡ spelled (packets_reading us) ++ d → Leaves (length (spelled (packets_reading us)) + length d) (length (spelled (packets_reading vs)))
+packets_leave : (vs us : List PacketValue) (c d : List Bool) → All (Carries (Message ToTrain)) vs → All (Carries (Message ToTrain)) us → length d ≤ 7 → spelled (packets_reading vs) ++ c ≡ spelled (packets_reading us) ++ d → Leaves (length (spelled (packets_reading us)) + length d) (length (spelled (packets_reading vs)))
 packets_leave [] [] c d hv hu short e = (omega arith, inl (omega (arith, short)))
 packets_leave [] (u ∷ us) c d hv hu short e =
     let l = length-spelled (packet_reading u) (packets_reading us) in
-    (omega arith, inr (omega (arith, l, framed u (All-head (Carries Message) u us hu))))
+    (omega arith, inr (omega (arith, l, framed u (All-head (Carries (Message ToTrain)) u us hu))))
 packets_leave (v ∷ vs) [] c d hv hu short e =
     let l = length-spelled (packet_reading v) (packets_reading vs) in
     let whole = sym (length-append (spelled (packets_reading (v ∷ vs))) c) ∙ ap length e in
-    absurd (omega (arith, l, whole, short, framed v (All-head (Carries Message) v vs hv)))
+    absurd (omega (arith, l, whole, short, framed v (All-head (Carries (Message ToTrain)) v vs hv)))
 packets_leave (v ∷ vs) (u ∷ us) c d hv hu short e =
-    let iv = (All-head (Carries Message) v vs hv).0 in
-    let iu = (All-head (Carries Message) u us hu).0 in
+    let iv = (All-head (Carries (Message ToTrain)) v vs hv).0 in
+    let iu = (All-head (Carries (Message ToTrain)) u us hu).0 in
     let e' : spelled (packet_reading v) ++ (spelled (packets_reading vs) ++ c) ≡ spelled (packet_reading u) ++ (spelled (packets_reading us) ++ d) =
     sym (both_spelled (packet_reading v) (packets_reading vs) c) ∙ e ∙ both_spelled (packet_reading u) (packets_reading us) d in
-    let parts = apart (packet_reading v) (packet_reading u) (spelled (packets_reading vs) ++ c) (spelled (packets_reading us) ++ d) (packet_agree v u iv iu) (packet_fit v iv) (packet_fit u iu) e' in
-    let rest = packets_leave vs us c d (All-tail (Carries Message) v vs hv) (All-tail (Carries Message) u us hu) short parts.1 in
+    let parts = apart (packet_reading v) (packet_reading u) (spelled (packets_reading vs) ++ c) (spelled (packets_reading us) ++ d) (packet_agree ToTrain v u iv iu) (packet_fit ToTrain v iv) (packet_fit ToTrain u iu) e' in
+    let rest = packets_leave vs us c d (All-tail (Carries (Message ToTrain)) v vs hv) (All-tail (Carries (Message ToTrain)) u us hu) short parts.1 in
     let first : length (spelled (packet_reading v)) ≡ length (spelled (packet_reading u)) = ap (λ (r : Reading). length (spelled r)) parts.0 in
     let l1 = length-spelled (packet_reading v) (packets_reading vs) in
     let l2 = length-spelled (packet_reading u) (packets_reading us) in
@@ -72,7 +72,7 @@ packets_leave (v ∷ vs) (u ∷ us) c d hv hu short e =
     let some : n + length (spelled (packets_reading vs)) ≡ length (spelled (packets_reading (v ∷ vs))) = omega (arith, l1, first) in
     subst (Leaves (length (spelled (packets_reading (u ∷ us))) + length d)) some (subst (λ (k : ℕ). Leaves k (n + length (spelled (packets_reading vs)))) all more)
 
-module _ (nid len : ℕ) (h : RadioHead) (row : Layout) (body : Reading) (vs : List PacketValue) (found : message_row_to ToTrain nid ≡ Some row) (admitted : IsAdmitted (head_reading nid len h)) (reads : Reads row [] body) (carried : All (Carries Message) vs) where
+module _ (nid len : ℕ) (h : RadioHead) (row : Layout) (body : Reading) (vs : List PacketValue) (found : message_row_to ToTrain nid ≡ Some row) (admitted : IsAdmitted (head_reading nid len h)) (reads : Reads row [] body) (carried : All (Carries (Message ToTrain)) vs) where
   abbrev head : Reading
   head = head_reading nid len h
 
@@ -133,11 +133,11 @@ module _ (nid len : ℕ) (h : RadioHead) (row : Layout) (body : Reading) (vs : L
 
   -- ---- And what leaves it begins one.
 
-  left_flag : (left : ℕ) → (left ≤ 7) ⊎ (23 ≤ left) → IsTrue (may_be_left ToTrain Message left)
+  left_flag : (left : ℕ) → (left ≤ 7) ⊎ (23 ≤ left) → IsTrue (may_be_left (Message ToTrain) left)
   left_flag left (inl few) = or_left (nat_le left 7) (nat_le 23 left) (le-leb left 7 few)
   left_flag left (inr many) = or_right (nat_le left 7) (nat_le 23 left) (le-leb 23 left many)
 
-  filled : bits ≤ 8 * len → 8 * len ≤ 8184 → (us : List PacketValue) (q : Reading) → RunOf Message (8 * len - bits) us q → Viable MessageLanguage (spelled (begun nid len h body vs))
+  filled : bits ≤ 8 * len → 8 * len ≤ 8184 → (us : List PacketValue) (q : Reading) → RunOf (Message ToTrain) (8 * len - bits) us q → Viable MessageLanguage (spelled (begun nid len h body vs))
   filled room most us q run =
       let more = packets_reading us in
       let count : length (spelled q) ≡ length (spelled more) = ap (λ (t : Reading). length (spelled t)) (run.reading_is ∙ append-nil more) in
@@ -153,7 +153,7 @@ module _ (nid len : ℕ) (h : RadioHead) (row : Layout) (body : Reading) (vs : L
         body_reads = reads;
         head_admitted = admitted;
         run = record {
-          carried = All-append (Carries Message) vs us carried run.carried;
+          carried = All-append (Carries (Message ToTrain)) vs us carried run.carried;
           reading_is = sym (append-nil (packets_reading (vs ++ us)));
           fills = (omega (arith, sizes, count, begun_length, room, run.fills.0), omega (arith, sizes, count, begun_length, room, run.fills.1));
         };
@@ -172,7 +172,7 @@ module _ (nid len : ℕ) (h : RadioHead) (row : Layout) (body : Reading) (vs : L
   enough (room, left) =
       let small = (admitted_fit head admitted).1.0 in
       let most : 8 * len ≤ 8184 = omega (arith, small) in
-      let some = run_some Message (8 * len - bits) (omega (arith, most)) (left_flag (8 * len - bits) left) in
+      let some = run_some (Message ToTrain) (8 * len - bits) (omega (arith, most)) (left_flag (8 * len - bits) left) in
       filled room most some.1.0 some.0 some.1.1
 
 pub room_rule : RoomRule

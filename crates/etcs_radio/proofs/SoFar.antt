@@ -33,21 +33,21 @@ measured_is nid len more r q e room =
     let same : (18 + length (spelled r) + more) / 8 ≡ len = omega (arith, l, room) in
     e ∙ ap (λ (k : ℕ). headed nid k r) (sym same)
 
-front_far : (nid at : ℕ) (front : List ℕ) (l : PacketsLeft) (holds : List PacketValue → List ℕ → List Bool → Type 0) (q : Reading) → FrontHeld nid at front l holds q → q ≡ measured nid (labelled (front_vars nid) front) (widths (drop at (front_vars nid)) + ahead l.room l.stage)
+front_far : (nid at : ℕ) (front : List ℕ) (l : PacketsLeft) (holds : List PacketValue → List ℕ → List Bool → Type 0) (q : Reading) → FrontHeld nid at front l holds q → q ≡ measured nid (labelled (front_vars nid) front) (widths (drop at (front_vars nid)) + ahead l.carrier l.room l.stage)
 front_far nid at front l holds q h =
-    let m = measured_is nid h.len (widths (drop at h.vars) + ahead l.room l.stage) (labelled h.vars front) q h.reading_is h.room_is in
-    subst (λ (vs : List Var). q ≡ measured nid (labelled vs front) (widths (drop at vs) + ahead l.room l.stage)) (sym (ap some_row h.typed)) m
+    let m = measured_is nid h.len (widths (drop at h.vars) + ahead l.carrier l.room l.stage) (labelled h.vars front) q h.reading_is h.room_is in
+    subst (λ (vs : List Var). q ≡ measured nid (labelled vs front) (widths (drop at vs) + ahead l.carrier l.room l.stage)) (sym (ap some_row h.typed)) m
 
 pub first_goes : (l : PacketsLeft) → Goes (PacketsBehind l) → Goes (left_of l.carrier l.room l.stage)
 first_goes l (r, (a, b, e, h, k)) = (a, h)
 
 packets_are : (nid : ℕ) (front : List ℕ) (l : PacketsLeft) (store : PacketList) (q : Reading) → Goes (PacketsBehind l) → PacketsHeld nid front l (list_holds store.packets.items store.numbers.items store.bits) q
-    → q ≡ measured nid (labelled (front_vars nid) front ++ packets_so_far l.carrier l.stage store.packets.items store.numbers.items store.bits) (ahead l.room l.stage)
+    → q ≡ measured nid (labelled (front_vars nid) front ++ packets_so_far l.carrier l.stage store.packets.items store.numbers.items store.bits) (ahead l.carrier l.room l.stage)
 packets_are nid front l store q g h =
     let here = packets_far l.carrier l.room l.stage store.packets.items store.numbers.items store.bits h.here (first_goes l g) h.held in
     let is = h.reading_is ∙ ap (λ (t : Reading). headed nid h.len (labelled h.vars front ++ t)) here in
-    let m = measured_is nid h.len (ahead l.room l.stage) (labelled h.vars front ++ packets_so_far l.carrier l.stage store.packets.items store.numbers.items store.bits) q is h.room_is in
-    subst (λ (vs : List Var). q ≡ measured nid (labelled vs front ++ packets_so_far l.carrier l.stage store.packets.items store.numbers.items store.bits) (ahead l.room l.stage)) (sym (ap some_row h.typed)) m
+    let m = measured_is nid h.len (ahead l.carrier l.room l.stage) (labelled h.vars front ++ packets_so_far l.carrier l.stage store.packets.items store.numbers.items store.bits) q is h.room_is in
+    subst (λ (vs : List Var). q ≡ measured nid (labelled vs front ++ packets_so_far l.carrier l.stage store.packets.items store.numbers.items store.bits) (ahead l.carrier l.room l.stage)) (sym (ap some_row h.typed)) m
 
 -- PADDING is what is left up to whole bytes
 padding_far : (nid : ℕ) (front : List ℕ) (ps : List Packet) (f : List ℕ) (k : List Bool) (number left : ℕ) (q : Reading) → PaddingHeld nid front (list_holds ps f k) number left q → q ≡ measured nid (padded (packed nid front ps) number left) left

@@ -115,11 +115,11 @@ module _ (nid nid' : ℕ) (h h' : RadioHead) (body body' : Reading) (vs vs' : Li
       let parts = Agree-cut head head' body body' (heads_agree nid nid' x.len y.len h h') e in
       omega (arith, ap second_number parts.0, ap (λ (q : Reading). length (spelled q)) parts.1)
 
-  run_same : head ++ body ≡ head' ++ body' → RunOf Message (8 * x.len - front_of body) vs' sent'
-  run_same e = subst (λ (k : ℕ). RunOf Message k vs' sent') (sym (rooms_same e)) y.run
+  run_same : head ++ body ≡ head' ++ body' → RunOf (Message ToTrain) (8 * x.len - front_of body) vs' sent'
+  run_same e = subst (λ (k : ℕ). RunOf (Message ToTrain) k vs' sent') (sym (rooms_same e)) y.run
 
   runs_agree : head ++ body ≡ head' ++ body' → Agree sent sent'
-  runs_agree e = let runs = run_regular Message (8 * x.len - front_of body) in runs.agree sent sent' (vs, x.run) (vs', run_same e)
+  runs_agree e = let runs = run_regular (Message ToTrain) (8 * x.len - front_of body) in runs.agree sent sent' (vs, x.run) (vs', run_same e)
 
   packed_agree : Agree ((head ++ body) ++ sent) ((head' ++ body') ++ sent')
   packed_agree = Agree-append (head ++ body) (head' ++ body') sent sent' fronts_agree runs_agree
@@ -142,7 +142,7 @@ module _ (nid nid' : ℕ) (h h' : RadioHead) (body body' : Reading) (vs vs' : Li
       let heads = Agree-cut head head' body body' (heads_agree nid nid' x.len y.len h h') fronts.0 in
       let number : nid ≡ nid' = ap first_number heads.0 in
       let one : h ≡ h' = sym (head_back nid x.len h) ∙ ap head_from heads.0 ∙ head_back nid' y.len h' in
-      let packets : vs ≡ vs' = packets_same Message (8 * x.len - front_of body) vs vs' sent sent' x.run (run_same fronts.0) fronts.1 in
+      let packets : vs ≡ vs' = packets_same (Message ToTrain) (8 * x.len - front_of body) vs vs' sent sent' x.run (run_same fronts.0) fronts.1 in
       let pad : padding ≡ padding' = bits_known PADDING padding padding' packed.1 in
       let own : body ≡ body' = heads.1 in
       rw (number, one, own, packets, pad) refl
@@ -180,7 +180,7 @@ fit : (v : MessageValue) (a : Reading) → MessageReads v a → AllFit a
 fit (typed_message nid h body vs padding) a x =
     let head = head_reading nid x.len h in
     let sent = packets_reading vs in
-    let runs = run_regular Message (8 * x.len - front_of body) in
+    let runs = run_regular (Message ToTrain) (8 * x.len - front_of body) in
     rw x.reading_is
     (AllFit-append ((head ++ body) ++ sent) (kept PADDING padding)
     (AllFit-append (head ++ body) sent (AllFit-append head body (admitted_fit head x.head_admitted) (Reads-fit x.row [] body x.body_reads)) (runs.fit sent (vs, x.run)))

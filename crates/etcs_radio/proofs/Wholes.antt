@@ -66,7 +66,7 @@ pub record TypedMade (nid : ℕ) (front : List ℕ) (ps : List Packet) (number :
   pub body : IsBodyNumbers nid (drop 3 front)
 
 -- packets and PADDING that end a message's reading end it as one of their own
-with_packets : (nid : ℕ) (h : RadioHead) (body : Reading) (vs ws : List PacketValue) (padding bits : List Bool) (q : Reading) → TypedReads nid h body vs padding q → All (Carries Message) ws → length bits ≤ 7 → packets_reading ws ++ kept PADDING bits ≡ packets_reading vs ++ kept PADDING padding → TypedReads nid h body ws bits q
+with_packets : (nid : ℕ) (h : RadioHead) (body : Reading) (vs ws : List PacketValue) (padding bits : List Bool) (q : Reading) → TypedReads nid h body vs padding q → All (Carries (Message ToTrain)) ws → length bits ≤ 7 → packets_reading ws ++ kept PADDING bits ≡ packets_reading vs ++ kept PADDING padding → TypedReads nid h body ws bits q
 with_packets nid h body vs ws padding bits q t carried short same =
     let front = head_reading nid t.len h ++ body in
     let is : q ≡ front ++ packets_reading ws ++ kept PADDING bits =
@@ -86,7 +86,7 @@ with_packets nid h body vs ws padding bits q t carried short same =
     }
 
 -- by the numbers of its front
-typed_of : (nid : ℕ) (h : RadioHead) (g : List ℕ) (t m l : ℕ) (body : Reading) (ps : List Packet) (bits : List Bool) (number : ℕ) (q : Reading) → TypedReads nid h body (map packet_value ps) bits q → numbers body ≡ g → t ≡ h.t_train → m ≡ bit h.m_ack → l ≡ h.nid_lrbg → All IsMade ps → All (Carries Message) (map packet_value ps) → length bits ≤ 7 → number < 2 ^ length bits → bits ≡ num (length bits) number
+typed_of : (nid : ℕ) (h : RadioHead) (g : List ℕ) (t m l : ℕ) (body : Reading) (ps : List Packet) (bits : List Bool) (number : ℕ) (q : Reading) → TypedReads nid h body (map packet_value ps) bits q → numbers body ≡ g → t ≡ h.t_train → m ≡ bit h.m_ack → l ≡ h.nid_lrbg → All IsMade ps → All (Carries (Message ToTrain)) (map packet_value ps) → length bits ≤ 7 → number < 2 ^ length bits → bits ≡ num (length bits) number
     → TypedMade nid (t ∷ m ∷ l ∷ g) ps number q
 typed_of nid h g t m l body ps bits number q r nums time ack group made carried short small bits_are =
     let own : IsBodyNumbers nid g = (r.row, body, r.typed_number, r.body_reads, nums) in
@@ -119,7 +119,7 @@ typed_of nid h g t m l body ps bits number q r nums time ack group made carried 
       body = own;
     }
 
-module _ (nid len : ℕ) (own : List Var) (ps : List Packet) (bits : List Bool) (number : ℕ) (q : Reading) (found : own_row nid ≡ Some own) (made : All IsMade ps) (carried : All (Carries Message) (map packet_value ps)) (short : length bits ≤ 7) (small : number < 2 ^ length bits) (bits_are : bits ≡ num (length bits) number) where
+module _ (nid len : ℕ) (own : List Var) (ps : List Packet) (bits : List Bool) (number : ℕ) (q : Reading) (found : own_row nid ≡ Some own) (made : All IsMade ps) (carried : All (Carries (Message ToTrain)) (map packet_value ps)) (short : length bits ≤ 7) (small : number < 2 ^ length bits) (bits_are : bits ≡ num (length bits) number) where
   tail : Reading
   tail = packets_reading (map packet_value ps) ++ kept PADDING bits
 
@@ -161,7 +161,7 @@ pub typed_is : (nid : ℕ) (front : List ℕ) (ps : List Packet) (f : List ℕ) 
 typed_is nid front ps f k number q lang h =
     let (vs_is, (made, rest)) = h.held in
     let (own, found, vars) = own_of (own_row nid) h.vars h.typed in
-    let carried = subst (All (Carries Message)) vs_is h.carried in
+    let carried = subst (All (Carries (Message ToTrain))) vs_is h.carried in
     let count : length front ≡ length (front_behind own) = h.count ∙ ap length (sym vars) in
     let is : q ≡ headed nid h.len (labelled (front_behind own) front ++ (packets_reading (map packet_value ps) ++ kept PADDING h.bits)) =
     h.reading_is ∙ ap (λ (v : List Var). headed nid h.len (labelled v front ++ (packets_reading h.packets ++ kept PADDING h.bits))) (sym vars) ∙ ap (λ (v : List PacketValue). headed nid h.len (labelled (front_behind own) front ++ (packets_reading v ++ kept PADDING h.bits))) vs_is in

@@ -6,6 +6,7 @@ use Rattle.etcs_vars.specs.declared.var.Var.{Var}
 use Rattle.etcs_vars.specs.declared.var.Var.TheVariants.{NID_MESSAGE, L_MESSAGE, T_TRAIN, M_ACK, NID_LRBG, PADDING, OTHER_DATA}
 use Rattle.etcs_vars.specs.Reading.{Reading, Then, spelled, kept}
 use Rattle.etcs_vars.specs.Walking.{Residual}
+use Rattle.etcs_tables.specs.declared.row.Way.TheVariants.{ToTrain}
 use Rattle.etcs_rows.specs.declared.frames.Carrier.TheVariants.{Message}
 use Rattle.etcs_tables.specs.declared.row.Way.TheVariants.{ToTrain}
 use Rattle.etcs_tables.specs.Rows.{message_row_to}
@@ -60,11 +61,11 @@ abbrev pub Padded : (Reading → Type 0) → ℕ → Reading → Type 0
 Padded P room r = Chain P (PaddedBy room) r
 
 abbrev pub PacketsBehind : PacketsLeft → Reading → Type 0
-PacketsBehind l r = Padded (left_of l.carrier l.room l.stage) (ahead l.room l.stage) r
+PacketsBehind l r = Padded (left_of l.carrier l.room l.stage) (ahead l.carrier l.room l.stage) r
 
 -- packets and PADDING, as many bits as these bytes have behind so many
 abbrev pub PacketsFrom : ℕ → ℕ → Reading → Type 0
-PacketsFrom front len r = Padded (Run Message (8 * len - front)) (8 * len - front) r
+PacketsFrom front len r = Padded (Run (Message ToTrain) (8 * len - front)) (8 * len - front) r
 
 -- behind an L_MESSAGE of so many bytes: a message of these variables in front of its packets, or one that is kept
 abbrev pub Behind : Option (List Var) → ℕ → Reading → Type 0
@@ -158,7 +159,7 @@ pub record FrontHeld (nid : ℕ) (at : ℕ) (front : List ℕ) (l : PacketsLeft)
   pub typed : front_row nid ≡ Some vars
   pub none : HoldsAt l.carrier l.stage holds []
   pub reading_is : q ≡ headed nid len (labelled vars front)
-  pub room_is : length (spelled q) + (widths (drop at vars) + ahead l.room l.stage) ≡ 8 * len
+  pub room_is : length (spelled q) + (widths (drop at vars) + ahead l.carrier l.room l.stage) ≡ 8 * len
 
 -- q are all of the front, packets, and variables of the packet that is being read
 pub record PacketsHeld (nid : ℕ) (front : List ℕ) (l : PacketsLeft) (holds : List PacketValue → List ℕ → List Bool → Type 0) (q : Reading) : Type 0 where
@@ -169,7 +170,7 @@ pub record PacketsHeld (nid : ℕ) (front : List ℕ) (l : PacketsLeft) (holds :
   pub count : length front ≡ length vars
   pub held : HoldsAt l.carrier l.stage holds here
   pub reading_is : q ≡ headed nid len (labelled vars front ++ here)
-  pub room_is : length (spelled q) + ahead l.room l.stage ≡ 8 * len
+  pub room_is : length (spelled q) + ahead l.carrier l.room l.stage ≡ 8 * len
 
 -- q are all of the front, all packets, and the first bits of PADDING
 pub record PaddingHeld (nid : ℕ) (front : List ℕ) (holds : List PacketValue → List ℕ → List Bool → Type 0) (padding left : ℕ) (q : Reading) : Type 0 where
@@ -180,7 +181,7 @@ pub record PaddingHeld (nid : ℕ) (front : List ℕ) (holds : List PacketValue 
   pub typed : front_row nid ≡ Some vars
   pub count : length front ≡ length vars
   pub held : holds packets [] []
-  pub carried : All (Carries Message) packets
+  pub carried : All (Carries (Message ToTrain)) packets
   pub short : length bits + left ≤ 7
   pub small : padding < 2 ^ length bits
   pub padding_is : bits ≡ num (length bits) padding

@@ -24,5 +24,5 @@ begun nid len head body vs = head_reading nid len head ++ body ++ packets_readin
 abbrev pub RoomRule : Type 0
 RoomRule =
     (nid len : ℕ) (head : RadioHead) (row : Layout) (body : Reading) (vs : List PacketValue)
-    → message_row_to ToTrain nid ≡ Some row → IsAdmitted (head_reading nid len head) → Reads row [] body → All (Carries carrier.Message) vs
+    → message_row_to ToTrain nid ≡ Some row → IsAdmitted (head_reading nid len head) → Reads row [] body → All (Carries (carrier.Message ToTrain)) vs
     → (Viable MessageLanguage (spelled (begun nid len head body vs)) ↔ ((length (spelled (begun nid len head body vs)) ≤ 8 * len) × ((8 * len - length (spelled (begun nid len head body vs)) ≤ 7) ⊎ (23 ≤ 8 * len - length (spelled (begun nid len head body vs))))))

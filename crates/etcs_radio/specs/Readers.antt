@@ -41,8 +41,8 @@ whole_far (Some vars) nid front store number = measured nid (padded (packed nid 
 abbrev pub so_far : ℕ → Phase → List ℕ → PacketsLeft → PacketList → ℕ → Reading
 so_far nid phase.Number front l store number = []
 so_far nid phase.Length front l store number = (NID_MESSAGE, nid) ∷ []
-so_far nid (phase.Front at) front l store number = measured nid (labelled (front_vars nid) front) (widths (drop at (front_vars nid)) + ahead l.room l.stage)
-so_far nid phase.Packets front l store number = measured nid (labelled (front_vars nid) front ++ packets_so_far l.carrier l.stage store.packets.items store.numbers.items store.bits) (ahead l.room l.stage)
+so_far nid (phase.Front at) front l store number = measured nid (labelled (front_vars nid) front) (widths (drop at (front_vars nid)) + ahead l.carrier l.room l.stage)
+so_far nid phase.Packets front l store number = measured nid (labelled (front_vars nid) front ++ packets_so_far l.carrier l.stage store.packets.items store.numbers.items store.bits) (ahead l.carrier l.room l.stage)
 so_far nid (phase.Padding left) front l store number = measured nid (padded (packed nid front store.packets.items) number left) left
 so_far nid (phase.Data left) front l store number = measured nid (kept OTHER_DATA store.bits) left
 so_far nid phase.Whole front l store number = whole_far (front_row nid) nid front store number

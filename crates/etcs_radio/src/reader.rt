@@ -72,9 +72,9 @@ impl ItemRest for MessageRest<PacketList> {
 
     ghost least = { 18 };
 
-    ghost far = { λ s. so_far s.nid s.stage s.front.items s.packets.left s.packets.store s.padding };
+    ghost far = { λ s. so_far s.nid s.phase s.front.items s.packets.left s.packets.store s.padding };
 
-    ghost holds = { λ size s. HoldsIn s.nid s.stage s.front.items s.packets.left s.padding (list_holds s.packets.store.packets.items s.packets.store.numbers.items s.packets.store.bits) };
+    ghost holds = { λ size s. HoldsIn s.nid s.phase s.front.items s.packets.left s.padding (list_holds s.packets.store.packets.items s.packets.store.numbers.items s.packets.store.bits) };
 
     ghost made = { λ s. message_by s.nid s.front.items s.packets.store s.padding };
 

@@ -27,15 +27,15 @@ use std::alloc::AllocError;
 pub(crate) struct MessageRest<S: PacketStore> {
     /// NID_MESSAGE, once it was read.
     pub(crate) nid: u8,
-    pub(crate) stage: Phase,
+    pub(crate) phase: Phase,
     /// The numbers behind L_MESSAGE and in front of the packets so far.
     pub(crate) front: ArrayVec<u64, 5>,
     /// The packets. The bits of a message that is kept are in their store.
     pub(crate) packets: PacketsRest<S>,
     /// The bits of PADDING so far, as a number.
     pub(crate) padding: u8,
-    ghost stands: { IsTrue (stands_at nid stage (length front.items) packets.left) },
-    ghost fits: { ∥ DataFits stage (S.holds packets.store) ∥₁ },
+    ghost stands: { IsTrue (stands_at nid phase (length front.items) packets.left) },
+    ghost fits: { ∥ DataFits phase (S.holds packets.store) ∥₁ },
 }
 
 /// What comes where so many bits of PADDING are left.
@@ -86,48 +86,49 @@ impl<S: PacketStore> MessageRest<S> {
     pub(crate) fn new(store: S) -> MessageRest<S>
         requires none { S.holds store [] [] [] }
         ensures store { result.packets.store ≡ store }
-        ensures left { Same (left_at result.nid result.stage result.packets.left) MessageLanguage }
-        ensures holds { HoldsIn result.nid result.stage result.front.items result.packets.left result.padding (S.holds result.packets.store) [] }
+        ensures left { Same (left_at result.nid result.phase result.packets.left) MessageLanguage }
+        ensures holds { HoldsIn result.nid result.phase result.front.items result.packets.left result.padding (S.holds result.packets.store) [] }
     {
         MessageRest {
             nid: 0,
-            stage: Phase::Number,
+            phase: Phase::Number,
             front: ArrayVec::new(),
-            packets: PacketsRest::new(Carrier::Message, 0, store),
+            packets: PacketsRest::new(Carrier::Message(Way::ToTrain), 0, store),
             padding: 0,
         }
     }
 
     /// Behind NID_MESSAGE.
     fn pass_number(&mut self, number: u64)
-        requires stage { self.old.stage ≡ Phase.Number }
-        requires goes { Starts (left_at self.old.nid self.old.stage self.old.packets.left) NID_MESSAGE 0 number }
-        ensures { Follows self.old.nid self.old.stage self.old.front.items self.old.packets.left self.old.padding (S.holds self.old.packets.store) ((NID_MESSAGE, number) ∷ []) self.new.nid self.new.stage self.new.front.items self.new.packets.left self.new.padding (S.holds self.new.packets.store) }
+        requires phase { self.old.phase ≡ Phase.Number }
+        requires goes { Starts (left_at self.old.nid self.old.phase self.old.packets.left) NID_MESSAGE 0 number }
+        ensures { Follows self.old.nid self.old.phase self.old.front.items self.old.packets.left self.old.padding (S.holds self.old.packets.store) ((NID_MESSAGE, number) ∷ []) self.new.nid self.new.phase self.new.front.items self.new.packets.left self.new.padding (S.holds self.new.packets.store) }
     {
         self.nid = number as u8;
-        self.stage = Phase::Length;
+        self.phase = Phase::Length;
     }
 
     /// Behind L_MESSAGE.
     fn pass_length(&mut self, number: u64)
-        requires stage { self.old.stage ≡ Phase.Length }
-        requires goes { Starts (left_at self.old.nid self.old.stage self.old.packets.left) L_MESSAGE 0 number }
-        ensures { Follows self.old.nid self.old.stage self.old.front.items self.old.packets.left self.old.padding (S.holds self.old.packets.store) ((L_MESSAGE, number) ∷ []) self.new.nid self.new.stage self.new.front.items self.new.packets.left self.new.padding (S.holds self.new.packets.store) }
+        requires phase { self.old.phase ≡ Phase.Length }
+        requires goes { Starts (left_at self.old.nid self.old.phase self.old.packets.left) L_MESSAGE 0 number }
+        ensures { Follows self.old.nid self.old.phase self.old.front.items self.old.packets.left self.old.padding (S.holds self.old.packets.store) ((L_MESSAGE, number) ∷ []) self.new.nid self.new.phase self.new.front.items self.new.packets.left self.new.padding (S.holds self.new.packets.store) }
     {
         let bits = number as usize * 8;
         match front_bits(self.nid) {
             Some(front) => {
-                self.packets.start(Carrier::Message, bits - front);
-                self.stage = Phase::Front(0);
+                self.packets
+                    .start(Carrier::Message(Way::ToTrain), bits - front);
+                self.phase = Phase::Front(0);
             }
-            None => self.stage = Phase::Data(bits - 18),
+            None => self.phase = Phase::Data(bits - 18),
         }
     }
 
     /// Behind a variable in front of the packets.
     fn pass_front(&mut self, at: usize, number: u64)
-        requires stage { self.old.stage ≡ Phase.Front at }
-        ensures { (x : Var) → next_at self.old.nid self.old.stage self.old.packets.left ≡ Some x → Starts (left_at self.old.nid self.old.stage self.old.packets.left) x 0 number → Follows self.old.nid self.old.stage self.old.front.items self.old.packets.left self.old.padding (S.holds self.old.packets.store) ((x, number) ∷ []) self.new.nid self.new.stage self.new.front.items self.new.packets.left self.new.padding (S.holds self.new.packets.store) }
+        requires phase { self.old.phase ≡ Phase.Front at }
+        ensures { (x : Var) → next_at self.old.nid self.old.phase self.old.packets.left ≡ Some x → Starts (left_at self.old.nid self.old.phase self.old.packets.left) x 0 number → Follows self.old.nid self.old.phase self.old.front.items self.old.packets.left self.old.padding (S.holds self.old.packets.store) ((x, number) ∷ []) self.new.nid self.new.phase self.new.front.items self.new.packets.left self.new.padding (S.holds self.new.packets.store) }
     {
         let count = match front_count(self.nid) {
             Some(count) => count,
@@ -135,25 +136,25 @@ impl<S: PacketStore> MessageRest<S> {
         };
         let next = behind_front(count, at + 1, &self.packets.left);
         self.front.push(number);
-        self.stage = next;
+        self.phase = next;
     }
 
     /// Behind a variable of the packets.
     fn pass_packets(&mut self, var: Var, number: u64) -> Result<(), AllocError>
-        requires stage { self.old.stage ≡ Phase.Packets }
-        requires next { next_at self.old.nid self.old.stage self.old.packets.left ≡ Some var }
-        requires goes { Starts (left_at self.old.nid self.old.stage self.old.packets.left) var 0 number }
-        ensures ok { OnOk result (Follows self.old.nid self.old.stage self.old.front.items self.old.packets.left self.old.padding (S.holds self.old.packets.store) ((var, number) ∷ []) self.new.nid self.new.stage self.new.front.items self.new.packets.left self.new.padding (S.holds self.new.packets.store)) }
-        ensures err { OnErr result (S.fails × IsTrue (may_ask self.old.stage self.old.packets.left)) }
+        requires phase { self.old.phase ≡ Phase.Packets }
+        requires next { next_at self.old.nid self.old.phase self.old.packets.left ≡ Some var }
+        requires goes { Starts (left_at self.old.nid self.old.phase self.old.packets.left) var 0 number }
+        ensures ok { OnOk result (Follows self.old.nid self.old.phase self.old.front.items self.old.packets.left self.old.padding (S.holds self.old.packets.store) ((var, number) ∷ []) self.new.nid self.new.phase self.new.front.items self.new.packets.left self.new.padding (S.holds self.new.packets.store)) }
+        ensures err { OnErr result (S.fails × IsTrue (may_ask self.old.phase self.old.packets.left)) }
     {
         let packets = &mut self.packets;
         match packets.pass(var, number) {
             Ok(()) => {
-                self.stage = behind_packets(&packets.left);
+                self.phase = behind_packets(&packets.left);
                 Ok(())
             }
             Err(error) => {
-                self.stage = Phase::Whole;
+                self.phase = Phase::Whole;
                 Err(error)
             }
         }
@@ -161,24 +162,24 @@ impl<S: PacketStore> MessageRest<S> {
 
     /// Takes variables of the packets together where a piece has such, and says how many bits they are.
     fn leap_packets(&mut self, piece: &[u8], at: usize) -> Result<Option<usize>, AllocError>
-        requires stage { self.old.stage ≡ Phase.Packets }
+        requires phase { self.old.phase ≡ Phase.Packets }
         requires inside { at < length (bits piece.now) }
         requires small { length (bits piece.now) < 2 ^ 64 }
-        requires goes { Goes (left_at self.old.nid self.old.stage self.old.packets.left) }
+        requires goes { Goes (left_at self.old.nid self.old.phase self.old.packets.left) }
         ensures none { IfOk result (λ o. IsNone o → self.new ≡ self.old) }
-        ensures some { IfOk result (λ o. IfSome o (λ n. LeapsBy (left_at self.new.nid self.new.stage self.new.packets.left) (λ p. Follows self.old.nid self.old.stage self.old.front.items self.old.packets.left self.old.padding (S.holds self.old.packets.store) p self.new.nid self.new.stage self.new.front.items self.new.packets.left self.new.padding (S.holds self.new.packets.store)) (bits piece.now) at n)) }
-        ensures err { OnErr result (S.fails × IsTrue (may_ask self.old.stage self.old.packets.left)) }
-        ensures viable { OnErr result (Viable (left_at self.old.nid self.old.stage self.old.packets.left) (part at 1 (bits piece.now))) }
+        ensures some { IfOk result (λ o. IfSome o (λ n. LeapsBy (left_at self.new.nid self.new.phase self.new.packets.left) (λ p. Follows self.old.nid self.old.phase self.old.front.items self.old.packets.left self.old.padding (S.holds self.old.packets.store) p self.new.nid self.new.phase self.new.front.items self.new.packets.left self.new.padding (S.holds self.new.packets.store)) (bits piece.now) at n)) }
+        ensures err { OnErr result (S.fails × IsTrue (may_ask self.old.phase self.old.packets.left)) }
+        ensures viable { OnErr result (Viable (left_at self.old.nid self.old.phase self.old.packets.left) (part at 1 (bits piece.now))) }
     {
         let packets = &mut self.packets;
         match packets.leap(piece, at) {
             Ok(Some(count)) => {
-                self.stage = behind_packets(&packets.left);
+                self.phase = behind_packets(&packets.left);
                 Ok(Some(count))
             }
             Ok(None) => Ok(None),
             Err(error) => {
-                self.stage = Phase::Whole;
+                self.phase = Phase::Whole;
                 Err(error)
             }
         }
@@ -186,20 +187,20 @@ impl<S: PacketStore> MessageRest<S> {
 
     /// Takes bits of a message that is kept, of which `left` are wanted.
     fn keep(&mut self, left: usize, slice: &BitSlice<'_>) -> Result<(), AllocError>
-        requires stage { self.old.stage ≡ Phase.Data left }
+        requires phase { self.old.phase ≡ Phase.Data left }
         requires within { length slice.now ≤ left }
-        ensures ok { OnOk result (Follows self.old.nid self.old.stage self.old.front.items self.old.packets.left self.old.padding (S.holds self.old.packets.store) (kept OTHER_DATA slice.now) self.new.nid self.new.stage self.new.front.items self.new.packets.left self.new.padding (S.holds self.new.packets.store)) }
-        ensures goes { OnOk result (Goes (left_at self.new.nid self.new.stage self.new.packets.left)) }
+        ensures ok { OnOk result (Follows self.old.nid self.old.phase self.old.front.items self.old.packets.left self.old.padding (S.holds self.old.packets.store) (kept OTHER_DATA slice.now) self.new.nid self.new.phase self.new.front.items self.new.packets.left self.new.padding (S.holds self.new.packets.store)) }
+        ensures goes { OnOk result (Goes (left_at self.new.nid self.new.phase self.new.packets.left)) }
         ensures err { OnErr result S.fails }
     {
         let packets = &mut self.packets;
         match packets.store.bits(slice) {
             Ok(()) => {
-                self.stage = behind_data(left - slice.len());
+                self.phase = behind_data(left - slice.len());
                 Ok(())
             }
             Err(error) => {
-                self.stage = Phase::Whole;
+                self.phase = Phase::Whole;
                 Err(error)
             }
         }
@@ -207,9 +208,9 @@ impl<S: PacketStore> MessageRest<S> {
 
     /// Behind a bit of a message that is kept, of which `left` are wanted.
     fn pass_data(&mut self, left: usize, number: u64) -> Result<(), AllocError>
-        requires stage { self.old.stage ≡ Phase.Data left }
+        requires phase { self.old.phase ≡ Phase.Data left }
         requires small { number < 2 }
-        ensures ok { OnOk result (Follows self.old.nid self.old.stage self.old.front.items self.old.packets.left self.old.padding (S.holds self.old.packets.store) ((OTHER_DATA, number) ∷ []) self.new.nid self.new.stage self.new.front.items self.new.packets.left self.new.padding (S.holds self.new.packets.store)) }
+        ensures ok { OnOk result (Follows self.old.nid self.old.phase self.old.front.items self.old.packets.left self.old.padding (S.holds self.old.packets.store) ((OTHER_DATA, number) ∷ []) self.new.nid self.new.phase self.new.front.items self.new.packets.left self.new.padding (S.holds self.new.packets.store)) }
         ensures err { OnErr result S.fails }
     {
         let byte = [number as u8];
@@ -221,12 +222,12 @@ impl<S: PacketStore> MessageRest<S> {
 
     /// Takes a run of bits of a message that is kept, of which `left` are wanted, and says how many it was.
     fn leap_data(&mut self, left: usize, piece: &[u8], at: usize) -> Result<usize, AllocError>
-        requires stage { self.old.stage ≡ Phase.Data left }
+        requires phase { self.old.phase ≡ Phase.Data left }
         requires inside { at < length (bits piece.now) }
         requires small { length (bits piece.now) < 2 ^ 64 }
-        ensures ok { IfOk result (λ n. LeapsBy (left_at self.new.nid self.new.stage self.new.packets.left) (λ p. Follows self.old.nid self.old.stage self.old.front.items self.old.packets.left self.old.padding (S.holds self.old.packets.store) p self.new.nid self.new.stage self.new.front.items self.new.packets.left self.new.padding (S.holds self.new.packets.store)) (bits piece.now) at n) }
+        ensures ok { IfOk result (λ n. LeapsBy (left_at self.new.nid self.new.phase self.new.packets.left) (λ p. Follows self.old.nid self.old.phase self.old.front.items self.old.packets.left self.old.padding (S.holds self.old.packets.store) p self.new.nid self.new.phase self.new.front.items self.new.packets.left self.new.padding (S.holds self.new.packets.store)) (bits piece.now) at n) }
         ensures err { OnErr result S.fails }
-        ensures viable { OnErr result (Viable (left_at self.old.nid self.old.stage self.old.packets.left) (part at 1 (bits piece.now))) }
+        ensures viable { OnErr result (Viable (left_at self.old.nid self.old.phase self.old.packets.left) (part at 1 (bits piece.now))) }
     {
         let count = left.min(piece.len() * 8 - at);
         match self.keep(left, &run_at(piece, at, count)) {
@@ -237,22 +238,22 @@ impl<S: PacketStore> MessageRest<S> {
 
     /// Takes so many bits of PADDING, of which `left` are wanted, as a number.
     fn pad(&mut self, left: usize, count: usize, number: u64)
-        requires stage { self.old.stage ≡ Phase.Padding left }
+        requires phase { self.old.phase ≡ Phase.Padding left }
         requires within { count ≤ left }
         requires small { number < 2 ^ count }
-        ensures follows { Follows self.old.nid self.old.stage self.old.front.items self.old.packets.left self.old.padding (S.holds self.old.packets.store) (kept PADDING (num count number)) self.new.nid self.new.stage self.new.front.items self.new.packets.left self.new.padding (S.holds self.new.packets.store) }
-        ensures goes { Goes (left_at self.new.nid self.new.stage self.new.packets.left) }
+        ensures follows { Follows self.old.nid self.old.phase self.old.front.items self.old.packets.left self.old.padding (S.holds self.old.packets.store) (kept PADDING (num count number)) self.new.nid self.new.phase self.new.front.items self.new.packets.left self.new.padding (S.holds self.new.packets.store) }
+        ensures goes { Goes (left_at self.new.nid self.new.phase self.new.packets.left) }
     {
         self.padding = (self.padding << count) | number as u8;
-        self.stage = behind_padding(left - count);
+        self.phase = behind_padding(left - count);
     }
 
     /// Takes the bits of PADDING that a piece has, of which `left` are wanted, and says how many it was.
     fn leap_padding(&mut self, left: usize, piece: &[u8], at: usize) -> usize
-        requires stage { self.old.stage ≡ Phase.Padding left }
+        requires phase { self.old.phase ≡ Phase.Padding left }
         requires inside { at < length (bits piece.now) }
         requires small { length (bits piece.now) < 2 ^ 64 }
-        ensures { LeapsBy (left_at self.new.nid self.new.stage self.new.packets.left) (λ p. Follows self.old.nid self.old.stage self.old.front.items self.old.packets.left self.old.padding (S.holds self.old.packets.store) p self.new.nid self.new.stage self.new.front.items self.new.packets.left self.new.padding (S.holds self.new.packets.store)) (bits piece.now) at result }
+        ensures { LeapsBy (left_at self.new.nid self.new.phase self.new.packets.left) (λ p. Follows self.old.nid self.old.phase self.old.front.items self.old.packets.left self.old.padding (S.holds self.old.packets.store) p self.new.nid self.new.phase self.new.front.items self.new.packets.left self.new.padding (S.holds self.new.packets.store)) (bits piece.now) at result }
     {
         let count = left.min(piece.len() * 8 - at);
         self.pad(left, count, number_at(piece, at, count));
@@ -261,17 +262,17 @@ impl<S: PacketStore> MessageRest<S> {
 }
 
 impl<S: PacketStore> Rest for MessageRest<S> {
-    ghost left = { λ s. left_at s.nid s.stage s.packets.left };
+    ghost left = { λ s. left_at s.nid s.phase s.packets.left };
 
-    ghost next = { λ s. next_at s.nid s.stage s.packets.left };
+    ghost next = { λ s. next_at s.nid s.phase s.packets.left };
 
-    ghost follows = { λ s p t. Follows s.nid s.stage s.front.items s.packets.left s.padding (S.holds s.packets.store) p t.nid t.stage t.front.items t.packets.left t.padding (S.holds t.packets.store) };
+    ghost follows = { λ s p t. Follows s.nid s.phase s.front.items s.packets.left s.padding (S.holds s.packets.store) p t.nid t.phase t.front.items t.packets.left t.padding (S.holds t.packets.store) };
 
-    ghost fails = { λ s. S.fails × IsTrue (may_ask s.stage s.packets.left) };
+    ghost fails = { λ s. S.fails × IsTrue (may_ask s.phase s.packets.left) };
 
     #[inline]
     fn var(&self) -> Option<Var> {
-        match self.stage {
+        match self.phase {
             Phase::Number => Some(Var::NID_MESSAGE),
             Phase::Length => Some(Var::L_MESSAGE),
             Phase::Front(at) => front_var(self.nid, at),
@@ -284,7 +285,7 @@ impl<S: PacketStore> Rest for MessageRest<S> {
 
     #[inline]
     fn begins(&self, var: Var, rest: usize, number: u64) -> bool {
-        match self.stage {
+        match self.phase {
             Phase::Number => true,
             Phase::Length => begins(message_lengths(Way::ToTrain, self.nid), rest, number),
             Phase::Front(_) => begins(var.ranges(), rest, number),
@@ -296,7 +297,7 @@ impl<S: PacketStore> Rest for MessageRest<S> {
     }
 
     fn pass(&mut self, var: Var, number: u64) -> Result<(), AllocError> {
-        match self.stage {
+        match self.phase {
             Phase::Number => {
                 self.pass_number(number);
                 Ok(())
@@ -327,7 +328,7 @@ impl<S: PacketStore> Rest for MessageRest<S> {
 
     #[inline]
     fn leap(&mut self, piece: &[u8], at: usize) -> Result<Option<usize>, AllocError> {
-        match self.stage {
+        match self.phase {
             Phase::Packets => match self.leap_packets(piece, at) {
                 Ok(taken) => Ok(taken),
                 Err(error) => Err(error),
@@ -341,15 +342,15 @@ impl<S: PacketStore> Rest for MessageRest<S> {
         }
     }
 
-    ghost regular = { λ s. rest_regular s.nid s.packets.left s.stage };
+    ghost regular = { λ s. rest_regular s.nid s.packets.left s.phase };
 
-    ghost begins_with = { λ s. rest_begins s.nid s.packets.left s.stage (length s.front.items) s.stands };
+    ghost begins_with = { λ s. rest_begins s.nid s.packets.left s.phase (length s.front.items) s.stands };
 
-    ghost ended = { λ s. rest_ended s.nid s.stage (length s.front.items) s.packets.left s.stands };
+    ghost ended = { λ s. rest_ended s.nid s.phase (length s.front.items) s.packets.left s.stands };
 
     ghost residual = { λ s t p h. h.residual };
 
-    ghost none = { λ s. follows_none s.nid s.stage s.front.items s.packets.left s.padding (S.holds s.packets.store) };
+    ghost none = { λ s. follows_none s.nid s.phase s.front.items s.packets.left s.padding (S.holds s.packets.store) };
 
-    ghost both = { λ s t u p q h k. follows_along s.nid s.stage s.front.items s.packets.left s.padding (S.holds s.packets.store) p t.nid t.stage t.front.items t.packets.left t.padding (S.holds t.packets.store) q u.nid u.stage u.front.items u.packets.left u.padding (S.holds u.packets.store) h k };
+    ghost both = { λ s t u p q h k. follows_along s.nid s.phase s.front.items s.packets.left s.padding (S.holds s.packets.store) p t.nid t.phase t.front.items t.packets.left t.padding (S.holds t.packets.store) q u.nid u.phase u.front.items u.packets.left u.padding (S.holds u.packets.store) h k };
 }

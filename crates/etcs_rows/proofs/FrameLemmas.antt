@@ -1,6 +1,6 @@
 -- Numbers and lengths of packets that still fit.
 use Rattle.std.proofs.Common.{◌≡◌, ℕ, ◌+◌, ◌-◌, ◌*◌, ◌/◌, ◌^◌, ◌<◌, ◌≤◌, Option, Some, None, List, [], refl, sym, ap, ◌∙◌, subst, arith, inl, inr, pow_pos}
-use Rattle.std.specs.Prelude.{◌↔◌, IsTrue, Bool, false, ◌&&◌, not, nat_lt, is_some}
+use Rattle.std.specs.Prelude.{◌↔◌, IsTrue, Bool, false, not, is_some}
 use Rattle.std.specs.Option.{option_map}
 use Rattle.std.proofs.Math.Nat.{le-div_iff_mul-le, div-lt_iff_lt-mul}
 use Rattle.etcs_vars.proofs.Prefixes.{below_quotient}
@@ -12,8 +12,8 @@ use Rattle.etcs_tables.specs.Layouts.{Layout, Lengths, items, layout}
 use Rattle.etcs_tables.specs.laws.Flat.{layout-items}
 use Rattle.etcs_tables.specs.Rows.{row_to}
 use Rattle.etcs_rows.proofs.PlaceLemmas.{and_both}
-use Rattle.etcs_tables.specs.Frames.{frame_bits, is_kept}
-use Rattle.etcs_rows.specs.Frames.{BodyLength, Leaves, LengthFits, UnframedFits, NumberFits, InWindows, IsBlock, AreBodies}
+use Rattle.etcs_tables.specs.Frames.{frame_bits, is_framed, is_kept}
+use Rattle.etcs_rows.specs.Frames.{way_of, BodyLength, Leaves, LengthFits, UnframedFits, NumberFits, InWindows, IsBlock, AreBodies}
 
 -- ---- Numbers that begin alike.
 
@@ -58,7 +58,7 @@ body_row way nid row m e = (
   elim [
     | inl (other, f, l) ↦ (let same : other ≡ row = cc in subst (λ (x : Layout). Lengths x [] m) same l)
     | inr kept ↦ (
-        let third = (and_both (nat_lt 0 nid && nat_lt nid 255) (not (is_some (row_to way nid))) kept).1 in
+        let third = (and_both (is_framed way nid) (not (is_some (row_to way nid))) kept).1 in
         let no : IsTrue (not (is_some {T = Layout} (Some row))) = subst (λ (x : Option Layout). IsTrue (not (is_some x))) e third in absurd cc)
   ],
   λ l. inl (row, e, l),
@@ -69,27 +69,27 @@ body_kept way nid m e = (elim [ inl (row, f, l) ↦ absurd cc | inr kept ↦ kep
 
 -- ---- Lengths, by the windows that leave what may be left.
 
-fits_windows : (way : Way) (carrier : Carrier) (nid room d bits low high : ℕ) (w : Windows) → high < 2 ^ 13 → IsBlock d bits low high → AreBodies way carrier room low high w
-    → ((l : ℕ) × (l / d ≡ bits) × LengthFits way carrier nid room l) ↔ ((m : ℕ) × InWindows w m × BodyLength way nid m)
-fits_windows way carrier nid room d bits low high w small block window =
-    let frame = frame_bits way in (
+fits_windows : (carrier : Carrier) (nid room d bits low high : ℕ) (w : Windows) → high < 2 ^ 13 → IsBlock d bits low high → AreBodies carrier room low high w
+    → ((l : ℕ) × (l / d ≡ bits) × LengthFits carrier nid room l) ↔ ((m : ℕ) × InWindows w m × BodyLength (way_of carrier) nid m)
+fits_windows carrier nid room d bits low high w small block window =
+    let frame = frame_bits (way_of carrier) in (
       λ (l, q, (framed, short, body, leaves)).
           let m = l - frame in
           let whole : l ≡ frame + m = omega arith in
           let ends = (block l).0 q in
-          (m, (window m).1 (omega (arith, ends.0), omega (arith, ends.1), subst (λ k. Leaves way carrier room k) whole leaves), body),
+          (m, (window m).1 (omega (arith, ends.0), omega (arith, ends.1), subst (λ k. Leaves carrier room k) whole leaves), body),
       λ (m, inside, body).
           let x = (window m).0 inside in
           let l = frame + m in
           let back : m ≡ l - frame = omega arith in
-          (l, (block l).1 (x.0, x.1), (omega arith, omega (arith, x.1), subst (λ k. BodyLength way nid k) back body, x.2)),
+          (l, (block l).1 (x.0, x.1), (omega arith, omega (arith, x.1), subst (λ k. BodyLength (way_of carrier) nid k) back body, x.2)),
     )
 
 -- so an answer by the windows is one by the lengths
-pub by_windows : (way : Way) (carrier : Carrier) (nid room d bits low high : ℕ) (w : Windows) (r : Bool) → high < 2 ^ 13 → IsBlock d bits low high → AreBodies way carrier room low high w
-    → IsTrue r ↔ ((m : ℕ) × InWindows w m × BodyLength way nid m) → IsTrue r ↔ ((l : ℕ) × (l / d ≡ bits) × LengthFits way carrier nid room l)
-by_windows way carrier nid room d bits low high w r small block window h =
-    let same = fits_windows way carrier nid room d bits low high w small block window in
+pub by_windows : (carrier : Carrier) (nid room d bits low high : ℕ) (w : Windows) (r : Bool) → high < 2 ^ 13 → IsBlock d bits low high → AreBodies carrier room low high w
+    → IsTrue r ↔ ((m : ℕ) × InWindows w m × BodyLength (way_of carrier) nid m) → IsTrue r ↔ ((l : ℕ) × (l / d ≡ bits) × LengthFits carrier nid room l)
+by_windows carrier nid room d bits low high w r small block window h =
+    let same = fits_windows carrier nid room d bits low high w small block window in
     (λ t. same.1 (h.0 t), λ x. h.1 (same.0 x))
 
 -- no length leaves what may be left
@@ -118,27 +118,27 @@ one_fits way nid row w m r e inside only reached = (
 all_lengths : IsBlock (2 ^ 13) 0 0 8191
 all_lengths = quotient_is 0 13
 
-pub any_length : (way : Way) (carrier : Carrier) (nid room : ℕ) → ((l : ℕ) × (l / 2 ^ 13 ≡ 0) × LengthFits way carrier nid room l) ↔ ((l : ℕ) × LengthFits way carrier nid room l)
-any_length way carrier nid room = (
+pub any_length : (carrier : Carrier) (nid room : ℕ) → ((l : ℕ) × (l / 2 ^ 13 ≡ 0) × LengthFits carrier nid room l) ↔ ((l : ℕ) × LengthFits carrier nid room l)
+any_length carrier nid room = (
   λ (l, e, fits). (l, fits),
   λ (l, fits). (l, (let short = fits.1 in (all_lengths l).1 (omega arith, omega (arith, short))), fits),
 )
 
 -- a packet that is kept fits where some length leaves what may be left; and nothing fits elsewhere
-pub framed_windows : (way : Way) (carrier : Carrier) (nid room : ℕ) (w : Windows) → AreBodies way carrier room 0 8191 w
-    → ((l : ℕ) × LengthFits way carrier nid room l) ↔ ((m : ℕ) × InWindows w m × BodyLength way nid m)
-framed_windows way carrier nid room w window =
-    let all = any_length way carrier nid room in
-    let by = fits_windows way carrier nid room (2 ^ 13) 0 0 8191 w (omega arith) all_lengths window in
+pub framed_windows : (carrier : Carrier) (nid room : ℕ) (w : Windows) → AreBodies carrier room 0 8191 w
+    → ((l : ℕ) × LengthFits carrier nid room l) ↔ ((m : ℕ) × InWindows w m × BodyLength (way_of carrier) nid m)
+framed_windows carrier nid room w window =
+    let all = any_length carrier nid room in
+    let by = fits_windows carrier nid room (2 ^ 13) 0 0 8191 w (omega arith) all_lengths window in
     (λ x. by.0 (all.1 x), λ x. all.0 (by.1 x))
 
 -- ---- Numbers.
 
 -- where no packet without a frame fits, those with one decide
-pub by_framed : (way : Way) (carrier : Carrier) (room d bits low high : ℕ) (r : Bool) → IsBlock d bits low high
+pub by_framed : (carrier : Carrier) (room d bits low high : ℕ) (r : Bool) → IsBlock d bits low high
     → (((n : ℕ) × (low ≤ n) × (n ≤ high) × UnframedFits carrier room n) → ⊥)
-    → IsTrue r ↔ ((n : ℕ) × (low ≤ n) × (n ≤ high) × ((l : ℕ) × LengthFits way carrier n room l)) → IsTrue r ↔ ((n : ℕ) × (n / d ≡ bits) × NumberFits way carrier room n)
-by_framed way carrier room d bits low high r block none framed = (
+    → IsTrue r ↔ ((n : ℕ) × (low ≤ n) × (n ≤ high) × ((l : ℕ) × LengthFits carrier n room l)) → IsTrue r ↔ ((n : ℕ) × (n / d ≡ bits) × NumberFits carrier room n)
+by_framed carrier room d bits low high r block none framed = (
   λ t. (let x = framed.0 t in (x.0, (block x.0).1 (x.1, x.2), inr x.3)),
   λ (n, q, fits). (let ends = (block n).0 q in elim fits [ inl unframed ↦ absurd (none (n, ends.0, ends.1, unframed)) | inr x ↦ framed.1 (n, ends.0, ends.1, x) ]),
 )

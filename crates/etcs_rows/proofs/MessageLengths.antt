@@ -13,7 +13,8 @@ use Rattle.etcs_tables.specs.Layouts.{Layout, whole, one, guarded, counted, look
 use Rattle.etcs_tables.specs.Rows.{message_row_to, message_rows_to}
 use Rattle.etcs_rows.specs.Frames.{Leaves}
 use Rattle.etcs_rows.specs.Lengths.{LengthsBy}
-use Rattle.etcs_tables.specs.MessageRows.{row_bits, behind_bits, lengths_behind}
+use Rattle.etcs_tables.specs.Frames.{frame_bits}
+use Rattle.etcs_tables.specs.MessageRows.{header_bits, row_bits, behind_bits, lengths_behind}
 use Rattle.etcs_rows.specs.Messages.{MessageLengthFits}
 use Rattle.etcs_tables.proofs.EachRow.{of_each}
 use Rattle.etcs_rows.proofs.LengthLemmas.{lengths_are}
@@ -58,29 +59,30 @@ within low high l = (
 )
 
 -- the two ranges behind so many bits
-behind_fits : (bits l : ℕ) → bits ≤ 8000 → IsTrue (inside (behind_bits bits) l) ↔ ((l < 2 ^ 10) × Leaves ToTrain Message (8 * l) bits)
-behind_fits bits l short =
+behind_fits : (way : Way) (bits l : ℕ) → bits ≤ 8000 → IsTrue (inside (behind_bits way bits) l) ↔ ((l < 2 ^ 10) × Leaves (Message way) (8 * l) bits)
+behind_fits way bits l short =
+    let n = frame_bits way in
     let a = (bits + 7) / 8 in
-    let b = (bits + 30) / 8 in
+    let b = (bits + (n + 7)) / 8 in
     let first = leb a l && leb l a in
     let more = leb b l && leb l 1023 in
     let pad = leb (8 * l - bits) 7 in
-    let frame = leb 23 (8 * l - bits) in (
+    let frame = leb n (8 * l - bits) in (
       λ h. elim (or_cases first (more || false) h) [
         | inl x ↦ (let p = (within a a l).0 x in (omega (arith, p.0, p.1), (omega (arith, p.0, p.1), or_left pad frame (le-leb (8 * l - bits) 7 (omega (arith, p.0, p.1))))))
         | inr y ↦ elim (or_cases more false y) [
-          | inl x ↦ (let p = (within b 1023 l).0 x in (omega (arith, p.1), (omega (arith, p.0), or_right pad frame (le-leb 23 (8 * l - bits) (omega (arith, p.0))))))
+          | inl x ↦ (let p = (within b 1023 l).0 x in (omega (arith, p.1), (omega (arith, p.0), or_right pad frame (le-leb n (8 * l - bits) (omega (arith, p.0))))))
           | inr z ↦ absurd cc
         ]
       ],
       λ (small, (room, left)). elim (or_cases pad frame left) [
         | inl x ↦ (let k : 8 * l - bits ≤ 7 = leb-true (8 * l - bits) 7 x in or_left first (more || false) ((within a a l).1 (omega (arith, k, room), omega (arith, k, room))))
-        | inr x ↦ (let k : 23 ≤ 8 * l - bits = leb-true 23 (8 * l - bits) x in or_right first (more || false) (or_left more false ((within b 1023 l).1 (omega (arith, k, room), omega (arith, small)))))
+        | inr x ↦ (let k : n ≤ 8 * l - bits = leb-true n (8 * l - bits) x in or_right first (more || false) (or_left more false ((within b 1023 l).1 (omega (arith, k, room), omega (arith, small)))))
       ],
     )
 
-kept_fits : (l : ℕ) → IsTrue (inside (lengths_behind None) l) ↔ ((l < 2 ^ 10) × (3 ≤ l))
-kept_fits l =
+kept_fits : (way : Way) (l : ℕ) → IsTrue (inside (lengths_behind way None) l) ↔ ((l < 2 ^ 10) × (3 ≤ l))
+kept_fits way l =
     let all = leb 3 l && leb l 1023 in (
       λ h. elim (or_cases all false h) [
         | inl x ↦ (let p = (within 3 1023 l).0 x in (omega (arith, p.1), p.0))
@@ -96,26 +98,30 @@ abbrev IsShort : Option Layout → Type 0
 IsShort None = Unit {0}
 IsShort (Some row) = (is_flat row ≡ true) × (row_bits row ≤ 100)
 
-rows_short : (nid : ℕ) (o : Option Layout) → message_row_to ToTrain nid ≡ o → IsShort o
-rows_short nid None is = tt
-rows_short nid (Some row) is =
+rows_short : (way : Way) (nid : ℕ) (o : Option Layout) → message_row_to way nid ≡ o → IsShort o
+rows_short way nid None is = tt
+rows_short ToTrain nid (Some row) is =
     let both = and_parts (is_flat row) (leb (row_bits row) 100) (of_each (λ n row. is_flat row && leb (row_bits row) 100) (message_rows_to ToTrain) nid row refl is) in
     (both.0, leb-true (row_bits row) 100 both.1)
 
-typed_fits : (nid l : ℕ) (row : Layout) → message_row_to ToTrain nid ≡ Some row → is_flat row ≡ true → row_bits row ≤ 100 → ((l < 2 ^ 10) × Leaves ToTrain Message (8 * l) (75 + row_bits row)) ↔ MessageLengthFits ToTrain nid l
-typed_fits nid l row e flat short = (
+-- nor have a header and a frame many
+few_bits : (way : Way) → (header_bits way ≤ 100) × (frame_bits way ≤ 100)
+few_bits ToTrain = (omega arith, omega arith)
+
+typed_fits : (way : Way) (nid l : ℕ) (row : Layout) → message_row_to way nid ≡ Some row → is_flat row ≡ true → row_bits row ≤ 100 → ((l < 2 ^ 10) × Leaves (Message way) (8 * l) (header_bits way + row_bits row)) ↔ MessageLengthFits way nid l
+typed_fits way nid l row e flat short = (
   λ (small, leaves). (small, inl (row, row_bits row, e, (flat_lengths row (row_bits row) flat (omega (arith, short))).1 refl, leaves)),
   λ (small, fits). elim fits [
     | inl (other, m, f, lengths, leaves) ↦
         let same : other ≡ row = cc in
         let is : m ≡ row_bits row = (flat_lengths row m flat (omega (arith, short))).0 (subst (λ (x : Layout). Lengths x [] m) same lengths) in
-        (small, subst (λ (k : ℕ). Leaves ToTrain Message (8 * l) (75 + k)) is leaves)
+        (small, subst (λ (k : ℕ). Leaves (Message way) (8 * l) (header_bits way + k)) is leaves)
     | inr (none, least) ↦ absurd cc
   ],
 )
 
-untyped_fits : (nid l : ℕ) → message_row_to ToTrain nid ≡ None → ((l < 2 ^ 10) × (3 ≤ l)) ↔ MessageLengthFits ToTrain nid l
-untyped_fits nid l e = (
+untyped_fits : (way : Way) (nid l : ℕ) → message_row_to way nid ≡ None → ((l < 2 ^ 10) × (3 ≤ l)) ↔ MessageLengthFits way nid l
+untyped_fits way nid l e = (
   λ (small, least). (small, inr (e, least)),
   λ (small, fits). elim fits [
     | inl (row, m, f, lengths, leaves) ↦ absurd cc
@@ -123,23 +129,24 @@ untyped_fits nid l e = (
   ],
 )
 
-fits_as : (nid : ℕ) (o : Option Layout) → message_row_to ToTrain nid ≡ o → IsShort o → (l : ℕ) → IsTrue (inside (lengths_behind o) l) ↔ MessageLengthFits ToTrain nid l
-fits_as nid None e short l =
-    let k = kept_fits l in let m = untyped_fits nid l e in (λ h. m.0 (k.0 h), λ h. k.1 (m.1 h))
-fits_as nid (Some row) e short l =
-    let k = behind_fits (75 + row_bits row) l (omega (arith, short.1)) in
-    let m = typed_fits nid l row e short.0 short.1 in (λ h. m.0 (k.0 h), λ h. k.1 (m.1 h))
+fits_as : (way : Way) (nid : ℕ) (o : Option Layout) → message_row_to way nid ≡ o → IsShort o → (l : ℕ) → IsTrue (inside (lengths_behind way o) l) ↔ MessageLengthFits way nid l
+fits_as way nid None e short l =
+    let k = kept_fits way l in let m = untyped_fits way nid l e in (λ h. m.0 (k.0 h), λ h. k.1 (m.1 h))
+fits_as way nid (Some row) e short l =
+    let k = behind_fits way (header_bits way + row_bits row) l (omega (arith, short.1, (few_bits way).0)) in
+    let m = typed_fits way nid l row e short.0 short.1 in (λ h. m.0 (k.0 h), λ h. k.1 (m.1 h))
 
-pub lengths_fit : (way : Way) (nid l : ℕ) → IsTrue (inside (lengths_behind (message_row_to way nid)) l) ↔ MessageLengthFits way nid l
-lengths_fit ToTrain nid l = fits_as nid (message_row_to ToTrain nid) refl (rows_short nid (message_row_to ToTrain nid) refl) l
+pub lengths_fit : (way : Way) (nid l : ℕ) → IsTrue (inside (lengths_behind way (message_row_to way nid)) l) ↔ MessageLengthFits way nid l
+lengths_fit way nid l = fits_as way nid (message_row_to way nid) refl (rows_short way nid (message_row_to way nid) refl) l
 
-ordered_behind : (o : Option Layout) → IsShort o → IsTrue (list_all (λ r. nat_le r.0 r.1) (lengths_behind o))
-ordered_behind None h = refl
-ordered_behind (Some row) h =
-    let bits = 75 + row_bits row in
+ordered_behind : (way : Way) (o : Option Layout) → IsShort o → IsTrue (list_all (λ r. nat_le r.0 r.1) (lengths_behind way o))
+ordered_behind way None h = refl
+ordered_behind way (Some row) h =
+    let bits = header_bits way + row_bits row in
     let a = (bits + 7) / 8 in
-    let b = (bits + 30) / 8 in
-    and_from (leb a a) (leb b 1023 && true) (le-leb a a (omega arith)) (and_from (leb b 1023) true (le-leb b 1023 (omega (arith, h.1))) refl)
+    let b = (bits + (frame_bits way + 7)) / 8 in
+    let few = few_bits way in
+    and_from (leb a a) (leb b 1023 && true) (le-leb a a (omega arith)) (and_from (leb b 1023) true (le-leb b 1023 (omega (arith, h.1, few.0, few.1))) refl)
 
-pub lengths_ordered : (way : Way) (nid : ℕ) → IsTrue (list_all (λ r. nat_le r.0 r.1) (lengths_behind (message_row_to way nid)))
-lengths_ordered ToTrain nid = ordered_behind (message_row_to ToTrain nid) (rows_short nid (message_row_to ToTrain nid) refl)
+pub lengths_ordered : (way : Way) (nid : ℕ) → IsTrue (list_all (λ r. nat_le r.0 r.1) (lengths_behind way (message_row_to way nid)))
+lengths_ordered way nid = ordered_behind way (message_row_to way nid) (rows_short way nid (message_row_to way nid) refl)

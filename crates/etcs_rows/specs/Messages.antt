@@ -1,19 +1,15 @@
 -- How many bytes a message may have, by its number (SUBSET-026, 8).
 use Rattle.std.specs.Prelude.{◌≡◌, ℕ, ◌+◌, ◌*◌, ◌^◌, ◌≤◌, ◌<◌, ◌⊎◌, [], Some, None}
 use Rattle.etcs_tables.specs.declared.row.Way.{Way}
-use Rattle.etcs_tables.specs.declared.row.Way.TheVariants.{ToTrain}
 use Rattle.etcs_rows.specs.declared.frames.Carrier.TheVariants.{Message}
 use Rattle.etcs_tables.specs.Layouts.{Layout, Lengths}
 use Rattle.etcs_tables.specs.Rows.{message_row_to}
+use Rattle.etcs_tables.specs.MessageRows.{header_bits}
 use Rattle.etcs_rows.specs.Frames.{Leaves}
-
--- the bits of the header in front of a typed message's row
-abbrev pub header_bits : Way → ℕ
-header_bits ToTrain = 75
 
 -- header and row leave what may be left in so many bytes
 abbrev pub TypedLength : Way → ℕ → ℕ → Type 0
-TypedLength way nid l = (row : Layout) × (m : ℕ) × (message_row_to way nid ≡ Some row) × Lengths row [] m × Leaves way Message (8 * l) (header_bits way + m)
+TypedLength way nid l = (row : Layout) × (m : ℕ) × (message_row_to way nid ≡ Some row) × Lengths row [] m × Leaves (Message way) (8 * l) (header_bits way + m)
 
 -- a message that is kept whole has room for NID_MESSAGE and L_MESSAGE
 abbrev pub KeptLength : Way → ℕ → ℕ → Type 0

@@ -2,35 +2,41 @@
 
 ghost use Rattle.std.specs.Prelude.{◌≡◌, ◌↔◌, ℕ, ◌-◌, ◌/◌, ◌^◌, ◌<◌, ◌≤◌, [], IsTrue};
 ghost use Rattle.etcs_tables.specs.Frames.{frame_bits, is_kept};
-ghost use Rattle.etcs_rows.specs.Frames.{LengthFits, UnframedFits, NumberFits, IsBlock, Within, InWindows, AreBodies};
+ghost use Rattle.etcs_rows.specs.Frames.{way_of, LengthFits, UnframedFits, NumberFits, IsBlock, Within, InWindows, AreBodies};
 ghost use Rattle.etcs_tables.specs.Layouts.{layout, Lengths};
 ghost use Rattle.etcs_rows.specs.Sets.{In};
 
 use crate::least::some_length;
 use crate::length_set::LengthSet;
 use crate::place::Place;
-use etcs_tables::{Row, Way, frame_bits, is_kept, row_of};
+use etcs_tables::{
+    CLOSING, CLOSING_BITS, MARKER_BITS, MOST_LENGTH, Row, Way, frame_bits, is_kept, row_of,
+};
 
 /// What carries packets.
 #[derive(Clone, Copy, Debug, PartialEq, Eq)]
 pub enum Carrier {
-    /// A telegram, which packet 255 closes.
+    /// A telegram, which goes to the train and which packet 255 closes.
     Telegram,
-    /// A message, with at most 7 bits of padding behind its last packet.
-    Message,
+    /// A message this way, with at most 7 bits of padding behind its last packet.
+    Message(Way),
 }
 
-/// The bits of packet 255, which stands behind all others of a telegram.
-const CLOSING_BITS: usize = 8;
-
-/// The bits of packet 0, its NID_PACKET and NID_VBCMK.
-const MARKER_BITS: usize = 14;
+impl Carrier {
+    /// The way of its packets.
+    #[inline]
+    pub fn way(self) -> Way
+        ensures { result ≡ way_of self }
+    {
+        match self {
+            Carrier::Telegram => Way::ToTrain,
+            Carrier::Message(way) => way,
+        }
+    }
+}
 
 /// The most bits of padding behind the last packet of a message.
-const MOST_PADDING: usize = 7;
-
-/// The largest L_PACKET.
-const MOST_LENGTH: usize = 8191;
+pub const MOST_PADDING: usize = 7;
 
 /// How many numbers of bits are tried one by one before all of a row are worked out.
 const TRIES: usize = 64;
@@ -103,11 +109,11 @@ struct Windows {
 
 impl Windows {
     /// Those of a packet of `low` to `high` bits where `room` bits are left.
-    fn new(way: Way, carrier: Carrier, room: usize, low: usize, high: usize) -> Windows
+    fn new(carrier: Carrier, room: usize, low: usize, high: usize) -> Windows
         requires { high ≤ 8191 }
-        ensures { AreBodies way carrier room low high result }
+        ensures { AreBodies carrier room low high result }
     {
-        let frame = frame_bits(way);
+        let frame = frame_bits(carrier.way());
         let low = low.saturating_sub(frame);
         let end = (high.min(room) + 1).saturating_sub(frame);
         match carrier {
@@ -118,7 +124,7 @@ impl Windows {
                 },
                 last: Window { low, end: low },
             },
-            Carrier::Message => Windows {
+            Carrier::Message(_) => Windows {
                 followed: Window {
                     low,
                     end: end.min(room.saturating_sub(frame + frame - 1)),
@@ -171,16 +177,17 @@ impl Windows {
 
 /// Whether some L_PACKET fits that is `bits` with `rest` bits more behind them, for a packet of this number
 /// where `room` bits are left, counted from the packet's first bit.
-pub fn length_fits(way: Way, carrier: Carrier, nid: u8, room: usize, rest: usize, bits: u64) -> bool
+pub fn length_fits(carrier: Carrier, nid: u8, room: usize, rest: usize, bits: u64) -> bool
     requires rest { rest ≤ 13 }
     requires fits { bits < 2 ^ (13 - rest) }
-    ensures { IsTrue result ↔ ((l : ℕ) × (l / 2 ^ rest ≡ bits) × LengthFits way carrier nid room l) }
+    ensures { IsTrue result ↔ ((l : ℕ) × (l / 2 ^ rest ≡ bits) × LengthFits carrier nid room l) }
 {
     let (low, high) = ends(13, rest, bits);
-    let windows = Windows::new(way, carrier, room, low, high);
+    let windows = Windows::new(carrier, room, low, high);
     if !windows.any() {
         return false;
     }
+    let way = carrier.way();
     match row_of(way, nid) {
         None => is_kept(way, nid),
         Some(row) => {
@@ -200,10 +207,10 @@ fn unframed_fits(carrier: Carrier, room: usize, low: u8, high: u8) -> bool
 {
     match carrier {
         Carrier::Telegram => {
-            (high == 255 && room >= CLOSING_BITS)
+            (high == CLOSING && room >= CLOSING_BITS)
                 || (low == 0 && room >= MARKER_BITS + CLOSING_BITS)
         }
-        Carrier::Message => false,
+        Carrier::Message(_) => false,
     }
 }
 
@@ -220,18 +227,18 @@ fn any_kept(way: Way, low: u8, high: u8) -> bool
 }
 
 /// Whether a packet of this number fits with its frame.
-fn framed_fits(way: Way, carrier: Carrier, nid: u8, room: usize) -> bool
-    ensures { IsTrue result ↔ ((l : ℕ) × LengthFits way carrier nid room l) }
+fn framed_fits(carrier: Carrier, nid: u8, room: usize) -> bool
+    ensures { IsTrue result ↔ ((l : ℕ) × LengthFits carrier nid room l) }
 {
-    length_fits(way, carrier, nid, room, 13, 0)
+    length_fits(carrier, nid, room, 13, 0)
 }
 
 /// Whether a packet with a frame fits whose number is from low to high.
-fn any_framed(way: Way, carrier: Carrier, room: usize, low: u8, high: u8) -> bool
-    ensures { IsTrue result ↔ ((n : ℕ) × (low ≤ n) × (n ≤ high) × ((l : ℕ) × LengthFits way carrier n room l)) }
+fn any_framed(carrier: Carrier, room: usize, low: u8, high: u8) -> bool
+    ensures { IsTrue result ↔ ((n : ℕ) × (low ≤ n) × (n ≤ high) × ((l : ℕ) × LengthFits carrier n room l)) }
 {
     for nid in low..=high {
-        if framed_fits(way, carrier, nid, room) {
+        if framed_fits(carrier, nid, room) {
             return true;
         }
     }
@@ -240,10 +247,10 @@ fn any_framed(way: Way, carrier: Carrier, room: usize, low: u8, high: u8) -> boo
 
 /// Whether some NID_PACKET fits that is `bits` with `rest` bits more behind them, where `room` bits are left,
 /// counted from the packet's first bit.
-pub fn number_fits(way: Way, carrier: Carrier, room: usize, rest: usize, bits: u64) -> bool
+pub fn number_fits(carrier: Carrier, room: usize, rest: usize, bits: u64) -> bool
     requires rest { rest ≤ 8 }
     requires fits { bits < 2 ^ (8 - rest) }
-    ensures { IsTrue result ↔ ((n : ℕ) × (n / 2 ^ rest ≡ bits) × NumberFits way carrier room n) }
+    ensures { IsTrue result ↔ ((n : ℕ) × (n / 2 ^ rest ≡ bits) × NumberFits carrier room n) }
 {
     let (low, high) = ends(8, rest, bits);
     let (low, high) = (low as u8, high as u8);
@@ -251,8 +258,8 @@ pub fn number_fits(way: Way, carrier: Carrier, room: usize, rest: usize, bits: u
         return true;
     }
     // Where no length leaves what may be left, no row need be asked.
-    if !Windows::new(way, carrier, room, 0, MOST_LENGTH).any() {
+    if !Windows::new(carrier, room, 0, MOST_LENGTH).any() {
         return false;
     }
-    any_kept(way, low, high) || any_framed(way, carrier, room, low, high)
+    any_kept(carrier.way(), low, high) || any_framed(carrier, room, low, high)
 }

@@ -9,7 +9,7 @@ ghost use Rattle.etcs_tables.specs.Layouts.{whole};
 ghost use Rattle.etcs_rows.specs.Places.{first_variable};
 ghost use Rattle.etcs_rows.specs.Walks.{Walks};
 
-pub use crate::frames::{Carrier, length_fits, number_fits};
+pub use crate::frames::{Carrier, MOST_PADDING, length_fits, number_fits};
 pub use crate::message::message_lengths;
 pub use crate::walk::may_begin;
 use crate::walk::{RowWalk, Step, Stopped};

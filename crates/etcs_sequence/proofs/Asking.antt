@@ -7,9 +7,11 @@ use Rattle.etcs_vars.specs.declared.var.Var.TheVariants.{NID_PACKET, NID_VBCMK, 
 use Rattle.etcs_vars.specs.Reading.{Reading, Then, Times}
 use Rattle.etcs_tables.specs.declared.row.Way.TheVariants.{ToTrain}
 use Rattle.etcs_rows.specs.declared.frames.Carrier.{Carrier}
+use Rattle.etcs_rows.specs.Frames.{way_of}
 use Rattle.etcs_tables.specs.Layouts.{Layout, whole, one, guarded, counted, Scope, holds, count_before, Reads}
 use Rattle.etcs_tables.specs.Rows.{row_to, rows_to}
 use Rattle.etcs_tables.proofs.EachRow.{of_each}
+use Rattle.etcs_tables.specs.declared.row.Way.{Way}
 use Rattle.etcs_packets.specs.PacketValues.{PacketValue}
 use Rattle.etcs_reader.specs.Rests.{Goes}
 use Rattle.etcs_sequence.specs.declared.stage.Stage.{Stage}
@@ -26,8 +28,8 @@ asks_all (one v rest) = asks_memory v && asks_all rest
 asks_all (guarded g group rest) = asks_all group && asks_all rest
 asks_all (counted group rest) = asks_all group && asks_all rest
 
-typed_ask : (nid : ℕ) (row : Layout) → row_to ToTrain nid ≡ Some row → asks_all row ≡ true
-typed_ask nid row e = of_each (λ n r. asks_all r) (rows_to ToTrain) nid row refl e
+typed_ask : (way : Way) (nid : ℕ) (row : Layout) → row_to way nid ≡ Some row → asks_all row ≡ true
+typed_ask ToTrain nid row e = of_each (λ n r. asks_all r) (rows_to ToTrain) nid row refl e
 
 -- at each of its variables
 abbrev AllAsk : Reading → Type 0
@@ -73,7 +75,7 @@ here_asks c room (Direction nid) f k h grows here g x e = absurd cc
 here_asks c room (Length nid dir) f k h grows here g x e = let same : L_PACKET ≡ x = cc in subst (λ (v : Var). IsTrue (asks_memory v)) same refl
 here_asks c room (Row nid dir row) f k h grows (none, is) (r, (u, v, e', l, m)) x e =
     let (n, q, begins) = row_begins_with row.place row.len x e u l in
-    let all = reads_ask is.row [] (is.read ++ u) (typed_ask nid is.row is.typed) (is.residual.from u l).0 in
+    let all = reads_ask is.row [] (is.read ++ u) (typed_ask (way_of c) nid is.row is.typed) (is.residual.from u l).0 in
     (subst AllAsk begins (behind_ask is.read u all)).0
 here_asks c room (Kept nid dir left) f k h grows here g x e = let same : OTHER_DATA ≡ x = cc in subst (λ (v : Var). IsTrue (asks_memory v)) same refl
 here_asks c room Closed f k h grows here g x e = absurd cc

@@ -3,73 +3,96 @@ use Rattle.std.proofs.Common.{◌≡◌, ℕ, ◌+◌, ◌-◌, ◌≤◌, Bool,
 use Rattle.std.proofs.lemmas.List.Elements.{All-head}
 use Rattle.etcs_bits.specs.Bits.{num, part}
 use Rattle.etcs_bits.proofs.Lists.{length-part, part-add}
-use Rattle.etcs_vars.specs.declared.var.Var.TheVariants.{NID_PACKET}
+use Rattle.etcs_vars.specs.declared.var.Var.TheVariants.{NID_PACKET, L_PACKET}
 use Rattle.etcs_vars.specs.Walking.{Residual}
 use Rattle.etcs_vars.specs.Reading.{Reading, spelled}
 use Rattle.etcs_vars.proofs.Apart.{apart, cut}
 use Rattle.etcs_vars.proofs.Walk.{spelled-append}
-use Rattle.etcs_tables.specs.declared.row.Way.TheVariants.{ToTrain}
 use Rattle.etcs_rows.specs.declared.frames.Carrier.{Carrier}
 use Rattle.etcs_rows.specs.declared.frames.Carrier.TheVariants.{Telegram, Message}
+use Rattle.etcs_rows.specs.Frames.{way_of}
 use Rattle.etcs_tables.specs.Layouts.{Layout}
 use Rattle.etcs_tables.specs.Rows.{row_to}
-use Rattle.etcs_packets.specs.PacketValues.{PacketValue, bits_of, variables_of, IsPacket, IsTypedOf}
+use Rattle.etcs_tables.specs.declared.row.Way.{Way}
+use Rattle.etcs_tables.specs.Frames.{frame_bits, head_bits, directed}
 use Rattle.etcs_packets.specs.PacketValues as packets
-use Rattle.etcs_packets.specs.PacketReadings.{frame, packet_reading}
-use Rattle.etcs_packets.specs.laws.PacketReadings.{packet_bits}
+use Rattle.etcs_packets.specs.PacketValues.{PacketValue, variables_of, IsTypedOf, bits_to, IsPacketTo}
+use Rattle.etcs_packets.specs.PacketReadings.{in_frame, reading_to}
+use Rattle.etcs_packets.specs.laws.PacketReadings.{frame_is, directed-append, bits_are}
 use Rattle.etcs_sequence.specs.Contents.{Carries, Run, RunOf}
 use Rattle.etcs_sequence.specs.laws.Agreement.{packet_agree, packet_fit, numbered}
 use Rattle.etcs_sequence.proofs.OneSpelling.{packet_same, closed_apart}
 use Rattle.etcs_sequence.specs.laws.RunSteps.{behind, in_front, carried_packet}
 use Rattle.etcs_sequence.specs.laws.Others.{kept_parts, kept_untyped}
+use Rattle.etcs_sequence.specs.laws.Framed.{frame_head}
 
 -- a run that begins with a packet's variables goes on behind it
-begins : (c : Carrier) (room : ℕ) (v : PacketValue) (us : List PacketValue) (q : Reading) → Carries c v → RunOf c room us (packet_reading v ++ q) → Run c (room - bits_of v) q
+begins : (c : Carrier) (room : ℕ) (v : PacketValue) (us : List PacketValue) (q : Reading) → Carries c v → RunOf c room us (reading_to (way_of c) v ++ q) → Run c (room - bits_to (way_of c) v) q
 begins Telegram room v [] q carried run = absurd (closed_apart v q carried (sym run.reading_is))
-begins Message room v [] q carried run =
-    let b = numbered v carried.0 in
+begins (Message way) room v [] q carried run =
+    let b = numbered way v carried.0 in
     let e : ◌≡◌ {A = Reading} ((NID_PACKET, b.0) ∷ (b.1 ++ q)) [] = ap (λ (t : Reading). t ++ q) (sym b.2) ∙ run.reading_is in
     absurd cc
 begins c room v (u ∷ us) q carried run =
-    let b = behind c room (bits_of u) u us (packet_reading v ++ q) run (packet_bits u) in
+    let way = way_of c in
+    let r = reading_to way v in
+    let s = reading_to way u in
+    let b = behind c room (bits_to way u) u us (r ++ q) run (bits_are way u) in
     let hv = carried_packet c v carried in
     let hu = carried_packet c u (All-head (Carries c) u us run.carried) in
-    let whole : spelled (packet_reading v) ++ spelled q ≡ spelled (packet_reading u) ++ spelled b.0 = sym (spelled-append (packet_reading v) q) ∙ ap spelled b.1 ∙ spelled-append (packet_reading u) b.0 in
-    let both = apart (packet_reading v) (packet_reading u) (spelled q) (spelled b.0) (packet_agree v u hv hu) (packet_fit v hv) (packet_fit u hu) whole in
-    let same = packet_same v u hv hu both.0 in
-    let rest = cut (packet_reading v) (packet_reading u) q b.0 (ap (λ (r : Reading). length r) both.0) b.1 in
-    (us, subst (λ (r : Reading). RunOf c (room - bits_of v) us r) (sym rest.1) (subst (λ (w : PacketValue). RunOf c (room - bits_of w) us b.0) (sym same) b.3))
+    let whole : spelled r ++ spelled q ≡ spelled s ++ spelled b.0 = sym (spelled-append r q) ∙ ap spelled b.1 ∙ spelled-append s b.0 in
+    let both = apart r s (spelled q) (spelled b.0) (packet_agree way v u hv hu) (packet_fit way v hv) (packet_fit way u hu) whole in
+    let same = packet_same way v u hv hu both.0 in
+    let rest = cut r s q b.0 (ap (λ (t : Reading). length t) both.0) b.1 in
+    (us, subst (λ (t : Reading). RunOf c (room - bits_to way v) us t) (sym rest.1) (subst (λ (w : PacketValue). RunOf c (room - bits_to way w) us b.0) (sym same) b.3))
 
 -- what is left behind a whole packet
-pub behind_packet : (c : Carrier) (room : ℕ) (v : PacketValue) → Carries c v → bits_of v ≤ room → Residual (Run c room) (packet_reading v) (Run c (room - bits_of v))
+pub behind_packet : (c : Carrier) (room : ℕ) (v : PacketValue) → Carries c v → bits_to (way_of c) v ≤ room → Residual (Run c room) (reading_to (way_of c) v) (Run c (room - bits_to (way_of c) v))
 behind_packet c room v carried le = record {
   to = λ q (us, run). begins c room v us q carried run;
-  from = λ q l. in_front c room (bits_of v) v q carried (packet_bits v) le l;
+  from = λ q l. in_front c room (bits_to (way_of c) v) v q carried (bits_are (way_of c) v) le l;
 }
 
 -- the packet of a row, of its bits
-typed_by : (nid dir : ℕ) (row : Layout) (v : PacketValue) → row_to ToTrain nid ≡ Some row → IsPacket v → IsTypedOf nid dir v → packet_reading v ≡ frame nid dir (length (spelled (variables_of v))) ++ variables_of v
-typed_by nid dir row (packets.marker n) e h t = absurd (let d = t.1 in cc)
-typed_by nid dir row (packets.typed nid' dir' r) e h t = let d : dir' ≡ dir = (let s = t.1 in cc) in rw (t.0, d) refl
-typed_by nid dir row (packets.kept nid' dir' b) e h t = absurd (kept_untyped nid' row (kept_parts nid' dir' (length b) h).0 (ap (row_to ToTrain) t.0 ∙ e))
+typed_by : (way : Way) (nid dir : ℕ) (row : Layout) (v : PacketValue) → row_to way nid ≡ Some row → IsPacketTo way v → IsTypedOf nid dir v → reading_to way v ≡ in_frame way nid dir (length (spelled (variables_of v))) (variables_of v)
+typed_by way nid dir row (packets.marker n) e h t = absurd (let d = t.1 in cc)
+typed_by way nid dir row (packets.typed nid' dir' r) e h t = let d : dir' ≡ dir = (let s = t.1 in cc) in rw (t.0, d) refl
+typed_by way nid dir row (packets.kept nid' dir' b) e h t = absurd (kept_untyped way nid' row (kept_parts way nid' dir' (length b) h).0 (ap (row_to way) t.0 ∙ e))
 
--- the bits of a frame and of what stands behind it
-pub frame_bits : (nid dir l : ℕ) (body : Reading) (xs : List Bool) (at : ℕ) → 23 ≤ l → num 8 nid ≡ part at 8 xs → num 2 dir ≡ part (at + 8) 2 xs → num 13 l ≡ part (at + 10) 13 xs → spelled body ≡ part (at + 23) (l - 23) xs → spelled (frame nid dir (l - 23) ++ body) ≡ part at l xs
-frame_bits nid dir l body xs at least a b d s =
-    let same : 23 + (l - 23) ≡ l = omega (arith, least) in
-    let all : spelled (frame nid dir (l - 23) ++ body) ≡ num 8 nid ++ (num 2 dir ++ (num 13 l ++ spelled body)) = ap (λ (k : ℕ). num 8 nid ++ (num 2 dir ++ (num 13 k ++ spelled body))) same in
-    let one : num 13 l ++ spelled body ≡ part (at + 10) (13 + (l - 23)) xs = ap (λ (x : List Bool). x ++ spelled body) d ∙ ap (λ (x : List Bool). part (at + 10) 13 xs ++ x) (s ∙ ap (λ (k : ℕ). part k (l - 23) xs) (omega arith)) ∙ sym (part-add (at + 10) 13 (l - 23) xs) in
-    let two : num 2 dir ++ (num 13 l ++ spelled body) ≡ part (at + 8) (2 + (13 + (l - 23))) xs = ap (λ (x : List Bool). x ++ (num 13 l ++ spelled body)) b ∙ ap (λ (x : List Bool). part (at + 8) 2 xs ++ x) (one ∙ ap (λ (k : ℕ). part k (13 + (l - 23)) xs) (omega arith)) ∙ sym (part-add (at + 8) 2 (13 + (l - 23)) xs) in
-    let three : num 8 nid ++ (num 2 dir ++ (num 13 l ++ spelled body)) ≡ part at (8 + (2 + (13 + (l - 23)))) xs = ap (λ (x : List Bool). x ++ (num 2 dir ++ (num 13 l ++ spelled body))) a ∙ ap (λ (x : List Bool). part at 8 xs ++ x) two ∙ sym (part-add at 8 (2 + (13 + (l - 23))) xs) in
-    let total : 8 + (2 + (13 + (l - 23))) ≡ l = omega (arith, least) in
+-- the bits of a frame in a piece, from its first bit
+pub record FrameAt (way : Way) (nid dir l at : ℕ) (xs : List Bool) : Type 0 where
+  pub least : frame_bits way ≤ l
+  pub number : num 8 nid ≡ part at 8 xs
+  pub direction : spelled (directed way dir []) ≡ part (at + 8) (head_bits way - 8) xs
+  pub long : num 13 l ≡ part (at + head_bits way) 13 xs
+
+-- and of what follows it
+pub frame_spelled : (way : Way) (nid dir l at : ℕ) (xs : List Bool) (body : Reading) → FrameAt way nid dir l at xs → spelled body ≡ part (at + frame_bits way) (l - frame_bits way) xs → spelled (in_frame way nid dir (l - frame_bits way) body) ≡ part at l xs
+frame_spelled way nid dir l at xs body f s =
+    let frame = frame_bits way in
+    let head = head_bits way in
+    let m = l - frame in
+    let least = f.least in
+    let is = frame_is way in
+    let some : 8 ≤ head = (frame_head way) in
+    let same : frame + m ≡ l = omega (arith, least) in
+    let sent = directed way dir [] in
+    let rest : Reading = (L_PACKET, l) ∷ body in
+    let two-parts : spelled (directed way dir rest) ≡ spelled sent ++ spelled rest = ap spelled (sym (directed-append way dir [] rest)) ∙ spelled-append sent rest in
+    let all : spelled (in_frame way nid dir m body) ≡ num 8 nid ++ (spelled sent ++ (num 13 l ++ spelled body)) = ap (λ (k : ℕ). num 8 nid ++ spelled (directed way dir ((L_PACKET, k) ∷ body))) same ∙ ap (λ (x : List Bool). num 8 nid ++ x) two-parts in
+    let one : num 13 l ++ spelled body ≡ part (at + head) (13 + m) xs = ap (λ (x : List Bool). x ++ spelled body) f.long ∙ ap (λ (x : List Bool). part (at + head) 13 xs ++ x) (s ∙ ap (λ (k : ℕ). part k m xs) (omega (arith, is))) ∙ sym (part-add (at + head) 13 m xs) in
+    let n = head - 8 in
+    let two : spelled sent ++ (num 13 l ++ spelled body) ≡ part (at + 8) (n + (13 + m)) xs = ap (λ (x : List Bool). x ++ (num 13 l ++ spelled body)) f.direction ∙ ap (λ (x : List Bool). part (at + 8) n xs ++ x) (one ∙ ap (λ (k : ℕ). part k (13 + m) xs) (omega (arith, some))) ∙ sym (part-add (at + 8) n (13 + m) xs) in
+    let three : num 8 nid ++ (spelled sent ++ (num 13 l ++ spelled body)) ≡ part at (8 + (n + (13 + m))) xs = ap (λ (x : List Bool). x ++ (spelled sent ++ (num 13 l ++ spelled body))) f.number ∙ ap (λ (x : List Bool). part at 8 xs ++ x) two ∙ sym (part-add at 8 (n + (13 + m)) xs) in
+    let total : 8 + (n + (13 + m)) ≡ l = omega (arith, least, is, some) in
     all ∙ three ∙ ap (λ (k : ℕ). part at k xs) total
 
 -- the bits of a typed packet, from those of its frame and of its row
-pub typed_bits : (nid dir l : ℕ) (row : Layout) (v : PacketValue) (xs : List Bool) (at : ℕ) → row_to ToTrain nid ≡ Some row → IsPacket v → IsTypedOf nid dir v → 23 ≤ l → at + l ≤ length xs
-    → num 8 nid ≡ part at 8 xs → num 2 dir ≡ part (at + 8) 2 xs → num 13 l ≡ part (at + 10) 13 xs → spelled (variables_of v) ≡ part (at + 23) (l - 23) xs
-    → (spelled (packet_reading v) ≡ part at l xs) × (bits_of v ≡ l)
-typed_bits nid dir l row v xs at e h t least within a b d s =
+pub typed_bits : (way : Way) (nid dir l at : ℕ) (row : Layout) (v : PacketValue) (xs : List Bool) → row_to way nid ≡ Some row → IsPacketTo way v → IsTypedOf nid dir v → FrameAt way nid dir l at xs → at + l ≤ length xs → spelled (variables_of v) ≡ part (at + frame_bits way) (l - frame_bits way) xs
+    → (spelled (reading_to way v) ≡ part at l xs) × (bits_to way v ≡ l)
+typed_bits way nid dir l at row v xs e h t f within s =
     let r = variables_of v in
-    let long : length (spelled r) ≡ l - 23 = ap (λ (x : List Bool). length x) s ∙ length-part (at + 23) (l - 23) xs (omega (arith, least, within)) in
-    let bits : spelled (packet_reading v) ≡ part at l xs = ap spelled (typed_by nid dir row v e h t ∙ ap (λ (k : ℕ). frame nid dir k ++ r) long) ∙ frame_bits nid dir l r xs at least a b d s in
-    (bits, sym (packet_bits v) ∙ ap (λ (x : List Bool). length x) bits ∙ length-part at l xs within)
+    let least = f.least in
+    let long : length (spelled r) ≡ l - frame_bits way = ap (λ (x : List Bool). length x) s ∙ length-part (at + frame_bits way) (l - frame_bits way) xs (omega (arith, least, within)) in
+    let bits : spelled (reading_to way v) ≡ part at l xs = ap spelled (typed_by way nid dir row v e h t ∙ ap (λ (k : ℕ). in_frame way nid dir k r) long) ∙ frame_spelled way nid dir l at xs r f s in
+    (bits, sym (bits_are way v) ∙ ap (λ (x : List Bool). length x) bits ∙ length-part at l xs within)

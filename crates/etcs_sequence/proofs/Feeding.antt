@@ -19,7 +19,7 @@ use Rattle.etcs_vars.proofs.Outcomes.{more_wanted, none_refused, refuses_longer}
 use Rattle.etcs_packets.specs.declared.packet.Packet.{Packet}
 use Rattle.etcs_reader.specs.declared.feeder.Stop.{Stop}
 use Rattle.etcs_reader.specs.declared.feeder.Stop.TheVariants.{Refused, Memory}
-use Rattle.etcs_reader.specs.Rests.{Goes, BeginsWith, Ended}
+use Rattle.etcs_reader.specs.Rests.{Goes, BeginsWith}
 use Rattle.etcs_reader.specs.Readers.{Passed, Takes, RefusesAt, StarvesAt}
 use Rattle.etcs_reader.specs.Feeders as feeders
 use Rattle.etcs_reader.specs.Feeders.{FeederValue}

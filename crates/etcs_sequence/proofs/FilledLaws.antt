@@ -27,7 +27,7 @@ module _ (Left : ℕ → Reading → Type 0) where
   By room p r = Left (room - length (spelled p)) r
 
   abbrev Behind : PacketsLeft → Reading → Type 0
-  Behind l r = Chain (left_of l.carrier l.room l.stage) (By (ahead l.room l.stage)) r
+  Behind l r = Chain (left_of l.carrier l.room l.stage) (By (ahead l.carrier l.room l.stage)) r
 
   -- packets leave so much less to them
   less_left : (room room' : ℕ) (p a : Reading) → room ≡ length (spelled p) + room' → Same (By room (p ++ a)) (By room' a)
@@ -39,20 +39,20 @@ module _ (Left : ℕ → Reading → Type 0) where
   filled_behind l l' p m g =
       let P : Reading → Type 0 = left_of l.carrier l.room l.stage in
       let R : Reading → Type 0 = left_of l'.carrier l'.room l'.stage in
-      let room = ahead l.room l.stage in
-      let room' = ahead l'.room l'.stage in
+      let room = ahead l.carrier l.room l.stage in
+      let room' = ahead l'.carrier l'.room l'.stage in
       chain_along P R (By room) (By room') p (left_regular l.carrier l.room l.stage) m.residual g (λ a b. less_left room room' p a m.ahead_is b)
 
   module _ (some : (n : ℕ) → Goes (Left n)) (l : PacketsLeft) where
     -- they can stand behind all of them
-    some_behind : (a : Reading) → left_of l.carrier l.room l.stage a → Goes (By (ahead l.room l.stage) a)
-    some_behind a h = some (ahead l.room l.stage - length (spelled a))
+    some_behind : (a : Reading) → left_of l.carrier l.room l.stage a → Goes (By (ahead l.carrier l.room l.stage) a)
+    some_behind a h = some (ahead l.carrier l.room l.stage - length (spelled a))
 
     pub filled_starts : (x : Var) (rest bits : ℕ) → next_of l.stage ≡ Some x → Starts (left_of l.carrier l.room l.stage) x rest bits ↔ Starts (Behind l) x rest bits
-    filled_starts x rest bits e = chain_starts (left_of l.carrier l.room l.stage) (By (ahead l.room l.stage)) some_behind x rest bits (left_begins l.carrier l.room l.stage l.stands x e)
+    filled_starts x rest bits e = chain_starts (left_of l.carrier l.room l.stage) (By (ahead l.carrier l.room l.stage)) some_behind x rest bits (left_begins l.carrier l.room l.stage l.stands x e)
 
     pub filled_viable : (t : List Bool) → Viable (left_of l.carrier l.room l.stage) t → Viable (Behind l) t
-    filled_viable t v = chain_viable (left_of l.carrier l.room l.stage) (By (ahead l.room l.stage)) some_behind t v
+    filled_viable t v = chain_viable (left_of l.carrier l.room l.stage) (By (ahead l.carrier l.room l.stage)) some_behind t v
 
     pub filled_goes : Goes (left_of l.carrier l.room l.stage) → Goes (Behind l)
-    filled_goes g = chain_goes (left_of l.carrier l.room l.stage) (By (ahead l.room l.stage)) some_behind g
+    filled_goes g = chain_goes (left_of l.carrier l.room l.stage) (By (ahead l.carrier l.room l.stage)) some_behind g

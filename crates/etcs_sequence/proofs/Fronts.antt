@@ -10,6 +10,7 @@ use Rattle.etcs_bits.proofs.Lists.{part-append_right}
 use Rattle.etcs_vars.specs.declared.var.Var.TheVariants.{Q_DIR}
 use Rattle.etcs_vars.specs.Reading.{Reading, spelled}
 use Rattle.etcs_vars.proofs.Prefixes.{admits_parts}
+use Rattle.etcs_tables.specs.declared.row.Way.TheVariants.{ToTrain}
 use Rattle.etcs_packets.specs.PacketValues.{PacketValue, marker, typed, kept, nid_of, bits_of, IsPacket}
 use Rattle.etcs_packets.specs.PacketReadings.{packet_reading}
 use Rattle.etcs_sequence.proofs.Wholes.{spelled_kept}
@@ -96,7 +97,7 @@ typed_frame nid dir r (row, e, a, reads, short) = record {
 
 pub kept_frame : (nid dir : ℕ) (b : List Bool) → IsPacket (kept nid dir b) → IsFrameOf nid dir b (spelled (packet_reading (kept nid dir b)))
 kept_frame nid dir b h =
-    let k = kept_parts nid dir (length b) h in
+    let k = kept_parts ToTrain nid dir (length b) h in
     record {
       bits = ap (λ (t : List Bool). framed nid dir (23 + length b) t) (spelled_kept b);
       least = (kept_number nid k.0).0;

@@ -7,11 +7,12 @@ use Rattle.etcs_vars.proofs.Walk.{spelled-append}
 use Rattle.etcs_tables.specs.Layouts.{Layout, ReadsIn}
 use Rattle.etcs_rows.specs.Places.{read_of}
 use Rattle.etcs_rows.proofs.RowLaws.{read_is}
-use Rattle.etcs_tables.specs.declared.row.Way.TheVariants.{ToTrain}
+use Rattle.etcs_tables.specs.declared.row.Way.{Way}
 use Rattle.etcs_rows.specs.declared.frames.Carrier.{Carrier}
 use Rattle.etcs_tables.specs.Rows.{row_to}
+use Rattle.etcs_rows.specs.Frames.{way_of}
 use Rattle.etcs_packets.specs.declared.packet.Packet.{Packet}
-use Rattle.etcs_packets.specs.PacketReadings.{frame}
+use Rattle.etcs_packets.specs.PacketReadings.{in_frame}
 use Rattle.etcs_sequence.specs.Contents.{Run}
 use Rattle.etcs_sequence.specs.Runs.{row_so_far}
 use Rattle.etcs_reader.specs.Rests.{Goes}
@@ -20,14 +21,14 @@ use Rattle.etcs_sequence.specs.declared.stage.Stage.TheVariants.{Number, Marker,
 use Rattle.etcs_sequence.specs.Lefts.{left_of, RowHere, Here, HoldsAt}
 use Rattle.etcs_sequence.specs.Held.{here_of, list_holds, packets_so_far}
 
-row_is : (nid dir len : ℕ) (left : Layout) (f : List ℕ) (h : Reading) → ((u : Reading) × ReadsIn left len u) → RowHere nid dir left len f h → h ≡ row_so_far (row_to ToTrain nid) nid dir f len
-row_is nid dir len left f h (u, l) r =
+row_is : (way : Way) (nid dir len : ℕ) (left : Layout) (f : List ℕ) (h : Reading) → ((u : Reading) × ReadsIn left len u) → RowHere way nid dir left len f h → h ≡ row_so_far way (row_to way nid) nid dir f len
+row_is way nid dir len left f h (u, l) r =
     let whole-is = r.residual.from u l in
     let read-is : read_of r.row f ≡ r.read = ap (read_of r.row) (sym r.numbers_are) ∙ read_is r.row r.read u r.looks_well whole-is.0 in
     let bits : length (spelled (r.read ++ u)) ≡ length (spelled r.read) + length (spelled u) = ap length (spelled-append r.read u) ∙ length-append (spelled r.read) (spelled u) in
     let total : r.total ≡ length (spelled (read_of r.row f)) + len = (let e = ap (λ (t : Reading). length (spelled t)) read-is in omega (arith, bits, whole-is.1, l.1, e)) in
-    let same : frame nid dir r.total ++ r.read ≡ row_so_far (Some r.row) nid dir f len = rw (total, read-is) refl in
-    r.here ∙ same ∙ ap (λ (o : Option Layout). row_so_far o nid dir f len) (sym r.typed)
+    let same : in_frame way nid dir r.total r.read ≡ row_so_far way (Some r.row) nid dir f len = rw (total, read-is) refl in
+    r.here ∙ same ∙ ap (λ (o : Option Layout). row_so_far way o nid dir f len) (sym r.typed)
 
 first_of : (P Q : Reading → Type 0) → Goes (Then P Q) → (u : Reading) × P u
 first_of P Q (r, (u, v, e, l, k)) = (u, l)
@@ -38,7 +39,7 @@ here_is c room Number f k h g (e, e', is) = is
 here_is c room Marker f k h g (e, e', is) = is
 here_is c room (Direction nid) f k h g (e, e', is) = is
 here_is c room (Length nid dir) f k h g (e, e', is) = is
-here_is c room (Row nid dir row) f k h g (e, is) = row_is nid dir row.len row.place f h (first_of (ReadsIn row.place row.len) (Run c room) g) is
+here_is c room (Row nid dir row) f k h g (e, is) = row_is (way_of c) nid dir row.len row.place f h (first_of (ReadsIn row.place row.len) (Run c room) g) is
 here_is c room (Kept nid dir left) f k h g (e, le, is) = is
 here_is c room Closed f k h g (e, e', is) = is
 

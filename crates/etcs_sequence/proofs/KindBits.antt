@@ -27,14 +27,14 @@ use Rattle.etcs_sequence.proofs.Fronts.{IsFrameOf, framed, frame_bits, frame_dir
 pub one_value : (v u : PacketValue) (b : List Bool) → IsPacket v → IsPacket u → spelled (packet_reading v) ≡ b → spelled (packet_reading u) ≡ b → v ≡ u
 one_value v u b hv hu ev eu =
     let same : spelled (packet_reading v) ++ [] ≡ spelled (packet_reading u) ++ [] = ap (λ (t : List Bool). t ++ []) (ev ∙ sym eu) in
-    packet_same v u hv hu (apart (packet_reading v) (packet_reading u) [] [] (packet_agree v u hv hu) (packet_fit v hv) (packet_fit u hu) same).0
+    packet_same ToTrain v u hv hu (apart (packet_reading v) (packet_reading u) [] [] (packet_agree ToTrain v u hv hu) (packet_fit ToTrain v hv) (packet_fit ToTrain u hu) same).0
 
 -- and say its number
 pub number_said : (v : PacketValue) (b : List Bool) → IsPacket v → spelled (packet_reading v) ≡ b → value (part 0 8 b) ≡ nid_of v
 number_said v b h e = ap (λ (t : List Bool). value (part 0 8 t)) (sym e ∙ sym (append-nil (spelled (packet_reading v)))) ∙ packet_number v [] h
 
 pub packet_least : (b : List Bool) → IsPacketBits b → 14 ≤ length b
-packet_least b (v, h, e) = omega (arith, packet_bits v, some_bits v, ap (λ (t : List Bool). length t) e)
+packet_least b (v, h, e) = omega (arith, packet_bits v, some_bits ToTrain v, ap (λ (t : List Bool). length t) e)
 
 -- a packet that was made of them is the one that they are
 pub same_value : (E : Type 0) (r : Result Packet E) (b c : List Bool) → IfOk r IsWhole → IfOk r (λ p. spelled (packet_reading (packet_value p)) ≡ b) → b ≡ c → IfOk r (λ p. (v : PacketValue) → IsPacket v → spelled (packet_reading v) ≡ c → packet_value p ≡ v)
@@ -48,7 +48,7 @@ SaysNumber b n = (v : PacketValue) → IsPacket v → spelled (packet_reading v)
 pub is_typed : (b : List Bool) (n : ℕ) (row : Layout) → IsPacketBits b → SaysNumber b n → row_to ToTrain n ≡ Some row → IsTypedBits n b
 is_typed b n row (marker m, h, e) said f = absurd (let same = said (marker m) h e in omega (arith, same, (typed_number n row f).0))
 is_typed b n row (typed nid dir r, h, e) said f = subst (λ (k : ℕ). IsTypedBits k b) (sym (said (typed nid dir r) h e)) (dir, r, h, e)
-is_typed b n row (kept nid dir s, h, e) said f = absurd (kept_untyped nid row (kept_parts nid dir (length s) h).0 (ap (row_to ToTrain) (sym (said (kept nid dir s) h e)) ∙ f))
+is_typed b n row (kept nid dir s, h, e) said f = absurd (kept_untyped ToTrain nid row (kept_parts ToTrain nid dir (length s) h).0 (ap (row_to ToTrain) (sym (said (kept nid dir s) h e)) ∙ f))
 
 pub is_kept : (b : List Bool) (n : ℕ) → IsPacketBits b → SaysNumber b n → (n ≡ 0 → ⊥) → row_to ToTrain n ≡ None → IsKeptBits n b
 is_kept b n (marker m, h, e) said pos f = absurd (pos (said (marker m) h e))
@@ -91,7 +91,7 @@ module _ (nid : ℕ) (b : List Bool) (t : IsTypedBits nid b) where
   typed_spelled (typed n d r) h o = let same : d ≡ t.0 = (let s = o.1 in cc) in rw (o.0, same) refl
   typed_spelled (kept n d s) h o =
       let (row, e, a, reads, short) = t.2 in
-      absurd (kept_untyped n row (kept_parts n d (length s) h).0 (ap (row_to ToTrain) o.0 ∙ e))
+      absurd (kept_untyped ToTrain n row (kept_parts ToTrain n d (length s) h).0 (ap (row_to ToTrain) o.0 ∙ e))
 
   -- and a packet of them is spelled as it was
   pub typed_made : (v : PacketValue) (d : ℕ) → d ≡ value (part 8 2 b) → IsPacket v → IsTypedOf nid d v → spelled (variables_of v) ≡ part 23 (length b - 23) b → spelled (packet_reading v) ≡ b

@@ -1,30 +1,30 @@
 -- What is left behind L_PACKET, behind numbers of a row and behind bits that are kept.
-use Rattle.std.proofs.Common.{◌≡◌, ℕ, ◌+◌, ◌-◌, ◌/◌, ◌^◌, ◌<◌, ◌≤◌, Bool, true, false, ◌==◌, List, [], ◌∷◌, ◌++◌, length, None, Some, refl, sym, ap, subst, ◌∙◌, arith, append_assoc}
+use Rattle.std.proofs.Common.{◌≡◌, ℕ, ◌+◌, ◌-◌, ◌/◌, ◌^◌, ◌<◌, ◌≤◌, Bool, true, false, ◌==◌, List, [], ◌∷◌, ◌++◌, length, None, Some, refl, sym, ap, subst, ◌∙◌, arith}
 use Rattle.std.specs.Prelude.{IsTrue, if◌then◌else◌}
 use Rattle.std.proofs.lemmas.List.{append-nil, map-append}
 use Rattle.etcs_vars.specs.declared.var.Var.{Var}
-use Rattle.etcs_vars.specs.declared.var.Var.TheVariants.{NID_PACKET, Q_DIR, L_PACKET, OTHER_DATA}
-use Rattle.etcs_vars.specs.Vars.{width, admits}
+use Rattle.etcs_vars.specs.declared.var.Var.TheVariants.{NID_PACKET, L_PACKET, OTHER_DATA}
+use Rattle.etcs_vars.specs.Vars.{width}
 use Rattle.etcs_vars.specs.Walking.{Residual}
 use Rattle.etcs_vars.specs.Reading.{Sent, Reading, Then, spelled, numbers, kept}
 use Rattle.etcs_vars.proofs.Languages.{Same, same_along, same_back, same_self, Then-same}
 use Rattle.etcs_vars.proofs.Sent.{length-sent}
-use Rattle.etcs_tables.specs.declared.row.Way.TheVariants.{ToTrain}
 use Rattle.etcs_rows.specs.declared.frames.Carrier.{Carrier}
 use Rattle.etcs_tables.specs.Layouts.{Layout, looks, ReadsIn}
 use Rattle.etcs_rows.specs.Places.{first_variable}
+use Rattle.etcs_rows.specs.Frames.{way_of}
 use Rattle.etcs_tables.specs.Rows.{row_to}
-use Rattle.etcs_tables.specs.Frames.{is_kept}
+use Rattle.etcs_tables.specs.Frames.{is_kept, frame_bits, head_bits, kept_limit, is_direction, directed}
+use Rattle.etcs_tables.specs.declared.row.Way.{Way}
 use Rattle.etcs_packets.specs.PacketValues as packets
-use Rattle.etcs_packets.specs.PacketValues.{PacketValue, variables_of, bits_of, IsPacket, IsTypedOf}
-use Rattle.etcs_packets.specs.PacketReadings.{frame, packet_reading}
-use Rattle.etcs_packets.specs.laws.PacketReadings.{packet_bits, length-kept}
+use Rattle.etcs_packets.specs.PacketValues.{PacketValue, bits_to, IsPacketTo}
+use Rattle.etcs_packets.specs.PacketReadings.{in_frame, reading_to}
+use Rattle.etcs_packets.specs.laws.PacketReadings.{length-kept, frame_is, directed-append, in_frame-append, bits_are}
 use Rattle.etcs_sequence.specs.Contents.{Carries, Run, BodyIn, KeptIn, BodyLeft, AfterLength, LengthLeft}
 use Rattle.etcs_sequence.proofs.Carried.{behind_packet}
 use Rattle.etcs_sequence.specs.laws.RunSteps.{framed_carried}
 use Rattle.etcs_sequence.proofs.Turns.{residual_same, behind_length, typed_body, kept_body}
-use Rattle.etcs_sequence.specs.laws.Typed.{typed_number}
-use Rattle.etcs_sequence.proofs.Wholes.{kept_behind, kept_ends}
+use Rattle.etcs_sequence.proofs.Wholes.{kept_behind, kept_ends, kept_append}
 use Rattle.etcs_reader.specs.Rests.{Starts, Goes, BeginsWith}
 use Rattle.etcs_reader.specs.laws.FieldLaws.{residual_none, residual_along}
 use Rattle.etcs_sequence.specs.declared.row.RowRest.{RowRest}
@@ -33,6 +33,8 @@ use Rattle.etcs_sequence.specs.declared.stage.Stage.TheVariants.{Number, Length,
 use Rattle.etcs_sequence.specs.Lefts.{left_of, ahead, RowHere, Moved}
 use Rattle.etcs_sequence.specs.laws.RowLaws.{row_begins_with, row_ended}
 use Rattle.etcs_sequence.proofs.ThenLaws.{cut_first, then_behind, then_second}
+use Rattle.etcs_sequence.specs.laws.Framed.{typed_framed, row_short}
+use Rattle.etcs_sequence.specs.laws.Others.{kept_fault, kept_framed}
 
 -- ---- Behind L_PACKET.
 
@@ -50,32 +52,38 @@ some_after c nid room l (n, r, h, e) =
     (r, rw whole at (length_after c nid room n r h))
 
 -- a body of known readings is left
-body_left : (c : Carrier) (nid room l : ℕ) (B : Reading → Type 0) → ((r : Reading) × AfterLength c nid room l r) → Same (BodyIn nid (l - 23)) B → Residual (LengthLeft c nid room) ((L_PACKET, l) ∷ []) (Then B (Run c (room - l)))
+body_left : (c : Carrier) (nid room l : ℕ) (B : Reading → Type 0) → ((r : Reading) × AfterLength c nid room l r) → Same (BodyIn (way_of c) nid (l - frame_bits (way_of c))) B → Residual (LengthLeft c nid room) ((L_PACKET, l) ∷ []) (Then B (Run c (room - l)))
 body_left c nid room l B some same =
     let t = behind_length c nid room l some in
     let run = Run c (room - l) in
     let here : Residual (LengthLeft c nid room) ((L_PACKET, l) ∷ []) (AfterLength c nid room l) = record { to = λ q h. length_after c nid room l q h; from = λ q a. (l, q, refl, a) } in
     residual_same (LengthLeft c nid room) ((L_PACKET, l) ∷ []) (AfterLength c nid room l) (Then B run) here
-    (same_along (AfterLength c nid room l) (BodyLeft c nid (l - 23) (room - l)) (Then B run) t.3 (Then-same (BodyIn nid (l - 23)) run B run same (same_self run)))
+    (same_along (AfterLength c nid room l) (BodyLeft c nid (l - frame_bits (way_of c)) (room - l)) (Then B run) t.3 (Then-same (BodyIn (way_of c) nid (l - frame_bits (way_of c))) run B run same (same_self run)))
 
 -- its bits, with those that are left of the room
-frame_ahead : (room l : ℕ) → 23 ≤ l → l ≤ room + 10 → room ≡ length (spelled ((L_PACKET, l) ∷ [])) + (l - 23 + (room + 10 - l))
-frame_ahead room l least le = omega (arith, length-sent L_PACKET l [], least, le)
+frame_ahead : (way : Way) (room l : ℕ) → frame_bits way ≤ l → l ≤ room → room - head_bits way ≡ length (spelled ((L_PACKET, l) ∷ [])) + (l - frame_bits way + (room - l))
+frame_ahead way room l least le = omega (arith, frame_is way, length-sent L_PACKET l [], least, le)
 
 -- bits are kept
-pub kept_begun : (c : Carrier) (nid dir room l : ℕ) → Starts (LengthLeft c nid (room + 10)) L_PACKET 0 l → IsTrue (is_kept ToTrain nid) → Moved c room (Length nid dir) ((L_PACKET, l) ∷ []) c (room + 10 - l) (Kept nid dir (l - 23))
+pub kept_begun : (c : Carrier) (nid dir room l : ℕ) → Starts (LengthLeft c nid room) L_PACKET 0 l → IsTrue (is_kept (way_of c) nid) → Moved c room (Length nid dir) ((L_PACKET, l) ∷ []) c (room - l) (Kept nid dir (l - frame_bits (way_of c)))
 kept_begun c nid dir room l goes k =
-    let some = some_after c nid (room + 10) l goes in
-    let t = behind_length c nid (room + 10) l some in
-    record { same = refl; residual = body_left c nid (room + 10) l (KeptIn (l - 23)) some (kept_body nid (l - 23) k); ahead_is = frame_ahead room l t.0 t.2 }
+    let bits = l - frame_bits (way_of c) in
+    let some = some_after c nid room l goes in
+    let t = behind_length c nid room l some in
+    record { same = refl; residual = body_left c nid room l (KeptIn bits) some (kept_body (way_of c) nid bits k); ahead_is = frame_ahead (way_of c) room l t.0 t.2 }
 
 -- a row is read
-pub row_begun : (c : Carrier) (nid dir room l : ℕ) (row : Layout) (rest : RowRest) → Starts (LengthLeft c nid (room + 10)) L_PACKET 0 l → row_to ToTrain nid ≡ Some row → rest.place ≡ row → rest.len ≡ l - 23 → Moved c room (Length nid dir) ((L_PACKET, l) ∷ []) c (room + 10 - l) (Row nid dir rest)
+pub row_begun : (c : Carrier) (nid dir room l : ℕ) (row : Layout) (rest : RowRest) → Starts (LengthLeft c nid room) L_PACKET 0 l → row_to (way_of c) nid ≡ Some row → rest.place ≡ row → rest.len ≡ l - frame_bits (way_of c) → Moved c room (Length nid dir) ((L_PACKET, l) ∷ []) c (room - l) (Row nid dir rest)
 row_begun c nid dir room l row rest goes typed place len =
-    let some = some_after c nid (room + 10) l goes in
-    let t = behind_length c nid (room + 10) l some in
-    let same : Same (BodyIn nid (l - 23)) (ReadsIn rest.place rest.len) = rw (place, len) (typed_body nid (l - 23) row typed) in
-    record { same = refl; residual = body_left c nid (room + 10) l (ReadsIn rest.place rest.len) some same; ahead_is = rw len (frame_ahead room l t.0 t.2) }
+    let bits = l - frame_bits (way_of c) in
+    let some = some_after c nid room l goes in
+    let t = behind_length c nid room l some in
+    let same : Same (BodyIn (way_of c) nid bits) (ReadsIn rest.place rest.len) = rw (place, len) (typed_body (way_of c) nid bits row typed) in
+    record { same = refl; residual = body_left c nid room l (ReadsIn rest.place rest.len) some same; ahead_is = rw len (frame_ahead (way_of c) room l t.0 t.2) }
+
+-- how long the packet is
+pub length_whole : (c : Carrier) (nid room l : ℕ) → Starts (LengthLeft c nid room) L_PACKET 0 l → (frame_bits (way_of c) ≤ l) × (l < 2 ^ 13) × (l ≤ room)
+length_whole c nid room l goes = let t = behind_length c nid room l (some_after c nid room l goes) in (t.0, t.1, t.2)
 
 -- ---- Bits that are kept.
 
@@ -87,7 +95,7 @@ bits_behind c room nid dir left t count is le = record {
 }
 
 -- all of them stand
-pub bits_whole : (c : Carrier) (room : ℕ) (s : Stage) (p : Reading) (c' : Carrier) (room' nid dir left : ℕ) (s' : Stage) → Moved c room s p c' room' (Kept nid dir left) → left ≡ 0 → Same (left_of c' room' s') (Run c' room') → ahead room' s' ≡ room' → Moved c room s p c' room' s'
+pub bits_whole : (c : Carrier) (room : ℕ) (s : Stage) (p : Reading) (c' : Carrier) (room' nid dir left : ℕ) (s' : Stage) → Moved c room s p c' room' (Kept nid dir left) → left ≡ 0 → Same (left_of c' room' s') (Run c' room') → ahead c' room' s' ≡ room' → Moved c room s p c' room' s'
 bits_whole c room s p c' room' nid dir left s' m none same e =
     let run = Run c' room' in
     let residual : Residual (left_of c room s) p (Then (KeptIn 0) run) = rw none at m.residual in
@@ -115,6 +123,18 @@ kept_bit left n Q pos (m, r, l, e) =
     let whole : m ≡ n = (let one : m / 2 ^ 0 ≡ m = omega arith in sym one ∙ e) in
     let (u, v, f, (bs, len, is), h) = cut_first (KeptIn left) Q OTHER_DATA (bits_begin left pos) m r l in
     rw whole at (bit_sent m u bs is)
+
+-- the frame with more of them
+pub kept_more : (way : Way) (nid dir bits : ℕ) (k t : List Bool) (h : Reading) → h ≡ in_frame way nid dir bits (kept OTHER_DATA k) → h ++ kept OTHER_DATA t ≡ in_frame way nid dir bits (kept OTHER_DATA (k ++ t))
+kept_more way nid dir bits k t h e =
+    ap (λ (q : Reading). q ++ kept OTHER_DATA t) e
+    ∙ in_frame-append way nid dir bits (kept OTHER_DATA k) (kept OTHER_DATA t)
+    ∙ ap (λ (q : Reading). in_frame way nid dir bits q) (sym (kept_append k t))
+
+-- they are those of a whole packet
+pub kept_whole : (c : Carrier) (nid dir : ℕ) (k : List Bool) (h : Reading) → IsTrue (is_kept (way_of c) nid) → IsTrue (is_direction (way_of c) dir) → length k ≤ kept_limit (way_of c) → h ≡ in_frame (way_of c) nid dir (length k) (kept OTHER_DATA k)
+    → Carries c (packets.kept nid dir k) × (h ≡ reading_to (way_of c) (packets.kept nid dir k))
+kept_whole c nid dir k h other direction le e = (framed_carried c (packets.kept nid dir k) (kept_fault (way_of c) nid dir (length k) other direction le) (kept_framed (way_of c) nid other), e)
 
 -- ---- A row.
 
@@ -145,7 +165,7 @@ row_over row len look next (r, l) =
     let l' : ReadsIn row len [] = rw none at l in
     (l', sym l'.1)
 
-pub row_whole : (c : Carrier) (room : ℕ) (s : Stage) (p : Reading) (c' : Carrier) (room' nid dir : ℕ) (row : RowRest) (s' : Stage) → Moved c room s p c' room' (Row nid dir row) → first_variable row.place ≡ None → Goes (ReadsIn row.place row.len) → Same (left_of c' room' s') (Run c' room') → ahead room' s' ≡ room' → Moved c room s p c' room' s'
+pub row_whole : (c : Carrier) (room : ℕ) (s : Stage) (p : Reading) (c' : Carrier) (room' nid dir : ℕ) (row : RowRest) (s' : Stage) → Moved c room s p c' room' (Row nid dir row) → first_variable row.place ≡ None → Goes (ReadsIn row.place row.len) → Same (left_of c' room' s') (Run c' room') → ahead c' room' s' ≡ room' → Moved c room s p c' room' s'
 row_whole c room s p c' room' nid dir row s' m next goes same e =
     let run = Run c' room' in
     let P = ReadsIn row.place row.len in
@@ -155,23 +175,32 @@ row_whole c room s p c' room' nid dir row s' m next goes same e =
 
 -- ---- The variables of a row so far.
 
-pub here_begun : (c : Carrier) (room nid dir l : ℕ) (row : Layout) (rest : RowRest) (h : Reading) → Starts (LengthLeft c nid (room + 10)) L_PACKET 0 l → row_to ToTrain nid ≡ Some row → rest.place ≡ row → rest.len ≡ l - 23 → h ≡ (NID_PACKET, nid) ∷ (Q_DIR, dir) ∷ [] → RowHere nid dir rest.place rest.len [] (h ++ (L_PACKET, l) ∷ [])
+-- the frame, once its length is known
+pub frame_begun : (way : Way) (nid dir l : ℕ) (h : Reading) → frame_bits way ≤ l → h ≡ (NID_PACKET, nid) ∷ directed way dir [] → h ++ (L_PACKET, l) ∷ [] ≡ in_frame way nid dir (l - frame_bits way) []
+frame_begun way nid dir l h least e =
+    let bits : frame_bits way + (l - frame_bits way) ≡ l = omega (arith, least) in
+    ap (λ (q : Reading). q ++ (L_PACKET, l) ∷ []) e
+    ∙ ap (λ (q : Reading). (NID_PACKET, nid) ∷ q) (directed-append way dir [] ((L_PACKET, l) ∷ []))
+    ∙ ap (λ (k : ℕ). (NID_PACKET, nid) ∷ directed way dir ((L_PACKET, k) ∷ [])) (sym bits)
+
+pub here_begun : (c : Carrier) (room nid dir l : ℕ) (row : Layout) (rest : RowRest) (h : Reading) → Starts (LengthLeft c nid room) L_PACKET 0 l → row_to (way_of c) nid ≡ Some row → rest.place ≡ row → rest.len ≡ l - frame_bits (way_of c) → h ≡ (NID_PACKET, nid) ∷ directed (way_of c) dir [] → RowHere (way_of c) nid dir rest.place rest.len [] (h ++ (L_PACKET, l) ∷ [])
 here_begun c room nid dir l row rest h goes typed place len e =
-    let t = behind_length c nid (room + 10) l (some_after c nid (room + 10) l goes) in
-    let bits : 23 + (l - 23) ≡ l = omega (arith, t.0) in record {
+    let way = way_of c in
+    let t = length_whole c nid room l goes in
+    record {
       row = row;
-      total = l - 23;
+      total = l - frame_bits way;
       read = [];
       typed = typed;
       looks_well = subst (λ (x : Layout). IsTrue (looks None x)) place rest.looks_well;
       short = omega (arith, t.1);
-      residual = rw (place, len) (residual_none (ReadsIn row (l - 23)));
-      here = rw (e, bits) refl;
+      residual = rw (place, len) (residual_none (ReadsIn row (l - frame_bits way)));
+      here = frame_begun way nid dir l h t.0 e;
       numbers_are = refl;
     }
 
-pub here_more : (nid dir : ℕ) (left : Layout) (len : ℕ) (new : Layout) (len' : ℕ) (f : List ℕ) (h : Reading) (x : Var) (n : ℕ) → RowHere nid dir left len f h → Residual (ReadsIn left len) ((x, n) ∷ []) (ReadsIn new len') → RowHere nid dir new len' (f ++ n ∷ []) (h ++ (x, n) ∷ [])
-here_more nid dir left len new len' f h x n k d =
+pub here_more : (way : Way) (nid dir : ℕ) (left : Layout) (len : ℕ) (new : Layout) (len' : ℕ) (f : List ℕ) (h : Reading) (x : Var) (n : ℕ) → RowHere way nid dir left len f h → Residual (ReadsIn left len) ((x, n) ∷ []) (ReadsIn new len') → RowHere way nid dir new len' (f ++ n ∷ []) (h ++ (x, n) ∷ [])
+here_more way nid dir left len new len' f h x n k d =
     let one : Reading = (x, n) ∷ [] in record {
       row = k.row;
       total = k.total;
@@ -180,25 +209,28 @@ here_more nid dir left len new len' f h x n k d =
       looks_well = k.looks_well;
       short = k.short;
       residual = residual_along (ReadsIn k.row k.total) k.read (ReadsIn left len) one (ReadsIn new len') k.residual d;
-      here = ap (λ (t : Reading). t ++ one) k.here ∙ append_assoc (frame nid dir k.total) k.read one;
+      here = ap (λ (t : Reading). t ++ one) k.here ∙ in_frame-append way nid dir k.total k.read one;
       numbers_are = map-append (λ (s : Sent). s.1) k.read one ∙ ap (λ (t : List ℕ). t ++ n ∷ []) k.numbers_are;
     }
 
 -- they are those of a whole packet
-pub here_whole : (c : Carrier) (nid dir : ℕ) (row : RowRest) (f : List ℕ) (h : Reading) → IsTrue (admits Q_DIR dir) → first_variable row.place ≡ None → Goes (ReadsIn row.place row.len) → RowHere nid dir row.place row.len f h
-    → (r : Reading) × (Carries c (packets.typed nid dir r) × (numbers r ≡ f) × (h ≡ packet_reading (packets.typed nid dir r)))
-here_whole c nid dir row f h directed next goes k =
+pub here_whole : (c : Carrier) (nid dir : ℕ) (row : RowRest) (f : List ℕ) (h : Reading) → IsTrue (is_direction (way_of c) dir) → first_variable row.place ≡ None → Goes (ReadsIn row.place row.len) → RowHere (way_of c) nid dir row.place row.len f h
+    → (r : Reading) × (Carries c (packets.typed nid dir r) × (numbers r ≡ f) × (h ≡ reading_to (way_of c) (packets.typed nid dir r)))
+here_whole c nid dir row f h direction next goes k =
+    let way = way_of c in
     let over = row_over row.place row.len row.looks_well next goes in
     let reads : ReadsIn k.row k.total k.read = rw append-nil at (k.residual.from [] over.0) in
     let v = packets.typed nid dir k.read in
-    let is : IsPacket v = (k.row, k.typed, directed, reads.0, (let s = k.short in let l = reads.1 in omega (arith, s, l))) in
-    (k.read, (framed_carried c v is (typed_number nid k.row k.typed).0, k.numbers_are, k.here ∙ ap (λ (b : ℕ). frame nid dir b ++ k.read) (sym reads.1)))
+    let short = row_short way nid k.row k.read k.typed reads.0 (let s = k.short in let l = reads.1 in omega (arith, s, l)) in
+    let is : IsPacketTo way v = (k.row, k.typed, direction, reads.0, short) in
+    (k.read, (framed_carried c v is (typed_framed way nid k.row k.typed), k.numbers_are, k.here ∙ ap (λ (b : ℕ). in_frame way nid dir b k.read) (sym reads.1)))
 
 -- ---- A whole packet.
 
-pub packet_passed : (c : Carrier) (room : ℕ) (s' : Stage) (v : PacketValue) → Carries c v → bits_of v ≤ room → Same (left_of c (room - bits_of v) s') (Run c (room - bits_of v)) → ahead (room - bits_of v) s' ≡ room - bits_of v → Moved c room Number (packet_reading v) c (room - bits_of v) s'
-packet_passed c room s' v carried le same e = record {
-  same = refl;
-  residual = residual_same (Run c room) (packet_reading v) (Run c (room - bits_of v)) (left_of c (room - bits_of v) s') (behind_packet c room v carried le) (same_back (left_of c (room - bits_of v) s') (Run c (room - bits_of v)) same);
-  ahead_is = omega (arith, packet_bits v, le, e);
-}
+pub packet_passed : (c : Carrier) (room : ℕ) (s' : Stage) (v : PacketValue) → Carries c v → bits_to (way_of c) v ≤ room → Same (left_of c (room - bits_to (way_of c) v) s') (Run c (room - bits_to (way_of c) v)) → ahead c (room - bits_to (way_of c) v) s' ≡ room - bits_to (way_of c) v → Moved c room Number (reading_to (way_of c) v) c (room - bits_to (way_of c) v) s'
+packet_passed c room s' v carried le same e =
+    let left = room - bits_to (way_of c) v in record {
+      same = refl;
+      residual = residual_same (Run c room) (reading_to (way_of c) v) (Run c left) (left_of c left s') (behind_packet c room v carried le) (same_back (left_of c left s') (Run c left) same);
+      ahead_is = omega (arith, bits_are (way_of c) v, le, e);
+    }

@@ -4,26 +4,29 @@ use Rattle.std.specs.Prelude.{All, IsTrue, ◌==◌}
 use Rattle.std.proofs.Math.Bool.{Bool-set}
 use Rattle.std.proofs.lemmas.Bool.{ne_eqb}
 use Rattle.std.proofs.lemmas.List.Elements.{All-push}
-use Rattle.etcs_bits.specs.Bits.{bits, num, part}
+use Rattle.etcs_bits.specs.Bits.{num, part, bits}
 use Rattle.etcs_vars.specs.declared.var.Var.{Var}
-use Rattle.etcs_vars.specs.declared.var.Var.TheVariants.{NID_PACKET, NID_VBCMK, Q_DIR}
+use Rattle.etcs_vars.specs.declared.var.Var.TheVariants.{NID_PACKET, NID_VBCMK, Q_DIR, OTHER_DATA}
 use Rattle.etcs_vars.specs.Vars.{admits}
-use Rattle.etcs_vars.specs.Reading.{Sent, Reading, spelled, numbers}
+use Rattle.etcs_vars.specs.Reading.{Sent, Reading, spelled, numbers, kept}
 use Rattle.etcs_tables.specs.declared.row.Way.TheVariants.{ToTrain}
 use Rattle.etcs_rows.specs.declared.frames.Carrier.{Carrier}
+use Rattle.etcs_rows.specs.declared.frames.Carrier.TheVariants.{Telegram, Message}
+use Rattle.etcs_rows.specs.Frames.{way_of}
 use Rattle.etcs_tables.specs.Typed.{IsTyped}
+use Rattle.etcs_tables.specs.declared.row.Way.{Way}
 use Rattle.etcs_flat.specs.Others.{other_fault}
 use Rattle.etcs_packets.specs.PacketValues as packets
 use Rattle.etcs_packets.specs.PacketValues.{PacketValue, IsTypedOf, IsPacket, variables_of}
-use Rattle.etcs_packets.specs.PacketReadings.{packet_reading, packets_reading}
+use Rattle.etcs_packets.specs.PacketReadings.{in_frame, reading_to, readings_to}
 use Rattle.etcs_sequence.specs.Contents.{Carries}
-use Rattle.etcs_sequence.specs.laws.RunSteps.{carried_packet}
 use Rattle.etcs_sequence.specs.declared.stage.Stage.{Stage}
 use Rattle.etcs_sequence.specs.declared.stage.Event.{Event}
-use Rattle.etcs_sequence.specs.declared.stage.Event.TheVariants as event
-use Rattle.etcs_sequence.specs.declared.stage.Keep.TheVariants as keep
 use Rattle.etcs_sequence.specs.declared.stage.Stage.TheVariants.{Direction, Row, Kept, Closed}
 use Rattle.etcs_sequence.specs.Lefts.{next_of, is_closed, may_grow, keeps_at, Here, After, Becomes, HoldsAt}
+use Rattle.etcs_sequence.specs.laws.Framed.{frame_between}
+use Rattle.etcs_sequence.specs.declared.stage.Keep.TheVariants as keep
+use Rattle.etcs_sequence.specs.declared.stage.Event.TheVariants as event
 
 abbrev pub Holds : Type 1
 Holds = List PacketValue → List ℕ → List Bool → Type 0
@@ -34,46 +37,51 @@ true_prop b = hlevel Bool-set
 -- ---- A whole packet.
 
 -- one packet more
-packets_push : (vs : List PacketValue) (v : PacketValue) → packets_reading (vs ++ v ∷ []) ≡ packets_reading vs ++ packet_reading v
-packets_push [] v = append-nil (packet_reading v)
-packets_push (w ∷ vs) v = ap (λ (t : Reading). packet_reading w ++ t) (packets_push vs v) ∙ sym (append_assoc (packet_reading w) (packets_reading vs) (packet_reading v))
+packets_push : (way : Way) (vs : List PacketValue) (v : PacketValue) → readings_to way (vs ++ v ∷ []) ≡ readings_to way vs ++ reading_to way v
+packets_push way [] v = append-nil (reading_to way v)
+packets_push way (w ∷ vs) v = ap (λ (t : Reading). reading_to way w ++ t) (packets_push way vs v) ∙ sym (append_assoc (reading_to way w) (readings_to way vs) (reading_to way v))
 
-pub held_whole : (c : Carrier) (s : Stage) (H : Holds) (vs : List PacketValue) (v : PacketValue) → H (vs ++ v ∷ []) [] [] → All (Carries c) vs → Carries c v → Here c s [] [] [] → HoldsAt c s H (packets_reading vs ++ packet_reading v)
-held_whole c s H vs v held all carried here = (vs ++ v ∷ [], [], [], [], held, All-push (Carries c) vs v all carried, here, sym (packets_push vs v) ∙ sym (append-nil (packets_reading (vs ++ v ∷ []))))
+pub held_whole : (c : Carrier) (s : Stage) (H : Holds) (vs : List PacketValue) (v : PacketValue) → H (vs ++ v ∷ []) [] [] → All (Carries c) vs → Carries c v → Here c s [] [] [] → HoldsAt c s H (readings_to (way_of c) vs ++ reading_to (way_of c) v)
+held_whole c s H vs v held all carried here = (vs ++ v ∷ [], [], [], [], held, All-push (Carries c) vs v all carried, here, sym (packets_push (way_of c) vs v) ∙ sym (append-nil (readings_to (way_of c) (vs ++ v ∷ []))))
 
 -- by an event what H holds becomes what H' holds
 abbrev pub Finishes : Holds → Holds → Event → Type 0
-Finishes H H' e = (c : Carrier) (s : Stage) (vs : List PacketValue) (f : List ℕ) (k : List Bool) (h : Reading) → H vs f k → All (Carries c) vs → After c s f k h e → HoldsAt c s H' (packets_reading vs ++ h)
+Finishes H H' e = (c : Carrier) (s : Stage) (vs : List PacketValue) (f : List ℕ) (k : List Bool) (h : Reading) → H vs f k → All (Carries c) vs → After c s f k h e → HoldsAt c s H' (readings_to (way_of c) vs ++ h)
+
+-- a store's packets go to the train
+to_train : (c : Carrier) (v : PacketValue) → Carries c v → IsPacket v
+to_train Telegram v h = h
+to_train (Message ToTrain) v h = h.0
 
 pub finish_marker : (H H' : Holds) (m : ℕ) → ((vs : List PacketValue) → H vs [] [] → H' (vs ++ packets.marker m ∷ []) [] []) → Finishes H H' (event.Marker m)
 finish_marker H H' m ok c s vs f k h held all (ef, ek, carried, eh, here) =
     let held' : H vs [] [] = rw (ef, ek) at held in
-    subst (λ (x : Reading). HoldsAt c s H' (packets_reading vs ++ x)) (sym eh) (held_whole c s H' vs (packets.marker m) (ok vs held') all carried here)
+    subst (λ (x : Reading). HoldsAt c s H' (readings_to (way_of c) vs ++ x)) (sym eh) (held_whole c s H' vs (packets.marker m) (ok vs held') all carried here)
 
 pub finish_typed : (H H' : Holds) (nid dir : ℕ) → ((vs : List PacketValue) (f : List ℕ) (v : PacketValue) → H vs f [] → IsTypedOf nid dir v → IsPacket v → numbers (variables_of v) ≡ f → H' (vs ++ v ∷ []) [] []) → Finishes H H' (event.Typed nid dir)
 finish_typed H H' nid dir ok c s vs f k h held all (ek, (r, (carried, en, eh)), here) =
     let held' : H vs f [] = rw ek at held in
     let v = packets.typed nid dir r in
-    let new = ok vs f v held' (refl, refl) (carried_packet c v carried) en in
-    subst (λ (x : Reading). HoldsAt c s H' (packets_reading vs ++ x)) (sym eh) (held_whole c s H' vs v new all carried here)
+    let new = ok vs f v held' (refl, refl) (to_train c v carried) en in
+    subst (λ (x : Reading). HoldsAt c s H' (readings_to (way_of c) vs ++ x)) (sym eh) (held_whole c s H' vs v new all carried here)
 
 pub finish_kept : (H H' : Holds) (nid dir : ℕ) → ((vs : List PacketValue) (k : List Bool) → H vs [] k → H' (vs ++ packets.kept nid dir k ∷ []) [] []) → Finishes H H' (event.Kept nid dir)
 finish_kept H H' nid dir ok c s vs f k h held all (ef, carried, eh, here) =
     let held' : H vs [] k = rw ef at held in
-    subst (λ (x : Reading). HoldsAt c s H' (packets_reading vs ++ x)) (sym eh) (held_whole c s H' vs (packets.kept nid dir k) (ok vs k held') all carried here)
+    subst (λ (x : Reading). HoldsAt c s H' (readings_to (way_of c) vs ++ x)) (sym eh) (held_whole c s H' vs (packets.kept nid dir k) (ok vs k held') all carried here)
 
 -- ---- What an event asks of the store.
 
 pub marker_admitted : (c : Carrier) (s : Stage) (f : List ℕ) (k : List Bool) (h : Reading) (m : ℕ) → After c s f k h (event.Marker m) → IsTrue (admits NID_VBCMK m)
-marker_admitted c s f k h m (ef, ek, carried, eh, here) = carried_packet c (packets.marker m) carried
+marker_admitted c s f k h m (ef, ek, carried, eh, here) = to_train c (packets.marker m) carried
 
 pub typed_held : (H : Holds) (c : Carrier) (s : Stage) (vs : List PacketValue) (f : List ℕ) (k : List Bool) (h : Reading) (nid dir : ℕ) → H vs f k → After c s f k h (event.Typed nid dir) → H vs f [] × IsTyped ToTrain nid dir f
 typed_held H c s vs f k h nid dir held (ek, (r, (carried, en, eh)), here) =
-    let (row, e, a, reads, short) = carried_packet c (packets.typed nid dir r) carried in
+    let (row, e, a, reads, short) = to_train c (packets.typed nid dir r) carried in
     (rw ek at held, (row, e, a, (spelled r, (r, reads, en, refl), short)))
 
-pub kept_held : (H : Holds) (c : Carrier) (s : Stage) (vs : List PacketValue) (f : List ℕ) (k : List Bool) (h : Reading) (nid dir : ℕ) → H vs f k → After c s f k h (event.Kept nid dir) → H vs [] k × (other_fault nid dir (length k) ≡ None)
-kept_held H c s vs f k h nid dir held (ef, carried, eh, here) = (rw ef at held, carried_packet c (packets.kept nid dir k) carried)
+pub kept_held : (H : Holds) (c : Carrier) (s : Stage) (vs : List PacketValue) (f : List ℕ) (k : List Bool) (h : Reading) (nid dir : ℕ) → H vs f k → After c s f k h (event.Kept nid dir) → H vs [] k × (other_fault ToTrain nid dir (length k) ≡ None)
+kept_held H c s vs f k h nid dir held (ef, carried, eh, here) = (rw ef at held, to_train c (packets.kept nid dir k) carried)
 
 -- ---- One bit.
 
@@ -93,7 +101,7 @@ open_next s x e = refl
 
 -- the kept bits have room for one more
 pub kept_room : (c : Carrier) (s : Stage) (f : List ℕ) (k : List Bool) (h : Reading) → keeps_at s ≡ keep.Bit → Here c s f k h → length k < 8191
-kept_room c (Kept nid dir left) f k h e here = omega (arith, here.1)
+kept_room c (Kept nid dir left) f k h e here = omega (arith, here.1, (frame_between (way_of c)).0)
 kept_room c s f k h e here = absurd cc
 
 pub grows_kept : (s : Stage) → (keeps_at s ≡ keep.Nothing → ⊥) → IsTrue (may_grow s)
@@ -102,14 +110,17 @@ grows_kept (Kept nid dir left) other = refl
 grows_kept s other = absurd (other refl)
 
 -- behind Q_DIR no packet is whole
+frame_more : (way : Way) (nid nid' n dir bits : ℕ) (r : Reading) → ◌≡◌ {A = Reading} ((NID_PACKET, nid) ∷ (Q_DIR, n) ∷ []) (in_frame way nid' dir bits r) → ⊥
+frame_more ToTrain nid nid' n dir bits r e = absurd cc
+
 direction_more : (c : Carrier) (s : Stage) (nid n : ℕ) (x : Var) (f : List ℕ) (k : List Bool) (h : Reading) (e : Event) → x ≡ Q_DIR → h ≡ (NID_PACKET, nid) ∷ [] → After c s f k (h ++ (x, n) ∷ []) e → e ≡ event.More
 direction_more c s nid n x f k h event.More ex eh after = refl
 direction_more c s nid n x f k h (event.Marker m) ex eh (ef, ek, carried, is, here) =
     let sent : ◌≡◌ {A = Sent} (x, n) (NID_VBCMK, m) = cc in
     let same : x ≡ NID_VBCMK = ap (λ (p : Sent). p.0) sent in
     absurd cc
-direction_more c s nid n x f k h (event.Typed nid' dir) ex eh (ek, (r, (carried, en, is)), here) = absurd cc
-direction_more c s nid n x f k h (event.Kept nid' dir) ex eh (ef, carried, is, here) = absurd cc
+direction_more c s nid n x f k h (event.Typed nid' dir) ex eh (ek, (r, (carried, en, is)), here) = absurd (frame_more (way_of c) nid nid' n dir (length (spelled r)) r (rw (eh, ex) at is))
+direction_more c s nid n x f k h (event.Kept nid' dir) ex eh (ef, carried, is, here) = absurd (frame_more (way_of c) nid nid' n dir (length k) (kept OTHER_DATA k) (rw (eh, ex) at is))
 
 -- where a packet is whole, a list grew
 pub grows_whole : (c : Carrier) (s s' : Stage) (x : Var) (n : ℕ) (e : Event) (f : List ℕ) (k : List Bool) (h : Reading) → next_of s ≡ Some x → Becomes c s x n e s' → Here c s f k h → (e ≡ event.More → ⊥) → IsTrue (may_grow s)
@@ -128,5 +139,5 @@ module _ (c : Carrier) (s s' : Stage) (F : List ℕ → List ℕ) (K : List Bool
   pub more_held : (N : Holds) (c' : Carrier) → c' ≡ c → Finishes M N e → (q : Reading) → HoldsAt c s H q → HoldsAt c' s' N (q ++ p)
   more_held N c' same fin q (vs, f, k, h, held, all, here, eq) =
       let new = fin c s' vs (F f) (K k) (h ++ p) (absorbed vs f k held) all (after f k h here) in
-      let whole : q ++ p ≡ packets_reading vs ++ (h ++ p) = ap (λ (t : Reading). t ++ p) eq ∙ append_assoc (packets_reading vs) h p in
+      let whole : q ++ p ≡ readings_to (way_of c) vs ++ (h ++ p) = ap (λ (t : Reading). t ++ p) eq ∙ append_assoc (readings_to (way_of c) vs) h p in
       rw (same, whole) new

@@ -7,6 +7,7 @@ use Rattle.std.proofs.lemmas.List.Elements.{All-head, All-tail}
 use Rattle.etcs_bits.specs.Bits.{value, part}
 use Rattle.etcs_vars.specs.Reading.{spelled}
 use Rattle.etcs_vars.proofs.Walk.{spelled-append}
+use Rattle.etcs_tables.specs.declared.row.Way.TheVariants.{ToTrain}
 use Rattle.etcs_packets.specs.PacketValues.{PacketValue, marker, typed, kept, IsPacket}
 use Rattle.etcs_packets.specs.PacketReadings.{packet_reading, packets_reading}
 use Rattle.etcs_packets.specs.laws.PacketReadings.{packet_bits}
@@ -30,7 +31,7 @@ ahead_inside b (v, c, h, e) =
 pub least_ahead : (b : List Bool) → BeginsWithPacket b → 14 ≤ length b
 least_ahead b (v, c, h, e) =
     let all : length b ≡ length (spelled (packet_reading v)) + length c = ap (λ (t : List Bool). length t) e ∙ length-append (spelled (packet_reading v)) c in
-    omega (arith, all, packet_bits v, some_bits v)
+    omega (arith, all, packet_bits v, some_bits ToTrain v)
 
 -- a packet with a frame takes as many bits as L_PACKET says, and is here
 framed_ahead : (b : List Bool) → BeginsWithPacket b → (value (part 0 8 b) ≡ 0 → ⊥) → 23 ≤ length b

@@ -20,7 +20,7 @@ HasRow nid = (row : Layout) × (row_to ToTrain nid ≡ Some row)
 
 typed_value : (nid dir : ℕ) (v : PacketValue) → ¬ (¬ HasRow nid) → IsPacket v → IsTypedOf nid dir v → (r : Reading) × IsFramed ToTrain nid dir r × (v ≡ typed nid dir r)
 typed_value nid dir (marker n) has is (number, direction) = absurd cc
-typed_value nid dir (kept nid' dir' b) has is (number, direction) = absurd (has (λ (row, e). kept_untyped nid row (rw number at (kept_parts nid' dir' (length b) is).0) e))
+typed_value nid dir (kept nid' dir' b) has is (number, direction) = absurd (has (λ (row, e). kept_untyped ToTrain nid row (rw number at (kept_parts ToTrain nid' dir' (length b) is).0) e))
 typed_value nid dir (typed nid' dir' r) has is (number, direction) = let to : dir' ≡ dir = cc in (r, rw (number, to) at is, rw (number, to) refl)
 
 -- readings of one row with the same bits, and those with the same numbers

@@ -4,34 +4,40 @@ use Rattle.std.specs.Prelude.{◌≡◌, ℕ, ◌+◌, ◌-◌, ◌≤◌, ◌<�
 use Rattle.etcs_vars.specs.declared.var.Var.TheVariants.{NID_PACKET, NID_VBCMK, Q_DIR, L_PACKET, OTHER_DATA}
 use Rattle.etcs_vars.specs.Vars.{admits}
 use Rattle.etcs_vars.specs.Reading.{Reading, Then, spelled, kept}
+use Rattle.etcs_tables.specs.declared.row.Way.{Way}
 use Rattle.etcs_tables.specs.declared.row.Way.TheVariants.{ToTrain}
-use Rattle.etcs_rows.specs.declared.frames.Carrier.{Carrier}
-use Rattle.etcs_rows.specs.declared.frames.Carrier.TheVariants.{Telegram, Message}
 use Rattle.etcs_tables.specs.Layouts.{Layout, ReadsIn}
 use Rattle.etcs_tables.specs.Rows.{row_to}
-use Rattle.etcs_tables.specs.Frames.{is_kept}
-use Rattle.etcs_packets.specs.PacketValues.{PacketValue, nid_of, IsPacket}
-use Rattle.etcs_packets.specs.PacketReadings.{packets_reading}
+use Rattle.etcs_tables.specs.Frames.{frame_bits, is_framed, is_kept, is_direction, sends, directed}
+use Rattle.etcs_rows.specs.declared.frames.Carrier.{Carrier}
+use Rattle.etcs_rows.specs.declared.frames.Carrier.TheVariants.{Telegram, Message}
+use Rattle.etcs_rows.specs.Frames.{way_of}
+use Rattle.etcs_packets.specs.PacketValues.{PacketValue, nid_of, IsPacketTo}
+use Rattle.etcs_packets.specs.PacketReadings.{readings_to}
 
 -- what closes the packets
 abbrev pub closing : Carrier → Reading
 closing Telegram = (NID_PACKET, 255) ∷ []
-closing Message = []
+closing (Message way) = []
 
 -- packets of so many bits, with what closes them, fill the room: in a message but for its padding
 abbrev pub Fills : Carrier → ℕ → ℕ → Type 0
 Fills Telegram room bits = bits ≤ room
-Fills Message room bits = (bits ≤ room) × (room ≤ bits + 7)
+Fills (Message way) room bits = (bits ≤ room) × (room ≤ bits + 7)
 
--- packet 0 is a telegram's
+-- the number of a packet that isn't the marker of telegrams
+abbrev pub IsUnmarked : Way → ℕ → Type 0
+IsUnmarked ToTrain nid = 0 < nid
+
+-- the marker is a telegram's
 abbrev pub Carries : Carrier → PacketValue → Type 0
-Carries Telegram v = IsPacket v
-Carries Message v = IsPacket v × (0 < nid_of v)
+Carries Telegram v = IsPacketTo ToTrain v
+Carries (Message way) v = IsPacketTo way v × IsUnmarked way (nid_of v)
 
 -- these packets in a room, with what closes them
 pub record RunOf (c : Carrier) (room : ℕ) (vs : List PacketValue) (r : Reading) : Type 0 where
   pub carried : All (Carries c) vs
-  pub reading_is : r ≡ packets_reading vs ++ closing c
+  pub reading_is : r ≡ readings_to (way_of c) vs ++ closing c
   pub fills : Fills c room (length (spelled r))
 
 abbrev pub Run : Carrier → ℕ → Reading → Type 0
@@ -44,24 +50,30 @@ abbrev pub KeptIn : ℕ → Reading → Type 0
 KeptIn bits r = (b : List Bool) × (length b ≡ bits) × (r ≡ kept OTHER_DATA b)
 
 -- so many bits behind the frame of a packet
-abbrev pub BodyIn : ℕ → ℕ → Reading → Type 0
-BodyIn nid bits r = ((row : Layout) × (row_to ToTrain nid ≡ Some row) × ReadsIn row bits r) ⊎ (IsTrue (is_kept ToTrain nid) × KeptIn bits r)
+abbrev pub BodyIn : Way → ℕ → ℕ → Reading → Type 0
+BodyIn way nid bits r = ((row : Layout) × (row_to way nid ≡ Some row) × ReadsIn row bits r) ⊎ (IsTrue (is_kept way nid) × KeptIn bits r)
 
 abbrev pub BodyLeft : Carrier → ℕ → ℕ → ℕ → Reading → Type 0
-BodyLeft c nid bits room = Then (BodyIn nid bits) (Run c room)
+BodyLeft c nid bits room = Then (BodyIn (way_of c) nid bits) (Run c room)
 
--- behind L_PACKET; the room counts from the packet's first bit
+-- The room counts from the packet's first bit until its length is known.
+
+-- after L_PACKET
 abbrev pub AfterLength : Carrier → ℕ → ℕ → ℕ → Reading → Type 0
-AfterLength c nid room l r = (23 ≤ l) × (l < 2 ^ 13) × (l ≤ room) × BodyLeft c nid (l - 23) (room - l) r
+AfterLength c nid room l r = (frame_bits (way_of c) ≤ l) × (l < 2 ^ 13) × (l ≤ room) × BodyLeft c nid (l - frame_bits (way_of c)) (room - l) r
 
 abbrev pub LengthLeft : Carrier → ℕ → ℕ → Reading → Type 0
 LengthLeft c nid room r = (l : ℕ) × (rest : Reading) × (r ≡ (L_PACKET, l) ∷ rest) × AfterLength c nid room l rest
 
 abbrev pub AfterDirection : Carrier → ℕ → ℕ → ℕ → Reading → Type 0
-AfterDirection c nid room dir r = IsTrue (admits Q_DIR dir) × LengthLeft c nid room r
+AfterDirection c nid room dir r = IsTrue (sends (way_of c) dir) × LengthLeft c nid room r
 
 abbrev pub DirectionLeft : Carrier → ℕ → ℕ → Reading → Type 0
 DirectionLeft c nid room r = (dir : ℕ) × (rest : Reading) × (r ≡ (Q_DIR, dir) ∷ rest) × AfterDirection c nid room dir rest
+
+-- after NID_PACKET of a packet that has a frame
+abbrev pub FrameLeft : Carrier → ℕ → ℕ → Reading → Type 0
+FrameLeft c nid room r = (dir : ℕ) × (rest : Reading) × (r ≡ directed (way_of c) dir rest) × IsTrue (is_direction (way_of c) dir) × LengthLeft c nid room rest
 
 abbrev pub AfterMarker : ℕ → ℕ → Reading → Type 0
 AfterMarker room n r = IsTrue (admits NID_VBCMK n) × (14 ≤ room) × Run Telegram (room - 14) r
@@ -71,9 +83,9 @@ MarkerLeft room r = (n : ℕ) × (rest : Reading) × (r ≡ (NID_VBCMK, n) ∷ r
 
 -- behind NID_PACKET: nothing behind 255, NID_VBCMK behind 0, else a frame
 abbrev pub AfterNumber : Carrier → ℕ → ℕ → Reading → Type 0
-AfterNumber c room n r = ((c ≡ Telegram) × (n ≡ 255) × (8 ≤ room) × (r ≡ [])) ⊎ (((c ≡ Telegram) × (n ≡ 0) × MarkerLeft room r) ⊎ ((0 < n) × (n < 255) × DirectionLeft c n room r))
+AfterNumber c room n r = ((c ≡ Telegram) × (n ≡ 255) × (8 ≤ room) × (r ≡ [])) ⊎ (((c ≡ Telegram) × (n ≡ 0) × MarkerLeft room r) ⊎ (IsTrue (is_framed (way_of c) n) × FrameLeft c n room r))
 
 -- more packets come, or packet 255
 abbrev pub IsOpen : Carrier → ℕ → Type 0
 IsOpen Telegram room = Unit {0}
-IsOpen Message room = 7 < room
+IsOpen (Message way) room = 7 < room

@@ -1,13 +1,14 @@
 -- The variables so far, by what is held of them.
 use Rattle.std.specs.Prelude.{◌≡◌, ℕ, ◌+◌, Bool, List, [], ◌∷◌, ◌++◌, length, map, All}
-use Rattle.etcs_vars.specs.declared.var.Var.TheVariants.{NID_PACKET, Q_DIR, OTHER_DATA}
+use Rattle.etcs_vars.specs.declared.var.Var.TheVariants.{NID_PACKET, OTHER_DATA}
 use Rattle.etcs_vars.specs.Reading.{Reading, kept}
-use Rattle.etcs_tables.specs.declared.row.Way.TheVariants.{ToTrain}
 use Rattle.etcs_rows.specs.declared.frames.Carrier.{Carrier}
+use Rattle.etcs_rows.specs.Frames.{way_of}
 use Rattle.etcs_tables.specs.Rows.{row_to}
+use Rattle.etcs_tables.specs.Frames.{directed}
 use Rattle.etcs_packets.specs.declared.packet.Packet.{Packet}
 use Rattle.etcs_packets.specs.PacketValues.{PacketValue, packet_value, IsMade}
-use Rattle.etcs_packets.specs.PacketReadings.{frame, packets_reading}
+use Rattle.etcs_packets.specs.PacketReadings.{in_frame, readings_to}
 use Rattle.etcs_sequence.specs.Contents.{closing}
 use Rattle.etcs_sequence.specs.Runs.{row_so_far}
 use Rattle.etcs_sequence.specs.declared.stage.Stage.{Stage}
@@ -18,14 +19,14 @@ abbrev pub here_of : Carrier → Stage → List ℕ → List Bool → Reading
 here_of c Number f k = []
 here_of c Marker f k = (NID_PACKET, 0) ∷ []
 here_of c (Direction nid) f k = (NID_PACKET, nid) ∷ []
-here_of c (Length nid dir) f k = (NID_PACKET, nid) ∷ (Q_DIR, dir) ∷ []
-here_of c (Row nid dir row) f k = row_so_far (row_to ToTrain nid) nid dir f row.len
-here_of c (Kept nid dir left) f k = frame nid dir (length k + left) ++ kept OTHER_DATA k
+here_of c (Length nid dir) f k = (NID_PACKET, nid) ∷ directed (way_of c) dir []
+here_of c (Row nid dir row) f k = row_so_far (way_of c) (row_to (way_of c) nid) nid dir f row.len
+here_of c (Kept nid dir left) f k = in_frame (way_of c) nid dir (length k + left) (kept OTHER_DATA k)
 here_of c Closed f k = closing c
 
 -- and those of the packets in front
 abbrev pub packets_so_far : Carrier → Stage → List Packet → List ℕ → List Bool → Reading
-packets_so_far c s ps f k = packets_reading (map packet_value ps) ++ here_of c s f k
+packets_so_far c s ps f k = readings_to (way_of c) (map packet_value ps) ++ here_of c s f k
 
 -- a list of packets holds these, and of the one that is being read these numbers and bits
 abbrev pub list_holds : List Packet → List ℕ → List Bool → List PacketValue → List ℕ → List Bool → Type 0

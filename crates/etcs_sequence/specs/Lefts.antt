@@ -1,28 +1,29 @@
 -- What is left of packets in a room, what comes next of it, and what its variables so far are (SUBSET-026, 7.4 and 8).
-use Rattle.std.specs.Prelude.{◌≡◌, ℕ, ◌+◌, ◌≤◌, Bool, true, false, List, [], ◌∷◌, ◌++◌, ◌==◌, length, Option, Some, None, is_some, ◌&&◌, nat_lt, All, IsTrue}
+use Rattle.std.specs.Prelude.{◌≡◌, ℕ, ◌+◌, ◌-◌, ◌≤◌, Bool, true, false, List, [], ◌∷◌, ◌++◌, ◌==◌, length, Option, Some, None, is_some, ◌&&◌, nat_lt, All, IsTrue}
 use Rattle.etcs_vars.specs.declared.var.Var.{Var}
 use Rattle.etcs_vars.specs.declared.var.Var.TheVariants.{NID_PACKET, NID_VBCMK, Q_DIR, L_PACKET, OTHER_DATA}
-use Rattle.etcs_vars.specs.Vars.{admits}
 use Rattle.etcs_vars.specs.Walking.{Residual}
 use Rattle.etcs_vars.specs.Reading as reading
 use Rattle.etcs_vars.specs.Reading.{Reading, Then, spelled, numbers}
+use Rattle.etcs_tables.specs.declared.row.Way.{Way}
 use Rattle.etcs_tables.specs.declared.row.Way.TheVariants.{ToTrain}
 use Rattle.etcs_rows.specs.declared.frames.Carrier.{Carrier}
 use Rattle.etcs_rows.specs.declared.frames.Carrier.TheVariants.{Telegram, Message}
-use Rattle.etcs_tables.specs.Layouts.{Layout, looks, ReadsIn, ROW_LIMIT}
+use Rattle.etcs_tables.specs.Layouts.{Layout, looks, ReadsIn}
 use Rattle.etcs_tables.specs.Rows.{row_to}
-use Rattle.etcs_tables.specs.Frames.{is_kept}
+use Rattle.etcs_tables.specs.Frames.{head_bits, kept_limit, is_framed, is_kept, is_direction, directed}
+use Rattle.etcs_rows.specs.Frames.{way_of}
 use Rattle.etcs_rows.specs.Places.{first_variable}
 use Rattle.etcs_packets.specs.PacketValues as packets
 use Rattle.etcs_packets.specs.PacketValues.{PacketValue}
-use Rattle.etcs_packets.specs.PacketReadings.{frame, packet_reading, packets_reading}
+use Rattle.etcs_packets.specs.PacketReadings.{in_frame, reading_to, readings_to}
 use Rattle.etcs_sequence.specs.Contents.{closing, Carries, Run, KeptIn, LengthLeft, DirectionLeft, MarkerLeft}
 use Rattle.etcs_sequence.specs.declared.stage.Stage.{Stage}
 use Rattle.etcs_sequence.specs.declared.stage.Stage.TheVariants.{Number, Marker, Direction, Length, Row, Kept, Closed}
 use Rattle.etcs_sequence.specs.declared.stage.Event.{Event}
-use Rattle.etcs_sequence.specs.declared.stage.Event.TheVariants as event
 use Rattle.etcs_sequence.specs.declared.stage.Keep.{Keep}
 use Rattle.etcs_sequence.specs.declared.stage.Keep.TheVariants as keep
+use Rattle.etcs_sequence.specs.declared.stage.Event.TheVariants as event
 
 -- the variable that comes next
 abbrev pub next_of : Stage → Option Var
@@ -34,57 +35,47 @@ next_of (Row nid dir row) = first_variable row.place
 next_of (Kept nid dir left) = Some OTHER_DATA
 next_of Closed = None
 
--- how many bits are left from a packet's first bit on, where so many are left behind what was read of its frame
-abbrev pub first_room : ℕ → Stage → ℕ
-first_room room Number = room
-first_room room Marker = room + 8
-first_room room (Direction nid) = room + 8
-first_room room (Length nid dir) = room + 10
-first_room room (Row nid dir row) = room
-first_room room (Kept nid dir left) = room
-first_room room Closed = room
+-- what comes after the number of a packet that has a frame
+abbrev pub behind_framed : Way → ℕ → Stage
+behind_framed ToTrain nid = Direction nid
 
--- the readings that are left
+-- the readings that are left; the room counts from the packet's first bit until its length is known
 abbrev pub left_of : Carrier → ℕ → Stage → Reading → Type 0
 left_of c room Number = Run c room
-left_of c room Marker = MarkerLeft (room + 8)
-left_of c room (Direction nid) = DirectionLeft c nid (room + 8)
-left_of c room (Length nid dir) = LengthLeft c nid (room + 10)
+left_of c room Marker = MarkerLeft room
+left_of c room (Direction nid) = DirectionLeft c nid room
+left_of c room (Length nid dir) = LengthLeft c nid room
 left_of c room (Row nid dir row) = Then (ReadsIn row.place row.len) (Run c room)
 left_of c room (Kept nid dir left) = Then (KeptIn left) (Run c room)
 left_of c room Closed = λ r. r ≡ []
 
 -- how many bits of the room are left
-abbrev pub ahead : ℕ → Stage → ℕ
-ahead room Number = room
-ahead room Marker = room
-ahead room (Direction nid) = room
-ahead room (Length nid dir) = room
-ahead room (Row nid dir row) = row.len + room
-ahead room (Kept nid dir left) = left + room
-ahead room Closed = room
+abbrev pub ahead : Carrier → ℕ → Stage → ℕ
+ahead c room Number = room
+ahead c room Marker = room - 8
+ahead c room (Direction nid) = room - 8
+ahead c room (Length nid dir) = room - head_bits (way_of c)
+ahead c room (Row nid dir row) = row.len + room
+ahead c room (Kept nid dir left) = left + room
+ahead c room Closed = room
 
 -- more packets come, or packet 255
 abbrev pub is_open : Carrier → ℕ → Bool
 is_open Telegram room = true
-is_open Message room = nat_lt 7 room
+is_open (Message way) room = nat_lt 7 room
 
 abbrev pub is_telegram : Carrier → Bool
 is_telegram Telegram = true
-is_telegram Message = false
-
--- a packet with a frame
-abbrev pub is_framed : ℕ → Bool
-is_framed nid = nat_lt 0 nid && nat_lt nid 255
+is_telegram (Message way) = false
 
 -- what holds of what comes next
 abbrev pub is_stage : Carrier → ℕ → Stage → Bool
 is_stage c room Number = is_open c room
 is_stage c room Marker = is_telegram c
-is_stage c room (Direction nid) = is_framed nid
-is_stage c room (Length nid dir) = is_framed nid && admits Q_DIR dir
-is_stage c room (Row nid dir row) = is_some (row_to ToTrain nid) && (admits Q_DIR dir && is_some (first_variable row.place))
-is_stage c room (Kept nid dir left) = is_kept ToTrain nid && (admits Q_DIR dir && nat_lt 0 left)
+is_stage c room (Direction nid) = is_framed (way_of c) nid
+is_stage c room (Length nid dir) = is_framed (way_of c) nid && is_direction (way_of c) dir
+is_stage c room (Row nid dir row) = is_some (row_to (way_of c) nid) && (is_direction (way_of c) dir && is_some (first_variable row.place))
+is_stage c room (Kept nid dir left) = is_kept (way_of c) nid && (is_direction (way_of c) dir && nat_lt 0 left)
 is_stage c room Closed = true
 
 abbrev pub is_closed : Stage → Bool
@@ -112,20 +103,20 @@ may_grow Closed = false
 pub record Moved (c : Carrier) (room : ℕ) (s : Stage) (p : Reading) (c' : Carrier) (room' : ℕ) (s' : Stage) : Type 0 where
   pub same : c' ≡ c
   pub residual : Residual (left_of c room s) p (left_of c' room' s')
-  pub ahead_is : ahead room s ≡ length (spelled p) + ahead room' s'
+  pub ahead_is : ahead c room s ≡ length (spelled p) + ahead c' room' s'
 
 -- ---- The packet that is being read.
 
 -- h are the frame and the numbers f of a row of which so much is left
-pub record RowHere (nid dir : ℕ) (left : Layout) (len : ℕ) (f : List ℕ) (h : Reading) : Type 0 where
+pub record RowHere (way : Way) (nid dir : ℕ) (left : Layout) (len : ℕ) (f : List ℕ) (h : Reading) : Type 0 where
   pub row : Layout
   pub total : ℕ
   pub read : Reading
-  pub typed : row_to ToTrain nid ≡ Some row
+  pub typed : row_to way nid ≡ Some row
   pub looks_well : IsTrue (looks None row)
-  pub short : total ≤ ROW_LIMIT
+  pub short : total ≤ kept_limit way
   pub residual : Residual (ReadsIn row total) read (ReadsIn left len)
-  pub here : h ≡ frame nid dir total ++ read
+  pub here : h ≡ in_frame way nid dir total read
   pub numbers_are : numbers read ≡ f
 
 -- h are the variables so far of the packet that is being read, with the numbers f of its row or the bits k that are kept
@@ -133,9 +124,9 @@ abbrev pub Here : Carrier → Stage → List ℕ → List Bool → Reading → T
 Here c Number f k h = (f ≡ []) × (k ≡ []) × (h ≡ [])
 Here c Marker f k h = (f ≡ []) × (k ≡ []) × (h ≡ (NID_PACKET, 0) ∷ [])
 Here c (Direction nid) f k h = (f ≡ []) × (k ≡ []) × (h ≡ (NID_PACKET, nid) ∷ [])
-Here c (Length nid dir) f k h = (f ≡ []) × (k ≡ []) × (h ≡ (NID_PACKET, nid) ∷ (Q_DIR, dir) ∷ [])
-Here c (Row nid dir row) f k h = (k ≡ []) × RowHere nid dir row.place row.len f h
-Here c (Kept nid dir left) f k h = (f ≡ []) × (length k + left ≤ ROW_LIMIT) × (h ≡ frame nid dir (length k + left) ++ reading.kept OTHER_DATA k)
+Here c (Length nid dir) f k h = (f ≡ []) × (k ≡ []) × (h ≡ (NID_PACKET, nid) ∷ directed (way_of c) dir [])
+Here c (Row nid dir row) f k h = (k ≡ []) × RowHere (way_of c) nid dir row.place row.len f h
+Here c (Kept nid dir left) f k h = (f ≡ []) × (length k + left ≤ kept_limit (way_of c)) × (h ≡ in_frame (way_of c) nid dir (length k + left) (reading.kept OTHER_DATA k))
 Here c Closed f k h = (f ≡ []) × (k ≡ []) × (h ≡ closing c)
 
 -- where the number of the variable that comes next is kept
@@ -161,9 +152,9 @@ bits_with keep.Bit k n = k ++ (n == 1) ∷ []
 -- h are the variables of the packet that is being read, or those of one that is whole now
 abbrev pub After : Carrier → Stage → List ℕ → List Bool → Reading → Event → Type 0
 After c s f k h event.More = Here c s f k h
-After c s f k h (event.Marker m) = (f ≡ []) × (k ≡ []) × Carries c (packets.marker m) × (h ≡ packet_reading (packets.marker m)) × Here c s [] [] []
-After c s f k h (event.Typed nid dir) = (k ≡ []) × ((r : Reading) × (Carries c (packets.typed nid dir r) × (numbers r ≡ f) × (h ≡ packet_reading (packets.typed nid dir r)))) × Here c s [] [] []
-After c s f k h (event.Kept nid dir) = (f ≡ []) × Carries c (packets.kept nid dir k) × (h ≡ packet_reading (packets.kept nid dir k)) × Here c s [] [] []
+After c s f k h (event.Marker m) = (f ≡ []) × (k ≡ []) × Carries c (packets.marker m) × (h ≡ reading_to (way_of c) (packets.marker m)) × Here c s [] [] []
+After c s f k h (event.Typed nid dir) = (k ≡ []) × ((r : Reading) × (Carries c (packets.typed nid dir r) × (numbers r ≡ f) × (h ≡ reading_to (way_of c) (packets.typed nid dir r)))) × Here c s [] [] []
+After c s f k h (event.Kept nid dir) = (f ≡ []) × Carries c (packets.kept nid dir k) × (h ≡ reading_to (way_of c) (packets.kept nid dir k)) × Here c s [] [] []
 
 -- what the number n of x did to the packet that is being read
 abbrev pub Becomes : Carrier → Stage → Var → ℕ → Event → Stage → Type 0
@@ -173,4 +164,4 @@ Becomes c s x n e s' = (f : List ℕ) (k : List Bool) (h : Reading) → Here c s
 
 -- q are the variables so far: those of whole packets and those of the one that is being read, of which so much is held
 abbrev pub HoldsAt : Carrier → Stage → (List PacketValue → List ℕ → List Bool → Type 0) → Reading → Type 0
-HoldsAt c s holds q = (vs : List PacketValue) × (f : List ℕ) × (k : List Bool) × (h : Reading) × holds vs f k × All (Carries c) vs × Here c s f k h × (q ≡ packets_reading vs ++ h)
+HoldsAt c s holds q = (vs : List PacketValue) × (f : List ℕ) × (k : List Bool) × (h : Reading) × holds vs f k × All (Carries c) vs × Here c s f k h × (q ≡ readings_to (way_of c) vs ++ h)

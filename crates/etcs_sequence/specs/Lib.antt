@@ -5,7 +5,6 @@ pub mod Held
 pub mod Holdings
 pub mod Labels
 pub mod Lefts
-pub mod Phases
 pub mod Readables
 pub mod Refs
 pub mod RowBits

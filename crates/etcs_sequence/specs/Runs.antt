@@ -3,6 +3,7 @@ use Rattle.std.specs.Prelude.{◌≡◌, ℕ, ◌+◌, ◌<◌, Bool, List, [], 
 use Rattle.std.specs.Option.{is_some}
 use Rattle.etcs_vars.specs.declared.var.Var.TheVariants.{NID_PACKET, Q_DIR, OTHER_DATA}
 use Rattle.etcs_vars.specs.Reading.{Reading, spelled, numbers, kept}
+use Rattle.etcs_tables.specs.declared.row.Way.{Way}
 use Rattle.etcs_tables.specs.declared.row.Way.TheVariants.{ToTrain}
 use Rattle.etcs_tables.specs.Layouts.{Layout}
 use Rattle.etcs_tables.specs.Rows.{row_to}
@@ -10,12 +11,12 @@ use Rattle.etcs_tables.specs.Frames.{is_kept}
 use Rattle.etcs_rows.specs.Places.{read_of}
 use Rattle.etcs_packets.specs.declared.packet.Packet.{Packet}
 use Rattle.etcs_packets.specs.PacketValues.{packet_value, IsPacket, IsMade}
-use Rattle.etcs_packets.specs.PacketReadings.{frame}
+use Rattle.etcs_packets.specs.PacketReadings.{frame, in_frame}
 
 -- the variables so far of a packet of whose row so many bits are left
-abbrev pub row_so_far : Option Layout → ℕ → ℕ → List ℕ → ℕ → Reading
-row_so_far None nid dir f bits = []
-row_so_far (Some row) nid dir f bits = frame nid dir (length (spelled (read_of row f)) + bits) ++ read_of row f
+abbrev pub row_so_far : Way → Option Layout → ℕ → ℕ → List ℕ → ℕ → Reading
+row_so_far way None nid dir f bits = []
+row_so_far way (Some row) nid dir f bits = in_frame way nid dir (length (spelled (read_of row f)) + bits) (read_of row f)
 
 -- ---- What is held of the packet that is being read.
 

@@ -1,6 +1,7 @@
 pub mod Agreement
 pub mod BitLaws
 pub mod ChainLaws
+pub mod Framed
 pub mod LabelLaws
 pub mod LeftLaws
 pub mod OpenLaws

@@ -12,6 +12,7 @@ use crate::parts::{cut_in, number_in};
 use etcs_bits::{BitSlice, Bits};
 use etcs_packets::parts::{from_bits, holds};
 use etcs_packets::{Other, Packet};
+use etcs_tables::{Way, frame_bits};
 use std::alloc::{AllocError, Global};
 
 /// Q_DIR, which stands behind NID_PACKET.
@@ -27,7 +28,8 @@ fn body<'a>(bits: &BitSlice<'a>) -> BitSlice<'a>
     requires { 23 ≤ length bits.now }
     ensures { result ≡ part 23 (length bits.now - 23) bits.now }
 {
-    cut_in(bits, 23, bits.len() - 23)
+    let frame = frame_bits(Way::ToTrain);
+    cut_in(bits, frame, bits.len() - frame)
 }
 
 /// Packet 0: NID_VBCMK stands behind its number.

@@ -5,50 +5,48 @@ ghost use Rattle.etcs_vars.specs.declared.var.Var.TheVariants.{NID_PACKET, NID_V
 ghost use Rattle.etcs_vars.specs.Vars.{width};
 ghost use Rattle.etcs_vars.specs.Reading.{Reading, kept};
 ghost use Rattle.etcs_vars.proofs.Languages.{Same};
-ghost use Rattle.etcs_tables.specs.declared.row.Way.TheVariants.{ToTrain};
 ghost use Rattle.etcs_tables.specs.Layouts.{layout};
 ghost use Rattle.etcs_tables.specs.Rows.{row_to};
 ghost use Rattle.etcs_tables.specs.Frames.{is_kept};
-ghost use Rattle.etcs_packets.specs.PacketValues.{PacketValue, bits_of};
-ghost use Rattle.etcs_packets.specs.PacketReadings.{packet_reading};
+ghost use Rattle.etcs_rows.specs.Frames.{way_of};
+ghost use Rattle.etcs_packets.specs.PacketValues.{PacketValue, bits_to};
+ghost use Rattle.etcs_packets.specs.PacketReadings.{reading_to};
 ghost use Rattle.etcs_sequence.specs.Contents.{Carries, Run};
 ghost use Rattle.etcs_reader.specs.Rests.{Goes, Starts};
 ghost use Rattle.etcs_sequence.specs.declared.row.RowRest.{RowRest};
-ghost use Rattle.etcs_sequence.specs.Lefts.{next_of, first_room, left_of, ahead, is_stage, keeps_at, Here, After, Becomes, Moved};
+ghost use Rattle.etcs_sequence.specs.Lefts.{next_of, behind_framed, left_of, ahead, is_stage, keeps_at, Here, After, Becomes, Moved};
 
-use crate::parts::{Phase, starts};
 use crate::row::RowRest;
 use crate::stage::{Event, Keep, Stage};
 use etcs_reader::Rest;
-use etcs_rows::parts::Carrier;
-use etcs_tables::{Row, Way, row_of};
-use etcs_vars::Var;
+use etcs_rows::parts::{Carrier, MOST_PADDING, length_fits, number_fits};
+use etcs_tables::{CLOSING, CLOSING_BITS, MARKER_BITS, Row, Way, frame_bits, is_framed, row_of};
+use etcs_vars::{Var, begins};
 
 /// What is left of packets one behind the other in a room of so many bits, up to packet 255 in a telegram
 /// and to the padding in a message.
 #[derive(Drop)]
 pub struct PacketsLeft {
     pub carrier: Carrier,
-    /// How many bits of the room are left behind what was read: where a packet's length is known, behind
-    /// that packet.
+    /// How many bits of the room are left, counted from the first bit of the packet that is being read. Once its length
+    /// is known, those after that packet.
     pub room: usize,
     pub stage: Stage,
-    pub ghost small: { first_room room stage ≤ 8191 },
+    pub ghost small: { room ≤ 8191 },
     pub ghost stands: { IsTrue (is_stage carrier room stage) },
 }
 
 /// What comes behind a packet.
 fn behind_packet(carrier: Carrier, room: usize) -> Stage
     ensures stage { IsTrue (is_stage carrier room result) }
-    ensures room { first_room room result ≡ room }
-    ensures ahead { ahead room result ≡ room }
+    ensures ahead { ahead carrier room result ≡ room }
     ensures same { Same (left_of carrier room result) (Run carrier room) }
     ensures here { Here carrier result [] [] [] }
 {
     match carrier {
         Carrier::Telegram => Stage::Number,
-        Carrier::Message => {
-            if room <= 7 {
+        Carrier::Message(_) => {
+            if room <= MOST_PADDING {
                 Stage::Closed
             } else {
                 Stage::Number
@@ -57,12 +55,22 @@ fn behind_packet(carrier: Carrier, room: usize) -> Stage
     }
 }
 
+/// What comes after the number of a packet that has a frame.
+#[inline]
+fn behind_framed(way: Way, nid: u8) -> Stage
+    ensures { result ≡ behind_framed way nid }
+{
+    match way {
+        Way::ToTrain => Stage::Direction(nid),
+    }
+}
+
 impl PacketsLeft {
     /// All packets of a room of so many bits.
     pub(crate) fn new(carrier: Carrier, room: usize) -> PacketsLeft
         requires small { room ≤ 8191 }
         ensures carrier { result.carrier ≡ carrier }
-        ensures ahead { ahead result.room result.stage ≡ room }
+        ensures ahead { ahead result.carrier result.room result.stage ≡ room }
         ensures left { Same (left_of result.carrier result.room result.stage) (Run carrier room) }
         ensures here { Here carrier result.stage [] [] [] }
     {
@@ -110,22 +118,10 @@ impl PacketsLeft {
         ensures { IsTrue result ↔ Starts (left_of self.now.carrier self.now.room self.now.stage) var rest number }
     {
         match &self.stage {
-            Stage::Number => starts(self.carrier, Phase::Number, self.room, rest, number),
-            Stage::Marker => starts(self.carrier, Phase::Marker, self.room + 8, rest, number),
-            Stage::Direction(nid) => starts(
-                self.carrier,
-                Phase::Direction(*nid),
-                self.room + 8,
-                rest,
-                number,
-            ),
-            Stage::Length(nid, dir) => starts(
-                self.carrier,
-                Phase::Length(*nid, *dir),
-                self.room + 10,
-                rest,
-                number,
-            ),
+            Stage::Number => number_fits(self.carrier, self.room, rest, number),
+            Stage::Marker => begins(Var::NID_VBCMK.ranges(), rest, number),
+            Stage::Direction(_) => begins(Var::Q_DIR.ranges(), rest, number),
+            Stage::Length(nid, _) => length_fits(self.carrier, *nid, self.room, rest, number),
             Stage::Row(_, _, row) => row.begins(var, rest, number),
             Stage::Kept(_, _, _) => true,
             Stage::Closed => unreachable!(),
@@ -139,8 +135,8 @@ impl PacketsLeft {
         ensures { IsTrue result → Starts (left_of self.now.carrier self.now.room self.now.stage) NID_PACKET 0 255 }
     {
         match self.carrier {
-            Carrier::Telegram => self.room >= 8,
-            Carrier::Message => false,
+            Carrier::Telegram => self.room >= CLOSING_BITS,
+            Carrier::Message(_) => false,
         }
     }
 
@@ -151,12 +147,18 @@ impl PacketsLeft {
         ensures moved { Moved self.old.carrier self.old.room self.old.stage ((NID_PACKET, number) ∷ []) self.new.carrier self.new.room self.new.stage }
         ensures here { Becomes self.old.carrier self.old.stage NID_PACKET number Event.More self.new.stage }
     {
-        self.room -= 8;
-        self.stage = match number as u8 {
-            255 => Stage::Closed,
-            0 => Stage::Marker,
-            nid => Stage::Direction(nid),
-        };
+        let nid = number as u8;
+        let way = self.carrier.way();
+        if is_framed(way, nid) {
+            self.stage = behind_framed(way, nid);
+            return;
+        }
+        if nid == CLOSING {
+            self.room -= CLOSING_BITS;
+            self.stage = Stage::Closed;
+            return;
+        }
+        self.stage = Stage::Marker;
     }
 
     /// Behind NID_VBCMK.
@@ -166,7 +168,7 @@ impl PacketsLeft {
         ensures moved { Moved self.old.carrier self.old.room self.old.stage ((NID_VBCMK, number) ∷ []) self.new.carrier self.new.room self.new.stage }
         ensures here { Becomes self.old.carrier self.old.stage NID_VBCMK number (Event.Marker number) self.new.stage }
     {
-        self.room -= 6;
+        self.room -= MARKER_BITS;
         self.stage = behind_packet(self.carrier, self.room);
     }
 
@@ -177,7 +179,6 @@ impl PacketsLeft {
         ensures moved { Moved self.old.carrier self.old.room self.old.stage ((Q_DIR, number) ∷ []) self.new.carrier self.new.room self.new.stage }
         ensures here { Becomes self.old.carrier self.old.stage Q_DIR number Event.More self.new.stage }
     {
-        self.room -= 2;
         self.stage = Stage::Length(nid, number as u8);
     }
 
@@ -185,12 +186,12 @@ impl PacketsLeft {
     fn begin_row(&mut self, nid: u8, dir: u8, length: usize, row: Row) -> Event
         requires stage { self.old.stage ≡ Stage.Length nid dir }
         requires goes { Starts (left_of self.old.carrier self.old.room self.old.stage) L_PACKET 0 length }
-        requires row { row_to ToTrain nid ≡ Some (layout row.items.now) }
+        requires row { row_to (way_of self.old.carrier) nid ≡ Some (layout row.items.now) }
         ensures moved { Moved self.old.carrier self.old.room self.old.stage ((L_PACKET, length) ∷ []) self.new.carrier self.new.room self.new.stage }
         ensures here { Becomes self.old.carrier self.old.stage L_PACKET length result self.new.stage }
     {
-        let left = RowRest::begin(row, length - 23);
-        self.room = self.room + 10 - length;
+        let left = RowRest::begin(row, length - frame_bits(self.carrier.way()));
+        self.room -= length;
         if left.var().is_none() {
             self.stage = behind_packet(self.carrier, self.room);
             return Event::Typed(nid, dir);
@@ -203,16 +204,17 @@ impl PacketsLeft {
     fn begin_kept(&mut self, nid: u8, dir: u8, length: usize) -> Event
         requires stage { self.old.stage ≡ Stage.Length nid dir }
         requires goes { Starts (left_of self.old.carrier self.old.room self.old.stage) L_PACKET 0 length }
-        requires kept { IsTrue (is_kept ToTrain nid) }
+        requires kept { IsTrue (is_kept (way_of self.old.carrier) nid) }
         ensures moved { Moved self.old.carrier self.old.room self.old.stage ((L_PACKET, length) ∷ []) self.new.carrier self.new.room self.new.stage }
         ensures here { Becomes self.old.carrier self.old.stage L_PACKET length result self.new.stage }
     {
-        self.room = self.room + 10 - length;
-        if length == 23 {
+        let bits = length - frame_bits(self.carrier.way());
+        self.room -= length;
+        if bits == 0 {
             self.stage = behind_packet(self.carrier, self.room);
             return Event::Kept(nid, dir);
         }
-        self.stage = Stage::Kept(nid, dir, length - 23);
+        self.stage = Stage::Kept(nid, dir, bits);
         Event::More
     }
 
@@ -223,7 +225,7 @@ impl PacketsLeft {
         ensures moved { Moved self.old.carrier self.old.room self.old.stage ((L_PACKET, number) ∷ []) self.new.carrier self.new.room self.new.stage }
         ensures here { Becomes self.old.carrier self.old.stage L_PACKET number result self.new.stage }
     {
-        match row_of(Way::ToTrain, nid) {
+        match row_of(self.carrier.way(), nid) {
             Some(row) => self.begin_row(nid, dir, number as usize, row),
             None => self.begin_kept(nid, dir, number as usize),
         }
@@ -305,7 +307,7 @@ impl PacketsLeft {
     pub(crate) fn skip(&mut self, bits: usize)
         requires stage { self.old.stage ≡ Stage.Number }
         requires within { bits ≤ self.old.room }
-        ensures moved { (v : PacketValue) → Carries self.old.carrier v → bits_of v ≡ bits → Moved self.old.carrier self.old.room self.old.stage (packet_reading v) self.new.carrier self.new.room self.new.stage }
+        ensures moved { (v : PacketValue) → Carries self.old.carrier v → bits_to (way_of self.old.carrier) v ≡ bits → Moved self.old.carrier self.old.room self.old.stage (reading_to (way_of self.old.carrier) v) self.new.carrier self.new.room self.new.stage }
         ensures here { Here self.new.carrier self.new.stage [] [] [] }
         ensures room { Same (left_of self.new.carrier self.new.room self.new.stage) (Run self.old.carrier (self.old.room - bits)) }
     {

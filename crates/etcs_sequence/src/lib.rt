@@ -19,12 +19,10 @@ mod packet_ref;
 mod packets;
 mod packets_in;
 pub mod parts;
-mod phase;
 mod pieces;
 mod row;
 mod row_bits;
 mod stage;
-mod starts;
 mod store;
 mod whole;
 

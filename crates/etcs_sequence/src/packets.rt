@@ -1,26 +1,28 @@
 //! What is left of packets, and what is kept of those that were read.
 
 ghost use Rattle.std.specs.Prelude.{◌≡◌, ◌≢◌, ◌↔◌, ℕ, ◌+◌, ◌-◌, ◌*◌, ◌^◌, ◌<◌, ◌≤◌, [], ◌∷◌, ◌++◌, Some, None, true, false, Bool, List, length, All, IsTrue, OnOk, OnErr, IfOk, IfSome, IsNone};
-ghost use Rattle.etcs_bits.specs.Bits.{bits, part};
 ghost use Rattle.etcs_vars.specs.Vars.{width};
+ghost use Rattle.etcs_bits.specs.Bits.{part, bits};
 ghost use Rattle.etcs_vars.specs.Reading.{Reading, Viable};
 ghost use Rattle.etcs_vars.proofs.Languages.{Same};
 ghost use Rattle.etcs_packets.specs.PacketValues.{PacketValue};
-ghost use Rattle.etcs_packets.specs.PacketReadings.{packets_reading};
+ghost use Rattle.etcs_packets.specs.PacketReadings.{readings_to};
+ghost use Rattle.etcs_rows.specs.Frames.{way_of};
 ghost use Rattle.etcs_sequence.specs.Contents.{Carries, Run};
 ghost use Rattle.etcs_rows.specs.declared.frames.Carrier.{Carrier};
-ghost use Rattle.etcs_reader.specs.Rests.{Goes, Starts, LeapsBy};
+ghost use Rattle.etcs_reader.specs.Rests.{Starts, Goes, LeapsBy};
 ghost use Rattle.etcs_sequence.specs.declared.stage.Stage.{Stage};
-ghost use Rattle.etcs_sequence.specs.Lefts.{next_of, left_of, ahead, is_closed, may_grow, numbers_with, bits_with, Here, After, Moved, HoldsAt};
+ghost use Rattle.etcs_sequence.specs.Lefts.{Here, next_of, left_of, ahead, is_closed, may_grow, numbers_with, bits_with, After, Moved, HoldsAt};
 ghost use Rattle.etcs_sequence.specs.laws.LeftLaws.{left_regular, left_begins, left_ended, moved_none, moved_along, held_none, held_along};
 
 use crate::left::PacketsLeft;
-use crate::parts::{length_at, number_at, run_at};
+use crate::parts::{direction_at, length_at, number_at, run_at};
 use crate::stage::{Event, Keep, Stage};
 use crate::store::PacketStore;
 use etcs_bits::BitSlice;
 use etcs_reader::Rest;
 use etcs_rows::parts::Carrier;
+use etcs_tables::{CLOSING, CLOSING_BITS, frame_bits};
 use etcs_vars::Var;
 use std::alloc::AllocError;
 
@@ -51,7 +53,7 @@ fn absorb<S: PacketStore>(store: &mut S, keep: Keep, number: u64) -> Result<(), 
 /// Makes the packet that is whole.
 fn finish<S: PacketStore>(store: &mut S, event: Event) -> Result<(), AllocError>
     requires { ∥ ((c : Carrier) × ((s : Stage) × ((vs : List PacketValue) × ((f : List ℕ) × ((k : List Bool) × ((h : Reading) × (S.holds store.old vs f k × After c s f k h event))))))) ∥₁ }
-    ensures ok { OnOk result ((c : Carrier) (s : Stage) (vs : List PacketValue) (f : List ℕ) (k : List Bool) (h : Reading) → S.holds store.old vs f k → All (Carries c) vs → After c s f k h event → HoldsAt c s (S.holds store.new) (packets_reading vs ++ h)) }
+    ensures ok { OnOk result ((c : Carrier) (s : Stage) (vs : List PacketValue) (f : List ℕ) (k : List Bool) (h : Reading) → S.holds store.old vs f k → All (Carries c) vs → After c s f k h event → HoldsAt c s (S.holds store.new) (readings_to (way_of c) vs ++ h)) }
     ensures err { OnErr result (S.fails × (event ≢ Event.More)) }
 {
     match event {
@@ -68,7 +70,7 @@ impl<S: PacketStore> PacketsRest<S> {
         requires small { room ≤ 8191 }
         requires none { S.holds store [] [] [] }
         ensures carrier { result.left.carrier ≡ carrier }
-        ensures ahead { ahead result.left.room result.left.stage ≡ room }
+        ensures ahead { ahead result.left.carrier result.left.room result.left.stage ≡ room }
         ensures left { Same (left_of result.left.carrier result.left.room result.left.stage) (Run carrier room) }
         ensures store { result.store ≡ store }
         ensures held { HoldsAt result.left.carrier result.left.stage (S.holds result.store) [] }
@@ -84,7 +86,7 @@ impl<S: PacketStore> PacketsRest<S> {
         requires small { room ≤ 8191 }
         requires none { ∥ S.holds self.old.store [] [] [] ∥₁ }
         ensures carrier { self.new.left.carrier ≡ carrier }
-        ensures ahead { ahead self.new.left.room self.new.left.stage ≡ room }
+        ensures ahead { ahead self.new.left.carrier self.new.left.room self.new.left.stage ≡ room }
         ensures left { Same (left_of self.new.left.carrier self.new.left.room self.new.left.stage) (Run carrier room) }
         ensures store { self.new.store ≡ self.old.store }
         ensures held { S.holds self.old.store [] [] [] → HoldsAt self.new.left.carrier self.new.left.stage (S.holds self.new.store) [] }
@@ -101,17 +103,18 @@ impl<S: PacketStore> PacketsRest<S> {
         ensures none { IsNone result → self.new ≡ self.old }
         ensures some { IfSome result (λ n. LeapsBy (left_of self.new.left.carrier self.new.left.room self.new.left.stage) (λ p. Moved self.old.left.carrier self.old.left.room self.old.left.stage p self.new.left.carrier self.new.left.room self.new.left.stage × ((q : Reading) → HoldsAt self.old.left.carrier self.old.left.stage (S.holds self.old.store) q → HoldsAt self.new.left.carrier self.new.left.stage (S.holds self.new.store) (q ++ p))) (bits piece.now) at n) }
     {
-        if piece.len() * 8 - at < 8 {
+        if piece.len() * 8 - at < CLOSING_BITS {
             return None;
         }
-        if number_at(piece, at, 8) != 255 {
+        let number = u64::from(CLOSING);
+        if number_at(piece, at, 8) != number {
             return None;
         }
         if !self.left.may_close() {
             return None;
         }
-        self.left.take_number(255);
-        Some(8)
+        self.left.take_number(number);
+        Some(CLOSING_BITS)
     }
 
     /// Takes the typed packet that begins at `at`, where it lies whole in the piece, and says how many bits
@@ -128,9 +131,14 @@ impl<S: PacketStore> PacketsRest<S> {
         let Some(len) = length_at(self.left.carrier, self.left.room, piece, at) else {
             return Ok(None);
         };
+        let way = self.left.carrier.way();
+        let frame = frame_bits(way);
         let nid = number_at(piece, at, 8) as u8;
-        let dir = number_at(piece, at + 8, 2) as u8;
-        match self.store.whole(nid, dir, run_at(piece, at + 23, len - 23)) {
+        let dir = direction_at(way, piece, at);
+        match self
+            .store
+            .whole(nid, dir, run_at(piece, at + frame, len - frame))
+        {
             Ok(true) => {
                 self.left.skip(len);
                 Ok(Some(len))

@@ -7,6 +7,7 @@ ghost use Rattle.etcs_sequence.specs.Refs.{BeginsWithPacket, ArePackets, bits_ah
 use crate::packet_ref::PacketRef;
 use crate::parts::{cut_in, number_in};
 use etcs_bits::BitSlice;
+use etcs_tables::{MARKER_BITS, Way, head_bits};
 use std::marker::Model;
 
 /// The packets in a telegram's or a message's bytes, in order (SUBSET-026, 7.4). They are read from these bytes one by
@@ -66,7 +67,7 @@ fn len_ahead(rest: &BitSlice<'_>) -> usize
     ensures inside { result ≤ length rest.now }
 {
     if number_in(rest, 0, 8) == 0 {
-        return 14;
+        return MARKER_BITS;
     }
-    number_in(rest, 10, 13) as usize
+    number_in(rest, head_bits(Way::ToTrain), 13) as usize
 }

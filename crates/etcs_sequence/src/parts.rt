@@ -8,10 +8,8 @@ ghost use Rattle.etcs_packets.specs.PacketReadings.{packets_reading};
 ghost use Rattle.etcs_sequence.specs.Refs.{ArePackets, spellings};
 
 use crate::packets_in::Packets;
-pub use crate::phase::Phase;
 pub use crate::pieces::{cut_in, number_at, number_in, run_at};
-pub use crate::starts::starts;
-pub use crate::whole::length_at;
+pub use crate::whole::{direction_at, length_at};
 use etcs_bits::BitSlice;
 
 /// The first `count` packets in these bits. Anything may stand behind them.

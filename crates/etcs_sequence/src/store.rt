@@ -1,11 +1,11 @@
 //! Where packets go as they are read.
 
-ghost use Rattle.std.specs.Prelude.{◌≡◌, ◌≤◌, ◌+◌, ℕ, Bool, true, false, List, [], ◌∷◌, ◌++◌, length, None, Some, IsTrue, OnOk, OnErr, IfOk};
+ghost use Rattle.std.specs.Prelude.{true, ◌≡◌, ◌≤◌, ◌+◌, ℕ, Bool, false, List, [], ◌∷◌, ◌++◌, length, None, Some, IsTrue, OnOk, OnErr, IfOk};
 ghost use Rattle.etcs_vars.specs.declared.var.Var.TheVariants.{NID_VBCMK};
 ghost use Rattle.etcs_vars.specs.Vars.{admits};
 ghost use Rattle.etcs_vars.specs.Reading.{spelled, numbers};
 ghost use Rattle.etcs_tables.specs.declared.row.Way.TheVariants.{ToTrain};
-ghost use Rattle.etcs_tables.specs.Layouts.{Layout};
+ghost use Rattle.etcs_tables.specs.Layouts.{Layout, ROW_LIMIT};
 ghost use Rattle.etcs_tables.specs.Rows.{row_to};
 ghost use Rattle.etcs_tables.specs.Typed.{IsTyped};
 ghost use Rattle.etcs_flat.specs.Others.{other_fault};
@@ -69,7 +69,7 @@ pub trait PacketStore {
     ///
     /// `AllocError` where there is no memory.
     fn kept(&mut self, nid: u8, dir: u8) -> Result<(), AllocError>
-        requires { ∥ ((vs : List PacketValue) × ((k : List Bool) × (holds self.old vs [] k × (other_fault nid dir (length k) ≡ None)))) ∥₁ }
+        requires { ∥ ((vs : List PacketValue) × ((k : List Bool) × (holds self.old vs [] k × (other_fault ToTrain nid dir (length k) ≡ None)))) ∥₁ }
         ensures ok { OnOk result ((vs : List PacketValue) (k : List Bool) → holds self.old vs [] k → holds self.new (vs ++ kept nid dir k ∷ []) [] []) }
         ensures err { OnErr result fails };
 
@@ -80,7 +80,7 @@ pub trait PacketStore {
     ///
     /// `AllocError` where there is no memory.
     fn whole(&mut self, nid: u8, dir: u8, body: BitSlice<'_>) -> Result<bool, AllocError>
-        requires small { length body ≤ 8168 }
+        requires small { length body ≤ ROW_LIMIT }
         ensures row { IfOk result (λ b. IsTrue b → ((row : Layout) × (row_to ToTrain nid ≡ Some row))) }
         ensures packet { IfOk result (λ b. IsTrue b → ((v : PacketValue) × (IsTypedOf nid dir v × (IsPacket v × (spelled (variables_of v) ≡ body.entry))))) }
         ensures held { IfOk result (λ b. IsTrue b → (vs : List PacketValue) (v : PacketValue) → holds self.old vs [] [] → IsTypedOf nid dir v → IsPacket v → spelled (variables_of v) ≡ body.entry → holds self.new (vs ++ v ∷ []) [] []) }

@@ -7,6 +7,7 @@ use etcs_packets::Packet;
 use etcs_reader::{Feeder, Stop};
 use etcs_rows::parts::Carrier;
 use etcs_sequence::{PacketCount, PacketList, PacketsRest};
+use etcs_tables::Way;
 use etcs_vars::Var;
 use std::alloc::Global;
 use std::test::Fail;
@@ -19,13 +20,17 @@ const BOTH: [u8; 11] = [
 
 /// A reader that makes the packets of a message of 88 bits.
 fn listed(alloc: Global) -> Feeder<PacketsRest<PacketList>> {
-    let rest = PacketsRest::new(Carrier::Message, 88, PacketList::new(alloc));
+    let rest = PacketsRest::new(Carrier::Message(Way::ToTrain), 88, PacketList::new(alloc));
     Feeder::new(rest)
 }
 
 /// A reader that counts the packets of a message of 88 bits.
 fn counted() -> Feeder<PacketsRest<PacketCount>> {
-    let rest = PacketsRest::new(Carrier::Message, 88, PacketCount { packets: 0 });
+    let rest = PacketsRest::new(
+        Carrier::Message(Way::ToTrain),
+        88,
+        PacketCount { packets: 0 },
+    );
     Feeder::new(rest)
 }
 

@@ -1,7 +1,14 @@
--- How many bits a message's row takes, and how many bytes a message may have behind a header of 75 bits.
+-- How many bits a message's row takes, and how many bytes a message may have after its header.
 use Rattle.std.specs.Prelude.{ℕ, ◌+◌, ◌/◌, List, [], ◌∷◌, Option, Some, None}
 use Rattle.etcs_vars.specs.Vars.{width}
+use Rattle.etcs_tables.specs.declared.row.Way.{Way}
+use Rattle.etcs_tables.specs.declared.row.Way.TheVariants.{ToTrain}
 use Rattle.etcs_tables.specs.Layouts.{Layout, whole, one, guarded, counted}
+use Rattle.etcs_tables.specs.Frames.{frame_bits}
+
+-- the bits of the header in front of a typed message's row
+abbrev pub header_bits : Way → ℕ
+header_bits ToTrain = 75
 
 -- how many bits a row of variables takes that has no groups
 abbrev pub row_bits : Layout → ℕ
@@ -10,10 +17,10 @@ row_bits (one v rest) = width v + row_bits rest
 row_bits (guarded g group rest) = 0
 row_bits (counted group rest) = 0
 
--- the bytes that leave at most 7 bits behind so many, and those that leave a frame or more
-abbrev pub behind_bits : ℕ → List (ℕ × ℕ)
-behind_bits bits = ((bits + 7) / 8, (bits + 7) / 8) ∷ ((bits + 30) / 8, 1023) ∷ []
+-- the bytes that leave at most 7 bits after these, and those that leave a frame or more
+abbrev pub behind_bits : Way → ℕ → List (ℕ × ℕ)
+behind_bits way bits = ((bits + 7) / 8, (bits + 7) / 8) ∷ ((bits + (frame_bits way + 7)) / 8, 1023) ∷ []
 
-abbrev pub lengths_behind : Option Layout → List (ℕ × ℕ)
-lengths_behind None = (3, 1023) ∷ []
-lengths_behind (Some row) = behind_bits (75 + row_bits row)
+abbrev pub lengths_behind : Way → Option Layout → List (ℕ × ℕ)
+lengths_behind way None = (3, 1023) ∷ []
+lengths_behind way (Some row) = behind_bits way (header_bits way + row_bits row)

@@ -1,23 +1,71 @@
 //! What a packet's frame is, and which packets are kept as bits.
 
-ghost use Rattle.std.specs.Prelude.{◌≡◌};
-ghost use Rattle.etcs_tables.specs.Frames.{frame_bits, is_kept};
+ghost use Rattle.std.specs.Prelude.{◌≡◌, ◌≤◌};
+ghost use Rattle.etcs_tables.specs.Frames.{frame_bits, head_bits, kept_limit, is_framed, is_kept, is_direction};
 
 use crate::row::Way;
 use crate::tables::row_of;
+use etcs_vars::Var;
+
+/// The largest L_PACKET.
+pub const MOST_LENGTH: usize = 8191;
+
+/// The bits of packet 0, its NID_PACKET and NID_VBCMK.
+pub const MARKER_BITS: usize = 14;
+
+/// The NID_PACKET that closes a telegram.
+pub const CLOSING: u8 = 255;
+
+/// The bits of packet 255, its NID_PACKET alone.
+pub const CLOSING_BITS: usize = 8;
 
 /// The bits in front of a packet's row: NID_PACKET, Q_DIR to the train, and L_PACKET.
 pub fn frame_bits(way: Way) -> usize
-    ensures { result ≡ frame_bits way }
+    ensures bits { result ≡ frame_bits way }
+    ensures most { result ≤ 23 }
 {
     match way {
         Way::ToTrain => 23,
     }
 }
 
-/// Whether packets of this number are kept as bits: not 0, not 255 and not typed.
+/// The bits in front of L_PACKET.
+pub fn head_bits(way: Way) -> usize
+    ensures { result ≡ head_bits way }
+{
+    match way {
+        Way::ToTrain => 10,
+    }
+}
+
+/// The most bits behind a frame that L_PACKET counts.
+pub fn kept_limit(way: Way) -> usize
+    ensures { result ≡ kept_limit way }
+{
+    MOST_LENGTH - frame_bits(way)
+}
+
+/// Whether packets of this number have a frame.
+pub fn is_framed(way: Way, nid: u8) -> bool
+    ensures { result ≡ is_framed way nid }
+{
+    match way {
+        Way::ToTrain => nid > 0 && nid < CLOSING,
+    }
+}
+
+/// Whether packets of this number are kept as bits: they have a frame and aren't typed.
 pub fn is_kept(way: Way, nid: u8) -> bool
     ensures { result ≡ is_kept way nid }
 {
-    nid > 0 && nid < 255 && row_of(way, nid).is_none()
+    is_framed(way, nid) && row_of(way, nid).is_none()
+}
+
+/// Whether a packet may have this direction.
+pub fn is_direction(way: Way, dir: u8) -> bool
+    ensures { result ≡ is_direction way dir }
+{
+    match way {
+        Way::ToTrain => Var::Q_DIR.admits(u64::from(dir)),
+    }
 }

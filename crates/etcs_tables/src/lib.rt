@@ -6,7 +6,10 @@ mod item;
 mod row;
 mod tables;
 
-pub use frame::{frame_bits, is_kept};
+pub use frame::{
+    CLOSING, CLOSING_BITS, MARKER_BITS, MOST_LENGTH, frame_bits, head_bits, is_direction,
+    is_framed, is_kept, kept_limit,
+};
 pub use item::{Guard, RowItem, Test};
 pub use row::{Row, Way};
 pub use tables::{message_bits, message_ranges, message_row, row_of};

@@ -11,357 +11,112 @@ use crate::item::{Guard, RowItem, Test};
 use crate::row::{Row, Way};
 use etcs_vars::Var;
 
-// ---- Guards.
+/// One item of a row: a variable, `(V TEST n)` where the next n items are there if V passes the test, or `[n]` where
+/// they are there as often as the variable before says.
+macro_rules! item {
+    ($var:ident) => { One(Var::$var) };
+    (($var:ident $test:ident $count:literal)) => {
+        When(Guard { var: Var::$var, test: Test::$test }, $count)
+    };
+    ([$count:literal]) => { Many($count) };
+}
 
-const NEW_COUNTRY: Guard = Guard {
-    var: Var::Q_NEWCOUNTRY,
-    test: Test::IsOne,
+/// A row of these items.
+macro_rules! row {
+    ($($item:tt)*) => { Row { items: &[$(item!($item)),*] } };
+}
+
+/// A message's bits and lengths, and its row.
+macro_rules! message {
+    ($bits:literal, $lengths:tt $($item:tt)*) => {
+        TypedMessage { items: &[$(item!($item)),*], bits: $bits, lengths: &$lengths }
+    };
+}
+
+// ---- Packets, after NID_PACKET, Q_DIR and L_PACKET.
+
+const NO_VARIABLES: Row = row!();
+
+const SYSTEM_VERSION: Row = row!(M_VERSION);
+
+const LINKING: Row = row! {
+    Q_SCALE D_LINK Q_NEWCOUNTRY (Q_NEWCOUNTRY IsOne 1) NID_C NID_BG Q_LINKORIENTATION
+    Q_LINKREACTION Q_LOCACC N_ITER [8] D_LINK Q_NEWCOUNTRY (Q_NEWCOUNTRY IsOne 1) NID_C NID_BG
+    Q_LINKORIENTATION Q_LINKREACTION Q_LOCACC
 };
 
-const SECTION_TIMER: Guard = Guard {
-    var: Var::Q_SECTIONTIMER,
-    test: Test::IsOne,
+const LEVEL_1_AUTHORITY: Row = row! {
+    Q_SCALE V_MAIN V_LOA T_LOA N_ITER [5] L_SECTION Q_SECTIONTIMER (Q_SECTIONTIMER IsOne 2)
+    T_SECTIONTIMER D_SECTIONTIMERSTOPLOC L_ENDSECTION Q_SECTIONTIMER (Q_SECTIONTIMER IsOne 2)
+    T_SECTIONTIMER D_SECTIONTIMERSTOPLOC Q_ENDTIMER (Q_ENDTIMER IsOne 2) T_ENDTIMER
+    D_ENDTIMERSTARTLOC Q_DANGERPOINT (Q_DANGERPOINT IsOne 2) D_DP V_RELEASEDP Q_OVERLAP
+    (Q_OVERLAP IsOne 4) D_STARTOL T_OL D_OL V_RELEASEOL
 };
 
-const END_TIMER: Guard = Guard {
-    var: Var::Q_ENDTIMER,
-    test: Test::IsOne,
+const LEVEL_2_3_AUTHORITY: Row = row! {
+    Q_SCALE V_LOA T_LOA N_ITER [5] L_SECTION Q_SECTIONTIMER (Q_SECTIONTIMER IsOne 2) T_SECTIONTIMER
+    D_SECTIONTIMERSTOPLOC L_ENDSECTION Q_SECTIONTIMER (Q_SECTIONTIMER IsOne 2) T_SECTIONTIMER
+    D_SECTIONTIMERSTOPLOC Q_ENDTIMER (Q_ENDTIMER IsOne 2) T_ENDTIMER D_ENDTIMERSTARTLOC
+    Q_DANGERPOINT (Q_DANGERPOINT IsOne 2) D_DP V_RELEASEDP Q_OVERLAP (Q_OVERLAP IsOne 4) D_STARTOL
+    T_OL D_OL V_RELEASEOL
 };
 
-const DANGER_POINT: Guard = Guard {
-    var: Var::Q_DANGERPOINT,
-    test: Test::IsOne,
+const REPOSITIONING: Row = row!(Q_SCALE L_SECTION);
+
+const GRADIENT: Row = row!(Q_SCALE D_GRADIENT Q_GDIR G_A N_ITER [3] D_GRADIENT Q_GDIR G_A);
+
+const SPEED_PROFILE: Row = row! {
+    Q_SCALE D_STATIC V_STATIC Q_FRONT N_ITER [6] Q_DIFF (Q_DIFF IsZero 1) NC_CDDIFF
+    (Q_DIFF IsOneOrTwo 1) NC_DIFF V_DIFF N_ITER [11] D_STATIC V_STATIC Q_FRONT N_ITER [6] Q_DIFF
+    (Q_DIFF IsZero 1) NC_CDDIFF (Q_DIFF IsOneOrTwo 1) NC_DIFF V_DIFF
 };
 
-const OVERLAP: Guard = Guard {
-    var: Var::Q_OVERLAP,
-    test: Test::IsOne,
+const LEVEL_ORDER: Row = row! {
+    Q_SCALE D_LEVELTR M_LEVELTR (M_LEVELTR IsOne 1) NID_NTC L_ACKLEVELTR N_ITER [4] M_LEVELTR
+    (M_LEVELTR IsOne 1) NID_NTC L_ACKLEVELTR
 };
 
-const CANT_DEFICIENCY: Guard = Guard {
-    var: Var::Q_DIFF,
-    test: Test::IsZero,
+const SESSION_MANAGEMENT: Row = row!(Q_RBC NID_C NID_RBC NID_RADIO Q_SLEEPSESSION);
+
+const RADIO_NETWORK: Row = row!(NID_MN);
+
+const CONDITIONAL_LEVEL_ORDER: Row = row! {
+    M_LEVELTR (M_LEVELTR IsOne 1) NID_NTC N_ITER [3] M_LEVELTR (M_LEVELTR IsOne 1) NID_NTC
 };
 
-const OTHER_CATEGORY: Guard = Guard {
-    var: Var::Q_DIFF,
-    test: Test::IsOneOrTwo,
+const TEMPORARY_RESTRICTION: Row = row!(Q_SCALE NID_TSR D_TSR L_TSR Q_FRONT V_TSR);
+
+const RESTRICTION_REVOCATION: Row = row!(NID_TSR);
+
+const PLAIN_TEXT: Row = row! {
+    Q_SCALE Q_TEXTCLASS Q_TEXTDISPLAY D_TEXTDISPLAY M_MODETEXTDISPLAY M_LEVELTEXTDISPLAY
+    (M_LEVELTEXTDISPLAY IsOne 1) NID_NTC L_TEXTDISPLAY T_TEXTDISPLAY M_MODETEXTDISPLAY
+    M_LEVELTEXTDISPLAY (M_LEVELTEXTDISPLAY IsOne 1) NID_NTC Q_TEXTCONFIRM
+    (Q_TEXTCONFIRM IsNotZero 6) Q_CONFTEXTDISPLAY Q_TEXTREPORT (Q_TEXTREPORT IsOne 3)
+    NID_TEXTMESSAGE NID_C NID_RBC L_TEXT [1] X_TEXT
 };
 
-const LEVEL_NTC: Guard = Guard {
-    var: Var::M_LEVELTR,
-    test: Test::IsOne,
+const FIXED_TEXT: Row = row! {
+    Q_SCALE Q_TEXTCLASS Q_TEXTDISPLAY D_TEXTDISPLAY M_MODETEXTDISPLAY M_LEVELTEXTDISPLAY
+    (M_LEVELTEXTDISPLAY IsOne 1) NID_NTC L_TEXTDISPLAY T_TEXTDISPLAY M_MODETEXTDISPLAY
+    M_LEVELTEXTDISPLAY (M_LEVELTEXTDISPLAY IsOne 1) NID_NTC Q_TEXTCONFIRM
+    (Q_TEXTCONFIRM IsNotZero 6) Q_CONFTEXTDISPLAY Q_TEXTREPORT (Q_TEXTREPORT IsOne 3)
+    NID_TEXTMESSAGE NID_C NID_RBC Q_TEXT
 };
 
-const TEXT_LEVEL_NTC: Guard = Guard {
-    var: Var::M_LEVELTEXTDISPLAY,
-    test: Test::IsOne,
-};
+const DANGER_FOR_SHUNTING: Row = row!(Q_ASPECT);
 
-const CONFIRMED: Guard = Guard {
-    var: Var::Q_TEXTCONFIRM,
-    test: Test::IsNotZero,
-};
+const INFILL_LOCATION: Row = row!(Q_NEWCOUNTRY (Q_NEWCOUNTRY IsOne 1) NID_C NID_BG);
 
-const REPORTED: Guard = Guard {
-    var: Var::Q_TEXTREPORT,
-    test: Test::IsOne,
-};
+const STOP_IN_SR: Row = row!(Q_SRSTOP);
 
-// ---- Packets, behind NID_PACKET, Q_DIR and L_PACKET.
+const TRAIN_RUNNING_NUMBER: Row = row!(NID_OPERATIONAL);
 
-const NO_VARIABLES: Row = Row { items: &[] };
-
-const SYSTEM_VERSION: Row = Row {
-    items: &[One(Var::M_VERSION)],
-};
-
-const LINKING: Row = Row {
-    items: &[
-        One(Var::Q_SCALE),
-        One(Var::D_LINK),
-        One(Var::Q_NEWCOUNTRY),
-        When(NEW_COUNTRY, 1),
-        One(Var::NID_C),
-        One(Var::NID_BG),
-        One(Var::Q_LINKORIENTATION),
-        One(Var::Q_LINKREACTION),
-        One(Var::Q_LOCACC),
-        One(Var::N_ITER),
-        Many(8),
-        One(Var::D_LINK),
-        One(Var::Q_NEWCOUNTRY),
-        When(NEW_COUNTRY, 1),
-        One(Var::NID_C),
-        One(Var::NID_BG),
-        One(Var::Q_LINKORIENTATION),
-        One(Var::Q_LINKREACTION),
-        One(Var::Q_LOCACC),
-    ],
-};
-
-const LEVEL_1_AUTHORITY: Row = Row {
-    items: &[
-        One(Var::Q_SCALE),
-        One(Var::V_MAIN),
-        One(Var::V_LOA),
-        One(Var::T_LOA),
-        One(Var::N_ITER),
-        Many(5),
-        One(Var::L_SECTION),
-        One(Var::Q_SECTIONTIMER),
-        When(SECTION_TIMER, 2),
-        One(Var::T_SECTIONTIMER),
-        One(Var::D_SECTIONTIMERSTOPLOC),
-        One(Var::L_ENDSECTION),
-        One(Var::Q_SECTIONTIMER),
-        When(SECTION_TIMER, 2),
-        One(Var::T_SECTIONTIMER),
-        One(Var::D_SECTIONTIMERSTOPLOC),
-        One(Var::Q_ENDTIMER),
-        When(END_TIMER, 2),
-        One(Var::T_ENDTIMER),
-        One(Var::D_ENDTIMERSTARTLOC),
-        One(Var::Q_DANGERPOINT),
-        When(DANGER_POINT, 2),
-        One(Var::D_DP),
-        One(Var::V_RELEASEDP),
-        One(Var::Q_OVERLAP),
-        When(OVERLAP, 4),
-        One(Var::D_STARTOL),
-        One(Var::T_OL),
-        One(Var::D_OL),
-        One(Var::V_RELEASEOL),
-    ],
-};
-
-const LEVEL_2_3_AUTHORITY: Row = Row {
-    items: &[
-        One(Var::Q_SCALE),
-        One(Var::V_LOA),
-        One(Var::T_LOA),
-        One(Var::N_ITER),
-        Many(5),
-        One(Var::L_SECTION),
-        One(Var::Q_SECTIONTIMER),
-        When(SECTION_TIMER, 2),
-        One(Var::T_SECTIONTIMER),
-        One(Var::D_SECTIONTIMERSTOPLOC),
-        One(Var::L_ENDSECTION),
-        One(Var::Q_SECTIONTIMER),
-        When(SECTION_TIMER, 2),
-        One(Var::T_SECTIONTIMER),
-        One(Var::D_SECTIONTIMERSTOPLOC),
-        One(Var::Q_ENDTIMER),
-        When(END_TIMER, 2),
-        One(Var::T_ENDTIMER),
-        One(Var::D_ENDTIMERSTARTLOC),
-        One(Var::Q_DANGERPOINT),
-        When(DANGER_POINT, 2),
-        One(Var::D_DP),
-        One(Var::V_RELEASEDP),
-        One(Var::Q_OVERLAP),
-        When(OVERLAP, 4),
-        One(Var::D_STARTOL),
-        One(Var::T_OL),
-        One(Var::D_OL),
-        One(Var::V_RELEASEOL),
-    ],
-};
-
-const REPOSITIONING: Row = Row {
-    items: &[One(Var::Q_SCALE), One(Var::L_SECTION)],
-};
-
-const GRADIENT: Row = Row {
-    items: &[
-        One(Var::Q_SCALE),
-        One(Var::D_GRADIENT),
-        One(Var::Q_GDIR),
-        One(Var::G_A),
-        One(Var::N_ITER),
-        Many(3),
-        One(Var::D_GRADIENT),
-        One(Var::Q_GDIR),
-        One(Var::G_A),
-    ],
-};
-
-const SPEED_PROFILE: Row = Row {
-    items: &[
-        One(Var::Q_SCALE),
-        One(Var::D_STATIC),
-        One(Var::V_STATIC),
-        One(Var::Q_FRONT),
-        One(Var::N_ITER),
-        Many(6),
-        One(Var::Q_DIFF),
-        When(CANT_DEFICIENCY, 1),
-        One(Var::NC_CDDIFF),
-        When(OTHER_CATEGORY, 1),
-        One(Var::NC_DIFF),
-        One(Var::V_DIFF),
-        One(Var::N_ITER),
-        Many(11),
-        One(Var::D_STATIC),
-        One(Var::V_STATIC),
-        One(Var::Q_FRONT),
-        One(Var::N_ITER),
-        Many(6),
-        One(Var::Q_DIFF),
-        When(CANT_DEFICIENCY, 1),
-        One(Var::NC_CDDIFF),
-        When(OTHER_CATEGORY, 1),
-        One(Var::NC_DIFF),
-        One(Var::V_DIFF),
-    ],
-};
-
-const LEVEL_ORDER: Row = Row {
-    items: &[
-        One(Var::Q_SCALE),
-        One(Var::D_LEVELTR),
-        One(Var::M_LEVELTR),
-        When(LEVEL_NTC, 1),
-        One(Var::NID_NTC),
-        One(Var::L_ACKLEVELTR),
-        One(Var::N_ITER),
-        Many(4),
-        One(Var::M_LEVELTR),
-        When(LEVEL_NTC, 1),
-        One(Var::NID_NTC),
-        One(Var::L_ACKLEVELTR),
-    ],
-};
-
-const SESSION_MANAGEMENT: Row = Row {
-    items: &[
-        One(Var::Q_RBC),
-        One(Var::NID_C),
-        One(Var::NID_RBC),
-        One(Var::NID_RADIO),
-        One(Var::Q_SLEEPSESSION),
-    ],
-};
-
-const RADIO_NETWORK: Row = Row {
-    items: &[One(Var::NID_MN)],
-};
-
-const CONDITIONAL_LEVEL_ORDER: Row = Row {
-    items: &[
-        One(Var::M_LEVELTR),
-        When(LEVEL_NTC, 1),
-        One(Var::NID_NTC),
-        One(Var::N_ITER),
-        Many(3),
-        One(Var::M_LEVELTR),
-        When(LEVEL_NTC, 1),
-        One(Var::NID_NTC),
-    ],
-};
-
-const TEMPORARY_RESTRICTION: Row = Row {
-    items: &[
-        One(Var::Q_SCALE),
-        One(Var::NID_TSR),
-        One(Var::D_TSR),
-        One(Var::L_TSR),
-        One(Var::Q_FRONT),
-        One(Var::V_TSR),
-    ],
-};
-
-const RESTRICTION_REVOCATION: Row = Row {
-    items: &[One(Var::NID_TSR)],
-};
-
-const PLAIN_TEXT: Row = Row {
-    items: &[
-        One(Var::Q_SCALE),
-        One(Var::Q_TEXTCLASS),
-        One(Var::Q_TEXTDISPLAY),
-        One(Var::D_TEXTDISPLAY),
-        One(Var::M_MODETEXTDISPLAY),
-        One(Var::M_LEVELTEXTDISPLAY),
-        When(TEXT_LEVEL_NTC, 1),
-        One(Var::NID_NTC),
-        One(Var::L_TEXTDISPLAY),
-        One(Var::T_TEXTDISPLAY),
-        One(Var::M_MODETEXTDISPLAY),
-        One(Var::M_LEVELTEXTDISPLAY),
-        When(TEXT_LEVEL_NTC, 1),
-        One(Var::NID_NTC),
-        One(Var::Q_TEXTCONFIRM),
-        When(CONFIRMED, 6),
-        One(Var::Q_CONFTEXTDISPLAY),
-        One(Var::Q_TEXTREPORT),
-        When(REPORTED, 3),
-        One(Var::NID_TEXTMESSAGE),
-        One(Var::NID_C),
-        One(Var::NID_RBC),
-        One(Var::L_TEXT),
-        Many(1),
-        One(Var::X_TEXT),
-    ],
-};
-
-const FIXED_TEXT: Row = Row {
-    items: &[
-        One(Var::Q_SCALE),
-        One(Var::Q_TEXTCLASS),
-        One(Var::Q_TEXTDISPLAY),
-        One(Var::D_TEXTDISPLAY),
-        One(Var::M_MODETEXTDISPLAY),
-        One(Var::M_LEVELTEXTDISPLAY),
-        When(TEXT_LEVEL_NTC, 1),
-        One(Var::NID_NTC),
-        One(Var::L_TEXTDISPLAY),
-        One(Var::T_TEXTDISPLAY),
-        One(Var::M_MODETEXTDISPLAY),
-        One(Var::M_LEVELTEXTDISPLAY),
-        When(TEXT_LEVEL_NTC, 1),
-        One(Var::NID_NTC),
-        One(Var::Q_TEXTCONFIRM),
-        When(CONFIRMED, 6),
-        One(Var::Q_CONFTEXTDISPLAY),
-        One(Var::Q_TEXTREPORT),
-        When(REPORTED, 3),
-        One(Var::NID_TEXTMESSAGE),
-        One(Var::NID_C),
-        One(Var::NID_RBC),
-        One(Var::Q_TEXT),
-    ],
-};
-
-const DANGER_FOR_SHUNTING: Row = Row {
-    items: &[One(Var::Q_ASPECT)],
-};
-
-const INFILL_LOCATION: Row = Row {
-    items: &[
-        One(Var::Q_NEWCOUNTRY),
-        When(NEW_COUNTRY, 1),
-        One(Var::NID_C),
-        One(Var::NID_BG),
-    ],
-};
-
-const STOP_IN_SR: Row = Row {
-    items: &[One(Var::Q_SRSTOP)],
-};
-
-const TRAIN_RUNNING_NUMBER: Row = Row {
-    items: &[One(Var::NID_OPERATIONAL)],
-};
-
-const RESTRICTION_GRADIENT: Row = Row {
-    items: &[One(Var::Q_GDIR), One(Var::G_TSR)],
-};
+const RESTRICTION_GRADIENT: Row = row!(Q_GDIR G_TSR);
 
 /// A typed message.
 struct TypedMessage {
-    /// The variables of its own, behind the header.
+    /// The variables of its own, after the header.
     items: &'static [RowItem],
     /// How many bits they take.
     bits: usize,
@@ -369,51 +124,23 @@ struct TypedMessage {
     lengths: &'static [(u64, u64)],
 }
 
-// ---- Messages to the train, behind a header of 75 bits.
+// ---- Messages to the train, after a header of 75 bits.
 
-static PLAIN_MESSAGE: TypedMessage = TypedMessage {
-    items: &[],
-    bits: 0,
-    lengths: &[(10, 10), (13, 1023)],
-};
+static PLAIN_MESSAGE: TypedMessage = message!(0, [(10, 10), (13, 1023)]);
 
-static SR_AUTHORISATION: TypedMessage = TypedMessage {
-    items: &[One(Var::Q_SCALE), One(Var::D_SR)],
-    bits: 17,
-    lengths: &[(12, 12), (15, 1023)],
-};
+static SR_AUTHORISATION: TypedMessage = message!(17, [(12, 12), (15, 1023)] Q_SCALE D_SR);
 
-static TRAIN_TIME: TypedMessage = TypedMessage {
-    items: &[One(Var::T_TRAIN)],
-    bits: 32,
-    lengths: &[(14, 14), (17, 1023)],
-};
+static TRAIN_TIME: TypedMessage = message!(32, [(14, 14), (17, 1023)] T_TRAIN);
 
-static EMERGENCY: TypedMessage = TypedMessage {
-    items: &[One(Var::NID_EM)],
-    bits: 4,
-    lengths: &[(10, 10), (13, 1023)],
-};
+static EMERGENCY: TypedMessage = message!(4, [(10, 10), (13, 1023)] NID_EM);
 
-static MESSAGE_VERSION: TypedMessage = TypedMessage {
-    items: &[One(Var::M_VERSION)],
-    bits: 7,
-    lengths: &[(11, 11), (14, 1023)],
-};
+static MESSAGE_VERSION: TypedMessage = message!(7, [(11, 11), (14, 1023)] M_VERSION);
 
-static SHIFTED_LOCATION: TypedMessage = TypedMessage {
-    items: &[One(Var::Q_SCALE), One(Var::D_REF)],
-    bits: 18,
-    lengths: &[(12, 12), (15, 1023)],
-};
+static SHIFTED_LOCATION: TypedMessage = message!(18, [(12, 12), (15, 1023)] Q_SCALE D_REF);
 
-static ORIENTATION: TypedMessage = TypedMessage {
-    items: &[One(Var::Q_ORIENTATION)],
-    bits: 1,
-    lengths: &[(10, 10), (13, 1023)],
-};
+static ORIENTATION: TypedMessage = message!(1, [(10, 10), (13, 1023)] Q_ORIENTATION);
 
-/// The row of a packet: what stands behind its NID_PACKET, Q_DIR and L_PACKET (SUBSET-026, 7.4).
+/// The row of a packet: what comes after its NID_PACKET, Q_DIR and L_PACKET (SUBSET-026, 7.4).
 /// `None` exactly where the number isn't typed; 0 and 255 aren't.
 pub fn row_of(way: Way, nid: u8) -> Option<Row>
     ensures { option_map (λ row. row.items.now) result ≡ option_map items (row_to way nid) }
@@ -453,7 +180,7 @@ fn row_to_train(nid: u8) -> Option<Row>
     }
 }
 
-/// The row of a message: the variables of its own, behind the header (SUBSET-026, 8).
+/// The row of a message: the variables of its own, after the header (SUBSET-026, 8).
 /// `None` exactly where the number isn't typed.
 pub fn message_row(way: Way, nid: u8) -> Option<Row>
     ensures { option_map (λ row. row.items.now) result ≡ option_map items (message_row_to way nid) }
@@ -474,7 +201,7 @@ pub fn message_bits(way: Way, nid: u8) -> Option<usize>
 
 /// The numbers of bytes, L_MESSAGE, that a message of this number may have, as ranges with both ends.
 pub fn message_ranges(way: Way, nid: u8) -> &'static [(u64, u64)]
-    ensures { result.now ≡ lengths_behind (message_row_to way nid) }
+    ensures { result.now ≡ lengths_behind way (message_row_to way nid) }
 {
     match typed_message(way, nid) {
         Some(message) => message.lengths,
@@ -487,8 +214,8 @@ fn typed_message(way: Way, nid: u8) -> Option<&'static TypedMessage>
     ensures row { option_map (λ message. message.now.items.now) result ≡ option_map items (message_row_to way nid) }
     ensures bits { option_map (λ message. message.now.bits) result ≡ option_map row_bits (message_row_to way nid) }
     ensures sound { IfSome result (λ message. IsTrue (is_sound (layout message.now.items.now))) }
-    ensures some { IfSome result (λ message. lengths_behind (message_row_to way nid) ≡ message.now.lengths.now) }
-    ensures none { IfNone result (lengths_behind (message_row_to way nid) ≡ (3, 1023) ∷ []) }
+    ensures some { IfSome result (λ message. lengths_behind way (message_row_to way nid) ≡ message.now.lengths.now) }
+    ensures none { IfNone result (lengths_behind way (message_row_to way nid) ≡ (3, 1023) ∷ []) }
 {
     match way {
         Way::ToTrain => message_to_train(nid),
@@ -500,8 +227,8 @@ fn message_to_train(nid: u8) -> Option<&'static TypedMessage>
     ensures row { option_map (λ message. message.now.items.now) result ≡ option_map items (message_row_to Way.ToTrain nid) }
     ensures bits { option_map (λ message. message.now.bits) result ≡ option_map row_bits (message_row_to Way.ToTrain nid) }
     ensures sound { IfSome result (λ message. IsTrue (is_sound (layout message.now.items.now))) }
-    ensures some { IfSome result (λ message. lengths_behind (message_row_to Way.ToTrain nid) ≡ message.now.lengths.now) }
-    ensures none { IfNone result (lengths_behind (message_row_to Way.ToTrain nid) ≡ (3, 1023) ∷ []) }
+    ensures some { IfSome result (λ message. lengths_behind Way.ToTrain (message_row_to Way.ToTrain nid) ≡ message.now.lengths.now) }
+    ensures none { IfNone result (lengths_behind Way.ToTrain (message_row_to Way.ToTrain nid) ≡ (3, 1023) ∷ []) }
 {
     match nid {
         2 => Some(&SR_AUTHORISATION),

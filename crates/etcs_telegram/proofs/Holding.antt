@@ -6,9 +6,10 @@ use Rattle.std.proofs.lemmas.List.Elements.{All-nil}
 use Rattle.etcs_vars.specs.declared.var.Var.{Var}
 use Rattle.etcs_vars.specs.Reading.{Reading}
 use Rattle.etcs_rows.specs.declared.frames.Carrier.{Carrier}
+use Rattle.etcs_rows.specs.Frames.{way_of}
 use Rattle.etcs_packets.specs.declared.packet.Packet.{Packet}
 use Rattle.etcs_packets.specs.PacketValues.{packet_value, IsPacket, IsMade}
-use Rattle.etcs_packets.specs.PacketReadings.{packets_reading}
+use Rattle.etcs_packets.specs.PacketReadings.{readings_to, packets_reading}
 use Rattle.etcs_sequence.specs.Contents.{Carries}
 use Rattle.etcs_sequence.specs.Runs.{Begun}
 use Rattle.etcs_reader.specs.Rests.{Goes}
@@ -36,9 +37,9 @@ members_of size (Header at) header l ps f k q x stands next g (is, h) =
     inl (header, is, omega (arith, same, less), ps_is, f_is, k_is)
 members_of size Packets header l ps f k q x stands next g (r, e, (vs, m, b, h, (vs_is, (made, (m_is, b_is))), carried, here, e')) =
     let both = and_parts (length header == 10) (is_open l) stands in
-    let first = chain_first (left_of l.carrier l.room l.stage) (FillBy size (ahead l.room l.stage)) g in
+    let first = chain_first (left_of l.carrier l.room l.stage) (FillBy size (ahead l.carrier l.room l.stage)) g in
     let begun : Begun h m b = begun_of l.carrier l.room l.stage m b h l.stands (opens l both.1).1 first here in
-    let whole = e ∙ ap (λ (t : Reading). labelled header_row header ++ t) (e' ∙ ap (λ v. packets_reading v ++ h) vs_is) in
+    let whole = e ∙ ap (λ (t : Reading). labelled header_row header ++ t) (e' ∙ ap (λ (d : Carrier). readings_to (way_of d) vs ++ h) (opens l both.1).0 ∙ ap (λ v. packets_reading v ++ h) vs_is) in
     inr (inl (header, h, eqb-true (length header) 10 both.0, whole, subst (λ (t : List Bool). Begun h f t) b_is (subst (λ (t : List ℕ). Begun h t b) m_is begun)))
 members_of size (Fill left) header l ps f k q x stands next g h = inr (inr (header, 0, h.ten, filled_far header ps f k left l.room 0 q h, sym h.held.1.1.0))
 members_of size (Pad left) header l ps f k q x stands next g (pad, e, h) = inr (inr (header, pad, h.ten, filled_far header ps f k 0 l.room pad q h, sym h.held.1.1.0))

@@ -19,7 +19,7 @@ use Rattle.etcs_packets.specs.PacketReadings.{frame, packet_reading, packets_rea
 use Rattle.etcs_packets.specs.laws.PacketReadings.{length-kept}
 use Rattle.etcs_sequence.specs.Runs.{Begun, BegunFrame, BegunRow, BegunKept}
 use Rattle.etcs_sequence.specs.laws.Others.{kept_untyped}
-use Rattle.etcs_sequence.specs.laws.Agreement.{packet_agree, numbered}
+use Rattle.etcs_sequence.specs.laws.Agreement.{packet_agree, numbered_below}
 use Rattle.etcs_sequence.proofs.OneSpelling.{packet_same}
 use Rattle.etcs_sequence.specs.Labels.{labelled}
 use Rattle.etcs_sequence.proofs.LabelLaws.{labelled_count}
@@ -43,8 +43,8 @@ packets_known (v ∷ vs) (u ∷ us) a b hv hu na nb e =
     let pv = All-head IsPacket v vs hv in
     let pu = All-head IsPacket u us hu in
     let whole = sym (append_assoc (packet_reading v) (packets_reading vs) a) ∙ e ∙ append_assoc (packet_reading u) (packets_reading us) b in
-    let parts = Agree-cut (packet_reading v) (packet_reading u) (packets_reading vs ++ a) (packets_reading us ++ b) (packet_agree v u pv pu) whole in
-    let first = packet_same v u pv pu parts.0 in
+    let parts = Agree-cut (packet_reading v) (packet_reading u) (packets_reading vs ++ a) (packets_reading us ++ b) (packet_agree ToTrain v u pv pu) whole in
+    let first = packet_same ToTrain v u pv pu parts.0 in
     let rest = packets_known vs us a b (All-tail IsPacket v vs hv) (All-tail IsPacket u us hu) na nb parts.1 in
     (rw (first, rest.0) refl, rest.1)
 
@@ -71,7 +71,7 @@ framed_unpacked nid dir bits t less (packets.kept nid' dir' k) q h e =
 
 -- at most two variables
 short_unpacked : (r : Reading) → BegunFrame r → NoPacket r
-short_unpacked r (inl none) v q h e = let (n, t, is, less) = numbered v h in let two : ◌≡◌ {A = Reading} [] ((NID_PACKET, n) ∷ (t ++ q)) = sym none ∙ e ∙ ap (λ (u : Reading). u ++ q) is in absurd cc
+short_unpacked r (inl none) v q h e = let (n, t, is, less) = numbered_below v h in let two : ◌≡◌ {A = Reading} [] ((NID_PACKET, n) ∷ (t ++ q)) = sym none ∙ e ∙ ap (λ (u : Reading). u ++ q) is in absurd cc
 short_unpacked r (inr (inl (nid, one))) (packets.marker n) q h e = let two = sent_parts NID_PACKET NID_PACKET nid 0 [] ((NID_VBCMK, n) ∷ q) (sym one ∙ e) in let three = two.2 in absurd cc
 short_unpacked r (inr (inl (nid, one))) (packets.typed nid' dir x) q h e = let two = sent_parts NID_PACKET NID_PACKET nid nid' [] ((Q_DIR, dir) ∷ (L_PACKET, 23 + length (spelled x)) ∷ (x ++ q)) (sym one ∙ e) in let three = two.2 in absurd cc
 short_unpacked r (inr (inl (nid, one))) (packets.kept nid' dir k) q h e = let two = sent_parts NID_PACKET NID_PACKET nid nid' [] ((Q_DIR, dir) ∷ (L_PACKET, 23 + length k) ∷ (kept OTHER_DATA k ++ q)) (sym one ∙ e) in let three = two.2 in absurd cc
@@ -97,7 +97,7 @@ begun_unpacked r f k (inr (inr ((nid, dir, n, is, less, other), e))) = λ v t h 
 -- nor is packet 255
 closed_unpacked : (t : Reading) → NoPacket ((NID_PACKET, 255) ∷ t)
 closed_unpacked t v q h e =
-    let (n, r, is, less) = numbered v h in
+    let (n, r, is, less) = numbered_below v h in
     let parts = sent_parts NID_PACKET NID_PACKET 255 n t (r ++ q) (e ∙ ap (λ (u : Reading). u ++ q) is) in
     omega (arith, parts.1, less)
 
@@ -118,7 +118,7 @@ typed_kept nid nid' same typed other = by_row (row_to ToTrain nid) refl typed
   where
     by_row : (o : Option Layout) → row_to ToTrain nid ≡ o → IsTrue (is_some o) → ⊥
     by_row None e t = absurd cc
-    by_row (Some row) e t = kept_untyped nid' row other (ap (row_to ToTrain) (sym same) ∙ e)
+    by_row (Some row) e t = kept_untyped ToTrain nid' row other (ap (row_to ToTrain) (sym same) ∙ e)
 
 rows_known : (r : Reading) (f g : List ℕ) → BegunRow r f → BegunRow r g → f ≡ g
 rows_known r f g (nid, dir, n, q, is, same, less, typed) (nid', dir', n', q', is', same', less', typed') =

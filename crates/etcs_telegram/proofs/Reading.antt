@@ -26,23 +26,23 @@ abbrev Kept : Type 0
 Kept = TelegramRest PacketList list.ghosts
 
 abbrev left : Kept → Reading → Type 0
-left s = left_at s.size s.stage s.packets.left
+left s = left_at s.size s.phase s.packets.left
 
 abbrev next : Kept → Option Var
-next s = next_at s.stage s.packets.left
+next s = next_at s.phase s.packets.left
 
 abbrev holds : Size → Kept → Reading → Type 0
-holds own s = OwnHeld own s.size s.stage s.header.items s.packets.left s.packets.store
+holds own s = OwnHeld own s.size s.phase s.header.items s.packets.left s.packets.store
 
 abbrev follows : Kept → Reading → Kept → Type 0
-follows s p t = Follows s.size s.stage s.header.items s.packets.left (list_holds s.packets.store.packets.items s.packets.store.numbers.items s.packets.store.bits) p t.size t.stage t.header.items t.packets.left (list_holds t.packets.store.packets.items t.packets.store.numbers.items t.packets.store.bits)
+follows s p t = Follows s.size s.phase s.header.items s.packets.left (list_holds s.packets.store.packets.items s.packets.store.numbers.items s.packets.store.bits) p t.size t.phase t.header.items t.packets.left (list_holds t.packets.store.packets.items t.packets.store.numbers.items t.packets.store.bits)
 
 abbrev fails : Kept → Type 0
-fails s = Unit {0} × IsTrue (may_ask s.stage s.packets.left)
+fails s = Unit {0} × IsTrue (may_ask s.phase s.packets.left)
 
 -- the variables so far
 abbrev far : Kept → Reading
-far s = so_far s.size s.stage s.header.items s.packets.left s.packets.store
+far s = so_far s.size s.phase s.header.items s.packets.left s.packets.store
 
 -- the telegram, where nothing is left
 abbrev made : Kept → TelegramParts
@@ -79,14 +79,14 @@ telegrams size = record {
   bytes = bytes_of size;
   room = small size;
   long = some_bits size;
-  begins_with = λ s x e. rest_begins s.size s.packets.left s.stage (length s.header.items) s.stands x e;
-  ended = λ s e. rest_ended s.size s.stage (length s.header.items) s.packets.left s.stands e;
+  begins_with = λ s x e. rest_begins s.size s.packets.left s.phase (length s.header.items) s.stands x e;
+  ended = λ s e. rest_ended s.size s.phase (length s.header.items) s.packets.left s.stands e;
   residual = λ s t p h. h.residual;
   held = λ s t p q h k. (h.same ∙ k.0, h.held q k.1);
-  far_is = λ s q g h. far_is s.size s.stage s.header.items s.packets.left s.packets.store q g h.1;
-  starved = λ s q f h. far_long s.size s.stage s.header.items s.packets.left (list_holds s.packets.store.packets.items s.packets.store.numbers.items s.packets.store.bits) q s.stands f.1 h.1;
-  asks = λ s q x e g f h. next_asks s.size s.stage s.header.items s.packets.left (list_holds s.packets.store.packets.items s.packets.store.numbers.items s.packets.store.bits) q x f.1 h.1 g e;
-  whole = λ s e l h. (let is = finished_is size s.size s.stage s.header.items s.packets.left s.packets.store s.stands e l h in (is.telegram, is.reads));
+  far_is = λ s q g h. far_is s.size s.phase s.header.items s.packets.left s.packets.store q g h.1;
+  starved = λ s q f h. far_long s.size s.phase s.header.items s.packets.left (list_holds s.packets.store.packets.items s.packets.store.numbers.items s.packets.store.bits) q s.stands f.1 h.1;
+  asks = λ s q x e g f h. next_asks s.size s.phase s.header.items s.packets.left (list_holds s.packets.store.packets.items s.packets.store.numbers.items s.packets.store.bits) q x f.1 h.1 g e;
+  whole = λ s e l h. (let is = finished_is size s.size s.phase s.header.items s.packets.left s.packets.store s.stands e l h in (is.telegram, is.reads));
   counted = bits_counted size;
-  members = λ s part x e g h short whole. (let k = s.packets.store in members_at s.size s.stage s.header.items s.packets.left k.packets.items k.numbers.items k.bits (far s) x s.stands e g h.1);
+  members = λ s part x e g h short whole. (let k = s.packets.store in members_at s.size s.phase s.header.items s.packets.left k.packets.items k.numbers.items k.bits (far s) x s.stands e g h.1);
 }

@@ -7,8 +7,9 @@ use Rattle.etcs_vars.specs.declared.var.Var.TheVariants.{FILL, PAD}
 use Rattle.etcs_vars.specs.Reading.{Reading, kept}
 use Rattle.etcs_rows.specs.declared.frames.Carrier.{Carrier}
 use Rattle.etcs_rows.specs.declared.frames.Carrier.TheVariants.{Telegram}
+use Rattle.etcs_rows.specs.Frames.{way_of}
 use Rattle.etcs_packets.specs.PacketValues.{PacketValue, IsPacket}
-use Rattle.etcs_packets.specs.PacketReadings.{packets_reading}
+use Rattle.etcs_packets.specs.PacketReadings.{readings_to}
 use Rattle.etcs_sequence.specs.Contents.{Carries, closing}
 use Rattle.etcs_reader.specs.Rests.{Starts, Goes}
 use Rattle.etcs_reader.specs.Fields.{first_of}
@@ -50,7 +51,7 @@ telegram_carries vs a = λ i d lt. a i d lt
 closed_held : (header : List ℕ) (c : Carrier) (room : ℕ) (holds : List PacketValue → List ℕ → List Bool → Type 0) (q h : Reading) → length header ≡ 10 → c ≡ Telegram → q ≡ labelled header_row header ++ h → HoldsAt c stage.Closed holds h → Filled header holds room room 0 q
 closed_held header c room holds q h ten same is (vs, f, k, t, held, carried, (no_numbers, no_bits, all), reading) =
     let p = closed_reading vs in
-    let h-is : h ≡ p = reading ∙ ap (λ (x : Reading). packets_reading vs ++ x) (all ∙ ap closing same) in
+    let h-is : h ≡ p = reading ∙ ap (λ (x : Reading). readings_to (way_of c) vs ++ x) (all ∙ ap closing same) ∙ ap (λ (d : Carrier). readings_to (way_of d) vs ++ closing Telegram) same in
     record {
       ten = ten;
       packets = vs;
@@ -82,7 +83,7 @@ packets_held size header l l' holds holds' p ten same h q (t, is, held) =
 packets_fit : (size : Size) (l : PacketsLeft) (holds : List PacketValue → List ℕ → List Bool → Type 0) (q : Reading) → HoldsAt l.carrier l.stage holds q → FillFits (behind_packets size l) holds
 packets_fit size l holds q held =
     by_test (is_closed l.stage) (λ x. FillFits x holds) (after_fill size l.room 0) Packets
-    (λ e. closed_fits size l.carrier l.room holds q (rw (closed_stage l.stage e) at l.small) (rw (closed_stage l.stage e) at held))
+    (λ e. closed_fits size l.carrier l.room holds q l.small (rw (closed_stage l.stage e) at held))
     (λ _. tt)
   where
     closed_fits : (size : Size) (c : Carrier) (room : ℕ) (holds : List PacketValue → List ℕ → List Bool → Type 0) (q : Reading) → room ≤ 8191 → HoldsAt c stage.Closed holds q → FillFits (after_fill size room 0) holds

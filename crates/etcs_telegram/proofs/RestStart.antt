@@ -14,7 +14,7 @@ use Rattle.etcs_telegram.specs.Phases.{FillLeft, PacketsLeft as AllPackets}
 use Rattle.etcs_telegram.specs.Lefts.{PacketsBehind, left_at}
 use Rattle.etcs_telegram.proofs.Ends.{start_to, start_from}
 
-module _ (size : Size) (l : PacketsLeft) (room : ahead l.room l.stage ≡ packet_room size) (same : Same (left_of l.carrier l.room l.stage) (Run Telegram (packet_room size))) where
+module _ (size : Size) (l : PacketsLeft) (room : ahead l.carrier l.room l.stage ≡ packet_room size) (same : Same (left_of l.carrier l.room l.stage) (Run Telegram (packet_room size))) where
   all_packets : Same (PacketsBehind size l) (AllPackets size)
   all_packets r = (
     λ (a, b, e, h, k). (a, b, e, (same a).0 h, subst (λ n. FillLeft size (n - length (spelled a)) b) room k),

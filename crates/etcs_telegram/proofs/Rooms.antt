@@ -8,9 +8,10 @@ use Rattle.etcs_vars.specs.Reading.{Sent, Reading, spelled, kept, Viable}
 use Rattle.etcs_vars.proofs.Apart.{Agree, apart}
 use Rattle.etcs_vars.proofs.Walk.{spelled-append}
 use Rattle.etcs_rows.proofs.LengthLemmas.{length-spelled}
+use Rattle.etcs_tables.specs.declared.row.Way.TheVariants.{ToTrain}
 use Rattle.etcs_packets.specs.PacketValues.{PacketValue, IsPacket}
 use Rattle.etcs_packets.specs.PacketReadings.{packet_reading, packets_reading}
-use Rattle.etcs_sequence.specs.laws.Agreement.{packet_agree, packet_fit, numbered}
+use Rattle.etcs_sequence.specs.laws.Agreement.{packet_agree, packet_fit, numbered_below}
 use Rattle.etcs_telegram.specs.declared.size.Size.{Size}
 use Rattle.etcs_telegram.specs.Telegrams.{HeaderParts, TelegramValue, TelegramReads, TelegramLanguage, RoomRule, IsAdmitted, header_reading, closed_reading, user_bits}
 use Rattle.etcs_telegram.specs.Writing.{telegram_reading}
@@ -27,9 +28,9 @@ numbers_apart n r e = let first : ◌≡◌ {A = Sent} (NID_PACKET, n) (NID_PACK
 
 closed_apart : (v : PacketValue) (c d : List Bool) → IsPacket v → spelled (packet_reading v) ++ c ≡ spelled ((NID_PACKET, 255) ∷ []) ++ d → ⊥
 closed_apart v c d h e =
-    let b = numbered v h in
+    let b = numbered_below v h in
     let same : Agree (packet_reading v) ((NID_PACKET, 255) ∷ []) = rw b.2 (refl, λ f. absurd (let n : b.0 ≡ 255 = ap (λ (p : Sent). p.1) f in omega (arith, n, b.3))) in
-    let parts = apart (packet_reading v) ((NID_PACKET, 255) ∷ []) c d same (packet_fit v h) (omega arith, tt) e in
+    let parts = apart (packet_reading v) ((NID_PACKET, 255) ∷ []) c d same (packet_fit ToTrain v h) (omega arith, tt) e in
     let n = numbers_apart b.0 b.1 (sym b.2 ∙ parts.0) in
     omega (arith, n, b.3)
 
@@ -44,7 +45,7 @@ closed_room (v ∷ vs) (u ∷ us) c d hv hu e =
     let split : closed_reading (u ∷ us) ≡ packet_reading u ++ closed_reading us = append_assoc (packet_reading u) (packets_reading us) ((NID_PACKET, 255) ∷ []) in
     let e' : spelled (packet_reading v) ++ (spelled (packets_reading vs) ++ c) ≡ spelled (packet_reading u) ++ (spelled (closed_reading us) ++ d) =
     sym (both_spelled (packet_reading v) (packets_reading vs) c) ∙ e ∙ ap (λ (r : Reading). spelled r ++ d) split ∙ both_spelled (packet_reading u) (closed_reading us) d in
-    let parts = apart (packet_reading v) (packet_reading u) (spelled (packets_reading vs) ++ c) (spelled (closed_reading us) ++ d) (packet_agree v u iv iu) (packet_fit v iv) (packet_fit u iu) e' in
+    let parts = apart (packet_reading v) (packet_reading u) (spelled (packets_reading vs) ++ c) (spelled (closed_reading us) ++ d) (packet_agree ToTrain v u iv iu) (packet_fit ToTrain v iv) (packet_fit ToTrain u iu) e' in
     let rest = closed_room vs us c d (All-tail IsPacket v vs hv) (All-tail IsPacket u us hu) parts.1 in
     let first : length (spelled (packet_reading v)) ≡ length (spelled (packet_reading u)) = ap (λ (r : Reading). length (spelled r)) parts.0 in
     let l1 = length-spelled (packet_reading v) (packets_reading vs) in

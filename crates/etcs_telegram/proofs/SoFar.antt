@@ -38,7 +38,7 @@ filled_far header ps f k left room pad q h =
 pub far_is : (size : Size) (phase : Phase) (header : List ℕ) (l : PacketsLeft) (store : PacketList) (q : Reading) → Goes (left_at size phase l) → HoldsIn size phase header l (list_holds store.packets.items store.numbers.items store.bits) q → q ≡ so_far size phase header l store
 far_is size (Header at) header l store q g h = h.0
 far_is size Packets header l store q g (r, e, h) =
-    let first = chain_first (left_of l.carrier l.room l.stage) (FillBy size (ahead l.room l.stage)) g in
+    let first = chain_first (left_of l.carrier l.room l.stage) (FillBy size (ahead l.carrier l.room l.stage)) g in
     e ∙ ap (λ (t : Reading). labelled header_row header ++ t) (packets_far l.carrier l.room l.stage store.packets.items store.numbers.items store.bits r first h)
 far_is size (Fill left) header l store q g h = filled_far header store.packets.items store.numbers.items store.bits left l.room 0 q h
 far_is size (Pad left) header l store q g (pad, e, h) =
@@ -65,7 +65,7 @@ far_long size Whole header l holds q stands ask h = absurd cc
 -- the variable that comes next there asks for it
 pub next_asks : (size : Size) (phase : Phase) (header : List ℕ) (l : PacketsLeft) (holds : List PacketValue → List ℕ → List Bool → Type 0) (q : Reading) (x : Var) → IsTrue (may_ask phase l) → HoldsIn size phase header l holds q → Goes (left_at size phase l) → next_at phase l ≡ Some x → IsTrue (asks_memory x)
 next_asks size (Header at) header l holds q x ask h g e = absurd cc
-next_asks size Packets header l holds q x ask (r, is, h) g e = packets_ask l.carrier l.room l.stage holds r ask h (chain_first (left_of l.carrier l.room l.stage) (FillBy size (ahead l.room l.stage)) g) x e
+next_asks size Packets header l holds q x ask (r, is, h) g e = packets_ask l.carrier l.room l.stage holds r ask h (chain_first (left_of l.carrier l.room l.stage) (FillBy size (ahead l.carrier l.room l.stage)) g) x e
 next_asks size (Fill left) header l holds q x ask h g e = let same : FILL ≡ x = cc in subst (λ (v : Var). IsTrue (asks_memory v)) same refl
 next_asks size (Pad left) header l holds q x ask h g e = absurd cc
 next_asks size Whole header l holds q x ask h g e = absurd cc

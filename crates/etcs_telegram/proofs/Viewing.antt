@@ -16,6 +16,7 @@ use Rattle.etcs_vars.proofs.Outcomes.{viable_front}
 use Rattle.etcs_vars.proofs.Walk.{spelled-append}
 use Rattle.etcs_rows.specs.declared.frames.Carrier.TheVariants as carrier
 use Rattle.etcs_rows.proofs.LengthLemmas.{length-spelled}
+use Rattle.etcs_tables.specs.declared.row.Way.TheVariants.{ToTrain}
 use Rattle.etcs_packets.specs.PacketValues.{PacketValue}
 use Rattle.etcs_packets.specs.PacketReadings.{packet_reading, packets_reading}
 use Rattle.etcs_packets.specs.laws.PacketReadings.{packet_bits}
@@ -59,7 +60,7 @@ refused_bit size L same front b i n count x none start place r =
 -- each packet has bits
 packets_long : (vs : List PacketValue) → length vs ≤ length (spelled (packets_reading vs))
 packets_long [] = omega arith
-packets_long (v ∷ vs) = omega (arith, packets_long vs, length-spelled (packet_reading v) (packets_reading vs), packet_bits v, some_bits v)
+packets_long (v ∷ vs) = omega (arith, packets_long vs, length-spelled (packet_reading v) (packets_reading vs), packet_bits v, some_bits ToTrain v)
 
 -- of all bits of a telegram no more are wanted
 none_wanted : (size : Size) (b : List Bool) (x : Var) → length b ≡ user_bits size + pad_bits size → Owner (TelegramLanguage size) b x → ⊥

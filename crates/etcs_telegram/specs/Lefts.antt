@@ -25,7 +25,7 @@ abbrev pub PacketsThen : Size → (Reading → Type 0) → ℕ → Reading → T
 PacketsThen size P room r = Chain P (FillBy size room) r
 
 abbrev pub PacketsBehind : Size → PacketsLeft → Reading → Type 0
-PacketsBehind size l r = PacketsThen size (left_of l.carrier l.room l.stage) (ahead l.room l.stage) r
+PacketsBehind size l r = PacketsThen size (left_of l.carrier l.room l.stage) (ahead l.carrier l.room l.stage) r
 
 -- the readings that are left
 abbrev pub left_at : Size → Phase → PacketsLeft → Reading → Type 0

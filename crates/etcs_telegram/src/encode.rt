@@ -9,6 +9,7 @@ ghost use Rattle.etcs_telegram.specs.Writing.{telegram_reading};
 use crate::telegram::Telegram;
 use etcs_bits::parts;
 use etcs_packets::parts::{write_packets, write_variables};
+use etcs_tables::{CLOSING, CLOSING_BITS};
 use std::error::Error;
 use std::fmt;
 
@@ -55,10 +56,10 @@ fn write_telegram(out: &mut [u8], telegram: &Telegram)
 {
     telegram.readable();
     let size = telegram.size();
-    // 50 bits of header, the packets, 8 of NID_PACKET, FILL up to the user bits, and zeros.
+    // 50 bits of header, the packets, packet 255, FILL up to the user bits, and zeros.
     write_variables(out, 0, telegram.header());
     let end = write_packets(out, 50, telegram.packets());
-    parts::write(out, end, 8, 255);
-    parts::write_slice(out, end + 8, &telegram.fill());
+    parts::write(out, end, CLOSING_BITS, u64::from(CLOSING));
+    parts::write_slice(out, end + CLOSING_BITS, &telegram.fill());
     parts::write(out, size.user_bits(), size.pad_bits(), 0);
 }

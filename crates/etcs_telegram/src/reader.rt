@@ -36,9 +36,9 @@ impl ItemRest for TelegramRest<PacketList> {
 
     ghost least = { 50 };
 
-    ghost far = { λ s. so_far s.size s.stage s.header.items s.packets.left s.packets.store };
+    ghost far = { λ s. so_far s.size s.phase s.header.items s.packets.left s.packets.store };
 
-    ghost holds = { λ size s. OwnHeld size s.size s.stage s.header.items s.packets.left s.packets.store };
+    ghost holds = { λ size s. OwnHeld size s.size s.phase s.header.items s.packets.left s.packets.store };
 
     ghost made = { λ s. telegram_by s.size s.header.items s.packets.store };
 

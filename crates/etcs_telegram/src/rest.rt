@@ -29,13 +29,13 @@ use std::alloc::AllocError;
 #[derive(Drop)]
 pub(crate) struct TelegramRest<S: PacketStore> {
     pub(crate) size: Size,
-    pub(crate) stage: Phase,
+    pub(crate) phase: Phase,
     /// The header's numbers so far.
     pub(crate) header: ArrayVec<u64, 10>,
     /// The packets. FILL's bits are in their store.
     pub(crate) packets: PacketsRest<S>,
-    ghost stands: { IsTrue (stands_at stage (length header.items) packets.left) },
-    ghost fits: { ∥ FillFits stage (S.holds packets.store) ∥₁ },
+    ghost stands: { IsTrue (stands_at phase (length header.items) packets.left) },
+    ghost fits: { ∥ FillFits phase (S.holds packets.store) ∥₁ },
 }
 
 /// What comes behind a variable of the packets.
@@ -65,12 +65,12 @@ impl<S: PacketStore> TelegramRest<S> {
         requires none { S.holds store [] [] [] }
         ensures size { result.size ≡ size }
         ensures store { result.packets.store ≡ store }
-        ensures left { Same (left_at result.size result.stage result.packets.left) (TelegramLanguage size) }
-        ensures holds { HoldsIn result.size result.stage result.header.items result.packets.left (S.holds result.packets.store) [] }
+        ensures left { Same (left_at result.size result.phase result.packets.left) (TelegramLanguage size) }
+        ensures holds { HoldsIn result.size result.phase result.header.items result.packets.left (S.holds result.packets.store) [] }
     {
         TelegramRest {
             size,
-            stage: Phase::Header(0),
+            phase: Phase::Header(0),
             header: ArrayVec::new(),
             packets: PacketsRest::new(Carrier::Telegram, size.packet_room(), store),
         }
@@ -78,44 +78,44 @@ impl<S: PacketStore> TelegramRest<S> {
 
     /// Behind a number of the header.
     fn pass_header(&mut self, at: usize, number: u64)
-        requires stage { self.old.stage ≡ Phase.Header at }
-        ensures { (x : Var) → next_at self.old.stage self.old.packets.left ≡ Some x → Starts (left_at self.old.size self.old.stage self.old.packets.left) x 0 number → Follows self.old.size self.old.stage self.old.header.items self.old.packets.left (S.holds self.old.packets.store) ((x, number) ∷ []) self.new.size self.new.stage self.new.header.items self.new.packets.left (S.holds self.new.packets.store) }
+        requires phase { self.old.phase ≡ Phase.Header at }
+        ensures { (x : Var) → next_at self.old.phase self.old.packets.left ≡ Some x → Starts (left_at self.old.size self.old.phase self.old.packets.left) x 0 number → Follows self.old.size self.old.phase self.old.header.items self.old.packets.left (S.holds self.old.packets.store) ((x, number) ∷ []) self.new.size self.new.phase self.new.header.items self.new.packets.left (S.holds self.new.packets.store) }
     {
         self.header.push(number);
-        self.stage = Phase::Header(at).after(self.size);
+        self.phase = Phase::Header(at).after(self.size);
     }
 
     /// Takes the whole header, where the piece has it and each number is admitted, and says how many bits it was.
     fn leap_header(&mut self, piece: &[u8], at: usize) -> Option<usize>
-        requires stage { self.old.stage ≡ Phase.Header 0 }
+        requires phase { self.old.phase ≡ Phase.Header 0 }
         requires inside { at < length (bits piece.now) }
         requires small { length (bits piece.now) < 2 ^ 64 }
-        requires goes { Goes (left_at self.old.size self.old.stage self.old.packets.left) }
+        requires goes { Goes (left_at self.old.size self.old.phase self.old.packets.left) }
         ensures none { IsNone result → self.new ≡ self.old }
-        ensures some { IfSome result (λ n. LeapsBy (left_at self.new.size self.new.stage self.new.packets.left) (λ p. Follows self.old.size self.old.stage self.old.header.items self.old.packets.left (S.holds self.old.packets.store) p self.new.size self.new.stage self.new.header.items self.new.packets.left (S.holds self.new.packets.store)) (bits piece.now) at n) }
+        ensures some { IfSome result (λ n. LeapsBy (left_at self.new.size self.new.phase self.new.packets.left) (λ p. Follows self.old.size self.old.phase self.old.header.items self.old.packets.left (S.holds self.old.packets.store) p self.new.size self.new.phase self.new.header.items self.new.packets.left (S.holds self.new.packets.store)) (bits piece.now) at n) }
     {
         let (numbers, end) = header_at(piece, at)?;
         self.header = numbers;
-        self.stage = Phase::Packets;
+        self.phase = Phase::Packets;
         Some(end - at)
     }
 
     /// Behind a variable of the packets.
     fn pass_packets(&mut self, var: Var, number: u64) -> Result<(), AllocError>
-        requires stage { self.old.stage ≡ Phase.Packets }
-        requires next { next_at self.old.stage self.old.packets.left ≡ Some var }
-        requires goes { Starts (left_at self.old.size self.old.stage self.old.packets.left) var 0 number }
-        ensures ok { OnOk result (Follows self.old.size self.old.stage self.old.header.items self.old.packets.left (S.holds self.old.packets.store) ((var, number) ∷ []) self.new.size self.new.stage self.new.header.items self.new.packets.left (S.holds self.new.packets.store)) }
-        ensures err { OnErr result (S.fails × IsTrue (may_ask self.old.stage self.old.packets.left)) }
+        requires phase { self.old.phase ≡ Phase.Packets }
+        requires next { next_at self.old.phase self.old.packets.left ≡ Some var }
+        requires goes { Starts (left_at self.old.size self.old.phase self.old.packets.left) var 0 number }
+        ensures ok { OnOk result (Follows self.old.size self.old.phase self.old.header.items self.old.packets.left (S.holds self.old.packets.store) ((var, number) ∷ []) self.new.size self.new.phase self.new.header.items self.new.packets.left (S.holds self.new.packets.store)) }
+        ensures err { OnErr result (S.fails × IsTrue (may_ask self.old.phase self.old.packets.left)) }
     {
         let packets = &mut self.packets;
         match packets.pass(var, number) {
             Ok(()) => {
-                self.stage = behind_packets(self.size, &packets.left);
+                self.phase = behind_packets(self.size, &packets.left);
                 Ok(())
             }
             Err(error) => {
-                self.stage = Phase::Whole;
+                self.phase = Phase::Whole;
                 Err(error)
             }
         }
@@ -123,24 +123,24 @@ impl<S: PacketStore> TelegramRest<S> {
 
     /// Takes variables of the packets together where a piece has such, and says how many bits they are.
     fn leap_packets(&mut self, piece: &[u8], at: usize) -> Result<Option<usize>, AllocError>
-        requires stage { self.old.stage ≡ Phase.Packets }
+        requires phase { self.old.phase ≡ Phase.Packets }
         requires inside { at < length (bits piece.now) }
         requires small { length (bits piece.now) < 2 ^ 64 }
-        requires goes { Goes (left_at self.old.size self.old.stage self.old.packets.left) }
+        requires goes { Goes (left_at self.old.size self.old.phase self.old.packets.left) }
         ensures none { IfOk result (λ o. IsNone o → self.new ≡ self.old) }
-        ensures some { IfOk result (λ o. IfSome o (λ n. LeapsBy (left_at self.new.size self.new.stage self.new.packets.left) (λ p. Follows self.old.size self.old.stage self.old.header.items self.old.packets.left (S.holds self.old.packets.store) p self.new.size self.new.stage self.new.header.items self.new.packets.left (S.holds self.new.packets.store)) (bits piece.now) at n)) }
-        ensures err { OnErr result (S.fails × IsTrue (may_ask self.old.stage self.old.packets.left)) }
-        ensures viable { OnErr result (Viable (left_at self.old.size self.old.stage self.old.packets.left) (part at 1 (bits piece.now))) }
+        ensures some { IfOk result (λ o. IfSome o (λ n. LeapsBy (left_at self.new.size self.new.phase self.new.packets.left) (λ p. Follows self.old.size self.old.phase self.old.header.items self.old.packets.left (S.holds self.old.packets.store) p self.new.size self.new.phase self.new.header.items self.new.packets.left (S.holds self.new.packets.store)) (bits piece.now) at n)) }
+        ensures err { OnErr result (S.fails × IsTrue (may_ask self.old.phase self.old.packets.left)) }
+        ensures viable { OnErr result (Viable (left_at self.old.size self.old.phase self.old.packets.left) (part at 1 (bits piece.now))) }
     {
         let packets = &mut self.packets;
         match packets.leap(piece, at) {
             Ok(Some(count)) => {
-                self.stage = behind_packets(self.size, &packets.left);
+                self.phase = behind_packets(self.size, &packets.left);
                 Ok(Some(count))
             }
             Ok(None) => Ok(None),
             Err(error) => {
-                self.stage = Phase::Whole;
+                self.phase = Phase::Whole;
                 Err(error)
             }
         }
@@ -148,20 +148,20 @@ impl<S: PacketStore> TelegramRest<S> {
 
     /// Takes bits of FILL, of which `left` are wanted.
     fn fill(&mut self, left: usize, slice: &BitSlice<'_>) -> Result<(), AllocError>
-        requires stage { self.old.stage ≡ Phase.Fill left }
+        requires phase { self.old.phase ≡ Phase.Fill left }
         requires within { length slice.now ≤ left }
-        ensures ok { OnOk result (Follows self.old.size self.old.stage self.old.header.items self.old.packets.left (S.holds self.old.packets.store) (kept FILL slice.now) self.new.size self.new.stage self.new.header.items self.new.packets.left (S.holds self.new.packets.store)) }
-        ensures goes { OnOk result (Goes (left_at self.new.size self.new.stage self.new.packets.left)) }
+        ensures ok { OnOk result (Follows self.old.size self.old.phase self.old.header.items self.old.packets.left (S.holds self.old.packets.store) (kept FILL slice.now) self.new.size self.new.phase self.new.header.items self.new.packets.left (S.holds self.new.packets.store)) }
+        ensures goes { OnOk result (Goes (left_at self.new.size self.new.phase self.new.packets.left)) }
         ensures err { OnErr result S.fails }
     {
         let packets = &mut self.packets;
         match packets.store.bits(slice) {
             Ok(()) => {
-                self.stage = Phase::after_fill(self.size, left, slice.len());
+                self.phase = Phase::after_fill(self.size, left, slice.len());
                 Ok(())
             }
             Err(error) => {
-                self.stage = Phase::Whole;
+                self.phase = Phase::Whole;
                 Err(error)
             }
         }
@@ -169,9 +169,9 @@ impl<S: PacketStore> TelegramRest<S> {
 
     /// Behind a bit of FILL, of which `left` are wanted.
     fn pass_fill(&mut self, left: usize, number: u64) -> Result<(), AllocError>
-        requires stage { self.old.stage ≡ Phase.Fill left }
+        requires phase { self.old.phase ≡ Phase.Fill left }
         requires small { number < 2 }
-        ensures ok { OnOk result (Follows self.old.size self.old.stage self.old.header.items self.old.packets.left (S.holds self.old.packets.store) ((FILL, number) ∷ []) self.new.size self.new.stage self.new.header.items self.new.packets.left (S.holds self.new.packets.store)) }
+        ensures ok { OnOk result (Follows self.old.size self.old.phase self.old.header.items self.old.packets.left (S.holds self.old.packets.store) ((FILL, number) ∷ []) self.new.size self.new.phase self.new.header.items self.new.packets.left (S.holds self.new.packets.store)) }
         ensures err { OnErr result S.fails }
     {
         let byte = [number as u8];
@@ -183,12 +183,12 @@ impl<S: PacketStore> TelegramRest<S> {
 
     /// Takes a run of FILL, of which `left` bits are wanted, and says how many bits it was.
     fn leap_fill(&mut self, left: usize, piece: &[u8], at: usize) -> Result<usize, AllocError>
-        requires stage { self.old.stage ≡ Phase.Fill left }
+        requires phase { self.old.phase ≡ Phase.Fill left }
         requires inside { at < length (bits piece.now) }
         requires small { length (bits piece.now) < 2 ^ 64 }
-        ensures ok { IfOk result (λ n. LeapsBy (left_at self.new.size self.new.stage self.new.packets.left) (λ p. Follows self.old.size self.old.stage self.old.header.items self.old.packets.left (S.holds self.old.packets.store) p self.new.size self.new.stage self.new.header.items self.new.packets.left (S.holds self.new.packets.store)) (bits piece.now) at n) }
+        ensures ok { IfOk result (λ n. LeapsBy (left_at self.new.size self.new.phase self.new.packets.left) (λ p. Follows self.old.size self.old.phase self.old.header.items self.old.packets.left (S.holds self.old.packets.store) p self.new.size self.new.phase self.new.header.items self.new.packets.left (S.holds self.new.packets.store)) (bits piece.now) at n) }
         ensures err { OnErr result S.fails }
-        ensures viable { OnErr result (Viable (left_at self.old.size self.old.stage self.old.packets.left) (part at 1 (bits piece.now))) }
+        ensures viable { OnErr result (Viable (left_at self.old.size self.old.phase self.old.packets.left) (part at 1 (bits piece.now))) }
     {
         let count = left.min(piece.len() * 8 - at);
         match self.fill(left, &run_at(piece, at, count)) {
@@ -199,42 +199,42 @@ impl<S: PacketStore> TelegramRest<S> {
 
     /// Behind a bit of PAD, of which `left` are wanted.
     fn pass_pad(&mut self, left: usize)
-        requires stage { self.old.stage ≡ Phase.Pad left }
-        ensures { Follows self.old.size self.old.stage self.old.header.items self.old.packets.left (S.holds self.old.packets.store) ((PAD, 0) ∷ []) self.new.size self.new.stage self.new.header.items self.new.packets.left (S.holds self.new.packets.store) }
+        requires phase { self.old.phase ≡ Phase.Pad left }
+        ensures { Follows self.old.size self.old.phase self.old.header.items self.old.packets.left (S.holds self.old.packets.store) ((PAD, 0) ∷ []) self.new.size self.new.phase self.new.header.items self.new.packets.left (S.holds self.new.packets.store) }
     {
-        self.stage = behind_pad(left);
+        self.phase = behind_pad(left);
     }
 
     /// Takes the bits of PAD, of which `left` are wanted, where the piece has them all and they are zeros, and says how
     /// many it was.
     fn leap_pad(&mut self, left: usize, piece: &[u8], at: usize) -> Option<usize>
-        requires stage { self.old.stage ≡ Phase.Pad left }
+        requires phase { self.old.phase ≡ Phase.Pad left }
         requires inside { at < length (bits piece.now) }
         requires small { length (bits piece.now) < 2 ^ 64 }
         ensures none { IsNone result → self.new ≡ self.old }
-        ensures some { IfSome result (λ n. LeapsBy (left_at self.new.size self.new.stage self.new.packets.left) (λ p. Follows self.old.size self.old.stage self.old.header.items self.old.packets.left (S.holds self.old.packets.store) p self.new.size self.new.stage self.new.header.items self.new.packets.left (S.holds self.new.packets.store)) (bits piece.now) at n) }
+        ensures some { IfSome result (λ n. LeapsBy (left_at self.new.size self.new.phase self.new.packets.left) (λ p. Follows self.old.size self.old.phase self.old.header.items self.old.packets.left (S.holds self.old.packets.store) p self.new.size self.new.phase self.new.header.items self.new.packets.left (S.holds self.new.packets.store)) (bits piece.now) at n) }
     {
         if left > 8 || piece.len() * 8 - at < left || number_at(piece, at, left) > 0 {
             return None;
         }
-        self.stage = Phase::Whole;
+        self.phase = Phase::Whole;
         Some(left)
     }
 }
 
 impl<S: PacketStore> Rest for TelegramRest<S> {
-    ghost left = { λ s. left_at s.size s.stage s.packets.left };
+    ghost left = { λ s. left_at s.size s.phase s.packets.left };
 
-    ghost next = { λ s. next_at s.stage s.packets.left };
+    ghost next = { λ s. next_at s.phase s.packets.left };
 
-    ghost follows = { λ s p t. Follows s.size s.stage s.header.items s.packets.left (S.holds s.packets.store) p t.size t.stage t.header.items t.packets.left (S.holds t.packets.store) };
+    ghost follows = { λ s p t. Follows s.size s.phase s.header.items s.packets.left (S.holds s.packets.store) p t.size t.phase t.header.items t.packets.left (S.holds t.packets.store) };
 
-    ghost fails = { λ s. S.fails × IsTrue (may_ask s.stage s.packets.left) };
+    ghost fails = { λ s. S.fails × IsTrue (may_ask s.phase s.packets.left) };
 
     #[inline]
     fn var(&self) -> Option<Var> {
-        match self.stage {
-            Phase::Header(_) => Some(self.stage.var()),
+        match self.phase {
+            Phase::Header(_) => Some(self.phase.var()),
             Phase::Packets => self.packets.var(),
             Phase::Fill(_) => Some(Var::FILL),
             Phase::Pad(_) => Some(Var::PAD),
@@ -244,7 +244,7 @@ impl<S: PacketStore> Rest for TelegramRest<S> {
 
     #[inline]
     fn begins(&self, var: Var, rest: usize, number: u64) -> bool {
-        match self.stage {
+        match self.phase {
             Phase::Header(_) => begins(var.ranges(), rest, number),
             Phase::Packets => self.packets.begins(var, rest, number),
             Phase::Fill(_) => true,
@@ -254,7 +254,7 @@ impl<S: PacketStore> Rest for TelegramRest<S> {
     }
 
     fn pass(&mut self, var: Var, number: u64) -> Result<(), AllocError> {
-        match self.stage {
+        match self.phase {
             Phase::Header(at) => {
                 self.pass_header(at, number);
                 Ok(())
@@ -277,7 +277,7 @@ impl<S: PacketStore> Rest for TelegramRest<S> {
 
     #[inline]
     fn leap(&mut self, piece: &[u8], at: usize) -> Result<Option<usize>, AllocError> {
-        match self.stage {
+        match self.phase {
             Phase::Header(0) => Ok(self.leap_header(piece, at)),
             Phase::Packets => match self.leap_packets(piece, at) {
                 Ok(taken) => Ok(taken),
@@ -292,15 +292,15 @@ impl<S: PacketStore> Rest for TelegramRest<S> {
         }
     }
 
-    ghost regular = { λ s. rest_regular s.size s.packets.left s.stage };
+    ghost regular = { λ s. rest_regular s.size s.packets.left s.phase };
 
-    ghost begins_with = { λ s. rest_begins s.size s.packets.left s.stage (length s.header.items) s.stands };
+    ghost begins_with = { λ s. rest_begins s.size s.packets.left s.phase (length s.header.items) s.stands };
 
-    ghost ended = { λ s. rest_ended s.size s.stage (length s.header.items) s.packets.left s.stands };
+    ghost ended = { λ s. rest_ended s.size s.phase (length s.header.items) s.packets.left s.stands };
 
     ghost residual = { λ s t p h. h.residual };
 
-    ghost none = { λ s. follows_none s.size s.stage s.header.items s.packets.left (S.holds s.packets.store) };
+    ghost none = { λ s. follows_none s.size s.phase s.header.items s.packets.left (S.holds s.packets.store) };
 
-    ghost both = { λ s t u p q h k. follows_along s.size s.stage s.header.items s.packets.left (S.holds s.packets.store) p t.size t.stage t.header.items t.packets.left (S.holds t.packets.store) q u.size u.stage u.header.items u.packets.left (S.holds u.packets.store) h k };
+    ghost both = { λ s t u p q h k. follows_along s.size s.phase s.header.items s.packets.left (S.holds s.packets.store) p t.size t.phase t.header.items t.packets.left (S.holds t.packets.store) q u.size u.phase u.header.items u.packets.left (S.holds u.packets.store) h k };
 }

@@ -10,6 +10,7 @@ use etcs_bits::{BitSlice, Bits};
 use etcs_bodies::Items;
 use etcs_packets::Packet;
 use etcs_packets::parts::room_left;
+use etcs_tables::CLOSING_BITS;
 use etcs_vars::BuildFault;
 use std::alloc::{AllocError, Global};
 use std::marker::Model;
@@ -157,7 +158,7 @@ fn fill_left(size: Size, packets: &[Packet]) -> Option<usize>
     ensures packets { OnSome result (All IsPacket (map packet_value packets.now)) }
     ensures none { IfNone result (packet_room size < closed_bits packets.now) }
 {
-    room_left(size.packet_room() - 8, packets)
+    room_left(size.packet_room() - CLOSING_BITS, packets)
 }
 
 /// So many bits that are all ones.

@@ -6,6 +6,8 @@ use Rattle.etcs_vars.specs.declared.fault.BuildFault.{BuildFault}
 use Rattle.etcs_vars.specs.Vars.{admits}
 use Rattle.etcs_vars.specs.Reading.{Reading, numbers, spelled}
 use Rattle.etcs_tables.specs.declared.row.Way.{Way}
+use Rattle.etcs_tables.specs.declared.row.Way.TheVariants.{ToTrain}
+use Rattle.etcs_tables.specs.Frames.{is_direction}
 use Rattle.etcs_tables.specs.Layouts.{Layout, whole, ROW_LIMIT}
 use Rattle.etcs_tables.specs.Rows.{row_to}
 use Rattle.etcs_tables.specs.Typed.{IsTyped, IsFramed}
@@ -29,6 +31,10 @@ module _ {P : Type 0} {way : Way} {nid : ℕ} {direction : P → ℕ} {IsValue :
       cc
 
 -- ---- A packet is a direction and a body.
+
+-- a packet may have each direction that Q_DIR admits
+every : (way : Way) (dir : ℕ) → IsTrue (admits Q_DIR dir) → IsTrue (is_direction way dir)
+every ToTrain dir h = h
 
 was_fitting : {A : Type 0} (fault : Option BuildFault) (a b : A) → fitting fault a ≡ Some b → (fault ≡ None) × (a ≡ b)
 was_fitting None a b h = let e : a ≡ b = cc in (refl, e)
@@ -82,7 +88,7 @@ module _ {B P : Type 0} {row : Layout → Layout} {IsBody : B → Type 0} {body_
     framed = λ p h.
         let k = parts.is p h in
         let short : length (spelled (body_reading (parts.body p))) ≤ ROW_LIMIT = rw (same_body p) k.2 in
-        rw (← same_body p) (body_framed codes way nid is (parts.body p) (direction p) k.0 (admitted Q_DIR (direction p) k.1) short);
+        rw (← same_body p) (body_framed codes way nid is (parts.body p) (direction p) k.0 (every way (direction p) (admitted Q_DIR (direction p) k.1)) short);
     back = λ p h.
         let k = parts.is p h in
         let short : length (spelled (body_reading (parts.body p))) ≤ ROW_LIMIT = rw (same_body p) k.2 in

@@ -9,8 +9,10 @@ use Rattle.etcs_vars.specs.declared.fault.BuildFault.TheVariants.{TooLong}
 use Rattle.etcs_vars.specs.Vars.{admits}
 use Rattle.etcs_vars.specs.Reading.{Reading, numbers, spelled}
 use Rattle.etcs_tables.specs.declared.row.Way.{Way}
+use Rattle.etcs_tables.specs.declared.row.Way.TheVariants.{ToTrain}
 use Rattle.etcs_tables.specs.Layouts.{Layout, whole, Reads, ROW_LIMIT}
 use Rattle.etcs_tables.specs.Rows.{row_to}
+use Rattle.etcs_tables.specs.Frames.{is_direction}
 use Rattle.etcs_tables.specs.Typed.{IsTyped, IsFramed}
 use Rattle.etcs_bodies.specs.Taking.{Left, listed, in_bits, ahead, is_spent, ◌and_then◌}
 use Rattle.etcs_bodies.specs.laws.Takes.{taken}
@@ -69,6 +71,10 @@ was_whole {B} from dir s p h =
 pub is_whole : {B : Type 0} (from : Left → Option (B × Left)) (dir : ℕ) (s t : Left) (b : B) → IsTrue (admits Q_DIR dir) → from s ≡ Some (b, t) → is_spent t ≡ true → whole_from from dir s ≡ Some (dir, b)
 is_whole from dir s t b d h e = rw (d, h, e) refl
 
+-- Q_DIR admits every direction
+q_dir : (way : Way) (dir : ℕ) → IsTrue (is_direction way dir) → IsTrue (admits Q_DIR dir)
+q_dir ToTrain dir h = h
+
 module _ {B : Type 0} {row : Layout → Layout} {IsBody : B → Type 0} {reading : B → Reading} {from : Left → Option (B × Left)} (codes : Codes row IsBody reading from) where
   pub read_list : (b : B) → IsBody b → from (listed (numbers (reading b))) ≡ Some (b, listed [])
   read_list b h = rw (append-nil (numbers (reading b))) at (codes.complete b (listed []) h)
@@ -95,7 +101,7 @@ module _ {B : Type 0} {row : Layout → Layout} {IsBody : B → Type 0} {reading
   -- ---- Of the packet of this row.
 
   module _ (way : Way) (nid : ℕ) (is : row_to way nid ≡ Some (row whole)) where
-    pub body_framed : (b : B) (dir : ℕ) → IsBody b → IsTrue (admits Q_DIR dir) → length (spelled (reading b)) ≤ ROW_LIMIT → IsFramed way nid dir (reading b)
+    pub body_framed : (b : B) (dir : ℕ) → IsBody b → IsTrue (is_direction way dir) → length (spelled (reading b)) ≤ ROW_LIMIT → IsFramed way nid dir (reading b)
     body_framed b dir h d short = (row whole, is, d, whole_in codes b [] h, short)
 
     pub framed_body : (dir : ℕ) (r : Reading) → IsFramed way nid dir r → (b : B) × IsBody b × (r ≡ reading b) × (length (spelled (reading b)) ≤ ROW_LIMIT)
@@ -114,9 +120,9 @@ module _ {B : Type 0} {row : Layout → Layout} {IsBody : B → Type 0} {reading
     pub typed_read : (dir : ℕ) (f : List ℕ) → IsTyped way nid dir f → (b : B) × IsBody b × (length (spelled (reading b)) ≤ ROW_LIMIT) × (whole_from from dir (listed f) ≡ Some (dir, b))
     typed_read dir f h =
         let o = typed_body dir f h in
-        (o.0, o.1, o.3, ap (λ y. whole_from from dir (listed y)) o.2 ∙ is_whole from dir (listed (numbers (reading o.0))) (listed []) o.0 h.2 (read_list o.0 o.1) refl)
+        (o.0, o.1, o.3, ap (λ y. whole_from from dir (listed y)) o.2 ∙ is_whole from dir (listed (numbers (reading o.0))) (listed []) o.0 (q_dir way dir h.2) (read_list o.0 o.1) refl)
 
     pub framed_read : (dir : ℕ) (r : Reading) → IsFramed way nid dir r → (b : B) × IsBody b × (length (spelled (reading b)) ≤ ROW_LIMIT) × (whole_from from dir (in_bits (spelled r)) ≡ Some (dir, b))
     framed_read dir r h =
         let o = framed_body dir r h in
-        (o.0, o.1, o.3, ap (λ y. whole_from from dir (in_bits (spelled y))) o.2 ∙ is_whole from dir (in_bits (spelled (reading o.0))) (in_bits []) o.0 h.2 (read_bits o.0 o.1) refl)
+        (o.0, o.1, o.3, ap (λ y. whole_from from dir (in_bits (spelled y))) o.2 ∙ is_whole from dir (in_bits (spelled (reading o.0))) (in_bits []) o.0 (q_dir way dir h.2) (read_bits o.0 o.1) refl)

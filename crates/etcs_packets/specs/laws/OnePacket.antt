@@ -42,7 +42,7 @@ marker_one : ℕ × ((x y : ℕ × Unit {0}) → IsTrue (admits NID_VBCMK x.0) �
 marker_one = (0, λ x y hx hy e. let same : x.0 ≡ y.0 = cc in ap (λ (n : ℕ). (n, tt {0})) same)
 
 -- 255 is the number of no packet
-other_one : ℕ × ((x y : OtherParts × Unit {0}) → other_fault x.0.nid x.0.dir (length x.0.body) ≡ None → other_fault y.0.nid y.0.dir (length y.0.body) ≡ None → kept x.0.nid x.0.dir x.0.body ≡ kept y.0.nid y.0.dir y.0.body → x ≡ y)
+other_one : ℕ × ((x y : OtherParts × Unit {0}) → other_fault ToTrain x.0.nid x.0.dir (length x.0.body) ≡ None → other_fault ToTrain y.0.nid y.0.dir (length y.0.body) ≡ None → kept x.0.nid x.0.dir x.0.body ≡ kept y.0.nid y.0.dir y.0.body → x ≡ y)
 other_one = (
   255,
   λ x y hx hy e.

@@ -5,27 +5,52 @@ use Rattle.etcs_vars.specs.declared.var.Var.TheVariants.{NID_PACKET, NID_VBCMK, 
 use Rattle.etcs_vars.specs.Reading.{Reading, spelled}
 use Rattle.etcs_vars.specs.Reading as sent
 use Rattle.etcs_vars.proofs.Sent.{length-sent}
-use Rattle.etcs_packets.specs.PacketValues.{PacketValue, marker, typed, kept, bits_of}
-use Rattle.etcs_packets.specs.PacketReadings.{frame, packet_reading}
+use Rattle.etcs_tables.specs.declared.row.Way.{Way}
+use Rattle.etcs_tables.specs.declared.row.Way.TheVariants.{ToTrain}
+use Rattle.etcs_tables.specs.Frames.{frame_bits, head_bits, directed}
+use Rattle.etcs_packets.specs.PacketValues.{PacketValue, marker, typed, kept, bits_to, bits_of}
+use Rattle.etcs_packets.specs.PacketReadings.{in_frame, reading_to, frame, packet_reading}
 
--- ---- Its bits.
+-- ---- Frames.
+
+-- a frame is what is in front of L_PACKET, and L_PACKET
+pub frame_is : (way : Way) → frame_bits way ≡ head_bits way + 13
+frame_is ToTrain = refl
+
+pub length-directed : (way : Way) (dir : ℕ) (r : Reading) → 8 + length (spelled (directed way dir r)) ≡ head_bits way + length (spelled r)
+length-directed ToTrain dir r = omega (arith, length-sent Q_DIR dir r)
+
+pub directed-append : (way : Way) (dir : ℕ) (r q : Reading) → directed way dir r ++ q ≡ directed way dir (r ++ q)
+directed-append ToTrain dir r q = refl
+
+pub in_frame-append : (way : Way) (nid dir bits : ℕ) (r q : Reading) → in_frame way nid dir bits r ++ q ≡ in_frame way nid dir bits (r ++ q)
+in_frame-append way nid dir bits r q = ap (λ (t : Reading). (NID_PACKET, nid) ∷ t) (directed-append way dir ((L_PACKET, frame_bits way + bits) ∷ r) q)
+
+pub length-in_frame : (way : Way) (nid dir bits : ℕ) (r : Reading) → length (spelled (in_frame way nid dir bits r)) ≡ frame_bits way + length (spelled r)
+length-in_frame way nid dir bits r =
+    let after : Reading = (L_PACKET, frame_bits way + bits) ∷ r in
+    let l1 = length-sent NID_PACKET nid (directed way dir after) in
+    let l2 = length-directed way dir after in
+    let l3 = length-sent L_PACKET (frame_bits way + bits) r in
+    omega (arith, l1, l2, l3, frame_is way)
 
 pub length-frame : (nid dir bits : ℕ) (r : Reading) → length (spelled (frame nid dir bits ++ r)) ≡ 23 + length (spelled r)
-length-frame nid dir bits r =
-    let l1 = length-sent NID_PACKET nid ((Q_DIR, dir) ∷ (L_PACKET, 23 + bits) ∷ r) in
-    let l2 = length-sent Q_DIR dir ((L_PACKET, 23 + bits) ∷ r) in
-    let l3 = length-sent L_PACKET (23 + bits) r in
-    omega (arith, l1, l2, l3)
+length-frame nid dir bits r = length-in_frame ToTrain nid dir bits r
+
+-- ---- Its bits.
 
 pub length-kept : (b : List Bool) → length (spelled (sent.kept OTHER_DATA b)) ≡ length b
 length-kept [] = refl
 length-kept (c ∷ b) = let l = length-sent OTHER_DATA (if c then 1 else 0) (sent.kept OTHER_DATA b) in omega (arith, l, length-kept b)
 
 -- as many as its length says
-pub packet_bits : (v : PacketValue) → length (spelled (packet_reading v)) ≡ bits_of v
-packet_bits (marker n) =
+pub bits_are : (way : Way) (v : PacketValue) → length (spelled (reading_to way v)) ≡ bits_to way v
+bits_are way (marker n) =
     let l1 = length-sent NID_PACKET 0 ((NID_VBCMK, n) ∷ []) in
     let l2 = length-sent NID_VBCMK n [] in
     omega (arith, l1, l2)
-packet_bits (typed nid dir r) = length-frame nid dir (length (spelled r)) r
-packet_bits (kept nid dir b) = length-frame nid dir (length b) (sent.kept OTHER_DATA b) ∙ ap (λ (k : ℕ). 23 + k) (length-kept b)
+bits_are way (typed nid dir r) = length-in_frame way nid dir (length (spelled r)) r
+bits_are way (kept nid dir b) = length-in_frame way nid dir (length b) (sent.kept OTHER_DATA b) ∙ ap (λ (k : ℕ). frame_bits way + k) (length-kept b)
+
+pub packet_bits : (v : PacketValue) → length (spelled (packet_reading v)) ≡ bits_of v
+packet_bits v = bits_are ToTrain v

@@ -7,6 +7,7 @@ use Rattle.etcs_vars.specs.declared.var.Var.TheVariants.{NID_MESSAGE, L_MESSAGE,
 use Rattle.etcs_vars.specs.Reading.{Reading, spelled}
 use Rattle.etcs_vars.proofs.Stepping.{Opens}
 use Rattle.etcs_vars.proofs.Walk.{Regular}
+use Rattle.etcs_tables.specs.declared.row.Way.TheVariants.{ToTrain}
 use Rattle.etcs_rows.specs.declared.frames.Carrier.TheVariants.{Message}
 use Rattle.etcs_packets.specs.PacketValues.{PacketValue}
 use Rattle.etcs_sequence.specs.Contents.{Run, KeptIn}
@@ -58,7 +59,7 @@ after_length : (found : Option (List Var)) (len : ℕ) → Regular (Behind found
 after_length None len = part_regular (Behind None len) (KeptIn (8 * len - 18)) (λ r h. h.2) (kept_regular (8 * len - 18))
 after_length (Some vs) len =
     let room = 8 * len - front_bits vs in
-    let packets : Regular (PacketsFrom (front_bits vs) len) = padded_regular (Run Message room) room (run_regular Message room) in
+    let packets : Regular (PacketsFrom (front_bits vs) len) = padded_regular (Run (Message ToTrain) room) room (run_regular (Message ToTrain) room) in
     let all = chain_regular (ReadsFields vs) (λ _. PacketsFrom (front_bits vs) len) (fields_regular vs) (λ _ _. packets) in
     record { agree = λ a b h k. all.agree a b h.2 k.2; fit = λ a h. all.fit a h.2 }
 
@@ -71,7 +72,7 @@ number_regular = opens_regular NumberLeft NID_MESSAGE AfterNumber number_opens (
 -- ---- Any phase.
 
 behind_regular : (l : PacketsLeft) → Regular (PacketsBehind l)
-behind_regular l = padded_regular (left_of l.carrier l.room l.stage) (ahead l.room l.stage) (left_regular l.carrier l.room l.stage)
+behind_regular l = padded_regular (left_of l.carrier l.room l.stage) (ahead l.carrier l.room l.stage) (left_regular l.carrier l.room l.stage)
 
 pub rest_regular : (nid : ℕ) (l : PacketsLeft) (stage : Phase) → Regular (left_at nid stage l)
 rest_regular nid l phase.Number = number_regular
@@ -90,7 +91,7 @@ rest_begins nid l phase.Length n h x e =
     let same : L_MESSAGE ≡ x = cc in
     subst (BeginsWith (LengthLeft nid)) same (opens_begins (LengthLeft nid) L_MESSAGE (Behind (front_row nid)) (length_opens nid))
 rest_begins nid l (phase.Front at) n h x e = chain_begins (ReadsFields (drop at (front_vars nid))) (λ _. PacketsBehind l) x (fields_begin (drop at (front_vars nid)) x e)
-rest_begins nid l phase.Packets n h x e = chain_begins (left_of l.carrier l.room l.stage) (PaddedBy (ahead l.room l.stage)) x (left_begins l.carrier l.room l.stage l.stands x e)
+rest_begins nid l phase.Packets n h x e = chain_begins (left_of l.carrier l.room l.stage) (PaddedBy (ahead l.carrier l.room l.stage)) x (left_begins l.carrier l.room l.stage l.stands x e)
 rest_begins nid l (phase.Padding left) n h x e =
     let same : PADDING ≡ x = cc in
     subst (BeginsWith (PaddingLeft left)) same (bits_begin PADDING refl left (ltb-true 0 left (and_parts (nat_lt 0 left) (nat_lt left 8) h).0))

@@ -5,15 +5,15 @@ use Rattle.std.proofs.lemmas.Bool.{ltb-true}
 use Rattle.std.proofs.lemmas.List.{append-nil, length-append}
 use Rattle.etcs_vars.specs.declared.var.Var.{Var}
 use Rattle.etcs_vars.specs.declared.var.Var.TheVariants.{NID_PACKET, NID_VBCMK, Q_DIR, L_PACKET, OTHER_DATA}
-use Rattle.etcs_vars.specs.Vars.{admits}
 use Rattle.etcs_vars.specs.Reading.{Reading, Then, spelled}
 use Rattle.etcs_vars.proofs.Walk.{Regular, spelled-append}
-use Rattle.etcs_tables.specs.declared.row.Way.TheVariants.{ToTrain}
+use Rattle.etcs_tables.specs.declared.row.Way.{Way}
 use Rattle.etcs_rows.specs.declared.frames.Carrier.{Carrier}
 use Rattle.etcs_rows.specs.declared.frames.Carrier.TheVariants.{Telegram, Message}
 use Rattle.etcs_tables.specs.Layouts.{Layout, ReadsIn}
 use Rattle.etcs_tables.specs.Rows.{row_to}
-use Rattle.etcs_tables.specs.Frames.{is_kept}
+use Rattle.etcs_tables.specs.Frames.{frame_bits, is_kept, is_direction}
+use Rattle.etcs_rows.specs.Frames.{way_of}
 use Rattle.etcs_rows.specs.Places.{first_variable}
 use Rattle.etcs_rows.proofs.PlaceLemmas.{and_both}
 use Rattle.etcs_rows.proofs.RowWalkLemmas as rows
@@ -32,19 +32,20 @@ use Rattle.etcs_sequence.specs.laws.ThenLaws.{then_regular, then_begins_with}
 use Rattle.etcs_sequence.specs.laws.OpenLaws.{part_regular, opens_begins, opens_regular}
 use Rattle.etcs_sequence.specs.laws.BitLaws.{bits_regular, bits_begin}
 
-kept_by : (nid bits : ℕ) (r : Reading) → row_to ToTrain nid ≡ None → BodyIn nid bits r → KeptIn bits r
-kept_by nid bits r none (inl (row, e, l)) = let two : ◌≡◌ {A = Option Layout} None (Some row) = sym none ∙ e in absurd cc
-kept_by nid bits r none (inr (k, b)) = b
+kept_by : (way : Way) (nid bits : ℕ) (r : Reading) → row_to way nid ≡ None → BodyIn way nid bits r → KeptIn bits r
+kept_by way nid bits r none (inl (row, e, l)) = let two : ◌≡◌ {A = Option Layout} None (Some row) = sym none ∙ e in absurd cc
+kept_by way nid bits r none (inr (k, b)) = b
 
-body_regular : (nid bits : ℕ) (found : Option Layout) → row_to ToTrain nid ≡ found → Regular (BodyIn nid bits)
-body_regular nid bits (Some row) e = part_regular (BodyIn nid bits) (ReadsIn row bits) (λ r b. row_body nid bits row r e b) (rows.regular row bits)
-body_regular nid bits None e = part_regular (BodyIn nid bits) (KeptIn bits) (λ r b. kept_by nid bits r e b) (bits_regular OTHER_DATA refl bits)
+body_regular : (way : Way) (nid bits : ℕ) (found : Option Layout) → row_to way nid ≡ found → Regular (BodyIn way nid bits)
+body_regular way nid bits (Some row) e = part_regular (BodyIn way nid bits) (ReadsIn row bits) (λ r b. row_body way nid bits row r e b) (rows.regular row bits)
+body_regular way nid bits None e = part_regular (BodyIn way nid bits) (KeptIn bits) (λ r b. kept_by way nid bits r e b) (bits_regular OTHER_DATA refl bits)
 
 length_regular : (c : Carrier) (nid room : ℕ) → Regular (LengthLeft c nid room)
 length_regular c nid room =
     opens_regular (LengthLeft c nid room) L_PACKET (AfterLength c nid room) (length_step c nid room)
-    (λ l. part_regular (AfterLength c nid room l) (BodyLeft c nid (l - 23) (room - l)) (λ r h. h.3)
-    (then_regular (BodyIn nid (l - 23)) (Run c (room - l)) (body_regular nid (l - 23) (row_to ToTrain nid) refl) (run_regular c (room - l))))
+    (λ l. let bits = l - frame_bits (way_of c) in
+    part_regular (AfterLength c nid room l) (BodyLeft c nid bits (room - l)) (λ r h. h.3)
+    (then_regular (BodyIn (way_of c) nid bits) (Run c (room - l)) (body_regular (way_of c) nid bits (row_to (way_of c) nid) refl) (run_regular c (room - l))))
 
 direction_regular : (c : Carrier) (nid room : ℕ) → Regular (DirectionLeft c nid room)
 direction_regular c nid room =
@@ -56,9 +57,9 @@ marker_regular room = opens_regular (MarkerLeft room) NID_VBCMK (AfterMarker roo
 
 pub left_regular : (c : Carrier) (room : ℕ) (s : Stage) → Regular (left_of c room s)
 left_regular c room Number = run_regular c room
-left_regular c room Marker = marker_regular (room + 8)
-left_regular c room (Direction nid) = direction_regular c nid (room + 8)
-left_regular c room (Length nid dir) = length_regular c nid (room + 10)
+left_regular c room Marker = marker_regular room
+left_regular c room (Direction nid) = direction_regular c nid room
+left_regular c room (Length nid dir) = length_regular c nid room
 left_regular c room (Row nid dir row) = then_regular (ReadsIn row.place row.len) (Run c room) (rows.regular row.place row.len) (run_regular c room)
 left_regular c room (Kept nid dir left) = then_regular (KeptIn left) (Run c room) (bits_regular OTHER_DATA refl left) (run_regular c room)
 left_regular c room Closed = record { agree = λ a b e f. rw (e, f) tt; fit = λ a e. rw e tt }
@@ -66,21 +67,21 @@ left_regular c room Closed = record { agree = λ a b e f. rw (e, f) tt; fit = λ
 -- more packets come, or packet 255
 pub open_by : (c : Carrier) (room : ℕ) → IsTrue (is_open c room) → IsOpen c room
 open_by Telegram room h = tt
-open_by Message room h = ltb-true 7 room h
+open_by (Message way) room h = ltb-true 7 room h
 
 -- bits are wanted
 pub some_left : (c : Carrier) (room nid dir left : ℕ) → IsTrue (is_stage c room (Kept nid dir left)) → 0 < left
-some_left c room nid dir left stands = ltb-true 0 left (and_both (admits Q_DIR dir) (nat_lt 0 left) (and_both (is_kept ToTrain nid) (admits Q_DIR dir && nat_lt 0 left) stands).1).1
+some_left c room nid dir left stands = ltb-true 0 left (and_both (is_direction (way_of c) dir) (nat_lt 0 left) (and_both (is_kept (way_of c) nid) (is_direction (way_of c) dir && nat_lt 0 left) stands).1).1
 
 pub left_begins : (c : Carrier) (room : ℕ) (s : Stage) → IsTrue (is_stage c room s) → (x : Var) → next_of s ≡ Some x → BeginsWith (left_of c room s) x
 left_begins c room Number stands x e = let same : NID_PACKET ≡ x = cc in subst (BeginsWith (Run c room)) same (opens_begins (Run c room) NID_PACKET (AfterNumber c room) (number_step c room (open_by c room stands)))
-left_begins c room Marker stands x e = let same : NID_VBCMK ≡ x = cc in subst (BeginsWith (MarkerLeft (room + 8))) same (opens_begins (MarkerLeft (room + 8)) NID_VBCMK (AfterMarker (room + 8)) (marker_step (room + 8)))
+left_begins c room Marker stands x e = let same : NID_VBCMK ≡ x = cc in subst (BeginsWith (MarkerLeft room)) same (opens_begins (MarkerLeft room) NID_VBCMK (AfterMarker room) (marker_step room))
 left_begins c room (Direction nid) stands x e =
     let same : Q_DIR ≡ x = cc in
-    subst (BeginsWith (DirectionLeft c nid (room + 8))) same (opens_begins (DirectionLeft c nid (room + 8)) Q_DIR (AfterDirection c nid (room + 8)) (direction_step c nid (room + 8)))
+    subst (BeginsWith (DirectionLeft c nid room)) same (opens_begins (DirectionLeft c nid room) Q_DIR (AfterDirection c nid room) (direction_step c nid room))
 left_begins c room (Length nid dir) stands x e =
     let same : L_PACKET ≡ x = cc in
-    subst (BeginsWith (LengthLeft c nid (room + 10))) same (opens_begins (LengthLeft c nid (room + 10)) L_PACKET (AfterLength c nid (room + 10)) (length_step c nid (room + 10)))
+    subst (BeginsWith (LengthLeft c nid room)) same (opens_begins (LengthLeft c nid room) L_PACKET (AfterLength c nid room) (length_step c nid room))
 left_begins c room (Row nid dir row) stands x e = then_begins_with (ReadsIn row.place row.len) (Run c room) x (row_begins_with row.place row.len x e)
 left_begins c room (Kept nid dir left) stands x e =
     let same : OTHER_DATA ≡ x = cc in
@@ -93,7 +94,7 @@ left_ended c room Marker stands e = absurd cc
 left_ended c room (Direction nid) stands e = absurd cc
 left_ended c room (Length nid dir) stands e = absurd cc
 left_ended c room (Row nid dir row) stands e =
-    let some = (and_both (admits Q_DIR dir) (is_some (first_variable row.place)) (and_both (is_some (row_to ToTrain nid)) (admits Q_DIR dir && is_some (first_variable row.place)) stands).1).1 in
+    let some = (and_both (is_direction (way_of c) dir) (is_some (first_variable row.place)) (and_both (is_some (row_to (way_of c) nid)) (is_direction (way_of c) dir && is_some (first_variable row.place)) stands).1).1 in
     let none = rw e at some in
     absurd cc
 left_ended c room (Kept nid dir left) stands e = absurd cc

@@ -6,13 +6,16 @@ use Rattle.etcs_vars.specs.Walking.{Residual}
 use Rattle.etcs_vars.specs.Reading.{Sent, Reading}
 use Rattle.etcs_vars.proofs.Stepping.{Opens}
 use Rattle.etcs_vars.proofs.Walk.{Regular}
-use Rattle.etcs_sequence.specs.Phases as phases
 use Rattle.etcs_reader.specs.Rests.{Starts, Goes, BeginsWith}
 use Rattle.etcs_sequence.specs.laws.RowLaws.{head_of}
 
 -- what holds of a language holds of a part of it
 pub part_regular : (P Q : Reading → Type 0) → ((r : Reading) → P r → Q r) → Regular Q → Regular P
 part_regular P Q h q = record { agree = λ a b x y. q.agree a b (h a x) (h b y); fit = λ a x. q.fit a (h a x) }
+
+-- some number that may come next begins with these bits, followed by rest bits more
+abbrev pub GoesOn : (ℕ → Reading → Type 0) → ℕ → ℕ → Type 0
+GoesOn After rest bits = (n : ℕ) × (r : Reading) × (n / 2 ^ rest ≡ bits) × After n r
 
 -- x opens L, and After is behind its number
 module _ (L : Reading → Type 0) (x : Var) (After : ℕ → Reading → Type 0) (o : Opens L x After) where
@@ -42,7 +45,7 @@ module _ (L : Reading → Type 0) (x : Var) (After : ℕ → Reading → Type 0)
   opens_goes (r, l) = let (n, q, e, small, a) = o.opens r l in (n, q, a)
 
   -- a test of what is behind tells which numbers go on
-  pub opens_tested : (v : Var) (rest bits : ℕ) (result : Bool) → Some x ≡ Some v → IsTrue result ↔ phases.Starts After rest bits → IsTrue result ↔ Starts L v rest bits
+  pub opens_tested : (v : Var) (rest bits : ℕ) (result : Bool) → Some x ≡ Some v → IsTrue result ↔ GoesOn After rest bits → IsTrue result ↔ Starts L v rest bits
   opens_tested v rest bits result e told =
       let same : x ≡ v = cc in
       rw (sym same) (λ t. let (n, r, f, a) = told.0 t in (n, r, o.closes n r a, f), λ (n, r, l, f). told.1 (n, r, f, opens_after n r l))

@@ -52,7 +52,7 @@ pad_begins (suc n) some r e = (0, kept PAD (replicate n false), e)
 module _ (size : Size) (l : PacketsLeft) where
   behind_regular : Regular (PacketsBehind size l)
   behind_regular =
-      let room = ahead l.room l.stage in
+      let room = ahead l.carrier l.room l.stage in
       chain_regular (left_of l.carrier l.room l.stage) (FillBy size room) (left_regular l.carrier l.room l.stage) (λ a _. fill_regular size (room - length (spelled a)))
 
   pub rest_regular : (phase : Phase) → Regular (left_at size phase l)
@@ -64,7 +64,7 @@ module _ (size : Size) (l : PacketsLeft) where
 
   pub rest_begins : (phase : Phase) (n : ℕ) → IsTrue (stands_at phase n l) → (x : Var) → next_at phase l ≡ Some x → BeginsWith (left_at size phase l) x
   rest_begins (Header at) n h x e = chain_begins (ReadsFields (drop at header_row)) (λ _. PacketsBehind size l) x (fields_begin (drop at header_row) x e)
-  rest_begins Packets n h x e = chain_begins (left_of l.carrier l.room l.stage) (FillBy size (ahead l.room l.stage)) x (left_begins l.carrier l.room l.stage l.stands x e)
+  rest_begins Packets n h x e = chain_begins (left_of l.carrier l.room l.stage) (FillBy size (ahead l.carrier l.room l.stage)) x (left_begins l.carrier l.room l.stage l.stands x e)
   rest_begins (Fill left) n h x e =
       let same : FILL ≡ x = cc in
       subst (BeginsWith (FillLeft size left)) same (fill_begins size left (ltb-true 0 left (and_parts (nat_lt 0 left) (is_closed l.stage) h).0))
@@ -83,7 +83,7 @@ opens l h =
   where
     telegram : (c : Carrier) → is_telegram c ≡ true → c ≡ Telegram
     telegram Telegram e = refl
-    telegram Message e = absurd cc
+    telegram (Message way) e = absurd cc
 
 -- the telegram is whole
 pub ended_whole : (phase : Phase) (n : ℕ) (l : PacketsLeft) → IsTrue (stands_at phase n l) → next_at phase l ≡ None → phase ≡ Whole

@@ -9,9 +9,9 @@ pub returns-then-number_in-eq0-clause-inside : goal.returns-then-number_in-eq0-c
 returns-then-number_in-eq0-clause-inside c = omega (arith, least_ahead c.args.rest.now c.requires)
 
 pub number_in-requires-2-clause-inside : goal.number_in-requires-2-clause-inside
-number_in-requires-2-clause-inside c = (said_ahead c.args.rest.now c.requires (λ e. c.if-number_in-eq0.false (c.number_in.ensures.value ∙ e))).0
+number_in-requires-2-clause-inside c = omega (arith, c.head_bits.ensures, (said_ahead c.args.rest.now c.requires (λ e. c.if-number_in-eq0.false (c.number_in.ensures.value ∙ e))).0)
 
 pub returns-clause-inside : goal.returns-clause-inside
 returns-clause-inside c =
     let said = said_ahead c.args.rest.now c.requires (λ e. c.if-number_in-eq0.false (c.number_in.ensures.value ∙ e)) in
-    omega (arith, said.1, c.number_in-2.ensures.value)
+    omega (arith, said.1, rw c.head_bits.ensures at c.number_in-2.ensures.value)

@@ -78,6 +78,6 @@ returns-clause-bits c =
     place
     (c.write_variables.ensures ∙ ap (λ (h : HeaderParts). replaced 0 (spelled (header_reading h)) (bits c.args.out.now)) c.header.ensures)
     (c.write_packets-end.ensures.bits ∙ ap (λ (ps : List Packet). replaced 50 (spelled (packets_reading (map packet_value ps))) (bits c.write_variables.new.out)) c.packets.ensures)
-    c.write.ensures
+    (rw c.from.ensures at c.write.ensures)
     (c.write_slice.ensures ∙ ap (λ (f : List Bool). replaced (c.write_packets-end.result + 8) f (bits c.write.new.bytes)) c.fill.ensures)
     zeros

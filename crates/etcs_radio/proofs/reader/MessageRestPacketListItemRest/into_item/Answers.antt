@@ -9,7 +9,7 @@ use Rattle.etcs_radio.proofs.reader.MessageRestPacketListItemRest.into_item.Goal
 pub content_of-content-requires : goal.content_of-content-requires
 content_of-content-requires c =
     let s = c.args.self in
-    let numbers = whole_numbers s.nid s.stage s.front.items s.packets.left s.packets.store s.padding (length s.front.items) s.stands c.requires.ended c.requires.whole c.requires.holds in
+    let numbers = whole_numbers s.nid s.phase s.front.items s.packets.left s.packets.store s.padding (length s.front.items) s.stands c.requires.ended c.requires.whole c.requires.holds in
     rw c.as_slice.ensures.value numbers
 
 pub invariant_of-result : goal.invariant_of-result
@@ -17,4 +17,4 @@ invariant_of-result c =
     let s = c.args.self in
     let is : c.content_of-content.result ≡ message_by s.nid s.front.items s.packets.store s.padding =
     c.content_of-content.ensures ∙ ap (λ (front : List ℕ). content_by (front_row s.nid) s.nid front s.packets.store.packets.items s.packets.store.bits s.padding) c.as_slice.ensures.value in
-    subst IsMessage (sym is) (whole_reads s.nid s.stage s.front.items s.packets.left s.packets.store s.padding (length s.front.items) s.stands c.requires.ended c.requires.whole c.requires.holds).0
+    subst IsMessage (sym is) (whole_reads s.nid s.phase s.front.items s.packets.left s.packets.store s.padding (length s.front.items) s.stands c.requires.ended c.requires.whole c.requires.holds).0

@@ -7,22 +7,22 @@ use Rattle.etcs_radio.proofs.RestHolds.{data_follows, data_room, fits_behind}
 use Rattle.etcs_radio.proofs.rest.MessageRest.keep.Goals as goal
 
 pub bits-requires : goal.bits-requires
-bits-requires g c = let s = c.args.self.now in ∥∥₁_map s.fits (data_room s.stage c.args.left (length c.args.slice.now) (g.S.PacketStore.holds s.packets.store) c.requires.stage c.requires.within)
+bits-requires g c = let s = c.args.self.now in ∥∥₁_map s.fits (data_room s.phase c.args.left (length c.args.slice.now) (g.S.PacketStore.holds s.packets.store) c.requires.phase c.requires.within)
 
 pub invariant_of-self : goal.invariant_of-self
 invariant_of-self g c =
     let s = c.args.self.now in
     let to : c.behind_data-self.result ≡ behind_data (c.args.left - length c.args.slice.now) = c.behind_data-self.ensures ∙ ap (λ n. behind_data (c.args.left - n)) c.len.ensures in
     record {
-      stands = rw to (data_stands s.nid (c.args.left - length c.args.slice.now) (length s.front.items) s.packets.left (data_parts s.nid s.stage c.args.left (length s.front.items) s.packets.left c.requires.stage s.stands).1);
-      fits = ∥∥₁_map s.fits (fits_behind s.stage c.behind_data-self.result c.args.left (g.S.PacketStore.holds s.packets.store) (g.S.PacketStore.holds c.bits.new.self) c.args.slice.now c.requires.stage to c.requires.within (λ vs k h. c.in-Ok.ensures.ok vs [] k h));
+      stands = rw to (data_stands s.nid (c.args.left - length c.args.slice.now) (length s.front.items) s.packets.left (data_parts s.nid s.phase c.args.left (length s.front.items) s.packets.left c.requires.phase s.stands).1);
+      fits = ∥∥₁_map s.fits (fits_behind s.phase c.behind_data-self.result c.args.left (g.S.PacketStore.holds s.packets.store) (g.S.PacketStore.holds c.bits.new.self) c.args.slice.now c.requires.phase to c.requires.within (λ vs k h. c.in-Ok.ensures.ok vs [] k h));
     }
 
 pub returns-in-Ok-clause-ok : goal.returns-in-Ok-clause-ok
 returns-in-Ok-clause-ok g c =
     let s = c.args.self.now in
     let to : c.behind_data-self.result ≡ behind_data (c.args.left - length c.args.slice.now) = c.behind_data-self.ensures ∙ ap (λ n. behind_data (c.args.left - n)) c.len.ensures in
-    data_follows s.nid s.stage c.behind_data-self.result c.args.left s.front.items s.packets.left s.padding (g.S.PacketStore.holds s.packets.store) (g.S.PacketStore.holds c.bits.new.self) c.args.slice.now c.requires.stage to c.requires.within (λ vs k h. c.in-Ok.ensures.ok vs [] k h)
+    data_follows s.nid s.phase c.behind_data-self.result c.args.left s.front.items s.packets.left s.padding (g.S.PacketStore.holds s.packets.store) (g.S.PacketStore.holds c.bits.new.self) c.args.slice.now c.requires.phase to c.requires.within (λ vs k h. c.in-Ok.ensures.ok vs [] k h)
 
 pub returns-in-Ok-clause-goes : goal.returns-in-Ok-clause-goes
 returns-in-Ok-clause-goes g c =

@@ -14,16 +14,16 @@ use Rattle.etcs_radio.proofs.rest.MessageRest.leap_packets.Given.{Over}
 use Rattle.etcs_radio.proofs.rest.MessageRest.leap_packets.Goals as goal
 
 -- what is left alone is the same
-same_rest : (g : Over) (s : MessageRest g.row.S.Denot g.S.PacketStore) (p : PacketsRest g.row.S.Denot g.S.PacketStore) → p ≡ s.packets → (h : IsTrue (stands_at s.nid s.stage (length s.front.items) p.left)) (k : ∥ DataFits s.stage (g.S.PacketStore.holds p.store) ∥₁)
-    → ◌≡◌ {A = MessageRest g.row.S.Denot g.S.PacketStore} (record { nid = s.nid; stage = s.stage; front = s.front; packets = p; padding = s.padding; stands = h; fits = k }) s
+same_rest : (g : Over) (s : MessageRest g.row.S.Denot g.S.PacketStore) (p : PacketsRest g.row.S.Denot g.S.PacketStore) → p ≡ s.packets → (h : IsTrue (stands_at s.nid s.phase (length s.front.items) p.left)) (k : ∥ DataFits s.phase (g.S.PacketStore.holds p.store) ∥₁)
+    → ◌≡◌ {A = MessageRest g.row.S.Denot g.S.PacketStore} (record { nid = s.nid; phase = s.phase; front = s.front; packets = p; padding = s.padding; stands = h; fits = k }) s
 same_rest g s p e h k i = record {
   nid = s.nid;
-  stage = s.stage;
+  phase = s.phase;
   front = s.front;
   packets = e i;
   padding = s.padding;
-  stands = is_prop→PathP (λ j. IsTrue (stands_at s.nid s.stage (length s.front.items) (e j).left)) (λ j. Bool-set _ _) h s.stands i;
-  fits = is_prop→PathP (λ j. ∥ DataFits s.stage (g.S.PacketStore.holds (e j).store) ∥₁) (λ j. ∥∥₁_prop) k s.fits i;
+  stands = is_prop→PathP (λ j. IsTrue (stands_at s.nid s.phase (length s.front.items) (e j).left)) (λ j. Bool-set _ _) h s.stands i;
+  fits = is_prop→PathP (λ j. ∥ DataFits s.phase (g.S.PacketStore.holds (e j).store) ∥₁) (λ j. ∥∥₁_prop) k s.fits i;
 }
 
 pub invariant_of-self : goal.invariant_of-self
@@ -34,7 +34,7 @@ invariant_of-self g c =
     let e = c.behind_packets-self.ensures in
     let leaps = rw c.in-Ok-Some.field-0-is at c.in-Ok-Some.ensures.some in
     record {
-      stands = packets_stands s.nid s.stage c.behind_packets-self.result (length s.front.items) l l' leaps.whole c.requires.stage e s.stands leaps.follows.0;
+      stands = packets_stands s.nid s.phase c.behind_packets-self.result (length s.front.items) l l' leaps.whole c.requires.phase e s.stands leaps.follows.0;
       fits = ∣ no_data_packets c.behind_packets-self.result l' (g.S.PacketStore.holds c.leap.new.self.store) e ∣₁;
     }
 
@@ -45,13 +45,13 @@ returns-in-Ok-Some-clause-some g c =
     let l' = c.leap.new.self.left in
     let e = c.behind_packets-self.ensures in
     let leaps = rw c.in-Ok-Some.field-0-is at c.in-Ok-Some.ensures.some in
-    let message = packets_message s.nid s.stage (length s.front.items) l l' leaps.whole c.requires.stage s.stands leaps.follows.0 in
+    let message = packets_message s.nid s.phase (length s.front.items) l l' leaps.whole c.requires.phase s.stands leaps.follows.0 in
     record {
       some = leaps.some;
       inside = leaps.inside;
       goes = rw e (packets_all s.nid l' leaps.goes);
       whole = leaps.whole;
-      follows = packets_follow s.nid s.stage c.behind_packets-self.result s.front.items l l' s.padding (g.S.PacketStore.holds s.packets.store) (g.S.PacketStore.holds c.leap.new.self.store) leaps.whole c.requires.stage e message leaps.follows.0 leaps.goes leaps.follows.1;
+      follows = packets_follow s.nid s.phase c.behind_packets-self.result s.front.items l l' s.padding (g.S.PacketStore.holds s.packets.store) (g.S.PacketStore.holds c.leap.new.self.store) leaps.whole c.requires.phase e message leaps.follows.0 leaps.goes leaps.follows.1;
       bits = leaps.bits;
     }
 
@@ -64,4 +64,4 @@ returns-in-Ok-None-clause-none g c =
 pub returns-in-Err-clause-viable : goal.returns-in-Err-clause-viable
 returns-in-Err-clause-viable g c =
     let s = c.args.self.now in
-    rw c.requires.stage (packets_viable s.nid s.packets.left (part c.args.at 1 (bits c.args.piece.now)) c.in-Err.ensures.viable)
+    rw c.requires.phase (packets_viable s.nid s.packets.left (part c.args.at 1 (bits c.args.piece.now)) c.in-Err.ensures.viable)

@@ -19,7 +19,7 @@ number_at-requires-clause-inside g c = omega (arith, c.min-count.ensures, c.requ
 pub returns : goal.returns
 returns g c =
     let s = c.args.self.now in
-    let pos = (padding_parts s.nid s.stage c.args.left (length s.front.items) s.packets.left c.requires.stage s.stands).0 in
+    let pos = (padding_parts s.nid s.phase c.args.left (length s.front.items) s.packets.left c.requires.phase s.stands).0 in
     let t = num c.min-count.result c.number_at.result in
     record {
       some = omega (arith, c.min-count.ensures, pos, c.requires.inside, length-bits c.args.piece.now);

@@ -6,7 +6,7 @@ use Rattle.etcs_radio.proofs.rest.MessageRest.pad.Goals as goal
 pub returns-clause-follows : goal.returns-clause-follows
 returns-clause-follows g c =
     let s = c.args.self.now in
-    padding_follows s.nid s.stage c.behind_padding-self.result c.args.left c.args.count c.args.number s.front.items s.packets.left s.padding (g.S.PacketStore.holds s.packets.store) c.requires.stage c.behind_padding-self.ensures c.requires.within c.requires.small
+    padding_follows s.nid s.phase c.behind_padding-self.result c.args.left c.args.count c.args.number s.front.items s.packets.left s.padding (g.S.PacketStore.holds s.packets.store) c.requires.phase c.behind_padding-self.ensures c.requires.within c.requires.small
 
 pub returns-clause-goes : goal.returns-clause-goes
 returns-clause-goes g c =

@@ -14,7 +14,7 @@ invariant_of-self g c =
     let (vs, found, same) = front_there length (front_row s.nid) c.in-Some.count c.in-Some.ensures in
     let count_is : c.in-Some.count ≡ length (front_vars s.nid) = same ∙ sym (ap (λ o. length (some_row o)) found) in
     let to : c.behind_front-next.result ≡ behind_front (length (front_vars s.nid)) next l = c.behind_front-next.ensures ∙ ap (λ n. behind_front n next l) count_is in
-    let parts = front_parts s.nid s.stage c.args.at (length s.front.items) l c.requires.stage s.stands in
+    let parts = front_parts s.nid s.phase c.args.at (length s.front.items) l c.requires.phase s.stands in
     let count : length (s.front.items ++ c.args.number ∷ []) ≡ next = length-append s.front.items (c.args.number ∷ []) ∙ ap (λ n. n + 1) parts.1 in
     let stands : IsTrue (stands_at s.nid c.behind_front-next.result (length c.push.new.self.items) l) = rw (to, c.push.ensures.items) (front_stands s.nid next (length (s.front.items ++ c.args.number ∷ [])) l count parts.2) in
     record {
@@ -32,4 +32,4 @@ returns g c =
     let to : c.behind_front-next.result ≡ behind_front (length (front_vars s.nid)) next l = c.behind_front-next.ensures ∙ ap (λ n. behind_front n next l) count_is in
     λ x first goes.
     rw c.push.ensures.items
-    (front_follows s.nid s.stage c.behind_front-next.result c.args.at s.front.items l s.padding (g.S.PacketStore.holds s.packets.store) x c.args.number c.requires.stage to s.stands first goes)
+    (front_follows s.nid s.phase c.behind_front-next.result c.args.at s.front.items l s.padding (g.S.PacketStore.holds s.packets.store) x c.args.number c.requires.phase to s.stands first goes)

@@ -3,6 +3,7 @@ use Rattle.std.specs.Prelude.{nat_lt}
 use Rattle.std.proofs.Math.Logic.{∥∥₁_map}
 use Rattle.std.proofs.lemmas.Bool.{and_from, lt-ltb}
 use Rattle.etcs_vars.proofs.Languages.{Same}
+use Rattle.etcs_tables.specs.declared.row.Way.TheVariants.{ToTrain}
 use Rattle.etcs_rows.specs.declared.frames.Carrier.TheVariants.{Message}
 use Rattle.etcs_sequence.specs.Contents.{Run}
 use Rattle.etcs_sequence.specs.Lefts.{left_of, ahead, is_closed}
@@ -21,7 +22,7 @@ invariant_of-self g c =
     let (vs, found, wide) = front_there front_bits (front_row s.nid) c.in-Some.front c.in-Some.ensures in
     let room = c.args.number * 8 - c.in-Some.front in
     record {
-      stands = begun_stands s.nid (length s.front.items) vs l' (ap some_row found) (front_short s.nid vs found).0 (begin_parts s.nid s.stage (length s.front.items) s.packets.left c.requires.stage s.stands).0 (begun_message l' room c.start.ensures.carrier c.start.ensures.ahead c.start.ensures.left);
+      stands = begun_stands s.nid (length s.front.items) vs l' (ap some_row found) (front_short s.nid vs found).0 (begin_parts s.nid s.phase (length s.front.items) s.packets.left c.requires.phase s.stands).0 (begun_message l' room c.start.ensures.carrier c.start.ensures.ahead c.start.ensures.left);
       fits = ∣ tt ∣₁;
     }
 
@@ -32,12 +33,12 @@ invariant_of-self-in-None g c =
     let holds = g.S.PacketStore.holds s.packets.store in
     let len = c.args.number in
     let found = no_front front_bits (front_row s.nid) c.in-None.ensures in
-    let closed = (begin_parts s.nid s.stage (length s.front.items) l c.requires.stage s.stands).1 in
-    let bounds = kept_bounds s.nid len found (rw c.requires.stage at c.requires.goes) in
+    let closed = (begin_parts s.nid s.phase (length s.front.items) l c.requires.phase s.stands).1 in
+    let bounds = kept_bounds s.nid len found (rw c.requires.phase at c.requires.goes) in
     let bits : 8 * len - 18 ≡ len * 8 - 18 = omega arith in
     record {
       stands = and_from (nat_lt 0 (len * 8 - 18)) (is_closed l.stage) (let b = bounds.0 in lt-ltb 0 (len * 8 - 18) (omega (arith, b))) closed;
-      fits = ∥∥₁_map s.fits (λ h. subst (λ n. DataFits (phase.Data n) holds) bits (begun_fits s.nid s.stage l holds len c.requires.stage found c.requires.goes h));
+      fits = ∥∥₁_map s.fits (λ h. subst (λ n. DataFits (phase.Data n) holds) bits (begun_fits s.nid s.phase l holds len c.requires.phase found c.requires.goes h));
     }
 
 pub returns-in-Some : goal.returns-in-Some
@@ -48,6 +49,6 @@ returns-in-Some g c =
     let len = c.args.number in
     let (vs, found, wide) = front_there front_bits (front_row s.nid) c.in-Some.front c.in-Some.ensures in
     let room : len * 8 - c.in-Some.front ≡ 8 * len - front_bits vs = omega (arith, wide) in
-    let bits : ahead l'.room l'.stage ≡ 8 * len - front_bits vs = subst (λ n. ahead l'.room l'.stage ≡ n) room c.start.ensures.ahead in
-    let left : Same (left_of l'.carrier l'.room l'.stage) (Run Message (8 * len - front_bits vs)) = subst (λ n. Same (left_of l'.carrier l'.room l'.stage) (Run Message n)) room c.start.ensures.left in
-    typed_follows s.nid s.stage s.front.items l l' s.padding (g.S.PacketStore.holds s.packets.store) (g.S.PacketStore.holds c.start.new.self.store) len vs c.requires.stage s.stands found c.requires.goes (typed_behind s.nid len vs l l' found (rw c.requires.stage at c.requires.goes) bits left) bits c.start.ensures.held
+    let bits : ahead l'.carrier l'.room l'.stage ≡ 8 * len - front_bits vs = subst (λ n. ahead l'.carrier l'.room l'.stage ≡ n) room c.start.ensures.ahead in
+    let left : Same (left_of l'.carrier l'.room l'.stage) (Run (Message ToTrain) (8 * len - front_bits vs)) = subst (λ n. Same (left_of l'.carrier l'.room l'.stage) (Run (Message ToTrain) n)) room c.start.ensures.left in
+    typed_follows s.nid s.phase s.front.items l l' s.padding (g.S.PacketStore.holds s.packets.store) (g.S.PacketStore.holds c.start.new.self.store) len vs c.requires.phase s.stands found c.requires.goes (typed_behind s.nid len vs l l' found (rw c.requires.phase at c.requires.goes) bits left) bits c.start.ensures.held

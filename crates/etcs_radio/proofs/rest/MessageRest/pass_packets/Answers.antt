@@ -10,7 +10,7 @@ use Rattle.etcs_radio.proofs.rest.MessageRest.pass_packets.Goals as goal
 pub pass-requires-clause-goes : goal.pass-requires-clause-goes
 pass-requires-clause-goes g c =
     let s = c.args.self.now in
-    (begins_packets s.nid s.stage s.packets.left c.args.var 0 c.args.number c.requires.stage c.requires.next).1 c.requires.goes
+    (begins_packets s.nid s.phase s.packets.left c.args.var 0 c.args.number c.requires.phase c.requires.next).1 c.requires.goes
 
 pub invariant_of-self : goal.invariant_of-self
 invariant_of-self g c =
@@ -18,7 +18,7 @@ invariant_of-self g c =
     let l' = c.pass.new.self.left in
     let e = c.behind_packets-self.ensures in
     record {
-      stands = packets_stands s.nid s.stage c.behind_packets-self.result (length s.front.items) s.packets.left l' ((c.args.var, c.args.number) ∷ []) c.requires.stage e s.stands c.in-Ok.ensures.ok.0;
+      stands = packets_stands s.nid s.phase c.behind_packets-self.result (length s.front.items) s.packets.left l' ((c.args.var, c.args.number) ∷ []) c.requires.phase e s.stands c.in-Ok.ensures.ok.0;
       fits = ∣ no_data_packets c.behind_packets-self.result l' (g.S.PacketStore.holds c.pass.new.self.store) e ∣₁;
     }
 
@@ -28,7 +28,7 @@ returns-in-Ok-clause-ok g c =
     let l = s.packets.left in
     let l' = c.pass.new.self.left in
     let one = (c.args.var, c.args.number) ∷ [] in
-    let goes : Starts (left_of l.carrier l.room l.stage) c.args.var 0 c.args.number = (begins_packets s.nid s.stage l c.args.var 0 c.args.number c.requires.stage c.requires.next).1 c.requires.goes in
+    let goes : Starts (left_of l.carrier l.room l.stage) c.args.var 0 c.args.number = (begins_packets s.nid s.phase l c.args.var 0 c.args.number c.requires.phase c.requires.next).1 c.requires.goes in
     let moved = c.in-Ok.ensures.ok.0 in
-    let message = packets_message s.nid s.stage (length s.front.items) l l' one c.requires.stage s.stands moved in
-    packets_follow s.nid s.stage c.behind_packets-self.result s.front.items l l' s.padding (g.S.PacketStore.holds s.packets.store) (g.S.PacketStore.holds c.pass.new.self.store) one c.requires.stage c.behind_packets-self.ensures message moved (moved_left l l' c.args.var c.args.number goes moved) c.in-Ok.ensures.ok.1
+    let message = packets_message s.nid s.phase (length s.front.items) l l' one c.requires.phase s.stands moved in
+    packets_follow s.nid s.phase c.behind_packets-self.result s.front.items l l' s.padding (g.S.PacketStore.holds s.packets.store) (g.S.PacketStore.holds c.pass.new.self.store) one c.requires.phase c.behind_packets-self.ensures message moved (moved_left l l' c.args.var c.args.number goes moved) c.in-Ok.ensures.ok.1

@@ -7,34 +7,34 @@ use Rattle.etcs_radio.proofs.rest.MessageRestRest.begins.Goals as goal
 pub returns-in-Number : goal.returns-in-Number
 returns-in-Number g c =
     let s = c.args.self.now in
-    (λ _. begins_number s.nid s.stage s.packets.left c.args.var c.args.rest c.args.number c.in-Number.is c.requires.next c.requires.rest c.requires.fits, λ _. refl)
+    (λ _. begins_number s.nid s.phase s.packets.left c.args.var c.args.rest c.args.number c.in-Number.is c.requires.next c.requires.rest c.requires.fits, λ _. refl)
 
 pub returns-in-Length : goal.returns-in-Length
 returns-in-Length g c =
     let s = c.args.self.now in
     let fits = c.message_lengths.ensures.fits in
-    rw c.begins.ensures (begins_length s.nid c.message_lengths.result.now s.stage s.packets.left c.args.var c.args.rest c.args.number c.message_lengths.ensures.ordered
+    rw c.begins.ensures (begins_length s.nid c.message_lengths.result.now s.phase s.packets.left c.args.var c.args.rest c.args.number c.message_lengths.ensures.ordered
     (λ n. (λ h. (length_fits s.nid n).0 ((fits n).0 h), λ k. (fits n).1 ((length_fits s.nid n).1 k))) c.in-Length.is c.requires.next)
 
 pub returns-in-Front : goal.returns-in-Front
 returns-in-Front g c =
     let s = c.args.self.now in
-    rw (c.begins-in-Front.ensures, c.ranges-in-Front.ensures) (begins_front s.nid s.stage c.in-Front.field-0 s.packets.left c.args.var c.args.rest c.args.number c.in-Front.is c.requires.next c.requires.rest c.requires.fits c.requires.goes)
+    rw (c.begins-in-Front.ensures, c.ranges-in-Front.ensures) (begins_front s.nid s.phase c.in-Front.field-0 s.packets.left c.args.var c.args.rest c.args.number c.in-Front.is c.requires.next c.requires.rest c.requires.fits c.requires.goes)
 
 pub returns-in-Packets : goal.returns-in-Packets
 returns-in-Packets g c =
     let s = c.args.self.now in
-    let two = begins_packets s.nid s.stage s.packets.left c.args.var c.args.rest c.args.number c.in-Packets.is c.requires.next in
+    let two = begins_packets s.nid s.phase s.packets.left c.args.var c.args.rest c.args.number c.in-Packets.is c.requires.next in
     (λ t. two.0 (c.begins-in-Packets.ensures.0 t), λ t. c.begins-in-Packets.ensures.1 (two.1 t))
 
 pub returns-in-Padding : goal.returns-in-Padding
 returns-in-Padding g c =
     let s = c.args.self.now in
-    let pos = (padding_parts s.nid s.stage c.in-Padding.field-0 (length s.front.items) s.packets.left c.in-Padding.is s.stands).0 in
-    (λ _. begins_padding s.nid s.stage c.in-Padding.field-0 s.packets.left c.args.var c.args.rest c.args.number c.in-Padding.is pos c.requires.next c.requires.rest c.requires.fits, λ _. refl)
+    let pos = (padding_parts s.nid s.phase c.in-Padding.field-0 (length s.front.items) s.packets.left c.in-Padding.is s.stands).0 in
+    (λ _. begins_padding s.nid s.phase c.in-Padding.field-0 s.packets.left c.args.var c.args.rest c.args.number c.in-Padding.is pos c.requires.next c.requires.rest c.requires.fits, λ _. refl)
 
 pub returns-in-Data : goal.returns-in-Data
 returns-in-Data g c =
     let s = c.args.self.now in
-    let pos = (data_parts s.nid s.stage c.in-Data.field-0 (length s.front.items) s.packets.left c.in-Data.is s.stands).0 in
-    (λ _. begins_data s.nid s.stage c.in-Data.field-0 s.packets.left c.args.var c.args.rest c.args.number c.in-Data.is pos c.requires.next c.requires.rest c.requires.fits, λ _. refl)
+    let pos = (data_parts s.nid s.phase c.in-Data.field-0 (length s.front.items) s.packets.left c.in-Data.is s.stands).0 in
+    (λ _. begins_data s.nid s.phase c.in-Data.field-0 s.packets.left c.args.var c.args.rest c.args.number c.in-Data.is pos c.requires.next c.requires.rest c.requires.fits, λ _. refl)

@@ -1,4 +1,4 @@
-use Rattle.std.proofs.Common.{sym, subst, ap}
+use Rattle.std.proofs.Common.{ap}
 use Rattle.etcs_sequence.proofs.Feeding.{first_is, first_stage}
 use Rattle.etcs_sequence.proofs.item.ItemReader.new.Goals as goal
 

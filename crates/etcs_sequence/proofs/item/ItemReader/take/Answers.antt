@@ -1,7 +1,5 @@
-use Rattle.std.proofs.Common.{◌≡◌, None, sym, ap, ◌∙◌}
-use Rattle.std.specs.Prelude.{is_some}
-use Rattle.etcs_sequence.specs.Stages.{finished}
-use Rattle.etcs_sequence.proofs.Feeding.{at_of, none_there, whole_reading, whole_stage}
+use Rattle.std.proofs.Common.{sym, ◌∙◌}
+use Rattle.etcs_sequence.proofs.Feeding.{none_there}
 use Rattle.etcs_sequence.proofs.item.ItemReader.take.Goals as goal
 
 pub into_item-requires-clause-ended : goal.into_item-requires-clause-ended

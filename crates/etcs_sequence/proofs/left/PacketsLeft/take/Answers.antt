@@ -1,11 +1,10 @@
 use Rattle.std.proofs.Common.{◌≡◌, ◌∷◌, [], ◌==◌, ◌&&◌, refl}
 use Rattle.std.specs.Prelude.{IsTrue, nat_lt}
 use Rattle.std.proofs.lemmas.Bool.{ltb-true}
-use Rattle.etcs_vars.specs.declared.var.Var.TheVariants.{OTHER_DATA, Q_DIR}
+use Rattle.etcs_vars.specs.declared.var.Var.TheVariants.{OTHER_DATA}
 use Rattle.etcs_vars.specs.Reading.{kept}
-use Rattle.etcs_vars.specs.Vars.{admits}
-use Rattle.etcs_tables.specs.declared.row.Way.TheVariants.{ToTrain}
-use Rattle.etcs_tables.specs.Frames.{is_kept}
+use Rattle.etcs_tables.specs.Frames.{is_kept, is_direction}
+use Rattle.etcs_rows.specs.Frames.{way_of}
 use Rattle.etcs_rows.proofs.PlaceLemmas.{and_both}
 use Rattle.etcs_sequence.specs.Contents.{Run}
 use Rattle.etcs_sequence.specs.Lefts.{is_stage}
@@ -19,7 +18,7 @@ one_bit c =
     let s = c.args.self.now in
     let k = c.in-Kept in
     let stands : IsTrue (is_stage s.carrier s.room s.stage) = s.stands in
-    let pos = (and_both (admits Q_DIR k.dir) (nat_lt 0 k.left) (and_both (is_kept ToTrain k.nid) (admits Q_DIR k.dir && nat_lt 0 k.left) (rw k.is at stands)).1).1 in
+    let pos = (and_both (is_direction (way_of s.carrier) k.dir) (nat_lt 0 k.left) (and_both (is_kept (way_of s.carrier) k.nid) (is_direction (way_of s.carrier) k.dir && nat_lt 0 k.left) (rw k.is at stands)).1).1 in
     let next = rw k.is at c.requires.next in
     let same : OTHER_DATA ≡ c.args.var = cc in
     let goes = rw (k.is, ← same) at c.requires.goes in

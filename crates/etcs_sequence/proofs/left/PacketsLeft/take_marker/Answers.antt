@@ -1,5 +1,8 @@
-use Rattle.etcs_sequence.proofs.Framing.{marker_moved}
+use Rattle.etcs_sequence.proofs.Framing.{marker_moved, marker_room}
 use Rattle.etcs_sequence.proofs.left.PacketsLeft.take_marker.Goals as goal
+
+pub overflow_sub-self : goal.overflow_sub-self
+overflow_sub-self c = marker_room c.args.self.now.room c.args.number (rw c.requires.stage at c.requires.goes)
 
 pub returns-clause-moved : goal.returns-clause-moved
 returns-clause-moved c =

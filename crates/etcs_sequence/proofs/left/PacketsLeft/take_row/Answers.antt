@@ -1,8 +1,7 @@
 use Rattle.std.proofs.Common.{◌≡◌, ◌∷◌, ◌++◌, ◌&&◌, [], sym, ◌∙◌}
 use Rattle.std.specs.Prelude.{IsTrue, is_some}
-use Rattle.etcs_vars.specs.declared.var.Var.TheVariants.{Q_DIR}
-use Rattle.etcs_vars.specs.Vars.{admits}
-use Rattle.etcs_tables.specs.declared.row.Way.TheVariants.{ToTrain}
+use Rattle.etcs_tables.specs.Frames.{is_direction}
+use Rattle.etcs_rows.specs.Frames.{way_of}
 use Rattle.etcs_rows.specs.Places.{first_variable}
 use Rattle.etcs_tables.specs.Rows.{row_to}
 use Rattle.etcs_rows.proofs.PlaceLemmas.{and_both}
@@ -27,10 +26,11 @@ returns-then-is_some-clause-moved c =
 
 pub returns-then-is_some-clause-here : goal.returns-then-is_some-clause-here
 returns-then-is_some-clause-here c f k h here =
+    let s = c.args.self.now in
     let r = c.in-Row in
     let new = c.go_on.new.self in
     let i = rw r.is at here in
-    rw r.is (i.0, here_more r.field-0 r.field-1 r.row.place r.row.len new.place new.len f h c.args.var c.args.number i.1 c.go_on.ensures.left)
+    rw r.is (i.0, here_more (way_of s.carrier) r.field-0 r.field-1 r.row.place r.row.len new.place new.len f h c.args.var c.args.number i.1 c.go_on.ensures.left)
 
 pub returns-clause-moved : goal.returns-clause-moved
 returns-clause-moved c =
@@ -57,9 +57,9 @@ returns-clause-here c f k h here =
     let number : r.field-0 ≡ c.args.nid = cc in
     let direction : r.field-1 ≡ c.args.dir = cc in
     let stands : IsTrue (is_stage s.carrier s.room s.stage) = s.stands in
-    let last = and_both (is_some (row_to ToTrain r.field-0)) (admits Q_DIR r.field-1 && is_some (first_variable r.row.place)) (rw r.is at stands) in
-    let directed = (and_both (admits Q_DIR r.field-1) (is_some (first_variable r.row.place)) last.1).0 in
+    let last = and_both (is_some (row_to (way_of s.carrier) r.field-0)) (is_direction (way_of s.carrier) r.field-1 && is_some (first_variable r.row.place)) (rw r.is at stands) in
+    let directed = (and_both (is_direction (way_of s.carrier) r.field-1) (is_some (first_variable r.row.place)) last.1).0 in
     let goes = row_goes s.carrier s.room r.row new c.args.var c.args.number (rw r.is at c.requires.next) (rw r.is at c.requires.goes) d in
     let none = rw c.var.ensures at (none_is c.var.result (sym c.if-is_some.ensures)) in
-    let more = here_more r.field-0 r.field-1 r.row.place r.row.len new.place new.len f h c.args.var c.args.number i.1 d in
+    let more = here_more (way_of s.carrier) r.field-0 r.field-1 r.row.place r.row.len new.place new.len f h c.args.var c.args.number i.1 d in
     rw (r.is, ← number, ← direction) (i.0, here_whole s.carrier r.field-0 r.field-1 new (f ++ c.args.number ∷ []) (h ++ (c.args.var, c.args.number) ∷ []) directed none goes more, c.behind_packet-self.ensures.here)

@@ -1,6 +1,6 @@
 use Rattle.std.proofs.Common.{◌≡◌, ℕ, ◌++◌, ◌∷◌, [], refl, subst, arith}
 use Rattle.std.proofs.Math.Logic.{∥∥₁_map}
-use Rattle.etcs_bits.specs.Bits.{bits, num, part}
+use Rattle.etcs_bits.specs.Bits.{num, part, bits}
 use Rattle.etcs_bits.proofs.Positions.{length-bits}
 use Rattle.etcs_vars.specs.declared.var.Var.TheVariants.{NID_PACKET}
 use Rattle.etcs_sequence.proofs.LeapLemmas.{closing_goes, closing_held, closing_bits}
@@ -16,30 +16,32 @@ pub number_at-requires-clause-inside : goal.number_at-requires-clause-inside
 number_at-requires-clause-inside g c = omega (arith, c.requires.inside, length-bits c.args.piece.now)
 
 pub take_number-requires-clause-goes : goal.take_number-requires-clause-goes
-take_number-requires-clause-goes g c = c.may_close.ensures c.if-not-may_close.false
+take_number-requires-clause-goes g c = rw c.from-number.ensures (c.may_close.ensures c.if-not-may_close.false)
 
 pub invariant_of-self : goal.invariant_of-self
 invariant_of-self g c =
     let s = c.args.self.now.left in
     let t = c.take_number.new.self in
+    let n = c.from-number.result in
     let H = g.S.PacketStore.holds c.args.self.now.store in
-    let held = closing_held s.carrier t.carrier s.stage t.stage 255 H c.requires.stage c.take_number.ensures.moved.same c.take_number.ensures.here in
-    record { held = ∥∥₁_map c.args.self.now.held (λ old closed. let h = old (rw c.requires.stage refl) in (h.0 ++ (NID_PACKET, 255) ∷ [], held h.0 h.1)) }
+    let held = closing_held s.carrier t.carrier s.stage t.stage n H c.requires.stage c.take_number.ensures.moved.same c.take_number.ensures.here in
+    record { held = ∥∥₁_map c.args.self.now.held (λ old closed. let h = old (rw c.requires.stage refl) in (h.0 ++ (NID_PACKET, n) ∷ [], held h.0 h.1)) }
 
 pub returns-clause-some : goal.returns-clause-some
 returns-clause-some g c =
     let s = c.args.self.now.left in
     let t = c.take_number.new.self in
+    let n = c.from-number.result in
     let xs = bits c.args.piece.now in
     let H = g.S.PacketStore.holds c.args.self.now.store in
     let moved = c.take_number.ensures.moved in
-    let held = closing_held s.carrier t.carrier s.stage t.stage 255 H c.requires.stage moved.same c.take_number.ensures.here in
-    let is : c.number_at.result ≡ 255 = omega arith in
+    let held = closing_held s.carrier t.carrier s.stage t.stage n H c.requires.stage moved.same c.take_number.ensures.here in
+    let is : c.number_at.result ≡ n = omega arith in
     record {
       some = omega arith;
       inside = omega (arith, c.requires.inside, length-bits c.args.piece.now);
-      goes = closing_goes s.carrier t.carrier s.room t.room 255 s.stage t.stage (c.may_close.ensures c.if-not-may_close.false) moved;
-      whole = (NID_PACKET, 255) ∷ [];
+      goes = closing_goes s.carrier t.carrier s.room t.room n s.stage t.stage (rw c.from-number.ensures (c.may_close.ensures c.if-not-may_close.false)) moved;
+      whole = (NID_PACKET, n) ∷ [];
       follows = (moved, held);
-      bits = closing_bits 255 (part c.args.at 8 xs) (subst (λ (k : ℕ). num 8 k ≡ part c.args.at 8 xs) is c.number_at.ensures.bits);
+      bits = closing_bits n (part c.args.at 8 xs) (subst (λ (k : ℕ). num 8 k ≡ part c.args.at 8 xs) is c.number_at.ensures.bits);
     }

@@ -1,14 +1,59 @@
-use Rattle.std.proofs.Common.{◌≡◌, ◌++◌, ◌-◌, ◌≤◌, refl, sym, subst, ◌∙◌, arith}
+use Rattle.std.proofs.Common.{◌≡◌, ◌++◌, ◌+◌, ◌-◌, ◌≤◌, length, refl, sym, ap, subst, ◌∙◌, arith}
 use Rattle.std.proofs.Math.Logic.{∥∥₁_map, ∥∥₁_prop}
-use Rattle.etcs_bits.specs.Bits.{bits, part}
+use Rattle.etcs_bits.specs.Bits.{part, bits}
 use Rattle.etcs_bits.proofs.Lists.{length-part}
-use Rattle.etcs_packets.specs.PacketReadings.{packet_reading}
+use Rattle.etcs_tables.specs.declared.row.Way.{Way}
+use Rattle.etcs_tables.specs.declared.row.Way.TheVariants.{ToTrain}
+use Rattle.etcs_tables.specs.Frames.{frame_bits, kept_limit}
+use Rattle.etcs_tables.specs.Layouts.{ROW_LIMIT}
+use Rattle.etcs_packets.specs.PacketReadings.{reading_to}
+use Rattle.etcs_packets.specs.laws.PacketReadings.{frame_is}
+use Rattle.etcs_rows.specs.Frames.{way_of}
 use Rattle.etcs_sequence.proofs.Fits.{run_some}
+use Rattle.etcs_sequence.proofs.Carried.{FrameAt}
 use Rattle.etcs_sequence.proofs.LeapLemmas.{WholeAt, whole_at, leapt_held, packet_viable}
 use Rattle.etcs_sequence.specs.declared.packets.PacketsRest.{PacketsRest, held-type}
 use Rattle.etcs_sequence.proofs.packets.PacketsRest.leap_packet.Given.{Over}
 use Rattle.etcs_sequence.proofs.packets.PacketsRest.leap_packet.Goals as goal
 use Rattle.etcs_sequence.proofs.packets.PacketsRest.leap_packet.Goals.{In-Ok-true}
+use Rattle.etcs_sequence.specs.laws.Framed.{frame_between}
+
+-- a store's packets go to the train
+most_bits : (way : Way) → kept_limit way ≤ ROW_LIMIT
+most_bits ToTrain = omega arith
+
+pub overflow_sub-len : goal.overflow_sub-len
+overflow_sub-len g c = rw (c.frame_bits-frame.ensures.bits, c.way-way.ensures) c.in-Some.ensures.least
+
+pub overflow_add-at : goal.overflow_add-at
+overflow_add-at g c =
+    let l = c.in-Some.ensures in
+    omega (arith, l.least, l.within, c.requires.small, c.frame_bits-frame.ensures.bits, ap frame_bits c.way-way.ensures)
+
+pub number_at-nid-requires-clause-inside : goal.number_at-nid-requires-clause-inside
+number_at-nid-requires-clause-inside g c =
+    let l = c.in-Some.ensures in
+    omega (arith, l.least, l.within, (frame_between (way_of c.args.self.now.left.carrier)).0)
+
+pub direction_at-dir-requires-clause-inside : goal.direction_at-dir-requires-clause-inside
+direction_at-dir-requires-clause-inside g c =
+    let l = c.in-Some.ensures in
+    rw c.way-way.ensures (omega (arith, l.least, l.within, frame_is (way_of c.args.self.now.left.carrier)))
+
+pub run_at-requires : goal.run_at-requires
+run_at-requires g c =
+    let l = c.in-Some.ensures in
+    omega (arith, l.least, l.within, c.frame_bits-frame.ensures.bits, ap frame_bits c.way-way.ensures)
+
+pub whole-requires : goal.whole-requires
+whole-requires g c =
+    let s = c.args.self.now.left in
+    let l = c.in-Some.ensures in
+    let frame = c.frame_bits-frame.ensures.bits ∙ ap frame_bits c.way-way.ensures in
+    let inside : c.args.at + c.frame_bits-frame.result + (c.in-Some.len - c.frame_bits-frame.result) ≤ length (bits c.args.piece.now) = omega (arith, l.least, l.within, frame) in
+    let size = ap length c.run_at.ensures ∙ length-part (c.args.at + c.frame_bits-frame.result) (c.in-Some.len - c.frame_bits-frame.result) (bits c.args.piece.now) inside in
+    let limit = most_bits (way_of s.carrier) in
+    omega (arith, size, l.room, s.small, frame, limit)
 
 -- the packet that lies whole in the piece
 taken : (g : Over) (c : In-Ok-true g) → WholeAt c.args.self.now.left.carrier (g.S.PacketStore.holds c.args.self.now.store) (g.S.PacketStore.holds c.whole.new.self) (bits c.args.piece.now) c.args.at c.in-Some.len
@@ -18,11 +63,12 @@ taken g c =
     let l = c.in-Some.ensures in
     let e = c.in-Ok-true.ensures in
     let yes = c.in-Ok-true.field-0-test in
-    let same = c.run_at.ensures in
+    let same = rw (c.frame_bits-frame.ensures.bits, c.way-way.ensures) at c.run_at.ensures in
     let H = g.S.PacketStore.holds c.args.self.now.store in
     let H' = g.S.PacketStore.holds c.whole.new.self in
     let (v, (t, (is, b))) = e.packet yes in
-    whole_at s.carrier H H' xs c.args.at c.in-Some.len c.number_at-nid.result c.number_at-dir.result l.least l.within c.number_at-nid.ensures.bits c.number_at-dir.ensures.bits l.bits (λ vs u h t' is' b'. e.held yes vs u h t' is' (b' ∙ sym same)) v t is (b ∙ same)
+    let frame : FrameAt (way_of s.carrier) c.number_at-nid.result c.direction_at-dir.result c.in-Some.len c.args.at xs = record { least = l.least; number = c.number_at-nid.ensures.bits; direction = rw c.way-way.ensures at c.direction_at-dir.ensures; long = l.bits } in
+    whole_at s.carrier H H' xs c.args.at c.in-Some.len c.number_at-nid.result c.direction_at-dir.result frame l.within (λ vs u h t' is' b'. e.held yes vs u h t' is' (b' ∙ sym same)) v t is (b ∙ same)
 
 pub invariant_of-self : goal.invariant_of-self
 invariant_of-self g c =
@@ -33,7 +79,7 @@ invariant_of-self g c =
     let w = taken g (goal.at.invariant_of-self g c).In-Ok-true in
     let moved = c.skip.ensures.moved w.packet w.carried w.long in
     let held = leapt_held s.carrier c.skip.new.self.carrier H H' xs c.args.at c.in-Some.len s.stage c.skip.new.self.stage w c.requires.stage moved.same c.skip.ensures.here in
-    record { held = ∥∥₁_map c.args.self.now.held (λ old closed. let h = old (rw c.requires.stage refl) in (h.0 ++ packet_reading w.packet, held h.0 h.1)) }
+    record { held = ∥∥₁_map c.args.self.now.held (λ old closed. let h = old (rw c.requires.stage refl) in (h.0 ++ reading_to (way_of s.carrier) w.packet, held h.0 h.1)) }
 
 pub invariant_of-self-in-Ok-false : goal.invariant_of-self-in-Ok-false
 invariant_of-self-in-Ok-false g c =
@@ -50,13 +96,13 @@ returns-in-Ok-true-clause-some g c =
     let w = taken g (goal.at.returns-in-Ok-true-clause-some g c).In-Ok-true in
     let moved = c.skip.ensures.moved w.packet w.carried w.long in
     let held = leapt_held s.carrier c.skip.new.self.carrier H H' xs c.args.at c.in-Some.len s.stage c.skip.new.self.stage w c.requires.stage moved.same c.skip.ensures.here in
-    let small : s.room ≤ 8191 = rw c.requires.stage at s.small in
+    let small = s.small in
     let some = run_some s.carrier (s.room - c.in-Some.len) (omega (arith, small)) l.left in
     record {
-      some = omega (arith, l.least);
+      some = omega (arith, l.least, (frame_between (way_of s.carrier)).0);
       inside = l.within;
       goes = (some.0, (c.skip.ensures.room some.0).1 some.1);
-      whole = packet_reading w.packet;
+      whole = reading_to (way_of s.carrier) w.packet;
       follows = (moved, held);
       bits = w.bits;
     }
@@ -72,6 +118,6 @@ returns-in-Err-clause-viable g c =
     let s = c.args.self.now.left in
     let xs = bits c.args.piece.now in
     let l = c.in-Some.ensures in
-    let small : s.room ≤ 8191 = rw c.requires.stage at s.small in
+    let small = s.small in
     let v = packet_viable s.carrier s.room c.in-Some.len (part c.args.at 1 xs) (length-part c.args.at 1 xs (omega (arith, c.requires.inside))) l.least l.room small l.left in
     rw c.requires.stage v

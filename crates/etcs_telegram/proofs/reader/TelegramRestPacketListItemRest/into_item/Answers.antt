@@ -4,9 +4,9 @@ use Rattle.etcs_telegram.proofs.reader.TelegramRestPacketListItemRest.into_item.
 pub of_numbers-requires : goal.of_numbers-requires
 of_numbers-requires c =
     let s = c.args.self in
-    rw c.as_slice.ensures.value (finished_is c.args._size s.size s.stage s.header.items s.packets.left s.packets.store s.stands c.requires.ended c.requires.whole c.requires.holds).numbers
+    rw c.as_slice.ensures.value (finished_is c.args._size s.size s.phase s.header.items s.packets.left s.packets.store s.stands c.requires.ended c.requires.whole c.requires.holds).numbers
 
 pub invariant_of-result : goal.invariant_of-result
 invariant_of-result c =
     let s = c.args.self in
-    rw (c.of_numbers.ensures, c.as_slice.ensures.value, c.from_vec.ensures) (finished_is c.args._size s.size s.stage s.header.items s.packets.left s.packets.store s.stands c.requires.ended c.requires.whole c.requires.holds).telegram
+    rw (c.of_numbers.ensures, c.as_slice.ensures.value, c.from_vec.ensures) (finished_is c.args._size s.size s.phase s.header.items s.packets.left s.packets.store s.stands c.requires.ended c.requires.whole c.requires.holds).telegram

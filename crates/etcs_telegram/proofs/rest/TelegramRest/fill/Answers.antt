@@ -6,22 +6,22 @@ use Rattle.etcs_telegram.proofs.RestHolds.{fill_follows, fill_room, fits_behind}
 use Rattle.etcs_telegram.proofs.rest.TelegramRest.fill.Goals as goal
 
 pub bits-requires : goal.bits-requires
-bits-requires g c = ∥∥₁_map c.args.self.now.fits (fill_room c.args.self.now.stage c.args.left (length c.args.slice.now) (g.S.PacketStore.holds c.args.self.now.packets.store) c.requires.stage c.requires.within)
+bits-requires g c = ∥∥₁_map c.args.self.now.fits (fill_room c.args.self.now.phase c.args.left (length c.args.slice.now) (g.S.PacketStore.holds c.args.self.now.packets.store) c.requires.phase c.requires.within)
 
 pub invariant_of-self : goal.invariant_of-self
 invariant_of-self g c =
     let s = c.args.self.now in
     let to : c.after_fill-self.result ≡ after_fill s.size c.args.left (length c.args.slice.now) = c.after_fill-self.ensures ∙ ap (after_fill s.size c.args.left) c.len.ensures in
     record {
-      stands = rw to (fill_stands s.size c.args.left (length c.args.slice.now) (length s.header.items) s.packets.left (fill_parts s.stage c.args.left (length s.header.items) s.packets.left c.requires.stage s.stands).1);
-      fits = ∥∥₁_map s.fits (fits_behind s.size s.stage c.after_fill-self.result c.args.left (g.S.PacketStore.holds s.packets.store) (g.S.PacketStore.holds c.bits.new.self) c.args.slice.now c.requires.stage to c.requires.within (λ vs k h. c.in-Ok.ensures.ok vs [] k h));
+      stands = rw to (fill_stands s.size c.args.left (length c.args.slice.now) (length s.header.items) s.packets.left (fill_parts s.phase c.args.left (length s.header.items) s.packets.left c.requires.phase s.stands).1);
+      fits = ∥∥₁_map s.fits (fits_behind s.size s.phase c.after_fill-self.result c.args.left (g.S.PacketStore.holds s.packets.store) (g.S.PacketStore.holds c.bits.new.self) c.args.slice.now c.requires.phase to c.requires.within (λ vs k h. c.in-Ok.ensures.ok vs [] k h));
     }
 
 pub returns-in-Ok-clause-ok : goal.returns-in-Ok-clause-ok
 returns-in-Ok-clause-ok g c =
     let s = c.args.self.now in
     let to : c.after_fill-self.result ≡ after_fill s.size c.args.left (length c.args.slice.now) = c.after_fill-self.ensures ∙ ap (after_fill s.size c.args.left) c.len.ensures in
-    fill_follows s.size s.stage c.after_fill-self.result c.args.left s.header.items s.packets.left (g.S.PacketStore.holds s.packets.store) (g.S.PacketStore.holds c.bits.new.self) c.args.slice.now c.requires.stage to c.requires.within (λ vs k h. c.in-Ok.ensures.ok vs [] k h)
+    fill_follows s.size s.phase c.after_fill-self.result c.args.left s.header.items s.packets.left (g.S.PacketStore.holds s.packets.store) (g.S.PacketStore.holds c.bits.new.self) c.args.slice.now c.requires.phase to c.requires.within (λ vs k h. c.in-Ok.ensures.ok vs [] k h)
 
 pub returns-in-Ok-clause-goes : goal.returns-in-Ok-clause-goes
 returns-in-Ok-clause-goes g c =

@@ -20,7 +20,7 @@ run_at-requires g c = omega (arith, c.min-count.ensures, c.requires.inside, leng
 pub returns-in-Ok-clause-ok : goal.returns-in-Ok-clause-ok
 returns-in-Ok-clause-ok g c =
     let s = c.args.self.now in
-    let pos = (fill_parts s.stage c.args.left (length s.header.items) s.packets.left c.requires.stage s.stands).0 in
+    let pos = (fill_parts s.phase c.args.left (length s.header.items) s.packets.left c.requires.phase s.stands).0 in
     record {
       some = omega (arith, c.min-count.ensures, pos, c.requires.inside, length-bits c.args.piece.now);
       inside = omega (arith, c.min-count.ensures, c.requires.inside, length-bits c.args.piece.now);
@@ -34,6 +34,6 @@ pub returns-in-Err-clause-viable : goal.returns-in-Err-clause-viable
 returns-in-Err-clause-viable g c =
     let s = c.args.self.now in
     let xs = bits c.args.piece.now in
-    let pos = (fill_parts s.stage c.args.left (length s.header.items) s.packets.left c.requires.stage s.stands).0 in
+    let pos = (fill_parts s.phase c.args.left (length s.header.items) s.packets.left c.requires.phase s.stands).0 in
     let one = length-part c.args.at 1 xs (omega (arith, c.requires.inside)) in
-    rw c.requires.stage (fill_viable s.size c.args.left (part c.args.at 1 xs) (omega (arith, one, pos)))
+    rw c.requires.phase (fill_viable s.size c.args.left (part c.args.at 1 xs) (omega (arith, one, pos)))

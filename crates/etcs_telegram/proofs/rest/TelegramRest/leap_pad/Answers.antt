@@ -26,12 +26,12 @@ returns-clause-some g c =
     let left = c.args.left in
     let zeros = replicate left false in
     let none : c.number_at.result ≡ 0 = (let t = c.if-number_at-gt0.false in omega (arith, t)) in
-    let pos = pad_parts s.stage left (length s.header.items) s.packets.left c.requires.stage s.stands in
+    let pos = pad_parts s.phase left (length s.header.items) s.packets.left c.requires.phase s.stands in
     record {
       some = pos;
       inside = omega (arith, c.requires.inside, c.if-piece-at.false, length-bits c.args.piece.now);
       goes = ([], refl);
       whole = kept PAD zeros;
-      follows = whole_pad s.size s.stage Whole left s.header.items s.packets.left (g.S.PacketStore.holds s.packets.store) c.requires.stage refl;
+      follows = whole_pad s.size s.phase Whole left s.header.items s.packets.left (g.S.PacketStore.holds s.packets.store) c.requires.phase refl;
       bits = bits_spelled PAD zeros refl ∙ sym (num-zeros left) ∙ ap (num left) (sym none) ∙ c.number_at.ensures.bits;
     }

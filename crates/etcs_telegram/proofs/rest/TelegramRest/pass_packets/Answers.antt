@@ -10,7 +10,7 @@ use Rattle.etcs_telegram.proofs.rest.TelegramRest.pass_packets.Goals as goal
 pub pass-requires-clause-goes : goal.pass-requires-clause-goes
 pass-requires-clause-goes g c =
     let s = c.args.self.now in
-    (begins_packets s.size s.stage s.packets.left c.args.var 0 c.args.number c.requires.stage c.requires.next).1 c.requires.goes
+    (begins_packets s.size s.phase s.packets.left c.args.var 0 c.args.number c.requires.phase c.requires.next).1 c.requires.goes
 
 pub invariant_of-self : goal.invariant_of-self
 invariant_of-self g c =
@@ -20,8 +20,8 @@ invariant_of-self g c =
     let m = length s.header.items in
     let e = c.behind_packets-self.ensures in
     record {
-      stands = packets_stands s.size s.stage c.behind_packets-self.result m l l' ((c.args.var, c.args.number) ∷ []) c.requires.stage e s.stands c.in-Ok.ensures.ok.0;
-      fits = ∥∥₁_map s.packets.held (packets_fits s.size s.stage c.behind_packets-self.result m l l' (g.S.PacketStore.holds s.packets.store) (g.S.PacketStore.holds c.pass.new.self.store) ((c.args.var, c.args.number) ∷ []) c.requires.stage e s.stands c.in-Ok.ensures.ok.1);
+      stands = packets_stands s.size s.phase c.behind_packets-self.result m l l' ((c.args.var, c.args.number) ∷ []) c.requires.phase e s.stands c.in-Ok.ensures.ok.0;
+      fits = ∥∥₁_map s.packets.held (packets_fits s.size s.phase c.behind_packets-self.result m l l' (g.S.PacketStore.holds s.packets.store) (g.S.PacketStore.holds c.pass.new.self.store) ((c.args.var, c.args.number) ∷ []) c.requires.phase e s.stands c.in-Ok.ensures.ok.1);
     }
 
 pub returns-in-Ok-clause-ok : goal.returns-in-Ok-clause-ok
@@ -29,6 +29,6 @@ returns-in-Ok-clause-ok g c =
     let s = c.args.self.now in
     let l = s.packets.left in
     let l' = c.pass.new.self.left in
-    let goes : Starts (left_of l.carrier l.room l.stage) c.args.var 0 c.args.number = (begins_packets s.size s.stage l c.args.var 0 c.args.number c.requires.stage c.requires.next).1 c.requires.goes in
+    let goes : Starts (left_of l.carrier l.room l.stage) c.args.var 0 c.args.number = (begins_packets s.size s.phase l c.args.var 0 c.args.number c.requires.phase c.requires.next).1 c.requires.goes in
     let moved = c.in-Ok.ensures.ok.0 in
-    packets_follow s.size s.stage c.behind_packets-self.result s.header.items l l' (g.S.PacketStore.holds s.packets.store) (g.S.PacketStore.holds c.pass.new.self.store) ((c.args.var, c.args.number) ∷ []) c.requires.stage c.behind_packets-self.ensures s.stands moved (moved_left l l' c.args.var c.args.number goes moved) c.in-Ok.ensures.ok.1
+    packets_follow s.size s.phase c.behind_packets-self.result s.header.items l l' (g.S.PacketStore.holds s.packets.store) (g.S.PacketStore.holds c.pass.new.self.store) ((c.args.var, c.args.number) ∷ []) c.requires.phase c.behind_packets-self.ensures s.stands moved (moved_left l l' c.args.var c.args.number goes moved) c.in-Ok.ensures.ok.1

@@ -26,7 +26,7 @@ seen c =
     let none = rw (← c.new-feeder.ensures.rest) at c.new.ensures.holds in
     let (stop, count, h) = c.in-Ok.ensures.going c.new-feeder.ensures.stop in
     let f = h.passed.follows in
-    all_seen c.args.size (left_at s.size s.stage s.packets.left) same b (container_bits c.args.size c.args.bytes.now (c.if-bytes-container_bytes.false ∙ c.container_bytes.ensures)) t.size t.stage t.header.items t.packets.left t.packets.store.packets c.in-Ok.field-0 c.new-feeder.result.part c.feed.new.self.part h.passed.whole (f.same ∙ size) t.stands h.within c.new-feeder.ensures.part f.residual (f.held [] none) h.passed.bits h.more
+    all_seen c.args.size (left_at s.size s.phase s.packets.left) same b (container_bits c.args.size c.args.bytes.now (c.if-bytes-container_bytes.false ∙ c.container_bytes.ensures)) t.size t.phase t.header.items t.packets.left t.packets.store.packets c.in-Ok.field-0 c.new-feeder.result.part c.feed.new.self.part h.passed.whole (f.same ∙ size) t.stands h.within c.new-feeder.ensures.part f.residual (f.held [] none) h.passed.bits h.more
 
 pub of_numbers-requires : goal.of_numbers-requires
 of_numbers-requires c =
@@ -55,5 +55,5 @@ returns-in-Err-Refused-clause-refused c i x e =
     let same = rw (← c.new-feeder.ensures.rest) at c.new.ensures.left in
     let answer = c.in-Err-Refused.ensures.going c.new-feeder.ensures.stop in
     let (stop, is, n, place, h) = rw c.in-Err-Refused.field-0-is at answer in
-    let r = refused_bit c.args.size (left_at s.size s.stage s.packets.left) same c.new-feeder.result.part b c.in-Err-Refused.bit n c.new-feeder.result.count c.in-Err-Refused.var c.new-feeder.ensures.part c.new-feeder.ensures.count place h.refuses in
+    let r = refused_bit c.args.size (left_at s.size s.phase s.packets.left) same c.new-feeder.result.part b c.in-Err-Refused.bit n c.new-feeder.result.count c.in-Err-Refused.var c.new-feeder.ensures.part c.new-feeder.ensures.count place h.refuses in
     refused_same (TelegramLanguage c.args.size) b c.in-Err-Refused.bit i c.in-Err-Refused.var x (let f : ◌≡◌ {A = ViewFault} (Refused c.in-Err-Refused.bit c.in-Err-Refused.var) (Refused i x) = (let g = e in cc) in f) r

@@ -1,7 +1,7 @@
 -- What a reader of a language of values stands for, and what a feed answers.
 use Rattle.std.specs.Prelude.{◌≡◌, ℕ, ◌+◌, ◌*◌, ◌%◌, ◌<◌, ◌≤◌, Bool, true, false, List, ◌++◌, length, take, Option, Some, None, is_some, Result, Ok, Err, IsTrue, if◌then◌else◌}
 use Rattle.etcs_vars.specs.declared.var.Var.{Var}
-use Rattle.etcs_vars.specs.declared.var.Var.TheVariants.{Q_DIR, PAD, PADDING}
+use Rattle.etcs_vars.specs.declared.var.Var.TheVariants.{NID_MESSAGE, L_MESSAGE, T_TRAIN, M_ACK, NID_LRBG, NID_EM, Q_ORIENTATION, D_SR, D_REF, Q_DIR, PAD, PADDING}
 use Rattle.etcs_vars.specs.Reading.{Reading, spelled, Viable, Owner, readings_of, IsOutcome, done, refused, more}
 use Rattle.etcs_vars.specs.Walking.{Residual}
 use Rattle.etcs_vars.specs.declared.feed.Fed.{Fed}
@@ -46,6 +46,15 @@ fault_by stop.Memory = Memory
 -- memory may be asked for at a variable of packets and at bits that are kept: no number of Q_DIR, PAD or PADDING is among
 -- what grows
 abbrev pub asks_memory : Var → Bool
+asks_memory NID_MESSAGE = false
+asks_memory L_MESSAGE = false
+asks_memory T_TRAIN = false
+asks_memory M_ACK = false
+asks_memory NID_LRBG = false
+asks_memory NID_EM = false
+asks_memory Q_ORIENTATION = false
+asks_memory D_SR = false
+asks_memory D_REF = false
 asks_memory Q_DIR = false
 asks_memory PAD = false
 asks_memory PADDING = false

@@ -8,7 +8,6 @@ use Rattle.etcs_tables.specs.Layouts.{ROW_LIMIT}
 use Rattle.etcs_tables.specs.Typed.{IsTyped, IsFramed}
 use Rattle.etcs_bodies.specs.Taking.{Left, listed, in_bits, ◌and_then◌}
 use Rattle.etcs_bodies.specs.Faults.{number_fault}
-use Rattle.etcs_bodies.specs.Packets.{whole_from}
 
 -- what is read as a packet is one, and a packet is read of what it spells
 pub record PacketCodes {P : Type 0} (way : Way) (nid : ℕ) (direction : P → ℕ) (IsValue : P → Type 0) (reading : P → Reading) (from : ℕ → Left → Option P) : Type 0 where
@@ -26,9 +25,9 @@ abbrev pub fitting : {A : Type 0} → Option BuildFault → A → Option A
 fitting None a = Some a
 fitting (Some e) a = None
 
--- the packet of this direction that takes all that is left, where it isn't too long
-unfoldable pub packet_from : {B P : Type 0} → (Left → Option (B × Left)) → (P → Option BuildFault) → (ℕ → B → P) → ℕ → Left → Option P
-packet_from from too_long make dir s = whole_from from dir s and_then λ b. fitting (too_long (make b.0 b.1)) (make b.0 b.1)
+-- the packet of a direction with which what is left begins, where it isn't too long, and what is left after it
+unfoldable pub directed_from : {B P : Type 0} → (Left → Option (B × Left)) → (P → Option BuildFault) → (ℕ → B → P) → ℕ → Left → Option (P × Left)
+directed_from from too_long make dir s = from s and_then λ b. fitting (too_long (make dir b.0)) (make dir b.0, b.1)
 
 -- of packets that can't be too long
 abbrev pub never : {P : Type 0} → P → Option BuildFault

@@ -8,7 +8,6 @@ use Rattle.etcs_vars.specs.Vars.{admits}
 use Rattle.etcs_vars.specs.Reading.{Reading}
 use Rattle.etcs_tables.specs.Layouts.{ROW_LIMIT}
 use Rattle.etcs_bodies.specs.Taking.{Left, is_spent, ◌and_then◌}
-use Rattle.etcs_bodies.specs.laws.Takes.{taken}
 use Rattle.etcs_bodies.specs.Repeats.{bit_count}
 
 -- ---- The length.
@@ -22,14 +21,13 @@ length_fault r = bits_fault (bit_count r)
 
 -- ---- What is read as a packet.
 
--- the direction, where Q_DIR admits it, and the body that takes all that is left
-abbrev pub whole_from : {B : Type 0} → (Left → Option (B × Left)) → ℕ → Left → Option (ℕ × B)
-whole_from from dir s = if admits Q_DIR dir then (from s and_then λ b. if is_spent b.1 then Some (dir, b.0) else None) else None
+-- the packet of a direction that Q_DIR admits, which takes all that is left
+unfoldable pub packet_from : {P : Type 0} → (ℕ → Left → Option (P × Left)) → ℕ → Left → Option P
+packet_from from dir s = if admits Q_DIR dir then (from dir s and_then λ p. if is_spent p.1 then Some p.0 else None) else None
 
 -- what a packet was read from
-pub record Whole {B : Type 0} (from : Left → Option (B × Left)) (dir : ℕ) (s : Left) (p : ℕ × B) : Type 0 where
+pub record Whole {P : Type 0} (from : ℕ → Left → Option (P × Left)) (dir : ℕ) (s : Left) (p : P) : Type 0 where
   pub left : Left
-  pub taken : from s ≡ Some (p.1, left)
+  pub taken : from dir s ≡ Some (p, left)
   pub spent : is_spent left ≡ true
-  pub dir_is : p.0 ≡ dir
   pub dir_ok : IsTrue (admits Q_DIR dir)

@@ -1,7 +1,10 @@
 //! What a typed packet has to give: its body, the whole of its row after a direction.
 
-ghost use Rattle.std.specs.Prelude.{◌≡◌, ℕ, Option, Some, None, IfOk, IfSome, IfNone};
+ghost use Rattle.std.specs.Prelude.{◌≡◌, ℕ, Option, Some, None, IfOk, IfSome, IfNone, IsTrue};
+ghost use Rattle.etcs_vars.specs.declared.var.Var.TheVariants.{Q_DIR};
+ghost use Rattle.etcs_vars.specs.Vars.{admits};
 ghost use Rattle.etcs_bodies.specs.Taking.{Left};
+ghost use Rattle.etcs_bodies.specs.Packets.{packet_from};
 ghost use Rattle.etcs_bodies.specs.PacketCodes.{PacketCodes};
 
 use crate::framed::Framed;
@@ -9,11 +12,12 @@ use crate::numbers::Numbers;
 use crate::packetlike::Packetlike;
 use etcs_bits::BitSlice;
 use etcs_tables::Way;
+use etcs_vars::Var;
 use etcs_vars::parts::{Variables, append_numbers};
 use std::alloc::{AllocError, Global};
 
 /// The body of a typed packet, which makes it a `Packetlike` and a `Framed`.
-pub trait Body: Variables + Sized {
+pub trait Body: Variables + Drop {
     ghost use Rattle.etcs_tables.specs.declared.row.Way.{Way};
 
     /// Its NID_PACKET.
@@ -32,22 +36,23 @@ pub trait Body: Variables + Sized {
     /// Holds of every packet of the type.
     ghost is_value: { Self → Type 0 };
 
-    /// The packet of a direction that takes all that is left.
-    ghost read_from: { ℕ → Left → Option Self };
+    /// The packet of a direction with which what is left begins, and what is left after it.
+    ghost read_from: { ℕ → Left → Option (Self × Left) };
 
     /// Its Q_DIR.
     fn q_dir(&self) -> u8
         ensures dir { result ≡ direction self.now }
         ensures value { is_value self.now };
 
-    /// The packet of a direction that takes all of the numbers.
+    /// Takes the packet of a direction that the numbers begin with, if they begin with one.
     ///
     /// # Errors
     ///
     /// `AllocError` where there is no memory.
-    fn read(alloc: Global, dir: u8, numbers: Numbers<'_>) -> Result<Option<Self>, AllocError>
-        ensures some { IfOk result (λ o. IfSome o (λ p. read_from dir numbers.entry ≡ Some p)) }
-        ensures none { IfOk result (λ o. IfNone o (read_from dir numbers.entry ≡ None)) };
+    fn take(alloc: Global, dir: u8, numbers: &mut Numbers) -> Result<Option<Self>, AllocError>
+        requires { IsTrue (admits Q_DIR dir) }
+        ensures some { IfOk result (λ o. IfSome o (λ p. read_from dir numbers.old ≡ Some (p, numbers.new))) }
+        ensures none { IfOk result (λ o. IfNone o (read_from dir numbers.old ≡ None)) };
 
     /// An equal packet.
     ///
@@ -58,7 +63,23 @@ pub trait Body: Variables + Sized {
         ensures { IfOk result (λ p. p ≡ self.now) };
 
     /// What it is read from is what it spells.
-    ghost codes: { PacketCodes WAY NID direction is_value Self.reading_of read_from };
+    ghost codes: { PacketCodes WAY NID direction is_value Self.reading_of (packet_from read_from) };
+}
+
+/// The packet of a direction that takes all of the numbers.
+#[tactic(auto, unfolding(crate::specs::Packets::packet_from))]
+fn read<P: Body>(alloc: Global, dir: u8, mut numbers: Numbers<'_>) -> Result<Option<P>, AllocError>
+    ensures some { IfOk result (λ o. IfSome o (λ p. packet_from P.read_from dir numbers.entry ≡ Some p)) }
+    ensures none { IfOk result (λ o. IfNone o (packet_from P.read_from dir numbers.entry ≡ None)) }
+{
+    if !Var::Q_DIR.admits(u64::from(dir)) {
+        return Ok(None);
+    }
+    let packet = P::take(alloc, dir, &mut numbers)?;
+    if !numbers.is_empty() && dir > 0 {
+        return Ok(None);
+    }
+    Ok(packet)
 }
 
 impl<P: Body> Packetlike for P {
@@ -92,7 +113,7 @@ impl<P: Body> Packetlike for P {
     }
 
     fn from_fields(alloc: Global, dir: u8, fields: &[u64]) -> Result<Option<P>, AllocError> {
-        P::read(alloc, dir, Numbers::new(fields))
+        read(alloc, dir, Numbers::new(fields))
     }
 }
 
@@ -102,7 +123,7 @@ impl<P: Body> Framed for P {
     ghost framed = { all_framed P.codes };
 
     fn from_bits(alloc: Global, dir: u8, bits: BitSlice<'_>) -> Result<Option<P>, AllocError> {
-        P::read(alloc, dir, Numbers::in_bits(bits))
+        read(alloc, dir, Numbers::in_bits(bits))
     }
 
     fn try_clone(&self, alloc: Global) -> Result<P, AllocError> {

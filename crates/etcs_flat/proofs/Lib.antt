@@ -1,5 +1,4 @@
 pub mod Checks
 pub mod Equality
-pub mod FlatCodes
 pub mod FlatLaws
 pub mod TableLaws

@@ -4,7 +4,7 @@ use Rattle.etcs_vars.specs.declared.var.Var.{Var}
 use Rattle.etcs_tables.specs.declared.item.RowItem.TheVariants.{One}
 use Rattle.etcs_tables.specs.Layouts.{Layout, one}
 use Rattle.etcs_bodies.specs.Taking.{Left}
-use Rattle.etcs_bodies.specs.PacketCodes.{packet_from, never}
+use Rattle.etcs_bodies.specs.PacketCodes.{directed_from, never}
 use Rattle.etcs_flat.specs.Flats.{FlatParts, flat_parts, flat_row, numbers_fault}
 use Rattle.etcs_flat.specs.Tables.{table_from}
 
@@ -26,9 +26,9 @@ abbrev pub known : Option (List Var) → List Var
 known None = []
 known (Some vs) = vs
 
-abbrev pub row_from : Option (List Var) → ℕ → Left → Option FlatParts
-row_from o = packet_from (table_from (map One (known o))) never flat_parts
+abbrev pub row_from : Option (List Var) → ℕ → Left → Option (FlatParts × Left)
+row_from o = directed_from (table_from (map One (known o))) never flat_parts
 
--- the packet of a direction that takes all that is left
-abbrev pub flat_from : ℕ → ℕ → Left → Option FlatParts
+-- the packet of a direction with which what is left begins, and what is left after it
+abbrev pub flat_from : ℕ → ℕ → Left → Option (FlatParts × Left)
 flat_from nid = row_from (flat_row nid)

@@ -113,7 +113,7 @@ where
         self.direction()
     }
 
-    fn read(_alloc: Global, dir: u8, numbers: Numbers<'_>) -> Result<Option<Self>, AllocError> {
+    fn take(_alloc: Global, dir: u8, numbers: &mut Numbers) -> Result<Option<Self>, AllocError> {
         Ok(Flat::taken(dir, numbers))
     }
 

@@ -1,9 +1,11 @@
 //! Packets of rows without groups.
 
-ghost use Rattle.std.specs.Prelude.{◌≡◌, ◌≤◌, List, length, map, Some, None, OnOk, IfOk, IfErr, IfSome, IfNone, IsSome};
+ghost use Rattle.std.specs.Prelude.{◌≡◌, ◌≤◌, List, length, map, Some, None, OnOk, IfOk, IfErr, IfSome, IfNone, IsSome, IsTrue};
 ghost use Rattle.std.specs.List.{list_all};
 ghost use Rattle.std.specs.Option.{option_map};
 ghost use Rattle.etcs_vars.specs.declared.var.Var.{Var};
+ghost use Rattle.etcs_vars.specs.declared.var.Var.TheVariants.{Q_DIR};
+ghost use Rattle.etcs_vars.specs.Vars.{admits};
 ghost use Rattle.etcs_tables.specs.declared.item.RowItem.TheVariants.{One};
 ghost use Rattle.etcs_flat.specs.Flats.{flat_parts, flat_row, flat_fault, numbers_fault, is_one};
 ghost use Rattle.etcs_flat.specs.FlatCodes.{flat_from};
@@ -108,20 +110,15 @@ impl<const NID: u8> Flat<NID> {
         self.numbers.as_slice()
     }
 
-    /// The packet of a direction and of all of the numbers, where there is one. Takes no memory.
-    #[tactic(auto, using(crate::specs::laws::FlatCodes::table_none, crate::specs::laws::FlatCodes::undirected))]
-    pub(crate) fn taken(dir: u8, mut numbers: Numbers<'_>) -> Option<Self>
+    /// Takes the packet of a direction that the numbers begin with, if they begin with one. Takes no memory.
+    #[tactic(auto, using(crate::specs::laws::FlatCodes::table_none))]
+    pub(crate) fn taken(dir: u8, numbers: &mut Numbers) -> Option<Self>
         requires flat { IsSome (flat_row NID) }
-        ensures some { IfSome result (λ p. flat_from NID dir numbers.entry ≡ Some p) }
-        ensures none { IfNone result (flat_from NID dir numbers.entry ≡ None) }
+        requires dir { IsTrue (admits Q_DIR dir) }
+        ensures some { IfSome result (λ p. flat_from NID dir numbers.old ≡ Some (p, numbers.new)) }
+        ensures none { IfNone result (flat_from NID dir numbers.old ≡ None) }
     {
-        if !Var::Q_DIR.admits(u64::from(dir)) {
-            return None;
-        }
-        let taken = take_table(table_of(NID), &mut numbers)?;
-        if !numbers.is_empty() {
-            return None;
-        }
+        let taken = take_table(table_of(NID), numbers)?;
         Some(Flat {
             dir,
             numbers: taken,

@@ -11,7 +11,7 @@ use Rattle.etcs_bodies.specs.Taking.{Left, next_number}
 use Rattle.etcs_bodies.specs.Codecs.{both_from, IsBoth}
 use Rattle.etcs_bodies.specs.Entries.{AreEntries, entries_reading, entries_from, entries_row}
 use Rattle.etcs_bodies.specs.Packets.{length_fault}
-use Rattle.etcs_bodies.specs.PacketCodes.{packet_from}
+use Rattle.etcs_bodies.specs.PacketCodes.{directed_from}
 use Rattle.etcs_parts.specs.Links.{LinkParts, IsLink, link_reading}
 use Rattle.etcs_parts.specs.Slopes.{SlopeParts, IsSlope, slope_reading}
 use Rattle.etcs_parts.specs.Speeds.{SpeedParts, IsSpeed, speed_reading}
@@ -58,9 +58,9 @@ IsChain IsV most reading p = (number_fault Q_DIR p.dir ≡ None) × IsBody IsV (
 abbrev pub chain_row : (Layout → Layout) → Layout → Layout
 chain_row row rest = Q_SCALE ▸ entries_row row rest
 
--- the packet of a direction that takes all that is left
-unfoldable pub chain_from : {V : Type 0} → ℕ → (V → Reading) → (Left → Option (V × Left)) → ℕ → Left → Option (ChainParts V)
-chain_from most reading from = packet_from (both_from (next_number Q_SCALE) (entries_from from)) (too_long most reading) chain_of
+-- the packet of a direction with which what is left begins, and what is left after it
+unfoldable pub chain_from : {V : Type 0} → ℕ → (V → Reading) → (Left → Option (V × Left)) → ℕ → Left → Option (ChainParts V × Left)
+chain_from most reading from = directed_from (both_from (next_number Q_SCALE) (entries_from from)) (too_long most reading) chain_of
 
 -- ---- Of links, slopes and speeds.
 

@@ -6,7 +6,7 @@ use Rattle.etcs_vars.specs.Reading.{Reading}
 use Rattle.etcs_bodies.specs.Faults.{◌or_else◌, number_fault, count_fault}
 use Rattle.etcs_bodies.specs.Taking.{Left}
 use Rattle.etcs_bodies.specs.Entries.{AreEntries, entries_reading, entries_from}
-use Rattle.etcs_bodies.specs.PacketCodes.{packet_from, never}
+use Rattle.etcs_bodies.specs.PacketCodes.{directed_from, never}
 use Rattle.etcs_parts.specs.Levels.{LevelParts, IsLevel, level_reading, level_from}
 
 pub record ConditionalLevelOrderParts : Type 0 where
@@ -39,6 +39,6 @@ conditional_level_order_of dir b = conditional_level_order_parts dir b.0 b.1
 abbrev pub IsConditionalLevelOrder : ConditionalLevelOrderParts → Type 0
 IsConditionalLevelOrder p = (number_fault Q_DIR p.dir ≡ None) × AreEntries IsLevel (body_of p)
 
--- the packet of a direction that takes all that is left
-unfoldable pub conditional_level_order_from : ℕ → Left → Option ConditionalLevelOrderParts
-conditional_level_order_from = packet_from (entries_from level_from) never conditional_level_order_of
+-- the packet of a direction with which what is left begins, and what is left after it
+unfoldable pub conditional_level_order_from : ℕ → Left → Option (ConditionalLevelOrderParts × Left)
+conditional_level_order_from = directed_from (entries_from level_from) never conditional_level_order_of

@@ -6,7 +6,7 @@ use Rattle.etcs_vars.specs.Reading.{Reading}
 use Rattle.etcs_bodies.specs.Faults.{◌or_else◌, number_fault}
 use Rattle.etcs_bodies.specs.Taking.{Left, next_number}
 use Rattle.etcs_bodies.specs.Codecs.{both_from, IsBoth}
-use Rattle.etcs_bodies.specs.PacketCodes.{packet_from, never}
+use Rattle.etcs_bodies.specs.PacketCodes.{directed_from, never}
 use Rattle.etcs_parts.specs.TextFrames.{TextFrameParts, IsTextFrame, text_frame_reading, text_frame_from}
 
 pub record FixedTextParts : Type 0 where
@@ -42,6 +42,6 @@ IsBody = IsBoth IsTextFrame (λ n. number_fault Q_TEXT n ≡ None)
 abbrev pub IsFixedText : FixedTextParts → Type 0
 IsFixedText p = (number_fault Q_DIR p.dir ≡ None) × IsBody (body_of p)
 
--- the packet of a direction that takes all that is left
-unfoldable pub fixed_text_from : ℕ → Left → Option FixedTextParts
-fixed_text_from = packet_from (both_from text_frame_from (next_number Q_TEXT)) never fixed_text_of
+-- the packet of a direction with which what is left begins, and what is left after it
+unfoldable pub fixed_text_from : ℕ → Left → Option (FixedTextParts × Left)
+fixed_text_from = directed_from (both_from text_frame_from (next_number Q_TEXT)) never fixed_text_of

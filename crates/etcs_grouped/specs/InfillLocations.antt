@@ -6,7 +6,7 @@ use Rattle.etcs_vars.specs.Reading.{Reading}
 use Rattle.etcs_bodies.specs.Faults.{◌or_else◌, number_fault, option_fault}
 use Rattle.etcs_bodies.specs.Taking.{Left, next_number}
 use Rattle.etcs_bodies.specs.Codecs.{both_from, IsBoth, IsOptional, optional_from, optional_reading}
-use Rattle.etcs_bodies.specs.PacketCodes.{packet_from, never}
+use Rattle.etcs_bodies.specs.PacketCodes.{directed_from, never}
 
 pub record InfillLocationParts : Type 0 where
   pub dir : ℕ
@@ -41,6 +41,6 @@ IsBody = IsBoth (IsOptional (λ (n : ℕ). number_fault NID_C n ≡ None)) (λ n
 abbrev pub IsInfillLocation : InfillLocationParts → Type 0
 IsInfillLocation p = (number_fault Q_DIR p.dir ≡ None) × IsBody (body_of p)
 
--- the packet of a direction that takes all that is left
-unfoldable pub infill_location_from : ℕ → Left → Option InfillLocationParts
-infill_location_from = packet_from (both_from (optional_from (next_number NID_C)) (next_number NID_BG)) never infill_location_of
+-- the packet of a direction with which what is left begins, and what is left after it
+unfoldable pub infill_location_from : ℕ → Left → Option (InfillLocationParts × Left)
+infill_location_from = directed_from (both_from (optional_from (next_number NID_C)) (next_number NID_BG)) never infill_location_of

@@ -6,7 +6,7 @@ use Rattle.etcs_vars.specs.Reading.{Reading}
 use Rattle.etcs_bodies.specs.Faults.{◌or_else◌, number_fault}
 use Rattle.etcs_bodies.specs.Taking.{Left, next_number}
 use Rattle.etcs_bodies.specs.Codecs.{both_from, IsBoth}
-use Rattle.etcs_bodies.specs.PacketCodes.{packet_from, never}
+use Rattle.etcs_bodies.specs.PacketCodes.{directed_from, never}
 use Rattle.etcs_parts.specs.Authorities.{AuthorityParts, IsAuthority, authority_reading, authority_from}
 
 pub record Level1MaParts : Type 0 where
@@ -45,6 +45,6 @@ IsBody = IsBoth (λ n. number_fault Q_SCALE n ≡ None) (IsBoth (λ n. number_fa
 abbrev pub IsLevel1Ma : Level1MaParts → Type 0
 IsLevel1Ma p = (number_fault Q_DIR p.dir ≡ None) × IsBody (body_of p)
 
--- the packet of a direction that takes all that is left
-unfoldable pub level1_ma_from : ℕ → Left → Option Level1MaParts
-level1_ma_from = packet_from (both_from (next_number Q_SCALE) (both_from (next_number V_MAIN) (both_from (next_number V_LOA) (both_from (next_number T_LOA) authority_from)))) never level1_ma_of
+-- the packet of a direction with which what is left begins, and what is left after it
+unfoldable pub level1_ma_from : ℕ → Left → Option (Level1MaParts × Left)
+level1_ma_from = directed_from (both_from (next_number Q_SCALE) (both_from (next_number V_MAIN) (both_from (next_number V_LOA) (both_from (next_number T_LOA) authority_from)))) never level1_ma_of

@@ -7,7 +7,7 @@ use Rattle.etcs_bodies.specs.Faults.{◌or_else◌, number_fault, count_fault}
 use Rattle.etcs_bodies.specs.Taking.{Left, next_number}
 use Rattle.etcs_bodies.specs.Codecs.{both_from, IsBoth}
 use Rattle.etcs_bodies.specs.Entries.{AreEntries, entries_reading, entries_from}
-use Rattle.etcs_bodies.specs.PacketCodes.{packet_from, never}
+use Rattle.etcs_bodies.specs.PacketCodes.{directed_from, never}
 use Rattle.etcs_parts.specs.Levels.{LevelAckParts, IsLevelAck, level_ack_reading, level_ack_from}
 
 pub record LevelOrderParts : Type 0 where
@@ -45,6 +45,6 @@ IsBody = IsBoth (λ n. number_fault Q_SCALE n ≡ None) (IsBoth (λ n. number_fa
 abbrev pub IsLevelOrder : LevelOrderParts → Type 0
 IsLevelOrder p = (number_fault Q_DIR p.dir ≡ None) × IsBody (body_of p)
 
--- the packet of a direction that takes all that is left
-unfoldable pub level_order_from : ℕ → Left → Option LevelOrderParts
-level_order_from = packet_from (both_from (next_number Q_SCALE) (both_from (next_number D_LEVELTR) (entries_from level_ack_from))) never level_order_of
+-- the packet of a direction with which what is left begins, and what is left after it
+unfoldable pub level_order_from : ℕ → Left → Option (LevelOrderParts × Left)
+level_order_from = directed_from (both_from (next_number Q_SCALE) (both_from (next_number D_LEVELTR) (entries_from level_ack_from))) never level_order_of

@@ -7,7 +7,7 @@ use Rattle.etcs_vars.specs.Reading.{Reading}
 use Rattle.etcs_bodies.specs.Faults.{◌or_else◌, number_fault, count_fault}
 use Rattle.etcs_bodies.specs.Taking.{Left, next_number}
 use Rattle.etcs_bodies.specs.Codecs.{both_from, IsBoth, list_reading, list_from, IsEntries}
-use Rattle.etcs_bodies.specs.PacketCodes.{packet_from, never}
+use Rattle.etcs_bodies.specs.PacketCodes.{directed_from, never}
 use Rattle.etcs_parts.specs.TextFrames.{TextFrameParts, IsTextFrame, text_frame_reading, text_frame_from}
 
 -- ---- The text: L_TEXT, and so many bytes.
@@ -59,6 +59,6 @@ IsBody = IsBoth IsTextFrame (IsEntries L_TEXT IsByte)
 abbrev pub IsPlainText : PlainTextParts → Type 0
 IsPlainText p = (number_fault Q_DIR p.dir ≡ None) × IsBody (body_of p)
 
--- the packet of a direction that takes all that is left
-unfoldable pub plain_text_from : ℕ → Left → Option PlainTextParts
-plain_text_from = packet_from (both_from text_frame_from (list_from L_TEXT (next_number X_TEXT))) never plain_text_of
+-- the packet of a direction with which what is left begins, and what is left after it
+unfoldable pub plain_text_from : ℕ → Left → Option (PlainTextParts × Left)
+plain_text_from = directed_from (both_from text_frame_from (list_from L_TEXT (next_number X_TEXT))) never plain_text_of

@@ -173,22 +173,15 @@ impl<E: Chained> Body for Chain<E> {
         self.dir
     }
 
-    #[tactic(auto, using(etcs_bodies::specs::laws::Takes::number_ok), unfolding(etcs_bodies::specs::PacketCodes::packet_from, crate::specs::Chains::chain_from))]
-    fn read(
-        alloc: Global,
-        dir: u8,
-        mut numbers: Numbers<'_>,
-    ) -> Result<Option<Chain<E>>, AllocError> {
-        if !Var::Q_DIR.admits(u64::from(dir)) {
-            return Ok(None);
-        }
+    #[tactic(auto, using(etcs_bodies::specs::laws::Takes::number_ok), unfolding(etcs_bodies::specs::PacketCodes::directed_from, crate::specs::Chains::chain_from))]
+    fn take(alloc: Global, dir: u8, numbers: &mut Numbers) -> Result<Option<Chain<E>>, AllocError> {
         let Some(q_scale) = numbers.next(Var::Q_SCALE) else {
             return Ok(None);
         };
-        let Some(entries) = Entries::take(alloc, &mut numbers)? else {
+        let Some(entries) = Entries::take(alloc, numbers)? else {
             return Ok(None);
         };
-        if !numbers.is_empty() || check_length(dir, q_scale as u8, &entries).is_err() {
+        if check_length(dir, q_scale as u8, &entries).is_err() {
             return Ok(None);
         }
         Ok(Some(Chain {

@@ -109,24 +109,18 @@ impl Body for FixedText {
         self.dir
     }
 
-    #[tactic(auto, using(etcs_bodies::specs::laws::Takes::number_ok), unfolding(etcs_bodies::specs::PacketCodes::packet_from, crate::specs::FixedTexts::fixed_text_from))]
-    fn read(
+    #[tactic(auto, using(etcs_bodies::specs::laws::Takes::number_ok), unfolding(etcs_bodies::specs::PacketCodes::directed_from, crate::specs::FixedTexts::fixed_text_from))]
+    fn take(
         alloc: Global,
         dir: u8,
-        mut numbers: Numbers<'_>,
+        numbers: &mut Numbers,
     ) -> Result<Option<FixedText>, AllocError> {
-        if !Var::Q_DIR.admits(u64::from(dir)) {
-            return Ok(None);
-        }
-        let Some(frame) = TextFrame::take(alloc, &mut numbers)? else {
+        let Some(frame) = TextFrame::take(alloc, numbers)? else {
             return Ok(None);
         };
         let Some(q_text) = numbers.next(Var::Q_TEXT) else {
             return Ok(None);
         };
-        if !numbers.is_empty() {
-            return Ok(None);
-        }
         Ok(Some(FixedText {
             dir,
             q_text: q_text as u8,

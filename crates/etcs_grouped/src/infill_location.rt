@@ -1,6 +1,8 @@
 //! Where the infill that follows begins.
 
-ghost use Rattle.std.specs.Prelude.{◌≡◌, None, Some, IfOk, IfErr, IfSome, IfNone};
+ghost use Rattle.std.specs.Prelude.{◌≡◌, None, Some, IfOk, IfErr, IfSome, IfNone, IsTrue};
+ghost use Rattle.etcs_vars.specs.declared.var.Var.TheVariants.{Q_DIR};
+ghost use Rattle.etcs_vars.specs.Vars.{admits};
 ghost use Rattle.etcs_grouped.specs.InfillLocations.{infill_location_parts, infill_location_fault, infill_location_from};
 
 use etcs_bodies::{Body, Numbers, check};
@@ -70,24 +72,19 @@ impl InfillLocation {
         self.nid_bg
     }
 
-    /// The packet of a direction that takes all of the numbers.
-    #[tactic(auto, using(etcs_bodies::specs::laws::Takes::number_ok), unfolding(etcs_bodies::specs::PacketCodes::packet_from, crate::specs::InfillLocations::infill_location_from))]
-    fn of_numbers(dir: u8, mut numbers: Numbers) -> Option<InfillLocation>
-        ensures some { IfSome result (λ p. infill_location_from dir numbers.entry ≡ Some p) }
-        ensures none { IfNone result (infill_location_from dir numbers.entry ≡ None) }
+    /// Takes the packet of a direction that the numbers begin with.
+    #[tactic(auto, using(etcs_bodies::specs::laws::Takes::number_ok), unfolding(etcs_bodies::specs::PacketCodes::directed_from, crate::specs::InfillLocations::infill_location_from))]
+    fn from_numbers(dir: u8, numbers: &mut Numbers) -> Option<InfillLocation>
+        requires { IsTrue (admits Q_DIR dir) }
+        ensures some { IfSome result (λ p. infill_location_from dir numbers.old ≡ Some (p, numbers.new)) }
+        ensures none { IfNone result (infill_location_from dir numbers.old ≡ None) }
     {
-        if !Var::Q_DIR.admits(u64::from(dir)) {
-            return None;
-        }
         let nid_c = if numbers.flag()? {
             Some(numbers.next(Var::NID_C)? as u16)
         } else {
             None
         };
         let nid_bg = numbers.next(Var::NID_BG)? as u16;
-        if !numbers.is_empty() {
-            return None;
-        }
         Some(InfillLocation { dir, nid_c, nid_bg })
     }
 }
@@ -145,12 +142,12 @@ impl Body for InfillLocation {
         self.dir
     }
 
-    fn read(
+    fn take(
         _alloc: Global,
         dir: u8,
-        numbers: Numbers<'_>,
+        numbers: &mut Numbers,
     ) -> Result<Option<InfillLocation>, AllocError> {
-        Ok(InfillLocation::of_numbers(dir, numbers))
+        Ok(InfillLocation::from_numbers(dir, numbers))
     }
 
     fn copy(&self, _alloc: Global) -> Result<InfillLocation, AllocError> {

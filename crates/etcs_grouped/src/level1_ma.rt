@@ -177,15 +177,8 @@ impl Body for Level1Ma {
         self.dir
     }
 
-    #[tactic(auto, using(etcs_bodies::specs::laws::Takes::number_ok), unfolding(etcs_bodies::specs::PacketCodes::packet_from, crate::specs::Level1Mas::level1_ma_from))]
-    fn read(
-        alloc: Global,
-        dir: u8,
-        mut numbers: Numbers<'_>,
-    ) -> Result<Option<Level1Ma>, AllocError> {
-        if !Var::Q_DIR.admits(u64::from(dir)) {
-            return Ok(None);
-        }
+    #[tactic(auto, using(etcs_bodies::specs::laws::Takes::number_ok), unfolding(etcs_bodies::specs::PacketCodes::directed_from, crate::specs::Level1Mas::level1_ma_from))]
+    fn take(alloc: Global, dir: u8, numbers: &mut Numbers) -> Result<Option<Level1Ma>, AllocError> {
         let Some(q_scale) = numbers.next(Var::Q_SCALE) else {
             return Ok(None);
         };
@@ -198,12 +191,9 @@ impl Body for Level1Ma {
         let Some(t_loa) = numbers.next(Var::T_LOA) else {
             return Ok(None);
         };
-        let Some(authority) = Authority::take(alloc, &mut numbers)? else {
+        let Some(authority) = Authority::take(alloc, numbers)? else {
             return Ok(None);
         };
-        if !numbers.is_empty() {
-            return Ok(None);
-        }
         Ok(Some(Level1Ma {
             dir,
             q_scale: q_scale as u8,

@@ -163,15 +163,12 @@ impl Body for Level23Ma {
         self.dir
     }
 
-    #[tactic(auto, using(etcs_bodies::specs::laws::Takes::number_ok), unfolding(etcs_bodies::specs::PacketCodes::packet_from, crate::specs::Level23Mas::level23_ma_from))]
-    fn read(
+    #[tactic(auto, using(etcs_bodies::specs::laws::Takes::number_ok), unfolding(etcs_bodies::specs::PacketCodes::directed_from, crate::specs::Level23Mas::level23_ma_from))]
+    fn take(
         alloc: Global,
         dir: u8,
-        mut numbers: Numbers<'_>,
+        numbers: &mut Numbers,
     ) -> Result<Option<Level23Ma>, AllocError> {
-        if !Var::Q_DIR.admits(u64::from(dir)) {
-            return Ok(None);
-        }
         let Some(q_scale) = numbers.next(Var::Q_SCALE) else {
             return Ok(None);
         };
@@ -181,12 +178,9 @@ impl Body for Level23Ma {
         let Some(t_loa) = numbers.next(Var::T_LOA) else {
             return Ok(None);
         };
-        let Some(authority) = Authority::take(alloc, &mut numbers)? else {
+        let Some(authority) = Authority::take(alloc, numbers)? else {
             return Ok(None);
         };
-        if !numbers.is_empty() {
-            return Ok(None);
-        }
         Ok(Some(Level23Ma {
             dir,
             q_scale: q_scale as u8,

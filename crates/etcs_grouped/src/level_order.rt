@@ -158,27 +158,21 @@ impl Body for LevelOrder {
         self.dir
     }
 
-    #[tactic(auto, using(etcs_bodies::specs::laws::Takes::number_ok), unfolding(etcs_bodies::specs::PacketCodes::packet_from, crate::specs::LevelOrders::level_order_from))]
-    fn read(
+    #[tactic(auto, using(etcs_bodies::specs::laws::Takes::number_ok), unfolding(etcs_bodies::specs::PacketCodes::directed_from, crate::specs::LevelOrders::level_order_from))]
+    fn take(
         alloc: Global,
         dir: u8,
-        mut numbers: Numbers<'_>,
+        numbers: &mut Numbers,
     ) -> Result<Option<LevelOrder>, AllocError> {
-        if !Var::Q_DIR.admits(u64::from(dir)) {
-            return Ok(None);
-        }
         let Some(q_scale) = numbers.next(Var::Q_SCALE) else {
             return Ok(None);
         };
         let Some(d_leveltr) = numbers.next(Var::D_LEVELTR) else {
             return Ok(None);
         };
-        let Some(levels) = Entries::take(alloc, &mut numbers)? else {
+        let Some(levels) = Entries::take(alloc, numbers)? else {
             return Ok(None);
         };
-        if !numbers.is_empty() {
-            return Ok(None);
-        }
         Ok(Some(LevelOrder {
             dir,
             q_scale: q_scale as u8,

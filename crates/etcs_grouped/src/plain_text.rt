@@ -187,24 +187,18 @@ impl Body for PlainText {
         self.dir
     }
 
-    #[tactic(auto, using(etcs_bodies::specs::laws::Takes::number_ok), unfolding(etcs_bodies::specs::PacketCodes::packet_from, crate::specs::PlainTexts::plain_text_from))]
-    fn read(
+    #[tactic(auto, using(etcs_bodies::specs::laws::Takes::number_ok), unfolding(etcs_bodies::specs::PacketCodes::directed_from, crate::specs::PlainTexts::plain_text_from))]
+    fn take(
         alloc: Global,
         dir: u8,
-        mut numbers: Numbers<'_>,
+        numbers: &mut Numbers,
     ) -> Result<Option<PlainText>, AllocError> {
-        if !Var::Q_DIR.admits(u64::from(dir)) {
-            return Ok(None);
-        }
-        let Some(frame) = TextFrame::take(alloc, &mut numbers)? else {
+        let Some(frame) = TextFrame::take(alloc, numbers)? else {
             return Ok(None);
         };
-        let Some(text) = take_text(alloc, &mut numbers)? else {
+        let Some(text) = take_text(alloc, numbers)? else {
             return Ok(None);
         };
-        if !numbers.is_empty() {
-            return Ok(None);
-        }
         Ok(Some(PlainText {
             dir,
             text: Items::from_vec(text),

@@ -1,5 +1,5 @@
 -- Lemmas about specs/PacketCodes.antt.
-use Rattle.std.proofs.Common.{◌≡◌, ℕ, ◌≤◌, length, Option, Some, None, refl, sym, ap, ◌∙◌, subst}
+use Rattle.std.proofs.Common.{◌≡◌, ℕ, ◌≤◌, true, [], length, Option, Some, None, refl, sym, ap, ◌∙◌, subst}
 use Rattle.std.specs.Prelude.{IsTrue}
 use Rattle.etcs_vars.specs.declared.var.Var.TheVariants.{Q_DIR}
 use Rattle.etcs_vars.specs.declared.fault.BuildFault.{BuildFault}
@@ -11,12 +11,12 @@ use Rattle.etcs_tables.specs.Frames.{is_direction}
 use Rattle.etcs_tables.specs.Layouts.{Layout, whole, ROW_LIMIT}
 use Rattle.etcs_tables.specs.Rows.{row_to}
 use Rattle.etcs_tables.specs.Typed.{IsTyped, IsFramed}
-use Rattle.etcs_bodies.specs.Taking.{Left, listed, in_bits}
+use Rattle.etcs_bodies.specs.Taking.{Left, listed, in_bits, is_spent}
 use Rattle.etcs_bodies.specs.laws.Takes.{taken, admitted, number_ok}
 use Rattle.etcs_bodies.specs.Codecs.{Codes}
-use Rattle.etcs_bodies.specs.Packets.{whole_from}
-use Rattle.etcs_bodies.specs.laws.Packets.{body_of_list, body_of_bits, body_framed, body_back, typed_read, framed_read}
-use Rattle.etcs_bodies.specs.PacketCodes.{PacketCodes, fitting, packet_from, Directed}
+use Rattle.etcs_bodies.specs.Packets.{packet_from}
+use Rattle.etcs_bodies.specs.laws.Packets.{was_whole, is_whole, q_dir, read_list, body_of_list, body_of_bits, body_framed, typed_read, framed_read}
+use Rattle.etcs_bodies.specs.PacketCodes.{PacketCodes, fitting, directed_from, Directed}
 
 module _ {P : Type 0} {way : Way} {nid : ℕ} {direction : P → ℕ} {IsValue : P → Type 0} {reading : P → Reading} {from : ℕ → Left → Option P} (codes : PacketCodes way nid direction IsValue reading from) where
   pub all_typed : (p : P) → IsValue p → IsTyped way nid (direction p) (numbers (reading p))
@@ -42,48 +42,49 @@ was_fitting (Some e) a b h = absurd cc
 
 module _ {B P : Type 0} {row : Layout → Layout} {IsBody : B → Type 0} {body_reading : B → Reading} {from : Left → Option (B × Left)} {too_long : P → Option BuildFault} {direction : P → ℕ} {IsValue : P → Type 0} {reading : P → Reading} {make : ℕ → B → P} (codes : Codes row IsBody body_reading from) (way : Way) (nid : ℕ) (is : row_to way nid ≡ Some (row whole)) (parts : Directed IsBody body_reading too_long direction IsValue reading make) where
   -- what was read was a body of no fault
-  was_read : (dir : ℕ) (s : Left) (p : P) → packet_from from too_long make dir s ≡ Some p → (b : ℕ × B) × (whole_from from dir s ≡ Some b) × (too_long (make b.0 b.1) ≡ None) × (make b.0 b.1 ≡ p)
-  unfolding packet_from
+  was_read : (dir : ℕ) (s : Left) (p : P) → packet_from (directed_from from too_long make) dir s ≡ Some p → (b : B) × (t : Left) × (from s ≡ Some (b, t)) × (is_spent t ≡ true) × IsTrue (admits Q_DIR dir) × (too_long (make dir b) ≡ None) × (make dir b ≡ p)
+  unfolding directed_from
   was_read dir s p h =
-      let a = taken (whole_from from dir s) (λ b. fitting (too_long (make b.0 b.1)) (make b.0 b.1)) p h in
-      let f = was_fitting (too_long (make a.0.0 a.0.1)) (make a.0.0 a.0.1) p a.2 in
-      (a.0, a.1, f.0, f.1)
+      let w = was_whole (directed_from from too_long make) dir s p h in
+      let a = taken (from s) (λ b. fitting (too_long (make dir b.0)) (make dir b.0, b.1)) (p, w.left) w.taken in
+      let f = was_fitting (too_long (make dir a.0.0)) (make dir a.0.0, a.0.1) (p, w.left) a.2 in
+      (a.0.0, w.left, a.1 ∙ ap (λ (q : P × Left). Some (a.0.0, q.1)) f.1, w.spent, w.dir_ok, f.0, ap (λ (q : P × Left). q.0) f.1)
 
-  is_read : (dir : ℕ) (s : Left) (b : B) → length (spelled (body_reading b)) ≤ ROW_LIMIT → whole_from from dir s ≡ Some (dir, b) → packet_from from too_long make dir s ≡ Some (make dir b)
-  unfolding packet_from
-  is_read dir s b short h =
+  is_read : (dir : ℕ) (s t : Left) (b : B) → IsTrue (admits Q_DIR dir) → length (spelled (body_reading b)) ≤ ROW_LIMIT → from s ≡ Some (b, t) → is_spent t ≡ true → packet_from (directed_from from too_long make) dir s ≡ Some (make dir b)
+  unfolding directed_from
+  is_read dir s t b ok short h spent =
       let fits : too_long (make dir b) ≡ None = parts.fits dir b (rw (parts.same dir b) at short) in
-      rw (h, fits) refl
+      is_whole (directed_from from too_long make) dir s t (make dir b) ok (rw (h, fits) refl) spent
 
-  value_of : (dir : ℕ) (b : ℕ × B) (p : P) → make b.0 b.1 ≡ p → too_long (make b.0 b.1) ≡ None → IsBody b.1 → IsTrue (admits Q_DIR b.0) → b.0 ≡ dir → IsValue p × (direction p ≡ dir) × (body_reading b.1 ≡ reading p)
-  value_of dir b p e fits h ok d = (
-    subst IsValue e (parts.so b.0 b.1 h (number_ok Q_DIR b.0 ok) fits),
-    ap direction (sym e) ∙ parts.dir_is b.0 b.1 ∙ d,
-    parts.same b.0 b.1 ∙ ap reading e,
+  value_of : (dir : ℕ) (b : B) (p : P) → make dir b ≡ p → too_long (make dir b) ≡ None → IsBody b → IsTrue (admits Q_DIR dir) → IsValue p × (direction p ≡ dir) × (body_reading b ≡ reading p)
+  value_of dir b p e fits h ok = (
+    subst IsValue e (parts.so dir b h (number_ok Q_DIR dir ok) fits),
+    ap direction (sym e) ∙ parts.dir_is dir b,
+    parts.same dir b ∙ ap reading e,
   )
 
   same_body : (p : P) → body_reading (parts.body p) ≡ reading p
   same_body p = parts.same (direction p) (parts.body p) ∙ ap reading (parts.again p)
 
-  pub packet_codes : PacketCodes way nid direction IsValue reading (packet_from from too_long make)
+  pub packet_codes : PacketCodes way nid direction IsValue reading (packet_from (directed_from from too_long make))
   packet_codes = record {
     of_numbers = λ dir f p h.
-        let a = was_read dir (listed f) p h in
-        let b = body_of_list codes dir f a.0 a.1 in
-        let v = value_of dir a.0 p a.3 a.2 b.0 b.1 b.2 in
-        (v.0, v.1, ap numbers (sym v.2) ∙ b.3);
+        let (b, t, read, spent, ok, fits, e) = was_read dir (listed f) p h in
+        let l = body_of_list codes f b t read spent in
+        let v = value_of dir b p e fits l.0 ok in
+        (v.0, v.1, ap numbers (sym v.2) ∙ l.1);
     of_bits = λ dir x p h.
-        let a = was_read dir (in_bits x) p h in
-        let b = body_of_bits codes dir x a.0 a.1 in
-        let v = value_of dir a.0 p a.3 a.2 b.0 b.1 b.2 in
-        (v.0, v.1, ap spelled (sym v.2) ∙ b.3);
+        let (b, t, read, spent, ok, fits, e) = was_read dir (in_bits x) p h in
+        let l = body_of_bits codes x b t read spent in
+        let v = value_of dir b p e fits l.0 ok in
+        (v.0, v.1, ap spelled (sym v.2) ∙ l.1);
     untyped = λ dir f none h.
         let o = typed_read codes way nid is dir f h in
-        let bad : ◌≡◌ {A = Option P} (Some (make dir o.0)) None = sym (is_read dir (listed f) o.0 o.2 o.3) ∙ none in
+        let bad : ◌≡◌ {A = Option P} (Some (make dir o.0)) None = sym (is_read dir (listed f) (listed []) o.0 (q_dir way dir h.2) o.1 o.2 refl) ∙ none in
         absurd cc;
     unframed = λ dir x none r h e.
         let o = framed_read codes way nid is dir r h in
-        let bad : ◌≡◌ {A = Option P} (Some (make dir o.0)) None = sym (is_read dir (in_bits (spelled r)) o.0 o.2 o.3) ∙ ap (λ y. packet_from from too_long make dir (in_bits y)) e ∙ none in
+        let bad : ◌≡◌ {A = Option P} (Some (make dir o.0)) None = sym (is_read dir (in_bits (spelled r)) (in_bits []) o.0 (q_dir way dir h.2) o.1 o.2 refl) ∙ ap (λ y. packet_from (directed_from from too_long make) dir (in_bits y)) e ∙ none in
         absurd cc;
     framed = λ p h.
         let k = parts.is p h in
@@ -92,6 +93,6 @@ module _ {B P : Type 0} {row : Layout → Layout} {IsBody : B → Type 0} {body_
     back = λ p h.
         let k = parts.is p h in
         let short : length (spelled (body_reading (parts.body p))) ≤ ROW_LIMIT = rw (same_body p) k.2 in
-        let read = is_read (direction p) (listed (numbers (body_reading (parts.body p)))) (parts.body p) short (body_back codes (parts.body p) (direction p) k.0 (admitted Q_DIR (direction p) k.1)) in
+        let read = is_read (direction p) (listed (numbers (body_reading (parts.body p)))) (listed []) (parts.body p) (admitted Q_DIR (direction p) k.1) short (read_list codes (parts.body p) k.0) refl in
         (rw (← same_body p) read) ∙ ap Some (parts.again p);
   }

@@ -20,7 +20,7 @@ use Rattle.etcs_bodies.specs.Repeats.{bit_count}
 use Rattle.etcs_bodies.specs.laws.Repeats.{bit_count_is}
 use Rattle.etcs_bodies.specs.Codecs.{Codes}
 use Rattle.etcs_bodies.specs.laws.Choices.{whole_in, whole_out}
-use Rattle.etcs_bodies.specs.Packets.{bits_fault, length_fault, whole_from, Whole}
+use Rattle.etcs_bodies.specs.Packets.{bits_fault, length_fault, packet_from, Whole}
 
 -- ---- The length.
 
@@ -52,27 +52,29 @@ spent_bits r x (in_bits []) h e = let same : x ≡ spelled r ++ [] = cc in same 
 spent_bits r x (in_bits (b ∷ t)) h e = absurd cc
 spent_bits r x (listed t) h e = absurd cc
 
-by_spent : {B : Type 0} (c : Bool) (dir : ℕ) (b : B) (p : ℕ × B) → ◌≡◌ {A = Option (ℕ × B)} (if c then Some (dir, b) else None) (Some p) → (c ≡ true) × (dir ≡ p.0) × (b ≡ p.1)
-by_spent {B} true dir b p h = let e : ◌≡◌ {A = ℕ × B} (dir, b) p = cc in (refl, ap (λ q. q.0) e, ap (λ q. q.1) e)
-by_spent false dir b p h = absurd cc
+by_spent : {P : Type 0} (c : Bool) (p q : P) → ◌≡◌ {A = Option P} (if c then Some p else None) (Some q) → (c ≡ true) × (p ≡ q)
+by_spent true p q h = let e : p ≡ q = cc in (refl, e)
+by_spent false p q h = absurd cc
 
-by_dir : {B : Type 0} (c : Bool) (o : Option (ℕ × B)) (p : ℕ × B) → ◌≡◌ {A = Option (ℕ × B)} (if c then o else None) (Some p) → (c ≡ true) × (o ≡ Some p)
+by_dir : {P : Type 0} (c : Bool) (o : Option P) (p : P) → ◌≡◌ {A = Option P} (if c then o else None) (Some p) → (c ≡ true) × (o ≡ Some p)
 by_dir true o p h = (refl, h)
 by_dir false o p h = absurd cc
 
-pub was_whole : {B : Type 0} (from : Left → Option (B × Left)) (dir : ℕ) (s : Left) (p : ℕ × B) → whole_from from dir s ≡ Some p → Whole from dir s p
-was_whole {B} from dir s p h =
-    let k : B × Left → Option (ℕ × B) = λ b. if is_spent b.1 then Some (dir, b.0) else None in
-    let d = by_dir (admits Q_DIR dir) (from s and_then k) p h in
-    let a = taken (from s) k p d.1 in
-    let c = by_spent (is_spent a.0.1) dir a.0.0 p a.2 in
-    record { left = a.0.1; taken = a.1 ∙ ap (λ b. Some (b, a.0.1)) c.2; spent = c.0; dir_is = sym c.1; dir_ok = d.0 }
+pub was_whole : {P : Type 0} (from : ℕ → Left → Option (P × Left)) (dir : ℕ) (s : Left) (p : P) → packet_from from dir s ≡ Some p → Whole from dir s p
+unfolding packet_from
+was_whole {P} from dir s p h =
+    let k : P × Left → Option P = λ q. if is_spent q.1 then Some q.0 else None in
+    let d = by_dir (admits Q_DIR dir) (from dir s and_then k) p h in
+    let a = taken (from dir s) k p d.1 in
+    let c = by_spent (is_spent a.0.1) a.0.0 p a.2 in
+    record { left = a.0.1; taken = a.1 ∙ ap (λ q. Some (q, a.0.1)) c.1; spent = c.0; dir_ok = d.0 }
 
-pub is_whole : {B : Type 0} (from : Left → Option (B × Left)) (dir : ℕ) (s t : Left) (b : B) → IsTrue (admits Q_DIR dir) → from s ≡ Some (b, t) → is_spent t ≡ true → whole_from from dir s ≡ Some (dir, b)
-is_whole from dir s t b d h e = rw (d, h, e) refl
+pub is_whole : {P : Type 0} (from : ℕ → Left → Option (P × Left)) (dir : ℕ) (s t : Left) (p : P) → IsTrue (admits Q_DIR dir) → from dir s ≡ Some (p, t) → is_spent t ≡ true → packet_from from dir s ≡ Some p
+unfolding packet_from
+is_whole from dir s t p d h e = rw (d, h, e) refl
 
 -- Q_DIR admits every direction
-q_dir : (way : Way) (dir : ℕ) → IsTrue (is_direction way dir) → IsTrue (admits Q_DIR dir)
+pub q_dir : (way : Way) (dir : ℕ) → IsTrue (is_direction way dir) → IsTrue (admits Q_DIR dir)
 q_dir ToTrain dir h = h
 
 module _ {B : Type 0} {row : Layout → Layout} {IsBody : B → Type 0} {reading : B → Reading} {from : Left → Option (B × Left)} (codes : Codes row IsBody reading from) where
@@ -82,21 +84,11 @@ module _ {B : Type 0} {row : Layout → Layout} {IsBody : B → Type 0} {reading
   pub read_bits : (b : B) → IsBody b → from (in_bits (spelled (reading b))) ≡ Some (b, in_bits [])
   read_bits b h = rw (append-nil (spelled (reading b))) at (codes.complete b (in_bits []) h)
 
-  -- its numbers are read as what it is
-  pub body_back : (b : B) (dir : ℕ) → IsBody b → IsTrue (admits Q_DIR dir) → whole_from from dir (listed (numbers (reading b))) ≡ Some (dir, b)
-  body_back b dir h d = is_whole from dir (listed (numbers (reading b))) (listed []) b d (read_list b h) refl
+  pub body_of_list : (f : List ℕ) (b : B) (t : Left) → from (listed f) ≡ Some (b, t) → is_spent t ≡ true → IsBody b × (numbers (reading b) ≡ f)
+  body_of_list f b t h spent = let v = codes.sound b (listed f) t h in (v.0, sym (spent_list (reading b) f t spent v.1))
 
-  pub body_of_list : (dir : ℕ) (f : List ℕ) (p : ℕ × B) → whole_from from dir (listed f) ≡ Some p → IsBody p.1 × IsTrue (admits Q_DIR p.0) × (p.0 ≡ dir) × (numbers (reading p.1) ≡ f)
-  body_of_list dir f p h =
-      let w = was_whole from dir (listed f) p h in
-      let v = codes.sound p.1 (listed f) w.left w.taken in
-      (v.0, subst (λ d. IsTrue (admits Q_DIR d)) (sym w.dir_is) w.dir_ok, w.dir_is, sym (spent_list (reading p.1) f w.left w.spent v.1))
-
-  pub body_of_bits : (dir : ℕ) (x : List Bool) (p : ℕ × B) → whole_from from dir (in_bits x) ≡ Some p → IsBody p.1 × IsTrue (admits Q_DIR p.0) × (p.0 ≡ dir) × (spelled (reading p.1) ≡ x)
-  body_of_bits dir x p h =
-      let w = was_whole from dir (in_bits x) p h in
-      let v = codes.sound p.1 (in_bits x) w.left w.taken in
-      (v.0, subst (λ d. IsTrue (admits Q_DIR d)) (sym w.dir_is) w.dir_ok, w.dir_is, sym (spent_bits (reading p.1) x w.left w.spent v.1))
+  pub body_of_bits : (x : List Bool) (b : B) (t : Left) → from (in_bits x) ≡ Some (b, t) → is_spent t ≡ true → IsBody b × (spelled (reading b) ≡ x)
+  body_of_bits x b t h spent = let v = codes.sound b (in_bits x) t h in (v.0, sym (spent_bits (reading b) x t spent v.1))
 
   -- ---- Of the packet of this row.
 
@@ -117,12 +109,12 @@ module _ {B : Type 0} {row : Layout → Layout} {IsBody : B → Type 0} {reading
         (b.0, b.1, sym fr ∙ ap numbers b.2, b.3)
 
     -- a packet's numbers are read
-    pub typed_read : (dir : ℕ) (f : List ℕ) → IsTyped way nid dir f → (b : B) × IsBody b × (length (spelled (reading b)) ≤ ROW_LIMIT) × (whole_from from dir (listed f) ≡ Some (dir, b))
+    pub typed_read : (dir : ℕ) (f : List ℕ) → IsTyped way nid dir f → (b : B) × (length (spelled (reading b)) ≤ ROW_LIMIT) × (from (listed f) ≡ Some (b, listed []))
     typed_read dir f h =
         let o = typed_body dir f h in
-        (o.0, o.1, o.3, ap (λ y. whole_from from dir (listed y)) o.2 ∙ is_whole from dir (listed (numbers (reading o.0))) (listed []) o.0 (q_dir way dir h.2) (read_list o.0 o.1) refl)
+        (o.0, o.3, ap (λ y. from (listed y)) o.2 ∙ read_list o.0 o.1)
 
-    pub framed_read : (dir : ℕ) (r : Reading) → IsFramed way nid dir r → (b : B) × IsBody b × (length (spelled (reading b)) ≤ ROW_LIMIT) × (whole_from from dir (in_bits (spelled r)) ≡ Some (dir, b))
+    pub framed_read : (dir : ℕ) (r : Reading) → IsFramed way nid dir r → (b : B) × (length (spelled (reading b)) ≤ ROW_LIMIT) × (from (in_bits (spelled r)) ≡ Some (b, in_bits []))
     framed_read dir r h =
         let o = framed_body dir r h in
-        (o.0, o.1, o.3, ap (λ y. whole_from from dir (in_bits (spelled y))) o.2 ∙ is_whole from dir (in_bits (spelled (reading o.0))) (in_bits []) o.0 (q_dir way dir h.2) (read_bits o.0 o.1) refl)
+        (o.0, o.3, ap (λ y. from (in_bits (spelled y))) o.2 ∙ read_bits o.0 o.1)

@@ -1,5 +1,5 @@
 -- Lemmas about specs/FlatCodes.antt.
-use Rattle.std.proofs.Common.{◌≡◌, ℕ, false, List, [], ◌∷◌, ◌++◌, map, Option, Some, None, refl, sym, ap, ◌∙◌, arith}
+use Rattle.std.proofs.Common.{◌≡◌, ℕ, List, [], ◌∷◌, ◌++◌, map, Option, Some, None, refl, sym, ap, ◌∙◌, arith}
 use Rattle.std.specs.Prelude.{IsTrue, IsSome}
 use Rattle.std.specs.Option.{option_map}
 use Rattle.std.proofs.lemmas.Option.{option_and_then_some}
@@ -17,9 +17,10 @@ use Rattle.etcs_bodies.specs.Taking.{Left, ahead, ◌and_then◌, next_number}
 use Rattle.etcs_bodies.specs.laws.Takes.{admitted, number_ok, ahead_none, ahead_both, next_is, next_sound, taken}
 use Rattle.etcs_bodies.specs.Codecs.{Codes}
 use Rattle.etcs_bodies.specs.laws.Codecs.{carried}
-use Rattle.etcs_bodies.specs.PacketCodes.{PacketCodes, packet_from}
+use Rattle.etcs_bodies.specs.Packets.{packet_from}
+use Rattle.etcs_bodies.specs.PacketCodes.{PacketCodes, directed_from}
 use Rattle.etcs_bodies.specs.laws.PacketCodes.{packet_codes}
-use Rattle.etcs_flat.specs.Flats.{FlatParts, variables, flat_row, numbers_fault, row_fault, flat_fault, pairs, row_reading, flat_reading}
+use Rattle.etcs_flat.specs.Flats.{FlatParts, flat_parts, variables, flat_row, numbers_fault, row_fault, flat_fault, pairs, row_reading, flat_reading}
 use Rattle.etcs_flat.specs.laws.FlatLaws.{none_both, number_fine, fine_number, behind_first, pairs-short, row_short, nothing_wrong, nothing_found}
 use Rattle.etcs_flat.specs.Tables.{table_from}
 use Rattle.etcs_flat.specs.FlatCodes.{row_of, AreNumbers, known, row_from, flat_from}
@@ -40,7 +41,7 @@ complete (v ∷ vs) (n ∷ ns) s h =
     let k = one_less v vs n ns h in
     rw (ahead_both ((v, n) ∷ []) (pairs vs ns) s, next_is v n (ahead (pairs vs ns) s) (number_ok v n k.0), complete vs ns s k.1) refl
 
-pub sound : (vs : List Var) (ns : List ℕ) (s t : Left) → table_from (map One vs) s ≡ Some (ns, t) → AreNumbers vs ns × (s ≡ ahead (pairs vs ns) t)
+sound : (vs : List Var) (ns : List ℕ) (s t : Left) → table_from (map One vs) s ≡ Some (ns, t) → AreNumbers vs ns × (s ≡ ahead (pairs vs ns) t)
 sound [] ns s t e = carried (AreNumbers []) (pairs []) s [] ns s t e ((refl, refl), sym (ahead_none s))
 sound (v ∷ vs) ns s t e =
     let a = taken (next_number v s) (λ n. table_from (map One vs) n.1 and_then λ ms. Some (n.0 ∷ ms.0, ms.1)) (ns, t) e in
@@ -82,7 +83,7 @@ same_layout (counted group rest) vs is = absurd cc
 row_is : (nid : ℕ) (vs : List Var) → flat_row nid ≡ Some vs → row_to ToTrain nid ≡ Some (row_of vs whole)
 row_is nid vs is = option_and_then_some variables (row_to ToTrain nid) vs is (λ row there its. there ∙ ap Some (same_layout row vs its))
 
-codes_of : (nid : ℕ) (o : Option (List Var)) → flat_row nid ≡ o → IsSome o → PacketCodes ToTrain nid (λ (p : FlatParts). p.dir) (λ p. row_fault o p.dir p.numbers ≡ None) (λ p. row_reading o p.numbers) (row_from o)
+codes_of : (nid : ℕ) (o : Option (List Var)) → flat_row nid ≡ o → IsSome o → PacketCodes ToTrain nid (λ (p : FlatParts). p.dir) (λ p. row_fault o p.dir p.numbers ≡ None) (λ p. row_reading o p.numbers) (packet_from (row_from o))
 codes_of nid None is there = absurd cc
 codes_of nid (Some vs) is there = packet_codes (numbers_codes vs) ToTrain nid (row_is nid vs is) (record {
   body = λ p. p.numbers;
@@ -99,22 +100,31 @@ codes_of nid (Some vs) is there = packet_codes (numbers_codes vs) ToTrain nid (r
   fits = λ dir ns small. refl;
 })
 
-pub flat_codes : (nid : ℕ) → IsSome (flat_row nid) → PacketCodes ToTrain nid (λ (p : FlatParts). p.dir) (λ p. flat_fault nid p.dir p.numbers ≡ None) (λ p. flat_reading nid p.numbers) (flat_from nid)
+pub flat_codes : (nid : ℕ) → IsSome (flat_row nid) → PacketCodes ToTrain nid (λ (p : FlatParts). p.dir) (λ p. flat_fault nid p.dir p.numbers ≡ None) (λ p. flat_reading nid p.numbers) (packet_from (flat_from nid))
 flat_codes nid there = codes_of nid (flat_row nid) refl there
 
 -- ---- What is taken for the packet's table.
 
-pub table_is : (o : Option (List Var)) (table : List RowItem) → Some table ≡ option_map (λ vs. map One vs) o → (o ≡ Some (known o)) × (table ≡ map One (known o))
+table_is : (o : Option (List Var)) (table : List RowItem) → Some table ≡ option_map (λ vs. map One vs) o → (o ≡ Some (known o)) × (table ≡ map One (known o))
 table_is None table e = absurd cc
 table_is (Some vs) table e = (refl, cc)
 
-pub table_none : (nid dir : ℕ) (table : List RowItem) (s : Left) → Some table ≡ option_map (λ vs. map One vs) (flat_row nid) → IsTrue (admits Q_DIR dir) → table_from table s ≡ None → flat_from nid dir s ≡ None
-unfolding packet_from
-table_none nid dir table s is a h =
+pub table_fine : (nid dir : ℕ) (table : List RowItem) (s t : Left) (ns : List ℕ) → Some table ≡ option_map (λ vs. map One vs) (flat_row nid) → IsTrue (admits Q_DIR dir) → table_from table s ≡ Some (ns, t) → flat_fault nid dir ns ≡ None
+table_fine nid dir table s t ns is d h =
+    let k = table_is (flat_row nid) table is in
+    let x = sound (known (flat_row nid)) ns s t (ap (λ (l : List RowItem). table_from l s) (sym k.1) ∙ h) in
+    nothing_found (flat_row nid) (known (flat_row nid)) dir ns k.0 x.0.0 d x.0.1
+
+pub table_some : (nid dir : ℕ) (table : List RowItem) (s t : Left) (ns : List ℕ) → Some table ≡ option_map (λ vs. map One vs) (flat_row nid) → table_from table s ≡ Some (ns, t) → flat_from nid dir s ≡ Some (flat_parts dir ns, t)
+unfolding directed_from
+table_some nid dir table s t ns is h =
+    let k = table_is (flat_row nid) table is in
+    let some : table_from (map One (known (flat_row nid))) s ≡ Some (ns, t) = ap (λ (l : List RowItem). table_from l s) (sym k.1) ∙ h in
+    rw some refl
+
+pub table_none : (nid dir : ℕ) (table : List RowItem) (s : Left) → Some table ≡ option_map (λ vs. map One vs) (flat_row nid) → table_from table s ≡ None → flat_from nid dir s ≡ None
+unfolding directed_from
+table_none nid dir table s is h =
     let k = table_is (flat_row nid) table is in
     let none : table_from (map One (known (flat_row nid))) s ≡ None = ap (λ (l : List RowItem). table_from l s) (sym k.1) ∙ h in
-    rw (a, none) refl
-
-pub undirected : (nid dir : ℕ) (s : Left) → admits Q_DIR dir ≡ false → flat_from nid dir s ≡ None
-unfolding packet_from
-undirected nid dir s refused = rw refused refl
+    rw none refl

@@ -17,7 +17,7 @@ use Rattle.etcs_bodies.specs.Codecs.{Codes}
 use Rattle.etcs_bodies.specs.laws.Codecs.{number, both}
 use Rattle.etcs_bodies.specs.Entries.{AreEntries, entries_reading}
 use Rattle.etcs_bodies.specs.laws.Entries.{entries_codes, entries_most}
-use Rattle.etcs_bodies.specs.Packets.{bits_fault, length_fault}
+use Rattle.etcs_bodies.specs.Packets.{bits_fault, length_fault, packet_from}
 use Rattle.etcs_bodies.specs.laws.Packets.{length_fits, length_ok, length_is}
 use Rattle.etcs_bodies.specs.PacketCodes.{PacketCodes}
 use Rattle.etcs_bodies.specs.laws.PacketCodes.{packet_codes}
@@ -63,7 +63,7 @@ no_fault reading true p short = refl
 no_fault reading false p short = length_ok (chain_reading reading p) short
 
 module _ {V : Type 0} {row : Layout → Layout} {IsV : V → Type 0} {reading : V → Reading} {from : Left → Option (V × Left)} (codes : Codes row IsV reading from) (most : ℕ) (each : (v : V) → IsV v → bit_count (reading v) ≤ most) where
-  pub chain_codes : (way : Way) (nid : ℕ) → row_to way nid ≡ Some (chain_row row whole) → PacketCodes way nid (λ (p : ChainParts V). p.dir) (IsChain IsV most reading) (chain_reading reading) (chain_from most reading from)
+  pub chain_codes : (way : Way) (nid : ℕ) → row_to way nid ≡ Some (chain_row row whole) → PacketCodes way nid (λ (p : ChainParts V). p.dir) (IsChain IsV most reading) (chain_reading reading) (packet_from (chain_from most reading from))
   unfolding chain_from
   chain_codes way nid is =
       packet_codes (both (number Q_SCALE) (entries_codes codes)) way nid is
@@ -79,13 +79,13 @@ module _ {V : Type 0} {row : Layout → Layout} {IsV : V → Type 0} {reading : 
 
 -- ---- Of links, slopes and speeds.
 
-pub linking_codes : PacketCodes ToTrain 5 (λ (p : ChainParts LinkParts). p.dir) IsLinking linking_reading (chain_from 49 link_reading link_from)
+pub linking_codes : PacketCodes ToTrain 5 (λ (p : ChainParts LinkParts). p.dir) IsLinking linking_reading (packet_from (chain_from 49 link_reading link_from))
 linking_codes = chain_codes link_codes 49 (λ l _. link_most l) ToTrain 5 refl
 
-pub gradient_codes : PacketCodes ToTrain 21 (λ (p : ChainParts SlopeParts). p.dir) IsGradient gradient_reading (chain_from 24 slope_reading slope_from)
+pub gradient_codes : PacketCodes ToTrain 21 (λ (p : ChainParts SlopeParts). p.dir) IsGradient gradient_reading (packet_from (chain_from 24 slope_reading slope_from))
 gradient_codes = chain_codes slope_codes 24 (λ s _. slope_most s) ToTrain 21 refl
 
-pub profile_codes : PacketCodes ToTrain 27 (λ (p : ChainParts SpeedParts). p.dir) IsSpeedProfile profile_reading (chain_from 431 speed_reading speed_from)
+pub profile_codes : PacketCodes ToTrain 27 (λ (p : ChainParts SpeedParts). p.dir) IsSpeedProfile profile_reading (packet_from (chain_from 431 speed_reading speed_from))
 profile_codes = chain_codes speed_codes 431 speed_most ToTrain 27 refl
 
 -- ---- Its equality.

@@ -4,6 +4,7 @@ use Rattle.etcs_vars.specs.Reading.{spelled}
 use Rattle.etcs_tables.specs.declared.row.Way.TheVariants.{ToTrain}
 use Rattle.etcs_bodies.specs.laws.Repeats.{bit_count_is}
 use Rattle.etcs_bodies.specs.laws.Entries.{entries_codes, entries_most}
+use Rattle.etcs_bodies.specs.Packets.{packet_from}
 use Rattle.etcs_bodies.specs.PacketCodes.{PacketCodes}
 use Rattle.etcs_bodies.specs.laws.PacketCodes.{packet_codes}
 use Rattle.etcs_parts.specs.Levels.{IsLevel, level_reading}
@@ -18,7 +19,7 @@ conditional_level_order_small p h =
     let levels = entries_most IsLevel level_reading 11 (λ l _. level_most l) (p.first, p.further) h.1 in
     rw (bit_count_is (conditional_level_order_reading p)) (omega arith)
 
-pub conditional_level_order_codes : PacketCodes ToTrain 46 (λ (p : ConditionalLevelOrderParts). p.dir) IsConditionalLevelOrder conditional_level_order_reading conditional_level_order_from
+pub conditional_level_order_codes : PacketCodes ToTrain 46 (λ (p : ConditionalLevelOrderParts). p.dir) IsConditionalLevelOrder conditional_level_order_reading (packet_from conditional_level_order_from)
 unfolding conditional_level_order_from
 conditional_level_order_codes =
     packet_codes (entries_codes level_codes) ToTrain 46 refl

@@ -5,6 +5,7 @@ use Rattle.etcs_vars.specs.Reading.{spelled}
 use Rattle.etcs_tables.specs.declared.row.Way.TheVariants.{ToTrain}
 use Rattle.etcs_bodies.specs.laws.Repeats.{bit_count_is, bit_count-append}
 use Rattle.etcs_bodies.specs.laws.Codecs.{number, both}
+use Rattle.etcs_bodies.specs.Packets.{packet_from}
 use Rattle.etcs_bodies.specs.PacketCodes.{PacketCodes}
 use Rattle.etcs_bodies.specs.laws.PacketCodes.{packet_codes}
 use Rattle.etcs_parts.specs.TextFrames.{text_frame_reading}
@@ -21,7 +22,7 @@ fixed_text_length p =
 pub fixed_text_small : (p : FixedTextParts) → length (spelled (fixed_text_reading p)) ≤ 119
 fixed_text_small p = omega (arith, fixed_text_length p, text_frame_small p.frame)
 
-pub fixed_text_codes : PacketCodes ToTrain 76 (λ (p : FixedTextParts). p.dir) IsFixedText fixed_text_reading fixed_text_from
+pub fixed_text_codes : PacketCodes ToTrain 76 (λ (p : FixedTextParts). p.dir) IsFixedText fixed_text_reading (packet_from fixed_text_from)
 unfolding fixed_text_from
 fixed_text_codes =
     packet_codes (both text_frame_codes (number Q_TEXT)) ToTrain 76 refl

@@ -6,6 +6,7 @@ use Rattle.etcs_tables.specs.declared.row.Way.TheVariants.{ToTrain}
 use Rattle.etcs_bodies.specs.Repeats.{bit_count}
 use Rattle.etcs_bodies.specs.laws.Repeats.{bit_count_is}
 use Rattle.etcs_bodies.specs.laws.Codecs.{number, both, optional}
+use Rattle.etcs_bodies.specs.Packets.{packet_from}
 use Rattle.etcs_bodies.specs.PacketCodes.{PacketCodes}
 use Rattle.etcs_bodies.specs.laws.PacketCodes.{packet_codes}
 use Rattle.etcs_grouped.specs.InfillLocations.{InfillLocationParts, infill_location_parts, infill_location_reading, body_of, IsInfillLocation, infill_location_from}
@@ -25,7 +26,7 @@ most (Some c) n = omega arith
 infill_location_small : (p : InfillLocationParts) → length (spelled (infill_location_reading p)) ≤ 25
 infill_location_small p = rw (bit_count_is (infill_location_reading p)) (most p.nid_c p.nid_bg)
 
-pub infill_location_codes : PacketCodes ToTrain 136 (λ (p : InfillLocationParts). p.dir) IsInfillLocation infill_location_reading infill_location_from
+pub infill_location_codes : PacketCodes ToTrain 136 (λ (p : InfillLocationParts). p.dir) IsInfillLocation infill_location_reading (packet_from infill_location_from)
 unfolding infill_location_from
 infill_location_codes =
     packet_codes (both (optional Q_NEWCOUNTRY (refl, refl, refl) (number NID_C)) (number NID_BG)) ToTrain 136 refl

@@ -5,6 +5,7 @@ use Rattle.etcs_vars.specs.Reading.{spelled}
 use Rattle.etcs_tables.specs.declared.row.Way.TheVariants.{ToTrain}
 use Rattle.etcs_bodies.specs.laws.Repeats.{bit_count_is}
 use Rattle.etcs_bodies.specs.laws.Codecs.{number, both}
+use Rattle.etcs_bodies.specs.Packets.{packet_from}
 use Rattle.etcs_bodies.specs.PacketCodes.{PacketCodes}
 use Rattle.etcs_bodies.specs.laws.PacketCodes.{packet_codes}
 use Rattle.etcs_parts.specs.Authorities.{authority_reading}
@@ -22,7 +23,7 @@ level23_ma_length p a h =
 pub level23_ma_small : (p : Level23MaParts) → IsLevel23Ma p → length (spelled (level23_ma_reading p)) ≤ 1433
 level23_ma_small p h = omega (arith, level23_ma_length p (length (spelled (authority_reading p.authority))) refl, authority_small p.authority h.1.1.1.1.faultless)
 
-pub level23_ma_codes : PacketCodes ToTrain 15 (λ (p : Level23MaParts). p.dir) IsLevel23Ma level23_ma_reading level23_ma_from
+pub level23_ma_codes : PacketCodes ToTrain 15 (λ (p : Level23MaParts). p.dir) IsLevel23Ma level23_ma_reading (packet_from level23_ma_from)
 unfolding level23_ma_from
 level23_ma_codes =
     packet_codes (both (number Q_SCALE) (both (number V_LOA) (both (number T_LOA) authority_codes))) ToTrain 15 refl

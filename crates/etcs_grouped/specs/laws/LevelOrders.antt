@@ -7,6 +7,7 @@ use Rattle.etcs_bodies.specs.laws.Repeats.{bit_count_is}
 use Rattle.etcs_bodies.specs.laws.Codecs.{number, both}
 use Rattle.etcs_bodies.specs.Entries.{entries_reading}
 use Rattle.etcs_bodies.specs.laws.Entries.{entries_codes, entries_most}
+use Rattle.etcs_bodies.specs.Packets.{packet_from}
 use Rattle.etcs_bodies.specs.PacketCodes.{PacketCodes}
 use Rattle.etcs_bodies.specs.laws.PacketCodes.{packet_codes}
 use Rattle.etcs_parts.specs.Levels.{IsLevelAck, level_ack_reading}
@@ -26,7 +27,7 @@ level_order_small p h =
     let levels = entries_most IsLevelAck level_ack_reading 26 (λ l _. level_ack_most l) (p.first, p.further) h.1.1.1 in
     rw (bit_count_is (level_order_reading p)) (omega arith)
 
-pub level_order_codes : PacketCodes ToTrain 41 (λ (p : LevelOrderParts). p.dir) IsLevelOrder level_order_reading level_order_from
+pub level_order_codes : PacketCodes ToTrain 41 (λ (p : LevelOrderParts). p.dir) IsLevelOrder level_order_reading (packet_from level_order_from)
 unfolding level_order_from
 level_order_codes =
     packet_codes (both (number Q_SCALE) (both (number D_LEVELTR) (entries_codes level_ack_codes))) ToTrain 41 refl

@@ -7,6 +7,7 @@ use Rattle.etcs_bodies.specs.laws.Takes.{counted_admitted, in_width}
 use Rattle.etcs_bodies.specs.laws.Repeats.{bit_count_is, bit_count-append}
 use Rattle.etcs_bodies.specs.laws.Codecs.{number, both, list}
 use Rattle.etcs_bodies.specs.laws.Choices.{bit_count-same}
+use Rattle.etcs_bodies.specs.Packets.{packet_from}
 use Rattle.etcs_bodies.specs.PacketCodes.{PacketCodes}
 use Rattle.etcs_bodies.specs.laws.PacketCodes.{packet_codes}
 use Rattle.etcs_parts.specs.TextFrames.{text_frame_reading}
@@ -27,7 +28,7 @@ plain_text_length p =
 pub plain_text_small : (p : PlainTextParts) → IsPlainText p → length (spelled (plain_text_reading p)) ≤ 2159
 plain_text_small p h = omega (arith, plain_text_length p, text_frame_small p.frame, plain_text_few p h)
 
-pub plain_text_codes : PacketCodes ToTrain 72 (λ (p : PlainTextParts). p.dir) IsPlainText plain_text_reading plain_text_from
+pub plain_text_codes : PacketCodes ToTrain 72 (λ (p : PlainTextParts). p.dir) IsPlainText plain_text_reading (packet_from plain_text_from)
 unfolding plain_text_from
 plain_text_codes =
     packet_codes (both text_frame_codes (list L_TEXT (number X_TEXT))) ToTrain 72 refl

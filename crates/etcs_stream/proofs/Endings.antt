@@ -4,9 +4,9 @@ use Rattle.std.specs.Prelude.{◌⊎◌, IfErr, IfOk}
 use Rattle.std.proofs.Math.Seq.{take-append-add}
 use Rattle.std.proofs.lemmas.List.{take_all}
 use Rattle.std.specs.Io.KnownBytes.{Appends, Consumes, Keeps}
-use Rattle.etcs_stream.specs.Ends.{FlushedOnlyWhere}
+use Rattle.etcs_stream.specs.Ends.{FailedBy, FlushedOnlyWhere}
 use Rattle.etcs_stream.specs.declared.fault.RunFault.{RunFault}
-use Rattle.etcs_stream.specs.declared.fault.RunFault.TheVariants.{Write}
+use Rattle.etcs_stream.specs.declared.fault.RunFault.TheVariants.{Refused, Truncated, BadHex, BadJson, Read, Write, Endless, Memory}
 use Rattle.etcs_stream.specs.declared.job.Tally.{Tally}
 use Rattle.etcs_stream.specs.Faults.{IsOfEngine}
 use Rattle.etcs_stream.specs.Pipes.{Piped, PipedFirst}
@@ -31,26 +31,61 @@ not_flushed held mid held' told text slice Prints before between after sent sent
     let kept : Appends held held' slice = Appends-kept held mid held' slice took.0 keeps in
     broke held held' told text slice same Prints before after sent sent' at (length slice, omega arith, took.1, subst (λ (z : List ℕ). Appends held held' z) (sym all) kept) (omega (arith, none, one)) prints
 
+-- an engine's fault is no call's
+of_engine : (s s' w w' : ℕ) (e : RunFault) → IsOfEngine e → s' ≡ s → w' ≡ w → FailedBy e s s' w w'
+of_engine s s' w w' (Refused item i x) h a b = (a, b)
+of_engine s s' w w' (Truncated item k) h a b = (a, b)
+of_engine s s' w w' (BadHex line place) h a b = (a, b)
+of_engine s s' w w' (BadJson line) h a b = (a, b)
+of_engine s s' w w' Read h a b = absurd h
+of_engine s s' w w' (Write n) h a b = absurd h
+of_engine s s' w w' Endless h a b = (a, b)
+of_engine s s' w w' Memory h a b = (a, b)
+
 module _ (left left' held mid held' : Option (List ℕ)) (given told text : List ℕ) (gave : Consumes left left' given) (took : Appends held mid told) (Stops : List ℕ → RunFault → Type 0) (Prints : List ℕ → Type 0) (before after : ℕ) where
   pub engine_of : (T : List ℕ → List ℕ → Type 0) (e : RunFault) → Stopped Stops told text mid held' e ⊎ Broken Prints told text mid held' before after e → ((t : List ℕ) → Stops t e → T given t) → IsOfEngine e → Piped T left left' held held'
   engine_of T e (inl s) k h = (given, told ++ text, gave, Appends-then held mid held' told text took s.2, k (told ++ text) s.1)
   engine_of T e (inr b) k h = absurd (subst IsOfEngine b.1 h)
 
-  pub write_of : (P : List ℕ → List ℕ → Type 0) (e : RunFault) → Stopped Stops told text mid held' e ⊎ Broken Prints told text mid held' before after e → ((t : List ℕ) → Prints t → P given t) → (n : ℕ) → e ≡ Write n → PipedFirst n P left left' held held' × (after ≡ before + 1)
+  pub starved_of : (T : List ℕ → List ℕ → Type 0) (e : RunFault) → Stopped Stops told text mid held' e ⊎ Broken Prints told text mid held' before after e → (Stops (told ++ text) e → T given (told ++ text)) → e ≡ Memory → Piped T left left' held held'
+  starved_of T e (inl s) k h = (given, told ++ text, gave, Appends-then held mid held' told text took s.2, k s.1)
+  starved_of T e (inr b) k h = let w : ◌≡◌ {A = RunFault} (Write (length told + b.0)) Memory = sym b.1 ∙ h in absurd cc
+
+  pub said_of : (Said : List ℕ → Type 0) (e : RunFault) → Stopped Stops told text mid held' e ⊎ Broken Prints told text mid held' before after e → (e ≡ Memory → Said (told ++ text)) → e ≡ Memory → Piped (λ given told. Said told) left left' held held'
+  said_of Said e (inl s) k h = (given, told ++ text, gave, Appends-then held mid held' told text took s.2, k h)
+  said_of Said e (inr b) k h = let w : ◌≡◌ {A = RunFault} (Write (length told + b.0)) Memory = sym b.1 ∙ h in absurd cc
+
+  pub said_if : (Said : List ℕ → Type 0) (r : Result Tally RunFault) → IfErr r (λ e. Stopped Stops told text mid held' e ⊎ Broken Prints told text mid held' before after e) → IfErr r (λ e. e ≡ Memory → Said (told ++ text)) → IfErr r (λ e. e ≡ Memory → Piped (λ given told. Said told) left left' held held')
+  said_if Said (Ok t) h k = tt
+  said_if Said (Err e) h k = said_of Said e h k
+
+  pub failed_of : (s s' w : ℕ) (e : RunFault) → Stopped Stops told text mid held' e ⊎ Broken Prints told text mid held' before after e → s' ≡ s → before ≡ w → (IsOfEngine e → after ≡ before) → FailedBy e s s' w after
+  failed_of s s' w e (inl h) a b k = of_engine s s' w after e h.0 a (k h.0 ∙ b)
+  failed_of s s' w e (inr h) a b k = subst (λ (f : RunFault). FailedBy f s s' w after) (sym h.1) (a, h.5 ∙ ap (λ n. n + 1) b)
+
+  pub starved_if : (T : List ℕ → List ℕ → Type 0) (r : Result Tally RunFault) → IfErr r (λ e. Stopped Stops told text mid held' e ⊎ Broken Prints told text mid held' before after e) → ((e : RunFault) → Stops (told ++ text) e → T given (told ++ text)) → IfErr r (λ e. e ≡ Memory → Piped T left left' held held')
+  starved_if T (Ok t) h k = tt
+  starved_if T (Err e) h k = starved_of T e h (k e)
+
+  pub failed_if : (s s' w : ℕ) (r : Result Tally RunFault) → IfErr r (λ e. Stopped Stops told text mid held' e ⊎ Broken Prints told text mid held' before after e) → s' ≡ s → before ≡ w → IfErr r (λ e. IsOfEngine e → after ≡ before) → IfErr r (λ e. FailedBy e s s' w after)
+  failed_if s s' w (Ok t) h a b k = tt
+  failed_if s s' w (Err e) h a b k = failed_of s s' w e h a b k
+
+  pub write_of : (P : List ℕ → List ℕ → Type 0) (e : RunFault) → Stopped Stops told text mid held' e ⊎ Broken Prints told text mid held' before after e → ((t : List ℕ) → Prints t → P given t) → (n : ℕ) → e ≡ Write n → PipedFirst n P left left' held held'
   write_of P e (inl s) k n h = absurd (subst IsOfEngine h s.0)
   write_of P e (inr b) k n h =
       let w : ◌≡◌ {A = RunFault} (Write (length told + b.0)) (Write n) = sym b.1 ∙ h in
       let same : length told + b.0 ≡ n = cc in
       let all : take n (told ++ text) ≡ told ++ take b.0 text = ap (λ (m : ℕ). take m (told ++ text)) (sym same) ∙ take-append-add told text b.0 in
       let len = length-append told text in
-      ((given, told ++ text, gave, omega (arith, same, b.2, len), subst (λ (t : List ℕ). Appends held held' t) (sym all) (Appends-then held mid held' told (take b.0 text) took b.3), k (told ++ text) b.4), b.5)
+      (given, told ++ text, gave, omega (arith, same, b.2, len), subst (λ (t : List ℕ). Appends held held' t) (sym all) (Appends-then held mid held' told (take b.0 text) took b.3), k (told ++ text) b.4)
 
   -- by the answer of the last step
   pub engine_if : (T : RunFault → List ℕ → List ℕ → Type 0) (r : Result Tally RunFault) → IfErr r (λ e. Stopped Stops told text mid held' e ⊎ Broken Prints told text mid held' before after e) → ((e : RunFault) (t : List ℕ) → Stops t e → T e given t) → IfErr r (λ e. IsOfEngine e → Piped (T e) left left' held held')
   engine_if T (Ok t) h k = tt
   engine_if T (Err e) h k = engine_of (T e) e h (k e)
 
-  pub write_if : (P : List ℕ → List ℕ → Type 0) (r : Result Tally RunFault) → IfErr r (λ e. Stopped Stops told text mid held' e ⊎ Broken Prints told text mid held' before after e) → ((t : List ℕ) → Prints t → P given t) → (n : ℕ) → r ≡ Err (Write n) → PipedFirst n P left left' held held' × (after ≡ before + 1)
+  pub write_if : (P : List ℕ → List ℕ → Type 0) (r : Result Tally RunFault) → IfErr r (λ e. Stopped Stops told text mid held' e ⊎ Broken Prints told text mid held' before after e) → ((t : List ℕ) → Prints t → P given t) → (n : ℕ) → r ≡ Err (Write n) → PipedFirst n P left left' held held'
   write_if P (Ok t) h k n e = absurd cc
   write_if P (Err f) h k n e = let same : f ≡ Write n = cc in write_of P f h k n same
 

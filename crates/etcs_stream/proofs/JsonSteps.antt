@@ -33,15 +33,15 @@ AreItemLines-append kind (l ∷ ls) ms es fs (inr (e, behind, is, item, more)) g
     inr (e, behind ++ fs, ap (λ (z : List EntryValue). z ++ fs) is, item, AreItemLines-append kind ls ms behind fs more g)
 
 -- the items of a line were told
-record LineTold (job : Job) (line : List ℕ) (before after : Told) (t t' : List ℕ) : Type 0 where
-  items : List EntryValue
-  added : List ℕ
-  are_items : AreItemLines job.kind (line ∷ []) items
-  few : before.count ≤ 1000000 → after.count ≤ 1000000
-  text : TellsItems job.command before items added after
-  text_is : t' ≡ t ++ added
+pub record LineTold (job : Job) (line : List ℕ) (before after : Told) (t t' : List ℕ) : Type 0 where
+  pub items : List EntryValue
+  pub added : List ℕ
+  pub are_items : AreItemLines job.kind (line ∷ []) items
+  pub few : before.count ≤ 1000000 → after.count ≤ 1000000
+  pub text : TellsItems job.command before items added after
+  pub text_is : t' ≡ t ++ added
 
-line_told : (job : Job) (line : List ℕ) (before after : Told) (t t' : List ℕ) → TakesJson job line before after t t' → LineTold job line before after t t'
+pub line_told : (job : Job) (line : List ℕ) (before after : Told) (t t' : List ℕ) → TakesJson job line before after t t' → LineTold job line before after t t'
 line_told job line before after t t' (empty_line none same is) = record {
   items = [];
   added = [];

@@ -2,6 +2,7 @@ pub mod HexDigits
 pub mod GoodLines
 pub mod ItemKinds
 pub mod Tellings
+pub mod Saying
 pub mod Answering
 pub mod Positions
 pub mod GroupLengths

@@ -1,5 +1,5 @@
 -- What a run tells of its input, by its job.
-use Rattle.std.specs.Prelude.{◌≡◌, ℕ, ◌+◌, List, ◌++◌, length, ◌⊎◌}
+use Rattle.std.specs.Prelude.{◌≡◌, ℕ, ◌+◌, ◌≤◌, List, ◌++◌, length, ◌⊎◌}
 use Rattle.etcs_text.specs.Entries.{EntryValue}
 use Rattle.etcs_stream.specs.Told.{Told}
 use Rattle.etcs_stream.specs.Tellers.{TellsItems, ItemsText, Closes, nothing_told}
@@ -53,3 +53,16 @@ Stops job given told f = Starves job given told f ⊎ ((es : List EntryValue) ×
 -- the input of these bytes does
 abbrev pub StopsAtEnd : Job → List ℕ → List ℕ → RunFault → Type 0
 StopsAtEnd job given told f = Starves job given told f ⊎ ((es : List EntryValue) × (end : End) × EndsBy (length es) end f × ItemsText job.command es told × ItemsOf job.from job.kind given es end)
+
+-- memory was refused at the last piece that was read: all items that were whole in front of it are told, and behind them
+-- perhaps the next ones
+pub record StarvesIn (job : Job) (given told : List ℕ) : Type 0 where
+  pub before : List ℕ
+  pub last : List ℕ
+  pub given_is : given ≡ before ++ last
+  pub short : length last ≤ 4096
+  pub whole : List ℕ
+  pub more : List ℕ
+  pub told_is : told ≡ whole ++ more
+  pub tells : Tells job before whole
+  pub prints : Prints job given told

@@ -49,6 +49,15 @@ pub record Halts (kind : Kind) (command : Command) (seen : List Bool) (before : 
   pub text_is : text' ≡ text ++ added
   pub why : HaltsBy kind (before.count + length told) rest fault
 
+-- of some items this text was told, and at most one more was counted
+pub record Says (command : Command) (before now : Told) (text text' : List ℕ) : Type 0 where
+  pub told : List EntryValue
+  pub added : List ℕ
+  pub after : Told
+  pub added_is : TellsItems command before told added after
+  pub text_is : text' ≡ text ++ added
+  pub counted : now.count ≤ after.count + 1
+
 -- ---- Lines of JSON.
 
 -- the item of a line was told; an empty line is none

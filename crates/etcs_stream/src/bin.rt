@@ -3,8 +3,9 @@
 ghost use Rattle.std.specs.Prelude.{◌≡◌, []};
 ghost use Rattle.etcs_stream.specs.declared.job.Form.TheVariants as form;
 ghost use Rattle.etcs_stream.specs.Stands.{BinStands};
+ghost use Rattle.etcs_stream.specs.Steps.{Says};
 ghost use Rattle.etcs_stream.specs.laws.StandLaws.{bin_tells};
-ghost use Rattle.etcs_stream.specs.Tellers.{IsGroupable};
+ghost use Rattle.etcs_stream.specs.Tellers.{IsGroupable, nothing_told};
 
 use crate::engine::Engine;
 use crate::fault::RunFault;
@@ -36,6 +37,8 @@ impl Engine for Bin {
     ghost job = { λ s. s.items.job };
 
     ghost stands = { λ s given told. BinStands s.items.job s.items.reader s.items.teller given told };
+
+    ghost said = { λ s told. Says s.items.job.command nothing_told s.items.teller [] told };
 
     fn feed(&mut self, piece: &[u8], text: &mut Vec<u8>) -> Result<(), RunFault> {
         self.items.take_bytes(piece, text)

@@ -1,6 +1,6 @@
 //! What is fed with the input, and tells text of it.
 
-ghost use Rattle.std.specs.Prelude.{◌≡◌, ◌<◌, ◌+◌, ◌^◌, ℕ, List, [], ◌++◌, length, IfOk, IfErr, OnOk};
+ghost use Rattle.std.specs.Prelude.{◌≡◌, ◌<◌, ◌+◌, ◌^◌, ℕ, List, [], ◌++◌, length, IfOk, IfErr, OnErr, OnOk};
 ghost use Rattle.etcs_stream.specs.Faults.{IsOfEngine};
 ghost use Rattle.etcs_stream.specs.Engines.{Tells, Ends, Stops, StopsAtEnd};
 
@@ -18,6 +18,9 @@ pub(crate) trait Engine {
     /// These bytes were fed, and this text was told of them.
     ghost stands: { Self → List ℕ → List ℕ → Type 0 };
 
+    /// This text was told of what was fed, up to a fault.
+    ghost said: { Self → List ℕ → Type 0 };
+
     /// Takes a piece of the input, and appends the text of each item that becomes whole.
     ///
     /// # Errors
@@ -30,6 +33,7 @@ pub(crate) trait Engine {
         ensures job { job self.new ≡ job self.old }
         ensures ok { (given told : List ℕ) → stands self.old given told → OnOk result (stands self.new (given ++ piece.now) (told ++ text.new.items)) }
         ensures err { (given told : List ℕ) → stands self.old given told → IfErr result (λ e. IsOfEngine e × Stops (job self.old) (given ++ piece.now) (told ++ text.new.items) e) }
+        ensures said { (given told : List ℕ) → stands self.old given told → OnErr result (said self.new (told ++ text.new.items)) }
         ensures short { (given told : List ℕ) → stands self.old given told → length told + length text.new.items < 2 ^ 62 };
 
     /// The input ends here.
@@ -42,6 +46,7 @@ pub(crate) trait Engine {
         requires empty { text.old.items ≡ [] }
         ensures ok { (given told : List ℕ) → stands self.old given told → IfOk result (λ tally. Ends (job self.old) given (told ++ text.new.items) tally) }
         ensures err { (given told : List ℕ) → stands self.old given told → IfErr result (λ e. IsOfEngine e × StopsAtEnd (job self.old) given (told ++ text.new.items) e) }
+        ensures said { (given told : List ℕ) → stands self.old given told → OnErr result (said self.new (told ++ text.new.items)) }
         ensures short { (given told : List ℕ) → stands self.old given told → length told + length text.new.items < 2 ^ 62 };
 
     ghost stands_tells: { (e : Self) (given told : List ℕ) → stands e given told → Tells (job e) given told };

@@ -1,14 +1,14 @@
 //! Lines of hexadecimal.
 
-ghost use Rattle.std.specs.Prelude.{◌≡◌, ◌≤◌, ◌⊎◌, ℕ, [], None, Some, IfErr, OnOk};
+ghost use Rattle.std.specs.Prelude.{◌≡◌, ◌≤◌, ◌⊎◌, ℕ, [], None, Some, IfErr, OnErr, OnOk};
 ghost use Rattle.etcs_stream.specs.declared.fault.RunFault.{RunFault};
 ghost use Rattle.etcs_stream.specs.declared.job.Form.TheVariants as form;
 ghost use Rattle.etcs_stream.specs.Lines.{bad_place, line_bytes};
 ghost use Rattle.etcs_stream.specs.Readers.{Awaits, HasRoom, seen_bits};
-ghost use Rattle.etcs_stream.specs.laws.StandLaws.{hex_tells};
+ghost use Rattle.etcs_stream.specs.laws.StandLaws.{hex_said, hex_tells};
 ghost use Rattle.etcs_stream.specs.Stands.{HexTook};
-ghost use Rattle.etcs_stream.specs.Steps.{Advances, Halts};
-ghost use Rattle.etcs_stream.specs.Tellers.{IsGroupable};
+ghost use Rattle.etcs_stream.specs.Steps.{Advances, Halts, Says};
+ghost use Rattle.etcs_stream.specs.Tellers.{IsGroupable, nothing_told};
 
 use crate::digits::{MOST_CHARACTERS, decode_line};
 use crate::fault::RunFault;
@@ -48,6 +48,7 @@ impl HexLines {
         ensures room { HasRoom self.old.items.teller.count (seen_bits self.old.items.reader.stage) → OnOk result (HasRoom self.new.items.teller.count (seen_bits self.new.items.reader.stage)) }
         ensures ok { OnOk result (Advances self.old.items.job.kind self.old.items.job.command (seen_bits self.old.items.reader.stage) (seen_bits self.new.items.reader.stage) self.old.items.teller self.new.items.teller (line_bytes line.now) text.old.items text.new.items) }
         ensures err { IfErr result (λ e. ((place : ℕ) × (bad_place line.now ≡ Some place) × (e ≡ RunFault.BadHex number place) × (text.new.items ≡ text.old.items)) ⊎ ((bad_place line.now ≡ None) × Halts self.old.items.job.kind self.old.items.job.command (seen_bits self.old.items.reader.stage) self.old.items.teller (line_bytes line.now) text.old.items text.new.items e)) }
+        ensures said { OnErr result (Says self.old.items.job.command self.old.items.teller self.new.items.teller text.old.items text.new.items) }
     {
         if line.is_empty() {
             return Ok(());
@@ -67,6 +68,8 @@ impl TakesLines for HexLines {
     ghost job = { λ s. s.items.job };
 
     ghost took = { λ s lines told. HexTook s.items.job s.items.reader s.items.teller lines told };
+
+    ghost said = { λ s told. Says s.items.job.command nothing_told s.items.teller [] told };
 
     fn most(&self) -> usize {
         MOST_CHARACTERS
@@ -94,4 +97,6 @@ impl TakesLines for HexLines {
     }
 
     ghost took_tells = { λ s lines kept told h l. hex_tells s.items.job s.items.reader s.items.teller lines kept told h l };
+
+    ghost took_said = { λ s lines told h. hex_said s.items.job s.items.reader s.items.teller lines told h };
 }

@@ -1,10 +1,10 @@
 //! The items of bytes, one behind the other.
 
-ghost use Rattle.std.specs.Prelude.{◌≡◌, ◌+◌, ◌<◌, ◌≤◌, ◌⊎◌, ◌++◌, ℕ, List, [], length, take, IfErr, IfOk, OnOk};
+ghost use Rattle.std.specs.Prelude.{◌≡◌, ◌+◌, ◌<◌, ◌≤◌, ◌⊎◌, ◌++◌, ℕ, List, [], length, take, IfErr, IfOk, OnErr, OnOk};
 ghost use Rattle.etcs_text.specs.Entries.{EntryValue, entry_kind};
 ghost use Rattle.etcs_stream.specs.declared.fault.RunFault.{RunFault};
 ghost use Rattle.etcs_stream.specs.Readers.{Awaits, HasRoom, seen_bits, reading, finished};
-ghost use Rattle.etcs_stream.specs.Steps.{Advances, Halts};
+ghost use Rattle.etcs_stream.specs.Steps.{Advances, Halts, Says};
 ghost use Rattle.etcs_stream.specs.Tellers.{Closes, IsGroupable, TellsItem, nothing_told};
 
 use crate::entries::EntryReader;
@@ -59,6 +59,7 @@ impl Items {
         ensures room { HasRoom self.old.teller.count (seen_bits self.old.reader.stage) → OnOk result (HasRoom self.new.teller.count (seen_bits self.new.reader.stage)) }
         ensures ok { OnOk result (Advances self.old.job.kind self.old.job.command (seen_bits self.old.reader.stage) (seen_bits self.new.reader.stage) self.old.teller self.new.teller bytes.now text.old.items text.new.items) }
         ensures err { IfErr result (λ e. Halts self.old.job.kind self.old.job.command (seen_bits self.old.reader.stage) self.old.teller bytes.now text.old.items text.new.items e) }
+        ensures said { OnErr result (Says self.old.job.command self.old.teller self.new.teller text.old.items text.new.items) }
     {
         let mut rest = bytes;
         while !rest.is_empty() {
@@ -106,6 +107,7 @@ impl Items {
         ensures room { OnOk result (HasRoom self.new.teller.count (seen_bits self.new.reader.stage)) }
         ensures ok { IfOk result (λ n. Advances self.old.job.kind self.old.job.command (seen_bits self.old.reader.stage) (seen_bits self.new.reader.stage) self.old.teller self.new.teller (take n bytes.now) text.old.items text.new.items) }
         ensures err { IfErr result (λ e. Halts self.old.job.kind self.old.job.command (seen_bits self.old.reader.stage) self.old.teller bytes.now text.old.items text.new.items e) }
+        ensures said { OnErr result (Says self.old.job.command self.old.teller self.new.teller text.old.items text.new.items) }
     {
         if self.teller.count() == MOST_ITEMS {
             return Err(RunFault::Endless);
@@ -133,7 +135,7 @@ impl Items {
         requires told { self.old.teller.count < 1000000 }
         ensures job { self.new.job ≡ self.old.job }
         ensures next { OnOk result (self.new.reader ≡ record { kind = self.old.job.kind; stage = reading [] }) }
-        ensures told { OnOk result (self.new.teller.count ≡ self.old.teller.count + 1) }
+        ensures told { self.new.teller.count ≡ self.old.teller.count + 1 }
         ensures ok { (e : EntryValue) → self.old.reader.stage ≡ finished e → OnOk result ((added : List ℕ) × TellsItem self.old.job.command e self.old.teller added self.new.teller × (text.new.items ≡ text.old.items ++ added)) }
         ensures err { IfErr result (λ e. (e ≡ RunFault.Memory) × (text.new.items ≡ text.old.items)) }
     {

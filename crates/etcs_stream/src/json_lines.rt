@@ -1,14 +1,14 @@
 //! Lines of JSON, an item each.
 
-ghost use Rattle.std.specs.Prelude.{◌≡◌, ◌+◌, ◌<◌, ◌≤◌, ◌⊎◌, ◌++◌, ℕ, List, [], length, IfOk, IfErr, OnOk};
+ghost use Rattle.std.specs.Prelude.{◌≡◌, ◌+◌, ◌<◌, ◌≤◌, ◌⊎◌, ◌++◌, ℕ, List, [], length, IfOk, IfErr, OnErr, OnOk};
 ghost use Rattle.etcs_text.specs.Entries.{EntryValue, entry_kind, entry_value};
 ghost use Rattle.etcs_stream.specs.declared.fault.RunFault.{RunFault};
 ghost use Rattle.etcs_stream.specs.declared.job.Form.TheVariants as form;
 ghost use Rattle.etcs_stream.specs.JsonItems.{IsItemLine};
-ghost use Rattle.etcs_stream.specs.laws.StandLaws.{json_tells};
+ghost use Rattle.etcs_stream.specs.laws.StandLaws.{json_said, json_tells};
 ghost use Rattle.etcs_stream.specs.Stands.{JsonTook};
-ghost use Rattle.etcs_stream.specs.Steps.{TakesJson, HaltsJson};
-ghost use Rattle.etcs_stream.specs.Tellers.{IsGroupable};
+ghost use Rattle.etcs_stream.specs.Steps.{TakesJson, HaltsJson, Says};
+ghost use Rattle.etcs_stream.specs.Tellers.{IsGroupable, nothing_told};
 
 use crate::fault::RunFault;
 use crate::items::MOST_ITEMS;
@@ -77,6 +77,7 @@ impl JsonLines {
         ensures job { self.new.job ≡ self.old.job }
         ensures ok { OnOk result (TakesJson self.old.job line.now self.old.teller self.new.teller text.old.items text.new.items) }
         ensures err { IfErr result (λ e. HaltsJson self.old.job line.now number self.old.teller e × (text.new.items ≡ text.old.items)) }
+        ensures said { OnErr result (Says self.old.job.command self.old.teller self.new.teller text.old.items text.new.items) }
     {
         if line.is_empty() {
             return Ok(());
@@ -96,6 +97,8 @@ impl TakesLines for JsonLines {
     ghost job = { λ s. s.job };
 
     ghost took = { λ s lines told. JsonTook s.job s.teller lines told };
+
+    ghost said = { λ s told. Says s.job.command nothing_told s.teller [] told };
 
     fn most(&self) -> usize {
         MOST_BYTES
@@ -127,4 +130,6 @@ impl TakesLines for JsonLines {
     }
 
     ghost took_tells = { λ s lines kept told h l. json_tells s.job s.teller lines kept told h l };
+
+    ghost took_said = { λ s lines told h. json_said s.job s.teller lines told h };
 }

@@ -1,6 +1,6 @@
 //! Cuts text into lines.
 
-ghost use Rattle.std.specs.Prelude.{◌≡◌, ◌+◌, ◌-◌, ◌^◌, ◌<◌, ◌≤◌, ◌++◌, ◌∷◌, ℕ, List, [], length, vec_len, IfSome, IfOk, IfErr, OnOk, IsNone};
+ghost use Rattle.std.specs.Prelude.{◌≡◌, ◌+◌, ◌-◌, ◌^◌, ◌<◌, ◌≤◌, ◌++◌, ◌∷◌, ℕ, List, [], length, vec_len, IfSome, IfOk, IfErr, OnErr, OnOk, IsNone};
 ghost use Rattle.etcs_stream.specs.Engines.{Ends, Stops, StopsAtEnd, Tells};
 ghost use Rattle.etcs_stream.specs.Faults.{IsOfEngine};
 ghost use Rattle.etcs_stream.specs.Lines.{IsLine, lines_text, most_characters, strip_cr};
@@ -25,6 +25,9 @@ pub(crate) trait TakesLines {
     /// These lines were taken, and this text was told of them.
     ghost took: { Self → List (List ℕ) → List ℕ → Type 0 };
 
+    /// This text was told of the lines, up to a fault.
+    ghost said: { Self → List ℕ → Type 0 };
+
     /// How many characters a line has at most.
     fn most(&self) -> usize
         ensures { result ≡ most_characters (job self.now).from };
@@ -38,7 +41,8 @@ pub(crate) trait TakesLines {
         requires took { (lines : List (List ℕ)) × (told : List ℕ) × took self.old lines told }
         ensures job { job self.new ≡ job self.old }
         ensures ok { (lines : List (List ℕ)) (raw told : List ℕ) → took self.old lines (told ++ text.old.items) → IsLine raw → line.now ≡ strip_cr raw → OnOk result (took self.new (lines ++ raw ∷ []) (told ++ text.new.items)) }
-        ensures err { (lines : List (List ℕ)) (raw told : List ℕ) → took self.old lines (told ++ text.old.items) → IsLine raw → line.now ≡ strip_cr raw → number ≡ length lines + 1 → IfErr result (λ e. IsOfEngine e × Stops (job self.old) (lines_text lines ++ (raw ++ 10 ∷ [])) (told ++ text.new.items) e) };
+        ensures err { (lines : List (List ℕ)) (raw told : List ℕ) → took self.old lines (told ++ text.old.items) → IsLine raw → line.now ≡ strip_cr raw → number ≡ length lines + 1 → IfErr result (λ e. IsOfEngine e × Stops (job self.old) (lines_text lines ++ (raw ++ 10 ∷ [])) (told ++ text.new.items) e) }
+        ensures said { (lines : List (List ℕ)) (told : List ℕ) → took self.old lines (told ++ text.old.items) → OnErr result (said self.new (told ++ text.new.items)) };
 
     /// Why the line of this number, of which there are more characters than a line and its CR have, isn't taken.
     fn refuse_long(&self, number: u64) -> RunFault
@@ -53,9 +57,12 @@ pub(crate) trait TakesLines {
         requires took { (lines : List (List ℕ)) × (told : List ℕ) × took self.old lines told }
         requires empty { text.old.items ≡ [] }
         ensures ok { (lines : List (List ℕ)) (told : List ℕ) → took self.old lines told → IsLine line.now → IfOk result (λ tally. Ends (job self.old) (lines_text lines ++ line.now) (told ++ text.new.items) tally) }
-        ensures err { (lines : List (List ℕ)) (told : List ℕ) → took self.old lines told → IsLine line.now → number ≡ length lines + 1 → IfErr result (λ e. IsOfEngine e × StopsAtEnd (job self.old) (lines_text lines ++ line.now) (told ++ text.new.items) e) };
+        ensures err { (lines : List (List ℕ)) (told : List ℕ) → took self.old lines told → IsLine line.now → number ≡ length lines + 1 → IfErr result (λ e. IsOfEngine e × StopsAtEnd (job self.old) (lines_text lines ++ line.now) (told ++ text.new.items) e) }
+        ensures said { (lines : List (List ℕ)) (told : List ℕ) → took self.old lines told → OnErr result (said self.new (told ++ text.new.items)) };
 
     ghost took_tells: { (t : Self) (lines : List (List ℕ)) (kept told : List ℕ) → took t lines told → IsLine kept → Tells (job t) (lines_text lines ++ kept) told };
+
+    ghost took_said: { (t : Self) (lines : List (List ℕ)) (told : List ℕ) → took t lines told → said t told };
 }
 
 /// The line that isn't whole yet, how many came before it, and what they are given to.
@@ -129,6 +136,7 @@ impl<T: TakesLines> Lines<T> {
         ensures job { T.job self.new.taker ≡ T.job self.old.taker }
         ensures ok { (given told : List ℕ) → LinesStand (T.took self.old.taker) self.old.kept.items self.old.line given (told ++ text.old.items) → IsLine part.now → OnOk result (LinesStand (T.took self.new.taker) self.new.kept.items self.new.line (given ++ (part.now ++ 10 ∷ [])) (told ++ text.new.items)) }
         ensures err { (given told : List ℕ) → LinesStand (T.took self.old.taker) self.old.kept.items self.old.line given (told ++ text.old.items) → IsLine part.now → IfErr result (λ e. IsOfEngine e × Stops (T.job self.old.taker) (given ++ (part.now ++ 10 ∷ [])) (told ++ text.new.items) e) }
+        ensures said { (given told : List ℕ) → LinesStand (T.took self.old.taker) self.old.kept.items self.old.line given (told ++ text.old.items) → OnErr result (T.said self.new.taker (told ++ text.new.items)) }
     {
         if self.kept.is_empty() {
             self.line += 1;
@@ -147,6 +155,8 @@ impl<T: TakesLines> Engine for Lines<T> {
     ghost job = { λ s. T.job s.taker };
 
     ghost stands = { λ s given told. LinesStand (T.took s.taker) s.kept.items s.line given told };
+
+    ghost said = { λ s told. T.said s.taker told };
 
     fn feed(&mut self, piece: &[u8], text: &mut Vec<u8>) -> Result<(), RunFault> {
         let mut rest = piece;

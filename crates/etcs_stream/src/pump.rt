@@ -1,11 +1,11 @@
 //! Bytes from a source through an engine to a sink.
 
-ghost use Rattle.std.specs.Prelude.{◌≡◌, ◌+◌, ◌%◌, ◌^◌, ◌<◌, ◌≤◌, ◌⊎◌, ◌++◌, ℕ, List, [], length, take, Err, IfOk, IfErr, OnErr, OnOk};
-ghost use Rattle.std.specs.Io.KnownBytes.{Appends, IsAtEnd};
-ghost use Rattle.etcs_stream.specs.Ends.{FlushedOnlyWhere};
+ghost use Rattle.std.specs.Prelude.{◌≡◌, ◌+◌, ◌*◌, ◌%◌, ◌^◌, ◌<◌, ◌≤◌, ◌⊎◌, ◌++◌, ℕ, List, [], length, take, Err, IfOk, IfErr, OnErr, OnOk};
+ghost use Rattle.std.specs.Io.KnownBytes.{Appends, Consumes, IsAtEnd};
+ghost use Rattle.etcs_stream.specs.Ends.{FailedBy, FlushedOnlyWhere};
 ghost use Rattle.etcs_stream.specs.declared.fault.RunFault.{RunFault};
 ghost use Rattle.etcs_stream.specs.Faults.{IsOfEngine};
-ghost use Rattle.etcs_stream.specs.Engines.{Tells, Ends, EndsWhole, Stops, StopsAtEnd, Prints};
+ghost use Rattle.etcs_stream.specs.Engines.{Tells, Ends, EndsWhole, Stops, StopsAtEnd, StarvesIn, Prints};
 ghost use Rattle.etcs_stream.specs.Pipes.{Piped, PipedFirst};
 ghost use Rattle.etcs_stream.specs.Passes.{Stopped, Broken};
 
@@ -57,7 +57,8 @@ fn pass<E: Engine, W: Sink>(
     ensures job { E.job engine.new ≡ E.job engine.old }
     ensures ok { (given told : List ℕ) → E.stands engine.old given told → sent.old ≡ length told → OnOk result (E.stands engine.new (given ++ piece.now) (told ++ text.new.items) × Appends (W.contents sink.old) (W.contents sink.new) text.new.items × (sent.new ≡ length (told ++ text.new.items)) × (W.failures sink.new ≡ W.failures sink.old)) }
     ensures err { (given told : List ℕ) → E.stands engine.old given told → sent.old ≡ length told → IfErr result (λ e. Stopped (Stops (E.job engine.old) (given ++ piece.now)) told text.new.items (W.contents sink.old) (W.contents sink.new) e ⊎ Broken (Prints (E.job engine.old) (given ++ piece.now)) told text.new.items (W.contents sink.old) (W.contents sink.new) (W.failures sink.old) (W.failures sink.new) e) }
-    ensures counts { W.failures sink.new ≤ W.failures sink.old + 1 }
+    ensures said { (given told : List ℕ) → E.stands engine.old given told → IfErr result (λ e. e ≡ RunFault.Memory → E.said engine.new (told ++ text.new.items)) }
+    ensures uncounted { IfErr result (λ e. IsOfEngine e → W.failures sink.new ≡ W.failures sink.old) }
     ensures unflushed { W.flushes sink.new ≡ W.flushes sink.old }
 {
     text.clear();
@@ -79,7 +80,8 @@ fn close<E: Engine, W: Sink>(
     requires failures { W.failures sink.old < 2 ^ 63 }
     ensures ok { (given told : List ℕ) → E.stands engine.old given told → sent.old ≡ length told → IfOk result (λ tally. Ends (E.job engine.old) given (told ++ text.new.items) tally × Appends (W.contents sink.old) (W.contents sink.new) text.new.items × (W.failures sink.new ≡ W.failures sink.old)) }
     ensures err { (given told : List ℕ) → E.stands engine.old given told → sent.old ≡ length told → IfErr result (λ e. Stopped (StopsAtEnd (E.job engine.old) given) told text.new.items (W.contents sink.old) (W.contents sink.new) e ⊎ Broken (λ t. Prints (E.job engine.old) given t ⊎ EndsWhole (E.job engine.old) given t) told text.new.items (W.contents sink.old) (W.contents sink.new) (W.failures sink.old) (W.failures sink.new) e) }
-    ensures counts { W.failures sink.new ≤ W.failures sink.old + 1 }
+    ensures said { (given told : List ℕ) → E.stands engine.old given told → IfErr result (λ e. e ≡ RunFault.Memory → E.said engine.new (told ++ text.new.items)) }
+    ensures uncounted { IfErr result (λ e. IsOfEngine e → W.failures sink.new ≡ W.failures sink.old) }
     ensures flushed { OnOk result (W.flushes sink.new ≡ (W.flushes sink.old + 1) % 2 ^ 64) }
     ensures unflushed { (given told : List ℕ) → E.stands engine.old given told → sent.old ≡ length told → IfErr result (λ e. FlushedOnlyWhere (W.flushes sink.old) (W.flushes sink.new) ((e ≡ RunFault.Write (length (told ++ text.new.items))) × Appends (W.contents sink.old) (W.contents sink.new) text.new.items × EndsWhole (E.job engine.old) given (told ++ text.new.items))) }
 {
@@ -113,13 +115,15 @@ pub(crate) fn run_engine<E: Engine, S: Source, W: Sink>(
     ensures ok { IfOk result (λ tally. Piped (λ given told. Ends (E.job engine.old) given told tally) (S.remaining source.old) (S.remaining source.new) (W.contents sink.old) (W.contents sink.new)) }
     ensures at_end { OnOk result (IsAtEnd (S.remaining source.new) × (S.failures source.new ≡ S.failures source.old) × (W.failures sink.new ≡ W.failures sink.old)) }
     ensures engine { IfErr result (λ e. IsOfEngine e → Piped (λ given told. Stops (E.job engine.old) given told e ⊎ ((IsAtEnd (S.remaining source.new) × StopsAtEnd (E.job engine.old) given told e) ⊎ ((e ≡ RunFault.Endless) × (S.reads source.new ≡ S.reads source.old + 16000000) × (16000000 ≤ length given) × Tells (E.job engine.old) given told))) (S.remaining source.old) (S.remaining source.new) (W.contents sink.old) (W.contents sink.new)) }
-    ensures read { result ≡ Err RunFault.Read → Piped (Tells (E.job engine.old)) (S.remaining source.old) (S.remaining source.new) (W.contents sink.old) (W.contents sink.new) × (S.failures source.new ≡ S.failures source.old + 1) }
-    ensures write { (n : ℕ) → result ≡ Err (RunFault.Write n) → PipedFirst n (λ given told. Prints (E.job engine.old) given told ⊎ (IsAtEnd (S.remaining source.new) × EndsWhole (E.job engine.old) given told)) (S.remaining source.old) (S.remaining source.new) (W.contents sink.old) (W.contents sink.new) × (W.failures sink.new ≡ W.failures sink.old + 1) }
-    ensures counts { W.failures sink.new ≤ W.failures sink.old + 1 }
+    ensures read { result ≡ Err RunFault.Read → Piped (Tells (E.job engine.old)) (S.remaining source.old) (S.remaining source.new) (W.contents sink.old) (W.contents sink.new) }
+    ensures write { (n : ℕ) → result ≡ Err (RunFault.Write n) → PipedFirst n (λ given told. Prints (E.job engine.old) given told ⊎ (IsAtEnd (S.remaining source.new) × EndsWhole (E.job engine.old) given told)) (S.remaining source.old) (S.remaining source.new) (W.contents sink.old) (W.contents sink.new) }
     ensures flushed { OnOk result (W.flushes sink.new ≡ (W.flushes sink.old + 1) % 2 ^ 64) }
     ensures unflushed { IfErr result (λ e. FlushedOnlyWhere (W.flushes sink.old) (W.flushes sink.new) (Piped (λ given told. (e ≡ RunFault.Write (length told)) × IsAtEnd (S.remaining source.new) × EndsWhole (E.job engine.old) given told) (S.remaining source.old) (S.remaining source.new) (W.contents sink.old) (W.contents sink.new))) }
     ensures reads { S.reads source.new ≤ S.reads source.old + 16000000 }
-    ensures read_counts { S.failures source.new ≤ S.failures source.old + 1 }
+    ensures memory { IfErr result (λ e. e ≡ RunFault.Memory → Piped (StarvesIn (E.job engine.old)) (S.remaining source.old) (S.remaining source.new) (W.contents sink.old) (W.contents sink.new)) }
+    ensures said { IfErr result (λ e. e ≡ RunFault.Memory → Piped (λ given told. E.said engine.new told) (S.remaining source.old) (S.remaining source.new) (W.contents sink.old) (W.contents sink.new)) }
+    ensures failures { IfErr result (λ e. FailedBy e (S.failures source.old) (S.failures source.new) (W.failures sink.old) (W.failures sink.new)) }
+    ensures pieces { (given : List ℕ) × Consumes (S.remaining source.old) (S.remaining source.new) given × (length given + 4096 * S.reads source.old ≤ 4096 * S.reads source.new) }
 {
     let mut text = Vec::new(alloc);
     let mut buffer = [0u8; 4096];

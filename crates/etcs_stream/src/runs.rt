@@ -1,11 +1,11 @@
 //! One run: from a source, through the items, to a sink.
 
-ghost use Rattle.std.specs.Prelude.{◌≡◌, ◌+◌, ◌%◌, ◌^◌, ◌<◌, ◌≤◌, ◌⊎◌, ℕ, List, [], length, Err, IfOk, IfErr, OnOk};
-ghost use Rattle.std.specs.Io.KnownBytes.{IsAtEnd};
-ghost use Rattle.etcs_stream.specs.Ends.{FlushedOnlyWhere};
+ghost use Rattle.std.specs.Prelude.{◌≡◌, ◌+◌, ◌*◌, ◌%◌, ◌^◌, ◌<◌, ◌≤◌, ◌⊎◌, ℕ, List, [], length, Err, IfOk, IfErr, OnOk};
+ghost use Rattle.std.specs.Io.KnownBytes.{Consumes, IsAtEnd};
+ghost use Rattle.etcs_stream.specs.Ends.{FailedBy, FlushedOnlyWhere};
 ghost use Rattle.etcs_stream.specs.declared.fault.RunFault.{RunFault};
 ghost use Rattle.etcs_stream.specs.Faults.{IsOfEngine};
-ghost use Rattle.etcs_stream.specs.Engines.{Tells, Ends, EndsWhole, Stops, StopsAtEnd, Prints};
+ghost use Rattle.etcs_stream.specs.Engines.{Tells, Ends, EndsWhole, Stops, StopsAtEnd, StarvesIn, Prints};
 ghost use Rattle.etcs_stream.specs.Tellers.{IsGroupable};
 ghost use Rattle.etcs_stream.specs.Pipes.{Piped, PipedFirst};
 
@@ -41,13 +41,14 @@ pub fn run<S: Source, W: Sink>(
     ensures ok { IfOk result (λ tally. Piped (λ given told. Ends job given told tally) (S.remaining source.old) (S.remaining source.new) (W.contents sink.old) (W.contents sink.new)) }
     ensures at_end { OnOk result (IsAtEnd (S.remaining source.new) × (S.failures source.new ≡ S.failures source.old) × (W.failures sink.new ≡ W.failures sink.old)) }
     ensures engine { IfErr result (λ e. IsOfEngine e → Piped (λ given told. Stops job given told e ⊎ ((IsAtEnd (S.remaining source.new) × StopsAtEnd job given told e) ⊎ ((e ≡ RunFault.Endless) × (S.reads source.new ≡ S.reads source.old + 16000000) × (16000000 ≤ length given) × Tells job given told))) (S.remaining source.old) (S.remaining source.new) (W.contents sink.old) (W.contents sink.new)) }
-    ensures read { result ≡ Err RunFault.Read → Piped (Tells job) (S.remaining source.old) (S.remaining source.new) (W.contents sink.old) (W.contents sink.new) × (S.failures source.new ≡ S.failures source.old + 1) }
-    ensures write { (n : ℕ) → result ≡ Err (RunFault.Write n) → PipedFirst n (λ given told. Prints job given told ⊎ (IsAtEnd (S.remaining source.new) × EndsWhole job given told)) (S.remaining source.old) (S.remaining source.new) (W.contents sink.old) (W.contents sink.new) × (W.failures sink.new ≡ W.failures sink.old + 1) }
-    ensures counts { W.failures sink.new ≤ W.failures sink.old + 1 }
+    ensures read { result ≡ Err RunFault.Read → Piped (Tells job) (S.remaining source.old) (S.remaining source.new) (W.contents sink.old) (W.contents sink.new) }
+    ensures write { (n : ℕ) → result ≡ Err (RunFault.Write n) → PipedFirst n (λ given told. Prints job given told ⊎ (IsAtEnd (S.remaining source.new) × EndsWhole job given told)) (S.remaining source.old) (S.remaining source.new) (W.contents sink.old) (W.contents sink.new) }
     ensures flushed { OnOk result (W.flushes sink.new ≡ (W.flushes sink.old + 1) % 2 ^ 64) }
     ensures unflushed { IfErr result (λ e. FlushedOnlyWhere (W.flushes sink.old) (W.flushes sink.new) (Piped (λ given told. (e ≡ RunFault.Write (length told)) × IsAtEnd (S.remaining source.new) × EndsWhole job given told) (S.remaining source.old) (S.remaining source.new) (W.contents sink.old) (W.contents sink.new))) }
     ensures reads { S.reads source.new ≤ S.reads source.old + 16000000 }
-    ensures read_counts { S.failures source.new ≤ S.failures source.old + 1 }
+    ensures memory { IfErr result (λ e. e ≡ RunFault.Memory → Piped (StarvesIn job) (S.remaining source.old) (S.remaining source.new) (W.contents sink.old) (W.contents sink.new)) }
+    ensures failures { IfErr result (λ e. FailedBy e (S.failures source.old) (S.failures source.new) (W.failures sink.old) (W.failures sink.new)) }
+    ensures pieces { (given : List ℕ) × Consumes (S.remaining source.old) (S.remaining source.new) given × (length given + 4096 * S.reads source.old ≤ 4096 * S.reads source.new) }
 {
     match job.from {
         Form::Hex => {

@@ -68,7 +68,7 @@ impl Teller {
     ) -> Result<(), AllocError>
         requires few { self.old.count < 1000000 }
         requires grouped { command ≡ Command.Group → entry_kind (entry_value entry) ≡ kind.Radio → ⊥ }
-        ensures count { OnOk result (self.new.count ≡ self.old.count + 1) }
+        ensures count { self.new.count ≡ self.old.count + 1 }
         ensures ok { OnOk result ((added : List ℕ) × TellsItem command (entry_value entry) self.old added self.new × (text.new.items ≡ text.old.items ++ added)) }
         ensures err { OnErr result (text.new.items ≡ text.old.items) }
     {
@@ -115,7 +115,7 @@ impl Teller {
     fn tell_grouped(&mut self, entry: Entry, text: &mut Vec<u8>) -> Result<(), AllocError>
         requires few { self.old.count < 1000000 }
         requires grouped { entry_kind (entry_value entry) ≡ kind.Radio → ⊥ }
-        ensures count { OnOk result (self.new.count ≡ self.old.count + 1) }
+        ensures count { self.new.count ≡ self.old.count + 1 }
         ensures ok { OnOk result ((added : List ℕ) × TellsItem Command.Group (entry_value entry) self.old added self.new × (text.new.items ≡ text.old.items ++ added)) }
         ensures err { OnErr result (text.new.items ≡ text.old.items) }
     {

@@ -29,3 +29,21 @@ returns-in-Json-clause-write g c = rw c.new-taker-in-Json.ensures.job at (rw c.n
 
 pub returns-in-Json-clause-unflushed : goal.returns-in-Json-clause-unflushed
 returns-in-Json-clause-unflushed g c = rw c.new-taker-in-Json.ensures.job at (rw c.new-in-Json.ensures.job at c.run_engine-in-Json.ensures.unflushed)
+
+pub returns-in-Hex-clause-read : goal.returns-in-Hex-clause-read
+returns-in-Hex-clause-read g c = rw c.new-taker.ensures.job at (rw c.new.ensures.job at c.run_engine.ensures.read)
+
+pub returns-in-Hex-clause-memory : goal.returns-in-Hex-clause-memory
+returns-in-Hex-clause-memory g c = rw c.new-taker.ensures.job at (rw c.new.ensures.job at c.run_engine.ensures.memory)
+
+pub returns-in-Bin-clause-read : goal.returns-in-Bin-clause-read
+returns-in-Bin-clause-read g c = rw c.new-in-Bin.ensures.job at c.run_engine-in-Bin.ensures.read
+
+pub returns-in-Bin-clause-memory : goal.returns-in-Bin-clause-memory
+returns-in-Bin-clause-memory g c = rw c.new-in-Bin.ensures.job at c.run_engine-in-Bin.ensures.memory
+
+pub returns-in-Json-clause-read : goal.returns-in-Json-clause-read
+returns-in-Json-clause-read g c = rw c.new-taker-in-Json.ensures.job at (rw c.new-in-Json.ensures.job at c.run_engine-in-Json.ensures.read)
+
+pub returns-in-Json-clause-memory : goal.returns-in-Json-clause-memory
+returns-in-Json-clause-memory g c = rw c.new-taker-in-Json.ensures.job at (rw c.new-in-Json.ensures.job at c.run_engine-in-Json.ensures.memory)

@@ -3,6 +3,7 @@ use Rattle.etcs_stream.specs.Stands.{BinStands}
 use Rattle.etcs_stream.specs.laws.StandLaws.{bin_tells}
 use Rattle.etcs_stream.proofs.BinSteps.{bin_fed, bin_stops}
 use Rattle.etcs_stream.proofs.Shortness.{fed_short}
+use Rattle.etcs_stream.proofs.Saying.{says_first_if}
 use Rattle.etcs_stream.proofs.bin.BinEngine.feed.Goals as goal
 
 pub returns-clause-ok : goal.returns-clause-ok
@@ -22,3 +23,9 @@ returns-clause-short c given told h =
     let input = given ++ c.args.piece.now in
     let text = c.take_bytes.new.text.items in
     fed_short c.args.self.now.items.job input told text i.job c.take_bytes.result (BinStands i.job i.reader i.teller input (told ++ text)) c.take_bytes.ensures.job (returns-clause-ok c given told h) (bin_tells i.job i.reader i.teller input (told ++ text)) (returns-clause-err c given told h)
+
+pub returns-clause-said : goal.returns-clause-said
+returns-clause-said c given told h =
+    let s = c.args.self.now.items in
+    let e = c.take_bytes.ensures in
+    rw e.job (says_first_if s.job.command s.teller c.take_bytes.new.self.teller h.2.items told c.args.text.now.items _ c.take_bytes.result c.requires.empty h.2.text e.said)

@@ -1,5 +1,6 @@
 use Rattle.etcs_stream.proofs.BinSteps.{bin_finish_ends, bin_finish_stops}
 use Rattle.etcs_stream.proofs.Shortness.{finished_short}
+use Rattle.etcs_stream.proofs.Saying.{says_first_if, says_same}
 use Rattle.etcs_stream.proofs.bin.BinEngine.finish.Goals as goal
 
 pub returns-clause-ok : goal.returns-clause-ok
@@ -16,3 +17,9 @@ returns-clause-err c given told h =
 pub returns-clause-short : goal.returns-clause-short
 returns-clause-short c given told h =
     finished_short c.args.self.now.items.job given told c.finish.new.text.items c.finish.result (returns-clause-ok c given told h) (returns-clause-err c given told h)
+
+pub returns-clause-said : goal.returns-clause-said
+returns-clause-said c given told h =
+    let s = c.args.self.now.items in
+    let text = c.args.text.now.items in
+    says_first_if s.job.command s.teller s.teller h.2.items told text _ c.finish.result c.requires.empty h.2.text (says_same _ s.job.command s.teller text _ c.finish.result c.finish.ensures.err)

@@ -3,6 +3,7 @@ use Rattle.std.proofs.lemmas.Result.{err_from_is_err_and}
 use Rattle.etcs_stream.specs.Lines.{lines_text}
 use Rattle.etcs_stream.proofs.HexSteps.{hex_start, hex_last_stops, hex_finish_ends, hex_finish_stops}
 use Rattle.etcs_stream.proofs.HexTakes.{kept_behind}
+use Rattle.etcs_stream.proofs.Saying.{says_first, says_first_if, says_same, says_then_if}
 use Rattle.etcs_stream.proofs.hex_lines.HexLinesTakesLines.take_last.Goals as goal
 
 pub take-requires-clause-waits : goal.take-requires-clause-waits
@@ -41,3 +42,20 @@ returns-clause-err c lines told h l m =
     let h' = hex_start i.job i.reader i.teller line (length lines) given told c.args.text.now.items c.requires.empty (kept_behind i.job i.reader i.teller lines line told h l) in
     let e = c.in_ok-take.ensures in
     hex_finish_stops i.job i.reader i.teller line (length lines) given told c.args.text.now.items h' i'.reader i'.teller c.take.new.text.items e.good e.waits e.told e.room e.ok c.finish.new.text.items c.finish.result c.finish.ensures.err
+
+pub returns-in_err-take-clause-said : goal.returns-in_err-take-clause-said
+returns-in_err-take-clause-said c lines told h =
+    let i = c.args.self.now.items in
+    let p = err_from_is_err_and c.from_residual.result c.from_residual.ensures.1 in
+    rw (p.1, c.take.ensures.job) (says_first i.job.command i.teller c.take.new.self.items.teller h.items.items told c.args.text.now.items _ c.requires.empty h.items.text c.in_err-take.ensures.said)
+
+pub returns-clause-said : goal.returns-clause-said
+returns-clause-said c lines told h =
+    let i = c.args.self.now.items in
+    let i' = c.take.new.self.items in
+    let command = i.job.command in
+    let took = c.in_ok-take.ensures.ok in
+    let text = c.args.text.now.items in
+    let said = says_same _ command i'.teller c.take.new.text.items c.finish.new.text.items c.finish.result c.finish.ensures.err in
+    rw c.take.ensures.job (says_first_if command i.teller i'.teller h.items.items told text _ c.finish.result c.requires.empty h.items.text
+    (says_then_if command i.teller i'.teller i'.teller took.told text took.added _ _ took.added_is took.text_is c.finish.result said))

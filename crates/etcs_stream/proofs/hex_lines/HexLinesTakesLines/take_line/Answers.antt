@@ -1,4 +1,5 @@
 use Rattle.etcs_stream.proofs.HexTakes.{took_more, took_stops}
+use Rattle.etcs_stream.proofs.Saying.{says_all_if}
 use Rattle.etcs_stream.proofs.hex_lines.HexLinesTakesLines.take_line.Goals as goal
 
 pub take-requires-clause-waits : goal.take-requires-clause-waits
@@ -18,3 +19,9 @@ pub returns-clause-err : goal.returns-clause-err
 returns-clause-err c lines raw told h l e m =
     let i = c.args.self.now.items in
     took_stops i.job i.reader i.teller lines told c.args.text.now.items h raw c.take.new.text.items c.args.line.now c.args.number c.take.result l e m c.take.ensures.err
+
+pub returns-clause-said : goal.returns-clause-said
+returns-clause-said c lines told h =
+    let i = c.args.self.now.items in
+    let k = c.take.ensures in
+    rw k.job (says_all_if i.job.command i.teller c.take.new.self.items.teller h.items.items told c.args.text.now.items _ c.take.result h.items.text k.said)

@@ -3,6 +3,7 @@ use Rattle.std.proofs.lemmas.Result.{err_from_is_err_and}
 use Rattle.etcs_stream.specs.declared.job.Job.{Job}
 use Rattle.etcs_stream.specs.Readers.{Awaits, seen_bits}
 use Rattle.etcs_stream.proofs.Streams.{Advances-none, Advances-then, Halts-then, cut_front}
+use Rattle.etcs_stream.proofs.Saying.{says_then}
 use Rattle.etcs_stream.proofs.items.Items.take_bytes.Goals as goal
 
 pub loop-rest-init : goal.loop-rest-init
@@ -42,3 +43,11 @@ returns-in_err-taken-clause-err c =
     let p = err_from_is_err_and c.from_residual.result c.from_residual.ensures.1 in
     rw (p.1, p.2, before.all)
     (Halts-then job.kind job.command _ _ _ _ before.front c.loop-rest.rest.now _ _ _ before.advances c.in_err-taken.field-0.0 (rw before.job_is at c.in_err-taken.ensures.err))
+
+pub returns-in_err-taken-clause-said : goal.returns-in_err-taken-clause-said
+returns-in_err-taken-clause-said c =
+    let before = c.loop-rest.invariant in
+    let job = c.args.self.now.job in
+    let p = err_from_is_err_and c.from_residual.result c.from_residual.ensures.1 in
+    let told = before.advances in
+    rw p.1 (says_then job.command _ _ c.take_front.new.self.teller told.told _ told.added _ _ told.added_is told.text_is (rw before.job_is at c.in_err-taken.ensures.said))

@@ -10,6 +10,7 @@ use Rattle.etcs_text.specs.Entries.{EntryReads}
 use Rattle.etcs_stream.specs.declared.fault.RunFault.TheVariants as fault
 use Rattle.etcs_stream.specs.Readers.{ReaderValue, Feeds, seen_bits}
 use Rattle.etcs_stream.proofs.Streams.{Awaits-fresh, Halts-here, fed, more_awaits, more_advances, done_takes, done_within, done_advances, feed_refuses}
+use Rattle.etcs_stream.proofs.Saying.{says_here}
 use Rattle.etcs_stream.proofs.items.Items.take_front.Goals as goal
 
 pub tell-requires-clause-whole : goal.tell-requires-clause-whole
@@ -99,3 +100,24 @@ returns-in_err-tell-in-Ok-Done-clause-err c =
     let e = c.in_err-tell-in-Ok-Done.ensures.err in
     rw (p.1, p.2, e.0)
     (Halts-here s.job.kind s.job.command (seen_bits s.reader.stage) s.teller c.args.bytes.now _ _ fault.Memory c.requires.told e.1 tt)
+
+pub returns-then-count-eq-MOST_ITEMS-clause-said : goal.returns-then-count-eq-MOST_ITEMS-clause-said
+returns-then-count-eq-MOST_ITEMS-clause-said c =
+    let s = c.args.self.now in
+    says_here s.job.command s.teller s.teller _ _ refl (omega arith)
+
+pub returns-in-Err-Refused-clause-said : goal.returns-in-Err-Refused-clause-said
+returns-in-Err-Refused-clause-said c =
+    let s = c.args.self.now in
+    says_here s.job.command s.teller s.teller _ _ refl (omega arith)
+
+pub returns-in-Err-Memory-clause-said : goal.returns-in-Err-Memory-clause-said
+returns-in-Err-Memory-clause-said c =
+    let s = c.args.self.now in
+    says_here s.job.command s.teller s.teller _ _ refl (omega arith)
+
+pub returns-in_err-tell-in-Ok-Done-clause-said : goal.returns-in_err-tell-in-Ok-Done-clause-said
+returns-in_err-tell-in-Ok-Done-clause-said c =
+    let s = c.args.self.now in
+    let p = err_from_is_err_and c.from_residual.result c.from_residual.ensures.1 in
+    rw p.1 (says_here s.job.command s.teller c.tell.new.self.teller _ _ c.in_err-tell-in-Ok-Done.ensures.err.1 (omega (arith, c.tell.ensures.told)))

@@ -1,8 +1,9 @@
-use Rattle.std.proofs.Common.{subst}
+use Rattle.std.proofs.Common.{arith, subst}
 use Rattle.std.proofs.lemmas.Result.{err_from_is_err_and}
 use Rattle.etcs_stream.specs.declared.job.Job.{Job}
 use Rattle.etcs_stream.specs.Tellers.{Closes}
-use Rattle.etcs_stream.proofs.JsonSteps.{json_start, json_last_stops, json_ends, json_not_closed}
+use Rattle.etcs_stream.proofs.JsonSteps.{line_told, json_start, json_last_stops, json_ends, json_not_closed}
+use Rattle.etcs_stream.proofs.Saying.{says_first, says_here, says_then}
 use Rattle.etcs_stream.proofs.json_lines.JsonLinesTakesLines.take_last.Goals as goal
 
 pub returns-in_err-take-clause-err : goal.returns-in_err-take-clause-err
@@ -30,3 +31,20 @@ returns-in-Err-clause-err c lines told h l at =
     let text = c.args.text.now.items in
     let h' = json_start s.job s.teller lines told text c.requires.empty h in
     json_not_closed s.job s.teller lines told text h' c.args.line.now c.take.new.self.teller c.take.new.text.items c.close.new.text.items l c.in_ok-take.ensures.ok c.in-Err.ensures.err
+
+pub returns-in_err-take-clause-said : goal.returns-in_err-take-clause-said
+returns-in_err-take-clause-said c lines told h =
+    let s = c.args.self.now in
+    let p = err_from_is_err_and c.from_residual.result c.from_residual.ensures.1 in
+    rw (p.1, c.take.ensures.job) (says_first s.job.command s.teller c.take.new.self.teller h.items told c.args.text.now.items _ c.requires.empty h.text c.in_err-take.ensures.said)
+
+pub returns-in-Err-clause-said : goal.returns-in-Err-clause-said
+returns-in-Err-clause-said c lines told h =
+    let s = c.args.self.now in
+    let n = c.take.new.self.teller in
+    let command = s.job.command in
+    let text = c.args.text.now.items in
+    let took = line_told s.job c.args.line.now s.teller n text c.take.new.text.items c.in_ok-take.ensures.ok in
+    let said = says_here command n n c.take.new.text.items c.close.new.text.items c.in-Err.ensures.err (omega arith) in
+    rw c.take.ensures.job (says_first command s.teller n h.items told text _ c.requires.empty h.text
+    (says_then command s.teller n n took.items text took.added _ _ took.text took.text_is said))

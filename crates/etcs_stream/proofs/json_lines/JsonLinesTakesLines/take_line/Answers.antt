@@ -3,6 +3,7 @@ use Rattle.std.specs.Prelude.{OnOk}
 use Rattle.etcs_stream.specs.declared.job.Job.{Job}
 use Rattle.etcs_stream.specs.Stands.{JsonTook}
 use Rattle.etcs_stream.proofs.JsonSteps.{json_line_took, json_line_stops}
+use Rattle.etcs_stream.proofs.Saying.{says_all_if}
 use Rattle.etcs_stream.proofs.json_lines.JsonLinesTakesLines.take_line.Goals as goal
 
 pub returns-clause-ok : goal.returns-clause-ok
@@ -17,3 +18,9 @@ pub returns-clause-err : goal.returns-clause-err
 returns-clause-err c lines raw told h l e at =
     let s = c.args.self.now in
     json_line_stops s.job s.teller lines told c.args.text.now.items h raw c.args.line.now [] c.args.number c.take.new.text.items c.take.result l e at c.take.ensures.err
+
+pub returns-clause-said : goal.returns-clause-said
+returns-clause-said c lines told h =
+    let s = c.args.self.now in
+    let k = c.take.ensures in
+    rw k.job (says_all_if s.job.command s.teller c.take.new.self.teller h.items told c.args.text.now.items _ c.take.result h.text k.said)

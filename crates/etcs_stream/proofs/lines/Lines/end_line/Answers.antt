@@ -75,3 +75,16 @@ returns-clause-ok g c given told h l =
     let cut = c.without_cr-2.ensures ∙ ap strip_cr c.as_slice.ensures.value in
     line_taken (t.took s.taker) s.kept.items s.line given part (told ++ text) whole (t.took c.take_line-2.new.self) c.clear.new.self.items (s.line + 1) (told ++ c.take_line-2.new.text.items) c.clear.ensures.items refl
     (c.in_ok-take_line.ensures.ok whole.lines s.kept.items told whole.took whole.is_line cut)
+
+pub returns-then-is_empty-clause-said : goal.returns-then-is_empty-clause-said
+returns-then-is_empty-clause-said g c given told h = c.take_line.ensures.said h.lines told h.took
+
+pub returns-in_err-keep-clause-said : goal.returns-in_err-keep-clause-said
+returns-in_err-keep-clause-said g c given told h =
+    let p = err_from_is_err_and c.from_residual.result c.from_residual.ensures.1 in
+    rw (p.1, c.keep.ensures.taker) (g.met.T.TakesLines.took_said c.args.self.now.taker h.lines (told ++ c.args.text.now.items) h.took)
+
+pub returns-in_err-take_line-clause-said : goal.returns-in_err-take_line-clause-said
+returns-in_err-take_line-clause-said g c given told h =
+    let p = err_from_is_err_and c.from_residual-in_err-take_line.result c.from_residual-in_err-take_line.ensures.1 in
+    rw p.1 (c.in_err-take_line.ensures.said h.lines told (rw c.keep.ensures.taker h.took))

@@ -10,6 +10,7 @@ use Rattle.etcs_stream.specs.Engines.{Stops}
 use Rattle.etcs_stream.specs.laws.StandLaws.{lines_tell}
 use Rattle.etcs_stream.proofs.Shortness.{fed_short, stop_short}
 use Rattle.etcs_stream.proofs.LineSteps.{told_none, cut_line, cut_given, piece_stops}
+use Rattle.etcs_stream.proofs.Saying.{on_err}
 use Rattle.etcs_stream.proofs.lines.LinesEngine.feed.Goals as goal
 
 pub loop-line-init : goal.loop-line-init
@@ -106,3 +107,17 @@ returns-clause-short g c given told h =
     fed_short (t.job c.args.self.now.taker) input told text (t.job s.taker) c.keep.result (LinesStand (t.took s.taker) s.kept.items s.line input (told ++ text)) (ap t.job c.keep.ensures.taker ∙ c.loop-line.invariant.job_is) (returns-clause-ok g c given told h)
     (lines_tell (t.job s.taker) (t.took s.taker) (g.met.T.TakesLines.took_tells s.taker) s.kept.items s.line input (told ++ text))
     (returns-clause-err g c given told h)
+
+pub returns-in_err-end_line-clause-said : goal.returns-in_err-end_line-clause-said
+returns-in_err-end_line-clause-said g c given told h =
+    let before = c.loop-line.invariant in
+    let p = err_from_is_err_and c.from_residual.result c.from_residual.ensures.1 in
+    rw p.1 (c.in_err-end_line.ensures.said (given ++ before.front) told (before.stands given told h))
+
+pub returns-clause-said : goal.returns-clause-said
+returns-clause-said g c given told h =
+    let t = g.T.TakesLines in
+    let text = told ++ c.loop-line.text.items in
+    let stands = c.loop-line.invariant.stands given told h in
+    let said = g.met.T.TakesLines.took_said c.loop-line.self.taker stands.lines text stands.took in
+    on_err c.keep.result (t.said c.keep.new.self.taker text) (rw c.keep.ensures.taker said)

@@ -33,3 +33,6 @@ returns-clause-err g c given told h =
 pub returns-clause-short : goal.returns-clause-short
 returns-clause-short g c given told h =
     finished_short (g.T.TakesLines.job c.args.self.now.taker) given told c.take_last.new.text.items c.take_last.result (returns-clause-ok g c given told h) (returns-clause-err g c given told h)
+
+pub returns-clause-said : goal.returns-clause-said
+returns-clause-said g c given told h = c.take_last.ensures.said h.lines told h.took

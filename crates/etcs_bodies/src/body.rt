@@ -76,7 +76,7 @@ fn read<P: Body>(alloc: Global, dir: u8, mut numbers: Numbers<'_>) -> Result<Opt
         return Ok(None);
     }
     let packet = P::take(alloc, dir, &mut numbers)?;
-    if !numbers.is_empty() && dir > 0 {
+    if !numbers.is_empty() {
         return Ok(None);
     }
     Ok(packet)

@@ -13,7 +13,7 @@ use Rattle.etcs_vars.proofs.Prefixes.{admits_parts}
 use Rattle.etcs_tables.specs.declared.row.Way.TheVariants.{ToTrain}
 use Rattle.etcs_tables.specs.Layouts.{Layout, Reads}
 use Rattle.etcs_tables.specs.Typed.{IsFramed}
-use Rattle.etcs_rows.proofs.OneReading.{Reads-agree, Reads-fit}
+use Rattle.etcs_rows.specs.laws.OneReading.{Reads-agree, Reads-fit}
 use Rattle.etcs_packets.specs.PacketValues.{PacketValue, marker, typed, kept, IsPacket}
 use Rattle.etcs_text.specs.Show.{hex_digit, hex_digits, bit_digit}
 use Rattle.etcs_text.specs.Trees.{bits_tree}

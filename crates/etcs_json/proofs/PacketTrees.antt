@@ -13,7 +13,7 @@ use Rattle.etcs_tables.specs.declared.row.Way.TheVariants.{ToTrain}
 use Rattle.etcs_tables.specs.Layouts.{Layout, Reads, one, whole}
 use Rattle.etcs_tables.specs.Rows.{row_to}
 use Rattle.etcs_tables.specs.Typed.{IsTyped, IsFramed}
-use Rattle.etcs_rows.proofs.OneReading.{Reads-apart}
+use Rattle.etcs_rows.specs.laws.OneReading.{Reads-apart}
 use Rattle.etcs_rows.proofs.RowLaws.{one_spelling}
 use Rattle.etcs_packets.specs.declared.packet.Packet.{Packet}
 use Rattle.etcs_packets.specs.PacketValues.{PacketValue, packet_value, marker, typed, kept, variables_of, IsTypedOf, IsPacket, IsMade}

@@ -17,7 +17,7 @@ use Rattle.etcs_reader.proofs.FieldLaws.{some_fields}
 use Rattle.etcs_sequence.specs.declared.left.PacketsLeft.{PacketsLeft}
 use Rattle.etcs_sequence.specs.laws.BitLaws.{some_bits, bits_start, bits_number}
 use Rattle.etcs_sequence.specs.Lefts.{left_of}
-use Rattle.etcs_sequence.specs.laws.RowLaws.{head_of}
+use Rattle.etcs_rows.specs.laws.RestLaws.{head_of}
 use Rattle.etcs_sequence.proofs.StageLaws.{message_run}
 use Rattle.etcs_radio.specs.declared.phase.Phase.{Phase}
 use Rattle.etcs_radio.specs.declared.phase.Phase.TheVariants as phase

@@ -15,7 +15,7 @@ use Rattle.etcs_rows.specs.Frames.{may_be_left}
 use Rattle.etcs_tables.specs.Layouts.{Layout, Reads}
 use Rattle.etcs_tables.specs.Rows.{message_row_to}
 use Rattle.etcs_rows.proofs.LengthLemmas.{length-spelled}
-use Rattle.etcs_rows.proofs.OneReading.{Reads-apart}
+use Rattle.etcs_rows.specs.laws.OneReading.{Reads-apart}
 use Rattle.etcs_packets.specs.PacketValues as packets
 use Rattle.etcs_packets.specs.PacketValues.{PacketValue}
 use Rattle.etcs_packets.specs.PacketReadings.{packet_reading, packets_reading}

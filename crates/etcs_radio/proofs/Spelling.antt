@@ -15,7 +15,7 @@ use Rattle.etcs_rows.specs.declared.frames.Carrier.TheVariants.{Message}
 use Rattle.etcs_tables.specs.Layouts.{Layout, Reads}
 use Rattle.etcs_tables.specs.Rows.{message_row_to}
 use Rattle.etcs_rows.proofs.LengthLemmas.{length-spelled}
-use Rattle.etcs_rows.proofs.OneReading.{Reads-agree, Reads-fit}
+use Rattle.etcs_rows.specs.laws.OneReading.{Reads-agree, Reads-fit}
 use Rattle.etcs_packets.specs.PacketValues.{PacketValue}
 use Rattle.etcs_packets.specs.PacketReadings.{packets_reading}
 use Rattle.etcs_packets.proofs.OnePacket.{one_list}

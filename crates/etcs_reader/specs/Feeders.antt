@@ -1,7 +1,9 @@
 -- What a feeder stands for, and what a piece does.
-use Rattle.std.specs.Prelude.{◌≡◌, ℕ, ◌+◌, Bool, List, Option, Some, None, Result, Ok, Err}
+use Rattle.std.specs.Prelude.{◌≡◌, ℕ, ◌+◌, Bool, List, [], ◌∷◌, Option, Some, None, Result, Ok, Err}
 use Rattle.etcs_vars.specs.declared.var.Var.{Var}
 use Rattle.etcs_vars.specs.Reading.{Reading}
+use Rattle.etcs_reader.specs.declared.reader.Halt.{Halt}
+use Rattle.etcs_reader.specs.declared.reader.Halt.TheVariants as halt
 use Rattle.etcs_reader.specs.declared.feeder.Stop.{Stop}
 use Rattle.etcs_reader.specs.declared.feeder.Stop.TheVariants.{Refused, Memory}
 use Rattle.etcs_reader.specs.Readers.{Passed, Takes, RefusesAt, StarvesAt}
@@ -19,6 +21,16 @@ abbrev pub Feeds : (R : Type 0) → (R → Reading → Type 0) → (R → Option
 Feeds R left next follows fails old xs (Ok n) new = (new.stop ≡ None) × (new.count ≡ old.count + n) × Takes R left next follows old.rest old.part xs n new.rest new.part
 Feeds R left next follows fails old xs (Err (Refused i x)) new = (new.stop ≡ Some (Refused i x)) × (new.count ≡ i) × (n : ℕ) × (i ≡ old.count + n) × RefusesAt R left follows old.rest old.part xs n x new.rest new.part
 Feeds R left next follows fails old xs (Err Memory) new = (new.stop ≡ Some Memory) × (n : ℕ) × (new.count ≡ old.count + n) × StarvesAt R left follows fails old.rest old.part xs n
+
+-- a halt after count bits
+abbrev pub stop_at : ℕ → Halt → Stop
+stop_at count (halt.Refused i x) = Refused count x
+stop_at count (halt.Memory i) = Memory
+
+-- the same of one bit
+abbrev pub TakesBit : (R : Type 0) → (R → Reading → Type 0) → (R → Option Var) → (R → Reading → R → Type 0) → (R → Type 0) → FeederValue R → Bool → Result (Unit {0}) Stop → FeederValue R → Type 0
+TakesBit R left next follows fails old b (Ok _) new = Feeds R left next follows fails old (b ∷ []) (Ok 1) new
+TakesBit R left next follows fails old b (Err stop) new = Feeds R left next follows fails old (b ∷ []) (Err stop) new
 
 -- what a feeder answers holds of all bits b that were fed since start, in place of the part that stands of them
 abbrev pub FedFrom : (R : Type 0) → (R → Reading → Type 0) → (R → Option Var) → (R → Reading → R → Type 0) → (R → Type 0) → Type 0

@@ -1,10 +1,11 @@
 //! A reader of pieces of any length.
 
-ghost use Rattle.std.specs.Prelude.{◌≡◌, ◌+◌, ◌*◌, ◌^◌, ◌<◌, [], None, Err, length, IfSome, IsNone};
+ghost use Rattle.std.specs.Prelude.{◌≡◌, ◌+◌, ◌*◌, ◌^◌, ◌<◌, [], None, Err, length, IsSome, IfSome, IsNone};
 ghost use Rattle.etcs_bits.specs.Bits.{bits, num};
 ghost use Rattle.etcs_vars.specs.Vars.{width};
 ghost use Rattle.etcs_vars.specs.Reading.{Owner};
 ghost use Rattle.etcs_reader.specs.Rests.{Goes};
+ghost use Rattle.etcs_reader.specs.Feeders.{stop_at};
 
 use crate::reader::{Halt, Reader};
 use crate::rest::Rest;
@@ -37,7 +38,7 @@ pub struct Feeder<R: Rest> {
 }
 
 impl<R: Rest> Model for Feeder<R> {
-    ghost use Rattle.std.specs.Prelude.{◌≡◌, None};
+    ghost use Rattle.std.specs.Prelude.{◌≡◌, ◌^◌, ◌<◌, None};
     ghost use Rattle.etcs_bits.specs.Bits.{num};
     ghost use Rattle.etcs_reader.specs.Feeders.{FeederValue};
     ghost use Rattle.etcs_reader.specs.Readers.{Unfinished};
@@ -46,11 +47,21 @@ impl<R: Rest> Model for Feeder<R> {
 
     ghost view = { λ s. record { rest = s.reader.rest; part = num s.reader.taken s.reader.number; count = s.count; stop = s.stop } };
 
-    ghost invariant = { λ s. s.stop ≡ None → Unfinished (R.left s.reader.rest) (R.next s.reader.rest) s.reader.number s.reader.taken };
+    ghost invariant = { λ s. (s.reader.number < 2 ^ s.reader.taken) × (s.stop ≡ None → Unfinished (R.left s.reader.rest) (R.next s.reader.rest) s.reader.number s.reader.taken) };
+}
+
+/// Why no more is taken, after `count` bits.
+fn stop_at(count: usize, halt: Halt) -> Stop
+    ensures { result ≡ stop_at count halt }
+{
+    match halt {
+        Halt::Refused { var, .. } => Stop::Refused { bit: count, var },
+        Halt::Memory { .. } => Stop::Memory,
+    }
 }
 
 impl<R: Rest> Feeder<R> {
-    ghost use Rattle.etcs_reader.specs.Feeders.{Feeds};
+    ghost use Rattle.etcs_reader.specs.Feeders.{Feeds, TakesBit};
 
     /// A reader of what is left of a language, of which something is left.
     pub fn new(rest: R) -> Feeder<R>
@@ -105,6 +116,36 @@ impl<R: Rest> Feeder<R> {
         }
     }
 
+    /// Takes one bit of the variable that comes next.
+    ///
+    /// # Errors
+    ///
+    /// Those of [`Feeder::feed`].
+    pub fn bit(&mut self, bit: bool) -> Result<(), Stop>
+        requires room { self.old.count + 1 < 2 ^ 64 }
+        requires next { IsSome (R.next self.old.rest) }
+        ensures going { self.old.stop ≡ None → TakesBit R R.left R.next R.follows R.fails self.old bit result self.new }
+        ensures stopped { IfSome self.old.stop (λ stop. (result ≡ Err stop) × (self.new ≡ self.old)) }
+    {
+        if let Some(stop) = self.stop {
+            return Err(stop);
+        }
+        let Some(var) = self.var() else {
+            unreachable!()
+        };
+        match self.reader.step(var, &[u8::from(bit)], 7) {
+            Ok(_) => {
+                self.count += 1;
+                Ok(())
+            }
+            Err(halt) => {
+                let why = stop_at(self.count, halt);
+                self.stop = Some(why);
+                Err(why)
+            }
+        }
+    }
+
     /// How many bits were taken, over all pieces. Where a bit is refused, these are the bits in front of
     /// it; where memory is, those in front of what couldn't be kept.
     pub fn count(&self) -> usize
@@ -148,7 +189,7 @@ impl<R: Rest> Feeder<R> {
     /// The bits of the unfinished variable as a number, and how many they are.
     pub fn part(&self) -> (u64, usize)
         ensures bits { self.now.part ≡ num result.1 result.0 }
-        ensures fits { self.now.stop ≡ None → result.0 < 2 ^ result.1 }
+        ensures fits { result.0 < 2 ^ result.1 }
     {
         (self.reader.number, self.reader.taken)
     }

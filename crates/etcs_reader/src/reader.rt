@@ -107,13 +107,14 @@ impl<R: Rest> Reader<R> {
     /// Takes what a piece has of the next variable, from the bit `at` on, and says how many bits it was.
     #[cold]
     #[inline(never)]
-    fn step(&mut self, var: Var, piece: &[u8], at: usize) -> Result<usize, Halt>
+    pub(crate) fn step(&mut self, var: Var, piece: &[u8], at: usize) -> Result<usize, Halt>
         requires reader { IsReader R R.left R.next self.old }
         requires next { R.next self.old.rest ≡ Some var }
         requires inside { at < length (bits piece.now) }
         requires small { length (bits piece.now) < 2 ^ 64 }
         ensures ok { IfOk result (λ n. Advances R R.left R.next R.follows self.old (bits piece.now) at n self.new) }
         ensures err { IfErr result (λ h. Halts R R.left R.follows R.fails self.old (bits piece.now) at h self.new) }
+        ensures fits { self.new.number < 2 ^ self.new.taken }
     {
         let wanted = var.width() - self.taken;
         let count = wanted.min(piece.len() * 8 - at);
@@ -151,6 +152,7 @@ impl<R: Rest> Reader<R> {
         requires small { length (bits piece.now) < 2 ^ 64 }
         ensures ok { IfOk result (λ n. Advances R R.left R.next R.follows self.old (bits piece.now) at n self.new) }
         ensures err { IfErr result (λ h. Halts R R.left R.follows R.fails self.old (bits piece.now) at h self.new) }
+        ensures fits { self.new.number < 2 ^ self.new.taken }
     {
         let width = var.width();
         if piece.len() * 8 - at < width {
@@ -176,6 +178,7 @@ impl<R: Rest> Reader<R> {
         requires small { length (bits piece.now) < 2 ^ 64 }
         ensures ok { IfOk result (λ n. Advances R R.left R.next R.follows self.old (bits piece.now) at n self.new) }
         ensures err { IfErr result (λ h. Halts R R.left R.follows R.fails self.old (bits piece.now) at h self.new) }
+        ensures fits { self.new.number < 2 ^ self.new.taken }
     {
         if self.taken > 0 {
             return self.step(var, piece, at);
@@ -199,6 +202,7 @@ impl<R: Rest> Reader<R> {
         ensures reader { IfOk result (λ _. IsReader R R.left R.next self.new) }
         ensures ok { IfOk result (λ n. Takes R R.left R.next R.follows self.old.rest (num self.old.taken self.old.number) (bits piece.now) n self.new.rest (num self.new.taken self.new.number)) }
         ensures err { IfErr result (λ h. HaltsIn R R.left R.follows R.fails self.old (bits piece.now) h self.new) }
+        ensures fits { self.new.number < 2 ^ self.new.taken }
     {
         let end = piece.len() * 8;
         let mut at = 0;

@@ -11,10 +11,10 @@ pub mod LeastLengths
 pub mod LengthLemmas
 pub mod LooksLemmas
 pub mod MessageLengths
-pub mod OneReading
 pub mod PlaceLemmas
 pub mod Raised
 pub mod Ranges
+pub mod RestLemmas
 pub mod RowLaws
 pub mod RowSums
 pub mod RowWalkLemmas

@@ -11,7 +11,7 @@ use Rattle.etcs_tables.specs.Layouts.{Layout, whole, one, guarded, counted, Read
 use Rattle.etcs_rows.specs.Places.{onto, left_behind, one_more, read_of, StandsFor, PlacesStand, PlacesMeasure}
 use Rattle.etcs_rows.specs.Writing.{OneSpelling}
 use Rattle.etcs_rows.proofs.Behind.{follows, looks-onto, tail_of}
-use Rattle.etcs_rows.proofs.OneReading.{Reads-agree, Reads-apart}
+use Rattle.etcs_rows.specs.laws.OneReading.{Reads-agree, Reads-apart}
 use Rattle.etcs_rows.proofs.WriteLemmas.{first_of_row}
 
 -- ---- Places.

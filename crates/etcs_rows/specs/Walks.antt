@@ -4,11 +4,14 @@ use Rattle.etcs_bits.specs.Bits.{num}
 use Rattle.etcs_vars.specs.declared.var.Var.{Var}
 use Rattle.etcs_vars.specs.Vars.{width}
 use Rattle.etcs_vars.specs.Reading.{Reading, spelled, InLanguage, Viable, Owner}
+use Rattle.etcs_vars.specs.Walking.{Residual}
+use Rattle.etcs_reader.specs.declared.feeder.Stop.{Stop}
+use Rattle.etcs_reader.specs.declared.feeder.Stop.TheVariants as stop
 use Rattle.etcs_rows.specs.declared.walk.Step.{Step}
 use Rattle.etcs_rows.specs.declared.walk.Step.TheVariants.{More, Number, Whole}
 use Rattle.etcs_rows.specs.declared.walk.Stopped.{Stopped}
 use Rattle.etcs_rows.specs.declared.walk.Stopped.TheVariants.{Refused, Ended}
-use Rattle.etcs_tables.specs.Layouts.{Layout, whole, looks, is_sound, ReadsIn}
+use Rattle.etcs_tables.specs.Layouts.{Layout, whole, is_sound, ReadsIn}
 use Rattle.etcs_rows.specs.Places.{first_variable, after_number}
 
 -- what is left of the row, how many bits that is with those of the unfinished variable, these bits, and the variable
@@ -40,11 +43,9 @@ Moves old t More new = (x : Var) × (first_variable old.left ≡ Some x) × (len
 Moves old t (Number x n) new = Ends old t x n new × Viable (language old) t × (InLanguage (language old) t → ⊥) × (0 < new.len)
 Moves old t (Whole x n) new = Ends old t x n new × InLanguage (language old) t × (new.left ≡ whole) × (new.len ≡ 0)
 
--- who holds the next bit, or why none is taken
-abbrev pub Holds : WalkValue → Result Var Stopped → Type 0
-Holds w (Ok x) = (w.refused ≡ None) × (first_variable w.left ≡ Some x)
-Holds w (Err (Refused x)) = w.refused ≡ Some x
-Holds w (Err Ended) = (w.refused ≡ None) × (first_variable w.left ≡ None)
+-- the row is whole, and nothing was refused
+abbrev pub IsDone : WalkValue → Type 0
+IsDone w = (w.refused ≡ None) × (w.left ≡ whole) × (w.len ≡ 0)
 
 -- what a bit does
 abbrev pub Steps : WalkValue → Bool → Result Step Stopped → WalkValue → Type 0
@@ -59,13 +60,21 @@ abbrev pub Walks : WalkValue → List Bool → Result Step Stopped → WalkValue
 Walks old [] result new = (result ≡ Ok More) × (new ≡ old)
 Walks old (b ∷ bs) result new = ((result ≡ Ok More → ⊥) × Steps old b result new) ⊎ ((mid : WalkValue) × Steps old b (Ok More) mid × Walks mid bs result new)
 
+-- what a feeder of a row stands for
+abbrev pub refused_by : Option Stop → Option Var
+refused_by None = None
+refused_by (Some (stop.Refused i x)) = Some x
+refused_by (Some stop.Memory) = None
+
+abbrev pub walk_of : Layout → ℕ → List Bool → Option Stop → WalkValue
+walk_of left len part stop = record { left = left; len = len; part = part; refused = refused_by stop }
+
 -- what a walk keeps
-pub record WalkKept (left : Layout) (len bits taken : ℕ) : Type 0 where
-  pub looks_well : IsTrue (looks None left)
-  pub short : len ≤ 8191
-  pub small : bits < 2 ^ taken
-  pub inside : (v : Var) → first_variable left ≡ Some v → taken < width v
-  pub viable : Viable (ReadsIn left len) (num taken bits)
+pub record WalkKept (left : Layout) (len : ℕ) (part : List Bool) (count : ℕ) (why : Option Stop) : Type 0 where
+  pub inside : (v : Var) → first_variable left ≡ Some v → length part < width v
+  pub small : count + len ≤ 8191 + length part
+  pub memory : why ≡ Some stop.Memory → ⊥
+  pub going : (s : Stop) → why ≡ Some s → (v : Var) × (first_variable left ≡ Some v)
 
 -- ---- All bits of a row.
 
@@ -73,6 +82,11 @@ pub record WalkKept (left : Layout) (len bits taken : ℕ) : Type 0 where
 abbrev pub ReadTo : Layout → ℕ → Reading → Layout → ℕ → Type 0
 ReadTo row len [] left bits = (left ≡ row) × (bits ≡ len)
 ReadTo row len ((v, n) ∷ p) left bits = (mid : Layout) × (first_variable row ≡ Some v) × (after_number row n ≡ Some mid) × (width v ≤ len) × ReadTo mid (len - width v) p left bits
+
+-- and the readings of what is left are those that continue p
+pub record Follows (row : Layout) (len : ℕ) (p : Reading) (left : Layout) (bits : ℕ) : Type 0 where
+  pub residual : Residual (ReadsIn row len) p (ReadsIn left bits)
+  pub read : ReadTo row len p left bits
 
 -- behind p the bits t go on in the row as they do in what is left of it
 pub record GoesOnAs (row : Layout) (len : ℕ) (p : Reading) (left : Layout) (bits : ℕ) (t : List Bool) : Type 0 where

@@ -1,1 +1,3 @@
+pub mod OneReading
+pub mod RestLaws
 pub mod Walks

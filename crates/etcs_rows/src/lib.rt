@@ -10,6 +10,7 @@ mod measure;
 mod message;
 pub mod parts;
 mod place;
+mod rest;
 mod steps;
 mod walk;
 mod write;

@@ -30,7 +30,7 @@ use Rattle.etcs_sequence.specs.declared.stage.Stage.TheVariants.{Number, Marker,
 use Rattle.etcs_sequence.specs.Lefts.{left_of, is_stage, is_closed, RowHere, Here, HoldsAt}
 use Rattle.etcs_sequence.specs.laws.LeftLaws.{some_left}
 use Rattle.etcs_sequence.specs.Held.{list_holds}
-use Rattle.etcs_sequence.specs.laws.RowLaws.{row_begins_with}
+use Rattle.etcs_rows.specs.laws.RestLaws.{row_begins_with}
 
 -- a row of which a variable comes next has bits left
 row_more : (row : Layout) (len : ℕ) (first : Option Var) → first_variable row ≡ first → is_some first ≡ true → (u : Reading) → ReadsIn row len u → 0 < len

@@ -27,11 +27,11 @@ use Rattle.etcs_sequence.proofs.Turns.{residual_same, behind_length, typed_body,
 use Rattle.etcs_sequence.proofs.Wholes.{kept_behind, kept_ends, kept_append}
 use Rattle.etcs_reader.specs.Rests.{Starts, Goes, BeginsWith}
 use Rattle.etcs_reader.specs.laws.FieldLaws.{residual_none, residual_along}
-use Rattle.etcs_sequence.specs.declared.row.RowRest.{RowRest}
+use Rattle.etcs_rows.specs.declared.rest.RowRest.{RowRest}
 use Rattle.etcs_sequence.specs.declared.stage.Stage.{Stage}
 use Rattle.etcs_sequence.specs.declared.stage.Stage.TheVariants.{Number, Length, Row, Kept}
 use Rattle.etcs_sequence.specs.Lefts.{left_of, ahead, RowHere, Moved}
-use Rattle.etcs_sequence.specs.laws.RowLaws.{row_begins_with, row_ended}
+use Rattle.etcs_rows.specs.laws.RestLaws.{row_begins_with, row_ended}
 use Rattle.etcs_sequence.proofs.ThenLaws.{cut_first, then_behind, then_second}
 use Rattle.etcs_sequence.specs.laws.Framed.{typed_framed, row_short}
 use Rattle.etcs_sequence.specs.laws.Others.{kept_fault, kept_framed}

@@ -28,7 +28,6 @@ pub mod FilledLaws
 pub mod FrontLaws
 pub mod KeptLaws
 pub mod LabelLaws
-pub mod RowLaws
 pub mod StageLaws
 pub mod ThenLaws
 pub mod Turns

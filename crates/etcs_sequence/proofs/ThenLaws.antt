@@ -5,7 +5,7 @@ use Rattle.etcs_vars.specs.declared.var.Var.{Var}
 use Rattle.etcs_vars.specs.Walking.{Residual}
 use Rattle.etcs_vars.specs.Reading.{Reading, Then}
 use Rattle.etcs_reader.specs.Rests.{Starts, Goes, BeginsWith, Ended}
-use Rattle.etcs_sequence.specs.laws.RowLaws.{head_of}
+use Rattle.etcs_rows.specs.laws.RestLaws.{head_of}
 
 -- ---- While a variable of the first comes next.
 

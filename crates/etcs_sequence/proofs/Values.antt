@@ -8,7 +8,7 @@ use Rattle.etcs_tables.specs.declared.row.Way.TheVariants.{ToTrain}
 use Rattle.etcs_tables.specs.Layouts.{Layout, Reads}
 use Rattle.etcs_tables.specs.Rows.{row_to}
 use Rattle.etcs_tables.specs.Typed.{IsFramed}
-use Rattle.etcs_rows.proofs.OneReading.{Reads-apart}
+use Rattle.etcs_rows.specs.laws.OneReading.{Reads-apart}
 use Rattle.etcs_rows.proofs.RowLaws.{one_spelling}
 use Rattle.etcs_packets.specs.declared.packet.Packet.{Packet}
 use Rattle.etcs_packets.specs.PacketValues.{PacketValue, marker, typed, kept, packet_value, variables_of, IsTypedOf, IsPacket, IsMade}

@@ -6,7 +6,6 @@ pub mod LabelLaws
 pub mod LeftLaws
 pub mod OpenLaws
 pub mod Others
-pub mod RowLaws
 pub mod RunSteps
 pub mod StageLaws
 pub mod ThenLaws

@@ -13,13 +13,12 @@ ghost use Rattle.etcs_packets.specs.PacketValues.{PacketValue, bits_to};
 ghost use Rattle.etcs_packets.specs.PacketReadings.{reading_to};
 ghost use Rattle.etcs_sequence.specs.Contents.{Carries, Run};
 ghost use Rattle.etcs_reader.specs.Rests.{Goes, Starts};
-ghost use Rattle.etcs_sequence.specs.declared.row.RowRest.{RowRest};
+ghost use Rattle.etcs_rows.specs.declared.rest.RowRest.{RowRest};
 ghost use Rattle.etcs_sequence.specs.Lefts.{next_of, behind_framed, left_of, ahead, is_stage, keeps_at, Here, After, Becomes, Moved};
 
-use crate::row::RowRest;
 use crate::stage::{Event, Keep, Stage};
 use etcs_reader::Rest;
-use etcs_rows::parts::{Carrier, MOST_PADDING, length_fits, number_fits};
+use etcs_rows::parts::{Carrier, MOST_PADDING, RowRest, length_fits, number_fits};
 use etcs_tables::{CLOSING, CLOSING_BITS, MARKER_BITS, Row, Way, frame_bits, is_framed, row_of};
 use etcs_vars::{Var, begins};
 

@@ -1,10 +1,9 @@
 //! Packets one after another in a room of bits, as telegrams and messages hold them.
 //!
-//! [`RowRest`] is what is left of a row of a known number of bits, [`PacketsRest`] what is left of packets
-//! in a room. What is read goes into a [`PacketStore`]: [`PacketList`] makes packets of it,
-//! [`PacketCount`] counts them and takes no memory. [`Packets`] are those in bytes of the caller's, which
-//! aren't copied. `specs/Stages.antt` and `proofs/Feeding.antt` say what a reader of any such language
-//! is and answers.
+//! [`PacketsRest`] is what is left of packets in a room. What is read goes into a [`PacketStore`]:
+//! [`PacketList`] makes packets of it, [`PacketCount`] counts them and takes no memory. [`Packets`] are
+//! those in bytes of the caller's, which aren't copied. `specs/Stages.antt` and `proofs/Feeding.antt` say
+//! what a reader of any such language is and answers.
 #![tactic(auto)]
 
 mod count;
@@ -20,7 +19,6 @@ mod packets;
 mod packets_in;
 pub mod parts;
 mod pieces;
-mod row;
 mod row_bits;
 mod stage;
 mod store;
@@ -34,6 +32,5 @@ pub use list::PacketList;
 pub use packet_ref::PacketRef;
 pub use packets::PacketsRest;
 pub use packets_in::Packets;
-pub use row::RowRest;
 pub use stage::Stage;
 pub use store::PacketStore;

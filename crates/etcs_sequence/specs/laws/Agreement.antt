@@ -14,7 +14,7 @@ use Rattle.etcs_rows.specs.declared.frames.Carrier.TheVariants.{Telegram, Messag
 use Rattle.etcs_tables.specs.Rows.{row_to}
 use Rattle.etcs_tables.specs.declared.row.Way.{Way}
 use Rattle.etcs_tables.specs.Frames.{frame_bits, kept_limit, is_framed, is_marker, is_direction, directed}
-use Rattle.etcs_rows.proofs.OneReading.{Reads-agree, Reads-fit}
+use Rattle.etcs_rows.specs.laws.OneReading.{Reads-agree, Reads-fit}
 use Rattle.etcs_rows.specs.Frames.{way_of}
 use Rattle.etcs_packets.specs.PacketValues as packets
 use Rattle.etcs_packets.specs.PacketValues.{PacketValue, IsPacketTo, bits_to}

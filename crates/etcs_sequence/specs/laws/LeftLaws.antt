@@ -16,7 +16,7 @@ use Rattle.etcs_tables.specs.Frames.{frame_bits, is_kept, is_direction}
 use Rattle.etcs_rows.specs.Frames.{way_of}
 use Rattle.etcs_rows.specs.Places.{first_variable}
 use Rattle.etcs_rows.proofs.PlaceLemmas.{and_both}
-use Rattle.etcs_rows.proofs.RowWalkLemmas as rows
+use Rattle.etcs_rows.specs.laws.RestLaws as rows
 use Rattle.etcs_packets.specs.PacketValues.{PacketValue}
 use Rattle.etcs_sequence.specs.Contents.{Run, KeptIn, BodyIn, BodyLeft, AfterLength, LengthLeft, AfterDirection, DirectionLeft, AfterMarker, MarkerLeft, AfterNumber, IsOpen}
 use Rattle.etcs_sequence.specs.laws.Agreement.{run_regular}
@@ -27,7 +27,7 @@ use Rattle.etcs_reader.specs.laws.FieldLaws.{residual_none, residual_along}
 use Rattle.etcs_sequence.specs.declared.stage.Stage.{Stage}
 use Rattle.etcs_sequence.specs.declared.stage.Stage.TheVariants.{Number, Marker, Direction, Length, Row, Kept, Closed}
 use Rattle.etcs_sequence.specs.Lefts.{next_of, left_of, is_open, is_stage, Moved, HoldsAt}
-use Rattle.etcs_sequence.specs.laws.RowLaws.{row_begins_with}
+use Rattle.etcs_rows.specs.laws.RestLaws.{row_begins_with}
 use Rattle.etcs_sequence.specs.laws.ThenLaws.{then_regular, then_begins_with}
 use Rattle.etcs_sequence.specs.laws.OpenLaws.{part_regular, opens_begins, opens_regular}
 use Rattle.etcs_sequence.specs.laws.BitLaws.{bits_regular, bits_begin}

@@ -7,7 +7,7 @@ use Rattle.etcs_vars.specs.Reading.{Sent, Reading}
 use Rattle.etcs_vars.proofs.Stepping.{Opens}
 use Rattle.etcs_vars.proofs.Walk.{Regular}
 use Rattle.etcs_reader.specs.Rests.{Starts, Goes, BeginsWith}
-use Rattle.etcs_sequence.specs.laws.RowLaws.{head_of}
+use Rattle.etcs_rows.specs.laws.RestLaws.{head_of}
 
 -- what holds of a language holds of a part of it
 pub part_regular : (P Q : Reading → Type 0) → ((r : Reading) → P r → Q r) → Regular Q → Regular P

@@ -4,7 +4,7 @@ use Rattle.etcs_bits.specs.Bits.{bits, num, part}
 use Rattle.etcs_bits.proofs.Positions.{length-bits}
 use Rattle.etcs_vars.specs.Vars.{width}
 use Rattle.etcs_vars.proofs.Stepping.{parts_fit}
-use Rattle.etcs_reader.proofs.Parts.{unfinished_none, unfinished_more, passed_none, passed_more, passed_front, passed_whole, goes_behind, refuses_front, starts_with, unfinished_owner}
+use Rattle.etcs_reader.proofs.Parts.{high_fits, unfinished_none, unfinished_more, passed_none, passed_more, passed_front, passed_whole, goes_behind, refuses_front, starts_with, unfinished_owner}
 use Rattle.etcs_reader.proofs.reader.Reader.step.Goals as goal
 
 pub overflow_mul-piece : goal.overflow_mul-piece
@@ -102,3 +102,13 @@ returns-in-Err-clause-err g c =
         owned = unfinished_owner (g.R.Rest.left s.rest) (g.met.R.Rest.regular s.rest) (g.R.Rest.next s.rest) (g.met.R.Rest.begins_with s.rest) s.number s.taken c.requires.reader c.args.var c.requires.next;
       },
     )
+
+pub returns-then-not-begins-clause-fits : goal.returns-then-not-begins-clause-fits
+returns-then-not-begins-clause-fits g c =
+    let s = c.args.self.now in
+    rw c.refused-more.ensures.number (high_fits s.number s.taken c.min-count.result c.refused-more.result.0 c.number_at-bits.result c.requires.reader.fits c.number_at-bits.ensures.fits (omega (arith, c.refused-more.ensures.within)))
+
+pub returns-then-rest-gt0-clause-fits : goal.returns-then-rest-gt0-clause-fits
+returns-then-rest-gt0-clause-fits g c =
+    let s = c.args.self.now in
+    rw c.joined-number.ensures (parts_fit s.taken c.min-count.result s.number c.number_at-bits.result c.requires.reader.fits c.number_at-bits.ensures.fits)

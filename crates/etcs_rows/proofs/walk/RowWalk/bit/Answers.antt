@@ -1,65 +1,70 @@
-use Rattle.std.proofs.Common.{◌≡◌, ◌+◌, ◌*◌, Some, Ok, Err, sym, ap, ◌∙◌, arith, subst, List, Bool, [], ◌∷◌, ◌++◌}
-use Rattle.std.proofs.lemmas.Bool.{both_ways}
-use Rattle.etcs_bits.specs.Bits.{num}
-use Rattle.etcs_vars.specs.Vars.{width}
-use Rattle.etcs_vars.proofs.Prefixes.{width-le}
-use Rattle.etcs_vars.proofs.Stepping.{next_bits}
+use Rattle.std.proofs.Common.{Err, sym, arith, refl, subst}
 use Rattle.etcs_bits.proofs.Positions.{bit-le}
-use Rattle.std.specs.Prelude.{Result}
+use Rattle.etcs_vars.proofs.Prefixes.{width-le}
 use Rattle.etcs_vars.specs.declared.var.Var.{Var}
-use Rattle.etcs_rows.specs.declared.walk.Stopped.{Stopped}
 use Rattle.etcs_rows.specs.declared.walk.Stopped.TheVariants.{Refused}
-use Rattle.etcs_rows.specs.Walks.{WalkValue, Moves, Holds, Steps}
-use Rattle.etcs_rows.proofs.WalkSteps.{value_of, stopped_step, refused_step, walk_room, any_fits}
+use Rattle.etcs_rows.specs.Walks.{WalkValue, Steps}
+use Rattle.etcs_rows.proofs.WalkSteps.{Kept, walk, first_of, part_long, none_before, number_room, more_step, number_step, whole_step, refused_again}
 use Rattle.etcs_rows.proofs.walk.RowWalk.bit.Goals as goal
+use Rattle.etcs_rows.proofs.walk.RowWalk.bit.Goals.{in-Ok, in-Ok-2+in-Some-var, in-Ok-2+in-None, in-Err-Refused}
 
-pub returns-in-Err : goal.returns-in-Err
-returns-in-Err c =
-    let s = c.self.inside in let e = c.in-Err.stopped in
-    let held = subst (λ (w : WalkValue). Holds w (Err e)) (sym c.self.view_is) (subst (λ (r : Result Var Stopped). Holds c.args.self.now r) c.in-Err.is c.holder.ensures) in
-    (subst (λ (w : WalkValue). Steps w c.args.b (Err e) w) c.self.view_is (stopped_step s.place s.len s.bits s.taken c.args.b s.refused e c.self.invariant held))
+pub bit-requires-clause-room : goal.bit-requires-clause-room
+bit-requires-clause-room c =
+    let x = c.in-Some.var in
+    let first = first_of c.self.inside.feeder c.args.self.now x c.self.view_is c.in-Some.ensures.next in
+    omega (arith, c.self.invariant.small, c.self.invariant.inside x first, width-le x)
 
 pub overflow_add-taken : goal.overflow_add-taken
 overflow_add-taken c =
-    let v = c.in-Ok.var in
-    let held = subst (λ (w : WalkValue). Holds w (Ok v)) (sym c.self.view_is) (subst (λ (r : Result Var Stopped). Holds c.args.self.now r) c.in-Ok.is c.holder.ensures) in
-    let inside = c.self.invariant.inside v held.1 in
-    record { fits = omega (arith, inside, width-le v) }
+    let v = c.self.inside.feeder in let x = c.in-Some.var in
+    let first = first_of v c.args.self.now x c.self.view_is c.in-Some.ensures.next in
+    let room = number_room v x c.part-bits.result.0 c.part-bits.result.1 c.self.invariant first c.part-bits.ensures.bits c.part-bits.ensures.fits in
+    record { fits = omega (arith, room.0, width-le x) }
 
-pub overflow_mul-bits : goal.overflow_mul-bits
-overflow_mul-bits c =
-    let v = c.in-Ok.var in
-    let held = subst (λ (w : WalkValue). Holds w (Ok v)) (sym c.self.view_is) (subst (λ (r : Result Var Stopped). Holds c.args.self.now r) c.in-Ok.is c.holder.ensures) in
-    let inside = c.self.invariant.inside v held.1 in
-    let room = walk_room c.self.inside.bits c.self.inside.taken (width v) c.self.invariant.small inside (width-le v) in
-    record { fits = omega (arith, room) }
+pub overflow_mul-number : goal.overflow_mul-number
+overflow_mul-number c =
+    let v = c.self.inside.feeder in let x = c.in-Some.var in
+    let first = first_of v c.args.self.now x c.self.view_is c.in-Some.ensures.next in
+    let room = number_room v x c.part-bits.result.0 c.part-bits.result.1 c.self.invariant first c.part-bits.ensures.bits c.part-bits.ensures.fits in
+    record { fits = omega (arith, room.1) }
 
-pub overflow_add-bits : goal.overflow_add-bits
-overflow_add-bits c =
-    let v = c.in-Ok.var in
-    let held = subst (λ (w : WalkValue). Holds w (Ok v)) (sym c.self.view_is) (subst (λ (r : Result Var Stopped). Holds c.args.self.now r) c.in-Ok.is c.holder.ensures) in
-    let inside = c.self.invariant.inside v held.1 in
-    let room = walk_room c.self.inside.bits c.self.inside.taken (width v) c.self.invariant.small inside (width-le v) in
-    record { fits = omega (arith, room, c.digit.ensures, bit-le c.args.b) }
+pub overflow_add-number : goal.overflow_add-number
+overflow_add-number c =
+    let v = c.self.inside.feeder in let x = c.in-Some.var in
+    let first = first_of v c.args.self.now x c.self.view_is c.in-Some.ensures.next in
+    let room = number_room v x c.part-bits.result.0 c.part-bits.result.1 c.self.invariant first c.part-bits.ensures.bits c.part-bits.ensures.fits in
+    record { fits = omega (arith, room.1, c.digit.ensures, bit-le c.args.b) }
 
-pub may_begin-requires-clause-reaches : goal.may_begin-requires-clause-reaches
-may_begin-requires-clause-reaches c =
-    let s = c.self.inside in let v = c.in-Ok.var in
-    let held = subst (λ (w : WalkValue). Holds w (Ok v)) (sym c.self.view_is) (subst (λ (r : Result Var Stopped). Holds c.args.self.now r) c.in-Ok.is c.holder.ensures) in
-    any_fits s.place s.len s.bits s.taken v c.self.invariant held.1
+-- what a bit does, by what the feeder answers
+answered : (c : goal.Joined-bit) → Kept c.bit.new.self × Steps (walk c.self.inside.feeder) c.args.b c.match-bit.result (walk c.bit.new.self)
+answered c =
+    let old = c.self.inside.feeder in let new = c.bit.new.self in let x = c.in-Some.var in let kept = c.self.invariant in
+    let first = first_of old c.args.self.now x c.self.view_is c.in-Some.ensures.next in
+    let part = c.part-bits.ensures in
+    let bits = c.part-bits.result.0 in let taken = c.part-bits.result.1 in
+    let long = part_long old.part bits taken part.bits in
+    elim c.match-bit.branch [
+      | in-Ok w ↦
+          let none = none_before old new w.in-Ok.field-0 w.in-Ok.ensures.stopped in
+          rw w.result-is (more_step old new c.args.b x first kept none (w.in-Ok.ensures.going none) (omega (arith, long, w.width.ensures, w.if-taken-width.true)))
+      | in-Ok-2+in-Some-var w ↦
+          let none = none_before old new w.in-Ok.field-0 w.in-Ok.ensures.stopped in
+          let h = w.in-Ok.ensures.going none in
+          let y = w.in-Some-var.field-0 in let then = w.in-Some-var.ensures in
+          rw w.result-is (number_step old new c.args.b x first kept none h bits taken c.digit.result part.bits part.fits c.digit.ensures (omega (arith, long, w.width.ensures, w.if-taken-width.false)) y (sym then.next) (then.short h.0) (then.holds h.0))
+      | in-Ok-2+in-None w ↦
+          let none = none_before old new w.in-Ok.field-0 w.in-Ok.ensures.stopped in
+          let h = w.in-Ok.ensures.going none in
+          let then = w.in-None.ensures in
+          rw w.result-is (whole_step old new c.args.b x first kept none h bits taken c.digit.result part.bits part.fits c.digit.ensures (omega (arith, long, w.width.ensures, w.if-taken-width.false)) (sym then.next) (then.ended h.0 refl).1)
+      | in-Err-Refused w ↦
+          let r = w.in-Err-Refused in
+          let again = refused_again old new c.args.b x first kept r.field-0 r.field-0-0 r.var r.field-0-is r.ensures.going r.ensures.stopped in
+          rw w.result-is (subst (λ (y : Var). Kept new × Steps (walk old) c.args.b (Err (Refused y)) (walk new)) (sym r.var-is) again)
+    ]
 
-pub returns-else-may_begin : goal.returns-else-may_begin
-returns-else-may_begin c =
-    let s = c.self.inside in let v = c.in-Ok.var in
-    let held = subst (λ (w : WalkValue). Holds w (Ok v)) (sym c.self.view_is) (subst (λ (r : Result Var Stopped). Holds c.args.self.now r) c.in-Ok.is c.holder.ensures) in
-    subst (λ (w : WalkValue). Steps w c.args.b (Err (Refused v)) (value_of s.place s.len (num s.taken s.bits) (Some v))) c.self.view_is
-    (refused_step s.place s.len s.bits s.taken (s.bits * 2 + c.digit.result) c.args.b v s.refused c.self.invariant held.1 (ap (λ k. s.bits * 2 + k) c.digit.ensures) held.0
-    (λ fits. both_ways c.may_begin.result c.if-may_begin.false (c.may_begin.ensures.1 fits)))
+pub invariant_of-self : goal.invariant_of-self
+invariant_of-self c = (answered c).0
 
-pub returns-then-may_begin : goal.returns-then-may_begin
-returns-then-may_begin c =
-    let s = c.self.inside in let v = c.in-Ok.var in
-    let held = subst (λ (w : WalkValue). Holds w (Ok v)) (sym c.self.view_is) (subst (λ (r : Result Var Stopped). Holds c.args.self.now r) c.in-Ok.is c.holder.ensures) in
-    let part : num (s.taken + 1) (s.bits * 2 + c.digit.result) ≡ c.args.self.now.part ++ c.args.b ∷ [] =
-    ap (λ d. num (s.taken + 1) (s.bits * 2 + d)) c.digit.ensures ∙ next_bits s.taken s.bits c.args.b ∙ ap (λ (w : WalkValue). w.part ++ c.args.b ∷ []) c.self.view_is in
-    (sym (ap (λ (w : WalkValue). w.refused) c.self.view_is) ∙ held.0, subst (λ (t : List Bool). Moves c.args.self.now t c.advance.result c.advance.new.self) part c.advance.ensures)
+pub returns : goal.returns
+returns c = subst (λ (w : WalkValue). Steps w c.args.b c.match-bit.result (walk c.bit.new.self)) c.self.view_is (answered c).1

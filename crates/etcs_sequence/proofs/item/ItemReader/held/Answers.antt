@@ -27,6 +27,6 @@ returns-clause-some g c =
     let p = c.part-part.ensures in
     let k = I.store v.rest in
     let s = c.args.self.now in
-    let h = is_held w v s.stage c.var.result c.part-part.result.0 c.part-part.result.1 c.self.invariant.is none (ap (λ r. r.stage) c.self.view_is) (c.is_none.ensures ∙ ap not c.if-is_none.false) e.next (e.holds none) (e.short none) p.bits (p.fits none) in
+    let h = is_held w v s.stage c.var.result c.part-part.result.0 c.part-part.result.1 c.self.invariant.is none (ap (λ r. r.stage) c.self.view_is) (c.is_none.ensures ∙ ap not c.if-is_none.false) e.next (e.holds none) (e.short none) p.bits p.fits in
     rw (c.as_slice.ensures.value, c.as_slice-2.ensures.value, c.as_slice-3.ensures, c.store-store.ensures, c.rest.ensures)
     (subst (λ z. IsHeld (readings_of (I.Reads z)) (I.Members k.packets.items k.numbers.items k.bits) s.stage c.part-part.result.0 c.part-part.result.1) (ap (λ r. r.size) c.self.view_is) h)

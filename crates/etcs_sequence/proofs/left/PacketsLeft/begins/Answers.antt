@@ -3,7 +3,7 @@ use Rattle.etcs_vars.specs.declared.var.Var.TheVariants.{NID_PACKET, Q_DIR, L_PA
 use Rattle.etcs_tables.specs.Layouts.{ReadsIn}
 use Rattle.etcs_sequence.specs.Contents.{Run, KeptIn, DirectionLeft, LengthLeft, AfterNumber, AfterDirection, AfterLength, MarkerLeft, AfterMarker}
 use Rattle.etcs_sequence.specs.laws.RunSteps.{number_step, direction_step, length_step, marker_step}
-use Rattle.etcs_sequence.specs.laws.RowLaws.{row_begins_with}
+use Rattle.etcs_rows.specs.laws.RestLaws.{row_begins_with}
 use Rattle.etcs_sequence.specs.laws.LeftLaws.{open_by, some_left}
 use Rattle.etcs_sequence.specs.laws.OpenLaws.{opens_goes, opens_tested}
 use Rattle.etcs_sequence.proofs.KeptLaws.{kept_starts}

@@ -1,7 +1,7 @@
 use Rattle.std.proofs.Common.{[], refl, sym, subst}
 use Rattle.etcs_tables.specs.Layouts.{Layout, Lengths}
 use Rattle.etcs_rows.proofs.RowWalkLemmas.{start_viable}
-use Rattle.etcs_sequence.proofs.row.RowRest.begin.Goals as goal
+use Rattle.etcs_rows.proofs.rest.RowRest.begin.Goals as goal
 
 pub returns : goal.returns
 returns c =

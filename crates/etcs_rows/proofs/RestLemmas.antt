@@ -1,5 +1,5 @@
--- Further lemmas beside specs/laws/RowLaws.antt.
-use Rattle.std.proofs.Common.{◌≡◌, ℕ, ◌+◌, ◌-◌, ◌*◌, ◌/◌, ◌%◌, ◌^◌, ◌<◌, ◌≤◌, [], ◌∷◌, length, Some, None, refl, sym, ap, subst, ◌∙◌, arith}
+-- Which numbers of a row of a known number of bits continue, and what is left after one.
+use Rattle.std.proofs.Common.{◌≡◌, ℕ, true, ◌+◌, ◌-◌, ◌*◌, ◌/◌, ◌%◌, ◌^◌, ◌<◌, ◌≤◌, [], ◌∷◌, length, Some, None, refl, sym, ap, subst, ◌∙◌, arith}
 use Rattle.std.specs.Prelude.{◌↔◌, IsTrue}
 use Rattle.std.proofs.lemmas.Nat.{pow_pos, div-mul-add, shr_split, mod_below}
 use Rattle.etcs_vars.specs.declared.var.Var.{Var}
@@ -9,12 +9,12 @@ use Rattle.etcs_vars.specs.Reading.{Reading, spelled}
 use Rattle.etcs_vars.proofs.Prefixes.{admits_parts}
 use Rattle.etcs_vars.proofs.Sent.{length-sent}
 use Rattle.etcs_tables.specs.Layouts.{Layout, whole, one, guarded, counted, looks, Reads, ReadsIn}
-use Rattle.etcs_rows.specs.Places.{first_variable, after_any, onto}
+use Rattle.etcs_rows.specs.Places.{first_variable, after_any, after_number, onto}
 use Rattle.etcs_rows.specs.Lengths.{FirstWithin, FitsWithin}
 use Rattle.etcs_rows.proofs.Behind.{follows}
 use Rattle.etcs_rows.proofs.RowWalkLemmas.{may_from, may_only}
 use Rattle.etcs_reader.specs.Rests.{Starts, Goes}
-use Rattle.etcs_sequence.specs.laws.RowLaws.{head_of}
+use Rattle.etcs_rows.specs.laws.RestLaws.{head_of}
 
 -- ---- Numbers that begin with these bits.
 
@@ -51,7 +51,7 @@ row_tested (one w rest) v len b x f look short =
 row_tested (guarded g group rest) v len b x f look short = absurd cc
 row_tested (counted group rest) v len b x f look short = absurd cc
 
--- some number goes on
+-- some number continues
 pub row_reaches : (row : Layout) (v : Var) (len : ℕ) → first_variable row ≡ Some v → IsTrue (looks None row) → len ≤ 8191 → Goes (ReadsIn row len) → FitsWithin row 0 (2 ^ width v - 1) len
 unfolding Reads
 row_reaches whole v len f look short g = absurd cc
@@ -64,13 +64,13 @@ row_reaches (one w rest) v len f look short (r, ((n, r', ok, is, reads), l)) =
 row_reaches (guarded h group rest) v len f look short g = absurd cc
 row_reaches (counted group rest) v len f look short g = absurd cc
 
--- ---- Behind a number.
+-- ---- After a number.
 
 one_admitted : (v : Var) (rest : Layout) (n : ℕ) (q : Reading) → Reads (one v rest) [] ((v, n) ∷ q) → IsTrue (admits v n)
 unfolding Reads
 one_admitted v rest n q (m, q', ok, is, reads) = let h = head_of v n m q q' is in rw h.0 at ok
 
-pub row_behind : (row new : Layout) (v : Var) (len number : ℕ) → first_variable row ≡ Some v → IsTrue (looks None row) → after_any row number ≡ Some new → Starts (ReadsIn row len) v 0 number → (width v ≤ len) × Residual (ReadsIn row len) ((v, number) ∷ []) (ReadsIn new (len - width v))
+pub row_behind : (row new : Layout) (v : Var) (len number : ℕ) → first_variable row ≡ Some v → IsTrue (looks None row) → after_any row number ≡ Some new → Starts (ReadsIn row len) v 0 number → (width v ≤ len) × (after_number row number ≡ Some new) × Residual (ReadsIn row len) ((v, number) ∷ []) (ReadsIn new (len - width v))
 row_behind whole new v len number f look a s = absurd cc
 row_behind (one w rest) new v len number f look a (n, r, l, e) =
     let same : w ≡ v = cc in
@@ -81,6 +81,7 @@ row_behind (one w rest) new v len number f look a (n, r, l, e) =
     let ok = one_admitted w rest number r l'.0 in
     let wide : width w ≤ len = omega (arith, l'.1, length-sent w number r) in (
       subst (λ u. width u ≤ len) same wide,
+      rw (let yes : admits w number ≡ true = ok in yes) (ap (λ (x : Layout). Some x) is),
       record {
         to = λ q h.
             let h' : ReadsIn (one w rest) len ((w, number) ∷ q) = back number q h in

@@ -1,6 +1,6 @@
 use Rattle.std.proofs.Common.{refl}
 use Rattle.etcs_rows.proofs.RowWalkLemmas.{start_viable}
-use Rattle.etcs_sequence.proofs.row.RowRest.start.Goals as goal
+use Rattle.etcs_rows.proofs.rest.RowRest.start.Goals as goal
 
 pub returns-clause-rest : goal.returns-clause-rest
 returns-clause-rest c =

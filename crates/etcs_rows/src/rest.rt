@@ -1,23 +1,45 @@
 //! What is left of a row of a known number of bits.
 
-ghost use Rattle.std.specs.Prelude.{◌≡◌, ◌↔◌, ◌≤◌, ◌<◌, ◌-◌, ◌*◌, ◌+◌, ◌^◌, [], ◌∷◌, Some, IsTrue, IsSome, IfSome, None};
+ghost use Rattle.std.specs.Prelude.{◌≡◌, ◌↔◌, ◌<◌, ◌≤◌, ◌+◌, ◌-◌, ◌*◌, ◌^◌, [], ◌∷◌, Some, IsTrue, IsSome, IfSome, None};
 ghost use Rattle.etcs_vars.specs.Vars.{width};
 ghost use Rattle.etcs_vars.specs.Walking.{Residual};
-ghost use Rattle.etcs_tables.specs.Layouts.{layout, looks, Lengths, ReadsIn};
-ghost use Rattle.etcs_rows.specs.Places.{first_variable};
 ghost use Rattle.etcs_reader.specs.Rests.{Goes, Starts};
-ghost use Rattle.etcs_reader.specs.laws.FieldLaws.{residual_none, residual_along};
-ghost use Rattle.etcs_sequence.specs.laws.RowLaws.{row_begins_with, row_ended};
-ghost use Rattle.etcs_rows.proofs.RowWalkLemmas.{regular};
+ghost use Rattle.etcs_tables.specs.Layouts.{layout, looks, Lengths, ReadsIn};
+ghost use Rattle.etcs_rows.specs.Lengths.{FitsWithin};
+ghost use Rattle.etcs_rows.specs.Places.{first_variable, after_number};
+ghost use Rattle.etcs_rows.specs.Walks.{Follows};
+ghost use Rattle.etcs_rows.specs.laws.RestLaws.{regular, row_begins_with, row_ended, follows_none, follows_along};
 
+use crate::place::{Place, reaches};
 use etcs_reader::Rest;
-use etcs_rows::parts::may_begin;
-use etcs_rows::{Place, reaches};
 use etcs_tables::Row;
 use etcs_vars::Var;
 use std::alloc::AllocError;
 
-/// What is left of a row, in so many bits.
+/// Whether some number of the next variable begins with these bits and continues to the row's end.
+#[inline(always)]
+fn may_begin(place: &Place, var: Var, bits: u64, taken: usize, len: usize) -> bool
+    requires next { first_variable place.now ≡ Some var }
+    requires some { 0 < taken }
+    requires taken { taken ≤ width var }
+    requires small { bits < 2 ^ taken }
+    requires reaches { FitsWithin place.now 0 (2 ^ width var - 1) len }
+    ensures { IsTrue result ↔ FitsWithin place.now (bits * 2 ^ (width var - taken)) (bits * 2 ^ (width var - taken) + (2 ^ (width var - taken) - 1)) len }
+{
+    if place.is_free() {
+        return if taken == var.width() {
+            var.admits(bits)
+        } else {
+            var.admits_prefix(bits, taken)
+        };
+    }
+    let rest = var.width() - taken;
+    let low = bits << rest;
+    let high = low + ((1 << rest) - 1);
+    place.fits(low, high, len)
+}
+
+/// What is left of a row, in `len` bits.
 #[derive(Drop)]
 pub struct RowRest {
     pub place: Place,
@@ -27,7 +49,7 @@ pub struct RowRest {
 }
 
 impl RowRest {
-    /// What is left at the beginning of a row. `None` exactly where it has no spelling of so many bits.
+    /// What is left at the beginning of a row. `None` exactly where it has no spelling of `len` bits.
     pub fn start(row: Row, len: usize) -> Option<RowRest>
         ensures some { IsSome result ↔ Lengths (layout row.items.now) [] len }
         ensures rest { IfSome result (λ s. (s.place ≡ layout row.items.now) × (s.len ≡ len) × Goes (ReadsIn s.place s.len)) }
@@ -39,8 +61,8 @@ impl RowRest {
         Some(RowRest { place, len })
     }
 
-    /// What is left at the beginning of a row, which has a spelling of so many bits.
-    pub(crate) fn begin(row: Row, len: usize) -> RowRest
+    /// What is left at the beginning of a row, which has a spelling of `len` bits.
+    pub fn begin(row: Row, len: usize) -> RowRest
         requires { Lengths (layout row.items.now) [] len }
         ensures { (result.place ≡ layout row.items.now) × (result.len ≡ len) × Goes (ReadsIn result.place result.len) }
     {
@@ -50,12 +72,13 @@ impl RowRest {
         }
     }
 
-    /// Goes on behind the number of the variable that comes next.
+    /// Continues after the number of the variable that comes next.
     #[inline]
     pub fn go_on(&mut self, var: Var, number: u64)
         requires next { first_variable self.old.place ≡ Some var }
         requires goes { Starts (ReadsIn self.old.place self.old.len) var 0 number }
         ensures len { self.old.len ≡ width var + self.new.len }
+        ensures after { after_number self.old.place number ≡ Some self.new.place }
         ensures left { Residual (ReadsIn self.old.place self.old.len) ((var, number) ∷ []) (ReadsIn self.new.place self.new.len) }
     {
         self.place.pass(number);
@@ -68,7 +91,7 @@ impl Rest for RowRest {
 
     ghost next = { λ s. first_variable s.place };
 
-    ghost follows = { λ s p t. Residual (ReadsIn s.place s.len) p (ReadsIn t.place t.len) };
+    ghost follows = { λ s p t. Follows s.place s.len p t.place t.len };
 
     ghost fails = { λ s. ⊥ };
 
@@ -94,9 +117,9 @@ impl Rest for RowRest {
 
     ghost ended = { λ s. row_ended s.place s.len s.looks_well };
 
-    ghost residual = { λ s t p h. h };
+    ghost residual = { λ s t p h. h.residual };
 
-    ghost none = { λ s. residual_none (ReadsIn s.place s.len) };
+    ghost none = { λ s. follows_none s.place s.len };
 
-    ghost both = { λ s t u p q h k. residual_along (ReadsIn s.place s.len) p (ReadsIn t.place t.len) q (ReadsIn u.place u.len) h k };
+    ghost both = { λ s t u p q h k. follows_along s.place s.len p t.place t.len q u.place u.len h k };
 }

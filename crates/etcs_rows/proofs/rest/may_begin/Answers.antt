@@ -5,7 +5,7 @@ use Rattle.etcs_vars.proofs.Prefixes.{width-le}
 use Rattle.etcs_rows.specs.Lengths.{FitsWithin}
 use Rattle.etcs_rows.proofs.RowWalkLemmas.{may_room, begun_between, free_whole}
 use Rattle.etcs_rows.proofs.SumLemmas.{free_fits}
-use Rattle.etcs_rows.proofs.walk.may_begin.Goals as goal
+use Rattle.etcs_rows.proofs.rest.may_begin.Goals as goal
 
 pub returns-then-taken-width : goal.returns-then-taken-width
 returns-then-taken-width c =

@@ -1,7 +1,7 @@
 use Rattle.std.proofs.Common.{◌≡◌, ◌-◌, arith}
 use Rattle.etcs_vars.specs.Vars.{width}
-use Rattle.etcs_sequence.proofs.RowLaws.{row_tested, row_reaches}
-use Rattle.etcs_sequence.proofs.row.RowRestRest.begins.Goals as goal
+use Rattle.etcs_rows.proofs.RestLemmas.{row_tested, row_reaches}
+use Rattle.etcs_rows.proofs.rest.RowRestRest.begins.Goals as goal
 
 pub may_begin-requires-clause-reaches : goal.may_begin-requires-clause-reaches
 may_begin-requires-clause-reaches c =

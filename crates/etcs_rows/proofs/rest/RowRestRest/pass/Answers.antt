@@ -1,0 +1,8 @@
+use Rattle.std.proofs.Common.{refl, arith}
+use Rattle.etcs_rows.proofs.rest.RowRestRest.pass.Goals as goal
+
+pub returns-clause-ok : goal.returns-clause-ok
+returns-clause-ok c =
+    let e = c.go_on.ensures in
+    let len = e.len in
+    record { residual = e.left; read = (c.go_on.new.self.place, c.requires.next, e.after, omega (arith, len), (refl, omega (arith, len))) }

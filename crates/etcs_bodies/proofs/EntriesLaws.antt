@@ -10,6 +10,11 @@ use Rattle.etcs_bodies.specs.Entries.{entries_reading}
 
 -- ---- Their bits.
 
+pub counted_length : {V : Type 0} (reading : V → Reading) (l : List V) (b : ℕ) → b ≡ length (spelled (flat_map reading l)) → 5 + b ≡ length (spelled (list_reading N_ITER reading l))
+counted_length reading l b h =
+    let e = h ∙ bit_count_is (flat_map reading l) in
+    rw (bit_count_is (list_reading N_ITER reading l)) (omega arith)
+
 pub entries_length : {V : Type 0} (reading : V → Reading) (e : V × List V) (a b : ℕ) → a ≡ length (spelled (reading e.0)) → b ≡ length (spelled (flat_map reading e.1)) → 5 + a + b ≡ length (spelled (entries_reading reading e))
 entries_length reading e a b ha hb =
     let both = bit_count-append (reading e.0) (list_reading N_ITER reading e.1) in

@@ -1,11 +1,12 @@
 -- A choice between two groups by the number before them, rows with nothing behind a part, counts and bits of lists.
-use Rattle.std.proofs.Common.{◌≡◌, ℕ, Bool, true, false, ◌∷◌, Option, Some, None}
+use Rattle.std.proofs.Common.{◌≡◌, ℕ, Bool, true, false, ◌∷◌, Option, Some, None, ◌⊎◌, inl, inr}
 use Rattle.etcs_vars.specs.declared.var.Var.{Var}
 use Rattle.etcs_vars.specs.Reading.{Reading}
 use Rattle.etcs_tables.specs.declared.item.Test.{Test}
+use Rattle.etcs_tables.specs.declared.item.Test.TheVariants.{IsZero, IsOne}
 use Rattle.etcs_tables.specs.Layouts.{Layout, whole, one, guarded, passes}
 use Rattle.etcs_bodies.specs.Faults.{number_fault}
-use Rattle.etcs_bodies.specs.Taking.{Left, ◌and_then◌, next_number}
+use Rattle.etcs_bodies.specs.Taking.{Left, ◌and_then◌, next_number, next_flag}
 
 -- ---- One group where the number passes a test, another where it doesn't.
 
@@ -22,3 +23,25 @@ choice_from v test from f = next_number v f and_then λ n. from (passes test n.0
 abbrev pub choice_row : Var → Test → Test → (Bool → Layout → Layout) → Layout → Layout
 choice_row v test other row rest =
     one v (guarded (record { var = v; test = test }) (row true whole) (guarded (record { var = v; test = other }) (row false whole) rest))
+
+-- ---- After a flag one group where it is 1, another where it is 0.
+
+abbrev pub IsEither : {A B : Type 0} → (A → Type 0) → (B → Type 0) → A ⊎ B → Type 0
+IsEither IsA IsB (inl a) = IsA a
+IsEither IsA IsB (inr b) = IsB b
+
+abbrev pub either_reading : {A B : Type 0} → Var → (A → Reading) → (B → Reading) → A ⊎ B → Reading
+either_reading v reading reading' (inl a) = (v, 1) ∷ reading a
+either_reading v reading reading' (inr b) = (v, 0) ∷ reading' b
+
+-- the group of a flag
+abbrev pub side_from : {A B : Type 0} → (Left → Option (A × Left)) → (Left → Option (B × Left)) → Bool → Left → Option ((A ⊎ B) × Left)
+side_from from from' true f = from f and_then λ a. Some (inl a.0, a.1)
+side_from from from' false f = from' f and_then λ b. Some (inr b.0, b.1)
+
+abbrev pub either_from : {A B : Type 0} → (Left → Option (A × Left)) → (Left → Option (B × Left)) → Left → Option ((A ⊎ B) × Left)
+either_from from from' f = next_flag f and_then λ b. side_from from from' b.0 b.1
+
+abbrev pub either_row : Var → (Layout → Layout) → (Layout → Layout) → Layout → Layout
+either_row v row row' rest =
+    one v (guarded (record { var = v; test = IsOne }) (row whole) (guarded (record { var = v; test = IsZero }) (row' whole) rest))

@@ -2,6 +2,7 @@
 #![tactic(auto)]
 
 mod body;
+mod counted;
 mod entries;
 mod faults;
 mod framed;
@@ -13,6 +14,7 @@ mod packetlike;
 mod part;
 
 pub use body::Body;
+pub use counted::Counted;
 pub use entries::{Entries, Entry};
 pub use faults::{check, check_count};
 pub use framed::Framed;

@@ -3,7 +3,7 @@
 //! A constructor's name, and `DIR ..`: `refused` and the fault. The same, and ` : NUMBERS : BITS`: as `packet`.
 //!
 //! A constructor's arguments are numbers: parts as the row has them, and the last list without its count. Those of
-//! `flat_packet` begin with NID, those of `plain_text` have how many numbers the frame has after DIR.
+//! `flat_packet` and `balise_list` begin with NID, those of `plain_text` have how many numbers the frame has after DIR.
 
 use crate::case::{Case, FaultTexts};
 use crate::packets::{FAULTS, Spelled, check_packet, kept, marker, say_checked};
@@ -12,9 +12,10 @@ use crate::sent::packet_sent;
 use etcs_bits::Bits;
 use etcs_bodies::{Numbers, Part};
 use etcs_packets::{
-    Authority, ConditionalLevelOrder, FixedText, Flat, Gradient, InfillLocation, Level, Level1Ma,
-    Level23Ma, LevelAck, LevelOrder, Link, Linking, Other, Packet, PlainText, Slope, Speed,
-    SpeedProfile, TextFrame, parts,
+    Authority, BaliseAt, BaliseList, Condition, ConditionalLevelOrder, FixedText, Flat, Gradient,
+    InfillLocation, Level, Level1Ma, Level23Ma, LevelAck, LevelOrder, Link, Linking, ModeProfile,
+    ModeSection, Other, Packet, PlainText, ReportAt, ReportParameters, Slope, Speed, SpeedProfile,
+    TextFrame, TrackCondition, TrackState, parts,
 };
 use etcs_vars::BuildFault;
 use etcs_vars::parts::append_numbers;
@@ -36,6 +37,10 @@ pub(crate) fn answer(case: &mut Case, kind: &str) -> bool {
         | "plain_text"
         | "fixed_text"
         | "infill_location"
+        | "balise_list"
+        | "report_parameters"
+        | "track_condition"
+        | "mode_profile"
         | "flat_packet" => built(case, kind),
         _ => return false,
     }
@@ -78,6 +83,10 @@ fn made(case: &mut Case, kind: &str, words: &[u64]) -> Option<Packet> {
         "plain_text" => plain_text(case, first, left),
         "fixed_text" => fixed_text(case, first, left),
         "infill_location" => infill_location(case, first, left),
+        "balise_list" => balise_list(case, first, left),
+        "report_parameters" => report_parameters(case, first, left),
+        "track_condition" => track_condition(case, first, left),
+        "mode_profile" => mode_profile(case, first, left),
         _ => {
             let [dir, left @ ..] = left else {
                 return None;
@@ -103,6 +112,19 @@ fn found(
     }
 }
 
+/// The parts of all these numbers, of which there may be none.
+fn each<P: Part + Drop>(case: &mut Case, numbers: &[u64]) -> Option<Vec<P>> {
+    let mut numbers = Numbers::new(numbers);
+    let mut parts = Vec::new(case.alloc());
+    for _ in 0..1000u16 {
+        if !numbers.is_empty() {
+            let part = next_part(case, &mut numbers)?;
+            case.kept(parts.push(part).is_ok());
+        }
+    }
+    Some(parts)
+}
+
 /// The parts of all these numbers.
 fn all<P: Part + Drop>(case: &mut Case, numbers: &[u64]) -> Option<(P, Vec<P>)> {
     let mut numbers = Numbers::new(numbers);
@@ -115,6 +137,15 @@ fn all<P: Part + Drop>(case: &mut Case, numbers: &[u64]) -> Option<(P, Vec<P>)> 
         }
     }
     Some((first, further))
+}
+
+/// Checks that parts are those of these numbers.
+fn check_each<P: Part>(case: &mut Case, parts: &[P], numbers: &[u64]) {
+    let mut own = Vec::new(case.alloc());
+    for part in parts {
+        case.kept(append_numbers(part, &mut own).is_ok());
+    }
+    case.check(own.as_slice() == numbers, "other parts");
 }
 
 /// Checks that parts are those of these numbers.
@@ -311,6 +342,111 @@ fn infill_location(case: &mut Case, dir: u8, words: &[u64]) -> Option<Packet> {
     }
 }
 
+/// `NID DIR BALISES..`
+fn balise_list(case: &mut Case, nid: u8, words: &[u64]) -> Option<Packet> {
+    let [dir, left @ ..] = words else {
+        return None;
+    };
+    let dir = case.byte_of(*dir);
+    match nid {
+        49 => Some(Packet::ShuntingList(listed::<49>(case, dir, left)?)),
+        63 => Some(Packet::SrList(listed::<63>(case, dir, left)?)),
+        _ => {
+            listed::<5>(case, dir, left)?;
+            None
+        }
+    }
+}
+
+/// The list of these groups, which come back with a fault.
+fn listed<const NID: u8>(case: &mut Case, dir: u8, left: &[u64]) -> Option<BaliseList<NID>> {
+    let balises: Vec<BaliseAt> = each(case, left)?;
+    match BaliseList::new(dir, balises) {
+        Ok(packet) => {
+            check_each(case, packet.balises(), left);
+            Some(packet)
+        }
+        Err((fault, back)) => {
+            case.say_fault(fault, &FAULTS);
+            check_each(case, back.as_slice(), left);
+            None
+        }
+    }
+}
+
+/// `DIR Q_SCALE T_CYCLOC D_CYCLOC M_LOC REPORTS..`
+fn report_parameters(case: &mut Case, dir: u8, words: &[u64]) -> Option<Packet> {
+    let [q_scale, t_cycloc, d_cycloc, m_loc, left @ ..] = words else {
+        return None;
+    };
+    let q_scale = case.byte_of(*q_scale);
+    let t_cycloc = case.byte_of(*t_cycloc);
+    let d_cycloc = case.half_of(*d_cycloc);
+    let m_loc = case.byte_of(*m_loc);
+    let reports: Vec<ReportAt> = each(case, left)?;
+    match ReportParameters::new(dir, q_scale, t_cycloc, d_cycloc, m_loc, reports) {
+        Ok(packet) => {
+            same!(case, packet: q_scale t_cycloc d_cycloc m_loc);
+            check_each(case, packet.reports(), left);
+            Some(Packet::ReportParameters(packet))
+        }
+        Err((fault, back)) => {
+            case.say_fault(fault, &FAULTS);
+            check_each(case, back.as_slice(), left);
+            None
+        }
+    }
+}
+
+/// `DIR Q_SCALE D_TRACKINIT`, or `DIR Q_SCALE FIRST FURTHER..`
+fn track_condition(case: &mut Case, dir: u8, words: &[u64]) -> Option<Packet> {
+    let [q_scale, left @ ..] = words else {
+        return None;
+    };
+    let q_scale = case.byte_of(*q_scale);
+    let state = match left {
+        [distance] => TrackState::Initial(case.half_of(*distance)),
+        _ => {
+            let (first, further): (Condition, Vec<Condition>) = all(case, left)?;
+            TrackState::Conditions(first, further)
+        }
+    };
+    match TrackCondition::new(dir, q_scale, state) {
+        Ok(packet) => {
+            same!(case, packet: q_scale);
+            check_state(case, packet.state(), left);
+            Some(Packet::TrackCondition(packet))
+        }
+        Err((fault, back)) => {
+            case.say_fault(fault, &FAULTS);
+            check_state(case, &back, left);
+            None
+        }
+    }
+}
+
+/// Checks that a packet 68 says these numbers.
+fn check_state(case: &mut Case, state: &TrackState, numbers: &[u64]) {
+    match state {
+        TrackState::Initial(distance) => {
+            let same = numbers.first().copied() == Some(u64::from(*distance));
+            case.check(same, "another distance");
+        }
+        TrackState::Conditions(first, further) => {
+            check_parts(case, first, further.as_slice(), numbers);
+        }
+    }
+}
+
+/// `DIR Q_SCALE FIRST FURTHER..`
+fn mode_profile(case: &mut Case, dir: u8, words: &[u64]) -> Option<Packet> {
+    let [q_scale, left @ ..] = words else {
+        return None;
+    };
+    let q_scale = case.byte_of(*q_scale);
+    listed!(case, left, ModeProfile of ModeSection, first further ModeProfile::new(dir, q_scale, first, further); q_scale)
+}
+
 /// The packet without groups of a number, a direction and its numbers.
 fn flat_packet(nid: u8, dir: u8, numbers: &[u64]) -> Result<Packet, BuildFault> {
     Ok(match nid {
@@ -318,9 +454,11 @@ fn flat_packet(nid: u8, dir: u8, numbers: &[u64]) -> Result<Packet, BuildFault> 
         16 => Packet::Repositioning(Flat::new(dir, numbers)?),
         42 => Packet::SessionManagement(Flat::new(dir, numbers)?),
         45 => Packet::RadioNetwork(Flat::new(dir, numbers)?),
+        57 => Packet::MaRequest(Flat::new(dir, numbers)?),
         64 => Packet::InhibitTsr(Flat::new(dir, numbers)?),
         65 => Packet::Tsr(Flat::new(dir, numbers)?),
         66 => Packet::TsrRevocation(Flat::new(dir, numbers)?),
+        131 => Packet::RbcTransition(Flat::new(dir, numbers)?),
         132 => Packet::DangerForShunting(Flat::new(dir, numbers)?),
         135 => Packet::StopShunting(Flat::new(dir, numbers)?),
         137 => Packet::StopInSr(Flat::new(dir, numbers)?),

@@ -20,8 +20,13 @@ pub(crate) fn check_listed(case: &mut Case, packet: &Packet, numbers: &[u64]) {
         Packet::SpeedProfile(own) => check_own(case, own, packet, numbers),
         Packet::LevelOrder(own) => check_own(case, own, packet, numbers),
         Packet::ConditionalLevelOrder(own) => check_own(case, own, packet, numbers),
+        Packet::ShuntingList(own) => check_own(case, own, packet, numbers),
+        Packet::ReportParameters(own) => check_own(case, own, packet, numbers),
+        Packet::SrList(own) => check_own(case, own, packet, numbers),
+        Packet::TrackCondition(own) => check_own(case, own, packet, numbers),
         Packet::PlainText(own) => check_own(case, own, packet, numbers),
         Packet::FixedText(own) => check_own(case, own, packet, numbers),
+        Packet::ModeProfile(own) => check_own(case, own, packet, numbers),
         Packet::InfillLocation(own) => check_own(case, own, packet, numbers),
         _ => check_flat(case, packet, numbers),
     }
@@ -34,9 +39,11 @@ fn check_flat(case: &mut Case, packet: &Packet, numbers: &[u64]) {
         Packet::Repositioning(own) => check_own(case, own, packet, numbers),
         Packet::SessionManagement(own) => check_own(case, own, packet, numbers),
         Packet::RadioNetwork(own) => check_own(case, own, packet, numbers),
+        Packet::MaRequest(own) => check_own(case, own, packet, numbers),
         Packet::InhibitTsr(own) => check_own(case, own, packet, numbers),
         Packet::Tsr(own) => check_own(case, own, packet, numbers),
         Packet::TsrRevocation(own) => check_own(case, own, packet, numbers),
+        Packet::RbcTransition(own) => check_own(case, own, packet, numbers),
         Packet::DangerForShunting(own) => check_own(case, own, packet, numbers),
         Packet::StopShunting(own) => check_own(case, own, packet, numbers),
         Packet::StopInSr(own) => check_own(case, own, packet, numbers),
@@ -84,8 +91,13 @@ fn by_own(first: &Packet, second: &Packet) -> Option<bool> {
         (Packet::ConditionalLevelOrder(a), Packet::ConditionalLevelOrder(b)) => {
             exact_equality(a, b)
         }
+        (Packet::ShuntingList(a), Packet::ShuntingList(b)) => exact_equality(a, b),
+        (Packet::ReportParameters(a), Packet::ReportParameters(b)) => exact_equality(a, b),
+        (Packet::SrList(a), Packet::SrList(b)) => exact_equality(a, b),
+        (Packet::TrackCondition(a), Packet::TrackCondition(b)) => exact_equality(a, b),
         (Packet::PlainText(a), Packet::PlainText(b)) => exact_equality(a, b),
         (Packet::FixedText(a), Packet::FixedText(b)) => exact_equality(a, b),
+        (Packet::ModeProfile(a), Packet::ModeProfile(b)) => exact_equality(a, b),
         (Packet::InfillLocation(a), Packet::InfillLocation(b)) => exact_equality(a, b),
         _ => return None,
     })

@@ -7,7 +7,8 @@ use etcs_bits::BitSlice;
 use etcs_bodies::laws::{Exact, exact_equality};
 use etcs_bodies::{Items, Numbers, Part, check, check_count, check_guard, clone_all, take_list};
 use etcs_packets::{
-    Authority, Differing, Level, LevelAck, Link, Section, Shown, Slope, Speed, TextFrame,
+    Authority, BaliseAt, Condition, Differing, Level, LevelAck, Link, ModeSection, ReportAt,
+    Section, Shown, Slope, Speed, TextFrame,
 };
 use etcs_vars::parts::{Variables, append_numbers};
 use etcs_vars::{BuildFault, Var};
@@ -45,10 +46,14 @@ pub(crate) fn answer(case: &mut Case, kind: &str) -> bool {
 fn of_part(case: &mut Case, kind: &str) {
     match case.word() {
         "authority" => line::<Authority>(case, kind),
+        "balise_at" => line::<BaliseAt>(case, kind),
+        "condition" => line::<Condition>(case, kind),
         "differing" => line::<Differing>(case, kind),
         "level" => line::<Level>(case, kind),
         "level_ack" => line::<LevelAck>(case, kind),
         "link" => line::<Link>(case, kind),
+        "mode_section" => line::<ModeSection>(case, kind),
+        "report_at" => line::<ReportAt>(case, kind),
         "section" => line::<Section>(case, kind),
         "shown" => line::<Shown>(case, kind),
         "slope" => line::<Slope>(case, kind),

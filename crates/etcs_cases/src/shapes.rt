@@ -4,7 +4,8 @@ use crate::case::Case;
 use crate::parts::Shape;
 use etcs_bodies::clone_all;
 use etcs_packets::{
-    Authority, Differing, Level, LevelAck, Link, Section, Shown, Slope, Speed, TextFrame,
+    Authority, BaliseAt, Condition, Differing, Level, LevelAck, Link, ModeSection, ReportAt,
+    Section, Shown, Slope, Speed, TextFrame,
 };
 use etcs_vars::BuildFault;
 
@@ -27,6 +28,62 @@ impl Shape for Link {
         )?;
         same!(case, link: d_link nid_c nid_bg q_linkorientation q_linkreaction q_locacc);
         Ok(link)
+    }
+}
+
+/// `NID_C|- NID_BG`
+impl Shape for BaliseAt {
+    fn of_words(case: &mut Case) -> Result<BaliseAt, BuildFault> {
+        let nid_c = case.half_or_none();
+        let nid_bg = case.half();
+        let balise = BaliseAt::new(nid_c, nid_bg)?;
+        same!(case, balise: nid_c nid_bg);
+        Ok(balise)
+    }
+}
+
+/// `D_LOC Q_LGTLOC`
+impl Shape for ReportAt {
+    fn of_words(case: &mut Case) -> Result<ReportAt, BuildFault> {
+        let d_loc = case.half();
+        let q_lgtloc = case.flag();
+        let report = ReportAt::new(d_loc, q_lgtloc)?;
+        same!(case, report: d_loc q_lgtloc);
+        Ok(report)
+    }
+}
+
+/// `D_TRACKCOND L_TRACKCOND M_TRACKCOND`
+impl Shape for Condition {
+    fn of_words(case: &mut Case) -> Result<Condition, BuildFault> {
+        let d_trackcond = case.half();
+        let l_trackcond = case.half();
+        let m_trackcond = case.byte();
+        let condition = Condition::new(d_trackcond, l_trackcond, m_trackcond)?;
+        same!(case, condition: d_trackcond l_trackcond m_trackcond);
+        Ok(condition)
+    }
+}
+
+/// `D_MAMODE M_MAMODE V_MAMODE L_MAMODE L_ACKMAMODE Q_MAMODE`
+impl Shape for ModeSection {
+    fn of_words(case: &mut Case) -> Result<ModeSection, BuildFault> {
+        let d_mamode = case.half();
+        let m_mamode = case.byte();
+        let v_mamode = case.byte();
+        let l_mamode = case.half();
+        let l_ackmamode = case.half();
+        let q_mamode = case.flag();
+        let section = ModeSection::new(
+            d_mamode,
+            m_mamode,
+            v_mamode,
+            l_mamode,
+            l_ackmamode,
+            q_mamode,
+        )?;
+        same!(case, section: d_mamode m_mamode v_mamode l_mamode l_ackmamode q_mamode);
+        Ok(section)
     }
 }
 

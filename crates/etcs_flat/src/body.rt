@@ -35,6 +35,10 @@ impl FlatNumber<45> for Flat<45> {
     ghost flat = { refl };
 }
 
+impl FlatNumber<57> for Flat<57> {
+    ghost flat = { refl };
+}
+
 impl FlatNumber<64> for Flat<64> {
     ghost flat = { refl };
 }
@@ -44,6 +48,10 @@ impl FlatNumber<65> for Flat<65> {
 }
 
 impl FlatNumber<66> for Flat<66> {
+    ghost flat = { refl };
+}
+
+impl FlatNumber<131> for Flat<131> {
     ghost flat = { refl };
 }
 

@@ -28,9 +28,11 @@ use std::marker::Model;
 /// | 16 | repositioning | Q_SCALE, L_SECTION |
 /// | 42 | session management | Q_RBC, NID_C, NID_RBC, NID_RADIO, Q_SLEEPSESSION |
 /// | 45 | registration with a radio network | NID_MN |
+/// | 57 | when the train asks for an authority | T_MAR, T_TIMEOUTRQST, T_CYCRQST |
 /// | 64 | revocable restrictions from balises are inhibited | none |
 /// | 65 | temporary speed restriction | Q_SCALE, NID_TSR, D_TSR, L_TSR, Q_FRONT, V_TSR |
 /// | 66 | revocation of a temporary speed restriction | NID_TSR |
+/// | 131 | handing over to another radio block centre | Q_SCALE, D_RBCTR, NID_C, NID_RBC, NID_RADIO, Q_SLEEPSESSION |
 /// | 132 | danger for shunting | Q_ASPECT |
 /// | 135 | stop of shunting where the desk is opened | none |
 /// | 137 | stop in staff responsible mode | Q_SRSTOP |
@@ -42,17 +44,21 @@ use std::marker::Model;
 /// | variable | meaning |
 /// |---|---|
 /// | M_VERSION | the version: three bits X, four bits Y |
-/// | Q_SCALE | the unit of L_SECTION, D_TSR and L_TSR: 0 is 10 cm, 1 is 1 m, 2 is 10 m |
+/// | Q_SCALE | the unit of L_SECTION, D_TSR, L_TSR and D_RBCTR: 0 is 10 cm, 1 is 1 m, 2 is 10 m |
 /// | L_SECTION | the length of the section, by Q_SCALE |
 /// | Q_RBC | 0 ends the session, 1 opens it |
 /// | NID_C, NID_RBC | the radio block centre: its country or region, its number there |
 /// | NID_RADIO | the radio number to call, sixteen digits of four bits |
 /// | Q_SLEEPSESSION | whether sleeping equipment manages the session too: 1 for yes |
 /// | NID_MN | the radio network, six digits of four bits |
+/// | T_MAR | how long before the train would brake it asks for an authority, in seconds |
+/// | T_TIMEOUTRQST | how long before a speed's time runs out it asks, in seconds |
+/// | T_CYCRQST | the time between two requests, in seconds |
 /// | NID_TSR | the restriction's number |
 /// | D_TSR, L_TSR | the distance to the restriction and its length, by Q_SCALE |
 /// | Q_FRONT | whether the speed may rise with the train's front (1) or only with its end (0) |
 /// | V_TSR | the speed in the restriction, in steps of 5 km/h, at most 120 steps |
+/// | D_RBCTR | the distance to the place where the other radio block centre takes over, by Q_SCALE |
 /// | Q_ASPECT | whether the train stops (0) or goes on (1) in shunting mode |
 /// | Q_SRSTOP | whether the train stops (0) or goes on (1) in staff responsible mode |
 /// | NID_OPERATIONAL | the running number, eight digits of four bits |
@@ -61,7 +67,7 @@ use std::marker::Model;
 #[derive(Clone, Debug, Drop, PartialEq, Eq)]
 pub struct Flat<const NID: u8> {
     dir: u8,
-    /// At most six, those of packet 65.
+    /// At most six, those of packets 65 and 131.
     numbers: ArrayVec<u64, 6>,
 }
 

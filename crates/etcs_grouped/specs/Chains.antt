@@ -1,4 +1,4 @@
--- Packets of a scale, a first entry and further ones: 5, 21 and 27 (SUBSET-026, 7.4.2).
+-- Packets of a scale, a first entry and further ones: 5, 21, 27 and 80 (SUBSET-026, 7.4.2).
 use Rattle.std.proofs.Common.{◌≡◌, ℕ, List, ◌∷◌, length, Option, None, nat_le}
 use Rattle.std.specs.Prelude.{if◌then◌else◌}
 use Rattle.etcs_vars.specs.declared.var.Var.TheVariants.{Q_DIR, Q_SCALE, N_ITER}
@@ -15,6 +15,7 @@ use Rattle.etcs_bodies.specs.PacketCodes.{directed_from}
 use Rattle.etcs_parts.specs.Links.{LinkParts, IsLink, link_reading}
 use Rattle.etcs_parts.specs.Slopes.{SlopeParts, IsSlope, slope_reading}
 use Rattle.etcs_parts.specs.Speeds.{SpeedParts, IsSpeed, speed_reading}
+use Rattle.etcs_parts.specs.ModeSections.{ModeSectionParts, IsModeSection, mode_section_reading}
 
 pub record ChainParts (V : Type 0) : Type 0 where
   pub dir : ℕ
@@ -62,7 +63,7 @@ chain_row row rest = Q_SCALE ▸ entries_row row rest
 unfoldable pub chain_from : {V : Type 0} → ℕ → (V → Reading) → (Left → Option (V × Left)) → ℕ → Left → Option (ChainParts V × Left)
 chain_from most reading from = directed_from (both_from (next_number Q_SCALE) (entries_from from)) (too_long most reading) chain_of
 
--- ---- Of links, slopes and speeds.
+-- ---- Of links, slopes, speeds and areas of modes.
 
 abbrev pub linking_reading : ChainParts LinkParts → Reading
 linking_reading = chain_reading link_reading
@@ -90,3 +91,12 @@ profile_fault = chain_fault 431 speed_reading
 
 abbrev pub IsSpeedProfile : ChainParts SpeedParts → Type 0
 IsSpeedProfile = IsChain IsSpeed 431 speed_reading
+
+abbrev pub mode_profile_reading : ChainParts ModeSectionParts → Reading
+mode_profile_reading = chain_reading mode_section_reading
+
+abbrev pub mode_profile_fault : ChainParts ModeSectionParts → Option BuildFault
+mode_profile_fault = chain_fault 55 mode_section_reading
+
+abbrev pub IsModeProfile : ChainParts ModeSectionParts → Type 0
+IsModeProfile = IsChain IsModeSection 55 mode_section_reading

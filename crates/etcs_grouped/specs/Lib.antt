@@ -1,3 +1,4 @@
+pub mod BaliseLists
 pub mod Chains
 pub mod ConditionalLevelOrders
 pub mod FixedTexts
@@ -6,4 +7,6 @@ pub mod Level1Mas
 pub mod Level23Mas
 pub mod LevelOrders
 pub mod PlainTexts
+pub mod ReportParameters
+pub mod TrackConditions
 pub mod laws

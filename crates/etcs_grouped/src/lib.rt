@@ -1,6 +1,7 @@
 //! The packets to the train with groups or lists.
 #![tactic(auto)]
 
+mod balise_list;
 mod chain;
 mod conditional_level_order;
 mod fixed_text;
@@ -11,9 +12,14 @@ mod level1_ma;
 mod level23_ma;
 mod level_order;
 mod linking;
+mod mode_profile;
 mod plain_text;
+mod report_parameters;
 mod speed_profile;
+mod track_condition;
+mod track_state;
 
+pub use balise_list::BaliseList;
 pub use chain::{Chain, Chained};
 pub use conditional_level_order::ConditionalLevelOrder;
 pub use fixed_text::FixedText;
@@ -23,5 +29,9 @@ pub use level_order::LevelOrder;
 pub use level1_ma::Level1Ma;
 pub use level23_ma::Level23Ma;
 pub use linking::Linking;
+pub use mode_profile::ModeProfile;
 pub use plain_text::PlainText;
+pub use report_parameters::ReportParameters;
 pub use speed_profile::SpeedProfile;
+pub use track_condition::TrackCondition;
+pub use track_state::TrackState;

@@ -10,7 +10,8 @@ use Rattle.etcs_tables.specs.Frames.{frame_bits, is_marker}
 use Rattle.etcs_tables.specs.Typed.{IsFramed}
 use Rattle.etcs_flat.specs.Flats.{FlatParts, flat_fault, flat_reading}
 use Rattle.etcs_flat.specs.Others.{other_fault}
-use Rattle.etcs_grouped.specs.Chains.{IsLinking, linking_reading, IsGradient, gradient_reading, IsSpeedProfile, profile_reading}
+use Rattle.etcs_grouped.specs.BaliseLists.{BaliseListParts, IsBaliseList, balise_list_reading}
+use Rattle.etcs_grouped.specs.Chains.{IsLinking, linking_reading, IsGradient, gradient_reading, IsSpeedProfile, profile_reading, IsModeProfile, mode_profile_reading}
 use Rattle.etcs_grouped.specs.Level1Mas.{IsLevel1Ma, level1_ma_reading}
 use Rattle.etcs_grouped.specs.Level23Mas.{IsLevel23Ma, level23_ma_reading}
 use Rattle.etcs_grouped.specs.LevelOrders.{IsLevelOrder, level_order_reading}
@@ -18,8 +19,10 @@ use Rattle.etcs_grouped.specs.ConditionalLevelOrders.{IsConditionalLevelOrder, c
 use Rattle.etcs_grouped.specs.PlainTexts.{IsPlainText, plain_text_reading}
 use Rattle.etcs_grouped.specs.FixedTexts.{IsFixedText, fixed_text_reading}
 use Rattle.etcs_grouped.specs.InfillLocations.{IsInfillLocation, infill_location_reading}
+use Rattle.etcs_grouped.specs.ReportParameters.{IsReportParameters, report_parameters_reading}
+use Rattle.etcs_grouped.specs.TrackConditions.{IsTrackCondition, track_condition_reading}
 use Rattle.etcs_packets.specs.declared.packet.Packet.{Packet}
-use Rattle.etcs_packets.specs.declared.packet.Packet.TheVariants.{VbcMarker, SystemVersion, Linking, Level1Ma, Level23Ma, Repositioning, Gradient, SpeedProfile, LevelOrder, SessionManagement, RadioNetwork, ConditionalLevelOrder, InhibitTsr, Tsr, TsrRevocation, PlainText, FixedText, DangerForShunting, StopShunting, InfillLocation, StopInSr, TrainRunningNumber, TsrGradient, InhibitConsistency, DefaultInformation, Other}
+use Rattle.etcs_packets.specs.declared.packet.Packet.TheVariants.{VbcMarker, SystemVersion, Linking, Level1Ma, Level23Ma, Repositioning, Gradient, SpeedProfile, LevelOrder, SessionManagement, RadioNetwork, ConditionalLevelOrder, ShuntingList, MaRequest, ReportParameters, SrList, InhibitTsr, Tsr, TsrRevocation, TrackCondition, PlainText, FixedText, ModeProfile, RbcTransition, DangerForShunting, StopShunting, InfillLocation, StopInSr, TrainRunningNumber, TsrGradient, InhibitConsistency, DefaultInformation, Other}
 
 pub data PacketValue : Type 0 where
   marker : ℕ → PacketValue
@@ -37,6 +40,9 @@ form_of v h = record { value = v; made = h }
 abbrev flat_form : ℕ → FlatParts → Form
 flat_form nid p = form_of (typed nid p.dir (flat_reading nid p.numbers)) (flat_fault nid p.dir p.numbers ≡ None)
 
+abbrev list_form : ℕ → BaliseListParts → Form
+list_form nid p = form_of (typed nid p.dir (balise_list_reading p)) (IsBaliseList nid p)
+
 abbrev pub form : Packet → Form
 form (VbcMarker n) = form_of (marker n) (IsTrue (admits NID_VBCMK n))
 form (SystemVersion p) = flat_form 2 p
@@ -50,11 +56,18 @@ form (LevelOrder p) = form_of (typed 41 p.dir (level_order_reading p)) (IsLevelO
 form (SessionManagement p) = flat_form 42 p
 form (RadioNetwork p) = flat_form 45 p
 form (ConditionalLevelOrder p) = form_of (typed 46 p.dir (conditional_level_order_reading p)) (IsConditionalLevelOrder p)
+form (ShuntingList p) = list_form 49 p
+form (MaRequest p) = flat_form 57 p
+form (ReportParameters p) = form_of (typed 58 p.dir (report_parameters_reading p)) (IsReportParameters p)
+form (SrList p) = list_form 63 p
 form (InhibitTsr p) = flat_form 64 p
 form (Tsr p) = flat_form 65 p
 form (TsrRevocation p) = flat_form 66 p
+form (TrackCondition p) = form_of (typed 68 p.dir (track_condition_reading p)) (IsTrackCondition p)
 form (PlainText p) = form_of (typed 72 p.dir (plain_text_reading p)) (IsPlainText p)
 form (FixedText p) = form_of (typed 76 p.dir (fixed_text_reading p)) (IsFixedText p)
+form (ModeProfile p) = form_of (typed 80 p.dir (mode_profile_reading p)) (IsModeProfile p)
+form (RbcTransition p) = flat_form 131 p
 form (DangerForShunting p) = flat_form 132 p
 form (StopShunting p) = flat_form 135 p
 form (InfillLocation p) = form_of (typed 136 p.dir (infill_location_reading p)) (IsInfillLocation p)

@@ -11,10 +11,12 @@ mod write;
 
 pub use etcs_flat::{Flat, Marker, Other};
 pub use etcs_grouped::{
-    ConditionalLevelOrder, FixedText, Gradient, InfillLocation, Level1Ma, Level23Ma, LevelOrder,
-    Linking, PlainText, SpeedProfile,
+    BaliseList, ConditionalLevelOrder, FixedText, Gradient, InfillLocation, Level1Ma, Level23Ma,
+    LevelOrder, Linking, ModeProfile, PlainText, ReportParameters, SpeedProfile, TrackCondition,
+    TrackState,
 };
 pub use etcs_parts::{
-    Authority, Differing, Level, LevelAck, Link, Section, Shown, Slope, Speed, TextFrame,
+    Authority, BaliseAt, Condition, Differing, Level, LevelAck, Link, ModeSection, ReportAt,
+    Section, Shown, Slope, Speed, TextFrame,
 };
 pub use packet::Packet;

@@ -9,8 +9,8 @@ use crate::typed::{typed_bits, typed_nid};
 use etcs_bodies::Framed;
 use etcs_flat::{Flat, Marker, Other, parts};
 use etcs_grouped::{
-    ConditionalLevelOrder, FixedText, Gradient, InfillLocation, Level1Ma, Level23Ma, LevelOrder,
-    Linking, PlainText, SpeedProfile,
+    BaliseList, ConditionalLevelOrder, FixedText, Gradient, InfillLocation, Level1Ma, Level23Ma,
+    LevelOrder, Linking, ModeProfile, PlainText, ReportParameters, SpeedProfile, TrackCondition,
 };
 use etcs_tables::{MARKER_BITS, Way, frame_bits};
 use etcs_vars::BuildFault;
@@ -43,16 +43,30 @@ pub enum Packet {
     RadioNetwork(Flat<45>),
     /// Packet 46: an order to change the level, where the train's isn't among these.
     ConditionalLevelOrder(ConditionalLevelOrder),
+    /// Packet 49: the balise groups over which the train may run in shunting mode.
+    ShuntingList(BaliseList<49>),
+    /// Packet 57: when the train asks for a movement authority.
+    MaRequest(Flat<57>),
+    /// Packet 58: when and where the train reports its position.
+    ReportParameters(ReportParameters),
+    /// Packet 63: the balise groups over which the train may run in staff responsible mode.
+    SrList(BaliseList<63>),
     /// Packet 64: revocable temporary restrictions from balises are inhibited.
     InhibitTsr(Flat<64>),
     /// Packet 65: a temporary speed restriction.
     Tsr(Flat<65>),
     /// Packet 66: the revocation of a temporary speed restriction.
     TsrRevocation(Flat<66>),
+    /// Packet 68: the track conditions ahead.
+    TrackCondition(TrackCondition),
     /// Packet 72: a text, and when it is shown.
     PlainText(PlainText),
     /// Packet 76: the number of a text that the train knows, and when it is shown.
     FixedText(FixedText),
+    /// Packet 80: the areas ahead in which the train runs in another mode.
+    ModeProfile(ModeProfile),
+    /// Packet 131: handing over to another radio block centre.
+    RbcTransition(Flat<131>),
     /// Packet 132: whether a train stops in shunting mode.
     DangerForShunting(Flat<132>),
     /// Packet 135: the stop of shunting where the desk is opened.

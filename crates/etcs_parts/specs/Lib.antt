@@ -1,8 +1,12 @@
 pub mod Authorities
+pub mod BalisesAt
+pub mod Conditions
 pub mod Differings
 pub mod Displays
 pub mod Levels
 pub mod Links
+pub mod ModeSections
+pub mod ReportsAt
 pub mod Sections
 pub mod Slopes
 pub mod Speeds

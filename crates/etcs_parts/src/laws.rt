@@ -1,10 +1,14 @@
 //! `==` of each part is equality of values.
 
 use crate::authority::Authority;
+use crate::balise_at::BaliseAt;
+use crate::condition::Condition;
 use crate::differing::Differing;
 use crate::level::Level;
 use crate::level_ack::LevelAck;
 use crate::link::Link;
+use crate::mode_section::ModeSection;
+use crate::report_at::ReportAt;
 use crate::section::Section;
 use crate::shown::Shown;
 use crate::slope::Slope;
@@ -16,6 +20,18 @@ impl Exact for Authority {
     ghost use Rattle.etcs_parts.specs.laws.Equality.{authority_exact};
 
     ghost exact = { authority_exact };
+}
+
+impl Exact for BaliseAt {
+    ghost use Rattle.etcs_parts.specs.laws.Equality.{balise_at_exact};
+
+    ghost exact = { balise_at_exact };
+}
+
+impl Exact for Condition {
+    ghost use Rattle.etcs_parts.specs.laws.Equality.{condition_exact};
+
+    ghost exact = { condition_exact };
 }
 
 impl Exact for Differing {
@@ -40,6 +56,18 @@ impl Exact for Link {
     ghost use Rattle.etcs_parts.specs.laws.Equality.{link_exact};
 
     ghost exact = { link_exact };
+}
+
+impl Exact for ModeSection {
+    ghost use Rattle.etcs_parts.specs.laws.Equality.{mode_section_exact};
+
+    ghost exact = { mode_section_exact };
+}
+
+impl Exact for ReportAt {
+    ghost use Rattle.etcs_parts.specs.laws.Equality.{report_at_exact};
+
+    ghost exact = { report_at_exact };
 }
 
 impl Exact for Section {

@@ -3,11 +3,15 @@
 
 mod authority;
 mod authority_groups;
+mod balise_at;
+mod condition;
 mod differing;
 mod laws;
 mod level;
 mod level_ack;
 mod link;
+mod mode_section;
+mod report_at;
 mod section;
 mod shown;
 mod slope;
@@ -15,10 +19,14 @@ mod speed;
 mod text_frame;
 
 pub use authority::Authority;
+pub use balise_at::BaliseAt;
+pub use condition::Condition;
 pub use differing::Differing;
 pub use level::Level;
 pub use level_ack::LevelAck;
 pub use link::Link;
+pub use mode_section::ModeSection;
+pub use report_at::ReportAt;
 pub use section::Section;
 pub use shown::Shown;
 pub use slope::Slope;

@@ -2,7 +2,7 @@
 -- a message's behind its header (SUBSET-026, 7.4 and 8).
 use Rattle.std.specs.Prelude.{ℕ, ◌==◌, List, [], ◌∷◌, Option, Some, None, if◌then◌else◌}
 use Rattle.etcs_vars.specs.declared.var.Var.{Var}
-use Rattle.etcs_vars.specs.declared.var.Var.TheVariants.{D_DP, D_ENDTIMERSTARTLOC, D_GRADIENT, D_LEVELTR, D_LINK, D_OL, D_REF, D_SECTIONTIMERSTOPLOC, D_SR, D_STARTOL, D_STATIC, D_TEXTDISPLAY, D_TSR, G_A, G_TSR, L_ACKLEVELTR, L_ENDSECTION, L_SECTION, L_TEXT, L_TEXTDISPLAY, L_TSR, M_LEVELTEXTDISPLAY, M_LEVELTR, M_MODETEXTDISPLAY, M_VERSION, NC_CDDIFF, NC_DIFF, NID_BG, NID_C, NID_EM, NID_MN, NID_NTC, NID_OPERATIONAL, NID_RADIO, NID_RBC, NID_TEXTMESSAGE, NID_TSR, N_ITER, Q_ASPECT, Q_CONFTEXTDISPLAY, Q_DANGERPOINT, Q_DIFF, Q_ENDTIMER, Q_FRONT, Q_GDIR, Q_LINKORIENTATION, Q_LINKREACTION, Q_LOCACC, Q_NEWCOUNTRY, Q_ORIENTATION, Q_OVERLAP, Q_RBC, Q_SCALE, Q_SECTIONTIMER, Q_SLEEPSESSION, Q_SRSTOP, Q_TEXT, Q_TEXTCLASS, Q_TEXTCONFIRM, Q_TEXTDISPLAY, Q_TEXTREPORT, T_ENDTIMER, T_LOA, T_OL, T_SECTIONTIMER, T_TEXTDISPLAY, T_TRAIN, V_DIFF, V_LOA, V_MAIN, V_RELEASEDP, V_RELEASEOL, V_STATIC, V_TSR, X_TEXT}
+use Rattle.etcs_vars.specs.declared.var.Var.TheVariants.{D_CYCLOC, D_DP, D_ENDTIMERSTARTLOC, D_GRADIENT, D_LEVELTR, D_LINK, D_LOC, D_MAMODE, D_OL, D_RBCTR, D_REF, D_SECTIONTIMERSTOPLOC, D_SR, D_STARTOL, D_STATIC, D_TEXTDISPLAY, D_TRACKCOND, D_TRACKINIT, D_TSR, G_A, G_TSR, L_ACKLEVELTR, L_ACKMAMODE, L_ENDSECTION, L_MAMODE, L_SECTION, L_TEXT, L_TEXTDISPLAY, L_TRACKCOND, L_TSR, M_LEVELTEXTDISPLAY, M_LEVELTR, M_LOC, M_MAMODE, M_MODETEXTDISPLAY, M_TRACKCOND, M_VERSION, NC_CDDIFF, NC_DIFF, NID_BG, NID_C, NID_EM, NID_MN, NID_NTC, NID_OPERATIONAL, NID_RADIO, NID_RBC, NID_TEXTMESSAGE, NID_TSR, N_ITER, Q_ASPECT, Q_CONFTEXTDISPLAY, Q_DANGERPOINT, Q_DIFF, Q_ENDTIMER, Q_FRONT, Q_GDIR, Q_LGTLOC, Q_LINKORIENTATION, Q_LINKREACTION, Q_LOCACC, Q_MAMODE, Q_NEWCOUNTRY, Q_ORIENTATION, Q_OVERLAP, Q_RBC, Q_SCALE, Q_SECTIONTIMER, Q_SLEEPSESSION, Q_SRSTOP, Q_TEXT, Q_TEXTCLASS, Q_TEXTCONFIRM, Q_TEXTDISPLAY, Q_TEXTREPORT, Q_TRACKINIT, T_CYCLOC, T_CYCRQST, T_ENDTIMER, T_LOA, T_MAR, T_OL, T_SECTIONTIMER, T_TEXTDISPLAY, T_TIMEOUTRQST, T_TRAIN, V_DIFF, V_LOA, V_MAIN, V_MAMODE, V_RELEASEDP, V_RELEASEOL, V_STATIC, V_TSR, X_TEXT}
 use Rattle.etcs_tables.specs.declared.item.Test.TheVariants.{IsZero, IsOne, IsOneOrTwo, IsNotZero}
 use Rattle.etcs_tables.specs.declared.item.Guard.{Guard}
 use Rattle.etcs_tables.specs.declared.row.Way.{Way}
@@ -28,9 +28,13 @@ is_not_zero v = record { var = v; test = IsNotZero }
 
 -- ---- Parts, each in front of the rest of a row.
 
+-- packets 5, 49, 63 and 136: a balise group, with its country or region where that is another
+abbrev pub balise_at : Layout → Layout
+balise_at rest = Q_NEWCOUNTRY ▸ guarded (is_one Q_NEWCOUNTRY) (NID_C ▸ whole) (NID_BG ▸ rest)
+
 -- packet 5: a linked balise group
 abbrev pub link : Layout → Layout
-link rest = D_LINK ▸ Q_NEWCOUNTRY ▸ guarded (is_one Q_NEWCOUNTRY) (NID_C ▸ whole) (NID_BG ▸ Q_LINKORIENTATION ▸ Q_LINKREACTION ▸ Q_LOCACC ▸ rest)
+link rest = D_LINK ▸ balise_at (Q_LINKORIENTATION ▸ Q_LINKREACTION ▸ Q_LOCACC ▸ rest)
 
 -- packets 12 and 15: the timer of a section
 abbrev pub section_timer : Layout → Layout
@@ -73,6 +77,18 @@ text_frame rest =
     Q_TEXTCONFIRM ▸ guarded (is_not_zero Q_TEXTCONFIRM)
     (Q_CONFTEXTDISPLAY ▸ Q_TEXTREPORT ▸ guarded (is_one Q_TEXTREPORT) (NID_TEXTMESSAGE ▸ NID_C ▸ NID_RBC ▸ whole) whole) rest))
 
+-- packet 58: a place of a report
+abbrev pub report_at : Layout → Layout
+report_at rest = D_LOC ▸ Q_LGTLOC ▸ rest
+
+-- packet 68: a track condition
+abbrev pub condition : Layout → Layout
+condition rest = D_TRACKCOND ▸ L_TRACKCOND ▸ M_TRACKCOND ▸ rest
+
+-- packet 80: an area of a mode
+abbrev pub mode_section : Layout → Layout
+mode_section rest = D_MAMODE ▸ M_MAMODE ▸ V_MAMODE ▸ L_MAMODE ▸ L_ACKMAMODE ▸ Q_MAMODE ▸ rest
+
 -- ---- Packets.
 
 abbrev pub system_version : Layout
@@ -108,11 +124,25 @@ radio_network = NID_MN ▸ whole
 abbrev pub conditional_level_order : Layout
 conditional_level_order = level (N_ITER ▸ counted (level whole) whole)
 
+abbrev pub balise_list : Layout
+balise_list = N_ITER ▸ counted (balise_at whole) whole
+
+abbrev pub authority_request : Layout
+authority_request = T_MAR ▸ T_TIMEOUTRQST ▸ T_CYCRQST ▸ whole
+
+abbrev pub report_parameters : Layout
+report_parameters = Q_SCALE ▸ T_CYCLOC ▸ D_CYCLOC ▸ M_LOC ▸ N_ITER ▸ counted (report_at whole) whole
+
 abbrev pub temporary_restriction : Layout
 temporary_restriction = Q_SCALE ▸ NID_TSR ▸ D_TSR ▸ L_TSR ▸ Q_FRONT ▸ V_TSR ▸ whole
 
 abbrev pub restriction_revocation : Layout
 restriction_revocation = NID_TSR ▸ whole
+
+abbrev pub track_condition : Layout
+track_condition =
+    Q_SCALE ▸ Q_TRACKINIT ▸ guarded (is_one Q_TRACKINIT) (D_TRACKINIT ▸ whole) (
+    guarded (is_zero Q_TRACKINIT) (condition (N_ITER ▸ counted (condition whole) whole)) whole)
 
 abbrev pub plain_text : Layout
 plain_text = text_frame (L_TEXT ▸ counted (X_TEXT ▸ whole) whole)
@@ -120,11 +150,17 @@ plain_text = text_frame (L_TEXT ▸ counted (X_TEXT ▸ whole) whole)
 abbrev pub fixed_text : Layout
 fixed_text = text_frame (Q_TEXT ▸ whole)
 
+abbrev pub mode_profile : Layout
+mode_profile = Q_SCALE ▸ mode_section (N_ITER ▸ counted (mode_section whole) whole)
+
+abbrev pub rbc_transition : Layout
+rbc_transition = Q_SCALE ▸ D_RBCTR ▸ NID_C ▸ NID_RBC ▸ NID_RADIO ▸ Q_SLEEPSESSION ▸ whole
+
 abbrev pub danger_for_shunting : Layout
 danger_for_shunting = Q_ASPECT ▸ whole
 
 abbrev pub infill_location : Layout
-infill_location = Q_NEWCOUNTRY ▸ guarded (is_one Q_NEWCOUNTRY) (NID_C ▸ whole) (NID_BG ▸ whole)
+infill_location = balise_at whole
 
 abbrev pub stop_in_sr : Layout
 stop_in_sr = Q_SRSTOP ▸ whole
@@ -156,11 +192,18 @@ rows_to ToTrain =
     (42, session_management) ∷
     (45, radio_network) ∷
     (46, conditional_level_order) ∷
+    (49, balise_list) ∷
+    (57, authority_request) ∷
+    (58, report_parameters) ∷
+    (63, balise_list) ∷
     (64, whole) ∷
     (65, temporary_restriction) ∷
     (66, restriction_revocation) ∷
+    (68, track_condition) ∷
     (72, plain_text) ∷
     (76, fixed_text) ∷
+    (80, mode_profile) ∷
+    (131, rbc_transition) ∷
     (132, danger_for_shunting) ∷
     (135, whole) ∷
     (136, infill_location) ∷

@@ -121,6 +121,31 @@ variable Var.D_SR = all "D_SR" 15
 variable Var.NID_EM = all "NID_EM" 4
 variable Var.D_REF = all "D_REF" 16
 variable Var.Q_ORIENTATION = all "Q_ORIENTATION" 1
+-- requests for a movement authority
+variable Var.T_MAR = all "T_MAR" 8
+variable Var.T_TIMEOUTRQST = all "T_TIMEOUTRQST" 10
+variable Var.T_CYCRQST = all "T_CYCRQST" 8
+-- position reports
+variable Var.T_CYCLOC = all "T_CYCLOC" 8
+variable Var.D_CYCLOC = all "D_CYCLOC" 15
+variable Var.M_LOC = all "M_LOC" 3
+variable Var.D_LOC = all "D_LOC" 15
+variable Var.Q_LGTLOC = all "Q_LGTLOC" 1
+-- track conditions
+variable Var.Q_TRACKINIT = all "Q_TRACKINIT" 1
+variable Var.D_TRACKINIT = all "D_TRACKINIT" 15
+variable Var.D_TRACKCOND = all "D_TRACKCOND" 15
+variable Var.L_TRACKCOND = all "L_TRACKCOND" 15
+variable Var.M_TRACKCOND = all "M_TRACKCOND" 4
+-- mode profiles
+variable Var.D_MAMODE = all "D_MAMODE" 15
+variable Var.M_MAMODE = only "M_MAMODE" 2 ((0, 2) ∷ [])
+variable Var.V_MAMODE = only "V_MAMODE" 7 ((0, 120) ∷ (127, 127) ∷ [])
+variable Var.L_MAMODE = all "L_MAMODE" 15
+variable Var.L_ACKMAMODE = all "L_ACKMAMODE" 15
+variable Var.Q_MAMODE = all "Q_MAMODE" 1
+-- handing over to another radio block centre
+variable Var.D_RBCTR = all "D_RBCTR" 15
 -- bits that are kept as they are, one variable for each bit
 variable Var.FILL = all "FILL" 1
 variable Var.OTHER_DATA = all "OTHER_DATA" 1

@@ -117,6 +117,31 @@ macro_rules! variables {
             NID_EM 4,
             D_REF 16,
             Q_ORIENTATION 1,
+            // Requests for a movement authority.
+            T_MAR 8,
+            T_TIMEOUTRQST 10,
+            T_CYCRQST 8,
+            // Position reports.
+            T_CYCLOC 8,
+            D_CYCLOC 15,
+            M_LOC 3,
+            D_LOC 15,
+            Q_LGTLOC 1,
+            // Track conditions.
+            Q_TRACKINIT 1,
+            D_TRACKINIT 15,
+            D_TRACKCOND 15,
+            L_TRACKCOND 15,
+            M_TRACKCOND 4,
+            // Mode profiles.
+            D_MAMODE 15,
+            M_MAMODE 2 (0, 2),
+            V_MAMODE 7 (0, 120) (127, 127),
+            L_MAMODE 15,
+            L_ACKMAMODE 15,
+            Q_MAMODE 1,
+            // Handing over to another radio block centre.
+            D_RBCTR 15,
             // Bits that are kept as they are, one variable for each bit.
             FILL 1,
             OTHER_DATA 1,

@@ -218,6 +218,56 @@ pub enum Var {
     /// The train's orientation to the balise group referred to.
     Q_ORIENTATION,
 
+    // Requests for a movement authority.
+    /// How long before the train would brake it asks for an authority, in seconds.
+    T_MAR,
+    /// How long before a speed's time runs out it asks, in seconds.
+    T_TIMEOUTRQST,
+    /// The time between two requests, in seconds.
+    T_CYCRQST,
+
+    // Position reports.
+    /// The time between two reports of position, in seconds.
+    T_CYCLOC,
+    /// The distance between two reports of position.
+    D_CYCLOC,
+    /// Where else the train reports its position: 0 now, 1 at each balise group, 2 at no balise group.
+    M_LOC,
+    /// The distance to the place where the train reports its position.
+    D_LOC,
+    /// Which end of the train is reported to reach the place: 0 its rear, 1 its front.
+    Q_LGTLOC,
+
+    // Track conditions.
+    /// Whether the initial states are resumed (1), or track conditions follow (0).
+    Q_TRACKINIT,
+    /// The distance to the place from which on the initial states are resumed.
+    D_TRACKINIT,
+    /// The distance to the track condition.
+    D_TRACKCOND,
+    /// The length over which the track condition holds.
+    L_TRACKCOND,
+    /// The kind of the track condition.
+    M_TRACKCOND,
+
+    // Mode profiles.
+    /// The distance to the start of the area of the mode.
+    D_MAMODE,
+    /// The mode in the area: 0 on sight, 1 shunting, 2 limited supervision.
+    M_MAMODE,
+    /// The speed in the area, in steps of 5 km/h; 127 is the national value for the mode.
+    V_MAMODE,
+    /// The length of the area.
+    L_MAMODE,
+    /// The length before the area over which the driver may acknowledge the mode.
+    L_ACKMAMODE,
+    /// Whether the start of the area is the end of authority alone (1), or the supervised location too (0).
+    Q_MAMODE,
+
+    // Handing over to another radio block centre.
+    /// The distance to the place where the other radio block centre takes over.
+    D_RBCTR,
+
     // Bits that are kept as they are, one variable for each bit.
     /// A bit of a telegram behind packet 255.
     FILL,

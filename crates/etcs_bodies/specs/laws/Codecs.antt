@@ -131,7 +131,7 @@ flag_admitted : (v : Var) → IsFlag v → (b : Bool) → admits v (bit b) ≡ t
 flag_admitted v f true = f.2
 flag_admitted v f false = f.1
 
-flag_of : (v : Var) (n : ℕ) → IsFlag v → admits v n ≡ true → (b : Bool) × (n ≡ bit b)
+pub flag_of : (v : Var) (n : ℕ) → IsFlag v → admits v n ≡ true → (b : Bool) × (n ≡ bit b)
 flag_of v n f ok = as_bit n (subst (λ w. n < 2 ^ w) f.0 (in_width v n ok))
 
 pub flag : (v : Var) → IsFlag v → Codes (one v) (λ (b : Bool). Unit {0}) (λ b. (v, bit b) ∷ []) next_flag

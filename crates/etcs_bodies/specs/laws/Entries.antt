@@ -9,7 +9,7 @@ use Rattle.etcs_tables.specs.Layouts.{Layout, one}
 use Rattle.etcs_bodies.specs.Taking.{Left}
 use Rattle.etcs_bodies.specs.Repeats.{bit_count}
 use Rattle.etcs_bodies.specs.laws.Repeats.{bit_count_is, bit_count-append}
-use Rattle.etcs_bodies.specs.Codecs.{Codes, list_reading}
+use Rattle.etcs_bodies.specs.Codecs.{Codes, IsEntries, list_reading}
 use Rattle.etcs_bodies.specs.laws.Codecs.{both, list}
 use Rattle.etcs_bodies.specs.laws.Choices.{few_counted}
 use Rattle.etcs_bodies.specs.Entries.{AreEntries, entries_reading, entries_from, entries_row}
@@ -31,6 +31,14 @@ module _ {V : Type 0} (IsV : V → Type 0) (reading : V → Reading) (most : ℕ
 
   few_most : (many : ℕ) → many ≤ 31 → many * most ≤ 31 * most
   few_most many h = grind arith
+
+  pub list_most : (l : List V) → IsEntries N_ITER IsV l → bit_count (list_reading N_ITER reading l) ≤ 5 + 31 * most
+  list_most l h = omega (arith, few_most (length l) (few_counted (length l) h.0), all_most l h.1)
+
+  pub list_small : IsTrue (nat_le most 2047) → (l : List V) → IsEntries N_ITER IsV l → length (spelled (list_reading N_ITER reading l)) < 65536
+  list_small short l h =
+      let few = leb-true most 2047 short in
+      rw (bit_count_is (list_reading N_ITER reading l)) (omega (arith, list_most l h))
 
   pub entries_most : (e : V × List V) → AreEntries IsV e → bit_count (entries_reading reading e) ≤ 5 + 32 * most
   entries_most e h =

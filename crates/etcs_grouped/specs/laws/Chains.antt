@@ -29,7 +29,9 @@ use Rattle.etcs_parts.specs.Slopes.{SlopeParts, slope_reading, slope_from}
 use Rattle.etcs_parts.specs.laws.Slopes.{slope_codes, slope_most}
 use Rattle.etcs_parts.specs.Speeds.{SpeedParts, speed_reading, speed_from}
 use Rattle.etcs_parts.specs.laws.Speeds.{speed_codes, speed_most}
-use Rattle.etcs_grouped.specs.Chains.{ChainParts, chain_reading, too_long, chain_of, body_of, IsChain, chain_row, chain_from, linking_reading, IsLinking, gradient_reading, IsGradient, profile_reading, IsSpeedProfile}
+use Rattle.etcs_parts.specs.ModeSections.{ModeSectionParts, mode_section_reading, mode_section_from}
+use Rattle.etcs_parts.specs.laws.ModeSections.{mode_section_codes, mode_section_most}
+use Rattle.etcs_grouped.specs.Chains.{ChainParts, chain_reading, too_long, chain_of, body_of, IsChain, chain_row, chain_from, linking_reading, IsLinking, gradient_reading, IsGradient, profile_reading, IsSpeedProfile, mode_profile_reading, IsModeProfile}
 
 -- ---- Its bits.
 
@@ -77,7 +79,7 @@ module _ {V : Type 0} {row : Layout → Layout} {IsV : V → Type 0} {reading : 
         fits = λ dir b short. no_fault reading (nat_le most 255) (chain_of dir b) short;
       })
 
--- ---- Of links, slopes and speeds.
+-- ---- Of links, slopes, speeds and areas of modes.
 
 pub linking_codes : PacketCodes ToTrain 5 (λ (p : ChainParts LinkParts). p.dir) IsLinking linking_reading (packet_from (chain_from 49 link_reading link_from))
 linking_codes = chain_codes link_codes 49 (λ l _. link_most l) ToTrain 5 refl
@@ -87,6 +89,9 @@ gradient_codes = chain_codes slope_codes 24 (λ s _. slope_most s) ToTrain 21 re
 
 pub profile_codes : PacketCodes ToTrain 27 (λ (p : ChainParts SpeedParts). p.dir) IsSpeedProfile profile_reading (packet_from (chain_from 431 speed_reading speed_from))
 profile_codes = chain_codes speed_codes 431 speed_most ToTrain 27 refl
+
+pub mode_profile_codes : PacketCodes ToTrain 80 (λ (p : ChainParts ModeSectionParts). p.dir) IsModeProfile mode_profile_reading (packet_from (chain_from 55 mode_section_reading mode_section_from))
+mode_profile_codes = chain_codes mode_section_codes 55 (λ m _. mode_section_most m) ToTrain 80 refl
 
 -- ---- Its equality.
 

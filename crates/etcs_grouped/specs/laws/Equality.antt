@@ -1,7 +1,13 @@
 -- `==` of packets is equality of their values.
-use Rattle.std.proofs.Common.{rules, ◌≡◌, Decides, refl}
+use Rattle.std.proofs.Common.{rules, ◌≡◌, ◌&&◌, nat_eq, Decides, refl}
+use Rattle.std.specs.Cmp.Lexicographic.{pointwise}
+use Rattle.etcs_bodies.specs.Equality.{IsExact}
 use Rattle.etcs_bodies.specs.laws.Equality.{number_exact, list_exact, both_exact, fields_exact}
-use Rattle.etcs_parts.specs.laws.Equality.{level_exact, level_ack_exact, text_frame_exact, authority_exact}
+use Rattle.etcs_parts.specs.laws.Equality.{level_exact, level_ack_exact, text_frame_exact, authority_exact, balise_at_exact, report_at_exact}
+use Rattle.etcs_parts.specs.contracts.balise_at.BaliseAtPartialEq.TheImpl as balise_at
+use Rattle.etcs_grouped.specs.BaliseLists.{BaliseListParts, balise_list_parts}
+use Rattle.etcs_grouped.specs.ReportParameters.{ReportParametersParts, report_parameters_parts}
+use Rattle.etcs_grouped.specs.contracts.report_parameters.ReportParametersPartialEq.TheImpl as report_parameters
 use Rattle.etcs_grouped.specs.LevelOrders.{LevelOrderParts, level_order_parts}
 use Rattle.etcs_grouped.specs.ConditionalLevelOrders.{ConditionalLevelOrderParts, conditional_level_order_parts}
 use Rattle.etcs_grouped.specs.PlainTexts.{PlainTextParts, plain_text_parts}
@@ -49,3 +55,13 @@ pub level23_ma_exact : (a b : Level23MaParts) → Decides (level23_ma.ghosts.eq 
 level23_ma_exact =
     fields_exact (λ (p : Level23MaParts). (p.dir, (p.q_scale, (p.v_loa, (p.t_loa, p.authority))))) (λ n. level23_ma_parts n.0 n.1.0 n.1.1.0 n.1.1.1.0 n.1.1.1.1) (λ p. refl) (
     both_exact number_exact (both_exact number_exact (both_exact number_exact (both_exact number_exact authority_exact))))
+
+pub balise_list_exact : IsExact (λ (a b : BaliseListParts). nat_eq a.dir b.dir && pointwise balise_at.ghosts.eq a.balises b.balises)
+balise_list_exact =
+    fields_exact (λ (p : BaliseListParts). (p.dir, p.balises)) (λ n. balise_list_parts n.0 n.1) (λ p. refl) (
+    both_exact number_exact (list_exact balise_at_exact))
+
+pub report_parameters_exact : (a b : ReportParametersParts) → Decides (report_parameters.ghosts.eq a b) (a ≡ b)
+report_parameters_exact =
+    fields_exact (λ (p : ReportParametersParts). (p.dir, (p.q_scale, (p.t_cycloc, (p.d_cycloc, (p.m_loc, p.reports)))))) (λ n. report_parameters_parts n.0 n.1.0 n.1.1.0 n.1.1.1.0 n.1.1.1.1.0 n.1.1.1.1.1) (λ p. refl) (
+    both_exact number_exact (both_exact number_exact (both_exact number_exact (both_exact number_exact (both_exact number_exact (list_exact report_at_exact))))))

@@ -13,7 +13,8 @@ use Rattle.etcs_bodies.specs.PacketCodes.{PacketCodes}
 use Rattle.etcs_bodies.specs.laws.PacketCodes.{all_apart}
 use Rattle.etcs_flat.specs.laws.FlatCodes.{flat_codes}
 use Rattle.etcs_flat.specs.Others.{OtherParts, other_parts, other_fault}
-use Rattle.etcs_grouped.specs.laws.Chains.{linking_codes, gradient_codes, profile_codes}
+use Rattle.etcs_grouped.specs.laws.BaliseLists.{balise_list_codes}
+use Rattle.etcs_grouped.specs.laws.Chains.{linking_codes, gradient_codes, profile_codes, mode_profile_codes}
 use Rattle.etcs_grouped.specs.laws.Level1Mas.{level1_ma_codes}
 use Rattle.etcs_grouped.specs.laws.Level23Mas.{level23_ma_codes}
 use Rattle.etcs_grouped.specs.laws.LevelOrders.{level_order_codes}
@@ -21,6 +22,8 @@ use Rattle.etcs_grouped.specs.laws.ConditionalLevelOrders.{conditional_level_ord
 use Rattle.etcs_grouped.specs.laws.PlainTexts.{plain_text_codes}
 use Rattle.etcs_grouped.specs.laws.FixedTexts.{fixed_text_codes}
 use Rattle.etcs_grouped.specs.laws.InfillLocations.{infill_location_codes}
+use Rattle.etcs_grouped.specs.laws.ReportParameters.{report_parameters_codes}
+use Rattle.etcs_grouped.specs.laws.TrackConditions.{track_condition_codes}
 use Rattle.etcs_packets.specs.contracts.packet.Packet as packet
 use Rattle.etcs_packets.specs.declared.packet.Packet.{Packet}
 use Rattle.etcs_packets.specs.declared.packet.Packet.TheVariants.{VbcMarker}
@@ -76,11 +79,18 @@ every =
     typed_one (flat_codes 42 refl) also
     typed_one (flat_codes 45 refl) also
     typed_one conditional_level_order_codes also
+    typed_one (balise_list_codes 49 refl refl) also
+    typed_one (flat_codes 57 refl) also
+    typed_one report_parameters_codes also
+    typed_one (balise_list_codes 63 refl refl) also
     typed_one (flat_codes 64 refl) also
     typed_one (flat_codes 65 refl) also
     typed_one (flat_codes 66 refl) also
+    typed_one track_condition_codes also
     typed_one plain_text_codes also
     typed_one fixed_text_codes also
+    typed_one mode_profile_codes also
+    typed_one (flat_codes 131 refl) also
     typed_one (flat_codes 132 refl) also
     typed_one (flat_codes 135 refl) also
     typed_one infill_location_codes also

@@ -11,6 +11,10 @@ use Rattle.etcs_parts.specs.Differings.{DifferingParts}
 use Rattle.etcs_parts.specs.Speeds.{SpeedParts, speed_parts}
 use Rattle.etcs_parts.specs.Displays.{ShownParts}
 use Rattle.etcs_parts.specs.TextFrames.{TextFrameParts, text_frame_parts, Report}
+use Rattle.etcs_parts.specs.BalisesAt.{BaliseAtParts}
+use Rattle.etcs_parts.specs.ReportsAt.{ReportAtParts}
+use Rattle.etcs_parts.specs.Conditions.{ConditionParts}
+use Rattle.etcs_parts.specs.ModeSections.{ModeSectionParts}
 use Rattle.etcs_parts.specs.contracts.authority.AuthorityPartialEq.TheImpl as authority
 use Rattle.etcs_parts.specs.contracts.differing.DifferingPartialEq.TheImpl as differing
 use Rattle.etcs_parts.specs.contracts.level.LevelPartialEq.TheImpl as level
@@ -21,6 +25,10 @@ use Rattle.etcs_parts.specs.contracts.shown.ShownPartialEq.TheImpl as shown
 use Rattle.etcs_parts.specs.contracts.slope.SlopePartialEq.TheImpl as slope
 use Rattle.etcs_parts.specs.contracts.speed.SpeedPartialEq.TheImpl as speed
 use Rattle.etcs_parts.specs.contracts.text_frame.TextFramePartialEq.TheImpl as text_frame
+use Rattle.etcs_parts.specs.contracts.balise_at.BaliseAtPartialEq.TheImpl as balise_at
+use Rattle.etcs_parts.specs.contracts.report_at.ReportAtPartialEq.TheImpl as report_at
+use Rattle.etcs_parts.specs.contracts.condition.ConditionPartialEq.TheImpl as condition
+use Rattle.etcs_parts.specs.contracts.mode_section.ModeSectionPartialEq.TheImpl as mode_section
 
 -- ---- Of the parts.
 
@@ -44,6 +52,18 @@ differing_exact a b = search rules
 
 pub shown_exact : (a b : ShownParts) → Decides (shown.ghosts.eq a b) (a ≡ b)
 shown_exact a b = search rules
+
+pub balise_at_exact : (a b : BaliseAtParts) → Decides (balise_at.ghosts.eq a b) (a ≡ b)
+balise_at_exact a b = search rules
+
+pub report_at_exact : (a b : ReportAtParts) → Decides (report_at.ghosts.eq a b) (a ≡ b)
+report_at_exact a b = search rules
+
+pub condition_exact : (a b : ConditionParts) → Decides (condition.ghosts.eq a b) (a ≡ b)
+condition_exact a b = search rules
+
+pub mode_section_exact : (a b : ModeSectionParts) → Decides (mode_section.ghosts.eq a b) (a ≡ b)
+mode_section_exact a b = search rules
 
 numbers_exact : IsExact (λ (a b : ℕ × ℕ). nat_eq a.0 b.0 && nat_eq a.1 b.1)
 numbers_exact = both_exact number_exact number_exact

@@ -1,0 +1,227 @@
+//! The parameters of position reports.
+
+ghost use Rattle.std.specs.Prelude.{◌≡◌, None, Some, OnOk, IfOk, IfErr, IfSome, IfNone};
+ghost use Rattle.etcs_vars.specs.declared.var.Var.TheVariants.{Q_DIR, Q_SCALE, T_CYCLOC, D_CYCLOC, M_LOC};
+ghost use Rattle.etcs_bodies.specs.Faults.{◌or_else◌, number_fault};
+ghost use Rattle.etcs_grouped.specs.ReportParameters.{report_parameters_parts, report_parameters_fault};
+
+use etcs_bodies::{Body, Counted, Numbers, Part, check};
+use etcs_parts::ReportAt;
+use etcs_tables::Way;
+use etcs_vars::parts::{Sink, Variables};
+use etcs_vars::{BuildFault, Var};
+use std::alloc::{AllocError, Global};
+use std::marker::Model;
+
+/// The parameters of position reports: when and where the train reports its position (packet 58; SUBSET-026, 7.4.2).
+#[derive(Debug, Drop, PartialEq, Eq)]
+pub struct ReportParameters {
+    dir: u8,
+    q_scale: u8,
+    t_cycloc: u8,
+    d_cycloc: u16,
+    m_loc: u8,
+    reports: Counted<ReportAt>,
+}
+
+impl Model for ReportParameters {
+    ghost use Rattle.etcs_grouped.specs.ReportParameters.{ReportParametersParts, report_parameters_parts, IsReportParameters};
+
+    ghost Value = { ReportParametersParts };
+
+    ghost view = { λ s. report_parameters_parts s.dir s.q_scale s.t_cycloc s.d_cycloc s.m_loc s.reports };
+
+    ghost invariant = { λ s. IsReportParameters (report_parameters_parts s.dir s.q_scale s.t_cycloc s.d_cycloc s.m_loc s.reports) };
+
+    ghost inverse = { λ s. record { dir = s.dir; q_scale = s.q_scale; t_cycloc = s.t_cycloc; d_cycloc = s.d_cycloc; m_loc = s.m_loc; reports = s.reports } };
+}
+
+impl ReportParameters {
+    /// The parameters.
+    ///
+    /// - `dir`: Q_DIR, for which direction of the train they hold (0 reverse, 1 nominal, 2 both);
+    /// - `q_scale`: the unit of all distances (0: 10 cm, 1: 1 m, 2: 10 m);
+    /// - `t_cycloc`: the time between two reports, in seconds;
+    /// - `d_cycloc`: the distance between two reports;
+    /// - `m_loc`: where else the train reports (0: now, 1: at each balise group, 2: at no balise group);
+    /// - `reports`: the places at which it reports, in order, each at its distance from the one before.
+    ///
+    /// # Errors
+    ///
+    /// The first of these, and the places: [`BuildFault::NotAdmitted`] with Q_DIR or Q_SCALE, above 2, with D_CYCLOC,
+    /// above 32,767, or with M_LOC, above 7; [`BuildFault::TooMany`] with N_ITER, where there are more than 31 places.
+    pub fn new(
+        dir: u8,
+        q_scale: u8,
+        t_cycloc: u8,
+        d_cycloc: u16,
+        m_loc: u8,
+        reports: Vec<ReportAt>,
+    ) -> Result<ReportParameters, (BuildFault, Vec<ReportAt>)>
+        ensures ok { IfOk result (λ p. p ≡ report_parameters_parts dir q_scale t_cycloc d_cycloc m_loc reports.items) }
+        ensures none { IfOk result (λ p. report_parameters_fault (report_parameters_parts dir q_scale t_cycloc d_cycloc m_loc reports.items) ≡ None) }
+        ensures fault { IfErr result (λ e. report_parameters_fault (report_parameters_parts dir q_scale t_cycloc d_cycloc m_loc reports.items) ≡ Some e.0) }
+        ensures reports { IfErr result (λ e. e.1.items ≡ reports.items) }
+    {
+        if let Err(fault) = check_head(dir, q_scale, t_cycloc, d_cycloc, m_loc) {
+            return Err((fault, reports));
+        }
+        match Counted::new(reports) {
+            Ok(reports) => Ok(ReportParameters {
+                dir,
+                q_scale,
+                t_cycloc,
+                d_cycloc,
+                m_loc,
+                reports,
+            }),
+            Err(back) => Err(back),
+        }
+    }
+
+    /// Q_SCALE: the unit of all distances (0: 10 cm, 1: 1 m, 2: 10 m).
+    pub fn q_scale(&self) -> u8
+        ensures { result ≡ self.now.q_scale }
+    {
+        self.q_scale
+    }
+
+    /// T_CYCLOC: the time between two reports, in seconds.
+    pub fn t_cycloc(&self) -> u8
+        ensures { result ≡ self.now.t_cycloc }
+    {
+        self.t_cycloc
+    }
+
+    /// D_CYCLOC: the distance between two reports, in units of Q_SCALE.
+    pub fn d_cycloc(&self) -> u16
+        ensures { result ≡ self.now.d_cycloc }
+    {
+        self.d_cycloc
+    }
+
+    /// M_LOC: where else the train reports (0: now, 1: at each balise group, 2: at no balise group).
+    pub fn m_loc(&self) -> u8
+        ensures { result ≡ self.now.m_loc }
+    {
+        self.m_loc
+    }
+
+    /// The places at which the train reports, in order.
+    pub fn reports(&self) -> &[ReportAt]
+        ensures { result.now ≡ self.now.reports }
+    {
+        self.reports.as_slice()
+    }
+}
+
+/// Refuses numbers that aren't admitted.
+fn check_head(
+    dir: u8,
+    q_scale: u8,
+    t_cycloc: u8,
+    d_cycloc: u16,
+    m_loc: u8,
+) -> Result<(), BuildFault>
+    ensures dir { OnOk result (number_fault Q_DIR dir ≡ None) }
+    ensures q_scale { OnOk result (number_fault Q_SCALE q_scale ≡ None) }
+    ensures t_cycloc { OnOk result (number_fault T_CYCLOC t_cycloc ≡ None) }
+    ensures d_cycloc { OnOk result (number_fault D_CYCLOC d_cycloc ≡ None) }
+    ensures m_loc { OnOk result (number_fault M_LOC m_loc ≡ None) }
+    ensures fault { IfErr result (λ e. number_fault Q_DIR dir or_else number_fault Q_SCALE q_scale or_else number_fault T_CYCLOC t_cycloc or_else number_fault D_CYCLOC d_cycloc or_else number_fault M_LOC m_loc ≡ Some e) }
+{
+    check(Var::Q_DIR, u64::from(dir))?;
+    check(Var::Q_SCALE, u64::from(q_scale))?;
+    check(Var::T_CYCLOC, u64::from(t_cycloc))?;
+    check(Var::D_CYCLOC, u64::from(d_cycloc))?;
+    check(Var::M_LOC, u64::from(m_loc))
+}
+
+impl Variables for ReportParameters {
+    ghost use Rattle.etcs_grouped.specs.ReportParameters.{report_parameters_reading};
+
+    ghost reading_of = { λ p. report_parameters_reading p };
+
+    #[tactic(auto, using(crate::specs::laws::ReportParameters::report_parameters_length))]
+    fn bits(&self) -> usize {
+        28 + self.reports.bits()
+    }
+
+    fn send<S: Sink>(&self, out: &mut S) -> Result<(), AllocError> {
+        out.send(&[
+            (Var::Q_SCALE, u64::from(self.q_scale)),
+            (Var::T_CYCLOC, u64::from(self.t_cycloc)),
+            (Var::D_CYCLOC, u64::from(self.d_cycloc)),
+            (Var::M_LOC, u64::from(self.m_loc)),
+        ])?;
+        self.reports.send(out)
+    }
+}
+
+impl Body for ReportParameters {
+    ghost use Rattle.etcs_tables.specs.declared.row.Way.TheVariants.{ToTrain};
+    ghost use Rattle.etcs_grouped.specs.ReportParameters.{IsReportParameters, report_parameters_from};
+    ghost use Rattle.etcs_grouped.specs.laws.ReportParameters.{report_parameters_codes};
+
+    const NID: u8 = 58;
+
+    const WAY: Way = Way::ToTrain;
+
+    ghost NID = { 58 };
+
+    ghost WAY = { ToTrain };
+
+    ghost direction = { λ p. p.dir };
+
+    ghost is_value = { λ p. IsReportParameters p };
+
+    ghost read_from = { λ dir s. report_parameters_from dir s };
+
+    ghost codes = { report_parameters_codes };
+
+    fn q_dir(&self) -> u8 {
+        self.dir
+    }
+
+    #[tactic(auto, using(etcs_bodies::specs::laws::Takes::number_ok), unfolding(etcs_bodies::specs::PacketCodes::directed_from, crate::specs::ReportParameters::report_parameters_from))]
+    fn take(
+        alloc: Global,
+        dir: u8,
+        numbers: &mut Numbers,
+    ) -> Result<Option<ReportParameters>, AllocError> {
+        let Some(q_scale) = numbers.next(Var::Q_SCALE) else {
+            return Ok(None);
+        };
+        let Some(t_cycloc) = numbers.next(Var::T_CYCLOC) else {
+            return Ok(None);
+        };
+        let Some(d_cycloc) = numbers.next(Var::D_CYCLOC) else {
+            return Ok(None);
+        };
+        let Some(m_loc) = numbers.next(Var::M_LOC) else {
+            return Ok(None);
+        };
+        let Some(reports) = Counted::take(alloc, numbers)? else {
+            return Ok(None);
+        };
+        Ok(Some(ReportParameters {
+            dir,
+            q_scale: q_scale as u8,
+            t_cycloc: t_cycloc as u8,
+            d_cycloc: d_cycloc as u16,
+            m_loc: m_loc as u8,
+            reports,
+        }))
+    }
+
+    fn copy(&self, alloc: Global) -> Result<ReportParameters, AllocError> {
+        Ok(ReportParameters {
+            dir: self.dir,
+            q_scale: self.q_scale,
+            t_cycloc: self.t_cycloc,
+            d_cycloc: self.d_cycloc,
+            m_loc: self.m_loc,
+            reports: self.reports.try_clone(alloc)?,
+        })
+    }
+}

@@ -1,0 +1,178 @@
+//! The track conditions ahead.
+
+ghost use Rattle.std.specs.Prelude.{◌≡◌, None, Some, OnOk, IfOk, IfErr, IfSome, IfNone};
+ghost use Rattle.std.specs.Cmp.{decided, partial_equiv_from_equiv};
+ghost use Rattle.etcs_grouped.specs.TrackConditions.{state_of, track_condition_parts, track_condition_fault, IsTrackCondition, track_condition_eq};
+ghost use Rattle.etcs_grouped.specs.laws.TrackConditions.{track_condition_exact};
+
+use crate::track_state::{
+    TrackState, check_state, copy_state, same_state, send_state, state_bits, take_state,
+};
+use etcs_bodies::{Body, Numbers, check};
+use etcs_tables::Way;
+use etcs_vars::parts::{Sink, Variables};
+use etcs_vars::{BuildFault, Var};
+use std::alloc::{AllocError, Global};
+use std::marker::Model;
+
+/// The track conditions ahead (packet 68; SUBSET-026, 7.4.2).
+#[derive(Debug, Drop)]
+pub struct TrackCondition {
+    dir: u8,
+    q_scale: u8,
+    state: TrackState,
+}
+
+impl Model for TrackCondition {
+    ghost use Rattle.etcs_grouped.specs.TrackConditions.{TrackConditionParts, track_condition_parts, state_of, IsTrackCondition};
+
+    ghost Value = { TrackConditionParts };
+
+    ghost view = { λ s. track_condition_parts s.dir s.q_scale (state_of s.state) };
+
+    ghost invariant = { λ s. IsTrackCondition (track_condition_parts s.dir s.q_scale (state_of s.state)) };
+}
+
+impl TrackCondition {
+    /// The track conditions.
+    ///
+    /// - `dir`: Q_DIR, for which direction of the train they hold (0 reverse, 1 nominal, 2 both);
+    /// - `q_scale`: the unit of all distances (0: 10 cm, 1: 1 m, 2: 10 m);
+    /// - `state`: from where on the initial states are resumed, or the conditions, in order. The first distance counts
+    ///   from the reference point of the packet.
+    ///
+    /// # Errors
+    ///
+    /// The first of these, and what it should have said: [`BuildFault::NotAdmitted`] with Q_DIR or Q_SCALE, above 2, or
+    /// with D_TRACKINIT, above 32,767; [`BuildFault::TooMany`] with N_ITER, where there are more than 31 further
+    /// conditions.
+    pub fn new(
+        dir: u8,
+        q_scale: u8,
+        state: TrackState,
+    ) -> Result<TrackCondition, (BuildFault, TrackState)>
+        ensures ok { IfOk result (λ p. p ≡ track_condition_parts dir q_scale (state_of state)) }
+        ensures none { IfOk result (λ p. track_condition_fault (track_condition_parts dir q_scale (state_of state)) ≡ None) }
+        ensures fault { IfErr result (λ e. track_condition_fault (track_condition_parts dir q_scale (state_of state)) ≡ Some e.0) }
+        ensures state { IfErr result (λ e. state_of e.1 ≡ state_of state) }
+    {
+        match check_all(dir, q_scale, &state) {
+            Ok(()) => Ok(TrackCondition {
+                dir,
+                q_scale,
+                state,
+            }),
+            Err(fault) => Err((fault, state)),
+        }
+    }
+
+    /// Q_SCALE: the unit of all distances (0: 10 cm, 1: 1 m, 2: 10 m).
+    pub fn q_scale(&self) -> u8
+        ensures { result ≡ self.now.q_scale }
+    {
+        self.q_scale
+    }
+
+    /// From where on the initial states are resumed, or the conditions, in order.
+    pub fn state(&self) -> &TrackState
+        ensures { state_of result.now ≡ self.now.state }
+    {
+        &self.state
+    }
+}
+
+/// Refuses what is no packet.
+fn check_all(dir: u8, q_scale: u8, state: &TrackState) -> Result<(), BuildFault>
+    ensures ok { OnOk result (IsTrackCondition (track_condition_parts dir q_scale (state_of state.now))) }
+    ensures none { OnOk result (track_condition_fault (track_condition_parts dir q_scale (state_of state.now)) ≡ None) }
+    ensures fault { IfErr result (λ e. track_condition_fault (track_condition_parts dir q_scale (state_of state.now)) ≡ Some e) }
+{
+    check(Var::Q_DIR, u64::from(dir))?;
+    check(Var::Q_SCALE, u64::from(q_scale))?;
+    check_state(state)
+}
+
+impl PartialEq for TrackCondition {
+    ghost eq = { track_condition_eq };
+
+    ghost laws = { partial_equiv_from_equiv (decided track_condition_eq track_condition_exact) };
+
+    fn eq(&self, other: &TrackCondition) -> bool {
+        self.dir == other.dir
+            && self.q_scale == other.q_scale
+            && same_state(&self.state, &other.state)
+    }
+}
+
+impl Eq for TrackCondition {
+    ghost laws = { decided track_condition_eq track_condition_exact };
+}
+
+impl Variables for TrackCondition {
+    ghost use Rattle.etcs_grouped.specs.TrackConditions.{track_condition_reading};
+
+    ghost reading_of = { λ p. track_condition_reading p };
+
+    #[tactic(auto, using(crate::specs::laws::TrackConditions::track_condition_length))]
+    fn bits(&self) -> usize {
+        2 + state_bits(&self.state)
+    }
+
+    fn send<S: Sink>(&self, out: &mut S) -> Result<(), AllocError> {
+        out.send(&[(Var::Q_SCALE, u64::from(self.q_scale))])?;
+        send_state(&self.state, out)
+    }
+}
+
+impl Body for TrackCondition {
+    ghost use Rattle.etcs_tables.specs.declared.row.Way.TheVariants.{ToTrain};
+    ghost use Rattle.etcs_grouped.specs.TrackConditions.{IsTrackCondition, track_condition_from};
+    ghost use Rattle.etcs_grouped.specs.laws.TrackConditions.{track_condition_codes};
+
+    const NID: u8 = 68;
+
+    const WAY: Way = Way::ToTrain;
+
+    ghost NID = { 68 };
+
+    ghost WAY = { ToTrain };
+
+    ghost direction = { λ p. p.dir };
+
+    ghost is_value = { λ p. IsTrackCondition p };
+
+    ghost read_from = { λ dir s. track_condition_from dir s };
+
+    ghost codes = { track_condition_codes };
+
+    fn q_dir(&self) -> u8 {
+        self.dir
+    }
+
+    #[tactic(auto, using(etcs_bodies::specs::laws::Takes::number_ok), unfolding(etcs_bodies::specs::PacketCodes::directed_from, crate::specs::TrackConditions::track_condition_from))]
+    fn take(
+        alloc: Global,
+        dir: u8,
+        numbers: &mut Numbers,
+    ) -> Result<Option<TrackCondition>, AllocError> {
+        let Some(q_scale) = numbers.next(Var::Q_SCALE) else {
+            return Ok(None);
+        };
+        let Some(state) = take_state(alloc, numbers)? else {
+            return Ok(None);
+        };
+        Ok(Some(TrackCondition {
+            dir,
+            q_scale: q_scale as u8,
+            state,
+        }))
+    }
+
+    fn copy(&self, alloc: Global) -> Result<TrackCondition, AllocError> {
+        Ok(TrackCondition {
+            dir: self.dir,
+            q_scale: self.q_scale,
+            state: copy_state(alloc, &self.state)?,
+        })
+    }
+}

@@ -1,0 +1,121 @@
+//! What track conditions say.
+
+ghost use Rattle.std.specs.Prelude.{◌≡◌, ◌≤◌, None, Some, length, OnOk, OnErr, IfOk, IfErr, IfSome, IfNone};
+ghost use Rattle.etcs_vars.specs.Reading.{spelled};
+ghost use Rattle.etcs_grouped.specs.TrackConditions.{state_of, state_fault, IsState, state_reading, state_from, state_eq};
+
+use etcs_bodies::{Numbers, Part, check, check_count, clone_all, hold_all, send_list, take_list};
+use etcs_parts::Condition;
+use etcs_vars::parts::{Sink, Variables};
+use etcs_vars::{BuildFault, Var};
+use std::alloc::{AllocError, Global};
+
+/// What packet 68 says.
+#[derive(Debug, Drop, PartialEq, Eq)]
+pub enum TrackState {
+    /// The initial states are resumed from this distance on, D_TRACKINIT.
+    Initial(u16),
+    /// A first track condition and further ones, each at its distance from the one before.
+    Conditions(Condition, Vec<Condition>),
+}
+
+/// Refuses a distance that is too large, or too many conditions.
+pub(crate) fn check_state(state: &TrackState) -> Result<(), BuildFault>
+    ensures ok { OnOk result (IsState (state_of state.now)) }
+    ensures none { OnOk result (state_fault (state_of state.now) ≡ None) }
+    ensures fault { IfErr result (λ e. state_fault (state_of state.now) ≡ Some e) }
+{
+    match state {
+        TrackState::Initial(distance) => check(Var::D_TRACKINIT, u64::from(*distance)),
+        TrackState::Conditions(first, further) => {
+            check_count(Var::N_ITER, further.len())?;
+            first.holds();
+            hold_all(further.as_slice());
+            Ok(())
+        }
+    }
+}
+
+/// How many bits its variables take.
+#[tactic(auto, using(crate::specs::laws::TrackConditions::initial_bits, crate::specs::laws::TrackConditions::condition_bits, crate::specs::laws::TrackConditions::few_conditions))]
+pub(crate) fn state_bits(state: &TrackState) -> usize
+    requires { IsState (state_of state.now) }
+    ensures bits { result ≡ length (spelled (state_reading (state_of state.now))) }
+    ensures small { result ≤ 1094 }
+{
+    match state {
+        TrackState::Initial(_) => 16,
+        TrackState::Conditions(_, further) => 40 + 34 * further.len(),
+    }
+}
+
+/// Sends its variables, in order.
+pub(crate) fn send_state<S: Sink>(state: &TrackState, out: &mut S) -> Result<(), AllocError>
+    ensures ok { OnOk result (out.new ≡ S.with out.old (state_reading (state_of state.now))) }
+    ensures err { OnErr result (S.failed out.old out.new) }
+{
+    match state {
+        TrackState::Initial(distance) => out.send(&[
+            (Var::Q_TRACKINIT, 1),
+            (Var::D_TRACKINIT, u64::from(*distance)),
+        ]),
+        TrackState::Conditions(first, further) => {
+            out.send(&[(Var::Q_TRACKINIT, 0)])?;
+            first.send(out)?;
+            send_list(Var::N_ITER, further.as_slice(), out)
+        }
+    }
+}
+
+/// Takes what the numbers begin with, if they begin with a state.
+#[tactic(auto, unfolding(crate::specs::TrackConditions::state_from))]
+pub(crate) fn take_state(
+    alloc: Global,
+    numbers: &mut Numbers,
+) -> Result<Option<TrackState>, AllocError>
+    ensures is { IfOk result (λ o. IfSome o (λ s. IsState (state_of s))) }
+    ensures from { IfOk result (λ o. IfSome o (λ s. state_from numbers.old ≡ Some (state_of s, numbers.new))) }
+    ensures none { IfOk result (λ o. IfNone o (state_from numbers.old ≡ None)) }
+{
+    let Some(initial) = numbers.flag() else {
+        return Ok(None);
+    };
+    if initial {
+        let Some(distance) = numbers.next(Var::D_TRACKINIT) else {
+            return Ok(None);
+        };
+        return Ok(Some(TrackState::Initial(distance as u16)));
+    }
+    let Some(first) = Condition::take(alloc, numbers)? else {
+        return Ok(None);
+    };
+    let Some(further) = take_list(alloc, Var::N_ITER, numbers)? else {
+        return Ok(None);
+    };
+    Ok(Some(TrackState::Conditions(first, further)))
+}
+
+/// An equal state.
+pub(crate) fn copy_state(alloc: Global, state: &TrackState) -> Result<TrackState, AllocError>
+    ensures { IfOk result (λ s. state_of s ≡ state_of state.now) }
+{
+    Ok(match state {
+        TrackState::Initial(distance) => TrackState::Initial(*distance),
+        TrackState::Conditions(first, further) => {
+            TrackState::Conditions(*first, clone_all(alloc, further.as_slice())?)
+        }
+    })
+}
+
+/// Whether both say the same.
+pub(crate) fn same_state(first: &TrackState, second: &TrackState) -> bool
+    ensures { result ≡ state_eq (state_of first.now) (state_of second.now) }
+{
+    match (first, second) {
+        (TrackState::Initial(a), TrackState::Initial(b)) => a == b,
+        (TrackState::Conditions(a, more), TrackState::Conditions(b, others)) => {
+            a == b && more == others
+        }
+        _ => false,
+    }
+}

@@ -1,0 +1,33 @@
+-- Lemmas about specs/ReportsAt.antt.
+use Rattle.std.proofs.Common.{◌≡◌, length, ◌≤◌, refl, arith}
+use Rattle.etcs_vars.specs.declared.var.Var.TheVariants.{D_LOC, Q_LGTLOC}
+use Rattle.etcs_vars.specs.Reading.{spelled}
+use Rattle.etcs_tables.specs.Rows.{report_at}
+use Rattle.etcs_bodies.specs.Codecs.{Codes}
+use Rattle.etcs_bodies.specs.laws.Codecs.{number, flag, both, form}
+use Rattle.etcs_bodies.specs.Repeats.{bit_count}
+use Rattle.etcs_bodies.specs.laws.Repeats.{bit_count_is}
+use Rattle.etcs_parts.specs.ReportsAt.{ReportAtParts, IsReportAt, report_at_reading, report_at_from}
+
+-- ---- A place is what its row spells.
+
+pub report_at_codes : Codes report_at IsReportAt report_at_reading report_at_from
+unfolding report_at_from
+report_at_codes =
+    form (both (number D_LOC) (flag Q_LGTLOC (refl, refl, refl)))
+    (record {
+      back = λ p. (p.d_loc, p.q_lgtloc);
+      there = λ p. refl;
+      again = λ v. refl;
+      is = λ p h. (h, tt);
+      so = λ v h. h.0;
+      same = λ p. refl;
+    })
+
+-- ---- Its bits.
+
+pub report_at_bits : (p : ReportAtParts) → 16 ≡ length (spelled (report_at_reading p))
+report_at_bits p = rw (bit_count_is (report_at_reading p)) refl
+
+pub report_at_most : (p : ReportAtParts) → bit_count (report_at_reading p) ≤ 16
+report_at_most p = omega arith

@@ -1,0 +1,144 @@
+//! A balise group of a list.
+
+ghost use Rattle.std.specs.Prelude.{◌≡◌, ◌++◌, None, Some, IfOk, IfErr, IfSome, IfNone};
+
+use etcs_bodies::{Entry, Numbers, Part, check};
+use etcs_vars::parts::{Sink, Variables};
+use etcs_vars::{BuildFault, Var};
+use std::alloc::{AllocError, Global};
+use std::marker::Model;
+
+/// A balise group in a list of groups (packets 49 and 63; SUBSET-026, 7.4 and 7.5).
+#[derive(Clone, Copy, Debug, PartialEq, Eq)]
+pub struct BaliseAt {
+    nid_c: Option<u16>,
+    nid_bg: u16,
+}
+
+impl Model for BaliseAt {
+    ghost use Rattle.etcs_parts.specs.BalisesAt.{BaliseAtParts, balise_at_parts, IsBaliseAt};
+
+    ghost Value = { BaliseAtParts };
+
+    ghost view = { λ s. balise_at_parts s.nid_c s.nid_bg };
+
+    ghost invariant = { λ s. IsBaliseAt (balise_at_parts s.nid_c s.nid_bg) };
+
+    ghost inverse = { λ s. record { nid_c = s.nid_c; nid_bg = s.nid_bg } };
+}
+
+impl BaliseAt {
+    ghost use Rattle.etcs_parts.specs.BalisesAt.{balise_at_parts, balise_at_fault, IsBaliseAt, balise_at_from};
+
+    /// The group `nid_bg`; `nid_c` is given where its country or region is another than that of the group before.
+    ///
+    /// # Errors
+    ///
+    /// `NotAdmitted` with the first of NID_C (10 bits) and NID_BG (14) that doesn't admit its number.
+    pub fn new(nid_c: Option<u16>, nid_bg: u16) -> Result<BaliseAt, BuildFault>
+        ensures ok { IfOk result (λ b. b ≡ balise_at_parts nid_c nid_bg) }
+        ensures fault { IfErr result (λ e. balise_at_fault (balise_at_parts nid_c nid_bg) ≡ Some e) }
+    {
+        if let Some(country) = nid_c {
+            check(Var::NID_C, u64::from(country))?;
+        }
+        check(Var::NID_BG, u64::from(nid_bg))?;
+        Ok(BaliseAt { nid_c, nid_bg })
+    }
+
+    /// The group's country or region, where it is another than that of the group before.
+    pub fn nid_c(&self) -> Option<u16>
+        ensures { result ≡ self.now.nid_c }
+    {
+        self.nid_c
+    }
+
+    /// The group within its country or region.
+    pub fn nid_bg(&self) -> u16
+        ensures { result ≡ self.now.nid_bg }
+    {
+        self.nid_bg
+    }
+
+    /// The group that the numbers begin with.
+    #[tactic(auto, unfolding(crate::specs::BalisesAt::balise_at_from))]
+    fn from_numbers(numbers: &mut Numbers) -> Option<BaliseAt>
+        ensures part { IfSome result (λ b. IsBaliseAt b) }
+        ensures from { IfSome result (λ b. balise_at_from numbers.old ≡ Some (b, numbers.new)) }
+        ensures none { IfNone result (balise_at_from numbers.old ≡ None) }
+    {
+        let nid_c = if numbers.flag()? {
+            Some(numbers.next(Var::NID_C)? as u16)
+        } else {
+            None
+        };
+        let nid_bg = numbers.next(Var::NID_BG)? as u16;
+        Some(BaliseAt { nid_c, nid_bg })
+    }
+}
+
+impl Variables for BaliseAt {
+    ghost use Rattle.etcs_parts.specs.BalisesAt.{balise_at_reading};
+
+    ghost reading_of = { λ p. balise_at_reading p };
+
+    #[tactic(auto, using(crate::specs::laws::BalisesAt::balise_at_bits_near, crate::specs::laws::BalisesAt::balise_at_bits_far))]
+    fn bits(&self) -> usize {
+        match self.nid_c {
+            None => 15,
+            Some(_) => 25,
+        }
+    }
+
+    fn send<S: Sink>(&self, out: &mut S) -> Result<(), AllocError> {
+        match self.nid_c {
+            None => out.send(&[
+                (Var::Q_NEWCOUNTRY, 0),
+                (Var::NID_BG, u64::from(self.nid_bg)),
+            ]),
+            Some(country) => out.send(&[
+                (Var::Q_NEWCOUNTRY, 1),
+                (Var::NID_C, u64::from(country)),
+                (Var::NID_BG, u64::from(self.nid_bg)),
+            ]),
+        }
+    }
+}
+
+impl Part for BaliseAt {
+    ghost use Rattle.etcs_parts.specs.BalisesAt.{balise_at_from, IsBaliseAt};
+
+    ghost read_from = { balise_at_from };
+
+    ghost is_part = { λ p. IsBaliseAt p };
+
+    fn holds(&self) {
+        let _ = &self.nid_bg;
+    }
+
+    fn take(_alloc: Global, numbers: &mut Numbers) -> Result<Option<BaliseAt>, AllocError> {
+        Ok(BaliseAt::from_numbers(numbers))
+    }
+
+    fn try_clone(&self, _alloc: Global) -> Result<BaliseAt, AllocError> {
+        Ok(*self)
+    }
+}
+
+impl Entry for BaliseAt {
+    ghost use Rattle.std.specs.Prelude.{refl};
+    ghost use Rattle.etcs_tables.specs.Rows.{balise_at};
+    ghost use Rattle.etcs_parts.specs.laws.BalisesAt.{balise_at_codes, balise_at_most};
+
+    const MOST: usize = 25;
+
+    ghost MOST = { 25 };
+
+    ghost row = { balise_at };
+
+    ghost codes = { balise_at_codes };
+
+    ghost most = { λ p h. balise_at_most p };
+
+    ghost short = { refl };
+}

@@ -1,0 +1,150 @@
+//! A track condition.
+
+ghost use Rattle.std.specs.Prelude.{◌≡◌, ◌++◌, None, Some, IfOk, IfErr, IfSome, IfNone};
+
+use etcs_bodies::{Entry, Numbers, Part, check};
+use etcs_vars::parts::{Sink, Variables};
+use etcs_vars::{BuildFault, Var};
+use std::alloc::{AllocError, Global};
+use std::marker::Model;
+
+/// A track condition (packet 68; SUBSET-026, 7.4 and 7.5).
+///
+/// Distances are in steps of Q_SCALE: 0 is 10 cm, 1 is 1 m, 2 is 10 m.
+#[derive(Clone, Copy, Debug, PartialEq, Eq)]
+pub struct Condition {
+    d_trackcond: u16,
+    l_trackcond: u16,
+    m_trackcond: u8,
+}
+
+impl Model for Condition {
+    ghost use Rattle.etcs_parts.specs.Conditions.{ConditionParts, condition_parts, IsCondition};
+
+    ghost Value = { ConditionParts };
+
+    ghost view = { λ s. condition_parts s.d_trackcond s.l_trackcond s.m_trackcond };
+
+    ghost invariant = { λ s. IsCondition (condition_parts s.d_trackcond s.l_trackcond s.m_trackcond) };
+
+    ghost inverse = { λ s. record { d_trackcond = s.d_trackcond; l_trackcond = s.l_trackcond; m_trackcond = s.m_trackcond } };
+}
+
+impl Condition {
+    ghost use Rattle.etcs_parts.specs.Conditions.{condition_parts, condition_fault, IsCondition, condition_from};
+
+    /// The condition `m_trackcond` from `d_trackcond` on, over `l_trackcond`.
+    ///
+    /// # Errors
+    ///
+    /// `NotAdmitted` with the first of D_TRACKCOND (15 bits), L_TRACKCOND (15) and M_TRACKCOND (4) that doesn't admit
+    /// its number.
+    pub fn new(d_trackcond: u16, l_trackcond: u16, m_trackcond: u8) -> Result<Condition, BuildFault>
+        ensures ok { IfOk result (λ c. c ≡ condition_parts d_trackcond l_trackcond m_trackcond) }
+        ensures fault { IfErr result (λ e. condition_fault (condition_parts d_trackcond l_trackcond m_trackcond) ≡ Some e) }
+    {
+        check(Var::D_TRACKCOND, u64::from(d_trackcond))?;
+        check(Var::L_TRACKCOND, u64::from(l_trackcond))?;
+        check(Var::M_TRACKCOND, u64::from(m_trackcond))?;
+        Ok(Condition {
+            d_trackcond,
+            l_trackcond,
+            m_trackcond,
+        })
+    }
+
+    /// The distance to the condition, in steps of Q_SCALE from the one before.
+    pub fn d_trackcond(&self) -> u16
+        ensures { result ≡ self.now.d_trackcond }
+    {
+        self.d_trackcond
+    }
+
+    /// The length over which the condition holds, in steps of Q_SCALE.
+    pub fn l_trackcond(&self) -> u16
+        ensures { result ≡ self.now.l_trackcond }
+    {
+        self.l_trackcond
+    }
+
+    /// The kind of the condition.
+    pub fn m_trackcond(&self) -> u8
+        ensures { result ≡ self.now.m_trackcond }
+    {
+        self.m_trackcond
+    }
+
+    /// The condition that the numbers begin with.
+    #[tactic(auto, unfolding(crate::specs::Conditions::condition_from))]
+    fn from_numbers(numbers: &mut Numbers) -> Option<Condition>
+        ensures part { IfSome result (λ c. IsCondition c) }
+        ensures from { IfSome result (λ c. condition_from numbers.old ≡ Some (c, numbers.new)) }
+        ensures none { IfNone result (condition_from numbers.old ≡ None) }
+    {
+        let d_trackcond = numbers.next(Var::D_TRACKCOND)? as u16;
+        let l_trackcond = numbers.next(Var::L_TRACKCOND)? as u16;
+        let m_trackcond = numbers.next(Var::M_TRACKCOND)? as u8;
+        Some(Condition {
+            d_trackcond,
+            l_trackcond,
+            m_trackcond,
+        })
+    }
+}
+
+impl Variables for Condition {
+    ghost use Rattle.etcs_parts.specs.Conditions.{condition_reading};
+
+    ghost reading_of = { λ p. condition_reading p };
+
+    #[tactic(auto, using(crate::specs::laws::Conditions::condition_bits))]
+    fn bits(&self) -> usize {
+        34
+    }
+
+    fn send<S: Sink>(&self, out: &mut S) -> Result<(), AllocError> {
+        out.send(&[
+            (Var::D_TRACKCOND, u64::from(self.d_trackcond)),
+            (Var::L_TRACKCOND, u64::from(self.l_trackcond)),
+            (Var::M_TRACKCOND, u64::from(self.m_trackcond)),
+        ])
+    }
+}
+
+impl Part for Condition {
+    ghost use Rattle.etcs_parts.specs.Conditions.{condition_from, IsCondition};
+
+    ghost read_from = { condition_from };
+
+    ghost is_part = { λ p. IsCondition p };
+
+    fn holds(&self) {
+        let _ = &self.d_trackcond;
+    }
+
+    fn take(_alloc: Global, numbers: &mut Numbers) -> Result<Option<Condition>, AllocError> {
+        Ok(Condition::from_numbers(numbers))
+    }
+
+    fn try_clone(&self, _alloc: Global) -> Result<Condition, AllocError> {
+        Ok(*self)
+    }
+}
+
+impl Entry for Condition {
+    ghost use Rattle.std.specs.Prelude.{refl};
+    ghost use Rattle.etcs_tables.specs.Rows.{condition};
+    ghost use Rattle.etcs_parts.specs.laws.Conditions.{condition_codes, condition_most};
+
+    const MOST: usize = 34;
+
+    ghost MOST = { 34 };
+
+    ghost row = { condition };
+
+    ghost codes = { condition_codes };
+
+    ghost most = { λ p h. condition_most p };
+
+    ghost short = { refl };
+}

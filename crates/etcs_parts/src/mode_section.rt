@@ -1,0 +1,197 @@
+//! An area of a mode.
+
+ghost use Rattle.std.specs.Prelude.{◌≡◌, ◌++◌, None, Some, IfOk, IfErr, IfSome, IfNone};
+
+use etcs_bodies::{Entry, Numbers, Part, check};
+use etcs_vars::parts::{Sink, Variables};
+use etcs_vars::{BuildFault, Var};
+use std::alloc::{AllocError, Global};
+use std::marker::Model;
+
+/// An area in which the train runs in a mode (packet 80; SUBSET-026, 7.4 and 7.5).
+///
+/// Distances are in steps of Q_SCALE: 0 is 10 cm, 1 is 1 m, 2 is 10 m.
+#[derive(Clone, Copy, Debug, PartialEq, Eq)]
+pub struct ModeSection {
+    d_mamode: u16,
+    m_mamode: u8,
+    v_mamode: u8,
+    l_mamode: u16,
+    l_ackmamode: u16,
+    q_mamode: bool,
+}
+
+impl Model for ModeSection {
+    ghost use Rattle.etcs_parts.specs.ModeSections.{ModeSectionParts, mode_section_parts, IsModeSection};
+
+    ghost Value = { ModeSectionParts };
+
+    ghost view = { λ s. mode_section_parts s.d_mamode s.m_mamode s.v_mamode s.l_mamode s.l_ackmamode s.q_mamode };
+
+    ghost invariant = { λ s. IsModeSection (mode_section_parts s.d_mamode s.m_mamode s.v_mamode s.l_mamode s.l_ackmamode s.q_mamode) };
+
+    ghost inverse = { λ s. record { d_mamode = s.d_mamode; m_mamode = s.m_mamode; v_mamode = s.v_mamode; l_mamode = s.l_mamode; l_ackmamode = s.l_ackmamode; q_mamode = s.q_mamode } };
+}
+
+impl ModeSection {
+    ghost use Rattle.etcs_parts.specs.ModeSections.{mode_section_parts, mode_section_fault, IsModeSection, mode_section_from};
+
+    /// The area from `d_mamode` on, over `l_mamode`, in which the train runs in the mode `m_mamode` and at most at
+    /// `v_mamode`. The driver may acknowledge the mode over `l_ackmamode` before it. `q_mamode` tells whether the start
+    /// of the area is the end of authority alone, and not the supervised location too.
+    ///
+    /// # Errors
+    ///
+    /// `NotAdmitted` with the first of D_MAMODE (15 bits), M_MAMODE (0 to 2), V_MAMODE (0 to 120, 127), L_MAMODE (15
+    /// bits) and L_ACKMAMODE (15) that doesn't admit its number.
+    pub fn new(
+        d_mamode: u16,
+        m_mamode: u8,
+        v_mamode: u8,
+        l_mamode: u16,
+        l_ackmamode: u16,
+        q_mamode: bool,
+    ) -> Result<ModeSection, BuildFault>
+        ensures ok { IfOk result (λ m. m ≡ mode_section_parts d_mamode m_mamode v_mamode l_mamode l_ackmamode q_mamode) }
+        ensures fault { IfErr result (λ e. mode_section_fault (mode_section_parts d_mamode m_mamode v_mamode l_mamode l_ackmamode q_mamode) ≡ Some e) }
+    {
+        check(Var::D_MAMODE, u64::from(d_mamode))?;
+        check(Var::M_MAMODE, u64::from(m_mamode))?;
+        check(Var::V_MAMODE, u64::from(v_mamode))?;
+        check(Var::L_MAMODE, u64::from(l_mamode))?;
+        check(Var::L_ACKMAMODE, u64::from(l_ackmamode))?;
+        Ok(ModeSection {
+            d_mamode,
+            m_mamode,
+            v_mamode,
+            l_mamode,
+            l_ackmamode,
+            q_mamode,
+        })
+    }
+
+    /// The distance to the area, in steps of Q_SCALE from the one before.
+    pub fn d_mamode(&self) -> u16
+        ensures { result ≡ self.now.d_mamode }
+    {
+        self.d_mamode
+    }
+
+    /// The mode: 0 on sight, 1 shunting, 2 limited supervision.
+    pub fn m_mamode(&self) -> u8
+        ensures { result ≡ self.now.m_mamode }
+    {
+        self.m_mamode
+    }
+
+    /// The speed in the area, in steps of 5 km/h; 127 is the national value for the mode.
+    pub fn v_mamode(&self) -> u8
+        ensures { result ≡ self.now.v_mamode }
+    {
+        self.v_mamode
+    }
+
+    /// The length of the area, in steps of Q_SCALE.
+    pub fn l_mamode(&self) -> u16
+        ensures { result ≡ self.now.l_mamode }
+    {
+        self.l_mamode
+    }
+
+    /// The length before the area over which the driver may acknowledge the mode, in steps of Q_SCALE.
+    pub fn l_ackmamode(&self) -> u16
+        ensures { result ≡ self.now.l_ackmamode }
+    {
+        self.l_ackmamode
+    }
+
+    /// Whether the start of the area is the end of authority alone, and not the supervised location too.
+    pub fn q_mamode(&self) -> bool
+        ensures { result ≡ self.now.q_mamode }
+    {
+        self.q_mamode
+    }
+
+    /// The area that the numbers begin with.
+    #[tactic(auto, unfolding(crate::specs::ModeSections::mode_section_from))]
+    fn from_numbers(numbers: &mut Numbers) -> Option<ModeSection>
+        ensures part { IfSome result (λ m. IsModeSection m) }
+        ensures from { IfSome result (λ m. mode_section_from numbers.old ≡ Some (m, numbers.new)) }
+        ensures none { IfNone result (mode_section_from numbers.old ≡ None) }
+    {
+        let d_mamode = numbers.next(Var::D_MAMODE)? as u16;
+        let m_mamode = numbers.next(Var::M_MAMODE)? as u8;
+        let v_mamode = numbers.next(Var::V_MAMODE)? as u8;
+        let l_mamode = numbers.next(Var::L_MAMODE)? as u16;
+        let l_ackmamode = numbers.next(Var::L_ACKMAMODE)? as u16;
+        let q_mamode = numbers.flag()?;
+        Some(ModeSection {
+            d_mamode,
+            m_mamode,
+            v_mamode,
+            l_mamode,
+            l_ackmamode,
+            q_mamode,
+        })
+    }
+}
+
+impl Variables for ModeSection {
+    ghost use Rattle.etcs_parts.specs.ModeSections.{mode_section_reading};
+
+    ghost reading_of = { λ p. mode_section_reading p };
+
+    #[tactic(auto, using(crate::specs::laws::ModeSections::mode_section_bits))]
+    fn bits(&self) -> usize {
+        55
+    }
+
+    fn send<S: Sink>(&self, out: &mut S) -> Result<(), AllocError> {
+        out.send(&[
+            (Var::D_MAMODE, u64::from(self.d_mamode)),
+            (Var::M_MAMODE, u64::from(self.m_mamode)),
+            (Var::V_MAMODE, u64::from(self.v_mamode)),
+            (Var::L_MAMODE, u64::from(self.l_mamode)),
+            (Var::L_ACKMAMODE, u64::from(self.l_ackmamode)),
+            (Var::Q_MAMODE, u64::from(self.q_mamode)),
+        ])
+    }
+}
+
+impl Part for ModeSection {
+    ghost use Rattle.etcs_parts.specs.ModeSections.{mode_section_from, IsModeSection};
+
+    ghost read_from = { mode_section_from };
+
+    ghost is_part = { λ p. IsModeSection p };
+
+    fn holds(&self) {
+        let _ = &self.d_mamode;
+    }
+
+    fn take(_alloc: Global, numbers: &mut Numbers) -> Result<Option<ModeSection>, AllocError> {
+        Ok(ModeSection::from_numbers(numbers))
+    }
+
+    fn try_clone(&self, _alloc: Global) -> Result<ModeSection, AllocError> {
+        Ok(*self)
+    }
+}
+
+impl Entry for ModeSection {
+    ghost use Rattle.std.specs.Prelude.{refl};
+    ghost use Rattle.etcs_tables.specs.Rows.{mode_section};
+    ghost use Rattle.etcs_parts.specs.laws.ModeSections.{mode_section_codes, mode_section_most};
+
+    const MOST: usize = 55;
+
+    ghost MOST = { 55 };
+
+    ghost row = { mode_section };
+
+    ghost codes = { mode_section_codes };
+
+    ghost most = { λ p h. mode_section_most p };
+
+    ghost short = { refl };
+}

@@ -1,0 +1,128 @@
+//! A place at which the train reports its position.
+
+ghost use Rattle.std.specs.Prelude.{◌≡◌, ◌++◌, None, Some, IfOk, IfErr, IfSome, IfNone};
+
+use etcs_bodies::{Entry, Numbers, Part, check};
+use etcs_vars::parts::{Sink, Variables};
+use etcs_vars::{BuildFault, Var};
+use std::alloc::{AllocError, Global};
+use std::marker::Model;
+
+/// A place at which the train reports its position (packet 58; SUBSET-026, 7.4 and 7.5).
+#[derive(Clone, Copy, Debug, PartialEq, Eq)]
+pub struct ReportAt {
+    d_loc: u16,
+    q_lgtloc: bool,
+}
+
+impl Model for ReportAt {
+    ghost use Rattle.etcs_parts.specs.ReportsAt.{ReportAtParts, report_at_parts, IsReportAt};
+
+    ghost Value = { ReportAtParts };
+
+    ghost view = { λ s. report_at_parts s.d_loc s.q_lgtloc };
+
+    ghost invariant = { λ s. IsReportAt (report_at_parts s.d_loc s.q_lgtloc) };
+
+    ghost inverse = { λ s. record { d_loc = s.d_loc; q_lgtloc = s.q_lgtloc } };
+}
+
+impl ReportAt {
+    ghost use Rattle.etcs_parts.specs.ReportsAt.{report_at_parts, report_at_fault, IsReportAt, report_at_from};
+
+    /// The place `d_loc` after the one before, in steps of Q_SCALE. `q_lgtloc` tells whether the train reports when its
+    /// front reaches the place, and not its rear.
+    ///
+    /// # Errors
+    ///
+    /// `NotAdmitted(D_LOC)` where the distance is above 32,767.
+    pub fn new(d_loc: u16, q_lgtloc: bool) -> Result<ReportAt, BuildFault>
+        ensures ok { IfOk result (λ r. r ≡ report_at_parts d_loc q_lgtloc) }
+        ensures fault { IfErr result (λ e. report_at_fault (report_at_parts d_loc q_lgtloc) ≡ Some e) }
+    {
+        check(Var::D_LOC, u64::from(d_loc))?;
+        Ok(ReportAt { d_loc, q_lgtloc })
+    }
+
+    /// The distance to the place, in steps of Q_SCALE from the one before.
+    pub fn d_loc(&self) -> u16
+        ensures { result ≡ self.now.d_loc }
+    {
+        self.d_loc
+    }
+
+    /// Whether the train reports when its front reaches the place, and not its rear.
+    pub fn q_lgtloc(&self) -> bool
+        ensures { result ≡ self.now.q_lgtloc }
+    {
+        self.q_lgtloc
+    }
+
+    /// The place that the numbers begin with.
+    #[tactic(auto, unfolding(crate::specs::ReportsAt::report_at_from))]
+    fn from_numbers(numbers: &mut Numbers) -> Option<ReportAt>
+        ensures part { IfSome result (λ r. IsReportAt r) }
+        ensures from { IfSome result (λ r. report_at_from numbers.old ≡ Some (r, numbers.new)) }
+        ensures none { IfNone result (report_at_from numbers.old ≡ None) }
+    {
+        let d_loc = numbers.next(Var::D_LOC)? as u16;
+        let q_lgtloc = numbers.flag()?;
+        Some(ReportAt { d_loc, q_lgtloc })
+    }
+}
+
+impl Variables for ReportAt {
+    ghost use Rattle.etcs_parts.specs.ReportsAt.{report_at_reading};
+
+    ghost reading_of = { λ p. report_at_reading p };
+
+    #[tactic(auto, using(crate::specs::laws::ReportsAt::report_at_bits))]
+    fn bits(&self) -> usize {
+        16
+    }
+
+    fn send<S: Sink>(&self, out: &mut S) -> Result<(), AllocError> {
+        out.send(&[
+            (Var::D_LOC, u64::from(self.d_loc)),
+            (Var::Q_LGTLOC, u64::from(self.q_lgtloc)),
+        ])
+    }
+}
+
+impl Part for ReportAt {
+    ghost use Rattle.etcs_parts.specs.ReportsAt.{report_at_from, IsReportAt};
+
+    ghost read_from = { report_at_from };
+
+    ghost is_part = { λ p. IsReportAt p };
+
+    fn holds(&self) {
+        let _ = &self.d_loc;
+    }
+
+    fn take(_alloc: Global, numbers: &mut Numbers) -> Result<Option<ReportAt>, AllocError> {
+        Ok(ReportAt::from_numbers(numbers))
+    }
+
+    fn try_clone(&self, _alloc: Global) -> Result<ReportAt, AllocError> {
+        Ok(*self)
+    }
+}
+
+impl Entry for ReportAt {
+    ghost use Rattle.std.specs.Prelude.{refl};
+    ghost use Rattle.etcs_tables.specs.Rows.{report_at};
+    ghost use Rattle.etcs_parts.specs.laws.ReportsAt.{report_at_codes, report_at_most};
+
+    const MOST: usize = 16;
+
+    ghost MOST = { 16 };
+
+    ghost row = { report_at };
+
+    ghost codes = { report_at_codes };
+
+    ghost most = { λ p h. report_at_most p };
+
+    ghost short = { refl };
+}

@@ -1,7 +1,13 @@
+pub mod CarriedItems
+pub mod CarriedPackets
+pub mod CarriedSpellings
+pub mod CarriedTrees
 pub mod DigitLemmas
 pub mod MessageTrees
 pub mod OneItems
+pub mod OneStored
 pub mod OneTrees
+pub mod OwnStored
 pub mod OwnTrees
 pub mod PacketTrees
 pub mod PairLemmas

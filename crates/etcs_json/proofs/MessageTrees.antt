@@ -1,6 +1,6 @@
 -- Messages and their trees.
 use Rattle.std.proofs.Common.{◌≡◌, ℕ, ◌+◌, ◌-◌, ◌*◌, ◌/◌, ◌^◌, ◌≤◌, ◌<◌, Bool, List, [], ◌∷◌, ◌++◌, length, map, Option, None, Some, refl, sym, ap, subst, ◌∙◌, arith}
-use Rattle.std.specs.Prelude.{All, IsTrue, codes}
+use Rattle.std.specs.Prelude.{All, IfSome, IsTrue, codes}
 use Rattle.serde_json.specs.Data.{Data, array, string, Items}
 use Rattle.etcs_bits.specs.Bits.{bit, num}
 use Rattle.etcs_vars.specs.declared.var.Var.{Var}
@@ -32,9 +32,10 @@ use Rattle.etcs_radio.proofs.Faults.{no_typed_fault, no_kept_fault}
 use Rattle.etcs_radio.proofs.OneReading.{message_reads}
 use Rattle.etcs_telegram.specs.declared.size.Size.{Size}
 use Rattle.etcs_telegram.specs.declared.size.Size.TheVariants.{Short, Long}
-use Rattle.etcs_text.specs.Entries.{EntryValue, of_telegram, of_message, EntryReads, kind_of}
+use Rattle.etcs_text.specs.Entries.{EntryValue, of_telegram, of_message, kind_of}
 use Rattle.etcs_text.specs.declared.entry.Kind.TheVariants as kind
 use Rattle.etcs_text.specs.Trees.{bits_tree}
+use Rattle.etcs_json.specs.Loose.{HasStandIns, IsLoose, unnamed, unnamed_message}
 use Rattle.etcs_json.specs.TreeReading.{ArePairTrees, ArePacketTrees, IsMessageTree, IsTreeOf, message_tree, kept_message_tree, plain}
 
 -- ---- A message that is kept.
@@ -119,6 +120,14 @@ typed_message_says (typed_message nid head body vs padding) x y z w u v (fs, hs,
 }
 typed_message_says (kept_message nid b) x y z w u v e = absurd cc
 
+-- a message of such parts
+pub typed_message_some : (x y w u v : Data) (o : Option Content) (nid of_body : ℕ) (head : RadioHead) (body : Reading) (us : List PacketValue) (padding : List Bool) → of_body ≡ nid → w ≡ plain nid → ((fs : Items) × (x ≡ array fs) × ArePairTrees body fs) → ((hs : Items) × (y ≡ array hs) × IsAdmitted (run_of_head head) × ArePairTrees (run_of_head head) hs) → ((vs : List PacketValue) × (ds : Items) × (us ≡ map unnamed vs) × (u ≡ array ds) × ArePacketTrees vs ds) → v ≡ bits_tree padding → IfSome o (λ m. message_value m ≡ typed_message of_body head body us padding)
+    → IfSome o (λ m. (n : MessageValue) × (message_value m ≡ unnamed_message n) × IsMessageTree n (message_tree x y (string (codes "radio")) w u v))
+typed_message_some x y w u v None nid of_body head body us padding own number fields header list padded is = tt
+typed_message_some x y w u v (Some m) nid of_body head body us padding own number (fs, fields, ft) (hs, header, admitted, ht) (vs, ds, named, list, pt) padded is =
+    let same : message_value m ≡ unnamed_message (typed_message nid head body vs padding) = is ∙ rw (own, named) refl in
+    (typed_message nid head body vs padding, same, (fs, hs, ds, rw (fields, header, number, list, padded) refl, ft, ht, pt))
+
 pub record KeptSays (m : MessageValue) (x y z : Data) : Type 0 where
   pub nid : ℕ
   pub bits : List Bool
@@ -185,6 +194,10 @@ no_size : (s : Size) → kind_of s ≡ kind.Radio → ⊥
 no_size Short e = absurd cc
 no_size Long e = absurd cc
 
-pub message_only : (e : EntryValue) (r : Reading) (d : Data) → ((m : MessageValue) (q : Reading) → MessageReads m q → IsMessageTree m d → ⊥) → EntryReads kind.Radio e r → IsTreeOf e d → ⊥
-message_only (of_telegram t) r d wrong (k, reads) tree = no_size t.size k
-message_only (of_message m) r d wrong (k, reads) tree = wrong m r reads tree
+pub message_only : (e : EntryValue) (d : Data) → ((m : MessageValue) (q : Reading) → MessageReads (unnamed_message m) q → IsMessageTree m d → ⊥) → IsLoose kind.Radio e → IsTreeOf e d → ⊥
+message_only (of_telegram t) d wrong (r, (k, reads)) tree = no_size t.size k
+message_only (of_message m) d wrong (r, (k, reads)) tree = wrong m r reads tree
+
+pub message_stands : (m : MessageValue) (d : Data) → ((r : Reading) × MessageReads m r) → ((u : MessageValue) × (m ≡ unnamed_message u) × IsMessageTree u d) → HasStandIns kind.Radio d (of_message m)
+message_stands m d (r, reads) (u, is, tree) =
+    (of_message u, ap of_message is, (r, (refl, subst (λ (x : MessageValue). MessageReads x r) is reads)), tree)

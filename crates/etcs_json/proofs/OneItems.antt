@@ -23,21 +23,22 @@ use Rattle.etcs_telegram.proofs.HeaderLemmas.{admitted_fit, header_same}
 use Rattle.etcs_telegram.proofs.Spellings.{header_agree}
 use Rattle.etcs_text.specs.declared.entry.Kind.{Kind}
 use Rattle.etcs_text.specs.declared.entry.Kind.TheVariants as kind
-use Rattle.etcs_text.specs.Entries.{EntryValue, of_telegram, of_message, EntryReads, kind_of}
+use Rattle.etcs_text.specs.Entries.{EntryValue, of_telegram, of_message, kind_of}
 use Rattle.etcs_text.specs.Trees.{bits_tree, pair_tree, packet_tree, json_tree}
+use Rattle.etcs_json.specs.Loose.{IsLoose, unnamed, unnamed_telegram, unnamed_message}
 use Rattle.etcs_json.specs.TreeReading.{IsTelegramTree, IsMessageTree, IsTreeOf}
 use Rattle.etcs_json.proofs.OneTrees.{bits_same, packets_same, pairs_same, row_same}
 use Rattle.etcs_json.proofs.OwnTrees.{packets_own, pairs_own}
 
 -- ---- Telegrams.
 
-kind_same : (s z : Size) → kind_of s ≡ kind_of z → s ≡ z
+pub kind_same : (s z : Size) → kind_of s ≡ kind_of z → s ≡ z
 kind_same size.Long size.Long e = refl
 kind_same size.Short size.Short e = refl
 kind_same size.Long size.Short e = absurd cc
 kind_same size.Short size.Long e = absurd cc
 
-telegram_same : (t u : TelegramValue) (d : Data) (r q : Reading) → TelegramReads t r → TelegramReads u q → t.size ≡ u.size → IsTelegramTree t d → IsTelegramTree u d → t ≡ u
+telegram_same : (t u : TelegramValue) (d : Data) (r q : Reading) → TelegramReads (unnamed_telegram t) r → TelegramReads (unnamed_telegram u) q → t.size ≡ u.size → IsTelegramTree t d → IsTelegramTree u d → t ≡ u
 telegram_same t u d r q x y sized (hs, ps, is, head, packets) (hs', ps', is', head', packets') =
     let heads : hs' ≡ hs = cc in
     let lists : ps' ≡ ps = cc in
@@ -67,7 +68,7 @@ run_fit nid len h f = f.1.1
 carried : (vs : List PacketValue) → All (Carries (carrier.Message ToTrain)) vs → All IsPacket vs
 carried vs h = All-weaker (Carries (carrier.Message ToTrain)) IsPacket (λ v c. c.0) vs h
 
-message_same : (m n : MessageValue) (d : Data) (r q : Reading) → MessageReads m r → MessageReads n q → IsMessageTree m d → IsMessageTree n d → m ≡ n
+message_same : (m n : MessageValue) (d : Data) (r q : Reading) → MessageReads (unnamed_message m) r → MessageReads (unnamed_message n) q → IsMessageTree m d → IsMessageTree n d → m ≡ n
 message_same (typed_message nid head body vs padding) (typed_message nid' head' body' vs' padding') d r q x y (fs, hs, ps, is, fields, header, packets) (fs', hs', ps', is', fields', header', packets') =
     let number : nid' ≡ nid = cc in
     let bodies : fs' ≡ fs = cc in
@@ -80,7 +81,7 @@ message_same (typed_message nid head body vs padding) (typed_message nid' head' 
     let fit' = run_fit nid' y.len head' (head_fit (head_reading nid' y.len head') y.head_admitted) in
     let run = pairs_same (run_of_head head) (run_of_head head') hs (refl, λ _. (refl, λ _. (refl, λ _. tt))) fit fit' header (rw heads at header') in
     let same = head_same head head' run in
-    let list = packets_same vs vs' ps (carried vs x.run.carried) (carried vs' y.run.carried) packets (rw lists at packets') in
+    let list = packets_same vs vs' ps (carried (map unnamed vs) x.run.carried) (carried (map unnamed vs') y.run.carried) packets (rw lists at packets') in
     let last = bits_same padding' padding ends in
     λ i. typed_message (sym number i) (same i) (one i) (list i) (sym last i)
 message_same (typed_message nid head body vs padding) (kept_message nid' b) d r q x y (fs, hs, ps, is, fields, header, packets) is' = absurd cc
@@ -93,15 +94,16 @@ message_same (kept_message nid b) (kept_message nid' c) d r q x y is is' =
 
 -- ---- Items.
 
-telegram_radio : (s : Size) → kind_of s ≡ kind.Radio → ⊥
+pub telegram_radio : (s : Size) → kind_of s ≡ kind.Radio → ⊥
 telegram_radio size.Long e = cc
 telegram_radio size.Short e = cc
 
-pub one_tree : (kind : Kind) (d : Data) (e e' : EntryValue) (r r' : Reading) → EntryReads kind e r → EntryReads kind e' r' → IsTreeOf e d → IsTreeOf e' d → e ≡ e'
-one_tree kind d (of_telegram t) (of_telegram u) r r' (is, x) (is', y) h k = ap of_telegram (telegram_same t u d r r' x y (kind_same t.size u.size (is ∙ sym is')) h k)
-one_tree kind d (of_telegram t) (of_message m) r r' (is, x) (is', y) h k = absurd (telegram_radio t.size (is ∙ sym is'))
-one_tree kind d (of_message m) (of_telegram t) r r' (is, x) (is', y) h k = absurd (telegram_radio t.size (is' ∙ sym is))
-one_tree kind d (of_message m) (of_message n) r r' (is, x) (is', y) h k = ap of_message (message_same m n d r r' x y h k)
+-- items of one kind with one tree are one, also where packets in them that are typed by now are kept
+pub one_loose : (kind : Kind) (d : Data) (o o' : EntryValue) → IsLoose kind o → IsLoose kind o' → IsTreeOf o d → IsTreeOf o' d → o ≡ o'
+one_loose kind d (of_telegram t) (of_telegram u) (r, (is, x)) (r', (is', y)) h k = ap of_telegram (telegram_same t u d r r' x y (kind_same t.size u.size (is ∙ sym is')) h k)
+one_loose kind d (of_telegram t) (of_message m) (r, (is, x)) (r', (is', y)) h k = absurd (telegram_radio t.size (is ∙ sym is'))
+one_loose kind d (of_message m) (of_telegram t) (r, (is, x)) (r', (is', y)) h k = absurd (telegram_radio t.size (is' ∙ sym is))
+one_loose kind d (of_message m) (of_message n) (r, (is, x)) (r', (is', y)) h k = ap of_message (message_same m n d r r' x y h k)
 
 message_own : (m : MessageValue) → IsMessageTree m (json_tree (of_message m))
 message_own (typed_message nid head body vs padding) =

@@ -1,5 +1,5 @@
--- A tree is that of one item alone.
-use Rattle.std.proofs.Common.{◌≡◌, ℕ, zero, suc, ◌+◌, ◌/◌, ◌%◌, ◌^◌, ◌<◌, Bool, true, false, List, [], ◌∷◌, ◌++◌, map, Some, refl, sym, ap, ap₂, subst, ◌∙◌, arith, inl, inr, ◌==◌}
+-- A tree is that of one item alone, also where a packet that is typed by now is kept in it.
+use Rattle.std.proofs.Common.{◌≡◌, ℕ, ◌+◌, ◌^◌, ◌<◌, Bool, List, [], ◌∷◌, map, Some, refl, sym, ap, ap₂, subst, ◌∙◌, arith, inl, inr}
 use Rattle.std.specs.Prelude.{◌⊎◌, ◌≤◌, All}
 use Rattle.std.proofs.lemmas.Bool.{cases_lt, le-ltb, lt-ltb}
 use Rattle.std.proofs.lemmas.List.Elements.{All-head, All-tail}
@@ -15,9 +15,10 @@ use Rattle.etcs_tables.specs.Layouts.{Layout, Reads}
 use Rattle.etcs_tables.specs.Typed.{IsFramed}
 use Rattle.etcs_rows.specs.laws.OneReading.{Reads-agree, Reads-fit}
 use Rattle.etcs_packets.specs.PacketValues.{PacketValue, marker, typed, kept, IsPacket}
-use Rattle.etcs_text.specs.Show.{hex_digit, hex_digits, bit_digit}
+use Rattle.etcs_text.specs.Show.{hex_digit, bit_digit}
 use Rattle.etcs_text.specs.Trees.{bits_tree}
 use Rattle.etcs_json.proofs.DigitLemmas.{one_bits, one_hex}
+use Rattle.etcs_json.specs.Loose.{unnamed}
 use Rattle.etcs_json.specs.TreeReading.{SaysNumber, IsPairTree, ArePairTrees, IsPacketTree, ArePacketTrees}
 
 -- ---- Numbers.
@@ -74,7 +75,7 @@ first_number : Reading → ℕ
 first_number [] = 0
 first_number (p ∷ r) = p.1
 
-packet_same : (v w : PacketValue) (d : Data) → IsPacket v → IsPacket w → IsPacketTree v d → IsPacketTree w d → v ≡ w
+packet_same : (v w : PacketValue) (d : Data) → IsPacket (unnamed v) → IsPacket (unnamed w) → IsPacketTree v d → IsPacketTree w d → v ≡ w
 unfolding first_number
 packet_same (marker n) (marker m) d h k (ps, is, x) (qs, is', y) =
     let same : qs ≡ ps = cc in
@@ -97,7 +98,7 @@ packet_same (kept nid dir b) (kept nid' dir' c) d h k is is' =
     let to : dir' ≡ dir = cc in
     rw (number, to, bits_same c b bits) refl
 
-pub packets_same : (vs ws : List PacketValue) (ds : Items) → All IsPacket vs → All IsPacket ws → ArePacketTrees vs ds → ArePacketTrees ws ds → vs ≡ ws
+pub packets_same : (vs ws : List PacketValue) (ds : Items) → All IsPacket (map unnamed vs) → All IsPacket (map unnamed ws) → ArePacketTrees vs ds → ArePacketTrees ws ds → vs ≡ ws
 packets_same [] [] ds h k x y = refl
 packets_same [] (w ∷ ws) no_items h k x y = absurd y
 packets_same [] (w ∷ ws) (item d ds) h k x y = absurd x
@@ -105,5 +106,5 @@ packets_same (v ∷ vs) [] no_items h k x y = absurd x
 packets_same (v ∷ vs) [] (item d ds) h k x y = absurd y
 packets_same (v ∷ vs) (w ∷ ws) no_items h k x y = absurd x
 packets_same (v ∷ vs) (w ∷ ws) (item d ds) h k x y =
-    let first = packet_same v w d (All-head IsPacket v vs h) (All-head IsPacket w ws k) x.0 y.0 in
-    ap₂ (λ (p : PacketValue) (ps : List PacketValue). p ∷ ps) first (packets_same vs ws ds (All-tail IsPacket v vs h) (All-tail IsPacket w ws k) x.1 y.1)
+    let first = packet_same v w d (All-head IsPacket (unnamed v) (map unnamed vs) h) (All-head IsPacket (unnamed w) (map unnamed ws) k) x.0 y.0 in
+    ap₂ (λ (p : PacketValue) (ps : List PacketValue). p ∷ ps) first (packets_same vs ws ds (All-tail IsPacket (unnamed v) (map unnamed vs) h) (All-tail IsPacket (unnamed w) (map unnamed ws) k) x.1 y.1)

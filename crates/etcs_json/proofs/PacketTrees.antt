@@ -1,7 +1,9 @@
 -- Packets and their trees.
-use Rattle.std.proofs.Common.{◌≡◌, ℕ, ◌+◌, ◌^◌, ◌<◌, ◌≤◌, Bool, true, false, List, [], ◌∷◌, ◌++◌, length, get_or, drop, Option, Some, None, Result, Ok, Err, map, refl, sym, ap, subst, ◌∙◌, arith, append_assoc, append-nil}
+use Rattle.std.proofs.Common.{◌≡◌, ℕ, ◌+◌, ◌^◌, ◌<◌, ◌≤◌, ◌==◌, Bool, true, false, List, [], ◌∷◌, ◌++◌, length, get_or, drop, Option, Some, None, Result, Ok, Err, map, inl, inr, refl, sym, ap, subst, ◌∙◌, arith, append_assoc, append-nil}
 use Rattle.std.specs.Prelude.{All, IsTrue, IfOk, IfSome, option_map, codes}
 use Rattle.std.proofs.Math.Nat.{pow-le-pow_right}
+use Rattle.std.proofs.lemmas.Bool.{cases_lt, ne_eqb}
+use Rattle.std.proofs.lemmas.List.{map_push}
 use Rattle.std.proofs.lemmas.List.Elements.{All-nil, All-cons, All-head, All-tail, All-push}
 use Rattle.serde_json.specs.Data.{Data, null, boolean, number, unsigned, string, array, object, Items, no_items, item, Members, member, no_members}
 use Rattle.etcs_vars.specs.declared.var.Var.{Var}
@@ -20,6 +22,7 @@ use Rattle.etcs_packets.specs.PacketValues.{PacketValue, packet_value, marker, t
 use Rattle.etcs_sequence.specs.laws.Typed.{typed_number}
 use Rattle.etcs_sequence.specs.laws.Others.{kept_parts, kept_number, kept_untyped}
 use Rattle.etcs_text.specs.Trees.{bits_tree}
+use Rattle.etcs_json.specs.Loose.{stand_in, unnamed}
 use Rattle.etcs_json.specs.TreeReading.{ArePairTrees, IsPacketTree, ArePacketTrees, marker_tree, typed_tree, kept_tree, plain}
 
 -- ---- Typed packets.
@@ -85,12 +88,21 @@ typed_small nid dir r (row, e, directed, reads, short) =
     let d = (admits_parts Q_DIR dir directed).1 in
     (omega (arith, n.1), omega (arith, d))
 
-pub kept_small : (nid dir : ℕ) (b : List Bool) → IsPacket (kept nid dir b) → (nid < 256) × (dir < 256)
+small_stand_in : (nid : ℕ) → stand_in nid < 256 → nid < 256
+small_stand_in nid h = elim (cases_lt nid 256) [
+  | inl small ↦ small
+  | inr big ↦
+      let differs : (n : ℕ) → n < 256 → (nid == n) ≡ false = λ n small. ne_eqb nid n (λ e. omega (arith, e, big, small)) in
+      let same : stand_in nid ≡ nid = rw (differs 49 (omega arith), differs 57 (omega arith), differs 58 (omega arith), differs 63 (omega arith), differs 68 (omega arith), differs 80 (omega arith), differs 131 (omega arith)) refl in
+      absurd (omega (arith, same, h, big))
+]
+
+pub kept_small : (nid dir : ℕ) (b : List Bool) → IsPacket (unnamed (kept nid dir b)) → (nid < 256) × (dir < 256)
 kept_small nid dir b h =
-    let k = kept_parts ToTrain nid dir (length b) h in
-    let n = kept_number nid k.0 in
+    let k = kept_parts ToTrain (stand_in nid) dir (length b) h in
+    let n = kept_number (stand_in nid) k.0 in
     let d = (admits_parts Q_DIR dir k.1).1 in
-    (omega (arith, n.1), omega (arith, d))
+    (small_stand_in nid (omega (arith, n.1)), omega (arith, d))
 
 -- what a tree with these members says
 pub record TypedSays (v : PacketValue) (x y z : Data) : Type 0 where
@@ -146,53 +158,62 @@ marker_says (marker n) x y (ps, e, t) = record { number = n; pairs = ps; is = re
 marker_says (typed nid dir r) x y (ps, e, t) = absurd cc
 marker_says (kept nid dir b) x y e = absurd cc
 
--- ---- Packets one behind the other.
+-- ---- Packets one after another.
 
--- packets of these trees are those of the rest behind the packets vs
-pub record Listed (ds : Items) (vs : List PacketValue) (es : Items) : Type 0 where
-  pub on : (ws : List PacketValue) → ArePacketTrees ws es → ArePacketTrees (vs ++ ws) ds
-  pub back : (us : List PacketValue) → All IsPacket us → ArePacketTrees us ds → (ws : List PacketValue) × (us ≡ vs ++ ws) × All IsPacket ws × ArePacketTrees ws es
+-- us are packets of these trees with stand-ins, and those of the trees es come after them
+pub record Listed (ds : Items) (us : List PacketValue) (es : Items) : Type 0 where
+  pub named : List PacketValue
+  pub is : us ≡ map unnamed named
+  pub on : (ws : List PacketValue) → ArePacketTrees ws es → ArePacketTrees (named ++ ws) ds
+  pub back : (gs : List PacketValue) → All IsPacket (map unnamed gs) → ArePacketTrees gs ds → (ws : List PacketValue) × (map unnamed gs ≡ us ++ map unnamed ws) × All IsPacket (map unnamed ws) × ArePacketTrees ws es
 
 pub none_listed : (ds : Items) → Listed ds [] ds
-none_listed ds = record { on = λ ws t. t; back = λ us a t. (us, refl, a, t) }
+none_listed ds = record { named = []; is = refl; on = λ ws t. t; back = λ gs a t. (gs, refl, a, t) }
 
-first_tree : (ws : List PacketValue) (d : Data) (es : Items) → All IsPacket ws → ArePacketTrees ws (item d es) → (w : PacketValue) × (ws' : List PacketValue) × (ws ≡ w ∷ ws') × IsPacket w × All IsPacket ws' × IsPacketTree w d × ArePacketTrees ws' es
+first_tree : (ws : List PacketValue) (d : Data) (es : Items) → All IsPacket (map unnamed ws) → ArePacketTrees ws (item d es) → (w : PacketValue) × (ws' : List PacketValue) × (ws ≡ w ∷ ws') × IsPacket (unnamed w) × All IsPacket (map unnamed ws') × IsPacketTree w d × ArePacketTrees ws' es
 first_tree [] d es a t = elim t [ ]
-first_tree (w ∷ ws) d es a t = (w, ws, refl, All-head IsPacket w ws a, All-tail IsPacket w ws a, t.0, t.1)
+first_tree (w ∷ ws) d es a t = (w, ws, refl, All-head IsPacket (unnamed w) (map unnamed ws) a, All-tail IsPacket (unnamed w) (map unnamed ws) a, t.0, t.1)
 
-pub next_listed : (ds : Items) (vs us : List PacketValue) (v : PacketValue) (d : Data) (es fs : Items) → Listed ds vs fs → fs ≡ item d es → IsPacketTree v d → ((w : PacketValue) → IsPacket w → IsPacketTree w d → Some v ≡ Some w) → us ≡ vs ++ v ∷ [] → Listed ds us es
-next_listed ds vs us v d es fs l e tree only new = record {
+pub next_listed : (ds : Items) (us new : List PacketValue) (u : PacketValue) (d : Data) (es fs : Items) → Listed ds us fs → fs ≡ item d es → ((v : PacketValue) × (u ≡ unnamed v) × IsPacketTree v d) → ((w : PacketValue) → IsPacket (unnamed w) → IsPacketTree w d → Some u ≡ Some (unnamed w)) → new ≡ us ++ u ∷ [] → Listed ds new es
+next_listed ds us new u d es fs l e (v, named, tree) only is = record {
+  named = l.named ++ v ∷ [];
+  is =
+      is ∙ ap (λ (x : List PacketValue). x ++ u ∷ []) l.is ∙ ap (λ (x : PacketValue). map unnamed l.named ++ x ∷ []) named ∙ sym (map_push unnamed l.named v);
   on = λ ws t. (
-      let all : ArePacketTrees (vs ++ v ∷ ws) ds = l.on (v ∷ ws) (subst (λ (x : Items). ArePacketTrees (v ∷ ws) x) (sym e) (tree, t)) in
-      let same : vs ++ v ∷ ws ≡ us ++ ws = sym (ap (λ (x : List PacketValue). x ++ ws) new ∙ append_assoc vs (v ∷ []) ws) in
-      subst (λ (x : List PacketValue). ArePacketTrees x ds) same all);
+      let all : ArePacketTrees (l.named ++ v ∷ ws) ds = l.on (v ∷ ws) (subst (λ (x : Items). ArePacketTrees (v ∷ ws) x) (sym e) (tree, t)) in
+      subst (λ (x : List PacketValue). ArePacketTrees x ds) (sym (append_assoc l.named (v ∷ []) ws)) all);
   back = λ gs a t. (
-      let (ws, is, a', t') = l.back gs a t in
-      let (w, ws', cons, packet, rest, first, behind) = first_tree ws d es a' (subst (λ (x : Items). ArePacketTrees ws x) e t') in
+      let (ws, begun, a', t') = l.back gs a t in
+      let (w, ws', cons, packet, rest, first, more) = first_tree ws d es a' (subst (λ (x : Items). ArePacketTrees ws x) e t') in
       let two = only w packet first in
-      let same : w ≡ v = cc in
-      let all : gs ≡ us ++ ws' = is ∙ ap (λ (x : List PacketValue). vs ++ x) (cons ∙ ap (λ (x : PacketValue). x ∷ ws') same) ∙ sym (ap (λ (x : List PacketValue). x ++ ws') new ∙ append_assoc vs (v ∷ []) ws') in
-      (ws', all, rest, behind));
+      let same : unnamed w ≡ u = cc in
+      let all : map unnamed gs ≡ new ++ map unnamed ws' =
+      begun ∙ ap (λ (x : List PacketValue). us ++ map unnamed x) cons ∙ ap (λ (x : PacketValue). us ++ x ∷ map unnamed ws') same ∙ sym (ap (λ (x : List PacketValue). x ++ map unnamed ws') is ∙ append_assoc us (u ∷ []) (map unnamed ws')) in
+      (ws', all, rest, more));
 }
 
-pub wrong_listed : (ds : Items) (vs us : List PacketValue) (d : Data) (es fs : Items) → Listed ds vs fs → fs ≡ item d es → ((w : PacketValue) → IsPacket w → IsPacketTree w d → ⊥) → All IsPacket us → ArePacketTrees us ds → ⊥
-wrong_listed ds vs us d es fs l e wrong a t =
-    let (ws, is, a', t') = l.back us a t in
-    let (w, ws', cons, packet, rest, first, behind) = first_tree ws d es a' (subst (λ (x : Items). ArePacketTrees ws x) e t') in
+pub wrong_listed : (ds : Items) (us gs : List PacketValue) (d : Data) (es fs : Items) → Listed ds us fs → fs ≡ item d es → ((w : PacketValue) → IsPacket (unnamed w) → IsPacketTree w d → ⊥) → All IsPacket (map unnamed gs) → ArePacketTrees gs ds → ⊥
+wrong_listed ds us gs d es fs l e wrong a t =
+    let (ws, begun, a', t') = l.back gs a t in
+    let (w, ws', cons, packet, rest, first, more) = first_tree ws d es a' (subst (λ (x : Items). ArePacketTrees ws x) e t') in
     wrong w packet first
 
 no_trees : (ws : List PacketValue) → ArePacketTrees ws no_items → ws ≡ []
 no_trees [] t = refl
 no_trees (w ∷ ws) t = elim t [ ]
 
-pub all_listed : (ds : Items) (vs : List PacketValue) (fs : Items) → Listed ds vs fs → fs ≡ no_items → ArePacketTrees vs ds
-all_listed ds vs fs l e = subst (λ (x : List PacketValue). ArePacketTrees x ds) (append-nil vs) (l.on [] (subst (λ (x : Items). ArePacketTrees [] x) (sym e) tt))
+pub all_listed : (ds : Items) (us : List PacketValue) (fs : Items) → Listed ds us fs → fs ≡ no_items → (vs : List PacketValue) × (us ≡ map unnamed vs) × ArePacketTrees vs ds
+all_listed ds us fs l e = (
+  l.named,
+  l.is,
+  subst (λ (x : List PacketValue). ArePacketTrees x ds) (append-nil l.named) (l.on [] (subst (λ (x : Items). ArePacketTrees [] x) (sym e) tt)),
+)
 
-pub only_listed : (ds : Items) (vs us : List PacketValue) (fs : Items) → Listed ds vs fs → fs ≡ no_items → All IsPacket us → ArePacketTrees us ds → vs ≡ us
-only_listed ds vs us fs l e a t =
-    let (ws, is, a', t') = l.back us a t in
+pub only_listed : (ds : Items) (us gs : List PacketValue) (fs : Items) → Listed ds us fs → fs ≡ no_items → All IsPacket (map unnamed gs) → ArePacketTrees gs ds → us ≡ map unnamed gs
+only_listed ds us gs fs l e a t =
+    let (ws, begun, a', t') = l.back gs a t in
     let none = no_trees ws (subst (λ (x : Items). ArePacketTrees ws x) e t') in
-    sym (is ∙ ap (λ (x : List PacketValue). vs ++ x) none ∙ append-nil vs)
+    sym (begun ∙ ap (λ (x : List PacketValue). us ++ map unnamed x) none ∙ append-nil us)
 
 -- ---- Packets of their members.
 
@@ -216,22 +237,10 @@ typed_tree_only x y z nid dir E (Ok o) dx nz only = λ v packet tree.
     let v_is : v ≡ typed nid dir s.reading = s.is ∙ rw (d, n) refl in
     only s.reading s.pairs (subst IsPacket v_is packet) s.fields_is s.trees ∙ ap Some (sym v_is))
 
-pub kept_tree_some : (x y z : Data) (nid dir : ℕ) (b : List Bool) (v : PacketValue) → x ≡ bits_tree b → y ≡ plain dir → z ≡ plain nid → v ≡ kept nid dir b → IsPacketTree v (kept_tree x y z)
-kept_tree_some x y z nid dir b v bx dy nz is =
-    let tree : kept_tree x y z ≡ kept_tree (bits_tree b) (plain dir) (plain nid) = rw (bx, dy, nz) refl in
-    subst (λ (w : PacketValue). IsPacketTree w (kept_tree x y z)) (sym is) tree
-
-pub kept_tree_only : (x y z : Data) (nid dir : ℕ) (b : List Bool) (o : Option PacketValue) (v : PacketValue) → y ≡ plain dir → z ≡ plain nid → ((k : List Bool) → x ≡ bits_tree k → Some b ≡ Some k) → (IsPacket (kept nid dir b) → o ≡ Some (kept nid dir b)) → IsPacket v → IsPacketTree v (kept_tree x y z) → o ≡ Some v
-kept_tree_only x y z nid dir b o v dy nz bits only packet tree =
-    let s = kept_says v x y z tree in
-    let d2 : plain dir ≡ plain s.dir = sym dy ∙ s.dir_is in
-    let n2 : plain nid ≡ plain s.nid = sym nz ∙ s.nid_is in
-    let b2 = bits s.bits s.data_is in
-    let d : s.dir ≡ dir = cc in
-    let n : s.nid ≡ nid = cc in
-    let k : s.bits ≡ b = cc in
-    let v_is : v ≡ kept nid dir b = s.is ∙ rw (d, n, k) refl in
-    only (subst IsPacket v_is packet) ∙ ap Some (sym v_is)
+pub kept_tree_some : (x y z : Data) (nid dir n : ℕ) (b : List Bool) (o : Option Packet) → x ≡ bits_tree b → y ≡ plain dir → z ≡ plain nid → n ≡ stand_in nid → IfSome o (λ p. packet_value p ≡ kept n dir b)
+    → IfSome o (λ p. (v : PacketValue) × (packet_value p ≡ unnamed v) × IsPacketTree v (kept_tree x y z))
+kept_tree_some x y z nid dir n b None bx dy nz stands is = tt
+kept_tree_some x y z nid dir n b (Some p) bx dy nz stands is = (kept nid dir b, is ∙ ap (λ (m : ℕ). kept m dir b) stands, rw (bx, dy, nz) refl)
 
 -- ---- The marker.
 

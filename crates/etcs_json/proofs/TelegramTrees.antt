@@ -16,10 +16,11 @@ use Rattle.etcs_telegram.specs.Telegrams.{HeaderParts, IsAdmitted, TelegramReads
 use Rattle.etcs_telegram.proofs.HeaderLemmas.{header_length, header_back}
 use Rattle.etcs_telegram.proofs.Rows.{row_header, admitted_row, header_reads}
 use Rattle.etcs_radio.proofs.Fronts.{as_row, row_fields, fields_row}
-use Rattle.etcs_text.specs.Entries.{EntryValue, of_telegram, of_message, EntryReads, kind_of}
+use Rattle.etcs_text.specs.Entries.{EntryValue, of_telegram, of_message, kind_of}
 use Rattle.etcs_text.specs.declared.entry.Kind.TheVariants as kind
 use Rattle.etcs_text.specs.Show.{kind_word}
 use Rattle.etcs_text.specs.Trees.{bits_tree}
+use Rattle.etcs_json.specs.Loose.{HasStandIns, IsLoose, unnamed, unnamed_telegram}
 use Rattle.etcs_json.specs.TreeReading.{ArePairTrees, ArePacketTrees, IsTelegramTree, IsTreeOf, telegram_tree}
 use Rattle.etcs_json.proofs.PacketTrees.{SaysNumbers, OnlyNumbers}
 
@@ -113,9 +114,23 @@ no_radio : (s : Size) → kind.Radio ≡ kind_of s → ⊥
 no_radio Short e = absurd cc
 no_radio Long e = absurd cc
 
-pub telegram_only : (size : Size) (e : EntryValue) (r : Reading) (d : Data) → ((t : TelegramValue) (q : Reading) → t.size ≡ size → TelegramReads t q → IsTelegramTree t d → ⊥) → EntryReads (kind_of size) e r → IsTreeOf e d → ⊥
-telegram_only size (of_telegram t) r d wrong (k, reads) tree = wrong t r (same_kind t.size size k) reads tree
-telegram_only size (of_message m) r d wrong (k, reads) tree = no_radio size k
+pub telegram_only : (size : Size) (e : EntryValue) (d : Data) → ((t : TelegramValue) (q : Reading) → t.size ≡ size → TelegramReads (unnamed_telegram t) q → IsTelegramTree t d → ⊥) → IsLoose (kind_of size) e → IsTreeOf e d → ⊥
+telegram_only size (of_telegram t) d wrong (r, (k, reads)) tree = wrong t r (same_kind t.size size k) reads tree
+telegram_only size (of_message m) d wrong (r, (k, reads)) tree = no_radio size k
+
+pub telegram_stands : (size : Size) (t : TelegramValue) (d : Data) → t.size ≡ size → ((r : Reading) × TelegramReads t r) → ((u : TelegramValue) × (t ≡ unnamed_telegram u) × IsTelegramTree u d) → HasStandIns (kind_of size) d (of_telegram t)
+telegram_stands size t d sized (r, reads) (u, is, tree) =
+    let kinded : kind_of u.size ≡ kind_of size = ap (λ (x : TelegramValue). kind_of x.size) (sym is) ∙ ap kind_of sized in
+    (of_telegram u, ap of_telegram is, (r, (kinded, subst (λ (x : TelegramValue). TelegramReads x r) is reads)), tree)
+
+-- a telegram of such parts
+pub telegram_some : (x y w : Data) (o : Option TelegramParts) (size : Size) (h : HeaderParts) (us : List PacketValue) (fill : List Bool) → x ≡ bits_tree fill → ((hs : Items) × (y ≡ array hs) × IsAdmitted (header_reading h) × ArePairTrees (header_reading h) hs) → ((vs : List PacketValue) × (ds : Items) × (us ≡ map unnamed vs) × (w ≡ array ds) × ArePacketTrees vs ds) → IfSome o (λ t. telegram_value t ≡ record { size = size; header = h; packets = us; fill = fill })
+    → IfSome o (λ t. (u : TelegramValue) × (telegram_value t ≡ unnamed_telegram u) × IsTelegramTree u (telegram_tree x y (string (kind_word size)) w))
+telegram_some x y w None size h us fill filled headed listed is = tt
+telegram_some x y w (Some t) size h us fill filled (hs, headed, admitted, header) (vs, ds, named, listed, packets) is =
+    let u : TelegramValue = record { size = size; header = h; packets = vs; fill = fill } in
+    let same : telegram_value t ≡ unnamed_telegram u = is ∙ (λ i. record { size = size; header = h; packets = named i; fill = fill }) in
+    (u, same, (hs, ds, rw (filled, headed, listed) refl, header, packets))
 
 -- what a tree with these members says
 pub record TelegramSays (t : TelegramValue) (x y z w : Data) : Type 0 where

@@ -1,8 +1,9 @@
 -- What is said of a fault.
 use Rattle.std.specs.Prelude.{ℕ, List, codes}
 use Rattle.etcs_json.specs.declared.fault.JsonFault.{JsonFault}
-use Rattle.etcs_json.specs.declared.fault.JsonFault.TheVariants.{Shape, Memory}
+use Rattle.etcs_json.specs.declared.fault.JsonFault.TheVariants.{Shape, Refused, Memory}
 
 abbrev pub json_fault_text : JsonFault → List ℕ
 json_fault_text Shape = codes "not the tree of an item"
+json_fault_text (Refused bit var) = codes "the bits of no item"
 json_fault_text Memory = codes "memory was refused"

@@ -1,5 +1,6 @@
 pub mod Digits
 pub mod FaultTexts
 pub mod JsonLines
+pub mod Loose
 pub mod TreeParts
 pub mod TreeReading

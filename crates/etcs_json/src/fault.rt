@@ -2,6 +2,7 @@
 
 ghost use Rattle.std.specs.Prelude.{◌≡◌, Some};
 
+use etcs_vars::Var;
 use std::error::Error;
 use std::fmt;
 
@@ -10,6 +11,9 @@ use std::fmt;
 pub enum JsonFault {
     /// It isn't the tree of an item of the kind.
     Shape,
+    /// It is a tree that was stored when fewer packets were typed, and its bits are no item's: `bit` is the first with
+    /// which no item continues, counted from 0, and `var` the variable that holds it.
+    Refused { bit: usize, var: Var },
     /// Memory was refused.
     Memory,
 }
@@ -22,6 +26,7 @@ impl fmt::Display for JsonFault {
     fn fmt<W: fmt::Write>(&self, f: &mut fmt::Formatter<W>) -> fmt::Result {
         f.write_str(match self {
             JsonFault::Shape => "not the tree of an item",
+            JsonFault::Refused { .. } => "the bits of no item",
             JsonFault::Memory => "memory was refused",
         })
     }

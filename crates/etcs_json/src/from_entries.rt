@@ -1,12 +1,15 @@
 //! Items of their trees.
 
-ghost use Rattle.std.specs.Prelude.{◌≡◌, Err, IfOk, IfSome, IsSome};
+ghost use Rattle.std.specs.Prelude.{◌≡◌, ℕ, Err, IfOk, IfSome, IsSome};
 ghost use Rattle.serde_json.specs.View.{view};
+ghost use Rattle.etcs_vars.specs.declared.var.Var.{Var};
 ghost use Rattle.etcs_vars.specs.Reading.{Reading};
 ghost use Rattle.etcs_text.specs.Entries.{EntryReads, EntryValue, entry_value, kind_of};
+ghost use Rattle.etcs_json.specs.JsonLines.{OfLine, SaysItem, SaysRefused};
+ghost use Rattle.etcs_json.specs.Loose.{HasStandIns, IsLoose, TreeRefused, TreeSays};
 ghost use Rattle.etcs_json.specs.TreeReading.{IsTreeOf};
-ghost use Rattle.etcs_json.specs.JsonLines.{SaysItem};
 
+use crate::carried::stored;
 use crate::fault::JsonFault;
 use crate::from_message::message_in;
 use crate::from_telegram::telegram_in;
@@ -17,19 +20,23 @@ use serde_json::Value;
 use std::alloc::{AllocError, Global};
 
 /// The item of the kind whose tree the value is: an object of exactly the members of a telegram of the kind's size, or of
-/// a radio message, whose pairs stand in the order of sending and whose numbers are whole numbers without fraction or
-/// exponent. The digits of NID_RADIO may be in either case.
+/// a radio message, whose pairs are in the order of sending and whose numbers are whole numbers without fraction or
+/// exponent. The digits of NID_RADIO may be in either case. A packet 49, 57, 58, 63, 68, 80 or 131 may be in the form of
+/// packets that are kept as bits, as it was stored before these were typed: the item is then the one that has these bits.
 ///
 /// # Errors
 ///
 /// - [`JsonFault::Shape`] where no item of the kind has this tree;
+/// - [`JsonFault::Refused`] where it has packets of this older form, and its bits are no item's: with the first bit with
+///   which no item of the kind continues, and the variable that holds it;
 /// - [`JsonFault::Memory`] where memory was refused, whatever the value is.
 pub fn from_value(alloc: Global, kind: Kind, value: &Value) -> Result<Entry, JsonFault>
-    ensures ok { IfOk result (λ e. (r : Reading) × EntryReads kind (entry_value e) r × IsTreeOf (entry_value e) (view value.now)) }
-    ensures shape { result ≡ Err JsonFault.Shape → (e : EntryValue) (r : Reading) → EntryReads kind e r → IsTreeOf e (view value.now) → ⊥ }
+    ensures ok { IfOk result (λ e. TreeSays kind (view value.now) (entry_value e)) }
+    ensures refused { (i : ℕ) (x : Var) → result ≡ Err (JsonFault.Refused i x) → TreeRefused kind (view value.now) i x }
+    ensures shape { result ≡ Err JsonFault.Shape → (o : EntryValue) → IsLoose kind o → IsTreeOf o (view value.now) → ⊥ }
 {
     match entry_in(alloc, kind, value) {
-        Ok(Some(entry)) => Ok(entry),
+        Ok(Some(entry)) => stored(alloc, kind, value, entry),
         Ok(None) => Err(JsonFault::Shape),
         Err(_) => Err(JsonFault::Memory),
     }
@@ -40,10 +47,12 @@ pub fn from_value(alloc: Global, kind: Kind, value: &Value) -> Result<Entry, Jso
 /// # Errors
 ///
 /// - [`JsonFault::Shape`] where the line isn't UTF-8 or JSON, or no item of the kind has its tree;
+/// - [`JsonFault::Refused`] as of [`from_value`];
 /// - [`JsonFault::Memory`] where memory was refused, whatever the line is.
 pub fn from_line(alloc: Global, kind: Kind, line: &[u8]) -> Result<Entry, JsonFault>
     ensures ok { IfOk result (λ e. SaysItem kind line.now (entry_value e)) }
-    ensures shape { result ≡ Err JsonFault.Shape → (e : EntryValue) → SaysItem kind line.now e → ⊥ }
+    ensures refused { (i : ℕ) (x : Var) → result ≡ Err (JsonFault.Refused i x) → SaysRefused kind line.now i x }
+    ensures shape { result ≡ Err JsonFault.Shape → (o : EntryValue) → IsLoose kind o → OfLine (λ d. IsTreeOf o d) line.now → ⊥ }
 {
     match written_item(alloc, kind, line) {
         Ok(Some(entry)) => Ok(entry),
@@ -55,7 +64,8 @@ pub fn from_line(alloc: Global, kind: Kind, line: &[u8]) -> Result<Entry, JsonFa
 /// The item of the kind whose JSON the line is, by way of its tree. The errors are those of [`from_line`].
 fn from_any_line(alloc: Global, kind: Kind, line: &[u8]) -> Result<Entry, JsonFault>
     ensures ok { IfOk result (λ e. SaysItem kind line.now (entry_value e)) }
-    ensures shape { result ≡ Err JsonFault.Shape → (e : EntryValue) → SaysItem kind line.now e → ⊥ }
+    ensures refused { (i : ℕ) (x : Var) → result ≡ Err (JsonFault.Refused i x) → SaysRefused kind line.now i x }
+    ensures shape { result ≡ Err JsonFault.Shape → (o : EntryValue) → IsLoose kind o → OfLine (λ d. IsTreeOf o d) line.now → ⊥ }
 {
     match Value::from_slice(alloc, line) {
         Ok(value) => from_value(alloc, kind, &value),
@@ -67,10 +77,10 @@ fn from_any_line(alloc: Global, kind: Kind, line: &[u8]) -> Result<Entry, JsonFa
     }
 }
 
-/// The item of a tree, if there is one of the kind.
+/// The item of a tree, if there is one of the kind, with stand-ins for packets that are kept as bits and typed by now.
 fn entry_in(alloc: Global, kind: Kind, value: &Value) -> Result<Option<Entry>, AllocError>
-    ensures some { IfOk result (λ o. IfSome o (λ e. (r : Reading) × EntryReads kind (entry_value e) r × IsTreeOf (entry_value e) (view value.now))) }
-    ensures only { IfOk result (λ o. (e : EntryValue) (r : Reading) → EntryReads kind e r → IsTreeOf e (view value.now) → IsSome o) }
+    ensures some { IfOk result (λ o. IfSome o (λ e. HasStandIns kind (view value.now) (entry_value e))) }
+    ensures only { IfOk result (λ o. (e : EntryValue) → IsLoose kind e → IsTreeOf e (view value.now) → IsSome o) }
 {
     match kind {
         Kind::Long => telegram_entry(alloc, Size::Long, value),
@@ -79,10 +89,10 @@ fn entry_in(alloc: Global, kind: Kind, value: &Value) -> Result<Option<Entry>, A
     }
 }
 
-/// The telegram of a tree, if there is one of the size.
+/// The telegram of a tree, if there is one of the size, with stand-ins.
 fn telegram_entry(alloc: Global, size: Size, value: &Value) -> Result<Option<Entry>, AllocError>
-    ensures some { IfOk result (λ o. IfSome o (λ e. (r : Reading) × EntryReads (kind_of size) (entry_value e) r × IsTreeOf (entry_value e) (view value.now))) }
-    ensures only { IfOk result (λ o. (e : EntryValue) (r : Reading) → EntryReads (kind_of size) e r → IsTreeOf e (view value.now) → IsSome o) }
+    ensures some { IfOk result (λ o. IfSome o (λ e. HasStandIns (kind_of size) (view value.now) (entry_value e))) }
+    ensures only { IfOk result (λ o. (e : EntryValue) → IsLoose (kind_of size) e → IsTreeOf e (view value.now) → IsSome o) }
 {
     match telegram_in(alloc, size, value)? {
         Some(telegram) => Ok(Some(Entry::Telegram(telegram))),
@@ -90,10 +100,10 @@ fn telegram_entry(alloc: Global, size: Size, value: &Value) -> Result<Option<Ent
     }
 }
 
-/// The message of a tree, if there is one.
+/// The message of a tree, if there is one, with stand-ins.
 fn message_entry(alloc: Global, value: &Value) -> Result<Option<Entry>, AllocError>
-    ensures some { IfOk result (λ o. IfSome o (λ e. (r : Reading) × EntryReads Kind.Radio (entry_value e) r × IsTreeOf (entry_value e) (view value.now))) }
-    ensures only { IfOk result (λ o. (e : EntryValue) (r : Reading) → EntryReads Kind.Radio e r → IsTreeOf e (view value.now) → IsSome o) }
+    ensures some { IfOk result (λ o. IfSome o (λ e. HasStandIns Kind.Radio (view value.now) (entry_value e))) }
+    ensures only { IfOk result (λ o. (e : EntryValue) → IsLoose Kind.Radio e → IsTreeOf e (view value.now) → IsSome o) }
 {
     match message_in(alloc, value)? {
         Some(message) => Ok(Some(Entry::Message(message))),

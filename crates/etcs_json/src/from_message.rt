@@ -12,6 +12,7 @@ ghost use Rattle.etcs_packets.specs.PacketValues.{IsPacket, packet_value, IsMade
 ghost use Rattle.etcs_radio.specs.Bodies.{IsBody, body_reading, nid_of_body, run_of_head};
 ghost use Rattle.etcs_radio.specs.Fronts.{IsHeadNumbers, head_by};
 ghost use Rattle.etcs_radio.specs.Messages.{IsAdmitted, KeptReads, MessageReads, MessageValue, TypedReads, kept_message, message_value, typed_message};
+ghost use Rattle.etcs_json.specs.Loose.{unnamed_message};
 ghost use Rattle.etcs_json.specs.TreeReading.{ArePairTrees, IsMessageTree, kept_message_tree, message_tree};
 
 use crate::digits::{bits_in, byte_in, is_text};
@@ -122,7 +123,7 @@ fn kept_of(alloc: Global, bits: &Value, nid: &Value) -> Result<Option<Message>, 
     }
 }
 
-/// The typed message of these members, if there is one.
+/// The typed message of these members, if there is one, with stand-ins for packets that are kept as bits and typed by now.
 fn typed_of(
     alloc: Global,
     fields: &Value,
@@ -132,8 +133,8 @@ fn typed_of(
     padding: &Value,
 ) -> Result<Option<Message>, AllocError>
     ensures reads { IfOk result (λ o. IfSome o (λ m. (r : Reading) × MessageReads (message_value m) r)) }
-    ensures some { IfOk result (λ o. IfSome o (λ m. IsMessageTree (message_value m) (message_tree (view fields.now) (view header.now) (string (codes "radio")) (view nid.now) (view packets.now) (view padding.now)))) }
-    ensures only { IfOk result (λ o. (m : MessageValue) (r : Reading) → MessageReads m r → IsMessageTree m (message_tree (view fields.now) (view header.now) (string (codes "radio")) (view nid.now) (view packets.now) (view padding.now)) → IsSome o) }
+    ensures some { IfOk result (λ o. IfSome o (λ m. (u : MessageValue) × (message_value m ≡ unnamed_message u) × IsMessageTree u (message_tree (view fields.now) (view header.now) (string (codes "radio")) (view nid.now) (view packets.now) (view padding.now)))) }
+    ensures only { IfOk result (λ o. (m : MessageValue) (r : Reading) → MessageReads (unnamed_message m) r → IsMessageTree m (message_tree (view fields.now) (view header.now) (string (codes "radio")) (view nid.now) (view packets.now) (view padding.now)) → IsSome o) }
 {
     let Some(nid) = byte_in(nid) else {
         return Ok(None);
@@ -153,11 +154,11 @@ fn typed_of(
     Ok(typed_by(head, body, packets, &padding))
 }
 
-/// The message of a tree, if there is one.
+/// The message of a tree, if there is one, with stand-ins for packets that are kept as bits and typed by now.
 pub(crate) fn message_in(alloc: Global, value: &Value) -> Result<Option<Message>, AllocError>
     ensures reads { IfOk result (λ o. IfSome o (λ m. (r : Reading) × MessageReads (message_value m) r)) }
-    ensures some { IfOk result (λ o. IfSome o (λ m. IsMessageTree (message_value m) (view value.now))) }
-    ensures only { IfOk result (λ o. (m : MessageValue) (r : Reading) → MessageReads m r → IsMessageTree m (view value.now) → IsSome o) }
+    ensures some { IfOk result (λ o. IfSome o (λ m. (u : MessageValue) × (message_value m ≡ unnamed_message u) × IsMessageTree u (view value.now))) }
+    ensures only { IfOk result (λ o. (m : MessageValue) (r : Reading) → MessageReads (unnamed_message m) r → IsMessageTree m (view value.now) → IsSome o) }
 {
     if let Some((fields, header, kind, nid, packets, padding)) = message_members(value) {
         if !is_text(kind, "radio") {

@@ -7,8 +7,10 @@ ghost use Rattle.etcs_vars.specs.declared.var.Var.TheVariants.{NID_VBCMK};
 ghost use Rattle.etcs_vars.specs.Vars.{admits};
 ghost use Rattle.etcs_vars.specs.Reading.{Reading, numbers};
 ghost use Rattle.etcs_packets.specs.PacketValues.{PacketValue, IsPacket, IsTypedOf, kept, marker, packet_value, typed, variables_of, IsMade};
+ghost use Rattle.etcs_json.specs.Loose.{stand_in, unnamed};
 ghost use Rattle.etcs_json.specs.TreeReading.{ArePairTrees, ArePacketTrees, IsPacketTree, kept_tree, marker_tree, plain, typed_tree};
 
+use crate::carried::stand_in;
 use crate::digits::{bits_in, is_zero, two_bytes};
 use crate::members::{three_members, two_members};
 use crate::numbers::numbers_in;
@@ -79,7 +81,7 @@ fn kept_by(nid: u8, dir: u8, bits: Bits) -> Option<Packet>
     }
 }
 
-/// The packet of these members that is kept as bits, if there is one.
+/// The packet of these members that is kept as bits, with a stand-in for a number that is typed by now, if there is one.
 fn kept_packet(
     alloc: Global,
     bits: &Value,
@@ -87,12 +89,12 @@ fn kept_packet(
     nid: &Value,
 ) -> Result<Option<Packet>, AllocError>
     ensures made { IfOk result (λ o. IfSome o (λ p. IsMade p × IsPacket (packet_value p))) }
-    ensures some { IfOk result (λ o. IfSome o (λ p. IsPacketTree (packet_value p) (kept_tree (view bits.now) (view dir.now) (view nid.now)))) }
-    ensures only { IfOk result (λ o. (v : PacketValue) → IsPacket v → IsPacketTree v (kept_tree (view bits.now) (view dir.now) (view nid.now)) → option_map packet_value o ≡ Some v) }
+    ensures some { IfOk result (λ o. IfSome o (λ p. (v : PacketValue) × (packet_value p ≡ unnamed v) × IsPacketTree v (kept_tree (view bits.now) (view dir.now) (view nid.now)))) }
+    ensures only { IfOk result (λ o. (v : PacketValue) → IsPacket (unnamed v) → IsPacketTree v (kept_tree (view bits.now) (view dir.now) (view nid.now)) → option_map packet_value o ≡ Some (unnamed v)) }
 {
     match two_bytes(dir, nid) {
         Some((dir, nid)) => match bits_in(alloc, bits)? {
-            Some(bits) => Ok(kept_by(nid, dir, bits)),
+            Some(bits) => Ok(kept_by(stand_in(nid), dir, bits)),
             None => Ok(None),
         },
         None => Ok(None),
@@ -129,11 +131,11 @@ fn marker_packet(alloc: Global, fields: &Value, nid: &Value) -> Result<Option<Pa
     }
 }
 
-/// The packet of a tree, if there is one.
+/// The packet of a tree, if there is one, with a stand-in for a number that is kept as bits and typed by now.
 fn packet_in(alloc: Global, value: &Value) -> Result<Option<Packet>, AllocError>
     ensures made { IfOk result (λ o. IfSome o (λ p. IsMade p × IsPacket (packet_value p))) }
-    ensures some { IfOk result (λ o. IfSome o (λ p. IsPacketTree (packet_value p) (view value.now))) }
-    ensures only { IfOk result (λ o. (v : PacketValue) → IsPacket v → IsPacketTree v (view value.now) → option_map packet_value o ≡ Some v) }
+    ensures some { IfOk result (λ o. IfSome o (λ p. (v : PacketValue) × (packet_value p ≡ unnamed v) × IsPacketTree v (view value.now))) }
+    ensures only { IfOk result (λ o. (v : PacketValue) → IsPacket (unnamed v) → IsPacketTree v (view value.now) → option_map packet_value o ≡ Some (unnamed v)) }
 {
     if let Some((dir, fields, nid)) = three_members(value, "dir", "fields", "nid") {
         return typed_packet(alloc, dir, fields, nid);
@@ -147,11 +149,11 @@ fn packet_in(alloc: Global, value: &Value) -> Result<Option<Packet>, AllocError>
     Ok(None)
 }
 
-/// The packets of trees, one behind the other, if there are such.
+/// The packets of trees, one after another, if there are such, with stand-ins.
 pub(crate) fn packets_in(alloc: Global, value: &Value) -> Result<Option<Vec<Packet>>, AllocError>
     ensures made { IfOk result (λ o. IfSome o (λ ps. All IsMade ps.items × All IsPacket (map packet_value ps.items))) }
-    ensures some { IfOk result (λ o. IfSome o (λ ps. (ds : Items) × (view value.now ≡ array ds) × ArePacketTrees (map packet_value ps.items) ds)) }
-    ensures only { IfOk result (λ o. (vs : List PacketValue) (ds : Items) → All IsPacket vs → view value.now ≡ array ds → ArePacketTrees vs ds → option_map (λ ps. map packet_value ps.items) o ≡ Some vs) }
+    ensures some { IfOk result (λ o. IfSome o (λ ps. (vs : List PacketValue) × (ds : Items) × (map packet_value ps.items ≡ map unnamed vs) × (view value.now ≡ array ds) × ArePacketTrees vs ds)) }
+    ensures only { IfOk result (λ o. (vs : List PacketValue) (ds : Items) → All IsPacket (map unnamed vs) → view value.now ≡ array ds → ArePacketTrees vs ds → option_map (λ ps. map packet_value ps.items) o ≡ Some (map unnamed vs)) }
 {
     match value.as_array() {
         Some(list) => packets_by(alloc, list.as_slice()),
@@ -162,8 +164,8 @@ pub(crate) fn packets_in(alloc: Global, value: &Value) -> Result<Option<Vec<Pack
 /// The same of the list.
 fn packets_by(alloc: Global, list: &[Value]) -> Result<Option<Vec<Packet>>, AllocError>
     ensures made { IfOk result (λ o. IfSome o (λ ps. All IsMade ps.items × All IsPacket (map packet_value ps.items))) }
-    ensures some { IfOk result (λ o. IfSome o (λ ps. ArePacketTrees (map packet_value ps.items) (items_view list.now))) }
-    ensures only { IfOk result (λ o. (vs : List PacketValue) → All IsPacket vs → ArePacketTrees vs (items_view list.now) → option_map (λ ps. map packet_value ps.items) o ≡ Some vs) }
+    ensures some { IfOk result (λ o. IfSome o (λ ps. (vs : List PacketValue) × (map packet_value ps.items ≡ map unnamed vs) × ArePacketTrees vs (items_view list.now))) }
+    ensures only { IfOk result (λ o. (vs : List PacketValue) → All IsPacket (map unnamed vs) → ArePacketTrees vs (items_view list.now) → option_map (λ ps. map packet_value ps.items) o ≡ Some (map unnamed vs)) }
 {
     let mut packets = Vec::new(alloc);
     for value in list {

@@ -8,6 +8,7 @@ ghost use Rattle.etcs_packets.specs.PacketValues.{IsPacket, packet_value};
 ghost use Rattle.etcs_telegram.specs.Headers.{IsHeaderNumbers};
 ghost use Rattle.etcs_telegram.specs.Telegrams.{HeaderParts, IsAdmitted, TelegramReads, TelegramValue, header_of, header_reading, telegram_value};
 ghost use Rattle.etcs_text.specs.Show.{kind_word};
+ghost use Rattle.etcs_json.specs.Loose.{unnamed_telegram};
 ghost use Rattle.etcs_json.specs.TreeReading.{ArePairTrees, IsTelegramTree, telegram_tree};
 
 use crate::digits::{bits_in, is_text};
@@ -91,7 +92,8 @@ fn telegram_by(size: Size, header: Header, packets: Vec<Packet>, fill: Bits) -> 
     }
 }
 
-/// The telegram of a tree, if there is one of this size.
+/// The telegram of a tree, if there is one of this size, with stand-ins for numbers that are kept as bits and typed by
+/// now.
 pub(crate) fn telegram_in(
     alloc: Global,
     size: Size,
@@ -99,8 +101,8 @@ pub(crate) fn telegram_in(
 ) -> Result<Option<Telegram>, AllocError>
     ensures size { IfOk result (λ o. IfSome o (λ t. t.size ≡ size)) }
     ensures reads { IfOk result (λ o. IfSome o (λ t. (r : Reading) × TelegramReads (telegram_value t) r)) }
-    ensures some { IfOk result (λ o. IfSome o (λ t. IsTelegramTree (telegram_value t) (view value.now))) }
-    ensures only { IfOk result (λ o. (t : TelegramValue) (r : Reading) → t.size ≡ size → TelegramReads t r → IsTelegramTree t (view value.now) → IsSome o) }
+    ensures some { IfOk result (λ o. IfSome o (λ t. (u : TelegramValue) × (telegram_value t ≡ unnamed_telegram u) × IsTelegramTree u (view value.now))) }
+    ensures only { IfOk result (λ o. (t : TelegramValue) (r : Reading) → t.size ≡ size → TelegramReads (unnamed_telegram t) r → IsTelegramTree t (view value.now) → IsSome o) }
 {
     match four_members(value, "fill", "header", "kind", "packets") {
         Some((fill, header, kind, packets)) => {
@@ -123,8 +125,8 @@ fn telegram_of(
 ) -> Result<Option<Telegram>, AllocError>
     ensures size { IfOk result (λ o. IfSome o (λ t. t.size ≡ size)) }
     ensures reads { IfOk result (λ o. IfSome o (λ t. (r : Reading) × TelegramReads (telegram_value t) r)) }
-    ensures some { IfOk result (λ o. IfSome o (λ t. IsTelegramTree (telegram_value t) (telegram_tree (view fill.now) (view header.now) (string (kind_word size)) (view packets.now)))) }
-    ensures only { IfOk result (λ o. (t : TelegramValue) (r : Reading) → t.size ≡ size → TelegramReads t r → IsTelegramTree t (telegram_tree (view fill.now) (view header.now) (string (kind_word size)) (view packets.now)) → IsSome o) }
+    ensures some { IfOk result (λ o. IfSome o (λ t. (u : TelegramValue) × (telegram_value t ≡ unnamed_telegram u) × IsTelegramTree u (telegram_tree (view fill.now) (view header.now) (string (kind_word size)) (view packets.now)))) }
+    ensures only { IfOk result (λ o. (t : TelegramValue) (r : Reading) → t.size ≡ size → TelegramReads (unnamed_telegram t) r → IsTelegramTree t (telegram_tree (view fill.now) (view header.now) (string (kind_word size)) (view packets.now)) → IsSome o) }
 {
     let Some(header) = header_in(alloc, header)? else {
         return Ok(None);

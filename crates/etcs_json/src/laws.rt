@@ -4,11 +4,13 @@ ghost use Rattle.std.specs.Prelude.{◌≡◌, ◌≢◌, ℕ, List, All, IsUtf8
 ghost use Rattle.serde_json.specs.Data.{Data};
 ghost use Rattle.serde_json.specs.Read.{read};
 ghost use Rattle.serde_json.specs.Written.{compact_text};
+ghost use Rattle.etcs_vars.specs.declared.var.Var.{Var};
 ghost use Rattle.etcs_vars.specs.Reading.{Reading};
 ghost use Rattle.etcs_text.specs.Entries.{EntryReads, EntryValue, Spells};
 ghost use Rattle.etcs_text.specs.Trees.{json_tree};
 ghost use Rattle.etcs_text.specs.declared.entry.Kind.{Kind};
-ghost use Rattle.etcs_json.specs.JsonLines.{SaysItem};
+ghost use Rattle.etcs_json.specs.JsonLines.{SaysItem, SaysRefused};
+ghost use Rattle.etcs_json.specs.Loose.{TreeRefused, TreeSays};
 ghost use Rattle.etcs_json.specs.TreeReading.{IsTreeOf};
 
 /// The JSON of an item is read as its tree. It is UTF-8, and no end of a line stands in it.
@@ -19,13 +21,19 @@ pub fn read_tree()
     ensures without_cr { (e : EntryValue) (r : Reading) → Spells e r → All (λ c. c ≢ 13) (compact_text (json_tree e)) }
 {}
 
-/// No line is the JSON of two items of one kind.
+/// No line says two items of one kind, none is refused in two ways, and none is both.
 pub fn one_line()
-    ensures { (kind : Kind) (line : List ℕ) (e e' : EntryValue) → SaysItem kind line e → SaysItem kind line e' → e ≡ e' }
+    ensures said { (kind : Kind) (line : List ℕ) (e e' : EntryValue) → SaysItem kind line e → SaysItem kind line e' → e ≡ e' }
+    ensures refused { (kind : Kind) (line : List ℕ) (i j : ℕ) (x y : Var) → SaysRefused kind line i x → SaysRefused kind line j y → (i ≡ j) × (x ≡ y) }
+    ensures either { (kind : Kind) (line : List ℕ) (e : EntryValue) (i : ℕ) (x : Var) → SaysItem kind line e → SaysRefused kind line i x → ⊥ }
 {}
 
-/// The JSON of an item is a tree of it, and no tree is that of two items of one kind.
+/// The JSON of an item is a tree of it and says it. No tree says two items of one kind, none is refused in two ways, and
+/// none is both.
 pub fn one_tree()
     ensures own { (e : EntryValue) → IsTreeOf e (json_tree e) }
-    ensures one { (kind : Kind) (d : Data) (e e' : EntryValue) (r r' : Reading) → EntryReads kind e r → EntryReads kind e' r' → IsTreeOf e d → IsTreeOf e' d → e ≡ e' }
+    ensures says { (kind : Kind) (e : EntryValue) (r : Reading) → EntryReads kind e r → TreeSays kind (json_tree e) e }
+    ensures said { (kind : Kind) (d : Data) (e e' : EntryValue) → TreeSays kind d e → TreeSays kind d e' → e ≡ e' }
+    ensures refused { (kind : Kind) (d : Data) (i j : ℕ) (x y : Var) → TreeRefused kind d i x → TreeRefused kind d j y → (i ≡ j) × (x ≡ y) }
+    ensures either { (kind : Kind) (d : Data) (e : EntryValue) (i : ℕ) (x : Var) → TreeSays kind d e → TreeRefused kind d i x → ⊥ }
 {}

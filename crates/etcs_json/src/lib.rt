@@ -1,6 +1,7 @@
 //! The items of an input as JSON.
 #![tactic(auto)]
 
+mod carried;
 mod digits;
 mod fault;
 mod from_entries;

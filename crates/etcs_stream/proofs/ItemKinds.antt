@@ -22,6 +22,7 @@ use Rattle.etcs_radio.proofs.Bytes.{some_bits, some_message}
 use Rattle.etcs_text.specs.declared.entry.Kind.{Kind}
 use Rattle.etcs_text.specs.declared.entry.Kind.TheVariants.{Long, Short, Radio}
 use Rattle.etcs_text.specs.Entries.{EntryValue, of_telegram, of_message, kind_of, EntryReads}
+use Rattle.etcs_json.proofs.OneItems.{kind_same, telegram_radio}
 use Rattle.etcs_stream.specs.Readers.{stage_of, telegram_item, message_item, reading, finished, Feeds}
 
 abbrev pub Language : Kind → Reading → Type 0
@@ -29,22 +30,12 @@ Language kind = readings_of (EntryReads kind)
 
 -- ---- The kinds of telegrams and of messages.
 
-pub same_size : (s u : Size) → kind_of s ≡ kind_of u → s ≡ u
-same_size size.Long size.Long h = refl
-same_size size.Long size.Short h = absurd (let e : Long ≡ Short = h in cc)
-same_size size.Short size.Long h = absurd (let e : Short ≡ Long = h in cc)
-same_size size.Short size.Short h = refl
-
-pub not_radio : (s : Size) → kind_of s ≡ Radio → ⊥
-not_radio size.Long h = let e : Long ≡ Radio = h in absurd cc
-not_radio size.Short h = let e : Short ≡ Radio = h in absurd cc
-
 from_sized : (s : Size) (r : Reading) → Language (kind_of s) r → TelegramLanguage s r
-from_sized s r (of_telegram t, h) = (t, (same_size t.size s h.0, h.1))
-from_sized s r (of_message m, h) = absurd (not_radio s (sym h.0))
+from_sized s r (of_telegram t, h) = (t, (kind_same t.size s h.0, h.1))
+from_sized s r (of_message m, h) = absurd (telegram_radio s (sym h.0))
 
 from_radio : (r : Reading) → Language Radio r → MessageLanguage r
-from_radio r (of_telegram t, h) = absurd (not_radio t.size h.0)
+from_radio r (of_telegram t, h) = absurd (telegram_radio t.size h.0)
 from_radio r (of_message m, h) = (m, h.1)
 
 -- the readings of items of a kind are those of the telegrams of its size, or those of messages

@@ -4,6 +4,7 @@ use Rattle.std.specs.Prelude.{◌⊎◌, map, OnOk, IfErr}
 use Rattle.std.specs.Io.BufRead.{ends_with_byte}
 use Rattle.std.proofs.lemmas.List.{append-nil, map-append}
 use Rattle.std.proofs.lemmas.List.Elements.{All-append, All-cons, All-nil}
+use Rattle.etcs_vars.specs.declared.var.Var.{Var}
 use Rattle.etcs_text.specs.declared.entry.Kind.{Kind}
 use Rattle.etcs_text.specs.Entries.{EntryValue}
 use Rattle.etcs_stream.specs.declared.job.Form.{Form}
@@ -14,12 +15,12 @@ use Rattle.etcs_stream.specs.declared.fault.RunFault.{RunFault}
 use Rattle.etcs_stream.specs.declared.fault.RunFault.TheVariants.{Refused, Truncated, BadHex, BadJson, Read, Write, Endless, Memory}
 use Rattle.etcs_stream.specs.Faults.{IsOfEngine}
 use Rattle.etcs_stream.specs.Lines.{IsLine, strip_cr, lines_text, most_characters}
-use Rattle.etcs_stream.specs.JsonItems.{IsItemLine, AreItemLines, JsonFront, BeginsWith, EndedJson, FirstJson, FurtherLine}
+use Rattle.etcs_stream.specs.JsonItems.{IsItemLine, IsRefusedLine, AreItemLines, JsonFront, BeginsWith, EndedJson, FirstJson, FurtherLine}
 use Rattle.etcs_stream.specs.Told.{Told}
 use Rattle.etcs_stream.specs.Tellers.{TellsItems, Closes, nothing_told}
 use Rattle.etcs_stream.specs.Stands.{JsonTook}
 use Rattle.etcs_stream.specs.Steps.{TakesJson, empty_line, item_line, HaltsJson}
-use Rattle.etcs_stream.specs.Inputs.{End, ended, bad_json, endless, ItemsOf, FirstItems}
+use Rattle.etcs_stream.specs.Inputs.{End, ended, refused, bad_json, endless, ItemsOf, FirstItems}
 use Rattle.etcs_stream.specs.Engines.{EndsBy, Ends, Prints, Stops, StopsAtEnd}
 use Rattle.etcs_stream.proofs.Tellings.{tells_append, tells_count, tells_one, one_count, closes_items}
 use Rattle.etcs_stream.proofs.Cutting.{first_lf, stripped}
@@ -97,9 +98,13 @@ module _ (job : Job) (n : Told) (lines : List (List ℕ)) (told : List ℕ) (h :
   further : (input line : List ℕ) → GoesOn lines line input → 0 < length line → FurtherLine job.kind input h.items lines line
   further input line g some = record { rest = g.rest; front = json_front input g.rest g.text_is; begins = g.begins; some = some }
 
-  bad : (input line : List ℕ) (number : ℕ) → GoesOn lines line input → 0 < length line → number ≡ length lines + 1 → n.count < 1000000 → ((e : EntryValue) → IsItemLine job.kind line e → ⊥) → ItemsOf job.from job.kind input h.items (bad_json number)
-  bad input line number g some at few none =
-      items_of input h.items (bad_json number) (lines, line, further input line g some, at, omega (arith, few, h.count_is), none)
+  bad : (input line : List ℕ) (number : ℕ) → GoesOn lines line input → 0 < length line → number ≡ length lines + 1 → n.count < 1000000 → ((e : EntryValue) → IsItemLine job.kind line e → ⊥) → ((i : ℕ) (x : Var) → IsRefusedLine job.kind line i x → ⊥) → ItemsOf job.from job.kind input h.items (bad_json number)
+  bad input line number g some at few none unrefused =
+      items_of input h.items (bad_json number) (lines, line, further input line g some, at, omega (arith, few, h.count_is), none, unrefused)
+
+  refused_line : (input line : List ℕ) (i : ℕ) (x : Var) → GoesOn lines line input → n.count < 1000000 → IsRefusedLine job.kind line i x → ItemsOf job.from job.kind input h.items (refused i x)
+  refused_line input line i x g few why =
+      items_of input h.items (refused i x) (lines, line, further input line g why.0, omega (arith, few, h.count_is), why)
 
   too_many : (input line : List ℕ) → GoesOn lines line input → 0 < length line → n.count ≡ 1000000 → ItemsOf job.from job.kind input h.items endless
   too_many input line g some full = items_of input h.items endless (lines, line, further input line g some, sym h.count_is ∙ full)
@@ -109,10 +114,12 @@ module _ (job : Job) (n : Told) (lines : List (List ℕ)) (told : List ℕ) (h :
   Halted line fault = (fault ≡ Memory) ⊎ ((end : End) × EndsBy (length h.items) end fault × ((input : List ℕ) → GoesOn lines line input → ItemsOf job.from job.kind input h.items end))
 
   halted : (line : List ℕ) (number : ℕ) (fault : RunFault) → number ≡ length lines + 1 → HaltsJson job line number n fault → IsOfEngine fault × Halted line fault
-  halted line number (Refused i b x) at why = absurd why
+  halted line number (Refused item i x) at (is, few, why) =
+      (tt, inr (refused i x, ap (λ (k : ℕ). Refused k i x) (is ∙ ap (λ (k : ℕ). k + 1) h.count_is), λ input g. refused_line input line i x g few why))
   halted line number (Truncated i k) at why = absurd why
   halted line number (BadHex l p) at why = absurd why
-  halted line number (BadJson l) at (same, some, few, none) = (tt, inr (bad_json l, refl, λ input g. bad input line l g some (same ∙ at) few none))
+  halted line number (BadJson l) at (same, some, few, none, unrefused) =
+      (tt, inr (bad_json l, refl, λ input g. bad input line l g some (same ∙ at) few none unrefused))
   halted line number Read at why = absurd why
   halted line number (Write sent) at why = absurd why
   halted line number Endless at (full, some) = (tt, inr (endless, refl, λ input g. too_many input line g some full))
@@ -163,7 +170,7 @@ module _ (job : Job) (n : Told) (lines : List (List ℕ)) (told : List ℕ) (h :
         refl,
         (n, h.text),
         λ more. let (line, goes, longer) = goes_long part more l long in
-            bad ((lines_text lines ++ part) ++ more) line number goes (omega (arith, longer)) at few (λ e item. absurd (omega (arith, longer, item.1))),
+            bad ((lines_text lines ++ part) ++ more) line number goes (omega (arith, longer)) at few (λ e item. absurd (omega (arith, longer, item.1))) (λ i x why. absurd (omega (arith, longer, why.1))),
       )
 
   pub json_long_full : (part : List ℕ) → IsLine part → most_characters job.from + 1 < length part → n.count ≡ 1000000 → Stops job (lines_text lines ++ part) told Endless

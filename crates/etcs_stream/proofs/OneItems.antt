@@ -1,27 +1,27 @@
 -- Bits are items in one way.
 use Rattle.std.proofs.Common.{◌≡◌, ℕ, ◌+◌, ◌<◌, ◌≤◌, Bool, List, [], ◌∷◌, ◌++◌, length, take, refl, sym, ap, subst, ◌∙◌, arith, append_assoc, length-append, inl, inr}
 use Rattle.std.specs.Prelude.{◌⊎◌}
-use Rattle.std.proofs.lemmas.Bool.{cases_lt}
-use Rattle.std.proofs.lemmas.List.{append-nil, take_at, take-take}
+use Rattle.std.proofs.lemmas.List.{append-nil, take_at}
 use Rattle.etcs_bits.specs.Bits.{bits}
 use Rattle.etcs_bits.proofs.ByteBits.{bits-append}
 use Rattle.etcs_vars.specs.declared.var.Var.{Var}
 use Rattle.etcs_vars.specs.Walking.{Refuses}
-use Rattle.etcs_vars.specs.Reading.{Reading, spelled, IsOutcome, NoneYet, Viable, Owner}
+use Rattle.etcs_vars.specs.Reading.{Reading, spelled, IsOutcome, NoneYet}
 use Rattle.etcs_vars.specs.Reading as reading
 use Rattle.etcs_vars.proofs.Apart.{apart}
 use Rattle.etcs_vars.proofs.Outcomes.{viable_front}
-use Rattle.etcs_telegram.proofs.SameReadings.{owner_same}
 use Rattle.etcs_telegram.proofs.Spellings as telegrams
 use Rattle.etcs_radio.proofs.Spelling as messages
 use Rattle.etcs_text.specs.declared.entry.Kind.{Kind}
+use Rattle.etcs_json.proofs.OneItems.{kind_same, telegram_radio}
+use Rattle.etcs_json.proofs.OneStored.{one_refusal}
 use Rattle.etcs_stream.specs.declared.job.Form.{Form}
 use Rattle.etcs_stream.specs.declared.job.Form.TheVariants.{Hex, Bin, Json}
 use Rattle.etcs_text.specs.Entries.{EntryValue, of_telegram, of_message, EntryReads}
 use Rattle.etcs_stream.specs.Inputs.{End, ended, refused, truncated, bad_hex, bad_json, endless, EndsWith, BitItems, BadItems, SaysSoFar, WholeBytes, FirstBytes}
 use Rattle.etcs_stream.specs.Streams.{AreSpelled}
 use Rattle.etcs_stream.specs.OneRuns.{OneEnd, OneWhole, OneFront}
-use Rattle.etcs_stream.proofs.ItemKinds.{Language, kind_regular, same_size, not_radio}
+use Rattle.etcs_stream.proofs.ItemKinds.{Language, kind_regular}
 use Rattle.etcs_stream.proofs.Streams.{nothing_is_spelled}
 use Rattle.etcs_stream.proofs.Printing.{bad_items}
 use Rattle.etcs_stream.proofs.OneLines.{one_hex, one_bad, hex_or_bad, one_so_far, front_hex, front_bad}
@@ -30,9 +30,9 @@ use Rattle.etcs_stream.proofs.OneJson.{one_json, one_whole_json, front_json}
 -- ---- One item.
 
 one_item : (kind : Kind) (e f : EntryValue) (r : Reading) → EntryReads kind e r → EntryReads kind f r → e ≡ f
-one_item kind (of_telegram t) (of_telegram u) r x y = ap of_telegram (telegrams.one_value t u r (same_size t.size u.size (x.0 ∙ sym y.0)) x.1 y.1)
-one_item kind (of_telegram t) (of_message n) r x y = absurd (not_radio t.size (x.0 ∙ sym y.0))
-one_item kind (of_message m) (of_telegram u) r x y = absurd (not_radio u.size (y.0 ∙ sym x.0))
+one_item kind (of_telegram t) (of_telegram u) r x y = ap of_telegram (telegrams.one_value t u r (kind_same t.size u.size (x.0 ∙ sym y.0)) x.1 y.1)
+one_item kind (of_telegram t) (of_message n) r x y = absurd (telegram_radio t.size (x.0 ∙ sym y.0))
+one_item kind (of_message m) (of_telegram u) r x y = absurd (telegram_radio u.size (y.0 ∙ sym x.0))
 one_item kind (of_message m) (of_message n) r x y = ap of_message (messages.one_value m n r x.1 y.1)
 
 -- items with the same spelling in front are one, and so is what is behind
@@ -111,20 +111,6 @@ same_items kind es es' s s' rest rest' h h' few few' last last' is =
     )
 
 -- ---- One end.
-
--- a bit of a language is refused once: none before it is, and one variable holds it
-none_earlier : (L : Reading → Type 0) (b : List Bool) (i j : ℕ) (x y : Var) → Refuses L b i x → Refuses L b j y → i < j → ⊥
-none_earlier L b i j x y f g lt =
-    let v = viable_front L (i + 1) (take j b) g.owned.viable in
-    f.blocked (subst (λ (t : List Bool). Viable L t) (take-take (i + 1) j b (omega (arith, lt))) v)
-
-one_refusal : (L : Reading → Type 0) (b : List Bool) (i j : ℕ) (x y : Var) → Refuses L b i x → Refuses L b j y → (i ≡ j) × (x ≡ y)
-one_refusal L b i j x y f g =
-    let same : i ≡ j = (elim (cases_lt i j) [
-      | inl lt ↦ absurd (none_earlier L b i j x y f g lt)
-      | inr ge ↦ elim (cases_lt j i) [ inl lt ↦ absurd (none_earlier L b j i y x g f lt) | inr le ↦ omega (arith, ge, le) ]
-    ]) in
-    (same, owner_same L (take j b) y x g.owned (subst (λ (k : ℕ). Owner L (take k b) x) same f.owned))
 
 refuses_item : (kind : Kind) (b : List Bool) (i : ℕ) (x : Var) → IsOutcome (EntryReads kind) b (reading.refused i x) → Refuses (Language kind) b i x
 refuses_item kind b i x h = record { within = h.0.1; owned = h.1; blocked = h.0.2 }

@@ -1,25 +1,21 @@
 -- Lines are items of JSON in one way.
-use Rattle.std.proofs.Common.{◌≡◌, ℕ, ◌+◌, ◌<◌, ◌≤◌, List, [], ◌∷◌, ◌++◌, map, length, Option, Some, refl, sym, ap, subst, ◌∙◌, arith, append_assoc, length-append, inl, inr}
+use Rattle.std.proofs.Common.{◌≡◌, ℕ, ◌+◌, ◌<◌, ◌≤◌, List, [], ◌∷◌, ◌++◌, map, length, refl, sym, ap, ap₂, subst, ◌∙◌, arith, append_assoc, length-append, inl, inr}
 use Rattle.std.specs.Prelude.{◌⊎◌, All}
 use Rattle.std.proofs.lemmas.List.{append-nil, map-append}
 use Rattle.std.proofs.lemmas.List.Elements.{All-head}
-use Rattle.serde_json.specs.Data.{Data}
+use Rattle.etcs_vars.specs.declared.var.Var.{Var}
 use Rattle.etcs_text.specs.declared.entry.Kind.{Kind}
 use Rattle.etcs_text.specs.Entries.{EntryValue}
-use Rattle.etcs_json.specs.TreeReading.{IsTreeOf}
-use Rattle.etcs_json.proofs.OneItems.{one_tree}
+use Rattle.etcs_json.proofs.OneStored.{line_said, line_refused, line_not_both}
 use Rattle.etcs_stream.specs.Lines.{IsLine, strip_cr, lines_text}
-use Rattle.etcs_stream.specs.JsonItems.{IsItemLine, AreItemLines, JsonFront, BeginsWith, WholeJson, EndedJson, FirstJson, FurtherLine}
+use Rattle.etcs_stream.specs.JsonItems.{IsItemLine, IsRefusedLine, AreItemLines, JsonFront, BeginsWith, WholeJson, EndedJson, FirstJson, FurtherLine}
 use Rattle.etcs_stream.specs.Inputs.{End, ended, refused, truncated, bad_hex, bad_json, endless, JsonItems}
 use Rattle.etcs_stream.proofs.OneLines.{Longer, fronts, first_of, cut_lf, has_lf}
 
 -- ---- One line.
 
 one_item : (kind : Kind) (line : List ℕ) (e f : EntryValue) → IsItemLine kind line e → IsItemLine kind line f → e ≡ f
-one_item kind line e f (some, short, (d, r, utf8, is, reads, tree)) (some', short', (d', r', utf8', is', reads', tree')) =
-    let both : ◌≡◌ {A = Option Data} (Some d') (Some d) = sym is' ∙ is in
-    let one : d' ≡ d = cc in
-    one_tree kind d e f r r' reads reads' tree (subst (λ (x : Data). IsTreeOf f x) one tree')
+one_item kind line e f (some, short, says) (some', short', says') = line_said kind line e f says says'
 
 not_empty : (kind : Kind) (line : List ℕ) (e : EntryValue) → line ≡ [] → IsItemLine kind line e → ⊥
 not_empty kind line e empty h = omega (arith, ap (λ (z : List ℕ). length z) empty, h.0)
@@ -159,26 +155,45 @@ same_front kind text f g none none' = elim (one_ahead kind text f g) [
 abbrev ended_front : (kind : Kind) (text : List ℕ) (es : List EntryValue) → EndedJson kind text es → Front kind text
 ended_front kind text es h = record { items = h.front; lines = h.lines; rest = h.last; are = h.lines_are }
 
+-- why a line that isn't empty isn't one more item, behind so many lines and items
+data StopsAs (kind : Kind) (lines : List (List ℕ)) (line : List ℕ) (n : ℕ) (end : End) : Type 0 where
+  as_bad : n < 1000000 → end ≡ bad_json (length lines + 1) → ((i : ℕ) (x : Var) → IsRefusedLine kind line i x → ⊥) → StopsAs kind lines line n end
+  as_refused : (i : ℕ) (x : Var) → n < 1000000 → end ≡ refused i x → IsRefusedLine kind line i x → StopsAs kind lines line n end
+  as_endless : n ≡ 1000000 → end ≡ endless → StopsAs kind lines line n end
+
 -- a line behind the items that isn't one more
 record Stop (kind : Kind) (text : List ℕ) (es : List EntryValue) (end : End) : Type 0 where
   lines : List (List ℕ)
   line : List ℕ
   there : FurtherLine kind text es lines line
   no_more : (e : EntryValue) → length es < 1000000 → IsItemLine kind line e → ⊥
-  end_is : ((length es < 1000000) × (end ≡ bad_json (length lines + 1))) ⊎ ((length es ≡ 1000000) × (end ≡ endless))
+  stops : StopsAs kind lines line (length es) end
 
 abbrev stop_front : (kind : Kind) (text : List ℕ) (es : List EntryValue) (end : End) → Stop kind text es end → Front kind text
 stop_front kind text es end h = record { items = es; lines = h.lines; rest = h.there.rest; are = h.there.front }
 
 ended_or_stop : (kind : Kind) (text : List ℕ) (es : List EntryValue) (end : End) → JsonItems kind text es end → (EndedJson kind text es × (end ≡ ended)) ⊎ Stop kind text es end
 ended_or_stop kind text es ended h = inl (h, refl)
-ended_or_stop kind text es (refused i x) h = absurd h
+ended_or_stop kind text es (refused i x) (lines, line, there, few, why) =
+    inr (record {
+      lines = lines;
+      line = line;
+      there = there;
+      no_more = λ e fewer item. line_not_both kind line e i x item.2 why.2;
+      stops = as_refused i x few refl why;
+    })
 ended_or_stop kind text es (truncated k) h = absurd h
 ended_or_stop kind text es (bad_hex line place) h = absurd h
-ended_or_stop kind text es (bad_json number) (lines, line, there, number_is, few, none) =
-    inr (record { lines = lines; line = line; there = there; no_more = λ e fewer item. none e item; end_is = inl (few, ap bad_json number_is) })
+ended_or_stop kind text es (bad_json number) (lines, line, there, number_is, few, none, unrefused) =
+    inr (record {
+      lines = lines;
+      line = line;
+      there = there;
+      no_more = λ e fewer item. none e item;
+      stops = as_bad few (ap bad_json number_is) unrefused;
+    })
 ended_or_stop kind text es endless (lines, line, there, most) =
-    inr (record { lines = lines; line = line; there = there; no_more = λ e fewer item. omega (arith, fewer, most); end_is = inr (most, refl) })
+    inr (record { lines = lines; line = line; there = there; no_more = λ e fewer item. omega (arith, fewer, most); stops = as_endless most refl })
 
 ended_stands : (kind : Kind) (text : List ℕ) (es : List EntryValue) (h : EndedJson kind text es) → NoFurther kind (length h.front) h.last
 ended_stands kind text es h = without_lf kind (length h.front) h.last h.is_line
@@ -208,20 +223,29 @@ ended_or_line kind text es es' end h k =
           k.no_more e few (subst (λ (z : List ℕ). IsItemLine kind z e) (sym is) item)
     ]
 
+one_stop : (kind : Kind) (lines lines' : List (List ℕ)) (line line' : List ℕ) (n m : ℕ) (end end' : End) → n ≡ m → lines ≡ lines' → line ≡ line' → StopsAs kind lines line n end → StopsAs kind lines' line' m end' → end ≡ end'
+one_stop kind lines lines' line line' n m end end' e same l (as_bad few is none) (as_bad few' is' none') =
+    is ∙ ap (λ (z : List (List ℕ)). bad_json (length z + 1)) same ∙ sym is'
+one_stop kind lines lines' line line' n m end end' e same l (as_bad few is none) (as_refused j y few' is' why) =
+    absurd (none j y (subst (λ (z : List ℕ). IsRefusedLine kind z j y) (sym l) why))
+one_stop kind lines lines' line line' n m end end' e same l (as_bad few is none) (as_endless most is') = absurd (omega (arith, few, most, e))
+one_stop kind lines lines' line line' n m end end' e same l (as_refused i x few is why) (as_bad few' is' none) =
+    absurd (none i x (subst (λ (z : List ℕ). IsRefusedLine kind z i x) l why))
+one_stop kind lines lines' line line' n m end end' e same l (as_refused i x few is why) (as_refused j y few' is' why') =
+    let there = subst (λ (z : List ℕ). IsRefusedLine kind z j y) (sym l) why' in
+    let one = line_refused kind line i j x y why.2 there.2 in
+    is ∙ ap₂ (λ (k : ℕ) (v : Var). refused k v) one.0 one.1 ∙ sym is'
+one_stop kind lines lines' line line' n m end end' e same l (as_refused i x few is why) (as_endless most is') = absurd (omega (arith, few, most, e))
+one_stop kind lines lines' line line' n m end end' e same l (as_endless most is) (as_bad few is' none) = absurd (omega (arith, few, most, e))
+one_stop kind lines lines' line line' n m end end' e same l (as_endless most is) (as_refused j y few is' why) = absurd (omega (arith, few, most, e))
+one_stop kind lines lines' line line' n m end end' e same l (as_endless most is) (as_endless most' is') = is ∙ sym is'
+
 stop_once : (kind : Kind) (text : List ℕ) (es es' : List EntryValue) (end end' : End) → Stop kind text es end → Stop kind text es' end' → (es ≡ es') × (end ≡ end')
 stop_once kind text es es' end end' h k =
     let same = same_front kind text (stop_front kind text es end h) (stop_front kind text es' end' k) (stop_stands kind text es end h) (stop_stands kind text es' end' k) in
     let count : length es ≡ length es' = ap (λ (z : List EntryValue). length z) same.0 in
-    (same.0, one_stop end end' h.lines k.lines (length es) (length es') count same.1 h.end_is k.end_is)
-  where
-    one_stop : (end end' : End) (lines lines' : List (List ℕ)) (n m : ℕ) → n ≡ m → lines ≡ lines'
-        → ((n < 1000000) × (end ≡ bad_json (length lines + 1))) ⊎ ((n ≡ 1000000) × (end ≡ endless))
-        → ((m < 1000000) × (end' ≡ bad_json (length lines' + 1))) ⊎ ((m ≡ 1000000) × (end' ≡ endless)) → end ≡ end'
-    one_stop end end' lines lines' n m e same (inl (few, is)) (inl (few', is')) =
-        is ∙ ap (λ (z : List (List ℕ)). bad_json (length z + 1)) same ∙ sym is'
-    one_stop end end' lines lines' n m e same (inl (few, is)) (inr (most, is')) = absurd (omega arith)
-    one_stop end end' lines lines' n m e same (inr (most, is)) (inl (few, is')) = absurd (omega arith)
-    one_stop end end' lines lines' n m e same (inr (most, is)) (inr (most', is')) = is ∙ sym is'
+    let line : h.line ≡ k.line = begins_once h.there.rest h.line k.line h.there.begins (subst (λ (z : List ℕ). BeginsWith z k.line) (sym same.2) k.there.begins) in
+    (same.0, one_stop kind h.lines k.lines h.line k.line (length es) (length es') end end' count same.1 line h.stops k.stops)
 
 pub one_json : (kind : Kind) (text : List ℕ) (es es' : List EntryValue) (end end' : End) → JsonItems kind text es end → JsonItems kind text es' end' → (es ≡ es') × (end ≡ end')
 one_json kind text es es' end end' h k =

@@ -40,7 +40,7 @@ front_of text bytes line place bad = elim bad.text_is [
 
 all_first_json : (kind : Kind) (input : List ℕ) (es : List EntryValue) (end : End) → JsonItems kind input es end → FirstJson kind input es
 all_first_json kind input es ended h = inr h
-all_first_json kind input es (refused i x) h = absurd h
+all_first_json kind input es (refused i x) h = inl (h.0, h.2.rest, h.2.front)
 all_first_json kind input es (truncated k) h = absurd h
 all_first_json kind input es (bad_hex line place) h = absurd h
 all_first_json kind input es (bad_json line) h = inl (h.0, h.2.rest, h.2.front)
@@ -76,7 +76,7 @@ AreRead-append kind (e ∷ es) fs h k = (h.0, h.1, AreRead-append kind es fs h.2
 lines_read : (kind : Kind) (lines : List (List ℕ)) (es : List EntryValue) → AreItemLines kind lines es → AreRead kind es
 lines_read kind [] es h = rw h tt
 lines_read kind (line ∷ lines) es (inl h) = lines_read kind lines es h.1
-lines_read kind (line ∷ lines) es (inr (e, behind, is, one, h)) = rw is (one.2.1, one.2.4, lines_read kind lines behind h)
+lines_read kind (line ∷ lines) es (inr (e, behind, is, one, h)) = rw is (one.2.3.1, one.2.3.3, lines_read kind lines behind h)
 
 first_json : (kind : Kind) (given : List ℕ) (es : List EntryValue) → FirstJson kind given es → (length es ≤ 1000000) × AreRead kind es
 first_json kind given es (inl (lines, rest, h)) = (h.few, lines_read kind (map strip_cr lines) es h.are_items)

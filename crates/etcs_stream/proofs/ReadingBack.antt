@@ -23,7 +23,7 @@ use Rattle.etcs_text.specs.Entries.{EntryValue, of_telegram, of_message, EntryRe
 use Rattle.etcs_text.proofs.TextLengths.{encoded_short, json_short}
 use Rattle.etcs_text.specs.Trees.{json_tree}
 use Rattle.etcs_radio.specs.Messages.{typed_message, kept_message}
-use Rattle.etcs_json.proofs.OneItems.{tree_of}
+use Rattle.etcs_json.proofs.OwnStored.{says_itself}
 use Rattle.etcs_json.proofs.PlainTrees.{read_tree, tree_without, utf8_tree}
 use Rattle.etcs_stream.specs.declared.job.Command.TheVariants.{Convert}
 use Rattle.etcs_stream.specs.declared.job.Form.TheVariants.{Hex, Bin, Json}
@@ -156,7 +156,7 @@ item_line kind e r reads =
     let line = compact_text (json_tree e) in
     let short : length line ≤ 1048576 = omega (arith, json_short e r reads.1) in
     subst (λ (z : List ℕ). IsItemLine kind z e) (sym (without_cr line (tree_without 13 (omega arith) e r reads.1)))
-    (some_json e, short, (json_tree e, r, utf8_tree e r reads.1, read_tree e r reads.1, reads, tree_of e))
+    (some_json e, short, (json_tree e, utf8_tree e r reads.1, read_tree e r reads.1, says_itself kind e r reads))
 
 -- a text is lines, and they are the items
 record ItemLines (kind : Kind) (es : List EntryValue) (text : List ℕ) : Type 0 where

@@ -9,7 +9,7 @@ use Rattle.etcs_stream.specs.declared.job.Form.{Form}
 use Rattle.etcs_stream.specs.declared.job.Form.TheVariants.{Hex, Bin, Json}
 use Rattle.etcs_text.specs.Entries.{EntryValue, EntryReads}
 use Rattle.etcs_stream.specs.Lines.{IsLine, bad_place, strip_cr, lines_text, lines_bytes, AreGood, IsHexText}
-use Rattle.etcs_stream.specs.JsonItems.{EndedJson, BadJsonLine, EndlessJson, WholeJson, FirstJson}
+use Rattle.etcs_stream.specs.JsonItems.{EndedJson, BadJsonLine, RefusedJsonLine, EndlessJson, WholeJson, FirstJson}
 use Rattle.etcs_stream.specs.Streams.{AreSpelled}
 
 -- how the items of an input end: with the input; at a bit of an item, which the variable holds; inside an item, after so
@@ -64,7 +64,7 @@ BadItems kind b es line place endless = BitItems kind b es endless
 -- the items of lines of JSON
 abbrev pub JsonItems : Kind → List ℕ → List EntryValue → End → Type 0
 JsonItems kind input es ended = EndedJson kind input es
-JsonItems kind input es (refused i x) = ⊥
+JsonItems kind input es (refused i x) = RefusedJsonLine kind input es i x
 JsonItems kind input es (truncated k) = ⊥
 JsonItems kind input es (bad_hex line place) = ⊥
 JsonItems kind input es (bad_json line) = BadJsonLine kind input es line

@@ -1,13 +1,18 @@
 -- Lines of JSON: an item each, or empty.
 use Rattle.std.specs.Prelude.{◌≡◌, ℕ, ◌+◌, ◌<◌, ◌≤◌, List, [], ◌∷◌, ◌++◌, length, ◌⊎◌, All, map}
+use Rattle.etcs_vars.specs.declared.var.Var.{Var}
 use Rattle.etcs_text.specs.declared.entry.Kind.{Kind}
 use Rattle.etcs_text.specs.Entries.{EntryValue}
-use Rattle.etcs_json.specs.JsonLines.{SaysItem}
+use Rattle.etcs_json.specs.JsonLines.{SaysItem, SaysRefused}
 use Rattle.etcs_stream.specs.Lines.{IsLine, strip_cr, lines_text}
 
 -- the line is the JSON of an item of the kind, and isn't too long
 abbrev pub IsItemLine : Kind → List ℕ → EntryValue → Type 0
 IsItemLine kind line e = (0 < length line) × (length line ≤ 1048576) × SaysItem kind line e
+
+-- the line was stored when fewer packets were typed, and no item of the kind has its bits: bit i is refused, which x holds
+abbrev pub IsRefusedLine : Kind → List ℕ → ℕ → Var → Type 0
+IsRefusedLine kind line i x = (0 < length line) × (length line ≤ 1048576) × SaysRefused kind line i x
 
 -- the lines are those of the items, and empty ones
 abbrev pub AreItemLines : Kind → List (List ℕ) → List EntryValue → Type 0
@@ -52,9 +57,13 @@ pub record FurtherLine (kind : Kind) (text : List ℕ) (es : List EntryValue) (l
   pub begins : BeginsWith rest line
   pub some : 0 < length line
 
--- it is the first that is no item
+-- it is the first that is no item, and is refused at no bit
 abbrev pub BadJsonLine : Kind → List ℕ → List EntryValue → ℕ → Type 0
-BadJsonLine kind text es number = (lines : List (List ℕ)) × (line : List ℕ) × FurtherLine kind text es lines line × (number ≡ length lines + 1) × (length es < 1000000) × ((e : EntryValue) → IsItemLine kind line e → ⊥)
+BadJsonLine kind text es number = (lines : List (List ℕ)) × (line : List ℕ) × FurtherLine kind text es lines line × (number ≡ length lines + 1) × (length es < 1000000) × ((e : EntryValue) → IsItemLine kind line e → ⊥) × ((i : ℕ) (x : Var) → IsRefusedLine kind line i x → ⊥)
+
+-- it is the first that is no item, and its bits are refused
+abbrev pub RefusedJsonLine : Kind → List ℕ → List EntryValue → ℕ → Var → Type 0
+RefusedJsonLine kind text es i x = (lines : List (List ℕ)) × (line : List ℕ) × FurtherLine kind text es lines line × (length es < 1000000) × IsRefusedLine kind line i x
 
 -- a run may have no more items
 abbrev pub EndlessJson : Kind → List ℕ → List EntryValue → Type 0

@@ -1,9 +1,12 @@
 -- What a run says of an input is said of one list of items, one end and one text.
-use Rattle.std.specs.Prelude.{◌≡◌, ℕ, List, ◌++◌}
+use Rattle.std.specs.Prelude.{◌≡◌, ℕ, List, Option, ◌++◌}
+use Rattle.etcs_telegram.specs.Telegrams.{TelegramParts}
+use Rattle.etcs_group.specs.Groups.{IsGroup}
 use Rattle.etcs_text.specs.declared.entry.Kind.{Kind}
 use Rattle.etcs_stream.specs.declared.job.Command.{Command}
 use Rattle.etcs_stream.specs.declared.job.Form.{Form}
 use Rattle.etcs_text.specs.Entries.{EntryValue}
+use Rattle.etcs_stream.specs.Groups.{LastLines}
 use Rattle.etcs_stream.specs.Tellers.{ItemsText}
 use Rattle.etcs_stream.specs.Inputs.{End, ItemsOf, WholeItems, FirstItems}
 
@@ -22,3 +25,7 @@ OneFront = (form : Form) (kind : Kind) (input : List ℕ) (es es' : List EntryVa
 -- items have one text
 abbrev pub OneText : Type 0
 OneText = (command : Command) (es : List EntryValue) (text text' : List ℕ) → ItemsText command es text → ItemsText command es text' → text ≡ text'
+
+-- the last lines of a group are one text
+abbrev pub OneLast : Type 0
+OneLast = (held : List (Option TelegramParts)) (text text' : List ℕ) → IsGroup held → LastLines held text → LastLines held text' → text ≡ text'

@@ -3,13 +3,14 @@ use Rattle.std.specs.Prelude.{◌≡◌, ℕ, ◌+◌, ◌<◌, ◌≤◌, Bool,
 use Rattle.etcs_bits.specs.Bits.{bits}
 use Rattle.etcs_vars.specs.Reading.{readings_of}
 use Rattle.etcs_vars.specs.Walking.{Refuses}
+use Rattle.etcs_vars.specs.declared.var.Var.{Var}
 use Rattle.etcs_text.specs.declared.entry.Kind.{Kind}
 use Rattle.etcs_stream.specs.declared.job.Command.{Command}
 use Rattle.etcs_text.specs.Entries.{EntryValue, EntryReads}
 use Rattle.etcs_stream.specs.Told.{Told}
 use Rattle.etcs_stream.specs.Tellers.{TellsItem, TellsItems}
 use Rattle.etcs_stream.specs.declared.job.Job.{Job}
-use Rattle.etcs_stream.specs.JsonItems.{IsItemLine}
+use Rattle.etcs_stream.specs.JsonItems.{IsItemLine, IsRefusedLine}
 use Rattle.etcs_stream.specs.declared.fault.RunFault.{RunFault}
 use Rattle.etcs_stream.specs.declared.fault.RunFault.TheVariants.{Refused, Truncated, BadHex, BadJson, Read, Write, Endless, Memory}
 use Rattle.etcs_stream.specs.Streams.{AreSpelled}
@@ -67,10 +68,10 @@ pub data TakesJson (job : Job) (line : List ℕ) (before after : Told) (text tex
 
 -- why it wasn't
 abbrev pub HaltsJson : Job → List ℕ → ℕ → Told → RunFault → Type 0
-HaltsJson job line number before (Refused item i x) = ⊥
+HaltsJson job line number before (Refused item i x) = (item ≡ before.count + 1) × (before.count < 1000000) × IsRefusedLine job.kind line i x
 HaltsJson job line number before (Truncated item k) = ⊥
 HaltsJson job line number before (BadHex l place) = ⊥
-HaltsJson job line number before (BadJson l) = (l ≡ number) × (0 < length line) × (before.count < 1000000) × ((e : EntryValue) → IsItemLine job.kind line e → ⊥)
+HaltsJson job line number before (BadJson l) = (l ≡ number) × (0 < length line) × (before.count < 1000000) × ((e : EntryValue) → IsItemLine job.kind line e → ⊥) × ((i : ℕ) (x : Var) → IsRefusedLine job.kind line i x → ⊥)
 HaltsJson job line number before Read = ⊥
 HaltsJson job line number before (Write sent) = ⊥
 HaltsJson job line number before Endless = (before.count ≡ 1000000) × (0 < length line)

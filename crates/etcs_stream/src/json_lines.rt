@@ -51,11 +51,13 @@ impl JsonLines {
     ///
     /// # Errors
     ///
-    /// `BadJson` where no item of the kind has this JSON, or the line is too long; `Memory`.
+    /// `BadJson` where no item of the kind has this JSON, or the line is too long; `Refused` where it was stored when fewer
+    /// packets were typed and no item has its bits; `Memory`.
     fn entry_in(&self, line: &[u8], number: u64) -> Result<Entry, RunFault>
         requires some { 0 < length line.now }
+        requires few { self.now.teller.count < 1000000 }
         ensures ok { IfOk result (λ e. IsItemLine self.now.job.kind line.now (entry_value e)) }
-        ensures err { IfErr result (λ e. ((e ≡ RunFault.BadJson number) × ((x : EntryValue) → IsItemLine self.now.job.kind line.now x → ⊥)) ⊎ (e ≡ RunFault.Memory)) }
+        ensures err { IfErr result (λ e. HaltsJson self.now.job line.now number self.now.teller e) }
     {
         if line.len() > MOST_BYTES {
             return Err(RunFault::BadJson { line: number });
@@ -63,6 +65,11 @@ impl JsonLines {
         match from_line(self.alloc, self.job.kind, line) {
             Ok(entry) => Ok(entry),
             Err(JsonFault::Shape) => Err(RunFault::BadJson { line: number }),
+            Err(JsonFault::Refused { bit, var }) => Err(RunFault::Refused {
+                item: self.teller.count() + 1,
+                bit,
+                var,
+            }),
             Err(JsonFault::Memory) => Err(RunFault::Memory),
         }
     }

@@ -1,0 +1,96 @@
+-- JSON that was stored when fewer packets were typed: a packet that is typed by now may be kept as bits in it. It says the
+-- item that has the same bits.
+use Rattle.std.specs.Prelude.{◌≡◌, ℕ, ◌+◌, ◌*◌, ◌==◌, ◌||◌, Bool, false, List, [], ◌∷◌, ◌++◌, length, map, replicate, Option, Some, None, if◌then◌else◌}
+use Rattle.serde_json.specs.Data.{Data, Items}
+use Rattle.etcs_vars.specs.declared.var.Var.{Var}
+use Rattle.etcs_vars.specs.declared.var.Var.TheVariants.{FILL, PAD, PADDING, NID_MESSAGE, L_MESSAGE, OTHER_DATA}
+use Rattle.etcs_vars.specs.Reading.{Reading, spelled, kept, IsOutcome, refused}
+use Rattle.etcs_packets.specs.PacketValues as packet
+use Rattle.etcs_packets.specs.PacketValues.{PacketValue, marker, typed}
+use Rattle.etcs_packets.specs.PacketReadings.{packets_reading}
+use Rattle.etcs_telegram.specs.Telegrams.{TelegramValue, header_reading, closed_reading, pad_bits}
+use Rattle.etcs_radio.specs.Messages.{MessageValue, typed_message, kept_message, front_of, head_reading}
+use Rattle.etcs_text.specs.declared.entry.Kind.{Kind}
+use Rattle.etcs_text.specs.Entries.{EntryValue, of_telegram, of_message, EntryReads}
+use Rattle.etcs_json.specs.TreeReading.{IsTreeOf, ArePacketTrees}
+
+-- ---- The numbers that may be kept.
+
+-- NID_PACKET is one of those that stored JSON may have as bits
+abbrev pub is_carried : ℕ → Bool
+is_carried nid = nid == 49 || nid == 57 || nid == 58 || nid == 63 || nid == 68 || nid == 80 || nid == 131
+
+-- a number that is kept in its place: all kept packets have one frame
+abbrev pub stand_in : ℕ → ℕ
+stand_in nid = if is_carried nid then 44 else nid
+
+abbrev pub unnamed : PacketValue → PacketValue
+unnamed (marker n) = marker n
+unnamed (typed nid dir r) = typed nid dir r
+unnamed (packet.kept nid dir b) = packet.kept (stand_in nid) dir b
+
+abbrev pub unnamed_telegram : TelegramValue → TelegramValue
+unnamed_telegram t = record { size = t.size; header = t.header; packets = map unnamed t.packets; fill = t.fill }
+
+abbrev pub unnamed_message : MessageValue → MessageValue
+unnamed_message (typed_message nid head body vs padding) = typed_message nid head body (map unnamed vs) padding
+unnamed_message (kept_message nid b) = kept_message nid b
+
+abbrev pub unnamed_entry : EntryValue → EntryValue
+unnamed_entry (of_telegram t) = of_telegram (unnamed_telegram t)
+unnamed_entry (of_message m) = of_message (unnamed_message m)
+
+-- o is an item of the kind, but that a kept packet may have such a number
+abbrev pub IsLoose : Kind → EntryValue → Type 0
+IsLoose kind o = (r : Reading) × EntryReads kind (unnamed_entry o) r
+
+-- ---- Its bits.
+
+-- b are the bits of o
+abbrev pub LooseSpells : EntryValue → List Bool → Type 0
+LooseSpells (of_telegram t) b = b ≡ spelled (header_reading t.header ++ closed_reading t.packets ++ kept FILL t.fill ++ kept PAD (replicate (pad_bits t.size) false))
+LooseSpells (of_message (typed_message nid head body vs padding)) b = (len : ℕ) × (front_of body + length (spelled (packets_reading vs)) + length padding ≡ 8 * len) × (b ≡ spelled (head_reading nid len head ++ body ++ packets_reading vs ++ kept PADDING padding))
+LooseSpells (of_message (kept_message nid c)) b = (len : ℕ) × (18 + length c ≡ 8 * len) × (b ≡ spelled ((NID_MESSAGE, nid) ∷ (L_MESSAGE, len) ∷ kept OTHER_DATA c))
+
+-- ---- What a tree says.
+
+-- d is the tree of o, and b are its bits
+pub record IsStored (kind : Kind) (d : Data) (o : EntryValue) (b : List Bool) : Type 0 where
+  pub loose : IsLoose kind o
+  pub tree : IsTreeOf o d
+  pub bits : LooseSpells o b
+
+-- it says the item of the kind that has these bits
+abbrev pub TreeSays : Kind → Data → EntryValue → Type 0
+TreeSays kind d e = (o : EntryValue) × (r : Reading) × IsStored kind d o (spelled r) × EntryReads kind e r
+
+-- no item has these bits: bit i is the first that is refused, and x holds it
+abbrev pub TreeRefused : Kind → Data → ℕ → Var → Type 0
+TreeRefused kind d i x = (o : EntryValue) × (b : List Bool) × IsStored kind d o b × IsOutcome (EntryReads kind) b (refused i x)
+
+-- the item with stand-ins of a tree
+abbrev pub HasStandIns : Kind → Data → EntryValue → Type 0
+HasStandIns kind d e = (o : EntryValue) × (e ≡ unnamed_entry o) × IsLoose kind o × IsTreeOf o d
+
+-- ---- Its packets.
+
+abbrev pub packets_of : EntryValue → List PacketValue
+packets_of (of_telegram t) = t.packets
+packets_of (of_message (typed_message nid head body vs padding)) = vs
+packets_of (of_message (kept_message nid b)) = []
+
+-- the number of a packet that is kept as bits
+abbrev pub kept_number : PacketValue → Option ℕ
+kept_number (marker n) = None
+kept_number (typed nid dir r) = None
+kept_number (packet.kept nid dir b) = Some nid
+
+-- e is o with stand-ins, and these are the trees of o's packets
+pub record StandsFor (kind : Kind) (e : EntryValue) (ds : Items) (o : EntryValue) : Type 0 where
+  pub unnamed_is : e ≡ unnamed_entry o
+  pub loose : IsLoose kind o
+  pub trees : ArePacketTrees (packets_of o) ds
+
+-- each spelling of the kind that begins with these bits, or with which they begin, is as long as they are
+abbrev pub HasLength : Kind → List Bool → Type 0
+HasLength kind b = (e : EntryValue) (r : Reading) (c d : List Bool) → EntryReads kind e r → spelled r ++ c ≡ b ++ d → length (spelled r) ≡ length b

@@ -1,0 +1,222 @@
+//! Packets that were kept as bits in JSON before they were typed.
+
+ghost use Rattle.std.specs.Prelude.{◌≡◌, ◌≢◌, ◌+◌, ◌≤◌, ◌<◌, ◌^◌, ◌++◌, ℕ, Bool, Err, IfOk, IsTrue, List, All, length, map};
+ghost use Rattle.serde_json.specs.Data.{Items, array};
+ghost use Rattle.serde_json.specs.View.{items_view, view};
+ghost use Rattle.etcs_bits.specs.Bits.{bits};
+ghost use Rattle.etcs_vars.specs.declared.var.Var.{Var};
+ghost use Rattle.etcs_vars.specs.Reading.{IsOutcome, Reading, refused, spelled};
+ghost use Rattle.etcs_packets.specs.PacketReadings.{packets_reading};
+ghost use Rattle.etcs_packets.specs.PacketValues.{IsPacket, PacketValue, packet_value};
+ghost use Rattle.etcs_text.specs.Entries.{EntryReads, EntryValue, Spells, entry_value, kind_of};
+ghost use Rattle.etcs_text.specs.declared.entry.Kind.{Kind};
+ghost use Rattle.etcs_text.specs.declared.entry.Kind.TheVariants as kind_is;
+ghost use Rattle.etcs_json.specs.Loose.{HasLength, HasStandIns, LooseSpells, StandsFor, TreeRefused, TreeSays, is_carried, kept_number, packets_of, stand_in, unnamed};
+ghost use Rattle.etcs_json.specs.TreeReading.{ArePacketTrees, IsPacketTree, IsTreeOf};
+
+use crate::digits::byte_in;
+use crate::fault::JsonFault;
+use crate::members::{four_members, message_members, three_members};
+use etcs_bits::parts::write;
+use etcs_packets::Packet;
+use etcs_radio::MessageReader;
+use etcs_telegram::{Size, TelegramReader};
+use etcs_text::{Entry, Kind, encoded};
+use etcs_vars::parts::Variables;
+use etcs_vars::{Fed, ReadFault};
+use serde_json::Value;
+use std::alloc::Global;
+
+/// Whether stored JSON may have packets of this number as bits.
+fn is_carried(nid: u8) -> bool
+    ensures { result ≡ is_carried nid }
+{
+    matches!(nid, 49 | 57 | 58 | 63 | 68 | 80 | 131)
+}
+
+/// The number under which such bits are held: all kept packets have one frame.
+pub(crate) fn stand_in(nid: u8) -> u8
+    ensures { result ≡ stand_in nid }
+{
+    if is_carried(nid) { 44 } else { nid }
+}
+
+/// The item that a tree says, of which `entry` is the one with stand-ins.
+///
+/// # Errors
+///
+/// `Refused` where no item has these bits; `Memory` where memory was refused.
+pub(crate) fn stored(
+    alloc: Global,
+    kind: Kind,
+    value: &Value,
+    entry: Entry,
+) -> Result<Entry, JsonFault>
+    requires { HasStandIns kind (view value.now) (entry_value entry) }
+    ensures ok { IfOk result (λ e. TreeSays kind (view value.now) (entry_value e)) }
+    ensures refused { (i : ℕ) (x : Var) → result ≡ Err (JsonFault.Refused i x) → TreeRefused kind (view value.now) i x }
+    ensures shape { result ≢ Err JsonFault.Shape }
+{
+    let trees = packet_trees(value);
+    if are_named(trees) {
+        Ok(entry)
+    } else {
+        renamed(alloc, kind, &entry, trees)
+    }
+}
+
+/// The trees of an item's packets.
+fn packet_trees(value: &Value) -> &[Value]
+    ensures { (o : EntryValue) → IsTreeOf o (view value.now) → ArePacketTrees (packets_of o) (items_view result.now) }
+{
+    if let Some((_, _, _, packets)) = four_members(value, "fill", "header", "kind", "packets") {
+        return items_in(packets);
+    }
+    match message_members(value) {
+        Some((_, _, _, _, packets, _)) => items_in(packets),
+        None => &[],
+    }
+}
+
+/// The elements of a list.
+fn items_in(value: &Value) -> &[Value]
+    ensures { (ds : Items) → view value.now ≡ array ds → items_view result.now ≡ ds }
+{
+    match value.as_array() {
+        Some(list) => list.as_slice(),
+        None => &[],
+    }
+}
+
+/// The number of a packet that is kept as bits.
+fn kept_number(tree: &Value) -> Option<u8>
+    ensures { (v : PacketValue) → IsPacket (unnamed v) → IsPacketTree v (view tree.now) → result ≡ kept_number v }
+{
+    let (_, _, nid) = three_members(tree, "data", "dir", "nid")?;
+    byte_in(nid)
+}
+
+/// Whether no packet needs a stand-in.
+fn are_named(trees: &[Value]) -> bool
+    ensures { IsTrue result → (vs : List PacketValue) → All IsPacket (map unnamed vs) → ArePacketTrees vs (items_view trees.now) → map unnamed vs ≡ vs }
+{
+    for tree in trees {
+        if let Some(nid) = kept_number(tree) {
+            if is_carried(nid) {
+                return false;
+            }
+        }
+    }
+    true
+}
+
+/// The item with the bits of `entry` but for the numbers of its packets, which are those of these trees.
+fn renamed(alloc: Global, kind: Kind, entry: &Entry, trees: &[Value]) -> Result<Entry, JsonFault>
+    requires { (o : EntryValue) × StandsFor kind (entry_value entry.now) (items_view trees.now) o }
+    ensures ok { IfOk result (λ e. (o : EntryValue) → StandsFor kind (entry_value entry.now) (items_view trees.now) o → (r : Reading) × LooseSpells o (spelled r) × EntryReads kind (entry_value e) r) }
+    ensures refused { (i : ℕ) (x : Var) → result ≡ Err (JsonFault.Refused i x) → (o : EntryValue) → StandsFor kind (entry_value entry.now) (items_view trees.now) o → (b : List Bool) × LooseSpells o b × IsOutcome (EntryReads kind) b (refused i x) }
+    ensures shape { result ≢ Err JsonFault.Shape }
+{
+    let mut bytes = Vec::new(alloc);
+    if encoded(entry, &mut bytes).is_err() {
+        return Err(JsonFault::Memory);
+    }
+    rename_item(bytes.as_mut_slice(), entry, trees);
+    read(alloc, kind, bytes.as_slice())
+}
+
+/// Puts the numbers of these trees in the item's bytes.
+fn rename_item(bytes: &mut [u8], entry: &Entry, trees: &[Value])
+    requires { (r : Reading) × Spells (entry_value entry.now) r × (bits bytes.old ≡ spelled r) }
+    ensures { (kind : Kind) (o : EntryValue) → StandsFor kind (entry_value entry.now) (items_view trees.now) o → LooseSpells o (bits bytes.new) × HasLength kind (bits bytes.new) }
+{
+    match entry {
+        Entry::Telegram(telegram) => rename(bytes, 50, telegram.packets(), trees),
+        Entry::Message(message) => {
+            if let Some(body) = message.body() {
+                rename(bytes, 75 + body.bits(), message.packets(), trees);
+            }
+        }
+    }
+}
+
+/// Puts the numbers of these trees in place of those of the packets, of which the first begins at the bit `at`.
+fn rename(bytes: &mut [u8], at: usize, packets: &[Packet], trees: &[Value])
+    requires room { at + length (spelled (packets_reading (map packet_value packets.now))) ≤ length (bits bytes.old) }
+    requires small { length (bits bytes.old) < 2 ^ 64 }
+    ensures length { length bytes.new ≡ length bytes.old }
+    ensures bits { (vs : List PacketValue) (front behind : List Bool) → map packet_value packets.now ≡ map unnamed vs → All IsPacket (map unnamed vs) → ArePacketTrees vs (items_view trees.now) → length front ≡ at → bits bytes.old ≡ front ++ spelled (packets_reading (map unnamed vs)) ++ behind → bits bytes.new ≡ front ++ spelled (packets_reading vs) ++ behind }
+{
+    let mut place = at;
+    for (packet, tree) in packets.iter().zip(trees) {
+        if let Some(nid) = kept_number(tree) {
+            write(bytes, place, 8, u64::from(nid));
+        }
+        place += packet.bit_len();
+    }
+}
+
+/// The item of these bytes.
+///
+/// # Errors
+///
+/// `Refused` where they are no item's; `Memory` where memory was refused.
+fn read(alloc: Global, kind: Kind, bytes: &[u8]) -> Result<Entry, JsonFault>
+    requires { HasLength kind (bits bytes.now) }
+    ensures ok { IfOk result (λ e. (r : Reading) × EntryReads kind (entry_value e) r × (spelled r ≡ bits bytes.now)) }
+    ensures refused { (i : ℕ) (x : Var) → result ≡ Err (JsonFault.Refused i x) → IsOutcome (EntryReads kind) (bits bytes.now) (refused i x) }
+    ensures shape { result ≢ Err JsonFault.Shape }
+{
+    match kind {
+        Kind::Long => read_telegram(alloc, Size::Long, bytes),
+        Kind::Short => read_telegram(alloc, Size::Short, bytes),
+        Kind::Radio => read_message(alloc, bytes),
+    }
+}
+
+/// The telegram of these bytes, as of [`read`].
+fn read_telegram(alloc: Global, size: Size, bytes: &[u8]) -> Result<Entry, JsonFault>
+    requires { HasLength (kind_of size) (bits bytes.now) }
+    ensures ok { IfOk result (λ e. (r : Reading) × EntryReads (kind_of size) (entry_value e) r × (spelled r ≡ bits bytes.now)) }
+    ensures refused { (i : ℕ) (x : Var) → result ≡ Err (JsonFault.Refused i x) → IsOutcome (EntryReads (kind_of size)) (bits bytes.now) (refused i x) }
+    ensures shape { result ≢ Err JsonFault.Shape }
+{
+    let mut reader = TelegramReader::new(alloc, size);
+    match reader.feed(bytes) {
+        Ok(Fed::Done { .. }) => match reader.take() {
+            Ok(telegram) => Ok(Entry::Telegram(telegram)),
+            Err(_) => unreachable!(),
+        },
+        Ok(Fed::More) => unreachable!(),
+        Err(fault) => Err(fault_of(fault)),
+    }
+}
+
+/// The message of these bytes, as of [`read`].
+fn read_message(alloc: Global, bytes: &[u8]) -> Result<Entry, JsonFault>
+    requires { HasLength kind_is.Radio (bits bytes.now) }
+    ensures ok { IfOk result (λ e. (r : Reading) × EntryReads kind_is.Radio (entry_value e) r × (spelled r ≡ bits bytes.now)) }
+    ensures refused { (i : ℕ) (x : Var) → result ≡ Err (JsonFault.Refused i x) → IsOutcome (EntryReads kind_is.Radio) (bits bytes.now) (refused i x) }
+    ensures shape { result ≢ Err JsonFault.Shape }
+{
+    let mut reader = MessageReader::new(alloc);
+    match reader.feed(bytes) {
+        Ok(Fed::Done { .. }) => match reader.take() {
+            Ok(message) => Ok(Entry::Message(message)),
+            Err(_) => unreachable!(),
+        },
+        Ok(Fed::More) => unreachable!(),
+        Err(fault) => Err(fault_of(fault)),
+    }
+}
+
+/// What a reader's fault is here.
+fn fault_of(fault: ReadFault) -> JsonFault
+    ensures refused { (i : ℕ) (x : Var) → result ≡ JsonFault.Refused i x → fault ≡ ReadFault.Refused i x }
+    ensures shape { result ≢ JsonFault.Shape }
+{
+    match fault {
+        ReadFault::Refused { bit, var } => JsonFault::Refused { bit, var },
+        ReadFault::Memory | ReadFault::Ended => JsonFault::Memory,
+    }
+}

@@ -1,0 +1,278 @@
+#!/usr/bin/env python3
+"""Runs the program over inputs by chance, and checks what needs no second codec.
+
+    tools/fuzz.py [--seconds N] [--seed N] [PROGRAM [WORD ..]]
+
+PROGRAM is `etcs`, where nothing is said the one that `./etcs build` has built; the WORDs go before those
+of each call. An input is items of crates/etcs_vectors/stdin one after the other, some of them changed or
+cut, or bytes by chance: of each kind, as bytes, as digits or as JSON. Each command is run over it:
+
+- A call ends in 20 seconds, with the status 0 or 1, and takes at most 64 MiB.
+- After 0 nothing is on standard error; after 1 the line of a fault that this form can have, about the
+  item after those that were written, or none of a group that isn't whole or has a clash.
+- All commands end alike and write as many items.
+- What is written as bytes begins the input, and stays the same through each form.
+- With the bit at which an item is refused turned, it is refused at a later bit or not at all, and so
+  on: so some item begins with the bits before.
+
+It ends after N seconds (60) or 20 findings. Each is written with its call and the input in hexadecimal;
+at the end stand the counts, and the seed that gives the same inputs again. The status is 0 where nothing
+was found, 1 where something was, 2 where the words are wrong or the program can't be run.
+"""
+
+import collections
+import os
+import random
+import re
+import subprocess
+import sys
+import tempfile
+import threading
+import time
+
+CALL_SECONDS = 20
+CALL_KIBIBYTES = 64 * 1024
+FAULTS = {
+    "refused": re.compile(rb"etcs: item (\d+) refused at bit (\d+), [A-Z][A-Z_]*\n"),
+    "truncated": re.compile(rb"etcs: item (\d+) truncated after (\d+) bits\n"),
+    "bad hexadecimal": re.compile(rb"etcs: line (\d+): bad hexadecimal at (\d+)\n"),
+    "bad JSON": re.compile(rb"etcs: line (\d+): bad JSON\n"),
+}
+BIN_FAULTS = ["refused", "truncated"]
+FORM_FAULTS = {"bin": BIN_FAULTS, "hex": [*BIN_FAULTS, "bad hexadecimal"], "json": ["refused", "bad JSON"]}
+WAYS = [("bin", "json"), ("json", "bin"), ("json", "hex"), ("hex", "bin"), ("json", "json")]
+
+
+class Finding(Exception):
+    """What isn't as it must be, of a call over an input."""
+
+
+def expect(right, what, words, given):
+    """Raises the finding where something isn't right."""
+    if not right:
+        raise Finding(f"{what}: {' '.join(words)} < {given.hex().upper()}")
+
+
+class Program:
+    """The program, with the words that go before those of each call."""
+
+    def __init__(self, words):
+        self.words = words
+        self.counts = collections.Counter()
+
+    def run(self, words, given):
+        """The status, output and faults of a call over these bytes, if it ends as each call must."""
+        file = tempfile.TemporaryFile
+        with file() as start, file() as output, file() as faults:
+            start.write(given)
+            start.seek(0)
+            call = subprocess.Popen([*self.words, *words], stdin=start, stdout=output, stderr=faults)
+            clock = threading.Timer(CALL_SECONDS, call.kill)
+            clock.start()
+            _, status, used = os.wait4(call.pid, 0)
+            clock.cancel()
+            call.returncode = os.waitstatus_to_exitcode(status)
+            output.seek(0)
+            faults.seek(0)
+            answer = call.returncode, output.read(), faults.read()
+        self.counts["calls"] += 1
+        expect(answer[0] in (0, 1), f"status {answer[0]}, where signals are below 0", words, given)
+        expect(used.ru_maxrss <= CALL_KIBIBYTES, f"{used.ru_maxrss} KiB of memory", words, given)
+        return answer
+
+
+def fault_of(form, words, given, answer):
+    """The name and the numbers of a call's fault; nothing where it has none."""
+    status, _, line = answer
+    for name in FORM_FAULTS[form]:
+        if status == 1 and (found := FAULTS[name].fullmatch(line)):
+            return name, *map(int, found.groups())
+    expect(not line and (status == 0 or words[0] == "group"), f"status {status}, {line!r}", words, given)
+    return ()
+
+
+def count_items(words, given, output):
+    """How many items a call has written, which it numbers one after the other."""
+    if words[0] == "convert":
+        return output.count(b"\n")
+    numbers = [int(number) for number in re.findall(rb"^item (\d+) ", output, re.MULTILINE)]
+    expect(numbers == list(range(1, len(numbers) + 1)), "items out of order", words, given)
+    return len(numbers)
+
+
+class Trial:
+    """One input of a kind and a form."""
+
+    def __init__(self, program, kind, form, given):
+        self.program, self.kind, self.form, self.given = program, kind, form, given
+
+    def call(self, command, form, given):
+        """The words of a call over these bytes, its answer and its fault."""
+        words = [command[0], "--kind", self.kind, "--from", form, *command[1:]]
+        answer = self.program.run(words, given)
+        return words, answer, fault_of(form, words, given, answer)
+
+    def run(self, pick):
+        """Runs each command over the input."""
+        words, answer, fault = self.call(["check"], self.form, self.given)
+        count = count_items(words, self.given, answer[1])
+        if fault and fault[0] in ("refused", "truncated"):
+            expect(fault[1] == count + 1, "a fault of another item", words, self.given)
+        self.program.counts.update({"items": count, fault[0] if fault else "no fault": 1})
+        self.alike(fault, count, ["show"])
+        if self.kind != "radio":
+            self.alike(fault, count, ["group"])
+        texts = {to: self.alike(fault, count, ["convert", "--to", to]) for to in ("bin", "hex", "json")}
+        self.there_and_back(fault, texts)
+        if self.form == "bin" and fault and fault[0] == "refused":
+            self.turn(pick, bytearray(self.given[len(texts["bin"]) :]), fault[2])
+
+    def alike(self, fault, count, command):
+        """What a command writes, if it ends as `check` did and writes as many items."""
+        words, answer, found = self.call(command, self.form, self.given)
+        expect(found == fault, "another end than check's", words, self.given)
+        if command[-1] != "bin":
+            expect(count_items(words, self.given, answer[1]) == count, "other items", words, self.given)
+        if command == ["group"] and not fault:
+            whole = b" complete\n" in answer[1] and b" clash " not in answer[1]
+            expect(answer[0] == (0 if whole else 1), f"status {answer[0]}", words, self.given)
+        return answer[1]
+
+    def there_and_back(self, fault, texts):
+        """Whether what was written begins the input, and stays the same through each form."""
+        for start, end in WAYS:
+            words, answer, _ = self.call(["convert", "--to", end], start, texts[start])
+            expect(answer == (0, texts[end], b""), "another text", words, texts[start])
+        given = self.given
+        if self.form == "hex":
+            given = texts["bin"] if fault else bytes.fromhex(given.decode())
+        if self.form != "json":
+            right = given.startswith(texts["bin"]) and (fault or given == texts["bin"])
+            words = ["convert", "--kind", self.kind, "--from", self.form, "--to", "bin"]
+            expect(right, "other bytes", words, self.given)
+
+    def turn(self, pick, given, first):
+        """Turns each bit at which the first item is refused, at most a hundred."""
+        before = -1
+        for _ in range(100):
+            words, _, fault = self.call(["check"], "bin", bytes(given))
+            if not fault or fault[1] > 1:
+                self.program.counts["refused, then whole"] += 1
+                return
+            if fault[0] == "truncated":
+                given += pick.randbytes(20)
+                continue
+            right = fault[2] > before if before >= 0 else fault[2] == first
+            expect(right, f"refused after {before}, at first at {first}", words, bytes(given))
+            before = fault[2]
+            given[before // 8] ^= 0x80 >> before % 8
+
+
+def changed_bytes(pick, given):
+    """The bytes with some places changed."""
+    changed = bytearray(given)
+    for _ in range(pick.randrange(4)):
+        at, what = pick.randrange(len(changed) + 1), pick.randrange(6)
+        if what < 3 and at < len(changed):
+            changed[at] ^= 1 << pick.randrange(8)
+        elif what == 3:
+            changed[at:at] = pick.randbytes(2)
+        else:
+            del changed[at : len(changed) if what == 4 else at + pick.randrange(8)]
+    return bytes(changed)
+
+
+def changed_line(pick, line):
+    """A line of JSON with one number, text or sign changed, or with kept bits of another packet."""
+    text = line.decode()
+    if pick.random() < 0.3:
+        nid = pick.choice((12, 49, 57, 58, 63, 68, 80, 131, 137))
+        return re.sub(r'("data":"[01]*","dir":\d,"nid":)\d+', rf"\g<1>{nid}", text).encode()
+    token = pick.choice(list(re.finditer(r'"[^"]*"|\d+|[^"\d]', text)))
+    number = str(pick.getrandbits(pick.randrange(1, 65)))
+    other = pick.choice(("", number, f'"{number}"', 2 * token[0], token[0][:1] + token[0][2:]))
+    return (text[: token.start()] + other + text[token.end() :]).encode()
+
+
+class Inputs:
+    """Makes inputs of the items of the sheet."""
+
+    def __init__(self, pick, program, sheet):
+        self.pick, self.program, self.items = pick, program, collections.defaultdict(list)
+        for kind, digits in re.findall(r"^(short|long|radio) ([0-9A-F]+) =", sheet, re.MULTILINE):
+            self.items[kind].append(bytes.fromhex(digits))
+
+    def make(self, kind, form):
+        """An input of the kind in the form."""
+        if form == "json":
+            return b"\n".join(self.line(kind) for _ in range(self.pick.randrange(1, 4)))
+        given = b"".join(self.item(kind) for _ in range(self.pick.randrange(1, 5)))
+        return given if form == "bin" else self.digits(given)
+
+    def item(self, kind):
+        """An item of the sheet, as it is, changed or with other bytes after its first ones."""
+        item, what = self.pick.choice(self.items[kind]), self.pick.randrange(4)
+        if what == 0:
+            return item[: self.pick.randrange(16)] + self.pick.randbytes(self.pick.randrange(120))
+        return item if what == 1 else changed_bytes(self.pick, item)
+
+    def digits(self, given):
+        """Lines of digits of these bytes, of which one in four is changed."""
+        text = b""
+        for at in range(0, len(given), 29):
+            digits = given[at : at + 29].hex()
+            text += (digits.upper() if self.pick.random() < 0.5 else digits).encode()
+            text += self.pick.choice((b"\n", b"\r\n", b"", b"\n\n"))
+        return changed_bytes(self.pick, text) if self.pick.random() < 0.25 else text
+
+    def line(self, kind):
+        """A line of JSON that the program writes of an item, as it is or changed."""
+        words = ["convert", "--kind", kind, "--from", "bin", "--to", "json"]
+        line = self.program.run(words, self.pick.choice(self.items[kind]))[1].strip() or b"{}"
+        what = self.pick.randrange(4)
+        if what == 0:
+            return line
+        return changed_bytes(self.pick, line) if what == 1 else changed_line(self.pick, line)
+
+
+def fuzz(program, pick, sheet, seconds):
+    """Tries inputs until the time is over: how many findings there are."""
+    end, findings = time.monotonic() + seconds, 0
+    inputs = Inputs(pick, program, sheet)
+    while time.monotonic() < end and findings < 20:
+        kind, form = pick.choice(("short", "long", "radio")), pick.choice(("bin", "hex", "json"))
+        program.counts[f"inputs {kind} {form}"] += 1
+        try:
+            Trial(program, kind, form, inputs.make(kind, form)).run(pick)
+        except Finding as finding:
+            findings += 1
+            print(finding, flush=True)
+    return findings
+
+
+def main(words):
+    options = {"--seconds": 60, "--seed": random.getrandbits(32)}
+    while len(words) > 1 and words[0] in options and words[1].isdecimal():
+        options[words[0]] = int(words[1])
+        words = words[2:]
+    if words and words[0].startswith("-"):
+        print(__doc__, file=sys.stderr)
+        return 2
+    seconds, seed = options.values()
+    top = os.path.dirname(os.path.dirname(os.path.realpath(__file__)))
+    program = Program(words or [f"{top}/crates/etcs/out/etcs"])
+    with open(f"{top}/crates/etcs_vectors/stdin", encoding="utf-8") as text:
+        sheet = text.read()
+    try:
+        findings = fuzz(program, random.Random(seed), sheet, seconds)
+    except OSError as error:
+        print(f"{program.words[0]}: {error.strerror}", file=sys.stderr)
+        return 2
+    for name, count in sorted(program.counts.items()):
+        print(f"{name} {count}")
+    print(f"seed {seed}, findings {findings}")
+    return 1 if findings else 0
+
+
+if __name__ == "__main__":
+    sys.exit(main(sys.argv[1:]))

@@ -133,9 +133,22 @@ fn check_read(
     bits: BitSlice<'_>,
 ) -> Result<(), Fail> {
     let packet = parts::from_fields(alloc, 5, 1, links)?.ok_or("no such numbers")?;
-    let read = parts::from_bits(alloc, 5, 1, bits)?;
-    checks.check(read.as_ref() == Some(&packet), "another packet");
+    check_bits(checks, alloc, &packet, bits)?;
     check_copied(checks, alloc, &packet)?;
+    Ok(())
+}
+
+/// Checks that these bits are the packet 5.
+fn check_bits(
+    checks: &mut Checks,
+    alloc: Global,
+    packet: &Packet,
+    bits: BitSlice<'_>,
+) -> Result<(), AllocError> {
+    match parts::from_bits(alloc, 5, 1, bits)? {
+        Some(read) => checks.check(read == *packet, "another packet"),
+        None => checks.check(false, "no such bits"),
+    }
     Ok(())
 }
 

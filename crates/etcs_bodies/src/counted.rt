@@ -81,11 +81,17 @@ impl<E: Entry> Variables for Counted<E> {
 
 impl<E: Entry> Part for Counted<E> {
     ghost use Rattle.etcs_vars.specs.declared.var.Var.TheVariants.{N_ITER};
+    ghost use Rattle.etcs_tables.specs.Layouts.{whole, one, counted};
     ghost use Rattle.etcs_bodies.specs.Codecs.{IsEntries, list_from};
+    ghost use Rattle.etcs_bodies.specs.laws.Codecs.{list};
+
+    ghost row = { λ rest. one N_ITER (counted (E.Part.row whole) rest) };
 
     ghost read_from = { λ s. list_from N_ITER E.read_from s };
 
     ghost is_part = { λ l. IsEntries N_ITER E.is_part l };
+
+    ghost codes = { list N_ITER E.codes };
 
     fn holds(&self) {
         let _ = &self.entries;

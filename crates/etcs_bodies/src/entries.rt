@@ -3,7 +3,6 @@
 ghost use Rattle.std.specs.Prelude.{◌≡◌, ◌≤◌, ℕ, length, None, Some, IsTrue, nat_le, IfOk, IfErr};
 ghost use Rattle.etcs_vars.specs.declared.var.Var.TheVariants.{N_ITER};
 ghost use Rattle.etcs_bodies.specs.Faults.{count_fault};
-ghost use Rattle.etcs_bodies.specs.Codecs.{Codes};
 ghost use Rattle.etcs_bodies.specs.Entries.{AreEntries};
 ghost use Rattle.etcs_bodies.specs.Repeats.{bit_count};
 
@@ -18,18 +17,10 @@ use std::marker::Model;
 
 /// A part of which a packet has a first one and further ones.
 pub trait Entry: Part + Drop {
-    ghost use Rattle.etcs_tables.specs.Layouts.{Layout};
-
     /// The most bits that one takes, at most 2,047.
     const MOST: usize;
 
     ghost MOST: { ℕ };
-
-    /// Its row in front of the rest of a row.
-    ghost row: { Layout → Layout };
-
-    /// What its row spells is what it is read from.
-    ghost codes: { Codes row Self.is_part Self.reading_of Self.read_from };
 
     ghost most: { (e : Self) → Self.is_part e → bit_count (Self.reading_of e) ≤ MOST };
 
@@ -120,11 +111,16 @@ impl<E: Entry> Variables for Entries<E> {
 }
 
 impl<E: Entry> Part for Entries<E> {
-    ghost use Rattle.etcs_bodies.specs.Entries.{AreEntries, entries_from};
+    ghost use Rattle.etcs_bodies.specs.Entries.{AreEntries, entries_from, entries_row};
+    ghost use Rattle.etcs_bodies.specs.laws.Entries.{entries_codes};
+
+    ghost row = { entries_row E.Part.row };
 
     ghost read_from = { λ s. entries_from E.read_from s };
 
     ghost is_part = { λ e. AreEntries E.is_part e };
+
+    ghost codes = { entries_codes E.codes };
 
     fn holds(&self) {
         let _ = &self.first;

@@ -3,7 +3,7 @@
 ghost use Rattle.std.specs.Prelude.{◌≡◌, ◌++◌, ◌<◌, ℕ, List, Option, Some, None, OnOk, OnErr, IfOk, IfSome, IfNone, length, All};
 ghost use Rattle.etcs_vars.specs.Reading.{spelled};
 ghost use Rattle.etcs_bodies.specs.Taking.{Left, times_from};
-ghost use Rattle.etcs_bodies.specs.Codecs.{IsEntries, list_reading, list_from, both_from};
+ghost use Rattle.etcs_bodies.specs.Codecs.{Codes, IsEntries, list_reading, list_from, both_from};
 ghost use Rattle.etcs_vars.specs.declared.var.Var.TheVariants.{N_ITER};
 ghost use Rattle.etcs_bodies.specs.Faults.{count_fault};
 
@@ -14,7 +14,11 @@ use std::alloc::{AllocError, Global};
 
 /// A part of a packet: a run of variables of its row.
 pub trait Part: Variables + Sized {
+    ghost use Rattle.etcs_tables.specs.Layouts.{Layout};
     ghost use Rattle.etcs_bodies.specs.Taking.{Left};
+
+    /// Its row in front of the rest of a row.
+    ghost row: { Layout → Layout };
 
     /// The part with which what is left begins, and what is behind it.
     ghost read_from: { Left → Option (Self × Left) };
@@ -35,6 +39,9 @@ pub trait Part: Variables + Sized {
     /// An equal part.
     fn try_clone(&self, alloc: Global) -> Result<Self, AllocError>
         ensures { IfOk result (λ p. p ≡ self.now) };
+
+    /// What is read is what was sent, and what its row spells.
+    ghost codes: { Codes row is_part Self.reading_of read_from };
 }
 
 /// Says of each of them that it is a part.

@@ -99,8 +99,8 @@ impl<const NID: u8> Flat<NID> {
     ///   for the variable's width.
     pub fn new(dir: u8, numbers: &[u64]) -> Result<Self, BuildFault>
         ensures ok { IfOk result (λ p. p ≡ flat_parts dir numbers.now) }
+        ensures fits { OnOk result (flat_fault NID dir numbers.now ≡ None) }
         ensures fault { IfErr result (λ e. flat_fault NID dir numbers.now ≡ Some e) }
-        ensures value { IfOk result (λ p. flat_fault NID p.dir p.numbers ≡ None) }
     {
         check_flat(NID, dir, numbers)?;
         let Ok(numbers) = ArrayVec::try_from(numbers) else {

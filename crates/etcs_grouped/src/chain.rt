@@ -32,7 +32,7 @@ pub trait Chained: Entry {
 
     ghost PACKET_WAY: { Way };
 
-    ghost typed: { row_to PACKET_WAY PACKET ≡ Some (chain_row Self.Entry.row whole) };
+    ghost typed: { row_to PACKET_WAY PACKET ≡ Some (chain_row Self.Part.row whole) };
 }
 
 /// A packet of a scale, a first entry and further ones.

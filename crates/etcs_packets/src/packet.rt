@@ -1,8 +1,10 @@
 //! A packet to the train.
 
-ghost use Rattle.std.specs.Prelude.{◌≡◌, ◌≤◌, Some, IfOk, IfErr};
+ghost use Rattle.std.specs.Prelude.{◌≡◌, ◌≤◌, length, None, Some, OnOk, IfOk, IfErr};
 ghost use Rattle.etcs_vars.specs.declared.var.Var.TheVariants.{NID_VBCMK};
 ghost use Rattle.etcs_vars.specs.Faults.{number_fault};
+ghost use Rattle.etcs_vars.specs.Reading.{spelled};
+ghost use Rattle.etcs_packets.specs.PacketValues.{bits_of, packet_value};
 
 use crate::list::{copied, of_each, packets};
 use crate::typed::{typed_bits, typed_nid};
@@ -90,6 +92,7 @@ pub enum Packet {
 impl Packet {
     ghost use Rattle.std.specs.Prelude.{◌≡◌, ◌≤◌, IfOk};
     ghost use Rattle.etcs_packets.specs.PacketValues.{packet_value, nid_of, bits_of};
+    ghost use Rattle.etcs_packets.specs.PacketReadings.{packet_reading};
 
     /// Packet 0, the marker of a virtual balise cover, of this NID_VBCMK.
     ///
@@ -98,6 +101,7 @@ impl Packet {
     /// `NotAdmitted(NID_VBCMK)` above 63.
     pub fn vbc_marker(number: u8) -> Result<Packet, BuildFault>
         ensures ok { IfOk result (λ p. p ≡ Packet.VbcMarker number) }
+        ensures fits { OnOk result (number_fault NID_VBCMK number ≡ None) }
         ensures fault { IfErr result (λ e. number_fault NID_VBCMK number ≡ Some e) }
     {
         match parts::marker(number) {
@@ -116,9 +120,10 @@ impl Packet {
     /// How many bits the packet takes, its frame among them: at most 8,191.
     pub fn bit_len(&self) -> usize
         ensures bits { result ≡ bits_of (packet_value self.now) }
+        ensures spelling { result ≡ length (spelled (packet_reading (packet_value self.now))) }
         ensures small { result ≤ 8191 }
     {
-        packets!(of_each, self, _ => MARKER_BITS, packet => typed_bits(packet), packet => frame_bits(Way::ToTrain) + packet.bits())
+        bits_in(self)
     }
 
     /// An equal packet.
@@ -131,4 +136,12 @@ impl Packet {
     {
         Ok(packets!(copied, self, alloc))
     }
+}
+
+/// How many bits a packet takes, its frame among them.
+fn bits_in(packet: &Packet) -> usize
+    ensures bits { result ≡ bits_of (packet_value packet.now) }
+    ensures small { result ≤ 8191 }
+{
+    packets!(of_each, packet, _ => MARKER_BITS, packet => typed_bits(packet), packet => frame_bits(Way::ToTrain) + packet.bits())
 }

@@ -67,6 +67,7 @@ impl Authority {
         overlap: Option<(u16, u16, u16, u8)>,
     ) -> Result<Authority, (BuildFault, Vec<Section>)>
         ensures ok { IfOk result (λ a. a ≡ authority_parts sections.items end end_timer danger_point overlap) }
+        ensures fits { OnOk result (authority_fault (authority_parts sections.items end end_timer danger_point overlap) ≡ None) }
         ensures fault { IfErr result (λ e. authority_fault (authority_parts sections.items end end_timer danger_point overlap) ≡ Some e.0) }
         ensures back { IfErr result (λ e. e.1.items ≡ sections.items) }
     {
@@ -144,6 +145,7 @@ fn faultless(
     overlap: Option<(u16, u16, u16, u8)>,
 ) -> Result<(), BuildFault>
     ensures ok { OnOk result (IsAuthority (authority_parts sections.now end.now end_timer danger_point overlap)) }
+    ensures fits { OnOk result (authority_fault (authority_parts sections.now end.now end_timer danger_point overlap) ≡ None) }
     ensures fault { IfErr result (λ e. authority_fault (authority_parts sections.now end.now end_timer danger_point overlap) ≡ Some e) }
 {
     check_count(Var::N_ITER, sections.len())?;
@@ -175,11 +177,16 @@ impl Variables for Authority {
 }
 
 impl Part for Authority {
-    ghost use Rattle.etcs_parts.specs.Authorities.{IsAuthority, authority_from};
+    ghost use Rattle.etcs_parts.specs.Authorities.{IsAuthority, authority_from, authority_then};
+    ghost use Rattle.etcs_parts.specs.laws.Authorities.{authority_codes};
+
+    ghost row = { authority_then };
 
     ghost read_from = { authority_from };
 
     ghost is_part = { λ a. IsAuthority a };
+
+    ghost codes = { authority_codes };
 
     fn holds(&self) {
         let _ = &self.end_timer;

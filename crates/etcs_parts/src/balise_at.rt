@@ -1,6 +1,6 @@
 //! A balise group of a list.
 
-ghost use Rattle.std.specs.Prelude.{◌≡◌, ◌++◌, None, Some, IfOk, IfErr, IfSome, IfNone};
+ghost use Rattle.std.specs.Prelude.{◌≡◌, ◌++◌, None, Some, IfOk, IfErr, IfSome, IfNone, OnOk};
 
 use etcs_bodies::{Entry, Numbers, Part, check};
 use etcs_vars::parts::{Sink, Variables};
@@ -37,6 +37,7 @@ impl BaliseAt {
     /// `NotAdmitted` with the first of NID_C (10 bits) and NID_BG (14) that doesn't admit its number.
     pub fn new(nid_c: Option<u16>, nid_bg: u16) -> Result<BaliseAt, BuildFault>
         ensures ok { IfOk result (λ b. b ≡ balise_at_parts nid_c nid_bg) }
+        ensures fits { OnOk result (balise_at_fault (balise_at_parts nid_c nid_bg) ≡ None) }
         ensures fault { IfErr result (λ e. balise_at_fault (balise_at_parts nid_c nid_bg) ≡ Some e) }
     {
         if let Some(country) = nid_c {
@@ -106,11 +107,17 @@ impl Variables for BaliseAt {
 }
 
 impl Part for BaliseAt {
+    ghost use Rattle.etcs_tables.specs.Rows.{balise_at};
     ghost use Rattle.etcs_parts.specs.BalisesAt.{balise_at_from, IsBaliseAt};
+    ghost use Rattle.etcs_parts.specs.laws.BalisesAt.{balise_at_codes};
+
+    ghost row = { balise_at };
 
     ghost read_from = { balise_at_from };
 
     ghost is_part = { λ p. IsBaliseAt p };
+
+    ghost codes = { balise_at_codes };
 
     fn holds(&self) {
         let _ = &self.nid_bg;
@@ -127,16 +134,11 @@ impl Part for BaliseAt {
 
 impl Entry for BaliseAt {
     ghost use Rattle.std.specs.Prelude.{refl};
-    ghost use Rattle.etcs_tables.specs.Rows.{balise_at};
-    ghost use Rattle.etcs_parts.specs.laws.BalisesAt.{balise_at_codes, balise_at_most};
+    ghost use Rattle.etcs_parts.specs.laws.BalisesAt.{balise_at_most};
 
     const MOST: usize = 25;
 
     ghost MOST = { 25 };
-
-    ghost row = { balise_at };
-
-    ghost codes = { balise_at_codes };
 
     ghost most = { λ p h. balise_at_most p };
 

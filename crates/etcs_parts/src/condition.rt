@@ -1,6 +1,6 @@
 //! A track condition.
 
-ghost use Rattle.std.specs.Prelude.{◌≡◌, ◌++◌, None, Some, IfOk, IfErr, IfSome, IfNone};
+ghost use Rattle.std.specs.Prelude.{◌≡◌, ◌++◌, None, Some, IfOk, IfErr, IfSome, IfNone, OnOk};
 
 use etcs_bodies::{Entry, Numbers, Part, check};
 use etcs_vars::parts::{Sink, Variables};
@@ -41,6 +41,7 @@ impl Condition {
     /// its number.
     pub fn new(d_trackcond: u16, l_trackcond: u16, m_trackcond: u8) -> Result<Condition, BuildFault>
         ensures ok { IfOk result (λ c. c ≡ condition_parts d_trackcond l_trackcond m_trackcond) }
+        ensures fits { OnOk result (condition_fault (condition_parts d_trackcond l_trackcond m_trackcond) ≡ None) }
         ensures fault { IfErr result (λ e. condition_fault (condition_parts d_trackcond l_trackcond m_trackcond) ≡ Some e) }
     {
         check(Var::D_TRACKCOND, u64::from(d_trackcond))?;
@@ -112,11 +113,17 @@ impl Variables for Condition {
 }
 
 impl Part for Condition {
+    ghost use Rattle.etcs_tables.specs.Rows.{condition};
     ghost use Rattle.etcs_parts.specs.Conditions.{condition_from, IsCondition};
+    ghost use Rattle.etcs_parts.specs.laws.Conditions.{condition_codes};
+
+    ghost row = { condition };
 
     ghost read_from = { condition_from };
 
     ghost is_part = { λ p. IsCondition p };
+
+    ghost codes = { condition_codes };
 
     fn holds(&self) {
         let _ = &self.d_trackcond;
@@ -133,16 +140,11 @@ impl Part for Condition {
 
 impl Entry for Condition {
     ghost use Rattle.std.specs.Prelude.{refl};
-    ghost use Rattle.etcs_tables.specs.Rows.{condition};
-    ghost use Rattle.etcs_parts.specs.laws.Conditions.{condition_codes, condition_most};
+    ghost use Rattle.etcs_parts.specs.laws.Conditions.{condition_most};
 
     const MOST: usize = 34;
 
     ghost MOST = { 34 };
-
-    ghost row = { condition };
-
-    ghost codes = { condition_codes };
 
     ghost most = { λ p h. condition_most p };
 

@@ -1,6 +1,6 @@
 //! A speed for some trains.
 
-ghost use Rattle.std.specs.Prelude.{◌≡◌, ◌++◌, None, Some, IfOk, IfErr, IfSome, IfNone};
+ghost use Rattle.std.specs.Prelude.{◌≡◌, ◌++◌, None, Some, IfOk, IfErr, IfSome, IfNone, OnOk};
 ghost use Rattle.etcs_parts.specs.Differings.{category_of};
 
 use etcs_bodies::{Numbers, Part, check};
@@ -45,6 +45,7 @@ impl Differing {
     /// 15; V_DIFF, above 127.
     pub fn new(q_diff: u8, category: u8, v_diff: u8) -> Result<Differing, BuildFault>
         ensures ok { IfOk result (λ d. d ≡ differing_parts q_diff category v_diff) }
+        ensures fits { OnOk result (differing_fault (differing_parts q_diff category v_diff) ≡ None) }
         ensures fault { IfErr result (λ e. differing_fault (differing_parts q_diff category v_diff) ≡ Some e) }
     {
         check(Var::Q_DIFF, u64::from(q_diff))?;
@@ -131,11 +132,16 @@ impl Variables for Differing {
 }
 
 impl Part for Differing {
-    ghost use Rattle.etcs_parts.specs.Differings.{differing_from, IsDiffering};
+    ghost use Rattle.etcs_parts.specs.Differings.{differing_from, IsDiffering, differing_row};
+    ghost use Rattle.etcs_parts.specs.laws.Differings.{differing_codes};
+
+    ghost row = { differing_row };
 
     ghost read_from = { differing_from };
 
     ghost is_part = { λ d. IsDiffering d };
+
+    ghost codes = { differing_codes };
 
     fn holds(&self) {
         let _ = &self.q_diff;

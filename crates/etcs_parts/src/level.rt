@@ -1,6 +1,6 @@
 //! A level.
 
-ghost use Rattle.std.specs.Prelude.{◌≡◌, ◌++◌, None, Some, IfOk, IfErr, IfSome, IfNone};
+ghost use Rattle.std.specs.Prelude.{◌≡◌, ◌++◌, None, Some, IfOk, IfErr, IfSome, IfNone, OnOk};
 
 use etcs_bodies::{Entry, Numbers, Part, check, check_guard};
 use etcs_vars::parts::{Sink, Variables};
@@ -41,6 +41,7 @@ impl Level {
     /// - `Guard(M_LEVELTR)` where level NTC has no national system, or another level has one.
     pub fn new(m_leveltr: u8, nid_ntc: Option<u8>) -> Result<Level, BuildFault>
         ensures ok { IfOk result (λ l. l ≡ level_parts m_leveltr nid_ntc) }
+        ensures fits { OnOk result (level_fault (level_parts m_leveltr nid_ntc) ≡ None) }
         ensures fault { IfErr result (λ e. level_fault (level_parts m_leveltr nid_ntc) ≡ Some e) }
     {
         check(Var::M_LEVELTR, u64::from(m_leveltr))?;
@@ -108,11 +109,17 @@ impl Variables for Level {
 }
 
 impl Part for Level {
+    ghost use Rattle.etcs_tables.specs.Rows.{level};
     ghost use Rattle.etcs_parts.specs.Levels.{level_from, IsLevel};
+    ghost use Rattle.etcs_parts.specs.laws.Levels.{level_codes};
+
+    ghost row = { level };
 
     ghost read_from = { level_from };
 
     ghost is_part = { λ p. IsLevel p };
+
+    ghost codes = { level_codes };
 
     fn holds(&self) {
         let _ = &self.m_leveltr;
@@ -129,16 +136,11 @@ impl Part for Level {
 
 impl Entry for Level {
     ghost use Rattle.std.specs.Prelude.{refl};
-    ghost use Rattle.etcs_tables.specs.Rows.{level};
-    ghost use Rattle.etcs_parts.specs.laws.Levels.{level_codes, level_most};
+    ghost use Rattle.etcs_parts.specs.laws.Levels.{level_most};
 
     const MOST: usize = 11;
 
     ghost MOST = { 11 };
-
-    ghost row = { level };
-
-    ghost codes = { level_codes };
 
     ghost most = { λ p h. level_most p };
 

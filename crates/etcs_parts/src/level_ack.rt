@@ -1,6 +1,6 @@
 //! A level with its length of acknowledgement.
 
-ghost use Rattle.std.specs.Prelude.{◌≡◌, ◌++◌, None, Some, IfOk, IfErr, IfSome, IfNone};
+ghost use Rattle.std.specs.Prelude.{◌≡◌, ◌++◌, None, Some, IfOk, IfErr, IfSome, IfNone, OnOk};
 
 use crate::level::Level;
 use etcs_bodies::{Entry, Numbers, Part, check};
@@ -53,6 +53,7 @@ impl LevelAck {
         l_ackleveltr: u16,
     ) -> Result<LevelAck, BuildFault>
         ensures ok { IfOk result (λ l. l ≡ level_ack_parts m_leveltr nid_ntc l_ackleveltr) }
+        ensures fits { OnOk result (level_ack_fault (level_ack_parts m_leveltr nid_ntc l_ackleveltr) ≡ None) }
         ensures fault { IfErr result (λ e. level_ack_fault (level_ack_parts m_leveltr nid_ntc l_ackleveltr) ≡ Some e) }
     {
         let level = Level::new(m_leveltr, nid_ntc)?;
@@ -118,11 +119,17 @@ impl Variables for LevelAck {
 }
 
 impl Part for LevelAck {
+    ghost use Rattle.etcs_tables.specs.Rows.{level_ack};
     ghost use Rattle.etcs_parts.specs.Levels.{level_ack_from, IsLevelAck};
+    ghost use Rattle.etcs_parts.specs.laws.Levels.{level_ack_codes};
+
+    ghost row = { level_ack };
 
     ghost read_from = { level_ack_from };
 
     ghost is_part = { λ p. IsLevelAck p };
+
+    ghost codes = { level_ack_codes };
 
     fn holds(&self) {
         let _ = &self.l_ackleveltr;
@@ -139,16 +146,11 @@ impl Part for LevelAck {
 
 impl Entry for LevelAck {
     ghost use Rattle.std.specs.Prelude.{refl};
-    ghost use Rattle.etcs_tables.specs.Rows.{level_ack};
-    ghost use Rattle.etcs_parts.specs.laws.Levels.{level_ack_codes, level_ack_most};
+    ghost use Rattle.etcs_parts.specs.laws.Levels.{level_ack_most};
 
     const MOST: usize = 26;
 
     ghost MOST = { 26 };
-
-    ghost row = { level_ack };
-
-    ghost codes = { level_ack_codes };
 
     ghost most = { λ p h. level_ack_most p };
 

@@ -1,6 +1,6 @@
 //! A linked balise group.
 
-ghost use Rattle.std.specs.Prelude.{◌≡◌, ◌++◌, None, Some, IfOk, IfErr, IfSome, IfNone};
+ghost use Rattle.std.specs.Prelude.{◌≡◌, ◌++◌, None, Some, IfOk, IfErr, IfSome, IfNone, OnOk};
 
 use etcs_bodies::{Entry, Numbers, Part, check};
 use etcs_vars::parts::{Sink, Variables};
@@ -50,6 +50,7 @@ impl Link {
         q_locacc: u8,
     ) -> Result<Link, BuildFault>
         ensures ok { IfOk result (λ l. l ≡ link_parts d_link nid_c nid_bg q_linkorientation q_linkreaction q_locacc) }
+        ensures fits { OnOk result (link_fault (link_parts d_link nid_c nid_bg q_linkorientation q_linkreaction q_locacc) ≡ None) }
         ensures fault { IfErr result (λ e. link_fault (link_parts d_link nid_c nid_bg q_linkorientation q_linkreaction q_locacc) ≡ Some e) }
     {
         check(Var::D_LINK, u64::from(d_link))?;
@@ -176,11 +177,17 @@ impl Variables for Link {
 }
 
 impl Part for Link {
+    ghost use Rattle.etcs_tables.specs.Rows.{link};
     ghost use Rattle.etcs_parts.specs.Links.{link_from, IsLink};
+    ghost use Rattle.etcs_parts.specs.laws.Links.{link_codes};
+
+    ghost row = { link };
 
     ghost read_from = { link_from };
 
     ghost is_part = { λ l. IsLink l };
+
+    ghost codes = { link_codes };
 
     fn holds(&self) {
         let _ = &self.d_link;
@@ -197,16 +204,11 @@ impl Part for Link {
 
 impl Entry for Link {
     ghost use Rattle.std.specs.Prelude.{refl};
-    ghost use Rattle.etcs_tables.specs.Rows.{link};
-    ghost use Rattle.etcs_parts.specs.laws.Links.{link_codes, link_most};
+    ghost use Rattle.etcs_parts.specs.laws.Links.{link_most};
 
     const MOST: usize = 49;
 
     ghost MOST = { 49 };
-
-    ghost row = { link };
-
-    ghost codes = { link_codes };
 
     ghost most = { λ p h. link_most p };
 

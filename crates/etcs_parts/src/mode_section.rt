@@ -1,6 +1,6 @@
 //! An area of a mode.
 
-ghost use Rattle.std.specs.Prelude.{◌≡◌, ◌++◌, None, Some, IfOk, IfErr, IfSome, IfNone};
+ghost use Rattle.std.specs.Prelude.{◌≡◌, ◌++◌, None, Some, IfOk, IfErr, IfSome, IfNone, OnOk};
 
 use etcs_bodies::{Entry, Numbers, Part, check};
 use etcs_vars::parts::{Sink, Variables};
@@ -53,6 +53,7 @@ impl ModeSection {
         q_mamode: bool,
     ) -> Result<ModeSection, BuildFault>
         ensures ok { IfOk result (λ m. m ≡ mode_section_parts d_mamode m_mamode v_mamode l_mamode l_ackmamode q_mamode) }
+        ensures fits { OnOk result (mode_section_fault (mode_section_parts d_mamode m_mamode v_mamode l_mamode l_ackmamode q_mamode) ≡ None) }
         ensures fault { IfErr result (λ e. mode_section_fault (mode_section_parts d_mamode m_mamode v_mamode l_mamode l_ackmamode q_mamode) ≡ Some e) }
     {
         check(Var::D_MAMODE, u64::from(d_mamode))?;
@@ -159,11 +160,17 @@ impl Variables for ModeSection {
 }
 
 impl Part for ModeSection {
+    ghost use Rattle.etcs_tables.specs.Rows.{mode_section};
     ghost use Rattle.etcs_parts.specs.ModeSections.{mode_section_from, IsModeSection};
+    ghost use Rattle.etcs_parts.specs.laws.ModeSections.{mode_section_codes};
+
+    ghost row = { mode_section };
 
     ghost read_from = { mode_section_from };
 
     ghost is_part = { λ p. IsModeSection p };
+
+    ghost codes = { mode_section_codes };
 
     fn holds(&self) {
         let _ = &self.d_mamode;
@@ -180,16 +187,11 @@ impl Part for ModeSection {
 
 impl Entry for ModeSection {
     ghost use Rattle.std.specs.Prelude.{refl};
-    ghost use Rattle.etcs_tables.specs.Rows.{mode_section};
-    ghost use Rattle.etcs_parts.specs.laws.ModeSections.{mode_section_codes, mode_section_most};
+    ghost use Rattle.etcs_parts.specs.laws.ModeSections.{mode_section_most};
 
     const MOST: usize = 55;
 
     ghost MOST = { 55 };
-
-    ghost row = { mode_section };
-
-    ghost codes = { mode_section_codes };
 
     ghost most = { λ p h. mode_section_most p };
 

@@ -1,6 +1,6 @@
 //! A place at which the train reports its position.
 
-ghost use Rattle.std.specs.Prelude.{◌≡◌, ◌++◌, None, Some, IfOk, IfErr, IfSome, IfNone};
+ghost use Rattle.std.specs.Prelude.{◌≡◌, ◌++◌, None, Some, IfOk, IfErr, IfSome, IfNone, OnOk};
 
 use etcs_bodies::{Entry, Numbers, Part, check};
 use etcs_vars::parts::{Sink, Variables};
@@ -38,6 +38,7 @@ impl ReportAt {
     /// `NotAdmitted(D_LOC)` where the distance is above 32,767.
     pub fn new(d_loc: u16, q_lgtloc: bool) -> Result<ReportAt, BuildFault>
         ensures ok { IfOk result (λ r. r ≡ report_at_parts d_loc q_lgtloc) }
+        ensures fits { OnOk result (report_at_fault (report_at_parts d_loc q_lgtloc) ≡ None) }
         ensures fault { IfErr result (λ e. report_at_fault (report_at_parts d_loc q_lgtloc) ≡ Some e) }
     {
         check(Var::D_LOC, u64::from(d_loc))?;
@@ -90,11 +91,17 @@ impl Variables for ReportAt {
 }
 
 impl Part for ReportAt {
+    ghost use Rattle.etcs_tables.specs.Rows.{report_at};
     ghost use Rattle.etcs_parts.specs.ReportsAt.{report_at_from, IsReportAt};
+    ghost use Rattle.etcs_parts.specs.laws.ReportsAt.{report_at_codes};
+
+    ghost row = { report_at };
 
     ghost read_from = { report_at_from };
 
     ghost is_part = { λ p. IsReportAt p };
+
+    ghost codes = { report_at_codes };
 
     fn holds(&self) {
         let _ = &self.d_loc;
@@ -111,16 +118,11 @@ impl Part for ReportAt {
 
 impl Entry for ReportAt {
     ghost use Rattle.std.specs.Prelude.{refl};
-    ghost use Rattle.etcs_tables.specs.Rows.{report_at};
-    ghost use Rattle.etcs_parts.specs.laws.ReportsAt.{report_at_codes, report_at_most};
+    ghost use Rattle.etcs_parts.specs.laws.ReportsAt.{report_at_most};
 
     const MOST: usize = 16;
 
     ghost MOST = { 16 };
-
-    ghost row = { report_at };
-
-    ghost codes = { report_at_codes };
 
     ghost most = { λ p h. report_at_most p };
 

@@ -49,6 +49,7 @@ impl Section {
     /// - `NotAdmitted(D_SECTIONTIMERSTOPLOC)` where the distance is above 32,767.
     pub fn new(length: u16, timer: Option<(u16, u16)>) -> Result<Section, BuildFault>
         ensures ok { IfOk result (λ s. s ≡ section_parts length timer) }
+        ensures fits { OnOk result (section_fault (section_parts length timer) ≡ None) }
         ensures fault { IfErr result (λ e. section_fault (section_parts length timer) ≡ Some e) }
     {
         check(Var::L_SECTION, u64::from(length))?;
@@ -158,11 +159,18 @@ impl Variables for Section {
 }
 
 impl Part for Section {
+    ghost use Rattle.etcs_vars.specs.declared.var.Var.TheVariants.{L_SECTION};
+    ghost use Rattle.etcs_tables.specs.Rows.{section_timer, ◌▸◌};
     ghost use Rattle.etcs_parts.specs.Sections.{section_from, IsSection};
+    ghost use Rattle.etcs_parts.specs.laws.Sections.{section_codes};
+
+    ghost row = { λ rest. L_SECTION ▸ section_timer rest };
 
     ghost read_from = { section_from };
 
     ghost is_part = { λ p. IsSection p };
+
+    ghost codes = { section_codes };
 
     fn holds(&self) {
         let _ = &self.length;

@@ -1,6 +1,6 @@
 //! Where a text is shown.
 
-ghost use Rattle.std.specs.Prelude.{◌≡◌, ◌++◌, None, Some, IfOk, IfErr, IfSome, IfNone};
+ghost use Rattle.std.specs.Prelude.{◌≡◌, ◌++◌, None, Some, IfOk, IfErr, IfSome, IfNone, OnOk};
 
 use etcs_bodies::{Numbers, Part, check, check_guard};
 use etcs_vars::parts::{Sink, Variables};
@@ -44,6 +44,7 @@ impl Shown {
         nid_ntc: Option<u8>,
     ) -> Result<Shown, BuildFault>
         ensures ok { IfOk result (λ s. s ≡ shown_parts m_modetextdisplay m_leveltextdisplay nid_ntc) }
+        ensures fits { OnOk result (shown_fault (shown_parts m_modetextdisplay m_leveltextdisplay nid_ntc) ≡ None) }
         ensures fault { IfErr result (λ e. shown_fault (shown_parts m_modetextdisplay m_leveltextdisplay nid_ntc) ≡ Some e) }
     {
         check(Var::M_MODETEXTDISPLAY, u64::from(m_modetextdisplay))?;
@@ -135,11 +136,17 @@ impl Variables for Shown {
 }
 
 impl Part for Shown {
+    ghost use Rattle.etcs_tables.specs.Rows.{shown};
     ghost use Rattle.etcs_parts.specs.Displays.{shown_from, IsShown};
+    ghost use Rattle.etcs_parts.specs.laws.Displays.{shown_codes};
+
+    ghost row = { shown };
 
     ghost read_from = { shown_from };
 
     ghost is_part = { λ p. IsShown p };
+
+    ghost codes = { shown_codes };
 
     fn holds(&self) {
         let _ = &self.m_modetextdisplay;

@@ -1,6 +1,6 @@
 //! A change of gradient.
 
-ghost use Rattle.std.specs.Prelude.{◌≡◌, ◌++◌, None, Some, IfOk, IfErr, IfSome, IfNone};
+ghost use Rattle.std.specs.Prelude.{◌≡◌, ◌++◌, None, Some, IfOk, IfErr, IfSome, IfNone, OnOk};
 
 use etcs_bodies::{Entry, Numbers, Part, check};
 use etcs_vars::parts::{Sink, Variables};
@@ -43,6 +43,7 @@ impl Slope {
     /// `NotAdmitted(D_GRADIENT)` where the distance is above 32,767.
     pub fn new(d_gradient: u16, q_gdir: bool, g_a: u8) -> Result<Slope, BuildFault>
         ensures ok { IfOk result (λ s. s ≡ slope_parts d_gradient q_gdir g_a) }
+        ensures fits { OnOk result (slope_fault (slope_parts d_gradient q_gdir g_a) ≡ None) }
         ensures fault { IfErr result (λ e. slope_fault (slope_parts d_gradient q_gdir g_a) ≡ Some e) }
     {
         check(Var::D_GRADIENT, u64::from(d_gradient))?;
@@ -113,11 +114,17 @@ impl Variables for Slope {
 }
 
 impl Part for Slope {
+    ghost use Rattle.etcs_tables.specs.Rows.{slope};
     ghost use Rattle.etcs_parts.specs.Slopes.{slope_from, IsSlope};
+    ghost use Rattle.etcs_parts.specs.laws.Slopes.{slope_codes};
+
+    ghost row = { slope };
 
     ghost read_from = { slope_from };
 
     ghost is_part = { λ p. IsSlope p };
+
+    ghost codes = { slope_codes };
 
     fn holds(&self) {
         let _ = &self.d_gradient;
@@ -134,16 +141,11 @@ impl Part for Slope {
 
 impl Entry for Slope {
     ghost use Rattle.std.specs.Prelude.{refl};
-    ghost use Rattle.etcs_tables.specs.Rows.{slope};
-    ghost use Rattle.etcs_parts.specs.laws.Slopes.{slope_codes, slope_most};
+    ghost use Rattle.etcs_parts.specs.laws.Slopes.{slope_most};
 
     const MOST: usize = 24;
 
     ghost MOST = { 24 };
-
-    ghost row = { slope };
-
-    ghost codes = { slope_codes };
 
     ghost most = { λ p h. slope_most p };
 

@@ -1,6 +1,6 @@
 //! A static speed and its differences.
 
-ghost use Rattle.std.specs.Prelude.{◌≡◌, Some, OnOk, IfOk, IfErr};
+ghost use Rattle.std.specs.Prelude.{◌≡◌, Some, OnOk, IfOk, IfErr, None};
 
 use crate::differing::Differing;
 use etcs_bodies::{
@@ -56,6 +56,7 @@ impl Speed {
         differing: Vec<Differing>,
     ) -> Result<Speed, (BuildFault, Vec<Differing>)>
         ensures ok { IfOk result (λ s. s ≡ speed_parts d_static v_static q_front differing.items) }
+        ensures fits { OnOk result (speed_fault (speed_parts d_static v_static q_front differing.items) ≡ None) }
         ensures fault { IfErr result (λ e. speed_fault (speed_parts d_static v_static q_front differing.items) ≡ Some e.0) }
         ensures back { IfErr result (λ e. e.1.items ≡ differing.items) }
     {
@@ -106,6 +107,7 @@ impl Speed {
         differing: &[Differing],
     ) -> Result<(), BuildFault>
         ensures ok { OnOk result (IsSpeed (speed_parts d_static v_static q_front differing.now)) }
+        ensures fits { OnOk result (speed_fault (speed_parts d_static v_static q_front differing.now) ≡ None) }
         ensures fault { IfErr result (λ e. speed_fault (speed_parts d_static v_static q_front differing.now) ≡ Some e) }
     {
         check(Var::D_STATIC, u64::from(d_static))?;
@@ -137,11 +139,17 @@ impl Variables for Speed {
 }
 
 impl Part for Speed {
+    ghost use Rattle.etcs_tables.specs.Rows.{speed};
     ghost use Rattle.etcs_parts.specs.Speeds.{IsSpeed, speed_from};
+    ghost use Rattle.etcs_parts.specs.laws.Speeds.{speed_codes};
+
+    ghost row = { speed };
 
     ghost read_from = { speed_from };
 
     ghost is_part = { λ s. IsSpeed s };
+
+    ghost codes = { speed_codes };
 
     fn holds(&self) {
         let _ = &self.d_static;
@@ -181,16 +189,11 @@ impl Part for Speed {
 
 impl Entry for Speed {
     ghost use Rattle.std.specs.Prelude.{refl};
-    ghost use Rattle.etcs_tables.specs.Rows.{speed};
-    ghost use Rattle.etcs_parts.specs.laws.Speeds.{speed_codes, speed_most};
+    ghost use Rattle.etcs_parts.specs.laws.Speeds.{speed_most};
 
     const MOST: usize = 431;
 
     ghost MOST = { 431 };
-
-    ghost row = { speed };
-
-    ghost codes = { speed_codes };
 
     ghost most = { speed_most };
 

@@ -73,6 +73,7 @@ impl TextFrame {
         confirm: Option<(bool, Option<(u8, u16, u16)>)>,
     ) -> Result<TextFrame, BuildFault>
         ensures ok { IfOk result (λ t. t ≡ text_frame_parts q_scale q_textclass q_textdisplay d_textdisplay start l_textdisplay t_textdisplay end q_textconfirm confirm) }
+        ensures fits { OnOk result (text_frame_fault (text_frame_parts q_scale q_textclass q_textdisplay d_textdisplay start l_textdisplay t_textdisplay end q_textconfirm confirm) ≡ None) }
         ensures fault { IfErr result (λ e. text_frame_fault (text_frame_parts q_scale q_textclass q_textdisplay d_textdisplay start l_textdisplay t_textdisplay end q_textconfirm confirm) ≡ Some e) }
     {
         check(Var::Q_SCALE, u64::from(q_scale))?;
@@ -328,11 +329,17 @@ impl Variables for TextFrame {
 }
 
 impl Part for TextFrame {
+    ghost use Rattle.etcs_tables.specs.Rows.{text_frame};
     ghost use Rattle.etcs_parts.specs.TextFrames.{IsTextFrame, text_frame_from};
+    ghost use Rattle.etcs_parts.specs.laws.TextFrames.{text_frame_codes};
+
+    ghost row = { text_frame };
 
     ghost read_from = { text_frame_from };
 
     ghost is_part = { λ t. IsTextFrame t };
+
+    ghost codes = { text_frame_codes };
 
     fn holds(&self) {
         let _ = &self.q_scale;

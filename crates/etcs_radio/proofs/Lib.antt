@@ -1,6 +1,7 @@
 pub mod Bodies
 pub mod Fitting
 pub mod Sizes
+pub mod OneHolding
 pub mod OneReading
 pub mod Writing
 pub mod Spelling

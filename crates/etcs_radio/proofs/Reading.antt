@@ -14,7 +14,7 @@ use Rattle.etcs_radio.specs.laws.RestLaws.{rest_begins, rest_ended}
 use Rattle.etcs_radio.specs.Messages.{MessageValue, MessageReads, IsMessage, message_value}
 use Rattle.etcs_radio.specs.Readers.{so_far, message_by, message_bits, Members}
 use Rattle.etcs_radio.proofs.Bytes.{message_bytes, some_bits, some_message, bits_counted}
-use Rattle.etcs_radio.proofs.Holding.{members_of}
+use Rattle.etcs_radio.proofs.Holding.{members_at}
 use Rattle.etcs_radio.proofs.Spelling.{regular}
 use Rattle.etcs_radio.proofs.SoFar.{far_is, far_long, next_asks}
 use Rattle.etcs_radio.proofs.Wholes.{whole_reads}
@@ -66,5 +66,5 @@ messages = record {
   asks = λ s q x e g f h. next_asks s.nid s.phase s.front.items s.packets.left s.padding (list_holds s.packets.store.packets.items s.packets.store.numbers.items s.packets.store.bits) q x f.1 h g e;
   whole = λ s e l h. whole_reads s.nid s.phase s.front.items s.packets.left s.packets.store s.padding (length s.front.items) s.stands e l h;
   counted = bits_counted;
-  members = λ s part x e g h short whole. (let k = s.packets.store in members_of s.nid s.phase s.front.items s.packets.left k.packets.items k.numbers.items k.bits s.padding (far s) part x s.stands e g h short whole);
+  members = λ s part x e g h short whole. (let k = s.packets.store in members_at s.nid s.phase s.front.items s.packets.left k.packets.items k.numbers.items k.bits s.padding (far s) part x s.stands e g h short whole);
 }

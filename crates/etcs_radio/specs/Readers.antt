@@ -1,11 +1,11 @@
 -- What a reader of messages stands for, by what it keeps.
-use Rattle.std.specs.Prelude.{◌≡◌, ℕ, ◌+◌, ◌-◌, ◌*◌, ◌/◌, ◌<◌, Bool, List, [], ◌∷◌, ◌++◌, length, drop, map, Option, Some, None, ◌⊎◌}
+use Rattle.std.specs.Prelude.{◌≡◌, ℕ, ◌+◌, ◌-◌, ◌*◌, ◌/◌, ◌<◌, Bool, List, [], ◌∷◌, ◌++◌, length, drop, map, Option, Some, None, All, ◌⊎◌}
 use Rattle.etcs_bits.specs.Bits.{num}
 use Rattle.etcs_vars.specs.declared.var.Var.{Var}
 use Rattle.etcs_vars.specs.declared.var.Var.TheVariants.{NID_MESSAGE, PADDING, OTHER_DATA}
 use Rattle.etcs_vars.specs.Reading.{Reading, spelled, kept}
 use Rattle.etcs_packets.specs.declared.packet.Packet.{Packet}
-use Rattle.etcs_packets.specs.PacketValues.{packet_value}
+use Rattle.etcs_packets.specs.PacketValues.{packet_value, IsPacket, IsMade}
 use Rattle.etcs_packets.specs.PacketReadings.{packets_reading}
 use Rattle.etcs_sequence.specs.Runs.{Begun}
 use Rattle.etcs_sequence.specs.declared.left.PacketsLeft.{PacketsLeft}
@@ -13,10 +13,11 @@ use Rattle.etcs_sequence.specs.declared.list.PacketList.{PacketList}
 use Rattle.etcs_sequence.specs.Labels.{labelled, widths}
 use Rattle.etcs_sequence.specs.Lefts.{ahead}
 use Rattle.etcs_sequence.specs.Held.{packets_so_far}
+use Rattle.etcs_sequence.specs.Holdings.{HeldIn}
 use Rattle.etcs_radio.specs.declared.phase.Phase.{Phase}
 use Rattle.etcs_radio.specs.declared.phase.Phase.TheVariants as phase
 use Rattle.etcs_radio.specs.declared.message.Content.{Content}
-use Rattle.etcs_radio.specs.Messages.{padding_room}
+use Rattle.etcs_radio.specs.Messages.{padding_room, MessageLanguage}
 use Rattle.etcs_radio.specs.Readings.{bytes_of}
 use Rattle.etcs_radio.specs.Lefts.{front_row, front_vars, headed}
 use Rattle.etcs_radio.specs.Fronts.{content_by}
@@ -73,9 +74,19 @@ InPackets ps f k far =
 abbrev pub InData : List Bool → Reading → Type 0
 InData k far = (nid : ℕ) × (len : ℕ) × (front_row nid ≡ None) × (far ≡ headed nid len (kept OTHER_DATA k))
 
--- these are all whole variables. No bit of PADDING is among them: PADDING ends a message, with its last byte
-abbrev pub Members : List Packet → List ℕ → List Bool → Reading → Type 0
-Members ps f k far =
+-- no bit of PADDING stands between two pieces: PADDING ends a message, with its last byte
+abbrev pub Standing : List Packet → List ℕ → List Bool → Reading → Type 0
+Standing ps f k far =
     (InFront far × (ps ≡ []) × (f ≡ []) × (k ≡ []))
     ⊎ (InPackets ps f k far
     ⊎ (InData k far × (ps ≡ []) × (f ≡ [])))
+
+-- these are all whole variables, with packets of the profile
+abbrev pub Members : List Packet → List ℕ → List Bool → Reading → Type 0
+Members ps f k far = Standing ps f k far × All IsMade ps × All IsPacket (map packet_value ps)
+
+-- the same bits are held in one way
+abbrev pub OneHolding : Type 0
+OneHolding =
+    (b : List Bool) (ps qs : List Packet) (f g : List ℕ) (k l : List Bool) (part part' taken taken' : ℕ)
+    → HeldIn MessageLanguage (Members ps f k) b part taken → HeldIn MessageLanguage (Members qs g l) b part' taken' → (ps ≡ qs) × (f ≡ g) × (k ≡ l) × (part ≡ part') × (taken ≡ taken')

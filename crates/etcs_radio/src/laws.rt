@@ -4,6 +4,7 @@ ghost use Rattle.std.specs.Prelude.{◌≡◌, ℕ, ◌≤◌, ◌<◌, ◌*◌,
 ghost use Rattle.etcs_bits.specs.Bits.{bits};
 ghost use Rattle.etcs_vars.specs.Reading.{Reading, spelled, InLanguage, NoneYet};
 ghost use Rattle.etcs_radio.specs.Promises.{OneSpelling, RoomRule};
+ghost use Rattle.etcs_radio.specs.Readers.{OneHolding};
 ghost use Rattle.etcs_radio.specs.Messages.{MessageLanguage, MessageReads, message_value};
 
 use crate::message::Message;
@@ -21,6 +22,11 @@ pub fn one_spelling()
 /// bits of a packet's frame at least.
 pub fn room()
     ensures { RoomRule }
+{}
+
+/// Of the same bits a reader holds one and the same: packets, numbers, kept bits and the unfinished variable.
+pub fn one_holding()
+    ensures { OneHolding }
 {}
 
 /// `==` of messages is equality of their values: header, body, packets and PADDING, or number and kept bits.

@@ -1,5 +1,5 @@
 -- What is left of a row, as a sum whose parts are added one after the other.
-use Rattle.std.proofs.Common.{◌≡◌, ℕ, ◌+◌, ◌*◌, ◌<◌, ◌≤◌, List, [], ◌∷◌, ◌++◌, length, reverse, Bool, false, Option, Some, None, refl, sym, ◌∙◌, subst, arith, inl, inr}
+use Rattle.std.proofs.Common.{◌≡◌, ℕ, ◌+◌, ◌-◌, ◌*◌, ◌<◌, ◌≤◌, min, List, [], ◌∷◌, ◌++◌, length, reverse, Bool, false, Option, Some, None, refl, sym, ◌∙◌, subst, arith, inl, inr}
 use Rattle.std.specs.Prelude.{◌↔◌, IsTrue, IfSome}
 use Rattle.std.proofs.lemmas.Bool.{cases_lt}
 use Rattle.etcs_vars.specs.declared.var.Var.{Var}
@@ -9,11 +9,13 @@ use Rattle.etcs_tables.specs.declared.item.RowItem.TheVariants.{One}
 use Rattle.etcs_rows.specs.declared.place.Pending.{Pending}
 use Rattle.etcs_rows.specs.declared.place.Cursor.{Cursor}
 use Rattle.etcs_rows.specs.declared.steps.Steps.{Steps}
+use Rattle.etcs_rows.specs.declared.total.Total.{Total}
 use Rattle.etcs_tables.specs.Layouts.{Layout, whole, layout}
 use Rattle.etcs_rows.specs.Places.{onto, append}
 use Rattle.etcs_rows.specs.Cursors.{waiting, left_of, WaitsNest, KnowsTail}
 use Rattle.etcs_rows.specs.Lengths.{LengthsBy, front, behind, GroupsWithin, FirstWithin, FitsWithin}
-use Rattle.etcs_rows.specs.Steps.{InSteps, AreSteps}
+use Rattle.etcs_rows.specs.Steps.{InSteps, AreSteps, AtMost}
+use Rattle.etcs_rows.specs.Totals.{InTotal, AreTotal}
 use Rattle.etcs_rows.specs.Sums.{Plus, SumOf}
 use Rattle.etcs_rows.specs.Waiting.{Agains, Tails, Onward}
 use Rattle.etcs_rows.proofs.CursorLemmas.{reverse-push}
@@ -21,7 +23,7 @@ use Rattle.etcs_rows.proofs.PlaceLemmas.{Open-onto, Open-waiting}
 use Rattle.etcs_rows.proofs.LengthLemmas.{SameSet, set_along, set_back, set_self, Plus-same, lengths-onto, lengths-append, lengths-iterate}
 use Rattle.etcs_rows.proofs.SumLemmas.{lengths-parts, first_and_tail, no_items}
 use Rattle.etcs_rows.proofs.RowSums.{Plus-assoc, zero-Plus, Plus-zero, whole_sum, first_sum}
-use Rattle.etcs_rows.proofs.StepLemmas.{in_first}
+use Rattle.etcs_rows.proofs.TotalLemmas.{total_first}
 use Rattle.etcs_rows.proofs.StepSums.{plus_are}
 
 -- ---- Sums.
@@ -40,6 +42,12 @@ waiting_first A R T m = (
   λ (r, x, pr, (a, t, pa, pt, e), f). (a, r + t, pa, (r, t, pr, pt, refl), (let k : a + (r + t) ≡ m = omega (arith, e, f) in k)),
 )
 
+-- two parts that change places with two others
+pub exchanged : (N O S M X : ℕ → Type 0) → SameSet (Plus N O) (Plus S M) → SameSet (Plus N (Plus O X)) (Plus S (Plus M X))
+exchanged N O S M X same =
+    set_along (Plus N (Plus O X)) (Plus (Plus N O) X) (Plus S (Plus M X)) (set_back (Plus (Plus N O) X) (Plus N (Plus O X)) (Plus-assoc N O X))
+    (set_along (Plus (Plus N O) X) (Plus (Plus S M) X) (Plus S (Plus M X)) (Plus-same (Plus N O) X (Plus S M) X same (set_self X)) (Plus-assoc S M X))
+
 -- ---- Answers.
 
 pub answer_same : (r : Option Bool) (P Q : Type 0) → (P ↔ Q) → IfSome r (λ b. IsTrue b ↔ P) → IfSome r (λ b. IsTrue b ↔ Q)
@@ -55,8 +63,8 @@ chosen r S A G items row ps m same is h =
     subst (λ (x : Layout). IfSome r (λ b. IsTrue b ↔ Plus S (Plus G (Plus (LengthsBy x 0) (Tails (reverse ps)))) m)) is there
 
 -- numbers that all pass what is asked for
-pub past_bits : (s : Steps) (B : ℕ → Type 0) (m : ℕ) → m < s.first → IsTrue false ↔ Plus (InSteps s) B m
-past_bits s B m h = (λ x. absurd cc, λ (j, k, a, b, e). absurd (let t = in_first s j a in omega (arith, t, e)))
+pub past_bits : (t : Total) (B : ℕ → Type 0) (m : ℕ) → m < t.steps.first → IsTrue false ↔ Plus (InTotal t) B m
+past_bits t B m h = (λ x. absurd cc, λ (j, k, a, b, e). absurd (let l = total_first t j a in omega (arith, l, e)))
 
 -- ---- One variable after the other.
 
@@ -66,36 +74,41 @@ onward_end items ps e =
     set_along T (Plus (λ m. m ≡ 0) T) (Onward items ps) (zero-Plus T) (Plus-same (λ m. m ≡ 0) T (LengthsBy (layout items) 0) T (whole_sum (layout items) 0 e) (set_self T))
 
 -- nothing is left
-pub onward_none : (s : Steps) (S M : ℕ → Type 0) (items : List RowItem) (ps : List Pending) → length items ≡ 0 → length ps ≡ 0 → AreSteps s (Plus S M) → AreSteps s (Plus S (Plus M (Onward items ps)))
-onward_none s S M items [] none e h =
+pub onward_none : (A S M : ℕ → Type 0) (items : List RowItem) (ps : List Pending) → length items ≡ 0 → length ps ≡ 0 → SameSet A (Plus S M) → SameSet A (Plus S (Plus M (Onward items ps)))
+onward_none A S M items [] none e h =
     let Z : ℕ → Type 0 = λ m. m ≡ 0 in let X = Onward items [] in
-    set_along (InSteps s) (Plus S M) (Plus S (Plus M X)) h
+    set_along A (Plus S M) (Plus S (Plus M X)) h
     (Plus-same S M S (Plus M X) (set_self S)
     (set_along M (Plus M Z) (Plus M X) (Plus-zero M) (Plus-same M Z M X (set_self M) (onward_end items [] (no_items items none)))))
-onward_none s S M items (p ∷ ps) none e h = absurd (omega (arith, e))
+onward_none A S M items (p ∷ ps) none e h = absurd (omega (arith, e))
+
+-- nothing waits
+pub tails_none : (S : ℕ → Type 0) (ps : List Pending) → length ps ≡ 0 → SameSet S (Plus S (Tails (reverse ps)))
+tails_none S [] e = Plus-zero S
+tails_none S (p ∷ ps) e = absurd (omega (arith, e))
 
 -- a part that is moved into the sum
-pub moved : (s : Steps) (S W R T L : ℕ → Type 0) → AreSteps s (Plus S W) → SameSet (Plus W R) L → SameSet (Plus (InSteps s) (Plus R T)) (Plus S (Plus L T))
-moved s S W R T L hs same =
-    set_along (Plus (InSteps s) (Plus R T)) (Plus (Plus S W) (Plus R T)) (Plus S (Plus L T)) (Plus-same (InSteps s) (Plus R T) (Plus S W) (Plus R T) hs (set_self (Plus R T)))
+pub moved : (A S W R T L : ℕ → Type 0) → SameSet A (Plus S W) → SameSet (Plus W R) L → SameSet (Plus A (Plus R T)) (Plus S (Plus L T))
+moved A S W R T L hs same =
+    set_along (Plus A (Plus R T)) (Plus (Plus S W) (Plus R T)) (Plus S (Plus L T)) (Plus-same A (Plus R T) (Plus S W) (Plus R T) hs (set_self (Plus R T)))
     (set_along (Plus (Plus S W) (Plus R T)) (Plus S (Plus W (Plus R T))) (Plus S (Plus L T)) (Plus-assoc S W (Plus R T))
     (Plus-same S (Plus W (Plus R T)) S (Plus L T) (set_self S)
     (set_along (Plus W (Plus R T)) (Plus (Plus W R) T) (Plus L T) (set_back (Plus (Plus W R) T) (Plus W (Plus R T)) (Plus-assoc W R T)) (Plus-same (Plus W R) T L T same (set_self T)))))
 
 -- the variables in front that no group looks at
-pub led : (sum wide s : Steps) (items behind : List RowItem) (ps : List Pending) (width : ℕ) → AreSteps wide (λ k. k ≡ width) → AreSteps s (Plus (InSteps sum) (InSteps wide)) → SameSet (LengthsBy (layout items) 0) (Plus (λ k. k ≡ width) (LengthsBy (layout behind) 0))
-    → SameSet (Plus (InSteps s) (Onward behind ps)) (Plus (InSteps sum) (Onward items ps))
-led sum wide s items behind ps width hw hs same =
-    let S = InSteps sum in let W : ℕ → Type 0 = λ k. k ≡ width in let R = LengthsBy (layout behind) 0 in let L = LengthsBy (layout items) 0 in
-    let has : AreSteps s (Plus S W) = set_along (InSteps s) (Plus S (InSteps wide)) (Plus S W) hs (Plus-same S (InSteps wide) S W (set_self S) hw) in
-    moved s S W R (Tails (reverse ps)) L has (set_back L (Plus W R) same)
+pub led : (S A : ℕ → Type 0) (wide : Steps) (items behind : List RowItem) (ps : List Pending) (width : ℕ) → AreSteps wide (λ k. k ≡ width) → SameSet A (Plus S (InSteps wide)) → SameSet (LengthsBy (layout items) 0) (Plus (λ k. k ≡ width) (LengthsBy (layout behind) 0))
+    → SameSet (Plus A (Onward behind ps)) (Plus S (Onward items ps))
+led S A wide items behind ps width hw hs same =
+    let W : ℕ → Type 0 = λ k. k ≡ width in let R = LengthsBy (layout behind) 0 in let L = LengthsBy (layout items) 0 in
+    let has : SameSet A (Plus S W) = set_along A (Plus S (InSteps wide)) (Plus S W) hs (Plus-same S (InSteps wide) S W (set_self S) hw) in
+    moved A S W R (Tails (reverse ps)) L has (set_back L (Plus W R) same)
 
 -- the same with a part of two parts
-pub moved_two : (s : Steps) (S W G B T L : ℕ → Type 0) → AreSteps s (Plus S W) → SameSet (Plus W (Plus G B)) L → SameSet (Plus (InSteps s) (Plus G (Plus B T))) (Plus S (Plus L T))
-moved_two s S W G B T L hs same =
-    set_along (Plus (InSteps s) (Plus G (Plus B T))) (Plus (InSteps s) (Plus (Plus G B) T)) (Plus S (Plus L T))
-    (Plus-same (InSteps s) (Plus G (Plus B T)) (InSteps s) (Plus (Plus G B) T) (set_self (InSteps s)) (set_back (Plus (Plus G B) T) (Plus G (Plus B T)) (Plus-assoc G B T)))
-    (moved s S W (Plus G B) T L hs same)
+pub moved_two : (A S W G B T L : ℕ → Type 0) → SameSet A (Plus S W) → SameSet (Plus W (Plus G B)) L → SameSet (Plus A (Plus G (Plus B T))) (Plus S (Plus L T))
+moved_two A S W G B T L hs same =
+    set_along (Plus A (Plus G (Plus B T))) (Plus A (Plus (Plus G B) T)) (Plus S (Plus L T))
+    (Plus-same A (Plus G (Plus B T)) A (Plus (Plus G B) T) (set_self A) (set_back (Plus (Plus G B) T) (Plus G (Plus B T)) (Plus-assoc G B T)))
+    (moved A S W (Plus G B) T L hs same)
 
 -- behind the innermost group that waits
 pub leave_sum : (g : Steps) (p : Pending) (outer ps : List Pending) (items : List RowItem) → ps ≡ outer ++ p ∷ [] → AreSteps g (LengthsBy (front (layout p.items.now)) p.before) → layout items ≡ behind (layout p.items.now)
@@ -144,28 +157,28 @@ pub record NoneAt (more : Steps) (S X : ℕ → Type 0) (next m : ℕ) : Type 0 
   pub fail : (k : ℕ) → k < next → Plus S (Plus (λ j. more.first + k * more.step ≡ j) X) m → ⊥
 
 -- one number of the steps, as the code adds it
-one_added : (more single s : Steps) (S X : ℕ → Type 0) (k x : ℕ) → more.first + k * more.step ≡ x → AreSteps single (λ j. j ≡ x) → AreSteps s (Plus S (InSteps single)) → SameSet (Plus (InSteps s) X) (Plus S (Plus (λ j. more.first + k * more.step ≡ j) X))
-one_added more single s S X k x at is hs =
+one_added : (more single : Steps) (A S X : ℕ → Type 0) (k x : ℕ) → more.first + k * more.step ≡ x → AreSteps single (λ j. j ≡ x) → SameSet A (Plus S (InSteps single)) → SameSet (Plus A X) (Plus S (Plus (λ j. more.first + k * more.step ≡ j) X))
+one_added more single A S X k x at is hs =
     let N : ℕ → Type 0 = λ j. more.first + k * more.step ≡ j in
-    set_along (Plus (InSteps s) X) (Plus (Plus S N) X) (Plus S (Plus N X))
-    (Plus-same (InSteps s) X (Plus S N) X
-    (set_along (InSteps s) (Plus S (InSteps single)) (Plus S N) hs (Plus-same S (InSteps single) S N (set_self S) (λ j. (λ y. at ∙ sym ((is j).0 y), λ e. (is j).1 (sym e ∙ at))))) (set_self X))
+    set_along (Plus A X) (Plus (Plus S N) X) (Plus S (Plus N X))
+    (Plus-same A X (Plus S N) X
+    (set_along A (Plus S (InSteps single)) (Plus S N) hs (Plus-same S (InSteps single) S N (set_self S) (λ j. (λ y. at ∙ sym ((is j).0 y), λ e. (is j).1 (sym e ∙ at))))) (set_self X))
     (Plus-assoc S N X)
 
-pub at_found : (more single s : Steps) (S X : ℕ → Type 0) (k x m : ℕ) → k ≤ more.count → more.first + k * more.step ≡ x → AreSteps single (λ j. j ≡ x) → AreSteps s (Plus S (InSteps single)) → Plus (InSteps s) X m → Plus S (Plus (InSteps more) X) m
+pub at_found : (more single : Steps) (A S X : ℕ → Type 0) (k x m : ℕ) → k ≤ more.count → more.first + k * more.step ≡ x → AreSteps single (λ j. j ≡ x) → SameSet A (Plus S (InSteps single)) → Plus A X m → Plus S (Plus (InSteps more) X) m
 unfolding InSteps
-at_found more single s S X k x m l at is hs h =
-    let (i, y, a, (j, z, e, b, f), t) = (one_added more single s S X k x at is hs m).0 h in
+at_found more single A S X k x m l at is hs h =
+    let (i, y, a, (j, z, e, b, f), t) = (one_added more single A S X k x at is hs m).0 h in
     (i, y, a, (j, z, (k, l, e), b, f), t)
 
-pub at_more : (more single s : Steps) (S X : ℕ → Type 0) (k x m : ℕ) → NoneAt more S X k m → more.first + k * more.step ≡ x → AreSteps single (λ j. j ≡ x) → AreSteps s (Plus S (InSteps single)) → (Plus (InSteps s) X m → ⊥) → NoneAt more S X (k + 1) m
-at_more more single s S X k x m h at is hs not = record {
+pub at_more : (more single : Steps) (A S X : ℕ → Type 0) (k x m : ℕ) → NoneAt more S X k m → more.first + k * more.step ≡ x → AreSteps single (λ j. j ≡ x) → SameSet A (Plus S (InSteps single)) → (Plus A X m → ⊥) → NoneAt more S X (k + 1) m
+at_more more single A S X k x m h at is hs not = record {
   fail = λ i u y.
       elim (cases_lt i k) [
         | inl under ↦ h.fail i under y
         | inr over ↦
             let same : i ≡ k = omega (arith, u, over) in
-            not ((one_added more single s S X k x at is hs m).1 (subst (λ n. Plus S (Plus (λ j. more.first + n * more.step ≡ j) X) m) same y))
+            not ((one_added more single A S X k x at is hs m).1 (subst (λ n. Plus S (Plus (λ j. more.first + n * more.step ≡ j) X) m) same y))
       ];
 }
 
@@ -206,15 +219,29 @@ reaches_sum c again g items ha hg is =
     (set_along (Plus L (Plus A T)) (Plus L W) (LengthsBy (left_of c) 0) (Plus-same L (Plus A T) L W (set_self L) (set_back W (Plus A T) (waiting_split ps)))
     (set_back (LengthsBy (left_of c) 0) (Plus L W) (lengths-onto row (waiting ps) n (Open-waiting ps))))))
 
+-- numbers that are near enough to the greatest
+pub meets_sum : (A Y L : ℕ → Type 0) (t : Total) (low high most : ℕ) → AreTotal t (Plus A (AtMost (high - low))) → SameSet (Plus A Y) L → low ≤ high → high ≡ min most 8191
+    → Plus (InTotal t) Y high ↔ ((m : ℕ) × L m × (m ≤ 8191) × (low ≤ m) × (m ≤ most))
+meets_sum A Y L t low high most ht same le is = (
+  λ (x, y, pt, py, e).
+      let (a, k, pa, pk, f) = (ht x).0 pt in let near : k ≤ high - low = pk in
+      (a + y, (same (a + y)).0 (a, y, pa, py, refl), (let g : a + y ≤ 8191 = omega (arith, e, f, is) in g), (let g : low ≤ a + y = omega (arith, e, f, near, le) in g), (let g : a + y ≤ most = omega (arith, e, f, is) in g)),
+  λ (m, l, small, above, below).
+      let (a, y, pa, py, e) = (same m).1 l in
+      let k = high - m in
+      let near : k ≤ high - low = omega (arith, above) in
+      (a + k, y, (ht (a + k)).1 (a, k, pa, near, refl), py, (let g : a + k + y ≡ high = omega (arith, e, is, small, below) in g)),
+)
+
 -- the same, where a variable comes next
-pub fits_sum : (c : Cursor) (v : Var) (rest : List RowItem) (low high m : ℕ) (again s : Steps) → c.items.now ≡ One v ∷ rest → AreSteps again (Agains (reverse c.pending.items)) → AreSteps s (Plus (InSteps again) (λ k. k ≡ width v)) → m ≤ 8191
-    → Plus (InSteps s) (Plus (GroupsWithin v (layout rest) low high) (Plus (LengthsBy (behind (layout rest)) 0) (Tails (reverse c.pending.items)))) m ↔ FitsWithin (left_of c) low high m
-fits_sum c v rest low high m again s e ha hs small =
+pub fits_sum : (c : Cursor) (v : Var) (rest : List RowItem) (low high m : ℕ) (again : Steps) (S : ℕ → Type 0) → c.items.now ≡ One v ∷ rest → AreSteps again (Agains (reverse c.pending.items)) → SameSet S (Plus (InSteps again) (λ k. k ≡ width v)) → m ≤ 8191
+    → Plus S (Plus (GroupsWithin v (layout rest) low high) (Plus (LengthsBy (behind (layout rest)) 0) (Tails (reverse c.pending.items)))) m ↔ FitsWithin (left_of c) low high m
+fits_sum c v rest low high m again S e ha hs small =
     let ps = reverse c.pending.items in let row = layout rest in
     let A = Agains ps in let T = Tails ps in let G = GroupsWithin v row low high in let B = LengthsBy (behind row) 0 in let L = FirstWithin v row low high in let W = LengthsBy (waiting ps) 0 in
-    let all : SameSet (Plus (InSteps s) (Plus G (Plus B T))) (FirstWithin v (append row (waiting ps)) low high) =
-    set_along (Plus (InSteps s) (Plus G (Plus B T))) (Plus (InSteps again) (Plus L T)) (FirstWithin v (append row (waiting ps)) low high)
-    (moved_two s (InSteps again) (λ k. k ≡ width v) G B T L hs (first_sum v row low high))
+    let all : SameSet (Plus S (Plus G (Plus B T))) (FirstWithin v (append row (waiting ps)) low high) =
+    set_along (Plus S (Plus G (Plus B T))) (Plus (InSteps again) (Plus L T)) (FirstWithin v (append row (waiting ps)) low high)
+    (moved_two S (InSteps again) (λ k. k ≡ width v) G B T L hs (first_sum v row low high))
     (set_along (Plus (InSteps again) (Plus L T)) (Plus A (Plus L T)) (FirstWithin v (append row (waiting ps)) low high) (Plus-same (InSteps again) (Plus L T) A (Plus L T) ha (set_self (Plus L T)))
     (set_along (Plus A (Plus L T)) (Plus L (Plus A T)) (FirstWithin v (append row (waiting ps)) low high) (waiting_first A L T)
     (set_along (Plus L (Plus A T)) (Plus L W) (FirstWithin v (append row (waiting ps)) low high) (Plus-same L (Plus A T) L W (set_self L) (set_back W (Plus A T) (waiting_split ps)))

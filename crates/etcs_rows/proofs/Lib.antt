@@ -23,6 +23,7 @@ pub mod Shifts
 pub mod StepLemmas
 pub mod StepSums
 pub mod SumLemmas
+pub mod TotalLemmas
 pub mod WalkSteps
 pub mod WholeWalks
 pub mod WriteLemmas

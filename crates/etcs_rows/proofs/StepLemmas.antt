@@ -4,9 +4,9 @@ use Rattle.std.specs.Prelude.{◌↔◌, ◌⊎◌, ◌==◌, IsTrue, IfSome, na
 use Rattle.std.specs.Int.{abs_diff}
 use Rattle.std.proofs.lemmas.Bool.{cases_lt}
 use Rattle.std.proofs.lemmas.Bool.Decides.{nat_tests}
-use Rattle.std.proofs.Math.Nat.{add-mul, mul-suc, mul-zero, zero-mul, mul-div_left, mul-mod_left, div-add-mod, mul_comm}
+use Rattle.std.proofs.Math.Nat.{add-mul, mul-suc, mul-zero, zero-mul, mul-div_left, mul-mod_left, div-add-mod, mul_comm, le-div_iff_mul-le, mul-le-mul_right}
 use Rattle.etcs_rows.specs.declared.steps.Steps.{Steps}
-use Rattle.etcs_rows.specs.Steps.{InSteps, AreSteps}
+use Rattle.etcs_rows.specs.Steps.{InSteps, AreSteps, AtMost}
 use Rattle.etcs_rows.specs.Sums.{Plus, SumOf}
 use Rattle.etcs_rows.proofs.LengthLemmas.{set_along, set_self, Plus-same}
 
@@ -187,6 +187,38 @@ holds_between s n h off = (
   λ x. absurd (off (is_zero ((n - s.first) % s.step) x)),
   λ (i, l, e). absurd (off (let i_is : i * s.step ≡ n - s.first = omega (arith, e) in ap (λ k. k % s.step) (sym i_is) ∙ mul-mod_left i s.step)),
 )
+
+-- ---- A number, and at most so many more.
+
+pub near_under : (s : Steps) (slack n : ℕ) → n < s.first → IsTrue false ↔ Plus (InSteps s) (AtMost slack) n
+near_under s slack n h = (λ x. absurd cc, λ (j, k, a, b, e). absurd (let t = in_first s j a in omega (arith, t, e)))
+
+pub near_one : (s : Steps) (slack n : ℕ) → s.first ≤ n → s.step ≡ 0 → IsTrue (nat_le (n - s.first) slack) ↔ Plus (InSteps s) (AtMost slack) n
+unfolding InSteps
+near_one s slack n h z = (
+  λ x. (s.first, n - s.first, first_in s, is_le (n - s.first) slack x, (let t : s.first + (n - s.first) ≡ n = omega (arith, h) in t)),
+  λ (j, k, (i, l, e), b, t). le_is (n - s.first) slack (let few : k ≤ slack = b in let still : i * s.step ≡ 0 = rw z (mul-zero i) in let u : n - s.first ≤ slack = omega (arith, e, few, t, still) in u),
+)
+
+-- the last step that doesn't pass a number
+last_step : (d over count i : ℕ) → (d ≡ 0 → ⊥) → i ≡ min (over / d) count → i * d ≤ over
+last_step d over count i pos e = (le-div_iff_mul-le {k = d} {x = i} {y = over} (omega (arith, pos))).0 (omega (arith, e))
+
+pub near_steps : (s : Steps) (slack n i : ℕ) → s.first ≤ n → (s.step ≡ 0 → ⊥) → i ≡ min ((n - s.first) / s.step) s.count → IsTrue (nat_le (n - s.first - i * s.step) slack) ↔ Plus (InSteps s) (AtMost slack) n
+unfolding InSteps
+near_steps s slack n i h pos is =
+    let over = n - s.first in
+    let fits : i * s.step ≤ over = last_step s.step over s.count i pos is in (
+      λ x.
+          let most : i ≤ s.count = omega (arith, is) in
+          (s.first + i * s.step, over - i * s.step, (i, most, refl), is_le (over - i * s.step) slack x, (let t : s.first + i * s.step + (over - i * s.step) ≡ n = omega (arith, h, fits) in t)),
+      λ (j, k, (c, l, e), b, t).
+          let few : k ≤ slack = b in
+          let under : c * s.step ≤ over = omega (arith, e, t) in
+          let below : c ≤ over / s.step = (le-div_iff_mul-le {k = s.step} {x = c} {y = over} (omega (arith, pos))).1 under in
+          let more : c * s.step ≤ i * s.step = mul-le-mul_right s.step (omega (arith, below, l, is)) in
+          le_is (over - i * s.step) slack (let u : over - i * s.step ≤ slack = omega (arith, e, few, t, more) in u),
+    )
 
 -- ---- The numbers of both.
 

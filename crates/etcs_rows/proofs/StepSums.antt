@@ -104,6 +104,17 @@ times_none g S X a b next m h all = (
   λ (i, y, s, (j, k, (n, l, u, f), x, e), t). absurd (h.fail n l (omega (arith, u, all)) (i, y, s, (j, k, f, x, e), t)),
 )
 
+-- with a number of times that makes the sum
+pub times_found : (g all s sum : Steps) (X : ℕ → Type 0) (a b n m : ℕ) → a ≤ n → n ≤ b → AreSteps all (SumOf n (InSteps g)) → AreSteps s (Plus (InSteps sum) (InSteps all)) → Plus (InSteps s) X m → Plus (InSteps sum) (Plus (TimesWithin g a b) X) m
+times_found g all s sum X a b n m l u is hs (i, k, ps, pk, e) =
+    let (x, y, px, py, f) = (hs i).0 ps in
+    (x, y + k, px, (y, k, (n, l, u, (is y).0 py), pk, refl), (let t : x + (y + k) ≡ m = omega (arith, e, f) in t))
+
+-- and with one that doesn't
+pub times_not : (all s : Steps) (S X : ℕ → Type 0) (m : ℕ) → AreSteps s (Plus S (InSteps all)) → (Plus (InSteps s) X m → ⊥) → Plus S (Plus (InSteps all) X) m → ⊥
+times_not all s S X m hs not (x, z, px, (y, k, py, pk, f), e) =
+    not (x + y, k, (hs (x + y)).1 (x, y, px, py, refl), pk, (let t : x + y + k ≡ m = omega (arith, e, f) in t))
+
 -- where a number of times makes too much, so do those above it
 pub times_past : (g all sum : Steps) (X : ℕ → Type 0) (a b n m : ℕ) → NoTimes g (InSteps sum) X a n m → AreSteps all (SumOf n (InSteps g)) → m < sum.first + all.first → IsTrue false ↔ Plus (InSteps sum) (Plus (TimesWithin g a b) X) m
 times_past g all sum X a b n m h is past = (

@@ -6,6 +6,7 @@ pub mod Places
 pub mod Sets
 pub mod Steps
 pub mod Sums
+pub mod Totals
 pub mod Waiting
 pub mod Walks
 pub mod Writing

@@ -9,6 +9,10 @@ use Rattle.etcs_rows.specs.Sums.{SumOf}
 unfoldable pub InSteps : Steps → ℕ → Type 0
 InSteps s m = (i : ℕ) × (i ≤ s.count) × (s.first + i * s.step ≡ m)
 
+-- the numbers from 0 to n
+abbrev pub AtMost : ℕ → ℕ → Type 0
+AtMost n m = m ≤ n
+
 -- the numbers are those of A
 abbrev pub AreSteps : Steps → (ℕ → Type 0) → Type 0
 AreSteps s A = (m : ℕ) → InSteps s m ↔ A m

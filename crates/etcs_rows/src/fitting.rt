@@ -7,7 +7,8 @@ ghost use Rattle.etcs_vars.specs.Vars.{width, admits};
 ghost use Rattle.etcs_tables.specs.Layouts.{layout};
 ghost use Rattle.etcs_rows.specs.Lengths.{LengthsBy, behind, GroupsWithin, FitsWithin};
 ghost use Rattle.etcs_rows.specs.Sums.{Plus, SumOf};
-ghost use Rattle.etcs_rows.specs.Steps.{InSteps, AreSteps, TimesWithin};
+ghost use Rattle.etcs_rows.specs.Steps.{InSteps, AreSteps};
+ghost use Rattle.etcs_rows.specs.Totals.{InTotal};
 ghost use Rattle.etcs_rows.specs.Cursors.{waiting, left_of, Nests, WaitsNest, KnowsSteps};
 ghost use Rattle.etcs_rows.specs.Waiting.{Agains, Tails, Onward};
 
@@ -16,6 +17,7 @@ use crate::place::{Cursor, Pending};
 use crate::steps::{
     Steps, counted_within, groups_steps, leading, steps_each, steps_of, times_steps,
 };
+use crate::total::Total;
 use etcs_tables::RowItem;
 use etcs_vars::Var;
 
@@ -99,12 +101,12 @@ pub(crate) fn fits_at(cursor: &Cursor, number: u64, bits: usize) -> Option<bool>
 
 /// Whether items that begin with a variable, and what is behind the groups that wait, bring the sum to so many bits.
 #[cycle(fitting)]
-fn onward(sum: Steps, items: &'static [RowItem], waiting: &[Pending], bits: usize) -> Option<bool>
-    ensures { IfSome result (λ b. IsTrue b ↔ Plus (InSteps sum) (Onward items.now waiting.now) bits) }
+fn onward(sum: Total, items: &'static [RowItem], waiting: &[Pending], bits: usize) -> Option<bool>
+    ensures { IfSome result (λ b. IsTrue b ↔ Plus (InTotal sum) (Onward items.now waiting.now) bits) }
 {
     let (width, behind) = leading(items)?;
     let sum = sum.plus(Steps::single(width))?;
-    if sum.first > bits {
+    if sum.steps.first > bits {
         return Some(false);
     }
     turn(sum, behind, waiting, bits)
@@ -112,8 +114,8 @@ fn onward(sum: Steps, items: &'static [RowItem], waiting: &[Pending], bits: usiz
 
 /// The same, where groups may look at the variable in front.
 #[cycle(fitting)]
-fn turn(sum: Steps, items: &'static [RowItem], waiting: &[Pending], bits: usize) -> Option<bool>
-    ensures { IfSome result (λ b. IsTrue b ↔ Plus (InSteps sum) (Onward items.now waiting.now) bits) }
+fn turn(sum: Total, items: &'static [RowItem], waiting: &[Pending], bits: usize) -> Option<bool>
+    ensures { IfSome result (λ b. IsTrue b ↔ Plus (InTotal sum) (Onward items.now waiting.now) bits) }
 {
     match items.split_first() {
         None => leave(sum, waiting, bits),
@@ -128,11 +130,11 @@ fn turn(sum: Steps, items: &'static [RowItem], waiting: &[Pending], bits: usize)
 
 /// Whether what is behind the groups that wait brings the sum to so many bits.
 #[cycle(fitting)]
-fn leave(sum: Steps, waiting: &[Pending], bits: usize) -> Option<bool>
-    ensures { IfSome result (λ b. IsTrue b ↔ Plus (InSteps sum) (Tails (reverse waiting.now)) bits) }
+fn leave(sum: Total, waiting: &[Pending], bits: usize) -> Option<bool>
+    ensures { IfSome result (λ b. IsTrue b ↔ Plus (InTotal sum) (Tails (reverse waiting.now)) bits) }
 {
     match waiting.split_last() {
-        None => Some(sum.holds(bits)),
+        None => sum.holds(bits),
         Some((pending, outer)) => {
             if pending.items.is_empty() {
                 return leave(sum, outer, bits);
@@ -146,7 +148,7 @@ fn leave(sum: Steps, waiting: &[Pending], bits: usize) -> Option<bool>
 /// Whether the groups behind a number of a variable from low to high, and what is behind them, bring the sum to so many bits.
 #[cycle(fitting)]
 fn choose(
-    sum: Steps,
+    sum: Total,
     var: Var,
     rest: &'static [RowItem],
     low: u64,
@@ -154,7 +156,7 @@ fn choose(
     waiting: &[Pending],
     bits: usize,
 ) -> Option<bool>
-    ensures { IfSome result (λ b. IsTrue b ↔ Plus (InSteps sum) (Plus (GroupsWithin var (layout rest.now) low high) (Plus (LengthsBy (behind (layout rest.now)) 0) (Tails (reverse waiting.now)))) bits) }
+    ensures { IfSome result (λ b. IsTrue b ↔ Plus (InTotal sum) (Plus (GroupsWithin var (layout rest.now) low high) (Plus (LengthsBy (behind (layout rest.now)) 0) (Tails (reverse waiting.now)))) bits) }
 {
     let behind = behind_groups(rest);
     if low == high {
@@ -166,7 +168,7 @@ fn choose(
     match counted_within(var, rest, low, high) {
         Some((group, first, last)) => match times_steps(group, first, last) {
             Some(all) => spread(sum, all, behind, waiting, bits),
-            None => times_each(sum, group, first, last, behind, waiting, bits),
+            None => onward(sum.with(group, first, last)?, behind, waiting, bits),
         },
         None => match steps_each(var, rest, low, high) {
             Some(groups) => spread(sum, groups, behind, waiting, bits),
@@ -175,36 +177,10 @@ fn choose(
     }
 }
 
-/// Whether a group that stands from first to last times, and what is behind it, bring the sum to so many bits.
-#[cycle(fitting)]
-fn times_each(
-    sum: Steps,
-    group: Steps,
-    first: u64,
-    last: u64,
-    items: &'static [RowItem],
-    waiting: &[Pending],
-    bits: usize,
-) -> Option<bool>
-    ensures { IfSome result (λ b. IsTrue b ↔ Plus (InSteps sum) (Plus (TimesWithin group first last) (Onward items.now waiting.now)) bits) }
-{
-    let end = last.checked_add(1)?;
-    for times in first..end {
-        let all = group.times(times)?;
-        if sum.first.checked_add(all.first)? > bits {
-            return Some(false);
-        }
-        if spread(sum, all, items, waiting, bits)? {
-            return Some(true);
-        }
-    }
-    Some(false)
-}
-
 /// The same as `choose`, number by number.
 #[cycle(fitting)]
 fn choose_each(
-    sum: Steps,
+    sum: Total,
     var: Var,
     rest: &'static [RowItem],
     low: u64,
@@ -212,7 +188,7 @@ fn choose_each(
     waiting: &[Pending],
     bits: usize,
 ) -> Option<bool>
-    ensures { IfSome result (λ b. IsTrue b ↔ Plus (InSteps sum) (Plus (GroupsWithin var (layout rest.now) low high) (Plus (LengthsBy (behind (layout rest.now)) 0) (Tails (reverse waiting.now)))) bits) }
+    ensures { IfSome result (λ b. IsTrue b ↔ Plus (InTotal sum) (Plus (GroupsWithin var (layout rest.now) low high) (Plus (LengthsBy (behind (layout rest.now)) 0) (Tails (reverse waiting.now)))) bits) }
 {
     let most = u64::MAX >> (64 - var.width());
     let end = high.min(most).checked_add(1)?;
@@ -234,26 +210,26 @@ fn choose_each(
 /// Whether a number of `more`, and then what `onward` counts, bring the sum to so many bits.
 #[cycle(fitting)]
 fn spread(
-    sum: Steps,
+    sum: Total,
     more: Steps,
     items: &'static [RowItem],
     waiting: &[Pending],
     bits: usize,
 ) -> Option<bool>
-    ensures { IfSome result (λ b. IsTrue b ↔ Plus (InSteps sum) (Plus (InSteps more) (Onward items.now waiting.now)) bits) }
+    ensures { IfSome result (λ b. IsTrue b ↔ Plus (InTotal sum) (Plus (InSteps more) (Onward items.now waiting.now)) bits) }
 {
     match sum.plus(more) {
         Some(all) => {
             if items.is_empty() {
                 if waiting.is_empty() {
-                    return Some(all.holds(bits));
+                    return all.holds(bits);
                 }
             }
             onward(all, items, waiting, bits)
         }
         None => {
-            if more.count > sum.count {
-                spread_each(more, sum, items, waiting, bits)
+            if more.count > sum.steps.count {
+                spread_each(sum.with_steps(more), sum.steps, items, waiting, bits)
             } else {
                 spread_each(sum, more, items, waiting, bits)
             }
@@ -264,13 +240,13 @@ fn spread(
 /// The same as `spread`, number by number.
 #[cycle(fitting)]
 fn spread_each(
-    sum: Steps,
+    sum: Total,
     more: Steps,
     items: &'static [RowItem],
     waiting: &[Pending],
     bits: usize,
 ) -> Option<bool>
-    ensures { IfSome result (λ b. IsTrue b ↔ Plus (InSteps sum) (Plus (InSteps more) (Onward items.now waiting.now)) bits) }
+    ensures { IfSome result (λ b. IsTrue b ↔ Plus (InTotal sum) (Plus (InSteps more) (Onward items.now waiting.now)) bits) }
 {
     if more.count > 31 {
         return None;
@@ -296,22 +272,24 @@ pub(crate) fn fits_by_steps(cursor: &Cursor, low: u64, high: u64, bits: usize) -
             }
             let waiting = cursor.pending.as_slice();
             let sum = waiting_steps(waiting)?.plus(Steps::single(var.width()))?;
-            choose(sum, *var, rest, low, high, waiting, bits)
+            choose(Total::new(sum, 0), *var, rest, low, high, waiting, bits)
         }
         _ => None,
     }
 }
 
-/// Whether so many bits may be left of the row.
-pub(crate) fn reaches_by_steps(cursor: &Cursor, bits: usize) -> Option<bool>
+/// Whether a number of bits from low to high may be left of the row.
+pub(crate) fn meets_by_steps(cursor: &Cursor, low: usize, high: usize) -> Option<bool>
     requires { Nests cursor.now }
-    ensures { IfSome result (λ b. IsTrue b ↔ (LengthsBy (left_of cursor.now) 0 bits × (bits ≤ 8191))) }
+    ensures { IfSome result (λ b. IsTrue b ↔ ((m : ℕ) × LengthsBy (left_of cursor.now) 0 m × (m ≤ 8191) × (low ≤ m) × (m ≤ high))) }
 {
-    if bits > 8191 {
+    let high = high.min(8191);
+    if high < low {
         return Some(false);
     }
     let waiting = cursor.pending.as_slice();
     let again = waiting_steps(waiting)?;
     let groups = groups_steps(cursor.items, cursor.before)?;
-    spread(again, groups, behind_groups(cursor.items), waiting, bits)
+    let sum = Total::new(again, high - low);
+    spread(sum, groups, behind_groups(cursor.items), waiting, high)
 }

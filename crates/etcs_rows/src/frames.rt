@@ -4,10 +4,8 @@ ghost use Rattle.std.specs.Prelude.{◌≡◌, ◌↔◌, ℕ, ◌-◌, ◌/◌,
 ghost use Rattle.etcs_tables.specs.Frames.{frame_bits, is_kept};
 ghost use Rattle.etcs_rows.specs.Frames.{way_of, LengthFits, UnframedFits, NumberFits, IsBlock, Within, InWindows, AreBodies};
 ghost use Rattle.etcs_tables.specs.Layouts.{layout, Lengths};
-ghost use Rattle.etcs_rows.specs.Sets.{In};
 
 use crate::least::some_length;
-use crate::length_set::LengthSet;
 use crate::place::Place;
 use etcs_tables::{
     CLOSING, CLOSING_BITS, MARKER_BITS, MOST_LENGTH, Row, Way, frame_bits, is_kept, row_of,
@@ -37,9 +35,6 @@ impl Carrier {
 
 /// The most bits of padding behind the last packet of a message.
 pub const MOST_PADDING: usize = 7;
-
-/// How many numbers of bits are tried one by one before all of a row are worked out.
-const TRIES: usize = 64;
 
 /// The least and the greatest number of `width` bits that begins with `bits` and has `rest` bits more.
 fn ends(width: usize, rest: usize, bits: u64) -> (usize, usize)
@@ -77,24 +72,11 @@ impl Window {
         self.low <= bits && bits < self.end
     }
 
-    /// Whether one of its first numbers is, by equal steps, a number of bits that may be left of the row.
-    fn tries(self, place: &Place) -> bool
-        ensures { IsTrue result → (m : ℕ) × Within self m × Lengths place.now [] m }
+    /// Whether one of its numbers of bits may be left of the row.
+    fn meets(self, place: &Place) -> bool
+        ensures { IsTrue result ↔ ((m : ℕ) × Within self m × Lengths place.now [] m) }
     {
-        let end = self.end.min(self.low.saturating_add(TRIES));
-        for bits in self.low..end {
-            if place.takes_by_steps(bits) {
-                return true;
-            }
-        }
-        false
-    }
-
-    /// Whether a number of the set lies in it.
-    fn meets(self, set: &LengthSet) -> bool
-        ensures { IsTrue result ↔ ((m : ℕ) × Within self m × In set.now m) }
-    {
-        self.any() && set.any_in(self.low, self.end - 1)
+        self.any() && place.meets(self.low, self.end - 1)
     }
 }
 
@@ -144,13 +126,6 @@ impl Windows {
         self.followed.any() || self.last.any()
     }
 
-    /// Whether a number of the set lies in one of them.
-    fn meet(self, set: &LengthSet) -> bool
-        ensures { IsTrue result ↔ ((m : ℕ) × InWindows self m × In set.now m) }
-    {
-        self.followed.meets(set) || self.last.meets(set)
-    }
-
     /// Whether a number of bits that is found at once, and that the row takes, lies in one of them.
     fn meet_least(self, row: Row) -> bool
         ensures { IsTrue result → (m : ℕ) × InWindows self m × Lengths (layout row.items.now) [] m }
@@ -163,7 +138,7 @@ impl Windows {
         }
     }
 
-    /// Whether the row takes a number of bits in one of them. All its lengths are worked out only where none is found before.
+    /// Whether the row takes a number of bits in one of them.
     fn meet_row(self, row: Row) -> bool
         ensures { IsTrue result ↔ ((m : ℕ) × InWindows self m × Lengths (layout row.items.now) [] m) }
     {
@@ -171,7 +146,7 @@ impl Windows {
             return true;
         }
         let place = Place::start(row);
-        self.followed.tries(&place) || self.last.tries(&place) || self.meet(&place.lengths())
+        self.followed.meets(&place) || self.last.meets(&place)
     }
 }
 

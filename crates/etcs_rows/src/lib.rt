@@ -12,6 +12,7 @@ pub mod parts;
 mod place;
 mod rest;
 mod steps;
+mod total;
 mod walk;
 mod write;
 

@@ -6,7 +6,7 @@ ghost use Rattle.etcs_rows.specs.Lengths.{FitsWithin, is_free};
 ghost use Rattle.etcs_rows.specs.Sets.{In};
 ghost use Rattle.etcs_rows.specs.Places.{first_variable, after_any, after_number};
 
-use crate::fitting::{fits_at, fits_by_steps, reaches_by_steps, tail_steps};
+use crate::fitting::{fits_at, fits_by_steps, meets_by_steps, tail_steps};
 use crate::length_set::LengthSet;
 use crate::measure::{first_lengths, has_group, lengths_of};
 use crate::steps::{Steps, steps_again};
@@ -352,19 +352,16 @@ impl Place {
     pub(crate) fn can_take(&self, bits: usize) -> bool
         ensures { IsTrue result ↔ Lengths self.now [] bits }
     {
-        match reaches_by_steps(&self.cursor, bits) {
-            Some(answer) => answer,
-            None => self.lengths().holds(bits),
-        }
+        self.meets(bits, bits)
     }
 
-    /// Whether so many bits may be left of the row, where equal steps tell.
-    pub(crate) fn takes_by_steps(&self, bits: usize) -> bool
-        ensures { IsTrue result → Lengths self.now [] bits }
+    /// Whether a number of bits from low to high, at most 8191, may be left of the row.
+    pub(crate) fn meets(&self, low: usize, high: usize) -> bool
+        ensures { IsTrue result ↔ ((m : ℕ) × Lengths self.now [] m × (low ≤ m) × (m ≤ high)) }
     {
-        match reaches_by_steps(&self.cursor, bits) {
+        match meets_by_steps(&self.cursor, low, high) {
             Some(answer) => answer,
-            None => false,
+            None => self.lengths().any_in(low, high),
         }
     }
 

@@ -15,7 +15,7 @@ pub struct Steps {
 }
 
 impl Steps {
-    ghost use Rattle.etcs_rows.specs.Steps.{InSteps, AreSteps, InAny};
+    ghost use Rattle.etcs_rows.specs.Steps.{InSteps, AreSteps, InAny, AtMost};
     ghost use Rattle.etcs_rows.specs.Sums.{Plus, SumOf};
 
     /// One number.
@@ -41,6 +41,21 @@ impl Steps {
             return over == 0;
         }
         over % self.step == 0 && over / self.step <= self.count
+    }
+
+    /// Whether one of them and at most `slack` more make the number.
+    pub(crate) fn near(self, slack: usize, number: usize) -> bool
+        ensures { IsTrue result ↔ Plus (InSteps self) (AtMost slack) number }
+    {
+        if number < self.first {
+            return false;
+        }
+        let over = number - self.first;
+        if self.step == 0 {
+            return over <= slack;
+        }
+        let index = (over / self.step).min(self.count);
+        over - index * self.step <= slack
     }
 
     /// The number behind so many steps.

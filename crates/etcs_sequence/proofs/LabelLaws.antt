@@ -1,5 +1,5 @@
 -- Further lemmas beside specs/laws/LabelLaws.antt.
-use Rattle.std.proofs.Common.{◌≡◌, ℕ, suc, ◌+◌, List, [], ◌∷◌, ◌++◌, length, drop, Some, refl, ap, ◌∙◌}
+use Rattle.std.proofs.Common.{◌≡◌, ℕ, suc, ◌+◌, ◌≤◌, List, [], ◌∷◌, ◌++◌, length, drop, Some, refl, ap, ◌∙◌, arith}
 use Rattle.etcs_vars.specs.declared.var.Var.{Var}
 use Rattle.etcs_vars.specs.Vars.{width}
 use Rattle.etcs_vars.specs.Reading.{Reading, spelled, numbers}
@@ -27,6 +27,12 @@ pub labelled_count : (vs : List Var) (ns : List ℕ) → length ns ≡ length vs
 labelled_count [] ns e = refl
 labelled_count (v ∷ vs) [] e = absurd cc
 labelled_count (v ∷ vs) (n ∷ ns) e = ap suc (labelled_count vs ns (let k : length ns ≡ length vs = cc in k))
+
+-- they are no more than the numbers
+pub labelled_most : (vs : List Var) (ns : List ℕ) → length (labelled vs ns) ≤ length ns
+labelled_most [] ns = omega arith
+labelled_most (v ∷ vs) [] = omega arith
+labelled_most (v ∷ vs) (n ∷ ns) = omega (arith, labelled_most vs ns)
 
 -- how many bits they take
 pub length-widths : (r : Reading) → length (spelled r) ≡ widths_of r

@@ -1,5 +1,6 @@
 pub mod Asking
 pub mod Begun
+pub mod BegunKnown
 pub mod BodyBegins
 pub mod Carried
 pub mod Feeding

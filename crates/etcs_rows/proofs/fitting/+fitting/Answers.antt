@@ -5,27 +5,27 @@ use Rattle.etcs_vars.specs.Vars.{width}
 use Rattle.etcs_tables.specs.declared.item.RowItem.{RowItem}
 use Rattle.etcs_tables.specs.Layouts.{Layout, layout, one}
 use Rattle.etcs_rows.specs.Lengths.{LengthsBy, front, behind, GroupsWithin, FirstWithin}
-use Rattle.etcs_rows.specs.Steps.{InSteps, AreSteps, TimesWithin}
+use Rattle.etcs_rows.specs.Steps.{InSteps, TimesWithin}
+use Rattle.etcs_rows.specs.Totals.{InTotal, AreTotal}
 use Rattle.etcs_rows.specs.Sums.{Plus}
 use Rattle.etcs_rows.specs.Waiting.{Tails, Onward}
 use Rattle.etcs_rows.proofs.LengthLemmas.{SameSet, set_along, set_self, Plus-same}
 use Rattle.etcs_rows.proofs.SumLemmas.{no_items, most_admits}
 use Rattle.etcs_rows.proofs.RowSums.{Plus-assoc, first_sum, one_sum}
 use Rattle.etcs_rows.proofs.StepLemmas.{is_zero}
-use Rattle.etcs_rows.proofs.StepSums.{times_past, times_more, times_none}
-use Rattle.etcs_rows.proofs.FitLemmas.{leave_empty, chosen, waiting_first, answer_same, past_bits, onward_end, onward_none, moved_two, led, leave_sum, NoneTo, none_more, none_all, each_not, at_found, at_more, at_none}
+use Rattle.etcs_rows.proofs.FitLemmas.{leave_empty, chosen, exchanged, answer_same, past_bits, onward_end, onward_none, moved_two, led, leave_sum, tails_none, NoneTo, none_more, none_all, each_not, at_found, at_more, at_none}
 use Rattle.etcs_rows.proofs.fitting.+fitting.Goals as goal
 use Rattle.etcs_rows.proofs.fitting.+fitting.Goals.{choose_each-then-admits+in_ok-groups+in_ok-spread+else-branch, choose_each-else-admits}
 
 pub onward-returns-then-sum-bits : goal.onward-returns-then-sum-bits
 onward-returns-then-sum-bits t c =
-    let all = led c.args.sum c.single.result c.in_ok-sum.sum c.args.items.now c.in_ok-width.behind.now c.args.waiting.now c.in_ok-width.width c.single.ensures c.in_ok-sum.ensures c.in_ok-width.ensures.sum c.args.bits in
+    let all = led (InTotal c.args.sum) (InTotal c.in_ok-sum.sum) c.single.result c.args.items.now c.in_ok-width.behind.now c.args.waiting.now c.in_ok-width.width c.single.ensures c.in_ok-sum.ensures c.in_ok-width.ensures.sum c.args.bits in
     let past = past_bits c.in_ok-sum.sum (Onward c.in_ok-width.behind.now c.args.waiting.now) c.args.bits c.if-sum-bits.true in
     (λ x. absurd cc, λ x. past.1 (all.1 x))
 
 pub turn-returns-in-None : goal.turn-returns-in-None
 turn-returns-in-None t c =
-    let S = InSteps c.args.sum in let T = Tails (reverse c.args.waiting.now) in let all = Onward c.args.items.now c.args.waiting.now in
+    let S = InTotal c.args.sum in let T = Tails (reverse c.args.waiting.now) in let all = Onward c.args.items.now c.args.waiting.now in
     answer_same c.leave.result (Plus S T c.args.bits) (Plus S all c.args.bits)
     (Plus-same S T S all (set_self S) (onward_end c.args.items.now c.args.waiting.now (no_items c.args.items.now c.in-None.ensures.cases)) c.args.bits) c.leave.ensures
 
@@ -34,24 +34,29 @@ turn-returns-in_ok-sum-in-Some-One-default t c =
     let v = c.in-Some-One-default.var in let rest = c.in-Some-One-default.rest.now in
     let is : layout c.args.items.now ≡ one v (layout rest) = ap (λ (x : List RowItem). layout x) (c.in-Some-One-default.ensures.cases.0 ∙ ap (λ (x : RowItem). x ∷ rest) c.in-Some-One-default.field-0-0-is) in
     let row = layout c.args.items.now in
-    let S = InSteps c.args.sum in let W : ℕ → Type 0 = λ k. k ≡ width v in
+    let S = InTotal c.args.sum in let W : ℕ → Type 0 = λ k. k ≡ width v in
     let G = GroupsWithin v (layout rest) 0 18446744073709551615 in let B = LengthsBy (behind (layout rest)) 0 in let T = Tails (reverse c.args.waiting.now) in let L = LengthsBy row 0 in
     let sum = c.in_ok-sum-in-Some-One-default.sum in
     let own : SameSet (InSteps c.single.result) W = rw c.width.ensures at c.single.ensures in
-    let has : AreSteps sum (Plus S W) = set_along (InSteps sum) (Plus S (InSteps c.single.result)) (Plus S W) c.in_ok-sum-in-Some-One-default.ensures (Plus-same S (InSteps c.single.result) S W (set_self S) own) in
-    answer_same c.choose.result (Plus (InSteps sum) (Plus G (Plus B T)) c.args.bits) (Plus S (Plus L T) c.args.bits)
-    (moved_two sum S W G B T L has (set_along (Plus W (Plus G B)) (FirstWithin v (layout rest) 0 18446744073709551615) L (first_sum v (layout rest) 0 18446744073709551615) (one_sum row v (layout rest) 0 is)) c.args.bits)
+    let has : AreTotal sum (Plus S W) = set_along (InTotal sum) (Plus S (InSteps c.single.result)) (Plus S W) c.in_ok-sum-in-Some-One-default.ensures (Plus-same S (InSteps c.single.result) S W (set_self S) own) in
+    answer_same c.choose.result (Plus (InTotal sum) (Plus G (Plus B T)) c.args.bits) (Plus S (Plus L T) c.args.bits)
+    (moved_two (InTotal sum) S W G B T L has (set_along (Plus W (Plus G B)) (FirstWithin v (layout rest) 0 18446744073709551615) L (first_sum v (layout rest) 0 18446744073709551615) (one_sum row v (layout rest) 0 is)) c.args.bits)
     c.choose.ensures
 
 pub onward-returns : goal.onward-returns
 onward-returns t c =
     let behind = c.in_ok-width.behind.now in
-    answer_same c.turn.result (Plus (InSteps c.in_ok-sum.sum) (Onward behind c.args.waiting.now) c.args.bits) (Plus (InSteps c.args.sum) (Onward c.args.items.now c.args.waiting.now) c.args.bits)
-    (led c.args.sum c.single.result c.in_ok-sum.sum c.args.items.now behind c.args.waiting.now c.in_ok-width.width c.single.ensures c.in_ok-sum.ensures c.in_ok-width.ensures.sum c.args.bits) c.turn.ensures
+    answer_same c.turn.result (Plus (InTotal c.in_ok-sum.sum) (Onward behind c.args.waiting.now) c.args.bits) (Plus (InTotal c.args.sum) (Onward c.args.items.now c.args.waiting.now) c.args.bits)
+    (led (InTotal c.args.sum) (InTotal c.in_ok-sum.sum) c.single.result c.args.items.now behind c.args.waiting.now c.in_ok-width.width c.single.ensures c.in_ok-sum.ensures c.in_ok-width.ensures.sum c.args.bits) c.turn.ensures
+
+pub leave-returns-in-None : goal.leave-returns-in-None
+leave-returns-in-None t c =
+    let S = InTotal c.args.sum in
+    answer_same c.holds.result (S c.args.bits) (Plus S (Tails (reverse c.args.waiting.now)) c.args.bits) (tails_none S c.args.waiting.now c.in-None.ensures.cases c.args.bits) c.holds.ensures
 
 pub leave-returns-then-is_empty : goal.leave-returns-then-is_empty
 leave-returns-then-is_empty t c =
-    let S = InSteps c.args.sum in let p = c.in-Some.pending.now in let outer = c.in-Some.outer.now in
+    let S = InTotal c.args.sum in let p = c.in-Some.pending.now in let outer = c.in-Some.outer.now in
     let none : length p.items.now ≡ 0 = is_zero (length p.items.now) (sym c.is_empty.ensures ∙ c.if-is_empty.true) in
     let T = Tails (reverse outer) in let all = Tails (reverse c.args.waiting.now) in
     answer_same c.leave.result (Plus S T c.args.bits) (Plus S all c.args.bits)
@@ -59,7 +64,7 @@ leave-returns-then-is_empty t c =
 
 pub leave-returns-in_ok-groups-in-Some : goal.leave-returns-in_ok-groups-in-Some
 leave-returns-in_ok-groups-in-Some t c =
-    let S = InSteps c.args.sum in let g = c.in_ok-groups-in-Some.groups in
+    let S = InTotal c.args.sum in let g = c.in_ok-groups-in-Some.groups in
     let items = c.behind_groups.result.now in let outer = c.in-Some.outer.now in
     let more = Plus (InSteps g) (Onward items outer) in let T = Tails (reverse c.args.waiting.now) in
     answer_same c.spread.result (Plus S more c.args.bits) (Plus S T c.args.bits)
@@ -69,39 +74,26 @@ pub choose-returns-in-Some-times_steps : goal.choose-returns-in-Some-times_steps
 choose-returns-in-Some-times_steps t c =
     let rest = layout c.args.rest.now in let all = InSteps c.in-Some-times_steps.all in
     let times = TimesWithin c.in-Some.group c.in-Some.first c.in-Some.last in let G = GroupsWithin c.args.var rest c.args.low c.args.high in
-    chosen c.spread-in-Some-times_steps.result (InSteps c.args.sum) all G c.behind_groups-behind.result.now rest c.args.waiting.now c.args.bits (set_along all times G c.in-Some-times_steps.ensures c.in-Some.ensures.all) c.behind_groups-behind.ensures.behind c.spread-in-Some-times_steps.ensures
+    chosen c.spread-in-Some-times_steps.result (InTotal c.args.sum) all G c.behind_groups-behind.result.now rest c.args.waiting.now c.args.bits (set_along all times G c.in-Some-times_steps.ensures c.in-Some.ensures.all) c.behind_groups-behind.ensures.behind c.spread-in-Some-times_steps.ensures
 
-pub choose-returns-in-None-times_steps : goal.choose-returns-in-None-times_steps
-choose-returns-in-None-times_steps t c =
-    let rest = layout c.args.rest.now in
+pub choose-returns-in_ok-with-in-None-times_steps : goal.choose-returns-in_ok-with-in-None-times_steps
+choose-returns-in_ok-with-in-None-times_steps t c =
+    let rest = layout c.args.rest.now in let S = InTotal c.args.sum in let sum = c.in_ok-with-in-None-times_steps.field-0 in
     let times = TimesWithin c.in-Some.group c.in-Some.first c.in-Some.last in let G = GroupsWithin c.args.var rest c.args.low c.args.high in
-    chosen c.times_each.result (InSteps c.args.sum) times G c.behind_groups-behind.result.now rest c.args.waiting.now c.args.bits c.in-Some.ensures.all c.behind_groups-behind.ensures.behind c.times_each.ensures
+    let items = c.behind_groups-behind.result.now in let X = Onward items c.args.waiting.now in
+    chosen c.onward.result S times G items rest c.args.waiting.now c.args.bits c.in-Some.ensures.all c.behind_groups-behind.ensures.behind
+    (answer_same c.onward.result (Plus (InTotal sum) X c.args.bits) (Plus S (Plus times X) c.args.bits)
+    (set_along (Plus (InTotal sum) X) (Plus (Plus S times) X) (Plus S (Plus times X)) (Plus-same (InTotal sum) X (Plus S times) X c.in_ok-with-in-None-times_steps.ensures (set_self X)) (Plus-assoc S times X) c.args.bits) c.onward.ensures)
 
 pub choose-returns-in-Some-steps_each : goal.choose-returns-in-Some-steps_each
 choose-returns-in-Some-steps_each t c =
     let rest = layout c.args.rest.now in let g = InSteps c.in-Some-steps_each.groups in let G = GroupsWithin c.args.var rest c.args.low c.args.high in
-    chosen c.spread-in-Some-steps_each.result (InSteps c.args.sum) g G c.behind_groups-behind.result.now rest c.args.waiting.now c.args.bits c.in-Some-steps_each.ensures c.behind_groups-behind.ensures.behind c.spread-in-Some-steps_each.ensures
-
-pub times_each-returns-then-branch-bits : goal.times_each-returns-then-branch-bits
-times_each-returns-then-branch-bits t c =
-    let sum = c.in_ok-checked_add.ensures.1 in
-    times_past c.args.group c.in_ok-all.all c.args.sum (Onward c.args.items.now c.args.waiting.now) c.args.first c.args.last c.loop-times.times c.args.bits c.loop-times.invariant.none c.in_ok-all.ensures (omega arith)
-
-pub times_each-loop-times-preserved : goal.times_each-loop-times-preserved
-times_each-loop-times-preserved t c = record {
-  none = times_more c.args.group c.in_ok-all.all (InSteps c.args.sum) (Onward c.args.items.now c.args.waiting.now) c.args.first c.loop-times.times c.args.bits c.loop-times.invariant.none c.in_ok-all.ensures
-      (λ h. both_ways c.in_ok-spread.field-0 c.if-branch.false (c.in_ok-spread.ensures.1 h));
-}
-
-pub times_each-returns : goal.times_each-returns
-times_each-returns t c =
-    let end = c.in_ok-end.ensures in
-    times_none c.args.group (InSteps c.args.sum) (Onward c.args.items.now c.args.waiting.now) c.args.first c.args.last c.loop-times.times c.args.bits c.loop-times.invariant.none (omega (arith, end))
+    chosen c.spread-in-Some-steps_each.result (InTotal c.args.sum) g G c.behind_groups-behind.result.now rest c.args.waiting.now c.args.bits c.in-Some-steps_each.ensures c.behind_groups-behind.ensures.behind c.spread-in-Some-steps_each.ensures
 
 pub choose_each-loop-number-preserved : goal.choose_each-loop-number-preserved
 choose_each-loop-number-preserved t c =
     let F = λ (n : ℕ). LengthsBy (front (layout c.args.rest.now)) n in let n = c.loop-number.number in let inv = c.loop-number.invariant in
-    let S = InSteps c.args.sum in let X = Onward c.behind_groups-behind.result.now c.args.waiting.now in
+    let S = InTotal c.args.sum in let X = Onward c.behind_groups-behind.result.now c.args.waiting.now in
     record {
       none = elim c.if-admits.branch [
         | choose_each-then-admits+in_ok-groups+in_ok-spread+else-branch w ↦
@@ -115,7 +107,7 @@ choose_each-loop-number-preserved t c =
 pub choose_each-returns : goal.choose_each-returns
 choose_each-returns t c =
     let rest = layout c.args.rest.now in
-    let F = λ (n : ℕ). LengthsBy (front rest) n in let S = InSteps c.args.sum in let T = Tails (reverse c.args.waiting.now) in
+    let F = λ (n : ℕ). LengthsBy (front rest) n in let S = InTotal c.args.sum in let T = Tails (reverse c.args.waiting.now) in
     let G = GroupsWithin c.args.var rest c.args.low c.args.high in let items = c.behind_groups-behind.result.now in
     let none : NoneTo c.args.var F S (Onward items c.args.waiting.now) c.args.low c.loop-number.number c.args.bits = c.loop-number.invariant.none in
     let all : IsTrue false ↔ Plus S (Plus G (Plus (LengthsBy (layout items) 0) T)) c.args.bits =
@@ -125,33 +117,35 @@ choose_each-returns t c =
 
 pub spread-returns-then-is_empty-2 : goal.spread-returns-then-is_empty-2
 spread-returns-then-is_empty-2 t c =
-    let items = c.args.items.now in let ps = c.args.waiting.now in
-    let all = onward_none c.in-Some.all (InSteps c.args.sum) (InSteps c.args.more) items ps (is_zero (length items) (sym c.is_empty.ensures ∙ c.if-is_empty.true)) (is_zero (length ps) (sym c.is_empty-then-is_empty.ensures ∙ c.if-is_empty-2.true)) c.in-Some.ensures c.args.bits in
-    (λ h. all.0 (c.holds.ensures.0 h), λ x. c.holds.ensures.1 (all.1 x))
+    let items = c.args.items.now in let ps = c.args.waiting.now in let all = InTotal c.in-Some.all in
+    let S = InTotal c.args.sum in let M = InSteps c.args.more in
+    answer_same c.holds.result (all c.args.bits) (Plus S (Plus M (Onward items ps)) c.args.bits)
+    (onward_none all S M items ps (is_zero (length items) (sym c.is_empty.ensures ∙ c.if-is_empty.true)) (is_zero (length ps) (sym c.is_empty-then-is_empty.ensures ∙ c.if-is_empty-2.true)) c.in-Some.ensures c.args.bits) c.holds.ensures
 
 pub spread-returns-after-is_empty : goal.spread-returns-after-is_empty
 spread-returns-after-is_empty t c =
-    let S = InSteps c.args.sum in let M = InSteps c.args.more in let X = Onward c.args.items.now c.args.waiting.now in let all = InSteps c.in-Some.all in
+    let S = InTotal c.args.sum in let M = InSteps c.args.more in let X = Onward c.args.items.now c.args.waiting.now in let all = InTotal c.in-Some.all in
     answer_same c.onward.result (Plus all X c.args.bits) (Plus S (Plus M X) c.args.bits)
     (set_along (Plus all X) (Plus (Plus S M) X) (Plus S (Plus M X)) (Plus-same all X (Plus S M) X c.in-Some.ensures (set_self X)) (Plus-assoc S M X) c.args.bits) c.onward.ensures
 
 pub spread-returns-then-more-sum : goal.spread-returns-then-more-sum
 spread-returns-then-more-sum t c =
-    let S = InSteps c.args.sum in let M = InSteps c.args.more in let X = Onward c.args.items.now c.args.waiting.now in
-    answer_same c.spread_each.result (Plus M (Plus S X) c.args.bits) (Plus S (Plus M X) c.args.bits) (waiting_first M S X c.args.bits) c.spread_each.ensures
+    let S = InTotal c.args.sum in let M = InSteps c.args.more in let X = Onward c.args.items.now c.args.waiting.now in
+    let N = InTotal c.with_steps.result in let O = InSteps c.args.sum.steps in
+    answer_same c.spread_each.result (Plus N (Plus O X) c.args.bits) (Plus S (Plus M X) c.args.bits) (exchanged N O S M X c.with_steps.ensures c.args.bits) c.spread_each.ensures
 
 pub spread_each-returns-then-branch : goal.spread_each-returns-then-branch
 spread_each-returns-then-branch t c = (
-  λ x. at_found c.args.more c.single-one.result c.in_ok-plus.field-0 (InSteps c.args.sum) (Onward c.args.items.now c.args.waiting.now) c.loop-index.index c.in_ok-at.field-0 c.args.bits
+  λ x. at_found c.args.more c.single-one.result (InTotal c.in_ok-plus.field-0) (InTotal c.args.sum) (Onward c.args.items.now c.args.waiting.now) c.loop-index.index c.in_ok-at.field-0 c.args.bits
       (omega arith) c.in_ok-at.ensures c.single-one.ensures c.in_ok-plus.ensures (c.in_ok-onward.ensures.0 c.if-branch.true),
   λ x. refl,
 )
 
 pub spread_each-loop-index-preserved : goal.spread_each-loop-index-preserved
 spread_each-loop-index-preserved t c = record {
-  none = at_more c.args.more c.single-one.result c.in_ok-plus.field-0 (InSteps c.args.sum) (Onward c.args.items.now c.args.waiting.now) c.loop-index.index c.in_ok-at.field-0 c.args.bits
+  none = at_more c.args.more c.single-one.result (InTotal c.in_ok-plus.field-0) (InTotal c.args.sum) (Onward c.args.items.now c.args.waiting.now) c.loop-index.index c.in_ok-at.field-0 c.args.bits
       c.loop-index.invariant.none c.in_ok-at.ensures c.single-one.ensures c.in_ok-plus.ensures (λ h. both_ways c.in_ok-onward.field-0 c.if-branch.false (c.in_ok-onward.ensures.1 h));
 }
 
 pub spread_each-returns : goal.spread_each-returns
-spread_each-returns t c = at_none c.args.more (InSteps c.args.sum) (Onward c.args.items.now c.args.waiting.now) c.loop-index.index c.args.bits c.loop-index.invariant.none (omega arith)
+spread_each-returns t c = at_none c.args.more (InTotal c.args.sum) (Onward c.args.items.now c.args.waiting.now) c.loop-index.index c.args.bits c.loop-index.invariant.none (omega arith)

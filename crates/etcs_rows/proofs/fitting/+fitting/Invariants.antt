@@ -4,10 +4,9 @@ use Rattle.etcs_tables.specs.declared.item.RowItem.{RowItem}
 use Rattle.etcs_rows.specs.declared.place.Pending.{Pending}
 use Rattle.etcs_tables.specs.Layouts.{layout}
 use Rattle.etcs_rows.specs.Lengths.{LengthsBy, front}
-use Rattle.etcs_rows.specs.Steps.{InSteps}
+use Rattle.etcs_rows.specs.Totals.{InTotal}
 use Rattle.etcs_rows.specs.Waiting.{Onward}
 use Rattle.etcs_rows.proofs.FitLemmas.{NoneTo, NoneAt}
-use Rattle.etcs_rows.proofs.StepSums.{NoTimes}
 use Rattle.etcs_rows.proofs.fitting.+fitting.Given as goal
 
 -- the items that are left
@@ -32,20 +31,14 @@ decreases-spread l = 6 * items_left l.items.now l.waiting.now + 4
 abbrev pub decreases-spread_each : goal.decreases-spread_each
 decreases-spread_each l = 6 * items_left l.items.now l.waiting.now + 3
 
-abbrev pub decreases-times_each : goal.decreases-times_each
-decreases-times_each l = 6 * items_left l.items.now l.waiting.now + 5
-
 abbrev pub decreases-turn : goal.decreases-turn
 decreases-turn l = 6 * items_left l.items.now l.waiting.now + 1
 
 abbrev pub invariant-choose_each-loop-number : goal.invariant-choose_each-loop-number
 invariant-choose_each-loop-number l = record {
-  none : NoneTo l.var (λ n. LengthsBy (front (layout l.rest)) n) (InSteps l.sum) (Onward l.behind l.waiting) l.low l.number l.bits;
+  none : NoneTo l.var (λ n. LengthsBy (front (layout l.rest)) n) (InTotal l.sum) (Onward l.behind l.waiting) l.low l.number l.bits;
   within : (n : ℕ) → l.low ≤ n → n < l.number → n ≤ l.high;
 }
 
 abbrev pub invariant-spread_each-loop-index : goal.invariant-spread_each-loop-index
-invariant-spread_each-loop-index l = record { none : NoneAt l.more (InSteps l.sum) (Onward l.items l.waiting) l.index l.bits }
-
-abbrev pub invariant-times_each-loop-times : goal.invariant-times_each-loop-times
-invariant-times_each-loop-times l = record { none : NoTimes l.group (InSteps l.sum) (Onward l.items l.waiting) l.first l.times l.bits }
+invariant-spread_each-loop-index l = record { none : NoneAt l.more (InTotal l.sum) (Onward l.items l.waiting) l.index l.bits }

@@ -7,11 +7,13 @@ use Rattle.etcs_rows.specs.declared.place.Pending.{Pending}
 use Rattle.etcs_rows.specs.Cursors.{left_of}
 use Rattle.etcs_tables.specs.Layouts.{layout}
 use Rattle.etcs_rows.specs.Lengths.{LengthsBy, behind, GroupsWithin, FitsWithin}
-use Rattle.etcs_rows.specs.Steps.{InSteps, AreSteps}
+use Rattle.etcs_rows.specs.Steps.{InSteps, AreSteps, AtMost}
+use Rattle.etcs_rows.specs.Totals.{InTotal}
 use Rattle.etcs_rows.specs.Sums.{Plus}
 use Rattle.etcs_rows.specs.Waiting.{Agains, Tails}
 use Rattle.etcs_rows.proofs.LengthLemmas.{SameSet, set_along, set_self, Plus-same}
 use Rattle.etcs_rows.proofs.FitLemmas.{answer_same, fits_sum}
+use Rattle.etcs_rows.proofs.TotalLemmas.{no_slack}
 use Rattle.etcs_rows.proofs.fitting.fits_by_steps.Goals as goal
 
 pub returns-in_ok-sum-in-Some-One-default : goal.returns-in_ok-sum-in-Some-One-default
@@ -24,9 +26,13 @@ returns-in_ok-sum-in-Some-One-default c =
     let A = InSteps again in let W : ℕ → Type 0 = λ k. k ≡ width v in
     let ha : AreSteps again (Agains (reverse cursor.pending.items)) = subst (λ (ps : List Pending). AreSteps again (Agains (reverse ps))) slice c.in_ok-waiting_steps-in-Some-One-default.ensures in
     let own : SameSet (InSteps c.single.result) W = rw c.width.ensures at c.single.ensures in
-    let hs : AreSteps sum (Plus A W) = set_along (InSteps sum) (Plus A (InSteps c.single.result)) (Plus A W) c.in_ok-sum-in-Some-One-default.ensures (Plus-same A (InSteps c.single.result) A W (set_self A) own) in
+    let S = InTotal c.new.result in
+    let hs : SameSet S (Plus A W) =
+    set_along S (Plus (InSteps sum) (AtMost 0)) (Plus A W) c.new.ensures
+    (set_along (Plus (InSteps sum) (AtMost 0)) (InSteps sum) (Plus A W) (no_slack (InSteps sum))
+    (set_along (InSteps sum) (Plus A (InSteps c.single.result)) (Plus A W) c.in_ok-sum-in-Some-One-default.ensures (Plus-same A (InSteps c.single.result) A W (set_self A) own))) in
     let small : bits ≤ 8191 = omega arith in
     let G = GroupsWithin v (layout rest) low high in let B = LengthsBy (behind (layout rest)) 0 in
-    answer_same c.choose.result (Plus (InSteps sum) (Plus G (Plus B (Tails (reverse cursor.pending.items)))) bits) (FitsWithin (left_of cursor) low high bits)
-    (fits_sum cursor v rest low high bits again sum is ha hs small)
-    (subst (λ (ps : List Pending). IfSome c.choose.result (λ b. IsTrue b ↔ Plus (InSteps sum) (Plus G (Plus B (Tails (reverse ps)))) bits)) slice c.choose.ensures)
+    answer_same c.choose.result (Plus S (Plus G (Plus B (Tails (reverse cursor.pending.items)))) bits) (FitsWithin (left_of cursor) low high bits)
+    (fits_sum cursor v rest low high bits again S is ha hs small)
+    (subst (λ (ps : List Pending). IfSome c.choose.result (λ b. IsTrue b ↔ Plus S (Plus G (Plus B (Tails (reverse ps)))) bits)) slice c.choose.ensures)

@@ -1,4 +1,7 @@
+use Rattle.std.proofs.Common.{sym, ◌∙◌}
+use Rattle.etcs_packets.specs.PacketValues.{packet_value}
+use Rattle.etcs_packets.specs.laws.PacketReadings.{packet_bits}
 use Rattle.etcs_packets.proofs.packet.Packet.bit_len.Goals as goal
 
-pub returns-in-ModeProfile-clause-bits : goal.returns-in-ModeProfile-clause-bits
-returns-in-ModeProfile-clause-bits c = rw c.in-ModeProfile.is c.typed_bits-in-ModeProfile.ensures.bits
+pub returns-clause-spelling : goal.returns-clause-spelling
+returns-clause-spelling c = c.bits_in.ensures.bits ∙ sym (packet_bits (packet_value c.args.self.now))

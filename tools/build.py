@@ -1,5 +1,5 @@
 #!/usr/bin/env python3
-"""Proves the libraries that a program stands on, side by side where that can be, and builds the program.
+"""Proves the libraries that a program rests on, side by side where that can be, and builds the program.
 
     tools/build.py RT CRATE [VERB ..]
 
@@ -7,8 +7,8 @@ With a verb it does what `rt VERB ..` does in the folder that it is called in. R
 error, and what rt writes of a crate to its out/build.log. The status is 0 where the program is built.
 
 Two runs of `rt` can't go side by side here: each locks its crate's folder and those of all libraries
-below it until it ends, and every crate stands on the lowest. `rt all` locks all of them once and goes
-side by side, but with one job a crate, and most crates here stand on one another. So this is one run
+below it until it ends, and every crate rests on the lowest. `rt all` locks all of them once and goes
+side by side, but with one job a crate, and most crates here rest on one another. So this is one run
 over the module that `rt` itself is made of: it locks once, as `rt all` does, and makes for each
 library the call that `rt lib` makes, with a job for each core. What is proved, and what is kept in
 out/, is the same. `rt run` then proves and builds the program, and first whatever is left.
@@ -90,7 +90,7 @@ def prove(crate, flags):
 
 def prove_all(crates, at_once, flags):
     """Proves libraries, each once those below it are proved, and returns whether all went well."""
-    # those that most others stand on go first
+    # those that most others rest on go first
     left = sorted(crates, key=lambda it: -sum(it in other.below() for other in crates))
     running, begun = {}, {}
     with ThreadPoolExecutor(at_once) as pool:
@@ -114,7 +114,7 @@ def prove_all(crates, at_once, flags):
 
 
 def prove_below(rt, folder):
-    """Proves the libraries below the program that aren't, and returns whether all are, and the flags to go on with."""
+    """Proves the libraries below the program that aren't, and returns whether all are, and the flags to continue with."""
     rtlib = module_of(rt)
     # as in rt: what it started ends with it
     rtlib.guarded()

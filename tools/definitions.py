@@ -1,5 +1,5 @@
 #!/usr/bin/env python3
-"""Prints the definitions that the contracts of public calls stand on, each after those that it names.
+"""Prints the definitions that the contracts of public calls rest on, each after those that it names.
 
     tools/definitions.py [--count] [--clauses] [--most N] (--headline | CALL ..)
 
@@ -8,7 +8,7 @@ telegrams and messages. It follows the names in `requires` and `ensures`, in the
 the call's head that these name, in `Value` and `view` of the types' `impl Model` (--clauses leaves these two out), and
 in the definitions of crates/*/specs; not invariants, names of the kit, and items of the code, which are listed at the
 end. A line has a file and line, a name and how many lines it has without comments; the last one, which --count prints
-alone, has the counts. The status is 1 where a name isn't found, where a contract stands on a lemma (it lies in
+alone, has the counts. The status is 1 where a name isn't found, where a contract rests on a lemma (it lies in
 specs/laws or proofs, or is neither `abbrev` nor `unfoldable` nor a type), and where there are more than N definitions.
 """
 

@@ -4,7 +4,7 @@
     tools/fuzz.py [--seconds N] [--seed N] [PROGRAM [WORD ..]]
 
 PROGRAM is `etcs`, where nothing is said the one that `./etcs build` has built; the WORDs go before those
-of each call. An input is items of crates/etcs_vectors/stdin one after the other, some of them changed or
+of each call. An input is items of crates/etcs_vectors/stdin one after another, some of them changed or
 cut, or bytes by chance: of each kind, as bytes, as digits or as JSON. Each command is run over it:
 
 - A call ends in 20 seconds, with the status 0 or 1, and takes at most 64 MiB.
@@ -16,7 +16,7 @@ cut, or bytes by chance: of each kind, as bytes, as digits or as JSON. Each comm
   on: so some item begins with the bits before.
 
 It ends after N seconds (60) or 20 findings. Each is written with its call and the input in hexadecimal;
-at the end stand the counts, and the seed that gives the same inputs again. The status is 0 where nothing
+at the end are the counts, and the seed that gives the same inputs again. The status is 0 where nothing
 was found, 1 where something was, 2 where the words are wrong or the program can't be run.
 """
 
@@ -92,7 +92,7 @@ def fault_of(form, words, given, answer):
 
 
 def count_items(words, given, output):
-    """How many items a call has written, which it numbers one after the other."""
+    """How many items a call has written, which it numbers one after another."""
     if words[0] == "convert":
         return output.count(b"\n")
     numbers = [int(number) for number in re.findall(rb"^item (\d+) ", output, re.MULTILINE)]

@@ -37,7 +37,7 @@ class Program:
 
 
 def vectors_of(text):
-    """Yields each vector: where its first line stands, its kind, its words, what is expected."""
+    """Yields each vector: where its first line is there, its kind, its words, what is expected."""
     vector = None
     for number, line in enumerate(text.split("\n"), 1):
         if line.startswith(" "):
@@ -66,7 +66,7 @@ def number(count):
 
 
 def behind(text):
-    """A text behind a LF, without the LF at its end; of nothing nothing."""
+    """A text after a LF, without the LF at its end; of nothing nothing."""
     return b"\n" + text.removesuffix(b"\n") if text else b""
 
 
@@ -144,7 +144,7 @@ def answer_run(program, _, words):
 
 
 def answer_zeros(program, _, words):
-    """`zeros SIZE COUNT TEXT`: as `run`, with so many zeros in front."""
+    """`zeros SIZE COUNT TEXT`: as `run`, with this many zeros in front."""
     size, count, text = [*words.split(" ", 2), ""][:3]
     return answer_text(program, size, b"0" * int(count) + text_bytes(text))
 

@@ -5,7 +5,7 @@
 
 They are edits as those of must-fail/, which the gate tries: further ones of a function, and those of
 inner functions. Run this over a crate whose code or contracts changed. A NAME is a crate's, all where
-nothing is given; an EDIT is the path of one edit, which may stand in must-fail/ too. The crate must be
+nothing is given; an EDIT is the path of one edit, which may be in must-fail/ too. The crate must be
 proved (`rt check`): each edit is tried over what that check kept. Each line says how an edit fared, as
 `rt must-fail` says it; the status is 0 where the prover refused all of them.
 """

@@ -9,7 +9,7 @@ use Rattle.etcs_bits.specs.Bits.{num, value, bits, part, replaced}
 use Rattle.etcs_bits.proofs.Numbers.{length-num, num-add, value_same, value-num_low}
 use Rattle.etcs_bits.proofs.Lists.{part-append_right, part-append_left, replaced-append_right, replaced-append_left}
 
--- bytes behind one another
+-- bytes after one another
 pub bits-append : (xs ys : List ℕ) → bits (xs ++ ys) ≡ bits xs ++ bits ys
 unfolding bits
 bits-append [] ys = refl

@@ -104,7 +104,7 @@ same_length old new s x h e = omega (arith, ap length e, length-replaced s x (bi
 pub part_length : (old new : List ℕ) (s a n : ℕ) (seen : List Bool) → a + n ≤ length seen → s + n ≤ length (bits old) → bits new ≡ replaced s (part a n seen) (bits old) → length new ≡ length old
 part_length old new s a n seen h k e = same_length old new s (part a n seen) (omega (arith, length-part a n seen h)) e
 
--- behind a first part, words written from a whole byte on
+-- after a first part, words written from a whole byte on
 pub words_behind : (old one new : List ℕ) (seen : List Bool) (start front words at : ℕ) → front + words ≤ length seen → start + length seen ≤ length (bits old) → 8 * at + 0 ≡ start + front → bits one ≡ replaced (start + 0) (part 0 (front - 0) seen) (bits old) → bits new ≡ replaced 0 (part front words seen) (bits (take (length one - at) (drop at one))) → (bits (put_mid at (length one - at) one new) ≡ replaced (start + front) (part front words seen) (bits one)) × (length (put_mid at (length one - at) one new) ≡ length old)
 words_behind old one new seen start front words at inside room place first second =
     let same = part_length old one (start + 0) 0 (front - 0) seen (omega arith) (omega arith) first in

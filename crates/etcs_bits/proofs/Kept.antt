@@ -23,7 +23,7 @@ front word hi lo i j k is low e =
     ∙ ap (λ m. m / 2 ^ j) is
     ∙ div-mul-add hi (2 ^ j) lo low
 
--- what is behind them, moved to the front
+-- what is after them, moved to the front
 behind : (word hi lo i j w : ℕ) → word / 2 ^ i ≡ hi * 2 ^ j + lo → lo < 2 ^ j → w + i + j ≡ 64 → word * 2 ^ w % 2 ^ 64 / 2 ^ (w + i) ≡ lo
 behind word hi lo i j w is low e =
     let size : 64 ≡ j + (w + i) = omega (arith, e) in
@@ -32,7 +32,7 @@ behind word hi lo i j w is low e =
     ∙ ap (λ m. m % 2 ^ j) (sym (shr-shr (word * 2 ^ w) w i) ∙ ap (λ m. m / 2 ^ i) (shl-shr word w) ∙ is)
     ∙ mod_low hi j lo low
 
--- a word that has nothing behind them
+-- a word that has nothing after them
 spent : (x lo : ℕ) → x < 2 ^ 64 → lo < 2 ^ 0 → x / 2 ^ 64 ≡ lo
 spent x lo h low = omega (arith, h, low)
 

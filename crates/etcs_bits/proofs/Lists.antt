@@ -29,7 +29,7 @@ value-part_add s k c bs h =
     let l : length (part (s + k) c bs) ≡ c = length-part (s + k) c bs (omega arith) in
     ap value (part-add s k c bs) ∙ value-append (part s k bs) (part (s + k) c bs) ∙ ap (λ n. value (part s k bs) * 2 ^ n + value (part (s + k) c bs)) l
 
--- a part behind a first list
+-- a part after a first list
 pub part-append_right : (p q : List Bool) (n o c : ℕ) → n ≡ length p + o → part n c (p ++ q) ≡ part o c q
 part-append_right p q n o c e = ap (λ k. part k c (p ++ q)) e ∙ ap (take c) (drop-append-add p q o)
 
@@ -41,7 +41,7 @@ part-append_left p q o c h =
 pub length-replaced : (s : ℕ) (new bs : List Bool) → s + length new ≤ length bs → length (replaced s new bs) ≡ length bs
 length-replaced s new bs h = omega (arith, length-append (take s bs ++ new) (drop (s + length new) bs), length-append (take s bs) new, length-take s bs, length-drop (s + length new) bs)
 
--- a part replaced behind a first list
+-- a part replaced after a first list
 pub replaced-append_right : (p q new : List Bool) (n o : ℕ) → n ≡ length p + o → replaced n new (p ++ q) ≡ p ++ replaced o new q
 replaced-append_right p q new n o e =
     let t : take n (p ++ q) ≡ p ++ take o q = ap (λ k. take k (p ++ q)) e ∙ take-append-add p q o in
@@ -56,7 +56,7 @@ replaced-append_left p q new o h =
     let d : drop (o + length new) (p ++ q) ≡ drop (o + length new) p ++ q = drop-append-le (o + length new) p q h in
     rw (t, d) (sym (append_assoc (take o p ++ new) (drop (o + length new) p) q))
 
--- one part replaced, then the one behind it
+-- one part replaced, then the one after it
 pub replaced_more : (s n : ℕ) (xs ys bs : List Bool) → n ≡ s + length xs → n + length ys ≤ length bs → replaced n ys (replaced s xs bs) ≡ replaced s (xs ++ ys) bs
 replaced_more s n xs ys bs e h =
     let front = take s bs ++ xs in

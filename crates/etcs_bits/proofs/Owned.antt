@@ -1,4 +1,4 @@
--- An owned list of bits: as few bytes as hold it, with zeros behind its end.
+-- An owned list of bits: as few bytes as hold it, with zeros after its end.
 use Rattle.std.proofs.Common.{◌≡◌, ℕ, zero, suc, ◌+◌, ◌-◌, ◌*◌, ◌^◌, ◌<◌, ◌≤◌, Bool, true, false, List, [], ◌∷◌, ◌++◌, length, take, drop, get_or, replicate, eqb, refl, sym, ap, ◌∙◌, append_assoc, arith}
 use Rattle.std.proofs.lemmas.List.{length-append, length-take, length-drop, length-replicate, take-append-le, drop-append-le, take-take, take_all, take_at, drop_at, drop_all, drop-drop, append-nil, take-append-drop}
 use Rattle.std.specs.Bool.{Decides}
@@ -26,7 +26,7 @@ value-zeros (suc n) =
     let none : value (num 8 0) * 2 ^ length (bits (replicate n 0)) ≡ 0 = ap (λ k. k * 2 ^ length (bits (replicate n 0))) (value-num 8 0 (omega arith)) ∙ omega arith in
     value-append (num 8 0) (bits (replicate n 0)) ∙ omega (arith, none, value-zeros n)
 
--- what is written behind the end
+-- what is written after the end
 pub pushed_bits : (bytes new : List ℕ) (len m : ℕ) (x : List Bool) → len ≤ 8 * length bytes → bits new ≡ replaced len x (bits (bytes ++ replicate m 0)) → take (len + length x) (bits new) ≡ take len (bits bytes) ++ x
 pushed_bits bytes new len m x h e =
     let zeros = bits (replicate m 0) in
@@ -59,7 +59,7 @@ bits-take bytes i h =
     let whole : bits bytes ≡ bits (take i bytes) ++ bits (drop i bytes) = ap bits (sym (take-append-drop i bytes)) ∙ bits-append (take i bytes) (drop i bytes) in
     sym (ap (take (8 * i)) whole ∙ take_at (bits (take i bytes)) (bits (drop i bytes)) (8 * i) size)
 
--- what is left after a cut, with zeros written behind its end
+-- what is left after a cut, with zeros written after its end
 pub cut_bits : (bytes new : List ℕ) (len size old : ℕ) (x : List Bool) → len ≤ old → len ≤ 8 * size → size ≤ length bytes → bits new ≡ replaced len x (bits (take size bytes)) → take len (bits new) ≡ take len (take old (bits bytes))
 cut_bits bytes new len size old x a b c e =
     let kept : bits (take size bytes) ≡ take (8 * size) (bits bytes) = bits-take bytes size c in
@@ -92,7 +92,7 @@ pub record Packed (bytes : List ℕ) (len : ℕ) : Type 0 where
   pub short : 8 * length bytes < len + 8
   pub clear : value (drop len (bits bytes)) ≡ 0
 
--- bytes grown by zeros, and a number written behind the old end
+-- bytes grown by zeros, and a number written after the old end
 pub grown : (bytes slice : List ℕ) (count size : ℕ) → length bytes ≡ count → count ≤ size → slice ≡ take size bytes ++ replicate (size - count) 0 → (slice ≡ bytes ++ replicate (size - count) 0) × (length slice ≡ size)
 grown bytes slice count size n h e =
     let zeros = replicate {A = ℕ} (size - count) 0 in
@@ -113,7 +113,7 @@ Packed-pushed bytes slice new count len size x p n h inside short e w =
       pushed_bits bytes new len (size - count) x p.inside written,
     )
 
--- bytes cut, and the bits behind the new end set to 0
+-- bytes cut, and the bits after the new end set to 0
 pub Packed-cut : (bytes slice new : List ℕ) (old len size spare : ℕ) → Packed bytes old → len ≤ old → len + spare ≡ 8 * size → spare < 8 → slice ≡ take size bytes → bits new ≡ replaced len (num spare 0) (bits slice) → Packed new len × (take len (bits new) ≡ take len (take old (bits bytes)))
 Packed-cut bytes slice new old len size spare p h whole short e w =
     let fits : size ≤ length bytes = omega (arith, p.inside) in

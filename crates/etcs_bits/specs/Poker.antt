@@ -6,6 +6,6 @@ use Rattle.etcs_bits.specs.declared.poker.Poker.{Poker}
 abbrev pub bytes_of : Poker → List ℕ
 bytes_of p = p.bytes.now
 
--- how many of their bits are behind
+-- how many of their bits it has passed
 abbrev pub place_of : Poker → ℕ
 place_of p = p.place

@@ -13,7 +13,7 @@ use std::marker::Model;
 /// An owned list of bits. Two of them are equal where they have the same bits.
 #[derive(Debug, Drop)]
 pub struct Bits {
-    /// As few bytes as hold the bits; the bits behind the last are 0.
+    /// As few bytes as hold the bits; the bits after the last are 0.
     bytes: Vec<u8>,
     len: usize,
 }

@@ -1,9 +1,9 @@
-//! Numbers inside single bytes, and the byte where a bit stands.
+//! Numbers inside single bytes, and the byte where a bit is.
 
 ghost use Rattle.std.specs.Prelude.{◌≡◌, ℕ, ◌+◌, ◌*◌, ◌^◌, ◌<◌, ◌≤◌};
 ghost use Rattle.etcs_bits.specs.Bits.{num, value, part, replaced};
 
-/// The byte where the bit `at` bits behind the bit `start` stands, and the bit's place in it.
+/// The byte where the bit `at` bits after the bit `start` is there, and the bit's place in it.
 pub(crate) fn byte_of(start: usize, at: usize) -> (usize, usize)
     ensures place { 8 * result.0 + result.1 ≡ start + at }
     ensures offset { result.1 < 8 }

@@ -25,7 +25,7 @@ pub(crate) fn write_word(bytes: &mut [u8], word: u64)
     bytes[..8].copy_from_slice(&word.to_be_bytes());
 }
 
-/// Copies so many words of `bytes`, from the bit `offset` on, to the front of `to`.
+/// Copies this many words of `bytes`, from the bit `offset` on, to the front of `to`.
 pub(crate) fn copy_words(bytes: &[u8], offset: usize, to: &mut [u8], words: usize)
     requires offset { offset < 8 }
     requires inside { 8 * words < length bytes.now }

@@ -48,7 +48,7 @@ pub fn write_slice(bytes: &mut [u8], start: usize, slice: &BitSlice<'_>)
     write_part(bytes, start, slice, front + 64 * words, slice.len());
 }
 
-/// Writes the bits of `slice` behind the first `from`, up to `end`, where the first of all would stand at the bit
+/// Writes the bits of `slice` after the first `from`, up to `end`, where the first of all would be at the bit
 /// `start`.
 fn write_part(bytes: &mut [u8], start: usize, slice: &BitSlice<'_>, from: usize, end: usize)
     requires order { from ≤ end }
@@ -66,7 +66,7 @@ fn write_part(bytes: &mut [u8], start: usize, slice: &BitSlice<'_>, from: usize,
     }
 }
 
-/// The number in `width` bits of `slice` from `from` on, which stand inside it.
+/// The number in `width` bits of `slice` from `from` on, which are inside it.
 fn chunk(slice: &BitSlice<'_>, from: usize, width: usize) -> u64
     requires width { width ≤ 64 }
     requires inside { from + width ≤ length slice.now }

@@ -16,7 +16,7 @@ pub enum PokeFault {
     TooLarge,
 }
 
-/// Writes a number into `width` bits of `bytes` from the bit `offset` of the byte `at` on, which stand inside `bytes`.
+/// Writes a number into `width` bits of `bytes` from the bit `offset` of the byte `at` on, which are inside `bytes`.
 #[inline]
 pub(crate) fn write(bytes: &mut [u8], at: usize, offset: usize, width: usize, value: u64)
     requires offset { offset < 8 }
@@ -74,7 +74,7 @@ fn with_number_in_word(word: u64, offset: usize, width: usize, value: u64) -> u6
     (word - lower) + (value << behind) + lower % (1 << behind)
 }
 
-/// Writes a number into `width` bits of `bytes` from `offset` on, which stand inside `bytes`, byte by byte.
+/// Writes a number into `width` bits of `bytes` from `offset` on, which are inside `bytes`, byte by byte.
 #[inline(never)]
 fn write_by_bytes(bytes: &mut [u8], offset: usize, width: usize, value: u64)
     requires offset { offset < 8 }
@@ -116,7 +116,7 @@ pub fn poke(bytes: &mut [u8], start: usize, width: usize, value: u64) -> Result<
     Ok(())
 }
 
-/// Writes numbers into bytes, one behind the other.
+/// Writes numbers into bytes, one after another.
 #[derive(Debug, Drop)]
 pub struct Poker<'a> {
     bytes: &'a mut [u8],

@@ -9,10 +9,10 @@ use super::copying::copy_words;
 use super::walker::{first_word, peek_at_end, peek_by_bytes, peek_word};
 use std::marker::Model;
 
-/// Bits that stand one behind the other in a byte slice, from any bit on.
+/// Bits that are one after another in a byte slice, from any bit on.
 #[derive(Debug, Drop)]
 pub struct BitSlice<'a> {
-    /// From the byte where the first bit stands.
+    /// From the byte where the first bit is.
     bytes: &'a [u8],
     /// The first bit's place in that byte.
     offset: usize,
@@ -71,7 +71,7 @@ impl<'a> BitSlice<'a> {
         self.len == 0
     }
 
-    /// The bit `index` bits behind the first. `None` past the end.
+    /// The bit `index` bits after the first. `None` past the end.
     pub fn bit(&self, index: usize) -> Option<bool>
         ensures { result ≡ (if nat_lt index (length self.now) then Some (slice_index_or self.now index false) else None) }
     {
@@ -79,7 +79,7 @@ impl<'a> BitSlice<'a> {
         Some(number == 1)
     }
 
-    /// The `len` bits behind the first `from` of these. `None` where those go past the end.
+    /// The `len` bits after the first `from` of these. `None` where those go past the end.
     pub fn cut(&self, from: usize, len: usize) -> Option<BitSlice<'a>>
         ensures { result ≡ (if nat_le (from + len) (length self.now) then Some (part from len self.now) else None) }
     {
@@ -94,7 +94,7 @@ impl<'a> BitSlice<'a> {
         })
     }
 
-    /// The number in the `width` bits behind the first `from` of these, most significant bit first.
+    /// The number in the `width` bits after the first `from` of these, most significant bit first.
     /// `None` where those go past the end.
     #[inline(always)]
     pub fn number(&self, from: usize, width: usize) -> Option<u64>
@@ -110,7 +110,7 @@ impl<'a> BitSlice<'a> {
         }
     }
 
-    /// As `number`, of bits that stand inside, where the eight bytes from the first of them on hold them.
+    /// As `number`, of bits that are inside, where the eight bytes from the first of them on hold them.
     /// `None` says nothing.
     #[inline(always)]
     fn number_in_word(&self, from: usize, width: usize) -> Option<u64>
@@ -138,7 +138,7 @@ impl<'a> BitSlice<'a> {
         Some((first_word(&self.bytes[at..]) << (start % 8), count))
     }
 
-    /// As `number`, of bits that stand inside.
+    /// As `number`, of bits that are inside.
     #[inline(never)]
     fn number_at_end(&self, from: usize, width: usize) -> Option<u64>
         requires width { width ≤ 64 }
@@ -154,7 +154,7 @@ impl<'a> BitSlice<'a> {
         }
     }
 
-    /// Copies so many words behind the first `from` of these bits to the front of `to`.
+    /// Copies this many words after the first `from` of these bits to the front of `to`.
     pub(crate) fn copy_words(&self, from: usize, to: &mut [u8], words: usize)
         requires inside { from + 64 * words + 8 ≤ length self.now }
         requires room { 8 * words ≤ length to.old }

@@ -1,4 +1,4 @@
-//! Numbers of a slice's bits, one behind the other.
+//! Numbers of a slice's bits, one after another.
 
 ghost use Rattle.std.specs.Prelude.{◌≡◌, ℕ, ◌+◌, ◌-◌, ◌<◌, ◌≤◌, Bool, List, None, Some, IfSome, IsNone, if◌then◌else◌, is_some, length, nat_le};
 ghost use Rattle.etcs_bits.specs.Bits.{number_at};
@@ -7,36 +7,36 @@ ghost use Rattle.etcs_bits.specs.SliceWalker.{Keeps};
 use crate::slice::BitSlice;
 use std::marker::Model;
 
-/// Bits that stand one behind the other, the first one highest in the word. Below them anything may stand.
+/// Bits that are one after another, the first one highest in the word. Below them anything may be.
 #[derive(Clone, Copy)]
-struct Kept {
+struct NextBits {
     word: u64,
     count: usize,
 }
 
-/// The number in the first `width` bits, and what is kept behind them.
+/// The number in the first `width` bits, and what is kept after them.
 #[inline(always)]
-fn first_of(kept: Kept, width: usize) -> (u64, Kept)
+fn first_of(next: NextBits, width: usize) -> (u64, NextBits)
     requires some { 0 < width }
-    requires enough { width ≤ kept.count }
-    requires small { kept.count ≤ 64 }
-    ensures kept { (bs : List Bool) (end : ℕ) → Keeps kept.word kept.count bs end → (number_at (end - kept.count) width bs ≡ Some result.0) × Keeps result.1.word result.1.count bs end }
-    ensures count { result.1.count + width ≡ kept.count }
+    requires enough { width ≤ next.count }
+    requires small { next.count ≤ 64 }
+    ensures next { (bs : List Bool) (end : ℕ) → Keeps next.word next.count bs end → (number_at (end - next.count) width bs ≡ Some result.0) × Keeps result.1.word result.1.count bs end }
+    ensures count { result.1.count + width ≡ next.count }
 {
-    let behind = Kept {
-        word: kept.word.wrapping_shl(width as u32),
-        count: kept.count - width,
+    let behind = NextBits {
+        word: next.word.wrapping_shl(width as u32),
+        count: next.count - width,
     };
-    (kept.word >> (64 - width), behind)
+    (next.word >> (64 - width), behind)
 }
 
-/// The bits from `at` on, at most 64 of them, and at least `width`. `None` where so many go past the end.
+/// The bits from `at` on, at most 64 of them, and at least `width`. `None` where this many go past the end.
 #[inline(never)]
-fn kept_from(bits: &BitSlice<'_>, at: usize, width: usize) -> Option<Kept>
+fn next_bits_from(bits: &BitSlice<'_>, at: usize, width: usize) -> Option<NextBits>
     requires some { 0 < width }
     requires width { width ≤ 64 }
     requires inside { at ≤ length bits.now }
-    ensures kept { IfSome result (λ k. Keeps k.word k.count bits.now (at + k.count)) }
+    ensures next { IfSome result (λ k. Keeps k.word k.count bits.now (at + k.count)) }
     ensures enough { IfSome result (λ k. width ≤ k.count) }
     ensures none { IsNone result → number_at at width bits.now ≡ None }
 {
@@ -45,11 +45,11 @@ fn kept_from(bits: &BitSlice<'_>, at: usize, width: usize) -> Option<Kept>
         return None;
     }
     match bits.word_from(at) {
-        Some((word, count)) if width <= count => Some(Kept { word, count }),
+        Some((word, count)) if width <= count => Some(NextBits { word, count }),
         _ => {
             let count = left.min(64);
             let number = bits.number(at, count)?;
-            Some(Kept {
+            Some(NextBits {
                 word: number << (64 - count),
                 count,
             })
@@ -57,14 +57,14 @@ fn kept_from(bits: &BitSlice<'_>, at: usize, width: usize) -> Option<Kept>
     }
 }
 
-/// Reads numbers from the bits of a slice, one behind the other. It keeps the next bits, at most 64, in a word, so that
+/// Reads numbers from the bits of a slice, one after another. It keeps the next bits, at most 64, in a word, so that
 /// few reads look at the bytes.
 #[derive(Drop)]
 pub struct SliceWalker<'a> {
     bits: BitSlice<'a>,
     /// How many of the bits are behind the walker or kept.
     end: usize,
-    kept: Kept,
+    next: NextBits,
 }
 
 impl<'a> Model for SliceWalker<'a> {
@@ -73,9 +73,9 @@ impl<'a> Model for SliceWalker<'a> {
 
     ghost Value = { SliceWalk };
 
-    ghost view = { λ w. record { bits = w.bits; place = w.end - w.kept.count } };
+    ghost view = { λ w. record { bits = w.bits; place = w.end - w.next.count } };
 
-    ghost invariant = { λ w. Keeps w.kept.word w.kept.count w.bits w.end };
+    ghost invariant = { λ w. Keeps w.next.word w.next.count w.bits w.end };
 }
 
 impl<'a> SliceWalker<'a> {
@@ -86,7 +86,7 @@ impl<'a> SliceWalker<'a> {
         SliceWalker {
             bits,
             end: 0,
-            kept: Kept { word: 0, count: 0 },
+            next: NextBits { word: 0, count: 0 },
         }
     }
 
@@ -101,15 +101,15 @@ impl<'a> SliceWalker<'a> {
         if width == 0 {
             return self.bits.number(self.place(), width);
         }
-        if width > self.kept.count {
+        if width > self.next.count {
             let place = self.place();
-            let kept = kept_from(&self.bits, place, width)?;
-            prove!(kept.count <= self.bits.len() - place);
-            self.end = place + kept.count;
-            self.kept = kept;
+            let next = next_bits_from(&self.bits, place, width)?;
+            prove!(next.count <= self.bits.len() - place);
+            self.end = place + next.count;
+            self.next = next;
         }
-        let (number, behind) = first_of(self.kept, width);
-        self.kept = behind;
+        let (number, behind) = first_of(self.next, width);
+        self.next = behind;
         Some(number)
     }
 
@@ -117,7 +117,7 @@ impl<'a> SliceWalker<'a> {
     pub fn place(&self) -> usize
         ensures { result ≡ self.now.place }
     {
-        self.end - self.kept.count
+        self.end - self.next.count
     }
 
     /// Whether all of the bits are behind the walker.

@@ -16,7 +16,7 @@ pub(crate) fn first_word(bytes: &[u8]) -> u64
     ])
 }
 
-/// The number in `width` bits of `bytes` from `offset` on, which stand inside `bytes`, byte by byte.
+/// The number in `width` bits of `bytes` from `offset` on, which are inside `bytes`, byte by byte.
 fn read_by_bytes(bytes: &[u8], offset: usize, width: usize) -> u64
     requires offset { offset < 8 }
     requires width { width ≤ 64 }
@@ -108,7 +108,7 @@ pub(crate) fn peek_by_bytes(bytes: &[u8], start: usize, width: usize) -> Option<
     Some(read_by_bytes(&bytes[start / 8..], start % 8, width))
 }
 
-/// Reads numbers from bytes, one behind the other.
+/// Reads numbers from bytes, one after another.
 #[derive(Debug, Drop)]
 pub struct Walker<'a> {
     bytes: &'a [u8],

@@ -1,4 +1,4 @@
--- A choice between two groups by the number before them, rows with nothing behind a part, counts and bits of lists.
+-- A choice between two groups by the number before them, rows with nothing after a part, counts and bits of lists.
 use Rattle.std.proofs.Common.{◌≡◌, ℕ, Bool, true, false, ◌∷◌, Option, Some, None, ◌⊎◌, inl, inr}
 use Rattle.etcs_vars.specs.declared.var.Var.{Var}
 use Rattle.etcs_vars.specs.Reading.{Reading}

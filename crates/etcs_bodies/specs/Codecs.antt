@@ -13,7 +13,7 @@ use Rattle.etcs_bodies.specs.Taking.{Left, ahead, ◌and_then◌, next_number, n
 abbrev pub Found : {V : Type 0} → (V → Type 0) → (V → Reading) → Layout → Reading → Type 0
 Found {V} IsValue reading rest r = (v : V) × (x : Reading) × (t : Scope) × IsValue v × (r ≡ reading v ++ x) × Reads rest t x
 
--- a value stands there
+-- a value is there
 abbrev pub Stands : {V : Type 0} → (V → Type 0) → (V → Reading) → Left → V → Left → Type 0
 Stands IsValue reading s v t = IsValue v × (s ≡ ahead (reading v) t)
 
@@ -23,7 +23,7 @@ pub record Codes {V : Type 0} (row : Layout → Layout) (IsValue : V → Type 0)
   pub into : (v : V) (rest : Layout) (s : Scope) (x : Reading) → IsValue v → ((t : Scope) → Reads rest t x) → Reads (row rest) s (reading v ++ x)
   pub out : (rest : Layout) (s : Scope) (r : Reading) → Reads (row rest) s r → Found IsValue reading rest r
 
--- ---- One behind the other.
+-- ---- One after another.
 
 abbrev pub IsBoth : {V W : Type 0} → (V → Type 0) → (W → Type 0) → V × W → Type 0
 IsBoth IsV IsW p = IsV p.0 × IsW p.1
@@ -34,9 +34,9 @@ both_reading reading reading' p = reading p.0 ++ reading' p.1
 abbrev pub both_from : {V W : Type 0} → (Left → Option (V × Left)) → (Left → Option (W × Left)) → Left → Option ((V × W) × Left)
 both_from from from' f = from f and_then λ v. from' v.1 and_then λ w. Some ((v.0, w.0), w.1)
 
--- ---- A group that stands where a test holds of the number of a variable.
+-- ---- A group that is there where a test holds of the number of a variable.
 
--- what a group takes of the numbers, where it stands there
+-- what a group takes of the numbers, where it is there
 abbrev pub opened : {W : Type 0} → (Left → Option (W × Left)) → Bool → Left → Option (Option W × Left)
 opened from b f = if b then (from f and_then λ w. Some (Some w.0, w.1)) else Some (None, f)
 
@@ -60,7 +60,7 @@ group_row v test row rest = one v (guarded (record { var = v; test = test }) (ro
 abbrev pub IsFlag : Var → Type 0
 IsFlag v = (width v ≡ 1) × (admits v 0 ≡ true) × (admits v 1 ≡ true)
 
--- a group behind a flag
+-- a group after a flag
 abbrev pub IsOptional : {W : Type 0} → (W → Type 0) → Option W → Type 0
 IsOptional IsW None = Unit {0}
 IsOptional IsW (Some w) = IsW w
@@ -86,7 +86,7 @@ pub record Forms {V W : Type 0} (IsV : V → Type 0) (reading : V → Reading) (
   pub so : (v : V) → IsV v → IsW (to v)
   pub same : (w : W) → reading (back w) ≡ shown w
 
--- ---- A list behind its count.
+-- ---- A list after its count.
 
 abbrev pub IsEntries : {V : Type 0} → Var → (V → Type 0) → List V → Type 0
 IsEntries v IsV vs = (count_fault v (length vs) ≡ None) × All IsV vs

@@ -1,4 +1,4 @@
--- More of codes: another account of the same values, groups that must stand just where their guard holds, and pairs.
+-- More of codes: another account of the same values, groups that must be just where their guard holds, and pairs.
 use Rattle.std.proofs.Common.{ℕ, [], ◌∷◌, Option, Some, None}
 use Rattle.etcs_vars.specs.declared.var.Var.{Var}
 use Rattle.etcs_vars.specs.Reading.{Reading}
@@ -14,7 +14,7 @@ abbrev pub group_fault : {W : Type 0} → (W → Option BuildFault) → Option W
 group_fault fault None = None
 group_fault fault (Some w) = fault w
 
--- ---- Two variables, one behind the other.
+-- ---- Two variables, one after another.
 
 abbrev pub pair_fault : Var → Var → ℕ × ℕ → Option BuildFault
 pair_fault v w p = number_fault v p.0 or_else number_fault w p.1

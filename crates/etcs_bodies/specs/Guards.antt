@@ -1,4 +1,4 @@
--- Groups behind a number that is stored: the group must be there exactly where its guard holds.
+-- Groups after a number that is stored: the group must be there exactly where its guard holds.
 use Rattle.std.proofs.Common.{◌≡◌, ℕ, Bool, true, false, [], Option, Some, None}
 use Rattle.std.specs.Option.{is_some}
 use Rattle.etcs_vars.specs.declared.var.Var.{Var}

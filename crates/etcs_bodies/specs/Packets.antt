@@ -1,4 +1,4 @@
--- A packet behind its frame: a direction, and a body that is the whole of its row.
+-- A packet after its frame: a direction, and a body that is the whole of its row.
 use Rattle.std.proofs.Common.{◌≡◌, ℕ, true, Option, Some, None}
 use Rattle.std.specs.Prelude.{IsTrue, if◌then◌else◌, nat_le}
 use Rattle.etcs_vars.specs.declared.var.Var.TheVariants.{Q_DIR}
@@ -12,7 +12,7 @@ use Rattle.etcs_bodies.specs.Repeats.{bit_count}
 
 -- ---- The length.
 
--- of a row of so many bits: more than the length of a packet counts
+-- of a row of this many bits: more than the length of a packet counts
 unfoldable pub bits_fault : ℕ → Option BuildFault
 bits_fault bits = if nat_le bits ROW_LIMIT then None else Some TooLong
 

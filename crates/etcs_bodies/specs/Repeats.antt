@@ -1,11 +1,11 @@
--- Things one behind the other: of readings and of numbers.
+-- Things one after another: of readings and of numbers.
 use Rattle.std.proofs.Common.{◌≡◌, ℕ, ◌+◌, List, [], ◌∷◌, ◌++◌, length, Option, Some, None}
 use Rattle.std.specs.Prelude.{All, flat_map}
 use Rattle.etcs_vars.specs.Vars.{width}
 use Rattle.etcs_vars.specs.Reading.{Reading}
 use Rattle.etcs_bodies.specs.Taking.{Left, ahead}
 
--- entries that stand there
+-- entries that are there
 abbrev pub Stand : {V : Type 0} → (V → Type 0) → (V → Reading) → ℕ → Left → List V → Left → Type 0
 Stand IsValue reading n s vs t = All IsValue vs × (length vs ≡ n) × (s ≡ ahead (flat_map reading vs) t)
 

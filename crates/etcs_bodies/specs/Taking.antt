@@ -32,7 +32,7 @@ None and_then k = None
 abbrev pub admitted_of : Var → ℕ → Left → Option (ℕ × Left)
 admitted_of v n s = if admits v n then Some (n, s) else None
 
--- a number that the variable admits, and what is behind it
+-- a number that the variable admits, and what is after it
 unfoldable pub next_number : Var → Left → Option (ℕ × Left)
 next_number v (listed []) = None
 next_number v (listed (n ∷ f)) = admitted_of v n (listed f)
@@ -47,7 +47,7 @@ next_flag (listed (suc (suc n) ∷ f)) = None
 next_flag (in_bits []) = None
 next_flag (in_bits (b ∷ bs)) = Some (b, in_bits bs)
 
--- n things, one behind the other
+-- n things, one after another
 unfoldable pub times_from : {V : Type 0} → (Left → Option (V × Left)) → ℕ → Left → Option (List V × Left)
 times_from from zero s = Some ([], s)
 times_from from (suc n) s = from s and_then λ v. times_from from n v.1 and_then λ vs. Some (v.0 ∷ vs.0, vs.1)

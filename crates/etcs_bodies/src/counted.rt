@@ -7,10 +7,10 @@ ghost use Rattle.etcs_bodies.specs.Codecs.{IsEntries};
 
 use crate::entries::Entry;
 use crate::faults::check_count;
-use crate::items::Items;
+use crate::list_of::ListOf;
 use crate::numbers::Numbers;
 use crate::part::{Part, clone_all, hold_all, send_list, take_list};
-use etcs_vars::parts::{Sink, Variables, bits_of_all};
+use etcs_vars::parts::{VarSink, Variables, bits_of_all};
 use etcs_vars::{BuildFault, Var};
 use std::alloc::{AllocError, Global};
 use std::marker::Model;
@@ -18,7 +18,7 @@ use std::marker::Model;
 /// Entries after their count, N_ITER: at most 31.
 #[derive(Debug, Drop, PartialEq, Eq)]
 pub struct Counted<E: Entry> {
-    entries: Items<E>,
+    entries: ListOf<E>,
 }
 
 impl<E: Entry> Model for Counted<E> {
@@ -52,7 +52,7 @@ impl<E: Entry> Counted<E> {
         }
         hold_all(entries.as_slice());
         Ok(Counted {
-            entries: Items::from_vec(entries),
+            entries: ListOf::from_vec(entries),
         })
     }
 
@@ -74,7 +74,7 @@ impl<E: Entry> Variables for Counted<E> {
         5 + bits_of_all(self.entries.as_slice())
     }
 
-    fn send<S: Sink>(&self, out: &mut S) -> Result<(), AllocError> {
+    fn send<S: VarSink>(&self, out: &mut S) -> Result<(), AllocError> {
         send_list(Var::N_ITER, self.entries.as_slice(), out)
     }
 }
@@ -102,13 +102,13 @@ impl<E: Entry> Part for Counted<E> {
             return Ok(None);
         };
         Ok(Some(Counted {
-            entries: Items::from_vec(entries),
+            entries: ListOf::from_vec(entries),
         }))
     }
 
     fn try_clone(&self, alloc: Global) -> Result<Counted<E>, AllocError> {
         Ok(Counted {
-            entries: Items::from_vec(clone_all(alloc, self.entries.as_slice())?),
+            entries: ListOf::from_vec(clone_all(alloc, self.entries.as_slice())?),
         })
     }
 }

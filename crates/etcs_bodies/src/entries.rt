@@ -7,10 +7,10 @@ ghost use Rattle.etcs_bodies.specs.Entries.{AreEntries};
 ghost use Rattle.etcs_bodies.specs.Repeats.{bit_count};
 
 use crate::faults::check_count;
-use crate::items::Items;
+use crate::list_of::ListOf;
 use crate::numbers::Numbers;
 use crate::part::{Part, clone_all, hold_all, send_list, take_list};
-use etcs_vars::parts::{Sink, Variables, bits_of_all};
+use etcs_vars::parts::{VarSink, Variables, bits_of_all};
 use etcs_vars::{BuildFault, Var};
 use std::alloc::{AllocError, Global};
 use std::marker::Model;
@@ -31,7 +31,7 @@ pub trait Entry: Part + Drop {
 #[derive(Debug, Drop, PartialEq, Eq)]
 pub struct Entries<E: Entry> {
     first: E,
-    further: Items<E>,
+    further: ListOf<E>,
 }
 
 impl<E: Entry> Model for Entries<E> {
@@ -67,7 +67,7 @@ impl<E: Entry> Entries<E> {
         hold_all(further.as_slice());
         Ok(Entries {
             first,
-            further: Items::from_vec(further),
+            further: ListOf::from_vec(further),
         })
     }
 
@@ -104,7 +104,7 @@ impl<E: Entry> Variables for Entries<E> {
         5 + self.first.bits() + bits_of_all(self.further.as_slice())
     }
 
-    fn send<S: Sink>(&self, out: &mut S) -> Result<(), AllocError> {
+    fn send<S: VarSink>(&self, out: &mut S) -> Result<(), AllocError> {
         self.first.send(out)?;
         send_list(Var::N_ITER, self.further.as_slice(), out)
     }
@@ -135,14 +135,14 @@ impl<E: Entry> Part for Entries<E> {
         };
         Ok(Some(Entries {
             first,
-            further: Items::from_vec(further),
+            further: ListOf::from_vec(further),
         }))
     }
 
     fn try_clone(&self, alloc: Global) -> Result<Entries<E>, AllocError> {
         Ok(Entries {
             first: self.first.try_clone(alloc)?,
-            further: Items::from_vec(clone_all(alloc, self.further.as_slice())?),
+            further: ListOf::from_vec(clone_all(alloc, self.further.as_slice())?),
         })
     }
 }

@@ -9,9 +9,9 @@ use etcs_bits::BitSlice;
 use etcs_vars::parts::Variables;
 use std::alloc::{AllocError, Global};
 
-/// A typed packet with its variables behind L_PACKET, which it also is made of.
+/// A typed packet with its variables after L_PACKET, which it also is made of.
 pub trait Framed: Packetlike + Variables {
-    /// The packet of a direction and of the bits behind L_PACKET; `None` exactly where the direction isn't admitted
+    /// The packet of a direction and of the bits after L_PACKET; `None` exactly where the direction isn't admitted
     /// or the bits are no spelling of the row.
     ///
     /// # Errors

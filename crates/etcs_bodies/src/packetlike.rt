@@ -25,7 +25,7 @@ pub trait Packetlike: Sized {
 
     ghost direction: { Self → ℕ };
 
-    /// The numbers behind L_PACKET, in the row's order.
+    /// The numbers after L_PACKET, in the row's order.
     ghost fields_of: { Self → List ℕ };
 
     /// Holds of every packet of the type, as `dir` says; a law's variables range over more.
@@ -36,7 +36,7 @@ pub trait Packetlike: Sized {
         ensures dir { result ≡ direction self.now }
         ensures value { is_value self.now };
 
-    /// Appends the numbers behind L_PACKET in the order of the row, one for each variable that stands there.
+    /// Appends the numbers after L_PACKET in the order of the row, one for each variable that is there.
     ///
     /// # Errors
     ///
@@ -45,7 +45,7 @@ pub trait Packetlike: Sized {
         ensures ok { OnOk result (out.new.items ≡ out.old.items ++ fields_of self.now) }
         ensures err { OnErr result (out.new.items ≡ out.old.items) };
 
-    /// The packet of a direction and of the numbers behind L_PACKET; `None` exactly where the direction isn't
+    /// The packet of a direction and of the numbers after L_PACKET; `None` exactly where the direction isn't
     /// admitted or the row has no such numbers.
     ///
     /// # Errors

@@ -9,7 +9,7 @@ ghost use Rattle.etcs_bodies.specs.Faults.{count_fault};
 
 use crate::numbers::Numbers;
 use etcs_vars::Var;
-use etcs_vars::parts::{Sink, Variables, bits_of_all, send_all};
+use etcs_vars::parts::{VarSink, Variables, bits_of_all, send_all};
 use std::alloc::{AllocError, Global};
 
 /// A part of a packet: a run of variables of its row.
@@ -20,7 +20,7 @@ pub trait Part: Variables + Sized {
     /// Its row in front of the rest of a row.
     ghost row: { Layout → Layout };
 
-    /// The part with which what is left begins, and what is behind it.
+    /// The part with which what is left begins, and what is after it.
     ghost read_from: { Left → Option (Self × Left) };
 
     /// Holds of every value of the type.
@@ -64,7 +64,7 @@ pub fn clone_all<P: Part + Drop>(alloc: Global, parts: &[P]) -> Result<Vec<P>, A
     Ok(copies)
 }
 
-/// Takes so many parts.
+/// Takes this many parts.
 fn take_all<P: Part + Drop>(
     alloc: Global,
     numbers: &mut Numbers,
@@ -85,7 +85,7 @@ fn take_all<P: Part + Drop>(
     Ok(Some(parts))
 }
 
-/// Takes a list of parts behind its count.
+/// Takes a list of parts after its count.
 #[tactic(auto, using(crate::specs::laws::Repeats::list_is, crate::specs::laws::Repeats::list_missing, crate::specs::laws::Repeats::list_uncounted, crate::specs::laws::Takes::counted_is))]
 pub fn take_list<P: Part + Drop>(
     alloc: Global,
@@ -106,12 +106,16 @@ pub fn take_list<P: Part + Drop>(
     Ok(Some(parts))
 }
 
-/// Sends a list of parts behind its count.
+/// Sends a list of parts after its count.
 ///
 /// # Errors
 ///
 /// That of the sink.
-pub fn send_list<P: Part, S: Sink>(count: Var, parts: &[P], out: &mut S) -> Result<(), AllocError>
+pub fn send_list<P: Part, S: VarSink>(
+    count: Var,
+    parts: &[P],
+    out: &mut S,
+) -> Result<(), AllocError>
     ensures ok { OnOk result (out.new ≡ S.with out.old (list_reading count P.reading_of parts.now)) }
     ensures err { OnErr result (S.failed out.old out.new) }
 {

@@ -161,7 +161,7 @@ fn owned(case: &mut Case) {
     }
 }
 
-/// Appends the number of a width, and keeps so many bits at most.
+/// Appends the number of a width, and keeps this many bits at most.
 fn change(case: &mut Case, held: &mut Bits) {
     let width = case.up_to(63) as usize;
     let number = case.bits_of(width);

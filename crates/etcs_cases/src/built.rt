@@ -283,7 +283,7 @@ fn text_of(case: &mut Case, numbers: &[u64]) -> Vec<u8> {
     text
 }
 
-/// `DIR LENGTH FRAME BYTES..`, where the frame has so many numbers
+/// `DIR LENGTH FRAME BYTES..`, where the frame has this many numbers
 fn plain_text(case: &mut Case, dir: u8, words: &[u64]) -> Option<Packet> {
     let [length, left @ ..] = words else {
         return None;
@@ -515,7 +515,7 @@ fn kept_bits(case: &mut Case) {
     }
 }
 
-/// The parts of a packet that is kept as so many bits.
+/// The parts of a packet that is kept as this many bits.
 fn say_kept(case: &mut Case, packet: &Other, len: usize) {
     case.say_next(u64::from(packet.nid()));
     case.say_next(u64::from(packet.dir()));
@@ -526,7 +526,7 @@ fn say_kept(case: &mut Case, packet: &Other, len: usize) {
     case.check(copy.as_ref() == Some(packet), "another copy");
 }
 
-/// `kept_long NID DIR COUNT`: `ok` for so many bits of bytes A5, or why there is no such packet.
+/// `kept_long NID DIR COUNT`: `ok` for this many bits of bytes A5, or why there is no such packet.
 fn kept_long(case: &mut Case) {
     let nid = case.byte();
     let dir = case.byte();
@@ -536,7 +536,7 @@ fn kept_long(case: &mut Case) {
     case.say(if packet.is_some() { "ok" } else { "" });
 }
 
-/// So many of these bits.
+/// This many of these bits.
 fn first_bits(mut bits: Bits, len: usize) -> Bits {
     if len < bits.len() {
         bits.truncate(len);

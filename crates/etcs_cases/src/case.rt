@@ -1,6 +1,6 @@
 //! A line of data: its words are taken one after another, and what is answered is appended.
 //!
-//! No call here fails: what is wrong is noted, and told at the end. So a line is answered by plain calls, one after another.
+//! No call here fails: what is wrong is noted, and reported at the end. So a line is answered by plain calls in turn.
 
 ghost use Rattle.std.specs.Prelude.{◌≤◌, ◌<◌, ◌^◌};
 
@@ -172,7 +172,7 @@ impl<'a> Case<'a> {
         number
     }
 
-    /// A number of so many bits.
+    /// A number of this many bits.
     pub fn bits_of(&mut self, width: usize) -> u64
         requires { width < 64 }
         ensures { result < 2 ^ width }
@@ -242,7 +242,7 @@ impl<'a> Case<'a> {
         found
     }
 
-    /// How often a run stands, and the run.
+    /// How often a run occurs, and the run.
     fn repeated<'b>(&mut self, run: &'b str) -> (u64, &'b str) {
         match run.split_once(" x ") {
             Some((count, body)) => (self.read(count.trim()).min(65535), body.trim()),

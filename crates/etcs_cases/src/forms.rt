@@ -7,7 +7,7 @@ use etcs_packets::laws::{exact_packet, one_packet};
 use etcs_packets::{Packet, parts};
 use etcs_tables::Way;
 
-/// The number that stands in a list before those of a packet.
+/// The number that is in a list before those of a packet.
 const BEFORE: u64 = 200;
 
 /// Checks that a packet's type has its number, and that the packet appends just these numbers to a list.

@@ -5,7 +5,7 @@ use crate::names::variable;
 use crate::sent::{BEFORE, BEHIND, Sent, sent_of};
 use etcs_bits::BitSlice;
 use etcs_bodies::laws::{Exact, exact_equality};
-use etcs_bodies::{Items, Numbers, Part, check, check_count, check_guard, clone_all, take_list};
+use etcs_bodies::{ListOf, Numbers, Part, check, check_count, check_guard, clone_all, take_list};
 use etcs_packets::{
     Authority, BaliseAt, Condition, Differing, Level, LevelAck, Link, ModeSection, ReportAt,
     Section, Shown, Slope, Speed, TextFrame,
@@ -257,10 +257,10 @@ fn say_levels(case: &mut Case, levels: Vec<Level>) {
 /// Checks that clones of levels are held as items and given back.
 fn check_items(case: &mut Case, levels: &[Level]) {
     if let Some(copies) = case.got(clone_all(case.alloc(), levels)) {
-        let items = Items::from_vec(copies);
+        let items = ListOf::from_vec(copies);
         let same = items.as_slice() == levels && items.len() == levels.len();
         case.check(same, "other items");
-        let none = items == Items::from_vec(Vec::new(case.alloc()));
+        let none = items == ListOf::from_vec(Vec::new(case.alloc()));
         case.check(!none, "no items");
         case.check(items.into_vec().as_slice() == levels, "other items back");
     }

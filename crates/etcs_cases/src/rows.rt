@@ -140,7 +140,7 @@ fn put(case: &mut Case) {
 
 /// `place ROW NUMBER ..`: the variable that comes next after the numbers, `whole` or `not admitted`.
 /// `lengths MOST ROW NUMBER ..`: how many bits up to MOST may be left after the numbers.
-/// `reaches BITS ROW NUMBER ..`: whether so many bits may be left after the numbers.
+/// `reaches BITS ROW NUMBER ..`: whether this many bits may be left after the numbers.
 fn of_place(case: &mut Case, kind: &str) {
     let bits = if kind == "place" { 0 } else { case.place() };
     if let Some(row) = next_row(case) {

@@ -4,14 +4,14 @@ use crate::case::{Case, MOST_BITS};
 use etcs_bits::{BitSlice, Bits};
 use etcs_packets::{Packet, parts};
 use etcs_vars::Var;
-use etcs_vars::parts::{Sink, Variables};
+use etcs_vars::parts::{VarSink, Variables};
 use std::alloc::{AllocError, Global};
 use std::marker::Model;
 
-/// How many bits stand before those of what was sent, so that they begin inside a byte.
+/// How many bits come before those of what was sent, so that they begin inside a byte.
 pub(crate) const BEFORE: usize = 5;
 
-/// The number of NID_TEXTMESSAGE that stands after what was sent.
+/// The number of NID_TEXTMESSAGE that is after what was sent.
 pub(crate) const BEHIND: u64 = 200;
 
 /// What was sent, in order.
@@ -28,7 +28,7 @@ impl Model for Sent {
     ghost view = { λ s. s.pairs.items };
 }
 
-impl Sink for Sent {
+impl VarSink for Sent {
     ghost use Rattle.std.specs.Prelude.{◌++◌};
     ghost use Rattle.std.proofs.Common.{append_assoc, append-nil, sym};
 

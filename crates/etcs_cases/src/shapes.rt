@@ -157,7 +157,7 @@ impl Shape for Differing {
     }
 }
 
-/// `D_STATIC V_STATIC Q_FRONT COUNT` and so many entries
+/// `D_STATIC V_STATIC Q_FRONT COUNT` and that many entries
 impl Shape for Speed {
     fn of_words(case: &mut Case) -> Result<Speed, BuildFault> {
         let d_static = case.half();
@@ -181,7 +181,7 @@ impl Shape for Speed {
     }
 }
 
-/// `COUNT`, so many sections, the end section, `-` or `T_ENDTIMER D_ENDTIMERSTARTLOC`, `-` or `D_DP V_RELEASEDP`, and
+/// `COUNT`, that many sections, the end section, `-` or `T_ENDTIMER D_ENDTIMERSTARTLOC`, `-` or `D_DP V_RELEASEDP`, and
 /// `-` or `D_STARTOL T_OL D_OL V_RELEASEOL`
 impl Shape for Authority {
     fn of_words(case: &mut Case) -> Result<Authority, BuildFault> {
@@ -238,7 +238,7 @@ impl Shape for TextFrame {
     }
 }
 
-/// So many parts behind their count.
+/// This many parts after their count.
 fn list_of<P: Shape>(case: &mut Case) -> Result<Vec<P>, BuildFault> {
     let mut list = Vec::new(case.alloc());
     for _ in 0..case.byte() {

@@ -20,7 +20,7 @@ pub(crate) fn answer(case: &mut Case, kind: &str) -> bool {
     true
 }
 
-/// Takes a number of so many bits. `None` where the next variable doesn't want as many.
+/// Takes a number of this many bits. `None` where the next variable doesn't want as many.
 fn take_some(walk: &mut RowWalk, count: usize, number: u64) -> Option<Result<Step, Stopped>> {
     if count == 0 || count > 63 || number >= 1 << count {
         return None;
@@ -103,7 +103,7 @@ fn say_step(case: &mut Case, walk: &RowWalk, step: Step) {
 }
 
 /// The course of a walk over the digits: its whole variables, and where it ended. It goes
-/// bit by bit where `most` is 0, else by at most so many bits at once.
+/// bit by bit where `most` is 0, else by at most this many bits at once.
 fn say_course(case: &mut Case, walk: &mut RowWalk, digits: &BitSlice<'_>, most: usize) {
     let mut at = 0usize;
     for _ in 0..digits.len() {
@@ -126,7 +126,7 @@ fn say_course(case: &mut Case, walk: &mut RowWalk, digits: &BitSlice<'_>, most: 
     say_end(case, walk);
 }
 
-/// The course of a walk over the row of so many bits, or `no walk`.
+/// The course of a walk over the row of this many bits, or `no walk`.
 fn say_walk(case: &mut Case, row: Row, len: usize, digits: &BitSlice<'_>, most: usize) {
     match RowWalk::start(row, len) {
         Some(mut walk) => say_course(case, &mut walk, digits, most),
@@ -134,7 +134,7 @@ fn say_walk(case: &mut Case, row: Row, len: usize, digits: &BitSlice<'_>, most: 
     }
 }
 
-/// `walk ROW LEN DIGITS`: the course of a walk over the row of so many bits, or `no walk`; it must
+/// `walk ROW LEN DIGITS`: the course of a walk over the row of this many bits, or `no walk`; it must
 /// be the same bit by bit and by several bits at once.
 fn walked(case: &mut Case) {
     if let Some(row) = next_row(case) {
@@ -167,7 +167,7 @@ fn takes(walk: &mut RowWalk, number: u64, at_once: bool) -> bool {
     true
 }
 
-/// Whether a walk over the row of so many bits takes the numbers.
+/// Whether a walk over the row of this many bits takes the numbers.
 fn takes_all(row: Row, len: usize, numbers: &[u64], at_once: bool) -> bool {
     let Some(mut walk) = RowWalk::start(row, len) else {
         return false;

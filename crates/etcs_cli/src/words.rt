@@ -39,7 +39,7 @@ static GROUP_KINDS_HELP: &str = "Balise telegrams of 830 user bits (long) or of 
 /// What `--from` and `--to` take.
 static FORMS: [&str; 3] = ["hex", "bin", "json"];
 
-/// What `--version` says behind the name: the version, and the line of the kit that proves it.
+/// What `--version` says after the name: the version, and the line of the kit that proves it.
 static VERSION: &str = "0.1.0 (rattle-kit-13f logic dac8208d650f15bf)";
 
 /// What a command line asks for.

@@ -1,4 +1,4 @@
-//! What tests of refused memory and failing streams stand on.
+//! What tests of refused memory and failing streams rest on.
 #![tactic(auto)]
 
 mod checks;

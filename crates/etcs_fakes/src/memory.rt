@@ -19,7 +19,7 @@ pub fn starve(alloc: Global) -> Result<Vec<Vec<u8>>, AllocError> {
     Ok(held)
 }
 
-/// As `starve`, but about so many bytes, of at most 8192, can still be had.
+/// As `starve`, but about this many bytes, of at most 8192, can still be had.
 pub fn starve_to(alloc: Global, room: usize) -> Result<Vec<Vec<u8>>, AllocError> {
     let spare: Vec<u8> = Vec::with_capacity(alloc, 8192)?;
     let mut held = starve(alloc)?;

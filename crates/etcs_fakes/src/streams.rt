@@ -47,7 +47,7 @@ pub enum Full {
     TakesNothing,
 }
 
-/// Has room for so many bytes.
+/// Has room for this many bytes.
 #[derive(Drop)]
 pub struct Narrow<'a> {
     pub held: &'a mut Vec<u8>,

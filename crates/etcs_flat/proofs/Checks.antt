@@ -13,7 +13,7 @@ use Rattle.etcs_tables.specs.declared.item.RowItem.TheVariants.{One}
 use Rattle.etcs_flat.specs.Flats.{numbers_fault, row_fault}
 use Rattle.etcs_flat.specs.laws.FlatLaws.{same_count}
 
--- ---- Faults, one behind the other.
+-- ---- Faults, one after another.
 
 pub none_first : {a b f : Option BuildFault} → a or_else b ≡ f → a ≡ None → b ≡ f
 none_first {b} e h = sym (ap (λ (x : Option BuildFault). x or_else b) h) ∙ e
@@ -28,7 +28,7 @@ pub fault_from : {items table : List RowItem} {ns numbers : List ℕ} {item : Ro
 fault_from [] are first second e = absurd cc
 fault_from {f} (v ∷ ws) are first second e = (v, ws, cc, cc, subst (λ (g : List ℕ). numbers_fault (v ∷ ws) g ≡ f) second e)
 
--- behind the last item or the last number
+-- after the last item or the last number
 pub fault_end : {items : List RowItem} {ns : List ℕ} {f : Option BuildFault} (vs : List Var) → items ≡ map One vs → (items ≡ []) ⊎ (ns ≡ []) → numbers_fault vs ns ≡ f → f ≡ None
 fault_end [] are over e = sym e
 fault_end (v ∷ ws) are (inl h) e = absurd cc

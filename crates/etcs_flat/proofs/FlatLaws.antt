@@ -7,7 +7,7 @@ use Rattle.etcs_flat.specs.laws.FlatLaws.{row_short, nothing_wrong}
 
 -- ---- Readings of a row without groups.
 
--- as many numbers as variables stand beside these
+-- as many numbers as there are variables beside these
 pub pairs-numbers : (vs : List Var) (ns : List ℕ) → length ns ≡ length vs → numbers (pairs vs ns) ≡ ns
 pairs-numbers [] [] long = refl
 pairs-numbers [] (n ∷ ns) long = absurd (omega arith)

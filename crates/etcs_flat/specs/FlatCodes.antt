@@ -5,7 +5,7 @@ use Rattle.etcs_tables.specs.declared.item.RowItem.TheVariants.{One}
 use Rattle.etcs_tables.specs.Layouts.{Layout, one}
 use Rattle.etcs_bodies.specs.Taking.{Left}
 use Rattle.etcs_bodies.specs.PacketCodes.{directed_from, never}
-use Rattle.etcs_flat.specs.Flats.{FlatParts, flat_parts, flat_row, numbers_fault}
+use Rattle.etcs_flat.specs.Flats.{FlatValue, flat_value, flat_row, numbers_fault}
 use Rattle.etcs_flat.specs.Tables.{table_from}
 
 -- ---- The numbers of some variables.
@@ -26,9 +26,9 @@ abbrev pub known : Option (List Var) → List Var
 known None = []
 known (Some vs) = vs
 
-abbrev pub row_from : Option (List Var) → ℕ → Left → Option (FlatParts × Left)
-row_from o = directed_from (table_from (map One (known o))) never flat_parts
+abbrev pub row_from : Option (List Var) → ℕ → Left → Option (FlatValue × Left)
+row_from o = directed_from (table_from (map One (known o))) never flat_value
 
 -- the packet of a direction with which what is left begins, and what is left after it
-abbrev pub flat_from : ℕ → ℕ → Left → Option (FlatParts × Left)
+abbrev pub flat_from : ℕ → ℕ → Left → Option (FlatValue × Left)
 flat_from nid = row_from (flat_row nid)

@@ -14,12 +14,12 @@ use Rattle.etcs_tables.specs.Layouts.{Layout, whole, one, guarded, counted}
 use Rattle.etcs_tables.specs.Rows.{row_to}
 
 -- a packet of a row without groups: its direction and its numbers
-pub record FlatParts : Type 0 where
+pub record FlatValue : Type 0 where
   pub dir : ℕ
   pub numbers : List ℕ
 
-abbrev pub flat_parts : ℕ → List ℕ → FlatParts
-flat_parts dir ns = record { dir = dir; numbers = ns }
+abbrev pub flat_value : ℕ → List ℕ → FlatValue
+flat_value dir ns = record { dir = dir; numbers = ns }
 
 -- the variables of a row without groups
 abbrev pub variables : Layout → Option (List Var)

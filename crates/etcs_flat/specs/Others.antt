@@ -8,19 +8,19 @@ use Rattle.etcs_tables.specs.declared.row.Way.{Way}
 use Rattle.etcs_tables.specs.declared.row.Way.TheVariants.{ToTrain}
 use Rattle.etcs_tables.specs.Frames.{is_kept, kept_limit}
 
--- a packet that isn't typed: its number, its direction and the bits behind L_PACKET
-pub record OtherParts : Type 0 where
+-- a packet that isn't typed: its number, its direction and the bits after L_PACKET
+pub record OtherValue : Type 0 where
   pub nid : ℕ
   pub dir : ℕ
   pub body : List Bool
 
-abbrev pub other_parts : ℕ → ℕ → List Bool → OtherParts
-other_parts nid dir body = record { nid = nid; dir = dir; body = body }
+abbrev pub other_value : ℕ → ℕ → List Bool → OtherValue
+other_value nid dir body = record { nid = nid; dir = dir; body = body }
 
 -- what is wrong with a direction
 abbrev pub direction_fault : Way → ℕ → Option BuildFault
 direction_fault ToTrain dir = number_fault Q_DIR dir
 
--- what is wrong with a packet of so many bits behind L_PACKET
+-- what is wrong with a packet of this many bits after L_PACKET
 abbrev pub other_fault : Way → ℕ → ℕ → ℕ → Option BuildFault
 other_fault way nid dir bits = (if is_kept way nid then None else Some (NotAdmitted NID_PACKET)) or_else direction_fault way dir or_else (if nat_le bits (kept_limit way) then None else Some TooLong)

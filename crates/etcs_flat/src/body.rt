@@ -11,7 +11,7 @@ use crate::flat::Flat;
 use crate::table::{send_table, table_bits};
 use etcs_bodies::{Body, Numbers};
 use etcs_tables::Way;
-use etcs_vars::parts::{Sink, Variables};
+use etcs_vars::parts::{VarSink, Variables};
 use std::alloc::{AllocError, Global};
 
 /// A number whose packets have a row without groups.
@@ -92,7 +92,7 @@ impl<const NID: u8> Variables for Flat<NID> {
     }
 
     #[tactic(auto, using(crate::specs::laws::TableLaws::table_reading))]
-    fn send<S: Sink>(&self, out: &mut S) -> Result<(), AllocError> {
+    fn send<S: VarSink>(&self, out: &mut S) -> Result<(), AllocError> {
         send_table(self.table(), self.numbers(), out)
     }
 }

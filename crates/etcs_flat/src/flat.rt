@@ -7,7 +7,7 @@ ghost use Rattle.etcs_vars.specs.declared.var.Var.{Var};
 ghost use Rattle.etcs_vars.specs.declared.var.Var.TheVariants.{Q_DIR};
 ghost use Rattle.etcs_vars.specs.Vars.{admits};
 ghost use Rattle.etcs_tables.specs.declared.item.RowItem.TheVariants.{One};
-ghost use Rattle.etcs_flat.specs.Flats.{flat_parts, flat_row, flat_fault, numbers_fault, is_one};
+ghost use Rattle.etcs_flat.specs.Flats.{flat_value, flat_row, flat_fault, numbers_fault, is_one};
 ghost use Rattle.etcs_flat.specs.FlatCodes.{flat_from};
 
 use crate::table::{table_of, take_table};
@@ -20,7 +20,7 @@ use std::marker::Model;
 /// A packet to the train whose row has no groups (SUBSET-026, 7.4.2). Two of them are equal where they have the
 /// same direction and the same numbers. A `NID` that isn't in the table has no packets.
 ///
-/// Its numbers are those behind L_PACKET, in this order:
+/// Its numbers are those after L_PACKET, in this order:
 ///
 /// | NID | packet | numbers |
 /// |---|---|---|
@@ -59,8 +59,8 @@ use std::marker::Model;
 /// | Q_FRONT | whether the speed may rise with the train's front (1) or only with its end (0) |
 /// | V_TSR | the speed in the restriction, in steps of 5 km/h, at most 120 steps |
 /// | D_RBCTR | the distance to the place where the other radio block centre takes over, by Q_SCALE |
-/// | Q_ASPECT | whether the train stops (0) or goes on (1) in shunting mode |
-/// | Q_SRSTOP | whether the train stops (0) or goes on (1) in staff responsible mode |
+/// | Q_ASPECT | whether the train stops (0) or continues (1) in shunting mode |
+/// | Q_SRSTOP | whether the train stops (0) or continues (1) in staff responsible mode |
 /// | NID_OPERATIONAL | the running number, eight digits of four bits |
 /// | Q_GDIR | whether the track falls (0) or climbs (1) |
 /// | G_TSR | the gradient, in thousandths |
@@ -73,9 +73,9 @@ pub struct Flat<const NID: u8> {
 
 impl<const NID: u8> Model for Flat<NID> {
     ghost use Rattle.std.specs.Prelude.{◌≡◌, None};
-    ghost use Rattle.etcs_flat.specs.Flats.{FlatParts, flat_fault};
+    ghost use Rattle.etcs_flat.specs.Flats.{FlatValue, flat_fault};
 
-    ghost Value = { FlatParts };
+    ghost Value = { FlatValue };
 
     ghost view = { λ p. record { dir = p.dir; numbers = p.numbers.items } };
 
@@ -98,7 +98,7 @@ impl<const NID: u8> Flat<NID> {
     /// - `NotAdmitted` with the first variable, in order, that doesn't admit its number: it is spare, or too large
     ///   for the variable's width.
     pub fn new(dir: u8, numbers: &[u64]) -> Result<Self, BuildFault>
-        ensures ok { IfOk result (λ p. p ≡ flat_parts dir numbers.now) }
+        ensures ok { IfOk result (λ p. p ≡ flat_value dir numbers.now) }
         ensures fits { OnOk result (flat_fault NID dir numbers.now ≡ None) }
         ensures fault { IfErr result (λ e. flat_fault NID dir numbers.now ≡ Some e) }
     {

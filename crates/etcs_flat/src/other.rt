@@ -3,7 +3,7 @@
 ghost use Rattle.std.specs.Prelude.{◌≡◌, ◌≤◌, length, Some, None, OnOk, IfOk, IfErr};
 ghost use Rattle.etcs_tables.specs.declared.row.Way.TheVariants.{ToTrain};
 ghost use Rattle.etcs_tables.specs.Layouts.{ROW_LIMIT};
-ghost use Rattle.etcs_flat.specs.Others.{other_parts, direction_fault, other_fault};
+ghost use Rattle.etcs_flat.specs.Others.{other_value, direction_fault, other_fault};
 
 use etcs_bits::{BitSlice, Bits};
 use etcs_tables::{Way, is_kept, kept_limit};
@@ -23,9 +23,9 @@ pub struct Other {
 impl Model for Other {
     ghost use Rattle.std.specs.Prelude.{◌≡◌, ◌≤◌, length, None};
     ghost use Rattle.etcs_tables.specs.declared.row.Way.TheVariants.{ToTrain};
-    ghost use Rattle.etcs_flat.specs.Others.{OtherParts, other_fault};
+    ghost use Rattle.etcs_flat.specs.Others.{OtherValue, other_fault};
 
-    ghost Value = { OtherParts };
+    ghost Value = { OtherValue };
 
     ghost view = { λ p. record { nid = p.nid; dir = p.dir; body = p.body } };
 
@@ -35,7 +35,7 @@ impl Model for Other {
 }
 
 impl Other {
-    /// A packet of this NID_PACKET and Q_DIR, with the bits behind L_PACKET. Takes no memory.
+    /// A packet of this NID_PACKET and Q_DIR, with the bits after L_PACKET. Takes no memory.
     ///
     /// # Errors
     ///
@@ -43,7 +43,7 @@ impl Other {
     /// typed packets; `NotAdmitted(Q_DIR)` for a direction above 2; `TooLong` for more than 8,168 bits, which
     /// L_PACKET can't count.
     pub fn new(nid: u8, dir: u8, body: Bits) -> Result<Other, (BuildFault, Bits)>
-        ensures ok { IfOk result (λ p. p ≡ other_parts nid dir body) }
+        ensures ok { IfOk result (λ p. p ≡ other_value nid dir body) }
         ensures fits { OnOk result (other_fault ToTrain nid dir (length body) ≡ None) }
         ensures back { IfErr result (λ e. e.1 ≡ body) }
         ensures fault { IfErr result (λ e. other_fault ToTrain nid dir (length body) ≡ Some e.0) }
@@ -69,14 +69,14 @@ impl Other {
         self.dir
     }
 
-    /// The bits behind L_PACKET, at most 8,168.
+    /// The bits after L_PACKET, at most 8,168.
     pub fn body(&self) -> BitSlice<'_>
         ensures { result ≡ self.now.body }
     {
         self.body.as_slice()
     }
 
-    /// How many bits stand behind L_PACKET.
+    /// How many bits follow L_PACKET.
     #[tactic(auto, using(crate::specs::laws::OtherLaws::other_short))]
     pub fn bits(&self) -> usize
         ensures bits { result ≡ length self.now.body }
@@ -111,7 +111,7 @@ fn check_direction(way: Way, dir: u8) -> Result<(), BuildFault>
     }
 }
 
-/// Looks for what is wrong with a packet of so many bits behind L_PACKET.
+/// Looks for what is wrong with a packet of this many bits after L_PACKET.
 fn check_other(way: Way, nid: u8, dir: u8, bits: usize) -> Result<(), BuildFault>
     ensures ok { OnOk result (other_fault way nid dir bits ≡ None) }
     ensures fault { IfErr result (λ e. other_fault way nid dir bits ≡ Some e) }

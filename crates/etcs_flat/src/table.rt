@@ -1,4 +1,4 @@
-//! Tables of packets without groups: what stands in them, with its numbers.
+//! Tables of packets without groups: what is in them, with its numbers.
 
 ghost use Rattle.std.specs.Prelude.{◌≡◌, ◌*◌, ◌≤◌, Some, None, length, map, sum_by, OnOk, OnErr, IfSome, IfNone, IsSome};
 ghost use Rattle.std.specs.Option.{option_map};
@@ -10,7 +10,7 @@ use crate::flat::flat_row;
 use arrayvec::ArrayVec;
 use etcs_bodies::Numbers;
 use etcs_tables::RowItem;
-use etcs_vars::parts::Sink;
+use etcs_vars::parts::VarSink;
 use std::alloc::AllocError;
 
 /// The table of a packet whose row has no groups.
@@ -47,7 +47,7 @@ pub(crate) fn table_bits(table: &[RowItem]) -> usize
 /// # Errors
 ///
 /// That of the sink.
-pub(crate) fn send_table<S: Sink>(
+pub(crate) fn send_table<S: VarSink>(
     table: &[RowItem],
     numbers: &[u64],
     out: &mut S,

@@ -1,22 +1,22 @@
 -- The definitions on a few telegrams.
 use Rattle.std.proofs.Common.{refl, sym, subst, ℕ, arith, lit≤, [], ◌∷◌, inl, inr, true}
 use Rattle.etcs_telegram.specs.declared.size.Size.TheVariants.{Short}
-use Rattle.etcs_telegram.specs.Telegrams.{TelegramParts}
+use Rattle.etcs_telegram.specs.Telegrams.{TelegramContent}
 use Rattle.etcs_group.specs.Groups.{Fit}
 use Rattle.etcs_group.specs.Orders.{NoneRefused}
 
 -- a telegram of a position, N_TOTAL, M_DUP and M_MCOUNT
-abbrev told : ℕ → ℕ → ℕ → ℕ → TelegramParts
+abbrev told : ℕ → ℕ → ℕ → ℕ → TelegramContent
 told n_pig n_total m_dup m_mcount = record { size = Short; header = record { m_version = 32; n_pig = n_pig; n_total = n_total; m_dup = m_dup; m_mcount = m_mcount; nid_c = 1; nid_bg = 1; q_link = true }; packets = []; fill = [] }
 
--- two duplicates go together, the second behind the first
+-- two duplicates go together, the second after the first
 pub both : NoneRefused (told 1 1 2 255 ∷ told 0 1 1 255 ∷ [])
 both = (
   (
     record { position = lit≤ tt; first = λ e d. absurd (omega (arith, e)); last = λ e d. absurd (omega (arith, d)) },
     λ u held. elim held [
       | inl none ↦ absurd none
-      | inr new ↦ subst (λ (v : TelegramParts). Fit (told 1 1 2 255) v) (sym new.1) (record {
+      | inr new ↦ subst (λ (v : TelegramContent). Fit (told 1 1 2 255) v) (sym new.1) (record {
         alike = record { country = refl; group = refl; total = refl };
         counters = (λ e. omega (arith, e), λ e. omega (arith, e), inl refl);
         same = λ e. absurd (omega (arith, e));

@@ -1,7 +1,7 @@
 -- A telegram without a clash joins what is held.
 use Rattle.std.proofs.Common.{◌≡◌, ◌≢◌, ℕ, ◌<◌, arith, List, Option, inl, inr}
 use Rattle.std.proofs.lemmas.Bool.{cases_eq, cases_lt, cases_Bool, both_ways}
-use Rattle.etcs_telegram.specs.Telegrams.{TelegramParts}
+use Rattle.etcs_telegram.specs.Telegrams.{TelegramContent}
 use Rattle.etcs_telegram.specs.contracts.telegram.TelegramPartialEq.TheImpl as telegram
 use Rattle.etcs_telegram.proofs.Equality.{telegram_exact}
 use Rattle.etcs_group.specs.declared.clash.Clash.{Clash}
@@ -36,13 +36,13 @@ agree_unless m n h =
           ]
     ]
 
-same_unless : (t u : TelegramParts) → (t ≢ u → ⊥) → t ≡ u
+same_unless : (t u : TelegramContent) → (t ≢ u → ⊥) → t ≡ u
 same_unless t u h = elim (cases_Bool (telegram.ghosts.eq t u)) [
   | inl equal ↦ (telegram_exact t u).0 equal
   | inr other ↦ absurd (h (λ e. both_ways _ other ((telegram_exact t u).1 e)))
 ]
 
-pub joins_unless : (slots : List (Option TelegramParts)) (t : TelegramParts) → ((c : Clash) → Clashes slots t c → ⊥) → Joins slots t
+pub joins_unless : (slots : List (Option TelegramContent)) (t : TelegramContent) → ((c : Clash) → Clashes slots t c → ⊥) → Joins slots t
 joins_unless slots t none =
     let position : t.header.n_total < t.header.n_pig → ⊥ = λ h. none BadPosition (inl h) in (
       record {
@@ -62,7 +62,7 @@ joins_unless slots t none =
     )
 
 -- and one with a clash doesn't
-pub joins_not : (slots : List (Option TelegramParts)) (t : TelegramParts) (c : Clash) → Clashes slots t c → Joins slots t → ⊥
+pub joins_not : (slots : List (Option TelegramContent)) (t : TelegramContent) (c : Clash) → Clashes slots t c → Joins slots t → ⊥
 joins_not slots t BadPosition (inl h) j = omega (arith, h, j.0.position)
 joins_not slots t BadDuplicate (inl (inl h)) j = j.0.first h.0 h.1
 joins_not slots t BadDuplicate (inl (inr h)) j = j.0.last h.0 h.1

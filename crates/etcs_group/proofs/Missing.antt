@@ -1,4 +1,4 @@
--- The list of missing positions, as far as it is told.
+-- The list of missing positions, as far as it is reported.
 use Rattle.std.proofs.Common.{◌≡◌, ◌∙◌, sym, ap, subst, ℕ, zero, suc, replicate, ◌+◌, ◌<◌, arith, Bool, true, false, List, Some, length, set, slice_get, inl, inr, ◌↔◌}
 use Rattle.std.specs.Bool.{Decides}
 use Rattle.std.proofs.lemmas.Bool.{cases_order, false≢true}

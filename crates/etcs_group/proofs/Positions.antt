@@ -3,7 +3,7 @@ use Rattle.std.proofs.Common.{◌≡◌, ◌∙◌, refl, sym, ap, subst, ℕ, s
 use Rattle.std.specs.Bool.{Decides}
 use Rattle.std.proofs.lemmas.Bool.{eqb-true, eq-eqb, not-true, both_ways, cases_Bool}
 use Rattle.etcs_packets.specs.declared.packet.Packet.{Packet}
-use Rattle.etcs_telegram.specs.Telegrams.{TelegramParts}
+use Rattle.etcs_telegram.specs.Telegrams.{TelegramContent}
 use Rattle.etcs_group.specs.Groups.{Holds}
 use Rattle.etcs_group.specs.Messages.{IsHeldAt, IsHeldAs, IsLacking, IsSecond, Gives, FirstGive}
 
@@ -16,11 +16,11 @@ some_from None h e = absurd (both_ways false refl e)
 some_from (Some x) h e = (x, h)
 
 -- the one telegram of the position decides on its M_DUP
-pub held_as : (slots : List (Option TelegramParts)) (p d : ℕ) (t : TelegramParts) (m : ℕ) → m ≡ t.header.m_dup → Holds slots t → t.header.n_pig ≡ p → ((u : TelegramParts) → Holds slots u → u.header.n_pig ≡ p → u ≡ t) → Decides (nat_eq m d) (IsHeldAs slots p d)
+pub held_as : (slots : List (Option TelegramContent)) (p d : ℕ) (t : TelegramContent) (m : ℕ) → m ≡ t.header.m_dup → Holds slots t → t.header.n_pig ≡ p → ((u : TelegramContent) → Holds slots u → u.header.n_pig ≡ p → u ≡ t) → Decides (nat_eq m d) (IsHeldAs slots p d)
 held_as slots p d t m is holds at only =
-    (λ e. (t, holds, at, sym is ∙ eqb-true m d e), λ h. eq-eqb m d (is ∙ ap (λ (u : TelegramParts). u.header.m_dup) (sym (only h.0 h.1 h.2)) ∙ h.3))
+    (λ e. (t, holds, at, sym is ∙ eqb-true m d e), λ h. eq-eqb m d (is ∙ ap (λ (u : TelegramContent). u.header.m_dup) (sym (only h.0 h.1 h.2)) ∙ h.3))
 
-pub lacking : (slots : List (Option TelegramParts)) (p q : ℕ) (b : Bool) → q + 1 ≡ p → (IsHeldAt slots p → ⊥) → (IsHeldAs slots (p + 1) 2 → ⊥) → Decides b (IsHeldAs slots q 1) → Decides (not b) (IsLacking slots p)
+pub lacking : (slots : List (Option TelegramContent)) (p q : ℕ) (b : Bool) → q + 1 ≡ p → (IsHeldAt slots p → ⊥) → (IsHeldAs slots (p + 1) 2 → ⊥) → Decides b (IsHeldAs slots q 1) → Decides (not b) (IsLacking slots p)
 lacking slots p q b before none next previous = (
   λ e. record {
     itself = none;
@@ -30,10 +30,10 @@ lacking slots p q b before none next previous = (
   λ l. elim (cases_Bool b) [ inl e ↦ absurd (l.by_previous q before (previous.0 e)) | inr e ↦ ap not e ],
 )
 
-pub second_by_previous : (slots : List (Option TelegramParts)) (p q : ℕ) (b : Bool) → q + 1 ≡ p → IsHeldAt slots q → Decides b (IsHeldAs slots q 1) → b ≡ true → Decides b (IsSecond slots p)
+pub second_by_previous : (slots : List (Option TelegramContent)) (p q : ℕ) (b : Bool) → q + 1 ≡ p → IsHeldAt slots q → Decides b (IsHeldAs slots q 1) → b ≡ true → Decides b (IsSecond slots p)
 second_by_previous slots p q b before at previous e = (λ _. (q, before, at, inl (previous.0 e)), λ _. e)
 
-pub second_by_itself : (slots : List (Option TelegramParts)) (p q : ℕ) (a b : Bool) → q + 1 ≡ p → IsHeldAt slots q → Decides a (IsHeldAs slots q 1) → a ≡ false → Decides b (IsHeldAs slots p 2) → Decides b (IsSecond slots p)
+pub second_by_itself : (slots : List (Option TelegramContent)) (p q : ℕ) (a b : Bool) → q + 1 ≡ p → IsHeldAt slots q → Decides a (IsHeldAs slots q 1) → a ≡ false → Decides b (IsHeldAs slots p 2) → Decides b (IsSecond slots p)
 second_by_itself slots p q a b before at previous not_named itself = (
   λ e. (q, before, at, inr (itself.0 e)),
   λ s. elim s.3 [
@@ -42,11 +42,11 @@ second_by_itself slots p q a b before at previous not_named itself = (
   ],
 )
 
-pub FirstGive-none : (slots : List (Option TelegramParts)) → FirstGive slots 0 []
+pub FirstGive-none : (slots : List (Option TelegramContent)) → FirstGive slots 0 []
 unfolding FirstGive
 FirstGive-none slots = refl
 
-pub FirstGive-more : (slots : List (Option TelegramParts)) (n m : ℕ) (ps more : List Packet) → m ≡ n + 1 → FirstGive slots n ps → Gives slots n more → FirstGive slots m (ps ++ more)
+pub FirstGive-more : (slots : List (Option TelegramContent)) (n m : ℕ) (ps more : List Packet) → m ≡ n + 1 → FirstGive slots n ps → Gives slots n more → FirstGive slots m (ps ++ more)
 unfolding FirstGive
 FirstGive-more slots n m ps more e before last =
     let next : suc n ≡ m = omega (arith, e) in

@@ -1,12 +1,12 @@
 -- Why a telegram isn't accepted, and in which order that is looked for.
 use Rattle.std.specs.Prelude.{◌≡◌, ◌≢◌, ◌⊎◌, ◌<◌, List, [], ◌∷◌, Option, All}
-use Rattle.etcs_telegram.specs.Telegrams.{TelegramParts, HeaderParts}
+use Rattle.etcs_telegram.specs.Telegrams.{TelegramContent, HeaderValue}
 use Rattle.etcs_group.specs.declared.clash.Clash.{Clash}
 use Rattle.etcs_group.specs.declared.clash.Clash.TheVariants.{BadPosition, BadDuplicate, OtherGroup, OtherTotal, Counter, Differs}
 use Rattle.etcs_group.specs.Groups.{CountersAgree, Holds}
 
 -- what is wrong with a header by itself
-abbrev pub Alone : Clash → HeaderParts → Type 0
+abbrev pub Alone : Clash → HeaderValue → Type 0
 Alone BadPosition h = h.n_total < h.n_pig
 Alone BadDuplicate h = ((h.n_pig ≡ 0) × (h.m_dup ≡ 2)) ⊎ ((h.n_pig ≡ h.n_total) × (h.m_dup ≡ 1))
 Alone OtherGroup h = ⊥
@@ -15,7 +15,7 @@ Alone Counter h = ⊥
 Alone Differs h = ⊥
 
 -- what is wrong with t beside u
-abbrev pub Between : Clash → TelegramParts → TelegramParts → Type 0
+abbrev pub Between : Clash → TelegramContent → TelegramContent → Type 0
 Between BadPosition t u = ⊥
 Between BadDuplicate t u = ⊥
 Between OtherGroup t u = (t.header.nid_c ≢ u.header.nid_c) ⊎ (t.header.nid_bg ≢ u.header.nid_bg)
@@ -24,8 +24,8 @@ Between Counter t u = CountersAgree t.header.m_mcount u.header.m_mcount → ⊥
 Between Differs t u = (t.header.n_pig ≡ u.header.n_pig) × (t ≢ u)
 
 -- the telegram has this clash with what is held
-abbrev pub Clashes : List (Option TelegramParts) → TelegramParts → Clash → Type 0
-Clashes slots t c = Alone c t.header ⊎ ((u : TelegramParts) × Holds slots u × Between c t u)
+abbrev pub Clashes : List (Option TelegramContent) → TelegramContent → Clash → Type 0
+Clashes slots t c = Alone c t.header ⊎ ((u : TelegramContent) × Holds slots u × Between c t u)
 
 -- the clashes that are looked for earlier
 abbrev pub before : Clash → List Clash
@@ -36,5 +36,5 @@ before OtherTotal = BadPosition ∷ BadDuplicate ∷ OtherGroup ∷ []
 before Counter = BadPosition ∷ BadDuplicate ∷ OtherGroup ∷ OtherTotal ∷ []
 before Differs = BadPosition ∷ BadDuplicate ∷ OtherGroup ∷ OtherTotal ∷ Counter ∷ []
 
-abbrev pub IsFirstClash : Clash → List (Option TelegramParts) → TelegramParts → Type 0
+abbrev pub IsFirstClash : Clash → List (Option TelegramContent) → TelegramContent → Type 0
 IsFirstClash c slots t = Clashes slots t c × All (λ d. Clashes slots t d → ⊥) (before c)

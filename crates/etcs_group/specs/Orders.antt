@@ -1,13 +1,13 @@
 -- Telegrams of a group in any order.
 use Rattle.std.specs.Prelude.{◌↔◌, List, [], ◌∷◌, IsPermutation}
-use Rattle.etcs_telegram.specs.Telegrams.{TelegramParts}
+use Rattle.etcs_telegram.specs.Telegrams.{TelegramContent}
 use Rattle.etcs_group.specs.Groups.{JoinsSet, HeldOf}
 
 -- each of these adds, the last of them first, finds a set that it joins
-abbrev pub NoneRefused : List TelegramParts → Type 0
+abbrev pub NoneRefused : List TelegramContent → Type 0
 NoneRefused [] = Unit {0}
 NoneRefused (t ∷ earlier) = JoinsSet (HeldOf earlier) t × NoneRefused earlier
 
 -- where none of a list is refused, none is in any other order of it, and what is held is the same
 abbrev pub AnyOrder : Type 0
-AnyOrder = (ts us : List TelegramParts) → IsPermutation ts us → NoneRefused ts → NoneRefused us × ((t : TelegramParts) → HeldOf us t ↔ HeldOf ts t)
+AnyOrder = (ts us : List TelegramContent) → IsPermutation ts us → NoneRefused ts → NoneRefused us × ((t : TelegramContent) → HeldOf us t ↔ HeldOf ts t)

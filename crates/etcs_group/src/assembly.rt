@@ -1,7 +1,7 @@
 //! The telegrams of a group.
 
 ghost use Rattle.std.specs.Prelude.{◌≡◌, ◌↔◌, ◌<◌, ℕ, None, replicate, List, ◌∷◌, true, IsTrue, IfSome, IfNone, IfErr, OnErr, slice_get};
-ghost use Rattle.etcs_telegram.specs.Telegrams.{TelegramParts};
+ghost use Rattle.etcs_telegram.specs.Telegrams.{TelegramContent};
 ghost use Rattle.etcs_group.specs.Groups.{Alike, Holds, HoldsNone, IsGroup, Joins, HeldAfter, IsHeldOf};
 ghost use Rattle.etcs_group.specs.Clashes.{IsFirstClash};
 ghost use Rattle.etcs_group.specs.Messages.{IsHeldAt, IsHeldAs, IsMissing, IsLacking, IsWhole};
@@ -29,9 +29,9 @@ pub struct Assembly {
 
 impl Model for Assembly {
     ghost use Rattle.std.specs.Prelude.{List, Option};
-    ghost use Rattle.etcs_telegram.specs.Telegrams.{TelegramParts};
+    ghost use Rattle.etcs_telegram.specs.Telegrams.{TelegramContent};
 
-    ghost Value = { List (Option TelegramParts) };
+    ghost Value = { List (Option TelegramContent) };
 
     ghost use Rattle.etcs_group.specs.Groups.{IsGroup};
 
@@ -61,7 +61,7 @@ impl Assembly {
         ensures held { HeldAfter self.old telegram self.new }
         ensures placed { IsGroup self.new }
         // So what is held after calls is what their telegrams make of nothing.
-        ensures adds { (earlier : List TelegramParts) → IsHeldOf earlier self.old → IsHeldOf (telegram ∷ earlier) self.new }
+        ensures adds { (earlier : List TelegramContent) → IsHeldOf earlier self.old → IsHeldOf (telegram ∷ earlier) self.new }
         ensures new { (result ≡ Ok Added.New) ↔ (Joins self.old telegram × (Holds self.old telegram → ⊥)) }
         ensures repeat { (result ≡ Ok Added.Repeat) ↔ (Joins self.old telegram × Holds self.old telegram) }
         ensures clash { IfErr result (λ e. IsFirstClash e.0 self.old telegram) }
@@ -79,8 +79,8 @@ impl Assembly {
         Ok(Added::New)
     }
 
-    /// For each of the positions 0 to 7, whether it is missing: it isn't behind N_TOTAL and isn't held, the position
-    /// before isn't held with M_DUP 1, and the one behind isn't with M_DUP 2. All are false where nothing is held.
+    /// For each of the positions 0 to 7, whether it is missing: it isn't after N_TOTAL and isn't held, the position
+    /// before isn't held with M_DUP 1, and the one after isn't with M_DUP 2. All are false where nothing is held.
     pub fn missing(&self) -> [bool; 8]
         ensures { (p : ℕ) → (slice_get result p ≡ Some true) ↔ IsMissing self.now p }
     {
@@ -104,7 +104,7 @@ impl Assembly {
     pub(crate) fn first_held(&self) -> Option<&Telegram>
         ensures some { IfSome result (λ t. Holds self.now t.now) }
         ensures small { IfSome result (λ t. t.now.header.n_total < 8) }
-        ensures alike { IfSome result (λ t. (u : TelegramParts) → Holds self.now u → Alike u t.now) }
+        ensures alike { IfSome result (λ t. (u : TelegramContent) → Holds self.now u → Alike u t.now) }
         ensures none { IfNone result (HoldsNone self.now) }
     {
         first_in(&self.held)
@@ -113,8 +113,8 @@ impl Assembly {
     /// N_TOTAL of those that are held, if there are any.
     fn total(&self) -> Option<usize>
         ensures small { IfSome result (λ total. total < 8) }
-        ensures held { IfSome result (λ total. (t : TelegramParts) × Holds self.now t) }
-        ensures total { IfSome result (λ total. (t : TelegramParts) → Holds self.now t → t.header.n_total ≡ total) }
+        ensures held { IfSome result (λ total. (t : TelegramContent) × Holds self.now t) }
+        ensures total { IfSome result (λ total. (t : TelegramContent) → Holds self.now t → t.header.n_total ≡ total) }
         ensures none { IfNone result (HoldsNone self.now) }
     {
         match self.first_held() {
@@ -126,7 +126,7 @@ impl Assembly {
     /// The telegram that is held at the position.
     pub(crate) fn at(&self, position: usize) -> Option<&Telegram>
         ensures some { IfSome result (λ t. Holds self.now t.now × (t.now.header.n_pig ≡ position)) }
-        ensures only { IfSome result (λ t. (u : TelegramParts) → Holds self.now u → u.header.n_pig ≡ position → u ≡ t.now) }
+        ensures only { IfSome result (λ t. (u : TelegramContent) → Holds self.now u → u.header.n_pig ≡ position → u ≡ t.now) }
         ensures none { IfNone result (IsHeldAt self.now position → ⊥) }
     {
         match self.held.get(position) {

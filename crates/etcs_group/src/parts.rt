@@ -1,15 +1,15 @@
 //! For the crates above: which group the telegrams of an assembly are of.
 
 ghost use Rattle.std.specs.Prelude.{◌≡◌, IfSome, IfNone};
-ghost use Rattle.etcs_telegram.specs.Telegrams.{TelegramParts};
+ghost use Rattle.etcs_telegram.specs.Telegrams.{TelegramContent};
 ghost use Rattle.etcs_group.specs.Groups.{Holds, HoldsNone};
 
 use crate::assembly::Assembly;
 
 /// NID_C and NID_BG of the telegrams that are held, if there are any.
 pub fn group(assembly: &Assembly) -> Option<(u16, u16)>
-    ensures held { IfSome result (λ g. (t : TelegramParts) × Holds assembly.now t) }
-    ensures group { IfSome result (λ g. (t : TelegramParts) → Holds assembly.now t → (t.header.nid_c ≡ g.0) × (t.header.nid_bg ≡ g.1)) }
+    ensures held { IfSome result (λ g. (t : TelegramContent) × Holds assembly.now t) }
+    ensures group { IfSome result (λ g. (t : TelegramContent) → Holds assembly.now t → (t.header.nid_c ≡ g.0) × (t.header.nid_bg ≡ g.1)) }
     ensures none { IfNone result (HoldsNone assembly.now) }
 {
     match assembly.first_held() {

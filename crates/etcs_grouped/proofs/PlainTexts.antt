@@ -7,7 +7,7 @@ use Rattle.etcs_vars.specs.declared.var.Var.TheVariants.{X_TEXT}
 use Rattle.etcs_bodies.specs.laws.Takes.{number_ok, in_width}
 use Rattle.etcs_grouped.specs.PlainTexts.{IsByte}
 
--- ---- The text: L_TEXT, and so many bytes.
+-- ---- The text: L_TEXT, and this many bytes.
 
 -- X_TEXT admits every byte
 byte_ok : (n : ℕ) → n < 256 → IsByte n

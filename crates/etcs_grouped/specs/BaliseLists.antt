@@ -9,17 +9,17 @@ use Rattle.etcs_bodies.specs.Faults.{◌or_else◌, number_fault, count_fault}
 use Rattle.etcs_bodies.specs.Taking.{Left}
 use Rattle.etcs_bodies.specs.Codecs.{IsEntries, list_reading, list_from}
 use Rattle.etcs_bodies.specs.PacketCodes.{directed_from, never}
-use Rattle.etcs_parts.specs.BalisesAt.{BaliseAtParts, IsBaliseAt, balise_at_reading, balise_at_from}
+use Rattle.etcs_parts.specs.BalisesAt.{BaliseAtValue, IsBaliseAt, balise_at_reading, balise_at_from}
 
-pub record BaliseListParts : Type 0 where
+pub record BaliseListValue : Type 0 where
   pub dir : ℕ
-  pub balises : List BaliseAtParts
+  pub balises : List BaliseAtValue
 
-abbrev pub balise_list_parts : ℕ → List BaliseAtParts → BaliseListParts
-balise_list_parts dir balises = record { dir = dir; balises = balises }
+abbrev pub balise_list_value : ℕ → List BaliseAtValue → BaliseListValue
+balise_list_value dir balises = record { dir = dir; balises = balises }
 
 -- its variables in the order of sending
-abbrev pub balise_list_reading : BaliseListParts → Reading
+abbrev pub balise_list_reading : BaliseListValue → Reading
 balise_list_reading p = list_reading N_ITER balise_at_reading p.balises
 
 -- no other numbers have lists
@@ -27,17 +27,17 @@ abbrev pub nid_fault : ℕ → Option BuildFault
 nid_fault nid = if nid == 49 then None else if nid == 63 then None else Some (NotAdmitted NID_PACKET)
 
 -- why it is none with this number, where each of its groups is one
-abbrev pub balise_list_fault : ℕ → BaliseListParts → Option BuildFault
+abbrev pub balise_list_fault : ℕ → BaliseListValue → Option BuildFault
 balise_list_fault nid p = nid_fault nid or_else number_fault Q_DIR p.dir or_else count_fault N_ITER (length p.balises)
 
 -- ---- All but the direction.
 
-abbrev pub balise_list_of : ℕ → List BaliseAtParts → BaliseListParts
-balise_list_of dir b = balise_list_parts dir b
+abbrev pub balise_list_of : ℕ → List BaliseAtValue → BaliseListValue
+balise_list_of dir b = balise_list_value dir b
 
-abbrev pub IsBaliseList : ℕ → BaliseListParts → Type 0
+abbrev pub IsBaliseList : ℕ → BaliseListValue → Type 0
 IsBaliseList nid p = (nid_fault nid ≡ None) × (number_fault Q_DIR p.dir ≡ None) × IsEntries N_ITER IsBaliseAt p.balises
 
 -- the packet of a direction with which what is left begins, and what is left after it
-unfoldable pub balise_list_from : ℕ → Left → Option (BaliseListParts × Left)
+unfoldable pub balise_list_from : ℕ → Left → Option (BaliseListValue × Left)
 balise_list_from = directed_from (list_from N_ITER balise_at_from) never balise_list_of

@@ -12,30 +12,30 @@ use Rattle.etcs_bodies.specs.Codecs.{both_from, IsBoth}
 use Rattle.etcs_bodies.specs.Entries.{AreEntries, entries_reading, entries_from, entries_row}
 use Rattle.etcs_bodies.specs.Packets.{length_fault}
 use Rattle.etcs_bodies.specs.PacketCodes.{directed_from}
-use Rattle.etcs_parts.specs.Links.{LinkParts, IsLink, link_reading}
-use Rattle.etcs_parts.specs.Slopes.{SlopeParts, IsSlope, slope_reading}
-use Rattle.etcs_parts.specs.Speeds.{SpeedParts, IsSpeed, speed_reading}
-use Rattle.etcs_parts.specs.ModeSections.{ModeSectionParts, IsModeSection, mode_section_reading}
+use Rattle.etcs_parts.specs.Links.{LinkValue, IsLink, link_reading}
+use Rattle.etcs_parts.specs.Slopes.{SlopeValue, IsSlope, slope_reading}
+use Rattle.etcs_parts.specs.Speeds.{SpeedValue, IsSpeed, speed_reading}
+use Rattle.etcs_parts.specs.ModeSections.{ModeSectionValue, IsModeSection, mode_section_reading}
 
-pub record ChainParts (V : Type 0) : Type 0 where
+pub record ChainValue (V : Type 0) : Type 0 where
   pub dir : ℕ
   pub q_scale : ℕ
   pub first : V
   pub further : List V
 
-abbrev pub chain_parts : {V : Type 0} → ℕ → ℕ → V → List V → ChainParts V
-chain_parts dir q_scale first further = record { dir = dir; q_scale = q_scale; first = first; further = further }
+abbrev pub chain_value : {V : Type 0} → ℕ → ℕ → V → List V → ChainValue V
+chain_value dir q_scale first further = record { dir = dir; q_scale = q_scale; first = first; further = further }
 
 -- its variables in the order of sending
-abbrev pub chain_reading : {V : Type 0} → (V → Reading) → ChainParts V → Reading
+abbrev pub chain_reading : {V : Type 0} → (V → Reading) → ChainValue V → Reading
 chain_reading reading p = (Q_SCALE, p.q_scale) ∷ entries_reading reading (p.first, p.further)
 
 -- more bits than L_PACKET counts, which only entries of more than 255 bits can take
-abbrev pub too_long : {V : Type 0} → ℕ → (V → Reading) → ChainParts V → Option BuildFault
+abbrev pub too_long : {V : Type 0} → ℕ → (V → Reading) → ChainValue V → Option BuildFault
 too_long most reading p = if nat_le most 255 then None else length_fault (chain_reading reading p)
 
--- why it is none, where each of its entries is one, of at most so many bits
-abbrev pub chain_fault : {V : Type 0} → ℕ → (V → Reading) → ChainParts V → Option BuildFault
+-- why it is none, where each of its entries is one, of at most this many bits
+abbrev pub chain_fault : {V : Type 0} → ℕ → (V → Reading) → ChainValue V → Option BuildFault
 chain_fault most reading p = number_fault Q_DIR p.dir or_else number_fault Q_SCALE p.q_scale or_else count_fault N_ITER (length p.further) or_else too_long most reading p
 
 -- ---- All but the direction.
@@ -43,16 +43,16 @@ chain_fault most reading p = number_fault Q_DIR p.dir or_else number_fault Q_SCA
 abbrev pub ChainBody : Type 0 → Type 0
 ChainBody V = ℕ × (V × List V)
 
-abbrev pub chain_of : {V : Type 0} → ℕ → ChainBody V → ChainParts V
-chain_of dir b = chain_parts dir b.0 b.1.0 b.1.1
+abbrev pub chain_of : {V : Type 0} → ℕ → ChainBody V → ChainValue V
+chain_of dir b = chain_value dir b.0 b.1.0 b.1.1
 
-abbrev pub body_of : {V : Type 0} → ChainParts V → ChainBody V
+abbrev pub body_of : {V : Type 0} → ChainValue V → ChainBody V
 body_of p = (p.q_scale, (p.first, p.further))
 
 abbrev pub IsBody : {V : Type 0} → (V → Type 0) → ChainBody V → Type 0
 IsBody IsV = IsBoth (λ n. number_fault Q_SCALE n ≡ None) (AreEntries IsV)
 
-abbrev pub IsChain : {V : Type 0} → (V → Type 0) → ℕ → (V → Reading) → ChainParts V → Type 0
+abbrev pub IsChain : {V : Type 0} → (V → Type 0) → ℕ → (V → Reading) → ChainValue V → Type 0
 IsChain IsV most reading p = (number_fault Q_DIR p.dir ≡ None) × IsBody IsV (body_of p) × (too_long most reading p ≡ None)
 
 -- the row in front of a rest
@@ -60,43 +60,43 @@ abbrev pub chain_row : (Layout → Layout) → Layout → Layout
 chain_row row rest = Q_SCALE ▸ entries_row row rest
 
 -- the packet of a direction with which what is left begins, and what is left after it
-unfoldable pub chain_from : {V : Type 0} → ℕ → (V → Reading) → (Left → Option (V × Left)) → ℕ → Left → Option (ChainParts V × Left)
+unfoldable pub chain_from : {V : Type 0} → ℕ → (V → Reading) → (Left → Option (V × Left)) → ℕ → Left → Option (ChainValue V × Left)
 chain_from most reading from = directed_from (both_from (next_number Q_SCALE) (entries_from from)) (too_long most reading) chain_of
 
 -- ---- Of links, slopes, speeds and areas of modes.
 
-abbrev pub linking_reading : ChainParts LinkParts → Reading
+abbrev pub linking_reading : ChainValue LinkValue → Reading
 linking_reading = chain_reading link_reading
 
-abbrev pub linking_fault : ChainParts LinkParts → Option BuildFault
+abbrev pub linking_fault : ChainValue LinkValue → Option BuildFault
 linking_fault = chain_fault 49 link_reading
 
-abbrev pub IsLinking : ChainParts LinkParts → Type 0
+abbrev pub IsLinking : ChainValue LinkValue → Type 0
 IsLinking = IsChain IsLink 49 link_reading
 
-abbrev pub gradient_reading : ChainParts SlopeParts → Reading
+abbrev pub gradient_reading : ChainValue SlopeValue → Reading
 gradient_reading = chain_reading slope_reading
 
-abbrev pub gradient_fault : ChainParts SlopeParts → Option BuildFault
+abbrev pub gradient_fault : ChainValue SlopeValue → Option BuildFault
 gradient_fault = chain_fault 24 slope_reading
 
-abbrev pub IsGradient : ChainParts SlopeParts → Type 0
+abbrev pub IsGradient : ChainValue SlopeValue → Type 0
 IsGradient = IsChain IsSlope 24 slope_reading
 
-abbrev pub profile_reading : ChainParts SpeedParts → Reading
+abbrev pub profile_reading : ChainValue SpeedValue → Reading
 profile_reading = chain_reading speed_reading
 
-abbrev pub profile_fault : ChainParts SpeedParts → Option BuildFault
+abbrev pub profile_fault : ChainValue SpeedValue → Option BuildFault
 profile_fault = chain_fault 431 speed_reading
 
-abbrev pub IsSpeedProfile : ChainParts SpeedParts → Type 0
+abbrev pub IsSpeedProfile : ChainValue SpeedValue → Type 0
 IsSpeedProfile = IsChain IsSpeed 431 speed_reading
 
-abbrev pub mode_profile_reading : ChainParts ModeSectionParts → Reading
+abbrev pub mode_profile_reading : ChainValue ModeSectionValue → Reading
 mode_profile_reading = chain_reading mode_section_reading
 
-abbrev pub mode_profile_fault : ChainParts ModeSectionParts → Option BuildFault
+abbrev pub mode_profile_fault : ChainValue ModeSectionValue → Option BuildFault
 mode_profile_fault = chain_fault 55 mode_section_reading
 
-abbrev pub IsModeProfile : ChainParts ModeSectionParts → Type 0
+abbrev pub IsModeProfile : ChainValue ModeSectionValue → Type 0
 IsModeProfile = IsChain IsModeSection 55 mode_section_reading

@@ -7,12 +7,12 @@ ghost use Rattle.etcs_vars.specs.Vars.{admits};
 ghost use Rattle.etcs_tables.specs.declared.row.Way.TheVariants.{ToTrain};
 ghost use Rattle.etcs_tables.specs.Rows.{row_to, balise_list};
 ghost use Rattle.etcs_bodies.specs.Faults.{◌or_else◌, number_fault};
-ghost use Rattle.etcs_grouped.specs.BaliseLists.{balise_list_parts, nid_fault, balise_list_fault, balise_list_from};
+ghost use Rattle.etcs_grouped.specs.BaliseLists.{balise_list_value, nid_fault, balise_list_fault, balise_list_from};
 
 use etcs_bodies::{Body, Counted, Numbers, Part, check};
 use etcs_parts::BaliseAt;
 use etcs_tables::Way;
-use etcs_vars::parts::{Sink, Variables};
+use etcs_vars::parts::{VarSink, Variables};
 use etcs_vars::{BuildFault, Var};
 use std::alloc::{AllocError, Global};
 use std::marker::Model;
@@ -26,13 +26,13 @@ pub struct BaliseList<const NID: u8> {
 }
 
 impl<const NID: u8> Model for BaliseList<NID> {
-    ghost use Rattle.etcs_grouped.specs.BaliseLists.{BaliseListParts, balise_list_parts, IsBaliseList};
+    ghost use Rattle.etcs_grouped.specs.BaliseLists.{BaliseListValue, balise_list_value, IsBaliseList};
 
-    ghost Value = { BaliseListParts };
+    ghost Value = { BaliseListValue };
 
-    ghost view = { λ s. balise_list_parts s.dir s.balises };
+    ghost view = { λ s. balise_list_value s.dir s.balises };
 
-    ghost invariant = { λ s. IsBaliseList NID (balise_list_parts s.dir s.balises) };
+    ghost invariant = { λ s. IsBaliseList NID (balise_list_value s.dir s.balises) };
 
     ghost inverse = { λ s. record { dir = s.dir; balises = s.balises } };
 }
@@ -48,9 +48,9 @@ impl<const NID: u8> BaliseList<NID> {
     /// The first of these, and the groups: [`BuildFault::NotAdmitted`] with NID_PACKET, where `NID` is neither 49 nor
     /// 63, or with Q_DIR, above 2; [`BuildFault::TooMany`] with N_ITER, where there are more than 31 groups.
     pub fn new(dir: u8, balises: Vec<BaliseAt>) -> Result<Self, (BuildFault, Vec<BaliseAt>)>
-        ensures ok { IfOk result (λ p. p ≡ balise_list_parts dir balises.items) }
-        ensures none { IfOk result (λ p. balise_list_fault NID (balise_list_parts dir balises.items) ≡ None) }
-        ensures fault { IfErr result (λ e. balise_list_fault NID (balise_list_parts dir balises.items) ≡ Some e.0) }
+        ensures ok { IfOk result (λ p. p ≡ balise_list_value dir balises.items) }
+        ensures none { IfOk result (λ p. balise_list_fault NID (balise_list_value dir balises.items) ≡ None) }
+        ensures fault { IfErr result (λ e. balise_list_fault NID (balise_list_value dir balises.items) ≡ Some e.0) }
         ensures balises { IfErr result (λ e. e.1.items ≡ balises.items) }
     {
         if let Err(fault) = check_head(NID, dir) {
@@ -124,7 +124,7 @@ impl<const NID: u8> Variables for BaliseList<NID> {
         self.balises.bits()
     }
 
-    fn send<S: Sink>(&self, out: &mut S) -> Result<(), AllocError> {
+    fn send<S: VarSink>(&self, out: &mut S) -> Result<(), AllocError> {
         self.balises.send(out)
     }
 }

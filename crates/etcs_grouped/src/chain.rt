@@ -5,11 +5,11 @@ ghost use Rattle.etcs_tables.specs.Layouts.{whole};
 ghost use Rattle.etcs_tables.specs.Rows.{row_to};
 ghost use Rattle.etcs_vars.specs.declared.var.Var.TheVariants.{Q_DIR, Q_SCALE};
 ghost use Rattle.etcs_bodies.specs.Faults.{◌or_else◌, number_fault};
-ghost use Rattle.etcs_grouped.specs.Chains.{chain_parts, chain_fault, chain_row, too_long};
+ghost use Rattle.etcs_grouped.specs.Chains.{chain_value, chain_fault, chain_row, too_long};
 
 use etcs_bodies::{Body, Entries, Entry, Numbers, Part, check};
 use etcs_tables::Way;
-use etcs_vars::parts::{Sink, Variables};
+use etcs_vars::parts::{VarSink, Variables};
 use etcs_vars::{BuildFault, Var};
 use std::alloc::{AllocError, Global};
 use std::marker::Model;
@@ -44,13 +44,13 @@ pub struct Chain<E: Entry> {
 }
 
 impl<E: Entry> Model for Chain<E> {
-    ghost use Rattle.etcs_grouped.specs.Chains.{ChainParts, chain_parts, IsChain};
+    ghost use Rattle.etcs_grouped.specs.Chains.{ChainValue, chain_value, IsChain};
 
-    ghost Value = { ChainParts E };
+    ghost Value = { ChainValue E };
 
-    ghost view = { λ s. chain_parts s.dir s.q_scale s.entries.0 s.entries.1 };
+    ghost view = { λ s. chain_value s.dir s.q_scale s.entries.0 s.entries.1 };
 
-    ghost invariant = { λ s. IsChain E.is_part E.MOST E.reading_of (chain_parts s.dir s.q_scale s.entries.0 s.entries.1) };
+    ghost invariant = { λ s. IsChain E.is_part E.MOST E.reading_of (chain_value s.dir s.q_scale s.entries.0 s.entries.1) };
 
     ghost inverse = { λ s. record { dir = s.dir; q_scale = s.q_scale; entries = (s.first, s.further) } };
 }
@@ -84,9 +84,9 @@ impl<E: Entry> Chain<E> {
         first: E,
         further: Vec<E>,
     ) -> Result<Chain<E>, (BuildFault, E, Vec<E>)>
-        ensures ok { IfOk result (λ p. p ≡ chain_parts dir q_scale first further.items) }
-        ensures none { IfOk result (λ p. chain_fault E.MOST E.reading_of (chain_parts dir q_scale first further.items) ≡ None) }
-        ensures fault { IfErr result (λ e. chain_fault E.MOST E.reading_of (chain_parts dir q_scale first further.items) ≡ Some e.0) }
+        ensures ok { IfOk result (λ p. p ≡ chain_value dir q_scale first further.items) }
+        ensures none { IfOk result (λ p. chain_fault E.MOST E.reading_of (chain_value dir q_scale first further.items) ≡ None) }
+        ensures fault { IfErr result (λ e. chain_fault E.MOST E.reading_of (chain_value dir q_scale first further.items) ≡ Some e.0) }
         ensures first { IfErr result (λ e. e.1 ≡ first) }
         ensures further { IfErr result (λ e. e.2.items ≡ further.items) }
     {
@@ -122,8 +122,8 @@ fn check_head(dir: u8, q_scale: u8) -> Result<(), BuildFault>
 /// Refuses entries that take more bits than L_PACKET can count.
 #[tactic(auto, using(crate::specs::laws::Chains::surely_short, crate::specs::laws::Chains::short_enough, crate::specs::laws::Chains::not_short))]
 fn check_length<E: Entry>(dir: u8, q_scale: u8, entries: &Entries<E>) -> Result<(), BuildFault>
-    ensures ok { OnOk result (too_long E.MOST E.reading_of (chain_parts dir q_scale entries.now.0 entries.now.1) ≡ None) }
-    ensures fault { IfErr result (λ e. too_long E.MOST E.reading_of (chain_parts dir q_scale entries.now.0 entries.now.1) ≡ Some e) }
+    ensures ok { OnOk result (too_long E.MOST E.reading_of (chain_value dir q_scale entries.now.0 entries.now.1) ≡ None) }
+    ensures fault { IfErr result (λ e. too_long E.MOST E.reading_of (chain_value dir q_scale entries.now.0 entries.now.1) ≡ Some e) }
 {
     if E::MOST <= 255 {
         return Ok(());
@@ -143,7 +143,7 @@ impl<E: Entry> Variables for Chain<E> {
         2 + self.entries.bits()
     }
 
-    fn send<S: Sink>(&self, out: &mut S) -> Result<(), AllocError> {
+    fn send<S: VarSink>(&self, out: &mut S) -> Result<(), AllocError> {
         out.send(&[(Var::Q_SCALE, u64::from(self.q_scale))])?;
         self.entries.send(out)
     }

@@ -1,12 +1,12 @@
 //! The conditional level transition order.
 
 ghost use Rattle.std.specs.Prelude.{◌≡◌, None, Some, OnOk, IfOk, IfErr, IfSome, IfNone};
-ghost use Rattle.etcs_grouped.specs.ConditionalLevelOrders.{conditional_level_order_parts, conditional_level_order_fault};
+ghost use Rattle.etcs_grouped.specs.ConditionalLevelOrders.{conditional_level_order_value, conditional_level_order_fault};
 
 use etcs_bodies::{Body, Entries, Numbers, Part, check};
 use etcs_parts::Level;
 use etcs_tables::Way;
-use etcs_vars::parts::{Sink, Variables};
+use etcs_vars::parts::{VarSink, Variables};
 use etcs_vars::{BuildFault, Var};
 use std::alloc::{AllocError, Global};
 use std::marker::Model;
@@ -20,13 +20,13 @@ pub struct ConditionalLevelOrder {
 }
 
 impl Model for ConditionalLevelOrder {
-    ghost use Rattle.etcs_grouped.specs.ConditionalLevelOrders.{ConditionalLevelOrderParts, conditional_level_order_parts, IsConditionalLevelOrder};
+    ghost use Rattle.etcs_grouped.specs.ConditionalLevelOrders.{ConditionalLevelOrderValue, conditional_level_order_value, IsConditionalLevelOrder};
 
-    ghost Value = { ConditionalLevelOrderParts };
+    ghost Value = { ConditionalLevelOrderValue };
 
-    ghost view = { λ s. conditional_level_order_parts s.dir s.levels.0 s.levels.1 };
+    ghost view = { λ s. conditional_level_order_value s.dir s.levels.0 s.levels.1 };
 
-    ghost invariant = { λ s. IsConditionalLevelOrder (conditional_level_order_parts s.dir s.levels.0 s.levels.1) };
+    ghost invariant = { λ s. IsConditionalLevelOrder (conditional_level_order_value s.dir s.levels.0 s.levels.1) };
 
     ghost inverse = { λ s. record { dir = s.dir; levels = (s.first, s.further) } };
 }
@@ -47,9 +47,9 @@ impl ConditionalLevelOrder {
         first: Level,
         further: Vec<Level>,
     ) -> Result<ConditionalLevelOrder, (BuildFault, Vec<Level>)>
-        ensures ok { IfOk result (λ p. p ≡ conditional_level_order_parts dir first further.items) }
-        ensures none { IfOk result (λ p. conditional_level_order_fault (conditional_level_order_parts dir first further.items) ≡ None) }
-        ensures fault { IfErr result (λ e. conditional_level_order_fault (conditional_level_order_parts dir first further.items) ≡ Some e.0) }
+        ensures ok { IfOk result (λ p. p ≡ conditional_level_order_value dir first further.items) }
+        ensures none { IfOk result (λ p. conditional_level_order_fault (conditional_level_order_value dir first further.items) ≡ None) }
+        ensures fault { IfErr result (λ e. conditional_level_order_fault (conditional_level_order_value dir first further.items) ≡ Some e.0) }
         ensures further { IfErr result (λ e. e.1.items ≡ further.items) }
     {
         if let Err(fault) = check(Var::Q_DIR, u64::from(dir)) {
@@ -85,7 +85,7 @@ impl Variables for ConditionalLevelOrder {
         self.levels.bits()
     }
 
-    fn send<S: Sink>(&self, out: &mut S) -> Result<(), AllocError> {
+    fn send<S: VarSink>(&self, out: &mut S) -> Result<(), AllocError> {
         self.levels.send(out)
     }
 }

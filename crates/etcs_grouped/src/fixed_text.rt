@@ -1,12 +1,12 @@
 //! The fixed text message.
 
 ghost use Rattle.std.specs.Prelude.{◌≡◌, None, Some, IfOk, IfErr, IfSome, IfNone};
-ghost use Rattle.etcs_grouped.specs.FixedTexts.{fixed_text_parts, fixed_text_fault, IsFixedText};
+ghost use Rattle.etcs_grouped.specs.FixedTexts.{fixed_text_value, fixed_text_fault, IsFixedText};
 
 use etcs_bodies::{Body, Numbers, Part, check};
 use etcs_parts::TextFrame;
 use etcs_tables::Way;
-use etcs_vars::parts::{Sink, Variables};
+use etcs_vars::parts::{VarSink, Variables};
 use etcs_vars::{BuildFault, Var};
 use std::alloc::{AllocError, Global};
 use std::marker::Model;
@@ -21,13 +21,13 @@ pub struct FixedText {
 }
 
 impl Model for FixedText {
-    ghost use Rattle.etcs_grouped.specs.FixedTexts.{FixedTextParts, fixed_text_parts, IsFixedText};
+    ghost use Rattle.etcs_grouped.specs.FixedTexts.{FixedTextValue, fixed_text_value, IsFixedText};
 
-    ghost Value = { FixedTextParts };
+    ghost Value = { FixedTextValue };
 
-    ghost view = { λ s. fixed_text_parts s.dir s.frame s.q_text };
+    ghost view = { λ s. fixed_text_value s.dir s.frame s.q_text };
 
-    ghost invariant = { λ s. IsFixedText (fixed_text_parts s.dir s.frame s.q_text) };
+    ghost invariant = { λ s. IsFixedText (fixed_text_value s.dir s.frame s.q_text) };
 
     ghost inverse = { λ s. record { dir = s.dir; q_text = s.q_text; frame = s.frame } };
 }
@@ -43,9 +43,9 @@ impl FixedText {
     ///
     /// [`BuildFault::NotAdmitted`] with Q_DIR, above 2.
     pub fn new(dir: u8, frame: TextFrame, q_text: u8) -> Result<FixedText, BuildFault>
-        ensures ok { IfOk result (λ p. p ≡ fixed_text_parts dir frame q_text) }
-        ensures none { IfOk result (λ p. fixed_text_fault (fixed_text_parts dir frame q_text) ≡ None) }
-        ensures fault { IfErr result (λ e. fixed_text_fault (fixed_text_parts dir frame q_text) ≡ Some e) }
+        ensures ok { IfOk result (λ p. p ≡ fixed_text_value dir frame q_text) }
+        ensures none { IfOk result (λ p. fixed_text_fault (fixed_text_value dir frame q_text) ≡ None) }
+        ensures fault { IfErr result (λ e. fixed_text_fault (fixed_text_value dir frame q_text) ≡ Some e) }
     {
         check(Var::Q_DIR, u64::from(dir))?;
         check(Var::Q_TEXT, u64::from(q_text))?;
@@ -78,7 +78,7 @@ impl Variables for FixedText {
         self.frame.bits() + 8
     }
 
-    fn send<S: Sink>(&self, out: &mut S) -> Result<(), AllocError> {
+    fn send<S: VarSink>(&self, out: &mut S) -> Result<(), AllocError> {
         self.frame.send(out)?;
         out.send(&[(Var::Q_TEXT, u64::from(self.q_text))])
     }

@@ -1,7 +1,7 @@
 //! The gradients ahead.
 
 ghost use Rattle.std.specs.Prelude.{◌≡◌, Some, None, IfOk, IfErr};
-ghost use Rattle.etcs_grouped.specs.Chains.{chain_parts, gradient_fault};
+ghost use Rattle.etcs_grouped.specs.Chains.{chain_value, gradient_fault};
 
 use crate::chain::{Chain, Chained};
 use etcs_parts::Slope;
@@ -44,9 +44,9 @@ impl Chain<Slope> {
         first: Slope,
         further: Vec<Slope>,
     ) -> Result<Gradient, (BuildFault, Vec<Slope>)>
-        ensures ok { IfOk result (λ p. p ≡ chain_parts dir q_scale first further.items) }
-        ensures none { IfOk result (λ p. gradient_fault (chain_parts dir q_scale first further.items) ≡ None) }
-        ensures fault { IfErr result (λ e. gradient_fault (chain_parts dir q_scale first further.items) ≡ Some e.0) }
+        ensures ok { IfOk result (λ p. p ≡ chain_value dir q_scale first further.items) }
+        ensures none { IfOk result (λ p. gradient_fault (chain_value dir q_scale first further.items) ≡ None) }
+        ensures fault { IfErr result (λ e. gradient_fault (chain_value dir q_scale first further.items) ≡ Some e.0) }
         ensures further { IfErr result (λ e. e.1.items ≡ further.items) }
     {
         match Chain::build(dir, q_scale, first, further) {

@@ -3,11 +3,11 @@
 ghost use Rattle.std.specs.Prelude.{◌≡◌, None, Some, IfOk, IfErr, IfSome, IfNone, IsTrue};
 ghost use Rattle.etcs_vars.specs.declared.var.Var.TheVariants.{Q_DIR};
 ghost use Rattle.etcs_vars.specs.Vars.{admits};
-ghost use Rattle.etcs_grouped.specs.InfillLocations.{infill_location_parts, infill_location_fault, infill_location_from};
+ghost use Rattle.etcs_grouped.specs.InfillLocations.{infill_location_value, infill_location_fault, infill_location_from};
 
 use etcs_bodies::{Body, Numbers, check};
 use etcs_tables::Way;
-use etcs_vars::parts::{Sink, Variables};
+use etcs_vars::parts::{VarSink, Variables};
 use etcs_vars::{BuildFault, Var};
 use std::alloc::{AllocError, Global};
 use std::marker::Model;
@@ -22,13 +22,13 @@ pub struct InfillLocation {
 }
 
 impl Model for InfillLocation {
-    ghost use Rattle.etcs_grouped.specs.InfillLocations.{InfillLocationParts, infill_location_parts, IsInfillLocation};
+    ghost use Rattle.etcs_grouped.specs.InfillLocations.{InfillLocationValue, infill_location_value, IsInfillLocation};
 
-    ghost Value = { InfillLocationParts };
+    ghost Value = { InfillLocationValue };
 
-    ghost view = { λ s. infill_location_parts s.dir s.nid_c s.nid_bg };
+    ghost view = { λ s. infill_location_value s.dir s.nid_c s.nid_bg };
 
-    ghost invariant = { λ s. IsInfillLocation (infill_location_parts s.dir s.nid_c s.nid_bg) };
+    ghost invariant = { λ s. IsInfillLocation (infill_location_value s.dir s.nid_c s.nid_bg) };
 
     ghost inverse = { λ s. record { dir = s.dir; nid_c = s.nid_c; nid_bg = s.nid_bg } };
 }
@@ -46,9 +46,9 @@ impl InfillLocation {
     /// The first of these: [`BuildFault::NotAdmitted`] with Q_DIR, above 2, with NID_C, above 1,023, or with NID_BG,
     /// above 16,383.
     pub fn new(dir: u8, nid_c: Option<u16>, nid_bg: u16) -> Result<InfillLocation, BuildFault>
-        ensures ok { IfOk result (λ p. p ≡ infill_location_parts dir nid_c nid_bg) }
-        ensures none { IfOk result (λ p. infill_location_fault (infill_location_parts dir nid_c nid_bg) ≡ None) }
-        ensures fault { IfErr result (λ e. infill_location_fault (infill_location_parts dir nid_c nid_bg) ≡ Some e) }
+        ensures ok { IfOk result (λ p. p ≡ infill_location_value dir nid_c nid_bg) }
+        ensures none { IfOk result (λ p. infill_location_fault (infill_location_value dir nid_c nid_bg) ≡ None) }
+        ensures fault { IfErr result (λ e. infill_location_fault (infill_location_value dir nid_c nid_bg) ≡ Some e) }
     {
         check(Var::Q_DIR, u64::from(dir))?;
         if let Some(country) = nid_c {
@@ -102,7 +102,7 @@ impl Variables for InfillLocation {
         }
     }
 
-    fn send<S: Sink>(&self, out: &mut S) -> Result<(), AllocError> {
+    fn send<S: VarSink>(&self, out: &mut S) -> Result<(), AllocError> {
         match self.nid_c {
             None => out.send(&[
                 (Var::Q_NEWCOUNTRY, 0),

@@ -1,12 +1,12 @@
 //! The movement authority of level 1.
 
 ghost use Rattle.std.specs.Prelude.{◌≡◌, None, Some, OnOk, IfOk, IfErr, IfSome, IfNone};
-ghost use Rattle.etcs_grouped.specs.Level1Mas.{level1_ma_parts, level1_ma_fault, IsLevel1Ma};
+ghost use Rattle.etcs_grouped.specs.Level1Mas.{level1_ma_value, level1_ma_fault, IsLevel1Ma};
 
 use etcs_bodies::{Body, Numbers, Part, check};
 use etcs_parts::Authority;
 use etcs_tables::Way;
-use etcs_vars::parts::{Sink, Variables};
+use etcs_vars::parts::{VarSink, Variables};
 use etcs_vars::{BuildFault, Var};
 use std::alloc::{AllocError, Global};
 use std::marker::Model;
@@ -23,13 +23,13 @@ pub struct Level1Ma {
 }
 
 impl Model for Level1Ma {
-    ghost use Rattle.etcs_grouped.specs.Level1Mas.{Level1MaParts, level1_ma_parts, IsLevel1Ma};
+    ghost use Rattle.etcs_grouped.specs.Level1Mas.{Level1MaValue, level1_ma_value, IsLevel1Ma};
 
-    ghost Value = { Level1MaParts };
+    ghost Value = { Level1MaValue };
 
-    ghost view = { λ s. level1_ma_parts s.dir s.q_scale s.v_main s.v_loa s.t_loa s.authority };
+    ghost view = { λ s. level1_ma_value s.dir s.q_scale s.v_main s.v_loa s.t_loa s.authority };
 
-    ghost invariant = { λ s. IsLevel1Ma (level1_ma_parts s.dir s.q_scale s.v_main s.v_loa s.t_loa s.authority) };
+    ghost invariant = { λ s. IsLevel1Ma (level1_ma_value s.dir s.q_scale s.v_main s.v_loa s.t_loa s.authority) };
 
     ghost inverse = { λ s. record { dir = s.dir; q_scale = s.q_scale; v_main = s.v_main; v_loa = s.v_loa; t_loa = s.t_loa; authority = s.authority } };
 }
@@ -56,9 +56,9 @@ impl Level1Ma {
         t_loa: u16,
         authority: Authority,
     ) -> Result<Level1Ma, (BuildFault, Authority)>
-        ensures ok { IfOk result (λ p. p ≡ level1_ma_parts dir q_scale v_main v_loa t_loa authority) }
-        ensures none { IfOk result (λ p. level1_ma_fault (level1_ma_parts dir q_scale v_main v_loa t_loa authority) ≡ None) }
-        ensures fault { IfErr result (λ e. level1_ma_fault (level1_ma_parts dir q_scale v_main v_loa t_loa authority) ≡ Some e.0) }
+        ensures ok { IfOk result (λ p. p ≡ level1_ma_value dir q_scale v_main v_loa t_loa authority) }
+        ensures none { IfOk result (λ p. level1_ma_fault (level1_ma_value dir q_scale v_main v_loa t_loa authority) ≡ None) }
+        ensures fault { IfErr result (λ e. level1_ma_fault (level1_ma_value dir q_scale v_main v_loa t_loa authority) ≡ Some e.0) }
         ensures authority { IfErr result (λ e. e.1 ≡ authority) }
     {
         match faultless(dir, q_scale, v_main, v_loa, t_loa, &authority) {
@@ -119,8 +119,8 @@ fn faultless(
     t_loa: u16,
     authority: &Authority,
 ) -> Result<(), BuildFault>
-    ensures ok { OnOk result (IsLevel1Ma (level1_ma_parts dir q_scale v_main v_loa t_loa authority.now)) }
-    ensures fault { IfErr result (λ e. level1_ma_fault (level1_ma_parts dir q_scale v_main v_loa t_loa authority.now) ≡ Some e) }
+    ensures ok { OnOk result (IsLevel1Ma (level1_ma_value dir q_scale v_main v_loa t_loa authority.now)) }
+    ensures fault { IfErr result (λ e. level1_ma_fault (level1_ma_value dir q_scale v_main v_loa t_loa authority.now) ≡ Some e) }
 {
     check(Var::Q_DIR, u64::from(dir))?;
     check(Var::Q_SCALE, u64::from(q_scale))?;
@@ -141,7 +141,7 @@ impl Variables for Level1Ma {
         26 + self.authority.bits()
     }
 
-    fn send<S: Sink>(&self, out: &mut S) -> Result<(), AllocError> {
+    fn send<S: VarSink>(&self, out: &mut S) -> Result<(), AllocError> {
         out.send(&[
             (Var::Q_SCALE, u64::from(self.q_scale)),
             (Var::V_MAIN, u64::from(self.v_main)),

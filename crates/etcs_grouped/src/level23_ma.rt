@@ -1,12 +1,12 @@
 //! The movement authority of levels 2 and 3.
 
 ghost use Rattle.std.specs.Prelude.{◌≡◌, None, Some, OnOk, IfOk, IfErr, IfSome, IfNone};
-ghost use Rattle.etcs_grouped.specs.Level23Mas.{level23_ma_parts, level23_ma_fault, IsLevel23Ma};
+ghost use Rattle.etcs_grouped.specs.Level23Mas.{level23_ma_value, level23_ma_fault, IsLevel23Ma};
 
 use etcs_bodies::{Body, Numbers, Part, check};
 use etcs_parts::Authority;
 use etcs_tables::Way;
-use etcs_vars::parts::{Sink, Variables};
+use etcs_vars::parts::{VarSink, Variables};
 use etcs_vars::{BuildFault, Var};
 use std::alloc::{AllocError, Global};
 use std::marker::Model;
@@ -22,13 +22,13 @@ pub struct Level23Ma {
 }
 
 impl Model for Level23Ma {
-    ghost use Rattle.etcs_grouped.specs.Level23Mas.{Level23MaParts, level23_ma_parts, IsLevel23Ma};
+    ghost use Rattle.etcs_grouped.specs.Level23Mas.{Level23MaValue, level23_ma_value, IsLevel23Ma};
 
-    ghost Value = { Level23MaParts };
+    ghost Value = { Level23MaValue };
 
-    ghost view = { λ s. level23_ma_parts s.dir s.q_scale s.v_loa s.t_loa s.authority };
+    ghost view = { λ s. level23_ma_value s.dir s.q_scale s.v_loa s.t_loa s.authority };
 
-    ghost invariant = { λ s. IsLevel23Ma (level23_ma_parts s.dir s.q_scale s.v_loa s.t_loa s.authority) };
+    ghost invariant = { λ s. IsLevel23Ma (level23_ma_value s.dir s.q_scale s.v_loa s.t_loa s.authority) };
 
     ghost inverse = { λ s. record { dir = s.dir; q_scale = s.q_scale; v_loa = s.v_loa; t_loa = s.t_loa; authority = s.authority } };
 }
@@ -53,9 +53,9 @@ impl Level23Ma {
         t_loa: u16,
         authority: Authority,
     ) -> Result<Level23Ma, (BuildFault, Authority)>
-        ensures ok { IfOk result (λ p. p ≡ level23_ma_parts dir q_scale v_loa t_loa authority) }
-        ensures none { IfOk result (λ p. level23_ma_fault (level23_ma_parts dir q_scale v_loa t_loa authority) ≡ None) }
-        ensures fault { IfErr result (λ e. level23_ma_fault (level23_ma_parts dir q_scale v_loa t_loa authority) ≡ Some e.0) }
+        ensures ok { IfOk result (λ p. p ≡ level23_ma_value dir q_scale v_loa t_loa authority) }
+        ensures none { IfOk result (λ p. level23_ma_fault (level23_ma_value dir q_scale v_loa t_loa authority) ≡ None) }
+        ensures fault { IfErr result (λ e. level23_ma_fault (level23_ma_value dir q_scale v_loa t_loa authority) ≡ Some e.0) }
         ensures authority { IfErr result (λ e. e.1 ≡ authority) }
     {
         match faultless(dir, q_scale, v_loa, t_loa, &authority) {
@@ -107,8 +107,8 @@ fn faultless(
     t_loa: u16,
     authority: &Authority,
 ) -> Result<(), BuildFault>
-    ensures ok { OnOk result (IsLevel23Ma (level23_ma_parts dir q_scale v_loa t_loa authority.now)) }
-    ensures fault { IfErr result (λ e. level23_ma_fault (level23_ma_parts dir q_scale v_loa t_loa authority.now) ≡ Some e) }
+    ensures ok { OnOk result (IsLevel23Ma (level23_ma_value dir q_scale v_loa t_loa authority.now)) }
+    ensures fault { IfErr result (λ e. level23_ma_fault (level23_ma_value dir q_scale v_loa t_loa authority.now) ≡ Some e) }
 {
     check(Var::Q_DIR, u64::from(dir))?;
     check(Var::Q_SCALE, u64::from(q_scale))?;
@@ -128,7 +128,7 @@ impl Variables for Level23Ma {
         19 + self.authority.bits()
     }
 
-    fn send<S: Sink>(&self, out: &mut S) -> Result<(), AllocError> {
+    fn send<S: VarSink>(&self, out: &mut S) -> Result<(), AllocError> {
         out.send(&[
             (Var::Q_SCALE, u64::from(self.q_scale)),
             (Var::V_LOA, u64::from(self.v_loa)),

@@ -3,12 +3,12 @@
 ghost use Rattle.std.specs.Prelude.{◌≡◌, None, Some, OnOk, IfOk, IfErr, IfSome, IfNone};
 ghost use Rattle.etcs_vars.specs.declared.var.Var.TheVariants.{Q_DIR, Q_SCALE, D_LEVELTR};
 ghost use Rattle.etcs_bodies.specs.Faults.{◌or_else◌, number_fault};
-ghost use Rattle.etcs_grouped.specs.LevelOrders.{level_order_parts, level_order_fault};
+ghost use Rattle.etcs_grouped.specs.LevelOrders.{level_order_value, level_order_fault};
 
 use etcs_bodies::{Body, Entries, Numbers, Part, check};
 use etcs_parts::LevelAck;
 use etcs_tables::Way;
-use etcs_vars::parts::{Sink, Variables};
+use etcs_vars::parts::{VarSink, Variables};
 use etcs_vars::{BuildFault, Var};
 use std::alloc::{AllocError, Global};
 use std::marker::Model;
@@ -23,13 +23,13 @@ pub struct LevelOrder {
 }
 
 impl Model for LevelOrder {
-    ghost use Rattle.etcs_grouped.specs.LevelOrders.{LevelOrderParts, level_order_parts, IsLevelOrder};
+    ghost use Rattle.etcs_grouped.specs.LevelOrders.{LevelOrderValue, level_order_value, IsLevelOrder};
 
-    ghost Value = { LevelOrderParts };
+    ghost Value = { LevelOrderValue };
 
-    ghost view = { λ s. level_order_parts s.dir s.q_scale s.d_leveltr s.levels.0 s.levels.1 };
+    ghost view = { λ s. level_order_value s.dir s.q_scale s.d_leveltr s.levels.0 s.levels.1 };
 
-    ghost invariant = { λ s. IsLevelOrder (level_order_parts s.dir s.q_scale s.d_leveltr s.levels.0 s.levels.1) };
+    ghost invariant = { λ s. IsLevelOrder (level_order_value s.dir s.q_scale s.d_leveltr s.levels.0 s.levels.1) };
 
     ghost inverse = { λ s. record { dir = s.dir; q_scale = s.q_scale; d_leveltr = s.d_leveltr; levels = (s.first, s.further) } };
 }
@@ -54,9 +54,9 @@ impl LevelOrder {
         first: LevelAck,
         further: Vec<LevelAck>,
     ) -> Result<LevelOrder, (BuildFault, Vec<LevelAck>)>
-        ensures ok { IfOk result (λ p. p ≡ level_order_parts dir q_scale d_leveltr first further.items) }
-        ensures none { IfOk result (λ p. level_order_fault (level_order_parts dir q_scale d_leveltr first further.items) ≡ None) }
-        ensures fault { IfErr result (λ e. level_order_fault (level_order_parts dir q_scale d_leveltr first further.items) ≡ Some e.0) }
+        ensures ok { IfOk result (λ p. p ≡ level_order_value dir q_scale d_leveltr first further.items) }
+        ensures none { IfOk result (λ p. level_order_fault (level_order_value dir q_scale d_leveltr first further.items) ≡ None) }
+        ensures fault { IfErr result (λ e. level_order_fault (level_order_value dir q_scale d_leveltr first further.items) ≡ Some e.0) }
         ensures further { IfErr result (λ e. e.1.items ≡ further.items) }
     {
         if let Err(fault) = check_head(dir, q_scale, d_leveltr) {
@@ -124,7 +124,7 @@ impl Variables for LevelOrder {
         17 + self.levels.bits()
     }
 
-    fn send<S: Sink>(&self, out: &mut S) -> Result<(), AllocError> {
+    fn send<S: VarSink>(&self, out: &mut S) -> Result<(), AllocError> {
         out.send(&[
             (Var::Q_SCALE, u64::from(self.q_scale)),
             (Var::D_LEVELTR, u64::from(self.d_leveltr)),

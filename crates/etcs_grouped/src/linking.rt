@@ -1,7 +1,7 @@
 //! The linked balise groups ahead.
 
 ghost use Rattle.std.specs.Prelude.{◌≡◌, Some, None, IfOk, IfErr};
-ghost use Rattle.etcs_grouped.specs.Chains.{chain_parts, linking_fault};
+ghost use Rattle.etcs_grouped.specs.Chains.{chain_value, linking_fault};
 
 use crate::chain::{Chain, Chained};
 use etcs_parts::Link;
@@ -44,9 +44,9 @@ impl Chain<Link> {
         first: Link,
         further: Vec<Link>,
     ) -> Result<Linking, (BuildFault, Vec<Link>)>
-        ensures ok { IfOk result (λ p. p ≡ chain_parts dir q_scale first further.items) }
-        ensures none { IfOk result (λ p. linking_fault (chain_parts dir q_scale first further.items) ≡ None) }
-        ensures fault { IfErr result (λ e. linking_fault (chain_parts dir q_scale first further.items) ≡ Some e.0) }
+        ensures ok { IfOk result (λ p. p ≡ chain_value dir q_scale first further.items) }
+        ensures none { IfOk result (λ p. linking_fault (chain_value dir q_scale first further.items) ≡ None) }
+        ensures fault { IfErr result (λ e. linking_fault (chain_value dir q_scale first further.items) ≡ Some e.0) }
         ensures further { IfErr result (λ e. e.1.items ≡ further.items) }
     {
         match Chain::build(dir, q_scale, first, further) {

@@ -1,7 +1,7 @@
 //! The areas ahead in which the train runs in another mode.
 
 ghost use Rattle.std.specs.Prelude.{◌≡◌, Some, None, IfOk, IfErr};
-ghost use Rattle.etcs_grouped.specs.Chains.{chain_parts, mode_profile_fault};
+ghost use Rattle.etcs_grouped.specs.Chains.{chain_value, mode_profile_fault};
 
 use crate::chain::{Chain, Chained};
 use etcs_parts::ModeSection;
@@ -45,9 +45,9 @@ impl Chain<ModeSection> {
         first: ModeSection,
         further: Vec<ModeSection>,
     ) -> Result<ModeProfile, (BuildFault, Vec<ModeSection>)>
-        ensures ok { IfOk result (λ p. p ≡ chain_parts dir q_scale first further.items) }
-        ensures none { IfOk result (λ p. mode_profile_fault (chain_parts dir q_scale first further.items) ≡ None) }
-        ensures fault { IfErr result (λ e. mode_profile_fault (chain_parts dir q_scale first further.items) ≡ Some e.0) }
+        ensures ok { IfOk result (λ p. p ≡ chain_value dir q_scale first further.items) }
+        ensures none { IfOk result (λ p. mode_profile_fault (chain_value dir q_scale first further.items) ≡ None) }
+        ensures fault { IfErr result (λ e. mode_profile_fault (chain_value dir q_scale first further.items) ≡ Some e.0) }
         ensures further { IfErr result (λ e. e.1.items ≡ further.items) }
     {
         match Chain::build(dir, q_scale, first, further) {

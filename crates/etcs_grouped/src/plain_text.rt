@@ -5,12 +5,12 @@ ghost use Rattle.etcs_bodies.specs.Taking.{next_number, times_from};
 ghost use Rattle.etcs_bodies.specs.Codecs.{list_from};
 ghost use Rattle.etcs_bodies.specs.Faults.{count_fault};
 ghost use Rattle.etcs_vars.specs.declared.var.Var.TheVariants.{L_TEXT, X_TEXT};
-ghost use Rattle.etcs_grouped.specs.PlainTexts.{plain_text_parts, plain_text_fault, IsPlainText, IsByte, text_reading, bytes_reading};
+ghost use Rattle.etcs_grouped.specs.PlainTexts.{plain_text_value, plain_text_fault, IsPlainText, IsByte, text_reading, bytes_reading};
 
-use etcs_bodies::{Body, Items, Numbers, Part, check, check_count};
+use etcs_bodies::{Body, ListOf, Numbers, Part, check, check_count};
 use etcs_parts::TextFrame;
 use etcs_tables::Way;
-use etcs_vars::parts::{Sink, Variables};
+use etcs_vars::parts::{VarSink, Variables};
 use etcs_vars::{BuildFault, Var};
 use std::alloc::{AllocError, Global};
 use std::marker::Model;
@@ -19,18 +19,18 @@ use std::marker::Model;
 #[derive(Debug, Drop, PartialEq, Eq)]
 pub struct PlainText {
     dir: u8,
-    text: Items<u8>,
+    text: ListOf<u8>,
     frame: TextFrame,
 }
 
 impl Model for PlainText {
-    ghost use Rattle.etcs_grouped.specs.PlainTexts.{PlainTextParts, plain_text_parts, IsPlainText};
+    ghost use Rattle.etcs_grouped.specs.PlainTexts.{PlainTextValue, plain_text_value, IsPlainText};
 
-    ghost Value = { PlainTextParts };
+    ghost Value = { PlainTextValue };
 
-    ghost view = { λ s. plain_text_parts s.dir s.frame s.text };
+    ghost view = { λ s. plain_text_value s.dir s.frame s.text };
 
-    ghost invariant = { λ s. IsPlainText (plain_text_parts s.dir s.frame s.text) };
+    ghost invariant = { λ s. IsPlainText (plain_text_value s.dir s.frame s.text) };
 
     ghost inverse = { λ s. record { dir = s.dir; text = s.text; frame = s.frame } };
 }
@@ -47,15 +47,15 @@ impl PlainText {
     /// The first of these, and the text: [`BuildFault::NotAdmitted`] with Q_DIR, above 2; [`BuildFault::TooMany`] with
     /// L_TEXT, where the text has more than 255 bytes.
     pub fn new(dir: u8, frame: TextFrame, text: Vec<u8>) -> Result<PlainText, (BuildFault, Vec<u8>)>
-        ensures ok { IfOk result (λ p. p ≡ plain_text_parts dir frame text.items) }
-        ensures none { IfOk result (λ p. plain_text_fault (plain_text_parts dir frame text.items) ≡ None) }
-        ensures fault { IfErr result (λ e. plain_text_fault (plain_text_parts dir frame text.items) ≡ Some e.0) }
+        ensures ok { IfOk result (λ p. p ≡ plain_text_value dir frame text.items) }
+        ensures none { IfOk result (λ p. plain_text_fault (plain_text_value dir frame text.items) ≡ None) }
+        ensures fault { IfErr result (λ e. plain_text_fault (plain_text_value dir frame text.items) ≡ Some e.0) }
         ensures text { IfErr result (λ e. e.1.items ≡ text.items) }
     {
         match faultless(dir, &frame, text.as_slice()) {
             Ok(()) => Ok(PlainText {
                 dir,
-                text: Items::from_vec(text),
+                text: ListOf::from_vec(text),
                 frame,
             }),
             Err(fault) => Err((fault, text)),
@@ -79,8 +79,8 @@ impl PlainText {
 
 /// Refuses what is no packet.
 fn faultless(dir: u8, frame: &TextFrame, text: &[u8]) -> Result<(), BuildFault>
-    ensures ok { OnOk result (IsPlainText (plain_text_parts dir frame.now text.now)) }
-    ensures fault { IfErr result (λ e. plain_text_fault (plain_text_parts dir frame.now text.now) ≡ Some e) }
+    ensures ok { OnOk result (IsPlainText (plain_text_value dir frame.now text.now)) }
+    ensures fault { IfErr result (λ e. plain_text_fault (plain_text_value dir frame.now text.now) ≡ Some e) }
 {
     check(Var::Q_DIR, u64::from(dir))?;
     check_count(Var::L_TEXT, text.len())?;
@@ -88,7 +88,7 @@ fn faultless(dir: u8, frame: &TextFrame, text: &[u8]) -> Result<(), BuildFault>
     Ok(())
 }
 
-/// Takes so many bytes.
+/// Takes this many bytes.
 fn take_bytes(
     alloc: Global,
     numbers: &mut Numbers,
@@ -127,7 +127,7 @@ fn take_text(alloc: Global, numbers: &mut Numbers) -> Result<Option<Vec<u8>>, Al
 }
 
 /// Sends the bytes, in order.
-fn send_bytes<S: Sink>(bytes: &[u8], out: &mut S) -> Result<(), AllocError>
+fn send_bytes<S: VarSink>(bytes: &[u8], out: &mut S) -> Result<(), AllocError>
     ensures ok { OnOk result (out.new ≡ S.with out.old (bytes_reading bytes.now)) }
     ensures err { OnErr result (S.failed out.old out.new) }
 {
@@ -138,7 +138,7 @@ fn send_bytes<S: Sink>(bytes: &[u8], out: &mut S) -> Result<(), AllocError>
 }
 
 /// Sends the text after its count.
-fn send_text<S: Sink>(text: &[u8], out: &mut S) -> Result<(), AllocError>
+fn send_text<S: VarSink>(text: &[u8], out: &mut S) -> Result<(), AllocError>
     ensures ok { OnOk result (out.new ≡ S.with out.old (text_reading text.now)) }
     ensures err { OnErr result (S.failed out.old out.new) }
 {
@@ -156,7 +156,7 @@ impl Variables for PlainText {
         self.frame.bits() + 8 + 8 * self.text.len()
     }
 
-    fn send<S: Sink>(&self, out: &mut S) -> Result<(), AllocError> {
+    fn send<S: VarSink>(&self, out: &mut S) -> Result<(), AllocError> {
         self.frame.send(out)?;
         send_text(self.text.as_slice(), out)
     }
@@ -201,7 +201,7 @@ impl Body for PlainText {
         };
         Ok(Some(PlainText {
             dir,
-            text: Items::from_vec(text),
+            text: ListOf::from_vec(text),
             frame,
         }))
     }
@@ -209,7 +209,7 @@ impl Body for PlainText {
     fn copy(&self, alloc: Global) -> Result<PlainText, AllocError> {
         Ok(PlainText {
             dir: self.dir,
-            text: Items::from_vec(copy(alloc, self.text.as_slice())?),
+            text: ListOf::from_vec(copy(alloc, self.text.as_slice())?),
             frame: self.frame,
         })
     }

@@ -3,12 +3,12 @@
 ghost use Rattle.std.specs.Prelude.{◌≡◌, None, Some, OnOk, IfOk, IfErr, IfSome, IfNone};
 ghost use Rattle.etcs_vars.specs.declared.var.Var.TheVariants.{Q_DIR, Q_SCALE, T_CYCLOC, D_CYCLOC, M_LOC};
 ghost use Rattle.etcs_bodies.specs.Faults.{◌or_else◌, number_fault};
-ghost use Rattle.etcs_grouped.specs.ReportParameters.{report_parameters_parts, report_parameters_fault};
+ghost use Rattle.etcs_grouped.specs.ReportParameters.{report_parameters_value, report_parameters_fault};
 
 use etcs_bodies::{Body, Counted, Numbers, Part, check};
 use etcs_parts::ReportAt;
 use etcs_tables::Way;
-use etcs_vars::parts::{Sink, Variables};
+use etcs_vars::parts::{VarSink, Variables};
 use etcs_vars::{BuildFault, Var};
 use std::alloc::{AllocError, Global};
 use std::marker::Model;
@@ -25,13 +25,13 @@ pub struct ReportParameters {
 }
 
 impl Model for ReportParameters {
-    ghost use Rattle.etcs_grouped.specs.ReportParameters.{ReportParametersParts, report_parameters_parts, IsReportParameters};
+    ghost use Rattle.etcs_grouped.specs.ReportParameters.{ReportParametersValue, report_parameters_value, IsReportParameters};
 
-    ghost Value = { ReportParametersParts };
+    ghost Value = { ReportParametersValue };
 
-    ghost view = { λ s. report_parameters_parts s.dir s.q_scale s.t_cycloc s.d_cycloc s.m_loc s.reports };
+    ghost view = { λ s. report_parameters_value s.dir s.q_scale s.t_cycloc s.d_cycloc s.m_loc s.reports };
 
-    ghost invariant = { λ s. IsReportParameters (report_parameters_parts s.dir s.q_scale s.t_cycloc s.d_cycloc s.m_loc s.reports) };
+    ghost invariant = { λ s. IsReportParameters (report_parameters_value s.dir s.q_scale s.t_cycloc s.d_cycloc s.m_loc s.reports) };
 
     ghost inverse = { λ s. record { dir = s.dir; q_scale = s.q_scale; t_cycloc = s.t_cycloc; d_cycloc = s.d_cycloc; m_loc = s.m_loc; reports = s.reports } };
 }
@@ -58,9 +58,9 @@ impl ReportParameters {
         m_loc: u8,
         reports: Vec<ReportAt>,
     ) -> Result<ReportParameters, (BuildFault, Vec<ReportAt>)>
-        ensures ok { IfOk result (λ p. p ≡ report_parameters_parts dir q_scale t_cycloc d_cycloc m_loc reports.items) }
-        ensures none { IfOk result (λ p. report_parameters_fault (report_parameters_parts dir q_scale t_cycloc d_cycloc m_loc reports.items) ≡ None) }
-        ensures fault { IfErr result (λ e. report_parameters_fault (report_parameters_parts dir q_scale t_cycloc d_cycloc m_loc reports.items) ≡ Some e.0) }
+        ensures ok { IfOk result (λ p. p ≡ report_parameters_value dir q_scale t_cycloc d_cycloc m_loc reports.items) }
+        ensures none { IfOk result (λ p. report_parameters_fault (report_parameters_value dir q_scale t_cycloc d_cycloc m_loc reports.items) ≡ None) }
+        ensures fault { IfErr result (λ e. report_parameters_fault (report_parameters_value dir q_scale t_cycloc d_cycloc m_loc reports.items) ≡ Some e.0) }
         ensures reports { IfErr result (λ e. e.1.items ≡ reports.items) }
     {
         if let Err(fault) = check_head(dir, q_scale, t_cycloc, d_cycloc, m_loc) {
@@ -147,7 +147,7 @@ impl Variables for ReportParameters {
         28 + self.reports.bits()
     }
 
-    fn send<S: Sink>(&self, out: &mut S) -> Result<(), AllocError> {
+    fn send<S: VarSink>(&self, out: &mut S) -> Result<(), AllocError> {
         out.send(&[
             (Var::Q_SCALE, u64::from(self.q_scale)),
             (Var::T_CYCLOC, u64::from(self.t_cycloc)),

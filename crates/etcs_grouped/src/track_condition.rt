@@ -2,7 +2,7 @@
 
 ghost use Rattle.std.specs.Prelude.{◌≡◌, None, Some, OnOk, IfOk, IfErr, IfSome, IfNone};
 ghost use Rattle.std.specs.Cmp.{decided, partial_equiv_from_equiv};
-ghost use Rattle.etcs_grouped.specs.TrackConditions.{state_of, track_condition_parts, track_condition_fault, IsTrackCondition, track_condition_eq};
+ghost use Rattle.etcs_grouped.specs.TrackConditions.{state_of, track_condition_value, track_condition_fault, IsTrackCondition, track_condition_eq};
 ghost use Rattle.etcs_grouped.specs.laws.TrackConditions.{track_condition_exact};
 
 use crate::track_state::{
@@ -10,7 +10,7 @@ use crate::track_state::{
 };
 use etcs_bodies::{Body, Numbers, check};
 use etcs_tables::Way;
-use etcs_vars::parts::{Sink, Variables};
+use etcs_vars::parts::{VarSink, Variables};
 use etcs_vars::{BuildFault, Var};
 use std::alloc::{AllocError, Global};
 use std::marker::Model;
@@ -24,13 +24,13 @@ pub struct TrackCondition {
 }
 
 impl Model for TrackCondition {
-    ghost use Rattle.etcs_grouped.specs.TrackConditions.{TrackConditionParts, track_condition_parts, state_of, IsTrackCondition};
+    ghost use Rattle.etcs_grouped.specs.TrackConditions.{TrackConditionValue, track_condition_value, state_of, IsTrackCondition};
 
-    ghost Value = { TrackConditionParts };
+    ghost Value = { TrackConditionValue };
 
-    ghost view = { λ s. track_condition_parts s.dir s.q_scale (state_of s.state) };
+    ghost view = { λ s. track_condition_value s.dir s.q_scale (state_of s.state) };
 
-    ghost invariant = { λ s. IsTrackCondition (track_condition_parts s.dir s.q_scale (state_of s.state)) };
+    ghost invariant = { λ s. IsTrackCondition (track_condition_value s.dir s.q_scale (state_of s.state)) };
 }
 
 impl TrackCondition {
@@ -51,9 +51,9 @@ impl TrackCondition {
         q_scale: u8,
         state: TrackState,
     ) -> Result<TrackCondition, (BuildFault, TrackState)>
-        ensures ok { IfOk result (λ p. p ≡ track_condition_parts dir q_scale (state_of state)) }
-        ensures none { IfOk result (λ p. track_condition_fault (track_condition_parts dir q_scale (state_of state)) ≡ None) }
-        ensures fault { IfErr result (λ e. track_condition_fault (track_condition_parts dir q_scale (state_of state)) ≡ Some e.0) }
+        ensures ok { IfOk result (λ p. p ≡ track_condition_value dir q_scale (state_of state)) }
+        ensures none { IfOk result (λ p. track_condition_fault (track_condition_value dir q_scale (state_of state)) ≡ None) }
+        ensures fault { IfErr result (λ e. track_condition_fault (track_condition_value dir q_scale (state_of state)) ≡ Some e.0) }
         ensures state { IfErr result (λ e. state_of e.1 ≡ state_of state) }
     {
         match check_all(dir, q_scale, &state) {
@@ -83,9 +83,9 @@ impl TrackCondition {
 
 /// Refuses what is no packet.
 fn check_all(dir: u8, q_scale: u8, state: &TrackState) -> Result<(), BuildFault>
-    ensures ok { OnOk result (IsTrackCondition (track_condition_parts dir q_scale (state_of state.now))) }
-    ensures none { OnOk result (track_condition_fault (track_condition_parts dir q_scale (state_of state.now)) ≡ None) }
-    ensures fault { IfErr result (λ e. track_condition_fault (track_condition_parts dir q_scale (state_of state.now)) ≡ Some e) }
+    ensures ok { OnOk result (IsTrackCondition (track_condition_value dir q_scale (state_of state.now))) }
+    ensures none { OnOk result (track_condition_fault (track_condition_value dir q_scale (state_of state.now)) ≡ None) }
+    ensures fault { IfErr result (λ e. track_condition_fault (track_condition_value dir q_scale (state_of state.now)) ≡ Some e) }
 {
     check(Var::Q_DIR, u64::from(dir))?;
     check(Var::Q_SCALE, u64::from(q_scale))?;
@@ -118,7 +118,7 @@ impl Variables for TrackCondition {
         2 + state_bits(&self.state)
     }
 
-    fn send<S: Sink>(&self, out: &mut S) -> Result<(), AllocError> {
+    fn send<S: VarSink>(&self, out: &mut S) -> Result<(), AllocError> {
         out.send(&[(Var::Q_SCALE, u64::from(self.q_scale))])?;
         send_state(&self.state, out)
     }

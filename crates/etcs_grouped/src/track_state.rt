@@ -6,7 +6,7 @@ ghost use Rattle.etcs_grouped.specs.TrackConditions.{state_of, state_fault, IsSt
 
 use etcs_bodies::{Numbers, Part, check, check_count, clone_all, hold_all, send_list, take_list};
 use etcs_parts::Condition;
-use etcs_vars::parts::{Sink, Variables};
+use etcs_vars::parts::{VarSink, Variables};
 use etcs_vars::{BuildFault, Var};
 use std::alloc::{AllocError, Global};
 
@@ -50,7 +50,7 @@ pub(crate) fn state_bits(state: &TrackState) -> usize
 }
 
 /// Sends its variables, in order.
-pub(crate) fn send_state<S: Sink>(state: &TrackState, out: &mut S) -> Result<(), AllocError>
+pub(crate) fn send_state<S: VarSink>(state: &TrackState, out: &mut S) -> Result<(), AllocError>
     ensures ok { OnOk result (out.new ≡ S.with out.old (state_reading (state_of state.now))) }
     ensures err { OnErr result (S.failed out.old out.new) }
 {

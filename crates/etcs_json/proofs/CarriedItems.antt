@@ -14,14 +14,14 @@ use Rattle.etcs_vars.proofs.Apart.{cut}
 use Rattle.etcs_vars.proofs.Languages.{Same, same_back}
 use Rattle.etcs_vars.proofs.Prefixes.{admits_parts}
 use Rattle.etcs_packets.specs.PacketReadings.{packets_reading}
-use Rattle.etcs_sequence.specs.Stages.{Stage, Feeds, finished}
-use Rattle.etcs_radio.specs.Bodies.{run_of_head}
+use Rattle.etcs_sequence.specs.Progress.{Progress, Feeds, finished}
+use Rattle.etcs_radio.specs.Bodies.{head_variables}
 use Rattle.etcs_radio.specs.declared.message.Content.{Content}
 use Rattle.etcs_radio.specs.Messages.{MessageValue, typed_message, kept_message, MessageReads, MessageLanguage, IsMessage, message_value}
 use Rattle.etcs_radio.proofs.Bytes.{typed_length, kept_length}
 use Rattle.etcs_telegram.specs.declared.size.Size.{Size}
 use Rattle.etcs_telegram.specs.declared.size.Size.TheVariants as size
-use Rattle.etcs_telegram.specs.Telegrams.{IsTelegram, ReadsAs, TelegramLanguage, TelegramParts, TelegramValue, telegram_value, user_bits, pad_bits}
+use Rattle.etcs_telegram.specs.Telegrams.{IsTelegram, ReadsAs, TelegramLanguage, TelegramContent, TelegramValue, telegram_value, user_bits, pad_bits}
 use Rattle.etcs_telegram.proofs.SameReadings.{viable_along, owner_along}
 use Rattle.etcs_telegram.proofs.Spellings.{whole_length}
 use Rattle.etcs_text.specs.declared.entry.Kind.{Kind}
@@ -76,7 +76,7 @@ pub headed : (m : MessageValue) (r : Reading) → MessageReads m r → Headed r
 headed (typed_message nid h body vs padding) r x = record {
   nid = nid;
   len = x.len;
-  rest = run_of_head h ++ body ++ packets_reading vs ++ kept PADDING padding;
+  rest = head_variables h ++ body ++ packets_reading vs ++ kept PADDING padding;
   is = x.reading_is;
   small = (admits_parts L_MESSAGE x.len x.head_admitted.1.0).1;
   long = omega (arith, ap (λ (q : Reading). length (spelled q)) x.reading_is ∙ typed_length nid x.len h body vs padding, x.bytes);
@@ -116,7 +116,7 @@ all_taken kind b e r d long reads is =
     let none : d ≡ [] = nil_from_length d (omega (arith, same, ap (λ (x : List Bool). length x) is, length-append b d)) in
     is ∙ ap (λ (x : List Bool). b ++ x) none ∙ append-nil b
 
-module _ {V W : Type 0} (Reads : W → Reading → Type 0) (value : V → W) (IsValue : V → Type 0) (least : ℕ) (item : W → EntryValue) (kind : Kind) (same : Same (readings_of Reads) (Language kind)) (reads : (w : W) (r : Reading) → Reads w r → EntryReads kind (item w) r) (b : List Bool) (long : HasLength kind b) (answer : Result Fed ReadFault) (at : Stage V) (fed : Feeds Reads value IsValue least [] b answer at) where
+module _ {V W : Type 0} (Reads : W → Reading → Type 0) (value : V → W) (IsValue : V → Type 0) (least : ℕ) (item : W → EntryValue) (kind : Kind) (same : Same (readings_of Reads) (Language kind)) (reads : (w : W) (r : Reading) → Reads w r → EntryReads kind (item w) r) (b : List Bool) (long : HasLength kind b) (answer : Result Fed ReadFault) (at : Progress V) (fed : Feeds Reads value IsValue least [] b answer at) where
   abbrev Fed_by : Result Fed ReadFault → Type 0
   Fed_by a = Feeds Reads value IsValue least [] b a at
 
@@ -135,7 +135,7 @@ module _ {V W : Type 0} (Reads : W → Reading → Type 0) (value : V → W) (Is
   all_read k v e end =
       let f : Fed_by (Ok (Done k)) = subst Fed_by e fed in
       let (w, is, made, few, (in_all, r, l, taken)) = f in
-      let one : w ≡ v = (let two : ◌≡◌ {A = Stage V} (finished w) (finished v) = sym is ∙ end in cc) in
+      let one : w ≡ v = (let two : ◌≡◌ {A = Progress V} (finished w) (finished v) = sym is ∙ end in cc) in
       let own = reads (value w) r l in
       let rest = drop (0 + 8 * k) b in
       let whole : spelled r ++ rest ≡ b = ap (λ (x : List Bool). x ++ rest) taken ∙ take-append-drop (0 + 8 * k) b in
@@ -151,13 +151,13 @@ module _ {V W : Type 0} (Reads : W → Reading → Type 0) (value : V → W) (Is
       let none : NoneYet (Language kind) b = λ k le (r, l, is). f.1.0.0 k le (r, (same r).1 l, is) in
       ((none, f.1.0.1, λ v. f.1.0.2 (viable_along (Language kind) (readings_of Reads) back _ v)), owner_along (readings_of Reads) (Language kind) same _ x f.1.1)
 
-pub record Outcomes {V : Type 0} (kind : Kind) (item : V → EntryValue) (b : List Bool) (answer : Result Fed ReadFault) (at : Stage V) : Type 0 where
+pub record Outcomes {V : Type 0} (kind : Kind) (item : V → EntryValue) (b : List Bool) (answer : Result Fed ReadFault) (at : Progress V) : Type 0 where
   pub not_more : answer ≡ Ok More → ⊥
   pub not_unfinished : (k : ℕ) → answer ≡ Ok (Done k) → ((v : V) → at ≡ finished v → ⊥) → ⊥
   pub all_read : (k : ℕ) (v : V) → answer ≡ Ok (Done k) → at ≡ finished v → (r : Reading) × EntryReads kind (item v) r × (spelled r ≡ b)
   pub refused_at : (i : ℕ) (x : Var) → answer ≡ Err (Refused i x) → IsOutcome (EntryReads kind) b (refused i x)
 
-pub telegram_outcomes : (s z : Size) (b : List Bool) (answer : Result Fed ReadFault) (at : Stage TelegramParts) → HasLength (kind_of s) b → z ≡ s → Feeds (ReadsAs z) telegram_value IsTelegram 50 [] b answer at → Outcomes (kind_of s) (λ t. of_telegram (telegram_value t)) b answer at
+pub telegram_outcomes : (s z : Size) (b : List Bool) (answer : Result Fed ReadFault) (at : Progress TelegramContent) → HasLength (kind_of s) b → z ≡ s → Feeds (ReadsAs z) telegram_value IsTelegram 50 [] b answer at → Outcomes (kind_of s) (λ t. of_telegram (telegram_value t)) b answer at
 telegram_outcomes s z b answer at long is fed =
     let own = subst (λ (x : Size). Feeds (ReadsAs x) telegram_value IsTelegram 50 [] b answer at) is fed in
     let reads : (t : TelegramValue) (r : Reading) → ReadsAs s t r → EntryReads (kind_of s) (of_telegram t) r = λ t r h. (ap kind_of h.0, h.1) in
@@ -168,7 +168,7 @@ telegram_outcomes s z b answer at long is fed =
       refused_at = refused_at (ReadsAs s) telegram_value IsTelegram 50 of_telegram (kind_of s) (same_telegrams s) reads b long answer at own;
     }
 
-pub message_outcomes : (b : List Bool) (answer : Result Fed ReadFault) (at : Stage Content) → HasLength kind_is.Radio b → Feeds MessageReads message_value IsMessage 18 [] b answer at → Outcomes kind_is.Radio (λ m. of_message (message_value m)) b answer at
+pub message_outcomes : (b : List Bool) (answer : Result Fed ReadFault) (at : Progress Content) → HasLength kind_is.Radio b → Feeds MessageReads message_value IsMessage 18 [] b answer at → Outcomes kind_is.Radio (λ m. of_message (message_value m)) b answer at
 message_outcomes b answer at long fed =
     let reads : (m : MessageValue) (r : Reading) → MessageReads m r → EntryReads kind_is.Radio (of_message m) r = λ m r h. (refl, h) in
     record {

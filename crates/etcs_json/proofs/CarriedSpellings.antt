@@ -20,7 +20,7 @@ use Rattle.etcs_radio.specs.declared.body.Body.{Body}
 use Rattle.etcs_radio.specs.declared.body.RadioHead.{RadioHead}
 use Rattle.etcs_radio.specs.declared.message.Content.{Content}
 use Rattle.etcs_radio.specs.declared.message.Content.TheVariants.{Typed, Kept}
-use Rattle.etcs_radio.specs.Bodies.{body_reading, nid_of_body, run_of_head}
+use Rattle.etcs_radio.specs.Bodies.{body_reading, nid_of_body, head_variables}
 use Rattle.etcs_radio.specs.Messages.{MessageValue, typed_message, kept_message, MessageReads, TypedReads, KeptReads, message_value, head_reading, all_bits, padding_room}
 use Rattle.etcs_radio.specs.Readings.{body_of}
 use Rattle.etcs_radio.specs.Readings as radio
@@ -132,7 +132,7 @@ message_named nid h body vs padding r ds old new x is trees packets renames =
     let small : x.len < 2 ^ 10 = (admits_parts L_MESSAGE x.len x.head_admitted.1.0).1 in
     let bytes : 75 + length (spelled body) + length (spelled (packets_reading vs)) + length padding ≡ 8 * x.len = omega (arith, x.bytes, same_long vs) in
     let long : length (spelled whole) ≡ 8 * x.len = typed_length nid x.len h body vs padding ∙ bytes in
-    ((x.len, bytes, new_all), subst (λ (b : List Bool). HasLength kind_is.Radio b) (sym new_all) (message_long whole nid x.len (run_of_head h ++ body ++ packets_reading vs ++ pad) refl small long))
+    ((x.len, bytes, new_all), subst (λ (b : List Bool). HasLength kind_is.Radio b) (sym new_all) (message_long whole nid x.len (head_variables h ++ body ++ packets_reading vs ++ pad) refl small long))
 
 as_radio : (kind : Kind) (o : EntryValue) (b : List Bool) → kind_is.Radio ≡ kind → LooseSpells o b × HasLength kind_is.Radio b → LooseSpells o b × HasLength kind b
 as_radio kind o b e h = (h.0, subst (λ (k : Kind). HasLength k b) e h.1)

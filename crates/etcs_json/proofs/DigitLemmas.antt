@@ -36,7 +36,7 @@ are_digits : (k n : ℕ) → All IsDigit (hex_digits k n)
 are_digits zero n = All-nil IsDigit
 are_digits (suc k) n = All-push IsDigit (hex_digits k (n / 16)) (hex_digit (n % 16)) (are_digits k (n / 16)) (n % 16, omega arith, refl)
 
--- what is no digit stands in no number
+-- what is no digit is in no number
 pub not_digit : (text : List ℕ) (k i n c : ℕ) → i < length text → c ≡ get_or text i 0 → map lower text ≡ hex_digits k n → ((d : ℕ) → d < 16 → lower c ≡ hex_digit d → ⊥) → ⊥
 not_digit text k i n c inside at e other =
     let l = length-map text lower in
@@ -72,7 +72,7 @@ one_digit a b h k e = by_tests (nat_lt a 10) (nat_lt b 10) refl refl
     by_tests false true x y = let e' = rw (x, y) at e in omega (arith, e', ltb-true b 10 y)
     by_tests false false x y = let e' = rw (x, y) at e in omega (arith, e')
 
--- so many digits are of one number
+-- this many digits are of one number
 pub one_hex : (k n m : ℕ) → n < 16 ^ k → m < 16 ^ k → hex_digits k n ≡ hex_digits k m → n ≡ m
 one_hex zero n m h g e = omega (arith, h, g)
 one_hex (suc k) n m h g e =

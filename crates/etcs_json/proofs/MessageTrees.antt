@@ -18,7 +18,7 @@ use Rattle.etcs_radio.specs.declared.body.Body.{Body}
 use Rattle.etcs_radio.specs.declared.body.RadioHead.{RadioHead}
 use Rattle.etcs_radio.specs.declared.message.Content.{Content}
 use Rattle.etcs_radio.specs.declared.message.Content.TheVariants.{Typed, Kept}
-use Rattle.etcs_radio.specs.Bodies.{IsBody, body_reading, nid_of_body, body_bits, run_of_head}
+use Rattle.etcs_radio.specs.Bodies.{IsBody, body_reading, nid_of_body, body_bits, head_variables}
 use Rattle.etcs_radio.specs.Messages.{MessageValue, typed_message, kept_message, TypedReads, KeptReads, MessageReads, IsAdmitted, IsMessage, all_bits, padding_room, padded_fault, kept_fault, message_value, front_of}
 use Rattle.etcs_bits.proofs.Numbers.{bit-eqb}
 use Rattle.etcs_radio.specs.Fronts.{head_by, IsHeadNumbers}
@@ -48,7 +48,7 @@ kept_read nid b small fine = (message_reading (Kept nid b), message_reads (Kept 
 
 -- ---- A typed message.
 
-pub typed_read : (head : RadioHead) (body : Body) (ps : List Packet) (padding : ℕ) → padded_fault head body ps padding ≡ None → IsAdmitted (run_of_head head) → IsBody body → All IsMade ps → All IsPacket (map packet_value ps) → (r : Reading) × MessageReads (message_value (Typed head body ps padding)) r
+pub typed_read : (head : RadioHead) (body : Body) (ps : List Packet) (padding : ℕ) → padded_fault head body ps padding ≡ None → IsAdmitted (head_variables head) → IsBody body → All IsMade ps → All IsPacket (map packet_value ps) → (r : Reading) × MessageReads (message_value (Typed head body ps padding)) r
 typed_read head body ps padding fine a own made packets = (
   message_reading (Typed head body ps padding),
   message_reads (Typed head body ps padding) (record { no_fault = fine; time = (admits_parts T_TRAIN head.t_train a.0).1; own = own; made = made; packets = packets }),
@@ -94,7 +94,7 @@ pub record TypedSays (m : MessageValue) (x y z w u v : Data) : Type 0 where
   pub packets_is : u ≡ array trees
   pub padding_is : v ≡ bits_tree padding
   pub own : ArePairTrees body pairs
-  pub header : ArePairTrees (run_of_head head) heads
+  pub header : ArePairTrees (head_variables head) heads
   pub all : ArePacketTrees packets trees
 
 pub typed_message_says : (m : MessageValue) (x y z w u v : Data) → IsMessageTree m (message_tree x y z w u v) → TypedSays m x y z w u v
@@ -121,7 +121,7 @@ typed_message_says (typed_message nid head body vs padding) x y z w u v (fs, hs,
 typed_message_says (kept_message nid b) x y z w u v e = absurd cc
 
 -- a message of such parts
-pub typed_message_some : (x y w u v : Data) (o : Option Content) (nid of_body : ℕ) (head : RadioHead) (body : Reading) (us : List PacketValue) (padding : List Bool) → of_body ≡ nid → w ≡ plain nid → ((fs : Items) × (x ≡ array fs) × ArePairTrees body fs) → ((hs : Items) × (y ≡ array hs) × IsAdmitted (run_of_head head) × ArePairTrees (run_of_head head) hs) → ((vs : List PacketValue) × (ds : Items) × (us ≡ map unnamed vs) × (u ≡ array ds) × ArePacketTrees vs ds) → v ≡ bits_tree padding → IfSome o (λ m. message_value m ≡ typed_message of_body head body us padding)
+pub typed_message_some : (x y w u v : Data) (o : Option Content) (nid of_body : ℕ) (head : RadioHead) (body : Reading) (us : List PacketValue) (padding : List Bool) → of_body ≡ nid → w ≡ plain nid → ((fs : Items) × (x ≡ array fs) × ArePairTrees body fs) → ((hs : Items) × (y ≡ array hs) × IsAdmitted (head_variables head) × ArePairTrees (head_variables head) hs) → ((vs : List PacketValue) × (ds : Items) × (us ≡ map unnamed vs) × (u ≡ array ds) × ArePacketTrees vs ds) → v ≡ bits_tree padding → IfSome o (λ m. message_value m ≡ typed_message of_body head body us padding)
     → IfSome o (λ m. (n : MessageValue) × (message_value m ≡ unnamed_message n) × IsMessageTree n (message_tree x y (string (codes "radio")) w u v))
 typed_message_some x y w u v None nid of_body head body us padding own number fields header list padded is = tt
 typed_message_some x y w u v (Some m) nid of_body head body us padding own number (fs, fields, ft) (hs, header, admitted, ht) (vs, ds, named, list, pt) padded is =
@@ -146,8 +146,8 @@ abbrev pub head_row : List Var
 head_row = T_TRAIN ∷ M_ACK ∷ NID_LRBG ∷ []
 
 pub record HeadRead (r : Reading) : Type 0 where
-  pub is : r ≡ run_of_head (head_by (numbers r))
-  pub admitted : IsAdmitted (run_of_head (head_by (numbers r)))
+  pub is : r ≡ head_variables (head_by (numbers r))
+  pub admitted : IsAdmitted (head_variables (head_by (numbers r)))
   pub fine : IsHeadNumbers (numbers r)
 
 head_fields : (r : Reading) → ReadsFields head_row r → HeadRead r
@@ -157,7 +157,7 @@ head_fields r (t, r1, a, e1, (m, r2, b, e2, (l, r3, k, e3, e4))) =
     let ack = bit-eqb m (admits_parts M_ACK m b).1 in
     let time = (admits_parts T_TRAIN t a).1 in
     let group = (admits_parts NID_LRBG l k).1 in
-    let is : front ≡ run_of_head (head_by (numbers front)) = rw ack refl in
+    let is : front ≡ head_variables (head_by (numbers front)) = rw ack refl in
     let admitted : IsAdmitted front = (a, (b, (k, tt))) in
     let made : HeadRead front = record { is = is; admitted = subst IsAdmitted is admitted; fine = record { three = omega arith; time = time; group = group } } in
     subst HeadRead (sym all) made
@@ -165,27 +165,27 @@ head_fields r (t, r1, a, e1, (m, r2, b, e2, (l, r3, k, e3, e4))) =
 pub head_read : (r : Reading) → Reads (as_row head_row) [] r → HeadRead r
 head_read r h = head_fields r (row_fields head_row [] r h)
 
-head_reads : (h : RadioHead) → IsAdmitted (run_of_head h) → Reads (as_row head_row) [] (run_of_head h)
-head_reads h (a, (b, (k, none))) = fields_row head_row [] (run_of_head h) (h.t_train, _, a, refl, (bit h.m_ack, _, b, refl, (h.nid_lrbg, _, k, refl, refl)))
+head_reads : (h : RadioHead) → IsAdmitted (head_variables h) → Reads (as_row head_row) [] (head_variables h)
+head_reads h (a, (b, (k, none))) = fields_row head_row [] (head_variables h) (h.t_train, _, a, refl, (bit h.m_ack, _, b, refl, (h.nid_lrbg, _, k, refl, refl)))
 
-pub head_some : (d : Data) (f g : List ℕ) (h : RadioHead) → SaysNumbers (as_row head_row) d f → g ≡ f → h ≡ head_by g → (hs : Items) × (d ≡ array hs) × IsAdmitted (run_of_head h) × ArePairTrees (run_of_head h) hs
+pub head_some : (d : Data) (f g : List ℕ) (h : RadioHead) → SaysNumbers (as_row head_row) d f → g ≡ f → h ≡ head_by g → (hs : Items) × (d ≡ array hs) × IsAdmitted (head_variables h) × ArePairTrees (head_variables h) hs
 head_some d f g h (r, ps, is, reads, trees, nums) same e =
     let k = head_read r reads in
     let h_is : h ≡ head_by (numbers r) = e ∙ ap head_by (same ∙ sym nums) in
-    let trees' : ArePairTrees (run_of_head (head_by (numbers r))) ps = subst (λ (x : Reading). ArePairTrees x ps) k.is trees in
-    (ps, is, subst (λ (x : RadioHead). IsAdmitted (run_of_head x)) (sym h_is) k.admitted, subst (λ (x : RadioHead). ArePairTrees (run_of_head x) ps) (sym h_is) trees')
+    let trees' : ArePairTrees (head_variables (head_by (numbers r))) ps = subst (λ (x : Reading). ArePairTrees x ps) k.is trees in
+    (ps, is, subst (λ (x : RadioHead). IsAdmitted (head_variables x)) (sym h_is) k.admitted, subst (λ (x : RadioHead). ArePairTrees (head_variables x) ps) (sym h_is) trees')
 
 pub head_numbers : (d : Data) (f g : List ℕ) → SaysNumbers (as_row head_row) d f → g ≡ f → IsHeadNumbers g
 head_numbers d f g (r, ps, is, reads, trees, nums) same =
     let k = head_read r reads in
     subst IsHeadNumbers (nums ∙ sym same) k.fine
 
-pub head_only : (d : Data) (o : Option (List ℕ)) (h : RadioHead) (hs : Items) → OnlyNumbers (as_row head_row) d o → IsAdmitted (run_of_head h) → d ≡ array hs → ArePairTrees (run_of_head h) hs → o ≡ Some (numbers (run_of_head h))
-head_only d o h hs only a is t = only (run_of_head h) hs is (head_reads h a) t
+pub head_only : (d : Data) (o : Option (List ℕ)) (h : RadioHead) (hs : Items) → OnlyNumbers (as_row head_row) d o → IsAdmitted (head_variables h) → d ≡ array hs → ArePairTrees (head_variables h) hs → o ≡ Some (numbers (head_variables h))
+head_only d o h hs only a is t = only (head_variables h) hs is (head_reads h a) t
 
-pub head_same : (f g : List ℕ) (k h : RadioHead) → Some f ≡ Some (numbers (run_of_head h)) → g ≡ f → k ≡ head_by g → k ≡ h
+pub head_same : (f g : List ℕ) (k h : RadioHead) → Some f ≡ Some (numbers (head_variables h)) → g ≡ f → k ≡ head_by g → k ≡ h
 head_same f g k h two same e =
-    let nums : f ≡ numbers (run_of_head h) = cc in
+    let nums : f ≡ numbers (head_variables h) = cc in
     e ∙ ap head_by (same ∙ nums) ∙ head_back h h.t_train (bit h.m_ack) h.nid_lrbg [] refl refl refl
 
 -- ---- An item.

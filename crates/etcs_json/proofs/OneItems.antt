@@ -13,7 +13,7 @@ use Rattle.etcs_tables.specs.Rows.{message_row_to}
 use Rattle.etcs_packets.specs.PacketValues.{PacketValue, IsPacket}
 use Rattle.etcs_sequence.specs.Contents.{Carries}
 use Rattle.etcs_radio.specs.declared.body.RadioHead.{RadioHead}
-use Rattle.etcs_radio.specs.Bodies.{run_of_head}
+use Rattle.etcs_radio.specs.Bodies.{head_variables}
 use Rattle.etcs_radio.specs.Messages.{MessageValue, typed_message, kept_message, MessageReads, head_reading}
 use Rattle.etcs_radio.proofs.Spelling.{admitted_fit as head_fit}
 use Rattle.etcs_telegram.specs.declared.size.Size.{Size}
@@ -54,15 +54,15 @@ telegram_same t u d r q x y sized (hs, ps, is, head, packets) (hs', ps', is', he
 head_from : List ℕ → RadioHead
 head_from ns = record { t_train = slice_index ns 0; m_ack = slice_index ns 1 == 1; nid_lrbg = slice_index ns 2 }
 
-ack_back : (b : Bool) (h : RadioHead) → h.m_ack ≡ b → head_from (numbers (run_of_head h)) ≡ h
+ack_back : (b : Bool) (h : RadioHead) → h.m_ack ≡ b → head_from (numbers (head_variables h)) ≡ h
 unfolding head_from
 ack_back true h e = rw e refl
 ack_back false h e = rw e refl
 
-head_same : (h k : RadioHead) → run_of_head h ≡ run_of_head k → h ≡ k
+head_same : (h k : RadioHead) → head_variables h ≡ head_variables k → h ≡ k
 head_same h k e = sym (ack_back h.m_ack h refl) ∙ ap (λ (r : Reading). head_from (numbers r)) e ∙ ack_back k.m_ack k refl
 
-run_fit : (nid len : ℕ) (h : RadioHead) → AllFit (head_reading nid len h) → AllFit (run_of_head h)
+run_fit : (nid len : ℕ) (h : RadioHead) → AllFit (head_reading nid len h) → AllFit (head_variables h)
 run_fit nid len h f = f.1.1
 
 carried : (vs : List PacketValue) → All (Carries (carrier.Message ToTrain)) vs → All IsPacket vs
@@ -79,7 +79,7 @@ message_same (typed_message nid head body vs padding) (typed_message nid' head' 
     let one = row_same x.row body body' fs x.body_reads (subst (λ (l : Layout). Reads l [] body') row y.body_reads) fields (rw bodies at fields') in
     let fit = run_fit nid x.len head (head_fit (head_reading nid x.len head) x.head_admitted) in
     let fit' = run_fit nid' y.len head' (head_fit (head_reading nid' y.len head') y.head_admitted) in
-    let run = pairs_same (run_of_head head) (run_of_head head') hs (refl, λ _. (refl, λ _. (refl, λ _. tt))) fit fit' header (rw heads at header') in
+    let run = pairs_same (head_variables head) (head_variables head') hs (refl, λ _. (refl, λ _. (refl, λ _. tt))) fit fit' header (rw heads at header') in
     let same = head_same head head' run in
     let list = packets_same vs vs' ps (carried (map unnamed vs) x.run.carried) (carried (map unnamed vs') y.run.carried) packets (rw lists at packets') in
     let last = bits_same padding' padding ends in
@@ -107,7 +107,7 @@ one_loose kind d (of_message m) (of_message n) (r, (is, x)) (r', (is', y)) h k =
 
 message_own : (m : MessageValue) → IsMessageTree m (json_tree (of_message m))
 message_own (typed_message nid head body vs padding) =
-    (items_of (map pair_tree body), items_of (map pair_tree (run_of_head head)), items_of (map packet_tree vs), refl, pairs_own body, pairs_own (run_of_head head), packets_own vs)
+    (items_of (map pair_tree body), items_of (map pair_tree (head_variables head)), items_of (map packet_tree vs), refl, pairs_own body, pairs_own (head_variables head), packets_own vs)
 message_own (kept_message nid b) = refl
 
 pub tree_of : (e : EntryValue) → IsTreeOf e (json_tree e)

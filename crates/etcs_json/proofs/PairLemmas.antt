@@ -59,7 +59,7 @@ two_items (v ∷ w ∷ u ∷ list) x y e a b = absurd (omega (arith, e))
 
 -- ---- The pairs of a row.
 
--- pairs of what is left of the row are what is left of its pairs, behind the numbers f
+-- pairs of what is left of the row are what is left of its pairs, after the numbers f
 pub record Goes (row : Layout) (ds : Items) (f : List ℕ) (left : Layout) (es : Items) : Type 0 where
   pub looks_well : IsTrue (looks None left)
   pub on : (q : Reading) → Reads left [] q → ArePairTrees q es → (r : Reading) × Reads row [] r × ArePairTrees r ds × (numbers r ≡ f ++ numbers q)
@@ -121,7 +121,7 @@ only_next left v w n d r e only first a pair =
     let same : v ≡ w = cc in
     only n (below_all v n a) (subst (λ (x : Var). IsPairTree (x, n) d) same pair)
 
--- behind a pair
+-- after a pair
 next_pair : (row : Layout) (ds : Items) (f : List ℕ) (v : Var) (rest : Layout) (d : Data) (es : Items) (n : ℕ) → Goes row ds f (one v rest) (item d es) → IsTrue (admits v n) → IsPairTree (v, n) d → ((m : ℕ) → IsTrue (admits v m) → IsPairTree (v, m) d → Some n ≡ Some m) → IsTrue (looks None (onto n rest whole)) → Goes row ds (f ++ n ∷ []) (onto n rest whole) es
 next_pair row ds f v rest d es n g a pair only l = record {
   looks_well = l;

@@ -18,7 +18,7 @@ use Rattle.etcs_packets.specs.PacketValues as packet
 use Rattle.etcs_packets.specs.PacketReadings.{packet_reading, packets_reading}
 use Rattle.etcs_rows.specs.declared.frames.Carrier.TheVariants as carrier
 use Rattle.etcs_sequence.specs.Contents.{closing}
-use Rattle.etcs_radio.specs.Bodies.{run_of_head}
+use Rattle.etcs_radio.specs.Bodies.{head_variables}
 use Rattle.etcs_radio.specs.Messages.{MessageValue, typed_message, kept_message, MessageReads, head_reading}
 use Rattle.etcs_radio.proofs.Spelling.{regular as radio}
 use Rattle.etcs_telegram.specs.declared.size.Size.{Size}
@@ -130,7 +130,7 @@ message_plain (typed_message nid head body vs padding) r x =
     let whole : AllFit (((front ++ body) ++ packets_reading vs) ++ kept PADDING padding) = subst AllFit x.reading_is (radio.fit r (typed_message nid head body vs padding, x)) in
     let run = fit_parts (front ++ body) (packets_reading vs) (fit_parts ((front ++ body) ++ packets_reading vs) (kept PADDING padding) whole).0 in
     let both = fit_parts front body run.0 in
-    ((refl, pairs_plain body both.1, (refl, pairs_plain (run_of_head head) both.0.1.1, (refl, refl, (refl, small NID_MESSAGE nid both.0.0, (refl, packets_plain vs run.1, (refl, bits_plain padding, tt)))))), refl)
+    ((refl, pairs_plain body both.1, (refl, pairs_plain (head_variables head) both.0.1.1, (refl, refl, (refl, small NID_MESSAGE nid both.0.0, (refl, packets_plain vs run.1, (refl, bits_plain padding, tt)))))), refl)
 message_plain (kept_message nid b) r x = ((refl, bits_plain b, (refl, refl, (refl, omega (arith, x.small), tt))), refl)
 
 entry_plain : (e : EntryValue) (r : Reading) → Spells e r → IsPlain (json_tree e)
@@ -139,7 +139,7 @@ entry_plain (of_message m) r x = message_plain m r x
 
 entry_flat : (e : EntryValue) → depth (json_tree e) ≤ max_depth
 entry_flat (of_telegram t) = omega (arith, pairs_flat (header_reading t.header), packets_flat t.packets)
-entry_flat (of_message (typed_message nid head body vs padding)) = omega (arith, pairs_flat body, pairs_flat (run_of_head head), packets_flat vs)
+entry_flat (of_message (typed_message nid head body vs padding)) = omega (arith, pairs_flat body, pairs_flat (head_variables head), packets_flat vs)
 entry_flat (of_message (kept_message nid b)) = omega arith
 
 -- ---- What is written of them.

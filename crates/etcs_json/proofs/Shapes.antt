@@ -15,7 +15,7 @@ use Rattle.etcs_radio.specs.declared.body.Body.{Body}
 use Rattle.etcs_radio.specs.declared.body.RadioHead.{RadioHead}
 use Rattle.etcs_radio.specs.declared.message.Content.{Content}
 use Rattle.etcs_radio.specs.declared.message.Content.TheVariants.{Typed, Kept}
-use Rattle.etcs_radio.specs.Bodies.{body_reading, run_of_head}
+use Rattle.etcs_radio.specs.Bodies.{body_reading, head_variables}
 use Rattle.etcs_radio.specs.Messages.{message_value}
 use Rattle.etcs_radio.specs.Readings.{nid_of_message, head_of, body_of, kept_of, packets_of, padding_bits_of, padding_of}
 use Rattle.etcs_text.specs.Trees.{pair_tree, pairs_tree, bits_tree, packet_tree, packets_tree, message_tree}
@@ -66,14 +66,14 @@ typed_has (Typed head body ps padding) e = (head, body, refl, refl)
 typed_has (Kept nid b) e = absurd cc
 
 typed_tree : (m : Content) (head : RadioHead) (body : Body) → kept_of m ≡ None → head_of m ≡ Some head → body_of m ≡ Some body
-    → typed_members (pairs_tree (body_reading body)) (pairs_tree (run_of_head head)) (nid_of_message m) (packets_tree (map packet_value (packets_of m))) (bits_tree (num (padding_bits_of m) (padding_of m))) ≡ message_tree (message_value m)
+    → typed_members (pairs_tree (body_reading body)) (pairs_tree (head_variables head)) (nid_of_message m) (packets_tree (map packet_value (packets_of m))) (bits_tree (num (padding_bits_of m) (padding_of m))) ≡ message_tree (message_value m)
 typed_tree (Typed head body ps padding) h b k e f = let one : h ≡ head = cc in let two : b ≡ body = cc in rw (one, two) refl
 typed_tree (Kept nid bits) h b k e f = absurd cc
 
 -- a typed message by its parts
 pub typed_ok : {E : Type 0} (r : Result Value E) (m : Content) (head : RadioHead) (body : Body) (fields header packets padding : Data) (nid : ℕ)
     → kept_of m ≡ None → head_of m ≡ Some head → body_of m ≡ Some body
-    → fields ≡ pairs_tree (body_reading body) → header ≡ pairs_tree (run_of_head head) → nid ≡ nid_of_message m → packets ≡ packets_tree (map packet_value (packets_of m)) → padding ≡ bits_tree (num (padding_bits_of m) (padding_of m))
+    → fields ≡ pairs_tree (body_reading body) → header ≡ pairs_tree (head_variables head) → nid ≡ nid_of_message m → packets ≡ packets_tree (map packet_value (packets_of m)) → padding ≡ bits_tree (num (padding_bits_of m) (padding_of m))
     → IfOk r (λ v. view v ≡ typed_members fields header nid packets padding) → IfOk r (λ v. view v ≡ message_tree (message_value m))
 typed_ok r m head body fields header packets padding nid k e f a b n p q h =
     tree_same r (typed_members fields header nid packets padding) (message_tree (message_value m)) ((λ i. typed_members (a i) (b i) (n i) (p i) (q i)) ∙ typed_tree m head body k e f) h

@@ -12,7 +12,7 @@ use Rattle.etcs_packets.specs.PacketValues.{PacketValue, IsPacket, packet_value}
 use Rattle.etcs_telegram.specs.declared.size.Size.{Size}
 use Rattle.etcs_telegram.specs.declared.size.Size.TheVariants.{Short, Long}
 use Rattle.etcs_telegram.specs.Headers.{header_fault, IsHeaderNumbers}
-use Rattle.etcs_telegram.specs.Telegrams.{HeaderParts, IsAdmitted, TelegramReads, TelegramValue, TelegramParts, telegram_value, header_row, header_of, header_reading, closed_reading, closed_bits, packet_room, pad_bits, user_bits}
+use Rattle.etcs_telegram.specs.Telegrams.{HeaderValue, IsAdmitted, TelegramReads, TelegramValue, TelegramContent, telegram_value, header_row, header_of, header_reading, closed_reading, closed_bits, packet_room, pad_bits, user_bits}
 use Rattle.etcs_telegram.proofs.HeaderLemmas.{header_length, header_back}
 use Rattle.etcs_telegram.proofs.Rows.{row_header, admitted_row, header_reads}
 use Rattle.etcs_radio.proofs.Fronts.{as_row, row_fields, fields_row}
@@ -43,7 +43,7 @@ header_read r h =
     let fine : IsHeaderNumbers (numbers (header_reading k)) = record { ten = refl; admitted = a' } in
     record { is = is; admitted = a'; fine = subst IsHeaderNumbers (sym ns) fine }
 
-pub header_row_of : (h : HeaderParts) → IsAdmitted (header_reading h) → Reads (as_row header_row) [] (header_reading h)
+pub header_row_of : (h : HeaderValue) → IsAdmitted (header_reading h) → Reads (as_row header_row) [] (header_reading h)
 header_row_of h a = fields_row header_row [] (header_reading h) (header_reads h a)
 
 pub header_fine : (ns : List ℕ) → IsHeaderNumbers ns → header_fault (slice_index ns 1) (slice_index ns 3) (slice_index ns 4) (slice_index ns 5) (slice_index ns 6) (slice_index ns 7) (slice_index ns 8) ≡ None
@@ -78,22 +78,22 @@ values_at X (Some y) x g vs e h =
     let two : g y ≡ vs = cc in
     sym two ∙ ap g same
 
-pub header_some : (d : Data) (f g : List ℕ) (h : HeaderParts) → SaysNumbers (as_row header_row) d f → g ≡ f → h ≡ header_of g → (hs : Items) × (d ≡ array hs) × IsAdmitted (header_reading h) × ArePairTrees (header_reading h) hs
+pub header_some : (d : Data) (f g : List ℕ) (h : HeaderValue) → SaysNumbers (as_row header_row) d f → g ≡ f → h ≡ header_of g → (hs : Items) × (d ≡ array hs) × IsAdmitted (header_reading h) × ArePairTrees (header_reading h) hs
 header_some d f g h (r, ps, is, reads, trees, nums) same e =
     let k = header_read r reads in
     let h_is : h ≡ header_of (numbers r) = e ∙ ap header_of (same ∙ sym nums) in
     let trees' : ArePairTrees (header_reading (header_of (numbers r))) ps = subst (λ (x : Reading). ArePairTrees x ps) k.is trees in
-    (ps, is, subst (λ (x : HeaderParts). IsAdmitted (header_reading x)) (sym h_is) k.admitted, subst (λ (x : HeaderParts). ArePairTrees (header_reading x) ps) (sym h_is) trees')
+    (ps, is, subst (λ (x : HeaderValue). IsAdmitted (header_reading x)) (sym h_is) k.admitted, subst (λ (x : HeaderValue). ArePairTrees (header_reading x) ps) (sym h_is) trees')
 
 pub header_numbers : (d : Data) (f g : List ℕ) → SaysNumbers (as_row header_row) d f → g ≡ f → IsHeaderNumbers g
 header_numbers d f g (r, ps, is, reads, trees, nums) same =
     let k = header_read r reads in
     subst IsHeaderNumbers (nums ∙ sym same) k.fine
 
-pub header_only : (d : Data) (o : Option (List ℕ)) (h : HeaderParts) (hs : Items) → OnlyNumbers (as_row header_row) d o → IsAdmitted (header_reading h) → d ≡ array hs → ArePairTrees (header_reading h) hs → o ≡ Some (numbers (header_reading h))
+pub header_only : (d : Data) (o : Option (List ℕ)) (h : HeaderValue) (hs : Items) → OnlyNumbers (as_row header_row) d o → IsAdmitted (header_reading h) → d ≡ array hs → ArePairTrees (header_reading h) hs → o ≡ Some (numbers (header_reading h))
 header_only d o h hs only a is t = only (header_reading h) hs is (header_row_of h a) t
 
-pub header_same : (f g : List ℕ) (k h : HeaderParts) → Some f ≡ Some (numbers (header_reading h)) → g ≡ f → k ≡ header_of g → k ≡ h
+pub header_same : (f g : List ℕ) (k h : HeaderValue) → Some f ≡ Some (numbers (header_reading h)) → g ≡ f → k ≡ header_of g → k ≡ h
 header_same f g k h two same e =
     let nums : f ≡ numbers (header_reading h) = cc in
     e ∙ ap header_of (same ∙ nums) ∙ header_back h
@@ -124,7 +124,7 @@ telegram_stands size t d sized (r, reads) (u, is, tree) =
     (of_telegram u, ap of_telegram is, (r, (kinded, subst (λ (x : TelegramValue). TelegramReads x r) is reads)), tree)
 
 -- a telegram of such parts
-pub telegram_some : (x y w : Data) (o : Option TelegramParts) (size : Size) (h : HeaderParts) (us : List PacketValue) (fill : List Bool) → x ≡ bits_tree fill → ((hs : Items) × (y ≡ array hs) × IsAdmitted (header_reading h) × ArePairTrees (header_reading h) hs) → ((vs : List PacketValue) × (ds : Items) × (us ≡ map unnamed vs) × (w ≡ array ds) × ArePacketTrees vs ds) → IfSome o (λ t. telegram_value t ≡ record { size = size; header = h; packets = us; fill = fill })
+pub telegram_some : (x y w : Data) (o : Option TelegramContent) (size : Size) (h : HeaderValue) (us : List PacketValue) (fill : List Bool) → x ≡ bits_tree fill → ((hs : Items) × (y ≡ array hs) × IsAdmitted (header_reading h) × ArePairTrees (header_reading h) hs) → ((vs : List PacketValue) × (ds : Items) × (us ≡ map unnamed vs) × (w ≡ array ds) × ArePacketTrees vs ds) → IfSome o (λ t. telegram_value t ≡ record { size = size; header = h; packets = us; fill = fill })
     → IfSome o (λ t. (u : TelegramValue) × (telegram_value t ≡ unnamed_telegram u) × IsTelegramTree u (telegram_tree x y (string (kind_word size)) w))
 telegram_some x y w None size h us fill filled headed listed is = tt
 telegram_some x y w (Some t) size h us fill filled (hs, headed, admitted, header) (vs, ds, named, listed, packets) is =
@@ -165,7 +165,7 @@ telegram_room t r size ps fill h s p f =
     omega (arith, head, closed, filled, users, h.user_bits_is)
 
 -- parts that fill the room are a telegram
-pub parts_read : (size : Size) (header : HeaderParts) (ps : List Packet) (fill : List Bool) → IsAdmitted (header_reading header) → All IsPacket (map packet_value ps) → closed_bits ps + length fill ≡ packet_room size → (r : Reading) × TelegramReads (telegram_value (record { size = size; header = header; packets = ps; fill = fill })) r
+pub parts_read : (size : Size) (header : HeaderValue) (ps : List Packet) (fill : List Bool) → IsAdmitted (header_reading header) → All IsPacket (map packet_value ps) → closed_bits ps + length fill ≡ packet_room size → (r : Reading) × TelegramReads (telegram_value (record { size = size; header = header; packets = ps; fill = fill })) r
 parts_read size header ps fill a p room = (
   header_reading header ++ closed_reading (map packet_value ps) ++ kept FILL fill ++ kept PAD (replicate (pad_bits size) false),
   record { header_admitted = a; packets_hold = p; reading_is = refl; user_bits_is = filled size room },

@@ -8,7 +8,7 @@ use Rattle.etcs_vars.specs.Vars.{name}
 use Rattle.etcs_vars.specs.Reading.{Reading, Sent}
 use Rattle.etcs_packets.specs.PacketValues.{PacketValue, marker, typed, kept}
 use Rattle.etcs_telegram.specs.Telegrams.{TelegramValue, header_reading}
-use Rattle.etcs_radio.specs.Bodies.{run_of_head}
+use Rattle.etcs_radio.specs.Bodies.{head_variables}
 use Rattle.etcs_radio.specs.Messages.{MessageValue, typed_message, kept_message}
 use Rattle.etcs_text.specs.Entries.{EntryValue, of_telegram, of_message}
 use Rattle.etcs_text.specs.Show.{hex_digits, kind_word}
@@ -72,7 +72,7 @@ abbrev pub kept_message_tree : Data → Data → Data → Data
 kept_message_tree data' kind nid = object (member (codes "data") data' (member (codes "kind") kind (member (codes "nid") nid no_members)))
 
 abbrev pub IsMessageTree : MessageValue → Data → Type 0
-IsMessageTree (typed_message nid head body vs padding) d = (fs : Items) × (hs : Items) × (ps : Items) × (d ≡ message_tree (array fs) (array hs) (string (codes "radio")) (plain nid) (array ps) (bits_tree padding)) × ArePairTrees body fs × ArePairTrees (run_of_head head) hs × ArePacketTrees vs ps
+IsMessageTree (typed_message nid head body vs padding) d = (fs : Items) × (hs : Items) × (ps : Items) × (d ≡ message_tree (array fs) (array hs) (string (codes "radio")) (plain nid) (array ps) (bits_tree padding)) × ArePairTrees body fs × ArePairTrees (head_variables head) hs × ArePacketTrees vs ps
 IsMessageTree (kept_message nid b) d = d ≡ kept_message_tree (bits_tree b) (string (codes "radio")) (plain nid)
 
 -- d is the tree of the item

@@ -9,7 +9,7 @@ ghost use Rattle.etcs_tables.specs.declared.row.Way.TheVariants.{ToTrain};
 ghost use Rattle.etcs_tables.specs.Layouts.{Layout, Reads};
 ghost use Rattle.etcs_tables.specs.Rows.{message_row_to};
 ghost use Rattle.etcs_packets.specs.PacketValues.{IsPacket, packet_value, IsMade};
-ghost use Rattle.etcs_radio.specs.Bodies.{IsBody, body_reading, nid_of_body, run_of_head};
+ghost use Rattle.etcs_radio.specs.Bodies.{IsBody, body_reading, nid_of_body, head_variables};
 ghost use Rattle.etcs_radio.specs.Fronts.{IsHeadNumbers, head_by};
 ghost use Rattle.etcs_radio.specs.Messages.{IsAdmitted, KeptReads, MessageReads, MessageValue, TypedReads, kept_message, message_value, typed_message};
 ghost use Rattle.etcs_json.specs.Loose.{unnamed_message};
@@ -28,7 +28,7 @@ use etcs_vars::Var;
 use serde_json::Value;
 use std::alloc::{AllocError, Global};
 
-/// The header's variables behind NID_MESSAGE and L_MESSAGE, in the order of sending.
+/// The header's variables after NID_MESSAGE and L_MESSAGE, in the order of sending.
 static HEAD: [RowItem; 3] = [
     RowItem::One(Var::T_TRAIN),
     RowItem::One(Var::M_ACK),
@@ -49,8 +49,8 @@ fn head_of(numbers: &[u64]) -> RadioHead
 
 /// The header of the list of its pairs, if there is one.
 fn head_in(alloc: Global, value: &Value) -> Result<Option<RadioHead>, AllocError>
-    ensures some { IfOk result (λ o. IfSome o (λ h. (hs : Items) × (view value.now ≡ array hs) × IsAdmitted (run_of_head h) × ArePairTrees (run_of_head h) hs)) }
-    ensures only { IfOk result (λ o. (h : RadioHead) (hs : Items) → IsAdmitted (run_of_head h) → view value.now ≡ array hs → ArePairTrees (run_of_head h) hs → o ≡ Some h) }
+    ensures some { IfOk result (λ o. IfSome o (λ h. (hs : Items) × (view value.now ≡ array hs) × IsAdmitted (head_variables h) × ArePairTrees (head_variables h) hs)) }
+    ensures only { IfOk result (λ o. (h : RadioHead) (hs : Items) → IsAdmitted (head_variables h) → view value.now ≡ array hs → ArePairTrees (head_variables h) hs → o ≡ Some h) }
 {
     match numbers_in(alloc, Row { items: &HEAD }, value)? {
         Some(numbers) => Ok(Some(head_of(numbers.as_slice()))),
@@ -75,7 +75,7 @@ fn body_in(alloc: Global, nid: u8, value: &Value) -> Result<Option<Body>, AllocE
 
 /// The typed message of these parts, if there is one.
 fn typed_by(head: RadioHead, body: Body, packets: Vec<Packet>, padding: &Bits) -> Option<Message>
-    requires head { IsAdmitted (run_of_head head) }
+    requires head { IsAdmitted (head_variables head) }
     requires body { IsBody body }
     requires packets { All IsMade packets.items × All IsPacket (map packet_value packets.items) }
     ensures some { IfSome result (λ m. message_value m ≡ typed_message (nid_of_body body) head (body_reading body) (map packet_value packets.items) padding.now) }

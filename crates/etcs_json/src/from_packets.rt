@@ -22,7 +22,7 @@ use etcs_vars::Var;
 use serde_json::Value;
 use std::alloc::{AllocError, Global};
 
-/// The typed packet of this number and direction with these numbers behind L_PACKET, if there is one.
+/// The typed packet of this number and direction with these numbers after L_PACKET, if there is one.
 fn typed_of(alloc: Global, nid: u8, dir: u8, fields: &[u64]) -> Result<Option<Packet>, AllocError>
     ensures made { IfOk result (λ o. IfSome o (λ p. IsMade p × IsPacket (packet_value p))) }
     ensures some { IfOk result (λ o. IfSome o (λ p. IsTypedOf nid dir (packet_value p) × (numbers (variables_of (packet_value p)) ≡ fields.now))) }
@@ -177,7 +177,7 @@ fn packets_by(alloc: Global, list: &[Value]) -> Result<Option<Vec<Packet>>, Allo
     Ok(Some(packets))
 }
 
-/// Puts a packet behind the others.
+/// Puts a packet after the others.
 fn put(packets: &mut Vec<Packet>, packet: Packet) -> Result<(), AllocError>
     ensures { OnOk result (packets.new.items ≡ packets.old.items ++ packet ∷ []) }
 {

@@ -6,7 +6,7 @@ ghost use Rattle.serde_json.specs.View.{view};
 ghost use Rattle.etcs_vars.specs.Reading.{Reading};
 ghost use Rattle.etcs_packets.specs.PacketValues.{IsPacket, packet_value};
 ghost use Rattle.etcs_telegram.specs.Headers.{IsHeaderNumbers};
-ghost use Rattle.etcs_telegram.specs.Telegrams.{HeaderParts, IsAdmitted, TelegramReads, TelegramValue, header_of, header_reading, telegram_value};
+ghost use Rattle.etcs_telegram.specs.Telegrams.{HeaderValue, IsAdmitted, TelegramReads, TelegramValue, header_of, header_reading, telegram_value};
 ghost use Rattle.etcs_text.specs.Show.{kind_word};
 ghost use Rattle.etcs_json.specs.Loose.{unnamed_telegram};
 ghost use Rattle.etcs_json.specs.TreeReading.{ArePairTrees, IsTelegramTree, telegram_tree};
@@ -60,7 +60,7 @@ fn header_by(numbers: &[u64]) -> Header
 /// The header of the list of its pairs, if there is one.
 fn header_in(alloc: Global, value: &Value) -> Result<Option<Header>, AllocError>
     ensures some { IfOk result (λ o. IfSome o (λ h. (hs : Items) × (view value.now ≡ array hs) × IsAdmitted (header_reading h) × ArePairTrees (header_reading h) hs)) }
-    ensures only { IfOk result (λ o. (h : HeaderParts) (hs : Items) → IsAdmitted (header_reading h) → view value.now ≡ array hs → ArePairTrees (header_reading h) hs → o ≡ Some h) }
+    ensures only { IfOk result (λ o. (h : HeaderValue) (hs : Items) → IsAdmitted (header_reading h) → view value.now ≡ array hs → ArePairTrees (header_reading h) hs → o ≡ Some h) }
 {
     match numbers_in(alloc, Row { items: &HEADER }, value)? {
         Some(numbers) => Ok(Some(header_by(numbers.as_slice()))),

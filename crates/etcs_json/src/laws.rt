@@ -13,7 +13,7 @@ ghost use Rattle.etcs_json.specs.JsonLines.{SaysItem, SaysRefused};
 ghost use Rattle.etcs_json.specs.Loose.{TreeRefused, TreeSays};
 ghost use Rattle.etcs_json.specs.TreeReading.{IsTreeOf};
 
-/// The JSON of an item is read as its tree. It is UTF-8, and no end of a line stands in it.
+/// The JSON of an item is read as its tree. It is UTF-8, and no end of a line is in it.
 pub fn read_tree()
     ensures tree { (e : EntryValue) (r : Reading) → Spells e r → read (compact_text (json_tree e)) ≡ Some (json_tree e) }
     ensures utf8 { (e : EntryValue) (r : Reading) → Spells e r → IsUtf8 (compact_text (json_tree e)) }

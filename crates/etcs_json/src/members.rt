@@ -1,4 +1,4 @@
-//! The members of an object, which stand in the order of their names.
+//! The members of an object, which are in the order of their names.
 
 ghost use Rattle.std.specs.Prelude.{◌≡◌, IfSome, IsSome};
 ghost use Rattle.serde_json.specs.Data.{Data, object, member, no_members};

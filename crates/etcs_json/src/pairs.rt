@@ -7,7 +7,7 @@ ghost use Rattle.etcs_text.specs.Trees.{bits_tree, number_tree, pair_tree, pairs
 
 use etcs_bits::BitSlice;
 use etcs_vars::Var;
-use etcs_vars::parts::{Sink, Variables};
+use etcs_vars::parts::{VarSink, Variables};
 use serde_json::{Value, json};
 use std::alloc::{AllocError, Global};
 use std::marker::Model;
@@ -25,14 +25,14 @@ fn hex_digit_of(bits: u8) -> char
     }
 }
 
-/// Appends the last digits of a number in hexadecimal, so many of them.
-fn push_hex(count: usize, number: u64, text: &mut String) -> Result<(), AllocError>
+/// Appends the last digits of a number in hexadecimal, this many of them.
+fn write_hex(count: usize, number: u64, text: &mut String) -> Result<(), AllocError>
     ensures { OnOk result (string_bytes text.new ≡ string_bytes text.old ++ hex_digits count number) }
 {
     if count == 0 {
         return Ok(());
     }
-    push_hex(count - 1, number / 16, text)?;
+    write_hex(count - 1, number / 16, text)?;
     text.push(hex_digit_of((number % 16) as u8))
 }
 
@@ -42,7 +42,7 @@ fn number_json(alloc: Global, var: Var, number: u64) -> Result<Value, AllocError
 {
     if var == Var::NID_RADIO {
         let mut text = String::new(alloc);
-        push_hex(16, number, &mut text)?;
+        write_hex(16, number, &mut text)?;
         return json!(in alloc; text);
     }
     json!(in alloc; number)
@@ -106,7 +106,7 @@ impl SentList {
         }
     }
 
-    /// They as they stand.
+    /// They as they are.
     pub(crate) fn as_slice(&self) -> &[(Var, u64)]
         ensures { result.now ≡ self.now }
     {
@@ -114,7 +114,7 @@ impl SentList {
     }
 }
 
-impl Sink for SentList {
+impl VarSink for SentList {
     ghost use Rattle.std.proofs.Common.{◌++◌, append-nil, append_assoc, sym};
 
     ghost with = { λ s r. s ++ r };
@@ -133,10 +133,13 @@ impl Sink for SentList {
 }
 
 /// The variables of a run, each as a pair.
-pub(crate) fn run_json<V: Variables>(alloc: Global, run: &V) -> Result<Value, AllocError>
-    ensures { IfOk result (λ v. view v ≡ pairs_tree (V.reading_of run.now)) }
+pub(crate) fn variables_json<V: Variables>(
+    alloc: Global,
+    variables: &V,
+) -> Result<Value, AllocError>
+    ensures { IfOk result (λ v. view v ≡ pairs_tree (V.reading_of variables.now)) }
 {
     let mut sent = SentList::new(alloc);
-    run.send(&mut sent)?;
+    variables.send(&mut sent)?;
     pairs_json(alloc, sent.as_slice())
 }

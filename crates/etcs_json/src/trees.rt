@@ -12,7 +12,7 @@ ghost use Rattle.etcs_text.specs.Show.{kind_word};
 ghost use Rattle.etcs_text.specs.Trees.{bits_tree, json_tree, message_tree, packet_tree, packets_tree, pairs_tree, telegram_tree};
 ghost use Rattle.etcs_json.specs.TreeParts.{IsSent, typed_members};
 
-use crate::pairs::{SentList, bits_json, pairs_json, run_json};
+use crate::pairs::{SentList, bits_json, pairs_json, variables_json};
 use etcs_bits::BitSlice;
 use etcs_packets::parts::{dir, send};
 use etcs_packets::{Other, Packet};
@@ -87,7 +87,7 @@ fn telegram_json(alloc: Global, telegram: &Telegram) -> Result<Value, AllocError
     ensures { IfOk result (λ v. view v ≡ telegram_tree (telegram_value telegram.now)) }
 {
     let fill = bits_json(alloc, &telegram.fill())?;
-    let header = run_json(alloc, telegram.header())?;
+    let header = variables_json(alloc, telegram.header())?;
     let kind = size_word(telegram.size());
     let packets = packets_json(alloc, telegram.packets())?;
     json!(in alloc; {"fill": fill, "header": header, "kind": kind, "packets": packets})
@@ -127,8 +127,8 @@ fn typed_json(alloc: Global, message: &Message) -> Result<Value, AllocError>
     let (Some(head), Some(body)) = (message.head(), message.body()) else {
         unreachable!()
     };
-    let fields = run_json(alloc, body)?;
-    let header = run_json(alloc, head)?;
+    let fields = variables_json(alloc, body)?;
+    let header = variables_json(alloc, head)?;
     let packets = packets_json(alloc, message.packets())?;
     let padding = padding_json(alloc, message)?;
     typed_object(alloc, fields, header, message.nid(), packets, padding)
@@ -151,7 +151,7 @@ fn message_json(alloc: Global, message: &Message) -> Result<Value, AllocError>
 ///   `packets`, a list.
 /// - Of a typed message: `fields`, the variables of its number; `header`, T_TRAIN, M_ACK and NID_LRBG; `kind`,
 ///   `"radio"`; `nid`, its number; `packets`; `padding`, a text of the digits 0 and 1.
-/// - Of a message that is kept as bits: `data`, the bits behind L_MESSAGE as digits; `kind` and `nid`.
+/// - Of a message that is kept as bits: `data`, the bits after L_MESSAGE as digits; `kind` and `nid`.
 ///
 /// A packet is an object of `dir`, `fields` and `nid`, packet 0 of `fields` and `nid` alone, and a packet that is kept
 /// as bits of `data`, `dir` and `nid`. Variables are a list of pairs, each a name and a number; the number of

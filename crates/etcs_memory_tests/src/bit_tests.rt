@@ -94,7 +94,7 @@ fn three(alloc: Global) -> Result<Bits, AllocError> {
     Ok(bits)
 }
 
-/// The bits that stand before a row whose growth is refused stay, and none comes after them.
+/// The bits that come before a row whose growth is refused stay, and none comes after them.
 #[test]
 fn a_row_without_memory(rt: HostRuntime) -> Result<(), Fail> {
     let mut checks = Checks::new();

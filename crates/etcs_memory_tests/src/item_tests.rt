@@ -8,7 +8,7 @@ use etcs_vars::BuildFault;
 use std::alloc::{AllocError, Global};
 use std::test::Fail;
 
-/// Message 24 with packet 137, whose one number stands in its last bit.
+/// Message 24 with packet 137, whose one number is in its last bit.
 static TYPED: [u8; 13] = [
     0x18, 0x03, 0x40, 0x00, 0x00, 0x00, 0x00, 0x08, 0x00, 0x31, 0x28, 0x06, 0x20,
 ];
@@ -16,7 +16,7 @@ static TYPED: [u8; 13] = [
 /// Message 15, which is kept with six bits.
 static KEPT: [u8; 3] = [0x0F, 0x00, 0xFF];
 
-/// Packet 5 with one further link, of 108 bits: its last variable stands in byte 19.
+/// Packet 5 with one further link, of 108 bits: its last variable is in byte 19.
 static LINKS: [u8; 27] = [
     0xA0, 0x00, 0x7F, 0x80, 0x20, 0x00, 0xC1, 0x50, 0x36, 0x20, 0xFA, 0x00, 0x02, 0x93, 0x02, 0x0F,
     0xA0, 0x00, 0x29, 0x33, 0xFF, 0xFF, 0xFF, 0xFF, 0xFF, 0xFF, 0xC0,
@@ -101,7 +101,7 @@ fn check_read<R: Reads>(checks: &mut Checks, alloc: Global, bytes: &[u8]) {
     checks.check(singly.is_whole(), "not read byte by byte");
 }
 
-/// Checks how many bits a reader accepted that was refused memory after so many bytes.
+/// Checks how many bits a reader accepted that was refused memory after this many bytes.
 fn check_starved<R: Reads>(
     checks: &mut Checks,
     alloc: Global,

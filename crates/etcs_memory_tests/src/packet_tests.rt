@@ -28,7 +28,7 @@ fn is_refused<P: Framed + Drop>(
     Ok(!any && out.as_slice() == [7, 8, 9].as_slice())
 }
 
-/// Checks that the packet of these numbers and of so many bits of these bytes, in direction 1, is refused where there
+/// Checks that the packet of these numbers and of this many bits of these bytes, in direction 1, is refused where there
 /// is no memory, and read where there is.
 fn check_refused<P: Framed + PartialEq + Drop>(
     checks: &mut Checks,
@@ -170,7 +170,7 @@ fn any_packets_without_memory(rt: HostRuntime) -> Result<(), Fail> {
     Ok(())
 }
 
-/// Packet 44 with so many kept bits.
+/// Packet 44 with this many kept bits.
 pub(crate) fn kept_bits(alloc: Global, len: usize) -> Result<Other, Fail> {
     let slice = BitSlice::new(&[0x5A; 100], 0, len).ok_or("too few bytes")?;
     match Other::new(44, 1, Bits::from_slice(alloc, slice)?) {

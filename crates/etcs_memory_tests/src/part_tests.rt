@@ -77,7 +77,7 @@ fn parts_with_lists(rt: HostRuntime) -> Result<(), Fail> {
     Ok(())
 }
 
-/// So many lists of three numbers, the first without room for another number and each next with room for one more.
+/// This many lists of three numbers, the first without room for another number and each next with room for one more.
 fn lists(alloc: Global, count: usize) -> Result<Vec<Vec<u64>>, AllocError> {
     let mut outs = Vec::new(alloc);
     for room in 0..count {

@@ -5,7 +5,7 @@ use etcs_fakes::{Checks, starve};
 use std::alloc::{AllocError, Global};
 use std::test::Fail;
 
-/// The words of a line, which stand between single spaces.
+/// The words of a line, which are between single spaces.
 fn words_of(alloc: Global, line: &str) -> Result<Vec<String>, AllocError> {
     let mut words = Vec::new(alloc);
     for word in line.split(' ') {

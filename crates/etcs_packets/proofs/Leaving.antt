@@ -14,7 +14,7 @@ use Rattle.etcs_packets.proofs.PacketBits.{length-spelled, packets_more, packets
 abbrev all_bits : List Packet → ℕ
 all_bits ps = length (spelled (packets_reading (map packet_value ps)))
 
--- the first i packets leave so many bits
+-- the first i packets leave this many bits
 pub record Leaves (room : ℕ) (ps : List Packet) (i left : ℕ) : Type 0 where
   pub left_is : all_bits (take i ps) + left ≡ room
   pub made : All IsMade (take i ps)

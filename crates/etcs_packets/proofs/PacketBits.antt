@@ -19,7 +19,7 @@ use Rattle.etcs_tables.specs.declared.row.Way.TheVariants.{ToTrain}
 use Rattle.etcs_tables.specs.Layouts.{ROW_LIMIT}
 use Rattle.etcs_tables.specs.Frames.{is_kept}
 use Rattle.etcs_flat.specs.laws.FlatLaws.{none_both, number_fine}
-use Rattle.etcs_flat.specs.Others.{OtherParts}
+use Rattle.etcs_flat.specs.Others.{OtherValue}
 use Rattle.etcs_packets.specs.declared.packet.Packet.{Packet}
 use Rattle.etcs_packets.specs.declared.packet.Packet.TheVariants.{Other}
 use Rattle.etcs_packets.specs.PacketValues.{PacketValue, marker, typed, kept, packet_value, nid_of, dir_of, variables_of, bits_of, IsPacket}
@@ -41,7 +41,7 @@ frame_number nid dir len d l =
 pub frame_bits : (nid dir len : ℕ) → length (spelled ((NID_PACKET, nid) ∷ (Q_DIR, dir) ∷ (L_PACKET, len) ∷ [])) ≡ 23
 frame_bits nid dir len = omega (arith, length-sent NID_PACKET nid ((Q_DIR, dir) ∷ (L_PACKET, len) ∷ []), length-sent Q_DIR dir ((L_PACKET, len) ∷ []), length-sent L_PACKET len [])
 
--- ---- What stands in front.
+-- ---- What is in front.
 
 pub front_marked : (v : PacketValue) → None ≡ dir_of v → num 8 (nid_of v) ≡ spelled (front_of v)
 front_marked (marker n) e = sym (append-nil (num 8 0))
@@ -59,7 +59,7 @@ front_marked_bits (marker n) e = (ap length (sym (front_marked (marker n) e)) �
 front_marked_bits (typed nid dir r) e = absurd cc
 front_marked_bits (kept nid dir b) e = absurd cc
 
--- ---- What stands behind.
+-- ---- What follows.
 
 -- the variables or the kept bits
 abbrev pub rest_of : PacketValue → List Bool
@@ -78,10 +78,10 @@ spelled_parts (marker n) = spelled-append (front_of (marker n)) (variables_of (m
 spelled_parts (typed nid dir r) = spelled-append (front_of (typed nid dir r)) r
 spelled_parts (kept nid dir b) = spelled-append (front_of (kept nid dir b)) (sent.kept OTHER_DATA b) ∙ ap (λ (l : List Bool). spelled (front_of (kept nid dir b)) ++ l) (spelled_kept b)
 
-pub rest_kept : (p : Packet) (o : OtherParts) → p ≡ Other o → o.body ≡ rest_of (packet_value p)
+pub rest_kept : (p : Packet) (o : OtherValue) → p ≡ Other o → o.body ≡ rest_of (packet_value p)
 rest_kept p o e = sym (ap (λ (q : Packet). rest_of (packet_value q)) e)
 
-pub rest_sent : (p : Packet) → ((o : OtherParts) → p ≡ Other o → ⊥) → spelled (variables_of (packet_value p)) ≡ rest_of (packet_value p)
+pub rest_sent : (p : Packet) → ((o : OtherValue) → p ≡ Other o → ⊥) → spelled (variables_of (packet_value p)) ≡ rest_of (packet_value p)
 rest_sent (Other o) h = absurd (h o refl)
 rest_sent p h = refl
 
@@ -89,7 +89,7 @@ rest_sent p h = refl
 pub parts_bits : (v : PacketValue) → length (spelled (front_of v)) + length (rest_of v) ≡ bits_of v
 parts_bits v = sym (length-append (spelled (front_of v)) (rest_of v)) ∙ sym (ap length (spelled_parts v)) ∙ packet_bits v
 
--- ---- One behind the other.
+-- ---- One after another.
 
 module _ (v : PacketValue) (at : ℕ) (before front rest : List Bool) (is : rest ≡ rest_of v) (room : at + bits_of v ≤ length before) (wrote : front ≡ replaced at (spelled (front_of v)) before) where
   lengths : length (spelled (front_of v)) + length rest ≡ bits_of v
@@ -134,7 +134,7 @@ packets_room ps i p h e =
     ap (λ (r : Reading). length (spelled r)) cut ∙ length-spelled (before ++ one) behind ∙ ap (λ (k : ℕ). k + length (spelled behind)) (length-spelled before one) in
     omega (arith, all, packet_bits (packet_value p))
 
--- a packet more behind those that stand
+-- a packet more after those that are there
 module _ (ps : List Packet) (i : ℕ) (p : Packet) (h : i < length ps) (e : p ≡ get_or ps i p) (at place : ℕ) (before now : List Bool) (is : place ≡ at + length (spelled (packets_reading (map packet_value (take i ps))))) (wrote : now ≡ replaced at (spelled (packets_reading (map packet_value (take i ps)))) before) (room : at + length (spelled (packets_reading (map packet_value ps))) ≤ length before) where
   pub next_room : place + bits_of (packet_value p) ≤ length now
   next_room =

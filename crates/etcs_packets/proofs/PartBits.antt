@@ -1,10 +1,10 @@
--- Parts that are written one behind the other.
+-- Parts that are written one after another.
 use Rattle.std.proofs.Common.{◌≡◌, ℕ, ◌+◌, ◌≤◌, Bool, List, [], ◌++◌, length, take, drop, refl, sym, ap, ◌∙◌, arith, append-nil, length-append}
 use Rattle.std.proofs.lemmas.List.{take_at, length-drop, drop_all}
 use Rattle.std.proofs.Math.Seq.{drop-append-add}
 use Rattle.etcs_bits.specs.Bits.{replaced}
 
--- bits that replace those behind a front
+-- bits that replace those after a front
 pub put_next : (at : ℕ) (front new b : List Bool) → at ≡ length front → replaced at new (front ++ b) ≡ (front ++ new) ++ drop (length new) b
 put_next at front new b e =
     let first : take at (front ++ b) ≡ front = take_at front b at (sym e) in

@@ -78,7 +78,7 @@ over_more bytes place next a b e h =
     ∙ ap (λ (t : List Bool). packed (length bytes) (replaced next b t)) (bits-over bytes place a inside)
     ∙ ap (packed (length bytes)) (replaced_more place next a b (bits bytes) e (omega (arith, h)))
 
--- bits behind bits, at once
+-- bits after bits, at once
 written_more : (s : BitSink) (a b : List Bool) → s.place + (length a + length b) ≤ length (bits s.bytes.now) → written (written s (length a) a) (length b) b ≡ written s (length a + length b) (a ++ b)
 written_more s a b h =
     let one = over_more s.bytes.now s.place (s.place + length a) a b refl (omega (arith, h)) in

@@ -1,4 +1,4 @@
--- What stands in front of a packet's variables or kept bits.
+-- What is in front of a packet's variables or kept bits.
 use Rattle.std.specs.Prelude.{[], ◌∷◌, length}
 use Rattle.etcs_vars.specs.declared.var.Var.TheVariants.{NID_PACKET}
 use Rattle.etcs_vars.specs.Reading.{Reading, spelled}

@@ -8,9 +8,9 @@ use Rattle.etcs_tables.specs.declared.row.Way.{Way}
 use Rattle.etcs_tables.specs.declared.row.Way.TheVariants.{ToTrain}
 use Rattle.etcs_tables.specs.Frames.{frame_bits, is_marker}
 use Rattle.etcs_tables.specs.Typed.{IsFramed}
-use Rattle.etcs_flat.specs.Flats.{FlatParts, flat_fault, flat_reading}
+use Rattle.etcs_flat.specs.Flats.{FlatValue, flat_fault, flat_reading}
 use Rattle.etcs_flat.specs.Others.{other_fault}
-use Rattle.etcs_grouped.specs.BaliseLists.{BaliseListParts, IsBaliseList, balise_list_reading}
+use Rattle.etcs_grouped.specs.BaliseLists.{BaliseListValue, IsBaliseList, balise_list_reading}
 use Rattle.etcs_grouped.specs.Chains.{IsLinking, linking_reading, IsGradient, gradient_reading, IsSpeedProfile, profile_reading, IsModeProfile, mode_profile_reading}
 use Rattle.etcs_grouped.specs.Level1Mas.{IsLevel1Ma, level1_ma_reading}
 use Rattle.etcs_grouped.specs.Level23Mas.{IsLevel23Ma, level23_ma_reading}
@@ -37,10 +37,10 @@ pub record Form : Type 1 where
 abbrev form_of : PacketValue → Type 0 → Form
 form_of v h = record { value = v; made = h }
 
-abbrev flat_form : ℕ → FlatParts → Form
+abbrev flat_form : ℕ → FlatValue → Form
 flat_form nid p = form_of (typed nid p.dir (flat_reading nid p.numbers)) (flat_fault nid p.dir p.numbers ≡ None)
 
-abbrev list_form : ℕ → BaliseListParts → Form
+abbrev list_form : ℕ → BaliseListValue → Form
 list_form nid p = form_of (typed nid p.dir (balise_list_reading p)) (IsBaliseList nid p)
 
 abbrev pub form : Packet → Form
@@ -96,7 +96,7 @@ dir_of (marker n) = None
 dir_of (typed nid dir r) = Some dir
 dir_of (kept nid dir b) = Some dir
 
--- the variables behind the frame, but for kept bits
+-- the variables after the frame, but for kept bits
 abbrev pub variables_of : PacketValue → Reading
 variables_of (marker n) = (NID_VBCMK, n) ∷ []
 variables_of (typed nid dir r) = r

@@ -18,7 +18,7 @@ place_of s = s.place
 abbrev pub room : List ℕ → ℕ
 room bytes = min (8 * length bytes) (2 ^ 64 - 1)
 
--- so many bits more, where they have room
+-- this many bits more, where they have room
 abbrev pub written : BitSink → ℕ → List Bool → BitSink
 written s width new = record { bytes = record s.bytes { now = over s.bytes.now s.place new }; place = s.place + width }
 
@@ -26,7 +26,7 @@ written s width new = record { bytes = record s.bytes { now = over s.bytes.now s
 unfoldable pub put : BitSink → Sent → BitSink
 put s p = if nat_le (s.place + width p.0) (room s.bytes.now) then written s (width p.0) (num (width p.0) p.1) else s
 
--- variables more, one behind the other
+-- variables more, one after another
 abbrev pub with_sent : BitSink → Reading → BitSink
 with_sent s [] = s
 with_sent s (p ∷ r) = with_sent (put s p) r

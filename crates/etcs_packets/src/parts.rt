@@ -13,7 +13,7 @@ pub use crate::write::{room_left, write_packet, write_packets, write_reading, wr
 use etcs_bits::BitSlice;
 use etcs_bodies::Packetlike;
 use etcs_vars::Var;
-use etcs_vars::parts::{Sink, Variables};
+use etcs_vars::parts::{VarSink, Variables};
 use std::alloc::{AllocError, Global};
 
 /// The packet is one that its own type admits, and stands for a packet.
@@ -37,13 +37,13 @@ pub fn dir(packet: &Packet) -> Option<u8>
     packets!(of_each, packet, _ => None, packet => Some(packet.dir()), packet => Some(packet.dir()))
 }
 
-/// Sends the variables behind the frame, in order: of packet 0 its NID_VBCMK, of a packet that is kept as bits none.
+/// Sends the variables after the frame, in order: of packet 0 its NID_VBCMK, of a packet that is kept as bits none.
 /// Takes no memory of its own.
 ///
 /// # Errors
 ///
 /// That of the sink.
-pub fn send<S: Sink>(packet: &Packet, out: &mut S) -> Result<(), AllocError>
+pub fn send<S: VarSink>(packet: &Packet, out: &mut S) -> Result<(), AllocError>
     ensures ok { OnOk result (out.new ≡ S.with out.old (variables_of (packet_value packet.now))) }
     ensures err { OnErr result (S.failed out.old out.new) }
 {
@@ -56,7 +56,7 @@ pub fn send<S: Sink>(packet: &Packet, out: &mut S) -> Result<(), AllocError>
     )
 }
 
-/// The typed packet of this number and direction with these numbers behind L_PACKET, if there is one.
+/// The typed packet of this number and direction with these numbers after L_PACKET, if there is one.
 ///
 /// # Errors
 ///
@@ -74,7 +74,7 @@ pub fn from_fields(
     packets!(by_number, nid, packet_of_fields(alloc, dir, fields))
 }
 
-/// The typed packet of this number and direction with these bits behind L_PACKET, if there is one.
+/// The typed packet of this number and direction with these bits after L_PACKET, if there is one.
 ///
 /// # Errors
 ///

@@ -7,13 +7,13 @@ ghost use Rattle.etcs_packets.specs.Written.{over};
 
 use etcs_bits::parts;
 use etcs_vars::Var;
-use etcs_vars::parts::Sink;
+use etcs_vars::parts::VarSink;
 use std::alloc::AllocError;
 
-/// So many bits stand in eight bytes, at whatever bit of a byte they begin.
+/// This many bits are in eight bytes, at whatever bit of a byte they begin.
 const WORD: usize = 57;
 
-/// Writes variables over the bits of bytes, one behind the other. A variable that has no room is left out.
+/// Writes variables over the bits of bytes, one after another. A variable that has no room is left out.
 #[derive(Drop)]
 pub(crate) struct BitSink<'a> {
     bytes: &'a mut [u8],
@@ -49,7 +49,7 @@ impl<'a> BitSink<'a> {
         front.count
     }
 
-    /// Writes variables behind the others, as few numbers as they take.
+    /// Writes variables after the others, as few numbers as they take.
     #[inline(never)]
     fn send_behind(&mut self, sent: &[(Var, u64)])
         ensures { self.new ≡ with_sent self.old sent.now }
@@ -60,7 +60,7 @@ impl<'a> BitSink<'a> {
         }
     }
 
-    /// Writes variables behind the others, each where it has room.
+    /// Writes variables after the others, each where it has room.
     #[cold]
     #[inline(never)]
     fn put_each(&mut self, sent: &[(Var, u64)])
@@ -71,7 +71,7 @@ impl<'a> BitSink<'a> {
         }
     }
 
-    /// Writes a variable behind the others, with the lowest bits of its number, where it has room.
+    /// Writes a variable after the others, with the lowest bits of its number, where it has room.
     fn put(&mut self, var: Var, number: u64)
         ensures { self.new ≡ put self.old (var, number) }
     {
@@ -81,7 +81,7 @@ impl<'a> BitSink<'a> {
         }
     }
 
-    /// Whether so many bits more have room.
+    /// Whether this many bits more have room.
     #[inline]
     fn has_room(&self, width: usize) -> bool
         ensures { IsTrue result ↔ (place_of self.now + width ≤ room (bytes_of self.now)) }
@@ -90,7 +90,7 @@ impl<'a> BitSink<'a> {
         self.place <= room && width <= room - self.place
     }
 
-    /// Writes a number behind the others, where it has room.
+    /// Writes a number after the others, where it has room.
     #[inline]
     fn write(&mut self, width: usize, number: u64)
         requires most { width ≤ 64 }
@@ -161,7 +161,7 @@ fn lowest(width: usize, number: u64) -> u64
     (number << (64 - width)) >> (64 - width)
 }
 
-impl Sink for BitSink<'_> {
+impl VarSink for BitSink<'_> {
     ghost use Rattle.etcs_packets.specs.Sinks.{with_sent};
     ghost use Rattle.etcs_packets.specs.laws.Sinks.{with_sent_none, with_sent_both};
 

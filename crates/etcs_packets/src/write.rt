@@ -14,9 +14,9 @@ use crate::sink::BitSink;
 use etcs_bits::parts;
 use etcs_tables::{Way, frame_bits};
 use etcs_vars::Var;
-use etcs_vars::parts::{Sink, Variables};
+use etcs_vars::parts::{VarSink, Variables};
 
-/// Writes variables over the bits from `at` on, one behind the other, each with the lowest bits of its number.
+/// Writes variables over the bits from `at` on, one after another, each with the lowest bits of its number.
 pub fn write_reading(out: &mut [u8], at: usize, sent: &[(Var, u64)])
     requires room { at + length (spelled sent.now) ≤ length (bits out.old) }
     requires small { at + length (spelled sent.now) < 2 ^ 64 }
@@ -30,13 +30,13 @@ pub fn write_reading(out: &mut [u8], at: usize, sent: &[(Var, u64)])
 }
 
 /// Writes a run of variables over the bits from `at` on, as [`write_reading`] does.
-pub fn write_variables<V: Variables>(out: &mut [u8], at: usize, run: &V)
-    requires room { at + length (spelled (V.reading_of run.now)) ≤ length (bits out.old) }
-    requires small { at + length (spelled (V.reading_of run.now)) < 2 ^ 64 }
-    ensures { bits out.new ≡ replaced at (spelled (V.reading_of run.now)) (bits out.old) }
+pub fn write_variables<V: Variables>(out: &mut [u8], at: usize, variables: &V)
+    requires room { at + length (spelled (V.reading_of variables.now)) ≤ length (bits out.old) }
+    requires small { at + length (spelled (V.reading_of variables.now)) < 2 ^ 64 }
+    ensures { bits out.new ≡ replaced at (spelled (V.reading_of variables.now)) (bits out.old) }
 {
     let mut sink = BitSink::new(out, at);
-    match run.send(&mut sink) {
+    match variables.send(&mut sink) {
         Ok(()) => {}
         Err(_) => unreachable!(),
     }
@@ -51,7 +51,7 @@ pub fn write_packet(out: &mut [u8], at: usize, packet: &Packet)
     put_packet(out, at, packet, packet.bit_len());
 }
 
-/// Writes packets one behind the other over the bits from `at` on, and answers the bit behind them.
+/// Writes packets one after another over the bits from `at` on, and answers the bit after them.
 pub fn write_packets(out: &mut [u8], at: usize, packets: &[Packet]) -> usize
     requires room { at + length (spelled (packets_reading (map packet_value packets.now))) ≤ length (bits out.old) }
     requires small { at + length (spelled (packets_reading (map packet_value packets.now))) < 2 ^ 64 }
@@ -67,7 +67,7 @@ pub fn write_packets(out: &mut [u8], at: usize, packets: &[Packet]) -> usize
     place
 }
 
-/// How many of so many bits packets leave, one behind the other, or nothing where they don't fit.
+/// How many of `room` bits packets leave, one after another, or nothing where they don't fit.
 pub fn room_left(room: usize, packets: &[Packet]) -> Option<usize>
     ensures left { IfSome result (λ left. length (spelled (packets_reading (map packet_value packets.now))) + left ≡ room) }
     ensures made { OnSome result (All IsMade packets.now) }
@@ -86,7 +86,7 @@ pub fn room_left(room: usize, packets: &[Packet]) -> Option<usize>
     Some(left)
 }
 
-/// Writes a packet of so many bits, its frame among them.
+/// Writes a packet of this many bits, its frame among them.
 fn put_packet(out: &mut [u8], at: usize, packet: &Packet, len: usize)
     requires len { len ≡ bits_of (packet_value packet.now) }
     requires room { at + len ≤ length (bits out.old) }
@@ -100,7 +100,7 @@ fn put_packet(out: &mut [u8], at: usize, packet: &Packet, len: usize)
     }
 }
 
-/// Writes what stands in front of a packet's variables or kept bits, and answers the bit behind it.
+/// Writes what is in front of a packet's variables or kept bits, and answers the bit after it.
 fn put_front(out: &mut [u8], at: usize, packet: &Packet, len: usize) -> usize
     requires len { len ≡ bits_of (packet_value packet.now) }
     requires room { at + len ≤ length (bits out.old) }
@@ -132,7 +132,7 @@ fn put_frame(out: &mut [u8], at: usize, nid: u8, dir: u8, len: usize)
     parts::write(out, at, frame_bits(Way::ToTrain), number);
 }
 
-/// Writes the variables behind a packet's front.
+/// Writes the variables after a packet's front.
 fn put_variables(out: &mut [u8], at: usize, packet: &Packet)
     requires room { at + length (spelled (variables_of (packet_value packet.now))) ≤ length (bits out.old) }
     requires small { at + length (spelled (variables_of (packet_value packet.now))) < 2 ^ 64 }

@@ -1,4 +1,4 @@
--- The sections of a movement authority and what stands behind them, of packets 12 and 15.
+-- The sections of a movement authority and what follows them, of packets 12 and 15.
 use Rattle.std.proofs.Common.{◌≡◌, ℕ, List, [], ◌∷◌, ◌++◌, length, Option, None}
 use Rattle.std.specs.Prelude.{All}
 use Rattle.etcs_vars.specs.declared.var.Var.TheVariants.{N_ITER, L_SECTION, L_ENDSECTION, Q_ENDTIMER, T_ENDTIMER, D_ENDTIMERSTARTLOC, Q_DANGERPOINT, D_DP, V_RELEASEDP, Q_OVERLAP, D_STARTOL, T_OL, D_OL, V_RELEASEOL}
@@ -10,7 +10,7 @@ use Rattle.etcs_bodies.specs.Faults.{◌or_else◌, number_fault, count_fault}
 use Rattle.etcs_bodies.specs.Codecs.{both_from, optional_from, optional_reading, list_from, list_reading, form_from}
 use Rattle.etcs_bodies.specs.Taking.{Left, next_number}
 use Rattle.etcs_bodies.specs.Groups.{group_fault, pair_fault, pair_reading, pair_from}
-use Rattle.etcs_parts.specs.Sections.{SectionParts, IsSection, section_reading, section_from, end_reading, end_from}
+use Rattle.etcs_parts.specs.Sections.{SectionValue, IsSection, section_reading, section_from, end_reading, end_from}
 
 -- ---- The timer of the end section.
 
@@ -62,42 +62,42 @@ overlap_from = optional_from some_overlap_from
 
 -- ---- An authority.
 
-pub record AuthorityParts : Type 0 where
-  pub sections : List SectionParts
-  pub end : SectionParts
+pub record AuthorityValue : Type 0 where
+  pub sections : List SectionValue
+  pub end : SectionValue
   pub end_timer : Option (ℕ × ℕ)
   pub danger_point : Option (ℕ × ℕ)
   pub overlap : Option Overlap
 
-abbrev pub authority_parts : List SectionParts → SectionParts → Option (ℕ × ℕ) → Option (ℕ × ℕ) → Option Overlap → AuthorityParts
-authority_parts sections end end_timer danger_point overlap =
+abbrev pub authority_value : List SectionValue → SectionValue → Option (ℕ × ℕ) → Option (ℕ × ℕ) → Option Overlap → AuthorityValue
+authority_value sections end end_timer danger_point overlap =
     record { sections = sections; end = end; end_timer = end_timer; danger_point = danger_point; overlap = overlap }
 
 -- why it is none, where its sections are sections
-abbrev pub authority_fault : AuthorityParts → Option BuildFault
+abbrev pub authority_fault : AuthorityValue → Option BuildFault
 authority_fault p = count_fault N_ITER (length p.sections) or_else end_timer_fault p.end_timer or_else danger_fault p.danger_point or_else overlap_fault p.overlap
 
-pub record IsAuthority (p : AuthorityParts) : Type 0 where
+pub record IsAuthority (p : AuthorityValue) : Type 0 where
   pub faultless : authority_fault p ≡ None
   pub sections : All IsSection p.sections
   pub end : IsSection p.end
 
 -- its variables in the order of sending
-abbrev pub authority_reading : AuthorityParts → Reading
+abbrev pub authority_reading : AuthorityValue → Reading
 authority_reading p =
     list_reading N_ITER section_reading p.sections
     ++ (end_reading p.end ++ (end_timer_reading p.end_timer ++ (danger_reading p.danger_point ++ overlap_reading p.overlap)))
 
 -- ---- The authority that the numbers begin with.
 
--- the sections behind their count
-unfoldable pub sections_from : Left → Option (List SectionParts × Left)
+-- the sections after their count
+unfoldable pub sections_from : Left → Option (List SectionValue × Left)
 sections_from = list_from N_ITER section_from
 
-abbrev pub authority_of : List SectionParts × (SectionParts × (Option (ℕ × ℕ) × (Option (ℕ × ℕ) × Option Overlap))) → AuthorityParts
-authority_of n = authority_parts n.0 n.1.0 n.1.1.0 n.1.1.1.0 n.1.1.1.1
+abbrev pub authority_of : List SectionValue × (SectionValue × (Option (ℕ × ℕ) × (Option (ℕ × ℕ) × Option Overlap))) → AuthorityValue
+authority_of n = authority_value n.0 n.1.0 n.1.1.0 n.1.1.1.0 n.1.1.1.1
 
-unfoldable pub authority_from : Left → Option (AuthorityParts × Left)
+unfoldable pub authority_from : Left → Option (AuthorityValue × Left)
 authority_from = form_from authority_of (both_from sections_from (both_from end_from (both_from end_timer_from (both_from danger_from overlap_from))))
 
 -- ---- An authority is what its row spells.
@@ -111,7 +111,7 @@ authority_then rest =
     Q_OVERLAP ▸ guarded (is_one Q_OVERLAP) (D_STARTOL ▸ T_OL ▸ D_OL ▸ V_RELEASEOL ▸ whole) rest))))
 
 -- no part of it has a fault
-pub record AuthorityFacts (p : AuthorityParts) : Type 0 where
+pub record AuthorityFacts (p : AuthorityValue) : Type 0 where
   pub count : count_fault N_ITER (length p.sections) ≡ None
   pub end_timer : end_timer_fault p.end_timer ≡ None
   pub danger_point : danger_fault p.danger_point ≡ None
@@ -119,5 +119,5 @@ pub record AuthorityFacts (p : AuthorityParts) : Type 0 where
 
 -- ---- Its bits.
 
-abbrev pub groups_reading : AuthorityParts → Reading
+abbrev pub groups_reading : AuthorityValue → Reading
 groups_reading p = end_timer_reading p.end_timer ++ (danger_reading p.danger_point ++ overlap_reading p.overlap)

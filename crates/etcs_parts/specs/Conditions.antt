@@ -7,30 +7,30 @@ use Rattle.etcs_bodies.specs.Faults.{◌or_else◌, number_fault}
 use Rattle.etcs_bodies.specs.Codecs.{both_from, form_from}
 use Rattle.etcs_bodies.specs.Taking.{Left, next_number}
 
-pub record ConditionParts : Type 0 where
+pub record ConditionValue : Type 0 where
   pub d_trackcond : ℕ
   pub l_trackcond : ℕ
   pub m_trackcond : ℕ
 
-abbrev pub condition_parts : ℕ → ℕ → ℕ → ConditionParts
-condition_parts d_trackcond l_trackcond m_trackcond =
+abbrev pub condition_value : ℕ → ℕ → ℕ → ConditionValue
+condition_value d_trackcond l_trackcond m_trackcond =
     record { d_trackcond = d_trackcond; l_trackcond = l_trackcond; m_trackcond = m_trackcond }
 
 -- why it is none
-abbrev pub condition_fault : ConditionParts → Option BuildFault
+abbrev pub condition_fault : ConditionValue → Option BuildFault
 condition_fault p = number_fault D_TRACKCOND p.d_trackcond or_else number_fault L_TRACKCOND p.l_trackcond or_else number_fault M_TRACKCOND p.m_trackcond
 
-abbrev pub IsCondition : ConditionParts → Type 0
+abbrev pub IsCondition : ConditionValue → Type 0
 IsCondition p = condition_fault p ≡ None
 
 -- its variables in the order of sending
-abbrev pub condition_reading : ConditionParts → Reading
+abbrev pub condition_reading : ConditionValue → Reading
 condition_reading p = (D_TRACKCOND, p.d_trackcond) ∷ (L_TRACKCOND, p.l_trackcond) ∷ (M_TRACKCOND, p.m_trackcond) ∷ []
 
 -- ---- The condition that the numbers begin with.
 
-abbrev pub condition_of : ℕ × (ℕ × ℕ) → ConditionParts
-condition_of n = condition_parts n.0 n.1.0 n.1.1
+abbrev pub condition_of : ℕ × (ℕ × ℕ) → ConditionValue
+condition_of n = condition_value n.0 n.1.0 n.1.1
 
-unfoldable pub condition_from : Left → Option (ConditionParts × Left)
+unfoldable pub condition_from : Left → Option (ConditionValue × Left)
 condition_from = form_from condition_of (both_from (next_number D_TRACKCOND) (both_from (next_number L_TRACKCOND) (next_number M_TRACKCOND)))

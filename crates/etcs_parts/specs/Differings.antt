@@ -13,31 +13,31 @@ use Rattle.etcs_bodies.specs.Taking.{Left, next_number}
 use Rattle.etcs_bodies.specs.Codecs.{both_from, form_from}
 use Rattle.etcs_bodies.specs.Choices.{choice_from}
 
-pub record DifferingParts : Type 0 where
+pub record DifferingValue : Type 0 where
   pub q_diff : ℕ
   pub category : ℕ
   pub v_diff : ℕ
 
-abbrev pub differing_parts : ℕ → ℕ → ℕ → DifferingParts
-differing_parts q_diff category v_diff = record { q_diff = q_diff; category = category; v_diff = v_diff }
+abbrev pub differing_value : ℕ → ℕ → ℕ → DifferingValue
+differing_value q_diff category v_diff = record { q_diff = q_diff; category = category; v_diff = v_diff }
 
 -- the variable of a category: one of cant deficiency, or another one
 abbrev pub category_var : Bool → Var
 category_var by_cant = if by_cant then NC_CDDIFF else NC_DIFF
 
--- the variable of the category behind Q_DIFF
+-- the variable of the category after Q_DIFF
 abbrev pub category_of : ℕ → Var
 category_of q_diff = category_var (q_diff == 0)
 
 -- why it is none
-abbrev pub differing_fault : DifferingParts → Option BuildFault
+abbrev pub differing_fault : DifferingValue → Option BuildFault
 differing_fault d = number_fault Q_DIFF d.q_diff or_else number_fault (category_of d.q_diff) d.category or_else number_fault V_DIFF d.v_diff
 
-abbrev pub IsDiffering : DifferingParts → Type 0
+abbrev pub IsDiffering : DifferingValue → Type 0
 IsDiffering d = differing_fault d ≡ None
 
 -- its variables in the order of sending
-abbrev pub differing_reading : DifferingParts → Reading
+abbrev pub differing_reading : DifferingValue → Reading
 differing_reading d = (Q_DIFF, d.q_diff) ∷ (category_of d.q_diff, d.category) ∷ (V_DIFF, d.v_diff) ∷ []
 
 -- the entry in front of the rest of a row
@@ -46,10 +46,10 @@ differing_row rest = Q_DIFF ▸ guarded (is_zero Q_DIFF) (NC_CDDIFF ▸ whole) (
 
 -- ---- The entry that the numbers begin with.
 
-abbrev pub differing_of : (ℕ × ℕ) × ℕ → DifferingParts
-differing_of n = differing_parts n.0.0 n.0.1 n.1
+abbrev pub differing_of : (ℕ × ℕ) × ℕ → DifferingValue
+differing_of n = differing_value n.0.0 n.0.1 n.1
 
-unfoldable pub differing_from : Left → Option (DifferingParts × Left)
+unfoldable pub differing_from : Left → Option (DifferingValue × Left)
 differing_from = form_from differing_of (
     both_from (choice_from Q_DIFF IsZero (λ b. next_number (category_var b))) (
     next_number V_DIFF))

@@ -11,40 +11,40 @@ use Rattle.etcs_bodies.specs.Taking.{Left, next_number}
 use Rattle.etcs_bodies.specs.Codecs.{both_from, group_from, form_from}
 use Rattle.etcs_bodies.specs.Guards.{guard_fault, optional_group}
 
-pub record ShownParts : Type 0 where
+pub record ShownValue : Type 0 where
   pub m_modetextdisplay : ℕ
   pub m_leveltextdisplay : ℕ
   pub nid_ntc : Option ℕ
 
-abbrev pub shown_parts : ℕ → ℕ → Option ℕ → ShownParts
-shown_parts m_modetextdisplay m_leveltextdisplay nid_ntc =
+abbrev pub shown_value : ℕ → ℕ → Option ℕ → ShownValue
+shown_value m_modetextdisplay m_leveltextdisplay nid_ntc =
     record { m_modetextdisplay = m_modetextdisplay; m_leveltextdisplay = m_leveltextdisplay; nid_ntc = nid_ntc }
 
 -- why it is none
-abbrev pub shown_fault : ShownParts → Option BuildFault
+abbrev pub shown_fault : ShownValue → Option BuildFault
 shown_fault s =
     number_fault M_MODETEXTDISPLAY s.m_modetextdisplay or_else number_fault M_LEVELTEXTDISPLAY s.m_leveltextdisplay
     or_else guard_fault M_LEVELTEXTDISPLAY (passes IsOne s.m_leveltextdisplay) (is_some s.nid_ntc) or_else option_fault NID_NTC s.nid_ntc
 
-abbrev pub IsShown : ShownParts → Type 0
+abbrev pub IsShown : ShownValue → Type 0
 IsShown s = shown_fault s ≡ None
 
 -- its variables in the order of sending
-abbrev pub shown_reading : ShownParts → Reading
+abbrev pub shown_reading : ShownValue → Reading
 shown_reading s =
     (M_MODETEXTDISPLAY, s.m_modetextdisplay) ∷ (M_LEVELTEXTDISPLAY, s.m_leveltextdisplay) ∷ optional_group (λ n. (NID_NTC, n) ∷ []) s.nid_ntc
 
 -- ---- What the numbers begin with.
 
-abbrev pub shown_of : ℕ × (ℕ × Option ℕ) → ShownParts
-shown_of n = shown_parts n.0 n.1.0 n.1.1
+abbrev pub shown_of : ℕ × (ℕ × Option ℕ) → ShownValue
+shown_of n = shown_value n.0 n.1.0 n.1.1
 
-unfoldable pub shown_from : Left → Option (ShownParts × Left)
+unfoldable pub shown_from : Left → Option (ShownValue × Left)
 shown_from = form_from shown_of (both_from (next_number M_MODETEXTDISPLAY) (group_from M_LEVELTEXTDISPLAY IsOne (next_number NID_NTC)))
 
 -- ---- It is what its row spells.
 
-pub record ShownFacts (s : ShownParts) : Type 0 where
+pub record ShownFacts (s : ShownValue) : Type 0 where
   pub m_modetextdisplay : number_fault M_MODETEXTDISPLAY s.m_modetextdisplay ≡ None
   pub m_leveltextdisplay : number_fault M_LEVELTEXTDISPLAY s.m_leveltextdisplay ≡ None
   pub guard : guard_fault M_LEVELTEXTDISPLAY (passes IsOne s.m_leveltextdisplay) (is_some s.nid_ntc) ≡ None

@@ -8,7 +8,7 @@ use Rattle.etcs_bodies.specs.Faults.{◌or_else◌, number_fault, option_fault}
 use Rattle.etcs_bodies.specs.Codecs.{both_from, optional_from, form_from}
 use Rattle.etcs_bodies.specs.Taking.{Left, next_number, next_flag}
 
-pub record LinkParts : Type 0 where
+pub record LinkValue : Type 0 where
   pub d_link : ℕ
   pub nid_c : Option ℕ
   pub nid_bg : ℕ
@@ -16,36 +16,36 @@ pub record LinkParts : Type 0 where
   pub q_linkreaction : ℕ
   pub q_locacc : ℕ
 
-abbrev pub link_parts : ℕ → Option ℕ → ℕ → Bool → ℕ → ℕ → LinkParts
-link_parts d_link nid_c nid_bg q_linkorientation q_linkreaction q_locacc =
+abbrev pub link_value : ℕ → Option ℕ → ℕ → Bool → ℕ → ℕ → LinkValue
+link_value d_link nid_c nid_bg q_linkorientation q_linkreaction q_locacc =
     record { d_link = d_link; nid_c = nid_c; nid_bg = nid_bg; q_linkorientation = q_linkorientation; q_linkreaction = q_linkreaction; q_locacc = q_locacc }
 
 -- why it is none
-abbrev pub link_fault : LinkParts → Option BuildFault
+abbrev pub link_fault : LinkValue → Option BuildFault
 link_fault l =
     number_fault D_LINK l.d_link or_else option_fault NID_C l.nid_c or_else number_fault NID_BG l.nid_bg
     or_else number_fault Q_LINKREACTION l.q_linkreaction or_else number_fault Q_LOCACC l.q_locacc
 
-abbrev pub IsLink : LinkParts → Type 0
+abbrev pub IsLink : LinkValue → Type 0
 IsLink l = link_fault l ≡ None
 
--- the flag, and behind it the country where there is one
+-- the flag, and after it the country where there is one
 abbrev pub country_reading : Option ℕ → Reading
 country_reading None = (Q_NEWCOUNTRY, 0) ∷ []
 country_reading (Some c) = (Q_NEWCOUNTRY, 1) ∷ (NID_C, c) ∷ []
 
 -- its variables in the order of sending
-abbrev pub link_reading : LinkParts → Reading
+abbrev pub link_reading : LinkValue → Reading
 link_reading l =
     (D_LINK, l.d_link) ∷ country_reading l.nid_c ++ (NID_BG, l.nid_bg) ∷ (Q_LINKORIENTATION, bit l.q_linkorientation)
     ∷ (Q_LINKREACTION, l.q_linkreaction) ∷ (Q_LOCACC, l.q_locacc) ∷ []
 
 -- ---- The link that the numbers begin with.
 
-abbrev pub link_of : ℕ × (Option ℕ × (ℕ × (Bool × (ℕ × ℕ)))) → LinkParts
-link_of n = link_parts n.0 n.1.0 n.1.1.0 n.1.1.1.0 n.1.1.1.1.0 n.1.1.1.1.1
+abbrev pub link_of : ℕ × (Option ℕ × (ℕ × (Bool × (ℕ × ℕ)))) → LinkValue
+link_of n = link_value n.0 n.1.0 n.1.1.0 n.1.1.1.0 n.1.1.1.1.0 n.1.1.1.1.1
 
-unfoldable pub link_from : Left → Option (LinkParts × Left)
+unfoldable pub link_from : Left → Option (LinkValue × Left)
 link_from = form_from link_of (
     both_from (next_number D_LINK) (
     both_from (optional_from (next_number NID_C)) (
@@ -57,7 +57,7 @@ link_from = form_from link_of (
 -- ---- A link is what its row spells.
 
 -- each of its numbers is admitted
-pub record LinkFacts (l : LinkParts) : Type 0 where
+pub record LinkFacts (l : LinkValue) : Type 0 where
   pub d_link : number_fault D_LINK l.d_link ≡ None
   pub nid_c : option_fault NID_C l.nid_c ≡ None
   pub nid_bg : number_fault NID_BG l.nid_bg ≡ None

@@ -21,35 +21,35 @@ timer_from = optional_from (pair_from T_SECTIONTIMER D_SECTIONTIMERSTOPLOC)
 
 -- ---- A section.
 
-pub record SectionParts : Type 0 where
+pub record SectionValue : Type 0 where
   pub length : ℕ
   pub timer : Option (ℕ × ℕ)
 
-abbrev pub section_parts : ℕ → Option (ℕ × ℕ) → SectionParts
-section_parts length timer = record { length = length; timer = timer }
+abbrev pub section_value : ℕ → Option (ℕ × ℕ) → SectionValue
+section_value length timer = record { length = length; timer = timer }
 
 -- why it is none
-abbrev pub section_fault : SectionParts → Option BuildFault
+abbrev pub section_fault : SectionValue → Option BuildFault
 section_fault p = number_fault L_SECTION p.length or_else timer_fault p.timer
 
-abbrev pub IsSection : SectionParts → Type 0
+abbrev pub IsSection : SectionValue → Type 0
 IsSection p = section_fault p ≡ None
 
 -- its variables in the order of sending
-abbrev pub section_reading : SectionParts → Reading
+abbrev pub section_reading : SectionValue → Reading
 section_reading p = (L_SECTION, p.length) ∷ timer_reading p.timer
 
 -- as the end section
-abbrev pub end_reading : SectionParts → Reading
+abbrev pub end_reading : SectionValue → Reading
 end_reading p = (L_ENDSECTION, p.length) ∷ timer_reading p.timer
 
 -- ---- The section that the numbers begin with.
 
-abbrev pub section_of : ℕ × Option (ℕ × ℕ) → SectionParts
-section_of n = section_parts n.0 n.1
+abbrev pub section_of : ℕ × Option (ℕ × ℕ) → SectionValue
+section_of n = section_value n.0 n.1
 
-unfoldable pub section_from : Left → Option (SectionParts × Left)
+unfoldable pub section_from : Left → Option (SectionValue × Left)
 section_from = form_from section_of (both_from (next_number L_SECTION) timer_from)
 
-unfoldable pub end_from : Left → Option (SectionParts × Left)
+unfoldable pub end_from : Left → Option (SectionValue × Left)
 end_from = form_from section_of (both_from (next_number L_ENDSECTION) timer_from)

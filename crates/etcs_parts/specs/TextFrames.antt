@@ -12,7 +12,7 @@ use Rattle.etcs_bodies.specs.Faults.{◌or_else◌, number_fault}
 use Rattle.etcs_bodies.specs.Taking.{Left, next_number, next_flag}
 use Rattle.etcs_bodies.specs.Codecs.{both_from, optional_from, group_from, form_from}
 use Rattle.etcs_bodies.specs.Guards.{guard_fault, optional_group}
-use Rattle.etcs_parts.specs.Displays.{ShownParts, IsShown, shown_reading, shown_from}
+use Rattle.etcs_parts.specs.Displays.{ShownValue, IsShown, shown_reading, shown_from}
 
 -- ---- To whom the confirmation is reported: NID_TEXTMESSAGE, NID_C and NID_RBC.
 
@@ -50,7 +50,7 @@ confirm_fault (Some (q_conftextdisplay, Some report)) = report_fault report
 abbrev pub IsConfirm : Confirm → Type 0
 IsConfirm c = confirm_fault (Some c) ≡ None
 
--- the flag, and behind it the report where there is one
+-- the flag, and after it the report where there is one
 abbrev pub reported : Option Report → Reading
 reported None = (Q_TEXTREPORT, 0) ∷ []
 reported (Some report) = (Q_TEXTREPORT, 1) ∷ report_reading report
@@ -80,20 +80,20 @@ confirmed_from = group_from Q_TEXTCONFIRM IsNotZero confirm_from
 
 -- ---- The whole.
 
-pub record TextFrameParts : Type 0 where
+pub record TextFrameValue : Type 0 where
   pub q_scale : ℕ
   pub q_textclass : ℕ
   pub q_textdisplay : Bool
   pub d_textdisplay : ℕ
-  pub start : ShownParts
+  pub start : ShownValue
   pub l_textdisplay : ℕ
   pub t_textdisplay : ℕ
-  pub end : ShownParts
+  pub end : ShownValue
   pub q_textconfirm : ℕ
   pub confirm : Option Confirm
 
-abbrev pub text_frame_parts : ℕ → ℕ → Bool → ℕ → ShownParts → ℕ → ℕ → ShownParts → ℕ → Option Confirm → TextFrameParts
-text_frame_parts q_scale q_textclass q_textdisplay d_textdisplay start l_textdisplay t_textdisplay end q_textconfirm confirm =
+abbrev pub text_frame_value : ℕ → ℕ → Bool → ℕ → ShownValue → ℕ → ℕ → ShownValue → ℕ → Option Confirm → TextFrameValue
+text_frame_value q_scale q_textclass q_textdisplay d_textdisplay start l_textdisplay t_textdisplay end q_textconfirm confirm =
     record {
       q_scale = q_scale;
       q_textclass = q_textclass;
@@ -108,27 +108,27 @@ text_frame_parts q_scale q_textclass q_textdisplay d_textdisplay start l_textdis
     }
 
 -- why it is none, where start and end are such parts
-abbrev pub text_frame_fault : TextFrameParts → Option BuildFault
+abbrev pub text_frame_fault : TextFrameValue → Option BuildFault
 text_frame_fault t =
     number_fault Q_SCALE t.q_scale or_else number_fault Q_TEXTCLASS t.q_textclass or_else number_fault D_TEXTDISPLAY t.d_textdisplay
     or_else number_fault L_TEXTDISPLAY t.l_textdisplay or_else number_fault T_TEXTDISPLAY t.t_textdisplay or_else confirmed_fault t.q_textconfirm t.confirm
 
-pub record IsTextFrame (t : TextFrameParts) : Type 0 where
+pub record IsTextFrame (t : TextFrameValue) : Type 0 where
   pub faultless : text_frame_fault t ≡ None
   pub start : IsShown t.start
   pub end : IsShown t.end
 
 -- its variables in the order of sending
-abbrev pub text_frame_reading : TextFrameParts → Reading
+abbrev pub text_frame_reading : TextFrameValue → Reading
 text_frame_reading t =
     (Q_SCALE, t.q_scale) ∷ (Q_TEXTCLASS, t.q_textclass) ∷ (Q_TEXTDISPLAY, bit t.q_textdisplay) ∷ (D_TEXTDISPLAY, t.d_textdisplay)
     ∷ (shown_reading t.start ++ (L_TEXTDISPLAY, t.l_textdisplay) ∷ (T_TEXTDISPLAY, t.t_textdisplay)
     ∷ (shown_reading t.end ++ confirmed_reading t.q_textconfirm t.confirm))
 
-abbrev pub text_frame_of : ℕ × (ℕ × (Bool × (ℕ × (ShownParts × (ℕ × (ℕ × (ShownParts × (ℕ × Option Confirm)))))))) → TextFrameParts
-text_frame_of n = text_frame_parts n.0 n.1.0 n.1.1.0 n.1.1.1.0 n.1.1.1.1.0 n.1.1.1.1.1.0 n.1.1.1.1.1.1.0 n.1.1.1.1.1.1.1.0 n.1.1.1.1.1.1.1.1.0 n.1.1.1.1.1.1.1.1.1
+abbrev pub text_frame_of : ℕ × (ℕ × (Bool × (ℕ × (ShownValue × (ℕ × (ℕ × (ShownValue × (ℕ × Option Confirm)))))))) → TextFrameValue
+text_frame_of n = text_frame_value n.0 n.1.0 n.1.1.0 n.1.1.1.0 n.1.1.1.1.0 n.1.1.1.1.1.0 n.1.1.1.1.1.1.0 n.1.1.1.1.1.1.1.0 n.1.1.1.1.1.1.1.1.0 n.1.1.1.1.1.1.1.1.1
 
-unfoldable pub text_frame_from : Left → Option (TextFrameParts × Left)
+unfoldable pub text_frame_from : Left → Option (TextFrameValue × Left)
 text_frame_from = form_from text_frame_of (
     both_from (next_number Q_SCALE) (
     both_from (next_number Q_TEXTCLASS) (
@@ -141,7 +141,7 @@ text_frame_from = form_from text_frame_of (
     confirmed_from)))))))))
 
 -- each of its numbers is admitted
-pub record TextFrameFacts (t : TextFrameParts) : Type 0 where
+pub record TextFrameFacts (t : TextFrameValue) : Type 0 where
   pub q_scale : number_fault Q_SCALE t.q_scale ≡ None
   pub q_textclass : number_fault Q_TEXTCLASS t.q_textclass ≡ None
   pub d_textdisplay : number_fault D_TEXTDISPLAY t.d_textdisplay ≡ None

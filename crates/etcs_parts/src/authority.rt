@@ -1,16 +1,16 @@
-//! The sections of a movement authority, and what stands behind them.
+//! The sections of a movement authority, and what follows them.
 
 ghost use Rattle.std.specs.Prelude.{◌≡◌, ◌≤◌, ◌++◌, length, None, Some, IfOk, IfErr, IfSome, IfNone, OnOk};
 ghost use Rattle.etcs_vars.specs.Reading.{spelled};
-ghost use Rattle.etcs_parts.specs.Authorities.{authority_parts, authority_fault, IsAuthority, authority_from, end_timer_reading, danger_reading, overlap_reading};
+ghost use Rattle.etcs_parts.specs.Authorities.{authority_value, authority_fault, IsAuthority, authority_from, end_timer_reading, danger_reading, overlap_reading};
 
 use crate::authority_groups::{
     check_danger_point, check_end_timer, check_overlap, send_danger_point, send_end_timer,
     send_overlap, take_danger_point, take_end_timer, take_overlap,
 };
 use crate::section::Section;
-use etcs_bodies::{Items, Numbers, Part, check_count, clone_all, hold_all, send_list, take_list};
-use etcs_vars::parts::{Sink, Variables, bits_of_all};
+use etcs_bodies::{ListOf, Numbers, Part, check_count, clone_all, hold_all, send_list, take_list};
+use etcs_vars::parts::{VarSink, Variables, bits_of_all};
 use etcs_vars::{BuildFault, Var};
 use std::alloc::{AllocError, Global};
 use std::marker::Model;
@@ -25,17 +25,17 @@ pub struct Authority {
     danger_point: Option<(u16, u8)>,
     overlap: Option<(u16, u16, u16, u8)>,
     end: Section,
-    sections: Items<Section>,
+    sections: ListOf<Section>,
 }
 
 impl Model for Authority {
-    ghost use Rattle.etcs_parts.specs.Authorities.{AuthorityParts, authority_parts, IsAuthority};
+    ghost use Rattle.etcs_parts.specs.Authorities.{AuthorityValue, authority_value, IsAuthority};
 
-    ghost Value = { AuthorityParts };
+    ghost Value = { AuthorityValue };
 
-    ghost view = { λ s. authority_parts s.sections s.end s.end_timer s.danger_point s.overlap };
+    ghost view = { λ s. authority_value s.sections s.end s.end_timer s.danger_point s.overlap };
 
-    ghost invariant = { λ s. IsAuthority (authority_parts s.sections s.end s.end_timer s.danger_point s.overlap) };
+    ghost invariant = { λ s. IsAuthority (authority_value s.sections s.end s.end_timer s.danger_point s.overlap) };
 
     ghost inverse = { λ s. record { end_timer = s.end_timer; danger_point = s.danger_point; overlap = s.overlap; end = s.end; sections = s.sections } };
 }
@@ -66,9 +66,9 @@ impl Authority {
         danger_point: Option<(u16, u8)>,
         overlap: Option<(u16, u16, u16, u8)>,
     ) -> Result<Authority, (BuildFault, Vec<Section>)>
-        ensures ok { IfOk result (λ a. a ≡ authority_parts sections.items end end_timer danger_point overlap) }
-        ensures fits { OnOk result (authority_fault (authority_parts sections.items end end_timer danger_point overlap) ≡ None) }
-        ensures fault { IfErr result (λ e. authority_fault (authority_parts sections.items end end_timer danger_point overlap) ≡ Some e.0) }
+        ensures ok { IfOk result (λ a. a ≡ authority_value sections.items end end_timer danger_point overlap) }
+        ensures fits { OnOk result (authority_fault (authority_value sections.items end end_timer danger_point overlap) ≡ None) }
+        ensures fault { IfErr result (λ e. authority_fault (authority_value sections.items end end_timer danger_point overlap) ≡ Some e.0) }
         ensures back { IfErr result (λ e. e.1.items ≡ sections.items) }
     {
         match faultless(sections.as_slice(), &end, end_timer, danger_point, overlap) {
@@ -77,7 +77,7 @@ impl Authority {
                 danger_point,
                 overlap,
                 end,
-                sections: Items::from_vec(sections),
+                sections: ListOf::from_vec(sections),
             }),
             Err(fault) => Err((fault, sections)),
         }
@@ -123,7 +123,7 @@ impl Authority {
         self.overlap
     }
 
-    /// How many bits its groups behind flags take.
+    /// How many bits its groups after flags take.
     #[tactic(auto, using(crate::specs::laws::Authorities::groups_bits))]
     fn group_bits(&self) -> usize
         ensures bits { result ≡ length (spelled (end_timer_reading self.now.end_timer ++ (danger_reading self.now.danger_point ++ overlap_reading self.now.overlap))) }
@@ -144,9 +144,9 @@ fn faultless(
     danger_point: Option<(u16, u8)>,
     overlap: Option<(u16, u16, u16, u8)>,
 ) -> Result<(), BuildFault>
-    ensures ok { OnOk result (IsAuthority (authority_parts sections.now end.now end_timer danger_point overlap)) }
-    ensures fits { OnOk result (authority_fault (authority_parts sections.now end.now end_timer danger_point overlap) ≡ None) }
-    ensures fault { IfErr result (λ e. authority_fault (authority_parts sections.now end.now end_timer danger_point overlap) ≡ Some e) }
+    ensures ok { OnOk result (IsAuthority (authority_value sections.now end.now end_timer danger_point overlap)) }
+    ensures fits { OnOk result (authority_fault (authority_value sections.now end.now end_timer danger_point overlap) ≡ None) }
+    ensures fault { IfErr result (λ e. authority_fault (authority_value sections.now end.now end_timer danger_point overlap) ≡ Some e) }
 {
     check_count(Var::N_ITER, sections.len())?;
     check_end_timer(end_timer)?;
@@ -167,7 +167,7 @@ impl Variables for Authority {
         5 + bits_of_all(self.sections.as_slice()) + self.end.bits() + self.group_bits()
     }
 
-    fn send<S: Sink>(&self, out: &mut S) -> Result<(), AllocError> {
+    fn send<S: VarSink>(&self, out: &mut S) -> Result<(), AllocError> {
         send_list(Var::N_ITER, self.sections.as_slice(), out)?;
         self.end.send_end(out)?;
         send_end_timer(self.end_timer, out)?;
@@ -202,7 +202,7 @@ impl Part for Authority {
             danger_point: self.danger_point,
             overlap: self.overlap,
             end: self.end,
-            sections: Items::from_vec(clone_all(alloc, self.sections.as_slice())?),
+            sections: ListOf::from_vec(clone_all(alloc, self.sections.as_slice())?),
         })
     }
 }
@@ -234,6 +234,6 @@ fn read_authority(alloc: Global, numbers: &mut Numbers) -> Result<Option<Authori
         danger_point,
         overlap,
         end,
-        sections: Items::from_vec(sections),
+        sections: ListOf::from_vec(sections),
     }))
 }

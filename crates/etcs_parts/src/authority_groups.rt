@@ -1,11 +1,11 @@
-//! The groups behind flags of a movement authority: the end section's timer, the danger point and the
+//! The groups after flags of a movement authority: the end section's timer, the danger point and the
 //! overlap.
 
 ghost use Rattle.std.specs.Prelude.{◌≡◌, None, Some, IfErr, IfSome, IfNone, OnOk, OnErr};
 ghost use Rattle.etcs_parts.specs.Authorities.{end_timer_fault, end_timer_reading, end_timer_from, danger_fault, danger_reading, danger_from, overlap_fault, overlap_reading, overlap_from};
 
 use etcs_bodies::{Numbers, check};
-use etcs_vars::parts::Sink;
+use etcs_vars::parts::VarSink;
 use etcs_vars::{BuildFault, Var};
 use std::alloc::AllocError;
 
@@ -21,8 +21,8 @@ pub(crate) fn check_end_timer(end_timer: Option<(u16, u16)>) -> Result<(), Build
     Ok(())
 }
 
-/// Sends the timer of the end section, behind its flag.
-pub(crate) fn send_end_timer<S: Sink>(
+/// Sends the timer of the end section, after its flag.
+pub(crate) fn send_end_timer<S: VarSink>(
     end_timer: Option<(u16, u16)>,
     out: &mut S,
 ) -> Result<(), AllocError>
@@ -39,7 +39,7 @@ pub(crate) fn send_end_timer<S: Sink>(
     }
 }
 
-/// The timer of the end section that the numbers begin with, behind its flag.
+/// The timer of the end section that the numbers begin with, after its flag.
 #[tactic(auto, unfolding(crate::specs::Authorities::end_timer_from))]
 pub(crate) fn take_end_timer(numbers: &mut Numbers) -> Option<Option<(u16, u16)>>
     ensures part { IfSome result (λ t. end_timer_fault t ≡ None) }
@@ -66,8 +66,8 @@ pub(crate) fn check_danger_point(danger_point: Option<(u16, u8)>) -> Result<(), 
     Ok(())
 }
 
-/// Sends the danger point, behind its flag.
-pub(crate) fn send_danger_point<S: Sink>(
+/// Sends the danger point, after its flag.
+pub(crate) fn send_danger_point<S: VarSink>(
     danger_point: Option<(u16, u8)>,
     out: &mut S,
 ) -> Result<(), AllocError>
@@ -84,7 +84,7 @@ pub(crate) fn send_danger_point<S: Sink>(
     }
 }
 
-/// The danger point that the numbers begin with, behind its flag.
+/// The danger point that the numbers begin with, after its flag.
 #[tactic(auto, unfolding(crate::specs::Authorities::danger_from))]
 pub(crate) fn take_danger_point(numbers: &mut Numbers) -> Option<Option<(u16, u8)>>
     ensures part { IfSome result (λ p. danger_fault p ≡ None) }
@@ -113,8 +113,8 @@ pub(crate) fn check_overlap(overlap: Option<(u16, u16, u16, u8)>) -> Result<(), 
     Ok(())
 }
 
-/// Sends the overlap, behind its flag.
-pub(crate) fn send_overlap<S: Sink>(
+/// Sends the overlap, after its flag.
+pub(crate) fn send_overlap<S: VarSink>(
     overlap: Option<(u16, u16, u16, u8)>,
     out: &mut S,
 ) -> Result<(), AllocError>
@@ -133,7 +133,7 @@ pub(crate) fn send_overlap<S: Sink>(
     }
 }
 
-/// The overlap that the numbers begin with, behind its flag.
+/// The overlap that the numbers begin with, after its flag.
 #[tactic(auto, unfolding(crate::specs::Authorities::overlap_from))]
 pub(crate) fn take_overlap(numbers: &mut Numbers) -> Option<Option<(u16, u16, u16, u8)>>
     ensures part { IfSome result (λ o. overlap_fault o ≡ None) }

@@ -3,7 +3,7 @@
 ghost use Rattle.std.specs.Prelude.{◌≡◌, ◌++◌, None, Some, IfOk, IfErr, IfSome, IfNone, OnOk};
 
 use etcs_bodies::{Entry, Numbers, Part, check};
-use etcs_vars::parts::{Sink, Variables};
+use etcs_vars::parts::{VarSink, Variables};
 use etcs_vars::{BuildFault, Var};
 use std::alloc::{AllocError, Global};
 use std::marker::Model;
@@ -16,19 +16,19 @@ pub struct BaliseAt {
 }
 
 impl Model for BaliseAt {
-    ghost use Rattle.etcs_parts.specs.BalisesAt.{BaliseAtParts, balise_at_parts, IsBaliseAt};
+    ghost use Rattle.etcs_parts.specs.BalisesAt.{BaliseAtValue, balise_at_value, IsBaliseAt};
 
-    ghost Value = { BaliseAtParts };
+    ghost Value = { BaliseAtValue };
 
-    ghost view = { λ s. balise_at_parts s.nid_c s.nid_bg };
+    ghost view = { λ s. balise_at_value s.nid_c s.nid_bg };
 
-    ghost invariant = { λ s. IsBaliseAt (balise_at_parts s.nid_c s.nid_bg) };
+    ghost invariant = { λ s. IsBaliseAt (balise_at_value s.nid_c s.nid_bg) };
 
     ghost inverse = { λ s. record { nid_c = s.nid_c; nid_bg = s.nid_bg } };
 }
 
 impl BaliseAt {
-    ghost use Rattle.etcs_parts.specs.BalisesAt.{balise_at_parts, balise_at_fault, IsBaliseAt, balise_at_from};
+    ghost use Rattle.etcs_parts.specs.BalisesAt.{balise_at_value, balise_at_fault, IsBaliseAt, balise_at_from};
 
     /// The group `nid_bg`; `nid_c` is given where its country or region is another than that of the group before.
     ///
@@ -36,9 +36,9 @@ impl BaliseAt {
     ///
     /// `NotAdmitted` with the first of NID_C (10 bits) and NID_BG (14) that doesn't admit its number.
     pub fn new(nid_c: Option<u16>, nid_bg: u16) -> Result<BaliseAt, BuildFault>
-        ensures ok { IfOk result (λ b. b ≡ balise_at_parts nid_c nid_bg) }
-        ensures fits { OnOk result (balise_at_fault (balise_at_parts nid_c nid_bg) ≡ None) }
-        ensures fault { IfErr result (λ e. balise_at_fault (balise_at_parts nid_c nid_bg) ≡ Some e) }
+        ensures ok { IfOk result (λ b. b ≡ balise_at_value nid_c nid_bg) }
+        ensures fits { OnOk result (balise_at_fault (balise_at_value nid_c nid_bg) ≡ None) }
+        ensures fault { IfErr result (λ e. balise_at_fault (balise_at_value nid_c nid_bg) ≡ Some e) }
     {
         if let Some(country) = nid_c {
             check(Var::NID_C, u64::from(country))?;
@@ -91,7 +91,7 @@ impl Variables for BaliseAt {
         }
     }
 
-    fn send<S: Sink>(&self, out: &mut S) -> Result<(), AllocError> {
+    fn send<S: VarSink>(&self, out: &mut S) -> Result<(), AllocError> {
         match self.nid_c {
             None => out.send(&[
                 (Var::Q_NEWCOUNTRY, 0),

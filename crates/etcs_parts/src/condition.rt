@@ -3,7 +3,7 @@
 ghost use Rattle.std.specs.Prelude.{◌≡◌, ◌++◌, None, Some, IfOk, IfErr, IfSome, IfNone, OnOk};
 
 use etcs_bodies::{Entry, Numbers, Part, check};
-use etcs_vars::parts::{Sink, Variables};
+use etcs_vars::parts::{VarSink, Variables};
 use etcs_vars::{BuildFault, Var};
 use std::alloc::{AllocError, Global};
 use std::marker::Model;
@@ -19,19 +19,19 @@ pub struct Condition {
 }
 
 impl Model for Condition {
-    ghost use Rattle.etcs_parts.specs.Conditions.{ConditionParts, condition_parts, IsCondition};
+    ghost use Rattle.etcs_parts.specs.Conditions.{ConditionValue, condition_value, IsCondition};
 
-    ghost Value = { ConditionParts };
+    ghost Value = { ConditionValue };
 
-    ghost view = { λ s. condition_parts s.d_trackcond s.l_trackcond s.m_trackcond };
+    ghost view = { λ s. condition_value s.d_trackcond s.l_trackcond s.m_trackcond };
 
-    ghost invariant = { λ s. IsCondition (condition_parts s.d_trackcond s.l_trackcond s.m_trackcond) };
+    ghost invariant = { λ s. IsCondition (condition_value s.d_trackcond s.l_trackcond s.m_trackcond) };
 
     ghost inverse = { λ s. record { d_trackcond = s.d_trackcond; l_trackcond = s.l_trackcond; m_trackcond = s.m_trackcond } };
 }
 
 impl Condition {
-    ghost use Rattle.etcs_parts.specs.Conditions.{condition_parts, condition_fault, IsCondition, condition_from};
+    ghost use Rattle.etcs_parts.specs.Conditions.{condition_value, condition_fault, IsCondition, condition_from};
 
     /// The condition `m_trackcond` from `d_trackcond` on, over `l_trackcond`.
     ///
@@ -40,9 +40,9 @@ impl Condition {
     /// `NotAdmitted` with the first of D_TRACKCOND (15 bits), L_TRACKCOND (15) and M_TRACKCOND (4) that doesn't admit
     /// its number.
     pub fn new(d_trackcond: u16, l_trackcond: u16, m_trackcond: u8) -> Result<Condition, BuildFault>
-        ensures ok { IfOk result (λ c. c ≡ condition_parts d_trackcond l_trackcond m_trackcond) }
-        ensures fits { OnOk result (condition_fault (condition_parts d_trackcond l_trackcond m_trackcond) ≡ None) }
-        ensures fault { IfErr result (λ e. condition_fault (condition_parts d_trackcond l_trackcond m_trackcond) ≡ Some e) }
+        ensures ok { IfOk result (λ c. c ≡ condition_value d_trackcond l_trackcond m_trackcond) }
+        ensures fits { OnOk result (condition_fault (condition_value d_trackcond l_trackcond m_trackcond) ≡ None) }
+        ensures fault { IfErr result (λ e. condition_fault (condition_value d_trackcond l_trackcond m_trackcond) ≡ Some e) }
     {
         check(Var::D_TRACKCOND, u64::from(d_trackcond))?;
         check(Var::L_TRACKCOND, u64::from(l_trackcond))?;
@@ -103,7 +103,7 @@ impl Variables for Condition {
         34
     }
 
-    fn send<S: Sink>(&self, out: &mut S) -> Result<(), AllocError> {
+    fn send<S: VarSink>(&self, out: &mut S) -> Result<(), AllocError> {
         out.send(&[
             (Var::D_TRACKCOND, u64::from(self.d_trackcond)),
             (Var::L_TRACKCOND, u64::from(self.l_trackcond)),

@@ -4,7 +4,7 @@ ghost use Rattle.std.specs.Prelude.{◌≡◌, ◌++◌, None, Some, IfOk, IfErr
 ghost use Rattle.etcs_parts.specs.Differings.{category_of};
 
 use etcs_bodies::{Numbers, Part, check};
-use etcs_vars::parts::{Sink, Variables};
+use etcs_vars::parts::{VarSink, Variables};
 use etcs_vars::{BuildFault, Var};
 use std::alloc::{AllocError, Global};
 use std::marker::Model;
@@ -18,19 +18,19 @@ pub struct Differing {
 }
 
 impl Model for Differing {
-    ghost use Rattle.etcs_parts.specs.Differings.{DifferingParts, differing_parts, IsDiffering};
+    ghost use Rattle.etcs_parts.specs.Differings.{DifferingValue, differing_value, IsDiffering};
 
-    ghost Value = { DifferingParts };
+    ghost Value = { DifferingValue };
 
-    ghost view = { λ s. differing_parts s.q_diff s.category s.v_diff };
+    ghost view = { λ s. differing_value s.q_diff s.category s.v_diff };
 
-    ghost invariant = { λ s. IsDiffering (differing_parts s.q_diff s.category s.v_diff) };
+    ghost invariant = { λ s. IsDiffering (differing_value s.q_diff s.category s.v_diff) };
 
     ghost inverse = { λ s. record { q_diff = s.q_diff; category = s.category; v_diff = s.v_diff } };
 }
 
 impl Differing {
-    ghost use Rattle.etcs_parts.specs.Differings.{differing_parts, differing_fault, IsDiffering, differing_from};
+    ghost use Rattle.etcs_parts.specs.Differings.{differing_value, differing_fault, IsDiffering, differing_from};
 
     /// A speed for the trains of a category.
     ///
@@ -44,9 +44,9 @@ impl Differing {
     /// [`BuildFault::NotAdmitted`] with the first of these: Q_DIFF, above 2; NC_CDDIFF or NC_DIFF by `q_diff`, above
     /// 15; V_DIFF, above 127.
     pub fn new(q_diff: u8, category: u8, v_diff: u8) -> Result<Differing, BuildFault>
-        ensures ok { IfOk result (λ d. d ≡ differing_parts q_diff category v_diff) }
-        ensures fits { OnOk result (differing_fault (differing_parts q_diff category v_diff) ≡ None) }
-        ensures fault { IfErr result (λ e. differing_fault (differing_parts q_diff category v_diff) ≡ Some e) }
+        ensures ok { IfOk result (λ d. d ≡ differing_value q_diff category v_diff) }
+        ensures fits { OnOk result (differing_fault (differing_value q_diff category v_diff) ≡ None) }
+        ensures fault { IfErr result (λ e. differing_fault (differing_value q_diff category v_diff) ≡ Some e) }
     {
         check(Var::Q_DIFF, u64::from(q_diff))?;
         check(category_var(q_diff), u64::from(category))?;
@@ -101,7 +101,7 @@ impl Differing {
     }
 }
 
-/// The variable of the category behind Q_DIFF.
+/// The variable of the category after Q_DIFF.
 fn category_var(q_diff: u8) -> Var
     ensures { result ≡ category_of q_diff }
 {
@@ -122,7 +122,7 @@ impl Variables for Differing {
         13
     }
 
-    fn send<S: Sink>(&self, out: &mut S) -> Result<(), AllocError> {
+    fn send<S: VarSink>(&self, out: &mut S) -> Result<(), AllocError> {
         out.send(&[
             (Var::Q_DIFF, u64::from(self.q_diff)),
             (category_var(self.q_diff), u64::from(self.category)),

@@ -3,7 +3,7 @@
 ghost use Rattle.std.specs.Prelude.{◌≡◌, ◌++◌, None, Some, IfOk, IfErr, IfSome, IfNone, OnOk};
 
 use etcs_bodies::{Entry, Numbers, Part, check, check_guard};
-use etcs_vars::parts::{Sink, Variables};
+use etcs_vars::parts::{VarSink, Variables};
 use etcs_vars::{BuildFault, Var};
 use std::alloc::{AllocError, Global};
 use std::marker::Model;
@@ -16,19 +16,19 @@ pub struct Level {
 }
 
 impl Model for Level {
-    ghost use Rattle.etcs_parts.specs.Levels.{LevelParts, level_parts, IsLevel};
+    ghost use Rattle.etcs_parts.specs.Levels.{LevelValue, level_value, IsLevel};
 
-    ghost Value = { LevelParts };
+    ghost Value = { LevelValue };
 
-    ghost view = { λ s. level_parts s.m_leveltr s.nid_ntc };
+    ghost view = { λ s. level_value s.m_leveltr s.nid_ntc };
 
-    ghost invariant = { λ s. IsLevel (level_parts s.m_leveltr s.nid_ntc) };
+    ghost invariant = { λ s. IsLevel (level_value s.m_leveltr s.nid_ntc) };
 
     ghost inverse = { λ s. record { m_leveltr = s.m_leveltr; nid_ntc = s.nid_ntc } };
 }
 
 impl Level {
-    ghost use Rattle.etcs_parts.specs.Levels.{level_parts, level_fault, IsLevel, level_from};
+    ghost use Rattle.etcs_parts.specs.Levels.{level_value, level_fault, IsLevel, level_from};
 
     /// A level.
     ///
@@ -40,9 +40,9 @@ impl Level {
     /// - `NotAdmitted(M_LEVELTR)` where the level is above 4.
     /// - `Guard(M_LEVELTR)` where level NTC has no national system, or another level has one.
     pub fn new(m_leveltr: u8, nid_ntc: Option<u8>) -> Result<Level, BuildFault>
-        ensures ok { IfOk result (λ l. l ≡ level_parts m_leveltr nid_ntc) }
-        ensures fits { OnOk result (level_fault (level_parts m_leveltr nid_ntc) ≡ None) }
-        ensures fault { IfErr result (λ e. level_fault (level_parts m_leveltr nid_ntc) ≡ Some e) }
+        ensures ok { IfOk result (λ l. l ≡ level_value m_leveltr nid_ntc) }
+        ensures fits { OnOk result (level_fault (level_value m_leveltr nid_ntc) ≡ None) }
+        ensures fault { IfErr result (λ e. level_fault (level_value m_leveltr nid_ntc) ≡ Some e) }
     {
         check(Var::M_LEVELTR, u64::from(m_leveltr))?;
         check_guard(Var::M_LEVELTR, m_leveltr == 1, nid_ntc.is_some())?;
@@ -97,7 +97,7 @@ impl Variables for Level {
         }
     }
 
-    fn send<S: Sink>(&self, out: &mut S) -> Result<(), AllocError> {
+    fn send<S: VarSink>(&self, out: &mut S) -> Result<(), AllocError> {
         match self.nid_ntc {
             None => out.send(&[(Var::M_LEVELTR, u64::from(self.m_leveltr))]),
             Some(system) => out.send(&[

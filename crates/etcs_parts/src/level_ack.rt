@@ -4,7 +4,7 @@ ghost use Rattle.std.specs.Prelude.{◌≡◌, ◌++◌, None, Some, IfOk, IfErr
 
 use crate::level::Level;
 use etcs_bodies::{Entry, Numbers, Part, check};
-use etcs_vars::parts::{Sink, Variables};
+use etcs_vars::parts::{VarSink, Variables};
 use etcs_vars::{BuildFault, Var};
 use std::alloc::{AllocError, Global};
 use std::marker::Model;
@@ -19,9 +19,9 @@ pub struct LevelAck {
 }
 
 impl Model for LevelAck {
-    ghost use Rattle.etcs_parts.specs.Levels.{LevelAckParts, level_ack_of, IsLevelAck};
+    ghost use Rattle.etcs_parts.specs.Levels.{LevelAckValue, level_ack_of, IsLevelAck};
 
-    ghost Value = { LevelAckParts };
+    ghost Value = { LevelAckValue };
 
     ghost view = { λ s. level_ack_of (s.level, s.l_ackleveltr) };
 
@@ -31,7 +31,7 @@ impl Model for LevelAck {
 }
 
 impl LevelAck {
-    ghost use Rattle.etcs_parts.specs.Levels.{level_ack_parts, level_ack_fault, IsLevelAck, level_ack_from};
+    ghost use Rattle.etcs_parts.specs.Levels.{level_ack_value, level_ack_fault, IsLevelAck, level_ack_from};
 
     /// A level and its length of acknowledgement.
     ///
@@ -52,9 +52,9 @@ impl LevelAck {
         nid_ntc: Option<u8>,
         l_ackleveltr: u16,
     ) -> Result<LevelAck, BuildFault>
-        ensures ok { IfOk result (λ l. l ≡ level_ack_parts m_leveltr nid_ntc l_ackleveltr) }
-        ensures fits { OnOk result (level_ack_fault (level_ack_parts m_leveltr nid_ntc l_ackleveltr) ≡ None) }
-        ensures fault { IfErr result (λ e. level_ack_fault (level_ack_parts m_leveltr nid_ntc l_ackleveltr) ≡ Some e) }
+        ensures ok { IfOk result (λ l. l ≡ level_ack_value m_leveltr nid_ntc l_ackleveltr) }
+        ensures fits { OnOk result (level_ack_fault (level_ack_value m_leveltr nid_ntc l_ackleveltr) ≡ None) }
+        ensures fault { IfErr result (λ e. level_ack_fault (level_ack_value m_leveltr nid_ntc l_ackleveltr) ≡ Some e) }
     {
         let level = Level::new(m_leveltr, nid_ntc)?;
         check(Var::L_ACKLEVELTR, u64::from(l_ackleveltr))?;
@@ -112,7 +112,7 @@ impl Variables for LevelAck {
         self.level.bits() + 15
     }
 
-    fn send<S: Sink>(&self, out: &mut S) -> Result<(), AllocError> {
+    fn send<S: VarSink>(&self, out: &mut S) -> Result<(), AllocError> {
         self.level.send(out)?;
         out.send(&[(Var::L_ACKLEVELTR, u64::from(self.l_ackleveltr))])
     }

@@ -3,7 +3,7 @@
 ghost use Rattle.std.specs.Prelude.{◌≡◌, ◌++◌, None, Some, IfOk, IfErr, IfSome, IfNone, OnOk};
 
 use etcs_bodies::{Entry, Numbers, Part, check};
-use etcs_vars::parts::{Sink, Variables};
+use etcs_vars::parts::{VarSink, Variables};
 use etcs_vars::{BuildFault, Var};
 use std::alloc::{AllocError, Global};
 use std::marker::Model;
@@ -20,21 +20,21 @@ pub struct Link {
 }
 
 impl Model for Link {
-    ghost use Rattle.etcs_parts.specs.Links.{LinkParts, link_parts, IsLink};
+    ghost use Rattle.etcs_parts.specs.Links.{LinkValue, link_value, IsLink};
 
-    ghost Value = { LinkParts };
+    ghost Value = { LinkValue };
 
-    ghost view = { λ s. link_parts s.d_link s.nid_c s.nid_bg s.q_linkorientation s.q_linkreaction s.q_locacc };
+    ghost view = { λ s. link_value s.d_link s.nid_c s.nid_bg s.q_linkorientation s.q_linkreaction s.q_locacc };
 
-    ghost invariant = { λ s. IsLink (link_parts s.d_link s.nid_c s.nid_bg s.q_linkorientation s.q_linkreaction s.q_locacc) };
+    ghost invariant = { λ s. IsLink (link_value s.d_link s.nid_c s.nid_bg s.q_linkorientation s.q_linkreaction s.q_locacc) };
 
     ghost inverse = { λ s. record { d_link = s.d_link; nid_c = s.nid_c; nid_bg = s.nid_bg; q_linkorientation = s.q_linkorientation; q_linkreaction = s.q_linkreaction; q_locacc = s.q_locacc } };
 }
 
 impl Link {
-    ghost use Rattle.etcs_parts.specs.Links.{link_parts, link_fault, IsLink, link_from};
+    ghost use Rattle.etcs_parts.specs.Links.{link_value, link_fault, IsLink, link_from};
 
-    /// The group `d_link` behind the one before, in steps of Q_SCALE; `nid_c` is given where its country or
+    /// The group `d_link` after the one before, in steps of Q_SCALE; `nid_c` is given where its country or
     /// region is another.
     ///
     /// # Errors
@@ -49,9 +49,9 @@ impl Link {
         q_linkreaction: u8,
         q_locacc: u8,
     ) -> Result<Link, BuildFault>
-        ensures ok { IfOk result (λ l. l ≡ link_parts d_link nid_c nid_bg q_linkorientation q_linkreaction q_locacc) }
-        ensures fits { OnOk result (link_fault (link_parts d_link nid_c nid_bg q_linkorientation q_linkreaction q_locacc) ≡ None) }
-        ensures fault { IfErr result (λ e. link_fault (link_parts d_link nid_c nid_bg q_linkorientation q_linkreaction q_locacc) ≡ Some e) }
+        ensures ok { IfOk result (λ l. l ≡ link_value d_link nid_c nid_bg q_linkorientation q_linkreaction q_locacc) }
+        ensures fits { OnOk result (link_fault (link_value d_link nid_c nid_bg q_linkorientation q_linkreaction q_locacc) ≡ None) }
+        ensures fault { IfErr result (λ e. link_fault (link_value d_link nid_c nid_bg q_linkorientation q_linkreaction q_locacc) ≡ Some e) }
     {
         check(Var::D_LINK, u64::from(d_link))?;
         if let Some(country) = nid_c {
@@ -153,7 +153,7 @@ impl Variables for Link {
         }
     }
 
-    fn send<S: Sink>(&self, out: &mut S) -> Result<(), AllocError> {
+    fn send<S: VarSink>(&self, out: &mut S) -> Result<(), AllocError> {
         match self.nid_c {
             None => out.send(&[
                 (Var::D_LINK, u64::from(self.d_link)),

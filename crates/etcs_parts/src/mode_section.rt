@@ -3,7 +3,7 @@
 ghost use Rattle.std.specs.Prelude.{◌≡◌, ◌++◌, None, Some, IfOk, IfErr, IfSome, IfNone, OnOk};
 
 use etcs_bodies::{Entry, Numbers, Part, check};
-use etcs_vars::parts::{Sink, Variables};
+use etcs_vars::parts::{VarSink, Variables};
 use etcs_vars::{BuildFault, Var};
 use std::alloc::{AllocError, Global};
 use std::marker::Model;
@@ -22,22 +22,22 @@ pub struct ModeSection {
 }
 
 impl Model for ModeSection {
-    ghost use Rattle.etcs_parts.specs.ModeSections.{ModeSectionParts, mode_section_parts, IsModeSection};
+    ghost use Rattle.etcs_parts.specs.ModeSections.{ModeSectionValue, mode_section_value, IsModeSection};
 
-    ghost Value = { ModeSectionParts };
+    ghost Value = { ModeSectionValue };
 
-    ghost view = { λ s. mode_section_parts s.d_mamode s.m_mamode s.v_mamode s.l_mamode s.l_ackmamode s.q_mamode };
+    ghost view = { λ s. mode_section_value s.d_mamode s.m_mamode s.v_mamode s.l_mamode s.l_ackmamode s.q_mamode };
 
-    ghost invariant = { λ s. IsModeSection (mode_section_parts s.d_mamode s.m_mamode s.v_mamode s.l_mamode s.l_ackmamode s.q_mamode) };
+    ghost invariant = { λ s. IsModeSection (mode_section_value s.d_mamode s.m_mamode s.v_mamode s.l_mamode s.l_ackmamode s.q_mamode) };
 
     ghost inverse = { λ s. record { d_mamode = s.d_mamode; m_mamode = s.m_mamode; v_mamode = s.v_mamode; l_mamode = s.l_mamode; l_ackmamode = s.l_ackmamode; q_mamode = s.q_mamode } };
 }
 
 impl ModeSection {
-    ghost use Rattle.etcs_parts.specs.ModeSections.{mode_section_parts, mode_section_fault, IsModeSection, mode_section_from};
+    ghost use Rattle.etcs_parts.specs.ModeSections.{mode_section_value, mode_section_fault, IsModeSection, mode_section_from};
 
     /// The area from `d_mamode` on, over `l_mamode`, in which the train runs in the mode `m_mamode` and at most at
-    /// `v_mamode`. The driver may acknowledge the mode over `l_ackmamode` before it. `q_mamode` tells whether the start
+    /// `v_mamode`. The driver may acknowledge the mode over `l_ackmamode` before it. `q_mamode` says whether the start
     /// of the area is the end of authority alone, and not the supervised location too.
     ///
     /// # Errors
@@ -52,9 +52,9 @@ impl ModeSection {
         l_ackmamode: u16,
         q_mamode: bool,
     ) -> Result<ModeSection, BuildFault>
-        ensures ok { IfOk result (λ m. m ≡ mode_section_parts d_mamode m_mamode v_mamode l_mamode l_ackmamode q_mamode) }
-        ensures fits { OnOk result (mode_section_fault (mode_section_parts d_mamode m_mamode v_mamode l_mamode l_ackmamode q_mamode) ≡ None) }
-        ensures fault { IfErr result (λ e. mode_section_fault (mode_section_parts d_mamode m_mamode v_mamode l_mamode l_ackmamode q_mamode) ≡ Some e) }
+        ensures ok { IfOk result (λ m. m ≡ mode_section_value d_mamode m_mamode v_mamode l_mamode l_ackmamode q_mamode) }
+        ensures fits { OnOk result (mode_section_fault (mode_section_value d_mamode m_mamode v_mamode l_mamode l_ackmamode q_mamode) ≡ None) }
+        ensures fault { IfErr result (λ e. mode_section_fault (mode_section_value d_mamode m_mamode v_mamode l_mamode l_ackmamode q_mamode) ≡ Some e) }
     {
         check(Var::D_MAMODE, u64::from(d_mamode))?;
         check(Var::M_MAMODE, u64::from(m_mamode))?;
@@ -147,7 +147,7 @@ impl Variables for ModeSection {
         55
     }
 
-    fn send<S: Sink>(&self, out: &mut S) -> Result<(), AllocError> {
+    fn send<S: VarSink>(&self, out: &mut S) -> Result<(), AllocError> {
         out.send(&[
             (Var::D_MAMODE, u64::from(self.d_mamode)),
             (Var::M_MAMODE, u64::from(self.m_mamode)),

@@ -3,7 +3,7 @@
 ghost use Rattle.std.specs.Prelude.{◌≡◌, ◌++◌, None, Some, IfOk, IfErr, IfSome, IfNone, OnOk};
 
 use etcs_bodies::{Entry, Numbers, Part, check};
-use etcs_vars::parts::{Sink, Variables};
+use etcs_vars::parts::{VarSink, Variables};
 use etcs_vars::{BuildFault, Var};
 use std::alloc::{AllocError, Global};
 use std::marker::Model;
@@ -16,30 +16,30 @@ pub struct ReportAt {
 }
 
 impl Model for ReportAt {
-    ghost use Rattle.etcs_parts.specs.ReportsAt.{ReportAtParts, report_at_parts, IsReportAt};
+    ghost use Rattle.etcs_parts.specs.ReportsAt.{ReportAtValue, report_at_value, IsReportAt};
 
-    ghost Value = { ReportAtParts };
+    ghost Value = { ReportAtValue };
 
-    ghost view = { λ s. report_at_parts s.d_loc s.q_lgtloc };
+    ghost view = { λ s. report_at_value s.d_loc s.q_lgtloc };
 
-    ghost invariant = { λ s. IsReportAt (report_at_parts s.d_loc s.q_lgtloc) };
+    ghost invariant = { λ s. IsReportAt (report_at_value s.d_loc s.q_lgtloc) };
 
     ghost inverse = { λ s. record { d_loc = s.d_loc; q_lgtloc = s.q_lgtloc } };
 }
 
 impl ReportAt {
-    ghost use Rattle.etcs_parts.specs.ReportsAt.{report_at_parts, report_at_fault, IsReportAt, report_at_from};
+    ghost use Rattle.etcs_parts.specs.ReportsAt.{report_at_value, report_at_fault, IsReportAt, report_at_from};
 
-    /// The place `d_loc` after the one before, in steps of Q_SCALE. `q_lgtloc` tells whether the train reports when its
+    /// The place `d_loc` after the one before, in steps of Q_SCALE. `q_lgtloc` says whether the train reports when its
     /// front reaches the place, and not its rear.
     ///
     /// # Errors
     ///
     /// `NotAdmitted(D_LOC)` where the distance is above 32,767.
     pub fn new(d_loc: u16, q_lgtloc: bool) -> Result<ReportAt, BuildFault>
-        ensures ok { IfOk result (λ r. r ≡ report_at_parts d_loc q_lgtloc) }
-        ensures fits { OnOk result (report_at_fault (report_at_parts d_loc q_lgtloc) ≡ None) }
-        ensures fault { IfErr result (λ e. report_at_fault (report_at_parts d_loc q_lgtloc) ≡ Some e) }
+        ensures ok { IfOk result (λ r. r ≡ report_at_value d_loc q_lgtloc) }
+        ensures fits { OnOk result (report_at_fault (report_at_value d_loc q_lgtloc) ≡ None) }
+        ensures fault { IfErr result (λ e. report_at_fault (report_at_value d_loc q_lgtloc) ≡ Some e) }
     {
         check(Var::D_LOC, u64::from(d_loc))?;
         Ok(ReportAt { d_loc, q_lgtloc })
@@ -82,7 +82,7 @@ impl Variables for ReportAt {
         16
     }
 
-    fn send<S: Sink>(&self, out: &mut S) -> Result<(), AllocError> {
+    fn send<S: VarSink>(&self, out: &mut S) -> Result<(), AllocError> {
         out.send(&[
             (Var::D_LOC, u64::from(self.d_loc)),
             (Var::Q_LGTLOC, u64::from(self.q_lgtloc)),

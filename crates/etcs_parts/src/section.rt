@@ -4,7 +4,7 @@ ghost use Rattle.std.specs.Prelude.{◌≡◌, ◌++◌, None, Some, IfOk, IfErr
 ghost use Rattle.etcs_parts.specs.Sections.{timer_fault, timer_reading, timer_from};
 
 use etcs_bodies::{Numbers, Part, check};
-use etcs_vars::parts::{Sink, Variables};
+use etcs_vars::parts::{VarSink, Variables};
 use etcs_vars::{BuildFault, Var};
 use std::alloc::{AllocError, Global};
 use std::marker::Model;
@@ -20,19 +20,19 @@ pub struct Section {
 }
 
 impl Model for Section {
-    ghost use Rattle.etcs_parts.specs.Sections.{SectionParts, section_parts, IsSection};
+    ghost use Rattle.etcs_parts.specs.Sections.{SectionValue, section_value, IsSection};
 
-    ghost Value = { SectionParts };
+    ghost Value = { SectionValue };
 
-    ghost view = { λ s. section_parts s.length s.timer };
+    ghost view = { λ s. section_value s.length s.timer };
 
-    ghost invariant = { λ s. IsSection (section_parts s.length s.timer) };
+    ghost invariant = { λ s. IsSection (section_value s.length s.timer) };
 
     ghost inverse = { λ s. record { length = s.length; timer = s.timer } };
 }
 
 impl Section {
-    ghost use Rattle.etcs_parts.specs.Sections.{section_parts, section_fault, IsSection, section_from, end_reading, end_from};
+    ghost use Rattle.etcs_parts.specs.Sections.{section_value, section_fault, IsSection, section_from, end_reading, end_from};
 
     /// A section of this length, in steps of Q_SCALE.
     ///
@@ -48,9 +48,9 @@ impl Section {
     /// - `NotAdmitted(T_SECTIONTIMER)` where the time is above 1,023.
     /// - `NotAdmitted(D_SECTIONTIMERSTOPLOC)` where the distance is above 32,767.
     pub fn new(length: u16, timer: Option<(u16, u16)>) -> Result<Section, BuildFault>
-        ensures ok { IfOk result (λ s. s ≡ section_parts length timer) }
-        ensures fits { OnOk result (section_fault (section_parts length timer) ≡ None) }
-        ensures fault { IfErr result (λ e. section_fault (section_parts length timer) ≡ Some e) }
+        ensures ok { IfOk result (λ s. s ≡ section_value length timer) }
+        ensures fits { OnOk result (section_fault (section_value length timer) ≡ None) }
+        ensures fault { IfErr result (λ e. section_fault (section_value length timer) ≡ Some e) }
     {
         check(Var::L_SECTION, u64::from(length))?;
         if let Some((time, stop)) = timer {
@@ -100,7 +100,7 @@ impl Section {
     }
 
     /// Sends its variables as those of the end section.
-    pub(crate) fn send_end<S: Sink>(&self, out: &mut S) -> Result<(), AllocError>
+    pub(crate) fn send_end<S: VarSink>(&self, out: &mut S) -> Result<(), AllocError>
         ensures ok { OnOk result (out.new ≡ S.with out.old (end_reading self.now)) }
         ensures err { OnErr result (S.failed out.old out.new) }
     {
@@ -109,8 +109,8 @@ impl Section {
     }
 }
 
-/// Sends the timer of a section, behind its flag.
-fn send_timer<S: Sink>(timer: Option<(u16, u16)>, out: &mut S) -> Result<(), AllocError>
+/// Sends the timer of a section, after its flag.
+fn send_timer<S: VarSink>(timer: Option<(u16, u16)>, out: &mut S) -> Result<(), AllocError>
     ensures ok { OnOk result (out.new ≡ S.with out.old (timer_reading timer)) }
     ensures err { OnErr result (S.failed out.old out.new) }
 {
@@ -124,7 +124,7 @@ fn send_timer<S: Sink>(timer: Option<(u16, u16)>, out: &mut S) -> Result<(), All
     }
 }
 
-/// The timer that the numbers begin with, behind its flag.
+/// The timer that the numbers begin with, after its flag.
 #[tactic(auto, unfolding(crate::specs::Sections::timer_from))]
 fn take_timer(numbers: &mut Numbers) -> Option<Option<(u16, u16)>>
     ensures part { IfSome result (λ t. timer_fault t ≡ None) }
@@ -152,7 +152,7 @@ impl Variables for Section {
         }
     }
 
-    fn send<S: Sink>(&self, out: &mut S) -> Result<(), AllocError> {
+    fn send<S: VarSink>(&self, out: &mut S) -> Result<(), AllocError> {
         out.send(&[(Var::L_SECTION, u64::from(self.length))])?;
         send_timer(self.timer, out)
     }

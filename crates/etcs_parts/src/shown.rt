@@ -3,7 +3,7 @@
 ghost use Rattle.std.specs.Prelude.{◌≡◌, ◌++◌, None, Some, IfOk, IfErr, IfSome, IfNone, OnOk};
 
 use etcs_bodies::{Numbers, Part, check, check_guard};
-use etcs_vars::parts::{Sink, Variables};
+use etcs_vars::parts::{VarSink, Variables};
 use etcs_vars::{BuildFault, Var};
 use std::alloc::{AllocError, Global};
 use std::marker::Model;
@@ -17,19 +17,19 @@ pub struct Shown {
 }
 
 impl Model for Shown {
-    ghost use Rattle.etcs_parts.specs.Displays.{ShownParts, shown_parts, IsShown};
+    ghost use Rattle.etcs_parts.specs.Displays.{ShownValue, shown_value, IsShown};
 
-    ghost Value = { ShownParts };
+    ghost Value = { ShownValue };
 
-    ghost view = { λ s. shown_parts s.m_modetextdisplay s.m_leveltextdisplay s.nid_ntc };
+    ghost view = { λ s. shown_value s.m_modetextdisplay s.m_leveltextdisplay s.nid_ntc };
 
-    ghost invariant = { λ s. IsShown (shown_parts s.m_modetextdisplay s.m_leveltextdisplay s.nid_ntc) };
+    ghost invariant = { λ s. IsShown (shown_value s.m_modetextdisplay s.m_leveltextdisplay s.nid_ntc) };
 
     ghost inverse = { λ s. record { m_modetextdisplay = s.m_modetextdisplay; m_leveltextdisplay = s.m_leveltextdisplay; nid_ntc = s.nid_ntc } };
 }
 
 impl Shown {
-    ghost use Rattle.etcs_parts.specs.Displays.{shown_parts, shown_fault, IsShown, shown_from};
+    ghost use Rattle.etcs_parts.specs.Displays.{shown_value, shown_fault, IsShown, shown_from};
 
     /// The mode (M_MODETEXTDISPLAY, SUBSET-026, 7.5: 0 to 15), the level (M_LEVELTEXTDISPLAY: 0 to 5), and for
     /// level NTC, which is 1, the national system (NID_NTC).
@@ -43,9 +43,9 @@ impl Shown {
         m_leveltextdisplay: u8,
         nid_ntc: Option<u8>,
     ) -> Result<Shown, BuildFault>
-        ensures ok { IfOk result (λ s. s ≡ shown_parts m_modetextdisplay m_leveltextdisplay nid_ntc) }
-        ensures fits { OnOk result (shown_fault (shown_parts m_modetextdisplay m_leveltextdisplay nid_ntc) ≡ None) }
-        ensures fault { IfErr result (λ e. shown_fault (shown_parts m_modetextdisplay m_leveltextdisplay nid_ntc) ≡ Some e) }
+        ensures ok { IfOk result (λ s. s ≡ shown_value m_modetextdisplay m_leveltextdisplay nid_ntc) }
+        ensures fits { OnOk result (shown_fault (shown_value m_modetextdisplay m_leveltextdisplay nid_ntc) ≡ None) }
+        ensures fault { IfErr result (λ e. shown_fault (shown_value m_modetextdisplay m_leveltextdisplay nid_ntc) ≡ Some e) }
     {
         check(Var::M_MODETEXTDISPLAY, u64::from(m_modetextdisplay))?;
         check(Var::M_LEVELTEXTDISPLAY, u64::from(m_leveltextdisplay))?;
@@ -120,7 +120,7 @@ impl Variables for Shown {
         }
     }
 
-    fn send<S: Sink>(&self, out: &mut S) -> Result<(), AllocError> {
+    fn send<S: VarSink>(&self, out: &mut S) -> Result<(), AllocError> {
         match self.nid_ntc {
             None => out.send(&[
                 (Var::M_MODETEXTDISPLAY, u64::from(self.m_modetextdisplay)),

@@ -3,7 +3,7 @@
 ghost use Rattle.std.specs.Prelude.{◌≡◌, ◌++◌, None, Some, IfOk, IfErr, IfSome, IfNone, OnOk};
 
 use etcs_bodies::{Entry, Numbers, Part, check};
-use etcs_vars::parts::{Sink, Variables};
+use etcs_vars::parts::{VarSink, Variables};
 use etcs_vars::{BuildFault, Var};
 use std::alloc::{AllocError, Global};
 use std::marker::Model;
@@ -19,32 +19,32 @@ pub struct Slope {
 }
 
 impl Model for Slope {
-    ghost use Rattle.etcs_parts.specs.Slopes.{SlopeParts, slope_parts, IsSlope};
+    ghost use Rattle.etcs_parts.specs.Slopes.{SlopeValue, slope_value, IsSlope};
 
-    ghost Value = { SlopeParts };
+    ghost Value = { SlopeValue };
 
-    ghost view = { λ s. slope_parts s.d_gradient s.q_gdir s.g_a };
+    ghost view = { λ s. slope_value s.d_gradient s.q_gdir s.g_a };
 
-    ghost invariant = { λ s. IsSlope (slope_parts s.d_gradient s.q_gdir s.g_a) };
+    ghost invariant = { λ s. IsSlope (slope_value s.d_gradient s.q_gdir s.g_a) };
 
     ghost inverse = { λ s. record { d_gradient = s.d_gradient; q_gdir = s.q_gdir; g_a = s.g_a } };
 }
 
 impl Slope {
-    ghost use Rattle.etcs_parts.specs.Slopes.{slope_parts, slope_fault, IsSlope, slope_from};
+    ghost use Rattle.etcs_parts.specs.Slopes.{slope_value, slope_fault, IsSlope, slope_from};
 
     /// A gradient `g_a` from `d_gradient` on.
     ///
-    /// `d_gradient` is the distance to it, in steps of Q_SCALE. `q_gdir` tells whether it is uphill.
+    /// `d_gradient` is the distance to it, in steps of Q_SCALE. `q_gdir` says whether it is uphill.
     /// `g_a` is in promille; 255 is the end of the profile.
     ///
     /// # Errors
     ///
     /// `NotAdmitted(D_GRADIENT)` where the distance is above 32,767.
     pub fn new(d_gradient: u16, q_gdir: bool, g_a: u8) -> Result<Slope, BuildFault>
-        ensures ok { IfOk result (λ s. s ≡ slope_parts d_gradient q_gdir g_a) }
-        ensures fits { OnOk result (slope_fault (slope_parts d_gradient q_gdir g_a) ≡ None) }
-        ensures fault { IfErr result (λ e. slope_fault (slope_parts d_gradient q_gdir g_a) ≡ Some e) }
+        ensures ok { IfOk result (λ s. s ≡ slope_value d_gradient q_gdir g_a) }
+        ensures fits { OnOk result (slope_fault (slope_value d_gradient q_gdir g_a) ≡ None) }
+        ensures fault { IfErr result (λ e. slope_fault (slope_value d_gradient q_gdir g_a) ≡ Some e) }
     {
         check(Var::D_GRADIENT, u64::from(d_gradient))?;
         check(Var::G_A, u64::from(g_a))?;
@@ -104,7 +104,7 @@ impl Variables for Slope {
         24
     }
 
-    fn send<S: Sink>(&self, out: &mut S) -> Result<(), AllocError> {
+    fn send<S: VarSink>(&self, out: &mut S) -> Result<(), AllocError> {
         out.send(&[
             (Var::D_GRADIENT, u64::from(self.d_gradient)),
             (Var::Q_GDIR, u64::from(self.q_gdir)),

@@ -4,9 +4,9 @@ ghost use Rattle.std.specs.Prelude.{◌≡◌, Some, OnOk, IfOk, IfErr, None};
 
 use crate::differing::Differing;
 use etcs_bodies::{
-    Entry, Items, Numbers, Part, check, check_count, clone_all, hold_all, send_list, take_list,
+    Entry, ListOf, Numbers, Part, check, check_count, clone_all, hold_all, send_list, take_list,
 };
-use etcs_vars::parts::{Sink, Variables};
+use etcs_vars::parts::{VarSink, Variables};
 use etcs_vars::{BuildFault, Var};
 use std::alloc::{AllocError, Global};
 use std::marker::Model;
@@ -18,27 +18,27 @@ pub struct Speed {
     d_static: u16,
     v_static: u8,
     q_front: bool,
-    differing: Items<Differing>,
+    differing: ListOf<Differing>,
 }
 
 impl Model for Speed {
-    ghost use Rattle.etcs_parts.specs.Speeds.{SpeedParts, speed_parts, IsSpeed};
+    ghost use Rattle.etcs_parts.specs.Speeds.{SpeedValue, speed_value, IsSpeed};
 
-    ghost Value = { SpeedParts };
+    ghost Value = { SpeedValue };
 
-    ghost view = { λ s. speed_parts s.d_static s.v_static s.q_front s.differing };
+    ghost view = { λ s. speed_value s.d_static s.v_static s.q_front s.differing };
 
-    ghost invariant = { λ s. IsSpeed (speed_parts s.d_static s.v_static s.q_front s.differing) };
+    ghost invariant = { λ s. IsSpeed (speed_value s.d_static s.v_static s.q_front s.differing) };
 
     ghost inverse = { λ s. record { d_static = s.d_static; v_static = s.v_static; q_front = s.q_front; differing = s.differing } };
 }
 
 impl Speed {
-    ghost use Rattle.etcs_parts.specs.Speeds.{speed_parts, speed_fault, IsSpeed};
+    ghost use Rattle.etcs_parts.specs.Speeds.{speed_value, speed_fault, IsSpeed};
 
     /// A speed from its place on.
     ///
-    /// - `d_static`: how far it begins behind the place of the speed before it, in steps of Q_SCALE (0: 10 cm,
+    /// - `d_static`: how far it begins after the place of the speed before it, in steps of Q_SCALE (0: 10 cm,
     ///   1: 1 m, 2: 10 m);
     /// - `v_static`: the speed in 5 km/h; 127 is the end of the profile;
     /// - `q_front`: whether the speed ends where the front of the train comes to the next one, with no delay by the
@@ -55,9 +55,9 @@ impl Speed {
         q_front: bool,
         differing: Vec<Differing>,
     ) -> Result<Speed, (BuildFault, Vec<Differing>)>
-        ensures ok { IfOk result (λ s. s ≡ speed_parts d_static v_static q_front differing.items) }
-        ensures fits { OnOk result (speed_fault (speed_parts d_static v_static q_front differing.items) ≡ None) }
-        ensures fault { IfErr result (λ e. speed_fault (speed_parts d_static v_static q_front differing.items) ≡ Some e.0) }
+        ensures ok { IfOk result (λ s. s ≡ speed_value d_static v_static q_front differing.items) }
+        ensures fits { OnOk result (speed_fault (speed_value d_static v_static q_front differing.items) ≡ None) }
+        ensures fault { IfErr result (λ e. speed_fault (speed_value d_static v_static q_front differing.items) ≡ Some e.0) }
         ensures back { IfErr result (λ e. e.1.items ≡ differing.items) }
     {
         match Speed::faultless(d_static, v_static, q_front, differing.as_slice()) {
@@ -65,13 +65,13 @@ impl Speed {
                 d_static,
                 v_static,
                 q_front,
-                differing: Items::from_vec(differing),
+                differing: ListOf::from_vec(differing),
             }),
             Err(fault) => Err((fault, differing)),
         }
     }
 
-    /// D_STATIC: how far it begins behind the place of the speed before it, in steps of Q_SCALE.
+    /// D_STATIC: how far it begins after the place of the speed before it, in steps of Q_SCALE.
     pub fn d_static(&self) -> u16
         ensures { result ≡ self.now.d_static }
     {
@@ -106,9 +106,9 @@ impl Speed {
         q_front: bool,
         differing: &[Differing],
     ) -> Result<(), BuildFault>
-        ensures ok { OnOk result (IsSpeed (speed_parts d_static v_static q_front differing.now)) }
-        ensures fits { OnOk result (speed_fault (speed_parts d_static v_static q_front differing.now) ≡ None) }
-        ensures fault { IfErr result (λ e. speed_fault (speed_parts d_static v_static q_front differing.now) ≡ Some e) }
+        ensures ok { OnOk result (IsSpeed (speed_value d_static v_static q_front differing.now)) }
+        ensures fits { OnOk result (speed_fault (speed_value d_static v_static q_front differing.now) ≡ None) }
+        ensures fault { IfErr result (λ e. speed_fault (speed_value d_static v_static q_front differing.now) ≡ Some e) }
     {
         check(Var::D_STATIC, u64::from(d_static))?;
         check(Var::V_STATIC, u64::from(v_static))?;
@@ -128,7 +128,7 @@ impl Variables for Speed {
         28 + 13 * self.differing.len()
     }
 
-    fn send<S: Sink>(&self, out: &mut S) -> Result<(), AllocError> {
+    fn send<S: VarSink>(&self, out: &mut S) -> Result<(), AllocError> {
         out.send(&[
             (Var::D_STATIC, u64::from(self.d_static)),
             (Var::V_STATIC, u64::from(self.v_static)),
@@ -173,7 +173,7 @@ impl Part for Speed {
             d_static: d_static as u16,
             v_static: v_static as u8,
             q_front,
-            differing: Items::from_vec(differing),
+            differing: ListOf::from_vec(differing),
         }))
     }
 
@@ -182,7 +182,7 @@ impl Part for Speed {
             d_static: self.d_static,
             v_static: self.v_static,
             q_front: self.q_front,
-            differing: Items::from_vec(clone_all(alloc, self.differing.as_slice())?),
+            differing: ListOf::from_vec(clone_all(alloc, self.differing.as_slice())?),
         })
     }
 }

@@ -5,7 +5,7 @@ ghost use Rattle.etcs_parts.specs.TextFrames.{IsReport, report_from, IsConfirm, 
 
 use crate::shown::Shown;
 use etcs_bodies::{Numbers, Part, check, check_guard};
-use etcs_vars::parts::{Sink, Variables};
+use etcs_vars::parts::{VarSink, Variables};
 use etcs_vars::{BuildFault, Var};
 use std::alloc::{AllocError, Global};
 use std::marker::Model;
@@ -26,19 +26,19 @@ pub struct TextFrame {
 }
 
 impl Model for TextFrame {
-    ghost use Rattle.etcs_parts.specs.TextFrames.{TextFrameParts, text_frame_parts, IsTextFrame};
+    ghost use Rattle.etcs_parts.specs.TextFrames.{TextFrameValue, text_frame_value, IsTextFrame};
 
-    ghost Value = { TextFrameParts };
+    ghost Value = { TextFrameValue };
 
-    ghost view = { λ s. text_frame_parts s.q_scale s.q_textclass s.q_textdisplay s.d_textdisplay s.start s.l_textdisplay s.t_textdisplay s.end s.q_textconfirm s.confirm };
+    ghost view = { λ s. text_frame_value s.q_scale s.q_textclass s.q_textdisplay s.d_textdisplay s.start s.l_textdisplay s.t_textdisplay s.end s.q_textconfirm s.confirm };
 
-    ghost invariant = { λ s. IsTextFrame (text_frame_parts s.q_scale s.q_textclass s.q_textdisplay s.d_textdisplay s.start s.l_textdisplay s.t_textdisplay s.end s.q_textconfirm s.confirm) };
+    ghost invariant = { λ s. IsTextFrame (text_frame_value s.q_scale s.q_textclass s.q_textdisplay s.d_textdisplay s.start s.l_textdisplay s.t_textdisplay s.end s.q_textconfirm s.confirm) };
 
     ghost inverse = { λ s. record { q_scale = s.q_scale; q_textclass = s.q_textclass; q_textdisplay = s.q_textdisplay; d_textdisplay = s.d_textdisplay; l_textdisplay = s.l_textdisplay; t_textdisplay = s.t_textdisplay; q_textconfirm = s.q_textconfirm; confirm = s.confirm; start = s.start; end = s.end } };
 }
 
 impl TextFrame {
-    ghost use Rattle.etcs_parts.specs.TextFrames.{text_frame_parts, text_frame_fault, IsTextFrame, text_frame_from};
+    ghost use Rattle.etcs_parts.specs.TextFrames.{text_frame_value, text_frame_fault, IsTextFrame, text_frame_from};
 
     /// All of a text message but the text itself, each argument a variable of SUBSET-026, 7.5:
     ///
@@ -72,9 +72,9 @@ impl TextFrame {
         q_textconfirm: u8,
         confirm: Option<(bool, Option<(u8, u16, u16)>)>,
     ) -> Result<TextFrame, BuildFault>
-        ensures ok { IfOk result (λ t. t ≡ text_frame_parts q_scale q_textclass q_textdisplay d_textdisplay start l_textdisplay t_textdisplay end q_textconfirm confirm) }
-        ensures fits { OnOk result (text_frame_fault (text_frame_parts q_scale q_textclass q_textdisplay d_textdisplay start l_textdisplay t_textdisplay end q_textconfirm confirm) ≡ None) }
-        ensures fault { IfErr result (λ e. text_frame_fault (text_frame_parts q_scale q_textclass q_textdisplay d_textdisplay start l_textdisplay t_textdisplay end q_textconfirm confirm) ≡ Some e) }
+        ensures ok { IfOk result (λ t. t ≡ text_frame_value q_scale q_textclass q_textdisplay d_textdisplay start l_textdisplay t_textdisplay end q_textconfirm confirm) }
+        ensures fits { OnOk result (text_frame_fault (text_frame_value q_scale q_textclass q_textdisplay d_textdisplay start l_textdisplay t_textdisplay end q_textconfirm confirm) ≡ None) }
+        ensures fault { IfErr result (λ e. text_frame_fault (text_frame_value q_scale q_textclass q_textdisplay d_textdisplay start l_textdisplay t_textdisplay end q_textconfirm confirm) ≡ Some e) }
     {
         check(Var::Q_SCALE, u64::from(q_scale))?;
         check(Var::Q_TEXTCLASS, u64::from(q_textclass))?;
@@ -199,7 +199,7 @@ impl TextFrame {
     }
 }
 
-/// Refuses a confirmation that can't stand behind Q_TEXTCONFIRM.
+/// Refuses a confirmation that can't follow Q_TEXTCONFIRM.
 fn check_confirm(
     q_textconfirm: u8,
     confirm: Option<(bool, Option<(u8, u16, u16)>)>,
@@ -263,7 +263,7 @@ fn next_confirmed(numbers: &mut Numbers) -> Option<(u8, Option<(bool, Option<(u8
 }
 
 /// Sends Q_TEXTCONFIRM and the confirmation.
-fn send_confirmed<S: Sink>(
+fn send_confirmed<S: VarSink>(
     q_textconfirm: u8,
     confirm: Option<(bool, Option<(u8, u16, u16)>)>,
     out: &mut S,
@@ -311,7 +311,7 @@ impl Variables for TextFrame {
         45 + self.start.bits() + self.end.bits() + confirmed_bits(self.confirm)
     }
 
-    fn send<S: Sink>(&self, out: &mut S) -> Result<(), AllocError> {
+    fn send<S: VarSink>(&self, out: &mut S) -> Result<(), AllocError> {
         out.send(&[
             (Var::Q_SCALE, u64::from(self.q_scale)),
             (Var::Q_TEXTCLASS, u64::from(self.q_textclass)),

@@ -1,4 +1,4 @@
--- Which numbers of a message go on.
+-- Which numbers of a message continue.
 use Rattle.std.proofs.Common.{◌≡◌, ℕ, ◌+◌, ◌-◌, ◌*◌, ◌/◌, ◌^◌, ◌<◌, ◌≤◌, true, List, [], ◌∷◌, ◌++◌, length, Some, None, refl, sym, ap, subst, ◌∙◌, arith, inl, inr}
 use Rattle.std.specs.Prelude.{IsTrue, ◌↔◌, Option, option_map, ◌⊎◌}
 use Rattle.std.proofs.lemmas.Bool.Decides.{nat_tests}
@@ -14,7 +14,7 @@ use Rattle.etcs_rows.specs.Frames.{may_be_left}
 use Rattle.etcs_sequence.proofs.Fits.{run_some}
 use Rattle.etcs_reader.specs.Rests.{Starts, Goes}
 use Rattle.etcs_reader.proofs.FieldLaws.{some_fields}
-use Rattle.etcs_sequence.specs.declared.left.PacketsLeft.{PacketsLeft}
+use Rattle.etcs_sequence.specs.declared.state.PacketsState.{PacketsState}
 use Rattle.etcs_sequence.specs.laws.BitLaws.{some_bits, bits_start, bits_number}
 use Rattle.etcs_sequence.specs.Lefts.{left_of}
 use Rattle.etcs_rows.specs.laws.RestLaws.{head_of}
@@ -26,7 +26,7 @@ use Rattle.etcs_radio.specs.laws.RestLaws.{length_opens}
 use Rattle.etcs_radio.proofs.Fronts.{front_small}
 use Rattle.etcs_radio.proofs.RestSteps.{front_tested, packets_start}
 
--- ---- The lengths with which some message goes on.
+-- ---- The lengths with which some message continues.
 
 abbrev pub Fits : Option (List Var) → ℕ → Type 0
 Fits None len = (3 ≤ len) × (len < 2 ^ 10)
@@ -52,7 +52,7 @@ message_some (Some vs) len (r, (fits, most, (a, q, e, fields, (p, b, f, run, pad
 
 -- ---- L_MESSAGE.
 
--- by ranges of these numbers it can be told which of its first bits go on
+-- by ranges of these numbers it can be said which of its first bits continue
 length_tested : (nid : ℕ) (rs : List (ℕ × ℕ)) (rest bits : ℕ) → ordered rs ≡ true → ((n : ℕ) → IsTrue (inside rs n) ↔ Goes (Behind (front_row nid) n)) → IsTrue (begins rs rest bits) ↔ Starts (LengthLeft nid) L_MESSAGE rest bits
 length_tested nid rs rest bits order fits = (
   λ t.
@@ -71,7 +71,7 @@ whole_length : (found : Option (List Var)) → ((vs : List Var) → found ≡ So
 whole_length None small = (omega arith, omega arith)
 whole_length (Some vs) small = let le : front_bits vs ≤ 107 = small vs refl in (omega (arith, le), omega arith, left_from (8 * 1023 - front_bits vs) (inr (omega (arith, le))))
 
--- behind each NID_MESSAGE some message comes
+-- after each NID_MESSAGE some message comes
 some_length : (nid : ℕ) → Goes (LengthLeft nid)
 some_length nid =
     let (r, h) = some_message (front_row nid) 1023 (whole_length (front_row nid) (front_small nid)) in
@@ -86,13 +86,13 @@ number_start rest bits lt fits =
     let (r, h) = some_length n in
     (n, r, (n, r, small, refl, h), q)
 
-pub begins_number : (nid : ℕ) (here : Phase) (l : PacketsLeft) (x : Var) (rest bits : ℕ) → here ≡ phase.Number → next_at nid here l ≡ Some x → rest < width x → bits < 2 ^ (width x - rest) → Starts (left_at nid here l) x rest bits
+pub begins_number : (nid : ℕ) (here : Phase) (l : PacketsState) (x : Var) (rest bits : ℕ) → here ≡ phase.Number → next_at nid here l ≡ Some x → rest < width x → bits < 2 ^ (width x - rest) → Starts (left_at nid here l) x rest bits
 begins_number nid here l x rest bits e next lt fits =
     let next' : next_at nid phase.Number l ≡ Some x = rw e at next in
     let same : NID_MESSAGE ≡ x = cc in
     rw (e, ← same) (number_start rest bits (rw (← same) at lt) (rw (← same) at fits))
 
-pub begins_length : (nid : ℕ) (rs : List (ℕ × ℕ)) (here : Phase) (l : PacketsLeft) (x : Var) (rest bits : ℕ) → ordered rs ≡ true → ((n : ℕ) → IsTrue (inside rs n) ↔ Goes (Behind (front_row nid) n)) → here ≡ phase.Length → next_at nid here l ≡ Some x
+pub begins_length : (nid : ℕ) (rs : List (ℕ × ℕ)) (here : Phase) (l : PacketsState) (x : Var) (rest bits : ℕ) → ordered rs ≡ true → ((n : ℕ) → IsTrue (inside rs n) ↔ Goes (Behind (front_row nid) n)) → here ≡ phase.Length → next_at nid here l ≡ Some x
     → IsTrue (begins rs rest bits) ↔ Starts (left_at nid here l) x rest bits
 begins_length nid rs here l x rest bits order fits e next =
     let next' : next_at nid phase.Length l ≡ Some x = rw e at next in
@@ -101,32 +101,32 @@ begins_length nid rs here l x rest bits order fits e next =
 
 -- ---- The others.
 
-pub begins_front : (nid : ℕ) (here : Phase) (at : ℕ) (l : PacketsLeft) (x : Var) (rest bits : ℕ) → here ≡ phase.Front at → next_at nid here l ≡ Some x → rest < width x → bits < 2 ^ (width x - rest) → Goes (left_at nid here l) → IsTrue (begins (ranges x) rest bits) ↔ Starts (left_at nid here l) x rest bits
+pub begins_front : (nid : ℕ) (here : Phase) (at : ℕ) (l : PacketsState) (x : Var) (rest bits : ℕ) → here ≡ phase.Front at → next_at nid here l ≡ Some x → rest < width x → bits < 2 ^ (width x - rest) → Goes (left_at nid here l) → IsTrue (begins (ranges x) rest bits) ↔ Starts (left_at nid here l) x rest bits
 begins_front nid here at l x rest bits e next lt fits g = rw e (front_tested nid at l x rest bits (rw e at next) lt fits (rw e at g))
 
-pub begins_packets : (nid : ℕ) (here : Phase) (l : PacketsLeft) (x : Var) (rest bits : ℕ) → here ≡ phase.Packets → next_at nid here l ≡ Some x → Starts (left_of l.carrier l.room l.stage) x rest bits ↔ Starts (left_at nid here l) x rest bits
+pub begins_packets : (nid : ℕ) (here : Phase) (l : PacketsState) (x : Var) (rest bits : ℕ) → here ≡ phase.Packets → next_at nid here l ≡ Some x → Starts (left_of l.carrier l.room l.stage) x rest bits ↔ Starts (left_at nid here l) x rest bits
 begins_packets nid here l x rest bits e next = rw e (packets_start nid l x rest bits (rw e at next))
 
-pub begins_padding : (nid : ℕ) (here : Phase) (left : ℕ) (l : PacketsLeft) (x : Var) (rest bits : ℕ) → here ≡ phase.Padding left → 0 < left → next_at nid here l ≡ Some x → rest < width x → bits < 2 ^ (width x - rest) → Starts (left_at nid here l) x rest bits
+pub begins_padding : (nid : ℕ) (here : Phase) (left : ℕ) (l : PacketsState) (x : Var) (rest bits : ℕ) → here ≡ phase.Padding left → 0 < left → next_at nid here l ≡ Some x → rest < width x → bits < 2 ^ (width x - rest) → Starts (left_at nid here l) x rest bits
 begins_padding nid here left l x rest bits e pos next lt fits =
     let next' : next_at nid (phase.Padding left) l ≡ Some x = rw e at next in
     let same : PADDING ≡ x = cc in
     rw (e, ← same) (bits_start PADDING refl left rest bits pos (rw (← same) at lt) (rw (← same) at fits))
 
-pub begins_data : (nid : ℕ) (here : Phase) (left : ℕ) (l : PacketsLeft) (x : Var) (rest bits : ℕ) → here ≡ phase.Data left → 0 < left → next_at nid here l ≡ Some x → rest < width x → bits < 2 ^ (width x - rest) → Starts (left_at nid here l) x rest bits
+pub begins_data : (nid : ℕ) (here : Phase) (left : ℕ) (l : PacketsState) (x : Var) (rest bits : ℕ) → here ≡ phase.Data left → 0 < left → next_at nid here l ≡ Some x → rest < width x → bits < 2 ^ (width x - rest) → Starts (left_at nid here l) x rest bits
 begins_data nid here left l x rest bits e pos next lt fits =
     let next' : next_at nid (phase.Data left) l ≡ Some x = rw e at next in
     let same : OTHER_DATA ≡ x = cc in
     rw (e, ← same) (bits_start OTHER_DATA refl left rest bits pos (rw (← same) at lt) (rw (← same) at fits))
 
--- what goes on of PADDING and OTHER_DATA is a bit
-pub padding_bit : (nid : ℕ) (here : Phase) (left : ℕ) (l : PacketsLeft) (x : Var) (number : ℕ) → here ≡ phase.Padding left → next_at nid here l ≡ Some x → Starts (left_at nid here l) x 0 number → (x ≡ PADDING) × (number < 2)
+-- what continues of PADDING and OTHER_DATA is a bit
+pub padding_bit : (nid : ℕ) (here : Phase) (left : ℕ) (l : PacketsState) (x : Var) (number : ℕ) → here ≡ phase.Padding left → next_at nid here l ≡ Some x → Starts (left_at nid here l) x 0 number → (x ≡ PADDING) × (number < 2)
 padding_bit nid here left l x number e next goes =
     let next' : next_at nid (phase.Padding left) l ≡ Some x = rw e at next in
     let same : PADDING ≡ x = cc in
     (sym same, bits_number PADDING refl left number (rw (e, ← same) at goes))
 
-pub data_bit : (nid : ℕ) (here : Phase) (left : ℕ) (l : PacketsLeft) (x : Var) (number : ℕ) → here ≡ phase.Data left → next_at nid here l ≡ Some x → Starts (left_at nid here l) x 0 number → (x ≡ OTHER_DATA) × (number < 2)
+pub data_bit : (nid : ℕ) (here : Phase) (left : ℕ) (l : PacketsState) (x : Var) (number : ℕ) → here ≡ phase.Data left → next_at nid here l ≡ Some x → Starts (left_at nid here l) x 0 number → (x ≡ OTHER_DATA) × (number < 2)
 data_bit nid here left l x number e next goes =
     let next' : next_at nid (phase.Data left) l ≡ Some x = rw e at next in
     let same : OTHER_DATA ≡ x = cc in

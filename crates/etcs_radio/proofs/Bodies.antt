@@ -21,12 +21,12 @@ use Rattle.etcs_sequence.proofs.LabelLaws.{length-widths}
 use Rattle.etcs_radio.specs.declared.body.Body.{Body}
 use Rattle.etcs_radio.specs.declared.body.Body.TheVariants.{SrAuthorisation, Plain, TrainTime, Emergency, Version, Shifted, Orientation}
 use Rattle.etcs_radio.specs.declared.body.RadioHead.{RadioHead}
-use Rattle.etcs_radio.specs.Bodies.{run_of_head, body_reading, body_bits, is_plain, is_plain_message, FitsSigned16, IsBody, IsBodyNumbers, ReadsBack}
+use Rattle.etcs_radio.specs.Bodies.{head_variables, body_reading, body_bits, is_plain, is_plain_message, FitsSigned16, IsBody, IsBodyNumbers, ReadsBack}
 
 -- ---- How many bits they take.
 
-pub head_length : (h : RadioHead) → length (spelled (run_of_head h)) ≡ 57
-head_length h = length-widths (run_of_head h)
+pub head_length : (h : RadioHead) → length (spelled (head_variables h)) ≡ 57
+head_length h = length-widths (head_variables h)
 
 pub body_length : (b : Body) → length (spelled (body_reading b)) ≡ body_bits b
 body_length (SrAuthorisation q d) = length-widths (body_reading (SrAuthorisation q d))

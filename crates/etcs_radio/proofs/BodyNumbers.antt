@@ -10,14 +10,14 @@ use Rattle.etcs_tables.specs.Rows.{message_row_to}
 use Rattle.etcs_radio.specs.declared.body.Body.{Body}
 use Rattle.etcs_radio.specs.declared.body.Body.TheVariants.{SrAuthorisation, Plain, TrainTime, Emergency, Version, Shifted, Orientation}
 use Rattle.etcs_radio.specs.declared.body.RadioHead.{RadioHead}
-use Rattle.etcs_radio.specs.Bodies.{run_of_head, nid_of_body, is_plain_message, d_ref_number, FitsSigned16, IsBody, IsBodyNumbers, ReadsBack}
+use Rattle.etcs_radio.specs.Bodies.{head_variables, nid_of_body, is_plain_message, d_ref_number, FitsSigned16, IsBody, IsBodyNumbers, ReadsBack}
 use Rattle.etcs_radio.specs.Fronts.{head_by, body_by, signed}
 use Rattle.etcs_radio.proofs.Spelling.{one_body}
 use Rattle.etcs_radio.proofs.Bodies.{one_number, two_numbers, second_below, plain_row, plain_else, time_row, emergency_row, sr_body, time_body, emergency_body, version_body, shifted_body, one_flag, back_none, back_one, back_two}
 
 -- ---- The head.
 
-flag_back : (b : Bool) (h : RadioHead) → h.m_ack ≡ b → head_by (numbers (run_of_head h)) ≡ h
+flag_back : (b : Bool) (h : RadioHead) → h.m_ack ≡ b → head_by (numbers (head_variables h)) ≡ h
 flag_back true h e = rw e refl
 flag_back false h e = rw e refl
 

@@ -18,7 +18,7 @@ use Rattle.etcs_sequence.specs.laws.OpenLaws.{part_regular}
 use Rattle.etcs_radio.specs.declared.body.RadioHead.{RadioHead}
 use Rattle.etcs_radio.specs.declared.message.Content.{Content}
 use Rattle.etcs_radio.specs.declared.message.Content.TheVariants.{Typed, Kept}
-use Rattle.etcs_radio.specs.Bodies.{run_of_head, body_reading, nid_of_body}
+use Rattle.etcs_radio.specs.Bodies.{head_variables, body_reading, nid_of_body}
 use Rattle.etcs_radio.specs.Messages.{MessageValue, typed_message, kept_message, MessageReads, MessageLanguage, head_reading, IsMessage, message_value, TypedReads, KeptReads, all_bits, padding_room}
 use Rattle.etcs_radio.specs.Lefts.{NumberLeft}
 use Rattle.etcs_radio.specs.Readers.{message_bits}
@@ -42,7 +42,7 @@ typed_length nid len h body vs padding =
     let l1 = ap length (spelled-append (a ++ body ++ p) k) ∙ length-append (spelled (a ++ body ++ p)) (spelled k) in
     let l2 = ap length (spelled-append (a ++ body) p) ∙ length-append (spelled (a ++ body)) (spelled p) in
     let l3 = ap length (spelled-append a body) ∙ length-append (spelled a) (spelled body) in
-    omega (arith, l1, l2, l3, headed_length nid len (run_of_head h), head_length h, pad_bits padding)
+    omega (arith, l1, l2, l3, headed_length nid len (head_variables h), head_length h, pad_bits padding)
 
 pub kept_length : (nid len : ℕ) (b : List Bool) → length (spelled ((NID_MESSAGE, nid) ∷ (L_MESSAGE, len) ∷ kept OTHER_DATA b)) ≡ 18 + length b
 kept_length nid len b = headed_length nid len (kept OTHER_DATA b) ∙ ap (λ (n : ℕ). 18 + n) (one_bits b)

@@ -42,7 +42,7 @@ pub fields_length : (vs : List Var) (r : Reading) → ReadsFields vs r → lengt
 fields_length [] r h = rw h refl
 fields_length (v ∷ vs) r (n, r', a, e, h) = rw e (length-append (num (width v) n) (spelled r') ∙ rw (length-num, fields_length vs r' h) refl)
 
--- the bits of what comes behind a variable
+-- the bits of what comes after a variable
 pub drop_bits : (vs : List Var) (at : ℕ) (x : Var) → first_of (drop at vs) ≡ Some x → widths (drop at vs) ≡ width x + widths (drop (suc at) vs)
 drop_bits [] zero x e = absurd cc
 drop_bits [] (suc at) x e = absurd cc
@@ -139,7 +139,7 @@ as_bits : (own : List Var) → row_bits (as_row own) ≡ widths own
 as_bits [] = refl
 as_bits (v ∷ own) = ap (λ (n : ℕ). width v + n) (as_bits own)
 
--- how many variables stand in front of the packets
+-- how many variables are in front of the packets
 pub count_is : (nid : ℕ) (table : List RowItem) → Some table ≡ option_map items (message_row_to ToTrain nid) → Some (3 + length table) ≡ option_map length (front_row nid)
 count_is nid table e =
     let (own, is, same) = own_asked items nid table e in

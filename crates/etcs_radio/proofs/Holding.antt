@@ -18,7 +18,7 @@ use Rattle.etcs_packets.specs.PacketReadings.{packets_reading, readings_to}
 use Rattle.etcs_sequence.specs.Contents.{Carries}
 use Rattle.etcs_sequence.specs.Runs.{Begun}
 use Rattle.etcs_reader.specs.Rests.{Goes}
-use Rattle.etcs_sequence.specs.declared.left.PacketsLeft.{PacketsLeft}
+use Rattle.etcs_sequence.specs.declared.state.PacketsState.{PacketsState}
 use Rattle.etcs_sequence.specs.Labels.{labelled}
 use Rattle.etcs_sequence.specs.Lefts.{is_closed}
 use Rattle.etcs_sequence.specs.Held.{list_holds}
@@ -34,7 +34,7 @@ use Rattle.etcs_radio.proofs.SoFar.{first_goes}
 none_held : (ps : List Packet) (f : List ℕ) (k : List Bool) → list_holds ps f k [] [] [] → (ps ≡ []) × (f ≡ []) × (k ≡ [])
 none_held ps f k (vs_is, (made, (m_is, l_is))) = (none_listed ps vs_is, sym m_is, sym l_is)
 
-front_members : (nid at : ℕ) (front : List ℕ) (l : PacketsLeft) (ps : List Packet) (f : List ℕ) (k : List Bool) (q : Reading) → IsTrue (stands_at nid (Front at) (length front) l) → FrontHeld nid at front l (list_holds ps f k) q → Standing ps f k q
+front_members : (nid at : ℕ) (front : List ℕ) (l : PacketsState) (ps : List Packet) (f : List ℕ) (k : List Bool) (q : Reading) → IsTrue (stands_at nid (Front at) (length front) l) → FrontHeld nid at front l (list_holds ps f k) q → Standing ps f k q
 front_members nid at front l ps f k q stands h =
     let (ps_is, f_is, k_is) = nothing_held l.carrier l.stage ps f k h.none in
     let both = and_parts (nat_lt at (length (front_vars nid))) ((length front == at) && is_message l) stands in
@@ -48,7 +48,7 @@ to_train : (c : Carrier) (vs : List PacketValue) → readings_to (way_of c) vs �
 to_train Telegram vs = refl
 to_train (Message ToTrain) vs = refl
 
-packets_members : (nid : ℕ) (front : List ℕ) (l : PacketsLeft) (ps : List Packet) (f : List ℕ) (k : List Bool) (q : Reading) → is_closed l.stage ≡ false → Goes (PacketsBehind l) → PacketsHeld nid front l (list_holds ps f k) q → Standing ps f k q
+packets_members : (nid : ℕ) (front : List ℕ) (l : PacketsState) (ps : List Packet) (f : List ℕ) (k : List Bool) (q : Reading) → is_closed l.stage ≡ false → Goes (PacketsBehind l) → PacketsHeld nid front l (list_holds ps f k) q → Standing ps f k q
 packets_members nid front l ps f k q more g h =
     let (vs, m, b, r, (vs_is, (made, (m_is, b_is))), carried, here, e) = h.held in
     let begun : Begun r m b = begun_of l.carrier l.room l.stage m b r l.stands more (first_goes l g) here in
@@ -61,7 +61,7 @@ data_members nid left ps f k q h =
     inr (inr ((nid, h.len, h.untyped, h.reading_is ∙ ap (λ (b : List Bool). headed nid h.len (kept OTHER_DATA b)) b_is), none_listed ps vs_is, sym m_is))
 
 -- between two pieces no bit of PADDING was read: all bits are whole bytes, and fewer are left than one
-members_of : (nid : ℕ) (phase : Phase) (front : List ℕ) (l : PacketsLeft) (ps : List Packet) (f : List ℕ) (k : List Bool) (number : ℕ) (q : Reading) (part : List Bool) (x : Var) → IsTrue (stands_at nid phase (length front) l) → next_at nid phase l ≡ Some x → Goes (left_at nid phase l) → HoldsIn nid phase front l number (list_holds ps f k) q → length part < width x → length (spelled q ++ part) % 8 ≡ 0 → Standing ps f k q
+members_of : (nid : ℕ) (phase : Phase) (front : List ℕ) (l : PacketsState) (ps : List Packet) (f : List ℕ) (k : List Bool) (number : ℕ) (q : Reading) (part : List Bool) (x : Var) → IsTrue (stands_at nid phase (length front) l) → next_at nid phase l ≡ Some x → Goes (left_at nid phase l) → HoldsIn nid phase front l number (list_holds ps f k) q → length part < width x → length (spelled q ++ part) % 8 ≡ 0 → Standing ps f k q
 members_of nid Number front l ps f k number q part x stands e g (z, h, is) short bytes = let (a, b, c) = none_held ps f k h in inl (inl is, a, b, c)
 members_of nid Length front l ps f k number q part x stands e g (z, h, is) short bytes = let (a, b, c) = none_held ps f k h in inl (inr (inl (nid, is)), a, b, c)
 members_of nid (Front at) front l ps f k number q part x stands e g (z, h) short bytes = front_members nid at front l ps f k q stands h
@@ -93,7 +93,7 @@ carried_to_train : (c : Carrier) (vs : List PacketValue) → All (Carries c) vs 
 carried_to_train Telegram vs h = h
 carried_to_train (Message ToTrain) vs h = carried_packets vs h
 
-packets_whole : (nid : ℕ) (front : List ℕ) (l : PacketsLeft) (ps : List Packet) (f : List ℕ) (k : List Bool) (q : Reading) → PacketsHeld nid front l (list_holds ps f k) q → AreWhole ps
+packets_whole : (nid : ℕ) (front : List ℕ) (l : PacketsState) (ps : List Packet) (f : List ℕ) (k : List Bool) (q : Reading) → PacketsHeld nid front l (list_holds ps f k) q → AreWhole ps
 packets_whole nid front l ps f k q h =
     let (vs, m, b, r, (vs_is, (made, same)), carried, here, e) = h.held in
     (made, subst (All IsPacket) vs_is (carried_to_train l.carrier vs carried))
@@ -101,7 +101,7 @@ packets_whole nid front l ps f k q h =
 padding_whole : (nid : ℕ) (front : List ℕ) (ps : List Packet) (f : List ℕ) (k : List Bool) (number left : ℕ) (q : Reading) → PaddingHeld nid front (list_holds ps f k) number left q → AreWhole ps
 padding_whole nid front ps f k number left q h = (h.held.1.0, subst (All IsPacket) h.held.0 (carried_to_train (Message ToTrain) h.packets h.carried))
 
-whole_of : (nid : ℕ) (phase : Phase) (front : List ℕ) (l : PacketsLeft) (ps : List Packet) (f : List ℕ) (k : List Bool) (number : ℕ) (q : Reading) → HoldsIn nid phase front l number (list_holds ps f k) q → AreWhole ps
+whole_of : (nid : ℕ) (phase : Phase) (front : List ℕ) (l : PacketsState) (ps : List Packet) (f : List ℕ) (k : List Bool) (number : ℕ) (q : Reading) → HoldsIn nid phase front l number (list_holds ps f k) q → AreWhole ps
 whole_of nid Number front l ps f k number q (z, h, is) = none_whole ps (none_held ps f k h).0
 whole_of nid Length front l ps f k number q (z, h, is) = none_whole ps (none_held ps f k h).0
 whole_of nid (Front at) front l ps f k number q (z, h) = none_whole ps (nothing_held l.carrier l.stage ps f k h.none).0
@@ -111,7 +111,7 @@ whole_of nid (Data left) front l ps f k number q h = none_whole ps (none_listed 
 whole_of nid Whole front l ps f k number q (inl h) = padding_whole nid front ps f k number 0 q h
 whole_of nid Whole front l ps f k number q (inr h) = none_whole ps (none_listed ps h.held.0)
 
-pub members_at : (nid : ℕ) (phase : Phase) (front : List ℕ) (l : PacketsLeft) (ps : List Packet) (f : List ℕ) (k : List Bool) (number : ℕ) (q : Reading) (part : List Bool) (x : Var) → IsTrue (stands_at nid phase (length front) l) → next_at nid phase l ≡ Some x → Goes (left_at nid phase l) → HoldsIn nid phase front l number (list_holds ps f k) q → length part < width x → length (spelled q ++ part) % 8 ≡ 0 → Members ps f k q
+pub members_at : (nid : ℕ) (phase : Phase) (front : List ℕ) (l : PacketsState) (ps : List Packet) (f : List ℕ) (k : List Bool) (number : ℕ) (q : Reading) (part : List Bool) (x : Var) → IsTrue (stands_at nid phase (length front) l) → next_at nid phase l ≡ Some x → Goes (left_at nid phase l) → HoldsIn nid phase front l number (list_holds ps f k) q → length part < width x → length (spelled q ++ part) % 8 ≡ 0 → Members ps f k q
 members_at nid phase front l ps f k number q part x stands e g h short bytes =
     let whole = whole_of nid phase front l ps f k number q h in
     (members_of nid phase front l ps f k number q part x stands e g h short bytes, whole.0, whole.1)

@@ -1,4 +1,4 @@
--- A length that fits is one with which some message goes on.
+-- A length that fits is one with which some message continues.
 use Rattle.std.proofs.Common.{◌≡◌, ℕ, ◌+◌, ◌-◌, ◌*◌, List, [], Some, None, refl, sym, ap, subst, ◌∙◌, arith, inl, inr}
 use Rattle.std.specs.Prelude.{IsTrue, ◌↔◌, Option, option_map}
 use Rattle.etcs_vars.specs.declared.var.Var.{Var}
@@ -37,6 +37,6 @@ row_fits nid n (Some own) is (fits, most, left) =
     let room : 8 * n - front_bits (front_behind own) ≡ 8 * n - (75 + m) = omega arith in
     (most, inl (as_row own, m, rows_alike nid ∙ ap (option_map as_row) is, ([], r, fields_row own [] r reads, refl, fields_length own r reads, omega (arith, short)), (omega (arith, fits), subst (λ k. IsTrue (may_be_left (Message ToTrain) k)) room left)))
 
--- a number of L_MESSAGE fits exactly where some message of this NID_MESSAGE goes on with it
+-- a number of L_MESSAGE fits exactly where some message of this NID_MESSAGE continues with it
 pub length_fits : (nid n : ℕ) → MessageLengthFits ToTrain nid n ↔ Goes (Behind (front_row nid) n)
 length_fits nid n = (λ h. some_message (front_row nid) n (fits_row nid n h), λ g. row_fits nid n (own_row nid) refl (message_some (front_row nid) n g))

@@ -1,4 +1,4 @@
--- What a reader holds between two pieces is told by the bits that it has seen.
+-- What a reader holds between two pieces is given by the bits that it has seen.
 use Rattle.std.proofs.Common.{◌≡◌, ℕ, Bool, List, [], ◌∷◌, ◌++◌, length, Some, None, sym, ap, subst, ◌∙◌, arith, length-append, inl, inr}
 use Rattle.std.specs.Prelude.{Option, map, All}
 use Rattle.etcs_vars.specs.declared.var.Var.{Var}
@@ -19,7 +19,7 @@ use Rattle.etcs_radio.specs.Messages.{MessageLanguage}
 use Rattle.etcs_radio.specs.Lefts.{front_row, headed}
 use Rattle.etcs_radio.specs.Readers.{InFront, InPackets, Standing, Members, OneHolding}
 
--- ---- The front tells the number, and with it the variables.
+-- ---- The front says the number, and with it the variables.
 
 headed_parts : (nid nid' len len' : ℕ) (r s : Reading) → headed nid len r ≡ headed nid' len' s → (nid ≡ nid') × (r ≡ s)
 headed_parts nid nid' len len' r s e =

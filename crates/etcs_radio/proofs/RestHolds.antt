@@ -1,4 +1,4 @@
--- What is kept of a message behind each of its variables.
+-- What is kept of a message after each of its variables.
 use Rattle.std.proofs.Common.{◌≡◌, ℕ, suc, ◌+◌, ◌-◌, ◌*◌, ◌%◌, ◌^◌, ◌<◌, ◌≤◌, Bool, List, [], ◌∷◌, ◌++◌, length, drop, Some, None, refl, sym, ap, subst, ◌∙◌, arith, ltb, append_assoc, append-nil, length-append, inl, inr}
 use Rattle.std.specs.Prelude.{All, IsTrue}
 use Rattle.std.specs.Int.RustNames.{bit_or}
@@ -25,7 +25,7 @@ use Rattle.etcs_sequence.specs.Contents.{Carries, closing}
 use Rattle.etcs_sequence.specs.laws.RunSteps.{both_length}
 use Rattle.etcs_reader.specs.Rests.{Starts, Goes}
 use Rattle.etcs_reader.specs.Fields.{first_of}
-use Rattle.etcs_sequence.specs.declared.left.PacketsLeft.{PacketsLeft}
+use Rattle.etcs_sequence.specs.declared.state.PacketsState.{PacketsState}
 use Rattle.etcs_sequence.specs.declared.stage.Stage.TheVariants as stage
 use Rattle.etcs_sequence.specs.laws.BitLaws.{bits_append, bits_spelled}
 use Rattle.etcs_sequence.specs.Labels.{labelled, widths}
@@ -43,7 +43,7 @@ use Rattle.etcs_radio.proofs.RestStands.{begin_parts, front_parts, message_parts
 abbrev pub Holds : Type 1
 Holds = List PacketValue → List ℕ → List Bool → Type 0
 
--- so many bits more
+-- this many bits more
 more_bits : (q : Reading) (x : Var) (n : ℕ) → length (spelled (q ++ (x, n) ∷ [])) ≡ length (spelled q) + width x
 more_bits q x n = (let a = both_length q ((x, n) ∷ []) in let b = length-sent x n [] in omega (arith, a, b))
 
@@ -52,7 +52,7 @@ kept_bits q x t w = (let a = both_length q (kept x t) in let b = ap (λ (s : Lis
 
 -- ---- PADDING.
 
-padding_first : (nid left : ℕ) (front : List ℕ) (l : PacketsLeft) (padding : ℕ) (holds : Holds) (q : Reading) → PaddingHeld nid front holds padding left q → HoldsIn nid (behind_padding left) front l padding holds q
+padding_first : (nid left : ℕ) (front : List ℕ) (l : PacketsState) (padding : ℕ) (holds : Holds) (q : Reading) → PaddingHeld nid front holds padding left q → HoldsIn nid (behind_padding left) front l padding holds q
 padding_first nid left front l padding holds q h =
     by_test (ltb 0 left) (λ x. HoldsIn nid x front l padding holds q) (phase.Padding left) phase.Whole
     (λ _. h)
@@ -117,7 +117,7 @@ closed_held nid front c room padding holds len vars here q same short none typed
     }
 
 -- all of the front, and packets
-packets_first : (nid : ℕ) (front : List ℕ) (l : PacketsLeft) (padding : ℕ) (holds : Holds) (q : Reading) → IsTrue (is_message l) → padding ≡ 0 → PacketsHeld nid front l holds q → HoldsIn nid (behind_packets l) front l padding holds q
+packets_first : (nid : ℕ) (front : List ℕ) (l : PacketsState) (padding : ℕ) (holds : Holds) (q : Reading) → IsTrue (is_message l) → padding ≡ 0 → PacketsHeld nid front l holds q → HoldsIn nid (behind_packets l) front l padding holds q
 packets_first nid front l padding holds q m none h =
     let parts = message_parts l m in
     by_test (is_closed l.stage) (λ x. HoldsIn nid x front l padding holds q) (behind_padding l.room) phase.Packets
@@ -128,7 +128,7 @@ packets_first nid front l padding holds q m none h =
     padding_first nid l.room front l padding holds q (closed_held nid front l.carrier l.room padding holds h.len h.vars h.here q parts.0 (omega (arith, short)) none h.typed h.count h.reading_is room held))
     (λ _. (none, h))
 
-packets_held : (nid : ℕ) (front : List ℕ) (l l' : PacketsLeft) (padding : ℕ) (holds holds' : Holds) (p : Reading) → IsTrue (is_message l') → Moved l.carrier l.room l.stage p l'.carrier l'.room l'.stage
+packets_held : (nid : ℕ) (front : List ℕ) (l l' : PacketsState) (padding : ℕ) (holds holds' : Holds) (p : Reading) → IsTrue (is_message l') → Moved l.carrier l.room l.stage p l'.carrier l'.room l'.stage
     → ((q : Reading) → HoldsAt l.carrier l.stage holds q → HoldsAt l'.carrier l'.stage holds' (q ++ p)) → (q : Reading) → HoldsIn nid phase.Packets front l padding holds q → HoldsIn nid (behind_packets l') front l' padding holds' (q ++ p)
 packets_held nid front l l' padding holds holds' p m moved more q (none, h) =
     packets_first nid front l' padding holds' (q ++ p) m none record {
@@ -144,7 +144,7 @@ packets_held nid front l l' padding holds holds' p m moved more q (none, h) =
 
 -- ---- The front.
 
-front_held : (nid at : ℕ) (front : List ℕ) (l : PacketsLeft) (padding : ℕ) (holds : Holds) (x : Var) (n : ℕ) (q : Reading) → at < length (front_vars nid) → length front ≡ at → IsTrue (is_message l) → next_at nid (phase.Front at) l ≡ Some x → HoldsIn nid (phase.Front at) front l padding holds q
+front_held : (nid at : ℕ) (front : List ℕ) (l : PacketsState) (padding : ℕ) (holds : Holds) (x : Var) (n : ℕ) (q : Reading) → at < length (front_vars nid) → length front ≡ at → IsTrue (is_message l) → next_at nid (phase.Front at) l ≡ Some x → HoldsIn nid (phase.Front at) front l padding holds q
     → HoldsIn nid (behind_front (length (front_vars nid)) (at + 1) l) (front ++ n ∷ []) l padding holds (q ++ (x, n) ∷ [])
 front_held nid at front l padding holds x n q below len m next (none, h) =
     let vars : front_vars nid ≡ h.vars = ap some_row h.typed in
@@ -173,7 +173,7 @@ front_held nid at front l padding holds x n q below len m next (none, h) =
 
 -- ---- Bits that are kept.
 
-data_first : (nid left : ℕ) (front : List ℕ) (l : PacketsLeft) (padding : ℕ) (holds : Holds) (q : Reading) → DataHeld nid holds left q → HoldsIn nid (behind_data left) front l padding holds q
+data_first : (nid left : ℕ) (front : List ℕ) (l : PacketsState) (padding : ℕ) (holds : Holds) (q : Reading) → DataHeld nid holds left q → HoldsIn nid (behind_data left) front l padding holds q
 data_first nid left front l padding holds q h =
     by_test (ltb 0 left) (λ x. HoldsIn nid x front l padding holds q) (phase.Data left) phase.Whole
     (λ _. h)
@@ -200,7 +200,7 @@ heads nid len q is =
     let d = length-sent NID_MESSAGE nid [] in
     omega (arith, a, b, d)
 
-pub typed_follows : (nid : ℕ) (here : Phase) (front : List ℕ) (l l' : PacketsLeft) (padding : ℕ) (holds holds' : Holds) (len : ℕ) (vs : List Var)
+pub typed_follows : (nid : ℕ) (here : Phase) (front : List ℕ) (l l' : PacketsState) (padding : ℕ) (holds holds' : Holds) (len : ℕ) (vs : List Var)
     → here ≡ phase.Length → IsTrue (stands_at nid here (length front) l) → front_row nid ≡ Some vs → Starts (left_at nid here l) L_MESSAGE 0 len
     → Residual (left_at nid phase.Length l) ((L_MESSAGE, len) ∷ []) (left_at nid (phase.Front 0) l') → ahead l'.carrier l'.room l'.stage ≡ 8 * len - front_bits vs → (holds [] [] [] → HoldsAt l'.carrier l'.stage holds' [])
     → Follows nid here front l padding holds ((L_MESSAGE, len) ∷ []) nid (phase.Front 0) front l' padding holds'
@@ -222,7 +222,7 @@ typed_follows nid here front l l' padding holds holds' len vs e h found goes beh
       );
     }
 
-pub front_follows : (nid : ℕ) (here here' : Phase) (at : ℕ) (front : List ℕ) (l : PacketsLeft) (padding : ℕ) (holds : Holds) (x : Var) (n : ℕ)
+pub front_follows : (nid : ℕ) (here here' : Phase) (at : ℕ) (front : List ℕ) (l : PacketsState) (padding : ℕ) (holds : Holds) (x : Var) (n : ℕ)
     → here ≡ phase.Front at → here' ≡ behind_front (length (front_vars nid)) (at + 1) l → IsTrue (stands_at nid here (length front) l) → next_at nid here l ≡ Some x → Starts (left_at nid here l) x 0 n
     → Follows nid here front l padding holds ((x, n) ∷ []) nid here' (front ++ n ∷ []) l padding holds
 front_follows nid here here' at front l padding holds x n e e' h next goes =
@@ -234,7 +234,7 @@ front_follows nid here here' at front l padding holds x n e e' h next goes =
       held = λ q k. front_held nid at front l padding holds x n q parts.0 parts.1 parts.2 next' k;
     }
 
-pub packets_follow : (nid : ℕ) (here here' : Phase) (front : List ℕ) (l l' : PacketsLeft) (padding : ℕ) (holds holds' : Holds) (p : Reading)
+pub packets_follow : (nid : ℕ) (here here' : Phase) (front : List ℕ) (l l' : PacketsState) (padding : ℕ) (holds holds' : Holds) (p : Reading)
     → here ≡ phase.Packets → here' ≡ behind_packets l' → IsTrue (is_message l') → Moved l.carrier l.room l.stage p l'.carrier l'.room l'.stage → Goes (left_of l'.carrier l'.room l'.stage)
     → ((q : Reading) → HoldsAt l.carrier l.stage holds q → HoldsAt l'.carrier l'.stage holds' (q ++ p)) → Follows nid here front l padding holds p nid here' front l' padding holds'
 packets_follow nid here here' front l l' padding holds holds' p e e' m moved some held =
@@ -243,7 +243,7 @@ packets_follow nid here here' front l l' padding holds holds' p e e' m moved som
       held = packets_held nid front l l' padding holds holds' p m moved held;
     }
 
-pub padding_follows : (nid : ℕ) (here here' : Phase) (left c number : ℕ) (front : List ℕ) (l : PacketsLeft) (padding : ℕ) (holds : Holds) → here ≡ phase.Padding left → here' ≡ behind_padding (left - c) → c ≤ left → number < 2 ^ c
+pub padding_follows : (nid : ℕ) (here here' : Phase) (left c number : ℕ) (front : List ℕ) (l : PacketsState) (padding : ℕ) (holds : Holds) → here ≡ phase.Padding left → here' ≡ behind_padding (left - c) → c ≤ left → number < 2 ^ c
     → Follows nid here front l padding holds (kept PADDING (num c number)) nid here' front l (bit_or (padding * 2 ^ c % 256) number) holds
 padding_follows nid here here' left c number front l padding holds e e' le fits =
     let wide : length (num c number) ≡ c = length-num c number in
@@ -253,7 +253,7 @@ padding_follows nid here here' left c number front l padding holds e e' le fits 
       held = λ q h. padding_first nid (left - c) front l (bit_or (padding * 2 ^ c % 256) number) holds (q ++ kept PADDING (num c number)) (padding_more nid left c number padding front holds q le fits h);
     }
 
-pub data_follows : (nid : ℕ) (here here' : Phase) (left : ℕ) (front : List ℕ) (l : PacketsLeft) (padding : ℕ) (holds holds' : Holds) (t : List Bool) → here ≡ phase.Data left → here' ≡ behind_data (left - length t) → length t ≤ left
+pub data_follows : (nid : ℕ) (here here' : Phase) (left : ℕ) (front : List ℕ) (l : PacketsState) (padding : ℕ) (holds holds' : Holds) (t : List Bool) → here ≡ phase.Data left → here' ≡ behind_data (left - length t) → length t ≤ left
     → ((vs : List PacketValue) (k : List Bool) → holds vs [] k → holds' vs [] (k ++ t)) → Follows nid here front l padding holds (kept OTHER_DATA t) nid here' front l padding holds'
 data_follows nid here here' left front l padding holds holds' t e e' le more =
     rw (e, e') record {
@@ -279,7 +279,7 @@ pub fits_behind : (here here' : Phase) (left : ℕ) (holds holds' : Holds) (t : 
 fits_behind here here' left holds holds' t e e' le more h =
     subst (λ (x : Phase). DataFits x holds') (sym e') (data_fits left holds holds' t le more (subst (λ (x : Phase). DataFits x holds) e h))
 
-pub begun_fits : (nid : ℕ) (here : Phase) (l : PacketsLeft) (holds : Holds) (len : ℕ) → here ≡ phase.Length → front_row nid ≡ None → Starts (left_at nid here l) L_MESSAGE 0 len → DataFits here holds → DataFits (phase.Data (8 * len - 18)) holds
+pub begun_fits : (nid : ℕ) (here : Phase) (l : PacketsState) (holds : Holds) (len : ℕ) → here ≡ phase.Length → front_row nid ≡ None → Starts (left_at nid here l) L_MESSAGE 0 len → DataFits here holds → DataFits (phase.Data (8 * len - 18)) holds
 begun_fits nid here l holds len e found goes h =
     let bounds = kept_bounds nid len found (rw e at goes) in
     ([], [], subst (λ (x : Phase). DataFits x holds) e h, (let b = bounds.1 in omega (arith, b)))
@@ -287,15 +287,15 @@ begun_fits nid here l holds len e found goes h =
 padding_fits : (left : ℕ) (holds : Holds) → DataFits (behind_padding left) holds
 padding_fits left holds = by_test (ltb 0 left) (λ x. DataFits x holds) (phase.Padding left) phase.Whole (λ _. tt) (λ _. tt)
 
-packets_fit : (l : PacketsLeft) (holds : Holds) → DataFits (behind_packets l) holds
+packets_fit : (l : PacketsState) (holds : Holds) → DataFits (behind_packets l) holds
 packets_fit l holds = by_test (is_closed l.stage) (λ x. DataFits x holds) (behind_padding l.room) phase.Packets (λ _. padding_fits l.room holds) (λ _. tt)
 
-front_fits : (count at : ℕ) (l : PacketsLeft) (holds : Holds) → DataFits (behind_front count at l) holds
+front_fits : (count at : ℕ) (l : PacketsState) (holds : Holds) → DataFits (behind_front count at l) holds
 front_fits count at l holds = by_test (ltb at count) (λ x. DataFits x holds) (phase.Front at) (behind_packets l) (λ _. tt) (λ _. packets_fit l holds)
 
 -- nothing is asked where no bits are kept
-pub no_data_packets : (here : Phase) (l : PacketsLeft) (holds : Holds) → here ≡ behind_packets l → DataFits here holds
+pub no_data_packets : (here : Phase) (l : PacketsState) (holds : Holds) → here ≡ behind_packets l → DataFits here holds
 no_data_packets here l holds e = rw e (packets_fit l holds)
 
-pub no_data_front : (here : Phase) (count at : ℕ) (l : PacketsLeft) (holds : Holds) → here ≡ behind_front count at l → DataFits here holds
+pub no_data_front : (here : Phase) (count at : ℕ) (l : PacketsState) (holds : Holds) → here ≡ behind_front count at l → DataFits here holds
 no_data_front here count at l holds e = rw e (front_fits count at l holds)

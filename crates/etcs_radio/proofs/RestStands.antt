@@ -8,9 +8,9 @@ use Rattle.etcs_vars.proofs.Languages.{Same}
 use Rattle.etcs_tables.specs.declared.row.Way.TheVariants.{ToTrain}
 use Rattle.etcs_rows.specs.declared.frames.Carrier.{Carrier}
 use Rattle.etcs_rows.specs.declared.frames.Carrier.TheVariants.{Telegram, Message}
-use Rattle.etcs_sequence.specs.Contents.{Run}
+use Rattle.etcs_sequence.specs.Contents.{PacketsIn}
 use Rattle.etcs_reader.specs.Fields.{first_of}
-use Rattle.etcs_sequence.specs.declared.left.PacketsLeft.{PacketsLeft}
+use Rattle.etcs_sequence.specs.declared.state.PacketsState.{PacketsState}
 use Rattle.etcs_sequence.specs.declared.stage.Stage.TheVariants as stage
 use Rattle.etcs_sequence.specs.Lefts.{left_of, ahead, is_stage, is_closed, is_telegram, Moved}
 use Rattle.etcs_sequence.proofs.StageLaws.{closed_stage, closed_room, begun_room}
@@ -33,35 +33,35 @@ message_carrier : (c : Carrier) → not (is_telegram c) ≡ true → c ≡ (Mess
 message_carrier Telegram e = absurd cc
 message_carrier (Message ToTrain) e = refl
 
-pub message_parts : (l : PacketsLeft) → IsTrue (is_message l) → (l.carrier ≡ (Message ToTrain)) × (is_closed l.stage ≡ true → l.room < 8)
+pub message_parts : (l : PacketsState) → IsTrue (is_message l) → (l.carrier ≡ (Message ToTrain)) × (is_closed l.stage ≡ true → l.room < 8)
 message_parts l h =
     let both = and_parts (not (is_telegram l.carrier)) (not (is_closed l.stage) || nat_lt l.room 8) h in
     (message_carrier l.carrier both.0, λ e. ltb-true l.room 8 (then_true (is_closed l.stage) (nat_lt l.room 8) both.1 e))
 
-pub message_from : (l : PacketsLeft) → l.carrier ≡ (Message ToTrain) → (l.stage ≡ stage.Closed → l.room ≤ 7) → IsTrue (is_message l)
+pub message_from : (l : PacketsState) → l.carrier ≡ (Message ToTrain) → (l.stage ≡ stage.Closed → l.room ≤ 7) → IsTrue (is_message l)
 message_from l same room =
     let first : not (is_telegram l.carrier) ≡ true = rw same refl in
     and_from (not (is_telegram l.carrier)) (not (is_closed l.stage) || nat_lt l.room 8) first
     (from_then (is_closed l.stage) (nat_lt l.room 8) (λ e. let r = room (closed_stage l.stage e) in lt-ltb l.room 8 (omega (arith, r))))
 
-pub begun_message : (l : PacketsLeft) (room : ℕ) → l.carrier ≡ (Message ToTrain) → ahead l.carrier l.room l.stage ≡ room → Same (left_of l.carrier l.room l.stage) (Run (Message ToTrain) room) → IsTrue (is_message l)
+pub begun_message : (l : PacketsState) (room : ℕ) → l.carrier ≡ (Message ToTrain) → ahead l.carrier l.room l.stage ≡ room → Same (left_of l.carrier l.room l.stage) (PacketsIn (Message ToTrain) room) → IsTrue (is_message l)
 begun_message l room same a left = message_from l same (begun_room ToTrain room l.carrier l.room l.stage a left)
 
-moved_message : (l l' : PacketsLeft) (p : Reading) → l.carrier ≡ (Message ToTrain) → is_closed l.stage ≡ false → Moved l.carrier l.room l.stage p l'.carrier l'.room l'.stage → IsTrue (is_message l')
+moved_message : (l l' : PacketsState) (p : Reading) → l.carrier ≡ (Message ToTrain) → is_closed l.stage ≡ false → Moved l.carrier l.room l.stage p l'.carrier l'.room l'.stage → IsTrue (is_message l')
 moved_message l l' p same open_now m =
     let m' : Moved (Message ToTrain) l.room l.stage p l'.carrier l'.room l'.stage = subst (λ (c : Carrier). Moved c l.room l.stage p l'.carrier l'.room l'.stage) same m in
     let stands : IsTrue (is_stage (Message ToTrain) l.room l.stage) = subst (λ (c : Carrier). IsTrue (is_stage c l.room l.stage)) same l.stands in
     message_from l' m'.same (closed_room ToTrain l.room l.stage p l'.carrier l'.room l'.stage stands open_now m')
 
--- ---- What stands says.
+-- ---- What `stands` says.
 
-pub begin_parts : (nid : ℕ) (here : Phase) (m : ℕ) (l : PacketsLeft) → here ≡ phase.Length → IsTrue (stands_at nid here m l) → (m ≡ 0) × (is_closed l.stage ≡ true)
+pub begin_parts : (nid : ℕ) (here : Phase) (m : ℕ) (l : PacketsState) → here ≡ phase.Length → IsTrue (stands_at nid here m l) → (m ≡ 0) × (is_closed l.stage ≡ true)
 begin_parts nid here m l e h =
     let h' : IsTrue (stands_at nid phase.Length m l) = subst (λ (x : Phase). IsTrue (stands_at nid x m l)) e h in
     let both = and_parts (m == 0) (is_closed l.stage) h' in
     (eqb-true m 0 both.0, both.1)
 
-pub front_parts : (nid : ℕ) (here : Phase) (at m : ℕ) (l : PacketsLeft) → here ≡ phase.Front at → IsTrue (stands_at nid here m l) → (at < length (front_vars nid)) × (m ≡ at) × IsTrue (is_message l)
+pub front_parts : (nid : ℕ) (here : Phase) (at m : ℕ) (l : PacketsState) → here ≡ phase.Front at → IsTrue (stands_at nid here m l) → (at < length (front_vars nid)) × (m ≡ at) × IsTrue (is_message l)
 front_parts nid here at m l e h =
     let h' : IsTrue (stands_at nid (phase.Front at) m l) = subst (λ (x : Phase). IsTrue (stands_at nid x m l)) e h in
     let all = and_parts (nat_lt at (length (front_vars nid))) ((m == at) && is_message l) h' in
@@ -69,68 +69,68 @@ front_parts nid here at m l e h =
     (ltb-true at (length (front_vars nid)) all.0, eqb-true m at both.0, both.1)
 
 -- the variable that comes next, by what is known of those of a typed message
-pub front_next : (nid : ℕ) (here : Phase) (at m : ℕ) (l : PacketsLeft) (x : Option Var) → here ≡ phase.Front at → IsTrue (stands_at nid here m l) → ((vars : List Var) → front_row nid ≡ Some vars → x ≡ first_of (drop at vars)) → x ≡ next_at nid here l
+pub front_next : (nid : ℕ) (here : Phase) (at m : ℕ) (l : PacketsState) (x : Option Var) → here ≡ phase.Front at → IsTrue (stands_at nid here m l) → ((vars : List Var) → front_row nid ≡ Some vars → x ≡ first_of (drop at vars)) → x ≡ next_at nid here l
 front_next nid here at m l x e h next = subst (λ (s : Phase). x ≡ next_at nid s l) (sym e) (of (front_row nid) refl (front_parts nid here at m l e h).0)
   where
     of : (o : Option (List Var)) → front_row nid ≡ o → at < length (some_row o) → x ≡ first_of (drop at (some_row o))
     of None is far = absurd (omega arith)
     of (Some vars) is far = next vars is
 
-pub packets_parts : (nid : ℕ) (here : Phase) (m : ℕ) (l : PacketsLeft) → here ≡ phase.Packets → IsTrue (stands_at nid here m l) → (l.carrier ≡ Message ToTrain) × (is_closed l.stage ≡ false)
+pub packets_parts : (nid : ℕ) (here : Phase) (m : ℕ) (l : PacketsState) → here ≡ phase.Packets → IsTrue (stands_at nid here m l) → (l.carrier ≡ Message ToTrain) × (is_closed l.stage ≡ false)
 packets_parts nid here m l e h =
     let h' : IsTrue (stands_at nid phase.Packets m l) = subst (λ (x : Phase). IsTrue (stands_at nid x m l)) e h in
     let both = and_parts (is_message l) (not (is_closed l.stage)) h' in
     ((message_parts l both.0).0, not-true (is_closed l.stage) both.1)
 
-pub padding_parts : (nid : ℕ) (here : Phase) (left m : ℕ) (l : PacketsLeft) → here ≡ phase.Padding left → IsTrue (stands_at nid here m l) → (0 < left) × (left < 8)
+pub padding_parts : (nid : ℕ) (here : Phase) (left m : ℕ) (l : PacketsState) → here ≡ phase.Padding left → IsTrue (stands_at nid here m l) → (0 < left) × (left < 8)
 padding_parts nid here left m l e h =
     let h' : IsTrue (stands_at nid (phase.Padding left) m l) = subst (λ (x : Phase). IsTrue (stands_at nid x m l)) e h in
     let both = and_parts (nat_lt 0 left) (nat_lt left 8) h' in
     (ltb-true 0 left both.0, ltb-true left 8 both.1)
 
-pub data_parts : (nid : ℕ) (here : Phase) (left m : ℕ) (l : PacketsLeft) → here ≡ phase.Data left → IsTrue (stands_at nid here m l) → (0 < left) × (is_closed l.stage ≡ true)
+pub data_parts : (nid : ℕ) (here : Phase) (left m : ℕ) (l : PacketsState) → here ≡ phase.Data left → IsTrue (stands_at nid here m l) → (0 < left) × (is_closed l.stage ≡ true)
 data_parts nid here left m l e h =
     let h' : IsTrue (stands_at nid (phase.Data left) m l) = subst (λ (x : Phase). IsTrue (stands_at nid x m l)) e h in
     let both = and_parts (nat_lt 0 left) (is_closed l.stage) h' in
     (ltb-true 0 left both.0, both.1)
 
--- ---- What stands behind a variable.
+-- ---- What follows a variable.
 
-pub padding_stands : (nid left m : ℕ) (l : PacketsLeft) → left < 8 → IsTrue (stands_at nid (behind_padding left) m l)
+pub padding_stands : (nid left m : ℕ) (l : PacketsState) → left < 8 → IsTrue (stands_at nid (behind_padding left) m l)
 padding_stands nid left m l short =
     by_test (ltb 0 left) (λ x. IsTrue (stands_at nid x m l)) (phase.Padding left) phase.Whole
     (λ t. and_from (nat_lt 0 left) (nat_lt left 8) t (lt-ltb left 8 short))
     (λ _. refl)
 
-pub data_stands : (nid left m : ℕ) (l : PacketsLeft) → is_closed l.stage ≡ true → IsTrue (stands_at nid (behind_data left) m l)
+pub data_stands : (nid left m : ℕ) (l : PacketsState) → is_closed l.stage ≡ true → IsTrue (stands_at nid (behind_data left) m l)
 data_stands nid left m l closed =
     by_test (ltb 0 left) (λ x. IsTrue (stands_at nid x m l)) (phase.Data left) phase.Whole
     (λ t. and_from (nat_lt 0 left) (is_closed l.stage) t closed)
     (λ _. refl)
 
-packets_stand : (nid m : ℕ) (l : PacketsLeft) → IsTrue (is_message l) → IsTrue (stands_at nid (behind_packets l) m l)
+packets_stand : (nid m : ℕ) (l : PacketsState) → IsTrue (is_message l) → IsTrue (stands_at nid (behind_packets l) m l)
 packets_stand nid m l h =
     by_test (is_closed l.stage) (λ x. IsTrue (stands_at nid x m l)) (behind_padding l.room) phase.Packets
     (λ t. padding_stands nid l.room m l ((message_parts l h).1 t))
     (λ f. and_from (is_message l) (not (is_closed l.stage)) h (ap not f))
 
-pub front_stands : (nid at m : ℕ) (l : PacketsLeft) → m ≡ at → IsTrue (is_message l) → IsTrue (stands_at nid (behind_front (length (front_vars nid)) at l) m l)
+pub front_stands : (nid at m : ℕ) (l : PacketsState) → m ≡ at → IsTrue (is_message l) → IsTrue (stands_at nid (behind_front (length (front_vars nid)) at l) m l)
 front_stands nid at m l same h =
     by_test (ltb at (length (front_vars nid))) (λ x. IsTrue (stands_at nid x m l)) (phase.Front at) (behind_packets l)
     (λ t. and_from (nat_lt at (length (front_vars nid))) ((m == at) && is_message l) t (and_from (m == at) (is_message l) (eq-eqb m at same) h))
     (λ _. packets_stand nid m l h)
 
-pub packets_stands : (nid : ℕ) (here here' : Phase) (m : ℕ) (l l' : PacketsLeft) (p : Reading) → here ≡ phase.Packets → here' ≡ behind_packets l' → IsTrue (stands_at nid here m l) → Moved l.carrier l.room l.stage p l'.carrier l'.room l'.stage → IsTrue (stands_at nid here' m l')
+pub packets_stands : (nid : ℕ) (here here' : Phase) (m : ℕ) (l l' : PacketsState) (p : Reading) → here ≡ phase.Packets → here' ≡ behind_packets l' → IsTrue (stands_at nid here m l) → Moved l.carrier l.room l.stage p l'.carrier l'.room l'.stage → IsTrue (stands_at nid here' m l')
 packets_stands nid here here' m l l' p e e' h moved =
     let parts = packets_parts nid here m l e h in
     rw e' (packets_stand nid m l' (moved_message l l' p parts.0 parts.1 moved))
 
 -- ---- What is wanted has room.
 
-pub begun_stands : (nid m : ℕ) (vs : List Var) (l : PacketsLeft) → front_vars nid ≡ vs → 0 < length vs → m ≡ 0 → IsTrue (is_message l) → IsTrue (stands_at nid (phase.Front 0) m l)
+pub begun_stands : (nid m : ℕ) (vs : List Var) (l : PacketsState) → front_vars nid ≡ vs → 0 < length vs → m ≡ 0 → IsTrue (is_message l) → IsTrue (stands_at nid (phase.Front 0) m l)
 begun_stands nid m vs l e pos none h =
     let some : nat_lt 0 (length (front_vars nid)) ≡ true = rw e (lt-ltb 0 (length vs) pos) in
     and_from (nat_lt 0 (length (front_vars nid))) ((m == 0) && is_message l) some (and_from (m == 0) (is_message l) (eq-eqb m 0 none) h)
 
-pub packets_message : (nid : ℕ) (here : Phase) (m : ℕ) (l l' : PacketsLeft) (p : Reading) → here ≡ phase.Packets → IsTrue (stands_at nid here m l) → Moved l.carrier l.room l.stage p l'.carrier l'.room l'.stage → IsTrue (is_message l')
+pub packets_message : (nid : ℕ) (here : Phase) (m : ℕ) (l l' : PacketsState) (p : Reading) → here ≡ phase.Packets → IsTrue (stands_at nid here m l) → Moved l.carrier l.room l.stage p l'.carrier l'.room l'.stage → IsTrue (is_message l')
 packets_message nid here m l l' p e h moved = let parts = packets_parts nid here m l e h in moved_message l l' p parts.0 parts.1 moved

@@ -15,7 +15,7 @@ use Rattle.etcs_tables.specs.declared.row.Way.TheVariants.{ToTrain}
 use Rattle.etcs_rows.specs.declared.frames.Carrier.TheVariants.{Message}
 use Rattle.etcs_packets.specs.PacketValues.{PacketValue}
 use Rattle.etcs_packets.specs.PacketReadings.{packets_reading}
-use Rattle.etcs_sequence.specs.Contents.{Run, RunOf}
+use Rattle.etcs_sequence.specs.Contents.{PacketsIn, ReadsPackets}
 use Rattle.etcs_reader.specs.Fields.{ReadsFields}
 use Rattle.etcs_radio.specs.declared.body.RadioHead.{RadioHead}
 use Rattle.etcs_radio.specs.Messages.{head_reading, front_of, IsAdmitted, typed_message, kept_message, TypedReads, KeptReads, MessageLanguage}
@@ -37,7 +37,7 @@ typed_left nid h body vs padding r t =
     let bits : length (spelled body) ≡ widths own = fields_length own body reads in
     let p = packets_reading vs in
     let room : 8 * len - front_of body ≡ 8 * len - front_bits row = omega (arith, bits) in
-    let run : Run (Message ToTrain) (8 * len - front_bits row) p = (vs, subst (λ n. RunOf (Message ToTrain) n vs p) room t.run) in
+    let run : PacketsIn (Message ToTrain) (8 * len - front_bits row) p = (vs, subst (λ n. ReadsPackets (Message ToTrain) n vs p) room t.run) in
     let bytes = t.bytes in
     let fits : front_bits row ≤ 8 * len = omega (arith, bits, bytes) in
     let wide : length padding ≡ 8 * len - front_bits row - length (spelled p) = omega (arith, bits, bytes) in
@@ -87,7 +87,7 @@ from_left (Some own) nid len r rest is small e (fits, most, (front, behind, f, (
     let packets : p ≡ packets_reading vs = run.reading_is ∙ append-nil (packets_reading vs) in
     let long = ap (λ (x : Reading). length (spelled x)) packets in
     let room : 8 * len - front_bits (front_behind own) ≡ 8 * len - front_of body = omega (arith, bits) in
-    let run' : RunOf (Message ToTrain) (8 * len - front_of body) vs (packets_reading vs) = subst (λ k. RunOf (Message ToTrain) k vs (packets_reading vs)) room (subst (λ (x : Reading). RunOf (Message ToTrain) (8 * len - front_bits (front_behind own)) vs x) packets run) in
+    let run' : ReadsPackets (Message ToTrain) (8 * len - front_of body) vs (packets_reading vs) = subst (λ k. ReadsPackets (Message ToTrain) k vs (packets_reading vs)) room (subst (λ (x : Reading). ReadsPackets (Message ToTrain) (8 * len - front_bits (front_behind own)) vs x) packets run) in
     let inner : length (spelled p) ≤ 8 * len - front_bits (front_behind own) = run.fills.0 in
     let flag : bit (m == 1) ≡ m = bit-eqb m (admits_parts M_ACK m ack).1 in
     let head : ◌≡◌ {A = Reading} (headed nid len front) (head_reading nid len h ++ body) = rw flag (ap (headed nid len) (e1 ∙ ap (λ (x : Reading). (T_TRAIN, t) ∷ x) (e2 ∙ ap (λ (x : Reading). (M_ACK, m) ∷ x) e3))) in

@@ -1,4 +1,4 @@
--- What is left of a message behind each of its variables.
+-- What is left of a message after each of its variables.
 use Rattle.std.proofs.Common.{◌≡◌, ℕ, suc, ◌+◌, ◌-◌, ◌*◌, ◌^◌, ◌<◌, ◌≤◌, Bool, true, false, List, [], ◌∷◌, length, drop, Some, None, refl, sym, subst, arith, ltb}
 use Rattle.std.specs.Prelude.{IsTrue, ◌↔◌, Option, if◌then◌else◌}
 use Rattle.std.proofs.lemmas.Bool.Decides.{nat_tests}
@@ -11,11 +11,11 @@ use Rattle.etcs_vars.specs.Walking.{Residual}
 use Rattle.etcs_vars.proofs.Languages.{Same, same_self, same_along, Then-same}
 use Rattle.etcs_tables.specs.declared.row.Way.TheVariants.{ToTrain}
 use Rattle.etcs_rows.specs.declared.frames.Carrier.TheVariants.{Message}
-use Rattle.etcs_sequence.specs.Contents.{Run, KeptIn}
+use Rattle.etcs_sequence.specs.Contents.{PacketsIn, KeptIn}
 use Rattle.etcs_sequence.proofs.Turns.{residual_same}
 use Rattle.etcs_reader.specs.Rests.{Starts, Goes}
 use Rattle.etcs_reader.specs.Fields.{ReadsFields}
-use Rattle.etcs_sequence.specs.declared.left.PacketsLeft.{PacketsLeft}
+use Rattle.etcs_sequence.specs.declared.state.PacketsState.{PacketsState}
 use Rattle.etcs_sequence.specs.declared.stage.Stage.TheVariants as stage
 use Rattle.etcs_sequence.specs.laws.BitLaws.{bits_behind, some_bits}
 use Rattle.etcs_sequence.proofs.BitLaws.{no_bits}
@@ -40,7 +40,7 @@ below_false a b h = grind (arith, nat_tests)
 
 -- ---- L_MESSAGE.
 
--- some message of this length goes on
+-- some message of this length continues
 pub length_goes : (nid len : ℕ) → Starts (LengthLeft nid) L_MESSAGE 0 len → Goes (Behind (front_row nid) len)
 length_goes nid len s = opens_number (LengthLeft nid) L_MESSAGE (Behind (front_row nid)) (length_opens nid) len s
 
@@ -49,13 +49,13 @@ length_behind nid len found e =
     subst (λ (o : Option (List Var)). Residual (LengthLeft nid) ((L_MESSAGE, len) ∷ []) (Behind o len)) e (opens_behind (LengthLeft nid) L_MESSAGE (Behind (front_row nid)) (length_opens nid) len)
 
 -- packets and PADDING in the same room
-packets_begun : (front len : ℕ) (l : PacketsLeft) → ahead l.carrier l.room l.stage ≡ 8 * len - front → Same (left_of l.carrier l.room l.stage) (Run (Message ToTrain) (8 * len - front)) → Same (PacketsFrom front len) (PacketsBehind l)
+packets_begun : (front len : ℕ) (l : PacketsState) → ahead l.carrier l.room l.stage ≡ 8 * len - front → Same (left_of l.carrier l.room l.stage) (PacketsIn (Message ToTrain) (8 * len - front)) → Same (PacketsFrom front len) (PacketsBehind l)
 packets_begun front len l room same r = (
   λ (a, b, e, h, k). (a, b, e, (same a).1 h, subst (λ n. PaddingLeft (n - length (spelled a)) b) (sym room) k),
   λ (a, b, e, h, k). (a, b, e, (same a).0 h, subst (λ n. PaddingLeft (n - length (spelled a)) b) room k),
 )
 
-pub typed_behind : (nid len : ℕ) (vs : List Var) (l l' : PacketsLeft) → front_row nid ≡ Some vs → Starts (LengthLeft nid) L_MESSAGE 0 len → ahead l'.carrier l'.room l'.stage ≡ 8 * len - front_bits vs → Same (left_of l'.carrier l'.room l'.stage) (Run (Message ToTrain) (8 * len - front_bits vs))
+pub typed_behind : (nid len : ℕ) (vs : List Var) (l l' : PacketsState) → front_row nid ≡ Some vs → Starts (LengthLeft nid) L_MESSAGE 0 len → ahead l'.carrier l'.room l'.stage ≡ 8 * len - front_bits vs → Same (left_of l'.carrier l'.room l'.stage) (PacketsIn (Message ToTrain) (8 * len - front_bits vs))
     → Residual (left_at nid phase.Length l) ((L_MESSAGE, len) ∷ []) (left_at nid (phase.Front 0) l')
 typed_behind nid len vs l l' found s room same =
     let (r, (fits, most, rest)) : Goes (Behind (Some vs) len) = subst (λ (o : Option (List Var)). Goes (Behind o len)) found (length_goes nid len s) in
@@ -73,64 +73,64 @@ kept_bounds nid len found s = let goes : Goes (Behind None len) = subst (λ (o :
 
 -- ---- Padding, and bits that are kept.
 
-pub behind_bits : (nid left : ℕ) (l : PacketsLeft) → Same (PaddingLeft left) (left_at nid (behind_padding left) l)
+pub behind_bits : (nid left : ℕ) (l : PacketsState) → Same (PaddingLeft left) (left_at nid (behind_padding left) l)
 behind_bits nid left l =
     by_test (ltb 0 left) (λ x. Same (PaddingLeft left) (left_at nid x l)) (phase.Padding left) phase.Whole
     (λ _. same_self (PaddingLeft left))
     (λ t. let e : left ≡ 0 = (let b = below_false 0 left t in omega arith) in rw e (no_bits PADDING))
 
-behind_kept : (nid left : ℕ) (l : PacketsLeft) → Same (KeptIn left) (left_at nid (behind_data left) l)
+behind_kept : (nid left : ℕ) (l : PacketsState) → Same (KeptIn left) (left_at nid (behind_data left) l)
 behind_kept nid left l =
     by_test (ltb 0 left) (λ x. Same (KeptIn left) (left_at nid x l)) (phase.Data left) phase.Whole
     (λ _. same_self (KeptIn left))
     (λ t. let e : left ≡ 0 = (let b = below_false 0 left t in omega arith) in rw e (no_bits OTHER_DATA))
 
-pub padding_behind : (nid left : ℕ) (l : PacketsLeft) (t : List Bool) → length t ≤ left → Residual (left_at nid (phase.Padding left) l) (kept PADDING t) (left_at nid (behind_padding (left - length t)) l)
+pub padding_behind : (nid left : ℕ) (l : PacketsState) (t : List Bool) → length t ≤ left → Residual (left_at nid (phase.Padding left) l) (kept PADDING t) (left_at nid (behind_padding (left - length t)) l)
 padding_behind nid left l t le = residual_same (PaddingLeft left) (kept PADDING t) (PaddingLeft (left - length t)) (left_at nid (behind_padding (left - length t)) l) (bits_behind PADDING refl left t le) (behind_bits nid (left - length t) l)
 
-pub data_behind : (nid left : ℕ) (l : PacketsLeft) (t : List Bool) → length t ≤ left → Residual (left_at nid (phase.Data left) l) (kept OTHER_DATA t) (left_at nid (behind_data (left - length t)) l)
+pub data_behind : (nid left : ℕ) (l : PacketsState) (t : List Bool) → length t ≤ left → Residual (left_at nid (phase.Data left) l) (kept OTHER_DATA t) (left_at nid (behind_data (left - length t)) l)
 data_behind nid left l t le = residual_same (KeptIn left) (kept OTHER_DATA t) (KeptIn (left - length t)) (left_at nid (behind_data (left - length t)) l) (bits_behind OTHER_DATA refl left t le) (behind_kept nid (left - length t) l)
 
-pub padding_goes : (nid left : ℕ) (l : PacketsLeft) → Goes (left_at nid (behind_padding left) l)
+pub padding_goes : (nid left : ℕ) (l : PacketsState) → Goes (left_at nid (behind_padding left) l)
 padding_goes nid left l = let s = some_bits PADDING refl left in (s.0, (behind_bits nid left l s.0).0 s.1)
 
-pub data_goes : (nid left : ℕ) (l : PacketsLeft) → Goes (left_at nid (behind_data left) l)
+pub data_goes : (nid left : ℕ) (l : PacketsState) → Goes (left_at nid (behind_data left) l)
 data_goes nid left l = let s = some_bits OTHER_DATA refl left in (s.0, (behind_kept nid left l s.0).0 s.1)
 
 -- ---- The packets.
 
-pub packets_start : (nid : ℕ) (l : PacketsLeft) (x : Var) (rest bits : ℕ) → next_of l.stage ≡ Some x → Starts (left_of l.carrier l.room l.stage) x rest bits ↔ Starts (left_at nid phase.Packets l) x rest bits
+pub packets_start : (nid : ℕ) (l : PacketsState) (x : Var) (rest bits : ℕ) → next_of l.stage ≡ Some x → Starts (left_of l.carrier l.room l.stage) x rest bits ↔ Starts (left_at nid phase.Packets l) x rest bits
 packets_start nid l = filled_starts PaddingLeft (some_bits PADDING refl) l
 
-pub packets_viable : (nid : ℕ) (l : PacketsLeft) (t : List Bool) → Viable (left_of l.carrier l.room l.stage) t → Viable (left_at nid phase.Packets l) t
+pub packets_viable : (nid : ℕ) (l : PacketsState) (t : List Bool) → Viable (left_of l.carrier l.room l.stage) t → Viable (left_at nid phase.Packets l) t
 packets_viable nid l = filled_viable PaddingLeft (some_bits PADDING refl) l
 
--- behind closed packets comes PADDING
-behind_closed : (nid : ℕ) (l : PacketsLeft) → l.stage ≡ stage.Closed → Same (PacketsBehind l) (left_at nid (behind_padding l.room) l)
+-- after closed packets comes PADDING
+behind_closed : (nid : ℕ) (l : PacketsState) → l.stage ≡ stage.Closed → Same (PacketsBehind l) (left_at nid (behind_padding l.room) l)
 behind_closed nid l e =
     let none : Same (PacketsBehind l) (PaddingLeft (l.room - 0)) = rw e (chain_none (PaddedBy l.room)) in
     let all : l.room - 0 ≡ l.room = omega arith in
     same_along (PacketsBehind l) (PaddingLeft l.room) (left_at nid (behind_padding l.room) l) (subst (λ n. Same (PacketsBehind l) (PaddingLeft n)) all none) (behind_bits nid l.room l)
 
-behind_any : (nid : ℕ) (l : PacketsLeft) → Same (PacketsBehind l) (left_at nid (behind_packets l) l)
+behind_any : (nid : ℕ) (l : PacketsState) → Same (PacketsBehind l) (left_at nid (behind_packets l) l)
 behind_any nid l =
     by_test (is_closed l.stage) (λ x. Same (PacketsBehind l) (left_at nid x l)) (behind_padding l.room) phase.Packets
     (λ t. behind_closed nid l (closed_stage l.stage t))
     (λ _. same_self (PacketsBehind l))
 
-pub packets_behind : (nid : ℕ) (l l' : PacketsLeft) (p : Reading) → Moved l.carrier l.room l.stage p l'.carrier l'.room l'.stage → Goes (left_of l'.carrier l'.room l'.stage) → Residual (left_at nid phase.Packets l) p (left_at nid (behind_packets l') l')
+pub packets_behind : (nid : ℕ) (l l' : PacketsState) (p : Reading) → Moved l.carrier l.room l.stage p l'.carrier l'.room l'.stage → Goes (left_of l'.carrier l'.room l'.stage) → Residual (left_at nid phase.Packets l) p (left_at nid (behind_packets l') l')
 packets_behind nid l l' p m g = residual_same (left_at nid phase.Packets l) p (PacketsBehind l') (left_at nid (behind_packets l') l') (filled_behind PaddingLeft l l' p m g) (behind_any nid l')
 
--- all of it goes on where the packets do
-pub packets_all : (nid : ℕ) (l : PacketsLeft) → Goes (left_of l.carrier l.room l.stage) → Goes (left_at nid (behind_packets l) l)
+-- all of it continues where the packets do
+pub packets_all : (nid : ℕ) (l : PacketsState) → Goes (left_of l.carrier l.room l.stage) → Goes (left_at nid (behind_packets l) l)
 packets_all nid l g = let h = filled_goes PaddingLeft (some_bits PADDING refl) l g in (h.0, (behind_any nid l h.0).0 h.1)
 
 -- ---- The front.
 
-pub front_tested : (nid at : ℕ) (l : PacketsLeft) (x : Var) (rest bits : ℕ) → next_at nid (phase.Front at) l ≡ Some x → rest < width x → bits < 2 ^ (width x - rest) → Goes (left_at nid (phase.Front at) l) → IsTrue (begins (ranges x) rest bits) ↔ Starts (left_at nid (phase.Front at) l) x rest bits
+pub front_tested : (nid at : ℕ) (l : PacketsState) (x : Var) (rest bits : ℕ) → next_at nid (phase.Front at) l ≡ Some x → rest < width x → bits < 2 ^ (width x - rest) → Goes (left_at nid (phase.Front at) l) → IsTrue (begins (ranges x) rest bits) ↔ Starts (left_at nid (phase.Front at) l) x rest bits
 front_tested nid at l x rest bits e lt fits g = fronts.front_tested (PacketsBehind l) (drop at (front_vars nid)) x rest bits e lt fits g
 
-after_front : (nid at : ℕ) (l : PacketsLeft) → Same (Chain (ReadsFields (drop (suc at) (front_vars nid))) (λ _. PacketsBehind l)) (left_at nid (behind_front (length (front_vars nid)) (at + 1) l) l)
+after_front : (nid at : ℕ) (l : PacketsState) → Same (Chain (ReadsFields (drop (suc at) (front_vars nid))) (λ _. PacketsBehind l)) (left_at nid (behind_front (length (front_vars nid)) (at + 1) l) l)
 after_front nid at l =
     let vs = front_vars nid in
     by_test (ltb (at + 1) (length vs)) (λ x. Same (Chain (ReadsFields (drop (suc at) vs)) (λ _. PacketsBehind l)) (left_at nid x l)) (phase.Front (at + 1)) (behind_packets l)
@@ -139,7 +139,7 @@ after_front nid at l =
     let none : Same (Chain (ReadsFields (drop (suc at) vs)) (λ _. PacketsBehind l)) (PacketsBehind l) = rw e (chain_none (λ _. PacketsBehind l)) in
     same_along (Chain (ReadsFields (drop (suc at) vs)) (λ _. PacketsBehind l)) (PacketsBehind l) (left_at nid (behind_packets l) l) none (behind_any nid l))
 
-pub front_behind : (nid at : ℕ) (l : PacketsLeft) (x : Var) (number : ℕ) → at < length (front_vars nid) → next_at nid (phase.Front at) l ≡ Some x → Starts (left_at nid (phase.Front at) l) x 0 number
+pub front_behind : (nid at : ℕ) (l : PacketsState) (x : Var) (number : ℕ) → at < length (front_vars nid) → next_at nid (phase.Front at) l ≡ Some x → Starts (left_at nid (phase.Front at) l) x 0 number
     → Residual (left_at nid (phase.Front at) l) ((x, number) ∷ []) (left_at nid (behind_front (length (front_vars nid)) (at + 1) l) l)
 front_behind nid at l x number h e s =
     let vs = front_vars nid in

@@ -20,7 +20,7 @@ use Rattle.etcs_packets.specs.PacketValues as packets
 use Rattle.etcs_packets.specs.PacketValues.{PacketValue}
 use Rattle.etcs_packets.specs.PacketReadings.{packet_reading, packets_reading}
 use Rattle.etcs_packets.specs.laws.PacketReadings.{packet_bits}
-use Rattle.etcs_sequence.specs.Contents.{Carries, RunOf}
+use Rattle.etcs_sequence.specs.Contents.{Carries, ReadsPackets}
 use Rattle.etcs_sequence.specs.laws.Agreement.{packet_agree, packet_fit}
 use Rattle.etcs_sequence.proofs.Fits.{run_some}
 use Rattle.etcs_radio.specs.declared.body.RadioHead.{RadioHead}
@@ -38,7 +38,7 @@ framed (packets.marker n) h = absurd (omega (arith, h.1))
 framed (packets.typed nid dir r) h = omega (arith, packet_bits (packets.typed nid dir r))
 framed (packets.kept nid dir b) h = omega (arith, packet_bits (packets.kept nid dir b))
 
--- so many bits of so many leave padding or a frame
+-- n of m bits leave padding or a frame
 abbrev Leaves : ℕ → ℕ → Type 0
 Leaves all some = (some ≤ all) × ((all - some ≤ 7) ⊎ (23 ≤ all - some))
 
@@ -137,7 +137,7 @@ module _ (nid len : ℕ) (h : RadioHead) (row : Layout) (body : Reading) (vs : L
   left_flag left (inl few) = or_left (nat_le left 7) (nat_le 23 left) (le-leb left 7 few)
   left_flag left (inr many) = or_right (nat_le left 7) (nat_le 23 left) (le-leb 23 left many)
 
-  filled : bits ≤ 8 * len → 8 * len ≤ 8184 → (us : List PacketValue) (q : Reading) → RunOf (Message ToTrain) (8 * len - bits) us q → Viable MessageLanguage (spelled (begun nid len h body vs))
+  filled : bits ≤ 8 * len → 8 * len ≤ 8184 → (us : List PacketValue) (q : Reading) → ReadsPackets (Message ToTrain) (8 * len - bits) us q → Viable MessageLanguage (spelled (begun nid len h body vs))
   filled room most us q run =
       let more = packets_reading us in
       let count : length (spelled q) ≡ length (spelled more) = ap (λ (t : Reading). length (spelled t)) (run.reading_is ∙ append-nil more) in

@@ -9,13 +9,13 @@ use Rattle.etcs_vars.specs.Reading.{Reading, spelled, kept}
 use Rattle.etcs_vars.specs.declared.feed.Fed.{Fed}
 use Rattle.etcs_vars.specs.declared.feed.ReadFault.{ReadFault}
 use Rattle.etcs_packets.specs.PacketReadings.{packets_reading}
-use Rattle.etcs_sequence.specs.Stages.{Stage, reading, Feeds}
+use Rattle.etcs_sequence.specs.Progress.{Progress, reading, Feeds}
 use Rattle.etcs_sequence.proofs.RoundTrips.{Answered, answered}
 use Rattle.etcs_radio.specs.declared.message.Content.{Content}
 use Rattle.etcs_radio.specs.Messages.{MessageValue, typed_message, kept_message, MessageReads, head_reading, message_value, IsMessage}
 use Rattle.etcs_radio.proofs.Spelling.{one_spelling}
 
-pub read_again : (m : Content) (old bytes piece : List ℕ) (fresh : Stage Content) (result : Result Fed ReadFault) (s : Stage Content) → IsMessage m → old ≡ [] → ((r : Reading) × MessageReads (message_value m) r × (bits bytes ≡ bits old ++ spelled r)) → piece ≡ bytes → fresh ≡ reading []
+pub read_again : (m : Content) (old bytes piece : List ℕ) (fresh : Progress Content) (result : Result Fed ReadFault) (s : Progress Content) → IsMessage m → old ≡ [] → ((r : Reading) × MessageReads (message_value m) r × (bits bytes ≡ bits old ++ spelled r)) → piece ≡ bytes → fresh ≡ reading []
     → ((seen : List Bool) → fresh ≡ reading seen → Feeds MessageReads message_value IsMessage 18 seen (bits piece) result s) → Answered m result s
 unfolding bits
 read_again m old bytes piece fresh result s is none (r, reads, e) same start f =
@@ -24,7 +24,7 @@ read_again m old bytes piece fresh result s is none (r, reads, e) same start f =
 
 -- ---- What was read is written again.
 
-abbrev pub FedFirst : List ℕ → Result Fed ReadFault → Stage Content → Type 0
+abbrev pub FedFirst : List ℕ → Result Fed ReadFault → Progress Content → Type 0
 FedFirst bytes result s = Feeds MessageReads message_value IsMessage 18 [] (bits bytes) result s
 
 -- the message spells these bytes

@@ -31,7 +31,7 @@ use Rattle.etcs_sequence.proofs.LabelLaws.{length-widths}
 use Rattle.etcs_radio.proofs.Bodies.{body_length}
 use Rattle.etcs_sequence.proofs.BitLaws.{bits_length}
 
--- ---- One fault behind another.
+-- ---- One fault after another.
 
 pub no_first : (e f : Option BuildFault) → (e or_else f) ≡ None → e ≡ None
 no_first None f h = refl
@@ -62,7 +62,7 @@ not_above a b h = grind (arith, nat_tests)
 pub room_left : (bits left : ℕ) → bits + left ≡ 8184 → padding_room bits ≡ left % 8
 room_left bits left e = omega (arith, e)
 
--- numbers of so many bits
+-- numbers of this many bits
 pub few_bits : (n k : ℕ) → n / 2 ^ k ≤ 0 → n < 2 ^ k
 few_bits n k e = let m : n < 1 * 2 ^ k = (div-lt_iff_lt-mul {k = 2 ^ k} {x = n} {y = 1} (pow_pos k)).0 (omega (arith, e)) in omega (arith, m)
 

@@ -1,4 +1,4 @@
--- The variables so far are those that the fields tell.
+-- The variables so far are those that the fields say.
 use Rattle.std.proofs.Common.{◌≡◌, ℕ, ◌+◌, ◌-◌, ◌*◌, ◌/◌, ◌≤◌, List, Bool, ◌++◌, length, drop, Some, refl, sym, ap, subst, ◌∙◌, arith, append_assoc, inl, inr}
 use Rattle.std.specs.Prelude.{IsTrue, map, Option}
 use Rattle.std.proofs.lemmas.List.{length-append}
@@ -11,12 +11,12 @@ use Rattle.etcs_packets.specs.declared.packet.Packet.{Packet}
 use Rattle.etcs_packets.specs.PacketValues.{PacketValue, packet_value}
 use Rattle.etcs_packets.specs.PacketReadings.{packets_reading}
 use Rattle.etcs_reader.specs.Rests.{Goes}
-use Rattle.etcs_sequence.specs.declared.left.PacketsLeft.{PacketsLeft}
+use Rattle.etcs_sequence.specs.declared.state.PacketsState.{PacketsState}
 use Rattle.etcs_sequence.specs.declared.list.PacketList.{PacketList}
 use Rattle.etcs_sequence.specs.Labels.{labelled, widths}
 use Rattle.etcs_sequence.specs.Lefts.{left_of, ahead}
 use Rattle.etcs_sequence.specs.Held.{list_holds, packets_so_far}
-use Rattle.etcs_sequence.specs.Stages.{asks_memory}
+use Rattle.etcs_sequence.specs.Progress.{asks_memory}
 use Rattle.etcs_sequence.proofs.Asking.{packets_ask}
 use Rattle.etcs_sequence.proofs.Holding.{packets_far}
 use Rattle.etcs_radio.specs.declared.phase.Phase.{Phase}
@@ -26,22 +26,22 @@ use Rattle.etcs_radio.specs.Lefts.{front_vars, some_row, headed, left_at, next_a
 use Rattle.etcs_radio.specs.Readers.{measured, padded, packed, whole_far, so_far}
 use Rattle.etcs_radio.proofs.Bytes.{headed_length, pad_bits, one_bits}
 
--- L_MESSAGE is told by how many bits there are
+-- L_MESSAGE is given by how many bits there are
 measured_is : (nid len more : ℕ) (r q : Reading) → q ≡ headed nid len r → length (spelled q) + more ≡ 8 * len → q ≡ measured nid r more
 measured_is nid len more r q e room =
     let l = ap (λ (t : Reading). length (spelled t)) e ∙ headed_length nid len r in
     let same : (18 + length (spelled r) + more) / 8 ≡ len = omega (arith, l, room) in
     e ∙ ap (λ (k : ℕ). headed nid k r) (sym same)
 
-front_far : (nid at : ℕ) (front : List ℕ) (l : PacketsLeft) (holds : List PacketValue → List ℕ → List Bool → Type 0) (q : Reading) → FrontHeld nid at front l holds q → q ≡ measured nid (labelled (front_vars nid) front) (widths (drop at (front_vars nid)) + ahead l.carrier l.room l.stage)
+front_far : (nid at : ℕ) (front : List ℕ) (l : PacketsState) (holds : List PacketValue → List ℕ → List Bool → Type 0) (q : Reading) → FrontHeld nid at front l holds q → q ≡ measured nid (labelled (front_vars nid) front) (widths (drop at (front_vars nid)) + ahead l.carrier l.room l.stage)
 front_far nid at front l holds q h =
     let m = measured_is nid h.len (widths (drop at h.vars) + ahead l.carrier l.room l.stage) (labelled h.vars front) q h.reading_is h.room_is in
     subst (λ (vs : List Var). q ≡ measured nid (labelled vs front) (widths (drop at vs) + ahead l.carrier l.room l.stage)) (sym (ap some_row h.typed)) m
 
-pub first_goes : (l : PacketsLeft) → Goes (PacketsBehind l) → Goes (left_of l.carrier l.room l.stage)
+pub first_goes : (l : PacketsState) → Goes (PacketsBehind l) → Goes (left_of l.carrier l.room l.stage)
 first_goes l (r, (a, b, e, h, k)) = (a, h)
 
-packets_are : (nid : ℕ) (front : List ℕ) (l : PacketsLeft) (store : PacketList) (q : Reading) → Goes (PacketsBehind l) → PacketsHeld nid front l (list_holds store.packets.items store.numbers.items store.bits) q
+packets_are : (nid : ℕ) (front : List ℕ) (l : PacketsState) (store : PacketList) (q : Reading) → Goes (PacketsBehind l) → PacketsHeld nid front l (list_holds store.packets.items store.numbers.items store.bits) q
     → q ≡ measured nid (labelled (front_vars nid) front ++ packets_so_far l.carrier l.stage store.packets.items store.numbers.items store.bits) (ahead l.carrier l.room l.stage)
 packets_are nid front l store q g h =
     let here = packets_far l.carrier l.room l.stage store.packets.items store.numbers.items store.bits h.here (first_goes l g) h.held in
@@ -75,7 +75,7 @@ data_far nid ps f k left q h =
     measured_is nid h.len left (kept OTHER_DATA k) q is (let n = ap length l_is in omega (arith, l, one_bits k, h.room_is, n))
 
 -- all of them
-pub far_is : (nid : ℕ) (phase : Phase) (front : List ℕ) (l : PacketsLeft) (store : PacketList) (number : ℕ) (q : Reading) → Goes (left_at nid phase l) → HoldsIn nid phase front l number (list_holds store.packets.items store.numbers.items store.bits) q → q ≡ so_far nid phase front l store number
+pub far_is : (nid : ℕ) (phase : Phase) (front : List ℕ) (l : PacketsState) (store : PacketList) (number : ℕ) (q : Reading) → Goes (left_at nid phase l) → HoldsIn nid phase front l number (list_holds store.packets.items store.numbers.items store.bits) q → q ≡ so_far nid phase front l store number
 far_is nid Number front l store number q g (z, h, e) = e
 far_is nid Length front l store number q g (z, h, e) = e
 far_is nid (Front at) front l store number q g (z, h) = front_far nid at front l (list_holds store.packets.items store.numbers.items store.bits) q h
@@ -92,7 +92,7 @@ far_is nid Whole front l store number q g (inr h) =
 headed_long : (nid len : ℕ) (r q : Reading) → q ≡ headed nid len r → 18 ≤ length (spelled q)
 headed_long nid len r q e = omega (arith, ap (λ (t : Reading). length (spelled t)) e ∙ headed_length nid len r)
 
-pub far_long : (nid : ℕ) (phase : Phase) (front : List ℕ) (l : PacketsLeft) (number : ℕ) (holds : List PacketValue → List ℕ → List Bool → Type 0) (q : Reading) → IsTrue (may_ask phase l) → HoldsIn nid phase front l number holds q → 18 ≤ length (spelled q)
+pub far_long : (nid : ℕ) (phase : Phase) (front : List ℕ) (l : PacketsState) (number : ℕ) (holds : List PacketValue → List ℕ → List Bool → Type 0) (q : Reading) → IsTrue (may_ask phase l) → HoldsIn nid phase front l number holds q → 18 ≤ length (spelled q)
 far_long nid Number front l number holds q a h = absurd cc
 far_long nid Length front l number holds q a h = absurd cc
 far_long nid (Front at) front l number holds q a h = absurd cc
@@ -102,7 +102,7 @@ far_long nid (Data left) front l number holds q a h = headed_long nid h.len (kep
 far_long nid Whole front l number holds q a h = absurd cc
 
 -- the variable that comes next there asks for it
-pub next_asks : (nid : ℕ) (phase : Phase) (front : List ℕ) (l : PacketsLeft) (number : ℕ) (holds : List PacketValue → List ℕ → List Bool → Type 0) (q : Reading) (x : Var) → IsTrue (may_ask phase l) → HoldsIn nid phase front l number holds q → Goes (left_at nid phase l) → next_at nid phase l ≡ Some x → IsTrue (asks_memory x)
+pub next_asks : (nid : ℕ) (phase : Phase) (front : List ℕ) (l : PacketsState) (number : ℕ) (holds : List PacketValue → List ℕ → List Bool → Type 0) (q : Reading) (x : Var) → IsTrue (may_ask phase l) → HoldsIn nid phase front l number holds q → Goes (left_at nid phase l) → next_at nid phase l ≡ Some x → IsTrue (asks_memory x)
 next_asks nid Number front l number holds q x a h g e = absurd cc
 next_asks nid Length front l number holds q x a h g e = absurd cc
 next_asks nid (Front at) front l number holds q x a h g e = absurd cc

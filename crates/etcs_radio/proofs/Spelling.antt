@@ -19,7 +19,7 @@ use Rattle.etcs_rows.specs.laws.OneReading.{Reads-agree, Reads-fit}
 use Rattle.etcs_packets.specs.PacketValues.{PacketValue}
 use Rattle.etcs_packets.specs.PacketReadings.{packets_reading}
 use Rattle.etcs_packets.proofs.OnePacket.{one_list}
-use Rattle.etcs_sequence.specs.Contents.{RunOf}
+use Rattle.etcs_sequence.specs.Contents.{ReadsPackets}
 use Rattle.etcs_sequence.specs.laws.Agreement.{run_regular}
 use Rattle.etcs_sequence.proofs.OneSpelling.{packets_same}
 use Rattle.etcs_radio.specs.declared.body.Body.{Body}
@@ -82,7 +82,7 @@ one_row nid nid' row row' n e e' = let found : Some row ≡ Some row' = sym e �
 pub not_both : (nid nid' : ℕ) (row : Layout) → nid ≡ nid' → message_row_to ToTrain nid ≡ Some row → message_row_to ToTrain nid' ≡ None → ⊥
 not_both nid nid' row n e e' = let found : Some row ≡ None = sym e ∙ ap (message_row_to ToTrain) n ∙ e' in absurd cc
 
--- how many bits stand in front of PADDING
+-- how many bits are in front of PADDING
 front_length : (nid len : ℕ) (h : RadioHead) (body packets : Reading) → length (spelled ((head_reading nid len h ++ body) ++ packets)) ≡ front_of body + length (spelled packets)
 front_length nid len h body packets =
     let l1 = length-spelled (head_reading nid len h ++ body) packets in
@@ -115,8 +115,8 @@ module _ (nid nid' : ℕ) (h h' : RadioHead) (body body' : Reading) (vs vs' : Li
       let parts = Agree-cut head head' body body' (heads_agree nid nid' x.len y.len h h') e in
       omega (arith, ap second_number parts.0, ap (λ (q : Reading). length (spelled q)) parts.1)
 
-  run_same : head ++ body ≡ head' ++ body' → RunOf (Message ToTrain) (8 * x.len - front_of body) vs' sent'
-  run_same e = subst (λ (k : ℕ). RunOf (Message ToTrain) k vs' sent') (sym (rooms_same e)) y.run
+  run_same : head ++ body ≡ head' ++ body' → ReadsPackets (Message ToTrain) (8 * x.len - front_of body) vs' sent'
+  run_same e = subst (λ (k : ℕ). ReadsPackets (Message ToTrain) k vs' sent') (sym (rooms_same e)) y.run
 
   runs_agree : head ++ body ≡ head' ++ body' → Agree sent sent'
   runs_agree e = let runs = run_regular (Message ToTrain) (8 * x.len - front_of body) in runs.agree sent sent' (vs, x.run) (vs', run_same e)

@@ -17,7 +17,7 @@ use Rattle.etcs_packets.specs.PacketValues.{PacketValue, packet_value, IsMade}
 use Rattle.etcs_packets.specs.PacketReadings.{packets_reading}
 use Rattle.etcs_sequence.specs.Contents.{Carries}
 use Rattle.etcs_reader.specs.Fields.{ReadsFields}
-use Rattle.etcs_sequence.specs.declared.left.PacketsLeft.{PacketsLeft}
+use Rattle.etcs_sequence.specs.declared.state.PacketsState.{PacketsState}
 use Rattle.etcs_sequence.specs.declared.list.PacketList.{PacketList}
 use Rattle.etcs_sequence.specs.Labels.{labelled}
 use Rattle.etcs_sequence.proofs.LabelLaws.{numbers_labelled, labelled_count}
@@ -209,7 +209,7 @@ at_kept_end nid front store number q lang h =
     let t = kept_whole nid store.packets.items store.numbers.items store.bits q lang h in
     subst (λ (o : Option (List Var)). IsMessage (content_by o nid front store.packets.items store.bits number) × MessageReads (message_value (content_by o nid front store.packets.items store.bits number)) q) (sym h.untyped) t
 
-pub none_whole : (nid : ℕ) (phase : Phase) (l : PacketsLeft) (n : ℕ) → IsTrue (stands_at nid phase n l) → next_at nid phase l ≡ None → phase ≡ Whole
+pub none_whole : (nid : ℕ) (phase : Phase) (l : PacketsState) (n : ℕ) → IsTrue (stands_at nid phase n l) → next_at nid phase l ≡ None → phase ≡ Whole
 none_whole nid Number l n s e = absurd cc
 none_whole nid Length l n s e = absurd cc
 none_whole nid (Front at) l n s e =
@@ -222,17 +222,17 @@ none_whole nid (Padding left) l n s e = absurd cc
 none_whole nid (Data left) l n s e = absurd cc
 none_whole nid Whole l n s e = refl
 
-whole_ends : (nid : ℕ) (front : List ℕ) (l : PacketsLeft) (store : PacketList) (number : ℕ) (q : Reading) → MessageLanguage q → HoldsIn nid Whole front l number (list_holds store.packets.items store.numbers.items store.bits) q → IsMessage (message_by nid front store number) × MessageReads (message_value (message_by nid front store number)) q
+whole_ends : (nid : ℕ) (front : List ℕ) (l : PacketsState) (store : PacketList) (number : ℕ) (q : Reading) → MessageLanguage q → HoldsIn nid Whole front l number (list_holds store.packets.items store.numbers.items store.bits) q → IsMessage (message_by nid front store number) × MessageReads (message_value (message_by nid front store number)) q
 whole_ends nid front l store number q lang (inl h) = at_end nid front store number q lang h
 whole_ends nid front l store number q lang (inr h) = at_kept_end nid front store number q lang h
 
-pub whole_reads : (nid : ℕ) (phase : Phase) (front : List ℕ) (l : PacketsLeft) (store : PacketList) (number n : ℕ) → IsTrue (stands_at nid phase n l) → next_at nid phase l ≡ None → MessageLanguage (so_far nid phase front l store number) → HoldsIn nid phase front l number (list_holds store.packets.items store.numbers.items store.bits) (so_far nid phase front l store number)
+pub whole_reads : (nid : ℕ) (phase : Phase) (front : List ℕ) (l : PacketsState) (store : PacketList) (number n : ℕ) → IsTrue (stands_at nid phase n l) → next_at nid phase l ≡ None → MessageLanguage (so_far nid phase front l store number) → HoldsIn nid phase front l number (list_holds store.packets.items store.numbers.items store.bits) (so_far nid phase front l store number)
     → IsMessage (message_by nid front store number) × MessageReads (message_value (message_by nid front store number)) (so_far nid phase front l store number)
 whole_reads nid phase front l store number n s e lang h =
     whole_ends nid front l store number (so_far nid phase front l store number) lang (subst (λ (p : Phase). HoldsIn nid p front l number (list_holds store.packets.items store.numbers.items store.bits) (so_far nid phase front l store number)) (none_whole nid phase l n s e) h)
 
 -- the numbers that its front is made of
-pub whole_numbers : (nid : ℕ) (phase : Phase) (front : List ℕ) (l : PacketsLeft) (store : PacketList) (number n : ℕ) → IsTrue (stands_at nid phase n l) → next_at nid phase l ≡ None → MessageLanguage (so_far nid phase front l store number) → HoldsIn nid phase front l number (list_holds store.packets.items store.numbers.items store.bits) (so_far nid phase front l store number)
+pub whole_numbers : (nid : ℕ) (phase : Phase) (front : List ℕ) (l : PacketsState) (store : PacketList) (number n : ℕ) → IsTrue (stands_at nid phase n l) → next_at nid phase l ≡ None → MessageLanguage (so_far nid phase front l store number) → HoldsIn nid phase front l number (list_holds store.packets.items store.numbers.items store.bits) (so_far nid phase front l store number)
     → (vars : List Var) → front_row nid ≡ Some vars → IsHeadNumbers front × IsBodyNumbers nid (drop 3 front)
 whole_numbers nid phase front l store number n s e lang h vars typed =
     let q = so_far nid phase front l store number in

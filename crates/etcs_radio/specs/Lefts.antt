@@ -13,16 +13,16 @@ use Rattle.etcs_tables.specs.Rows.{message_row_to}
 use Rattle.etcs_flat.specs.Flats.{variables}
 use Rattle.etcs_packets.specs.PacketValues.{PacketValue}
 use Rattle.etcs_packets.specs.PacketReadings.{packets_reading}
-use Rattle.etcs_sequence.specs.Contents.{Carries, Run, KeptIn}
+use Rattle.etcs_sequence.specs.Contents.{Carries, PacketsIn, KeptIn}
 use Rattle.etcs_reader.specs.Fields.{ReadsFields, first_of}
-use Rattle.etcs_sequence.specs.declared.left.PacketsLeft.{PacketsLeft}
+use Rattle.etcs_sequence.specs.declared.state.PacketsState.{PacketsState}
 use Rattle.etcs_sequence.specs.Lefts.{next_of, left_of, ahead, is_closed, is_telegram, may_grow, HoldsAt}
 use Rattle.etcs_sequence.specs.ChainLaws.{Chain}
 use Rattle.etcs_sequence.specs.Labels.{labelled, widths}
 use Rattle.etcs_radio.specs.declared.phase.Phase.{Phase}
 use Rattle.etcs_radio.specs.declared.phase.Phase.TheVariants as phase
 
--- ---- The front: what stands between L_MESSAGE and the packets of a typed message.
+-- ---- The front: what is between L_MESSAGE and the packets of a typed message.
 
 -- the variables of the message's own
 abbrev pub own_row : ℕ → Option (List Var)
@@ -42,44 +42,44 @@ some_row (Some vs) = vs
 abbrev pub front_vars : ℕ → List Var
 front_vars n = some_row (front_row n)
 
--- how many bits stand in front of the packets
+-- how many bits are in front of the packets
 abbrev pub front_bits : List Var → ℕ
 front_bits vs = 18 + widths vs
 
 -- ---- The readings that are left.
 
--- so many bits of PADDING
+-- this many bits of PADDING
 abbrev pub PaddingLeft : ℕ → Reading → Type 0
 PaddingLeft n r = (b : List Bool) × (length b ≡ n) × (r ≡ kept PADDING b)
 
--- PADDING behind packets, up to so many bits
+-- PADDING after packets, up to this many bits
 abbrev pub PaddedBy : ℕ → Reading → Reading → Type 0
 PaddedBy room p r = PaddingLeft (room - length (spelled p)) r
 
--- what is left of packets, and PADDING behind it, in so many bits
+-- what is left of packets, and PADDING after it, in this many bits
 abbrev pub Padded : (Reading → Type 0) → ℕ → Reading → Type 0
 Padded P room r = Chain P (PaddedBy room) r
 
-abbrev pub PacketsBehind : PacketsLeft → Reading → Type 0
+abbrev pub PacketsBehind : PacketsState → Reading → Type 0
 PacketsBehind l r = Padded (left_of l.carrier l.room l.stage) (ahead l.carrier l.room l.stage) r
 
--- packets and PADDING, as many bits as these bytes have behind so many
+-- packets and PADDING, as many bits as these bytes have after this many
 abbrev pub PacketsFrom : ℕ → ℕ → Reading → Type 0
-PacketsFrom front len r = Padded (Run (Message ToTrain) (8 * len - front)) (8 * len - front) r
+PacketsFrom front len r = Padded (PacketsIn (Message ToTrain) (8 * len - front)) (8 * len - front) r
 
--- behind an L_MESSAGE of so many bytes: a message of these variables in front of its packets, or one that is kept
+-- after an L_MESSAGE of this many bytes: a message of these variables in front of its packets, or one that is kept
 abbrev pub Behind : Option (List Var) → ℕ → Reading → Type 0
 Behind None len r = (3 ≤ len) × (len < 2 ^ 10) × KeptIn (8 * len - 18) r
 Behind (Some vs) len r = (front_bits vs ≤ 8 * len) × (len < 2 ^ 10) × Then (ReadsFields vs) (PacketsFrom (front_bits vs) len) r
 
--- behind this NID_MESSAGE
+-- after this NID_MESSAGE
 abbrev pub LengthLeft : ℕ → Reading → Type 0
 LengthLeft nid r = (len : ℕ) × (rest : Reading) × (r ≡ (L_MESSAGE, len) ∷ rest) × Behind (front_row nid) len rest
 
 abbrev pub NumberLeft : Reading → Type 0
 NumberLeft r = (nid : ℕ) × (rest : Reading) × (nid < 2 ^ 8) × (r ≡ (NID_MESSAGE, nid) ∷ rest) × LengthLeft nid rest
 
-abbrev pub left_at : ℕ → Phase → PacketsLeft → Reading → Type 0
+abbrev pub left_at : ℕ → Phase → PacketsState → Reading → Type 0
 left_at nid phase.Number l r = NumberLeft r
 left_at nid phase.Length l r = LengthLeft nid r
 left_at nid (phase.Front at) l r = Then (ReadsFields (drop at (front_vars nid))) (PacketsBehind l) r
@@ -89,7 +89,7 @@ left_at nid (phase.Data left) l r = KeptIn left r
 left_at nid phase.Whole l r = r ≡ []
 
 -- the variable that comes next
-abbrev pub next_at : ℕ → Phase → PacketsLeft → Option Var
+abbrev pub next_at : ℕ → Phase → PacketsState → Option Var
 next_at nid phase.Number l = Some NID_MESSAGE
 next_at nid phase.Length l = Some L_MESSAGE
 next_at nid (phase.Front at) l = first_of (drop at (front_vars nid))
@@ -99,11 +99,11 @@ next_at nid (phase.Data left) l = Some OTHER_DATA
 next_at nid phase.Whole l = None
 
 -- packets of a message, which leave padding once they are closed
-abbrev pub is_message : PacketsLeft → Bool
+abbrev pub is_message : PacketsState → Bool
 is_message l = not (is_telegram l.carrier) && (not (is_closed l.stage) || nat_lt l.room 8)
 
--- what holds of what comes next, where so many of the front's numbers are there
-abbrev pub stands_at : ℕ → Phase → ℕ → PacketsLeft → Bool
+-- what holds of what comes next, where this many of the front's numbers are there
+abbrev pub stands_at : ℕ → Phase → ℕ → PacketsState → Bool
 stands_at nid phase.Number n l = (n == 0) && is_closed l.stage
 stands_at nid phase.Length n l = (n == 0) && is_closed l.stage
 stands_at nid (phase.Front at) n l = nat_lt at (length (front_vars nid)) && ((n == at) && is_message l)
@@ -113,7 +113,7 @@ stands_at nid (phase.Data left) n l = nat_lt 0 left && is_closed l.stage
 stands_at nid phase.Whole n l = true
 
 -- memory may be asked for
-abbrev pub may_ask : Phase → PacketsLeft → Bool
+abbrev pub may_ask : Phase → PacketsState → Bool
 may_ask phase.Number l = false
 may_ask phase.Length l = false
 may_ask (phase.Front at) l = false
@@ -125,12 +125,12 @@ may_ask phase.Whole l = false
 abbrev pub behind_padding : ℕ → Phase
 behind_padding left = if nat_lt 0 left then phase.Padding left else phase.Whole
 
--- what comes behind a variable of the packets
-abbrev pub behind_packets : PacketsLeft → Phase
+-- what comes after a variable of the packets
+abbrev pub behind_packets : PacketsState → Phase
 behind_packets l = if is_closed l.stage then behind_padding l.room else phase.Packets
 
--- what comes behind the variables of the front that stand before this place
-abbrev pub behind_front : ℕ → ℕ → PacketsLeft → Phase
+-- what comes after the variables of the front that come before this place
+abbrev pub behind_front : ℕ → ℕ → PacketsState → Phase
 behind_front count at l = if nat_lt at count then phase.Front at else behind_packets l
 
 abbrev pub behind_data : ℕ → Phase
@@ -138,7 +138,7 @@ behind_data left = if nat_lt 0 left then phase.Data left else phase.Whole
 
 -- ---- What is kept of it.
 
--- in front of packets and of bits that are kept nothing is held, and the bits that are left have room behind those that are held
+-- before packets and kept bits nothing is held, and the bits that are left have room after those that are held
 abbrev pub DataFits : Phase → (List PacketValue → List ℕ → List Bool → Type 0) → Type 0
 DataFits phase.Number holds = holds [] [] []
 DataFits phase.Length holds = holds [] [] []
@@ -148,12 +148,12 @@ DataFits (phase.Padding left) holds = Unit {0}
 DataFits (phase.Data left) holds = (vs : List PacketValue) × (k : List Bool) × holds vs [] k × (length k + left ≤ 8191)
 DataFits phase.Whole holds = Unit {0}
 
--- NID_MESSAGE, L_MESSAGE and these variables behind them
+-- NID_MESSAGE, L_MESSAGE and these variables after them
 abbrev pub headed : ℕ → ℕ → Reading → Reading
 headed nid len r = (NID_MESSAGE, nid) ∷ (L_MESSAGE, len) ∷ r
 
 -- q are NID_MESSAGE, L_MESSAGE and the first of the front's variables
-pub record FrontHeld (nid : ℕ) (at : ℕ) (front : List ℕ) (l : PacketsLeft) (holds : List PacketValue → List ℕ → List Bool → Type 0) (q : Reading) : Type 0 where
+pub record FrontHeld (nid : ℕ) (at : ℕ) (front : List ℕ) (l : PacketsState) (holds : List PacketValue → List ℕ → List Bool → Type 0) (q : Reading) : Type 0 where
   pub len : ℕ
   pub vars : List Var
   pub typed : front_row nid ≡ Some vars
@@ -162,7 +162,7 @@ pub record FrontHeld (nid : ℕ) (at : ℕ) (front : List ℕ) (l : PacketsLeft)
   pub room_is : length (spelled q) + (widths (drop at vars) + ahead l.carrier l.room l.stage) ≡ 8 * len
 
 -- q are all of the front, packets, and variables of the packet that is being read
-pub record PacketsHeld (nid : ℕ) (front : List ℕ) (l : PacketsLeft) (holds : List PacketValue → List ℕ → List Bool → Type 0) (q : Reading) : Type 0 where
+pub record PacketsHeld (nid : ℕ) (front : List ℕ) (l : PacketsState) (holds : List PacketValue → List ℕ → List Bool → Type 0) (q : Reading) : Type 0 where
   pub len : ℕ
   pub vars : List Var
   pub here : Reading
@@ -199,7 +199,7 @@ pub record DataHeld (nid : ℕ) (holds : List PacketValue → List ℕ → List 
   pub room_is : 18 + length bits + left ≡ 8 * len
 
 -- q are the variables so far, of which so much is held
-abbrev pub HoldsIn : ℕ → Phase → List ℕ → PacketsLeft → ℕ → (List PacketValue → List ℕ → List Bool → Type 0) → Reading → Type 0
+abbrev pub HoldsIn : ℕ → Phase → List ℕ → PacketsState → ℕ → (List PacketValue → List ℕ → List Bool → Type 0) → Reading → Type 0
 HoldsIn nid phase.Number front l padding holds q = (padding ≡ 0) × holds [] [] [] × (q ≡ [])
 HoldsIn nid phase.Length front l padding holds q = (padding ≡ 0) × holds [] [] [] × (q ≡ (NID_MESSAGE, nid) ∷ [])
 HoldsIn nid (phase.Front at) front l padding holds q = (padding ≡ 0) × FrontHeld nid at front l holds q
@@ -209,6 +209,6 @@ HoldsIn nid (phase.Data left) front l padding holds q = DataHeld nid holds left 
 HoldsIn nid phase.Whole front l padding holds q = PaddingHeld nid front holds padding 0 q ⊎ DataHeld nid holds 0 q
 
 -- by the variables p the first comes to the second, with what is kept
-pub record Follows (nid : ℕ) (stage : Phase) (front : List ℕ) (l : PacketsLeft) (padding : ℕ) (holds : List PacketValue → List ℕ → List Bool → Type 0) (p : Reading) (nid' : ℕ) (stage' : Phase) (front' : List ℕ) (l' : PacketsLeft) (padding' : ℕ) (holds' : List PacketValue → List ℕ → List Bool → Type 0) : Type 0 where
+pub record Follows (nid : ℕ) (stage : Phase) (front : List ℕ) (l : PacketsState) (padding : ℕ) (holds : List PacketValue → List ℕ → List Bool → Type 0) (p : Reading) (nid' : ℕ) (stage' : Phase) (front' : List ℕ) (l' : PacketsState) (padding' : ℕ) (holds' : List PacketValue → List ℕ → List Bool → Type 0) : Type 0 where
   pub residual : Residual (left_at nid stage l) p (left_at nid' stage' l')
   pub held : (q : Reading) → HoldsIn nid stage front l padding holds q → HoldsIn nid' stage' front' l' padding' holds' (q ++ p)

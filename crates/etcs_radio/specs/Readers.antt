@@ -8,7 +8,7 @@ use Rattle.etcs_packets.specs.declared.packet.Packet.{Packet}
 use Rattle.etcs_packets.specs.PacketValues.{packet_value, IsPacket, IsMade}
 use Rattle.etcs_packets.specs.PacketReadings.{packets_reading}
 use Rattle.etcs_sequence.specs.Runs.{Begun}
-use Rattle.etcs_sequence.specs.declared.left.PacketsLeft.{PacketsLeft}
+use Rattle.etcs_sequence.specs.declared.state.PacketsState.{PacketsState}
 use Rattle.etcs_sequence.specs.declared.list.PacketList.{PacketList}
 use Rattle.etcs_sequence.specs.Labels.{labelled, widths}
 use Rattle.etcs_sequence.specs.Lefts.{ahead}
@@ -22,11 +22,11 @@ use Rattle.etcs_radio.specs.Readings.{bytes_of}
 use Rattle.etcs_radio.specs.Lefts.{front_row, front_vars, headed}
 use Rattle.etcs_radio.specs.Fronts.{content_by}
 
--- NID_MESSAGE, the L_MESSAGE of a message with so many bits more, and these variables
+-- NID_MESSAGE, the L_MESSAGE of a message with this many bits more, and these variables
 abbrev pub measured : ℕ → Reading → ℕ → Reading
 measured nid r more = headed nid ((18 + length (spelled r) + more) / 8) r
 
--- all of the front, these packets and PADDING but for so many bits that are left
+-- all of the front, these packets and PADDING but for this many bits that are left
 abbrev pub padded : Reading → ℕ → ℕ → Reading
 padded r number left = r ++ kept PADDING (num (padding_room (18 + length (spelled r)) - left) number)
 
@@ -39,7 +39,7 @@ whole_far None nid front store number = measured nid (kept OTHER_DATA store.bits
 whole_far (Some vars) nid front store number = measured nid (padded (packed nid front store.packets.items) number 0) 0
 
 -- the variables so far
-abbrev pub so_far : ℕ → Phase → List ℕ → PacketsLeft → PacketList → ℕ → Reading
+abbrev pub so_far : ℕ → Phase → List ℕ → PacketsState → PacketList → ℕ → Reading
 so_far nid phase.Number front l store number = []
 so_far nid phase.Length front l store number = (NID_MESSAGE, nid) ∷ []
 so_far nid (phase.Front at) front l store number = measured nid (labelled (front_vars nid) front) (widths (drop at (front_vars nid)) + ahead l.carrier l.room l.stage)
@@ -64,7 +64,7 @@ InFront far =
     ⊎ (((nid : ℕ) × (far ≡ (NID_MESSAGE, nid) ∷ []))
     ⊎ ((nid : ℕ) × (len : ℕ) × (vars : List Var) × (front : List ℕ) × (front_row nid ≡ Some vars) × (length front < length vars) × (far ≡ headed nid len (labelled vars front))))
 
--- all of the front, whole packets and what stands of the next one
+-- all of the front, whole packets and what is there of the next one
 abbrev pub InPackets : List Packet → List ℕ → List Bool → Reading → Type 0
 InPackets ps f k far =
     (nid : ℕ) × (len : ℕ) × (vars : List Var) × (front : List ℕ) × (here : Reading) × (front_row nid ≡ Some vars) × (length front ≡ length vars)
@@ -74,7 +74,7 @@ InPackets ps f k far =
 abbrev pub InData : List Bool → Reading → Type 0
 InData k far = (nid : ℕ) × (len : ℕ) × (front_row nid ≡ None) × (far ≡ headed nid len (kept OTHER_DATA k))
 
--- no bit of PADDING stands between two pieces: PADDING ends a message, with its last byte
+-- no bit of PADDING is there between two pieces: PADDING ends a message, with its last byte
 abbrev pub Standing : List Packet → List ℕ → List Bool → Reading → Type 0
 Standing ps f k far =
     (InFront far × (ps ≡ []) × (f ≡ []) × (k ≡ []))

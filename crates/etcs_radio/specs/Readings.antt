@@ -1,4 +1,4 @@
--- What stands in a message, part by part, and its one reading (SUBSET-026, 8).
+-- What is in a message, part by part, and its one reading (SUBSET-026, 8).
 use Rattle.std.specs.Prelude.{ℕ, ◌+◌, ◌/◌, Bool, List, [], ◌∷◌, ◌++◌, length, map, Option, Some, None}
 use Rattle.etcs_bits.specs.Bits.{num}
 use Rattle.etcs_vars.specs.declared.var.Var.TheVariants.{NID_MESSAGE, L_MESSAGE, PADDING, OTHER_DATA}
@@ -10,7 +10,7 @@ use Rattle.etcs_radio.specs.declared.body.Body.{Body}
 use Rattle.etcs_radio.specs.declared.body.RadioHead.{RadioHead}
 use Rattle.etcs_radio.specs.declared.message.Content.{Content}
 use Rattle.etcs_radio.specs.declared.message.Content.TheVariants.{Typed, Kept}
-use Rattle.etcs_radio.specs.Bodies.{nid_of_body, body_reading, run_of_head}
+use Rattle.etcs_radio.specs.Bodies.{nid_of_body, body_reading, head_variables}
 use Rattle.etcs_radio.specs.Messages.{all_bits, padding_room, head_reading}
 
 abbrev pub nid_of_message : Content → ℕ
@@ -42,7 +42,7 @@ abbrev pub padding_of : Content → ℕ
 padding_of (Typed head body ps padding) = padding
 padding_of (Kept nid b) = 0
 
--- how many bits stand in front of PADDING
+-- how many bits are in front of PADDING
 abbrev pub unpadded_bits : Content → ℕ
 unpadded_bits (Typed head body ps padding) = all_bits body ps
 unpadded_bits (Kept nid b) = 18 + length b
@@ -51,9 +51,9 @@ unpadded_bits (Kept nid b) = 18 + length b
 abbrev pub bytes_of : Content → ℕ
 bytes_of m = (unpadded_bits m + 7) / 8
 
--- what stands between L_MESSAGE and the packets
+-- what is between L_MESSAGE and the packets
 abbrev pub own_reading : Content → Reading
-own_reading (Typed head body ps padding) = run_of_head head ++ body_reading body
+own_reading (Typed head body ps padding) = head_variables head ++ body_reading body
 own_reading (Kept nid b) = []
 
 -- the variables in front of the packets, or of kept bits

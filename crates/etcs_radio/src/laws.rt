@@ -17,7 +17,7 @@ pub fn one_spelling()
     ensures { OneSpelling }
 {}
 
-/// Where a header's numbers are admitted, its bits with those of the number's variables and of packets behind them begin
+/// Where a header's numbers are admitted, its bits with those of the number's variables and of packets after them begin
 /// a message exactly where they are at most 8 times L_MESSAGE and what is left is padding of at most 7 bits or the 23
 /// bits of a packet's frame at least.
 pub fn room()
@@ -82,7 +82,7 @@ fn append_again(message: &Message, bytes: &[u8], out: &mut Vec<u8>) -> Result<()
 }
 
 /// Reads a message from the front of some bytes and appends its encoding: these are then the bytes that were read.
-/// Answers how many they are, or `None` where no message stands at the front, and then appends nothing.
+/// Answers how many they are, or `None` where no message is at the front, and then appends nothing.
 ///
 /// # Errors
 ///

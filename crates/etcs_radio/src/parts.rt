@@ -1,23 +1,23 @@
 //! For the crates above: the variables in front of a message's packets, in the order of sending.
 
 ghost use Rattle.std.specs.Prelude.{◌≡◌, map, OnOk, OnErr};
-ghost use Rattle.etcs_radio.specs.Bodies.{run_of_head};
+ghost use Rattle.etcs_radio.specs.Bodies.{head_variables};
 ghost use Rattle.etcs_radio.specs.Messages.{MessageReads, message_value};
 ghost use Rattle.etcs_radio.specs.Readings.{front_reading, message_reading, own_reading};
 
 use crate::body::RadioHead;
 use crate::message::{Content, Message};
 use etcs_vars::Var;
-use etcs_vars::parts::{Sink, Variables};
+use etcs_vars::parts::{VarSink, Variables};
 use std::alloc::AllocError;
 
-/// The variables of the header behind NID_MESSAGE and L_MESSAGE, in the order of sending.
+/// The variables of the header after NID_MESSAGE and L_MESSAGE, in the order of sending.
 pub const HEAD: [Var; 3] = [Var::T_TRAIN, Var::M_ACK, Var::NID_LRBG];
 
 /// The numbers of these variables.
 pub fn head_numbers(head: &RadioHead) -> [u64; 3]
-    ensures numbers { result ≡ map (λ p. p.1) (run_of_head head.now) }
-    ensures variables { HEAD ≡ map (λ p. p.0) (run_of_head head.now) }
+    ensures numbers { result ≡ map (λ p. p.1) (head_variables head.now) }
+    ensures variables { HEAD ≡ map (λ p. p.0) (head_variables head.now) }
 {
     [
         u64::from(head.t_train),
@@ -26,13 +26,13 @@ pub fn head_numbers(head: &RadioHead) -> [u64; 3]
     ]
 }
 
-/// Sends what stands in front of the packets: NID_MESSAGE and L_MESSAGE, and of a typed message the rest of the header
+/// Sends what is in front of the packets: NID_MESSAGE and L_MESSAGE, and of a typed message the rest of the header
 /// and the variables of its own. Takes no memory of its own.
 ///
 /// # Errors
 ///
 /// That of the sink.
-pub fn send_front<S: Sink>(message: &Message, out: &mut S) -> Result<(), AllocError>
+pub fn send_front<S: VarSink>(message: &Message, out: &mut S) -> Result<(), AllocError>
     ensures ok { OnOk result (out.new ≡ S.with out.old (front_reading message.now)) }
     ensures err { OnErr result (S.failed out.old out.new) }
 {
@@ -43,8 +43,8 @@ pub fn send_front<S: Sink>(message: &Message, out: &mut S) -> Result<(), AllocEr
     send_own(message, out)
 }
 
-/// Sends what stands between L_MESSAGE and the packets.
-fn send_own<S: Sink>(message: &Message, out: &mut S) -> Result<(), AllocError>
+/// Sends what is between L_MESSAGE and the packets.
+fn send_own<S: VarSink>(message: &Message, out: &mut S) -> Result<(), AllocError>
     ensures ok { OnOk result (out.new ≡ S.with out.old (own_reading message.now)) }
     ensures err { OnErr result (S.failed out.old out.new) }
 {

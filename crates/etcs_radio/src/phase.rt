@@ -19,21 +19,21 @@ pub(crate) enum Phase {
     Front(usize),
     /// Packets.
     Packets,
-    /// PADDING, with so many bits left.
+    /// PADDING, with this many bits left.
     Padding(usize),
-    /// OTHER_DATA of a message that is kept, with so many bits left.
+    /// OTHER_DATA of a message that is kept, with this many bits left.
     Data(usize),
     /// Nothing.
     Whole,
 }
 
-/// The variables of a typed message's header behind L_MESSAGE. Those of its own follow, and then packets.
+/// The variables of a typed message's header after L_MESSAGE. Those of its own follow, and then packets.
 static HEAD: [Var; 3] = [Var::T_TRAIN, Var::M_ACK, Var::NID_LRBG];
 
 /// How many bits the header of a typed message has.
 const HEADER_BITS: usize = 75;
 
-/// How many variables stand between L_MESSAGE and the packets of a message of this number (SUBSET-026, 8).
+/// How many variables are between L_MESSAGE and the packets of a message of this number (SUBSET-026, 8).
 /// `None` where the number isn't typed.
 pub(crate) fn front_count(nid: u8) -> Option<usize>
     ensures { result ≡ option_map length (front_row nid) }
@@ -42,7 +42,7 @@ pub(crate) fn front_count(nid: u8) -> Option<usize>
     Some(HEAD.len() + row.items.len())
 }
 
-/// How many bits stand in front of the packets of a message of this number. `None` where the number isn't typed.
+/// How many bits are in front of the packets of a message of this number. `None` where the number isn't typed.
 pub(crate) fn front_bits(nid: u8) -> Option<usize>
     ensures { result ≡ option_map front_bits (front_row nid) }
 {

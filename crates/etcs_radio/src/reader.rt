@@ -15,7 +15,7 @@ use crate::body::{Body, RadioHead};
 use crate::message::{Content, Message};
 use crate::phase::front_count;
 use crate::rest::MessageRest;
-use etcs_bodies::Items;
+use etcs_bodies::ListOf;
 use etcs_packets::Packet;
 use etcs_sequence::{Held, ItemReader, ItemRest, PacketList};
 use etcs_vars::{Fed, ReadFault};
@@ -43,7 +43,7 @@ fn content_of(nid: u8, front: &[u64], store: PacketList, padding: u8) -> Content
         Some(_) => Content::Typed {
             head: head_of(front),
             body: Body::of_numbers(nid, &front[3..]),
-            packets: Items::from_vec(store.packets),
+            packets: ListOf::from_vec(store.packets),
             padding,
         },
         None => Content::Kept {
@@ -111,16 +111,16 @@ pub struct MessageReader {
 }
 
 impl Model for MessageReader {
-    ghost use Rattle.etcs_sequence.specs.Stages.{Stage};
+    ghost use Rattle.etcs_sequence.specs.Progress.{Progress};
     ghost use Rattle.etcs_radio.specs.declared.message.Content.{Content};
 
-    ghost Value = { Stage Content };
+    ghost Value = { Progress Content };
 
-    ghost view = { λ r. r.reader.stage };
+    ghost view = { λ r. r.reader.progress };
 }
 
 impl MessageReader {
-    ghost use Rattle.etcs_sequence.specs.Stages.{Feeds, IsReading, fault_of, seen_of, reading, finished};
+    ghost use Rattle.etcs_sequence.specs.Progress.{Feeds, IsReading, fault_of, seen_of, reading, finished};
     ghost use Rattle.etcs_radio.specs.declared.message.Content.{Content};
 
     /// A reader of one message. Nothing is allocated before the first packet or kept bit.
@@ -144,10 +144,10 @@ impl MessageReader {
     ///
     /// # Errors
     ///
-    /// `Refused` with the first bit, counted from 0 over all pieces, with which no message goes on, and the variable
-    /// that holds it; `Memory` where memory is refused, for packets or kept bits behind NID_MESSAGE and L_MESSAGE, at
-    /// a bit with which a message goes on, which is no bit of Q_DIR or PADDING; `Ended` where the message was whole
-    /// before. The reader then answers the same to each later piece, and `bits_seen` tells how far it came.
+    /// `Refused` with the first bit, counted from 0 over all pieces, with which no message continues, and the variable
+    /// that holds it; `Memory` where memory is refused, for packets or kept bits after NID_MESSAGE and L_MESSAGE, at
+    /// a bit with which a message continues, which is no bit of Q_DIR or PADDING; `Ended` where the message was whole
+    /// before. The reader then answers the same to each later piece, and `bits_seen` reports how far it came.
     pub fn feed(&mut self, piece: &[u8]) -> Result<Fed, ReadFault>
         ensures answer { (seen : List Bool) → self.old ≡ reading seen → Feeds MessageReads message_value IsMessage 18 seen (bits piece.now) result self.new }
         ensures after { (IsReading self.old → ⊥) → (self.new ≡ self.old) × (result ≡ Err (fault_of self.old)) }

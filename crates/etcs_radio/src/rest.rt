@@ -16,8 +16,8 @@ use arrayvec::ArrayVec;
 use etcs_bits::BitSlice;
 use etcs_reader::Rest;
 use etcs_rows::parts::{Carrier, message_lengths};
-use etcs_sequence::parts::{number_at, run_at};
-use etcs_sequence::{PacketStore, PacketsLeft, PacketsRest, Stage};
+use etcs_sequence::parts::{bits_at, number_at};
+use etcs_sequence::{PacketStore, PacketsRest, PacketsState, Stage};
 use etcs_tables::Way;
 use etcs_vars::{Var, begins};
 use std::alloc::AllocError;
@@ -28,7 +28,7 @@ pub(crate) struct MessageRest<S: PacketStore> {
     /// NID_MESSAGE, once it was read.
     pub(crate) nid: u8,
     pub(crate) phase: Phase,
-    /// The numbers behind L_MESSAGE and in front of the packets so far.
+    /// The numbers after L_MESSAGE and in front of the packets so far.
     pub(crate) front: ArrayVec<u64, 5>,
     /// The packets. The bits of a message that is kept are in their store.
     pub(crate) packets: PacketsRest<S>,
@@ -38,7 +38,7 @@ pub(crate) struct MessageRest<S: PacketStore> {
     ghost fits: { ∥ DataFits phase (S.holds packets.store) ∥₁ },
 }
 
-/// What comes where so many bits of PADDING are left.
+/// What comes where this many bits of PADDING are left.
 fn behind_padding(left: usize) -> Phase
     ensures { result ≡ behind_padding left }
 {
@@ -49,7 +49,7 @@ fn behind_padding(left: usize) -> Phase
     }
 }
 
-/// What comes where so many bits of a message that is kept are left.
+/// What comes where this many bits of a message that is kept are left.
 fn behind_data(left: usize) -> Phase
     ensures { result ≡ behind_data left }
 {
@@ -60,8 +60,8 @@ fn behind_data(left: usize) -> Phase
     }
 }
 
-/// What comes behind a variable of the packets.
-fn behind_packets(left: &PacketsLeft) -> Phase
+/// What comes after a variable of the packets.
+fn behind_packets(left: &PacketsState) -> Phase
     ensures { result ≡ behind_packets left.now }
 {
     match &left.stage {
@@ -70,8 +70,8 @@ fn behind_packets(left: &PacketsLeft) -> Phase
     }
 }
 
-/// What comes behind the variables that stand before this place, of so many in front of the packets.
-fn behind_front(count: usize, at: usize, left: &PacketsLeft) -> Phase
+/// What comes after the variables that come before this place, of this many in front of the packets.
+fn behind_front(count: usize, at: usize, left: &PacketsState) -> Phase
     ensures { result ≡ behind_front count at left.now }
 {
     if at < count {
@@ -98,7 +98,7 @@ impl<S: PacketStore> MessageRest<S> {
         }
     }
 
-    /// Behind NID_MESSAGE.
+    /// After NID_MESSAGE.
     fn pass_number(&mut self, number: u64)
         requires phase { self.old.phase ≡ Phase.Number }
         requires goes { Starts (left_at self.old.nid self.old.phase self.old.packets.left) NID_MESSAGE 0 number }
@@ -108,7 +108,7 @@ impl<S: PacketStore> MessageRest<S> {
         self.phase = Phase::Length;
     }
 
-    /// Behind L_MESSAGE.
+    /// After L_MESSAGE.
     fn pass_length(&mut self, number: u64)
         requires phase { self.old.phase ≡ Phase.Length }
         requires goes { Starts (left_at self.old.nid self.old.phase self.old.packets.left) L_MESSAGE 0 number }
@@ -125,7 +125,7 @@ impl<S: PacketStore> MessageRest<S> {
         }
     }
 
-    /// Behind a variable in front of the packets.
+    /// After a variable in front of the packets.
     fn pass_front(&mut self, at: usize, number: u64)
         requires phase { self.old.phase ≡ Phase.Front at }
         ensures { (x : Var) → next_at self.old.nid self.old.phase self.old.packets.left ≡ Some x → Starts (left_at self.old.nid self.old.phase self.old.packets.left) x 0 number → Follows self.old.nid self.old.phase self.old.front.items self.old.packets.left self.old.padding (S.holds self.old.packets.store) ((x, number) ∷ []) self.new.nid self.new.phase self.new.front.items self.new.packets.left self.new.padding (S.holds self.new.packets.store) }
@@ -139,7 +139,7 @@ impl<S: PacketStore> MessageRest<S> {
         self.phase = next;
     }
 
-    /// Behind a variable of the packets.
+    /// After a variable of the packets.
     fn pass_packets(&mut self, var: Var, number: u64) -> Result<(), AllocError>
         requires phase { self.old.phase ≡ Phase.Packets }
         requires next { next_at self.old.nid self.old.phase self.old.packets.left ≡ Some var }
@@ -206,7 +206,7 @@ impl<S: PacketStore> MessageRest<S> {
         }
     }
 
-    /// Behind a bit of a message that is kept, of which `left` are wanted.
+    /// After a bit of a message that is kept, of which `left` are wanted.
     fn pass_data(&mut self, left: usize, number: u64) -> Result<(), AllocError>
         requires phase { self.old.phase ≡ Phase.Data left }
         requires small { number < 2 }
@@ -214,7 +214,7 @@ impl<S: PacketStore> MessageRest<S> {
         ensures err { OnErr result S.fails }
     {
         let byte = [number as u8];
-        match self.keep(left, &run_at(&byte, 7, 1)) {
+        match self.keep(left, &bits_at(&byte, 7, 1)) {
             Ok(()) => Ok(()),
             Err(error) => Err(error),
         }
@@ -230,13 +230,13 @@ impl<S: PacketStore> MessageRest<S> {
         ensures viable { OnErr result (Viable (left_at self.old.nid self.old.phase self.old.packets.left) (part at 1 (bits piece.now))) }
     {
         let count = left.min(piece.len() * 8 - at);
-        match self.keep(left, &run_at(piece, at, count)) {
+        match self.keep(left, &bits_at(piece, at, count)) {
             Ok(()) => Ok(count),
             Err(error) => Err(error),
         }
     }
 
-    /// Takes so many bits of PADDING, of which `left` are wanted, as a number.
+    /// Takes this many bits of PADDING, of which `left` are wanted, as a number.
     fn pad(&mut self, left: usize, count: usize, number: u64)
         requires phase { self.old.phase ≡ Phase.Padding left }
         requires within { count ≤ left }

@@ -40,7 +40,7 @@ fields_tested (v ∷ vs) x rest bits e lt fits =
           rw q at (begins_from (ranges x) rest n (admits_parts x n (first_number x vs n r l').0).0),
     )
 
--- behind its number
+-- after its number
 pub fields_behind : (v : Var) (vs : List Var) (x : Var) (number : ℕ) → first_of (v ∷ vs) ≡ Some x → Starts (ReadsFields (v ∷ vs)) x 0 number → Residual (ReadsFields (v ∷ vs)) ((x, number) ∷ []) (ReadsFields vs)
 fields_behind v vs x number e (n, r, l, q) =
     let same : v ≡ x = cc in

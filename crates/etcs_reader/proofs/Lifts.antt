@@ -15,7 +15,7 @@ use Rattle.etcs_vars.proofs.Stepping.{quotient_below}
 use Rattle.etcs_vars.proofs.Sent.{length-sent, holder-append}
 use Rattle.etcs_reader.specs.Rests.{Starts, Goes, BeginsWith}
 
--- ---- Behind p a language goes on as R.
+-- ---- After p a language continues as R.
 
 pub lift_viable : (L : Reading → Type 0) (p : Reading) (R : Reading → Type 0) → Residual L p R → (t : List Bool) → Viable R t → Viable L (spelled p ++ t)
 lift_viable L p R residual t (q, c, l, e) = (p ++ q, c, residual.from q l, spelled-append p q ∙ ap (λ (u : List Bool). spelled p ++ u) e ∙ sym (append_assoc (spelled p) t c))
@@ -50,7 +50,7 @@ shorter a b t c le e =
     let parts = cut u t (d ++ b) c (length-take (length t) a ∙ (omega arith)) both in
     (d, whole ∙ ap (λ (x : List Bool). x ++ d) parts.0, parts.1)
 
--- ---- One variable, of whose number some bits stand.
+-- ---- One variable, of whose number some bits are there.
 
 module _ (R : Reading → Type 0) (regular : Regular R) (x : Var) (o : BeginsWith R x) where
   first_bits : (taken n : ℕ) → taken ≤ width x → take taken (num (width x) n) ≡ num taken (n / 2 ^ (width x - taken))
@@ -78,7 +78,7 @@ module _ (R : Reading → Type 0) (regular : Regular R) (x : Var) (o : BeginsWit
   pub number_fits : (n : ℕ) (r : Reading) → R ((x, n) ∷ r) → n < 2 ^ width x
   number_fits n r l = (regular.fit ((x, n) ∷ r) l).0
 
-  -- with no number that goes on none begins so
+  -- with no number that continues none begins so
   pub starts_blocked : (taken bits : ℕ) → taken ≤ width x → bits < 2 ^ taken → (Starts R x (width x - taken) bits → ⊥) → Viable R (num taken bits) → ⊥
   starts_blocked taken bits le fits none (r, c, l, e) =
       let (n, r', f) = o r l in

@@ -152,7 +152,7 @@ refuses_front L number taken count bits xs k x e r =
     append_assoc (num taken number) (num count bits) (drop count xs) ∙ ap (λ (t : List Bool). num taken number ++ (t ++ drop count xs)) e ∙ ap (λ (t : List Bool). num taken number ++ t) (take-append-drop count xs) in
     rw (length-num taken number) (rw same at l)
 
--- a bit more goes on where a whole number does
+-- a bit more continues where a whole number does
 pub starts_with : (L : Reading → Type 0) → Regular L → (x : Var) → BeginsWith L x → (number taken count bits rest : ℕ) (xs : List Bool) → Starts L x rest (number * 2 ^ count + bits) → bits < 2 ^ count → num count bits ≡ take count xs → taken + count ≤ width x → rest ≡ width x - (taken + count) → 0 < count → Viable L (num taken number ++ take 1 xs)
 starts_with L regular x o number taken count bits rest xs s small e within rest_is some =
     let v : Viable L (num (taken + count) (number * 2 ^ count + bits)) = starts_viable L regular x o (taken + count) (number * 2 ^ count + bits) within (rw rest_is at s) in
@@ -162,7 +162,7 @@ starts_with L regular x o number taken count bits rest xs s small e within rest_
     ap (λ (j : ℕ). take (j + 1) (num taken number ++ take count xs)) (sym (length-num taken number)) ∙ take-append-add (num taken number) (take count xs) 1 ∙ ap (λ (t : List Bool). num taken number ++ t) (take-take 1 count xs some) in
     subst (Viable L) cut v1
 
--- the same of a whole variable of which no bit stood
+-- the same of a whole variable of which no bit was there
 pub starts_one : (L : Reading → Type 0) → Regular L → (x : Var) → BeginsWith L x → (number taken n : ℕ) (xs : List Bool) → taken ≤ 0 → Starts L x 0 n → num (width x) n ≡ take (width x) xs → Viable L (num taken number ++ take 1 xs)
 unfolding num
 starts_one L regular x o number taken n xs le s e =
@@ -185,7 +185,7 @@ pub unfinished_next : (L : Reading → Type 0) → Regular L → (next : Option 
 unfinished_next L regular next begins number taken u (Some x) e = unfinished_owner L regular next begins number taken u x (sym e)
 unfinished_next L regular next begins number taken u None e = tt
 
--- of which not all bits stand
+-- of which not all bits are there
 pub unfinished_short : (L : Reading → Type 0) (next : Option Var) (number taken : ℕ) → Unfinished L next number taken → (found : Option Var) → found ≡ next → IfSome found (λ x. length (num taken number) < width x)
 unfinished_short L next number taken u (Some x) e = let (lt, s) = u.inside x (sym e) in rw length-num lt
 unfinished_short L next number taken u None e = tt

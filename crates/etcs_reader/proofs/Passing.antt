@@ -1,4 +1,4 @@
--- What is read behind other bits, of all of them.
+-- What is read after other bits, of all of them.
 use Rattle.std.proofs.Common.{◌≡◌, ℕ, ◌+◌, ◌≤◌, Bool, List, [], ◌++◌, length, take, drop, Some, None, sym, ap, subst, ◌∙◌, arith, append_assoc, take-add}
 use Rattle.std.specs.Prelude.{Option}
 use Rattle.std.proofs.lemmas.List.{append-nil, length-append, take-append-drop, length-take, length-drop}
@@ -18,7 +18,7 @@ use Rattle.etcs_reader.specs.declared.feeder.Stop.TheVariants as stop
 use Rattle.etcs_reader.specs.Feeders.{FedFrom}
 use Rattle.etcs_reader.proofs.Parts.{unfinished_owner, unfinished_ended}
 
--- what is passed behind what was
+-- what is passed after what was
 pub passed_along : (F G H : Reading → Type 0) → ((p q : Reading) → F p → G q → H (p ++ q)) → (b front behind xs : List Bool) → Passed F b front → Passed G (front ++ xs) behind → Passed H (b ++ xs) behind
 passed_along F G H both b front behind xs f g = record {
   whole = f.whole ++ g.whole;
@@ -30,10 +30,10 @@ passed_along F G H both b front behind xs f g = record {
       ∙ ap (λ (t : List Bool). t ++ xs) f.bits;
 }
 
--- ---- Of all bits b, behind which a language goes on as R, and these bits stand of the variable that comes next.
+-- ---- Of all bits b, after which a language continues as R, and these bits are there of the variable that comes next.
 
 module _ (L : Reading → Type 0) (regular : Regular L) (R : Reading → Type 0) (F : Reading → Type 0) (residual : (p : Reading) → F p → Residual L p R) (b part : List Bool) (f : Passed F b part) where
-  -- all of them, with more behind
+  -- all of them, with more after
   with_more : (t : List Bool) → spelled f.whole ++ (part ++ t) ≡ b ++ t
   with_more t = sym (append_assoc (spelled f.whole) part t) ∙ ap (λ (u : List Bool). u ++ t) f.bits
 
@@ -50,14 +50,14 @@ module _ (L : Reading → Type 0) (regular : Regular L) (R : Reading → Type 0)
   pub passed_owners : (t : List Bool) → Goes R → (x : Var) → Owner R (part ++ t) x → Owner L (b ++ t) x
   passed_owners t some x o = subst (λ (u : List Bool). Owner L u x) (with_more t) (lift_owner L regular f.whole R (residual f.whole f.follows) some (part ++ t) x o)
 
-  -- nothing comes behind
+  -- nothing comes after
   pub passed_done : part ≡ [] → R [] → InLanguage L b
   passed_done none l =
       let whole : L (f.whole ++ []) = (residual f.whole f.follows).from [] l in
       let same : f.whole ++ [] ≡ f.whole = append-nil f.whole in
       (f.whole, rw same at whole, sym (append-nil (spelled f.whole)) ∙ (rw none at f.bits))
 
-  -- what is refused behind
+  -- what is refused after
   pub passed_refuses : Goes R → (xs : List Bool) (j : ℕ) (x : Var) → Refuses R (part ++ xs) (length part + j) x → Refuses L (b ++ xs) (length b + j) x
   passed_refuses some xs j x r =
       let p = spelled f.whole in
@@ -74,7 +74,7 @@ module _ (L : Reading → Type 0) (regular : Regular L) (R : Reading → Type 0)
         blocked = λ v. lift_blocked L regular f.whole R d some (take (i + 1) t) r.blocked (subst (Viable L) cut1 v);
       }
 
--- ---- Where s is, of all bits b, and m behind them with the bits front of the next variable.
+-- ---- Where s is, of all bits b, and m after them with the bits front of the next variable.
 
 module _ {R : Type 0} (left : R → Reading → Type 0) (regular : (s : R) → Regular (left s)) (follows : R → Reading → R → Type 0) (residual : (s t : R) (p : Reading) → follows s p t → Residual (left s) p (left t)) (both : (s t u : R) (p q : Reading) → follows s p t → follows t q u → follows s (p ++ q) u) (s m : R) (b front : List Bool) (f : Passed (λ p. follows s p m) b front) (xs : List Bool) (n : ℕ) where
   along : (t : R) (behind : List Bool) → Passed (λ p. follows m p t) (front ++ take n xs) behind → Passed (λ p. follows s p t) (b ++ take n xs) behind
@@ -112,7 +112,7 @@ module _ {R : Type 0} (left : R → Reading → Type 0) (regular : (s : R) → R
     owned = h.owned;
   }
 
--- ---- Behind the first bits of the same piece.
+-- ---- After the first bits of the same piece.
 
 -- bits of a piece from at on
 pub front_of : (b xs : List Bool) (at n : ℕ) → (b ++ take at xs) ++ take n (drop at xs) ≡ b ++ take (at + n) xs

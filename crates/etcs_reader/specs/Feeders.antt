@@ -15,7 +15,7 @@ pub record FeederValue (R : Type 0) : Type 0 where
   pub count : ℕ
   pub stop : Option Stop
 
--- the new bits xs are taken, all or up to the language's end; or the first with which nothing goes on is refused, and
+-- the new bits xs are taken, all or up to the language's end; or the first with which nothing continues is refused, and
 -- those in front of it are taken; or memory is refused, and nothing is said of what is left
 abbrev pub Feeds : (R : Type 0) → (R → Reading → Type 0) → (R → Option Var) → (R → Reading → R → Type 0) → (R → Type 0) → FeederValue R → List Bool → Result ℕ Stop → FeederValue R → Type 0
 Feeds R left next follows fails old xs (Ok n) new = (new.stop ≡ None) × (new.count ≡ old.count + n) × Takes R left next follows old.rest old.part xs n new.rest new.part
@@ -32,7 +32,7 @@ abbrev pub TakesBit : (R : Type 0) → (R → Reading → Type 0) → (R → Opt
 TakesBit R left next follows fails old b (Ok _) new = Feeds R left next follows fails old (b ∷ []) (Ok 1) new
 TakesBit R left next follows fails old b (Err stop) new = Feeds R left next follows fails old (b ∷ []) (Err stop) new
 
--- what a feeder answers holds of all bits b that were fed since start, in place of the part that stands of them
+-- what a feeder answers holds of all bits b that were fed since start, in place of the part that is there of them
 abbrev pub FedFrom : (R : Type 0) → (R → Reading → Type 0) → (R → Option Var) → (R → Reading → R → Type 0) → (R → Type 0) → Type 0
 FedFrom R left next follows fails =
     (start : R) (b : List Bool) (old : FeederValue R) (xs : List Bool) (result : Result ℕ Stop) (new : FeederValue R)

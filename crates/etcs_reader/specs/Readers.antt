@@ -1,4 +1,4 @@
--- What a reader keeps between two bits, and what new bits do to it. A rest that is read is told by what is left of it,
+-- What a reader keeps between two bits, and what new bits do to it. A rest that is read is given by what is left of it,
 -- the variable that comes next, what follows it and where memory may be refused.
 use Rattle.std.specs.Prelude.{◌≡◌, ℕ, ◌+◌, ◌-◌, ◌^◌, ◌<◌, ◌≤◌, Bool, List, ◌++◌, length, take, drop, Option, Some, None}
 use Rattle.etcs_bits.specs.Bits.{num, part}
@@ -11,7 +11,7 @@ use Rattle.etcs_reader.specs.declared.reader.Halt.TheVariants.{Refused, Memory}
 use Rattle.etcs_reader.specs.declared.reader.Reader.{Reader}
 use Rattle.etcs_reader.specs.Rests.{Starts, Goes, BeginsWith}
 
--- some number of the variable that comes next goes on whose first bits these are, and isn't whole
+-- some number of the variable that comes next continues whose first bits these are, and isn't whole
 pub record Unfinished (L : Reading → Type 0) (next : Option Var) (number taken : ℕ) : Type 0 where
   pub fits : number < 2 ^ taken
   pub goes : Goes L
@@ -24,7 +24,7 @@ pub record Passed (Follows : Reading → Type 0) (b part : List Bool) : Type 0 w
   pub follows : Follows whole
   pub bits : spelled whole ++ part ≡ b
 
--- ---- What the new bits xs do behind the bits b of the variable that comes next in s.
+-- ---- What the new bits xs do after the bits b of the variable that comes next in s.
 
 -- n of them are taken, up to t and b': all, and more are wanted, or those up to the end
 pub record Takes (R : Type 0) (left : R → Reading → Type 0) (next : R → Option Var) (follows : R → Reading → R → Type 0) (s : R) (b xs : List Bool) (n : ℕ) (t : R) (b' : List Bool) : Type 0 where
@@ -33,12 +33,12 @@ pub record Takes (R : Type 0) (left : R → Reading → Type 0) (next : R → Op
   pub done : next t ≡ None → InLanguage (left s) (b ++ take n xs)
   pub more : (x : Var) → next t ≡ Some x → (n ≡ length xs) × Owner (left s) (b ++ take n xs) x
 
--- n of them are taken, up to t and b', and the bit behind them is refused, which x holds
+-- n of them are taken, up to t and b', and the bit after them is refused, which x holds
 pub record RefusesAt (R : Type 0) (left : R → Reading → Type 0) (follows : R → Reading → R → Type 0) (s : R) (b xs : List Bool) (n : ℕ) (x : Var) (t : R) (b' : List Bool) : Type 0 where
   pub refuses : Refuses (left s) (b ++ xs) (length b + n) x
   pub passed : Passed (λ p. follows s p t) (b ++ take n xs) b'
 
--- memory is refused behind n of them, where it may be, and the bit behind them isn't, which the holder holds
+-- memory is refused after n of them, where it may be, and the bit after them isn't, which the holder holds
 pub record StarvesAt (R : Type 0) (left : R → Reading → Type 0) (follows : R → Reading → R → Type 0) (fails : R → Type 0) (s : R) (b xs : List Bool) (n : ℕ) : Type 0 where
   pub within : n < length xs
   pub viable : Viable (left s) (b ++ take (n + 1) xs)

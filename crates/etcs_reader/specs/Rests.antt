@@ -4,7 +4,7 @@ use Rattle.etcs_bits.specs.Bits.{part}
 use Rattle.etcs_vars.specs.declared.var.Var.{Var}
 use Rattle.etcs_vars.specs.Reading.{Reading, spelled}
 
--- some reading of L begins with x and a number whose first bits these are, with rest bits more behind them
+-- some reading of L begins with x and a number whose first bits these are, with rest bits more after them
 abbrev pub Starts : (Reading → Type 0) → Var → ℕ → ℕ → Type 0
 Starts L x rest bits = (n : ℕ) × (r : Reading) × L ((x, n) ∷ r) × (n / 2 ^ rest ≡ bits)
 
@@ -20,7 +20,7 @@ BeginsWith L x = (r : Reading) → L r → (n : ℕ) × (r' : Reading) × (r ≡
 abbrev pub Ended : (Reading → Type 0) → Type 0
 Ended L = (r : Reading) → L r → r ≡ []
 
--- n bits of xs from at on spell whole variables, behind which something is left
+-- n bits of xs from at on spell whole variables, after which something is left
 pub record LeapsBy (Left Follows : Reading → Type 0) (xs : List Bool) (at n : ℕ) : Type 0 where
   pub some : 0 < n
   pub inside : at + n ≤ length xs

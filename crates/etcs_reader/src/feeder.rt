@@ -15,7 +15,7 @@ use std::marker::Model;
 /// Why no more is taken.
 #[derive(Clone, Copy, Debug, PartialEq, Eq)]
 pub enum Stop {
-    /// Nothing goes on with this bit, counted from 0 from the first that was fed, and the variable holds
+    /// Nothing continues with this bit, counted from 0 from the first that was fed, and the variable holds
     /// it.
     Refused { bit: usize, var: Var },
     /// Memory was refused.
@@ -25,10 +25,10 @@ pub enum Stop {
 /// Reads a language from pieces of any length. It keeps none of the bytes: only what is left, with what
 /// that keeps of the variables that were read, and the bits of one unfinished variable.
 ///
-/// After a refused bit it stands where the bits in front of that one lead, as if no more had been fed: its
+/// After a refused bit it is where the bits in front of that one lead, as if no more had been fed: its
 /// count, its part and what is left speak of these, and the next bit is the refused one. After refused
 /// memory nothing is said of what is left, since a variable may be kept by half; the count is of bits that
-/// go on with the next one. Both answer each later piece alike.
+/// continue with the next one. Both answer each later piece alike.
 #[derive(Drop)]
 pub struct Feeder<R: Rest> {
     reader: Reader<R>,
@@ -83,8 +83,8 @@ impl<R: Rest> Feeder<R> {
     ///
     /// # Errors
     ///
-    /// `Refused` with the first bit, counted from 0 over all pieces, with which nothing goes on, and the
-    /// variable that holds it; `Memory` where memory is refused at a bit that goes on. The same again for
+    /// `Refused` with the first bit, counted from 0 over all pieces, with which nothing continues, and the
+    /// variable that holds it; `Memory` where memory is refused at a bit that continues. The same again for
     /// each later piece.
     pub fn feed(&mut self, piece: &[u8]) -> Result<usize, Stop>
         requires { self.old.count + 8 * length piece.now < 2 ^ 64 }
@@ -175,7 +175,7 @@ impl<R: Rest> Feeder<R> {
         self.reader.rest
     }
 
-    /// The variable that holds the next bit, and of whose bits not all stand. `None` where nothing is left.
+    /// The variable that holds the next bit, and of whose bits not all are there. `None` where nothing is left.
     #[inline]
     pub fn var(&self) -> Option<Var>
         ensures next { result ≡ R.next self.now.rest }
@@ -187,7 +187,7 @@ impl<R: Rest> Feeder<R> {
     }
 
     /// The bits of the unfinished variable as a number, and how many they are.
-    pub fn part(&self) -> (u64, usize)
+    pub fn unfinished(&self) -> (u64, usize)
         ensures bits { self.now.part ≡ num result.1 result.0 }
         ensures fits { result.0 < 2 ^ result.1 }
     {

@@ -1,4 +1,4 @@
-//! Variables one behind the other.
+//! Variables one after another.
 
 ghost use Rattle.etcs_vars.specs.Walking.{Residual};
 ghost use Rattle.etcs_reader.specs.Fields.{ReadsFields, first_of};

@@ -1,4 +1,4 @@
-//! Bits of a piece, behind what is left of a language.
+//! Bits of a piece, after what is left of a language.
 
 ghost use Rattle.std.specs.Prelude.{◌≡◌, ℕ, ◌+◌, ◌-◌, ◌*◌, ◌/◌, ◌^◌, ◌<◌, ◌≤◌, ◌++◌, length, Some, IfOk, IfErr};
 ghost use Rattle.etcs_bits.specs.Bits.{bits, part, num};
@@ -13,9 +13,9 @@ use etcs_vars::Var;
 /// Why a reader takes no more of a piece. Bits count from the piece's first.
 #[derive(Clone, Copy)]
 pub(crate) enum Halt {
-    /// Nothing goes on with this bit, and the variable holds it.
+    /// Nothing continues with this bit, and the variable holds it.
     Refused { at: usize, var: Var },
-    /// Memory was refused behind so many bits.
+    /// Memory was refused after this many bits.
     Memory { at: usize },
 }
 
@@ -29,7 +29,7 @@ pub(crate) struct Reader<R> {
     pub(crate) taken: usize,
 }
 
-/// So many bits of a piece, which holds them, as a number.
+/// This many bits of a piece, which holds them, as a number.
 #[inline(always)]
 fn number_at(piece: &[u8], at: usize, count: usize) -> u64
     requires width { count ≤ 64 }
@@ -75,7 +75,7 @@ impl<R: Rest> Reader<R> {
         }
     }
 
-    /// How many of `count` bits more stand in front of the first with which no number goes on, and the
+    /// How many of `count` bits more are in front of the first with which no number continues, and the
     /// number of all bits up to there.
     #[cold]
     #[inline(never)]
@@ -194,8 +194,8 @@ impl<R: Rest> Reader<R> {
     ///
     /// # Errors
     ///
-    /// `Refused` with the first bit with which nothing goes on; those in front of it are taken. `Memory`
-    /// with a bit that goes on; nothing is said then of what is left.
+    /// `Refused` with the first bit with which nothing continues; those in front of it are taken. `Memory`
+    /// with a bit that continues; nothing is said then of what is left.
     pub(crate) fn push(&mut self, piece: &[u8]) -> Result<usize, Halt>
         requires reader { IsReader R R.left R.next self.old }
         requires small { length (bits piece.now) < 2 ^ 64 }

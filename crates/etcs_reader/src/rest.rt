@@ -12,10 +12,10 @@ ghost use Rattle.etcs_reader.specs.Rests.{Starts, Goes, BeginsWith, Ended, Leaps
 use etcs_vars::Var;
 use std::alloc::AllocError;
 
-/// What is left of a language behind the variables that were read, and what is kept of them.
+/// What is left of a language after the variables that were read, and what is kept of them.
 ///
 /// The reader asks `var`, and then tests the bits of that variable by `begins`, many at once where a
-/// piece has them. Where a number is whole, `pass` goes on behind it. Where no bit of a variable stands,
+/// piece has them. Where a number is whole, `pass` continues after it. Where no bit of a variable is there,
 /// `leap` may take several whole variables at once.
 pub trait Rest {
     /// The readings that are left.
@@ -27,7 +27,7 @@ pub trait Rest {
     /// By these variables the first comes to the second, with all that it keeps of them.
     ghost follows: { Self → Reading → Self → Type 0 };
 
-    /// Memory may be refused behind what was read so far. False everywhere of a rest that takes none, so
+    /// Memory may be refused after what was read so far. False everywhere of a rest that takes none, so
     /// that its reader never answers that memory was refused.
     ghost fails: { Self → Type 0 };
 
@@ -35,8 +35,8 @@ pub trait Rest {
     fn var(&self) -> Option<Var>
         ensures { result ≡ next self.now };
 
-    /// Whether some number of the variable that comes next goes on whose first bits these are, with
-    /// `rest` bits more behind them.
+    /// Whether some number of the variable that comes next continues whose first bits these are, with
+    /// `rest` bits more after them.
     fn begins(&self, var: Var, rest: usize, number: u64) -> bool
         requires next { next self.now ≡ Some var }
         requires rest { rest < width var }
@@ -44,7 +44,7 @@ pub trait Rest {
         requires goes { Goes (left self.now) }
         ensures { IsTrue result ↔ Starts (left self.now) var rest number };
 
-    /// Goes on behind the variable's number, which is asked only where something goes on with it.
+    /// Continues after the variable's number, which is asked only where something continues with it.
     ///
     /// # Errors
     ///
@@ -60,7 +60,7 @@ pub trait Rest {
     ///
     /// # Errors
     ///
-    /// `AllocError` where there is no memory. Something goes on with the bit at `at` then, so that a reader
+    /// `AllocError` where there is no memory. Something continues with the bit at `at` then, so that a reader
     /// never answers refused memory at a refused bit; no more is asked, since what runs out of memory
     /// inside of a packet doesn't know its last bits. Nothing is said of what is left.
     fn leap(&mut self, piece: &[u8], at: usize) -> Result<Option<usize>, AllocError>

@@ -6,7 +6,7 @@ ghost use Rattle.etcs_reader.specs.laws.StoredLaws.{with_along};
 
 use crate::rest::Rest;
 use etcs_vars::Var;
-use etcs_vars::parts::Sink;
+use etcs_vars::parts::VarSink;
 use std::alloc::AllocError;
 
 /// What is left of a language, and a sink that took the variables that were read. It takes them one by
@@ -17,7 +17,7 @@ pub struct Stored<R, S> {
     pub store: S,
 }
 
-impl<R: Rest, S: Sink> Rest for Stored<R, S> {
+impl<R: Rest, S: VarSink> Rest for Stored<R, S> {
     ghost left = { λ s. R.left s.rest };
 
     ghost next = { λ s. R.next s.rest };

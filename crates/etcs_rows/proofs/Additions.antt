@@ -45,7 +45,7 @@ adds_one ws old new by len-old len-new fit taken = record {
 pub adds_none : (A : ℕ → Type 0) (ws old : List ℕ) → ((j : ℕ) → A j → ⊥) → Adds A ws old old
 adds_none A ws old none = record { are = λ m. (λ h. inl h, λ h. elim h [ inl has ↦ has | inr ((j, k, a, b, e), small) ↦ absurd (none j a) ]) }
 
--- one addition behind another
+-- one addition after another
 pub adds_more : (A B C : ℕ → Type 0) (ws old some new : List ℕ) → ((j : ℕ) → C j ↔ (A j ⊎ B j)) → Adds A ws old some → Adds B ws some new → Adds C ws old new
 adds_more A B C ws old some new parts first second = record {
   are = λ m. (

@@ -14,7 +14,7 @@ reverse-push xs x = reverse-append xs (x ∷ [])
 iterate_more : (n t : ℕ) (f : Layout → Layout) (x : Layout) → n ≡ suc t → iterate n f x ≡ f (iterate t f x)
 iterate_more n t f x e = ap (λ k. iterate k f x) e
 
--- a group that stands once more
+-- a group that occurs once more
 pub leave_again : (old : Cursor) (stack ps : List Pending) (top next : Pending) → old.items.now ≡ [] → reverse old.pending.items ≡ top ∷ ps → reverse stack ≡ next ∷ ps
     → top.times ≡ suc next.times → next.group ≡ top.group → next.items ≡ top.items → next.before ≡ top.before → left_of old ≡ onto top.before (layout top.group.now) (waiting (reverse stack))
 leave_again old stack ps top next ended e f times group items before = rw (ended, e, f, group, items, before, times) refl

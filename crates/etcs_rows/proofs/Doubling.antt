@@ -1,4 +1,4 @@
--- Sums of so many numbers by doubling.
+-- Sums of this many numbers by doubling.
 use Rattle.std.proofs.Common.{◌≡◌, ℕ, ◌+◌, ◌*◌, ◌/◌, ◌%◌, ◌≤◌, zero, suc, zero-add, length, refl, sym, subst, arith}
 use Rattle.std.specs.Prelude.{◌↔◌}
 use Rattle.etcs_rows.specs.declared.length_set.LengthSet.{LengthSet}

@@ -1,4 +1,4 @@
--- What is left of a row, as a sum whose parts are added one after the other.
+-- What is left of a row, as a sum whose parts are added one after another.
 use Rattle.std.proofs.Common.{◌≡◌, ℕ, ◌+◌, ◌-◌, ◌*◌, ◌<◌, ◌≤◌, min, List, [], ◌∷◌, ◌++◌, length, reverse, Bool, false, Option, Some, None, refl, sym, ◌∙◌, subst, arith, inl, inr}
 use Rattle.std.specs.Prelude.{◌↔◌, IsTrue, IfSome}
 use Rattle.std.proofs.lemmas.Bool.{cases_lt}
@@ -8,13 +8,13 @@ use Rattle.etcs_tables.specs.declared.item.RowItem.{RowItem}
 use Rattle.etcs_tables.specs.declared.item.RowItem.TheVariants.{One}
 use Rattle.etcs_rows.specs.declared.place.Pending.{Pending}
 use Rattle.etcs_rows.specs.declared.place.Cursor.{Cursor}
-use Rattle.etcs_rows.specs.declared.steps.Steps.{Steps}
+use Rattle.etcs_rows.specs.declared.progression.Progression.{Progression}
 use Rattle.etcs_rows.specs.declared.total.Total.{Total}
 use Rattle.etcs_tables.specs.Layouts.{Layout, whole, layout}
 use Rattle.etcs_rows.specs.Places.{onto, append}
 use Rattle.etcs_rows.specs.Cursors.{waiting, left_of, WaitsNest, KnowsTail}
 use Rattle.etcs_rows.specs.Lengths.{LengthsBy, front, behind, GroupsWithin, FirstWithin, FitsWithin}
-use Rattle.etcs_rows.specs.Steps.{InSteps, AreSteps, AtMost}
+use Rattle.etcs_rows.specs.Progressions.{InProgression, IsProgression, AtMost}
 use Rattle.etcs_rows.specs.Totals.{InTotal, AreTotal}
 use Rattle.etcs_rows.specs.Sums.{Plus, SumOf}
 use Rattle.etcs_rows.specs.Waiting.{Agains, Tails, Onward}
@@ -54,7 +54,7 @@ pub answer_same : (r : Option Bool) (P Q : Type 0) → (P ↔ Q) → IfSome r (�
 answer_same None P Q same h = tt
 answer_same (Some b) P Q same h = (λ x. same.0 (h.0 x), λ y. h.1 (same.1 y))
 
--- a part by another name, in front of what stands behind groups
+-- a part by another name, in front of what follows groups
 pub chosen : (r : Option Bool) (S A G : ℕ → Type 0) (items : List RowItem) (row : Layout) (ps : List Pending) (m : ℕ) → SameSet A G → layout items ≡ behind row → IfSome r (λ b. IsTrue b ↔ Plus S (Plus A (Onward items ps)) m)
     → IfSome r (λ b. IsTrue b ↔ Plus S (Plus G (Plus (LengthsBy (behind row) 0) (Tails (reverse ps)))) m)
 chosen r S A G items row ps m same is h =
@@ -96,11 +96,11 @@ moved A S W R T L hs same =
     (set_along (Plus W (Plus R T)) (Plus (Plus W R) T) (Plus L T) (set_back (Plus (Plus W R) T) (Plus W (Plus R T)) (Plus-assoc W R T)) (Plus-same (Plus W R) T L T same (set_self T)))))
 
 -- the variables in front that no group looks at
-pub led : (S A : ℕ → Type 0) (wide : Steps) (items behind : List RowItem) (ps : List Pending) (width : ℕ) → AreSteps wide (λ k. k ≡ width) → SameSet A (Plus S (InSteps wide)) → SameSet (LengthsBy (layout items) 0) (Plus (λ k. k ≡ width) (LengthsBy (layout behind) 0))
+pub led : (S A : ℕ → Type 0) (wide : Progression) (items behind : List RowItem) (ps : List Pending) (width : ℕ) → IsProgression wide (λ k. k ≡ width) → SameSet A (Plus S (InProgression wide)) → SameSet (LengthsBy (layout items) 0) (Plus (λ k. k ≡ width) (LengthsBy (layout behind) 0))
     → SameSet (Plus A (Onward behind ps)) (Plus S (Onward items ps))
 led S A wide items behind ps width hw hs same =
     let W : ℕ → Type 0 = λ k. k ≡ width in let R = LengthsBy (layout behind) 0 in let L = LengthsBy (layout items) 0 in
-    let has : SameSet A (Plus S W) = set_along A (Plus S (InSteps wide)) (Plus S W) hs (Plus-same S (InSteps wide) S W (set_self S) hw) in
+    let has : SameSet A (Plus S W) = set_along A (Plus S (InProgression wide)) (Plus S W) hs (Plus-same S (InProgression wide) S W (set_self S) hw) in
     moved A S W R (Tails (reverse ps)) L has (set_back L (Plus W R) same)
 
 -- the same with a part of two parts
@@ -110,24 +110,24 @@ moved_two A S W G B T L hs same =
     (Plus-same A (Plus G (Plus B T)) A (Plus (Plus G B) T) (set_self A) (set_back (Plus (Plus G B) T) (Plus G (Plus B T)) (Plus-assoc G B T)))
     (moved A S W (Plus G B) T L hs same)
 
--- behind the innermost group that waits
-pub leave_sum : (g : Steps) (p : Pending) (outer ps : List Pending) (items : List RowItem) → ps ≡ outer ++ p ∷ [] → AreSteps g (LengthsBy (front (layout p.items.now)) p.before) → layout items ≡ behind (layout p.items.now)
-    → SameSet (Plus (InSteps g) (Onward items outer)) (Tails (reverse ps))
+-- after the innermost group that waits
+pub leave_sum : (g : Progression) (p : Pending) (outer ps : List Pending) (items : List RowItem) → ps ≡ outer ++ p ∷ [] → IsProgression g (LengthsBy (front (layout p.items.now)) p.before) → layout items ≡ behind (layout p.items.now)
+    → SameSet (Plus (InProgression g) (Onward items outer)) (Tails (reverse ps))
 leave_sum g p outer ps items e hg is =
     let row = layout p.items.now in let n = p.before in let T = Tails (reverse outer) in
     let F = LengthsBy (front row) n in let B = LengthsBy (behind row) 0 in
-    rw (e, reverse-push, is) (set_along (Plus (InSteps g) (Plus B T)) (Plus F (Plus B T)) (Plus (LengthsBy row n) T)
-    (Plus-same (InSteps g) (Plus B T) F (Plus B T) hg (set_self (Plus B T)))
+    rw (e, reverse-push, is) (set_along (Plus (InProgression g) (Plus B T)) (Plus F (Plus B T)) (Plus (LengthsBy row n) T)
+    (Plus-same (InProgression g) (Plus B T) F (Plus B T) hg (set_self (Plus B T)))
     (set_along (Plus F (Plus B T)) (Plus (Plus F B) T) (Plus (LengthsBy row n) T) (set_back (Plus (Plus F B) T) (Plus F (Plus B T)) (Plus-assoc F B T))
     (Plus-same (Plus F B) T (LengthsBy row n) T (set_back (LengthsBy row n) (Plus F B) (lengths-parts row n)) (set_self T))))
 
--- and where nothing is behind it
+-- and where nothing is after it
 pub leave_empty : (p : Pending) (outer ps : List Pending) → ps ≡ outer ++ p ∷ [] → layout p.items.now ≡ whole → SameSet (Tails (reverse outer)) (Tails (reverse ps))
 leave_empty p outer ps e none =
     let T = Tails (reverse outer) in
     rw (e, reverse-push) (set_along T (Plus (λ m. m ≡ 0) T) (Plus (LengthsBy (layout p.items.now) p.before) T) (zero-Plus T) (Plus-same (λ m. m ≡ 0) T (LengthsBy (layout p.items.now) p.before) T (whole_sum (layout p.items.now) p.before none) (set_self T)))
 
--- ---- Numbers one after the other.
+-- ---- Numbers one after another.
 
 -- no admitted number from low and below next makes the sum
 pub record NoneTo (v : Var) (F : ℕ → ℕ → Type 0) (S X : ℕ → Type 0) (low next m : ℕ) : Type 0 where
@@ -149,29 +149,29 @@ none_all v rest S X low high next m h g = (
   λ (i, y, s, (j, k, (n, l, u, ok, f), x, e), t). absurd (h.fail n l (g n l u ok) ok (i, y, s, (j, k, f, x, e), t)),
 )
 
-pub each_not : (g : Steps) (F S X : ℕ → Type 0) (m : ℕ) → AreSteps g F → (Plus S (Plus (InSteps g) X) m → ⊥) → Plus S (Plus F X) m → ⊥
+pub each_not : (g : Progression) (F S X : ℕ → Type 0) (m : ℕ) → IsProgression g F → (Plus S (Plus (InProgression g) X) m → ⊥) → Plus S (Plus F X) m → ⊥
 each_not g F S X m hg not (i, y, s, (j, k, f, x, e), t) = not (i, y, s, (j, k, (hg j).1 f, x, e), t)
 
 -- no number below the next index makes the sum
-pub record NoneAt (more : Steps) (S X : ℕ → Type 0) (next m : ℕ) : Type 0 where
+pub record NoneAt (more : Progression) (S X : ℕ → Type 0) (next m : ℕ) : Type 0 where
   pub fail : (k : ℕ) → k < next → Plus S (Plus (λ j. more.first + k * more.step ≡ j) X) m → ⊥
 
 -- one number of the steps, as the code adds it
-one_added : (more single : Steps) (A S X : ℕ → Type 0) (k x : ℕ) → more.first + k * more.step ≡ x → AreSteps single (λ j. j ≡ x) → SameSet A (Plus S (InSteps single)) → SameSet (Plus A X) (Plus S (Plus (λ j. more.first + k * more.step ≡ j) X))
+one_added : (more single : Progression) (A S X : ℕ → Type 0) (k x : ℕ) → more.first + k * more.step ≡ x → IsProgression single (λ j. j ≡ x) → SameSet A (Plus S (InProgression single)) → SameSet (Plus A X) (Plus S (Plus (λ j. more.first + k * more.step ≡ j) X))
 one_added more single A S X k x at is hs =
     let N : ℕ → Type 0 = λ j. more.first + k * more.step ≡ j in
     set_along (Plus A X) (Plus (Plus S N) X) (Plus S (Plus N X))
     (Plus-same A X (Plus S N) X
-    (set_along A (Plus S (InSteps single)) (Plus S N) hs (Plus-same S (InSteps single) S N (set_self S) (λ j. (λ y. at ∙ sym ((is j).0 y), λ e. (is j).1 (sym e ∙ at))))) (set_self X))
+    (set_along A (Plus S (InProgression single)) (Plus S N) hs (Plus-same S (InProgression single) S N (set_self S) (λ j. (λ y. at ∙ sym ((is j).0 y), λ e. (is j).1 (sym e ∙ at))))) (set_self X))
     (Plus-assoc S N X)
 
-pub at_found : (more single : Steps) (A S X : ℕ → Type 0) (k x m : ℕ) → k ≤ more.count → more.first + k * more.step ≡ x → AreSteps single (λ j. j ≡ x) → SameSet A (Plus S (InSteps single)) → Plus A X m → Plus S (Plus (InSteps more) X) m
-unfolding InSteps
+pub at_found : (more single : Progression) (A S X : ℕ → Type 0) (k x m : ℕ) → k ≤ more.count → more.first + k * more.step ≡ x → IsProgression single (λ j. j ≡ x) → SameSet A (Plus S (InProgression single)) → Plus A X m → Plus S (Plus (InProgression more) X) m
+unfolding InProgression
 at_found more single A S X k x m l at is hs h =
     let (i, y, a, (j, z, e, b, f), t) = (one_added more single A S X k x at is hs m).0 h in
     (i, y, a, (j, z, (k, l, e), b, f), t)
 
-pub at_more : (more single : Steps) (A S X : ℕ → Type 0) (k x m : ℕ) → NoneAt more S X k m → more.first + k * more.step ≡ x → AreSteps single (λ j. j ≡ x) → SameSet A (Plus S (InSteps single)) → (Plus A X m → ⊥) → NoneAt more S X (k + 1) m
+pub at_more : (more single : Progression) (A S X : ℕ → Type 0) (k x m : ℕ) → NoneAt more S X k m → more.first + k * more.step ≡ x → IsProgression single (λ j. j ≡ x) → SameSet A (Plus S (InProgression single)) → (Plus A X m → ⊥) → NoneAt more S X (k + 1) m
 at_more more single A S X k x m h at is hs not = record {
   fail = λ i u y.
       elim (cases_lt i k) [
@@ -182,8 +182,8 @@ at_more more single A S X k x m h at is hs not = record {
       ];
 }
 
-pub at_none : (more : Steps) (S X : ℕ → Type 0) (next m : ℕ) → NoneAt more S X next m → more.count < next → IsTrue false ↔ Plus S (Plus (InSteps more) X) m
-unfolding InSteps
+pub at_none : (more : Progression) (S X : ℕ → Type 0) (next m : ℕ) → NoneAt more S X next m → more.count < next → IsTrue false ↔ Plus S (Plus (InProgression more) X) m
+unfolding InProgression
 at_none more S X next m h all = (
   λ x. absurd cc,
   λ (i, y, a, (j, z, (k, l, e), b, f), t). absurd (h.fail k (omega (arith, l, all)) (i, y, a, (j, z, e, b, f), t)),
@@ -191,7 +191,7 @@ at_none more S X next m h all = (
 
 -- ---- All that is left.
 
--- the groups that wait, and what is behind them
+-- the groups that wait, and what is after them
 waiting_split : (ps : List Pending) → SameSet (LengthsBy (waiting ps) 0) (Plus (Agains ps) (Tails ps))
 waiting_split [] = set_along (LengthsBy whole 0) (λ m. m ≡ 0) (Plus (λ m. m ≡ 0) (λ m. m ≡ 0)) (set_back (λ m. m ≡ 0) (LengthsBy whole 0) (whole_sum whole 0 refl)) (zero-Plus (λ m. m ≡ 0))
 waiting_split (p ∷ ps) =
@@ -206,15 +206,15 @@ waiting_split (p ∷ ps) =
     (cross G A I T))
 
 -- what is left, where the groups that wait come first
-pub reaches_sum : (c : Cursor) (again g : Steps) (items : List RowItem) → AreSteps again (Agains (reverse c.pending.items)) → AreSteps g (LengthsBy (front (layout c.items.now)) c.before) → layout items ≡ behind (layout c.items.now)
-    → SameSet (Plus (InSteps again) (Plus (InSteps g) (Onward items c.pending.items))) (LengthsBy (left_of c) 0)
+pub reaches_sum : (c : Cursor) (again g : Progression) (items : List RowItem) → IsProgression again (Agains (reverse c.pending.items)) → IsProgression g (LengthsBy (front (layout c.items.now)) c.before) → layout items ≡ behind (layout c.items.now)
+    → SameSet (Plus (InProgression again) (Plus (InProgression g) (Onward items c.pending.items))) (LengthsBy (left_of c) 0)
 reaches_sum c again g items ha hg is =
     let row = layout c.items.now in let n = c.before in let ps = reverse c.pending.items in
     let A = Agains ps in let T = Tails ps in let F = LengthsBy (front row) n in let B = LengthsBy (behind row) 0 in let L = LengthsBy row n in let W = LengthsBy (waiting ps) 0 in
-    rw is (set_along (Plus (InSteps again) (Plus (InSteps g) (Plus B T))) (Plus A (Plus L T)) (LengthsBy (left_of c) 0)
-    (Plus-same (InSteps again) (Plus (InSteps g) (Plus B T)) A (Plus L T) ha
-    (set_along (Plus (InSteps g) (Plus B T)) (Plus (Plus (InSteps g) B) T) (Plus L T) (set_back (Plus (Plus (InSteps g) B) T) (Plus (InSteps g) (Plus B T)) (Plus-assoc (InSteps g) B T))
-    (Plus-same (Plus (InSteps g) B) T L T (set_along (Plus (InSteps g) B) (Plus F B) L (Plus-same (InSteps g) B F B hg (set_self B)) (set_back L (Plus F B) (lengths-parts row n))) (set_self T))))
+    rw is (set_along (Plus (InProgression again) (Plus (InProgression g) (Plus B T))) (Plus A (Plus L T)) (LengthsBy (left_of c) 0)
+    (Plus-same (InProgression again) (Plus (InProgression g) (Plus B T)) A (Plus L T) ha
+    (set_along (Plus (InProgression g) (Plus B T)) (Plus (Plus (InProgression g) B) T) (Plus L T) (set_back (Plus (Plus (InProgression g) B) T) (Plus (InProgression g) (Plus B T)) (Plus-assoc (InProgression g) B T))
+    (Plus-same (Plus (InProgression g) B) T L T (set_along (Plus (InProgression g) B) (Plus F B) L (Plus-same (InProgression g) B F B hg (set_self B)) (set_back L (Plus F B) (lengths-parts row n))) (set_self T))))
     (set_along (Plus A (Plus L T)) (Plus L (Plus A T)) (LengthsBy (left_of c) 0) (waiting_first A L T)
     (set_along (Plus L (Plus A T)) (Plus L W) (LengthsBy (left_of c) 0) (Plus-same L (Plus A T) L W (set_self L) (set_back W (Plus A T) (waiting_split ps)))
     (set_back (LengthsBy (left_of c) 0) (Plus L W) (lengths-onto row (waiting ps) n (Open-waiting ps))))))
@@ -234,21 +234,21 @@ meets_sum A Y L t low high most ht same le is = (
 )
 
 -- the same, where a variable comes next
-pub fits_sum : (c : Cursor) (v : Var) (rest : List RowItem) (low high m : ℕ) (again : Steps) (S : ℕ → Type 0) → c.items.now ≡ One v ∷ rest → AreSteps again (Agains (reverse c.pending.items)) → SameSet S (Plus (InSteps again) (λ k. k ≡ width v)) → m ≤ 8191
+pub fits_sum : (c : Cursor) (v : Var) (rest : List RowItem) (low high m : ℕ) (again : Progression) (S : ℕ → Type 0) → c.items.now ≡ One v ∷ rest → IsProgression again (Agains (reverse c.pending.items)) → SameSet S (Plus (InProgression again) (λ k. k ≡ width v)) → m ≤ 8191
     → Plus S (Plus (GroupsWithin v (layout rest) low high) (Plus (LengthsBy (behind (layout rest)) 0) (Tails (reverse c.pending.items)))) m ↔ FitsWithin (left_of c) low high m
 fits_sum c v rest low high m again S e ha hs small =
     let ps = reverse c.pending.items in let row = layout rest in
     let A = Agains ps in let T = Tails ps in let G = GroupsWithin v row low high in let B = LengthsBy (behind row) 0 in let L = FirstWithin v row low high in let W = LengthsBy (waiting ps) 0 in
     let all : SameSet (Plus S (Plus G (Plus B T))) (FirstWithin v (append row (waiting ps)) low high) =
-    set_along (Plus S (Plus G (Plus B T))) (Plus (InSteps again) (Plus L T)) (FirstWithin v (append row (waiting ps)) low high)
-    (moved_two S (InSteps again) (λ k. k ≡ width v) G B T L hs (first_sum v row low high))
-    (set_along (Plus (InSteps again) (Plus L T)) (Plus A (Plus L T)) (FirstWithin v (append row (waiting ps)) low high) (Plus-same (InSteps again) (Plus L T) A (Plus L T) ha (set_self (Plus L T)))
+    set_along (Plus S (Plus G (Plus B T))) (Plus (InProgression again) (Plus L T)) (FirstWithin v (append row (waiting ps)) low high)
+    (moved_two S (InProgression again) (λ k. k ≡ width v) G B T L hs (first_sum v row low high))
+    (set_along (Plus (InProgression again) (Plus L T)) (Plus A (Plus L T)) (FirstWithin v (append row (waiting ps)) low high) (Plus-same (InProgression again) (Plus L T) A (Plus L T) ha (set_self (Plus L T)))
     (set_along (Plus A (Plus L T)) (Plus L (Plus A T)) (FirstWithin v (append row (waiting ps)) low high) (waiting_first A L T)
     (set_along (Plus L (Plus A T)) (Plus L W) (FirstWithin v (append row (waiting ps)) low high) (Plus-same L (Plus A T) L W (set_self L) (set_back W (Plus A T) (waiting_split ps)))
     (set_back (FirstWithin v (append row (waiting ps)) low high) (Plus L W) (first_and_tail v row (waiting ps) low high (Open-waiting ps)))))) in
     rw e (λ x. ((all m).0 x, small), λ (x, l). (all m).1 x)
 
--- ---- One number, and all that may be left behind it.
+-- ---- One number, and all that may be left after it.
 
 -- the groups that wait, by the innermost of them and the rest
 pub waiting_last : (p : Pending) (ps : List Pending) → SameSet (Plus (SumOf p.times (LengthsBy (layout p.group.now) p.before)) (Plus (LengthsBy (layout p.items.now) p.before) (LengthsBy (waiting ps) 0))) (LengthsBy (waiting (p ∷ ps)) 0)
@@ -260,26 +260,26 @@ waiting_last p ps =
     (Plus-same G (Plus I W) G (LengthsBy X 0) (set_self G) (set_back (LengthsBy X 0) (Plus I W) (lengths-onto items (waiting ps) n (Open-waiting ps))))
     (set_back (LengthsBy (waiting (p ∷ ps)) 0) (Plus G (LengthsBy X 0)) (lengths-iterate p.times n group X (Open-onto n items (waiting ps) (Open-waiting ps))))
 
-pub waits_none : (s : Steps) (ps : List Pending) → length ps ≡ 0 → AreSteps s (λ m. m ≡ 0) → AreSteps s (LengthsBy (waiting (reverse ps)) 0)
-waits_none s [] e h = set_along (InSteps s) (λ m. m ≡ 0) (LengthsBy whole 0) h (whole_sum whole 0 refl)
+pub waits_none : (s : Progression) (ps : List Pending) → length ps ≡ 0 → IsProgression s (λ m. m ≡ 0) → IsProgression s (LengthsBy (waiting (reverse ps)) 0)
+waits_none s [] e h = set_along (InProgression s) (λ m. m ≡ 0) (LengthsBy whole 0) h (whole_sum whole 0 refl)
 waits_none s (p ∷ ps) e h = absurd (omega (arith, e))
 
 known_tail : (p : Pending) (outer ps : List Pending) → ps ≡ outer ++ p ∷ [] → WaitsNest (reverse ps) → KnowsTail p (reverse outer)
 known_tail p outer ps e waits = let h : WaitsNest (p ∷ reverse outer) = rw (e, reverse-push) at waits in h.3
 
-pub waits_known : (r : Option Steps) (again tail : Steps) (p : Pending) (outer ps : List Pending) → ps ≡ outer ++ p ∷ [] → WaitsNest (reverse ps) → p.tail ≡ Some tail → AreSteps again (SumOf p.times (LengthsBy (layout p.group.now) p.before))
-    → IfSome r (λ s. AreSteps s (Plus (InSteps again) (InSteps tail))) → IfSome r (λ s. AreSteps s (LengthsBy (waiting (reverse ps)) 0))
+pub waits_known : (r : Option Progression) (again tail : Progression) (p : Pending) (outer ps : List Pending) → ps ≡ outer ++ p ∷ [] → WaitsNest (reverse ps) → p.tail ≡ Some tail → IsProgression again (SumOf p.times (LengthsBy (layout p.group.now) p.before))
+    → IfSome r (λ s. IsProgression s (Plus (InProgression again) (InProgression tail))) → IfSome r (λ s. IsProgression s (LengthsBy (waiting (reverse ps)) 0))
 waits_known r again tail p outer ps e waits is ha h =
     let T = Plus (LengthsBy (layout p.items.now) p.before) (LengthsBy (waiting (reverse outer)) 0) in
-    let ht : AreSteps tail T = subst (λ (o : Option Steps). IfSome o (λ s. AreSteps s T)) is (known_tail p outer ps e waits) in
+    let ht : IsProgression tail T = subst (λ (o : Option Progression). IfSome o (λ s. IsProgression s T)) is (known_tail p outer ps e waits) in
     rw (e, reverse-push) (plus_are r again tail (SumOf p.times (LengthsBy (layout p.group.now) p.before)) T (LengthsBy (waiting (p ∷ reverse outer)) 0) ha ht (waiting_last p (reverse outer)) h)
 
-pub fits_number : (c : Cursor) (v : Var) (rest : List RowItem) (n m : ℕ) (left : Steps) → c.items.now ≡ One v ∷ rest → AreSteps left (Plus (LengthsBy (layout rest) n) (LengthsBy (waiting (reverse c.pending.items)) 0))
-    → (IsTrue (admits v n) × ((j : ℕ) × InSteps left j × (width v + j ≡ m)) × (m ≤ 8191)) ↔ FitsWithin (left_of c) n n m
+pub fits_number : (c : Cursor) (v : Var) (rest : List RowItem) (n m : ℕ) (left : Progression) → c.items.now ≡ One v ∷ rest → IsProgression left (Plus (LengthsBy (layout rest) n) (LengthsBy (waiting (reverse c.pending.items)) 0))
+    → (IsTrue (admits v n) × ((j : ℕ) × InProgression left j × (width v + j ≡ m)) × (m ≤ 8191)) ↔ FitsWithin (left_of c) n n m
 fits_number c v rest n m left e h =
     let tail = waiting (reverse c.pending.items) in
-    let all : SameSet (InSteps left) (LengthsBy (append (layout rest) tail) n) =
-    set_along (InSteps left) (Plus (LengthsBy (layout rest) n) (LengthsBy tail 0)) (LengthsBy (append (layout rest) tail) n) h
+    let all : SameSet (InProgression left) (LengthsBy (append (layout rest) tail) n) =
+    set_along (InProgression left) (Plus (LengthsBy (layout rest) n) (LengthsBy tail 0)) (LengthsBy (append (layout rest) tail) n) h
     (set_back (LengthsBy (append (layout rest) tail) n) (Plus (LengthsBy (layout rest) n) (LengthsBy tail 0)) (lengths-append (layout rest) tail n (Open-waiting (reverse c.pending.items)))) in
     rw e (
       λ (ok, (j, i, f), small). ((n, j, (let t : n ≤ n = omega arith in t), (let t : n ≤ n = omega arith in t), ok, (all j).0 i, f), small),

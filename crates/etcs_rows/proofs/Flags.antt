@@ -9,7 +9,7 @@ use Rattle.etcs_rows.specs.Sets.{AnyFlag}
 use Rattle.etcs_rows.proofs.Shifts.{bit_cut, bit_shr, bit_shl_low, bit_shl_high}
 
 -- ---- without the lowest flag
--- a number whose lowest flag is t, cut behind it
+-- a number whose lowest flag is t, cut after it
 lowest_alone : (n t : ℕ) → bit_at n t ≡ 1 → ((i : ℕ) → i < t → bit_at n i ≡ 0) → n % 2 ^ (t + 1) ≡ 2 ^ t
 lowest_alone n t one low =
     same_from_bits_below (t + 1) (n % 2 ^ (t + 1)) (2 ^ t) (mod_below n (2 ^ (t + 1)) (pow_pos (t + 1))) (pow_below t (t + 1) (omega arith))
@@ -18,7 +18,7 @@ lowest_alone n t one low =
       | inr off ↦ low i (omega arith) ∙ sym (bit_at-pow_other t i off)
     ])
 
--- the same number, and the one below it, by what stands above the flag
+-- the same number, and the one below it, by what is above the flag
 lowest_split : (n t : ℕ) → bit_at n t ≡ 1 → ((i : ℕ) → i < t → bit_at n i ≡ 0) → n / 2 ^ (t + 1) * 2 ^ (t + 1) + 2 ^ t ≡ n
 lowest_split n t one low = ap (λ x. n / 2 ^ (t + 1) * 2 ^ (t + 1) + x) (sym (lowest_alone n t one low)) ∙ shr_split n (t + 1)
 

@@ -52,7 +52,7 @@ pub no_row : (o : Option Layout) → ◌≡◌ {A = Option (List RowItem)} None 
 no_row None h = refl
 no_row (Some row) h = absurd cc
 
--- what is behind the frame of a packet that is typed, and of one that isn't
+-- what is after the frame of a packet that is typed, and of one that isn't
 body_row : (way : Way) (nid : ℕ) (row : Layout) (m : ℕ) → row_to way nid ≡ Some row → BodyLength way nid m ↔ Lengths row [] m
 body_row way nid row m e = (
   elim [

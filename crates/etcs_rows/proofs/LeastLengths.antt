@@ -26,7 +26,7 @@ pub least_not_passed : (row : Layout) (g : Guard) (group rest : Layout) (n m : �
 unfolding LengthsBy
 least_not_passed row g group rest n m e pass l = rw (e, pass) l
 
--- a group that stands no time
+-- a group that occurs no time
 pub least_counted : (row group rest : Layout) (n : ℕ) (o : Option ℕ) → row ≡ counted group rest → n ≡ 0 → IfSome o (λ m. LengthsBy rest n m) → IfSome o (λ m. LengthsBy row n m)
 unfolding LengthsBy
 least_counted row group rest n None e none l = tt

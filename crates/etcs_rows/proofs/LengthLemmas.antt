@@ -59,7 +59,7 @@ of_case : (b : Bool) (P Q : Reading → Type 0) (A B : ℕ → Type 0) → SameS
 of_case true P Q A B h k = h
 of_case false P Q A B h k = k
 
--- ---- The lengths of a row behind a number.
+-- ---- The lengths of a row after a number.
 
 pub lengths_by : (row : Layout) (n : ℕ) → SameSet (LengthsBy row n) (LengthOf (ReadsBy row n))
 unfolding LengthsBy

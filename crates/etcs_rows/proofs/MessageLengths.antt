@@ -1,4 +1,4 @@
--- The lengths of a message are those that leave what may be left behind its row.
+-- The lengths of a message are those that leave what may be left after its row.
 use Rattle.std.proofs.Common.{◌≡◌, ℕ, ◌+◌, ◌-◌, ◌*◌, ◌/◌, ◌^◌, ◌<◌, ◌≤◌, Bool, true, false, Option, Some, None, [], refl, sym, arith, inl, inr, subst, leb}
 use Rattle.std.specs.Prelude.{◌↔◌, IsTrue, ◌&&◌, ◌||◌, nat_le}
 use Rattle.std.specs.List.{list_all}
@@ -58,7 +58,7 @@ within low high l = (
   λ (a, b). and_from (leb low l) (leb l high) (le-leb low l a) (le-leb l high b),
 )
 
--- the two ranges behind so many bits
+-- the two ranges after this many bits
 behind_fits : (way : Way) (bits l : ℕ) → bits ≤ 8000 → IsTrue (inside (behind_bits way bits) l) ↔ ((l < 2 ^ 10) × Leaves (Message way) (8 * l) bits)
 behind_fits way bits l short =
     let n = frame_bits way in

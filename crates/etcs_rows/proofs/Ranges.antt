@@ -1,4 +1,4 @@
--- Numbers from low to high, by the words that they stand in.
+-- Numbers from low to high, by the words that they are in.
 use Rattle.std.proofs.Common.{◌≡◌, ◌≢◌, ℕ, ◌+◌, ◌-◌, ◌*◌, ◌/◌, ◌%◌, ◌^◌, ◌<◌, ◌≤◌, List, length, get_or, refl, sym, ap, ◌∙◌, arith, inl, inr}
 use Rattle.std.specs.Prelude.{◌⊎◌}
 use Rattle.std.specs.Int.{bit_at}
@@ -17,7 +17,7 @@ flag_has ws i a b low high hl hh hb (k, one, over, under) = (i * 64 + k, member_
 pub has_flag : (ws : List ℕ) (m i a b : ℕ) → Has ws m → m / 64 ≡ i → a ≤ m % 64 → m % 64 ≤ b → AnyFlag (get_or ws i 0) a b
 has_flag ws m i a b has at over under = (m % 64, one_is _ (sym (member_at ws m i (m % 64) (omega arith) (omega arith)) ∙ has), over, under)
 
--- a number held from low to high stands in the first word, in the last, or in one of those between
+-- a number held from low to high is in the first word, in the last, or in one of those between
 pub has_between : (ws : List ℕ) (low high : ℕ) → AnyHas ws low high → (AnyFlag (get_or ws (low / 64) 0) (low % 64) 63 ⊎ AnyFlag (get_or ws (high / 64) 0) 0 (high % 64)) ⊎ ((i : ℕ) × (low / 64 + 1 ≤ i) × (i < high / 64) × (get_or ws i 0 ≢ 0))
 has_between ws low high (m, has, over, under) =
     elim (cases_eq (m / 64) (low / 64)) [

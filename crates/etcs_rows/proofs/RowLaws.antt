@@ -28,7 +28,7 @@ first_pair v rest n f ((w, m) ∷ r) tail look reads e =
     let same : x.0 ≡ r ++ tail = sym (ap (λ (t : Reading). tail_of t) x.1) in
     (r, ap (λ (p : Sent). p ∷ r) pair, others, x.3, subst (λ (t : Reading). Reads (onto n rest whole) [] t) same x.4)
 
--- what stands for the numbers behind the first stands for all
+-- what stands for the numbers after the first stands for all
 behind_first : (v : Var) (rest : Layout) (n : ℕ) (f : List ℕ) (front : Reading) (left : Option Layout) → IsTrue (looks None (one v rest)) → IsTrue (admits v n)
     → StandsFor (onto n rest whole) f front left → StandsFor (one v rest) (n ∷ f) ((v, n) ∷ front) left
 behind_first v rest n f front (Some left) look ok (same, reads, alone) = (

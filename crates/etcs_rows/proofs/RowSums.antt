@@ -58,7 +58,7 @@ pub counted_sum : (row group rest : Layout) (n : ℕ) → row ≡ counted group 
 unfolding LengthsBy
 counted_sum row group rest n e = rw e (λ m. (λ x. x, λ x. x))
 
--- the first variable, the groups on its number, and what stands behind them
+-- the first variable, the groups on its number, and what follows them
 pub first_sum : (v : Var) (rest : Layout) (low high : ℕ) → SameSet (Plus (λ k. k ≡ width v) (Plus (GroupsWithin v rest low high) (LengthsBy (behind rest) 0))) (FirstWithin v rest low high)
 first_sum v rest low high m = (
   λ (w, j, is, (a, b, (n, l, u, ok, x), y, e), t). (n, j, l, u, ok, (lengths-parts rest n j).1 (a, b, x, y, e), (let f : width v + j ≡ m = omega (arith, is, t) in f)),
@@ -85,7 +85,7 @@ free_sum row v rest n e none =
       λ (k, j, a, x, t). (width v, j, refl, (lengths-free rest k 0 o j).0 x, t),
     ))
 
--- one counted group, as often as it stands
+-- one counted group, as often as it occurs
 pub counted_times : (row group rest : Layout) (A : ℕ → Type 0) → row ≡ counted group rest → begins_with_group group ≡ false → begins_with_group rest ≡ false → SameSet A (LengthsBy group 0) → (n : ℕ) → SameSet (SumOf n A) (LengthsBy (front row) n)
 unfolding LengthsBy
 counted_times row group rest A e open_group none same n =

@@ -18,7 +18,7 @@ use Rattle.etcs_rows.proofs.Behind.{ReadsBy, by_number, head_number, tail_of}
 use Rattle.etcs_rows.proofs.LengthLemmas.{lengths_by, nothing_left}
 use Rattle.etcs_rows.proofs.SumLemmas.{free_fits}
 
--- the numbers that a variable may have, with so many bits in all
+-- the numbers that a variable may have, with this many bits in all
 abbrev pub MayHave : Var → Layout → ℕ → ℕ → Type 0
 MayHave v rest len n = (j : ℕ) × IsTrue (admits v n) × LengthsBy rest n j × (width v + j ≡ len)
 

@@ -103,7 +103,7 @@ tested s n =
       λ h. is_one _ (at ∙ in_words s n h),
     )
 
--- ---- sums of so many numbers
+-- ---- sums of this many numbers
 pub record SumsOf (n : ℕ) (A : ℕ → Type 0) (s : LengthSet) : Type 0 where
   pub are : (m : ℕ) → In s m ↔ (SumOf n A m × (m ≤ 8191))
 

@@ -5,8 +5,8 @@ use Rattle.std.specs.Int.{abs_diff}
 use Rattle.std.proofs.lemmas.Bool.{cases_lt}
 use Rattle.std.proofs.lemmas.Bool.Decides.{nat_tests}
 use Rattle.std.proofs.Math.Nat.{add-mul, mul-suc, mul-zero, zero-mul, mul-div_left, mul-mod_left, div-add-mod, mul_comm, le-div_iff_mul-le, mul-le-mul_right}
-use Rattle.etcs_rows.specs.declared.steps.Steps.{Steps}
-use Rattle.etcs_rows.specs.Steps.{InSteps, AreSteps, AtMost}
+use Rattle.etcs_rows.specs.declared.progression.Progression.{Progression}
+use Rattle.etcs_rows.specs.Progressions.{InProgression, IsProgression, AtMost}
 use Rattle.etcs_rows.specs.Sums.{Plus, SumOf}
 use Rattle.etcs_rows.proofs.LengthLemmas.{set_along, set_self, Plus-same}
 
@@ -16,18 +16,18 @@ no_step i d h = let e : i ≡ 0 = omega arith in rw e (zero-mul d)
 one_step : (i d : ℕ) → i ≡ 1 → i * d ≡ d
 one_step i d e = rw e (omega arith)
 
-pub in_first : (s : Steps) (m : ℕ) → InSteps s m → s.first ≤ m
-unfolding InSteps
+pub in_first : (s : Progression) (m : ℕ) → InProgression s m → s.first ≤ m
+unfolding InProgression
 in_first s m (i, l, e) = omega (arith, e)
 
-pub first_in : (s : Steps) → InSteps s s.first
-unfolding InSteps
+pub first_in : (s : Progression) → InProgression s s.first
+unfolding InProgression
 first_in s = (0, (let t : 0 ≤ s.count = omega arith in t), (let z = zero-mul s.step in let t : s.first + 0 * s.step ≡ s.first = omega (arith, z) in t))
 
 -- ---- One number.
 
-pub one_number : (s : Steps) → s.count ≡ 0 → AreSteps s (λ m. m ≡ s.first)
-unfolding InSteps
+pub one_number : (s : Progression) → s.count ≡ 0 → IsProgression s (λ m. m ≡ s.first)
+unfolding InProgression
 one_number s z m = (
   λ (i, l, e). (let t = no_step i s.step (omega (arith, l, z)) in omega (arith, e, t)),
   λ e. (0, (let t : 0 ≤ s.count = omega arith in t), (let t = zero-mul s.step in let u : s.first + 0 * s.step ≡ m = omega (arith, e, t) in u)),
@@ -35,8 +35,8 @@ one_number s z m = (
 
 -- ---- The sums of a number of each.
 
-pub plus_one : (a b s : Steps) → b.count ≡ 0 → s.first ≡ a.first + b.first → s.step ≡ a.step → s.count ≡ a.count → AreSteps s (Plus (InSteps a) (InSteps b))
-unfolding InSteps
+pub plus_one : (a b s : Progression) → b.count ≡ 0 → s.first ≡ a.first + b.first → s.step ≡ a.step → s.count ≡ a.count → IsProgression s (Plus (InProgression a) (InProgression b))
+unfolding InProgression
 plus_one a b s z f d c m = (
   λ (i, l, e).
       let e' : s.first + i * a.step ≡ m = rw d at e in
@@ -46,15 +46,15 @@ plus_one a b s z f d c m = (
       (i, (let u : i ≤ s.count = omega (arith, l, c) in u), rw d (let u : s.first + i * a.step ≡ m = omega (arith, e, f, o, t) in u)),
 )
 
-pub plus_other : (a b s : Steps) → a.count ≡ 0 → s.first ≡ a.first + b.first → s.step ≡ b.step → s.count ≡ b.count → AreSteps s (Plus (InSteps a) (InSteps b))
+pub plus_other : (a b s : Progression) → a.count ≡ 0 → s.first ≡ a.first + b.first → s.step ≡ b.step → s.count ≡ b.count → IsProgression s (Plus (InProgression a) (InProgression b))
 plus_other a b s z f d c m =
     let x = plus_one b a s z (omega arith) d c m in (
       λ h. (let (j, k, p, q, e) = x.0 h in (k, j, q, p, omega (arith, e))),
       λ (j, k, p, q, e). x.1 (k, j, q, p, (let t : k + j ≡ m = omega (arith, e) in t)),
     )
 
-pub plus_same : (a b s : Steps) → b.step ≡ a.step → s.first ≡ a.first + b.first → s.step ≡ a.step → s.count ≡ a.count + b.count → AreSteps s (Plus (InSteps a) (InSteps b))
-unfolding InSteps
+pub plus_same : (a b s : Progression) → b.step ≡ a.step → s.first ≡ a.first + b.first → s.step ≡ a.step → s.count ≡ a.count + b.count → IsProgression s (Plus (InProgression a) (InProgression b))
+unfolding InProgression
 plus_same a b s d' f d c m = (
   λ (i, l, e).
       let e' : s.first + i * a.step ≡ m = rw d at e in
@@ -73,26 +73,26 @@ plus_same a b s d' f d c m = (
       (x + y, (let u : x + y ≤ s.count = omega (arith, lx, ly, c) in u), rw d (let u : s.first + (x + y) * a.step ≡ m = omega (arith, ex, ey', f, t, parts) in u)),
 )
 
--- ---- The sums of so many of its numbers.
+-- ---- The sums of this many of its numbers.
 
-pub times_steps : (k : ℕ) (a s : Steps) → s.first ≡ a.first * k → s.step ≡ a.step → s.count ≡ a.count * k → AreSteps s (SumOf k (InSteps a))
+pub times_steps : (k : ℕ) (a s : Progression) → s.first ≡ a.first * k → s.step ≡ a.step → s.count ≡ a.count * k → IsProgression s (SumOf k (InProgression a))
 times_steps zero a s f d c =
     let none : s.count ≡ 0 = c ∙ mul-zero a.count in
     let low : s.first ≡ 0 = f ∙ mul-zero a.first in
     let one = one_number s none in
     λ m. (λ h. (one m).0 h ∙ low, λ e. (one m).1 (e ∙ sym low))
 times_steps (suc k) a s f d c =
-    let b : Steps = record { first = a.first * k; step = a.step; count = a.count * k } in
+    let b : Progression = record { first = a.first * k; step = a.step; count = a.count * k } in
     let below = times_steps k a b refl refl refl in
     let ff : s.first ≡ a.first + a.first * k = (let t = mul-suc a.first k in omega (arith, f, t)) in
     let cc' : s.count ≡ a.count + a.count * k = (let t = mul-suc a.count k in omega (arith, c, t)) in
-    set_along (InSteps s) (Plus (InSteps a) (InSteps b)) (SumOf (suc k) (InSteps a)) (plus_same a b s refl ff d cc')
-    (Plus-same (InSteps a) (InSteps b) (InSteps a) (SumOf k (InSteps a)) (set_self (InSteps a)) below)
+    set_along (InProgression s) (Plus (InProgression a) (InProgression b)) (SumOf (suc k) (InProgression a)) (plus_same a b s refl ff d cc')
+    (Plus-same (InProgression a) (InProgression b) (InProgression a) (SumOf k (InProgression a)) (set_self (InProgression a)) below)
 
 -- ---- One more number.
 
-pub with_next : (a s : Steps) (n : ℕ) → a.first + (a.count + 1) * a.step ≡ n → s.first ≡ a.first → s.step ≡ a.step → s.count ≡ a.count + 1 → (m : ℕ) → InSteps s m ↔ (InSteps a m ⊎ (m ≡ n))
-unfolding InSteps
+pub with_next : (a s : Progression) (n : ℕ) → a.first + (a.count + 1) * a.step ≡ n → s.first ≡ a.first → s.step ≡ a.step → s.count ≡ a.count + 1 → (m : ℕ) → InProgression s m ↔ (InProgression a m ⊎ (m ≡ n))
+unfolding InProgression
 with_next a s n next f d c m = rw (f, d, c) (
   λ (i, l, e).
       elim (cases_lt i (a.count + 1)) [
@@ -105,14 +105,14 @@ with_next a s n next f d c m = rw (f, d, c) (
   ],
 )
 
-pub with_second : (a s : Steps) (n : ℕ) → a.count ≡ 0 → s.first ≡ min a.first n → s.step ≡ abs_diff a.first n → s.count ≡ 1 → (m : ℕ) → InSteps s m ↔ (InSteps a m ⊎ (m ≡ n))
-unfolding InSteps
+pub with_second : (a s : Progression) (n : ℕ) → a.count ≡ 0 → s.first ≡ min a.first n → s.step ≡ abs_diff a.first n → s.count ≡ 1 → (m : ℕ) → InProgression s m ↔ (InProgression a m ⊎ (m ≡ n))
+unfolding InProgression
 with_second a s n z f d c m =
     let one = one_number a z m in
     let low : 0 * s.step ≡ 0 = zero-mul s.step in
     let top : 1 * s.step ≡ s.step = one_step 1 s.step refl in
-    let zeroth : (k : ℕ) → k ≡ s.first → InSteps s k = λ k e. (0, (let t : 0 ≤ s.count = omega arith in t), (let t : s.first + 0 * s.step ≡ k = omega (arith, low, e) in t)) in
-    let first : (k : ℕ) → k ≡ s.first + s.step → InSteps s k = λ k e. (1, (let t : 1 ≤ s.count = omega arith in t), (let t : s.first + 1 * s.step ≡ k = omega (arith, top, e) in t)) in (
+    let zeroth : (k : ℕ) → k ≡ s.first → InProgression s k = λ k e. (0, (let t : 0 ≤ s.count = omega arith in t), (let t : s.first + 0 * s.step ≡ k = omega (arith, low, e) in t)) in
+    let first : (k : ℕ) → k ≡ s.first + s.step → InProgression s k = λ k e. (1, (let t : 1 ≤ s.count = omega arith in t), (let t : s.first + 1 * s.step ≡ k = omega (arith, top, e) in t)) in (
       λ (i, l, e).
           elim (cases_lt i 1) [
             | inl under ↦
@@ -157,11 +157,11 @@ is_le x y h = grind (arith, nat_tests)
 le_is : (x y : ℕ) → x ≤ y → IsTrue (nat_le x y)
 le_is x y h = grind (arith, nat_tests)
 
-pub holds_under : (s : Steps) (n : ℕ) → n < s.first → IsTrue false ↔ InSteps s n
+pub holds_under : (s : Progression) (n : ℕ) → n < s.first → IsTrue false ↔ InProgression s n
 holds_under s n h = (λ x. absurd cc, λ x. absurd (let t = in_first s n x in omega (arith, t)))
 
-pub holds_one : (s : Steps) (n : ℕ) → s.first ≤ n → (s.count ≡ 0) ⊎ (s.step ≡ 0) → IsTrue (n - s.first == 0) ↔ InSteps s n
-unfolding InSteps
+pub holds_one : (s : Progression) (n : ℕ) → s.first ≤ n → (s.count ≡ 0) ⊎ (s.step ≡ 0) → IsTrue (n - s.first == 0) ↔ InProgression s n
+unfolding InProgression
 holds_one s n h k =
     let still : (i : ℕ) → i ≤ s.count → i * s.step ≡ 0 = λ i l. elim k [
       | inl z ↦ no_step i s.step (omega (arith, l, z))
@@ -171,8 +171,8 @@ holds_one s n h k =
       λ (i, l, e). zero_is (n - s.first) (let z = still i l in let t : n - s.first ≡ 0 = omega (arith, z, e) in t),
     )
 
-pub holds_steps : (s : Steps) (n : ℕ) → s.first ≤ n → (s.step ≡ 0 → ⊥) → (n - s.first) % s.step ≡ 0 → IsTrue (nat_le ((n - s.first) / s.step) s.count) ↔ InSteps s n
-unfolding InSteps
+pub holds_steps : (s : Progression) (n : ℕ) → s.first ≤ n → (s.step ≡ 0 → ⊥) → (n - s.first) % s.step ≡ 0 → IsTrue (nat_le ((n - s.first) / s.step) s.count) ↔ InProgression s n
+unfolding InProgression
 holds_steps s n h pos exact =
     let over = n - s.first in
     let q = over / s.step in
@@ -181,20 +181,20 @@ holds_steps s n h pos exact =
       λ (i, l, e). le_is q s.count (let i_is : i * s.step ≡ over = omega (arith, e) in let t : q ≡ i = ap (λ k. k / s.step) (sym i_is) ∙ mul-div_left i (omega (arith, pos)) in omega (arith, t, l)),
     )
 
-pub holds_between : (s : Steps) (n : ℕ) → s.first ≤ n → ((n - s.first) % s.step ≡ 0 → ⊥) → IsTrue ((n - s.first) % s.step == 0) ↔ InSteps s n
-unfolding InSteps
+pub holds_between : (s : Progression) (n : ℕ) → s.first ≤ n → ((n - s.first) % s.step ≡ 0 → ⊥) → IsTrue ((n - s.first) % s.step == 0) ↔ InProgression s n
+unfolding InProgression
 holds_between s n h off = (
   λ x. absurd (off (is_zero ((n - s.first) % s.step) x)),
   λ (i, l, e). absurd (off (let i_is : i * s.step ≡ n - s.first = omega (arith, e) in ap (λ k. k % s.step) (sym i_is) ∙ mul-mod_left i s.step)),
 )
 
--- ---- A number, and at most so many more.
+-- ---- A number, and at most this many more.
 
-pub near_under : (s : Steps) (slack n : ℕ) → n < s.first → IsTrue false ↔ Plus (InSteps s) (AtMost slack) n
+pub near_under : (s : Progression) (slack n : ℕ) → n < s.first → IsTrue false ↔ Plus (InProgression s) (AtMost slack) n
 near_under s slack n h = (λ x. absurd cc, λ (j, k, a, b, e). absurd (let t = in_first s j a in omega (arith, t, e)))
 
-pub near_one : (s : Steps) (slack n : ℕ) → s.first ≤ n → s.step ≡ 0 → IsTrue (nat_le (n - s.first) slack) ↔ Plus (InSteps s) (AtMost slack) n
-unfolding InSteps
+pub near_one : (s : Progression) (slack n : ℕ) → s.first ≤ n → s.step ≡ 0 → IsTrue (nat_le (n - s.first) slack) ↔ Plus (InProgression s) (AtMost slack) n
+unfolding InProgression
 near_one s slack n h z = (
   λ x. (s.first, n - s.first, first_in s, is_le (n - s.first) slack x, (let t : s.first + (n - s.first) ≡ n = omega (arith, h) in t)),
   λ (j, k, (i, l, e), b, t). le_is (n - s.first) slack (let few : k ≤ slack = b in let still : i * s.step ≡ 0 = rw z (mul-zero i) in let u : n - s.first ≤ slack = omega (arith, e, few, t, still) in u),
@@ -204,8 +204,8 @@ near_one s slack n h z = (
 last_step : (d over count i : ℕ) → (d ≡ 0 → ⊥) → i ≡ min (over / d) count → i * d ≤ over
 last_step d over count i pos e = (le-div_iff_mul-le {k = d} {x = i} {y = over} (omega (arith, pos))).0 (omega (arith, e))
 
-pub near_steps : (s : Steps) (slack n i : ℕ) → s.first ≤ n → (s.step ≡ 0 → ⊥) → i ≡ min ((n - s.first) / s.step) s.count → IsTrue (nat_le (n - s.first - i * s.step) slack) ↔ Plus (InSteps s) (AtMost slack) n
-unfolding InSteps
+pub near_steps : (s : Progression) (slack n i : ℕ) → s.first ≤ n → (s.step ≡ 0 → ⊥) → i ≡ min ((n - s.first) / s.step) s.count → IsTrue (nat_le (n - s.first - i * s.step) slack) ↔ Plus (InProgression s) (AtMost slack) n
+unfolding InProgression
 near_steps s slack n i h pos is =
     let over = n - s.first in
     let fits : i * s.step ≤ over = last_step s.step over s.count i pos is in (
@@ -222,7 +222,7 @@ near_steps s slack n i h pos is =
 
 -- ---- The numbers of both.
 
-pub join_one : (s more : Steps) (r : Option Steps) → more.count ≡ 0 → IfSome r (λ t. (m : ℕ) → InSteps t m ↔ (InSteps s m ⊎ (m ≡ more.first))) → IfSome r (λ t. (m : ℕ) → InSteps t m ↔ (InSteps s m ⊎ InSteps more m))
+pub join_one : (s more : Progression) (r : Option Progression) → more.count ≡ 0 → IfSome r (λ t. (m : ℕ) → InProgression t m ↔ (InProgression s m ⊎ (m ≡ more.first))) → IfSome r (λ t. (m : ℕ) → InProgression t m ↔ (InProgression s m ⊎ InProgression more m))
 join_one s more None z h = tt
 join_one s more (Some t) z h = λ m.
     let one = one_number more z m in (

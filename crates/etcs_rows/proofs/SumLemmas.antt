@@ -134,7 +134,7 @@ set_free_one b s row rest v n e none hb h =
           (h m).1 (j, (hb j).1 ((lengths-free rest k 0 o j).0 l, (let t : j ≤ 8191 = omega (arith, wide, small) in t)), (let t : j + width v ≡ m = omega (arith, wide) in t), small),
     ))
 
--- the first variable and the rest, by the groups in front of the rest and what stands behind them
+-- the first variable and the rest, by the groups in front of the rest and what follows them
 pub set_first : (a w b s : LengthSet) (v : Var) (rest : Layout) (low high : ℕ) → IsSet a (GroupsWithin v rest low high) → ((m : ℕ) → In w m ↔ ((k : ℕ) × In a k × (k + width v ≡ m) × (m ≤ 8191))) → IsSet b (LengthsBy (behind rest) 0)
     → ((m : ℕ) → In s m ↔ (Plus (In w) (In b) m × (m ≤ 8191))) → IsSet s (FirstWithin v rest low high)
 set_first a w b s v rest low high ha hw hb h m = (
@@ -164,7 +164,7 @@ set_first a w b s v rest low high ha hw hb h m = (
       ),
 )
 
--- ---- The groups behind a number that is not known.
+-- ---- The groups after a number that is not known.
 
 abbrev pub GroupsBelow : Var → (ℕ → ℕ → Type 0) → ℕ → ℕ → ℕ → Type 0
 GroupsBelow v F low next m = (n : ℕ) × (low ≤ n) × (n < next) × IsTrue (admits v n) × F n m
@@ -227,7 +227,7 @@ no_items (x ∷ xs) e = absurd (omega (arith, e))
 pub set_no_front : (s : LengthSet) (row : Layout) (n : ℕ) → ((m : ℕ) → In s m ↔ (m ≡ 0)) → front row ≡ whole → IsSet s (LengthsBy (front row) n)
 set_no_front s row n h e = set_whole s (front row) n h e
 
--- ---- What waits behind the current group.
+-- ---- What waits after the current group.
 
 pub set_none_waiting : (s : LengthSet) → ((m : ℕ) → In s m ↔ (m ≡ 0)) → IsSet s (LengthsBy (waiting []) 0)
 set_none_waiting s h = set_whole s whole 0 h refl
@@ -303,7 +303,7 @@ free_append (counted group rest) tail o h = absurd cc
 pub free_place : (c : Cursor) (v : Var) (rest : List RowItem) → c.items.now ≡ One v ∷ rest → begins_with_group (layout rest) ≡ false → IsTrue (is_free (left_of c))
 free_place c v rest e h = rw e (free_append (layout rest) (waiting (reverse c.pending.items)) (Open-waiting (reverse c.pending.items)) h)
 
--- ---- One counted group behind a number that is not known.
+-- ---- One counted group after a number that is not known.
 
 pub power_more : (n : ℕ) (A : ℕ → Type 0) (s next : LengthSet) → SumsOf n A s → ((m : ℕ) → In next m ↔ (Plus A (In s) m × (m ≤ 8191))) → SumsOf (n + 1) A next
 power_more n A s next h all = rw add-one (times_more n A s next h all)

@@ -1,9 +1,9 @@
 -- Sums of lengths whose parts are added one after another.
 use Rattle.std.proofs.Common.{◌≡◌, ℕ, ◌+◌, ◌≤◌, Option, Some, None, refl, sym, subst, arith}
-use Rattle.etcs_rows.specs.declared.steps.Steps.{Steps}
+use Rattle.etcs_rows.specs.declared.progression.Progression.{Progression}
 use Rattle.etcs_rows.specs.declared.total.Times.{Times}
 use Rattle.etcs_rows.specs.declared.total.Total.{Total}
-use Rattle.etcs_rows.specs.Steps.{InSteps, AreSteps, TimesWithin, AtMost}
+use Rattle.etcs_rows.specs.Progressions.{InProgression, IsProgression, TimesWithin, AtMost}
 use Rattle.etcs_rows.specs.Sums.{Plus}
 use Rattle.etcs_rows.specs.Totals.{InTimes, InTotal, AreTotal}
 use Rattle.etcs_rows.proofs.LengthLemmas.{SameSet, set_along, set_back, set_self, Plus-same}
@@ -15,24 +15,24 @@ unfolding InTotal
 total_first t m (j, k, a, b, e) = let l = in_first t.steps j a in omega (arith, l, e)
 
 -- its parts, by what is known of the group
-pub total_parts : (t : Total) (o : Option Times) → t.times ≡ o → SameSet (Plus (InSteps t.steps) (Plus (InTimes o) (AtMost t.slack))) (InTotal t)
+pub total_parts : (t : Total) (o : Option Times) → t.times ≡ o → SameSet (Plus (InProgression t.steps) (Plus (InTimes o) (AtMost t.slack))) (InTotal t)
 unfolding InTotal
-total_parts t o e = rw (sym e) (set_self (Plus (InSteps t.steps) (Plus (InTimes t.times) (AtMost t.slack))))
+total_parts t o e = rw (sym e) (set_self (Plus (InProgression t.steps) (Plus (InTimes t.times) (AtMost t.slack))))
 
 -- the same by other names
-named : (t : Total) (s : Steps) (o : Option Times) (slack : ℕ) → t.steps ≡ s → t.times ≡ o → t.slack ≡ slack → SameSet (Plus (InSteps s) (Plus (InTimes o) (AtMost slack))) (InTotal t)
+named : (t : Total) (s : Progression) (o : Option Times) (slack : ℕ) → t.steps ≡ s → t.times ≡ o → t.slack ≡ slack → SameSet (Plus (InProgression s) (Plus (InTimes o) (AtMost slack))) (InTotal t)
 named t s o slack d e f =
-    subst (λ (x : ℕ). SameSet (Plus (InSteps s) (Plus (InTimes o) (AtMost x))) (InTotal t)) f
-    (subst (λ (x : Steps). SameSet (Plus (InSteps x) (Plus (InTimes o) (AtMost t.slack))) (InTotal t)) d (total_parts t o e))
+    subst (λ (x : ℕ). SameSet (Plus (InProgression s) (Plus (InTimes o) (AtMost x))) (InTotal t)) f
+    (subst (λ (x : Progression). SameSet (Plus (InProgression x) (Plus (InTimes o) (AtMost t.slack))) (InTotal t)) d (total_parts t o e))
 
-pub total_free : (t : Total) → t.times ≡ None → SameSet (Plus (InSteps t.steps) (AtMost t.slack)) (InTotal t)
+pub total_free : (t : Total) → t.times ≡ None → SameSet (Plus (InProgression t.steps) (AtMost t.slack)) (InTotal t)
 total_free t e =
-    let S = InSteps t.steps in let K = AtMost t.slack in let Z : ℕ → Type 0 = λ m. m ≡ 0 in
+    let S = InProgression t.steps in let K = AtMost t.slack in let Z : ℕ → Type 0 = λ m. m ≡ 0 in
     set_along (Plus S K) (Plus S (Plus Z K)) (InTotal t) (Plus-same S K S (Plus Z K) (set_self S) (zero-Plus K)) (total_parts t None e)
 
-pub total_new : (t : Total) (s : Steps) (slack : ℕ) → t.steps ≡ s → t.times ≡ None → t.slack ≡ slack → AreTotal t (Plus (InSteps s) (AtMost slack))
+pub total_new : (t : Total) (s : Progression) (slack : ℕ) → t.steps ≡ s → t.times ≡ None → t.slack ≡ slack → AreTotal t (Plus (InProgression s) (AtMost slack))
 total_new t s slack d e f =
-    let S = InSteps s in let K = AtMost slack in let Z : ℕ → Type 0 = λ m. m ≡ 0 in
+    let S = InProgression s in let K = AtMost slack in let Z : ℕ → Type 0 = λ m. m ≡ 0 in
     set_back (Plus S K) (InTotal t) (set_along (Plus S K) (Plus S (Plus Z K)) (InTotal t) (Plus-same S K S (Plus Z K) (set_self S) (zero-Plus K)) (named t s None slack d e f))
 
 -- no slack
@@ -56,26 +56,26 @@ between S K T m = (
   λ (y, k, (j, l, s, b, e), h, f). (j, k + l, s, (k, l, h, b, refl), (let t : j + (k + l) ≡ m = omega (arith, e, f) in t)),
 )
 
-pub total_plus : (t u : Total) (more : Steps) → u.times ≡ t.times → u.slack ≡ t.slack → AreSteps u.steps (Plus (InSteps t.steps) (InSteps more)) → AreTotal u (Plus (InTotal t) (InSteps more))
+pub total_plus : (t u : Total) (more : Progression) → u.times ≡ t.times → u.slack ≡ t.slack → IsProgression u.steps (Plus (InProgression t.steps) (InProgression more)) → AreTotal u (Plus (InTotal t) (InProgression more))
 total_plus t u more e f h =
-    let S = InSteps t.steps in let U = InSteps u.steps in let M = InSteps more in let R = Plus (InTimes t.times) (AtMost t.slack) in
+    let S = InProgression t.steps in let U = InProgression u.steps in let M = InProgression more in let R = Plus (InTimes t.times) (AtMost t.slack) in
     let all : SameSet (Plus U R) (InTotal u) = named u u.steps t.times t.slack refl e f in
     let own : SameSet (Plus S R) (InTotal t) = total_parts t t.times refl in
     set_along (InTotal u) (Plus U R) (Plus (InTotal t) M) (set_back (Plus U R) (InTotal u) all)
     (set_along (Plus U R) (Plus (Plus S M) R) (Plus (InTotal t) M) (Plus-same U R (Plus S M) R h (set_self R))
     (set_along (Plus (Plus S M) R) (Plus (Plus S R) M) (Plus (InTotal t) M) (λ m. (last_first S M R m, last_first S R M m)) (Plus-same (Plus S R) M (InTotal t) M own (set_self M))))
 
-pub total_steps : (t u : Total) (s : Steps) → u.steps ≡ s → u.times ≡ t.times → u.slack ≡ t.slack → SameSet (Plus (InTotal u) (InSteps t.steps)) (Plus (InTotal t) (InSteps s))
+pub total_steps : (t u : Total) (s : Progression) → u.steps ≡ s → u.times ≡ t.times → u.slack ≡ t.slack → SameSet (Plus (InTotal u) (InProgression t.steps)) (Plus (InTotal t) (InProgression s))
 total_steps t u s d e f =
-    let S = InSteps t.steps in let N = InSteps s in let R = Plus (InTimes t.times) (AtMost t.slack) in
+    let S = InProgression t.steps in let N = InProgression s in let R = Plus (InTimes t.times) (AtMost t.slack) in
     let all : SameSet (Plus N R) (InTotal u) = named u s t.times t.slack d e f in
     let own : SameSet (Plus S R) (InTotal t) = total_parts t t.times refl in
     set_along (Plus (InTotal u) S) (Plus (Plus N R) S) (Plus (InTotal t) N) (Plus-same (InTotal u) S (Plus N R) S (set_back (Plus N R) (InTotal u) all) (set_self S))
     (set_along (Plus (Plus N R) S) (Plus (Plus S R) N) (Plus (InTotal t) N) (λ m. (turned N R S m, turned S R N m)) (Plus-same (Plus S R) N (InTotal t) N own (set_self N)))
 
-pub total_with : (t u : Total) (group : Steps) (first last : ℕ) → t.times ≡ None → u.steps ≡ t.steps → u.times ≡ Some (record { group = group; first = first; last = last }) → u.slack ≡ t.slack → AreTotal u (Plus (InTotal t) (TimesWithin group first last))
+pub total_with : (t u : Total) (group : Progression) (first last : ℕ) → t.times ≡ None → u.steps ≡ t.steps → u.times ≡ Some (record { group = group; first = first; last = last }) → u.slack ≡ t.slack → AreTotal u (Plus (InTotal t) (TimesWithin group first last))
 total_with t u group first last none d e f =
-    let S = InSteps t.steps in let K = AtMost t.slack in let T = TimesWithin group first last in
+    let S = InProgression t.steps in let K = AtMost t.slack in let T = TimesWithin group first last in
     let all : SameSet (Plus S (Plus T K)) (InTotal u) = named u t.steps (Some (record { group = group; first = first; last = last })) t.slack d e f in
     set_along (InTotal u) (Plus S (Plus T K)) (Plus (InTotal t) T) (set_back (Plus S (Plus T K)) (InTotal u) all)
     (set_along (Plus S (Plus T K)) (Plus (Plus S K) T) (Plus (InTotal t) T) (between S K T) (Plus-same (Plus S K) T (InTotal t) T (total_free t none) (set_self T)))

@@ -22,7 +22,7 @@ use Rattle.etcs_rows.specs.declared.walk.Stopped.{Stopped}
 use Rattle.etcs_rows.specs.declared.walk.Stopped.TheVariants.{Refused}
 use Rattle.etcs_tables.specs.Layouts.{Layout, whole, one, guarded, counted, looks, Reads, ReadsIn}
 use Rattle.etcs_rows.specs.Places.{first_variable, after_number}
-use Rattle.etcs_rows.specs.Walks.{WalkValue, WalkKept, ReadTo, Follows, Ends, Steps, Walks, walk_of}
+use Rattle.etcs_rows.specs.Walks.{WalkValue, WalkKept, ReadTo, Follows, Ends, TakesBit, Walks, walk_of}
 
 pub some_same : {v w : Var} → ◌≡◌ {A = Option Var} (Some v) (Some w) → v ≡ w
 some_same e = cc
@@ -123,10 +123,10 @@ module _ (old new : FeederValue RowRest) (b : Bool) (x : Var) (first : first_var
     grown : length (old.part ++ b ∷ []) ≡ length old.part + 1
     grown = length-append old.part (b ∷ [])
 
-    pub more_step : length old.part + 1 < width x → Kept new × Steps (walk old) b (Ok More) (walk new)
+    pub more_step : length old.part + 1 < width x → Kept new × TakesBit (walk old) b (Ok More) (walk new)
     more_step short = by_read read
       where
-        by_read : OneRead → Kept new × Steps (walk old) b (Ok More) (walk new)
+        by_read : OneRead → Kept new × TakesBit (walk old) b (Ok More) (walk new)
         by_read (inl (same, len, part)) =
             let next : first_variable new.rest.place ≡ Some x = ap first_variable same ∙ first in
             let long : length new.part ≡ length old.part + 1 = ap length part ∙ grown in (
@@ -154,10 +154,10 @@ module _ (old new : FeederValue RowRest) (b : Bool) (x : Var) (first : first_var
           let empty = ap length gone in
           kept_on (λ v e. (let w = width_pos v in omega (arith, empty, w))) (omega (arith, kept.small, h.1, len, empty, long, inside))
 
-      pub number_step : (y : Var) → first_variable new.rest.place ≡ Some y → length new.part < width y → Owner (ReadsIn new.rest.place new.rest.len) new.part y → Kept new × Steps (walk old) b (Ok (Number x (bits * 2 + d))) (walk new)
+      pub number_step : (y : Var) → first_variable new.rest.place ≡ Some y → length new.part < width y → Owner (ReadsIn new.rest.place new.rest.len) new.part y → Kept new × TakesBit (walk old) b (Ok (Number x (bits * 2 + d))) (walk new)
       number_step y next short own = by_read read
         where
-          by_read : OneRead → Kept new × Steps (walk old) b (Ok (Number x (bits * 2 + d))) (walk new)
+          by_read : OneRead → Kept new × TakesBit (walk old) b (Ok (Number x (bits * 2 + d))) (walk new)
           by_read (inl (same, len, part)) =
               let w = ap width (some_same (sym next ∙ ap first_variable same ∙ first)) in
               absurd (omega (arith, ap length part ∙ grown, short, w, long))
@@ -165,16 +165,16 @@ module _ (old new : FeederValue RowRest) (b : Bool) (x : Var) (first : first_var
               let o = (h.2.more y next).1 in
               (kept_ended part len, (rw none refl, (ends n after len part is, o.viable, o.open_end, goes_on new.rest.place y new.rest.len next (own.viable.0, own.viable.2))))
 
-      pub whole_step : first_variable new.rest.place ≡ None → ReadsIn new.rest.place new.rest.len [] → Kept new × Steps (walk old) b (Ok (Whole x (bits * 2 + d))) (walk new)
+      pub whole_step : first_variable new.rest.place ≡ None → ReadsIn new.rest.place new.rest.len [] → Kept new × TakesBit (walk old) b (Ok (Whole x (bits * 2 + d))) (walk new)
       whole_step next reads = by_read read
         where
-          by_read : OneRead → Kept new × Steps (walk old) b (Ok (Whole x (bits * 2 + d))) (walk new)
+          by_read : OneRead → Kept new × TakesBit (walk old) b (Ok (Whole x (bits * 2 + d))) (walk new)
           by_read (inl (same, len, part)) = absurd (let no : ◌≡◌ {A = Option Var} None (Some x) = sym next ∙ ap first_variable same ∙ first in cc)
           by_read (inr (n, after, len, part, is)) =
               (kept_ended part len, (rw none refl, (ends n after len part is, h.2.done next, whole_row new.rest.place next new.rest.looks_well, sym reads.1)))
 
   -- a bit that is refused
-  pub refused_step : (i : ℕ) (y : Var) → Fed old (b ∷ []) (Err (stop.Refused i y)) new → Kept new × Steps (walk old) b (Err (Refused y)) (walk new)
+  pub refused_step : (i : ℕ) (y : Var) → Fed old (b ∷ []) (Err (stop.Refused i y)) new → Kept new × TakesBit (walk old) b (Err (Refused y)) (walk new)
   refused_step i y (why, count, n, at, r) =
       let here : n ≡ 0 = omega (arith, r.refuses.within, length-append old.part (b ∷ [])) in
       let bits : spelled r.passed.whole ++ new.part ≡ old.part = r.passed.bits ∙ rw here (append-nil old.part) in
@@ -205,10 +205,10 @@ none_before old new u h = by_stop old.stop h
     by_stop (Some s) (e, same) = absurd cc
 
 pub refused_again : (old new : FeederValue RowRest) (b : Bool) (x : Var) → first_variable old.rest.place ≡ Some x → Kept old → (why : Stop) (i : ℕ) (y : Var) → why ≡ stop.Refused i y → (old.stop ≡ None → Fed old (b ∷ []) (Err why) new)
-    → IfSome old.stop (λ (s : Stop). (◌≡◌ {A = Result (Unit {0}) Stop} (Err why) (Err s)) × (new ≡ old)) → Kept new × Steps (walk old) b (Err (Refused y)) (walk new)
+    → IfSome old.stop (λ (s : Stop). (◌≡◌ {A = Result (Unit {0}) Stop} (Err why) (Err s)) × (new ≡ old)) → Kept new × TakesBit (walk old) b (Err (Refused y)) (walk new)
 refused_again old new b x first kept why i y why_is going stopped = by_stop old.stop refl stopped
   where
-    by_stop : (o : Option Stop) → old.stop ≡ o → IfSome o (λ (s : Stop). (◌≡◌ {A = Result (Unit {0}) Stop} (Err why) (Err s)) × (new ≡ old)) → Kept new × Steps (walk old) b (Err (Refused y)) (walk new)
+    by_stop : (o : Option Stop) → old.stop ≡ o → IfSome o (λ (s : Stop). (◌≡◌ {A = Result (Unit {0}) Stop} (Err why) (Err s)) × (new ≡ old)) → Kept new × TakesBit (walk old) b (Err (Refused y)) (walk new)
     by_stop None none h = refused_step old new b x first kept none i y (subst (λ (s : Stop). Fed old (b ∷ []) (Err s) new) why_is (going none))
     by_stop (Some s) some (e, same) =
         let is : s ≡ why = cc in
@@ -235,13 +235,13 @@ num_first zero n pos = absurd (omega arith)
 num_first (suc w) n pos = let e : suc w - 1 ≡ w = omega arith in rw e refl
 
 -- the first bit ends it
-pub walks_stop : (w : WalkValue) (n bits : ℕ) (result stop : Result Step Stopped) (new : WalkValue) → 0 < n → result ≡ stop → (stop ≡ Ok More → ⊥) → Steps w (bits / 2 ^ (n - 1) % 2 == 1) result new → Walks w (num n bits) stop new
-walks_stop w n bits result stop new pos is ends step = rw (num_first n bits pos) (inl (ends, subst (λ (r : Result Step Stopped). Steps w (bits / 2 ^ (n - 1) % 2 == 1) r new) is step))
+pub walks_stop : (w : WalkValue) (n bits : ℕ) (result stop : Result Step Stopped) (new : WalkValue) → 0 < n → result ≡ stop → (stop ≡ Ok More → ⊥) → TakesBit w (bits / 2 ^ (n - 1) % 2 == 1) result new → Walks w (num n bits) stop new
+walks_stop w n bits result stop new pos is ends step = rw (num_first n bits pos) (inl (ends, subst (λ (r : Result Step Stopped). TakesBit w (bits / 2 ^ (n - 1) % 2 == 1) r new) is step))
 
 -- the first bit continues
-pub walks_more : (w mid : WalkValue) (n bits : ℕ) (step : Step) (first result : Result Step Stopped) (new : WalkValue) → 0 < n → first ≡ Ok step → step ≡ More → Steps w (bits / 2 ^ (n - 1) % 2 == 1) first mid → Walks mid (num (n - 1) bits) result new → Walks w (num n bits) result new
+pub walks_more : (w mid : WalkValue) (n bits : ℕ) (step : Step) (first result : Result Step Stopped) (new : WalkValue) → 0 < n → first ≡ Ok step → step ≡ More → TakesBit w (bits / 2 ^ (n - 1) % 2 == 1) first mid → Walks mid (num (n - 1) bits) result new → Walks w (num n bits) result new
 walks_more w mid n bits step first result new pos is more steps rest =
-    rw (num_first n bits pos) (inr (mid, subst (λ (r : Result Step Stopped). Steps w (bits / 2 ^ (n - 1) % 2 == 1) r mid) (is ∙ ap (λ (s : Step). Ok s) more) steps, rest))
+    rw (num_first n bits pos) (inr (mid, subst (λ (r : Result Step Stopped). TakesBit w (bits / 2 ^ (n - 1) % 2 == 1) r mid) (is ∙ ap (λ (s : Step). Ok s) more) steps, rest))
 
 -- no bits are left
 pub walks_none : (w : WalkValue) (n bits : ℕ) → n ≡ 0 → Walks w (num n bits) (Ok More) w

@@ -27,7 +27,7 @@ after_test : (b : Bool) (x y : Layout) → (if b then Some x else None) ≡ Some
 after_test true x y e = (refl, let t : x ≡ y = cc in t)
 after_test false x y e = absurd cc
 
--- what is left behind a number that the row admits
+-- what is left after a number that the row admits
 pub after_one : (v : Var) (rest mid : Layout) (n : ℕ) → after_number (one v rest) n ≡ Some mid → IsTrue (admits v n) × (onto n rest whole ≡ mid)
 after_one v rest mid n e = after_test (admits v n) (onto n rest whole) mid e
 

@@ -41,7 +41,7 @@ next_one (one x rest) v e = (rest, (let same : v ≡ x = cc in ap (λ k. one k r
 next_one (guarded g group rest) v e = absurd cc
 next_one (counted group rest) v e = absurd cc
 
--- what is left behind its number
+-- what is left after its number
 next_left : (left left' : Layout) (v : Var) (n : ℕ) (rest : Layout) → one v rest ≡ left → after_any left n ≡ Some left' → onto n rest whole ≡ left'
 next_left left left' v n rest is after = let a : Some (onto n rest whole) ≡ Some left' = subst (λ (x : Layout). after_any x n ≡ Some left') (sym is) after in cc
 
@@ -59,7 +59,7 @@ whole_reads r n f reads e = let t : numbers [] ≡ n ∷ f = sym (ap numbers rea
 
 -- ---- Whether numbers are admitted.
 
--- one number, and those behind it
+-- one number, and those after it
 admits_one : (v : Var) (rest : Layout) (n taken : ℕ) (f : List ℕ) → IsTrue (looks None (one v rest)) → AdmitsRest (one v rest) (n ∷ f) taken ↔ (IsTrue (admits v n) × AdmitsRest (onto n rest whole) f (taken + width v))
 admits_one v rest n taken f sound = (
   λ (all, reads, e, h).
@@ -86,7 +86,7 @@ admits_next {left} {f} {n} {taken} {v} w g some a =
     let h = x.1.3 in
     (x.0, (let t : taken + width v ≤ ROW_LIMIT = omega (arith, h) in t))
 
--- behind a number
+-- after a number
 pub admits_step : {row left left' : Layout} {fields g f : List ℕ} {n taken : ℕ} {v : Var} → Admits row left fields g taken → g ≡ n ∷ f → Some v ≡ first_variable left → IsTrue (admits v n) → taken + width v ≤ ROW_LIMIT → after_any left n ≡ Some left' → Admits row left' fields f (taken + width v)
 admits_step {row} {left} {left'} {fields} {g} {f} {n} {taken} {v} w e some ok small after =
     let o = next_one left v some in
@@ -160,7 +160,7 @@ writes_fits {row} {left} {fields} {g} {f} {done} {n} {v} w e some =
     let len : length (spelled w.rest) ≡ width v + length (spelled x.0) = ap (λ (r : Reading). length (spelled r)) x.1 ∙ length-sent v n x.0 in
     ((admits_parts v n x.3).1, (let t : length done + width v ≤ length (spelled w.all) = omega (arith, len, writes_length w) in t))
 
--- behind a number
+-- after a number
 pub writes_step : {row left left' : Layout} {fields g f : List ℕ} {done : List Bool} {n : ℕ} {v : Var} → Writes row left fields g done → g ≡ n ∷ f → Some v ≡ first_variable left → after_any left n ≡ Some left' → Writes row left' fields f (done ++ num (width v) n)
 writes_step {row} {left} {left'} {fields} {g} {f} {done} {n} {v} w e some after =
     let o = next_one left v some in
@@ -189,7 +189,7 @@ writes_done {row} {left} {fields} {g} {done} w e =
 spells_all : {row left : Layout} {fields g : List ℕ} {done : List Bool} → (w : Writes row left fields g done) → Spells row [] fields (spelled w.all)
 spells_all w = (w.all, w.all_reads, w.all_numbers, refl)
 
--- ---- Bits behind others.
+-- ---- Bits after others.
 
 pub appends_begin : {row : Layout} {fields : List ℕ} {before : List Bool} → AdmitsFields row fields → IsTrue (looks None row) → Appends row row fields fields before before
 appends_begin {before} admitted sound = record { done = []; writes = writes_begin admitted sound; stands = sym (append-nil before) }
@@ -216,7 +216,7 @@ appends_done w e = (w.done, writes_done w.writes e, w.stands)
 pub puts_begin : {row : Layout} {fields : List ℕ} {start : ℕ} {before : List Bool} → AdmitsFields row fields → IsTrue (looks None row) → Puts row row fields fields start before start before
 puts_begin {start} {before} admitted sound = record { done = []; writes = writes_begin admitted sound; stands = sym (replaced_none start before); place = (let t : start ≡ start + 0 = omega arith in t) }
 
--- the place behind the next number's bits is not behind the row's
+-- the place after the next number's bits is not after the row's
 pub puts_below : {row left : Layout} {fields g f : List ℕ} {start at : ℕ} {before now : List Bool} {n limit : ℕ} {v : Var} → Puts row left fields g start before at now → g ≡ n ∷ f → Some v ≡ first_variable left → ((b : List Bool) → Spells row [] fields b → start + length b ≤ limit) → at + width v ≤ limit
 puts_below w e some inside =
     let all = inside (spelled w.writes.all) (spells_all w.writes) in

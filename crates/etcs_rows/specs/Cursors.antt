@@ -5,7 +5,7 @@ use Rattle.etcs_rows.specs.declared.place.Cursor.{Cursor}
 use Rattle.etcs_tables.specs.Layouts.{Layout, whole, layout, begins, nests}
 use Rattle.etcs_rows.specs.Lengths.{LengthsBy}
 use Rattle.etcs_rows.specs.Places.{onto, iterate}
-use Rattle.etcs_rows.specs.Steps.{AreSteps}
+use Rattle.etcs_rows.specs.Progressions.{IsProgression}
 use Rattle.etcs_rows.specs.Sums.{Plus}
 
 -- the groups that wait, the innermost first
@@ -21,11 +21,11 @@ left_of c = onto c.before (layout c.items.now) (waiting (reverse c.pending.items
 
 -- the steps that are kept are the lengths of the group
 abbrev pub KnowsSteps : Pending → Type 0
-KnowsSteps p = IfSome p.steps (λ s. AreSteps s (LengthsBy (layout p.group.now) p.before))
+KnowsSteps p = IfSome p.steps (λ s. IsProgression s (LengthsBy (layout p.group.now) p.before))
 
--- the tail that is kept are the lengths of what stands behind the group, with the groups that wait further out
+-- the tail that is kept are the lengths of what follows the group, with the groups that wait further out
 abbrev pub KnowsTail : Pending → List Pending → Type 0
-KnowsTail p ps = IfSome p.tail (λ s. AreSteps s (Plus (LengthsBy (layout p.items.now) p.before) (LengthsBy (waiting ps) 0)))
+KnowsTail p ps = IfSome p.tail (λ s. IsProgression s (Plus (LengthsBy (layout p.items.now) p.before) (LengthsBy (waiting ps) 0)))
 
 abbrev pub WaitsNest : List Pending → Type 0
 WaitsNest [] = Unit {0}

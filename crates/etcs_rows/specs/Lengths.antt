@@ -10,7 +10,7 @@ use Rattle.etcs_rows.specs.Sums.{Plus, SumOf}
 abbrev pub LengthOf : (Reading → Type 0) → ℕ → Type 0
 LengthOf L m = (r : Reading) × L r × (length (spelled r) ≡ m)
 
--- the lengths of a row behind a variable whose number is n
+-- the lengths of a row after a variable whose number is n
 unfoldable pub LengthsBy : Layout → ℕ → ℕ → Type 0
 LengthsBy whole n m = m ≡ 0
 LengthsBy (one v rest) n m = (k : ℕ) × (j : ℕ) × IsTrue (admits v k) × LengthsBy rest k j × (width v + j ≡ m)
@@ -40,7 +40,7 @@ begins_with_group (counted group rest) = true
 abbrev pub SetsWithin : Var → (ℕ → ℕ → Type 0) → ℕ → ℕ → ℕ → Type 0
 SetsWithin v F low high m = (n : ℕ) × (low ≤ n) × (n ≤ high) × IsTrue (admits v n) × F n m
 
--- the lengths of the groups in front of rest, behind a number of v from low to high
+-- the lengths of the groups in front of rest, after a number of v from low to high
 abbrev pub GroupsWithin : Var → Layout → ℕ → ℕ → ℕ → Type 0
 GroupsWithin v rest low high m = (n : ℕ) × (low ≤ n) × (n ≤ high) × IsTrue (admits v n) × LengthsBy (front rest) n m
 

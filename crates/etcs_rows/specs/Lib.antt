@@ -4,7 +4,7 @@ pub mod Lengths
 pub mod Messages
 pub mod Places
 pub mod Sets
-pub mod Steps
+pub mod Progressions
 pub mod Sums
 pub mod Totals
 pub mod Waiting

@@ -7,7 +7,7 @@ use Rattle.etcs_tables.specs.Rows.{message_row_to}
 use Rattle.etcs_tables.specs.MessageRows.{header_bits}
 use Rattle.etcs_rows.specs.Frames.{Leaves}
 
--- header and row leave what may be left in so many bytes
+-- header and row leave what may be left in this many bytes
 abbrev pub TypedLength : Way → ℕ → ℕ → Type 0
 TypedLength way nid l = (row : Layout) × (m : ℕ) × (message_row_to way nid ≡ Some row) × Lengths row [] m × Leaves (Message way) (8 * l) (header_bits way + m)
 

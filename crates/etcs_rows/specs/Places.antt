@@ -6,7 +6,7 @@ use Rattle.etcs_vars.specs.Vars.{admits}
 use Rattle.etcs_vars.specs.Reading.{Reading, numbers}
 use Rattle.etcs_tables.specs.Layouts.{Layout, whole, one, guarded, counted, Reads, passes, looks, Lengths}
 
--- a row, and behind it another
+-- a row, and after it another
 abbrev pub append : Layout → Layout → Layout
 append whole tail = tail
 append (one v rest) tail = one v (append rest tail)
@@ -17,7 +17,7 @@ abbrev pub iterate : ℕ → (Layout → Layout) → Layout → Layout
 iterate zero f x = x
 iterate (suc n) f x = f (iterate n f x)
 
--- a row behind a variable whose number is n, and behind it another: the groups in front stand there as n says
+-- a row after a variable whose number is n, and after it another: the groups in front are there as n says
 abbrev pub onto : ℕ → Layout → Layout → Layout
 onto n whole tail = tail
 onto n (one v rest) tail = one v (append rest tail)
@@ -31,21 +31,21 @@ first_variable (one v rest) = Some v
 first_variable (guarded g group rest) = None
 first_variable (counted group rest) = None
 
--- what is left behind a number of the next variable
+-- what is left after a number of the next variable
 abbrev pub after_number : Layout → ℕ → Option Layout
 after_number whole n = None
 after_number (one v rest) n = if admits v n then Some (onto n rest whole) else None
 after_number (guarded g group rest) n = None
 after_number (counted group rest) n = None
 
--- what is left behind a number of the next variable, admitted or not
+-- what is left after a number of the next variable, admitted or not
 abbrev pub after_any : Layout → ℕ → Option Layout
 after_any whole n = None
 after_any (one v rest) n = Some (onto n rest whole)
 after_any (guarded g group rest) n = None
 after_any (counted group rest) n = None
 
--- what is left of a row behind these numbers of it
+-- what is left of a row after these numbers of it
 abbrev pub left_behind : Layout → List ℕ → Option Layout
 left_behind row [] = Some row
 left_behind row (n ∷ f) = option_and_then (λ left. left_behind left f) (after_number row n)
@@ -62,7 +62,7 @@ read_of row (n ∷ f) = one_more (first_variable row) (after_number row n) n (λ
 
 -- ---- What a place says of the row.
 
--- readings of the row that begin with the numbers f are the readings of what is left, behind the pairs in front of it;
+-- readings of the row that begin with the numbers f are the readings of what is left, after the pairs in front of it;
 -- where nothing is left, there are none
 abbrev pub StandsFor : Layout → List ℕ → Reading → Option Layout → Type 0
 StandsFor row f front (Some left) =
@@ -71,10 +71,10 @@ StandsFor row f front (Some left) =
     × ((r : Reading) (tail : Reading) → Reads row [] (r ++ tail) → numbers r ≡ f → r ≡ front)
 StandsFor row f front None = (r : Reading) (tail : Reading) → Reads row [] (r ++ tail) → numbers r ≡ f → ⊥
 
--- what is left behind numbers of a row stands for them
+-- what is left after numbers of a row stands for them
 abbrev pub PlacesStand : Type 0
 PlacesStand = (row : Layout) (f : List ℕ) → IsTrue (looks None row) → StandsFor row f (read_of row f) (left_behind row f)
 
--- so many bits may follow the numbers as what is left may take
+-- this many bits may follow the numbers as what is left may take
 abbrev pub PlacesMeasure : Type 0
 PlacesMeasure = (row left : Layout) (f : List ℕ) → IsTrue (looks None row) → left_behind row f ≡ Some left → (n : ℕ) → Lengths row f n ↔ Lengths left [] n

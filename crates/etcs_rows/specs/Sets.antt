@@ -20,11 +20,11 @@ In s n = Has s.words n
 abbrev pub IsSet : LengthSet → (ℕ → Type 0) → Type 0
 IsSet s A = (m : ℕ) → In s m ↔ (A m × (m ≤ 8191))
 
--- word i of the words moved up by so many words
+-- word i of the words moved up by this many words
 abbrev pub moved_word : ℕ → List ℕ → ℕ → ℕ
 moved_word by words i = if nat_lt i by then 0 else get_or words (i - by) 0
 
--- a word shifted up by so many bits, and under it the top bits of the word before
+-- a word shifted up by this many bits, and under it the top bits of the word before
 abbrev pub shifted_word : ℕ → ℕ → ℕ → ℕ
 shifted_word by word before = bit_or (word * 2 ^ by % 2 ^ 64) (before / 2 ^ 1 / 2 ^ (63 - by))
 

@@ -2,17 +2,17 @@
 use Rattle.std.specs.Prelude.{◌≡◌, ℕ, ◌↔◌, Option, Some, None}
 use Rattle.etcs_rows.specs.declared.total.Times.{Times}
 use Rattle.etcs_rows.specs.declared.total.Total.{Total}
-use Rattle.etcs_rows.specs.Steps.{InSteps, TimesWithin, AtMost}
+use Rattle.etcs_rows.specs.Progressions.{InProgression, TimesWithin, AtMost}
 use Rattle.etcs_rows.specs.Sums.{Plus}
 
--- the lengths of a group as often as it may stand, and 0 where there is none
+-- the lengths of a group as often as it may are there, and 0 where there is none
 abbrev pub InTimes : Option Times → ℕ → Type 0
 InTimes None m = m ≡ 0
 InTimes (Some t) m = TimesWithin t.group t.first t.last m
 
 -- a number of the steps, one of the group and one of the slack, added
 unfoldable pub InTotal : Total → ℕ → Type 0
-InTotal t m = Plus (InSteps t.steps) (Plus (InTimes t.times) (AtMost t.slack)) m
+InTotal t m = Plus (InProgression t.steps) (Plus (InTimes t.times) (AtMost t.slack)) m
 
 -- the numbers are those of A
 abbrev pub AreTotal : Total → (ℕ → Type 0) → Type 0

@@ -26,7 +26,7 @@ pub record WalkValue : Type 0 where
 abbrev pub language : WalkValue → Reading → Type 0
 language w = ReadsIn w.left w.len
 
--- t are the bits of the variable x of the number n, which goes on to what is left then
+-- t are the bits of the variable x of the number n, which continues to what is left then
 abbrev pub Ends : WalkValue → List Bool → Var → ℕ → WalkValue → Type 0
 Ends old t x n new =
     (first_variable old.left ≡ Some x)
@@ -37,7 +37,7 @@ Ends old t x n new =
     × (new.part ≡ [])
     × (new.refused ≡ None)
 
--- the bits t of the next variable were taken: it isn't whole yet, or it is and the row goes on, or the row is whole
+-- the bits t of the next variable were taken: it isn't whole yet, or it is and the row continues, or the row is whole
 abbrev pub Moves : WalkValue → List Bool → Step → WalkValue → Type 0
 Moves old t More new = (x : Var) × (first_variable old.left ≡ Some x) × (length t < width x) × Owner (language old) t x × (new ≡ record old { part = t })
 Moves old t (Number x n) new = Ends old t x n new × Viable (language old) t × (InLanguage (language old) t → ⊥) × (0 < new.len)
@@ -48,17 +48,17 @@ abbrev pub IsDone : WalkValue → Type 0
 IsDone w = (w.refused ≡ None) × (w.left ≡ whole) × (w.len ≡ 0)
 
 -- what a bit does
-abbrev pub Steps : WalkValue → Bool → Result Step Stopped → WalkValue → Type 0
-Steps old b (Ok step) new = (old.refused ≡ None) × Moves old (old.part ++ b ∷ []) step new
-Steps old b (Err (Refused x)) new =
+abbrev pub TakesBit : WalkValue → Bool → Result Step Stopped → WalkValue → Type 0
+TakesBit old b (Ok step) new = (old.refused ≡ None) × Moves old (old.part ++ b ∷ []) step new
+TakesBit old b (Err (Refused x)) new =
     ((old.refused ≡ None) × Owner (language old) old.part x × (Viable (language old) (old.part ++ b ∷ []) → ⊥) × (new ≡ record old { refused = Some x }))
     ⊎ ((old.refused ≡ Some x) × (new ≡ old))
-Steps old b (Err Ended) new = (old.refused ≡ None) × (old.left ≡ whole) × (old.len ≡ 0) × (new ≡ old)
+TakesBit old b (Err Ended) new = (old.refused ≡ None) × (old.left ≡ whole) × (old.len ≡ 0) × (new ≡ old)
 
--- what several bits do, one after the other, up to the first that ends a variable or isn't taken
+-- what several bits do, one after another, up to the first that ends a variable or isn't taken
 abbrev pub Walks : WalkValue → List Bool → Result Step Stopped → WalkValue → Type 0
 Walks old [] result new = (result ≡ Ok More) × (new ≡ old)
-Walks old (b ∷ bs) result new = ((result ≡ Ok More → ⊥) × Steps old b result new) ⊎ ((mid : WalkValue) × Steps old b (Ok More) mid × Walks mid bs result new)
+Walks old (b ∷ bs) result new = ((result ≡ Ok More → ⊥) × TakesBit old b result new) ⊎ ((mid : WalkValue) × TakesBit old b (Ok More) mid × Walks mid bs result new)
 
 -- what a feeder of a row stands for
 abbrev pub refused_by : Option Stop → Option Var
@@ -78,7 +78,7 @@ pub record WalkKept (left : Layout) (len : ℕ) (part : List Bool) (count : ℕ)
 
 -- ---- All bits of a row.
 
--- the pairs p were read of a row of len bits: left is what is left of it, in so many bits
+-- the pairs p were read of a row of len bits: left is what is left of it, in this many bits
 abbrev pub ReadTo : Layout → ℕ → Reading → Layout → ℕ → Type 0
 ReadTo row len [] left bits = (left ≡ row) × (bits ≡ len)
 ReadTo row len ((v, n) ∷ p) left bits = (mid : Layout) × (first_variable row ≡ Some v) × (after_number row n ≡ Some mid) × (width v ≤ len) × ReadTo mid (len - width v) p left bits
@@ -88,7 +88,7 @@ pub record Follows (row : Layout) (len : ℕ) (p : Reading) (left : Layout) (bit
   pub residual : Residual (ReadsIn row len) p (ReadsIn left bits)
   pub read : ReadTo row len p left bits
 
--- behind p the bits t go on in the row as they do in what is left of it
+-- after p the bits t continue in the row as they do in what is left of it
 pub record GoesOnAs (row : Layout) (len : ℕ) (p : Reading) (left : Layout) (bits : ℕ) (t : List Bool) : Type 0 where
   pub viable : Viable (ReadsIn row len) (spelled p ++ t) ↔ Viable (ReadsIn left bits) t
   pub spelling : InLanguage (ReadsIn row len) (spelled p ++ t) ↔ InLanguage (ReadsIn left bits) t

@@ -4,7 +4,7 @@ use Rattle.etcs_bits.specs.Bits.{replaced}
 use Rattle.etcs_vars.specs.Reading.{Reading, spelled, numbers}
 use Rattle.etcs_tables.specs.Layouts.{Layout, Reads, Spells, AdmitsFields, ROW_LIMIT, looks}
 
--- what is left of a row admits the numbers to come, behind so many bits
+-- what is left of a row admits the numbers to come, after this many bits
 abbrev pub AdmitsRest : Layout → List ℕ → ℕ → Type 0
 AdmitsRest left f taken = (r : Reading) × Reads left [] r × (numbers r ≡ f) × (taken + length (spelled r) ≤ ROW_LIMIT)
 
@@ -25,13 +25,13 @@ pub record Writes (row left : Layout) (fields to_come : List ℕ) (done : List B
   pub rest_numbers : numbers rest ≡ to_come
   pub completes : done ++ spelled rest ≡ spelled all
 
--- the bits done stand behind those before
+-- the bits done follow those before
 pub record Appends (row left : Layout) (fields to_come : List ℕ) (before now : List Bool) : Type 0 where
   pub done : List Bool
   pub writes : Writes row left fields to_come done
   pub stands : now ≡ before ++ done
 
--- the bits done stand from start up to at
+-- the bits done are those from start up to at
 pub record Puts (row left : Layout) (fields to_come : List ℕ) (start : ℕ) (before : List Bool) (at : ℕ) (now : List Bool) : Type 0 where
   pub done : List Bool
   pub writes : Writes row left fields to_come done

@@ -1,4 +1,4 @@
-//! Whether what is left of a row may take so many bits, by sums of lengths in equal steps.
+//! Whether what is left of a row may take this many bits, by sums of lengths in equal steps.
 //!
 //! `None` says that the lengths met aren't in equal steps, or too many; then the sets of lengths decide.
 
@@ -7,49 +7,49 @@ ghost use Rattle.etcs_vars.specs.Vars.{width, admits};
 ghost use Rattle.etcs_tables.specs.Layouts.{layout};
 ghost use Rattle.etcs_rows.specs.Lengths.{LengthsBy, behind, GroupsWithin, FitsWithin};
 ghost use Rattle.etcs_rows.specs.Sums.{Plus, SumOf};
-ghost use Rattle.etcs_rows.specs.Steps.{InSteps, AreSteps};
+ghost use Rattle.etcs_rows.specs.Progressions.{InProgression, IsProgression};
 ghost use Rattle.etcs_rows.specs.Totals.{InTotal};
 ghost use Rattle.etcs_rows.specs.Cursors.{waiting, left_of, Nests, WaitsNest, KnowsSteps};
 ghost use Rattle.etcs_rows.specs.Waiting.{Agains, Tails, Onward};
 
 use crate::measure::behind_groups;
 use crate::place::{Cursor, Pending};
-use crate::steps::{
-    Steps, counted_within, groups_steps, leading, steps_each, steps_of, times_steps,
+use crate::progression::{
+    Progression, counted_within, groups_steps, leading, steps_each, steps_of, times_steps,
 };
 use crate::total::Total;
 use etcs_tables::RowItem;
 use etcs_vars::Var;
 
-/// How many bits a group may take, as often as it still stands.
-fn again_steps(pending: &Pending) -> Option<Steps>
+/// How many bits a group may take, as often as it still occurs.
+fn again_steps(pending: &Pending) -> Option<Progression>
     requires { KnowsSteps pending.now }
-    ensures { IfSome result (λ s. AreSteps s (SumOf pending.now.times (LengthsBy (layout pending.now.group.now) pending.now.before))) }
+    ensures { IfSome result (λ s. IsProgression s (SumOf pending.now.times (LengthsBy (layout pending.now.group.now) pending.now.before))) }
 {
     if pending.times == 0 {
-        return Some(Steps::single(0));
+        return Some(Progression::single(0));
     }
     pending.steps?.times(pending.times)
 }
 
-/// How many bits the groups that wait may take, as often as they still stand.
-fn waiting_steps(waiting: &[Pending]) -> Option<Steps>
+/// How many bits the groups that wait may take, as often as they still occur.
+fn waiting_steps(waiting: &[Pending]) -> Option<Progression>
     requires { WaitsNest (reverse waiting.now) }
-    ensures { IfSome result (λ s. AreSteps s (Agains (reverse waiting.now))) }
+    ensures { IfSome result (λ s. IsProgression s (Agains (reverse waiting.now))) }
 {
     match waiting.split_last() {
-        None => Some(Steps::single(0)),
+        None => Some(Progression::single(0)),
         Some((pending, outer)) => again_steps(pending)?.plus(waiting_steps(outer)?),
     }
 }
 
-/// How many bits may be left behind the current items, if that is known without a walk over the groups that wait.
-fn known_steps(outer: &[Pending]) -> Option<Steps>
+/// How many bits may be left after the current items, if that is known without a walk over the groups that wait.
+fn known_steps(outer: &[Pending]) -> Option<Progression>
     requires { WaitsNest (reverse outer.now) }
-    ensures { IfSome result (λ s. AreSteps s (LengthsBy (waiting (reverse outer.now)) 0)) }
+    ensures { IfSome result (λ s. IsProgression s (LengthsBy (waiting (reverse outer.now)) 0)) }
 {
     match outer.split_last() {
-        None => Some(Steps::single(0)),
+        None => Some(Progression::single(0)),
         Some((pending, _)) => {
             let tail = pending.tail?;
             again_steps(pending)?.plus(tail)
@@ -57,19 +57,23 @@ fn known_steps(outer: &[Pending]) -> Option<Steps>
     }
 }
 
-/// How many bits may be left, where these items come next behind a number.
+/// How many bits may be left, where these items come next after a number.
 #[inline]
-pub(crate) fn tail_steps(items: &'static [RowItem], before: u64, outer: &[Pending]) -> Option<Steps>
+pub(crate) fn tail_steps(
+    items: &'static [RowItem],
+    before: u64,
+    outer: &[Pending],
+) -> Option<Progression>
     requires { WaitsNest (reverse outer.now) }
-    ensures { IfSome result (λ s. AreSteps s (Plus (LengthsBy (layout items.now) before) (LengthsBy (waiting (reverse outer.now)) 0))) }
+    ensures { IfSome result (λ s. IsProgression s (Plus (LengthsBy (layout items.now) before) (LengthsBy (waiting (reverse outer.now)) 0))) }
 {
     let all = known_steps(outer)?;
     steps_of(items, before)?.plus(all)
 }
 
-/// Whether a number of a variable and what may be left behind it take so many bits.
-fn fits_with(var: Var, number: u64, left: Steps, bits: usize) -> bool
-    ensures { IsTrue result ↔ (IsTrue (admits var number) × ((j : ℕ) × InSteps left j × (width var + j ≡ bits)) × (bits ≤ 8191)) }
+/// Whether a number of a variable and what may be left after it take this many bits.
+fn fits_with(var: Var, number: u64, left: Progression, bits: usize) -> bool
+    ensures { IsTrue result ↔ (IsTrue (admits var number) × ((j : ℕ) × InProgression left j × (width var + j ≡ bits)) × (bits ≤ 8191)) }
 {
     let width = var.width();
     if bits > 8191 {
@@ -84,7 +88,7 @@ fn fits_with(var: Var, number: u64, left: Steps, bits: usize) -> bool
     left.holds(bits - width)
 }
 
-/// Whether so many bits may be left of the row, where this is the number of the variable in front.
+/// Whether this many bits may be left of the row, where this is the number of the variable in front.
 #[inline(always)]
 pub(crate) fn fits_at(cursor: &Cursor, number: u64, bits: usize) -> Option<bool>
     requires { Nests cursor.now }
@@ -99,13 +103,13 @@ pub(crate) fn fits_at(cursor: &Cursor, number: u64, bits: usize) -> Option<bool>
     }
 }
 
-/// Whether items that begin with a variable, and what is behind the groups that wait, bring the sum to so many bits.
+/// Whether items that begin with a variable, and what is after the groups that wait, bring the sum to this many bits.
 #[cycle(fitting)]
 fn onward(sum: Total, items: &'static [RowItem], waiting: &[Pending], bits: usize) -> Option<bool>
     ensures { IfSome result (λ b. IsTrue b ↔ Plus (InTotal sum) (Onward items.now waiting.now) bits) }
 {
     let (width, behind) = leading(items)?;
-    let sum = sum.plus(Steps::single(width))?;
+    let sum = sum.plus(Progression::single(width))?;
     if sum.steps.first > bits {
         return Some(false);
     }
@@ -120,7 +124,7 @@ fn turn(sum: Total, items: &'static [RowItem], waiting: &[Pending], bits: usize)
     match items.split_first() {
         None => leave(sum, waiting, bits),
         Some((RowItem::One(var), rest)) => {
-            let sum = sum.plus(Steps::single(var.width()))?;
+            let sum = sum.plus(Progression::single(var.width()))?;
             choose(sum, *var, rest, 0, u64::MAX, waiting, bits)
         }
         Some((RowItem::When(_, _), _)) => None,
@@ -128,7 +132,7 @@ fn turn(sum: Total, items: &'static [RowItem], waiting: &[Pending], bits: usize)
     }
 }
 
-/// Whether what is behind the groups that wait brings the sum to so many bits.
+/// Whether what is after the groups that wait brings the sum to this many bits.
 #[cycle(fitting)]
 fn leave(sum: Total, waiting: &[Pending], bits: usize) -> Option<bool>
     ensures { IfSome result (λ b. IsTrue b ↔ Plus (InTotal sum) (Tails (reverse waiting.now)) bits) }
@@ -145,7 +149,7 @@ fn leave(sum: Total, waiting: &[Pending], bits: usize) -> Option<bool>
     }
 }
 
-/// Whether the groups behind a number of a variable from low to high, and what is behind them, bring the sum to so many bits.
+/// Whether the groups after a number of a variable from low to high, and what follows, bring the sum to this many bits.
 #[cycle(fitting)]
 fn choose(
     sum: Total,
@@ -207,16 +211,16 @@ fn choose_each(
     Some(false)
 }
 
-/// Whether a number of `more`, and then what `onward` counts, bring the sum to so many bits.
+/// Whether a number of `more`, and then what `onward` counts, bring the sum to this many bits.
 #[cycle(fitting)]
 fn spread(
     sum: Total,
-    more: Steps,
+    more: Progression,
     items: &'static [RowItem],
     waiting: &[Pending],
     bits: usize,
 ) -> Option<bool>
-    ensures { IfSome result (λ b. IsTrue b ↔ Plus (InTotal sum) (Plus (InSteps more) (Onward items.now waiting.now)) bits) }
+    ensures { IfSome result (λ b. IsTrue b ↔ Plus (InTotal sum) (Plus (InProgression more) (Onward items.now waiting.now)) bits) }
 {
     match sum.plus(more) {
         Some(all) => {
@@ -241,18 +245,18 @@ fn spread(
 #[cycle(fitting)]
 fn spread_each(
     sum: Total,
-    more: Steps,
+    more: Progression,
     items: &'static [RowItem],
     waiting: &[Pending],
     bits: usize,
 ) -> Option<bool>
-    ensures { IfSome result (λ b. IsTrue b ↔ Plus (InTotal sum) (Plus (InSteps more) (Onward items.now waiting.now)) bits) }
+    ensures { IfSome result (λ b. IsTrue b ↔ Plus (InTotal sum) (Plus (InProgression more) (Onward items.now waiting.now)) bits) }
 {
     if more.count > 31 {
         return None;
     }
     for index in 0..more.count + 1 {
-        let one = Steps::single(more.at(index)?);
+        let one = Progression::single(more.at(index)?);
         if onward(sum.plus(one)?, items, waiting, bits)? {
             return Some(true);
         }
@@ -260,7 +264,7 @@ fn spread_each(
     Some(false)
 }
 
-/// Whether so many bits may be left of the row, where the number of the variable in front is from low to high.
+/// Whether this many bits may be left of the row, where the number of the variable in front is from low to high.
 pub(crate) fn fits_by_steps(cursor: &Cursor, low: u64, high: u64, bits: usize) -> Option<bool>
     requires { Nests cursor.now }
     ensures { IfSome result (λ b. IsTrue b ↔ FitsWithin (left_of cursor.now) low high bits) }
@@ -271,7 +275,7 @@ pub(crate) fn fits_by_steps(cursor: &Cursor, low: u64, high: u64, bits: usize) -
                 return Some(false);
             }
             let waiting = cursor.pending.as_slice();
-            let sum = waiting_steps(waiting)?.plus(Steps::single(var.width()))?;
+            let sum = waiting_steps(waiting)?.plus(Progression::single(var.width()))?;
             choose(Total::new(sum, 0), *var, rest, low, high, waiting, bits)
         }
         _ => None,

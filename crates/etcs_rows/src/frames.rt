@@ -16,7 +16,7 @@ use etcs_tables::{
 pub enum Carrier {
     /// A telegram, which goes to the train and which packet 255 closes.
     Telegram,
-    /// A message this way, with at most 7 bits of padding behind its last packet.
+    /// A message this way, with at most 7 bits of padding after its last packet.
     Message(Way),
 }
 
@@ -33,7 +33,7 @@ impl Carrier {
     }
 }
 
-/// The most bits of padding behind the last packet of a message.
+/// The most bits of padding after the last packet of a message.
 pub const MOST_PADDING: usize = 7;
 
 /// The least and the greatest number of `width` bits that begins with `bits` and has `rest` bits more.
@@ -50,7 +50,7 @@ fn ends(width: usize, rest: usize, bits: u64) -> (usize, usize)
     (low, low + ((1 << rest) - 1))
 }
 
-/// Numbers of bits behind a frame, from `low` to below `end`.
+/// Numbers of bits after a frame, from `low` to below `end`.
 #[derive(Clone, Copy)]
 struct Window {
     low: usize,
@@ -80,12 +80,12 @@ impl Window {
     }
 }
 
-/// The numbers of bits behind a frame that leave what may be left behind the packet.
+/// The numbers of bits after a frame that leave what may be left after the packet.
 #[derive(Clone, Copy)]
 struct Windows {
-    /// With room for what must stand behind.
+    /// With room for what must follow it.
     followed: Window,
-    /// With padding alone behind.
+    /// With padding alone after it.
     last: Window,
 }
 
@@ -150,7 +150,7 @@ impl Windows {
     }
 }
 
-/// Whether some L_PACKET fits that is `bits` with `rest` bits more behind them, for a packet of this number
+/// Whether some L_PACKET fits that is `bits` with `rest` bits more after them, for a packet of this number
 /// where `room` bits are left, counted from the packet's first bit.
 pub fn length_fits(carrier: Carrier, nid: u8, room: usize, rest: usize, bits: u64) -> bool
     requires rest { rest ≤ 13 }
@@ -220,7 +220,7 @@ fn any_framed(carrier: Carrier, room: usize, low: u8, high: u8) -> bool
     false
 }
 
-/// Whether some NID_PACKET fits that is `bits` with `rest` bits more behind them, where `room` bits are left,
+/// Whether some NID_PACKET fits that is `bits` with `rest` bits more after them, where `room` bits are left,
 /// counted from the packet's first bit.
 pub fn number_fits(carrier: Carrier, room: usize, rest: usize, bits: u64) -> bool
     requires rest { rest ≤ 8 }

@@ -13,7 +13,7 @@ pub fn one_spelling()
     ensures { OneSpelling }
 {}
 
-/// A place that was given numbers of a row stands for them: a reading of the row goes on behind them exactly as a reading
+/// A place that was given numbers of a row stands for them: a reading of the row continues after them just as a reading
 /// of what is left there, in as many bits; and where nothing is left, no reading of the row begins with them.
 pub fn places()
     ensures readings { PlacesStand }

@@ -117,7 +117,7 @@ fn add_lanes(sums: &mut [u64], at: usize, words: &[u64], before: usize, bits: u6
     sum.copy_to_slice(&mut sums[at..]);
 }
 
-/// Takes in the numbers of the other words with `by` more, in so many blocks of four words from `at` on.
+/// Takes in the numbers of the other words with `by` more, in this many blocks of four words from `at` on.
 fn add_blocks(sums: &mut [u64; 128], words: &[u64; 128], by: usize, at: usize, blocks: usize)
     requires under { by / 64 < at }
     requires room { at + blocks * 4 ≤ 128 }

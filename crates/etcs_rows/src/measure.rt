@@ -10,7 +10,7 @@ use crate::length_set::LengthSet;
 use etcs_tables::RowItem;
 use etcs_vars::Var;
 
-/// What stands behind the groups in front.
+/// What follows the groups in front.
 pub(crate) fn behind_groups(items: &'static [RowItem]) -> &'static [RowItem]
     ensures behind { layout result.now ≡ behind (layout items.now) }
     ensures shorter { length result.now ≤ length items.now }
@@ -28,7 +28,7 @@ pub(crate) fn behind_groups(items: &'static [RowItem]) -> &'static [RowItem]
     }
 }
 
-/// Whether a group stands in front, which looks at the number before it.
+/// Whether a group is in front, which looks at the number before it.
 pub(crate) fn has_group(items: &'static [RowItem]) -> bool
     ensures { result ≡ begins_with_group (layout items.now) }
 {
@@ -39,7 +39,7 @@ pub(crate) fn has_group(items: &'static [RowItem]) -> bool
     }
 }
 
-/// How many bits a row may take behind a number.
+/// How many bits a row may take after a number.
 #[cycle(lengths)]
 pub(crate) fn lengths_of(items: &'static [RowItem], before: u64) -> LengthSet
     ensures { IsSet result (LengthsBy (layout items.now) before) }
@@ -71,7 +71,7 @@ pub(crate) fn lengths_of(items: &'static [RowItem], before: u64) -> LengthSet
     }
 }
 
-/// How many bits the groups in front may take behind a number.
+/// How many bits the groups in front may take after a number.
 #[cycle(lengths)]
 fn groups_at(items: &'static [RowItem], before: u64) -> LengthSet
     ensures { IsSet result (LengthsBy (front (layout items.now)) before) }
@@ -97,7 +97,7 @@ fn groups_at(items: &'static [RowItem], before: u64) -> LengthSet
     }
 }
 
-/// How many bits a group may take that stands as often as the number of a variable says, from low to high.
+/// How many bits a group may take that occurs as often as the number of a variable says, from low to high.
 fn counted_within(var: Var, group: &LengthSet, low: u64, high: u64) -> LengthSet
     ensures { IsSet result (SetsWithin var (λ n. SumOf n (In group.now)) low high) }
 {
@@ -113,7 +113,7 @@ fn counted_within(var: Var, group: &LengthSet, low: u64, high: u64) -> LengthSet
     all
 }
 
-/// How many bits the groups in front may take behind a number of a variable from low to high.
+/// How many bits the groups in front may take after a number of a variable from low to high.
 #[cycle(lengths)]
 fn groups_within(var: Var, rest: &'static [RowItem], low: u64, high: u64) -> LengthSet
     ensures { IsSet result (GroupsWithin var (layout rest.now) low high) }

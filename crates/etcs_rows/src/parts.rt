@@ -37,7 +37,7 @@ pub fn unfinished(walk: &RowWalk) -> (u64, usize)
 ///
 /// # Errors
 ///
-/// Those of [`RowWalk::bit`]. After `Refused` the bits before the refused one stand as the unfinished
+/// Those of [`RowWalk::bit`]. After `Refused` the bits before the refused one remain as the unfinished
 /// variable.
 pub fn take(walk: &mut RowWalk, count: usize, bits: u64) -> Result<Step, Stopped>
     requires some { 0 < count }

@@ -9,7 +9,7 @@ ghost use Rattle.etcs_rows.specs.Places.{first_variable, after_any, after_number
 use crate::fitting::{fits_at, fits_by_steps, meets_by_steps, tail_steps};
 use crate::length_set::LengthSet;
 use crate::measure::{first_lengths, has_group, lengths_of};
-use crate::steps::{Steps, steps_again};
+use crate::progression::{Progression, steps_again};
 use arrayvec::ArrayVec;
 use etcs_tables::{Guard, Row, RowItem};
 use etcs_vars::Var;
@@ -18,17 +18,17 @@ use std::marker::Model;
 /// A group that is being read, or is about to be.
 #[derive(Clone, Copy)]
 pub struct Pending {
-    /// The group's items, and how often it still stands there after this time.
+    /// The group's items, and how often it still occurs there after this time.
     pub group: &'static [RowItem],
     pub times: u64,
-    /// What stands behind the group.
+    /// What follows the group.
     pub items: &'static [RowItem],
     /// The number just before the group.
     pub before: u64,
     /// How many bits the group may take each time, if that was asked for and is in equal steps.
-    pub steps: Option<Steps>,
-    /// How many bits all may take that stands behind the group and waits further out, likewise.
-    pub tail: Option<Steps>,
+    pub steps: Option<Progression>,
+    /// How many bits all may take that follows the group and waits further out, likewise.
+    pub tail: Option<Progression>,
 }
 
 impl Default for Pending {
@@ -56,7 +56,7 @@ pub struct Cursor {
 impl Cursor {
     ghost use Rattle.etcs_rows.specs.Cursors.{left_of, Nests, IsSettled, cursor_size};
 
-    /// Behind the end of a group: the group again, or what stands behind it. Answers whether a variable comes next.
+    /// After the end of a group: the group again, or what follows it. Answers whether a variable comes next.
     fn leave(&mut self) -> bool
         requires ended { self.old.items.now ≡ [] }
         requires nests { Nests self.old }
@@ -258,7 +258,7 @@ impl Place {
         }
     }
 
-    /// What is left behind a number of the next variable, if it is admitted.
+    /// What is left after a number of the next variable, if it is admitted.
     pub fn after(&self, number: u64) -> Option<Place>
         ensures { result ≡ after_number self.now number }
     {
@@ -308,7 +308,7 @@ impl Place {
         }
     }
 
-    /// Whether so many bits may be left of the row, where the number of the next variable is from low to high.
+    /// Whether this many bits may be left of the row, where the number of the next variable is from low to high.
     #[inline(never)]
     pub(crate) fn fits(&self, low: u64, high: u64, bits: usize) -> bool
         ensures { IsTrue result ↔ FitsWithin self.now low high bits }
@@ -348,7 +348,7 @@ impl Place {
         }
     }
 
-    /// Whether so many bits, at most 8191, may be left of the row.
+    /// Whether this many bits, at most 8191, may be left of the row.
     pub(crate) fn can_take(&self, bits: usize) -> bool
         ensures { IsTrue result ↔ Lengths self.now [] bits }
     {
@@ -380,7 +380,7 @@ pub fn lengths(place: &Place) -> LengthSet
     place.lengths()
 }
 
-/// Whether what is left of the row has a spelling of so many bits, at most 8191.
+/// Whether what is left of the row has a spelling of this many bits, at most 8191.
 pub fn reaches(place: &Place, bits: usize) -> bool
     ensures { IsTrue result ↔ Lengths place.now [] bits }
 {

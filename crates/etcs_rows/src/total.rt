@@ -1,33 +1,33 @@
 //! Sums of lengths whose parts are added one after another.
 
 ghost use Rattle.std.specs.Prelude.{◌↔◌, ℕ, IsTrue, IfSome};
-ghost use Rattle.etcs_rows.specs.Steps.{InSteps, TimesWithin, AtMost};
+ghost use Rattle.etcs_rows.specs.Progressions.{InProgression, TimesWithin, AtMost};
 ghost use Rattle.etcs_rows.specs.Totals.{InTotal, AreTotal};
 ghost use Rattle.etcs_rows.specs.Sums.{Plus};
 
-use crate::steps::Steps;
+use crate::progression::Progression;
 
-/// How many bits a group takes each time, and how often it may stand.
+/// How many bits a group takes each time, and how often it may occur.
 #[derive(Clone, Copy)]
 pub struct Times {
-    pub group: Steps,
+    pub group: Progression,
     pub first: u64,
     pub last: u64,
 }
 
-/// The sums of numbers in equal steps, of a group as often as it may stand, and of at most `slack` more. How often the
-/// group stands is tried only at the end.
+/// The sums of numbers in equal steps, of a group as often as it may are there, and of at most `slack` more. How often the
+/// group is is tried only at the end.
 #[derive(Clone, Copy)]
 pub struct Total {
-    pub steps: Steps,
+    pub steps: Progression,
     pub times: Option<Times>,
     pub slack: usize,
 }
 
 impl Total {
     /// Numbers in equal steps, with at most `slack` more.
-    pub(crate) fn new(steps: Steps, slack: usize) -> Total
-        ensures { AreTotal result (Plus (InSteps steps) (AtMost slack)) }
+    pub(crate) fn new(steps: Progression, slack: usize) -> Total
+        ensures { AreTotal result (Plus (InProgression steps) (AtMost slack)) }
     {
         Total {
             steps,
@@ -37,22 +37,22 @@ impl Total {
     }
 
     /// With a number of other steps added, if all are in equal steps.
-    pub(crate) fn plus(self, more: Steps) -> Option<Total>
-        ensures { IfSome result (λ t. AreTotal t (Plus (InTotal self) (InSteps more))) }
+    pub(crate) fn plus(self, more: Progression) -> Option<Total>
+        ensures { IfSome result (λ t. AreTotal t (Plus (InTotal self) (InProgression more))) }
     {
         let steps = self.steps.plus(more)?;
         Some(Total { steps, ..self })
     }
 
     /// With other steps in place of its own.
-    pub(crate) fn with_steps(self, steps: Steps) -> Total
-        ensures { (m : ℕ) → Plus (InTotal result) (InSteps self.steps) m ↔ Plus (InTotal self) (InSteps steps) m }
+    pub(crate) fn with_steps(self, steps: Progression) -> Total
+        ensures { (m : ℕ) → Plus (InTotal result) (InProgression self.steps) m ↔ Plus (InTotal self) (InProgression steps) m }
     {
         Total { steps, ..self }
     }
 
-    /// With a group that stands from first to last times, if it has none.
-    pub(crate) fn with(self, group: Steps, first: u64, last: u64) -> Option<Total>
+    /// With a group that occurs from first to last times, if it has none.
+    pub(crate) fn with(self, group: Progression, first: u64, last: u64) -> Option<Total>
         ensures { IfSome result (λ t. AreTotal t (Plus (InTotal self) (TimesWithin group first last))) }
     {
         match self.times {
@@ -75,9 +75,9 @@ impl Total {
     }
 }
 
-/// Whether a number of the steps, a group as often as it may stand, and at most `slack` more make the number.
-fn any_times(sum: Steps, times: Times, slack: usize, number: usize) -> Option<bool>
-    ensures { IfSome result (λ b. IsTrue b ↔ Plus (InSteps sum) (Plus (TimesWithin times.group times.first times.last) (AtMost slack)) number) }
+/// Whether a number of the steps, a group as often as it may are there, and at most `slack` more make the number.
+fn any_times(sum: Progression, times: Times, slack: usize, number: usize) -> Option<bool>
+    ensures { IfSome result (λ b. IsTrue b ↔ Plus (InProgression sum) (Plus (TimesWithin times.group times.first times.last) (AtMost slack)) number) }
 {
     let end = times.last.checked_add(1)?;
     for count in times.first..end {

@@ -5,7 +5,7 @@ ghost use Rattle.etcs_bits.specs.Bits.{bit, num};
 ghost use Rattle.etcs_vars.specs.Vars.{width};
 ghost use Rattle.etcs_tables.specs.Layouts.{layout, whole, Lengths};
 ghost use Rattle.etcs_rows.specs.Places.{first_variable};
-ghost use Rattle.etcs_rows.specs.Walks.{Steps, Walks, IsDone};
+ghost use Rattle.etcs_rows.specs.Walks.{TakesBit, Walks, IsDone};
 
 use crate::place::Place;
 use crate::rest::RowRest;
@@ -111,7 +111,7 @@ impl RowWalk {
         ensures bits { self.now.part ≡ num result.1 result.0 }
         ensures small { result.0 < 2 ^ result.1 }
     {
-        self.feeder.part()
+        self.feeder.unfinished()
     }
 
     /// How many bits the next variable wants. 0 where the row is whole.
@@ -120,24 +120,24 @@ impl RowWalk {
         ensures whole { self.now.left ≡ whole → result ≡ 0 }
     {
         match self.feeder.var() {
-            Some(var) => var.width() - self.feeder.part().1,
+            Some(var) => var.width() - self.feeder.unfinished().1,
             None => 0,
         }
     }
 
-    /// Takes a bit, and tells whether it ended a variable or the row with it.
+    /// Takes a bit, and says whether it ended a variable or the row with it.
     ///
     /// # Errors
     ///
     /// `Refused` where no spelling of the row continues so, with the variable that holds the bit. Each later
     /// call answers it again. `Ended` where the row was whole.
     pub fn bit(&mut self, b: bool) -> Result<Step, Stopped>
-        ensures { Steps self.old b result self.new }
+        ensures { TakesBit self.old b result self.new }
     {
         let Some(var) = self.holder() else {
             return Err(Stopped::Ended);
         };
-        let (bits, taken) = self.feeder.part();
+        let (bits, taken) = self.feeder.unfinished();
         let number = bits * 2 + digit(b);
         match self.feeder.bit(b) {
             Ok(()) if taken + 1 < var.width() => Ok(Step::More),

@@ -57,7 +57,7 @@ pub fn write_row(row: Row, fields: &[u64], out: &mut Bits) -> Result<(), AllocEr
 }
 
 /// Writes the one spelling of the numbers, which the row must admit, into `bytes` from the bit `start` on, without
-/// memory, and answers the place behind it, in bits. All other bits stay. It must end inside `bytes`, below bit 2^64.
+/// memory, and answers the place after it, in bits. All other bits stay. It must end inside `bytes`, below bit 2^64.
 pub fn put_row(row: Row, fields: &[u64], bytes: &mut [u8], start: usize) -> usize
     requires admitted { AdmitsFields (layout row.items.now) fields.now }
     requires inside { (b : List Bool) → Spells (layout row.items.now) [] fields.now b → start + length b ≤ length (bits bytes.old) }

@@ -18,7 +18,7 @@ use Rattle.etcs_sequence.specs.declared.stage.Stage.{Stage}
 use Rattle.etcs_sequence.specs.declared.stage.Stage.TheVariants.{Number, Marker, Direction, Length, Row, Kept, Closed}
 use Rattle.etcs_sequence.specs.Lefts.{next_of, left_of, may_grow, Here, HoldsAt}
 use Rattle.etcs_rows.specs.laws.RestLaws.{row_begins_with}
-use Rattle.etcs_sequence.specs.Stages.{asks_memory}
+use Rattle.etcs_sequence.specs.Progress.{asks_memory}
 
 -- ---- At each variable of a typed packet's row.
 

@@ -21,7 +21,7 @@ use Rattle.etcs_packets.specs.declared.packet.Packet.{Packet}
 use Rattle.etcs_packets.specs.PacketValues.{PacketValue, packet_value}
 use Rattle.etcs_packets.specs.PacketReadings.{reading_to, readings_to}
 use Rattle.etcs_packets.specs.laws.PacketReadings.{bits_are}
-use Rattle.etcs_sequence.specs.Contents.{Run}
+use Rattle.etcs_sequence.specs.Contents.{PacketsIn}
 use Rattle.etcs_sequence.specs.Runs.{Begun, BegunRow}
 use Rattle.etcs_sequence.specs.laws.Agreement.{some_bits}
 use Rattle.etcs_reader.specs.Rests.{Goes}
@@ -41,7 +41,7 @@ row_more row len (Some x) e h u l =
     omega (arith, l.1, long, length-sent x n q, width_pos x)
 
 -- a row's packet that is being read
-row_begun : (c : Carrier) (room nid dir len : ℕ) (left : Layout) (f : List ℕ) (h : Reading) → is_some (row_to ToTrain nid) ≡ true → is_some (first_variable left) ≡ true → Goes (Then (ReadsIn left len) (Run c room)) → RowHere ToTrain nid dir left len f h → BegunRow h f
+row_begun : (c : Carrier) (room nid dir len : ℕ) (left : Layout) (f : List ℕ) (h : Reading) → is_some (row_to ToTrain nid) ≡ true → is_some (first_variable left) ≡ true → Goes (Then (ReadsIn left len) (PacketsIn c room)) → RowHere ToTrain nid dir left len f h → BegunRow h f
 row_begun c room nid dir len left f h typed some (r, (u, v, e, l, m)) is =
     let whole = is.residual.from u l in
     let bits = ap length (spelled-append is.read u) ∙ length-append (spelled is.read) (spelled u) in

@@ -21,13 +21,13 @@ use Rattle.etcs_sequence.proofs.OneSpelling.{packet_same}
 use Rattle.etcs_sequence.proofs.BitLaws.{bits_known}
 use Rattle.etcs_sequence.proofs.OneHolding.{sent_parts}
 
--- ---- What stands behind whole packets.
+-- ---- What follows whole packets.
 
 -- no packet begins it
 abbrev pub NoPacket : Reading → Type 0
 NoPacket r = (v : PacketValue) (q : Reading) → IsPacket v → r ≡ packet_reading v ++ q → ⊥
 
--- packets with such behind them are known by their variables
+-- packets with such after them are known by their variables
 pub packets_known : (vs us : List PacketValue) (a b : Reading) → All IsPacket vs → All IsPacket us → NoPacket a → NoPacket b → packets_reading vs ++ a ≡ packets_reading us ++ b → (vs ≡ us) × (a ≡ b)
 packets_known [] [] a b hv hu na nb e = (refl, e)
 packets_known [] (u ∷ us) a b hv hu na nb e = absurd (na u (packets_reading us ++ b) (All-head IsPacket u us hu) (e ∙ append_assoc (packet_reading u) (packets_reading us) b))
@@ -49,7 +49,7 @@ frame_parts nid nid' dir dir' bits bits' a b e =
     let (v3, n3, r3) = sent_parts L_PACKET L_PACKET (23 + bits) (23 + bits') a b r2 in
     (n1, omega (arith, n3), r3)
 
--- a frame, behind which fewer bits stand than it says
+-- a frame, followed by fewer bits than it says
 framed_unpacked : (nid dir bits : ℕ) (t : Reading) → length (spelled t) < bits → NoPacket (frame nid dir bits ++ t)
 framed_unpacked nid dir bits t less (packets.marker n) q h e =
     let (v1, n1, r1) = sent_parts NID_PACKET NID_PACKET nid 0 ((Q_DIR, dir) ∷ (L_PACKET, 23 + bits) ∷ t) ((NID_VBCMK, n) ∷ q) e in

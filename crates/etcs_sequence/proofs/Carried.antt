@@ -19,15 +19,15 @@ use Rattle.etcs_packets.specs.PacketValues as packets
 use Rattle.etcs_packets.specs.PacketValues.{PacketValue, variables_of, IsTypedOf, bits_to, IsPacketTo}
 use Rattle.etcs_packets.specs.PacketReadings.{in_frame, reading_to}
 use Rattle.etcs_packets.specs.laws.PacketReadings.{frame_is, directed-append, bits_are}
-use Rattle.etcs_sequence.specs.Contents.{Carries, Run, RunOf}
+use Rattle.etcs_sequence.specs.Contents.{Carries, PacketsIn, ReadsPackets}
 use Rattle.etcs_sequence.specs.laws.Agreement.{packet_agree, packet_fit, numbered}
 use Rattle.etcs_sequence.proofs.OneSpelling.{packet_same, closed_apart}
 use Rattle.etcs_sequence.specs.laws.RunSteps.{behind, in_front, carried_packet}
 use Rattle.etcs_sequence.specs.laws.Others.{kept_parts, kept_untyped}
 use Rattle.etcs_sequence.specs.laws.Framed.{frame_head}
 
--- a run that begins with a packet's variables goes on behind it
-begins : (c : Carrier) (room : ℕ) (v : PacketValue) (us : List PacketValue) (q : Reading) → Carries c v → RunOf c room us (reading_to (way_of c) v ++ q) → Run c (room - bits_to (way_of c) v) q
+-- a run that begins with a packet's variables continues after it
+begins : (c : Carrier) (room : ℕ) (v : PacketValue) (us : List PacketValue) (q : Reading) → Carries c v → ReadsPackets c room us (reading_to (way_of c) v ++ q) → PacketsIn c (room - bits_to (way_of c) v) q
 begins Telegram room v [] q carried run = absurd (closed_apart v q carried (sym run.reading_is))
 begins (Message way) room v [] q carried run =
     let b = numbered way v carried.0 in
@@ -44,10 +44,10 @@ begins c room v (u ∷ us) q carried run =
     let both = apart r s (spelled q) (spelled b.0) (packet_agree way v u hv hu) (packet_fit way v hv) (packet_fit way u hu) whole in
     let same = packet_same way v u hv hu both.0 in
     let rest = cut r s q b.0 (ap (λ (t : Reading). length t) both.0) b.1 in
-    (us, subst (λ (t : Reading). RunOf c (room - bits_to way v) us t) (sym rest.1) (subst (λ (w : PacketValue). RunOf c (room - bits_to way w) us b.0) (sym same) b.3))
+    (us, subst (λ (t : Reading). ReadsPackets c (room - bits_to way v) us t) (sym rest.1) (subst (λ (w : PacketValue). ReadsPackets c (room - bits_to way w) us b.0) (sym same) b.3))
 
--- what is left behind a whole packet
-pub behind_packet : (c : Carrier) (room : ℕ) (v : PacketValue) → Carries c v → bits_to (way_of c) v ≤ room → Residual (Run c room) (reading_to (way_of c) v) (Run c (room - bits_to (way_of c) v))
+-- what is left after a whole packet
+pub behind_packet : (c : Carrier) (room : ℕ) (v : PacketValue) → Carries c v → bits_to (way_of c) v ≤ room → Residual (PacketsIn c room) (reading_to (way_of c) v) (PacketsIn c (room - bits_to (way_of c) v))
 behind_packet c room v carried le = record {
   to = λ q (us, run). begins c room v us q carried run;
   from = λ q l. in_front c room (bits_to (way_of c) v) v q carried (bits_are (way_of c) v) le l;

@@ -18,7 +18,7 @@ begins_alike (x ∷ p) (y ∷ a) b c q h e =
     let r = begins_alike p a b c q (h.1 head) tails in
     (r.0, (let t = r.1 in let u : ◌≡◌ {A = Reading} (y ∷ a) (x ∷ (p ++ r.0)) = cc in u), r.2)
 
--- behind variables of the first
+-- after variables of the first
 pub chain_along : (P R : Reading → Type 0) (Q S : Reading → Reading → Type 0) (p : Reading) → Regular P → Residual P p R → Goes R → ((a b : Reading) → Q (p ++ a) b ↔ S a b) → Residual (Chain P Q) p (Chain R S)
 chain_along P R Q S p regular h (c, some) same = record {
   to = λ q (a, b, e, i, k).
@@ -27,7 +27,7 @@ chain_along P R Q S p regular h (c, some) same = record {
   from = λ q (a, b, e, i, k). (p ++ a, b, ap (λ (t : Reading). p ++ t) e ∙ sym (append_assoc p a b), h.from a i, (same a b).1 k);
 }
 
--- behind all of it
+-- after all of it
 pub chain_none : (Q : Reading → Reading → Type 0) (r : Reading) → Chain (λ a. a ≡ []) Q r ↔ Q [] r
 chain_none Q r = (
   λ (a, b, e, h, k). (let f : b ≡ r = (let g : r ≡ [] ++ b = e ∙ ap (λ (t : Reading). t ++ b) h in sym g) in subst (Q []) f (subst (λ (t : Reading). Q t b) h k)),

@@ -26,8 +26,8 @@ use Rattle.etcs_reader.specs.Feeders.{FeederValue}
 use Rattle.etcs_reader.specs.laws.FieldLaws.{residual_along}
 use Rattle.etcs_reader.proofs.Passing.{passed_viable, passed_language, passed_owner, passed_owners, passed_refuses}
 use Rattle.etcs_sequence.specs.declared.list.PacketList.{PacketList}
-use Rattle.etcs_sequence.specs.Stages.{Stage, reading, finished, asks_memory, Feeds, fault_by, seen_of, Reached, IsReader}
-use Rattle.etcs_sequence.specs.Readables.{Readable, seen_at, stage_at}
+use Rattle.etcs_sequence.specs.Progress.{Progress, reading, finished, asks_memory, Feeds, fault_by, seen_of, Reached, IsReader}
+use Rattle.etcs_sequence.specs.Readables.{Readable, seen_at, progress_at}
 
 -- ---- Bytes.
 
@@ -52,7 +52,7 @@ no_front : (a b : List Bool) → a ++ b ≡ [] → a ≡ []
 no_front [] b e = refl
 no_front (x ∷ a) b e = absurd cc
 
--- no bits stand behind a whole reading
+-- no bits follow a whole reading
 whole_part : (L : Reading → Type 0) → Regular L → (r : Reading) (part : List Bool) → L r → Viable L (spelled r ++ part) → part ≡ []
 whole_part L regular r part l (q, c, m, e) =
     let all : spelled r ++ (part ++ c) ≡ spelled q ++ [] = sym (append_assoc (spelled r) part c) ∙ sym e ∙ sym (append-nil (spelled q)) in
@@ -70,8 +70,8 @@ module _ {R V W : Type 0} {left : R → Reading → Type 0} {next : R → Option
   abbrev pub At : FeederValue R → Type 0
   At v = Reached L (left v.rest) (holds v.rest) (far v.rest) v.part v.count
 
-  abbrev pub stage : FeederValue R → Stage V
-  stage v = stage_at next far made v
+  abbrev pub progress : FeederValue R → Progress V
+  progress v = progress_at next far made v
 
   -- what a reader keeps
   abbrev pub Is : FeederValue R → Type 0
@@ -83,7 +83,7 @@ module _ {R V W : Type 0} {left : R → Reading → Type 0} {next : R → Option
   language_bytes : (b : List Bool) → InLanguage L b → length b % 8 ≡ 0
   language_bytes b (r, l, e) = subst (λ (t : List Bool). length t % 8 ≡ 0) e (w.bytes r l).0
 
-  -- it goes on, so they are fewer
+  -- it continues, so they are fewer
   owned_length : (b : List Bool) (x : Var) → Owner L b x → length b < 8 * most
   owned_length b x o = fewer o.viable
     where
@@ -100,11 +100,11 @@ module _ {R V W : Type 0} {left : R → Reading → Type 0} {next : R → Option
     pub is_of : At v → Is v
     is_of at = rw none at
 
-    pub going_stage : is_some (next v.rest) ≡ true → stage v ≡ reading (seen v)
-    going_stage g = rw (none, g) refl
+    pub going_progress : is_some (next v.rest) ≡ true → progress v ≡ reading (seen v)
+    going_progress g = rw (none, g) refl
 
-    pub whole_stage : is_some (next v.rest) ≡ false → stage v ≡ finished (made v.rest)
-    whole_stage g = rw (none, g) refl
+    pub whole_progress : is_some (next v.rest) ≡ false → progress v ≡ finished (made v.rest)
+    whole_progress g = rw (none, g) refl
 
   -- at the end
   pub whole_reading : (v : FeederValue R) → At v → next v.rest ≡ None → L (far v.rest)
@@ -158,7 +158,7 @@ module _ {R V W : Type 0} {left : R → Reading → Type 0} {next : R → Option
     all_refuses : (xs : List Bool) (n : ℕ) (x : Var) → Refuses (left old.rest) (old.part ++ xs) (length old.part + n) x → Refuses L (seen old ++ xs) (length (seen old) + n) x
     all_refuses xs n x h = passed_refuses L w.regular (left old.rest) (λ p. Residual L p (left old.rest)) (λ p h. h) (seen old) old.part by_far at.goes xs n x h
 
-    -- what was passed behind what was left
+    -- what was passed after what was left
     abbrev passed_all : (place : R) (t part : List Bool) → Passed (λ p. follows old.rest p place) (old.part ++ t) part → Passed (λ p. Residual L p (left place)) (seen old ++ t) part
     passed_all place t part f = record {
       whole = far old.rest ++ f.whole;
@@ -188,7 +188,7 @@ module _ {R V W : Type 0} {left : R → Reading → Type 0} {next : R → Option
         bytes = bytes;
       }
 
-    -- memory is refused behind what is held
+    -- memory is refused after what is held
     starved_far : (xs : List Bool) (n : ℕ) → StarvesAt R left follows fails old.rest old.part xs n → least ≤ old.count + n
     starved_far xs n h =
         let p = h.passed.whole in
@@ -212,7 +212,7 @@ module _ {R V W : Type 0} {left : R → Reading → Type 0} {next : R → Option
 
   pub record Answer (old new : FeederValue R) (piece : List ℕ) (result : Result Fed ReadFault) : Type 0 where
     pub is : Is new
-    pub fed : Feeds Reads value IsValue least (seen old) (bits piece) result (stage new)
+    pub fed : Feeds Reads value IsValue least (seen old) (bits piece) result (progress new)
 
   module _ (old new : FeederValue R) (piece : List ℕ) (taken : ℕ) (at : At old) (e : taken ≡ min (most - old.count / 8) (length piece)) where
     abbrev xs : List Bool
@@ -241,7 +241,7 @@ module _ {R V W : Type 0} {left : R → Reading → Type 0} {next : R → Option
         record {
           is = is_of new none reached;
           fed = (
-            going_stage new none (ap is_some some) ∙ ap reading (f ∙ new_bits),
+            going_progress new none (ap is_some some) ∙ ap reading (f ∙ new_bits),
             rw new_bits at wanted,
           );
         }
@@ -263,7 +263,7 @@ module _ {R V W : Type 0} {left : R → Reading → Type 0} {next : R → Option
           is = is_of new none reached;
           fed = (
             made new.rest,
-            whole_stage new none (ap is_some end),
+            whole_progress new none (ap is_some end),
             d.0,
             less,
             (
@@ -335,27 +335,27 @@ module _ {R V W : Type 0} {left : R → Reading → Type 0} {next : R → Option
 
   -- ---- By a reader's value.
 
-  same_bits : (x y : List Bool) → ◌≡◌ {A = Stage V} (reading x) (reading y) → x ≡ y
+  same_bits : (x y : List Bool) → ◌≡◌ {A = Progress V} (reading x) (reading y) → x ≡ y
   same_bits x y e = cc
 
-  pub answers : (old new : FeederValue R) (piece : List ℕ) (result : Result Fed ReadFault) (s : Stage V) → old.stop ≡ None → is_some (next old.rest) ≡ true → Answer old new piece result → stage old ≡ s
-      → (b : List Bool) → s ≡ reading b → Feeds Reads value IsValue least b (bits piece) result (stage new)
+  pub answers : (old new : FeederValue R) (piece : List ℕ) (result : Result Fed ReadFault) (s : Progress V) → old.stop ≡ None → is_some (next old.rest) ≡ true → Answer old new piece result → progress old ≡ s
+      → (b : List Bool) → s ≡ reading b → Feeds Reads value IsValue least b (bits piece) result (progress new)
   answers old new piece result s none g a e b h =
-      let same = same_bits (seen old) b (sym (going_stage old none g) ∙ e ∙ h) in
-      subst (λ (t : List Bool). Feeds Reads value IsValue least t (bits piece) result (stage new)) same a.fed
+      let same = same_bits (seen old) b (sym (going_progress old none g) ∙ e ∙ h) in
+      subst (λ (t : List Bool). Feeds Reads value IsValue least t (bits piece) result (progress new)) same a.fed
 
   -- how many bits it counted
-  pub counted : (v : FeederValue R) → Is v → v.count ≡ seen_of size (stage v)
+  pub counted : (v : FeederValue R) → Is v → v.count ≡ seen_of size (progress v)
   counted v is = by_stop v.stop refl
     where
-      by_next : v.stop ≡ None → (o : Option Var) → next v.rest ≡ o → v.count ≡ seen_of size (stage v)
-      by_next none (Some x) e = (at_of v none is).counted ∙ ap (seen_of size) (sym (going_stage v none (ap is_some e)))
+      by_next : v.stop ≡ None → (o : Option Var) → next v.rest ≡ o → v.count ≡ seen_of size (progress v)
+      by_next none (Some x) e = (at_of v none is).counted ∙ ap (seen_of size) (sym (going_progress v none (ap is_some e)))
       by_next none None e =
           let at = at_of v none is in
           let d = whole_value v at e in
-          at.counted ∙ ap length (whole_seen v at e) ∙ w.counted (made v.rest) (far v.rest) d.0 d.1 ∙ ap (seen_of size) (sym (whole_stage v none (ap is_some e)))
+          at.counted ∙ ap length (whole_seen v at e) ∙ w.counted (made v.rest) (far v.rest) d.0 d.1 ∙ ap (seen_of size) (sym (whole_progress v none (ap is_some e)))
 
-      by_stop : (stop : Option Stop) → v.stop ≡ stop → v.count ≡ seen_of size (stage v)
+      by_stop : (stop : Option Stop) → v.stop ≡ stop → v.count ≡ seen_of size (progress v)
       by_stop None e = by_next e (next v.rest) refl
       by_stop (Some (Refused i x)) e = rw e (rw e at is)
       by_stop (Some Memory) e = rw e refl
@@ -387,9 +387,9 @@ module _ {R V W : Type 0} {left : R → Reading → Type 0} {next : R → Option
     pub first_is : Is v
     first_is = is_of v none first_at
 
-    pub first_stage : stage v ≡ reading []
-    first_stage = by_next (next v.rest) refl
+    pub first_progress : progress v ≡ reading []
+    first_progress = by_next (next v.rest) refl
       where
-        by_next : (o : Option Var) → next v.rest ≡ o → stage v ≡ reading []
-        by_next (Some x) e = going_stage v none (ap is_some e) ∙ ap reading none_seen
+        by_next : (o : Option Var) → next v.rest ≡ o → progress v ≡ reading []
+        by_next (Some x) e = going_progress v none (ap is_some e) ∙ ap reading none_seen
         by_next None e = absurd (let l = w.long (far v.rest) (whole_reading v first_at e) in let n = ap (λ (r : Reading). length (spelled r)) none_far in omega (arith, l, n))

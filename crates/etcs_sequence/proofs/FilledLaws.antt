@@ -1,4 +1,4 @@
--- What the reader asks of packets with bits behind them that fill their room.
+-- What the reader asks of packets with bits after them that fill their room.
 use Rattle.std.proofs.Common.{◌≡◌, ℕ, ◌+◌, ◌-◌, ◌/◌, ◌^◌, Bool, List, [], ◌∷◌, ◌++◌, length, Some, sym, subst, ◌∙◌, arith}
 use Rattle.std.specs.Prelude.{◌↔◌}
 use Rattle.etcs_vars.specs.declared.var.Var.{Var}
@@ -7,26 +7,26 @@ use Rattle.etcs_vars.specs.Walking.{Residual}
 use Rattle.etcs_vars.proofs.Languages.{Same}
 use Rattle.etcs_sequence.specs.laws.RunSteps.{both_length}
 use Rattle.etcs_reader.specs.Rests.{Starts, Goes}
-use Rattle.etcs_sequence.specs.declared.left.PacketsLeft.{PacketsLeft}
+use Rattle.etcs_sequence.specs.declared.state.PacketsState.{PacketsState}
 use Rattle.etcs_sequence.specs.Lefts.{next_of, left_of, ahead, Moved}
 use Rattle.etcs_sequence.specs.laws.LeftLaws.{left_regular, left_begins}
 use Rattle.etcs_sequence.specs.ChainLaws.{Chain}
 use Rattle.etcs_sequence.specs.laws.ChainLaws.{chain_goes, chain_starts, chain_viable}
 use Rattle.etcs_sequence.proofs.ChainLaws.{chain_along}
 
--- behind a number something is left
-pub moved_left : (l l' : PacketsLeft) (x : Var) (number : ℕ) → Starts (left_of l.carrier l.room l.stage) x 0 number → Moved l.carrier l.room l.stage ((x, number) ∷ []) l'.carrier l'.room l'.stage → Goes (left_of l'.carrier l'.room l'.stage)
+-- after a number something is left
+pub moved_left : (l l' : PacketsState) (x : Var) (number : ℕ) → Starts (left_of l.carrier l.room l.stage) x 0 number → Moved l.carrier l.room l.stage ((x, number) ∷ []) l'.carrier l'.room l'.stage → Goes (left_of l'.carrier l'.room l'.stage)
 moved_left l l' x number (n, r, h, e) m =
     let whole : n ≡ number = (let one : n / 2 ^ 0 ≡ n = omega arith in sym one ∙ e) in
     let P : ℕ → Type 0 = λ k. left_of l.carrier l.room l.stage ((x, k) ∷ r) in
     (r, m.residual.to r (subst P whole h))
 
--- so many bits stand behind packets
+-- this many bits follow packets
 module _ (Left : ℕ → Reading → Type 0) where
   abbrev By : ℕ → Reading → Reading → Type 0
   By room p r = Left (room - length (spelled p)) r
 
-  abbrev Behind : PacketsLeft → Reading → Type 0
+  abbrev Behind : PacketsState → Reading → Type 0
   Behind l r = Chain (left_of l.carrier l.room l.stage) (By (ahead l.carrier l.room l.stage)) r
 
   -- packets leave so much less to them
@@ -35,7 +35,7 @@ module _ (Left : ℕ → Reading → Type 0) where
       let left : room - length (spelled (p ++ a)) ≡ room' - length (spelled a) = omega (arith, both_length p a, e) in
       (λ f. subst (λ n. Left n r) left f, λ f. subst (λ n. Left n r) (sym left) f)
 
-  pub filled_behind : (l l' : PacketsLeft) (p : Reading) → Moved l.carrier l.room l.stage p l'.carrier l'.room l'.stage → Goes (left_of l'.carrier l'.room l'.stage) → Residual (Behind l) p (Behind l')
+  pub filled_behind : (l l' : PacketsState) (p : Reading) → Moved l.carrier l.room l.stage p l'.carrier l'.room l'.stage → Goes (left_of l'.carrier l'.room l'.stage) → Residual (Behind l) p (Behind l')
   filled_behind l l' p m g =
       let P : Reading → Type 0 = left_of l.carrier l.room l.stage in
       let R : Reading → Type 0 = left_of l'.carrier l'.room l'.stage in
@@ -43,8 +43,8 @@ module _ (Left : ℕ → Reading → Type 0) where
       let room' = ahead l'.carrier l'.room l'.stage in
       chain_along P R (By room) (By room') p (left_regular l.carrier l.room l.stage) m.residual g (λ a b. less_left room room' p a m.ahead_is b)
 
-  module _ (some : (n : ℕ) → Goes (Left n)) (l : PacketsLeft) where
-    -- they can stand behind all of them
+  module _ (some : (n : ℕ) → Goes (Left n)) (l : PacketsState) where
+    -- they can follow all of them
     some_behind : (a : Reading) → left_of l.carrier l.room l.stage a → Goes (By (ahead l.carrier l.room l.stage) a)
     some_behind a h = some (ahead l.carrier l.room l.stage - length (spelled a))
 

@@ -1,4 +1,4 @@
--- Which numbers and lengths of packets some run goes on with: those that fit.
+-- Which numbers and lengths of packets some run continues with: those that fit.
 use Rattle.std.proofs.Common.{◌≡◌, ℕ, ◌-◌, ◌≤◌, Bool, true, false, ◌||◌, List, [], ◌∷◌, ◌++◌, length, replicate, refl, sym, ap, ◌∙◌, subst, arith, inl, inr}
 use Rattle.std.specs.Prelude.{IsTrue, nat_le, ◌⊎◌}
 use Rattle.std.proofs.lemmas.Bool.{leb-true, le-leb}
@@ -18,13 +18,13 @@ use Rattle.etcs_packets.specs.PacketValues as packets
 use Rattle.etcs_packets.specs.PacketValues.{PacketValue, bits_to}
 use Rattle.etcs_packets.specs.PacketReadings.{readings_to}
 use Rattle.etcs_packets.specs.laws.PacketReadings.{bits_are}
-use Rattle.etcs_sequence.specs.Contents.{closing, Carries, Run, RunOf, BodyIn, AfterLength, AfterNumber}
+use Rattle.etcs_sequence.specs.Contents.{closing, Carries, PacketsIn, ReadsPackets, BodyIn, AfterLength, AfterNumber}
 use Rattle.etcs_sequence.specs.laws.Others.{kept_fault, kept_framed}
 use Rattle.etcs_sequence.specs.laws.RunSteps.{behind, both_length, in_front, framed_carried}
 use Rattle.etcs_sequence.proofs.Padding.{padded}
 use Rattle.etcs_sequence.specs.laws.Framed.{typed_framed, marker_marked, kept_three, some_direction}
 
--- ---- What may be left behind a packet.
+-- ---- What may be left after a packet.
 
 either : (a b : Bool) → IsTrue (a || b) → IsTrue a ⊎ IsTrue b
 either true b h = inl refl
@@ -39,7 +39,7 @@ second_of true b h = refl
 second_of false b h = h
 
 -- a packet that fills a message
-filled : (way : Way) (room : ℕ) → frame_bits way ≤ room → room ≤ 8191 → (r : Reading) × Run (Message way) room r
+filled : (way : Way) (room : ℕ) → frame_bits way ≤ room → room ≤ 8191 → (r : Reading) × PacketsIn (Message way) room r
 filled way room least most =
     let n = frame_bits way in
     let bits = room - n in
@@ -49,7 +49,7 @@ filled way room least most =
     let len : bits_to way v ≡ room = omega (arith, short, least) in
     (_, in_front (Message way) room room v [] (framed_carried (Message way) v is (kept_framed way 3 (kept_three way))) (bits_are way v ∙ len) (omega arith) ((padded way (room - room) (omega arith) []).0 refl))
 
-pub run_some : (c : Carrier) (room : ℕ) → room ≤ 8191 → IsTrue (may_be_left c room) → (r : Reading) × Run c room r
+pub run_some : (c : Carrier) (room : ℕ) → room ≤ 8191 → IsTrue (may_be_left c room) → (r : Reading) × PacketsIn c room r
 run_some Telegram room small h = ((NID_PACKET, 255) ∷ [], ([], record { carried = All-nil _; reading_is = refl; fills = omega (arith, leb-true 8 room h, length-sent NID_PACKET 255 []) }))
 run_some (Message way) room small h =
     elim (either (nat_le room 7) (nat_le (frame_bits way) room) h) [
@@ -66,7 +66,7 @@ framed_bits way (packets.kept nid dir b) h = omega arith
 closing_bits : (vs : List PacketValue) (r : Reading) → r ≡ readings_to ToTrain vs ++ closing Telegram → 8 ≤ length (spelled r)
 closing_bits vs r e = omega (arith, ap (λ (t : Reading). length (spelled t)) e, both_length (readings_to ToTrain vs) ((NID_PACKET, 255) ∷ []), length-sent NID_PACKET 255 [])
 
-run_left : (c : Carrier) (room : ℕ) (vs : List PacketValue) (r : Reading) → RunOf c room vs r → IsTrue (may_be_left c room)
+run_left : (c : Carrier) (room : ℕ) (vs : List PacketValue) (r : Reading) → ReadsPackets c room vs r → IsTrue (may_be_left c room)
 run_left Telegram room vs r run = le-leb 8 room (omega (arith, run.fills, closing_bits vs r run.reading_is))
 run_left (Message way) room [] r run = first_of (nat_le room 7) (nat_le (frame_bits way) room) (le-leb room 7 (let none : length (spelled r) ≡ 0 = ap (λ (t : Reading). length (spelled t)) run.reading_is in omega (arith, none, run.fills.1)))
 run_left (Message way) room (v ∷ vs) r run =
@@ -80,7 +80,7 @@ pub front_none : (r rest : Reading) (row : Layout) → numbers r ≡ [] → Read
 front_none [] rest row e reads = reads
 front_none (p ∷ r) rest row e reads = absurd cc
 
--- some body has so many bits
+-- some body has this many bits
 body_some : (way : Way) (nid m : ℕ) → BodyLength way nid m → (r : Reading) × BodyIn way nid m r
 body_some way nid m (inl (row, e, (r, rest, reads, none, len, small))) = (rest, inl (row, e, (front_none r rest row none reads, len)))
 body_some way nid m (inr k) = (kept OTHER_DATA (replicate m false), inr (k, (replicate m false, length-replicate m false, refl)))

@@ -1,4 +1,4 @@
--- Behind a variable of a frame.
+-- After a variable of a frame.
 use Rattle.std.proofs.Common.{◌≡◌, ℕ, ◌-◌, ◌^◌, ◌<◌, ◌≤◌, [], ◌∷◌, refl, arith, inl, inr}
 use Rattle.std.specs.Prelude.{IsTrue, false}
 use Rattle.etcs_vars.specs.declared.var.Var.TheVariants.{NID_PACKET, NID_VBCMK, Q_DIR}
@@ -10,7 +10,7 @@ use Rattle.etcs_tables.specs.declared.row.Way.TheVariants.{ToTrain}
 use Rattle.etcs_rows.specs.declared.frames.Carrier.{Carrier}
 use Rattle.etcs_rows.specs.declared.frames.Carrier.TheVariants.{Telegram, Message}
 use Rattle.etcs_rows.specs.Frames.{way_of}
-use Rattle.etcs_sequence.specs.Contents.{Run, LengthLeft, AfterDirection, DirectionLeft, AfterMarker, MarkerLeft, AfterNumber, FrameLeft}
+use Rattle.etcs_sequence.specs.Contents.{PacketsIn, LengthLeft, AfterDirection, DirectionLeft, AfterMarker, MarkerLeft, AfterNumber, FrameLeft}
 use Rattle.etcs_sequence.specs.laws.RunSteps.{number_step, marker_step, direction_step}
 use Rattle.etcs_sequence.proofs.Turns.{behind_closing, behind_zero, behind_marker, behind_direction, unframed_is, behind_number, framed_left}
 use Rattle.etcs_reader.specs.Rests.{Starts}
@@ -43,9 +43,9 @@ framed_is : (c : Carrier) (n : ℕ) → Here c (behind_framed (way_of c) n) [] [
 framed_is Telegram n = (refl, refl, refl)
 framed_is (Message ToTrain) n = (refl, refl, refl)
 
-module _ (c : Carrier) (room n : ℕ) (more : IsTrue (is_open c room)) (starts : Starts (Run c room) NID_PACKET 0 n) where
+module _ (c : Carrier) (room n : ℕ) (more : IsTrue (is_open c room)) (starts : Starts (PacketsIn c room) NID_PACKET 0 n) where
   some : (r : Reading) × AfterNumber c room n r
-  some = opens_number (Run c room) NID_PACKET (AfterNumber c room) (number_step c room (open_by c room more)) n starts
+  some = opens_number (PacketsIn c room) NID_PACKET (AfterNumber c room) (number_step c room (open_by c room more)) n starts
 
   pub number_room : 8 ≤ room
   number_room = (number_parts c room n some).0
@@ -55,7 +55,7 @@ module _ (c : Carrier) (room n : ℕ) (more : IsTrue (is_open c room)) (starts :
 
   number_moved : (room' : ℕ) (s : Stage) → ahead c room' s ≡ room - 8 → Same (AfterNumber c room n) (left_of c room' s) → Moved c room Number ((NID_PACKET, n) ∷ []) c room' s
   number_moved room' s bits same =
-      let behind = opens_behind (Run c room) NID_PACKET (AfterNumber c room) (number_step c room (open_by c room more)) n in
+      let behind = opens_behind (PacketsIn c room) NID_PACKET (AfterNumber c room) (number_step c room (open_by c room more)) n in
       moved_by c room Number NID_PACKET n room' s (AfterNumber c room n) behind same (omega (arith, bits, number_room))
 
   -- any number with a frame
@@ -94,12 +94,12 @@ module _ (c : Carrier) (room n : ℕ) (more : IsTrue (is_open c room)) (starts :
 
 -- ---- NID_VBCMK.
 
-pub marker_moved : (c : Carrier) (room n : ℕ) (s : Stage) → IsTrue (is_telegram c) → Starts (MarkerLeft room) NID_VBCMK 0 n → Same (left_of c (room - 14) s) (Run c (room - 14)) → ahead c (room - 14) s ≡ room - 14 → Moved c room Marker ((NID_VBCMK, n) ∷ []) c (room - 14) s
+pub marker_moved : (c : Carrier) (room n : ℕ) (s : Stage) → IsTrue (is_telegram c) → Starts (MarkerLeft room) NID_VBCMK 0 n → Same (left_of c (room - 14) s) (PacketsIn c (room - 14)) → ahead c (room - 14) s ≡ room - 14 → Moved c room Marker ((NID_VBCMK, n) ∷ []) c (room - 14) s
 marker_moved Telegram room n s t starts left bits =
     let step = marker_step room in
     let After = AfterMarker room in
     let (a, le, run) = behind_marker room n (opens_number (MarkerLeft room) NID_VBCMK After step n starts) in
-    let same = same_along (After n) (Run Telegram (room - 14)) (left_of Telegram (room - 14) s) run (same_back (left_of Telegram (room - 14) s) (Run Telegram (room - 14)) left) in
+    let same = same_along (After n) (PacketsIn Telegram (room - 14)) (left_of Telegram (room - 14) s) run (same_back (left_of Telegram (room - 14) s) (PacketsIn Telegram (room - 14)) left) in
     moved_by Telegram room Marker NID_VBCMK n (room - 14) s (After n) (opens_behind (MarkerLeft room) NID_VBCMK After step n) same (omega (arith, le, bits))
 marker_moved (Message way) room n s t starts left bits = absurd cc
 

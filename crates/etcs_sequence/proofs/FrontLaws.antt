@@ -1,4 +1,4 @@
--- What the reader asks of fields with another language behind them.
+-- What the reader asks of fields with another language after them.
 use Rattle.std.proofs.Common.{◌≡◌, ℕ, suc, ◌-◌, ◌^◌, ◌<◌, List, [], ◌∷◌, length, drop, get_or, Some}
 use Rattle.std.specs.Prelude.{IsTrue, ◌↔◌}
 use Rattle.std.proofs.Math.Seq.{drop-cons}
@@ -15,7 +15,7 @@ use Rattle.etcs_sequence.specs.laws.ChainLaws.{chain_starts}
 use Rattle.etcs_sequence.proofs.ChainLaws.{chain_along}
 
 module _ (Q : Reading → Type 0) where
-  -- what stands behind numbers that go on goes on
+  -- what comes after numbers that continue also continues
   front_goes : (vs : List Var) (x : Var) (rest bits : ℕ) → Starts (Then (ReadsFields vs) Q) x rest bits → Goes Q
   front_goes vs x rest bits (n, r, (a, b, e, h, k), q) = (b, k)
 
@@ -25,7 +25,7 @@ module _ (Q : Reading → Type 0) where
       let two = chain_starts (ReadsFields vs) (λ _. Q) (λ _ _. (b, k)) x rest bits (fields_begin vs x e) in
       (λ t. two.0 (one.0 t), λ s. one.1 (two.1 s))
 
-  -- behind the number of one of them come those behind it
+  -- after the number of one of them come those after it
   pub front_behind : (vs : List Var) (at : ℕ) (x : Var) (number : ℕ) → at < length vs → first_of (drop at vs) ≡ Some x → Starts (Then (ReadsFields (drop at vs)) Q) x 0 number → Residual (Then (ReadsFields (drop at vs)) Q) ((x, number) ∷ []) (Then (ReadsFields (drop (suc at) vs)) Q)
   front_behind vs at x number h e s =
       let v = get_or vs at PAD in

@@ -1,4 +1,4 @@
--- The numbers in front of a packet's bits, and the bits behind its frame.
+-- The numbers in front of a packet's bits, and the bits after its frame.
 use Rattle.std.proofs.Common.{◌≡◌, ℕ, ◌+◌, ◌-◌, ◌^◌, ◌<◌, ◌≤◌, ◌==◌, Bool, false, List, [], ◌++◌, length, refl, sym, ap, ◌∙◌, arith, append_assoc, length-append}
 use Rattle.std.specs.Prelude.{if◌then◌else◌}
 use Rattle.std.proofs.Math.Seq.{take-length}
@@ -28,7 +28,7 @@ number_between p c n w m e fits = ap value (part_between p (num w m) c n w e (le
 
 -- ---- Frames.
 
--- number, direction and length, and what is behind them
+-- number, direction and length, and what is after them
 abbrev pub framed : ℕ → ℕ → ℕ → List Bool → List Bool
 framed nid dir l s = num 8 nid ++ (num 2 dir ++ (num 13 l ++ s))
 
@@ -37,7 +37,7 @@ framed_more nid dir l s c =
     append_assoc (num 8 nid) (num 2 dir ++ (num 13 l ++ s)) c
     ∙ ap (λ (t : List Bool). num 8 nid ++ t) (append_assoc (num 2 dir) (num 13 l ++ s) c ∙ ap (λ (t : List Bool). num 2 dir ++ t) (append_assoc (num 13 l) s c))
 
--- the bits of a packet that has a frame, with those behind it
+-- the bits of a packet that has a frame, with those after it
 pub record IsFrameOf (nid dir : ℕ) (s b : List Bool) : Type 0 where
   pub bits : b ≡ framed nid dir (23 + length s) s
   pub least : 0 < nid

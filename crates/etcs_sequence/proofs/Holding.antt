@@ -1,4 +1,4 @@
--- What was read is told by the numbers that are held of it.
+-- What was read is given by the numbers that are held of it.
 use Rattle.std.proofs.Common.{◌≡◌, ℕ, ◌+◌, Bool, List, ◌++◌, length, Some, refl, sym, ap, ◌∙◌, arith}
 use Rattle.std.specs.Prelude.{Option}
 use Rattle.std.proofs.lemmas.List.{length-append}
@@ -13,7 +13,7 @@ use Rattle.etcs_tables.specs.Rows.{row_to}
 use Rattle.etcs_rows.specs.Frames.{way_of}
 use Rattle.etcs_packets.specs.declared.packet.Packet.{Packet}
 use Rattle.etcs_packets.specs.PacketReadings.{in_frame}
-use Rattle.etcs_sequence.specs.Contents.{Run}
+use Rattle.etcs_sequence.specs.Contents.{PacketsIn}
 use Rattle.etcs_sequence.specs.Runs.{row_so_far}
 use Rattle.etcs_reader.specs.Rests.{Goes}
 use Rattle.etcs_sequence.specs.declared.stage.Stage.{Stage}
@@ -33,13 +33,13 @@ row_is way nid dir len left f h (u, l) r =
 first_of : (P Q : Reading → Type 0) → Goes (Then P Q) → (u : Reading) × P u
 first_of P Q (r, (u, v, e, l, k)) = (u, l)
 
--- what is held tells the variables
+-- what is held gives the variables
 pub here_is : (c : Carrier) (room : ℕ) (s : Stage) (f : List ℕ) (k : List Bool) (h : Reading) → Goes (left_of c room s) → Here c s f k h → h ≡ here_of c s f k
 here_is c room Number f k h g (e, e', is) = is
 here_is c room Marker f k h g (e, e', is) = is
 here_is c room (Direction nid) f k h g (e, e', is) = is
 here_is c room (Length nid dir) f k h g (e, e', is) = is
-here_is c room (Row nid dir row) f k h g (e, is) = row_is (way_of c) nid dir row.len row.place f h (first_of (ReadsIn row.place row.len) (Run c room) g) is
+here_is c room (Row nid dir row) f k h g (e, is) = row_is (way_of c) nid dir row.len row.place f h (first_of (ReadsIn row.place row.len) (PacketsIn c room) g) is
 here_is c room (Kept nid dir left) f k h g (e, le, is) = is
 here_is c room Closed f k h g (e, e', is) = is
 

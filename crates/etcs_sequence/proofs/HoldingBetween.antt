@@ -14,10 +14,10 @@ use Rattle.etcs_reader.specs.declared.feeder.Stop.TheVariants.{Refused, Memory}
 use Rattle.etcs_reader.specs.Feeders.{FeederValue}
 use Rattle.etcs_reader.proofs.Passing.{passed_owner}
 use Rattle.etcs_sequence.specs.declared.list.PacketList.{PacketList}
-use Rattle.etcs_sequence.specs.Stages.{Stage, IsReading}
+use Rattle.etcs_sequence.specs.Progress.{Progress, IsReading}
 use Rattle.etcs_sequence.specs.Readables.{Readable}
 use Rattle.etcs_sequence.specs.Holdings.{HeldIn, IsHeld}
-use Rattle.etcs_sequence.proofs.Feeding.{seen, At, stage, Is, at_of, going_stage, whole_stage}
+use Rattle.etcs_sequence.proofs.Feeding.{seen, At, progress, Is, at_of, going_progress, whole_progress}
 
 module _ {R V W : Type 0} {left : R → Reading → Type 0} {next : R → Option Var} {follows : R → Reading → R → Type 0} {fails : R → Type 0} {far : R → Reading} {holds : R → Reading → Type 0} {Reads : W → Reading → Type 0} {value : V → W} {IsValue : V → Type 0} {size : V → ℕ} {made : R → V} {store : R → PacketList} {Members : List Packet → List ℕ → List Bool → Reading → Type 0} {most least : ℕ} (w : Readable R V W left next follows fails far holds Reads value IsValue size made store Members most least) where
   abbrev L : Reading → Type 0
@@ -29,7 +29,7 @@ module _ {R V W : Type 0} {left : R → Reading → Type 0} {next : R → Option
         let (n, q', more) = w.begins_with v.rest x e q (at.residual.to q (subst L is l)) in
         (n, q', is ∙ ap (λ (t : Reading). far v.rest ++ t) more)
 
-    -- every reading that begins with the bits begins with the variables so far, and the next one comes behind them
+    -- every reading that begins with the bits begins with the variables so far, and the next one comes after them
     all_begin : (r : Reading) (c : List Bool) → L r → spelled r ≡ seen w v ++ c → (n : ℕ) × (q : Reading) × (r ≡ far v.rest ++ (x, n) ∷ q)
     all_begin r c l s =
         let other = at.residual.from at.goes.0 at.goes.1 in
@@ -49,7 +49,7 @@ module _ {R V W : Type 0} {left : R → Reading → Type 0} {next : R → Option
     }
 
   -- by a reader's value
-  pub is_held : (v : FeederValue R) (s : Stage V) (found : Option Var) (part taken : ℕ) → Is w v → v.stop ≡ None → stage w v ≡ s
+  pub is_held : (v : FeederValue R) (s : Progress V) (found : Option Var) (part taken : ℕ) → Is w v → v.stop ≡ None → progress w v ≡ s
       → is_some found ≡ true → found ≡ next v.rest → IfSome found (Owner (left v.rest) v.part) → IfSome found (λ x. length v.part < width x) → v.part ≡ num taken part → part < 2 ^ taken
       → IsHeld L (Members (store v.rest).packets.items (store v.rest).numbers.items (store v.rest).bits) s part taken
   is_held v s None part taken is none e some f own short same fits = absurd cc
@@ -58,13 +58,13 @@ module _ {R V W : Type 0} {left : R → Reading → Type 0} {next : R → Option
       let k = store v.rest in
       let members = w.members v.rest v.part x (sym f) at.goes at.held short (rw at.counted at at.bytes) in
       let h = held_in v at x (sym f) own (Members k.packets.items k.numbers.items k.bits) members part taken same fits short in
-      (seen w v, sym e ∙ going_stage w v none (ap is_some (sym f)), h)
+      (seen w v, sym e ∙ going_progress w v none (ap is_some (sym f)), h)
 
   -- where nothing is held, nothing is being read
-  pub none_stops : (v : FeederValue R) (stop : Option Stop) → v.stop ≡ stop → is_some stop ≡ true → IsReading (stage w v) → ⊥
+  pub none_stops : (v : FeederValue R) (stop : Option Stop) → v.stop ≡ stop → is_some stop ≡ true → IsReading (progress w v) → ⊥
   none_stops v None e h i = absurd cc
   none_stops v (Some (Refused j x)) e h i = rw e at i
   none_stops v (Some Memory) e h i = rw e at i
 
-  pub none_comes : (v : FeederValue R) → v.stop ≡ None → next v.rest ≡ None → IsReading (stage w v) → ⊥
-  none_comes v none e i = subst IsReading (whole_stage w v none (ap is_some e)) i
+  pub none_comes : (v : FeederValue R) → v.stop ≡ None → next v.rest ≡ None → IsReading (progress w v) → ⊥
+  none_comes v none e i = subst IsReading (whole_progress w v none (ap is_some e)) i

@@ -1,4 +1,4 @@
--- What the reader asks of bits that are kept, with more behind them.
+-- What the reader asks of bits that are kept, with more after them.
 use Rattle.std.proofs.Common.{◌≡◌, ℕ, ◌-◌, ◌^◌, ◌<◌, Some, refl}
 use Rattle.etcs_vars.specs.declared.var.Var.{Var}
 use Rattle.etcs_vars.specs.declared.var.Var.TheVariants.{OTHER_DATA}
@@ -9,7 +9,7 @@ use Rattle.etcs_reader.specs.Rests.{Starts, Goes}
 use Rattle.etcs_sequence.specs.laws.BitLaws.{bits_begin, bits_start}
 use Rattle.etcs_sequence.proofs.ThenLaws.{then_starts}
 
--- each bit goes on
+-- each bit continues
 pub kept_starts : (left : ℕ) (Q : Reading → Type 0) (x : Var) (rest number : ℕ) → Some OTHER_DATA ≡ Some x → 0 < left → Goes Q → rest < width x → number < 2 ^ (width x - rest) → Starts (Then (KeptIn left) Q) x rest number
 kept_starts left Q x rest number e pos goes short small =
     let same : x ≡ OTHER_DATA = cc in

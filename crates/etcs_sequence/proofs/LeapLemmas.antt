@@ -21,7 +21,7 @@ use Rattle.etcs_packets.specs.PacketValues as packets
 use Rattle.etcs_packets.specs.PacketValues.{PacketValue, IsTypedOf, IsPacket, variables_of, IsPacketTo, bits_to}
 use Rattle.etcs_packets.specs.PacketReadings.{in_frame, reading_to, readings_to}
 use Rattle.etcs_packets.specs.laws.PacketReadings.{bits_are}
-use Rattle.etcs_sequence.specs.Contents.{Carries, Run, KeptIn}
+use Rattle.etcs_sequence.specs.Contents.{Carries, PacketsIn, KeptIn}
 use Rattle.etcs_sequence.proofs.Fits.{run_some}
 use Rattle.etcs_sequence.proofs.Wholes.{spelled_kept, kept_behind}
 use Rattle.etcs_sequence.specs.laws.Others.{kept_parts, kept_fault, kept_framed}
@@ -84,9 +84,9 @@ leapt_held c c' H H' xs at l s s' w number same here q held =
     let whole : q ++ one ≡ before ++ one = ap (λ (t : Reading). t ++ one) (eq ∙ ap (λ (t : Reading). before ++ t) eh ∙ append-nil before) in
     rw (same, whole) (held_whole c s' H' vs w.packet (w.held vs old) all w.carried here')
 
--- ---- What goes on with a first bit.
+-- ---- What continues with a first bit.
 
-first_viable : (c : Carrier) (room l nid : ℕ) (x : Bool) (tail : List Bool) → IsTrue (is_kept (way_of c) nid) → num 8 nid ≡ x ∷ tail → frame_bits (way_of c) ≤ l → l ≤ room → room ≤ 8191 → IsTrue (may_be_left c (room - l)) → Viable (Run c room) (x ∷ [])
+first_viable : (c : Carrier) (room l nid : ℕ) (x : Bool) (tail : List Bool) → IsTrue (is_kept (way_of c) nid) → num 8 nid ≡ x ∷ tail → frame_bits (way_of c) ≤ l → l ≤ room → room ≤ 8191 → IsTrue (may_be_left c (room - l)) → Viable (PacketsIn c room) (x ∷ [])
 first_viable c room l nid x tail k e least le small left =
     let way = way_of c in
     let frame = frame_bits way in
@@ -102,7 +102,7 @@ first_viable c room l nid x tail k e least le small left =
     (reading_to way v ++ q.0, tail ++ (spelled behind ++ spelled q.0), run, all)
 
 -- a packet may begin with either bit
-pub packet_viable : (c : Carrier) (room l : ℕ) (t : List Bool) → length t ≡ 1 → frame_bits (way_of c) ≤ l → l ≤ room → room ≤ 8191 → IsTrue (may_be_left c (room - l)) → Viable (Run c room) t
+pub packet_viable : (c : Carrier) (room l : ℕ) (t : List Bool) → length t ≡ 1 → frame_bits (way_of c) ≤ l → l ≤ room → room ≤ 8191 → IsTrue (may_be_left c (room - l)) → Viable (PacketsIn c room) t
 unfolding num
 packet_viable c room l [] one least le small left = absurd (omega (arith, one))
 packet_viable c room l (true ∷ []) one least le small left = first_viable c room l 200 true (num 7 200) (kept_two_hundred (way_of c)) refl least le small left
@@ -117,7 +117,7 @@ kept_some c room s nid dir left e h =
     let more = and_both (is_kept (way_of c) nid) (is_direction (way_of c) dir && nat_lt 0 left) stands in
     ltb-true 0 left (and_both (is_direction (way_of c) dir) (nat_lt 0 left) more.1).1
 
--- the store has room for so many bits more
+-- the store has room for this many bits more
 pub kept_fits : (c : Carrier) (s : Stage) (nid dir left count : ℕ) (f : List ℕ) (k : List Bool) (h : Reading) → s ≡ Kept nid dir left → count ≤ left → Here c s f k h → length k + count ≤ 8191
 kept_fits c s nid dir left count f k h e le here =
     let here' : Here c (Kept nid dir left) f k h = rw e at here in
@@ -134,7 +134,7 @@ module _ (c : Carrier) (room : ℕ) (s : Stage) (nid dir left : ℕ) (e : s ≡ 
   on : (t : List Bool) → length t ≤ left → (q : Reading) × left_of c room s (kept OTHER_DATA t ++ q)
   on t le =
       let g : Goes (left_of c room (Kept nid dir left)) = rw e at goes in
-      rw e (kept_on left (Run c room) t le g)
+      rw e (kept_on left (PacketsIn c room) t le g)
 
   pub kept_viable : (t : List Bool) → length t ≤ left → Viable (left_of c room s) t
   kept_viable t le =
@@ -147,13 +147,13 @@ module _ (c : Carrier) (room : ℕ) (s : Stage) (nid dir left : ℕ) (e : s ≡ 
 -- ---- Packet 255.
 
 -- it may come next in a telegram that has room for it
-pub closing_starts : (c : Carrier) (room : ℕ) → c ≡ Telegram → 8 ≤ room → Starts (Run c room) NID_PACKET 0 255
+pub closing_starts : (c : Carrier) (room : ℕ) → c ≡ Telegram → 8 ≤ room → Starts (PacketsIn c room) NID_PACKET 0 255
 closing_starts c room is le =
     let last : Reading = (NID_PACKET, 255) ∷ [] in
-    let run : Run Telegram room last = ([], record { carried = All-nil (Carries Telegram); reading_is = refl; fills = omega (arith, le, length-sent NID_PACKET 255 []) }) in
+    let run : PacketsIn Telegram room last = ([], record { carried = All-nil (Carries Telegram); reading_is = refl; fills = omega (arith, le, length-sent NID_PACKET 255 []) }) in
     (255, [], rw is run, refl)
 
--- something is left behind it
+-- something is left after it
 pub closing_goes : (c c' : Carrier) (room room' n : ℕ) (s s' : Stage) → Starts (left_of c room s) NID_PACKET 0 n → Moved c room s ((NID_PACKET, n) ∷ []) c' room' s' → Goes (left_of c' room' s')
 closing_goes c c' room room' n s s' (m, r, l, e) moved =
     let same : m ≡ n = (let none : m / 2 ^ 0 ≡ m = omega arith in sym none ∙ e) in

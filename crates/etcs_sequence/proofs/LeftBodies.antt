@@ -1,4 +1,4 @@
--- What is left behind L_PACKET, behind numbers of a row and behind bits that are kept.
+-- What is left after L_PACKET, after numbers of a row and after bits that are kept.
 use Rattle.std.proofs.Common.{◌≡◌, ℕ, ◌+◌, ◌-◌, ◌/◌, ◌^◌, ◌<◌, ◌≤◌, Bool, true, false, ◌==◌, List, [], ◌∷◌, ◌++◌, length, None, Some, refl, sym, ap, subst, ◌∙◌, arith}
 use Rattle.std.specs.Prelude.{IsTrue, if◌then◌else◌}
 use Rattle.std.proofs.lemmas.List.{append-nil, map-append}
@@ -20,7 +20,7 @@ use Rattle.etcs_packets.specs.PacketValues as packets
 use Rattle.etcs_packets.specs.PacketValues.{PacketValue, bits_to, IsPacketTo}
 use Rattle.etcs_packets.specs.PacketReadings.{in_frame, reading_to}
 use Rattle.etcs_packets.specs.laws.PacketReadings.{length-kept, frame_is, directed-append, in_frame-append, bits_are}
-use Rattle.etcs_sequence.specs.Contents.{Carries, Run, BodyIn, KeptIn, BodyLeft, AfterLength, LengthLeft}
+use Rattle.etcs_sequence.specs.Contents.{Carries, PacketsIn, BodyIn, KeptIn, BodyLeft, AfterLength, LengthLeft}
 use Rattle.etcs_sequence.proofs.Carried.{behind_packet}
 use Rattle.etcs_sequence.specs.laws.RunSteps.{framed_carried}
 use Rattle.etcs_sequence.proofs.Turns.{residual_same, behind_length, typed_body, kept_body}
@@ -36,7 +36,7 @@ use Rattle.etcs_sequence.proofs.ThenLaws.{cut_first, then_behind, then_second}
 use Rattle.etcs_sequence.specs.laws.Framed.{typed_framed, row_short}
 use Rattle.etcs_sequence.specs.laws.Others.{kept_fault, kept_framed}
 
--- ---- Behind L_PACKET.
+-- ---- After L_PACKET.
 
 length_after : (c : Carrier) (nid room l : ℕ) (q : Reading) → LengthLeft c nid room ((L_PACKET, l) ∷ q) → AfterLength c nid room l q
 length_after c nid room l q (m, r, e, a) =
@@ -45,17 +45,17 @@ length_after c nid room l q (m, r, e, a) =
     let rest : r ≡ q = cc in
     rw (number, rest) at a
 
--- something goes on behind this length
+-- something continues after this length
 pub some_after : (c : Carrier) (nid room l : ℕ) → Starts (LengthLeft c nid room) L_PACKET 0 l → (r : Reading) × AfterLength c nid room l r
 some_after c nid room l (n, r, h, e) =
     let whole : n ≡ l = (let one : n / 2 ^ 0 ≡ n = omega arith in sym one ∙ e) in
     (r, rw whole at (length_after c nid room n r h))
 
 -- a body of known readings is left
-body_left : (c : Carrier) (nid room l : ℕ) (B : Reading → Type 0) → ((r : Reading) × AfterLength c nid room l r) → Same (BodyIn (way_of c) nid (l - frame_bits (way_of c))) B → Residual (LengthLeft c nid room) ((L_PACKET, l) ∷ []) (Then B (Run c (room - l)))
+body_left : (c : Carrier) (nid room l : ℕ) (B : Reading → Type 0) → ((r : Reading) × AfterLength c nid room l r) → Same (BodyIn (way_of c) nid (l - frame_bits (way_of c))) B → Residual (LengthLeft c nid room) ((L_PACKET, l) ∷ []) (Then B (PacketsIn c (room - l)))
 body_left c nid room l B some same =
     let t = behind_length c nid room l some in
-    let run = Run c (room - l) in
+    let run = PacketsIn c (room - l) in
     let here : Residual (LengthLeft c nid room) ((L_PACKET, l) ∷ []) (AfterLength c nid room l) = record { to = λ q h. length_after c nid room l q h; from = λ q a. (l, q, refl, a) } in
     residual_same (LengthLeft c nid room) ((L_PACKET, l) ∷ []) (AfterLength c nid room l) (Then B run) here
     (same_along (AfterLength c nid room l) (BodyLeft c nid (l - frame_bits (way_of c)) (room - l)) (Then B run) t.3 (Then-same (BodyIn (way_of c) nid (l - frame_bits (way_of c))) run B run same (same_self run)))
@@ -90,14 +90,14 @@ length_whole c nid room l goes = let t = behind_length c nid room l (some_after 
 pub bits_behind : (c : Carrier) (room nid dir left : ℕ) (t : List Bool) (count : ℕ) → length t ≡ count → count ≤ left → Moved c room (Kept nid dir left) (kept OTHER_DATA t) c room (Kept nid dir (left - count))
 bits_behind c room nid dir left t count is le = record {
   same = refl;
-  residual = rw is at (kept_behind left t (Run c room) (omega (arith, is, le)));
+  residual = rw is at (kept_behind left t (PacketsIn c room) (omega (arith, is, le)));
   ahead_is = omega (arith, length-kept t, is, le);
 }
 
--- all of them stand
-pub bits_whole : (c : Carrier) (room : ℕ) (s : Stage) (p : Reading) (c' : Carrier) (room' nid dir left : ℕ) (s' : Stage) → Moved c room s p c' room' (Kept nid dir left) → left ≡ 0 → Same (left_of c' room' s') (Run c' room') → ahead c' room' s' ≡ room' → Moved c room s p c' room' s'
+-- all of them are there
+pub bits_whole : (c : Carrier) (room : ℕ) (s : Stage) (p : Reading) (c' : Carrier) (room' nid dir left : ℕ) (s' : Stage) → Moved c room s p c' room' (Kept nid dir left) → left ≡ 0 → Same (left_of c' room' s') (PacketsIn c' room') → ahead c' room' s' ≡ room' → Moved c room s p c' room' s'
 bits_whole c room s p c' room' nid dir left s' m none same e =
-    let run = Run c' room' in
+    let run = PacketsIn c' room' in
     let residual : Residual (left_of c room s) p (Then (KeptIn 0) run) = rw none at m.residual in
     let back = same_along (Then (KeptIn 0) run) run (left_of c' room' s') (kept_ends run) (same_back (left_of c' room' s') run same) in
     record { same = m.same; residual = residual_same (left_of c room s) p (Then (KeptIn 0) run) (left_of c' room' s') residual back; ahead_is = (let a = m.ahead_is in omega (arith, a, none, e)) }
@@ -117,7 +117,7 @@ bit_sent m u (false ∷ bs) e =
     let number : m ≡ 0 = ap (λ (s : Sent). s.1) pair in
     rw number refl
 
--- a number that goes on is a bit
+-- a number that continues is a bit
 pub kept_bit : (left n : ℕ) (Q : Reading → Type 0) → 0 < left → Starts (Then (KeptIn left) Q) OTHER_DATA 0 n → kept OTHER_DATA ((n == 1) ∷ []) ≡ (OTHER_DATA, n) ∷ []
 kept_bit left n Q pos (m, r, l, e) =
     let whole : m ≡ n = (let one : m / 2 ^ 0 ≡ m = omega arith in sym one ∙ e) in
@@ -138,14 +138,14 @@ kept_whole c nid dir k h other direction le e = (framed_carried c (packets.kept 
 
 -- ---- A row.
 
--- what goes on in it and in what stands behind it goes on in the row
-pub row_starts : (c : Carrier) (room : ℕ) (row : RowRest) (x : Var) (n : ℕ) → first_variable row.place ≡ Some x → Starts (Then (ReadsIn row.place row.len) (Run c room)) x 0 n → Starts (ReadsIn row.place row.len) x 0 n
+-- what continues in it and in what follows it continues in the row
+pub row_starts : (c : Carrier) (room : ℕ) (row : RowRest) (x : Var) (n : ℕ) → first_variable row.place ≡ Some x → Starts (Then (ReadsIn row.place row.len) (PacketsIn c room)) x 0 n → Starts (ReadsIn row.place row.len) x 0 n
 row_starts c room row x n next (m, r, l, e) =
-    let (u, v, f, hu, hv) = cut_first (ReadsIn row.place row.len) (Run c room) x (row_begins_with row.place row.len x next) m r l in
+    let (u, v, f, hu, hv) = cut_first (ReadsIn row.place row.len) (PacketsIn c room) x (row_begins_with row.place row.len x next) m r l in
     (m, u, hu, e)
 
--- something is left behind its number
-pub row_goes : (c : Carrier) (room : ℕ) (row new : RowRest) (x : Var) (n : ℕ) → first_variable row.place ≡ Some x → Starts (Then (ReadsIn row.place row.len) (Run c room)) x 0 n → Residual (ReadsIn row.place row.len) ((x, n) ∷ []) (ReadsIn new.place new.len) → Goes (ReadsIn new.place new.len)
+-- something is left after its number
+pub row_goes : (c : Carrier) (room : ℕ) (row new : RowRest) (x : Var) (n : ℕ) → first_variable row.place ≡ Some x → Starts (Then (ReadsIn row.place row.len) (PacketsIn c room)) x 0 n → Residual (ReadsIn row.place row.len) ((x, n) ∷ []) (ReadsIn new.place new.len) → Goes (ReadsIn new.place new.len)
 row_goes c room row new x n next goes d =
     let (m, r, l, e) = row_starts c room row x n next goes in
     let whole : m ≡ n = (let one : m / 2 ^ 0 ≡ m = omega arith in sym one ∙ e) in
@@ -154,7 +154,7 @@ row_goes c room row new x n next goes d =
 pub row_passed : (c : Carrier) (room nid dir : ℕ) (row new : RowRest) (x : Var) (n : ℕ) → first_variable row.place ≡ Some x → row.len ≡ width x + new.len → Residual (ReadsIn row.place row.len) ((x, n) ∷ []) (ReadsIn new.place new.len) → Moved c room (Row nid dir row) ((x, n) ∷ []) c room (Row nid dir new)
 row_passed c room nid dir row new x n next len d = record {
   same = refl;
-  residual = then_behind (ReadsIn row.place row.len) (Run c room) (ReadsIn new.place new.len) x (row_begins_with row.place row.len x next) n d;
+  residual = then_behind (ReadsIn row.place row.len) (PacketsIn c room) (ReadsIn new.place new.len) x (row_begins_with row.place row.len x next) n d;
   ahead_is = omega (arith, len, length-sent x n []);
 }
 
@@ -165,9 +165,9 @@ row_over row len look next (r, l) =
     let l' : ReadsIn row len [] = rw none at l in
     (l', sym l'.1)
 
-pub row_whole : (c : Carrier) (room : ℕ) (s : Stage) (p : Reading) (c' : Carrier) (room' nid dir : ℕ) (row : RowRest) (s' : Stage) → Moved c room s p c' room' (Row nid dir row) → first_variable row.place ≡ None → Goes (ReadsIn row.place row.len) → Same (left_of c' room' s') (Run c' room') → ahead c' room' s' ≡ room' → Moved c room s p c' room' s'
+pub row_whole : (c : Carrier) (room : ℕ) (s : Stage) (p : Reading) (c' : Carrier) (room' nid dir : ℕ) (row : RowRest) (s' : Stage) → Moved c room s p c' room' (Row nid dir row) → first_variable row.place ≡ None → Goes (ReadsIn row.place row.len) → Same (left_of c' room' s') (PacketsIn c' room') → ahead c' room' s' ≡ room' → Moved c room s p c' room' s'
 row_whole c room s p c' room' nid dir row s' m next goes same e =
-    let run = Run c' room' in
+    let run = PacketsIn c' room' in
     let P = ReadsIn row.place row.len in
     let over = row_over row.place row.len row.looks_well next goes in
     let back = same_along (Then P run) run (left_of c' room' s') (then_second P run (row_ended row.place row.len row.looks_well next) goes) (same_back (left_of c' room' s') run same) in
@@ -227,10 +227,10 @@ here_whole c nid dir row f h direction next goes k =
 
 -- ---- A whole packet.
 
-pub packet_passed : (c : Carrier) (room : ℕ) (s' : Stage) (v : PacketValue) → Carries c v → bits_to (way_of c) v ≤ room → Same (left_of c (room - bits_to (way_of c) v) s') (Run c (room - bits_to (way_of c) v)) → ahead c (room - bits_to (way_of c) v) s' ≡ room - bits_to (way_of c) v → Moved c room Number (reading_to (way_of c) v) c (room - bits_to (way_of c) v) s'
+pub packet_passed : (c : Carrier) (room : ℕ) (s' : Stage) (v : PacketValue) → Carries c v → bits_to (way_of c) v ≤ room → Same (left_of c (room - bits_to (way_of c) v) s') (PacketsIn c (room - bits_to (way_of c) v)) → ahead c (room - bits_to (way_of c) v) s' ≡ room - bits_to (way_of c) v → Moved c room Number (reading_to (way_of c) v) c (room - bits_to (way_of c) v) s'
 packet_passed c room s' v carried le same e =
     let left = room - bits_to (way_of c) v in record {
       same = refl;
-      residual = residual_same (Run c room) (reading_to (way_of c) v) (Run c left) (left_of c left s') (behind_packet c room v carried le) (same_back (left_of c left s') (Run c left) same);
+      residual = residual_same (PacketsIn c room) (reading_to (way_of c) v) (PacketsIn c left) (left_of c left s') (behind_packet c room v carried le) (same_back (left_of c left s') (PacketsIn c left) same);
       ahead_is = omega (arith, bits_are (way_of c) v, le, e);
     }

@@ -18,7 +18,7 @@ use Rattle.etcs_packets.specs.PacketValues as packets
 use Rattle.etcs_packets.specs.PacketValues.{PacketValue, IsPacketTo, bits_to}
 use Rattle.etcs_packets.specs.PacketReadings.{in_frame, reading_to}
 use Rattle.etcs_packets.specs.laws.PacketReadings.{bits_are}
-use Rattle.etcs_sequence.specs.Contents.{Carries, RunOf, IsUnmarked}
+use Rattle.etcs_sequence.specs.Contents.{Carries, ReadsPackets, IsUnmarked}
 use Rattle.etcs_sequence.specs.Spellings.{OneSpelling}
 use Rattle.etcs_sequence.specs.laws.Others.{kept_parts, kept_untyped, kept_framed}
 use Rattle.etcs_sequence.specs.laws.RunSteps.{carried_packet, behind}
@@ -91,7 +91,7 @@ closed_apart v q h e =
     let n = same_number NID_PACKET 255 b.0 (first_same (NID_PACKET, 255) (NID_PACKET, b.0) [] (b.1 ++ q) e').0 in
     omega (arith, n, b.3)
 
-pub packets_same : (c : Carrier) (room : ℕ) (vs us : List PacketValue) (r q : Reading) → RunOf c room vs r → RunOf c room us q → r ≡ q → vs ≡ us
+pub packets_same : (c : Carrier) (room : ℕ) (vs us : List PacketValue) (r q : Reading) → ReadsPackets c room vs r → ReadsPackets c room us q → r ≡ q → vs ≡ us
 packets_same c room [] [] r q hr hq e = refl
 packets_same Telegram room [] (u ∷ us) r q hr hq e =
     let b = behind Telegram room (bits_to ToTrain u) u us q hq (bits_are ToTrain u) in
@@ -109,7 +109,7 @@ packets_same c room (v ∷ vs) (u ∷ us) r q hr hq e =
     let hu = carried_packet c u (All-head (Carries c) u us hq.carried) in
     let parts = Agree-cut (reading_to way v) (reading_to way u) bv.0 bu.0 (packet_agree way v u hv hu) (sym bv.1 ∙ e ∙ bu.1) in
     let first = packet_same way v u hv hu parts.0 in
-    let rest = packets_same c (room - bits_to way v) vs us bv.0 bu.0 bv.3 (subst (λ (w : PacketValue). RunOf c (room - bits_to way w) us bu.0) (sym first) bu.3) parts.1 in
+    let rest = packets_same c (room - bits_to way v) vs us bv.0 bu.0 bv.3 (subst (λ (w : PacketValue). ReadsPackets c (room - bits_to way w) us bu.0) (sym first) bu.3) parts.1 in
     rw (first, rest) refl
 
 pub one_spelling : OneSpelling

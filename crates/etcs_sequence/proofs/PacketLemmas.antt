@@ -109,7 +109,7 @@ grows_kept (Row nid dir row) other = refl
 grows_kept (Kept nid dir left) other = refl
 grows_kept s other = absurd (other refl)
 
--- behind Q_DIR no packet is whole
+-- after Q_DIR no packet is whole
 frame_more : (way : Way) (nid nid' n dir bits : ℕ) (r : Reading) → ◌≡◌ {A = Reading} ((NID_PACKET, nid) ∷ (Q_DIR, n) ∷ []) (in_frame way nid' dir bits r) → ⊥
 frame_more ToTrain nid nid' n dir bits r e = absurd cc
 

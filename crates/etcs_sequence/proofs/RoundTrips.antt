@@ -10,10 +10,10 @@ use Rattle.etcs_vars.specs.declared.feed.Fed.{Fed}
 use Rattle.etcs_vars.specs.declared.feed.Fed.TheVariants.{More, Done}
 use Rattle.etcs_vars.specs.declared.feed.ReadFault.{ReadFault}
 use Rattle.etcs_vars.specs.declared.feed.ReadFault.TheVariants.{Refused, Ended, Memory}
-use Rattle.etcs_sequence.specs.Stages.{Stage, finished, Feeds}
+use Rattle.etcs_sequence.specs.Progress.{Progress, finished, Feeds}
 
 -- the value is whole, or memory was refused
-abbrev pub Answered : {V : Type 0} → V → Result Fed ReadFault → Stage V → Type 0
+abbrev pub Answered : {V : Type 0} → V → Result Fed ReadFault → Progress V → Type 0
 Answered v (Ok More) s = ⊥
 Answered v (Ok (Done k)) s = s ≡ finished v
 Answered v (Err (Refused i x)) s = ⊥
@@ -27,7 +27,7 @@ all_of b = take_all (length b) b (omega arith)
 abbrev pub OneSpelling : {V W : Type 0} → (W → Reading → Type 0) → (V → W) → (V → Type 0) → Type 0
 OneSpelling {V} Reads value IsValue = (u v : V) (a b : Reading) (behind : List Bool) → IsValue u → IsValue v → Reads (value u) a → Reads (value v) b → spelled b ≡ spelled a ++ behind → (u ≡ v) × (behind ≡ [])
 
-pub answered : {V W : Type 0} (Reads : W → Reading → Type 0) (value : V → W) (IsValue : V → Type 0) (least : ℕ) → OneSpelling Reads value IsValue → (v : V) (r : Reading) (b : List Bool) (result : Result Fed ReadFault) (s : Stage V) → IsValue v → Reads (value v) r → spelled r ≡ b → Feeds Reads value IsValue least [] b result s → Answered v result s
+pub answered : {V W : Type 0} (Reads : W → Reading → Type 0) (value : V → W) (IsValue : V → Type 0) (least : ℕ) → OneSpelling Reads value IsValue → (v : V) (r : Reading) (b : List Bool) (result : Result Fed ReadFault) (s : Progress V) → IsValue v → Reads (value v) r → spelled r ≡ b → Feeds Reads value IsValue least [] b result s → Answered v result s
 answered Reads value IsValue least one v r b (Ok More) s is reads e f = f.1.0 (length b) (omega arith) (r, (value v, reads), e ∙ sym (all_of b))
 answered Reads value IsValue least one v r b (Ok (Done k)) s is reads e (u, at, is', le, (inside, q, reads', e')) =
     let whole : spelled r ≡ spelled q ++ drop (0 + 8 * k) b = e ∙ sym (take-append-drop (0 + 8 * k) b) ∙ ap (λ (x : List Bool). x ++ drop (0 + 8 * k) b) (sym e') in
@@ -37,12 +37,12 @@ answered Reads value IsValue least one v r b (Err (Refused i x)) s is reads e f 
 answered Reads value IsValue least one v r b (Err Ended) s is reads e f = f
 answered Reads value IsValue least one v r b (Err Memory) s is reads e f = tt
 
-pub same_value : {V : Type 0} (u v : V) → ◌≡◌ {A = Stage V} (finished u) (finished v) → u ≡ v
+pub same_value : {V : Type 0} (u v : V) → ◌≡◌ {A = Progress V} (finished u) (finished v) → u ≡ v
 same_value u v e = cc
 
 -- ---- What a reader that is fed bytes has read of them.
 
-module _ {V W : Type 0} (Reads : W → Reading → Type 0) (value : V → W) (IsValue : V → Type 0) (least : ℕ) (bytes : List ℕ) (n : ℕ) (s : Stage V) where
+module _ {V W : Type 0} (Reads : W → Reading → Type 0) (value : V → W) (IsValue : V → Type 0) (least : ℕ) (bytes : List ℕ) (n : ℕ) (s : Progress V) where
   -- a front
   pub front_read : Feeds Reads value IsValue least [] (bits bytes) (Ok (Done n)) s → (n ≤ length bytes) × InLanguage (readings_of Reads) (take (8 * n) (bits bytes))
   front_read (v, at, is, le, (inside, r, reads, e)) =

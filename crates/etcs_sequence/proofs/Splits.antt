@@ -15,7 +15,7 @@ use Rattle.etcs_sequence.specs.laws.Agreement.{some_bits}
 use Rattle.etcs_sequence.specs.Refs.{IsPacketBits, ArePackets, spellings, bits_ahead, refs, BeginsWithPacket}
 use Rattle.etcs_sequence.proofs.Fronts.{packet_number, packet_ahead}
 
--- the first packet, and what is behind it
+-- the first packet, and what is after it
 first_packet : (v : PacketValue) (c b : List Bool) → IsPacket v → b ≡ spelled (packet_reading v) ++ c → (bits_ahead b ≡ length (spelled (packet_reading v))) × (take (bits_ahead b) b ≡ spelled (packet_reading v)) × (drop (bits_ahead b) b ≡ c)
 first_packet v c b h e =
     let s = spelled (packet_reading v) in
@@ -49,7 +49,7 @@ said_ahead b h other =
     let said : bits_ahead b ≡ value (part 10 13 b) = ap (λ (t : Bool). if t then 14 else value (part 10 13 b)) test in
     (framed_ahead b h other, omega (arith, said, ahead_inside b h))
 
--- ---- One after the other.
+-- ---- One after another.
 
 more_packets : (v : PacketValue) (vs : List PacketValue) (c : List Bool) → spelled (packets_reading (v ∷ vs)) ++ c ≡ spelled (packet_reading v) ++ (spelled (packets_reading vs) ++ c)
 more_packets v vs c = ap (λ (t : List Bool). t ++ c) (spelled-append (packet_reading v) (packets_reading vs)) ∙ append_assoc (spelled (packet_reading v)) (spelled (packets_reading vs)) c

@@ -14,7 +14,7 @@ use Rattle.etcs_tables.specs.declared.row.Way.{Way}
 use Rattle.etcs_tables.specs.declared.row.Way.TheVariants.{ToTrain}
 use Rattle.etcs_tables.specs.Frames.{frame_bits, head_bits}
 use Rattle.etcs_packets.specs.laws.PacketReadings.{frame_is}
-use Rattle.etcs_sequence.specs.Contents.{Carries, Run, KeptIn, BodyIn, LengthLeft, AfterNumber, DirectionLeft}
+use Rattle.etcs_sequence.specs.Contents.{Carries, PacketsIn, KeptIn, BodyIn, LengthLeft, AfterNumber, DirectionLeft}
 use Rattle.etcs_sequence.specs.laws.RunSteps.{both_length, number_step}
 use Rattle.etcs_sequence.specs.declared.stage.Stage.{Stage}
 use Rattle.etcs_sequence.specs.Lefts.{next_of, left_of, ahead, is_stage, is_closed, Moved}
@@ -41,7 +41,7 @@ body_length : (way : Way) (nid bits : ℕ) (r : Reading) → BodyIn way nid bits
 body_length way nid bits r (inl (row, e, (reads, len))) = len
 body_length way nid bits r (inr (k, b)) = kept_length bits r b
 
-run_room : (way : Way) (room : ℕ) (r : Reading) → Run (Message way) room r → room ≤ length (spelled r) + 7
+run_room : (way : Way) (room : ℕ) (r : Reading) → PacketsIn (Message way) room r → room ≤ length (spelled r) + 7
 run_room way room r (vs, run) = run.fills.1
 
 length_room : (way : Way) (nid room : ℕ) (r : Reading) → LengthLeft (Message way) nid room r → room ≤ length (spelled r) + head_bits way + 7
@@ -74,7 +74,7 @@ closed_room way room s p c' room' s' k o m e =
     omega (arith, a, b, is)
 
 -- and where they begin so
-pub begun_room : (way : Way) (room : ℕ) (c' : Carrier) (room' : ℕ) (s' : Stage) → ahead c' room' s' ≡ room → Same (left_of c' room' s') (Run (Message way) room) → s' ≡ stage.Closed → room' ≤ 7
+pub begun_room : (way : Way) (room : ℕ) (c' : Carrier) (room' : ℕ) (s' : Stage) → ahead c' room' s' ≡ room → Same (left_of c' room' s') (PacketsIn (Message way) room) → s' ≡ stage.Closed → room' ≤ 7
 begun_room way room c' room' s' a same e =
     let none : left_of c' room' s' [] = rw e refl in
     let is : ahead c' room' s' ≡ room' = rw e refl in
@@ -93,11 +93,11 @@ none_closed c room s k h = by_test (is_closed s) refl
     by_test false e = absurd (some_next (next_of s) refl e)
 
 -- and in a message without room
-pub begun_closed : (way : Way) (c : Carrier) (room : ℕ) (s : Stage) → IsTrue (is_stage c room s) → Same (left_of c room s) (Run (Message way) 0) → is_closed s ≡ true
+pub begun_closed : (way : Way) (c : Carrier) (room : ℕ) (s : Stage) → IsTrue (is_stage c room s) → Same (left_of c room s) (PacketsIn (Message way) 0) → is_closed s ≡ true
 begun_closed way c room s k same = none_closed c room s k ((same []).1 ([], record { carried = All-nil (Carries (Message way)); reading_is = refl; fills = (omega arith, omega arith) }))
 
 -- what packets of a message fill
-pub message_run : (way : Way) (room : ℕ) (r : Reading) → Run (Message way) room r → (room ≤ 7) ⊎ (frame_bits way ≤ room)
+pub message_run : (way : Way) (room : ℕ) (r : Reading) → PacketsIn (Message way) room r → (room ≤ 7) ⊎ (frame_bits way ≤ room)
 message_run way room r run =
     elim (cases_lt 7 room) [
       | inl lt ↦ (let (n, q, e, small, after) = (number_step (Message way) room lt).opens r run in inr (framed n q after))

@@ -1,4 +1,4 @@
--- The tests of first bits tell which numbers go on.
+-- The tests of first bits say which numbers continue.
 use Rattle.std.proofs.Common.{◌≡◌, ℕ, ◌-◌, ◌/◌, ◌^◌, ◌<◌, ◌≤◌, Bool, sym, ap, ◌∙◌, arith}
 use Rattle.std.specs.Prelude.{IsTrue, ◌↔◌}
 use Rattle.etcs_vars.specs.declared.var.Var.{Var}
@@ -27,7 +27,7 @@ starts_length c nid room rest bits result small told = (
   λ (l, r, e, a). told.1 (l, e, some_length c nid room l r a),
 )
 
--- a variable with no condition behind it
+-- a variable with no condition after it
 starts_admitted : (x : Var) (After : ℕ → Reading → Type 0) (rest bits : ℕ) → rest ≤ width x → bits < 2 ^ (width x - rest) → Tested x After (begins (ranges x)) → IsTrue (begins (ranges x) rest bits) ↔ GoesOn After rest bits
 starts_admitted x After rest bits le fits t =
     let whole : width x - (width x - rest) ≡ rest = omega arith in (

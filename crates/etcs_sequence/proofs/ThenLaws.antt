@@ -33,7 +33,7 @@ then_behind P Q P' x p n d = record {
   from = λ q (u, v, f, hu, hv). ((x, n) ∷ u, v, ap (λ (t : Reading). (x, n) ∷ t) f, d.from u hu, hv);
 }
 
--- ---- Behind the first.
+-- ---- After the first.
 
 pub then_second : (P Q : Reading → Type 0) → Ended P → Goes P → (r : Reading) → Then P Q r ↔ Q r
 then_second P Q end goes r =

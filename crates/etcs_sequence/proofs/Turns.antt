@@ -14,7 +14,7 @@ use Rattle.etcs_tables.specs.Layouts.{Layout, ReadsIn}
 use Rattle.etcs_tables.specs.Rows.{row_to}
 use Rattle.etcs_tables.specs.Frames.{is_kept, frame_bits, is_framed, sends}
 use Rattle.etcs_tables.specs.declared.row.Way.{Way}
-use Rattle.etcs_sequence.specs.Contents.{Run, BodyIn, KeptIn, BodyLeft, AfterLength, LengthLeft, AfterDirection, AfterMarker, MarkerLeft, AfterNumber, FrameLeft}
+use Rattle.etcs_sequence.specs.Contents.{PacketsIn, BodyIn, KeptIn, BodyLeft, AfterLength, LengthLeft, AfterDirection, AfterMarker, MarkerLeft, AfterNumber, FrameLeft}
 use Rattle.etcs_sequence.specs.laws.Others.{kept_untyped}
 use Rattle.etcs_sequence.specs.laws.Turns.{row_body}
 use Rattle.etcs_sequence.specs.Lefts.{behind_framed, left_of}
@@ -67,7 +67,7 @@ pub framed_left : (c : Carrier) (room n : ℕ) → Same (FrameLeft c n room) (le
 framed_left Telegram room n q = (λ (dir, rest, e, a, l). (dir, rest, e, (a, l)), λ (dir, rest, e, (a, l)). (dir, rest, e, a, l))
 framed_left (Message ToTrain) room n q = (λ (dir, rest, e, a, l). (dir, rest, e, (a, l)), λ (dir, rest, e, (a, l)). (dir, rest, e, a, l))
 
-pub behind_marker : (room n : ℕ) → ((r : Reading) × AfterMarker room n r) → IsTrue (admits NID_VBCMK n) × (14 ≤ room) × Same (AfterMarker room n) (Run Telegram (room - 14))
+pub behind_marker : (room n : ℕ) → ((r : Reading) × AfterMarker room n r) → IsTrue (admits NID_VBCMK n) × (14 ≤ room) × Same (AfterMarker room n) (PacketsIn Telegram (room - 14))
 behind_marker room n (r, (a, le, run)) = (a, le, λ q. (λ h. h.2, λ k. (a, le, k)))
 
 pub behind_direction : (c : Carrier) (nid room dir : ℕ) → ((r : Reading) × AfterDirection c nid room dir r) → IsTrue (sends (way_of c) dir) × Same (AfterDirection c nid room dir) (LengthLeft c nid room)

@@ -22,7 +22,7 @@ no_more : (Q : Reading → Type 0) (q a b : Reading) (bs : List Bool) → q ≡ 
 no_more Q q a b [] e l ea h = subst Q (sym (e ∙ ap (λ (x : Reading). x ++ b) ea)) h
 no_more Q q a b (x ∷ bs) e l ea h = absurd (omega (arith, l))
 
--- so many of the bits are there
+-- this many of the bits are there
 kept_to : (left : ℕ) (t : List Bool) (Q : Reading → Type 0) (q : Reading) → length t ≤ left → Then (KeptIn left) Q (kept OTHER_DATA t ++ q) → Then (KeptIn (left - length t)) Q q
 kept_to left t Q q le (a, b, e, (bs, l, ea), l') =
     let n = length t in

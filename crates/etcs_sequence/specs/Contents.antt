@@ -1,4 +1,4 @@
--- Packets one behind the other in a room of so many bits, up to what closes them: packet 255 in a telegram, padding in
+-- Packets one after another in a room of this many bits, up to what closes them: packet 255 in a telegram, padding in
 -- a message (SUBSET-026, 7.4 and 8).
 use Rattle.std.specs.Prelude.{◌≡◌, ℕ, ◌+◌, ◌-◌, ◌≤◌, ◌<◌, ◌^◌, Bool, List, [], ◌∷◌, ◌++◌, length, IsTrue, Some, All, ◌⊎◌}
 use Rattle.etcs_vars.specs.declared.var.Var.TheVariants.{NID_PACKET, NID_VBCMK, Q_DIR, L_PACKET, OTHER_DATA}
@@ -20,7 +20,7 @@ abbrev pub closing : Carrier → Reading
 closing Telegram = (NID_PACKET, 255) ∷ []
 closing (Message way) = []
 
--- packets of so many bits, with what closes them, fill the room: in a message but for its padding
+-- packets of this many bits, with what closes them, fill the room: in a message but for its padding
 abbrev pub Fills : Carrier → ℕ → ℕ → Type 0
 Fills Telegram room bits = bits ≤ room
 Fills (Message way) room bits = (bits ≤ room) × (room ≤ bits + 7)
@@ -35,26 +35,26 @@ Carries Telegram v = IsPacketTo ToTrain v
 Carries (Message way) v = IsPacketTo way v × IsUnmarked way (nid_of v)
 
 -- these packets in a room, with what closes them
-pub record RunOf (c : Carrier) (room : ℕ) (vs : List PacketValue) (r : Reading) : Type 0 where
+pub record ReadsPackets (c : Carrier) (room : ℕ) (vs : List PacketValue) (r : Reading) : Type 0 where
   pub carried : All (Carries c) vs
   pub reading_is : r ≡ readings_to (way_of c) vs ++ closing c
   pub fills : Fills c room (length (spelled r))
 
-abbrev pub Run : Carrier → ℕ → Reading → Type 0
-Run c room r = (vs : List PacketValue) × RunOf c room vs r
+abbrev pub PacketsIn : Carrier → ℕ → Reading → Type 0
+PacketsIn c room r = (vs : List PacketValue) × ReadsPackets c room vs r
 
--- ---- What is left of it behind some of its variables.
+-- ---- What is left of it after some of its variables.
 
--- so many bits of OTHER_DATA
+-- this many bits of OTHER_DATA
 abbrev pub KeptIn : ℕ → Reading → Type 0
 KeptIn bits r = (b : List Bool) × (length b ≡ bits) × (r ≡ kept OTHER_DATA b)
 
--- so many bits behind the frame of a packet
+-- this many bits after the frame of a packet
 abbrev pub BodyIn : Way → ℕ → ℕ → Reading → Type 0
 BodyIn way nid bits r = ((row : Layout) × (row_to way nid ≡ Some row) × ReadsIn row bits r) ⊎ (IsTrue (is_kept way nid) × KeptIn bits r)
 
 abbrev pub BodyLeft : Carrier → ℕ → ℕ → ℕ → Reading → Type 0
-BodyLeft c nid bits room = Then (BodyIn (way_of c) nid bits) (Run c room)
+BodyLeft c nid bits room = Then (BodyIn (way_of c) nid bits) (PacketsIn c room)
 
 -- The room counts from the packet's first bit until its length is known.
 
@@ -76,12 +76,12 @@ abbrev pub FrameLeft : Carrier → ℕ → ℕ → Reading → Type 0
 FrameLeft c nid room r = (dir : ℕ) × (rest : Reading) × (r ≡ directed (way_of c) dir rest) × IsTrue (is_direction (way_of c) dir) × LengthLeft c nid room rest
 
 abbrev pub AfterMarker : ℕ → ℕ → Reading → Type 0
-AfterMarker room n r = IsTrue (admits NID_VBCMK n) × (14 ≤ room) × Run Telegram (room - 14) r
+AfterMarker room n r = IsTrue (admits NID_VBCMK n) × (14 ≤ room) × PacketsIn Telegram (room - 14) r
 
 abbrev pub MarkerLeft : ℕ → Reading → Type 0
 MarkerLeft room r = (n : ℕ) × (rest : Reading) × (r ≡ (NID_VBCMK, n) ∷ rest) × AfterMarker room n rest
 
--- behind NID_PACKET: nothing behind 255, NID_VBCMK behind 0, else a frame
+-- after NID_PACKET: nothing after 255, NID_VBCMK after 0, else a frame
 abbrev pub AfterNumber : Carrier → ℕ → ℕ → Reading → Type 0
 AfterNumber c room n r = ((c ≡ Telegram) × (n ≡ 255) × (8 ≤ room) × (r ≡ [])) ⊎ (((c ≡ Telegram) × (n ≡ 0) × MarkerLeft room r) ⊎ (IsTrue (is_framed (way_of c) n) × FrameLeft c n room r))
 

@@ -4,10 +4,10 @@ use Rattle.etcs_bits.specs.Bits.{num}
 use Rattle.etcs_vars.specs.declared.var.Var.{Var}
 use Rattle.etcs_vars.specs.Vars.{width}
 use Rattle.etcs_vars.specs.Reading.{Reading, spelled, Owner}
-use Rattle.etcs_sequence.specs.Stages.{Stage, reading}
+use Rattle.etcs_sequence.specs.Progress.{Progress, reading}
 
--- the bits b are those of whole variables, which the members tell, and the first bits of the next one, with which each
--- reading of L goes on behind them that begins with b
+-- the bits b are those of whole variables, which the members say, and the first bits of the next one, with which each
+-- reading of L continues after them that begins with b
 pub record HeldIn (L Members : Reading → Type 0) (b : List Bool) (part taken : ℕ) : Type 0 where
   pub far : Reading
   pub next : Var
@@ -19,5 +19,5 @@ pub record HeldIn (L Members : Reading → Type 0) (b : List Bool) (part taken :
   pub short : taken < width next
 
 -- what a reader holds that wants more
-abbrev pub IsHeld : {V : Type 0} → (L Members : Reading → Type 0) → Stage V → ℕ → ℕ → Type 0
+abbrev pub IsHeld : {V : Type 0} → (L Members : Reading → Type 0) → Progress V → ℕ → ℕ → Type 0
 IsHeld L Members s part taken = (b : List Bool) × (s ≡ reading b) × HeldIn L Members b part taken

@@ -17,7 +17,7 @@ use Rattle.etcs_rows.specs.Places.{first_variable}
 use Rattle.etcs_packets.specs.PacketValues as packets
 use Rattle.etcs_packets.specs.PacketValues.{PacketValue}
 use Rattle.etcs_packets.specs.PacketReadings.{in_frame, reading_to, readings_to}
-use Rattle.etcs_sequence.specs.Contents.{closing, Carries, Run, KeptIn, LengthLeft, DirectionLeft, MarkerLeft}
+use Rattle.etcs_sequence.specs.Contents.{closing, Carries, PacketsIn, KeptIn, LengthLeft, DirectionLeft, MarkerLeft}
 use Rattle.etcs_sequence.specs.declared.stage.Stage.{Stage}
 use Rattle.etcs_sequence.specs.declared.stage.Stage.TheVariants.{Number, Marker, Direction, Length, Row, Kept, Closed}
 use Rattle.etcs_sequence.specs.declared.stage.Event.{Event}
@@ -41,12 +41,12 @@ behind_framed ToTrain nid = Direction nid
 
 -- the readings that are left; the room counts from the packet's first bit until its length is known
 abbrev pub left_of : Carrier → ℕ → Stage → Reading → Type 0
-left_of c room Number = Run c room
+left_of c room Number = PacketsIn c room
 left_of c room Marker = MarkerLeft room
 left_of c room (Direction nid) = DirectionLeft c nid room
 left_of c room (Length nid dir) = LengthLeft c nid room
-left_of c room (Row nid dir row) = Then (ReadsIn row.place row.len) (Run c room)
-left_of c room (Kept nid dir left) = Then (KeptIn left) (Run c room)
+left_of c room (Row nid dir row) = Then (ReadsIn row.place row.len) (PacketsIn c room)
+left_of c room (Kept nid dir left) = Then (KeptIn left) (PacketsIn c room)
 left_of c room Closed = λ r. r ≡ []
 
 -- how many bits of the room are left

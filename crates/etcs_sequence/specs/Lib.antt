@@ -10,5 +10,5 @@ pub mod Refs
 pub mod RowBits
 pub mod Runs
 pub mod Spellings
-pub mod Stages
+pub mod Progress
 pub mod laws

@@ -9,19 +9,19 @@ use Rattle.etcs_packets.specs.declared.packet.Packet.{Packet}
 use Rattle.etcs_reader.specs.Rests.{Goes, BeginsWith, Ended}
 use Rattle.etcs_reader.specs.Feeders.{FeederValue}
 use Rattle.etcs_sequence.specs.declared.list.PacketList.{PacketList}
-use Rattle.etcs_sequence.specs.Stages.{Stage, stage_by, IsReader, asks_memory}
+use Rattle.etcs_sequence.specs.Progress.{Progress, progress_by, IsReader, asks_memory}
 
 -- what is known of the item's size, and how far it came
 pub record ItemValue (S V : Type 0) : Type 0 where
   pub size : S
-  pub stage : Stage V
+  pub progress : Progress V
 
 -- all bits that were fed
 abbrev pub seen_at : {R : Type 0} → (R → Reading) → FeederValue R → List Bool
 seen_at far v = spelled (far v.rest) ++ v.part
 
-abbrev pub stage_at : {R V : Type 0} → (R → Option Var) → (R → Reading) → (R → V) → FeederValue R → Stage V
-stage_at next far made v = stage_by (next v.rest) (seen_at far v) (made v.rest) v.count v.stop
+abbrev pub progress_at : {R V : Type 0} → (R → Option Var) → (R → Reading) → (R → V) → FeederValue R → Progress V
+progress_at next far made v = progress_by (next v.rest) (seen_at far v) (made v.rest) v.count v.stop
 
 -- What R keeps of a language, whose readings are those of values W: what is left of it, the variable that comes next, what
 -- follows, where memory may be refused, the variables so far, what is held of them, and at the end the value V with its
@@ -29,7 +29,7 @@ stage_at next far made v = stage_by (next v.rest) (seen_at far v) (made v.rest) 
 pub record Readable (R V W : Type 0) (left : R → Reading → Type 0) (next : R → Option Var) (follows : R → Reading → R → Type 0) (fails : R → Type 0) (far : R → Reading) (holds : R → Reading → Type 0) (Reads : W → Reading → Type 0) (value : V → W) (IsValue : V → Type 0) (size : V → ℕ) (made : R → V) (store : R → PacketList) (Members : List Packet → List ℕ → List Bool → Reading → Type 0) (most least : ℕ) : Type 0 where
   pub regular : Regular (readings_of Reads)
   pub some : Goes (readings_of Reads)
-  -- each reading has whole bytes, some and at most so many
+  -- each reading has whole bytes, some and at most this many
   pub bytes : (r : Reading) → readings_of Reads r → (length (spelled r) % 8 ≡ 0) × (length (spelled r) ≤ 8 * most)
   pub room : 8 * most < 2 ^ 64
   pub long : (r : Reading) → readings_of Reads r → 0 < length (spelled r)
@@ -38,7 +38,7 @@ pub record Readable (R V W : Type 0) (left : R → Reading → Type 0) (next : R
   pub residual : (s t : R) (p : Reading) → follows s p t → Residual (left s) p (left t)
   pub held : (s t : R) (p q : Reading) → follows s p t → holds s q → holds t (q ++ p)
   pub far_is : (s : R) (q : Reading) → Goes (left s) → holds s q → q ≡ far s
-  -- memory is refused behind so many bits alone, and at a variable that asks for it
+  -- memory is refused after this many bits alone, and at a variable that asks for it
   pub starved : (s : R) (q : Reading) → fails s → holds s q → least ≤ length (spelled q)
   pub asks : (s : R) (q : Reading) (x : Var) → next s ≡ Some x → Goes (left s) → fails s → holds s q → IsTrue (asks_memory x)
   pub whole : (s : R) → next s ≡ None → readings_of Reads (far s) → holds s (far s) → IsValue (made s) × Reads (value (made s)) (far s)

@@ -9,7 +9,7 @@ use Rattle.etcs_packets.specs.PacketReadings.{packet_reading, packets_reading}
 abbrev pub IsPacketBits : List Bool → Type 0
 IsPacketBits b = (v : PacketValue) × IsPacket v × (spelled (packet_reading v) ≡ b)
 
--- so many packets one behind the other, and anything behind them
+-- this many packets one after another, and anything after them
 abbrev pub ArePackets : ℕ → List Bool → Type 0
 ArePackets n b = (vs : List PacketValue) × (c : List Bool) × All IsPacket vs × (length vs ≡ n) × (b ≡ spelled (packets_reading vs) ++ c)
 

@@ -13,7 +13,7 @@ use Rattle.etcs_packets.specs.declared.packet.Packet.{Packet}
 use Rattle.etcs_packets.specs.PacketValues.{packet_value, IsPacket, IsMade}
 use Rattle.etcs_packets.specs.PacketReadings.{frame, in_frame}
 
--- the variables so far of a packet of whose row so many bits are left
+-- the variables so far of a packet of whose row this many bits are left
 abbrev pub row_so_far : Way → Option Layout → ℕ → ℕ → List ℕ → ℕ → Reading
 row_so_far way None nid dir f bits = []
 row_so_far way (Some row) nid dir f bits = in_frame way nid dir (length (spelled (read_of row f)) + bits) (read_of row f)
@@ -24,7 +24,7 @@ row_so_far way (Some row) nid dir f bits = in_frame way nid dir (length (spelled
 abbrev pub BegunFrame : Reading → Type 0
 BegunFrame r = (r ≡ []) ⊎ (((nid : ℕ) × (r ≡ (NID_PACKET, nid) ∷ [])) ⊎ ((nid : ℕ) × (dir : ℕ) × (r ≡ (NID_PACKET, nid) ∷ (Q_DIR, dir) ∷ [])))
 
--- a typed packet's, behind whose frame so many of its n bits were read, with the numbers f
+-- a typed packet's, after whose frame this many of its n bits were read, with the numbers f
 abbrev pub BegunRow : Reading → List ℕ → Type 0
 BegunRow r f = (nid : ℕ) × (dir : ℕ) × (n : ℕ) × (q : Reading) × (r ≡ frame nid dir n ++ q) × (numbers q ≡ f) × (length (spelled q) < n) × IsTrue (is_some (row_to ToTrain nid))
 

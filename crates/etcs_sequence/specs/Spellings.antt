@@ -3,8 +3,8 @@ use Rattle.std.specs.Prelude.{◌≡◌, ℕ, Bool, List, [], ◌++◌}
 use Rattle.etcs_vars.specs.Reading.{Reading, spelled}
 use Rattle.etcs_rows.specs.declared.frames.Carrier.{Carrier}
 use Rattle.etcs_packets.specs.PacketValues.{PacketValue}
-use Rattle.etcs_sequence.specs.Contents.{RunOf}
+use Rattle.etcs_sequence.specs.Contents.{ReadsPackets}
 
 -- packets with one spelling are one, and no spelling begins another
 abbrev pub OneSpelling : Type 0
-OneSpelling = (c : Carrier) (room : ℕ) (vs us : List PacketValue) (a b : Reading) (behind : List Bool) → RunOf c room vs a → RunOf c room us b → spelled b ≡ spelled a ++ behind → (vs ≡ us) × (behind ≡ [])
+OneSpelling = (c : Carrier) (room : ℕ) (vs us : List PacketValue) (a b : Reading) (behind : List Bool) → ReadsPackets c room vs a → ReadsPackets c room us b → spelled b ≡ spelled a ++ behind → (vs ≡ us) × (behind ≡ [])

@@ -12,7 +12,7 @@ use std::alloc::AllocError;
 /// How many packets were read. Takes no memory.
 #[derive(Clone, Copy, Debug, PartialEq, Eq, Drop)]
 pub struct PacketCount {
-    /// Wraps round behind the largest `usize`, which no room of packets reaches.
+    /// Wraps round after the largest `usize`, which no room of packets reaches.
     pub packets: usize,
 }
 

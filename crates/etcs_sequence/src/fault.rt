@@ -1,7 +1,7 @@
 //! What a reader answers where no more is taken.
 
 ghost use Rattle.std.specs.Prelude.{◌≡◌};
-ghost use Rattle.etcs_sequence.specs.Stages.{fault_by};
+ghost use Rattle.etcs_sequence.specs.Progress.{fault_by};
 
 use etcs_reader::Stop;
 use etcs_vars::ReadFault;

@@ -8,7 +8,7 @@ use etcs_bits::BitSlice;
 pub struct Held<'a, P> {
     /// The whole packets, in order.
     pub packets: &'a [P],
-    /// The whole numbers behind L_PACKET of the typed packet that is being read.
+    /// The whole numbers after L_PACKET of the typed packet that is being read.
     pub numbers: &'a [u64],
     /// The bits so far of OTHER_DATA, or of FILL.
     pub kept: BitSlice<'a>,

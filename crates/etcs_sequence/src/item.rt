@@ -41,7 +41,7 @@ pub trait ItemRest: Rest {
     /// The most bytes that an item of this size has.
     ghost most: { Self.Size → ℕ };
 
-    /// Memory is refused behind so many bits alone.
+    /// Memory is refused after this many bits alone.
     ghost least: { ℕ };
 
     /// The variables that were read.
@@ -83,24 +83,24 @@ pub struct ItemReader<R: ItemRest> {
 }
 
 impl<R: ItemRest> Model for ItemReader<R> {
-    ghost use Rattle.etcs_sequence.specs.Readables.{ItemValue, stage_at, IsItemReader};
+    ghost use Rattle.etcs_sequence.specs.Readables.{ItemValue, progress_at, IsItemReader};
 
     ghost Value = { ItemValue R.Size R.Item };
 
-    ghost view = { λ r. record { size = r.size; stage = stage_at R.next R.far R.made r.feeder } };
+    ghost view = { λ r. record { size = r.size; progress = progress_at R.next R.far R.made r.feeder } };
 
     ghost invariant = { λ r. IsItemReader R R.Item R.Shown R.left R.next R.follows R.fails R.far (R.holds r.size) (R.Reads r.size) R.value R.IsValue R.bits R.made R.store R.Members (R.most r.size) R.least r.feeder };
 }
 
 impl<R: ItemRest> ItemReader<R> {
-    ghost use Rattle.etcs_sequence.specs.Stages.{Feeds, IsReading, fault_of, seen_of, reading, finished};
+    ghost use Rattle.etcs_sequence.specs.Progress.{Feeds, IsReading, fault_of, seen_of, reading, finished};
 
     /// A reader of an item of this size, of which all is left.
     pub fn new(size: R::Size, rest: R) -> Self
         requires readable { Readable R R.Item R.Shown R.left R.next R.follows R.fails R.far (R.holds size) (R.Reads size) R.value R.IsValue R.bits R.made R.store R.Members (R.most size) R.least }
         requires same { Same (R.left rest) (readings_of (R.Reads size)) }
         requires holds { R.holds size rest [] }
-        ensures { result ≡ record { size = size; stage = reading [] } }
+        ensures { result ≡ record { size = size; progress = reading [] } }
     {
         ItemReader {
             size,
@@ -110,7 +110,7 @@ impl<R: ItemRest> ItemReader<R> {
 
     /// How many leading bits were accepted, over all pieces.
     pub fn bits_seen(&self) -> usize
-        ensures { result ≡ seen_of R.bits self.now.stage }
+        ensures { result ≡ seen_of R.bits self.now.progress }
     {
         self.feeder.count()
     }
@@ -120,12 +120,12 @@ impl<R: ItemRest> ItemReader<R> {
     ///
     /// # Errors
     ///
-    /// `Refused` with the first bit, counted from 0 over all pieces, with which no item goes on, and the
-    /// variable that holds it; `Memory` where memory is refused at a bit with which an item goes on; `Ended`
+    /// `Refused` with the first bit, counted from 0 over all pieces, with which no item continues, and the
+    /// variable that holds it; `Memory` where memory is refused at a bit with which an item continues; `Ended`
     /// where the item was whole before. The reader then answers the same to each later piece.
     pub fn feed(&mut self, piece: &[u8]) -> Result<Fed, ReadFault>
-        ensures answer { (seen : List Bool) → self.old.stage ≡ reading seen → Feeds (R.Reads self.old.size) R.value R.IsValue R.least seen (bits piece.now) result self.new.stage }
-        ensures after { (IsReading self.old.stage → ⊥) → (self.new ≡ self.old) × (result ≡ Err (fault_of self.old.stage)) }
+        ensures answer { (seen : List Bool) → self.old.progress ≡ reading seen → Feeds (R.Reads self.old.size) R.value R.IsValue R.least seen (bits piece.now) result self.new.progress }
+        ensures after { (IsReading self.old.progress → ⊥) → (self.new ≡ self.old) × (result ≡ Err (fault_of self.old.progress)) }
         ensures size { self.new.size ≡ self.old.size }
     {
         if let Some(stop) = self.feeder.stop() {
@@ -148,14 +148,14 @@ impl<R: ItemRest> ItemReader<R> {
     /// What it holds between two pieces: the whole packets, the numbers or kept bits of what is being read,
     /// and the unfinished variable. `None` after `Done`, `Refused` or `Memory`.
     pub fn held(&self) -> Option<Held<'_, Packet>>
-        ensures some { IfSome result (λ h. IsHeld (readings_of (R.Reads self.now.size)) (R.Members h.packets.now h.numbers.now h.kept) self.now.stage h.part h.taken) }
-        ensures none { IsNone result → IsReading self.now.stage → ⊥ }
+        ensures some { IfSome result (λ h. IsHeld (readings_of (R.Reads self.now.size)) (R.Members h.packets.now h.numbers.now h.kept) self.now.progress h.part h.taken) }
+        ensures none { IsNone result → IsReading self.now.progress → ⊥ }
     {
         if self.feeder.stop().is_some() || self.feeder.var().is_none() {
             return None;
         }
         let store = self.feeder.rest().store();
-        let (part, taken) = self.feeder.part();
+        let (part, taken) = self.feeder.unfinished();
         Some(Held {
             packets: store.packets.as_slice(),
             numbers: store.numbers.as_slice(),
@@ -171,7 +171,7 @@ impl<R: ItemRest> ItemReader<R> {
     ///
     /// The reader itself, as it was, where there is no whole item.
     pub fn take(self) -> Result<R::Item, Self>
-        ensures { MatchResult result (λ t. self.stage ≡ finished t) (λ r. (r ≡ self) × ((t : R.Item) → self.stage ≢ finished t)) }
+        ensures { MatchResult result (λ t. self.progress ≡ finished t) (λ r. (r ≡ self) × ((t : R.Item) → self.progress ≢ finished t)) }
     {
         if self.feeder.stop().is_some() || self.feeder.var().is_some() {
             return Err(self);

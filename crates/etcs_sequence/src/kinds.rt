@@ -15,7 +15,7 @@ use etcs_packets::{Other, Packet};
 use etcs_tables::{Way, frame_bits};
 use std::alloc::{AllocError, Global};
 
-/// Q_DIR, which stands behind NID_PACKET.
+/// Q_DIR, which follows NID_PACKET.
 fn direction(bits: &BitSlice<'_>) -> u8
     requires { 23 ≤ length bits.now }
     ensures { result ≡ value (part 8 2 bits.now) }
@@ -23,7 +23,7 @@ fn direction(bits: &BitSlice<'_>) -> u8
     number_in(bits, 8, 2) as u8
 }
 
-/// The bits behind L_PACKET.
+/// The bits after L_PACKET.
 fn body<'a>(bits: &BitSlice<'a>) -> BitSlice<'a>
     requires { 23 ≤ length bits.now }
     ensures { result ≡ part 23 (length bits.now - 23) bits.now }
@@ -32,7 +32,7 @@ fn body<'a>(bits: &BitSlice<'a>) -> BitSlice<'a>
     cut_in(bits, frame, bits.len() - frame)
 }
 
-/// Packet 0: NID_VBCMK stands behind its number.
+/// Packet 0: NID_VBCMK follows its number.
 pub(crate) fn marker_packet(bits: &BitSlice<'_>) -> Packet
     requires { IsMarkerBits bits.now }
     ensures whole { IsWhole result }

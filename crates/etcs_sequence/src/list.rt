@@ -17,9 +17,9 @@ use std::mem;
 pub struct PacketList {
     pub alloc: Global,
     pub packets: Vec<Packet>,
-    /// The numbers behind L_PACKET of the typed packet that is being read.
+    /// The numbers after L_PACKET of the typed packet that is being read.
     pub numbers: Vec<u64>,
-    /// The bits behind L_PACKET of the packet that is being kept, or those of FILL.
+    /// The bits after L_PACKET of the packet that is being kept, or those of FILL.
     pub bits: Bits,
 }
 
@@ -39,7 +39,7 @@ impl PacketList {
     }
 }
 
-/// Puts a packet behind the others.
+/// Puts a packet after the others.
 fn put(packets: &mut Vec<Packet>, packet: Packet) -> Result<(), AllocError>
     ensures { OnOk result (packets.new.items ≡ packets.old.items ++ packet ∷ []) }
 {

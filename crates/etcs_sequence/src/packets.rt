@@ -8,16 +8,16 @@ ghost use Rattle.etcs_vars.proofs.Languages.{Same};
 ghost use Rattle.etcs_packets.specs.PacketValues.{PacketValue};
 ghost use Rattle.etcs_packets.specs.PacketReadings.{readings_to};
 ghost use Rattle.etcs_rows.specs.Frames.{way_of};
-ghost use Rattle.etcs_sequence.specs.Contents.{Carries, Run};
+ghost use Rattle.etcs_sequence.specs.Contents.{Carries, PacketsIn};
 ghost use Rattle.etcs_rows.specs.declared.frames.Carrier.{Carrier};
 ghost use Rattle.etcs_reader.specs.Rests.{Starts, Goes, LeapsBy};
 ghost use Rattle.etcs_sequence.specs.declared.stage.Stage.{Stage};
 ghost use Rattle.etcs_sequence.specs.Lefts.{Here, next_of, left_of, ahead, is_closed, may_grow, numbers_with, bits_with, After, Moved, HoldsAt};
 ghost use Rattle.etcs_sequence.specs.laws.LeftLaws.{left_regular, left_begins, left_ended, moved_none, moved_along, held_none, held_along};
 
-use crate::left::PacketsLeft;
-use crate::parts::{direction_at, length_at, number_at, run_at};
+use crate::parts::{bits_at, direction_at, length_at, number_at};
 use crate::stage::{Event, Keep, Stage};
+use crate::state::PacketsState;
 use crate::store::PacketStore;
 use etcs_bits::BitSlice;
 use etcs_reader::Rest;
@@ -26,10 +26,10 @@ use etcs_tables::{CLOSING, CLOSING_BITS, frame_bits};
 use etcs_vars::Var;
 use std::alloc::AllocError;
 
-/// What is left of packets one behind the other in a room of bits, and where those go that were read.
+/// What is left of packets one after another in a room of bits, and where those go that were read.
 #[derive(Drop)]
 pub struct PacketsRest<S: PacketStore> {
-    pub left: PacketsLeft,
+    pub left: PacketsState,
     pub store: S,
     pub ghost held: { ∥ (is_closed left.stage ≡ false → ((q : Reading) × HoldsAt left.carrier left.stage (S.holds store) q)) ∥₁ },
 }
@@ -44,7 +44,7 @@ fn absorb<S: PacketStore>(store: &mut S, keep: Keep, number: u64) -> Result<(), 
         Keep::Number => store.number(number),
         Keep::Bit => {
             let byte = [if number == 1 { 1 } else { 0 }];
-            store.bits(&run_at(&byte, 7, 1))
+            store.bits(&bits_at(&byte, 7, 1))
         }
         Keep::Nothing => Ok(()),
     }
@@ -65,33 +65,33 @@ fn finish<S: PacketStore>(store: &mut S, event: Event) -> Result<(), AllocError>
 }
 
 impl<S: PacketStore> PacketsRest<S> {
-    /// All packets of a room of so many bits, and a store that holds none.
+    /// All packets of a room of this many bits, and a store that holds none.
     pub fn new(carrier: Carrier, room: usize, store: S) -> PacketsRest<S>
         requires small { room ≤ 8191 }
         requires none { S.holds store [] [] [] }
         ensures carrier { result.left.carrier ≡ carrier }
         ensures ahead { ahead result.left.carrier result.left.room result.left.stage ≡ room }
-        ensures left { Same (left_of result.left.carrier result.left.room result.left.stage) (Run carrier room) }
+        ensures left { Same (left_of result.left.carrier result.left.room result.left.stage) (PacketsIn carrier room) }
         ensures store { result.store ≡ store }
         ensures held { HoldsAt result.left.carrier result.left.stage (S.holds result.store) [] }
     {
         PacketsRest {
-            left: PacketsLeft::new(carrier, room),
+            left: PacketsState::new(carrier, room),
             store,
         }
     }
 
-    /// All packets of a room of so many bits again, where the store holds none yet.
+    /// All packets of a room of this many bits again, where the store holds none yet.
     pub fn start(&mut self, carrier: Carrier, room: usize)
         requires small { room ≤ 8191 }
         requires none { ∥ S.holds self.old.store [] [] [] ∥₁ }
         ensures carrier { self.new.left.carrier ≡ carrier }
         ensures ahead { ahead self.new.left.carrier self.new.left.room self.new.left.stage ≡ room }
-        ensures left { Same (left_of self.new.left.carrier self.new.left.room self.new.left.stage) (Run carrier room) }
+        ensures left { Same (left_of self.new.left.carrier self.new.left.room self.new.left.stage) (PacketsIn carrier room) }
         ensures store { self.new.store ≡ self.old.store }
         ensures held { S.holds self.old.store [] [] [] → HoldsAt self.new.left.carrier self.new.left.stage (S.holds self.new.store) [] }
     {
-        self.left = PacketsLeft::new(carrier, room);
+        self.left = PacketsState::new(carrier, room);
     }
 
     /// Takes packet 255, where the piece has it and it may come next, and says how many bits it was.
@@ -113,7 +113,7 @@ impl<S: PacketStore> PacketsRest<S> {
         if !self.left.may_close() {
             return None;
         }
-        self.left.take_number(number);
+        self.left.pass_number(number);
         Some(CLOSING_BITS)
     }
 
@@ -137,7 +137,7 @@ impl<S: PacketStore> PacketsRest<S> {
         let dir = direction_at(way, piece, at);
         match self
             .store
-            .whole(nid, dir, run_at(piece, at + frame, len - frame))
+            .whole(nid, dir, bits_at(piece, at + frame, len - frame))
         {
             Ok(true) => {
                 self.left.skip(len);
@@ -189,14 +189,14 @@ impl<S: PacketStore> PacketsRest<S> {
         ensures viable { OnErr result (Viable (left_of self.old.left.carrier self.old.left.room self.old.left.stage) (part at 1 (bits piece.now))) }
     {
         let count = left.min(piece.len() * 8 - at);
-        match self.store.bits(&run_at(piece, at, count)) {
+        match self.store.bits(&bits_at(piece, at, count)) {
             Ok(()) => {}
             Err(error) => {
                 self.left.close();
                 return Err(error);
             }
         }
-        let event = self.left.take_bits(nid, dir, left, count);
+        let event = self.left.pass_bits(nid, dir, left, count);
         match finish(&mut self.store, event) {
             Ok(()) => Ok(Some(count)),
             Err(error) => {
@@ -235,7 +235,7 @@ impl<S: PacketStore> Rest for PacketsRest<S> {
                 return Err(error);
             }
         }
-        let event = self.left.take(var, number);
+        let event = self.left.pass(var, number);
         match finish(&mut self.store, event) {
             Ok(()) => Ok(()),
             Err(error) => {

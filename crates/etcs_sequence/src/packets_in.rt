@@ -1,4 +1,4 @@
-//! Packets one behind the other in bytes of the caller's.
+//! Packets one after another in bytes of the caller's.
 
 ghost use Rattle.std.specs.Prelude.{◌≡◌, ◌≤◌, length};
 ghost use Rattle.std.specs.Iterator.{YieldsFirst, item_count};
@@ -14,7 +14,7 @@ use std::marker::Model;
 /// one: nothing is copied, and no memory is taken.
 #[derive(Debug, Drop)]
 pub struct Packets<'a> {
-    /// The bits from the next packet on, and what stands behind the last.
+    /// The bits from the next packet on, and what follows the last.
     rest: BitSlice<'a>,
     /// How many packets are still to come.
     left: usize,

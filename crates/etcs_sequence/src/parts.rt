@@ -8,11 +8,11 @@ ghost use Rattle.etcs_packets.specs.PacketReadings.{packets_reading};
 ghost use Rattle.etcs_sequence.specs.Refs.{ArePackets, spellings};
 
 use crate::packets_in::Packets;
-pub use crate::pieces::{cut_in, number_at, number_in, run_at};
+pub use crate::pieces::{bits_at, cut_in, number_at, number_in};
 pub use crate::whole::{direction_at, length_at};
 use etcs_bits::BitSlice;
 
-/// The first `count` packets in these bits. Anything may stand behind them.
+/// The first `count` packets in these bits. Anything may follow them.
 pub fn packets<'a>(rest: BitSlice<'a>, count: usize) -> Packets<'a>
     requires { ArePackets count rest }
     ensures { (vs : List PacketValue) (c : List Bool) → All IsPacket vs → length vs ≡ count → rest.entry ≡ spelled (packets_reading vs) ++ c → result ≡ spellings vs }

@@ -5,8 +5,8 @@ ghost use Rattle.etcs_bits.specs.Bits.{bits, num, value, part};
 
 use etcs_bits::{BitSlice, peek};
 
-/// So many bits of a piece, which holds them.
-pub fn run_at<'a>(piece: &'a [u8], at: usize, count: usize) -> BitSlice<'a>
+/// This many bits of a piece, which holds them.
+pub fn bits_at<'a>(piece: &'a [u8], at: usize, count: usize) -> BitSlice<'a>
     requires { at + count ≤ length (bits piece.now) }
     ensures { result ≡ part at count (bits piece.now) }
 {
@@ -16,7 +16,7 @@ pub fn run_at<'a>(piece: &'a [u8], at: usize, count: usize) -> BitSlice<'a>
     }
 }
 
-/// So many bits of a piece, which holds them, as a number.
+/// This many bits of a piece, which holds them, as a number.
 pub fn number_at(piece: &[u8], at: usize, count: usize) -> u64
     requires width { count ≤ 64 }
     requires inside { at + count ≤ length (bits piece.now) }
@@ -29,7 +29,7 @@ pub fn number_at(piece: &[u8], at: usize, count: usize) -> u64
     }
 }
 
-/// So many bits of a slice, which holds them, as a number.
+/// This many bits of a slice, which holds them, as a number.
 pub fn number_in(slice: &BitSlice<'_>, at: usize, count: usize) -> u64
     requires width { count ≤ 64 }
     requires inside { at + count ≤ length slice.now }
@@ -43,7 +43,7 @@ pub fn number_in(slice: &BitSlice<'_>, at: usize, count: usize) -> u64
     }
 }
 
-/// So many bits of a slice, which holds them.
+/// This many bits of a slice, which holds them.
 pub fn cut_in<'a>(slice: &BitSlice<'a>, from: usize, len: usize) -> BitSlice<'a>
     requires { from + len ≤ length slice.now }
     ensures { result ≡ part from len slice.now }

@@ -9,7 +9,7 @@ ghost use Rattle.etcs_sequence.specs.RowBits.{EndsAt};
 use etcs_bits::{BitSlice, SliceWalker};
 use etcs_tables::{Row, RowItem};
 
-/// What is left of a row's items, behind a variable whose number is `before`.
+/// What is left of a row's items, after a variable whose number is `before`.
 #[derive(Clone, Copy)]
 struct Spot {
     items: &'static [RowItem],
@@ -56,7 +56,7 @@ fn step(spot: Spot, walker: &mut SliceWalker<'_>) -> Option<Spot>
     }
 }
 
-/// Passes over the items behind a variable whose number is `before`, and says whether all bits are there and each
+/// Passes over the items after a variable whose number is `before`, and says whether all bits are there and each
 /// number is admitted.
 #[cycle(ends)]
 fn passes(items: &'static [RowItem], before: u64, walker: &mut SliceWalker<'_>) -> bool
@@ -74,7 +74,7 @@ fn passes(items: &'static [RowItem], before: u64, walker: &mut SliceWalker<'_>) 
     true
 }
 
-/// The same of items that stand as often as the number before them says.
+/// The same of items that remain as often as the number before them says.
 #[cycle(ends)]
 fn passes_all(items: &'static [RowItem], before: u64, walker: &mut SliceWalker<'_>) -> bool
     requires { walker.old.place ≤ length walker.old.bits }

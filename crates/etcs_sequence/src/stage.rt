@@ -15,7 +15,7 @@ pub enum Stage {
     Length(u8, u8),
     /// What is left of the row of a typed packet of this number and direction.
     Row(u8, u8, RowRest),
-    /// So many bits of OTHER_DATA, of a packet of this number and direction.
+    /// This many bits of OTHER_DATA, of a packet of this number and direction.
     Kept(u8, u8, usize),
     /// Nothing: the packets are closed.
     Closed,

@@ -17,7 +17,7 @@ use std::alloc::AllocError;
 /// Where packets go as they are read: first the numbers of a typed packet's row, or the bits of one that is
 /// kept, and then the packet that they make. Where memory is refused, nothing is said of what it holds.
 pub trait PacketStore {
-    /// It holds these packets, and of the one that is being read these numbers behind L_PACKET and these
+    /// It holds these packets, and of the one that is being read these numbers after L_PACKET and these
     /// bits.
     ghost holds: { Self → List PacketValue → List ℕ → List Bool → Type 0 };
 
@@ -73,7 +73,7 @@ pub trait PacketStore {
         ensures ok { OnOk result ((vs : List PacketValue) (k : List Bool) → holds self.old vs [] k → holds self.new (vs ++ kept nid dir k ∷ []) [] []) }
         ensures err { OnErr result fails };
 
-    /// Takes the typed packet of this number and direction with these bits behind L_PACKET, and says
+    /// Takes the typed packet of this number and direction with these bits after L_PACKET, and says
     /// whether there is one. Where there is none, it stays as it was.
     ///
     /// # Errors

@@ -10,7 +10,7 @@ use crate::pieces::number_at;
 use etcs_rows::parts::{Carrier, MOST_PADDING};
 use etcs_tables::{CLOSING_BITS, Way, frame_bits, head_bits};
 
-/// Whether so many bits may be left behind a packet.
+/// Whether this many bits may be left after a packet.
 fn may_be_left(carrier: Carrier, left: usize) -> bool
     ensures { result ≡ may_be_left carrier left }
 {

@@ -32,7 +32,7 @@ fn reader_of(vars: &'static [Var]) -> Feeder<Fields> {
     Feeder::new(Fields { vars })
 }
 
-/// A reader of these variables that stores so many.
+/// A reader of these variables that stores this many.
 fn storing(alloc: Global, vars: &'static [Var], room: usize) -> Feeder<Stored<Fields, Few>> {
     Feeder::new(Stored {
         rest: Fields { vars },
@@ -104,7 +104,7 @@ fn stored_variables(rt: HostRuntime) {
     );
     let two = [(Var::Q_NEWCOUNTRY, 1), (Var::NID_C, 1000)];
     checks.check(feeder.rest().store.has(&two), "two variables");
-    checks.check(feeder.part() == (2, 13), "a part of the third");
+    checks.check(feeder.unfinished() == (2, 13), "a part of the third");
     checks.check(fed(&mut feeder, &[0xFF, 0xFF]) == Ok(1), "its last bit");
     let Stored { rest, store } = feeder.into_rest();
     checks.check(rest.var().is_none(), "a fourth variable");

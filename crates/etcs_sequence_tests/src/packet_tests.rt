@@ -125,7 +125,7 @@ fn refused_bits(rt: HostRuntime) {
     assert_eq!(rt; checks.wrong(), None);
 }
 
-/// How many bits a reader took that was refused memory after so many bytes, and where it stopped.
+/// How many bits a reader took that was refused memory after this many bytes, and where it stopped.
 fn starved(alloc: Global, at: usize) -> Result<(usize, Option<Stop>), Fail> {
     let mut list = listed(alloc);
     let (front, back) = BOTH.as_slice().split_at_checked(at).ok_or("outside")?;

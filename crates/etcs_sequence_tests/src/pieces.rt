@@ -35,11 +35,11 @@ pub(crate) fn check_bytes<R: Rest>(checks: &mut Checks, feeder: &mut Feeder<R>, 
         let answer = fed(feeder, &[*byte]);
         checks.check(answer == Ok(*taken), "other bits taken");
         checks.check(feeder.var() == *var, "another variable");
-        checks.check(feeder.part() == *part, "another part");
+        checks.check(feeder.unfinished() == *part, "another part");
     }
 }
 
-/// Checks that a reader stands in front of a refused bit, and answers it again to each further piece.
+/// Checks that a reader is in front of a refused bit, and answers it again to each further piece.
 pub(crate) fn check_refused<R: Rest>(
     checks: &mut Checks,
     feeder: &mut Feeder<R>,
@@ -50,18 +50,18 @@ pub(crate) fn check_refused<R: Rest>(
     checks.check(feeder.stop() == Some(stop), "another stop");
     checks.check(feeder.count() == bit, "another bit");
     checks.check(feeder.var() == Some(var), "another variable");
-    checks.check(feeder.part() == part, "another part");
+    checks.check(feeder.unfinished() == part, "another part");
     let again = fed(feeder, &[0xFF, 0x00]);
     checks.check(again == Err(stop), "another answer again");
     let again = fed(feeder, &[]);
     checks.check(again == Err(stop), "another answer to no bytes");
 }
 
-/// Checks that a reader stands at its end after so many bits, and takes no more.
+/// Checks that a reader is at its end after this many bits, and takes no more.
 pub(crate) fn check_end<R: Rest>(checks: &mut Checks, feeder: &mut Feeder<R>, bits: usize) {
     let more = fed(feeder, &[0xFF, 0x00]);
     checks.check(more == Ok(0), "more taken");
     checks.check(feeder.count() == bits, "another end");
     checks.check(feeder.var().is_none() && feeder.stop().is_none(), "no end");
-    checks.check(feeder.part() == (0, 0), "a part at the end");
+    checks.check(feeder.unfinished() == (0, 0), "a part at the end");
 }

@@ -7,7 +7,7 @@ use etcs_rows::parts::RowRest;
 use etcs_tables::{Way, row_of};
 use etcs_vars::Var;
 
-/// A reader of a packet's row in so many bits.
+/// A reader of a packet's row in this many bits.
 fn reader_of(nid: u8, len: usize) -> Option<Feeder<RowRest>> {
     let row = row_of(Way::ToTrain, nid)?;
     let rest = RowRest::start(row, len)?;
@@ -58,7 +58,7 @@ fn links(rt: HostRuntime) {
     assert_eq!(rt; checks.wrong(), None);
 }
 
-/// A bit with which the row can't continue in so many bits: the flag of the first link, which takes 10 bits more, and no
+/// A bit with which the row can't continue in its length: the flag of the first link, which takes 10 bits more, and no
 /// further link, where 85 bits want one; and numbers that aren't admitted.
 #[test]
 fn refused_bits(rt: HostRuntime) {

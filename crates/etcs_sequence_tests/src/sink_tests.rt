@@ -3,12 +3,12 @@
 use etcs_fakes::Checks;
 use etcs_packets::{Flat, Packet, parts};
 use etcs_vars::Var;
-use etcs_vars::parts::{Sink, Variables};
+use etcs_vars::parts::{VarSink, Variables};
 use std::alloc::{AllocError, Global};
 use std::marker::Model;
 use std::test::Fail;
 
-/// What was sent, in order, of which it takes only so many more.
+/// What was sent, in order, of which it takes only this many more.
 #[derive(Drop)]
 pub(crate) struct Few {
     pairs: Vec<(Var, u64)>,
@@ -37,7 +37,7 @@ impl Model for Few {
     ghost view = { λ s. s.pairs.items };
 }
 
-impl Sink for Few {
+impl VarSink for Few {
     ghost use Rattle.std.specs.Prelude.{◌++◌};
     ghost use Rattle.std.proofs.Common.{append_assoc, append-nil, sym};
 

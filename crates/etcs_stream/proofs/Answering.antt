@@ -3,7 +3,7 @@ use Rattle.std.proofs.Common.{◌≡◌, ℕ, Bool, List, ◌++◌, refl, sym, a
 use Rattle.std.specs.Prelude.{◌↔◌, Option, Result, Ok, Err, OnOk, codes, map}
 use Rattle.etcs_packets.specs.declared.packet.Packet.{Packet}
 use Rattle.etcs_packets.specs.PacketValues.{packet_value}
-use Rattle.etcs_telegram.specs.Telegrams.{TelegramParts}
+use Rattle.etcs_telegram.specs.Telegrams.{TelegramContent}
 use Rattle.etcs_group.specs.declared.assembly.Added.{Added}
 use Rattle.etcs_group.specs.declared.assembly.Added.TheVariants.{New, Repeat}
 use Rattle.etcs_group.specs.Groups.{Holds, Joins}
@@ -12,7 +12,7 @@ use Rattle.etcs_text.specs.Packets.{packets_text}
 use Rattle.etcs_stream.specs.Groups.{Answers, AreMissing, GroupLines, LastLines, group_front, positions_text, trues}
 
 -- an answer of the assembly
-pub accepted : {E : Type 0} (held : List (Option TelegramParts)) (t : TelegramParts) (a : Added) → (◌≡◌ {A = Result Added E} (Ok a) (Ok New)) ↔ (Joins held t × (Holds held t → ⊥)) → (◌≡◌ {A = Result Added E} (Ok a) (Ok Repeat)) ↔ (Joins held t × Holds held t) → Answers held t (Ok a)
+pub accepted : {E : Type 0} (held : List (Option TelegramContent)) (t : TelegramContent) (a : Added) → (◌≡◌ {A = Result Added E} (Ok a) (Ok New)) ↔ (Joins held t × (Holds held t → ⊥)) → (◌≡◌ {A = Result Added E} (Ok a) (Ok Repeat)) ↔ (Joins held t × Holds held t) → Answers held t (Ok a)
 accepted held t New new repeat = new.0 refl
 accepted held t Repeat new repeat = repeat.0 refl
 
@@ -21,7 +21,7 @@ pub on_ok_then : {T E P Q : Type 0} (r : Result T E) → (P → Q) → OnOk r P 
 on_ok_then (Ok x) f p = f p
 on_ok_then (Err e) f p = tt
 
-module _ (held : List (Option TelegramParts)) (country group : ℕ) (some : (t : TelegramParts) × Holds held t) (alike : (t : TelegramParts) → Holds held t → (t.header.nid_c ≡ country) × (t.header.nid_bg ≡ group)) where
+module _ (held : List (Option TelegramContent)) (country group : ℕ) (some : (t : TelegramContent) × Holds held t) (alike : (t : TelegramContent) → Holds held t → (t.header.nid_c ≡ country) × (t.header.nid_bg ≡ group)) where
   lines : (text : List ℕ) → GroupLines held (group_front country group) text → LastLines held text
   lines text h =
       let same = alike some.0 some.1 in

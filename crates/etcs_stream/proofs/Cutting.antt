@@ -20,7 +20,7 @@ lines_text-append xs ys = flat_map-append (λ line. line ++ 10 ∷ []) xs ys
 pub lines_bytes-append : (xs ys : List (List ℕ)) → lines_bytes (xs ++ ys) ≡ lines_bytes xs ++ lines_bytes ys
 lines_bytes-append xs ys = flat_map-append (λ line. line_bytes (strip_cr line)) xs ys
 
--- one line, and a text behind it
+-- one line, and a text after it
 pub one_line : (line behind : List ℕ) → lines_text (line ∷ []) ++ behind ≡ line ++ 10 ∷ behind
 one_line line behind = ap (λ (z : List ℕ). z ++ behind) (append-nil (line ++ 10 ∷ [])) ∙ append_assoc line (10 ∷ []) behind
 
@@ -33,7 +33,7 @@ lines_few (line ∷ lines) =
 no_lf : (x : ℕ) → eqb x 10 ≡ false → x ≡ 10 → ⊥
 no_lf x h = grind (arith, nat_tests)
 
--- a line at the front, and what is behind its LF
+-- a line at the front, and what is after its LF
 abbrev IsSplit : List ℕ → Type 0
 IsSplit text = (line : List ℕ) × (behind : List ℕ) × IsLine line × (text ≡ line ++ 10 ∷ behind)
 

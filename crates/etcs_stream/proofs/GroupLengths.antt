@@ -12,7 +12,7 @@ use Rattle.etcs_packets.specs.PacketValues.{packet_value}
 use Rattle.etcs_packets.specs.PacketReadings.{packets_reading}
 use Rattle.etcs_telegram.specs.declared.size.Size.{Size}
 use Rattle.etcs_telegram.specs.declared.size.Size.TheVariants as size
-use Rattle.etcs_telegram.specs.Telegrams.{TelegramParts, TelegramValue, IsTelegram, telegram_value, header_reading, closed_reading, user_bits, pad_bits}
+use Rattle.etcs_telegram.specs.Telegrams.{TelegramContent, TelegramValue, IsTelegram, telegram_value, header_reading, closed_reading, user_bits, pad_bits}
 use Rattle.etcs_telegram.specs.Writing.{telegram_reading}
 use Rattle.etcs_telegram.proofs.Encoding.{telegram_reads}
 use Rattle.etcs_telegram.proofs.HeaderLemmas.{admitted_fit}
@@ -56,10 +56,10 @@ group_item_short t s text s' h x =
 
 -- ---- What is held are telegrams.
 
-abbrev AreMade : List (Option TelegramParts) → Type 0
-AreMade held = (t : TelegramParts) → Holds held t → IsTelegram t
+abbrev AreMade : List (Option TelegramContent) → Type 0
+AreMade held = (t : TelegramContent) → Holds held t → IsTelegram t
 
-none_at : (n k : ℕ) (t : TelegramParts) → slice_get (replicate n None) k ≡ Some (Some t) → ⊥
+none_at : (n k : ℕ) (t : TelegramContent) → slice_get (replicate n None) k ≡ Some (Some t) → ⊥
 none_at zero k t e = none-some (Some t) e
 none_at (suc n) zero t e = none-some t (same_Some None (Some t) e)
 none_at (suc n) (suc k) t e = none_at n k t e
@@ -67,7 +67,7 @@ none_at (suc n) (suc k) t e = none_at n k t e
 item_made : (t : TelegramValue) (s : Told) (text : List ℕ) (s' : Told) → GroupItem t s text s' → AreMade s.held → AreMade s'.held
 item_made t s text s' x made u h = elim ((x.held_is u).0 h) [
   | inl old ↦ made u old
-  | inr new ↦ subst (λ (v : TelegramParts). IsTelegram v) (sym new.1) x.made
+  | inr new ↦ subst (λ (v : TelegramContent). IsTelegram v) (sym new.1) x.made
 ]
 
 items_made : (es : List EntryValue) (s : Told) (text : List ℕ) (s' : Told) → TellsItems Group s es text s' → AreMade s.held → AreMade s'.held
@@ -88,7 +88,7 @@ user_short size.Long = omega arith
 abbrev closing : Reading
 closing = (NID_PACKET, 255) ∷ []
 
-packets_fit : (t : TelegramParts) → IsTelegram t → AllFit (packets_reading (map packet_value t.packets))
+packets_fit : (t : TelegramContent) → IsTelegram t → AllFit (packets_reading (map packet_value t.packets))
 packets_fit t made =
     let v = telegram_value t in
     let head = header_reading v.header in
@@ -102,7 +102,7 @@ packets_fit t made =
     fit_front (packets_reading v.packets) closing (fit_behind head (closed_reading v.packets) headed)
 
 -- packets of at most 830 bits
-held_short : (t : TelegramParts) → IsTelegram t → length (packets_text (map packet_value t.packets)) ≤ 106240
+held_short : (t : TelegramContent) → IsTelegram t → length (packets_text (map packet_value t.packets)) ≤ 106240
 held_short t made =
     let vs = map packet_value t.packets in
     let short = packets_short vs (packets_fit t made) in
@@ -115,7 +115,7 @@ message_append ps qs =
     ∙ ap length (flat_map-append packet_text (map packet_value ps) (map packet_value qs))
     ∙ length-append (packets_text (map packet_value ps)) (packets_text (map packet_value qs))
 
-module _ (held : List (Option TelegramParts)) (made : AreMade held) where
+module _ (held : List (Option TelegramContent)) (made : AreMade held) where
   given_short : (p : ℕ) (ps : List Packet) → Gives held p ps → length (packets_text (map packet_value ps)) ≤ 106240
   given_short p ps (inl (t, h, _, _, is)) = rw is (held_short t (made t h))
   given_short p ps (inr (_, is)) = rw is (omega arith)
@@ -150,7 +150,7 @@ positions_short (suc n) bs small =
 
 -- ---- The last lines.
 
-front_short : (t : TelegramParts) → IsTelegram t → length (group_front t.header.nid_c t.header.nid_bg) ≤ 47
+front_short : (t : TelegramContent) → IsTelegram t → length (group_front t.header.nid_c t.header.nid_bg) ≤ 47
 front_short t made =
     let fits = admitted_fit (header_reading t.header) made.header in
     let country : t.header.nid_c < 2 ^ 10 = fits.1.1.1.1.1.1.1.0 in
@@ -162,7 +162,7 @@ front_short t made =
     let z = length-append (codes "group ") (decimal t.header.nid_c) in
     omega (arith, c, g, x, y, z)
 
-lines_short : (held : List (Option TelegramParts)) (front text : List ℕ) → AreMade held → length front ≤ 47 → GroupLines held front text → length text ≤ 2 ^ 40
+lines_short : (held : List (Option TelegramContent)) (front text : List ℕ) → AreMade held → length front ≤ 47 → GroupLines held front text → length text ≤ 2 ^ 40
 lines_short held front text made short (inl (_, (ps, h, is))) =
     let packets = packets_text (map packet_value ps) in
     let message : length packets ≤ 8 * 106240 = message_short held made 8 ps h in

@@ -12,7 +12,7 @@ use Rattle.etcs_text.specs.declared.entry.Kind.{Kind}
 use Rattle.etcs_stream.specs.declared.job.Form.{Form}
 use Rattle.etcs_stream.specs.declared.job.Form.TheVariants.{Hex}
 use Rattle.etcs_text.specs.Entries.{EntryValue}
-use Rattle.etcs_stream.specs.declared.items.Items.{Items}
+use Rattle.etcs_stream.specs.declared.byte_items.ByteItems.{ByteItems}
 use Rattle.etcs_stream.specs.declared.job.Job.{Job}
 use Rattle.etcs_stream.specs.declared.fault.RunFault.{RunFault}
 use Rattle.etcs_stream.specs.declared.fault.RunFault.TheVariants.{Truncated, BadHex, Memory}
@@ -22,7 +22,7 @@ use Rattle.etcs_stream.specs.Told.{Told}
 use Rattle.etcs_stream.specs.Tellers.{Closes, nothing_told}
 use Rattle.etcs_stream.specs.declared.job.Tally.{Tally}
 use Rattle.etcs_stream.specs.Readers.{ReaderValue, Awaits, HasRoom, seen_bits}
-use Rattle.etcs_stream.specs.Steps.{Advances, Halts}
+use Rattle.etcs_stream.specs.Taking.{Advances, Halts}
 use Rattle.etcs_stream.specs.Stands.{ItemsStand, HexStands}
 use Rattle.etcs_stream.specs.Inputs.{End, ended, refused, truncated, bad_hex, bad_json, endless, BitItems, IsBad, ItemsOf, SaysFirst}
 use Rattle.etcs_stream.specs.Engines.{Ends, Stops, StopsAtEnd}
@@ -41,7 +41,7 @@ items_of job given es end e h = subst (λ (f : Form). ItemsOf f job.kind given e
 says_first : (job : Job) (given bytes : List ℕ) → job.from ≡ Hex → SaysFirst Hex given bytes → SaysFirst job.from given bytes
 says_first job given bytes e h = subst (λ (f : Form). SaysFirst f given bytes) (sym e) h
 
--- those that end early don't ask for the lines behind
+-- those that end early don't ask for the lines after
 early_items : (kind : Kind) (text bytes : List ℕ) (es : List EntryValue) (end : End) → IsEarly end → Says text bytes → BitItems kind (bits bytes) es end → ItemsOf Hex kind text es end
 early_items kind text bytes es end early (inl s) h = inl (bytes, s, h)
 early_items kind text bytes es ended early (inr s) h = absurd early
@@ -51,7 +51,7 @@ early_items kind text bytes es (bad_hex l p) early (inr s) h = absurd early
 early_items kind text bytes es (bad_json l) early (inr s) h = absurd early
 early_items kind text bytes es endless early (inr (line, place, bad)) h = inr (bytes, line, place, bad, h)
 
--- the items of good lines halted, whatever is behind them
+-- the items of good lines halted, whatever is after them
 hex_halts : (job : Job) (lines : List (List ℕ)) (given told behind : List ℕ) (fault : RunFault) → job.from ≡ Hex → AreGood lines → given ≡ lines_text lines ++ behind → ItemsHalt job (lines_bytes lines) told fault → IsOfEngine fault × Stops job given told fault
 hex_halts job lines given told behind fault form good is h =
     halt_stops job given (lines_bytes lines) told fault h
@@ -66,11 +66,11 @@ hex_halts job lines given told behind fault form good is h =
 
 -- ---- A line more.
 
-line_text : (lines : List (List ℕ)) (kept line whole given behind : List ℕ) → given ≡ lines_text lines ++ kept → whole ≡ kept ++ line → given ++ (line ++ 10 ∷ behind) ≡ lines_text (lines ++ (whole ∷ [])) ++ behind
-line_text lines kept line whole given behind is w =
+line_text : (lines : List (List ℕ)) (begun line whole given behind : List ℕ) → given ≡ lines_text lines ++ begun → whole ≡ begun ++ line → given ++ (line ++ 10 ∷ behind) ≡ lines_text (lines ++ (whole ∷ [])) ++ behind
+line_text lines begun line whole given behind is w =
     ap (λ (z : List ℕ). z ++ (line ++ 10 ∷ behind)) is
-    ∙ append_assoc (lines_text lines) kept (line ++ 10 ∷ behind)
-    ∙ ap (λ (z : List ℕ). lines_text lines ++ z) (sym (append_assoc kept line (10 ∷ behind)) ∙ ap (λ (z : List ℕ). z ++ 10 ∷ behind) (sym w) ∙ sym (one_line whole behind))
+    ∙ append_assoc (lines_text lines) begun (line ++ 10 ∷ behind)
+    ∙ ap (λ (z : List ℕ). lines_text lines ++ z) (sym (append_assoc begun line (10 ∷ behind)) ∙ ap (λ (z : List ℕ). z ++ 10 ∷ behind) (sym w) ∙ sym (one_line whole behind))
     ∙ sym (append_assoc (lines_text lines) (lines_text (whole ∷ [])) behind)
     ∙ ap (λ (z : List ℕ). z ++ behind) (sym (lines_text-append lines (whole ∷ [])))
 
@@ -82,9 +82,9 @@ line_says lines whole =
 abbrev pub IsBadLine : List ℕ → ℕ → Type 0
 IsBadLine text place = (bad : List ℕ) × (behind : List ℕ) × IsLine bad × (((text ≡ bad ++ 10 ∷ behind) × (bad_place (strip_cr bad) ≡ Some place)) ⊎ ((text ≡ bad) × (bad_place bad ≡ Some place)))
 
-bad_is : (lines : List (List ℕ)) (kept rest input given : List ℕ) (line place : ℕ) → AreGood lines → given ≡ lines_text lines ++ kept → line ≡ length lines → input ≡ given ++ rest → IsBadLine (kept ++ rest) place → IsBad input (lines_bytes lines) (line + 1) place
-bad_is lines kept rest input given line place good is n e (bad, behind, l, how) =
-    let text : input ≡ lines_text lines ++ (kept ++ rest) = e ∙ ap (λ (z : List ℕ). z ++ rest) is ∙ append_assoc (lines_text lines) kept rest in
+bad_is : (lines : List (List ℕ)) (begun rest input given : List ℕ) (line place : ℕ) → AreGood lines → given ≡ lines_text lines ++ begun → line ≡ length lines → input ≡ given ++ rest → IsBadLine (begun ++ rest) place → IsBad input (lines_bytes lines) (line + 1) place
+bad_is lines begun rest input given line place good is n e (bad, behind, l, how) =
+    let text : input ≡ lines_text lines ++ (begun ++ rest) = e ∙ ap (λ (z : List ℕ). z ++ rest) is ∙ append_assoc (lines_text lines) begun rest in
     record {
       lines = lines;
       bad = bad;
@@ -106,48 +106,48 @@ open_end job seen (x ∷ b) count bytes told h v e =
     let some : 0 < length seen = omega (arith, ap length e) in
     inr (length seen, stand_truncated job seen count bytes told h some v)
 
-module _ (job : Job) (r : ReaderValue) (n : Told) (kept : List ℕ) (line : ℕ) (given told t : List ℕ) (h : HexStands job r n kept line given (told ++ t)) where
-  pub hex_line : (r' : ReaderValue) (n' : Told) (part whole none : List ℕ) (line' : ℕ) (t' : List ℕ) → whole ≡ kept ++ part → none ≡ [] → line' ≡ line + 1 → bad_place (strip_cr whole) ≡ None → Awaits job.kind r' → n'.count ≤ 1000000 → (HasRoom n.count (seen_bits r.stage) → HasRoom n'.count (seen_bits r'.stage)) → Advances job.kind job.command (seen_bits r.stage) (seen_bits r'.stage) n n' (line_bytes (strip_cr whole)) t t' → HexStands job r' n' none line' (given ++ (part ++ 10 ∷ [])) (told ++ t')
+module _ (job : Job) (r : ReaderValue) (n : Told) (begun : List ℕ) (line : ℕ) (given told t : List ℕ) (h : HexStands job r n begun line given (told ++ t)) where
+  pub hex_line : (r' : ReaderValue) (n' : Told) (part whole none : List ℕ) (line' : ℕ) (t' : List ℕ) → whole ≡ begun ++ part → none ≡ [] → line' ≡ line + 1 → bad_place (strip_cr whole) ≡ None → Awaits job.kind r' → n'.count ≤ 1000000 → (HasRoom n.count (seen_bits r.progress) → HasRoom n'.count (seen_bits r'.progress)) → Advances job.kind job.command (seen_bits r.progress) (seen_bits r'.progress) n n' (line_bytes (strip_cr whole)) t t' → HexStands job r' n' none line' (given ++ (part ++ 10 ∷ [])) (told ++ t')
   hex_line r' n' part whole none line' t' w z m good waits few room more = record {
     form = h.form;
     waits = waits;
     lines = h.lines ++ (whole ∷ []);
-    given_is = line_text h.lines kept part whole given [] h.given_is w ∙ ap (λ (x : List ℕ). lines_text (h.lines ++ (whole ∷ [])) ++ x) (sym z);
+    given_is = line_text h.lines begun part whole given [] h.given_is w ∙ ap (λ (x : List ℕ). lines_text (h.lines ++ (whole ∷ [])) ++ x) (sym z);
     lines_good = AreGood-append h.lines (whole ∷ []) h.lines_good (good, tt);
     is_line = subst IsLine (sym z) (All-nil (λ c. c ≡ 10 → ⊥));
     line_is = omega (arith, m, h.line_is, length-append h.lines (whole ∷ []));
     items =
-        subst (λ x. ItemsStand job (seen_bits r'.stage) n' x (told ++ t')) (line_says h.lines whole)
-        (stand_more job (seen_bits r.stage) n (lines_bytes h.lines) told t h.items (line_bytes (strip_cr whole)) t' (seen_bits r'.stage) n' more few (room h.items.room) waits.unfinished);
+        subst (λ x. ItemsStand job (seen_bits r'.progress) n' x (told ++ t')) (line_says h.lines whole)
+        (stand_more job (seen_bits r.progress) n (lines_bytes h.lines) told t h.items (line_bytes (strip_cr whole)) t' (seen_bits r'.progress) n' more few (room h.items.room) waits.unfinished);
   }
 
-  pub hex_part : (part whole : List ℕ) → whole ≡ kept ++ part → IsLine part → HexStands job r n whole line (given ++ part) (told ++ t)
+  pub hex_part : (part whole : List ℕ) → whole ≡ begun ++ part → IsLine part → HexStands job r n whole line (given ++ part) (told ++ t)
   hex_part part whole w l = record {
     form = h.form;
     waits = h.waits;
     lines = h.lines;
-    given_is = ap (λ (x : List ℕ). x ++ part) h.given_is ∙ append_assoc (lines_text h.lines) kept part ∙ ap (λ (x : List ℕ). lines_text h.lines ++ x) (sym w);
+    given_is = ap (λ (x : List ℕ). x ++ part) h.given_is ∙ append_assoc (lines_text h.lines) begun part ∙ ap (λ (x : List ℕ). lines_text h.lines ++ x) (sym w);
     lines_good = h.lines_good;
-    is_line = subst IsLine (sym w) (All-append (λ c. c ≡ 10 → ⊥) kept part h.is_line l);
+    is_line = subst IsLine (sym w) (All-append (λ c. c ≡ 10 → ⊥) begun part h.is_line l);
     line_is = h.line_is;
     items = h.items;
   }
 
   pub hex_lines : line ≤ length given
-  hex_lines = omega (arith, h.line_is, lines_few h.lines, ap length h.given_is, length-append (lines_text h.lines) kept)
+  hex_lines = omega (arith, h.line_is, lines_few h.lines, ap length h.given_is, length-append (lines_text h.lines) begun)
 
   -- ---- The faults of a piece.
 
   pub hex_starves : (rest : List ℕ) (fault : RunFault) → fault ≡ Memory → IsOfEngine fault × Stops job (given ++ rest) (told ++ t) fault
   hex_starves rest fault e =
-      let text : given ++ rest ≡ lines_text h.lines ++ (kept ++ rest) = ap (λ (z : List ℕ). z ++ rest) h.given_is ∙ append_assoc (lines_text h.lines) kept rest in
-      let says = says_first job (given ++ rest) (lines_bytes h.lines) h.form (inl (h.lines, kept ++ rest, text, h.lines_good, refl)) in
-      let first = stand_first job (seen_bits r.stage) n (given ++ rest) (lines_bytes h.lines) (told ++ t) h.items says in (
+      let text : given ++ rest ≡ lines_text h.lines ++ (begun ++ rest) = ap (λ (z : List ℕ). z ++ rest) h.given_is ∙ append_assoc (lines_text h.lines) begun rest in
+      let says = says_first job (given ++ rest) (lines_bytes h.lines) h.form (inl (h.lines, begun ++ rest, text, h.lines_good, refl)) in
+      let first = stand_first job (seen_bits r.progress) n (given ++ rest) (lines_bytes h.lines) (told ++ t) h.items says in (
         subst IsOfEngine (sym e) tt,
         inl (e, (h.items.items, first, (n, h.items.text))),
       )
 
-  hex_bad : (rest : List ℕ) (place : ℕ) (fault : RunFault) → fault ≡ BadHex (line + 1) place → ((more : List ℕ) → IsBadLine (kept ++ (rest ++ more)) place) → IsOfEngine fault × Stops job (given ++ rest) (told ++ t) fault
+  hex_bad : (rest : List ℕ) (place : ℕ) (fault : RunFault) → fault ≡ BadHex (line + 1) place → ((more : List ℕ) → IsBadLine (begun ++ (rest ++ more)) place) → IsOfEngine fault × Stops job (given ++ rest) (told ++ t) fault
   hex_bad rest place fault e bad = (
     subst IsOfEngine (sym e) tt,
     inr (
@@ -160,57 +160,57 @@ module _ (job : Job) (r : ReaderValue) (n : Told) (kept : List ℕ) (line : ℕ)
             lines_bytes h.lines,
             line + 1,
             place,
-            bad_is h.lines kept (rest ++ more) ((given ++ rest) ++ more) given line place h.lines_good h.given_is h.line_is (append_assoc given rest more) (bad more),
-            (refl, refl, open_end job (seen_bits r.stage) (seen_bits r.stage) n (lines_bytes h.lines) (told ++ t) h.items h.waits.viable refl),
+            bad_is h.lines begun (rest ++ more) ((given ++ rest) ++ more) given line place h.lines_good h.given_is h.line_is (append_assoc given rest more) (bad more),
+            (refl, refl, open_end job (seen_bits r.progress) (seen_bits r.progress) n (lines_bytes h.lines) (told ++ t) h.items h.waits.viable refl),
           )),
     ),
   )
 
   -- a line is bad that has its LF
-  pub hex_bad_line : (part behind : List ℕ) (place : ℕ) (fault : RunFault) → IsLine part → bad_place (strip_cr (kept ++ part)) ≡ Some place → fault ≡ BadHex (line + 1) place → IsOfEngine fault × Stops job (given ++ (part ++ 10 ∷ behind)) (told ++ t) fault
+  pub hex_bad_line : (part behind : List ℕ) (place : ℕ) (fault : RunFault) → IsLine part → bad_place (strip_cr (begun ++ part)) ≡ Some place → fault ≡ BadHex (line + 1) place → IsOfEngine fault × Stops job (given ++ (part ++ 10 ∷ behind)) (told ++ t) fault
   hex_bad_line part behind place fault l bad e =
       hex_bad (part ++ 10 ∷ behind) place fault e
       (λ more. (
-      let text : kept ++ ((part ++ 10 ∷ behind) ++ more) ≡ (kept ++ part) ++ 10 ∷ (behind ++ more) =
-      ap (λ (z : List ℕ). kept ++ z) (append_assoc part (10 ∷ behind) more) ∙ sym (append_assoc kept part (10 ∷ (behind ++ more))) in
-      (kept ++ part, behind ++ more, All-append (λ c. c ≡ 10 → ⊥) kept part h.is_line l, inl (text, bad))
+      let text : begun ++ ((part ++ 10 ∷ behind) ++ more) ≡ (begun ++ part) ++ 10 ∷ (behind ++ more) =
+      ap (λ (z : List ℕ). begun ++ z) (append_assoc part (10 ∷ behind) more) ∙ sym (append_assoc begun part (10 ∷ (behind ++ more))) in
+      (begun ++ part, behind ++ more, All-append (λ c. c ≡ 10 → ⊥) begun part h.is_line l, inl (text, bad))
       ))
 
-  pub hex_long : (part behind : List ℕ) (fault : RunFault) → IsLine part → 4097 < length kept + length part → fault ≡ BadHex (line + 1) 4096 → IsOfEngine fault × Stops job (given ++ (part ++ 10 ∷ behind)) (told ++ t) fault
+  pub hex_long : (part behind : List ℕ) (fault : RunFault) → IsLine part → 4097 < length begun + length part → fault ≡ BadHex (line + 1) 4096 → IsOfEngine fault × Stops job (given ++ (part ++ 10 ∷ behind)) (told ++ t) fault
   hex_long part behind fault l long e =
-      hex_bad_line part behind 4096 fault l (long_bad_stripped (kept ++ part) (omega (arith, length-append kept part))) e
+      hex_bad_line part behind 4096 fault l (long_bad_stripped (begun ++ part) (omega (arith, length-append begun part))) e
 
   -- a line is too long, wherever it ends
-  long_line : (part more : List ℕ) → IsLine part → 4097 < length kept + length part → IsBadLine (kept ++ (part ++ more)) 4096
+  long_line : (part more : List ℕ) → IsLine part → 4097 < length begun + length part → IsBadLine (begun ++ (part ++ more)) 4096
   long_line part more l long =
-      let front : IsLine (kept ++ part) = All-append (λ c. c ≡ 10 → ⊥) kept part h.is_line l in
-      let len = length-append kept part in
+      let front : IsLine (begun ++ part) = All-append (λ c. c ≡ 10 → ⊥) begun part h.is_line l in
+      let len = length-append begun part in
       elim (first_lf more) [
         | inl m ↦
-            (kept ++ (part ++ more), [], subst IsLine (append_assoc kept part more) (All-append (λ c. c ≡ 10 → ⊥) (kept ++ part) more front m), inr (refl, long_bad (kept ++ (part ++ more)) (omega (arith, length-append kept (part ++ more), length-append part more))))
+            (begun ++ (part ++ more), [], subst IsLine (append_assoc begun part more) (All-append (λ c. c ≡ 10 → ⊥) (begun ++ part) more front m), inr (refl, long_bad (begun ++ (part ++ more)) (omega (arith, length-append begun (part ++ more), length-append part more))))
         | inr (last, behind, m, is) ↦
-            let text : kept ++ (part ++ more) ≡ ((kept ++ part) ++ last) ++ 10 ∷ behind =
-            sym (append_assoc kept part more) ∙ ap (λ (z : List ℕ). (kept ++ part) ++ z) is ∙ sym (append_assoc (kept ++ part) last (10 ∷ behind)) in
-            ((kept ++ part) ++ last, behind, All-append (λ c. c ≡ 10 → ⊥) (kept ++ part) last front m, inl (text, long_bad_stripped ((kept ++ part) ++ last) (omega (arith, len, length-append (kept ++ part) last))))
+            let text : begun ++ (part ++ more) ≡ ((begun ++ part) ++ last) ++ 10 ∷ behind =
+            sym (append_assoc begun part more) ∙ ap (λ (z : List ℕ). (begun ++ part) ++ z) is ∙ sym (append_assoc (begun ++ part) last (10 ∷ behind)) in
+            ((begun ++ part) ++ last, behind, All-append (λ c. c ≡ 10 → ⊥) (begun ++ part) last front m, inl (text, long_bad_stripped ((begun ++ part) ++ last) (omega (arith, len, length-append (begun ++ part) last))))
       ]
 
-  pub hex_long_open : (part : List ℕ) (fault : RunFault) → IsLine part → 4097 < length kept + length part → fault ≡ BadHex (line + 1) 4096 → IsOfEngine fault × Stops job (given ++ part) (told ++ t) fault
+  pub hex_long_open : (part : List ℕ) (fault : RunFault) → IsLine part → 4097 < length begun + length part → fault ≡ BadHex (line + 1) 4096 → IsOfEngine fault × Stops job (given ++ part) (told ++ t) fault
   hex_long_open part fault l long e = hex_bad part 4096 fault e (λ more. long_line part more l long)
 
   -- the items of a line halted
-  pub hex_line_halts : (part whole behind t' : List ℕ) (fault : RunFault) → whole ≡ kept ++ part → bad_place (strip_cr whole) ≡ None → Halts job.kind job.command (seen_bits r.stage) n (line_bytes (strip_cr whole)) t t' fault → IsOfEngine fault × Stops job (given ++ (part ++ 10 ∷ behind)) (told ++ t') fault
+  pub hex_line_halts : (part whole behind t' : List ℕ) (fault : RunFault) → whole ≡ begun ++ part → bad_place (strip_cr whole) ≡ None → Halts job.kind job.command (seen_bits r.progress) n (line_bytes (strip_cr whole)) t t' fault → IsOfEngine fault × Stops job (given ++ (part ++ 10 ∷ behind)) (told ++ t') fault
   hex_line_halts part whole behind t' fault w good halts =
       hex_halts job (h.lines ++ (whole ∷ [])) (given ++ (part ++ 10 ∷ behind)) (told ++ t') behind fault h.form
       (AreGood-append h.lines (whole ∷ []) h.lines_good (good, tt))
-      (line_text h.lines kept part whole given behind h.given_is w)
-      (subst (λ z. ItemsHalt job z (told ++ t') fault) (line_says h.lines whole) (stand_halts job (seen_bits r.stage) n (lines_bytes h.lines) told t h.items (line_bytes (strip_cr whole)) t' fault halts))
+      (line_text h.lines begun part whole given behind h.given_is w)
+      (subst (λ z. ItemsHalt job z (told ++ t') fault) (line_says h.lines whole) (stand_halts job (seen_bits r.progress) n (lines_bytes h.lines) told t h.items (line_bytes (strip_cr whole)) t' fault halts))
 
   -- ---- The end of the text.
 
-  last_text : bad_place kept ≡ None → IsHexText given (lines_bytes h.lines ++ line_bytes kept)
-  last_text good = record { lines = h.lines; last = kept; text_is = h.given_is; lines_good = h.lines_good; last_good = good; bytes_are = refl }
+  last_text : bad_place begun ≡ None → IsHexText given (lines_bytes h.lines ++ line_bytes begun)
+  last_text good = record { lines = h.lines; last = begun; text_is = h.given_is; lines_good = h.lines_good; last_good = good; bytes_are = refl }
 
-  pub hex_last_bad : (place : ℕ) (fault : RunFault) → bad_place kept ≡ Some place → fault ≡ BadHex (line + 1) place → IsOfEngine fault × StopsAtEnd job given (told ++ t) fault
+  pub hex_last_bad : (place : ℕ) (fault : RunFault) → bad_place begun ≡ Some place → fault ≡ BadHex (line + 1) place → IsOfEngine fault × StopsAtEnd job given (told ++ t) fault
   hex_last_bad place fault bad e = (
     subst IsOfEngine (sym e) tt,
     inr (
@@ -223,25 +223,25 @@ module _ (job : Job) (r : ReaderValue) (n : Told) (kept : List ℕ) (line : ℕ)
             lines_bytes h.lines,
             line + 1,
             place,
-            bad_is h.lines kept [] given given line place h.lines_good h.given_is h.line_is (sym (append-nil given)) (kept, [], h.is_line, inr (append-nil kept, bad)),
-            (refl, refl, open_end job (seen_bits r.stage) (seen_bits r.stage) n (lines_bytes h.lines) (told ++ t) h.items h.waits.viable refl),
+            bad_is h.lines begun [] given given line place h.lines_good h.given_is h.line_is (sym (append-nil given)) (begun, [], h.is_line, inr (append-nil begun, bad)),
+            (refl, refl, open_end job (seen_bits r.progress) (seen_bits r.progress) n (lines_bytes h.lines) (told ++ t) h.items h.waits.viable refl),
           )),
     ),
   )
 
-  pub hex_last_halts : (t' : List ℕ) (fault : RunFault) → bad_place kept ≡ None → Halts job.kind job.command (seen_bits r.stage) n (line_bytes kept) t t' fault → IsOfEngine fault × StopsAtEnd job given (told ++ t') fault
+  pub hex_last_halts : (t' : List ℕ) (fault : RunFault) → bad_place begun ≡ None → Halts job.kind job.command (seen_bits r.progress) n (line_bytes begun) t t' fault → IsOfEngine fault × StopsAtEnd job given (told ++ t') fault
   hex_last_halts t' fault good halts =
       let text = last_text good in
-      halt_ends job given (lines_bytes h.lines ++ line_bytes kept) (told ++ t') fault
-      (stand_halts job (seen_bits r.stage) n (lines_bytes h.lines) told t h.items (line_bytes kept) t' fault halts)
-      (says_first job given (lines_bytes h.lines ++ line_bytes kept) h.form (inr text))
-      (λ es end early k. items_of job given es end h.form (inl (lines_bytes h.lines ++ line_bytes kept, text, k)))
+      halt_ends job given (lines_bytes h.lines ++ line_bytes begun) (told ++ t') fault
+      (stand_halts job (seen_bits r.progress) n (lines_bytes h.lines) told t h.items (line_bytes begun) t' fault halts)
+      (says_first job given (lines_bytes h.lines ++ line_bytes begun) h.form (inr text))
+      (λ es end early k. items_of job given es end h.form (inl (lines_bytes h.lines ++ line_bytes begun, text, k)))
 
   -- ---- What the code answers.
 
   -- a part of a line could not be kept
   abbrev pub NotKept : List ℕ → RunFault → Type 0
-  NotKept part fault = (fault ≡ Memory) ⊎ ((4097 < length kept + length part) × (fault ≡ BadHex (line + 1) 4096))
+  NotKept part fault = (fault ≡ Memory) ⊎ ((4097 < length begun + length part) × (fault ≡ BadHex (line + 1) 4096))
 
   pub hex_keep_stops : (part behind : List ℕ) (fault : RunFault) → IsLine part → NotKept part fault → IsOfEngine fault × Stops job (given ++ (part ++ 10 ∷ behind)) (told ++ t) fault
   hex_keep_stops part behind fault l (inl e) = hex_starves (part ++ 10 ∷ behind) fault e
@@ -253,31 +253,31 @@ module _ (job : Job) (r : ReaderValue) (n : Told) (kept : List ℕ) (line : ℕ)
   hex_part_stops part (Err e) l (inl m) = hex_starves part e m
   hex_part_stops part (Err e) l (inr p) = hex_long_open part e l p.0 p.1
 
-  pub hex_part_kept : (part whole : List ℕ) (answer : Result Unit RunFault) → IsLine part → OnOk answer (whole ≡ kept ++ part) → OnOk answer (HexStands job r n whole line (given ++ part) (told ++ t))
+  pub hex_part_kept : (part whole : List ℕ) (answer : Result Unit RunFault) → IsLine part → OnOk answer (whole ≡ begun ++ part) → OnOk answer (HexStands job r n whole line (given ++ part) (told ++ t))
   hex_part_kept part whole (Ok u) l w = hex_part part whole w l
   hex_part_kept part whole (Err e) l w = tt
 
   -- a line is bad, or its items halted
-  pub hex_line_stops : (part whole behind t' : List ℕ) (fault : RunFault) → IsLine part → whole ≡ kept ++ part → ((place : ℕ) × (bad_place (strip_cr whole) ≡ Some place) × (fault ≡ BadHex (line + 1) place) × (t' ≡ t)) ⊎ ((bad_place (strip_cr whole) ≡ None) × Halts job.kind job.command (seen_bits r.stage) n (line_bytes (strip_cr whole)) t t' fault) → IsOfEngine fault × Stops job (given ++ (part ++ 10 ∷ behind)) (told ++ t') fault
+  pub hex_line_stops : (part whole behind t' : List ℕ) (fault : RunFault) → IsLine part → whole ≡ begun ++ part → ((place : ℕ) × (bad_place (strip_cr whole) ≡ Some place) × (fault ≡ BadHex (line + 1) place) × (t' ≡ t)) ⊎ ((bad_place (strip_cr whole) ≡ None) × Halts job.kind job.command (seen_bits r.progress) n (line_bytes (strip_cr whole)) t t' fault) → IsOfEngine fault × Stops job (given ++ (part ++ 10 ∷ behind)) (told ++ t') fault
   hex_line_stops part whole behind t' fault l w (inl (place, bad, e, same)) =
-      let bad' : bad_place (strip_cr (kept ++ part)) ≡ Some place = subst (λ z. bad_place (strip_cr z) ≡ Some place) w bad in
+      let bad' : bad_place (strip_cr (begun ++ part)) ≡ Some place = subst (λ z. bad_place (strip_cr z) ≡ Some place) w bad in
       subst (λ z. IsOfEngine fault × Stops job (given ++ (part ++ 10 ∷ behind)) (told ++ z) fault) (sym same) (hex_bad_line part behind place fault l bad' e)
   hex_line_stops part whole behind t' fault l w (inr (good, halts)) = hex_line_halts part whole behind t' fault w good halts
 
   -- the last line is
-  pub hex_last_stops : (t' : List ℕ) (fault : RunFault) → ((place : ℕ) × (bad_place kept ≡ Some place) × (fault ≡ BadHex (line + 1) place) × (t' ≡ t)) ⊎ ((bad_place kept ≡ None) × Halts job.kind job.command (seen_bits r.stage) n (line_bytes kept) t t' fault) → IsOfEngine fault × StopsAtEnd job given (told ++ t') fault
+  pub hex_last_stops : (t' : List ℕ) (fault : RunFault) → ((place : ℕ) × (bad_place begun ≡ Some place) × (fault ≡ BadHex (line + 1) place) × (t' ≡ t)) ⊎ ((bad_place begun ≡ None) × Halts job.kind job.command (seen_bits r.progress) n (line_bytes begun) t t' fault) → IsOfEngine fault × StopsAtEnd job given (told ++ t') fault
   hex_last_stops t' fault (inl (place, bad, e, same)) =
       subst (λ z. IsOfEngine fault × StopsAtEnd job given (told ++ z) fault) (sym same) (hex_last_bad place fault bad e)
   hex_last_stops t' fault (inr (good, halts)) = hex_last_halts t' fault good halts
 
-  module _ (r' : ReaderValue) (n' : Told) (t' : List ℕ) (good : bad_place kept ≡ None) (waits : Awaits job.kind r') (few : n'.count ≤ 1000000) (room : HasRoom n.count (seen_bits r.stage) → HasRoom n'.count (seen_bits r'.stage)) (more : Advances job.kind job.command (seen_bits r.stage) (seen_bits r'.stage) n n' (line_bytes kept) t t') where
-    last_items : ItemsStand job (seen_bits r'.stage) n' (lines_bytes h.lines ++ line_bytes kept) (told ++ t')
-    last_items = stand_more job (seen_bits r.stage) n (lines_bytes h.lines) told t h.items (line_bytes kept) t' (seen_bits r'.stage) n' more few (room h.items.room) waits.unfinished
+  module _ (r' : ReaderValue) (n' : Told) (t' : List ℕ) (good : bad_place begun ≡ None) (waits : Awaits job.kind r') (few : n'.count ≤ 1000000) (room : HasRoom n.count (seen_bits r.progress) → HasRoom n'.count (seen_bits r'.progress)) (more : Advances job.kind job.command (seen_bits r.progress) (seen_bits r'.progress) n n' (line_bytes begun) t t') where
+    last_items : ItemsStand job (seen_bits r'.progress) n' (lines_bytes h.lines ++ line_bytes begun) (told ++ t')
+    last_items = stand_more job (seen_bits r.progress) n (lines_bytes h.lines) told t h.items (line_bytes begun) t' (seen_bits r'.progress) n' more few (room h.items.room) waits.unfinished
 
-    hex_ends : (last t'' : List ℕ) (tally : Tally) → seen_bits r'.stage ≡ [] → Closes job.command n' last tally → t'' ≡ t' ++ last → Ends job given (told ++ t'') tally
+    hex_ends : (last t'' : List ℕ) (tally : Tally) → seen_bits r'.progress ≡ [] → Closes job.command n' last tally → t'' ≡ t' ++ last → Ends job given (told ++ t'') tally
     hex_ends last t'' tally e closes is = record {
       items = last_items.items;
-      items_of = items_of job given last_items.items ended h.form (inl (lines_bytes h.lines ++ line_bytes kept, last_text good, stand_ended job (seen_bits r'.stage) n' (lines_bytes h.lines ++ line_bytes kept) (told ++ t') last_items e));
+      items_of = items_of job given last_items.items ended h.form (inl (lines_bytes h.lines ++ line_bytes begun, last_text good, stand_ended job (seen_bits r'.progress) n' (lines_bytes h.lines ++ line_bytes begun) (told ++ t') last_items e));
       lines = told ++ t';
       last = last;
       after = n';
@@ -289,42 +289,42 @@ module _ (job : Job) (r : ReaderValue) (n : Told) (kept : List ℕ) (line : ℕ)
 
     hex_closes_starved : (fault : RunFault) → fault ≡ Memory → IsOfEngine fault × StopsAtEnd job given (told ++ t') fault
     hex_closes_starved fault e =
-        let says = says_first job given (lines_bytes h.lines ++ line_bytes kept) h.form (inr (last_text good)) in
-        let first = stand_first job (seen_bits r'.stage) n' given (lines_bytes h.lines ++ line_bytes kept) (told ++ t') last_items says in (
+        let says = says_first job given (lines_bytes h.lines ++ line_bytes begun) h.form (inr (last_text good)) in
+        let first = stand_first job (seen_bits r'.progress) n' given (lines_bytes h.lines ++ line_bytes begun) (told ++ t') last_items says in (
           subst IsOfEngine (sym e) tt,
           inl (e, (last_items.items, first, (n', last_items.text))),
         )
 
-    hex_truncated : (fault : RunFault) → fault ≡ Truncated (n'.count + 1) (length (seen_bits r'.stage)) → 0 < length (seen_bits r'.stage) → IsOfEngine fault × StopsAtEnd job given (told ++ t') fault
+    hex_truncated : (fault : RunFault) → fault ≡ Truncated (n'.count + 1) (length (seen_bits r'.progress)) → 0 < length (seen_bits r'.progress) → IsOfEngine fault × StopsAtEnd job given (told ++ t') fault
     hex_truncated fault e some =
-        let seen = seen_bits r'.stage in (
+        let seen = seen_bits r'.progress in (
           subst IsOfEngine (sym e) tt,
           inr (
             last_items.items,
             truncated (length seen),
             e ∙ ap (λ k. Truncated (k + 1) (length seen)) last_items.count_is,
             (n', last_items.text),
-            items_of job given last_items.items (truncated (length seen)) h.form (inl (lines_bytes h.lines ++ line_bytes kept, last_text good, stand_truncated job seen n' (lines_bytes h.lines ++ line_bytes kept) (told ++ t') last_items some waits.viable)),
+            items_of job given last_items.items (truncated (length seen)) h.form (inl (lines_bytes h.lines ++ line_bytes begun, last_text good, stand_truncated job seen n' (lines_bytes h.lines ++ line_bytes begun) (told ++ t') last_items some waits.viable)),
           ),
         )
 
     -- an item isn't whole, or memory was refused for the last lines
-    hex_not_closed : (t'' : List ℕ) (fault : RunFault) → t'' ≡ t' → ((fault ≡ Truncated (n'.count + 1) (length (seen_bits r'.stage))) × (0 < length (seen_bits r'.stage))) ⊎ (fault ≡ Memory) → IsOfEngine fault × StopsAtEnd job given (told ++ t'') fault
+    hex_not_closed : (t'' : List ℕ) (fault : RunFault) → t'' ≡ t' → ((fault ≡ Truncated (n'.count + 1) (length (seen_bits r'.progress))) × (0 < length (seen_bits r'.progress))) ⊎ (fault ≡ Memory) → IsOfEngine fault × StopsAtEnd job given (told ++ t'') fault
     hex_not_closed t'' fault same (inl h') = subst (λ z. IsOfEngine fault × StopsAtEnd job given (told ++ z) fault) (sym same) (hex_truncated fault h'.0 h'.1)
     hex_not_closed t'' fault same (inr e) = subst (λ z. IsOfEngine fault × StopsAtEnd job given (told ++ z) fault) (sym same) (hex_closes_starved fault e)
 
     -- what the end of the input answers
-    pub hex_finish_ends : (t'' : List ℕ) (answer : Result Tally RunFault) → OnOk answer (seen_bits r'.stage ≡ []) → IfOk answer (λ tally. (last : List ℕ) × Closes job.command n' last tally × (t'' ≡ t' ++ last)) → IfOk answer (λ tally. Ends job given (told ++ t'') tally)
+    pub hex_finish_ends : (t'' : List ℕ) (answer : Result Tally RunFault) → OnOk answer (seen_bits r'.progress ≡ []) → IfOk answer (λ tally. (last : List ℕ) × Closes job.command n' last tally × (t'' ≡ t' ++ last)) → IfOk answer (λ tally. Ends job given (told ++ t'') tally)
     hex_finish_ends t'' (Ok tally) e (last, closes, is) = hex_ends last t'' tally e closes is
     hex_finish_ends t'' (Err f) e h' = tt
 
-    pub hex_finish_stops : (t'' : List ℕ) (answer : Result Tally RunFault) → IfErr answer (λ e. (t'' ≡ t') × (((e ≡ Truncated (n'.count + 1) (length (seen_bits r'.stage))) × (0 < length (seen_bits r'.stage))) ⊎ (e ≡ Memory))) → IfErr answer (λ e. IsOfEngine e × StopsAtEnd job given (told ++ t'') e)
+    pub hex_finish_stops : (t'' : List ℕ) (answer : Result Tally RunFault) → IfErr answer (λ e. (t'' ≡ t') × (((e ≡ Truncated (n'.count + 1) (length (seen_bits r'.progress))) × (0 < length (seen_bits r'.progress))) ⊎ (e ≡ Memory))) → IfErr answer (λ e. IsOfEngine e × StopsAtEnd job given (told ++ t'') e)
     hex_finish_stops t'' (Ok tally) h' = tt
     hex_finish_stops t'' (Err f) (same, why) = hex_not_closed t'' f same why
 
 -- nothing has come
-pub hex_nothing : (job : Job) (r : ReaderValue) (n : Told) (kept : List ℕ) → job.from ≡ Hex → Awaits job.kind r → seen_bits r.stage ≡ [] → n ≡ nothing_told → kept ≡ [] → HexStands job r n kept 0 [] []
-hex_nothing job r n kept form waits seen count e = record {
+pub hex_nothing : (job : Job) (r : ReaderValue) (n : Told) (begun : List ℕ) → job.from ≡ Hex → Awaits job.kind r → seen_bits r.progress ≡ [] → n ≡ nothing_told → begun ≡ [] → HexStands job r n begun 0 [] []
+hex_nothing job r n begun form waits seen count e = record {
   form = form;
   waits = waits;
   lines = [];
@@ -332,7 +332,7 @@ hex_nothing job r n kept form waits seen count e = record {
   lines_good = tt;
   is_line = subst IsLine (sym e) (All-nil (λ c. c ≡ 10 → ⊥));
   line_is = refl;
-  items = stand_nothing job (seen_bits r.stage) n seen count waits.unfinished;
+  items = stand_nothing job (seen_bits r.progress) n seen count waits.unfinished;
 }
 
 -- an empty line says nothing
@@ -341,14 +341,14 @@ unfolding decode_pairs
 Advances-empty kind c seen items text [] h = Advances-none kind c seen items text
 Advances-empty kind c seen items text (x ∷ xs) h = absurd (omega (arith, eqb-true (length (x ∷ xs)) 0 h))
 
--- no text was told since
-pub hex_start : (job : Job) (r : ReaderValue) (n : Told) (kept : List ℕ) (line : ℕ) (given told t : List ℕ) → t ≡ [] → HexStands job r n kept line given told → HexStands job r n kept line given (told ++ t)
-hex_start job r n kept line given told t e h = subst (λ z. HexStands job r n kept line given z) (sym (ap (λ (z : List ℕ). told ++ z) e ∙ append-nil told)) h
+-- no text was written since
+pub hex_start : (job : Job) (r : ReaderValue) (n : Told) (begun : List ℕ) (line : ℕ) (given told t : List ℕ) → t ≡ [] → HexStands job r n begun line given told → HexStands job r n begun line given (told ++ t)
+hex_start job r n begun line given told t e h = subst (λ z. HexStands job r n begun line given z) (sym (ap (λ (z : List ℕ). told ++ z) e ∙ append-nil told)) h
 
 -- the state of the items is the same
-pub hex_same : (i i' : Items) (kept : List ℕ) (line line' : ℕ) (given told : List ℕ) → i' ≡ i → line' ≡ line → HexStands i.job i.reader i.teller kept line given told → HexStands i'.job i'.reader i'.teller kept line' given told
-hex_same i i' kept line line' given told e m h =
-    subst (λ (k : Items). HexStands k.job k.reader k.teller kept line' given told) (sym e) (subst (λ k. HexStands i.job i.reader i.teller kept k given told) (sym m) h)
+pub hex_same : (i i' : ByteItems) (begun : List ℕ) (line line' : ℕ) (given told : List ℕ) → i' ≡ i → line' ≡ line → HexStands i.job i.reader i.teller begun line given told → HexStands i'.job i'.reader i'.teller begun line' given told
+hex_same i i' begun line line' given told e m h =
+    subst (λ (k : ByteItems). HexStands k.job k.reader k.teller begun line' given told) (sym e) (subst (λ k. HexStands i.job i.reader i.teller begun k given told) (sym m) h)
 
 -- one more line is taken off
 pub cut_line : (piece front rest line behind : List ℕ) → piece ≡ front ++ rest → rest ≡ line ++ 10 ∷ behind → piece ≡ (front ++ (line ++ 10 ∷ [])) ++ behind

@@ -13,7 +13,7 @@ use Rattle.etcs_stream.specs.Lines.{IsLine, most_characters, bad_place, strip_cr
 use Rattle.etcs_stream.specs.Told.{Told}
 use Rattle.etcs_stream.specs.Tellers.{nothing_told}
 use Rattle.etcs_stream.specs.Readers.{ReaderValue, Awaits, HasRoom, seen_bits}
-use Rattle.etcs_stream.specs.Steps.{Advances, Halts}
+use Rattle.etcs_stream.specs.Taking.{Advances, Halts}
 use Rattle.etcs_stream.specs.Stands.{HexStands, HexTook, ItemsStand}
 use Rattle.etcs_stream.specs.Engines.{Stops}
 use Rattle.etcs_stream.proofs.Standing.{stand_more, stand_nothing}
@@ -21,12 +21,12 @@ use Rattle.etcs_stream.proofs.Cutting.{AreGood-append}
 use Rattle.etcs_stream.proofs.HexSteps.{line_says, hex_line_stops, hex_long_open}
 
 -- nothing was taken
-pub nothing_took : (job : Job) (r : ReaderValue) (n : Told) → job.from ≡ Hex → Awaits job.kind r → seen_bits r.stage ≡ [] → n ≡ nothing_told → HexTook job r n [] []
-nothing_took job r n form waits seen count = record { form = form; waits = waits; lines_good = tt; items = stand_nothing job (seen_bits r.stage) n seen count waits.unfinished }
+pub nothing_took : (job : Job) (r : ReaderValue) (n : Told) → job.from ≡ Hex → Awaits job.kind r → seen_bits r.progress ≡ [] → n ≡ nothing_told → HexTook job r n [] []
+nothing_took job r n form waits seen count = record { form = form; waits = waits; lines_good = tt; items = stand_nothing job (seen_bits r.progress) n seen count waits.unfinished }
 
--- characters without a LF behind the lines that were taken
-pub kept_behind : (job : Job) (r : ReaderValue) (n : Told) (lines : List (List ℕ)) (kept told : List ℕ) → HexTook job r n lines told → IsLine kept → HexStands job r n kept (length lines) (lines_text lines ++ kept) told
-kept_behind job r n lines kept told h l =
+-- characters without a LF after the lines that were taken
+pub kept_behind : (job : Job) (r : ReaderValue) (n : Told) (lines : List (List ℕ)) (begun told : List ℕ) → HexTook job r n lines told → IsLine begun → HexStands job r n begun (length lines) (lines_text lines ++ begun) told
+kept_behind job r n lines begun told h l =
     record { form = h.form; waits = h.waits; lines = lines; given_is = refl; lines_good = h.lines_good; is_line = l; line_is = refl; items = h.items }
 
 none_behind : (job : Job) (r : ReaderValue) (n : Told) (lines : List (List ℕ)) (told : List ℕ) → HexTook job r n lines told → HexStands job r n [] (length lines) (lines_text lines) told
@@ -34,24 +34,24 @@ none_behind job r n lines told h =
     record { form = h.form; waits = h.waits; lines = lines; given_is = sym (append-nil (lines_text lines)); lines_good = h.lines_good; is_line = All-nil (λ c. c ≡ 10 → ⊥); line_is = refl; items = h.items }
 
 module _ (job : Job) (r : ReaderValue) (n : Told) (lines : List (List ℕ)) (told t : List ℕ) (h : HexTook job r n lines (told ++ t)) (raw : List ℕ) where
-  one_more : (r' : ReaderValue) (n' : Told) (t' : List ℕ) → bad_place (strip_cr raw) ≡ None → Awaits job.kind r' → n'.count ≤ 1000000 → HasRoom n'.count (seen_bits r'.stage) → Advances job.kind job.command (seen_bits r.stage) (seen_bits r'.stage) n n' (line_bytes (strip_cr raw)) t t' → HexTook job r' n' (lines ++ (raw ∷ [])) (told ++ t')
+  one_more : (r' : ReaderValue) (n' : Told) (t' : List ℕ) → bad_place (strip_cr raw) ≡ None → Awaits job.kind r' → n'.count ≤ 1000000 → HasRoom n'.count (seen_bits r'.progress) → Advances job.kind job.command (seen_bits r.progress) (seen_bits r'.progress) n n' (line_bytes (strip_cr raw)) t t' → HexTook job r' n' (lines ++ (raw ∷ [])) (told ++ t')
   one_more r' n' t' good waits few room more = record {
     form = h.form;
     waits = waits;
     lines_good = AreGood-append lines (raw ∷ []) h.lines_good (good, tt);
     items =
-        subst (λ x. ItemsStand job (seen_bits r'.stage) n' x (told ++ t')) (line_says lines raw)
-        (stand_more job (seen_bits r.stage) n (lines_bytes lines) told t h.items (line_bytes (strip_cr raw)) t' (seen_bits r'.stage) n' more few room waits.unfinished);
+        subst (λ x. ItemsStand job (seen_bits r'.progress) n' x (told ++ t')) (line_says lines raw)
+        (stand_more job (seen_bits r.progress) n (lines_bytes lines) told t h.items (line_bytes (strip_cr raw)) t' (seen_bits r'.progress) n' more few room waits.unfinished);
   }
 
   -- what the code answers of a line
-  pub took_more : (r' : ReaderValue) (n' : Told) (t' line : List ℕ) (answer : Result Unit RunFault) → line ≡ strip_cr raw → OnOk answer (bad_place line ≡ None) → OnOk answer (Awaits job.kind r') → OnOk answer (n'.count ≤ 1000000) → (HasRoom n.count (seen_bits r.stage) → OnOk answer (HasRoom n'.count (seen_bits r'.stage))) → OnOk answer (Advances job.kind job.command (seen_bits r.stage) (seen_bits r'.stage) n n' (line_bytes line) t t') → OnOk answer (HexTook job r' n' (lines ++ (raw ∷ [])) (told ++ t'))
+  pub took_more : (r' : ReaderValue) (n' : Told) (t' line : List ℕ) (answer : Result Unit RunFault) → line ≡ strip_cr raw → OnOk answer (bad_place line ≡ None) → OnOk answer (Awaits job.kind r') → OnOk answer (n'.count ≤ 1000000) → (HasRoom n.count (seen_bits r.progress) → OnOk answer (HasRoom n'.count (seen_bits r'.progress))) → OnOk answer (Advances job.kind job.command (seen_bits r.progress) (seen_bits r'.progress) n n' (line_bytes line) t t') → OnOk answer (HexTook job r' n' (lines ++ (raw ∷ [])) (told ++ t'))
   took_more r' n' t' line (Ok u) e good waits few room more =
-      one_more r' n' t' (subst (λ z. bad_place z ≡ None) e good) waits few (room h.items.room) (subst (λ z. Advances job.kind job.command (seen_bits r.stage) (seen_bits r'.stage) n n' (line_bytes z) t t') e more)
+      one_more r' n' t' (subst (λ z. bad_place z ≡ None) e good) waits few (room h.items.room) (subst (λ z. Advances job.kind job.command (seen_bits r.progress) (seen_bits r'.progress) n n' (line_bytes z) t t') e more)
   took_more r' n' t' line (Err f) e good waits few room more = tt
 
   abbrev pub NotTaken : List ℕ → ℕ → List ℕ → RunFault → Type 0
-  NotTaken line number t' e = ((place : ℕ) × (bad_place line ≡ Some place) × (e ≡ BadHex number place) × (t' ≡ t)) ⊎ ((bad_place line ≡ None) × Halts job.kind job.command (seen_bits r.stage) n (line_bytes line) t t' e)
+  NotTaken line number t' e = ((place : ℕ) × (bad_place line ≡ Some place) × (e ≡ BadHex number place) × (t' ≡ t)) ⊎ ((bad_place line ≡ None) × Halts job.kind job.command (seen_bits r.progress) n (line_bytes line) t t' e)
 
   pub took_stops : (t' line : List ℕ) (number : ℕ) (answer : Result Unit RunFault) → IsLine raw → line ≡ strip_cr raw → number ≡ length lines + 1 → IfErr answer (λ e. NotTaken line number t' e) → IfErr answer (λ e. IsOfEngine e × Stops job (lines_text lines ++ (raw ++ 10 ∷ [])) (told ++ t') e)
   took_stops t' line number (Ok u) l e m h' = tt

@@ -10,11 +10,11 @@ use Rattle.etcs_vars.proofs.Languages.{Same, same_back}
 use Rattle.etcs_vars.proofs.Walk.{Regular}
 use Rattle.etcs_telegram.specs.declared.size.Size.{Size}
 use Rattle.etcs_telegram.specs.declared.size.Size.TheVariants as size
-use Rattle.etcs_telegram.specs.Telegrams.{TelegramLanguage, TelegramParts, ReadsAs, IsTelegram, telegram_value, user_bits, pad_bits}
+use Rattle.etcs_telegram.specs.Telegrams.{TelegramLanguage, TelegramContent, ReadsAs, IsTelegram, telegram_value, user_bits, pad_bits}
 use Rattle.etcs_telegram.proofs.SameReadings.{viable_along, owner_along}
 use Rattle.etcs_telegram.proofs.Spellings as telegrams
 use Rattle.etcs_telegram.proofs.Examples.{some_telegram}
-use Rattle.etcs_sequence.specs.Stages as inner
+use Rattle.etcs_sequence.specs.Progress as inner
 use Rattle.etcs_radio.specs.declared.message.Content.{Content}
 use Rattle.etcs_radio.specs.Messages.{MessageLanguage, MessageReads, IsMessage, message_value}
 use Rattle.etcs_radio.proofs.Spelling as messages
@@ -23,7 +23,7 @@ use Rattle.etcs_text.specs.declared.entry.Kind.{Kind}
 use Rattle.etcs_text.specs.declared.entry.Kind.TheVariants.{Long, Short, Radio}
 use Rattle.etcs_text.specs.Entries.{EntryValue, of_telegram, of_message, kind_of, EntryReads}
 use Rattle.etcs_json.proofs.OneItems.{kind_same, telegram_radio}
-use Rattle.etcs_stream.specs.Readers.{stage_of, telegram_item, message_item, reading, finished, Feeds}
+use Rattle.etcs_stream.specs.Readers.{progress_of, telegram_item, message_item, reading, finished, Feeds}
 
 abbrev pub Language : Kind → Reading → Type 0
 Language kind = readings_of (EntryReads kind)
@@ -101,28 +101,28 @@ module _ {V W : Type 0} (Reads : W → Reading → Type 0) (value : V → W) (Is
   abbrev as_item : V → EntryValue
   as_item v = item (value v)
 
-  inner_feeds : (seen new : List Bool) (answer : Result Fed ReadFault) (at : inner.Stage V) → inner.Feeds Reads value IsValue least seen new answer at → Feeds (EntryReads kind) seen new answer (stage_of as_item at)
-  inner_feeds seen new (Ok More) at f = (ap (stage_of as_item) f.0, more_along Reads kind same _ f.1)
-  inner_feeds seen new (Ok (Done k)) at f = (as_item f.0, ap (stage_of as_item) f.1, f.3, (f.4.0, f.4.1, reads (value f.0) f.4.1 f.4.2, f.4.3))
+  inner_feeds : (seen new : List Bool) (answer : Result Fed ReadFault) (at : inner.Progress V) → inner.Feeds Reads value IsValue least seen new answer at → Feeds (EntryReads kind) seen new answer (progress_of as_item at)
+  inner_feeds seen new (Ok More) at f = (ap (progress_of as_item) f.0, more_along Reads kind same _ f.1)
+  inner_feeds seen new (Ok (Done k)) at f = (as_item f.0, ap (progress_of as_item) f.1, f.3, (f.4.0, f.4.1, reads (value f.0) f.4.1 f.4.2, f.4.3))
   inner_feeds seen new (Err (Refused i x)) at f = refused_along Reads kind same _ i x f.1
   inner_feeds seen new (Err Memory) at f = tt
   inner_feeds seen new (Err Ended) at f = absurd f
 
-pub telegram_feeds : (s : Size) (seen new : List Bool) (answer : Result Fed ReadFault) (at : inner.Stage TelegramParts) → inner.Feeds (ReadsAs s) telegram_value IsTelegram 50 seen new answer at → Feeds (EntryReads (kind_of s)) seen new answer (stage_of telegram_item at)
+pub telegram_feeds : (s : Size) (seen new : List Bool) (answer : Result Fed ReadFault) (at : inner.Progress TelegramContent) → inner.Feeds (ReadsAs s) telegram_value IsTelegram 50 seen new answer at → Feeds (EntryReads (kind_of s)) seen new answer (progress_of telegram_item at)
 telegram_feeds s = inner_feeds (ReadsAs s) telegram_value IsTelegram 50 of_telegram (kind_of s) (same_telegrams s) (λ t r h. (ap kind_of h.0, h.1))
 
-pub message_feeds : (seen new : List Bool) (answer : Result Fed ReadFault) (at : inner.Stage Content) → inner.Feeds MessageReads message_value IsMessage 18 seen new answer at → Feeds (EntryReads Radio) seen new answer (stage_of message_item at)
+pub message_feeds : (seen new : List Bool) (answer : Result Fed ReadFault) (at : inner.Progress Content) → inner.Feeds MessageReads message_value IsMessage 18 seen new answer at → Feeds (EntryReads Radio) seen new answer (progress_of message_item at)
 message_feeds = inner_feeds MessageReads message_value IsMessage 18 of_message Radio same_messages (λ m r h. (refl, h))
 
--- ---- The stages of the reader inside.
+-- ---- The progress of the reader inside.
 
-pub inner_reading : {V : Type 0} (item : V → EntryValue) (s : inner.Stage V) (seen : List Bool) → stage_of item s ≡ reading seen → s ≡ inner.reading seen
+pub inner_reading : {V : Type 0} (item : V → EntryValue) (s : inner.Progress V) (seen : List Bool) → progress_of item s ≡ reading seen → s ≡ inner.reading seen
 inner_reading item (inner.reading b) seen h = let e : b ≡ seen = cc in ap inner.reading e
 inner_reading item (inner.finished v) seen h = absurd cc
 inner_reading item (inner.stopped i x) seen h = absurd cc
 inner_reading item (inner.starved n) seen h = absurd cc
 
-pub inner_finished : {V : Type 0} (item : V → EntryValue) (s : inner.Stage V) (e : EntryValue) → stage_of item s ≡ finished e → (v : V) × (s ≡ inner.finished v)
+pub inner_finished : {V : Type 0} (item : V → EntryValue) (s : inner.Progress V) (e : EntryValue) → progress_of item s ≡ finished e → (v : V) × (s ≡ inner.finished v)
 inner_finished item (inner.reading b) e h = absurd cc
 inner_finished item (inner.finished v) e h = (v, refl)
 inner_finished item (inner.stopped i x) e h = absurd cc

@@ -1,4 +1,4 @@
--- Lines of JSON, one after the other.
+-- Lines of JSON, one after another.
 use Rattle.std.proofs.Common.{◌≡◌, ℕ, ◌+◌, ◌<◌, ◌≤◌, List, [], ◌∷◌, ◌++◌, length, Result, Ok, Err, refl, sym, ap, subst, ◌∙◌, arith, append_assoc, length-append, inl, inr}
 use Rattle.std.specs.Prelude.{◌⊎◌, map, OnOk, IfErr}
 use Rattle.std.specs.Io.BufRead.{ends_with_byte}
@@ -19,7 +19,7 @@ use Rattle.etcs_stream.specs.JsonItems.{IsItemLine, IsRefusedLine, AreItemLines,
 use Rattle.etcs_stream.specs.Told.{Told}
 use Rattle.etcs_stream.specs.Tellers.{TellsItems, Closes, nothing_told}
 use Rattle.etcs_stream.specs.Stands.{JsonTook}
-use Rattle.etcs_stream.specs.Steps.{TakesJson, empty_line, item_line, HaltsJson}
+use Rattle.etcs_stream.specs.Taking.{TakesJson, empty_line, item_line, HaltsJson}
 use Rattle.etcs_stream.specs.Inputs.{End, ended, refused, bad_json, endless, ItemsOf, FirstItems}
 use Rattle.etcs_stream.specs.Engines.{EndsBy, Ends, Prints, Stops, StopsAtEnd}
 use Rattle.etcs_stream.proofs.Tellings.{tells_append, tells_count, tells_one, one_count, closes_items}
@@ -33,7 +33,7 @@ AreItemLines-append kind (l ∷ ls) ms es fs (inl h) g = inl (h.0, AreItemLines-
 AreItemLines-append kind (l ∷ ls) ms es fs (inr (e, behind, is, item, more)) g =
     inr (e, behind ++ fs, ap (λ (z : List EntryValue). z ++ fs) is, item, AreItemLines-append kind ls ms behind fs more g)
 
--- the items of a line were told
+-- the items of a line were reported
 pub record LineTold (job : Job) (line : List ℕ) (before after : Told) (t t' : List ℕ) : Type 0 where
   pub items : List EntryValue
   pub added : List ℕ
@@ -60,7 +60,7 @@ line_told job line before after t t' (item_line e added item room tells is) = re
   text_is = is;
 }
 
--- the text goes on with this line behind those
+-- the text continues with this line after those
 record GoesOn (lines : List (List ℕ)) (line input : List ℕ) : Type 0 where
   rest : List ℕ
   text_is : input ≡ lines_text lines ++ rest
@@ -109,7 +109,7 @@ module _ (job : Job) (n : Told) (lines : List (List ℕ)) (told : List ℕ) (h :
   too_many : (input line : List ℕ) → GoesOn lines line input → 0 < length line → n.count ≡ 1000000 → ItemsOf job.from job.kind input h.items endless
   too_many input line g some full = items_of input h.items endless (lines, line, further input line g some, sym h.count_is ∙ full)
 
-  -- memory was refused, or each input ends so that goes on with this line
+  -- memory was refused, or each input ends so that continues with this line
   abbrev Halted : List ℕ → RunFault → Type 0
   Halted line fault = (fault ≡ Memory) ⊎ ((end : End) × EndsBy (length h.items) end fault × ((input : List ℕ) → GoesOn lines line input → ItemsOf job.from job.kind input h.items end))
 
@@ -156,7 +156,7 @@ module _ (job : Job) (n : Told) (lines : List (List ℕ)) (told : List ℕ) (h :
 
   -- ---- A line that is too long.
 
-  -- so each input goes on, whatever follows the part
+  -- so each input continues, whatever follows the part
   goes_long : (part more : List ℕ) → IsLine part → most_characters job.from + 1 < length part → (line : List ℕ) × GoesOn lines line ((lines_text lines ++ part) ++ more) × (1048576 < length line)
   goes_long part more l long =
       let (line, begins, longer) = long_line part more l (omega (arith, long, ap most_characters h.form)) in
@@ -260,7 +260,7 @@ module _ (job : Job) (n : Told) (lines : List (List ℕ)) (told t : List ℕ) (h
       subst (λ (z : List ℕ). IsOfEngine fault × StopsAtEnd job (lines_text lines ++ line) (told ++ z) fault) (sym same)
       (json_last_halts job n lines (told ++ t) h line number fault l at why)
 
-  -- the last line was taken, and the last text was told
+  -- the last line was taken, and the last text was written
   pub json_ends : (line : List ℕ) (n' : Told) (t' last t'' : List ℕ) (tally : Tally) → IsLine line → TakesJson job line n n' t t' → Closes job.command n' last tally → t'' ≡ t' ++ last → Ends job (lines_text lines ++ line) (told ++ t'') tally
   json_ends line n' t' last t'' tally l takes closes is = all_ends line n' t' (line_told job line n n' t t' takes) last t'' tally l closes is
 
@@ -282,6 +282,6 @@ json_nothing job n form e = record {
   text = (refl, e);
 }
 
--- no text was told since
+-- no text was written since
 pub json_start : (job : Job) (n : Told) (lines : List (List ℕ)) (told t : List ℕ) → t ≡ [] → JsonTook job n lines told → JsonTook job n lines (told ++ t)
 json_start job n lines told t e h = subst (λ (z : List ℕ). JsonTook job n lines z) (sym (ap (λ (z : List ℕ). told ++ z) e ∙ append-nil told)) h

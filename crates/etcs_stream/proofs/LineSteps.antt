@@ -23,7 +23,7 @@ use Rattle.etcs_stream.specs.Stands.{LinesStand}
 use Rattle.etcs_stream.proofs.Cutting.{lines_few, lines_text-append, one_line}
 use Rattle.etcs_stream.proofs.OneLines.{good_last}
 
--- ---- A text that goes on.
+-- ---- A text that continues.
 
 longer_text : (front rest given more : List ℕ) → given ≡ front ++ rest → given ++ more ≡ front ++ (rest ++ more)
 longer_text front rest given more e = ap (λ (z : List ℕ). z ++ more) e ∙ append_assoc front rest more
@@ -52,7 +52,7 @@ stops_longer job given more told fault tells (inl h) = inl (h.0, tells_longer jo
 stops_longer job given more told fault tells (inr h) =
     inr (h.0, h.1, h.2, h.3, λ z. subst (λ (t : List ℕ). ItemsOf job.from job.kind t h.0 h.1) (sym (append_assoc given more z)) (h.4 (more ++ z)))
 
--- ---- A text that goes on behind a LF.
+-- ---- A text that continues after a LF.
 
 lf_inside : (text : List ℕ) → IsLine (text ++ 10 ∷ []) → ⊥
 lf_inside [] h = h 0 0 (omega arith) refl
@@ -62,7 +62,7 @@ none_behind : (xs ys : List ℕ) → [] ≡ xs ++ ys → ys ≡ []
 none_behind [] ys e = sym e
 none_behind (x ∷ xs) ys e = absurd cc
 
--- nothing is behind the last LF
+-- nothing is after the last LF
 no_last : (text front last : List ℕ) → text ++ 10 ∷ [] ≡ front ++ last → IsLine last → last ≡ []
 no_last text [] last e l = absurd (lf_inside text (subst IsLine (sym e) l))
 no_last [] (y ∷ ys) last e l = let tails : ◌≡◌ {A = List ℕ} [] (ys ++ last) = cc in none_behind ys last tails
@@ -111,19 +111,19 @@ most_few Hex = omega arith
 most_few Bin = omega arith
 most_few Json = omega arith
 
-module _ (Took : List (List ℕ) → List ℕ → Type 0) (kept : List ℕ) (line : ℕ) (given told : List ℕ) (h : LinesStand Took kept line given told) where
+module _ (Took : List (List ℕ) → List ℕ → Type 0) (begun : List ℕ) (line : ℕ) (given told : List ℕ) (h : LinesStand Took begun line given told) where
   pub lines_count : line ≤ length given
-  lines_count = omega (arith, h.line_is, lines_few h.lines, ap length h.given_is, length-append (lines_text h.lines) kept)
+  lines_count = omega (arith, h.line_is, lines_few h.lines, ap length h.given_is, length-append (lines_text h.lines) begun)
 
-  part_text : (part : List ℕ) → given ++ part ≡ lines_text h.lines ++ (kept ++ part)
-  part_text part = longer_text (lines_text h.lines) kept given part h.given_is
+  part_text : (part : List ℕ) → given ++ part ≡ lines_text h.lines ++ (begun ++ part)
+  part_text part = longer_text (lines_text h.lines) begun given part h.given_is
 
-  pub part_line : (part : List ℕ) → IsLine part → IsLine (kept ++ part)
-  part_line part l = All-append (λ c. c ≡ 10 → ⊥) kept part h.is_line l
+  pub part_line : (part : List ℕ) → IsLine part → IsLine (begun ++ part)
+  part_line part l = All-append (λ c. c ≡ 10 → ⊥) begun part h.is_line l
 
   -- a part more is kept
-  pub keeps : (part kept' : List ℕ) → kept' ≡ kept ++ part → IsLine part → LinesStand Took kept' line (given ++ part) told
-  keeps part kept' e l = record {
+  pub keeps : (part begun' : List ℕ) → begun' ≡ begun ++ part → IsLine part → LinesStand Took begun' line (given ++ part) told
+  keeps part begun' e l = record {
     lines = h.lines;
     given_is = part_text part ∙ ap (λ (z : List ℕ). lines_text h.lines ++ z) (sym e);
     is_line = subst IsLine (sym e) (part_line part l);
@@ -131,9 +131,9 @@ module _ (Took : List (List ℕ) → List ℕ → Type 0) (kept : List ℕ) (lin
     took = h.took;
   }
 
-  module _ (job : Job) (tells : (lines : List (List ℕ)) (kept told : List ℕ) → Took lines told → IsLine kept → Tells job (lines_text lines ++ kept) told) where
+  module _ (job : Job) (tells : (lines : List (List ℕ)) (begun told : List ℕ) → Took lines told → IsLine begun → Tells job (lines_text lines ++ begun) told) where
     part_tells : (part : List ℕ) → IsLine part → Tells job (given ++ part) told
-    part_tells part l = subst (λ (z : List ℕ). Tells job z told) (sym (part_text part)) (tells h.lines (kept ++ part) told h.took (part_line part l))
+    part_tells part l = subst (λ (z : List ℕ). Tells job z told) (sym (part_text part)) (tells h.lines (begun ++ part) told h.took (part_line part l))
 
     -- memory was refused for it
     pub keep_starves : (part more : List ℕ) → IsLine part → Stops job (given ++ (part ++ more)) told Memory
@@ -141,7 +141,7 @@ module _ (Took : List (List ℕ) → List ℕ → Type 0) (kept : List ℕ) (lin
         inl (refl, subst (λ (z : List ℕ). Prints job z told) (append_assoc given part more) (tells_longer job (given ++ part) more told (part_tells part l)))
 
     -- the line is too long
-    pub keep_refuses : (part more : List ℕ) (fault : RunFault) → IsLine part → IsOfEngine fault × Stops job (lines_text h.lines ++ (kept ++ part)) told fault → IsOfEngine fault × Stops job (given ++ (part ++ more)) told fault
+    pub keep_refuses : (part more : List ℕ) (fault : RunFault) → IsLine part → IsOfEngine fault × Stops job (lines_text h.lines ++ (begun ++ part)) told fault → IsOfEngine fault × Stops job (given ++ (part ++ more)) told fault
     keep_refuses part more fault l (of, stops) =
         let here : Stops job (given ++ part) told fault = subst (λ (z : List ℕ). Stops job z told fault) (sym (part_text part)) stops in
         (of, subst (λ (z : List ℕ). Stops job z told fault) (append_assoc given part more) (stops_longer job (given ++ part) more told fault (part_tells part l) here))
@@ -156,8 +156,8 @@ module _ (Took : List (List ℕ) → List ℕ → Type 0) (raw : List ℕ) (line
   line_text : given ++ (part ++ 10 ∷ []) ≡ lines_text h.lines ++ (raw ++ 10 ∷ [])
   line_text = sym (append_assoc given part (10 ∷ [])) ∙ longer_text (lines_text h.lines) raw (given ++ part) (10 ∷ []) h.given_is
 
-  pub line_taken : (Took' : List (List ℕ) → List ℕ → Type 0) (kept' : List ℕ) (line' : ℕ) (told' : List ℕ) → kept' ≡ [] → line' ≡ line + 1 → Took' (h.lines ++ raw ∷ []) told' → LinesStand Took' kept' line' (given ++ (part ++ 10 ∷ [])) told'
-  line_taken Took' kept' line' told' e m took = record {
+  pub line_taken : (Took' : List (List ℕ) → List ℕ → Type 0) (begun' : List ℕ) (line' : ℕ) (told' : List ℕ) → begun' ≡ [] → line' ≡ line + 1 → Took' (h.lines ++ raw ∷ []) told' → LinesStand Took' begun' line' (given ++ (part ++ 10 ∷ [])) told'
+  line_taken Took' begun' line' told' e m took = record {
     lines = h.lines ++ raw ∷ [];
     given_is =
         line_text
@@ -171,9 +171,9 @@ module _ (Took : List (List ℕ) → List ℕ → Type 0) (raw : List ℕ) (line
   }
 
   -- what taking it answers
-  pub line_taken_if : (Took' : List (List ℕ) → List ℕ → Type 0) (kept' : List ℕ) (line' : ℕ) (told' : List ℕ) (answer : Result Unit RunFault) → kept' ≡ [] → line' ≡ line + 1 → OnOk answer (Took' (h.lines ++ raw ∷ []) told') → OnOk answer (LinesStand Took' kept' line' (given ++ (part ++ 10 ∷ [])) told')
-  line_taken_if Took' kept' line' told' (Ok u) e m took = line_taken Took' kept' line' told' e m took
-  line_taken_if Took' kept' line' told' (Err f) e m took = tt
+  pub line_taken_if : (Took' : List (List ℕ) → List ℕ → Type 0) (begun' : List ℕ) (line' : ℕ) (told' : List ℕ) (answer : Result Unit RunFault) → begun' ≡ [] → line' ≡ line + 1 → OnOk answer (Took' (h.lines ++ raw ∷ []) told') → OnOk answer (LinesStand Took' begun' line' (given ++ (part ++ 10 ∷ [])) told')
+  line_taken_if Took' begun' line' told' (Ok u) e m took = line_taken Took' begun' line' told' e m took
+  line_taken_if Took' begun' line' told' (Err f) e m took = tt
 
   pub line_stops : (job : Job) (told' : List ℕ) (fault : RunFault) → IsOfEngine fault × Stops job (lines_text h.lines ++ (raw ++ 10 ∷ [])) told' fault → IsOfEngine fault × Stops job (given ++ (part ++ 10 ∷ [])) told' fault
   line_stops job told' fault k = subst (λ (z : List ℕ). IsOfEngine fault × Stops job z told' fault) (sym line_text) k
@@ -203,6 +203,6 @@ piece_stops job given piece front rest line behind told fault h e (of, stops) =
     let here : Stops job ((start ++ line) ++ 10 ∷ []) told fault = subst (λ (z : List ℕ). Stops job z told fault) (sym (append_assoc start line (10 ∷ []))) stops in
     (of, subst (λ (z : List ℕ). Stops job z told fault) text (stops_behind job (start ++ line) behind told fault here))
 
--- no text was told since
-pub told_none : (Took : List (List ℕ) → List ℕ → Type 0) (kept : List ℕ) (line : ℕ) (given told t : List ℕ) → t ≡ [] → LinesStand Took kept line given told → LinesStand Took kept line given (told ++ t)
-told_none Took kept line given told t e h = subst (λ (z : List ℕ). LinesStand Took kept line given z) (sym (ap (λ (z : List ℕ). told ++ z) e ∙ append-nil told)) h
+-- no text was written since
+pub told_none : (Took : List (List ℕ) → List ℕ → Type 0) (begun : List ℕ) (line : ℕ) (given told t : List ℕ) → t ≡ [] → LinesStand Took begun line given told → LinesStand Took begun line given (told ++ t)
+told_none Took begun line given told t e h = subst (λ (z : List ℕ). LinesStand Took begun line given z) (sym (ap (λ (z : List ℕ). told ++ z) e ∙ append-nil told)) h

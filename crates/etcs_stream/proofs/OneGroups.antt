@@ -1,4 +1,4 @@
--- A telegram of a group is told in one way, and so are the last lines.
+-- A telegram of a group is reported in one way, and so are the last lines.
 use Rattle.std.proofs.Common.{◌≡◌, ◌∙◌, refl, sym, ap, subst, ℕ, zero, suc, ◌+◌, ◌<◌, arith, Bool, true, false, List, [], ◌∷◌, ◌++◌, length, get_or, take, slice_get, Option, Some, None, Result, Ok, Err, inl, inr}
 use Rattle.std.specs.Prelude.{All, codes, map, if◌then◌else◌, slice_index_or}
 use Rattle.std.proofs.lemmas.Bool.{both_ways, cases_lt, cases_order}
@@ -6,7 +6,7 @@ use Rattle.std.proofs.lemmas.List.{same_lists, get_or_past, get_or-take, length-
 use Rattle.std.proofs.lemmas.Option.{same_Some, none-some, slice_get-get_or, get_or_from_slice_get}
 use Rattle.etcs_packets.specs.declared.packet.Packet.{Packet}
 use Rattle.etcs_packets.specs.PacketValues.{packet_value}
-use Rattle.etcs_telegram.specs.Telegrams.{TelegramParts, TelegramValue}
+use Rattle.etcs_telegram.specs.Telegrams.{TelegramContent, TelegramValue}
 use Rattle.etcs_telegram.proofs.Spellings.{one_parts}
 use Rattle.etcs_group.specs.declared.assembly.Added.{Added}
 use Rattle.etcs_group.specs.declared.assembly.Added.TheVariants.{New, Repeat}
@@ -25,14 +25,14 @@ use Rattle.etcs_stream.specs.Groups.{GroupItem, Answers, answer_line, clashes_wi
 -- ---- What is held lies in one way.
 
 -- a telegram lies at its position
-at_position : (held : List (Option TelegramParts)) → IsGroup held → (p : ℕ) (t : TelegramParts) → Holds held t → t.header.n_pig ≡ p → slice_get held p ≡ Some (Some t)
+at_position : (held : List (Option TelegramContent)) → IsGroup held → (p : ℕ) (t : TelegramContent) → Holds held t → t.header.n_pig ≡ p → slice_get held p ≡ Some (Some t)
 at_position held group p t h e =
     let place = held_place held t h in
     let here : place.0 ≡ p = sym (group.placed place.0 t place.1) ∙ e in
     subst (λ (n : ℕ). slice_get held n ≡ Some (Some t)) here place.1
 
-module _ (a b : List (Option TelegramParts)) (ga : IsGroup a) (gb : IsGroup b) (more : (u : TelegramParts) → Holds a u → Holds b u) (back : (u : TelegramParts) → Holds b u → Holds a u) where
-  same_place : (p : ℕ) (x y : Option TelegramParts) → slice_get a p ≡ Some x → slice_get b p ≡ Some y → x ≡ y
+module _ (a b : List (Option TelegramContent)) (ga : IsGroup a) (gb : IsGroup b) (more : (u : TelegramContent) → Holds a u → Holds b u) (back : (u : TelegramContent) → Holds b u → Holds a u) where
+  same_place : (p : ℕ) (x y : Option TelegramContent) → slice_get a p ≡ Some x → slice_get b p ≡ Some y → x ≡ y
   same_place p None None e f = refl
   same_place p (Some t) y e f = same_Some (Some t) y (sym (at_position b gb p t (more t (place_held a p t e)) (ga.placed p t e)) ∙ f)
   same_place p None (Some u) e f = absurd (none-some u (same_Some None (Some u) (sym e ∙ at_position a ga p u (back u (place_held b p u f)) (gb.placed p u f))))
@@ -79,16 +79,16 @@ looked_for P c d lower all =
     let here : get_or (take (rank d) order) (rank c) BadPosition ≡ c = get_or-take (rank d) order (rank c) BadPosition lower ∙ ranked c in
     subst P here (firsts (rank c) BadPosition (omega (arith, lower, long)))
 
-one_clash : (held : List (Option TelegramParts)) (t : TelegramParts) (c d : Clash) → IsFirstClash c held t → IsFirstClash d held t → c ≡ d
+one_clash : (held : List (Option TelegramContent)) (t : TelegramContent) (c d : Clash) → IsFirstClash c held t → IsFirstClash d held t → c ≡ d
 one_clash held t c d h k = elim (cases_order (rank c) (rank d)) [
   | inl e ↦ sym (ranked c) ∙ ap (λ (n : ℕ). get_or order n BadPosition) e ∙ ranked d
   | inr (inl lower) ↦ absurd (looked_for (λ (x : Clash). Clashes held t x → ⊥) c d lower k.1 h.0)
   | inr (inr higher) ↦ absurd (looked_for (λ (x : Clash). Clashes held t x → ⊥) d c higher h.1 k.0)
 ]
 
--- ---- A telegram is told in one way.
+-- ---- A telegram is reported in one way.
 
-one_answer : (held : List (Option TelegramParts)) (t : TelegramParts) (a b : Result Added Clash) → Answers held t a → Answers held t b → a ≡ b
+one_answer : (held : List (Option TelegramContent)) (t : TelegramContent) (a b : Result Added Clash) → Answers held t a → Answers held t b → a ≡ b
 one_answer held t (Ok New) (Ok New) h k = refl
 one_answer held t (Ok New) (Ok Repeat) h k = absurd (h.1 k.1)
 one_answer held t (Ok New) (Err d) h k = absurd (joins_not held t d k.0 h.0)
@@ -99,21 +99,21 @@ one_answer held t (Err c) (Ok New) h k = absurd (joins_not held t c h.0 k.0)
 one_answer held t (Err c) (Ok Repeat) h k = absurd (joins_not held t c h.0 k.0)
 one_answer held t (Err c) (Err d) h k = let same = one_clash held t c d h k in rw same refl
 
-abbrev told : ℕ → ℕ → List (Option TelegramParts) → Told
+abbrev told : ℕ → ℕ → List (Option TelegramContent) → Told
 told n c held = record { count = n; clashes = c; held = held }
 
 told_same : (s u : Told) → s.count ≡ u.count → s.clashes ≡ u.clashes → s.held ≡ u.held → s ≡ u
 told_same s u n c h =
     ap (λ (x : ℕ). told x s.clashes s.held) n
     ∙ ap (λ (x : ℕ). told u.count x s.held) c
-    ∙ ap (λ (x : List (Option TelegramParts)). told u.count u.clashes x) h
+    ∙ ap (λ (x : List (Option TelegramContent)). told u.count u.clashes x) h
 
 pub one_group_item : (t : TelegramValue) (s : Told) (text : List ℕ) (s' : Told) (text' : List ℕ) (s'' : Told) → GroupItem t s text s' → GroupItem t s text' s'' → (text ≡ text') × (s' ≡ s'')
 one_group_item t s text s' text' s'' h k =
     let same : h.telegram ≡ k.telegram = one_parts h.telegram k.telegram h.made.made k.made.made (sym h.value_is ∙ k.value_is) in
-    let answers : Answers s.held h.telegram k.answer = subst (λ (u : TelegramParts). Answers s.held u k.answer) (sym same) k.answers in
+    let answers : Answers s.held h.telegram k.answer = subst (λ (u : TelegramContent). Answers s.held u k.answer) (sym same) k.answers in
     let answer : h.answer ≡ k.answer = one_answer s.held h.telegram h.answer k.answer h.answers answers in
-    let after : HeldAfter s.held h.telegram s''.held = subst (λ (u : TelegramParts). HeldAfter s.held u s''.held) (sym same) k.held_is in
+    let after : HeldAfter s.held h.telegram s''.held = subst (λ (u : TelegramContent). HeldAfter s.held u s''.held) (sym same) k.held_is in
     let held : s'.held ≡ s''.held = same_slots s'.held s''.held h.placed k.placed (λ u x. (after u).1 ((h.held_is u).0 x)) (λ u x. (h.held_is u).1 ((after u).0 x)) in (
       h.text_is ∙ ap (λ (a : Result Added Clash). answer_line (s.count + 1) a) answer ∙ sym k.text_is,
       told_same s' s'' (h.count_is ∙ sym k.count_is) (h.clashes_are ∙ ap (λ (a : Result Added Clash). clashes_with s.clashes a) answer ∙ sym k.clashes_are) held,
@@ -121,12 +121,12 @@ one_group_item t s text s' text' s'' h k =
 
 -- ---- The last lines are one.
 
-module _ (held : List (Option TelegramParts)) (group : IsGroup held) where
-  one_there : (p : ℕ) (t u : TelegramParts) → Holds held t → Holds held u → t.header.n_pig ≡ p → u.header.n_pig ≡ p → t ≡ u
+module _ (held : List (Option TelegramContent)) (group : IsGroup held) where
+  one_there : (p : ℕ) (t u : TelegramContent) → Holds held t → Holds held u → t.header.n_pig ≡ p → u.header.n_pig ≡ p → t ≡ u
   one_there p t u h k e f = same_Some t u (same_Some (Some t) (Some u) (sym (at_position held group p t h e) ∙ at_position held group p u k f))
 
   one_given : (p : ℕ) (ps qs : List Packet) → Gives held p ps → Gives held p qs → ps ≡ qs
-  one_given p ps qs (inl (t, h, e, first, is)) (inl (u, k, f, _, is')) = is ∙ ap (λ (v : TelegramParts). v.packets) (one_there p t u h k e f) ∙ sym is'
+  one_given p ps qs (inl (t, h, e, first, is)) (inl (u, k, f, _, is')) = is ∙ ap (λ (v : TelegramContent). v.packets) (one_there p t u h k e f) ∙ sym is'
   one_given p ps qs (inl (t, h, e, first, is)) (inr (none, is')) = absurd (elim none [ inl n ↦ n (t, h, e) | inr second ↦ first second ])
   one_given p ps qs (inr (none, is)) (inl (t, h, e, first, is')) = absurd (elim none [ inl n ↦ n (t, h, e) | inr second ↦ first second ])
   one_given p ps qs (inr (none, is)) (inr (none', is')) = is ∙ sym is'
@@ -152,7 +152,7 @@ same_tests true b h k = sym (h refl)
 same_tests false true h k = k refl
 same_tests false false h k = refl
 
-module _ (held : List (Option TelegramParts)) (bs cs : List Bool) (h : AreMissing held bs) (k : AreMissing held cs) where
+module _ (held : List (Option TelegramContent)) (bs cs : List Bool) (h : AreMissing held bs) (k : AreMissing held cs) where
   one_test : (n : ℕ) → slice_index_or bs n false ≡ slice_index_or cs n false
   one_test n =
       same_tests (slice_index_or bs n false) (slice_index_or cs n false)
@@ -165,7 +165,7 @@ module _ (held : List (Option TelegramParts)) (bs cs : List Bool) (h : AreMissin
       ap (λ (z : List ℕ). z ++ (if slice_index_or bs n false then n ∷ [] else [])) (one_missing n)
       ∙ ap (λ (b : Bool). trues n cs ++ (if b then n ∷ [] else [])) (one_test n)
 
-one_lines : (held : List (Option TelegramParts)) → IsGroup held → (front text text' : List ℕ) → GroupLines held front text → GroupLines held front text' → text ≡ text'
+one_lines : (held : List (Option TelegramContent)) → IsGroup held → (front text text' : List ℕ) → GroupLines held front text → GroupLines held front text' → text ≡ text'
 one_lines held group front text text' (inl (whole, (ps, h, is))) (inl (_, (qs, k, is'))) =
     is ∙ ap (λ (z : List Packet). front ++ codes " complete\n" ++ packets_text (map packet_value z)) (one_message held group 8 ps qs h k) ∙ sym is'
 one_lines held group front text text' (inl (whole, _)) (inr (part, _)) = absurd (part whole)
@@ -173,7 +173,7 @@ one_lines held group front text text' (inr (part, _)) (inl (whole, _)) = absurd 
 one_lines held group front text text' (inr (part, (bs, h, is))) (inr (_, (cs, k, is'))) =
     is ∙ ap (λ (z : List ℕ). front ++ codes " missing" ++ positions_text z ++ codes "\n") (one_missing held bs cs h k 8) ∙ sym is'
 
-pub one_last : (held : List (Option TelegramParts)) → IsGroup held → (text text' : List ℕ) → LastLines held text → LastLines held text' → text ≡ text'
+pub one_last : (held : List (Option TelegramContent)) → IsGroup held → (text text' : List ℕ) → LastLines held text → LastLines held text' → text ≡ text'
 one_last held group text text' (inl (none, is)) (inl (_, is')) = is ∙ sym is'
 one_last held group text text' (inl (none, is)) (inr (u, k, _)) = absurd (none u k)
 one_last held group text text' (inr (t, h, _)) (inl (none, is)) = absurd (none t h)

@@ -35,7 +35,7 @@ one_item kind (of_telegram t) (of_message n) r x y = absurd (telegram_radio t.si
 one_item kind (of_message m) (of_telegram u) r x y = absurd (telegram_radio u.size (y.0 ∙ sym x.0))
 one_item kind (of_message m) (of_message n) r x y = ap of_message (messages.one_value m n r x.1 y.1)
 
--- items with the same spelling in front are one, and so is what is behind
+-- items with the same spelling in front are one, and so is what is after
 first_same : (kind : Kind) (e f : EntryValue) (r q : Reading) (b c : List Bool) → EntryReads kind e r → EntryReads kind f q → spelled r ++ b ≡ spelled q ++ c → (e ≡ f) × (b ≡ c)
 first_same kind e f r q b c x y is =
     let reg = kind_regular kind in
@@ -43,9 +43,9 @@ first_same kind e f r q b c x y is =
     let y' : EntryReads kind f r = subst (λ (z : Reading). EntryReads kind f z) (sym same.0) y in
     (one_item kind e f r x y', same.1)
 
--- ---- Items one behind the other.
+-- ---- Items one after another.
 
--- behind so many items no more stand in the rest
+-- after this many items no more follow in the rest
 Last : Kind → ℕ → List Bool → Type 0
 Last kind n rest = NoneYet (Language kind) rest ⊎ (n ≡ 1000000)
 
@@ -98,7 +98,7 @@ none_behind kind n (e ∷ behind) spelt rest rest' h last few is =
     let whole : rest ≡ spelled h.0 ++ (h.1 ++ rest') = is ∙ ap (λ (z : List Bool). z ++ rest') h.3 ∙ append_assoc (spelled h.0) h.1 rest' in
     absurd (no_item kind n e h.0 (h.1 ++ rest') rest last (omega arith) h.2 whole)
 
--- two lists of items of the same bits, behind which no more stand
+-- two lists of items of the same bits, after which no more follow
 same_items : (kind : Kind) (es es' : List EntryValue) (s s' rest rest' : List Bool) → AreSpelled kind es s → AreSpelled kind es' s' → length es ≤ 1000000 → length es' ≤ 1000000 → Last kind (length es) rest → Last kind (length es') rest' → s ++ rest ≡ s' ++ rest' → (es ≡ es') × (rest ≡ rest')
 same_items kind es es' s s' rest rest' h h' few few' last last' is =
     let zero_on : length es' ≡ 0 + length es' = omega arith in
@@ -232,7 +232,7 @@ one_whole Hex kind given es es' h k = whole_bytes Hex kind given es es' h k
 one_whole Bin kind given es es' h k = whole_bytes Bin kind given es es' h k
 one_whole Json kind given es es' h k = one_whole_json kind given es es' h k
 
--- bytes whose bits begin with items, and more behind them
+-- bytes whose bits begin with items, and more after them
 front_items : (form : Form) (kind : Kind) (input bytes' : List ℕ) (es es' : List EntryValue) (end : End) (h : FirstBytes form kind input es) → BitItems kind (bits bytes') es' end → (more : List ℕ) × (bytes' ≡ h.bytes ++ more) → (behind : List EntryValue) × (es' ≡ es ++ behind)
 front_items form kind input bytes' es es' end h k (more, is) =
     let whole : h.spelt ++ (h.rest ++ bits more) ≡ k.spelt ++ k.rest =

@@ -20,7 +20,7 @@ one_item kind line e f (some, short, says) (some', short', says') = line_said ki
 not_empty : (kind : Kind) (line : List ℕ) (e : EntryValue) → line ≡ [] → IsItemLine kind line e → ⊥
 not_empty kind line e empty h = omega (arith, ap (λ (z : List ℕ). length z) empty, h.0)
 
--- two lists of lines that begin with one line: its items, and those behind it
+-- two lists of lines that begin with one line: its items, and those after it
 record Heads (kind : Kind) (lines lines' : List (List ℕ)) (es es' : List EntryValue) : Type 0 where
   first : List EntryValue
   behind : List EntryValue
@@ -47,7 +47,7 @@ heads kind line lines lines' es es' (inr (e, more, is, item, h)) (inr (f, fs, is
       are_items' = k;
     }
 
--- ---- Lines one behind the other.
+-- ---- Lines one after another.
 
 -- lines that begin with those of some items are those items and more
 items_behind : (kind : Kind) (lines more : List (List ℕ)) (es es' : List EntryValue) → AreItemLines kind lines es → AreItemLines kind (lines ++ more) es' → (items : List EntryValue) × (es' ≡ es ++ items) × AreItemLines kind more items
@@ -68,7 +68,7 @@ same_last kind line es es' h k =
     let (items, is, none) = items_behind kind (line ∷ []) [] es es' h k in
     sym (is ∙ ap (λ (z : List EntryValue). es ++ z) none ∙ append-nil es)
 
--- lines at the front of a text, their items, and what is behind them
+-- lines at the front of a text, their items, and what is after them
 record Front (kind : Kind) (text : List ℕ) : Type 0 where
   items : List EntryValue
   lines : List (List ℕ)
@@ -96,9 +96,9 @@ one_ahead kind text f g = elim (fronts f.lines g.lines f.rest g.rest f.are.are_l
   | inr l ↦ inr (ahead kind text g f l)
 ]
 
--- ---- No line behind them.
+-- ---- No line after them.
 
--- behind so many items no line with a LF follows that is empty or one more item
+-- after this many items no line with a LF follows that is empty or one more item
 NoFurther : Kind → ℕ → List ℕ → Type 0
 NoFurther kind n rest = (line behind : List ℕ) → IsLine line → rest ≡ line ++ 10 ∷ behind → (strip_cr line ≡ [] → ⊥) × ((e : EntryValue) → n < 1000000 → IsItemLine kind (strip_cr line) e → ⊥)
 
@@ -155,13 +155,13 @@ same_front kind text f g none none' = elim (one_ahead kind text f g) [
 abbrev ended_front : (kind : Kind) (text : List ℕ) (es : List EntryValue) → EndedJson kind text es → Front kind text
 ended_front kind text es h = record { items = h.front; lines = h.lines; rest = h.last; are = h.lines_are }
 
--- why a line that isn't empty isn't one more item, behind so many lines and items
+-- why a line that isn't empty isn't one more item, after this many lines and items
 data StopsAs (kind : Kind) (lines : List (List ℕ)) (line : List ℕ) (n : ℕ) (end : End) : Type 0 where
   as_bad : n < 1000000 → end ≡ bad_json (length lines + 1) → ((i : ℕ) (x : Var) → IsRefusedLine kind line i x → ⊥) → StopsAs kind lines line n end
   as_refused : (i : ℕ) (x : Var) → n < 1000000 → end ≡ refused i x → IsRefusedLine kind line i x → StopsAs kind lines line n end
   as_endless : n ≡ 1000000 → end ≡ endless → StopsAs kind lines line n end
 
--- a line behind the items that isn't one more
+-- a line after the items that isn't one more
 record Stop (kind : Kind) (text : List ℕ) (es : List EntryValue) (end : End) : Type 0 where
   lines : List (List ℕ)
   line : List ℕ
@@ -265,7 +265,7 @@ one_whole_json kind given es es' (lines, rest, are, l) (lines', rest', are', l')
     let g : Front kind given = record { items = es'; lines = lines'; rest = rest'; are = are' } in
     (same_front kind given f g (without_lf kind (length es) rest l) (without_lf kind (length es') rest' l')).0
 
--- the items of the lines that have a LF, and those behind them
+-- the items of the lines that have a LF, and those after them
 record Final (kind : Kind) (text : List ℕ) (es : List EntryValue) : Type 0 where
   front : Front kind text
   stands : NoFurther kind (length front.items) front.rest

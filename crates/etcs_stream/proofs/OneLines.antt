@@ -65,7 +65,7 @@ has_lf [] (d ∷ y) u h e = absurd cc
 has_lf (c ∷ x) [] u h e = let f : c ≡ 10 = cc in head_line c x h f
 has_lf (c ∷ x) (d ∷ y) u h e = let tails : x ≡ y ++ 10 ∷ u = cc in has_lf x y u (tail_line c x h) tails
 
--- ---- Lines, and what is behind the last of them.
+-- ---- Lines, and what is after the last of them.
 
 pub first_of : (line : List ℕ) (lines : List (List ℕ)) (t : List ℕ) → lines_text (line ∷ lines) ++ t ≡ line ++ 10 ∷ (lines_text lines ++ t)
 first_of line lines t = append_assoc (line ++ 10 ∷ []) (lines_text lines) t ∙ append_assoc line (10 ∷ []) (lines_text lines ++ t)
@@ -96,7 +96,7 @@ fronts (line ∷ lines) (line' ∷ lines') t t' h h' e =
       | inr l ↦ inr (longer_behind line' line lines' lines t' t (sym same.0) l)
     ]
 
--- ---- Good lines, and what is behind the last of them.
+-- ---- Good lines, and what is after the last of them.
 
 -- it doesn't begin with one more
 NoMore : List ℕ → Type 0
@@ -214,7 +214,7 @@ one_so_far text bytes bytes' h k =
     let same = one_way h.0 k.0 h.1 k.1 h.3 k.3 (unfinished h.1 h.4) (unfinished k.1 k.4) (sym h.2 ∙ k.2) in
     h.5 ∙ ap lines_bytes same.0 ∙ sym k.5
 
--- a text goes on with what some lines at its front say
+-- a text continues with what some lines at its front say
 pub front_hex : (text bytes bytes' : List ℕ) → SaysFirst Hex text bytes → IsHexText text bytes' → (more : List ℕ) × (bytes' ≡ bytes ++ more)
 front_hex text bytes bytes' (inl h) k =
     let l = longer h.0 k.lines h.1 k.last h.3 k.lines_good (last_of text bytes' k) (sym h.2 ∙ k.text_is) in (

@@ -40,7 +40,7 @@ one_encoding : (e : EntryValue) (bytes bytes' : List ℕ) → IsEncoded e bytes 
 one_encoding e bytes bytes' h k =
     bits_same bytes bytes' (all_small bytes h.small) (all_small bytes' k.small) (h.bits_are ∙ ap spelled (one_spelling e h.reading k.reading h.reads k.reads) ∙ sym k.bits_are)
 
--- one item is told in one way
+-- one item is reported in one way
 one_tell : (c : Command) (e : EntryValue) (s : Told) (text : List ℕ) (s' : Told) (text' : List ℕ) (s'' : Told) → TellsItem c e s text s' → TellsItem c e s text' s'' → (text ≡ text') × (s' ≡ s'')
 one_tell Show e s text s' text' s'' h k = (h.0 ∙ sym k.0, h.1 ∙ sym k.1)
 one_tell Check e s text s' text' s'' h k = (h.0 ∙ sym k.0, h.1 ∙ sym k.1)

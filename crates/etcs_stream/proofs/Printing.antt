@@ -1,4 +1,4 @@
--- What was told is the text of the first items.
+-- What was written is the text of the first items.
 use Rattle.std.proofs.Common.{◌≡◌, ℕ, ◌≤◌, Bool, List, [], ◌∷◌, ◌++◌, length, map, Result, Ok, Err, inl, inr, refl, subst}
 use Rattle.std.specs.Prelude.{◌⊎◌, IfErr, IfOk, OnOk}
 use Rattle.std.proofs.lemmas.List.{append-nil}

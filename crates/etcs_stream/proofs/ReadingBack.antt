@@ -54,7 +54,7 @@ without_cr line h = whole line (ends_with_byte 13 line) refl h
 
 -- ---- Bytes.
 
--- the bits of encodings one behind the other are the items
+-- the bits of encodings one after another are the items
 bytes_spelled : (kind : Kind) (s : Told) (es : List EntryValue) (spelt : List Bool) (text : List ℕ) (s' : Told) → AreSpelled kind es spelt → TellsItems (Convert Bin) s es text s' → AreSpelled kind es (bits text)
 unfolding bits
 bytes_spelled kind s [] spelt text s' are is = ap bits is.0
@@ -66,7 +66,7 @@ bytes_spelled kind s (e ∷ es) spelt text s' (r, behind, reads, b, more) (mid, 
   bytes_spelled kind mid es behind rest s' more others,
 )
 
--- nothing is behind them
+-- nothing is after them
 all_bits : (kind : Kind) (b : List Bool) (es : List EntryValue) → AreSpelled kind es b → length es ≤ 1000000 → BitItems kind b es ended
 all_bits kind b es are few = record { spelt = b; rest = []; are_spelled = are; bits_are = sym (append-nil b); few = few; ends = refl }
 

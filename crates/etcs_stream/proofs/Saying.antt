@@ -7,7 +7,7 @@ use Rattle.etcs_stream.specs.declared.job.Command.{Command}
 use Rattle.etcs_stream.specs.declared.fault.RunFault.{RunFault}
 use Rattle.etcs_stream.specs.Told.{Told}
 use Rattle.etcs_stream.specs.Tellers.{TellsItems, nothing_told}
-use Rattle.etcs_stream.specs.Steps.{Says}
+use Rattle.etcs_stream.specs.Taking.{Says}
 use Rattle.etcs_stream.proofs.Tellings.{tells_append}
 
 -- it holds of each failure
@@ -15,7 +15,7 @@ pub on_err : {A : Type 0} (answer : Result A RunFault) (P : Type 0) → P → On
 on_err (Ok a) P p = tt
 on_err (Err e) P p = p
 
--- no item was told
+-- no item was reported
 pub says_here : (c : Command) (s n : Told) (t t' : List ℕ) → t' ≡ t → n.count ≤ s.count + 1 → Says c s n t t'
 says_here c s n t t' same few = record {
   told = [];
@@ -32,7 +32,7 @@ says_same Why c s t t' (Ok a) h = tt
 says_same Why c s t t' (Err e) h = says_here c s s t t' h.0 (omega arith)
 
 module _ (c : Command) (s m n : Told) (es : List EntryValue) (t x u v : List ℕ) (h : TellsItems c s es x m) (is : u ≡ t ++ x) where
-  -- items were told before
+  -- items were reported before
   pub says_then : Says c m n u v → Says c s n t v
   says_then g = record {
     told = es ++ g.told;
@@ -48,7 +48,7 @@ module _ (c : Command) (s m n : Told) (es : List EntryValue) (t x u v : List ℕ
   says_then_if (Err e) g = says_then g
 
 module _ (c : Command) (s n : Told) (es : List EntryValue) (told t t' : List ℕ) where
-  -- all that was told, with the text of this call
+  -- all that was reported, with the text of this call
   pub says_all : TellsItems c nothing_told es (told ++ t) s → Says c s n t t' → Says c nothing_told n [] (told ++ t')
   says_all h g = record {
     told = es ++ g.told;

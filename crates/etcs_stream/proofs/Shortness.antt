@@ -1,4 +1,4 @@
--- What an engine tells is short.
+-- What an engine writes is short.
 use Rattle.std.proofs.Common.{◌≡◌, ℕ, ◌+◌, ◌*◌, ◌<◌, ◌≤◌, ◌^◌, List, ◌++◌, length, Result, Ok, Err, ap, subst, arith, length-append}
 use Rattle.std.specs.Prelude.{OnOk, IfOk, IfErr}
 use Rattle.etcs_stream.specs.Tellers.{nothing_told}
@@ -20,7 +20,7 @@ module _ (job : Job) (given told text : List ℕ) where
       let bound : 2097152 * 1000000 < 2 ^ 62 = omega arith in
       omega (arith, short, first.0, bound, length-append told text)
 
-  -- behind a piece
+  -- after a piece
   pub fed_short : (job' : Job) (answer : Result Unit RunFault) (Stands : Type 0) → job' ≡ job → OnOk answer Stands → (Stands → Tells job' given (told ++ text)) → IfErr answer (λ e. IsOfEngine e × Stops job given (told ++ text) e) → length told + length text < 2 ^ 62
   fed_short job' (Ok u) Stands e ok tells err = prints_short (tells_prints job given (told ++ text) (subst (λ (j : Job). Tells j given (told ++ text)) e (tells ok)))
   fed_short job' (Err f) Stands e ok tells err = prints_short (stops_prints job given (told ++ text) f err.1)

@@ -1,4 +1,4 @@
--- What stands of an input behind each piece, and how its items end.
+-- What is there of an input after each piece, and how its items end.
 use Rattle.std.proofs.Common.{◌≡◌, ℕ, ◌+◌, ◌<◌, ◌≤◌, Bool, List, [], ◌++◌, length, refl, sym, ap, subst, ◌∙◌, arith, append_assoc, length-append, inl, inr}
 use Rattle.std.specs.Prelude.{◌⊎◌}
 use Rattle.std.proofs.lemmas.List.{append-nil}
@@ -20,7 +20,7 @@ use Rattle.etcs_stream.specs.declared.fault.RunFault.TheVariants.{Refused, Trunc
 use Rattle.etcs_stream.specs.Faults.{IsOfEngine}
 use Rattle.etcs_stream.specs.Streams.{AreSpelled}
 use Rattle.etcs_stream.specs.Readers.{HasRoom}
-use Rattle.etcs_stream.specs.Steps.{Advances, Halts, HaltsBy}
+use Rattle.etcs_stream.specs.Taking.{Advances, Halts, HaltsBy}
 use Rattle.etcs_stream.specs.Stands.{ItemsStand}
 use Rattle.etcs_stream.specs.Inputs.{End, ended, refused, truncated, bad_hex, bad_json, endless, BitItems, FirstBytes, FirstItems, SaysFirst, ItemsOf}
 use Rattle.etcs_stream.specs.Engines.{EndsBy, Stops, StopsAtEnd}
@@ -31,7 +31,7 @@ use Rattle.etcs_stream.proofs.Tellings.{tells_append, tells_count}
 
 -- ---- Some bytes more.
 
--- of these bytes the items were told, and then no more was taken
+-- of these bytes the items were reported, and then no more was taken
 pub record ItemsHalt (job : Job) (bytes told : List ℕ) (fault : RunFault) : Type 0 where
   pub items : List EntryValue
   pub spelt : List Bool
@@ -50,7 +50,7 @@ more_bits bytes piece p seen q rest h g =
     ∙ ap (λ (z : List Bool). p ++ z) g
     ∙ sym (append_assoc p q rest)
 
--- the text of the items that were told, and of those behind them
+-- the text of the items that were reported, and of those after them
 all_text : (job : Job) (s s' : Told) (ds es : List EntryValue) (told t added t' : List ℕ) → TellsItems job.command nothing_told ds (told ++ t) s → TellsItems job.command s es added s' → t' ≡ t ++ added → TellsItems job.command nothing_told (ds ++ es) (told ++ t') s'
 all_text job s s' ds es told t added t' h g is =
     subst (λ z. TellsItems job.command nothing_told (ds ++ es) z s') (append_assoc told t added ∙ ap (λ (z : List ℕ). told ++ z) (sym is))
@@ -105,7 +105,7 @@ first_bytes Hex kind given es h = h
 first_bytes Bin kind given es h = h
 first_bytes Json kind given es h = absurd h.says
 
--- the items that were told are the first of an input that says the bytes first
+-- the items that were reported are the first of an input that says the bytes first
 pub stand_first : (job : Job) (seen : List Bool) (s : Told) (given bytes told : List ℕ) (h : ItemsStand job seen s bytes told) → SaysFirst job.from given bytes → FirstItems job.from job.kind given h.items
 stand_first job seen s given bytes told h says = first_bytes job.from job.kind given h.items (record { bytes = bytes; says = says; spelt = h.spelt; rest = seen; are_spelled = h.are_spelled; bits_are = h.bits_are; few = omega (arith, h.few, h.count_is) })
 
@@ -120,7 +120,7 @@ IsEarly (bad_hex line place) = ⊥
 IsEarly (bad_json line) = ⊥
 IsEarly endless = Unit {0}
 
--- the items of the bytes, with any bits behind them, end by the fault
+-- the items of the bytes, with any bits after them, end by the fault
 pub record EndsEarly (job : Job) (bytes : List ℕ) (items : List EntryValue) (fault : RunFault) : Type 0 where
   pub end : End
   pub early : IsEarly end

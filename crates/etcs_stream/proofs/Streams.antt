@@ -18,9 +18,9 @@ use Rattle.etcs_text.specs.Entries.{EntryValue, EntryReads}
 use Rattle.etcs_stream.specs.Told.{Told}
 use Rattle.etcs_stream.specs.Tellers.{TellsItem}
 use Rattle.etcs_stream.specs.declared.fault.RunFault.{RunFault}
-use Rattle.etcs_stream.specs.Readers.{ReaderValue, Stage, Feeds, Awaits, seen_bits, reading}
+use Rattle.etcs_stream.specs.Readers.{ReaderValue, Progress, Feeds, Awaits, seen_bits, reading}
 use Rattle.etcs_stream.specs.Streams.{AreSpelled}
-use Rattle.etcs_stream.specs.Steps.{Advances, Halts, HaltsBy}
+use Rattle.etcs_stream.specs.Taking.{Advances, Halts, HaltsBy}
 use Rattle.etcs_stream.proofs.ItemKinds.{Language, item_bits, some_item}
 use Rattle.etcs_stream.proofs.Tellings.{tells_append, tells_count, tells_one}
 
@@ -46,13 +46,13 @@ begun : (kind : Kind) → Viable (Language kind) []
 begun kind = let (r, l) = some_item kind in (r, spelled r, l, refl)
 
 -- a reader that has seen nothing
-pub Awaits-fresh : (kind : Kind) (r : ReaderValue) → r ≡ record { kind = kind; stage = reading [] } → Awaits kind r
+pub Awaits-fresh : (kind : Kind) (r : ReaderValue) → r ≡ record { kind = kind; progress = reading [] } → Awaits kind r
 Awaits-fresh kind r h =
-    let fresh : ReaderValue = record { kind = kind; stage = reading [] } in
-    let a : Awaits kind fresh = record { kind_is = refl; stage_is = refl; unfinished = nothing_is_spelled kind; viable = begun kind } in
+    let fresh : ReaderValue = record { kind = kind; progress = reading [] } in
+    let a : Awaits kind fresh = record { kind_is = refl; progress_is = refl; unfinished = nothing_is_spelled kind; viable = begun kind } in
     subst (Awaits kind) (sym h) a
 
--- ---- one piece behind the other
+-- ---- one piece after another
 
 pub Advances-none : (kind : Kind) (c : Command) (seen : List Bool) (s : Told) (text : List ℕ) → Advances kind c seen seen s s [] text text
 unfolding bits
@@ -130,22 +130,22 @@ cut_front bytes front rest n m e h =
 -- ---- what a feed of the reader brings
 
 -- its answer, where it waits for bits
-pub fed : (kind : Kind) (r : ReaderValue) (new : List Bool) (answer wanted : Result Fed ReadFault) (after : Stage) → Awaits kind r → answer ≡ wanted → ((seen : List Bool) → r.stage ≡ reading seen → Feeds (EntryReads r.kind) seen new answer after) → Feeds (EntryReads kind) (seen_bits r.stage) new wanted after
+pub fed : (kind : Kind) (r : ReaderValue) (new : List Bool) (answer wanted : Result Fed ReadFault) (after : Progress) → Awaits kind r → answer ≡ wanted → ((seen : List Bool) → r.progress ≡ reading seen → Feeds (EntryReads r.kind) seen new answer after) → Feeds (EntryReads kind) (seen_bits r.progress) new wanted after
 fed kind r new answer wanted after h is f =
-    subst (λ z. Feeds (EntryReads z) (seen_bits r.stage) new wanted after) h.kind_is
-    (subst (λ z. Feeds (EntryReads r.kind) (seen_bits r.stage) new z after) is (f (seen_bits r.stage) h.stage_is))
+    subst (λ z. Feeds (EntryReads z) (seen_bits r.progress) new wanted after) h.kind_is
+    (subst (λ z. Feeds (EntryReads r.kind) (seen_bits r.progress) new z after) is (f (seen_bits r.progress) h.progress_is))
 
-pub more_awaits : (kind : Kind) (seen new : List Bool) (r : ReaderValue) → r.kind ≡ kind → Feeds (EntryReads kind) seen new (Ok More) r.stage → Awaits kind r
+pub more_awaits : (kind : Kind) (seen new : List Bool) (r : ReaderValue) → r.kind ≡ kind → Feeds (EntryReads kind) seen new (Ok More) r.progress → Awaits kind r
 more_awaits kind seen new r e f =
-    let all : seen_bits r.stage ≡ seen ++ new = ap seen_bits f.0 in
+    let all : seen_bits r.progress ≡ seen ++ new = ap seen_bits f.0 in
     record {
       kind_is = e;
-      stage_is = f.0 ∙ ap reading (sym all);
+      progress_is = f.0 ∙ ap reading (sym all);
       unfinished = subst (λ z. NoneYet (Language kind) z) (sym all) f.1.0;
       viable = subst (λ z. Viable (Language kind) z) (sym all) f.1.1;
     }
 
-pub more_advances : (kind : Kind) (c : Command) (seen : List Bool) (bytes : List ℕ) (s : Stage) (told : Told) (text : List ℕ) → Feeds (EntryReads kind) seen (bits bytes) (Ok More) s → Advances kind c seen (seen_bits s) told told (take (length bytes) bytes) text text
+pub more_advances : (kind : Kind) (c : Command) (seen : List Bool) (bytes : List ℕ) (s : Progress) (told : Told) (text : List ℕ) → Feeds (EntryReads kind) seen (bits bytes) (Ok More) s → Advances kind c seen (seen_bits s) told told (take (length bytes) bytes) text text
 more_advances kind c seen bytes s told text f =
     record {
       told = [];
@@ -157,24 +157,24 @@ more_advances kind c seen bytes s told text f =
       text_is = sym (append-nil text);
     }
 
-pub done_takes : (kind : Kind) (seen new : List Bool) (k : ℕ) (s : Stage) → NoneYet (Language kind) seen → Feeds (EntryReads kind) seen new (Ok (Done k)) s → 0 < k
+pub done_takes : (kind : Kind) (seen new : List Bool) (k : ℕ) (s : Progress) → NoneYet (Language kind) seen → Feeds (EntryReads kind) seen new (Ok (Done k)) s → 0 < k
 done_takes kind seen new zero s none f =
     let e : length seen + 8 * 0 ≡ length seen = omega arith in
     let front : take (length seen + 8 * 0) (seen ++ new) ≡ take (length seen) seen = ap (λ n. take n (seen ++ new)) e ∙ take-append-le (length seen) seen new (omega arith) in
     absurd (none (length seen) (omega arith) (f.3.1, (f.0, f.3.2), f.3.3 ∙ front))
 done_takes kind seen new (suc k) s none f = omega arith
 
-pub done_within : (kind : Kind) (seen : List Bool) (bytes : List ℕ) (k : ℕ) (s : Stage) → Feeds (EntryReads kind) seen (bits bytes) (Ok (Done k)) s → k ≤ length bytes
+pub done_within : (kind : Kind) (seen : List Bool) (bytes : List ℕ) (k : ℕ) (s : Progress) → Feeds (EntryReads kind) seen (bits bytes) (Ok (Done k)) s → k ≤ length bytes
 done_within kind seen bytes k s f = omega (arith, f.2, length-bits bytes)
 
 -- the bits that spell the item
-done_bits : (kind : Kind) (seen : List Bool) (bytes : List ℕ) (k : ℕ) (s : Stage) (f : Feeds (EntryReads kind) seen (bits bytes) (Ok (Done k)) s) → seen ++ bits (take k bytes) ≡ spelled f.3.1
+done_bits : (kind : Kind) (seen : List Bool) (bytes : List ℕ) (k : ℕ) (s : Progress) (f : Feeds (EntryReads kind) seen (bits bytes) (Ok (Done k)) s) → seen ++ bits (take k bytes) ≡ spelled f.3.1
 done_bits kind seen bytes k s f =
     ap (λ (z : List Bool). seen ++ z) (sym (take-bits k bytes (done_within kind seen bytes k s f)))
     ∙ sym (take-append-add seen (bits bytes) (8 * k))
     ∙ sym f.3.3
 
-pub done_advances : (kind : Kind) (c : Command) (seen seen' : List Bool) (bytes : List ℕ) (k : ℕ) (s : Stage) (i j : Told) (t u : List ℕ) (f : Feeds (EntryReads kind) seen (bits bytes) (Ok (Done k)) s) → seen' ≡ [] → (added : List ℕ) × TellsItem c f.0 i added j × (u ≡ t ++ added) → Advances kind c seen seen' i j (take k bytes) t u
+pub done_advances : (kind : Kind) (c : Command) (seen seen' : List Bool) (bytes : List ℕ) (k : ℕ) (s : Progress) (i j : Told) (t u : List ℕ) (f : Feeds (EntryReads kind) seen (bits bytes) (Ok (Done k)) s) → seen' ≡ [] → (added : List ℕ) × TellsItem c f.0 i added j × (u ≡ t ++ added) → Advances kind c seen seen' i j (take k bytes) t u
 done_advances kind c seen seen' bytes k s i j t u f none text =
     record {
       told = f.0 ∷ [];
@@ -186,5 +186,5 @@ done_advances kind c seen seen' bytes k s i j t u f none text =
       text_is = text.2;
     }
 
-pub feed_refuses : (kind : Kind) (seen new : List Bool) (i : ℕ) (x : Var) (s : Stage) → Feeds (EntryReads kind) seen new (Err (Refused i x)) s → Refuses (Language kind) (seen ++ new) i x
+pub feed_refuses : (kind : Kind) (seen new : List Bool) (i : ℕ) (x : Var) (s : Progress) → Feeds (EntryReads kind) seen new (Err (Refused i x)) s → Refuses (Language kind) (seen ++ new) i x
 feed_refuses kind seen new i x s f = record { within = f.0.1; owned = f.1; blocked = f.0.2 }

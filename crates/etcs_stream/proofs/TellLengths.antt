@@ -44,7 +44,7 @@ pub are_read : (kind : Kind) (es : List EntryValue) (b : List Bool) → AreSpell
 are_read kind [] b h = tt
 are_read kind (e ∷ es) b h = (h.0, h.2, are_read kind es h.1 h.4)
 
--- what is written of items one behind the other
+-- what is written of items one after another
 pub items_short : (command : Command) (kind : Kind) (s : Told) (es : List EntryValue) (text : List ℕ) (s' : Told) → AreRead kind es → s.count + length es ≤ 1000000 → TellsItems command s es text s' → length text ≤ 2097152 * length es
 items_short command kind s [] text s' reads h is = rw is.0 (omega arith)
 items_short command kind s (e ∷ es) text s' (r, reads, others) h (mid, first, rest, is, told, behind) =

@@ -1,4 +1,4 @@
--- What is written of items one behind the other.
+-- What is written of items one after another.
 use Rattle.std.proofs.Common.{◌≡◌, ℕ, ◌+◌, List, [], ◌∷◌, ◌++◌, length, refl, sym, ap, subst, ◌∙◌, arith, append_assoc}
 use Rattle.std.proofs.lemmas.List.{append-nil}
 use Rattle.etcs_text.specs.Entries.{EntryValue, of_telegram, of_message}

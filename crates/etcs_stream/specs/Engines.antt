@@ -1,4 +1,4 @@
--- What a run tells of its input, by its job.
+-- What a run writes of its input, by its job.
 use Rattle.std.specs.Prelude.{◌≡◌, ℕ, ◌+◌, ◌≤◌, List, ◌++◌, length, ◌⊎◌}
 use Rattle.etcs_text.specs.Entries.{EntryValue}
 use Rattle.etcs_stream.specs.Told.{Told}
@@ -9,7 +9,7 @@ use Rattle.etcs_stream.specs.declared.fault.RunFault.{RunFault}
 use Rattle.etcs_stream.specs.declared.fault.RunFault.TheVariants.{Refused, Truncated, BadHex, BadJson, Endless, Memory}
 use Rattle.etcs_stream.specs.Inputs.{End, ended, refused, truncated, bad_hex, bad_json, endless, ItemsOf, WholeItems, FirstItems}
 
--- the fault by which the items of an input end, behind so many of them
+-- the fault by which the items of an input end, after this many of them
 abbrev pub EndsBy : ℕ → End → RunFault → Type 0
 EndsBy n ended f = ⊥
 EndsBy n (refused i x) f = f ≡ Refused (n + 1) i x
@@ -42,11 +42,11 @@ EndsWhole job given told = (tally : Tally) × Ends job given told tally
 abbrev pub Prints : Job → List ℕ → List ℕ → Type 0
 Prints job given told = (es : List EntryValue) × FirstItems job.from job.kind given es × ItemsText job.command es told
 
--- memory was refused behind such items
+-- memory was refused after such items
 abbrev pub Starves : Job → List ℕ → List ℕ → RunFault → Type 0
 Starves job given told f = (f ≡ Memory) × Prints job given told
 
--- each input that begins with these bytes ends by the fault, behind the items of this text; or memory was refused
+-- each input that begins with these bytes ends by the fault, after the items of this text; or memory was refused
 abbrev pub Stops : Job → List ℕ → List ℕ → RunFault → Type 0
 Stops job given told f = Starves job given told f ⊎ ((es : List EntryValue) × (end : End) × EndsBy (length es) end f × ItemsText job.command es told × ((more : List ℕ) → ItemsOf job.from job.kind (given ++ more) es end))
 
@@ -54,7 +54,7 @@ Stops job given told f = Starves job given told f ⊎ ((es : List EntryValue) ×
 abbrev pub StopsAtEnd : Job → List ℕ → List ℕ → RunFault → Type 0
 StopsAtEnd job given told f = Starves job given told f ⊎ ((es : List EntryValue) × (end : End) × EndsBy (length es) end f × ItemsText job.command es told × ItemsOf job.from job.kind given es end)
 
--- memory was refused at the last piece that was read: all items that were whole in front of it are told, and behind them
+-- memory was refused at the last piece that was read: all items that were whole before it are reported, and after them
 -- perhaps the next ones
 pub record StarvesIn (job : Job) (given told : List ℕ) : Type 0 where
   pub before : List ℕ

@@ -3,7 +3,7 @@ use Rattle.std.specs.Prelude.{◌≡◌, ◌⊎◌, ◌↔◌, ℕ, zero, suc, �
 use Rattle.std.specs.Fmt.{decimal}
 use Rattle.etcs_packets.specs.declared.packet.Packet.{Packet}
 use Rattle.etcs_packets.specs.PacketValues.{packet_value}
-use Rattle.etcs_telegram.specs.Telegrams.{TelegramParts, TelegramValue, IsTelegram, telegram_value}
+use Rattle.etcs_telegram.specs.Telegrams.{TelegramContent, TelegramValue, IsTelegram, telegram_value}
 use Rattle.etcs_group.specs.declared.assembly.Added.{Added}
 use Rattle.etcs_group.specs.declared.assembly.Added.TheVariants.{New, Repeat}
 use Rattle.etcs_group.specs.declared.clash.Clash.{Clash}
@@ -28,7 +28,7 @@ answer_words (Ok Repeat) = codes "repeat"
 answer_words (Err clash) = codes "clash " ++ clash_name clash
 
 -- what a telegram is to those that are held
-abbrev pub Answers : List (Option TelegramParts) → TelegramParts → Result Added Clash → Type 0
+abbrev pub Answers : List (Option TelegramContent) → TelegramContent → Result Added Clash → Type 0
 Answers held t (Ok New) = Joins held t × (Holds held t → ⊥)
 Answers held t (Ok Repeat) = Joins held t × Holds held t
 Answers held t (Err clash) = IsFirstClash clash held t
@@ -43,7 +43,7 @@ answer_line item answer = codes "item " ++ decimal item ++ codes " " ++ answer_w
 
 -- what is written of a telegram, and what is held then: it too where it fits those held
 pub record GroupItem (v : TelegramValue) (s : Told) (text : List ℕ) (s' : Told) : Type 0 where
-  pub telegram : TelegramParts
+  pub telegram : TelegramContent
   pub made : IsTelegram telegram
   pub value_is : v ≡ telegram_value telegram
   pub answer : Result Added Clash
@@ -54,16 +54,16 @@ pub record GroupItem (v : TelegramValue) (s : Told) (text : List ℕ) (s' : Told
   pub held_is : HeldAfter s.held telegram s'.held
   pub placed : IsGroup s'.held
 
--- of the first places, so many of them, those that are true, in rising order
+-- of the first places, this many of them, those that are true, in rising order
 abbrev pub trues : ℕ → List Bool → List ℕ
 trues zero bs = []
 trues (suc n) bs = trues n bs ++ (if slice_index_or bs n false then n ∷ [] else [])
 
 -- for each of the eight positions, whether it is missing
-abbrev pub AreMissing : List (Option TelegramParts) → List Bool → Type 0
+abbrev pub AreMissing : List (Option TelegramContent) → List Bool → Type 0
 AreMissing held bs = (p : ℕ) → (slice_get bs p ≡ Some true) ↔ IsMissing held p
 
--- positions, each behind a blank
+-- positions, each after a blank
 abbrev pub positions_text : List ℕ → List ℕ
 positions_text ps = flat_map (λ p. codes " " ++ decimal p) ps
 
@@ -72,13 +72,13 @@ abbrev pub group_front : ℕ → ℕ → List ℕ
 group_front country group = codes "group " ++ decimal country ++ codes " " ++ decimal group
 
 -- what a group is whole or not: its message, or the positions that are missing
-abbrev pub GroupLines : List (Option TelegramParts) → List ℕ → List ℕ → Type 0
+abbrev pub GroupLines : List (Option TelegramContent) → List ℕ → List ℕ → Type 0
 GroupLines held front text =
     (IsWhole held × ((ps : List Packet) × IsGroupMessage held ps × (text ≡ front ++ codes " complete\n" ++ packets_text (map packet_value ps))))
     ⊎ ((IsWhole held → ⊥) × ((bs : List Bool) × AreMissing held bs × (text ≡ front ++ codes " missing" ++ positions_text (trues 8 bs) ++ codes "\n")))
 
 -- the last lines of a run over a group
-abbrev pub LastLines : List (Option TelegramParts) → List ℕ → Type 0
+abbrev pub LastLines : List (Option TelegramContent) → List ℕ → Type 0
 LastLines held text =
     (HoldsNone held × (text ≡ codes "group empty\n"))
-    ⊎ ((t : TelegramParts) × Holds held t × GroupLines held (group_front t.header.nid_c t.header.nid_bg) text)
+    ⊎ ((t : TelegramContent) × Holds held t × GroupLines held (group_front t.header.nid_c t.header.nid_bg) text)

@@ -13,7 +13,7 @@ use Rattle.etcs_stream.specs.JsonItems.{EndedJson, BadJsonLine, RefusedJsonLine,
 use Rattle.etcs_stream.specs.Streams.{AreSpelled}
 
 -- how the items of an input end: with the input; at a bit of an item, which the variable holds; inside an item, after so
--- many bits of it; at a place of a line; in a line of JSON; at a byte behind the last item that a run may have
+-- many bits of it; at a place of a line; in a line of JSON; at a byte after the last item that a run may have
 pub data End : Type 0 where
   ended : End
   refused : ℕ → Var → End
@@ -22,7 +22,7 @@ pub data End : Type 0 where
   bad_json : ℕ → End
   endless : End
 
--- the bits behind so many items end so
+-- the bits after this many items end so
 abbrev pub EndsWith : Kind → ℕ → List Bool → End → Type 0
 EndsWith kind n rest ended = rest ≡ []
 EndsWith kind n rest (refused i x) = (n < 1000000) × IsOutcome (EntryReads kind) rest (reading.refused i x)
@@ -31,7 +31,7 @@ EndsWith kind n rest (bad_hex line place) = ⊥
 EndsWith kind n rest (bad_json line) = ⊥
 EndsWith kind n rest endless = (n ≡ 1000000) × (0 < length rest)
 
--- these items stand one behind the other in the bits, which then end so
+-- these items are one after another in the bits, which then end so
 pub record BitItems (kind : Kind) (b : List Bool) (es : List EntryValue) (end : End) : Type 0 where
   pub spelt : List Bool
   pub rest : List Bool

@@ -50,7 +50,7 @@ pub record EndedJson (kind : Kind) (text : List ℕ) (es : List EntryValue) : Ty
 abbrev pub FirstJson : Kind → List ℕ → List EntryValue → Type 0
 FirstJson kind given es = ((lines : List (List ℕ)) × (rest : List ℕ) × JsonFront kind given es lines rest) ⊎ EndedJson kind given es
 
--- behind the lines of the items stands one more that isn't empty
+-- after the lines of the items is one more that isn't empty
 pub record FurtherLine (kind : Kind) (text : List ℕ) (es : List EntryValue) (lines : List (List ℕ)) (line : List ℕ) : Type 0 where
   pub rest : List ℕ
   pub front : JsonFront kind text es lines rest

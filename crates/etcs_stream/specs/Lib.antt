@@ -7,7 +7,7 @@ pub mod Told
 pub mod Groups
 pub mod Tellers
 pub mod JsonItems
-pub mod Steps
+pub mod Taking
 pub mod Inputs
 pub mod Engines
 pub mod Pipes

@@ -46,7 +46,7 @@ AreGood [] = Unit {0}
 AreGood (line ∷ lines) = (bad_place (strip_cr line) ≡ None) × AreGood lines
 
 -- the text is lines of hexadecimal that say these bytes; the last of them may be empty, and has no LF. A good line has
--- no LF inside, so the lines are what stands between the LFs
+-- no LF inside, so the lines are what is between the LFs
 pub record IsHexText (text bytes : List ℕ) : Type 0 where
   pub lines : List (List ℕ)
   pub last : List ℕ

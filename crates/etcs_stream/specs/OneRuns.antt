@@ -1,6 +1,6 @@
 -- What a run says of an input is said of one list of items, one end and one text.
 use Rattle.std.specs.Prelude.{◌≡◌, ℕ, List, Option, ◌++◌}
-use Rattle.etcs_telegram.specs.Telegrams.{TelegramParts}
+use Rattle.etcs_telegram.specs.Telegrams.{TelegramContent}
 use Rattle.etcs_group.specs.Groups.{IsGroup}
 use Rattle.etcs_text.specs.declared.entry.Kind.{Kind}
 use Rattle.etcs_stream.specs.declared.job.Command.{Command}
@@ -28,4 +28,4 @@ OneText = (command : Command) (es : List EntryValue) (text text' : List ℕ) →
 
 -- the last lines of a group are one text
 abbrev pub OneLast : Type 0
-OneLast = (held : List (Option TelegramParts)) (text text' : List ℕ) → IsGroup held → LastLines held text → LastLines held text' → text ≡ text'
+OneLast = (held : List (Option TelegramContent)) (text text' : List ℕ) → IsGroup held → LastLines held text → LastLines held text' → text ≡ text'

@@ -5,7 +5,7 @@ use Rattle.etcs_stream.specs.declared.fault.RunFault.{RunFault}
 use Rattle.etcs_stream.specs.declared.fault.RunFault.TheVariants.{Write}
 use Rattle.etcs_stream.specs.Faults.{IsOfEngine}
 
--- behind the text told the sink took this one; the fault is the engine's
+-- after the text written the sink took this one; the fault is the engine's
 abbrev pub Stopped : (List ℕ → RunFault → Type 0) → List ℕ → List ℕ → Option (List ℕ) → Option (List ℕ) → RunFault → Type 0
 Stopped Stops told text held held' e = IsOfEngine e × Stops (told ++ text) e × Appends held held' text
 

@@ -5,8 +5,8 @@ use Rattle.etcs_vars.specs.declared.feed.Fed.{Fed}
 use Rattle.etcs_vars.specs.declared.feed.Fed.TheVariants.{More, Done}
 use Rattle.etcs_vars.specs.declared.feed.ReadFault.{ReadFault}
 use Rattle.etcs_vars.specs.declared.feed.ReadFault.TheVariants.{Refused, Ended, Memory}
-use Rattle.etcs_sequence.specs.Stages as inner
-use Rattle.etcs_telegram.specs.Telegrams.{TelegramParts, telegram_value}
+use Rattle.etcs_sequence.specs.Progress as inner
+use Rattle.etcs_telegram.specs.Telegrams.{TelegramContent, telegram_value}
 use Rattle.etcs_radio.specs.declared.message.Content.{Content}
 use Rattle.etcs_radio.specs.Messages.{message_value}
 use Rattle.etcs_text.specs.declared.entry.Kind.{Kind}
@@ -16,23 +16,23 @@ use Rattle.etcs_stream.specs.declared.entries.Inner.{Inner}
 use Rattle.etcs_stream.specs.declared.entries.Inner.TheVariants.{Telegram, Message}
 
 -- it has taken these bits and wants more; it has an item; it takes no more
-pub data Stage : Type 0 where
-  reading : List Bool → Stage
-  finished : EntryValue → Stage
-  stopped : Stage
+pub data Progress : Type 0 where
+  reading : List Bool → Progress
+  finished : EntryValue → Progress
+  stopped : Progress
 
 pub record ReaderValue : Type 0 where
   pub kind : Kind
-  pub stage : Stage
+  pub progress : Progress
 
 -- that of the reader inside, each of whose values is an item
-abbrev pub stage_of : {V : Type 0} → (V → EntryValue) → inner.Stage V → Stage
-stage_of item (inner.reading b) = reading b
-stage_of item (inner.finished v) = finished (item v)
-stage_of item (inner.stopped i x) = stopped
-stage_of item (inner.starved n) = stopped
+abbrev pub progress_of : {V : Type 0} → (V → EntryValue) → inner.Progress V → Progress
+progress_of item (inner.reading b) = reading b
+progress_of item (inner.finished v) = finished (item v)
+progress_of item (inner.stopped i x) = stopped
+progress_of item (inner.starved n) = stopped
 
-abbrev pub telegram_item : TelegramParts → EntryValue
+abbrev pub telegram_item : TelegramContent → EntryValue
 telegram_item t = of_telegram (telegram_value t)
 
 abbrev pub message_item : Content → EntryValue
@@ -40,17 +40,17 @@ message_item m = of_message (message_value m)
 
 -- the reader of a kind reads items of that kind alone
 abbrev pub value_of : Inner → ReaderValue
-value_of (Telegram r) = record { kind = kind_of r.size; stage = stage_of telegram_item r.stage }
-value_of (Message s) = record { kind = Radio; stage = stage_of message_item s }
+value_of (Telegram r) = record { kind = kind_of r.size; progress = progress_of telegram_item r.progress }
+value_of (Message s) = record { kind = Radio; progress = progress_of message_item s }
 
 -- the bits of an item that isn't whole yet
-abbrev pub seen_bits : Stage → List Bool
+abbrev pub seen_bits : Progress → List Bool
 seen_bits (reading b) = b
 seen_bits (finished e) = []
 seen_bits stopped = []
 
--- the bits that were seen and the new ones together, the answer, and the stage behind it
-abbrev pub Feeds : (EntryValue → Reading → Type 0) → List Bool → List Bool → Result Fed ReadFault → Stage → Type 0
+-- the bits that were seen and the new ones together, the answer, and the progress after it
+abbrev pub Feeds : (EntryValue → Reading → Type 0) → List Bool → List Bool → Result Fed ReadFault → Progress → Type 0
 Feeds Reads seen new (Ok More) s = (s ≡ reading (seen ++ new)) × IsOutcome Reads (seen ++ new) more
 Feeds Reads seen new (Ok (Done k)) s = (e : EntryValue) × (s ≡ finished e) × (8 * k ≤ length new) × IsOutcome Reads (seen ++ new) (done e (length seen + 8 * k))
 Feeds Reads seen new (Err (Refused i x)) s = IsOutcome Reads (seen ++ new) (refused i x)
@@ -60,9 +60,9 @@ Feeds Reads seen new (Err Ended) s = ⊥
 -- the reader wants more bits of an item of this kind: some item begins with those that came, and no front of them is one
 pub record Awaits (kind : Kind) (r : ReaderValue) : Type 0 where
   pub kind_is : r.kind ≡ kind
-  pub stage_is : r.stage ≡ reading (seen_bits r.stage)
-  pub unfinished : NoneYet (readings_of (EntryReads kind)) (seen_bits r.stage)
-  pub viable : Viable (readings_of (EntryReads kind)) (seen_bits r.stage)
+  pub progress_is : r.progress ≡ reading (seen_bits r.progress)
+  pub unfinished : NoneYet (readings_of (EntryReads kind)) (seen_bits r.progress)
+  pub viable : Viable (readings_of (EntryReads kind)) (seen_bits r.progress)
 
 -- an item was begun only where a run may have one more
 abbrev pub HasRoom : ℕ → List Bool → Type 0

@@ -1,4 +1,4 @@
--- What was told of the bytes that an engine was fed.
+-- What was reported of the bytes that an engine was fed.
 use Rattle.std.specs.Prelude.{◌≡◌, ℕ, ◌≤◌, Bool, List, ◌++◌, length, map, All}
 use Rattle.etcs_bits.specs.Bits.{bits}
 use Rattle.etcs_vars.specs.Reading.{NoneYet, readings_of}
@@ -12,7 +12,7 @@ use Rattle.etcs_stream.specs.JsonItems.{AreItemLines}
 use Rattle.etcs_stream.specs.Readers.{ReaderValue, Awaits, HasRoom, seen_bits}
 use Rattle.etcs_stream.specs.Streams.{AreSpelled}
 
--- of these bytes items were told, and these bits of the next were seen
+-- of these bytes items were reported, and these bits of the next were seen
 pub record ItemsStand (job : Job) (seen : List Bool) (after : Told) (bytes told : List ℕ) : Type 0 where
   pub items : List EntryValue
   pub spelt : List Bool
@@ -26,26 +26,26 @@ pub record ItemsStand (job : Job) (seen : List Bool) (after : Told) (bytes told 
 
 -- the bytes are the items
 abbrev pub BinStands : Job → ReaderValue → Told → List ℕ → List ℕ → Type 0
-BinStands job reader after given told = (job.from ≡ Bin) × Awaits job.kind reader × ItemsStand job (seen_bits reader.stage) after given told
+BinStands job reader after given told = (job.from ≡ Bin) × Awaits job.kind reader × ItemsStand job (seen_bits reader.progress) after given told
 
 -- they are lines of hexadecimal, of which these characters of the last are kept
-pub record HexStands (job : Job) (reader : ReaderValue) (after : Told) (kept : List ℕ) (line : ℕ) (given told : List ℕ) : Type 0 where
+pub record HexStands (job : Job) (reader : ReaderValue) (after : Told) (begun : List ℕ) (line : ℕ) (given told : List ℕ) : Type 0 where
   pub form : job.from ≡ Hex
   pub waits : Awaits job.kind reader
   pub lines : List (List ℕ)
-  pub given_is : given ≡ lines_text lines ++ kept
+  pub given_is : given ≡ lines_text lines ++ begun
   pub lines_good : AreGood lines
-  pub is_line : IsLine kept
+  pub is_line : IsLine begun
   pub line_is : line ≡ length lines
-  pub items : ItemsStand job (seen_bits reader.stage) after (lines_bytes lines) told
+  pub items : ItemsStand job (seen_bits reader.progress) after (lines_bytes lines) told
 
 -- ---- Lines.
 
--- the bytes are lines, of which the last has no LF yet; the others were taken, and this text was told of them
-pub record LinesStand (Took : List (List ℕ) → List ℕ → Type 0) (kept : List ℕ) (line : ℕ) (given told : List ℕ) : Type 0 where
+-- the bytes are lines, of which the last has no LF yet; the others were taken, and this text was written of them
+pub record LinesStand (Took : List (List ℕ) → List ℕ → Type 0) (begun : List ℕ) (line : ℕ) (given told : List ℕ) : Type 0 where
   pub lines : List (List ℕ)
-  pub given_is : given ≡ lines_text lines ++ kept
-  pub is_line : IsLine kept
+  pub given_is : given ≡ lines_text lines ++ begun
+  pub is_line : IsLine begun
   pub line_is : line ≡ length lines
   pub took : Took lines told
 
@@ -54,7 +54,7 @@ pub record HexTook (job : Job) (reader : ReaderValue) (after : Told) (lines : Li
   pub form : job.from ≡ Hex
   pub waits : Awaits job.kind reader
   pub lines_good : AreGood lines
-  pub items : ItemsStand job (seen_bits reader.stage) after (lines_bytes lines) told
+  pub items : ItemsStand job (seen_bits reader.progress) after (lines_bytes lines) told
 
 -- lines of JSON were
 pub record JsonTook (job : Job) (after : Told) (lines : List (List ℕ)) (told : List ℕ) : Type 0 where

@@ -1,10 +1,10 @@
--- Items one behind the other.
+-- Items one after another.
 use Rattle.std.specs.Prelude.{◌≡◌, Bool, List, [], ◌∷◌, ◌++◌}
 use Rattle.etcs_vars.specs.Reading.{Reading, spelled}
 use Rattle.etcs_text.specs.declared.entry.Kind.{Kind}
 use Rattle.etcs_text.specs.Entries.{EntryValue, EntryReads}
 
--- the bits are the spellings of the items, one behind the other, and nothing more
+-- the bits are the spellings of the items, one after another, and nothing more
 abbrev pub AreSpelled : Kind → List EntryValue → List Bool → Type 0
 AreSpelled kind [] bits = bits ≡ []
 AreSpelled kind (e ∷ es) bits = (r : Reading) × (behind : List Bool) × EntryReads kind e r × (bits ≡ spelled r ++ behind) × AreSpelled kind es behind

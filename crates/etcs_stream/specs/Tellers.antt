@@ -1,4 +1,4 @@
--- What a run writes of its items, one behind the other, and behind the last.
+-- What a run writes of its items, one after another, and after the last.
 use Rattle.std.specs.Prelude.{◌≡◌, ◌↔◌, ℕ, ◌+◌, true, List, [], ◌∷◌, ◌++◌, None, replicate}
 use Rattle.hex.specs.Hex.{encode_upper}
 use Rattle.serde_json.specs.Written.{compact_text}
@@ -26,7 +26,7 @@ nothing_told = record { count = 0; clashes = 0; held = replicate 8 None }
 abbrev pub one_more : Told → Told
 one_more s = record { count = s.count + 1; clashes = s.clashes; held = s.held }
 
--- what is written of an item behind those told
+-- what is written of an item after those reported
 abbrev pub TellsItem : Command → EntryValue → Told → List ℕ → Told → Type 0
 TellsItem Show e s text s' = (text ≡ entry_text e (s.count + 1)) × (s' ≡ one_more s)
 TellsItem Check e s text s' = (text ≡ check_line e (s.count + 1)) × (s' ≡ one_more s)
@@ -36,7 +36,7 @@ TellsItem (Convert Json) e s text s' = (text ≡ compact_text (json_tree e) ++ 1
 TellsItem Group (of_telegram t) s text s' = GroupItem t s text s'
 TellsItem Group (of_message m) s text s' = ⊥
 
--- and of items one behind the other
+-- and of items one after another
 abbrev pub TellsItems : Command → Told → List EntryValue → List ℕ → Told → Type 0
 TellsItems c s [] text s' = (text ≡ []) × (s' ≡ s)
 TellsItems c s (e ∷ es) text s' = (mid : Told) × (first : List ℕ) × (rest : List ℕ) × (text ≡ first ++ rest) × TellsItem c e s first mid × TellsItems c mid es rest s'

@@ -1,9 +1,9 @@
--- What was told.
+-- What was reported.
 use Rattle.std.specs.Prelude.{ℕ, List, Option}
-use Rattle.etcs_telegram.specs.Telegrams.{TelegramParts}
+use Rattle.etcs_telegram.specs.Telegrams.{TelegramContent}
 
--- so many items; and of a balise group, how many of them clash with those before, and what is held at the eight positions
+-- n items; and of a balise group, how many of them clash with those before, and what is held at the eight positions
 pub record Told : Type 0 where
   pub count : ℕ
   pub clashes : ℕ
-  pub held : List (Option TelegramParts)
+  pub held : List (Option TelegramContent)

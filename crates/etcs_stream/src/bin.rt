@@ -3,20 +3,20 @@
 ghost use Rattle.std.specs.Prelude.{◌≡◌, []};
 ghost use Rattle.etcs_stream.specs.declared.job.Form.TheVariants as form;
 ghost use Rattle.etcs_stream.specs.Stands.{BinStands};
-ghost use Rattle.etcs_stream.specs.Steps.{Says};
+ghost use Rattle.etcs_stream.specs.Taking.{Says};
 ghost use Rattle.etcs_stream.specs.laws.StandLaws.{bin_tells};
 ghost use Rattle.etcs_stream.specs.Tellers.{IsGroupable, nothing_told};
 
+use crate::byte_items::ByteItems;
 use crate::engine::Engine;
 use crate::fault::RunFault;
-use crate::items::Items;
 use crate::job::{Job, Tally};
 use std::alloc::Global;
 
-/// Tells the items of bytes.
+/// Reports the items of bytes.
 #[derive(Drop)]
 pub(crate) struct Bin {
-    items: Items,
+    items: ByteItems,
 }
 
 impl Bin {
@@ -28,7 +28,7 @@ impl Bin {
         ensures stands { BinStands job result.items.reader result.items.teller [] [] }
     {
         Bin {
-            items: Items::new(alloc, job),
+            items: ByteItems::new(alloc, job),
         }
     }
 }

@@ -36,11 +36,11 @@ fn digit(character: u8) -> u16
     DIGITS[usize::from(character)]
 }
 
-/// Writes the bytes that a line says to the front of `room`, or answers that it isn't hexadecimal.
-fn decode_good(line: &[u8], room: &mut [u8]) -> bool
-    requires { length room.old ≡ 2048 }
+/// Writes the bytes that a line says to the front of `buffer`, or answers that it isn't hexadecimal.
+fn decode_good(line: &[u8], buffer: &mut [u8]) -> bool
+    requires { length buffer.old ≡ 2048 }
     ensures good { IsTrue result → bad_place line.now ≡ None }
-    ensures bytes { IsTrue result → take (length line.now / 2) room.new ≡ line_bytes line.now }
+    ensures bytes { IsTrue result → take (length line.now / 2) buffer.new ≡ line_bytes line.now }
 {
     if line.len() > MOST_CHARACTERS || line.len() % 2 == 1 {
         return false;
@@ -50,7 +50,7 @@ fn decode_good(line: &[u8], room: &mut [u8]) -> bool
         if byte > 255 {
             return false;
         }
-        room[i] = byte as u8;
+        buffer[i] = byte as u8;
     }
     true
 }
@@ -82,23 +82,23 @@ pub(crate) fn find_bad(line: &[u8]) -> Option<usize>
     first_bad(line)
 }
 
-/// Writes the bytes that a line says to the front of `room`, and says how many they are, or answers
+/// Writes the bytes that a line says to the front of `buffer`, and says how many they are, or answers
 /// the place at which the line isn't hexadecimal.
-pub(crate) fn decode_line(line: &[u8], room: &mut [u8]) -> Result<usize, usize>
-    requires { length room.old ≡ 2048 }
+pub(crate) fn decode_line(line: &[u8], buffer: &mut [u8]) -> Result<usize, usize>
+    requires { length buffer.old ≡ 2048 }
     ensures good { OnOk result (bad_place line.now ≡ None) }
-    ensures within { IfOk result (λ n. n ≤ length room.new) }
-    ensures bytes { IfOk result (λ n. take n room.new ≡ line_bytes line.now) }
+    ensures within { IfOk result (λ n. n ≤ length buffer.new) }
+    ensures bytes { IfOk result (λ n. take n buffer.new ≡ line_bytes line.now) }
     ensures bad { IfErr result (λ place. bad_place line.now ≡ Some place) }
 {
     let count = line.len() / 2;
-    if decode_good(line, room) {
+    if decode_good(line, buffer) {
         return Ok(count);
     }
     if let Some(place) = find_bad(line) {
         return Err(place);
     }
-    match hex::decode_to_slice(line, &mut room[..count]) {
+    match hex::decode_to_slice(line, &mut buffer[..count]) {
         Ok(()) => Ok(count),
         Err(_) => unreachable!(),
     }

@@ -44,7 +44,7 @@ pub trait Sink {
 
     ghost failures: { Self → ℕ };
 
-    /// How often `flush` was called. Behind 2^64 - 1 comes 0.
+    /// How often `flush` was called. After 2^64 - 1 comes 0.
     ghost flushes: { Self → ℕ };
 
     /// Writes some bytes of the piece from its front on and says how many.

@@ -1,4 +1,4 @@
-//! What is fed with the input, and tells text of it.
+//! What is fed with the input, and writes text of it.
 
 ghost use Rattle.std.specs.Prelude.{◌≡◌, ◌<◌, ◌+◌, ◌^◌, ℕ, List, [], ◌++◌, length, IfOk, IfErr, OnErr, OnOk};
 ghost use Rattle.etcs_stream.specs.Faults.{IsOfEngine};
@@ -7,7 +7,7 @@ ghost use Rattle.etcs_stream.specs.Engines.{Tells, Ends, Stops, StopsAtEnd};
 use crate::fault::RunFault;
 use crate::job::{Job, Tally};
 
-/// Tells text of the bytes that it is fed.
+/// Writes text of the bytes that it is fed.
 pub(crate) trait Engine {
     ghost use Rattle.std.specs.Prelude.{◌≡◌, ◌<◌, ◌+◌, ◌^◌, ℕ, List, [], ◌++◌, length};
     ghost use Rattle.etcs_stream.specs.declared.job.Job.{Job};
@@ -15,10 +15,10 @@ pub(crate) trait Engine {
 
     ghost job: { Self → Job };
 
-    /// These bytes were fed, and this text was told of them.
+    /// These bytes were fed, and this text was written of them.
     ghost stands: { Self → List ℕ → List ℕ → Type 0 };
 
-    /// This text was told of what was fed, up to a fault.
+    /// This text was written of what was fed, up to a fault.
     ghost said: { Self → List ℕ → Type 0 };
 
     /// Takes a piece of the input, and appends the text of each item that becomes whole.

@@ -2,10 +2,10 @@
 
 ghost use Rattle.std.specs.Prelude.{◌≡◌, List, Bool, [], OnErr, IfOk, length};
 ghost use Rattle.etcs_bits.specs.Bits.{bits};
-ghost use Rattle.etcs_sequence.specs.Stages as inner;
+ghost use Rattle.etcs_sequence.specs.Progress as inner;
 ghost use Rattle.etcs_text.specs.declared.entry.Kind.TheVariants.{Radio};
 ghost use Rattle.etcs_text.specs.Entries.{EntryReads, EntryValue, entry_value, kind_of};
-ghost use Rattle.etcs_stream.specs.Readers.{Feeds, reading, finished, stage_of, telegram_item, message_item};
+ghost use Rattle.etcs_stream.specs.Readers.{Feeds, reading, finished, progress_of, telegram_item, message_item};
 
 use etcs_radio::MessageReader;
 use etcs_telegram::{Size, TelegramReader};
@@ -39,7 +39,7 @@ impl Model for EntryReader {
 impl EntryReader {
     /// A reader of items of this kind.
     pub(crate) fn new(alloc: Global, kind: Kind) -> EntryReader
-        ensures { result ≡ record { kind = kind; stage = reading [] } }
+        ensures { result ≡ record { kind = kind; progress = reading [] } }
     {
         let inner = match kind {
             Kind::Long => Inner::Telegram(TelegramReader::new(alloc, Size::Long)),
@@ -51,7 +51,7 @@ impl EntryReader {
 
     /// How many bits of an item that isn't whole were taken.
     pub(crate) fn bits_seen(&self) -> usize
-        ensures { (seen : List Bool) → self.now.stage ≡ reading seen → result ≡ length seen }
+        ensures { (seen : List Bool) → self.now.progress ≡ reading seen → result ≡ length seen }
     {
         match &self.inner {
             Inner::Telegram(reader) => reader.bits_seen(),
@@ -63,9 +63,9 @@ impl EntryReader {
     ///
     /// # Errors
     ///
-    /// `Refused` with the first bit of the item with which none goes on, and the variable that holds it; `Memory`.
+    /// `Refused` with the first bit of the item with which none continues, and the variable that holds it; `Memory`.
     pub(crate) fn feed(&mut self, piece: &[u8]) -> Result<Fed, ReadFault>
-        ensures answer { (seen : List Bool) → self.old.stage ≡ reading seen → Feeds (EntryReads self.old.kind) seen (bits piece.now) result self.new.stage }
+        ensures answer { (seen : List Bool) → self.old.progress ≡ reading seen → Feeds (EntryReads self.old.kind) seen (bits piece.now) result self.new.progress }
         ensures kind { self.new.kind ≡ self.old.kind }
     {
         match &mut self.inner {
@@ -81,9 +81,9 @@ impl EntryReader {
     /// Where no item is whole.
     pub(crate) fn next(&mut self, alloc: Global, kind: Kind) -> Result<Entry, ()>
         requires { kind ≡ self.old.kind }
-        ensures some { IfOk result (λ e. self.old.stage ≡ finished (entry_value e)) }
-        ensures none { OnErr result ((e : EntryValue) → self.old.stage ≡ finished e → ⊥) }
-        ensures next { self.new ≡ record { kind = kind; stage = reading [] } }
+        ensures some { IfOk result (λ e. self.old.progress ≡ finished (entry_value e)) }
+        ensures none { OnErr result ((e : EntryValue) → self.old.progress ≡ finished e → ⊥) }
+        ensures next { self.new ≡ record { kind = kind; progress = reading [] } }
     {
         match &mut self.inner {
             Inner::Telegram(reader) => next_telegram(reader, alloc, size_of(kind)),
@@ -106,9 +106,9 @@ fn size_of(kind: Kind) -> Size
 
 /// The telegram that is whole. The next one is read then.
 fn next_telegram(reader: &mut TelegramReader, alloc: Global, size: Size) -> Result<Entry, ()>
-    ensures some { IfOk result (λ e. stage_of telegram_item reader.old.stage ≡ finished (entry_value e)) }
-    ensures none { OnErr result ((e : EntryValue) → stage_of telegram_item reader.old.stage ≡ finished e → ⊥) }
-    ensures next { reader.new ≡ record { size = size; stage = inner.reading [] } }
+    ensures some { IfOk result (λ e. progress_of telegram_item reader.old.progress ≡ finished (entry_value e)) }
+    ensures none { OnErr result ((e : EntryValue) → progress_of telegram_item reader.old.progress ≡ finished e → ⊥) }
+    ensures next { reader.new ≡ record { size = size; progress = inner.reading [] } }
 {
     match mem::replace(reader, TelegramReader::new(alloc, size)).take() {
         Ok(telegram) => Ok(Entry::Telegram(telegram)),
@@ -118,8 +118,8 @@ fn next_telegram(reader: &mut TelegramReader, alloc: Global, size: Size) -> Resu
 
 /// The message that is whole. The next one is read then.
 fn next_message(reader: &mut MessageReader, alloc: Global) -> Result<Entry, ()>
-    ensures some { IfOk result (λ e. stage_of message_item reader.old ≡ finished (entry_value e)) }
-    ensures none { OnErr result ((e : EntryValue) → stage_of message_item reader.old ≡ finished e → ⊥) }
+    ensures some { IfOk result (λ e. progress_of message_item reader.old ≡ finished (entry_value e)) }
+    ensures none { OnErr result ((e : EntryValue) → progress_of message_item reader.old ≡ finished e → ⊥) }
     ensures next { reader.new ≡ inner.reading [] }
 {
     match mem::replace(reader, MessageReader::new(alloc)).take() {

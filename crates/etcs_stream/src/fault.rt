@@ -11,10 +11,10 @@ use thiserror::Error;
 /// Why a run ends early. Items and lines count from 1, bits and places from 0.
 #[derive(Clone, Copy, Debug, PartialEq, Eq, Error)]
 pub enum RunFault {
-    /// No item goes on with this bit of the input, counted from the item's first; the variable holds it.
+    /// No item continues with this bit of the input, counted from the item's first; the variable holds it.
     #[error("item {item} was refused at bit {bit}, {var}")]
     Refused { item: u64, bit: usize, var: Var },
-    /// The input ends inside an item, after so many bits of it.
+    /// The input ends inside an item, after this many bits of it.
     #[error("item {item} was truncated after {bits} bits")]
     Truncated { item: u64, bits: u64 },
     /// A line isn't hexadecimal. The place is that of the first other character, or the count of
@@ -27,7 +27,7 @@ pub enum RunFault {
     /// The reader failed.
     #[error("the input could not be read")]
     Read,
-    /// The writer failed or took nothing, after so many bytes of the run.
+    /// The writer failed or took nothing, after this many bytes of the run.
     #[error("the output could not be written after {sent} bytes")]
     Write { sent: u64 },
     /// More reads or items than a run has.

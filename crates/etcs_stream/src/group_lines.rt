@@ -10,7 +10,7 @@ ghost use Rattle.etcs_stream.specs.Groups.{LastLines, answer_line, answer_words,
 use etcs_group::parts::group;
 use etcs_group::{Added, Assembly, Clash, GroupFault};
 use etcs_packets::Packet;
-use etcs_text::parts::{push_decimal, push_item_number, push_packets};
+use etcs_text::parts::{write_decimal, write_item_number, write_packets};
 use std::alloc::AllocError;
 
 /// Appends the line that says what the item of this number is to the group, or nothing.
@@ -27,11 +27,11 @@ pub(crate) fn answer_line(
     ensures err { OnErr result (text.new.items ≡ text.old.items) }
 {
     let len = text.len();
-    let pushed = push_answer(item, answer, text);
-    if pushed.is_err() {
+    let written = write_answer(item, answer, text);
+    if written.is_err() {
         text.truncate(len);
     }
-    pushed
+    written
 }
 
 /// Appends the last lines of a run over a group, or nothing: that nothing is held; which positions are missing; or that
@@ -45,11 +45,11 @@ pub(crate) fn last_lines(assembly: &Assembly, text: &mut Vec<u8>) -> Result<(), 
     ensures err { OnErr result (text.new.items ≡ text.old.items) }
 {
     let len = text.len();
-    let pushed = push_last(assembly, text);
-    if pushed.is_err() {
+    let written = write_last(assembly, text);
+    if written.is_err() {
         text.truncate(len);
     }
-    pushed
+    written
 }
 
 /// The name of a clash.
@@ -68,7 +68,7 @@ fn name_of(clash: Clash) -> &'static str
 
 /// Appends the words of an answer.
 #[tactic(auto, using(etcs_text::specs::laws::Fronts::begins_more))]
-fn push_words(answer: Result<Added, Clash>, text: &mut Vec<u8>) -> Result<(), AllocError>
+fn write_words(answer: Result<Added, Clash>, text: &mut Vec<u8>) -> Result<(), AllocError>
     ensures ok { OnOk result (text.new.items ≡ text.old.items ++ answer_words answer) }
     ensures err { OnErr result (Begins text.old.items text.new.items) }
 {
@@ -84,7 +84,7 @@ fn push_words(answer: Result<Added, Clash>, text: &mut Vec<u8>) -> Result<(), Al
 
 /// Appends the line of an answer.
 #[tactic(auto, using(etcs_text::specs::laws::Fronts::begins_more))]
-fn push_answer(
+fn write_answer(
     item: u64,
     answer: Result<Added, Clash>,
     text: &mut Vec<u8>,
@@ -92,41 +92,41 @@ fn push_answer(
     ensures ok { OnOk result (text.new.items ≡ text.old.items ++ answer_line item answer) }
     ensures err { OnErr result (Begins text.old.items text.new.items) }
 {
-    push_item_number(item, text)?;
+    write_item_number(item, text)?;
     text.extend_from_slice(b" ")?;
-    push_words(answer, text)?;
+    write_words(answer, text)?;
     text.extend_from_slice(b"\n")
 }
 
-/// Appends a number behind what stands before it.
+/// Appends a number after what comes before it.
 #[tactic(auto, using(etcs_text::specs::laws::Fronts::begins_more))]
-fn push_number(front: &[u8], number: u64, text: &mut Vec<u8>) -> Result<(), AllocError>
+fn write_number(front: &[u8], number: u64, text: &mut Vec<u8>) -> Result<(), AllocError>
     ensures ok { OnOk result (text.new.items ≡ text.old.items ++ (front.now ++ decimal number)) }
     ensures err { OnErr result (Begins text.old.items text.new.items) }
 {
     text.extend_from_slice(front)?;
-    push_decimal(number, text)
+    write_decimal(number, text)
 }
 
 /// Appends NID_C and NID_BG of a group.
 #[tactic(auto, using(etcs_text::specs::laws::Fronts::begins_more))]
-fn push_group(country: u16, group: u16, text: &mut Vec<u8>) -> Result<(), AllocError>
+fn write_group(country: u16, group: u16, text: &mut Vec<u8>) -> Result<(), AllocError>
     ensures ok { OnOk result (text.new.items ≡ text.old.items ++ group_front country group) }
     ensures err { OnErr result (Begins text.old.items text.new.items) }
 {
-    push_number(b"group ", country as u64, text)?;
-    push_number(b" ", group as u64, text)
+    write_number(b"group ", country as u64, text)?;
+    write_number(b" ", group as u64, text)
 }
 
-/// Appends the positions that are missing, each behind a blank.
+/// Appends the positions that are missing, each after a blank.
 #[tactic(auto, using(etcs_text::specs::laws::Fronts::begins_more))]
-fn push_missing(missing: &[bool; 8], text: &mut Vec<u8>) -> Result<(), AllocError>
+fn write_missing(missing: &[bool; 8], text: &mut Vec<u8>) -> Result<(), AllocError>
     ensures ok { OnOk result (text.new.items ≡ text.old.items ++ positions_text (trues 8 missing.now)) }
     ensures err { OnErr result (Begins text.old.items text.new.items) }
 {
     for position in 0..8 {
         if missing[position] {
-            push_number(b" ", position as u64, text)?;
+            write_number(b" ", position as u64, text)?;
         }
     }
     Ok(())
@@ -134,38 +134,38 @@ fn push_missing(missing: &[bool; 8], text: &mut Vec<u8>) -> Result<(), AllocErro
 
 /// Appends the end of the line of a whole group, and the packets of its message.
 #[tactic(auto, using(etcs_text::specs::laws::Fronts::begins_more))]
-fn push_complete(packets: &[Packet], text: &mut Vec<u8>) -> Result<(), AllocError>
+fn write_complete(packets: &[Packet], text: &mut Vec<u8>) -> Result<(), AllocError>
     ensures ok { OnOk result (text.new.items ≡ text.old.items ++ (codes " complete\n" ++ packets_text (map packet_value packets.now))) }
     ensures err { OnErr result (Begins text.old.items text.new.items) }
 {
     text.extend_from_slice(b" complete\n")?;
-    push_packets(packets, text)
+    write_packets(packets, text)
 }
 
 /// Appends the end of the line of a group that isn't whole.
 #[tactic(auto, using(etcs_text::specs::laws::Fronts::begins_more))]
-fn push_lacking(missing: &[bool; 8], text: &mut Vec<u8>) -> Result<(), AllocError>
+fn write_lacking(missing: &[bool; 8], text: &mut Vec<u8>) -> Result<(), AllocError>
     ensures ok { OnOk result (text.new.items ≡ text.old.items ++ (codes " missing" ++ positions_text (trues 8 missing.now) ++ codes "\n")) }
     ensures err { OnErr result (Begins text.old.items text.new.items) }
 {
     text.extend_from_slice(b" missing")?;
-    push_missing(missing, text)?;
+    write_missing(missing, text)?;
     text.extend_from_slice(b"\n")
 }
 
 /// Appends the last lines.
 #[tactic(auto, using(etcs_text::specs::laws::Fronts::begins_more))]
-fn push_last(assembly: &Assembly, text: &mut Vec<u8>) -> Result<(), AllocError>
+fn write_last(assembly: &Assembly, text: &mut Vec<u8>) -> Result<(), AllocError>
     ensures ok { OnOk result ((last : List ℕ) × LastLines assembly.now last × (text.new.items ≡ text.old.items ++ last)) }
     ensures err { OnErr result (Begins text.old.items text.new.items) }
 {
     let Some((country, group)) = group(assembly) else {
         return text.extend_from_slice(b"group empty\n");
     };
-    push_group(country, group, text)?;
+    write_group(country, group, text)?;
     match assembly.message(*text.allocator()) {
-        Ok(packets) => push_complete(packets.as_slice(), text),
-        Err(GroupFault::NotWhole) => push_lacking(&assembly.missing(), text),
+        Ok(packets) => write_complete(packets.as_slice(), text),
+        Err(GroupFault::NotWhole) => write_lacking(&assembly.missing(), text),
         Err(GroupFault::Memory) => Err(AllocError),
     }
 }

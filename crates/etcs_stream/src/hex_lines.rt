@@ -7,20 +7,20 @@ ghost use Rattle.etcs_stream.specs.Lines.{bad_place, line_bytes};
 ghost use Rattle.etcs_stream.specs.Readers.{Awaits, HasRoom, seen_bits};
 ghost use Rattle.etcs_stream.specs.laws.StandLaws.{hex_said, hex_tells};
 ghost use Rattle.etcs_stream.specs.Stands.{HexTook};
-ghost use Rattle.etcs_stream.specs.Steps.{Advances, Halts, Says};
+ghost use Rattle.etcs_stream.specs.Taking.{Advances, Halts, Says};
 ghost use Rattle.etcs_stream.specs.Tellers.{IsGroupable, nothing_told};
 
+use crate::byte_items::ByteItems;
 use crate::digits::{MOST_CHARACTERS, decode_line};
 use crate::fault::RunFault;
-use crate::items::Items;
 use crate::job::{Job, Tally};
-use crate::lines::TakesLines;
+use crate::lines::LineHandler;
 use std::alloc::Global;
 
 /// Gives the bytes of lines of hexadecimal to the items.
 #[derive(Drop)]
 pub(crate) struct HexLines {
-    items: Items,
+    items: ByteItems,
     ghost form: { items.job.from ≡ form.Hex },
 }
 
@@ -33,29 +33,29 @@ impl HexLines {
         ensures took { HexTook job result.items.reader result.items.teller [] [] }
     {
         HexLines {
-            items: Items::new(alloc, job),
+            items: ByteItems::new(alloc, job),
         }
     }
 
     /// Gives the bytes of a line to the items. The line is checked before any of it is used.
-    fn take(&mut self, line: &[u8], number: u64, text: &mut Vec<u8>) -> Result<(), RunFault>
+    fn handle(&mut self, line: &[u8], number: u64, text: &mut Vec<u8>) -> Result<(), RunFault>
         requires waits { Awaits self.old.items.job.kind self.old.items.reader }
         requires told { self.old.items.teller.count ≤ 1000000 }
         ensures job { self.new.items.job ≡ self.old.items.job }
         ensures good { OnOk result (bad_place line.now ≡ None) }
         ensures waits { OnOk result (Awaits self.old.items.job.kind self.new.items.reader) }
         ensures told { OnOk result (self.new.items.teller.count ≤ 1000000) }
-        ensures room { HasRoom self.old.items.teller.count (seen_bits self.old.items.reader.stage) → OnOk result (HasRoom self.new.items.teller.count (seen_bits self.new.items.reader.stage)) }
-        ensures ok { OnOk result (Advances self.old.items.job.kind self.old.items.job.command (seen_bits self.old.items.reader.stage) (seen_bits self.new.items.reader.stage) self.old.items.teller self.new.items.teller (line_bytes line.now) text.old.items text.new.items) }
-        ensures err { IfErr result (λ e. ((place : ℕ) × (bad_place line.now ≡ Some place) × (e ≡ RunFault.BadHex number place) × (text.new.items ≡ text.old.items)) ⊎ ((bad_place line.now ≡ None) × Halts self.old.items.job.kind self.old.items.job.command (seen_bits self.old.items.reader.stage) self.old.items.teller (line_bytes line.now) text.old.items text.new.items e)) }
+        ensures room { HasRoom self.old.items.teller.count (seen_bits self.old.items.reader.progress) → OnOk result (HasRoom self.new.items.teller.count (seen_bits self.new.items.reader.progress)) }
+        ensures ok { OnOk result (Advances self.old.items.job.kind self.old.items.job.command (seen_bits self.old.items.reader.progress) (seen_bits self.new.items.reader.progress) self.old.items.teller self.new.items.teller (line_bytes line.now) text.old.items text.new.items) }
+        ensures err { IfErr result (λ e. ((place : ℕ) × (bad_place line.now ≡ Some place) × (e ≡ RunFault.BadHex number place) × (text.new.items ≡ text.old.items)) ⊎ ((bad_place line.now ≡ None) × Halts self.old.items.job.kind self.old.items.job.command (seen_bits self.old.items.reader.progress) self.old.items.teller (line_bytes line.now) text.old.items text.new.items e)) }
         ensures said { OnErr result (Says self.old.items.job.command self.old.items.teller self.new.items.teller text.old.items text.new.items) }
     {
         if line.is_empty() {
             return Ok(());
         }
-        let mut room = [0u8; 2048];
-        match decode_line(line, &mut room) {
-            Ok(count) => self.items.take_bytes(&room[..count], text),
+        let mut buffer = [0u8; 2048];
+        match decode_line(line, &mut buffer) {
+            Ok(count) => self.items.take_bytes(&buffer[..count], text),
             Err(place) => Err(RunFault::BadHex {
                 line: number,
                 place: place as u64,
@@ -64,7 +64,7 @@ impl HexLines {
     }
 }
 
-impl TakesLines for HexLines {
+impl LineHandler for HexLines {
     ghost job = { λ s. s.items.job };
 
     ghost took = { λ s lines told. HexTook s.items.job s.items.reader s.items.teller lines told };
@@ -75,8 +75,13 @@ impl TakesLines for HexLines {
         MOST_CHARACTERS
     }
 
-    fn take_line(&mut self, line: &[u8], number: u64, text: &mut Vec<u8>) -> Result<(), RunFault> {
-        self.take(line, number, text)
+    fn handle_line(
+        &mut self,
+        line: &[u8],
+        number: u64,
+        text: &mut Vec<u8>,
+    ) -> Result<(), RunFault> {
+        self.handle(line, number, text)
     }
 
     fn refuse_long(&self, number: u64) -> RunFault {
@@ -86,17 +91,17 @@ impl TakesLines for HexLines {
         }
     }
 
-    fn take_last(
+    fn handle_last(
         &mut self,
         line: &[u8],
         number: u64,
         text: &mut Vec<u8>,
     ) -> Result<Tally, RunFault> {
-        self.take(line, number, text)?;
+        self.handle(line, number, text)?;
         self.items.finish(text)
     }
 
-    ghost took_tells = { λ s lines kept told h l. hex_tells s.items.job s.items.reader s.items.teller lines kept told h l };
+    ghost took_tells = { λ s lines begun told h l. hex_tells s.items.job s.items.reader s.items.teller lines begun told h l };
 
     ghost took_said = { λ s lines told h. hex_said s.items.job s.items.reader s.items.teller lines told h };
 }

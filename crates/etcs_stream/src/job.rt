@@ -41,7 +41,7 @@ pub struct Job {
 /// What a whole run met.
 #[derive(Clone, Copy, Debug, PartialEq, Eq)]
 pub struct Tally {
-    /// How many items were told.
+    /// How many items were reported.
     pub items: u64,
     /// How many telegrams of a group clash with those before them: 0 where nothing is grouped.
     pub clashes: u64,

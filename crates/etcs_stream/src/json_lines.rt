@@ -7,13 +7,13 @@ ghost use Rattle.etcs_stream.specs.declared.job.Form.TheVariants as form;
 ghost use Rattle.etcs_stream.specs.JsonItems.{IsItemLine};
 ghost use Rattle.etcs_stream.specs.laws.StandLaws.{json_said, json_tells};
 ghost use Rattle.etcs_stream.specs.Stands.{JsonTook};
-ghost use Rattle.etcs_stream.specs.Steps.{TakesJson, HaltsJson, Says};
+ghost use Rattle.etcs_stream.specs.Taking.{TakesJson, HaltsJson, Says};
 ghost use Rattle.etcs_stream.specs.Tellers.{IsGroupable, nothing_told};
 
+use crate::byte_items::MOST_ITEMS;
 use crate::fault::RunFault;
-use crate::items::MOST_ITEMS;
 use crate::job::{Job, Tally};
-use crate::lines::TakesLines;
+use crate::lines::LineHandler;
 use crate::teller::Teller;
 use etcs_json::{JsonFault, from_line};
 use etcs_text::Entry;
@@ -22,7 +22,7 @@ use std::alloc::{AllocError, Global};
 /// How many bytes a line has at most.
 const MOST_BYTES: usize = 1_048_576;
 
-/// Tells the items of lines of JSON.
+/// Reports the items of lines of JSON.
 #[derive(Drop)]
 pub(crate) struct JsonLines {
     alloc: Global,
@@ -74,12 +74,12 @@ impl JsonLines {
         }
     }
 
-    /// Tells the item of a line; an empty one is none.
+    /// Reports the item of a line; an empty one is none.
     ///
     /// # Errors
     ///
     /// `Endless` where a run may have no more items, else as of `entry_in`. Nothing was appended.
-    fn take(&mut self, line: &[u8], number: u64, text: &mut Vec<u8>) -> Result<(), RunFault>
+    fn handle(&mut self, line: &[u8], number: u64, text: &mut Vec<u8>) -> Result<(), RunFault>
         requires told { self.old.teller.count ≤ 1000000 }
         ensures job { self.new.job ≡ self.old.job }
         ensures ok { OnOk result (TakesJson self.old.job line.now self.old.teller self.new.teller text.old.items text.new.items) }
@@ -100,7 +100,7 @@ impl JsonLines {
     }
 }
 
-impl TakesLines for JsonLines {
+impl LineHandler for JsonLines {
     ghost job = { λ s. s.job };
 
     ghost took = { λ s lines told. JsonTook s.job s.teller lines told };
@@ -111,8 +111,13 @@ impl TakesLines for JsonLines {
         MOST_BYTES
     }
 
-    fn take_line(&mut self, line: &[u8], number: u64, text: &mut Vec<u8>) -> Result<(), RunFault> {
-        self.take(line, number, text)
+    fn handle_line(
+        &mut self,
+        line: &[u8],
+        number: u64,
+        text: &mut Vec<u8>,
+    ) -> Result<(), RunFault> {
+        self.handle(line, number, text)
     }
 
     fn refuse_long(&self, number: u64) -> RunFault {
@@ -123,20 +128,20 @@ impl TakesLines for JsonLines {
         }
     }
 
-    fn take_last(
+    fn handle_last(
         &mut self,
         line: &[u8],
         number: u64,
         text: &mut Vec<u8>,
     ) -> Result<Tally, RunFault> {
-        self.take(line, number, text)?;
+        self.handle(line, number, text)?;
         match self.teller.close(self.job.command, text) {
             Ok(tally) => Ok(tally),
             Err(AllocError) => Err(RunFault::Memory),
         }
     }
 
-    ghost took_tells = { λ s lines kept told h l. json_tells s.job s.teller lines kept told h l };
+    ghost took_tells = { λ s lines begun told h l. json_tells s.job s.teller lines begun told h l };
 
     ghost took_said = { λ s lines told h. json_said s.job s.teller lines told h };
 }

@@ -3,6 +3,7 @@
 #![tactic(auto)]
 
 mod bin;
+mod byte_items;
 mod digits;
 mod ends;
 mod engine;
@@ -10,7 +11,6 @@ mod entries;
 mod fault;
 mod group_lines;
 mod hex_lines;
-mod items;
 mod job;
 mod json_lines;
 pub mod laws;

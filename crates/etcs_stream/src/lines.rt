@@ -13,8 +13,8 @@ use crate::job::{Job, Tally};
 use memchr::memchr;
 use std::alloc::{AllocError, Global};
 
-/// Takes the lines of a text one after the other, and tells the items in them.
-pub(crate) trait TakesLines {
+/// Takes the lines of a text one after another, and reports the items in them.
+pub(crate) trait LineHandler {
     ghost use Rattle.std.specs.Prelude.{◌≡◌, ◌+◌, ◌<◌, ℕ, List, [], ◌++◌, ◌∷◌, length};
     ghost use Rattle.etcs_stream.specs.declared.job.Job.{Job};
     ghost use Rattle.etcs_stream.specs.Engines.{Tells};
@@ -22,10 +22,10 @@ pub(crate) trait TakesLines {
 
     ghost job: { Self → Job };
 
-    /// These lines were taken, and this text was told of them.
+    /// These lines were taken, and this text was written of them.
     ghost took: { Self → List (List ℕ) → List ℕ → Type 0 };
 
-    /// This text was told of the lines, up to a fault.
+    /// This text was written of the lines, up to a fault.
     ghost said: { Self → List ℕ → Type 0 };
 
     /// How many characters a line has at most.
@@ -37,7 +37,7 @@ pub(crate) trait TakesLines {
     /// # Errors
     ///
     /// Where each input that begins so ends so, and `Memory`. The text of the items in front was appended.
-    fn take_line(&mut self, line: &[u8], number: u64, text: &mut Vec<u8>) -> Result<(), RunFault>
+    fn handle_line(&mut self, line: &[u8], number: u64, text: &mut Vec<u8>) -> Result<(), RunFault>
         requires took { (lines : List (List ℕ)) × (told : List ℕ) × took self.old lines told }
         ensures job { job self.new ≡ job self.old }
         ensures ok { (lines : List (List ℕ)) (raw told : List ℕ) → took self.old lines (told ++ text.old.items) → IsLine raw → line.now ≡ strip_cr raw → OnOk result (took self.new (lines ++ raw ∷ []) (told ++ text.new.items)) }
@@ -52,28 +52,33 @@ pub(crate) trait TakesLines {
     ///
     /// # Errors
     ///
-    /// As `take_line`, and `Truncated` inside an item.
-    fn take_last(&mut self, line: &[u8], number: u64, text: &mut Vec<u8>) -> Result<Tally, RunFault>
+    /// As `handle_line`, and `Truncated` inside an item.
+    fn handle_last(
+        &mut self,
+        line: &[u8],
+        number: u64,
+        text: &mut Vec<u8>,
+    ) -> Result<Tally, RunFault>
         requires took { (lines : List (List ℕ)) × (told : List ℕ) × took self.old lines told }
         requires empty { text.old.items ≡ [] }
         ensures ok { (lines : List (List ℕ)) (told : List ℕ) → took self.old lines told → IsLine line.now → IfOk result (λ tally. Ends (job self.old) (lines_text lines ++ line.now) (told ++ text.new.items) tally) }
         ensures err { (lines : List (List ℕ)) (told : List ℕ) → took self.old lines told → IsLine line.now → number ≡ length lines + 1 → IfErr result (λ e. IsOfEngine e × StopsAtEnd (job self.old) (lines_text lines ++ line.now) (told ++ text.new.items) e) }
         ensures said { (lines : List (List ℕ)) (told : List ℕ) → took self.old lines told → OnErr result (said self.new (told ++ text.new.items)) };
 
-    ghost took_tells: { (t : Self) (lines : List (List ℕ)) (kept told : List ℕ) → took t lines told → IsLine kept → Tells (job t) (lines_text lines ++ kept) told };
+    ghost took_tells: { (t : Self) (lines : List (List ℕ)) (begun told : List ℕ) → took t lines told → IsLine begun → Tells (job t) (lines_text lines ++ begun) told };
 
     ghost took_said: { (t : Self) (lines : List (List ℕ)) (told : List ℕ) → took t lines told → said t told };
 }
 
 /// The line that isn't whole yet, how many came before it, and what they are given to.
 #[derive(Drop)]
-pub(crate) struct Lines<T: TakesLines> {
-    kept: Vec<u8>,
+pub(crate) struct Lines<T: LineHandler> {
+    begun: Vec<u8>,
     line: u64,
-    taker: T,
+    handler: T,
 }
 
-/// The characters before the first LF, and those behind it.
+/// The characters before the first LF, and those after it.
 fn split_line(text: &[u8]) -> Option<(&[u8], &[u8])>
     ensures some { IfSome result (λ p. (text.now ≡ p.0.now ++ 10 ∷ p.1.now) × IsLine p.0.now) }
     ensures none { IsNone result → IsLine text.now }
@@ -94,17 +99,17 @@ fn without_cr(line: &[u8]) -> &[u8]
     }
 }
 
-impl<T: TakesLines> Lines<T> {
+impl<T: LineHandler> Lines<T> {
     /// Nothing has come yet.
-    pub(crate) fn new(alloc: Global, taker: T) -> Lines<T>
-        requires { T.took taker [] [] }
-        ensures job { T.job result.taker ≡ T.job taker }
-        ensures stands { LinesStand (T.took result.taker) result.kept.items result.line [] [] }
+    pub(crate) fn new(alloc: Global, handler: T) -> Lines<T>
+        requires { T.took handler [] [] }
+        ensures job { T.job result.handler ≡ T.job handler }
+        ensures stands { LinesStand (T.took result.handler) result.begun.items result.line [] [] }
     {
         Lines {
-            kept: Vec::new(alloc),
+            begun: Vec::new(alloc),
             line: 0,
-            taker,
+            handler,
         }
     }
 
@@ -114,17 +119,17 @@ impl<T: TakesLines> Lines<T> {
     ///
     /// That the line is too long, and `Memory`.
     fn keep(&mut self, part: &[u8]) -> Result<(), RunFault>
-        requires stands { (given : List ℕ) × (told : List ℕ) × LinesStand (T.took self.old.taker) self.old.kept.items self.old.line given told × (length given < 2 ^ 40) }
-        ensures taker { self.new.taker ≡ self.old.taker }
+        requires stands { (given : List ℕ) × (told : List ℕ) × LinesStand (T.took self.old.handler) self.old.begun.items self.old.line given told × (length given < 2 ^ 40) }
+        ensures handler { self.new.handler ≡ self.old.handler }
         ensures line { self.new.line ≡ self.old.line }
-        ensures ok { (given told : List ℕ) → LinesStand (T.took self.old.taker) self.old.kept.items self.old.line given told → IsLine part.now → OnOk result (LinesStand (T.took self.new.taker) self.new.kept.items self.new.line (given ++ part.now) told) }
-        ensures err { (given told more : List ℕ) → LinesStand (T.took self.old.taker) self.old.kept.items self.old.line given told → IsLine part.now → IfErr result (λ e. IsOfEngine e × Stops (T.job self.old.taker) (given ++ (part.now ++ more)) told e) }
+        ensures ok { (given told : List ℕ) → LinesStand (T.took self.old.handler) self.old.begun.items self.old.line given told → IsLine part.now → OnOk result (LinesStand (T.took self.new.handler) self.new.begun.items self.new.line (given ++ part.now) told) }
+        ensures err { (given told more : List ℕ) → LinesStand (T.took self.old.handler) self.old.begun.items self.old.line given told → IsLine part.now → IfErr result (λ e. IsOfEngine e × Stops (T.job self.old.handler) (given ++ (part.now ++ more)) told e) }
     {
-        let room = (self.taker.most() + 1).saturating_sub(self.kept.len());
+        let room = (self.handler.most() + 1).saturating_sub(self.begun.len());
         if part.len() > room {
-            return Err(self.taker.refuse_long(self.line + 1));
+            return Err(self.handler.refuse_long(self.line + 1));
         }
-        match self.kept.extend_from_slice(part) {
+        match self.begun.extend_from_slice(part) {
             Ok(()) => Ok(()),
             Err(AllocError) => Err(RunFault::Memory),
         }
@@ -132,31 +137,31 @@ impl<T: TakesLines> Lines<T> {
 
     /// A line ends here, of which this is the last part. One that lies whole in it isn't kept.
     fn end_line(&mut self, part: &[u8], text: &mut Vec<u8>) -> Result<(), RunFault>
-        requires stands { (given : List ℕ) × (told : List ℕ) × LinesStand (T.took self.old.taker) self.old.kept.items self.old.line given told × (length given < 2 ^ 40) }
-        ensures job { T.job self.new.taker ≡ T.job self.old.taker }
-        ensures ok { (given told : List ℕ) → LinesStand (T.took self.old.taker) self.old.kept.items self.old.line given (told ++ text.old.items) → IsLine part.now → OnOk result (LinesStand (T.took self.new.taker) self.new.kept.items self.new.line (given ++ (part.now ++ 10 ∷ [])) (told ++ text.new.items)) }
-        ensures err { (given told : List ℕ) → LinesStand (T.took self.old.taker) self.old.kept.items self.old.line given (told ++ text.old.items) → IsLine part.now → IfErr result (λ e. IsOfEngine e × Stops (T.job self.old.taker) (given ++ (part.now ++ 10 ∷ [])) (told ++ text.new.items) e) }
-        ensures said { (given told : List ℕ) → LinesStand (T.took self.old.taker) self.old.kept.items self.old.line given (told ++ text.old.items) → OnErr result (T.said self.new.taker (told ++ text.new.items)) }
+        requires stands { (given : List ℕ) × (told : List ℕ) × LinesStand (T.took self.old.handler) self.old.begun.items self.old.line given told × (length given < 2 ^ 40) }
+        ensures job { T.job self.new.handler ≡ T.job self.old.handler }
+        ensures ok { (given told : List ℕ) → LinesStand (T.took self.old.handler) self.old.begun.items self.old.line given (told ++ text.old.items) → IsLine part.now → OnOk result (LinesStand (T.took self.new.handler) self.new.begun.items self.new.line (given ++ (part.now ++ 10 ∷ [])) (told ++ text.new.items)) }
+        ensures err { (given told : List ℕ) → LinesStand (T.took self.old.handler) self.old.begun.items self.old.line given (told ++ text.old.items) → IsLine part.now → IfErr result (λ e. IsOfEngine e × Stops (T.job self.old.handler) (given ++ (part.now ++ 10 ∷ [])) (told ++ text.new.items) e) }
+        ensures said { (given told : List ℕ) → LinesStand (T.took self.old.handler) self.old.begun.items self.old.line given (told ++ text.old.items) → OnErr result (T.said self.new.handler (told ++ text.new.items)) }
     {
-        if self.kept.is_empty() {
+        if self.begun.is_empty() {
             self.line += 1;
-            return self.taker.take_line(without_cr(part), self.line, text);
+            return self.handler.handle_line(without_cr(part), self.line, text);
         }
         self.keep(part)?;
         self.line += 1;
-        self.taker
-            .take_line(without_cr(self.kept.as_slice()), self.line, text)?;
-        self.kept.clear();
+        self.handler
+            .handle_line(without_cr(self.begun.as_slice()), self.line, text)?;
+        self.begun.clear();
         Ok(())
     }
 }
 
-impl<T: TakesLines> Engine for Lines<T> {
-    ghost job = { λ s. T.job s.taker };
+impl<T: LineHandler> Engine for Lines<T> {
+    ghost job = { λ s. T.job s.handler };
 
-    ghost stands = { λ s given told. LinesStand (T.took s.taker) s.kept.items s.line given told };
+    ghost stands = { λ s given told. LinesStand (T.took s.handler) s.begun.items s.line given told };
 
-    ghost said = { λ s told. T.said s.taker told };
+    ghost said = { λ s told. T.said s.handler told };
 
     fn feed(&mut self, piece: &[u8], text: &mut Vec<u8>) -> Result<(), RunFault> {
         let mut rest = piece;
@@ -168,9 +173,9 @@ impl<T: TakesLines> Engine for Lines<T> {
     }
 
     fn finish(&mut self, text: &mut Vec<u8>) -> Result<Tally, RunFault> {
-        self.taker
-            .take_last(self.kept.as_slice(), self.line + 1, text)
+        self.handler
+            .handle_last(self.begun.as_slice(), self.line + 1, text)
     }
 
-    ghost stands_tells = { λ s given told h. lines_tell (T.job s.taker) (T.took s.taker) (T.took_tells s.taker) s.kept.items s.line given told h };
+    ghost stands_tells = { λ s given told h. lines_tell (T.job s.handler) (T.took s.handler) (T.took_tells s.handler) s.begun.items s.line given told h };
 }

@@ -44,7 +44,7 @@ fn send<W: Sink>(sink: &mut W, text: &[u8], sent: &mut u64) -> Result<(), Failed
     Ok(())
 }
 
-/// Passes a piece of the input through to the sink. What was told before a fault is written first.
+/// Passes a piece of the input through to the sink. What was reported before a fault is written first.
 fn pass<E: Engine, W: Sink>(
     engine: &mut E,
     piece: &[u8],

@@ -20,12 +20,12 @@ use crate::pump::run_engine;
 use std::alloc::Global;
 
 /// Does the job, which groups no messages: reads the items of the input, and writes of each what the command says, once it
-/// is whole; for a group, last lines at the end. Items of bytes and of hexadecimal stand one behind the other, and a line's
+/// is whole; for a group, last lines at the end. Items of bytes and of hexadecimal are one after another, and a line's
 /// end doesn't end an item; of JSON each line is one. Empty lines are passed over.
 ///
 /// # Errors
 ///
-/// `Refused` and `Truncated` tell of an item, `BadHex` and `BadJson` of a line; `Read` and `Write` of a call that failed,
+/// `Refused` and `Truncated` speak of an item, `BadHex` and `BadJson` of a line; `Read`, `Write` of a call that failed,
 /// `Write` with how many bytes of the text the sink took; `Endless` of more than 16,000,000 reads or 1,000,000 items, and
 /// `Memory` of a refused allocation. The text of the items that were whole before a fault is written first.
 pub fn run<S: Source, W: Sink>(
@@ -52,13 +52,13 @@ pub fn run<S: Source, W: Sink>(
 {
     match job.from {
         Form::Hex => {
-            let taker = HexLines::new(alloc, job);
-            run_engine(&mut Lines::new(alloc, taker), alloc, source, sink)
+            let handler = HexLines::new(alloc, job);
+            run_engine(&mut Lines::new(alloc, handler), alloc, source, sink)
         }
         Form::Bin => run_engine(&mut Bin::new(alloc, job), alloc, source, sink),
         Form::Json => {
-            let taker = JsonLines::new(alloc, job);
-            run_engine(&mut Lines::new(alloc, taker), alloc, source, sink)
+            let handler = JsonLines::new(alloc, job);
+            run_engine(&mut Lines::new(alloc, handler), alloc, source, sink)
         }
     }
 }

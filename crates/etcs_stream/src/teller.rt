@@ -1,4 +1,4 @@
-//! What is written of the items, and behind the last of them.
+//! What is written of the items, and after the last of them.
 
 ghost use Rattle.std.specs.Prelude.{◌≡◌, ◌+◌, ◌<◌, ◌++◌, ℕ, List, Ok, Err, IfOk, OnErr, OnOk};
 ghost use Rattle.etcs_telegram.specs.Telegrams.{IsTelegram};
@@ -17,7 +17,7 @@ use etcs_text::{Entry, check_line, encoded, hex_line, json_line, show_lines};
 use std::alloc::AllocError;
 use std::marker::Model;
 
-/// How many items were told, and of a balise group how many of them clash and what is held.
+/// How many items were reported, and of a balise group how many of them clash and what is held.
 #[derive(Drop)]
 pub(crate) struct Teller {
     count: u64,
@@ -37,7 +37,7 @@ impl Model for Teller {
 }
 
 impl Teller {
-    /// Nothing was told.
+    /// Nothing was reported.
     pub(crate) fn new() -> Teller
         ensures { result ≡ nothing_told }
     {
@@ -48,7 +48,7 @@ impl Teller {
         }
     }
 
-    /// How many items were told.
+    /// How many items were reported.
     pub(crate) fn count(&self) -> u64
         ensures { result ≡ self.now.count }
     {

@@ -22,7 +22,7 @@ const CHECK_RADIO: Job = Job {
     command: Command::Check,
 };
 
-/// The tally of so many items.
+/// The tally of this many items.
 fn items(count: u64) -> Result<Tally, RunFault> {
     Ok(Tally {
         items: count,
@@ -74,7 +74,7 @@ fn check_between(
 /// The second line is no item.
 const BAD: RunFault = RunFault::BadJson { line: 2 };
 
-/// How a last line ends that has so many bytes with the blanks in front of its item, and whether it is read.
+/// How a last line ends that has this many bytes with the blanks in front of its item, and whether it is read.
 static LONG: [(u32, &[u8], bool); 14] = [
     (MOST, b"\n", true),
     (MOST, b"\r\n", true),
@@ -92,7 +92,7 @@ static LONG: [(u32, &[u8], bool); 14] = [
     (MOST + 9000, b"\n", false),
 ];
 
-/// Checks a text and after it an item in so many bytes, most of which are blanks, and these.
+/// Checks a text and after it an item in this many bytes, most of which are blanks, and these.
 fn check_long(
     checks: &mut Checks,
     alloc: Global,
@@ -124,7 +124,7 @@ fn long_lines(rt: HostRuntime) -> Result<(), Fail> {
     Ok(())
 }
 
-/// So many of each of these bytes, one after another.
+/// This many of each of these bytes, one after another.
 fn repeated(alloc: Global, bytes: &[u8], count: u32) -> Result<Vec<u8>, AllocError> {
     let mut text = Vec::new(alloc);
     for byte in bytes {
@@ -175,7 +175,7 @@ fn endless_lines(rt: HostRuntime) {
     assert_eq!(rt; checks.wrong(), None);
 }
 
-/// What stands in a text, and whether it may.
+/// What is in a text, and whether it may.
 static IN_TEXTS: [(&[u8], bool); 37] = [
     (b"\x7F", true),
     (b"\xC2\x80", true),
@@ -216,7 +216,7 @@ static IN_TEXTS: [(&[u8], bool); 37] = [
     (b"\t", false),
 ];
 
-/// What stands in front of an item, and whether it may. The second is a mark of the order of bytes.
+/// What is in front of an item, and whether it may. The second is a mark of the order of bytes.
 static IN_FRONT: [(&[u8], bool); 8] = [
     (b" \t\r \t", true),
     (b"\xEF\xBB\xBF", false),

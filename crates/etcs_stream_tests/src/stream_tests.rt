@@ -24,7 +24,7 @@ const SHOW_SHORT: Job = Job {
     command: Command::Show,
 };
 
-/// The tally of so many items.
+/// The tally of this many items.
 fn items(count: u64) -> Result<Tally, RunFault> {
     Ok(Tally {
         items: count,
@@ -43,7 +43,7 @@ fn text_of(alloc: Global, lines: &[u8]) -> Result<Vec<u8>, Fail> {
     Ok(written)
 }
 
-/// What a run over lines of which the reader gives so many bytes writes, if it answers the failed read.
+/// What a run over lines of which the reader gives this many bytes writes, if it answers the failed read.
 fn run_broken(alloc: Global, lines: &[u8]) -> Option<Vec<u8>> {
     let mut written = Vec::new(alloc);
     let mut source = Input::new(Broken {
@@ -81,7 +81,7 @@ fn answers_a_failed_read(rt: HostRuntime) -> Result<(), Fail> {
     Ok(())
 }
 
-/// A run over a writer with room for so many bytes: the answer, and how often the writer failed.
+/// A run over a writer with room for this many bytes: the answer, and how often the writer failed.
 fn run_narrow(
     alloc: Global,
     input: &[u8],
@@ -101,7 +101,7 @@ fn run_narrow(
     (answer, sink.failures())
 }
 
-/// Checks that a run over a writer with room for so many bytes answers its failure once, and writes just these.
+/// Checks that a run over a writer with room for this many bytes answers its failure once, and writes just these.
 fn check_narrow(
     checks: &mut Checks,
     alloc: Global,

@@ -16,7 +16,7 @@ frame_bits ToTrain = 23
 abbrev pub head_bits : Way → ℕ
 head_bits ToTrain = 10
 
--- the most bits behind a frame that L_PACKET counts
+-- the most bits after a frame that L_PACKET counts
 abbrev pub kept_limit : Way → ℕ
 kept_limit way = 8191 - frame_bits way
 

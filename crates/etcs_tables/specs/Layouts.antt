@@ -16,7 +16,7 @@ pub data Layout : Type 0 where
   guarded : Guard → Layout → Layout → Layout
   counted : Layout → Layout → Layout
 
--- ---- The variables that stand before, the nearest first.
+-- ---- The variables that come before, the nearest first.
 
 abbrev pub Scope : Type 0
 Scope = List Sent
@@ -35,14 +35,14 @@ nearest v (p ∷ s) = if same_name p.0 v then Some p.1 else nearest v s
 abbrev pub holds : Guard → Scope → Bool
 holds g s = elim (nearest g.var s) [ None ↦ false | Some n ↦ passes g.test n ]
 
--- how often a counted group stands: the number just before it
+-- how often a counted group occurs: the number just before it
 abbrev pub count_before : Scope → ℕ
 count_before [] = 0
 count_before (p ∷ s) = p.1
 
 -- ---- What a row spells.
 
--- r is a reading of the row behind the scope s
+-- r is a reading of the row after the scope s
 unfoldable pub Reads : Layout → Scope → Reading → Type 0
 Reads whole s r = r ≡ []
 Reads (one v rest) s r = (n : ℕ) × (r' : Reading) × IsTrue (admits v n) × (r ≡ (v, n) ∷ r') × Reads rest ((v, n) ∷ s) r'
@@ -60,7 +60,7 @@ ROW_LIMIT = 8168
 abbrev pub AdmitsFields : Layout → List ℕ → Type 0
 AdmitsFields row f = (b : List Bool) × Spells row [] f b × (length b ≤ ROW_LIMIT)
 
--- ---- A row as a table of items, in which a group is told by the number of its items.
+-- ---- A row as a table of items, in which a group is given by the number of its items.
 
 abbrev pub items : Layout → List RowItem
 items whole = []
@@ -81,7 +81,7 @@ layout table = layout_in (length table) table
 
 -- ---- What every table of this project keeps, as a test that computes.
 
--- the guard looks at the variable just before it, and no group stands between but groups on the same variable
+-- the guard looks at the variable just before it, and no group is between but groups on the same variable
 abbrev pub looks_at : Guard → Option Var → Bool
 looks_at g None = false
 looks_at g (Some v) = same_name v g.var

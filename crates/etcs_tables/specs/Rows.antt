@@ -1,5 +1,5 @@
--- The rows of packets and messages as they are nested. A packet's row stands behind NID_PACKET, Q_DIR and L_PACKET,
--- a message's behind its header (SUBSET-026, 7.4 and 8).
+-- The rows of packets and messages as they are nested. A packet's row follows NID_PACKET, Q_DIR and L_PACKET,
+-- a message's after its header (SUBSET-026, 7.4 and 8).
 use Rattle.std.specs.Prelude.{ℕ, ◌==◌, List, [], ◌∷◌, Option, Some, None, if◌then◌else◌}
 use Rattle.etcs_vars.specs.declared.var.Var.{Var}
 use Rattle.etcs_vars.specs.declared.var.Var.TheVariants.{D_CYCLOC, D_DP, D_ENDTIMERSTARTLOC, D_GRADIENT, D_LEVELTR, D_LINK, D_LOC, D_MAMODE, D_OL, D_RBCTR, D_REF, D_SECTIONTIMERSTOPLOC, D_SR, D_STARTOL, D_STATIC, D_TEXTDISPLAY, D_TRACKCOND, D_TRACKINIT, D_TSR, G_A, G_TSR, L_ACKLEVELTR, L_ACKMAMODE, L_ENDSECTION, L_MAMODE, L_SECTION, L_TEXT, L_TEXTDISPLAY, L_TRACKCOND, L_TSR, M_LEVELTEXTDISPLAY, M_LEVELTR, M_LOC, M_MAMODE, M_MODETEXTDISPLAY, M_TRACKCOND, M_VERSION, NC_CDDIFF, NC_DIFF, NID_BG, NID_C, NID_EM, NID_MN, NID_NTC, NID_OPERATIONAL, NID_RADIO, NID_RBC, NID_TEXTMESSAGE, NID_TSR, N_ITER, Q_ASPECT, Q_CONFTEXTDISPLAY, Q_DANGERPOINT, Q_DIFF, Q_ENDTIMER, Q_FRONT, Q_GDIR, Q_LGTLOC, Q_LINKORIENTATION, Q_LINKREACTION, Q_LOCACC, Q_MAMODE, Q_NEWCOUNTRY, Q_ORIENTATION, Q_OVERLAP, Q_RBC, Q_SCALE, Q_SECTIONTIMER, Q_SLEEPSESSION, Q_SRSTOP, Q_TEXT, Q_TEXTCLASS, Q_TEXTCONFIRM, Q_TEXTDISPLAY, Q_TEXTREPORT, Q_TRACKINIT, T_CYCLOC, T_CYCRQST, T_ENDTIMER, T_LOA, T_MAR, T_OL, T_SECTIONTIMER, T_TEXTDISPLAY, T_TIMEOUTRQST, T_TRAIN, V_DIFF, V_LOA, V_MAIN, V_MAMODE, V_RELEASEDP, V_RELEASEOL, V_STATIC, V_TSR, X_TEXT}
@@ -40,7 +40,7 @@ link rest = D_LINK ▸ balise_at (Q_LINKORIENTATION ▸ Q_LINKREACTION ▸ Q_LOC
 abbrev pub section_timer : Layout → Layout
 section_timer rest = Q_SECTIONTIMER ▸ guarded (is_one Q_SECTIONTIMER) (T_SECTIONTIMER ▸ D_SECTIONTIMERSTOPLOC ▸ whole) rest
 
--- packets 12 and 15: the sections, the end section, and what stands behind flags
+-- packets 12 and 15: the sections, the end section, and what follows flags
 abbrev pub authority : Layout
 authority =
     N_ITER ▸ counted (L_SECTION ▸ section_timer whole) (L_ENDSECTION ▸ section_timer (

@@ -38,7 +38,7 @@ pub fn head_bits(way: Way) -> usize
     }
 }
 
-/// The most bits behind a frame that L_PACKET counts.
+/// The most bits after a frame that L_PACKET counts.
 pub fn kept_limit(way: Way) -> usize
     ensures { result ≡ kept_limit way }
 {

@@ -46,9 +46,9 @@ pub struct Guard {
 pub enum RowItem {
     /// A variable.
     One(Var),
-    /// The next items, so many with those of the groups in them, stand there only where the guard holds.
+    /// The next `n` items (those of nested groups count) are there only where the guard holds.
     When(Guard, usize),
-    /// The next items, so many with those of the groups in them, stand there as often as the number of
+    /// The next items, this many with those of the groups in them, are there as often as the number of
     /// the variable just before says.
     Many(usize),
 }

@@ -14,7 +14,7 @@ pub enum Way {
 
 /// A constant table of items.
 ///
-/// Its groups stand at most four inside one another, and each begins with a variable; a guard looks at
+/// Its groups nest at most four deep, and each begins with a variable; a guard looks at
 /// the variable just before it, with nothing between them but groups on that variable; a count has at
 /// most 8 bits.
 #[derive(Clone, Copy)]

@@ -1,4 +1,4 @@
--- Bits written one behind the other.
+-- Bits written one after another.
 use Rattle.std.proofs.Common.{◌≡◌, ℕ, ◌+◌, ◌*◌, ◌≤◌, Bool, false, List, ◌++◌, length, refl, sym, ap, ◌∙◌, arith, append_assoc, append-nil, length-append}
 use Rattle.std.specs.Prelude.{replicate}
 use Rattle.etcs_bits.specs.Bits.{num, bits, replaced}
@@ -16,7 +16,7 @@ use Rattle.etcs_packets.proofs.PartBits.{five_written}
 use Rattle.etcs_telegram.proofs.Ones.{num-zeros}
 use Rattle.etcs_telegram.specs.declared.size.Size.{Size}
 use Rattle.etcs_telegram.specs.declared.size.Size.TheVariants.{Short, Long}
-use Rattle.etcs_telegram.specs.Telegrams.{TelegramParts, TelegramValue, TelegramReads, IsTelegram, telegram_value, header_reading, closed_reading, user_bits, pad_bits, packet_room, container_bytes}
+use Rattle.etcs_telegram.specs.Telegrams.{TelegramContent, TelegramValue, TelegramReads, IsTelegram, telegram_value, header_reading, closed_reading, user_bits, pad_bits, packet_room, container_bytes}
 use Rattle.etcs_telegram.specs.Writing.{telegram_reading}
 use Rattle.etcs_telegram.proofs.HeaderLemmas.{header_length}
 
@@ -32,7 +32,7 @@ pub container_bits : (size : Size) (out : List ℕ) → length out ≡ container
 container_bits Short out e = length-bits out ∙ ap (λ (k : ℕ). 8 * k) e
 container_bits Long out e = length-bits out ∙ ap (λ (k : ℕ). 8 * k) e
 
-pub telegram_reads : (t : TelegramParts) → IsTelegram t → TelegramReads (telegram_value t) (telegram_reading (telegram_value t))
+pub telegram_reads : (t : TelegramContent) → IsTelegram t → TelegramReads (telegram_value t) (telegram_reading (telegram_value t))
 telegram_reads t i = record {
   header_admitted = i.header;
   packets_hold = i.packets;

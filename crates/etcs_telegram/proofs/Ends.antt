@@ -6,7 +6,7 @@ use Rattle.etcs_vars.specs.Reading.{Reading, spelled, numbers, kept}
 use Rattle.etcs_telegram.specs.declared.size.Size.{Size}
 use Rattle.etcs_telegram.specs.declared.size.Size.TheVariants.{Short, Long}
 use Rattle.etcs_rows.specs.declared.frames.Carrier.TheVariants as carrier
-use Rattle.etcs_sequence.specs.Contents.{RunOf}
+use Rattle.etcs_sequence.specs.Contents.{ReadsPackets}
 use Rattle.etcs_telegram.specs.Telegrams.{header_row, header_reading, header_of, closed_reading, IsAdmitted, packet_room, pad_bits, user_bits, TelegramLanguage}
 use Rattle.etcs_telegram.specs.Phases.{HeaderLeft}
 use Rattle.etcs_telegram.proofs.HeaderLemmas.{header_length}
@@ -25,7 +25,7 @@ start_to size q (t, (st, x)) =
     let user : user_bits t.size ≡ user_bits size = ap user_bits st in
     let len : length (spelled p) + length t.fill ≡ packet_room size = omega (arith, user, header_length t.header, x.user_bits_is, room_more size) in
     let e : q ≡ h ++ (p ++ (kept FILL t.fill ++ zeros)) = x.reading_is ∙ rw pads (append_assoc (h ++ p) (kept FILL t.fill) zeros ∙ append_assoc h p (kept FILL t.fill ++ zeros)) in
-    let run : RunOf carrier.Telegram (packet_room size) t.packets p = record { carried = λ i d lt. x.packets_hold i d lt; reading_is = refl; fills = omega (arith, len) } in
+    let run : ReadsPackets carrier.Telegram (packet_room size) t.packets p = record { carried = λ i d lt. x.packets_hold i d lt; reading_is = refl; fills = omega (arith, len) } in
     (h, p ++ (kept FILL t.fill ++ zeros), e, header_reads t.header x.header_admitted, (p, kept FILL t.fill ++ zeros, refl, (t.packets, run), (kept FILL t.fill, zeros, refl, (t.fill, omega (arith, len), refl), refl)))
 
 pub start_from : (size : Size) (q : Reading) → HeaderLeft size header_row q → TelegramLanguage size q

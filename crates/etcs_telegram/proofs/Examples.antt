@@ -8,9 +8,9 @@ use Rattle.etcs_vars.specs.Reading.{Reading, spelled, kept}
 use Rattle.etcs_reader.specs.Rests.{Goes}
 use Rattle.etcs_telegram.specs.declared.size.Size.{Size}
 use Rattle.etcs_telegram.specs.declared.size.Size.TheVariants.{Short, Long}
-use Rattle.etcs_telegram.specs.Telegrams.{HeaderParts, TelegramValue, TelegramReads, TelegramLanguage, header_reading, header_of, pad_bits}
+use Rattle.etcs_telegram.specs.Telegrams.{HeaderValue, TelegramValue, TelegramReads, TelegramLanguage, header_reading, header_of, pad_bits}
 
-abbrev plain_header : HeaderParts
+abbrev plain_header : HeaderValue
 plain_header = record { m_version = 32; n_pig = 0; n_total = 0; m_dup = 0; m_mcount = 255; nid_c = 1; nid_bg = 1; q_link = true }
 
 abbrev plain : Size → List Bool → TelegramValue

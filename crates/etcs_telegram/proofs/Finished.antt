@@ -7,7 +7,7 @@ use Rattle.etcs_vars.specs.Reading.{Reading, spelled, numbers, kept}
 use Rattle.etcs_vars.proofs.Apart.{cut}
 use Rattle.etcs_vars.proofs.Walk.{spelled-append}
 use Rattle.etcs_packets.specs.PacketValues.{PacketValue, packet_value, IsPacket}
-use Rattle.etcs_sequence.specs.declared.left.PacketsLeft.{PacketsLeft}
+use Rattle.etcs_sequence.specs.declared.state.PacketsState.{PacketsState}
 use Rattle.etcs_sequence.specs.declared.list.PacketList.{PacketList}
 use Rattle.etcs_sequence.specs.Labels.{labelled}
 use Rattle.etcs_sequence.proofs.LabelLaws.{numbers_labelled, labelled_count}
@@ -15,7 +15,7 @@ use Rattle.etcs_sequence.proofs.BitLaws.{bits_length}
 use Rattle.etcs_telegram.specs.declared.size.Size.{Size}
 use Rattle.etcs_telegram.specs.declared.phase.Phase.{Phase}
 use Rattle.etcs_telegram.specs.declared.phase.Phase.TheVariants.{Whole}
-use Rattle.etcs_telegram.specs.Telegrams.{header_row, header_reading, header_of, closed_reading, IsAdmitted, IsTelegram, ReadsAs, pad_bits, telegram_value, HeaderParts, TelegramReads, TelegramLanguage}
+use Rattle.etcs_telegram.specs.Telegrams.{header_row, header_reading, header_of, closed_reading, IsAdmitted, IsTelegram, ReadsAs, pad_bits, telegram_value, HeaderValue, TelegramReads, TelegramLanguage}
 use Rattle.etcs_telegram.specs.Headers.{IsHeaderNumbers}
 use Rattle.etcs_telegram.specs.Phases.{behind_header}
 use Rattle.etcs_telegram.specs.Lefts.{next_at, stands_at}
@@ -45,7 +45,7 @@ whole_reads size header vs fill q ten carried (t, (st, x)) e =
     let b3 = ap length (spelled-append (kept FILL fill) zeros) ∙ length-append (spelled (kept FILL fill)) (spelled zeros) in
     let b4 = ap (λ (r : Reading). length (spelled r)) is in (
       record {
-        header_admitted = subst (λ (h : HeaderParts). IsAdmitted (header_reading h)) (sym parts) x.header_admitted;
+        header_admitted = subst (λ (h : HeaderValue). IsAdmitted (header_reading h)) (sym parts) x.header_admitted;
         packets_hold = carried;
         reading_is = e ∙ ap (λ (r : Reading). r ++ (p ++ (kept FILL fill ++ zeros))) is ∙ sym (append_assoc (header_reading (header_of header)) p (kept FILL fill ++ zeros)) ∙ sym (append_assoc (header_reading (header_of header) ++ p) (kept FILL fill) zeros);
         user_bits_is = omega (arith, total, bits, b1, b2, b3, b4, bits_length FILL fill refl, zeros_length size);
@@ -60,11 +60,11 @@ pub record Finished (own size : Size) (header : List ℕ) (store : PacketList) (
   pub numbers : IsHeaderNumbers header
 
 -- where it stands for all of one
-abbrev Finishes : Size → Size → Phase → List ℕ → PacketsLeft → PacketList → Type 0
+abbrev Finishes : Size → Size → Phase → List ℕ → PacketsState → PacketList → Type 0
 Finishes own size phase header l store =
     TelegramLanguage own (so_far size phase header l store) → OwnHeld own size phase header l store (so_far size phase header l store) → Finished own size header store (so_far size phase header l store)
 
-at_whole : (own size : Size) (header : List ℕ) (l : PacketsLeft) (store : PacketList) → Finishes own size Whole header l store
+at_whole : (own size : Size) (header : List ℕ) (l : PacketsState) (store : PacketList) → Finishes own size Whole header l store
 at_whole own size header l store lang (same, h) =
     let q = so_far size Whole header l store in
     let vs = map packet_value store.packets.items in
@@ -81,5 +81,5 @@ at_whole own size header l store lang (same, h) =
       numbers = is.1;
     }
 
-pub finished_is : (own size : Size) (phase : Phase) (header : List ℕ) (l : PacketsLeft) (store : PacketList) → IsTrue (stands_at phase (length header) l) → next_at phase l ≡ None → Finishes own size phase header l store
+pub finished_is : (own size : Size) (phase : Phase) (header : List ℕ) (l : PacketsState) (store : PacketList) → IsTrue (stands_at phase (length header) l) → next_at phase l ≡ None → Finishes own size phase header l store
 finished_is own size phase header l store stands e = subst (λ (p : Phase). Finishes own size p header l store) (sym (ended_whole phase (length header) l stands e)) (at_whole own size header l store)

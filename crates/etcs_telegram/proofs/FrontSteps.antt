@@ -1,4 +1,4 @@
--- Variables one behind the other whose bits are all there.
+-- Variables one after another whose bits are all there.
 use Rattle.std.proofs.Common.{◌≡◌, ℕ, suc, ◌+◌, ◌-◌, ◌/◌, ◌%◌, ◌^◌, ◌<◌, ◌≤◌, Bool, List, [], ◌∷◌, ◌++◌, length, refl, sym, ap, subst, ◌∙◌, arith}
 use Rattle.std.proofs.lemmas.Nat.{mod_below, pow_pos}
 use Rattle.std.proofs.Math.Nat.{mod-eq_of_lt}
@@ -53,7 +53,7 @@ front_in vs xs at ns word end place inside h bits =
 -- ---- All of them.
 
 module _ (Q : Reading → Type 0) where
-  -- behind all of them comes what stands behind them
+  -- after all of them comes what follows them
   pub front_all : (vs : List Var) (ns : List ℕ) → ReadsFields vs (labelled vs ns) → Residual (Then (ReadsFields vs) Q) (labelled vs ns) Q
   front_all [] ns h = record {
     to = λ q (a, b, e, k, l). (let same : b ≡ q = sym (e ∙ ap (λ (t : Reading). t ++ b) k) in subst Q same l);
@@ -76,7 +76,7 @@ module _ (Q : Reading → Type 0) where
   pub front_left : (vs : List Var) → Goes (Then (ReadsFields vs) Q) → Goes Q
   front_left vs (r, (a, b, e, h, k)) = (b, k)
 
--- they take so many bits
+-- they take this many bits
 pub front_span : (vs : List Var) (xs : List Bool) (at : ℕ) (ns : List ℕ) (end : ℕ) → FrontAt vs xs at ns end → end ≡ at + widths vs
 front_span vs xs at ns end f =
     let onward = f.onward in

@@ -12,7 +12,7 @@ use Rattle.etcs_vars.specs.Reading.{Reading, spelled, numbers}
 use Rattle.etcs_vars.proofs.Apart.{AllFit}
 use Rattle.etcs_vars.proofs.Prefixes.{admits_parts}
 use Rattle.etcs_sequence.proofs.LabelLaws.{length-widths}
-use Rattle.etcs_telegram.specs.Telegrams.{HeaderParts, header_reading, header_of, IsAdmitted}
+use Rattle.etcs_telegram.specs.Telegrams.{HeaderValue, header_reading, header_of, IsAdmitted}
 use Rattle.etcs_telegram.specs.Headers.{header_fault}
 
 no_first : (e f : Option BuildFault) → e or_else f ≡ None → e ≡ None
@@ -32,7 +32,7 @@ link_admitted true = refl
 link_admitted false = refl
 
 -- a header without a fault is admitted
-pub header_admitted : (h : HeaderParts) → header_fault h.m_version h.n_pig h.n_total h.m_dup h.m_mcount h.nid_c h.nid_bg ≡ None → IsAdmitted (header_reading h)
+pub header_admitted : (h : HeaderValue) → header_fault h.m_version h.n_pig h.n_total h.m_dup h.m_mcount h.nid_c h.nid_bg ≡ None → IsAdmitted (header_reading h)
 header_admitted h e =
     let a = number_fault M_VERSION_HEADER h.m_version in
     let b = number_fault N_PIG h.n_pig in
@@ -76,16 +76,16 @@ pub admitted_fit : (r : Reading) → IsAdmitted r → AllFit r
 admitted_fit [] h = tt
 admitted_fit (p ∷ r) h = ((admits_parts p.0 p.1 h.0).1, admitted_fit r h.1)
 
-pub header_length : (h : HeaderParts) → length (spelled (header_reading h)) ≡ 50
+pub header_length : (h : HeaderValue) → length (spelled (header_reading h)) ≡ 50
 header_length h = length-widths (header_reading h)
 
-link_back : (b : Bool) (h : HeaderParts) → h.q_link ≡ b → header_of (numbers (header_reading h)) ≡ h
+link_back : (b : Bool) (h : HeaderValue) → h.q_link ≡ b → header_of (numbers (header_reading h)) ≡ h
 link_back true h e = rw e refl
 link_back false h e = rw e refl
 
 -- the numbers give the header
-pub header_back : (h : HeaderParts) → header_of (numbers (header_reading h)) ≡ h
+pub header_back : (h : HeaderValue) → header_of (numbers (header_reading h)) ≡ h
 header_back h = link_back h.q_link h refl
 
-pub header_same : (h k : HeaderParts) → header_reading h ≡ header_reading k → h ≡ k
+pub header_same : (h k : HeaderValue) → header_reading h ≡ header_reading k → h ≡ k
 header_same h k e = sym (header_back h) ∙ ap (λ (r : Reading). header_of (numbers r)) e ∙ header_back k

@@ -13,7 +13,7 @@ use Rattle.etcs_packets.specs.PacketReadings.{readings_to, packets_reading}
 use Rattle.etcs_sequence.specs.Contents.{Carries}
 use Rattle.etcs_sequence.specs.Runs.{Begun}
 use Rattle.etcs_reader.specs.Rests.{Goes}
-use Rattle.etcs_sequence.specs.declared.left.PacketsLeft.{PacketsLeft}
+use Rattle.etcs_sequence.specs.declared.state.PacketsState.{PacketsState}
 use Rattle.etcs_sequence.specs.laws.ChainLaws.{chain_first}
 use Rattle.etcs_sequence.specs.Labels.{labelled}
 use Rattle.etcs_sequence.specs.Lefts.{left_of, ahead}
@@ -28,7 +28,7 @@ use Rattle.etcs_telegram.specs.laws.RestLaws.{opens}
 use Rattle.etcs_telegram.specs.Readers.{Standing, Members}
 use Rattle.etcs_telegram.proofs.SoFar.{filled_far}
 
-members_of : (size : Size) (phase : Phase) (header : List ℕ) (l : PacketsLeft) (ps : List Packet) (f : List ℕ) (k : List Bool) (q : Reading) → (x : Var) → IsTrue (stands_at phase (length header) l) → next_at phase l ≡ Some x → Goes (left_at size phase l) → HoldsIn size phase header l (list_holds ps f k) q → Standing ps f k q
+members_of : (size : Size) (phase : Phase) (header : List ℕ) (l : PacketsState) (ps : List Packet) (f : List ℕ) (k : List Bool) (q : Reading) → (x : Var) → IsTrue (stands_at phase (length header) l) → next_at phase l ≡ Some x → Goes (left_at size phase l) → HoldsIn size phase header l (list_holds ps f k) q → Standing ps f k q
 members_of size (Header at) header l ps f k q x stands next g (is, h) =
     let (ps_is, f_is, k_is) = nothing_held l.carrier l.stage ps f k h in
     let both = and_parts (nat_lt at 10) ((length header == at) && is_open l) stands in
@@ -46,7 +46,7 @@ members_of size (Pad left) header l ps f k q x stands next g (pad, e, h) = inr (
 members_of size Whole header l ps f k q x stands next g h = absurd cc
 
 -- its packets are whole ones
-made_of : (size : Size) (phase : Phase) (header : List ℕ) (l : PacketsLeft) (ps : List Packet) (f : List ℕ) (k : List Bool) (q : Reading) → IsTrue (stands_at phase (length header) l) → HoldsIn size phase header l (list_holds ps f k) q → All IsMade ps × All IsPacket (map packet_value ps)
+made_of : (size : Size) (phase : Phase) (header : List ℕ) (l : PacketsState) (ps : List Packet) (f : List ℕ) (k : List Bool) (q : Reading) → IsTrue (stands_at phase (length header) l) → HoldsIn size phase header l (list_holds ps f k) q → All IsMade ps × All IsPacket (map packet_value ps)
 made_of size (Header at) header l ps f k q stands (is, h) = subst (λ (xs : List Packet). All IsMade xs × All IsPacket (map packet_value xs)) (sym (nothing_held l.carrier l.stage ps f k h).0) (All-nil IsMade, All-nil IsPacket)
 made_of size Packets header l ps f k q stands (r, e, (vs, m, b, h, (vs_is, (made, same)), carried, here, e')) =
     let open_is = opens l (and_parts (length header == 10) (is_open l) stands).1 in
@@ -55,7 +55,7 @@ made_of size (Fill n) header l ps f k q stands h = (h.held.1.0, subst (All IsPac
 made_of size (Pad n) header l ps f k q stands (pad, e, h) = (h.held.1.0, subst (All IsPacket) h.held.0 h.carried)
 made_of size Whole header l ps f k q stands h = (h.held.1.0, subst (All IsPacket) h.held.0 h.carried)
 
-pub members_at : (size : Size) (phase : Phase) (header : List ℕ) (l : PacketsLeft) (ps : List Packet) (f : List ℕ) (k : List Bool) (q : Reading) (x : Var) → IsTrue (stands_at phase (length header) l) → next_at phase l ≡ Some x → Goes (left_at size phase l) → HoldsIn size phase header l (list_holds ps f k) q → Members ps f k q
+pub members_at : (size : Size) (phase : Phase) (header : List ℕ) (l : PacketsState) (ps : List Packet) (f : List ℕ) (k : List Bool) (q : Reading) (x : Var) → IsTrue (stands_at phase (length header) l) → next_at phase l ≡ Some x → Goes (left_at size phase l) → HoldsIn size phase header l (list_holds ps f k) q → Members ps f k q
 members_at size phase header l ps f k q x stands next g h =
     let whole = made_of size phase header l ps f k q stands h in
     (members_of size phase header l ps f k q x stands next g h, whole.0, whole.1)

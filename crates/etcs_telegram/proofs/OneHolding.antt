@@ -1,4 +1,4 @@
--- What a reader holds between two pieces is told by the bits that it has seen.
+-- What a reader holds between two pieces is given by the bits that it has seen.
 use Rattle.std.proofs.Common.{◌≡◌, ℕ, zero, suc, ◌+◌, ◌<◌, Bool, false, List, [], ◌∷◌, ◌++◌, length, refl, sym, ap, subst, ◌∙◌, arith, append_assoc, length-append, inl, inr}
 use Rattle.std.specs.Prelude.{replicate, map, All, if◌then◌else◌}
 use Rattle.etcs_vars.specs.declared.var.Var.TheVariants.{NID_PACKET, Q_DIR, L_PACKET, OTHER_DATA, FILL, PAD}
@@ -18,7 +18,7 @@ use Rattle.etcs_sequence.proofs.OneHolding.{sent_parts, one_held}
 use Rattle.etcs_telegram.specs.Telegrams.{header_row, closed_reading, TelegramLanguage}
 use Rattle.etcs_telegram.specs.Readers.{Standing, Members, OneHolding}
 
--- ---- Packet 255 with bits of FILL and PAD behind it.
+-- ---- Packet 255 with bits of FILL and PAD after it.
 
 -- no packet begins so
 closed_unpacked : (t : Reading) → NoPacket ((NID_PACKET, 255) ∷ t)
@@ -43,7 +43,7 @@ fills_known (b ∷ k) (c ∷ l) i j e =
     let rest = fills_known k l i j s.2 in
     cc
 
--- Q_DIR stands in none of it
+-- Q_DIR is in none of it
 no_direction : (k : List Bool) (zeros n : ℕ) (t : Reading) → kept FILL k ++ kept PAD (replicate zeros false) ≡ (Q_DIR, n) ∷ t → ⊥
 no_direction [] zero n t e = absurd cc
 no_direction [] (suc i) n t e = let v = (sent_parts PAD Q_DIR 0 n (kept PAD (replicate i false)) t e).0 in absurd cc
@@ -56,7 +56,7 @@ none_filled (b ∷ k) i e = absurd cc
 filled_frame : (r : Reading) (k : List Bool) (zeros nid dir bits : ℕ) (t : Reading) → r ≡ filled k zeros → r ≡ frame nid dir bits ++ t → ⊥
 filled_frame r k zeros nid dir bits t e is = no_direction k zeros dir ((L_PACKET, 23 + bits) ∷ t) (sent_parts NID_PACKET NID_PACKET 255 nid (kept FILL k ++ kept PAD (replicate zeros false)) ((Q_DIR, dir) ∷ (L_PACKET, 23 + bits) ∷ t) (sym e ∙ is)).2
 
--- where it is what is begun of a packet, no bit of FILL stands
+-- where it is what is begun of a packet, no bit of FILL is there
 filled_begun : (r : Reading) (f : List ℕ) (k l : List Bool) (zeros : ℕ) → r ≡ filled l zeros → Begun r f k → (f ≡ []) × (k ≡ l)
 filled_begun r f k l zeros e (inl (inl none, i, j)) = let two : ◌≡◌ {A = Reading} (filled l zeros) [] = sym e ∙ none in absurd cc
 filled_begun r f k l zeros e (inl (inr (inl (nid, one)), i, j)) = (i, j ∙ sym (none_filled l zeros (sent_parts NID_PACKET NID_PACKET 255 nid (kept FILL l ++ kept PAD (replicate zeros false)) [] (sym e ∙ one)).2))

@@ -21,7 +21,7 @@ ones_fit width le =
     let below : 18446744073709551615 < 2 ^ (width + (64 - width)) = rw whole (omega arith) in
     quotient_below 18446744073709551615 width (64 - width) below
 
--- ones behind ones
+-- ones after ones
 pub ones_more : (len left width : ℕ) (bs : List Bool) → width ≤ 64 → width ≤ left → left ≤ len → bs ≡ replicate (len - left) true → bs ++ num width (18446744073709551615 / 2 ^ (64 - width)) ≡ replicate (len - (left - width)) true
 ones_more len left width bs small le room e =
     let count : (len - left) + width ≡ len - (left - width) = omega arith in

@@ -10,7 +10,7 @@ use Rattle.etcs_sequence.specs.Readables.{Readable}
 use Rattle.etcs_telegram.specs.declared.size.Size.{Size}
 use Rattle.etcs_telegram.specs.declared.size.Size.TheVariants.{Short, Long}
 use Rattle.etcs_telegram.specs.declared.rest.TelegramRest.{TelegramRest}
-use Rattle.etcs_telegram.specs.Telegrams.{TelegramParts, TelegramValue, TelegramLanguage, ReadsAs, IsTelegram, telegram_value, container_bytes, user_bits, pad_bits}
+use Rattle.etcs_telegram.specs.Telegrams.{TelegramContent, TelegramValue, TelegramLanguage, ReadsAs, IsTelegram, telegram_value, container_bytes, user_bits, pad_bits}
 use Rattle.etcs_telegram.specs.Lefts.{left_at, next_at, may_ask, Follows}
 use Rattle.etcs_telegram.specs.laws.RestLaws.{rest_begins, rest_ended}
 use Rattle.etcs_telegram.specs.Readers.{so_far, telegram_by, telegram_bits, OwnHeld, Members}
@@ -45,7 +45,7 @@ abbrev far : Kept → Reading
 far s = so_far s.size s.phase s.header.items s.packets.left s.packets.store
 
 -- the telegram, where nothing is left
-abbrev made : Kept → TelegramParts
+abbrev made : Kept → TelegramContent
 made s = telegram_by s.size s.header.items s.packets.store
 
 abbrev store : Kept → PacketList
@@ -69,10 +69,10 @@ some_bits : (size : Size) (r : Reading) → TelegramLanguage size r → 0 < leng
 some_bits Short r l = omega (arith, whole_length Short r l)
 some_bits Long r l = omega (arith, whole_length Long r l)
 
-bits_counted : (size : Size) (t : TelegramParts) (r : Reading) → IsTelegram t → ReadsAs size (telegram_value t) r → length (spelled r) ≡ telegram_bits t
+bits_counted : (size : Size) (t : TelegramContent) (r : Reading) → IsTelegram t → ReadsAs size (telegram_value t) r → length (spelled r) ≡ telegram_bits t
 bits_counted size t r is (same, reads) = whole_length t.size r (telegram_value t, (refl, reads))
 
-pub telegrams : (size : Size) → Readable Kept TelegramParts TelegramValue left next follows fails far (holds size) (ReadsAs size) telegram_value IsTelegram telegram_bits made store Members (container_bytes size) 50
+pub telegrams : (size : Size) → Readable Kept TelegramContent TelegramValue left next follows fails far (holds size) (ReadsAs size) telegram_value IsTelegram telegram_bits made store Members (container_bytes size) 50
 telegrams size = record {
   regular = regular size;
   some = some_telegram size;

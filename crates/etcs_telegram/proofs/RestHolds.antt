@@ -1,4 +1,4 @@
--- What is kept of a telegram behind each of its variables.
+-- What is kept of a telegram after each of its variables.
 use Rattle.std.proofs.Common.{◌≡◌, ℕ, zero, suc, ◌+◌, ◌-◌, ◌<◌, ◌≤◌, Bool, false, List, [], ◌∷◌, ◌++◌, length, drop, Some, refl, sym, ap, subst, ◌∙◌, arith, ltb, append_assoc, append-nil, length-append}
 use Rattle.std.specs.Prelude.{All, IsTrue, replicate, ◌&&◌, ◌==◌, nat_lt}
 use Rattle.std.proofs.lemmas.Bool.{and_parts, and_from, eq-eqb}
@@ -13,7 +13,7 @@ use Rattle.etcs_packets.specs.PacketReadings.{readings_to}
 use Rattle.etcs_sequence.specs.Contents.{Carries, closing}
 use Rattle.etcs_reader.specs.Rests.{Starts, Goes}
 use Rattle.etcs_reader.specs.Fields.{first_of}
-use Rattle.etcs_sequence.specs.declared.left.PacketsLeft.{PacketsLeft}
+use Rattle.etcs_sequence.specs.declared.state.PacketsState.{PacketsState}
 use Rattle.etcs_sequence.specs.declared.stage.Stage.TheVariants as stage
 use Rattle.etcs_sequence.specs.Labels.{labelled}
 use Rattle.etcs_sequence.proofs.LabelLaws.{labelled_more}
@@ -33,7 +33,7 @@ use Rattle.etcs_telegram.proofs.RestSteps.{header_behind, packets_behind, fill_b
 
 -- ---- The header.
 
-header_held : (size : Size) (at : ℕ) (header : List ℕ) (l : PacketsLeft) (holds : List PacketValue → List ℕ → List Bool → Type 0) (x : Var) (n : ℕ) (q : Reading)
+header_held : (size : Size) (at : ℕ) (header : List ℕ) (l : PacketsState) (holds : List PacketValue → List ℕ → List Bool → Type 0) (x : Var) (n : ℕ) (q : Reading)
     → length header ≡ at → next_at (Header at) l ≡ Some x → HoldsIn size (Header at) header l holds q → HoldsIn size (after size (Header at)) (header ++ n ∷ []) l holds (q ++ (x, n) ∷ [])
 header_held size at header l holds x n q len e (is, none) =
     let e' : first_of (drop (length header) header_row) ≡ Some x = rw len e in
@@ -62,14 +62,14 @@ closed_held header c room holds q h ten same is (vs, f, k, t, held, carried, (no
       reading_is = is ∙ ap (λ (x : Reading). labelled header_row header ++ x) (h-is ∙ sym (append-nil p));
     }
 
--- what is left of FILL behind so many bits, or PAD
-fill_first : (size : Size) (header : List ℕ) (l : PacketsLeft) (holds : List PacketValue → List ℕ → List Bool → Type 0) (left n : ℕ) (q : Reading) → n ≤ left → Filled header holds l.room (left - n) 0 q → HoldsIn size (after_fill size left n) header l holds q
+-- what is left of FILL after this many bits, or PAD
+fill_first : (size : Size) (header : List ℕ) (l : PacketsState) (holds : List PacketValue → List ℕ → List Bool → Type 0) (left n : ℕ) (q : Reading) → n ≤ left → Filled header holds l.room (left - n) 0 q → HoldsIn size (after_fill size left n) header l holds q
 fill_first size header l holds left n q le h =
     by_test (ltb n left) (λ p. HoldsIn size p header l holds q) (Fill (left - n)) (Pad (pad_bits size))
     (λ _. h)
     (λ t. let e : left - n ≡ 0 = (let b = below_false n left t in omega arith) in (0, omega arith, subst (λ m. Filled header holds l.room m 0 q) e h))
 
-packets_held : (size : Size) (header : List ℕ) (l l' : PacketsLeft) (holds holds' : List PacketValue → List ℕ → List Bool → Type 0) (p : Reading) → length header ≡ 10 → l'.carrier ≡ Telegram
+packets_held : (size : Size) (header : List ℕ) (l l' : PacketsState) (holds holds' : List PacketValue → List ℕ → List Bool → Type 0) (p : Reading) → length header ≡ 10 → l'.carrier ≡ Telegram
     → ((q : Reading) → HoldsAt l.carrier l.stage holds q → HoldsAt l'.carrier l'.stage holds' (q ++ p)) → (q : Reading) → HoldsIn size Packets header l holds q → HoldsIn size (behind_packets size l') header l' holds' (q ++ p)
 packets_held size header l l' holds holds' p ten same h q (t, is, held) =
     let all : q ++ p ≡ labelled header_row header ++ (t ++ p) = ap (λ (x : Reading). x ++ p) is ∙ append_assoc (labelled header_row header) t p in
@@ -79,8 +79,8 @@ packets_held size header l l' holds holds' p ten same h q (t, is, held) =
     fill_first size header l' holds' l'.room 0 (q ++ p) (omega arith) (subst (λ m. Filled header holds' l'.room m 0 (q ++ p)) none closed))
     (λ _. (t ++ p, all, h t held))
 
--- FILL has room behind them
-packets_fit : (size : Size) (l : PacketsLeft) (holds : List PacketValue → List ℕ → List Bool → Type 0) (q : Reading) → HoldsAt l.carrier l.stage holds q → FillFits (behind_packets size l) holds
+-- FILL has room after them
+packets_fit : (size : Size) (l : PacketsState) (holds : List PacketValue → List ℕ → List Bool → Type 0) (q : Reading) → HoldsAt l.carrier l.stage holds q → FillFits (behind_packets size l) holds
 packets_fit size l holds q held =
     by_test (is_closed l.stage) (λ x. FillFits x holds) (after_fill size l.room 0) Packets
     (λ e. closed_fits size l.carrier l.room holds q l.small (rw (closed_stage l.stage e) at held))
@@ -92,7 +92,7 @@ packets_fit size l holds q held =
         (λ _. (vs, [], subst (λ (x : List ℕ). holds vs x []) no_numbers (subst (λ (x : List Bool). holds vs f x) no_bits held), omega (arith, small)))
         (λ _. tt)
 
-pub packets_fits : (size : Size) (phase phase' : Phase) (m : ℕ) (l l' : PacketsLeft) (holds holds' : List PacketValue → List ℕ → List Bool → Type 0) (p : Reading) → phase ≡ Packets → phase' ≡ behind_packets size l' → IsTrue (stands_at phase m l)
+pub packets_fits : (size : Size) (phase phase' : Phase) (m : ℕ) (l l' : PacketsState) (holds holds' : List PacketValue → List ℕ → List Bool → Type 0) (p : Reading) → phase ≡ Packets → phase' ≡ behind_packets size l' → IsTrue (stands_at phase m l)
     → ((q : Reading) → HoldsAt l.carrier l.stage holds q → HoldsAt l'.carrier l'.stage holds' (q ++ p)) → (is_closed l.stage ≡ false → (q : Reading) × HoldsAt l.carrier l.stage holds q) → FillFits phase' holds'
 packets_fits size phase phase' m l l' holds holds' p e e' h held some =
     let s = some (packets_parts phase m l e h).2 in
@@ -121,7 +121,7 @@ filled_more header holds holds' room left t q le more f =
       reading_is = all;
     }
 
-fill_held : (size : Size) (left : ℕ) (header : List ℕ) (l : PacketsLeft) (holds holds' : List PacketValue → List ℕ → List Bool → Type 0) (t : List Bool) → length t ≤ left → ((vs : List PacketValue) (k : List Bool) → holds vs [] k → holds' vs [] (k ++ t))
+fill_held : (size : Size) (left : ℕ) (header : List ℕ) (l : PacketsState) (holds holds' : List PacketValue → List ℕ → List Bool → Type 0) (t : List Bool) → length t ≤ left → ((vs : List PacketValue) (k : List Bool) → holds vs [] k → holds' vs [] (k ++ t))
     → (q : Reading) → Filled header holds l.room left 0 q → HoldsIn size (after_fill size left (length t)) header l holds' (q ++ kept FILL t)
 fill_held size left header l holds holds' t le more q h = fill_first size header l holds' left (length t) (q ++ kept FILL t) le (filled_more header holds holds' l.room left t q le more h)
 
@@ -149,7 +149,7 @@ padded_more header holds room zeros q f =
     ∙ ap (λ (x : Reading). h ++ x) (append_assoc p (k ++ z) one ∙ ap (λ (x : Reading). p ++ x) (append_assoc k z one ∙ ap (λ (x : Reading). k ++ x) (sym (zeros_more zeros)))) in
     record { ten = f.ten; packets = f.packets; fill = f.fill; held = f.held; carried = f.carried; room_is = f.room_is; reading_is = all }
 
-pad_held : (size : Size) (left : ℕ) (header : List ℕ) (l : PacketsLeft) (holds : List PacketValue → List ℕ → List Bool → Type 0) (q : Reading) → 0 < left → HoldsIn size (Pad left) header l holds q → HoldsIn size (after size (Pad left)) header l holds (q ++ (PAD, 0) ∷ [])
+pad_held : (size : Size) (left : ℕ) (header : List ℕ) (l : PacketsState) (holds : List PacketValue → List ℕ → List Bool → Type 0) (q : Reading) → 0 < left → HoldsIn size (Pad left) header l holds q → HoldsIn size (after size (Pad left)) header l holds (q ++ (PAD, 0) ∷ [])
 pad_held size left header l holds q pos (zeros, n, h) =
     let more = padded_more header holds l.room zeros q h in
     by_test (ltb 1 left) (λ x. HoldsIn size x header l holds (q ++ (PAD, 0) ∷ [])) (Pad (left - 1)) Whole
@@ -158,7 +158,7 @@ pad_held size left header l holds q pos (zeros, n, h) =
 
 -- ---- From one to the next.
 
-pub header_follows : (size : Size) (phase phase' : Phase) (at : ℕ) (header : List ℕ) (l : PacketsLeft) (holds : List PacketValue → List ℕ → List Bool → Type 0) (x : Var) (n : ℕ)
+pub header_follows : (size : Size) (phase phase' : Phase) (at : ℕ) (header : List ℕ) (l : PacketsState) (holds : List PacketValue → List ℕ → List Bool → Type 0) (x : Var) (n : ℕ)
     → phase ≡ Header at → phase' ≡ after size (Header at) → IsTrue (stands_at phase (length header) l) → next_at phase l ≡ Some x → Starts (left_at size phase l) x 0 n
     → Follows size phase header l holds ((x, n) ∷ []) size phase' (header ++ n ∷ []) l holds
 header_follows size phase phase' at header l holds x n e e' h next goes =
@@ -173,7 +173,7 @@ header_follows size phase phase' at header l holds x n e e' h next goes =
     subst (λ (p : Phase). Follows size p header l holds ((x, n) ∷ []) size phase' (header ++ n ∷ []) l holds) (sym e)
     (subst (λ (p : Phase). Follows size (Header at) header l holds ((x, n) ∷ []) size p (header ++ n ∷ []) l holds) (sym e') all)
 
-pub packets_follow : (size : Size) (phase phase' : Phase) (header : List ℕ) (l l' : PacketsLeft) (holds holds' : List PacketValue → List ℕ → List Bool → Type 0) (p : Reading)
+pub packets_follow : (size : Size) (phase phase' : Phase) (header : List ℕ) (l l' : PacketsState) (holds holds' : List PacketValue → List ℕ → List Bool → Type 0) (p : Reading)
     → phase ≡ Packets → phase' ≡ behind_packets size l' → IsTrue (stands_at phase (length header) l) → Moved l.carrier l.room l.stage p l'.carrier l'.room l'.stage → Goes (left_of l'.carrier l'.room l'.stage)
     → ((q : Reading) → HoldsAt l.carrier l.stage holds q → HoldsAt l'.carrier l'.stage holds' (q ++ p)) → Follows size phase header l holds p size phase' header l' holds'
 packets_follow size phase phase' header l l' holds holds' p e e' h moved some held =
@@ -186,7 +186,7 @@ packets_follow size phase phase' header l l' holds holds' p e e' h moved some he
     subst (λ (x : Phase). Follows size x header l holds p size phase' header l' holds') (sym e)
     (subst (λ (x : Phase). Follows size Packets header l holds p size x header l' holds') (sym e') all)
 
-pub fill_follows : (size : Size) (phase phase' : Phase) (left : ℕ) (header : List ℕ) (l : PacketsLeft) (holds holds' : List PacketValue → List ℕ → List Bool → Type 0) (t : List Bool)
+pub fill_follows : (size : Size) (phase phase' : Phase) (left : ℕ) (header : List ℕ) (l : PacketsState) (holds holds' : List PacketValue → List ℕ → List Bool → Type 0) (t : List Bool)
     → phase ≡ Fill left → phase' ≡ after_fill size left (length t) → length t ≤ left → ((vs : List PacketValue) (k : List Bool) → holds vs [] k → holds' vs [] (k ++ t)) → Follows size phase header l holds (kept FILL t) size phase' header l holds'
 fill_follows size phase phase' left header l holds holds' t e e' le more =
     let all : Follows size (Fill left) header l holds (kept FILL t) size (after_fill size left (length t)) header l holds' = record {
@@ -197,7 +197,7 @@ fill_follows size phase phase' left header l holds holds' t e e' le more =
     subst (λ (x : Phase). Follows size x header l holds (kept FILL t) size phase' header l holds') (sym e)
     (subst (λ (x : Phase). Follows size (Fill left) header l holds (kept FILL t) size x header l holds') (sym e') all)
 
-pub pad_follows : (size : Size) (phase phase' : Phase) (left : ℕ) (header : List ℕ) (l : PacketsLeft) (holds : List PacketValue → List ℕ → List Bool → Type 0)
+pub pad_follows : (size : Size) (phase phase' : Phase) (left : ℕ) (header : List ℕ) (l : PacketsState) (holds : List PacketValue → List ℕ → List Bool → Type 0)
     → phase ≡ Pad left → phase' ≡ after size (Pad left) → 0 < left → Follows size phase header l holds ((PAD, 0) ∷ []) size phase' header l holds
 pad_follows size phase phase' left header l holds e e' pos =
     let all : Follows size (Pad left) header l holds ((PAD, 0) ∷ []) size (after size (Pad left)) header l holds = record {
@@ -229,7 +229,7 @@ no_numbers : (xs : List ℕ) → length xs ≡ 0 → xs ≡ []
 no_numbers [] e = refl
 no_numbers (x ∷ xs) e = absurd cc
 
-pub whole_header : (size : Size) (phase phase' : Phase) (header ns : List ℕ) (l : PacketsLeft) (holds : List PacketValue → List ℕ → List Bool → Type 0) (xs : List Bool) (at end : ℕ)
+pub whole_header : (size : Size) (phase phase' : Phase) (header ns : List ℕ) (l : PacketsState) (holds : List PacketValue → List ℕ → List Bool → Type 0) (xs : List Bool) (at end : ℕ)
     → phase ≡ Header 0 → phase' ≡ Packets → IsTrue (stands_at phase (length header) l) → FrontAt header_row xs at ns end → Follows size phase header l holds (labelled header_row ns) size phase' ns l holds
 whole_header size phase phase' header ns l holds xs at end e e' h f =
     let p = labelled header_row ns in
@@ -244,13 +244,13 @@ whole_header size phase phase' header ns l holds xs at end e e' h f =
     subst (λ (x : Phase). Follows size x header l holds p size phase' ns l holds) (sym e)
     (subst (λ (x : Phase). Follows size (Header 0) header l holds p size x ns l holds) (sym e') all)
 
-pub header_stands : (phase phase' : Phase) (n m : ℕ) (l : PacketsLeft) → phase ≡ Header 0 → phase' ≡ Packets → m ≡ 10 → IsTrue (stands_at phase n l) → IsTrue (stands_at phase' m l)
+pub header_stands : (phase phase' : Phase) (n m : ℕ) (l : PacketsState) → phase ≡ Header 0 → phase' ≡ Packets → m ≡ 10 → IsTrue (stands_at phase n l) → IsTrue (stands_at phase' m l)
 header_stands phase phase' n m l e e' ten h =
     let h' : IsTrue (stands_at (Header 0) n l) = subst (λ (x : Phase). IsTrue (stands_at x n l)) e h in
     let open_is = (and_parts (n == 0) (is_open l) (and_parts (nat_lt 0 10) ((n == 0) && is_open l) h').1).1 in
     rw e' (and_from (m == 10) (is_open l) (eq-eqb m 10 ten) open_is)
 
--- so many zeros more of PAD
+-- this many zeros more of PAD
 zeros_all : (header : List ℕ) (holds : List PacketValue → List ℕ → List Bool → Type 0) (room zeros left : ℕ) (q : Reading) → Filled header holds room 0 zeros q → Filled header holds room 0 (zeros + left) (q ++ kept PAD (replicate left false))
 zeros_all header holds room zeros zero q f =
     let e : zeros + 0 ≡ zeros = omega arith in
@@ -265,7 +265,7 @@ none_behind : (xs q : Reading) → xs ++ q ≡ xs → q ≡ []
 none_behind [] q e = e
 none_behind (x ∷ xs) q e = none_behind xs q (let k : xs ++ q ≡ xs = cc in k)
 
-pub whole_pad : (size : Size) (phase phase' : Phase) (left : ℕ) (header : List ℕ) (l : PacketsLeft) (holds : List PacketValue → List ℕ → List Bool → Type 0)
+pub whole_pad : (size : Size) (phase phase' : Phase) (left : ℕ) (header : List ℕ) (l : PacketsState) (holds : List PacketValue → List ℕ → List Bool → Type 0)
     → phase ≡ Pad left → phase' ≡ Whole → Follows size phase header l holds (kept PAD (replicate left false)) size phase' header l holds
 whole_pad size phase phase' left header l holds e e' =
     let p = kept PAD (replicate left false) in

@@ -3,9 +3,9 @@ use Rattle.std.proofs.Common.{◌≡◌, ◌-◌, length, sym, subst}
 use Rattle.etcs_vars.specs.Reading.{spelled}
 use Rattle.etcs_vars.proofs.Languages.{Same, Then-same, same_self}
 use Rattle.etcs_rows.specs.declared.frames.Carrier.TheVariants.{Telegram}
-use Rattle.etcs_sequence.specs.Contents.{Run}
+use Rattle.etcs_sequence.specs.Contents.{PacketsIn}
 use Rattle.etcs_reader.specs.Fields.{ReadsFields}
-use Rattle.etcs_sequence.specs.declared.left.PacketsLeft.{PacketsLeft}
+use Rattle.etcs_sequence.specs.declared.state.PacketsState.{PacketsState}
 use Rattle.etcs_sequence.specs.Lefts.{left_of, ahead}
 use Rattle.etcs_telegram.specs.declared.size.Size.{Size}
 use Rattle.etcs_telegram.specs.declared.phase.Phase.TheVariants.{Header}
@@ -14,7 +14,7 @@ use Rattle.etcs_telegram.specs.Phases.{FillLeft, PacketsLeft as AllPackets}
 use Rattle.etcs_telegram.specs.Lefts.{PacketsBehind, left_at}
 use Rattle.etcs_telegram.proofs.Ends.{start_to, start_from}
 
-module _ (size : Size) (l : PacketsLeft) (room : ahead l.carrier l.room l.stage ≡ packet_room size) (same : Same (left_of l.carrier l.room l.stage) (Run Telegram (packet_room size))) where
+module _ (size : Size) (l : PacketsState) (room : ahead l.carrier l.room l.stage ≡ packet_room size) (same : Same (left_of l.carrier l.room l.stage) (PacketsIn Telegram (packet_room size))) where
   all_packets : Same (PacketsBehind size l) (AllPackets size)
   all_packets r = (
     λ (a, b, e, h, k). (a, b, e, (same a).0 h, subst (λ n. FillLeft size (n - length (spelled a)) b) room k),

@@ -1,4 +1,4 @@
--- What is left of a telegram behind each of its variables.
+-- What is left of a telegram after each of its variables.
 use Rattle.std.proofs.Common.{◌≡◌, ℕ, zero, suc, ◌+◌, ◌-◌, ◌/◌, ◌^◌, ◌<◌, ◌≤◌, Bool, true, false, List, [], ◌∷◌, length, drop, get_or, Some, refl, sym, ap, subst, ◌∙◌, arith, ltb}
 use Rattle.std.specs.Prelude.{IsTrue, ◌↔◌, not, ◌&&◌, ◌==◌, nat_lt, replicate}
 use Rattle.std.proofs.lemmas.Bool.{and_parts, and_from, ltb-true, lt-ltb, eqb-true, eq-eqb}
@@ -12,7 +12,7 @@ use Rattle.etcs_vars.proofs.Languages.{Same, same_self, same_along}
 use Rattle.etcs_sequence.proofs.Turns.{residual_same}
 use Rattle.etcs_reader.specs.Rests.{Starts, Goes}
 use Rattle.etcs_reader.specs.Fields.{ReadsFields}
-use Rattle.etcs_sequence.specs.declared.left.PacketsLeft.{PacketsLeft}
+use Rattle.etcs_sequence.specs.declared.state.PacketsState.{PacketsState}
 use Rattle.etcs_sequence.specs.declared.stage.Stage.TheVariants as stage
 use Rattle.etcs_sequence.specs.Lefts.{left_of, is_closed, is_telegram, Moved}
 use Rattle.etcs_sequence.specs.BitLaws.{BitsLeft}
@@ -37,59 +37,59 @@ use Rattle.etcs_telegram.proofs.PhaseSteps.{by_test, below_false, below_true, pa
 
 -- ---- The header.
 
-pub header_parts : (phase : Phase) (at m : ℕ) (l : PacketsLeft) → phase ≡ Header at → IsTrue (stands_at phase m l) → (at < 10) × (m ≡ at)
+pub header_parts : (phase : Phase) (at m : ℕ) (l : PacketsState) → phase ≡ Header at → IsTrue (stands_at phase m l) → (at < 10) × (m ≡ at)
 header_parts phase at m l e h =
     let h' : IsTrue (stands_at (Header at) m l) = subst (λ (x : Phase). IsTrue (stands_at x m l)) e h in
     let both = and_parts (nat_lt at 10) ((m == at) && is_open l) h' in
     (ltb-true at 10 both.0, eqb-true m at (and_parts (m == at) (is_open l) both.1).0)
 
-pub header_tested : (size : Size) (at : ℕ) (l : PacketsLeft) (x : Var) (rest bits : ℕ) → next_at (Header at) l ≡ Some x → rest < width x → bits < 2 ^ (width x - rest) → Goes (left_at size (Header at) l) → IsTrue (begins (ranges x) rest bits) ↔ Starts (left_at size (Header at) l) x rest bits
+pub header_tested : (size : Size) (at : ℕ) (l : PacketsState) (x : Var) (rest bits : ℕ) → next_at (Header at) l ≡ Some x → rest < width x → bits < 2 ^ (width x - rest) → Goes (left_at size (Header at) l) → IsTrue (begins (ranges x) rest bits) ↔ Starts (left_at size (Header at) l) x rest bits
 header_tested size at l x rest bits e lt fits g = front_tested (PacketsBehind size l) (drop at header_row) x rest bits e lt fits g
 
-after_header : (size : Size) (at : ℕ) (l : PacketsLeft) → at < 10 → Same (Chain (ReadsFields (drop (suc at) header_row)) (λ _. PacketsBehind size l)) (left_at size (after size (Header at)) l)
+after_header : (size : Size) (at : ℕ) (l : PacketsState) → at < 10 → Same (Chain (ReadsFields (drop (suc at) header_row)) (λ _. PacketsBehind size l)) (left_at size (after size (Header at)) l)
 after_header size at l h =
     by_test (ltb at 9) (λ x. Same (Chain (ReadsFields (drop (suc at) header_row)) (λ _. PacketsBehind size l)) (left_at size x l)) (Header (at + 1)) Packets
     (λ _. let e : at + 1 ≡ suc at = omega arith in rw e (same_self (Chain (ReadsFields (drop (suc at) header_row)) (λ _. PacketsBehind size l))))
     (λ t. let e : at ≡ 9 = (let b = below_false at 9 t in omega arith) in rw e (chain_none (λ _. PacketsBehind size l)))
 
-pub header_behind : (size : Size) (at : ℕ) (l : PacketsLeft) (x : Var) (number : ℕ) → at < 10 → next_at (Header at) l ≡ Some x → Starts (left_at size (Header at) l) x 0 number → Residual (left_at size (Header at) l) ((x, number) ∷ []) (left_at size (after size (Header at)) l)
+pub header_behind : (size : Size) (at : ℕ) (l : PacketsState) (x : Var) (number : ℕ) → at < 10 → next_at (Header at) l ≡ Some x → Starts (left_at size (Header at) l) x 0 number → Residual (left_at size (Header at) l) ((x, number) ∷ []) (left_at size (after size (Header at)) l)
 header_behind size at l x number h e s =
     residual_same (left_at size (Header at) l) ((x, number) ∷ []) (Then (ReadsFields (drop (suc at) header_row)) (PacketsBehind size l)) (left_at size (after size (Header at)) l) (front_behind (PacketsBehind size l) header_row at x number h e s) (after_header size at l h)
 
-pub var_header : (phase : Phase) (at m : ℕ) (l : PacketsLeft) → phase ≡ Header at → IsTrue (stands_at phase m l) → Some (var_at phase) ≡ next_at phase l
+pub var_header : (phase : Phase) (at m : ℕ) (l : PacketsState) → phase ≡ Header at → IsTrue (stands_at phase m l) → Some (var_at phase) ≡ next_at phase l
 var_header phase at m l e h =
     let row : drop at header_row ≡ get_or header_row at PAD ∷ drop (suc at) header_row = drop-cons header_row at PAD (header_parts phase at m l e h).0 in
     rw e (rw row refl)
 
 -- ---- The packets.
 
-pub packets_viable : (size : Size) (l : PacketsLeft) (t : List Bool) → Viable (left_of l.carrier l.room l.stage) t → Viable (left_at size Packets l) t
+pub packets_viable : (size : Size) (l : PacketsState) (t : List Bool) → Viable (left_of l.carrier l.room l.stage) t → Viable (left_at size Packets l) t
 packets_viable size l t v = filled_viable (FillLeft size) (some_fill size) l t v
 
--- behind FILL that is wanted comes PAD
-pub behind_fill : (size : Size) (left n : ℕ) (l : PacketsLeft) → n ≤ left → Same (FillLeft size (left - n)) (left_at size (after_fill size left n) l)
+-- after FILL that is wanted comes PAD
+pub behind_fill : (size : Size) (left n : ℕ) (l : PacketsState) → n ≤ left → Same (FillLeft size (left - n)) (left_at size (after_fill size left n) l)
 behind_fill size left n l le =
     by_test (ltb n left) (λ x. Same (FillLeft size (left - n)) (left_at size x l)) (Fill (left - n)) (Pad (pad_bits size))
     (λ _. same_self (FillLeft size (left - n)))
     (λ t. let e : left - n ≡ 0 = (let b = below_false n left t in omega arith) in rw e (none_left size))
 
--- behind closed packets comes FILL
-behind_closed : (size : Size) (l : PacketsLeft) → l.stage ≡ stage.Closed → Same (PacketsBehind size l) (left_at size (after_fill size l.room 0) l)
+-- after closed packets comes FILL
+behind_closed : (size : Size) (l : PacketsState) → l.stage ≡ stage.Closed → Same (PacketsBehind size l) (left_at size (after_fill size l.room 0) l)
 behind_closed size l e =
     let none : Same (PacketsBehind size l) (FillLeft size (l.room - 0)) = rw e (chain_none (FillBy size l.room)) in
     same_along (PacketsBehind size l) (FillLeft size (l.room - 0)) (left_at size (after_fill size l.room 0) l) none (behind_fill size l.room 0 l (omega arith))
 
-behind_any : (size : Size) (l : PacketsLeft) → Same (PacketsBehind size l) (left_at size (behind_packets size l) l)
+behind_any : (size : Size) (l : PacketsState) → Same (PacketsBehind size l) (left_at size (behind_packets size l) l)
 behind_any size l =
     by_test (is_closed l.stage) (λ x. Same (PacketsBehind size l) (left_at size x l)) (after_fill size l.room 0) Packets
     (λ t. behind_closed size l (closed_stage l.stage t))
     (λ _. same_self (PacketsBehind size l))
 
-pub packets_behind : (size : Size) (l l' : PacketsLeft) (p : Reading) → Moved l.carrier l.room l.stage p l'.carrier l'.room l'.stage → Goes (left_of l'.carrier l'.room l'.stage) → Residual (left_at size Packets l) p (left_at size (behind_packets size l') l')
+pub packets_behind : (size : Size) (l l' : PacketsState) (p : Reading) → Moved l.carrier l.room l.stage p l'.carrier l'.room l'.stage → Goes (left_of l'.carrier l'.room l'.stage) → Residual (left_at size Packets l) p (left_at size (behind_packets size l') l')
 packets_behind size l l' p m g = residual_same (left_at size Packets l) p (PacketsBehind size l') (left_at size (behind_packets size l') l') (filled_behind (FillLeft size) l l' p m g) (behind_any size l')
 
--- all of it goes on where the packets do
-pub packets_all : (size : Size) (l : PacketsLeft) → Goes (left_of l.carrier l.room l.stage) → Goes (left_at size (behind_packets size l) l)
+-- all of it continues where the packets do
+pub packets_all : (size : Size) (l : PacketsState) → Goes (left_of l.carrier l.room l.stage) → Goes (left_at size (behind_packets size l) l)
 packets_all size l g = let h = filled_goes (FillLeft size) (some_fill size) l g in (h.0, (behind_any size l h.0).0 h.1)
 
 -- ---- FILL.
@@ -99,17 +99,17 @@ fill_residual size left t le =
     let Q : Reading → Type 0 = PadLeft (pad_bits size) in
     chain_along (BitsLeft FILL left) (BitsLeft FILL (left - length t)) (λ _. Q) (λ _. Q) (kept FILL t) (bits_regular FILL refl left) (bits_behind FILL refl left t le) (some_bits FILL refl (left - length t)) (λ a b. (λ k. k, λ k. k))
 
-pub fill_behind : (size : Size) (left : ℕ) (l : PacketsLeft) (t : List Bool) → length t ≤ left → Residual (FillLeft size left) (kept FILL t) (left_at size (after_fill size left (length t)) l)
+pub fill_behind : (size : Size) (left : ℕ) (l : PacketsState) (t : List Bool) → length t ≤ left → Residual (FillLeft size left) (kept FILL t) (left_at size (after_fill size left (length t)) l)
 fill_behind size left l t le = residual_same (FillLeft size left) (kept FILL t) (FillLeft size (left - length t)) (left_at size (after_fill size left (length t)) l) (fill_residual size left t le) (behind_fill size left (length t) l le)
 
--- a number goes on where it does in FILL alone
+-- a number continues where it does in FILL alone
 fill_starts : (size : Size) (left rest bits : ℕ) → 0 < left → Starts (BitsLeft FILL left) FILL rest bits ↔ Starts (FillLeft size left) FILL rest bits
 fill_starts size left rest bits pos = then_starts (BitsLeft FILL left) (PadLeft (pad_bits size)) FILL (bits_begin FILL refl left pos) (pad_goes (pad_bits size)) rest bits
 
-pub fill_goes : (size : Size) (left n : ℕ) (l : PacketsLeft) → n ≤ left → Goes (left_at size (after_fill size left n) l)
+pub fill_goes : (size : Size) (left n : ℕ) (l : PacketsState) → n ≤ left → Goes (left_at size (after_fill size left n) l)
 fill_goes size left n l le = let r = some_fill size (left - n) in (r.0, (behind_fill size left n l le r.0).0 r.1)
 
--- bits of FILL go on
+-- bits of FILL continue
 pub fill_viable : (size : Size) (left : ℕ) (t : List Bool) → length t ≤ left → Viable (FillLeft size left) t
 fill_viable size left t le = chain_viable (BitsLeft FILL left) (λ _. PadLeft (pad_bits size)) (λ a h. pad_goes (pad_bits size)) t (bits_viable FILL refl left t le)
 
@@ -127,13 +127,13 @@ pad_starts (suc left) number pos = (
   λ (n, r, h, e). (let one : n / 2 ^ 0 ≡ n = omega arith in sym e ∙ one ∙ pad_number (suc left) n r h),
 )
 
-after_pad : (size : Size) (k : ℕ) (l : PacketsLeft) → Same (PadLeft k) (left_at size (after size (Pad (suc k))) l)
+after_pad : (size : Size) (k : ℕ) (l : PacketsState) → Same (PadLeft k) (left_at size (after size (Pad (suc k))) l)
 after_pad size k l =
     by_test (ltb 1 (suc k)) (λ x. Same (PadLeft k) (left_at size x l)) (Pad (suc k - 1)) Whole
     (λ _. let e : suc k - 1 ≡ k = omega arith in rw e (same_self (PadLeft k)))
     (λ t. let e : k ≡ 0 = (let b = below_false 1 (suc k) t in omega arith) in rw e (same_self (PadLeft 0)))
 
-pub pad_behind : (size : Size) (left : ℕ) (l : PacketsLeft) → 0 < left → Residual (PadLeft left) ((PAD, 0) ∷ []) (left_at size (after size (Pad left)) l)
+pub pad_behind : (size : Size) (left : ℕ) (l : PacketsState) → 0 < left → Residual (PadLeft left) ((PAD, 0) ∷ []) (left_at size (after size (Pad left)) l)
 pad_behind size zero l pos = absurd (omega arith)
 pad_behind size (suc k) l pos =
     let one : Residual (PadLeft (suc k)) ((PAD, 0) ∷ []) (PadLeft k) = record {
@@ -142,68 +142,68 @@ pad_behind size (suc k) l pos =
     } in
     residual_same (PadLeft (suc k)) ((PAD, 0) ∷ []) (PadLeft k) (left_at size (after size (Pad (suc k))) l) one (after_pad size k l)
 
--- ---- What stands.
+-- ---- What holds.
 
-pub packets_parts : (phase : Phase) (m : ℕ) (l : PacketsLeft) → phase ≡ Packets → IsTrue (stands_at phase m l) → (m ≡ 10) × (l.carrier ≡ Telegram) × (is_closed l.stage ≡ false)
+pub packets_parts : (phase : Phase) (m : ℕ) (l : PacketsState) → phase ≡ Packets → IsTrue (stands_at phase m l) → (m ≡ 10) × (l.carrier ≡ Telegram) × (is_closed l.stage ≡ false)
 packets_parts phase m l e h =
     let h' : IsTrue (stands_at Packets m l) = subst (λ (x : Phase). IsTrue (stands_at x m l)) e h in
     let both = and_parts (m == 10) (is_open l) h' in
     let o = opens l both.1 in
     (eqb-true m 10 both.0, o.0, o.1)
 
-pub fill_parts : (phase : Phase) (left m : ℕ) (l : PacketsLeft) → phase ≡ Fill left → IsTrue (stands_at phase m l) → (0 < left) × (is_closed l.stage ≡ true)
+pub fill_parts : (phase : Phase) (left m : ℕ) (l : PacketsState) → phase ≡ Fill left → IsTrue (stands_at phase m l) → (0 < left) × (is_closed l.stage ≡ true)
 fill_parts phase left m l e h =
     let h' : IsTrue (stands_at (Fill left) m l) = subst (λ (x : Phase). IsTrue (stands_at x m l)) e h in
     let both = and_parts (nat_lt 0 left) (is_closed l.stage) h' in
     (ltb-true 0 left both.0, both.1)
 
-pub pad_parts : (phase : Phase) (left m : ℕ) (l : PacketsLeft) → phase ≡ Pad left → IsTrue (stands_at phase m l) → 0 < left
+pub pad_parts : (phase : Phase) (left m : ℕ) (l : PacketsState) → phase ≡ Pad left → IsTrue (stands_at phase m l) → 0 < left
 pad_parts phase left m l e h = ltb-true 0 left (subst (λ (x : Phase). IsTrue (stands_at x m l)) e h)
 
 some_pad : (size : Size) → 0 < pad_bits size
 some_pad Short = omega arith
 some_pad Long = omega arith
 
-pub fill_stands : (size : Size) (left n m : ℕ) (l : PacketsLeft) → is_closed l.stage ≡ true → IsTrue (stands_at (after_fill size left n) m l)
+pub fill_stands : (size : Size) (left n m : ℕ) (l : PacketsState) → is_closed l.stage ≡ true → IsTrue (stands_at (after_fill size left n) m l)
 fill_stands size left n m l e =
     by_test (ltb n left) (λ x. IsTrue (stands_at x m l)) (Fill (left - n)) (Pad (pad_bits size))
     (λ t. let b = below_true n left t in and_from (nat_lt 0 (left - n)) (is_closed l.stage) (lt-ltb 0 (left - n) (omega arith)) e)
     (λ _. lt-ltb 0 (pad_bits size) (some_pad size))
 
-pub packets_stand : (size : Size) (m : ℕ) (l : PacketsLeft) → m ≡ 10 → l.carrier ≡ Telegram → IsTrue (stands_at (behind_packets size l) m l)
+pub packets_stand : (size : Size) (m : ℕ) (l : PacketsState) → m ≡ 10 → l.carrier ≡ Telegram → IsTrue (stands_at (behind_packets size l) m l)
 packets_stand size m l ten same =
     by_test (is_closed l.stage) (λ x. IsTrue (stands_at x m l)) (after_fill size l.room 0) Packets
     (λ t. fill_stands size l.room 0 m l t)
     (λ f. and_from (m == 10) (is_open l) (eq-eqb m 10 ten) (and_from (is_telegram l.carrier) (not (is_closed l.stage)) (ap is_telegram same) (ap not f)))
 
-pub packets_stands : (size : Size) (phase phase' : Phase) (m : ℕ) (l l' : PacketsLeft) (p : Reading) → phase ≡ Packets → phase' ≡ behind_packets size l' → IsTrue (stands_at phase m l) → Moved l.carrier l.room l.stage p l'.carrier l'.room l'.stage → IsTrue (stands_at phase' m l')
+pub packets_stands : (size : Size) (phase phase' : Phase) (m : ℕ) (l l' : PacketsState) (p : Reading) → phase ≡ Packets → phase' ≡ behind_packets size l' → IsTrue (stands_at phase m l) → Moved l.carrier l.room l.stage p l'.carrier l'.room l'.stage → IsTrue (stands_at phase' m l')
 packets_stands size phase phase' m l l' p e e' h moved =
     let parts = packets_parts phase m l e h in
     rw e' (packets_stand size m l' parts.0 (moved.same ∙ parts.1))
 
-pub pad_stands : (size : Size) (phase phase' : Phase) (left m : ℕ) (l : PacketsLeft) → phase' ≡ after size (Pad left) → IsTrue (stands_at phase' m l)
+pub pad_stands : (size : Size) (phase phase' : Phase) (left m : ℕ) (l : PacketsState) → phase' ≡ after size (Pad left) → IsTrue (stands_at phase' m l)
 pad_stands size phase phase' left m l e =
     rw e
     (by_test (ltb 1 left) (λ x. IsTrue (stands_at x m l)) (Pad (left - 1)) Whole
     (λ t. let b = below_true 1 left t in lt-ltb 0 (left - 1) (omega arith))
     (λ _. refl))
 
--- ---- Whether a number goes on.
+-- ---- Whether a number continues.
 
-pub begins_header : (size : Size) (phase : Phase) (at : ℕ) (l : PacketsLeft) (x : Var) (rest bits : ℕ) → phase ≡ Header at → next_at phase l ≡ Some x → rest < width x → bits < 2 ^ (width x - rest) → Goes (left_at size phase l) → IsTrue (begins (ranges x) rest bits) ↔ Starts (left_at size phase l) x rest bits
+pub begins_header : (size : Size) (phase : Phase) (at : ℕ) (l : PacketsState) (x : Var) (rest bits : ℕ) → phase ≡ Header at → next_at phase l ≡ Some x → rest < width x → bits < 2 ^ (width x - rest) → Goes (left_at size phase l) → IsTrue (begins (ranges x) rest bits) ↔ Starts (left_at size phase l) x rest bits
 begins_header size phase at l x rest bits e next lt fits g = rw e (header_tested size at l x rest bits (rw e at next) lt fits (rw e at g))
 
-pub begins_packets : (size : Size) (phase : Phase) (l : PacketsLeft) (x : Var) (rest bits : ℕ) → phase ≡ Packets → next_at phase l ≡ Some x → Starts (left_of l.carrier l.room l.stage) x rest bits ↔ Starts (left_at size phase l) x rest bits
+pub begins_packets : (size : Size) (phase : Phase) (l : PacketsState) (x : Var) (rest bits : ℕ) → phase ≡ Packets → next_at phase l ≡ Some x → Starts (left_of l.carrier l.room l.stage) x rest bits ↔ Starts (left_at size phase l) x rest bits
 begins_packets size phase l x rest bits e next = rw e (filled_starts (FillLeft size) (some_fill size) l x rest bits (rw e at next))
 
-pub begins_fill : (size : Size) (phase : Phase) (left : ℕ) (l : PacketsLeft) (x : Var) (rest bits : ℕ) → phase ≡ Fill left → 0 < left → next_at phase l ≡ Some x → rest < width x → bits < 2 ^ (width x - rest) → Starts (left_at size phase l) x rest bits
+pub begins_fill : (size : Size) (phase : Phase) (left : ℕ) (l : PacketsState) (x : Var) (rest bits : ℕ) → phase ≡ Fill left → 0 < left → next_at phase l ≡ Some x → rest < width x → bits < 2 ^ (width x - rest) → Starts (left_at size phase l) x rest bits
 begins_fill size phase left l x rest bits e pos next lt fits =
     let next' : next_at (Fill left) l ≡ Some x = rw e at next in
     let same : FILL ≡ x = cc in
     rw (e, ← same) ((fill_starts size left rest bits pos).0 (bits_start FILL refl left rest bits pos (rw (← same) at lt) (rw (← same) at fits)))
 
--- what goes on of FILL is a bit
-pub fill_bit : (size : Size) (phase : Phase) (left : ℕ) (l : PacketsLeft) (x : Var) (number : ℕ) → phase ≡ Fill left → 0 < left → next_at phase l ≡ Some x → Starts (left_at size phase l) x 0 number → (x ≡ FILL) × (number < 2)
+-- what continues of FILL is a bit
+pub fill_bit : (size : Size) (phase : Phase) (left : ℕ) (l : PacketsState) (x : Var) (number : ℕ) → phase ≡ Fill left → 0 < left → next_at phase l ≡ Some x → Starts (left_at size phase l) x 0 number → (x ≡ FILL) × (number < 2)
 fill_bit size phase left l x number e pos next goes =
     let next' : next_at (Fill left) l ≡ Some x = rw e at next in
     let same : FILL ≡ x = cc in
@@ -211,7 +211,7 @@ fill_bit size phase left l x number e pos next goes =
     (sym same, bits_number FILL refl left number ((fill_starts size left 0 number pos).1 goes'))
 
 -- and of PAD a zero
-pub pad_bit : (size : Size) (phase : Phase) (left : ℕ) (l : PacketsLeft) (x : Var) (number : ℕ) → phase ≡ Pad left → 0 < left → next_at phase l ≡ Some x → Starts (left_at size phase l) x 0 number → ◌≡◌ {A = Reading} ((x, number) ∷ []) ((PAD, 0) ∷ [])
+pub pad_bit : (size : Size) (phase : Phase) (left : ℕ) (l : PacketsState) (x : Var) (number : ℕ) → phase ≡ Pad left → 0 < left → next_at phase l ≡ Some x → Starts (left_at size phase l) x 0 number → ◌≡◌ {A = Reading} ((x, number) ∷ []) ((PAD, 0) ∷ [])
 pad_bit size phase left l x number e pos next goes =
     let next' : next_at (Pad left) l ≡ Some x = rw e at next in
     let same : PAD ≡ x = cc in

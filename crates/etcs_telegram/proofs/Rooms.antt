@@ -13,7 +13,7 @@ use Rattle.etcs_packets.specs.PacketValues.{PacketValue, IsPacket}
 use Rattle.etcs_packets.specs.PacketReadings.{packet_reading, packets_reading}
 use Rattle.etcs_sequence.specs.laws.Agreement.{packet_agree, packet_fit, numbered_below}
 use Rattle.etcs_telegram.specs.declared.size.Size.{Size}
-use Rattle.etcs_telegram.specs.Telegrams.{HeaderParts, TelegramValue, TelegramReads, TelegramLanguage, RoomRule, IsAdmitted, header_reading, closed_reading, user_bits}
+use Rattle.etcs_telegram.specs.Telegrams.{HeaderValue, TelegramValue, TelegramReads, TelegramLanguage, RoomRule, IsAdmitted, header_reading, closed_reading, user_bits}
 use Rattle.etcs_telegram.specs.Writing.{telegram_reading}
 use Rattle.etcs_telegram.proofs.HeaderLemmas.{header_length, admitted_fit}
 use Rattle.etcs_telegram.proofs.Spellings.{header_agree, zeros}
@@ -52,11 +52,11 @@ closed_room (v ∷ vs) (u ∷ us) c d hv hu e =
     let l2 : length (spelled (closed_reading (u ∷ us))) ≡ length (spelled (packet_reading u)) + length (spelled (closed_reading us)) = ap (λ (r : Reading). length (spelled r)) split ∙ length-spelled (packet_reading u) (closed_reading us) in
     omega (arith, rest, first, l1, l2)
 
-headed_length : (h : HeaderParts) (vs : List PacketValue) → length (spelled (header_reading h ++ packets_reading vs)) ≡ 50 + length (spelled (packets_reading vs))
+headed_length : (h : HeaderValue) (vs : List PacketValue) → length (spelled (header_reading h ++ packets_reading vs)) ≡ 50 + length (spelled (packets_reading vs))
 headed_length h vs = length-spelled (header_reading h) (packets_reading vs) ∙ ap (λ (k : ℕ). k + length (spelled (packets_reading vs))) (header_length h)
 
 -- what begins a telegram leaves the room
-room_needed : (size : Size) (h : HeaderParts) (vs : List PacketValue) → IsAdmitted (header_reading h) → All IsPacket vs → Viable (TelegramLanguage size) (spelled (header_reading h ++ packets_reading vs)) → length (spelled (header_reading h ++ packets_reading vs)) + 8 ≤ user_bits size
+room_needed : (size : Size) (h : HeaderValue) (vs : List PacketValue) → IsAdmitted (header_reading h) → All IsPacket vs → Viable (TelegramLanguage size) (spelled (header_reading h ++ packets_reading vs)) → length (spelled (header_reading h ++ packets_reading vs)) + 8 ≤ user_bits size
 room_needed size h vs admitted packets (r, c, (t, (st, x)), e) =
     let head = header_reading h in
     let head' = header_reading t.header in
@@ -73,7 +73,7 @@ room_needed size h vs admitted packets (r, c, (t, (st, x)), e) =
     omega (arith, room, headed_length h vs, header_length t.header, x.user_bits_is, user)
 
 -- the telegram with ones in the room that is left
-room_enough : (size : Size) (h : HeaderParts) (vs : List PacketValue) → IsAdmitted (header_reading h) → All IsPacket vs → length (spelled (header_reading h ++ packets_reading vs)) + 8 ≤ user_bits size → Viable (TelegramLanguage size) (spelled (header_reading h ++ packets_reading vs))
+room_enough : (size : Size) (h : HeaderValue) (vs : List PacketValue) → IsAdmitted (header_reading h) → All IsPacket vs → length (spelled (header_reading h ++ packets_reading vs)) + 8 ≤ user_bits size → Viable (TelegramLanguage size) (spelled (header_reading h ++ packets_reading vs))
 room_enough size h vs admitted packets le =
     let sent = packets_reading vs in
     let left = user_bits size - (58 + length (spelled sent)) in

@@ -9,7 +9,7 @@ use Rattle.etcs_vars.specs.declared.var.Var.TheVariants.{Q_UPDOWN, Q_MEDIA, Q_LI
 use Rattle.etcs_vars.specs.Vars.{admits, inside, ranges}
 use Rattle.etcs_vars.specs.Reading.{Reading, numbers}
 use Rattle.etcs_vars.proofs.Prefixes.{admits_parts}
-use Rattle.etcs_telegram.specs.Telegrams.{header_row, HeaderParts, header_reading, header_of, IsAdmitted}
+use Rattle.etcs_telegram.specs.Telegrams.{header_row, HeaderValue, header_reading, header_of, IsAdmitted}
 use Rattle.etcs_reader.specs.Fields.{ReadsFields}
 use Rattle.etcs_sequence.specs.Labels.{labelled}
 
@@ -22,7 +22,7 @@ pub admitted_row : (vs : List Var) (r : Reading) → ReadsFields vs r → IsAdmi
 admitted_row [] r h = rw h tt
 admitted_row (v ∷ vs) r (n, r', a, e, h) = rw e (a, admitted_row vs r' h)
 
-pub header_reads : (h : HeaderParts) → IsAdmitted (header_reading h) → ReadsFields header_row (header_reading h)
+pub header_reads : (h : HeaderValue) → IsAdmitted (header_reading h) → ReadsFields header_row (header_reading h)
 header_reads h a = row_admitted (header_reading h) a
 
 -- the row's reading is a header's

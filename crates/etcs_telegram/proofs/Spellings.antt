@@ -10,17 +10,17 @@ use Rattle.etcs_rows.specs.declared.frames.Carrier.TheVariants.{Telegram}
 use Rattle.etcs_packets.specs.declared.packet.Packet.{Packet}
 use Rattle.etcs_packets.specs.PacketValues.{PacketValue, IsMade}
 use Rattle.etcs_packets.proofs.OnePacket.{one_list}
-use Rattle.etcs_sequence.specs.Contents.{RunOf}
+use Rattle.etcs_sequence.specs.Contents.{ReadsPackets}
 use Rattle.etcs_sequence.specs.laws.Agreement.{run_regular}
 use Rattle.etcs_sequence.proofs.OneSpelling.{packets_same}
 use Rattle.etcs_sequence.specs.laws.RunSteps.{both_length}
 use Rattle.etcs_sequence.specs.laws.BitLaws.{bits_agree, bits_fit}
 use Rattle.etcs_sequence.proofs.BitLaws.{bits_known, bits_length}
 use Rattle.etcs_telegram.specs.declared.size.Size.{Size}
-use Rattle.etcs_telegram.specs.Telegrams.{HeaderParts, TelegramParts, TelegramValue, TelegramReads, TelegramLanguage, OneSpelling, header_reading, closed_reading, telegram_value, user_bits, pad_bits, packet_room}
+use Rattle.etcs_telegram.specs.Telegrams.{HeaderValue, TelegramContent, TelegramValue, TelegramReads, TelegramLanguage, OneSpelling, header_reading, closed_reading, telegram_value, user_bits, pad_bits, packet_room}
 use Rattle.etcs_telegram.proofs.HeaderLemmas.{admitted_fit, header_length, header_same}
 
-pub header_agree : (h k : HeaderParts) → Agree (header_reading h) (header_reading k)
+pub header_agree : (h k : HeaderValue) → Agree (header_reading h) (header_reading k)
 header_agree h k = (refl, λ _. (refl, λ _. (refl, λ _. (refl, λ _. (refl, λ _. (refl, λ _. (refl, λ _. (refl, λ _. (refl, λ _. (refl, λ _. tt))))))))))
 
 -- ---- The parts of a telegram's reading.
@@ -32,18 +32,18 @@ abbrev pub zeros : Size → Reading
 zeros size = kept PAD (replicate (pad_bits size) false)
 
 -- packets and packet 255 are a run in the room that the header leaves
-pub closed_run : (t : TelegramValue) (r : Reading) → TelegramReads t r → RunOf Telegram (packet_room t.size) t.packets (closed_reading t.packets)
+pub closed_run : (t : TelegramValue) (r : Reading) → TelegramReads t r → ReadsPackets Telegram (packet_room t.size) t.packets (closed_reading t.packets)
 closed_run t r x =
     let fits : length (spelled (closed_reading t.packets)) ≤ packet_room t.size = omega (arith, header_length t.header, x.user_bits_is) in
     record { carried = x.packets_hold; reading_is = refl; fills = fits }
 
-run_at : (size : Size) (t : TelegramValue) (r : Reading) → t.size ≡ size → TelegramReads t r → RunOf Telegram (packet_room size) t.packets (closed t)
-run_at size t r s x = subst (λ (k : Size). RunOf Telegram (packet_room k) t.packets (closed t)) s (closed_run t r x)
+closed_at : (size : Size) (t : TelegramValue) (r : Reading) → t.size ≡ size → TelegramReads t r → ReadsPackets Telegram (packet_room size) t.packets (closed t)
+closed_at size t r s x = subst (λ (k : Size). ReadsPackets Telegram (packet_room k) t.packets (closed t)) s (closed_run t r x)
 
 runs_agree : (size : Size) (t u : TelegramValue) (a b : Reading) → t.size ≡ size → u.size ≡ size → TelegramReads t a → TelegramReads u b → Agree (closed t) (closed u)
 runs_agree size t u a b st su x y =
     let runs = run_regular Telegram (packet_room size) in
-    runs.agree (closed t) (closed u) (t.packets, run_at size t a st x) (u.packets, run_at size u b su y)
+    runs.agree (closed t) (closed u) (t.packets, closed_at size t a st x) (u.packets, closed_at size u b su y)
 
 -- where the packets are the same, FILL has the same length
 fills_alike : (t u : TelegramValue) (a b : Reading) → t.size ≡ u.size → closed t ≡ closed u → TelegramReads t a → TelegramReads u b → length t.fill ≡ length u.fill
@@ -107,13 +107,13 @@ whole_length size r (t, (st, x)) =
 
 -- ---- A reading is one telegram's.
 
-abbrev made : Size → HeaderParts → List PacketValue → List Bool → TelegramValue
+abbrev made : Size → HeaderValue → List PacketValue → List Bool → TelegramValue
 made s h ps f = record { size = s; header = h; packets = ps; fill = f }
 
 parts_one : (t u : TelegramValue) → t.size ≡ u.size → t.header ≡ u.header → t.packets ≡ u.packets → t.fill ≡ u.fill → t ≡ u
 parts_one t u s h p f =
     ap (λ (x : Size). made x t.header t.packets t.fill) s
-    ∙ ap (λ (x : HeaderParts). made u.size x t.packets t.fill) h
+    ∙ ap (λ (x : HeaderValue). made u.size x t.packets t.fill) h
     ∙ ap (λ (x : List PacketValue). made u.size u.header x t.fill) p
     ∙ ap (λ (x : List Bool). made u.size u.header u.packets x) f
 
@@ -126,21 +126,21 @@ one_value t u r s x y =
     let headed = Agree-cut (head ++ closed t) (head' ++ closed u) (kept FILL t.fill) (kept FILL u.fill) (headed_agree u.size t u r r s refl x y) fronts.0 in
     let parts = cut head head' (closed t) (closed u) refl headed.0 in
     let header : t.header ≡ u.header = header_same t.header u.header parts.0 in
-    let packets : t.packets ≡ u.packets = packets_same Telegram (packet_room u.size) t.packets u.packets (closed t) (closed u) (run_at u.size t r s x) (closed_run u r y) parts.1 in
+    let packets : t.packets ≡ u.packets = packets_same Telegram (packet_room u.size) t.packets u.packets (closed t) (closed u) (closed_at u.size t r s x) (closed_run u r y) parts.1 in
     parts_one t u s header packets (bits_known FILL t.fill u.fill headed.1)
 
-abbrev pub held : Size → HeaderParts → List Packet → List Bool → TelegramParts
+abbrev pub held : Size → HeaderValue → List Packet → List Bool → TelegramContent
 held s h ps f = record { size = s; header = h; packets = ps; fill = f }
 
-held_one : (t u : TelegramParts) → t.size ≡ u.size → t.header ≡ u.header → t.packets ≡ u.packets → t.fill ≡ u.fill → t ≡ u
+held_one : (t u : TelegramContent) → t.size ≡ u.size → t.header ≡ u.header → t.packets ≡ u.packets → t.fill ≡ u.fill → t ≡ u
 held_one t u s h p f =
     ap (λ (x : Size). held x t.header t.packets t.fill) s
-    ∙ ap (λ (x : HeaderParts). held u.size x t.packets t.fill) h
+    ∙ ap (λ (x : HeaderValue). held u.size x t.packets t.fill) h
     ∙ ap (λ (x : List Packet). held u.size u.header x t.fill) p
     ∙ ap (λ (x : List Bool). held u.size u.header u.packets x) f
 
 -- a value is one telegram's
-pub one_parts : (t u : TelegramParts) → All IsMade t.packets → All IsMade u.packets → telegram_value t ≡ telegram_value u → t ≡ u
+pub one_parts : (t u : TelegramContent) → All IsMade t.packets → All IsMade u.packets → telegram_value t ≡ telegram_value u → t ≡ u
 one_parts t u ht hu e =
     held_one t u
     (ap (λ (v : TelegramValue). v.size) e)

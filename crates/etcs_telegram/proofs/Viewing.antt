@@ -22,7 +22,7 @@ use Rattle.etcs_packets.specs.PacketReadings.{packet_reading, packets_reading}
 use Rattle.etcs_packets.specs.laws.PacketReadings.{packet_bits}
 use Rattle.etcs_sequence.specs.Contents.{closing}
 use Rattle.etcs_sequence.specs.laws.Agreement.{some_bits}
-use Rattle.etcs_sequence.specs.declared.left.PacketsLeft.{PacketsLeft}
+use Rattle.etcs_sequence.specs.declared.state.PacketsState.{PacketsState}
 use Rattle.etcs_sequence.specs.laws.BitLaws.{bits_spelled}
 use Rattle.etcs_sequence.specs.Refs.{ArePackets}
 use Rattle.etcs_telegram.specs.declared.size.Size.{Size}
@@ -30,7 +30,7 @@ use Rattle.etcs_telegram.specs.declared.phase.Phase.{Phase}
 use Rattle.etcs_telegram.specs.declared.phase.Phase.TheVariants.{Whole}
 use Rattle.etcs_telegram.specs.declared.view.ViewFault.{ViewFault}
 use Rattle.etcs_telegram.specs.declared.view.ViewFault.TheVariants.{Refused}
-use Rattle.etcs_telegram.specs.Telegrams.{header_of, header_reading, HeaderParts, TelegramValue, TelegramLanguage, ReadsAs, closed_reading, user_bits, pad_bits, packet_room}
+use Rattle.etcs_telegram.specs.Telegrams.{header_of, header_reading, HeaderValue, TelegramValue, TelegramLanguage, ReadsAs, closed_reading, user_bits, pad_bits, packet_room}
 use Rattle.etcs_telegram.specs.Headers.{IsHeaderNumbers}
 use Rattle.etcs_telegram.specs.Lefts.{left_at, next_at, stands_at, Filled, HoldsIn}
 use Rattle.etcs_telegram.specs.laws.RestLaws.{ended_whole}
@@ -48,7 +48,7 @@ refused_same L b i j x y e r =
     let holder : x ≡ y = cc in
     subst (λ (v : Var). Refuses L b j v) holder (subst (λ (n : ℕ). Refuses L b n x) bit r)
 
--- a bit that is refused of what is left, where no bit stands, is refused of a telegram
+-- a bit that is refused of what is left, where no bit is there, is refused of a telegram
 pub refused_bit : (size : Size) (L : Reading → Type 0) → Same L (TelegramLanguage size) → (front b : List Bool) (i n count : ℕ) (x : Var) → front ≡ [] → count ≡ 0 → i ≡ count + n → Refuses L (front ++ b) (length front + n) x → Refuses (TelegramLanguage size) b i x
 refused_bit size L same front b i n count x none start place r =
     let is : length front + n ≡ i = omega (arith, ap (λ (u : List Bool). length u) none, start, place) in
@@ -92,7 +92,7 @@ whole_seen size b header room packets q l f e =
       omega (arith, bits),
     )
 
-pub all_seen : (size : Size) (L : Reading → Type 0) → Same L (TelegramLanguage size) → (b : List Bool) → length b ≡ user_bits size + pad_bits size → (size' : Size) (phase : Phase) (header : List ℕ) (l : PacketsLeft) (packets n : ℕ) (front behind : List Bool) (q : Reading) → size' ≡ size → IsTrue (stands_at phase (length header) l) → n ≤ length b → front ≡ [] → Residual L q (left_at size' phase l) → HoldsIn size' phase header l (counts packets) q → spelled q ++ behind ≡ front ++ take n b
+pub all_seen : (size : Size) (L : Reading → Type 0) → Same L (TelegramLanguage size) → (b : List Bool) → length b ≡ user_bits size + pad_bits size → (size' : Size) (phase : Phase) (header : List ℕ) (l : PacketsState) (packets n : ℕ) (front behind : List Bool) (q : Reading) → size' ≡ size → IsTrue (stands_at phase (length header) l) → n ≤ length b → front ≡ [] → Residual L q (left_at size' phase l) → HoldsIn size' phase header l (counts packets) q → spelled q ++ behind ≡ front ++ take n b
     → ((x : Var) → next_at phase l ≡ Some x → (n ≡ length b) × Owner L (front ++ take n b) x)
     → ViewIn size b (header_of header) packets (user_bits size - l.room) × IsHeaderNumbers header × (l.room ≤ user_bits size)
 all_seen size L same b long size' phase header l packets n front behind q st stands le none residual held bits more =
@@ -118,7 +118,7 @@ all_seen size L same b long size' phase header l packets n front behind q st sta
 
 -- ---- What is seen.
 
-module _ (size : Size) (b : List Bool) (header : HeaderParts) (packets end : ℕ) (v : ViewIn size b header packets end) where
+module _ (size : Size) (b : List Bool) (header : HeaderValue) (packets end : ℕ) (v : ViewIn size b header packets end) where
   -- the bits spell no other telegram
   pub seen_one : (t : TelegramValue) (r : Reading) → ReadsAs size t r → spelled r ≡ b → t ≡ v.telegram
   seen_one t r (same, reads) bits =
@@ -152,7 +152,7 @@ module _ (size : Size) (b : List Bool) (header : HeaderParts) (packets end : ℕ
       let n : user_bits size - end ≡ length v.telegram.fill = omega (arith, seen_end.0) in
       ap (λ (u : List Bool). part end (user_bits size - end) u) (seen_parts ∙ append_assoc x v.telegram.fill z) ∙ part-append_right x (v.telegram.fill ++ z) end 0 (user_bits size - end) (omega (arith, front_long)) ∙ take_at v.telegram.fill z (user_bits size - end) (sym n)
 
-  -- the packets and what stands behind them
+  -- the packets and what follows them
   pub seen_packets : (c : List Bool) × (part 50 (packet_room size) b ≡ spelled (packets_reading v.telegram.packets) ++ c)
   seen_packets =
       let h = spelled (header_reading v.telegram.header) in

@@ -1,4 +1,4 @@
--- Variables one behind the other whose bits are all there.
+-- Variables one after another whose bits are all there.
 use Rattle.std.specs.Prelude.{◌≡◌, ℕ, ◌-◌, ◌/◌, ◌%◌, ◌^◌, ◌≤◌, Bool, List, [], ◌∷◌, length, IsTrue}
 use Rattle.etcs_bits.specs.Bits.{part}
 use Rattle.etcs_vars.specs.declared.var.Var.{Var}

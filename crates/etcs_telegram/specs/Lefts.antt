@@ -7,7 +7,7 @@ use Rattle.etcs_vars.specs.Walking.{Residual}
 use Rattle.etcs_reader.specs.Fields.{ReadsFields, first_of}
 use Rattle.etcs_packets.specs.PacketValues.{PacketValue, IsPacket}
 use Rattle.etcs_sequence.specs.ChainLaws.{Chain}
-use Rattle.etcs_sequence.specs.declared.left.PacketsLeft.{PacketsLeft}
+use Rattle.etcs_sequence.specs.declared.state.PacketsState.{PacketsState}
 use Rattle.etcs_sequence.specs.Lefts.{next_of, left_of, ahead, is_closed, is_telegram, may_grow, HoldsAt}
 use Rattle.etcs_telegram.specs.declared.size.Size.{Size}
 use Rattle.etcs_telegram.specs.declared.phase.Phase.{Phase}
@@ -16,19 +16,19 @@ use Rattle.etcs_telegram.specs.Telegrams.{header_row, pad_bits, closed_reading}
 use Rattle.etcs_sequence.specs.Labels.{labelled}
 use Rattle.etcs_telegram.specs.Phases.{PadLeft, FillLeft, behind_header, after_fill}
 
--- FILL behind packets, up to so many bits, and PAD behind it
+-- FILL after packets, up to this many bits, and PAD after it
 abbrev pub FillBy : Size → ℕ → Reading → Reading → Type 0
 FillBy size room p r = FillLeft size (room - length (spelled p)) r
 
--- what is left of packets, and FILL behind it, in so many bits
+-- what is left of packets, and FILL after it, in this many bits
 abbrev pub PacketsThen : Size → (Reading → Type 0) → ℕ → Reading → Type 0
 PacketsThen size P room r = Chain P (FillBy size room) r
 
-abbrev pub PacketsBehind : Size → PacketsLeft → Reading → Type 0
+abbrev pub PacketsBehind : Size → PacketsState → Reading → Type 0
 PacketsBehind size l r = PacketsThen size (left_of l.carrier l.room l.stage) (ahead l.carrier l.room l.stage) r
 
 -- the readings that are left
-abbrev pub left_at : Size → Phase → PacketsLeft → Reading → Type 0
+abbrev pub left_at : Size → Phase → PacketsState → Reading → Type 0
 left_at size (Header at) l r = Then (ReadsFields (drop at header_row)) (PacketsBehind size l) r
 left_at size Packets l r = PacketsBehind size l r
 left_at size (Fill left) l r = FillLeft size left r
@@ -36,7 +36,7 @@ left_at size (Pad left) l r = PadLeft left r
 left_at size Whole l r = r ≡ []
 
 -- the variable that comes next
-abbrev pub next_at : Phase → PacketsLeft → Option Var
+abbrev pub next_at : Phase → PacketsState → Option Var
 next_at (Header at) l = first_of (drop at header_row)
 next_at Packets l = next_of l.stage
 next_at (Fill left) l = Some FILL
@@ -44,11 +44,11 @@ next_at (Pad left) l = Some PAD
 next_at Whole l = None
 
 -- packets of a telegram of which more come, or packet 255
-abbrev pub is_open : PacketsLeft → Bool
+abbrev pub is_open : PacketsState → Bool
 is_open l = is_telegram l.carrier && not (is_closed l.stage)
 
--- what holds of what comes next, where so many of the header's numbers are there
-abbrev pub stands_at : Phase → ℕ → PacketsLeft → Bool
+-- what holds of what comes next, where this many of the header's numbers are there
+abbrev pub stands_at : Phase → ℕ → PacketsState → Bool
 stands_at (Header at) n l = nat_lt at 10 && ((n == at) && is_open l)
 stands_at Packets n l = (n == 10) && is_open l
 stands_at (Fill left) n l = nat_lt 0 left && is_closed l.stage
@@ -56,20 +56,20 @@ stands_at (Pad left) n l = nat_lt 0 left
 stands_at Whole n l = true
 
 -- memory may be asked for
-abbrev pub may_ask : Phase → PacketsLeft → Bool
+abbrev pub may_ask : Phase → PacketsState → Bool
 may_ask (Header at) l = false
 may_ask Packets l = may_grow l.stage
 may_ask (Fill left) l = true
 may_ask (Pad left) l = false
 may_ask Whole l = false
 
--- what comes behind a variable of the packets
-abbrev pub behind_packets : Size → PacketsLeft → Phase
+-- what comes after a variable of the packets
+abbrev pub behind_packets : Size → PacketsState → Phase
 behind_packets size l = if is_closed l.stage then after_fill size l.room 0 else Packets
 
 -- ---- What is kept of it.
 
--- FILL's bits that are left have room behind those that are held
+-- FILL's bits that are left have room after those that are held
 abbrev pub FillFits : Phase → (List PacketValue → List ℕ → List Bool → Type 0) → Type 0
 FillFits (Header at) holds = Unit {0}
 FillFits Packets holds = Unit {0}
@@ -77,8 +77,8 @@ FillFits (Fill left) holds = (vs : List PacketValue) × (k : List Bool) × holds
 FillFits (Pad left) holds = Unit {0}
 FillFits Whole holds = Unit {0}
 
--- q are ten numbers of the header, whole packets with packet 255, the bits of FILL that a room of so many takes but for
--- these that are left, and so many of PAD
+-- q are ten numbers of the header, whole packets with packet 255, the bits of FILL that such a room takes but for
+-- these that are left, and this many of PAD
 pub record Filled (header : List ℕ) (holds : List PacketValue → List ℕ → List Bool → Type 0) (room left zeros : ℕ) (q : Reading) : Type 0 where
   pub ten : length header ≡ 10
   pub packets : List PacketValue
@@ -89,7 +89,7 @@ pub record Filled (header : List ℕ) (holds : List PacketValue → List ℕ →
   pub reading_is : q ≡ labelled header_row header ++ behind_header (closed_reading packets) fill zeros
 
 -- q are the variables so far, of which so much is held
-abbrev pub HoldsIn : Size → Phase → List ℕ → PacketsLeft → (List PacketValue → List ℕ → List Bool → Type 0) → Reading → Type 0
+abbrev pub HoldsIn : Size → Phase → List ℕ → PacketsState → (List PacketValue → List ℕ → List Bool → Type 0) → Reading → Type 0
 HoldsIn size (Header at) header l holds q = (q ≡ labelled header_row header) × HoldsAt l.carrier l.stage holds []
 HoldsIn size Packets header l holds q = (h : Reading) × (q ≡ labelled header_row header ++ h) × HoldsAt l.carrier l.stage holds h
 HoldsIn size (Fill left) header l holds q = Filled header holds l.room left 0 q
@@ -97,7 +97,7 @@ HoldsIn size (Pad left) header l holds q = (zeros : ℕ) × (zeros + left ≡ pa
 HoldsIn size Whole header l holds q = Filled header holds l.room 0 (pad_bits size) q
 
 -- by the variables p the first comes to the second, with what is kept
-pub record Follows (size : Size) (phase : Phase) (header : List ℕ) (l : PacketsLeft) (holds : List PacketValue → List ℕ → List Bool → Type 0) (p : Reading) (size' : Size) (phase' : Phase) (header' : List ℕ) (l' : PacketsLeft) (holds' : List PacketValue → List ℕ → List Bool → Type 0) : Type 0 where
+pub record Follows (size : Size) (phase : Phase) (header : List ℕ) (l : PacketsState) (holds : List PacketValue → List ℕ → List Bool → Type 0) (p : Reading) (size' : Size) (phase' : Phase) (header' : List ℕ) (l' : PacketsState) (holds' : List PacketValue → List ℕ → List Bool → Type 0) : Type 0 where
   pub same : size' ≡ size
   pub residual : Residual (left_at size phase l) p (left_at size' phase' l')
   pub held : (q : Reading) → HoldsIn size phase header l holds q → HoldsIn size' phase' header' l' holds' (q ++ p)

@@ -7,7 +7,7 @@ use Rattle.etcs_telegram.specs.declared.size.Size.{Size}
 use Rattle.etcs_telegram.specs.declared.phase.Phase.{Phase}
 use Rattle.etcs_telegram.specs.declared.phase.Phase.TheVariants.{Header, Packets, Fill, Pad, Whole}
 use Rattle.etcs_rows.specs.declared.frames.Carrier.TheVariants as carrier
-use Rattle.etcs_sequence.specs.Contents.{Run}
+use Rattle.etcs_sequence.specs.Contents.{PacketsIn}
 use Rattle.etcs_telegram.specs.Telegrams.{header_row, packet_room, pad_bits}
 use Rattle.etcs_reader.specs.Fields.{ReadsFields}
 use Rattle.etcs_sequence.specs.BitLaws.{BitsLeft}
@@ -19,7 +19,7 @@ var_at (Fill left) = FILL
 var_at (Pad left) = PAD
 var_at Whole = PAD
 
--- behind n bits of FILL, of which so many were left
+-- after n bits of FILL, of which this many were left
 abbrev pub after_fill : Size → ℕ → ℕ → Phase
 after_fill size left n = if nat_lt n left then Fill (left - n) else Pad (pad_bits size)
 
@@ -45,18 +45,18 @@ PadLeft n r = r ≡ kept PAD (replicate n false)
 abbrev pub FillLeft : Size → ℕ → Reading → Type 0
 FillLeft size n r = Then (BitsLeft FILL n) (PadLeft (pad_bits size)) r
 
--- FILL behind packets and packet 255
+-- FILL after packets and packet 255
 abbrev pub FillBehind : Size → Reading → Reading → Type 0
 FillBehind size p r = FillLeft size (packet_room size - length (spelled p)) r
 
 abbrev pub PacketsLeft : Size → Reading → Type 0
-PacketsLeft size r = (p : Reading) × (rest : Reading) × (r ≡ p ++ rest) × Run carrier.Telegram (packet_room size) p × FillBehind size p rest
+PacketsLeft size r = (p : Reading) × (rest : Reading) × (r ≡ p ++ rest) × PacketsIn carrier.Telegram (packet_room size) p × FillBehind size p rest
 
 abbrev pub HeaderLeft : Size → List Var → Reading → Type 0
 HeaderLeft size vs r = Then (ReadsFields vs) (PacketsLeft size) r
 
--- ---- What stands in front of it.
+-- ---- What is in front of it.
 
--- FILL and zeros behind packets and packet 255
+-- FILL and zeros after packets and packet 255
 abbrev pub behind_header : Reading → List Bool → ℕ → Reading
 behind_header p fill zeros = p ++ (kept FILL fill ++ kept PAD (replicate zeros false))

@@ -6,7 +6,7 @@ use Rattle.etcs_packets.specs.declared.packet.Packet.{Packet}
 use Rattle.etcs_packets.specs.PacketValues.{packet_value, IsPacket, IsMade}
 use Rattle.etcs_packets.specs.PacketReadings.{packets_reading}
 use Rattle.etcs_sequence.specs.Runs.{Begun}
-use Rattle.etcs_sequence.specs.declared.left.PacketsLeft.{PacketsLeft}
+use Rattle.etcs_sequence.specs.declared.state.PacketsState.{PacketsState}
 use Rattle.etcs_sequence.specs.declared.list.PacketList.{PacketList}
 use Rattle.etcs_sequence.specs.Labels.{labelled}
 use Rattle.etcs_sequence.specs.Held.{list_holds, packets_so_far}
@@ -15,36 +15,36 @@ use Rattle.etcs_sequence.specs.Holdings.{HeldIn}
 use Rattle.etcs_telegram.specs.declared.size.Size.{Size}
 use Rattle.etcs_telegram.specs.declared.phase.Phase.{Phase}
 use Rattle.etcs_telegram.specs.declared.phase.Phase.TheVariants.{Header, Packets, Fill, Pad, Whole}
-use Rattle.etcs_telegram.specs.Telegrams.{header_row, user_bits, pad_bits, closed_reading, header_of, TelegramParts, TelegramLanguage}
+use Rattle.etcs_telegram.specs.Telegrams.{header_row, user_bits, pad_bits, closed_reading, header_of, TelegramContent, TelegramLanguage}
 use Rattle.etcs_telegram.specs.Phases.{behind_header}
 use Rattle.etcs_telegram.specs.Lefts.{HoldsIn}
 
 abbrev pub ReaderValue : Type 0
-ReaderValue = ItemValue Size TelegramParts
+ReaderValue = ItemValue Size TelegramContent
 
 -- as many as its container has
-abbrev pub telegram_bits : TelegramParts → ℕ
+abbrev pub telegram_bits : TelegramContent → ℕ
 telegram_bits t = user_bits t.size + pad_bits t.size
 
 -- the variables so far
-abbrev pub so_far : Size → Phase → List ℕ → PacketsLeft → PacketList → Reading
+abbrev pub so_far : Size → Phase → List ℕ → PacketsState → PacketList → Reading
 so_far size (Header at) header left store = labelled header_row header
 so_far size Packets header left store = labelled header_row header ++ packets_so_far left.carrier left.stage store.packets.items store.numbers.items store.bits
 so_far size (Fill n) header left store = labelled header_row header ++ behind_header (closed_reading (map packet_value store.packets.items)) store.bits 0
 so_far size (Pad n) header left store = labelled header_row header ++ behind_header (closed_reading (map packet_value store.packets.items)) store.bits (pad_bits size - n)
 so_far size Whole header left store = labelled header_row header ++ behind_header (closed_reading (map packet_value store.packets.items)) store.bits (pad_bits size)
 
-abbrev pub telegram_by : Size → List ℕ → PacketList → TelegramParts
+abbrev pub telegram_by : Size → List ℕ → PacketList → TelegramContent
 telegram_by size header store = record { size = size; header = header_of header; packets = store.packets.items; fill = store.bits }
 
 -- q are the variables so far, of which so much is held, of a telegram of the reader's own size
-abbrev pub OwnHeld : Size → Size → Phase → List ℕ → PacketsLeft → PacketList → Reading → Type 0
+abbrev pub OwnHeld : Size → Size → Phase → List ℕ → PacketsState → PacketList → Reading → Type 0
 OwnHeld own size phase header left store q = (size ≡ own) × HoldsIn size phase header left (list_holds store.packets.items store.numbers.items store.bits) q
 
 -- ---- What it holds between two pieces.
 
--- some of the header; the header, whole packets and what stands of the next one; or all packets with 255, and bits of FILL
--- and of PAD behind them
+-- some of the header; the header, whole packets and what there is of the next; or all packets with 255, and bits of FILL
+-- and of PAD after them
 abbrev pub Standing : List Packet → List ℕ → List Bool → Reading → Type 0
 Standing ps f k far =
     ((header : List ℕ) × (far ≡ labelled header_row header) × (length header < 10) × (ps ≡ []) × (f ≡ []) × (k ≡ []))

@@ -18,7 +18,7 @@ abbrev pub user_bits : Size → ℕ
 user_bits Short = 210
 user_bits Long = 830
 
--- the zeros behind the user bits, up to a whole number of bytes
+-- the zeros after the user bits, up to a whole number of bytes
 abbrev pub pad_bits : Size → ℕ
 pad_bits Short = 6
 pad_bits Long = 2
@@ -36,7 +36,7 @@ abbrev pub header_row : List Var
 header_row = Q_UPDOWN ∷ M_VERSION_HEADER ∷ Q_MEDIA ∷ N_PIG ∷ N_TOTAL ∷ M_DUP ∷ M_MCOUNT ∷ NID_C ∷ NID_BG ∷ Q_LINK ∷ []
 
 -- the header's variables that aren't fixed
-pub record HeaderParts : Type 0 where
+pub record HeaderValue : Type 0 where
   pub m_version : ℕ
   pub n_pig : ℕ
   pub n_total : ℕ
@@ -47,7 +47,7 @@ pub record HeaderParts : Type 0 where
   pub q_link : Bool
 
 -- the header as it is sent: track to train, and a balise's
-abbrev pub header_reading : HeaderParts → Reading
+abbrev pub header_reading : HeaderValue → Reading
 header_reading h =
     (Q_UPDOWN, 1) ∷ (M_VERSION_HEADER, h.m_version) ∷ (Q_MEDIA, 0) ∷ (N_PIG, h.n_pig) ∷ (N_TOTAL, h.n_total) ∷ (M_DUP, h.m_dup) ∷ (M_MCOUNT, h.m_mcount) ∷ (NID_C, h.nid_c) ∷ (NID_BG, h.nid_bg) ∷ (Q_LINK, bit h.q_link) ∷ []
 
@@ -57,23 +57,23 @@ IsAdmitted [] = Unit {0}
 IsAdmitted (p ∷ r) = IsTrue (admits p.0 p.1) × IsAdmitted r
 
 -- what a telegram holds
-pub record TelegramParts : Type 0 where
+pub record TelegramContent : Type 0 where
   pub size : Size
-  pub header : HeaderParts
+  pub header : HeaderValue
   pub packets : List Packet
   pub fill : List Bool
 
 -- what it stands for
 pub record TelegramValue : Type 0 where
   pub size : Size
-  pub header : HeaderParts
+  pub header : HeaderValue
   pub packets : List PacketValue
   pub fill : List Bool
 
-abbrev pub telegram_value : TelegramParts → TelegramValue
+abbrev pub telegram_value : TelegramContent → TelegramValue
 telegram_value t = record { size = t.size; header = t.header; packets = map packet_value t.packets; fill = t.fill }
 
--- packets and packet 255 behind them
+-- packets and packet 255 after them
 abbrev pub closed_reading : List PacketValue → Reading
 closed_reading vs = packets_reading vs ++ closing carrier.Telegram
 
@@ -96,7 +96,7 @@ abbrev pub TelegramLanguage : Size → Reading → Type 0
 TelegramLanguage size = readings_of (ReadsAs size)
 
 -- the header of these ten numbers
-abbrev pub header_of : List ℕ → HeaderParts
+abbrev pub header_of : List ℕ → HeaderValue
 header_of ns = record {
   m_version = slice_index ns 1;
   n_pig = slice_index ns 3;
@@ -109,7 +109,7 @@ header_of ns = record {
 }
 
 -- a value of the profile: its header is admitted, its packets are, and FILL is the rest
-pub record IsTelegram (t : TelegramParts) : Type 0 where
+pub record IsTelegram (t : TelegramContent) : Type 0 where
   pub header : IsAdmitted (header_reading t.header)
   pub made : All IsMade t.packets
   pub packets : All IsPacket (map packet_value t.packets)
@@ -117,8 +117,8 @@ pub record IsTelegram (t : TelegramParts) : Type 0 where
 
 -- telegrams with one spelling are one, and no spelling begins another
 abbrev pub OneSpelling : Type 0
-OneSpelling = (size : Size) (t u : TelegramParts) (a b : Reading) (behind : List Bool) → IsTelegram t → IsTelegram u → ReadsAs size (telegram_value t) a → ReadsAs size (telegram_value u) b → spelled b ≡ spelled a ++ behind → (t ≡ u) × (behind ≡ [])
+OneSpelling = (size : Size) (t u : TelegramContent) (a b : Reading) (behind : List Bool) → IsTelegram t → IsTelegram u → ReadsAs size (telegram_value t) a → ReadsAs size (telegram_value u) b → spelled b ≡ spelled a ++ behind → (t ≡ u) × (behind ≡ [])
 
 -- a header and packets begin a telegram exactly where room for packet 255 is left
 abbrev pub RoomRule : Type 0
-RoomRule = (size : Size) (h : HeaderParts) (vs : List PacketValue) → IsAdmitted (header_reading h) → All IsPacket vs → (Viable (TelegramLanguage size) (spelled (header_reading h ++ packets_reading vs)) ↔ (length (spelled (header_reading h ++ packets_reading vs)) + 8 ≤ user_bits size))
+RoomRule = (size : Size) (h : HeaderValue) (vs : List PacketValue) → IsAdmitted (header_reading h) → All IsPacket vs → (Viable (TelegramLanguage size) (spelled (header_reading h ++ packets_reading vs)) ↔ (length (spelled (header_reading h ++ packets_reading vs)) + 8 ≤ user_bits size))

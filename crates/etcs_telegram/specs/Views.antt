@@ -5,7 +5,7 @@ use Rattle.etcs_vars.specs.declared.var.Var.{Var}
 use Rattle.etcs_vars.specs.Walking.{Refuses}
 use Rattle.etcs_vars.specs.Reading.{Reading, spelled}
 use Rattle.etcs_telegram.specs.declared.size.Size.{Size}
-use Rattle.etcs_telegram.specs.Telegrams.{HeaderParts, TelegramValue, TelegramLanguage, ReadsAs, closed_reading}
+use Rattle.etcs_telegram.specs.Telegrams.{HeaderValue, TelegramValue, TelegramLanguage, ReadsAs, closed_reading}
 
 pub record ViewValue : Type 0 where
   pub bytes : List ℕ
@@ -15,8 +15,8 @@ pub record ViewValue : Type 0 where
 abbrev pub Sees : ViewValue → TelegramValue → Type 0
 Sees v t = (r : Reading) × ReadsAs v.size t r × (spelled r ≡ bits v.bytes)
 
--- the bits b spell a telegram of this header and so many packets, in front of whose FILL so many bits stand
-pub record ViewIn (size : Size) (b : List Bool) (header : HeaderParts) (packets end : ℕ) : Type 0 where
+-- the bits b spell a telegram of this header and this many packets, in front of whose FILL this many bits are
+pub record ViewIn (size : Size) (b : List Bool) (header : HeaderValue) (packets end : ℕ) : Type 0 where
   pub telegram : TelegramValue
   pub reading : Reading
   pub reads : ReadsAs size telegram reading

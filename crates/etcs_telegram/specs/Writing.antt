@@ -3,11 +3,11 @@ use Rattle.std.specs.Prelude.{◌≡◌, ℕ, false, List, ◌++◌, take, repli
 use Rattle.etcs_bits.specs.Bits.{bits}
 use Rattle.etcs_vars.specs.declared.var.Var.TheVariants.{FILL, PAD}
 use Rattle.etcs_vars.specs.Reading.{Reading, spelled, kept}
-use Rattle.etcs_telegram.specs.Telegrams.{TelegramParts, TelegramValue, TelegramReads, telegram_value, header_reading, closed_reading, pad_bits, container_bytes}
+use Rattle.etcs_telegram.specs.Telegrams.{TelegramContent, TelegramValue, TelegramReads, telegram_value, header_reading, closed_reading, pad_bits, container_bytes}
 
 abbrev pub telegram_reading : TelegramValue → Reading
 telegram_reading t = header_reading t.header ++ closed_reading t.packets ++ kept FILL t.fill ++ kept PAD (replicate (pad_bits t.size) false)
 
--- the telegram's spelling stands over the first bytes
-abbrev pub Writes : TelegramParts → List ℕ → Type 0
+-- the first bytes are the telegram's spelling
+abbrev pub Writes : TelegramContent → List ℕ → Type 0
 Writes t out = (r : Reading) × TelegramReads (telegram_value t) r × (bits (take (container_bytes t.size) out) ≡ spelled r)

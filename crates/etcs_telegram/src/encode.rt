@@ -29,7 +29,7 @@ impl Error for NoRoom {}
 
 impl Telegram {
     /// Writes the telegram into the first bytes of `out`, 27 for a short telegram and 104 for a long one, and
-    /// answers how many they are. The bytes behind stay.
+    /// answers how many they are. The bytes after stay.
     ///
     /// # Errors
     ///

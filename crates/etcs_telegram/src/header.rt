@@ -22,10 +22,10 @@ pub struct Header {
 
 impl Model for Header {
     ghost use Rattle.std.specs.Prelude.{◌≡◌, None};
-    ghost use Rattle.etcs_telegram.specs.Telegrams.{HeaderParts};
+    ghost use Rattle.etcs_telegram.specs.Telegrams.{HeaderValue};
     ghost use Rattle.etcs_telegram.specs.Headers.{header_fault};
 
-    ghost Value = { HeaderParts };
+    ghost Value = { HeaderValue };
 
     ghost view = { λ h. record { m_version = h.m_version; n_pig = h.n_pig; n_total = h.n_total; m_dup = h.m_dup; m_mcount = h.m_mcount; nid_c = h.nid_c; nid_bg = h.nid_bg; q_link = h.q_link } };
 

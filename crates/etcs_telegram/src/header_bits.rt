@@ -11,7 +11,7 @@ use arrayvec::ArrayVec;
 use etcs_sequence::parts::number_at;
 use etcs_vars::Var;
 
-/// The number of a variable in a word, with so many bits behind it. `None` where the variable doesn't admit it.
+/// The number of a variable in a word, with this many bits after it. `None` where the variable doesn't admit it.
 #[inline(always)]
 fn field(word: u64, behind: usize, var: Var) -> Option<u64>
     requires { behind + width var < 64 }
@@ -43,7 +43,7 @@ fn header_in(word: u64) -> Option<[u64; 10]>
     ])
 }
 
-/// The numbers of the header's variables from the bit `at` on, and the bit behind them. `None` where the piece doesn't
+/// The numbers of the header's variables from the bit `at` on, and the bit after them. `None` where the piece doesn't
 /// have them all, or one doesn't admit its number.
 #[inline]
 pub(crate) fn header_at(piece: &[u8], at: usize) -> Option<(ArrayVec<u64, 10>, usize)>

@@ -19,13 +19,13 @@ pub fn one_spelling()
     ensures { OneSpelling }
 {}
 
-/// Where a header's numbers are admitted, its bits with those of packets behind them begin a telegram of a size
+/// Where a header's numbers are admitted, its bits with those of packets after them begin a telegram of a size
 /// exactly where 8 bits more, for NID_PACKET 255, stay within the user bits.
 pub fn room()
     ensures { RoomRule }
 {}
 
-/// Of the same bits one alone is the first with which no telegram of a size goes on, and one variable holds it: so the
+/// Of the same bits just one is the first with which no telegram of a size continues, and one variable holds it: so the
 /// view and the reader refuse the same.
 pub fn one_refusal()
     ensures { OneRefusal }
@@ -81,7 +81,7 @@ fn write_over(telegram: &Telegram, out: &mut [u8])
 }
 
 /// Reads a telegram of a size from the front of some bytes and writes it over the first bytes of a buffer: these are
-/// then the bytes that were read. Answers how many they are, or `None` where no telegram stands at the front.
+/// then the bytes that were read. Answers how many they are, or `None` where no telegram is at the front.
 ///
 /// # Errors
 ///

@@ -11,11 +11,11 @@ use etcs_vars::Var;
 pub(crate) enum Phase {
     /// The variable of the header at this place.
     Header(usize),
-    /// Packets, with packet 255 behind them.
+    /// Packets, with packet 255 after them.
     Packets,
-    /// FILL, with so many bits left.
+    /// FILL, with this many bits left.
     Fill(usize),
-    /// PAD, with so many bits left.
+    /// PAD, with this many bits left.
     Pad(usize),
     /// Nothing.
     Whole,
@@ -39,7 +39,7 @@ impl Phase {
         }
     }
 
-    /// What comes behind the variable that comes next; packets aside.
+    /// What comes after the variable that comes next; packets aside.
     pub(crate) fn after(self, size: Size) -> Phase
         requires { IsPhase size self }
         ensures { result ≡ after size self }
@@ -65,7 +65,7 @@ impl Phase {
         }
     }
 
-    /// What comes behind so many bits of FILL, of which `left` were wanted.
+    /// What comes after this many bits of FILL, of which `left` were wanted.
     pub(crate) fn after_fill(size: Size, left: usize, count: usize) -> Phase
         ensures { result ≡ after_fill size left count }
     {

@@ -10,7 +10,7 @@ use crate::header::Header;
 use crate::rest::TelegramRest;
 use crate::size::Size;
 use crate::telegram::Telegram;
-use etcs_bodies::Items;
+use etcs_bodies::ListOf;
 use etcs_packets::Packet;
 use etcs_sequence::{Held, ItemReader, ItemRest, PacketList};
 use etcs_vars::{Fed, ReadFault};
@@ -61,7 +61,7 @@ impl ItemRest for TelegramRest<PacketList> {
         Telegram {
             size: self.size,
             header: Header::of_numbers(self.header.as_slice()),
-            packets: Items::from_vec(self.packets.store.packets),
+            packets: ListOf::from_vec(self.packets.store.packets),
             fill: self.packets.store.bits,
         }
     }
@@ -84,12 +84,12 @@ impl Model for TelegramReader {
 }
 
 impl TelegramReader {
-    ghost use Rattle.etcs_sequence.specs.Stages.{Feeds, IsReading, fault_of, seen_of, reading, finished};
-    ghost use Rattle.etcs_telegram.specs.Telegrams.{TelegramParts};
+    ghost use Rattle.etcs_sequence.specs.Progress.{Feeds, IsReading, fault_of, seen_of, reading, finished};
+    ghost use Rattle.etcs_telegram.specs.Telegrams.{TelegramContent};
 
     /// A reader of telegrams of this size. Nothing is allocated before the first packet or FILL bit.
     pub fn new(alloc: Global, size: Size) -> Self
-        ensures { result ≡ record { size = size; stage = reading [] } }
+        ensures { result ≡ record { size = size; progress = reading [] } }
     {
         let rest = TelegramRest::new(size, PacketList::new(alloc));
         TelegramReader {
@@ -99,7 +99,7 @@ impl TelegramReader {
 
     /// How many leading bits were accepted, over all pieces.
     pub fn bits_seen(&self) -> usize
-        ensures { result ≡ seen_of telegram_bits self.now.stage }
+        ensures { result ≡ seen_of telegram_bits self.now.progress }
     {
         self.reader.bits_seen()
     }
@@ -109,13 +109,13 @@ impl TelegramReader {
     ///
     /// # Errors
     ///
-    /// `Refused` with the first bit, counted from 0 over all pieces, with which no telegram goes on, and the variable
-    /// that holds it; `Memory` where memory is refused, for packets or FILL, at a bit with which a telegram goes on,
+    /// `Refused` with the first bit, counted from 0 over all pieces, with which no telegram continues, and the variable
+    /// that holds it; `Memory` where memory is refused, for packets or FILL, at a bit with which a telegram continues,
     /// which is no bit of the header, Q_DIR or PAD; `Ended` where the telegram was whole before. The reader then
-    /// answers the same to each later piece, and `bits_seen` tells how far it came.
+    /// answers the same to each later piece, and `bits_seen` reports how far it came.
     pub fn feed(&mut self, piece: &[u8]) -> Result<Fed, ReadFault>
-        ensures answer { (seen : List Bool) → self.old.stage ≡ reading seen → Feeds (ReadsAs self.old.size) telegram_value IsTelegram 50 seen (bits piece.now) result self.new.stage }
-        ensures after { (IsReading self.old.stage → ⊥) → (self.new ≡ self.old) × (result ≡ Err (fault_of self.old.stage)) }
+        ensures answer { (seen : List Bool) → self.old.progress ≡ reading seen → Feeds (ReadsAs self.old.size) telegram_value IsTelegram 50 seen (bits piece.now) result self.new.progress }
+        ensures after { (IsReading self.old.progress → ⊥) → (self.new ≡ self.old) × (result ≡ Err (fault_of self.old.progress)) }
         ensures size { self.new.size ≡ self.old.size }
     {
         self.reader.feed(piece)
@@ -124,8 +124,8 @@ impl TelegramReader {
     /// What it holds between two pieces: the whole packets, the numbers or kept bits of the packet that is being read
     /// or FILL, and the unfinished variable. `None` after `Done`, `Refused` or `Memory`.
     pub fn held(&self) -> Option<Held<'_, Packet>>
-        ensures some { IfSome result (λ h. IsHeld (TelegramLanguage self.now.size) (Members h.packets.now h.numbers.now h.kept) self.now.stage h.part h.taken) }
-        ensures none { IsNone result → IsReading self.now.stage → ⊥ }
+        ensures some { IfSome result (λ h. IsHeld (TelegramLanguage self.now.size) (Members h.packets.now h.numbers.now h.kept) self.now.progress h.part h.taken) }
+        ensures none { IsNone result → IsReading self.now.progress → ⊥ }
     {
         self.reader.held()
     }
@@ -136,7 +136,7 @@ impl TelegramReader {
     ///
     /// The reader itself, as it was, where there is no whole telegram.
     pub fn take(self) -> Result<Telegram, Self>
-        ensures { MatchResult result (λ t. self.stage ≡ finished t) (λ r. (r ≡ self) × ((t : TelegramParts) → self.stage ≢ finished t)) }
+        ensures { MatchResult result (λ t. self.progress ≡ finished t) (λ r. (r ≡ self) × ((t : TelegramContent) → self.progress ≢ finished t)) }
     {
         match self.reader.take() {
             Ok(telegram) => Ok(telegram),

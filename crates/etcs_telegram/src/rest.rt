@@ -20,8 +20,8 @@ use arrayvec::ArrayVec;
 use etcs_bits::BitSlice;
 use etcs_reader::Rest;
 use etcs_rows::parts::Carrier;
-use etcs_sequence::parts::{number_at, run_at};
-use etcs_sequence::{PacketStore, PacketsLeft, PacketsRest, Stage};
+use etcs_sequence::parts::{bits_at, number_at};
+use etcs_sequence::{PacketStore, PacketsRest, PacketsState, Stage};
 use etcs_vars::{Var, begins};
 use std::alloc::AllocError;
 
@@ -38,8 +38,8 @@ pub(crate) struct TelegramRest<S: PacketStore> {
     ghost fits: { ∥ FillFits phase (S.holds packets.store) ∥₁ },
 }
 
-/// What comes behind a variable of the packets.
-fn behind_packets(size: Size, left: &PacketsLeft) -> Phase
+/// What comes after a variable of the packets.
+fn behind_packets(size: Size, left: &PacketsState) -> Phase
     ensures { result ≡ behind_packets size left.now }
 {
     match &left.stage {
@@ -48,7 +48,7 @@ fn behind_packets(size: Size, left: &PacketsLeft) -> Phase
     }
 }
 
-/// What comes behind a bit of PAD, of which `left` are wanted.
+/// What comes after a bit of PAD, of which `left` are wanted.
 fn behind_pad(left: usize) -> Phase
     ensures { (size : Size) → result ≡ after size (Phase.Pad left) }
 {
@@ -76,7 +76,7 @@ impl<S: PacketStore> TelegramRest<S> {
         }
     }
 
-    /// Behind a number of the header.
+    /// After a number of the header.
     fn pass_header(&mut self, at: usize, number: u64)
         requires phase { self.old.phase ≡ Phase.Header at }
         ensures { (x : Var) → next_at self.old.phase self.old.packets.left ≡ Some x → Starts (left_at self.old.size self.old.phase self.old.packets.left) x 0 number → Follows self.old.size self.old.phase self.old.header.items self.old.packets.left (S.holds self.old.packets.store) ((x, number) ∷ []) self.new.size self.new.phase self.new.header.items self.new.packets.left (S.holds self.new.packets.store) }
@@ -100,7 +100,7 @@ impl<S: PacketStore> TelegramRest<S> {
         Some(end - at)
     }
 
-    /// Behind a variable of the packets.
+    /// After a variable of the packets.
     fn pass_packets(&mut self, var: Var, number: u64) -> Result<(), AllocError>
         requires phase { self.old.phase ≡ Phase.Packets }
         requires next { next_at self.old.phase self.old.packets.left ≡ Some var }
@@ -167,7 +167,7 @@ impl<S: PacketStore> TelegramRest<S> {
         }
     }
 
-    /// Behind a bit of FILL, of which `left` are wanted.
+    /// After a bit of FILL, of which `left` are wanted.
     fn pass_fill(&mut self, left: usize, number: u64) -> Result<(), AllocError>
         requires phase { self.old.phase ≡ Phase.Fill left }
         requires small { number < 2 }
@@ -175,7 +175,7 @@ impl<S: PacketStore> TelegramRest<S> {
         ensures err { OnErr result S.fails }
     {
         let byte = [number as u8];
-        match self.fill(left, &run_at(&byte, 7, 1)) {
+        match self.fill(left, &bits_at(&byte, 7, 1)) {
             Ok(()) => Ok(()),
             Err(error) => Err(error),
         }
@@ -191,13 +191,13 @@ impl<S: PacketStore> TelegramRest<S> {
         ensures viable { OnErr result (Viable (left_at self.old.size self.old.phase self.old.packets.left) (part at 1 (bits piece.now))) }
     {
         let count = left.min(piece.len() * 8 - at);
-        match self.fill(left, &run_at(piece, at, count)) {
+        match self.fill(left, &bits_at(piece, at, count)) {
             Ok(()) => Ok(count),
             Err(error) => Err(error),
         }
     }
 
-    /// Behind a bit of PAD, of which `left` are wanted.
+    /// After a bit of PAD, of which `left` are wanted.
     fn pass_pad(&mut self, left: usize)
         requires phase { self.old.phase ≡ Phase.Pad left }
         ensures { Follows self.old.size self.old.phase self.old.header.items self.old.packets.left (S.holds self.old.packets.store) ((PAD, 0) ∷ []) self.new.size self.new.phase self.new.header.items self.new.packets.left (S.holds self.new.packets.store) }

@@ -3,7 +3,7 @@
 use crate::header::Header;
 use crate::parts::HEADER_BITS;
 use etcs_vars::Var;
-use etcs_vars::parts::{Sink, Variables};
+use etcs_vars::parts::{VarSink, Variables};
 use std::alloc::AllocError;
 
 impl Variables for Header {
@@ -15,7 +15,7 @@ impl Variables for Header {
         HEADER_BITS
     }
 
-    fn send<S: Sink>(&self, out: &mut S) -> Result<(), AllocError> {
+    fn send<S: VarSink>(&self, out: &mut S) -> Result<(), AllocError> {
         out.send(&[
             (Var::Q_UPDOWN, 1),
             (Var::M_VERSION_HEADER, u64::from(self.m_version())),

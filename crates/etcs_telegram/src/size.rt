@@ -13,7 +13,7 @@ impl Size {
     ghost use Rattle.std.specs.Prelude.{◌≡◌};
     ghost use Rattle.etcs_telegram.specs.Telegrams.{user_bits, pad_bits, packet_room, container_bytes};
 
-    /// How many bits stand before PAD.
+    /// How many bits come before PAD.
     pub fn user_bits(self) -> usize
         ensures { result ≡ user_bits self }
     {

@@ -7,7 +7,7 @@ ghost use Rattle.etcs_telegram.specs.Telegrams.{packet_room, closed_bits};
 use crate::header::Header;
 use crate::size::Size;
 use etcs_bits::{BitSlice, Bits};
-use etcs_bodies::Items;
+use etcs_bodies::ListOf;
 use etcs_packets::Packet;
 use etcs_packets::parts::room_left;
 use etcs_tables::CLOSING_BITS;
@@ -21,14 +21,14 @@ use std::marker::Model;
 pub struct Telegram {
     pub(crate) size: Size,
     pub(crate) header: Header,
-    pub(crate) packets: Items<Packet>,
+    pub(crate) packets: ListOf<Packet>,
     pub(crate) fill: Bits,
 }
 
 impl Model for Telegram {
-    ghost use Rattle.etcs_telegram.specs.Telegrams.{TelegramParts, IsTelegram};
+    ghost use Rattle.etcs_telegram.specs.Telegrams.{TelegramContent, IsTelegram};
 
-    ghost Value = { TelegramParts };
+    ghost Value = { TelegramContent };
 
     ghost view = { λ t. record { size = t.size; header = t.header; packets = t.packets; fill = t.fill } };
 
@@ -71,7 +71,7 @@ impl Telegram {
             Ok(fill) => Ok(Telegram {
                 size,
                 header,
-                packets: Items::from_vec(packets),
+                packets: ListOf::from_vec(packets),
                 fill,
             }),
             Err(_) => Err((BuildFault::Memory, packets)),
@@ -109,7 +109,7 @@ impl Telegram {
         Ok(Telegram {
             size,
             header,
-            packets: Items::from_vec(packets),
+            packets: ListOf::from_vec(packets),
             fill,
         })
     }
@@ -135,7 +135,7 @@ impl Telegram {
         self.packets.as_slice()
     }
 
-    /// The FILL bits behind NID_PACKET 255: with no packets 152 of a short telegram, 772 of a long one.
+    /// The FILL bits after NID_PACKET 255: with no packets 152 of a short telegram, 772 of a long one.
     pub fn fill(&self) -> BitSlice<'_>
         ensures { result ≡ self.now.fill }
     {
@@ -161,7 +161,7 @@ fn fill_left(size: Size, packets: &[Packet]) -> Option<usize>
     room_left(size.packet_room() - CLOSING_BITS, packets)
 }
 
-/// So many bits that are all ones.
+/// This many bits that are all ones.
 fn ones(alloc: Global, len: usize) -> Result<Bits, AllocError>
     ensures { IfOk result (λ b. b ≡ replicate len true) }
 {

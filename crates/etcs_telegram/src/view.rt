@@ -13,7 +13,7 @@ use crate::rest::TelegramRest;
 use crate::size::Size;
 use etcs_bits::BitSlice;
 use etcs_reader::{Feeder, Stop};
-use etcs_sequence::parts::{packets, run_at};
+use etcs_sequence::parts::{bits_at, packets};
 use etcs_sequence::{PacketCount, Packets};
 use etcs_vars::Var;
 use std::marker::Model;
@@ -36,7 +36,7 @@ pub struct TelegramView<'a> {
     header: Header,
     /// How many packets there are.
     packets: usize,
-    /// How many bits stand in front of FILL.
+    /// How many bits are in front of FILL.
     end: usize,
 }
 
@@ -57,7 +57,7 @@ impl<'a> TelegramView<'a> {
     /// # Errors
     ///
     /// [`ViewFault::Length`] where they aren't 27 or 104 bytes, as the size asks; else [`ViewFault::Refused`] with the
-    /// first bit with which no telegram goes on and the variable that holds it, as `TelegramReader::feed` answers.
+    /// first bit with which no telegram continues and the variable that holds it, as `TelegramReader::feed` answers.
     pub fn new(bytes: &'a [u8], size: Size) -> Result<TelegramView<'a>, ViewFault>
         ensures length { (result ≡ Err ViewFault.Length) ↔ (length bytes.now ≢ container_bytes size) }
         ensures bytes { IfOk result (λ v. (v.bytes ≡ bytes.now) × (v.size ≡ size)) }
@@ -96,7 +96,7 @@ impl<'a> TelegramView<'a> {
         ensures { (t : TelegramValue) → Sees self.now t → result ≡ spellings t.packets }
     {
         packets(
-            run_at(self.bytes, HEADER_BITS, self.size.packet_room()),
+            bits_at(self.bytes, HEADER_BITS, self.size.packet_room()),
             self.packets,
         )
     }
@@ -105,6 +105,6 @@ impl<'a> TelegramView<'a> {
     pub fn fill(&self) -> BitSlice<'a>
         ensures { (t : TelegramValue) → Sees self.now t → result ≡ t.fill }
     {
-        run_at(self.bytes, self.end, self.size.user_bits() - self.end)
+        bits_at(self.bytes, self.end, self.size.user_bits() - self.end)
     }
 }

@@ -9,14 +9,14 @@ use Rattle.etcs_packets.specs.PacketValues as packet
 use Rattle.etcs_radio.specs.declared.body.RadioHead.{RadioHead}
 use Rattle.etcs_radio.specs.Messages.{typed_message, kept_message}
 use Rattle.etcs_telegram.specs.declared.size.Size.TheVariants.{Short}
-use Rattle.etcs_telegram.specs.Telegrams.{HeaderParts}
+use Rattle.etcs_telegram.specs.Telegrams.{HeaderValue}
 use Rattle.etcs_text.specs.Entries.{of_message, of_telegram}
 use Rattle.etcs_text.specs.Trees.{json_tree, packet_tree, pair_tree}
 
 abbrev head : RadioHead
 head = record { t_train = 0; m_ack = false; nid_lrbg = 16385 }
 
-abbrev header : HeaderParts
+abbrev header : HeaderValue
 header = record { m_version = 16; n_pig = 0; n_total = 1; m_dup = 0; m_mcount = 255; nid_c = 1; nid_bg = 2; q_link = true }
 
 -- an emergency stop

@@ -12,7 +12,7 @@ use Rattle.etcs_text.specs.Messages.{message_text}
 abbrev head : RadioHead
 head = record { t_train = 0; m_ack = false; nid_lrbg = 16385 }
 
--- a packet 137 behind the header, and five bits of PADDING
+-- a packet 137 after the header, and five bits of PADDING
 pub packet_text : message_text (typed_message 24 head [] (packet.typed 137 1 ((Q_SRSTOP, 1) ∷ []) ∷ []) (replicate 5 false)) 1 ≡ codes "item 1 radio 104 bits\n  NID_MESSAGE 24\n  L_MESSAGE 13\n  T_TRAIN 0\n  M_ACK 0\n  NID_LRBG 16385\npacket 137\n  Q_DIR 1\n  L_PACKET 24\n  Q_SRSTOP 1\nend\n  PADDING 5 00000\n"
 unfolding digits num message_text
 packet_text = refl

@@ -41,7 +41,7 @@ pub front_is : (m : Content) → front_reading m ≡ front_variables (message_va
 front_is (Typed head body ps padding) = ap (λ (k : ℕ). head_reading (nid_of_body body) k head ++ body_reading body) (bytes_are (Typed head body ps padding))
 front_is (Kept nid b) = refl
 
--- ---- What stands behind them.
+-- ---- What follows them.
 
 pub padding_few : (m : Content) → padding_bits_of m ≤ 7
 padding_few (Typed head body ps padding) = omega arith
@@ -68,7 +68,7 @@ pub kept_behind : (m : Content) (b : List Bool) → kept_of m ≡ Some b → bit
 kept_behind (Typed head body ps padding) b e = absurd cc
 kept_behind (Kept nid k) b e = let same : k ≡ b = cc in rw same refl
 
--- three texts one behind the other
+-- three texts one after another
 pub three_more : (old a b c one two three : List ℕ) → one ≡ old ++ a → two ≡ one ++ b → three ≡ two ++ c → three ≡ old ++ (a ++ b ++ c)
 three_more old a b c one two three e f g =
     g
@@ -104,7 +104,7 @@ all_small [] h i = omega arith
 all_small (x ∷ xs) h zero = All-get_or (λ b. b < 256) (x ∷ xs) 0 0 (omega arith) h
 all_small (x ∷ xs) h (suc i) = all_small xs (All-drop (λ b. b < 256) 1 (x ∷ xs) h) i
 
--- bytes behind others
+-- bytes after others
 appended : (m : MessageValue) (old new : List ℕ) (r : Reading) → All (λ b. b < 256) old → All (λ b. b < 256) new → MessageReads m r → bits new ≡ bits old ++ spelled r → (added : List ℕ) × IsEncoded (of_message m) added × (new ≡ old ++ added)
 appended m old new r hold hnew reads is =
     let n = length old in

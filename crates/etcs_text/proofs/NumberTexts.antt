@@ -27,7 +27,7 @@ short_text = sym (let text : decimal 210 ≡ codes "210" = decimal-digits_of 210
 pub long_text : codes " ok 830 bits\n" ≡ codes " ok " ++ decimal 830 ++ codes " bits\n"
 long_text = sym (let text : decimal 830 ≡ codes "830" = decimal-digits_of 830 (omega arith) (omega arith) in ap (λ (z : List ℕ). codes " ok " ++ z ++ codes " bits\n") text)
 
--- behind the word and the number of an item, the rest of the line that it was accepted
+-- after the word and the number of an item, the rest of the line that it was accepted
 pub accepted_line : (T E : Type 0) (r : Result T E) (old front new : List ℕ) (item bits wanted : ℕ) → front ≡ old ++ (codes "item " ++ decimal item) → bits ≡ wanted → OnOk r (new ≡ front ++ (codes " ok " ++ decimal bits ++ codes " bits\n")) → OnOk r (new ≡ old ++ (codes "item " ++ decimal item ++ codes " ok " ++ decimal wanted ++ codes " bits\n"))
 accepted_line T E (Ok x) old front new item bits wanted begun same e =
     let item_text = codes "item " ++ decimal item in

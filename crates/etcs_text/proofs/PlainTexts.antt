@@ -23,7 +23,7 @@ plain_bits [] = refl
 plain_bits (true ∷ bs) = ap (λ (z : List ℕ). 49 ∷ z) (plain_bits bs)
 plain_bits (false ∷ bs) = ap (λ (z : List ℕ). 48 ∷ z) (plain_bits bs)
 
--- such a text in quotes, and more behind it
+-- such a text in quotes, and more after it
 pub quoted_plain : (text rest : List ℕ) → escape text ≡ text → quoted text ++ rest ≡ 34 ∷ (text ++ 34 ∷ rest)
 quoted_plain text rest e = ap (λ (z : List ℕ). 34 ∷ z) (append_assoc (escape text) (34 ∷ []) rest ∙ ap (λ (z : List ℕ). z ++ 34 ∷ rest) e)
 

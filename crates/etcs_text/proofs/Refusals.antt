@@ -14,12 +14,12 @@ pub on_ok : {T E : Type 0} (r : Result T E) (old new a b : List ℕ) → a ≡ b
 on_ok (Ok x) old new a b e p = p ∙ ap (λ (z : List ℕ). old ++ z) e
 on_ok (Err f) old new a b e p = tt
 
--- what was there stays, behind a text that was appended
+-- what was there stays, after a text that was appended
 pub on_error : {T E : Type 0} (r : Result T E) (old mid new more : List ℕ) → mid ≡ old ++ more → OnErr r (Begins mid new) → OnErr r (Begins old new)
 on_error (Ok x) old mid new more e p = tt
 on_error (Err f) old mid new more e p = begins_more old mid new more e p
 
--- a text that was appended, in front of what stands behind it
+-- a text that was appended, in front of what follows it
 pub behind_ok : {T E : Type 0} (r : Result T E) (old a one rest new : List ℕ) → one ≡ old ++ a → OnOk r (new ≡ one ++ rest) → OnOk r (new ≡ old ++ (a ++ rest))
 behind_ok (Ok x) old a one rest new e h = h ∙ ap (λ (z : List ℕ). z ++ rest) e ∙ append_assoc old a rest
 behind_ok (Err f) old a one rest new e h = tt

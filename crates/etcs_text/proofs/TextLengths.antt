@@ -22,7 +22,7 @@ use Rattle.etcs_packets.specs.PacketValues as packet
 use Rattle.etcs_packets.specs.PacketReadings.{packet_reading, packets_reading}
 use Rattle.etcs_packets.specs.laws.PacketReadings.{packet_bits}
 use Rattle.etcs_radio.specs.declared.body.RadioHead.{RadioHead}
-use Rattle.etcs_radio.specs.Bodies.{run_of_head}
+use Rattle.etcs_radio.specs.Bodies.{head_variables}
 use Rattle.etcs_radio.proofs.Bodies.{head_length as head_long}
 use Rattle.etcs_radio.specs.Messages.{MessageValue, typed_message, kept_message, MessageReads, TypedReads, head_reading}
 use Rattle.etcs_radio.proofs.Bytes.{one_bits, pad_bits as padding_bits}
@@ -70,7 +70,7 @@ special_short : (v : Var) (n : ℕ) → length (special_text (special v n)) ≤ 
 special_short Q_UPDOWN n = omega arith
 special_short v n = grind arith
 
--- what stands behind its two blanks, but for the blank and the LF
+-- what follows its two blanks, but for the blank and the LF
 parts_short : (v : Var) (n : ℕ) → length (decimal n) ≤ 20 → length (name v) + (length (number_text v n) + length (special_text (special v n))) ≤ 64
 parts_short v n h = omega (arith, name_short v, number_short v n h, special_short v n)
 
@@ -330,7 +330,7 @@ digits_long bs =
     let e = ap length (plain_bits bs) in
     omega (arith, l, e, length-map bs bit_digit)
 
--- texts one behind the other
+-- texts one after another
 abbrev joined : List (List ℕ) → List ℕ
 joined [] = []
 joined (x ∷ xs) = x ++ joined xs
@@ -430,9 +430,9 @@ message_json_short (typed_message nid head body vs padding) r x =
     let whole : AllFit r = radio.fit r (m, x) in
     let shape : AllFit (((head_reading nid x.len head ++ body) ++ packets_reading vs) ++ kept PADDING padding) = subst AllFit x.reading_is whole in
     let fields = pairs_json_short body (fit_behind (head_reading nid len head) body fits) in
-    let header = pairs_json_short (run_of_head head) headed.1.1 in
+    let header = pairs_json_short (head_variables head) headed.1.1 in
     let packets = packets_json_short vs (fit_behind (head_reading nid x.len head ++ body) (packets_reading vs) (fit_front ((head_reading nid x.len head ++ body) ++ packets_reading vs) (kept PADDING padding) shape)) in
-    let parts = codes "{\"fields\":" ∷ compact_text (pairs_tree body) ∷ codes ",\"header\":" ∷ compact_text (pairs_tree (run_of_head head)) ∷ codes ",\"kind\":\"radio\",\"nid\":" ∷ decimal nid ∷ codes ",\"packets\":" ∷ compact_text (packets_tree vs) ∷ codes ",\"padding\":" ∷ quoted (map bit_digit padding) ∷ codes "}" ∷ [] in
+    let parts = codes "{\"fields\":" ∷ compact_text (pairs_tree body) ∷ codes ",\"header\":" ∷ compact_text (pairs_tree (head_variables head)) ∷ codes ",\"kind\":\"radio\",\"nid\":" ∷ decimal nid ∷ codes ",\"packets\":" ∷ compact_text (packets_tree vs) ∷ codes ",\"padding\":" ∷ quoted (map bit_digit padding) ∷ codes "}" ∷ [] in
     let l : length (compact_text (message_tree m)) ≡ total parts = joined_long parts in
     omega (arith, l, fields, header, packets, digits_long padding, decimal_short nid (small_number NID_MESSAGE nid headed.0), head_long head, w.0, w.1)
 message_json_short (kept_message nid b) r x =

@@ -1,4 +1,4 @@
--- Bits as digits, and lines one behind the other.
+-- Bits as digits, and lines one after another.
 use Rattle.std.proofs.Common.{◌≡◌, ℕ, ◌+◌, ◌-◌, ◌/◌, ◌%◌, ◌^◌, ◌<◌, ◌≤◌, Bool, false, List, [], ◌∷◌, ◌++◌, length, take, get_or, map, flat_map, set, Some, None, cond, Result, Ok, Err, sym, ap, ◌∙◌, arith, append_assoc}
 use Rattle.std.specs.Prelude.{bit_and, OnOk, codes}
 use Rattle.std.specs.Result.{is_ok}
@@ -18,7 +18,7 @@ use Rattle.etcs_bits.proofs.Numbers.{length-num, bit-eqb, num-value}
 use Rattle.etcs_bits.proofs.Lists.{length-part}
 use Rattle.etcs_bits.proofs.Positions.{num_at}
 use Rattle.etcs_telegram.specs.declared.size.Size.{Size}
-use Rattle.etcs_telegram.specs.Telegrams.{TelegramParts, telegram_value, HeaderParts, header_reading}
+use Rattle.etcs_telegram.specs.Telegrams.{TelegramContent, telegram_value, HeaderValue, header_reading}
 use Rattle.etcs_packets.specs.PacketValues.{PacketValue, packet_value}
 use Rattle.etcs_text.specs.Show.{bit_digit, variable_line, item_line, fill_line}
 use Rattle.etcs_text.specs.Telegrams.{show_text}
@@ -69,14 +69,14 @@ regroup old a b c d =
     ∙ ap (λ (z : List ℕ). z ++ d) (append_assoc old (a ++ b) c)
     ∙ append_assoc old ((a ++ b) ++ c) d
 
--- four texts one behind the other
+-- four texts one after another
 four_more : (old a b c d one two three four : List ℕ) → one ≡ old ++ a → two ≡ one ++ b → three ≡ two ++ c → four ≡ three ++ d → four ≡ old ++ (a ++ b ++ c ++ d)
 four_more old a b c d one two three four e f g h =
     h
     ∙ ap (λ (z : List ℕ). z ++ d) (g ∙ ap (λ (z : List ℕ). z ++ c) (f ∙ ap (λ (z : List ℕ). z ++ b) e))
     ∙ regroup old a b c d
 
--- five texts one behind the other
+-- five texts one after another
 pub five_more : (old a b c d e one two three four five : List ℕ) → one ≡ old ++ a → two ≡ one ++ b → three ≡ two ++ c → four ≡ three ++ d → five ≡ four ++ e → five ≡ old ++ (a ++ b ++ c ++ d ++ e)
 five_more old a b c d e one two three four five f g h k l =
     l ∙ ap (λ (z : List ℕ). z ++ e) (four_more old a b c d one two three four f g h k) ∙ append_assoc old (a ++ b ++ c ++ d) e
@@ -87,7 +87,7 @@ on_extended T E (Ok x) old new xs ys e s = e ∙ ap (λ (z : List ℕ). old ++ z
 on_extended T E (Err f) old new xs ys e s = tt
 
 -- the text of a telegram with packets, part by part
-pub packets_telegram_text : (size size' : Size) (item : ℕ) (header header' : HeaderParts) (packets packets' : List PacketValue) (fill fill' : List Bool) (old one two three four five : List ℕ) → size ≡ size' → header ≡ header' → packets ≡ packets' → fill ≡ fill' → one ≡ old ++ item_line size item → two ≡ one ++ flat_map variable_line (header_reading header) → three ≡ two ++ packets_text packets → four ≡ three ++ codes "packet 255\n" → five ≡ four ++ fill_line fill → five ≡ old ++ (item_line size' item ++ flat_map variable_line (header_reading header') ++ packets_text packets' ++ codes "packet 255\n" ++ fill_line fill')
+pub packets_telegram_text : (size size' : Size) (item : ℕ) (header header' : HeaderValue) (packets packets' : List PacketValue) (fill fill' : List Bool) (old one two three four five : List ℕ) → size ≡ size' → header ≡ header' → packets ≡ packets' → fill ≡ fill' → one ≡ old ++ item_line size item → two ≡ one ++ flat_map variable_line (header_reading header) → three ≡ two ++ packets_text packets → four ≡ three ++ codes "packet 255\n" → five ≡ four ++ fill_line fill → five ≡ old ++ (item_line size' item ++ flat_map variable_line (header_reading header') ++ packets_text packets' ++ codes "packet 255\n" ++ fill_line fill')
 packets_telegram_text size size' item header header' packets packets' fill fill' old one two three four five s h p f e g k l m =
     let a = item_line size' item in
     let b = flat_map variable_line (header_reading header') in
@@ -99,7 +99,7 @@ packets_telegram_text size size' item header header' packets packets' fill fill'
     let five' : five ≡ four ++ fill_line fill' = m ∙ ap (λ z. four ++ fill_line z) f in
     five_more old a b c d (fill_line fill') one two three four five one' two' three' l five'
 
-pub telegram_text : (t : TelegramParts) (item : ℕ) (size : Size) (header : HeaderParts) (packets : List PacketValue) (fill : List Bool) (old one two three four five : List ℕ) → size ≡ t.size → header ≡ t.header → packets ≡ map packet_value t.packets → fill ≡ t.fill → one ≡ old ++ item_line size item → two ≡ one ++ flat_map variable_line (header_reading header) → three ≡ two ++ packets_text packets → four ≡ three ++ codes "packet 255\n" → five ≡ four ++ fill_line fill → five ≡ old ++ show_text (telegram_value t) item
+pub telegram_text : (t : TelegramContent) (item : ℕ) (size : Size) (header : HeaderValue) (packets : List PacketValue) (fill : List Bool) (old one two three four five : List ℕ) → size ≡ t.size → header ≡ t.header → packets ≡ map packet_value t.packets → fill ≡ t.fill → one ≡ old ++ item_line size item → two ≡ one ++ flat_map variable_line (header_reading header) → three ≡ two ++ packets_text packets → four ≡ three ++ codes "packet 255\n" → five ≡ four ++ fill_line fill → five ≡ old ++ show_text (telegram_value t) item
 unfolding show_text
 telegram_text t item size header packets fill old one two three four five s h p f e g k l m = packets_telegram_text size t.size item header t.header packets (map packet_value t.packets) fill t.fill old one two three four five s h p f e g k l m
 

@@ -14,12 +14,12 @@ use Rattle.etcs_radio.specs.declared.body.Body.{Body}
 use Rattle.etcs_radio.specs.declared.body.RadioHead.{RadioHead}
 use Rattle.etcs_radio.specs.declared.message.Content.{Content}
 use Rattle.etcs_radio.specs.declared.message.Content.TheVariants.{Typed, Kept}
-use Rattle.etcs_radio.specs.Bodies.{body_reading, nid_of_body, run_of_head}
+use Rattle.etcs_radio.specs.Bodies.{body_reading, nid_of_body, head_variables}
 use Rattle.etcs_radio.specs.Messages.{message_value}
 use Rattle.etcs_radio.specs.Readings.{body_of, head_of, kept_of, nid_of_message, padding_bits_of}
 use Rattle.etcs_telegram.specs.declared.size.Size.{Size}
 use Rattle.etcs_telegram.specs.declared.size.Size.TheVariants.{Short, Long}
-use Rattle.etcs_telegram.specs.Telegrams.{HeaderParts, header_reading}
+use Rattle.etcs_telegram.specs.Telegrams.{HeaderValue, header_reading}
 use Rattle.etcs_text.specs.Fronts.{Begins}
 use Rattle.etcs_text.specs.laws.Fronts.{begins_more}
 use Rattle.etcs_text.specs.JsonParts.{fields_text, is_kept, message_behind, message_front, telegram_text}
@@ -41,7 +41,7 @@ closed_ok (Ok x) f old text new s xs is t e =
     ∙ append_assoc old (91 ∷ []) (items_text false (items_of (map f xs)))
 closed_ok (Err x) f old text new s xs is t e = tt
 
--- what was there stays, behind a bracket and items
+-- what was there stays, after a bracket and items
 pub list_begins : {A : Type 0} (f : A → Data) (old new : List ℕ) (s : Listed) (xs : List A) → s ≡ with_each f (old ++ 91 ∷ [], false) xs → Begins s.0 new → Begins old new
 list_begins f old new s xs is h =
     begins_more old (old ++ 91 ∷ []) new (91 ∷ []) refl (each_begins f (old ++ 91 ∷ [], false) xs new (subst (λ (t : Listed). Begins t.0 new) is h))
@@ -71,7 +71,7 @@ sent_packet (kept nid dir b) h = absurd cc
 
 -- ---- Telegrams.
 
-pub telegram_is : (size : Size) (header : HeaderParts) (packets : List PacketValue) (fill : List Bool) → telegram_text (record { size = size; header = header; packets = packets; fill = fill }) ≡ compact_text (telegram_tree (record { size = size; header = header; packets = packets; fill = fill }))
+pub telegram_is : (size : Size) (header : HeaderValue) (packets : List PacketValue) (fill : List Bool) → telegram_text (record { size = size; header = header; packets = packets; fill = fill }) ≡ compact_text (telegram_tree (record { size = size; header = header; packets = packets; fill = fill }))
 unfolding escape_byte
 telegram_is Short header packets fill =
     ap (λ (z : List ℕ). codes "{\"fill\":" ++ z) (sym (quoted_bits fill (codes ",\"header\":" ++ (compact_text (pairs_tree (header_reading header)) ++ (codes ",\"kind\":\"short\",\"packets\":" ++ (compact_text (packets_tree packets) ++ codes "}"))))))
@@ -93,7 +93,7 @@ typed_is (Typed head body ps padding) h b e g =
     let same_head : h ≡ head = cc in
     let same_body : b ≡ body = cc in
     let x = compact_text (pairs_tree (body_reading body)) in
-    let y = compact_text (pairs_tree (run_of_head head)) in
+    let y = compact_text (pairs_tree (head_variables head)) in
     let p = compact_text (packets_tree (map packet_value ps)) in
     let n = decimal (nid_of_body body) in
     let bits = num (padding_bits_of m) padding in

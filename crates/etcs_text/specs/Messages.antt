@@ -26,7 +26,7 @@ abbrev pub front_variables : MessageValue → Reading
 front_variables (typed_message nid head body vs padding) = head_reading nid (message_bytes (typed_message nid head body vs padding)) head ++ body
 front_variables (kept_message nid b) = (NID_MESSAGE, nid) ∷ (L_MESSAGE, message_bytes (kept_message nid b)) ∷ []
 
--- what stands behind them: packets, an end and PADDING, or the bits that are kept
+-- what follows them: packets, an end and PADDING, or the bits that are kept
 abbrev pub behind_lines : MessageValue → List ℕ
 behind_lines (typed_message nid head body vs padding) = packets_text vs ++ codes "end\n" ++ bits_line (codes "PADDING") padding
 behind_lines (kept_message nid b) = bits_line (codes "OTHER_DATA") b

@@ -16,7 +16,7 @@ frame_lines (marker n) = []
 frame_lines (typed nid dir r) = variable_line (Q_DIR, dir) ++ variable_line (L_PACKET, 23 + length (spelled r))
 frame_lines (kept nid dir b) = variable_line (Q_DIR, dir) ++ variable_line (L_PACKET, 23 + length b)
 
--- what stands behind them: its variables, or the bits that are kept
+-- what follows them: its variables, or the bits that are kept
 abbrev pub body_lines : PacketValue → List ℕ
 body_lines (marker n) = variable_line (NID_VBCMK, n)
 body_lines (typed nid dir r) = flat_map variable_line r
@@ -26,6 +26,6 @@ body_lines (kept nid dir b) = bits_line (codes "OTHER_DATA") b
 abbrev pub packet_text : PacketValue → List ℕ
 packet_text v = packet_line (nid_of v) ++ frame_lines v ++ body_lines v
 
--- the text of packets one behind the other
+-- the text of packets one after another
 abbrev pub packets_text : List PacketValue → List ℕ
 packets_text vs = flat_map packet_text vs

@@ -5,11 +5,11 @@ use Rattle.serde_json.specs.Written.{comma_if, compact_text}
 use Rattle.etcs_vars.specs.Reading.{Reading}
 use Rattle.etcs_text.specs.Trees.{pair_tree}
 
--- a text, and whether an item of the list stands at its end
+-- a text, and whether an item of the list is at its end
 abbrev pub Listed : Type 0
 Listed = List ℕ × Bool
 
--- one more item, behind a comma where it isn't the first
+-- one more item, after a comma where it isn't the first
 abbrev pub with_item : Listed → Data → Listed
 with_item s d = (s.0 ++ (comma_if s.1 ++ compact_text d), true)
 

@@ -1,4 +1,4 @@
--- The text of an item: a line for it, one for each variable, and one for the bits behind the last packet.
+-- The text of an item: a line for it, one for each variable, and one for the bits after the last packet.
 use Rattle.std.specs.Prelude.{ℕ, zero, suc, ◌+◌, ◌-◌, ◌/◌, ◌%◌, Bool, List, [], ◌∷◌, ◌++◌, length, map, Option, Some, None, codes, nat_lt, if◌then◌else◌}
 use Rattle.std.specs.Fmt.{decimal}
 use Rattle.etcs_bits.specs.Bits.{bit}
@@ -18,7 +18,7 @@ kind_word Long = codes "long"
 abbrev pub item_line : Size → ℕ → List ℕ
 item_line size item = codes "item " ++ decimal item ++ codes " " ++ kind_word size ++ codes " " ++ decimal (user_bits size) ++ codes " bits\n"
 
--- what stands behind a number that has a meaning of its own
+-- what follows a number that has a meaning of its own
 abbrev pub special_text : Option (List ℕ) → List ℕ
 special_text None = []
 special_text (Some text) = codes " (" ++ text ++ codes ")"
@@ -27,7 +27,7 @@ special_text (Some text) = codes " (" ++ text ++ codes ")"
 abbrev pub hex_digit : ℕ → ℕ
 hex_digit d = if nat_lt d 10 then 48 + d else 87 + d
 
--- the last digits of a number in hexadecimal, so many of them
+-- the last digits of a number in hexadecimal, this many of them
 abbrev pub hex_digits : ℕ → ℕ → List ℕ
 hex_digits zero n = []
 hex_digits (suc count) n = hex_digits count (n / 16) ++ hex_digit (n % 16) ∷ []
@@ -42,7 +42,7 @@ number_text NID_RADIO n = hex_digits 16 n
 number_text D_REF n = signed_text n
 number_text v n = decimal n
 
--- what stands before it in its line
+-- what comes before it in its line
 abbrev pub line_front : Var → List ℕ
 line_front v = codes "  " ++ name v ++ codes " "
 
@@ -63,6 +63,6 @@ bits_text (b ∷ bs) = codes " " ++ map bit_digit (b ∷ bs)
 abbrev pub bits_line : List ℕ → List Bool → List ℕ
 bits_line text bs = codes "  " ++ text ++ codes " " ++ decimal (length bs) ++ bits_text bs ++ codes "\n"
 
--- the bits behind the last packet
+-- the bits after the last packet
 abbrev pub fill_line : List Bool → List ℕ
 fill_line bs = bits_line (codes "FILL") bs

@@ -8,7 +8,7 @@ use Rattle.etcs_vars.specs.Vars.{name}
 use Rattle.etcs_vars.specs.Reading.{Reading, Sent}
 use Rattle.etcs_packets.specs.PacketValues.{PacketValue, marker, typed, kept}
 use Rattle.etcs_telegram.specs.Telegrams.{TelegramValue, header_reading}
-use Rattle.etcs_radio.specs.Bodies.{run_of_head}
+use Rattle.etcs_radio.specs.Bodies.{head_variables}
 use Rattle.etcs_radio.specs.Messages.{MessageValue, typed_message, kept_message}
 use Rattle.etcs_text.specs.Entries.{EntryValue, of_telegram, of_message}
 use Rattle.etcs_text.specs.Show.{bit_digit, hex_digits, kind_word}
@@ -43,7 +43,7 @@ telegram_tree t = object (member (codes "fill") (bits_tree t.fill) (member (code
 
 -- L_MESSAGE follows from the rest
 abbrev pub message_tree : MessageValue → Data
-message_tree (typed_message nid head body vs padding) = object (member (codes "fields") (pairs_tree body) (member (codes "header") (pairs_tree (run_of_head head)) (member (codes "kind") (string (codes "radio")) (member (codes "nid") (number (unsigned nid)) (member (codes "packets") (packets_tree vs) (member (codes "padding") (bits_tree padding) no_members))))))
+message_tree (typed_message nid head body vs padding) = object (member (codes "fields") (pairs_tree body) (member (codes "header") (pairs_tree (head_variables head)) (member (codes "kind") (string (codes "radio")) (member (codes "nid") (number (unsigned nid)) (member (codes "packets") (packets_tree vs) (member (codes "padding") (bits_tree padding) no_members))))))
 message_tree (kept_message nid b) = object (member (codes "data") (bits_tree b) (member (codes "kind") (string (codes "radio")) (member (codes "nid") (number (unsigned nid)) no_members)))
 
 abbrev pub json_tree : EntryValue → Data

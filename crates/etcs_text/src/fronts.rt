@@ -1,4 +1,4 @@
-//! What stands before the number of a variable, in its line and in its pair.
+//! What comes before the number of a variable, in its line and in its pair.
 
 ghost use Rattle.std.specs.Prelude.{◌≡◌, ◌∷◌, ◌++◌};
 ghost use Rattle.serde_json.specs.Written.{comma_if};
@@ -30,7 +30,7 @@ pub(crate) fn line_front(var: Var) -> &'static [u8]
     LINE_FRONTS[var as usize].as_bytes()
 }
 
-/// The front of a pair behind another.
+/// The front of a pair after another.
 #[tactic(auto, unfolding(json::specs::Print::escape_byte))]
 #[inline]
 fn listed_front(var: Var) -> &'static [u8]

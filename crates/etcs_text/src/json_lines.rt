@@ -14,9 +14,9 @@ ghost use Rattle.etcs_text.specs.Show.{bit_digit};
 ghost use Rattle.etcs_text.specs.Trees.{json_tree, message_tree, telegram_tree};
 
 use crate::entry::Entry;
-use crate::json_packets::push_packets;
-use crate::pairs::push_run;
-use crate::text::{push_bits, push_decimal, push_decimal_and, push_slice};
+use crate::json_packets::write_packets;
+use crate::pairs::write_variables;
+use crate::text::{write_bits, write_decimal, write_decimal_and, write_slice};
 use etcs_bits::BitSlice;
 use etcs_radio::{Body, Message, RadioHead};
 use etcs_telegram::{Size, Telegram};
@@ -33,54 +33,54 @@ fn kind_member(size: Size) -> &'static [u8]
 }
 
 /// Appends a telegram.
-fn push_telegram(telegram: &Telegram, out: &mut Vec<u8>) -> Result<(), AllocError>
+fn write_telegram(telegram: &Telegram, out: &mut Vec<u8>) -> Result<(), AllocError>
     ensures ok { OnOk result (out.new.items ≡ out.old.items ++ compact_text (telegram_tree (telegram_value telegram.now))) }
     ensures err { OnErr result (Begins out.old.items out.new.items) }
 {
     out.extend_from_slice(b"{\"fill\":\"")?;
-    push_slice(&telegram.fill(), out)?;
+    write_slice(&telegram.fill(), out)?;
     out.extend_from_slice(b"\",\"header\":")?;
-    push_run(telegram.header(), out)?;
+    write_variables(telegram.header(), out)?;
     out.extend_from_slice(kind_member(telegram.size()))?;
-    push_packets(telegram.packets(), out)?;
+    write_packets(telegram.packets(), out)?;
     out.extend_from_slice(b"}")
 }
 
 /// Appends the digits of PADDING.
-fn push_padding(message: &Message, out: &mut Vec<u8>) -> Result<(), AllocError>
+fn write_padding(message: &Message, out: &mut Vec<u8>) -> Result<(), AllocError>
     ensures ok { OnOk result (out.new.items ≡ out.old.items ++ map bit_digit (num (padding_bits_of message.now) (padding_of message.now))) }
     ensures err { OnErr result (Begins out.old.items out.new.items) }
 {
     let (count, number) = message.padding();
-    push_bits(u64::from(number), count, out)
+    write_bits(u64::from(number), count, out)
 }
 
 /// Appends the members of a typed message in front of its number.
-fn push_front(head: &RadioHead, body: &Body, out: &mut Vec<u8>) -> Result<(), AllocError>
+fn write_front(head: &RadioHead, body: &Body, out: &mut Vec<u8>) -> Result<(), AllocError>
     ensures ok { OnOk result (out.new.items ≡ out.old.items ++ message_front head.now body.now) }
     ensures err { OnErr result (Begins out.old.items out.new.items) }
 {
     out.extend_from_slice(b"{\"fields\":")?;
-    push_run(body, out)?;
+    write_variables(body, out)?;
     out.extend_from_slice(b",\"header\":")?;
-    push_run(head, out)?;
+    write_variables(head, out)?;
     out.extend_from_slice(b",\"kind\":\"radio\",\"nid\":")
 }
 
-/// Appends the members of a typed message behind its number.
-fn push_behind(message: &Message, out: &mut Vec<u8>) -> Result<(), AllocError>
+/// Appends the members of a typed message after its number.
+fn write_behind(message: &Message, out: &mut Vec<u8>) -> Result<(), AllocError>
     ensures ok { OnOk result (out.new.items ≡ out.old.items ++ message_behind message.now) }
     ensures err { OnErr result (Begins out.old.items out.new.items) }
 {
     out.extend_from_slice(b",\"packets\":")?;
-    push_packets(message.packets(), out)?;
+    write_packets(message.packets(), out)?;
     out.extend_from_slice(b",\"padding\":\"")?;
-    push_padding(message, out)?;
+    write_padding(message, out)?;
     out.extend_from_slice(b"\"}")
 }
 
 /// Appends a typed message, whose head and body these are.
-fn push_typed(
+fn write_typed(
     message: &Message,
     head: &RadioHead,
     body: &Body,
@@ -91,58 +91,58 @@ fn push_typed(
     ensures ok { OnOk result (out.new.items ≡ out.old.items ++ compact_text (message_tree (message_value message.now))) }
     ensures err { OnErr result (Begins out.old.items out.new.items) }
 {
-    push_front(head, body, out)?;
-    push_decimal(u64::from(message.nid()), out)?;
-    push_behind(message, out)
+    write_front(head, body, out)?;
+    write_decimal(u64::from(message.nid()), out)?;
+    write_behind(message, out)
 }
 
 /// Appends a message that is kept as these bits.
-fn push_kept(message: &Message, bits: &BitSlice<'_>, out: &mut Vec<u8>) -> Result<(), AllocError>
+fn write_kept(message: &Message, bits: &BitSlice<'_>, out: &mut Vec<u8>) -> Result<(), AllocError>
     requires { kept_of message.now ≡ Some bits.now }
     ensures ok { OnOk result (out.new.items ≡ out.old.items ++ compact_text (message_tree (message_value message.now))) }
     ensures err { OnErr result (Begins out.old.items out.new.items) }
 {
     out.extend_from_slice(b"{\"data\":\"")?;
-    push_slice(bits, out)?;
+    write_slice(bits, out)?;
     out.extend_from_slice(b"\",\"kind\":\"radio\",\"nid\":")?;
-    push_decimal_and(u64::from(message.nid()), b'}', out)
+    write_decimal_and(u64::from(message.nid()), b'}', out)
 }
 
 /// Appends a message.
-fn push_message(message: &Message, out: &mut Vec<u8>) -> Result<(), AllocError>
+fn write_message(message: &Message, out: &mut Vec<u8>) -> Result<(), AllocError>
     ensures ok { OnOk result (out.new.items ≡ out.old.items ++ compact_text (message_tree (message_value message.now))) }
     ensures err { OnErr result (Begins out.old.items out.new.items) }
 {
     match (message.head(), message.body(), message.kept_bits()) {
-        (Some(head), Some(body), _) => push_typed(message, head, body, out),
-        (_, _, Some(bits)) => push_kept(message, &bits, out),
+        (Some(head), Some(body), _) => write_typed(message, head, body, out),
+        (_, _, Some(bits)) => write_kept(message, &bits, out),
         _ => unreachable!(),
     }
 }
 
 /// Appends an entry.
-fn push_entry(entry: &Entry, out: &mut Vec<u8>) -> Result<(), AllocError>
+fn write_entry(entry: &Entry, out: &mut Vec<u8>) -> Result<(), AllocError>
     ensures ok { OnOk result (out.new.items ≡ out.old.items ++ compact_text (json_tree (entry_value entry.now))) }
     ensures err { OnErr result (Begins out.old.items out.new.items) }
 {
     match entry {
-        Entry::Telegram(telegram) => push_telegram(telegram, out),
-        Entry::Message(message) => push_message(message, out),
+        Entry::Telegram(telegram) => write_telegram(telegram, out),
+        Entry::Message(message) => write_message(message, out),
     }
 }
 
 /// Appends an entry and a LF.
-fn push_line(entry: &Entry, out: &mut Vec<u8>) -> Result<(), AllocError>
+fn write_line(entry: &Entry, out: &mut Vec<u8>) -> Result<(), AllocError>
     ensures ok { OnOk result (out.new.items ≡ out.old.items ++ (compact_text (json_tree (entry_value entry.now)) ++ 10 ∷ [])) }
     ensures err { OnErr result (Begins out.old.items out.new.items) }
 {
-    push_entry(entry, out)?;
+    write_entry(entry, out)?;
     out.extend_from_slice(b"\n")
 }
 
 /// Appends the entry's JSON on a line: its compact text and a LF, or nothing.
 ///
-/// The members stand in the order of their names. A telegram has `fill`, `header`, `kind` and `packets`, a typed message
+/// The members are in the order of their names. A telegram has `fill`, `header`, `kind` and `packets`, a typed message
 /// `fields`, `header`, `kind`, `nid`, `packets` and `padding`, and one that is kept as bits `data`, `kind` and `nid`. A
 /// packet has `dir` (but for packet 0), `fields` and `nid`, or `data`, `dir` and `nid` where it is kept as bits. Bits are
 /// a text of digits 0 and 1. A variable is a pair of its name and its number, that of NID_RADIO as a text of sixteen
@@ -156,9 +156,9 @@ pub fn json_line(entry: &Entry, out: &mut Vec<u8>) -> Result<(), AllocError>
     ensures err { OnErr result (out.new.items ≡ out.old.items) }
 {
     let len = out.len();
-    let pushed = push_line(entry, out);
-    if pushed.is_err() {
+    let written = write_line(entry, out);
+    if written.is_err() {
         out.truncate(len);
     }
-    pushed
+    written
 }

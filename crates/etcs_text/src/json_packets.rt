@@ -8,21 +8,21 @@ ghost use Rattle.etcs_text.specs.Fronts.{Begins};
 ghost use Rattle.etcs_text.specs.JsonParts.{fields_front, fields_text, is_kept};
 ghost use Rattle.etcs_text.specs.Trees.{packet_tree, packets_tree};
 
-use crate::pairs::push_fields;
-use crate::text::{push_decimal_and, push_slice};
+use crate::pairs::write_fields;
+use crate::text::{write_decimal_and, write_slice};
 use etcs_packets::parts::dir;
 use etcs_packets::{Other, Packet};
 use std::alloc::AllocError;
 
-/// Appends what stands in front of a packet's fields.
-fn push_front(packet: &Packet, out: &mut Vec<u8>) -> Result<(), AllocError>
+/// Appends what is in front of a packet's fields.
+fn write_front(packet: &Packet, out: &mut Vec<u8>) -> Result<(), AllocError>
     ensures ok { OnOk result (out.new.items ≡ out.old.items ++ fields_front (dir_of (packet_value packet.now))) }
     ensures err { OnErr result (Begins out.old.items out.new.items) }
 {
     match dir(packet) {
         Some(dir) => {
             out.extend_from_slice(b"{\"dir\":")?;
-            push_decimal_and(u64::from(dir), b',', out)?;
+            write_decimal_and(u64::from(dir), b',', out)?;
             out.extend_from_slice(b"\"fields\":")
         }
         None => out.extend_from_slice(b"{\"fields\":"),
@@ -30,27 +30,27 @@ fn push_front(packet: &Packet, out: &mut Vec<u8>) -> Result<(), AllocError>
 }
 
 /// Appends a packet with its fields.
-fn push_sent(packet: &Packet, out: &mut Vec<u8>) -> Result<(), AllocError>
+fn write_sent(packet: &Packet, out: &mut Vec<u8>) -> Result<(), AllocError>
     ensures ok { OnOk result (out.new.items ≡ out.old.items ++ fields_text (packet_value packet.now)) }
     ensures err { OnErr result (Begins out.old.items out.new.items) }
 {
-    push_front(packet, out)?;
-    push_fields(packet, out)?;
+    write_front(packet, out)?;
+    write_fields(packet, out)?;
     out.extend_from_slice(b",\"nid\":")?;
-    push_decimal_and(u64::from(packet.nid()), b'}', out)
+    write_decimal_and(u64::from(packet.nid()), b'}', out)
 }
 
 /// Appends a packet that is kept as bits.
-fn push_kept(kept: &Other, out: &mut Vec<u8>) -> Result<(), AllocError>
+fn write_kept(kept: &Other, out: &mut Vec<u8>) -> Result<(), AllocError>
     ensures ok { OnOk result (out.new.items ≡ out.old.items ++ compact_text (packet_tree (value.kept kept.now.nid kept.now.dir kept.now.body))) }
     ensures err { OnErr result (Begins out.old.items out.new.items) }
 {
     out.extend_from_slice(b"{\"data\":\"")?;
-    push_slice(&kept.body(), out)?;
+    write_slice(&kept.body(), out)?;
     out.extend_from_slice(b"\",\"dir\":")?;
-    push_decimal_and(u64::from(kept.dir()), b',', out)?;
+    write_decimal_and(u64::from(kept.dir()), b',', out)?;
     out.extend_from_slice(b"\"nid\":")?;
-    push_decimal_and(u64::from(kept.nid()), b'}', out)
+    write_decimal_and(u64::from(kept.nid()), b'}', out)
 }
 
 /// The packet, where it is kept as bits.
@@ -65,36 +65,36 @@ fn kept_of(packet: &Packet) -> Option<&Other>
 }
 
 /// Appends a packet.
-fn push_packet(packet: &Packet, out: &mut Vec<u8>) -> Result<(), AllocError>
+fn write_packet(packet: &Packet, out: &mut Vec<u8>) -> Result<(), AllocError>
     ensures ok { OnOk result (out.new.items ≡ out.old.items ++ compact_text (packet_tree (packet_value packet.now))) }
     ensures err { OnErr result (Begins out.old.items out.new.items) }
 {
     match kept_of(packet) {
-        Some(kept) => push_kept(kept, out),
-        None => push_sent(packet, out),
+        Some(kept) => write_kept(kept, out),
+        None => write_sent(packet, out),
     }
 }
 
-/// Appends a packet, behind a comma where it isn't the first of its list.
-fn push_item(later: bool, packet: &Packet, out: &mut Vec<u8>) -> Result<(), AllocError>
+/// Appends a packet, after a comma where it isn't the first of its list.
+fn write_item(later: bool, packet: &Packet, out: &mut Vec<u8>) -> Result<(), AllocError>
     ensures ok { OnOk result (out.new.items ≡ out.old.items ++ (comma_if later ++ compact_text (packet_tree (packet_value packet.now)))) }
     ensures err { OnErr result (Begins out.old.items out.new.items) }
 {
     if later {
         out.extend_from_slice(b",")?;
     }
-    push_packet(packet, out)
+    write_packet(packet, out)
 }
 
 /// Appends packets as a list.
-pub(crate) fn push_packets(packets: &[Packet], out: &mut Vec<u8>) -> Result<(), AllocError>
+pub(crate) fn write_packets(packets: &[Packet], out: &mut Vec<u8>) -> Result<(), AllocError>
     ensures ok { OnOk result (out.new.items ≡ out.old.items ++ compact_text (packets_tree (map packet_value packets.now))) }
     ensures err { OnErr result (Begins out.old.items out.new.items) }
 {
     out.extend_from_slice(b"[")?;
     let mut later = false;
     for packet in packets {
-        push_item(later, packet, out)?;
+        write_item(later, packet, out)?;
         later = true;
     }
     out.extend_from_slice(b"]")

@@ -7,12 +7,12 @@ ghost use Rattle.etcs_text.specs.Fronts.{Begins};
 ghost use Rattle.etcs_text.specs.Show.{variable_line};
 ghost use Rattle.etcs_text.specs.Packets.{body_lines, frame_lines, packet_line, packet_text, packets_text};
 
-use crate::text::push_decimal_line;
-use crate::variables::{push_bits_line, push_variable};
+use crate::text::write_decimal_line;
+use crate::variables::{write_bits_line, write_variable};
 use etcs_packets::Packet;
 use etcs_packets::parts::{dir, send};
 use etcs_vars::Var;
-use etcs_vars::parts::Sink;
+use etcs_vars::parts::VarSink;
 use std::alloc::AllocError;
 use std::marker::Model;
 use std::mem;
@@ -32,7 +32,7 @@ impl Model for LineSink {
 }
 
 impl LineSink {
-    /// A sink behind the text, which is taken.
+    /// A sink after the text, which is taken.
     pub(crate) fn open(text: &mut Vec<u8>) -> LineSink
         ensures { result ≡ text.old.items }
     {
@@ -51,7 +51,7 @@ impl LineSink {
     }
 }
 
-impl Sink for LineSink {
+impl VarSink for LineSink {
     ghost use Rattle.etcs_text.specs.Fronts.{Begins};
     ghost use Rattle.etcs_text.specs.LineSinks.{with_lines};
     ghost use Rattle.etcs_text.specs.laws.LineSinks.{with_lines_begins, with_lines_both, with_lines_none};
@@ -68,43 +68,43 @@ impl Sink for LineSink {
 
     fn send(&mut self, sent: &[(Var, u64)]) -> Result<(), AllocError> {
         for pair in sent {
-            push_variable(pair.0, pair.1, &mut self.text)?;
+            write_variable(pair.0, pair.1, &mut self.text)?;
         }
         Ok(())
     }
 }
 
 /// Appends the line of a packet's number.
-fn push_number_line(nid: u8, out: &mut Vec<u8>) -> Result<(), AllocError>
+fn write_number_line(nid: u8, out: &mut Vec<u8>) -> Result<(), AllocError>
     ensures ok { OnOk result (out.new.items ≡ out.old.items ++ packet_line nid) }
     ensures err { OnErr result (Begins out.old.items out.new.items) }
 {
     out.extend_from_slice(b"packet ")?;
-    push_decimal_line(u64::from(nid), out)
+    write_decimal_line(u64::from(nid), out)
 }
 
 /// Appends the lines of Q_DIR and L_PACKET.
-fn push_direction_and_length(dir: u8, bits: u64, out: &mut Vec<u8>) -> Result<(), AllocError>
+fn write_direction_and_length(dir: u8, bits: u64, out: &mut Vec<u8>) -> Result<(), AllocError>
     ensures ok { OnOk result (out.new.items ≡ out.old.items ++ (variable_line (Q_DIR, dir) ++ variable_line (L_PACKET, bits))) }
     ensures err { OnErr result (Begins out.old.items out.new.items) }
 {
-    push_variable(Var::Q_DIR, u64::from(dir), out)?;
-    push_variable(Var::L_PACKET, bits, out)
+    write_variable(Var::Q_DIR, u64::from(dir), out)?;
+    write_variable(Var::L_PACKET, bits, out)
 }
 
 /// Appends the lines of Q_DIR and L_PACKET, which packet 0 doesn't have.
-fn push_frame(packet: &Packet, out: &mut Vec<u8>) -> Result<(), AllocError>
+fn write_frame(packet: &Packet, out: &mut Vec<u8>) -> Result<(), AllocError>
     ensures ok { OnOk result (out.new.items ≡ out.old.items ++ frame_lines (packet_value packet.now)) }
     ensures err { OnErr result (Begins out.old.items out.new.items) }
 {
     match dir(packet) {
-        Some(dir) => push_direction_and_length(dir, packet.bit_len() as u64, out),
+        Some(dir) => write_direction_and_length(dir, packet.bit_len() as u64, out),
         None => Ok(()),
     }
 }
 
-/// Appends the lines of the variables behind a packet's frame.
-fn push_sent(packet: &Packet, out: &mut Vec<u8>) -> Result<(), AllocError>
+/// Appends the lines of the variables after a packet's frame.
+fn write_sent(packet: &Packet, out: &mut Vec<u8>) -> Result<(), AllocError>
     ensures ok { OnOk result (out.new.items ≡ out.old.items ++ flat_map variable_line (variables_of (packet_value packet.now))) }
     ensures err { OnErr result (Begins out.old.items out.new.items) }
 {
@@ -114,40 +114,40 @@ fn push_sent(packet: &Packet, out: &mut Vec<u8>) -> Result<(), AllocError>
     sent
 }
 
-/// Appends the lines of what stands behind a packet's frame.
-fn push_body(packet: &Packet, out: &mut Vec<u8>) -> Result<(), AllocError>
+/// Appends the lines of what follows a packet's frame.
+fn write_body(packet: &Packet, out: &mut Vec<u8>) -> Result<(), AllocError>
     ensures ok { OnOk result (out.new.items ≡ out.old.items ++ body_lines (packet_value packet.now)) }
     ensures err { OnErr result (Begins out.old.items out.new.items) }
 {
     match packet {
-        Packet::Other(kept) => push_bits_line(Var::OTHER_DATA, &kept.body(), out),
-        _ => push_sent(packet, out),
+        Packet::Other(kept) => write_bits_line(Var::OTHER_DATA, &kept.body(), out),
+        _ => write_sent(packet, out),
     }
 }
 
 /// Appends the text of a packet.
-fn push_packet(packet: &Packet, out: &mut Vec<u8>) -> Result<(), AllocError>
+fn write_packet(packet: &Packet, out: &mut Vec<u8>) -> Result<(), AllocError>
     ensures ok { OnOk result (out.new.items ≡ out.old.items ++ packet_text (packet_value packet.now)) }
     ensures err { OnErr result (Begins out.old.items out.new.items) }
 {
-    push_number_line(packet.nid(), out)?;
-    push_frame(packet, out)?;
-    push_body(packet, out)
+    write_number_line(packet.nid(), out)?;
+    write_frame(packet, out)?;
+    write_body(packet, out)
 }
 
-/// Appends the texts of packets, one behind the other: of each a line `packet` with its number, and a line for each
-/// variable behind it in the order of sending (SUBSET-026, 7.4). The bits of a packet that is kept as bits are one line,
+/// Appends the texts of packets, one after another: of each a line `packet` with its number, and a line for each
+/// variable after it in the order of sending (SUBSET-026, 7.4). The bits of a packet that is kept as bits are one line,
 /// OTHER_DATA, with their count. Each line ends with a LF.
 ///
 /// # Errors
 ///
-/// Where memory is refused. A part of the texts may then stand in `out`, behind what was there.
-pub fn push_packets(packets: &[Packet], out: &mut Vec<u8>) -> Result<(), AllocError>
+/// Where memory is refused. A part of the texts may then be in `out`, after what was there.
+pub fn write_packets(packets: &[Packet], out: &mut Vec<u8>) -> Result<(), AllocError>
     ensures ok { OnOk result (out.new.items ≡ out.old.items ++ packets_text (map packet_value packets.now)) }
     ensures err { OnErr result (Begins out.old.items out.new.items) }
 {
     for packet in packets {
-        push_packet(packet, out)?;
+        write_packet(packet, out)?;
     }
     Ok(())
 }

@@ -8,44 +8,44 @@ ghost use Rattle.etcs_packets.specs.PacketValues.{packet_value, variables_of};
 ghost use Rattle.etcs_text.specs.Trees.{number_tree, pair_tree, pairs_tree};
 
 use crate::fronts::pair_front;
-use crate::text::{push_decimal_and, push_hex};
+use crate::text::{write_decimal_and, write_hex};
 use etcs_packets::Packet;
 use etcs_packets::parts::send;
 use etcs_vars::Var;
-use etcs_vars::parts::{Sink, Variables};
+use etcs_vars::parts::{VarSink, Variables};
 use std::alloc::AllocError;
 use std::marker::Model;
 use std::mem;
 
 /// Appends the sixteen digits of NID_RADIO in quotes, and the end of its pair.
-fn push_radio(number: u64, out: &mut Vec<u8>) -> Result<(), AllocError>
+fn write_radio(number: u64, out: &mut Vec<u8>) -> Result<(), AllocError>
     ensures ok { OnOk result (out.new.items ≡ out.old.items ++ (compact_text (number_tree NID_RADIO number) ++ 93 ∷ [])) }
     ensures err { OnErr result (Begins out.old.items out.new.items) }
 {
     out.extend_from_slice(b"\"")?;
-    push_hex(16, number, out)?;
+    write_hex(16, number, out)?;
     out.extend_from_slice(b"\"]")
 }
 
 /// Appends the number of a variable and the end of its pair.
-fn push_number(var: Var, number: u64, out: &mut Vec<u8>) -> Result<(), AllocError>
+fn write_number(var: Var, number: u64, out: &mut Vec<u8>) -> Result<(), AllocError>
     ensures ok { OnOk result (out.new.items ≡ out.old.items ++ (compact_text (number_tree var number) ++ 93 ∷ [])) }
     ensures err { OnErr result (Begins out.old.items out.new.items) }
 {
     if var == Var::NID_RADIO {
-        return push_radio(number, out);
+        return write_radio(number, out);
     }
-    push_decimal_and(number, b']', out)
+    write_decimal_and(number, b']', out)
 }
 
-/// Appends the pair of a variable, behind a comma where it isn't the first of its list.
+/// Appends the pair of a variable, after a comma where it isn't the first of its list.
 #[tactic(auto, using(crate::specs::laws::Fronts::begins_more, std::proofs::Common::append_assoc))]
-fn push_pair(later: bool, var: Var, number: u64, out: &mut Vec<u8>) -> Result<(), AllocError>
+fn write_pair(later: bool, var: Var, number: u64, out: &mut Vec<u8>) -> Result<(), AllocError>
     ensures ok { OnOk result (out.new.items ≡ out.old.items ++ (comma_if later ++ compact_text (pair_tree (var, number)))) }
     ensures err { OnErr result (Begins out.old.items out.new.items) }
 {
     out.extend_from_slice(pair_front(later, var))?;
-    push_number(var, number, out)
+    write_number(var, number, out)
 }
 
 /// A list of pairs before its end, which takes variables, and whether it has a pair.
@@ -84,7 +84,7 @@ impl PairSink {
     }
 }
 
-impl Sink for PairSink {
+impl VarSink for PairSink {
     ghost use Rattle.etcs_text.specs.Fronts.{Begins};
     ghost use Rattle.etcs_text.specs.PairSinks.{with_pairs};
     ghost use Rattle.etcs_text.specs.laws.PairSinks.{with_pairs_begins, with_pairs_both, with_pairs_none};
@@ -101,7 +101,7 @@ impl Sink for PairSink {
 
     fn send(&mut self, sent: &[(Var, u64)]) -> Result<(), AllocError> {
         for pair in sent {
-            push_pair(self.later, pair.0, pair.1, &mut self.text)?;
+            write_pair(self.later, pair.0, pair.1, &mut self.text)?;
             self.later = true;
         }
         Ok(())
@@ -109,20 +109,23 @@ impl Sink for PairSink {
 }
 
 /// Appends the pairs of a run of variables, as a list.
-pub(crate) fn push_run<V: Variables>(run: &V, out: &mut Vec<u8>) -> Result<(), AllocError>
-    ensures ok { OnOk result (out.new.items ≡ out.old.items ++ compact_text (pairs_tree (V.reading_of run.now))) }
+pub(crate) fn write_variables<V: Variables>(
+    variables: &V,
+    out: &mut Vec<u8>,
+) -> Result<(), AllocError>
+    ensures ok { OnOk result (out.new.items ≡ out.old.items ++ compact_text (pairs_tree (V.reading_of variables.now))) }
     ensures err { OnErr result (Begins out.old.items out.new.items) }
 {
     out.extend_from_slice(b"[")?;
     let mut sink = PairSink::open(out);
-    let sent = run.send(&mut sink);
+    let sent = variables.send(&mut sink);
     *out = sink.into_text();
     sent?;
     out.extend_from_slice(b"]")
 }
 
-/// Appends the pairs of a packet's variables behind its frame, as a list.
-pub(crate) fn push_fields(packet: &Packet, out: &mut Vec<u8>) -> Result<(), AllocError>
+/// Appends the pairs of a packet's variables after its frame, as a list.
+pub(crate) fn write_fields(packet: &Packet, out: &mut Vec<u8>) -> Result<(), AllocError>
     ensures ok { OnOk result (out.new.items ≡ out.old.items ++ compact_text (pairs_tree (variables_of (packet_value packet.now)))) }
     ensures err { OnErr result (Begins out.old.items out.new.items) }
 {

@@ -10,17 +10,17 @@ ghost use Rattle.etcs_text.specs.Telegrams.{show_text};
 ghost use Rattle.etcs_telegram.specs.Telegrams.{telegram_value};
 
 use crate::entry::Entry;
-use crate::messages::push_message;
-use crate::packets::{LineSink, push_packets};
-use crate::text::push_item_number;
-use crate::variables::push_bits_line;
+use crate::messages::write_message;
+use crate::packets::{LineSink, write_packets};
+use crate::text::write_item_number;
+use crate::variables::write_bits_line;
 use etcs_bits::BitSlice;
 use etcs_telegram::{Header, Size, Telegram};
 use etcs_vars::Var;
 use etcs_vars::parts::Variables;
 use std::alloc::AllocError;
 
-/// What stands behind the number in the first line of a telegram: its kind and its count of bits.
+/// What follows the number in the first line of a telegram: its kind and its count of bits.
 fn size_words(size: Size) -> &'static [u8]
     ensures { result.now ≡ codes " " ++ kind_word size ++ codes " " ++ decimal (user_bits size) ++ codes " bits\n" }
 {
@@ -31,16 +31,16 @@ fn size_words(size: Size) -> &'static [u8]
 }
 
 /// Appends the first line of a telegram.
-fn push_item(size: Size, item: u64, out: &mut Vec<u8>) -> Result<(), AllocError>
+fn write_item(size: Size, item: u64, out: &mut Vec<u8>) -> Result<(), AllocError>
     ensures ok { OnOk result (out.new.items ≡ out.old.items ++ item_line size item) }
     ensures err { OnErr result (Begins out.old.items out.new.items) }
 {
-    push_item_number(item, out)?;
+    write_item_number(item, out)?;
     out.extend_from_slice(size_words(size))
 }
 
 /// Appends the lines of a header.
-fn push_header(header: &Header, out: &mut Vec<u8>) -> Result<(), AllocError>
+fn write_header(header: &Header, out: &mut Vec<u8>) -> Result<(), AllocError>
     ensures ok { OnOk result (out.new.items ≡ out.old.items ++ flat_map variable_line (header_reading header.now)) }
     ensures err { OnErr result (Begins out.old.items out.new.items) }
 {
@@ -50,35 +50,35 @@ fn push_header(header: &Header, out: &mut Vec<u8>) -> Result<(), AllocError>
     sent
 }
 
-/// Appends the line of the bits behind the last packet.
-fn push_fill(fill: &BitSlice<'_>, out: &mut Vec<u8>) -> Result<(), AllocError>
+/// Appends the line of the bits after the last packet.
+fn write_fill(fill: &BitSlice<'_>, out: &mut Vec<u8>) -> Result<(), AllocError>
     ensures ok { OnOk result (out.new.items ≡ out.old.items ++ fill_line fill.now) }
     ensures err { OnErr result (Begins out.old.items out.new.items) }
 {
-    push_bits_line(Var::FILL, fill, out)
+    write_bits_line(Var::FILL, fill, out)
 }
 
 /// Appends the text of a telegram.
-fn push_telegram(telegram: &Telegram, item: u64, out: &mut Vec<u8>) -> Result<(), AllocError>
+fn write_telegram(telegram: &Telegram, item: u64, out: &mut Vec<u8>) -> Result<(), AllocError>
     ensures ok { OnOk result (out.new.items ≡ out.old.items ++ show_text (telegram_value telegram.now) item) }
     ensures err { OnErr result (Begins out.old.items out.new.items) }
 {
-    push_item(telegram.size(), item, out)?;
-    push_header(telegram.header(), out)?;
-    push_packets(telegram.packets(), out)?;
+    write_item(telegram.size(), item, out)?;
+    write_header(telegram.header(), out)?;
+    write_packets(telegram.packets(), out)?;
     out.extend_from_slice(b"packet 255\n")?;
-    push_fill(&telegram.fill(), out)?;
+    write_fill(&telegram.fill(), out)?;
     Ok(())
 }
 
 /// Appends the text of an entry.
-fn push_entry(entry: &Entry, item: u64, out: &mut Vec<u8>) -> Result<(), AllocError>
+fn write_entry(entry: &Entry, item: u64, out: &mut Vec<u8>) -> Result<(), AllocError>
     ensures ok { OnOk result (out.new.items ≡ out.old.items ++ entry_text (entry_value entry.now) item) }
     ensures err { OnErr result (Begins out.old.items out.new.items) }
 {
     match entry {
-        Entry::Telegram(telegram) => push_telegram(telegram, item, out),
-        Entry::Message(message) => push_message(message, item, out),
+        Entry::Telegram(telegram) => write_telegram(telegram, item, out),
+        Entry::Message(message) => write_message(message, item, out),
     }
 }
 
@@ -89,7 +89,7 @@ fn push_entry(entry: &Entry, item: u64, out: &mut Vec<u8>) -> Result<(), AllocEr
 ///
 /// A telegram is closed by `packet 255` and the line of FILL, a typed message by `end` and the line
 /// of PADDING. A message that is kept as bits has the lines of NID_MESSAGE, L_MESSAGE and OTHER_DATA
-/// alone behind the first.
+/// alone after the first.
 ///
 /// # Errors
 ///
@@ -99,7 +99,7 @@ pub fn show_lines(entry: &Entry, item: u64, out: &mut Vec<u8>) -> Result<(), All
     ensures err { OnErr result (out.new.items ≡ out.old.items) }
 {
     let len = out.len();
-    let shown = push_entry(entry, item, out);
+    let shown = write_entry(entry, item, out);
     if shown.is_err() {
         out.truncate(len);
     }

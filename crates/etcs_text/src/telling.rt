@@ -10,12 +10,12 @@ ghost use Rattle.etcs_text.specs.Fronts.{Begins};
 ghost use Rattle.etcs_text.specs.Encodings.{IsEncoded, check_line};
 
 use crate::entry::Entry;
-use crate::text::{push_decimal, push_item_number};
+use crate::text::{write_decimal, write_item_number};
 use etcs_radio::Message;
 use etcs_telegram::{Size, Telegram};
 use std::alloc::{AllocError, Global};
 
-/// What stands behind the number in the line that says that a telegram was accepted.
+/// What follows the number in the line that says that a telegram was accepted.
 fn accepted(size: Size) -> &'static [u8]
     ensures { result.now ≡ codes " ok " ++ decimal (user_bits size) ++ codes " bits\n" }
 {
@@ -25,25 +25,25 @@ fn accepted(size: Size) -> &'static [u8]
     }
 }
 
-/// Appends what stands behind the number in the line that says that a message of so many bits was accepted.
-fn push_accepted(bits: usize, out: &mut Vec<u8>) -> Result<(), AllocError>
+/// Appends what follows the number in the line that says that a message of this many bits was accepted.
+fn write_accepted(bits: usize, out: &mut Vec<u8>) -> Result<(), AllocError>
     ensures ok { OnOk result (out.new.items ≡ out.old.items ++ (codes " ok " ++ decimal bits ++ codes " bits\n")) }
     ensures err { OnErr result (Begins out.old.items out.new.items) }
 {
     out.extend_from_slice(b" ok ")?;
-    push_decimal(bits as u64, out)?;
+    write_decimal(bits as u64, out)?;
     out.extend_from_slice(b" bits\n")
 }
 
 /// Appends the line that says that an item was accepted.
-fn push_check(entry: &Entry, item: u64, out: &mut Vec<u8>) -> Result<(), AllocError>
+fn write_check(entry: &Entry, item: u64, out: &mut Vec<u8>) -> Result<(), AllocError>
     ensures ok { OnOk result (out.new.items ≡ out.old.items ++ check_line (entry_value entry.now) item) }
     ensures err { OnErr result (Begins out.old.items out.new.items) }
 {
-    push_item_number(item, out)?;
+    write_item_number(item, out)?;
     match entry {
         Entry::Telegram(telegram) => out.extend_from_slice(accepted(telegram.size())),
-        Entry::Message(message) => push_accepted(message.bit_len(), out),
+        Entry::Message(message) => write_accepted(message.bit_len(), out),
     }
 }
 
@@ -58,7 +58,7 @@ pub fn check_line(entry: &Entry, item: u64, out: &mut Vec<u8>) -> Result<(), All
     ensures err { OnErr result (out.new.items ≡ out.old.items) }
 {
     let len = out.len();
-    let told = push_check(entry, item, out);
+    let told = write_check(entry, item, out);
     if told.is_err() {
         out.truncate(len);
     }
@@ -73,16 +73,16 @@ fn are_bytes(bytes: &[u8])
     let _ = bytes;
 }
 
-/// The telegram's encoding at the front of so many bytes, and how many of them it is.
+/// The telegram's encoding at the front of this many bytes, and how many of them it is.
 fn encode_telegram(telegram: &Telegram) -> ([u8; 104], usize)
     ensures within { result.1 ≤ length result.0 }
     ensures bytes { IsEncoded (of_telegram (telegram_value telegram.now)) (take result.1 result.0) }
 {
-    let mut room = [0u8; 104];
-    match telegram.encode_into(&mut room) {
+    let mut buffer = [0u8; 104];
+    match telegram.encode_into(&mut buffer) {
         Ok(count) => {
-            are_bytes(&room);
-            (room, count)
+            are_bytes(&buffer);
+            (buffer, count)
         }
         Err(_) => unreachable!(),
     }
@@ -120,15 +120,15 @@ pub fn encoded(entry: &Entry, out: &mut Vec<u8>) -> Result<(), AllocError>
 {
     match entry {
         Entry::Telegram(telegram) => {
-            let (room, count) = encode_telegram(telegram);
-            out.extend_from_slice(&room[..count])
+            let (buffer, count) = encode_telegram(telegram);
+            out.extend_from_slice(&buffer[..count])
         }
         Entry::Message(message) => append_message(message, out),
     }
 }
 
 /// Appends bytes as upper case digits and a LF, or nothing.
-fn push_digits(bytes: &[u8], out: &mut Vec<u8>) -> Result<(), AllocError>
+fn write_digits(bytes: &[u8], out: &mut Vec<u8>) -> Result<(), AllocError>
     ensures ok { OnOk result (out.new.items ≡ out.old.items ++ (encode_upper bytes.now ++ 10 ∷ [])) }
     ensures err { OnErr result (out.new.items ≡ out.old.items) }
 {
@@ -148,12 +148,12 @@ pub fn hex_line(entry: &Entry, out: &mut Vec<u8>) -> Result<(), AllocError>
 {
     match entry {
         Entry::Telegram(telegram) => {
-            let (room, count) = encode_telegram(telegram);
-            push_digits(&room[..count], out)
+            let (buffer, count) = encode_telegram(telegram);
+            write_digits(&buffer[..count], out)
         }
         Entry::Message(message) => {
             let bytes = encode_message(message, *out.allocator())?;
-            push_digits(bytes.as_slice(), out)
+            write_digits(bytes.as_slice(), out)
         }
     }
 }

@@ -14,8 +14,8 @@ use std::alloc::AllocError;
 ///
 /// # Errors
 ///
-/// Where memory is refused. A part of the text may then stand in `out`, behind what was there.
-pub fn push_decimal(number: u64, out: &mut Vec<u8>) -> Result<(), AllocError>
+/// Where memory is refused. A part of the text may then be in `out`, after what was there.
+pub fn write_decimal(number: u64, out: &mut Vec<u8>) -> Result<(), AllocError>
     ensures ok { OnOk result (out.new.items ≡ out.old.items ++ decimal number) }
     ensures err { OnErr result (Begins out.old.items out.new.items) }
 {
@@ -24,7 +24,7 @@ pub fn push_decimal(number: u64, out: &mut Vec<u8>) -> Result<(), AllocError>
 }
 
 /// Appends the digits of a number and one byte more.
-pub(crate) fn push_decimal_and(number: u64, end: u8, out: &mut Vec<u8>) -> Result<(), AllocError>
+pub(crate) fn write_decimal_and(number: u64, end: u8, out: &mut Vec<u8>) -> Result<(), AllocError>
     ensures ok { OnOk result (out.new.items ≡ out.old.items ++ (decimal number ++ end ∷ [])) }
     ensures err { OnErr result (Begins out.old.items out.new.items) }
 {
@@ -38,24 +38,24 @@ pub(crate) fn push_decimal_and(number: u64, end: u8, out: &mut Vec<u8>) -> Resul
 
 /// Appends the digits of a number and a LF.
 #[tactic(auto, using(crate::specs::laws::Fronts::begins_more, std::proofs::Common::append_assoc))]
-pub(crate) fn push_decimal_line(number: u64, out: &mut Vec<u8>) -> Result<(), AllocError>
+pub(crate) fn write_decimal_line(number: u64, out: &mut Vec<u8>) -> Result<(), AllocError>
     ensures ok { OnOk result (out.new.items ≡ out.old.items ++ decimal number ++ codes "\n") }
     ensures err { OnErr result (Begins out.old.items out.new.items) }
 {
-    push_decimal_and(number, b'\n', out)
+    write_decimal_and(number, b'\n', out)
 }
 
 /// Appends the word and the number that the line of an item begins with.
 ///
 /// # Errors
 ///
-/// Where memory is refused. A part of the text may then stand in `out`, behind what was there.
-pub fn push_item_number(item: u64, out: &mut Vec<u8>) -> Result<(), AllocError>
+/// Where memory is refused. A part of the text may then be in `out`, after what was there.
+pub fn write_item_number(item: u64, out: &mut Vec<u8>) -> Result<(), AllocError>
     ensures ok { OnOk result (out.new.items ≡ out.old.items ++ (codes "item " ++ decimal item)) }
     ensures err { OnErr result (Begins out.old.items out.new.items) }
 {
     out.extend_from_slice(b"item ")?;
-    push_decimal(item, out)
+    write_decimal(item, out)
 }
 
 /// The digit of four bits, in lower case.
@@ -70,21 +70,21 @@ fn hex_digit_of(bits: u8) -> u8
     }
 }
 
-/// Appends the last digits of a number in hexadecimal, so many of them.
-pub(crate) fn push_hex(count: usize, number: u64, out: &mut Vec<u8>) -> Result<(), AllocError>
+/// Appends the last digits of a number in hexadecimal, this many of them.
+pub(crate) fn write_hex(count: usize, number: u64, out: &mut Vec<u8>) -> Result<(), AllocError>
     ensures ok { OnOk result (out.new.items ≡ out.old.items ++ hex_digits count number) }
     ensures err { OnErr result (Begins out.old.items out.new.items) }
 {
     if count == 0 {
         return Ok(());
     }
-    push_hex(count - 1, number / 16, out)?;
+    write_hex(count - 1, number / 16, out)?;
     out.push(hex_digit_of((number % 16) as u8))?;
     Ok(())
 }
 
 /// Appends the lowest bits of a number as digits, the most significant first.
-pub(crate) fn push_bits(number: u64, width: usize, out: &mut Vec<u8>) -> Result<(), AllocError>
+pub(crate) fn write_bits(number: u64, width: usize, out: &mut Vec<u8>) -> Result<(), AllocError>
     requires { width ≤ 64 }
     ensures ok { OnOk result (out.new.items ≡ out.old.items ++ map bit_digit (num width number)) }
     ensures err { OnErr result (Begins out.old.items out.new.items) }
@@ -97,7 +97,7 @@ pub(crate) fn push_bits(number: u64, width: usize, out: &mut Vec<u8>) -> Result<
 }
 
 /// Appends bits as digits.
-pub(crate) fn push_slice(bits: &BitSlice<'_>, out: &mut Vec<u8>) -> Result<(), AllocError>
+pub(crate) fn write_slice(bits: &BitSlice<'_>, out: &mut Vec<u8>) -> Result<(), AllocError>
     ensures ok { OnOk result (out.new.items ≡ out.old.items ++ map bit_digit bits.now) }
     ensures err { OnErr result (Begins out.old.items out.new.items) }
 {
@@ -105,7 +105,7 @@ pub(crate) fn push_slice(bits: &BitSlice<'_>, out: &mut Vec<u8>) -> Result<(), A
     while at < bits.len() {
         let width = (bits.len() - at).min(64);
         match bits.number(at, width) {
-            Some(number) => push_bits(number, width, out)?,
+            Some(number) => write_bits(number, width, out)?,
             None => unreachable!(),
         }
         at += width;

@@ -6,30 +6,30 @@ ghost use Rattle.etcs_text.specs.Fronts.{Begins};
 ghost use Rattle.etcs_text.specs.Show.{bits_line, bits_text, number_text, special_text, variable_line};
 
 use crate::fronts::line_front;
-use crate::signed::push_signed;
-use crate::text::{push_decimal, push_decimal_line, push_hex, push_slice};
+use crate::signed::write_signed;
+use crate::text::{write_decimal, write_decimal_line, write_hex, write_slice};
 use etcs_bits::BitSlice;
 use etcs_vars::Var;
 use std::alloc::AllocError;
 
 /// Appends the number of a variable, what it stands for where it has a meaning of its own, and a LF. NID_RADIO is in
 /// hexadecimal, all others are in decimal, D_REF with its sign.
-fn push_number_line(var: Var, number: u64, out: &mut Vec<u8>) -> Result<(), AllocError>
+fn write_number_line(var: Var, number: u64, out: &mut Vec<u8>) -> Result<(), AllocError>
     ensures ok { OnOk result (out.new.items ≡ out.old.items ++ number_text var number ++ special_text (special var number) ++ codes "\n") }
     ensures err { OnErr result (Begins out.old.items out.new.items) }
 {
     if var == Var::NID_RADIO {
-        push_hex(16, number, out)?;
+        write_hex(16, number, out)?;
         return out.extend_from_slice(b"\n");
     }
     if var == Var::D_REF {
-        push_signed(number, out)?;
+        write_signed(number, out)?;
         return out.extend_from_slice(b"\n");
     }
     match var.special(number) {
-        None => push_decimal_line(number, out),
+        None => write_decimal_line(number, out),
         Some(text) => {
-            push_decimal(number, out)?;
+            write_decimal(number, out)?;
             out.extend_from_slice(b" (")?;
             out.extend_from_slice(text.as_bytes())?;
             out.extend_from_slice(b")\n")
@@ -38,16 +38,16 @@ fn push_number_line(var: Var, number: u64, out: &mut Vec<u8>) -> Result<(), Allo
 }
 
 /// Appends the line of a variable.
-pub(crate) fn push_variable(var: Var, number: u64, out: &mut Vec<u8>) -> Result<(), AllocError>
+pub(crate) fn write_variable(var: Var, number: u64, out: &mut Vec<u8>) -> Result<(), AllocError>
     ensures ok { OnOk result (out.new.items ≡ out.old.items ++ variable_line (var, number)) }
     ensures err { OnErr result (Begins out.old.items out.new.items) }
 {
     out.extend_from_slice(line_front(var))?;
-    push_number_line(var, number, out)
+    write_number_line(var, number, out)
 }
 
-/// Appends what stands behind the count of bits.
-fn push_bits_text(bits: &BitSlice<'_>, out: &mut Vec<u8>) -> Result<(), AllocError>
+/// Appends what follows the count of bits.
+fn write_bits_text(bits: &BitSlice<'_>, out: &mut Vec<u8>) -> Result<(), AllocError>
     ensures ok { OnOk result (out.new.items ≡ out.old.items ++ bits_text bits.now) }
     ensures err { OnErr result (Begins out.old.items out.new.items) }
 {
@@ -55,11 +55,11 @@ fn push_bits_text(bits: &BitSlice<'_>, out: &mut Vec<u8>) -> Result<(), AllocErr
         return Ok(());
     }
     out.extend_from_slice(b" ")?;
-    push_slice(bits, out)
+    write_slice(bits, out)
 }
 
 /// Appends the line of bits under a variable's name.
-pub(crate) fn push_bits_line(
+pub(crate) fn write_bits_line(
     var: Var,
     bits: &BitSlice<'_>,
     out: &mut Vec<u8>,
@@ -68,7 +68,7 @@ pub(crate) fn push_bits_line(
     ensures err { OnErr result (Begins out.old.items out.new.items) }
 {
     out.extend_from_slice(line_front(var))?;
-    push_decimal(bits.len() as u64, out)?;
-    push_bits_text(bits, out)?;
+    write_decimal(bits.len() as u64, out)?;
+    write_bits_text(bits, out)?;
     out.extend_from_slice(b"\n")
 }

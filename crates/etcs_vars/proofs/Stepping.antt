@@ -1,4 +1,4 @@
--- One bit more, or several, of any regular language: from what is left of it behind whole variables and a test of
+-- One bit more, or several, of any regular language: from what is left of it after whole variables and a test of
 -- first bits to what may come, who holds it and which bit is the first that is refused.
 use Rattle.std.proofs.Common.{◌≡◌, ℕ, ◌+◌, ◌-◌, ◌*◌, ◌/◌, ◌^◌, ◌<◌, ◌≤◌, Bool, true, false, List, [], ◌∷◌, ◌++◌, take, refl, sym, ap, ◌∙◌, arith, append_assoc}
 use Rattle.std.specs.Prelude.{IsTrue}
@@ -14,12 +14,12 @@ use Rattle.etcs_vars.proofs.Walk.{Regular, NextIs, May, viable_from, viable_only
 use Rattle.etcs_vars.proofs.Prefixes.{take-num, ordered, begins_some, begins_from, below_quotient, ranges_ordered, admits_from, admits_parts}
 pub use Rattle.etcs_vars.proofs.Prefixes.{quotient_below}
 
--- R begins with x, and goes on behind its number as R'
+-- R begins with x, and continues after its number as R'
 pub record Opens (R : Reading → Type 0) (x : Var) (R' : ℕ → Reading → Type 0) : Type 0 where
   pub opens : (r : Reading) → R r → (n : ℕ) × (r' : Reading) × (r ≡ (x, n) ∷ r') × (n < 2 ^ width x) × R' n r'
   pub closes : (n : ℕ) (r' : Reading) → R' n r' → R ((x, n) ∷ r')
 
--- the test tells whether some number that goes on begins with these bits
+-- the test says whether some number that continues begins with these bits
 pub record Tested (x : Var) (R' : ℕ → Reading → Type 0) (begun : ℕ → ℕ → Bool) : Type 0 where
   pub some : (taken bits : ℕ) → taken ≤ width x → bits < 2 ^ taken → begun (width x - taken) bits ≡ true → (n : ℕ) × (r : Reading) × (n / 2 ^ (width x - taken) ≡ bits) × R' n r
   pub each : (rest n : ℕ) (r : Reading) → R' n r → begun rest (n / 2 ^ rest) ≡ true
@@ -53,7 +53,7 @@ seen_more p taken bits b = ap (λ (t : List Bool). spelled p ++ t) (next_bits ta
 
 -- ---- A test by ranges.
 
--- where every number of the ranges that fits goes on, and no other, the ranges are the test
+-- where every number of the ranges that fits continues, and no other, the ranges are the test
 pub ranges_tested : (x : Var) (R' : ℕ → Reading → Type 0) (rs : List (ℕ × ℕ)) → ordered rs ≡ true → ((n : ℕ) → inside rs n ≡ true → n < 2 ^ width x → (r : Reading) × R' n r) → ((n : ℕ) (r : Reading) → R' n r → inside rs n ≡ true) → Tested x R' (begins rs)
 ranges_tested x R' rs o goes_on within = record {
   some = λ taken bits short fits test.
@@ -66,12 +66,12 @@ ranges_tested x R' rs o goes_on within = record {
   each = λ rest n r l. begins_from rs rest n (within n r l);
 }
 
--- where every admitted number goes on, and no other, the variable's ranges are the test
+-- where every admitted number continues, and no other, the variable's ranges are the test
 pub admitted_tested : (x : Var) (R' : ℕ → Reading → Type 0) → ((n : ℕ) → IsTrue (admits x n) → (r : Reading) × R' n r) → ((n : ℕ) (r : Reading) → R' n r → IsTrue (admits x n)) → Tested x R' (begins (ranges x))
 admitted_tested x R' goes_on within =
     ranges_tested x R' (ranges x) (ranges_ordered x) (λ n i small. goes_on n (admits_from x n i small)) (λ n r l. (admits_parts x n (within n r l)).0)
 
--- ---- What may come behind p, where x comes next.
+-- ---- What may come after p, where x comes next.
 
 module _ (L : Reading → Type 0) (regular : Regular L) (p : Reading) (R : Reading → Type 0) (x : Var) (R' : ℕ → Reading → Type 0) (begun : ℕ → ℕ → Bool) (residual : Residual L p R) (o : Opens R x R') (t : Tested x R' begun) where
   next : NextIs L p x
@@ -80,7 +80,7 @@ module _ (L : Reading → Type 0) (regular : Regular L) (p : Reading) (R : Readi
   may : (n : ℕ) (r : Reading) → R' n r → May L p x n
   may n r a = (r, residual.from ((x, n) ∷ r) (o.closes n r a))
 
-  -- how a reading that is left and begins with this number goes on
+  -- how a reading that is left and begins with this number continues
   left_by : (n : ℕ) (q : Reading) → R ((x, n) ∷ q) → (n < 2 ^ width x) × R' n q
   left_by n q l =
       let s = o.opens ((x, n) ∷ q) l in
@@ -96,7 +96,7 @@ module _ (L : Reading → Type 0) (regular : Regular L) (p : Reading) (R : Readi
       let front : take taken (num (width x) n.0) ≡ num taken bits = rw whole at (take-num taken (width x - taken) n.0) ∙ ap (num taken) n.2 in
       viable_from L regular p x next (num taken bits) n.0 (may n.0 n.1 n.3) (rw length-num front)
 
-  -- a part that stands can go on
+  -- a part that is there can continue
   pub can_go_on : (taken bits : ℕ) → Part x begun bits taken → (q : Reading) × L (p ++ q)
   can_go_on taken bits part = let n = t.some taken bits (omega (arith, part.short)) part.fits part.starts in ((x, n.0) ∷ n.1, residual.from ((x, n.0) ∷ n.1) (o.closes n.0 n.1 n.3))
 
@@ -125,7 +125,7 @@ module _ (L : Reading → Type 0) (regular : Regular L) (p : Reading) (R : Readi
       let more : Viable L (seen_with p (bits * 2 + bit b) (taken + 1)) = rw (seen_more p taken bits b) v in
       blocked (taken + 1) (bits * 2 + bit b) (omega (arith, part.short)) (more_fits taken bits b part.fits) test (can_go_on taken bits part) more
 
-  -- the last k bits, which aren't: the number goes on
+  -- the last k bits, which aren't: the number continues
   pub goes_on_by : (taken bits k more : ℕ) → Part x begun bits taken → more < 2 ^ k → begun (width x - (taken + k)) (bits * 2 ^ k + more) ≡ true → taken + k ≡ width x → (r : Reading) × R' (bits * 2 ^ k + more) r
   goes_on_by taken bits k more part small test whole =
       let rest : width x - (taken + k) ≡ 0 = omega arith in
@@ -138,7 +138,7 @@ module _ (L : Reading → Type 0) (regular : Regular L) (p : Reading) (R : Readi
   pub goes_on : (taken bits : ℕ) (b : Bool) → Part x begun bits taken → begun (width x - (taken + 1)) (bits * 2 + bit b) ≡ true → taken + 1 ≡ width x → (r : Reading) × R' (bits * 2 + bit b) r
   goes_on taken bits b part test whole = goes_on_by taken bits 1 (bit b) part (omega (arith, bit-le b)) test whole
 
-  -- behind any number of x
+  -- after any number of x
   pub residual_after : (n : ℕ) → Residual L (p ++ (x, n) ∷ []) (R' n)
   residual_after n = record {
     to = λ q l.

@@ -13,7 +13,7 @@ Sent = Var × ℕ
 abbrev pub Reading : Type 0
 Reading = List Sent
 
--- the bits of a reading: each variable in its width, one after the other
+-- the bits of a reading: each variable in its width, one after another
 abbrev pub spelled : Reading → List Bool
 spelled r = flat_map (λ p. num (width p.0) p.1) r
 
@@ -32,11 +32,11 @@ holder (p ∷ r) i = if nat_lt i (width p.0) then Some p.0 else holder r (i - wi
 
 -- ---- A language is a set of readings.
 
--- a reading of P, and behind it one of Q
+-- a reading of P, and after it one of Q
 abbrev pub Then : (Reading → Type 0) → (Reading → Type 0) → Reading → Type 0
 Then P Q r = (first : Reading) × (rest : Reading) × (r ≡ first ++ rest) × P first × Q rest
 
--- n readings of P, one behind the other
+-- n readings of P, one after another
 abbrev pub Times : ℕ → (Reading → Type 0) → Reading → Type 0
 Times zero P r = r ≡ []
 Times (suc n) P r = Then P (Times n P) r

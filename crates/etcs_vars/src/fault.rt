@@ -45,7 +45,7 @@ impl fmt::Display for BuildFault {
 
 impl Error for BuildFault {}
 
-/// Tells whether the variable admits the number.
+/// Says whether the variable admits the number.
 ///
 /// # Errors
 ///

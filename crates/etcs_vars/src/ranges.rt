@@ -19,7 +19,7 @@ pub(crate) fn inside(ranges: &[(u64, u64)], number: u64) -> bool
     begins(ranges, 0, number)
 }
 
-/// Whether `bits` may begin a number of the ranges, with `rest` bits behind them: for ranges whose
+/// Whether `bits` may begin a number of the ranges, with `rest` bits after them: for ranges whose
 /// ends are in order, whether some number of them is `bits` once its `rest` lowest bits are dropped.
 #[inline]
 pub fn begins(ranges: &[(u64, u64)], rest: usize, bits: u64) -> bool

@@ -8,9 +8,9 @@ use std::alloc::{AllocError, Global};
 use std::marker::Model;
 use std::mem;
 
-/// Takes variables with their numbers, one behind the other.
-pub trait Sink {
-    /// What it holds with these behind.
+/// Takes variables with their numbers, one after another.
+pub trait VarSink {
+    /// What it holds with these added.
     ghost with: { Self → Reading → Self };
 
     /// What may be left of it where some weren't taken.
@@ -47,40 +47,40 @@ pub trait Variables {
     /// # Errors
     ///
     /// That of the sink.
-    fn send<S: Sink>(&self, out: &mut S) -> Result<(), AllocError>
+    fn send<S: VarSink>(&self, out: &mut S) -> Result<(), AllocError>
         ensures ok { OnOk result (out.new ≡ S.with out.old (reading_of self.now)) }
         ensures err { OnErr result (S.failed out.old out.new) };
 }
 
-/// Sends several runs, one behind the other.
+/// Sends several runs, one after another.
 ///
 /// # Errors
 ///
 /// That of the sink.
-pub fn send_all<V: Variables, S: Sink>(runs: &[V], out: &mut S) -> Result<(), AllocError>
-    ensures ok { OnOk result (out.new ≡ S.with out.old (flat_map V.reading_of runs.now)) }
+pub fn send_all<V: Variables, S: VarSink>(lists: &[V], out: &mut S) -> Result<(), AllocError>
+    ensures ok { OnOk result (out.new ≡ S.with out.old (flat_map V.reading_of lists.now)) }
     ensures err { OnErr result (S.failed out.old out.new) }
 {
-    for run in runs {
-        run.send(out)?;
+    for variables in lists {
+        variables.send(out)?;
     }
     Ok(())
 }
 
 /// How many bits several runs take, of at most 255.
-pub fn bits_of_all<V: Variables>(runs: &[V]) -> usize
-    requires { length runs.now ≤ 255 }
-    ensures bits { result ≡ length (spelled (flat_map V.reading_of runs.now)) }
+pub fn bits_of_all<V: Variables>(lists: &[V]) -> usize
+    requires { length lists.now ≤ 255 }
+    ensures bits { result ≡ length (spelled (flat_map V.reading_of lists.now)) }
     ensures small { result ≤ 255 * 65536 }
 {
     let mut bits = 0;
-    for run in runs {
-        bits += run.bits();
+    for variables in lists {
+        bits += variables.bits();
     }
     bits
 }
 
-/// Numbers without their variables, one behind the other.
+/// Numbers without their variables, one after another.
 #[derive(Debug, Drop)]
 struct NumberList {
     held: Vec<u64>,
@@ -104,7 +104,7 @@ impl NumberList {
     }
 }
 
-impl Sink for NumberList {
+impl VarSink for NumberList {
     ghost use Rattle.std.specs.Prelude.{◌≡◌, ◌++◌, length, take};
     ghost use Rattle.etcs_vars.specs.Reading.{numbers};
     ghost use Rattle.etcs_vars.specs.laws.Sinks.{numbers_none, numbers_both, numbers_begin};
@@ -133,8 +133,8 @@ impl Sink for NumberList {
 /// # Errors
 ///
 /// `AllocError` where there is no memory; `out` then stays as it was.
-pub fn append_numbers<V: Variables>(run: &V, out: &mut Vec<u64>) -> Result<(), AllocError>
-    ensures ok { OnOk result (out.new.items ≡ out.old.items ++ numbers (V.reading_of run.now)) }
+pub fn append_numbers<V: Variables>(variables: &V, out: &mut Vec<u64>) -> Result<(), AllocError>
+    ensures ok { OnOk result (out.new.items ≡ out.old.items ++ numbers (V.reading_of variables.now)) }
     ensures err { OnErr result (out.new.items ≡ out.old.items) }
 {
     let before = out.len();
@@ -142,7 +142,7 @@ pub fn append_numbers<V: Variables>(run: &V, out: &mut Vec<u64>) -> Result<(), A
     let mut list = NumberList {
         held: mem::replace(out, empty),
     };
-    let done = run.send(&mut list);
+    let done = variables.send(&mut list);
     *out = list.into_vec();
     if done.is_err() {
         out.truncate(before);

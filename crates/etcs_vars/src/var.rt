@@ -269,11 +269,11 @@ pub enum Var {
     D_RBCTR,
 
     // Bits that are kept as they are, one variable for each bit.
-    /// A bit of a telegram behind packet 255.
+    /// A bit of a telegram after packet 255.
     FILL,
     /// A bit of a packet or a message whose row isn't known.
     OTHER_DATA,
-    /// A bit of a message behind its packets.
+    /// A bit of a message after its packets.
     PADDING,
     /// A bit that fills a telegram's last byte.
     PAD,
@@ -311,7 +311,7 @@ impl Var {
         self.begins(self.width() - taken, bits)
     }
 
-    /// Whether `bits` may begin a number that the variable admits, with `rest` bits behind them.
+    /// Whether `bits` may begin a number that the variable admits, with `rest` bits after them.
     #[tactic(auto, using(crate::proofs::Prefixes::begins_first))]
     #[inline]
     fn begins(self, rest: usize, bits: u64) -> bool

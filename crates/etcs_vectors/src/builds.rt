@@ -7,7 +7,7 @@ use etcs_cases::{Case, FaultTexts};
 use etcs_packets::{Other, Packet, parts};
 use etcs_telegram::parts::header_numbers;
 use etcs_telegram::{Header, Size, Telegram};
-use etcs_text::parts::push_packets;
+use etcs_text::parts::write_packets;
 use etcs_vars::BuildFault;
 
 /// What is answered of a fault.
@@ -210,7 +210,7 @@ fn say_back(case: &mut Case, packets: &[Packet]) {
 /// The text of packets.
 fn say_packets(case: &mut Case, packets: &[Packet]) {
     let mut text = Vec::new(case.alloc());
-    case.kept(push_packets(packets, &mut text).is_ok());
+    case.kept(write_packets(packets, &mut text).is_ok());
     case.say_line(text.as_slice());
 }
 

@@ -191,7 +191,7 @@ fn repeated(case: &mut Case) {
     case.check(wanted.has_said(all.as_slice()), "not each so");
 }
 
-/// The words of a command line, which stand between single blanks.
+/// The words of a command line, which are between single blanks.
 fn line_words(case: &mut Case, line: &str) -> Vec<String> {
     let mut words = Vec::new(case.alloc());
     if !line.is_empty() {

@@ -101,7 +101,7 @@ fn telegram(case: &mut Case) -> Option<Telegram> {
     reader.take().ok()
 }
 
-/// How many bytes are written of the telegram over so many equal bytes, and all bytes then.
+/// How many bytes are written of the telegram over this many equal bytes, and all bytes then.
 pub(crate) fn encoded(
     case: &mut Case,
     telegram: &Telegram,
@@ -278,7 +278,7 @@ fn say_viewed(case: &mut Case, packet: &PacketRef<'_>) {
     case.say("\n");
 }
 
-/// `room COUNT SIZE HEX`: what the telegram leaves in a buffer of so many bytes 55.
+/// `room COUNT SIZE HEX`: what the telegram leaves in a buffer of this many bytes 55.
 fn room(case: &mut Case) {
     let room = usize::from(case.byte());
     let telegram = telegram(case);

@@ -20,13 +20,13 @@ use Rattle.etcs_bodies.specs.Codecs.{Codes, Found, Stands, IsFlag}
 use Rattle.etcs_bodies.specs.laws.Codecs.{holds_here, carried, flag_of}
 use Rattle.etcs_bodies.specs.Choices.{IsChoice, choice_reading, choice_from, choice_row, IsEither, either_reading, side_from, either_from, either_row}
 
--- ---- A list behind its count.
+-- ---- A list after its count.
 
 -- entries that N_ITER counts
 pub few_counted : (many : ℕ) → count_fault N_ITER many ≡ None → many ≤ 31
 few_counted many h = let few = in_width N_ITER many (counted_admitted N_ITER many h) in omega arith
 
--- ---- Nothing behind a part.
+-- ---- Nothing after a part.
 
 module _ {V : Type 0} {row : Layout → Layout} {IsV : V → Type 0} {reading : V → Reading} {from : Left → Option (V × Left)} (codes : Codes row IsV reading from) where
   pub whole_in : (v : V) (s : Scope) → IsV v → Reads (row whole) s (reading v)

@@ -30,7 +30,7 @@ number v = record {
   out = λ rest s r (n, x, h, e, k). (n, x, (v, n) ∷ s, number_ok v n h, e, k);
 }
 
--- ---- One behind the other.
+-- ---- One after another.
 
 pub both : {V W : Type 0} {row row' : Layout → Layout} {IsV : V → Type 0} {IsW : W → Type 0} {reading : V → Reading} {reading' : W → Reading} {from : Left → Option (V × Left)} {from' : Left → Option (W × Left)}
     → Codes row IsV reading from → Codes row' IsW reading' from' → Codes (λ rest. row (row' rest)) (IsBoth IsV IsW) (both_reading reading reading') (both_from from from')
@@ -50,7 +50,7 @@ both {row' = row'} {IsV = IsV} {IsW = IsW} {reading = reading} {reading' = readi
       ((a.0, b.0), b.1, b.2, (a.3, b.3), a.4 ∙ ap (λ (t : Reading). reading a.0 ++ t) b.4 ∙ sym (append_assoc (reading a.0) (reading' b.0) b.1), b.5);
 }
 
--- ---- A group that stands where a test holds of the number of a variable.
+-- ---- A group that is there where a test holds of the number of a variable.
 
 pub holds_here : (v : Var) (test : Test) (n : ℕ) (s : Scope) → holds (record { var = v; test = test }) ((v, n) ∷ s) ≡ passes test n
 holds_here v test n s = let e : same_name v v ≡ true = (bytes_eq-Decides (name v) (name v)).1 refl in rw (e, holds, nearest) refl
@@ -223,7 +223,7 @@ form {reading = reading} {from = from} {to = to} {IsW = IsW} {shown = shown} cod
       (to a.0, a.1, a.2, f.so a.0 a.3, a.4 ∙ ap (λ v. reading v ++ a.1) (sym (f.again a.0)) ∙ ap (λ (t : Reading). t ++ a.1) (f.same (to a.0)), a.5);
 }
 
--- ---- A list behind its count.
+-- ---- A list after its count.
 
 module _ {V : Type 0} (v : Var) {row : Layout → Layout} {IsV : V → Type 0} {reading : V → Reading} {from : Left → Option (V × Left)} (entry : Codes row IsV reading from) where
   one_entry : (s : Scope) (r : Reading) → Reads (row whole) s r → (w : V) × IsV w × (r ≡ reading w)

@@ -39,7 +39,7 @@ group_none : {W : Type 0} (fault : W → Option BuildFault) (o : Option W) → I
 group_none fault None h = refl
 group_none fault (Some w) h = h
 
--- a group behind a flag
+-- a group after a flag
 pub flagged : {W : Type 0} {row : Layout → Layout} {reading : W → Reading} {from : Left → Option (W × Left)} (v : Var) (is : IsFlag v) (fault : W → Option BuildFault)
     → Codes row (λ (w : W). fault w ≡ None) reading from → Codes (group_row v IsOne row) (λ (o : Option W). group_fault fault o ≡ None) (optional_reading v reading) (optional_from from)
 flagged v is fault group = renamed (optional v is group) (λ o h. group_is fault o h) (λ o h. group_none fault o h) (λ o. refl)
@@ -60,7 +60,7 @@ pub guarded_none : {W : Type 0} (v : Var) (test : Test) (fault : W → Option Bu
 guarded_none v test fault n None h = rw (h.0, h.1, guard_ok v false) refl
 guarded_none v test fault n (Some w) h = rw (h.0, h.1, guard_ok v true, h.2) refl
 
--- ---- Two variables, one behind the other.
+-- ---- Two variables, one after another.
 
 pub pair : (v w : Var) → Codes (λ rest. one v (one w rest)) (λ (p : ℕ × ℕ). pair_fault v w p ≡ None) (pair_reading v w) (pair_from v w)
 pair v w =

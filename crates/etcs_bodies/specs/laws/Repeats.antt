@@ -12,7 +12,7 @@ use Rattle.etcs_bodies.specs.Taking.{Left, ahead, ◌and_then◌, next_number, t
 use Rattle.etcs_bodies.specs.laws.Takes.{ahead_none, ahead_both, taken, some_pair}
 use Rattle.etcs_bodies.specs.Repeats.{Stand, behind, bit_count}
 
--- the readings of values, one behind the other
+-- the readings of values, one after another
 pub times_in : {V : Type 0} (P : Reading → Type 0) (reading : V → Reading) (IsValue : V → Type 0)
     → ((v : V) → IsValue v → P (reading v)) → (vs : List V) → All IsValue vs → Times (length vs) P (flat_map reading vs)
 times_in P reading IsValue one [] h = refl
@@ -38,7 +38,7 @@ times_complete from reading IsValue one (v ∷ vs) s h =
 carried_all : {V : Type 0} (IsValue : V → Type 0) (reading : V → Reading) (n : ℕ) (s : Left) (a b : List V) (t u : Left) → ◌≡◌ {A = Option (List V × Left)} (Some (a, t)) (Some (b, u)) → Stand IsValue reading n s a t → Stand IsValue reading n s b u
 carried_all IsValue reading n s a b t u e h = let p = some_pair a b t u e in subst (λ x. Stand IsValue reading n s x u) p.0 (subst (λ y. Stand IsValue reading n s a y) p.1 h)
 
--- and stand there
+-- and are there
 pub times_sound : {V : Type 0} (from : Left → Option (V × Left)) (reading : V → Reading) (IsValue : V → Type 0)
     → ((v : V) (s t : Left) → from s ≡ Some (v, t) → IsValue v × (s ≡ ahead (reading v) t)) → (n : ℕ) (vs : List V) (s t : Left) → times_from from n s ≡ Some (vs, t) → All IsValue vs × (length vs ≡ n) × (s ≡ ahead (flat_map reading vs) t)
 unfolding times_from
@@ -58,7 +58,7 @@ pub behind_more : {V : Type 0} (vs : List V) (v : V) (o : Option (List V × Left
 behind_more vs v None = refl
 behind_more vs v (Some more) = ap (λ l. Some (l, more.1)) (sym (append_assoc vs (v ∷ []) more.0))
 
--- a list behind its count
+-- a list after its count
 pub list_is : {V : Type 0} (from : Left → Option (V × Left)) (v : Var) (n : ℕ) (vs : List V) (s t u : Left) → next_number v s ≡ Some (n, t) → times_from from n t ≡ Some (vs, u) → (next_number v s and_then λ m. times_from from m.0 m.1) ≡ Some (vs, u)
 list_is from v n vs s t u h k = rw (h, k) refl
 

@@ -57,7 +57,7 @@ none_in_bits b k =
       | inr none ↦ le-leb (length b) k none ∙ sym (ap (λ l. is_spent (in_bits l)) (drop_all k b none))
     ]
 
--- a number behind those that are taken
+-- a number after those that are taken
 behind : (k w : ℕ) (b : List Bool) → 0 < w → number_at 0 w (drop k b) ≡ number_at k w b
 behind k w b h =
     elim (cases_lt (length b) (k + w)) [

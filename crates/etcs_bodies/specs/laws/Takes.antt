@@ -1,4 +1,4 @@
--- What taking from the front answers, and that it takes what stands there.
+-- What taking from the front answers, and that it takes what is there.
 use Rattle.std.proofs.Common.{◌≡◌, ℕ, zero, suc, ◌+◌, ◌<◌, ◌^◌, Bool, true, false, nat_lt, nat_le, List, [], ◌∷◌, ◌++◌, length, take, drop, Option, Some, None, refl, sym, ap, ◌∙◌, append_assoc, arith}
 use Rattle.std.specs.Prelude.{if◌then◌else◌}
 use Rattle.std.proofs.lemmas.Bool.{and_parts, ltb-true, leb-true, le-leb}
@@ -57,11 +57,11 @@ pub counted_admitted : (v : Var) (n : ℕ) → count_fault v n ≡ None → admi
 unfolding count_fault
 counted_admitted v n h = by_test (admits v n) (TooMany v) h
 
--- a count that was read, where so many entries were read behind it
+-- a count that was read, where this many entries were read after it
 pub counted_is : (v : Var) (n many : ℕ) → number_fault v n ≡ None → many ≡ n → count_fault v many ≡ None
 counted_is v n many h e = rw e (count_ok v n (admitted v n h))
 
--- ---- One behind the other.
+-- ---- One after another.
 
 pub numbers-append : (a b : Reading) → numbers (a ++ b) ≡ numbers a ++ numbers b
 numbers-append a b = map-append (λ (p : Sent). p.1) a b

@@ -20,7 +20,7 @@ use Rattle.etcs_bodies.specs.laws.Codecs.{carried}
 use Rattle.etcs_bodies.specs.Packets.{packet_from}
 use Rattle.etcs_bodies.specs.PacketCodes.{PacketCodes, directed_from}
 use Rattle.etcs_bodies.specs.laws.PacketCodes.{packet_codes}
-use Rattle.etcs_flat.specs.Flats.{FlatParts, flat_parts, variables, flat_row, numbers_fault, row_fault, flat_fault, pairs, row_reading, flat_reading}
+use Rattle.etcs_flat.specs.Flats.{FlatValue, flat_value, variables, flat_row, numbers_fault, row_fault, flat_fault, pairs, row_reading, flat_reading}
 use Rattle.etcs_flat.specs.laws.FlatLaws.{none_both, number_fine, fine_number, behind_first, pairs-short, row_short, nothing_wrong, nothing_found}
 use Rattle.etcs_flat.specs.Tables.{table_from}
 use Rattle.etcs_flat.specs.FlatCodes.{row_of, AreNumbers, known, row_from, flat_from}
@@ -83,7 +83,7 @@ same_layout (counted group rest) vs is = absurd cc
 row_is : (nid : ℕ) (vs : List Var) → flat_row nid ≡ Some vs → row_to ToTrain nid ≡ Some (row_of vs whole)
 row_is nid vs is = option_and_then_some variables (row_to ToTrain nid) vs is (λ row there its. there ∙ ap Some (same_layout row vs its))
 
-codes_of : (nid : ℕ) (o : Option (List Var)) → flat_row nid ≡ o → IsSome o → PacketCodes ToTrain nid (λ (p : FlatParts). p.dir) (λ p. row_fault o p.dir p.numbers ≡ None) (λ p. row_reading o p.numbers) (packet_from (row_from o))
+codes_of : (nid : ℕ) (o : Option (List Var)) → flat_row nid ≡ o → IsSome o → PacketCodes ToTrain nid (λ (p : FlatValue). p.dir) (λ p. row_fault o p.dir p.numbers ≡ None) (λ p. row_reading o p.numbers) (packet_from (row_from o))
 codes_of nid None is there = absurd cc
 codes_of nid (Some vs) is there = packet_codes (numbers_codes vs) ToTrain nid (row_is nid vs is) (record {
   body = λ p. p.numbers;
@@ -100,7 +100,7 @@ codes_of nid (Some vs) is there = packet_codes (numbers_codes vs) ToTrain nid (r
   fits = λ dir ns small. refl;
 })
 
-pub flat_codes : (nid : ℕ) → IsSome (flat_row nid) → PacketCodes ToTrain nid (λ (p : FlatParts). p.dir) (λ p. flat_fault nid p.dir p.numbers ≡ None) (λ p. flat_reading nid p.numbers) (packet_from (flat_from nid))
+pub flat_codes : (nid : ℕ) → IsSome (flat_row nid) → PacketCodes ToTrain nid (λ (p : FlatValue). p.dir) (λ p. flat_fault nid p.dir p.numbers ≡ None) (λ p. flat_reading nid p.numbers) (packet_from (flat_from nid))
 flat_codes nid there = codes_of nid (flat_row nid) refl there
 
 -- ---- What is taken for the packet's table.
@@ -115,7 +115,7 @@ table_fine nid dir table s t ns is d h =
     let x = sound (known (flat_row nid)) ns s t (ap (λ (l : List RowItem). table_from l s) (sym k.1) ∙ h) in
     nothing_found (flat_row nid) (known (flat_row nid)) dir ns k.0 x.0.0 d x.0.1
 
-pub table_some : (nid dir : ℕ) (table : List RowItem) (s t : Left) (ns : List ℕ) → Some table ≡ option_map (λ vs. map One vs) (flat_row nid) → table_from table s ≡ Some (ns, t) → flat_from nid dir s ≡ Some (flat_parts dir ns, t)
+pub table_some : (nid dir : ℕ) (table : List RowItem) (s t : Left) (ns : List ℕ) → Some table ≡ option_map (λ vs. map One vs) (flat_row nid) → table_from table s ≡ Some (ns, t) → flat_from nid dir s ≡ Some (flat_value dir ns, t)
 unfolding directed_from
 table_some nid dir table s t ns is h =
     let k = table_is (flat_row nid) table is in

@@ -18,7 +18,7 @@ use Rattle.etcs_tables.specs.Rows.{row_to, rows_to}
 use Rattle.etcs_tables.proofs.EachRow.{of_each}
 use Rattle.etcs_flat.specs.Flats.{variables, flat_row, numbers_fault, row_fault, pairs}
 
--- ---- Faults, one behind the other.
+-- ---- Faults, one after another.
 
 pub none_both : (a b : Option BuildFault) → a or_else b ≡ None → (a ≡ None) × (b ≡ None)
 none_both None b e = (refl, e)

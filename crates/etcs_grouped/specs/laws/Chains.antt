@@ -23,49 +23,49 @@ use Rattle.etcs_bodies.specs.PacketCodes.{PacketCodes}
 use Rattle.etcs_bodies.specs.laws.PacketCodes.{packet_codes}
 use Rattle.etcs_bodies.specs.Equality.{IsExact}
 use Rattle.etcs_bodies.specs.laws.Equality.{number_exact, list_exact, both_exact, fields_exact}
-use Rattle.etcs_parts.specs.Links.{LinkParts, link_reading, link_from}
+use Rattle.etcs_parts.specs.Links.{LinkValue, link_reading, link_from}
 use Rattle.etcs_parts.specs.laws.Links.{link_codes, link_most}
-use Rattle.etcs_parts.specs.Slopes.{SlopeParts, slope_reading, slope_from}
+use Rattle.etcs_parts.specs.Slopes.{SlopeValue, slope_reading, slope_from}
 use Rattle.etcs_parts.specs.laws.Slopes.{slope_codes, slope_most}
-use Rattle.etcs_parts.specs.Speeds.{SpeedParts, speed_reading, speed_from}
+use Rattle.etcs_parts.specs.Speeds.{SpeedValue, speed_reading, speed_from}
 use Rattle.etcs_parts.specs.laws.Speeds.{speed_codes, speed_most}
-use Rattle.etcs_parts.specs.ModeSections.{ModeSectionParts, mode_section_reading, mode_section_from}
+use Rattle.etcs_parts.specs.ModeSections.{ModeSectionValue, mode_section_reading, mode_section_from}
 use Rattle.etcs_parts.specs.laws.ModeSections.{mode_section_codes, mode_section_most}
-use Rattle.etcs_grouped.specs.Chains.{ChainParts, chain_reading, too_long, chain_of, body_of, IsChain, chain_row, chain_from, linking_reading, IsLinking, gradient_reading, IsGradient, profile_reading, IsSpeedProfile, mode_profile_reading, IsModeProfile}
+use Rattle.etcs_grouped.specs.Chains.{ChainValue, chain_reading, too_long, chain_of, body_of, IsChain, chain_row, chain_from, linking_reading, IsLinking, gradient_reading, IsGradient, profile_reading, IsSpeedProfile, mode_profile_reading, IsModeProfile}
 
 -- ---- Its bits.
 
-pub surely_short : {V : Type 0} (most : ℕ) (reading : V → Reading) (p : ChainParts V) → most ≤ 255 → too_long most reading p ≡ None
+pub surely_short : {V : Type 0} (most : ℕ) (reading : V → Reading) (p : ChainValue V) → most ≤ 255 → too_long most reading p ≡ None
 surely_short most reading p h = rw (le-leb most 255 h) refl
 
-by_length : {V : Type 0} (most : ℕ) (reading : V → Reading) (p : ChainParts V) → 255 < most → (bits : ℕ) → bits ≡ length (spelled (entries_reading reading (p.first, p.further))) → too_long most reading p ≡ bits_fault (2 + bits)
+by_length : {V : Type 0} (most : ℕ) (reading : V → Reading) (p : ChainValue V) → 255 < most → (bits : ℕ) → bits ≡ length (spelled (entries_reading reading (p.first, p.further))) → too_long most reading p ≡ bits_fault (2 + bits)
 by_length most reading p h bits e = rw (lt-leb most 255 h) (length_is (chain_reading reading p) (2 + bits) (let c = e ∙ bit_count_is (entries_reading reading (p.first, p.further)) in omega arith))
 
-pub short_enough : {V : Type 0} (most : ℕ) (reading : V → Reading) (p : ChainParts V) → 255 < most → (bits : ℕ) → bits ≡ length (spelled (entries_reading reading (p.first, p.further))) → 2 + bits ≤ 8168 → too_long most reading p ≡ None
+pub short_enough : {V : Type 0} (most : ℕ) (reading : V → Reading) (p : ChainValue V) → 255 < most → (bits : ℕ) → bits ≡ length (spelled (entries_reading reading (p.first, p.further))) → 2 + bits ≤ 8168 → too_long most reading p ≡ None
 unfolding bits_fault
 short_enough most reading p h bits e short = by_length most reading p h bits e ∙ rw (le-leb (2 + bits) ROW_LIMIT short) refl
 
-pub not_short : {V : Type 0} (most : ℕ) (reading : V → Reading) (p : ChainParts V) → 255 < most → (bits : ℕ) → bits ≡ length (spelled (entries_reading reading (p.first, p.further))) → 8168 < 2 + bits → too_long most reading p ≡ Some TooLong
+pub not_short : {V : Type 0} (most : ℕ) (reading : V → Reading) (p : ChainValue V) → 255 < most → (bits : ℕ) → bits ≡ length (spelled (entries_reading reading (p.first, p.further))) → 8168 < 2 + bits → too_long most reading p ≡ Some TooLong
 unfolding bits_fault
 not_short most reading p h bits e long = by_length most reading p h bits e ∙ rw (lt-leb (2 + bits) ROW_LIMIT long) refl
 
 module _ {V : Type 0} (IsV : V → Type 0) (reading : V → Reading) (most : ℕ) (each : (v : V) → IsV v → bit_count (reading v) ≤ most) where
-  by_most : (b : Bool) (p : ChainParts V) → nat_le most 255 ≡ b → AreEntries IsV (p.first, p.further) → (if b then None else length_fault (chain_reading reading p)) ≡ None → length (spelled (chain_reading reading p)) ≤ ROW_LIMIT
+  by_most : (b : Bool) (p : ChainValue V) → nat_le most 255 ≡ b → AreEntries IsV (p.first, p.further) → (if b then None else length_fault (chain_reading reading p)) ≡ None → length (spelled (chain_reading reading p)) ≤ ROW_LIMIT
   by_most true p few h none =
       let few = leb-true most 255 few in
       let entries = entries_most IsV reading most each (p.first, p.further) h in
       rw (bit_count_is (chain_reading reading p)) (omega arith)
   by_most false p few h none = length_fits (chain_reading reading p) none
 
-  pub chain_short : (p : ChainParts V) → IsChain IsV most reading p → length (spelled (chain_reading reading p)) ≤ ROW_LIMIT
+  pub chain_short : (p : ChainValue V) → IsChain IsV most reading p → length (spelled (chain_reading reading p)) ≤ ROW_LIMIT
   chain_short p h = by_most (nat_le most 255) p refl h.1.1 h.2
 
-no_fault : {V : Type 0} (reading : V → Reading) (b : Bool) (p : ChainParts V) → length (spelled (chain_reading reading p)) ≤ ROW_LIMIT → (if b then None else length_fault (chain_reading reading p)) ≡ None
+no_fault : {V : Type 0} (reading : V → Reading) (b : Bool) (p : ChainValue V) → length (spelled (chain_reading reading p)) ≤ ROW_LIMIT → (if b then None else length_fault (chain_reading reading p)) ≡ None
 no_fault reading true p short = refl
 no_fault reading false p short = length_ok (chain_reading reading p) short
 
 module _ {V : Type 0} {row : Layout → Layout} {IsV : V → Type 0} {reading : V → Reading} {from : Left → Option (V × Left)} (codes : Codes row IsV reading from) (most : ℕ) (each : (v : V) → IsV v → bit_count (reading v) ≤ most) where
-  pub chain_codes : (way : Way) (nid : ℕ) → row_to way nid ≡ Some (chain_row row whole) → PacketCodes way nid (λ (p : ChainParts V). p.dir) (IsChain IsV most reading) (chain_reading reading) (packet_from (chain_from most reading from))
+  pub chain_codes : (way : Way) (nid : ℕ) → row_to way nid ≡ Some (chain_row row whole) → PacketCodes way nid (λ (p : ChainValue V). p.dir) (IsChain IsV most reading) (chain_reading reading) (packet_from (chain_from most reading from))
   unfolding chain_from
   chain_codes way nid is =
       packet_codes (both (number Q_SCALE) (entries_codes codes)) way nid is
@@ -81,21 +81,21 @@ module _ {V : Type 0} {row : Layout → Layout} {IsV : V → Type 0} {reading : 
 
 -- ---- Of links, slopes, speeds and areas of modes.
 
-pub linking_codes : PacketCodes ToTrain 5 (λ (p : ChainParts LinkParts). p.dir) IsLinking linking_reading (packet_from (chain_from 49 link_reading link_from))
+pub linking_codes : PacketCodes ToTrain 5 (λ (p : ChainValue LinkValue). p.dir) IsLinking linking_reading (packet_from (chain_from 49 link_reading link_from))
 linking_codes = chain_codes link_codes 49 (λ l _. link_most l) ToTrain 5 refl
 
-pub gradient_codes : PacketCodes ToTrain 21 (λ (p : ChainParts SlopeParts). p.dir) IsGradient gradient_reading (packet_from (chain_from 24 slope_reading slope_from))
+pub gradient_codes : PacketCodes ToTrain 21 (λ (p : ChainValue SlopeValue). p.dir) IsGradient gradient_reading (packet_from (chain_from 24 slope_reading slope_from))
 gradient_codes = chain_codes slope_codes 24 (λ s _. slope_most s) ToTrain 21 refl
 
-pub profile_codes : PacketCodes ToTrain 27 (λ (p : ChainParts SpeedParts). p.dir) IsSpeedProfile profile_reading (packet_from (chain_from 431 speed_reading speed_from))
+pub profile_codes : PacketCodes ToTrain 27 (λ (p : ChainValue SpeedValue). p.dir) IsSpeedProfile profile_reading (packet_from (chain_from 431 speed_reading speed_from))
 profile_codes = chain_codes speed_codes 431 speed_most ToTrain 27 refl
 
-pub mode_profile_codes : PacketCodes ToTrain 80 (λ (p : ChainParts ModeSectionParts). p.dir) IsModeProfile mode_profile_reading (packet_from (chain_from 55 mode_section_reading mode_section_from))
+pub mode_profile_codes : PacketCodes ToTrain 80 (λ (p : ChainValue ModeSectionValue). p.dir) IsModeProfile mode_profile_reading (packet_from (chain_from 55 mode_section_reading mode_section_from))
 mode_profile_codes = chain_codes mode_section_codes 55 (λ m _. mode_section_most m) ToTrain 80 refl
 
 -- ---- Its equality.
 
-pub chain_exact : {V : Type 0} {E : V → V → Bool} → IsExact E → IsExact (λ (a b : ChainParts V). nat_eq a.dir b.dir && (nat_eq a.q_scale b.q_scale && (E a.first b.first && pointwise E a.further b.further)))
+pub chain_exact : {V : Type 0} {E : V → V → Bool} → IsExact E → IsExact (λ (a b : ChainValue V). nat_eq a.dir b.dir && (nat_eq a.q_scale b.q_scale && (E a.first b.first && pointwise E a.further b.further)))
 chain_exact {V} e =
-    fields_exact (λ (p : ChainParts V). (p.dir, body_of p)) (λ n. chain_of n.0 n.1) (λ p. refl) (
+    fields_exact (λ (p : ChainValue V). (p.dir, body_of p)) (λ n. chain_of n.0 n.1) (λ p. refl) (
     both_exact number_exact (both_exact number_exact (both_exact e (list_exact e))))

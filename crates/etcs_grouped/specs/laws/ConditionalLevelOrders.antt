@@ -9,17 +9,17 @@ use Rattle.etcs_bodies.specs.PacketCodes.{PacketCodes}
 use Rattle.etcs_bodies.specs.laws.PacketCodes.{packet_codes}
 use Rattle.etcs_parts.specs.Levels.{IsLevel, level_reading}
 use Rattle.etcs_parts.specs.laws.Levels.{level_codes, level_most}
-use Rattle.etcs_grouped.specs.ConditionalLevelOrders.{ConditionalLevelOrderParts, conditional_level_order_reading, body_of, IsConditionalLevelOrder, conditional_level_order_from}
+use Rattle.etcs_grouped.specs.ConditionalLevelOrders.{ConditionalLevelOrderValue, conditional_level_order_reading, body_of, IsConditionalLevelOrder, conditional_level_order_from}
 
 -- ---- All but the direction.
 
 -- its longest list is far from the most bits that L_PACKET counts
-pub conditional_level_order_small : (p : ConditionalLevelOrderParts) → IsConditionalLevelOrder p → length (spelled (conditional_level_order_reading p)) ≤ 357
+pub conditional_level_order_small : (p : ConditionalLevelOrderValue) → IsConditionalLevelOrder p → length (spelled (conditional_level_order_reading p)) ≤ 357
 conditional_level_order_small p h =
     let levels = entries_most IsLevel level_reading 11 (λ l _. level_most l) (p.first, p.further) h.1 in
     rw (bit_count_is (conditional_level_order_reading p)) (omega arith)
 
-pub conditional_level_order_codes : PacketCodes ToTrain 46 (λ (p : ConditionalLevelOrderParts). p.dir) IsConditionalLevelOrder conditional_level_order_reading (packet_from conditional_level_order_from)
+pub conditional_level_order_codes : PacketCodes ToTrain 46 (λ (p : ConditionalLevelOrderValue). p.dir) IsConditionalLevelOrder conditional_level_order_reading (packet_from conditional_level_order_from)
 unfolding conditional_level_order_from
 conditional_level_order_codes =
     packet_codes (entries_codes level_codes) ToTrain 46 refl

@@ -10,19 +10,19 @@ use Rattle.etcs_bodies.specs.PacketCodes.{PacketCodes}
 use Rattle.etcs_bodies.specs.laws.PacketCodes.{packet_codes}
 use Rattle.etcs_parts.specs.TextFrames.{text_frame_reading}
 use Rattle.etcs_parts.specs.laws.TextFrames.{text_frame_codes, text_frame_small}
-use Rattle.etcs_grouped.specs.FixedTexts.{FixedTextParts, fixed_text_reading, body_of, IsFixedText, fixed_text_from}
+use Rattle.etcs_grouped.specs.FixedTexts.{FixedTextValue, fixed_text_reading, body_of, IsFixedText, fixed_text_from}
 
 -- ---- Its bits.
 
-pub fixed_text_length : (p : FixedTextParts) → length (spelled (fixed_text_reading p)) ≡ length (spelled (text_frame_reading p.frame)) + 8
+pub fixed_text_length : (p : FixedTextValue) → length (spelled (fixed_text_reading p)) ≡ length (spelled (text_frame_reading p.frame)) + 8
 fixed_text_length p =
     let both = bit_count-append (text_frame_reading p.frame) ((Q_TEXT, p.q_text) ∷ []) in
     rw (bit_count_is (fixed_text_reading p), bit_count_is (text_frame_reading p.frame)) (omega arith)
 
-pub fixed_text_small : (p : FixedTextParts) → length (spelled (fixed_text_reading p)) ≤ 119
+pub fixed_text_small : (p : FixedTextValue) → length (spelled (fixed_text_reading p)) ≤ 119
 fixed_text_small p = omega (arith, fixed_text_length p, text_frame_small p.frame)
 
-pub fixed_text_codes : PacketCodes ToTrain 76 (λ (p : FixedTextParts). p.dir) IsFixedText fixed_text_reading (packet_from fixed_text_from)
+pub fixed_text_codes : PacketCodes ToTrain 76 (λ (p : FixedTextValue). p.dir) IsFixedText fixed_text_reading (packet_from fixed_text_from)
 unfolding fixed_text_from
 fixed_text_codes =
     packet_codes (both text_frame_codes (number Q_TEXT)) ToTrain 76 refl

@@ -10,20 +10,20 @@ use Rattle.etcs_bodies.specs.PacketCodes.{PacketCodes}
 use Rattle.etcs_bodies.specs.laws.PacketCodes.{packet_codes}
 use Rattle.etcs_parts.specs.Authorities.{authority_reading}
 use Rattle.etcs_parts.specs.laws.Authorities.{authority_codes, authority_small}
-use Rattle.etcs_grouped.specs.Level1Mas.{Level1MaParts, level1_ma_reading, body_of, IsLevel1Ma, level1_ma_from}
+use Rattle.etcs_grouped.specs.Level1Mas.{Level1MaValue, level1_ma_reading, body_of, IsLevel1Ma, level1_ma_from}
 
 -- ---- Its bits.
 
-pub level1_ma_length : (p : Level1MaParts) (a : ℕ) → a ≡ length (spelled (authority_reading p.authority)) → 26 + a ≡ length (spelled (level1_ma_reading p))
+pub level1_ma_length : (p : Level1MaValue) (a : ℕ) → a ≡ length (spelled (authority_reading p.authority)) → 26 + a ≡ length (spelled (level1_ma_reading p))
 level1_ma_length p a h =
     let e = h ∙ bit_count_is (authority_reading p.authority) in
     rw (bit_count_is (level1_ma_reading p)) (omega arith)
 
 -- it is far from the most bits that L_PACKET counts
-pub level1_ma_small : (p : Level1MaParts) → IsLevel1Ma p → length (spelled (level1_ma_reading p)) ≤ 1440
+pub level1_ma_small : (p : Level1MaValue) → IsLevel1Ma p → length (spelled (level1_ma_reading p)) ≤ 1440
 level1_ma_small p h = omega (arith, level1_ma_length p (length (spelled (authority_reading p.authority))) refl, authority_small p.authority h.1.1.1.1.1.faultless)
 
-pub level1_ma_codes : PacketCodes ToTrain 12 (λ (p : Level1MaParts). p.dir) IsLevel1Ma level1_ma_reading (packet_from level1_ma_from)
+pub level1_ma_codes : PacketCodes ToTrain 12 (λ (p : Level1MaValue). p.dir) IsLevel1Ma level1_ma_reading (packet_from level1_ma_from)
 unfolding level1_ma_from
 level1_ma_codes =
     packet_codes (both (number Q_SCALE) (both (number V_MAIN) (both (number V_LOA) (both (number T_LOA) authority_codes)))) ToTrain 12 refl

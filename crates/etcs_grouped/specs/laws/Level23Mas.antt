@@ -10,20 +10,20 @@ use Rattle.etcs_bodies.specs.PacketCodes.{PacketCodes}
 use Rattle.etcs_bodies.specs.laws.PacketCodes.{packet_codes}
 use Rattle.etcs_parts.specs.Authorities.{authority_reading}
 use Rattle.etcs_parts.specs.laws.Authorities.{authority_codes, authority_small}
-use Rattle.etcs_grouped.specs.Level23Mas.{Level23MaParts, level23_ma_reading, body_of, IsLevel23Ma, level23_ma_from}
+use Rattle.etcs_grouped.specs.Level23Mas.{Level23MaValue, level23_ma_reading, body_of, IsLevel23Ma, level23_ma_from}
 
 -- ---- Its bits.
 
-pub level23_ma_length : (p : Level23MaParts) (a : ℕ) → a ≡ length (spelled (authority_reading p.authority)) → 19 + a ≡ length (spelled (level23_ma_reading p))
+pub level23_ma_length : (p : Level23MaValue) (a : ℕ) → a ≡ length (spelled (authority_reading p.authority)) → 19 + a ≡ length (spelled (level23_ma_reading p))
 level23_ma_length p a h =
     let e = h ∙ bit_count_is (authority_reading p.authority) in
     rw (bit_count_is (level23_ma_reading p)) (omega arith)
 
 -- it is far from the most bits that L_PACKET counts
-pub level23_ma_small : (p : Level23MaParts) → IsLevel23Ma p → length (spelled (level23_ma_reading p)) ≤ 1433
+pub level23_ma_small : (p : Level23MaValue) → IsLevel23Ma p → length (spelled (level23_ma_reading p)) ≤ 1433
 level23_ma_small p h = omega (arith, level23_ma_length p (length (spelled (authority_reading p.authority))) refl, authority_small p.authority h.1.1.1.1.faultless)
 
-pub level23_ma_codes : PacketCodes ToTrain 15 (λ (p : Level23MaParts). p.dir) IsLevel23Ma level23_ma_reading (packet_from level23_ma_from)
+pub level23_ma_codes : PacketCodes ToTrain 15 (λ (p : Level23MaValue). p.dir) IsLevel23Ma level23_ma_reading (packet_from level23_ma_from)
 unfolding level23_ma_from
 level23_ma_codes =
     packet_codes (both (number Q_SCALE) (both (number V_LOA) (both (number T_LOA) authority_codes))) ToTrain 15 refl

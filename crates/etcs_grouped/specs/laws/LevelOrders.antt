@@ -12,22 +12,22 @@ use Rattle.etcs_bodies.specs.PacketCodes.{PacketCodes}
 use Rattle.etcs_bodies.specs.laws.PacketCodes.{packet_codes}
 use Rattle.etcs_parts.specs.Levels.{IsLevelAck, level_ack_reading}
 use Rattle.etcs_parts.specs.laws.Levels.{level_ack_codes, level_ack_most}
-use Rattle.etcs_grouped.specs.LevelOrders.{LevelOrderParts, level_order_reading, body_of, IsLevelOrder, level_order_from}
+use Rattle.etcs_grouped.specs.LevelOrders.{LevelOrderValue, level_order_reading, body_of, IsLevelOrder, level_order_from}
 
 -- ---- Its bits.
 
-pub level_order_length : (p : LevelOrderParts) (a : ℕ) → a ≡ length (spelled (entries_reading level_ack_reading (p.first, p.further))) → 17 + a ≡ length (spelled (level_order_reading p))
+pub level_order_length : (p : LevelOrderValue) (a : ℕ) → a ≡ length (spelled (entries_reading level_ack_reading (p.first, p.further))) → 17 + a ≡ length (spelled (level_order_reading p))
 level_order_length p a h =
     let e = h ∙ bit_count_is (entries_reading level_ack_reading (p.first, p.further)) in
     rw (bit_count_is (level_order_reading p)) (omega arith)
 
 -- its longest list is far from the most bits that L_PACKET counts
-pub level_order_small : (p : LevelOrderParts) → IsLevelOrder p → length (spelled (level_order_reading p)) ≤ 854
+pub level_order_small : (p : LevelOrderValue) → IsLevelOrder p → length (spelled (level_order_reading p)) ≤ 854
 level_order_small p h =
     let levels = entries_most IsLevelAck level_ack_reading 26 (λ l _. level_ack_most l) (p.first, p.further) h.1.1.1 in
     rw (bit_count_is (level_order_reading p)) (omega arith)
 
-pub level_order_codes : PacketCodes ToTrain 41 (λ (p : LevelOrderParts). p.dir) IsLevelOrder level_order_reading (packet_from level_order_from)
+pub level_order_codes : PacketCodes ToTrain 41 (λ (p : LevelOrderValue). p.dir) IsLevelOrder level_order_reading (packet_from level_order_from)
 unfolding level_order_from
 level_order_codes =
     packet_codes (both (number Q_SCALE) (both (number D_LEVELTR) (entries_codes level_ack_codes))) ToTrain 41 refl

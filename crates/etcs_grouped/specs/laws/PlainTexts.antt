@@ -12,23 +12,23 @@ use Rattle.etcs_bodies.specs.PacketCodes.{PacketCodes}
 use Rattle.etcs_bodies.specs.laws.PacketCodes.{packet_codes}
 use Rattle.etcs_parts.specs.TextFrames.{text_frame_reading}
 use Rattle.etcs_parts.specs.laws.TextFrames.{text_frame_codes, text_frame_small}
-use Rattle.etcs_grouped.specs.PlainTexts.{byte_reading, text_reading, PlainTextParts, plain_text_reading, body_of, IsPlainText, plain_text_from}
+use Rattle.etcs_grouped.specs.PlainTexts.{byte_reading, text_reading, PlainTextValue, plain_text_reading, body_of, IsPlainText, plain_text_from}
 
 -- ---- Its bits.
 
-pub plain_text_few : (p : PlainTextParts) → IsPlainText p → length p.text ≤ 255
+pub plain_text_few : (p : PlainTextValue) → IsPlainText p → length p.text ≤ 255
 plain_text_few p h = let few = in_width L_TEXT (length p.text) (counted_admitted L_TEXT (length p.text) h.1.1.0) in omega arith
 
-pub plain_text_length : (p : PlainTextParts) → length (spelled (plain_text_reading p)) ≡ length (spelled (text_frame_reading p.frame)) + 8 + 8 * length p.text
+pub plain_text_length : (p : PlainTextValue) → length (spelled (plain_text_reading p)) ≡ length (spelled (text_frame_reading p.frame)) + 8 + 8 * length p.text
 plain_text_length p =
     let both = bit_count-append (text_frame_reading p.frame) (text_reading p.text) in
     let bytes = bit_count-same byte_reading 8 (λ n. refl) p.text in
     rw (bit_count_is (plain_text_reading p), bit_count_is (text_frame_reading p.frame)) (omega arith)
 
-pub plain_text_small : (p : PlainTextParts) → IsPlainText p → length (spelled (plain_text_reading p)) ≤ 2159
+pub plain_text_small : (p : PlainTextValue) → IsPlainText p → length (spelled (plain_text_reading p)) ≤ 2159
 plain_text_small p h = omega (arith, plain_text_length p, text_frame_small p.frame, plain_text_few p h)
 
-pub plain_text_codes : PacketCodes ToTrain 72 (λ (p : PlainTextParts). p.dir) IsPlainText plain_text_reading (packet_from plain_text_from)
+pub plain_text_codes : PacketCodes ToTrain 72 (λ (p : PlainTextValue). p.dir) IsPlainText plain_text_reading (packet_from plain_text_from)
 unfolding plain_text_from
 plain_text_codes =
     packet_codes (both text_frame_codes (list L_TEXT (number X_TEXT))) ToTrain 72 refl

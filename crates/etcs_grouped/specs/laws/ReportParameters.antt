@@ -12,22 +12,22 @@ use Rattle.etcs_bodies.specs.PacketCodes.{PacketCodes}
 use Rattle.etcs_bodies.specs.laws.PacketCodes.{packet_codes}
 use Rattle.etcs_parts.specs.ReportsAt.{IsReportAt, report_at_reading}
 use Rattle.etcs_parts.specs.laws.ReportsAt.{report_at_codes, report_at_most}
-use Rattle.etcs_grouped.specs.ReportParameters.{ReportParametersParts, report_parameters_reading, body_of, IsReportParameters, report_parameters_from}
+use Rattle.etcs_grouped.specs.ReportParameters.{ReportParametersValue, report_parameters_reading, body_of, IsReportParameters, report_parameters_from}
 
 -- ---- Its bits.
 
-pub report_parameters_length : (p : ReportParametersParts) (a : ℕ) → a ≡ length (spelled (list_reading N_ITER report_at_reading p.reports)) → 28 + a ≡ length (spelled (report_parameters_reading p))
+pub report_parameters_length : (p : ReportParametersValue) (a : ℕ) → a ≡ length (spelled (list_reading N_ITER report_at_reading p.reports)) → 28 + a ≡ length (spelled (report_parameters_reading p))
 report_parameters_length p a h =
     let e = h ∙ bit_count_is (list_reading N_ITER report_at_reading p.reports) in
     rw (bit_count_is (report_parameters_reading p)) (omega arith)
 
 -- its longest list is far from the most bits that L_PACKET counts
-pub report_parameters_small : (p : ReportParametersParts) → IsReportParameters p → length (spelled (report_parameters_reading p)) ≤ 529
+pub report_parameters_small : (p : ReportParametersValue) → IsReportParameters p → length (spelled (report_parameters_reading p)) ≤ 529
 report_parameters_small p h =
     let places = list_most IsReportAt report_at_reading 16 (λ r _. report_at_most r) p.reports h.1.1.1.1.1 in
     rw (bit_count_is (report_parameters_reading p)) (omega arith)
 
-pub report_parameters_codes : PacketCodes ToTrain 58 (λ (p : ReportParametersParts). p.dir) IsReportParameters report_parameters_reading (packet_from report_parameters_from)
+pub report_parameters_codes : PacketCodes ToTrain 58 (λ (p : ReportParametersValue). p.dir) IsReportParameters report_parameters_reading (packet_from report_parameters_from)
 unfolding report_parameters_from
 report_parameters_codes =
     packet_codes (both (number Q_SCALE) (both (number T_CYCLOC) (both (number D_CYCLOC) (both (number M_LOC) (list N_ITER report_at_codes))))) ToTrain 58 refl

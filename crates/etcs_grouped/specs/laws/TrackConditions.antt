@@ -17,10 +17,10 @@ use Rattle.etcs_bodies.specs.laws.PacketCodes.{packet_codes}
 use Rattle.etcs_bodies.specs.Equality.{IsExact}
 use Rattle.etcs_bodies.specs.laws.Equality.{number_exact, list_exact, both_exact, fields_exact}
 use Rattle.etcs_tables.specs.Rows.{condition, ◌▸◌}
-use Rattle.etcs_parts.specs.Conditions.{ConditionParts, IsCondition, condition_reading}
+use Rattle.etcs_parts.specs.Conditions.{ConditionValue, IsCondition, condition_reading}
 use Rattle.etcs_parts.specs.laws.Conditions.{condition_codes, condition_most}
 use Rattle.etcs_parts.specs.laws.Equality.{condition_exact}
-use Rattle.etcs_grouped.specs.TrackConditions.{StateParts, IsState, state_reading, state_from, state_eq, TrackConditionParts, track_condition_reading, track_condition_eq, body_of, track_condition_of, IsTrackCondition, track_condition_from}
+use Rattle.etcs_grouped.specs.TrackConditions.{StateValue, IsState, state_reading, state_from, state_eq, TrackConditionValue, track_condition_reading, track_condition_eq, body_of, track_condition_of, IsTrackCondition, track_condition_from}
 
 -- ---- The state.
 
@@ -31,15 +31,15 @@ state_codes = either Q_TRACKINIT (refl, refl, refl) (number D_TRACKINIT) (entrie
 pub initial_bits : (n : ℕ) → 16 ≡ length (spelled (state_reading (inl n)))
 initial_bits n = rw (bit_count_is (state_reading (inl n))) refl
 
-pub condition_bits : (first : ConditionParts) (further : List ConditionParts) → 40 + 34 * length further ≡ length (spelled (state_reading (inr (first, further))))
+pub condition_bits : (first : ConditionValue) (further : List ConditionValue) → 40 + 34 * length further ≡ length (spelled (state_reading (inr (first, further))))
 condition_bits first further =
     let conditions = bit_count-same condition_reading 34 (λ c. refl) further in
     rw (bit_count_is (state_reading (inr (first, further)))) (omega arith)
 
-pub few_conditions : (first : ConditionParts) (further : List ConditionParts) → IsState (inr (first, further)) → length further ≤ 31
+pub few_conditions : (first : ConditionValue) (further : List ConditionValue) → IsState (inr (first, further)) → length further ≤ 31
 few_conditions first further h = few_counted (length further) h.1.0
 
-state_most : (s : StateParts) → IsState s → bit_count (state_reading s) ≤ 1094
+state_most : (s : StateValue) → IsState s → bit_count (state_reading s) ≤ 1094
 state_most (inl n) h = omega arith
 state_most (inr e) h =
     let conditions = entries_most IsCondition condition_reading 34 (λ c _. condition_most c) e h in
@@ -53,17 +53,17 @@ state_exact (inr d) (inr e) = let k = both_exact condition_exact (list_exact con
 
 -- ---- The packet.
 
-pub track_condition_length : (p : TrackConditionParts) (a : ℕ) → a ≡ length (spelled (state_reading p.state)) → 2 + a ≡ length (spelled (track_condition_reading p))
+pub track_condition_length : (p : TrackConditionValue) (a : ℕ) → a ≡ length (spelled (state_reading p.state)) → 2 + a ≡ length (spelled (track_condition_reading p))
 track_condition_length p a h =
     let e = h ∙ bit_count_is (state_reading p.state) in
     rw (bit_count_is (track_condition_reading p)) (omega arith)
 
-track_condition_small : (p : TrackConditionParts) → IsTrackCondition p → length (spelled (track_condition_reading p)) ≤ 1096
+track_condition_small : (p : TrackConditionValue) → IsTrackCondition p → length (spelled (track_condition_reading p)) ≤ 1096
 track_condition_small p h =
     let state = state_most p.state h.1.1 in
     rw (bit_count_is (track_condition_reading p)) (omega arith)
 
-pub track_condition_codes : PacketCodes ToTrain 68 (λ (p : TrackConditionParts). p.dir) IsTrackCondition track_condition_reading (packet_from track_condition_from)
+pub track_condition_codes : PacketCodes ToTrain 68 (λ (p : TrackConditionValue). p.dir) IsTrackCondition track_condition_reading (packet_from track_condition_from)
 unfolding track_condition_from
 track_condition_codes =
     packet_codes (both (number Q_SCALE) state_codes) ToTrain 68 refl
@@ -77,7 +77,7 @@ track_condition_codes =
       fits = λ dir b short. refl;
     })
 
-pub track_condition_exact : (p q : TrackConditionParts) → Decides (track_condition_eq p q) (p ≡ q)
+pub track_condition_exact : (p q : TrackConditionValue) → Decides (track_condition_eq p q) (p ≡ q)
 track_condition_exact =
-    fields_exact (λ (p : TrackConditionParts). (p.dir, body_of p)) (λ n. track_condition_of n.0 n.1) (λ p. refl) (
+    fields_exact (λ (p : TrackConditionValue). (p.dir, body_of p)) (λ n. track_condition_of n.0 n.1) (λ p. refl) (
     both_exact number_exact (both_exact number_exact state_exact))

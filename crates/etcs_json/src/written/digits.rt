@@ -49,7 +49,7 @@ fn bit_value(digit: u8) -> Option<bool>
     }
 }
 
-/// The bits that a text of digits 0 and 1 says, in its order. `None` where another byte stands in it.
+/// The bits that a text of digits 0 and 1 says, in its order. `None` where another byte is in it.
 ///
 /// # Errors
 ///
@@ -69,7 +69,7 @@ pub fn bits_of(alloc: Global, text: &[u8]) -> Result<Option<Bits>, AllocError>
 }
 
 /// The number of the bits of PADDING, the first one the highest. `None` for more than seven bits, which no message has
-/// behind its packets, since it ends on a whole byte (SUBSET-026, 8).
+/// after its packets, since it ends on a whole byte (SUBSET-026, 8).
 pub fn padding_number(bits: &Bits) -> Option<u8>
     ensures some { IfSome result (λ n. (length bits.now ≤ 7) × (n < 2 ^ length bits.now) × (bits.now ≡ num (length bits.now) n)) }
     ensures none { IsNone result → 7 < length bits.now }

@@ -28,7 +28,7 @@ fn header_of(numbers: &[u64]) -> Option<Header> {
     }
 }
 
-/// The packet behind its direction's name.
+/// The packet after its direction's name.
 fn typed_packet(alloc: Global, text: &mut Text<'_>) -> Result<Option<Packet>, AllocError> {
     let dir = text.byte();
     if !text.skip(b",\"fields\":") {
@@ -46,7 +46,7 @@ fn typed_packet(alloc: Global, text: &mut Text<'_>) -> Result<Option<Packet>, Al
     }
 }
 
-/// The packet that is kept as bits, behind their quotation mark.
+/// The packet that is kept as bits, after their quotation mark.
 fn kept_packet(alloc: Global, text: &mut Text<'_>) -> Result<Option<Packet>, AllocError> {
     let Some(bits) = text.bits(alloc)? else {
         return Ok(None);
@@ -129,7 +129,7 @@ pub(crate) fn packets(
     Ok(None)
 }
 
-/// Puts a packet behind the others.
+/// Puts a packet after the others.
 fn put(packets: &mut Vec<Packet>, packet: Packet) -> Result<(), AllocError> {
     match packets.push(packet) {
         Ok(()) => Ok(()),
@@ -140,7 +140,7 @@ fn put(packets: &mut Vec<Packet>, packet: Packet) -> Result<(), AllocError> {
 /// More packets than an item can have: 8,191 bits hold 585 of 14 bits.
 const MOST_PACKETS: usize = 600;
 
-/// What stands between a telegram's header and its packets.
+/// What is between a telegram's header and its packets.
 fn middle_of(size: Size) -> &'static [u8] {
     match size {
         Size::Short => b",\"kind\":\"short\",\"packets\":",

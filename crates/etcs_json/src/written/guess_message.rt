@@ -95,7 +95,7 @@ fn kept_of(nid: Option<u8>, bits: Bits) -> Option<Message> {
     }
 }
 
-/// The message that is kept as bits, behind their quotation mark.
+/// The message that is kept as bits, after their quotation mark.
 fn kept_message(alloc: Global, text: &mut Text<'_>) -> Result<Option<Message>, AllocError> {
     let Some(bits) = text.bits(alloc)? else {
         return Ok(None);
@@ -127,7 +127,7 @@ fn typed_message(alloc: Global, text: &mut Text<'_>) -> Result<Option<Message>, 
     behind_number(alloc, text, head_of(numbers.as_slice()), body)
 }
 
-/// The typed message with this head and body, behind its number.
+/// The typed message with this head and body, after its number.
 fn behind_number(
     alloc: Global,
     text: &mut Text<'_>,

@@ -27,7 +27,7 @@ impl<'a> Text<'a> {
         }
     }
 
-    /// Passes over what stands in front of the next such byte, and answers it. `None` where there is no such byte.
+    /// Passes over what is in front of the next such byte, and answers it. `None` where there is no such byte.
     fn up_to(&mut self, end: u8) -> Option<&'a [u8]> {
         let count = self.left.iter().position(|byte| *byte == end)?;
         let (front, left) = self.left.split_at_checked(count)?;

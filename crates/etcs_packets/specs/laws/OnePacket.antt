@@ -12,7 +12,7 @@ use Rattle.etcs_bodies.specs.Taking.{Left}
 use Rattle.etcs_bodies.specs.PacketCodes.{PacketCodes}
 use Rattle.etcs_bodies.specs.laws.PacketCodes.{all_apart}
 use Rattle.etcs_flat.specs.laws.FlatCodes.{flat_codes}
-use Rattle.etcs_flat.specs.Others.{OtherParts, other_parts, other_fault}
+use Rattle.etcs_flat.specs.Others.{OtherValue, other_value, other_fault}
 use Rattle.etcs_grouped.specs.laws.BaliseLists.{balise_list_codes}
 use Rattle.etcs_grouped.specs.laws.Chains.{linking_codes, gradient_codes, profile_codes, mode_profile_codes}
 use Rattle.etcs_grouped.specs.laws.Level1Mas.{level1_ma_codes}
@@ -45,14 +45,14 @@ marker_one : ℕ × ((x y : ℕ × Unit {0}) → IsTrue (admits NID_VBCMK x.0) �
 marker_one = (0, λ x y hx hy e. let same : x.0 ≡ y.0 = cc in ap (λ (n : ℕ). (n, tt {0})) same)
 
 -- 255 is the number of no packet
-other_one : ℕ × ((x y : OtherParts × Unit {0}) → other_fault ToTrain x.0.nid x.0.dir (length x.0.body) ≡ None → other_fault ToTrain y.0.nid y.0.dir (length y.0.body) ≡ None → kept x.0.nid x.0.dir x.0.body ≡ kept y.0.nid y.0.dir y.0.body → x ≡ y)
+other_one : ℕ × ((x y : OtherValue × Unit {0}) → other_fault ToTrain x.0.nid x.0.dir (length x.0.body) ≡ None → other_fault ToTrain y.0.nid y.0.dir (length y.0.body) ≡ None → kept x.0.nid x.0.dir x.0.body ≡ kept y.0.nid y.0.dir y.0.body → x ≡ y)
 other_one = (
   255,
   λ x y hx hy e.
       let n : x.0.nid ≡ y.0.nid = cc in
       let d : x.0.dir ≡ y.0.dir = cc in
       let b : x.0.body ≡ y.0.body = cc in
-      ap (λ (k : ℕ). (other_parts k x.0.dir x.0.body, tt {0})) n ∙ ap (λ (k : ℕ). (other_parts y.0.nid k x.0.body, tt {0})) d ∙ ap (λ (l : List Bool). (other_parts y.0.nid y.0.dir l, tt {0})) b,
+      ap (λ (k : ℕ). (other_value k x.0.dir x.0.body, tt {0})) n ∙ ap (λ (k : ℕ). (other_value y.0.nid k x.0.body, tt {0})) d ∙ ap (λ (l : List Bool). (other_value y.0.nid y.0.dir l, tt {0})) b,
 )
 
 -- ---- All variants, in their order.
@@ -102,13 +102,13 @@ every =
     other_one also
     tt {0}
 
--- where a packet stands among them
+-- where a packet is among them
 place : (Fss : List (List Field)) → Choice Fss → ℕ
 place [] c = absurd c
 place (Fs ∷ Fss) (inl x) = zero
 place (Fs ∷ Fss) (inr c) = suc (place Fss c)
 
--- where a number stands among theirs
+-- where a number is among theirs
 found : (Fss : List (List Field)) (make : Choice Fss → Packet) → Every Fss make → ℕ → ℕ
 found [] make each nid = zero
 found (Fs ∷ Fss) make each nid = if each.0.0 == nid then zero else suc (found Fss (λ c. make (inr c)) each.1 nid)

@@ -17,7 +17,7 @@ use Rattle.etcs_bodies.specs.Groups.{pair_fault}
 use Rattle.etcs_bodies.specs.laws.Groups.{flagged, pair}
 use Rattle.etcs_parts.specs.Sections.{IsSection, section_reading, end_reading}
 use Rattle.etcs_parts.specs.laws.Sections.{section_codes, end_codes, end_bits, section_most}
-use Rattle.etcs_parts.specs.Authorities.{end_timer_fault, end_timer_reading, end_timer_from, danger_fault, danger_reading, danger_from, Overlap, some_overlap_fault, overlap_fault, some_overlap_reading, overlap_reading, some_overlap_from, overlap_from, AuthorityParts, authority_fault, IsAuthority, authority_reading, sections_from, authority_from, authority_then, AuthorityFacts, groups_reading}
+use Rattle.etcs_parts.specs.Authorities.{end_timer_fault, end_timer_reading, end_timer_from, danger_fault, danger_reading, danger_from, Overlap, some_overlap_fault, overlap_fault, some_overlap_reading, overlap_reading, some_overlap_from, overlap_from, AuthorityValue, authority_fault, IsAuthority, authority_reading, sections_from, authority_from, authority_then, AuthorityFacts, groups_reading}
 
 -- ---- The timer of the end section.
 
@@ -55,7 +55,7 @@ overlap_codes = flagged Q_OVERLAP (refl, refl, refl) some_overlap_fault some_ove
 
 -- ---- An authority is what its row spells.
 
-facts : (p : AuthorityParts) → authority_fault p ≡ None → AuthorityFacts p
+facts : (p : AuthorityValue) → authority_fault p ≡ None → AuthorityFacts p
 facts p h =
     let a = none_of (count_fault N_ITER (length p.sections)) (end_timer_fault p.end_timer or_else danger_fault p.danger_point or_else overlap_fault p.overlap) h in
     let b = none_of (end_timer_fault p.end_timer) (danger_fault p.danger_point or_else overlap_fault p.overlap) a.1 in
@@ -81,7 +81,7 @@ authority_codes =
 
 -- ---- Its bits.
 
-pub few_sections : (p : AuthorityParts) → authority_fault p ≡ None → length p.sections ≤ 31
+pub few_sections : (p : AuthorityValue) → authority_fault p ≡ None → length p.sections ≤ 31
 few_sections p h = few_counted (length p.sections) (facts p h).count
 
 count_end_timer : (o : Option (ℕ × ℕ)) → bit_count (end_timer_reading o) ≡ (if is_some o then 26 else 1)
@@ -96,7 +96,7 @@ count_overlap : (o : Option Overlap) → bit_count (overlap_reading o) ≡ (if i
 count_overlap None = refl
 count_overlap (Some p) = refl
 
-pub groups_bits : (p : AuthorityParts) (a b c : ℕ) → a ≡ (if is_some p.end_timer then 26 else 1) → b ≡ (if is_some p.danger_point then 23 else 1) → c ≡ (if is_some p.overlap then 48 else 1) → a + b + c ≡ length (spelled (groups_reading p))
+pub groups_bits : (p : AuthorityValue) (a b c : ℕ) → a ≡ (if is_some p.end_timer then 26 else 1) → b ≡ (if is_some p.danger_point then 23 else 1) → c ≡ (if is_some p.overlap then 48 else 1) → a + b + c ≡ length (spelled (groups_reading p))
 groups_bits p a b c ha hb hc =
     let first = bit_count-append (end_timer_reading p.end_timer) (danger_reading p.danger_point ++ overlap_reading p.overlap) in
     let second = bit_count-append (danger_reading p.danger_point) (overlap_reading p.overlap) in
@@ -105,7 +105,7 @@ groups_bits p a b c ha hb hc =
     let ec : c ≡ bit_count (overlap_reading p.overlap) = hc ∙ sym (count_overlap p.overlap) in
     rw (bit_count_is (groups_reading p)) (omega arith)
 
-pub authority_bits : (p : AuthorityParts) (a b c : ℕ) → a ≡ length (spelled (flat_map section_reading p.sections)) → b ≡ length (spelled (section_reading p.end)) → c ≡ length (spelled (groups_reading p)) → 5 + a + b + c ≡ length (spelled (authority_reading p))
+pub authority_bits : (p : AuthorityValue) (a b c : ℕ) → a ≡ length (spelled (flat_map section_reading p.sections)) → b ≡ length (spelled (section_reading p.end)) → c ≡ length (spelled (groups_reading p)) → 5 + a + b + c ≡ length (spelled (authority_reading p))
 authority_bits p a b c ha hb hc =
     let sections = bit_count-append (list_reading N_ITER section_reading p.sections) (end_reading p.end ++ groups_reading p) in
     let end = bit_count-append (end_reading p.end) (groups_reading p) in
@@ -125,7 +125,7 @@ most_of_groups false false true = omega arith
 most_of_groups false false false = omega arith
 
 -- all of 31 sections, the end section and every group
-pub authority_small : (p : AuthorityParts) → authority_fault p ≡ None → length (spelled (authority_reading p)) ≤ 1414
+pub authority_small : (p : AuthorityValue) → authority_fault p ≡ None → length (spelled (authority_reading p)) ≤ 1414
 authority_small p h =
     let few = few_sections p h in
     let flat = bit_count-flat section_reading 41 section_most p.sections in

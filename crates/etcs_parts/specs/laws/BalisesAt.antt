@@ -9,7 +9,7 @@ use Rattle.etcs_bodies.specs.Codecs.{Codes}
 use Rattle.etcs_bodies.specs.laws.Codecs.{number, both, optional, form, option_is, option_none}
 use Rattle.etcs_bodies.specs.Repeats.{bit_count}
 use Rattle.etcs_bodies.specs.laws.Repeats.{bit_count_is}
-use Rattle.etcs_parts.specs.BalisesAt.{BaliseAtParts, balise_at_parts, IsBaliseAt, balise_at_reading, balise_at_from}
+use Rattle.etcs_parts.specs.BalisesAt.{BaliseAtValue, balise_at_value, IsBaliseAt, balise_at_reading, balise_at_from}
 
 -- ---- A group is what its row spells.
 
@@ -28,15 +28,15 @@ balise_at_codes =
 
 -- ---- Its bits.
 
-pub balise_at_bits_near : (p : BaliseAtParts) → p.nid_c ≡ None → 15 ≡ length (spelled (balise_at_reading p))
+pub balise_at_bits_near : (p : BaliseAtValue) → p.nid_c ≡ None → 15 ≡ length (spelled (balise_at_reading p))
 balise_at_bits_near p h = rw (bit_count_is (balise_at_reading p), h) refl
 
-pub balise_at_bits_far : (p : BaliseAtParts) (c : ℕ) → p.nid_c ≡ Some c → 25 ≡ length (spelled (balise_at_reading p))
+pub balise_at_bits_far : (p : BaliseAtValue) (c : ℕ) → p.nid_c ≡ Some c → 25 ≡ length (spelled (balise_at_reading p))
 balise_at_bits_far p c h = rw (bit_count_is (balise_at_reading p), h) refl
 
-most : (c : Option ℕ) (n : ℕ) → bit_count (balise_at_reading (balise_at_parts c n)) ≤ 25
+most : (c : Option ℕ) (n : ℕ) → bit_count (balise_at_reading (balise_at_value c n)) ≤ 25
 most None n = omega arith
 most (Some c) n = omega arith
 
-pub balise_at_most : (p : BaliseAtParts) → bit_count (balise_at_reading p) ≤ 25
+pub balise_at_most : (p : BaliseAtValue) → bit_count (balise_at_reading p) ≤ 25
 balise_at_most p = most p.nid_c p.nid_bg

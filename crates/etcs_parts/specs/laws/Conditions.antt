@@ -9,11 +9,11 @@ use Rattle.etcs_bodies.specs.Codecs.{Codes}
 use Rattle.etcs_bodies.specs.laws.Codecs.{number, both, form}
 use Rattle.etcs_bodies.specs.Repeats.{bit_count}
 use Rattle.etcs_bodies.specs.laws.Repeats.{bit_count_is}
-use Rattle.etcs_parts.specs.Conditions.{ConditionParts, IsCondition, condition_reading, condition_from}
+use Rattle.etcs_parts.specs.Conditions.{ConditionValue, IsCondition, condition_reading, condition_from}
 
 -- ---- A condition is what its row spells.
 
-facts : (p : ConditionParts) → IsCondition p → (number_fault D_TRACKCOND p.d_trackcond ≡ None) × (number_fault L_TRACKCOND p.l_trackcond ≡ None) × (number_fault M_TRACKCOND p.m_trackcond ≡ None)
+facts : (p : ConditionValue) → IsCondition p → (number_fault D_TRACKCOND p.d_trackcond ≡ None) × (number_fault L_TRACKCOND p.l_trackcond ≡ None) × (number_fault M_TRACKCOND p.m_trackcond ≡ None)
 facts p h =
     let h1 = none_of (number_fault D_TRACKCOND p.d_trackcond) (number_fault L_TRACKCOND p.l_trackcond or_else number_fault M_TRACKCOND p.m_trackcond) h in
     let h2 = none_of (number_fault L_TRACKCOND p.l_trackcond) (number_fault M_TRACKCOND p.m_trackcond) h1.1 in
@@ -34,8 +34,8 @@ condition_codes =
 
 -- ---- Its bits.
 
-pub condition_bits : (p : ConditionParts) → 34 ≡ length (spelled (condition_reading p))
+pub condition_bits : (p : ConditionValue) → 34 ≡ length (spelled (condition_reading p))
 condition_bits p = rw (bit_count_is (condition_reading p)) refl
 
-pub condition_most : (p : ConditionParts) → bit_count (condition_reading p) ≤ 34
+pub condition_most : (p : ConditionValue) → bit_count (condition_reading p) ≤ 34
 condition_most p = omega arith

@@ -13,7 +13,7 @@ use Rattle.etcs_bodies.specs.laws.Repeats.{bit_count_is}
 use Rattle.etcs_bodies.specs.Codecs.{Codes}
 use Rattle.etcs_bodies.specs.laws.Codecs.{number, both, form}
 use Rattle.etcs_bodies.specs.laws.Choices.{choice}
-use Rattle.etcs_parts.specs.Differings.{DifferingParts, category_var, category_of, IsDiffering, differing_reading, differing_row, differing_from}
+use Rattle.etcs_parts.specs.Differings.{DifferingValue, category_var, category_of, IsDiffering, differing_reading, differing_row, differing_from}
 
 -- ---- An entry is what its row spells.
 
@@ -28,7 +28,7 @@ small_apart (suc (suc (suc (suc n)))) lt h = absurd (omega arith)
 apart : (n : ℕ) → admits Q_DIFF n ≡ true → passes IsOneOrTwo n ≡ not (passes IsZero n)
 apart n h = small_apart n (in_width Q_DIFF n h) h
 
-facts : (d : DifferingParts) → IsDiffering d → (number_fault Q_DIFF d.q_diff ≡ None) × (number_fault (category_of d.q_diff) d.category ≡ None) × (number_fault V_DIFF d.v_diff ≡ None)
+facts : (d : DifferingValue) → IsDiffering d → (number_fault Q_DIFF d.q_diff ≡ None) × (number_fault (category_of d.q_diff) d.category ≡ None) × (number_fault V_DIFF d.v_diff ≡ None)
 facts d h =
     let h1 = none_of (number_fault Q_DIFF d.q_diff) (number_fault (category_of d.q_diff) d.category or_else number_fault V_DIFF d.v_diff) h in
     let h2 = none_of (number_fault (category_of d.q_diff) d.category) (number_fault V_DIFF d.v_diff) h1.1 in
@@ -55,8 +55,8 @@ category_bits : (b : Bool) → width (category_var b) ≡ 4
 category_bits true = refl
 category_bits false = refl
 
-pub differing_bits : (d : DifferingParts) → bit_count (differing_reading d) ≡ 13
+pub differing_bits : (d : DifferingValue) → bit_count (differing_reading d) ≡ 13
 differing_bits d = rw (category_bits (d.q_diff == 0)) refl
 
-pub differing_spelled : (d : DifferingParts) → 13 ≡ length (spelled (differing_reading d))
+pub differing_spelled : (d : DifferingValue) → 13 ≡ length (spelled (differing_reading d))
 differing_spelled d = rw (bit_count_is (differing_reading d), differing_bits d) refl

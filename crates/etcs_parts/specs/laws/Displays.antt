@@ -14,11 +14,11 @@ use Rattle.etcs_bodies.specs.Codecs.{Codes}
 use Rattle.etcs_bodies.specs.laws.Codecs.{number, both, group_of, form, option_is, option_none}
 use Rattle.etcs_bodies.specs.Guards.{guard_fault, optional_group}
 use Rattle.etcs_bodies.specs.laws.Guards.{group_is, group_gives, group_reading_is}
-use Rattle.etcs_parts.specs.Displays.{ShownParts, IsShown, shown_reading, shown_from, ShownFacts}
+use Rattle.etcs_parts.specs.Displays.{ShownValue, IsShown, shown_reading, shown_from, ShownFacts}
 
 -- ---- It is what its row spells.
 
-facts : (s : ShownParts) → IsShown s → ShownFacts s
+facts : (s : ShownValue) → IsShown s → ShownFacts s
 facts s h =
     let guard = guard_fault M_LEVELTEXTDISPLAY (passes IsOne s.m_leveltextdisplay) (is_some s.nid_ntc) in
     let level = number_fault M_LEVELTEXTDISPLAY s.m_leveltextdisplay in
@@ -42,15 +42,15 @@ shown_codes =
 
 -- ---- Its bits.
 
-pub shown_bits_short : (s : ShownParts) → s.nid_ntc ≡ None → 7 ≡ length (spelled (shown_reading s))
+pub shown_bits_short : (s : ShownValue) → s.nid_ntc ≡ None → 7 ≡ length (spelled (shown_reading s))
 shown_bits_short s h = rw (bit_count_is (shown_reading s), h) refl
 
-pub shown_bits_long : (s : ShownParts) (n : ℕ) → s.nid_ntc ≡ Some n → 15 ≡ length (spelled (shown_reading s))
+pub shown_bits_long : (s : ShownValue) (n : ℕ) → s.nid_ntc ≡ Some n → 15 ≡ length (spelled (shown_reading s))
 shown_bits_long s n h = rw (bit_count_is (shown_reading s), h) refl
 
 shown_most : (o : Option ℕ) → bit_count (optional_group (λ n. (NID_NTC, n) ∷ []) o) ≤ 8
 shown_most None = omega arith
 shown_most (Some n) = omega arith
 
-pub shown_small : (s : ShownParts) → length (spelled (shown_reading s)) ≤ 15
+pub shown_small : (s : ShownValue) → length (spelled (shown_reading s)) ≤ 15
 shown_small s = rw (bit_count_is (shown_reading s)) (omega (arith, shown_most s.nid_ntc))

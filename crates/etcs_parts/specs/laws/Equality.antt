@@ -2,19 +2,19 @@
 use Rattle.std.proofs.Common.{rules, ◌≡◌, ◌&&◌, ℕ, Decides, nat_eq, refl}
 use Rattle.etcs_bodies.specs.Equality.{IsExact}
 use Rattle.etcs_bodies.specs.laws.Equality.{number_exact, flag_exact, option_exact, list_exact, fields_exact, both_exact}
-use Rattle.etcs_parts.specs.Links.{LinkParts}
-use Rattle.etcs_parts.specs.Slopes.{SlopeParts}
-use Rattle.etcs_parts.specs.Levels.{LevelParts, LevelAckParts}
-use Rattle.etcs_parts.specs.Sections.{SectionParts}
-use Rattle.etcs_parts.specs.Authorities.{AuthorityParts, authority_parts, Overlap}
-use Rattle.etcs_parts.specs.Differings.{DifferingParts}
-use Rattle.etcs_parts.specs.Speeds.{SpeedParts, speed_parts}
-use Rattle.etcs_parts.specs.Displays.{ShownParts}
-use Rattle.etcs_parts.specs.TextFrames.{TextFrameParts, text_frame_parts, Report}
-use Rattle.etcs_parts.specs.BalisesAt.{BaliseAtParts}
-use Rattle.etcs_parts.specs.ReportsAt.{ReportAtParts}
-use Rattle.etcs_parts.specs.Conditions.{ConditionParts}
-use Rattle.etcs_parts.specs.ModeSections.{ModeSectionParts}
+use Rattle.etcs_parts.specs.Links.{LinkValue}
+use Rattle.etcs_parts.specs.Slopes.{SlopeValue}
+use Rattle.etcs_parts.specs.Levels.{LevelValue, LevelAckValue}
+use Rattle.etcs_parts.specs.Sections.{SectionValue}
+use Rattle.etcs_parts.specs.Authorities.{AuthorityValue, authority_value, Overlap}
+use Rattle.etcs_parts.specs.Differings.{DifferingValue}
+use Rattle.etcs_parts.specs.Speeds.{SpeedValue, speed_value}
+use Rattle.etcs_parts.specs.Displays.{ShownValue}
+use Rattle.etcs_parts.specs.TextFrames.{TextFrameValue, text_frame_value, Report}
+use Rattle.etcs_parts.specs.BalisesAt.{BaliseAtValue}
+use Rattle.etcs_parts.specs.ReportsAt.{ReportAtValue}
+use Rattle.etcs_parts.specs.Conditions.{ConditionValue}
+use Rattle.etcs_parts.specs.ModeSections.{ModeSectionValue}
 use Rattle.etcs_parts.specs.contracts.authority.AuthorityPartialEq.TheImpl as authority
 use Rattle.etcs_parts.specs.contracts.differing.DifferingPartialEq.TheImpl as differing
 use Rattle.etcs_parts.specs.contracts.level.LevelPartialEq.TheImpl as level
@@ -32,37 +32,37 @@ use Rattle.etcs_parts.specs.contracts.mode_section.ModeSectionPartialEq.TheImpl 
 
 -- ---- Of the parts.
 
-pub link_exact : (a b : LinkParts) → Decides (link.ghosts.eq a b) (a ≡ b)
+pub link_exact : (a b : LinkValue) → Decides (link.ghosts.eq a b) (a ≡ b)
 link_exact a b = search rules
 
-pub slope_exact : (a b : SlopeParts) → Decides (slope.ghosts.eq a b) (a ≡ b)
+pub slope_exact : (a b : SlopeValue) → Decides (slope.ghosts.eq a b) (a ≡ b)
 slope_exact a b = search rules
 
-pub level_exact : (a b : LevelParts) → Decides (level.ghosts.eq a b) (a ≡ b)
+pub level_exact : (a b : LevelValue) → Decides (level.ghosts.eq a b) (a ≡ b)
 level_exact a b = search rules
 
-pub level_ack_exact : (a b : LevelAckParts) → Decides (level_ack.ghosts.eq a b) (a ≡ b)
+pub level_ack_exact : (a b : LevelAckValue) → Decides (level_ack.ghosts.eq a b) (a ≡ b)
 level_ack_exact a b = search rules
 
-pub section_exact : (a b : SectionParts) → Decides (section.ghosts.eq a b) (a ≡ b)
+pub section_exact : (a b : SectionValue) → Decides (section.ghosts.eq a b) (a ≡ b)
 section_exact a b = search rules
 
-pub differing_exact : (a b : DifferingParts) → Decides (differing.ghosts.eq a b) (a ≡ b)
+pub differing_exact : (a b : DifferingValue) → Decides (differing.ghosts.eq a b) (a ≡ b)
 differing_exact a b = search rules
 
-pub shown_exact : (a b : ShownParts) → Decides (shown.ghosts.eq a b) (a ≡ b)
+pub shown_exact : (a b : ShownValue) → Decides (shown.ghosts.eq a b) (a ≡ b)
 shown_exact a b = search rules
 
-pub balise_at_exact : (a b : BaliseAtParts) → Decides (balise_at.ghosts.eq a b) (a ≡ b)
+pub balise_at_exact : (a b : BaliseAtValue) → Decides (balise_at.ghosts.eq a b) (a ≡ b)
 balise_at_exact a b = search rules
 
-pub report_at_exact : (a b : ReportAtParts) → Decides (report_at.ghosts.eq a b) (a ≡ b)
+pub report_at_exact : (a b : ReportAtValue) → Decides (report_at.ghosts.eq a b) (a ≡ b)
 report_at_exact a b = search rules
 
-pub condition_exact : (a b : ConditionParts) → Decides (condition.ghosts.eq a b) (a ≡ b)
+pub condition_exact : (a b : ConditionValue) → Decides (condition.ghosts.eq a b) (a ≡ b)
 condition_exact a b = search rules
 
-pub mode_section_exact : (a b : ModeSectionParts) → Decides (mode_section.ghosts.eq a b) (a ≡ b)
+pub mode_section_exact : (a b : ModeSectionValue) → Decides (mode_section.ghosts.eq a b) (a ≡ b)
 mode_section_exact a b = search rules
 
 numbers_exact : IsExact (λ (a b : ℕ × ℕ). nat_eq a.0 b.0 && nat_eq a.1 b.1)
@@ -73,24 +73,24 @@ overlap_exact =
     fields_exact (λ (o : Overlap). (((o.0, o.1), o.2), o.3)) (λ n. (n.0.0.0, n.0.0.1, n.0.1, n.1)) (λ o. refl) (
     both_exact (both_exact numbers_exact number_exact) number_exact)
 
-pub authority_exact : (a b : AuthorityParts) → Decides (authority.ghosts.eq a b) (a ≡ b)
+pub authority_exact : (a b : AuthorityValue) → Decides (authority.ghosts.eq a b) (a ≡ b)
 authority_exact =
-    fields_exact (λ (p : AuthorityParts). (p.end_timer, (p.danger_point, (p.overlap, (p.end, p.sections))))) (λ n. authority_parts n.1.1.1.1 n.1.1.1.0 n.0 n.1.0 n.1.1.0) (λ p. refl) (
+    fields_exact (λ (p : AuthorityValue). (p.end_timer, (p.danger_point, (p.overlap, (p.end, p.sections))))) (λ n. authority_value n.1.1.1.1 n.1.1.1.0 n.0 n.1.0 n.1.1.0) (λ p. refl) (
     both_exact (option_exact numbers_exact) (both_exact (option_exact numbers_exact) (both_exact (option_exact overlap_exact) (both_exact section_exact (list_exact section_exact)))))
 
-pub speed_exact : (a b : SpeedParts) → Decides (speed.ghosts.eq a b) (a ≡ b)
+pub speed_exact : (a b : SpeedValue) → Decides (speed.ghosts.eq a b) (a ≡ b)
 speed_exact =
-    fields_exact (λ (p : SpeedParts). (p.d_static, (p.v_static, (p.q_front, p.differing)))) (λ n. speed_parts n.0 n.1.0 n.1.1.0 n.1.1.1) (λ p. refl) (
+    fields_exact (λ (p : SpeedValue). (p.d_static, (p.v_static, (p.q_front, p.differing)))) (λ n. speed_value n.0 n.1.0 n.1.1.0 n.1.1.1) (λ p. refl) (
     both_exact number_exact (both_exact number_exact (both_exact flag_exact (list_exact differing_exact))))
 
 report_exact : IsExact (λ (a b : Report). (nat_eq a.0 b.0 && nat_eq a.1 b.1) && nat_eq a.2 b.2)
 report_exact = fields_exact (λ (r : Report). ((r.0, r.1), r.2)) (λ n. (n.0.0, n.0.1, n.1)) (λ r. refl) (both_exact numbers_exact number_exact)
 
-pub text_frame_exact : (a b : TextFrameParts) → Decides (text_frame.ghosts.eq a b) (a ≡ b)
+pub text_frame_exact : (a b : TextFrameValue) → Decides (text_frame.ghosts.eq a b) (a ≡ b)
 text_frame_exact =
     fields_exact
-    (λ (p : TextFrameParts). (p.q_scale, (p.q_textclass, (p.q_textdisplay, (p.d_textdisplay, (p.l_textdisplay, (p.t_textdisplay, (p.q_textconfirm, (p.confirm, (p.start, p.end))))))))))
-    (λ n. text_frame_parts n.0 n.1.0 n.1.1.0 n.1.1.1.0 n.1.1.1.1.1.1.1.1.0 n.1.1.1.1.0 n.1.1.1.1.1.0 n.1.1.1.1.1.1.1.1.1 n.1.1.1.1.1.1.0 n.1.1.1.1.1.1.1.0)
+    (λ (p : TextFrameValue). (p.q_scale, (p.q_textclass, (p.q_textdisplay, (p.d_textdisplay, (p.l_textdisplay, (p.t_textdisplay, (p.q_textconfirm, (p.confirm, (p.start, p.end))))))))))
+    (λ n. text_frame_value n.0 n.1.0 n.1.1.0 n.1.1.1.0 n.1.1.1.1.1.1.1.1.0 n.1.1.1.1.0 n.1.1.1.1.1.0 n.1.1.1.1.1.1.1.1.1 n.1.1.1.1.1.1.0 n.1.1.1.1.1.1.1.0)
     (λ p. refl) (
     both_exact number_exact (
     both_exact number_exact (

@@ -10,7 +10,7 @@ use Rattle.etcs_bodies.specs.laws.Codecs.{number, both, group_of, form}
 use Rattle.etcs_bodies.specs.laws.Groups.{guarded_is, guarded_none}
 use Rattle.etcs_bodies.specs.Repeats.{bit_count}
 use Rattle.etcs_bodies.specs.laws.Repeats.{bit_count-append}
-use Rattle.etcs_parts.specs.Levels.{LevelParts, level_fault, IsLevel, system_reading, level_reading, level_from, LevelAckParts, IsLevelAck, level_ack_reading, level_ack_from}
+use Rattle.etcs_parts.specs.Levels.{LevelValue, level_fault, IsLevel, system_reading, level_reading, level_from, LevelAckValue, IsLevelAck, level_ack_reading, level_ack_from}
 
 -- ---- A level is what its row spells.
 
@@ -18,7 +18,7 @@ same_system : (m : ℕ) (o : Option ℕ) → group_reading M_LEVELTR (λ n. (NID
 same_system m None = refl
 same_system m (Some n) = refl
 
-level_is : (p : LevelParts) → IsLevel p → IsGroup M_LEVELTR IsOne (λ n. number_fault NID_NTC n ≡ None) (p.m_leveltr, p.nid_ntc)
+level_is : (p : LevelValue) → IsLevel p → IsGroup M_LEVELTR IsOne (λ n. number_fault NID_NTC n ≡ None) (p.m_leveltr, p.nid_ntc)
 level_is p h = guarded_is M_LEVELTR IsOne (number_fault NID_NTC) p.m_leveltr p.nid_ntc h
 
 pub level_codes : Codes level IsLevel level_reading level_from
@@ -55,10 +55,10 @@ system_most : (m : ℕ) (o : Option ℕ) → bit_count (system_reading m o) ≤ 
 system_most m None = omega arith
 system_most m (Some n) = omega arith
 
-pub level_most : (p : LevelParts) → bit_count (level_reading p) ≤ 11
+pub level_most : (p : LevelValue) → bit_count (level_reading p) ≤ 11
 level_most p = system_most p.m_leveltr p.nid_ntc
 
-pub level_ack_most : (p : LevelAckParts) → bit_count (level_ack_reading p) ≤ 26
+pub level_ack_most : (p : LevelAckValue) → bit_count (level_ack_reading p) ≤ 26
 level_ack_most p =
     let both = bit_count-append (level_reading p.level) ((L_ACKLEVELTR, p.l_ackleveltr) ∷ []) in
     omega (arith, level_most p.level)

@@ -10,11 +10,11 @@ use Rattle.etcs_bodies.specs.Codecs.{Codes, optional_reading}
 use Rattle.etcs_bodies.specs.laws.Codecs.{number, flag, both, optional, form, option_is, option_none}
 use Rattle.etcs_bodies.specs.Repeats.{bit_count}
 use Rattle.etcs_bodies.specs.laws.Repeats.{bit_count_is, bit_count-append}
-use Rattle.etcs_parts.specs.Links.{LinkParts, link_parts, IsLink, country_reading, link_reading, link_from, LinkFacts}
+use Rattle.etcs_parts.specs.Links.{LinkValue, link_value, IsLink, country_reading, link_reading, link_from, LinkFacts}
 
 -- ---- A link is what its row spells.
 
-facts : (l : LinkParts) → IsLink l → LinkFacts l
+facts : (l : LinkValue) → IsLink l → LinkFacts l
 facts l h =
     let h1 = none_of (number_fault D_LINK l.d_link) (option_fault NID_C l.nid_c or_else number_fault NID_BG l.nid_bg or_else number_fault Q_LINKREACTION l.q_linkreaction or_else number_fault Q_LOCACC l.q_locacc) h in
     let h2 = none_of (option_fault NID_C l.nid_c) (number_fault NID_BG l.nid_bg or_else number_fault Q_LINKREACTION l.q_linkreaction or_else number_fault Q_LOCACC l.q_locacc) h1.1 in
@@ -22,7 +22,7 @@ facts l h =
     let h4 = none_of (number_fault Q_LINKREACTION l.q_linkreaction) (number_fault Q_LOCACC l.q_locacc) h3.1 in
     record { d_link = h1.0; nid_c = h2.0; nid_bg = h3.0; q_linkreaction = h4.0; q_locacc = h4.1 }
 
-same_reading : (d : ℕ) (c : Option ℕ) (b : ℕ) (o : Bool) (r a : ℕ) → (D_LINK, d) ∷ optional_reading Q_NEWCOUNTRY (λ n. (NID_C, n) ∷ []) c ++ (NID_BG, b) ∷ (Q_LINKORIENTATION, bit o) ∷ (Q_LINKREACTION, r) ∷ (Q_LOCACC, a) ∷ [] ≡ link_reading (link_parts d c b o r a)
+same_reading : (d : ℕ) (c : Option ℕ) (b : ℕ) (o : Bool) (r a : ℕ) → (D_LINK, d) ∷ optional_reading Q_NEWCOUNTRY (λ n. (NID_C, n) ∷ []) c ++ (NID_BG, b) ∷ (Q_LINKORIENTATION, bit o) ∷ (Q_LINKREACTION, r) ∷ (Q_LOCACC, a) ∷ [] ≡ link_reading (link_value d c b o r a)
 same_reading d None b o r a = refl
 same_reading d (Some c) b o r a = refl
 
@@ -47,17 +47,17 @@ link_codes =
 
 -- ---- Its bits.
 
-pub link_bits_near : (l : LinkParts) → l.nid_c ≡ None → 39 ≡ length (spelled (link_reading l))
+pub link_bits_near : (l : LinkValue) → l.nid_c ≡ None → 39 ≡ length (spelled (link_reading l))
 link_bits_near l h = rw (bit_count_is (link_reading l), h) refl
 
-pub link_bits_far : (l : LinkParts) (c : ℕ) → l.nid_c ≡ Some c → 49 ≡ length (spelled (link_reading l))
+pub link_bits_far : (l : LinkValue) (c : ℕ) → l.nid_c ≡ Some c → 49 ≡ length (spelled (link_reading l))
 link_bits_far l c h = rw (bit_count_is (link_reading l), h) refl
 
 country_most : (c : Option ℕ) → bit_count (country_reading c) ≤ 11
 country_most None = omega arith
 country_most (Some n) = omega arith
 
-pub link_most : (l : LinkParts) → bit_count (link_reading l) ≤ 49
+pub link_most : (l : LinkValue) → bit_count (link_reading l) ≤ 49
 link_most l =
     let behind = bit_count-append (country_reading l.nid_c) ((NID_BG, l.nid_bg) ∷ (Q_LINKORIENTATION, bit l.q_linkorientation) ∷ (Q_LINKREACTION, l.q_linkreaction) ∷ (Q_LOCACC, l.q_locacc) ∷ []) in
     omega (arith, country_most l.nid_c)

@@ -9,11 +9,11 @@ use Rattle.etcs_bodies.specs.Codecs.{Codes}
 use Rattle.etcs_bodies.specs.laws.Codecs.{number, flag, both, form}
 use Rattle.etcs_bodies.specs.Repeats.{bit_count}
 use Rattle.etcs_bodies.specs.laws.Repeats.{bit_count_is}
-use Rattle.etcs_parts.specs.ModeSections.{ModeSectionParts, IsModeSection, mode_section_reading, mode_section_from}
+use Rattle.etcs_parts.specs.ModeSections.{ModeSectionValue, IsModeSection, mode_section_reading, mode_section_from}
 
 -- ---- An area is what its row spells.
 
-facts : (p : ModeSectionParts) → IsModeSection p → (number_fault D_MAMODE p.d_mamode ≡ None) × (number_fault M_MAMODE p.m_mamode ≡ None) × (number_fault V_MAMODE p.v_mamode ≡ None) × (number_fault L_MAMODE p.l_mamode ≡ None) × (number_fault L_ACKMAMODE p.l_ackmamode ≡ None)
+facts : (p : ModeSectionValue) → IsModeSection p → (number_fault D_MAMODE p.d_mamode ≡ None) × (number_fault M_MAMODE p.m_mamode ≡ None) × (number_fault V_MAMODE p.v_mamode ≡ None) × (number_fault L_MAMODE p.l_mamode ≡ None) × (number_fault L_ACKMAMODE p.l_ackmamode ≡ None)
 facts p h =
     let h1 = none_of (number_fault D_MAMODE p.d_mamode) (number_fault M_MAMODE p.m_mamode or_else number_fault V_MAMODE p.v_mamode or_else number_fault L_MAMODE p.l_mamode or_else number_fault L_ACKMAMODE p.l_ackmamode) h in
     let h2 = none_of (number_fault M_MAMODE p.m_mamode) (number_fault V_MAMODE p.v_mamode or_else number_fault L_MAMODE p.l_mamode or_else number_fault L_ACKMAMODE p.l_ackmamode) h1.1 in
@@ -36,8 +36,8 @@ mode_section_codes =
 
 -- ---- Its bits.
 
-pub mode_section_bits : (p : ModeSectionParts) → 55 ≡ length (spelled (mode_section_reading p))
+pub mode_section_bits : (p : ModeSectionValue) → 55 ≡ length (spelled (mode_section_reading p))
 mode_section_bits p = rw (bit_count_is (mode_section_reading p)) refl
 
-pub mode_section_most : (p : ModeSectionParts) → bit_count (mode_section_reading p) ≤ 55
+pub mode_section_most : (p : ModeSectionValue) → bit_count (mode_section_reading p) ≤ 55
 mode_section_most p = omega arith

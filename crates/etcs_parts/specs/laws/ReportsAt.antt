@@ -7,7 +7,7 @@ use Rattle.etcs_bodies.specs.Codecs.{Codes}
 use Rattle.etcs_bodies.specs.laws.Codecs.{number, flag, both, form}
 use Rattle.etcs_bodies.specs.Repeats.{bit_count}
 use Rattle.etcs_bodies.specs.laws.Repeats.{bit_count_is}
-use Rattle.etcs_parts.specs.ReportsAt.{ReportAtParts, IsReportAt, report_at_reading, report_at_from}
+use Rattle.etcs_parts.specs.ReportsAt.{ReportAtValue, IsReportAt, report_at_reading, report_at_from}
 
 -- ---- A place is what its row spells.
 
@@ -26,8 +26,8 @@ report_at_codes =
 
 -- ---- Its bits.
 
-pub report_at_bits : (p : ReportAtParts) → 16 ≡ length (spelled (report_at_reading p))
+pub report_at_bits : (p : ReportAtValue) → 16 ≡ length (spelled (report_at_reading p))
 report_at_bits p = rw (bit_count_is (report_at_reading p)) refl
 
-pub report_at_most : (p : ReportAtParts) → bit_count (report_at_reading p) ≤ 16
+pub report_at_most : (p : ReportAtValue) → bit_count (report_at_reading p) ≤ 16
 report_at_most p = omega arith

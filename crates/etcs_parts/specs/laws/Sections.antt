@@ -11,7 +11,7 @@ use Rattle.etcs_bodies.specs.Repeats.{bit_count}
 use Rattle.etcs_bodies.specs.laws.Repeats.{bit_count_is}
 use Rattle.etcs_bodies.specs.Groups.{pair_fault}
 use Rattle.etcs_bodies.specs.laws.Groups.{flagged, pair}
-use Rattle.etcs_parts.specs.Sections.{timer_fault, timer_reading, timer_from, SectionParts, IsSection, section_reading, end_reading, section_from, end_from}
+use Rattle.etcs_parts.specs.Sections.{timer_fault, timer_reading, timer_from, SectionValue, IsSection, section_reading, end_reading, section_from, end_from}
 
 -- ---- The timer of a section.
 
@@ -56,21 +56,21 @@ end_codes =
 
 -- ---- Its bits, the same for both kinds.
 
-pub section_bits_short : (p : SectionParts) → p.timer ≡ None → 16 ≡ length (spelled (section_reading p))
+pub section_bits_short : (p : SectionValue) → p.timer ≡ None → 16 ≡ length (spelled (section_reading p))
 section_bits_short p h = rw (bit_count_is (section_reading p), h) refl
 
-pub section_bits_long : (p : SectionParts) (t : ℕ × ℕ) → p.timer ≡ Some t → 41 ≡ length (spelled (section_reading p))
+pub section_bits_long : (p : SectionValue) (t : ℕ × ℕ) → p.timer ≡ Some t → 41 ≡ length (spelled (section_reading p))
 section_bits_long p t h = rw (bit_count_is (section_reading p), h) refl
 
 section_count : (t : Option (ℕ × ℕ)) → bit_count (timer_reading t) ≤ 26
 section_count None = omega arith
 section_count (Some t) = omega arith
 
-pub section_most : (p : SectionParts) → bit_count (section_reading p) ≤ 41
+pub section_most : (p : SectionValue) → bit_count (section_reading p) ≤ 41
 section_most p = omega (arith, section_count p.timer)
 
-same_count : (p : SectionParts) → bit_count (end_reading p) ≡ bit_count (section_reading p)
+same_count : (p : SectionValue) → bit_count (end_reading p) ≡ bit_count (section_reading p)
 same_count p = refl
 
-pub end_bits : (p : SectionParts) → length (spelled (end_reading p)) ≡ length (spelled (section_reading p))
+pub end_bits : (p : SectionValue) → length (spelled (end_reading p)) ≡ length (spelled (section_reading p))
 end_bits p = bit_count_is (end_reading p) ∙ same_count p ∙ sym (bit_count_is (section_reading p))

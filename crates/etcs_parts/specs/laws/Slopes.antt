@@ -9,7 +9,7 @@ use Rattle.etcs_bodies.specs.Codecs.{Codes}
 use Rattle.etcs_bodies.specs.laws.Codecs.{number, flag, both, form}
 use Rattle.etcs_bodies.specs.Repeats.{bit_count}
 use Rattle.etcs_bodies.specs.laws.Repeats.{bit_count_is}
-use Rattle.etcs_parts.specs.Slopes.{SlopeParts, IsSlope, slope_reading, slope_from}
+use Rattle.etcs_parts.specs.Slopes.{SlopeValue, IsSlope, slope_reading, slope_from}
 
 -- ---- A slope is what its row spells.
 
@@ -28,8 +28,8 @@ slope_codes =
 
 -- ---- Its bits.
 
-pub slope_bits : (p : SlopeParts) → 24 ≡ length (spelled (slope_reading p))
+pub slope_bits : (p : SlopeValue) → 24 ≡ length (spelled (slope_reading p))
 slope_bits p = rw (bit_count_is (slope_reading p)) refl
 
-pub slope_most : (p : SlopeParts) → bit_count (slope_reading p) ≤ 24
+pub slope_most : (p : SlopeValue) → bit_count (slope_reading p) ≤ 24
 slope_most p = omega arith

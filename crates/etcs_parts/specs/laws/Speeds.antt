@@ -12,11 +12,11 @@ use Rattle.etcs_parts.specs.laws.Differings.{differing_codes, differing_bits}
 use Rattle.etcs_bodies.specs.laws.Choices.{few_counted, bit_count-same}
 use Rattle.etcs_bodies.specs.Repeats.{bit_count}
 use Rattle.etcs_bodies.specs.laws.Repeats.{bit_count_is}
-use Rattle.etcs_parts.specs.Speeds.{SpeedParts, speed_fault, IsSpeed, speed_reading, speed_from}
+use Rattle.etcs_parts.specs.Speeds.{SpeedValue, speed_fault, IsSpeed, speed_reading, speed_from}
 
 -- ---- A speed is what its row spells.
 
-facts : (s : SpeedParts) → speed_fault s ≡ None → (number_fault D_STATIC s.d_static ≡ None) × (number_fault V_STATIC s.v_static ≡ None) × (count_fault N_ITER (length s.differing) ≡ None)
+facts : (s : SpeedValue) → speed_fault s ≡ None → (number_fault D_STATIC s.d_static ≡ None) × (number_fault V_STATIC s.v_static ≡ None) × (count_fault N_ITER (length s.differing) ≡ None)
 facts s h =
     let h1 = none_of (number_fault D_STATIC s.d_static) (number_fault V_STATIC s.v_static or_else count_fault N_ITER (length s.differing)) h in
     let h2 = none_of (number_fault V_STATIC s.v_static) (count_fault N_ITER (length s.differing)) h1.1 in
@@ -41,14 +41,14 @@ speed_codes =
 
 -- ---- Its bits.
 
-pub speed_bits : (s : SpeedParts) → bit_count (speed_reading s) ≡ 28 + 13 * length s.differing
+pub speed_bits : (s : SpeedValue) → bit_count (speed_reading s) ≡ 28 + 13 * length s.differing
 speed_bits s = let entries = bit_count-same differing_reading 13 differing_bits s.differing in omega arith
 
-pub few_entries : (s : SpeedParts) → speed_fault s ≡ None → length s.differing ≤ 31
+pub few_entries : (s : SpeedValue) → speed_fault s ≡ None → length s.differing ≤ 31
 few_entries s h = few_counted (length s.differing) (facts s h).2
 
-pub speed_spelled : (s : SpeedParts) → length (spelled (speed_reading s)) ≡ 28 + 13 * length s.differing
+pub speed_spelled : (s : SpeedValue) → length (spelled (speed_reading s)) ≡ 28 + 13 * length s.differing
 speed_spelled s = bit_count_is (speed_reading s) ∙ speed_bits s
 
-pub speed_most : (s : SpeedParts) → IsSpeed s → bit_count (speed_reading s) ≤ 431
+pub speed_most : (s : SpeedValue) → IsSpeed s → bit_count (speed_reading s) ≤ 431
 speed_most s h = omega (arith, speed_bits s, few_entries s h.faultless)

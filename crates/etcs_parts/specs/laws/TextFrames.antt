@@ -17,7 +17,7 @@ use Rattle.etcs_bodies.specs.Guards.{guard_fault}
 use Rattle.etcs_bodies.specs.laws.Guards.{group_is, group_gives, group_reading_is}
 use Rattle.etcs_parts.specs.Displays.{shown_reading}
 use Rattle.etcs_parts.specs.laws.Displays.{shown_codes, shown_small}
-use Rattle.etcs_parts.specs.TextFrames.{Report, IsReport, report_reading, report_row, report_from, Confirm, confirm_fault, IsConfirm, reported, confirm_reading, confirm_row, confirm_from, confirmed_fault, confirmed_reading, confirmed_from, TextFrameParts, text_frame_fault, IsTextFrame, text_frame_reading, text_frame_from, TextFrameFacts, confirmed_count}
+use Rattle.etcs_parts.specs.TextFrames.{Report, IsReport, report_reading, report_row, report_from, Confirm, confirm_fault, IsConfirm, reported, confirm_reading, confirm_row, confirm_from, confirmed_fault, confirmed_reading, confirmed_from, TextFrameValue, text_frame_fault, IsTextFrame, text_frame_reading, text_frame_from, TextFrameFacts, confirmed_count}
 
 -- ---- To whom the confirmation is reported: NID_TEXTMESSAGE, NID_C and NID_RBC.
 
@@ -66,7 +66,7 @@ confirm_codes =
 
 -- ---- The whole.
 
-facts : (t : TextFrameParts) → text_frame_fault t ≡ None → TextFrameFacts t
+facts : (t : TextFrameValue) → text_frame_fault t ≡ None → TextFrameFacts t
 facts t h =
     let from_t = number_fault T_TEXTDISPLAY t.t_textdisplay or_else confirmed_fault t.q_textconfirm t.confirm in
     let from_l = number_fault L_TEXTDISPLAY t.l_textdisplay or_else from_t in
@@ -128,7 +128,7 @@ confirmed_is n None = refl
 confirmed_is n (Some (shown, None)) = refl
 confirmed_is n (Some (shown, Some report)) = refl
 
-pub text_frame_bits : (t : TextFrameParts) → length (spelled (text_frame_reading t)) ≡ 45 + length (spelled (shown_reading t.start)) + length (spelled (shown_reading t.end)) + confirmed_count t.confirm
+pub text_frame_bits : (t : TextFrameValue) → length (spelled (text_frame_reading t)) ≡ 45 + length (spelled (shown_reading t.start)) + length (spelled (shown_reading t.end)) + confirmed_count t.confirm
 text_frame_bits t =
     let behind = confirmed_reading t.q_textconfirm t.confirm in
     let end = bit_count-append (shown_reading t.end) behind in
@@ -141,5 +141,5 @@ confirm_most None = omega arith
 confirm_most (Some (shown, None)) = omega arith
 confirm_most (Some (shown, Some report)) = omega arith
 
-pub text_frame_small : (t : TextFrameParts) → length (spelled (text_frame_reading t)) ≤ 111
+pub text_frame_small : (t : TextFrameValue) → length (spelled (text_frame_reading t)) ≤ 111
 text_frame_small t = omega (arith, text_frame_bits t, shown_small t.start, shown_small t.end, confirm_most t.confirm)

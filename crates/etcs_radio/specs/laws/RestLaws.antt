@@ -10,12 +10,12 @@ use Rattle.etcs_vars.proofs.Walk.{Regular}
 use Rattle.etcs_tables.specs.declared.row.Way.TheVariants.{ToTrain}
 use Rattle.etcs_rows.specs.declared.frames.Carrier.TheVariants.{Message}
 use Rattle.etcs_packets.specs.PacketValues.{PacketValue}
-use Rattle.etcs_sequence.specs.Contents.{Run, KeptIn}
+use Rattle.etcs_sequence.specs.Contents.{PacketsIn, KeptIn}
 use Rattle.etcs_sequence.specs.laws.Agreement.{run_regular}
 use Rattle.etcs_reader.specs.Rests.{BeginsWith, Ended}
 use Rattle.etcs_reader.specs.Fields.{ReadsFields}
 use Rattle.etcs_reader.specs.laws.FieldLaws.{residual_none, residual_along, fields_regular, fields_begin}
-use Rattle.etcs_sequence.specs.declared.left.PacketsLeft.{PacketsLeft}
+use Rattle.etcs_sequence.specs.declared.state.PacketsState.{PacketsState}
 use Rattle.etcs_sequence.specs.laws.BitLaws.{bits_regular, bits_begin}
 use Rattle.etcs_sequence.specs.laws.ChainLaws.{chain_regular, chain_begins}
 use Rattle.etcs_sequence.specs.laws.LabelLaws.{some_first}
@@ -59,7 +59,7 @@ after_length : (found : Option (List Var)) (len : ℕ) → Regular (Behind found
 after_length None len = part_regular (Behind None len) (KeptIn (8 * len - 18)) (λ r h. h.2) (kept_regular (8 * len - 18))
 after_length (Some vs) len =
     let room = 8 * len - front_bits vs in
-    let packets : Regular (PacketsFrom (front_bits vs) len) = padded_regular (Run (Message ToTrain) room) room (run_regular (Message ToTrain) room) in
+    let packets : Regular (PacketsFrom (front_bits vs) len) = padded_regular (PacketsIn (Message ToTrain) room) room (run_regular (Message ToTrain) room) in
     let all = chain_regular (ReadsFields vs) (λ _. PacketsFrom (front_bits vs) len) (fields_regular vs) (λ _ _. packets) in
     record { agree = λ a b h k. all.agree a b h.2 k.2; fit = λ a h. all.fit a h.2 }
 
@@ -71,10 +71,10 @@ number_regular = opens_regular NumberLeft NID_MESSAGE AfterNumber number_opens (
 
 -- ---- Any phase.
 
-behind_regular : (l : PacketsLeft) → Regular (PacketsBehind l)
+behind_regular : (l : PacketsState) → Regular (PacketsBehind l)
 behind_regular l = padded_regular (left_of l.carrier l.room l.stage) (ahead l.carrier l.room l.stage) (left_regular l.carrier l.room l.stage)
 
-pub rest_regular : (nid : ℕ) (l : PacketsLeft) (stage : Phase) → Regular (left_at nid stage l)
+pub rest_regular : (nid : ℕ) (l : PacketsState) (stage : Phase) → Regular (left_at nid stage l)
 rest_regular nid l phase.Number = number_regular
 rest_regular nid l phase.Length = length_regular nid
 rest_regular nid l (phase.Front at) = chain_regular (ReadsFields (drop at (front_vars nid))) (λ _. PacketsBehind l) (fields_regular (drop at (front_vars nid))) (λ _ _. behind_regular l)
@@ -83,7 +83,7 @@ rest_regular nid l (phase.Padding left) = bits_regular PADDING refl left
 rest_regular nid l (phase.Data left) = kept_regular left
 rest_regular nid l phase.Whole = record { agree = λ a b e f. rw (e, f) tt; fit = λ a e. rw e tt }
 
-pub rest_begins : (nid : ℕ) (l : PacketsLeft) (stage : Phase) (n : ℕ) → IsTrue (stands_at nid stage n l) → (x : Var) → next_at nid stage l ≡ Some x → BeginsWith (left_at nid stage l) x
+pub rest_begins : (nid : ℕ) (l : PacketsState) (stage : Phase) (n : ℕ) → IsTrue (stands_at nid stage n l) → (x : Var) → next_at nid stage l ≡ Some x → BeginsWith (left_at nid stage l) x
 rest_begins nid l phase.Number n h x e =
     let same : NID_MESSAGE ≡ x = cc in
     subst (BeginsWith NumberLeft) same (opens_begins NumberLeft NID_MESSAGE AfterNumber number_opens)
@@ -100,7 +100,7 @@ rest_begins nid l (phase.Data left) n h x e =
     subst (BeginsWith (KeptIn left)) same (bits_begin OTHER_DATA refl left (ltb-true 0 left (and_parts (nat_lt 0 left) (is_closed l.stage) h).0))
 rest_begins nid l phase.Whole n h x e = absurd cc
 
-pub rest_ended : (nid : ℕ) (stage : Phase) (n : ℕ) (l : PacketsLeft) → IsTrue (stands_at nid stage n l) → next_at nid stage l ≡ None → Ended (left_at nid stage l)
+pub rest_ended : (nid : ℕ) (stage : Phase) (n : ℕ) (l : PacketsState) → IsTrue (stands_at nid stage n l) → next_at nid stage l ≡ None → Ended (left_at nid stage l)
 rest_ended nid phase.Number n l h e = absurd cc
 rest_ended nid phase.Length n l h e = absurd cc
 rest_ended nid (phase.Front at) n l h e =
@@ -115,13 +115,13 @@ rest_ended nid phase.Whole n l h e = λ r k. k
 
 -- ---- From one to the next.
 
-pub follows_none : (nid : ℕ) (stage : Phase) (front : List ℕ) (l : PacketsLeft) (padding : ℕ) (holds : List PacketValue → List ℕ → List Bool → Type 0) → Follows nid stage front l padding holds [] nid stage front l padding holds
+pub follows_none : (nid : ℕ) (stage : Phase) (front : List ℕ) (l : PacketsState) (padding : ℕ) (holds : List PacketValue → List ℕ → List Bool → Type 0) → Follows nid stage front l padding holds [] nid stage front l padding holds
 follows_none nid stage front l padding holds = record {
   residual = residual_none (left_at nid stage l);
   held = λ q h. subst (HoldsIn nid stage front l padding holds) (sym (append-nil q)) h;
 }
 
-pub follows_along : (nid : ℕ) (stage : Phase) (front : List ℕ) (l : PacketsLeft) (padding : ℕ) (holds : List PacketValue → List ℕ → List Bool → Type 0) (p : Reading) (nid' : ℕ) (stage' : Phase) (front' : List ℕ) (l' : PacketsLeft) (padding' : ℕ) (holds' : List PacketValue → List ℕ → List Bool → Type 0) (q : Reading) (nid'' : ℕ) (stage'' : Phase) (front'' : List ℕ) (l'' : PacketsLeft) (padding'' : ℕ) (holds'' : List PacketValue → List ℕ → List Bool → Type 0)
+pub follows_along : (nid : ℕ) (stage : Phase) (front : List ℕ) (l : PacketsState) (padding : ℕ) (holds : List PacketValue → List ℕ → List Bool → Type 0) (p : Reading) (nid' : ℕ) (stage' : Phase) (front' : List ℕ) (l' : PacketsState) (padding' : ℕ) (holds' : List PacketValue → List ℕ → List Bool → Type 0) (q : Reading) (nid'' : ℕ) (stage'' : Phase) (front'' : List ℕ) (l'' : PacketsState) (padding'' : ℕ) (holds'' : List PacketValue → List ℕ → List Bool → Type 0)
     → Follows nid stage front l padding holds p nid' stage' front' l' padding' holds' → Follows nid' stage' front' l' padding' holds' q nid'' stage'' front'' l'' padding'' holds'' → Follows nid stage front l padding holds (p ++ q) nid'' stage'' front'' l'' padding'' holds''
 follows_along nid stage front l padding holds p nid' stage' front' l' padding' holds' q nid'' stage'' front'' l'' padding'' holds'' h k = record {
   residual = residual_along (left_at nid stage l) p (left_at nid' stage' l') q (left_at nid'' stage'' l'') h.residual k.residual;

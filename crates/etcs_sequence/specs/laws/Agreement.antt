@@ -20,14 +20,14 @@ use Rattle.etcs_packets.specs.PacketValues as packets
 use Rattle.etcs_packets.specs.PacketValues.{PacketValue, IsPacketTo, bits_to}
 use Rattle.etcs_packets.specs.PacketReadings.{in_frame, reading_to}
 use Rattle.etcs_packets.specs.laws.PacketReadings.{bits_are}
-use Rattle.etcs_sequence.specs.Contents.{Carries, Run, RunOf, IsUnmarked}
+use Rattle.etcs_sequence.specs.Contents.{Carries, PacketsIn, ReadsPackets, IsUnmarked}
 use Rattle.etcs_sequence.specs.laws.Others.{kept_parts, kept_untyped, kept_framed}
 use Rattle.etcs_sequence.specs.laws.RunSteps.{carried_packet, behind}
 use Rattle.etcs_sequence.specs.laws.Framed.{framed_parts, typed_framed, framed_small, framed_unmarked, marker_marked, marker_small, frame_between, row_limit}
 
 -- ---- Packets.
 
--- so many bits of one variable
+-- this many bits of one variable
 kept_agree : (v : Var) (a b : List Bool) → length a ≡ length b → Agree (kept v a) (kept v b)
 kept_agree v [] [] l = tt
 kept_agree v [] (y ∷ b) l = absurd (omega (arith, l))
@@ -121,13 +121,13 @@ agree_closed : (v : PacketValue) (r : Reading) → IsPacketTo ToTrain v → Agre
 agree_closed v r h = let b = numbered_below v h in rw b.2 (refl, λ e. absurd (let s = same_number NID_PACKET b.0 255 e in omega (arith, s, b.3)))
 
 -- a message that is full has no packet more
-pub full : (way : Way) (room : ℕ) (v : PacketValue) (vs : List PacketValue) (r q : Reading) → RunOf (Message way) room [] r → RunOf (Message way) room (v ∷ vs) q → ⊥
+pub full : (way : Way) (room : ℕ) (v : PacketValue) (vs : List PacketValue) (r q : Reading) → ReadsPackets (Message way) room [] r → ReadsPackets (Message way) room (v ∷ vs) q → ⊥
 full way room v vs r q done run =
     let b = behind (Message way) room (bits_to way v) v vs q run (bits_are way v) in
     let none : length (spelled r) ≡ 0 = ap (λ (t : Reading). length (spelled t)) done.reading_is in
     omega (arith, done.fills.1, none, b.2, some_bits way v)
 
-runs_agree : (c : Carrier) (room : ℕ) (vs us : List PacketValue) (r q : Reading) → RunOf c room vs r → RunOf c room us q → Agree r q
+runs_agree : (c : Carrier) (room : ℕ) (vs us : List PacketValue) (r q : Reading) → ReadsPackets c room vs r → ReadsPackets c room us q → Agree r q
 runs_agree Telegram room [] [] r q hr hq = rw (hr.reading_is, hq.reading_is) (refl, λ e. tt)
 runs_agree (Message way) room [] [] r q hr hq = rw (hr.reading_is, hq.reading_is) tt
 runs_agree Telegram room [] (u ∷ us) r q hr hq =
@@ -146,9 +146,9 @@ runs_agree c room (v ∷ vs) (u ∷ us) r q hr hq =
     rw (bv.1, bu.1) (
     Agree-append (reading_to way v) (reading_to way u) bv.0 bu.0 first
     (λ e. let bits : bits_to way u ≡ bits_to way v = sym (bits_are way u) ∙ ap (λ (t : Reading). length (spelled t)) (sym e) ∙ bits_are way v in
-    runs_agree c (room - bits_to way v) vs us bv.0 bu.0 bv.3 (subst (λ (k : ℕ). RunOf c (room - k) us bu.0) bits bu.3)))
+    runs_agree c (room - bits_to way v) vs us bv.0 bu.0 bv.3 (subst (λ (k : ℕ). ReadsPackets c (room - k) us bu.0) bits bu.3)))
 
-runs_fit : (c : Carrier) (room : ℕ) (vs : List PacketValue) (r : Reading) → RunOf c room vs r → AllFit r
+runs_fit : (c : Carrier) (room : ℕ) (vs : List PacketValue) (r : Reading) → ReadsPackets c room vs r → AllFit r
 runs_fit Telegram room [] r h = rw h.reading_is (omega arith, tt)
 runs_fit (Message way) room [] r h = rw h.reading_is tt
 runs_fit c room (v ∷ vs) r h =
@@ -156,5 +156,5 @@ runs_fit c room (v ∷ vs) r h =
     let b = behind c room (bits_to way v) v vs r h (bits_are way v) in
     rw b.1 (AllFit-append (reading_to way v) b.0 (packet_fit way v (carried_packet c v (All-head (Carries c) v vs h.carried))) (runs_fit c (room - bits_to way v) vs b.0 b.3))
 
-pub run_regular : (c : Carrier) (room : ℕ) → Regular (Run c room)
+pub run_regular : (c : Carrier) (room : ℕ) → Regular (PacketsIn c room)
 run_regular c room = record { agree = λ a b (vs, ha) (us, hb). runs_agree c room vs us a b ha hb; fit = λ a (vs, h). runs_fit c room vs a h }

@@ -45,7 +45,7 @@ bit_below : (b : Bool) → (if b then 1 else 0) < 2
 bit_below true = omega arith
 bit_below false = omega arith
 
--- the bits behind the first ones
+-- the bits after the first ones
 bits_cut : (v : Var) (t f : List Bool) (q : Reading) → length t ≤ length f → kept v t ++ q ≡ kept v f → (g : List Bool) × (length t + length g ≡ length f) × (q ≡ kept v g)
 bits_cut v [] f q le e = (f, omega arith, e)
 bits_cut v (x ∷ t) [] q le e = absurd (omega arith)
@@ -70,7 +70,7 @@ module _ (v : Var) (one : width v ≡ 1) where
   pub some_bits : (n : ℕ) → Goes (BitsLeft v n)
   some_bits n = (kept v (replicate n false), (replicate n false, length-replicate n false, refl))
 
-  -- each bit goes on
+  -- each bit continues
   pub bits_start : (n rest number : ℕ) → 0 < n → rest < width v → number < 2 ^ (width v - rest) → Starts (BitsLeft v n) v rest number
   bits_start n rest number pos lt fits =
       let none : rest ≡ 0 = omega (arith, lt, one) in

@@ -18,7 +18,7 @@ use Rattle.etcs_rows.specs.Places.{first_variable}
 use Rattle.etcs_rows.proofs.PlaceLemmas.{and_both}
 use Rattle.etcs_rows.specs.laws.RestLaws as rows
 use Rattle.etcs_packets.specs.PacketValues.{PacketValue}
-use Rattle.etcs_sequence.specs.Contents.{Run, KeptIn, BodyIn, BodyLeft, AfterLength, LengthLeft, AfterDirection, DirectionLeft, AfterMarker, MarkerLeft, AfterNumber, IsOpen}
+use Rattle.etcs_sequence.specs.Contents.{PacketsIn, KeptIn, BodyIn, BodyLeft, AfterLength, LengthLeft, AfterDirection, DirectionLeft, AfterMarker, MarkerLeft, AfterNumber, IsOpen}
 use Rattle.etcs_sequence.specs.laws.Agreement.{run_regular}
 use Rattle.etcs_sequence.specs.laws.RunSteps.{number_step, marker_step, direction_step, length_step}
 use Rattle.etcs_sequence.specs.laws.Turns.{row_body}
@@ -45,7 +45,7 @@ length_regular c nid room =
     opens_regular (LengthLeft c nid room) L_PACKET (AfterLength c nid room) (length_step c nid room)
     (λ l. let bits = l - frame_bits (way_of c) in
     part_regular (AfterLength c nid room l) (BodyLeft c nid bits (room - l)) (λ r h. h.3)
-    (then_regular (BodyIn (way_of c) nid bits) (Run c (room - l)) (body_regular (way_of c) nid bits (row_to (way_of c) nid) refl) (run_regular c (room - l))))
+    (then_regular (BodyIn (way_of c) nid bits) (PacketsIn c (room - l)) (body_regular (way_of c) nid bits (row_to (way_of c) nid) refl) (run_regular c (room - l))))
 
 direction_regular : (c : Carrier) (nid room : ℕ) → Regular (DirectionLeft c nid room)
 direction_regular c nid room =
@@ -53,15 +53,15 @@ direction_regular c nid room =
     (λ dir. part_regular (AfterDirection c nid room dir) (LengthLeft c nid room) (λ r h. h.1) (length_regular c nid room))
 
 marker_regular : (room : ℕ) → Regular (MarkerLeft room)
-marker_regular room = opens_regular (MarkerLeft room) NID_VBCMK (AfterMarker room) (marker_step room) (λ n. part_regular (AfterMarker room n) (Run Telegram (room - 14)) (λ r h. h.2) (run_regular Telegram (room - 14)))
+marker_regular room = opens_regular (MarkerLeft room) NID_VBCMK (AfterMarker room) (marker_step room) (λ n. part_regular (AfterMarker room n) (PacketsIn Telegram (room - 14)) (λ r h. h.2) (run_regular Telegram (room - 14)))
 
 pub left_regular : (c : Carrier) (room : ℕ) (s : Stage) → Regular (left_of c room s)
 left_regular c room Number = run_regular c room
 left_regular c room Marker = marker_regular room
 left_regular c room (Direction nid) = direction_regular c nid room
 left_regular c room (Length nid dir) = length_regular c nid room
-left_regular c room (Row nid dir row) = then_regular (ReadsIn row.place row.len) (Run c room) (rows.regular row.place row.len) (run_regular c room)
-left_regular c room (Kept nid dir left) = then_regular (KeptIn left) (Run c room) (bits_regular OTHER_DATA refl left) (run_regular c room)
+left_regular c room (Row nid dir row) = then_regular (ReadsIn row.place row.len) (PacketsIn c room) (rows.regular row.place row.len) (run_regular c room)
+left_regular c room (Kept nid dir left) = then_regular (KeptIn left) (PacketsIn c room) (bits_regular OTHER_DATA refl left) (run_regular c room)
 left_regular c room Closed = record { agree = λ a b e f. rw (e, f) tt; fit = λ a e. rw e tt }
 
 -- more packets come, or packet 255
@@ -74,7 +74,7 @@ pub some_left : (c : Carrier) (room nid dir left : ℕ) → IsTrue (is_stage c r
 some_left c room nid dir left stands = ltb-true 0 left (and_both (is_direction (way_of c) dir) (nat_lt 0 left) (and_both (is_kept (way_of c) nid) (is_direction (way_of c) dir && nat_lt 0 left) stands).1).1
 
 pub left_begins : (c : Carrier) (room : ℕ) (s : Stage) → IsTrue (is_stage c room s) → (x : Var) → next_of s ≡ Some x → BeginsWith (left_of c room s) x
-left_begins c room Number stands x e = let same : NID_PACKET ≡ x = cc in subst (BeginsWith (Run c room)) same (opens_begins (Run c room) NID_PACKET (AfterNumber c room) (number_step c room (open_by c room stands)))
+left_begins c room Number stands x e = let same : NID_PACKET ≡ x = cc in subst (BeginsWith (PacketsIn c room)) same (opens_begins (PacketsIn c room) NID_PACKET (AfterNumber c room) (number_step c room (open_by c room stands)))
 left_begins c room Marker stands x e = let same : NID_VBCMK ≡ x = cc in subst (BeginsWith (MarkerLeft room)) same (opens_begins (MarkerLeft room) NID_VBCMK (AfterMarker room) (marker_step room))
 left_begins c room (Direction nid) stands x e =
     let same : Q_DIR ≡ x = cc in
@@ -82,10 +82,10 @@ left_begins c room (Direction nid) stands x e =
 left_begins c room (Length nid dir) stands x e =
     let same : L_PACKET ≡ x = cc in
     subst (BeginsWith (LengthLeft c nid room)) same (opens_begins (LengthLeft c nid room) L_PACKET (AfterLength c nid room) (length_step c nid room))
-left_begins c room (Row nid dir row) stands x e = then_begins_with (ReadsIn row.place row.len) (Run c room) x (row_begins_with row.place row.len x e)
+left_begins c room (Row nid dir row) stands x e = then_begins_with (ReadsIn row.place row.len) (PacketsIn c room) x (row_begins_with row.place row.len x e)
 left_begins c room (Kept nid dir left) stands x e =
     let same : OTHER_DATA ≡ x = cc in
-    subst (BeginsWith (Then (KeptIn left) (Run c room))) same (then_begins_with (KeptIn left) (Run c room) OTHER_DATA (bits_begin OTHER_DATA refl left (some_left c room nid dir left stands)))
+    subst (BeginsWith (Then (KeptIn left) (PacketsIn c room))) same (then_begins_with (KeptIn left) (PacketsIn c room) OTHER_DATA (bits_begin OTHER_DATA refl left (some_left c room nid dir left stands)))
 left_begins c room Closed stands x e = absurd cc
 
 pub left_ended : (c : Carrier) (room : ℕ) (s : Stage) → IsTrue (is_stage c room s) → next_of s ≡ None → Ended (left_of c room s)

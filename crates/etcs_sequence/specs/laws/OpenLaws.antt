@@ -17,7 +17,7 @@ part_regular P Q h q = record { agree = λ a b x y. q.agree a b (h a x) (h b y);
 abbrev pub GoesOn : (ℕ → Reading → Type 0) → ℕ → ℕ → Type 0
 GoesOn After rest bits = (n : ℕ) × (r : Reading) × (n / 2 ^ rest ≡ bits) × After n r
 
--- x opens L, and After is behind its number
+-- x opens L, and After is after its number
 module _ (L : Reading → Type 0) (x : Var) (After : ℕ → Reading → Type 0) (o : Opens L x After) where
   pub opens_begins : BeginsWith L x
   opens_begins r l = let (n, q, e, small, a) = o.opens r l in (n, q, e)
@@ -40,17 +40,17 @@ module _ (L : Reading → Type 0) (x : Var) (After : ℕ → Reading → Type 0)
   pub opens_behind : (n : ℕ) → Residual L ((x, n) ∷ []) (After n)
   opens_behind n = record { to = λ q l. opens_after n q l; from = λ q a. o.closes n q a }
 
-  -- something goes on
+  -- something continues
   pub opens_goes : Goes L → (n : ℕ) × (r : Reading) × After n r
   opens_goes (r, l) = let (n, q, e, small, a) = o.opens r l in (n, q, a)
 
-  -- a test of what is behind tells which numbers go on
+  -- a test of what is after says which numbers continue
   pub opens_tested : (v : Var) (rest bits : ℕ) (result : Bool) → Some x ≡ Some v → IsTrue result ↔ GoesOn After rest bits → IsTrue result ↔ Starts L v rest bits
   opens_tested v rest bits result e told =
       let same : x ≡ v = cc in
       rw (sym same) (λ t. let (n, r, f, a) = told.0 t in (n, r, o.closes n r a, f), λ (n, r, l, f). told.1 (n, r, f, opens_after n r l))
 
-  -- this number goes on
+  -- this number continues
   pub opens_number : (n : ℕ) → Starts L x 0 n → (r : Reading) × After n r
   opens_number n (m, r, l, e) =
       let one : m / 2 ^ 0 ≡ m = omega arith in

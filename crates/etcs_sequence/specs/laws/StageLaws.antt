@@ -16,7 +16,7 @@ none_first : (o : Option Var) → is_some o ≡ true → o ≡ None → ⊥
 none_first None h e = absurd cc
 none_first (Some v) h e = absurd cc
 
--- packets that aren't closed go on
+-- packets that aren't closed continue
 pub open_next : (c : Carrier) (room : ℕ) (s : Stage) → IsTrue (is_stage c room s) → is_closed s ≡ false → next_of s ≡ None → ⊥
 open_next c room stage.Number k o e = absurd cc
 open_next c room stage.Marker k o e = absurd cc

@@ -1,4 +1,4 @@
--- What the reader asks of one language behind another.
+-- What the reader asks of one language after another.
 use Rattle.std.proofs.Common.{◌++◌, ap, ◌∙◌}
 use Rattle.etcs_vars.specs.declared.var.Var.{Var}
 use Rattle.etcs_vars.specs.Reading.{Reading, Then}

@@ -1,4 +1,4 @@
--- What is left behind each variable of a frame is what the next one wants.
+-- What is left after each variable of a frame is what the next one wants.
 use Rattle.std.proofs.Common.{◌≡◌, ℕ, Some, sym, subst, ◌∙◌, inl, inr}
 use Rattle.etcs_vars.specs.Reading.{Reading}
 use Rattle.etcs_tables.specs.Layouts.{Layout, ReadsIn}

@@ -13,7 +13,7 @@ use Rattle.etcs_packets.specs.PacketValues.{PacketValue}
 use Rattle.etcs_reader.specs.Rests.{BeginsWith, Ended}
 use Rattle.etcs_reader.specs.Fields.{ReadsFields}
 use Rattle.etcs_reader.specs.laws.FieldLaws.{residual_none, residual_along, fields_regular, fields_begin}
-use Rattle.etcs_sequence.specs.declared.left.PacketsLeft.{PacketsLeft}
+use Rattle.etcs_sequence.specs.declared.state.PacketsState.{PacketsState}
 use Rattle.etcs_sequence.specs.Lefts.{left_of, ahead, is_closed, is_telegram}
 use Rattle.etcs_sequence.specs.BitLaws.{BitsLeft}
 use Rattle.etcs_sequence.specs.laws.BitLaws.{bits_fit, bits_regular, bits_begin}
@@ -47,9 +47,9 @@ pub pad_begins : (n : ℕ) → 0 < n → BeginsWith (PadLeft n) PAD
 pad_begins zero some r e = absurd (omega arith)
 pad_begins (suc n) some r e = (0, kept PAD (replicate n false), e)
 
--- ---- Packets with FILL behind them.
+-- ---- Packets with FILL after them.
 
-module _ (size : Size) (l : PacketsLeft) where
+module _ (size : Size) (l : PacketsState) where
   behind_regular : Regular (PacketsBehind size l)
   behind_regular =
       let room = ahead l.carrier l.room l.stage in
@@ -75,8 +75,8 @@ module _ (size : Size) (l : PacketsLeft) where
 
 -- ---- Nothing comes next.
 
--- what a value that stands says of its packets
-pub opens : (l : PacketsLeft) → is_open l ≡ true → (l.carrier ≡ Telegram) × (is_closed l.stage ≡ false)
+-- what a value that is there says of its packets
+pub opens : (l : PacketsState) → is_open l ≡ true → (l.carrier ≡ Telegram) × (is_closed l.stage ≡ false)
 opens l h =
     let both = and_parts (is_telegram l.carrier) (not (is_closed l.stage)) h in
     (telegram l.carrier both.0, not-true (is_closed l.stage) both.1)
@@ -86,7 +86,7 @@ opens l h =
     telegram (Message way) e = absurd cc
 
 -- the telegram is whole
-pub ended_whole : (phase : Phase) (n : ℕ) (l : PacketsLeft) → IsTrue (stands_at phase n l) → next_at phase l ≡ None → phase ≡ Whole
+pub ended_whole : (phase : Phase) (n : ℕ) (l : PacketsState) → IsTrue (stands_at phase n l) → next_at phase l ≡ None → phase ≡ Whole
 ended_whole (Header at) n l h e =
     let below = and_parts (nat_lt at 10) ((n == at) && is_open l) h in
     absurd (some_first header_row at (ltb-true at 10 below.0) e)
@@ -97,19 +97,19 @@ ended_whole (Fill left) n l h e = absurd cc
 ended_whole (Pad left) n l h e = absurd cc
 ended_whole Whole n l h e = refl
 
-pub rest_ended : (size : Size) (phase : Phase) (n : ℕ) (l : PacketsLeft) → IsTrue (stands_at phase n l) → next_at phase l ≡ None → Ended (left_at size phase l)
+pub rest_ended : (size : Size) (phase : Phase) (n : ℕ) (l : PacketsState) → IsTrue (stands_at phase n l) → next_at phase l ≡ None → Ended (left_at size phase l)
 rest_ended size phase n l h e = subst (λ (p : Phase). Ended (left_at size p l)) (sym (ended_whole phase n l h e)) (λ r k. k)
 
 -- ---- From one to the next.
 
-pub follows_none : (size : Size) (phase : Phase) (header : List ℕ) (l : PacketsLeft) (holds : List PacketValue → List ℕ → List Bool → Type 0) → Follows size phase header l holds [] size phase header l holds
+pub follows_none : (size : Size) (phase : Phase) (header : List ℕ) (l : PacketsState) (holds : List PacketValue → List ℕ → List Bool → Type 0) → Follows size phase header l holds [] size phase header l holds
 follows_none size phase header l holds = record {
   same = refl;
   residual = residual_none (left_at size phase l);
   held = λ q h. subst (HoldsIn size phase header l holds) (sym (append-nil q)) h;
 }
 
-pub follows_along : (size : Size) (phase : Phase) (header : List ℕ) (l : PacketsLeft) (holds : List PacketValue → List ℕ → List Bool → Type 0) (p : Reading) (size' : Size) (phase' : Phase) (header' : List ℕ) (l' : PacketsLeft) (holds' : List PacketValue → List ℕ → List Bool → Type 0) (q : Reading) (size'' : Size) (phase'' : Phase) (header'' : List ℕ) (l'' : PacketsLeft) (holds'' : List PacketValue → List ℕ → List Bool → Type 0)
+pub follows_along : (size : Size) (phase : Phase) (header : List ℕ) (l : PacketsState) (holds : List PacketValue → List ℕ → List Bool → Type 0) (p : Reading) (size' : Size) (phase' : Phase) (header' : List ℕ) (l' : PacketsState) (holds' : List PacketValue → List ℕ → List Bool → Type 0) (q : Reading) (size'' : Size) (phase'' : Phase) (header'' : List ℕ) (l'' : PacketsState) (holds'' : List PacketValue → List ℕ → List Bool → Type 0)
     → Follows size phase header l holds p size' phase' header' l' holds' → Follows size' phase' header' l' holds' q size'' phase'' header'' l'' holds'' → Follows size phase header l holds (p ++ q) size'' phase'' header'' l'' holds''
 follows_along size phase header l holds p size' phase' header' l' holds' q size'' phase'' header'' l'' holds'' h k = record {
   same = k.same ∙ h.same;

@@ -1,4 +1,4 @@
--- Numbers of readings, one behind the other.
+-- Numbers of readings, one after another.
 use Rattle.std.proofs.Common.{◌≡◌, ℕ, List, [], ◌∷◌, ◌++◌, length, take, refl, sym, ap, ◌∙◌, append_assoc}
 use Rattle.std.proofs.lemmas.List.{map-append, append-nil}
 use Rattle.etcs_vars.specs.Reading.{Sent, Reading, numbers}

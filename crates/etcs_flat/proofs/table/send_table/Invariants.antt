@@ -11,5 +11,5 @@ invariant-loop-item g l =
     (goal.iterator-loop-item g).can_next l.item-iterator
     × (goal.iterator-loop-item g).is_finite l.item-iterator
     × (sent : Reading)
-    × (l.out ≡ g.S.Sink.with l.fn.out sent)
+    × (l.out ≡ g.S.VarSink.with l.fn.out sent)
     × (sent ++ table_pairs (iter_rest (zip_first l.item-iterator)) (iter_rest (zip_second l.item-iterator)) ≡ table_pairs l.table l.numbers)

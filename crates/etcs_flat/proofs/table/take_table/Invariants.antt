@@ -3,7 +3,7 @@ use Rattle.etcs_bodies.specs.Repeats.{behind}
 use Rattle.etcs_flat.specs.Tables.{table_from}
 use Rattle.etcs_flat.proofs.table.take_table.Given as goal
 
--- what is taken so far stands in front of what the rest of the table takes
+-- what is taken so far is in front of what the rest of the table takes
 abbrev pub invariant-loop-item : goal.invariant-loop-item
 invariant-loop-item l =
     (table_from l.table l.fn.numbers ≡ behind l.taken.items (table_from (drop l.item-index l.table) l.numbers))

@@ -5,13 +5,13 @@ use Rattle.etcs_bits.proofs.ByteBits.{bits-append}
 use Rattle.etcs_bits.proofs.Positions.{length-bits}
 use Rattle.etcs_radio.proofs.encode.write_behind.Goals as goal
 
--- the rest of a list is all that is behind its front
+-- the rest of a list is all that is after its front
 rest_length : (start : ℕ) (xs : List ℕ) → length (bits (take (length xs - start) (drop start xs))) ≡ 8 * (length xs - start)
 rest_length start xs =
     let l = length-drop start xs in
     ap (λ (ys : List ℕ). length (bits ys)) (take_all (length xs - start) (drop start xs) (omega (arith, l))) ∙ length-bits (drop start xs) ∙ ap (λ (k : ℕ). 8 * k) l
 
--- and nothing is behind it
+-- and nothing is after it
 rest_bits : (start : ℕ) (xs new : List ℕ) → bits (take start xs ++ (new ++ drop (length xs - start) (drop start xs))) ≡ bits (take start xs) ++ bits new
 rest_bits start xs new =
     let none : drop (length xs - start) (drop start xs) ≡ [] = drop_all (length xs - start) (drop start xs) (omega (arith, length-drop start xs)) in

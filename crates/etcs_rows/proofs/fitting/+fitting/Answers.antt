@@ -5,7 +5,7 @@ use Rattle.etcs_vars.specs.Vars.{width}
 use Rattle.etcs_tables.specs.declared.item.RowItem.{RowItem}
 use Rattle.etcs_tables.specs.Layouts.{Layout, layout, one}
 use Rattle.etcs_rows.specs.Lengths.{LengthsBy, front, behind, GroupsWithin, FirstWithin}
-use Rattle.etcs_rows.specs.Steps.{InSteps, TimesWithin}
+use Rattle.etcs_rows.specs.Progressions.{InProgression, TimesWithin}
 use Rattle.etcs_rows.specs.Totals.{InTotal, AreTotal}
 use Rattle.etcs_rows.specs.Sums.{Plus}
 use Rattle.etcs_rows.specs.Waiting.{Tails, Onward}
@@ -37,8 +37,8 @@ turn-returns-in_ok-sum-in-Some-One-default t c =
     let S = InTotal c.args.sum in let W : ℕ → Type 0 = λ k. k ≡ width v in
     let G = GroupsWithin v (layout rest) 0 18446744073709551615 in let B = LengthsBy (behind (layout rest)) 0 in let T = Tails (reverse c.args.waiting.now) in let L = LengthsBy row 0 in
     let sum = c.in_ok-sum-in-Some-One-default.sum in
-    let own : SameSet (InSteps c.single.result) W = rw c.width.ensures at c.single.ensures in
-    let has : AreTotal sum (Plus S W) = set_along (InTotal sum) (Plus S (InSteps c.single.result)) (Plus S W) c.in_ok-sum-in-Some-One-default.ensures (Plus-same S (InSteps c.single.result) S W (set_self S) own) in
+    let own : SameSet (InProgression c.single.result) W = rw c.width.ensures at c.single.ensures in
+    let has : AreTotal sum (Plus S W) = set_along (InTotal sum) (Plus S (InProgression c.single.result)) (Plus S W) c.in_ok-sum-in-Some-One-default.ensures (Plus-same S (InProgression c.single.result) S W (set_self S) own) in
     answer_same c.choose.result (Plus (InTotal sum) (Plus G (Plus B T)) c.args.bits) (Plus S (Plus L T) c.args.bits)
     (moved_two (InTotal sum) S W G B T L has (set_along (Plus W (Plus G B)) (FirstWithin v (layout rest) 0 18446744073709551615) L (first_sum v (layout rest) 0 18446744073709551615) (one_sum row v (layout rest) 0 is)) c.args.bits)
     c.choose.ensures
@@ -66,13 +66,13 @@ pub leave-returns-in_ok-groups-in-Some : goal.leave-returns-in_ok-groups-in-Some
 leave-returns-in_ok-groups-in-Some t c =
     let S = InTotal c.args.sum in let g = c.in_ok-groups-in-Some.groups in
     let items = c.behind_groups.result.now in let outer = c.in-Some.outer.now in
-    let more = Plus (InSteps g) (Onward items outer) in let T = Tails (reverse c.args.waiting.now) in
+    let more = Plus (InProgression g) (Onward items outer) in let T = Tails (reverse c.args.waiting.now) in
     answer_same c.spread.result (Plus S more c.args.bits) (Plus S T c.args.bits)
     (Plus-same S more S T (set_self S) (leave_sum g c.in-Some.pending.now outer c.args.waiting.now items c.in-Some.ensures.cases.0 c.in_ok-groups-in-Some.ensures c.behind_groups.ensures.behind) c.args.bits) c.spread.ensures
 
 pub choose-returns-in-Some-times_steps : goal.choose-returns-in-Some-times_steps
 choose-returns-in-Some-times_steps t c =
-    let rest = layout c.args.rest.now in let all = InSteps c.in-Some-times_steps.all in
+    let rest = layout c.args.rest.now in let all = InProgression c.in-Some-times_steps.all in
     let times = TimesWithin c.in-Some.group c.in-Some.first c.in-Some.last in let G = GroupsWithin c.args.var rest c.args.low c.args.high in
     chosen c.spread-in-Some-times_steps.result (InTotal c.args.sum) all G c.behind_groups-behind.result.now rest c.args.waiting.now c.args.bits (set_along all times G c.in-Some-times_steps.ensures c.in-Some.ensures.all) c.behind_groups-behind.ensures.behind c.spread-in-Some-times_steps.ensures
 
@@ -87,7 +87,7 @@ choose-returns-in_ok-with-in-None-times_steps t c =
 
 pub choose-returns-in-Some-steps_each : goal.choose-returns-in-Some-steps_each
 choose-returns-in-Some-steps_each t c =
-    let rest = layout c.args.rest.now in let g = InSteps c.in-Some-steps_each.groups in let G = GroupsWithin c.args.var rest c.args.low c.args.high in
+    let rest = layout c.args.rest.now in let g = InProgression c.in-Some-steps_each.groups in let G = GroupsWithin c.args.var rest c.args.low c.args.high in
     chosen c.spread-in-Some-steps_each.result (InTotal c.args.sum) g G c.behind_groups-behind.result.now rest c.args.waiting.now c.args.bits c.in-Some-steps_each.ensures c.behind_groups-behind.ensures.behind c.spread-in-Some-steps_each.ensures
 
 pub choose_each-loop-number-preserved : goal.choose_each-loop-number-preserved
@@ -118,20 +118,20 @@ choose_each-returns t c =
 pub spread-returns-then-is_empty-2 : goal.spread-returns-then-is_empty-2
 spread-returns-then-is_empty-2 t c =
     let items = c.args.items.now in let ps = c.args.waiting.now in let all = InTotal c.in-Some.all in
-    let S = InTotal c.args.sum in let M = InSteps c.args.more in
+    let S = InTotal c.args.sum in let M = InProgression c.args.more in
     answer_same c.holds.result (all c.args.bits) (Plus S (Plus M (Onward items ps)) c.args.bits)
     (onward_none all S M items ps (is_zero (length items) (sym c.is_empty.ensures ∙ c.if-is_empty.true)) (is_zero (length ps) (sym c.is_empty-then-is_empty.ensures ∙ c.if-is_empty-2.true)) c.in-Some.ensures c.args.bits) c.holds.ensures
 
 pub spread-returns-after-is_empty : goal.spread-returns-after-is_empty
 spread-returns-after-is_empty t c =
-    let S = InTotal c.args.sum in let M = InSteps c.args.more in let X = Onward c.args.items.now c.args.waiting.now in let all = InTotal c.in-Some.all in
+    let S = InTotal c.args.sum in let M = InProgression c.args.more in let X = Onward c.args.items.now c.args.waiting.now in let all = InTotal c.in-Some.all in
     answer_same c.onward.result (Plus all X c.args.bits) (Plus S (Plus M X) c.args.bits)
     (set_along (Plus all X) (Plus (Plus S M) X) (Plus S (Plus M X)) (Plus-same all X (Plus S M) X c.in-Some.ensures (set_self X)) (Plus-assoc S M X) c.args.bits) c.onward.ensures
 
 pub spread-returns-then-more-sum : goal.spread-returns-then-more-sum
 spread-returns-then-more-sum t c =
-    let S = InTotal c.args.sum in let M = InSteps c.args.more in let X = Onward c.args.items.now c.args.waiting.now in
-    let N = InTotal c.with_steps.result in let O = InSteps c.args.sum.steps in
+    let S = InTotal c.args.sum in let M = InProgression c.args.more in let X = Onward c.args.items.now c.args.waiting.now in
+    let N = InTotal c.with_steps.result in let O = InProgression c.args.sum.steps in
     answer_same c.spread_each.result (Plus N (Plus O X) c.args.bits) (Plus S (Plus M X) c.args.bits) (exchanged N O S M X c.with_steps.ensures c.args.bits) c.spread_each.ensures
 
 pub spread_each-returns-then-branch : goal.spread_each-returns-then-branch

@@ -7,7 +7,7 @@ use Rattle.etcs_rows.specs.declared.place.Pending.{Pending}
 use Rattle.etcs_rows.specs.Cursors.{left_of}
 use Rattle.etcs_tables.specs.Layouts.{layout}
 use Rattle.etcs_rows.specs.Lengths.{LengthsBy, behind, GroupsWithin, FitsWithin}
-use Rattle.etcs_rows.specs.Steps.{InSteps, AreSteps, AtMost}
+use Rattle.etcs_rows.specs.Progressions.{InProgression, IsProgression, AtMost}
 use Rattle.etcs_rows.specs.Totals.{InTotal}
 use Rattle.etcs_rows.specs.Sums.{Plus}
 use Rattle.etcs_rows.specs.Waiting.{Agains, Tails}
@@ -23,14 +23,14 @@ returns-in_ok-sum-in-Some-One-default c =
     let is : cursor.items.now ≡ One v ∷ rest = c.in-Some-One-default.ensures.cases.0 ∙ ap (λ (i : RowItem). i ∷ rest) c.in-Some-One-default.field-0-0-is in
     let again = c.in_ok-waiting_steps-in-Some-One-default.field-0 in let sum = c.in_ok-sum-in-Some-One-default.sum in
     let slice = c.as_slice-waiting.ensures.value in
-    let A = InSteps again in let W : ℕ → Type 0 = λ k. k ≡ width v in
-    let ha : AreSteps again (Agains (reverse cursor.pending.items)) = subst (λ (ps : List Pending). AreSteps again (Agains (reverse ps))) slice c.in_ok-waiting_steps-in-Some-One-default.ensures in
-    let own : SameSet (InSteps c.single.result) W = rw c.width.ensures at c.single.ensures in
+    let A = InProgression again in let W : ℕ → Type 0 = λ k. k ≡ width v in
+    let ha : IsProgression again (Agains (reverse cursor.pending.items)) = subst (λ (ps : List Pending). IsProgression again (Agains (reverse ps))) slice c.in_ok-waiting_steps-in-Some-One-default.ensures in
+    let own : SameSet (InProgression c.single.result) W = rw c.width.ensures at c.single.ensures in
     let S = InTotal c.new.result in
     let hs : SameSet S (Plus A W) =
-    set_along S (Plus (InSteps sum) (AtMost 0)) (Plus A W) c.new.ensures
-    (set_along (Plus (InSteps sum) (AtMost 0)) (InSteps sum) (Plus A W) (no_slack (InSteps sum))
-    (set_along (InSteps sum) (Plus A (InSteps c.single.result)) (Plus A W) c.in_ok-sum-in-Some-One-default.ensures (Plus-same A (InSteps c.single.result) A W (set_self A) own))) in
+    set_along S (Plus (InProgression sum) (AtMost 0)) (Plus A W) c.new.ensures
+    (set_along (Plus (InProgression sum) (AtMost 0)) (InProgression sum) (Plus A W) (no_slack (InProgression sum))
+    (set_along (InProgression sum) (Plus A (InProgression c.single.result)) (Plus A W) c.in_ok-sum-in-Some-One-default.ensures (Plus-same A (InProgression c.single.result) A W (set_self A) own))) in
     let small : bits ≤ 8191 = omega arith in
     let G = GroupsWithin v (layout rest) low high in let B = LengthsBy (behind (layout rest)) 0 in
     answer_same c.choose.result (Plus S (Plus G (Plus B (Tails (reverse cursor.pending.items)))) bits) (FitsWithin (left_of cursor) low high bits)

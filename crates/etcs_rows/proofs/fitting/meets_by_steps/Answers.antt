@@ -3,7 +3,7 @@ use Rattle.std.specs.Prelude.{IsTrue, ◌↔◌, IfSome}
 use Rattle.etcs_rows.specs.declared.place.Pending.{Pending}
 use Rattle.etcs_rows.specs.Cursors.{left_of}
 use Rattle.etcs_rows.specs.Lengths.{LengthsBy}
-use Rattle.etcs_rows.specs.Steps.{InSteps, AreSteps}
+use Rattle.etcs_rows.specs.Progressions.{InProgression, IsProgression}
 use Rattle.etcs_rows.specs.Totals.{InTotal}
 use Rattle.etcs_rows.specs.Sums.{Plus}
 use Rattle.etcs_rows.specs.Waiting.{Agains, Onward}
@@ -15,9 +15,9 @@ returns c =
     let cursor = c.args.cursor.now in let low = c.args.low in let high = c.min-high.result in
     let again = c.in_ok-again.again in let g = c.in_ok-groups.groups in let items = c.behind_groups.result.now in
     let slice = c.as_slice-waiting.ensures.value in let S = InTotal c.new-sum.result in
-    let ha : AreSteps again (Agains (reverse cursor.pending.items)) = subst (λ (ps : List Pending). AreSteps again (Agains (reverse ps))) slice c.in_ok-again.ensures in
+    let ha : IsProgression again (Agains (reverse cursor.pending.items)) = subst (λ (ps : List Pending). IsProgression again (Agains (reverse ps))) slice c.in_ok-again.ensures in
     let L = LengthsBy (left_of cursor) 0 in
-    answer_same c.spread.result (Plus S (Plus (InSteps g) (Onward items cursor.pending.items)) high) ((m : ℕ) × L m × (m ≤ 8191) × (low ≤ m) × (m ≤ c.args.high))
-    (meets_sum (InSteps again) (Plus (InSteps g) (Onward items cursor.pending.items)) L c.new-sum.result low high c.args.high c.new-sum.ensures
+    answer_same c.spread.result (Plus S (Plus (InProgression g) (Onward items cursor.pending.items)) high) ((m : ℕ) × L m × (m ≤ 8191) × (low ≤ m) × (m ≤ c.args.high))
+    (meets_sum (InProgression again) (Plus (InProgression g) (Onward items cursor.pending.items)) L c.new-sum.result low high c.args.high c.new-sum.ensures
     (reaches_sum cursor again g items ha c.in_ok-groups.ensures c.behind_groups.ensures.behind) c.if-high-low.false c.min-high.ensures)
-    (subst (λ (ps : List Pending). IfSome c.spread.result (λ b. IsTrue b ↔ Plus S (Plus (InSteps g) (Onward items ps)) high)) slice c.spread.ensures)
+    (subst (λ (ps : List Pending). IfSome c.spread.result (λ b. IsTrue b ↔ Plus S (Plus (InProgression g) (Onward items ps)) high)) slice c.spread.ensures)

@@ -1,6 +1,6 @@
 use Rattle.std.proofs.Common.{refl, arith}
 use Rattle.std.proofs.lemmas.Bool.{both_ways}
-use Rattle.etcs_rows.specs.Steps.{InSteps, AtMost}
+use Rattle.etcs_rows.specs.Progressions.{InProgression, AtMost}
 use Rattle.etcs_rows.proofs.StepSums.{times_past, times_more, times_none, times_found, times_not}
 use Rattle.etcs_rows.proofs.total.any_times.Goals as goal
 
@@ -20,11 +20,11 @@ pub loop-count-preserved : goal.loop-count-preserved
 loop-count-preserved c =
     let X = AtMost c.args.slack in
     record {
-      none = times_more c.args.times.group c.in_ok-all.all (InSteps c.args.sum) X c.args.times.first c.loop-count.count c.args.number c.loop-count.invariant.none c.in_ok-all.ensures
-          (times_not c.in_ok-all.all c.in_ok-plus.field-0 (InSteps c.args.sum) X c.args.number c.in_ok-plus.ensures (λ h. both_ways c.near.result c.if-near.false (c.near.ensures.1 h)));
+      none = times_more c.args.times.group c.in_ok-all.all (InProgression c.args.sum) X c.args.times.first c.loop-count.count c.args.number c.loop-count.invariant.none c.in_ok-all.ensures
+          (times_not c.in_ok-all.all c.in_ok-plus.field-0 (InProgression c.args.sum) X c.args.number c.in_ok-plus.ensures (λ h. both_ways c.near.result c.if-near.false (c.near.ensures.1 h)));
     }
 
 pub returns : goal.returns
 returns c =
     let t = c.args.times in let end = c.in_ok-end.ensures in
-    times_none t.group (InSteps c.args.sum) (AtMost c.args.slack) t.first t.last c.loop-count.count c.args.number c.loop-count.invariant.none (omega (arith, end))
+    times_none t.group (InProgression c.args.sum) (AtMost c.args.slack) t.first t.last c.loop-count.count c.args.number c.loop-count.invariant.none (omega (arith, end))

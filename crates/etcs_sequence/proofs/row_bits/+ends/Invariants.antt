@@ -14,7 +14,7 @@ decreases-passes l = 2 ^ 65 * length l.items.now + 1
 abbrev pub decreases-passes_all : goal.decreases-passes_all
 decreases-passes_all l = 2 ^ 65 * length l.items.now + 2
 
--- what goes on behind the items that are left goes on behind all
+-- what continues after the items that are left continues after all
 abbrev pub invariant-passes-loop-spot : goal.invariant-passes-loop-spot
 invariant-passes-loop-spot l = record {
   onward : (end : ℕ) → EndsAt (ReadsBy (layout l.spot.items.now) l.spot.before) l.fn.walker.bits l.walker.place end → EndsAt (ReadsBy (layout l.items) l.before) l.fn.walker.bits l.fn.walker.place end;

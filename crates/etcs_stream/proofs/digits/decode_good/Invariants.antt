@@ -5,4 +5,4 @@ use Rattle.etcs_stream.proofs.digits.decode_good.Given as goal
 
 abbrev pub invariant-bytes : goal.invariant-bytes
 invariant-bytes l =
-    decode_pairs 0 l.line ≡ prepend (take l.i l.room) (decode_pairs (2 * l.i) (drop (2 * l.i) l.line))
+    decode_pairs 0 l.line ≡ prepend (take l.i l.buffer) (decode_pairs (2 * l.i) (drop (2 * l.i) l.line))

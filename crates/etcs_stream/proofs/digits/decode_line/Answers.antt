@@ -8,4 +8,4 @@ pub unreachable-requires : goal.unreachable-requires
 unreachable-requires c =
     let good : bad_place c.args.line.now ≡ None = cc in
     never_refused c.args.line.now _ _ _ _ good
-    (length-take-le (length c.args.line.now / 2) c.decode_good.new.room (omega (arith, good_short c.args.line.now good))) c.decode_to_slice.ensures.value c.in-Err.is
+    (length-take-le (length c.args.line.now / 2) c.decode_good.new.buffer (omega (arith, good_short c.args.line.now good))) c.decode_to_slice.ensures.value c.in-Err.is

@@ -4,7 +4,7 @@ use Rattle.etcs_vars.specs.Reading.{spelled}
 use Rattle.etcs_packets.specs.declared.packet.Packet.{Packet}
 use Rattle.etcs_packets.specs.PacketValues.{packet_value}
 use Rattle.etcs_packets.specs.PacketReadings.{packets_reading}
-use Rattle.etcs_telegram.specs.Telegrams.{HeaderParts, header_reading, telegram_value, user_bits, pad_bits, container_bytes}
+use Rattle.etcs_telegram.specs.Telegrams.{HeaderValue, header_reading, telegram_value, user_bits, pad_bits, container_bytes}
 use Rattle.etcs_telegram.proofs.HeaderLemmas.{header_length}
 use Rattle.etcs_telegram.proofs.Encoding.{container_bits, room_more, user_small, user_end, telegram_written}
 use Rattle.etcs_telegram.proofs.encode.write_telegram.Goals as goal
@@ -76,7 +76,7 @@ returns-clause-bits c =
     c.readable.ensures.reads
     (container_bits t.size c.args.out.now c.requires)
     place
-    (c.write_variables.ensures ∙ ap (λ (h : HeaderParts). replaced 0 (spelled (header_reading h)) (bits c.args.out.now)) c.header.ensures)
+    (c.write_variables.ensures ∙ ap (λ (h : HeaderValue). replaced 0 (spelled (header_reading h)) (bits c.args.out.now)) c.header.ensures)
     (c.write_packets-end.ensures.bits ∙ ap (λ (ps : List Packet). replaced 50 (spelled (packets_reading (map packet_value ps))) (bits c.write_variables.new.out)) c.packets.ensures)
     (rw c.from.ensures at c.write.ensures)
     (c.write_slice.ensures ∙ ap (λ (f : List Bool). replaced (c.write_packets-end.result + 8) f (bits c.write.new.bytes)) c.fill.ensures)

@@ -4,12 +4,12 @@ use Rattle.etcs_telegram.proofs.RoundTrips.{read_again, container_small}
 use Rattle.etcs_telegram.proofs.laws.round_trip.Goals as goal
 use Rattle.etcs_telegram.proofs.laws.round_trip.Goals.{After-feed}
 
-answered : (c : After-feed) → Answered c.args.telegram.now c.feed.result c.feed.new.self.stage
+answered : (c : After-feed) → Answered c.args.telegram.now c.feed.result c.feed.new.self.progress
 answered c =
     let t = c.args.telegram.now in
     let e = c.in-Ok.ensures.ok in
     let len = e.0 in
-    read_again t _ c.encode_into.new.out c.in-Ok.len c.new-reader.result c.feed.result c.feed.new.self.stage c.encode_into.auto.out (omega (arith, len, container_small t.size)) c.readable.ensures.value e c.size.result c.size.ensures c.new-reader.ensures c.feed.ensures.answer
+    read_again t _ c.encode_into.new.out c.in-Ok.len c.new-reader.result c.feed.result c.feed.new.self.progress c.encode_into.auto.out (omega (arith, len, container_small t.size)) c.readable.ensures.value e c.size.result c.size.ensures c.new-reader.ensures c.feed.ensures.answer
 
 pub unreachable-requires-in-Ok-More : goal.unreachable-requires-in-Ok-More
 unreachable-requires-in-Ok-More c =

@@ -14,8 +14,8 @@ overflow_mul-piece g c = omega (arith, c.requires.small, length-bits c.args.piec
 pub overflow_sub-piece : goal.overflow_sub-piece
 overflow_sub-piece g c = omega (arith, c.requires.inside, length-bits c.args.piece.now)
 
-pub run_at-requires : goal.run_at-requires
-run_at-requires g c = omega (arith, c.min-count.ensures, c.requires.inside, length-bits c.args.piece.now)
+pub bits_at-requires : goal.bits_at-requires
+bits_at-requires g c = omega (arith, c.min-count.ensures, c.requires.inside, length-bits c.args.piece.now)
 
 pub returns-in-Ok-clause-ok : goal.returns-in-Ok-clause-ok
 returns-in-Ok-clause-ok g c =
@@ -25,9 +25,9 @@ returns-in-Ok-clause-ok g c =
       some = omega (arith, c.min-count.ensures, pos, c.requires.inside, length-bits c.args.piece.now);
       inside = omega (arith, c.min-count.ensures, c.requires.inside, length-bits c.args.piece.now);
       goes = c.in-Ok.ensures.goes;
-      whole = kept OTHER_DATA c.run_at.result;
+      whole = kept OTHER_DATA c.bits_at.result;
       follows = c.in-Ok.ensures.ok;
-      bits = bits_spelled OTHER_DATA c.run_at.result refl ∙ c.run_at.ensures;
+      bits = bits_spelled OTHER_DATA c.bits_at.result refl ∙ c.bits_at.ensures;
     }
 
 pub returns-in-Err-clause-viable : goal.returns-in-Err-clause-viable

@@ -5,7 +5,7 @@ use Rattle.std.proofs.lemmas.Bool.{and_from, lt-ltb}
 use Rattle.etcs_vars.proofs.Languages.{Same}
 use Rattle.etcs_tables.specs.declared.row.Way.TheVariants.{ToTrain}
 use Rattle.etcs_rows.specs.declared.frames.Carrier.TheVariants.{Message}
-use Rattle.etcs_sequence.specs.Contents.{Run}
+use Rattle.etcs_sequence.specs.Contents.{PacketsIn}
 use Rattle.etcs_sequence.specs.Lefts.{left_of, ahead, is_closed}
 use Rattle.etcs_radio.specs.declared.phase.Phase.TheVariants as phase
 use Rattle.etcs_radio.specs.Lefts.{front_row, front_bits, some_row, DataFits}
@@ -50,5 +50,5 @@ returns-in-Some g c =
     let (vs, found, wide) = front_there front_bits (front_row s.nid) c.in-Some.front c.in-Some.ensures in
     let room : len * 8 - c.in-Some.front ≡ 8 * len - front_bits vs = omega (arith, wide) in
     let bits : ahead l'.carrier l'.room l'.stage ≡ 8 * len - front_bits vs = subst (λ n. ahead l'.carrier l'.room l'.stage ≡ n) room c.start.ensures.ahead in
-    let left : Same (left_of l'.carrier l'.room l'.stage) (Run (Message ToTrain) (8 * len - front_bits vs)) = subst (λ n. Same (left_of l'.carrier l'.room l'.stage) (Run (Message ToTrain) n)) room c.start.ensures.left in
+    let left : Same (left_of l'.carrier l'.room l'.stage) (PacketsIn (Message ToTrain) (8 * len - front_bits vs)) = subst (λ n. Same (left_of l'.carrier l'.room l'.stage) (PacketsIn (Message ToTrain) n)) room c.start.ensures.left in
     typed_follows s.nid s.phase s.front.items l l' s.padding (g.S.PacketStore.holds s.packets.store) (g.S.PacketStore.holds c.start.new.self.store) len vs c.requires.phase s.stands found c.requires.goes (typed_behind s.nid len vs l l' found (rw c.requires.phase at c.requires.goes) bits left) bits c.start.ensures.held

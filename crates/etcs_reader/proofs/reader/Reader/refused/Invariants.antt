@@ -3,7 +3,7 @@ use Rattle.etcs_vars.specs.Vars.{width}
 use Rattle.etcs_reader.specs.Rests.{Starts}
 use Rattle.etcs_reader.proofs.reader.Reader.refused.Given as goal
 
--- some number goes on that begins with the first of the bits
+-- some number continues that begins with the first of the bits
 abbrev pub invariant-loop-more : goal.invariant-loop-more
 invariant-loop-more g l =
     record {

@@ -1,5 +1,5 @@
 use Rattle.std.proofs.Common.{Some}
-use Rattle.etcs_rows.specs.Steps.{InSteps, TimesWithin, AtMost}
+use Rattle.etcs_rows.specs.Progressions.{InProgression, TimesWithin, AtMost}
 use Rattle.etcs_rows.specs.Sums.{Plus}
 use Rattle.etcs_rows.specs.Totals.{InTotal}
 use Rattle.etcs_rows.proofs.FitLemmas.{answer_same}
@@ -14,5 +14,5 @@ returns-in-None c =
 pub returns-in-Some : goal.returns-in-Some
 returns-in-Some c =
     let t = c.args.self in let times = c.in-Some.times in
-    answer_same c.any_times.result (Plus (InSteps t.steps) (Plus (TimesWithin times.group times.first times.last) (AtMost t.slack)) c.args.number) (InTotal t c.args.number)
+    answer_same c.any_times.result (Plus (InProgression t.steps) (Plus (TimesWithin times.group times.first times.last) (AtMost t.slack)) c.args.number) (InTotal t c.args.number)
     (total_parts t (Some times) c.in-Some.is c.args.number) c.any_times.ensures

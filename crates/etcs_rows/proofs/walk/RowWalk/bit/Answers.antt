@@ -3,7 +3,7 @@ use Rattle.etcs_bits.proofs.Positions.{bit-le}
 use Rattle.etcs_vars.proofs.Prefixes.{width-le}
 use Rattle.etcs_vars.specs.declared.var.Var.{Var}
 use Rattle.etcs_rows.specs.declared.walk.Stopped.TheVariants.{Refused}
-use Rattle.etcs_rows.specs.Walks.{WalkValue, Steps}
+use Rattle.etcs_rows.specs.Walks.{WalkValue, TakesBit}
 use Rattle.etcs_rows.proofs.WalkSteps.{Kept, walk, first_of, part_long, none_before, number_room, more_step, number_step, whole_step, refused_again}
 use Rattle.etcs_rows.proofs.walk.RowWalk.bit.Goals as goal
 use Rattle.etcs_rows.proofs.walk.RowWalk.bit.Goals.{in-Ok, in-Ok-2+in-Some-var, in-Ok-2+in-None, in-Err-Refused}
@@ -18,30 +18,30 @@ pub overflow_add-taken : goal.overflow_add-taken
 overflow_add-taken c =
     let v = c.self.inside.feeder in let x = c.in-Some.var in
     let first = first_of v c.args.self.now x c.self.view_is c.in-Some.ensures.next in
-    let room = number_room v x c.part-bits.result.0 c.part-bits.result.1 c.self.invariant first c.part-bits.ensures.bits c.part-bits.ensures.fits in
+    let room = number_room v x c.unfinished-bits.result.0 c.unfinished-bits.result.1 c.self.invariant first c.unfinished-bits.ensures.bits c.unfinished-bits.ensures.fits in
     record { fits = omega (arith, room.0, width-le x) }
 
 pub overflow_mul-number : goal.overflow_mul-number
 overflow_mul-number c =
     let v = c.self.inside.feeder in let x = c.in-Some.var in
     let first = first_of v c.args.self.now x c.self.view_is c.in-Some.ensures.next in
-    let room = number_room v x c.part-bits.result.0 c.part-bits.result.1 c.self.invariant first c.part-bits.ensures.bits c.part-bits.ensures.fits in
+    let room = number_room v x c.unfinished-bits.result.0 c.unfinished-bits.result.1 c.self.invariant first c.unfinished-bits.ensures.bits c.unfinished-bits.ensures.fits in
     record { fits = omega (arith, room.1) }
 
 pub overflow_add-number : goal.overflow_add-number
 overflow_add-number c =
     let v = c.self.inside.feeder in let x = c.in-Some.var in
     let first = first_of v c.args.self.now x c.self.view_is c.in-Some.ensures.next in
-    let room = number_room v x c.part-bits.result.0 c.part-bits.result.1 c.self.invariant first c.part-bits.ensures.bits c.part-bits.ensures.fits in
+    let room = number_room v x c.unfinished-bits.result.0 c.unfinished-bits.result.1 c.self.invariant first c.unfinished-bits.ensures.bits c.unfinished-bits.ensures.fits in
     record { fits = omega (arith, room.1, c.digit.ensures, bit-le c.args.b) }
 
 -- what a bit does, by what the feeder answers
-answered : (c : goal.Joined-bit) → Kept c.bit.new.self × Steps (walk c.self.inside.feeder) c.args.b c.match-bit.result (walk c.bit.new.self)
+answered : (c : goal.Joined-bit) → Kept c.bit.new.self × TakesBit (walk c.self.inside.feeder) c.args.b c.match-bit.result (walk c.bit.new.self)
 answered c =
     let old = c.self.inside.feeder in let new = c.bit.new.self in let x = c.in-Some.var in let kept = c.self.invariant in
     let first = first_of old c.args.self.now x c.self.view_is c.in-Some.ensures.next in
-    let part = c.part-bits.ensures in
-    let bits = c.part-bits.result.0 in let taken = c.part-bits.result.1 in
+    let part = c.unfinished-bits.ensures in
+    let bits = c.unfinished-bits.result.0 in let taken = c.unfinished-bits.result.1 in
     let long = part_long old.part bits taken part.bits in
     elim c.match-bit.branch [
       | in-Ok w ↦
@@ -60,11 +60,11 @@ answered c =
       | in-Err-Refused w ↦
           let r = w.in-Err-Refused in
           let again = refused_again old new c.args.b x first kept r.field-0 r.field-0-0 r.var r.field-0-is r.ensures.going r.ensures.stopped in
-          rw w.result-is (subst (λ (y : Var). Kept new × Steps (walk old) c.args.b (Err (Refused y)) (walk new)) (sym r.var-is) again)
+          rw w.result-is (subst (λ (y : Var). Kept new × TakesBit (walk old) c.args.b (Err (Refused y)) (walk new)) (sym r.var-is) again)
     ]
 
 pub invariant_of-self : goal.invariant_of-self
 invariant_of-self c = (answered c).0
 
 pub returns : goal.returns
-returns c = subst (λ (w : WalkValue). Steps w c.args.b c.match-bit.result (walk c.bit.new.self)) c.self.view_is (answered c).1
+returns c = subst (λ (w : WalkValue). TakesBit w c.args.b c.match-bit.result (walk c.bit.new.self)) c.self.view_is (answered c).1

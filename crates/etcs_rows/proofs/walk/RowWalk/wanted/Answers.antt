@@ -7,7 +7,7 @@ use Rattle.etcs_rows.proofs.walk.RowWalk.wanted.Goals as goal
 
 pub overflow_sub-result : goal.overflow_sub-result
 overflow_sub-result c =
-    let long = part_long c.self.inside.feeder.part c.part.result.0 c.part.result.1 c.part.ensures.bits in
+    let long = part_long c.self.inside.feeder.part c.unfinished.result.0 c.unfinished.result.1 c.unfinished.ensures.bits in
     omega (arith, long, c.width.ensures, c.self.invariant.inside c.in-Some.var (sym c.in-Some.ensures.next))
 
 pub returns-in-Some-clause-next : goal.returns-in-Some-clause-next
@@ -16,5 +16,5 @@ returns-in-Some-clause-next c = λ x first.
     let here = sym c.in-Some.ensures.next in
     let same : c.in-Some.var ≡ x = some_same (c.in-Some.ensures.next ∙ ap (λ (w : WalkValue). first_variable w.left) c.self.view_is ∙ first) in
     let part : length v.part ≡ length c.args.self.now.part = ap (λ (w : WalkValue). length w.part) c.self.view_is in
-    let long = part_long v.part c.part.result.0 c.part.result.1 c.part.ensures.bits in
+    let long = part_long v.part c.unfinished.result.0 c.unfinished.result.1 c.unfinished.ensures.bits in
     omega (arith, sym part, long, c.width.ensures, ap width same, c.self.invariant.inside c.in-Some.var here)

@@ -2,8 +2,8 @@ use Rattle.std.proofs.Common.{◌≡◌, None, sym, ap, subst, ◌∙◌, min, n
 use Rattle.std.specs.Prelude.{ℕ, ◌-◌, ◌/◌, length, is_some}
 use Rattle.std.proofs.lemmas.List.{length-take-le}
 use Rattle.etcs_bits.specs.Bits.{bits}
-use Rattle.etcs_sequence.specs.Stages.{Feeds}
-use Rattle.etcs_sequence.proofs.Feeding.{at_of, bytes_wanted, Answer, answers_more, answers_done, answers_err, answers, stage}
+use Rattle.etcs_sequence.specs.Progress.{Feeds}
+use Rattle.etcs_sequence.proofs.Feeding.{at_of, bytes_wanted, Answer, answers_more, answers_done, answers_err, answers, progress}
 use Rattle.etcs_sequence.proofs.item.ItemReader.feed.Given.{Over}
 use Rattle.etcs_sequence.proofs.item.ItemReader.feed.Goals as goal
 use Rattle.etcs_sequence.proofs.item.ItemReader.feed.Goals.{Joined-feed, in-Ok+in-Some-var, in-Ok+in-None, in-Err}
@@ -55,8 +55,8 @@ returns-clause-answer g c seen is =
     let new = c.feed.new.self in
     let piece = c.args.piece.now in
     let I = g.R.ItemRest in
-    let stages = ap (λ v. v.stage) c.self.view_is in
+    let progress = ap (λ v. v.progress) c.self.view_is in
     let sizes = ap (λ v. v.size) c.self.view_is in
     let going = ap is_some (sym c.var.ensures.next) ∙ (c.is_none.ensures ∙ ap not c.if-is_none.false) in
-    let f = answers w old new piece c.match-feed.result c.args.self.now.stage (sym c.stop.ensures ∙ c.in_default.is) going (answered g c) stages seen is in
-    subst (λ z. Feeds (I.Reads z) I.value I.IsValue I.least seen (bits piece) c.match-feed.result (stage w new)) sizes f
+    let f = answers w old new piece c.match-feed.result c.args.self.now.progress (sym c.stop.ensures ∙ c.in_default.is) going (answered g c) progress seen is in
+    subst (λ z. Feeds (I.Reads z) I.value I.IsValue I.least seen (bits piece) c.match-feed.result (progress w new)) sizes f

@@ -1,5 +1,5 @@
 use Rattle.std.proofs.Common.{ap}
-use Rattle.etcs_sequence.proofs.Feeding.{first_is, first_stage}
+use Rattle.etcs_sequence.proofs.Feeding.{first_is, first_progress}
 use Rattle.etcs_sequence.proofs.item.ItemReader.new.Goals as goal
 
 pub new-requires : goal.new-requires
@@ -17,4 +17,4 @@ invariant_of-result g c =
 pub returns : goal.returns
 returns g c =
     let e = c.new.ensures in
-    ap (λ s. record { size = c.args.size; stage = s }) (first_stage c.requires.readable c.new.result e.part e.count e.stop (rw e.rest c.requires.same) (rw e.rest c.requires.holds))
+    ap (λ s. record { size = c.args.size; progress = s }) (first_progress c.requires.readable c.new.result e.part e.count e.stop (rw e.rest c.requires.same) (rw e.rest c.requires.holds))

@@ -15,27 +15,27 @@ overflow_sub-piece g c = omega (arith, c.requires.inside, length-bits c.args.pie
 pub number_at-requires-clause-inside : goal.number_at-requires-clause-inside
 number_at-requires-clause-inside g c = omega (arith, c.requires.inside, length-bits c.args.piece.now)
 
-pub take_number-requires-clause-goes : goal.take_number-requires-clause-goes
-take_number-requires-clause-goes g c = rw c.from-number.ensures (c.may_close.ensures c.if-not-may_close.false)
+pub pass_number-requires-clause-goes : goal.pass_number-requires-clause-goes
+pass_number-requires-clause-goes g c = rw c.from-number.ensures (c.may_close.ensures c.if-not-may_close.false)
 
 pub invariant_of-self : goal.invariant_of-self
 invariant_of-self g c =
     let s = c.args.self.now.left in
-    let t = c.take_number.new.self in
+    let t = c.pass_number.new.self in
     let n = c.from-number.result in
     let H = g.S.PacketStore.holds c.args.self.now.store in
-    let held = closing_held s.carrier t.carrier s.stage t.stage n H c.requires.stage c.take_number.ensures.moved.same c.take_number.ensures.here in
+    let held = closing_held s.carrier t.carrier s.stage t.stage n H c.requires.stage c.pass_number.ensures.moved.same c.pass_number.ensures.here in
     record { held = ∥∥₁_map c.args.self.now.held (λ old closed. let h = old (rw c.requires.stage refl) in (h.0 ++ (NID_PACKET, n) ∷ [], held h.0 h.1)) }
 
 pub returns-clause-some : goal.returns-clause-some
 returns-clause-some g c =
     let s = c.args.self.now.left in
-    let t = c.take_number.new.self in
+    let t = c.pass_number.new.self in
     let n = c.from-number.result in
     let xs = bits c.args.piece.now in
     let H = g.S.PacketStore.holds c.args.self.now.store in
-    let moved = c.take_number.ensures.moved in
-    let held = closing_held s.carrier t.carrier s.stage t.stage n H c.requires.stage moved.same c.take_number.ensures.here in
+    let moved = c.pass_number.ensures.moved in
+    let held = closing_held s.carrier t.carrier s.stage t.stage n H c.requires.stage moved.same c.pass_number.ensures.here in
     let is : c.number_at.result ≡ n = omega arith in
     record {
       some = omega arith;

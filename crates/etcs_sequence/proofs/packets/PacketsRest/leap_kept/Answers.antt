@@ -19,8 +19,8 @@ overflow_mul-piece g c = omega (arith, c.requires.small, length-bits c.args.piec
 pub overflow_sub-piece : goal.overflow_sub-piece
 overflow_sub-piece g c = omega (arith, c.requires.inside, length-bits c.args.piece.now)
 
-pub run_at-requires : goal.run_at-requires
-run_at-requires g c = omega (arith, c.requires.inside, c.min-count.ensures, length-bits c.args.piece.now)
+pub bits_at-requires : goal.bits_at-requires
+bits_at-requires g c = omega (arith, c.requires.inside, c.min-count.ensures, length-bits c.args.piece.now)
 
 pub bits-requires : goal.bits-requires
 bits-requires g c =
@@ -28,7 +28,7 @@ bits-requires g c =
     let xs = bits c.args.piece.now in
     let count = c.min-count.result in
     let inside : c.args.at + count ≤ length xs = omega (arith, c.requires.inside, c.min-count.ensures, length-bits c.args.piece.now) in
-    let size = ap length c.run_at.ensures ∙ length-part c.args.at count xs inside in
+    let size = ap length c.bits_at.ensures ∙ length-part c.args.at count xs inside in
     ∥∥₁_map c.args.self.now.held (λ old. let (q, (vs, f, k, h, held, all, here, eq)) = old (rw c.requires.stage refl) in (vs, (f, (k, (held, rw size (kept_fits s.carrier s.stage c.args.nid c.args.dir c.args.left count f k h c.requires.stage (omega (arith, c.min-count.ensures)) here))))))
 
 pub returns-in-Err-clause-viable : goal.returns-in-Err-clause-viable
@@ -39,8 +39,8 @@ returns-in-Err-clause-viable g c =
     let some = kept_some s.carrier s.room s.stage c.args.nid c.args.dir c.args.left c.requires.stage s.stands in
     kept_viable s.carrier s.room s.stage c.args.nid c.args.dir c.args.left c.requires.stage c.requires.goes (part c.args.at 1 xs) (omega (arith, one, some))
 
-pub take_bits-event-requires-clause-some : goal.take_bits-event-requires-clause-some
-take_bits-event-requires-clause-some g c =
+pub pass_bits-event-requires-clause-some : goal.pass_bits-event-requires-clause-some
+pass_bits-event-requires-clause-some g c =
     let s = c.args.self.now.left in
     let some = kept_some s.carrier s.room s.stage c.args.nid c.args.dir c.args.left c.requires.stage s.stands in
     omega (arith, some, c.requires.inside, c.min-count.ensures, length-bits c.args.piece.now)
@@ -49,45 +49,45 @@ pub finish-requires : goal.finish-requires
 finish-requires g c =
     let s = c.args.self.now.left in
     let xs = bits c.args.piece.now in
-    let t = c.run_at.result in
+    let t = c.bits_at.result in
     let inside : c.args.at + c.min-count.result ≤ length xs = omega (arith, c.requires.inside, c.min-count.ensures, length-bits c.args.piece.now) in
-    let size = ap length c.run_at.ensures ∙ length-part c.args.at c.min-count.result xs inside in
+    let size = ap length c.bits_at.ensures ∙ length-part c.args.at c.min-count.result xs inside in
     let F = λ (f : List ℕ). f in
     let K = λ (k : List Bool). k ++ t in
     let p = kept OTHER_DATA t in
     let H = g.S.PacketStore.holds c.args.self.now.store in
     let M = g.S.PacketStore.holds c.bits.new.self in
-    let here = λ (f : List ℕ) (k : List Bool) (h : Reading). c.take_bits-event.ensures.here f k t h size in
-    ∥∥₁_map c.args.self.now.held (λ old. let w = old (rw c.requires.stage refl) in event_held s.carrier s.stage c.take_bits-event.new.self.stage F K p c.take_bits-event.result H M c.in-Ok.ensures.ok here w.0 w.1)
+    let here = λ (f : List ℕ) (k : List Bool) (h : Reading). c.pass_bits-event.ensures.here f k t h size in
+    ∥∥₁_map c.args.self.now.held (λ old. let w = old (rw c.requires.stage refl) in event_held s.carrier s.stage c.pass_bits-event.new.self.stage F K p c.pass_bits-event.result H M c.in-Ok.ensures.ok here w.0 w.1)
 
 -- how many bits are kept
-many : (g : Over) (c : In-Ok-finish g) → length c.run_at.result ≡ c.min-count.result
-many g c = ap length c.run_at.ensures ∙ length-part c.args.at c.min-count.result (bits c.args.piece.now) (omega (arith, c.requires.inside, c.min-count.ensures, length-bits c.args.piece.now))
+many : (g : Over) (c : In-Ok-finish g) → length c.bits_at.result ≡ c.min-count.result
+many g c = ap length c.bits_at.ensures ∙ length-part c.args.at c.min-count.result (bits c.args.piece.now) (omega (arith, c.requires.inside, c.min-count.ensures, length-bits c.args.piece.now))
 
 -- what is held with them
 kept_held : (g : Over) (c : In-Ok-finish g) (q : Reading) → HoldsAt c.args.self.now.left.carrier c.args.self.now.left.stage (g.S.PacketStore.holds c.args.self.now.store) q
-    → HoldsAt c.take_bits-event.new.self.carrier c.take_bits-event.new.self.stage (g.S.PacketStore.holds c.finish.new.store) (q ++ kept OTHER_DATA c.run_at.result)
+    → HoldsAt c.pass_bits-event.new.self.carrier c.pass_bits-event.new.self.stage (g.S.PacketStore.holds c.finish.new.store) (q ++ kept OTHER_DATA c.bits_at.result)
 kept_held g c =
     let s = c.args.self.now.left in
-    let t = c.run_at.result in
+    let t = c.bits_at.result in
     let size = many g c in
     let H = g.S.PacketStore.holds c.args.self.now.store in
     let M = g.S.PacketStore.holds c.bits.new.self in
-    let here = λ (f : List ℕ) (k : List Bool) (h : Reading). c.take_bits-event.ensures.here f k t h size in
-    more_held s.carrier s.stage c.take_bits-event.new.self.stage (λ (f : List ℕ). f) (λ (k : List Bool). k ++ t) (kept OTHER_DATA t) c.take_bits-event.result H M c.in-Ok.ensures.ok here (g.S.PacketStore.holds c.finish.new.store) c.take_bits-event.new.self.carrier (c.take_bits-event.ensures.moved t size).same c.in-Ok-finish.ensures.ok
+    let here = λ (f : List ℕ) (k : List Bool) (h : Reading). c.pass_bits-event.ensures.here f k t h size in
+    more_held s.carrier s.stage c.pass_bits-event.new.self.stage (λ (f : List ℕ). f) (λ (k : List Bool). k ++ t) (kept OTHER_DATA t) c.pass_bits-event.result H M c.in-Ok.ensures.ok here (g.S.PacketStore.holds c.finish.new.store) c.pass_bits-event.new.self.carrier (c.pass_bits-event.ensures.moved t size).same c.in-Ok-finish.ensures.ok
 
 pub invariant_of-self-in-Ok-finish : goal.invariant_of-self-in-Ok-finish
 invariant_of-self-in-Ok-finish g c =
     let held = kept_held g (goal.at.invariant_of-self-in-Ok-finish g c).In-Ok-finish in
-    record { held = ∥∥₁_map c.args.self.now.held (λ old closed. let w = old (rw c.requires.stage refl) in (w.0 ++ kept OTHER_DATA c.run_at.result, held w.0 w.1)) }
+    record { held = ∥∥₁_map c.args.self.now.held (λ old closed. let w = old (rw c.requires.stage refl) in (w.0 ++ kept OTHER_DATA c.bits_at.result, held w.0 w.1)) }
 
 pub returns-in-Ok-finish-clause-some : goal.returns-in-Ok-finish-clause-some
 returns-in-Ok-finish-clause-some g c =
     let s = c.args.self.now.left in
-    let t = c.run_at.result in
+    let t = c.bits_at.result in
     let here = (goal.at.returns-in-Ok-finish-clause-some g c).In-Ok-finish in
     let size = many g here in
-    let moved = c.take_bits-event.ensures.moved t size in
+    let moved = c.pass_bits-event.ensures.moved t size in
     let some = kept_some s.carrier s.room s.stage c.args.nid c.args.dir c.args.left c.requires.stage s.stands in (
       c.min-count.result,
       (
@@ -98,7 +98,7 @@ returns-in-Ok-finish-clause-some g c =
           goes = kept_goes s.carrier s.room s.stage c.args.nid c.args.dir c.args.left c.requires.stage c.requires.goes t _ (omega (arith, size, c.min-count.ensures)) moved.residual;
           whole = kept OTHER_DATA t;
           follows = (moved, kept_held g here);
-          bits = spelled_kept t ∙ c.run_at.ensures;
+          bits = spelled_kept t ∙ c.bits_at.ensures;
         },
       ),
     )

@@ -40,8 +40,8 @@ direction_at-dir-requires-clause-inside g c =
     let l = c.in-Some.ensures in
     rw c.way-way.ensures (omega (arith, l.least, l.within, frame_is (way_of c.args.self.now.left.carrier)))
 
-pub run_at-requires : goal.run_at-requires
-run_at-requires g c =
+pub bits_at-requires : goal.bits_at-requires
+bits_at-requires g c =
     let l = c.in-Some.ensures in
     omega (arith, l.least, l.within, c.frame_bits-frame.ensures.bits, ap frame_bits c.way-way.ensures)
 
@@ -51,7 +51,7 @@ whole-requires g c =
     let l = c.in-Some.ensures in
     let frame = c.frame_bits-frame.ensures.bits ∙ ap frame_bits c.way-way.ensures in
     let inside : c.args.at + c.frame_bits-frame.result + (c.in-Some.len - c.frame_bits-frame.result) ≤ length (bits c.args.piece.now) = omega (arith, l.least, l.within, frame) in
-    let size = ap length c.run_at.ensures ∙ length-part (c.args.at + c.frame_bits-frame.result) (c.in-Some.len - c.frame_bits-frame.result) (bits c.args.piece.now) inside in
+    let size = ap length c.bits_at.ensures ∙ length-part (c.args.at + c.frame_bits-frame.result) (c.in-Some.len - c.frame_bits-frame.result) (bits c.args.piece.now) inside in
     let limit = most_bits (way_of s.carrier) in
     omega (arith, size, l.room, s.small, frame, limit)
 
@@ -63,7 +63,7 @@ taken g c =
     let l = c.in-Some.ensures in
     let e = c.in-Ok-true.ensures in
     let yes = c.in-Ok-true.field-0-test in
-    let same = rw (c.frame_bits-frame.ensures.bits, c.way-way.ensures) at c.run_at.ensures in
+    let same = rw (c.frame_bits-frame.ensures.bits, c.way-way.ensures) at c.bits_at.ensures in
     let H = g.S.PacketStore.holds c.args.self.now.store in
     let H' = g.S.PacketStore.holds c.whole.new.self in
     let (v, (t, (is, b))) = e.packet yes in

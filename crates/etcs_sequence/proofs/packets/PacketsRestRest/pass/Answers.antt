@@ -27,12 +27,12 @@ finish-requires g c =
     let H = g.S.PacketStore.holds c.args.self.now.store in
     let M = g.S.PacketStore.holds c.absorb.new.store in
     let absorbed = rw c.keeps-keep.ensures at c.in-Ok.ensures.ok in
-    let here = c.take-event.ensures.here in
-    ∥∥₁_map c.args.self.now.held (λ old. let w = old (open_next s.stage c.args.var c.requires.next) in event_held s.carrier s.stage c.take-event.new.self.stage F K p c.take-event.result H M absorbed here w.0 w.1)
+    let here = c.pass-event.ensures.here in
+    ∥∥₁_map c.args.self.now.held (λ old. let w = old (open_next s.stage c.args.var c.requires.next) in event_held s.carrier s.stage c.pass-event.new.self.stage F K p c.pass-event.result H M absorbed here w.0 w.1)
 
 -- what is held with the number
 passed_held : (g : Over) (c : In-Ok-finish g) (q : Reading) → HoldsAt c.args.self.now.left.carrier c.args.self.now.left.stage (g.S.PacketStore.holds c.args.self.now.store) q
-    → HoldsAt c.take-event.new.self.carrier c.take-event.new.self.stage (g.S.PacketStore.holds c.finish.new.store) (q ++ (c.args.var, c.args.number) ∷ [])
+    → HoldsAt c.pass-event.new.self.carrier c.pass-event.new.self.stage (g.S.PacketStore.holds c.finish.new.store) (q ++ (c.args.var, c.args.number) ∷ [])
 passed_held g c =
     let s = c.args.self.now.left in
     let keep = keeps_at s.stage in
@@ -42,7 +42,7 @@ passed_held g c =
     let H = g.S.PacketStore.holds c.args.self.now.store in
     let M = g.S.PacketStore.holds c.absorb.new.store in
     let absorbed = rw c.keeps-keep.ensures at c.in-Ok.ensures.ok in
-    more_held s.carrier s.stage c.take-event.new.self.stage F K p c.take-event.result H M absorbed c.take-event.ensures.here (g.S.PacketStore.holds c.finish.new.store) c.take-event.new.self.carrier c.take-event.ensures.moved.same c.in-Ok-finish.ensures.ok
+    more_held s.carrier s.stage c.pass-event.new.self.stage F K p c.pass-event.result H M absorbed c.pass-event.ensures.here (g.S.PacketStore.holds c.finish.new.store) c.pass-event.new.self.carrier c.pass-event.ensures.moved.same c.in-Ok-finish.ensures.ok
 
 pub invariant_of-self-in-Ok-finish : goal.invariant_of-self-in-Ok-finish
 invariant_of-self-in-Ok-finish g c =
@@ -50,10 +50,10 @@ invariant_of-self-in-Ok-finish g c =
     record { held = ∥∥₁_map c.args.self.now.held (λ old closed. let w = old (open_next c.args.self.now.left.stage c.args.var c.requires.next) in (w.0 ++ (c.args.var, c.args.number) ∷ [], held w.0 w.1)) }
 
 pub returns-in-Ok-finish-clause-ok : goal.returns-in-Ok-finish-clause-ok
-returns-in-Ok-finish-clause-ok g c = (c.take-event.ensures.moved, passed_held g (goal.at.returns-in-Ok-finish-clause-ok g c).In-Ok-finish)
+returns-in-Ok-finish-clause-ok g c = (c.pass-event.ensures.moved, passed_held g (goal.at.returns-in-Ok-finish-clause-ok g c).In-Ok-finish)
 
 pub returns-in-Err-finish-clause-err : goal.returns-in-Err-finish-clause-err
 returns-in-Err-finish-clause-err g c =
     let s = c.args.self.now.left in
     let e = c.in-Err-finish.ensures.err in
-    (e.0, ∥∥₁_elim c.args.self.now.held (true_prop _) (λ held. let (q, (vs, f, k, h, all, carried, here, eq)) = held (open_next s.stage c.args.var c.requires.next) in grows_whole s.carrier s.stage c.take-event.new.self.stage c.args.var c.args.number c.take-event.result f k h c.requires.next c.take-event.ensures.here here e.1))
+    (e.0, ∥∥₁_elim c.args.self.now.held (true_prop _) (λ held. let (q, (vs, f, k, h, all, carried, here, eq)) = held (open_next s.stage c.args.var c.requires.next) in grows_whole s.carrier s.stage c.pass-event.new.self.stage c.args.var c.args.number c.pass-event.result f k h c.requires.next c.pass-event.ensures.here here e.1))

@@ -12,7 +12,7 @@ use Rattle.etcs_stream.proofs.entries.EntryReader.feed.Goals.{in-Telegram, in-Me
 use Rattle.etcs_stream.proofs.entries.EntryReader.feed.Goals as goal
 
 -- what is said of the reader inside is said of the whole one
-of_inside : (inner inner' : Inner) (v u : ReaderValue) (seen new : List Bool) (answer wanted : Result Fed ReadFault) → value_of inner ≡ v → value_of inner' ≡ u → wanted ≡ answer → Feeds (EntryReads (value_of inner).kind) seen new answer (value_of inner').stage → Feeds (EntryReads v.kind) seen new wanted u.stage
+of_inside : (inner inner' : Inner) (v u : ReaderValue) (seen new : List Bool) (answer wanted : Result Fed ReadFault) → value_of inner ≡ v → value_of inner' ≡ u → wanted ≡ answer → Feeds (EntryReads (value_of inner).kind) seen new answer (value_of inner').progress → Feeds (EntryReads v.kind) seen new wanted u.progress
 of_inside inner inner' v u seen new answer wanted is is' same f = rw (sym is, sym is', same) f
 
 pub returns-clause-answer : goal.returns-clause-answer
@@ -22,13 +22,13 @@ returns-clause-answer c seen h =
       | in-Telegram w ↦
           let r = w.in-Telegram.reader in
           let before : value_of (Telegram r) ≡ c.args.self.now = ap value_of (sym w.in-Telegram.is) ∙ c.self.view_is in
-          let at = inner_reading telegram_item r.stage seen (ap (λ (v : ReaderValue). v.stage) before ∙ h) in
+          let at = inner_reading telegram_item r.progress seen (ap (λ (v : ReaderValue). v.progress) before ∙ h) in
           of_inside (Telegram r) (Telegram w.feed.new.self) c.args.self.now (value_of c.match-self.self-inside.inner) seen b w.feed.result c.match-self.result before (sym (ap (λ (i : Inside). value_of i.inner) w.self-inside-is)) w.result-is
-          (telegram_feeds r.size seen b w.feed.result w.feed.new.self.stage (w.feed.ensures.answer seen at))
+          (telegram_feeds r.size seen b w.feed.result w.feed.new.self.progress (w.feed.ensures.answer seen at))
       | in-Message w ↦
           let r = w.in-Message.reader in
           let before : value_of (Message r) ≡ c.args.self.now = ap value_of (sym w.in-Message.is) ∙ c.self.view_is in
-          let at = inner_reading message_item r seen (ap (λ (v : ReaderValue). v.stage) before ∙ h) in
+          let at = inner_reading message_item r seen (ap (λ (v : ReaderValue). v.progress) before ∙ h) in
           of_inside (Message r) (Message w.feed-in-Message.new.self) c.args.self.now (value_of c.match-self.self-inside.inner) seen b w.feed-in-Message.result c.match-self.result before (sym (ap (λ (i : Inside). value_of i.inner) w.self-inside-is)) w.result-is
           (message_feeds seen b w.feed-in-Message.result w.feed-in-Message.new.self (w.feed-in-Message.ensures.answer seen at))
     ]

@@ -6,25 +6,25 @@ pub overflow_add-self : goal.overflow_add-self
 overflow_add-self g c =
     let s = c.args.self.now in
     let (given, told, h, short) = c.requires.stands in
-    let lines = lines_count (g.T.TakesLines.took s.taker) s.kept.items s.line given told h in
+    let lines = lines_count (g.T.LineHandler.took s.handler) s.begun.items s.line given told h in
     omega (arith, lines, short)
 
 pub returns-then-part-room-clause-err : goal.returns-then-part-room-clause-err
 returns-then-part-room-clause-err g c given told more h l =
     let s = c.args.self.now in
     let part = c.args.part.now in
-    let t = g.T.TakesLines in
-    let line = part_line (t.took s.taker) s.kept.items s.line given told h part l in
-    keep_refuses (t.took s.taker) s.kept.items s.line given told h (t.job s.taker) (g.met.T.TakesLines.took_tells s.taker) part more c.refuse_long.result l
-    (c.refuse_long.ensures h.lines (s.kept.items ++ part) told h.took line (omega (arith, c.most.ensures, c.len.ensures, c.saturating_sub-room.ensures, c.if-part-room.true, length-append s.kept.items part)) (omega (arith, h.line_is)))
+    let t = g.T.LineHandler in
+    let line = part_line (t.took s.handler) s.begun.items s.line given told h part l in
+    keep_refuses (t.took s.handler) s.begun.items s.line given told h (t.job s.handler) (g.met.T.LineHandler.took_tells s.handler) part more c.refuse_long.result l
+    (c.refuse_long.ensures h.lines (s.begun.items ++ part) told h.took line (omega (arith, c.most.ensures, c.len.ensures, c.saturating_sub-room.ensures, c.if-part-room.true, length-append s.begun.items part)) (omega (arith, h.line_is)))
 
 pub returns-in-Ok-clause-ok : goal.returns-in-Ok-clause-ok
 returns-in-Ok-clause-ok g c given told h l =
     let s = c.args.self.now in
-    keeps (g.T.TakesLines.took s.taker) s.kept.items s.line given told h c.args.part.now c.extend_from_slice.new.self.items c.in-Ok.ensures.items l
+    keeps (g.T.LineHandler.took s.handler) s.begun.items s.line given told h c.args.part.now c.extend_from_slice.new.self.items c.in-Ok.ensures.items l
 
 pub returns-in-Err-clause-err : goal.returns-in-Err-clause-err
 returns-in-Err-clause-err g c given told more h l =
     let s = c.args.self.now in
-    let t = g.T.TakesLines in
-    (tt, keep_starves (t.took s.taker) s.kept.items s.line given told h (t.job s.taker) (g.met.T.TakesLines.took_tells s.taker) c.args.part.now more l)
+    let t = g.T.LineHandler in
+    (tt, keep_starves (t.took s.handler) s.begun.items s.line given told h (t.job s.handler) (g.met.T.LineHandler.took_tells s.handler) c.args.part.now more l)

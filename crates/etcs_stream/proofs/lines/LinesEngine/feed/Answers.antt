@@ -20,9 +20,9 @@ loop-line-init g c = record {
   all = refl;
   stands = λ given told h. (
       let s = c.args.self.now in
-      let took = g.T.TakesLines.took s.taker in
-      subst (λ (z : List ℕ). LinesStand took s.kept.items s.line z (told ++ c.args.text.now.items)) (sym (append-nil given))
-      (told_none took s.kept.items s.line given told c.args.text.now.items c.requires.empty h)
+      let took = g.T.LineHandler.took s.handler in
+      subst (λ (z : List ℕ). LinesStand took s.begun.items s.line z (told ++ c.args.text.now.items)) (sym (append-nil given))
+      (told_none took s.begun.items s.line given told c.args.text.now.items c.requires.empty h)
       );
 }
 
@@ -38,7 +38,7 @@ loop-line-preserved g c =
       job_is = ended.job ∙ before.job_is;
       all = cut_line c.args.piece.now before.front c.loop-line.rest.now line behind before.all c.in-Some.ensures.some.0;
       stands = λ given told h. (
-          subst (λ (z : List ℕ). LinesStand (g.T.TakesLines.took s.taker) s.kept.items s.line z (told ++ c.end_line.new.text.items)) (append_assoc given before.front (line ++ 10 ∷ []))
+          subst (λ (z : List ℕ). LinesStand (g.T.LineHandler.took s.handler) s.begun.items s.line z (told ++ c.end_line.new.text.items)) (append_assoc given before.front (line ++ 10 ∷ []))
           (ended.ok (given ++ before.front) told (before.stands given told h) c.in-Some.ensures.some.1)
           );
     }
@@ -58,7 +58,7 @@ keep-requires g c =
 pub returns-in_err-end_line-clause-err : goal.returns-in_err-end_line-clause-err
 returns-in_err-end_line-clause-err g c given told h =
     let before = c.loop-line.invariant in
-    let t = g.T.TakesLines in
+    let t = g.T.LineHandler in
     let s = c.loop-line.self in
     let piece = c.args.piece.now in
     let line = c.in-Some.line.now in
@@ -68,7 +68,7 @@ returns-in_err-end_line-clause-err g c given told h =
     let stops = c.in_err-end_line.ensures.err (given ++ before.front) told (before.stands given told h) c.in-Some.ensures.some.1 in
     rw (p.1, p.2)
     (subst (λ (j : Job). IsOfEngine e × Stops j (given ++ piece) (told ++ text) e) before.job_is
-    (piece_stops (t.job s.taker) given piece before.front c.loop-line.rest.now line c.in-Some.behind.now (told ++ text) e before.all c.in-Some.ensures.some.0 stops))
+    (piece_stops (t.job s.handler) given piece before.front c.loop-line.rest.now line c.in-Some.behind.now (told ++ text) e before.all c.in-Some.ensures.some.0 stops))
 
 pub returns-clause-ok : goal.returns-clause-ok
 returns-clause-ok g c given told h =
@@ -77,35 +77,35 @@ returns-clause-ok g c given told h =
     let rest = c.loop-line.rest.now in
     let text = c.loop-line.text.items in
     let none : IsLine rest = c.in_default.ensures.none refl in
-    subst (λ (z : List ℕ). OnOk c.keep.result (LinesStand (g.T.TakesLines.took s.taker) s.kept.items s.line z (told ++ text))) (cut_given given c.args.piece.now before.front rest before.all)
+    subst (λ (z : List ℕ). OnOk c.keep.result (LinesStand (g.T.LineHandler.took s.handler) s.begun.items s.line z (told ++ text))) (cut_given given c.args.piece.now before.front rest before.all)
     (c.keep.ensures.ok (given ++ before.front) (told ++ text) (before.stands given told h) none)
 
 pub returns-clause-err : goal.returns-clause-err
 returns-clause-err g c given told h =
     let before = c.loop-line.invariant in
-    let t = g.T.TakesLines in
+    let t = g.T.LineHandler in
     let s = c.loop-line.self in
     let rest = c.loop-line.rest.now in
     let text = c.loop-line.text.items in
     let none : IsLine rest = c.in_default.ensures.none refl in
     let all : (given ++ before.front) ++ (rest ++ []) ≡ given ++ c.args.piece.now = ap (λ (z : List ℕ). (given ++ before.front) ++ z) (append-nil rest) ∙ cut_given given c.args.piece.now before.front rest before.all in
     subst (λ (j : Job). IfErr c.keep.result (λ e. IsOfEngine e × Stops j (given ++ c.args.piece.now) (told ++ text) e)) before.job_is
-    (subst (λ (z : List ℕ). IfErr c.keep.result (λ e. IsOfEngine e × Stops (t.job s.taker) z (told ++ text) e)) all
+    (subst (λ (z : List ℕ). IfErr c.keep.result (λ e. IsOfEngine e × Stops (t.job s.handler) z (told ++ text) e)) all
     (c.keep.ensures.err (given ++ before.front) (told ++ text) [] (before.stands given told h) none))
 
 pub returns-in_err-end_line-clause-short : goal.returns-in_err-end_line-clause-short
 returns-in_err-end_line-clause-short g c given told h =
     let p = err_from_is_err_and c.from_residual.result c.from_residual.ensures.1 in
-    stop_short (g.T.TakesLines.job c.args.self.now.taker) (given ++ c.args.piece.now) told c.end_line.new.text.items c.from_residual.result p.0 p.1 (returns-in_err-end_line-clause-err g c given told h)
+    stop_short (g.T.LineHandler.job c.args.self.now.handler) (given ++ c.args.piece.now) told c.end_line.new.text.items c.from_residual.result p.0 p.1 (returns-in_err-end_line-clause-err g c given told h)
 
 pub returns-clause-short : goal.returns-clause-short
 returns-clause-short g c given told h =
-    let t = g.T.TakesLines in
+    let t = g.T.LineHandler in
     let s = c.keep.new.self in
     let input = given ++ c.args.piece.now in
     let text = c.loop-line.text.items in
-    fed_short (t.job c.args.self.now.taker) input told text (t.job s.taker) c.keep.result (LinesStand (t.took s.taker) s.kept.items s.line input (told ++ text)) (ap t.job c.keep.ensures.taker ∙ c.loop-line.invariant.job_is) (returns-clause-ok g c given told h)
-    (lines_tell (t.job s.taker) (t.took s.taker) (g.met.T.TakesLines.took_tells s.taker) s.kept.items s.line input (told ++ text))
+    fed_short (t.job c.args.self.now.handler) input told text (t.job s.handler) c.keep.result (LinesStand (t.took s.handler) s.begun.items s.line input (told ++ text)) (ap t.job c.keep.ensures.handler ∙ c.loop-line.invariant.job_is) (returns-clause-ok g c given told h)
+    (lines_tell (t.job s.handler) (t.took s.handler) (g.met.T.LineHandler.took_tells s.handler) s.begun.items s.line input (told ++ text))
     (returns-clause-err g c given told h)
 
 pub returns-in_err-end_line-clause-said : goal.returns-in_err-end_line-clause-said
@@ -116,8 +116,8 @@ returns-in_err-end_line-clause-said g c given told h =
 
 pub returns-clause-said : goal.returns-clause-said
 returns-clause-said g c given told h =
-    let t = g.T.TakesLines in
+    let t = g.T.LineHandler in
     let text = told ++ c.loop-line.text.items in
     let stands = c.loop-line.invariant.stands given told h in
-    let said = g.met.T.TakesLines.took_said c.loop-line.self.taker stands.lines text stands.took in
-    on_err c.keep.result (t.said c.keep.new.self.taker text) (rw c.keep.ensures.taker said)
+    let said = g.met.T.LineHandler.took_said c.loop-line.self.handler stands.lines text stands.took in
+    on_err c.keep.result (t.said c.keep.new.self.handler text) (rw c.keep.ensures.handler said)

@@ -5,9 +5,9 @@ use Rattle.etcs_stream.proofs.lines.LinesEngine.feed.Given as goal
 abbrev pub invariant-loop-line : goal.invariant-loop-line
 invariant-loop-line g l = record {
   front : List ℕ;
-  job_is : g.T.TakesLines.job l.self.taker ≡ g.T.TakesLines.job l.fn.self.taker;
+  job_is : g.T.LineHandler.job l.self.handler ≡ g.T.LineHandler.job l.fn.self.handler;
   all : l.piece ≡ front ++ l.rest;
-  stands : (given told : List ℕ) → LinesStand (g.T.TakesLines.took l.fn.self.taker) l.fn.self.kept.items l.fn.self.line given told → LinesStand (g.T.TakesLines.took l.self.taker) l.self.kept.items l.self.line (given ++ front) (told ++ l.text.items);
+  stands : (given told : List ℕ) → LinesStand (g.T.LineHandler.took l.fn.self.handler) l.fn.self.begun.items l.fn.self.line given told → LinesStand (g.T.LineHandler.took l.self.handler) l.self.begun.items l.self.line (given ++ front) (told ++ l.text.items);
 }
 
 abbrev pub decreases-loop-line : goal.decreases-loop-line

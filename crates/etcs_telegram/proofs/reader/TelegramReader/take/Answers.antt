@@ -5,4 +5,4 @@ use Rattle.etcs_telegram.proofs.reader.TelegramReader.take.Goals as goal
 pub returns-in-Err : goal.returns-in-Err
 returns-in-Err c =
     let e = c.in-Err.ensures in
-    (e.0 ∙ c.self.view_is, λ t f. e.1 t (ap (λ (v : ReaderValue). v.stage) c.self.view_is ∙ f))
+    (e.0 ∙ c.self.view_is, λ t f. e.1 t (ap (λ (v : ReaderValue). v.progress) c.self.view_is ∙ f))

@@ -5,10 +5,10 @@ use Rattle.etcs_vars.specs.Reading.{Reading, kept}
 use Rattle.etcs_sequence.proofs.BitLaws.{byte_bit, bit_read}
 use Rattle.etcs_telegram.proofs.rest.TelegramRest.pass_fill.Goals as goal
 
-pub run_at-requires : goal.run_at-requires
-run_at-requires g c = omega (arith, length-bits (c.args.number ∷ []))
+pub bits_at-requires : goal.bits_at-requires
+bits_at-requires g c = omega (arith, length-bits (c.args.number ∷ []))
 
 pub returns-in-Ok-clause-ok : goal.returns-in-Ok-clause-ok
 returns-in-Ok-clause-ok g c =
-    let read : ◌≡◌ {A = Reading} (kept FILL c.run_at.result) ((FILL, c.args.number) ∷ []) = ap (kept FILL) (c.run_at.ensures ∙ byte_bit c.args.number c.requires.small) ∙ bit_read FILL c.args.number c.requires.small in
+    let read : ◌≡◌ {A = Reading} (kept FILL c.bits_at.result) ((FILL, c.args.number) ∷ []) = ap (kept FILL) (c.bits_at.ensures ∙ byte_bit c.args.number c.requires.small) ∙ bit_read FILL c.args.number c.requires.small in
     rw read at c.in-Ok.ensures.ok

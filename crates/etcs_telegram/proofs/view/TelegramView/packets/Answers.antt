@@ -7,8 +7,8 @@ use Rattle.etcs_telegram.proofs.Encoding.{room_more}
 use Rattle.etcs_telegram.proofs.Viewing.{seen_one, seen_packets, seen_are, seen_long}
 use Rattle.etcs_telegram.proofs.view.TelegramView.packets.Goals as goal
 
-pub run_at-requires : goal.run_at-requires
-run_at-requires c =
+pub bits_at-requires : goal.bits_at-requires
+bits_at-requires c =
     let v = c.self.inside in
     omega (arith, c.packet_room.ensures, room_more v.size, seen_long v.size (bits v.bytes.now) v.header v.packets v.end c.self.invariant)
 
@@ -16,7 +16,7 @@ pub packets-requires : goal.packets-requires
 packets-requires c =
     let v = c.self.inside in
     let b = bits v.bytes.now in
-    let is : c.run_at.result ≡ part 50 (packet_room v.size) b = c.run_at.ensures ∙ ap (λ n. part 50 n b) c.packet_room.ensures in
+    let is : c.bits_at.result ≡ part 50 (packet_room v.size) b = c.bits_at.ensures ∙ ap (λ n. part 50 n b) c.packet_room.ensures in
     subst (λ (u : List Bool). ArePackets v.packets u) (sym is) (seen_are v.size b v.header v.packets v.end c.self.invariant)
 
 pub returns : goal.returns
@@ -24,7 +24,7 @@ returns c =
     let v = c.self.inside in
     let b = bits v.bytes.now in
     let i = c.self.invariant in
-    let is : c.run_at.result ≡ part 50 (packet_room v.size) b = c.run_at.ensures ∙ ap (λ n. part 50 n b) c.packet_room.ensures in
+    let is : c.bits_at.result ≡ part 50 (packet_room v.size) b = c.bits_at.ensures ∙ ap (λ n. part 50 n b) c.packet_room.ensures in
     let p = seen_packets v.size b v.header v.packets v.end i in
     let all = c.packets.ensures i.telegram.packets p.0 i.reads.1.packets_hold i.packets_are (is ∙ p.1) in
     subst (λ (w : ViewValue). (t : TelegramValue) → Sees w t → c.packets.result ≡ spellings t.packets) c.self.view_is

@@ -1,8 +1,0 @@
-use Rattle.std.proofs.Common.{sym, ◌∙◌, arith}
-use Rattle.etcs_bits.proofs.Kept.{kept_word}
-use Rattle.etcs_bits.proofs.slice_walker.kept_from.Goals as goal
-
-pub returns-in_ok-number-in_default-clause-kept : goal.returns-in_ok-number-in_default-clause-kept
-returns-in_ok-number-in_default-clause-kept c =
-    let found = sym c.number.ensures ∙ c.in_ok-number-in_default.was in
-    kept_word c.in_ok-number-in_default.number c.min-count.result c.args.bits.now c.args.at (omega arith) (omega (arith, c.len.ensures, c.requires.inside)) found

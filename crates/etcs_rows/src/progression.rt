@@ -1,0 +1,457 @@
+//! Numbers in equal steps.
+
+ghost use Rattle.std.specs.Prelude.{◌≡◌, ◌↔◌, ℕ, ◌+◌, ◌*◌, ◌≤◌, true, false, IsTrue, IfSome, ◌⊎◌, length};
+
+use crate::measure::{behind_groups, has_group};
+use etcs_tables::{RowItem, Test};
+use etcs_vars::Var;
+
+/// The numbers first, first + step and so on, count + 1 of them.
+#[derive(Clone, Copy)]
+pub struct Progression {
+    pub first: usize,
+    pub step: usize,
+    pub count: usize,
+}
+
+impl Progression {
+    ghost use Rattle.etcs_rows.specs.Progressions.{InProgression, IsProgression, InAny, AtMost};
+    ghost use Rattle.etcs_rows.specs.Sums.{Plus, SumOf};
+
+    /// One number.
+    pub(crate) fn single(number: usize) -> Progression
+        ensures { IsProgression result (λ m. m ≡ number) }
+    {
+        Progression {
+            first: number,
+            step: 0,
+            count: 0,
+        }
+    }
+
+    /// Whether the number is one of them.
+    pub(crate) fn holds(self, number: usize) -> bool
+        ensures { IsTrue result ↔ InProgression self number }
+    {
+        if number < self.first {
+            return false;
+        }
+        let over = number - self.first;
+        if self.count == 0 || self.step == 0 {
+            return over == 0;
+        }
+        over % self.step == 0 && over / self.step <= self.count
+    }
+
+    /// Whether one of them and at most `slack` more make the number.
+    pub(crate) fn near(self, slack: usize, number: usize) -> bool
+        ensures { IsTrue result ↔ Plus (InProgression self) (AtMost slack) number }
+    {
+        if number < self.first {
+            return false;
+        }
+        let over = number - self.first;
+        if self.step == 0 {
+            return over <= slack;
+        }
+        let index = (over / self.step).min(self.count);
+        over - index * self.step <= slack
+    }
+
+    /// The number after this many steps.
+    pub(crate) fn at(self, index: usize) -> Option<usize>
+        ensures { IfSome result (λ m. self.first + index * self.step ≡ m) }
+    {
+        self.first.checked_add(index.checked_mul(self.step)?)
+    }
+
+    /// The sums of a number of each, if they are in equal steps.
+    pub(crate) fn plus(self, other: Progression) -> Option<Progression>
+        ensures { IfSome result (λ s. IsProgression s (Plus (InProgression self) (InProgression other))) }
+    {
+        let first = self.first.checked_add(other.first)?;
+        if other.count == 0 {
+            return Some(Progression { first, ..self });
+        }
+        if self.count == 0 {
+            return Some(Progression { first, ..other });
+        }
+        if self.step != other.step {
+            return None;
+        }
+        let count = self.count.checked_add(other.count)?;
+        Some(Progression {
+            first,
+            count,
+            ..self
+        })
+    }
+
+    /// The sums of this many of its numbers.
+    pub(crate) fn times(self, times: u64) -> Option<Progression>
+        ensures { IfSome result (λ s. IsProgression s (SumOf times (InProgression self))) }
+    {
+        let first = self.first.checked_mul(times as usize)?;
+        let count = self.count.checked_mul(times as usize)?;
+        Some(Progression {
+            first,
+            count,
+            ..self
+        })
+    }
+
+    /// Its numbers and one more, if they are in equal steps.
+    fn with(self, number: usize) -> Option<Progression>
+        ensures { IfSome result (λ s. (m : ℕ) → InProgression s m ↔ (InProgression self m ⊎ (m ≡ number))) }
+    {
+        if self.holds(number) {
+            return Some(self);
+        }
+        if self.count == 0 {
+            return Some(Progression {
+                first: self.first.min(number),
+                step: self.first.abs_diff(number),
+                count: 1,
+            });
+        }
+        let count = self.count.checked_add(1)?;
+        if self.at(count)? == number {
+            Some(Progression { count, ..self })
+        } else {
+            None
+        }
+    }
+
+    /// The numbers of both, if they are in equal steps.
+    pub(crate) fn join(all: Option<Progression>, more: Progression) -> Option<Progression>
+        ensures { IfSome result (λ s. (m : ℕ) → InProgression s m ↔ (InAny all m ⊎ InProgression more m)) }
+    {
+        match all {
+            None => Some(more),
+            Some(steps) => {
+                if more.count > 0 {
+                    None
+                } else {
+                    steps.with(more.first)
+                }
+            }
+        }
+    }
+}
+
+ghost use Rattle.etcs_vars.specs.Vars.{admits};
+ghost use Rattle.etcs_tables.specs.Layouts.{layout, passes};
+ghost use Rattle.etcs_rows.specs.Lengths.{LengthsBy, front, behind, GroupsWithin, SetsWithin};
+ghost use Rattle.etcs_rows.specs.Progressions.{IsProgression, InGuarded, InProgression, TimesWithin};
+ghost use Rattle.etcs_rows.specs.Sums.{Plus, SumOf};
+
+/// The first and the last number from low to high that a variable admits, if it admits all between them.
+fn admitted_between(var: Var, low: u64, high: u64) -> Option<(u64, u64)>
+    ensures order { IfSome result (λ r. r.0 ≤ r.1) }
+    ensures all { IfSome result (λ r. (n : ℕ) → (r.0 ≤ n × n ≤ r.1) ↔ (low ≤ n × n ≤ high × IsTrue (admits var n))) }
+{
+    match var.ranges() {
+        [only] => {
+            let first = low.max(only.0);
+            let last = high.min(only.1);
+            if first <= last {
+                Some((first, last))
+            } else {
+                None
+            }
+        }
+        _ => None,
+    }
+}
+
+/// How many bits a group may take that occurs from first to last times.
+pub(crate) fn times_steps(group: Progression, first: u64, last: u64) -> Option<Progression>
+    requires { first ≤ last }
+    ensures { IfSome result (λ s. IsProgression s (TimesWithin group first last)) }
+{
+    if first == last {
+        return group.times(first);
+    }
+    if group.count > 0 {
+        return None;
+    }
+    let fewest = group.first.checked_mul(first as usize)?;
+    Some(Progression {
+        first: fewest,
+        step: group.first,
+        count: (last - first) as usize,
+    })
+}
+
+/// How many bits a row may take after a number, if that is in equal steps.
+#[cycle(steps)]
+pub(crate) fn steps_of(items: &'static [RowItem], before: u64) -> Option<Progression>
+    ensures { IfSome result (λ s. IsProgression s (LengthsBy (layout items.now) before)) }
+{
+    match plain_groups(items, before) {
+        Some((width, behind)) => Progression::single(width).plus(open_steps(behind)?),
+        None => {
+            let groups = groups_steps(items, before)?;
+            groups.plus(open_steps(behind_groups(items))?)
+        }
+    }
+}
+
+/// The same of a group that occurs more than once. How long others are each time isn't asked.
+pub(crate) fn steps_again(group: &'static [RowItem], times: u64) -> Option<Progression>
+    ensures { IfSome result (λ s. IsProgression s (LengthsBy (layout group.now) times)) }
+{
+    if times > 1 {
+        steps_of(group, times)
+    } else {
+        None
+    }
+}
+
+/// The width of the variables in front that no group looks at, and what follows them.
+pub(crate) fn leading(items: &'static [RowItem]) -> Option<(usize, &'static [RowItem])>
+    ensures sum { IfSome result (λ r. (m : ℕ) → LengthsBy (layout items.now) 0 m ↔ Plus (λ k. k ≡ r.0) (LengthsBy (layout r.1.now) 0) m) }
+    ensures shorter { IfSome result (λ r. length r.1.now ≤ length items.now) }
+{
+    let mut width = 0usize;
+    let mut behind = items;
+    while let Some((RowItem::One(var), rest)) = behind.split_first() {
+        if has_group(rest) {
+            return Some((width, behind));
+        }
+        width = width.checked_add(var.width())?;
+        behind = rest;
+    }
+    Some((width, behind))
+}
+
+/// The width of a group of variables that no group looks at.
+fn plain_width(group: &'static [RowItem]) -> Option<usize>
+    ensures { IfSome result (λ w. (n : ℕ) → (m : ℕ) → (m ≡ w) ↔ LengthsBy (layout group.now) n m) }
+{
+    if has_group(group) {
+        return None;
+    }
+    let (width, behind) = leading(group)?;
+    if behind.is_empty() { Some(width) } else { None }
+}
+
+/// The width of such a group where a number passes the test, and else 0.
+fn guarded_width(test: Test, group: &'static [RowItem], before: u64) -> Option<usize>
+    ensures passed { passes test before ≡ true → IfSome result (λ w. (m : ℕ) → (m ≡ w) ↔ LengthsBy (layout group.now) before m) }
+    ensures skipped { passes test before ≡ false → IfSome result (λ w. w ≡ 0) }
+{
+    if test.passes(before) {
+        plain_width(group)
+    } else {
+        Some(0)
+    }
+}
+
+/// The width of the groups in front after a number, and what follows them, if all are guarded and
+/// in those that are there no variable is looked at.
+fn plain_groups(items: &'static [RowItem], before: u64) -> Option<(usize, &'static [RowItem])>
+    ensures width { IfSome result (λ r. (m : ℕ) → (m ≡ r.0) ↔ LengthsBy (front (layout items.now)) before m) }
+    ensures behind { IfSome result (λ r. layout r.1.now ≡ behind (layout items.now)) }
+    ensures shorter { IfSome result (λ r. length r.1.now ≤ length items.now) }
+{
+    let mut width = 0usize;
+    let mut left = items;
+    while let Some((RowItem::When(guard, count), rest)) = left.split_first() {
+        let (group, rest) = rest.split_at(rest.len().min(*count));
+        let more = guarded_width(guard.test, group, before)?;
+        width = width.checked_add(more)?;
+        left = rest;
+    }
+    if has_group(left) {
+        None
+    } else {
+        Some((width, left))
+    }
+}
+
+/// How many bits a row may take that begins with a variable.
+#[cycle(steps)]
+fn open_steps(items: &'static [RowItem]) -> Option<Progression>
+    ensures { IfSome result (λ s. IsProgression s (LengthsBy (layout items.now) 0)) }
+{
+    let (width, behind) = leading(items)?;
+    let front = Progression::single(width);
+    match behind.split_first() {
+        None => Some(front),
+        Some((RowItem::One(var), rest)) => {
+            let groups = steps_within(*var, rest, 0, u64::MAX)?;
+            let tail = groups.plus(open_steps(behind_groups(rest))?)?;
+            front.plus(Progression::single(var.width()).plus(tail)?)
+        }
+        Some((RowItem::When(_, _), _)) => None,
+        Some((RowItem::Many(_), _)) => None,
+    }
+}
+
+/// How many bits the groups in front may take after a number.
+#[cycle(steps)]
+pub(crate) fn groups_steps(items: &'static [RowItem], before: u64) -> Option<Progression>
+    ensures { IfSome result (λ s. IsProgression s (LengthsBy (front (layout items.now)) before)) }
+{
+    if let Some((width, _)) = plain_groups(items, before) {
+        return Some(Progression::single(width));
+    }
+    match items.split_first() {
+        Some((RowItem::When(guard, count), rest)) => {
+            let (group, rest) = rest.split_at(rest.len().min(*count));
+            if guard.test.passes(before) {
+                let own = steps_of(group, before)?;
+                own.plus(groups_steps(rest, before)?)
+            } else {
+                groups_steps(rest, before)
+            }
+        }
+        Some((RowItem::Many(count), rest)) => {
+            let (group, rest) = rest.split_at(rest.len().min(*count));
+            let all = steps_of(group, before)?.times(before)?;
+            all.plus(groups_steps(rest, before)?)
+        }
+        None => Some(Progression::single(0)),
+        Some((RowItem::One(_), _)) => Some(Progression::single(0)),
+    }
+}
+
+/// The counted group in front that alone looks at a variable, and how often it may occur where the
+/// number of the variable is from low to high.
+#[cycle(steps)]
+pub(crate) fn counted_within(
+    var: Var,
+    rest: &'static [RowItem],
+    low: u64,
+    high: u64,
+) -> Option<(Progression, u64, u64)>
+    ensures order { IfSome result (λ r. r.1 ≤ r.2) }
+    ensures all { IfSome result (λ r. (m : ℕ) → TimesWithin r.0 r.1 r.2 m ↔ GroupsWithin var (layout rest.now) low high m) }
+{
+    let group = counted_group(rest)?;
+    let (first, last) = admitted_between(var, low, high)?;
+    Some((group, first, last))
+}
+
+/// How many bits the counted group in front may take each time, if no other group looks at its number.
+#[cycle(steps)]
+fn counted_group(rest: &'static [RowItem]) -> Option<Progression>
+    ensures { IfSome result (λ s. (n : ℕ) → (m : ℕ) → SumOf n (InProgression s) m ↔ LengthsBy (front (layout rest.now)) n m) }
+{
+    match rest.split_first() {
+        Some((RowItem::Many(count), tail)) => {
+            let (group, tail) = tail.split_at(tail.len().min(*count));
+            if has_group(group) {
+                None
+            } else if has_group(tail) {
+                None
+            } else {
+                steps_of(group, 0)
+            }
+        }
+        _ => None,
+    }
+}
+
+/// How many bits the groups in front may take after a number of a variable from low to high.
+#[cycle(steps)]
+fn steps_within(var: Var, rest: &'static [RowItem], low: u64, high: u64) -> Option<Progression>
+    ensures { IfSome result (λ s. IsProgression s (GroupsWithin var (layout rest.now) low high)) }
+{
+    match counted_within(var, rest, low, high) {
+        Some((group, first, last)) => times_steps(group, first, last),
+        None => steps_each(var, rest, low, high),
+    }
+}
+
+/// The same, where no counted group alone looks at the variable.
+#[cycle(steps)]
+pub(crate) fn steps_each(
+    var: Var,
+    rest: &'static [RowItem],
+    low: u64,
+    high: u64,
+) -> Option<Progression>
+    ensures { IfSome result (λ s. IsProgression s (GroupsWithin var (layout rest.now) low high)) }
+{
+    match guarded_group(rest) {
+        Some((test, group)) => guarded_each(var, test, group, low, high),
+        None => groups_each(var, rest, low, high),
+    }
+}
+
+/// The test and the steps of the guarded group in front, if no other group looks at the number.
+#[cycle(steps)]
+fn guarded_group(rest: &'static [RowItem]) -> Option<(Test, Progression)>
+    ensures { IfSome result (λ r. (n : ℕ) → (m : ℕ) → InGuarded r.0 r.1 n m ↔ LengthsBy (front (layout rest.now)) n m) }
+{
+    match rest.split_first() {
+        Some((RowItem::When(guard, count), tail)) => {
+            let (group, tail) = tail.split_at(tail.len().min(*count));
+            if has_group(group) {
+                None
+            } else if has_group(tail) {
+                None
+            } else {
+                Some((guard.test, open_steps(group)?))
+            }
+        }
+        _ => None,
+    }
+}
+
+/// The steps where a number passes the test, and else 0.
+fn guarded_at(test: Test, group: Progression, number: u64) -> Progression
+    ensures { IsProgression result (InGuarded test group number) }
+{
+    if test.passes(number) {
+        group
+    } else {
+        Progression::single(0)
+    }
+}
+
+/// How many bits a guarded group may take after a number of a variable from low to high.
+fn guarded_each(
+    var: Var,
+    test: Test,
+    group: Progression,
+    low: u64,
+    high: u64,
+) -> Option<Progression>
+    ensures { IfSome result (λ s. IsProgression s (SetsWithin var (InGuarded test group) low high)) }
+{
+    let most = u64::MAX >> (64 - var.width());
+    let end = high.min(most).checked_add(1)?;
+    if end.saturating_sub(low) > 32 {
+        return None;
+    }
+    let mut all = None;
+    for number in low..end {
+        if var.admits(number) {
+            all = Some(Progression::join(all, guarded_at(test, group, number))?);
+        }
+    }
+    all
+}
+
+/// How many bits any groups in front may take, number by number.
+#[cycle(steps)]
+fn groups_each(var: Var, rest: &'static [RowItem], low: u64, high: u64) -> Option<Progression>
+    ensures { IfSome result (λ s. IsProgression s (GroupsWithin var (layout rest.now) low high)) }
+{
+    let most = u64::MAX >> (64 - var.width());
+    let end = high.min(most).checked_add(1)?;
+    if end.saturating_sub(low) > 32 {
+        return None;
+    }
+    let mut all = None;
+    for number in low..end {
+        if var.admits(number) {
+            let groups = groups_steps(rest, number)?;
+            all = Some(Progression::join(all, groups)?);
+        }
+    }
+    all
+}

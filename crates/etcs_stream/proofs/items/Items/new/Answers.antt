@@ -1,5 +1,0 @@
-use Rattle.etcs_stream.proofs.Streams.{Awaits-fresh}
-use Rattle.etcs_stream.proofs.items.Items.new.Goals as goal
-
-pub returns-clause-waits : goal.returns-clause-waits
-returns-clause-waits c = Awaits-fresh c.args.job.kind c.new.result c.new.ensures

@@ -1,6 +1,0 @@
-use Rattle.std.proofs.Common.{sym, ap}
-use Rattle.etcs_stream.specs.Lines.{most_characters}
-use Rattle.etcs_stream.proofs.json_lines.JsonLinesTakesLines.most.Goals as goal
-
-pub returns : goal.returns
-returns c = sym (ap most_characters c.args.self.now.form)

@@ -1,0 +1,78 @@
+-- How a run continues with each piece that it is given, and how it ends early.
+use Rattle.std.specs.Prelude.{◌≡◌, ℕ, ◌+◌, ◌<◌, ◌≤◌, Bool, List, [], ◌++◌, length}
+use Rattle.etcs_bits.specs.Bits.{bits}
+use Rattle.etcs_vars.specs.Reading.{readings_of}
+use Rattle.etcs_vars.specs.Walking.{Refuses}
+use Rattle.etcs_vars.specs.declared.var.Var.{Var}
+use Rattle.etcs_text.specs.declared.entry.Kind.{Kind}
+use Rattle.etcs_stream.specs.declared.job.Command.{Command}
+use Rattle.etcs_text.specs.Entries.{EntryValue, EntryReads}
+use Rattle.etcs_stream.specs.Told.{Told}
+use Rattle.etcs_stream.specs.Tellers.{TellsItem, TellsItems}
+use Rattle.etcs_stream.specs.declared.job.Job.{Job}
+use Rattle.etcs_stream.specs.JsonItems.{IsItemLine, IsRefusedLine}
+use Rattle.etcs_stream.specs.declared.fault.RunFault.{RunFault}
+use Rattle.etcs_stream.specs.declared.fault.RunFault.TheVariants.{Refused, Truncated, BadHex, BadJson, Read, Write, Endless, Memory}
+use Rattle.etcs_stream.specs.Streams.{AreSpelled}
+
+-- with these bytes after the bits seen before, some items became whole and were reported, and bits are left
+pub record Advances (kind : Kind) (command : Command) (seen seen' : List Bool) (before after : Told) (bytes text text' : List ℕ) : Type 0 where
+  pub told : List EntryValue
+  pub spelt : List Bool
+  pub added : List ℕ
+  pub are_spelled : AreSpelled kind told spelt
+  pub bits_are : seen ++ bits bytes ≡ spelt ++ seen'
+  pub added_is : TellsItems command before told added after
+  pub text_is : text' ≡ text ++ added
+
+-- why no more is taken of the bits after this many items
+abbrev pub HaltsBy : Kind → ℕ → List Bool → RunFault → Type 0
+HaltsBy kind n rest (Refused item i x) = (item ≡ n + 1) × (n < 1000000) × Refuses (readings_of (EntryReads kind)) rest i x
+HaltsBy kind n rest (Truncated item k) = ⊥
+HaltsBy kind n rest (BadHex line place) = ⊥
+HaltsBy kind n rest (BadJson line) = ⊥
+HaltsBy kind n rest Read = ⊥
+HaltsBy kind n rest (Write sent) = ⊥
+HaltsBy kind n rest Endless = (n ≡ 1000000) × (0 < length rest)
+HaltsBy kind n rest Memory = Unit {0}
+
+-- with these bytes after the bits seen before, some items became whole and were reported, and then no more was taken
+pub record Halts (kind : Kind) (command : Command) (seen : List Bool) (before : Told) (bytes text text' : List ℕ) (fault : RunFault) : Type 0 where
+  pub told : List EntryValue
+  pub spelt : List Bool
+  pub rest : List Bool
+  pub added : List ℕ
+  pub are_spelled : AreSpelled kind told spelt
+  pub bits_are : seen ++ bits bytes ≡ spelt ++ rest
+  pub after : Told
+  pub few : before.count + length told ≤ 1000000
+  pub added_is : TellsItems command before told added after
+  pub text_is : text' ≡ text ++ added
+  pub why : HaltsBy kind (before.count + length told) rest fault
+
+-- of some items this text was written, and at most one more was counted
+pub record Says (command : Command) (before now : Told) (text text' : List ℕ) : Type 0 where
+  pub told : List EntryValue
+  pub added : List ℕ
+  pub after : Told
+  pub added_is : TellsItems command before told added after
+  pub text_is : text' ≡ text ++ added
+  pub counted : now.count ≤ after.count + 1
+
+-- ---- Lines of JSON.
+
+-- the item of a line was reported; an empty line is none
+pub data TakesJson (job : Job) (line : List ℕ) (before after : Told) (text text' : List ℕ) : Type 0 where
+  empty_line : line ≡ [] → after ≡ before → text' ≡ text → TakesJson job line before after text text'
+  item_line : (e : EntryValue) (added : List ℕ) → IsItemLine job.kind line e → before.count < 1000000 → TellsItem job.command e before added after → text' ≡ text ++ added → TakesJson job line before after text text'
+
+-- why it wasn't
+abbrev pub HaltsJson : Job → List ℕ → ℕ → Told → RunFault → Type 0
+HaltsJson job line number before (Refused item i x) = (item ≡ before.count + 1) × (before.count < 1000000) × IsRefusedLine job.kind line i x
+HaltsJson job line number before (Truncated item k) = ⊥
+HaltsJson job line number before (BadHex l place) = ⊥
+HaltsJson job line number before (BadJson l) = (l ≡ number) × (0 < length line) × (before.count < 1000000) × ((e : EntryValue) → IsItemLine job.kind line e → ⊥) × ((i : ℕ) (x : Var) → IsRefusedLine job.kind line i x → ⊥)
+HaltsJson job line number before Read = ⊥
+HaltsJson job line number before (Write sent) = ⊥
+HaltsJson job line number before Endless = (before.count ≡ 1000000) × (0 < length line)
+HaltsJson job line number before Memory = Unit {0}

@@ -1,0 +1,151 @@
+//! The items of bytes, one after another.
+
+ghost use Rattle.std.specs.Prelude.{◌≡◌, ◌+◌, ◌<◌, ◌≤◌, ◌⊎◌, ◌++◌, ℕ, List, [], length, take, IfErr, IfOk, OnErr, OnOk};
+ghost use Rattle.etcs_text.specs.Entries.{EntryValue, entry_kind};
+ghost use Rattle.etcs_stream.specs.declared.fault.RunFault.{RunFault};
+ghost use Rattle.etcs_stream.specs.Readers.{Awaits, HasRoom, seen_bits, reading, finished};
+ghost use Rattle.etcs_stream.specs.Taking.{Advances, Halts, Says};
+ghost use Rattle.etcs_stream.specs.Tellers.{Closes, IsGroupable, TellsItem, nothing_told};
+
+use crate::entries::EntryReader;
+use crate::fault::RunFault;
+use crate::job::{Job, Tally};
+use crate::teller::Teller;
+use etcs_vars::{Fed, ReadFault};
+use std::alloc::{AllocError, Global};
+
+/// How many items a run has at most.
+pub(crate) const MOST_ITEMS: u64 = 1_000_000;
+
+/// The item that isn't whole yet, and what was reported.
+#[derive(Drop)]
+pub(crate) struct ByteItems {
+    alloc: Global,
+    pub(crate) job: Job,
+    pub(crate) reader: EntryReader,
+    pub(crate) teller: Teller,
+    ghost groupable: { IsGroupable job },
+}
+
+impl ByteItems {
+    /// Nothing was reported, and nothing has come.
+    pub(crate) fn new(alloc: Global, job: Job) -> ByteItems
+        requires { IsGroupable job }
+        ensures job { result.job ≡ job }
+        ensures waits { Awaits job.kind result.reader }
+        ensures seen { seen_bits result.reader.progress ≡ [] }
+        ensures told { result.teller ≡ nothing_told }
+    {
+        ByteItems {
+            alloc,
+            job,
+            reader: EntryReader::new(alloc, job.kind),
+            teller: Teller::new(),
+        }
+    }
+
+    /// Takes bytes, and appends the text of each item that becomes whole.
+    ///
+    /// # Errors
+    ///
+    /// `Refused` with the number of the item, `Endless` where there is a byte after the last item that a run may have,
+    /// `Memory`. The text of the items in front was appended.
+    pub(crate) fn take_bytes(&mut self, bytes: &[u8], text: &mut Vec<u8>) -> Result<(), RunFault>
+        requires waits { Awaits self.old.job.kind self.old.reader }
+        requires told { self.old.teller.count ≤ 1000000 }
+        ensures job { self.new.job ≡ self.old.job }
+        ensures waits { OnOk result (Awaits self.old.job.kind self.new.reader) }
+        ensures told { OnOk result (self.new.teller.count ≤ 1000000) }
+        ensures room { HasRoom self.old.teller.count (seen_bits self.old.reader.progress) → OnOk result (HasRoom self.new.teller.count (seen_bits self.new.reader.progress)) }
+        ensures ok { OnOk result (Advances self.old.job.kind self.old.job.command (seen_bits self.old.reader.progress) (seen_bits self.new.reader.progress) self.old.teller self.new.teller bytes.now text.old.items text.new.items) }
+        ensures err { IfErr result (λ e. Halts self.old.job.kind self.old.job.command (seen_bits self.old.reader.progress) self.old.teller bytes.now text.old.items text.new.items e) }
+        ensures said { OnErr result (Says self.old.job.command self.old.teller self.new.teller text.old.items text.new.items) }
+    {
+        let mut rest = bytes;
+        while !rest.is_empty() {
+            let taken = self.take_front(rest, text)?;
+            rest = &rest[taken..];
+        }
+        Ok(())
+    }
+
+    /// The input ends here: appends what the command writes then.
+    ///
+    /// # Errors
+    ///
+    /// `Truncated` inside an item, with the number of its bits; `Memory`. Nothing was appended.
+    pub(crate) fn finish(&self, text: &mut Vec<u8>) -> Result<Tally, RunFault>
+        requires waits { Awaits self.now.job.kind self.now.reader }
+        requires told { self.now.teller.count ≤ 1000000 }
+        ensures whole { OnOk result (seen_bits self.now.reader.progress ≡ []) }
+        ensures ok { IfOk result (λ tally. (last : List ℕ) × Closes self.now.job.command self.now.teller last tally × (text.new.items ≡ text.old.items ++ last)) }
+        ensures err { IfErr result (λ e. (text.new.items ≡ text.old.items) × (((e ≡ RunFault.Truncated (self.now.teller.count + 1) (length (seen_bits self.now.reader.progress))) × (0 < length (seen_bits self.now.reader.progress))) ⊎ (e ≡ RunFault.Memory))) }
+    {
+        let bits = self.reader.bits_seen();
+        if bits > 0 {
+            return Err(RunFault::Truncated {
+                item: self.teller.count() + 1,
+                bits: bits as u64,
+            });
+        }
+        match self.teller.close(self.job.command, text) {
+            Ok(tally) => Ok(tally),
+            Err(AllocError) => Err(RunFault::Memory),
+        }
+    }
+
+    /// Takes bytes up to the end of an item, which it reports, or all of them, and says how many.
+    fn take_front(&mut self, bytes: &[u8], text: &mut Vec<u8>) -> Result<usize, RunFault>
+        requires some { 0 < length bytes.now }
+        requires waits { Awaits self.old.job.kind self.old.reader }
+        requires told { self.old.teller.count ≤ 1000000 }
+        ensures some { IfOk result (λ n. 0 < n) }
+        ensures within { IfOk result (λ n. n ≤ length bytes.now) }
+        ensures job { self.new.job ≡ self.old.job }
+        ensures waits { OnOk result (Awaits self.old.job.kind self.new.reader) }
+        ensures told { OnOk result (self.new.teller.count ≤ 1000000) }
+        ensures room { OnOk result (HasRoom self.new.teller.count (seen_bits self.new.reader.progress)) }
+        ensures ok { IfOk result (λ n. Advances self.old.job.kind self.old.job.command (seen_bits self.old.reader.progress) (seen_bits self.new.reader.progress) self.old.teller self.new.teller (take n bytes.now) text.old.items text.new.items) }
+        ensures err { IfErr result (λ e. Halts self.old.job.kind self.old.job.command (seen_bits self.old.reader.progress) self.old.teller bytes.now text.old.items text.new.items e) }
+        ensures said { OnErr result (Says self.old.job.command self.old.teller self.new.teller text.old.items text.new.items) }
+    {
+        if self.teller.count() == MOST_ITEMS {
+            return Err(RunFault::Endless);
+        }
+        match self.reader.feed(bytes) {
+            Ok(Fed::More) => Ok(bytes.len()),
+            Ok(Fed::Done { taken }) => {
+                self.tell(text)?;
+                Ok(taken)
+            }
+            Err(ReadFault::Refused { bit, var }) => Err(RunFault::Refused {
+                item: self.teller.count() + 1,
+                bit,
+                var,
+            }),
+            Err(ReadFault::Memory) => Err(RunFault::Memory),
+            Err(ReadFault::Ended) => unreachable!(),
+        }
+    }
+
+    /// Appends the text of the whole item, and begins the next.
+    fn tell(&mut self, text: &mut Vec<u8>) -> Result<(), RunFault>
+        requires kind { self.old.reader.kind ≡ self.old.job.kind }
+        requires whole { (e : EntryValue) × (self.old.reader.progress ≡ finished e) × (entry_kind e ≡ self.old.job.kind) }
+        requires told { self.old.teller.count < 1000000 }
+        ensures job { self.new.job ≡ self.old.job }
+        ensures next { OnOk result (self.new.reader ≡ record { kind = self.old.job.kind; progress = reading [] }) }
+        ensures told { self.new.teller.count ≡ self.old.teller.count + 1 }
+        ensures ok { (e : EntryValue) → self.old.reader.progress ≡ finished e → OnOk result ((added : List ℕ) × TellsItem self.old.job.command e self.old.teller added self.new.teller × (text.new.items ≡ text.old.items ++ added)) }
+        ensures err { IfErr result (λ e. (e ≡ RunFault.Memory) × (text.new.items ≡ text.old.items)) }
+    {
+        let entry = match self.reader.next(self.alloc, self.job.kind) {
+            Ok(entry) => entry,
+            Err(()) => unreachable!(),
+        };
+        match self.teller.tell(self.job.command, entry, text) {
+            Ok(()) => Ok(()),
+            Err(AllocError) => Err(RunFault::Memory),
+        }
+    }
+}

@@ -1,0 +1,66 @@
+use Rattle.std.proofs.Common.{◌++◌, ◌∙◌, ℕ, Bool, List, ap, map, refl}
+use Rattle.std.specs.Prelude.{codes}
+use Rattle.serde_json.specs.Written.{compact_text}
+use Rattle.etcs_packets.specs.declared.packet.Packet.{Packet}
+use Rattle.etcs_packets.specs.PacketValues.{packet_value}
+use Rattle.etcs_telegram.specs.declared.size.Size.{Size}
+use Rattle.etcs_telegram.specs.Telegrams.{HeaderValue, header_reading}
+use Rattle.etcs_text.specs.laws.Fronts.{begins_more}
+use Rattle.etcs_text.specs.JsonParts.{kind_member}
+use Rattle.etcs_text.specs.Show.{bit_digit}
+use Rattle.etcs_text.specs.Trees.{packets_tree, pairs_tree}
+use Rattle.etcs_text.proofs.Refusals.{behind_ok, on_err, on_ok}
+use Rattle.etcs_text.proofs.Texts.{on_extended}
+use Rattle.etcs_text.proofs.TreeTexts.{telegram_is}
+use Rattle.etcs_text.proofs.json_lines.write_telegram.Goals as goal
+
+pub returns-in_err-write_variables-clause-err : goal.returns-in_err-write_variables-clause-err
+returns-in_err-write_variables-clause-err c =
+    let one = c.extend_from_slice.new.self.items in
+    let two = c.write_slice.new.out.items in
+    let three = c.extend_from_slice-2.new.self.items in
+    let new = c.write_variables.new.out.items in
+    on_err _ (begins_more c.args.out.now.items one new _ c.in_ok-extend_from_slice.ensures.items
+    (begins_more one two new _ c.in_ok-write_slice.ensures.ok
+    (begins_more two three new _ c.in_ok-extend_from_slice-2.ensures.items c.in_err-write_variables.ensures.err)))
+
+pub returns-in_err-write_packets-clause-err : goal.returns-in_err-write_packets-clause-err
+returns-in_err-write_packets-clause-err c =
+    let one = c.extend_from_slice.new.self.items in
+    let two = c.write_slice.new.out.items in
+    let three = c.extend_from_slice-2.new.self.items in
+    let four = c.write_variables.new.out.items in
+    let five = c.extend_from_slice-3.new.self.items in
+    let new = c.write_packets.new.out.items in
+    on_err _ (begins_more c.args.out.now.items one new _ c.in_ok-extend_from_slice.ensures.items
+    (begins_more one two new _ c.in_ok-write_slice.ensures.ok
+    (begins_more two three new _ c.in_ok-extend_from_slice-2.ensures.items
+    (begins_more three four new (compact_text (pairs_tree (header_reading c.header.result.now))) c.in_ok-write_variables.ensures.ok
+    (begins_more four five new _ c.in_ok-extend_from_slice-3.ensures.items c.in_err-write_packets.ensures.err)))))
+
+pub returns-clause-ok : goal.returns-clause-ok
+returns-clause-ok c =
+    let t = c.args.telegram.now in
+    let r = c.extend_from_slice-4.result in
+    let old = c.args.out.now.items in
+    let one = c.extend_from_slice.new.self.items in
+    let two = c.write_slice.new.out.items in
+    let three = c.extend_from_slice-2.new.self.items in
+    let four = c.write_variables.new.out.items in
+    let five = c.extend_from_slice-3.new.self.items in
+    let six = c.write_packets.new.out.items in
+    let new = c.extend_from_slice-4.new.self.items in
+    let x = map bit_digit t.fill in
+    let b = codes "\",\"header\":" in
+    let y = compact_text (pairs_tree (header_reading t.header)) in
+    let k = kind_member t.size in
+    let z = compact_text (packets_tree (map packet_value t.packets)) in
+    let e = codes "}" in
+    on_ok r old new (codes "{\"fill\":\"" ++ (x ++ (b ++ (y ++ (k ++ (z ++ e)))))) _ (telegram_is t.size t.header (map packet_value t.packets) t.fill)
+    (behind_ok r old (codes "{\"fill\":\"") one (x ++ (b ++ (y ++ (k ++ (z ++ e))))) new c.in_ok-extend_from_slice.ensures.items
+    (behind_ok r one x two (b ++ (y ++ (k ++ (z ++ e)))) new (c.in_ok-write_slice.ensures.ok ∙ ap (λ (f : List Bool). one ++ map bit_digit f) c.fill.ensures)
+    (behind_ok r two b three (y ++ (k ++ (z ++ e))) new c.in_ok-extend_from_slice-2.ensures.items
+    (behind_ok r three y four (k ++ (z ++ e)) new (c.in_ok-write_variables.ensures.ok ∙ ap (λ (h : HeaderValue). three ++ compact_text (pairs_tree (header_reading h))) c.header.ensures)
+    (behind_ok r four k five (z ++ e) new (c.in_ok-extend_from_slice-3.ensures.items ∙ ap (λ (w : List ℕ). four ++ w) (c.kind_member.ensures ∙ ap (λ (s : Size). kind_member s) c.size.ensures))
+    (behind_ok r five z six e new (c.in_ok-write_packets.ensures.ok ∙ ap (λ (ps : List Packet). five ++ compact_text (packets_tree (map packet_value ps))) c.packets.ensures)
+    (on_extended _ _ r six new e e c.extend_from_slice-4.ensures.items refl)))))))

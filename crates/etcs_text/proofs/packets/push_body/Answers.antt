@@ -1,4 +1,0 @@
-use Rattle.etcs_text.proofs.packets.push_body.Goals as goal
-
-pub returns-in-Other-clause-ok : goal.returns-in-Other-clause-ok
-returns-in-Other-clause-ok c = rw (c.in-Other.is, ← c.body.ensures) c.push_bits_line.ensures.ok

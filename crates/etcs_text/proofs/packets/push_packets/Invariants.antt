@@ -1,7 +1,0 @@
-use Rattle.std.proofs.Common.{◌≡◌, ◌++◌, map, take}
-use Rattle.etcs_packets.specs.PacketValues.{packet_value}
-use Rattle.etcs_text.specs.Packets.{packets_text}
-use Rattle.etcs_text.proofs.packets.push_packets.Given as goal
-
-abbrev pub invariant-loop-packet : goal.invariant-loop-packet
-invariant-loop-packet l = l.out.items ≡ l.fn.out.items ++ packets_text (map packet_value (take l.packet-index l.packets))

@@ -1,8 +1,0 @@
-use Rattle.std.proofs.Common.{◌∙◌}
-use Rattle.etcs_text.specs.Entries.{entry_bits, entry_value}
-use Rattle.etcs_text.proofs.MessageTexts.{bits_are}
-use Rattle.etcs_text.proofs.NumberTexts.{accepted_line}
-use Rattle.etcs_text.proofs.telling.push_check.Goals as goal
-
-pub returns-in-Message-clause-ok : goal.returns-in-Message-clause-ok
-returns-in-Message-clause-ok c = accepted_line _ _ c.push_accepted.result c.args.out.now.items c.push_item_number.new.out.items c.push_accepted.new.out.items c.args.item c.bit_len.result (entry_bits (entry_value c.args.entry.now)) c.in_ok-push_item_number.ensures.ok (rw c.in-Message.is (c.bit_len.ensures ∙ bits_are _)) c.push_accepted.ensures.ok

@@ -10,6 +10,7 @@ use crate::faults::check_count;
 use crate::list_of::ListOf;
 use crate::numbers::Numbers;
 use crate::part::{Part, clone_all, hold_all, send_list, take_list};
+use crate::taken;
 use etcs_vars::parts::{VarSink, Variables, bits_of_all};
 use etcs_vars::{BuildFault, Var};
 use std::alloc::{AllocError, Global};
@@ -98,9 +99,7 @@ impl<E: Entry> Part for Counted<E> {
     }
 
     fn take(alloc: Global, numbers: &mut Numbers) -> Result<Option<Counted<E>>, AllocError> {
-        let Some(entries) = take_list(alloc, Var::N_ITER, numbers)? else {
-            return Ok(None);
-        };
+        let entries = taken!(take_list(alloc, Var::N_ITER, numbers)?);
         Ok(Some(Counted {
             entries: ListOf::from_vec(entries),
         }))

@@ -10,6 +10,7 @@ use crate::faults::check_count;
 use crate::list_of::ListOf;
 use crate::numbers::Numbers;
 use crate::part::{Part, clone_all, hold_all, send_list, take_list};
+use crate::taken;
 use etcs_vars::parts::{VarSink, Variables, bits_of_all};
 use etcs_vars::{BuildFault, Var};
 use std::alloc::{AllocError, Global};
@@ -127,12 +128,8 @@ impl<E: Entry> Part for Entries<E> {
     }
 
     fn take(alloc: Global, numbers: &mut Numbers) -> Result<Option<Entries<E>>, AllocError> {
-        let Some(first) = E::take(alloc, numbers)? else {
-            return Ok(None);
-        };
-        let Some(further) = take_list(alloc, Var::N_ITER, numbers)? else {
-            return Ok(None);
-        };
+        let first = taken!(E::take(alloc, numbers)?);
+        let further = taken!(take_list(alloc, Var::N_ITER, numbers)?);
         Ok(Some(Entries {
             first,
             further: ListOf::from_vec(further),

@@ -5,6 +5,7 @@ mod body;
 mod counted;
 mod entries;
 mod faults;
+mod fields;
 mod framed;
 mod guards;
 pub mod laws;

@@ -8,6 +8,7 @@ ghost use Rattle.etcs_vars.specs.declared.var.Var.TheVariants.{N_ITER};
 ghost use Rattle.etcs_bodies.specs.Faults.{count_fault};
 
 use crate::numbers::Numbers;
+use crate::taken;
 use etcs_vars::Var;
 use etcs_vars::parts::{VarSink, Variables, bits_of_all, send_all};
 use std::alloc::{AllocError, Global};
@@ -97,13 +98,8 @@ pub fn take_list<P: Part + Drop>(
     ensures from { IfOk result (λ o. IfSome o (λ ps. list_from count P.read_from numbers.old ≡ Some (ps.items, numbers.new))) }
     ensures none { IfOk result (λ o. IfNone o (list_from count P.read_from numbers.old ≡ None)) }
 {
-    let Some(many) = numbers.next(count) else {
-        return Ok(None);
-    };
-    let Some(parts) = take_all(alloc, numbers, many as usize)? else {
-        return Ok(None);
-    };
-    Ok(Some(parts))
+    let many = taken!(numbers.next(count));
+    take_all(alloc, numbers, many as usize)
 }
 
 /// Sends a list of parts after its count.

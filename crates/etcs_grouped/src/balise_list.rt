@@ -9,7 +9,7 @@ ghost use Rattle.etcs_tables.specs.Rows.{row_to, balise_list};
 ghost use Rattle.etcs_bodies.specs.Faults.{◌or_else◌, number_fault};
 ghost use Rattle.etcs_grouped.specs.BaliseLists.{balise_list_value, nid_fault, balise_list_fault, balise_list_from};
 
-use etcs_bodies::{Body, Counted, Numbers, Part, check};
+use etcs_bodies::{Body, Counted, Numbers, Part, check, taken};
 use etcs_parts::BaliseAt;
 use etcs_tables::Way;
 use etcs_vars::parts::{VarSink, Variables};
@@ -77,9 +77,7 @@ impl<const NID: u8> BaliseList<NID> {
         ensures some { IfOk result (λ o. IfSome o (λ p. balise_list_from dir numbers.old ≡ Some (p, numbers.new))) }
         ensures none { IfOk result (λ o. IfNone o (balise_list_from dir numbers.old ≡ None)) }
     {
-        let Some(balises) = Counted::take(alloc, numbers)? else {
-            return Ok(None);
-        };
+        let balises = taken!(Counted::take(alloc, numbers)?);
         Ok(Some(BaliseList { dir, balises }))
     }
 }

@@ -3,11 +3,9 @@
 ghost use Rattle.std.specs.Prelude.{◌≡◌, None, Some, OnOk, IfOk, IfErr};
 ghost use Rattle.etcs_tables.specs.Layouts.{whole};
 ghost use Rattle.etcs_tables.specs.Rows.{row_to};
-ghost use Rattle.etcs_vars.specs.declared.var.Var.TheVariants.{Q_DIR, Q_SCALE};
-ghost use Rattle.etcs_bodies.specs.Faults.{◌or_else◌, number_fault};
 ghost use Rattle.etcs_grouped.specs.Chains.{chain_value, chain_fault, chain_row, too_long};
 
-use etcs_bodies::{Body, Entries, Entry, Numbers, Part, check};
+use etcs_bodies::{Body, Entries, Entry, Numbers, Part, check_field, taken};
 use etcs_tables::Way;
 use etcs_vars::parts::{VarSink, Variables};
 use etcs_vars::{BuildFault, Var};
@@ -90,13 +88,9 @@ impl<E: Entry> Chain<E> {
         ensures first { IfErr result (λ e. e.1 ≡ first) }
         ensures further { IfErr result (λ e. e.2.items ≡ further.items) }
     {
-        if let Err(fault) = check_head(dir, q_scale) {
-            return Err((fault, first, further));
-        }
-        let entries = match Entries::new(first, further) {
-            Ok(entries) => entries,
-            Err(back) => return Err(back),
-        };
+        check_field!([first, further] dir Q_DIR u8);
+        check_field!([first, further] q_scale Q_SCALE u8);
+        let entries = Entries::new(first, further)?;
         if let Err(fault) = check_length(dir, q_scale, &entries) {
             let (first, further) = entries.into_parts();
             return Err((fault, first, further));
@@ -107,16 +101,6 @@ impl<E: Entry> Chain<E> {
             entries,
         })
     }
-}
-
-/// Refuses a direction or a scale that is none.
-fn check_head(dir: u8, q_scale: u8) -> Result<(), BuildFault>
-    ensures dir { OnOk result (number_fault Q_DIR dir ≡ None) }
-    ensures q_scale { OnOk result (number_fault Q_SCALE q_scale ≡ None) }
-    ensures fault { IfErr result (λ e. number_fault Q_DIR dir or_else number_fault Q_SCALE q_scale ≡ Some e) }
-{
-    check(Var::Q_DIR, u64::from(dir))?;
-    check(Var::Q_SCALE, u64::from(q_scale))
 }
 
 /// Refuses entries that take more bits than L_PACKET can count.
@@ -174,19 +158,15 @@ impl<E: Chained> Body for Chain<E> {
     }
 
     #[tactic(auto, using(etcs_bodies::specs::laws::Takes::number_ok), unfolding(etcs_bodies::specs::PacketCodes::directed_from, crate::specs::Chains::chain_from))]
-    fn take(alloc: Global, dir: u8, numbers: &mut Numbers) -> Result<Option<Chain<E>>, AllocError> {
-        let Some(q_scale) = numbers.next(Var::Q_SCALE) else {
-            return Ok(None);
-        };
-        let Some(entries) = Entries::take(alloc, numbers)? else {
-            return Ok(None);
-        };
-        if check_length(dir, q_scale as u8, &entries).is_err() {
+    fn take(alloc: Global, dir: u8, numbers: &mut Numbers) -> Result<Option<Self>, AllocError> {
+        let q_scale = taken!(numbers.next(Var::Q_SCALE)) as u8;
+        let entries = taken!(Entries::take(alloc, numbers)?);
+        if check_length(dir, q_scale, &entries).is_err() {
             return Ok(None);
         }
         Ok(Some(Chain {
             dir,
-            q_scale: q_scale as u8,
+            q_scale,
             entries,
         }))
     }

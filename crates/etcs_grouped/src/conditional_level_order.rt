@@ -1,9 +1,9 @@
 //! The conditional level transition order.
 
-ghost use Rattle.std.specs.Prelude.{◌≡◌, None, Some, OnOk, IfOk, IfErr, IfSome, IfNone};
+ghost use Rattle.std.specs.Prelude.{◌≡◌, None, Some, IfOk, IfErr};
 ghost use Rattle.etcs_grouped.specs.ConditionalLevelOrders.{conditional_level_order_value, conditional_level_order_fault};
 
-use etcs_bodies::{Body, Entries, Numbers, Part, check};
+use etcs_bodies::{Body, Entries, Numbers, Part, check_field, taken};
 use etcs_parts::Level;
 use etcs_tables::Way;
 use etcs_vars::parts::{VarSink, Variables};
@@ -52,9 +52,7 @@ impl ConditionalLevelOrder {
         ensures fault { IfErr result (λ e. conditional_level_order_fault (conditional_level_order_value dir first further.items) ≡ Some e.0) }
         ensures further { IfErr result (λ e. e.1.items ≡ further.items) }
     {
-        if let Err(fault) = check(Var::Q_DIR, u64::from(dir)) {
-            return Err((fault, further));
-        }
+        check_field!([further] dir Q_DIR u8);
         match Entries::new(first, further) {
             Ok(levels) => Ok(ConditionalLevelOrder { dir, levels }),
             Err((fault, _, further)) => Err((fault, further)),
@@ -116,14 +114,8 @@ impl Body for ConditionalLevelOrder {
     }
 
     #[tactic(auto, using(etcs_bodies::specs::laws::Takes::number_ok), unfolding(etcs_bodies::specs::PacketCodes::directed_from, crate::specs::ConditionalLevelOrders::conditional_level_order_from))]
-    fn take(
-        alloc: Global,
-        dir: u8,
-        numbers: &mut Numbers,
-    ) -> Result<Option<ConditionalLevelOrder>, AllocError> {
-        let Some(levels) = Entries::take(alloc, numbers)? else {
-            return Ok(None);
-        };
+    fn take(alloc: Global, dir: u8, numbers: &mut Numbers) -> Result<Option<Self>, AllocError> {
+        let levels = taken!(Entries::take(alloc, numbers)?);
         Ok(Some(ConditionalLevelOrder { dir, levels }))
     }
 

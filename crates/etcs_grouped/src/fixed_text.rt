@@ -1,15 +1,20 @@
 //! The fixed text message.
 
-ghost use Rattle.std.specs.Prelude.{◌≡◌, None, Some, IfOk, IfErr, IfSome, IfNone};
+ghost use Rattle.std.specs.Prelude.{◌≡◌, None, Some, IfOk, IfErr};
 ghost use Rattle.etcs_grouped.specs.FixedTexts.{fixed_text_value, fixed_text_fault, IsFixedText};
 
-use etcs_bodies::{Body, Numbers, Part, check};
+use etcs_bodies::{Body, Numbers, Part, build_packet, send_fields, take_fields};
 use etcs_parts::TextFrame;
 use etcs_tables::Way;
 use etcs_vars::parts::{VarSink, Variables};
 use etcs_vars::{BuildFault, Var};
 use std::alloc::{AllocError, Global};
 use std::marker::Model;
+
+/// Its fields in the order of its row.
+macro_rules! fields {
+    ($then:ident: $($with:tt)*) => { $then! { { $($with)* } frame: TextFrame; q_text: Q_TEXT u8 } };
+}
 
 /// The fixed text message: one of the texts that the train knows, and when and where it is shown (packet 76;
 /// SUBSET-026, 7.4.2).
@@ -47,10 +52,7 @@ impl FixedText {
         ensures none { IfOk result (λ p. fixed_text_fault (fixed_text_value dir frame q_text) ≡ None) }
         ensures fault { IfErr result (λ e. fixed_text_fault (fixed_text_value dir frame q_text) ≡ Some e) }
     {
-        check(Var::Q_DIR, u64::from(dir))?;
-        check(Var::Q_TEXT, u64::from(q_text))?;
-        frame.holds();
-        Ok(FixedText { dir, q_text, frame })
+        fields!(build_packet: [] dir; frame; q_text)
     }
 
     /// When and where the text is shown, and how it is confirmed.
@@ -79,8 +81,7 @@ impl Variables for FixedText {
     }
 
     fn send<S: VarSink>(&self, out: &mut S) -> Result<(), AllocError> {
-        self.frame.send(out)?;
-        out.send(&[(Var::Q_TEXT, u64::from(self.q_text))])
+        fields!(send_fields: self, out)
     }
 }
 
@@ -110,22 +111,8 @@ impl Body for FixedText {
     }
 
     #[tactic(auto, using(etcs_bodies::specs::laws::Takes::number_ok), unfolding(etcs_bodies::specs::PacketCodes::directed_from, crate::specs::FixedTexts::fixed_text_from))]
-    fn take(
-        alloc: Global,
-        dir: u8,
-        numbers: &mut Numbers,
-    ) -> Result<Option<FixedText>, AllocError> {
-        let Some(frame) = TextFrame::take(alloc, numbers)? else {
-            return Ok(None);
-        };
-        let Some(q_text) = numbers.next(Var::Q_TEXT) else {
-            return Ok(None);
-        };
-        Ok(Some(FixedText {
-            dir,
-            q_text: q_text as u8,
-            frame,
-        }))
+    fn take(alloc: Global, dir: u8, numbers: &mut Numbers) -> Result<Option<Self>, AllocError> {
+        fields!(take_fields: alloc, numbers, dir)
     }
 
     fn copy(&self, _alloc: Global) -> Result<FixedText, AllocError> {

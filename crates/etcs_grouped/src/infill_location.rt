@@ -1,11 +1,10 @@
 //! Where the infill that follows begins.
 
-ghost use Rattle.std.specs.Prelude.{◌≡◌, None, Some, IfOk, IfErr, IfSome, IfNone, IsTrue};
-ghost use Rattle.etcs_vars.specs.declared.var.Var.TheVariants.{Q_DIR};
-ghost use Rattle.etcs_vars.specs.Vars.{admits};
-ghost use Rattle.etcs_grouped.specs.InfillLocations.{infill_location_value, infill_location_fault, infill_location_from};
+ghost use Rattle.std.specs.Prelude.{◌≡◌, None, Some, IfOk, IfErr};
+ghost use Rattle.etcs_grouped.specs.InfillLocations.{infill_location_value, infill_location_fault};
 
-use etcs_bodies::{Body, Numbers, check};
+use etcs_bodies::{Body, Numbers, Part, check, taken};
+use etcs_parts::BaliseAt;
 use etcs_tables::Way;
 use etcs_vars::parts::{VarSink, Variables};
 use etcs_vars::{BuildFault, Var};
@@ -17,20 +16,20 @@ use std::marker::Model;
 #[derive(Clone, Copy, Debug, PartialEq, Eq)]
 pub struct InfillLocation {
     dir: u8,
-    nid_c: Option<u16>,
-    nid_bg: u16,
+    balise: BaliseAt,
 }
 
 impl Model for InfillLocation {
     ghost use Rattle.etcs_grouped.specs.InfillLocations.{InfillLocationValue, infill_location_value, IsInfillLocation};
+    ghost use Rattle.etcs_parts.specs.BalisesAt.{balise_at_value};
 
     ghost Value = { InfillLocationValue };
 
-    ghost view = { λ s. infill_location_value s.dir s.nid_c s.nid_bg };
+    ghost view = { λ s. infill_location_value s.dir s.balise.nid_c s.balise.nid_bg };
 
-    ghost invariant = { λ s. IsInfillLocation (infill_location_value s.dir s.nid_c s.nid_bg) };
+    ghost invariant = { λ s. IsInfillLocation (infill_location_value s.dir s.balise.nid_c s.balise.nid_bg) };
 
-    ghost inverse = { λ s. record { dir = s.dir; nid_c = s.nid_c; nid_bg = s.nid_bg } };
+    ghost inverse = { λ s. record { dir = s.dir; balise = balise_at_value s.nid_c s.nid_bg } };
 }
 
 impl InfillLocation {
@@ -51,41 +50,22 @@ impl InfillLocation {
         ensures fault { IfErr result (λ e. infill_location_fault (infill_location_value dir nid_c nid_bg) ≡ Some e) }
     {
         check(Var::Q_DIR, u64::from(dir))?;
-        if let Some(country) = nid_c {
-            check(Var::NID_C, u64::from(country))?;
-        }
-        check(Var::NID_BG, u64::from(nid_bg))?;
-        Ok(InfillLocation { dir, nid_c, nid_bg })
+        let balise = BaliseAt::new(nid_c, nid_bg)?;
+        Ok(InfillLocation { dir, balise })
     }
 
     /// NID_C: the country or region of the group, where it is another than that of the group that sends the packet.
     pub fn nid_c(&self) -> Option<u16>
         ensures { result ≡ self.now.nid_c }
     {
-        self.nid_c
+        self.balise.nid_c()
     }
 
     /// NID_BG: the number of the group.
     pub fn nid_bg(&self) -> u16
         ensures { result ≡ self.now.nid_bg }
     {
-        self.nid_bg
-    }
-
-    /// Takes the packet of a direction that the numbers begin with.
-    #[tactic(auto, using(etcs_bodies::specs::laws::Takes::number_ok), unfolding(etcs_bodies::specs::PacketCodes::directed_from, crate::specs::InfillLocations::infill_location_from))]
-    fn from_numbers(dir: u8, numbers: &mut Numbers) -> Option<InfillLocation>
-        requires { IsTrue (admits Q_DIR dir) }
-        ensures some { IfSome result (λ p. infill_location_from dir numbers.old ≡ Some (p, numbers.new)) }
-        ensures none { IfNone result (infill_location_from dir numbers.old ≡ None) }
-    {
-        let nid_c = if numbers.flag()? {
-            Some(numbers.next(Var::NID_C)? as u16)
-        } else {
-            None
-        };
-        let nid_bg = numbers.next(Var::NID_BG)? as u16;
-        Some(InfillLocation { dir, nid_c, nid_bg })
+        self.balise.nid_bg()
     }
 }
 
@@ -94,26 +74,12 @@ impl Variables for InfillLocation {
 
     ghost reading_of = { λ p. infill_location_reading p };
 
-    #[tactic(auto, using(crate::specs::laws::InfillLocations::infill_location_bits_near, crate::specs::laws::InfillLocations::infill_location_bits_far))]
     fn bits(&self) -> usize {
-        match self.nid_c {
-            None => 15,
-            Some(_) => 25,
-        }
+        self.balise.bits()
     }
 
     fn send<S: VarSink>(&self, out: &mut S) -> Result<(), AllocError> {
-        match self.nid_c {
-            None => out.send(&[
-                (Var::Q_NEWCOUNTRY, 0),
-                (Var::NID_BG, u64::from(self.nid_bg)),
-            ]),
-            Some(country) => out.send(&[
-                (Var::Q_NEWCOUNTRY, 1),
-                (Var::NID_C, u64::from(country)),
-                (Var::NID_BG, u64::from(self.nid_bg)),
-            ]),
-        }
+        self.balise.send(out)
     }
 }
 
@@ -142,12 +108,10 @@ impl Body for InfillLocation {
         self.dir
     }
 
-    fn take(
-        _alloc: Global,
-        dir: u8,
-        numbers: &mut Numbers,
-    ) -> Result<Option<InfillLocation>, AllocError> {
-        Ok(InfillLocation::from_numbers(dir, numbers))
+    #[tactic(auto, using(etcs_bodies::specs::laws::Takes::number_ok), unfolding(etcs_bodies::specs::PacketCodes::directed_from, crate::specs::InfillLocations::infill_location_from))]
+    fn take(alloc: Global, dir: u8, numbers: &mut Numbers) -> Result<Option<Self>, AllocError> {
+        let balise = taken!(BaliseAt::take(alloc, numbers)?);
+        Ok(Some(InfillLocation { dir, balise }))
     }
 
     fn copy(&self, _alloc: Global) -> Result<InfillLocation, AllocError> {

@@ -1,15 +1,22 @@
 //! The movement authority of levels 2 and 3.
 
-ghost use Rattle.std.specs.Prelude.{◌≡◌, None, Some, OnOk, IfOk, IfErr, IfSome, IfNone};
-ghost use Rattle.etcs_grouped.specs.Level23Mas.{level23_ma_value, level23_ma_fault, IsLevel23Ma};
+ghost use Rattle.std.specs.Prelude.{◌≡◌, None, Some, IfOk, IfErr};
+ghost use Rattle.etcs_grouped.specs.Level23Mas.{level23_ma_value, level23_ma_fault};
 
-use etcs_bodies::{Body, Numbers, Part, check};
+use etcs_bodies::{Body, Numbers, Part, build_packet, copy_fields, send_fields, take_fields};
 use etcs_parts::Authority;
 use etcs_tables::Way;
 use etcs_vars::parts::{VarSink, Variables};
 use etcs_vars::{BuildFault, Var};
 use std::alloc::{AllocError, Global};
 use std::marker::Model;
+
+/// Its fields in the order of its row.
+macro_rules! fields {
+    ($then:ident: $($with:tt)*) => {
+        $then! { { $($with)* } q_scale: Q_SCALE u8, v_loa: V_LOA u8, t_loa: T_LOA u16; authority: Authority }
+    };
+}
 
 /// The movement authority of levels 2 and 3 (packet 15; SUBSET-026, 7.4.2).
 #[derive(Debug, Drop, PartialEq, Eq)]
@@ -58,16 +65,7 @@ impl Level23Ma {
         ensures fault { IfErr result (λ e. level23_ma_fault (level23_ma_value dir q_scale v_loa t_loa authority) ≡ Some e.0) }
         ensures authority { IfErr result (λ e. e.1 ≡ authority) }
     {
-        match faultless(dir, q_scale, v_loa, t_loa, &authority) {
-            Ok(()) => Ok(Level23Ma {
-                dir,
-                q_scale,
-                v_loa,
-                t_loa,
-                authority,
-            }),
-            Err(fault) => Err((fault, authority)),
-        }
+        fields!(build_packet: [authority] dir; q_scale, v_loa, t_loa; authority)
     }
 
     /// Q_SCALE: the unit of all distances (0: 10 cm, 1: 1 m, 2: 10 m).
@@ -99,25 +97,6 @@ impl Level23Ma {
     }
 }
 
-/// Refuses what is no packet.
-fn faultless(
-    dir: u8,
-    q_scale: u8,
-    v_loa: u8,
-    t_loa: u16,
-    authority: &Authority,
-) -> Result<(), BuildFault>
-    ensures ok { OnOk result (IsLevel23Ma (level23_ma_value dir q_scale v_loa t_loa authority.now)) }
-    ensures fault { IfErr result (λ e. level23_ma_fault (level23_ma_value dir q_scale v_loa t_loa authority.now) ≡ Some e) }
-{
-    check(Var::Q_DIR, u64::from(dir))?;
-    check(Var::Q_SCALE, u64::from(q_scale))?;
-    check(Var::V_LOA, u64::from(v_loa))?;
-    check(Var::T_LOA, u64::from(t_loa))?;
-    authority.holds();
-    Ok(())
-}
-
 impl Variables for Level23Ma {
     ghost use Rattle.etcs_grouped.specs.Level23Mas.{level23_ma_reading};
 
@@ -129,12 +108,7 @@ impl Variables for Level23Ma {
     }
 
     fn send<S: VarSink>(&self, out: &mut S) -> Result<(), AllocError> {
-        out.send(&[
-            (Var::Q_SCALE, u64::from(self.q_scale)),
-            (Var::V_LOA, u64::from(self.v_loa)),
-            (Var::T_LOA, u64::from(self.t_loa)),
-        ])?;
-        self.authority.send(out)
+        fields!(send_fields: self, out)
     }
 }
 
@@ -164,39 +138,11 @@ impl Body for Level23Ma {
     }
 
     #[tactic(auto, using(etcs_bodies::specs::laws::Takes::number_ok), unfolding(etcs_bodies::specs::PacketCodes::directed_from, crate::specs::Level23Mas::level23_ma_from))]
-    fn take(
-        alloc: Global,
-        dir: u8,
-        numbers: &mut Numbers,
-    ) -> Result<Option<Level23Ma>, AllocError> {
-        let Some(q_scale) = numbers.next(Var::Q_SCALE) else {
-            return Ok(None);
-        };
-        let Some(v_loa) = numbers.next(Var::V_LOA) else {
-            return Ok(None);
-        };
-        let Some(t_loa) = numbers.next(Var::T_LOA) else {
-            return Ok(None);
-        };
-        let Some(authority) = Authority::take(alloc, numbers)? else {
-            return Ok(None);
-        };
-        Ok(Some(Level23Ma {
-            dir,
-            q_scale: q_scale as u8,
-            v_loa: v_loa as u8,
-            t_loa: t_loa as u16,
-            authority,
-        }))
+    fn take(alloc: Global, dir: u8, numbers: &mut Numbers) -> Result<Option<Self>, AllocError> {
+        fields!(take_fields: alloc, numbers, dir)
     }
 
     fn copy(&self, alloc: Global) -> Result<Level23Ma, AllocError> {
-        Ok(Level23Ma {
-            dir: self.dir,
-            q_scale: self.q_scale,
-            v_loa: self.v_loa,
-            t_loa: self.t_loa,
-            authority: self.authority.try_clone(alloc)?,
-        })
+        fields!(copy_fields: self, alloc, dir)
     }
 }

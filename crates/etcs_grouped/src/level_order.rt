@@ -1,17 +1,22 @@
 //! The level transition order.
 
-ghost use Rattle.std.specs.Prelude.{◌≡◌, None, Some, OnOk, IfOk, IfErr, IfSome, IfNone};
-ghost use Rattle.etcs_vars.specs.declared.var.Var.TheVariants.{Q_DIR, Q_SCALE, D_LEVELTR};
-ghost use Rattle.etcs_bodies.specs.Faults.{◌or_else◌, number_fault};
+ghost use Rattle.std.specs.Prelude.{◌≡◌, None, Some, IfOk, IfErr};
 ghost use Rattle.etcs_grouped.specs.LevelOrders.{level_order_value, level_order_fault};
 
-use etcs_bodies::{Body, Entries, Numbers, Part, check};
+use etcs_bodies::{
+    Body, Entries, Numbers, Part, build_packet, copy_fields, send_fields, take_fields,
+};
 use etcs_parts::LevelAck;
 use etcs_tables::Way;
 use etcs_vars::parts::{VarSink, Variables};
 use etcs_vars::{BuildFault, Var};
 use std::alloc::{AllocError, Global};
 use std::marker::Model;
+
+/// Its fields in the order of its row.
+macro_rules! fields {
+    ($then:ident: $($with:tt)*) => { $then! { { $($with)* } q_scale: Q_SCALE u8, d_leveltr: D_LEVELTR u16; levels: Entries } };
+}
 
 /// The level transition order: to which level the train goes over, and where (packet 41; SUBSET-026, 7.4.2).
 #[derive(Debug, Drop, PartialEq, Eq)]
@@ -59,18 +64,10 @@ impl LevelOrder {
         ensures fault { IfErr result (λ e. level_order_fault (level_order_value dir q_scale d_leveltr first further.items) ≡ Some e.0) }
         ensures further { IfErr result (λ e. e.1.items ≡ further.items) }
     {
-        if let Err(fault) = check_head(dir, q_scale, d_leveltr) {
-            return Err((fault, further));
-        }
-        match Entries::new(first, further) {
-            Ok(levels) => Ok(LevelOrder {
-                dir,
-                q_scale,
-                d_leveltr,
-                levels,
-            }),
-            Err((fault, _, further)) => Err((fault, further)),
-        }
+        fields!(build_packet: [further] dir; q_scale, d_leveltr; match Entries::new(first, further) {
+            Ok(levels) => levels,
+            Err((fault, _, further)) => return Err((fault, further)),
+        })
     }
 
     /// Q_SCALE: the unit of the distance and of the lengths of acknowledgement (0: 10 cm, 1: 1 m, 2: 10 m).
@@ -102,18 +99,6 @@ impl LevelOrder {
     }
 }
 
-/// Refuses a direction, a scale or a distance that is none.
-fn check_head(dir: u8, q_scale: u8, d_leveltr: u16) -> Result<(), BuildFault>
-    ensures dir { OnOk result (number_fault Q_DIR dir ≡ None) }
-    ensures q_scale { OnOk result (number_fault Q_SCALE q_scale ≡ None) }
-    ensures d_leveltr { OnOk result (number_fault D_LEVELTR d_leveltr ≡ None) }
-    ensures fault { IfErr result (λ e. number_fault Q_DIR dir or_else number_fault Q_SCALE q_scale or_else number_fault D_LEVELTR d_leveltr ≡ Some e) }
-{
-    check(Var::Q_DIR, u64::from(dir))?;
-    check(Var::Q_SCALE, u64::from(q_scale))?;
-    check(Var::D_LEVELTR, u64::from(d_leveltr))
-}
-
 impl Variables for LevelOrder {
     ghost use Rattle.etcs_grouped.specs.LevelOrders.{level_order_reading};
 
@@ -125,11 +110,7 @@ impl Variables for LevelOrder {
     }
 
     fn send<S: VarSink>(&self, out: &mut S) -> Result<(), AllocError> {
-        out.send(&[
-            (Var::Q_SCALE, u64::from(self.q_scale)),
-            (Var::D_LEVELTR, u64::from(self.d_leveltr)),
-        ])?;
-        self.levels.send(out)
+        fields!(send_fields: self, out)
     }
 }
 
@@ -159,34 +140,11 @@ impl Body for LevelOrder {
     }
 
     #[tactic(auto, using(etcs_bodies::specs::laws::Takes::number_ok), unfolding(etcs_bodies::specs::PacketCodes::directed_from, crate::specs::LevelOrders::level_order_from))]
-    fn take(
-        alloc: Global,
-        dir: u8,
-        numbers: &mut Numbers,
-    ) -> Result<Option<LevelOrder>, AllocError> {
-        let Some(q_scale) = numbers.next(Var::Q_SCALE) else {
-            return Ok(None);
-        };
-        let Some(d_leveltr) = numbers.next(Var::D_LEVELTR) else {
-            return Ok(None);
-        };
-        let Some(levels) = Entries::take(alloc, numbers)? else {
-            return Ok(None);
-        };
-        Ok(Some(LevelOrder {
-            dir,
-            q_scale: q_scale as u8,
-            d_leveltr: d_leveltr as u16,
-            levels,
-        }))
+    fn take(alloc: Global, dir: u8, numbers: &mut Numbers) -> Result<Option<Self>, AllocError> {
+        fields!(take_fields: alloc, numbers, dir)
     }
 
     fn copy(&self, alloc: Global) -> Result<LevelOrder, AllocError> {
-        Ok(LevelOrder {
-            dir: self.dir,
-            q_scale: self.q_scale,
-            d_leveltr: self.d_leveltr,
-            levels: self.levels.try_clone(alloc)?,
-        })
+        fields!(copy_fields: self, alloc, dir)
     }
 }

@@ -7,7 +7,7 @@ ghost use Rattle.etcs_bodies.specs.Faults.{count_fault};
 ghost use Rattle.etcs_vars.specs.declared.var.Var.TheVariants.{L_TEXT, X_TEXT};
 ghost use Rattle.etcs_grouped.specs.PlainTexts.{plain_text_value, plain_text_fault, IsPlainText, IsByte, text_reading, bytes_reading};
 
-use etcs_bodies::{Body, ListOf, Numbers, Part, check, check_count};
+use etcs_bodies::{Body, ListOf, Numbers, Part, check, check_count, taken};
 use etcs_parts::TextFrame;
 use etcs_tables::Way;
 use etcs_vars::parts::{VarSink, Variables};
@@ -117,13 +117,8 @@ fn take_text(alloc: Global, numbers: &mut Numbers) -> Result<Option<Vec<u8>>, Al
     ensures from { IfOk result (λ o. IfSome o (λ bytes. list_from L_TEXT (next_number X_TEXT) numbers.old ≡ Some (bytes.items, numbers.new))) }
     ensures none { IfOk result (λ o. IfNone o (list_from L_TEXT (next_number X_TEXT) numbers.old ≡ None)) }
 {
-    let Some(count) = numbers.next(Var::L_TEXT) else {
-        return Ok(None);
-    };
-    let Some(bytes) = take_bytes(alloc, numbers, count as usize)? else {
-        return Ok(None);
-    };
-    Ok(Some(bytes))
+    let count = taken!(numbers.next(Var::L_TEXT));
+    take_bytes(alloc, numbers, count as usize)
 }
 
 /// Sends the bytes, in order.
@@ -188,17 +183,9 @@ impl Body for PlainText {
     }
 
     #[tactic(auto, using(etcs_bodies::specs::laws::Takes::number_ok), unfolding(etcs_bodies::specs::PacketCodes::directed_from, crate::specs::PlainTexts::plain_text_from))]
-    fn take(
-        alloc: Global,
-        dir: u8,
-        numbers: &mut Numbers,
-    ) -> Result<Option<PlainText>, AllocError> {
-        let Some(frame) = TextFrame::take(alloc, numbers)? else {
-            return Ok(None);
-        };
-        let Some(text) = take_text(alloc, numbers)? else {
-            return Ok(None);
-        };
+    fn take(alloc: Global, dir: u8, numbers: &mut Numbers) -> Result<Option<Self>, AllocError> {
+        let frame = taken!(TextFrame::take(alloc, numbers)?);
+        let text = taken!(take_text(alloc, numbers)?);
         Ok(Some(PlainText {
             dir,
             text: ListOf::from_vec(text),

@@ -1,17 +1,24 @@
 //! The parameters of position reports.
 
-ghost use Rattle.std.specs.Prelude.{◌≡◌, None, Some, OnOk, IfOk, IfErr, IfSome, IfNone};
-ghost use Rattle.etcs_vars.specs.declared.var.Var.TheVariants.{Q_DIR, Q_SCALE, T_CYCLOC, D_CYCLOC, M_LOC};
-ghost use Rattle.etcs_bodies.specs.Faults.{◌or_else◌, number_fault};
+ghost use Rattle.std.specs.Prelude.{◌≡◌, None, Some, IfOk, IfErr};
 ghost use Rattle.etcs_grouped.specs.ReportParameters.{report_parameters_value, report_parameters_fault};
 
-use etcs_bodies::{Body, Counted, Numbers, Part, check};
+use etcs_bodies::{
+    Body, Counted, Numbers, Part, build_packet, copy_fields, send_fields, take_fields,
+};
 use etcs_parts::ReportAt;
 use etcs_tables::Way;
 use etcs_vars::parts::{VarSink, Variables};
 use etcs_vars::{BuildFault, Var};
 use std::alloc::{AllocError, Global};
 use std::marker::Model;
+
+/// Its fields in the order of its row.
+macro_rules! fields {
+    ($then:ident: $($with:tt)*) => {
+        $then! { { $($with)* } q_scale: Q_SCALE u8, t_cycloc: T_CYCLOC u8, d_cycloc: D_CYCLOC u16, m_loc: M_LOC u8; reports: Counted }
+    };
+}
 
 /// The parameters of position reports: when and where the train reports its position (packet 58; SUBSET-026, 7.4.2).
 #[derive(Debug, Drop, PartialEq, Eq)]
@@ -63,20 +70,7 @@ impl ReportParameters {
         ensures fault { IfErr result (λ e. report_parameters_fault (report_parameters_value dir q_scale t_cycloc d_cycloc m_loc reports.items) ≡ Some e.0) }
         ensures reports { IfErr result (λ e. e.1.items ≡ reports.items) }
     {
-        if let Err(fault) = check_head(dir, q_scale, t_cycloc, d_cycloc, m_loc) {
-            return Err((fault, reports));
-        }
-        match Counted::new(reports) {
-            Ok(reports) => Ok(ReportParameters {
-                dir,
-                q_scale,
-                t_cycloc,
-                d_cycloc,
-                m_loc,
-                reports,
-            }),
-            Err(back) => Err(back),
-        }
+        fields!(build_packet: [reports] dir; q_scale, t_cycloc, d_cycloc, m_loc; Counted::new(reports)?)
     }
 
     /// Q_SCALE: the unit of all distances (0: 10 cm, 1: 1 m, 2: 10 m).
@@ -115,28 +109,6 @@ impl ReportParameters {
     }
 }
 
-/// Refuses numbers that aren't admitted.
-fn check_head(
-    dir: u8,
-    q_scale: u8,
-    t_cycloc: u8,
-    d_cycloc: u16,
-    m_loc: u8,
-) -> Result<(), BuildFault>
-    ensures dir { OnOk result (number_fault Q_DIR dir ≡ None) }
-    ensures q_scale { OnOk result (number_fault Q_SCALE q_scale ≡ None) }
-    ensures t_cycloc { OnOk result (number_fault T_CYCLOC t_cycloc ≡ None) }
-    ensures d_cycloc { OnOk result (number_fault D_CYCLOC d_cycloc ≡ None) }
-    ensures m_loc { OnOk result (number_fault M_LOC m_loc ≡ None) }
-    ensures fault { IfErr result (λ e. number_fault Q_DIR dir or_else number_fault Q_SCALE q_scale or_else number_fault T_CYCLOC t_cycloc or_else number_fault D_CYCLOC d_cycloc or_else number_fault M_LOC m_loc ≡ Some e) }
-{
-    check(Var::Q_DIR, u64::from(dir))?;
-    check(Var::Q_SCALE, u64::from(q_scale))?;
-    check(Var::T_CYCLOC, u64::from(t_cycloc))?;
-    check(Var::D_CYCLOC, u64::from(d_cycloc))?;
-    check(Var::M_LOC, u64::from(m_loc))
-}
-
 impl Variables for ReportParameters {
     ghost use Rattle.etcs_grouped.specs.ReportParameters.{report_parameters_reading};
 
@@ -148,13 +120,7 @@ impl Variables for ReportParameters {
     }
 
     fn send<S: VarSink>(&self, out: &mut S) -> Result<(), AllocError> {
-        out.send(&[
-            (Var::Q_SCALE, u64::from(self.q_scale)),
-            (Var::T_CYCLOC, u64::from(self.t_cycloc)),
-            (Var::D_CYCLOC, u64::from(self.d_cycloc)),
-            (Var::M_LOC, u64::from(self.m_loc)),
-        ])?;
-        self.reports.send(out)
+        fields!(send_fields: self, out)
     }
 }
 
@@ -184,44 +150,11 @@ impl Body for ReportParameters {
     }
 
     #[tactic(auto, using(etcs_bodies::specs::laws::Takes::number_ok), unfolding(etcs_bodies::specs::PacketCodes::directed_from, crate::specs::ReportParameters::report_parameters_from))]
-    fn take(
-        alloc: Global,
-        dir: u8,
-        numbers: &mut Numbers,
-    ) -> Result<Option<ReportParameters>, AllocError> {
-        let Some(q_scale) = numbers.next(Var::Q_SCALE) else {
-            return Ok(None);
-        };
-        let Some(t_cycloc) = numbers.next(Var::T_CYCLOC) else {
-            return Ok(None);
-        };
-        let Some(d_cycloc) = numbers.next(Var::D_CYCLOC) else {
-            return Ok(None);
-        };
-        let Some(m_loc) = numbers.next(Var::M_LOC) else {
-            return Ok(None);
-        };
-        let Some(reports) = Counted::take(alloc, numbers)? else {
-            return Ok(None);
-        };
-        Ok(Some(ReportParameters {
-            dir,
-            q_scale: q_scale as u8,
-            t_cycloc: t_cycloc as u8,
-            d_cycloc: d_cycloc as u16,
-            m_loc: m_loc as u8,
-            reports,
-        }))
+    fn take(alloc: Global, dir: u8, numbers: &mut Numbers) -> Result<Option<Self>, AllocError> {
+        fields!(take_fields: alloc, numbers, dir)
     }
 
     fn copy(&self, alloc: Global) -> Result<ReportParameters, AllocError> {
-        Ok(ReportParameters {
-            dir: self.dir,
-            q_scale: self.q_scale,
-            t_cycloc: self.t_cycloc,
-            d_cycloc: self.d_cycloc,
-            m_loc: self.m_loc,
-            reports: self.reports.try_clone(alloc)?,
-        })
+        fields!(copy_fields: self, alloc, dir)
     }
 }

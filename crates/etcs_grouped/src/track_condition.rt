@@ -1,6 +1,6 @@
 //! The track conditions ahead.
 
-ghost use Rattle.std.specs.Prelude.{◌≡◌, None, Some, OnOk, IfOk, IfErr, IfSome, IfNone};
+ghost use Rattle.std.specs.Prelude.{◌≡◌, None, Some, IfOk, IfErr};
 ghost use Rattle.std.specs.Cmp.{decided, partial_equiv_from_equiv};
 ghost use Rattle.etcs_grouped.specs.TrackConditions.{state_of, track_condition_value, track_condition_fault, IsTrackCondition, track_condition_eq};
 ghost use Rattle.etcs_grouped.specs.laws.TrackConditions.{track_condition_exact};
@@ -8,7 +8,7 @@ ghost use Rattle.etcs_grouped.specs.laws.TrackConditions.{track_condition_exact}
 use crate::track_state::{
     TrackState, check_state, copy_state, same_state, send_state, state_bits, take_state,
 };
-use etcs_bodies::{Body, Numbers, check};
+use etcs_bodies::{Body, Numbers, check_field, taken};
 use etcs_tables::Way;
 use etcs_vars::parts::{VarSink, Variables};
 use etcs_vars::{BuildFault, Var};
@@ -56,14 +56,16 @@ impl TrackCondition {
         ensures fault { IfErr result (λ e. track_condition_fault (track_condition_value dir q_scale (state_of state)) ≡ Some e.0) }
         ensures state { IfErr result (λ e. state_of e.1 ≡ state_of state) }
     {
-        match check_all(dir, q_scale, &state) {
-            Ok(()) => Ok(TrackCondition {
-                dir,
-                q_scale,
-                state,
-            }),
-            Err(fault) => Err((fault, state)),
+        check_field!([state] dir Q_DIR u8);
+        check_field!([state] q_scale Q_SCALE u8);
+        if let Err(fault) = check_state(&state) {
+            return Err((fault, state));
         }
+        Ok(TrackCondition {
+            dir,
+            q_scale,
+            state,
+        })
     }
 
     /// Q_SCALE: the unit of all distances (0: 10 cm, 1: 1 m, 2: 10 m).
@@ -79,17 +81,6 @@ impl TrackCondition {
     {
         &self.state
     }
-}
-
-/// Refuses what is no packet.
-fn check_all(dir: u8, q_scale: u8, state: &TrackState) -> Result<(), BuildFault>
-    ensures ok { OnOk result (IsTrackCondition (track_condition_value dir q_scale (state_of state.now))) }
-    ensures none { OnOk result (track_condition_fault (track_condition_value dir q_scale (state_of state.now)) ≡ None) }
-    ensures fault { IfErr result (λ e. track_condition_fault (track_condition_value dir q_scale (state_of state.now)) ≡ Some e) }
-{
-    check(Var::Q_DIR, u64::from(dir))?;
-    check(Var::Q_SCALE, u64::from(q_scale))?;
-    check_state(state)
 }
 
 impl PartialEq for TrackCondition {
@@ -150,20 +141,12 @@ impl Body for TrackCondition {
     }
 
     #[tactic(auto, using(etcs_bodies::specs::laws::Takes::number_ok), unfolding(etcs_bodies::specs::PacketCodes::directed_from, crate::specs::TrackConditions::track_condition_from))]
-    fn take(
-        alloc: Global,
-        dir: u8,
-        numbers: &mut Numbers,
-    ) -> Result<Option<TrackCondition>, AllocError> {
-        let Some(q_scale) = numbers.next(Var::Q_SCALE) else {
-            return Ok(None);
-        };
-        let Some(state) = take_state(alloc, numbers)? else {
-            return Ok(None);
-        };
+    fn take(alloc: Global, dir: u8, numbers: &mut Numbers) -> Result<Option<Self>, AllocError> {
+        let q_scale = taken!(numbers.next(Var::Q_SCALE)) as u8;
+        let state = taken!(take_state(alloc, numbers)?);
         Ok(Some(TrackCondition {
             dir,
-            q_scale: q_scale as u8,
+            q_scale,
             state,
         }))
     }

@@ -4,7 +4,9 @@ ghost use Rattle.std.specs.Prelude.{◌≡◌, ◌≤◌, None, Some, length, On
 ghost use Rattle.etcs_vars.specs.Reading.{spelled};
 ghost use Rattle.etcs_grouped.specs.TrackConditions.{state_of, state_fault, IsState, state_reading, state_from, state_eq};
 
-use etcs_bodies::{Numbers, Part, check, check_count, clone_all, hold_all, send_list, take_list};
+use etcs_bodies::{
+    Numbers, Part, check, check_count, clone_all, hold_all, send_list, take_list, taken,
+};
 use etcs_parts::Condition;
 use etcs_vars::parts::{VarSink, Variables};
 use etcs_vars::{BuildFault, Var};
@@ -77,21 +79,13 @@ pub(crate) fn take_state(
     ensures from { IfOk result (λ o. IfSome o (λ s. state_from numbers.old ≡ Some (state_of s, numbers.new))) }
     ensures none { IfOk result (λ o. IfNone o (state_from numbers.old ≡ None)) }
 {
-    let Some(initial) = numbers.flag() else {
-        return Ok(None);
-    };
+    let initial = taken!(numbers.flag());
     if initial {
-        let Some(distance) = numbers.next(Var::D_TRACKINIT) else {
-            return Ok(None);
-        };
+        let distance = taken!(numbers.next(Var::D_TRACKINIT));
         return Ok(Some(TrackState::Initial(distance as u16)));
     }
-    let Some(first) = Condition::take(alloc, numbers)? else {
-        return Ok(None);
-    };
-    let Some(further) = take_list(alloc, Var::N_ITER, numbers)? else {
-        return Ok(None);
-    };
+    let first = taken!(Condition::take(alloc, numbers)?);
+    let further = taken!(take_list(alloc, Var::N_ITER, numbers)?);
     Ok(Some(TrackState::Conditions(first, further)))
 }
 

@@ -1,12 +1,13 @@
 -- A linked balise group of packet 5.
-use Rattle.std.proofs.Common.{◌≡◌, ℕ, Bool, [], ◌∷◌, ◌++◌, Option, Some, None}
+use Rattle.std.proofs.Common.{◌≡◌, ℕ, Bool, [], ◌∷◌, ◌++◌, Option, None}
 use Rattle.etcs_bits.specs.Bits.{bit}
-use Rattle.etcs_vars.specs.declared.var.Var.TheVariants.{D_LINK, Q_NEWCOUNTRY, NID_C, NID_BG, Q_LINKORIENTATION, Q_LINKREACTION, Q_LOCACC}
+use Rattle.etcs_vars.specs.declared.var.Var.TheVariants.{D_LINK, Q_LINKORIENTATION, Q_LINKREACTION, Q_LOCACC}
 use Rattle.etcs_vars.specs.declared.fault.BuildFault.{BuildFault}
 use Rattle.etcs_vars.specs.Reading.{Reading}
-use Rattle.etcs_bodies.specs.Faults.{◌or_else◌, number_fault, option_fault}
-use Rattle.etcs_bodies.specs.Codecs.{both_from, optional_from, form_from}
+use Rattle.etcs_bodies.specs.Faults.{◌or_else◌, number_fault}
+use Rattle.etcs_bodies.specs.Codecs.{both_from, form_from}
 use Rattle.etcs_bodies.specs.Taking.{Left, next_number, next_flag}
+use Rattle.etcs_parts.specs.BalisesAt.{BaliseAtValue, balise_at_value, balise_at_fault, balise_at_reading, balise_at_from}
 
 pub record LinkValue : Type 0 where
   pub d_link : ℕ
@@ -20,46 +21,33 @@ abbrev pub link_value : ℕ → Option ℕ → ℕ → Bool → ℕ → ℕ → 
 link_value d_link nid_c nid_bg q_linkorientation q_linkreaction q_locacc =
     record { d_link = d_link; nid_c = nid_c; nid_bg = nid_bg; q_linkorientation = q_linkorientation; q_linkreaction = q_linkreaction; q_locacc = q_locacc }
 
+-- the group that is linked
+abbrev pub balise_of : LinkValue → BaliseAtValue
+balise_of l = balise_at_value l.nid_c l.nid_bg
+
 -- why it is none
 abbrev pub link_fault : LinkValue → Option BuildFault
 link_fault l =
-    number_fault D_LINK l.d_link or_else option_fault NID_C l.nid_c or_else number_fault NID_BG l.nid_bg
-    or_else number_fault Q_LINKREACTION l.q_linkreaction or_else number_fault Q_LOCACC l.q_locacc
+    number_fault D_LINK l.d_link or_else balise_at_fault (balise_of l) or_else number_fault Q_LINKREACTION l.q_linkreaction or_else number_fault Q_LOCACC l.q_locacc
 
 abbrev pub IsLink : LinkValue → Type 0
 IsLink l = link_fault l ≡ None
 
--- the flag, and after it the country where there is one
-abbrev pub country_reading : Option ℕ → Reading
-country_reading None = (Q_NEWCOUNTRY, 0) ∷ []
-country_reading (Some c) = (Q_NEWCOUNTRY, 1) ∷ (NID_C, c) ∷ []
-
 -- its variables in the order of sending
 abbrev pub link_reading : LinkValue → Reading
 link_reading l =
-    (D_LINK, l.d_link) ∷ country_reading l.nid_c ++ (NID_BG, l.nid_bg) ∷ (Q_LINKORIENTATION, bit l.q_linkorientation)
-    ∷ (Q_LINKREACTION, l.q_linkreaction) ∷ (Q_LOCACC, l.q_locacc) ∷ []
+    (D_LINK, l.d_link) ∷ balise_at_reading (balise_of l)
+    ++ (Q_LINKORIENTATION, bit l.q_linkorientation) ∷ (Q_LINKREACTION, l.q_linkreaction) ∷ (Q_LOCACC, l.q_locacc) ∷ []
 
 -- ---- The link that the numbers begin with.
 
-abbrev pub link_of : ℕ × (Option ℕ × (ℕ × (Bool × (ℕ × ℕ)))) → LinkValue
-link_of n = link_value n.0 n.1.0 n.1.1.0 n.1.1.1.0 n.1.1.1.1.0 n.1.1.1.1.1
+abbrev pub link_of : ℕ × (BaliseAtValue × (Bool × (ℕ × ℕ))) → LinkValue
+link_of n = link_value n.0 n.1.0.nid_c n.1.0.nid_bg n.1.1.0 n.1.1.1.0 n.1.1.1.1
 
 unfoldable pub link_from : Left → Option (LinkValue × Left)
 link_from = form_from link_of (
     both_from (next_number D_LINK) (
-    both_from (optional_from (next_number NID_C)) (
-    both_from (next_number NID_BG) (
+    both_from balise_at_from (
     both_from next_flag (
     both_from (next_number Q_LINKREACTION) (
-    next_number Q_LOCACC))))))
-
--- ---- A link is what its row spells.
-
--- each of its numbers is admitted
-pub record LinkFacts (l : LinkValue) : Type 0 where
-  pub d_link : number_fault D_LINK l.d_link ≡ None
-  pub nid_c : option_fault NID_C l.nid_c ≡ None
-  pub nid_bg : number_fault NID_BG l.nid_bg ≡ None
-  pub q_linkreaction : number_fault Q_LINKREACTION l.q_linkreaction ≡ None
-  pub q_locacc : number_fault Q_LOCACC l.q_locacc ≡ None
+    next_number Q_LOCACC)))))

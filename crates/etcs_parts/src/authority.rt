@@ -1,15 +1,17 @@
 //! The sections of a movement authority, and what follows them.
 
-ghost use Rattle.std.specs.Prelude.{◌≡◌, ◌≤◌, ◌++◌, length, None, Some, IfOk, IfErr, IfSome, IfNone, OnOk};
+ghost use Rattle.std.specs.Prelude.{◌≡◌, ◌≤◌, ◌++◌, length, None, Some, IfOk, IfErr, OnOk};
 ghost use Rattle.etcs_vars.specs.Reading.{spelled};
-ghost use Rattle.etcs_parts.specs.Authorities.{authority_value, authority_fault, IsAuthority, authority_from, end_timer_reading, danger_reading, overlap_reading};
+ghost use Rattle.etcs_parts.specs.Authorities.{authority_value, authority_fault, IsAuthority, end_timer_reading, danger_reading, overlap_reading};
 
 use crate::authority_groups::{
     check_danger_point, check_end_timer, check_overlap, send_danger_point, send_end_timer,
     send_overlap, take_danger_point, take_end_timer, take_overlap,
 };
 use crate::section::Section;
-use etcs_bodies::{ListOf, Numbers, Part, check_count, clone_all, hold_all, send_list, take_list};
+use etcs_bodies::{
+    ListOf, Numbers, Part, check_count, clone_all, hold_all, send_list, take_list, taken,
+};
 use etcs_vars::parts::{VarSink, Variables, bits_of_all};
 use etcs_vars::{BuildFault, Var};
 use std::alloc::{AllocError, Global};
@@ -192,8 +194,20 @@ impl Part for Authority {
         let _ = &self.end_timer;
     }
 
+    #[tactic(auto, unfolding(crate::specs::Authorities::authority_from, crate::specs::Authorities::sections_from))]
     fn take(alloc: Global, numbers: &mut Numbers) -> Result<Option<Authority>, AllocError> {
-        read_authority(alloc, numbers)
+        let sections = taken!(take_list(alloc, Var::N_ITER, numbers)?);
+        let end = taken!(Section::end_from_numbers(numbers));
+        let end_timer = taken!(take_end_timer(numbers));
+        let danger_point = taken!(take_danger_point(numbers));
+        let overlap = taken!(take_overlap(numbers));
+        Ok(Some(Authority {
+            end_timer,
+            danger_point,
+            overlap,
+            end,
+            sections: ListOf::from_vec(sections),
+        }))
     }
 
     fn try_clone(&self, alloc: Global) -> Result<Authority, AllocError> {
@@ -205,35 +219,4 @@ impl Part for Authority {
             sections: ListOf::from_vec(clone_all(alloc, self.sections.as_slice())?),
         })
     }
-}
-
-/// The authority that the numbers begin with.
-#[tactic(auto, unfolding(crate::specs::Authorities::authority_from, crate::specs::Authorities::sections_from))]
-fn read_authority(alloc: Global, numbers: &mut Numbers) -> Result<Option<Authority>, AllocError>
-    ensures part { IfOk result (λ o. IfSome o (λ a. IsAuthority a)) }
-    ensures from { IfOk result (λ o. IfSome o (λ a. authority_from numbers.old ≡ Some (a, numbers.new))) }
-    ensures none { IfOk result (λ o. IfNone o (authority_from numbers.old ≡ None)) }
-{
-    let Some(sections) = take_list(alloc, Var::N_ITER, numbers)? else {
-        return Ok(None);
-    };
-    let Some(end) = Section::end_from_numbers(numbers) else {
-        return Ok(None);
-    };
-    let Some(end_timer) = take_end_timer(numbers) else {
-        return Ok(None);
-    };
-    let Some(danger_point) = take_danger_point(numbers) else {
-        return Ok(None);
-    };
-    let Some(overlap) = take_overlap(numbers) else {
-        return Ok(None);
-    };
-    Ok(Some(Authority {
-        end_timer,
-        danger_point,
-        overlap,
-        end,
-        sections: ListOf::from_vec(sections),
-    }))
 }

@@ -4,21 +4,40 @@
 ghost use Rattle.std.specs.Prelude.{◌≡◌, None, Some, IfErr, IfSome, IfNone, OnOk, OnErr};
 ghost use Rattle.etcs_parts.specs.Authorities.{end_timer_fault, end_timer_reading, end_timer_from, danger_fault, danger_reading, danger_from, overlap_fault, overlap_reading, overlap_from};
 
+use crate::groups::{check_group, send_group, take_group};
 use etcs_bodies::{Numbers, check};
 use etcs_vars::parts::VarSink;
 use etcs_vars::{BuildFault, Var};
 use std::alloc::AllocError;
+
+/// The numbers of the timer of the end section.
+macro_rules! end_timer {
+    ($then:ident: $($with:tt)*) => {
+        $then! { { $($with)* } Q_ENDTIMER time: T_ENDTIMER u16, start: D_ENDTIMERSTARTLOC u16 }
+    };
+}
+
+/// The numbers of a danger point.
+macro_rules! danger_point {
+    ($then:ident: $($with:tt)*) => {
+        $then! { { $($with)* } Q_DANGERPOINT distance: D_DP u16, speed: V_RELEASEDP u8 }
+    };
+}
+
+/// The numbers of an overlap.
+macro_rules! overlap {
+    ($then:ident: $($with:tt)*) => {
+        $then! { { $($with)* }
+            Q_OVERLAP start: D_STARTOL u16, time: T_OL u16, distance: D_OL u16, speed: V_RELEASEOL u8 }
+    };
+}
 
 /// Refuses a timer of the end section that has a fault.
 pub(crate) fn check_end_timer(end_timer: Option<(u16, u16)>) -> Result<(), BuildFault>
     ensures ok { OnOk result (end_timer_fault end_timer ≡ None) }
     ensures fault { IfErr result (λ e. end_timer_fault end_timer ≡ Some e) }
 {
-    if let Some((time, start)) = end_timer {
-        check(Var::T_ENDTIMER, u64::from(time))?;
-        check(Var::D_ENDTIMERSTARTLOC, u64::from(start))?;
-    }
-    Ok(())
+    end_timer!(check_group: end_timer)
 }
 
 /// Sends the timer of the end section, after its flag.
@@ -29,14 +48,7 @@ pub(crate) fn send_end_timer<S: VarSink>(
     ensures ok { OnOk result (out.new ≡ S.with out.old (end_timer_reading end_timer)) }
     ensures err { OnErr result (S.failed out.old out.new) }
 {
-    match end_timer {
-        None => out.send(&[(Var::Q_ENDTIMER, 0)]),
-        Some((time, start)) => out.send(&[
-            (Var::Q_ENDTIMER, 1),
-            (Var::T_ENDTIMER, u64::from(time)),
-            (Var::D_ENDTIMERSTARTLOC, u64::from(start)),
-        ]),
-    }
+    end_timer!(send_group: end_timer, out)
 }
 
 /// The timer of the end section that the numbers begin with, after its flag.
@@ -46,12 +58,7 @@ pub(crate) fn take_end_timer(numbers: &mut Numbers) -> Option<Option<(u16, u16)>
     ensures from { IfSome result (λ t. end_timer_from numbers.old ≡ Some (t, numbers.new)) }
     ensures none { IfNone result (end_timer_from numbers.old ≡ None) }
 {
-    if !numbers.flag()? {
-        return Some(None);
-    }
-    let time = numbers.next(Var::T_ENDTIMER)? as u16;
-    let start = numbers.next(Var::D_ENDTIMERSTARTLOC)? as u16;
-    Some(Some((time, start)))
+    end_timer!(take_group: numbers)
 }
 
 /// Refuses a danger point that has a fault.
@@ -59,11 +66,7 @@ pub(crate) fn check_danger_point(danger_point: Option<(u16, u8)>) -> Result<(), 
     ensures ok { OnOk result (danger_fault danger_point ≡ None) }
     ensures fault { IfErr result (λ e. danger_fault danger_point ≡ Some e) }
 {
-    if let Some((distance, speed)) = danger_point {
-        check(Var::D_DP, u64::from(distance))?;
-        check(Var::V_RELEASEDP, u64::from(speed))?;
-    }
-    Ok(())
+    danger_point!(check_group: danger_point)
 }
 
 /// Sends the danger point, after its flag.
@@ -74,14 +77,7 @@ pub(crate) fn send_danger_point<S: VarSink>(
     ensures ok { OnOk result (out.new ≡ S.with out.old (danger_reading danger_point)) }
     ensures err { OnErr result (S.failed out.old out.new) }
 {
-    match danger_point {
-        None => out.send(&[(Var::Q_DANGERPOINT, 0)]),
-        Some((distance, speed)) => out.send(&[
-            (Var::Q_DANGERPOINT, 1),
-            (Var::D_DP, u64::from(distance)),
-            (Var::V_RELEASEDP, u64::from(speed)),
-        ]),
-    }
+    danger_point!(send_group: danger_point, out)
 }
 
 /// The danger point that the numbers begin with, after its flag.
@@ -91,12 +87,7 @@ pub(crate) fn take_danger_point(numbers: &mut Numbers) -> Option<Option<(u16, u8
     ensures from { IfSome result (λ p. danger_from numbers.old ≡ Some (p, numbers.new)) }
     ensures none { IfNone result (danger_from numbers.old ≡ None) }
 {
-    if !numbers.flag()? {
-        return Some(None);
-    }
-    let distance = numbers.next(Var::D_DP)? as u16;
-    let speed = numbers.next(Var::V_RELEASEDP)? as u8;
-    Some(Some((distance, speed)))
+    danger_point!(take_group: numbers)
 }
 
 /// Refuses an overlap that has a fault.
@@ -104,13 +95,7 @@ pub(crate) fn check_overlap(overlap: Option<(u16, u16, u16, u8)>) -> Result<(), 
     ensures ok { OnOk result (overlap_fault overlap ≡ None) }
     ensures fault { IfErr result (λ e. overlap_fault overlap ≡ Some e) }
 {
-    if let Some((start, time, distance, speed)) = overlap {
-        check(Var::D_STARTOL, u64::from(start))?;
-        check(Var::T_OL, u64::from(time))?;
-        check(Var::D_OL, u64::from(distance))?;
-        check(Var::V_RELEASEOL, u64::from(speed))?;
-    }
-    Ok(())
+    overlap!(check_group: overlap)
 }
 
 /// Sends the overlap, after its flag.
@@ -121,16 +106,7 @@ pub(crate) fn send_overlap<S: VarSink>(
     ensures ok { OnOk result (out.new ≡ S.with out.old (overlap_reading overlap)) }
     ensures err { OnErr result (S.failed out.old out.new) }
 {
-    match overlap {
-        None => out.send(&[(Var::Q_OVERLAP, 0)]),
-        Some((start, time, distance, speed)) => out.send(&[
-            (Var::Q_OVERLAP, 1),
-            (Var::D_STARTOL, u64::from(start)),
-            (Var::T_OL, u64::from(time)),
-            (Var::D_OL, u64::from(distance)),
-            (Var::V_RELEASEOL, u64::from(speed)),
-        ]),
-    }
+    overlap!(send_group: overlap, out)
 }
 
 /// The overlap that the numbers begin with, after its flag.
@@ -140,12 +116,5 @@ pub(crate) fn take_overlap(numbers: &mut Numbers) -> Option<Option<(u16, u16, u1
     ensures from { IfSome result (λ o. overlap_from numbers.old ≡ Some (o, numbers.new)) }
     ensures none { IfNone result (overlap_from numbers.old ≡ None) }
 {
-    if !numbers.flag()? {
-        return Some(None);
-    }
-    let start = numbers.next(Var::D_STARTOL)? as u16;
-    let time = numbers.next(Var::T_OL)? as u16;
-    let distance = numbers.next(Var::D_OL)? as u16;
-    let speed = numbers.next(Var::V_RELEASEOL)? as u8;
-    Some(Some((start, time, distance, speed)))
+    overlap!(take_group: numbers)
 }

@@ -1,8 +1,8 @@
 //! A balise group of a list.
 
-ghost use Rattle.std.specs.Prelude.{◌≡◌, ◌++◌, None, Some, IfOk, IfErr, IfSome, IfNone, OnOk};
+ghost use Rattle.std.specs.Prelude.{◌≡◌, None, Some, IfOk, IfErr, OnOk};
 
-use etcs_bodies::{Entry, Numbers, Part, check};
+use etcs_bodies::{Entry, Numbers, Part, check, taken};
 use etcs_vars::parts::{VarSink, Variables};
 use etcs_vars::{BuildFault, Var};
 use std::alloc::{AllocError, Global};
@@ -28,7 +28,7 @@ impl Model for BaliseAt {
 }
 
 impl BaliseAt {
-    ghost use Rattle.etcs_parts.specs.BalisesAt.{balise_at_value, balise_at_fault, IsBaliseAt, balise_at_from};
+    ghost use Rattle.etcs_parts.specs.BalisesAt.{balise_at_value, balise_at_fault};
 
     /// The group `nid_bg`; `nid_c` is given where its country or region is another than that of the group before.
     ///
@@ -59,22 +59,6 @@ impl BaliseAt {
         ensures { result ≡ self.now.nid_bg }
     {
         self.nid_bg
-    }
-
-    /// The group that the numbers begin with.
-    #[tactic(auto, unfolding(crate::specs::BalisesAt::balise_at_from))]
-    fn from_numbers(numbers: &mut Numbers) -> Option<BaliseAt>
-        ensures part { IfSome result (λ b. IsBaliseAt b) }
-        ensures from { IfSome result (λ b. balise_at_from numbers.old ≡ Some (b, numbers.new)) }
-        ensures none { IfNone result (balise_at_from numbers.old ≡ None) }
-    {
-        let nid_c = if numbers.flag()? {
-            Some(numbers.next(Var::NID_C)? as u16)
-        } else {
-            None
-        };
-        let nid_bg = numbers.next(Var::NID_BG)? as u16;
-        Some(BaliseAt { nid_c, nid_bg })
     }
 }
 
@@ -123,8 +107,15 @@ impl Part for BaliseAt {
         let _ = &self.nid_bg;
     }
 
+    #[tactic(auto, unfolding(crate::specs::BalisesAt::balise_at_from))]
     fn take(_alloc: Global, numbers: &mut Numbers) -> Result<Option<BaliseAt>, AllocError> {
-        Ok(BaliseAt::from_numbers(numbers))
+        let nid_c = if taken!(numbers.flag()) {
+            Some(taken!(numbers.next(Var::NID_C)) as u16)
+        } else {
+            None
+        };
+        let nid_bg = taken!(numbers.next(Var::NID_BG)) as u16;
+        Ok(Some(BaliseAt { nid_c, nid_bg }))
     }
 
     fn try_clone(&self, _alloc: Global) -> Result<BaliseAt, AllocError> {

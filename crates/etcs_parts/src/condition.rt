@@ -1,12 +1,19 @@
 //! A track condition.
 
-ghost use Rattle.std.specs.Prelude.{◌≡◌, ◌++◌, None, Some, IfOk, IfErr, IfSome, IfNone, OnOk};
+ghost use Rattle.std.specs.Prelude.{◌≡◌, None, Some, IfOk, IfErr, OnOk};
 
-use etcs_bodies::{Entry, Numbers, Part, check};
+use etcs_bodies::{Entry, Numbers, Part, build_part, send_fields, take_fields};
 use etcs_vars::parts::{VarSink, Variables};
 use etcs_vars::{BuildFault, Var};
 use std::alloc::{AllocError, Global};
 use std::marker::Model;
+
+/// Its fields in the order of its row.
+macro_rules! fields {
+    ($then:ident: $($with:tt)*) => {
+        $then! { { $($with)* } d_trackcond: D_TRACKCOND u16, l_trackcond: L_TRACKCOND u16, m_trackcond: M_TRACKCOND u8 }
+    };
+}
 
 /// A track condition (packet 68; SUBSET-026, 7.4 and 7.5).
 ///
@@ -31,7 +38,7 @@ impl Model for Condition {
 }
 
 impl Condition {
-    ghost use Rattle.etcs_parts.specs.Conditions.{condition_value, condition_fault, IsCondition, condition_from};
+    ghost use Rattle.etcs_parts.specs.Conditions.{condition_value, condition_fault};
 
     /// The condition `m_trackcond` from `d_trackcond` on, over `l_trackcond`.
     ///
@@ -44,14 +51,7 @@ impl Condition {
         ensures fits { OnOk result (condition_fault (condition_value d_trackcond l_trackcond m_trackcond) ≡ None) }
         ensures fault { IfErr result (λ e. condition_fault (condition_value d_trackcond l_trackcond m_trackcond) ≡ Some e) }
     {
-        check(Var::D_TRACKCOND, u64::from(d_trackcond))?;
-        check(Var::L_TRACKCOND, u64::from(l_trackcond))?;
-        check(Var::M_TRACKCOND, u64::from(m_trackcond))?;
-        Ok(Condition {
-            d_trackcond,
-            l_trackcond,
-            m_trackcond,
-        })
+        fields!(build_part: d_trackcond, l_trackcond, m_trackcond)
     }
 
     /// The distance to the condition, in steps of Q_SCALE from the one before.
@@ -74,23 +74,6 @@ impl Condition {
     {
         self.m_trackcond
     }
-
-    /// The condition that the numbers begin with.
-    #[tactic(auto, unfolding(crate::specs::Conditions::condition_from))]
-    fn from_numbers(numbers: &mut Numbers) -> Option<Condition>
-        ensures part { IfSome result (λ c. IsCondition c) }
-        ensures from { IfSome result (λ c. condition_from numbers.old ≡ Some (c, numbers.new)) }
-        ensures none { IfNone result (condition_from numbers.old ≡ None) }
-    {
-        let d_trackcond = numbers.next(Var::D_TRACKCOND)? as u16;
-        let l_trackcond = numbers.next(Var::L_TRACKCOND)? as u16;
-        let m_trackcond = numbers.next(Var::M_TRACKCOND)? as u8;
-        Some(Condition {
-            d_trackcond,
-            l_trackcond,
-            m_trackcond,
-        })
-    }
 }
 
 impl Variables for Condition {
@@ -104,11 +87,7 @@ impl Variables for Condition {
     }
 
     fn send<S: VarSink>(&self, out: &mut S) -> Result<(), AllocError> {
-        out.send(&[
-            (Var::D_TRACKCOND, u64::from(self.d_trackcond)),
-            (Var::L_TRACKCOND, u64::from(self.l_trackcond)),
-            (Var::M_TRACKCOND, u64::from(self.m_trackcond)),
-        ])
+        fields!(send_fields: self, out)
     }
 }
 
@@ -129,8 +108,9 @@ impl Part for Condition {
         let _ = &self.d_trackcond;
     }
 
+    #[tactic(auto, unfolding(crate::specs::Conditions::condition_from))]
     fn take(_alloc: Global, numbers: &mut Numbers) -> Result<Option<Condition>, AllocError> {
-        Ok(Condition::from_numbers(numbers))
+        fields!(take_fields: _alloc, numbers)
     }
 
     fn try_clone(&self, _alloc: Global) -> Result<Condition, AllocError> {

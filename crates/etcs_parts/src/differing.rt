@@ -1,9 +1,9 @@
 //! A speed for some trains.
 
-ghost use Rattle.std.specs.Prelude.{◌≡◌, ◌++◌, None, Some, IfOk, IfErr, IfSome, IfNone, OnOk};
+ghost use Rattle.std.specs.Prelude.{◌≡◌, None, Some, IfOk, IfErr, OnOk};
 ghost use Rattle.etcs_parts.specs.Differings.{category_of};
 
-use etcs_bodies::{Numbers, Part, check};
+use etcs_bodies::{Entry, Numbers, Part, check, taken};
 use etcs_vars::parts::{VarSink, Variables};
 use etcs_vars::{BuildFault, Var};
 use std::alloc::{AllocError, Global};
@@ -30,7 +30,7 @@ impl Model for Differing {
 }
 
 impl Differing {
-    ghost use Rattle.etcs_parts.specs.Differings.{differing_value, differing_fault, IsDiffering, differing_from};
+    ghost use Rattle.etcs_parts.specs.Differings.{differing_value, differing_fault};
 
     /// A speed for the trains of a category.
     ///
@@ -77,27 +77,6 @@ impl Differing {
         ensures { result ≡ self.now.v_diff }
     {
         self.v_diff
-    }
-
-    /// The entry that the numbers begin with.
-    #[tactic(auto, unfolding(crate::specs::Differings::differing_from))]
-    fn from_numbers(numbers: &mut Numbers) -> Option<Differing>
-        ensures part { IfSome result (λ d. IsDiffering d) }
-        ensures from { IfSome result (λ d. differing_from numbers.old ≡ Some (d, numbers.new)) }
-        ensures none { IfNone result (differing_from numbers.old ≡ None) }
-    {
-        let q_diff = numbers.next(Var::Q_DIFF)? as u8;
-        let category = if q_diff == 0 {
-            numbers.next(Var::NC_CDDIFF)? as u8
-        } else {
-            numbers.next(Var::NC_DIFF)? as u8
-        };
-        let v_diff = numbers.next(Var::V_DIFF)? as u8;
-        Some(Differing {
-            q_diff,
-            category,
-            v_diff,
-        })
     }
 }
 
@@ -147,11 +126,36 @@ impl Part for Differing {
         let _ = &self.q_diff;
     }
 
+    #[tactic(auto, unfolding(crate::specs::Differings::differing_from))]
     fn take(_alloc: Global, numbers: &mut Numbers) -> Result<Option<Differing>, AllocError> {
-        Ok(Differing::from_numbers(numbers))
+        let q_diff = taken!(numbers.next(Var::Q_DIFF)) as u8;
+        let category = if q_diff == 0 {
+            taken!(numbers.next(Var::NC_CDDIFF)) as u8
+        } else {
+            taken!(numbers.next(Var::NC_DIFF)) as u8
+        };
+        let v_diff = taken!(numbers.next(Var::V_DIFF)) as u8;
+        Ok(Some(Differing {
+            q_diff,
+            category,
+            v_diff,
+        }))
     }
 
     fn try_clone(&self, _alloc: Global) -> Result<Differing, AllocError> {
         Ok(*self)
     }
+}
+
+impl Entry for Differing {
+    ghost use Rattle.std.specs.Prelude.{refl};
+    ghost use Rattle.etcs_parts.specs.laws.Differings.{differing_most};
+
+    const MOST: usize = 13;
+
+    ghost MOST = { 13 };
+
+    ghost most = { λ d h. differing_most d };
+
+    ghost short = { refl };
 }

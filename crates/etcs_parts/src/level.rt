@@ -1,8 +1,8 @@
 //! A level.
 
-ghost use Rattle.std.specs.Prelude.{◌≡◌, ◌++◌, None, Some, IfOk, IfErr, IfSome, IfNone, OnOk};
+ghost use Rattle.std.specs.Prelude.{◌≡◌, None, Some, IfOk, IfErr, OnOk};
 
-use etcs_bodies::{Entry, Numbers, Part, check, check_guard};
+use etcs_bodies::{Entry, Numbers, Part, check, check_guard, taken};
 use etcs_vars::parts::{VarSink, Variables};
 use etcs_vars::{BuildFault, Var};
 use std::alloc::{AllocError, Global};
@@ -28,7 +28,7 @@ impl Model for Level {
 }
 
 impl Level {
-    ghost use Rattle.etcs_parts.specs.Levels.{level_value, level_fault, IsLevel, level_from};
+    ghost use Rattle.etcs_parts.specs.Levels.{level_value, level_fault};
 
     /// A level.
     ///
@@ -65,22 +65,6 @@ impl Level {
         ensures { result ≡ self.now.nid_ntc }
     {
         self.nid_ntc
-    }
-
-    /// The level that the numbers begin with.
-    #[tactic(auto, using(etcs_bodies::specs::laws::Guards::guard_ok), unfolding(crate::specs::Levels::level_from, etcs_bodies::specs::Guards::guard_fault))]
-    pub(crate) fn from_numbers(numbers: &mut Numbers) -> Option<Level>
-        ensures part { IfSome result (λ l. IsLevel l) }
-        ensures from { IfSome result (λ l. level_from numbers.old ≡ Some (l, numbers.new)) }
-        ensures none { IfNone result (level_from numbers.old ≡ None) }
-    {
-        let m_leveltr = numbers.next(Var::M_LEVELTR)? as u8;
-        let nid_ntc = if m_leveltr == 1 {
-            Some(numbers.next(Var::NID_NTC)? as u8)
-        } else {
-            None
-        };
-        Some(Level { m_leveltr, nid_ntc })
     }
 }
 
@@ -125,8 +109,15 @@ impl Part for Level {
         let _ = &self.m_leveltr;
     }
 
+    #[tactic(auto, using(etcs_bodies::specs::laws::Guards::guard_ok), unfolding(crate::specs::Levels::level_from, etcs_bodies::specs::Guards::guard_fault))]
     fn take(_alloc: Global, numbers: &mut Numbers) -> Result<Option<Level>, AllocError> {
-        Ok(Level::from_numbers(numbers))
+        let m_leveltr = taken!(numbers.next(Var::M_LEVELTR)) as u8;
+        let nid_ntc = if m_leveltr == 1 {
+            Some(taken!(numbers.next(Var::NID_NTC)) as u8)
+        } else {
+            None
+        };
+        Ok(Some(Level { m_leveltr, nid_ntc }))
     }
 
     fn try_clone(&self, _alloc: Global) -> Result<Level, AllocError> {

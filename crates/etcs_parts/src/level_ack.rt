@@ -1,13 +1,18 @@
 //! A level with its length of acknowledgement.
 
-ghost use Rattle.std.specs.Prelude.{◌≡◌, ◌++◌, None, Some, IfOk, IfErr, IfSome, IfNone, OnOk};
+ghost use Rattle.std.specs.Prelude.{◌≡◌, None, Some, IfOk, IfErr, OnOk};
 
 use crate::level::Level;
-use etcs_bodies::{Entry, Numbers, Part, check};
+use etcs_bodies::{Entry, Numbers, Part, build_part, send_fields, take_fields};
 use etcs_vars::parts::{VarSink, Variables};
 use etcs_vars::{BuildFault, Var};
 use std::alloc::{AllocError, Global};
 use std::marker::Model;
+
+/// Its fields in the order of its row.
+macro_rules! fields {
+    ($then:ident: $($with:tt)*) => { $then! { { $($with)* } level: Level; l_ackleveltr: L_ACKLEVELTR u16 } };
+}
 
 /// A level of a level transition order (packet 41; SUBSET-026, 7.4 and 7.5).
 ///
@@ -31,7 +36,7 @@ impl Model for LevelAck {
 }
 
 impl LevelAck {
-    ghost use Rattle.etcs_parts.specs.Levels.{level_ack_value, level_ack_fault, IsLevelAck, level_ack_from};
+    ghost use Rattle.etcs_parts.specs.Levels.{level_ack_value, level_ack_fault};
 
     /// A level and its length of acknowledgement.
     ///
@@ -56,12 +61,7 @@ impl LevelAck {
         ensures fits { OnOk result (level_ack_fault (level_ack_value m_leveltr nid_ntc l_ackleveltr) ≡ None) }
         ensures fault { IfErr result (λ e. level_ack_fault (level_ack_value m_leveltr nid_ntc l_ackleveltr) ≡ Some e) }
     {
-        let level = Level::new(m_leveltr, nid_ntc)?;
-        check(Var::L_ACKLEVELTR, u64::from(l_ackleveltr))?;
-        Ok(LevelAck {
-            l_ackleveltr,
-            level,
-        })
+        fields!(build_part: Level::new(m_leveltr, nid_ntc)?; l_ackleveltr)
     }
 
     /// The number of the level: 0 for level 0, 1 for level NTC, 2 for level 1, 3 for level 2, 4
@@ -85,21 +85,6 @@ impl LevelAck {
     {
         self.l_ackleveltr
     }
-
-    /// The level that the numbers begin with.
-    #[tactic(auto, unfolding(crate::specs::Levels::level_ack_from))]
-    fn from_numbers(numbers: &mut Numbers) -> Option<LevelAck>
-        ensures part { IfSome result (λ l. IsLevelAck l) }
-        ensures from { IfSome result (λ l. level_ack_from numbers.old ≡ Some (l, numbers.new)) }
-        ensures none { IfNone result (level_ack_from numbers.old ≡ None) }
-    {
-        let level = Level::from_numbers(numbers)?;
-        let l_ackleveltr = numbers.next(Var::L_ACKLEVELTR)? as u16;
-        Some(LevelAck {
-            l_ackleveltr,
-            level,
-        })
-    }
 }
 
 impl Variables for LevelAck {
@@ -113,8 +98,7 @@ impl Variables for LevelAck {
     }
 
     fn send<S: VarSink>(&self, out: &mut S) -> Result<(), AllocError> {
-        self.level.send(out)?;
-        out.send(&[(Var::L_ACKLEVELTR, u64::from(self.l_ackleveltr))])
+        fields!(send_fields: self, out)
     }
 }
 
@@ -135,8 +119,9 @@ impl Part for LevelAck {
         let _ = &self.l_ackleveltr;
     }
 
-    fn take(_alloc: Global, numbers: &mut Numbers) -> Result<Option<LevelAck>, AllocError> {
-        Ok(LevelAck::from_numbers(numbers))
+    #[tactic(auto, unfolding(crate::specs::Levels::level_ack_from))]
+    fn take(alloc: Global, numbers: &mut Numbers) -> Result<Option<LevelAck>, AllocError> {
+        fields!(take_fields: alloc, numbers)
     }
 
     fn try_clone(&self, _alloc: Global) -> Result<LevelAck, AllocError> {

@@ -1,19 +1,28 @@
 //! A linked balise group.
 
-ghost use Rattle.std.specs.Prelude.{◌≡◌, ◌++◌, None, Some, IfOk, IfErr, IfSome, IfNone, OnOk};
+ghost use Rattle.std.specs.Prelude.{◌≡◌, None, Some, IfOk, IfErr, OnOk};
 
-use etcs_bodies::{Entry, Numbers, Part, check};
+use crate::balise_at::BaliseAt;
+use etcs_bodies::{Entry, Numbers, Part, build_part, send_fields, take_fields};
 use etcs_vars::parts::{VarSink, Variables};
 use etcs_vars::{BuildFault, Var};
 use std::alloc::{AllocError, Global};
 use std::marker::Model;
 
+/// Its fields in the order of its row.
+macro_rules! fields {
+    ($then:ident: $($with:tt)*) => {
+        $then! { { $($with)* }
+            d_link: D_LINK u16; balise: BaliseAt; q_linkorientation: Q_LINKORIENTATION bool,
+            q_linkreaction: Q_LINKREACTION u8, q_locacc: Q_LOCACC u8 }
+    };
+}
+
 /// A linked balise group (packet 5; SUBSET-026, 7.4 and 7.5).
 #[derive(Clone, Copy, Debug, PartialEq, Eq)]
 pub struct Link {
     d_link: u16,
-    nid_c: Option<u16>,
-    nid_bg: u16,
+    balise: BaliseAt,
     q_linkorientation: bool,
     q_linkreaction: u8,
     q_locacc: u8,
@@ -21,18 +30,19 @@ pub struct Link {
 
 impl Model for Link {
     ghost use Rattle.etcs_parts.specs.Links.{LinkValue, link_value, IsLink};
+    ghost use Rattle.etcs_parts.specs.BalisesAt.{balise_at_value};
 
     ghost Value = { LinkValue };
 
-    ghost view = { λ s. link_value s.d_link s.nid_c s.nid_bg s.q_linkorientation s.q_linkreaction s.q_locacc };
+    ghost view = { λ s. link_value s.d_link s.balise.nid_c s.balise.nid_bg s.q_linkorientation s.q_linkreaction s.q_locacc };
 
-    ghost invariant = { λ s. IsLink (link_value s.d_link s.nid_c s.nid_bg s.q_linkorientation s.q_linkreaction s.q_locacc) };
+    ghost invariant = { λ s. IsLink (link_value s.d_link s.balise.nid_c s.balise.nid_bg s.q_linkorientation s.q_linkreaction s.q_locacc) };
 
-    ghost inverse = { λ s. record { d_link = s.d_link; nid_c = s.nid_c; nid_bg = s.nid_bg; q_linkorientation = s.q_linkorientation; q_linkreaction = s.q_linkreaction; q_locacc = s.q_locacc } };
+    ghost inverse = { λ s. record { d_link = s.d_link; balise = balise_at_value s.nid_c s.nid_bg; q_linkorientation = s.q_linkorientation; q_linkreaction = s.q_linkreaction; q_locacc = s.q_locacc } };
 }
 
 impl Link {
-    ghost use Rattle.etcs_parts.specs.Links.{link_value, link_fault, IsLink, link_from};
+    ghost use Rattle.etcs_parts.specs.Links.{link_value, link_fault};
 
     /// The group `d_link` after the one before, in steps of Q_SCALE; `nid_c` is given where its country or
     /// region is another.
@@ -53,21 +63,7 @@ impl Link {
         ensures fits { OnOk result (link_fault (link_value d_link nid_c nid_bg q_linkorientation q_linkreaction q_locacc) ≡ None) }
         ensures fault { IfErr result (λ e. link_fault (link_value d_link nid_c nid_bg q_linkorientation q_linkreaction q_locacc) ≡ Some e) }
     {
-        check(Var::D_LINK, u64::from(d_link))?;
-        if let Some(country) = nid_c {
-            check(Var::NID_C, u64::from(country))?;
-        }
-        check(Var::NID_BG, u64::from(nid_bg))?;
-        check(Var::Q_LINKREACTION, u64::from(q_linkreaction))?;
-        check(Var::Q_LOCACC, u64::from(q_locacc))?;
-        Ok(Link {
-            d_link,
-            nid_c,
-            nid_bg,
-            q_linkorientation,
-            q_linkreaction,
-            q_locacc,
-        })
+        fields!(build_part: d_link; BaliseAt::new(nid_c, nid_bg)?; q_linkorientation, q_linkreaction, q_locacc)
     }
 
     /// The distance to the group, in steps of Q_SCALE from the one before.
@@ -81,14 +77,14 @@ impl Link {
     pub fn nid_c(&self) -> Option<u16>
         ensures { result ≡ self.now.nid_c }
     {
-        self.nid_c
+        self.balise.nid_c()
     }
 
     /// The group within its country or region.
     pub fn nid_bg(&self) -> u16
         ensures { result ≡ self.now.nid_bg }
     {
-        self.nid_bg
+        self.balise.nid_bg()
     }
 
     /// Whether the train passes the group in its nominal direction.
@@ -111,33 +107,6 @@ impl Link {
     {
         self.q_locacc
     }
-
-    /// The link that the numbers begin with.
-    #[tactic(auto, unfolding(crate::specs::Links::link_from))]
-    fn from_numbers(numbers: &mut Numbers) -> Option<Link>
-        ensures part { IfSome result (λ l. IsLink l) }
-        ensures from { IfSome result (λ l. link_from numbers.old ≡ Some (l, numbers.new)) }
-        ensures none { IfNone result (link_from numbers.old ≡ None) }
-    {
-        let d_link = numbers.next(Var::D_LINK)? as u16;
-        let nid_c = if numbers.flag()? {
-            Some(numbers.next(Var::NID_C)? as u16)
-        } else {
-            None
-        };
-        let nid_bg = numbers.next(Var::NID_BG)? as u16;
-        let q_linkorientation = numbers.flag()?;
-        let q_linkreaction = numbers.next(Var::Q_LINKREACTION)? as u8;
-        let q_locacc = numbers.next(Var::Q_LOCACC)? as u8;
-        Some(Link {
-            d_link,
-            nid_c,
-            nid_bg,
-            q_linkorientation,
-            q_linkreaction,
-            q_locacc,
-        })
-    }
 }
 
 impl Variables for Link {
@@ -147,32 +116,14 @@ impl Variables for Link {
 
     #[tactic(auto, using(crate::specs::laws::Links::link_bits_near, crate::specs::laws::Links::link_bits_far))]
     fn bits(&self) -> usize {
-        match self.nid_c {
+        match self.balise.nid_c() {
             None => 39,
             Some(_) => 49,
         }
     }
 
     fn send<S: VarSink>(&self, out: &mut S) -> Result<(), AllocError> {
-        match self.nid_c {
-            None => out.send(&[
-                (Var::D_LINK, u64::from(self.d_link)),
-                (Var::Q_NEWCOUNTRY, 0),
-                (Var::NID_BG, u64::from(self.nid_bg)),
-                (Var::Q_LINKORIENTATION, u64::from(self.q_linkorientation)),
-                (Var::Q_LINKREACTION, u64::from(self.q_linkreaction)),
-                (Var::Q_LOCACC, u64::from(self.q_locacc)),
-            ]),
-            Some(country) => out.send(&[
-                (Var::D_LINK, u64::from(self.d_link)),
-                (Var::Q_NEWCOUNTRY, 1),
-                (Var::NID_C, u64::from(country)),
-                (Var::NID_BG, u64::from(self.nid_bg)),
-                (Var::Q_LINKORIENTATION, u64::from(self.q_linkorientation)),
-                (Var::Q_LINKREACTION, u64::from(self.q_linkreaction)),
-                (Var::Q_LOCACC, u64::from(self.q_locacc)),
-            ]),
-        }
+        fields!(send_fields: self, out)
     }
 }
 
@@ -193,8 +144,9 @@ impl Part for Link {
         let _ = &self.d_link;
     }
 
-    fn take(_alloc: Global, numbers: &mut Numbers) -> Result<Option<Link>, AllocError> {
-        Ok(Link::from_numbers(numbers))
+    #[tactic(auto, unfolding(crate::specs::Links::link_from))]
+    fn take(alloc: Global, numbers: &mut Numbers) -> Result<Option<Link>, AllocError> {
+        fields!(take_fields: alloc, numbers)
     }
 
     fn try_clone(&self, _alloc: Global) -> Result<Link, AllocError> {

@@ -1,12 +1,21 @@
 //! An area of a mode.
 
-ghost use Rattle.std.specs.Prelude.{◌≡◌, ◌++◌, None, Some, IfOk, IfErr, IfSome, IfNone, OnOk};
+ghost use Rattle.std.specs.Prelude.{◌≡◌, None, Some, IfOk, IfErr, OnOk};
 
-use etcs_bodies::{Entry, Numbers, Part, check};
+use etcs_bodies::{Entry, Numbers, Part, build_part, send_fields, take_fields};
 use etcs_vars::parts::{VarSink, Variables};
 use etcs_vars::{BuildFault, Var};
 use std::alloc::{AllocError, Global};
 use std::marker::Model;
+
+/// Its fields in the order of its row.
+macro_rules! fields {
+    ($then:ident: $($with:tt)*) => {
+        $then! { { $($with)* }
+            d_mamode: D_MAMODE u16, m_mamode: M_MAMODE u8, v_mamode: V_MAMODE u8, l_mamode: L_MAMODE u16,
+            l_ackmamode: L_ACKMAMODE u16, q_mamode: Q_MAMODE bool }
+    };
+}
 
 /// An area in which the train runs in a mode (packet 80; SUBSET-026, 7.4 and 7.5).
 ///
@@ -34,7 +43,7 @@ impl Model for ModeSection {
 }
 
 impl ModeSection {
-    ghost use Rattle.etcs_parts.specs.ModeSections.{mode_section_value, mode_section_fault, IsModeSection, mode_section_from};
+    ghost use Rattle.etcs_parts.specs.ModeSections.{mode_section_value, mode_section_fault};
 
     /// The area from `d_mamode` on, over `l_mamode`, in which the train runs in the mode `m_mamode` and at most at
     /// `v_mamode`. The driver may acknowledge the mode over `l_ackmamode` before it. `q_mamode` says whether the start
@@ -56,19 +65,7 @@ impl ModeSection {
         ensures fits { OnOk result (mode_section_fault (mode_section_value d_mamode m_mamode v_mamode l_mamode l_ackmamode q_mamode) ≡ None) }
         ensures fault { IfErr result (λ e. mode_section_fault (mode_section_value d_mamode m_mamode v_mamode l_mamode l_ackmamode q_mamode) ≡ Some e) }
     {
-        check(Var::D_MAMODE, u64::from(d_mamode))?;
-        check(Var::M_MAMODE, u64::from(m_mamode))?;
-        check(Var::V_MAMODE, u64::from(v_mamode))?;
-        check(Var::L_MAMODE, u64::from(l_mamode))?;
-        check(Var::L_ACKMAMODE, u64::from(l_ackmamode))?;
-        Ok(ModeSection {
-            d_mamode,
-            m_mamode,
-            v_mamode,
-            l_mamode,
-            l_ackmamode,
-            q_mamode,
-        })
+        fields!(build_part: d_mamode, m_mamode, v_mamode, l_mamode, l_ackmamode, q_mamode)
     }
 
     /// The distance to the area, in steps of Q_SCALE from the one before.
@@ -112,29 +109,6 @@ impl ModeSection {
     {
         self.q_mamode
     }
-
-    /// The area that the numbers begin with.
-    #[tactic(auto, unfolding(crate::specs::ModeSections::mode_section_from))]
-    fn from_numbers(numbers: &mut Numbers) -> Option<ModeSection>
-        ensures part { IfSome result (λ m. IsModeSection m) }
-        ensures from { IfSome result (λ m. mode_section_from numbers.old ≡ Some (m, numbers.new)) }
-        ensures none { IfNone result (mode_section_from numbers.old ≡ None) }
-    {
-        let d_mamode = numbers.next(Var::D_MAMODE)? as u16;
-        let m_mamode = numbers.next(Var::M_MAMODE)? as u8;
-        let v_mamode = numbers.next(Var::V_MAMODE)? as u8;
-        let l_mamode = numbers.next(Var::L_MAMODE)? as u16;
-        let l_ackmamode = numbers.next(Var::L_ACKMAMODE)? as u16;
-        let q_mamode = numbers.flag()?;
-        Some(ModeSection {
-            d_mamode,
-            m_mamode,
-            v_mamode,
-            l_mamode,
-            l_ackmamode,
-            q_mamode,
-        })
-    }
 }
 
 impl Variables for ModeSection {
@@ -148,14 +122,7 @@ impl Variables for ModeSection {
     }
 
     fn send<S: VarSink>(&self, out: &mut S) -> Result<(), AllocError> {
-        out.send(&[
-            (Var::D_MAMODE, u64::from(self.d_mamode)),
-            (Var::M_MAMODE, u64::from(self.m_mamode)),
-            (Var::V_MAMODE, u64::from(self.v_mamode)),
-            (Var::L_MAMODE, u64::from(self.l_mamode)),
-            (Var::L_ACKMAMODE, u64::from(self.l_ackmamode)),
-            (Var::Q_MAMODE, u64::from(self.q_mamode)),
-        ])
+        fields!(send_fields: self, out)
     }
 }
 
@@ -176,8 +143,9 @@ impl Part for ModeSection {
         let _ = &self.d_mamode;
     }
 
+    #[tactic(auto, unfolding(crate::specs::ModeSections::mode_section_from))]
     fn take(_alloc: Global, numbers: &mut Numbers) -> Result<Option<ModeSection>, AllocError> {
-        Ok(ModeSection::from_numbers(numbers))
+        fields!(take_fields: _alloc, numbers)
     }
 
     fn try_clone(&self, _alloc: Global) -> Result<ModeSection, AllocError> {

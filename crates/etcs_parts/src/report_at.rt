@@ -1,12 +1,17 @@
 //! A place at which the train reports its position.
 
-ghost use Rattle.std.specs.Prelude.{◌≡◌, ◌++◌, None, Some, IfOk, IfErr, IfSome, IfNone, OnOk};
+ghost use Rattle.std.specs.Prelude.{◌≡◌, None, Some, IfOk, IfErr, OnOk};
 
-use etcs_bodies::{Entry, Numbers, Part, check};
+use etcs_bodies::{Entry, Numbers, Part, build_part, send_fields, take_fields};
 use etcs_vars::parts::{VarSink, Variables};
 use etcs_vars::{BuildFault, Var};
 use std::alloc::{AllocError, Global};
 use std::marker::Model;
+
+/// Its fields in the order of its row.
+macro_rules! fields {
+    ($then:ident: $($with:tt)*) => { $then! { { $($with)* } d_loc: D_LOC u16, q_lgtloc: Q_LGTLOC bool } };
+}
 
 /// A place at which the train reports its position (packet 58; SUBSET-026, 7.4 and 7.5).
 #[derive(Clone, Copy, Debug, PartialEq, Eq)]
@@ -28,7 +33,7 @@ impl Model for ReportAt {
 }
 
 impl ReportAt {
-    ghost use Rattle.etcs_parts.specs.ReportsAt.{report_at_value, report_at_fault, IsReportAt, report_at_from};
+    ghost use Rattle.etcs_parts.specs.ReportsAt.{report_at_value, report_at_fault};
 
     /// The place `d_loc` after the one before, in steps of Q_SCALE. `q_lgtloc` says whether the train reports when its
     /// front reaches the place, and not its rear.
@@ -41,8 +46,7 @@ impl ReportAt {
         ensures fits { OnOk result (report_at_fault (report_at_value d_loc q_lgtloc) ≡ None) }
         ensures fault { IfErr result (λ e. report_at_fault (report_at_value d_loc q_lgtloc) ≡ Some e) }
     {
-        check(Var::D_LOC, u64::from(d_loc))?;
-        Ok(ReportAt { d_loc, q_lgtloc })
+        fields!(build_part: d_loc, q_lgtloc)
     }
 
     /// The distance to the place, in steps of Q_SCALE from the one before.
@@ -58,18 +62,6 @@ impl ReportAt {
     {
         self.q_lgtloc
     }
-
-    /// The place that the numbers begin with.
-    #[tactic(auto, unfolding(crate::specs::ReportsAt::report_at_from))]
-    fn from_numbers(numbers: &mut Numbers) -> Option<ReportAt>
-        ensures part { IfSome result (λ r. IsReportAt r) }
-        ensures from { IfSome result (λ r. report_at_from numbers.old ≡ Some (r, numbers.new)) }
-        ensures none { IfNone result (report_at_from numbers.old ≡ None) }
-    {
-        let d_loc = numbers.next(Var::D_LOC)? as u16;
-        let q_lgtloc = numbers.flag()?;
-        Some(ReportAt { d_loc, q_lgtloc })
-    }
 }
 
 impl Variables for ReportAt {
@@ -83,10 +75,7 @@ impl Variables for ReportAt {
     }
 
     fn send<S: VarSink>(&self, out: &mut S) -> Result<(), AllocError> {
-        out.send(&[
-            (Var::D_LOC, u64::from(self.d_loc)),
-            (Var::Q_LGTLOC, u64::from(self.q_lgtloc)),
-        ])
+        fields!(send_fields: self, out)
     }
 }
 
@@ -107,8 +96,9 @@ impl Part for ReportAt {
         let _ = &self.d_loc;
     }
 
+    #[tactic(auto, unfolding(crate::specs::ReportsAt::report_at_from))]
     fn take(_alloc: Global, numbers: &mut Numbers) -> Result<Option<ReportAt>, AllocError> {
-        Ok(ReportAt::from_numbers(numbers))
+        fields!(take_fields: _alloc, numbers)
     }
 
     fn try_clone(&self, _alloc: Global) -> Result<ReportAt, AllocError> {

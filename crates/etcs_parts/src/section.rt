@@ -1,13 +1,22 @@
 //! A section of a movement authority.
 
-ghost use Rattle.std.specs.Prelude.{◌≡◌, ◌++◌, None, Some, IfOk, IfErr, IfSome, IfNone, OnOk, OnErr};
+ghost use Rattle.std.specs.Prelude.{◌≡◌, None, Some, IfOk, IfErr, IfSome, IfNone, OnOk, OnErr};
 ghost use Rattle.etcs_parts.specs.Sections.{timer_fault, timer_reading, timer_from};
 
-use etcs_bodies::{Numbers, Part, check};
+use crate::groups::{check_group, send_group, take_group};
+use etcs_bodies::{Numbers, Part, check, taken};
 use etcs_vars::parts::{VarSink, Variables};
 use etcs_vars::{BuildFault, Var};
 use std::alloc::{AllocError, Global};
 use std::marker::Model;
+
+/// The numbers of the timer of a section.
+macro_rules! timer {
+    ($then:ident: $($with:tt)*) => {
+        $then! { { $($with)* }
+            Q_SECTIONTIMER time: T_SECTIONTIMER u16, stop: D_SECTIONTIMERSTOPLOC u16 }
+    };
+}
 
 /// A section of a movement authority (packets 12 and 15; SUBSET-026, 7.4 and 7.5).
 ///
@@ -32,7 +41,7 @@ impl Model for Section {
 }
 
 impl Section {
-    ghost use Rattle.etcs_parts.specs.Sections.{section_value, section_fault, IsSection, section_from, end_reading, end_from};
+    ghost use Rattle.etcs_parts.specs.Sections.{section_value, section_fault, IsSection, end_reading, end_from};
 
     /// A section of this length, in steps of Q_SCALE.
     ///
@@ -53,10 +62,7 @@ impl Section {
         ensures fault { IfErr result (λ e. section_fault (section_value length timer) ≡ Some e) }
     {
         check(Var::L_SECTION, u64::from(length))?;
-        if let Some((time, stop)) = timer {
-            check(Var::T_SECTIONTIMER, u64::from(time))?;
-            check(Var::D_SECTIONTIMERSTOPLOC, u64::from(stop))?;
-        }
+        check_timer(timer)?;
         Ok(Section { length, timer })
     }
 
@@ -73,18 +79,6 @@ impl Section {
         ensures { result ≡ self.now.timer }
     {
         self.timer
-    }
-
-    /// The section that the numbers begin with.
-    #[tactic(auto, unfolding(crate::specs::Sections::section_from))]
-    fn from_numbers(numbers: &mut Numbers) -> Option<Section>
-        ensures part { IfSome result (λ s. IsSection s) }
-        ensures from { IfSome result (λ s. section_from numbers.old ≡ Some (s, numbers.new)) }
-        ensures none { IfNone result (section_from numbers.old ≡ None) }
-    {
-        let length = numbers.next(Var::L_SECTION)? as u16;
-        let timer = take_timer(numbers)?;
-        Some(Section { length, timer })
     }
 
     /// The end section that the numbers begin with.
@@ -109,19 +103,20 @@ impl Section {
     }
 }
 
+/// Refuses a timer that has a fault.
+fn check_timer(timer: Option<(u16, u16)>) -> Result<(), BuildFault>
+    ensures ok { OnOk result (timer_fault timer ≡ None) }
+    ensures fault { IfErr result (λ e. timer_fault timer ≡ Some e) }
+{
+    timer!(check_group: timer)
+}
+
 /// Sends the timer of a section, after its flag.
 fn send_timer<S: VarSink>(timer: Option<(u16, u16)>, out: &mut S) -> Result<(), AllocError>
     ensures ok { OnOk result (out.new ≡ S.with out.old (timer_reading timer)) }
     ensures err { OnErr result (S.failed out.old out.new) }
 {
-    match timer {
-        None => out.send(&[(Var::Q_SECTIONTIMER, 0)]),
-        Some((time, stop)) => out.send(&[
-            (Var::Q_SECTIONTIMER, 1),
-            (Var::T_SECTIONTIMER, u64::from(time)),
-            (Var::D_SECTIONTIMERSTOPLOC, u64::from(stop)),
-        ]),
-    }
+    timer!(send_group: timer, out)
 }
 
 /// The timer that the numbers begin with, after its flag.
@@ -131,12 +126,7 @@ fn take_timer(numbers: &mut Numbers) -> Option<Option<(u16, u16)>>
     ensures from { IfSome result (λ t. timer_from numbers.old ≡ Some (t, numbers.new)) }
     ensures none { IfNone result (timer_from numbers.old ≡ None) }
 {
-    if !numbers.flag()? {
-        return Some(None);
-    }
-    let time = numbers.next(Var::T_SECTIONTIMER)? as u16;
-    let stop = numbers.next(Var::D_SECTIONTIMERSTOPLOC)? as u16;
-    Some(Some((time, stop)))
+    timer!(take_group: numbers)
 }
 
 impl Variables for Section {
@@ -176,8 +166,11 @@ impl Part for Section {
         let _ = &self.length;
     }
 
+    #[tactic(auto, unfolding(crate::specs::Sections::section_from))]
     fn take(_alloc: Global, numbers: &mut Numbers) -> Result<Option<Section>, AllocError> {
-        Ok(Section::from_numbers(numbers))
+        let length = taken!(numbers.next(Var::L_SECTION)) as u16;
+        let timer = taken!(take_timer(numbers));
+        Ok(Some(Section { length, timer }))
     }
 
     fn try_clone(&self, _alloc: Global) -> Result<Section, AllocError> {

@@ -1,8 +1,8 @@
 //! Where a text is shown.
 
-ghost use Rattle.std.specs.Prelude.{◌≡◌, ◌++◌, None, Some, IfOk, IfErr, IfSome, IfNone, OnOk};
+ghost use Rattle.std.specs.Prelude.{◌≡◌, None, Some, IfOk, IfErr, OnOk};
 
-use etcs_bodies::{Numbers, Part, check, check_guard};
+use etcs_bodies::{Numbers, Part, check, check_guard, taken};
 use etcs_vars::parts::{VarSink, Variables};
 use etcs_vars::{BuildFault, Var};
 use std::alloc::{AllocError, Global};
@@ -29,7 +29,7 @@ impl Model for Shown {
 }
 
 impl Shown {
-    ghost use Rattle.etcs_parts.specs.Displays.{shown_value, shown_fault, IsShown, shown_from};
+    ghost use Rattle.etcs_parts.specs.Displays.{shown_value, shown_fault};
 
     /// The mode (M_MODETEXTDISPLAY, SUBSET-026, 7.5: 0 to 15), the level (M_LEVELTEXTDISPLAY: 0 to 5), and for
     /// level NTC, which is 1, the national system (NID_NTC).
@@ -84,27 +84,6 @@ impl Shown {
     {
         self.nid_ntc
     }
-
-    /// The value that the numbers begin with.
-    #[tactic(auto, using(etcs_bodies::specs::laws::Guards::guard_ok), unfolding(crate::specs::Displays::shown_from, etcs_bodies::specs::Guards::guard_fault))]
-    pub(crate) fn from_numbers(numbers: &mut Numbers) -> Option<Shown>
-        ensures part { IfSome result (λ s. IsShown s) }
-        ensures from { IfSome result (λ s. shown_from numbers.old ≡ Some (s, numbers.new)) }
-        ensures none { IfNone result (shown_from numbers.old ≡ None) }
-    {
-        let m_modetextdisplay = numbers.next(Var::M_MODETEXTDISPLAY)? as u8;
-        let m_leveltextdisplay = numbers.next(Var::M_LEVELTEXTDISPLAY)? as u8;
-        let nid_ntc = if m_leveltextdisplay == 1 {
-            Some(numbers.next(Var::NID_NTC)? as u8)
-        } else {
-            None
-        };
-        Some(Shown {
-            m_modetextdisplay,
-            m_leveltextdisplay,
-            nid_ntc,
-        })
-    }
 }
 
 impl Variables for Shown {
@@ -152,8 +131,20 @@ impl Part for Shown {
         let _ = &self.m_modetextdisplay;
     }
 
+    #[tactic(auto, using(etcs_bodies::specs::laws::Guards::guard_ok), unfolding(crate::specs::Displays::shown_from, etcs_bodies::specs::Guards::guard_fault))]
     fn take(_alloc: Global, numbers: &mut Numbers) -> Result<Option<Shown>, AllocError> {
-        Ok(Shown::from_numbers(numbers))
+        let m_modetextdisplay = taken!(numbers.next(Var::M_MODETEXTDISPLAY)) as u8;
+        let m_leveltextdisplay = taken!(numbers.next(Var::M_LEVELTEXTDISPLAY)) as u8;
+        let nid_ntc = if m_leveltextdisplay == 1 {
+            Some(taken!(numbers.next(Var::NID_NTC)) as u8)
+        } else {
+            None
+        };
+        Ok(Some(Shown {
+            m_modetextdisplay,
+            m_leveltextdisplay,
+            nid_ntc,
+        }))
     }
 
     fn try_clone(&self, _alloc: Global) -> Result<Shown, AllocError> {

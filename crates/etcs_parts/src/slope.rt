@@ -1,12 +1,17 @@
 //! A change of gradient.
 
-ghost use Rattle.std.specs.Prelude.{◌≡◌, ◌++◌, None, Some, IfOk, IfErr, IfSome, IfNone, OnOk};
+ghost use Rattle.std.specs.Prelude.{◌≡◌, None, Some, IfOk, IfErr, OnOk};
 
-use etcs_bodies::{Entry, Numbers, Part, check};
+use etcs_bodies::{Entry, Numbers, Part, build_part, send_fields, take_fields};
 use etcs_vars::parts::{VarSink, Variables};
 use etcs_vars::{BuildFault, Var};
 use std::alloc::{AllocError, Global};
 use std::marker::Model;
+
+/// Its fields in the order of its row.
+macro_rules! fields {
+    ($then:ident: $($with:tt)*) => { $then! { { $($with)* } d_gradient: D_GRADIENT u16, q_gdir: Q_GDIR bool, g_a: G_A u8 } };
+}
 
 /// A change of gradient (packet 21; SUBSET-026, 7.4 and 7.5).
 ///
@@ -31,7 +36,7 @@ impl Model for Slope {
 }
 
 impl Slope {
-    ghost use Rattle.etcs_parts.specs.Slopes.{slope_value, slope_fault, IsSlope, slope_from};
+    ghost use Rattle.etcs_parts.specs.Slopes.{slope_value, slope_fault};
 
     /// A gradient `g_a` from `d_gradient` on.
     ///
@@ -46,13 +51,7 @@ impl Slope {
         ensures fits { OnOk result (slope_fault (slope_value d_gradient q_gdir g_a) ≡ None) }
         ensures fault { IfErr result (λ e. slope_fault (slope_value d_gradient q_gdir g_a) ≡ Some e) }
     {
-        check(Var::D_GRADIENT, u64::from(d_gradient))?;
-        check(Var::G_A, u64::from(g_a))?;
-        Ok(Slope {
-            d_gradient,
-            q_gdir,
-            g_a,
-        })
+        fields!(build_part: d_gradient, q_gdir, g_a)
     }
 
     /// The distance to the change, in steps of Q_SCALE.
@@ -75,23 +74,6 @@ impl Slope {
     {
         self.g_a
     }
-
-    /// The slope that the numbers begin with.
-    #[tactic(auto, unfolding(crate::specs::Slopes::slope_from))]
-    fn from_numbers(numbers: &mut Numbers) -> Option<Slope>
-        ensures part { IfSome result (λ s. IsSlope s) }
-        ensures from { IfSome result (λ s. slope_from numbers.old ≡ Some (s, numbers.new)) }
-        ensures none { IfNone result (slope_from numbers.old ≡ None) }
-    {
-        let d_gradient = numbers.next(Var::D_GRADIENT)? as u16;
-        let q_gdir = numbers.flag()?;
-        let g_a = numbers.next(Var::G_A)? as u8;
-        Some(Slope {
-            d_gradient,
-            q_gdir,
-            g_a,
-        })
-    }
 }
 
 impl Variables for Slope {
@@ -105,11 +87,7 @@ impl Variables for Slope {
     }
 
     fn send<S: VarSink>(&self, out: &mut S) -> Result<(), AllocError> {
-        out.send(&[
-            (Var::D_GRADIENT, u64::from(self.d_gradient)),
-            (Var::Q_GDIR, u64::from(self.q_gdir)),
-            (Var::G_A, u64::from(self.g_a)),
-        ])
+        fields!(send_fields: self, out)
     }
 }
 
@@ -130,8 +108,9 @@ impl Part for Slope {
         let _ = &self.d_gradient;
     }
 
+    #[tactic(auto, unfolding(crate::specs::Slopes::slope_from))]
     fn take(_alloc: Global, numbers: &mut Numbers) -> Result<Option<Slope>, AllocError> {
-        Ok(Slope::from_numbers(numbers))
+        fields!(take_fields: _alloc, numbers)
     }
 
     fn try_clone(&self, _alloc: Global) -> Result<Slope, AllocError> {

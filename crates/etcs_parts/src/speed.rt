@@ -4,12 +4,19 @@ ghost use Rattle.std.specs.Prelude.{◌≡◌, Some, OnOk, IfOk, IfErr, None};
 
 use crate::differing::Differing;
 use etcs_bodies::{
-    Entry, ListOf, Numbers, Part, check, check_count, clone_all, hold_all, send_list, take_list,
+    Counted, Entry, Numbers, Part, build_part, copy_fields, send_fields, take_fields,
 };
 use etcs_vars::parts::{VarSink, Variables};
 use etcs_vars::{BuildFault, Var};
 use std::alloc::{AllocError, Global};
 use std::marker::Model;
+
+/// Its fields in the order of its row.
+macro_rules! fields {
+    ($then:ident: $($with:tt)*) => {
+        $then! { { $($with)* } d_static: D_STATIC u16, v_static: V_STATIC u8, q_front: Q_FRONT bool; differing: Counted }
+    };
+}
 
 /// A static speed and where it begins, with the speeds of the trains for which it differs (packet 27; SUBSET-026,
 /// 7.4 and 7.5).
@@ -18,7 +25,7 @@ pub struct Speed {
     d_static: u16,
     v_static: u8,
     q_front: bool,
-    differing: ListOf<Differing>,
+    differing: Counted<Differing>,
 }
 
 impl Model for Speed {
@@ -34,7 +41,7 @@ impl Model for Speed {
 }
 
 impl Speed {
-    ghost use Rattle.etcs_parts.specs.Speeds.{speed_value, speed_fault, IsSpeed};
+    ghost use Rattle.etcs_parts.specs.Speeds.{speed_value, speed_fault};
 
     /// A speed from its place on.
     ///
@@ -60,15 +67,7 @@ impl Speed {
         ensures fault { IfErr result (λ e. speed_fault (speed_value d_static v_static q_front differing.items) ≡ Some e.0) }
         ensures back { IfErr result (λ e. e.1.items ≡ differing.items) }
     {
-        match Speed::faultless(d_static, v_static, q_front, differing.as_slice()) {
-            Ok(()) => Ok(Speed {
-                d_static,
-                v_static,
-                q_front,
-                differing: ListOf::from_vec(differing),
-            }),
-            Err(fault) => Err((fault, differing)),
-        }
+        fields!(build_part: [differing] d_static, v_static, q_front; Counted::new(differing)?)
     }
 
     /// D_STATIC: how far it begins after the place of the speed before it, in steps of Q_SCALE.
@@ -98,24 +97,6 @@ impl Speed {
     {
         self.differing.as_slice()
     }
-
-    /// Refuses what is no speed.
-    fn faultless(
-        d_static: u16,
-        v_static: u8,
-        q_front: bool,
-        differing: &[Differing],
-    ) -> Result<(), BuildFault>
-        ensures ok { OnOk result (IsSpeed (speed_value d_static v_static q_front differing.now)) }
-        ensures fits { OnOk result (speed_fault (speed_value d_static v_static q_front differing.now) ≡ None) }
-        ensures fault { IfErr result (λ e. speed_fault (speed_value d_static v_static q_front differing.now) ≡ Some e) }
-    {
-        check(Var::D_STATIC, u64::from(d_static))?;
-        check(Var::V_STATIC, u64::from(v_static))?;
-        check_count(Var::N_ITER, differing.len())?;
-        hold_all(differing);
-        Ok(())
-    }
 }
 
 impl Variables for Speed {
@@ -125,16 +106,11 @@ impl Variables for Speed {
 
     #[tactic(auto, using(crate::specs::laws::Speeds::speed_spelled, crate::specs::laws::Speeds::few_entries))]
     fn bits(&self) -> usize {
-        28 + 13 * self.differing.len()
+        28 + 13 * self.differing.as_slice().len()
     }
 
     fn send<S: VarSink>(&self, out: &mut S) -> Result<(), AllocError> {
-        out.send(&[
-            (Var::D_STATIC, u64::from(self.d_static)),
-            (Var::V_STATIC, u64::from(self.v_static)),
-            (Var::Q_FRONT, u64::from(self.q_front)),
-        ])?;
-        send_list(Var::N_ITER, self.differing.as_slice(), out)
+        fields!(send_fields: self, out)
     }
 }
 
@@ -157,33 +133,11 @@ impl Part for Speed {
 
     #[tactic(auto, unfolding(crate::specs::Speeds::speed_from))]
     fn take(alloc: Global, numbers: &mut Numbers) -> Result<Option<Speed>, AllocError> {
-        let Some(d_static) = numbers.next(Var::D_STATIC) else {
-            return Ok(None);
-        };
-        let Some(v_static) = numbers.next(Var::V_STATIC) else {
-            return Ok(None);
-        };
-        let Some(q_front) = numbers.flag() else {
-            return Ok(None);
-        };
-        let Some(differing) = take_list(alloc, Var::N_ITER, numbers)? else {
-            return Ok(None);
-        };
-        Ok(Some(Speed {
-            d_static: d_static as u16,
-            v_static: v_static as u8,
-            q_front,
-            differing: ListOf::from_vec(differing),
-        }))
+        fields!(take_fields: alloc, numbers)
     }
 
     fn try_clone(&self, alloc: Global) -> Result<Speed, AllocError> {
-        Ok(Speed {
-            d_static: self.d_static,
-            v_static: self.v_static,
-            q_front: self.q_front,
-            differing: ListOf::from_vec(clone_all(alloc, self.differing.as_slice())?),
-        })
+        fields!(copy_fields: self, alloc)
     }
 }
 

@@ -1,14 +1,24 @@
 //! All of a text message but the text itself.
 
-ghost use Rattle.std.specs.Prelude.{◌≡◌, None, Some, IfOk, IfErr, IfSome, IfNone, OnOk, OnErr, ◌≤◌};
-ghost use Rattle.etcs_parts.specs.TextFrames.{IsReport, report_from, IsConfirm, confirm_from, confirmed_fault, confirmed_reading, confirmed_count, confirmed_from};
+ghost use Rattle.std.specs.Prelude.{◌≡◌, None, Some, IfOk, IfErr, OnOk};
 
+use crate::confirmed::Confirmed;
 use crate::shown::Shown;
-use etcs_bodies::{Numbers, Part, check, check_guard};
+use etcs_bodies::{Numbers, Part, build_part, send_fields, take_fields};
 use etcs_vars::parts::{VarSink, Variables};
 use etcs_vars::{BuildFault, Var};
 use std::alloc::{AllocError, Global};
 use std::marker::Model;
+
+/// Its fields in the order of its row.
+macro_rules! fields {
+    ($then:ident: $($with:tt)*) => {
+        $then! { { $($with)* }
+            q_scale: Q_SCALE u8, q_textclass: Q_TEXTCLASS u8, q_textdisplay: Q_TEXTDISPLAY bool,
+            d_textdisplay: D_TEXTDISPLAY u16; start: Shown; l_textdisplay: L_TEXTDISPLAY u16,
+            t_textdisplay: T_TEXTDISPLAY u16; end: Shown; confirmed: Confirmed }
+    };
+}
 
 /// When and where a text is shown, and how it is confirmed (packets 72 and 76; SUBSET-026, 7.4.2).
 #[derive(Clone, Copy, Debug, PartialEq, Eq)]
@@ -19,8 +29,7 @@ pub struct TextFrame {
     d_textdisplay: u16,
     l_textdisplay: u16,
     t_textdisplay: u16,
-    q_textconfirm: u8,
-    confirm: Option<(bool, Option<(u8, u16, u16)>)>,
+    confirmed: Confirmed,
     start: Shown,
     end: Shown,
 }
@@ -30,15 +39,15 @@ impl Model for TextFrame {
 
     ghost Value = { TextFrameValue };
 
-    ghost view = { λ s. text_frame_value s.q_scale s.q_textclass s.q_textdisplay s.d_textdisplay s.start s.l_textdisplay s.t_textdisplay s.end s.q_textconfirm s.confirm };
+    ghost view = { λ s. text_frame_value s.q_scale s.q_textclass s.q_textdisplay s.d_textdisplay s.start s.l_textdisplay s.t_textdisplay s.end s.confirmed.q_textconfirm s.confirmed.confirm };
 
-    ghost invariant = { λ s. IsTextFrame (text_frame_value s.q_scale s.q_textclass s.q_textdisplay s.d_textdisplay s.start s.l_textdisplay s.t_textdisplay s.end s.q_textconfirm s.confirm) };
+    ghost invariant = { λ s. IsTextFrame (text_frame_value s.q_scale s.q_textclass s.q_textdisplay s.d_textdisplay s.start s.l_textdisplay s.t_textdisplay s.end s.confirmed.q_textconfirm s.confirmed.confirm) };
 
-    ghost inverse = { λ s. record { q_scale = s.q_scale; q_textclass = s.q_textclass; q_textdisplay = s.q_textdisplay; d_textdisplay = s.d_textdisplay; l_textdisplay = s.l_textdisplay; t_textdisplay = s.t_textdisplay; q_textconfirm = s.q_textconfirm; confirm = s.confirm; start = s.start; end = s.end } };
+    ghost inverse = { λ s. record { q_scale = s.q_scale; q_textclass = s.q_textclass; q_textdisplay = s.q_textdisplay; d_textdisplay = s.d_textdisplay; l_textdisplay = s.l_textdisplay; t_textdisplay = s.t_textdisplay; confirmed = record { q_textconfirm = s.q_textconfirm; confirm = s.confirm }; start = s.start; end = s.end } };
 }
 
 impl TextFrame {
-    ghost use Rattle.etcs_parts.specs.TextFrames.{text_frame_value, text_frame_fault, IsTextFrame, text_frame_from};
+    ghost use Rattle.etcs_parts.specs.TextFrames.{text_frame_value, text_frame_fault};
 
     /// All of a text message but the text itself, each argument a variable of SUBSET-026, 7.5:
     ///
@@ -76,26 +85,8 @@ impl TextFrame {
         ensures fits { OnOk result (text_frame_fault (text_frame_value q_scale q_textclass q_textdisplay d_textdisplay start l_textdisplay t_textdisplay end q_textconfirm confirm) ≡ None) }
         ensures fault { IfErr result (λ e. text_frame_fault (text_frame_value q_scale q_textclass q_textdisplay d_textdisplay start l_textdisplay t_textdisplay end q_textconfirm confirm) ≡ Some e) }
     {
-        check(Var::Q_SCALE, u64::from(q_scale))?;
-        check(Var::Q_TEXTCLASS, u64::from(q_textclass))?;
-        check(Var::D_TEXTDISPLAY, u64::from(d_textdisplay))?;
-        check(Var::L_TEXTDISPLAY, u64::from(l_textdisplay))?;
-        check(Var::T_TEXTDISPLAY, u64::from(t_textdisplay))?;
-        check_confirm(q_textconfirm, confirm)?;
-        start.holds();
-        end.holds();
-        Ok(TextFrame {
-            q_scale,
-            q_textclass,
-            q_textdisplay,
-            d_textdisplay,
-            l_textdisplay,
-            t_textdisplay,
-            q_textconfirm,
-            confirm,
-            start,
-            end,
-        })
+        fields!(build_part: q_scale, q_textclass, q_textdisplay, d_textdisplay; start;
+            l_textdisplay, t_textdisplay; end; Confirmed::new(q_textconfirm, confirm)?)
     }
 
     /// The unit of the distances: Q_SCALE.
@@ -158,146 +149,14 @@ impl TextFrame {
     pub fn q_textconfirm(&self) -> u8
         ensures { result ≡ self.now.q_textconfirm }
     {
-        self.q_textconfirm
+        self.confirmed.q_textconfirm
     }
 
     /// Where he must, Q_CONFTEXTDISPLAY, and of a report NID_TEXTMESSAGE, NID_C and NID_RBC.
     pub fn confirm(&self) -> Option<(bool, Option<(u8, u16, u16)>)>
         ensures { result ≡ self.now.confirm }
     {
-        self.confirm
-    }
-
-    /// The value that the numbers begin with.
-    #[tactic(auto, unfolding(crate::specs::TextFrames::text_frame_from))]
-    fn from_numbers(numbers: &mut Numbers) -> Option<TextFrame>
-        ensures part { IfSome result (λ t. IsTextFrame t) }
-        ensures from { IfSome result (λ t. text_frame_from numbers.old ≡ Some (t, numbers.new)) }
-        ensures none { IfNone result (text_frame_from numbers.old ≡ None) }
-    {
-        let q_scale = numbers.next(Var::Q_SCALE)? as u8;
-        let q_textclass = numbers.next(Var::Q_TEXTCLASS)? as u8;
-        let q_textdisplay = numbers.flag()?;
-        let d_textdisplay = numbers.next(Var::D_TEXTDISPLAY)? as u16;
-        let start = Shown::from_numbers(numbers)?;
-        let l_textdisplay = numbers.next(Var::L_TEXTDISPLAY)? as u16;
-        let t_textdisplay = numbers.next(Var::T_TEXTDISPLAY)? as u16;
-        let end = Shown::from_numbers(numbers)?;
-        let (q_textconfirm, confirm) = next_confirmed(numbers)?;
-        Some(TextFrame {
-            q_scale,
-            q_textclass,
-            q_textdisplay,
-            d_textdisplay,
-            l_textdisplay,
-            t_textdisplay,
-            q_textconfirm,
-            confirm,
-            start,
-            end,
-        })
-    }
-}
-
-/// Refuses a confirmation that can't follow Q_TEXTCONFIRM.
-fn check_confirm(
-    q_textconfirm: u8,
-    confirm: Option<(bool, Option<(u8, u16, u16)>)>,
-) -> Result<(), BuildFault>
-    ensures ok { OnOk result (confirmed_fault q_textconfirm confirm ≡ None) }
-    ensures fault { IfErr result (λ e. confirmed_fault q_textconfirm confirm ≡ Some e) }
-{
-    check(Var::Q_TEXTCONFIRM, u64::from(q_textconfirm))?;
-    check_guard(Var::Q_TEXTCONFIRM, q_textconfirm > 0, confirm.is_some())?;
-    if let Some((_, Some((message, country, centre)))) = confirm {
-        check(Var::NID_TEXTMESSAGE, u64::from(message))?;
-        check(Var::NID_C, u64::from(country))?;
-        check(Var::NID_RBC, u64::from(centre))?;
-    }
-    Ok(())
-}
-
-/// The report that the numbers begin with.
-#[tactic(auto, unfolding(crate::specs::TextFrames::report_from))]
-fn next_report(numbers: &mut Numbers) -> Option<(u8, u16, u16)>
-    ensures part { IfSome result (λ r. IsReport r) }
-    ensures from { IfSome result (λ r. report_from numbers.old ≡ Some (r, numbers.new)) }
-    ensures none { IfNone result (report_from numbers.old ≡ None) }
-{
-    let message = numbers.next(Var::NID_TEXTMESSAGE)? as u8;
-    let country = numbers.next(Var::NID_C)? as u16;
-    let centre = numbers.next(Var::NID_RBC)? as u16;
-    Some((message, country, centre))
-}
-
-/// The confirmation that the numbers begin with.
-#[tactic(auto, unfolding(crate::specs::TextFrames::confirm_from))]
-fn next_confirm(numbers: &mut Numbers) -> Option<(bool, Option<(u8, u16, u16)>)>
-    ensures part { IfSome result (λ c. IsConfirm c) }
-    ensures from { IfSome result (λ c. confirm_from numbers.old ≡ Some (c, numbers.new)) }
-    ensures none { IfNone result (confirm_from numbers.old ≡ None) }
-{
-    let q_conftextdisplay = numbers.flag()?;
-    let report = if numbers.flag()? {
-        Some(next_report(numbers)?)
-    } else {
-        None
-    };
-    Some((q_conftextdisplay, report))
-}
-
-/// Q_TEXTCONFIRM, and where it isn't 0 the confirmation, that the numbers begin with.
-#[tactic(auto, using(etcs_bodies::specs::laws::Guards::guard_ok), unfolding(crate::specs::TextFrames::confirmed_from, etcs_bodies::specs::Guards::guard_fault))]
-fn next_confirmed(numbers: &mut Numbers) -> Option<(u8, Option<(bool, Option<(u8, u16, u16)>)>)>
-    ensures part { IfSome result (λ c. confirmed_fault c.0 c.1 ≡ None) }
-    ensures from { IfSome result (λ c. confirmed_from numbers.old ≡ Some ((c.0, c.1), numbers.new)) }
-    ensures none { IfNone result (confirmed_from numbers.old ≡ None) }
-{
-    let q_textconfirm = numbers.next(Var::Q_TEXTCONFIRM)? as u8;
-    let confirm = if q_textconfirm > 0 {
-        Some(next_confirm(numbers)?)
-    } else {
-        None
-    };
-    Some((q_textconfirm, confirm))
-}
-
-/// Sends Q_TEXTCONFIRM and the confirmation.
-fn send_confirmed<S: VarSink>(
-    q_textconfirm: u8,
-    confirm: Option<(bool, Option<(u8, u16, u16)>)>,
-    out: &mut S,
-) -> Result<(), AllocError>
-    ensures ok { OnOk result (out.new ≡ S.with out.old (confirmed_reading q_textconfirm confirm)) }
-    ensures err { OnErr result (S.failed out.old out.new) }
-{
-    match confirm {
-        None => out.send(&[(Var::Q_TEXTCONFIRM, u64::from(q_textconfirm))]),
-        Some((shown, None)) => out.send(&[
-            (Var::Q_TEXTCONFIRM, u64::from(q_textconfirm)),
-            (Var::Q_CONFTEXTDISPLAY, u64::from(shown)),
-            (Var::Q_TEXTREPORT, 0),
-        ]),
-        Some((shown, Some((message, country, centre)))) => out.send(&[
-            (Var::Q_TEXTCONFIRM, u64::from(q_textconfirm)),
-            (Var::Q_CONFTEXTDISPLAY, u64::from(shown)),
-            (Var::Q_TEXTREPORT, 1),
-            (Var::NID_TEXTMESSAGE, u64::from(message)),
-            (Var::NID_C, u64::from(country)),
-            (Var::NID_RBC, u64::from(centre)),
-        ]),
-    }
-}
-
-/// How many bits Q_TEXTCONFIRM and the confirmation take.
-fn confirmed_bits(confirm: Option<(bool, Option<(u8, u16, u16)>)>) -> usize
-    ensures bits { result ≡ confirmed_count confirm }
-    ensures small { result ≤ 36 }
-{
-    match confirm {
-        None => 2,
-        Some((_, None)) => 4,
-        Some((_, Some(_))) => 36,
+        self.confirmed.confirm
     }
 }
 
@@ -308,23 +167,11 @@ impl Variables for TextFrame {
 
     #[tactic(auto, using(crate::specs::laws::TextFrames::text_frame_bits, crate::specs::laws::Displays::shown_small))]
     fn bits(&self) -> usize {
-        45 + self.start.bits() + self.end.bits() + confirmed_bits(self.confirm)
+        45 + self.start.bits() + self.end.bits() + self.confirmed.bits()
     }
 
     fn send<S: VarSink>(&self, out: &mut S) -> Result<(), AllocError> {
-        out.send(&[
-            (Var::Q_SCALE, u64::from(self.q_scale)),
-            (Var::Q_TEXTCLASS, u64::from(self.q_textclass)),
-            (Var::Q_TEXTDISPLAY, u64::from(self.q_textdisplay)),
-            (Var::D_TEXTDISPLAY, u64::from(self.d_textdisplay)),
-        ])?;
-        self.start.send(out)?;
-        out.send(&[
-            (Var::L_TEXTDISPLAY, u64::from(self.l_textdisplay)),
-            (Var::T_TEXTDISPLAY, u64::from(self.t_textdisplay)),
-        ])?;
-        self.end.send(out)?;
-        send_confirmed(self.q_textconfirm, self.confirm, out)
+        fields!(send_fields: self, out)
     }
 }
 
@@ -345,8 +192,9 @@ impl Part for TextFrame {
         let _ = &self.q_scale;
     }
 
-    fn take(_alloc: Global, numbers: &mut Numbers) -> Result<Option<TextFrame>, AllocError> {
-        Ok(TextFrame::from_numbers(numbers))
+    #[tactic(auto, unfolding(crate::specs::TextFrames::text_frame_from))]
+    fn take(alloc: Global, numbers: &mut Numbers) -> Result<Option<TextFrame>, AllocError> {
+        fields!(take_fields: alloc, numbers)
     }
 
     fn try_clone(&self, _alloc: Global) -> Result<TextFrame, AllocError> {

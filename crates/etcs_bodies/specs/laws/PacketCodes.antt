@@ -13,10 +13,11 @@ use Rattle.etcs_tables.specs.Rows.{row_to}
 use Rattle.etcs_tables.specs.Typed.{IsTyped, IsFramed}
 use Rattle.etcs_bodies.specs.Taking.{Left, listed, in_bits, is_spent}
 use Rattle.etcs_bodies.specs.laws.Takes.{taken, admitted, number_ok}
+use Rattle.etcs_bodies.specs.Faults.{number_fault}
 use Rattle.etcs_bodies.specs.Codecs.{Codes}
 use Rattle.etcs_bodies.specs.Packets.{packet_from}
 use Rattle.etcs_bodies.specs.laws.Packets.{was_whole, is_whole, q_dir, read_list, body_of_list, body_of_bits, body_framed, typed_read, framed_read}
-use Rattle.etcs_bodies.specs.PacketCodes.{PacketCodes, fitting, directed_from, Directed}
+use Rattle.etcs_bodies.specs.PacketCodes.{PacketCodes, fitting, directed_from, never, Directed}
 
 module _ {P : Type 0} {way : Way} {nid : ℕ} {direction : P → ℕ} {IsValue : P → Type 0} {reading : P → Reading} {from : ℕ → Left → Option P} (codes : PacketCodes way nid direction IsValue reading from) where
   pub all_typed : (p : P) → IsValue p → IsTyped way nid (direction p) (numbers (reading p))
@@ -96,3 +97,20 @@ module _ {B P : Type 0} {row : Layout → Layout} {IsBody : B → Type 0} {body_
         let read = is_read (direction p) (listed (numbers (body_reading (parts.body p)))) (listed []) (parts.body p) (admitted Q_DIR (direction p) k.1) short (read_list codes (parts.body p) k.0) refl in
         (rw (← same_body p) read) ∙ ap Some (parts.again p);
   }
+
+-- ---- A packet that is never too long, made of a direction and a body.
+
+pub never_long : {B P : Type 0} {IsBody : B → Type 0} {body_reading : B → Reading} {direction : P → ℕ} {reading : P → Reading} {make : ℕ → B → P} (body : P → B)
+    → ((p : P) → make (direction p) (body p) ≡ p) → ((dir : ℕ) (b : B) → direction (make dir b) ≡ dir) → ((dir : ℕ) (b : B) → body (make dir b) ≡ b)
+    → ((dir : ℕ) (b : B) → body_reading b ≡ reading (make dir b))
+    → ((p : P) → (number_fault Q_DIR (direction p) ≡ None) × IsBody (body p) → length (spelled (reading p)) ≤ ROW_LIMIT)
+    → Directed IsBody body_reading never direction (λ p. (number_fault Q_DIR (direction p) ≡ None) × IsBody (body p)) reading make
+never_long body again dir_is body_is same short = record {
+  body = body;
+  again = again;
+  dir_is = dir_is;
+  same = same;
+  is = λ p h. (h.1, h.0, short p h);
+  so = λ dir b h ok fits. (rw (dir_is dir b) ok, rw (body_is dir b) h);
+  fits = λ dir b short. refl;
+}

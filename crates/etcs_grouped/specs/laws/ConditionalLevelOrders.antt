@@ -6,7 +6,7 @@ use Rattle.etcs_bodies.specs.laws.Repeats.{bit_count_is}
 use Rattle.etcs_bodies.specs.laws.Entries.{entries_codes, entries_most}
 use Rattle.etcs_bodies.specs.Packets.{packet_from}
 use Rattle.etcs_bodies.specs.PacketCodes.{PacketCodes}
-use Rattle.etcs_bodies.specs.laws.PacketCodes.{packet_codes}
+use Rattle.etcs_bodies.specs.laws.PacketCodes.{packet_codes, never_long}
 use Rattle.etcs_parts.specs.Levels.{IsLevel, level_reading}
 use Rattle.etcs_parts.specs.laws.Levels.{level_codes, level_most}
 use Rattle.etcs_grouped.specs.ConditionalLevelOrders.{ConditionalLevelOrderValue, conditional_level_order_reading, body_of, IsConditionalLevelOrder, conditional_level_order_from}
@@ -23,12 +23,4 @@ pub conditional_level_order_codes : PacketCodes ToTrain 46 (λ (p : ConditionalL
 unfolding conditional_level_order_from
 conditional_level_order_codes =
     packet_codes (entries_codes level_codes) ToTrain 46 refl
-    (record {
-      body = body_of;
-      again = λ p. refl;
-      dir_is = λ dir b. refl;
-      same = λ dir b. refl;
-      is = λ p h. (h.1, h.0, omega (arith, conditional_level_order_small p h));
-      so = λ dir b h ok fits. (ok, h);
-      fits = λ dir b short. refl;
-    })
+    (never_long body_of (λ p. refl) (λ dir b. refl) (λ dir b. refl) (λ dir b. refl) (λ p h. omega (arith, conditional_level_order_small p h)))

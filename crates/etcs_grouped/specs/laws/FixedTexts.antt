@@ -7,7 +7,7 @@ use Rattle.etcs_bodies.specs.laws.Repeats.{bit_count_is, bit_count-append}
 use Rattle.etcs_bodies.specs.laws.Codecs.{number, both}
 use Rattle.etcs_bodies.specs.Packets.{packet_from}
 use Rattle.etcs_bodies.specs.PacketCodes.{PacketCodes}
-use Rattle.etcs_bodies.specs.laws.PacketCodes.{packet_codes}
+use Rattle.etcs_bodies.specs.laws.PacketCodes.{packet_codes, never_long}
 use Rattle.etcs_parts.specs.TextFrames.{text_frame_reading}
 use Rattle.etcs_parts.specs.laws.TextFrames.{text_frame_codes, text_frame_small}
 use Rattle.etcs_grouped.specs.FixedTexts.{FixedTextValue, fixed_text_reading, body_of, IsFixedText, fixed_text_from}
@@ -26,12 +26,4 @@ pub fixed_text_codes : PacketCodes ToTrain 76 (λ (p : FixedTextValue). p.dir) I
 unfolding fixed_text_from
 fixed_text_codes =
     packet_codes (both text_frame_codes (number Q_TEXT)) ToTrain 76 refl
-    (record {
-      body = body_of;
-      again = λ p. refl;
-      dir_is = λ dir b. refl;
-      same = λ dir b. refl;
-      is = λ p h. (h.1, h.0, omega (arith, fixed_text_small p));
-      so = λ dir b h ok fits. (ok, h);
-      fits = λ dir b short. refl;
-    })
+    (never_long body_of (λ p. refl) (λ dir b. refl) (λ dir b. refl) (λ dir b. refl) (λ p h. omega (arith, fixed_text_small p)))

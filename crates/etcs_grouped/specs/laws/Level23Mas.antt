@@ -7,7 +7,7 @@ use Rattle.etcs_bodies.specs.laws.Repeats.{bit_count_is}
 use Rattle.etcs_bodies.specs.laws.Codecs.{number, both}
 use Rattle.etcs_bodies.specs.Packets.{packet_from}
 use Rattle.etcs_bodies.specs.PacketCodes.{PacketCodes}
-use Rattle.etcs_bodies.specs.laws.PacketCodes.{packet_codes}
+use Rattle.etcs_bodies.specs.laws.PacketCodes.{packet_codes, never_long}
 use Rattle.etcs_parts.specs.Authorities.{authority_reading}
 use Rattle.etcs_parts.specs.laws.Authorities.{authority_codes, authority_small}
 use Rattle.etcs_grouped.specs.Level23Mas.{Level23MaValue, level23_ma_reading, body_of, IsLevel23Ma, level23_ma_from}
@@ -27,12 +27,4 @@ pub level23_ma_codes : PacketCodes ToTrain 15 (λ (p : Level23MaValue). p.dir) I
 unfolding level23_ma_from
 level23_ma_codes =
     packet_codes (both (number Q_SCALE) (both (number V_LOA) (both (number T_LOA) authority_codes))) ToTrain 15 refl
-    (record {
-      body = body_of;
-      again = λ p. refl;
-      dir_is = λ dir b. refl;
-      same = λ dir b. refl;
-      is = λ p h. (h.1, h.0, omega (arith, level23_ma_small p h));
-      so = λ dir b h ok fits. (ok, h);
-      fits = λ dir b short. refl;
-    })
+    (never_long body_of (λ p. refl) (λ dir b. refl) (λ dir b. refl) (λ dir b. refl) (λ p h. omega (arith, level23_ma_small p h)))

@@ -9,7 +9,7 @@ use Rattle.etcs_bodies.specs.Entries.{entries_reading}
 use Rattle.etcs_bodies.specs.laws.Entries.{entries_codes, entries_most}
 use Rattle.etcs_bodies.specs.Packets.{packet_from}
 use Rattle.etcs_bodies.specs.PacketCodes.{PacketCodes}
-use Rattle.etcs_bodies.specs.laws.PacketCodes.{packet_codes}
+use Rattle.etcs_bodies.specs.laws.PacketCodes.{packet_codes, never_long}
 use Rattle.etcs_parts.specs.Levels.{IsLevelAck, level_ack_reading}
 use Rattle.etcs_parts.specs.laws.Levels.{level_ack_codes, level_ack_most}
 use Rattle.etcs_grouped.specs.LevelOrders.{LevelOrderValue, level_order_reading, body_of, IsLevelOrder, level_order_from}
@@ -31,12 +31,4 @@ pub level_order_codes : PacketCodes ToTrain 41 (λ (p : LevelOrderValue). p.dir)
 unfolding level_order_from
 level_order_codes =
     packet_codes (both (number Q_SCALE) (both (number D_LEVELTR) (entries_codes level_ack_codes))) ToTrain 41 refl
-    (record {
-      body = body_of;
-      again = λ p. refl;
-      dir_is = λ dir b. refl;
-      same = λ dir b. refl;
-      is = λ p h. (h.1, h.0, omega (arith, level_order_small p h));
-      so = λ dir b h ok fits. (ok, h);
-      fits = λ dir b short. refl;
-    })
+    (never_long body_of (λ p. refl) (λ dir b. refl) (λ dir b. refl) (λ dir b. refl) (λ p h. omega (arith, level_order_small p h)))

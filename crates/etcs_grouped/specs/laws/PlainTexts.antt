@@ -9,7 +9,7 @@ use Rattle.etcs_bodies.specs.laws.Codecs.{number, both, list}
 use Rattle.etcs_bodies.specs.laws.Choices.{bit_count-same}
 use Rattle.etcs_bodies.specs.Packets.{packet_from}
 use Rattle.etcs_bodies.specs.PacketCodes.{PacketCodes}
-use Rattle.etcs_bodies.specs.laws.PacketCodes.{packet_codes}
+use Rattle.etcs_bodies.specs.laws.PacketCodes.{packet_codes, never_long}
 use Rattle.etcs_parts.specs.TextFrames.{text_frame_reading}
 use Rattle.etcs_parts.specs.laws.TextFrames.{text_frame_codes, text_frame_small}
 use Rattle.etcs_grouped.specs.PlainTexts.{byte_reading, text_reading, PlainTextValue, plain_text_reading, body_of, IsPlainText, plain_text_from}
@@ -32,12 +32,4 @@ pub plain_text_codes : PacketCodes ToTrain 72 (λ (p : PlainTextValue). p.dir) I
 unfolding plain_text_from
 plain_text_codes =
     packet_codes (both text_frame_codes (list L_TEXT (number X_TEXT))) ToTrain 72 refl
-    (record {
-      body = body_of;
-      again = λ p. refl;
-      dir_is = λ dir b. refl;
-      same = λ dir b. refl;
-      is = λ p h. (h.1, h.0, omega (arith, plain_text_small p h));
-      so = λ dir b h ok fits. (ok, h);
-      fits = λ dir b short. refl;
-    })
+    (never_long body_of (λ p. refl) (λ dir b. refl) (λ dir b. refl) (λ dir b. refl) (λ p h. omega (arith, plain_text_small p h)))

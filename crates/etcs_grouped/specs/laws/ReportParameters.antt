@@ -9,7 +9,7 @@ use Rattle.etcs_bodies.specs.laws.Codecs.{number, both, list}
 use Rattle.etcs_bodies.specs.laws.Entries.{list_most}
 use Rattle.etcs_bodies.specs.Packets.{packet_from}
 use Rattle.etcs_bodies.specs.PacketCodes.{PacketCodes}
-use Rattle.etcs_bodies.specs.laws.PacketCodes.{packet_codes}
+use Rattle.etcs_bodies.specs.laws.PacketCodes.{packet_codes, never_long}
 use Rattle.etcs_parts.specs.ReportsAt.{IsReportAt, report_at_reading}
 use Rattle.etcs_parts.specs.laws.ReportsAt.{report_at_codes, report_at_most}
 use Rattle.etcs_grouped.specs.ReportParameters.{ReportParametersValue, report_parameters_reading, body_of, IsReportParameters, report_parameters_from}
@@ -31,12 +31,4 @@ pub report_parameters_codes : PacketCodes ToTrain 58 (λ (p : ReportParametersVa
 unfolding report_parameters_from
 report_parameters_codes =
     packet_codes (both (number Q_SCALE) (both (number T_CYCLOC) (both (number D_CYCLOC) (both (number M_LOC) (list N_ITER report_at_codes))))) ToTrain 58 refl
-    (record {
-      body = body_of;
-      again = λ p. refl;
-      dir_is = λ dir b. refl;
-      same = λ dir b. refl;
-      is = λ p h. (h.1, h.0, omega (arith, report_parameters_small p h));
-      so = λ dir b h ok fits. (ok, h);
-      fits = λ dir b short. refl;
-    })
+    (never_long body_of (λ p. refl) (λ dir b. refl) (λ dir b. refl) (λ dir b. refl) (λ p h. omega (arith, report_parameters_small p h)))

@@ -13,7 +13,7 @@ use Rattle.etcs_bodies.specs.Entries.{entries_row}
 use Rattle.etcs_bodies.specs.laws.Entries.{entries_codes, entries_most}
 use Rattle.etcs_bodies.specs.Packets.{packet_from}
 use Rattle.etcs_bodies.specs.PacketCodes.{PacketCodes}
-use Rattle.etcs_bodies.specs.laws.PacketCodes.{packet_codes}
+use Rattle.etcs_bodies.specs.laws.PacketCodes.{packet_codes, never_long}
 use Rattle.etcs_bodies.specs.Equality.{IsExact}
 use Rattle.etcs_bodies.specs.laws.Equality.{number_exact, list_exact, both_exact, fields_exact}
 use Rattle.etcs_tables.specs.Rows.{condition, ◌▸◌}
@@ -67,15 +67,7 @@ pub track_condition_codes : PacketCodes ToTrain 68 (λ (p : TrackConditionValue)
 unfolding track_condition_from
 track_condition_codes =
     packet_codes (both (number Q_SCALE) state_codes) ToTrain 68 refl
-    (record {
-      body = body_of;
-      again = λ p. refl;
-      dir_is = λ dir b. refl;
-      same = λ dir b. refl;
-      is = λ p h. (h.1, h.0, omega (arith, track_condition_small p h));
-      so = λ dir b h ok fits. (ok, h);
-      fits = λ dir b short. refl;
-    })
+    (never_long body_of (λ p. refl) (λ dir b. refl) (λ dir b. refl) (λ dir b. refl) (λ p h. omega (arith, track_condition_small p h)))
 
 pub track_condition_exact : (p q : TrackConditionValue) → Decides (track_condition_eq p q) (p ≡ q)
 track_condition_exact =

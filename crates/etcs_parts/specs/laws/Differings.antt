@@ -1,5 +1,5 @@
 -- Lemmas about specs/Differings.antt.
-use Rattle.std.proofs.Common.{◌≡◌, ℕ, zero, suc, ◌<◌, Bool, true, false, length, None, refl, arith}
+use Rattle.std.proofs.Common.{◌≡◌, ℕ, zero, suc, ◌<◌, ◌≤◌, Bool, true, false, length, None, refl, arith}
 use Rattle.std.specs.Prelude.{◌==◌, not}
 use Rattle.etcs_vars.specs.declared.var.Var.TheVariants.{Q_DIFF, V_DIFF}
 use Rattle.etcs_vars.specs.Vars.{width, admits}
@@ -60,3 +60,6 @@ differing_bits d = rw (category_bits (d.q_diff == 0)) refl
 
 pub differing_spelled : (d : DifferingValue) → 13 ≡ length (spelled (differing_reading d))
 differing_spelled d = rw (bit_count_is (differing_reading d), differing_bits d) refl
+
+pub differing_most : (d : DifferingValue) → bit_count (differing_reading d) ≤ 13
+differing_most d = omega (arith, differing_bits d)

@@ -89,8 +89,8 @@ report_exact = fields_exact (λ (r : Report). ((r.0, r.1), r.2)) (λ n. (n.0.0, 
 pub text_frame_exact : (a b : TextFrameValue) → Decides (text_frame.ghosts.eq a b) (a ≡ b)
 text_frame_exact =
     fields_exact
-    (λ (p : TextFrameValue). (p.q_scale, (p.q_textclass, (p.q_textdisplay, (p.d_textdisplay, (p.l_textdisplay, (p.t_textdisplay, (p.q_textconfirm, (p.confirm, (p.start, p.end))))))))))
-    (λ n. text_frame_value n.0 n.1.0 n.1.1.0 n.1.1.1.0 n.1.1.1.1.1.1.1.1.0 n.1.1.1.1.0 n.1.1.1.1.1.0 n.1.1.1.1.1.1.1.1.1 n.1.1.1.1.1.1.0 n.1.1.1.1.1.1.1.0)
+    (λ (p : TextFrameValue). (p.q_scale, (p.q_textclass, (p.q_textdisplay, (p.d_textdisplay, (p.l_textdisplay, (p.t_textdisplay, ((p.q_textconfirm, p.confirm), (p.start, p.end)))))))))
+    (λ n. text_frame_value n.0 n.1.0 n.1.1.0 n.1.1.1.0 n.1.1.1.1.1.1.1.0 n.1.1.1.1.0 n.1.1.1.1.1.0 n.1.1.1.1.1.1.1.1 n.1.1.1.1.1.1.0.0 n.1.1.1.1.1.1.0.1)
     (λ p. refl) (
     both_exact number_exact (
     both_exact number_exact (
@@ -98,6 +98,5 @@ text_frame_exact =
     both_exact number_exact (
     both_exact number_exact (
     both_exact number_exact (
-    both_exact number_exact (
-    both_exact (option_exact (both_exact flag_exact (option_exact report_exact))) (
-    both_exact shown_exact shown_exact)))))))))
+    both_exact (both_exact number_exact (option_exact (both_exact flag_exact (option_exact report_exact)))) (
+    both_exact shown_exact shown_exact))))))))

@@ -55,8 +55,8 @@ returns-clause-answer g c seen is =
     let new = c.feed.new.self in
     let piece = c.args.piece.now in
     let I = g.R.ItemRest in
-    let progress = ap (λ v. v.progress) c.self.view_is in
+    let same = ap (λ v. v.progress) c.self.view_is in
     let sizes = ap (λ v. v.size) c.self.view_is in
     let going = ap is_some (sym c.var.ensures.next) ∙ (c.is_none.ensures ∙ ap not c.if-is_none.false) in
-    let f = answers w old new piece c.match-feed.result c.args.self.now.progress (sym c.stop.ensures ∙ c.in_default.is) going (answered g c) progress seen is in
+    let f = answers w old new piece c.match-feed.result c.args.self.now.progress (sym c.stop.ensures ∙ c.in_default.is) going (answered g c) same seen is in
     subst (λ z. Feeds (I.Reads z) I.value I.IsValue I.least seen (bits piece) c.match-feed.result (progress w new)) sizes f

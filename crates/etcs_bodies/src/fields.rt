@@ -1,0 +1,122 @@
+//! The fields of a part or a packet, listed once.
+//!
+//! A type lists its fields in the order of its row, in a macro `fields` of its own that hands the list to one of the
+//! macros below. `d_loc: D_LOC u16` is a number, with its variable and its type, and `bool` is the type of a flag;
+//! `end: Shown` is a part with its type. Semicolons separate parts from the numbers before and after them.
+
+/// The value of these fields, as the body of a part's constructor. A number that isn't admitted is a fault. In
+/// brackets is what is returned with a fault.
+#[macro_export]
+macro_rules! build_part {
+    ({ [$back:ident] $($($value:expr),+);+ } $($($field:ident: $($kind:ident)+),+);+) => {{
+        $($(let $field = $value;
+        $crate::check_field!([$back] $field $($kind)+);)+)+
+        Ok(Self { $($($field),+),+ })
+    }};
+    ({ $($($value:expr),+);+ } $($($field:ident: $($kind:ident)+),+);+) => {{
+        $($(let $field = $value;
+        $crate::check_field!([] $field $($kind)+);)+)+
+        Ok(Self { $($($field),+),+ })
+    }};
+}
+
+/// The same for a packet, after its direction; the brackets are empty where nothing is returned with a fault.
+#[macro_export]
+macro_rules! build_packet {
+    ({ $back:tt $dir:ident; $($($value:expr),+);+ } $($($field:ident: $($kind:ident)+),+);+) => {{
+        $crate::check_field!($back $dir Q_DIR u8);
+        $($(let $field = $value;
+        $crate::check_field!($back $field $($kind)+);)+)+
+        Ok(Self { $dir, $($($field),+),+ })
+    }};
+}
+
+/// The value that the numbers begin with, as the body of `take`.
+#[macro_export]
+macro_rules! take_fields {
+    ({ $alloc:ident, $numbers:ident $(, $dir:ident)? } $($($field:ident: $($kind:ident)+),+);+) => {{
+        $($(let $field = $crate::take_field!($alloc $numbers $($kind)+);)+)+
+        Ok(Some(Self { $($dir,)? $($($field),+),+ }))
+    }};
+}
+
+/// Sends all fields, as the body of `send`.
+#[macro_export]
+macro_rules! send_fields {
+    ({ $this:ident, $out:ident } $($($field:ident: $($kind:ident)+),+);+) => {{
+        $($crate::send_run!($this $out $($field: $($kind)+),+)?;)+
+        Ok(())
+    }};
+}
+
+/// An equal value, as the body of a copying function.
+#[macro_export]
+macro_rules! copy_fields {
+    ({ $this:ident, $alloc:ident $(, $dir:ident)? } $($($field:ident: $($kind:ident)+),+);+) => {
+        Ok(Self { $($dir: $this.$dir,)? $($($field: $crate::copy_field!($this $alloc $field $($kind)+)),+),+ })
+    };
+}
+
+/// What was taken; where there is none, the function returns `Ok(None)`.
+#[macro_export]
+macro_rules! taken {
+    ($taken:expr) => {
+        match $taken {
+            Some(taken) => taken,
+            None => return Ok(None),
+        }
+    };
+}
+
+/// Tests one field; a fault is returned with what is in the brackets.
+#[macro_export]
+macro_rules! check_field {
+    ($back:tt $field:ident $var:ident bool) => {};
+    ([] $field:ident $var:ident $type:ident) => {
+        $crate::check(Var::$var, u64::from($field))?
+    };
+    ([$($back:ident),+] $field:ident $var:ident $type:ident) => {
+        if let Err(fault) = $crate::check(Var::$var, u64::from($field)) {
+            return Err((fault, $($back),+));
+        }
+    };
+    ($back:tt $field:ident $part:ident) => {
+        $field.holds()
+    };
+}
+
+/// Takes one field.
+#[macro_export]
+macro_rules! take_field {
+    ($alloc:ident $numbers:ident $var:ident bool) => {
+        $crate::taken!($numbers.flag())
+    };
+    ($alloc:ident $numbers:ident $var:ident $type:ident) => {
+        $crate::taken!($numbers.next(Var::$var)) as $type
+    };
+    ($alloc:ident $numbers:ident $part:ident) => {
+        $crate::taken!($part::take($alloc, $numbers)?)
+    };
+}
+
+/// Sends a part, or numbers that follow one another.
+#[macro_export]
+macro_rules! send_run {
+    ($this:ident $out:ident $field:ident: $part:ident) => {
+        $this.$field.send($out)
+    };
+    ($this:ident $out:ident $($field:ident: $var:ident $type:ident),+) => {
+        $out.send(&[$((Var::$var, u64::from($this.$field))),+])
+    };
+}
+
+/// Copies one field.
+#[macro_export]
+macro_rules! copy_field {
+    ($this:ident $alloc:ident $field:ident $var:ident $type:ident) => {
+        $this.$field
+    };
+    ($this:ident $alloc:ident $field:ident $part:ident) => {
+        $this.$field.try_clone($alloc)?
+    };
+}

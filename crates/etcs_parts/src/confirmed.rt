@@ -1,0 +1,130 @@
+//! How a text is confirmed.
+
+ghost use Rattle.std.specs.Prelude.{◌≡◌, None, Some, IfOk, IfErr, IfSome, IfNone, OnOk, OnErr, ◌≤◌};
+ghost use Rattle.etcs_parts.specs.TextFrames.{IsReport, report_from, IsConfirm, confirm_from, confirmed_fault, confirmed_reading, confirmed_count, confirmed_from};
+
+use etcs_bodies::{Numbers, check, check_guard, taken};
+use etcs_vars::parts::VarSink;
+use etcs_vars::{BuildFault, Var};
+use std::alloc::{AllocError, Global};
+
+/// Q_TEXTCONFIRM, and where it isn't 0 the confirmation.
+#[derive(Clone, Copy, Debug, PartialEq, Eq)]
+pub(crate) struct Confirmed {
+    pub(crate) q_textconfirm: u8,
+    pub(crate) confirm: Option<(bool, Option<(u8, u16, u16)>)>,
+}
+
+impl Confirmed {
+    /// Refuses a confirmation that can't follow Q_TEXTCONFIRM.
+    pub(crate) fn new(
+        q_textconfirm: u8,
+        confirm: Option<(bool, Option<(u8, u16, u16)>)>,
+    ) -> Result<Confirmed, BuildFault>
+        ensures number { IfOk result (λ c. c.q_textconfirm ≡ q_textconfirm) }
+        ensures confirm { IfOk result (λ c. c.confirm ≡ confirm) }
+        ensures ok { OnOk result (confirmed_fault q_textconfirm confirm ≡ None) }
+        ensures fault { IfErr result (λ e. confirmed_fault q_textconfirm confirm ≡ Some e) }
+    {
+        check(Var::Q_TEXTCONFIRM, u64::from(q_textconfirm))?;
+        check_guard(Var::Q_TEXTCONFIRM, q_textconfirm > 0, confirm.is_some())?;
+        if let Some((_, Some((message, country, centre)))) = confirm {
+            check(Var::NID_TEXTMESSAGE, u64::from(message))?;
+            check(Var::NID_C, u64::from(country))?;
+            check(Var::NID_RBC, u64::from(centre))?;
+        }
+        Ok(Confirmed {
+            q_textconfirm,
+            confirm,
+        })
+    }
+
+    /// A field of the frame: nothing is left to be tested.
+    pub(crate) fn holds(&self) {}
+
+    /// Takes what the numbers begin with.
+    #[tactic(auto, using(etcs_bodies::specs::laws::Guards::guard_ok), unfolding(crate::specs::TextFrames::confirmed_from, etcs_bodies::specs::Guards::guard_fault))]
+    pub(crate) fn take(
+        _alloc: Global,
+        numbers: &mut Numbers,
+    ) -> Result<Option<Confirmed>, AllocError>
+        ensures part { IfOk result (λ o. IfSome o (λ c. confirmed_fault c.q_textconfirm c.confirm ≡ None)) }
+        ensures from { IfOk result (λ o. IfSome o (λ c. confirmed_from numbers.old ≡ Some ((c.q_textconfirm, c.confirm), numbers.new))) }
+        ensures none { IfOk result (λ o. IfNone o (confirmed_from numbers.old ≡ None)) }
+    {
+        let q_textconfirm = taken!(numbers.next(Var::Q_TEXTCONFIRM)) as u8;
+        let confirm = if q_textconfirm > 0 {
+            Some(taken!(next_confirm(numbers)))
+        } else {
+            None
+        };
+        Ok(Some(Confirmed {
+            q_textconfirm,
+            confirm,
+        }))
+    }
+
+    /// Sends its variables.
+    pub(crate) fn send<S: VarSink>(&self, out: &mut S) -> Result<(), AllocError>
+        ensures ok { OnOk result (out.new ≡ S.with out.old (confirmed_reading self.now.q_textconfirm self.now.confirm)) }
+        ensures err { OnErr result (S.failed out.old out.new) }
+    {
+        match self.confirm {
+            None => out.send(&[(Var::Q_TEXTCONFIRM, u64::from(self.q_textconfirm))]),
+            Some((shown, None)) => out.send(&[
+                (Var::Q_TEXTCONFIRM, u64::from(self.q_textconfirm)),
+                (Var::Q_CONFTEXTDISPLAY, u64::from(shown)),
+                (Var::Q_TEXTREPORT, 0),
+            ]),
+            Some((shown, Some((message, country, centre)))) => out.send(&[
+                (Var::Q_TEXTCONFIRM, u64::from(self.q_textconfirm)),
+                (Var::Q_CONFTEXTDISPLAY, u64::from(shown)),
+                (Var::Q_TEXTREPORT, 1),
+                (Var::NID_TEXTMESSAGE, u64::from(message)),
+                (Var::NID_C, u64::from(country)),
+                (Var::NID_RBC, u64::from(centre)),
+            ]),
+        }
+    }
+
+    /// How many bits it takes.
+    pub(crate) fn bits(&self) -> usize
+        ensures bits { result ≡ confirmed_count self.now.confirm }
+        ensures small { result ≤ 36 }
+    {
+        match self.confirm {
+            None => 2,
+            Some((_, None)) => 4,
+            Some((_, Some(_))) => 36,
+        }
+    }
+}
+
+/// The report that the numbers begin with.
+#[tactic(auto, unfolding(crate::specs::TextFrames::report_from))]
+fn next_report(numbers: &mut Numbers) -> Option<(u8, u16, u16)>
+    ensures part { IfSome result (λ r. IsReport r) }
+    ensures from { IfSome result (λ r. report_from numbers.old ≡ Some (r, numbers.new)) }
+    ensures none { IfNone result (report_from numbers.old ≡ None) }
+{
+    let message = numbers.next(Var::NID_TEXTMESSAGE)? as u8;
+    let country = numbers.next(Var::NID_C)? as u16;
+    let centre = numbers.next(Var::NID_RBC)? as u16;
+    Some((message, country, centre))
+}
+
+/// The confirmation that the numbers begin with.
+#[tactic(auto, unfolding(crate::specs::TextFrames::confirm_from))]
+fn next_confirm(numbers: &mut Numbers) -> Option<(bool, Option<(u8, u16, u16)>)>
+    ensures part { IfSome result (λ c. IsConfirm c) }
+    ensures from { IfSome result (λ c. confirm_from numbers.old ≡ Some (c, numbers.new)) }
+    ensures none { IfNone result (confirm_from numbers.old ≡ None) }
+{
+    let q_conftextdisplay = numbers.flag()?;
+    let report = if numbers.flag()? {
+        Some(next_report(numbers)?)
+    } else {
+        None
+    };
+    Some((q_conftextdisplay, report))
+}

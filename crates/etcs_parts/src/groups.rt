@@ -1,0 +1,39 @@
+//! Groups of numbers after a flag, which are there where the flag is 1.
+//!
+//! A group lists its numbers in a macro of its own that hands the list to one of these: after the flag `Q_OVERLAP`
+//! each number with a name, its variable and its type, as `time: T_OL u16`.
+
+/// Refuses a group with a number that isn't admitted.
+macro_rules! check_group {
+    ({ $group:ident } $flag:ident $($name:ident: $var:ident $type:ident),*) => {{
+        if let Some(($($name),*)) = $group {
+            $(check(Var::$var, u64::from($name))?;)*
+        }
+        Ok(())
+    }};
+}
+
+/// Sends the flag and the group.
+macro_rules! send_group {
+    ({ $group:ident, $out:ident } $flag:ident $($name:ident: $var:ident $type:ident),*) => {
+        match $group {
+            None => $out.send(&[(Var::$flag, 0)]),
+            Some(($($name),*)) => $out.send(&[(Var::$flag, 1), $((Var::$var, u64::from($name))),*]),
+        }
+    };
+}
+
+/// Takes the flag and the group.
+macro_rules! take_group {
+    ({ $numbers:ident } $flag:ident $($name:ident: $var:ident $type:ident),*) => {{
+        if !$numbers.flag()? {
+            return Some(None);
+        }
+        $(let $name = $numbers.next(Var::$var)? as $type;)*
+        Some(Some(($($name),*)))
+    }};
+}
+
+pub(crate) use check_group;
+pub(crate) use send_group;
+pub(crate) use take_group;

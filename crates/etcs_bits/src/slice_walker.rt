@@ -31,7 +31,6 @@ fn first_of(next: NextBits, width: usize) -> (u64, NextBits)
 }
 
 /// The bits from `at` on, at most 64 of them, and at least `width`. `None` where this many go past the end.
-#[inline(never)]
 fn next_bits_from(bits: &BitSlice<'_>, at: usize, width: usize) -> Option<NextBits>
     requires some { 0 < width }
     requires width { width ≤ 64 }

@@ -68,6 +68,7 @@ pub trait Body: Variables + Drop {
 
 /// The packet of a direction that takes all of the numbers.
 #[tactic(auto, unfolding(crate::specs::Packets::packet_from))]
+#[inline(always)]
 fn read<P: Body>(alloc: Global, dir: u8, mut numbers: Numbers<'_>) -> Result<Option<P>, AllocError>
     ensures some { IfOk result (λ o. IfSome o (λ p. packet_from P.read_from dir numbers.entry ≡ Some p)) }
     ensures none { IfOk result (λ o. IfNone o (packet_from P.read_from dir numbers.entry ≡ None)) }

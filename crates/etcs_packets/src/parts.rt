@@ -79,6 +79,7 @@ pub fn from_fields(
 /// # Errors
 ///
 /// `AllocError` where there is no memory.
+#[inline(always)]
 pub fn from_bits(
     alloc: Global,
     nid: u8,
@@ -89,5 +90,5 @@ pub fn from_bits(
     ensures some { IfOk result (λ o. IfSome o (λ p. IsTypedOf nid dir (packet_value p) × (spelled (variables_of (packet_value p)) ≡ bits.entry))) }
     ensures none { IfOk result (λ o. IsNone o → (r : Reading) → IsFramed ToTrain nid dir r → spelled r ≡ bits.entry → ⊥) }
 {
-    packets!(by_number, nid, packet_of_bits(alloc, dir, bits))
+    packets!(by_number, nid, packet_of_bits(alloc, dir, &bits))
 }

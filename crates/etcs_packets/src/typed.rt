@@ -73,15 +73,18 @@ pub(crate) fn packet_of_fields<P: Framed, F: FnOnce(P) -> Packet>(
 pub(crate) fn packet_of_bits<P: Framed, F: FnOnce(P) -> Packet>(
     alloc: Global,
     dir: u8,
-    bits: BitSlice<'_>,
+    bits: &BitSlice<'_>,
     packet: F,
 ) -> Result<Option<Packet>, AllocError>
     requires callable { F.IsAlwaysCallable packet }
     requires value { Makes (F.post packet) P.is_value P.NID P.direction P.reading_of }
     ensures made { IfOk result (λ o. IfSome o (λ p. IsMade p)) }
-    ensures some { IfOk result (λ o. IfSome o (λ p. IsTypedOf P.NID dir (packet_value p) × (spelled (variables_of (packet_value p)) ≡ bits.entry))) }
-    ensures none { IfOk result (λ o. IsNone o → (r : Reading) → IsFramed P.WAY P.NID dir r → spelled r ≡ bits.entry → ⊥) }
+    ensures some { IfOk result (λ o. IfSome o (λ p. IsTypedOf P.NID dir (packet_value p) × (spelled (variables_of (packet_value p)) ≡ bits.now))) }
+    ensures none { IfOk result (λ o. IsNone o → (r : Reading) → IsFramed P.WAY P.NID dir r → spelled r ≡ bits.now → ⊥) }
 {
+    let Some(bits) = bits.cut(0, bits.len()) else {
+        unreachable!()
+    };
     match P::from_bits(alloc, dir, bits) {
         Ok(Some(typed)) => Ok(Some(packet(typed))),
         Ok(None) => Ok(None),

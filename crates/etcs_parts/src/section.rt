@@ -121,6 +121,7 @@ fn send_timer<S: VarSink>(timer: Option<(u16, u16)>, out: &mut S) -> Result<(), 
 
 /// The timer that the numbers begin with, after its flag.
 #[tactic(auto, unfolding(crate::specs::Sections::timer_from))]
+#[inline(always)]
 fn take_timer(numbers: &mut Numbers) -> Option<Option<(u16, u16)>>
     ensures part { IfSome result (λ t. timer_fault t ≡ None) }
     ensures from { IfSome result (λ t. timer_from numbers.old ≡ Some (t, numbers.new)) }

@@ -35,6 +35,7 @@ fn head_of(numbers: &[u64]) -> RadioHead
 }
 
 /// A whole message by what was kept of it.
+#[inline(always)]
 fn content_of(nid: u8, front: &[u64], store: PacketList, padding: u8) -> Content
     requires { (vars : List Var) → front_row nid ≡ Some vars → IsHeadNumbers front.now × IsBodyNumbers nid (drop 3 front.now) }
     ensures { result ≡ content_by (front_row nid) nid front.now store.packets.items store.bits padding }
@@ -92,7 +93,7 @@ impl ItemRest for MessageRest<PacketList> {
         &self.packets.store
     }
 
-    #[inline]
+    #[inline(always)]
     fn into_item(self, _size: ()) -> Message {
         let (nid, padding) = (self.nid, self.padding);
         let front = self.front;
@@ -169,6 +170,7 @@ impl MessageReader {
     /// # Errors
     ///
     /// The reader itself, as it was, where there is no whole message.
+    #[inline(always)]
     pub fn take(self) -> Result<Message, Self>
         ensures { MatchResult result (λ m. self ≡ finished m) (λ r. (r ≡ self) × ((m : Content) → self ≢ finished m)) }
     {

@@ -270,7 +270,7 @@ impl<S: PacketStore> Rest for MessageRest<S> {
 
     ghost fails = { λ s. S.fails × IsTrue (may_ask s.phase s.packets.left) };
 
-    #[inline]
+    #[inline(always)]
     fn var(&self) -> Option<Var> {
         match self.phase {
             Phase::Number => Some(Var::NID_MESSAGE),
@@ -283,7 +283,7 @@ impl<S: PacketStore> Rest for MessageRest<S> {
         }
     }
 
-    #[inline]
+    #[inline(always)]
     fn begins(&self, var: Var, rest: usize, number: u64) -> bool {
         match self.phase {
             Phase::Number => true,
@@ -296,6 +296,7 @@ impl<S: PacketStore> Rest for MessageRest<S> {
         }
     }
 
+    #[inline(always)]
     fn pass(&mut self, var: Var, number: u64) -> Result<(), AllocError> {
         match self.phase {
             Phase::Number => {

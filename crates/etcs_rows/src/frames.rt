@@ -152,6 +152,7 @@ impl Windows {
 
 /// Whether some L_PACKET fits that is `bits` with `rest` bits more after them, for a packet of this number
 /// where `room` bits are left, counted from the packet's first bit.
+#[inline(always)]
 pub fn length_fits(carrier: Carrier, nid: u8, room: usize, rest: usize, bits: u64) -> bool
     requires rest { rest ≤ 13 }
     requires fits { bits < 2 ^ (13 - rest) }

@@ -170,6 +170,7 @@ impl<R: ItemRest> ItemReader<R> {
     /// # Errors
     ///
     /// The reader itself, as it was, where there is no whole item.
+    #[inline(always)]
     pub fn take(self) -> Result<R::Item, Self>
         ensures { MatchResult result (λ t. self.progress ≡ finished t) (λ r. (r ≡ self) × ((t : R.Item) → self.progress ≢ finished t)) }
     {

@@ -40,6 +40,7 @@ impl PacketList {
 }
 
 /// Puts a packet after the others.
+#[inline(always)]
 fn put(packets: &mut Vec<Packet>, packet: Packet) -> Result<(), AllocError>
     ensures { OnOk result (packets.new.items ≡ packets.old.items ++ packet ∷ []) }
 {

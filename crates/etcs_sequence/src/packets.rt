@@ -51,6 +51,7 @@ fn absorb<S: PacketStore>(store: &mut S, keep: Keep, number: u64) -> Result<(), 
 }
 
 /// Makes the packet that is whole.
+#[inline(always)]
 fn finish<S: PacketStore>(store: &mut S, event: Event) -> Result<(), AllocError>
     requires { ∥ ((c : Carrier) × ((s : Stage) × ((vs : List PacketValue) × ((f : List ℕ) × ((k : List Bool) × ((h : Reading) × (S.holds store.old vs f k × After c s f k h event))))))) ∥₁ }
     ensures ok { OnOk result ((c : Carrier) (s : Stage) (vs : List PacketValue) (f : List ℕ) (k : List Bool) (h : Reading) → S.holds store.old vs f k → All (Carries c) vs → After c s f k h event → HoldsAt c s (S.holds store.new) (readings_to (way_of c) vs ++ h)) }

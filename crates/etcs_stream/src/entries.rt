@@ -79,6 +79,7 @@ impl EntryReader {
     /// # Errors
     ///
     /// Where no item is whole.
+    #[inline(always)]
     pub(crate) fn next(&mut self, alloc: Global, kind: Kind) -> Result<Entry, ()>
         requires { kind ≡ self.old.kind }
         ensures some { IfOk result (λ e. self.old.progress ≡ finished (entry_value e)) }
@@ -105,6 +106,7 @@ fn size_of(kind: Kind) -> Size
 }
 
 /// The telegram that is whole. The next one is read then.
+#[inline(always)]
 fn next_telegram(reader: &mut TelegramReader, alloc: Global, size: Size) -> Result<Entry, ()>
     ensures some { IfOk result (λ e. progress_of telegram_item reader.old.progress ≡ finished (entry_value e)) }
     ensures none { OnErr result ((e : EntryValue) → progress_of telegram_item reader.old.progress ≡ finished e → ⊥) }
@@ -117,6 +119,7 @@ fn next_telegram(reader: &mut TelegramReader, alloc: Global, size: Size) -> Resu
 }
 
 /// The message that is whole. The next one is read then.
+#[inline(always)]
 fn next_message(reader: &mut MessageReader, alloc: Global) -> Result<Entry, ()>
     ensures some { IfOk result (λ e. progress_of message_item reader.old ≡ finished (entry_value e)) }
     ensures none { OnErr result ((e : EntryValue) → progress_of message_item reader.old ≡ finished e → ⊥) }

@@ -56,7 +56,7 @@ impl ItemRest for TelegramRest<PacketList> {
         &self.packets.store
     }
 
-    #[inline]
+    #[inline(always)]
     fn into_item(self, _size: Size) -> Telegram {
         Telegram {
             size: self.size,
@@ -135,6 +135,7 @@ impl TelegramReader {
     /// # Errors
     ///
     /// The reader itself, as it was, where there is no whole telegram.
+    #[inline(always)]
     pub fn take(self) -> Result<Telegram, Self>
         ensures { MatchResult result (λ t. self.progress ≡ finished t) (λ r. (r ≡ self) × ((t : TelegramContent) → self.progress ≢ finished t)) }
     {

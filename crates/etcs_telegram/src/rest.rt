@@ -147,6 +147,7 @@ impl<S: PacketStore> TelegramRest<S> {
     }
 
     /// Takes bits of FILL, of which `left` are wanted.
+    #[inline(always)]
     fn fill(&mut self, left: usize, slice: &BitSlice<'_>) -> Result<(), AllocError>
         requires phase { self.old.phase ≡ Phase.Fill left }
         requires within { length slice.now ≤ left }

@@ -24,6 +24,7 @@ pub fn write_decimal(number: u64, out: &mut Vec<u8>) -> Result<(), AllocError>
 }
 
 /// Appends the digits of a number and one byte more.
+#[inline(always)]
 pub(crate) fn write_decimal_and(number: u64, end: u8, out: &mut Vec<u8>) -> Result<(), AllocError>
     ensures ok { OnOk result (out.new.items ≡ out.old.items ++ (decimal number ++ end ∷ [])) }
     ensures err { OnErr result (Begins out.old.items out.new.items) }

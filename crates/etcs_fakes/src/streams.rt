@@ -2,18 +2,26 @@
 
 use std::io::{self, ErrorKind, Read, Write};
 
-/// Gives some bytes a read, and then fails.
+/// How many bytes a reader may be asked for at once.
+const MOST: usize = 4096;
+
+/// Gives so many bytes a read, and then fails, or is at its end. It fails, too, where it is asked for more than 4,096 bytes.
 #[derive(Drop)]
 pub struct Broken<'a> {
     pub rest: &'a [u8],
     pub step: usize,
+    pub fails: Option<ErrorKind>,
 }
 
 impl Read for Broken<'_> {
     fn read(&mut self, buf: &mut [u8]) -> io::Result<usize> {
+        if buf.len() > MOST {
+            return Err(ErrorKind::InvalidInput.into());
+        }
         let count = self.step.min(self.rest.len()).min(buf.len());
-        if count == 0 {
-            return Err(ErrorKind::Interrupted.into());
+        match self.fails {
+            Some(kind) if count == 0 => return Err(kind.into()),
+            _ => {}
         }
         buf[..count].copy_from_slice(&self.rest[..count]);
         self.rest = &self.rest[count..];
@@ -21,17 +29,18 @@ impl Read for Broken<'_> {
     }
 }
 
-/// Gives the same bytes again and again, so often.
+/// Gives the same bytes again and again, so often, and then others.
 #[derive(Drop)]
 pub struct Repeated<'a> {
     pub bytes: &'a [u8],
     pub left: u64,
+    pub then: Broken<'a>,
 }
 
 impl Read for Repeated<'_> {
     fn read(&mut self, buf: &mut [u8]) -> io::Result<usize> {
         if self.left == 0 {
-            return Ok(0);
+            return self.then.read(buf);
         }
         self.left -= 1;
         let count = self.bytes.len().min(buf.len());
@@ -44,23 +53,29 @@ impl Read for Repeated<'_> {
 #[derive(Clone, Copy, Debug, PartialEq, Eq)]
 pub enum Full {
     Fails,
+    IsInterrupted,
     TakesNothing,
 }
 
-/// Has room for this many bytes.
+/// Has room for this many bytes, of which it takes at most `step` a write.
 #[derive(Drop)]
 pub struct Narrow<'a> {
     pub held: &'a mut Vec<u8>,
     pub room: usize,
+    pub step: usize,
     pub full: Full,
     pub flushes: bool,
 }
 
 impl Write for Narrow<'_> {
     fn write(&mut self, buf: &[u8]) -> io::Result<usize> {
-        let count = buf.len().min(self.room);
-        if count == 0 && !buf.is_empty() && self.full == Full::Fails {
-            return Err(ErrorKind::StorageFull.into());
+        let count = buf.len().min(self.room).min(self.step);
+        if count == 0 && !buf.is_empty() {
+            return match self.full {
+                Full::Fails => Err(ErrorKind::StorageFull.into()),
+                Full::IsInterrupted => Err(ErrorKind::Interrupted.into()),
+                Full::TakesNothing => Ok(0),
+            };
         }
         self.held.extend_from_slice(&buf[..count])?;
         self.room -= count;
@@ -76,15 +91,21 @@ impl Write for Narrow<'_> {
     }
 }
 
-/// Counts what is written.
+/// Counts what is written, and the lines of it.
 #[derive(Drop)]
 pub struct Counted {
     pub bytes: u64,
+    pub lines: u64,
 }
 
 impl Write for Counted {
     fn write(&mut self, buf: &[u8]) -> io::Result<usize> {
         self.bytes = self.bytes.saturating_add(buf.len() as u64);
+        for byte in buf {
+            if *byte == b'\n' {
+                self.lines = self.lines.saturating_add(1);
+            }
+        }
         Ok(buf.len())
     }
 

@@ -1,7 +1,7 @@
-//! The message of a group where memory is refused.
+//! A group where memory is refused.
 
 use crate::packet_tests::kept_bits;
-use etcs_fakes::{Checks, starve_to};
+use etcs_fakes::{Checks, starve};
 use etcs_group::{Assembly, GroupFault};
 use etcs_packets::Packet;
 use etcs_telegram::{Header, Size, Telegram};
@@ -31,40 +31,6 @@ fn group(alloc: Global, positions: &[u8]) -> Result<Assembly, Fail> {
     Ok(assembly)
 }
 
-/// How many bits the packets of a message have, one after another, and how many packets there are.
-fn bits_of(message: &[Packet]) -> (usize, usize) {
-    let mut bits = 0usize;
-    for packet in message {
-        bits = bits.saturating_mul(1000).saturating_add(packet.bit_len());
-    }
-    (bits, message.len())
-}
-
-/// The same of 8 and 40 kept bits, twice.
-const WHOLE: (usize, usize) = (31_063_031_063, 4);
-
-/// With less and less memory the message is whole or refused, and nothing is lost: with memory it is whole again.
-#[test]
-fn messages_without_memory(rt: HostRuntime) -> Result<(), Fail> {
-    let (checks, alloc) = (&mut Checks::new(), rt.alloc());
-    let assembly = group(alloc, &[1, 0])?;
-    for step in 0..48 {
-        let held = starve_to(alloc, 16 * step)?;
-        let message = assembly.message(alloc);
-        drop(held);
-        checks.count(message.is_err());
-        match message {
-            Ok(message) => checks.check(bits_of(message.as_slice()) == WHOLE, "another message"),
-            Err(fault) => checks.check(fault == GroupFault::Memory, "another fault"),
-        }
-        let again = assembly.message(alloc)?;
-        checks.check(bits_of(again.as_slice()) == WHOLE, "another message again");
-    }
-    checks.check_counts();
-    assert_eq!(rt; checks.wrong(), None);
-    Ok(())
-}
-
 /// A group that isn't whole says so, whether there is memory or not; and a telegram is held without memory.
 #[test]
 fn nothing_is_wanted_of_a_part(rt: HostRuntime) -> Result<(), Fail> {
@@ -72,7 +38,7 @@ fn nothing_is_wanted_of_a_part(rt: HostRuntime) -> Result<(), Fail> {
     let mut assembly = group(alloc, &[1])?;
     let again = telegram(alloc, 1)?;
     let other = telegram(alloc, 0)?;
-    let held = starve_to(alloc, 0)?;
+    let held = starve(alloc)?;
     let message = assembly.message(alloc).err();
     let repeated = assembly.add(again).is_ok();
     let added = assembly.add(other).is_ok();

@@ -1,20 +1,12 @@
-//! Tests of each call that takes memory where it is refused: it answers rightly or that memory was refused, and leaves
-//! what it was lent as it was.
+//! Tests of calls that take no memory, or have to be asked in another way than each growth in turn, which the program
+//! `etcs_refusals` refuses.
 #![tactic(auto)]
 
-#[cfg(test)]
-mod bit_tests;
 #[cfg(test)]
 mod group_tests;
 #[cfg(test)]
 mod item_tests;
 #[cfg(test)]
-mod json_tests;
-#[cfg(test)]
 mod packet_tests;
 #[cfg(test)]
-mod part_tests;
-#[cfg(test)]
 mod program_tests;
-#[cfg(test)]
-mod run_tests;

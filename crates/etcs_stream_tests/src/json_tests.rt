@@ -1,5 +1,6 @@
 //! Runs over lines of JSON that are long, aren't UTF-8, hold what JSON doesn't have, or nest deep.
 
+use crate::stream_tests::NOTHING;
 use etcs_fakes::{Checks, Repeated};
 use etcs_stream::{Command, Form, Input, Job, Kind, Output, RunFault, Source, Tally, run};
 use std::alloc::{AllocError, Global};
@@ -162,6 +163,7 @@ fn endless_lines(rt: HostRuntime) {
     let mut source = Input::new(Repeated {
         bytes: b"                                                                ",
         left: u64::MAX,
+        then: NOTHING,
     });
     let mut sink = Output::new(&mut written);
     let answer = run(rt.alloc(), CHECK_RADIO, &mut source, &mut sink);

@@ -7,6 +7,8 @@ mod fault_tests;
 #[cfg(test)]
 mod group_tests;
 #[cfg(test)]
+mod jobs;
+#[cfg(test)]
 mod json_tests;
 #[cfg(test)]
 mod message_tests;

@@ -49,13 +49,14 @@ pub(crate) trait Ways: Copy {
 /// `short HEX`, `long HEX`, `radio HEX`: what is said of the bytes of an item. `message HEX`: how many bits and packets a
 /// message has. `turned SIZE HEX`, `turned radio HEX`: a line for each turned bit with which the bytes are none such, with
 /// what is answered. `alike SIZE HEX`: of how many bytes with one bit turned all ways to read them say the same.
+/// `pairs SIZE`, `pairs radio`: how many of all pairs of first bytes are refused.
 pub(crate) fn answer(case: &mut Case, kind: &str) -> bool {
     match kind {
         "short" => read(case, Size::Short),
         "long" => read(case, Size::Long),
         "radio" => read(case, Radio),
         "message" => crate::radio::message(case),
-        "turned" | "alike" => match case.word() {
+        "turned" | "alike" | "pairs" => match case.word() {
             "radio" => turn(case, Radio, kind),
             word => {
                 let size = size_of(case, word);
@@ -222,8 +223,11 @@ fn gives<R: Reads>(reader: R, item: Option<&R::Item>) -> bool {
     given.as_ref() == item
 }
 
-/// The lines of `turned` and `alike`.
+/// The lines of `turned`, `alike` and `pairs`.
 fn turn<W: Ways>(case: &mut Case, ways: W, kind: &str) {
+    if kind == "pairs" {
+        return say_pairs(case, ways);
+    }
     let bytes = case.bytes();
     turn_all(case, ways, bytes.as_slice(), kind);
 }
@@ -282,6 +286,18 @@ pub(crate) fn say_fed(case: &mut Case, fed: Result<Fed, ReadFault>) {
         }
         Err(fault) => say_fault(case, fault),
     }
+}
+
+/// How many of all pairs of first bytes are refused.
+fn say_pairs<W: Ways>(case: &mut Case, ways: W) {
+    let mut refused = 0u64;
+    for pair in 0..=u16::MAX {
+        let fed = fed_turned(case, ways, &pair.to_be_bytes());
+        if fed != Ok(Fed::More) {
+            refused = refused.saturating_add(1);
+        }
+    }
+    case.say_number(refused);
 }
 
 /// What a reader answers to bytes; checks that it is the same byte by byte and by a view, and that an item is written as

@@ -207,11 +207,10 @@ fn line_words(case: &mut Case, line: &str) -> Vec<String> {
 /// `program LINE < TEXT`: the status of this command line over the text, what it writes and its faults.
 /// `bytes LINE < HEX`: the status of this command line over these bytes, and what it writes, as hexadecimal digits.
 /// `status LINE`: the status of this command line over an empty input, and whether lines went to the output and to the
-/// faults.
+/// faults. Each is the same where the program reads byte by byte.
 fn program(case: &mut Case, kind: &str) {
     let given = case.split(" < ");
     let line = case.rest();
-    let words = line_words(case, line);
     let mut input = Vec::new(case.alloc());
     if kind == "bytes" {
         input = case.bytes_of(given);
@@ -220,10 +219,27 @@ fn program(case: &mut Case, kind: &str) {
     }
     let mut output: Vec<u8> = Vec::new(case.alloc());
     let mut faults: Vec<u8> = Vec::new(case.alloc());
-    let alloc = case.alloc();
-    let status = run_words(alloc, words, input.as_slice(), &mut output, &mut faults);
+    let status = status_of(case, line, input.as_slice(), &mut output, &mut faults);
     case.say_number(u64::from(status));
     say_streams(case, kind, output.as_slice(), faults.as_slice());
+    let rest = input.as_slice();
+    let mut slowly: Vec<u8> = Vec::new(case.alloc());
+    let mut slow_faults: Vec<u8> = Vec::new(case.alloc());
+    let again = status_of(case, line, Slow { rest }, &mut slowly, &mut slow_faults);
+    case.check(again == status && slowly == output, "not byte by byte");
+    case.check(slow_faults == faults, "other faults byte by byte");
+}
+
+/// The status of a command line over a reader.
+fn status_of<R: Read + Drop>(
+    case: &mut Case,
+    line: &str,
+    reader: R,
+    output: &mut Vec<u8>,
+    faults: &mut Vec<u8>,
+) -> u8 {
+    let words = line_words(case, line);
+    run_words(case.alloc(), words, reader, output, faults)
 }
 
 /// What the program wrote, as this kind of lines says it.

@@ -1,0 +1,127 @@
+//! The calls and their words.
+
+use crate::bit_calls::{Rows, refuse_copy, refuse_push};
+use crate::each::refuse_each;
+use crate::entry_calls::{FromTree, Text, Texts, ToTree};
+use crate::feeds::refuse_feed;
+use crate::packet_calls::{Clones, Fields, FromFields, numbers_of, refuse_message, refuse_view};
+use crate::runs::refuse_run;
+use etcs_cases::Case;
+use etcs_json::to_value;
+use etcs_packets::Packet;
+use etcs_radio::MessageReader;
+use etcs_telegram::{Size, TelegramReader};
+use etcs_text::{Entry, Kind, json_line};
+
+/// Answers a line: `from_slice HEX`, `push WIDTH HEX`, `feed STEP KIND HEX`, `to_packet KIND HEX`, `message KIND HEX ..`,
+/// `run COMMAND KIND FORM STEP COUNT HEX ..`, and `CALL KIND HEX` for each other call.
+pub(crate) fn answer(case: &mut Case) {
+    match case.word() {
+        "from_slice" => refuse_copy(case),
+        "push" => refuse_push(case),
+        "feed" => refuse_feed(case),
+        "to_packet" => refuse_view(case),
+        "message" => refuse_message(case),
+        "run" => refuse_run(case),
+        call => of_item(case, call),
+    }
+}
+
+/// The kind of a word.
+pub(crate) fn kind(case: &mut Case) -> Kind {
+    match case.word() {
+        "short" => Kind::Short,
+        "long" => Kind::Long,
+        "radio" => Kind::Radio,
+        _ => {
+            case.bad();
+            Kind::Short
+        }
+    }
+}
+
+/// The size of telegrams of a kind.
+pub(crate) fn size_of(kind: Kind) -> Size {
+    if kind == Kind::Long {
+        Size::Long
+    } else {
+        Size::Short
+    }
+}
+
+/// The item of these bytes.
+pub(crate) fn entry(case: &mut Case, kind: Kind, bytes: &[u8]) -> Option<Entry> {
+    if kind == Kind::Radio {
+        let mut reader = MessageReader::new(case.alloc());
+        case.kept(reader.feed(bytes).is_ok());
+        return Some(Entry::Message(reader.take().ok()?));
+    }
+    let mut reader = TelegramReader::new(case.alloc(), size_of(kind));
+    case.kept(reader.feed(bytes).is_ok());
+    Some(Entry::Telegram(reader.take().ok()?))
+}
+
+/// The packets of an item.
+pub(crate) fn packets_of(entry: &Entry) -> &[Packet] {
+    match entry {
+        Entry::Telegram(telegram) => telegram.packets(),
+        Entry::Message(message) => message.packets(),
+    }
+}
+
+/// Makes a call of an item.
+fn of_item(case: &mut Case, call: &str) {
+    let kind = kind(case);
+    let bytes = case.bytes();
+    let entry = entry(case, kind, bytes.as_slice());
+    match entry.as_ref() {
+        Some(entry) => of_entry(case, call, kind, entry),
+        None => case.bad(),
+    }
+}
+
+/// Makes a call of an item of a kind.
+fn of_entry(case: &mut Case, call: &str, kind: Kind, entry: &Entry) {
+    let packets = packets_of(entry);
+    let listed = numbers_of(case, packets);
+    let rows = listed.as_slice();
+    match call {
+        "fields" => refuse_each(case, Fields { packets }),
+        "from_fields" => refuse_each(case, FromFields { rows }),
+        "write_row" => refuse_each(case, Rows { rows }),
+        "try_clone" => refuse_each(case, Clones { packets }),
+        "show_lines" => text(case, entry, Text::Show),
+        "json_line" => text(case, entry, Text::Json),
+        "hex_line" => text(case, entry, Text::Hex),
+        "encode" => text(case, entry, Text::Encoded),
+        "to_value" => to_tree(case, entry),
+        "from_value" => from_tree(case, kind, entry),
+        _ => case.bad(),
+    }
+}
+
+/// Appends a text of an item.
+fn text(case: &mut Case, entry: &Entry, text: Text) {
+    refuse_each(case, Texts { entry, text });
+}
+
+/// Makes the tree of an item, whose text is the item's line.
+fn to_tree(case: &mut Case, entry: &Entry) {
+    let alloc = case.alloc();
+    let mut line = Vec::new(alloc);
+    case.kept(json_line(entry, &mut line).is_ok());
+    if let Some(tree) = case.got(to_value(alloc, entry)) {
+        if let Some(text) = case.got(tree.to_string(alloc)) {
+            let same = line.as_slice().strip_suffix(b"\n") == Some(text.as_bytes());
+            case.check(same, "another line");
+        }
+    }
+    refuse_each(case, ToTree { entry });
+}
+
+/// Reads the tree of an item.
+fn from_tree(case: &mut Case, kind: Kind, entry: &Entry) {
+    if let Some(tree) = case.got(to_value(case.alloc(), entry)) {
+        refuse_each(case, FromTree { kind, tree });
+    }
+}

@@ -1,0 +1,251 @@
+//! Packets: their numbers, from numbers and from bits, and their copies; and the message of a group.
+
+use crate::calls::{entry, kind, size_of};
+use crate::each::{Makes, refuse_each};
+use etcs_bodies::Framed;
+use etcs_cases::Case;
+use etcs_group::{Assembly, GroupFault};
+use etcs_packets::{Packet, parts};
+use etcs_telegram::{Size, TelegramView};
+use etcs_text::Entry;
+use std::alloc::{AllocError, Global};
+
+/// Appends the numbers of a packet of its own type.
+fn append<P: Framed>(packet: &P, out: &mut Vec<u64>) -> Result<(), AllocError> {
+    packet.fields(out)
+}
+
+/// Appends the numbers of a packet, but for packet 0 and kept bits.
+fn append_fields(packet: &Packet, out: &mut Vec<u64>) -> Result<(), AllocError> {
+    match packet {
+        Packet::VbcMarker(_) | Packet::Other(_) => Ok(()),
+        Packet::SystemVersion(packet) => append(packet, out),
+        Packet::Linking(packet) => append(packet, out),
+        Packet::Level1Ma(packet) => append(packet, out),
+        Packet::Level23Ma(packet) => append(packet, out),
+        Packet::Repositioning(packet) => append(packet, out),
+        Packet::Gradient(packet) => append(packet, out),
+        Packet::SpeedProfile(packet) => append(packet, out),
+        Packet::LevelOrder(packet) => append(packet, out),
+        Packet::SessionManagement(packet) => append(packet, out),
+        Packet::RadioNetwork(packet) => append(packet, out),
+        Packet::ConditionalLevelOrder(packet) => append(packet, out),
+        Packet::ShuntingList(packet) => append(packet, out),
+        Packet::MaRequest(packet) => append(packet, out),
+        Packet::ReportParameters(packet) => append(packet, out),
+        Packet::SrList(packet) => append(packet, out),
+        Packet::InhibitTsr(packet) => append(packet, out),
+        Packet::Tsr(packet) => append(packet, out),
+        Packet::TsrRevocation(packet) => append(packet, out),
+        Packet::TrackCondition(packet) => append(packet, out),
+        Packet::PlainText(packet) => append(packet, out),
+        Packet::FixedText(packet) => append(packet, out),
+        Packet::ModeProfile(packet) => append(packet, out),
+        Packet::RbcTransition(packet) => append(packet, out),
+        Packet::DangerForShunting(packet) => append(packet, out),
+        Packet::StopShunting(packet) => append(packet, out),
+        Packet::InfillLocation(packet) => append(packet, out),
+        Packet::StopInSr(packet) => append(packet, out),
+        Packet::TrainRunningNumber(packet) => append(packet, out),
+        Packet::TsrGradient(packet) => append(packet, out),
+        Packet::InhibitConsistency(packet) => append(packet, out),
+        Packet::DefaultInformation(packet) => append(packet, out),
+    }
+}
+
+/// The lists of numbers of packets, after three others.
+#[derive(Drop)]
+pub(crate) struct Fields<'a> {
+    pub(crate) packets: &'a [Packet],
+}
+
+/// A list of three numbers.
+fn three(alloc: Global) -> Result<Vec<u64>, AllocError> {
+    let mut out = Vec::with_capacity(alloc, 3)?;
+    out.extend_from_slice(&[7, 8, 9])?;
+    Ok(out)
+}
+
+impl Makes for Fields<'_> {
+    type Made = Vec<u64>;
+
+    fn count(&self) -> usize {
+        self.packets.len()
+    }
+
+    fn make(&self, alloc: Global, index: usize) -> Result<Vec<u64>, bool> {
+        let (Some(packet), Ok(mut out)) = (self.packets.get(index), three(alloc)) else {
+            return Err(true);
+        };
+        if append_fields(packet, &mut out).is_ok() {
+            return Ok(out);
+        }
+        Err(out.as_slice() == [7, 8, 9].as_slice())
+    }
+}
+
+/// The number, the direction and the numbers of a packet.
+#[derive(Drop)]
+pub(crate) struct Listed {
+    pub(crate) nid: u8,
+    dir: u8,
+    pub(crate) numbers: Vec<u64>,
+}
+
+/// The numbers of packets.
+pub(crate) fn numbers_of(case: &mut Case, packets: &[Packet]) -> Vec<Listed> {
+    let mut all = Vec::new(case.alloc());
+    for packet in packets {
+        let mut numbers = Vec::new(case.alloc());
+        case.kept(append_fields(packet, &mut numbers).is_ok());
+        let (nid, dir) = (packet.nid(), parts::dir(packet).unwrap_or(3));
+        case.kept(all.push(Listed { nid, dir, numbers }).is_ok());
+    }
+    all
+}
+
+/// Packets of numbers.
+#[derive(Drop)]
+pub(crate) struct FromFields<'a> {
+    pub(crate) rows: &'a [Listed],
+}
+
+impl Makes for FromFields<'_> {
+    type Made = Option<Packet>;
+
+    fn count(&self) -> usize {
+        self.rows.len()
+    }
+
+    fn make(&self, alloc: Global, index: usize) -> Result<Option<Packet>, bool> {
+        match self.rows.get(index) {
+            Some(row) => match parts::from_fields(alloc, row.nid, row.dir, row.numbers.as_slice()) {
+                Ok(packet) => Ok(packet),
+                Err(_) => Err(true),
+            },
+            None => Ok(None),
+        }
+    }
+}
+
+/// Copies of packets.
+#[derive(Drop)]
+pub(crate) struct Clones<'a> {
+    pub(crate) packets: &'a [Packet],
+}
+
+impl Makes for Clones<'_> {
+    type Made = Option<Packet>;
+
+    fn count(&self) -> usize {
+        self.packets.len()
+    }
+
+    fn make(&self, alloc: Global, index: usize) -> Result<Option<Packet>, bool> {
+        match self.packets.get(index) {
+            Some(packet) => match packet.try_clone(alloc) {
+                Ok(copy) => Ok(Some(copy)),
+                Err(_) => Err(true),
+            },
+            None => Ok(None),
+        }
+    }
+}
+
+/// Packets of a view, of which there are this many.
+#[derive(Drop)]
+struct Seen<'a> {
+    bytes: &'a [u8],
+    size: Size,
+    packets: usize,
+}
+
+impl Makes for Seen<'_> {
+    type Made = Option<Packet>;
+
+    fn count(&self) -> usize {
+        self.packets
+    }
+
+    fn make(&self, alloc: Global, index: usize) -> Result<Option<Packet>, bool> {
+        let Ok(view) = TelegramView::new(self.bytes, self.size) else {
+            return Err(false);
+        };
+        let mut left = index;
+        for packet in view.packets() {
+            if left == 0 {
+                return match packet.to_packet(alloc) {
+                    Ok(packet) => Ok(Some(packet)),
+                    Err(_) => Err(true),
+                };
+            }
+            left -= 1;
+        }
+        Ok(None)
+    }
+}
+
+/// `to_packet KIND HEX`: the packets of a view.
+pub(crate) fn refuse_view(case: &mut Case) {
+    let size = size_of(kind(case));
+    let held = case.bytes();
+    let bytes = held.as_slice();
+    let mut packets = 0usize;
+    if let Ok(view) = TelegramView::new(bytes, size) {
+        for _packet in view.packets() {
+            packets = packets.saturating_add(1);
+        }
+    }
+    refuse_each(
+        case,
+        Seen {
+            bytes,
+            size,
+            packets,
+        },
+    );
+}
+
+/// The message of a group.
+#[derive(Drop)]
+struct Messages<'a> {
+    assembly: &'a Assembly,
+}
+
+impl Makes for Messages<'_> {
+    type Made = Vec<Packet>;
+
+    fn count(&self) -> usize {
+        1
+    }
+
+    fn make(&self, alloc: Global, _index: usize) -> Result<Vec<Packet>, bool> {
+        match self.assembly.message(alloc) {
+            Ok(packets) => Ok(packets),
+            Err(fault) => Err(fault == GroupFault::Memory),
+        }
+    }
+}
+
+/// `message KIND HEX ..`: the message of the group of these telegrams.
+pub(crate) fn refuse_message(case: &mut Case) {
+    let mut assembly = Assembly::new();
+    let kind = kind(case);
+    for _ in 0..8u8 {
+        if !case.is_empty() {
+            let bytes = case.bytes();
+            let telegram = entry(case, kind, bytes.as_slice());
+            add(case, &mut assembly, telegram);
+        }
+    }
+    let assembly = &assembly;
+    refuse_each(case, Messages { assembly });
+}
+
+/// Adds a telegram.
+fn add(case: &mut Case, assembly: &mut Assembly, entry: Option<Entry>) {
+    match entry {
+        Some(Entry::Telegram(telegram)) => case.kept(assembly.add(telegram).is_ok()),
+        _ => case.bad(),
+    }
+}

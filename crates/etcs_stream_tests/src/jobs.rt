@@ -1,0 +1,143 @@
+//! Command lines over two items in each form, and what is written of them. The texts are those of a second implementation,
+//! which was made of the tables alone.
+
+/// A command line, the items of its input, what is written of each, and what is written at the end.
+pub(crate) type Told = (
+    &'static str,
+    [&'static [u8]; 2],
+    [&'static [u8]; 2],
+    &'static [u8],
+);
+
+pub(crate) static JOBS: [Told; 19] = [
+    ("etcs show --kind radio --from hex", HEX, SHOWN, b""),
+    ("etcs show --kind radio --from bin", BIN, SHOWN, b""),
+    ("etcs show --kind radio --from json", JSON, SHOWN, b""),
+    ("etcs check --kind radio --from hex", HEX, CHECKED, b""),
+    ("etcs check --kind radio --from bin", BIN, CHECKED, b""),
+    ("etcs check --kind radio --from json", JSON, CHECKED, b""),
+    (
+        "etcs convert --kind radio --from hex --to hex",
+        HEX,
+        HEX,
+        b"",
+    ),
+    (
+        "etcs convert --kind radio --from hex --to bin",
+        HEX,
+        BIN,
+        b"",
+    ),
+    (
+        "etcs convert --kind radio --from hex --to json",
+        HEX,
+        JSON,
+        b"",
+    ),
+    (
+        "etcs convert --kind radio --from bin --to hex",
+        BIN,
+        HEX,
+        b"",
+    ),
+    (
+        "etcs convert --kind radio --from bin --to bin",
+        BIN,
+        BIN,
+        b"",
+    ),
+    (
+        "etcs convert --kind radio --from bin --to json",
+        BIN,
+        JSON,
+        b"",
+    ),
+    (
+        "etcs convert --kind radio --from json --to hex",
+        JSON,
+        HEX,
+        b"",
+    ),
+    (
+        "etcs convert --kind radio --from json --to bin",
+        JSON,
+        BIN,
+        b"",
+    ),
+    (
+        "etcs convert --kind radio --from json --to json",
+        JSON,
+        JSON,
+        b"",
+    ),
+    (
+        "etcs group --kind short --from hex",
+        GROUP_HEX,
+        GROUPED,
+        LAST,
+    ),
+    (
+        "etcs group --kind short --from bin",
+        GROUP_BIN,
+        GROUPED,
+        LAST,
+    ),
+    (
+        "etcs group --kind short --from json",
+        GROUP_JSON,
+        GROUPED,
+        LAST,
+    ),
+    ("etcs show --kind short", GROUP_HEX, GROUP_SHOWN, b""),
+];
+
+/// Two messages: 15, which is kept with six bits, and 16.
+const HEX: [&[u8]; 2] = [b"0F00FF\n", b"1002800000000008002A\n"];
+
+/// The same as bytes.
+const BIN: [&[u8]; 2] = [b"\x0F\x00\xFF", b"\x10\x02\x80\x00\x00\x00\x00\x08\x00*"];
+
+/// The same as JSON.
+const JSON: [&[u8]; 2] = [
+    b"{\"data\":\"111111\",\"kind\":\"radio\",\"nid\":15}\n",
+    b"{\"fields\":[[\"NID_EM\",5]],\"header\":[[\"T_TRAIN\",0],[\"M_ACK\",0],[\"NID_LRBG\",16385]],\"kind\":\"radio\",\"nid\":16,\"packets\":[],\"padding\":\"0\"}\n",
+];
+
+/// The same as text.
+const SHOWN: [&[u8]; 2] = [
+    b"item 1 radio 24 bits\n  NID_MESSAGE 15\n  L_MESSAGE 3\n  OTHER_DATA 6 111111\n",
+    b"item 2 radio 80 bits\n  NID_MESSAGE 16\n  L_MESSAGE 10\n  T_TRAIN 0\n  M_ACK 0\n  NID_LRBG 16385\n  NID_EM 5\nend\n  PADDING 1 0\n",
+];
+
+/// What is said of them where they are accepted.
+const CHECKED: [&[u8]; 2] = [b"item 1 ok 24 bits\n", b"item 2 ok 80 bits\n"];
+
+/// The two telegrams of a group.
+const GROUP_HEX: [&[u8]; 2] = [
+    b"A002FF802000E2500C7FFFFFFFFFFFFFFFFFFFFFFFFFFFFFFFFFC0\n",
+    b"A0137F802000E2500C7FFFFFFFFFFFFFFFFFFFFFFFFFFFFFFFFFC0\n",
+];
+
+/// The same as bytes.
+const GROUP_BIN: [&[u8]; 2] = [
+    b"\xA0\x02\xFF\x80 \x00\xE2P\x0C\x7F\xFF\xFF\xFF\xFF\xFF\xFF\xFF\xFF\xFF\xFF\xFF\xFF\xFF\xFF\xFF\xFF\xC0",
+    b"\xA0\x13\x7F\x80 \x00\xE2P\x0C\x7F\xFF\xFF\xFF\xFF\xFF\xFF\xFF\xFF\xFF\xFF\xFF\xFF\xFF\xFF\xFF\xFF\xC0",
+];
+
+/// The same as JSON.
+const GROUP_JSON: [&[u8]; 2] = [
+    b"{\"fill\":\"11111111111111111111111111111111111111111111111111111111111111111111111111111111111111111111111111111111111111111111111111111111\",\"header\":[[\"Q_UPDOWN\",1],[\"M_VERSION\",32],[\"Q_MEDIA\",0],[\"N_PIG\",0],[\"N_TOTAL\",1],[\"M_DUP\",1],[\"M_MCOUNT\",255],[\"NID_C\",1],[\"NID_BG\",1],[\"Q_LINK\",1]],\"kind\":\"short\",\"packets\":[{\"dir\":1,\"fields\":[[\"Q_SRSTOP\",1]],\"nid\":137}]}\n",
+    b"{\"fill\":\"11111111111111111111111111111111111111111111111111111111111111111111111111111111111111111111111111111111111111111111111111111111\",\"header\":[[\"Q_UPDOWN\",1],[\"M_VERSION\",32],[\"Q_MEDIA\",0],[\"N_PIG\",1],[\"N_TOTAL\",1],[\"M_DUP\",2],[\"M_MCOUNT\",255],[\"NID_C\",1],[\"NID_BG\",1],[\"Q_LINK\",1]],\"kind\":\"short\",\"packets\":[{\"dir\":1,\"fields\":[[\"Q_SRSTOP\",1]],\"nid\":137}]}\n",
+];
+
+/// What is said of each.
+const GROUPED: [&[u8]; 2] = [b"item 1 new\n", b"item 2 new\n"];
+
+/// What is said of the group at the end.
+const LAST: &[u8] = b"group 1 1 complete\npacket 137\n  Q_DIR 1\n  L_PACKET 24\n  Q_SRSTOP 1\n";
+
+/// The same as text.
+const GROUP_SHOWN: [&[u8]; 2] = [
+    b"item 1 short 210 bits\n  Q_UPDOWN 1\n  M_VERSION 32\n  Q_MEDIA 0\n  N_PIG 0\n  N_TOTAL 1\n  M_DUP 1\n  M_MCOUNT 255\n  NID_C 1\n  NID_BG 1\n  Q_LINK 1\npacket 137\n  Q_DIR 1\n  L_PACKET 24\n  Q_SRSTOP 1\npacket 255\n  FILL 128 11111111111111111111111111111111111111111111111111111111111111111111111111111111111111111111111111111111111111111111111111111111\n",
+    b"item 2 short 210 bits\n  Q_UPDOWN 1\n  M_VERSION 32\n  Q_MEDIA 0\n  N_PIG 1\n  N_TOTAL 1\n  M_DUP 2\n  M_MCOUNT 255\n  NID_C 1\n  NID_BG 1\n  Q_LINK 1\npacket 137\n  Q_DIR 1\n  L_PACKET 24\n  Q_SRSTOP 1\npacket 255\n  FILL 128 11111111111111111111111111111111111111111111111111111111111111111111111111111111111111111111111111111111111111111111111111111111\n",
+];

@@ -4,6 +4,7 @@ use Rattle.etcs_vars.specs.declared.var.Var.TheVariants.{Q_DIR}
 use Rattle.etcs_vars.specs.declared.fault.BuildFault.{BuildFault}
 use Rattle.etcs_vars.specs.Reading.{Reading, numbers, spelled}
 use Rattle.etcs_tables.specs.declared.row.Way.{Way}
+use Rattle.etcs_tables.specs.declared.row.Way.TheVariants.{ToTrain, ToTrack}
 use Rattle.etcs_tables.specs.Layouts.{ROW_LIMIT}
 use Rattle.etcs_tables.specs.Typed.{IsTyped, IsFramed}
 use Rattle.etcs_bodies.specs.Taking.{Left, listed, in_bits, ◌and_then◌}
@@ -33,12 +34,22 @@ directed_from from too_long make dir s = from s and_then λ b. fitting (too_long
 abbrev pub never : {P : Type 0} → P → Option BuildFault
 never p = None
 
+-- to the track every packet has the direction 0
+abbrev pub direction_as : Way → ℕ → ℕ
+direction_as ToTrain dir = dir
+direction_as ToTrack dir = 0
+
+-- with this direction nothing is wrong
+abbrev pub IsDirection : Way → ℕ → Type 0
+IsDirection ToTrain dir = number_fault Q_DIR dir ≡ None
+IsDirection ToTrack dir = dir ≡ 0
+
 -- a packet as a direction and a body: what makes it a value, and that its length is counted
-pub record Directed {B P : Type 0} (IsBody : B → Type 0) (body_reading : B → Reading) (too_long : P → Option BuildFault) (direction : P → ℕ) (IsValue : P → Type 0) (reading : P → Reading) (make : ℕ → B → P) : Type 0 where
+pub record Directed {B P : Type 0} (way : Way) (IsBody : B → Type 0) (body_reading : B → Reading) (too_long : P → Option BuildFault) (direction : P → ℕ) (IsValue : P → Type 0) (reading : P → Reading) (make : ℕ → B → P) : Type 0 where
   pub body : P → B
   pub again : (p : P) → make (direction p) (body p) ≡ p
-  pub dir_is : (dir : ℕ) (b : B) → direction (make dir b) ≡ dir
+  pub dir_is : (dir : ℕ) (b : B) → direction (make dir b) ≡ direction_as way dir
   pub same : (dir : ℕ) (b : B) → body_reading b ≡ reading (make dir b)
-  pub is : (p : P) → IsValue p → IsBody (body p) × (number_fault Q_DIR (direction p) ≡ None) × (length (spelled (reading p)) ≤ ROW_LIMIT)
-  pub so : (dir : ℕ) (b : B) → IsBody b → number_fault Q_DIR dir ≡ None → too_long (make dir b) ≡ None → IsValue (make dir b)
+  pub is : (p : P) → IsValue p → IsBody (body p) × IsDirection way (direction p) × (length (spelled (reading p)) ≤ ROW_LIMIT)
+  pub so : (dir : ℕ) (b : B) → IsBody b → IsDirection way dir → too_long (make dir b) ≡ None → IsValue (make dir b)
   pub fits : (dir : ℕ) (b : B) → length (spelled (reading (make dir b))) ≤ ROW_LIMIT → too_long (make dir b) ≡ None

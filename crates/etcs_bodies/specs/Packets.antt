@@ -1,11 +1,12 @@
 -- A packet after its frame: a direction, and a body that is the whole of its row.
 use Rattle.std.proofs.Common.{◌≡◌, ℕ, true, Option, Some, None}
 use Rattle.std.specs.Prelude.{IsTrue, if◌then◌else◌, nat_le}
-use Rattle.etcs_vars.specs.declared.var.Var.TheVariants.{Q_DIR}
 use Rattle.etcs_vars.specs.declared.fault.BuildFault.{BuildFault}
 use Rattle.etcs_vars.specs.declared.fault.BuildFault.TheVariants.{TooLong}
-use Rattle.etcs_vars.specs.Vars.{admits}
 use Rattle.etcs_vars.specs.Reading.{Reading}
+use Rattle.etcs_tables.specs.declared.row.Way.{Way}
+use Rattle.etcs_tables.specs.declared.row.Way.TheVariants.{ToTrain}
+use Rattle.etcs_tables.specs.Frames.{is_direction}
 use Rattle.etcs_tables.specs.Layouts.{ROW_LIMIT}
 use Rattle.etcs_bodies.specs.Taking.{Left, is_spent, ◌and_then◌}
 use Rattle.etcs_bodies.specs.Repeats.{bit_count}
@@ -21,13 +22,17 @@ length_fault r = bits_fault (bit_count r)
 
 -- ---- What is read as a packet.
 
--- the packet of a direction that Q_DIR admits, which takes all that is left
-unfoldable pub packet_from : {P : Type 0} → (ℕ → Left → Option (P × Left)) → ℕ → Left → Option P
-packet_from from dir s = if admits Q_DIR dir then (from dir s and_then λ p. if is_spent p.1 then Some p.0 else None) else None
+-- the packet this way of a direction that it may have, which takes all that is left
+unfoldable pub packet_to : {P : Type 0} → Way → (ℕ → Left → Option (P × Left)) → ℕ → Left → Option P
+packet_to way from dir s = if is_direction way dir then (from dir s and_then λ p. if is_spent p.1 then Some p.0 else None) else None
+
+-- to the train
+abbrev pub packet_from : {P : Type 0} → (ℕ → Left → Option (P × Left)) → ℕ → Left → Option P
+packet_from from = packet_to ToTrain from
 
 -- what a packet was read from
-pub record Whole {P : Type 0} (from : ℕ → Left → Option (P × Left)) (dir : ℕ) (s : Left) (p : P) : Type 0 where
+pub record Whole {P : Type 0} (way : Way) (from : ℕ → Left → Option (P × Left)) (dir : ℕ) (s : Left) (p : P) : Type 0 where
   pub left : Left
   pub taken : from dir s ≡ Some (p, left)
   pub spent : is_spent left ≡ true
-  pub dir_ok : IsTrue (admits Q_DIR dir)
+  pub dir_ok : IsTrue (is_direction way dir)

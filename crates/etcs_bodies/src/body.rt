@@ -1,18 +1,16 @@
 //! What a typed packet has to give: its body, the whole of its row after a direction.
 
 ghost use Rattle.std.specs.Prelude.{◌≡◌, ℕ, Option, Some, None, IfOk, IfSome, IfNone, IsTrue};
-ghost use Rattle.etcs_vars.specs.declared.var.Var.TheVariants.{Q_DIR};
-ghost use Rattle.etcs_vars.specs.Vars.{admits};
+ghost use Rattle.etcs_tables.specs.Frames.{is_direction};
 ghost use Rattle.etcs_bodies.specs.Taking.{Left};
-ghost use Rattle.etcs_bodies.specs.Packets.{packet_from};
+ghost use Rattle.etcs_bodies.specs.Packets.{packet_to};
 ghost use Rattle.etcs_bodies.specs.PacketCodes.{PacketCodes};
 
 use crate::framed::Framed;
 use crate::numbers::Numbers;
 use crate::packetlike::Packetlike;
 use etcs_bits::BitSlice;
-use etcs_tables::Way;
-use etcs_vars::Var;
+use etcs_tables::{Way, is_direction};
 use etcs_vars::parts::{Variables, append_numbers};
 use std::alloc::{AllocError, Global};
 
@@ -30,7 +28,7 @@ pub trait Body: Variables + Drop {
 
     ghost WAY: { Way };
 
-    /// Its Q_DIR.
+    /// Its direction: Q_DIR to the train, 0 to the track.
     ghost direction: { Self → ℕ };
 
     /// Holds of every packet of the type.
@@ -39,7 +37,7 @@ pub trait Body: Variables + Drop {
     /// The packet of a direction with which what is left begins, and what is left after it.
     ghost read_from: { ℕ → Left → Option (Self × Left) };
 
-    /// Its Q_DIR.
+    /// Its direction.
     fn q_dir(&self) -> u8
         ensures dir { result ≡ direction self.now }
         ensures value { is_value self.now };
@@ -50,7 +48,7 @@ pub trait Body: Variables + Drop {
     ///
     /// `AllocError` where there is no memory.
     fn take(alloc: Global, dir: u8, numbers: &mut Numbers) -> Result<Option<Self>, AllocError>
-        requires { IsTrue (admits Q_DIR dir) }
+        requires { IsTrue (is_direction WAY dir) }
         ensures some { IfOk result (λ o. IfSome o (λ p. read_from dir numbers.old ≡ Some (p, numbers.new))) }
         ensures none { IfOk result (λ o. IfNone o (read_from dir numbers.old ≡ None)) };
 
@@ -63,17 +61,17 @@ pub trait Body: Variables + Drop {
         ensures { IfOk result (λ p. p ≡ self.now) };
 
     /// What it is read from is what it spells.
-    ghost codes: { PacketCodes WAY NID direction is_value Self.reading_of (packet_from read_from) };
+    ghost codes: { PacketCodes WAY NID direction is_value Self.reading_of (packet_to WAY read_from) };
 }
 
 /// The packet of a direction that takes all of the numbers.
-#[tactic(auto, unfolding(crate::specs::Packets::packet_from))]
+#[tactic(auto, unfolding(crate::specs::Packets::packet_to))]
 #[inline(always)]
 fn read<P: Body>(alloc: Global, dir: u8, mut numbers: Numbers<'_>) -> Result<Option<P>, AllocError>
-    ensures some { IfOk result (λ o. IfSome o (λ p. packet_from P.read_from dir numbers.entry ≡ Some p)) }
-    ensures none { IfOk result (λ o. IfNone o (packet_from P.read_from dir numbers.entry ≡ None)) }
+    ensures some { IfOk result (λ o. IfSome o (λ p. packet_to P.WAY P.read_from dir numbers.entry ≡ Some p)) }
+    ensures none { IfOk result (λ o. IfNone o (packet_to P.WAY P.read_from dir numbers.entry ≡ None)) }
 {
-    if !Var::Q_DIR.admits(u64::from(dir)) {
+    if !is_direction(P::WAY, dir) {
         return Ok(None);
     }
     let packet = P::take(alloc, dir, &mut numbers)?;

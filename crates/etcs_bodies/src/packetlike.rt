@@ -8,8 +8,8 @@ use std::alloc::{AllocError, Global};
 
 /// A typed packet: its number, its direction and the numbers of its row.
 ///
-/// A type has a value for each direction that Q_DIR admits and each list of numbers that the row of its
-/// packet spells, and no other value.
+/// A type has a value for each direction that a packet may have this way and each list of numbers that the row of
+/// its packet spells, and no other value.
 pub trait Packetlike: Sized {
     ghost use Rattle.etcs_tables.specs.declared.row.Way.{Way};
 
@@ -31,7 +31,7 @@ pub trait Packetlike: Sized {
     /// Holds of every packet of the type, as `dir` says; a law's variables range over more.
     ghost is_value: { Self → Type 0 };
 
-    /// Its Q_DIR.
+    /// Its direction: Q_DIR to the train, 0 to the track.
     fn dir(&self) -> u8
         ensures dir { result ≡ direction self.now }
         ensures value { is_value self.now };

@@ -4,13 +4,14 @@ use Rattle.std.specs.Prelude.{if◌then◌else◌, ◌⊎◌}
 use Rattle.std.specs.Option.{option_map}
 use Rattle.std.proofs.lemmas.List.{length-map}
 use Rattle.etcs_vars.specs.declared.var.Var.{Var}
-use Rattle.etcs_vars.specs.declared.var.Var.TheVariants.{Q_DIR}
 use Rattle.etcs_vars.specs.declared.fault.BuildFault.{BuildFault}
 use Rattle.etcs_vars.specs.declared.fault.BuildFault.TheVariants.{Count}
 use Rattle.etcs_vars.specs.Faults.{◌or_else◌, number_fault}
 use Rattle.etcs_tables.specs.declared.item.RowItem.{RowItem}
 use Rattle.etcs_tables.specs.declared.item.RowItem.TheVariants.{One}
+use Rattle.etcs_tables.specs.declared.row.Way.{Way}
 use Rattle.etcs_flat.specs.Flats.{numbers_fault, row_fault}
+use Rattle.etcs_flat.specs.Others.{direction_fault}
 use Rattle.etcs_flat.specs.laws.FlatLaws.{same_count}
 
 -- ---- Faults, one after another.
@@ -35,10 +36,10 @@ fault_end (v ∷ ws) are (inl h) e = absurd cc
 fault_end (v ∷ ws) are (inr h) e = sym e ∙ ap (numbers_fault (v ∷ ws)) h
 
 -- where the count and the direction are right, only numbers may be wrong
-pub numbers_left : (o : Option (List Var)) (table : List RowItem) (dir : ℕ) (ns : List ℕ) → Some table ≡ option_map (λ vs. map One vs) o → length ns ≡ length table → number_fault Q_DIR dir ≡ None
-    → (vs : List Var) × (table ≡ map One vs) × (row_fault o dir ns ≡ numbers_fault vs ns)
-numbers_left None table dir ns is long fine = absurd cc
-numbers_left (Some vs) table dir ns is long fine =
+pub numbers_left : (way : Way) (o : Option (List Var)) (table : List RowItem) (dir : ℕ) (ns : List ℕ) → Some table ≡ option_map (λ vs. map One vs) o → length ns ≡ length table → direction_fault way dir ≡ None
+    → (vs : List Var) × (table ≡ map One vs) × (row_fault way o dir ns ≡ numbers_fault vs ns)
+numbers_left way None table dir ns is long fine = absurd cc
+numbers_left way (Some vs) table dir ns is long fine =
     let are : table ≡ map One vs = cc in
     let count : length ns ≡ length vs = omega (arith, long, ap length are, length-map vs One) in
     let counted : (if length ns == length vs then None else Some Count) ≡ None = same_count (length ns) (length vs) None (Some Count) count in

@@ -2,7 +2,8 @@
 use Rattle.std.proofs.Common.{◌≡◌, ℕ, ◌≤◌, List, [], ◌∷◌, length, Option, None, refl, ap, ◌∙◌, arith}
 use Rattle.etcs_vars.specs.declared.var.Var.{Var}
 use Rattle.etcs_vars.specs.Reading.{numbers}
-use Rattle.etcs_flat.specs.Flats.{flat_row, flat_fault, pairs, row_reading, flat_reading}
+use Rattle.etcs_tables.specs.declared.row.Way.{Way}
+use Rattle.etcs_flat.specs.Flats.{flat_row_to, flat_fault_to, pairs, row_reading, flat_reading_to}
 use Rattle.etcs_flat.specs.laws.FlatLaws.{row_short, nothing_wrong}
 
 -- ---- Readings of a row without groups.
@@ -16,13 +17,13 @@ pairs-numbers (v ∷ vs) (n ∷ ns) long = ap (λ (g : List ℕ). n ∷ g) (pair
 
 -- ---- What nothing is wrong with.
 
-pub flat_short : (nid dir : ℕ) (ns : List ℕ) → flat_fault nid dir ns ≡ None → length ns ≤ 6
-flat_short nid dir ns fine =
-    let x = nothing_wrong (flat_row nid) dir ns fine in
-    omega (arith, x.2, row_short nid x.0 x.1)
+pub flat_short : (way : Way) (nid dir : ℕ) (ns : List ℕ) → flat_fault_to way nid dir ns ≡ None → length ns ≤ 6
+flat_short way nid dir ns fine =
+    let x = nothing_wrong way (flat_row_to way nid) dir ns fine in
+    omega (arith, x.2, row_short way nid x.0 x.1)
 
 -- its variables have its numbers
-pub flat_numbers : (nid dir : ℕ) (ns : List ℕ) → flat_fault nid dir ns ≡ None → numbers (flat_reading nid ns) ≡ ns
-flat_numbers nid dir ns fine =
-    let x = nothing_wrong (flat_row nid) dir ns fine in
+pub flat_numbers : (way : Way) (nid dir : ℕ) (ns : List ℕ) → flat_fault_to way nid dir ns ≡ None → numbers (flat_reading_to way nid ns) ≡ ns
+flat_numbers way nid dir ns fine =
+    let x = nothing_wrong way (flat_row_to way nid) dir ns fine in
     ap (λ (o : Option (List Var)). numbers (row_reading o ns)) x.1 ∙ pairs-numbers x.0 ns x.2

@@ -2,16 +2,18 @@
 use Rattle.std.specs.Prelude.{ℕ, ◌==◌, Bool, true, false, List, [], ◌∷◌, length, Option, Some, None, if◌then◌else◌}
 use Rattle.std.specs.Option.{option_map, option_and_then}
 use Rattle.etcs_vars.specs.declared.var.Var.{Var}
-use Rattle.etcs_vars.specs.declared.var.Var.TheVariants.{NID_PACKET, Q_DIR}
+use Rattle.etcs_vars.specs.declared.var.Var.TheVariants.{NID_PACKET}
 use Rattle.etcs_vars.specs.declared.fault.BuildFault.{BuildFault}
 use Rattle.etcs_vars.specs.declared.fault.BuildFault.TheVariants.{NotAdmitted, Count}
 use Rattle.etcs_vars.specs.Faults.{◌or_else◌, number_fault}
 use Rattle.etcs_vars.specs.Reading.{Reading}
 use Rattle.etcs_tables.specs.declared.item.RowItem.{RowItem}
 use Rattle.etcs_tables.specs.declared.item.RowItem.TheVariants.{One, When, Many}
+use Rattle.etcs_tables.specs.declared.row.Way.{Way}
 use Rattle.etcs_tables.specs.declared.row.Way.TheVariants.{ToTrain}
 use Rattle.etcs_tables.specs.Layouts.{Layout, whole, one, guarded, counted}
 use Rattle.etcs_tables.specs.Rows.{row_to}
+use Rattle.etcs_flat.specs.Others.{direction_fault}
 
 -- a packet of a row without groups: its direction and its numbers
 pub record FlatValue : Type 0 where
@@ -34,9 +36,9 @@ is_one (One v) = true
 is_one (When g k) = false
 is_one (Many k) = false
 
--- the variables of a typed packet to the train, where its row has no groups
-abbrev pub flat_row : ℕ → Option (List Var)
-flat_row nid = option_and_then variables (row_to ToTrain nid)
+-- the variables of a typed packet, where its row has no groups
+abbrev pub flat_row_to : Way → ℕ → Option (List Var)
+flat_row_to way nid = option_and_then variables (row_to way nid)
 
 -- the first variable, in order, that doesn't admit its number
 abbrev pub numbers_fault : List Var → List ℕ → Option BuildFault
@@ -45,13 +47,13 @@ numbers_fault (v ∷ vs) [] = None
 numbers_fault (v ∷ vs) (n ∷ ns) = number_fault v n or_else numbers_fault vs ns
 
 -- what is wrong with a direction and with numbers, by the variables that the packet has
-abbrev pub row_fault : Option (List Var) → ℕ → List ℕ → Option BuildFault
-row_fault None dir ns = Some (NotAdmitted NID_PACKET)
-row_fault (Some vs) dir ns = (if length ns == length vs then None else Some Count) or_else number_fault Q_DIR dir or_else numbers_fault vs ns
+abbrev pub row_fault : Way → Option (List Var) → ℕ → List ℕ → Option BuildFault
+row_fault way None dir ns = Some (NotAdmitted NID_PACKET)
+row_fault way (Some vs) dir ns = (if length ns == length vs then None else Some Count) or_else direction_fault way dir or_else numbers_fault vs ns
 
 -- what is wrong with a packet without groups
-abbrev pub flat_fault : ℕ → ℕ → List ℕ → Option BuildFault
-flat_fault nid dir ns = row_fault (flat_row nid) dir ns
+abbrev pub flat_fault_to : Way → ℕ → ℕ → List ℕ → Option BuildFault
+flat_fault_to way nid dir ns = row_fault way (flat_row_to way nid) dir ns
 
 -- variables with their numbers, as far as there are both
 abbrev pub pairs : List Var → List ℕ → Reading
@@ -65,5 +67,16 @@ row_reading None ns = []
 row_reading (Some vs) ns = pairs vs ns
 
 -- the variables of a packet without groups, with its numbers
+abbrev pub flat_reading_to : Way → ℕ → List ℕ → Reading
+flat_reading_to way nid ns = row_reading (flat_row_to way nid) ns
+
+-- ---- To the train, as all packets of this crate.
+
+abbrev pub flat_row : ℕ → Option (List Var)
+flat_row nid = flat_row_to ToTrain nid
+
+abbrev pub flat_fault : ℕ → ℕ → List ℕ → Option BuildFault
+flat_fault nid dir ns = flat_fault_to ToTrain nid dir ns
+
 abbrev pub flat_reading : ℕ → List ℕ → Reading
-flat_reading nid ns = row_reading (flat_row nid) ns
+flat_reading nid ns = flat_reading_to ToTrain nid ns

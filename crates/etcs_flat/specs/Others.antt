@@ -3,10 +3,9 @@ use Rattle.std.specs.Prelude.{ℕ, Bool, List, Option, Some, None, if◌then◌e
 use Rattle.etcs_vars.specs.declared.var.Var.TheVariants.{NID_PACKET, Q_DIR}
 use Rattle.etcs_vars.specs.declared.fault.BuildFault.{BuildFault}
 use Rattle.etcs_vars.specs.declared.fault.BuildFault.TheVariants.{NotAdmitted, TooLong}
-use Rattle.etcs_vars.specs.Faults.{◌or_else◌, number_fault}
+use Rattle.etcs_vars.specs.Faults.{◌or_else◌}
 use Rattle.etcs_tables.specs.declared.row.Way.{Way}
-use Rattle.etcs_tables.specs.declared.row.Way.TheVariants.{ToTrain}
-use Rattle.etcs_tables.specs.Frames.{is_kept, kept_limit}
+use Rattle.etcs_tables.specs.Frames.{is_kept, is_direction, kept_limit}
 
 -- a packet that isn't typed: its number, its direction and the bits after L_PACKET
 pub record OtherValue : Type 0 where
@@ -19,7 +18,7 @@ other_value nid dir body = record { nid = nid; dir = dir; body = body }
 
 -- what is wrong with a direction
 abbrev pub direction_fault : Way → ℕ → Option BuildFault
-direction_fault ToTrain dir = number_fault Q_DIR dir
+direction_fault way dir = if is_direction way dir then None else Some (NotAdmitted Q_DIR)
 
 -- what is wrong with a packet of this many bits after L_PACKET
 abbrev pub other_fault : Way → ℕ → ℕ → ℕ → Option BuildFault

@@ -86,12 +86,10 @@ impl FlatNumber<254> for Flat<254> {
 impl<const NID: u8> Variables for Flat<NID> {
     ghost reading_of = { λ p. flat_reading NID p.numbers };
 
-    #[tactic(auto, using(crate::specs::laws::TableLaws::table_width))]
     fn bits(&self) -> usize {
         table_bits(self.table())
     }
 
-    #[tactic(auto, using(crate::specs::laws::TableLaws::table_reading))]
     fn send<S: VarSink>(&self, out: &mut S) -> Result<(), AllocError> {
         send_table(self.table(), self.numbers(), out)
     }

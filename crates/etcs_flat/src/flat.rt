@@ -7,9 +7,10 @@ ghost use Rattle.etcs_vars.specs.declared.var.Var.{Var};
 ghost use Rattle.etcs_vars.specs.declared.var.Var.TheVariants.{Q_DIR};
 ghost use Rattle.etcs_vars.specs.Vars.{admits};
 ghost use Rattle.etcs_tables.specs.declared.item.RowItem.TheVariants.{One};
-ghost use Rattle.etcs_flat.specs.Flats.{flat_value, flat_row, flat_fault, numbers_fault, is_one};
+ghost use Rattle.etcs_flat.specs.Flats.{flat_value, flat_row, flat_row_to, flat_fault, flat_fault_to, numbers_fault, is_one};
 ghost use Rattle.etcs_flat.specs.FlatCodes.{flat_from};
 
+use crate::other::check_direction;
 use crate::table::{table_of, take_table};
 use arrayvec::ArrayVec;
 use etcs_bodies::Numbers;
@@ -102,7 +103,7 @@ impl<const NID: u8> Flat<NID> {
         ensures fits { OnOk result (flat_fault NID dir numbers.now ≡ None) }
         ensures fault { IfErr result (λ e. flat_fault NID dir numbers.now ≡ Some e) }
     {
-        check_flat(NID, dir, numbers)?;
+        check_flat(Way::ToTrain, NID, dir, numbers)?;
         let Ok(numbers) = ArrayVec::try_from(numbers) else {
             unreachable!()
         };
@@ -117,14 +118,13 @@ impl<const NID: u8> Flat<NID> {
     }
 
     /// Takes the packet of a direction that the numbers begin with, if they begin with one. Takes no memory.
-    #[tactic(auto, using(crate::specs::laws::FlatCodes::table_none))]
     pub(crate) fn taken(dir: u8, numbers: &mut Numbers) -> Option<Self>
         requires flat { IsSome (flat_row NID) }
         requires dir { IsTrue (admits Q_DIR dir) }
         ensures some { IfSome result (λ p. flat_from NID dir numbers.old ≡ Some (p, numbers.new)) }
         ensures none { IfNone result (flat_from NID dir numbers.old ≡ None) }
     {
-        let taken = take_table(table_of(NID), numbers)?;
+        let taken = take_table(table_of(Way::ToTrain, NID), numbers)?;
         Some(Flat {
             dir,
             numbers: taken,
@@ -152,7 +152,7 @@ impl<const NID: u8> Flat<NID> {
         ensures value { flat_fault NID self.now.dir self.now.numbers ≡ None }
     {
         let _ = &self.numbers;
-        table_of(NID)
+        table_of(Way::ToTrain, NID)
     }
 
     /// Its Q_DIR.
@@ -165,27 +165,27 @@ impl<const NID: u8> Flat<NID> {
 }
 
 /// Looks for what is wrong with a packet of this number.
-fn check_flat(nid: u8, dir: u8, numbers: &[u64]) -> Result<(), BuildFault>
-    ensures ok { OnOk result (flat_fault nid dir numbers.now ≡ None) }
+pub fn check_flat(way: Way, nid: u8, dir: u8, numbers: &[u64]) -> Result<(), BuildFault>
+    ensures ok { OnOk result (flat_fault_to way nid dir numbers.now ≡ None) }
     ensures short { OnOk result (length numbers.now ≤ 6) }
-    ensures fault { IfErr result (λ e. flat_fault nid dir numbers.now ≡ Some e) }
+    ensures fault { IfErr result (λ e. flat_fault_to way nid dir numbers.now ≡ Some e) }
 {
-    let Some(table) = flat_row(nid) else {
+    let Some(table) = flat_row(way, nid) else {
         return Err(BuildFault::NotAdmitted(Var::NID_PACKET));
     };
     if numbers.len() != table.len() {
         return Err(BuildFault::Count);
     }
-    check(Var::Q_DIR, u64::from(dir))?;
+    check_direction(way, dir)?;
     check_numbers(table, numbers)
 }
 
 /// The table of the packet's row, where it has no groups.
 #[tactic(auto, using(crate::specs::laws::TableLaws::flat_table))]
-pub(crate) fn flat_row(nid: u8) -> Option<&'static [RowItem]>
-    ensures { option_map (λ table. table.now) result ≡ option_map (λ vs. map One vs) (flat_row nid) }
+pub(crate) fn flat_row(way: Way, nid: u8) -> Option<&'static [RowItem]>
+    ensures { option_map (λ table. table.now) result ≡ option_map (λ vs. map One vs) (flat_row_to way nid) }
 {
-    let row = row_of(Way::ToTrain, nid)?;
+    let row = row_of(way, nid)?;
     is_flat(row.items).then_some(row.items)
 }
 

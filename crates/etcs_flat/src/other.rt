@@ -6,8 +6,8 @@ ghost use Rattle.etcs_tables.specs.Layouts.{ROW_LIMIT};
 ghost use Rattle.etcs_flat.specs.Others.{other_value, direction_fault, other_fault};
 
 use etcs_bits::{BitSlice, Bits};
-use etcs_tables::{Way, is_kept, kept_limit};
-use etcs_vars::{BuildFault, Var, check};
+use etcs_tables::{Way, is_direction, is_kept, kept_limit};
+use etcs_vars::{BuildFault, Var};
 use std::alloc::{AllocError, Global};
 use std::marker::Model;
 
@@ -102,17 +102,19 @@ impl Other {
 }
 
 /// Looks for what is wrong with a direction.
-fn check_direction(way: Way, dir: u8) -> Result<(), BuildFault>
+pub(crate) fn check_direction(way: Way, dir: u8) -> Result<(), BuildFault>
     ensures ok { OnOk result (direction_fault way dir ≡ None) }
     ensures fault { IfErr result (λ e. direction_fault way dir ≡ Some e) }
 {
-    match way {
-        Way::ToTrain => check(Var::Q_DIR, u64::from(dir)),
+    if is_direction(way, dir) {
+        Ok(())
+    } else {
+        Err(BuildFault::NotAdmitted(Var::Q_DIR))
     }
 }
 
 /// Looks for what is wrong with a packet of this many bits after L_PACKET.
-fn check_other(way: Way, nid: u8, dir: u8, bits: usize) -> Result<(), BuildFault>
+pub fn check_other(way: Way, nid: u8, dir: u8, bits: usize) -> Result<(), BuildFault>
     ensures ok { OnOk result (other_fault way nid dir bits ≡ None) }
     ensures fault { IfErr result (λ e. other_fault way nid dir bits ≡ Some e) }
 {

@@ -3,24 +3,24 @@
 ghost use Rattle.std.specs.Prelude.{◌≡◌, ◌*◌, ◌≤◌, Some, None, length, map, sum_by, OnOk, OnErr, IfSome, IfNone, IsSome};
 ghost use Rattle.std.specs.Option.{option_map};
 ghost use Rattle.etcs_tables.specs.declared.item.RowItem.TheVariants.{One};
-ghost use Rattle.etcs_flat.specs.Flats.{flat_row};
+ghost use Rattle.etcs_flat.specs.Flats.{flat_row_to};
 ghost use Rattle.etcs_flat.specs.Tables.{item_width, table_pairs, table_from};
 
 use crate::flat::flat_row;
 use arrayvec::ArrayVec;
 use etcs_bodies::Numbers;
-use etcs_tables::RowItem;
+use etcs_tables::{RowItem, Way};
 use etcs_vars::parts::VarSink;
 use std::alloc::AllocError;
 
 /// The table of a packet whose row has no groups.
 #[tactic(auto, using(crate::specs::laws::TableLaws::table_short))]
-pub(crate) fn table_of(nid: u8) -> &'static [RowItem]
-    requires { IsSome (flat_row nid) }
-    ensures table { Some result.now ≡ option_map (λ vs. map One vs) (flat_row nid) }
+pub fn table_of(way: Way, nid: u8) -> &'static [RowItem]
+    requires { IsSome (flat_row_to way nid) }
+    ensures table { Some result.now ≡ option_map (λ vs. map One vs) (flat_row_to way nid) }
     ensures short { length result.now ≤ 6 }
 {
-    match flat_row(nid) {
+    match flat_row(way, nid) {
         Some(table) => table,
         None => unreachable!(),
     }
@@ -28,7 +28,7 @@ pub(crate) fn table_of(nid: u8) -> &'static [RowItem]
 
 /// How many bits the variables of a table take.
 #[tactic(auto, using(crate::specs::laws::TableLaws::item_narrow, crate::specs::laws::TableLaws::width_narrow))]
-pub(crate) fn table_bits(table: &[RowItem]) -> usize
+pub fn table_bits(table: &[RowItem]) -> usize
     requires { length table.now ≤ 6 }
     ensures bits { result ≡ sum_by item_width table.now }
     ensures small { result ≤ 6 * 64 }
@@ -47,7 +47,7 @@ pub(crate) fn table_bits(table: &[RowItem]) -> usize
 /// # Errors
 ///
 /// That of the sink.
-pub(crate) fn send_table<S: VarSink>(
+pub fn send_table<S: VarSink>(
     table: &[RowItem],
     numbers: &[u64],
     out: &mut S,
@@ -65,7 +65,7 @@ pub(crate) fn send_table<S: VarSink>(
 
 /// Takes the numbers of a table's variables. `None` where a variable doesn't admit its number, or there are too few.
 #[tactic(auto, using(crate::specs::laws::TableLaws::taken_more, crate::specs::laws::TableLaws::taken_none))]
-pub(crate) fn take_table(table: &[RowItem], numbers: &mut Numbers<'_>) -> Option<ArrayVec<u64, 6>>
+pub fn take_table(table: &[RowItem], numbers: &mut Numbers<'_>) -> Option<ArrayVec<u64, 6>>
     requires { length table.now ≤ 6 }
     ensures some { IfSome result (λ ns. table_from table.now numbers.old ≡ Some (ns.items, numbers.new)) }
     ensures none { IfNone result (table_from table.now numbers.old ≡ None) }

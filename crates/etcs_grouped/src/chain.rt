@@ -1,6 +1,7 @@
 //! Packets of a scale, a first entry and further ones.
 
 ghost use Rattle.std.specs.Prelude.{◌≡◌, None, Some, OnOk, IfOk, IfErr};
+ghost use Rattle.etcs_tables.specs.declared.row.Way.TheVariants.{ToTrain};
 ghost use Rattle.etcs_tables.specs.Layouts.{whole};
 ghost use Rattle.etcs_tables.specs.Rows.{row_to};
 ghost use Rattle.etcs_grouped.specs.Chains.{chain_value, chain_fault, chain_row, too_long};
@@ -18,19 +19,13 @@ const ROW_LIMIT: usize = 8168;
 /// The entry of a packet that has a scale, a first entry and further ones.
 pub trait Chained: Entry {
     ghost use Rattle.std.specs.Prelude.{ℕ};
-    ghost use Rattle.etcs_tables.specs.declared.row.Way.{Way};
 
     /// NID_PACKET of the packet.
     const PACKET: u8;
 
-    /// Which way the packet goes.
-    const PACKET_WAY: Way;
-
     ghost PACKET: { ℕ };
 
-    ghost PACKET_WAY: { Way };
-
-    ghost typed: { row_to PACKET_WAY PACKET ≡ Some (chain_row Self.Part.row whole) };
+    ghost typed: { row_to ToTrain PACKET ≡ Some (chain_row Self.Part.row whole) };
 }
 
 /// A packet of a scale, a first entry and further ones.
@@ -139,11 +134,11 @@ impl<E: Chained> Body for Chain<E> {
 
     const NID: u8 = E::PACKET;
 
-    const WAY: Way = E::PACKET_WAY;
+    const WAY: Way = Way::ToTrain;
 
     ghost NID = { E.PACKET };
 
-    ghost WAY = { E.PACKET_WAY };
+    ghost WAY = { ToTrain };
 
     ghost direction = { λ p. p.dir };
 
@@ -151,7 +146,7 @@ impl<E: Chained> Body for Chain<E> {
 
     ghost read_from = { λ dir s. chain_from E.MOST E.reading_of E.read_from dir s };
 
-    ghost codes = { chain_codes E.codes E.MOST E.most E.PACKET_WAY E.PACKET E.typed };
+    ghost codes = { chain_codes E.codes E.MOST E.most E.PACKET E.typed };
 
     fn q_dir(&self) -> u8 {
         self.dir

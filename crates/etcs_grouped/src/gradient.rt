@@ -5,7 +5,6 @@ ghost use Rattle.etcs_grouped.specs.Chains.{chain_value, gradient_fault};
 
 use crate::chain::{Chain, Chained};
 use etcs_parts::Slope;
-use etcs_tables::Way;
 use etcs_vars::BuildFault;
 
 /// The gradients ahead (packet 21; SUBSET-026, 7.4.2).
@@ -13,15 +12,10 @@ pub type Gradient = Chain<Slope>;
 
 impl Chained for Slope {
     ghost use Rattle.std.specs.Prelude.{refl};
-    ghost use Rattle.etcs_tables.specs.declared.row.Way.TheVariants.{ToTrain};
 
     const PACKET: u8 = 21;
 
-    const PACKET_WAY: Way = Way::ToTrain;
-
     ghost PACKET = { 21 };
-
-    ghost PACKET_WAY = { ToTrain };
 
     ghost typed = { refl };
 }

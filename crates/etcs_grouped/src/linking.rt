@@ -5,7 +5,6 @@ ghost use Rattle.etcs_grouped.specs.Chains.{chain_value, linking_fault};
 
 use crate::chain::{Chain, Chained};
 use etcs_parts::Link;
-use etcs_tables::Way;
 use etcs_vars::BuildFault;
 
 /// The linked balise groups ahead (packet 5; SUBSET-026, 7.4.2).
@@ -13,15 +12,10 @@ pub type Linking = Chain<Link>;
 
 impl Chained for Link {
     ghost use Rattle.std.specs.Prelude.{refl};
-    ghost use Rattle.etcs_tables.specs.declared.row.Way.TheVariants.{ToTrain};
 
     const PACKET: u8 = 5;
 
-    const PACKET_WAY: Way = Way::ToTrain;
-
     ghost PACKET = { 5 };
-
-    ghost PACKET_WAY = { ToTrain };
 
     ghost typed = { refl };
 }

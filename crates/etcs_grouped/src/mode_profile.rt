@@ -5,7 +5,6 @@ ghost use Rattle.etcs_grouped.specs.Chains.{chain_value, mode_profile_fault};
 
 use crate::chain::{Chain, Chained};
 use etcs_parts::ModeSection;
-use etcs_tables::Way;
 use etcs_vars::BuildFault;
 
 /// The areas ahead in which the train runs on sight, in shunting or under limited supervision (packet 80; SUBSET-026,
@@ -14,15 +13,10 @@ pub type ModeProfile = Chain<ModeSection>;
 
 impl Chained for ModeSection {
     ghost use Rattle.std.specs.Prelude.{refl};
-    ghost use Rattle.etcs_tables.specs.declared.row.Way.TheVariants.{ToTrain};
 
     const PACKET: u8 = 80;
 
-    const PACKET_WAY: Way = Way::ToTrain;
-
     ghost PACKET = { 80 };
-
-    ghost PACKET_WAY = { ToTrain };
 
     ghost typed = { refl };
 }

@@ -5,7 +5,6 @@ ghost use Rattle.etcs_grouped.specs.Chains.{chain_value, profile_fault};
 
 use crate::chain::{Chain, Chained};
 use etcs_parts::Speed;
-use etcs_tables::Way;
 use etcs_vars::BuildFault;
 
 /// The static speeds ahead (packet 27; SUBSET-026, 7.4.2).
@@ -13,15 +12,10 @@ pub type SpeedProfile = Chain<Speed>;
 
 impl Chained for Speed {
     ghost use Rattle.std.specs.Prelude.{refl};
-    ghost use Rattle.etcs_tables.specs.declared.row.Way.TheVariants.{ToTrain};
 
     const PACKET: u8 = 27;
 
-    const PACKET_WAY: Way = Way::ToTrain;
-
     ghost PACKET = { 27 };
-
-    ghost PACKET_WAY = { ToTrain };
 
     ghost typed = { refl };
 }

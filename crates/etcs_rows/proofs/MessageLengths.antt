@@ -7,7 +7,7 @@ use Rattle.etcs_vars.specs.declared.var.Var.{Var}
 use Rattle.etcs_vars.specs.Vars.{inside}
 use Rattle.etcs_vars.proofs.Prefixes.{some_number, admits_from}
 use Rattle.etcs_tables.specs.declared.row.Way.{Way}
-use Rattle.etcs_tables.specs.declared.row.Way.TheVariants.{ToTrain}
+use Rattle.etcs_tables.specs.declared.row.Way.TheVariants.{ToTrain, ToTrack}
 use Rattle.etcs_rows.specs.declared.frames.Carrier.TheVariants.{Message}
 use Rattle.etcs_tables.specs.Layouts.{Layout, whole, one, guarded, counted, looks, Lengths}
 use Rattle.etcs_tables.specs.Rows.{message_row_to, message_rows_to}
@@ -98,15 +98,23 @@ abbrev IsShort : Option Layout → Type 0
 IsShort None = Unit {0}
 IsShort (Some row) = (is_flat row ≡ true) × (row_bits row ≤ 100)
 
+abbrev short : ℕ → Layout → Bool
+short nid row = is_flat row && leb (row_bits row) 100
+
+all_short : (way : Way) → list_all (λ p. short p.0 p.1) (message_rows_to way) ≡ true
+all_short ToTrain = refl
+all_short ToTrack = refl
+
 rows_short : (way : Way) (nid : ℕ) (o : Option Layout) → message_row_to way nid ≡ o → IsShort o
 rows_short way nid None is = tt
-rows_short ToTrain nid (Some row) is =
-    let both = and_parts (is_flat row) (leb (row_bits row) 100) (of_each (λ n row. is_flat row && leb (row_bits row) 100) (message_rows_to ToTrain) nid row refl is) in
+rows_short way nid (Some row) is =
+    let both = and_parts (is_flat row) (leb (row_bits row) 100) (of_each short (message_rows_to way) nid row (all_short way) is) in
     (both.0, leb-true (row_bits row) 100 both.1)
 
 -- nor have a header and a frame many
 few_bits : (way : Way) → (header_bits way ≤ 100) × (frame_bits way ≤ 100)
 few_bits ToTrain = (omega arith, omega arith)
+few_bits ToTrack = (omega arith, omega arith)
 
 typed_fits : (way : Way) (nid l : ℕ) (row : Layout) → message_row_to way nid ≡ Some row → is_flat row ≡ true → row_bits row ≤ 100 → ((l < 2 ^ 10) × Leaves (Message way) (8 * l) (header_bits way + row_bits row)) ↔ MessageLengthFits way nid l
 typed_fits way nid l row e flat short = (

@@ -2,13 +2,14 @@
 use Rattle.std.specs.Prelude.{ℕ, ◌+◌, ◌/◌, List, [], ◌∷◌, Option, Some, None}
 use Rattle.etcs_vars.specs.Vars.{width}
 use Rattle.etcs_tables.specs.declared.row.Way.{Way}
-use Rattle.etcs_tables.specs.declared.row.Way.TheVariants.{ToTrain}
+use Rattle.etcs_tables.specs.declared.row.Way.TheVariants.{ToTrain, ToTrack}
 use Rattle.etcs_tables.specs.Layouts.{Layout, whole, one, guarded, counted}
 use Rattle.etcs_tables.specs.Frames.{frame_bits}
 
 -- the bits of the header in front of a typed message's row
 abbrev pub header_bits : Way → ℕ
 header_bits ToTrain = 75
+header_bits ToTrack = 74
 
 -- how many bits a row of variables takes that has no groups
 abbrev pub row_bits : Layout → ℕ

@@ -1,12 +1,12 @@
--- The rows of packets and messages as they are nested. A packet's row follows NID_PACKET, Q_DIR and L_PACKET,
--- a message's after its header (SUBSET-026, 7.4 and 8).
+-- The rows of packets and messages as they are nested. A packet's row follows its frame, a message's its header
+-- (SUBSET-026, 7.4 and 8).
 use Rattle.std.specs.Prelude.{ℕ, ◌==◌, List, [], ◌∷◌, Option, Some, None, if◌then◌else◌}
 use Rattle.etcs_vars.specs.declared.var.Var.{Var}
-use Rattle.etcs_vars.specs.declared.var.Var.TheVariants.{D_CYCLOC, D_DP, D_ENDTIMERSTARTLOC, D_GRADIENT, D_LEVELTR, D_LINK, D_LOC, D_MAMODE, D_OL, D_RBCTR, D_REF, D_SECTIONTIMERSTOPLOC, D_SR, D_STARTOL, D_STATIC, D_TEXTDISPLAY, D_TRACKCOND, D_TRACKINIT, D_TSR, G_A, G_TSR, L_ACKLEVELTR, L_ACKMAMODE, L_ENDSECTION, L_MAMODE, L_SECTION, L_TEXT, L_TEXTDISPLAY, L_TRACKCOND, L_TSR, M_LEVELTEXTDISPLAY, M_LEVELTR, M_LOC, M_MAMODE, M_MODETEXTDISPLAY, M_TRACKCOND, M_VERSION, NC_CDDIFF, NC_DIFF, NID_BG, NID_C, NID_EM, NID_MN, NID_NTC, NID_OPERATIONAL, NID_RADIO, NID_RBC, NID_TEXTMESSAGE, NID_TSR, N_ITER, Q_ASPECT, Q_CONFTEXTDISPLAY, Q_DANGERPOINT, Q_DIFF, Q_ENDTIMER, Q_FRONT, Q_GDIR, Q_LGTLOC, Q_LINKORIENTATION, Q_LINKREACTION, Q_LOCACC, Q_MAMODE, Q_NEWCOUNTRY, Q_ORIENTATION, Q_OVERLAP, Q_RBC, Q_SCALE, Q_SECTIONTIMER, Q_SLEEPSESSION, Q_SRSTOP, Q_TEXT, Q_TEXTCLASS, Q_TEXTCONFIRM, Q_TEXTDISPLAY, Q_TEXTREPORT, Q_TRACKINIT, T_CYCLOC, T_CYCRQST, T_ENDTIMER, T_LOA, T_MAR, T_OL, T_SECTIONTIMER, T_TEXTDISPLAY, T_TIMEOUTRQST, T_TRAIN, V_DIFF, V_LOA, V_MAIN, V_MAMODE, V_RELEASEDP, V_RELEASEOL, V_STATIC, V_TSR, X_TEXT}
+use Rattle.etcs_vars.specs.declared.var.Var.TheVariants.{D_CYCLOC, D_DP, D_ENDTIMERSTARTLOC, D_GRADIENT, D_LEVELTR, D_LINK, D_LOC, D_LRBG, D_MAMODE, D_OL, D_RBCTR, D_REF, D_SECTIONTIMERSTOPLOC, D_SR, D_STARTOL, D_STATIC, D_TEXTDISPLAY, D_TRACKCOND, D_TRACKINIT, D_TSR, G_A, G_TSR, L_ACKLEVELTR, L_ACKMAMODE, L_DOUBTOVER, L_DOUBTUNDER, L_ENDSECTION, L_MAMODE, L_SECTION, L_TEXT, L_TEXTDISPLAY, L_TRACKCOND, L_TRAININT, L_TSR, M_ERROR, M_LEVEL, M_LEVELTEXTDISPLAY, M_LEVELTR, M_LOC, M_MAMODE, M_MODE, M_MODETEXTDISPLAY, M_TRACKCOND, M_VERSION, NC_CDDIFF, NC_DIFF, NID_BG, NID_C, NID_EM, NID_LRBG, NID_MN, NID_NTC, NID_OPERATIONAL, NID_PRVLRBG, NID_RADIO, NID_RBC, NID_TEXTMESSAGE, NID_TSR, N_ITER, Q_ASPECT, Q_CONFTEXTDISPLAY, Q_DANGERPOINT, Q_DIFF, Q_DIRLRBG, Q_DIRTRAIN, Q_DLRBG, Q_ENDTIMER, Q_FRONT, Q_GDIR, Q_LENGTH, Q_LGTLOC, Q_LINKORIENTATION, Q_LINKREACTION, Q_LOCACC, Q_MAMODE, Q_NEWCOUNTRY, Q_ORIENTATION, Q_OVERLAP, Q_RBC, Q_SCALE, Q_SECTIONTIMER, Q_SLEEPSESSION, Q_SRSTOP, Q_STATUS, Q_TEXT, Q_TEXTCLASS, Q_TEXTCONFIRM, Q_TEXTDISPLAY, Q_TEXTREPORT, Q_TRACKINIT, T_CYCLOC, T_CYCRQST, T_ENDTIMER, T_LOA, T_MAR, T_OL, T_SECTIONTIMER, T_TEXTDISPLAY, T_TIMEOUTRQST, T_TRAIN, V_DIFF, V_LOA, V_MAIN, V_MAMODE, V_RELEASEDP, V_RELEASEOL, V_STATIC, V_TRAIN, V_TSR, X_TEXT}
 use Rattle.etcs_tables.specs.declared.item.Test.TheVariants.{IsZero, IsOne, IsOneOrTwo, IsNotZero}
 use Rattle.etcs_tables.specs.declared.item.Guard.{Guard}
 use Rattle.etcs_tables.specs.declared.row.Way.{Way}
-use Rattle.etcs_tables.specs.declared.row.Way.TheVariants.{ToTrain}
+use Rattle.etcs_tables.specs.declared.row.Way.TheVariants.{ToTrain, ToTrack}
 use Rattle.etcs_tables.specs.Layouts.{Layout, whole, one, guarded, counted}
 
 -- a variable, and then the rest
@@ -88,6 +88,12 @@ condition rest = D_TRACKCOND ▸ L_TRACKCOND ▸ M_TRACKCOND ▸ rest
 -- packet 80: an area of a mode
 abbrev pub mode_section : Layout → Layout
 mode_section rest = D_MAMODE ▸ M_MAMODE ▸ V_MAMODE ▸ L_MAMODE ▸ L_ACKMAMODE ▸ Q_MAMODE ▸ rest
+
+-- packets 0 and 1 to the track: where the train is, and what it does
+abbrev pub located : Layout → Layout
+located rest =
+    D_LRBG ▸ Q_DIRLRBG ▸ Q_DLRBG ▸ L_DOUBTOVER ▸ L_DOUBTUNDER ▸ Q_LENGTH ▸ guarded (is_one_or_two Q_LENGTH) (L_TRAININT ▸ whole) (
+    V_TRAIN ▸ Q_DIRTRAIN ▸ M_MODE ▸ M_LEVEL ▸ guarded (is_one M_LEVEL) (NID_NTC ▸ whole) rest)
 
 -- ---- Packets.
 
@@ -171,6 +177,15 @@ train_running_number = NID_OPERATIONAL ▸ whole
 abbrev pub restriction_gradient : Layout
 restriction_gradient = Q_GDIR ▸ G_TSR ▸ whole
 
+abbrev pub position_report : Layout
+position_report = Q_SCALE ▸ NID_LRBG ▸ located whole
+
+abbrev pub position_report_two : Layout
+position_report_two = Q_SCALE ▸ NID_LRBG ▸ NID_PRVLRBG ▸ located whole
+
+abbrev pub fault_report : Layout
+fault_report = M_ERROR ▸ whole
+
 -- ---- The rows by number.
 
 -- the row beside the first number that is n
@@ -178,7 +193,7 @@ abbrev pub found : List (ℕ × Layout) → ℕ → Option Layout
 found [] n = None
 found (row ∷ rows) n = if n == row.0 then Some row.1 else found rows n
 
--- the rows of typed packets, each beside its number; 0 and 255 aren't typed
+-- the rows of typed packets, each beside its number; to the train 0 and 255 aren't typed
 abbrev pub rows_to : Way → List (ℕ × Layout)
 rows_to ToTrain =
     (2, system_version) ∷
@@ -212,6 +227,11 @@ rows_to ToTrain =
     (141, restriction_gradient) ∷
     (145, whole) ∷
     (254, whole) ∷ []
+rows_to ToTrack =
+    (0, position_report) ∷
+    (1, position_report_two) ∷
+    (4, fault_report) ∷
+    (5, train_running_number) ∷ []
 
 -- the row of a typed packet
 abbrev pub row_to : Way → ℕ → Option Layout
@@ -238,6 +258,17 @@ message_rows_to ToTrain =
     (41, whole) ∷
     (43, whole) ∷
     (45, Q_ORIENTATION ▸ whole) ∷ []
+message_rows_to ToTrack =
+    (130, whole) ∷
+    (136, whole) ∷
+    (137, T_TRAIN ▸ whole) ∷
+    (138, T_TRAIN ▸ whole) ∷
+    (146, T_TRAIN ▸ whole) ∷
+    (150, whole) ∷
+    (155, whole) ∷
+    (156, whole) ∷
+    (157, Q_STATUS ▸ whole) ∷
+    (159, whole) ∷ []
 
 -- the row of a typed message
 abbrev pub message_row_to : Way → ℕ → Option Layout

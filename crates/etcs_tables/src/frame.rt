@@ -26,6 +26,7 @@ pub fn frame_bits(way: Way) -> usize
 {
     match way {
         Way::ToTrain => 23,
+        Way::ToTrack => 21,
     }
 }
 
@@ -35,6 +36,7 @@ pub fn head_bits(way: Way) -> usize
 {
     match way {
         Way::ToTrain => 10,
+        Way::ToTrack => 8,
     }
 }
 
@@ -51,6 +53,7 @@ pub fn is_framed(way: Way, nid: u8) -> bool
 {
     match way {
         Way::ToTrain => nid > 0 && nid < CLOSING,
+        Way::ToTrack => true,
     }
 }
 
@@ -61,11 +64,13 @@ pub fn is_kept(way: Way, nid: u8) -> bool
     is_framed(way, nid) && row_of(way, nid).is_none()
 }
 
-/// Whether a packet may have this direction.
+/// Whether a packet may have this direction. To the track it is 0, and isn't sent.
+#[inline]
 pub fn is_direction(way: Way, dir: u8) -> bool
     ensures { result ≡ is_direction way dir }
 {
     match way {
         Way::ToTrain => Var::Q_DIR.admits(u64::from(dir)),
+        Way::ToTrack => dir == 0,
     }
 }

@@ -10,6 +10,8 @@ use crate::item::RowItem;
 pub enum Way {
     /// From track to train.
     ToTrain,
+    /// From train to track.
+    ToTrack,
 }
 
 /// A constant table of items.

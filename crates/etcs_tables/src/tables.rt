@@ -33,7 +33,7 @@ macro_rules! message {
     };
 }
 
-// ---- Packets, after NID_PACKET, Q_DIR and L_PACKET.
+// ---- Packets to the train, after NID_PACKET, Q_DIR and L_PACKET.
 
 const NO_VARIABLES: Row = row!();
 
@@ -132,6 +132,22 @@ const TRAIN_RUNNING_NUMBER: Row = row!(NID_OPERATIONAL);
 
 const RESTRICTION_GRADIENT: Row = row!(Q_GDIR G_TSR);
 
+// ---- Packets to the track, after NID_PACKET and L_PACKET.
+
+const POSITION_REPORT: Row = row! {
+    Q_SCALE NID_LRBG D_LRBG Q_DIRLRBG Q_DLRBG L_DOUBTOVER L_DOUBTUNDER Q_LENGTH
+    (Q_LENGTH IsOneOrTwo 1) L_TRAININT V_TRAIN Q_DIRTRAIN M_MODE M_LEVEL (M_LEVEL IsOne 1) NID_NTC
+};
+
+const POSITION_REPORT_TWO: Row = row! {
+    Q_SCALE NID_LRBG NID_PRVLRBG D_LRBG Q_DIRLRBG Q_DLRBG L_DOUBTOVER L_DOUBTUNDER Q_LENGTH
+    (Q_LENGTH IsOneOrTwo 1) L_TRAININT V_TRAIN Q_DIRTRAIN M_MODE M_LEVEL (M_LEVEL IsOne 1) NID_NTC
+};
+
+const FAULT_REPORT: Row = row!(M_ERROR);
+
+// ---- Messages.
+
 /// A typed message.
 struct TypedMessage {
     /// The variables of its own, after the header.
@@ -158,13 +174,22 @@ static SHIFTED_LOCATION: TypedMessage = message!(18, [(12, 12), (15, 1023)] Q_SC
 
 static ORIENTATION: TypedMessage = message!(1, [(10, 10), (13, 1023)] Q_ORIENTATION);
 
-/// The row of a packet: what comes after its NID_PACKET, Q_DIR and L_PACKET (SUBSET-026, 7.4).
-/// `None` exactly where the number isn't typed; 0 and 255 aren't.
+// ---- Messages to the track, after a header of 74 bits.
+
+static PLAIN_REPORT: TypedMessage = message!(0, [(10, 10), (12, 1023)]);
+
+static ACKNOWLEDGEMENT: TypedMessage = message!(32, [(14, 14), (16, 1023)] T_TRAIN);
+
+static START_REPORT: TypedMessage = message!(2, [(10, 10), (13, 1023)] Q_STATUS);
+
+/// The row of a packet: what comes after its NID_PACKET, Q_DIR to the train, and L_PACKET (SUBSET-026, 7.4).
+/// `None` exactly where the number isn't typed; to the train 0 and 255 aren't.
 pub fn row_of(way: Way, nid: u8) -> Option<Row>
     ensures { option_map (λ row. row.items.now) result ≡ option_map items (row_to way nid) }
 {
     match way {
         Way::ToTrain => row_to_train(nid),
+        Way::ToTrack => row_to_track(nid),
     }
 }
 
@@ -200,6 +225,19 @@ fn row_to_train(nid: u8) -> Option<Row>
         137 => Some(STOP_IN_SR),
         140 => Some(TRAIN_RUNNING_NUMBER),
         141 => Some(RESTRICTION_GRADIENT),
+        _ => None,
+    }
+}
+
+/// The row of a packet to the track.
+fn row_to_track(nid: u8) -> Option<Row>
+    ensures { option_map (λ row. row.items.now) result ≡ option_map items (row_to Way.ToTrack nid) }
+{
+    match nid {
+        0 => Some(POSITION_REPORT),
+        1 => Some(POSITION_REPORT_TWO),
+        4 => Some(FAULT_REPORT),
+        5 => Some(TRAIN_RUNNING_NUMBER),
         _ => None,
     }
 }
@@ -243,6 +281,7 @@ fn typed_message(way: Way, nid: u8) -> Option<&'static TypedMessage>
 {
     match way {
         Way::ToTrain => message_to_train(nid),
+        Way::ToTrack => message_to_track(nid),
     }
 }
 
@@ -262,6 +301,22 @@ fn message_to_train(nid: u8) -> Option<&'static TypedMessage>
         32 => Some(&MESSAGE_VERSION),
         33 => Some(&SHIFTED_LOCATION),
         45 => Some(&ORIENTATION),
+        _ => None,
+    }
+}
+
+/// The typed message to the track of a number.
+fn message_to_track(nid: u8) -> Option<&'static TypedMessage>
+    ensures row { option_map (λ message. message.now.items.now) result ≡ option_map items (message_row_to Way.ToTrack nid) }
+    ensures bits { option_map (λ message. message.now.bits) result ≡ option_map row_bits (message_row_to Way.ToTrack nid) }
+    ensures sound { IfSome result (λ message. IsTrue (is_sound (layout message.now.items.now))) }
+    ensures some { IfSome result (λ message. lengths_behind Way.ToTrack (message_row_to Way.ToTrack nid) ≡ message.now.lengths.now) }
+    ensures none { IfNone result (lengths_behind Way.ToTrack (message_row_to Way.ToTrack nid) ≡ (3, 1023) ∷ []) }
+{
+    match nid {
+        130 | 136 | 150 | 155 | 156 | 159 => Some(&PLAIN_REPORT),
+        137 | 138 | 146 => Some(&ACKNOWLEDGEMENT),
+        157 => Some(&START_REPORT),
         _ => None,
     }
 }

@@ -146,6 +146,23 @@ variable Var.L_ACKMAMODE = all "L_ACKMAMODE" 15
 variable Var.Q_MAMODE = all "Q_MAMODE" 1
 -- handing over to another radio block centre
 variable Var.D_RBCTR = all "D_RBCTR" 15
+-- messages to the track
+variable Var.NID_ENGINE = all "NID_ENGINE" 24
+variable Var.Q_STATUS = all "Q_STATUS" 2
+-- what a train reports
+variable Var.NID_PRVLRBG = all "NID_PRVLRBG" 24
+variable Var.M_ERROR = all "M_ERROR" 8
+variable Var.D_LRBG = all "D_LRBG" 15
+variable Var.Q_DIRLRBG = all "Q_DIRLRBG" 2
+variable Var.Q_DLRBG = all "Q_DLRBG" 2
+variable Var.L_DOUBTOVER = all "L_DOUBTOVER" 15
+variable Var.L_DOUBTUNDER = all "L_DOUBTUNDER" 15
+variable Var.Q_LENGTH = all "Q_LENGTH" 2
+variable Var.L_TRAININT = all "L_TRAININT" 15
+variable Var.V_TRAIN = all "V_TRAIN" 7
+variable Var.Q_DIRTRAIN = all "Q_DIRTRAIN" 2
+variable Var.M_MODE = all "M_MODE" 4
+variable Var.M_LEVEL = only "M_LEVEL" 3 ((0, 4) ∷ [])
 -- bits that are kept as they are, one variable for each bit
 variable Var.FILL = all "FILL" 1
 variable Var.OTHER_DATA = all "OTHER_DATA" 1

@@ -142,6 +142,23 @@ macro_rules! variables {
             Q_MAMODE 1,
             // Handing over to another radio block centre.
             D_RBCTR 15,
+            // Messages to the track.
+            NID_ENGINE 24,
+            Q_STATUS 2,
+            // What a train reports.
+            NID_PRVLRBG 24,
+            M_ERROR 8,
+            D_LRBG 15,
+            Q_DIRLRBG 2,
+            Q_DLRBG 2,
+            L_DOUBTOVER 15,
+            L_DOUBTUNDER 15,
+            Q_LENGTH 2,
+            L_TRAININT 15,
+            V_TRAIN 7,
+            Q_DIRTRAIN 2,
+            M_MODE 4,
+            M_LEVEL 3 (0, 4),
             // Bits that are kept as they are, one variable for each bit.
             FILL 1,
             OTHER_DATA 1,

@@ -268,6 +268,41 @@ pub enum Var {
     /// The distance to the place where the other radio block centre takes over.
     D_RBCTR,
 
+    // Messages to the track.
+    /// The number of the on-board equipment.
+    NID_ENGINE,
+    /// Whether the position reported at the start of a mission is valid: 0 it isn't, 1 it is, 2 it isn't known.
+    Q_STATUS,
+
+    // What a train reports.
+    /// The balise group before the one referred to, written as NID_LRBG is.
+    NID_PRVLRBG,
+    /// The kind of an error.
+    M_ERROR,
+    /// The distance from the balise group referred to, to the train's front, by Q_SCALE.
+    D_LRBG,
+    /// The train's orientation to that balise group: 0 reverse, 1 nominal, 2 unknown.
+    Q_DIRLRBG,
+    /// The side of that balise group on which the train's front is: 0 reverse, 1 nominal, 2 unknown.
+    Q_DLRBG,
+    /// How much less than measured the train may have run, with the group's inaccuracy, by Q_SCALE.
+    L_DOUBTOVER,
+    /// How much more than measured it may have run, with the group's inaccuracy, by Q_SCALE.
+    L_DOUBTUNDER,
+    /// What is known of the train's integrity: 0 nothing, 1 confirmed by a device, 2 confirmed by the driver,
+    /// 3 it is lost.
+    Q_LENGTH,
+    /// The length of the train for which its integrity is confirmed, in metres.
+    L_TRAININT,
+    /// The speed of the train, in steps of 5 km/h.
+    V_TRAIN,
+    /// The direction of the train's movement: 0 reverse, 1 nominal, 2 unknown.
+    Q_DIRTRAIN,
+    /// The mode of the on-board equipment.
+    M_MODE,
+    /// The level that it works in: 0 level 0, 1 a national system, 2 to 4 levels 1 to 3.
+    M_LEVEL,
+
     // Bits that are kept as they are, one variable for each bit.
     /// A bit of a telegram after packet 255.
     FILL,

@@ -1,12 +1,12 @@
 -- Lemmas about specs/PacketCodes.antt.
 use Rattle.std.proofs.Common.{◌≡◌, ℕ, ◌≤◌, true, [], length, Option, Some, None, refl, sym, ap, ◌∙◌, subst}
 use Rattle.std.specs.Prelude.{IsTrue}
+use Rattle.std.proofs.lemmas.Bool.{eqb-true}
 use Rattle.etcs_vars.specs.declared.var.Var.TheVariants.{Q_DIR}
 use Rattle.etcs_vars.specs.declared.fault.BuildFault.{BuildFault}
-use Rattle.etcs_vars.specs.Vars.{admits}
 use Rattle.etcs_vars.specs.Reading.{Reading, numbers, spelled}
 use Rattle.etcs_tables.specs.declared.row.Way.{Way}
-use Rattle.etcs_tables.specs.declared.row.Way.TheVariants.{ToTrain}
+use Rattle.etcs_tables.specs.declared.row.Way.TheVariants.{ToTrain, ToTrack}
 use Rattle.etcs_tables.specs.Frames.{is_direction}
 use Rattle.etcs_tables.specs.Layouts.{Layout, whole, ROW_LIMIT}
 use Rattle.etcs_tables.specs.Rows.{row_to}
@@ -15,9 +15,9 @@ use Rattle.etcs_bodies.specs.Taking.{Left, listed, in_bits, is_spent}
 use Rattle.etcs_bodies.specs.laws.Takes.{taken, admitted, number_ok}
 use Rattle.etcs_bodies.specs.Faults.{number_fault}
 use Rattle.etcs_bodies.specs.Codecs.{Codes}
-use Rattle.etcs_bodies.specs.Packets.{packet_from}
-use Rattle.etcs_bodies.specs.laws.Packets.{was_whole, is_whole, q_dir, read_list, body_of_list, body_of_bits, body_framed, typed_read, framed_read}
-use Rattle.etcs_bodies.specs.PacketCodes.{PacketCodes, fitting, directed_from, never, Directed}
+use Rattle.etcs_bodies.specs.Packets.{packet_to}
+use Rattle.etcs_bodies.specs.laws.Packets.{was_whole, is_whole, read_list, body_of_list, body_of_bits, body_framed, typed_read, framed_read}
+use Rattle.etcs_bodies.specs.PacketCodes.{PacketCodes, fitting, directed_from, direction_as, IsDirection, never, Directed}
 
 module _ {P : Type 0} {way : Way} {nid : ℕ} {direction : P → ℕ} {IsValue : P → Type 0} {reading : P → Reading} {from : ℕ → Left → Option P} (codes : PacketCodes way nid direction IsValue reading from) where
   pub all_typed : (p : P) → IsValue p → IsTyped way nid (direction p) (numbers (reading p))
@@ -33,41 +33,50 @@ module _ {P : Type 0} {way : Way} {nid : ℕ} {direction : P → ℕ} {IsValue :
 
 -- ---- A packet is a direction and a body.
 
--- a packet may have each direction that Q_DIR admits
-every : (way : Way) (dir : ℕ) → IsTrue (admits Q_DIR dir) → IsTrue (is_direction way dir)
-every ToTrain dir h = h
+-- a direction that a packet may have is one with which nothing is wrong, and the other way round
+pub direction_ok : (way : Way) (dir : ℕ) → IsTrue (is_direction way dir) → IsDirection way dir
+direction_ok ToTrain dir h = number_ok Q_DIR dir h
+direction_ok ToTrack dir h = eqb-true dir 0 h
+
+pub direction_admitted : (way : Way) (dir : ℕ) → IsDirection way dir → IsTrue (is_direction way dir)
+direction_admitted ToTrain dir h = admitted Q_DIR dir h
+direction_admitted ToTrack dir h = rw h refl
+
+pub same_direction : (way : Way) (dir : ℕ) → IsTrue (is_direction way dir) → direction_as way dir ≡ dir
+same_direction ToTrain dir h = refl
+same_direction ToTrack dir h = sym (eqb-true dir 0 h)
 
 was_fitting : {A : Type 0} (fault : Option BuildFault) (a b : A) → fitting fault a ≡ Some b → (fault ≡ None) × (a ≡ b)
 was_fitting None a b h = let e : a ≡ b = cc in (refl, e)
 was_fitting (Some e) a b h = absurd cc
 
-module _ {B P : Type 0} {row : Layout → Layout} {IsBody : B → Type 0} {body_reading : B → Reading} {from : Left → Option (B × Left)} {too_long : P → Option BuildFault} {direction : P → ℕ} {IsValue : P → Type 0} {reading : P → Reading} {make : ℕ → B → P} (codes : Codes row IsBody body_reading from) (way : Way) (nid : ℕ) (is : row_to way nid ≡ Some (row whole)) (parts : Directed IsBody body_reading too_long direction IsValue reading make) where
+module _ {B P : Type 0} {row : Layout → Layout} {IsBody : B → Type 0} {body_reading : B → Reading} {from : Left → Option (B × Left)} {too_long : P → Option BuildFault} {direction : P → ℕ} {IsValue : P → Type 0} {reading : P → Reading} {make : ℕ → B → P} (codes : Codes row IsBody body_reading from) (way : Way) (nid : ℕ) (is : row_to way nid ≡ Some (row whole)) (parts : Directed way IsBody body_reading too_long direction IsValue reading make) where
   -- what was read was a body of no fault
-  was_read : (dir : ℕ) (s : Left) (p : P) → packet_from (directed_from from too_long make) dir s ≡ Some p → (b : B) × (t : Left) × (from s ≡ Some (b, t)) × (is_spent t ≡ true) × IsTrue (admits Q_DIR dir) × (too_long (make dir b) ≡ None) × (make dir b ≡ p)
+  was_read : (dir : ℕ) (s : Left) (p : P) → packet_to way (directed_from from too_long make) dir s ≡ Some p → (b : B) × (t : Left) × (from s ≡ Some (b, t)) × (is_spent t ≡ true) × IsTrue (is_direction way dir) × (too_long (make dir b) ≡ None) × (make dir b ≡ p)
   unfolding directed_from
   was_read dir s p h =
-      let w = was_whole (directed_from from too_long make) dir s p h in
+      let w = was_whole way (directed_from from too_long make) dir s p h in
       let a = taken (from s) (λ b. fitting (too_long (make dir b.0)) (make dir b.0, b.1)) (p, w.left) w.taken in
       let f = was_fitting (too_long (make dir a.0.0)) (make dir a.0.0, a.0.1) (p, w.left) a.2 in
       (a.0.0, w.left, a.1 ∙ ap (λ (q : P × Left). Some (a.0.0, q.1)) f.1, w.spent, w.dir_ok, f.0, ap (λ (q : P × Left). q.0) f.1)
 
-  is_read : (dir : ℕ) (s t : Left) (b : B) → IsTrue (admits Q_DIR dir) → length (spelled (body_reading b)) ≤ ROW_LIMIT → from s ≡ Some (b, t) → is_spent t ≡ true → packet_from (directed_from from too_long make) dir s ≡ Some (make dir b)
+  is_read : (dir : ℕ) (s t : Left) (b : B) → IsTrue (is_direction way dir) → length (spelled (body_reading b)) ≤ ROW_LIMIT → from s ≡ Some (b, t) → is_spent t ≡ true → packet_to way (directed_from from too_long make) dir s ≡ Some (make dir b)
   unfolding directed_from
   is_read dir s t b ok short h spent =
       let fits : too_long (make dir b) ≡ None = parts.fits dir b (rw (parts.same dir b) at short) in
-      is_whole (directed_from from too_long make) dir s t (make dir b) ok (rw (h, fits) refl) spent
+      is_whole way (directed_from from too_long make) dir s t (make dir b) ok (rw (h, fits) refl) spent
 
-  value_of : (dir : ℕ) (b : B) (p : P) → make dir b ≡ p → too_long (make dir b) ≡ None → IsBody b → IsTrue (admits Q_DIR dir) → IsValue p × (direction p ≡ dir) × (body_reading b ≡ reading p)
+  value_of : (dir : ℕ) (b : B) (p : P) → make dir b ≡ p → too_long (make dir b) ≡ None → IsBody b → IsTrue (is_direction way dir) → IsValue p × (direction p ≡ dir) × (body_reading b ≡ reading p)
   value_of dir b p e fits h ok = (
-    subst IsValue e (parts.so dir b h (number_ok Q_DIR dir ok) fits),
-    ap direction (sym e) ∙ parts.dir_is dir b,
+    subst IsValue e (parts.so dir b h (direction_ok way dir ok) fits),
+    ap direction (sym e) ∙ parts.dir_is dir b ∙ same_direction way dir ok,
     parts.same dir b ∙ ap reading e,
   )
 
   same_body : (p : P) → body_reading (parts.body p) ≡ reading p
   same_body p = parts.same (direction p) (parts.body p) ∙ ap reading (parts.again p)
 
-  pub packet_codes : PacketCodes way nid direction IsValue reading (packet_from (directed_from from too_long make))
+  pub packet_codes : PacketCodes way nid direction IsValue reading (packet_to way (directed_from from too_long make))
   packet_codes = record {
     of_numbers = λ dir f p h.
         let (b, t, read, spent, ok, fits, e) = was_read dir (listed f) p h in
@@ -81,30 +90,30 @@ module _ {B P : Type 0} {row : Layout → Layout} {IsBody : B → Type 0} {body_
         (v.0, v.1, ap spelled (sym v.2) ∙ l.1);
     untyped = λ dir f none h.
         let o = typed_read codes way nid is dir f h in
-        let bad : ◌≡◌ {A = Option P} (Some (make dir o.0)) None = sym (is_read dir (listed f) (listed []) o.0 (q_dir way dir h.2) o.1 o.2 refl) ∙ none in
+        let bad : ◌≡◌ {A = Option P} (Some (make dir o.0)) None = sym (is_read dir (listed f) (listed []) o.0 h.2 o.1 o.2 refl) ∙ none in
         absurd cc;
     unframed = λ dir x none r h e.
         let o = framed_read codes way nid is dir r h in
-        let bad : ◌≡◌ {A = Option P} (Some (make dir o.0)) None = sym (is_read dir (in_bits (spelled r)) (in_bits []) o.0 (q_dir way dir h.2) o.1 o.2 refl) ∙ ap (λ y. packet_from (directed_from from too_long make) dir (in_bits y)) e ∙ none in
+        let bad : ◌≡◌ {A = Option P} (Some (make dir o.0)) None = sym (is_read dir (in_bits (spelled r)) (in_bits []) o.0 h.2 o.1 o.2 refl) ∙ ap (λ y. packet_to way (directed_from from too_long make) dir (in_bits y)) e ∙ none in
         absurd cc;
     framed = λ p h.
         let k = parts.is p h in
         let short : length (spelled (body_reading (parts.body p))) ≤ ROW_LIMIT = rw (same_body p) k.2 in
-        rw (← same_body p) (body_framed codes way nid is (parts.body p) (direction p) k.0 (every way (direction p) (admitted Q_DIR (direction p) k.1)) short);
+        rw (← same_body p) (body_framed codes way nid is (parts.body p) (direction p) k.0 (direction_admitted way (direction p) k.1) short);
     back = λ p h.
         let k = parts.is p h in
         let short : length (spelled (body_reading (parts.body p))) ≤ ROW_LIMIT = rw (same_body p) k.2 in
-        let read = is_read (direction p) (listed (numbers (body_reading (parts.body p)))) (listed []) (parts.body p) (admitted Q_DIR (direction p) k.1) short (read_list codes (parts.body p) k.0) refl in
+        let read = is_read (direction p) (listed (numbers (body_reading (parts.body p)))) (listed []) (parts.body p) (direction_admitted way (direction p) k.1) short (read_list codes (parts.body p) k.0) refl in
         (rw (← same_body p) read) ∙ ap Some (parts.again p);
   }
 
--- ---- A packet that is never too long, made of a direction and a body.
+-- ---- A packet to the train that is never too long, made of a direction and a body.
 
 pub never_long : {B P : Type 0} {IsBody : B → Type 0} {body_reading : B → Reading} {direction : P → ℕ} {reading : P → Reading} {make : ℕ → B → P} (body : P → B)
     → ((p : P) → make (direction p) (body p) ≡ p) → ((dir : ℕ) (b : B) → direction (make dir b) ≡ dir) → ((dir : ℕ) (b : B) → body (make dir b) ≡ b)
     → ((dir : ℕ) (b : B) → body_reading b ≡ reading (make dir b))
     → ((p : P) → (number_fault Q_DIR (direction p) ≡ None) × IsBody (body p) → length (spelled (reading p)) ≤ ROW_LIMIT)
-    → Directed IsBody body_reading never direction (λ p. (number_fault Q_DIR (direction p) ≡ None) × IsBody (body p)) reading make
+    → Directed ToTrain IsBody body_reading never direction (λ p. (number_fault Q_DIR (direction p) ≡ None) × IsBody (body p)) reading make
 never_long body again dir_is body_is same short = record {
   body = body;
   again = again;

@@ -3,13 +3,10 @@ use Rattle.std.proofs.Common.{◌≡◌, ℕ, ◌≤◌, Bool, true, false, List
 use Rattle.std.specs.Prelude.{IsTrue, if◌then◌else◌, nat_le}
 use Rattle.std.proofs.lemmas.Bool.{leb-true, le-leb}
 use Rattle.std.proofs.lemmas.List.{append-nil}
-use Rattle.etcs_vars.specs.declared.var.Var.TheVariants.{Q_DIR}
 use Rattle.etcs_vars.specs.declared.fault.BuildFault.{BuildFault}
 use Rattle.etcs_vars.specs.declared.fault.BuildFault.TheVariants.{TooLong}
-use Rattle.etcs_vars.specs.Vars.{admits}
 use Rattle.etcs_vars.specs.Reading.{Reading, numbers, spelled}
 use Rattle.etcs_tables.specs.declared.row.Way.{Way}
-use Rattle.etcs_tables.specs.declared.row.Way.TheVariants.{ToTrain}
 use Rattle.etcs_tables.specs.Layouts.{Layout, whole, Reads, ROW_LIMIT}
 use Rattle.etcs_tables.specs.Rows.{row_to}
 use Rattle.etcs_tables.specs.Frames.{is_direction}
@@ -20,7 +17,7 @@ use Rattle.etcs_bodies.specs.Repeats.{bit_count}
 use Rattle.etcs_bodies.specs.laws.Repeats.{bit_count_is}
 use Rattle.etcs_bodies.specs.Codecs.{Codes}
 use Rattle.etcs_bodies.specs.laws.Choices.{whole_in, whole_out}
-use Rattle.etcs_bodies.specs.Packets.{bits_fault, length_fault, packet_from, Whole}
+use Rattle.etcs_bodies.specs.Packets.{bits_fault, length_fault, packet_to, Whole}
 
 -- ---- The length.
 
@@ -60,22 +57,18 @@ by_dir : {P : Type 0} (c : Bool) (o : Option P) (p : P) → ◌≡◌ {A = Optio
 by_dir true o p h = (refl, h)
 by_dir false o p h = absurd cc
 
-pub was_whole : {P : Type 0} (from : ℕ → Left → Option (P × Left)) (dir : ℕ) (s : Left) (p : P) → packet_from from dir s ≡ Some p → Whole from dir s p
-unfolding packet_from
-was_whole {P} from dir s p h =
+pub was_whole : {P : Type 0} (way : Way) (from : ℕ → Left → Option (P × Left)) (dir : ℕ) (s : Left) (p : P) → packet_to way from dir s ≡ Some p → Whole way from dir s p
+unfolding packet_to
+was_whole {P} way from dir s p h =
     let k : P × Left → Option P = λ q. if is_spent q.1 then Some q.0 else None in
-    let d = by_dir (admits Q_DIR dir) (from dir s and_then k) p h in
+    let d = by_dir (is_direction way dir) (from dir s and_then k) p h in
     let a = taken (from dir s) k p d.1 in
     let c = by_spent (is_spent a.0.1) a.0.0 p a.2 in
     record { left = a.0.1; taken = a.1 ∙ ap (λ q. Some (q, a.0.1)) c.1; spent = c.0; dir_ok = d.0 }
 
-pub is_whole : {P : Type 0} (from : ℕ → Left → Option (P × Left)) (dir : ℕ) (s t : Left) (p : P) → IsTrue (admits Q_DIR dir) → from dir s ≡ Some (p, t) → is_spent t ≡ true → packet_from from dir s ≡ Some p
-unfolding packet_from
-is_whole from dir s t p d h e = rw (d, h, e) refl
-
--- Q_DIR admits every direction
-pub q_dir : (way : Way) (dir : ℕ) → IsTrue (is_direction way dir) → IsTrue (admits Q_DIR dir)
-q_dir ToTrain dir h = h
+pub is_whole : {P : Type 0} (way : Way) (from : ℕ → Left → Option (P × Left)) (dir : ℕ) (s t : Left) (p : P) → IsTrue (is_direction way dir) → from dir s ≡ Some (p, t) → is_spent t ≡ true → packet_to way from dir s ≡ Some p
+unfolding packet_to
+is_whole way from dir s t p d h e = rw (d, h, e) refl
 
 module _ {B : Type 0} {row : Layout → Layout} {IsBody : B → Type 0} {reading : B → Reading} {from : Left → Option (B × Left)} (codes : Codes row IsBody reading from) where
   pub read_list : (b : B) → IsBody b → from (listed (numbers (reading b))) ≡ Some (b, listed [])

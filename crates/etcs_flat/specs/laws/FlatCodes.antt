@@ -4,26 +4,27 @@ use Rattle.std.specs.Prelude.{IsTrue, IsSome}
 use Rattle.std.specs.Option.{option_map}
 use Rattle.std.proofs.lemmas.Option.{option_and_then_some}
 use Rattle.etcs_vars.specs.declared.var.Var.{Var}
-use Rattle.etcs_vars.specs.declared.var.Var.TheVariants.{Q_DIR}
 use Rattle.etcs_vars.specs.Faults.{number_fault}
 use Rattle.etcs_vars.specs.Vars.{admits}
 use Rattle.etcs_vars.specs.Reading.{Reading}
 use Rattle.etcs_tables.specs.declared.item.RowItem.{RowItem}
 use Rattle.etcs_tables.specs.declared.item.RowItem.TheVariants.{One}
+use Rattle.etcs_tables.specs.declared.row.Way.{Way}
 use Rattle.etcs_tables.specs.declared.row.Way.TheVariants.{ToTrain}
+use Rattle.etcs_tables.specs.Frames.{is_direction}
 use Rattle.etcs_tables.specs.Layouts.{Layout, whole, one, guarded, counted, Scope, Reads}
 use Rattle.etcs_tables.specs.Rows.{row_to}
 use Rattle.etcs_bodies.specs.Taking.{Left, ahead, ◌and_then◌, next_number}
 use Rattle.etcs_bodies.specs.laws.Takes.{admitted, number_ok, ahead_none, ahead_both, next_is, next_sound, taken}
 use Rattle.etcs_bodies.specs.Codecs.{Codes}
 use Rattle.etcs_bodies.specs.laws.Codecs.{carried}
-use Rattle.etcs_bodies.specs.Packets.{packet_from}
+use Rattle.etcs_bodies.specs.Packets.{packet_to, packet_from}
 use Rattle.etcs_bodies.specs.PacketCodes.{PacketCodes, directed_from}
-use Rattle.etcs_bodies.specs.laws.PacketCodes.{packet_codes}
-use Rattle.etcs_flat.specs.Flats.{FlatValue, flat_value, variables, flat_row, numbers_fault, row_fault, flat_fault, pairs, row_reading, flat_reading}
+use Rattle.etcs_bodies.specs.laws.PacketCodes.{direction_ok, direction_admitted, same_direction, packet_codes}
+use Rattle.etcs_flat.specs.Flats.{FlatValue, flat_value, variables, flat_row_to, flat_row, numbers_fault, row_fault, flat_fault_to, flat_fault, pairs, row_reading, flat_reading_to, flat_reading}
 use Rattle.etcs_flat.specs.laws.FlatLaws.{none_both, number_fine, fine_number, behind_first, pairs-short, row_short, nothing_wrong, nothing_found}
 use Rattle.etcs_flat.specs.Tables.{table_from}
-use Rattle.etcs_flat.specs.FlatCodes.{row_of, AreNumbers, known, row_from, flat_from}
+use Rattle.etcs_flat.specs.FlatCodes.{row_of, AreNumbers, known, Flatly, row_from, flat_from_to, flat_from}
 
 -- ---- The numbers of some variables.
 
@@ -80,28 +81,36 @@ same_layout (one v rest) vs is =
 same_layout (guarded g group rest) vs is = absurd cc
 same_layout (counted group rest) vs is = absurd cc
 
-row_is : (nid : ℕ) (vs : List Var) → flat_row nid ≡ Some vs → row_to ToTrain nid ≡ Some (row_of vs whole)
-row_is nid vs is = option_and_then_some variables (row_to ToTrain nid) vs is (λ row there its. there ∙ ap Some (same_layout row vs its))
+row_is : (way : Way) (nid : ℕ) (vs : List Var) → flat_row_to way nid ≡ Some vs → row_to way nid ≡ Some (row_of vs whole)
+row_is way nid vs is = option_and_then_some variables (row_to way nid) vs is (λ row there its. there ∙ ap Some (same_layout row vs its))
 
-codes_of : (nid : ℕ) (o : Option (List Var)) → flat_row nid ≡ o → IsSome o → PacketCodes ToTrain nid (λ (p : FlatValue). p.dir) (λ p. row_fault o p.dir p.numbers ≡ None) (λ p. row_reading o p.numbers) (packet_from (row_from o))
-codes_of nid None is there = absurd cc
-codes_of nid (Some vs) is there = packet_codes (numbers_codes vs) ToTrain nid (row_is nid vs is) (record {
-  body = λ p. p.numbers;
-  again = λ p. refl;
-  dir_is = λ dir ns. refl;
-  same = λ dir ns. refl;
-  is = λ p h.
-      let w = nothing_wrong (Some vs) p.dir p.numbers h in
-      let same : w.0 ≡ vs = (let s = w.1 in cc) in
-      let found : AreNumbers w.0 p.numbers = (w.2, w.4) in
-      let k : AreNumbers vs p.numbers = rw same at found in
-      (k, number_ok Q_DIR p.dir w.3, omega (arith, pairs-short vs p.numbers, row_short nid vs is));
-  so = λ dir ns h d fits. nothing_found (Some vs) vs dir ns refl h.0 (admitted Q_DIR dir d) h.1;
-  fits = λ dir ns small. refl;
-})
+module _ {P : Type 0} (way : Way) (direction : P → ℕ) (body : P → List ℕ) (make : ℕ → List ℕ → P) (flat : Flatly way direction body make) where
+  codes_of : (nid : ℕ) (o : Option (List Var)) → flat_row_to way nid ≡ o → IsSome o → PacketCodes way nid direction (λ p. row_fault way o (direction p) (body p) ≡ None) (λ p. row_reading o (body p)) (packet_to way (row_from make o))
+  codes_of nid None is there = absurd cc
+  codes_of nid (Some vs) is there = packet_codes (numbers_codes vs) way nid (row_is way nid vs is) (record {
+    body = body;
+    again = flat.again;
+    dir_is = flat.dir_is;
+    same = λ dir ns. ap (pairs vs) (sym (flat.same dir ns));
+    is = λ p h.
+        let w = nothing_wrong way (Some vs) (direction p) (body p) h in
+        let same : w.0 ≡ vs = (let s = w.1 in cc) in
+        let found : AreNumbers w.0 (body p) = (w.2, w.4) in
+        let k : AreNumbers vs (body p) = rw same at found in
+        (k, direction_ok way (direction p) w.3, omega (arith, pairs-short vs (body p), row_short way nid vs is));
+    so = λ dir ns h d fits.
+        let admitted = direction_admitted way dir d in
+        let there : direction (make dir ns) ≡ dir = flat.dir_is dir ns ∙ same_direction way dir admitted in
+        rw (there, flat.same dir ns) (nothing_found way (Some vs) vs dir ns refl h.0 admitted h.1);
+    fits = λ dir ns small. refl;
+  })
 
+  pub flat_codes_to : (nid : ℕ) → IsSome (flat_row_to way nid) → PacketCodes way nid direction (λ p. flat_fault_to way nid (direction p) (body p) ≡ None) (λ p. flat_reading_to way nid (body p)) (packet_to way (flat_from_to way make nid))
+  flat_codes_to nid there = codes_of nid (flat_row_to way nid) refl there
+
+-- to the train
 pub flat_codes : (nid : ℕ) → IsSome (flat_row nid) → PacketCodes ToTrain nid (λ (p : FlatValue). p.dir) (λ p. flat_fault nid p.dir p.numbers ≡ None) (λ p. flat_reading nid p.numbers) (packet_from (flat_from nid))
-flat_codes nid there = codes_of nid (flat_row nid) refl there
+flat_codes nid there = flat_codes_to ToTrain (λ (p : FlatValue). p.dir) (λ p. p.numbers) flat_value (record { again = λ p. refl; dir_is = λ dir ns. refl; same = λ dir ns. refl }) nid there
 
 -- ---- What is taken for the packet's table.
 
@@ -109,22 +118,23 @@ table_is : (o : Option (List Var)) (table : List RowItem) → Some table ≡ opt
 table_is None table e = absurd cc
 table_is (Some vs) table e = (refl, cc)
 
-pub table_fine : (nid dir : ℕ) (table : List RowItem) (s t : Left) (ns : List ℕ) → Some table ≡ option_map (λ vs. map One vs) (flat_row nid) → IsTrue (admits Q_DIR dir) → table_from table s ≡ Some (ns, t) → flat_fault nid dir ns ≡ None
-table_fine nid dir table s t ns is d h =
-    let k = table_is (flat_row nid) table is in
-    let x = sound (known (flat_row nid)) ns s t (ap (λ (l : List RowItem). table_from l s) (sym k.1) ∙ h) in
-    nothing_found (flat_row nid) (known (flat_row nid)) dir ns k.0 x.0.0 d x.0.1
+module _ (way : Way) (nid dir : ℕ) (table : List RowItem) (s : Left) (is : Some table ≡ option_map (λ vs. map One vs) (flat_row_to way nid)) where
+  pub table_fine : (t : Left) (ns : List ℕ) → IsTrue (is_direction way dir) → table_from table s ≡ Some (ns, t) → flat_fault_to way nid dir ns ≡ None
+  table_fine t ns d h =
+      let k = table_is (flat_row_to way nid) table is in
+      let x = sound (known (flat_row_to way nid)) ns s t (ap (λ (l : List RowItem). table_from l s) (sym k.1) ∙ h) in
+      nothing_found way (flat_row_to way nid) (known (flat_row_to way nid)) dir ns k.0 x.0.0 d x.0.1
 
-pub table_some : (nid dir : ℕ) (table : List RowItem) (s t : Left) (ns : List ℕ) → Some table ≡ option_map (λ vs. map One vs) (flat_row nid) → table_from table s ≡ Some (ns, t) → flat_from nid dir s ≡ Some (flat_value dir ns, t)
-unfolding directed_from
-table_some nid dir table s t ns is h =
-    let k = table_is (flat_row nid) table is in
-    let some : table_from (map One (known (flat_row nid))) s ≡ Some (ns, t) = ap (λ (l : List RowItem). table_from l s) (sym k.1) ∙ h in
-    rw some refl
+  pub table_some : {P : Type 0} (make : ℕ → List ℕ → P) (t : Left) (ns : List ℕ) → table_from table s ≡ Some (ns, t) → flat_from_to way make nid dir s ≡ Some (make dir ns, t)
+  unfolding directed_from
+  table_some make t ns h =
+      let k = table_is (flat_row_to way nid) table is in
+      let some : table_from (map One (known (flat_row_to way nid))) s ≡ Some (ns, t) = ap (λ (l : List RowItem). table_from l s) (sym k.1) ∙ h in
+      rw some refl
 
-pub table_none : (nid dir : ℕ) (table : List RowItem) (s : Left) → Some table ≡ option_map (λ vs. map One vs) (flat_row nid) → table_from table s ≡ None → flat_from nid dir s ≡ None
-unfolding directed_from
-table_none nid dir table s is h =
-    let k = table_is (flat_row nid) table is in
-    let none : table_from (map One (known (flat_row nid))) s ≡ None = ap (λ (l : List RowItem). table_from l s) (sym k.1) ∙ h in
-    rw none refl
+  pub table_none : {P : Type 0} (make : ℕ → List ℕ → P) → table_from table s ≡ None → flat_from_to way make nid dir s ≡ None
+  unfolding directed_from
+  table_none make h =
+      let k = table_is (flat_row_to way nid) table is in
+      let none : table_from (map One (known (flat_row_to way nid))) s ≡ None = ap (λ (l : List RowItem). table_from l s) (sym k.1) ∙ h in
+      rw none refl

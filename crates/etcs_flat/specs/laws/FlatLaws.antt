@@ -13,10 +13,14 @@ use Rattle.etcs_vars.specs.Vars.{admits}
 use Rattle.etcs_vars.specs.Reading.{spelled}
 use Rattle.etcs_vars.proofs.Prefixes.{width-le}
 use Rattle.etcs_vars.proofs.Sent.{length-sent}
-use Rattle.etcs_tables.specs.declared.row.Way.TheVariants.{ToTrain}
+use Rattle.etcs_tables.specs.declared.row.Way.{Way}
+use Rattle.etcs_tables.specs.declared.row.Way.TheVariants.{ToTrain, ToTrack}
+use Rattle.etcs_tables.specs.Frames.{is_direction}
 use Rattle.etcs_tables.specs.Rows.{row_to, rows_to}
+use Rattle.etcs_tables.specs.Layouts.{Layout}
 use Rattle.etcs_tables.proofs.EachRow.{of_each}
-use Rattle.etcs_flat.specs.Flats.{variables, flat_row, numbers_fault, row_fault, pairs}
+use Rattle.etcs_flat.specs.Flats.{variables, flat_row_to, numbers_fault, row_fault, pairs}
+use Rattle.etcs_flat.specs.Others.{direction_fault}
 
 -- ---- Faults, one after another.
 
@@ -24,11 +28,21 @@ pub none_both : (a b : Option BuildFault) → a or_else b ≡ None → (a ≡ No
 none_both None b e = (refl, e)
 none_both (Some x) b e = absurd cc
 
+by_test : (b : Bool) (e : BuildFault) → (if b then None else Some e) ≡ None → IsTrue b
+by_test true e h = refl
+by_test false e h = absurd cc
+
 pub number_fine : (v : Var) (n : ℕ) → number_fault v n ≡ None → IsTrue (admits v n)
-number_fine v n e = elim (admits v n) as (λ b. (if b then None else Some (NotAdmitted v)) ≡ None → IsTrue b) [ true ↦ λ _. refl | false ↦ λ x. absurd cc ] e
+number_fine v n e = by_test (admits v n) (NotAdmitted v) e
 
 pub fine_number : (v : Var) (n : ℕ) → IsTrue (admits v n) → number_fault v n ≡ None
 fine_number v n h = rw h refl
+
+pub direction_fine : (way : Way) (dir : ℕ) → direction_fault way dir ≡ None → IsTrue (is_direction way dir)
+direction_fine way dir e = by_test (is_direction way dir) (NotAdmitted Q_DIR) e
+
+pub fine_direction : (way : Way) (dir : ℕ) → IsTrue (is_direction way dir) → direction_fault way dir ≡ None
+fine_direction way dir h = rw h refl
 
 count_fine : (ns : List ℕ) (vs : List Var) → (if length ns == length vs then None else Some Count) ≡ None → length ns ≡ length vs
 count_fine ns vs e = grind (arith, rules)
@@ -61,19 +75,21 @@ at_most_six (Some ws) vs h e =
     let same : ws ≡ vs = cc in
     rw (← same) (grind (arith, nat_tests))
 
-pub row_short : (nid : ℕ) (vs : List Var) → flat_row nid ≡ Some vs → length vs ≤ 6
-row_short nid vs e =
-    option_and_then_some variables (row_to ToTrain nid) vs e
-    (λ row is its. at_most_six (variables row) vs (of_each (λ n r. short (variables r)) (rows_to ToTrain) nid row refl is) its)
+each_short : (way : Way) (nid : ℕ) (row : Layout) → row_to way nid ≡ Some row → IsTrue (short (variables row))
+each_short ToTrain nid row is = of_each (λ n r. short (variables r)) (rows_to ToTrain) nid row refl is
+each_short ToTrack nid row is = of_each (λ n r. short (variables r)) (rows_to ToTrack) nid row refl is
+
+pub row_short : (way : Way) (nid : ℕ) (vs : List Var) → flat_row_to way nid ≡ Some vs → length vs ≤ 6
+row_short way nid vs e = option_and_then_some variables (row_to way nid) vs e (λ row is its. at_most_six (variables row) vs (each_short way nid row is) its)
 
 -- ---- What nothing is wrong with.
 
-pub nothing_wrong : (o : Option (List Var)) (dir : ℕ) (ns : List ℕ) → row_fault o dir ns ≡ None → (vs : List Var) × (o ≡ Some vs) × (length ns ≡ length vs) × IsTrue (admits Q_DIR dir) × (numbers_fault vs ns ≡ None)
-nothing_wrong None dir ns fine = absurd cc
-nothing_wrong (Some vs) dir ns fine =
-    let a = none_both ((if length ns == length vs then None else Some Count) or_else number_fault Q_DIR dir) (numbers_fault vs ns) fine in
-    let b = none_both (if length ns == length vs then None else Some Count) (number_fault Q_DIR dir) a.0 in
-    (vs, refl, count_fine ns vs b.0, number_fine Q_DIR dir b.1, a.1)
+pub nothing_wrong : (way : Way) (o : Option (List Var)) (dir : ℕ) (ns : List ℕ) → row_fault way o dir ns ≡ None → (vs : List Var) × (o ≡ Some vs) × (length ns ≡ length vs) × IsTrue (is_direction way dir) × (numbers_fault vs ns ≡ None)
+nothing_wrong way None dir ns fine = absurd cc
+nothing_wrong way (Some vs) dir ns fine =
+    let a = none_both ((if length ns == length vs then None else Some Count) or_else direction_fault way dir) (numbers_fault vs ns) fine in
+    let b = none_both (if length ns == length vs then None else Some Count) (direction_fault way dir) a.0 in
+    (vs, refl, count_fine ns vs b.0, direction_fine way dir b.1, a.1)
 
-pub nothing_found : (o : Option (List Var)) (vs : List Var) (dir : ℕ) (ns : List ℕ) → o ≡ Some vs → length ns ≡ length vs → IsTrue (admits Q_DIR dir) → numbers_fault vs ns ≡ None → row_fault o dir ns ≡ None
-nothing_found o vs dir ns is long admitted fine = rw (is, same_count (length ns) (length vs) None (Some Count) long, fine_number Q_DIR dir admitted) fine
+pub nothing_found : (way : Way) (o : Option (List Var)) (vs : List Var) (dir : ℕ) (ns : List ℕ) → o ≡ Some vs → length ns ≡ length vs → IsTrue (is_direction way dir) → numbers_fault vs ns ≡ None → row_fault way o dir ns ≡ None
+nothing_found way o vs dir ns is long admitted fine = rw (is, same_count (length ns) (length vs) None (Some Count) long, fine_direction way dir admitted) fine

@@ -11,7 +11,8 @@ use Rattle.etcs_vars.proofs.Prefixes.{width-le}
 use Rattle.etcs_vars.proofs.Sent.{length-sent}
 use Rattle.etcs_tables.specs.declared.item.RowItem.{RowItem}
 use Rattle.etcs_tables.specs.declared.item.RowItem.TheVariants.{One, When, Many}
-use Rattle.etcs_flat.specs.Flats.{flat_row, flat_fault, pairs, row_reading, flat_reading, variables, is_one}
+use Rattle.etcs_tables.specs.declared.row.Way.{Way}
+use Rattle.etcs_flat.specs.Flats.{flat_row_to, flat_fault_to, pairs, row_reading, flat_reading_to, variables, is_one}
 use Rattle.etcs_flat.specs.laws.FlatLaws.{nothing_wrong, row_short}
 use Rattle.etcs_flat.specs.Tables.{item_width, table_pairs, table_from}
 use Rattle.etcs_bodies.specs.Taking.{Left, next_number}
@@ -76,22 +77,22 @@ own_table None table e = absurd cc
 own_table (Some vs) table e = (vs, refl, cc)
 
 -- it has at most six items
-pub table_short : (nid : ℕ) (table : List RowItem) → Some table ≡ option_map (λ vs. map One vs) (flat_row nid) → length table ≤ 6
-table_short nid table is =
-    let t = own_table (flat_row nid) table is in
-    omega (arith, row_short nid t.0 t.1, ap length t.2, length-map t.0 One)
+pub table_short : (way : Way) (nid : ℕ) (table : List RowItem) → Some table ≡ option_map (λ vs. map One vs) (flat_row_to way nid) → length table ≤ 6
+table_short way nid table is =
+    let t = own_table (flat_row_to way nid) table is in
+    omega (arith, row_short way nid t.0 t.1, ap length t.2, length-map t.0 One)
 
-pub row_there : (nid dir : ℕ) (ns : List ℕ) → flat_fault nid dir ns ≡ None → IsSome (flat_row nid)
-row_there nid dir ns fine = let x = nothing_wrong (flat_row nid) dir ns fine in rw x.1 refl
+pub row_there : (way : Way) (nid dir : ℕ) (ns : List ℕ) → flat_fault_to way nid dir ns ≡ None → IsSome (flat_row_to way nid)
+row_there way nid dir ns fine = let x = nothing_wrong way (flat_row_to way nid) dir ns fine in rw x.1 refl
 
-pub table_width : (nid dir : ℕ) (ns : List ℕ) (table : List RowItem) → flat_fault nid dir ns ≡ None → Some table ≡ option_map (λ vs. map One vs) (flat_row nid) → sum_by item_width table ≡ length (spelled (flat_reading nid ns))
-table_width nid dir ns table fine is =
-    let t = own_table (flat_row nid) table is in
-    let x = nothing_wrong (flat_row nid) dir ns fine in
+pub table_width : (way : Way) (nid dir : ℕ) (ns : List ℕ) (table : List RowItem) → flat_fault_to way nid dir ns ≡ None → Some table ≡ option_map (λ vs. map One vs) (flat_row_to way nid) → sum_by item_width table ≡ length (spelled (flat_reading_to way nid ns))
+table_width way nid dir ns table fine is =
+    let t = own_table (flat_row_to way nid) table is in
+    let x = nothing_wrong way (flat_row_to way nid) dir ns fine in
     let same : x.0 ≡ t.0 = (let e : Some x.0 ≡ Some t.0 = sym x.1 ∙ t.1 in cc) in
     ap (sum_by item_width) t.2 ∙ width_in t.0 ns (x.2 ∙ ap length same) ∙ ap (λ (o : Option (List Var)). length (spelled (row_reading o ns))) (sym t.1)
 
-pub table_reading : (nid : ℕ) (ns : List ℕ) (table : List RowItem) → Some table ≡ option_map (λ vs. map One vs) (flat_row nid) → table_pairs table ns ≡ flat_reading nid ns
-table_reading nid ns table is =
-    let t = own_table (flat_row nid) table is in
+pub table_reading : (way : Way) (nid : ℕ) (ns : List ℕ) (table : List RowItem) → Some table ≡ option_map (λ vs. map One vs) (flat_row_to way nid) → table_pairs table ns ≡ flat_reading_to way nid ns
+table_reading way nid ns table is =
+    let t = own_table (flat_row_to way nid) table is in
     ap (λ (l : List RowItem). table_pairs l ns) t.2 ∙ pairs_in t.0 ns ∙ ap (λ (o : Option (List Var)). row_reading o ns) (sym t.1)

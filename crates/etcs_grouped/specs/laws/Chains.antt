@@ -6,7 +6,6 @@ use Rattle.std.proofs.lemmas.Bool.{leb-true, le-leb, lt-leb}
 use Rattle.etcs_vars.specs.declared.var.Var.TheVariants.{Q_SCALE}
 use Rattle.etcs_vars.specs.declared.fault.BuildFault.TheVariants.{TooLong}
 use Rattle.etcs_vars.specs.Reading.{Reading, spelled}
-use Rattle.etcs_tables.specs.declared.row.Way.{Way}
 use Rattle.etcs_tables.specs.declared.row.Way.TheVariants.{ToTrain}
 use Rattle.etcs_tables.specs.Layouts.{Layout, whole, ROW_LIMIT}
 use Rattle.etcs_tables.specs.Rows.{row_to}
@@ -65,10 +64,10 @@ no_fault reading true p short = refl
 no_fault reading false p short = length_ok (chain_reading reading p) short
 
 module _ {V : Type 0} {row : Layout → Layout} {IsV : V → Type 0} {reading : V → Reading} {from : Left → Option (V × Left)} (codes : Codes row IsV reading from) (most : ℕ) (each : (v : V) → IsV v → bit_count (reading v) ≤ most) where
-  pub chain_codes : (way : Way) (nid : ℕ) → row_to way nid ≡ Some (chain_row row whole) → PacketCodes way nid (λ (p : ChainValue V). p.dir) (IsChain IsV most reading) (chain_reading reading) (packet_from (chain_from most reading from))
+  pub chain_codes : (nid : ℕ) → row_to ToTrain nid ≡ Some (chain_row row whole) → PacketCodes ToTrain nid (λ (p : ChainValue V). p.dir) (IsChain IsV most reading) (chain_reading reading) (packet_from (chain_from most reading from))
   unfolding chain_from
-  chain_codes way nid is =
-      packet_codes (both (number Q_SCALE) (entries_codes codes)) way nid is
+  chain_codes nid is =
+      packet_codes (both (number Q_SCALE) (entries_codes codes)) ToTrain nid is
       (record {
         body = body_of;
         again = λ p. refl;
@@ -82,16 +81,16 @@ module _ {V : Type 0} {row : Layout → Layout} {IsV : V → Type 0} {reading : 
 -- ---- Of links, slopes, speeds and areas of modes.
 
 pub linking_codes : PacketCodes ToTrain 5 (λ (p : ChainValue LinkValue). p.dir) IsLinking linking_reading (packet_from (chain_from 49 link_reading link_from))
-linking_codes = chain_codes link_codes 49 (λ l _. link_most l) ToTrain 5 refl
+linking_codes = chain_codes link_codes 49 (λ l _. link_most l) 5 refl
 
 pub gradient_codes : PacketCodes ToTrain 21 (λ (p : ChainValue SlopeValue). p.dir) IsGradient gradient_reading (packet_from (chain_from 24 slope_reading slope_from))
-gradient_codes = chain_codes slope_codes 24 (λ s _. slope_most s) ToTrain 21 refl
+gradient_codes = chain_codes slope_codes 24 (λ s _. slope_most s) 21 refl
 
 pub profile_codes : PacketCodes ToTrain 27 (λ (p : ChainValue SpeedValue). p.dir) IsSpeedProfile profile_reading (packet_from (chain_from 431 speed_reading speed_from))
-profile_codes = chain_codes speed_codes 431 speed_most ToTrain 27 refl
+profile_codes = chain_codes speed_codes 431 speed_most 27 refl
 
 pub mode_profile_codes : PacketCodes ToTrain 80 (λ (p : ChainValue ModeSectionValue). p.dir) IsModeProfile mode_profile_reading (packet_from (chain_from 55 mode_section_reading mode_section_from))
-mode_profile_codes = chain_codes mode_section_codes 55 (λ m _. mode_section_most m) ToTrain 80 refl
+mode_profile_codes = chain_codes mode_section_codes 55 (λ m _. mode_section_most m) 80 refl
 
 -- ---- Its equality.
 

@@ -16,7 +16,7 @@ use Rattle.etcs_packets.specs.contracts.packet.PacketPartialEq.TheImpl as packet
 
 -- ---- Of an enum, where it is so for each variant.
 
-abbrev Exact : (Fss : List (List Field)) → Each Bool Fss → Type 0
+abbrev pub Exact : (Fss : List (List Field)) → Each Bool Fss → Type 0
 Exact [] each = Unit
 Exact (Fs ∷ Fss) each = ((x y : Values Fs) → Decides (each.0 x y) (x ≡ y)) × Exact Fss each.1
 
@@ -27,11 +27,11 @@ choices (Fs ∷ Fss) each h (inl x) (inr y) = ((λ e. absurd cc), (λ e. absurd 
 choices (Fs ∷ Fss) each h (inr x) (inl y) = ((λ e. absurd cc), (λ e. absurd cc))
 choices (Fs ∷ Fss) each h (inr x) (inr y) = let k = choices Fss each.1 h.1 x y in ((λ e. ap inr (k.0 e)), (λ e. k.1 cc))
 
-enum_exact : (N : Record) (each : Each Bool N.parts) → Exact N.parts each → (x y : N.D) → Decides (by false false N.parts each (N.as_values x) (N.as_values y)) (x ≡ y)
+pub enum_exact : (N : Record) (each : Each Bool N.parts) → Exact N.parts each → (x y : N.D) → Decides (by false false N.parts each (N.as_values x) (N.as_values y)) (x ≡ y)
 enum_exact N each h x y = let k = choices N.parts each h (N.as_values x) (N.as_values y) in ((λ e. values_one N x y (k.0 e)), (λ e. k.1 (ap N.as_values e)))
 
 -- a variant of one field
-one : {V : Type 0} {E : V → V → Bool} → IsExact E → (x y : V × Unit {0}) → Decides (E x.0 y.0) (x ≡ y)
+pub one : {V : Type 0} {E : V → V → Bool} → IsExact E → (x y : V × Unit {0}) → Decides (E x.0 y.0) (x ≡ y)
 one {V} {E} e x y = ((λ h. ap (λ (v : V). (v, tt {0})) ((e x.0 y.0).0 h)), (λ h. (e x.0 y.0).1 (ap (λ (v : V × Unit {0}). v.0) h)))
 
 -- ---- Of packets.

@@ -1,6 +1,7 @@
 pub mod Joining
 pub mod Leaving
 pub mod PacketBits
+pub mod PacketLists
 pub mod PartBits
 pub mod Sending
 pub mod Equality

@@ -1,29 +1,19 @@
 -- Packets over the bits of bytes.
-use Rattle.std.proofs.Common.{◌≡◌, ℕ, ◌+◌, ◌*◌, ◌<◌, ◌≤◌, Bool, true, false, List, [], ◌∷◌, ◌++◌, length, take, drop, get_or, map, Some, None, refl, sym, ap, ◌∙◌, arith, append_assoc, append-nil, length-append}
-use Rattle.std.specs.Prelude.{nat_le, if◌then◌else◌}
-use Rattle.std.proofs.lemmas.List.{map_more, map-append, take-append-drop}
-use Rattle.std.proofs.lemmas.Grind.{flat_map-append}
+use Rattle.std.proofs.Common.{◌≡◌, ℕ, ◌+◌, ◌*◌, ◌<◌, ◌≤◌, Bool, true, false, List, [], ◌∷◌, ◌++◌, length, take, Some, None, refl, sym, ap, ◌∙◌, arith, append_assoc, append-nil, length-append}
 use Rattle.etcs_bits.specs.Bits.{num, replaced}
 use Rattle.etcs_bits.proofs.Numbers.{length-num}
 use Rattle.etcs_bits.proofs.Lists.{replaced_more, length-replaced}
 use Rattle.etcs_vars.specs.declared.var.Var.TheVariants.{NID_PACKET, Q_DIR, L_PACKET, OTHER_DATA}
-use Rattle.etcs_vars.specs.declared.fault.BuildFault.TheVariants.{NotAdmitted, TooLong}
-use Rattle.etcs_vars.specs.Faults.{◌or_else◌, number_fault}
 use Rattle.etcs_vars.specs.Reading.{Reading, spelled}
 use Rattle.etcs_vars.specs.Reading as sent
-use Rattle.etcs_vars.proofs.Prefixes.{admits_parts}
 use Rattle.etcs_vars.proofs.Stepping.{next_number}
 use Rattle.etcs_vars.proofs.Walk.{spelled-append}
 use Rattle.etcs_vars.proofs.Sent.{length-sent}
-use Rattle.etcs_tables.specs.declared.row.Way.TheVariants.{ToTrain}
-use Rattle.etcs_tables.specs.Layouts.{ROW_LIMIT}
-use Rattle.etcs_tables.specs.Frames.{is_kept}
-use Rattle.etcs_flat.specs.laws.FlatLaws.{none_both, number_fine}
 use Rattle.etcs_flat.specs.Others.{OtherValue}
 use Rattle.etcs_packets.specs.declared.packet.Packet.{Packet}
 use Rattle.etcs_packets.specs.declared.packet.Packet.TheVariants.{Other}
-use Rattle.etcs_packets.specs.PacketValues.{PacketValue, marker, typed, kept, packet_value, nid_of, dir_of, variables_of, bits_of, IsPacket}
-use Rattle.etcs_packets.specs.PacketReadings.{packet_reading, packets_reading}
+use Rattle.etcs_packets.specs.PacketValues.{PacketValue, marker, typed, kept, packet_value, nid_of, dir_of, variables_of, bits_of}
+use Rattle.etcs_packets.specs.PacketReadings.{packet_reading}
 use Rattle.etcs_packets.specs.laws.PacketReadings.{packet_bits}
 use Rattle.etcs_packets.specs.Fronts.{front_of}
 
@@ -109,51 +99,3 @@ module _ (v : PacketValue) (at : ℕ) (before front rest : List Bool) (is : rest
       ∙ replaced_more at place (spelled (front_of v)) rest before refl inside
       ∙ ap (λ (b : List Bool). replaced at (spelled (front_of v) ++ b) before) is
       ∙ sym (ap (λ (b : List Bool). replaced at b before) (spelled_parts v))
-
--- ---- Packets in turn.
-
-pub packets_more : (ps : List Packet) (i : ℕ) (p : Packet) → i < length ps → p ≡ get_or ps i p → packets_reading (map packet_value (take (i + 1) ps)) ≡ packets_reading (map packet_value (take i ps)) ++ packet_reading (packet_value p)
-packets_more ps i p h e =
-    let before = map packet_value (take i ps) in
-    ap packets_reading (map_more packet_value ps i p h)
-    ∙ flat_map-append packet_reading before (packet_value (get_or ps i p) ∷ [])
-    ∙ ap (λ (r : Reading). packets_reading before ++ r) (append-nil (packet_reading (packet_value (get_or ps i p))))
-    ∙ ap (λ (q : Packet). packets_reading before ++ packet_reading (packet_value q)) (sym e)
-
-pub packets_room : (ps : List Packet) (i : ℕ) (p : Packet) → i < length ps → p ≡ get_or ps i p → length (spelled (packets_reading (map packet_value (take i ps)))) + bits_of (packet_value p) ≤ length (spelled (packets_reading (map packet_value ps)))
-packets_room ps i p h e =
-    let before = packets_reading (map packet_value (take i ps)) in
-    let behind = packets_reading (map packet_value (drop (i + 1) ps)) in
-    let one = packet_reading (packet_value p) in
-    let cut : packets_reading (map packet_value ps) ≡ (before ++ one) ++ behind =
-    ap (λ (qs : List Packet). packets_reading (map packet_value qs)) (sym (take-append-drop (i + 1) ps))
-    ∙ ap packets_reading (map-append packet_value (take (i + 1) ps) (drop (i + 1) ps))
-    ∙ flat_map-append packet_reading (map packet_value (take (i + 1) ps)) (map packet_value (drop (i + 1) ps))
-    ∙ ap (λ (r : Reading). r ++ behind) (packets_more ps i p h e) in
-    let all : length (spelled (packets_reading (map packet_value ps))) ≡ length (spelled before) + length (spelled one) + length (spelled behind) =
-    ap (λ (r : Reading). length (spelled r)) cut ∙ length-spelled (before ++ one) behind ∙ ap (λ (k : ℕ). k + length (spelled behind)) (length-spelled before one) in
-    omega (arith, all, packet_bits (packet_value p))
-
--- a packet more after those that are there
-module _ (ps : List Packet) (i : ℕ) (p : Packet) (h : i < length ps) (e : p ≡ get_or ps i p) (at place : ℕ) (before now : List Bool) (is : place ≡ at + length (spelled (packets_reading (map packet_value (take i ps))))) (wrote : now ≡ replaced at (spelled (packets_reading (map packet_value (take i ps)))) before) (room : at + length (spelled (packets_reading (map packet_value ps))) ≤ length before) where
-  pub next_room : place + bits_of (packet_value p) ≤ length now
-  next_room =
-      let more = packets_room ps i p h e in
-      let inside : at + length (spelled (packets_reading (map packet_value (take i ps)))) ≤ length before = omega (arith, more, room) in
-      omega (arith, more, room, is, ap length wrote, length-replaced at (spelled (packets_reading (map packet_value (take i ps)))) before inside)
-
-  pub next_place : place + bits_of (packet_value p) ≡ at + length (spelled (packets_reading (map packet_value (take (i + 1) ps))))
-  next_place =
-      let all : length (spelled (packets_reading (map packet_value (take (i + 1) ps)))) ≡ length (spelled (packets_reading (map packet_value (take i ps)))) + length (spelled (packet_reading (packet_value p))) =
-      ap (λ (r : Reading). length (spelled r)) (packets_more ps i p h e) ∙ length-spelled (packets_reading (map packet_value (take i ps))) (packet_reading (packet_value p)) in
-      omega (arith, all, is, packet_bits (packet_value p))
-
-  pub next_bits : (next : List Bool) → next ≡ replaced place (spelled (packet_reading (packet_value p))) now → next ≡ replaced at (spelled (packets_reading (map packet_value (take (i + 1) ps)))) before
-  next_bits next w =
-      let front = packets_reading (map packet_value (take i ps)) in
-      let one = packet_reading (packet_value p) in
-      let inside : place + length (spelled one) ≤ length before = omega (arith, packets_room ps i p h e, room, is, packet_bits (packet_value p)) in
-      w
-      ∙ ap (replaced place (spelled one)) wrote
-      ∙ replaced_more at place (spelled front) (spelled one) before is inside
-      ∙ ap (λ (b : List Bool). replaced at b before) (sym (spelled-append front one) ∙ ap spelled (sym (packets_more ps i p h e)))

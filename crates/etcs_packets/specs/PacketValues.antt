@@ -34,7 +34,7 @@ pub record Form : Type 1 where
   pub value : PacketValue
   pub made : Type 0
 
-abbrev form_of : PacketValue → Type 0 → Form
+abbrev pub form_of : PacketValue → Type 0 → Form
 form_of v h = record { value = v; made = h }
 
 abbrev flat_form : ℕ → FlatValue → Form
@@ -101,6 +101,12 @@ abbrev pub variables_of : PacketValue → Reading
 variables_of (marker n) = (NID_VBCMK, n) ∷ []
 variables_of (typed nid dir r) = r
 variables_of (kept nid dir b) = []
+
+-- the bits after the frame, where they are kept
+abbrev pub kept_of : PacketValue → Option (List Bool)
+kept_of (marker n) = None
+kept_of (typed nid dir r) = None
+kept_of (kept nid dir b) = Some b
 
 -- a typed packet of this number and direction
 abbrev pub IsTypedOf : ℕ → ℕ → PacketValue → Type 0

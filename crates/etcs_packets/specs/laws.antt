@@ -1,3 +1,4 @@
 pub mod OnePacket
 pub mod PacketReadings
 pub mod Sinks
+pub mod Variants

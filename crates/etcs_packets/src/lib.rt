@@ -1,6 +1,7 @@
 //! Packets to the train: every number that is typed, and all others as bits.
 #![tactic(auto)]
 
+mod any_packet;
 pub mod laws;
 mod list;
 mod packet;

@@ -70,7 +70,7 @@ macro_rules! by_number {
         match $number {
             $($nid => $make($alloc, $dir, $from, Packet::$variant),)*
             _ => {
-                no_row($number);
+                no_row(Way::ToTrain, $number);
                 Ok(None)
             }
         }

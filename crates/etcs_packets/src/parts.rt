@@ -4,14 +4,17 @@ ghost use Rattle.std.specs.Prelude.{◌≡◌, ◌++◌, Some, OnOk, OnErr, IfOk
 ghost use Rattle.etcs_vars.specs.Reading.{Reading, numbers, spelled};
 ghost use Rattle.etcs_tables.specs.declared.row.Way.TheVariants.{ToTrain};
 ghost use Rattle.etcs_tables.specs.Typed.{IsTyped, IsFramed};
-ghost use Rattle.etcs_packets.specs.PacketValues.{packet_value, dir_of, variables_of, IsTypedOf, IsMade, IsPacket};
+ghost use Rattle.etcs_packets.specs.PacketValues.{packet_value, dir_of, kept_of, variables_of, IsTypedOf, IsMade, IsPacket};
 
+pub use crate::any_packet::{AnyPacket, room_after, write_all};
 use crate::list::{by_number, of_each, packets};
 use crate::packet::Packet;
-use crate::typed::{hold, no_row, packet_of_bits, packet_of_fields};
+use crate::typed::{packet_of_bits, packet_of_fields};
+pub use crate::typed::{hold, no_row, typed_bits, typed_nid};
 pub use crate::write::{room_left, write_packet, write_packets, write_reading, write_variables};
 use etcs_bits::BitSlice;
 use etcs_bodies::Packetlike;
+use etcs_tables::Way;
 use etcs_vars::Var;
 use etcs_vars::parts::{VarSink, Variables};
 use std::alloc::{AllocError, Global};
@@ -35,6 +38,16 @@ pub fn dir(packet: &Packet) -> Option<u8>
     ensures { result ≡ dir_of (packet_value packet.now) }
 {
     packets!(of_each, packet, _ => None, packet => Some(packet.dir()), packet => Some(packet.dir()))
+}
+
+/// The bits after L_PACKET of a packet that is kept as bits.
+pub fn kept_bits(packet: &Packet) -> Option<BitSlice<'_>>
+    ensures { result ≡ kept_of (packet_value packet.now) }
+{
+    match packet {
+        Packet::Other(kept) => Some(kept.body()),
+        _ => None,
+    }
 }
 
 /// Sends the variables after the frame, in order: of packet 0 its NID_VBCMK, of a packet that is kept as bits none.

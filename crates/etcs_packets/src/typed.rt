@@ -1,7 +1,6 @@
 //! What every typed packet does alike.
 
 ghost use Rattle.std.specs.Prelude.{◌≡◌, ◌≤◌, ◌+◌, ℕ, List, None, length, IfOk, IfSome, IsNone};
-ghost use Rattle.etcs_tables.specs.declared.row.Way.TheVariants.{ToTrain};
 ghost use Rattle.etcs_tables.specs.Rows.{row_to};
 ghost use Rattle.etcs_vars.specs.Reading.{Reading, numbers, spelled};
 ghost use Rattle.etcs_tables.specs.Frames.{frame_bits};
@@ -11,11 +10,11 @@ ghost use Rattle.etcs_packets.specs.PacketValues.{packet_value, variables_of, Is
 use crate::packet::Packet;
 use etcs_bits::BitSlice;
 use etcs_bodies::{Framed, Packetlike};
-use etcs_tables::frame_bits;
+use etcs_tables::{Way, frame_bits};
 use std::alloc::{AllocError, Global};
 
 /// Says of a typed packet that its variables are its row's.
-pub(crate) fn hold<P: Framed>(packet: &P)
+pub fn hold<P: Framed>(packet: &P)
     ensures made { P.is_value packet.now }
     ensures framed { IsFramed P.WAY P.NID (P.direction packet.now) (P.reading_of packet.now) }
 {
@@ -23,7 +22,7 @@ pub(crate) fn hold<P: Framed>(packet: &P)
 }
 
 /// How many bits a typed packet takes with its frame.
-pub(crate) fn typed_bits<P: Framed>(packet: &P) -> usize
+pub fn typed_bits<P: Framed>(packet: &P) -> usize
     ensures bits { result ≡ frame_bits P.WAY + length (spelled (P.reading_of packet.now)) }
     ensures small { result ≤ 8191 }
 {
@@ -31,17 +30,17 @@ pub(crate) fn typed_bits<P: Framed>(packet: &P) -> usize
     frame_bits(P::WAY) + packet.bits()
 }
 
-/// Says of a number without a row that no typed packet has it.
-pub(crate) fn no_row(nid: u8)
-    requires { row_to ToTrain nid ≡ None }
-    ensures numbers { (dir : ℕ) (f : List ℕ) → IsTyped ToTrain nid dir f → ⊥ }
-    ensures bits { (dir : ℕ) (r : Reading) → IsFramed ToTrain nid dir r → ⊥ }
+/// Says of a number without a row that no typed packet this way has it.
+pub fn no_row(way: Way, nid: u8)
+    requires { row_to way nid ≡ None }
+    ensures numbers { (dir : ℕ) (f : List ℕ) → IsTyped way nid dir f → ⊥ }
+    ensures bits { (dir : ℕ) (r : Reading) → IsFramed way nid dir r → ⊥ }
 {
-    let _ = nid;
+    let _ = (way, nid);
 }
 
 /// NID_PACKET of a typed packet.
-pub(crate) fn typed_nid<P: Packetlike>(_packet: &P) -> u8
+pub fn typed_nid<P: Packetlike>(_packet: &P) -> u8
     ensures { result ≡ P.NID }
 {
     P::NID

@@ -9,6 +9,7 @@ ghost use Rattle.etcs_packets.specs.PacketReadings.{packet_reading, packets_read
 ghost use Rattle.etcs_packets.specs.Fronts.{front_of};
 
 use crate::Packet;
+use crate::any_packet::{room_after, write_all};
 use crate::parts::{dir, holds, send};
 use crate::sink::BitSink;
 use etcs_bits::parts;
@@ -58,13 +59,7 @@ pub fn write_packets(out: &mut [u8], at: usize, packets: &[Packet]) -> usize
     ensures end { result ≡ at + length (spelled (packets_reading (map packet_value packets.now))) }
     ensures bits { bits out.new ≡ replaced at (spelled (packets_reading (map packet_value packets.now))) (bits out.old) }
 {
-    let mut place = at;
-    for packet in packets {
-        let len = packet.bit_len();
-        put_packet(out, place, packet, len);
-        place += len;
-    }
-    place
+    write_all(out, at, packets)
 }
 
 /// How many of `room` bits packets leave, one after another, or nothing where they don't fit.
@@ -74,16 +69,7 @@ pub fn room_left(room: usize, packets: &[Packet]) -> Option<usize>
     ensures packets { OnSome result (All IsPacket (map packet_value packets.now)) }
     ensures none { IfNone result (room < length (spelled (packets_reading (map packet_value packets.now)))) }
 {
-    let mut left = room;
-    for packet in packets {
-        holds(packet);
-        let bits = packet.bit_len();
-        if left < bits {
-            return None;
-        }
-        left -= bits;
-    }
-    Some(left)
+    room_after(room, packets)
 }
 
 /// Writes a packet of this many bits, its frame among them.

@@ -16,7 +16,6 @@ use Rattle.etcs_vars.proofs.Apart.{apart}
 use Rattle.etcs_vars.proofs.Languages.{Same}
 use Rattle.etcs_vars.proofs.Walk.{Regular, spelled-append}
 use Rattle.etcs_vars.proofs.Outcomes.{more_wanted, none_refused, refuses_longer}
-use Rattle.etcs_packets.specs.declared.packet.Packet.{Packet}
 use Rattle.etcs_reader.specs.declared.feeder.Stop.{Stop}
 use Rattle.etcs_reader.specs.declared.feeder.Stop.TheVariants.{Refused, Memory}
 use Rattle.etcs_reader.specs.Rests.{Goes, BeginsWith}
@@ -26,7 +25,7 @@ use Rattle.etcs_reader.specs.Feeders.{FeederValue}
 use Rattle.etcs_reader.specs.laws.FieldLaws.{residual_along}
 use Rattle.etcs_reader.proofs.Passing.{passed_viable, passed_language, passed_owner, passed_owners, passed_refuses}
 use Rattle.etcs_sequence.specs.declared.list.PacketList.{PacketList}
-use Rattle.etcs_sequence.specs.Progress.{Progress, reading, finished, asks_memory, Feeds, fault_by, seen_of, Reached, IsReader}
+use Rattle.etcs_sequence.specs.Progress.{Progress, reading, finished, asks_memory, asked_from, Feeds, fault_by, seen_of, Reached, IsReader}
 use Rattle.etcs_sequence.specs.Readables.{Readable, seen_at, progress_at}
 
 -- ---- Bytes.
@@ -58,7 +57,7 @@ whole_part L regular r part l (q, c, m, e) =
     let all : spelled r ++ (part ++ c) ≡ spelled q ++ [] = sym (append_assoc (spelled r) part c) ∙ sym e ∙ sym (append-nil (spelled q)) in
     no_front part c (apart r q (part ++ c) [] (regular.agree r q l m) (regular.fit r l) (regular.fit q m) all).1
 
-module _ {R V W : Type 0} {left : R → Reading → Type 0} {next : R → Option Var} {follows : R → Reading → R → Type 0} {fails : R → Type 0} {far : R → Reading} {holds : R → Reading → Type 0} {Reads : W → Reading → Type 0} {value : V → W} {IsValue : V → Type 0} {size : V → ℕ} {made : R → V} {store : R → PacketList} {Members : List Packet → List ℕ → List Bool → Reading → Type 0} {most least : ℕ} (w : Readable R V W left next follows fails far holds Reads value IsValue size made store Members most least) where
+module _ {R V W P : Type 0} {left : R → Reading → Type 0} {next : R → Option Var} {follows : R → Reading → R → Type 0} {fails : R → Type 0} {far : R → Reading} {holds : R → Reading → Type 0} {Reads : W → Reading → Type 0} {value : V → W} {IsValue : V → Type 0} {size : V → ℕ} {made : R → V} {store : R → PacketList P} {Members : List P → List ℕ → List Bool → Reading → Type 0} {most least : ℕ} (w : Readable R V W P left next follows fails far holds Reads value IsValue size made store Members most least) where
   abbrev L : Reading → Type 0
   L = readings_of Reads
 
@@ -125,10 +124,10 @@ module _ {R V W : Type 0} {left : R → Reading → Type 0} {next : R → Option
   bytes_wanted v at = omega (arith, viable_length (seen v) at.viable, at.counted)
 
   -- where memory is refused, the variable with which all that is left begins asks for it
-  first_asks : (s : R) (q : Reading) (x : Var) → Goes (left s) → BeginsWith (left s) x → fails s → holds s q → IsTrue (asks_memory x)
+  first_asks : (s : R) (q : Reading) (x : Var) → Goes (left s) → BeginsWith (left s) x → fails s → holds s q → IsTrue (asks_memory x) × (asked_from x ≤ length (spelled q))
   first_asks s q x g begins f h = by_next (next s) refl
     where
-      by_next : (o : Option Var) → next s ≡ o → IsTrue (asks_memory x)
+      by_next : (o : Option Var) → next s ≡ o → IsTrue (asks_memory x) × (asked_from x ≤ length (spelled q))
       by_next None e =
           let (n, r, is) = begins g.0 g.1 in
           let none : ◌≡◌ {A = Reading} [] ((x, n) ∷ r) = sym (w.ended s e g.0 g.1) ∙ is in
@@ -138,7 +137,7 @@ module _ {R V W : Type 0} {left : R → Reading → Type 0} {next : R → Option
           let (m, t, is') = w.begins_with s y e g.0 g.1 in
           let two : ◌≡◌ {A = Reading} ((y, m) ∷ t) ((x, n) ∷ r) = sym is' ∙ is in
           let head : ◌≡◌ {A = Sent} (y, m) (x, n) = cc in
-          subst (λ (v : Var). IsTrue (asks_memory v)) (ap (λ (u : Sent). u.0) head) (w.asks s q y e g f h)
+          subst (λ (v : Var). IsTrue (asks_memory v) × (asked_from v ≤ length (spelled q))) (ap (λ (u : Sent). u.0) head) (w.asks s q y e g f h)
 
   -- ---- Of all bits, by what was left.
 
@@ -189,13 +188,18 @@ module _ {R V W : Type 0} {left : R → Reading → Type 0} {next : R → Option
       }
 
     -- memory is refused after what is held
+    starved_behind : (xs : List Bool) (n : ℕ) → (h : StarvesAt R left follows fails old.rest old.part xs n) → length (spelled (far old.rest ++ h.passed.whole)) ≤ old.count + n
+    starved_behind xs n h =
+        let p = h.passed.whole in
+        let l1 = ap length (spelled-append (far old.rest) p) ∙ length-append (spelled (far old.rest)) (spelled p) in
+        let l2 = sym (length-append (spelled p) h.part) ∙ ap length h.passed.bits ∙ length-append old.part (take n xs) in
+        omega (arith, l1, l2, at.counted, length-append (spelled (far old.rest)) old.part, length-take-le n xs, h.within)
+
     starved_far : (xs : List Bool) (n : ℕ) → StarvesAt R left follows fails old.rest old.part xs n → least ≤ old.count + n
     starved_far xs n h =
         let p = h.passed.whole in
         let long = w.starved h.place (far old.rest ++ p) h.here (w.held old.rest h.place p (far old.rest) h.passed.follows at.held) in
-        let l1 = ap length (spelled-append (far old.rest) p) ∙ length-append (spelled (far old.rest)) (spelled p) in
-        let l2 = sym (length-append (spelled p) h.part) ∙ ap length h.passed.bits ∙ length-append old.part (take n xs) in
-        omega (arith, long, l1, l2, at.counted, length-append (spelled (far old.rest)) old.part, length-take-le n xs, h.within)
+        omega (arith, long, starved_behind xs n h)
 
     -- at a variable of what was passed that asks for it
     starved_owner : (xs : List Bool) (n : ℕ) → (h : StarvesAt R left follows fails old.rest old.part xs n) → Owner L (seen old ++ take n xs) h.holder
@@ -203,10 +207,11 @@ module _ {R V W : Type 0} {left : R → Reading → Type 0} {next : R → Option
         let (r, c, l, e) = h.owned.viable in
         passed_owner L w.regular (left h.place) (λ p. Residual L p (left h.place)) (λ p k. k) (seen old ++ take n xs) h.part (passed_all h.place (take n xs) h.part h.passed) (r, l) h.holder h.owned
 
-    starved_asks : (xs : List Bool) (n : ℕ) → (h : StarvesAt R left follows fails old.rest old.part xs n) → IsTrue (asks_memory h.holder)
+    starved_asks : (xs : List Bool) (n : ℕ) → (h : StarvesAt R left follows fails old.rest old.part xs n) → IsTrue (asks_memory h.holder) × (asked_from h.holder ≤ old.count + n)
     starved_asks xs n h =
         let (r, c, l, e) = h.owned.viable in
-        first_asks h.place (far old.rest ++ h.passed.whole) h.holder (r, l) h.begins h.here (w.held old.rest h.place h.passed.whole (far old.rest) h.passed.follows at.held)
+        let asks = first_asks h.place (far old.rest ++ h.passed.whole) h.holder (r, l) h.begins h.here (w.held old.rest h.place h.passed.whole (far old.rest) h.passed.follows at.held) in
+        (asks.0, omega (arith, asks.1, starved_behind xs n h))
 
   -- ---- A piece, of which these bytes are fed.
 
@@ -310,7 +315,8 @@ module _ {R V W : Type 0} {left : R → Reading → Type 0} {next : R → Option
             omega (arith, starved_far old at xs n h, count),
             h.holder,
             subst (λ (u : List Bool). Owner L u h.holder) front (starved_owner old at xs n h),
-            starved_asks old at xs n h,
+            (starved_asks old at xs n h).0,
+            omega (arith, (starved_asks old at xs n h).1, count),
           );
         }
 

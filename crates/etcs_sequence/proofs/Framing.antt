@@ -1,12 +1,13 @@
 -- After a variable of a frame.
 use Rattle.std.proofs.Common.{◌≡◌, ℕ, ◌-◌, ◌^◌, ◌<◌, ◌≤◌, [], ◌∷◌, refl, arith, inl, inr}
-use Rattle.std.specs.Prelude.{IsTrue, false}
+use Rattle.std.specs.Prelude.{IsTrue, true, false}
+use Rattle.std.proofs.lemmas.Bool.{and_from}
 use Rattle.etcs_vars.specs.declared.var.Var.TheVariants.{NID_PACKET, NID_VBCMK, Q_DIR}
 use Rattle.etcs_vars.specs.Reading.{Reading}
 use Rattle.etcs_vars.proofs.Languages.{Same, same_along, same_back}
 use Rattle.etcs_tables.specs.Frames.{is_framed, frame_bits, head_bits, sends}
 use Rattle.etcs_tables.specs.declared.row.Way.{Way}
-use Rattle.etcs_tables.specs.declared.row.Way.TheVariants.{ToTrain}
+use Rattle.etcs_tables.specs.declared.row.Way.TheVariants.{ToTrain, ToTrack}
 use Rattle.etcs_rows.specs.declared.frames.Carrier.{Carrier}
 use Rattle.etcs_rows.specs.declared.frames.Carrier.TheVariants.{Telegram, Message}
 use Rattle.etcs_rows.specs.Frames.{way_of}
@@ -34,14 +35,17 @@ number_parts c room n (r, inr (inr (framed, (dir, q, e, a, (l, q', e', (least, m
 pub framed_stands : (c : Carrier) (room n : ℕ) → IsTrue (is_framed (way_of c) n) → IsTrue (is_stage c room (behind_framed (way_of c) n))
 framed_stands Telegram room n framed = framed
 framed_stands (Message ToTrain) room n framed = framed
+framed_stands (Message ToTrack) room n framed = and_from (is_framed ToTrack n) true framed refl
 
 framed_ahead : (c : Carrier) (room n : ℕ) → ahead c room (behind_framed (way_of c) n) ≡ room - 8
 framed_ahead Telegram room n = refl
 framed_ahead (Message ToTrain) room n = refl
+framed_ahead (Message ToTrack) room n = refl
 
 framed_is : (c : Carrier) (n : ℕ) → Here c (behind_framed (way_of c) n) [] [] ((NID_PACKET, n) ∷ [])
 framed_is Telegram n = (refl, refl, refl)
 framed_is (Message ToTrain) n = (refl, refl, refl)
+framed_is (Message ToTrack) n = (refl, refl, refl)
 
 module _ (c : Carrier) (room n : ℕ) (more : IsTrue (is_open c room)) (starts : Starts (PacketsIn c room) NID_PACKET 0 n) where
   some : (r : Reading) × AfterNumber c room n r
@@ -114,6 +118,7 @@ length_room c nid room r (l, q, e, (least, most, le, b)) = omega (arith, least, 
 -- where Q_DIR is sent, it is in front of L_PACKET
 sent_head : (way : Way) (dir : ℕ) → IsTrue (sends way dir) → head_bits way ≡ 10
 sent_head ToTrain dir h = refl
+sent_head ToTrack dir h = absurd cc
 
 pub direction_moved : (c : Carrier) (nid room dir : ℕ) → Starts (DirectionLeft c nid room) Q_DIR 0 dir → Moved c room (Direction nid) ((Q_DIR, dir) ∷ []) c room (Length nid dir)
 direction_moved c nid room dir starts =

@@ -11,7 +11,7 @@ use Rattle.etcs_tables.specs.declared.row.Way.{Way}
 use Rattle.etcs_rows.specs.declared.frames.Carrier.{Carrier}
 use Rattle.etcs_tables.specs.Rows.{row_to}
 use Rattle.etcs_rows.specs.Frames.{way_of}
-use Rattle.etcs_packets.specs.declared.packet.Packet.{Packet}
+use Rattle.etcs_packets.specs.PacketValues.{Form}
 use Rattle.etcs_packets.specs.PacketReadings.{in_frame}
 use Rattle.etcs_sequence.specs.Contents.{PacketsIn}
 use Rattle.etcs_sequence.specs.Runs.{row_so_far}
@@ -44,7 +44,7 @@ here_is c room (Kept nid dir left) f k h g (e, le, is) = is
 here_is c room Closed f k h g (e, e', is) = is
 
 -- those of packets
-pub packets_far : (c : Carrier) (room : ℕ) (s : Stage) (ps : List Packet) (f : List ℕ) (k : List Bool) (h : Reading) → Goes (left_of c room s) → HoldsAt c s (list_holds ps f k) h → h ≡ packets_so_far c s ps f k
-packets_far c room s ps f k h g (vs, m, l, r, (vs_is, (made, (m_is, l_is))), carried, here, e) =
+pub packets_far : {P : Type 0} (form : P → Form) (c : Carrier) (room : ℕ) (s : Stage) (ps : List P) (f : List ℕ) (k : List Bool) (h : Reading) → Goes (left_of c room s) → HoldsAt c s (list_holds form ps f k) h → h ≡ packets_so_far form c s ps f k
+packets_far form c room s ps f k h g (vs, m, l, r, (vs_is, (made, (m_is, l_is))), carried, here, e) =
     let is : r ≡ here_of c s f k = here_is c room s m l r g here ∙ rw (m_is, l_is) refl in
     e ∙ rw (vs_is, is) refl

@@ -8,7 +8,6 @@ use Rattle.etcs_vars.specs.Vars.{width}
 use Rattle.etcs_vars.specs.Walking.{Residual}
 use Rattle.etcs_vars.specs.Reading.{Reading, spelled, Owner, readings_of}
 use Rattle.etcs_vars.proofs.Walk.{begins_with}
-use Rattle.etcs_packets.specs.declared.packet.Packet.{Packet}
 use Rattle.etcs_reader.specs.declared.feeder.Stop.{Stop}
 use Rattle.etcs_reader.specs.declared.feeder.Stop.TheVariants.{Refused, Memory}
 use Rattle.etcs_reader.specs.Feeders.{FeederValue}
@@ -19,7 +18,7 @@ use Rattle.etcs_sequence.specs.Readables.{Readable}
 use Rattle.etcs_sequence.specs.Holdings.{HeldIn, IsHeld}
 use Rattle.etcs_sequence.proofs.Feeding.{seen, At, progress, Is, at_of, going_progress, whole_progress}
 
-module _ {R V W : Type 0} {left : R → Reading → Type 0} {next : R → Option Var} {follows : R → Reading → R → Type 0} {fails : R → Type 0} {far : R → Reading} {holds : R → Reading → Type 0} {Reads : W → Reading → Type 0} {value : V → W} {IsValue : V → Type 0} {size : V → ℕ} {made : R → V} {store : R → PacketList} {Members : List Packet → List ℕ → List Bool → Reading → Type 0} {most least : ℕ} (w : Readable R V W left next follows fails far holds Reads value IsValue size made store Members most least) where
+module _ {R V W P : Type 0} {left : R → Reading → Type 0} {next : R → Option Var} {follows : R → Reading → R → Type 0} {fails : R → Type 0} {far : R → Reading} {holds : R → Reading → Type 0} {Reads : W → Reading → Type 0} {value : V → W} {IsValue : V → Type 0} {size : V → ℕ} {made : R → V} {store : R → PacketList P} {Members : List P → List ℕ → List Bool → Reading → Type 0} {most least : ℕ} (w : Readable R V W P left next follows fails far holds Reads value IsValue size made store Members most least) where
   abbrev L : Reading → Type 0
   L = readings_of Reads
 

@@ -11,14 +11,14 @@ use Rattle.etcs_vars.specs.Reading.{Reading, Then, spelled, kept, Viable}
 use Rattle.etcs_vars.specs.Walking.{Residual}
 use Rattle.etcs_vars.proofs.Sent.{length-sent}
 use Rattle.etcs_vars.proofs.Walk.{spelled-append}
-use Rattle.etcs_tables.specs.declared.row.Way.TheVariants.{ToTrain}
+use Rattle.etcs_tables.specs.declared.row.Way.{Way}
 use Rattle.etcs_rows.specs.declared.frames.Carrier.{Carrier}
 use Rattle.etcs_rows.specs.declared.frames.Carrier.TheVariants.{Telegram, Message}
 use Rattle.etcs_tables.specs.Frames.{frame_bits, is_kept, is_direction, directed}
 use Rattle.etcs_rows.specs.Frames.{may_be_left, way_of}
 use Rattle.etcs_rows.proofs.PlaceLemmas.{and_both}
 use Rattle.etcs_packets.specs.PacketValues as packets
-use Rattle.etcs_packets.specs.PacketValues.{PacketValue, IsTypedOf, IsPacket, variables_of, IsPacketTo, bits_to}
+use Rattle.etcs_packets.specs.PacketValues.{PacketValue, IsTypedOf, variables_of, IsPacketTo, bits_to}
 use Rattle.etcs_packets.specs.PacketReadings.{in_frame, reading_to, readings_to}
 use Rattle.etcs_packets.specs.laws.PacketReadings.{bits_are}
 use Rattle.etcs_sequence.specs.Contents.{Carries, PacketsIn, KeptIn}
@@ -67,12 +67,12 @@ module _ (c : Carrier) (H H' : Holds) (xs : List Bool) (at l nid dir : ℕ) (fra
       let bits : spelled (reading_to way v) ≡ part at l xs = rw (t.0, same) (ap (λ (m : ℕ). spelled (in_frame way nid dir m [])) (sym none) ∙ frame_spelled way nid dir l at xs [] frame s) in
       record { packet = v; carried = framed_carried c v is' (kept_framed way nid' k.0); bits = bits; long = omega (arith, none, least); held = λ vs h. held vs v h t is' s }
 
--- what a store holds of packets to the train
-pub whole_at : (c : Carrier) (H H' : Holds) (xs : List Bool) (at l nid dir : ℕ) → FrameAt (way_of c) nid dir l at xs → at + l ≤ length xs
-    → ((vs : List PacketValue) (v : PacketValue) → H vs [] [] → IsTypedOf nid dir v → IsPacket v → spelled (variables_of v) ≡ part (at + frame_bits (way_of c)) (l - frame_bits (way_of c)) xs → H' (vs ++ v ∷ []) [] [])
-    → (v : PacketValue) → IsTypedOf nid dir v → IsPacket v → spelled (variables_of v) ≡ part (at + frame_bits (way_of c)) (l - frame_bits (way_of c)) xs → WholeAt c H H' xs at l
-whole_at Telegram H H' xs at l nid dir frame within held = whole_of Telegram H H' xs at l nid dir frame within held
-whole_at (Message ToTrain) H H' xs at l nid dir frame within held = whole_of (Message ToTrain) H H' xs at l nid dir frame within held
+-- what a store holds of packets its way
+pub whole_at : (way : Way) (c : Carrier) → way_of c ≡ way → (H H' : Holds) (xs : List Bool) (at l nid dir : ℕ) → FrameAt (way_of c) nid dir l at xs → at + l ≤ length xs
+    → ((vs : List PacketValue) (v : PacketValue) → H vs [] [] → IsTypedOf nid dir v → IsPacketTo way v → spelled (variables_of v) ≡ part (at + frame_bits (way_of c)) (l - frame_bits (way_of c)) xs → H' (vs ++ v ∷ []) [] [])
+    → (v : PacketValue) → IsTypedOf nid dir v → IsPacketTo way v → spelled (variables_of v) ≡ part (at + frame_bits (way_of c)) (l - frame_bits (way_of c)) xs → WholeAt c H H' xs at l
+whole_at way c to H H' xs at l nid dir frame within held v t is =
+    whole_of c H H' xs at l nid dir frame within (λ vs u h t' is'. held vs u h t' (subst (λ (w : Way). IsPacketTo w u) to is')) v t (subst (λ (w : Way). IsPacketTo w v) (sym to) is)
 
 pub leapt_held : (c c' : Carrier) (H H' : Holds) (xs : List Bool) (at l : ℕ) (s s' : Stage) (w : WholeAt c H H' xs at l) → s ≡ Number → c' ≡ c → Here c' s' [] [] [] → (q : Reading) → HoldsAt c s H q → HoldsAt c' s' H' (q ++ reading_to (way_of c) w.packet)
 leapt_held c c' H H' xs at l s s' w number same here q held =

@@ -1,5 +1,6 @@
 -- Packets with one spelling are one.
 use Rattle.std.proofs.Common.{◌≡◌, ℕ, ◌+◌, ◌-◌, Bool, true, false, List, [], ◌∷◌, ◌++◌, length, refl, sym, ap, subst, ◌∙◌, arith}
+use Rattle.std.proofs.lemmas.Bool.{eqb-true}
 use Rattle.std.proofs.lemmas.List.{append-nil}
 use Rattle.std.proofs.lemmas.List.Elements.{All-head}
 use Rattle.std.specs.Prelude.{IsTrue}
@@ -8,7 +9,7 @@ use Rattle.etcs_vars.specs.declared.var.Var.TheVariants.{NID_PACKET, NID_VBCMK, 
 use Rattle.etcs_vars.specs.Reading.{Sent, Reading, spelled, kept}
 use Rattle.etcs_vars.proofs.Apart.{apart, Agree-cut}
 use Rattle.etcs_tables.specs.declared.row.Way.{Way}
-use Rattle.etcs_tables.specs.declared.row.Way.TheVariants.{ToTrain}
+use Rattle.etcs_tables.specs.declared.row.Way.TheVariants.{ToTrain, ToTrack}
 use Rattle.etcs_tables.specs.Rows.{row_to}
 use Rattle.etcs_tables.specs.Frames.{frame_bits, is_framed, is_kept, is_marker, is_direction, directed}
 use Rattle.etcs_rows.specs.declared.frames.Carrier.{Carrier}
@@ -44,6 +45,7 @@ kept_same (false ∷ a) (true ∷ b) e = absurd (let n = same_number OTHER_DATA 
 -- the parts of equal frames with bodies
 directions_same : (way : Way) (dir dir' : ℕ) (a b : Reading) → IsTrue (is_direction way dir) → IsTrue (is_direction way dir') → directed way dir a ≡ directed way dir' b → (dir ≡ dir') × (a ≡ b)
 directions_same ToTrain dir dir' a b d d' e = let two = first_same (Q_DIR, dir) (Q_DIR, dir') a b e in (same_number Q_DIR dir dir' two.0, two.1)
+directions_same ToTrack dir dir' a b d d' e = (eqb-true dir 0 d ∙ sym (eqb-true dir' 0 d'), e)
 
 frames_same : (way : Way) (nid nid' dir dir' bits bits' : ℕ) (a b : Reading) → IsTrue (is_direction way dir) → IsTrue (is_direction way dir') → in_frame way nid dir bits a ≡ in_frame way nid' dir' bits' b → (nid ≡ nid') × (dir ≡ dir') × (a ≡ b)
 frames_same way nid nid' dir dir' bits bits' a b d d' e =

@@ -1,23 +1,23 @@
 -- Packets that are read one by one: what is held of them.
-use Rattle.std.proofs.Common.{◌≡◌, ℕ, ◌<◌, Bool, false, List, [], ◌∷◌, ◌++◌, length, Some, None, refl, sym, ap, subst, ◌∙◌, arith, append_assoc, append-nil}
+use Rattle.std.proofs.Common.{◌≡◌, ℕ, ◌+◌, ◌<◌, Bool, false, List, [], ◌∷◌, ◌++◌, length, Some, None, refl, sym, ap, subst, ◌∙◌, arith, append_assoc, append-nil}
 use Rattle.std.specs.Prelude.{All, IsTrue, ◌==◌}
 use Rattle.std.proofs.Math.Bool.{Bool-set}
 use Rattle.std.proofs.lemmas.Bool.{ne_eqb}
 use Rattle.std.proofs.lemmas.List.Elements.{All-push}
 use Rattle.etcs_bits.specs.Bits.{num, part, bits}
 use Rattle.etcs_vars.specs.declared.var.Var.{Var}
-use Rattle.etcs_vars.specs.declared.var.Var.TheVariants.{NID_PACKET, NID_VBCMK, Q_DIR, OTHER_DATA}
-use Rattle.etcs_vars.specs.Vars.{admits}
+use Rattle.etcs_vars.specs.declared.var.Var.TheVariants.{NID_PACKET, NID_VBCMK, Q_DIR, L_PACKET, OTHER_DATA}
 use Rattle.etcs_vars.specs.Reading.{Sent, Reading, spelled, numbers, kept}
-use Rattle.etcs_tables.specs.declared.row.Way.TheVariants.{ToTrain}
+use Rattle.etcs_tables.specs.declared.row.Way.TheVariants.{ToTrain, ToTrack}
 use Rattle.etcs_rows.specs.declared.frames.Carrier.{Carrier}
 use Rattle.etcs_rows.specs.declared.frames.Carrier.TheVariants.{Telegram, Message}
 use Rattle.etcs_rows.specs.Frames.{way_of}
 use Rattle.etcs_tables.specs.Typed.{IsTyped}
 use Rattle.etcs_tables.specs.declared.row.Way.{Way}
+use Rattle.etcs_tables.specs.Frames.{is_marker}
 use Rattle.etcs_flat.specs.Others.{other_fault}
 use Rattle.etcs_packets.specs.PacketValues as packets
-use Rattle.etcs_packets.specs.PacketValues.{PacketValue, IsTypedOf, IsPacket, variables_of}
+use Rattle.etcs_packets.specs.PacketValues.{PacketValue, IsTypedOf, IsPacketTo, variables_of}
 use Rattle.etcs_packets.specs.PacketReadings.{in_frame, reading_to, readings_to}
 use Rattle.etcs_sequence.specs.Contents.{Carries}
 use Rattle.etcs_sequence.specs.declared.stage.Stage.{Stage}
@@ -25,6 +25,7 @@ use Rattle.etcs_sequence.specs.declared.stage.Event.{Event}
 use Rattle.etcs_sequence.specs.declared.stage.Stage.TheVariants.{Direction, Row, Kept, Closed}
 use Rattle.etcs_sequence.specs.Lefts.{next_of, is_closed, may_grow, keeps_at, Here, After, Becomes, HoldsAt}
 use Rattle.etcs_sequence.specs.laws.Framed.{frame_between}
+use Rattle.etcs_sequence.specs.laws.RunSteps.{carried_packet}
 use Rattle.etcs_sequence.specs.declared.stage.Keep.TheVariants as keep
 use Rattle.etcs_sequence.specs.declared.stage.Event.TheVariants as event
 
@@ -45,43 +46,42 @@ pub held_whole : (c : Carrier) (s : Stage) (H : Holds) (vs : List PacketValue) (
 held_whole c s H vs v held all carried here = (vs ++ v ∷ [], [], [], [], held, All-push (Carries c) vs v all carried, here, sym (packets_push (way_of c) vs v) ∙ sym (append-nil (readings_to (way_of c) (vs ++ v ∷ []))))
 
 -- by an event what H holds becomes what H' holds
-abbrev pub Finishes : Holds → Holds → Event → Type 0
-Finishes H H' e = (c : Carrier) (s : Stage) (vs : List PacketValue) (f : List ℕ) (k : List Bool) (h : Reading) → H vs f k → All (Carries c) vs → After c s f k h e → HoldsAt c s H' (readings_to (way_of c) vs ++ h)
+abbrev pub Finishes : Way → Holds → Holds → Event → Type 0
+Finishes way H H' e = (c : Carrier) (s : Stage) (vs : List PacketValue) (f : List ℕ) (k : List Bool) (h : Reading) → way_of c ≡ way → H vs f k → All (Carries c) vs → After c s f k h e → HoldsAt c s H' (readings_to (way_of c) vs ++ h)
 
--- a store's packets go to the train
-to_train : (c : Carrier) (v : PacketValue) → Carries c v → IsPacket v
-to_train Telegram v h = h
-to_train (Message ToTrain) v h = h.0
+-- a store's packets go its way
+pub its_packet : (way : Way) (c : Carrier) (v : PacketValue) → way_of c ≡ way → Carries c v → IsPacketTo way v
+its_packet way c v to h = subst (λ (w : Way). IsPacketTo w v) to (carried_packet c v h)
 
-pub finish_marker : (H H' : Holds) (m : ℕ) → ((vs : List PacketValue) → H vs [] [] → H' (vs ++ packets.marker m ∷ []) [] []) → Finishes H H' (event.Marker m)
-finish_marker H H' m ok c s vs f k h held all (ef, ek, carried, eh, here) =
+pub finish_marker : (way : Way) (H H' : Holds) (m : ℕ) → ((vs : List PacketValue) → H vs [] [] → H' (vs ++ packets.marker m ∷ []) [] []) → Finishes way H H' (event.Marker m)
+finish_marker way H H' m ok c s vs f k h to held all (ef, ek, carried, eh, here) =
     let held' : H vs [] [] = rw (ef, ek) at held in
     subst (λ (x : Reading). HoldsAt c s H' (readings_to (way_of c) vs ++ x)) (sym eh) (held_whole c s H' vs (packets.marker m) (ok vs held') all carried here)
 
-pub finish_typed : (H H' : Holds) (nid dir : ℕ) → ((vs : List PacketValue) (f : List ℕ) (v : PacketValue) → H vs f [] → IsTypedOf nid dir v → IsPacket v → numbers (variables_of v) ≡ f → H' (vs ++ v ∷ []) [] []) → Finishes H H' (event.Typed nid dir)
-finish_typed H H' nid dir ok c s vs f k h held all (ek, (r, (carried, en, eh)), here) =
+pub finish_typed : (way : Way) (H H' : Holds) (nid dir : ℕ) → ((vs : List PacketValue) (f : List ℕ) (v : PacketValue) → H vs f [] → IsTypedOf nid dir v → IsPacketTo way v → numbers (variables_of v) ≡ f → H' (vs ++ v ∷ []) [] []) → Finishes way H H' (event.Typed nid dir)
+finish_typed way H H' nid dir ok c s vs f k h to held all (ek, (r, (carried, en, eh)), here) =
     let held' : H vs f [] = rw ek at held in
     let v = packets.typed nid dir r in
-    let new = ok vs f v held' (refl, refl) (to_train c v carried) en in
+    let new = ok vs f v held' (refl, refl) (its_packet way c v to carried) en in
     subst (λ (x : Reading). HoldsAt c s H' (readings_to (way_of c) vs ++ x)) (sym eh) (held_whole c s H' vs v new all carried here)
 
-pub finish_kept : (H H' : Holds) (nid dir : ℕ) → ((vs : List PacketValue) (k : List Bool) → H vs [] k → H' (vs ++ packets.kept nid dir k ∷ []) [] []) → Finishes H H' (event.Kept nid dir)
-finish_kept H H' nid dir ok c s vs f k h held all (ef, carried, eh, here) =
+pub finish_kept : (way : Way) (H H' : Holds) (nid dir : ℕ) → ((vs : List PacketValue) (k : List Bool) → H vs [] k → H' (vs ++ packets.kept nid dir k ∷ []) [] []) → Finishes way H H' (event.Kept nid dir)
+finish_kept way H H' nid dir ok c s vs f k h to held all (ef, carried, eh, here) =
     let held' : H vs [] k = rw ef at held in
     subst (λ (x : Reading). HoldsAt c s H' (readings_to (way_of c) vs ++ x)) (sym eh) (held_whole c s H' vs (packets.kept nid dir k) (ok vs k held') all carried here)
 
 -- ---- What an event asks of the store.
 
-pub marker_admitted : (c : Carrier) (s : Stage) (f : List ℕ) (k : List Bool) (h : Reading) (m : ℕ) → After c s f k h (event.Marker m) → IsTrue (admits NID_VBCMK m)
-marker_admitted c s f k h m (ef, ek, carried, eh, here) = to_train c (packets.marker m) carried
+pub marker_admitted : (way : Way) (c : Carrier) (s : Stage) (f : List ℕ) (k : List Bool) (h : Reading) (m : ℕ) → way_of c ≡ way → After c s f k h (event.Marker m) → IsTrue (is_marker way m)
+marker_admitted way c s f k h m to (ef, ek, carried, eh, here) = its_packet way c (packets.marker m) to carried
 
-pub typed_held : (H : Holds) (c : Carrier) (s : Stage) (vs : List PacketValue) (f : List ℕ) (k : List Bool) (h : Reading) (nid dir : ℕ) → H vs f k → After c s f k h (event.Typed nid dir) → H vs f [] × IsTyped ToTrain nid dir f
-typed_held H c s vs f k h nid dir held (ek, (r, (carried, en, eh)), here) =
-    let (row, e, a, reads, short) = to_train c (packets.typed nid dir r) carried in
+pub typed_held : (way : Way) (H : Holds) (c : Carrier) (s : Stage) (vs : List PacketValue) (f : List ℕ) (k : List Bool) (h : Reading) (nid dir : ℕ) → way_of c ≡ way → H vs f k → After c s f k h (event.Typed nid dir) → H vs f [] × IsTyped way nid dir f
+typed_held way H c s vs f k h nid dir to held (ek, (r, (carried, en, eh)), here) =
+    let (row, e, a, reads, short) = its_packet way c (packets.typed nid dir r) to carried in
     (rw ek at held, (row, e, a, (spelled r, (r, reads, en, refl), short)))
 
-pub kept_held : (H : Holds) (c : Carrier) (s : Stage) (vs : List PacketValue) (f : List ℕ) (k : List Bool) (h : Reading) (nid dir : ℕ) → H vs f k → After c s f k h (event.Kept nid dir) → H vs [] k × (other_fault ToTrain nid dir (length k) ≡ None)
-kept_held H c s vs f k h nid dir held (ef, carried, eh, here) = (rw ef at held, to_train c (packets.kept nid dir k) carried)
+pub kept_held : (way : Way) (H : Holds) (c : Carrier) (s : Stage) (vs : List PacketValue) (f : List ℕ) (k : List Bool) (h : Reading) (nid dir : ℕ) → way_of c ≡ way → H vs f k → After c s f k h (event.Kept nid dir) → H vs [] k × (other_fault way nid dir (length k) ≡ None)
+kept_held way H c s vs f k h nid dir to held (ef, carried, eh, here) = (rw ef at held, its_packet way c (packets.kept nid dir k) to carried)
 
 -- ---- One bit.
 
@@ -112,6 +112,10 @@ grows_kept s other = absurd (other refl)
 -- after Q_DIR no packet is whole
 frame_more : (way : Way) (nid nid' n dir bits : ℕ) (r : Reading) → ◌≡◌ {A = Reading} ((NID_PACKET, nid) ∷ (Q_DIR, n) ∷ []) (in_frame way nid' dir bits r) → ⊥
 frame_more ToTrain nid nid' n dir bits r e = absurd cc
+frame_more ToTrack nid nid' n dir bits r e =
+    let sent : ◌≡◌ {A = Sent} (Q_DIR, n) (L_PACKET, 21 + bits) = cc in
+    let same : Q_DIR ≡ L_PACKET = ap (λ (p : Sent). p.0) sent in
+    absurd cc
 
 direction_more : (c : Carrier) (s : Stage) (nid n : ℕ) (x : Var) (f : List ℕ) (k : List Bool) (h : Reading) (e : Event) → x ≡ Q_DIR → h ≡ (NID_PACKET, nid) ∷ [] → After c s f k (h ++ (x, n) ∷ []) e → e ≡ event.More
 direction_more c s nid n x f k h event.More ex eh after = refl
@@ -131,13 +135,13 @@ grows_whole c s s' x n e f k h next b here other = refl
 -- ---- More variables.
 
 -- by the variables p the numbers and the bits that are held become those that F and K give
-module _ (c : Carrier) (s s' : Stage) (F : List ℕ → List ℕ) (K : List Bool → List Bool) (p : Reading) (e : Event) (H M : Holds) (absorbed : (vs : List PacketValue) (f : List ℕ) (k : List Bool) → H vs f k → M vs (F f) (K k))
+module _ (way : Way) (c : Carrier) (to : way_of c ≡ way) (s s' : Stage) (F : List ℕ → List ℕ) (K : List Bool → List Bool) (p : Reading) (e : Event) (H M : Holds) (absorbed : (vs : List PacketValue) (f : List ℕ) (k : List Bool) → H vs f k → M vs (F f) (K k))
     (after : (f : List ℕ) (k : List Bool) (h : Reading) → Here c s f k h → After c s' (F f) (K k) (h ++ p) e) where
-  pub event_held : (q : Reading) → HoldsAt c s H q → (d : Carrier) × ((t : Stage) × ((vs : List PacketValue) × ((f : List ℕ) × ((k : List Bool) × ((h : Reading) × (M vs f k × After d t f k h e))))))
-  event_held q (vs, f, k, h, held, all, here, eq) = (c, (s', (vs, (F f, (K k, (h ++ p, (absorbed vs f k held, after f k h here)))))))
+  pub event_held : (q : Reading) → HoldsAt c s H q → (d : Carrier) × ((t : Stage) × ((vs : List PacketValue) × ((f : List ℕ) × ((k : List Bool) × ((h : Reading) × ((way_of d ≡ way) × (M vs f k × After d t f k h e)))))))
+  event_held q (vs, f, k, h, held, all, here, eq) = (c, (s', (vs, (F f, (K k, (h ++ p, (to, (absorbed vs f k held, after f k h here))))))))
 
-  pub more_held : (N : Holds) (c' : Carrier) → c' ≡ c → Finishes M N e → (q : Reading) → HoldsAt c s H q → HoldsAt c' s' N (q ++ p)
+  pub more_held : (N : Holds) (c' : Carrier) → c' ≡ c → Finishes way M N e → (q : Reading) → HoldsAt c s H q → HoldsAt c' s' N (q ++ p)
   more_held N c' same fin q (vs, f, k, h, held, all, here, eq) =
-      let new = fin c s' vs (F f) (K k) (h ++ p) (absorbed vs f k held) all (after f k h here) in
+      let new = fin c s' vs (F f) (K k) (h ++ p) to (absorbed vs f k held) all (after f k h here) in
       let whole : q ++ p ≡ readings_to (way_of c) vs ++ (h ++ p) = ap (λ (t : Reading). t ++ p) eq ∙ append_assoc (readings_to (way_of c) vs) h p in
       rw (same, whole) new

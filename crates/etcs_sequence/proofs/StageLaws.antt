@@ -11,7 +11,7 @@ use Rattle.etcs_rows.specs.declared.frames.Carrier.{Carrier}
 use Rattle.etcs_rows.specs.declared.frames.Carrier.TheVariants.{Message}
 use Rattle.etcs_vars.proofs.Sent.{length-sent}
 use Rattle.etcs_tables.specs.declared.row.Way.{Way}
-use Rattle.etcs_tables.specs.declared.row.Way.TheVariants.{ToTrain}
+use Rattle.etcs_tables.specs.declared.row.Way.TheVariants.{ToTrain, ToTrack}
 use Rattle.etcs_tables.specs.Frames.{frame_bits, head_bits}
 use Rattle.etcs_packets.specs.laws.PacketReadings.{frame_is}
 use Rattle.etcs_sequence.specs.Contents.{Carries, PacketsIn, KeptIn, BodyIn, LengthLeft, AfterNumber, DirectionLeft}
@@ -50,6 +50,7 @@ length_room way nid room r (l, rest, e, (least, most, le, (a, b, f, body, run)))
 
 -- in front of L_PACKET are NID_PACKET and, where it is sent, Q_DIR
 direction_room : (way : Way) (nid room : ℕ) (r : Reading) → DirectionLeft (Message way) nid room r → room ≤ length (spelled r) + 15
+direction_room ToTrack nid room r (dir, rest, e, (a, h)) = absurd cc
 direction_room ToTrain nid room r (dir, rest, e, (a, h)) = omega (arith, length_room ToTrain nid room rest h, ap (λ (t : Reading). length (spelled t)) e, length-sent Q_DIR dir rest)
 
 pub message_ahead : (way : Way) (room : ℕ) (s : Stage) (r : Reading) → IsTrue (is_stage (Message way) room s) → is_closed s ≡ false → left_of (Message way) room s r → ahead (Message way) room s ≤ length (spelled r) + 7

@@ -7,7 +7,7 @@ use Rattle.etcs_vars.specs.Vars.{width, ranges, begins}
 use Rattle.etcs_vars.specs.Reading.{Reading}
 use Rattle.etcs_vars.proofs.Stepping.{Tested, admitted_tested}
 use Rattle.etcs_tables.specs.declared.row.Way.{Way}
-use Rattle.etcs_tables.specs.declared.row.Way.TheVariants.{ToTrain}
+use Rattle.etcs_tables.specs.declared.row.Way.TheVariants.{ToTrain, ToTrack}
 use Rattle.etcs_rows.specs.declared.frames.Carrier.{Carrier}
 use Rattle.etcs_tables.specs.Frames.{sends}
 use Rattle.etcs_rows.specs.Frames.{way_of, NumberFits, LengthFits}
@@ -43,6 +43,7 @@ starts_marker c room rest bits result le fits (n0, r0, (a0, l0, run)) e =
 
 -- Q_DIR admits each direction that is sent
 sent_tested : (way : Way) (L : Reading → Type 0) (r : Reading) → L r → (n : ℕ) → IsTrue (sends way n) → Tested Q_DIR (λ m q. IsTrue (sends way m) × L q) (begins (ranges Q_DIR))
+sent_tested ToTrack L r l n h = absurd cc
 sent_tested ToTrain L r l n h = admitted_tested Q_DIR (λ m q. IsTrue (sends ToTrain m) × L q) (λ m a. (r, (a, l))) (λ m q k. k.0)
 
 pub starts_direction : (c : Carrier) (nid room rest bits : ℕ) (result : Bool) → rest ≤ 2 → bits < 2 ^ (2 - rest) → ((n : ℕ) × (r : Reading) × AfterDirection c nid room n r) → result ≡ begins (ranges Q_DIR) rest bits → IsTrue result ↔ GoesOn (AfterDirection c nid room) rest bits

@@ -6,7 +6,7 @@ use Rattle.etcs_vars.specs.Vars.{admits}
 use Rattle.etcs_vars.specs.Walking.{Residual}
 use Rattle.etcs_vars.specs.Reading.{Reading}
 use Rattle.etcs_vars.proofs.Languages.{Same, Nothing}
-use Rattle.etcs_tables.specs.declared.row.Way.TheVariants.{ToTrain}
+use Rattle.etcs_tables.specs.declared.row.Way.TheVariants.{ToTrain, ToTrack}
 use Rattle.etcs_rows.specs.declared.frames.Carrier.{Carrier}
 use Rattle.etcs_rows.specs.declared.frames.Carrier.TheVariants.{Telegram, Message}
 use Rattle.etcs_rows.specs.Frames.{way_of}
@@ -66,6 +66,7 @@ behind_number c room n framed q = (only_framed c room n framed q, λ d. inr (inr
 pub framed_left : (c : Carrier) (room n : ℕ) → Same (FrameLeft c n room) (left_of c room (behind_framed (way_of c) n))
 framed_left Telegram room n q = (λ (dir, rest, e, a, l). (dir, rest, e, (a, l)), λ (dir, rest, e, (a, l)). (dir, rest, e, a, l))
 framed_left (Message ToTrain) room n q = (λ (dir, rest, e, a, l). (dir, rest, e, (a, l)), λ (dir, rest, e, (a, l)). (dir, rest, e, a, l))
+framed_left (Message ToTrack) room n q = (λ (dir, rest, e, a, l). rw e l, λ l. (0, q, refl, refl, l))
 
 pub behind_marker : (room n : ℕ) → ((r : Reading) × AfterMarker room n r) → IsTrue (admits NID_VBCMK n) × (14 ≤ room) × Same (AfterMarker room n) (PacketsIn Telegram (room - 14))
 behind_marker room n (r, (a, le, run)) = (a, le, λ q. (λ h. h.2, λ k. (a, le, k)))

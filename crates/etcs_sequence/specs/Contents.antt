@@ -5,7 +5,7 @@ use Rattle.etcs_vars.specs.declared.var.Var.TheVariants.{NID_PACKET, NID_VBCMK, 
 use Rattle.etcs_vars.specs.Vars.{admits}
 use Rattle.etcs_vars.specs.Reading.{Reading, Then, spelled, kept}
 use Rattle.etcs_tables.specs.declared.row.Way.{Way}
-use Rattle.etcs_tables.specs.declared.row.Way.TheVariants.{ToTrain}
+use Rattle.etcs_tables.specs.declared.row.Way.TheVariants.{ToTrain, ToTrack}
 use Rattle.etcs_tables.specs.Layouts.{Layout, ReadsIn}
 use Rattle.etcs_tables.specs.Rows.{row_to}
 use Rattle.etcs_tables.specs.Frames.{frame_bits, is_framed, is_kept, is_direction, sends, directed}
@@ -28,6 +28,7 @@ Fills (Message way) room bits = (bits ≤ room) × (room ≤ bits + 7)
 -- the number of a packet that isn't the marker of telegrams
 abbrev pub IsUnmarked : Way → ℕ → Type 0
 IsUnmarked ToTrain nid = 0 < nid
+IsUnmarked ToTrack nid = Unit {0}
 
 -- the marker is a telegram's
 abbrev pub Carries : Carrier → PacketValue → Type 0

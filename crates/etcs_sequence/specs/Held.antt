@@ -6,8 +6,7 @@ use Rattle.etcs_rows.specs.declared.frames.Carrier.{Carrier}
 use Rattle.etcs_rows.specs.Frames.{way_of}
 use Rattle.etcs_tables.specs.Rows.{row_to}
 use Rattle.etcs_tables.specs.Frames.{directed}
-use Rattle.etcs_packets.specs.declared.packet.Packet.{Packet}
-use Rattle.etcs_packets.specs.PacketValues.{PacketValue, packet_value, IsMade}
+use Rattle.etcs_packets.specs.PacketValues.{PacketValue, Form}
 use Rattle.etcs_packets.specs.PacketReadings.{in_frame, readings_to}
 use Rattle.etcs_sequence.specs.Contents.{closing}
 use Rattle.etcs_sequence.specs.Runs.{row_so_far}
@@ -25,9 +24,9 @@ here_of c (Kept nid dir left) f k = in_frame (way_of c) nid dir (length k + left
 here_of c Closed f k = closing c
 
 -- and those of the packets in front
-abbrev pub packets_so_far : Carrier → Stage → List Packet → List ℕ → List Bool → Reading
-packets_so_far c s ps f k = readings_to (way_of c) (map packet_value ps) ++ here_of c s f k
+abbrev pub packets_so_far : {P : Type 0} → (P → Form) → Carrier → Stage → List P → List ℕ → List Bool → Reading
+packets_so_far form c s ps f k = readings_to (way_of c) (map (λ p. (form p).value) ps) ++ here_of c s f k
 
 -- a list of packets holds these, and of the one that is being read these numbers and bits
-abbrev pub list_holds : List Packet → List ℕ → List Bool → List PacketValue → List ℕ → List Bool → Type 0
-list_holds ps f k vs g l = (vs ≡ map packet_value ps) × (All IsMade ps × ((g ≡ f) × (l ≡ k)))
+abbrev pub list_holds : {P : Type 0} → (P → Form) → List P → List ℕ → List Bool → List PacketValue → List ℕ → List Bool → Type 0
+list_holds form ps f k vs g l = (vs ≡ map (λ p. (form p).value) ps) × (All (λ p. (form p).made) ps × ((g ≡ f) × (l ≡ k)))

@@ -6,7 +6,7 @@ use Rattle.etcs_vars.specs.Walking.{Residual}
 use Rattle.etcs_vars.specs.Reading as reading
 use Rattle.etcs_vars.specs.Reading.{Reading, Then, spelled, numbers}
 use Rattle.etcs_tables.specs.declared.row.Way.{Way}
-use Rattle.etcs_tables.specs.declared.row.Way.TheVariants.{ToTrain}
+use Rattle.etcs_tables.specs.declared.row.Way.TheVariants.{ToTrain, ToTrack}
 use Rattle.etcs_rows.specs.declared.frames.Carrier.{Carrier}
 use Rattle.etcs_rows.specs.declared.frames.Carrier.TheVariants.{Telegram, Message}
 use Rattle.etcs_tables.specs.Layouts.{Layout, looks, ReadsIn}
@@ -35,9 +35,10 @@ next_of (Row nid dir row) = first_variable row.place
 next_of (Kept nid dir left) = Some OTHER_DATA
 next_of Closed = None
 
--- what comes after the number of a packet that has a frame
+-- what comes after the number of a packet that has a frame: to the track L_PACKET at once
 abbrev pub behind_framed : Way → ℕ → Stage
 behind_framed ToTrain nid = Direction nid
+behind_framed ToTrack nid = Length nid 0
 
 -- the readings that are left; the room counts from the packet's first bit until its length is known
 abbrev pub left_of : Carrier → ℕ → Stage → Reading → Type 0

@@ -1,7 +1,7 @@
 -- What a reader of a language of values stands for, and what a feed answers.
 use Rattle.std.specs.Prelude.{◌≡◌, ℕ, ◌+◌, ◌*◌, ◌%◌, ◌<◌, ◌≤◌, Bool, true, false, List, ◌++◌, length, take, Option, Some, None, is_some, Result, Ok, Err, IsTrue, if◌then◌else◌}
 use Rattle.etcs_vars.specs.declared.var.Var.{Var}
-use Rattle.etcs_vars.specs.declared.var.Var.TheVariants.{NID_MESSAGE, L_MESSAGE, T_TRAIN, M_ACK, NID_LRBG, NID_EM, Q_ORIENTATION, D_SR, D_REF, Q_DIR, PAD, PADDING}
+use Rattle.etcs_vars.specs.declared.var.Var.TheVariants.{NID_MESSAGE, L_MESSAGE, T_TRAIN, M_ACK, NID_LRBG, NID_ENGINE, NID_EM, Q_ORIENTATION, D_SR, D_REF, Q_STATUS, Q_DIR, PAD, PADDING}
 use Rattle.etcs_vars.specs.Reading.{Reading, spelled, Viable, Owner, readings_of, IsOutcome, done, refused, more}
 use Rattle.etcs_vars.specs.Walking.{Residual}
 use Rattle.etcs_vars.specs.declared.feed.Fed.{Fed}
@@ -50,15 +50,22 @@ asks_memory NID_MESSAGE = false
 asks_memory L_MESSAGE = false
 asks_memory T_TRAIN = false
 asks_memory M_ACK = false
-asks_memory NID_LRBG = false
+asks_memory NID_ENGINE = false
 asks_memory NID_EM = false
 asks_memory Q_ORIENTATION = false
 asks_memory D_SR = false
 asks_memory D_REF = false
+asks_memory Q_STATUS = false
 asks_memory Q_DIR = false
 asks_memory PAD = false
 asks_memory PADDING = false
 asks_memory v = true
+
+-- NID_LRBG is in packets to the track, and ends the 75 bits of the header of a message to the train, in which none is asked
+-- for
+abbrev pub asked_from : Var → ℕ
+asked_from NID_LRBG = 75
+asked_from v = 0
 
 -- the bits seen and the new ones together, the answer, and the progress after it: a value as it is kept stands for
 -- one that has readings, and memory is refused after this many bits alone, at a variable that asks for it
@@ -66,7 +73,7 @@ abbrev pub Feeds : {V W : Type 0} → (W → Reading → Type 0) → (V → W) �
 Feeds {V} Reads value IsValue least seen new (Ok More) s = (s ≡ reading (seen ++ new)) × IsOutcome Reads (seen ++ new) more
 Feeds {V} Reads value IsValue least seen new (Ok (Done k)) s = (v : V) × (s ≡ finished v) × IsValue v × (8 * k ≤ length new) × IsOutcome Reads (seen ++ new) (done (value v) (length seen + 8 * k))
 Feeds {V} Reads value IsValue least seen new (Err (Refused i x)) s = (s ≡ stopped i x) × IsOutcome Reads (seen ++ new) (refused i x)
-Feeds {V} Reads value IsValue least seen new (Err Memory) s = (n : ℕ) × (s ≡ starved n) × (length seen ≤ n) × (n < length (seen ++ new)) × Viable (readings_of Reads) (take (n + 1) (seen ++ new)) × (least ≤ n) × (x : Var) × Owner (readings_of Reads) (take n (seen ++ new)) x × IsTrue (asks_memory x)
+Feeds {V} Reads value IsValue least seen new (Err Memory) s = (n : ℕ) × (s ≡ starved n) × (length seen ≤ n) × (n < length (seen ++ new)) × Viable (readings_of Reads) (take (n + 1) (seen ++ new)) × (least ≤ n) × (x : Var) × Owner (readings_of Reads) (take n (seen ++ new)) x × IsTrue (asks_memory x) × (asked_from x ≤ n)
 Feeds {V} Reads value IsValue least seen new (Err Ended) s = ⊥
 
 -- ---- The progress by what is kept.

@@ -5,11 +5,10 @@ use Rattle.etcs_vars.specs.Vars.{width}
 use Rattle.etcs_vars.specs.Reading.{Reading, spelled, readings_of}
 use Rattle.etcs_vars.specs.Walking.{Residual}
 use Rattle.etcs_vars.proofs.Walk.{Regular}
-use Rattle.etcs_packets.specs.declared.packet.Packet.{Packet}
 use Rattle.etcs_reader.specs.Rests.{Goes, BeginsWith, Ended}
 use Rattle.etcs_reader.specs.Feeders.{FeederValue}
 use Rattle.etcs_sequence.specs.declared.list.PacketList.{PacketList}
-use Rattle.etcs_sequence.specs.Progress.{Progress, progress_by, IsReader, asks_memory}
+use Rattle.etcs_sequence.specs.Progress.{Progress, progress_by, IsReader, asks_memory, asked_from}
 
 -- what is known of the item's size, and how far it came
 pub record ItemValue (S V : Type 0) : Type 0 where
@@ -26,7 +25,7 @@ progress_at next far made v = progress_by (next v.rest) (seen_at far v) (made v.
 -- What R keeps of a language, whose readings are those of values W: what is left of it, the variable that comes next, what
 -- follows, where memory may be refused, the variables so far, what is held of them, and at the end the value V with its
 -- number of bits; and packets, with numbers and bits of the next one, that are members of the variables so far.
-pub record Readable (R V W : Type 0) (left : R → Reading → Type 0) (next : R → Option Var) (follows : R → Reading → R → Type 0) (fails : R → Type 0) (far : R → Reading) (holds : R → Reading → Type 0) (Reads : W → Reading → Type 0) (value : V → W) (IsValue : V → Type 0) (size : V → ℕ) (made : R → V) (store : R → PacketList) (Members : List Packet → List ℕ → List Bool → Reading → Type 0) (most least : ℕ) : Type 0 where
+pub record Readable (R V W P : Type 0) (left : R → Reading → Type 0) (next : R → Option Var) (follows : R → Reading → R → Type 0) (fails : R → Type 0) (far : R → Reading) (holds : R → Reading → Type 0) (Reads : W → Reading → Type 0) (value : V → W) (IsValue : V → Type 0) (size : V → ℕ) (made : R → V) (store : R → PacketList P) (Members : List P → List ℕ → List Bool → Reading → Type 0) (most least : ℕ) : Type 0 where
   pub regular : Regular (readings_of Reads)
   pub some : Goes (readings_of Reads)
   -- each reading has whole bytes, some and at most this many
@@ -40,13 +39,13 @@ pub record Readable (R V W : Type 0) (left : R → Reading → Type 0) (next : R
   pub far_is : (s : R) (q : Reading) → Goes (left s) → holds s q → q ≡ far s
   -- memory is refused after this many bits alone, and at a variable that asks for it
   pub starved : (s : R) (q : Reading) → fails s → holds s q → least ≤ length (spelled q)
-  pub asks : (s : R) (q : Reading) (x : Var) → next s ≡ Some x → Goes (left s) → fails s → holds s q → IsTrue (asks_memory x)
+  pub asks : (s : R) (q : Reading) (x : Var) → next s ≡ Some x → Goes (left s) → fails s → holds s q → IsTrue (asks_memory x) × (asked_from x ≤ length (spelled q))
   pub whole : (s : R) → next s ≡ None → readings_of Reads (far s) → holds s (far s) → IsValue (made s) × Reads (value (made s)) (far s)
   pub counted : (v : V) (r : Reading) → IsValue v → Reads (value v) r → length (spelled r) ≡ size v
   -- between two pieces, with the bits of the variable that comes next
   pub members : (s : R) (part : List Bool) (x : Var) → next s ≡ Some x → Goes (left s) → holds s (far s) → length part < width x → length (spelled (far s) ++ part) % 8 ≡ 0 → Members (store s).packets.items (store s).numbers.items (store s).bits (far s)
 
 -- what a reader keeps
-pub record IsItemReader (R V W : Type 0) (left : R → Reading → Type 0) (next : R → Option Var) (follows : R → Reading → R → Type 0) (fails : R → Type 0) (far : R → Reading) (holds : R → Reading → Type 0) (Reads : W → Reading → Type 0) (value : V → W) (IsValue : V → Type 0) (size : V → ℕ) (made : R → V) (store : R → PacketList) (Members : List Packet → List ℕ → List Bool → Reading → Type 0) (most least : ℕ) (v : FeederValue R) : Type 0 where
-  pub readable : Readable R V W left next follows fails far holds Reads value IsValue size made store Members most least
+pub record IsItemReader (R V W P : Type 0) (left : R → Reading → Type 0) (next : R → Option Var) (follows : R → Reading → R → Type 0) (fails : R → Type 0) (far : R → Reading) (holds : R → Reading → Type 0) (Reads : W → Reading → Type 0) (value : V → W) (IsValue : V → Type 0) (size : V → ℕ) (made : R → V) (store : R → PacketList P) (Members : List P → List ℕ → List Bool → Reading → Type 0) (most least : ℕ) (v : FeederValue R) : Type 0 where
+  pub readable : Readable R V W P left next follows fails far holds Reads value IsValue size made store Members most least
   pub is : IsReader (readings_of Reads) (left v.rest) (holds v.rest) (far v.rest) v.part v.count v.stop

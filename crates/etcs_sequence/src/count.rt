@@ -17,6 +17,10 @@ pub struct PacketCount {
 }
 
 impl PacketStore for PacketCount {
+    ghost use Rattle.etcs_tables.specs.declared.row.Way.TheVariants.{ToTrain};
+
+    ghost WAY = { ToTrain };
+
     ghost holds = { λ s vs f k. length vs % 2 ^ 64 ≡ s.packets };
 
     ghost fails = { ⊥ };

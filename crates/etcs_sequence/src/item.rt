@@ -4,7 +4,6 @@ ghost use Rattle.std.specs.Prelude.{◌≡◌, ◌≢◌, ℕ, List, Bool, [], E
 ghost use Rattle.etcs_bits.specs.Bits.{bits};
 ghost use Rattle.etcs_vars.specs.Reading.{Reading, readings_of};
 ghost use Rattle.etcs_vars.proofs.Languages.{Same};
-ghost use Rattle.etcs_packets.specs.declared.packet.Packet.{Packet};
 ghost use Rattle.etcs_sequence.specs.declared.list.PacketList.{PacketList};
 ghost use Rattle.etcs_sequence.specs.Holdings.{IsHeld};
 ghost use Rattle.etcs_sequence.specs.Readables.{Readable};
@@ -12,7 +11,7 @@ ghost use Rattle.etcs_sequence.specs.Readables.{Readable};
 use crate::Held;
 use crate::fault::fault_by;
 use crate::list::PacketList;
-use etcs_packets::Packet;
+use etcs_packets::parts::AnyPacket;
 use etcs_reader::{Feeder, Rest};
 use etcs_vars::{Fed, ReadFault};
 use std::marker::Model;
@@ -24,6 +23,9 @@ pub trait ItemRest: Rest {
 
     /// The item.
     type Item;
+
+    /// What its packets are.
+    type Packet: AnyPacket;
 
     /// What an item shows to a reader of its bits.
     ghost Shown: { Type 0 };
@@ -53,17 +55,17 @@ pub trait ItemRest: Rest {
     /// The item, where nothing is left.
     ghost made: { Self → Self.Item };
 
-    ghost store: { Self → PacketList };
+    ghost store: { Self → PacketList Self.Packet };
 
     /// These variables have these whole packets, and of the one that is being read these numbers or bits.
-    ghost Members: { List Packet → List ℕ → List Bool → Reading → Type 0 };
+    ghost Members: { List Self.Packet → List ℕ → List Bool → Reading → Type 0 };
 
     /// The most bytes that an item of this size has.
     fn most(size: Self::Size) -> usize
         ensures { result ≡ most size };
 
     /// Where the packets go.
-    fn store(&self) -> &PacketList
+    fn store(&self) -> &PacketList<Self::Packet>
         ensures { result.now ≡ store self.now };
 
     /// The item, where nothing is left of it.
@@ -89,7 +91,7 @@ impl<R: ItemRest> Model for ItemReader<R> {
 
     ghost view = { λ r. record { size = r.size; progress = progress_at R.next R.far R.made r.feeder } };
 
-    ghost invariant = { λ r. IsItemReader R R.Item R.Shown R.left R.next R.follows R.fails R.far (R.holds r.size) (R.Reads r.size) R.value R.IsValue R.bits R.made R.store R.Members (R.most r.size) R.least r.feeder };
+    ghost invariant = { λ r. IsItemReader R R.Item R.Shown R.Packet R.left R.next R.follows R.fails R.far (R.holds r.size) (R.Reads r.size) R.value R.IsValue R.bits R.made R.store R.Members (R.most r.size) R.least r.feeder };
 }
 
 impl<R: ItemRest> ItemReader<R> {
@@ -97,7 +99,7 @@ impl<R: ItemRest> ItemReader<R> {
 
     /// A reader of an item of this size, of which all is left.
     pub fn new(size: R::Size, rest: R) -> Self
-        requires readable { Readable R R.Item R.Shown R.left R.next R.follows R.fails R.far (R.holds size) (R.Reads size) R.value R.IsValue R.bits R.made R.store R.Members (R.most size) R.least }
+        requires readable { Readable R R.Item R.Shown R.Packet R.left R.next R.follows R.fails R.far (R.holds size) (R.Reads size) R.value R.IsValue R.bits R.made R.store R.Members (R.most size) R.least }
         requires same { Same (R.left rest) (readings_of (R.Reads size)) }
         requires holds { R.holds size rest [] }
         ensures { result ≡ record { size = size; progress = reading [] } }
@@ -147,7 +149,7 @@ impl<R: ItemRest> ItemReader<R> {
 
     /// What it holds between two pieces: the whole packets, the numbers or kept bits of what is being read,
     /// and the unfinished variable. `None` after `Done`, `Refused` or `Memory`.
-    pub fn held(&self) -> Option<Held<'_, Packet>>
+    pub fn held(&self) -> Option<Held<'_, R::Packet>>
         ensures some { IfSome result (λ h. IsHeld (readings_of (R.Reads self.now.size)) (R.Members h.packets.now h.numbers.now h.kept) self.now.progress h.part h.taken) }
         ensures none { IsNone result → IsReading self.now.progress → ⊥ }
     {

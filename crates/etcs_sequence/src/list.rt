@@ -6,26 +6,25 @@ ghost use Rattle.etcs_sequence.specs.Held.{list_holds};
 use crate::store::PacketStore;
 use etcs_bits::parts::append;
 use etcs_bits::{BitSlice, Bits};
-use etcs_packets::parts::{from_bits, from_fields, holds};
-use etcs_packets::{Other, Packet};
-use etcs_tables::{Way, row_of};
+use etcs_packets::parts::AnyPacket;
+use etcs_tables::row_of;
 use std::alloc::{AllocError, Global};
 use std::mem;
 
 /// The packets that were read, and the numbers or bits of the one that is being read.
 #[derive(Drop)]
-pub struct PacketList {
+pub struct PacketList<P: AnyPacket> {
     pub alloc: Global,
-    pub packets: Vec<Packet>,
+    pub packets: Vec<P>,
     /// The numbers after L_PACKET of the typed packet that is being read.
     pub numbers: Vec<u64>,
     /// The bits after L_PACKET of the packet that is being kept, or those of FILL.
     pub bits: Bits,
 }
 
-impl PacketList {
+impl<P: AnyPacket> PacketList<P> {
     /// Nothing yet. Takes no memory.
-    pub fn new(alloc: Global) -> PacketList
+    pub fn new(alloc: Global) -> PacketList<P>
         ensures packets { result.packets.items ≡ [] }
         ensures numbers { result.numbers.items ≡ [] }
         ensures bits { result.bits ≡ [] }
@@ -41,7 +40,7 @@ impl PacketList {
 
 /// Puts a packet after the others.
 #[inline(always)]
-fn put(packets: &mut Vec<Packet>, packet: Packet) -> Result<(), AllocError>
+fn put<P: AnyPacket>(packets: &mut Vec<P>, packet: P) -> Result<(), AllocError>
     ensures { OnOk result (packets.new.items ≡ packets.old.items ++ packet ∷ []) }
 {
     match packets.push(packet) {
@@ -50,8 +49,10 @@ fn put(packets: &mut Vec<Packet>, packet: Packet) -> Result<(), AllocError>
     }
 }
 
-impl PacketStore for PacketList {
-    ghost holds = { λ s. list_holds s.packets.items s.numbers.items s.bits };
+impl<P: AnyPacket> PacketStore for PacketList<P> {
+    ghost WAY = { P.WAY };
+
+    ghost holds = { λ s. list_holds P.form s.packets.items s.numbers.items s.bits };
 
     ghost fails = { ⊤ };
 
@@ -71,16 +72,13 @@ impl PacketStore for PacketList {
     }
 
     fn marker(&mut self, number: u8) -> Result<(), AllocError> {
-        let Ok(packet) = Packet::vbc_marker(number) else {
-            unreachable!()
-        };
-        put(&mut self.packets, packet)
+        put(&mut self.packets, P::of_marker(number))
     }
 
     fn typed(&mut self, nid: u8, dir: u8) -> Result<(), AllocError> {
-        match from_fields(self.alloc, nid, dir, self.numbers.as_slice()) {
+        match P::of_fields(self.alloc, nid, dir, self.numbers.as_slice()) {
             Ok(Some(packet)) => {
-                holds(&packet);
+                packet.hold();
                 put(&mut self.packets, packet)?;
                 self.numbers.clear();
                 Ok(())
@@ -92,19 +90,17 @@ impl PacketStore for PacketList {
 
     fn kept(&mut self, nid: u8, dir: u8) -> Result<(), AllocError> {
         let body = mem::replace(&mut self.bits, Bits::new(self.alloc));
-        match Other::new(nid, dir, body) {
-            Ok(other) => put(&mut self.packets, Packet::Other(other)),
-            Err(_) => unreachable!(),
-        }
+        put(&mut self.packets, P::of_kept(nid, dir, body))
     }
 
+    #[inline(always)]
     fn whole(&mut self, nid: u8, dir: u8, body: BitSlice<'_>) -> Result<bool, AllocError> {
-        let Some(_) = row_of(Way::ToTrain, nid) else {
+        let Some(_) = row_of(P::WAY, nid) else {
             return Ok(false);
         };
-        match from_bits(self.alloc, nid, dir, body) {
+        match P::of_bits(self.alloc, nid, dir, body) {
             Ok(Some(packet)) => {
-                holds(&packet);
+                packet.hold();
                 put(&mut self.packets, packet)?;
                 Ok(true)
             }

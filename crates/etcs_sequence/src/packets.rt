@@ -31,6 +31,7 @@ use std::alloc::AllocError;
 pub struct PacketsRest<S: PacketStore> {
     pub left: PacketsState,
     pub store: S,
+    pub ghost way: { way_of left.carrier ≡ S.WAY },
     pub ghost held: { ∥ (is_closed left.stage ≡ false → ((q : Reading) × HoldsAt left.carrier left.stage (S.holds store) q)) ∥₁ },
 }
 
@@ -53,8 +54,8 @@ fn absorb<S: PacketStore>(store: &mut S, keep: Keep, number: u64) -> Result<(), 
 /// Makes the packet that is whole.
 #[inline(always)]
 fn finish<S: PacketStore>(store: &mut S, event: Event) -> Result<(), AllocError>
-    requires { ∥ ((c : Carrier) × ((s : Stage) × ((vs : List PacketValue) × ((f : List ℕ) × ((k : List Bool) × ((h : Reading) × (S.holds store.old vs f k × After c s f k h event))))))) ∥₁ }
-    ensures ok { OnOk result ((c : Carrier) (s : Stage) (vs : List PacketValue) (f : List ℕ) (k : List Bool) (h : Reading) → S.holds store.old vs f k → All (Carries c) vs → After c s f k h event → HoldsAt c s (S.holds store.new) (readings_to (way_of c) vs ++ h)) }
+    requires { ∥ ((c : Carrier) × ((s : Stage) × ((vs : List PacketValue) × ((f : List ℕ) × ((k : List Bool) × ((h : Reading) × ((way_of c ≡ S.WAY) × (S.holds store.old vs f k × After c s f k h event)))))))) ∥₁ }
+    ensures ok { OnOk result ((c : Carrier) (s : Stage) (vs : List PacketValue) (f : List ℕ) (k : List Bool) (h : Reading) → way_of c ≡ S.WAY → S.holds store.old vs f k → All (Carries c) vs → After c s f k h event → HoldsAt c s (S.holds store.new) (readings_to (way_of c) vs ++ h)) }
     ensures err { OnErr result (S.fails × (event ≢ Event.More)) }
 {
     match event {
@@ -68,6 +69,7 @@ fn finish<S: PacketStore>(store: &mut S, event: Event) -> Result<(), AllocError>
 impl<S: PacketStore> PacketsRest<S> {
     /// All packets of a room of this many bits, and a store that holds none.
     pub fn new(carrier: Carrier, room: usize, store: S) -> PacketsRest<S>
+        requires way { way_of carrier ≡ S.WAY }
         requires small { room ≤ 8191 }
         requires none { S.holds store [] [] [] }
         ensures carrier { result.left.carrier ≡ carrier }
@@ -84,6 +86,7 @@ impl<S: PacketStore> PacketsRest<S> {
 
     /// All packets of a room of this many bits again, where the store holds none yet.
     pub fn start(&mut self, carrier: Carrier, room: usize)
+        requires way { way_of carrier ≡ S.WAY }
         requires small { room ≤ 8191 }
         requires none { ∥ S.holds self.old.store [] [] [] ∥₁ }
         ensures carrier { self.new.left.carrier ≡ carrier }

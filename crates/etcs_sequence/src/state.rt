@@ -61,6 +61,7 @@ fn behind_framed(way: Way, nid: u8) -> Stage
 {
     match way {
         Way::ToTrain => Stage::Direction(nid),
+        Way::ToTrack => Stage::Length(nid, 0),
     }
 }
 
@@ -319,7 +320,8 @@ impl PacketsState {
 
     /// Wants nothing more, whatever was left.
     pub(crate) fn close(&mut self)
-        ensures { self.new.stage ≡ Stage.Closed }
+        ensures stage { self.new.stage ≡ Stage.Closed }
+        ensures carrier { self.new.carrier ≡ self.old.carrier }
     {
         self.room = 0;
         self.stage = Stage::Closed;

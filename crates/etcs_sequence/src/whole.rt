@@ -43,13 +43,15 @@ pub fn length_at(carrier: Carrier, room: usize, piece: &[u8], at: usize) -> Opti
     Some(len)
 }
 
-/// The direction of the packet that begins at `at`, whose head lies in a piece.
+/// The direction of the packet that begins at `at`, whose head lies in a piece; to the track it is 0.
 pub fn direction_at(way: Way, piece: &[u8], at: usize) -> u8
     requires inside { at + head_bits way ≤ length (bits piece.now) }
     requires small { length (bits piece.now) < 2 ^ 64 }
-    ensures { spelled (directed way result []) ≡ part (at + 8) (head_bits way - 8) (bits piece.now) }
+    ensures bits { spelled (directed way result []) ≡ part (at + 8) (head_bits way - 8) (bits piece.now) }
+    ensures track { way ≡ Way.ToTrack → result ≡ 0 }
 {
     match way {
         Way::ToTrain => number_at(piece, at + 8, 2) as u8,
+        Way::ToTrack => 0,
     }
 }

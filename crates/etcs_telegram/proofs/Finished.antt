@@ -6,6 +6,7 @@ use Rattle.etcs_vars.specs.declared.var.Var.TheVariants.{FILL, PAD}
 use Rattle.etcs_vars.specs.Reading.{Reading, spelled, numbers, kept}
 use Rattle.etcs_vars.proofs.Apart.{cut}
 use Rattle.etcs_vars.proofs.Walk.{spelled-append}
+use Rattle.etcs_packets.specs.declared.packet.Packet.{Packet}
 use Rattle.etcs_packets.specs.PacketValues.{PacketValue, packet_value, IsPacket}
 use Rattle.etcs_sequence.specs.declared.state.PacketsState.{PacketsState}
 use Rattle.etcs_sequence.specs.declared.list.PacketList.{PacketList}
@@ -54,17 +55,17 @@ whole_reads size header vs fill q ten carried (t, (st, x)) e =
     )
 
 -- what a reader keeps at the end is a telegram, and q is its reading
-pub record Finished (own size : Size) (header : List ℕ) (store : PacketList) (q : Reading) : Type 0 where
+pub record Finished (own size : Size) (header : List ℕ) (store : PacketList Packet) (q : Reading) : Type 0 where
   pub telegram : IsTelegram (telegram_by size header store)
   pub reads : ReadsAs own (telegram_value (telegram_by size header store)) q
   pub numbers : IsHeaderNumbers header
 
 -- where it stands for all of one
-abbrev Finishes : Size → Size → Phase → List ℕ → PacketsState → PacketList → Type 0
+abbrev Finishes : Size → Size → Phase → List ℕ → PacketsState → PacketList Packet → Type 0
 Finishes own size phase header l store =
     TelegramLanguage own (so_far size phase header l store) → OwnHeld own size phase header l store (so_far size phase header l store) → Finished own size header store (so_far size phase header l store)
 
-at_whole : (own size : Size) (header : List ℕ) (l : PacketsState) (store : PacketList) → Finishes own size Whole header l store
+at_whole : (own size : Size) (header : List ℕ) (l : PacketsState) (store : PacketList Packet) → Finishes own size Whole header l store
 at_whole own size header l store lang (same, h) =
     let q = so_far size Whole header l store in
     let vs = map packet_value store.packets.items in
@@ -81,5 +82,5 @@ at_whole own size header l store lang (same, h) =
       numbers = is.1;
     }
 
-pub finished_is : (own size : Size) (phase : Phase) (header : List ℕ) (l : PacketsState) (store : PacketList) → IsTrue (stands_at phase (length header) l) → next_at phase l ≡ None → Finishes own size phase header l store
+pub finished_is : (own size : Size) (phase : Phase) (header : List ℕ) (l : PacketsState) (store : PacketList Packet) → IsTrue (stands_at phase (length header) l) → next_at phase l ≡ None → Finishes own size phase header l store
 finished_is own size phase header l store stands e = subst (λ (p : Phase). Finishes own size p header l store) (sym (ended_whole phase (length header) l stands e)) (at_whole own size header l store)

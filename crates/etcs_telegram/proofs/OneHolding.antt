@@ -4,6 +4,7 @@ use Rattle.std.specs.Prelude.{replicate, map, All, if◌then◌else◌}
 use Rattle.etcs_vars.specs.declared.var.Var.TheVariants.{NID_PACKET, Q_DIR, L_PACKET, OTHER_DATA, FILL, PAD}
 use Rattle.etcs_vars.specs.Reading.{Reading, kept}
 use Rattle.etcs_vars.proofs.Apart.{cut}
+use Rattle.etcs_tables.specs.declared.row.Way.TheVariants.{ToTrain}
 use Rattle.etcs_packets.specs.declared.packet.Packet.{Packet}
 use Rattle.etcs_packets.specs.PacketValues.{PacketValue, packet_value, IsPacket}
 use Rattle.etcs_packets.proofs.OnePacket.{one_list}
@@ -21,7 +22,7 @@ use Rattle.etcs_telegram.specs.Readers.{Standing, Members, OneHolding}
 -- ---- Packet 255 with bits of FILL and PAD after it.
 
 -- no packet begins so
-closed_unpacked : (t : Reading) → NoPacket ((NID_PACKET, 255) ∷ t)
+closed_unpacked : (t : Reading) → NoPacket ToTrain ((NID_PACKET, 255) ∷ t)
 closed_unpacked t v q h e =
     let (n, r, is, less) = numbered_below v h in
     let parts = sent_parts NID_PACKET NID_PACKET 255 n t (r ++ q) (e ∙ ap (λ (u : Reading). u ++ q) is) in
@@ -57,7 +58,7 @@ filled_frame : (r : Reading) (k : List Bool) (zeros nid dir bits : ℕ) (t : Rea
 filled_frame r k zeros nid dir bits t e is = no_direction k zeros dir ((L_PACKET, 23 + bits) ∷ t) (sent_parts NID_PACKET NID_PACKET 255 nid (kept FILL k ++ kept PAD (replicate zeros false)) ((Q_DIR, dir) ∷ (L_PACKET, 23 + bits) ∷ t) (sym e ∙ is)).2
 
 -- where it is what is begun of a packet, no bit of FILL is there
-filled_begun : (r : Reading) (f : List ℕ) (k l : List Bool) (zeros : ℕ) → r ≡ filled l zeros → Begun r f k → (f ≡ []) × (k ≡ l)
+filled_begun : (r : Reading) (f : List ℕ) (k l : List Bool) (zeros : ℕ) → r ≡ filled l zeros → Begun ToTrain r f k → (f ≡ []) × (k ≡ l)
 filled_begun r f k l zeros e (inl (inl none, i, j)) = let two : ◌≡◌ {A = Reading} (filled l zeros) [] = sym e ∙ none in absurd cc
 filled_begun r f k l zeros e (inl (inr (inl (nid, one)), i, j)) = (i, j ∙ sym (none_filled l zeros (sent_parts NID_PACKET NID_PACKET 255 nid (kept FILL l ++ kept PAD (replicate zeros false)) [] (sym e ∙ one)).2))
 filled_begun r f k l zeros e (inl (inr (inr (nid, dir, both)), i, j)) = absurd (no_direction l zeros dir [] (sent_parts NID_PACKET NID_PACKET 255 nid (kept FILL l ++ kept PAD (replicate zeros false)) ((Q_DIR, dir) ∷ []) (sym e ∙ both)).2)
@@ -93,28 +94,28 @@ members_known far ps qs f g k l hp hq (inr (inl (h, r, ten, e, begun))) (inr (in
     let vs = map packet_value ps in
     let us = map packet_value qs in
     let t = behind_known far h h' (packets_reading vs ++ r) (packets_reading us ++ r') e ten e' ten' in
-    let p = packets_known vs us r r' hp hq (begun_unpacked r f k begun) (begun_unpacked r' g l begun') t in
-    let b = begun_known r' f g k l (subst (λ (x : Reading). Begun x f k) p.1 begun) begun' in
+    let p = packets_known ToTrain vs us r r' hp hq (begun_unpacked ToTrain r f k begun) (begun_unpacked ToTrain r' g l begun') t in
+    let b = begun_known ToTrain r' f g k l (subst (λ (x : Reading). Begun ToTrain x f k) p.1 begun) begun' in
     (p.0, b.0, b.1)
 members_known far ps qs f g k l hp hq (inr (inl (h, r, ten, e, begun))) (inr (inr (h', z, ten', e', none))) =
     let vs = map packet_value ps in
     let us = map packet_value qs in
     let t = behind_known far h h' (packets_reading vs ++ r) (closed_reading us ++ (kept FILL l ++ kept PAD (replicate z false))) e ten e' ten' in
-    let p = packets_known vs us r (filled l z) hp hq (begun_unpacked r f k begun) (closed_unpacked (kept FILL l ++ kept PAD (replicate z false))) (t ∙ closed_is us l z) in
+    let p = packets_known ToTrain vs us r (filled l z) hp hq (begun_unpacked ToTrain r f k begun) (closed_unpacked (kept FILL l ++ kept PAD (replicate z false))) (t ∙ closed_is us l z) in
     let b = filled_begun r f k l z p.1 begun in
     (p.0, b.0 ∙ sym none, b.1)
 members_known far ps qs f g k l hp hq (inr (inr (h, z, ten, e, none))) (inr (inl (h', r, ten', e', begun))) =
     let vs = map packet_value ps in
     let us = map packet_value qs in
     let t = behind_known far h h' (closed_reading vs ++ (kept FILL k ++ kept PAD (replicate z false))) (packets_reading us ++ r) e ten e' ten' in
-    let p = packets_known vs us (filled k z) r hp hq (closed_unpacked (kept FILL k ++ kept PAD (replicate z false))) (begun_unpacked r g l begun) (sym (closed_is vs k z) ∙ t) in
+    let p = packets_known ToTrain vs us (filled k z) r hp hq (closed_unpacked (kept FILL k ++ kept PAD (replicate z false))) (begun_unpacked ToTrain r g l begun) (sym (closed_is vs k z) ∙ t) in
     let b = filled_begun r g l k z (sym p.1) begun in
     (p.0, none ∙ sym b.0, sym b.1)
 members_known far ps qs f g k l hp hq (inr (inr (h, z, ten, e, none))) (inr (inr (h', z', ten', e', none'))) =
     let vs = map packet_value ps in
     let us = map packet_value qs in
     let t = behind_known far h h' (closed_reading vs ++ (kept FILL k ++ kept PAD (replicate z false))) (closed_reading us ++ (kept FILL l ++ kept PAD (replicate z' false))) e ten e' ten' in
-    let p = packets_known vs us (filled k z) (filled l z') hp hq (closed_unpacked (kept FILL k ++ kept PAD (replicate z false))) (closed_unpacked (kept FILL l ++ kept PAD (replicate z' false))) (sym (closed_is vs k z) ∙ t ∙ closed_is us l z') in
+    let p = packets_known ToTrain vs us (filled k z) (filled l z') hp hq (closed_unpacked (kept FILL k ++ kept PAD (replicate z false))) (closed_unpacked (kept FILL l ++ kept PAD (replicate z' false))) (sym (closed_is vs k z) ∙ t ∙ closed_is us l z') in
     let rest = (sent_parts NID_PACKET NID_PACKET 255 255 (kept FILL k ++ kept PAD (replicate z false)) (kept FILL l ++ kept PAD (replicate z' false)) p.1).2 in
     (p.0, none ∙ sym none', fills_known k l z z' rest)
 

@@ -8,7 +8,9 @@ use Rattle.etcs_vars.specs.declared.var.Var.TheVariants.{FILL}
 use Rattle.etcs_vars.specs.Reading.{Reading, spelled}
 use Rattle.etcs_vars.proofs.Walk.{spelled-append}
 use Rattle.etcs_packets.specs.declared.packet.Packet.{Packet}
-use Rattle.etcs_packets.specs.PacketValues.{PacketValue, packet_value}
+use Rattle.etcs_packets.specs.PacketValues.{PacketValue, form, packet_value}
+use Rattle.etcs_rows.specs.declared.frames.Carrier.{Carrier}
+use Rattle.etcs_rows.specs.Frames.{way_of}
 use Rattle.etcs_reader.specs.Rests.{Goes}
 use Rattle.etcs_sequence.specs.declared.state.PacketsState.{PacketsState}
 use Rattle.etcs_sequence.specs.declared.list.PacketList.{PacketList}
@@ -17,8 +19,8 @@ use Rattle.etcs_sequence.specs.Labels.{labelled}
 use Rattle.etcs_sequence.proofs.LabelLaws.{length-widths, labelled_widths}
 use Rattle.etcs_sequence.specs.Lefts.{left_of, ahead}
 use Rattle.etcs_sequence.specs.Held.{list_holds}
-use Rattle.etcs_sequence.specs.Progress.{asks_memory}
-use Rattle.etcs_sequence.proofs.Asking.{packets_ask}
+use Rattle.etcs_sequence.specs.Progress.{asks_memory, asked_from}
+use Rattle.etcs_sequence.proofs.Asking.{asked_after, asks_anywhere, packets_ask}
 use Rattle.etcs_sequence.proofs.Holding.{packets_far}
 use Rattle.etcs_telegram.specs.declared.size.Size.{Size}
 use Rattle.etcs_telegram.specs.declared.phase.Phase.{Phase}
@@ -26,20 +28,21 @@ use Rattle.etcs_telegram.specs.declared.phase.Phase.TheVariants.{Header, Packets
 use Rattle.etcs_telegram.specs.Telegrams.{header_row, pad_bits, closed_reading}
 use Rattle.etcs_telegram.specs.Phases.{behind_header}
 use Rattle.etcs_telegram.specs.Lefts.{FillBy, left_at, next_at, HoldsIn, Filled, stands_at, is_open, may_ask}
+use Rattle.etcs_telegram.specs.laws.RestLaws.{opens}
 use Rattle.etcs_telegram.specs.Readers.{so_far}
 
 -- those with FILL and PAD after packet 255
-pub filled_far : (header : List ℕ) (ps : List Packet) (f : List ℕ) (k : List Bool) (left room pad : ℕ) (q : Reading) → Filled header (list_holds ps f k) room left pad q → q ≡ labelled header_row header ++ behind_header (closed_reading (map packet_value ps)) k pad
+pub filled_far : (header : List ℕ) (ps : List Packet) (f : List ℕ) (k : List Bool) (left room pad : ℕ) (q : Reading) → Filled header (list_holds form ps f k) room left pad q → q ≡ labelled header_row header ++ behind_header (closed_reading (map packet_value ps)) k pad
 filled_far header ps f k left room pad q h =
     let (vs_is, (made, (m_is, l_is))) = h.held in
     h.reading_is ∙ rw (vs_is, l_is) refl
 
 -- all of them
-pub far_is : (size : Size) (phase : Phase) (header : List ℕ) (l : PacketsState) (store : PacketList) (q : Reading) → Goes (left_at size phase l) → HoldsIn size phase header l (list_holds store.packets.items store.numbers.items store.bits) q → q ≡ so_far size phase header l store
+pub far_is : (size : Size) (phase : Phase) (header : List ℕ) (l : PacketsState) (store : PacketList Packet) (q : Reading) → Goes (left_at size phase l) → HoldsIn size phase header l (list_holds form store.packets.items store.numbers.items store.bits) q → q ≡ so_far size phase header l store
 far_is size (Header at) header l store q g h = h.0
 far_is size Packets header l store q g (r, e, h) =
     let first = chain_first (left_of l.carrier l.room l.stage) (FillBy size (ahead l.carrier l.room l.stage)) g in
-    e ∙ ap (λ (t : Reading). labelled header_row header ++ t) (packets_far l.carrier l.room l.stage store.packets.items store.numbers.items store.bits r first h)
+    e ∙ ap (λ (t : Reading). labelled header_row header ++ t) (packets_far form l.carrier l.room l.stage store.packets.items store.numbers.items store.bits r first h)
 far_is size (Fill left) header l store q g h = filled_far header store.packets.items store.numbers.items store.bits left l.room 0 q h
 far_is size (Pad left) header l store q g (pad, e, h) =
     let same : pad ≡ pad_bits size - left = omega (arith, e) in
@@ -63,9 +66,14 @@ far_long size (Pad left) header l holds q stands ask h = absurd cc
 far_long size Whole header l holds q stands ask h = absurd cc
 
 -- the variable that comes next there asks for it
-pub next_asks : (size : Size) (phase : Phase) (header : List ℕ) (l : PacketsState) (holds : List PacketValue → List ℕ → List Bool → Type 0) (q : Reading) (x : Var) → IsTrue (may_ask phase l) → HoldsIn size phase header l holds q → Goes (left_at size phase l) → next_at phase l ≡ Some x → IsTrue (asks_memory x)
-next_asks size (Header at) header l holds q x ask h g e = absurd cc
-next_asks size Packets header l holds q x ask (r, is, h) g e = packets_ask l.carrier l.room l.stage holds r ask h (chain_first (left_of l.carrier l.room l.stage) (FillBy size (ahead l.carrier l.room l.stage)) g) x e
-next_asks size (Fill left) header l holds q x ask h g e = let same : FILL ≡ x = cc in subst (λ (v : Var). IsTrue (asks_memory v)) same refl
-next_asks size (Pad left) header l holds q x ask h g e = absurd cc
-next_asks size Whole header l holds q x ask h g e = absurd cc
+pub next_asks : (size : Size) (phase : Phase) (header : List ℕ) (l : PacketsState) (holds : List PacketValue → List ℕ → List Bool → Type 0) (q : Reading) (x : Var) → IsTrue (may_ask phase l) → HoldsIn size phase header l holds q → Goes (left_at size phase l) → IsTrue (stands_at phase (length header) l) → next_at phase l ≡ Some x → IsTrue (asks_memory x) × (asked_from x ≤ length (spelled q))
+next_asks size (Header at) header l holds q x ask h g stands e = absurd cc
+next_asks size Packets header l holds q x ask (r, is, h) g stands e =
+    let asks = packets_ask l.carrier l.room l.stage holds r ask h (chain_first (left_of l.carrier l.room l.stage) (FillBy size (ahead l.carrier l.room l.stage)) g) x e in
+    let none : asked_after (way_of l.carrier) ≡ 0 = ap (λ (c : Carrier). asked_after (way_of c)) (opens l (and_parts (length header == 10) (is_open l) stands).1).0 in
+    let first = labelled header_row header in
+    let long = ap (λ (t : Reading). length (spelled t)) is ∙ ap length (spelled-append first r) ∙ length-append (spelled first) (spelled r) in
+    (asks.0, omega (arith, asks.1, none, long))
+next_asks size (Fill left) header l holds q x ask h g stands e = asks_anywhere (length (spelled q)) x FILL refl refl cc
+next_asks size (Pad left) header l holds q x ask h g stands e = absurd cc
+next_asks size Whole header l holds q x ask h g stands e = absurd cc

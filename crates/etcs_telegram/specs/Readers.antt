@@ -3,8 +3,9 @@ use Rattle.std.specs.Prelude.{◌≡◌, ℕ, ◌+◌, ◌-◌, ◌<◌, Bool, f
 use Rattle.etcs_vars.specs.declared.var.Var.TheVariants.{FILL, PAD}
 use Rattle.etcs_vars.specs.Reading.{Reading, kept}
 use Rattle.etcs_packets.specs.declared.packet.Packet.{Packet}
-use Rattle.etcs_packets.specs.PacketValues.{packet_value, IsPacket, IsMade}
+use Rattle.etcs_packets.specs.PacketValues.{form, packet_value, IsPacket, IsMade}
 use Rattle.etcs_packets.specs.PacketReadings.{packets_reading}
+use Rattle.etcs_tables.specs.declared.row.Way.TheVariants.{ToTrain}
 use Rattle.etcs_sequence.specs.Runs.{Begun}
 use Rattle.etcs_sequence.specs.declared.state.PacketsState.{PacketsState}
 use Rattle.etcs_sequence.specs.declared.list.PacketList.{PacketList}
@@ -27,19 +28,19 @@ abbrev pub telegram_bits : TelegramContent → ℕ
 telegram_bits t = user_bits t.size + pad_bits t.size
 
 -- the variables so far
-abbrev pub so_far : Size → Phase → List ℕ → PacketsState → PacketList → Reading
+abbrev pub so_far : Size → Phase → List ℕ → PacketsState → PacketList Packet → Reading
 so_far size (Header at) header left store = labelled header_row header
-so_far size Packets header left store = labelled header_row header ++ packets_so_far left.carrier left.stage store.packets.items store.numbers.items store.bits
+so_far size Packets header left store = labelled header_row header ++ packets_so_far form left.carrier left.stage store.packets.items store.numbers.items store.bits
 so_far size (Fill n) header left store = labelled header_row header ++ behind_header (closed_reading (map packet_value store.packets.items)) store.bits 0
 so_far size (Pad n) header left store = labelled header_row header ++ behind_header (closed_reading (map packet_value store.packets.items)) store.bits (pad_bits size - n)
 so_far size Whole header left store = labelled header_row header ++ behind_header (closed_reading (map packet_value store.packets.items)) store.bits (pad_bits size)
 
-abbrev pub telegram_by : Size → List ℕ → PacketList → TelegramContent
+abbrev pub telegram_by : Size → List ℕ → PacketList Packet → TelegramContent
 telegram_by size header store = record { size = size; header = header_of header; packets = store.packets.items; fill = store.bits }
 
 -- q are the variables so far, of which so much is held, of a telegram of the reader's own size
-abbrev pub OwnHeld : Size → Size → Phase → List ℕ → PacketsState → PacketList → Reading → Type 0
-OwnHeld own size phase header left store q = (size ≡ own) × HoldsIn size phase header left (list_holds store.packets.items store.numbers.items store.bits) q
+abbrev pub OwnHeld : Size → Size → Phase → List ℕ → PacketsState → PacketList Packet → Reading → Type 0
+OwnHeld own size phase header left store q = (size ≡ own) × HoldsIn size phase header left (list_holds form store.packets.items store.numbers.items store.bits) q
 
 -- ---- What it holds between two pieces.
 
@@ -48,7 +49,7 @@ OwnHeld own size phase header left store q = (size ≡ own) × HoldsIn size phas
 abbrev pub Standing : List Packet → List ℕ → List Bool → Reading → Type 0
 Standing ps f k far =
     ((header : List ℕ) × (far ≡ labelled header_row header) × (length header < 10) × (ps ≡ []) × (f ≡ []) × (k ≡ []))
-    ⊎ (((header : List ℕ) × (front : Reading) × (length header ≡ 10) × (far ≡ labelled header_row header ++ (packets_reading (map packet_value ps) ++ front)) × Begun front f k)
+    ⊎ (((header : List ℕ) × (front : Reading) × (length header ≡ 10) × (far ≡ labelled header_row header ++ (packets_reading (map packet_value ps) ++ front)) × Begun ToTrain front f k)
     ⊎ ((header : List ℕ) × (zeros : ℕ) × (length header ≡ 10) × (far ≡ labelled header_row header ++ (closed_reading (map packet_value ps) ++ (kept FILL k ++ kept PAD (replicate zeros false)))) × (f ≡ [])))
 
 -- these are all whole variables, with packets of the profile

@@ -11,6 +11,7 @@ mod reader;
 mod rest;
 mod sent;
 mod size;
+mod store;
 mod telegram;
 mod view;
 

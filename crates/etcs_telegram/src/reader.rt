@@ -9,6 +9,7 @@ ghost use Rattle.etcs_telegram.specs.Readers.{Members, OwnHeld, so_far, telegram
 use crate::header::Header;
 use crate::rest::TelegramRest;
 use crate::size::Size;
+use crate::store::TelegramStore;
 use crate::telegram::Telegram;
 use etcs_bodies::ListOf;
 use etcs_packets::Packet;
@@ -17,10 +18,12 @@ use etcs_vars::{Fed, ReadFault};
 use std::alloc::Global;
 use std::marker::Model;
 
-impl ItemRest for TelegramRest<PacketList> {
+impl ItemRest for TelegramRest<TelegramStore> {
     type Size = Size;
 
     type Item = Telegram;
+
+    type Packet = Packet;
 
     ghost Shown = { TelegramValue };
 
@@ -36,13 +39,13 @@ impl ItemRest for TelegramRest<PacketList> {
 
     ghost least = { 50 };
 
-    ghost far = { λ s. so_far s.size s.phase s.header.items s.packets.left s.packets.store };
+    ghost far = { λ s. so_far s.size s.phase s.header.items s.packets.left s.packets.store.list };
 
-    ghost holds = { λ size s. OwnHeld size s.size s.phase s.header.items s.packets.left s.packets.store };
+    ghost holds = { λ size s. OwnHeld size s.size s.phase s.header.items s.packets.left s.packets.store.list };
 
-    ghost made = { λ s. telegram_by s.size s.header.items s.packets.store };
+    ghost made = { λ s. telegram_by s.size s.header.items s.packets.store.list };
 
-    ghost store = { λ s. s.packets.store };
+    ghost store = { λ s. s.packets.store.list };
 
     ghost Members = { Members };
 
@@ -52,8 +55,8 @@ impl ItemRest for TelegramRest<PacketList> {
     }
 
     #[inline]
-    fn store(&self) -> &PacketList {
-        &self.packets.store
+    fn store(&self) -> &PacketList<Packet> {
+        &self.packets.store.list
     }
 
     #[inline(always)]
@@ -61,8 +64,8 @@ impl ItemRest for TelegramRest<PacketList> {
         Telegram {
             size: self.size,
             header: Header::of_numbers(self.header.as_slice()),
-            packets: ListOf::from_vec(self.packets.store.packets),
-            fill: self.packets.store.bits,
+            packets: ListOf::from_vec(self.packets.store.list.packets),
+            fill: self.packets.store.list.bits,
         }
     }
 }
@@ -72,7 +75,7 @@ impl ItemRest for TelegramRest<PacketList> {
 /// unfinished variable.
 #[derive(Drop)]
 pub struct TelegramReader {
-    reader: ItemReader<TelegramRest<PacketList>>,
+    reader: ItemReader<TelegramRest<TelegramStore>>,
 }
 
 impl Model for TelegramReader {
@@ -91,7 +94,8 @@ impl TelegramReader {
     pub fn new(alloc: Global, size: Size) -> Self
         ensures { result ≡ record { size = size; progress = reading [] } }
     {
-        let rest = TelegramRest::new(size, PacketList::new(alloc));
+        let list = PacketList::new(alloc);
+        let rest = TelegramRest::new(size, TelegramStore { list });
         TelegramReader {
             reader: ItemReader::new(size, rest),
         }

@@ -6,6 +6,7 @@ ghost use Rattle.etcs_vars.specs.Reading.{kept, Viable};
 ghost use Rattle.etcs_vars.specs.declared.var.Var.{Var};
 ghost use Rattle.etcs_vars.specs.declared.var.Var.TheVariants.{FILL, PAD};
 ghost use Rattle.etcs_vars.proofs.Languages.{Same};
+ghost use Rattle.etcs_tables.specs.declared.row.Way.TheVariants.{ToTrain};
 ghost use Rattle.etcs_reader.specs.Rests.{Goes, Starts, LeapsBy};
 ghost use Rattle.etcs_telegram.specs.declared.size.Size.{Size};
 ghost use Rattle.etcs_telegram.specs.Telegrams.{TelegramLanguage};
@@ -62,6 +63,7 @@ fn behind_pad(left: usize) -> Phase
 impl<S: PacketStore> TelegramRest<S> {
     /// All of a telegram of this size, and a store that holds no packet.
     pub(crate) fn new(size: Size, store: S) -> TelegramRest<S>
+        requires way { ToTrain ≡ S.WAY }
         requires none { S.holds store [] [] [] }
         ensures size { result.size ≡ size }
         ensures store { result.packets.store ≡ store }

@@ -6,7 +6,7 @@ use Rattle.etcs_vars.specs.Reading.{Reading, spelled}
 use Rattle.etcs_vars.specs.Reading as sent
 use Rattle.etcs_vars.proofs.Sent.{length-sent}
 use Rattle.etcs_tables.specs.declared.row.Way.{Way}
-use Rattle.etcs_tables.specs.declared.row.Way.TheVariants.{ToTrain}
+use Rattle.etcs_tables.specs.declared.row.Way.TheVariants.{ToTrain, ToTrack}
 use Rattle.etcs_tables.specs.Frames.{frame_bits, head_bits, directed}
 use Rattle.etcs_packets.specs.PacketValues.{PacketValue, marker, typed, kept, bits_to, bits_of}
 use Rattle.etcs_packets.specs.PacketReadings.{in_frame, reading_to, frame, packet_reading}
@@ -16,12 +16,15 @@ use Rattle.etcs_packets.specs.PacketReadings.{in_frame, reading_to, frame, packe
 -- a frame is what is in front of L_PACKET, and L_PACKET
 pub frame_is : (way : Way) → frame_bits way ≡ head_bits way + 13
 frame_is ToTrain = refl
+frame_is ToTrack = refl
 
 pub length-directed : (way : Way) (dir : ℕ) (r : Reading) → 8 + length (spelled (directed way dir r)) ≡ head_bits way + length (spelled r)
 length-directed ToTrain dir r = omega (arith, length-sent Q_DIR dir r)
+length-directed ToTrack dir r = refl
 
 pub directed-append : (way : Way) (dir : ℕ) (r q : Reading) → directed way dir r ++ q ≡ directed way dir (r ++ q)
 directed-append ToTrain dir r q = refl
+directed-append ToTrack dir r q = refl
 
 pub in_frame-append : (way : Way) (nid dir bits : ℕ) (r q : Reading) → in_frame way nid dir bits r ++ q ≡ in_frame way nid dir bits (r ++ q)
 in_frame-append way nid dir bits r q = ap (λ (t : Reading). (NID_PACKET, nid) ∷ t) (directed-append way dir ((L_PACKET, frame_bits way + bits) ∷ r) q)

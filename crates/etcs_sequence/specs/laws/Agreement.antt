@@ -8,7 +8,7 @@ use Rattle.etcs_vars.specs.Reading.{Sent, Reading, spelled, kept}
 use Rattle.etcs_vars.proofs.Prefixes.{admits_parts}
 use Rattle.etcs_vars.proofs.Apart.{Agree, AllFit, Agree-append, AllFit-append}
 use Rattle.etcs_vars.proofs.Walk.{Regular}
-use Rattle.etcs_tables.specs.declared.row.Way.TheVariants.{ToTrain}
+use Rattle.etcs_tables.specs.declared.row.Way.TheVariants.{ToTrain, ToTrack}
 use Rattle.etcs_rows.specs.declared.frames.Carrier.{Carrier}
 use Rattle.etcs_rows.specs.declared.frames.Carrier.TheVariants.{Telegram, Message}
 use Rattle.etcs_tables.specs.Rows.{row_to}
@@ -46,6 +46,7 @@ same_number v n m e = ap (λ (p : Sent). p.1) e
 -- so do directions, where what follows them does
 directions_agree : (way : Way) (dir dir' : ℕ) (a b : Reading) → Agree a b → Agree (directed way dir a) (directed way dir' b)
 directions_agree ToTrain dir dir' a b h = (refl, λ e. h)
+directions_agree ToTrack dir dir' a b h = h
 
 -- frames agree, and where they are one so do their bodies
 frames_agree : (way : Way) (nid nid' dir dir' bits bits' : ℕ) (a b : Reading) → (nid ≡ nid' → bits ≡ bits' → Agree a b) → Agree (in_frame way nid dir bits a) (in_frame way nid' dir' bits' b)
@@ -81,6 +82,7 @@ packet_agree way (packets.kept nid dir b) (packets.kept nid' dir' b') hv hu =
 -- a frame's numbers fit
 direction_fit : (way : Way) (dir : ℕ) (a : Reading) → IsTrue (is_direction way dir) → AllFit a → AllFit (directed way dir a)
 direction_fit ToTrain dir a d fit = ((admits_parts Q_DIR dir d).1, fit)
+direction_fit ToTrack dir a d fit = fit
 
 frame_fit : (way : Way) (nid dir bits : ℕ) (a : Reading) → IsTrue (is_framed way nid) → IsTrue (is_direction way dir) → bits ≤ kept_limit way → AllFit a → AllFit (in_frame way nid dir bits a)
 frame_fit way nid dir bits a n d b fit = (framed_small way nid n, direction_fit way dir ((L_PACKET, frame_bits way + bits) ∷ a) d (omega (arith, b, (frame_between way).1), fit))

@@ -12,7 +12,7 @@ use Rattle.etcs_tables.specs.Rows.{row_to}
 use Rattle.etcs_tables.specs.Frames.{is_kept, kept_limit, is_framed, is_direction}
 use Rattle.etcs_tables.specs.declared.row.Way.{Way}
 use Rattle.etcs_rows.proofs.PlaceLemmas.{and_both}
-use Rattle.etcs_flat.specs.laws.FlatLaws.{none_both, number_fine, fine_number}
+use Rattle.etcs_flat.specs.laws.FlatLaws.{none_both}
 use Rattle.etcs_flat.specs.Others.{other_fault, direction_fault}
 use Rattle.etcs_flat.specs.laws.OtherLaws.{other_short}
 use Rattle.etcs_sequence.specs.laws.Framed.{framed_parts}
@@ -22,10 +22,10 @@ by_test true e h = refl
 by_test false e h = absurd cc
 
 direction_fine : (way : Way) (dir : ℕ) → direction_fault way dir ≡ None → IsTrue (is_direction way dir)
-direction_fine ToTrain dir h = number_fine Q_DIR dir h
+direction_fine way dir h = by_test (is_direction way dir) (NotAdmitted Q_DIR) h
 
 fine_direction : (way : Way) (dir : ℕ) → IsTrue (is_direction way dir) → direction_fault way dir ≡ None
-fine_direction ToTrain dir h = fine_number Q_DIR dir h
+fine_direction way dir h = rw h refl
 
 pub kept_parts : (way : Way) (nid dir bits : ℕ) → other_fault way nid dir bits ≡ None → IsTrue (is_kept way nid) × IsTrue (is_direction way dir) × (bits ≤ kept_limit way)
 kept_parts way nid dir bits fine =

@@ -1,8 +1,9 @@
-use Rattle.std.proofs.Common.{◌≡◌, ℕ, ◌++◌, ◌∷◌, [], refl, subst, arith}
+use Rattle.std.proofs.Common.{◌≡◌, ℕ, ◌++◌, ◌∷◌, [], refl, ap, subst, ◌∙◌, arith}
 use Rattle.std.proofs.Math.Logic.{∥∥₁_map}
 use Rattle.etcs_bits.specs.Bits.{num, part, bits}
 use Rattle.etcs_bits.proofs.Positions.{length-bits}
 use Rattle.etcs_vars.specs.declared.var.Var.TheVariants.{NID_PACKET}
+use Rattle.etcs_rows.specs.Frames.{way_of}
 use Rattle.etcs_sequence.proofs.LeapLemmas.{closing_goes, closing_held, closing_bits}
 use Rattle.etcs_sequence.proofs.packets.PacketsRest.leap_closing.Goals as goal
 
@@ -25,7 +26,7 @@ invariant_of-self g c =
     let n = c.from-number.result in
     let H = g.S.PacketStore.holds c.args.self.now.store in
     let held = closing_held s.carrier t.carrier s.stage t.stage n H c.requires.stage c.pass_number.ensures.moved.same c.pass_number.ensures.here in
-    record { held = ∥∥₁_map c.args.self.now.held (λ old closed. let h = old (rw c.requires.stage refl) in (h.0 ++ (NID_PACKET, n) ∷ [], held h.0 h.1)) }
+    record { way = ap way_of c.pass_number.ensures.moved.same ∙ c.args.self.now.way; held = ∥∥₁_map c.args.self.now.held (λ old closed. let h = old (rw c.requires.stage refl) in (h.0 ++ (NID_PACKET, n) ∷ [], held h.0 h.1)) }
 
 pub returns-clause-some : goal.returns-clause-some
 returns-clause-some g c =

@@ -5,6 +5,7 @@ use Rattle.etcs_bits.proofs.Positions.{length-bits}
 use Rattle.etcs_bits.proofs.Lists.{length-part}
 use Rattle.etcs_vars.specs.declared.var.Var.TheVariants.{OTHER_DATA}
 use Rattle.etcs_vars.specs.Reading.{Reading, kept}
+use Rattle.etcs_rows.specs.Frames.{way_of}
 use Rattle.etcs_sequence.proofs.Wholes.{spelled_kept}
 use Rattle.etcs_sequence.proofs.PacketLemmas.{event_held, more_held}
 use Rattle.etcs_sequence.proofs.LeapLemmas.{kept_some, kept_fits, kept_viable, kept_goes}
@@ -58,7 +59,7 @@ finish-requires g c =
     let H = g.S.PacketStore.holds c.args.self.now.store in
     let M = g.S.PacketStore.holds c.bits.new.self in
     let here = λ (f : List ℕ) (k : List Bool) (h : Reading). c.pass_bits-event.ensures.here f k t h size in
-    ∥∥₁_map c.args.self.now.held (λ old. let w = old (rw c.requires.stage refl) in event_held s.carrier s.stage c.pass_bits-event.new.self.stage F K p c.pass_bits-event.result H M c.in-Ok.ensures.ok here w.0 w.1)
+    ∥∥₁_map c.args.self.now.held (λ old. let w = old (rw c.requires.stage refl) in event_held g.S.PacketStore.WAY s.carrier c.args.self.now.way s.stage c.pass_bits-event.new.self.stage F K p c.pass_bits-event.result H M c.in-Ok.ensures.ok here w.0 w.1)
 
 -- how many bits are kept
 many : (g : Over) (c : In-Ok-finish g) → length c.bits_at.result ≡ c.min-count.result
@@ -74,12 +75,17 @@ kept_held g c =
     let H = g.S.PacketStore.holds c.args.self.now.store in
     let M = g.S.PacketStore.holds c.bits.new.self in
     let here = λ (f : List ℕ) (k : List Bool) (h : Reading). c.pass_bits-event.ensures.here f k t h size in
-    more_held s.carrier s.stage c.pass_bits-event.new.self.stage (λ (f : List ℕ). f) (λ (k : List Bool). k ++ t) (kept OTHER_DATA t) c.pass_bits-event.result H M c.in-Ok.ensures.ok here (g.S.PacketStore.holds c.finish.new.store) c.pass_bits-event.new.self.carrier (c.pass_bits-event.ensures.moved t size).same c.in-Ok-finish.ensures.ok
+    more_held g.S.PacketStore.WAY s.carrier c.args.self.now.way s.stage c.pass_bits-event.new.self.stage (λ (f : List ℕ). f) (λ (k : List Bool). k ++ t) (kept OTHER_DATA t) c.pass_bits-event.result H M c.in-Ok.ensures.ok here (g.S.PacketStore.holds c.finish.new.store) c.pass_bits-event.new.self.carrier (c.pass_bits-event.ensures.moved t size).same c.in-Ok-finish.ensures.ok
 
 pub invariant_of-self-in-Ok-finish : goal.invariant_of-self-in-Ok-finish
 invariant_of-self-in-Ok-finish g c =
     let held = kept_held g (goal.at.invariant_of-self-in-Ok-finish g c).In-Ok-finish in
-    record { held = ∥∥₁_map c.args.self.now.held (λ old closed. let w = old (rw c.requires.stage refl) in (w.0 ++ kept OTHER_DATA c.bits_at.result, held w.0 w.1)) }
+    record { way = ap way_of (c.pass_bits-event.ensures.moved c.bits_at.result (many g (goal.at.invariant_of-self-in-Ok-finish g c).In-Ok-finish)).same ∙ c.args.self.now.way; held = ∥∥₁_map c.args.self.now.held (λ old closed. let w = old (rw c.requires.stage refl) in (w.0 ++ kept OTHER_DATA c.bits_at.result, held w.0 w.1)) }
+
+pub invariant_of-self-in-Err-finish-clause-way : goal.invariant_of-self-in-Err-finish-clause-way
+invariant_of-self-in-Err-finish-clause-way g c =
+    let size = ap length c.bits_at.ensures ∙ length-part c.args.at c.min-count.result (bits c.args.piece.now) (omega (arith, c.requires.inside, c.min-count.ensures, length-bits c.args.piece.now)) in
+    ap way_of (c.close-in-Err-finish.ensures.carrier ∙ (c.pass_bits-event.ensures.moved c.bits_at.result size).same) ∙ c.args.self.now.way
 
 pub returns-in-Ok-finish-clause-some : goal.returns-in-Ok-finish-clause-some
 returns-in-Ok-finish-clause-some g c =

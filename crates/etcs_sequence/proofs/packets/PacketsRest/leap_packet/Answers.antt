@@ -1,11 +1,11 @@
 use Rattle.std.proofs.Common.{◌≡◌, ◌++◌, ◌+◌, ◌-◌, ◌≤◌, length, refl, sym, ap, subst, ◌∙◌, arith}
 use Rattle.std.proofs.Math.Logic.{∥∥₁_map, ∥∥₁_prop}
+use mathlib.Core.HLevel.{Discrete, hedberg}
 use Rattle.etcs_bits.specs.Bits.{part, bits}
 use Rattle.etcs_bits.proofs.Lists.{length-part}
 use Rattle.etcs_tables.specs.declared.row.Way.{Way}
-use Rattle.etcs_tables.specs.declared.row.Way.TheVariants.{ToTrain}
+use Rattle.etcs_tables.specs.declared.row.Way.TheVariants.{ToTrain, ToTrack}
 use Rattle.etcs_tables.specs.Frames.{frame_bits, kept_limit}
-use Rattle.etcs_tables.specs.Layouts.{ROW_LIMIT}
 use Rattle.etcs_packets.specs.PacketReadings.{reading_to}
 use Rattle.etcs_packets.specs.laws.PacketReadings.{frame_is}
 use Rattle.etcs_rows.specs.Frames.{way_of}
@@ -18,9 +18,15 @@ use Rattle.etcs_sequence.proofs.packets.PacketsRest.leap_packet.Goals as goal
 use Rattle.etcs_sequence.proofs.packets.PacketsRest.leap_packet.Goals.{In-Ok-true}
 use Rattle.etcs_sequence.specs.laws.Framed.{frame_between}
 
--- a store's packets go to the train
-most_bits : (way : Way) → kept_limit way ≤ ROW_LIMIT
-most_bits ToTrain = omega arith
+-- two ways are the same in one way
+two_ways : Discrete Way
+two_ways ToTrain ToTrain = yes refl
+two_ways ToTrain ToTrack = no (λ e. absurd cc)
+two_ways ToTrack ToTrain = no (λ e. absurd cc)
+two_ways ToTrack ToTrack = yes refl
+
+ways_alike : (a b : Way) (p q : a ≡ b) → p ≡ q
+ways_alike a b p q = hedberg two_ways a b p q
 
 pub overflow_sub-len : goal.overflow_sub-len
 overflow_sub-len g c = rw (c.frame_bits-frame.ensures.bits, c.way-way.ensures) c.in-Some.ensures.least
@@ -52,7 +58,7 @@ whole-requires g c =
     let frame = c.frame_bits-frame.ensures.bits ∙ ap frame_bits c.way-way.ensures in
     let inside : c.args.at + c.frame_bits-frame.result + (c.in-Some.len - c.frame_bits-frame.result) ≤ length (bits c.args.piece.now) = omega (arith, l.least, l.within, frame) in
     let size = ap length c.bits_at.ensures ∙ length-part (c.args.at + c.frame_bits-frame.result) (c.in-Some.len - c.frame_bits-frame.result) (bits c.args.piece.now) inside in
-    let limit = most_bits (way_of s.carrier) in
+    let limit : kept_limit (way_of s.carrier) ≡ kept_limit g.S.PacketStore.WAY = ap kept_limit c.args.self.now.way in
     omega (arith, size, l.room, s.small, frame, limit)
 
 -- the packet that lies whole in the piece
@@ -67,8 +73,8 @@ taken g c =
     let H = g.S.PacketStore.holds c.args.self.now.store in
     let H' = g.S.PacketStore.holds c.whole.new.self in
     let (v, (t, (is, b))) = e.packet yes in
-    let frame : FrameAt (way_of s.carrier) c.number_at-nid.result c.direction_at-dir.result c.in-Some.len c.args.at xs = record { least = l.least; number = c.number_at-nid.ensures.bits; direction = rw c.way-way.ensures at c.direction_at-dir.ensures; long = l.bits } in
-    whole_at s.carrier H H' xs c.args.at c.in-Some.len c.number_at-nid.result c.direction_at-dir.result frame l.within (λ vs u h t' is' b'. e.held yes vs u h t' is' (b' ∙ sym same)) v t is (b ∙ same)
+    let frame : FrameAt (way_of s.carrier) c.number_at-nid.result c.direction_at-dir.result c.in-Some.len c.args.at xs = record { least = l.least; number = c.number_at-nid.ensures.bits; direction = rw c.way-way.ensures at c.direction_at-dir.ensures.bits; long = l.bits } in
+    whole_at g.S.PacketStore.WAY s.carrier c.args.self.now.way H H' xs c.args.at c.in-Some.len c.number_at-nid.result c.direction_at-dir.result frame l.within (λ vs u h t' is' b'. e.held yes vs u h t' is' (b' ∙ sym same)) v t is (b ∙ same)
 
 pub invariant_of-self : goal.invariant_of-self
 invariant_of-self g c =
@@ -79,12 +85,12 @@ invariant_of-self g c =
     let w = taken g (goal.at.invariant_of-self g c).In-Ok-true in
     let moved = c.skip.ensures.moved w.packet w.carried w.long in
     let held = leapt_held s.carrier c.skip.new.self.carrier H H' xs c.args.at c.in-Some.len s.stage c.skip.new.self.stage w c.requires.stage moved.same c.skip.ensures.here in
-    record { held = ∥∥₁_map c.args.self.now.held (λ old closed. let h = old (rw c.requires.stage refl) in (h.0 ++ reading_to (way_of s.carrier) w.packet, held h.0 h.1)) }
+    record { way = ap way_of moved.same ∙ c.args.self.now.way; held = ∥∥₁_map c.args.self.now.held (λ old closed. let h = old (rw c.requires.stage refl) in (h.0 ++ reading_to (way_of s.carrier) w.packet, held h.0 h.1)) }
 
 pub invariant_of-self-in-Ok-false : goal.invariant_of-self-in-Ok-false
 invariant_of-self-in-Ok-false g c =
     let e = c.in-Ok-false.ensures.none c.in-Ok-false.field-0-test in
-    record { held = rw e c.args.self.now.held }
+    record { way = c.args.self.now.way; held = rw e c.args.self.now.held }
 
 pub returns-in-Ok-true-clause-some : goal.returns-in-Ok-true-clause-some
 returns-in-Ok-true-clause-some g c =
@@ -111,7 +117,7 @@ pub returns-in-Ok-false-clause-none : goal.returns-in-Ok-false-clause-none
 returns-in-Ok-false-clause-none g c =
     let r = c.args.self.now in
     let e = c.in-Ok-false.ensures.none c.in-Ok-false.field-0-test in
-    λ none. subst (λ (store : g.row.S.Denot). (h : held-type g.row.S.Denot g.S.PacketStore r.left store) → ◌≡◌ {A = PacketsRest g.row.S.Denot g.S.PacketStore} (record { left = r.left; store = store; held = h }) r) (sym e) (λ h i. record { left = r.left; store = r.store; held = ∥∥₁_prop h r.held i }) _
+    λ none. subst (λ (store : g.row.S.Denot). (w : way_of r.left.carrier ≡ g.S.PacketStore.WAY) (h : held-type g.row.S.Denot g.S.PacketStore r.left store w) → ◌≡◌ {A = PacketsRest g.row.S.Denot g.S.PacketStore} (record { left = r.left; store = store; way = w; held = h }) r) (sym e) (λ w h i. record { left = r.left; store = r.store; way = ways_alike (way_of r.left.carrier) g.S.PacketStore.WAY w r.way i; held = ∥∥₁_prop h r.held i }) _ _
 
 pub returns-in-Err-clause-viable : goal.returns-in-Err-clause-viable
 returns-in-Err-clause-viable g c =

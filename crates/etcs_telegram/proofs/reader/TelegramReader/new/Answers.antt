@@ -1,5 +1,5 @@
 use Rattle.etcs_telegram.proofs.Reading.{telegrams}
 use Rattle.etcs_telegram.proofs.reader.TelegramReader.new.Goals as goal
 
-pub new-requires-2-clause-readable : goal.new-requires-2-clause-readable
-new-requires-2-clause-readable c = telegrams c.args.size
+pub new-requires-clause-readable : goal.new-requires-clause-readable
+new-requires-clause-readable c = telegrams c.args.size

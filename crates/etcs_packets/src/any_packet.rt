@@ -1,0 +1,236 @@
+//! Any packet of one way.
+
+ghost use Rattle.std.specs.Prelude.{◌≡◌, ◌+◌, ◌≤◌, ◌<◌, ◌^◌, length, map, All, IsTrue, None, OnOk, OnErr, IfOk, IfSome, IfNone, IsNone, OnSome};
+ghost use Rattle.etcs_bits.specs.Bits.{bits, replaced};
+ghost use Rattle.etcs_vars.specs.Reading.{Reading, numbers, spelled};
+ghost use Rattle.etcs_tables.specs.Frames.{is_marker};
+ghost use Rattle.etcs_tables.specs.Typed.{IsTyped, IsFramed};
+ghost use Rattle.etcs_flat.specs.Others.{other_fault};
+ghost use Rattle.etcs_packets.specs.PacketValues.{marker, kept, nid_of, dir_of, kept_of, variables_of, IsTypedOf, bits_to, IsPacketTo};
+ghost use Rattle.etcs_packets.specs.PacketReadings.{reading_to, readings_to};
+
+use crate::packet::Packet;
+use crate::{parts, write};
+use etcs_bits::{BitSlice, Bits};
+use etcs_flat::Other;
+use etcs_tables::Way;
+use etcs_vars::parts::VarSink;
+use std::alloc::{AllocError, Global};
+
+/// A packet of one way, of any number: what readers and messages ask of it.
+pub trait AnyPacket: Sized + Drop {
+    ghost use Rattle.etcs_tables.specs.declared.row.Way.{Way};
+    ghost use Rattle.etcs_packets.specs.PacketValues.{Form};
+
+    /// Which way it goes.
+    const WAY: Way;
+
+    ghost WAY: { Way };
+
+    /// What it stands for, and what its own type says of it.
+    ghost form: { Self → Form };
+
+    /// The packet is one that its own type admits, and stands for a packet.
+    fn hold(&self)
+        ensures made { (form self.now).made }
+        ensures packet { IsPacketTo WAY (form self.now).value };
+
+    /// NID_PACKET.
+    fn number_of(&self) -> u8
+        ensures { result ≡ nid_of (form self.now).value };
+
+    /// Q_DIR, where there is one; to the track it is 0, and isn't sent.
+    fn direction(&self) -> Option<u8>
+        ensures { result ≡ dir_of (form self.now).value };
+
+    /// The bits after L_PACKET of a packet that is kept as bits.
+    fn kept_bits(&self) -> Option<BitSlice<'_>>
+        ensures { result ≡ kept_of (form self.now).value };
+
+    /// Sends the variables after the frame, in order: of packet 0 without a frame its NID_VBCMK, of a packet that is
+    /// kept as bits none. Takes no memory of its own.
+    ///
+    /// # Errors
+    ///
+    /// That of the sink.
+    fn send_variables<S: VarSink>(&self, out: &mut S) -> Result<(), AllocError>
+        ensures ok { OnOk result (out.new ≡ S.with out.old (variables_of (form self.now).value)) }
+        ensures err { OnErr result (S.failed out.old out.new) };
+
+    /// How many bits it takes with its frame.
+    fn full_bits(&self) -> usize
+        ensures bits { result ≡ bits_to WAY (form self.now).value }
+        ensures small { result ≤ 8191 };
+
+    /// Writes it with its frame over the bits from `at` on.
+    fn put(&self, out: &mut [u8], at: usize)
+        requires room { at + bits_to WAY (form self.now).value ≤ length (bits out.old) }
+        requires small { at + bits_to WAY (form self.now).value < 2 ^ 64 }
+        ensures { bits out.new ≡ replaced at (spelled (reading_to WAY (form self.now).value)) (bits out.old) };
+
+    /// The typed packet of this number and direction with these numbers after L_PACKET, if there is one.
+    ///
+    /// # Errors
+    ///
+    /// `AllocError` where there is no memory.
+    fn of_fields(
+        alloc: Global,
+        nid: u8,
+        dir: u8,
+        fields: &[u64],
+    ) -> Result<Option<Self>, AllocError>
+        ensures made { IfOk result (λ o. IfSome o (λ p. (form p).made)) }
+        ensures some { IfOk result (λ o. IfSome o (λ p. IsTypedOf nid dir (form p).value × (numbers (variables_of (form p).value) ≡ fields.now))) }
+        ensures none { IfOk result (λ o. IsNone o → IsTyped WAY nid dir fields.now → ⊥) };
+
+    /// The typed packet of this number and direction with these bits after L_PACKET, if there is one.
+    ///
+    /// # Errors
+    ///
+    /// `AllocError` where there is no memory.
+    fn of_bits(
+        alloc: Global,
+        nid: u8,
+        dir: u8,
+        body: BitSlice<'_>,
+    ) -> Result<Option<Self>, AllocError>
+        ensures made { IfOk result (λ o. IfSome o (λ p. (form p).made)) }
+        ensures some { IfOk result (λ o. IfSome o (λ p. IsTypedOf nid dir (form p).value × (spelled (variables_of (form p).value) ≡ body.entry))) }
+        ensures none { IfOk result (λ o. IsNone o → (r : Reading) → IsFramed WAY nid dir r → spelled r ≡ body.entry → ⊥) };
+
+    /// The packet of this number and direction whose bits after L_PACKET are kept.
+    fn of_kept(nid: u8, dir: u8, body: Bits) -> Self
+        requires { other_fault WAY nid dir (length body) ≡ None }
+        ensures made { (form result).made }
+        ensures value { (form result).value ≡ kept nid dir body };
+
+    /// Packet 0 without a frame, with this number.
+    fn of_marker(number: u8) -> Self
+        requires { IsTrue (is_marker WAY number) }
+        ensures made { (form result).made }
+        ensures value { (form result).value ≡ marker number };
+
+    /// An equal packet.
+    ///
+    /// # Errors
+    ///
+    /// `AllocError` where there is no memory.
+    fn copy(&self, alloc: Global) -> Result<Self, AllocError>
+        ensures { IfOk result (λ p. p ≡ self.now) };
+
+    /// No two packets stand for one value.
+    ghost one: { (p q : Self) → (form p).made → (form q).made → (form p).value ≡ (form q).value → p ≡ q };
+}
+
+/// Writes packets one after another over the bits from `at` on, and answers the bit after them.
+pub fn write_all<P: AnyPacket>(out: &mut [u8], at: usize, packets: &[P]) -> usize
+    requires room { at + length (spelled (readings_to P.WAY (map (λ p. (P.form p).value) packets.now))) ≤ length (bits out.old) }
+    requires small { at + length (spelled (readings_to P.WAY (map (λ p. (P.form p).value) packets.now))) < 2 ^ 64 }
+    ensures end { result ≡ at + length (spelled (readings_to P.WAY (map (λ p. (P.form p).value) packets.now))) }
+    ensures bits { bits out.new ≡ replaced at (spelled (readings_to P.WAY (map (λ p. (P.form p).value) packets.now))) (bits out.old) }
+{
+    let mut place = at;
+    for packet in packets {
+        let len = packet.full_bits();
+        packet.put(out, place);
+        place += len;
+    }
+    place
+}
+
+/// How many of `room` bits packets leave, one after another, or nothing where they don't fit.
+pub fn room_after<P: AnyPacket>(room: usize, packets: &[P]) -> Option<usize>
+    ensures left { IfSome result (λ left. length (spelled (readings_to P.WAY (map (λ p. (P.form p).value) packets.now))) + left ≡ room) }
+    ensures made { OnSome result (All (λ p. (P.form p).made) packets.now) }
+    ensures packets { OnSome result (All (IsPacketTo P.WAY) (map (λ p. (P.form p).value) packets.now)) }
+    ensures none { IfNone result (room < length (spelled (readings_to P.WAY (map (λ p. (P.form p).value) packets.now)))) }
+{
+    let mut left = room;
+    for packet in packets {
+        packet.hold();
+        let bits = packet.full_bits();
+        if left < bits {
+            return None;
+        }
+        left -= bits;
+    }
+    Some(left)
+}
+
+impl AnyPacket for Packet {
+    ghost use Rattle.etcs_tables.specs.declared.row.Way.TheVariants.{ToTrain};
+    ghost use Rattle.etcs_packets.specs.PacketValues.{form};
+    ghost use Rattle.etcs_packets.specs.laws.OnePacket.{one_packet};
+
+    const WAY: Way = Way::ToTrain;
+
+    ghost WAY = { ToTrain };
+
+    ghost form = { form };
+
+    ghost one = { one_packet };
+
+    fn hold(&self) {
+        parts::holds(self);
+    }
+
+    fn number_of(&self) -> u8 {
+        self.nid()
+    }
+
+    fn direction(&self) -> Option<u8> {
+        parts::dir(self)
+    }
+
+    fn kept_bits(&self) -> Option<BitSlice<'_>> {
+        parts::kept_bits(self)
+    }
+
+    fn send_variables<S: VarSink>(&self, out: &mut S) -> Result<(), AllocError> {
+        parts::send(self, out)
+    }
+
+    fn full_bits(&self) -> usize {
+        self.bit_len()
+    }
+
+    fn put(&self, out: &mut [u8], at: usize) {
+        write::write_packet(out, at, self);
+    }
+
+    fn of_fields(
+        alloc: Global,
+        nid: u8,
+        dir: u8,
+        fields: &[u64],
+    ) -> Result<Option<Packet>, AllocError> {
+        parts::from_fields(alloc, nid, dir, fields)
+    }
+
+    fn of_bits(
+        alloc: Global,
+        nid: u8,
+        dir: u8,
+        body: BitSlice<'_>,
+    ) -> Result<Option<Packet>, AllocError> {
+        parts::from_bits(alloc, nid, dir, body)
+    }
+
+    fn of_kept(nid: u8, dir: u8, body: Bits) -> Packet {
+        match Other::new(nid, dir, body) {
+            Ok(other) => Packet::Other(other),
+            Err(_) => unreachable!(),
+        }
+    }
+
+    fn of_marker(number: u8) -> Packet {
+        match etcs_flat::parts::marker(number) {
+            Ok(marker) => Packet::VbcMarker(marker),
+            Err(_) => unreachable!(),
+        }
+    }
+
+    fn copy(&self, alloc: Global) -> Result<Packet, AllocError> {
+        self.try_clone(alloc)
+    }
+}

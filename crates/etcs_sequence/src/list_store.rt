@@ -1,0 +1,59 @@
+//! Stores that keep their packets in a list.
+
+ghost use Rattle.std.specs.Prelude.{◌≡◌, ℕ, Bool, List, []};
+ghost use Rattle.etcs_packets.specs.PacketValues.{PacketValue};
+ghost use Rattle.etcs_sequence.specs.Held.{list_holds};
+ghost use Rattle.etcs_sequence.specs.declared.list.PacketList.{PacketList};
+
+use crate::list::PacketList;
+use crate::store::PacketStore;
+use etcs_packets::parts::AnyPacket;
+use std::alloc::Global;
+
+/// A store that keeps its packets in a list.
+pub trait ListStore<P: AnyPacket>: PacketStore + Drop {
+    ghost list: { Self → PacketList P };
+
+    /// Nothing yet. Takes no memory.
+    fn empty(alloc: Global) -> Self
+        ensures { Self.holds result [] [] [] };
+
+    /// The packets.
+    fn list(&self) -> &PacketList<P>
+        ensures { result.now ≡ list self.now };
+
+    /// The packets.
+    fn into_list(self) -> PacketList<P>
+        ensures { result ≡ list self };
+
+    /// They go the store's way.
+    ghost way_is: { P.WAY ≡ Self.WAY };
+
+    /// What it holds is in the list.
+    ghost listed: { (s : Self) (vs : List PacketValue) (f : List ℕ) (k : List Bool) → Self.holds s vs f k → list_holds P.form (list s).packets.items (list s).numbers.items (list s).bits vs f k };
+}
+
+impl<P: AnyPacket> ListStore<P> for PacketList<P> {
+    ghost use Rattle.std.specs.Prelude.{refl};
+
+    ghost list = { λ s. s };
+
+    #[inline(always)]
+    fn empty(alloc: Global) -> PacketList<P> {
+        PacketList::new(alloc)
+    }
+
+    #[inline(always)]
+    fn list(&self) -> &PacketList<P> {
+        self
+    }
+
+    #[inline(always)]
+    fn into_list(self) -> PacketList<P> {
+        self
+    }
+
+    ghost way_is = { refl };
+
+    ghost listed = { λ s vs f k h. h };
+}

@@ -1,0 +1,7 @@
+use Rattle.etcs_tables.specs.declared.row.Way.TheVariants.{ToTrack}
+use Rattle.etcs_flat.specs.laws.TableLaws.{table_reading}
+use Rattle.etcs_track.proofs.train_flat.TrainFlatVariables.send.Goals as goal
+
+pub returns-clause-ok : goal.returns-clause-ok
+returns-clause-ok g c =
+    rw (c.numbers.ensures, table_reading ToTrack g.row.NID c.args.self.now c.table.result.now c.table.ensures.table) at c.send_table.ensures.ok

@@ -1,0 +1,39 @@
+-- What a packet to the track stands for, and what its own type says of it. To the track every packet has the direction
+-- 0, which isn't sent.
+use Rattle.std.specs.Prelude.{◌≡◌, ℕ, List, length, None}
+use Rattle.etcs_vars.specs.Reading.{Reading}
+use Rattle.etcs_tables.specs.declared.row.Way.TheVariants.{ToTrack}
+use Rattle.etcs_flat.specs.Flats.{flat_fault_to, flat_reading_to}
+use Rattle.etcs_flat.specs.Others.{other_fault}
+use Rattle.etcs_packets.specs.PacketValues.{PacketValue, typed, kept, Form, form_of, bits_to, IsPacketTo}
+use Rattle.etcs_packets.specs.PacketReadings.{reading_to}
+use Rattle.etcs_track.specs.Reports.{IsPositionReport, position_report_reading, IsPositionReportTwo, position_report_two_reading}
+use Rattle.etcs_track.specs.declared.train_packet.TrainPacket.{TrainPacket}
+use Rattle.etcs_track.specs.declared.train_packet.TrainPacket.TheVariants.{Report, ReportTwo, Fault, RunningNumber, Other}
+
+abbrev flat_form : ℕ → List ℕ → Form
+flat_form nid ns = form_of (typed nid 0 (flat_reading_to ToTrack nid ns)) (flat_fault_to ToTrack nid 0 ns ≡ None)
+
+abbrev pub track_form : TrainPacket → Form
+track_form (Report p) = form_of (typed 0 0 (position_report_reading p)) (IsPositionReport p)
+track_form (ReportTwo p) = form_of (typed 1 0 (position_report_two_reading p)) (IsPositionReportTwo p)
+track_form (Fault ns) = flat_form 4 ns
+track_form (RunningNumber ns) = flat_form 5 ns
+track_form (Other p) = form_of (kept p.nid 0 p.body) (other_fault ToTrack p.nid 0 (length p.body) ≡ None)
+
+abbrev pub track_value : TrainPacket → PacketValue
+track_value p = (track_form p).value
+
+abbrev pub IsTrackMade : TrainPacket → Type 0
+IsTrackMade p = (track_form p).made
+
+-- how many bits it takes with its frame
+abbrev pub track_bits_of : PacketValue → ℕ
+track_bits_of v = bits_to ToTrack v
+
+abbrev pub IsTrackPacket : PacketValue → Type 0
+IsTrackPacket v = IsPacketTo ToTrack v
+
+-- its variables with its frame
+abbrev pub track_reading : PacketValue → Reading
+track_reading v = reading_to ToTrack v

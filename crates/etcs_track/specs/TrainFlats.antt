@@ -1,0 +1,6 @@
+-- Packets to the track of rows without groups, each its numbers.
+use Rattle.std.specs.Prelude.{ℕ, List}
+
+-- the packet of some numbers, which has no direction of its own
+abbrev pub alone : ℕ → List ℕ → List ℕ
+alone dir ns = ns

@@ -1,0 +1,54 @@
+-- Lemmas about specs/TrackPackets.antt.
+use Rattle.std.proofs.Common.{◌≡◌, ℕ, [], ◌∷◌, ◌++◌, length, Option, None, Some, refl, sym, subst, ◌∙◌}
+use Rattle.std.specs.Prelude.{if◌then◌else◌, nat_le}
+use Rattle.std.proofs.lemmas.Bool.{eqb-true}
+use Rattle.etcs_vars.specs.declared.var.Var.TheVariants.{NID_PACKET, L_PACKET, OTHER_DATA}
+use Rattle.etcs_vars.specs.Reading.{Reading, spelled}
+use Rattle.etcs_vars.specs.Reading as sent
+use Rattle.etcs_vars.specs.Faults.{◌or_else◌}
+use Rattle.etcs_vars.specs.declared.fault.BuildFault.{BuildFault}
+use Rattle.etcs_vars.specs.declared.fault.BuildFault.TheVariants.{NotAdmitted, TooLong}
+use Rattle.etcs_tables.specs.Frames.{is_kept, kept_limit}
+use Rattle.etcs_flat.specs.Others.{direction_fault, other_fault}
+use Rattle.etcs_flat.specs.laws.FlatLaws.{none_both, direction_fine}
+use Rattle.etcs_tables.specs.declared.row.Way.TheVariants.{ToTrack}
+use Rattle.etcs_packets.specs.PacketValues.{PacketValue, nid_of, variables_of}
+use Rattle.etcs_packets.specs.laws.PacketReadings.{bits_are}
+use Rattle.etcs_track.specs.TrainOthers.{TrainOtherValue}
+use Rattle.etcs_track.specs.declared.train_packet.TrainPacket.{TrainPacket}
+use Rattle.etcs_track.specs.declared.train_packet.TrainPacket.TheVariants.{Other}
+use Rattle.etcs_track.specs.TrackPackets.{track_value, track_bits_of, track_reading}
+
+-- ---- A packet is its frame, and then its variables or its kept bits.
+
+abbrev pub frame_of : PacketValue → Reading
+frame_of v = (NID_PACKET, nid_of v) ∷ (L_PACKET, track_bits_of v) ∷ []
+
+pub sent_typed : (p : TrainPacket) → ((o : TrainOtherValue) → p ≡ Other o → ⊥) → frame_of (track_value p) ++ variables_of (track_value p) ≡ track_reading (track_value p)
+sent_typed (Other o) h = absurd (h o refl)
+sent_typed p h = refl
+
+pub sent_kept : (p : TrainPacket) (o : TrainOtherValue) → p ≡ Other o → frame_of (track_value p) ++ sent.kept OTHER_DATA o.body ≡ track_reading (track_value p)
+sent_kept p o e = rw e refl
+
+-- ---- Its bits.
+
+pub track_bits : (v : PacketValue) → length (spelled (track_reading v)) ≡ track_bits_of v
+track_bits v = bits_are ToTrack v
+
+-- ---- A kept packet.
+
+-- the direction of one with which nothing is wrong is 0
+pub kept_undirected : (nid dir bits : ℕ) → other_fault ToTrack nid dir bits ≡ None → dir ≡ 0
+kept_undirected nid dir bits h =
+    let front = if is_kept ToTrack nid then None else Some (NotAdmitted NID_PACKET) in
+    let long = if nat_le bits (kept_limit ToTrack) then None else Some TooLong in
+    let both = none_both (front or_else direction_fault ToTrack dir) long h in
+    eqb-true dir 0 (direction_fine ToTrack dir (none_both front (direction_fault ToTrack dir) both.0).1)
+
+-- so it is one of no direction
+pub kept_alike : (nid dir bits : ℕ) (e : BuildFault) → other_fault ToTrack nid dir bits ≡ None → other_fault ToTrack nid 0 bits ≡ Some e → ⊥
+kept_alike nid dir bits e h k =
+    let same : other_fault ToTrack nid 0 bits ≡ None = subst (λ (d : ℕ). other_fault ToTrack nid d bits ≡ None) (kept_undirected nid dir bits h) h in
+    let bad : ◌≡◌ {A = Option BuildFault} (Some e) None = sym k ∙ same in
+    absurd cc

@@ -1,0 +1,95 @@
+//! What readers and messages ask of a packet.
+
+use crate::parts;
+use crate::train_other::TrainOther;
+use crate::train_packet::TrainPacket;
+use etcs_bits::{BitSlice, Bits};
+use etcs_packets::parts::{AnyPacket, write_variables};
+use etcs_tables::Way;
+use etcs_vars::parts::VarSink;
+use std::alloc::{AllocError, Global};
+
+impl AnyPacket for TrainPacket {
+    ghost use Rattle.etcs_tables.specs.declared.row.Way.TheVariants.{ToTrack};
+    ghost use Rattle.etcs_track.specs.TrackPackets.{track_form};
+    ghost use Rattle.etcs_track.specs.laws.OneTrackPacket.{one_packet};
+
+    const WAY: Way = Way::ToTrack;
+
+    ghost WAY = { ToTrack };
+
+    ghost form = { track_form };
+
+    ghost one = { one_packet };
+
+    fn hold(&self) {
+        parts::holds(self);
+    }
+
+    fn number_of(&self) -> u8 {
+        self.nid()
+    }
+
+    /// No direction is sent: it is 0.
+    fn direction(&self) -> Option<u8> {
+        let _ = self.nid();
+        Some(0)
+    }
+
+    fn kept_bits(&self) -> Option<BitSlice<'_>> {
+        match self {
+            TrainPacket::Other(kept) => Some(kept.body()),
+            _ => None,
+        }
+    }
+
+    fn send_variables<S: VarSink>(&self, out: &mut S) -> Result<(), AllocError> {
+        parts::send(self, out)
+    }
+
+    fn full_bits(&self) -> usize {
+        self.bit_len()
+    }
+
+    #[tactic(auto, using(crate::specs::laws::TrackPackets::track_bits))]
+    fn put(&self, out: &mut [u8], at: usize) {
+        write_variables(out, at, self);
+    }
+
+    fn of_fields(
+        alloc: Global,
+        nid: u8,
+        dir: u8,
+        fields: &[u64],
+    ) -> Result<Option<TrainPacket>, AllocError> {
+        parts::from_fields(alloc, nid, dir, fields)
+    }
+
+    fn of_bits(
+        alloc: Global,
+        nid: u8,
+        dir: u8,
+        body: BitSlice<'_>,
+    ) -> Result<Option<TrainPacket>, AllocError> {
+        parts::from_bits(alloc, nid, dir, body)
+    }
+
+    #[tactic(auto, using(crate::specs::laws::TrackPackets::kept_undirected, crate::specs::laws::TrackPackets::kept_alike))]
+    fn of_kept(nid: u8, dir: u8, body: Bits) -> TrainPacket {
+        let _ = dir;
+        match TrainOther::new(nid, body) {
+            Ok(other) => TrainPacket::Other(other),
+            Err(_) => unreachable!(),
+        }
+    }
+
+    /// To the track packet 0 has a frame.
+    fn of_marker(number: u8) -> TrainPacket {
+        let _ = number;
+        unreachable!()
+    }
+
+    fn copy(&self, alloc: Global) -> Result<TrainPacket, AllocError> {
+        self.try_clone(alloc)
+    }
+}

@@ -1,0 +1,20 @@
+//! Packets to the track: every number that is typed, and all others as bits.
+#![tactic(auto)]
+
+mod any_packet;
+pub mod laws;
+mod located;
+pub mod parts;
+mod position_report;
+mod position_report_two;
+mod sent;
+mod train_flat;
+mod train_other;
+mod train_packet;
+
+pub use located::Located;
+pub use position_report::PositionReport;
+pub use position_report_two::PositionReportTwo;
+pub use train_flat::TrainFlat;
+pub use train_other::TrainOther;
+pub use train_packet::TrainPacket;

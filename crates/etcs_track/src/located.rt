@@ -1,0 +1,395 @@
+//! Where a train is, and what it does.
+
+ghost use Rattle.std.specs.Prelude.{◌≡◌, ◌≤◌, None, Some, IfOk, IfErr, IfSome, IfNone, OnOk, OnErr};
+ghost use Rattle.etcs_track.specs.Locations.{integrity_fault, integrity_reading, integrity_from, integrity_count, level_fault, level_reading, level_from, level_count};
+
+use etcs_bodies::{Numbers, Part, check, check_guard, taken};
+use etcs_vars::parts::{VarSink, Variables};
+use etcs_vars::{BuildFault, Var};
+use std::alloc::{AllocError, Global};
+use std::marker::Model;
+
+/// Where a train is, and what it does (packets 0 and 1 to the track; SUBSET-026, 7.4.3).
+///
+/// Distances are in steps of the packet's Q_SCALE: 0 is 10 cm, 1 is 1 m, 2 is 10 m.
+#[derive(Clone, Copy, Debug, PartialEq, Eq)]
+pub struct Located {
+    d_lrbg: u16,
+    q_dirlrbg: u8,
+    q_dlrbg: u8,
+    l_doubtover: u16,
+    l_doubtunder: u16,
+    q_length: u8,
+    l_trainint: Option<u16>,
+    v_train: u8,
+    q_dirtrain: u8,
+    m_mode: u8,
+    m_level: u8,
+    nid_ntc: Option<u8>,
+}
+
+impl Model for Located {
+    ghost use Rattle.etcs_track.specs.Locations.{LocatedValue, located_value, IsLocated};
+
+    ghost Value = { LocatedValue };
+
+    ghost view = { λ s. located_value s.d_lrbg s.q_dirlrbg s.q_dlrbg s.l_doubtover s.l_doubtunder s.q_length s.l_trainint s.v_train s.q_dirtrain s.m_mode s.m_level s.nid_ntc };
+
+    ghost invariant = { λ s. IsLocated (located_value s.d_lrbg s.q_dirlrbg s.q_dlrbg s.l_doubtover s.l_doubtunder s.q_length s.l_trainint s.v_train s.q_dirtrain s.m_mode s.m_level s.nid_ntc) };
+
+    ghost inverse = { λ s. record { d_lrbg = s.d_lrbg; q_dirlrbg = s.q_dirlrbg; q_dlrbg = s.q_dlrbg; l_doubtover = s.l_doubtover; l_doubtunder = s.l_doubtunder; q_length = s.q_length; l_trainint = s.l_trainint; v_train = s.v_train; q_dirtrain = s.q_dirtrain; m_mode = s.m_mode; m_level = s.m_level; nid_ntc = s.nid_ntc } };
+}
+
+impl Located {
+    ghost use Rattle.etcs_track.specs.Locations.{located_value, located_fault};
+
+    /// Where a train is, and what it does, each argument a variable of SUBSET-026, 7.5:
+    ///
+    /// - `d_lrbg`: D_LRBG, the distance from the balise group referred to, to the train's front, in steps of Q_SCALE.
+    /// - `q_dirlrbg`: Q_DIRLRBG, the train's orientation to that group: 0 reverse, 1 nominal, 2 unknown.
+    /// - `q_dlrbg`: Q_DLRBG, the side of that group on which the front is: 0 reverse, 1 nominal, 2 unknown.
+    /// - `l_doubtover`: L_DOUBTOVER, how much less than measured the train may have run, with the group's inaccuracy,
+    ///   in steps of Q_SCALE.
+    /// - `l_doubtunder`: L_DOUBTUNDER, how much more than measured it may have run, with the group's inaccuracy, in
+    ///   steps of Q_SCALE.
+    /// - `q_length`: Q_LENGTH, what is known of the train's integrity: 0 nothing, 1 confirmed by a device, 2 confirmed
+    ///   by the driver, 3 it is lost.
+    /// - `l_trainint`: L_TRAININT, the length for which it is confirmed, in metres, where Q_LENGTH is 1 or 2.
+    /// - `v_train`: V_TRAIN, the speed, in steps of 5 km/h.
+    /// - `q_dirtrain`: Q_DIRTRAIN, the direction of the movement: 0 reverse, 1 nominal, 2 unknown.
+    /// - `m_mode`: M_MODE, the mode of the on-board equipment, 0 to 15.
+    /// - `m_level`: M_LEVEL, the level that it works in: 0 level 0, 1 a national system, 2 to 4 levels 1 to 3.
+    /// - `nid_ntc`: NID_NTC, the national system, where M_LEVEL is 1.
+    ///
+    /// # Errors
+    ///
+    /// The first that holds, in the order of the arguments:
+    ///
+    /// - `NotAdmitted` with D_LRBG, L_DOUBTOVER, L_DOUBTUNDER or L_TRAININT, above 32,767; with Q_DIRLRBG, Q_DLRBG,
+    ///   Q_LENGTH or Q_DIRTRAIN, above 3; with V_TRAIN, above 127; with M_MODE, above 15; or with M_LEVEL, above 4.
+    /// - `Guard(Q_LENGTH)`, before L_TRAININT, where that is missing and Q_LENGTH is 1 or 2, or is given and Q_LENGTH
+    ///   is another.
+    /// - `Guard(M_LEVEL)`, where NID_NTC is missing and M_LEVEL is 1, or is given and M_LEVEL is another.
+    pub fn new(
+        d_lrbg: u16,
+        q_dirlrbg: u8,
+        q_dlrbg: u8,
+        l_doubtover: u16,
+        l_doubtunder: u16,
+        q_length: u8,
+        l_trainint: Option<u16>,
+        v_train: u8,
+        q_dirtrain: u8,
+        m_mode: u8,
+        m_level: u8,
+        nid_ntc: Option<u8>,
+    ) -> Result<Located, BuildFault>
+        ensures ok { IfOk result (λ p. p ≡ located_value d_lrbg q_dirlrbg q_dlrbg l_doubtover l_doubtunder q_length l_trainint v_train q_dirtrain m_mode m_level nid_ntc) }
+        ensures fits { OnOk result (located_fault (located_value d_lrbg q_dirlrbg q_dlrbg l_doubtover l_doubtunder q_length l_trainint v_train q_dirtrain m_mode m_level nid_ntc) ≡ None) }
+        ensures fault { IfErr result (λ e. located_fault (located_value d_lrbg q_dirlrbg q_dlrbg l_doubtover l_doubtunder q_length l_trainint v_train q_dirtrain m_mode m_level nid_ntc) ≡ Some e) }
+    {
+        check(Var::D_LRBG, u64::from(d_lrbg))?;
+        check(Var::Q_DIRLRBG, u64::from(q_dirlrbg))?;
+        check(Var::Q_DLRBG, u64::from(q_dlrbg))?;
+        check(Var::L_DOUBTOVER, u64::from(l_doubtover))?;
+        check(Var::L_DOUBTUNDER, u64::from(l_doubtunder))?;
+        check_integrity(q_length, l_trainint)?;
+        check(Var::V_TRAIN, u64::from(v_train))?;
+        check(Var::Q_DIRTRAIN, u64::from(q_dirtrain))?;
+        check(Var::M_MODE, u64::from(m_mode))?;
+        check_level(m_level, nid_ntc)?;
+        Ok(Located {
+            d_lrbg,
+            q_dirlrbg,
+            q_dlrbg,
+            l_doubtover,
+            l_doubtunder,
+            q_length,
+            l_trainint,
+            v_train,
+            q_dirtrain,
+            m_mode,
+            m_level,
+            nid_ntc,
+        })
+    }
+
+    /// D_LRBG: the distance from the balise group referred to, to the train's front, in steps of Q_SCALE.
+    pub fn d_lrbg(&self) -> u16
+        ensures { result ≡ self.now.d_lrbg }
+    {
+        self.d_lrbg
+    }
+
+    /// Q_DIRLRBG: the train's orientation to that group: 0 reverse, 1 nominal, 2 unknown.
+    pub fn q_dirlrbg(&self) -> u8
+        ensures { result ≡ self.now.q_dirlrbg }
+    {
+        self.q_dirlrbg
+    }
+
+    /// Q_DLRBG: the side of that group on which the train's front is: 0 reverse, 1 nominal, 2 unknown.
+    pub fn q_dlrbg(&self) -> u8
+        ensures { result ≡ self.now.q_dlrbg }
+    {
+        self.q_dlrbg
+    }
+
+    /// L_DOUBTOVER: how much less than measured the train may have run, in steps of Q_SCALE.
+    pub fn l_doubtover(&self) -> u16
+        ensures { result ≡ self.now.l_doubtover }
+    {
+        self.l_doubtover
+    }
+
+    /// L_DOUBTUNDER: how much more than measured it may have run, in steps of Q_SCALE.
+    pub fn l_doubtunder(&self) -> u16
+        ensures { result ≡ self.now.l_doubtunder }
+    {
+        self.l_doubtunder
+    }
+
+    /// Q_LENGTH: what is known of the train's integrity: 0 nothing, 1 confirmed by a device, 2 confirmed by the driver,
+    /// 3 it is lost.
+    pub fn q_length(&self) -> u8
+        ensures { result ≡ self.now.q_length }
+    {
+        self.q_length
+    }
+
+    /// L_TRAININT: the length for which it is confirmed, in metres.
+    pub fn l_trainint(&self) -> Option<u16>
+        ensures { result ≡ self.now.l_trainint }
+    {
+        self.l_trainint
+    }
+
+    /// V_TRAIN: the speed, in steps of 5 km/h.
+    pub fn v_train(&self) -> u8
+        ensures { result ≡ self.now.v_train }
+    {
+        self.v_train
+    }
+
+    /// Q_DIRTRAIN: the direction of the movement: 0 reverse, 1 nominal, 2 unknown.
+    pub fn q_dirtrain(&self) -> u8
+        ensures { result ≡ self.now.q_dirtrain }
+    {
+        self.q_dirtrain
+    }
+
+    /// M_MODE: the mode of the on-board equipment.
+    pub fn m_mode(&self) -> u8
+        ensures { result ≡ self.now.m_mode }
+    {
+        self.m_mode
+    }
+
+    /// M_LEVEL: the level: 0 level 0, 1 a national system, 2 to 4 levels 1 to 3.
+    pub fn m_level(&self) -> u8
+        ensures { result ≡ self.now.m_level }
+    {
+        self.m_level
+    }
+
+    /// NID_NTC: the national system, where that is the level.
+    pub fn nid_ntc(&self) -> Option<u8>
+        ensures { result ≡ self.now.nid_ntc }
+    {
+        self.nid_ntc
+    }
+}
+
+/// Refuses a Q_LENGTH that isn't admitted, and a length that can't follow it.
+fn check_integrity(q_length: u8, l_trainint: Option<u16>) -> Result<(), BuildFault>
+    ensures ok { OnOk result (integrity_fault q_length l_trainint ≡ None) }
+    ensures fault { IfErr result (λ e. integrity_fault q_length l_trainint ≡ Some e) }
+{
+    check(Var::Q_LENGTH, u64::from(q_length))?;
+    check_guard(
+        Var::Q_LENGTH,
+        q_length == 1 || q_length == 2,
+        l_trainint.is_some(),
+    )?;
+    if let Some(length) = l_trainint {
+        check(Var::L_TRAININT, u64::from(length))?;
+    }
+    Ok(())
+}
+
+/// Refuses an M_LEVEL that isn't admitted, and a national system that can't follow it.
+fn check_level(m_level: u8, nid_ntc: Option<u8>) -> Result<(), BuildFault>
+    ensures ok { OnOk result (level_fault m_level nid_ntc ≡ None) }
+    ensures fault { IfErr result (λ e. level_fault m_level nid_ntc ≡ Some e) }
+{
+    check(Var::M_LEVEL, u64::from(m_level))?;
+    check_guard(Var::M_LEVEL, m_level == 1, nid_ntc.is_some())?;
+    if let Some(system) = nid_ntc {
+        check(Var::NID_NTC, u64::from(system))?;
+    }
+    Ok(())
+}
+
+/// Q_LENGTH, and where it is 1 or 2 the length, that the numbers begin with.
+#[tactic(auto, using(etcs_bodies::specs::laws::Guards::guard_ok), unfolding(crate::specs::Locations::integrity_from, etcs_bodies::specs::Guards::guard_fault))]
+fn take_integrity(numbers: &mut Numbers) -> Option<(u8, Option<u16>)>
+    ensures part { IfSome result (λ p. integrity_fault p.0 p.1 ≡ None) }
+    ensures from { IfSome result (λ p. integrity_from numbers.old ≡ Some ((p.0, p.1), numbers.new)) }
+    ensures none { IfNone result (integrity_from numbers.old ≡ None) }
+{
+    let q_length = numbers.next(Var::Q_LENGTH)? as u8;
+    let l_trainint = if q_length == 1 || q_length == 2 {
+        Some(numbers.next(Var::L_TRAININT)? as u16)
+    } else {
+        None
+    };
+    Some((q_length, l_trainint))
+}
+
+/// M_LEVEL, and where it is 1 the national system, that the numbers begin with.
+#[tactic(auto, using(etcs_bodies::specs::laws::Guards::guard_ok), unfolding(crate::specs::Locations::level_from, etcs_bodies::specs::Guards::guard_fault))]
+fn take_level(numbers: &mut Numbers) -> Option<(u8, Option<u8>)>
+    ensures part { IfSome result (λ p. level_fault p.0 p.1 ≡ None) }
+    ensures from { IfSome result (λ p. level_from numbers.old ≡ Some ((p.0, p.1), numbers.new)) }
+    ensures none { IfNone result (level_from numbers.old ≡ None) }
+{
+    let m_level = numbers.next(Var::M_LEVEL)? as u8;
+    let nid_ntc = if m_level == 1 {
+        Some(numbers.next(Var::NID_NTC)? as u8)
+    } else {
+        None
+    };
+    Some((m_level, nid_ntc))
+}
+
+/// Sends Q_LENGTH and the length.
+fn send_integrity<S: VarSink>(
+    q_length: u8,
+    l_trainint: Option<u16>,
+    out: &mut S,
+) -> Result<(), AllocError>
+    ensures ok { OnOk result (out.new ≡ S.with out.old (integrity_reading q_length l_trainint)) }
+    ensures err { OnErr result (S.failed out.old out.new) }
+{
+    match l_trainint {
+        None => out.send(&[(Var::Q_LENGTH, u64::from(q_length))]),
+        Some(length) => out.send(&[
+            (Var::Q_LENGTH, u64::from(q_length)),
+            (Var::L_TRAININT, u64::from(length)),
+        ]),
+    }
+}
+
+/// Sends M_LEVEL and the national system.
+fn send_level<S: VarSink>(m_level: u8, nid_ntc: Option<u8>, out: &mut S) -> Result<(), AllocError>
+    ensures ok { OnOk result (out.new ≡ S.with out.old (level_reading m_level nid_ntc)) }
+    ensures err { OnErr result (S.failed out.old out.new) }
+{
+    match nid_ntc {
+        None => out.send(&[(Var::M_LEVEL, u64::from(m_level))]),
+        Some(system) => out.send(&[
+            (Var::M_LEVEL, u64::from(m_level)),
+            (Var::NID_NTC, u64::from(system)),
+        ]),
+    }
+}
+
+/// How many bits Q_LENGTH and the length take.
+fn integrity_bits(l_trainint: Option<u16>) -> usize
+    ensures bits { result ≡ integrity_count l_trainint }
+    ensures small { result ≤ 17 }
+{
+    match l_trainint {
+        None => 2,
+        Some(_) => 17,
+    }
+}
+
+/// How many bits M_LEVEL and the national system take.
+fn level_bits(nid_ntc: Option<u8>) -> usize
+    ensures bits { result ≡ level_count nid_ntc }
+    ensures small { result ≤ 11 }
+{
+    match nid_ntc {
+        None => 3,
+        Some(_) => 11,
+    }
+}
+
+impl Variables for Located {
+    ghost use Rattle.etcs_track.specs.Locations.{located_reading};
+
+    ghost reading_of = { λ p. located_reading p };
+
+    #[tactic(auto, using(crate::specs::laws::Locations::located_bits))]
+    fn bits(&self) -> usize {
+        62 + integrity_bits(self.l_trainint) + level_bits(self.nid_ntc)
+    }
+
+    fn send<S: VarSink>(&self, out: &mut S) -> Result<(), AllocError> {
+        out.send(&[
+            (Var::D_LRBG, u64::from(self.d_lrbg)),
+            (Var::Q_DIRLRBG, u64::from(self.q_dirlrbg)),
+            (Var::Q_DLRBG, u64::from(self.q_dlrbg)),
+            (Var::L_DOUBTOVER, u64::from(self.l_doubtover)),
+            (Var::L_DOUBTUNDER, u64::from(self.l_doubtunder)),
+        ])?;
+        send_integrity(self.q_length, self.l_trainint, out)?;
+        out.send(&[
+            (Var::V_TRAIN, u64::from(self.v_train)),
+            (Var::Q_DIRTRAIN, u64::from(self.q_dirtrain)),
+            (Var::M_MODE, u64::from(self.m_mode)),
+        ])?;
+        send_level(self.m_level, self.nid_ntc, out)
+    }
+}
+
+impl Part for Located {
+    ghost use Rattle.etcs_tables.specs.Rows.{located};
+    ghost use Rattle.etcs_track.specs.Locations.{located_from, IsLocated};
+    ghost use Rattle.etcs_track.specs.laws.Locations.{located_codes};
+
+    ghost row = { located };
+
+    ghost read_from = { located_from };
+
+    ghost is_part = { λ p. IsLocated p };
+
+    ghost codes = { located_codes };
+
+    fn holds(&self) {
+        let _ = &self.d_lrbg;
+    }
+
+    #[tactic(auto, unfolding(crate::specs::Locations::located_from))]
+    fn take(_alloc: Global, numbers: &mut Numbers) -> Result<Option<Located>, AllocError> {
+        let d_lrbg = taken!(numbers.next(Var::D_LRBG)) as u16;
+        let q_dirlrbg = taken!(numbers.next(Var::Q_DIRLRBG)) as u8;
+        let q_dlrbg = taken!(numbers.next(Var::Q_DLRBG)) as u8;
+        let l_doubtover = taken!(numbers.next(Var::L_DOUBTOVER)) as u16;
+        let l_doubtunder = taken!(numbers.next(Var::L_DOUBTUNDER)) as u16;
+        let (q_length, l_trainint) = taken!(take_integrity(numbers));
+        let v_train = taken!(numbers.next(Var::V_TRAIN)) as u8;
+        let q_dirtrain = taken!(numbers.next(Var::Q_DIRTRAIN)) as u8;
+        let m_mode = taken!(numbers.next(Var::M_MODE)) as u8;
+        let (m_level, nid_ntc) = taken!(take_level(numbers));
+        Ok(Some(Located {
+            d_lrbg,
+            q_dirlrbg,
+            q_dlrbg,
+            l_doubtover,
+            l_doubtunder,
+            q_length,
+            l_trainint,
+            v_train,
+            q_dirtrain,
+            m_mode,
+            m_level,
+            nid_ntc,
+        }))
+    }
+
+    fn try_clone(&self, _alloc: Global) -> Result<Located, AllocError> {
+        Ok(*self)
+    }
+}

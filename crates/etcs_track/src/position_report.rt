@@ -1,0 +1,131 @@
+//! A position report.
+
+ghost use Rattle.std.specs.Prelude.{◌≡◌, None, Some, IfOk, IfErr};
+ghost use Rattle.etcs_track.specs.Reports.{position_report_value, position_report_fault};
+
+use crate::located::Located;
+use etcs_bodies::{Body, Numbers, Part, build_part, send_fields, take_fields};
+use etcs_tables::Way;
+use etcs_vars::parts::{VarSink, Variables};
+use etcs_vars::{BuildFault, Var};
+use std::alloc::{AllocError, Global};
+use std::marker::Model;
+
+/// Its fields in the order of its row.
+macro_rules! fields {
+    ($then:ident: $($with:tt)*) => {
+        $then! { { $($with)* } q_scale: Q_SCALE u8, nid_lrbg: NID_LRBG u32; located: Located }
+    };
+}
+
+/// The position report of a train (packet 0 to the track; SUBSET-026, 7.4.3).
+#[derive(Clone, Copy, Debug, PartialEq, Eq)]
+pub struct PositionReport {
+    q_scale: u8,
+    nid_lrbg: u32,
+    located: Located,
+}
+
+impl Model for PositionReport {
+    ghost use Rattle.etcs_track.specs.Reports.{PositionReportValue, position_report_value, IsPositionReport};
+
+    ghost Value = { PositionReportValue };
+
+    ghost view = { λ s. position_report_value s.q_scale s.nid_lrbg s.located };
+
+    ghost invariant = { λ s. IsPositionReport (position_report_value s.q_scale s.nid_lrbg s.located) };
+
+    ghost inverse = { λ s. record { q_scale = s.q_scale; nid_lrbg = s.nid_lrbg; located = s.located } };
+}
+
+impl PositionReport {
+    /// The report.
+    ///
+    /// - `q_scale`: the unit of its distances (0: 10 cm, 1: 1 m, 2: 10 m);
+    /// - `nid_lrbg`: NID_LRBG, the balise group referred to: its country or region (10 bits), and its number there
+    ///   (14 bits);
+    /// - `located`: where the train is, and what it does.
+    ///
+    /// # Errors
+    ///
+    /// The first of these: [`BuildFault::NotAdmitted`] with Q_SCALE, above 2, or with NID_LRBG, above 16,777,215.
+    pub fn new(q_scale: u8, nid_lrbg: u32, located: Located) -> Result<PositionReport, BuildFault>
+        ensures ok { IfOk result (λ p. p ≡ position_report_value q_scale nid_lrbg located) }
+        ensures none { IfOk result (λ p. position_report_fault (position_report_value q_scale nid_lrbg located) ≡ None) }
+        ensures fault { IfErr result (λ e. position_report_fault (position_report_value q_scale nid_lrbg located) ≡ Some e) }
+    {
+        fields!(build_part: q_scale, nid_lrbg; located)
+    }
+
+    /// Q_SCALE: the unit of its distances (0: 10 cm, 1: 1 m, 2: 10 m).
+    pub fn q_scale(&self) -> u8
+        ensures { result ≡ self.now.q_scale }
+    {
+        self.q_scale
+    }
+
+    /// NID_LRBG: the balise group referred to.
+    pub fn nid_lrbg(&self) -> u32
+        ensures { result ≡ self.now.nid_lrbg }
+    {
+        self.nid_lrbg
+    }
+
+    /// Where the train is, and what it does.
+    pub fn located(&self) -> Located
+        ensures { result ≡ self.now.located }
+    {
+        self.located
+    }
+}
+
+impl Variables for PositionReport {
+    ghost use Rattle.etcs_track.specs.Reports.{position_report_reading};
+
+    ghost reading_of = { λ p. position_report_reading p };
+
+    #[tactic(auto, using(crate::specs::laws::Reports::report_length, crate::specs::laws::Locations::located_small))]
+    fn bits(&self) -> usize {
+        26 + self.located.bits()
+    }
+
+    fn send<S: VarSink>(&self, out: &mut S) -> Result<(), AllocError> {
+        fields!(send_fields: self, out)
+    }
+}
+
+impl Body for PositionReport {
+    ghost use Rattle.etcs_tables.specs.declared.row.Way.TheVariants.{ToTrack};
+    ghost use Rattle.etcs_track.specs.Reports.{IsPositionReport, position_report_from};
+    ghost use Rattle.etcs_track.specs.laws.Reports.{position_report_codes};
+
+    const NID: u8 = 0;
+
+    const WAY: Way = Way::ToTrack;
+
+    ghost NID = { 0 };
+
+    ghost WAY = { ToTrack };
+
+    ghost direction = { λ p. 0 };
+
+    ghost is_value = { λ p. IsPositionReport p };
+
+    ghost read_from = { λ dir s. position_report_from dir s };
+
+    ghost codes = { position_report_codes };
+
+    fn q_dir(&self) -> u8 {
+        let _ = &self.q_scale;
+        0
+    }
+
+    #[tactic(auto, unfolding(etcs_bodies::specs::PacketCodes::directed_from, crate::specs::Reports::position_report_from))]
+    fn take(alloc: Global, _dir: u8, numbers: &mut Numbers) -> Result<Option<Self>, AllocError> {
+        fields!(take_fields: alloc, numbers)
+    }
+
+    fn copy(&self, _alloc: Global) -> Result<PositionReport, AllocError> {
+        Ok(*self)
+    }
+}

@@ -1,0 +1,147 @@
+//! A position report that names two balise groups.
+
+ghost use Rattle.std.specs.Prelude.{◌≡◌, None, Some, IfOk, IfErr};
+ghost use Rattle.etcs_track.specs.Reports.{position_report_two_value, position_report_two_fault};
+
+use crate::located::Located;
+use etcs_bodies::{Body, Numbers, Part, build_part, send_fields, take_fields};
+use etcs_tables::Way;
+use etcs_vars::parts::{VarSink, Variables};
+use etcs_vars::{BuildFault, Var};
+use std::alloc::{AllocError, Global};
+use std::marker::Model;
+
+/// Its fields in the order of its row.
+macro_rules! fields {
+    ($then:ident: $($with:tt)*) => {
+        $then! { { $($with)* } q_scale: Q_SCALE u8, nid_lrbg: NID_LRBG u32, nid_prvlrbg: NID_PRVLRBG u32; located: Located }
+    };
+}
+
+/// The position report of a train that also names the balise group before the one referred to (packet 1 to the
+/// track; SUBSET-026, 7.4.3).
+#[derive(Clone, Copy, Debug, PartialEq, Eq)]
+pub struct PositionReportTwo {
+    q_scale: u8,
+    nid_lrbg: u32,
+    nid_prvlrbg: u32,
+    located: Located,
+}
+
+impl Model for PositionReportTwo {
+    ghost use Rattle.etcs_track.specs.Reports.{PositionReportTwoValue, position_report_two_value, IsPositionReportTwo};
+
+    ghost Value = { PositionReportTwoValue };
+
+    ghost view = { λ s. position_report_two_value s.q_scale s.nid_lrbg s.nid_prvlrbg s.located };
+
+    ghost invariant = { λ s. IsPositionReportTwo (position_report_two_value s.q_scale s.nid_lrbg s.nid_prvlrbg s.located) };
+
+    ghost inverse = { λ s. record { q_scale = s.q_scale; nid_lrbg = s.nid_lrbg; nid_prvlrbg = s.nid_prvlrbg; located = s.located } };
+}
+
+impl PositionReportTwo {
+    /// The report.
+    ///
+    /// - `q_scale`: the unit of its distances (0: 10 cm, 1: 1 m, 2: 10 m);
+    /// - `nid_lrbg`: NID_LRBG, the balise group referred to: its country or region (10 bits), and its number there
+    ///   (14 bits);
+    /// - `nid_prvlrbg`: NID_PRVLRBG, the balise group before it, written as NID_LRBG is;
+    /// - `located`: where the train is, and what it does.
+    ///
+    /// # Errors
+    ///
+    /// The first of these: [`BuildFault::NotAdmitted`] with Q_SCALE, above 2, with NID_LRBG, or with NID_PRVLRBG, above
+    /// 16,777,215.
+    pub fn new(
+        q_scale: u8,
+        nid_lrbg: u32,
+        nid_prvlrbg: u32,
+        located: Located,
+    ) -> Result<PositionReportTwo, BuildFault>
+        ensures ok { IfOk result (λ p. p ≡ position_report_two_value q_scale nid_lrbg nid_prvlrbg located) }
+        ensures none { IfOk result (λ p. position_report_two_fault (position_report_two_value q_scale nid_lrbg nid_prvlrbg located) ≡ None) }
+        ensures fault { IfErr result (λ e. position_report_two_fault (position_report_two_value q_scale nid_lrbg nid_prvlrbg located) ≡ Some e) }
+    {
+        fields!(build_part: q_scale, nid_lrbg, nid_prvlrbg; located)
+    }
+
+    /// Q_SCALE: the unit of its distances (0: 10 cm, 1: 1 m, 2: 10 m).
+    pub fn q_scale(&self) -> u8
+        ensures { result ≡ self.now.q_scale }
+    {
+        self.q_scale
+    }
+
+    /// NID_LRBG: the balise group referred to.
+    pub fn nid_lrbg(&self) -> u32
+        ensures { result ≡ self.now.nid_lrbg }
+    {
+        self.nid_lrbg
+    }
+
+    /// NID_PRVLRBG: the balise group before that.
+    pub fn nid_prvlrbg(&self) -> u32
+        ensures { result ≡ self.now.nid_prvlrbg }
+    {
+        self.nid_prvlrbg
+    }
+
+    /// Where the train is, and what it does.
+    pub fn located(&self) -> Located
+        ensures { result ≡ self.now.located }
+    {
+        self.located
+    }
+}
+
+impl Variables for PositionReportTwo {
+    ghost use Rattle.etcs_track.specs.Reports.{position_report_two_reading};
+
+    ghost reading_of = { λ p. position_report_two_reading p };
+
+    #[tactic(auto, using(crate::specs::laws::Reports::report_two_length, crate::specs::laws::Locations::located_small))]
+    fn bits(&self) -> usize {
+        50 + self.located.bits()
+    }
+
+    fn send<S: VarSink>(&self, out: &mut S) -> Result<(), AllocError> {
+        fields!(send_fields: self, out)
+    }
+}
+
+impl Body for PositionReportTwo {
+    ghost use Rattle.etcs_tables.specs.declared.row.Way.TheVariants.{ToTrack};
+    ghost use Rattle.etcs_track.specs.Reports.{IsPositionReportTwo, position_report_two_from};
+    ghost use Rattle.etcs_track.specs.laws.Reports.{position_report_two_codes};
+
+    const NID: u8 = 1;
+
+    const WAY: Way = Way::ToTrack;
+
+    ghost NID = { 1 };
+
+    ghost WAY = { ToTrack };
+
+    ghost direction = { λ p. 0 };
+
+    ghost is_value = { λ p. IsPositionReportTwo p };
+
+    ghost read_from = { λ dir s. position_report_two_from dir s };
+
+    ghost codes = { position_report_two_codes };
+
+    fn q_dir(&self) -> u8 {
+        let _ = &self.q_scale;
+        0
+    }
+
+    #[tactic(auto, unfolding(etcs_bodies::specs::PacketCodes::directed_from, crate::specs::Reports::position_report_two_from))]
+    fn take(alloc: Global, _dir: u8, numbers: &mut Numbers) -> Result<Option<Self>, AllocError> {
+        fields!(take_fields: alloc, numbers)
+    }
+
+    fn copy(&self, _alloc: Global) -> Result<PositionReportTwo, AllocError> {
+        Ok(*self)
+    }
+}

@@ -1,0 +1,167 @@
+//! Packets to the track of rows without groups.
+
+ghost use Rattle.std.specs.Prelude.{◌≡◌, ◌≤◌, length, map, None, Some, OnOk, IfOk, IfErr, IfSome, IfNone, IsSome};
+ghost use Rattle.std.proofs.Common.{refl};
+ghost use Rattle.std.specs.Option.{option_map};
+ghost use Rattle.etcs_tables.specs.declared.item.RowItem.TheVariants.{One};
+ghost use Rattle.etcs_tables.specs.declared.row.Way.TheVariants.{ToTrack};
+ghost use Rattle.etcs_flat.specs.Flats.{flat_row_to, flat_fault_to, flat_reading_to};
+ghost use Rattle.etcs_flat.specs.FlatCodes.{flat_from_to};
+ghost use Rattle.etcs_track.specs.TrainFlats.{alone};
+ghost use Rattle.etcs_track.specs.laws.TrainFlats.{train_flat_codes};
+
+use arrayvec::ArrayVec;
+use etcs_bodies::{Body, Numbers};
+use etcs_flat::parts::{check_flat, send_table, table_bits, table_of, take_table};
+use etcs_tables::{RowItem, Way};
+use etcs_vars::BuildFault;
+use etcs_vars::parts::{VarSink, Variables};
+use std::alloc::{AllocError, Global};
+use std::marker::Model;
+
+/// A packet to the track whose row has no groups (SUBSET-026, 7.4.3). Two of them are equal where they have the same
+/// numbers. A `NID` that isn't in the table has no packets.
+///
+/// | NID | packet | number after L_PACKET |
+/// |---|---|---|
+/// | 4 | a fault | M_ERROR, the kind of the fault |
+/// | 5 | the running number of the train | NID_OPERATIONAL, eight digits of four bits |
+#[derive(Clone, Debug, Drop, PartialEq, Eq)]
+pub struct TrainFlat<const NID: u8> {
+    numbers: ArrayVec<u64, 6>,
+}
+
+impl<const NID: u8> Model for TrainFlat<NID> {
+    ghost use Rattle.std.specs.Prelude.{◌≡◌, ℕ, List, None};
+    ghost use Rattle.etcs_tables.specs.declared.row.Way.TheVariants.{ToTrack};
+    ghost use Rattle.etcs_flat.specs.Flats.{flat_fault_to};
+
+    ghost Value = { List ℕ };
+
+    ghost view = { λ p. p.numbers.items };
+
+    ghost invariant = { λ p. flat_fault_to ToTrack NID 0 p.numbers.items ≡ None };
+
+    ghost inverse = { λ v. record { numbers = record { items = v } } };
+}
+
+impl<const NID: u8> TrainFlat<NID> {
+    /// A packet of the numbers in the table of [`TrainFlat`]. Takes no memory.
+    ///
+    /// # Errors
+    ///
+    /// The first of these that holds:
+    ///
+    /// - `NotAdmitted(NID_PACKET)`: `NID` isn't in the table.
+    /// - `Count`: there are more or fewer numbers than the table has for it.
+    /// - `NotAdmitted` with the variable that doesn't admit its number, which is too large for its width.
+    pub fn new(numbers: &[u64]) -> Result<Self, BuildFault>
+        ensures ok { IfOk result (λ p. p ≡ numbers.now) }
+        ensures fits { OnOk result (flat_fault_to ToTrack NID 0 numbers.now ≡ None) }
+        ensures fault { IfErr result (λ e. flat_fault_to ToTrack NID 0 numbers.now ≡ Some e) }
+    {
+        check_flat(Way::ToTrack, NID, 0, numbers)?;
+        let Ok(numbers) = ArrayVec::try_from(numbers) else {
+            unreachable!()
+        };
+        Ok(TrainFlat { numbers })
+    }
+
+    /// Its numbers, in the order of the table of [`TrainFlat`].
+    pub fn numbers(&self) -> &[u64]
+        ensures { result.now ≡ self.now }
+    {
+        self.numbers.as_slice()
+    }
+
+    /// Takes the packet that the numbers begin with, if they begin with one. Takes no memory.
+    fn taken(dir: u8, numbers: &mut Numbers) -> Option<Self>
+        requires { IsSome (flat_row_to ToTrack NID) }
+        ensures some { IfSome result (λ p. flat_from_to ToTrack alone NID dir numbers.old ≡ Some (p, numbers.new)) }
+        ensures none { IfNone result (flat_from_to ToTrack alone NID dir numbers.old ≡ None) }
+    {
+        let _ = dir;
+        let taken = take_table(table_of(Way::ToTrack, NID), numbers)?;
+        Some(TrainFlat { numbers: taken })
+    }
+
+    /// An equal packet.
+    fn copied(&self) -> Self
+        ensures { result ≡ self.now }
+    {
+        let Ok(numbers) = ArrayVec::try_from(self.numbers.as_slice()) else {
+            unreachable!()
+        };
+        TrainFlat { numbers }
+    }
+
+    /// The table of its row.
+    #[tactic(auto, using(etcs_flat::specs::laws::TableLaws::row_there))]
+    fn table(&self) -> &'static [RowItem]
+        ensures table { Some result.now ≡ option_map (λ vs. map One vs) (flat_row_to ToTrack NID) }
+        ensures short { length result.now ≤ 6 }
+        ensures value { flat_fault_to ToTrack NID 0 self.now ≡ None }
+    {
+        let _ = &self.numbers;
+        table_of(Way::ToTrack, NID)
+    }
+}
+
+/// A number whose packets have a row without groups.
+pub trait TrainFlatNumber<const N: u8> {
+    ghost flat: { IsSome (flat_row_to ToTrack N) };
+}
+
+impl TrainFlatNumber<4> for TrainFlat<4> {
+    ghost flat = { refl };
+}
+
+impl TrainFlatNumber<5> for TrainFlat<5> {
+    ghost flat = { refl };
+}
+
+impl<const NID: u8> Variables for TrainFlat<NID> {
+    ghost reading_of = { λ p. flat_reading_to ToTrack NID p };
+
+    fn bits(&self) -> usize {
+        table_bits(self.table())
+    }
+
+    fn send<S: VarSink>(&self, out: &mut S) -> Result<(), AllocError> {
+        send_table(self.table(), self.numbers(), out)
+    }
+}
+
+impl<const N: u8> Body for TrainFlat<N>
+where
+    TrainFlat<N>: TrainFlatNumber<N>,
+{
+    const NID: u8 = N;
+
+    const WAY: Way = Way::ToTrack;
+
+    ghost NID = { N };
+
+    ghost WAY = { ToTrack };
+
+    ghost direction = { λ p. 0 };
+
+    ghost is_value = { λ p. flat_fault_to ToTrack N 0 p ≡ None };
+
+    ghost read_from = { flat_from_to ToTrack alone N };
+
+    ghost codes = { train_flat_codes N bound-1.flat };
+
+    fn q_dir(&self) -> u8 {
+        let _ = &self.numbers;
+        0
+    }
+
+    fn take(_alloc: Global, dir: u8, numbers: &mut Numbers) -> Result<Option<Self>, AllocError> {
+        Ok(TrainFlat::taken(dir, numbers))
+    }
+
+    fn copy(&self, _alloc: Global) -> Result<Self, AllocError> {
+        Ok(self.copied())
+    }
+}

@@ -1,0 +1,94 @@
+//! Packets to the track that are kept as bits.
+
+ghost use Rattle.std.specs.Prelude.{◌≡◌, ◌≤◌, length, Some, None, OnOk, IfOk, IfErr};
+ghost use Rattle.etcs_tables.specs.declared.row.Way.TheVariants.{ToTrack};
+ghost use Rattle.etcs_flat.specs.Others.{other_fault};
+ghost use Rattle.etcs_track.specs.TrainOthers.{train_other_value};
+
+use etcs_bits::{BitSlice, Bits};
+use etcs_flat::parts::check_other;
+use etcs_tables::Way;
+use etcs_vars::BuildFault;
+use std::alloc::{AllocError, Global};
+use std::marker::Model;
+
+/// A packet to the track that isn't typed, kept as bits (SUBSET-026, 7.4). Two of them are equal where they have the
+/// same number and bits.
+#[derive(Debug, Drop, PartialEq, Eq)]
+pub struct TrainOther {
+    nid: u8,
+    body: Bits,
+}
+
+impl Model for TrainOther {
+    ghost use Rattle.std.specs.Prelude.{◌≡◌, length, None};
+    ghost use Rattle.etcs_tables.specs.declared.row.Way.TheVariants.{ToTrack};
+    ghost use Rattle.etcs_flat.specs.Others.{other_fault};
+    ghost use Rattle.etcs_track.specs.TrainOthers.{TrainOtherValue};
+
+    ghost Value = { TrainOtherValue };
+
+    ghost view = { λ p. record { nid = p.nid; body = p.body } };
+
+    ghost invariant = { λ p. other_fault ToTrack p.nid 0 (length p.body) ≡ None };
+
+    ghost inverse = { λ v. record { nid = v.nid; body = v.body } };
+}
+
+impl TrainOther {
+    /// A packet of this NID_PACKET, with the bits after L_PACKET. Takes no memory.
+    ///
+    /// # Errors
+    ///
+    /// The first of these that holds, with the same bits: `NotAdmitted(NID_PACKET)` for 0, 1, 4 and 5, the numbers of
+    /// typed packets; `TooLong` for more than 8,170 bits, which L_PACKET can't count.
+    pub fn new(nid: u8, body: Bits) -> Result<TrainOther, (BuildFault, Bits)>
+        ensures ok { IfOk result (λ p. p ≡ train_other_value nid body) }
+        ensures fits { OnOk result (other_fault ToTrack nid 0 (length body) ≡ None) }
+        ensures back { IfErr result (λ e. e.1 ≡ body) }
+        ensures fault { IfErr result (λ e. other_fault ToTrack nid 0 (length body) ≡ Some e.0) }
+    {
+        match check_other(Way::ToTrack, nid, 0, body.len()) {
+            Ok(()) => Ok(TrainOther { nid, body }),
+            Err(fault) => Err((fault, body)),
+        }
+    }
+
+    /// NID_PACKET, not that of a typed packet.
+    pub fn nid(&self) -> u8
+        ensures nid { result ≡ self.now.nid }
+        ensures value { other_fault ToTrack self.now.nid 0 (length self.now.body) ≡ None }
+    {
+        self.nid
+    }
+
+    /// The bits after L_PACKET, at most 8,170.
+    pub fn body(&self) -> BitSlice<'_>
+        ensures { result ≡ self.now.body }
+    {
+        self.body.as_slice()
+    }
+
+    /// How many bits follow L_PACKET.
+    #[tactic(auto, using(etcs_flat::specs::laws::OtherLaws::other_short))]
+    pub fn bits(&self) -> usize
+        ensures bits { result ≡ length self.now.body }
+        ensures most { result ≤ 8170 }
+    {
+        self.body.len()
+    }
+
+    /// An equal packet.
+    ///
+    /// # Errors
+    ///
+    /// `AllocError` where there is no memory.
+    pub fn try_clone(&self, alloc: Global) -> Result<TrainOther, AllocError>
+        ensures { IfOk result (λ p. p ≡ self.now) }
+    {
+        Ok(TrainOther {
+            nid: self.nid,
+            body: Bits::from_slice(alloc, self.body())?,
+        })
+    }
+}

@@ -5,12 +5,10 @@ use Rattle.etcs_bits.specs.Bits.{num, bits}
 use Rattle.etcs_vars.specs.declared.var.Var.TheVariants.{NID_MESSAGE, NID_LRBG, NID_EM, NID_PACKET, PADDING}
 use Rattle.etcs_vars.specs.declared.fault.BuildFault.TheVariants.{NotAdmitted, FillLength}
 use Rattle.etcs_vars.specs.Reading.{spelled}
-use Rattle.etcs_flat.specs.Flats.{flat_value}
 use Rattle.etcs_packets.specs.declared.packet.Packet.TheVariants.{VbcMarker, StopInSr}
 use Rattle.etcs_radio.specs.declared.body.Body.TheVariants.{Plain, Emergency, Shifted}
 use Rattle.etcs_radio.specs.declared.body.RadioHead.{RadioHead}
-use Rattle.etcs_radio.specs.declared.message.Content.TheVariants.{Typed, Kept}
-use Rattle.etcs_radio.specs.Messages.{message_fault, padded_fault, kept_fault, padding_room}
+use Rattle.etcs_radio.specs.Messages.{Typed, Kept, message_fault, padded_fault, kept_fault, padding_room}
 use Rattle.etcs_radio.specs.Readings.{message_reading}
 
 abbrev head : RadioHead
@@ -30,7 +28,7 @@ unfolding num bits
 plain_bits = refl
 
 -- a packet 137 after the header
-pub packet_bits : spelled (message_reading (Typed head (Plain 24) (StopInSr (flat_value 1 (1 ∷ [])) ∷ []) 0)) ≡ bits (0x18 ∷ 0x03 ∷ 0x40 ∷ 0 ∷ 0 ∷ 0 ∷ 0 ∷ 0x08 ∷ 0 ∷ 0x31 ∷ 0x28 ∷ 0x06 ∷ 0x20 ∷ [])
+pub packet_bits : spelled (message_reading (Typed head (Plain 24) (StopInSr (record { dir = 1; numbers = 1 ∷ [] }) ∷ []) 0)) ≡ bits (0x18 ∷ 0x03 ∷ 0x40 ∷ 0 ∷ 0 ∷ 0 ∷ 0 ∷ 0x08 ∷ 0 ∷ 0x31 ∷ 0x28 ∷ 0x06 ∷ 0x20 ∷ [])
 unfolding num bits
 packet_bits = refl
 

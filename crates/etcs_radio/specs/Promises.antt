@@ -1,28 +1,29 @@
--- Laws of messages.
-use Rattle.std.specs.Prelude.{◌≡◌, ℕ, ◌*◌, ◌-◌, ◌≤◌, ◌↔◌, ◌⊎◌, Bool, List, [], ◌++◌, length, All, Some}
+-- Laws of radio messages.
+use Rattle.std.specs.Prelude.{◌≡◌, ℕ, ◌*◌, ◌-◌, ◌≤◌, ◌↔◌, ◌⊎◌, List, [], ◌++◌, length, All, Some}
 use Rattle.etcs_vars.specs.Reading.{Reading, spelled, Viable}
 use Rattle.etcs_tables.specs.declared.row.Way.TheVariants.{ToTrain}
 use Rattle.etcs_rows.specs.declared.frames.Carrier.TheVariants as carrier
 use Rattle.etcs_tables.specs.Layouts.{Layout, Reads}
 use Rattle.etcs_tables.specs.Rows.{message_row_to}
-use Rattle.etcs_packets.specs.PacketValues.{PacketValue}
+use Rattle.etcs_packets.specs.PacketValues.{PacketValue, form}
 use Rattle.etcs_packets.specs.PacketReadings.{packets_reading}
 use Rattle.etcs_sequence.specs.Contents.{Carries}
+use Rattle.etcs_messages.specs.Promises as promises
 use Rattle.etcs_radio.specs.declared.body.RadioHead.{RadioHead}
-use Rattle.etcs_radio.specs.declared.message.Content.{Content}
-use Rattle.etcs_radio.specs.Messages.{IsAdmitted, IsMessage, MessageReads, MessageLanguage, head_reading, message_value}
+use Rattle.etcs_radio.specs.Bodies.{head_variables, radio_head, radio_body}
+use Rattle.etcs_radio.specs.Messages.{IsAdmitted, MessageLanguage, head_reading}
 
 -- messages with one spelling are one, and no spelling begins another
 abbrev pub OneSpelling : Type 0
-OneSpelling = (m n : Content) (a b : Reading) (behind : List Bool) → IsMessage m → IsMessage n → MessageReads (message_value m) a → MessageReads (message_value n) b → spelled b ≡ spelled a ++ behind → (m ≡ n) × (behind ≡ [])
+OneSpelling = promises.OneSpelling ToTrain radio_head radio_body form
 
 -- a header, the variables of its row and packets
 abbrev pub begun : ℕ → ℕ → RadioHead → Reading → List PacketValue → Reading
-begun nid len head body vs = head_reading nid len head ++ body ++ packets_reading vs
+begun nid len head body vs = head_reading nid len (head_variables head) ++ body ++ packets_reading vs
 
 -- they begin a message exactly where they stay within its bytes and leave padding or the frame of a packet
 abbrev pub RoomRule : Type 0
 RoomRule =
     (nid len : ℕ) (head : RadioHead) (row : Layout) (body : Reading) (vs : List PacketValue)
-    → message_row_to ToTrain nid ≡ Some row → IsAdmitted (head_reading nid len head) → Reads row [] body → All (Carries (carrier.Message ToTrain)) vs
+    → message_row_to ToTrain nid ≡ Some row → IsAdmitted (head_reading nid len (head_variables head)) → Reads row [] body → All (Carries (carrier.Message ToTrain)) vs
     → (Viable MessageLanguage (spelled (begun nid len head body vs)) ↔ ((length (spelled (begun nid len head body vs)) ≤ 8 * len) × ((8 * len - length (spelled (begun nid len head body vs)) ≤ 7) ⊎ (23 ≤ 8 * len - length (spelled (begun nid len head body vs))))))

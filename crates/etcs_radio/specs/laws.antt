@@ -1,1 +1,3 @@
-pub mod RestLaws
+pub mod Heads
+pub mod Rows
+pub mod Bodies

@@ -1,39 +1,44 @@
 //! Laws, each the contract of a function.
 
-ghost use Rattle.std.specs.Prelude.{◌≡◌, ℕ, ◌≤◌, ◌<◌, ◌*◌, ◌↔◌, ◌++◌, length, take, slice_index_or, IsTrue, IfOk, OnOk, OnErr, IfSome, IfNone};
+ghost use Rattle.std.specs.Prelude.{◌≡◌, ℕ, ◌≤◌, ◌*◌, ◌↔◌, ◌++◌, length, take, IsTrue, IfOk, OnErr, IfSome, IfNone};
 ghost use Rattle.etcs_bits.specs.Bits.{bits};
-ghost use Rattle.etcs_vars.specs.Reading.{Reading, spelled, InLanguage, NoneYet};
+ghost use Rattle.etcs_vars.specs.Reading.{InLanguage, NoneYet};
 ghost use Rattle.etcs_radio.specs.Promises.{OneSpelling, RoomRule};
 ghost use Rattle.etcs_radio.specs.Readers.{OneHolding};
-ghost use Rattle.etcs_radio.specs.Messages.{MessageLanguage, MessageReads, message_value};
+ghost use Rattle.etcs_radio.specs.Messages.{MessageLanguage};
 
-use crate::message::Message;
-use crate::reader::MessageReader;
-use etcs_vars::{Fed, ReadFault};
+use crate::{Body, Message, RadioHead};
+use etcs_messages::laws;
 use std::alloc::{AllocError, Global};
 
 /// Messages with one spelling are equal, and no spelling begins another.
 pub fn one_spelling()
     ensures { OneSpelling }
-{}
+{
+    laws::one_spelling::<RadioHead, Body>();
+}
 
 /// Where a header's numbers are admitted, its bits with those of the number's variables and of packets after them begin
 /// a message exactly where they are at most 8 times L_MESSAGE and what is left is padding of at most 7 bits or the 23
 /// bits of a packet's frame at least.
 pub fn room()
     ensures { RoomRule }
-{}
+{
+    laws::room::<RadioHead>();
+}
 
 /// Of the same bits a reader holds one and the same: packets, numbers, kept bits and the unfinished variable.
 pub fn one_holding()
     ensures { OneHolding }
-{}
+{
+    laws::one_holding::<RadioHead>();
+}
 
 /// `==` of messages is equality of their values: header, body, packets and PADDING, or number and kept bits.
 pub fn exact_equality(first: &Message, second: &Message) -> bool
     ensures { IsTrue result ↔ (first.now ≡ second.now) }
 {
-    first == second
+    laws::exact_equality(first, second)
 }
 
 /// Encodes a message and reads its bytes again: what is read is the message that was encoded.
@@ -44,41 +49,7 @@ pub fn exact_equality(first: &Message, second: &Message) -> bool
 pub fn round_trip(alloc: Global, message: &Message) -> Result<Message, AllocError>
     ensures { IfOk result (λ again. again ≡ message.now) }
 {
-    message.readable();
-    let mut bytes = Vec::new(alloc);
-    match message.encode(&mut bytes) {
-        Ok(()) => {}
-        Err(error) => return Err(error),
-    }
-    let mut reader = MessageReader::new(alloc);
-    match reader.feed(bytes.as_slice()) {
-        Ok(Fed::Done { .. }) => match reader.take() {
-            Ok(again) => Ok(again),
-            Err(_) => unreachable!(),
-        },
-        Ok(Fed::More) => unreachable!(),
-        Err(ReadFault::Refused { .. }) => unreachable!(),
-        Err(ReadFault::Ended) => unreachable!(),
-        Err(ReadFault::Memory) => Err(AllocError),
-    }
-}
-
-/// For callers: each byte is below 256.
-fn are_bytes(bytes: &[u8])
-    ensures { (i : ℕ) → slice_index_or bytes.now i 0 < 256 }
-{
-    let _ = bytes;
-}
-
-/// Appends the message that these bytes spell: the bytes themselves.
-fn append_again(message: &Message, bytes: &[u8], out: &mut Vec<u8>) -> Result<(), AllocError>
-    requires { (r : Reading) × MessageReads (message_value message.now) r × (spelled r ≡ bits bytes.now) }
-    ensures ok { OnOk result (out.new.items ≡ out.old.items ++ bytes.now) }
-    ensures err { OnErr result (out.new.items ≡ out.old.items) }
-{
-    are_bytes(out.as_slice());
-    message.encode(out)?;
-    Ok(())
+    laws::round_trip(alloc, message)
 }
 
 /// Reads a message from the front of some bytes and appends its encoding: these are then the bytes that were read.
@@ -98,18 +69,5 @@ pub fn read_back(
     ensures kept { IfOk result (λ found. IfNone found (out.new.items ≡ out.old.items)) }
     ensures err { OnErr result (out.new.items ≡ out.old.items) }
 {
-    let mut reader = MessageReader::new(alloc);
-    match reader.feed(bytes) {
-        Ok(Fed::Done { taken }) => match reader.take() {
-            Ok(message) => {
-                append_again(&message, &bytes[..taken], out)?;
-                Ok(Some(taken))
-            }
-            Err(_) => unreachable!(),
-        },
-        Ok(Fed::More) => Ok(None),
-        Err(ReadFault::Refused { .. }) => Ok(None),
-        Err(ReadFault::Ended) => unreachable!(),
-        Err(ReadFault::Memory) => Err(AllocError),
-    }
+    laws::read_back::<RadioHead, Body>(alloc, bytes, out)
 }

@@ -3,12 +3,12 @@
 ghost use Rattle.std.specs.Prelude.{◌≡◌, map, OnOk, OnErr};
 ghost use Rattle.etcs_radio.specs.Bodies.{head_variables};
 ghost use Rattle.etcs_radio.specs.Messages.{MessageReads, message_value};
-ghost use Rattle.etcs_radio.specs.Readings.{front_reading, message_reading, own_reading};
+ghost use Rattle.etcs_radio.specs.Readings.{front_reading, message_reading};
 
-use crate::body::RadioHead;
-use crate::message::{Content, Message};
+use crate::{Message, RadioHead};
+use etcs_messages::parts;
 use etcs_vars::Var;
-use etcs_vars::parts::{VarSink, Variables};
+use etcs_vars::parts::VarSink;
 use std::alloc::AllocError;
 
 /// The variables of the header after NID_MESSAGE and L_MESSAGE, in the order of sending.
@@ -36,30 +36,12 @@ pub fn send_front<S: VarSink>(message: &Message, out: &mut S) -> Result<(), Allo
     ensures ok { OnOk result (out.new ≡ S.with out.old (front_reading message.now)) }
     ensures err { OnErr result (S.failed out.old out.new) }
 {
-    out.send(&[
-        (Var::NID_MESSAGE, u64::from(message.nid())),
-        (Var::L_MESSAGE, message.bytes() as u64),
-    ])?;
-    send_own(message, out)
-}
-
-/// Sends what is between L_MESSAGE and the packets.
-fn send_own<S: VarSink>(message: &Message, out: &mut S) -> Result<(), AllocError>
-    ensures ok { OnOk result (out.new ≡ S.with out.old (own_reading message.now)) }
-    ensures err { OnErr result (S.failed out.old out.new) }
-{
-    match &message.content {
-        Content::Typed { head, body, .. } => {
-            head.send(out)?;
-            body.send(out)
-        }
-        Content::Kept { .. } => out.send(&[]),
-    }
+    parts::send_front(message, out)
 }
 
 /// For proofs: the message has a reading. Does nothing.
 pub fn reads(message: &Message)
     ensures { MessageReads (message_value message.now) (message_reading message.now) }
 {
-    message.readable();
+    parts::reads(message);
 }

@@ -1,7 +1,7 @@
 use Rattle.std.proofs.Common.{◌∙◌}
 use Rattle.etcs_tables.specs.declared.row.Way.TheVariants.{ToTrain}
 use Rattle.etcs_tables.specs.Rows.{message_row_to}
-use Rattle.etcs_radio.proofs.Bodies.{plain_items, plain_none}
+use Rattle.etcs_radio.specs.laws.Rows.{plain_items, plain_none}
 use Rattle.etcs_radio.proofs.body.is_plain.Goals as goal
 
 pub returns-in-Some : goal.returns-in-Some

@@ -1,5 +1,12 @@
-use Rattle.etcs_radio.proofs.Equality.{message_exact}
+use Rattle.etcs_packets.proofs.Equality.{packet_exact}
+use Rattle.etcs_radio.proofs.Equality.{head_exact, body_exact}
 use Rattle.etcs_radio.proofs.laws.exact_equality.Goals as goal
 
-pub returns : goal.returns
-returns c = rw c.eq.ensures (message_exact c.args.first.now c.args.second.now)
+pub exact_equality-requires-clause-head : goal.exact_equality-requires-clause-head
+exact_equality-requires-clause-head c = head_exact
+
+pub exact_equality-requires-clause-own : goal.exact_equality-requires-clause-own
+exact_equality-requires-clause-own c = body_exact
+
+pub exact_equality-requires-clause-packets : goal.exact_equality-requires-clause-packets
+exact_equality-requires-clause-packets c = packet_exact

@@ -1,5 +1,4 @@
-use Rattle.etcs_radio.proofs.OneHolding.{one_holding}
 use Rattle.etcs_radio.proofs.laws.one_holding.Goals as goal
 
 pub returns : goal.returns
-returns c = one_holding
+returns c = c.one_holding.ensures

@@ -1,5 +1,8 @@
-use Rattle.etcs_radio.proofs.Rooms.{room_rule}
+use Rattle.std.proofs.Common.{refl}
+use Rattle.etcs_radio.specs.Bodies.{head_variables}
 use Rattle.etcs_radio.proofs.laws.room.Goals as goal
 
 pub returns : goal.returns
-returns c = room_rule
+returns c = λ nid len head row body vs found admitted.
+    let (number, (length, (time, (ack, (group, none))))) = admitted in
+    c.room.ensures nid len (head_variables head) row body vs found (_, _, time, refl, (_, _, ack, refl, (_, _, group, refl, refl))) admitted

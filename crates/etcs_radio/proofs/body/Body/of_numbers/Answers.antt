@@ -9,7 +9,7 @@ use Rattle.etcs_tables.specs.declared.row.Way.TheVariants.{ToTrain}
 use Rattle.etcs_tables.specs.Rows.{message_row_to}
 use Rattle.etcs_radio.specs.declared.body.Body.TheVariants.{SrAuthorisation, Plain, TrainTime, Emergency, Version, Shifted, Orientation}
 use Rattle.etcs_radio.specs.Bodies.{IsBodyNumbers, is_plain_message}
-use Rattle.etcs_radio.proofs.Bodies.{One, Two, one_number, two_numbers, one_below, first_below, second_below, plain_row, time_row, emergency_row, sr_body, time_body, emergency_body, version_body, shifted_body, one_flag, back_none, back_one, back_two}
+use Rattle.etcs_radio.specs.laws.Rows.{One, Two, one_number, two_numbers, one_below, first_below, second_below, plain_row, time_row, emergency_row, sr_body, time_body, emergency_body, version_body, shifted_body, one_flag, back_none, back_one, back_two}
 use Rattle.etcs_radio.proofs.body.Body.of_numbers.Goals as goal
 
 numbers_2 : (nid : ℕ) (f : List ℕ) → nid ≡ 2 → IsBodyNumbers nid f → Two Q_SCALE D_SR f

@@ -1,6 +1,6 @@
 use Rattle.std.proofs.Common.{sym, ap, ◌∙◌}
 use Rattle.etcs_radio.specs.Bodies.{body_bits}
-use Rattle.etcs_radio.proofs.Bodies.{body_length}
+use Rattle.etcs_radio.specs.laws.Rows.{body_length}
 use Rattle.etcs_radio.proofs.body.BodyVariables.bits.Goals as goal
 
 pub returns-in-SrAuthorisation-clause-bits : goal.returns-in-SrAuthorisation-clause-bits

@@ -1,5 +1,5 @@
 use Rattle.std.proofs.Common.{sym}
-use Rattle.etcs_radio.proofs.Bodies.{head_length}
+use Rattle.etcs_radio.specs.laws.Rows.{head_length}
 use Rattle.etcs_radio.proofs.body.RadioHeadVariables.bits.Goals as goal
 
 pub returns-clause-bits : goal.returns-clause-bits

@@ -1,0 +1,109 @@
+-- What a reader of messages holds.
+use Rattle.std.proofs.Common.{◌≡◌, ℕ, ◌%◌, ◌<◌, ◌&&◌, List, Bool, false, [], ◌++◌, length, Some, sym, ap, subst, ◌∙◌, arith, inl, inr}
+use Rattle.std.specs.Prelude.{All, IsTrue, not, nat_lt, ◌==◌}
+use Rattle.std.proofs.lemmas.Bool.{and_parts, ltb-true, eqb-true, not-true}
+use Rattle.std.proofs.lemmas.List.{length-append}
+use Rattle.std.proofs.lemmas.List.Elements.{All-nil}
+use Rattle.etcs_vars.specs.declared.var.Var.{Var}
+use Rattle.etcs_vars.specs.declared.var.Var.TheVariants.{PADDING, OTHER_DATA}
+use Rattle.etcs_vars.specs.Vars.{width}
+use Rattle.etcs_vars.specs.Reading.{Reading, spelled, kept}
+use Rattle.etcs_tables.specs.declared.row.Way.{Way}
+use Rattle.etcs_rows.specs.declared.frames.Carrier.{Carrier}
+use Rattle.etcs_rows.specs.declared.frames.Carrier.TheVariants.{Message}
+use Rattle.etcs_rows.specs.Frames.{way_of}
+use Rattle.etcs_packets.specs.PacketValues.{Form, IsPacketTo}
+use Rattle.etcs_packets.specs.PacketReadings.{readings_to}
+use Rattle.etcs_sequence.specs.Contents.{Carries}
+use Rattle.etcs_sequence.specs.Runs.{Begun}
+use Rattle.etcs_reader.specs.Rests.{Goes}
+use Rattle.etcs_sequence.specs.declared.state.PacketsState.{PacketsState}
+use Rattle.etcs_sequence.specs.Labels.{labelled}
+use Rattle.etcs_sequence.specs.Lefts.{is_closed}
+use Rattle.etcs_sequence.specs.Held.{list_holds}
+use Rattle.etcs_sequence.proofs.Begun.{begun_of, nothing_held, none_listed}
+use Rattle.etcs_messages.specs.declared.phase.Phase.{Phase}
+use Rattle.etcs_messages.specs.declared.phase.Phase.TheVariants.{Number, Length, Front, Packets, Padding, Data, Whole}
+use Rattle.etcs_messages.specs.Messages.{values_of}
+use Rattle.etcs_messages.specs.Lefts.{front_vars, some_row, headed, left_at, next_at, is_message, stands_at, PacketsBehind, HoldsIn, FrontHeld, PacketsHeld, PaddingHeld, DataHeld}
+use Rattle.etcs_messages.specs.Readers.{Standing, Members}
+use Rattle.etcs_messages.proofs.Faults.{carried_packets}
+use Rattle.etcs_messages.proofs.SoFar.{first_goes}
+use Rattle.etcs_messages.proofs.RestStands.{message_parts}
+
+-- no packet, number or bit is held
+none_held : {P : Type 0} (form : P → Form) (ps : List P) (f : List ℕ) (k : List Bool) → list_holds form ps f k [] [] [] → (ps ≡ []) × (f ≡ []) × (k ≡ [])
+none_held form ps f k (vs_is, (made, (m_is, l_is))) = (none_listed form ps vs_is, sym m_is, sym l_is)
+
+front_members : {P : Type 0} (way : Way) (form : P → Form) (nid at : ℕ) (front : List ℕ) (l : PacketsState) (ps : List P) (f : List ℕ) (k : List Bool) (q : Reading) → IsTrue (stands_at way nid (Front at) (length front) l) → FrontHeld way nid at front l (list_holds form ps f k) q → Standing way form ps f k q
+front_members way form nid at front l ps f k q stands h =
+    let (ps_is, f_is, k_is) = nothing_held form l.carrier l.stage ps f k h.none in
+    let both = and_parts (nat_lt at (length (front_vars way nid))) ((length front == at) && is_message way l) stands in
+    let same = eqb-true (length front) at (and_parts (length front == at) (is_message way l) both.1).0 in
+    let less = ltb-true at (length (front_vars way nid)) both.0 in
+    let vars = ap (λ o. length (some_row o)) h.typed in
+    inl (inr (inr (nid, h.len, h.vars, front, h.typed, omega (arith, same, less, vars), h.reading_is)), ps_is, f_is, k_is)
+
+packets_members : {P : Type 0} (way : Way) (form : P → Form) (nid : ℕ) (front : List ℕ) (l : PacketsState) (ps : List P) (f : List ℕ) (k : List Bool) (q : Reading) → l.carrier ≡ Message way → is_closed l.stage ≡ false → Goes (PacketsBehind l) → PacketsHeld way nid front l (list_holds form ps f k) q → Standing way form ps f k q
+packets_members way form nid front l ps f k q same more g h =
+    let (vs, m, b, r, (vs_is, (made, (m_is, b_is))), carried, here, e) = h.held in
+    let begun : Begun way r m b = subst (λ (c : Carrier). Begun (way_of c) r m b) same (begun_of l.carrier l.room l.stage m b r l.stands more (first_goes l g) here) in
+    let whole = h.reading_is ∙ ap (λ (t : Reading). headed nid h.len (labelled h.vars front ++ t)) (e ∙ ap (λ (t : Reading). t ++ r) (ap (λ (c : Carrier). readings_to (way_of c) vs) same) ∙ ap (λ v. readings_to way v ++ r) vs_is) in
+    inr (inl (nid, h.len, h.vars, front, r, h.typed, h.count, whole, subst (λ (t : List Bool). Begun way r f t) b_is (subst (λ (t : List ℕ). Begun way r t b) m_is begun)))
+
+data_members : {P : Type 0} (way : Way) (form : P → Form) (nid left : ℕ) (ps : List P) (f : List ℕ) (k : List Bool) (q : Reading) → DataHeld way nid (list_holds form ps f k) left q → Standing way form ps f k q
+data_members way form nid left ps f k q h =
+    let (vs_is, (made, (m_is, b_is))) = h.held in
+    inr (inr ((nid, h.len, h.untyped, h.reading_is ∙ ap (λ (b : List Bool). headed nid h.len (kept OTHER_DATA b)) b_is), none_listed form ps vs_is, sym m_is))
+
+-- between two pieces no bit of PADDING was read: all bits are whole bytes, and fewer are left than one
+members_of : {P : Type 0} (way : Way) (form : P → Form) (nid : ℕ) (phase : Phase) (front : List ℕ) (l : PacketsState) (ps : List P) (f : List ℕ) (k : List Bool) (number : ℕ) (q : Reading) (part : List Bool) (x : Var) → IsTrue (stands_at way nid phase (length front) l) → next_at way nid phase l ≡ Some x → Goes (left_at way nid phase l) → HoldsIn way nid phase front l number (list_holds form ps f k) q → length part < width x → length (spelled q ++ part) % 8 ≡ 0 → Standing way form ps f k q
+members_of way form nid Number front l ps f k number q part x stands e g (z, h, is) short bytes = let (a, b, c) = none_held form ps f k h in inl (inl is, a, b, c)
+members_of way form nid Length front l ps f k number q part x stands e g (z, h, is) short bytes = let (a, b, c) = none_held form ps f k h in inl (inr (inl (nid, is)), a, b, c)
+members_of way form nid (Front at) front l ps f k number q part x stands e g (z, h) short bytes = front_members way form nid at front l ps f k q stands h
+members_of way form nid Packets front l ps f k number q part x stands e g (z, h) short bytes =
+    let both = and_parts (is_message way l) (not (is_closed l.stage)) stands in
+    packets_members way form nid front l ps f k q (message_parts way l both.0).0 (not-true (is_closed l.stage) both.1) g h
+members_of way form nid (Padding left) front l ps f k number q part x stands e g h short bytes =
+    let both = and_parts (nat_lt 0 left) (nat_lt left 8) stands in
+    let some = ltb-true 0 left both.0 in
+    let few = ltb-true left 8 both.1 in
+    let same : PADDING ≡ x = cc in
+    let one : length part < width PADDING = subst (λ (v : Var). length part < width v) (sym same) short in
+    let none : length part ≡ 0 = omega (arith, one) in
+    let room = h.room_is in
+    absurd (omega (arith, some, few, none, room, bytes, length-append (spelled q) part))
+members_of way form nid (Data left) front l ps f k number q part x stands e g h short bytes = data_members way form nid left ps f k q h
+members_of way form nid Whole front l ps f k number q part x stands e g h short bytes = absurd cc
+
+-- ---- Its packets are whole ones.
+
+-- what is said of them
+abbrev AreWhole : {P : Type 0} → Way → (P → Form) → List P → Type 0
+AreWhole way form ps = All (λ p. (form p).made) ps × All (IsPacketTo way) (values_of form ps)
+
+none_whole : {P : Type 0} (way : Way) (form : P → Form) (ps : List P) → ps ≡ [] → AreWhole way form ps
+none_whole way form ps e = subst (AreWhole way form) (sym e) (All-nil (λ p. (form p).made), All-nil (IsPacketTo way))
+
+packets_whole : {P : Type 0} (way : Way) (form : P → Form) (nid : ℕ) (front : List ℕ) (l : PacketsState) (ps : List P) (f : List ℕ) (k : List Bool) (q : Reading) → l.carrier ≡ Message way → PacketsHeld way nid front l (list_holds form ps f k) q → AreWhole way form ps
+packets_whole way form nid front l ps f k q to h =
+    let (vs, m, b, r, (vs_is, (made, same)), carried, here, e) = h.held in
+    (made, subst (All (IsPacketTo way)) vs_is (carried_packets way vs (subst (λ (c : Carrier). All (Carries c) vs) to carried)))
+
+padding_whole : {P : Type 0} (way : Way) (form : P → Form) (nid : ℕ) (front : List ℕ) (ps : List P) (f : List ℕ) (k : List Bool) (number left : ℕ) (q : Reading) → PaddingHeld way nid front (list_holds form ps f k) number left q → AreWhole way form ps
+padding_whole way form nid front ps f k number left q h = (h.held.1.0, subst (All (IsPacketTo way)) h.held.0 (carried_packets way h.packets h.carried))
+
+whole_of : {P : Type 0} (way : Way) (form : P → Form) (nid : ℕ) (phase : Phase) (front : List ℕ) (l : PacketsState) (ps : List P) (f : List ℕ) (k : List Bool) (number : ℕ) (q : Reading) → IsTrue (stands_at way nid phase (length front) l) → HoldsIn way nid phase front l number (list_holds form ps f k) q → AreWhole way form ps
+whole_of way form nid Number front l ps f k number q s (z, h, is) = none_whole way form ps (none_held form ps f k h).0
+whole_of way form nid Length front l ps f k number q s (z, h, is) = none_whole way form ps (none_held form ps f k h).0
+whole_of way form nid (Front at) front l ps f k number q s (z, h) = none_whole way form ps (nothing_held form l.carrier l.stage ps f k h.none).0
+whole_of way form nid Packets front l ps f k number q s (z, h) = packets_whole way form nid front l ps f k q (message_parts way l (and_parts (is_message way l) (not (is_closed l.stage)) s).0).0 h
+whole_of way form nid (Padding left) front l ps f k number q s h = padding_whole way form nid front ps f k number left q h
+whole_of way form nid (Data left) front l ps f k number q s h = none_whole way form ps (none_listed form ps h.held.0)
+whole_of way form nid Whole front l ps f k number q s (inl h) = padding_whole way form nid front ps f k number 0 q h
+whole_of way form nid Whole front l ps f k number q s (inr h) = none_whole way form ps (none_listed form ps h.held.0)
+
+pub members_at : {P : Type 0} (way : Way) (form : P → Form) (nid : ℕ) (phase : Phase) (front : List ℕ) (l : PacketsState) (ps : List P) (f : List ℕ) (k : List Bool) (number : ℕ) (q : Reading) (part : List Bool) (x : Var) → IsTrue (stands_at way nid phase (length front) l) → next_at way nid phase l ≡ Some x → Goes (left_at way nid phase l) → HoldsIn way nid phase front l number (list_holds form ps f k) q → length part < width x → length (spelled q ++ part) % 8 ≡ 0 → Members way form ps f k q
+members_at way form nid phase front l ps f k number q part x stands e g h short bytes =
+    let whole = whole_of way form nid phase front l ps f k number q stands h in
+    (members_of way form nid phase front l ps f k number q part x stands e g h short bytes, whole.0, whole.1)

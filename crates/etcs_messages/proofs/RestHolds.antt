@@ -1,0 +1,301 @@
+-- What is kept of a message after each of its variables.
+use Rattle.std.proofs.Common.{◌≡◌, ℕ, suc, ◌+◌, ◌-◌, ◌*◌, ◌%◌, ◌^◌, ◌<◌, ◌≤◌, Bool, List, [], ◌∷◌, ◌++◌, length, drop, Some, None, refl, sym, ap, subst, ◌∙◌, arith, ltb, append_assoc, append-nil, length-append, inl, inr}
+use Rattle.std.specs.Prelude.{All, IsTrue}
+use Rattle.std.specs.Int.RustNames.{bit_or}
+use Rattle.std.proofs.lemmas.List.{nil_from_length}
+use Rattle.std.proofs.lemmas.Nat.{or_shifted}
+use Rattle.std.proofs.Math.ListN.{drop_of_length-le}
+use Rattle.std.proofs.Math.Pow.{pow_mono}
+use Rattle.etcs_bits.specs.Bits.{num}
+use Rattle.etcs_bits.proofs.Numbers.{length-num}
+use Rattle.etcs_vars.specs.declared.var.Var.{Var}
+use Rattle.etcs_vars.specs.declared.var.Var.TheVariants.{NID_MESSAGE, L_MESSAGE, PADDING, OTHER_DATA}
+use Rattle.etcs_vars.specs.Vars.{width}
+use Rattle.etcs_vars.specs.Reading.{Reading, spelled, kept}
+use Rattle.etcs_vars.specs.Walking.{Residual}
+use Rattle.etcs_vars.proofs.Stepping.{parts_fit, next_number}
+use Rattle.etcs_tables.specs.declared.row.Way.{Way}
+use Rattle.etcs_rows.specs.declared.frames.Carrier.{Carrier}
+use Rattle.etcs_rows.specs.declared.frames.Carrier.TheVariants.{Message}
+use Rattle.etcs_vars.proofs.Sent.{length-sent}
+use Rattle.etcs_rows.specs.Frames.{way_of}
+use Rattle.etcs_packets.specs.PacketValues.{PacketValue}
+use Rattle.etcs_packets.specs.PacketReadings.{readings_to}
+use Rattle.etcs_sequence.specs.Contents.{Carries, closing}
+use Rattle.etcs_sequence.specs.laws.RunSteps.{both_length}
+use Rattle.etcs_reader.specs.Rests.{Starts, Goes}
+use Rattle.etcs_reader.specs.Fields.{first_of}
+use Rattle.etcs_sequence.specs.declared.state.PacketsState.{PacketsState}
+use Rattle.etcs_sequence.specs.declared.stage.Stage.TheVariants as stage
+use Rattle.etcs_sequence.specs.laws.BitLaws.{bits_append, bits_spelled}
+use Rattle.etcs_sequence.specs.Labels.{labelled, widths}
+use Rattle.etcs_sequence.proofs.LabelLaws.{labelled_none, labelled_more}
+use Rattle.etcs_sequence.specs.Lefts.{left_of, ahead, is_closed, HoldsAt, Moved}
+use Rattle.etcs_sequence.proofs.StageLaws.{closed_stage}
+use Rattle.etcs_messages.specs.declared.phase.Phase.{Phase}
+use Rattle.etcs_messages.specs.declared.phase.Phase.TheVariants as phase
+use Rattle.etcs_messages.specs.Lefts.{front_row, front_vars, some_row, front_bits, headed, left_at, next_at, is_message, stands_at, behind_packets, behind_front, behind_padding, behind_data, DataFits, PacketsHeld, PaddingHeld, DataHeld, HoldsIn, Follows}
+use Rattle.etcs_messages.proofs.Fronts.{drop_bits}
+use Rattle.etcs_messages.proofs.RestSteps.{by_test, below_false, typed_bounds, kept_bounds, front_behind, packets_behind, padding_behind, data_behind}
+use Rattle.etcs_messages.proofs.RestStands.{begin_parts, front_parts, message_parts}
+
+-- what a store holds
+abbrev pub Holds : Type 1
+Holds = List PacketValue → List ℕ → List Bool → Type 0
+
+-- this many bits more
+more_bits : (q : Reading) (x : Var) (n : ℕ) → length (spelled (q ++ (x, n) ∷ [])) ≡ length (spelled q) + width x
+more_bits q x n = (let a = both_length q ((x, n) ∷ []) in let b = length-sent x n [] in omega (arith, a, b))
+
+kept_bits : (q : Reading) (x : Var) (t : List Bool) → width x ≡ 1 → length (spelled (q ++ kept x t)) ≡ length (spelled q) + length t
+kept_bits q x t w = (let a = both_length q (kept x t) in let b = ap (λ (s : List Bool). length s) (bits_spelled x t w) in omega (arith, a, b))
+
+-- ---- PADDING.
+
+padding_first : (way : Way) (nid left : ℕ) (front : List ℕ) (l : PacketsState) (padding : ℕ) (holds : Holds) (q : Reading) → PaddingHeld way nid front holds padding left q → HoldsIn way nid (behind_padding left) front l padding holds q
+padding_first way nid left front l padding holds q h =
+    by_test (ltb 0 left) (λ x. HoldsIn way nid x front l padding holds q) (phase.Padding left) phase.Whole
+    (λ _. h)
+    (λ t. let e : left ≡ 0 = (let b = below_false 0 left t in omega arith) in inl (subst (λ n. PaddingHeld way nid front holds padding n q) e h))
+
+-- a shift that loses no bit
+shifted : (padding number k c : ℕ) → k + c ≤ 7 → padding < 2 ^ k → number < 2 ^ c → bit_or (padding * 2 ^ c % 256) number ≡ padding * 2 ^ c + number
+shifted padding number k c short small fits =
+    let all : padding * 2 ^ c + number < 2 ^ (k + c) = parts_fit k c padding number small fits in
+    let top : 2 ^ (k + c) ≤ 2 ^ 7 = pow_mono short in
+    let whole : padding * 2 ^ c % 256 ≡ padding * 2 ^ c = (let n = padding * 2 ^ c in let below : n < 256 = omega (arith, all, top) in omega (arith, below)) in
+    rw whole (or_shifted padding c number fits)
+
+padding_more : (way : Way) (nid left c number padding : ℕ) (front : List ℕ) (holds : Holds) (q : Reading) → c ≤ left → number < 2 ^ c → PaddingHeld way nid front holds padding left q → PaddingHeld way nid front holds (bit_or (padding * 2 ^ c % 256) number) (left - c) (q ++ kept PADDING (num c number))
+padding_more way nid left c number padding front holds q le fits f =
+    let k = length f.bits in
+    let short = f.short in
+    let is : bit_or (padding * 2 ^ c % 256) number ≡ padding * 2 ^ c + number = shifted padding number k c (omega (arith, short, le)) f.small fits in
+    let t = num c number in
+    let wide : length t ≡ c = length-num c number in
+    let long : length (f.bits ++ t) ≡ k + c = length-append f.bits t ∙ ap (λ n. k + n) wide in
+    let v = labelled f.vars front in
+    let p = readings_to way f.packets in
+    rw is record {
+      len = f.len;
+      vars = f.vars;
+      packets = f.packets;
+      bits = f.bits ++ t;
+      typed = f.typed;
+      count = f.count;
+      held = f.held;
+      carried = f.carried;
+      short = omega (arith, long, short, le);
+      small = rw long (parts_fit k c padding number f.small fits);
+      padding_is = rw long (ap (λ (s : List Bool). s ++ t) f.padding_is ∙ sym (next_number k c padding number fits));
+      reading_is = ap (λ (x : Reading). x ++ kept PADDING t) f.reading_is ∙ ap (headed nid f.len) (append_assoc v (p ++ kept PADDING f.bits) (kept PADDING t) ∙ ap (λ (x : Reading). v ++ x) (append_assoc p (kept PADDING f.bits) (kept PADDING t) ∙ ap (λ (x : Reading). p ++ x) (sym (bits_append PADDING f.bits t))));
+      room_is = (let a = kept_bits q PADDING t refl in let b = f.room_is in omega (arith, a, b, wide, le));
+    }
+
+-- ---- The packets.
+
+-- packets that are closed, with none of PADDING
+closed_held : (way : Way) (nid : ℕ) (front : List ℕ) (c : Carrier) (room padding : ℕ) (holds : Holds) (len : ℕ) (vars : List Var) (here q : Reading) → c ≡ (Message way) → room ≤ 7 → padding ≡ 0 → front_row way nid ≡ Some vars → length front ≡ length vars → q ≡ headed nid len (labelled vars front ++ here)
+    → length (spelled q) + room ≡ 8 * len → HoldsAt c stage.Closed holds here → PaddingHeld way nid front holds padding room q
+unfolding num
+closed_held way nid front c room padding holds len vars here q same short none typed count is bits (vs, f, k, t, held, carried, (no_numbers, no_bits, all), reading) =
+    let here-is : here ≡ readings_to way vs ++ kept PADDING [] = reading ∙ ap (λ (x : Reading). readings_to (way_of c) vs ++ x) (all ∙ ap closing same) ∙ ap (λ (d : Carrier). readings_to (way_of d) vs ++ []) same in
+    record {
+      len = len;
+      vars = vars;
+      packets = vs;
+      bits = [];
+      typed = typed;
+      count = count;
+      held = subst (λ (x : List ℕ). holds vs x []) no_numbers (subst (λ (x : List Bool). holds vs f x) no_bits held);
+      carried = subst (λ (x : Carrier). All (Carries x) vs) same carried;
+      short = omega (arith, short);
+      small = omega (arith, none);
+      padding_is = refl;
+      reading_is = is ∙ ap (λ (x : Reading). headed nid len (labelled vars front ++ x)) here-is;
+      room_is = bits;
+    }
+
+-- all of the front, and packets
+packets_first : (way : Way) (nid : ℕ) (front : List ℕ) (l : PacketsState) (padding : ℕ) (holds : Holds) (q : Reading) → IsTrue (is_message way l) → padding ≡ 0 → PacketsHeld way nid front l holds q → HoldsIn way nid (behind_packets l) front l padding holds q
+packets_first way nid front l padding holds q m none h =
+    let parts = message_parts way l m in
+    by_test (is_closed l.stage) (λ x. HoldsIn way nid x front l padding holds q) (behind_padding l.room) phase.Packets
+    (λ t. let e = closed_stage l.stage t in
+    let room : length (spelled q) + l.room ≡ 8 * h.len = rw e at h.room_is in
+    let held : HoldsAt l.carrier stage.Closed holds h.here = rw e at h.held in
+    let short = parts.1 t in
+    padding_first way nid l.room front l padding holds q (closed_held way nid front l.carrier l.room padding holds h.len h.vars h.here q parts.0 (omega (arith, short)) none h.typed h.count h.reading_is room held))
+    (λ _. (none, h))
+
+packets_held : (way : Way) (nid : ℕ) (front : List ℕ) (l l' : PacketsState) (padding : ℕ) (holds holds' : Holds) (p : Reading) → IsTrue (is_message way l') → Moved l.carrier l.room l.stage p l'.carrier l'.room l'.stage
+    → ((q : Reading) → HoldsAt l.carrier l.stage holds q → HoldsAt l'.carrier l'.stage holds' (q ++ p)) → (q : Reading) → HoldsIn way nid phase.Packets front l padding holds q → HoldsIn way nid (behind_packets l') front l' padding holds' (q ++ p)
+packets_held way nid front l l' padding holds holds' p m moved more q (none, h) =
+    packets_first way nid front l' padding holds' (q ++ p) m none record {
+      len = h.len;
+      vars = h.vars;
+      here = h.here ++ p;
+      typed = h.typed;
+      count = h.count;
+      held = more h.here h.held;
+      reading_is = ap (λ (x : Reading). x ++ p) h.reading_is ∙ ap (headed nid h.len) (append_assoc (labelled h.vars front) h.here p);
+      room_is = (let a = both_length q p in let b = h.room_is in let d = moved.ahead_is in omega (arith, a, b, d));
+    }
+
+-- ---- The front.
+
+front_held : (way : Way) (nid at : ℕ) (front : List ℕ) (l : PacketsState) (padding : ℕ) (holds : Holds) (x : Var) (n : ℕ) (q : Reading) → at < length (front_vars way nid) → length front ≡ at → IsTrue (is_message way l) → next_at way nid (phase.Front at) l ≡ Some x → HoldsIn way nid (phase.Front at) front l padding holds q
+    → HoldsIn way nid (behind_front (length (front_vars way nid)) (at + 1) l) (front ++ n ∷ []) l padding holds (q ++ (x, n) ∷ [])
+front_held way nid at front l padding holds x n q below len m next (none, h) =
+    let vars : front_vars way nid ≡ h.vars = ap some_row h.typed in
+    let first : first_of (drop at h.vars) ≡ Some x = rw vars at next in
+    let first' : first_of (drop (length front) h.vars) ≡ Some x = rw len first in
+    let reading : q ++ (x, n) ∷ [] ≡ headed nid h.len (labelled h.vars (front ++ n ∷ [])) = ap (λ (t : Reading). t ++ (x, n) ∷ []) h.reading_is ∙ ap (headed nid h.len) (sym (labelled_more h.vars front x n first')) in
+    let room : length (spelled (q ++ (x, n) ∷ [])) + (widths (drop (suc at) h.vars) + ahead l.carrier l.room l.stage) ≡ 8 * h.len = (let a = more_bits q x n in let b = h.room_is in let d = drop_bits h.vars at x first in omega (arith, a, b, d)) in
+    let long : length (front ++ n ∷ []) ≡ suc at = length-append front (n ∷ []) ∙ omega (arith, len) in
+    let next_at-is : at + 1 ≡ suc at = omega arith in
+    by_test (ltb (at + 1) (length (front_vars way nid))) (λ p. HoldsIn way nid p (front ++ n ∷ []) l padding holds (q ++ (x, n) ∷ [])) (phase.Front (at + 1)) (behind_packets l)
+    (λ _. (none, record { len = h.len; vars = h.vars; typed = h.typed; none = h.none; reading_is = reading; room_is = rw next_at-is room }))
+    (λ t. let over = below_false (at + 1) (length (front_vars way nid)) t in
+    let size = ap (λ (vs : List Var). length vs) vars in
+    let all : drop (suc at) h.vars ≡ [] = drop_of_length-le h.vars {i = suc at} (omega (arith, over, size)) in
+    let no_more : widths (drop (suc at) h.vars) ≡ 0 = ap widths all in
+    packets_first way nid (front ++ n ∷ []) l padding holds (q ++ (x, n) ∷ []) m none record {
+      len = h.len;
+      vars = h.vars;
+      here = [];
+      typed = h.typed;
+      count = omega (arith, long, over, size, below);
+      held = h.none;
+      reading_is = reading ∙ ap (headed nid h.len) (sym (append-nil (labelled h.vars (front ++ n ∷ []))));
+      room_is = omega (arith, room, no_more);
+    })
+
+-- ---- Bits that are kept.
+
+data_first : (way : Way) (nid left : ℕ) (front : List ℕ) (l : PacketsState) (padding : ℕ) (holds : Holds) (q : Reading) → DataHeld way nid holds left q → HoldsIn way nid (behind_data left) front l padding holds q
+data_first way nid left front l padding holds q h =
+    by_test (ltb 0 left) (λ x. HoldsIn way nid x front l padding holds q) (phase.Data left) phase.Whole
+    (λ _. h)
+    (λ t. let e : left ≡ 0 = (let b = below_false 0 left t in omega arith) in inr (subst (λ n. DataHeld way nid holds n q) e h))
+
+data_more : (way : Way) (nid left : ℕ) (holds holds' : Holds) (t : List Bool) (q : Reading) → length t ≤ left → ((vs : List PacketValue) (k : List Bool) → holds vs [] k → holds' vs [] (k ++ t)) → DataHeld way nid holds left q → DataHeld way nid holds' (left - length t) (q ++ kept OTHER_DATA t)
+data_more way nid left holds holds' t q le more f = record {
+  len = f.len;
+  bits = f.bits ++ t;
+  untyped = f.untyped;
+  least = f.least;
+  held = more [] f.bits f.held;
+  reading_is = ap (λ (x : Reading). x ++ kept OTHER_DATA t) f.reading_is ∙ ap (headed nid f.len) (sym (bits_append OTHER_DATA f.bits t));
+  room_is = (let n = f.room_is in omega (arith, n, le, length-append f.bits t));
+}
+
+-- ---- From one to the next.
+
+-- with NID_MESSAGE and L_MESSAGE
+heads : (nid len : ℕ) (q : Reading) → q ≡ (NID_MESSAGE, nid) ∷ [] → length (spelled (q ++ (L_MESSAGE, len) ∷ [])) ≡ 18
+heads nid len q is =
+    let a = more_bits q L_MESSAGE len in
+    let b = ap (λ (x : Reading). length (spelled x)) is in
+    let d = length-sent NID_MESSAGE nid [] in
+    omega (arith, a, b, d)
+
+pub typed_follows : (way : Way) (nid : ℕ) (here : Phase) (front : List ℕ) (l l' : PacketsState) (padding : ℕ) (holds holds' : Holds) (len : ℕ) (vs : List Var)
+    → here ≡ phase.Length → IsTrue (stands_at way nid here (length front) l) → front_row way nid ≡ Some vs → Starts (left_at way nid here l) L_MESSAGE 0 len
+    → Residual (left_at way nid phase.Length l) ((L_MESSAGE, len) ∷ []) (left_at way nid (phase.Front 0) l') → ahead l'.carrier l'.room l'.stage ≡ 8 * len - front_bits vs → (holds [] [] [] → HoldsAt l'.carrier l'.stage holds' [])
+    → Follows way nid here front l padding holds ((L_MESSAGE, len) ∷ []) nid (phase.Front 0) front l' padding holds'
+typed_follows way nid here front l l' padding holds holds' len vs e h found goes behind room begun =
+    let no_front : front ≡ [] = nil_from_length front (begin_parts way nid here (length front) l e h).0 in
+    let bounds = typed_bounds way nid len vs found (rw e at goes) in
+    rw e record {
+      residual = behind;
+      held = λ q (none, k, is). (
+        none,
+        record {
+          len = len;
+          vars = vs;
+          typed = found;
+          none = begun k;
+          reading_is = ap (λ (x : Reading). x ++ (L_MESSAGE, len) ∷ []) is ∙ ap (headed nid len) (sym (ap (labelled vs) no_front ∙ labelled_none vs));
+          room_is = (let a = heads nid len q is in let b = bounds.0 in omega (arith, a, b, room));
+        },
+      );
+    }
+
+pub front_follows : (way : Way) (nid : ℕ) (here here' : Phase) (at : ℕ) (front : List ℕ) (l : PacketsState) (padding : ℕ) (holds : Holds) (x : Var) (n : ℕ)
+    → here ≡ phase.Front at → here' ≡ behind_front (length (front_vars way nid)) (at + 1) l → IsTrue (stands_at way nid here (length front) l) → next_at way nid here l ≡ Some x → Starts (left_at way nid here l) x 0 n
+    → Follows way nid here front l padding holds ((x, n) ∷ []) nid here' (front ++ n ∷ []) l padding holds
+front_follows way nid here here' at front l padding holds x n e e' h next goes =
+    let parts = front_parts way nid here at (length front) l e h in
+    let next' : next_at way nid (phase.Front at) l ≡ Some x = subst (λ (p : Phase). next_at way nid p l ≡ Some x) e next in
+    let goes' : Starts (left_at way nid (phase.Front at) l) x 0 n = subst (λ (p : Phase). Starts (left_at way nid p l) x 0 n) e goes in
+    rw (e, e') record {
+      residual = front_behind way nid at l x n parts.0 next' goes';
+      held = λ q k. front_held way nid at front l padding holds x n q parts.0 parts.1 parts.2 next' k;
+    }
+
+pub packets_follow : (way : Way) (nid : ℕ) (here here' : Phase) (front : List ℕ) (l l' : PacketsState) (padding : ℕ) (holds holds' : Holds) (p : Reading)
+    → here ≡ phase.Packets → here' ≡ behind_packets l' → IsTrue (is_message way l') → Moved l.carrier l.room l.stage p l'.carrier l'.room l'.stage → Goes (left_of l'.carrier l'.room l'.stage)
+    → ((q : Reading) → HoldsAt l.carrier l.stage holds q → HoldsAt l'.carrier l'.stage holds' (q ++ p)) → Follows way nid here front l padding holds p nid here' front l' padding holds'
+packets_follow way nid here here' front l l' padding holds holds' p e e' m moved some held =
+    rw (e, e') record {
+      residual = packets_behind way nid l l' p moved some;
+      held = packets_held way nid front l l' padding holds holds' p m moved held;
+    }
+
+pub padding_follows : (way : Way) (nid : ℕ) (here here' : Phase) (left c number : ℕ) (front : List ℕ) (l : PacketsState) (padding : ℕ) (holds : Holds) → here ≡ phase.Padding left → here' ≡ behind_padding (left - c) → c ≤ left → number < 2 ^ c
+    → Follows way nid here front l padding holds (kept PADDING (num c number)) nid here' front l (bit_or (padding * 2 ^ c % 256) number) holds
+padding_follows way nid here here' left c number front l padding holds e e' le fits =
+    let wide : length (num c number) ≡ c = length-num c number in
+    let behind = padding_behind way nid left l (num c number) (omega (arith, wide, le)) in
+    rw (e, e') record {
+      residual = rw wide at behind;
+      held = λ q h. padding_first way nid (left - c) front l (bit_or (padding * 2 ^ c % 256) number) holds (q ++ kept PADDING (num c number)) (padding_more way nid left c number padding front holds q le fits h);
+    }
+
+pub data_follows : (way : Way) (nid : ℕ) (here here' : Phase) (left : ℕ) (front : List ℕ) (l : PacketsState) (padding : ℕ) (holds holds' : Holds) (t : List Bool) → here ≡ phase.Data left → here' ≡ behind_data (left - length t) → length t ≤ left
+    → ((vs : List PacketValue) (k : List Bool) → holds vs [] k → holds' vs [] (k ++ t)) → Follows way nid here front l padding holds (kept OTHER_DATA t) nid here' front l padding holds'
+data_follows way nid here here' left front l padding holds holds' t e e' le more =
+    rw (e, e') record {
+      residual = data_behind way nid left l t le;
+      held = λ q h. data_first way nid (left - length t) front l padding holds' (q ++ kept OTHER_DATA t) (data_more way nid left holds holds' t q le more h);
+    }
+
+-- ---- Room for bits that are kept.
+
+pub data_room : (here : Phase) (left n : ℕ) (holds : Holds) → here ≡ phase.Data left → n ≤ left → DataFits here holds → (vs : List PacketValue) × ((f : List ℕ) × ((k : List Bool) × (holds vs f k × (length k + n ≤ 8191))))
+data_room here left n holds e le h =
+    let (vs, k, held, small) = subst (λ (x : Phase). DataFits x holds) e h in
+    (vs, ([], (k, (held, omega (arith, small, le)))))
+
+data_fits : (left : ℕ) (holds holds' : Holds) (t : List Bool) → length t ≤ left → ((vs : List PacketValue) (k : List Bool) → holds vs [] k → holds' vs [] (k ++ t)) → DataFits (phase.Data left) holds → DataFits (behind_data (left - length t)) holds'
+data_fits left holds holds' t le more (vs, k, h, small) =
+    by_test (ltb 0 (left - length t)) (λ x. DataFits x holds') (phase.Data (left - length t)) phase.Whole
+    (λ _. (vs, k ++ t, more vs k h, omega (arith, length-append k t, small, le)))
+    (λ _. tt)
+
+pub fits_behind : (here here' : Phase) (left : ℕ) (holds holds' : Holds) (t : List Bool) → here ≡ phase.Data left → here' ≡ behind_data (left - length t) → length t ≤ left
+    → ((vs : List PacketValue) (k : List Bool) → holds vs [] k → holds' vs [] (k ++ t)) → DataFits here holds → DataFits here' holds'
+fits_behind here here' left holds holds' t e e' le more h =
+    subst (λ (x : Phase). DataFits x holds') (sym e') (data_fits left holds holds' t le more (subst (λ (x : Phase). DataFits x holds) e h))
+
+pub begun_fits : (way : Way) (nid : ℕ) (here : Phase) (l : PacketsState) (holds : Holds) (len : ℕ) → here ≡ phase.Length → front_row way nid ≡ None → Starts (left_at way nid here l) L_MESSAGE 0 len → DataFits here holds → DataFits (phase.Data (8 * len - 18)) holds
+begun_fits way nid here l holds len e found goes h =
+    let bounds = kept_bounds way nid len found (rw e at goes) in
+    ([], [], subst (λ (x : Phase). DataFits x holds) e h, (let b = bounds.1 in omega (arith, b)))
+
+padding_fits : (left : ℕ) (holds : Holds) → DataFits (behind_padding left) holds
+padding_fits left holds = by_test (ltb 0 left) (λ x. DataFits x holds) (phase.Padding left) phase.Whole (λ _. tt) (λ _. tt)
+
+packets_fit : (l : PacketsState) (holds : Holds) → DataFits (behind_packets l) holds
+packets_fit l holds = by_test (is_closed l.stage) (λ x. DataFits x holds) (behind_padding l.room) phase.Packets (λ _. padding_fits l.room holds) (λ _. tt)
+
+front_fits : (count at : ℕ) (l : PacketsState) (holds : Holds) → DataFits (behind_front count at l) holds
+front_fits count at l holds = by_test (ltb at count) (λ x. DataFits x holds) (phase.Front at) (behind_packets l) (λ _. tt) (λ _. packets_fit l holds)
+
+-- nothing is asked where no bits are kept
+pub no_data_packets : (here : Phase) (l : PacketsState) (holds : Holds) → here ≡ behind_packets l → DataFits here holds
+no_data_packets here l holds e = rw e (packets_fit l holds)
+
+pub no_data_front : (here : Phase) (count at : ℕ) (l : PacketsState) (holds : Holds) → here ≡ behind_front count at l → DataFits here holds
+no_data_front here count at l holds e = rw e (front_fits count at l holds)

@@ -1,0 +1,134 @@
+-- What holds of what comes next in a message.
+use Rattle.std.proofs.Common.{◌≡◌, ℕ, ◌<◌, ◌≤◌, Bool, true, false, List, length, drop, Option, Some, None, refl, sym, ap, subst, arith, ltb}
+use Rattle.std.specs.Prelude.{IsTrue, not, ◌&&◌, ◌||◌, ◌==◌, nat_lt}
+use Rattle.std.proofs.lemmas.Bool.{and_parts, and_from, ltb-true, lt-ltb, eqb-true, eq-eqb, not-true}
+use Rattle.etcs_vars.specs.declared.var.Var.{Var}
+use Rattle.etcs_vars.specs.Reading.{Reading}
+use Rattle.etcs_vars.proofs.Languages.{Same}
+use Rattle.etcs_tables.specs.declared.row.Way.{Way}
+use Rattle.etcs_rows.specs.declared.frames.Carrier.{Carrier}
+use Rattle.etcs_rows.specs.declared.frames.Carrier.TheVariants.{Message}
+use Rattle.etcs_sequence.specs.Contents.{PacketsIn}
+use Rattle.etcs_reader.specs.Fields.{first_of}
+use Rattle.etcs_sequence.specs.declared.state.PacketsState.{PacketsState}
+use Rattle.etcs_sequence.specs.declared.stage.Stage.TheVariants as stage
+use Rattle.etcs_sequence.specs.Lefts.{left_of, ahead, is_stage, is_closed, Moved}
+use Rattle.etcs_sequence.proofs.StageLaws.{closed_stage, closed_room, begun_room}
+use Rattle.etcs_messages.specs.declared.phase.Phase.{Phase}
+use Rattle.etcs_messages.specs.declared.phase.Phase.TheVariants as phase
+use Rattle.etcs_messages.specs.Lefts.{front_row, front_vars, some_row, next_at, is_message, stands_at, behind_packets, behind_front, behind_padding, behind_data}
+use Rattle.etcs_messages.specs.Kinds.{is_carrier}
+use Rattle.etcs_messages.proofs.Ways.{carrier_is, carrier_to}
+use Rattle.etcs_messages.proofs.RestSteps.{by_test}
+
+-- ---- Packets of a message.
+
+then_true : (a b : Bool) → IsTrue (not a || b) → a ≡ true → IsTrue b
+then_true true b h e = h
+then_true false b h e = absurd cc
+
+from_then : (a b : Bool) → (a ≡ true → IsTrue b) → IsTrue (not a || b)
+from_then true b h = h refl
+from_then false b h = refl
+
+pub message_parts : (way : Way) (l : PacketsState) → IsTrue (is_message way l) → (l.carrier ≡ (Message way)) × (is_closed l.stage ≡ true → l.room < 8)
+message_parts way l h =
+    let both = and_parts (is_carrier way l.carrier) (not (is_closed l.stage) || nat_lt l.room 8) h in
+    (carrier_is way l.carrier both.0, λ e. ltb-true l.room 8 (then_true (is_closed l.stage) (nat_lt l.room 8) both.1 e))
+
+pub message_from : (way : Way) (l : PacketsState) → l.carrier ≡ (Message way) → (l.stage ≡ stage.Closed → l.room ≤ 7) → IsTrue (is_message way l)
+message_from way l same room =
+    let first : is_carrier way l.carrier ≡ true = rw same (carrier_to way) in
+    and_from (is_carrier way l.carrier) (not (is_closed l.stage) || nat_lt l.room 8) first
+    (from_then (is_closed l.stage) (nat_lt l.room 8) (λ e. let r = room (closed_stage l.stage e) in lt-ltb l.room 8 (omega (arith, r))))
+
+pub begun_message : (way : Way) (l : PacketsState) (room : ℕ) → l.carrier ≡ (Message way) → ahead l.carrier l.room l.stage ≡ room → Same (left_of l.carrier l.room l.stage) (PacketsIn (Message way) room) → IsTrue (is_message way l)
+begun_message way l room same a left = message_from way l same (begun_room way room l.carrier l.room l.stage a left)
+
+moved_message : (way : Way) (l l' : PacketsState) (p : Reading) → l.carrier ≡ (Message way) → is_closed l.stage ≡ false → Moved l.carrier l.room l.stage p l'.carrier l'.room l'.stage → IsTrue (is_message way l')
+moved_message way l l' p same open_now m =
+    let m' : Moved (Message way) l.room l.stage p l'.carrier l'.room l'.stage = subst (λ (c : Carrier). Moved c l.room l.stage p l'.carrier l'.room l'.stage) same m in
+    let stands : IsTrue (is_stage (Message way) l.room l.stage) = subst (λ (c : Carrier). IsTrue (is_stage c l.room l.stage)) same l.stands in
+    message_from way l' m'.same (closed_room way l.room l.stage p l'.carrier l'.room l'.stage stands open_now m')
+
+-- ---- What `stands` says.
+
+pub begin_parts : (way : Way) (nid : ℕ) (here : Phase) (m : ℕ) (l : PacketsState) → here ≡ phase.Length → IsTrue (stands_at way nid here m l) → (m ≡ 0) × (is_closed l.stage ≡ true)
+begin_parts way nid here m l e h =
+    let h' : IsTrue (stands_at way nid phase.Length m l) = subst (λ (x : Phase). IsTrue (stands_at way nid x m l)) e h in
+    let both = and_parts (m == 0) (is_closed l.stage) h' in
+    (eqb-true m 0 both.0, both.1)
+
+pub front_parts : (way : Way) (nid : ℕ) (here : Phase) (at m : ℕ) (l : PacketsState) → here ≡ phase.Front at → IsTrue (stands_at way nid here m l) → (at < length (front_vars way nid)) × (m ≡ at) × IsTrue (is_message way l)
+front_parts way nid here at m l e h =
+    let h' : IsTrue (stands_at way nid (phase.Front at) m l) = subst (λ (x : Phase). IsTrue (stands_at way nid x m l)) e h in
+    let all = and_parts (nat_lt at (length (front_vars way nid))) ((m == at) && is_message way l) h' in
+    let both = and_parts (m == at) (is_message way l) all.1 in
+    (ltb-true at (length (front_vars way nid)) all.0, eqb-true m at both.0, both.1)
+
+-- the variable that comes next, by what is known of those of a typed message
+pub front_next : (way : Way) (nid : ℕ) (here : Phase) (at m : ℕ) (l : PacketsState) (x : Option Var) → here ≡ phase.Front at → IsTrue (stands_at way nid here m l) → ((vars : List Var) → front_row way nid ≡ Some vars → x ≡ first_of (drop at vars)) → x ≡ next_at way nid here l
+front_next way nid here at m l x e h next = subst (λ (s : Phase). x ≡ next_at way nid s l) (sym e) (of (front_row way nid) refl (front_parts way nid here at m l e h).0)
+  where
+    of : (o : Option (List Var)) → front_row way nid ≡ o → at < length (some_row o) → x ≡ first_of (drop at (some_row o))
+    of None is far = absurd (omega arith)
+    of (Some vars) is far = next vars is
+
+pub packets_parts : (way : Way) (nid : ℕ) (here : Phase) (m : ℕ) (l : PacketsState) → here ≡ phase.Packets → IsTrue (stands_at way nid here m l) → (l.carrier ≡ Message way) × (is_closed l.stage ≡ false)
+packets_parts way nid here m l e h =
+    let h' : IsTrue (stands_at way nid phase.Packets m l) = subst (λ (x : Phase). IsTrue (stands_at way nid x m l)) e h in
+    let both = and_parts (is_message way l) (not (is_closed l.stage)) h' in
+    ((message_parts way l both.0).0, not-true (is_closed l.stage) both.1)
+
+pub padding_parts : (way : Way) (nid : ℕ) (here : Phase) (left m : ℕ) (l : PacketsState) → here ≡ phase.Padding left → IsTrue (stands_at way nid here m l) → (0 < left) × (left < 8)
+padding_parts way nid here left m l e h =
+    let h' : IsTrue (stands_at way nid (phase.Padding left) m l) = subst (λ (x : Phase). IsTrue (stands_at way nid x m l)) e h in
+    let both = and_parts (nat_lt 0 left) (nat_lt left 8) h' in
+    (ltb-true 0 left both.0, ltb-true left 8 both.1)
+
+pub data_parts : (way : Way) (nid : ℕ) (here : Phase) (left m : ℕ) (l : PacketsState) → here ≡ phase.Data left → IsTrue (stands_at way nid here m l) → (0 < left) × (is_closed l.stage ≡ true)
+data_parts way nid here left m l e h =
+    let h' : IsTrue (stands_at way nid (phase.Data left) m l) = subst (λ (x : Phase). IsTrue (stands_at way nid x m l)) e h in
+    let both = and_parts (nat_lt 0 left) (is_closed l.stage) h' in
+    (ltb-true 0 left both.0, both.1)
+
+-- ---- What follows a variable.
+
+pub padding_stands : (way : Way) (nid left m : ℕ) (l : PacketsState) → left < 8 → IsTrue (stands_at way nid (behind_padding left) m l)
+padding_stands way nid left m l short =
+    by_test (ltb 0 left) (λ x. IsTrue (stands_at way nid x m l)) (phase.Padding left) phase.Whole
+    (λ t. and_from (nat_lt 0 left) (nat_lt left 8) t (lt-ltb left 8 short))
+    (λ _. refl)
+
+pub data_stands : (way : Way) (nid left m : ℕ) (l : PacketsState) → is_closed l.stage ≡ true → IsTrue (stands_at way nid (behind_data left) m l)
+data_stands way nid left m l closed =
+    by_test (ltb 0 left) (λ x. IsTrue (stands_at way nid x m l)) (phase.Data left) phase.Whole
+    (λ t. and_from (nat_lt 0 left) (is_closed l.stage) t closed)
+    (λ _. refl)
+
+packets_stand : (way : Way) (nid m : ℕ) (l : PacketsState) → IsTrue (is_message way l) → IsTrue (stands_at way nid (behind_packets l) m l)
+packets_stand way nid m l h =
+    by_test (is_closed l.stage) (λ x. IsTrue (stands_at way nid x m l)) (behind_padding l.room) phase.Packets
+    (λ t. padding_stands way nid l.room m l ((message_parts way l h).1 t))
+    (λ f. and_from (is_message way l) (not (is_closed l.stage)) h (ap not f))
+
+pub front_stands : (way : Way) (nid at m : ℕ) (l : PacketsState) → m ≡ at → IsTrue (is_message way l) → IsTrue (stands_at way nid (behind_front (length (front_vars way nid)) at l) m l)
+front_stands way nid at m l same h =
+    by_test (ltb at (length (front_vars way nid))) (λ x. IsTrue (stands_at way nid x m l)) (phase.Front at) (behind_packets l)
+    (λ t. and_from (nat_lt at (length (front_vars way nid))) ((m == at) && is_message way l) t (and_from (m == at) (is_message way l) (eq-eqb m at same) h))
+    (λ _. packets_stand way nid m l h)
+
+pub packets_stands : (way : Way) (nid : ℕ) (here here' : Phase) (m : ℕ) (l l' : PacketsState) (p : Reading) → here ≡ phase.Packets → here' ≡ behind_packets l' → IsTrue (stands_at way nid here m l) → Moved l.carrier l.room l.stage p l'.carrier l'.room l'.stage → IsTrue (stands_at way nid here' m l')
+packets_stands way nid here here' m l l' p e e' h moved =
+    let parts = packets_parts way nid here m l e h in
+    rw e' (packets_stand way nid m l' (moved_message way l l' p parts.0 parts.1 moved))
+
+-- ---- What is wanted has room.
+
+pub begun_stands : (way : Way) (nid m : ℕ) (vs : List Var) (l : PacketsState) → front_vars way nid ≡ vs → 0 < length vs → m ≡ 0 → IsTrue (is_message way l) → IsTrue (stands_at way nid (phase.Front 0) m l)
+begun_stands way nid m vs l e pos none h =
+    let some : nat_lt 0 (length (front_vars way nid)) ≡ true = rw e (lt-ltb 0 (length vs) pos) in
+    and_from (nat_lt 0 (length (front_vars way nid))) ((m == 0) && is_message way l) some (and_from (m == 0) (is_message way l) (eq-eqb m 0 none) h)
+
+pub packets_message : (way : Way) (nid : ℕ) (here : Phase) (m : ℕ) (l l' : PacketsState) (p : Reading) → here ≡ phase.Packets → IsTrue (stands_at way nid here m l) → Moved l.carrier l.room l.stage p l'.carrier l'.room l'.stage → IsTrue (is_message way l')
+packets_message way nid here m l l' p e h moved = let parts = packets_parts way nid here m l e h in moved_message way l l' p parts.0 parts.1 moved

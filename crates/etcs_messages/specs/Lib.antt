@@ -1,0 +1,7 @@
+pub mod Kinds
+pub mod Messages
+pub mod Readings
+pub mod Promises
+pub mod Lefts
+pub mod Readers
+pub mod laws

@@ -1,0 +1,30 @@
+-- Laws of messages.
+use Rattle.std.specs.Prelude.{◌≡◌, ℕ, ◌*◌, ◌-◌, ◌≤◌, ◌↔◌, ◌⊎◌, Bool, List, [], ◌++◌, length, All, Some}
+use Rattle.etcs_vars.specs.Reading.{Reading, spelled, Viable}
+use Rattle.etcs_tables.specs.declared.row.Way.{Way}
+use Rattle.etcs_tables.specs.Frames.{frame_bits}
+use Rattle.etcs_rows.specs.declared.frames.Carrier.TheVariants as carrier
+use Rattle.etcs_tables.specs.Layouts.{Layout, Reads}
+use Rattle.etcs_tables.specs.Rows.{message_row_to}
+use Rattle.etcs_reader.specs.Fields.{ReadsFields}
+use Rattle.etcs_packets.specs.PacketValues.{PacketValue, Form}
+use Rattle.etcs_packets.specs.PacketReadings.{readings_to}
+use Rattle.etcs_sequence.specs.Contents.{Carries}
+use Rattle.etcs_messages.specs.Kinds.{HeadOf, OwnOf, head_row}
+use Rattle.etcs_messages.specs.declared.message.Content.{Content}
+use Rattle.etcs_messages.specs.Messages.{IsAdmitted, IsMessage, MessageReads, MessageLanguage, head_reading, message_value}
+
+-- messages with one spelling are one, and no spelling begins another
+abbrev pub OneSpelling : {H B P : Type 0} → Way → HeadOf H → OwnOf B → (P → Form) → Type 0
+OneSpelling {H} {B} {P} way k o form = (m n : Content H B P) (a b : Reading) (behind : List Bool) → IsMessage way k o form m → IsMessage way k o form n → MessageReads way (message_value way k o form m) a → MessageReads way (message_value way k o form n) b → spelled b ≡ spelled a ++ behind → (m ≡ n) × (behind ≡ [])
+
+-- a header, the variables of its row and packets
+abbrev pub begun : Way → ℕ → ℕ → Reading → Reading → List PacketValue → Reading
+begun way nid len head body vs = head_reading nid len head ++ body ++ readings_to way vs
+
+-- they begin a message exactly where they stay within its bytes and leave padding or the frame of a packet
+abbrev pub RoomRule : Way → Type 0
+RoomRule way =
+    (nid len : ℕ) (head : Reading) (row : Layout) (body : Reading) (vs : List PacketValue)
+    → message_row_to way nid ≡ Some row → ReadsFields (head_row way) head → IsAdmitted (head_reading nid len head) → Reads row [] body → All (Carries (carrier.Message way)) vs
+    → (Viable (MessageLanguage way) (spelled (begun way nid len head body vs)) ↔ ((length (spelled (begun way nid len head body vs)) ≤ 8 * len) × ((8 * len - length (spelled (begun way nid len head body vs)) ≤ 7) ⊎ (frame_bits way ≤ 8 * len - length (spelled (begun way nid len head body vs))))))

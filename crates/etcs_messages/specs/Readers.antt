@@ -1,0 +1,82 @@
+-- What a reader of messages stands for, by what it keeps.
+use Rattle.std.specs.Prelude.{◌≡◌, ℕ, ◌+◌, ◌-◌, ◌/◌, ◌<◌, Bool, List, [], ◌∷◌, ◌++◌, length, drop, Option, Some, None, All, ◌⊎◌}
+use Rattle.etcs_bits.specs.Bits.{num}
+use Rattle.etcs_vars.specs.declared.var.Var.{Var}
+use Rattle.etcs_vars.specs.declared.var.Var.TheVariants.{NID_MESSAGE, PADDING, OTHER_DATA}
+use Rattle.etcs_vars.specs.Reading.{Reading, spelled, kept}
+use Rattle.etcs_packets.specs.PacketValues.{Form, IsPacketTo}
+use Rattle.etcs_packets.specs.PacketReadings.{readings_to}
+use Rattle.etcs_sequence.specs.Runs.{Begun}
+use Rattle.etcs_sequence.specs.declared.state.PacketsState.{PacketsState}
+use Rattle.etcs_sequence.specs.declared.list.PacketList.{PacketList}
+use Rattle.etcs_sequence.specs.Labels.{labelled, widths}
+use Rattle.etcs_sequence.specs.Lefts.{ahead}
+use Rattle.etcs_sequence.specs.Held.{packets_so_far}
+use Rattle.etcs_sequence.specs.Holdings.{HeldIn}
+use Rattle.etcs_messages.specs.declared.phase.Phase.{Phase}
+use Rattle.etcs_messages.specs.declared.phase.Phase.TheVariants as phase
+use Rattle.etcs_messages.specs.Messages.{padding_room, MessageLanguage, values_of}
+use Rattle.etcs_tables.specs.declared.row.Way.{Way}
+use Rattle.etcs_messages.specs.Lefts.{front_row, front_vars, headed}
+
+-- NID_MESSAGE, the L_MESSAGE of a message with this many bits more, and these variables
+abbrev pub measured : ℕ → Reading → ℕ → Reading
+measured nid r more = headed nid ((18 + length (spelled r) + more) / 8) r
+
+-- all of the front, these packets and PADDING but for this many bits that are left
+abbrev pub padded : Reading → ℕ → ℕ → Reading
+padded r number left = r ++ kept PADDING (num (padding_room (18 + length (spelled r)) - left) number)
+
+abbrev pub packed : {P : Type 0} → Way → (P → Form) → ℕ → List ℕ → List P → Reading
+packed way form nid front ps = labelled (front_vars way nid) front ++ readings_to way (values_of form ps)
+
+-- all variables of a typed message or of one that is kept
+abbrev pub whole_far : {P : Type 0} → Way → (P → Form) → Option (List Var) → ℕ → List ℕ → PacketList P → ℕ → Reading
+whole_far way form None nid front store number = measured nid (kept OTHER_DATA store.bits) 0
+whole_far way form (Some vars) nid front store number = measured nid (padded (packed way form nid front store.packets.items) number 0) 0
+
+-- the variables so far
+abbrev pub so_far : {P : Type 0} → Way → (P → Form) → ℕ → Phase → List ℕ → PacketsState → PacketList P → ℕ → Reading
+so_far way form nid phase.Number front l store number = []
+so_far way form nid phase.Length front l store number = (NID_MESSAGE, nid) ∷ []
+so_far way form nid (phase.Front at) front l store number = measured nid (labelled (front_vars way nid) front) (widths (drop at (front_vars way nid)) + ahead l.carrier l.room l.stage)
+so_far way form nid phase.Packets front l store number = measured nid (labelled (front_vars way nid) front ++ packets_so_far form l.carrier l.stage store.packets.items store.numbers.items store.bits) (ahead l.carrier l.room l.stage)
+so_far way form nid (phase.Padding left) front l store number = measured nid (padded (packed way form nid front store.packets.items) number left) left
+so_far way form nid (phase.Data left) front l store number = measured nid (kept OTHER_DATA store.bits) left
+so_far way form nid phase.Whole front l store number = whole_far way form (front_row way nid) nid front store number
+
+-- ---- What it holds between two pieces.
+
+-- NID_MESSAGE, L_MESSAGE and variables in front of the packets, as far as they were read
+abbrev pub InFront : Way → Reading → Type 0
+InFront way far =
+    (far ≡ [])
+    ⊎ (((nid : ℕ) × (far ≡ (NID_MESSAGE, nid) ∷ []))
+    ⊎ ((nid : ℕ) × (len : ℕ) × (vars : List Var) × (front : List ℕ) × (front_row way nid ≡ Some vars) × (length front < length vars) × (far ≡ headed nid len (labelled vars front))))
+
+-- all of the front, whole packets and what is there of the next one
+abbrev pub InPackets : {P : Type 0} → Way → (P → Form) → List P → List ℕ → List Bool → Reading → Type 0
+InPackets way form ps f k far =
+    (nid : ℕ) × (len : ℕ) × (vars : List Var) × (front : List ℕ) × (here : Reading) × (front_row way nid ≡ Some vars) × (length front ≡ length vars)
+    × (far ≡ headed nid len (labelled vars front ++ (readings_to way (values_of form ps) ++ here))) × Begun way here f k
+
+-- NID_MESSAGE, L_MESSAGE and the first bits of a message that is kept
+abbrev pub InData : Way → List Bool → Reading → Type 0
+InData way k far = (nid : ℕ) × (len : ℕ) × (front_row way nid ≡ None) × (far ≡ headed nid len (kept OTHER_DATA k))
+
+-- no bit of PADDING is there between two pieces: PADDING ends a message, with its last byte
+abbrev pub Standing : {P : Type 0} → Way → (P → Form) → List P → List ℕ → List Bool → Reading → Type 0
+Standing way form ps f k far =
+    (InFront way far × (ps ≡ []) × (f ≡ []) × (k ≡ []))
+    ⊎ (InPackets way form ps f k far
+    ⊎ (InData way k far × (ps ≡ []) × (f ≡ [])))
+
+-- these are all whole variables, with packets of the profile
+abbrev pub Members : {P : Type 0} → Way → (P → Form) → List P → List ℕ → List Bool → Reading → Type 0
+Members way form ps f k far = Standing way form ps f k far × All (λ p. (form p).made) ps × All (IsPacketTo way) (values_of form ps)
+
+-- the same bits are held in one way
+abbrev pub OneHolding : {P : Type 0} → Way → (P → Form) → Type 0
+OneHolding {P} way form =
+    (b : List Bool) (ps qs : List P) (f g : List ℕ) (k l : List Bool) (part part' taken taken' : ℕ)
+    → HeldIn (MessageLanguage way) (Members way form ps f k) b part taken → HeldIn (MessageLanguage way) (Members way form qs g l) b part' taken' → (ps ≡ qs) × (f ≡ g) × (k ≡ l) × (part ≡ part') × (taken ≡ taken')

@@ -1,0 +1,15 @@
+//! Messages of either way: what they are, how they are written, and their reader.
+#![tactic(auto)]
+
+mod encode;
+mod kind;
+pub mod laws;
+mod message;
+pub mod parts;
+mod phase;
+mod reader;
+mod rest;
+
+pub use kind::{Head, Own};
+pub use message::MessageOf;
+pub use reader::ReaderOf;

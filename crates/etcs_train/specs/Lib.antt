@@ -1,0 +1,4 @@
+pub mod Bodies
+pub mod Messages
+pub mod Promises
+pub mod laws

@@ -1,0 +1,21 @@
+-- Messages to the track (SUBSET-026, 8): those of etcs_messages that go to the track.
+use Rattle.etcs_tables.specs.declared.row.Way.TheVariants.{ToTrack}
+use Rattle.etcs_messages.specs.Messages as messages
+use Rattle.etcs_messages.specs.Messages.{MessageValue}
+use Rattle.etcs_messages.specs.declared.message.Content as either
+use Rattle.etcs_track.specs.declared.train_packet.TrainPacket.{TrainPacket}
+use Rattle.etcs_track.specs.TrackPackets.{track_form}
+use Rattle.etcs_train.specs.declared.body.TrainBody.{TrainBody}
+use Rattle.etcs_train.specs.declared.body.TrainHead.{TrainHead}
+use Rattle.etcs_train.specs.Bodies.{train_head, train_body}
+
+-- what a message holds
+abbrev pub Content : Type 0
+Content = either.Content TrainHead TrainBody TrainPacket
+
+-- what a message stands for
+abbrev pub message_value : Content → MessageValue
+message_value m = messages.message_value ToTrack train_head train_body track_form m
+
+abbrev pub IsMessage : Content → Type 0
+IsMessage m = messages.IsMessage ToTrack train_head train_body track_form m

@@ -1,0 +1,24 @@
+-- A law of messages to the track.
+use Rattle.std.specs.Prelude.{◌≡◌, ℕ, ◌*◌, ◌-◌, ◌≤◌, ◌↔◌, ◌⊎◌, List, [], length, All, Some}
+use Rattle.etcs_vars.specs.Reading.{Reading, spelled, Viable}
+use Rattle.etcs_tables.specs.declared.row.Way.TheVariants.{ToTrack}
+use Rattle.etcs_tables.specs.Layouts.{Layout, Reads}
+use Rattle.etcs_tables.specs.Rows.{message_row_to}
+use Rattle.etcs_rows.specs.declared.frames.Carrier.TheVariants as carrier
+use Rattle.etcs_packets.specs.PacketValues.{PacketValue}
+use Rattle.etcs_sequence.specs.Contents.{Carries}
+use Rattle.etcs_messages.specs.Messages.{IsAdmitted, MessageLanguage, head_reading}
+use Rattle.etcs_messages.specs.Promises as promises
+use Rattle.etcs_train.specs.declared.body.TrainHead.{TrainHead}
+use Rattle.etcs_train.specs.Bodies.{head_variables}
+
+-- a header, the variables of its row and packets
+abbrev pub begun : ℕ → ℕ → TrainHead → Reading → List PacketValue → Reading
+begun nid len head body vs = promises.begun ToTrack nid len (head_variables head) body vs
+
+-- they begin a message exactly where they stay within its bytes and leave padding or the frame of a packet
+abbrev pub RoomRule : Type 0
+RoomRule =
+    (nid len : ℕ) (head : TrainHead) (row : Layout) (body : Reading) (vs : List PacketValue)
+    → message_row_to ToTrack nid ≡ Some row → IsAdmitted (head_reading nid len (head_variables head)) → Reads row [] body → All (Carries (carrier.Message ToTrack)) vs
+    → (Viable (MessageLanguage ToTrack) (spelled (begun nid len head body vs)) ↔ ((length (spelled (begun nid len head body vs)) ≤ 8 * len) × ((8 * len - length (spelled (begun nid len head body vs)) ≤ 7) ⊎ (21 ≤ 8 * len - length (spelled (begun nid len head body vs))))))

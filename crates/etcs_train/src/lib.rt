@@ -1,0 +1,18 @@
+//! Radio messages to the track.
+#![tactic(auto)]
+
+mod body;
+pub mod laws;
+mod store;
+
+pub use body::{TrainBody, TrainHead};
+use etcs_messages::{MessageOf, ReaderOf};
+
+/// A radio message to the track (SUBSET-026, 8).
+///
+/// A typed message is a header of 74 bits, the variables of its number, packets, and 0 to 7 bits of PADDING up to whole
+/// bytes. A message of another number is kept as bits. Both have at most 1,023 bytes.
+pub type TrainMessage = MessageOf<TrainHead, TrainBody>;
+
+/// Reads a radio message to the track from pieces of any length (SUBSET-026, 8).
+pub type TrainReader = ReaderOf<TrainHead, TrainBody>;

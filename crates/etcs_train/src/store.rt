@@ -1,0 +1,84 @@
+//! The packets of a message, as its reader makes them.
+
+ghost use Rattle.std.specs.Prelude.{⊤};
+
+use etcs_bits::BitSlice;
+use etcs_sequence::{ListStore, PacketList, PacketStore};
+use etcs_track::TrainPacket;
+use std::alloc::{AllocError, Global};
+
+/// The packets of a message to the track: a list of them, as a type without parameters.
+#[derive(Drop)]
+pub struct TrainStore {
+    packets: PacketList<TrainPacket>,
+}
+
+impl PacketStore for TrainStore {
+    ghost use Rattle.etcs_tables.specs.declared.row.Way.TheVariants.{ToTrack};
+    ghost use Rattle.etcs_track.specs.TrackPackets.{track_form};
+    ghost use Rattle.etcs_sequence.specs.Held.{list_holds};
+
+    ghost WAY = { ToTrack };
+
+    ghost holds = { λ s. list_holds track_form s.packets.packets.items s.packets.numbers.items s.packets.bits };
+
+    ghost fails = { ⊤ };
+
+    #[inline(always)]
+    fn number(&mut self, number: u64) -> Result<(), AllocError> {
+        self.packets.number(number)
+    }
+
+    #[inline(always)]
+    fn bits(&mut self, slice: &BitSlice<'_>) -> Result<(), AllocError> {
+        self.packets.bits(slice)
+    }
+
+    #[inline(always)]
+    fn marker(&mut self, number: u8) -> Result<(), AllocError> {
+        self.packets.marker(number)
+    }
+
+    #[inline(always)]
+    fn typed(&mut self, nid: u8, dir: u8) -> Result<(), AllocError> {
+        self.packets.typed(nid, dir)
+    }
+
+    #[inline(always)]
+    fn kept(&mut self, nid: u8, dir: u8) -> Result<(), AllocError> {
+        self.packets.kept(nid, dir)
+    }
+
+    #[inline(always)]
+    fn whole(&mut self, nid: u8, dir: u8, body: BitSlice<'_>) -> Result<bool, AllocError> {
+        self.packets.whole(nid, dir, body)
+    }
+}
+
+impl ListStore<TrainPacket> for TrainStore {
+    ghost use Rattle.std.specs.Prelude.{refl};
+
+    ghost list = { λ s. s.packets };
+
+    #[inline(always)]
+    fn empty(alloc: Global) -> TrainStore {
+        TrainStore {
+            packets: PacketList::new(alloc),
+        }
+    }
+
+    #[inline(always)]
+    fn list(&self) -> &PacketList<TrainPacket> {
+        &self.packets
+    }
+
+    #[inline(always)]
+    fn into_list(self) -> PacketList<TrainPacket> {
+        let TrainStore { packets } = self;
+        packets
+    }
+
+    ghost way_is = { refl };
+
+    ghost listed = { λ s vs f k h. h };
+}

@@ -1,5 +1,5 @@
 -- The text of a message, part by part.
-use Rattle.std.proofs.Common.{◌≡◌, ℕ, zero, suc, ◌+◌, ◌*◌, ◌/◌, ◌^◌, ◌<◌, ◌≤◌, Bool, List, [], ◌∷◌, ◌++◌, length, take, drop, get_or, map, flat_map, Some, None, Result, Ok, Err, refl, sym, ap, ◌∙◌, arith, append_assoc}
+use Rattle.std.proofs.Common.{◌≡◌, ℕ, zero, suc, ◌+◌, ◌*◌, ◌/◌, ◌^◌, ◌<◌, ◌≤◌, Bool, List, [], ◌∷◌, ◌++◌, length, take, drop, get_or, flat_map, Some, None, Result, Ok, Err, refl, sym, ap, ◌∙◌, arith, append_assoc}
 use Rattle.std.specs.Prelude.{◌-◌, All, OnOk, codes, if◌then◌else◌, nat_le}
 use Rattle.std.proofs.lemmas.List.{drop_at, length-append, take-append-drop, take_all, take_at}
 use Rattle.std.proofs.lemmas.List.Elements.{All-drop, All-get_or, All-take}
@@ -11,41 +11,45 @@ use Rattle.etcs_bits.proofs.Owned.{bits-take, bits_same}
 use Rattle.etcs_bits.proofs.Positions.{length-bits}
 use Rattle.etcs_bits.proofs.Views.{part_inside}
 use Rattle.etcs_vars.specs.Reading.{Reading, spelled}
-use Rattle.etcs_packets.specs.PacketValues.{packet_value}
-use Rattle.etcs_radio.specs.declared.message.Content.{Content}
-use Rattle.etcs_radio.specs.declared.message.Content.TheVariants.{Typed, Kept}
-use Rattle.etcs_radio.specs.Bodies.{nid_of_body, body_reading}
-use Rattle.etcs_radio.specs.Messages.{MessageValue, MessageReads, all_bits, head_reading, message_value, padding_room}
-use Rattle.etcs_radio.specs.Readings.{bytes_of, front_reading, kept_of, message_reading, packets_of, padding_bits_of, padding_of}
-use Rattle.etcs_radio.proofs.Bodies.{body_length}
-use Rattle.etcs_radio.proofs.Sizes.{typed_length, kept_length}
+use Rattle.etcs_tables.specs.declared.row.Way.{Way}
+use Rattle.etcs_packets.specs.PacketValues.{Form}
+use Rattle.etcs_messages.specs.declared.message.Content.{Content}
+use Rattle.etcs_messages.specs.declared.message.Content.TheVariants.{Typed, Kept}
+use Rattle.etcs_messages.specs.Kinds.{HeadOf, OwnOf}
+use Rattle.etcs_messages.specs.Messages.{MessageValue, MessageReads, all_bits, head_reading, message_value, padding_room, values_of}
+use Rattle.etcs_messages.specs.Readings.{bytes_of, front_reading, kept_of, packets_of, padding_bits_of, padding_of}
 use Rattle.etcs_text.specs.Encodings.{IsEncoded}
 use Rattle.etcs_text.specs.Entries.{of_message}
 use Rattle.etcs_text.specs.Messages.{message_bits, message_bytes, message_line, front_variables, behind_lines, message_text}
 use Rattle.etcs_text.specs.Packets.{packets_text}
 use Rattle.etcs_text.specs.Show.{variable_line, bits_line}
 
--- ---- How many bits there are.
+module _ {H B P : Type 0} (way : Way) (k : HeadOf H) (o : OwnOf B) (form : P → Form) where
+  -- ---- How many bits there are.
 
-pub bits_are : (m : Content) → length (spelled (message_reading m)) ≡ message_bits (message_value m)
-bits_are (Typed head body ps padding) = omega (arith, typed_length head body ps padding, body_length body, length-num (padding_room (all_bits body ps)) padding)
-bits_are (Kept nid b) = kept_length nid b
+  bytes_are : (m : Content H B P) → bytes_of way o form m ≡ message_bytes way (message_value way k o form m)
+  bytes_are (Typed head body ps padding) = omega (arith, length-num (padding_room (all_bits way o form body ps)) padding)
+  bytes_are (Kept nid b) = refl
 
-bytes_are : (m : Content) → bytes_of m ≡ message_bytes (message_value m)
-bytes_are (Typed head body ps padding) = omega (arith, body_length body, length-num (padding_room (all_bits body ps)) padding)
-bytes_are (Kept nid b) = refl
+  -- ---- The variables in front.
 
--- ---- The variables in front.
+  front_is : (m : Content H B P) → front_reading way k o form m ≡ front_variables way (message_value way k o form m)
+  front_is (Typed head body ps padding) = ap (λ (len : ℕ). head_reading (o.nid body) len (k.reading head) ++ o.reading body) (bytes_are (Typed head body ps padding))
+  front_is (Kept nid b) = refl
 
-pub front_is : (m : Content) → front_reading m ≡ front_variables (message_value m)
-front_is (Typed head body ps padding) = ap (λ (k : ℕ). head_reading (nid_of_body body) k head ++ body_reading body) (bytes_are (Typed head body ps padding))
-front_is (Kept nid b) = refl
+  -- ---- What follows them.
 
--- ---- What follows them.
+  -- packets, the end and PADDING
+  abbrev pub closed_lines : Content H B P → List ℕ
+  closed_lines m = packets_text way (values_of form (packets_of m)) ++ codes "end\n" ++ bits_line (codes "PADDING") (num (padding_bits_of way o form m) (padding_of m))
 
-pub padding_few : (m : Content) → padding_bits_of m ≤ 7
-padding_few (Typed head body ps padding) = omega arith
-padding_few (Kept nid b) = omega arith
+  pub typed_behind : (m : Content H B P) → kept_of m ≡ None → closed_lines m ≡ behind_lines way (message_value way k o form m)
+  typed_behind (Typed head body ps padding) e = refl
+  typed_behind (Kept nid b) e = absurd cc
+
+  pub kept_behind : (m : Content H B P) (b : List Bool) → kept_of m ≡ Some b → bits_line (codes "OTHER_DATA") b ≡ behind_lines way (message_value way k o form m)
+  kept_behind (Typed head body ps padding) b e = absurd cc
+  kept_behind (Kept nid c) b e = let same : c ≡ b = cc in rw same refl
 
 -- the last bits of a byte
 pub low_bits : (o k n : ℕ) → o + k ≡ 8 → part o k (bits (n ∷ [])) ≡ num k n
@@ -56,18 +60,6 @@ low_bits o k n h =
     ∙ part-append_right (num o (n / 2 ^ k)) (num k n) o 0 k (omega (arith, length-num o (n / 2 ^ k)))
     ∙ take_all k (num k n) (omega (arith, length-num k n))
 
--- packets, the end and PADDING
-abbrev pub closed_lines : Content → List ℕ
-closed_lines m = packets_text (map packet_value (packets_of m)) ++ codes "end\n" ++ bits_line (codes "PADDING") (num (padding_bits_of m) (padding_of m))
-
-pub typed_behind : (m : Content) → kept_of m ≡ None → closed_lines m ≡ behind_lines (message_value m)
-typed_behind (Typed head body ps padding) e = refl
-typed_behind (Kept nid b) e = absurd cc
-
-pub kept_behind : (m : Content) (b : List Bool) → kept_of m ≡ Some b → bits_line (codes "OTHER_DATA") b ≡ behind_lines (message_value m)
-kept_behind (Typed head body ps padding) b e = absurd cc
-kept_behind (Kept nid k) b e = let same : k ≡ b = cc in rw same refl
-
 -- three texts one after another
 pub three_more : (old a b c one two three : List ℕ) → one ≡ old ++ a → two ≡ one ++ b → three ≡ two ++ c → three ≡ old ++ (a ++ b ++ c)
 three_more old a b c one two three e f g =
@@ -75,24 +67,25 @@ three_more old a b c one two three e f g =
     ∙ ap (λ (z : List ℕ). z ++ c) (f ∙ ap (λ (z : List ℕ). z ++ b) e ∙ append_assoc old a b)
     ∙ append_assoc old (a ++ b) c
 
-text_is : (m : Content) (item bits : ℕ) (old one two three : List ℕ) → bits ≡ length (spelled (message_reading m)) → one ≡ old ++ message_line bits item → two ≡ one ++ flat_map variable_line (front_reading m) → three ≡ two ++ behind_lines (message_value m) → three ≡ old ++ message_text (message_value m) item
-unfolding message_text
-text_is m item bits old one two three long e f g =
-    let v = message_value m in
-    three_more old (message_line (message_bits v) item) (flat_map variable_line (front_variables v)) (behind_lines v) one two three
-    (e ∙ ap (λ (k : ℕ). old ++ message_line k item) (long ∙ bits_are m))
-    (f ∙ ap (λ (r : Reading). one ++ flat_map variable_line r) (front_is m))
-    g
+module _ {H B P : Type 0} (way : Way) (k : HeadOf H) (o : OwnOf B) (form : P → Form) where
+  text_is : (m : Content H B P) (item bits : ℕ) (old one two three : List ℕ) → bits ≡ message_bits way (message_value way k o form m) → one ≡ old ++ message_line way bits item → two ≡ one ++ flat_map variable_line (front_reading way k o form m) → three ≡ two ++ behind_lines way (message_value way k o form m) → three ≡ old ++ message_text way (message_value way k o form m) item
+  unfolding message_text
+  text_is m item bits old one two three long e f g =
+      let v = message_value way k o form m in
+      three_more old (message_line way (message_bits way v) item) (flat_map variable_line (front_variables way v)) (behind_lines way v) one two three
+      (e ∙ ap (λ (n : ℕ). old ++ message_line way n item) long)
+      (f ∙ ap (λ (r : Reading). one ++ flat_map variable_line r) (front_is way k o form m))
+      g
 
-pub text_ok : {T E : Type 0} (r : Result T E) (m : Content) (item bits : ℕ) (old one two three : List ℕ) → bits ≡ length (spelled (message_reading m)) → one ≡ old ++ message_line bits item → two ≡ one ++ flat_map variable_line (front_reading m) → OnOk r (three ≡ two ++ behind_lines (message_value m)) → OnOk r (three ≡ old ++ message_text (message_value m) item)
-text_ok (Ok x) m item bits old one two three long e f g = text_is m item bits old one two three long e f g
-text_ok (Err x) m item bits old one two three long e f g = tt
+  pub text_ok : {T E : Type 0} (r : Result T E) (m : Content H B P) (item bits : ℕ) (old one two three : List ℕ) → bits ≡ message_bits way (message_value way k o form m) → one ≡ old ++ message_line way bits item → two ≡ one ++ flat_map variable_line (front_reading way k o form m) → OnOk r (three ≡ two ++ behind_lines way (message_value way k o form m)) → OnOk r (three ≡ old ++ message_text way (message_value way k o form m) item)
+  text_ok (Ok x) m item bits old one two three long e f g = text_is m item bits old one two three long e f g
+  text_ok (Err x) m item bits old one two three long e f g = tt
 
 -- ---- The encoding.
 
-pub message_encoded : (m : MessageValue) (old new : List ℕ) (r : Reading) → old ≡ [] → MessageReads m r → bits new ≡ bits old ++ spelled r → All (λ b. b < 256) new → IsEncoded (of_message m) new
+pub message_encoded : (way : Way) (m : MessageValue) (old new : List ℕ) (r : Reading) → old ≡ [] → MessageReads way m r → bits new ≡ bits old ++ spelled r → All (λ b. b < 256) new → IsEncoded (of_message way m) new
 unfolding bits
-message_encoded m old new r none reads is small = record {
+message_encoded way m old new r none reads is small = record {
   reading = r;
   reads = reads;
   small = small;
@@ -105,8 +98,8 @@ all_small (x ∷ xs) h zero = All-get_or (λ b. b < 256) (x ∷ xs) 0 0 (omega a
 all_small (x ∷ xs) h (suc i) = all_small xs (All-drop (λ b. b < 256) 1 (x ∷ xs) h) i
 
 -- bytes after others
-appended : (m : MessageValue) (old new : List ℕ) (r : Reading) → All (λ b. b < 256) old → All (λ b. b < 256) new → MessageReads m r → bits new ≡ bits old ++ spelled r → (added : List ℕ) × IsEncoded (of_message m) added × (new ≡ old ++ added)
-appended m old new r hold hnew reads is =
+appended : (way : Way) (m : MessageValue) (old new : List ℕ) (r : Reading) → All (λ b. b < 256) old → All (λ b. b < 256) new → MessageReads way m r → bits new ≡ bits old ++ spelled r → (added : List ℕ) × IsEncoded (of_message way m) added × (new ≡ old ++ added)
+appended way m old new r hold hnew reads is =
     let n = length old in
     let all : length (bits new) ≡ length (bits old) + length (spelled r) = ap (λ (b : List Bool). length b) is ∙ length-append (bits old) (spelled r) in
     let inside : n ≤ length new = omega (arith, all, length-bits new, length-bits old) in
@@ -118,17 +111,27 @@ appended m old new r hold hnew reads is =
       sym (take-append-drop n new) ∙ ap (λ (z : List ℕ). z ++ drop n new) same,
     )
 
-pub appended_ok : {T E : Type 0} (res : Result T E) (m : MessageValue) (old new : List ℕ) → All (λ b. b < 256) old → All (λ b. b < 256) new → OnOk res ((r : Reading) × MessageReads m r × (bits new ≡ bits old ++ spelled r)) → OnOk res ((added : List ℕ) × IsEncoded (of_message m) added × (new ≡ old ++ added))
-appended_ok (Ok x) m old new hold hnew (r, reads, is) = appended m old new r hold hnew reads is
-appended_ok (Err x) m old new hold hnew h = tt
+pub appended_ok : {T E : Type 0} (res : Result T E) (way : Way) (m : MessageValue) (old new : List ℕ) → All (λ b. b < 256) old → All (λ b. b < 256) new → OnOk res ((r : Reading) × MessageReads way m r × (bits new ≡ bits old ++ spelled r)) → OnOk res ((added : List ℕ) × IsEncoded (of_message way m) added × (new ≡ old ++ added))
+appended_ok (Ok x) way m old new hold hnew (r, reads, is) = appended way m old new r hold hnew reads is
+appended_ok (Err x) way m old new hold hnew h = tt
 
 -- ---- PADDING.
 
--- it's cut from a byte
-pub padding_cut : (m : Content) (o k n : ℕ) → k ≡ padding_bits_of m → n ≡ padding_of m → o ≡ 8 - k → (if nat_le (o + k) (length (bits (n ∷ []))) then Some (part o k (bits (n ∷ []))) else None) ≡ Some (num (padding_bits_of m) (padding_of m))
-padding_cut m o k n same number rest =
-    let whole : o + k ≡ 8 = omega (arith, rest, same, padding_few m) in
-    sym (part_inside o k (bits (n ∷ [])) (num (padding_bits_of m) (padding_of m)) (omega (arith, whole, length-bits (n ∷ []))) (ap (λ (w : ℕ). num w (padding_of m)) (sym same) ∙ ap (num k) (sym number) ∙ sym (low_bits o k n whole)))
+module _ {H B P : Type 0} (way : Way) (o : OwnOf B) (form : P → Form) where
+  padding_few : (m : Content H B P) → padding_bits_of way o form m ≤ 7
+  padding_few (Typed head body ps padding) = omega arith
+  padding_few (Kept nid b) = omega arith
+
+  -- it's cut from a byte
+  pub padding_cut : (m : Content H B P) (at count n : ℕ) → count ≡ padding_bits_of way o form m → n ≡ padding_of m → at ≡ 8 - count → (if nat_le (at + count) (length (bits (n ∷ []))) then Some (part at count (bits (n ∷ []))) else None) ≡ Some (num (padding_bits_of way o form m) (padding_of m))
+  padding_cut m at count n same number rest =
+      let whole : at + count ≡ 8 = omega (arith, rest, same, padding_few m) in
+      let all = num (padding_bits_of way o form m) (padding_of m) in
+      sym (part_inside at count (bits (n ∷ [])) all (omega (arith, whole, length-bits (n ∷ []))) (ap (λ (w : ℕ). num w (padding_of m)) (sym same) ∙ ap (num count) (sym number) ∙ sym (low_bits at count n whole)))
+
+  -- and has a number of bits that can be written
+  pub padding_fits : (m : Content H B P) (count : ℕ) → count ≡ padding_bits_of way o form m → count ≤ 7
+  padding_fits m count same = omega (arith, same, padding_few m)
 
 pub some_bits : (a b : List Bool) → Some a ≡ Some b → a ≡ b
 some_bits a b e = cc

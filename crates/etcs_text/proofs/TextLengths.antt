@@ -19,15 +19,15 @@ use Rattle.etcs_vars.proofs.Apart.{AllFit}
 use Rattle.etcs_vars.proofs.Walk.{spelled-append}
 use Rattle.etcs_packets.specs.PacketValues.{PacketValue, nid_of}
 use Rattle.etcs_packets.specs.PacketValues as packet
-use Rattle.etcs_packets.specs.PacketReadings.{packet_reading, packets_reading}
-use Rattle.etcs_packets.specs.laws.PacketReadings.{packet_bits}
-use Rattle.etcs_radio.specs.declared.body.RadioHead.{RadioHead}
-use Rattle.etcs_radio.specs.Bodies.{head_variables}
-use Rattle.etcs_radio.proofs.Bodies.{head_length as head_long}
-use Rattle.etcs_radio.specs.Messages.{MessageValue, typed_message, kept_message, MessageReads, TypedReads, head_reading}
-use Rattle.etcs_radio.proofs.Bytes.{one_bits, pad_bits as padding_bits}
-use Rattle.etcs_radio.proofs.Sizes.{head_length}
-use Rattle.etcs_radio.proofs.Spelling.{regular as radio}
+use Rattle.etcs_packets.specs.PacketReadings.{reading_to, readings_to, packets_reading}
+use Rattle.etcs_packets.specs.laws.PacketReadings.{bits_are}
+use Rattle.etcs_tables.specs.declared.row.Way.{Way}
+use Rattle.etcs_tables.specs.declared.row.Way.TheVariants.{ToTrain, ToTrack}
+use Rattle.etcs_tables.specs.Frames.{frame_bits, directed}
+use Rattle.etcs_messages.specs.Messages.{MessageValue, typed_message, kept_message, MessageReads, TypedReads, head_reading}
+use Rattle.etcs_messages.proofs.Bytes.{typed_length, kept_length}
+use Rattle.etcs_messages.proofs.Fields.{head_bits, head_length}
+use Rattle.etcs_messages.proofs.Spelling.{regular as messages}
 use Rattle.etcs_telegram.specs.declared.size.Size.{Size}
 use Rattle.etcs_telegram.specs.declared.size.Size.TheVariants as size
 use Rattle.etcs_telegram.specs.Telegrams.{TelegramValue, TelegramReads, header_reading, closed_reading, user_bits, pad_bits}
@@ -38,7 +38,7 @@ use Rattle.etcs_text.specs.Messages.{message_bits, message_bytes, message_line, 
 use Rattle.etcs_text.specs.Packets.{packet_line, frame_lines, body_lines, packet_text, packets_text}
 use Rattle.etcs_text.proofs.PlainTexts.{plain_bits, plain_hex}
 use Rattle.etcs_text.specs.Trees.{json_tree, message_tree, number_tree, packet_tree, packets_tree, pair_tree, pairs_tree, telegram_tree}
-use Rattle.etcs_text.specs.Show.{variable_line, number_text, special_text, signed_text, hex_digit, hex_digits, bit_digit, bits_text, bits_line, item_line, kind_word, fill_line}
+use Rattle.etcs_text.specs.Show.{variable_line, number_text, special_text, signed_text, hex_digit, hex_digits, bit_digit, bits_text, bits_line, item_line, kind_word, way_word, fill_line}
 use Rattle.etcs_text.specs.Telegrams.{show_text}
 
 -- ---- A variable.
@@ -119,36 +119,53 @@ number_line_short nid h =
     let w = length-append (codes "packet ") (decimal nid) in
     omega (arith, v, w, decimal_short nid h)
 
-packet_long : (v : PacketValue) → length (packet_text v) ≡ length (packet_line (nid_of v)) + length (frame_lines v) + length (body_lines v)
-packet_long v =
-    let a = length-append (packet_line (nid_of v) ++ frame_lines v) (body_lines v) in
-    let b = length-append (packet_line (nid_of v)) (frame_lines v) in
+packet_long : (way : Way) (v : PacketValue) → length (packet_text way v) ≡ length (packet_line (nid_of v)) + length (frame_lines way v) + length (body_lines v)
+packet_long way v =
+    let a = length-append (packet_line (nid_of v) ++ frame_lines way v) (body_lines v) in
+    let b = length-append (packet_line (nid_of v)) (frame_lines way v) in
     omega (arith, a, b)
 
-frame_short : (dir bits : ℕ) → dir < 2 ^ width Q_DIR → bits < 2 ^ width L_PACKET → length (variable_line (Q_DIR, dir) ++ variable_line (L_PACKET, bits)) ≤ 256
-frame_short dir bits h g =
-    let l = length-append (variable_line (Q_DIR, dir)) (variable_line (L_PACKET, bits)) in
-    omega (arith, l, variable_short (Q_DIR, dir) h, variable_short (L_PACKET, bits) g)
+frame_wide : (way : Way) → 21 ≤ frame_bits way
+frame_wide ToTrain = omega arith
+frame_wide ToTrack = omega arith
 
-packet_short : (v : PacketValue) → AllFit (packet_reading v) → length (packet_text v) ≤ 128 * length (spelled (packet_reading v))
-packet_short (packet.marker n) h =
-    let l = packet_long (packet.marker n) in
-    let b = packet_bits (packet.marker n) in
+frame_short : (way : Way) (dir bits : ℕ) (r : Reading) → AllFit (directed way dir ((L_PACKET, bits) ∷ r)) → length (flat_map variable_line (directed way dir ((L_PACKET, bits) ∷ []))) ≤ 256
+frame_short ToTrain dir bits r h =
+    let l = length-append (variable_line (Q_DIR, dir)) (variable_line (L_PACKET, bits) ++ []) in
+    let k = length-append (variable_line (L_PACKET, bits)) [] in
+    omega (arith, l, k, variable_short (Q_DIR, dir) h.0, variable_short (L_PACKET, bits) h.1.0)
+frame_short ToTrack dir bits r h =
+    let k = length-append (variable_line (L_PACKET, bits)) [] in
+    omega (arith, k, variable_short (L_PACKET, bits) h.0)
+
+-- L_PACKET and what follows it
+behind_frame : (way : Way) (dir bits : ℕ) (r : Reading) → AllFit (directed way dir ((L_PACKET, bits) ∷ r)) → (bits < 2 ^ width L_PACKET) × AllFit r
+behind_frame ToTrain dir bits r h = h.1
+behind_frame ToTrack dir bits r h = h
+
+packet_short : (way : Way) (v : PacketValue) → AllFit (reading_to way v) → length (packet_text way v) ≤ 128 * length (spelled (reading_to way v))
+packet_short way (packet.marker n) h =
+    let l = packet_long way (packet.marker n) in
+    let b = bits_are way (packet.marker n) in
     omega (arith, l, b, number_line_short 0 (omega arith), variable_short (NID_VBCMK, n) h.1.0)
-packet_short (packet.typed nid dir r) h =
-    let l = packet_long (packet.typed nid dir r) in
-    let b = packet_bits (packet.typed nid dir r) in
-    let f = frame_short dir (23 + length (spelled r)) h.1.0 h.1.1.0 in
+packet_short way (packet.typed nid dir r) h =
+    let bits = frame_bits way + length (spelled r) in
+    let l = packet_long way (packet.typed nid dir r) in
+    let b = bits_are way (packet.typed nid dir r) in
+    let f = frame_short way dir bits r h.1 in
     let n = number_line_short nid (small_number NID_PACKET nid h.0) in
-    omega (arith, l, b, f, n, variables_short r h.1.1.1)
-packet_short (packet.kept nid dir bs) h =
-    let l = packet_long (packet.kept nid dir bs) in
-    let b = packet_bits (packet.kept nid dir bs) in
-    let f = frame_short dir (23 + length bs) h.1.0 h.1.1.0 in
+    let rest = behind_frame way dir bits r h.1 in
+    omega (arith, l, b, f, n, frame_wide way, variables_short r rest.1)
+packet_short way (packet.kept nid dir bs) h =
+    let bits = frame_bits way + length bs in
+    let l = packet_long way (packet.kept nid dir bs) in
+    let b = bits_are way (packet.kept nid dir bs) in
+    let f = frame_short way dir bits (kept OTHER_DATA bs) h.1 in
     let n = number_line_short nid (small_number NID_PACKET nid h.0) in
-    let small : 23 + length bs < 2 ^ 64 = small_number L_PACKET (23 + length bs) h.1.1.0 in
+    let rest = behind_frame way dir bits (kept OTHER_DATA bs) h.1 in
+    let small : bits < 2 ^ 64 = small_number L_PACKET bits rest.0 in
     let k = line_short (codes "OTHER_DATA") bs (omega (arith, small)) (omega arith) in
-    omega (arith, l, b, f, n, k)
+    omega (arith, l, b, f, n, frame_wide way, k)
 
 pub fit_front : (a b : Reading) → AllFit (a ++ b) → AllFit a
 fit_front [] b h = tt
@@ -161,13 +178,13 @@ fit_behind (p ∷ a) b h = fit_behind a b h.1
 pub spelled_long : (a b : Reading) → length (spelled (a ++ b)) ≡ length (spelled a) + length (spelled b)
 spelled_long a b = ap length (spelled-append a b) ∙ length-append (spelled a) (spelled b)
 
-pub packets_short : (vs : List PacketValue) → AllFit (packets_reading vs) → length (packets_text vs) ≤ 128 * length (spelled (packets_reading vs))
-packets_short [] h = omega arith
-packets_short (v ∷ vs) h =
-    let first = packet_short v (fit_front (packet_reading v) (packets_reading vs) h) in
-    let rest = packets_short vs (fit_behind (packet_reading v) (packets_reading vs) h) in
-    let l = length-append (packet_text v) (packets_text vs) in
-    let b = spelled_long (packet_reading v) (packets_reading vs) in
+pub packets_short : (way : Way) (vs : List PacketValue) → AllFit (readings_to way vs) → length (packets_text way vs) ≤ 128 * length (spelled (readings_to way vs))
+packets_short way [] h = omega arith
+packets_short way (v ∷ vs) h =
+    let first = packet_short way v (fit_front (reading_to way v) (readings_to way vs) h) in
+    let rest = packets_short way vs (fit_behind (reading_to way v) (readings_to way vs) h) in
+    let l = length-append (packet_text way v) (packets_text way vs) in
+    let b = spelled_long (reading_to way v) (readings_to way vs) in
     omega (arith, first, rest, l, b)
 
 -- ---- A telegram.
@@ -225,12 +242,12 @@ telegram_short t r item x h =
     let fits = reading_fit t r x in
     let line = item_short t.size item h in
     let header = variables_short (header_reading t.header) fits.0 in
-    let packets = packets_short t.packets fits.1 in
+    let packets = packets_short ToTrain t.packets fits.1 in
     let closed = spelled_long (packets_reading t.packets) closing in
     let user = user_short t.size in
     let small : length t.fill ≤ 830 = omega (arith, x.user_bits_is, user) in
     let fill = line_short (codes "FILL") t.fill (omega (arith, small)) (omega arith) in
-    let l = five_long (item_line t.size item) (flat_map variable_line (header_reading t.header)) (packets_text t.packets) (codes "packet 255\n") (fill_line t.fill) in
+    let l = five_long (item_line t.size item) (flat_map variable_line (header_reading t.header)) (packets_text ToTrain t.packets) (codes "packet 255\n") (fill_line t.fill) in
     omega (arith, line, header, packets, closed, user, x.user_bits_is, fill, l)
 
 -- ---- A message.
@@ -238,78 +255,82 @@ telegram_short t r item x h =
 three_long : (a b c : List ℕ) → length (a ++ b ++ c) ≡ length a + length b + length c
 three_long a b c = omega (arith, length-append (a ++ b) c, length-append a b)
 
-message_line_short : (bits item : ℕ) → bits ≤ 8192 → item < 2 ^ 64 → length (message_line bits item) ≤ 64
-message_line_short bits item small h =
+word_short : (way : Way) → length (way_word way) ≤ 5
+word_short ToTrain = omega arith
+word_short ToTrack = omega arith
+
+message_line_short : (way : Way) (bits item : ℕ) → bits ≤ 8192 → item < 2 ^ 64 → length (message_line way bits item) ≤ 64
+message_line_short way bits item small h =
     let d = decimal_short item h in
     let e = decimal_short bits (omega (arith, small)) in
-    let l = five_long (codes "item ") (decimal item) (codes " radio ") (decimal bits) (codes " bits\n") in
-    omega (arith, d, e, l)
+    let l = length-append (codes "item " ++ decimal item ++ codes " " ++ way_word way ++ codes " " ++ decimal bits) (codes " bits\n") in
+    let m = six_long (codes "item ") (decimal item) (codes " ") (way_word way) (codes " ") (decimal bits) in
+    omega (arith, d, e, l, m, word_short way)
 
 -- its bits are those of L_MESSAGE bytes
-whole_message : (m : MessageValue) (r : Reading) → MessageReads m r → (message_bits m < 8192) × (8 * message_bytes m ≡ message_bits m) × (length (spelled r) ≡ message_bits m)
-whole_message (typed_message nid head body vs padding) r x =
-    let front = head_reading nid x.len head in
-    let whole : AllFit r = radio.fit r (typed_message nid head body vs padding, x) in
-    let parts : AllFit (((front ++ body) ++ packets_reading vs) ++ kept PADDING padding) = subst AllFit x.reading_is whole in
+pub whole_message : (way : Way) (m : MessageValue) (r : Reading) → MessageReads way m r → (message_bits way m < 8192) × (8 * message_bytes way m ≡ message_bits way m) × (length (spelled r) ≡ message_bits way m)
+whole_message way (typed_message nid head body vs padding) r x =
+    let language = messages way in
+    let whole : AllFit r = language.fit r (typed_message nid head body vs padding, x) in
+    let parts : AllFit (((head_reading nid x.len head ++ body) ++ readings_to way vs) ++ kept PADDING padding) = subst AllFit x.reading_is whole in
     let len : x.len < 2 ^ 10 = parts.1.0 in
-    let l = spelled_long ((front ++ body) ++ packets_reading vs) (kept PADDING padding) in
-    let k = spelled_long (front ++ body) (packets_reading vs) in
-    let j = spelled_long front body in
-    let p = padding_bits padding in
-    let all : length (spelled r) ≡ length (spelled (((front ++ body) ++ packets_reading vs) ++ kept PADDING padding)) = ap (λ (q : Reading). length (spelled q)) x.reading_is in
-    (omega (arith, x.bytes, len), omega (arith, x.bytes), omega (arith, all, l, k, j, p, head_length nid x.len head))
-whole_message (kept_message nid b) r x =
-    let l = length-sent NID_MESSAGE nid ((L_MESSAGE, x.len) ∷ kept OTHER_DATA b) in
-    let k = length-sent L_MESSAGE x.len (kept OTHER_DATA b) in
-    let p = one_bits b in
-    let all : length (spelled r) ≡ length (spelled ((NID_MESSAGE, nid) ∷ (L_MESSAGE, x.len) ∷ kept OTHER_DATA b)) = ap (λ (q : Reading). length (spelled q)) x.reading_is in
-    (omega (arith, x.bytes, x.most), omega (arith, x.bytes), omega (arith, all, l, k, p))
+    let all = ap (λ (q : Reading). length (spelled q)) x.reading_is ∙ typed_length way nid x.len head body vs padding x.head_reads in
+    (omega (arith, x.bytes, len), omega (arith, x.bytes), all)
+whole_message way (kept_message nid b) r x =
+    let all = ap (λ (q : Reading). length (spelled q)) x.reading_is ∙ kept_length nid x.len b in
+    (omega (arith, x.bytes, x.most), omega (arith, x.bytes), all)
 
 -- L_MESSAGE is that of the reading
-bytes_same : (nid : ℕ) (head : RadioHead) (body : Reading) (vs : List PacketValue) (padding : List Bool) (r : Reading) (x : TypedReads nid head body vs padding r) → x.len ≡ message_bytes (typed_message nid head body vs padding)
-bytes_same nid head body vs padding r x = omega (arith, x.bytes)
+bytes_same : (way : Way) (nid : ℕ) (head body : Reading) (vs : List PacketValue) (padding : List Bool) (r : Reading) (x : TypedReads way nid head body vs padding r) → x.len ≡ message_bytes way (typed_message nid head body vs padding)
+bytes_same way nid head body vs padding r x = omega (arith, x.bytes)
 
-front_fit : (m : MessageValue) (r : Reading) → MessageReads m r → AllFit (front_variables m)
-front_fit (typed_message nid head body vs padding) r x =
-    let whole : AllFit r = radio.fit r (typed_message nid head body vs padding, x) in
-    let parts : AllFit (((head_reading nid x.len head ++ body) ++ packets_reading vs) ++ kept PADDING padding) = subst AllFit x.reading_is whole in
-    let front : AllFit (head_reading nid x.len head ++ body) = fit_front (head_reading nid x.len head ++ body) (packets_reading vs) (fit_front ((head_reading nid x.len head ++ body) ++ packets_reading vs) (kept PADDING padding) parts) in
-    subst (λ (k : ℕ). AllFit (head_reading nid k head ++ body)) (bytes_same nid head body vs padding r x) front
-front_fit (kept_message nid b) r x =
-    let len : message_bytes (kept_message nid b) ≡ x.len = omega (arith, x.bytes) in
+-- the numbers of the parts fit
+typed_fit : (way : Way) (nid : ℕ) (head body : Reading) (vs : List PacketValue) (padding : List Bool) (r : Reading) (x : TypedReads way nid head body vs padding r) → AllFit (head_reading nid x.len head ++ body) × AllFit (readings_to way vs)
+typed_fit way nid head body vs padding r x =
+    let front = head_reading nid x.len head ++ body in
+    let language = messages way in
+    let whole : AllFit r = language.fit r (typed_message nid head body vs padding, x) in
+    let parts : AllFit ((front ++ readings_to way vs) ++ kept PADDING padding) = subst AllFit x.reading_is whole in
+    let both = fit_front (front ++ readings_to way vs) (kept PADDING padding) parts in
+    (fit_front front (readings_to way vs) both, fit_behind front (readings_to way vs) both)
+
+front_fit : (way : Way) (m : MessageValue) (r : Reading) → MessageReads way m r → AllFit (front_variables way m)
+front_fit way (typed_message nid head body vs padding) r x =
+    let front = typed_fit way nid head body vs padding r x in
+    subst (λ (k : ℕ). AllFit (head_reading nid k head ++ body)) (bytes_same way nid head body vs padding r x) front.0
+front_fit way (kept_message nid b) r x =
+    let len : message_bytes way (kept_message nid b) ≡ x.len = omega (arith, x.bytes) in
     (x.small, (omega (arith, len, x.most), tt))
 
-behind_short : (m : MessageValue) (r : Reading) → MessageReads m r → length (behind_lines m) + 128 * length (spelled (front_variables m)) ≤ 128 * message_bits m + 256
-behind_short (typed_message nid head body vs padding) r x =
-    let whole : AllFit r = radio.fit r (typed_message nid head body vs padding, x) in
-    let parts : AllFit (((head_reading nid x.len head ++ body) ++ packets_reading vs) ++ kept PADDING padding) = subst AllFit x.reading_is whole in
-    let fits : AllFit (packets_reading vs) = fit_behind (head_reading nid x.len head ++ body) (packets_reading vs) (fit_front ((head_reading nid x.len head ++ body) ++ packets_reading vs) (kept PADDING padding) parts) in
-    let w = whole_message (typed_message nid head body vs padding) r x in
-    let len = message_bytes (typed_message nid head body vs padding) in
+behind_short : (way : Way) (m : MessageValue) (r : Reading) → MessageReads way m r → length (behind_lines way m) + 128 * length (spelled (front_variables way m)) ≤ 128 * message_bits way m + 256
+behind_short way (typed_message nid head body vs padding) r x =
+    let fits = typed_fit way nid head body vs padding r x in
+    let w = whole_message way (typed_message nid head body vs padding) r x in
+    let len = message_bytes way (typed_message nid head body vs padding) in
     let front = spelled_long (head_reading nid len head) body in
-    let packets = packets_short vs fits in
+    let packets = packets_short way vs fits.1 in
     let small : length padding ≤ 8192 = omega (arith, w.0) in
     let closed = line_short (codes "PADDING") padding (omega (arith, small)) (omega arith) in
-    let l = three_long (packets_text vs) (codes "end\n") (bits_line (codes "PADDING") padding) in
-    omega (arith, front, head_length nid len head, packets, closed, l)
-behind_short (kept_message nid b) r x =
-    let len = message_bytes (kept_message nid b) in
+    let l = three_long (packets_text way vs) (codes "end\n") (bits_line (codes "PADDING") padding) in
+    omega (arith, front, head_length way nid len head x.head_reads, packets, closed, l)
+behind_short way (kept_message nid b) r x =
+    let len = message_bytes way (kept_message nid b) in
     let k = length-sent NID_MESSAGE nid ((L_MESSAGE, len) ∷ []) in
     let j = length-sent L_MESSAGE len [] in
-    let w = whole_message (kept_message nid b) r x in
+    let w = whole_message way (kept_message nid b) r x in
     let small : length b ≤ 8192 = omega (arith, w.0) in
     let closed = line_short (codes "OTHER_DATA") b (omega (arith, small)) (omega arith) in
     omega (arith, k, j, closed)
 
-message_short : (m : MessageValue) (r : Reading) (item : ℕ) → MessageReads m r → item < 2 ^ 64 → length (message_text m item) ≤ 2 ^ 20
+message_short : (way : Way) (m : MessageValue) (r : Reading) (item : ℕ) → MessageReads way m r → item < 2 ^ 64 → length (message_text way m item) ≤ 2 ^ 20
 unfolding message_text
-message_short m r item x h =
-    let w = whole_message m r x in
-    let bits : message_bits m ≤ 8184 = omega (arith, w.0, w.1) in
-    let line = message_line_short (message_bits m) item (omega (arith, bits)) h in
-    let front = variables_short (front_variables m) (front_fit m r x) in
-    let behind = behind_short m r x in
-    let l = three_long (message_line (message_bits m) item) (flat_map variable_line (front_variables m)) (behind_lines m) in
+message_short way m r item x h =
+    let w = whole_message way m r x in
+    let bits : message_bits way m ≤ 8184 = omega (arith, w.0, w.1) in
+    let line = message_line_short way (message_bits way m) item (omega (arith, bits)) h in
+    let front = variables_short (front_variables way m) (front_fit way m r x) in
+    let behind = behind_short way m r x in
+    let l = three_long (message_line way (message_bits way m) item) (flat_map variable_line (front_variables way m)) (behind_lines way m) in
     omega (arith, bits, line, front, behind, l)
 
 -- ---- JSON.
@@ -375,34 +396,47 @@ pairs_json_short : (r : Reading) → AllFit r → length (compact_text (pairs_tr
 pairs_json_short r h = omega (arith, pair_items_short false r h)
 
 -- with a comma
-packet_json_short : (v : PacketValue) → AllFit (packet_reading v) → length (compact_text (packet_tree v)) + 1 ≤ 64 * length (spelled (packet_reading v))
+packet_json_short : (way : Way) (v : PacketValue) → AllFit (reading_to way v) → length (compact_text (packet_tree way v)) + 1 ≤ 64 * length (spelled (reading_to way v))
 unfolding escape_byte
-packet_json_short (packet.marker n) h =
+packet_json_short way (packet.marker n) h =
     let r = (NID_VBCMK, n) ∷ [] in
-    let l : length (compact_text (packet_tree (packet.marker n))) ≡ total (codes "{\"fields\":" ∷ compact_text (pairs_tree r) ∷ codes ",\"nid\":" ∷ decimal 0 ∷ codes "}" ∷ []) = joined_long (codes "{\"fields\":" ∷ compact_text (pairs_tree r) ∷ codes ",\"nid\":" ∷ decimal 0 ∷ codes "}" ∷ []) in
-    let b = packet_bits (packet.marker n) in
+    let l : length (compact_text (packet_tree way (packet.marker n))) ≡ total (codes "{\"fields\":" ∷ compact_text (pairs_tree r) ∷ codes ",\"nid\":" ∷ decimal 0 ∷ codes "}" ∷ []) = joined_long (codes "{\"fields\":" ∷ compact_text (pairs_tree r) ∷ codes ",\"nid\":" ∷ decimal 0 ∷ codes "}" ∷ []) in
+    let b = bits_are way (packet.marker n) in
     omega (arith, l, b, pairs_json_short r (h.1.0, tt), length-sent NID_VBCMK n [], decimal_short 0 (omega arith))
-packet_json_short (packet.typed nid dir r) h =
-    let l : length (compact_text (packet_tree (packet.typed nid dir r))) ≡ total (codes "{\"dir\":" ∷ decimal dir ∷ codes ",\"fields\":" ∷ compact_text (pairs_tree r) ∷ codes ",\"nid\":" ∷ decimal nid ∷ codes "}" ∷ []) = joined_long (codes "{\"dir\":" ∷ decimal dir ∷ codes ",\"fields\":" ∷ compact_text (pairs_tree r) ∷ codes ",\"nid\":" ∷ decimal nid ∷ codes "}" ∷ []) in
-    let b = packet_bits (packet.typed nid dir r) in
+packet_json_short ToTrain (packet.typed nid dir r) h =
+    let l : length (compact_text (packet_tree ToTrain (packet.typed nid dir r))) ≡ total (codes "{\"dir\":" ∷ decimal dir ∷ codes ",\"fields\":" ∷ compact_text (pairs_tree r) ∷ codes ",\"nid\":" ∷ decimal nid ∷ codes "}" ∷ []) = joined_long (codes "{\"dir\":" ∷ decimal dir ∷ codes ",\"fields\":" ∷ compact_text (pairs_tree r) ∷ codes ",\"nid\":" ∷ decimal nid ∷ codes "}" ∷ []) in
+    let b = bits_are ToTrain (packet.typed nid dir r) in
     omega (arith, l, b, pairs_json_short r h.1.1.1, decimal_short dir (small_number Q_DIR dir h.1.0), decimal_short nid (small_number NID_PACKET nid h.0))
-packet_json_short (packet.kept nid dir bs) h =
-    let l : length (compact_text (packet_tree (packet.kept nid dir bs))) ≡ total (codes "{\"data\":" ∷ quoted (map bit_digit bs) ∷ codes ",\"dir\":" ∷ decimal dir ∷ codes ",\"nid\":" ∷ decimal nid ∷ codes "}" ∷ []) = joined_long (codes "{\"data\":" ∷ quoted (map bit_digit bs) ∷ codes ",\"dir\":" ∷ decimal dir ∷ codes ",\"nid\":" ∷ decimal nid ∷ codes "}" ∷ []) in
-    let b = packet_bits (packet.kept nid dir bs) in
+packet_json_short ToTrack (packet.typed nid dir r) h =
+    let l : length (compact_text (packet_tree ToTrack (packet.typed nid dir r))) ≡ total (codes "{\"fields\":" ∷ compact_text (pairs_tree r) ∷ codes ",\"nid\":" ∷ decimal nid ∷ codes "}" ∷ []) = joined_long (codes "{\"fields\":" ∷ compact_text (pairs_tree r) ∷ codes ",\"nid\":" ∷ decimal nid ∷ codes "}" ∷ []) in
+    let b = bits_are ToTrack (packet.typed nid dir r) in
+    omega (arith, l, b, pairs_json_short r h.1.1, decimal_short nid (small_number NID_PACKET nid h.0))
+packet_json_short ToTrain (packet.kept nid dir bs) h =
+    let l : length (compact_text (packet_tree ToTrain (packet.kept nid dir bs))) ≡ total (codes "{\"data\":" ∷ quoted (map bit_digit bs) ∷ codes ",\"dir\":" ∷ decimal dir ∷ codes ",\"nid\":" ∷ decimal nid ∷ codes "}" ∷ []) = joined_long (codes "{\"data\":" ∷ quoted (map bit_digit bs) ∷ codes ",\"dir\":" ∷ decimal dir ∷ codes ",\"nid\":" ∷ decimal nid ∷ codes "}" ∷ []) in
+    let b = bits_are ToTrain (packet.kept nid dir bs) in
     omega (arith, l, b, digits_long bs, decimal_short dir (small_number Q_DIR dir h.1.0), decimal_short nid (small_number NID_PACKET nid h.0))
+packet_json_short ToTrack (packet.kept nid dir bs) h =
+    let l : length (compact_text (packet_tree ToTrack (packet.kept nid dir bs))) ≡ total (codes "{\"data\":" ∷ quoted (map bit_digit bs) ∷ codes ",\"nid\":" ∷ decimal nid ∷ codes "}" ∷ []) = joined_long (codes "{\"data\":" ∷ quoted (map bit_digit bs) ∷ codes ",\"nid\":" ∷ decimal nid ∷ codes "}" ∷ []) in
+    let b = bits_are ToTrack (packet.kept nid dir bs) in
+    omega (arith, l, b, digits_long bs, decimal_short nid (small_number NID_PACKET nid h.0))
 
-packet_items_short : (later : Bool) (vs : List PacketValue) → AllFit (packets_reading vs) → length (items_text later (items_of (map packet_tree vs))) ≤ 64 * length (spelled (packets_reading vs)) + 1
-packet_items_short later [] h = omega arith
-packet_items_short later (v ∷ vs) h =
-    let rest = items_text true (items_of (map packet_tree vs)) in
-    let a = length-append (comma_if later) (compact_text (packet_tree v) ++ rest) in
-    let b = length-append (compact_text (packet_tree v)) rest in
-    let first = packet_json_short v (fit_front (packet_reading v) (packets_reading vs) h) in
-    let more = packet_items_short true vs (fit_behind (packet_reading v) (packets_reading vs) h) in
-    omega (arith, a, b, comma_short later, first, more, spelled_long (packet_reading v) (packets_reading vs))
+packet_items_short : (way : Way) (later : Bool) (vs : List PacketValue) → AllFit (readings_to way vs) → length (items_text later (items_of (map (packet_tree way) vs))) ≤ 64 * length (spelled (readings_to way vs)) + 1
+packet_items_short way later [] h = omega arith
+packet_items_short way later (v ∷ vs) h =
+    let rest = items_text true (items_of (map (packet_tree way) vs)) in
+    let a = length-append (comma_if later) (compact_text (packet_tree way v) ++ rest) in
+    let b = length-append (compact_text (packet_tree way v)) rest in
+    let first = packet_json_short way v (fit_front (reading_to way v) (readings_to way vs) h) in
+    let more = packet_items_short way true vs (fit_behind (reading_to way v) (readings_to way vs) h) in
+    omega (arith, a, b, comma_short later, first, more, spelled_long (reading_to way v) (readings_to way vs))
 
-packets_json_short : (vs : List PacketValue) → AllFit (packets_reading vs) → length (compact_text (packets_tree vs)) ≤ 64 * length (spelled (packets_reading vs)) + 2
-packets_json_short vs h = omega (arith, packet_items_short false vs h)
+packets_json_short : (way : Way) (vs : List PacketValue) → AllFit (readings_to way vs) → length (compact_text (packets_tree way vs)) ≤ 64 * length (spelled (readings_to way vs)) + 2
+packets_json_short way vs h = omega (arith, packet_items_short way false vs h)
+
+word_json_short : (way : Way) → length (quoted (way_word way)) ≤ 7
+unfolding escape_byte
+word_json_short ToTrain = omega arith
+word_json_short ToTrack = omega arith
 
 kind_json_short : (s : Size) → length (quoted (kind_word s)) ≤ 7
 unfolding escape_byte
@@ -414,43 +448,40 @@ unfolding escape_byte
 telegram_json_short t r x =
     let fits = reading_fit t r x in
     let header = pairs_json_short (header_reading t.header) fits.0 in
-    let packets = packets_json_short t.packets fits.1 in
-    let parts = codes "{\"fill\":" ∷ quoted (map bit_digit t.fill) ∷ codes ",\"header\":" ∷ compact_text (pairs_tree (header_reading t.header)) ∷ codes ",\"kind\":" ∷ quoted (kind_word t.size) ∷ codes ",\"packets\":" ∷ compact_text (packets_tree t.packets) ∷ codes "}" ∷ [] in
+    let packets = packets_json_short ToTrain t.packets fits.1 in
+    let parts = codes "{\"fill\":" ∷ quoted (map bit_digit t.fill) ∷ codes ",\"header\":" ∷ compact_text (pairs_tree (header_reading t.header)) ∷ codes ",\"kind\":" ∷ quoted (kind_word t.size) ∷ codes ",\"packets\":" ∷ compact_text (packets_tree ToTrain t.packets) ∷ codes "}" ∷ [] in
     let l : length (compact_text (telegram_tree t)) ≡ total parts = joined_long parts in
     omega (arith, l, header, packets, digits_long t.fill, kind_json_short t.size, spelled_long (packets_reading t.packets) closing, x.user_bits_is, user_short t.size)
 
-message_json_short : (m : MessageValue) (r : Reading) → MessageReads m r → length (compact_text (message_tree m)) ≤ 524288
+message_json_short : (way : Way) (m : MessageValue) (r : Reading) → MessageReads way m r → length (compact_text (message_tree way m)) ≤ 524288
 unfolding escape_byte
-message_json_short (typed_message nid head body vs padding) r x =
+message_json_short way (typed_message nid head body vs padding) r x =
     let m = typed_message nid head body vs padding in
-    let len = message_bytes m in
-    let w = whole_message m r x in
-    let fits = front_fit m r x in
-    let headed = fit_front (head_reading nid len head) body fits in
-    let whole : AllFit r = radio.fit r (m, x) in
-    let shape : AllFit (((head_reading nid x.len head ++ body) ++ packets_reading vs) ++ kept PADDING padding) = subst AllFit x.reading_is whole in
-    let fields = pairs_json_short body (fit_behind (head_reading nid len head) body fits) in
-    let header = pairs_json_short (head_variables head) headed.1.1 in
-    let packets = packets_json_short vs (fit_behind (head_reading nid x.len head ++ body) (packets_reading vs) (fit_front ((head_reading nid x.len head ++ body) ++ packets_reading vs) (kept PADDING padding) shape)) in
-    let parts = codes "{\"fields\":" ∷ compact_text (pairs_tree body) ∷ codes ",\"header\":" ∷ compact_text (pairs_tree (head_variables head)) ∷ codes ",\"kind\":\"radio\",\"nid\":" ∷ decimal nid ∷ codes ",\"packets\":" ∷ compact_text (packets_tree vs) ∷ codes ",\"padding\":" ∷ quoted (map bit_digit padding) ∷ codes "}" ∷ [] in
-    let l : length (compact_text (message_tree m)) ≡ total parts = joined_long parts in
-    omega (arith, l, fields, header, packets, digits_long padding, decimal_short nid (small_number NID_MESSAGE nid headed.0), head_long head, w.0, w.1)
-message_json_short (kept_message nid b) r x =
-    let w = whole_message (kept_message nid b) r x in
-    let parts = codes "{\"data\":" ∷ quoted (map bit_digit b) ∷ codes ",\"kind\":\"radio\",\"nid\":" ∷ decimal nid ∷ codes "}" ∷ [] in
-    let l : length (compact_text (message_tree (kept_message nid b))) ≡ total parts = joined_long parts in
-    omega (arith, l, digits_long b, decimal_short nid (omega (arith, x.small)), w.0)
+    let w = whole_message way m r x in
+    let fits = typed_fit way nid head body vs padding r x in
+    let headed = fit_front (head_reading nid x.len head) body fits.0 in
+    let fields = pairs_json_short body (fit_behind (head_reading nid x.len head) body fits.0) in
+    let header = pairs_json_short head headed.1.1 in
+    let packets = packets_json_short way vs fits.1 in
+    let parts = codes "{\"fields\":" ∷ compact_text (pairs_tree body) ∷ codes ",\"header\":" ∷ compact_text (pairs_tree head) ∷ codes ",\"kind\":" ∷ quoted (way_word way) ∷ codes ",\"nid\":" ∷ decimal nid ∷ codes ",\"packets\":" ∷ compact_text (packets_tree way vs) ∷ codes ",\"padding\":" ∷ quoted (map bit_digit padding) ∷ codes "}" ∷ [] in
+    let l : length (compact_text (message_tree way m)) ≡ total parts = joined_long parts in
+    omega (arith, l, fields, header, packets, word_json_short way, digits_long padding, decimal_short nid (small_number NID_MESSAGE nid headed.0), head_bits way head x.head_reads, w.0, w.1)
+message_json_short way (kept_message nid b) r x =
+    let w = whole_message way (kept_message nid b) r x in
+    let parts = codes "{\"data\":" ∷ quoted (map bit_digit b) ∷ codes ",\"kind\":" ∷ quoted (way_word way) ∷ codes ",\"nid\":" ∷ decimal nid ∷ codes "}" ∷ [] in
+    let l : length (compact_text (message_tree way (kept_message nid b))) ≡ total parts = joined_long parts in
+    omega (arith, l, digits_long b, word_json_short way, decimal_short nid (omega (arith, x.small)), w.0)
 
 -- the JSON of one item
 pub json_short : (e : EntryValue) (r : Reading) → Spells e r → length (compact_text (json_tree e)) ≤ 524288
 json_short (of_telegram t) r x = telegram_json_short t r x
-json_short (of_message m) r x = message_json_short m r x
+json_short (of_message way m) r x = message_json_short way m r x
 
 -- ---- What is written of an item.
 
 bits_small : (e : EntryValue) (r : Reading) → Spells e r → entry_bits e < 8192
 bits_small (of_telegram t) r x = omega (arith, user_short t.size)
-bits_small (of_message m) r x = (whole_message m r x).0
+bits_small (of_message way m) r x = (whole_message way m r x).0
 
 pub check_short : (e : EntryValue) (r : Reading) (item : ℕ) → Spells e r → item < 2 ^ 64 → length (check_line e item) ≤ 64
 check_short e r item x h =
@@ -461,7 +492,7 @@ check_short e r item x h =
 
 spelled_short : (e : EntryValue) (r : Reading) → Spells e r → length (spelled r) ≤ 8192
 spelled_short (of_telegram t) r x = let whole = whole_length t.size r (t, (refl, x)) in omega (arith, whole, whole_short t.size)
-spelled_short (of_message m) r x = let w = whole_message m r x in omega (arith, w.0, w.2)
+spelled_short (of_message way m) r x = let w = whole_message way m r x in omega (arith, w.0, w.2)
 
 pub encoded_short : (e : EntryValue) (bytes : List ℕ) → IsEncoded e bytes → length bytes ≤ 1024
 encoded_short e bytes x =
@@ -470,4 +501,4 @@ encoded_short e bytes x =
 
 pub entry_short : (e : EntryValue) (r : Reading) (item : ℕ) → Spells e r → item < 2 ^ 64 → length (entry_text e item) ≤ 2 ^ 20
 entry_short (of_telegram t) r item x h = telegram_short t r item x h
-entry_short (of_message m) r item x h = message_short m r item x h
+entry_short (of_message way m) r item x h = message_short way m r item x h

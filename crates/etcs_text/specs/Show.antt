@@ -6,6 +6,8 @@ use Rattle.etcs_vars.specs.declared.var.Var.{Var}
 use Rattle.etcs_vars.specs.declared.var.Var.TheVariants.{NID_RADIO, D_REF}
 use Rattle.etcs_vars.specs.Vars.{name, special}
 use Rattle.etcs_vars.specs.Reading.{Sent}
+use Rattle.etcs_tables.specs.declared.row.Way.{Way}
+use Rattle.etcs_tables.specs.declared.row.Way.TheVariants.{ToTrain, ToTrack}
 use Rattle.etcs_telegram.specs.declared.size.Size.{Size}
 use Rattle.etcs_telegram.specs.declared.size.Size.TheVariants.{Short, Long}
 use Rattle.etcs_telegram.specs.Telegrams.{user_bits}
@@ -13,6 +15,11 @@ use Rattle.etcs_telegram.specs.Telegrams.{user_bits}
 abbrev pub kind_word : Size → List ℕ
 kind_word Short = codes "short"
 kind_word Long = codes "long"
+
+-- messages to the train are of kind radio, those to the track of kind train
+abbrev pub way_word : Way → List ℕ
+way_word ToTrain = codes "radio"
+way_word ToTrack = codes "train"
 
 -- the line of the item with its number, its kind and its count of bits
 abbrev pub item_line : Size → ℕ → List ℕ

@@ -1,5 +1,6 @@
 -- The text of a telegram.
 use Rattle.std.specs.Prelude.{ℕ, List, ◌++◌, flat_map, codes}
+use Rattle.etcs_tables.specs.declared.row.Way.TheVariants.{ToTrain}
 use Rattle.etcs_telegram.specs.Telegrams.{TelegramValue, header_reading}
 use Rattle.etcs_text.specs.Show.{item_line, variable_line, fill_line}
 use Rattle.etcs_text.specs.Packets.{packets_text}
@@ -7,4 +8,4 @@ use Rattle.etcs_text.specs.Packets.{packets_text}
 -- the text of a telegram that is the item of this number
 unfoldable pub show_text : TelegramValue → ℕ → List ℕ
 show_text t item =
-    item_line t.size item ++ flat_map variable_line (header_reading t.header) ++ packets_text t.packets ++ codes "packet 255\n" ++ fill_line t.fill
+    item_line t.size item ++ flat_map variable_line (header_reading t.header) ++ packets_text ToTrain t.packets ++ codes "packet 255\n" ++ fill_line t.fill

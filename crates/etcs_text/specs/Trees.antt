@@ -1,17 +1,18 @@
 -- The JSON of an item.
 use Rattle.std.specs.Prelude.{ℕ, Bool, List, [], ◌∷◌, map, codes}
-use Rattle.serde_json.specs.Data.{Data, number, unsigned, string, array, object, no_items, item, no_members, member}
+use Rattle.serde_json.specs.Data.{Data, Members, number, unsigned, string, array, object, no_items, item, no_members, member}
 use Rattle.serde_json.specs.View.{items_of}
 use Rattle.etcs_vars.specs.declared.var.Var.{Var}
 use Rattle.etcs_vars.specs.declared.var.Var.TheVariants.{NID_RADIO, NID_VBCMK}
 use Rattle.etcs_vars.specs.Vars.{name}
 use Rattle.etcs_vars.specs.Reading.{Reading, Sent}
+use Rattle.etcs_tables.specs.declared.row.Way.{Way}
+use Rattle.etcs_tables.specs.declared.row.Way.TheVariants.{ToTrain, ToTrack}
 use Rattle.etcs_packets.specs.PacketValues.{PacketValue, marker, typed, kept}
 use Rattle.etcs_telegram.specs.Telegrams.{TelegramValue, header_reading}
-use Rattle.etcs_radio.specs.Bodies.{head_variables}
-use Rattle.etcs_radio.specs.Messages.{MessageValue, typed_message, kept_message}
+use Rattle.etcs_messages.specs.Messages.{MessageValue, typed_message, kept_message}
 use Rattle.etcs_text.specs.Entries.{EntryValue, of_telegram, of_message}
-use Rattle.etcs_text.specs.Show.{bit_digit, hex_digits, kind_word}
+use Rattle.etcs_text.specs.Show.{bit_digit, hex_digits, kind_word, way_word}
 
 -- the number of a variable: that of NID_RADIO is a text, its sixteen digits of four bits
 abbrev pub number_tree : Var → ℕ → Data
@@ -29,23 +30,28 @@ pairs_tree r = array (items_of (map pair_tree r))
 abbrev pub bits_tree : List Bool → Data
 bits_tree bs = string (map bit_digit bs)
 
--- a packet: packet 0 has no Q_DIR
-abbrev pub packet_tree : PacketValue → Data
-packet_tree (marker n) = object (member (codes "fields") (pairs_tree ((NID_VBCMK, n) ∷ [])) (member (codes "nid") (number (unsigned 0)) no_members))
-packet_tree (typed nid dir r) = object (member (codes "dir") (number (unsigned dir)) (member (codes "fields") (pairs_tree r) (member (codes "nid") (number (unsigned nid)) no_members)))
-packet_tree (kept nid dir b) = object (member (codes "data") (bits_tree b) (member (codes "dir") (number (unsigned dir)) (member (codes "nid") (number (unsigned nid)) no_members)))
+-- the direction, which is sent to the train alone, in front of others
+abbrev pub with_dir : Way → ℕ → Members → Members
+with_dir ToTrain dir ms = member (codes "dir") (number (unsigned dir)) ms
+with_dir ToTrack dir ms = ms
 
-abbrev pub packets_tree : List PacketValue → Data
-packets_tree vs = array (items_of (map packet_tree vs))
+-- a packet that goes one way: packet 0 without a frame has no Q_DIR
+abbrev pub packet_tree : Way → PacketValue → Data
+packet_tree way (marker n) = object (member (codes "fields") (pairs_tree ((NID_VBCMK, n) ∷ [])) (member (codes "nid") (number (unsigned 0)) no_members))
+packet_tree way (typed nid dir r) = object (with_dir way dir (member (codes "fields") (pairs_tree r) (member (codes "nid") (number (unsigned nid)) no_members)))
+packet_tree way (kept nid dir b) = object (member (codes "data") (bits_tree b) (with_dir way dir (member (codes "nid") (number (unsigned nid)) no_members)))
+
+abbrev pub packets_tree : Way → List PacketValue → Data
+packets_tree way vs = array (items_of (map (packet_tree way) vs))
 
 abbrev pub telegram_tree : TelegramValue → Data
-telegram_tree t = object (member (codes "fill") (bits_tree t.fill) (member (codes "header") (pairs_tree (header_reading t.header)) (member (codes "kind") (string (kind_word t.size)) (member (codes "packets") (packets_tree t.packets) no_members))))
+telegram_tree t = object (member (codes "fill") (bits_tree t.fill) (member (codes "header") (pairs_tree (header_reading t.header)) (member (codes "kind") (string (kind_word t.size)) (member (codes "packets") (packets_tree ToTrain t.packets) no_members))))
 
 -- L_MESSAGE follows from the rest
-abbrev pub message_tree : MessageValue → Data
-message_tree (typed_message nid head body vs padding) = object (member (codes "fields") (pairs_tree body) (member (codes "header") (pairs_tree (head_variables head)) (member (codes "kind") (string (codes "radio")) (member (codes "nid") (number (unsigned nid)) (member (codes "packets") (packets_tree vs) (member (codes "padding") (bits_tree padding) no_members))))))
-message_tree (kept_message nid b) = object (member (codes "data") (bits_tree b) (member (codes "kind") (string (codes "radio")) (member (codes "nid") (number (unsigned nid)) no_members)))
+abbrev pub message_tree : Way → MessageValue → Data
+message_tree way (typed_message nid head body vs padding) = object (member (codes "fields") (pairs_tree body) (member (codes "header") (pairs_tree head) (member (codes "kind") (string (way_word way)) (member (codes "nid") (number (unsigned nid)) (member (codes "packets") (packets_tree way vs) (member (codes "padding") (bits_tree padding) no_members))))))
+message_tree way (kept_message nid b) = object (member (codes "data") (bits_tree b) (member (codes "kind") (string (way_word way)) (member (codes "nid") (number (unsigned nid)) no_members)))
 
 abbrev pub json_tree : EntryValue → Data
 json_tree (of_telegram t) = telegram_tree t
-json_tree (of_message m) = message_tree m
+json_tree (of_message way m) = message_tree way m

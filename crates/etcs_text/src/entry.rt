@@ -2,6 +2,7 @@
 
 use etcs_radio::Message;
 use etcs_telegram::Telegram;
+use etcs_train::TrainMessage;
 
 /// What the input holds.
 #[derive(Clone, Copy, Debug, PartialEq, Eq)]
@@ -12,6 +13,8 @@ pub enum Kind {
     Short,
     /// Radio messages to the train.
     Radio,
+    /// Radio messages from the train to the track.
+    Train,
 }
 
 /// One item of the input.
@@ -19,6 +22,8 @@ pub enum Kind {
 pub enum Entry {
     /// A balise telegram.
     Telegram(Telegram),
-    /// A radio message.
+    /// A radio message to the train.
     Message(Message),
+    /// A radio message from the train to the track.
+    Train(TrainMessage),
 }

@@ -3,13 +3,12 @@
 ghost use Rattle.std.specs.Prelude.{◌≡◌, ◌++◌, ◌∷◌, [], OnErr, OnOk, Some, map};
 ghost use Rattle.serde_json.specs.Written.{compact_text};
 ghost use Rattle.etcs_bits.specs.Bits.{num};
-ghost use Rattle.etcs_packets.specs.PacketValues.{packet_value};
-ghost use Rattle.etcs_radio.specs.Messages.{message_value};
-ghost use Rattle.etcs_radio.specs.Readings.{body_of, head_of, kept_of, padding_bits_of, padding_of};
+ghost use Rattle.etcs_messages.specs.Messages.{message_value, values_of};
+ghost use Rattle.etcs_messages.specs.Readings.{body_of, head_of, kept_of, packets_of, padding_bits_of, padding_of};
 ghost use Rattle.etcs_telegram.specs.Telegrams.{telegram_value};
 ghost use Rattle.etcs_text.specs.Entries.{entry_value};
 ghost use Rattle.etcs_text.specs.Fronts.{Begins};
-ghost use Rattle.etcs_text.specs.JsonParts.{kind_member, message_behind, message_front};
+ghost use Rattle.etcs_text.specs.JsonParts.{kind_member, message_behind, message_front, way_member};
 ghost use Rattle.etcs_text.specs.Show.{bit_digit};
 ghost use Rattle.etcs_text.specs.Trees.{json_tree, message_tree, telegram_tree};
 
@@ -18,7 +17,9 @@ use crate::json_packets::write_packets;
 use crate::pairs::write_variables;
 use crate::text::{write_bits, write_decimal, write_decimal_and, write_slice};
 use etcs_bits::BitSlice;
-use etcs_radio::{Body, Message, RadioHead};
+use etcs_messages::{Head, MessageOf, Own};
+use etcs_packets::parts::AnyPacket;
+use etcs_tables::Way;
 use etcs_telegram::{Size, Telegram};
 use std::alloc::AllocError;
 
@@ -46,9 +47,23 @@ fn write_telegram(telegram: &Telegram, out: &mut Vec<u8>) -> Result<(), AllocErr
     out.extend_from_slice(b"}")
 }
 
+/// The kind of the messages of a way, and the name of their number.
+#[inline(always)]
+fn way_member(way: Way) -> &'static [u8]
+    ensures { result.now ≡ way_member way }
+{
+    match way {
+        Way::ToTrain => b",\"kind\":\"radio\",\"nid\":",
+        Way::ToTrack => b",\"kind\":\"train\",\"nid\":",
+    }
+}
+
 /// Appends the digits of PADDING.
-fn write_padding(message: &Message, out: &mut Vec<u8>) -> Result<(), AllocError>
-    ensures ok { OnOk result (out.new.items ≡ out.old.items ++ map bit_digit (num (padding_bits_of message.now) (padding_of message.now))) }
+fn write_padding<H: Head, B: Own<Front = H>>(
+    message: &MessageOf<H, B>,
+    out: &mut Vec<u8>,
+) -> Result<(), AllocError>
+    ensures ok { OnOk result (out.new.items ≡ out.old.items ++ map bit_digit (num (padding_bits_of H.Packet.WAY B.own H.Packet.form message.now) (padding_of message.now))) }
     ensures err { OnErr result (Begins out.old.items out.new.items) }
 {
     let (count, number) = message.padding();
@@ -56,20 +71,27 @@ fn write_padding(message: &Message, out: &mut Vec<u8>) -> Result<(), AllocError>
 }
 
 /// Appends the members of a typed message in front of its number.
-fn write_front(head: &RadioHead, body: &Body, out: &mut Vec<u8>) -> Result<(), AllocError>
-    ensures ok { OnOk result (out.new.items ≡ out.old.items ++ message_front head.now body.now) }
+fn write_front<H: Head, B: Own<Front = H>>(
+    head: &H,
+    body: &B,
+    out: &mut Vec<u8>,
+) -> Result<(), AllocError>
+    ensures ok { OnOk result (out.new.items ≡ out.old.items ++ message_front H.Packet.WAY (B.reading_of body.now) (H.reading_of head.now)) }
     ensures err { OnErr result (Begins out.old.items out.new.items) }
 {
     out.extend_from_slice(b"{\"fields\":")?;
     write_variables(body, out)?;
     out.extend_from_slice(b",\"header\":")?;
     write_variables(head, out)?;
-    out.extend_from_slice(b",\"kind\":\"radio\",\"nid\":")
+    out.extend_from_slice(way_member(H::Packet::WAY))
 }
 
 /// Appends the members of a typed message after its number.
-fn write_behind(message: &Message, out: &mut Vec<u8>) -> Result<(), AllocError>
-    ensures ok { OnOk result (out.new.items ≡ out.old.items ++ message_behind message.now) }
+fn write_behind<H: Head, B: Own<Front = H>>(
+    message: &MessageOf<H, B>,
+    out: &mut Vec<u8>,
+) -> Result<(), AllocError>
+    ensures ok { OnOk result (out.new.items ≡ out.old.items ++ message_behind H.Packet.WAY (values_of H.Packet.form (packets_of message.now)) (num (padding_bits_of H.Packet.WAY B.own H.Packet.form message.now) (padding_of message.now))) }
     ensures err { OnErr result (Begins out.old.items out.new.items) }
 {
     out.extend_from_slice(b",\"packets\":")?;
@@ -80,15 +102,15 @@ fn write_behind(message: &Message, out: &mut Vec<u8>) -> Result<(), AllocError>
 }
 
 /// Appends a typed message, whose head and body these are.
-fn write_typed(
-    message: &Message,
-    head: &RadioHead,
-    body: &Body,
+fn write_typed<H: Head, B: Own<Front = H>>(
+    message: &MessageOf<H, B>,
+    head: &H,
+    body: &B,
     out: &mut Vec<u8>,
 ) -> Result<(), AllocError>
     requires head { head_of message.now ≡ Some head.now }
     requires body { body_of message.now ≡ Some body.now }
-    ensures ok { OnOk result (out.new.items ≡ out.old.items ++ compact_text (message_tree (message_value message.now))) }
+    ensures ok { OnOk result (out.new.items ≡ out.old.items ++ compact_text (message_tree H.Packet.WAY (message_value H.Packet.WAY H.head B.own H.Packet.form message.now))) }
     ensures err { OnErr result (Begins out.old.items out.new.items) }
 {
     write_front(head, body, out)?;
@@ -97,20 +119,28 @@ fn write_typed(
 }
 
 /// Appends a message that is kept as these bits.
-fn write_kept(message: &Message, bits: &BitSlice<'_>, out: &mut Vec<u8>) -> Result<(), AllocError>
+fn write_kept<H: Head, B: Own<Front = H>>(
+    message: &MessageOf<H, B>,
+    bits: &BitSlice<'_>,
+    out: &mut Vec<u8>,
+) -> Result<(), AllocError>
     requires { kept_of message.now ≡ Some bits.now }
-    ensures ok { OnOk result (out.new.items ≡ out.old.items ++ compact_text (message_tree (message_value message.now))) }
+    ensures ok { OnOk result (out.new.items ≡ out.old.items ++ compact_text (message_tree H.Packet.WAY (message_value H.Packet.WAY H.head B.own H.Packet.form message.now))) }
     ensures err { OnErr result (Begins out.old.items out.new.items) }
 {
     out.extend_from_slice(b"{\"data\":\"")?;
     write_slice(bits, out)?;
-    out.extend_from_slice(b"\",\"kind\":\"radio\",\"nid\":")?;
+    out.extend_from_slice(b"\"")?;
+    out.extend_from_slice(way_member(H::Packet::WAY))?;
     write_decimal_and(u64::from(message.nid()), b'}', out)
 }
 
 /// Appends a message.
-fn write_message(message: &Message, out: &mut Vec<u8>) -> Result<(), AllocError>
-    ensures ok { OnOk result (out.new.items ≡ out.old.items ++ compact_text (message_tree (message_value message.now))) }
+fn write_message<H: Head, B: Own<Front = H>>(
+    message: &MessageOf<H, B>,
+    out: &mut Vec<u8>,
+) -> Result<(), AllocError>
+    ensures ok { OnOk result (out.new.items ≡ out.old.items ++ compact_text (message_tree H.Packet.WAY (message_value H.Packet.WAY H.head B.own H.Packet.form message.now))) }
     ensures err { OnErr result (Begins out.old.items out.new.items) }
 {
     match (message.head(), message.body(), message.kept_bits()) {
@@ -128,6 +158,7 @@ fn write_entry(entry: &Entry, out: &mut Vec<u8>) -> Result<(), AllocError>
     match entry {
         Entry::Telegram(telegram) => write_telegram(telegram, out),
         Entry::Message(message) => write_message(message, out),
+        Entry::Train(message) => write_message(message, out),
     }
 }
 
@@ -144,8 +175,8 @@ fn write_line(entry: &Entry, out: &mut Vec<u8>) -> Result<(), AllocError>
 ///
 /// The members are in the order of their names. A telegram has `fill`, `header`, `kind` and `packets`, a typed message
 /// `fields`, `header`, `kind`, `nid`, `packets` and `padding`, and one that is kept as bits `data`, `kind` and `nid`. A
-/// packet has `dir` (but for packet 0), `fields` and `nid`, or `data`, `dir` and `nid` where it is kept as bits. Bits are
-/// a text of digits 0 and 1. A variable is a pair of its name and its number, that of NID_RADIO as a text of sixteen
+/// packet has `dir` (but for packet 0), `fields` and `nid`, or `data`, `dir` and `nid` where it is kept as bits; to the
+/// track no packet has `dir`. Bits are a text of digits 0 and 1. A variable is a pair of its name and its number, that of NID_RADIO as a text of sixteen
 /// hexadecimal digits in lower case.
 ///
 /// # Errors

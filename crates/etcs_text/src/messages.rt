@@ -1,38 +1,63 @@
-//! The text of radio messages.
+//! The text of messages of either way.
 
-ghost use Rattle.std.specs.Prelude.{◌≡◌, ◌++◌, OnErr, OnOk, codes, flat_map, map};
+ghost use Rattle.std.specs.Prelude.{◌≡◌, ◌++◌, OnErr, OnOk, codes, flat_map};
 ghost use Rattle.etcs_bits.specs.Bits.{num};
-ghost use Rattle.etcs_packets.specs.PacketValues.{packet_value};
-ghost use Rattle.etcs_radio.specs.Messages.{message_value};
-ghost use Rattle.etcs_radio.specs.Readings.{front_reading, packets_of, padding_bits_of, padding_of};
+ghost use Rattle.etcs_messages.specs.Messages.{message_value, values_of};
+ghost use Rattle.etcs_messages.specs.Readings.{front_reading, packets_of, padding_bits_of, padding_of};
 ghost use Rattle.etcs_text.specs.Fronts.{Begins};
-ghost use Rattle.etcs_text.specs.Messages.{behind_lines, message_line, message_text};
+ghost use Rattle.etcs_text.specs.Messages.{behind_lines, message_bits, message_line, message_text};
 ghost use Rattle.etcs_text.specs.Packets.{packets_text};
-ghost use Rattle.etcs_text.specs.Show.{bits_line, variable_line};
+ghost use Rattle.etcs_text.specs.Show.{bits_line, variable_line, way_word};
 
 use crate::packets::{LineSink, write_packets};
 use crate::text::{write_decimal, write_item_number};
 use crate::variables::write_bits_line;
 use etcs_bits::BitSlice;
-use etcs_radio::Message;
-use etcs_radio::parts::send_front;
+use etcs_messages::parts::{reads, send_front};
+use etcs_messages::{Head, MessageOf, Own};
+use etcs_packets::parts::AnyPacket;
+use etcs_tables::Way;
 use etcs_vars::Var;
 use std::alloc::AllocError;
 
+/// The kind of messages of a way, between blanks.
+#[inline(always)]
+fn way_words(way: Way) -> &'static [u8]
+    ensures { result.now ≡ codes " " ++ way_word way ++ codes " " }
+{
+    match way {
+        Way::ToTrain => b" radio ",
+        Way::ToTrack => b" train ",
+    }
+}
+
 /// Appends the first line of an item of this many bits.
-fn write_item(bits: usize, item: u64, out: &mut Vec<u8>) -> Result<(), AllocError>
-    ensures ok { OnOk result (out.new.items ≡ out.old.items ++ message_line bits item) }
+#[inline(always)]
+fn write_item(way: Way, bits: usize, item: u64, out: &mut Vec<u8>) -> Result<(), AllocError>
+    ensures ok { OnOk result (out.new.items ≡ out.old.items ++ message_line way bits item) }
     ensures err { OnErr result (Begins out.old.items out.new.items) }
 {
     write_item_number(item, out)?;
-    out.extend_from_slice(b" radio ")?;
+    out.extend_from_slice(way_words(way))?;
     write_decimal(bits as u64, out)?;
     out.extend_from_slice(b" bits\n")
 }
 
+/// How many bits a message has.
+#[inline(always)]
+pub(crate) fn message_bits<H: Head, B: Own<Front = H>>(message: &MessageOf<H, B>) -> usize
+    ensures { result ≡ message_bits H.Packet.WAY (message_value H.Packet.WAY H.head B.own H.Packet.form message.now) }
+{
+    reads(message);
+    message.bit_len()
+}
+
 /// Appends the lines of the variables in front of the packets or of the bits that are kept.
-fn write_front(message: &Message, out: &mut Vec<u8>) -> Result<(), AllocError>
-    ensures ok { OnOk result (out.new.items ≡ out.old.items ++ flat_map variable_line (front_reading message.now)) }
+fn write_front<H: Head, B: Own<Front = H>>(
+    message: &MessageOf<H, B>,
+    out: &mut Vec<u8>,
+) -> Result<(), AllocError>
+    ensures ok { OnOk result (out.new.items ≡ out.old.items ++ flat_map variable_line (front_reading H.Packet.WAY H.head B.own H.Packet.form message.now)) }
     ensures err { OnErr result (Begins out.old.items out.new.items) }
 {
     let mut sink = LineSink::open(out);
@@ -42,8 +67,11 @@ fn write_front(message: &Message, out: &mut Vec<u8>) -> Result<(), AllocError>
 }
 
 /// Appends the line of PADDING.
-fn write_padding(message: &Message, out: &mut Vec<u8>) -> Result<(), AllocError>
-    ensures ok { OnOk result (out.new.items ≡ out.old.items ++ bits_line (codes "PADDING") (num (padding_bits_of message.now) (padding_of message.now))) }
+fn write_padding<H: Head, B: Own<Front = H>>(
+    message: &MessageOf<H, B>,
+    out: &mut Vec<u8>,
+) -> Result<(), AllocError>
+    ensures ok { OnOk result (out.new.items ≡ out.old.items ++ bits_line (codes "PADDING") (num (padding_bits_of H.Packet.WAY B.own H.Packet.form message.now) (padding_of message.now))) }
     ensures err { OnErr result (Begins out.old.items out.new.items) }
 {
     let (count, number) = message.padding();
@@ -55,8 +83,11 @@ fn write_padding(message: &Message, out: &mut Vec<u8>) -> Result<(), AllocError>
 }
 
 /// Appends the texts of the packets, the end and the line of PADDING.
-fn write_closed(message: &Message, out: &mut Vec<u8>) -> Result<(), AllocError>
-    ensures ok { OnOk result (out.new.items ≡ out.old.items ++ (packets_text (map packet_value (packets_of message.now)) ++ codes "end\n" ++ bits_line (codes "PADDING") (num (padding_bits_of message.now) (padding_of message.now)))) }
+fn write_closed<H: Head, B: Own<Front = H>>(
+    message: &MessageOf<H, B>,
+    out: &mut Vec<u8>,
+) -> Result<(), AllocError>
+    ensures ok { OnOk result (out.new.items ≡ out.old.items ++ (packets_text H.Packet.WAY (values_of H.Packet.form (packets_of message.now)) ++ codes "end\n" ++ bits_line (codes "PADDING") (num (padding_bits_of H.Packet.WAY B.own H.Packet.form message.now) (padding_of message.now)))) }
     ensures err { OnErr result (Begins out.old.items out.new.items) }
 {
     write_packets(message.packets(), out)?;
@@ -65,8 +96,11 @@ fn write_closed(message: &Message, out: &mut Vec<u8>) -> Result<(), AllocError>
 }
 
 /// Appends the lines of what follows the variables.
-fn write_behind(message: &Message, out: &mut Vec<u8>) -> Result<(), AllocError>
-    ensures ok { OnOk result (out.new.items ≡ out.old.items ++ behind_lines (message_value message.now)) }
+fn write_behind<H: Head, B: Own<Front = H>>(
+    message: &MessageOf<H, B>,
+    out: &mut Vec<u8>,
+) -> Result<(), AllocError>
+    ensures ok { OnOk result (out.new.items ≡ out.old.items ++ behind_lines H.Packet.WAY (message_value H.Packet.WAY H.head B.own H.Packet.form message.now)) }
     ensures err { OnErr result (Begins out.old.items out.new.items) }
 {
     match message.kept_bits() {
@@ -76,15 +110,15 @@ fn write_behind(message: &Message, out: &mut Vec<u8>) -> Result<(), AllocError>
 }
 
 /// Appends the text of a message.
-pub(crate) fn write_message(
-    message: &Message,
+pub(crate) fn write_message<H: Head, B: Own<Front = H>>(
+    message: &MessageOf<H, B>,
     item: u64,
     out: &mut Vec<u8>,
 ) -> Result<(), AllocError>
-    ensures ok { OnOk result (out.new.items ≡ out.old.items ++ message_text (message_value message.now) item) }
+    ensures ok { OnOk result (out.new.items ≡ out.old.items ++ message_text H.Packet.WAY (message_value H.Packet.WAY H.head B.own H.Packet.form message.now) item) }
     ensures err { OnErr result (Begins out.old.items out.new.items) }
 {
-    write_item(message.bit_len(), item, out)?;
+    write_item(H::Packet::WAY, message_bits(message), item, out)?;
     write_front(message, out)?;
     write_behind(message, out)
 }

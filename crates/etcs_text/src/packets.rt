@@ -1,16 +1,17 @@
 //! The text of packets.
 
-ghost use Rattle.std.specs.Prelude.{◌≡◌, ◌++◌, OnErr, OnOk, flat_map, map};
-ghost use Rattle.etcs_vars.specs.declared.var.Var.TheVariants.{Q_DIR, L_PACKET};
-ghost use Rattle.etcs_packets.specs.PacketValues.{packet_value, variables_of};
+ghost use Rattle.std.specs.Prelude.{◌≡◌, ◌++◌, ◌∷◌, [], OnErr, OnOk, flat_map, map};
+ghost use Rattle.etcs_vars.specs.declared.var.Var.TheVariants.{L_PACKET};
+ghost use Rattle.etcs_tables.specs.Frames.{directed};
+ghost use Rattle.etcs_packets.specs.PacketValues.{variables_of};
 ghost use Rattle.etcs_text.specs.Fronts.{Begins};
 ghost use Rattle.etcs_text.specs.Show.{variable_line};
 ghost use Rattle.etcs_text.specs.Packets.{body_lines, frame_lines, packet_line, packet_text, packets_text};
 
 use crate::text::write_decimal_line;
 use crate::variables::{write_bits_line, write_variable};
-use etcs_packets::Packet;
-use etcs_packets::parts::{dir, send};
+use etcs_packets::parts::AnyPacket;
+use etcs_tables::Way;
 use etcs_vars::Var;
 use etcs_vars::parts::VarSink;
 use std::alloc::AllocError;
@@ -75,6 +76,7 @@ impl VarSink for LineSink {
 }
 
 /// Appends the line of a packet's number.
+#[inline(always)]
 fn write_number_line(nid: u8, out: &mut Vec<u8>) -> Result<(), AllocError>
     ensures ok { OnOk result (out.new.items ≡ out.old.items ++ packet_line nid) }
     ensures err { OnErr result (Begins out.old.items out.new.items) }
@@ -83,67 +85,85 @@ fn write_number_line(nid: u8, out: &mut Vec<u8>) -> Result<(), AllocError>
     write_decimal_line(u64::from(nid), out)
 }
 
-/// Appends the lines of Q_DIR and L_PACKET.
-fn write_direction_and_length(dir: u8, bits: u64, out: &mut Vec<u8>) -> Result<(), AllocError>
-    ensures ok { OnOk result (out.new.items ≡ out.old.items ++ (variable_line (Q_DIR, dir) ++ variable_line (L_PACKET, bits))) }
+/// Appends the line of Q_DIR, which is sent to the train alone.
+#[inline(always)]
+fn write_direction(way: Way, dir: u8, out: &mut Vec<u8>) -> Result<(), AllocError>
+    ensures ok { OnOk result (out.new.items ≡ out.old.items ++ flat_map variable_line (directed way dir [])) }
     ensures err { OnErr result (Begins out.old.items out.new.items) }
 {
-    write_variable(Var::Q_DIR, u64::from(dir), out)?;
+    match way {
+        Way::ToTrain => write_variable(Var::Q_DIR, u64::from(dir), out),
+        Way::ToTrack => Ok(()),
+    }
+}
+
+/// Appends the lines of Q_DIR and L_PACKET.
+#[inline(always)]
+fn write_direction_and_length(
+    way: Way,
+    dir: u8,
+    bits: u64,
+    out: &mut Vec<u8>,
+) -> Result<(), AllocError>
+    ensures ok { OnOk result (out.new.items ≡ out.old.items ++ flat_map variable_line (directed way dir ((L_PACKET, bits) ∷ []))) }
+    ensures err { OnErr result (Begins out.old.items out.new.items) }
+{
+    write_direction(way, dir, out)?;
     write_variable(Var::L_PACKET, bits, out)
 }
 
-/// Appends the lines of Q_DIR and L_PACKET, which packet 0 doesn't have.
-fn write_frame(packet: &Packet, out: &mut Vec<u8>) -> Result<(), AllocError>
-    ensures ok { OnOk result (out.new.items ≡ out.old.items ++ frame_lines (packet_value packet.now)) }
+/// Appends the lines of Q_DIR and L_PACKET, which packet 0 without a frame doesn't have.
+fn write_frame<P: AnyPacket>(packet: &P, out: &mut Vec<u8>) -> Result<(), AllocError>
+    ensures ok { OnOk result (out.new.items ≡ out.old.items ++ frame_lines P.WAY (P.form packet.now).value) }
     ensures err { OnErr result (Begins out.old.items out.new.items) }
 {
-    match dir(packet) {
-        Some(dir) => write_direction_and_length(dir, packet.bit_len() as u64, out),
+    match packet.direction() {
+        Some(dir) => write_direction_and_length(P::WAY, dir, packet.full_bits() as u64, out),
         None => Ok(()),
     }
 }
 
 /// Appends the lines of the variables after a packet's frame.
-fn write_sent(packet: &Packet, out: &mut Vec<u8>) -> Result<(), AllocError>
-    ensures ok { OnOk result (out.new.items ≡ out.old.items ++ flat_map variable_line (variables_of (packet_value packet.now))) }
+fn write_sent<P: AnyPacket>(packet: &P, out: &mut Vec<u8>) -> Result<(), AllocError>
+    ensures ok { OnOk result (out.new.items ≡ out.old.items ++ flat_map variable_line (variables_of (P.form packet.now).value)) }
     ensures err { OnErr result (Begins out.old.items out.new.items) }
 {
     let mut sink = LineSink::open(out);
-    let sent = send(packet, &mut sink);
+    let sent = packet.send_variables(&mut sink);
     *out = sink.into_text();
     sent
 }
 
 /// Appends the lines of what follows a packet's frame.
-fn write_body(packet: &Packet, out: &mut Vec<u8>) -> Result<(), AllocError>
-    ensures ok { OnOk result (out.new.items ≡ out.old.items ++ body_lines (packet_value packet.now)) }
+fn write_body<P: AnyPacket>(packet: &P, out: &mut Vec<u8>) -> Result<(), AllocError>
+    ensures ok { OnOk result (out.new.items ≡ out.old.items ++ body_lines (P.form packet.now).value) }
     ensures err { OnErr result (Begins out.old.items out.new.items) }
 {
-    match packet {
-        Packet::Other(kept) => write_bits_line(Var::OTHER_DATA, &kept.body(), out),
-        _ => write_sent(packet, out),
+    match packet.kept_bits() {
+        Some(bits) => write_bits_line(Var::OTHER_DATA, &bits, out),
+        None => write_sent(packet, out),
     }
 }
 
 /// Appends the text of a packet.
-fn write_packet(packet: &Packet, out: &mut Vec<u8>) -> Result<(), AllocError>
-    ensures ok { OnOk result (out.new.items ≡ out.old.items ++ packet_text (packet_value packet.now)) }
+fn write_packet<P: AnyPacket>(packet: &P, out: &mut Vec<u8>) -> Result<(), AllocError>
+    ensures ok { OnOk result (out.new.items ≡ out.old.items ++ packet_text P.WAY (P.form packet.now).value) }
     ensures err { OnErr result (Begins out.old.items out.new.items) }
 {
-    write_number_line(packet.nid(), out)?;
+    write_number_line(packet.number_of(), out)?;
     write_frame(packet, out)?;
     write_body(packet, out)
 }
 
-/// Appends the texts of packets, one after another: of each a line `packet` with its number, and a line for each
-/// variable after it in the order of sending (SUBSET-026, 7.4). The bits of a packet that is kept as bits are one line,
-/// OTHER_DATA, with their count. Each line ends with a LF.
+/// Appends the texts of packets of either way, one after another: of each a line `packet` with its number, and a line for
+/// each variable after it in the order of sending (SUBSET-026, 7.4); to the track there is no Q_DIR. The bits of a packet
+/// that is kept as bits are one line, OTHER_DATA, with their count. Each line ends with a LF.
 ///
 /// # Errors
 ///
 /// Where memory is refused. A part of the texts may then be in `out`, after what was there.
-pub fn write_packets(packets: &[Packet], out: &mut Vec<u8>) -> Result<(), AllocError>
-    ensures ok { OnOk result (out.new.items ≡ out.old.items ++ packets_text (map packet_value packets.now)) }
+pub fn write_packets<P: AnyPacket>(packets: &[P], out: &mut Vec<u8>) -> Result<(), AllocError>
+    ensures ok { OnOk result (out.new.items ≡ out.old.items ++ packets_text P.WAY (map (λ p. (P.form p).value) packets.now)) }
     ensures err { OnErr result (Begins out.old.items out.new.items) }
 {
     for packet in packets {

@@ -4,13 +4,12 @@ ghost use Rattle.std.specs.Prelude.{◌≡◌, ◌∷◌, ◌++◌, [], false, O
 ghost use Rattle.serde_json.specs.Written.{comma_if, compact_text};
 ghost use Rattle.etcs_text.specs.Fronts.{Begins};
 ghost use Rattle.etcs_vars.specs.declared.var.Var.TheVariants.{NID_RADIO};
-ghost use Rattle.etcs_packets.specs.PacketValues.{packet_value, variables_of};
+ghost use Rattle.etcs_packets.specs.PacketValues.{variables_of};
 ghost use Rattle.etcs_text.specs.Trees.{number_tree, pair_tree, pairs_tree};
 
 use crate::fronts::pair_front;
 use crate::text::{write_decimal_and, write_hex};
-use etcs_packets::Packet;
-use etcs_packets::parts::send;
+use etcs_packets::parts::AnyPacket;
 use etcs_vars::Var;
 use etcs_vars::parts::{VarSink, Variables};
 use std::alloc::AllocError;
@@ -125,13 +124,13 @@ pub(crate) fn write_variables<V: Variables>(
 }
 
 /// Appends the pairs of a packet's variables after its frame, as a list.
-pub(crate) fn write_fields(packet: &Packet, out: &mut Vec<u8>) -> Result<(), AllocError>
-    ensures ok { OnOk result (out.new.items ≡ out.old.items ++ compact_text (pairs_tree (variables_of (packet_value packet.now)))) }
+pub(crate) fn write_fields<P: AnyPacket>(packet: &P, out: &mut Vec<u8>) -> Result<(), AllocError>
+    ensures ok { OnOk result (out.new.items ≡ out.old.items ++ compact_text (pairs_tree (variables_of (P.form packet.now).value))) }
     ensures err { OnErr result (Begins out.old.items out.new.items) }
 {
     out.extend_from_slice(b"[")?;
     let mut sink = PairSink::open(out);
-    let sent = send(packet, &mut sink);
+    let sent = packet.send_variables(&mut sink);
     *out = sink.into_text();
     sent?;
     out.extend_from_slice(b"]")

@@ -79,6 +79,7 @@ fn write_entry(entry: &Entry, item: u64, out: &mut Vec<u8>) -> Result<(), AllocE
     match entry {
         Entry::Telegram(telegram) => write_telegram(telegram, item, out),
         Entry::Message(message) => write_message(message, item, out),
+        Entry::Train(message) => write_message(message, item, out),
     }
 }
 

@@ -3,15 +3,18 @@
 ghost use Rattle.std.specs.Prelude.{◌≡◌, ◌++◌, ◌<◌, ◌≤◌, ◌∷◌, All, ℕ, List, [], IfOk, OnErr, OnOk, codes, length, take};
 ghost use Rattle.std.specs.Fmt.{decimal};
 ghost use Rattle.hex.specs.Hex.{encode_upper};
-ghost use Rattle.etcs_radio.specs.Messages.{message_value};
+ghost use Rattle.etcs_messages.specs.Messages.{message_value};
 ghost use Rattle.etcs_telegram.specs.Telegrams.{telegram_value, user_bits};
 ghost use Rattle.etcs_text.specs.Entries.{entry_value, of_message, of_telegram};
 ghost use Rattle.etcs_text.specs.Fronts.{Begins};
 ghost use Rattle.etcs_text.specs.Encodings.{IsEncoded, check_line};
+ghost use Rattle.etcs_text.specs.Messages.{message_bits};
 
 use crate::entry::Entry;
+use crate::messages::message_bits;
 use crate::text::{write_decimal, write_item_number};
-use etcs_radio::Message;
+use etcs_messages::{Head, MessageOf, Own};
+use etcs_packets::parts::AnyPacket;
 use etcs_telegram::{Size, Telegram};
 use std::alloc::{AllocError, Global};
 
@@ -25,13 +28,16 @@ fn accepted(size: Size) -> &'static [u8]
     }
 }
 
-/// Appends what follows the number in the line that says that a message of this many bits was accepted.
-fn write_accepted(bits: usize, out: &mut Vec<u8>) -> Result<(), AllocError>
-    ensures ok { OnOk result (out.new.items ≡ out.old.items ++ (codes " ok " ++ decimal bits ++ codes " bits\n")) }
+/// Appends what follows the number in the line that says that a message was accepted.
+fn write_accepted<H: Head, B: Own<Front = H>>(
+    message: &MessageOf<H, B>,
+    out: &mut Vec<u8>,
+) -> Result<(), AllocError>
+    ensures ok { OnOk result (out.new.items ≡ out.old.items ++ (codes " ok " ++ decimal (message_bits H.Packet.WAY (message_value H.Packet.WAY H.head B.own H.Packet.form message.now)) ++ codes " bits\n")) }
     ensures err { OnErr result (Begins out.old.items out.new.items) }
 {
     out.extend_from_slice(b" ok ")?;
-    write_decimal(bits as u64, out)?;
+    write_decimal(message_bits(message) as u64, out)?;
     out.extend_from_slice(b" bits\n")
 }
 
@@ -43,7 +49,8 @@ fn write_check(entry: &Entry, item: u64, out: &mut Vec<u8>) -> Result<(), AllocE
     write_item_number(item, out)?;
     match entry {
         Entry::Telegram(telegram) => out.extend_from_slice(accepted(telegram.size())),
-        Entry::Message(message) => write_accepted(message.bit_len(), out),
+        Entry::Message(message) => write_accepted(message, out),
+        Entry::Train(message) => write_accepted(message, out),
     }
 }
 
@@ -89,8 +96,11 @@ fn encode_telegram(telegram: &Telegram) -> ([u8; 104], usize)
 }
 
 /// The message's encoding.
-fn encode_message(message: &Message, alloc: Global) -> Result<Vec<u8>, AllocError>
-    ensures { IfOk result (λ bytes. IsEncoded (of_message (message_value message.now)) bytes.items) }
+fn encode_message<H: Head, B: Own<Front = H>>(
+    message: &MessageOf<H, B>,
+    alloc: Global,
+) -> Result<Vec<u8>, AllocError>
+    ensures { IfOk result (λ bytes. IsEncoded (of_message H.Packet.WAY (message_value H.Packet.WAY H.head B.own H.Packet.form message.now)) bytes.items) }
 {
     let mut bytes = Vec::new(alloc);
     message.encode(&mut bytes)?;
@@ -99,8 +109,11 @@ fn encode_message(message: &Message, alloc: Global) -> Result<Vec<u8>, AllocErro
 }
 
 /// Appends the message's encoding, or nothing.
-fn append_message(message: &Message, out: &mut Vec<u8>) -> Result<(), AllocError>
-    ensures ok { OnOk result ((added : List ℕ) × IsEncoded (of_message (message_value message.now)) added × (out.new.items ≡ out.old.items ++ added)) }
+fn append_message<H: Head, B: Own<Front = H>>(
+    message: &MessageOf<H, B>,
+    out: &mut Vec<u8>,
+) -> Result<(), AllocError>
+    ensures ok { OnOk result ((added : List ℕ) × IsEncoded (of_message H.Packet.WAY (message_value H.Packet.WAY H.head B.own H.Packet.form message.now)) added × (out.new.items ≡ out.old.items ++ added)) }
     ensures err { OnErr result (out.new.items ≡ out.old.items) }
 {
     are_bytes(out.as_slice());
@@ -124,6 +137,7 @@ pub fn encoded(entry: &Entry, out: &mut Vec<u8>) -> Result<(), AllocError>
             out.extend_from_slice(&buffer[..count])
         }
         Entry::Message(message) => append_message(message, out),
+        Entry::Train(message) => append_message(message, out),
     }
 }
 
@@ -135,6 +149,18 @@ fn write_digits(bytes: &[u8], out: &mut Vec<u8>) -> Result<(), AllocError>
     let mut text = hex::encode_upper(*out.allocator(), bytes)?;
     text.push('\n')?;
     out.extend_from_slice(text.as_bytes())
+}
+
+/// Appends the message's encoding in upper case digits and a LF, or nothing.
+fn write_message_digits<H: Head, B: Own<Front = H>>(
+    message: &MessageOf<H, B>,
+    out: &mut Vec<u8>,
+) -> Result<(), AllocError>
+    ensures ok { OnOk result ((bytes : List ℕ) × IsEncoded (of_message H.Packet.WAY (message_value H.Packet.WAY H.head B.own H.Packet.form message.now)) bytes × (out.new.items ≡ out.old.items ++ (encode_upper bytes ++ 10 ∷ []))) }
+    ensures err { OnErr result (out.new.items ≡ out.old.items) }
+{
+    let bytes = encode_message(message, *out.allocator())?;
+    write_digits(bytes.as_slice(), out)
 }
 
 /// Appends the entry's encoding in upper case hexadecimal digits and a LF.
@@ -151,9 +177,7 @@ pub fn hex_line(entry: &Entry, out: &mut Vec<u8>) -> Result<(), AllocError>
             let (buffer, count) = encode_telegram(telegram);
             write_digits(&buffer[..count], out)
         }
-        Entry::Message(message) => {
-            let bytes = encode_message(message, *out.allocator())?;
-            write_digits(bytes.as_slice(), out)
-        }
+        Entry::Message(message) => write_message_digits(message, out),
+        Entry::Train(message) => write_message_digits(message, out),
     }
 }

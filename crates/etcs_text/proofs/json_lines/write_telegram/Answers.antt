@@ -3,6 +3,7 @@ use Rattle.std.specs.Prelude.{codes}
 use Rattle.serde_json.specs.Written.{compact_text}
 use Rattle.etcs_packets.specs.declared.packet.Packet.{Packet}
 use Rattle.etcs_packets.specs.PacketValues.{packet_value}
+use Rattle.etcs_tables.specs.declared.row.Way.TheVariants.{ToTrain}
 use Rattle.etcs_telegram.specs.declared.size.Size.{Size}
 use Rattle.etcs_telegram.specs.Telegrams.{HeaderValue, header_reading}
 use Rattle.etcs_text.specs.laws.Fronts.{begins_more}
@@ -54,7 +55,7 @@ returns-clause-ok c =
     let b = codes "\",\"header\":" in
     let y = compact_text (pairs_tree (header_reading t.header)) in
     let k = kind_member t.size in
-    let z = compact_text (packets_tree (map packet_value t.packets)) in
+    let z = compact_text (packets_tree ToTrain (map packet_value t.packets)) in
     let e = codes "}" in
     on_ok r old new (codes "{\"fill\":\"" ++ (x ++ (b ++ (y ++ (k ++ (z ++ e)))))) _ (telegram_is t.size t.header (map packet_value t.packets) t.fill)
     (behind_ok r old (codes "{\"fill\":\"") one (x ++ (b ++ (y ++ (k ++ (z ++ e))))) new c.in_ok-extend_from_slice.ensures.items
@@ -62,5 +63,5 @@ returns-clause-ok c =
     (behind_ok r two b three (y ++ (k ++ (z ++ e))) new c.in_ok-extend_from_slice-2.ensures.items
     (behind_ok r three y four (k ++ (z ++ e)) new (c.in_ok-write_variables.ensures.ok ∙ ap (λ (h : HeaderValue). three ++ compact_text (pairs_tree (header_reading h))) c.header.ensures)
     (behind_ok r four k five (z ++ e) new (c.in_ok-extend_from_slice-3.ensures.items ∙ ap (λ (w : List ℕ). four ++ w) (c.kind_member.ensures ∙ ap (λ (s : Size). kind_member s) c.size.ensures))
-    (behind_ok r five z six e new (c.in_ok-write_packets.ensures.ok ∙ ap (λ (ps : List Packet). five ++ compact_text (packets_tree (map packet_value ps))) c.packets.ensures)
+    (behind_ok r five z six e new (c.in_ok-write_packets.ensures.ok ∙ ap (λ (ps : List Packet). five ++ compact_text (packets_tree ToTrain (map packet_value ps))) c.packets.ensures)
     (on_extended _ _ r six new e e c.extend_from_slice-4.ensures.items refl)))))))

@@ -1,12 +1,14 @@
 use Rattle.std.proofs.Common.{◌++◌, ◌∙◌, ℕ, ap, decimal}
-use Rattle.etcs_radio.specs.Readings.{nid_of_message}
+use Rattle.etcs_bits.specs.Bits.{num}
+use Rattle.etcs_messages.specs.Messages.{values_of}
+use Rattle.etcs_messages.specs.Readings.{nid_of_message, packets_of, padding_bits_of, padding_of}
 use Rattle.etcs_text.specs.JsonParts.{message_behind, message_front}
 use Rattle.etcs_text.proofs.Refusals.{behind_ok, on_ok}
 use Rattle.etcs_text.proofs.TreeTexts.{typed_is}
 use Rattle.etcs_text.proofs.json_lines.write_typed.Goals as goal
 
 pub returns-clause-ok : goal.returns-clause-ok
-returns-clause-ok c =
+returns-clause-ok g c =
     let m = c.args.message.now in
     let head = c.args.head.now in
     let body = c.args.body.now in
@@ -15,7 +17,10 @@ returns-clause-ok c =
     let one = c.write_front.new.out.items in
     let two = c.write_decimal.new.out.items in
     let new = c.write_behind.new.out.items in
-    let n = decimal (nid_of_message m) in
-    on_ok r old new (message_front head body ++ (n ++ message_behind m)) _ (typed_is m head body c.requires.head c.requires.body)
-    (behind_ok r old (message_front head body) one (n ++ message_behind m) new c.in_ok-write_front.ensures.ok
-    (behind_ok r one n two (message_behind m) new (c.in_ok-write_decimal.ensures.ok ∙ ap (λ (k : ℕ). one ++ decimal k) (c.from.ensures ∙ c.nid.ensures)) c.write_behind.ensures.ok))
+    let n = decimal (nid_of_message g.B.Own.own m) in
+    let front = message_front g.H.Packet.AnyPacket.WAY (g.B.Own.own.reading body) (g.H.Head.head.reading head) in
+    let behind = message_behind g.H.Packet.AnyPacket.WAY (values_of g.H.Packet.AnyPacket.form (packets_of m)) (num (padding_bits_of g.H.Packet.AnyPacket.WAY g.B.Own.own g.H.Packet.AnyPacket.form m) (padding_of m)) in
+    let begun = c.in_ok-write_front.ensures.ok ∙ (λ i. old ++ message_front g.H.Packet.AnyPacket.WAY (g.met.B.Own.laws.is_sent body i) (g.met.H.Head.laws.is_sent head i)) in
+    on_ok r old new (front ++ (n ++ behind)) _ (typed_is g.H.Packet.AnyPacket.WAY g.H.Head.head g.B.Own.own g.H.Packet.AnyPacket.form m head body c.requires.head c.requires.body)
+    (behind_ok r old front one (n ++ behind) new begun
+    (behind_ok r one n two behind new (c.in_ok-write_decimal.ensures.ok ∙ ap (λ (k : ℕ). one ++ decimal k) (c.from.ensures ∙ c.nid.ensures)) c.write_behind.ensures.ok))

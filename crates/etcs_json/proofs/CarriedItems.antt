@@ -13,14 +13,14 @@ use Rattle.etcs_vars.specs.Reading.{Reading, spelled, kept, NoneYet, readings_of
 use Rattle.etcs_vars.proofs.Apart.{cut}
 use Rattle.etcs_vars.proofs.Languages.{Same, same_back}
 use Rattle.etcs_vars.proofs.Prefixes.{admits_parts}
-use Rattle.etcs_packets.specs.PacketReadings.{packets_reading}
+use Rattle.etcs_tables.specs.declared.row.Way.{Way}
+use Rattle.etcs_tables.specs.declared.row.Way.TheVariants.{ToTrain}
+use Rattle.etcs_packets.specs.PacketReadings.{readings_to}
 use Rattle.etcs_sequence.specs.Progress.{Progress, Feeds, finished}
-use Rattle.etcs_radio.specs.Bodies.{head_variables}
-use Rattle.etcs_radio.specs.declared.message.Content.{Content}
-use Rattle.etcs_radio.specs.Messages.{MessageValue, typed_message, kept_message, MessageReads, MessageLanguage, IsMessage, message_value}
-use Rattle.etcs_radio.proofs.Bytes.{typed_length, kept_length}
+use Rattle.etcs_messages.specs.Messages.{MessageValue, typed_message, kept_message, MessageReads, MessageLanguage}
+use Rattle.etcs_messages.proofs.Bytes.{typed_length, kept_length}
+use Rattle.etcs_radio.specs.Messages.{Content, IsMessage, message_value}
 use Rattle.etcs_telegram.specs.declared.size.Size.{Size}
-use Rattle.etcs_telegram.specs.declared.size.Size.TheVariants as size
 use Rattle.etcs_telegram.specs.Telegrams.{IsTelegram, ReadsAs, TelegramLanguage, TelegramContent, TelegramValue, telegram_value, user_bits, pad_bits}
 use Rattle.etcs_telegram.proofs.SameReadings.{viable_along, owner_along}
 use Rattle.etcs_telegram.proofs.Spellings.{whole_length}
@@ -28,35 +28,26 @@ use Rattle.etcs_text.specs.declared.entry.Kind.{Kind}
 use Rattle.etcs_text.specs.declared.entry.Kind.TheVariants as kind_is
 use Rattle.etcs_text.specs.Entries.{EntryValue, of_telegram, of_message, kind_of, EntryReads}
 use Rattle.etcs_json.specs.Loose.{HasLength}
+use Rattle.etcs_json.proofs.OneItems.{kind_same, telegram_message, way_same}
 
 abbrev pub Language : Kind → Reading → Type 0
 Language kind = readings_of (EntryReads kind)
 
 -- ---- The languages of telegrams and of messages.
 
-pub same_size : (s u : Size) → kind_of s ≡ kind_of u → s ≡ u
-same_size size.Long size.Long h = refl
-same_size size.Long size.Short h = absurd cc
-same_size size.Short size.Long h = absurd cc
-same_size size.Short size.Short h = refl
-
-pub not_radio : (s : Size) → kind_of s ≡ kind_is.Radio → ⊥
-not_radio size.Long h = absurd cc
-not_radio size.Short h = absurd cc
-
 from_sized : (s : Size) (r : Reading) → Language (kind_of s) r → TelegramLanguage s r
-from_sized s r (of_telegram t, h) = (t, (same_size t.size s h.0, h.1))
-from_sized s r (of_message m, h) = absurd (not_radio s (sym h.0))
+from_sized s r (of_telegram t, h) = (t, (kind_same t.size s h.0, h.1))
+from_sized s r (of_message way m, h) = absurd (telegram_message s way (sym h.0))
 
-from_radio : (r : Reading) → Language kind_is.Radio r → MessageLanguage r
-from_radio r (of_telegram t, h) = absurd (not_radio t.size h.0)
-from_radio r (of_message m, h) = (m, h.1)
+from_radio : (r : Reading) → Language kind_is.Radio r → MessageLanguage ToTrain r
+from_radio r (of_telegram t, h) = absurd (telegram_message t.size ToTrain h.0)
+from_radio r (of_message way m, h) = (m, subst (λ (w : Way). MessageReads w m r) (way_same way ToTrain h.0) h.1)
 
 pub same_telegrams : (s : Size) → Same (TelegramLanguage s) (Language (kind_of s))
 same_telegrams s r = (λ (t, h). (of_telegram t, (ap kind_of h.0, h.1)), from_sized s r)
 
-pub same_messages : Same MessageLanguage (Language kind_is.Radio)
-same_messages r = (λ (m, h). (of_message m, (refl, h)), from_radio r)
+pub same_messages : Same (MessageLanguage ToTrain) (Language kind_is.Radio)
+same_messages r = (λ (m, h). (of_message ToTrain m, (refl, h)), from_radio r)
 
 -- ---- How long they are.
 
@@ -72,14 +63,14 @@ pub record Headed (r : Reading) : Type 0 where
   pub small : len < 2 ^ 10
   pub long : length (spelled r) ≡ 8 * len
 
-pub headed : (m : MessageValue) (r : Reading) → MessageReads m r → Headed r
+pub headed : (m : MessageValue) (r : Reading) → MessageReads ToTrain m r → Headed r
 headed (typed_message nid h body vs padding) r x = record {
   nid = nid;
   len = x.len;
-  rest = head_variables h ++ body ++ packets_reading vs ++ kept PADDING padding;
+  rest = h ++ body ++ readings_to ToTrain vs ++ kept PADDING padding;
   is = x.reading_is;
   small = (admits_parts L_MESSAGE x.len x.head_admitted.1.0).1;
-  long = omega (arith, ap (λ (q : Reading). length (spelled q)) x.reading_is ∙ typed_length nid x.len h body vs padding, x.bytes);
+  long = omega (arith, ap (λ (q : Reading). length (spelled q)) x.reading_is ∙ typed_length ToTrain nid x.len h body vs padding x.head_reads, x.bytes);
 }
 headed (kept_message nid b) r x = record {
   nid = nid;
@@ -100,9 +91,9 @@ same_len nid nid' len len' r r' c d small small' e =
     num_same 10 len len' small small' second.0
 
 pub message_long : (q : Reading) (nid len : ℕ) (rest : Reading) → q ≡ (NID_MESSAGE, nid) ∷ (L_MESSAGE, len) ∷ rest → len < 2 ^ 10 → length (spelled q) ≡ 8 * len → HasLength kind_is.Radio (spelled q)
-message_long q nid len rest is small long (of_telegram t) r c d reads same = absurd (not_radio t.size reads.0)
-message_long q nid len rest is small long (of_message m) r c d reads same =
-    let h = headed m r reads.1 in
+message_long q nid len rest is small long (of_telegram t) r c d reads same = absurd (telegram_message t.size ToTrain reads.0)
+message_long q nid len rest is small long (of_message way m) r c d reads same =
+    let h = headed m r (subst (λ (w : Way). MessageReads w m r) (way_same way ToTrain reads.0) reads.1) in
     let e : spelled ((NID_MESSAGE, h.nid) ∷ (L_MESSAGE, h.len) ∷ h.rest) ++ c ≡ spelled ((NID_MESSAGE, nid) ∷ (L_MESSAGE, len) ∷ rest) ++ d = ap (λ (p : Reading). spelled p ++ c) (sym h.is) ∙ same ∙ ap (λ (p : Reading). spelled p ++ d) is in
     let lens = same_len h.nid nid h.len len h.rest rest c d h.small small e in
     omega (arith, h.long, long, lens)
@@ -168,14 +159,14 @@ telegram_outcomes s z b answer at long is fed =
       refused_at = refused_at (ReadsAs s) telegram_value IsTelegram 50 of_telegram (kind_of s) (same_telegrams s) reads b long answer at own;
     }
 
-pub message_outcomes : (b : List Bool) (answer : Result Fed ReadFault) (at : Progress Content) → HasLength kind_is.Radio b → Feeds MessageReads message_value IsMessage 18 [] b answer at → Outcomes kind_is.Radio (λ m. of_message (message_value m)) b answer at
+pub message_outcomes : (b : List Bool) (answer : Result Fed ReadFault) (at : Progress Content) → HasLength kind_is.Radio b → Feeds (MessageReads ToTrain) message_value IsMessage 18 [] b answer at → Outcomes kind_is.Radio (λ m. of_message ToTrain (message_value m)) b answer at
 message_outcomes b answer at long fed =
-    let reads : (m : MessageValue) (r : Reading) → MessageReads m r → EntryReads kind_is.Radio (of_message m) r = λ m r h. (refl, h) in
+    let reads : (m : MessageValue) (r : Reading) → MessageReads ToTrain m r → EntryReads kind_is.Radio (of_message ToTrain m) r = λ m r h. (refl, h) in
     record {
-      not_more = not_more MessageReads message_value IsMessage 18 of_message kind_is.Radio same_messages reads b long answer at fed;
-      not_unfinished = not_unfinished MessageReads message_value IsMessage 18 of_message kind_is.Radio same_messages reads b long answer at fed;
-      all_read = all_read MessageReads message_value IsMessage 18 of_message kind_is.Radio same_messages reads b long answer at fed;
-      refused_at = refused_at MessageReads message_value IsMessage 18 of_message kind_is.Radio same_messages reads b long answer at fed;
+      not_more = not_more (MessageReads ToTrain) message_value IsMessage 18 (of_message ToTrain) kind_is.Radio same_messages reads b long answer at fed;
+      not_unfinished = not_unfinished (MessageReads ToTrain) message_value IsMessage 18 (of_message ToTrain) kind_is.Radio same_messages reads b long answer at fed;
+      all_read = all_read (MessageReads ToTrain) message_value IsMessage 18 (of_message ToTrain) kind_is.Radio same_messages reads b long answer at fed;
+      refused_at = refused_at (MessageReads ToTrain) message_value IsMessage 18 (of_message ToTrain) kind_is.Radio same_messages reads b long answer at fed;
     }
 
 pub same_fault : {A E : Type 0} (x y : E) → ◌≡◌ {A = Result A E} (Err x) (Err y) → x ≡ y

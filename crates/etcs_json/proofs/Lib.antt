@@ -3,6 +3,7 @@ pub mod CarriedPackets
 pub mod CarriedSpellings
 pub mod CarriedTrees
 pub mod DigitLemmas
+pub mod FittingTrees
 pub mod MessageTrees
 pub mod OneItems
 pub mod OneStored

@@ -1,85 +1,84 @@
 -- Messages and their trees.
 use Rattle.std.proofs.Common.{◌≡◌, ℕ, ◌+◌, ◌-◌, ◌*◌, ◌/◌, ◌^◌, ◌≤◌, ◌<◌, Bool, List, [], ◌∷◌, ◌++◌, length, map, Option, None, Some, refl, sym, ap, subst, ◌∙◌, arith}
-use Rattle.std.specs.Prelude.{All, IfSome, IsTrue, codes}
+use Rattle.std.specs.Prelude.{All, IfSome, ◌↔◌, option_map}
 use Rattle.serde_json.specs.Data.{Data, array, string, Items}
-use Rattle.etcs_bits.specs.Bits.{bit, num}
-use Rattle.etcs_vars.specs.declared.var.Var.{Var}
-use Rattle.etcs_vars.specs.declared.var.Var.TheVariants.{T_TRAIN, M_ACK, NID_LRBG, L_MESSAGE}
-use Rattle.etcs_vars.specs.Vars.{admits}
+use Rattle.etcs_vars.specs.declared.var.Var.TheVariants.{L_MESSAGE}
 use Rattle.etcs_vars.specs.Reading.{Reading, numbers, spelled}
 use Rattle.etcs_vars.proofs.Prefixes.{admits_parts}
-use Rattle.etcs_tables.specs.declared.row.Way.TheVariants.{ToTrain}
-use Rattle.etcs_tables.specs.Layouts.{Layout, Reads}
+use Rattle.etcs_tables.specs.declared.row.Way.{Way}
+use Rattle.etcs_tables.specs.declared.row.Way.TheVariants.{ToTrain, ToTrack}
+use Rattle.etcs_tables.specs.declared.item.RowItem.{RowItem}
+use Rattle.etcs_tables.specs.declared.item.RowItem.TheVariants.{One}
+use Rattle.etcs_tables.specs.Layouts.{Layout, Reads, layout}
 use Rattle.etcs_tables.specs.Rows.{message_row_to}
-use Rattle.etcs_packets.specs.declared.packet.Packet.{Packet}
-use Rattle.etcs_packets.specs.PacketValues.{PacketValue, IsPacket, packet_value, IsMade}
-use Rattle.etcs_packets.specs.PacketReadings.{packets_reading}
-use Rattle.etcs_radio.specs.declared.body.Body.{Body}
-use Rattle.etcs_radio.specs.declared.body.RadioHead.{RadioHead}
-use Rattle.etcs_radio.specs.declared.message.Content.{Content}
-use Rattle.etcs_radio.specs.declared.message.Content.TheVariants.{Typed, Kept}
-use Rattle.etcs_radio.specs.Bodies.{IsBody, body_reading, nid_of_body, body_bits, head_variables}
-use Rattle.etcs_radio.specs.Messages.{MessageValue, typed_message, kept_message, TypedReads, KeptReads, MessageReads, IsAdmitted, IsMessage, all_bits, padding_room, padded_fault, kept_fault, message_value, front_of}
-use Rattle.etcs_bits.proofs.Numbers.{bit-eqb}
-use Rattle.etcs_radio.specs.Fronts.{head_by, IsHeadNumbers}
-use Rattle.etcs_radio.specs.Readings.{message_reading}
+use Rattle.etcs_packets.specs.PacketValues.{PacketValue, Form, IsPacketTo}
+use Rattle.etcs_packets.specs.PacketReadings.{readings_to}
 use Rattle.etcs_reader.specs.Fields.{ReadsFields}
-use Rattle.etcs_radio.proofs.BodyNumbers.{head_back}
-use Rattle.etcs_radio.proofs.Fronts.{as_row, row_fields, fields_row}
-use Rattle.etcs_json.proofs.PacketTrees.{SaysNumbers, OnlyNumbers}
-use Rattle.etcs_radio.proofs.Bodies.{body_length}
-use Rattle.etcs_radio.proofs.Faults.{no_typed_fault, no_kept_fault}
-use Rattle.etcs_radio.proofs.OneReading.{message_reads}
+use Rattle.etcs_messages.specs.declared.message.Content.{Content}
+use Rattle.etcs_messages.specs.declared.message.Content.TheVariants.{Typed, Kept}
+use Rattle.etcs_messages.specs.Kinds.{HeadOf, OwnOf, HeadLaws, OwnLaws, IsHead, IsOwn, IsHeadNumbers, IsOwnNumbers, IsMadeOf, head_row}
+use Rattle.etcs_messages.specs.Messages.{MessageValue, typed_message, kept_message, TypedReads, KeptReads, MessageReads, all_bits, padding_room, padded_fault, kept_fault, message_value, values_of}
+use Rattle.etcs_messages.specs.Readings.{message_reading}
+use Rattle.etcs_messages.proofs.Faults.{carried_packets, no_typed_fault, no_kept_fault}
+use Rattle.etcs_messages.proofs.Fronts.{row_fields, fields_row}
+use Rattle.etcs_messages.proofs.OneReading.{message_reads}
 use Rattle.etcs_telegram.specs.declared.size.Size.{Size}
-use Rattle.etcs_telegram.specs.declared.size.Size.TheVariants.{Short, Long}
-use Rattle.etcs_text.specs.Entries.{EntryValue, of_telegram, of_message, kind_of}
-use Rattle.etcs_text.specs.declared.entry.Kind.TheVariants as kind
+use Rattle.etcs_text.specs.Entries.{EntryValue, of_telegram, of_message, message_kind}
+use Rattle.etcs_text.specs.Show.{way_word}
 use Rattle.etcs_text.specs.Trees.{bits_tree}
 use Rattle.etcs_json.specs.Loose.{HasStandIns, IsLoose, unnamed, unnamed_message}
 use Rattle.etcs_json.specs.TreeReading.{ArePairTrees, ArePacketTrees, IsMessageTree, IsTreeOf, message_tree, kept_message_tree, plain}
+use Rattle.etcs_json.proofs.OneItems.{telegram_message, way_same}
+use Rattle.etcs_json.proofs.PacketTrees.{SaysNumbers, OnlyNumbers}
 
--- ---- A message that is kept.
+-- ---- Its parts.
 
-pub kept_fine : (nid : ℕ) (b : List Bool) (r : Reading) → KeptReads nid b r → kept_fault nid (length b) ≡ None
-kept_fine nid b r h = no_kept_fault nid (length b) h.len h.untyped h.bytes h.least h.most
+pub kept_fine : (way : Way) (nid : ℕ) (b : List Bool) (r : Reading) → KeptReads way nid b r → kept_fault way nid (length b) ≡ None
+kept_fine way nid b r h = no_kept_fault way nid (length b) h.len h.untyped h.bytes h.least h.most
 
-pub kept_read : (nid : ℕ) (b : List Bool) → nid < 2 ^ 8 → kept_fault nid (length b) ≡ None → (r : Reading) × MessageReads (kept_message nid b) r
-kept_read nid b small fine = (message_reading (Kept nid b), message_reads (Kept nid b) (small, fine))
-
--- ---- A typed message.
-
-pub typed_read : (head : RadioHead) (body : Body) (ps : List Packet) (padding : ℕ) → padded_fault head body ps padding ≡ None → IsAdmitted (head_variables head) → IsBody body → All IsMade ps → All IsPacket (map packet_value ps) → (r : Reading) × MessageReads (message_value (Typed head body ps padding)) r
-typed_read head body ps padding fine a own made packets = (
-  message_reading (Typed head body ps padding),
-  message_reads (Typed head body ps padding) (record { no_fault = fine; time = (admits_parts T_TRAIN head.t_train a.0).1; own = own; made = made; packets = packets }),
-)
-
-pub record TypedFine (head : RadioHead) (body : Body) (ps : List Packet) (padding : List Bool) : Type 0 where
+pub record TypedFine {H B P : Type 0} (way : Way) (k : HeadOf H) (o : OwnOf B) (form : P → Form) (head : H) (body : B) (ps : List P) (padding : List Bool) : Type 0 where
   pub short : length padding ≤ 7
-  pub room : padding_room (all_bits body ps) ≡ length padding
-  pub fine : (n : ℕ) → n < 2 ^ length padding → padded_fault head body ps n ≡ None
+  pub room : padding_room (all_bits way o form body ps) ≡ length padding
+  pub fine : (n : ℕ) → n < 2 ^ length padding → padded_fault way k o form head body ps n ≡ None
 
-pub typed_fine : (head : RadioHead) (body : Body) (ps : List Packet) (padding : List Bool) (r : Reading) → IsBody body → TypedReads (nid_of_body body) head (body_reading body) (map packet_value ps) padding r → TypedFine head body ps padding
-typed_fine head body ps padding r own h =
-    let long = body_length body in
-    let fills = h.run.fills in
-    let short : length padding ≤ 7 = omega (arith, h.bytes, fills.0, fills.1) in
-    let room : padding_room (all_bits body ps) ≡ length padding = omega (arith, h.bytes, long, short) in
-    let (nid_ok, (len_ok, (time_ok, (ack_ok, (group_ok, none))))) = h.head_admitted in
-    let small = (admits_parts L_MESSAGE h.len len_ok).1 in
-    let few : all_bits body ps ≤ 8184 = omega (arith, h.bytes, long, small) in
-    record {
-      short = short;
-      room = room;
-      fine = λ n below. no_typed_fault head body ps n own group_ok h.run.carried few (rw room below);
-    }
+module _ {H B P : Type 0} (way : Way) (k : HeadOf H) (o : OwnOf B) (form : P → Form) where
+  pub kept_read : {sent_head : H → Reading} {sent_own : B → Reading} → HeadLaws way H sent_head k → OwnLaws way B sent_own o → (nid : ℕ) (b : List Bool) → nid < 2 ^ 8 → kept_fault way nid (length b) ≡ None → (r : Reading) × MessageReads way (kept_message nid b) r
+  kept_read hl ol nid b small fine = (message_reading way k o form (Kept nid b), message_reads way k o form hl ol (Kept nid b) (small, fine))
+
+  pub typed_read : {sent_head : H → Reading} {sent_own : B → Reading} → HeadLaws way H sent_head k → OwnLaws way B sent_own o → (head : H) (body : B) (ps : List P) (padding : ℕ) → padded_fault way k o form head body ps padding ≡ None → IsHead k head → IsOwn o body → All (λ p. (form p).made) ps → All (IsPacketTo way) (values_of form ps) → (r : Reading) × MessageReads way (message_value way k o form (Typed head body ps padding)) r
+  typed_read hl ol head body ps padding fine is_head own made packets = (
+    message_reading way k o form (Typed head body ps padding),
+    message_reads way k o form hl ol (Typed head body ps padding) (record { no_fault = fine; head_types = is_head.types; own = own; made = made; packets = packets }),
+  )
+
+  pub typed_fine : (head : H) (body : B) (ps : List P) (padding : List Bool) (r : Reading) → IsHead k head → IsOwn o body → TypedReads way (o.nid body) (k.reading head) (o.reading body) (values_of form ps) padding r → TypedFine way k o form head body ps padding
+  typed_fine head body ps padding r is_head own h =
+      let fills = h.run.fills in
+      let short : length padding ≤ 7 = omega (arith, h.bytes, fills.0, fills.1) in
+      let room : padding_room (all_bits way o form body ps) ≡ length padding = omega (arith, h.bytes, short) in
+      let (nid_ok, (len_ok, rest)) = h.head_admitted in
+      let small = (admits_parts L_MESSAGE h.len len_ok).1 in
+      let few : all_bits way o form body ps ≤ 8184 = omega (arith, h.bytes, small) in
+      record {
+        short = short;
+        room = room;
+        fine = λ n below. no_typed_fault way k o form head body ps n is_head.variables own h.run.carried few (rw room below);
+      }
+
+  -- a message of such parts
+  pub typed_message_some : (x y w u v : Data) (c : Option (Content H B P)) (nid : ℕ) (head : H) (body : B) (ps : List P) (padding : List Bool) → IsOwn o body × (o.nid body ≡ nid) → w ≡ plain nid → ((fs : Items) × (x ≡ array fs) × ArePairTrees (o.reading body) fs) → IsHead k head × ReadsFields (head_row way) (k.reading head) × (hs : Items) × (y ≡ array hs) × ArePairTrees (k.reading head) hs → ((vs : List PacketValue) × (ds : Items) × (values_of form ps ≡ map (unnamed way) vs) × (u ≡ array ds) × ArePacketTrees way vs ds) → v ≡ bits_tree padding → IfSome c (λ m. message_value way k o form m ≡ typed_message (o.nid body) (k.reading head) (o.reading body) (values_of form ps) padding)
+      → IfSome c (λ m. (n : MessageValue) × (message_value way k o form m ≡ unnamed_message way n) × IsMessageTree way n (message_tree x y (string (way_word way)) w u v))
+  typed_message_some x y w u v None nid head body ps padding own number fields header list padded is = tt
+  typed_message_some x y w u v (Some m) nid head body ps padding own number (fs, fields, ft) (is_head, reads, hs, header, ht) (vs, ds, named, list, pt) padded is =
+      let same : message_value way k o form m ≡ unnamed_message way (typed_message nid (k.reading head) (o.reading body) vs padding) = is ∙ (λ i. typed_message (own.1 i) (k.reading head) (o.reading body) (named i) padding) in
+      (typed_message nid (k.reading head) (o.reading body) vs padding, same, (fs, hs, ds, rw (fields, header, number, list, padded) refl, ft, ht, pt))
 
 -- ---- Their trees.
 
 -- what a tree with these members says
-pub record TypedSays (m : MessageValue) (x y z w u v : Data) : Type 0 where
+pub record TypedSays (way : Way) (m : MessageValue) (x y z w u v : Data) : Type 0 where
   pub nid : ℕ
-  pub head : RadioHead
+  pub head : Reading
   pub body : Reading
   pub packets : List PacketValue
   pub padding : List Bool
@@ -89,16 +88,16 @@ pub record TypedSays (m : MessageValue) (x y z w u v : Data) : Type 0 where
   pub is : m ≡ typed_message nid head body packets padding
   pub fields_is : x ≡ array pairs
   pub header_is : y ≡ array heads
-  pub kind_is : z ≡ string (codes "radio")
+  pub kind_is : z ≡ string (way_word way)
   pub nid_is : w ≡ plain nid
   pub packets_is : u ≡ array trees
   pub padding_is : v ≡ bits_tree padding
   pub own : ArePairTrees body pairs
-  pub header : ArePairTrees (head_variables head) heads
-  pub all : ArePacketTrees packets trees
+  pub header : ArePairTrees head heads
+  pub all : ArePacketTrees way packets trees
 
-pub typed_message_says : (m : MessageValue) (x y z w u v : Data) → IsMessageTree m (message_tree x y z w u v) → TypedSays m x y z w u v
-typed_message_says (typed_message nid head body vs padding) x y z w u v (fs, hs, ps, e, f, h, p) = record {
+pub typed_message_says : (way : Way) (m : MessageValue) (x y z w u v : Data) → IsMessageTree way m (message_tree x y z w u v) → TypedSays way m x y z w u v
+typed_message_says way (typed_message nid head body vs padding) x y z w u v (fs, hs, ps, e, f, h, p) = record {
   nid = nid;
   head = head;
   body = body;
@@ -118,86 +117,119 @@ typed_message_says (typed_message nid head body vs padding) x y z w u v (fs, hs,
   header = h;
   all = p;
 }
-typed_message_says (kept_message nid b) x y z w u v e = absurd cc
+typed_message_says way (kept_message nid b) x y z w u v e = absurd cc
 
--- a message of such parts
-pub typed_message_some : (x y w u v : Data) (o : Option Content) (nid of_body : ℕ) (head : RadioHead) (body : Reading) (us : List PacketValue) (padding : List Bool) → of_body ≡ nid → w ≡ plain nid → ((fs : Items) × (x ≡ array fs) × ArePairTrees body fs) → ((hs : Items) × (y ≡ array hs) × IsAdmitted (head_variables head) × ArePairTrees (head_variables head) hs) → ((vs : List PacketValue) × (ds : Items) × (us ≡ map unnamed vs) × (u ≡ array ds) × ArePacketTrees vs ds) → v ≡ bits_tree padding → IfSome o (λ m. message_value m ≡ typed_message of_body head body us padding)
-    → IfSome o (λ m. (n : MessageValue) × (message_value m ≡ unnamed_message n) × IsMessageTree n (message_tree x y (string (codes "radio")) w u v))
-typed_message_some x y w u v None nid of_body head body us padding own number fields header list padded is = tt
-typed_message_some x y w u v (Some m) nid of_body head body us padding own number (fs, fields, ft) (hs, header, admitted, ht) (vs, ds, named, list, pt) padded is =
-    let same : message_value m ≡ unnamed_message (typed_message nid head body vs padding) = is ∙ rw (own, named) refl in
-    (typed_message nid head body vs padding, same, (fs, hs, ds, rw (fields, header, number, list, padded) refl, ft, ht, pt))
+-- what each part alone can be makes the message of a tree
+pub typed_message_only : {H B P : Type 0} (way : Way) (k : HeadOf H) (o : OwnOf B) (form : P → Form) (x y z v u : Data) (nid : ℕ) (h : H) (b : B) (ps : List P) (pad : List Bool) (F : Type 0)
+    → z ≡ plain nid → o.nid b ≡ nid
+    → ((row : Layout) (r : Reading) (fs : Items) → message_row_to way nid ≡ Some row → Reads row [] r → x ≡ array fs → ArePairTrees r fs → o.reading b ≡ r)
+    → ((r : Reading) (hs : Items) → ReadsFields (head_row way) r → y ≡ array hs → ArePairTrees r hs → k.reading h ≡ r)
+    → ((vs : List PacketValue) (ds : Items) → All (IsPacketTo way) (map (unnamed way) vs) → v ≡ array ds → ArePacketTrees way vs ds → values_of form ps ≡ map (unnamed way) vs)
+    → ((q : List Bool) → u ≡ bits_tree q → pad ≡ q)
+    → ((r : Reading) → TypedReads way (o.nid b) (k.reading h) (o.reading b) (values_of form ps) pad r → F)
+    → (m : MessageValue) (r : Reading) → MessageReads way (unnamed_message way m) r → IsMessageTree way m (message_tree x y (string (way_word way)) z v u) → F
+typed_message_only way k o form x y z v u nid h b ps pad F number own body head packets padding only m r reads tree =
+    let s = typed_message_says way m x y (string (way_word way)) z v u tree in
+    let typed : TypedReads way s.nid s.head s.body (map (unnamed way) s.packets) s.padding r = subst (λ (w : MessageValue). MessageReads way (unnamed_message way w) r) s.is reads in
+    let plainly : plain s.nid ≡ plain nid = sym s.nid_is ∙ number in
+    let same : s.nid ≡ nid = cc in
+    let body_is : o.reading b ≡ s.body = body typed.row s.body s.pairs (subst (λ (i : ℕ). message_row_to way i ≡ Some typed.row) same typed.typed_number) typed.body_reads s.fields_is s.own in
+    let head_is : k.reading h ≡ s.head = head s.head s.heads typed.head_reads s.header_is s.header in
+    let packets_is : values_of form ps ≡ map (unnamed way) s.packets = packets s.packets s.trees (carried_packets way (map (unnamed way) s.packets) typed.run.carried) s.packets_is s.all in
+    let pad_is : pad ≡ s.padding = padding s.padding s.padding_is in
+    let number_is : o.nid b ≡ s.nid = own ∙ sym same in
+    let whole : TypedReads way (o.nid b) (k.reading h) (o.reading b) (values_of form ps) pad r = rw (number_is, head_is, body_is, packets_is, pad_is) typed in
+    only r whole
 
-pub record KeptSays (m : MessageValue) (x y z : Data) : Type 0 where
+-- what is answered, where its value is known
+pub one_value : {X Y : Type 0} (o : Option X) (x : X) (g : X → Y) (y : Y) → o ≡ Some x → option_map g o ≡ Some y → g x ≡ y
+one_value None x g y e h = absurd cc
+one_value (Some z) x g y e h =
+    let same : z ≡ x = cc in
+    let two : g z ≡ y = cc in
+    sym (ap g same) ∙ two
+
+pub record KeptSays (way : Way) (m : MessageValue) (x y z : Data) : Type 0 where
   pub nid : ℕ
   pub bits : List Bool
   pub is : m ≡ kept_message nid bits
   pub data_is : x ≡ bits_tree bits
-  pub kind_is : y ≡ string (codes "radio")
+  pub kind_is : y ≡ string (way_word way)
   pub nid_is : z ≡ plain nid
 
-pub kept_message_says : (m : MessageValue) (x y z : Data) → IsMessageTree m (kept_message_tree x y z) → KeptSays m x y z
-kept_message_says (typed_message nid head body vs padding) x y z (fs, hs, ps, e, f, h, p) = absurd cc
-kept_message_says (kept_message nid b) x y z e = record { nid = nid; bits = b; is = refl; data_is = cc; kind_is = cc; nid_is = cc }
+pub kept_message_says : (way : Way) (m : MessageValue) (x y z : Data) → IsMessageTree way m (kept_message_tree x y z) → KeptSays way m x y z
+kept_message_says way (typed_message nid head body vs padding) x y z (fs, hs, ps, e, f, h, p) = absurd cc
+kept_message_says way (kept_message nid b) x y z e = record { nid = nid; bits = b; is = refl; data_is = cc; kind_is = cc; nid_is = cc }
 
 -- ---- The header.
 
-abbrev pub head_row : List Var
-head_row = T_TRAIN ∷ M_ACK ∷ NID_LRBG ∷ []
+-- a layout that is read as the header's variables
+abbrev pub IsHeadRow : Way → Layout → Type 0
+IsHeadRow way row = (r : Reading) → Reads row [] r ↔ ReadsFields (head_row way) r
 
-pub record HeadRead (r : Reading) : Type 0 where
-  pub is : r ≡ head_variables (head_by (numbers r))
-  pub admitted : IsAdmitted (head_variables (head_by (numbers r)))
-  pub fine : IsHeadNumbers (numbers r)
+pub head_fields : (way : Way) (table : List RowItem) → table ≡ map One (head_row way) → IsHeadRow way (layout table)
+head_fields way table is = subst (λ (t : List RowItem). IsHeadRow way (layout t)) (sym is) (of way)
+  where
+    of : (w : Way) → IsHeadRow w (layout (map One (head_row w)))
+    of ToTrain = λ r. (row_fields (head_row ToTrain) [] r, fields_row (head_row ToTrain) [] r)
+    of ToTrack = λ r. (row_fields (head_row ToTrack) [] r, fields_row (head_row ToTrack) [] r)
 
-head_fields : (r : Reading) → ReadsFields head_row r → HeadRead r
-head_fields r (t, r1, a, e1, (m, r2, b, e2, (l, r3, k, e3, e4))) =
-    let all : r ≡ (T_TRAIN, t) ∷ (M_ACK, m) ∷ (NID_LRBG, l) ∷ [] = rw (e1, e2, e3, e4) refl in
-    let front : Reading = (T_TRAIN, t) ∷ (M_ACK, m) ∷ (NID_LRBG, l) ∷ [] in
-    let ack = bit-eqb m (admits_parts M_ACK m b).1 in
-    let time = (admits_parts T_TRAIN t a).1 in
-    let group = (admits_parts NID_LRBG l k).1 in
-    let is : front ≡ head_variables (head_by (numbers front)) = rw ack refl in
-    let admitted : IsAdmitted front = (a, (b, (k, tt))) in
-    let made : HeadRead front = record { is = is; admitted = subst IsAdmitted is admitted; fine = record { three = omega arith; time = time; group = group } } in
-    subst HeadRead (sym all) made
+pub head_numbers : (way : Way) (row : Layout) (d : Data) (f g : List ℕ) → IsHeadRow way row → SaysNumbers row d f → g ≡ f → IsHeadNumbers way g
+head_numbers way row d f g fields (r, ps, is, reads, trees, nums) same = (r, (fields r).0 reads, nums ∙ sym same)
 
-pub head_read : (r : Reading) → Reads (as_row head_row) [] r → HeadRead r
-head_read r h = head_fields r (row_fields head_row [] r h)
+module _ {H : Type 0} (way : Way) (k : HeadOf H) {sent : H → Reading} (laws : HeadLaws way H sent k) (row : Layout) (fields : IsHeadRow way row) (d : Data) where
+  pub head_some : (f g : List ℕ) (h : H) → SaysNumbers row d f → g ≡ f → h ≡ k.made g → IsHead k h × ReadsFields (head_row way) (k.reading h) × (hs : Items) × (d ≡ array hs) × ArePairTrees (k.reading h) hs
+  head_some f g h (r, ps, is, reads, trees, nums) same e =
+      let own = (fields r).0 reads in
+      let back = laws.back r own in
+      let h_is : h ≡ k.made (numbers r) = e ∙ ap k.made (same ∙ sym nums) in
+      let reading_is : k.reading h ≡ r = ap k.reading h_is ∙ back.1 in
+      (subst (IsHead k) (sym h_is) back.0, subst (ReadsFields (head_row way)) (sym reading_is) own, ps, is, subst (λ (q : Reading). ArePairTrees q ps) (sym reading_is) trees)
 
-head_reads : (h : RadioHead) → IsAdmitted (head_variables h) → Reads (as_row head_row) [] (head_variables h)
-head_reads h (a, (b, (k, none))) = fields_row head_row [] (head_variables h) (h.t_train, _, a, refl, (bit h.m_ack, _, b, refl, (h.nid_lrbg, _, k, refl, refl)))
+  pub head_only : (f g : List ℕ) (h : H) (r : Reading) (hs : Items) → OnlyNumbers row d (Some f) → g ≡ f → h ≡ k.made g → ReadsFields (head_row way) r → d ≡ array hs → ArePairTrees r hs → k.reading h ≡ r
+  head_only f g h r hs only same e own is t =
+      let two = only r hs is ((fields r).1 own) t in
+      let nums : f ≡ numbers r = cc in
+      ap k.reading (e ∙ ap k.made (same ∙ nums)) ∙ (laws.back r own).1
 
-pub head_some : (d : Data) (f g : List ℕ) (h : RadioHead) → SaysNumbers (as_row head_row) d f → g ≡ f → h ≡ head_by g → (hs : Items) × (d ≡ array hs) × IsAdmitted (head_variables h) × ArePairTrees (head_variables h) hs
-head_some d f g h (r, ps, is, reads, trees, nums) same e =
-    let k = head_read r reads in
-    let h_is : h ≡ head_by (numbers r) = e ∙ ap head_by (same ∙ sym nums) in
-    let trees' : ArePairTrees (head_variables (head_by (numbers r))) ps = subst (λ (x : Reading). ArePairTrees x ps) k.is trees in
-    (ps, is, subst (λ (x : RadioHead). IsAdmitted (head_variables x)) (sym h_is) k.admitted, subst (λ (x : RadioHead). ArePairTrees (head_variables x) ps) (sym h_is) trees')
+  pub head_none : (r : Reading) (hs : Items) → OnlyNumbers row d None → ReadsFields (head_row way) r → d ≡ array hs → ArePairTrees r hs → ⊥
+  head_none r hs only own is t = let no = only r hs is ((fields r).1 own) t in absurd cc
 
-pub head_numbers : (d : Data) (f g : List ℕ) → SaysNumbers (as_row head_row) d f → g ≡ f → IsHeadNumbers g
-head_numbers d f g (r, ps, is, reads, trees, nums) same =
-    let k = head_read r reads in
-    subst IsHeadNumbers (nums ∙ sym same) k.fine
+-- ---- The variables of its own.
 
-pub head_only : (d : Data) (o : Option (List ℕ)) (h : RadioHead) (hs : Items) → OnlyNumbers (as_row head_row) d o → IsAdmitted (head_variables h) → d ≡ array hs → ArePairTrees (head_variables h) hs → o ≡ Some (numbers (head_variables h))
-head_only d o h hs only a is t = only (head_variables h) hs is (head_reads h a) t
+pub own_numbers : (way : Way) (nid : ℕ) (row : Layout) (d : Data) (f g : List ℕ) → message_row_to way nid ≡ Some row → SaysNumbers row d f → g ≡ f → IsOwnNumbers way nid g
+own_numbers way nid row d f g found (r, ps, is, reads, trees, nums) same = (row, r, found, reads, nums ∙ sym same)
 
-pub head_same : (f g : List ℕ) (k h : RadioHead) → Some f ≡ Some (numbers (head_variables h)) → g ≡ f → k ≡ head_by g → k ≡ h
-head_same f g k h two same e =
-    let nums : f ≡ numbers (head_variables h) = cc in
-    e ∙ ap head_by (same ∙ nums) ∙ head_back h h.t_train (bit h.m_ack) h.nid_lrbg [] refl refl refl
+module _ {B : Type 0} (way : Way) (o : OwnOf B) {sent : B → Reading} (laws : OwnLaws way B sent o) (nid : ℕ) (row : Layout) (found : message_row_to way nid ≡ Some row) (d : Data) where
+  pub own_some : (f g : List ℕ) (b : B) → SaysNumbers row d f → g ≡ f → b ≡ o.made nid g → (IsOwn o b × (o.nid b ≡ nid)) × ((fs : Items) × (d ≡ array fs) × ArePairTrees (o.reading b) fs)
+  own_some f g b (r, ps, is, reads, trees, nums) same e =
+      let made : IsMadeOf o nid r b = subst (IsMadeOf o nid r) (sym (e ∙ ap (o.made nid) (same ∙ sym nums))) (laws.back nid row r found reads) in
+      ((made.own, made.number), (ps, is, subst (λ (q : Reading). ArePairTrees q ps) (sym made.back) trees))
+
+  same_row : (row' : Layout) (r : Reading) → message_row_to way nid ≡ Some row' → Reads row' [] r → Reads row [] r
+  same_row row' r e reads =
+      let two : Some row' ≡ Some row = sym e ∙ found in
+      let one : row' ≡ row = cc in
+      subst (λ (l : Layout). Reads l [] r) one reads
+
+  pub own_only : (f g : List ℕ) (b : B) (row' : Layout) (r : Reading) (fs : Items) → OnlyNumbers row d (Some f) → g ≡ f → b ≡ o.made nid g → message_row_to way nid ≡ Some row' → Reads row' [] r → d ≡ array fs → ArePairTrees r fs → o.reading b ≡ r
+  own_only f g b row' r fs only same e found' reads is t =
+      let reads' = same_row row' r found' reads in
+      let two = only r fs is reads' t in
+      let nums : f ≡ numbers r = cc in
+      ap o.reading (e ∙ ap (o.made nid) (same ∙ nums)) ∙ (laws.back nid row r found reads').back
+
+  pub own_none : (row' : Layout) (r : Reading) (fs : Items) → OnlyNumbers row d None → message_row_to way nid ≡ Some row' → Reads row' [] r → d ≡ array fs → ArePairTrees r fs → ⊥
+  own_none row' r fs only found' reads is t = let no = only r fs is (same_row row' r found' reads) t in absurd cc
 
 -- ---- An item.
 
-no_size : (s : Size) → kind_of s ≡ kind.Radio → ⊥
-no_size Short e = absurd cc
-no_size Long e = absurd cc
+pub message_only : (way : Way) (e : EntryValue) (d : Data) → ((m : MessageValue) (q : Reading) → MessageReads way (unnamed_message way m) q → IsMessageTree way m d → ⊥) → IsLoose (message_kind way) e → IsTreeOf e d → ⊥
+message_only way (of_telegram t) d wrong (r, (k, reads)) tree = telegram_message t.size way k
+message_only way (of_message w m) d wrong (r, (k, reads)) tree =
+    let same = way_same w way k in
+    wrong m r (subst (λ (v : Way). MessageReads v (unnamed_message v m) r) same reads) (subst (λ (v : Way). IsMessageTree v m d) same tree)
 
-pub message_only : (e : EntryValue) (d : Data) → ((m : MessageValue) (q : Reading) → MessageReads (unnamed_message m) q → IsMessageTree m d → ⊥) → IsLoose kind.Radio e → IsTreeOf e d → ⊥
-message_only (of_telegram t) d wrong (r, (k, reads)) tree = no_size t.size k
-message_only (of_message m) d wrong (r, (k, reads)) tree = wrong m r reads tree
-
-pub message_stands : (m : MessageValue) (d : Data) → ((r : Reading) × MessageReads m r) → ((u : MessageValue) × (m ≡ unnamed_message u) × IsMessageTree u d) → HasStandIns kind.Radio d (of_message m)
-message_stands m d (r, reads) (u, is, tree) =
-    (of_message u, ap of_message is, (r, (refl, subst (λ (x : MessageValue). MessageReads x r) is reads)), tree)
+pub message_stands : (way : Way) (m : MessageValue) (d : Data) → ((r : Reading) × MessageReads way m r) → ((u : MessageValue) × (m ≡ unnamed_message way u) × IsMessageTree way u d) → HasStandIns (message_kind way) d (of_message way m)
+message_stands way m d (r, reads) (u, is, tree) =
+    (of_message way u, ap (λ (x : MessageValue). of_message way x) is, (r, (refl, subst (λ (x : MessageValue). MessageReads way x r) is reads)), tree)

@@ -1,5 +1,5 @@
 -- A tree, and so a line, says one item of a kind or is refused in one way.
-use Rattle.std.proofs.Common.{◌≡◌, ℕ, ◌+◌, ◌<◌, Bool, List, [], ◌∷◌, ◌++◌, length, take, Some, refl, sym, ap, subst, ◌∙◌, arith, inl, inr}
+use Rattle.std.proofs.Common.{◌≡◌, ℕ, ◌+◌, ◌<◌, Bool, List, [], ◌∷◌, ◌++◌, length, take, Some, refl, sym, ap, ap₂, subst, ◌∙◌, arith, inl, inr}
 use Rattle.std.specs.Prelude.{Option}
 use Rattle.std.proofs.lemmas.Bool.{cases_lt}
 use Rattle.std.proofs.lemmas.List.{take_all, take-take}
@@ -11,26 +11,27 @@ use Rattle.etcs_vars.specs.Walking.{Refuses}
 use Rattle.etcs_vars.proofs.Apart.{apart}
 use Rattle.etcs_vars.proofs.Outcomes.{viable_front}
 use Rattle.etcs_vars.proofs.Walk.{Regular}
-use Rattle.etcs_packets.specs.PacketReadings.{packets_reading}
+use Rattle.etcs_tables.specs.declared.row.Way.{Way}
+use Rattle.etcs_packets.specs.PacketReadings.{readings_to}
 use Rattle.etcs_telegram.specs.Telegrams.{TelegramLanguage, TelegramReads}
 use Rattle.etcs_telegram.proofs.SameReadings.{owner_same}
 use Rattle.etcs_telegram.proofs.Spellings as telegrams
-use Rattle.etcs_radio.specs.Messages.{MessageLanguage, MessageReads, typed_message, kept_message, head_reading}
-use Rattle.etcs_radio.proofs.Spelling as messages
+use Rattle.etcs_messages.specs.Messages.{MessageLanguage, MessageReads, MessageValue, typed_message, kept_message, head_reading}
+use Rattle.etcs_messages.proofs.Spelling as messages
 use Rattle.etcs_text.specs.declared.entry.Kind.{Kind}
 use Rattle.etcs_text.specs.Entries.{EntryValue, of_telegram, of_message, EntryReads}
 use Rattle.etcs_json.specs.JsonLines.{OfLine, SaysItem, SaysRefused}
 use Rattle.etcs_json.specs.Loose.{LooseSpells, IsStored, TreeSays, TreeRefused}
-use Rattle.etcs_json.proofs.OneItems.{kind_same, telegram_radio, one_loose}
+use Rattle.etcs_json.proofs.OneItems.{kind_same, telegram_message, way_same, one_loose}
 
 -- ---- One spelling.
 
 one_spelled : (o : EntryValue) (b c : List Bool) → LooseSpells o b → LooseSpells o c → b ≡ c
 one_spelled (of_telegram t) b c h k = h ∙ sym k
-one_spelled (of_message (typed_message nid head body vs padding)) b c (len, bytes, h) (len', bytes', k) =
+one_spelled (of_message way (typed_message nid head body vs padding)) b c (len, bytes, h) (len', bytes', k) =
     let same : len ≡ len' = omega (arith, bytes, bytes') in
-    h ∙ ap (λ (l : ℕ). spelled (head_reading nid l head ++ body ++ packets_reading vs ++ kept PADDING padding)) same ∙ sym k
-one_spelled (of_message (kept_message nid held)) b c (len, bytes, h) (len', bytes', k) =
+    h ∙ ap (λ (l : ℕ). spelled (head_reading nid l head ++ body ++ readings_to way vs ++ kept PADDING padding)) same ∙ sym k
+one_spelled (of_message way (kept_message nid held)) b c (len, bytes, h) (len', bytes', k) =
     let same : len ≡ len' = omega (arith, bytes, bytes') in
     h ∙ ap (λ (l : ℕ). spelled ((NID_MESSAGE, nid) ∷ (L_MESSAGE, l) ∷ kept OTHER_DATA held)) same ∙ sym k
 
@@ -49,11 +50,13 @@ one_entry kind (of_telegram t) (of_telegram u) r q (is, x) (is', y) s =
     let sized = kind_same t.size u.size (is ∙ sym is') in
     let same : r ≡ q = one_reading (TelegramLanguage u.size) (telegrams.regular u.size) r q (t, (sized, x)) (u, (refl, y)) s in
     ap of_telegram (telegrams.one_value t u r sized x (subst (λ (z : Reading). TelegramReads u z) (sym same) y))
-one_entry kind (of_telegram t) (of_message n) r q (is, x) (is', y) s = absurd (telegram_radio t.size (is ∙ sym is'))
-one_entry kind (of_message m) (of_telegram u) r q (is, x) (is', y) s = absurd (telegram_radio u.size (is' ∙ sym is))
-one_entry kind (of_message m) (of_message n) r q (is, x) (is', y) s =
-    let same : r ≡ q = one_reading MessageLanguage messages.regular r q (m, x) (n, y) s in
-    ap of_message (messages.one_value m n r x (subst (λ (z : Reading). MessageReads n z) (sym same) y))
+one_entry kind (of_telegram t) (of_message way n) r q (is, x) (is', y) s = absurd (telegram_message t.size way (is ∙ sym is'))
+one_entry kind (of_message way m) (of_telegram u) r q (is, x) (is', y) s = absurd (telegram_message u.size way (is' ∙ sym is))
+one_entry kind (of_message v m) (of_message w n) r q (is, x) (is', y) s =
+    let going = way_same v w (is ∙ sym is') in
+    let y' = subst (λ (z : Way). MessageReads z n q) (sym going) y in
+    let same : r ≡ q = one_reading (MessageLanguage v) (messages.regular v) r q (m, x) (n, y') s in
+    ap₂ (λ (z : Way) (o : MessageValue). of_message z o) going (messages.one_value v m n r x (subst (λ (z : Reading). MessageReads v n z) (sym same) y'))
 
 -- ---- One refusal of bits.
 

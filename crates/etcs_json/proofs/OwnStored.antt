@@ -2,16 +2,16 @@
 use Rattle.std.proofs.Common.{◌≡◌, ℕ, ◌==◌, false, List, [], ◌∷◌, length, map, refl, sym, ap, ap₂, subst}
 use Rattle.std.specs.Prelude.{All, IsTrue}
 use Rattle.std.proofs.lemmas.Bool.{eqb-true, false_from_ne_true}
-use Rattle.std.proofs.lemmas.List.Elements.{All-head, All-tail, All-weaker}
+use Rattle.std.proofs.lemmas.List.Elements.{All-head, All-tail}
 use Rattle.etcs_vars.specs.Reading.{Reading, spelled}
-use Rattle.etcs_rows.specs.declared.frames.Carrier.TheVariants as carrier
-use Rattle.etcs_tables.specs.declared.row.Way.TheVariants.{ToTrain}
+use Rattle.etcs_tables.specs.declared.row.Way.{Way}
+use Rattle.etcs_tables.specs.declared.row.Way.TheVariants.{ToTrain, ToTrack}
 use Rattle.etcs_tables.specs.Frames.{is_kept}
-use Rattle.etcs_packets.specs.PacketValues.{PacketValue, marker, typed, kept, IsPacket}
-use Rattle.etcs_sequence.specs.Contents.{Carries}
+use Rattle.etcs_packets.specs.PacketValues.{PacketValue, marker, typed, kept, IsPacketTo}
 use Rattle.etcs_sequence.specs.laws.Others.{kept_parts}
 use Rattle.etcs_telegram.specs.Telegrams.{TelegramValue}
-use Rattle.etcs_radio.specs.Messages.{MessageValue, typed_message, kept_message, MessageReads}
+use Rattle.etcs_messages.specs.Messages.{MessageValue, typed_message, kept_message, MessageReads}
+use Rattle.etcs_messages.proofs.Faults.{carried_packets}
 use Rattle.etcs_text.specs.declared.entry.Kind.{Kind}
 use Rattle.etcs_text.specs.Entries.{EntryValue, of_telegram, of_message, EntryReads, Spells}
 use Rattle.etcs_text.specs.Trees.{json_tree}
@@ -23,43 +23,43 @@ use Rattle.etcs_json.proofs.OneItems.{tree_of}
 differs : (nid other : ℕ) → IsTrue (is_kept ToTrain nid) → is_kept ToTrain other ≡ false → (nid == other) ≡ false
 differs nid other h is = false_from_ne_true (nid == other) (λ e. let both = rw (eqb-true nid other e) at h in absurd cc)
 
-own_number : (nid : ℕ) → IsTrue (is_kept ToTrain nid) → stand_in nid ≡ nid
-own_number nid h = rw (differs nid 49 h refl, differs nid 57 h refl, differs nid 58 h refl, differs nid 63 h refl, differs nid 68 h refl, differs nid 80 h refl, differs nid 131 h refl) refl
+own_number : (way : Way) (nid : ℕ) → IsTrue (is_kept way nid) → stand_in way nid ≡ nid
+own_number ToTrain nid h = rw (differs nid 49 h refl, differs nid 57 h refl, differs nid 58 h refl, differs nid 63 h refl, differs nid 68 h refl, differs nid 80 h refl, differs nid 131 h refl) refl
+own_number ToTrack nid h = refl
 
-pub unnamed_own : (v : PacketValue) → IsPacket v → unnamed v ≡ v
-unnamed_own (marker n) h = refl
-unnamed_own (typed nid dir r) h = refl
-unnamed_own (kept nid dir b) h = ap (λ (n : ℕ). kept n dir b) (own_number nid (kept_parts ToTrain nid dir (length b) h).0)
+pub unnamed_own : (way : Way) (v : PacketValue) → IsPacketTo way v → unnamed way v ≡ v
+unnamed_own way (marker n) h = refl
+unnamed_own way (typed nid dir r) h = refl
+unnamed_own way (kept nid dir b) h = ap (λ (n : ℕ). kept n dir b) (own_number way nid (kept_parts way nid dir (length b) h).0)
 
-pub unnamed_all : (vs : List PacketValue) → All IsPacket vs → map unnamed vs ≡ vs
-unnamed_all [] h = refl
-unnamed_all (v ∷ vs) h = ap₂ (λ (w : PacketValue) (ws : List PacketValue). w ∷ ws) (unnamed_own v (All-head IsPacket v vs h)) (unnamed_all vs (All-tail IsPacket v vs h))
+pub unnamed_all : (way : Way) (vs : List PacketValue) → All (IsPacketTo way) vs → map (unnamed way) vs ≡ vs
+unnamed_all way [] h = refl
+unnamed_all way (v ∷ vs) h = ap₂ (λ (w : PacketValue) (ws : List PacketValue). w ∷ ws) (unnamed_own way v (All-head (IsPacketTo way) v vs h)) (unnamed_all way vs (All-tail (IsPacketTo way) v vs h))
 
-telegram_own : (t : TelegramValue) → All IsPacket t.packets → unnamed_telegram t ≡ t
+telegram_own : (t : TelegramValue) → All (IsPacketTo ToTrain) t.packets → unnamed_telegram t ≡ t
 telegram_own t h =
-    let packets = unnamed_all t.packets h in
+    let packets = unnamed_all ToTrain t.packets h in
     λ i. record { size = t.size; header = t.header; packets = packets i; fill = t.fill }
 
-message_own : (m : MessageValue) (r : Reading) → MessageReads m r → unnamed_message m ≡ m
-message_own (typed_message nid head body vs padding) r h =
-    ap (λ (ws : List PacketValue). typed_message nid head body ws padding)
-    (unnamed_all vs (All-weaker (Carries (carrier.Message ToTrain)) IsPacket (λ v c. c.0) vs h.run.carried))
-message_own (kept_message nid b) r h = refl
+message_own : (way : Way) (m : MessageValue) (r : Reading) → MessageReads way m r → unnamed_message way m ≡ m
+message_own way (typed_message nid head body vs padding) r h =
+    ap (λ (ws : List PacketValue). typed_message nid head body ws padding) (unnamed_all way vs (carried_packets way vs h.run.carried))
+message_own way (kept_message nid b) r h = refl
 
 pub entry_own : (e : EntryValue) (r : Reading) → Spells e r → unnamed_entry e ≡ e
 entry_own (of_telegram t) r h = ap of_telegram (telegram_own t h.packets_hold)
-entry_own (of_message m) r h = ap of_message (message_own m r h)
+entry_own (of_message way m) r h = ap (λ (n : MessageValue). of_message way n) (message_own way m r h)
 
 -- ---- Its tree.
 
-message_bits : (m : MessageValue) (r : Reading) → MessageReads m r → LooseSpells (of_message m) (spelled r)
-message_bits (typed_message nid head body vs padding) r h = (h.len, h.bytes, ap spelled h.reading_is)
-message_bits (kept_message nid b) r h = (h.len, h.bytes, ap spelled h.reading_is)
+message_bits : (way : Way) (m : MessageValue) (r : Reading) → MessageReads way m r → LooseSpells (of_message way m) (spelled r)
+message_bits way (typed_message nid head body vs padding) r h = (h.len, h.bytes, ap spelled h.reading_is)
+message_bits way (kept_message nid b) r h = (h.len, h.bytes, ap spelled h.reading_is)
 
 -- an item spells its bits
 pub own_bits : (e : EntryValue) (r : Reading) → Spells e r → LooseSpells e (spelled r)
 own_bits (of_telegram t) r h = ap spelled h.reading_is
-own_bits (of_message m) r h = message_bits m r h
+own_bits (of_message way m) r h = message_bits way m r h
 
 pub own_stored : (kind : Kind) (e : EntryValue) (r : Reading) → EntryReads kind e r → IsStored kind (json_tree e) e (spelled r)
 own_stored kind e r h = record {

@@ -6,6 +6,7 @@ use Rattle.serde_json.specs.View.{items_of}
 use Rattle.etcs_vars.specs.declared.var.Var.{Var}
 use Rattle.etcs_vars.specs.declared.var.Var.TheVariants.{NID_RADIO, NID_VBCMK}
 use Rattle.etcs_vars.specs.Reading.{Reading}
+use Rattle.etcs_tables.specs.declared.row.Way.{Way}
 use Rattle.etcs_packets.specs.PacketValues.{PacketValue, marker, typed, kept}
 use Rattle.etcs_text.specs.Show.{hex_digit, hex_digits}
 use Rattle.etcs_text.specs.Trees.{number_tree, pair_tree, packet_tree}
@@ -39,11 +40,11 @@ pub pairs_own : (r : Reading) → ArePairTrees r (items_of (map pair_tree r))
 pairs_own [] = tt
 pairs_own (p ∷ r) = ((number_tree p.0 p.1, refl, says p.0 p.1), pairs_own r)
 
-packet_own : (v : PacketValue) → IsPacketTree v (packet_tree v)
-packet_own (marker n) = (items_of (map pair_tree ((NID_VBCMK, n) ∷ [])), refl, pairs_own ((NID_VBCMK, n) ∷ []))
-packet_own (typed nid dir r) = (items_of (map pair_tree r), refl, pairs_own r)
-packet_own (kept nid dir b) = refl
+packet_own : (way : Way) (v : PacketValue) → IsPacketTree way v (packet_tree way v)
+packet_own way (marker n) = (items_of (map pair_tree ((NID_VBCMK, n) ∷ [])), refl, pairs_own ((NID_VBCMK, n) ∷ []))
+packet_own way (typed nid dir r) = (items_of (map pair_tree r), refl, pairs_own r)
+packet_own way (kept nid dir b) = refl
 
-pub packets_own : (vs : List PacketValue) → ArePacketTrees vs (items_of (map packet_tree vs))
-packets_own [] = tt
-packets_own (v ∷ vs) = (packet_own v, packets_own vs)
+pub packets_own : (way : Way) (vs : List PacketValue) → ArePacketTrees way vs (items_of (map (packet_tree way) vs))
+packets_own way [] = tt
+packets_own way (v ∷ vs) = (packet_own way v, packets_own way vs)

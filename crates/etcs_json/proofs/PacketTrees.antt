@@ -1,29 +1,30 @@
 -- Packets and their trees.
-use Rattle.std.proofs.Common.{◌≡◌, ℕ, ◌+◌, ◌^◌, ◌<◌, ◌≤◌, ◌==◌, Bool, true, false, List, [], ◌∷◌, ◌++◌, length, get_or, drop, Option, Some, None, Result, Ok, Err, map, inl, inr, refl, sym, ap, subst, ◌∙◌, arith, append_assoc, append-nil}
-use Rattle.std.specs.Prelude.{All, IsTrue, IfOk, IfSome, option_map, codes}
-use Rattle.std.proofs.Math.Nat.{pow-le-pow_right}
-use Rattle.std.proofs.lemmas.Bool.{cases_lt, ne_eqb}
+use Rattle.std.proofs.Common.{◌≡◌, ◌≢◌, ℕ, ◌+◌, ◌^◌, ◌<◌, ◌≤◌, ◌==◌, Bool, true, false, List, [], ◌∷◌, ◌++◌, length, Option, Some, None, Result, Ok, Err, map, inl, inr, refl, sym, ap, subst, ◌∙◌, arith, append_assoc, append-nil}
+use Rattle.std.specs.Prelude.{All, IsTrue, IfOk, IfSome, IsSome, option_map}
+use Rattle.std.proofs.lemmas.Bool.{cases_lt, eqb-true, ne_eqb}
 use Rattle.std.proofs.lemmas.List.{map_push}
-use Rattle.std.proofs.lemmas.List.Elements.{All-nil, All-cons, All-head, All-tail, All-push}
-use Rattle.serde_json.specs.Data.{Data, null, boolean, number, unsigned, string, array, object, Items, no_items, item, Members, member, no_members}
-use Rattle.etcs_vars.specs.declared.var.Var.{Var}
+use Rattle.std.proofs.lemmas.List.Elements.{All-head, All-push, All-tail}
+use Rattle.serde_json.specs.Data.{Data, array, Items, no_items, item}
 use Rattle.etcs_vars.specs.declared.var.Var.TheVariants.{NID_VBCMK, Q_DIR}
 use Rattle.etcs_vars.specs.Vars.{admits}
 use Rattle.etcs_vars.specs.Reading.{Reading, numbers, spelled}
 use Rattle.etcs_vars.proofs.Prefixes.{admits_parts}
-use Rattle.etcs_tables.specs.declared.row.Way.TheVariants.{ToTrain}
+use Rattle.etcs_tables.specs.declared.row.Way.{Way}
+use Rattle.etcs_tables.specs.declared.row.Way.TheVariants.{ToTrain, ToTrack}
+use Rattle.etcs_tables.specs.Frames.{is_direction, is_marker}
 use Rattle.etcs_tables.specs.Layouts.{Layout, Reads, one, whole}
 use Rattle.etcs_tables.specs.Rows.{row_to}
-use Rattle.etcs_tables.specs.Typed.{IsTyped, IsFramed}
+use Rattle.etcs_tables.specs.Typed.{IsTyped}
 use Rattle.etcs_rows.specs.laws.OneReading.{Reads-apart}
 use Rattle.etcs_rows.proofs.RowLaws.{one_spelling}
-use Rattle.etcs_packets.specs.declared.packet.Packet.{Packet}
-use Rattle.etcs_packets.specs.PacketValues.{PacketValue, packet_value, marker, typed, kept, variables_of, IsTypedOf, IsPacket, IsMade}
-use Rattle.etcs_sequence.specs.laws.Typed.{typed_number}
-use Rattle.etcs_sequence.specs.laws.Others.{kept_parts, kept_number, kept_untyped}
+use Rattle.etcs_packets.specs.PacketValues.{PacketValue, Form, marker, typed, kept, variables_of, IsTypedOf, IsPacketTo}
+use Rattle.etcs_sequence.specs.laws.Framed.{framed_small, typed_framed}
+use Rattle.etcs_sequence.specs.laws.Others.{kept_parts, kept_framed, kept_untyped}
 use Rattle.etcs_text.specs.Trees.{bits_tree}
-use Rattle.etcs_json.specs.Loose.{stand_in, unnamed}
+use Rattle.etcs_json.specs.Loose.{is_carried, stand_in, unnamed}
+use Rattle.etcs_json.specs.TreeParts.{SaysDirection}
 use Rattle.etcs_json.specs.TreeReading.{ArePairTrees, IsPacketTree, ArePacketTrees, marker_tree, typed_tree, kept_tree, plain}
+use Rattle.etcs_json.proofs.OneTrees as trees
 
 -- ---- Typed packets.
 
@@ -34,12 +35,12 @@ one_reading row r q h k same =
     (Reads-apart row [] r q [] [] h k (ap (λ (b : List Bool). b ++ []) bits)).0
 
 -- a packet of this number with these numbers of its row is typed, with this reading
-pub typed_is : (nid dir : ℕ) (row : Layout) (r : Reading) (w : PacketValue) → row_to ToTrain nid ≡ Some row → Reads row [] r → IsPacket w → IsTypedOf nid dir w → numbers (variables_of w) ≡ numbers r → w ≡ typed nid dir r
-typed_is nid dir row r (marker n) e reads is (nid_is, direction) same = absurd cc
-typed_is nid dir row r (kept nid' dir' b) e reads is (nid_is, direction) same =
-    absurd (kept_untyped ToTrain nid row (rw nid_is at (kept_parts ToTrain nid' dir' (length b) is).0) e)
-typed_is nid dir row r (typed nid' dir' q) e reads (row', e', directed, reads', short) (nid_is, direction) same =
-    let two : Some row' ≡ Some row = sym e' ∙ ap (row_to ToTrain) nid_is ∙ e in
+pub typed_is : (way : Way) (nid dir : ℕ) (row : Layout) (r : Reading) (w : PacketValue) → row_to way nid ≡ Some row → Reads row [] r → IsPacketTo way w → IsTypedOf nid dir w → numbers (variables_of w) ≡ numbers r → w ≡ typed nid dir r
+typed_is way nid dir row r (marker n) e reads is (nid_is, direction) same = absurd cc
+typed_is way nid dir row r (kept nid' dir' b) e reads is (nid_is, direction) same =
+    absurd (kept_untyped way nid row (rw nid_is at (kept_parts way nid' dir' (length b) is).0) e)
+typed_is way nid dir row r (typed nid' dir' q) e reads (row', e', directed, reads', short) (nid_is, direction) same =
+    let two : Some row' ≡ Some row = sym e' ∙ ap (row_to way) nid_is ∙ e in
     let one : row' ≡ row = cc in
     let to : dir' ≡ dir = cc in
     let q_is = one_reading row q r (subst (λ (l : Layout). Reads l [] q) one reads') reads same in
@@ -52,195 +53,194 @@ SaysNumbers row d f = (r : Reading) × (ps : Items) × (d ≡ array ps) × Reads
 abbrev pub OnlyNumbers : Layout → Data → Option (List ℕ) → Type 0
 OnlyNumbers row d o = (r : Reading) (ps : Items) → d ≡ array ps → Reads row [] r → ArePairTrees r ps → o ≡ Some (numbers r)
 
-pub typed_some : (nid dir : ℕ) (row : Layout) (d : Data) (f g : List ℕ) (E : Type 0) (res : Result (Option Packet) E) → row_to ToTrain nid ≡ Some row → SaysNumbers row d f → g ≡ f → IfOk res (λ o. IfSome o (λ p. IsMade p × IsPacket (packet_value p))) → IfOk res (λ o. IfSome o (λ p. IsTypedOf nid dir (packet_value p) × (numbers (variables_of (packet_value p)) ≡ g)))
-    → IfOk res (λ o. IfSome o (λ p. (r : Reading) × (ps : Items) × (packet_value p ≡ typed nid dir r) × (d ≡ array ps) × ArePairTrees r ps))
-typed_some nid dir row d f g E (Err x) e says same made some = tt
-typed_some nid dir row d f g E (Ok None) e says same made some = tt
-typed_some nid dir row d f g E (Ok (Some p)) e (r, ps, is, reads, trees, nums) same made some =
-    (r, ps, typed_is nid dir row r (packet_value p) e reads made.1 some.0 (some.1 ∙ same ∙ sym nums), is, trees)
-
 -- the reading of a packet of this number is one of its row
-pub framed_row : (nid dir : ℕ) (row : Layout) (r : Reading) → row_to ToTrain nid ≡ Some row → IsPacket (typed nid dir r) → Reads row [] r
-framed_row nid dir row r e (row', e', directed, reads, short) =
+pub framed_row : (way : Way) (nid dir : ℕ) (row : Layout) (r : Reading) → row_to way nid ≡ Some row → IsPacketTo way (typed nid dir r) → Reads row [] r
+framed_row way nid dir row r e (row', e', directed, reads, short) =
     let two : Some row' ≡ Some row = sym e' ∙ e in
     let one : row' ≡ row = cc in
     subst (λ (l : Layout). Reads l [] r) one reads
 
-pub typed_only : (nid dir : ℕ) (row : Layout) (d : Data) (f g : List ℕ) (E : Type 0) (res : Result (Option Packet) E) → row_to ToTrain nid ≡ Some row → OnlyNumbers row d (Some f) → g ≡ f → IfOk res (λ o. (r : Reading) → IsPacket (typed nid dir r) → g ≡ numbers r → option_map packet_value o ≡ Some (typed nid dir r))
-    → IfOk res (λ o. (r : Reading) (ps : Items) → IsPacket (typed nid dir r) → d ≡ array ps → ArePairTrees r ps → option_map packet_value o ≡ Some (typed nid dir r))
-typed_only nid dir row d f g E (Err x) e says same only = tt
-typed_only nid dir row d f g E (Ok o) e says same only = λ r ps framed is t.
-    (let two = says r ps is (framed_row nid dir row r e framed) t in
-    let nums : f ≡ numbers r = cc in
-    only r framed (same ∙ nums))
-
-pub typed_none : (nid dir : ℕ) (row : Layout) (d : Data) (r : Reading) (ps : Items) → row_to ToTrain nid ≡ Some row → OnlyNumbers row d None → IsPacket (typed nid dir r) → d ≡ array ps → ArePairTrees r ps → ⊥
-typed_none nid dir row d r ps e says framed is t =
-    let no = says r ps is (framed_row nid dir row r e framed) t in
+pub typed_none : (way : Way) (nid dir : ℕ) (row : Layout) (d : Data) (r : Reading) (ps : Items) → row_to way nid ≡ Some row → OnlyNumbers row d None → IsPacketTo way (typed nid dir r) → d ≡ array ps → ArePairTrees r ps → ⊥
+typed_none way nid dir row d r ps e says framed is t =
+    let no = says r ps is (framed_row way nid dir row r e framed) t in
     absurd cc
 
-pub typed_there : (nid dir : ℕ) (r : Reading) (f : List ℕ) → IsPacket (typed nid dir r) → f ≡ numbers r → IsTyped ToTrain nid dir f
-typed_there nid dir r f (row, e, directed, reads, short) same = (row, e, directed, (spelled r, (r, reads, sym same, refl), short))
+pub typed_there : (way : Way) (nid dir : ℕ) (r : Reading) (f : List ℕ) → IsPacketTo way (typed nid dir r) → f ≡ numbers r → IsTyped way nid dir f
+typed_there way nid dir r f (row, e, directed, reads, short) same = (row, e, directed, (spelled r, (r, reads, sym same, refl), short))
 
-pub typed_small : (nid dir : ℕ) (r : Reading) → IsPacket (typed nid dir r) → (nid < 256) × (dir < 256)
-typed_small nid dir r (row, e, directed, reads, short) =
-    let n = typed_number nid row e in
-    let d = (admits_parts Q_DIR dir directed).1 in
-    (omega (arith, n.1), omega (arith, d))
+small_direction : (way : Way) (dir : ℕ) → IsTrue (is_direction way dir) → dir < 256
+small_direction ToTrain dir h = let d = (admits_parts Q_DIR dir h).1 in omega (arith, d)
+small_direction ToTrack dir h = let none = eqb-true dir 0 h in omega (arith, none)
 
-small_stand_in : (nid : ℕ) → stand_in nid < 256 → nid < 256
-small_stand_in nid h = elim (cases_lt nid 256) [
+pub typed_small : (way : Way) (nid dir : ℕ) (r : Reading) → IsPacketTo way (typed nid dir r) → (nid < 256) × (dir < 256)
+typed_small way nid dir r (row, e, directed, reads, short) = (framed_small way nid (typed_framed way nid row e), small_direction way dir directed)
+
+small_stand_in : (way : Way) (nid : ℕ) → stand_in way nid < 256 → nid < 256
+small_stand_in ToTrack nid h = h
+small_stand_in ToTrain nid h = elim (cases_lt nid 256) [
   | inl small ↦ small
   | inr big ↦
       let differs : (n : ℕ) → n < 256 → (nid == n) ≡ false = λ n small. ne_eqb nid n (λ e. omega (arith, e, big, small)) in
-      let same : stand_in nid ≡ nid = rw (differs 49 (omega arith), differs 57 (omega arith), differs 58 (omega arith), differs 63 (omega arith), differs 68 (omega arith), differs 80 (omega arith), differs 131 (omega arith)) refl in
+      let same : stand_in ToTrain nid ≡ nid = rw (differs 49 (omega arith), differs 57 (omega arith), differs 58 (omega arith), differs 63 (omega arith), differs 68 (omega arith), differs 80 (omega arith), differs 131 (omega arith)) refl in
       absurd (omega (arith, same, h, big))
 ]
 
-pub kept_small : (nid dir : ℕ) (b : List Bool) → IsPacket (unnamed (kept nid dir b)) → (nid < 256) × (dir < 256)
-kept_small nid dir b h =
-    let k = kept_parts ToTrain (stand_in nid) dir (length b) h in
-    let n = kept_number (stand_in nid) k.0 in
-    let d = (admits_parts Q_DIR dir k.1).1 in
-    (small_stand_in nid (omega (arith, n.1)), omega (arith, d))
+pub kept_small : (way : Way) (nid dir : ℕ) (b : List Bool) → IsPacketTo way (unnamed way (kept nid dir b)) → (nid < 256) × (dir < 256)
+kept_small way nid dir b h =
+    let k = kept_parts way (stand_in way nid) dir (length b) h in
+    (small_stand_in way nid (framed_small way (stand_in way nid) (kept_framed way (stand_in way nid) k.0)), small_direction way dir k.1)
 
--- what a tree with these members says
-pub record TypedSays (v : PacketValue) (x y z : Data) : Type 0 where
-  pub nid : ℕ
-  pub dir : ℕ
-  pub reading : Reading
-  pub pairs : Items
-  pub is : v ≡ typed nid dir reading
-  pub dir_is : x ≡ plain dir
-  pub fields_is : y ≡ array pairs
-  pub nid_is : z ≡ plain nid
-  pub trees : ArePairTrees reading pairs
+module _ {P : Type 0} (way : Way) (form : P → Form) where
+  abbrev Holds : P → Type 0
+  Holds p = (form p).made × IsPacketTo way (form p).value
 
-pub typed_says : (v : PacketValue) (x y z : Data) → IsPacketTree v (typed_tree x y z) → TypedSays v x y z
-typed_says (marker n) x y z (ps, e, t) = absurd cc
-typed_says (typed nid dir r) x y z (ps, e, t) = record {
-  nid = nid;
-  dir = dir;
-  reading = r;
-  pairs = ps;
-  is = refl;
-  dir_is = cc;
-  fields_is = cc;
-  nid_is = cc;
-  trees = t;
-}
-typed_says (kept nid dir b) x y z e = absurd cc
+  abbrev value : P → PacketValue
+  value p = (form p).value
 
-pub record KeptSays (v : PacketValue) (x y z : Data) : Type 0 where
-  pub nid : ℕ
-  pub dir : ℕ
-  pub bits : List Bool
-  pub is : v ≡ kept nid dir bits
-  pub data_is : x ≡ bits_tree bits
-  pub dir_is : y ≡ plain dir
-  pub nid_is : z ≡ plain nid
+  pub typed_some : (nid dir : ℕ) (row : Layout) (d : Data) (f g : List ℕ) (E : Type 0) (res : Result (Option P) E) → row_to way nid ≡ Some row → SaysNumbers row d f → g ≡ f → IfOk res (λ o. IfSome o (λ p. Holds p)) → IfOk res (λ o. IfSome o (λ p. IsTypedOf nid dir (value p) × (numbers (variables_of (value p)) ≡ g)))
+      → IfOk res (λ o. IfSome o (λ p. (r : Reading) × (ps : Items) × (value p ≡ typed nid dir r) × (d ≡ array ps) × ArePairTrees r ps))
+  typed_some nid dir row d f g E (Err x) e says same made some = tt
+  typed_some nid dir row d f g E (Ok None) e says same made some = tt
+  typed_some nid dir row d f g E (Ok (Some p)) e (r, ps, is, reads, trees, nums) same made some =
+      (r, ps, typed_is way nid dir row r (value p) e reads made.1 some.0 (some.1 ∙ same ∙ sym nums), is, trees)
 
-pub kept_says : (v : PacketValue) (x y z : Data) → IsPacketTree v (kept_tree x y z) → KeptSays v x y z
-kept_says (marker n) x y z (ps, e, t) = absurd cc
-kept_says (typed nid dir r) x y z (ps, e, t) = absurd cc
-kept_says (kept nid dir b) x y z e = record { nid = nid; dir = dir; bits = b; is = refl; data_is = cc; dir_is = cc; nid_is = cc }
+  pub typed_only : (nid dir : ℕ) (row : Layout) (d : Data) (f g : List ℕ) (E : Type 0) (res : Result (Option P) E) → row_to way nid ≡ Some row → OnlyNumbers row d (Some f) → g ≡ f → IfOk res (λ o. (r : Reading) → IsPacketTo way (typed nid dir r) → g ≡ numbers r → option_map value o ≡ Some (typed nid dir r))
+      → IfOk res (λ o. (r : Reading) (ps : Items) → IsPacketTo way (typed nid dir r) → d ≡ array ps → ArePairTrees r ps → option_map value o ≡ Some (typed nid dir r))
+  typed_only nid dir row d f g E (Err x) e says same only = tt
+  typed_only nid dir row d f g E (Ok o) e says same only = λ r ps framed is t.
+      (let two = says r ps is (framed_row way nid dir row r e framed) t in
+      let nums : f ≡ numbers r = cc in
+      only r framed (same ∙ nums))
 
-pub record MarkerSays (v : PacketValue) (x y : Data) : Type 0 where
-  pub number : ℕ
-  pub pairs : Items
-  pub is : v ≡ marker number
-  pub fields_is : x ≡ array pairs
-  pub nid_is : y ≡ plain 0
-  pub trees : ArePairTrees ((NID_VBCMK, number) ∷ []) pairs
+  -- the packet of a tree with these members
+  pub typed_tree_some : (d x : Data) (nid dir : ℕ) (E : Type 0) (res : Result (Option P) E) → d ≡ typed_tree way dir x (plain nid) → IfOk res (λ o. IfSome o (λ p. (r : Reading) × (ps : Items) × (value p ≡ typed nid dir r) × (x ≡ array ps) × ArePairTrees r ps))
+      → IfOk res (λ o. IfSome o (λ p. (v : PacketValue) × (value p ≡ unnamed way v) × IsPacketTree way v d))
+  typed_tree_some d x nid dir E (Err e) is some = tt
+  typed_tree_some d x nid dir E (Ok None) is some = tt
+  typed_tree_some d x nid dir E (Ok (Some p)) is (r, ps, v_is, fields, t) =
+      (typed nid dir r, v_is, (ps, is ∙ ap (λ (y : Data). typed_tree way dir y (plain nid)) fields, t))
 
-pub marker_says : (v : PacketValue) (x y : Data) → IsPacketTree v (marker_tree x y) → MarkerSays v x y
-marker_says (marker n) x y (ps, e, t) = record { number = n; pairs = ps; is = refl; fields_is = cc; nid_is = cc; trees = t }
-marker_says (typed nid dir r) x y (ps, e, t) = absurd cc
-marker_says (kept nid dir b) x y e = absurd cc
+  pub typed_tree_only : (d x : Data) (nid dir : ℕ) (E : Type 0) (res : Result (Option P) E) → SaysDirection way dir → d ≡ typed_tree way dir x (plain nid) → IfOk res (λ o. (r : Reading) (ps : Items) → IsPacketTo way (typed nid dir r) → x ≡ array ps → ArePairTrees r ps → option_map value o ≡ Some (typed nid dir r))
+      → IfOk res (λ o. (v : PacketValue) → IsPacketTo way (unnamed way v) → IsPacketTree way v d → option_map value o ≡ Some (unnamed way v))
+  typed_tree_only d x nid dir E (Err e) says is only = tt
+  typed_tree_only d x nid dir E (Ok o) says is only = of
+    where
+      of : (v : PacketValue) → IsPacketTo way (unnamed way v) → IsPacketTree way v d → option_map value o ≡ Some (unnamed way v)
+      of (marker n) packet (ps, e, t) = absurd (trees.marker_or_typed way n dir (array ps) x (plain 0) (plain nid) packet (sym e ∙ is))
+      of (kept nid' dir' b) packet e = absurd (trees.typed_or_kept way dir dir' x (bits_tree b) (plain nid) (plain nid') (sym is ∙ e))
+      of (typed nid' dir' r) packet (ps, e, t) =
+          let parts = trees.typed_parts way dir' dir (array ps) x (plain nid') (plain nid) (trees.framed_says way nid' dir' r packet) says (sym e ∙ is) in
+          let number : nid' ≡ nid = (let two : plain nid' ≡ plain nid = parts.2 in cc) in
+          let v_is : typed nid' dir' r ≡ typed nid dir r = rw (number, parts.0) refl in
+          only r ps (subst (IsPacketTo way) v_is packet) (sym parts.1) t ∙ ap Some (sym v_is)
+
+  pub kept_tree_some : (d x : Data) (nid dir n : ℕ) (E : Type 0) (res : Result (Option P) E) → d ≡ kept_tree way x dir (plain nid) → n ≡ stand_in way nid → IfOk res (λ o. IfSome o (λ p. (b : List Bool) × (value p ≡ kept n dir b) × (x ≡ bits_tree b)))
+      → IfOk res (λ o. IfSome o (λ p. (v : PacketValue) × (value p ≡ unnamed way v) × IsPacketTree way v d))
+  kept_tree_some d x nid dir n E (Err e) is stands some = tt
+  kept_tree_some d x nid dir n E (Ok None) is stands some = tt
+  kept_tree_some d x nid dir n E (Ok (Some p)) is stands (b, v_is, bits) =
+      (kept nid dir b, v_is ∙ ap (λ (m : ℕ). kept m dir b) stands, is ∙ ap (λ (y : Data). kept_tree way y dir (plain nid)) bits)
+
+  pub kept_tree_only : (d x : Data) (nid dir n : ℕ) (E : Type 0) (res : Result (Option P) E) → SaysDirection way dir → d ≡ kept_tree way x dir (plain nid) → n ≡ stand_in way nid → IfOk res (λ o. (b : List Bool) → IsPacketTo way (kept n dir b) → x ≡ bits_tree b → option_map value o ≡ Some (kept n dir b))
+      → IfOk res (λ o. (v : PacketValue) → IsPacketTo way (unnamed way v) → IsPacketTree way v d → option_map value o ≡ Some (unnamed way v))
+  kept_tree_only d x nid dir n E (Err e) says is stands only = tt
+  kept_tree_only d x nid dir n E (Ok o) says is stands only = of
+    where
+      of : (v : PacketValue) → IsPacketTo way (unnamed way v) → IsPacketTree way v d → option_map value o ≡ Some (unnamed way v)
+      of (marker m) packet (ps, e, t) = absurd (let two : marker_tree (array ps) (plain 0) ≡ kept_tree way x dir (plain nid) = sym e ∙ is in cc)
+      of (typed nid' dir' r) packet (ps, e, t) = absurd (trees.typed_or_kept way dir' dir (array ps) x (plain nid') (plain nid) (sym e ∙ is))
+      of (kept nid' dir' b) packet e =
+          let parts = trees.kept_parts way dir' dir (bits_tree b) x (plain nid') (plain nid) (trees.kept_says way (stand_in way nid') dir' (length b) packet) says (sym e ∙ is) in
+          let number : nid' ≡ nid = (let two : plain nid' ≡ plain nid = parts.2 in cc) in
+          let v_is : kept (stand_in way nid') dir' b ≡ kept n dir b = rw (number, parts.0, stands) refl in
+          only b (subst (IsPacketTo way) v_is packet) (sym parts.1) ∙ ap Some (sym v_is)
+
+  -- of one with neither
+  pub marker_tree_some_in : (d : Data) (E : Type 0) (res : Result (Option P) E) → IfOk res (λ o. IfSome o (λ p. (n : ℕ) × (value p ≡ marker n) × IsPacketTree way (marker n) d))
+      → IfOk res (λ o. IfSome o (λ p. (v : PacketValue) × (value p ≡ unnamed way v) × IsPacketTree way v d))
+  marker_tree_some_in d E (Err e) some = tt
+  marker_tree_some_in d E (Ok None) some = tt
+  marker_tree_some_in d E (Ok (Some p)) (n, v_is, tree) = (marker n, v_is, tree)
+
+  pub marker_tree_only_in : (d : Data) (E : Type 0) (res : Result (Option P) E) → ((dir nid : ℕ) (x : Data) → dir < 256 → nid < 256 → d ≡ typed_tree way dir x (plain nid) → ⊥) → ((dir nid : ℕ) (x : Data) → dir < 256 → nid < 256 → d ≡ kept_tree way x dir (plain nid) → ⊥) → IfOk res (λ o. (n : ℕ) → IsTrue (is_marker way n) → IsPacketTree way (marker n) d → option_map value o ≡ Some (marker n))
+      → IfOk res (λ o. (v : PacketValue) → IsPacketTo way (unnamed way v) → IsPacketTree way v d → option_map value o ≡ Some (unnamed way v))
+  marker_tree_only_in d E (Err e) no_typed no_kept only = tt
+  marker_tree_only_in d E (Ok o) no_typed no_kept only = of
+    where
+      of : (v : PacketValue) → IsPacketTo way (unnamed way v) → IsPacketTree way v d → option_map value o ≡ Some (unnamed way v)
+      of (marker n) packet tree = only n packet tree
+      of (typed nid dir r) packet (ps, e, t) = let small = typed_small way nid dir r packet in absurd (no_typed dir nid (array ps) small.1 small.0 e)
+      of (kept nid dir b) packet e = let small = kept_small way nid dir b packet in absurd (no_kept dir nid (bits_tree b) small.1 small.0 e)
 
 -- ---- Packets one after another.
 
 -- us are packets of these trees with stand-ins, and those of the trees es come after them
-pub record Listed (ds : Items) (us : List PacketValue) (es : Items) : Type 0 where
+pub record Listed (way : Way) (ds : Items) (us : List PacketValue) (es : Items) : Type 0 where
   pub named : List PacketValue
-  pub is : us ≡ map unnamed named
-  pub on : (ws : List PacketValue) → ArePacketTrees ws es → ArePacketTrees (named ++ ws) ds
-  pub back : (gs : List PacketValue) → All IsPacket (map unnamed gs) → ArePacketTrees gs ds → (ws : List PacketValue) × (map unnamed gs ≡ us ++ map unnamed ws) × All IsPacket (map unnamed ws) × ArePacketTrees ws es
+  pub is : us ≡ map (unnamed way) named
+  pub on : (ws : List PacketValue) → ArePacketTrees way ws es → ArePacketTrees way (named ++ ws) ds
+  pub back : (gs : List PacketValue) → All (IsPacketTo way) (map (unnamed way) gs) → ArePacketTrees way gs ds → (ws : List PacketValue) × (map (unnamed way) gs ≡ us ++ map (unnamed way) ws) × All (IsPacketTo way) (map (unnamed way) ws) × ArePacketTrees way ws es
 
-pub none_listed : (ds : Items) → Listed ds [] ds
-none_listed ds = record { named = []; is = refl; on = λ ws t. t; back = λ gs a t. (gs, refl, a, t) }
+pub none_listed : (way : Way) (ds : Items) → Listed way ds [] ds
+none_listed way ds = record { named = []; is = refl; on = λ ws t. t; back = λ gs a t. (gs, refl, a, t) }
 
-first_tree : (ws : List PacketValue) (d : Data) (es : Items) → All IsPacket (map unnamed ws) → ArePacketTrees ws (item d es) → (w : PacketValue) × (ws' : List PacketValue) × (ws ≡ w ∷ ws') × IsPacket (unnamed w) × All IsPacket (map unnamed ws') × IsPacketTree w d × ArePacketTrees ws' es
-first_tree [] d es a t = elim t [ ]
-first_tree (w ∷ ws) d es a t = (w, ws, refl, All-head IsPacket (unnamed w) (map unnamed ws) a, All-tail IsPacket (unnamed w) (map unnamed ws) a, t.0, t.1)
+first_tree : (way : Way) (ws : List PacketValue) (d : Data) (es : Items) → All (IsPacketTo way) (map (unnamed way) ws) → ArePacketTrees way ws (item d es) → (w : PacketValue) × (ws' : List PacketValue) × (ws ≡ w ∷ ws') × IsPacketTo way (unnamed way w) × All (IsPacketTo way) (map (unnamed way) ws') × IsPacketTree way w d × ArePacketTrees way ws' es
+first_tree way [] d es a t = elim t [ ]
+first_tree way (w ∷ ws) d es a t = (w, ws, refl, All-head (IsPacketTo way) (unnamed way w) (map (unnamed way) ws) a, All-tail (IsPacketTo way) (unnamed way w) (map (unnamed way) ws) a, t.0, t.1)
 
-pub next_listed : (ds : Items) (us new : List PacketValue) (u : PacketValue) (d : Data) (es fs : Items) → Listed ds us fs → fs ≡ item d es → ((v : PacketValue) × (u ≡ unnamed v) × IsPacketTree v d) → ((w : PacketValue) → IsPacket (unnamed w) → IsPacketTree w d → Some u ≡ Some (unnamed w)) → new ≡ us ++ u ∷ [] → Listed ds new es
-next_listed ds us new u d es fs l e (v, named, tree) only is = record {
+pub next_listed : (way : Way) (ds : Items) (us new : List PacketValue) (u : PacketValue) (d : Data) (es fs : Items) → Listed way ds us fs → fs ≡ item d es → ((v : PacketValue) × (u ≡ unnamed way v) × IsPacketTree way v d) → ((w : PacketValue) → IsPacketTo way (unnamed way w) → IsPacketTree way w d → Some u ≡ Some (unnamed way w)) → new ≡ us ++ u ∷ [] → Listed way ds new es
+next_listed way ds us new u d es fs l e (v, named, tree) only is = record {
   named = l.named ++ v ∷ [];
   is =
-      is ∙ ap (λ (x : List PacketValue). x ++ u ∷ []) l.is ∙ ap (λ (x : PacketValue). map unnamed l.named ++ x ∷ []) named ∙ sym (map_push unnamed l.named v);
+      is ∙ ap (λ (x : List PacketValue). x ++ u ∷ []) l.is ∙ ap (λ (x : PacketValue). map (unnamed way) l.named ++ x ∷ []) named ∙ sym (map_push (unnamed way) l.named v);
   on = λ ws t. (
-      let all : ArePacketTrees (l.named ++ v ∷ ws) ds = l.on (v ∷ ws) (subst (λ (x : Items). ArePacketTrees (v ∷ ws) x) (sym e) (tree, t)) in
-      subst (λ (x : List PacketValue). ArePacketTrees x ds) (sym (append_assoc l.named (v ∷ []) ws)) all);
+      let all : ArePacketTrees way (l.named ++ v ∷ ws) ds = l.on (v ∷ ws) (subst (λ (x : Items). ArePacketTrees way (v ∷ ws) x) (sym e) (tree, t)) in
+      subst (λ (x : List PacketValue). ArePacketTrees way x ds) (sym (append_assoc l.named (v ∷ []) ws)) all);
   back = λ gs a t. (
       let (ws, begun, a', t') = l.back gs a t in
-      let (w, ws', cons, packet, rest, first, more) = first_tree ws d es a' (subst (λ (x : Items). ArePacketTrees ws x) e t') in
+      let (w, ws', cons, packet, rest, first, more) = first_tree way ws d es a' (subst (λ (x : Items). ArePacketTrees way ws x) e t') in
       let two = only w packet first in
-      let same : unnamed w ≡ u = cc in
-      let all : map unnamed gs ≡ new ++ map unnamed ws' =
-      begun ∙ ap (λ (x : List PacketValue). us ++ map unnamed x) cons ∙ ap (λ (x : PacketValue). us ++ x ∷ map unnamed ws') same ∙ sym (ap (λ (x : List PacketValue). x ++ map unnamed ws') is ∙ append_assoc us (u ∷ []) (map unnamed ws')) in
+      let same : unnamed way w ≡ u = cc in
+      let all : map (unnamed way) gs ≡ new ++ map (unnamed way) ws' =
+      begun ∙ ap (λ (x : List PacketValue). us ++ map (unnamed way) x) cons ∙ ap (λ (x : PacketValue). us ++ x ∷ map (unnamed way) ws') same ∙ sym (ap (λ (x : List PacketValue). x ++ map (unnamed way) ws') is ∙ append_assoc us (u ∷ []) (map (unnamed way) ws')) in
       (ws', all, rest, more));
 }
 
-pub wrong_listed : (ds : Items) (us gs : List PacketValue) (d : Data) (es fs : Items) → Listed ds us fs → fs ≡ item d es → ((w : PacketValue) → IsPacket (unnamed w) → IsPacketTree w d → ⊥) → All IsPacket (map unnamed gs) → ArePacketTrees gs ds → ⊥
-wrong_listed ds us gs d es fs l e wrong a t =
+pub wrong_listed : (way : Way) (ds : Items) (us gs : List PacketValue) (d : Data) (es fs : Items) → Listed way ds us fs → fs ≡ item d es → ((w : PacketValue) → IsPacketTo way (unnamed way w) → IsPacketTree way w d → ⊥) → All (IsPacketTo way) (map (unnamed way) gs) → ArePacketTrees way gs ds → ⊥
+wrong_listed way ds us gs d es fs l e wrong a t =
     let (ws, begun, a', t') = l.back gs a t in
-    let (w, ws', cons, packet, rest, first, more) = first_tree ws d es a' (subst (λ (x : Items). ArePacketTrees ws x) e t') in
+    let (w, ws', cons, packet, rest, first, more) = first_tree way ws d es a' (subst (λ (x : Items). ArePacketTrees way ws x) e t') in
     wrong w packet first
 
-no_trees : (ws : List PacketValue) → ArePacketTrees ws no_items → ws ≡ []
-no_trees [] t = refl
-no_trees (w ∷ ws) t = elim t [ ]
+no_trees : (way : Way) (ws : List PacketValue) → ArePacketTrees way ws no_items → ws ≡ []
+no_trees way [] t = refl
+no_trees way (w ∷ ws) t = elim t [ ]
 
-pub all_listed : (ds : Items) (us : List PacketValue) (fs : Items) → Listed ds us fs → fs ≡ no_items → (vs : List PacketValue) × (us ≡ map unnamed vs) × ArePacketTrees vs ds
-all_listed ds us fs l e = (
+pub all_listed : (way : Way) (ds : Items) (us : List PacketValue) (fs : Items) → Listed way ds us fs → fs ≡ no_items → (vs : List PacketValue) × (us ≡ map (unnamed way) vs) × ArePacketTrees way vs ds
+all_listed way ds us fs l e = (
   l.named,
   l.is,
-  subst (λ (x : List PacketValue). ArePacketTrees x ds) (append-nil l.named) (l.on [] (subst (λ (x : Items). ArePacketTrees [] x) (sym e) tt)),
+  subst (λ (x : List PacketValue). ArePacketTrees way x ds) (append-nil l.named) (l.on [] (subst (λ (x : Items). ArePacketTrees way [] x) (sym e) tt)),
 )
 
-pub only_listed : (ds : Items) (us gs : List PacketValue) (fs : Items) → Listed ds us fs → fs ≡ no_items → All IsPacket (map unnamed gs) → ArePacketTrees gs ds → us ≡ map unnamed gs
-only_listed ds us gs fs l e a t =
+pub only_listed : (way : Way) (ds : Items) (us gs : List PacketValue) (fs : Items) → Listed way ds us fs → fs ≡ no_items → All (IsPacketTo way) (map (unnamed way) gs) → ArePacketTrees way gs ds → us ≡ map (unnamed way) gs
+only_listed way ds us gs fs l e a t =
     let (ws, begun, a', t') = l.back gs a t in
-    let none = no_trees ws (subst (λ (x : Items). ArePacketTrees ws x) e t') in
-    sym (begun ∙ ap (λ (x : List PacketValue). us ++ map unnamed x) none ∙ append-nil us)
+    let none = no_trees way ws (subst (λ (x : Items). ArePacketTrees way ws x) e t') in
+    sym (begun ∙ ap (λ (x : List PacketValue). us ++ map (unnamed way) x) none ∙ append-nil us)
 
--- ---- Packets of their members.
+-- ps are packets that their types admit, listed so
+abbrev pub IsListed : {P : Type 0} → Way → (P → Form) → Items → List P → Items → Type 0
+IsListed way form ds ps es = Listed way ds (map (λ p. (form p).value) ps) es × All (λ p. (form p).made) ps × All (IsPacketTo way) (map (λ p. (form p).value) ps)
 
-pub typed_tree_some : (x y z : Data) (nid dir : ℕ) (E : Type 0) (res : Result (Option Packet) E) → x ≡ plain dir → z ≡ plain nid → IfOk res (λ o. IfSome o (λ p. (r : Reading) × (ps : Items) × (packet_value p ≡ typed nid dir r) × (y ≡ array ps) × ArePairTrees r ps))
-    → IfOk res (λ o. IfSome o (λ p. IsPacketTree (packet_value p) (typed_tree x y z)))
-typed_tree_some x y z nid dir E (Err e) dx nz some = tt
-typed_tree_some x y z nid dir E (Ok None) dx nz some = tt
-typed_tree_some x y z nid dir E (Ok (Some p)) dx nz (r, ps, is, f, t) =
-    let tree : typed_tree x y z ≡ typed_tree (plain dir) (array ps) (plain nid) = rw (dx, f, nz) refl in
-    subst (λ (w : PacketValue). IsPacketTree w (typed_tree x y z)) (sym is) (ps, tree, t)
-
-pub typed_tree_only : (x y z : Data) (nid dir : ℕ) (E : Type 0) (res : Result (Option Packet) E) → x ≡ plain dir → z ≡ plain nid → IfOk res (λ o. (r : Reading) (ps : Items) → IsPacket (typed nid dir r) → y ≡ array ps → ArePairTrees r ps → option_map packet_value o ≡ Some (typed nid dir r))
-    → IfOk res (λ o. (v : PacketValue) → IsPacket v → IsPacketTree v (typed_tree x y z) → option_map packet_value o ≡ Some v)
-typed_tree_only x y z nid dir E (Err e) dx nz only = tt
-typed_tree_only x y z nid dir E (Ok o) dx nz only = λ v packet tree.
-    (let s = typed_says v x y z tree in
-    let d2 : plain dir ≡ plain s.dir = sym dx ∙ s.dir_is in
-    let n2 : plain nid ≡ plain s.nid = sym nz ∙ s.nid_is in
-    let d : s.dir ≡ dir = cc in
-    let n : s.nid ≡ nid = cc in
-    let v_is : v ≡ typed nid dir s.reading = s.is ∙ rw (d, n) refl in
-    only s.reading s.pairs (subst IsPacket v_is packet) s.fields_is s.trees ∙ ap Some (sym v_is))
-
-pub kept_tree_some : (x y z : Data) (nid dir n : ℕ) (b : List Bool) (o : Option Packet) → x ≡ bits_tree b → y ≡ plain dir → z ≡ plain nid → n ≡ stand_in nid → IfSome o (λ p. packet_value p ≡ kept n dir b)
-    → IfSome o (λ p. (v : PacketValue) × (packet_value p ≡ unnamed v) × IsPacketTree v (kept_tree x y z))
-kept_tree_some x y z nid dir n b None bx dy nz stands is = tt
-kept_tree_some x y z nid dir n b (Some p) bx dy nz stands is = (kept nid dir b, is ∙ ap (λ (m : ℕ). kept m dir b) stands, rw (bx, dy, nz) refl)
+pub packet_listed : {P : Type 0} (way : Way) (form : P → Form) (ds : Items) (old new : List P) (p : P) (d : Data) (es fs : Items) → IsListed way form ds old fs → fs ≡ item d es → new ≡ old ++ p ∷ [] → (form p).made × IsPacketTo way (form p).value → ((v : PacketValue) × ((form p).value ≡ unnamed way v) × IsPacketTree way v d) → ((w : PacketValue) → IsPacketTo way (unnamed way w) → IsPacketTree way w d → Some (form p).value ≡ Some (unnamed way w)) → IsListed way form ds new es
+packet_listed {P} way form ds old new p d es fs (listed, made, packets) e put own some only =
+    let value : P → PacketValue = λ q. (form q).value in
+    let more : map value new ≡ map value old ++ value p ∷ [] = ap (map value) put ∙ map_push value old p in (
+      next_listed way ds (map value old) (map value new) (value p) d es fs listed e some only more,
+      subst (All (λ (q : P). (form q).made)) (sym put) (All-push (λ (q : P). (form q).made) old p made own.0),
+      subst (All (IsPacketTo way)) (sym more) (All-push (IsPacketTo way) (map value old) (value p) packets own.1),
+    )
 
 -- ---- The marker.
 
@@ -260,15 +260,17 @@ marker_numbers d f (r, ps, is, reads, trees, nums) =
     let (n, r_is, a) = marker_reading r reads in
     (n, sym nums ∙ ap numbers r_is, a)
 
-pub marker_tree_some : (x y : Data) (f : List ℕ) (v : PacketValue) → y ≡ plain 0 → SaysNumbers marker_row x f → ((n : ℕ) → f ≡ n ∷ [] → v ≡ marker n) → IsPacketTree v (marker_tree x y)
-marker_tree_some x y f v zero' (r, ps, is, reads, trees, nums) some =
+pub marker_tree_some : (way : Way) (x y : Data) (f : List ℕ) (v : PacketValue) → y ≡ plain 0 → SaysNumbers marker_row x f → ((n : ℕ) → f ≡ n ∷ [] → v ≡ marker n) → (n : ℕ) × (v ≡ marker n) × IsPacketTree way (marker n) (marker_tree x y)
+marker_tree_some way x y f v zero' (r, ps, is, reads, trees, nums) some =
     let (n, r_is, a) = marker_reading r reads in
-    let v_is = some n (sym nums ∙ ap numbers r_is) in
     let tree : marker_tree x y ≡ marker_tree (array ps) (plain 0) = rw (is, zero') refl in
-    subst (λ (w : PacketValue). IsPacketTree w (marker_tree x y)) (sym v_is) (ps, tree, subst (λ (q : Reading). ArePairTrees q ps) r_is trees)
+    (n, some n (sym nums ∙ ap numbers r_is), (ps, tree, subst (λ (q : Reading). ArePairTrees q ps) r_is trees))
 
-pub marker_tree_only : (x y : Data) (o : Option (List ℕ)) (v : PacketValue) → OnlyNumbers marker_row x o → IsPacket v → IsPacketTree v (marker_tree x y) → (n : ℕ) × (v ≡ marker n) × (o ≡ Some (n ∷ []))
-marker_tree_only x y o v only packet tree =
-    let s = marker_says v x y tree in
-    let admitted : IsTrue (admits NID_VBCMK s.number) = subst IsPacket s.is packet in
-    (s.number, s.is, only ((NID_VBCMK, s.number) ∷ []) s.pairs s.fields_is (marker_reads s.number admitted) s.trees)
+pub to_train : (way : Way) (n : ℕ) → way ≡ ToTrain → IsTrue (admits NID_VBCMK n) → IsTrue (is_marker way n)
+to_train way n e h = subst (λ (w : Way). IsTrue (is_marker w n)) (sym e) h
+
+pub marker_tree_only : (way : Way) (x y : Data) (o : Option (List ℕ)) (n : ℕ) → way ≡ ToTrain → OnlyNumbers marker_row x o → IsTrue (is_marker way n) → IsPacketTree way (marker n) (marker_tree x y) → o ≡ Some (n ∷ [])
+marker_tree_only way x y o n going only packet (ps, e, t) =
+    let admitted : IsTrue (admits NID_VBCMK n) = subst (λ (w : Way). IsTrue (is_marker w n)) going packet in
+    let fields : x ≡ array ps = cc in
+    only ((NID_VBCMK, n) ∷ []) ps fields (marker_reads n admitted) t

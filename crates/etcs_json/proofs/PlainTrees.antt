@@ -13,20 +13,21 @@ use Rattle.etcs_vars.specs.Vars.{name, width}
 use Rattle.etcs_vars.specs.Reading.{Reading, kept}
 use Rattle.etcs_vars.proofs.Apart.{AllFit}
 use Rattle.etcs_vars.proofs.Prefixes.{width-le}
+use Rattle.etcs_tables.specs.declared.row.Way.{Way}
+use Rattle.etcs_tables.specs.declared.row.Way.TheVariants.{ToTrain, ToTrack}
 use Rattle.etcs_packets.specs.PacketValues.{PacketValue}
 use Rattle.etcs_packets.specs.PacketValues as packet
-use Rattle.etcs_packets.specs.PacketReadings.{packet_reading, packets_reading}
+use Rattle.etcs_packets.specs.PacketReadings.{reading_to, readings_to}
 use Rattle.etcs_rows.specs.declared.frames.Carrier.TheVariants as carrier
 use Rattle.etcs_sequence.specs.Contents.{closing}
-use Rattle.etcs_radio.specs.Bodies.{head_variables}
-use Rattle.etcs_radio.specs.Messages.{MessageValue, typed_message, kept_message, MessageReads, head_reading}
-use Rattle.etcs_radio.proofs.Spelling.{regular as radio}
+use Rattle.etcs_messages.specs.Messages.{MessageValue, typed_message, kept_message, MessageReads, head_reading}
+use Rattle.etcs_messages.proofs.Spelling as messages
 use Rattle.etcs_telegram.specs.declared.size.Size.{Size}
 use Rattle.etcs_telegram.specs.declared.size.Size.TheVariants as size
 use Rattle.etcs_telegram.specs.Telegrams.{TelegramValue, TelegramReads, header_reading, closed_reading, pad_bits}
 use Rattle.etcs_telegram.proofs.Spellings.{regular}
 use Rattle.etcs_text.specs.Entries.{EntryValue, of_telegram, of_message, Spells}
-use Rattle.etcs_text.specs.Show.{hex_digit, hex_digits, bit_digit, kind_word}
+use Rattle.etcs_text.specs.Show.{hex_digit, hex_digits, bit_digit, kind_word, way_word}
 use Rattle.etcs_text.specs.Trees.{number_tree, pair_tree, packet_tree, telegram_tree, message_tree, json_tree}
 use Rattle.etcs_json.proofs.PlainTexts.{is_plain, are_plain, IsPlain, ArePlain, read_plain, utf8_plain, without_plain}
 
@@ -83,27 +84,31 @@ pairs_flat (p ∷ r) = omega (arith, number_flat p.0 p.1, pairs_flat r)
 
 -- ---- Packets.
 
-packet_plain : (v : PacketValue) → AllFit (packet_reading v) → IsPlain (packet_tree v)
-packet_plain (packet.marker n) h = ((refl, pairs_plain ((NID_VBCMK, n) ∷ []) h.1, (refl, omega arith, tt)), refl)
-packet_plain (packet.typed nid dir r) h = ((refl, small Q_DIR dir h.1.0, (refl, pairs_plain r h.1.1.1, (refl, small NID_PACKET nid h.0, tt))), refl)
-packet_plain (packet.kept nid dir b) h = ((refl, bits_plain b, (refl, small Q_DIR dir h.1.0, (refl, small NID_PACKET nid h.0, tt))), refl)
+packet_plain : (way : Way) (v : PacketValue) → AllFit (reading_to way v) → IsPlain (packet_tree way v)
+packet_plain way (packet.marker n) h = ((refl, pairs_plain ((NID_VBCMK, n) ∷ []) h.1, (refl, omega arith, tt)), refl)
+packet_plain ToTrain (packet.typed nid dir r) h = ((refl, small Q_DIR dir h.1.0, (refl, pairs_plain r h.1.1.1, (refl, small NID_PACKET nid h.0, tt))), refl)
+packet_plain ToTrack (packet.typed nid dir r) h = ((refl, pairs_plain r h.1.1, (refl, small NID_PACKET nid h.0, tt)), refl)
+packet_plain ToTrain (packet.kept nid dir b) h = ((refl, bits_plain b, (refl, small Q_DIR dir h.1.0, (refl, small NID_PACKET nid h.0, tt))), refl)
+packet_plain ToTrack (packet.kept nid dir b) h = ((refl, bits_plain b, (refl, small NID_PACKET nid h.0, tt)), refl)
 
-packet_flat : (v : PacketValue) → depth (packet_tree v) ≤ 3
-packet_flat (packet.marker n) = omega (arith, pairs_flat ((NID_VBCMK, n) ∷ []))
-packet_flat (packet.typed nid dir r) = omega (arith, pairs_flat r)
-packet_flat (packet.kept nid dir b) = omega arith
+packet_flat : (way : Way) (v : PacketValue) → depth (packet_tree way v) ≤ 3
+packet_flat way (packet.marker n) = omega (arith, pairs_flat ((NID_VBCMK, n) ∷ []))
+packet_flat ToTrain (packet.typed nid dir r) = omega (arith, pairs_flat r)
+packet_flat ToTrack (packet.typed nid dir r) = omega (arith, pairs_flat r)
+packet_flat ToTrain (packet.kept nid dir b) = omega arith
+packet_flat ToTrack (packet.kept nid dir b) = omega arith
 
 pub fit_parts : (a b : Reading) → AllFit (a ++ b) → AllFit a × AllFit b
 fit_parts [] b h = (tt, h)
 fit_parts (p ∷ a) b h = let rest = fit_parts a b h.1 in ((h.0, rest.0), rest.1)
 
-pub packets_plain : (vs : List PacketValue) → AllFit (packets_reading vs) → ArePlain (items_of (map packet_tree vs))
-packets_plain [] h = tt
-packets_plain (v ∷ vs) h = let both = fit_parts (packet_reading v) (packets_reading vs) h in (packet_plain v both.0, packets_plain vs both.1)
+pub packets_plain : (way : Way) (vs : List PacketValue) → AllFit (readings_to way vs) → ArePlain (items_of (map (packet_tree way) vs))
+packets_plain way [] h = tt
+packets_plain way (v ∷ vs) h = let both = fit_parts (reading_to way v) (readings_to way vs) h in (packet_plain way v both.0, packets_plain way vs both.1)
 
-pub packets_flat : (vs : List PacketValue) → items_depth (items_of (map packet_tree vs)) ≤ 3
-packets_flat [] = omega arith
-packets_flat (v ∷ vs) = omega (arith, packet_flat v, packets_flat vs)
+pub packets_flat : (way : Way) (vs : List PacketValue) → items_depth (items_of (map (packet_tree way) vs)) ≤ 3
+packets_flat way [] = omega arith
+packets_flat way (v ∷ vs) = omega (arith, packet_flat way v, packets_flat way vs)
 
 -- ---- Items.
 
@@ -111,36 +116,41 @@ kind_plain : (size : Size) → are_plain (kind_word size) ≡ true
 kind_plain size.Short = refl
 kind_plain size.Long = refl
 
-telegram_fits : (t : TelegramValue) (r : Reading) → TelegramReads t r → AllFit (header_reading t.header) × AllFit (packets_reading t.packets)
+word_plain : (way : Way) → are_plain (way_word way) ≡ true
+word_plain ToTrain = refl
+word_plain ToTrack = refl
+
+telegram_fits : (t : TelegramValue) (r : Reading) → TelegramReads t r → AllFit (header_reading t.header) × AllFit (readings_to ToTrain t.packets)
 telegram_fits t r x =
     let language = regular t.size in
     let whole : AllFit (((header_reading t.header ++ closed_reading t.packets) ++ kept FILL t.fill) ++ kept PAD (replicate (pad_bits t.size) false)) = subst AllFit x.reading_is (language.fit r (t, (refl, x))) in
     let front = fit_parts (header_reading t.header ++ closed_reading t.packets) (kept FILL t.fill) (fit_parts (header_reading t.header ++ closed_reading t.packets ++ kept FILL t.fill) (kept PAD (replicate (pad_bits t.size) false)) whole).0 in
     let both = fit_parts (header_reading t.header) (closed_reading t.packets) front.0 in
-    (both.0, (fit_parts (packets_reading t.packets) (closing carrier.Telegram) both.1).0)
+    (both.0, (fit_parts (readings_to ToTrain t.packets) (closing carrier.Telegram) both.1).0)
 
 telegram_plain : (t : TelegramValue) (r : Reading) → TelegramReads t r → IsPlain (telegram_tree t)
 telegram_plain t r x =
     let fits = telegram_fits t r x in
-    ((refl, bits_plain t.fill, (refl, pairs_plain (header_reading t.header) fits.0, (refl, kind_plain t.size, (refl, packets_plain t.packets fits.1, tt)))), refl)
+    ((refl, bits_plain t.fill, (refl, pairs_plain (header_reading t.header) fits.0, (refl, kind_plain t.size, (refl, packets_plain ToTrain t.packets fits.1, tt)))), refl)
 
-message_plain : (m : MessageValue) (r : Reading) → MessageReads m r → IsPlain (message_tree m)
-message_plain (typed_message nid head body vs padding) r x =
+message_plain : (way : Way) (m : MessageValue) (r : Reading) → MessageReads way m r → IsPlain (message_tree way m)
+message_plain way (typed_message nid head body vs padding) r x =
     let front = head_reading nid x.len head in
-    let whole : AllFit (((front ++ body) ++ packets_reading vs) ++ kept PADDING padding) = subst AllFit x.reading_is (radio.fit r (typed_message nid head body vs padding, x)) in
-    let run = fit_parts (front ++ body) (packets_reading vs) (fit_parts ((front ++ body) ++ packets_reading vs) (kept PADDING padding) whole).0 in
+    let sent = readings_to way vs in
+    let whole : AllFit (((front ++ body) ++ sent) ++ kept PADDING padding) = subst AllFit x.reading_is ((messages.regular way).fit r (typed_message nid head body vs padding, x)) in
+    let run = fit_parts (front ++ body) sent (fit_parts ((front ++ body) ++ sent) (kept PADDING padding) whole).0 in
     let both = fit_parts front body run.0 in
-    ((refl, pairs_plain body both.1, (refl, pairs_plain (head_variables head) both.0.1.1, (refl, refl, (refl, small NID_MESSAGE nid both.0.0, (refl, packets_plain vs run.1, (refl, bits_plain padding, tt)))))), refl)
-message_plain (kept_message nid b) r x = ((refl, bits_plain b, (refl, refl, (refl, omega (arith, x.small), tt))), refl)
+    ((refl, pairs_plain body both.1, (refl, pairs_plain head both.0.1.1, (refl, word_plain way, (refl, small NID_MESSAGE nid both.0.0, (refl, packets_plain way vs run.1, (refl, bits_plain padding, tt)))))), refl)
+message_plain way (kept_message nid b) r x = ((refl, bits_plain b, (refl, word_plain way, (refl, omega (arith, x.small), tt))), refl)
 
 entry_plain : (e : EntryValue) (r : Reading) → Spells e r → IsPlain (json_tree e)
 entry_plain (of_telegram t) r x = telegram_plain t r x
-entry_plain (of_message m) r x = message_plain m r x
+entry_plain (of_message way m) r x = message_plain way m r x
 
 entry_flat : (e : EntryValue) → depth (json_tree e) ≤ max_depth
-entry_flat (of_telegram t) = omega (arith, pairs_flat (header_reading t.header), packets_flat t.packets)
-entry_flat (of_message (typed_message nid head body vs padding)) = omega (arith, pairs_flat body, pairs_flat (head_variables head), packets_flat vs)
-entry_flat (of_message (kept_message nid b)) = omega arith
+entry_flat (of_telegram t) = omega (arith, pairs_flat (header_reading t.header), packets_flat ToTrain t.packets)
+entry_flat (of_message way (typed_message nid head body vs padding)) = omega (arith, pairs_flat body, pairs_flat head, packets_flat way vs)
+entry_flat (of_message way (kept_message nid b)) = omega arith
 
 -- ---- What is written of them.
 

@@ -6,6 +6,7 @@ use Rattle.etcs_bits.specs.Bits.{bit}
 use Rattle.etcs_vars.specs.Vars.{admits}
 use Rattle.etcs_vars.specs.Reading.{Reading, numbers, spelled, kept}
 use Rattle.etcs_vars.specs.declared.var.Var.TheVariants.{FILL, PAD}
+use Rattle.etcs_tables.specs.declared.row.Way.TheVariants.{ToTrain}
 use Rattle.etcs_tables.specs.Layouts.{Layout, Reads}
 use Rattle.etcs_packets.specs.declared.packet.Packet.{Packet}
 use Rattle.etcs_packets.specs.PacketValues.{PacketValue, IsPacket, packet_value}
@@ -15,13 +16,13 @@ use Rattle.etcs_telegram.specs.Headers.{header_fault, IsHeaderNumbers}
 use Rattle.etcs_telegram.specs.Telegrams.{HeaderValue, IsAdmitted, TelegramReads, TelegramValue, TelegramContent, telegram_value, header_row, header_of, header_reading, closed_reading, closed_bits, packet_room, pad_bits, user_bits}
 use Rattle.etcs_telegram.proofs.HeaderLemmas.{header_length, header_back}
 use Rattle.etcs_telegram.proofs.Rows.{row_header, admitted_row, header_reads}
-use Rattle.etcs_radio.proofs.Fronts.{as_row, row_fields, fields_row}
+use Rattle.etcs_messages.proofs.Fronts.{as_row, row_fields, fields_row}
 use Rattle.etcs_text.specs.Entries.{EntryValue, of_telegram, of_message, kind_of}
-use Rattle.etcs_text.specs.declared.entry.Kind.TheVariants as kind
 use Rattle.etcs_text.specs.Show.{kind_word}
 use Rattle.etcs_text.specs.Trees.{bits_tree}
 use Rattle.etcs_json.specs.Loose.{HasStandIns, IsLoose, unnamed, unnamed_telegram}
 use Rattle.etcs_json.specs.TreeReading.{ArePairTrees, ArePacketTrees, IsTelegramTree, IsTreeOf, telegram_tree}
+use Rattle.etcs_json.proofs.OneItems.{kind_same, telegram_message}
 use Rattle.etcs_json.proofs.PacketTrees.{SaysNumbers, OnlyNumbers}
 
 -- ---- The header.
@@ -104,19 +105,9 @@ pub no_fault : (P Q : Type 0) (closed fill room : ℕ) → (P × (room < closed)
 no_fault P Q closed fill room (inl (p, l)) e = omega (arith, l, e)
 no_fault P Q closed fill room (inr (q, l, n)) e = n e
 
-same_kind : (a b : Size) → kind_of a ≡ kind_of b → a ≡ b
-same_kind Short Short e = refl
-same_kind Short Long e = absurd cc
-same_kind Long Short e = absurd cc
-same_kind Long Long e = refl
-
-no_radio : (s : Size) → kind.Radio ≡ kind_of s → ⊥
-no_radio Short e = absurd cc
-no_radio Long e = absurd cc
-
 pub telegram_only : (size : Size) (e : EntryValue) (d : Data) → ((t : TelegramValue) (q : Reading) → t.size ≡ size → TelegramReads (unnamed_telegram t) q → IsTelegramTree t d → ⊥) → IsLoose (kind_of size) e → IsTreeOf e d → ⊥
-telegram_only size (of_telegram t) d wrong (r, (k, reads)) tree = wrong t r (same_kind t.size size k) reads tree
-telegram_only size (of_message m) d wrong (r, (k, reads)) tree = no_radio size k
+telegram_only size (of_telegram t) d wrong (r, (k, reads)) tree = wrong t r (kind_same t.size size k) reads tree
+telegram_only size (of_message way m) d wrong (r, (k, reads)) tree = telegram_message size way (sym k)
 
 pub telegram_stands : (size : Size) (t : TelegramValue) (d : Data) → t.size ≡ size → ((r : Reading) × TelegramReads t r) → ((u : TelegramValue) × (t ≡ unnamed_telegram u) × IsTelegramTree u d) → HasStandIns (kind_of size) d (of_telegram t)
 telegram_stands size t d sized (r, reads) (u, is, tree) =
@@ -124,7 +115,7 @@ telegram_stands size t d sized (r, reads) (u, is, tree) =
     (of_telegram u, ap of_telegram is, (r, (kinded, subst (λ (x : TelegramValue). TelegramReads x r) is reads)), tree)
 
 -- a telegram of such parts
-pub telegram_some : (x y w : Data) (o : Option TelegramContent) (size : Size) (h : HeaderValue) (us : List PacketValue) (fill : List Bool) → x ≡ bits_tree fill → ((hs : Items) × (y ≡ array hs) × IsAdmitted (header_reading h) × ArePairTrees (header_reading h) hs) → ((vs : List PacketValue) × (ds : Items) × (us ≡ map unnamed vs) × (w ≡ array ds) × ArePacketTrees vs ds) → IfSome o (λ t. telegram_value t ≡ record { size = size; header = h; packets = us; fill = fill })
+pub telegram_some : (x y w : Data) (o : Option TelegramContent) (size : Size) (h : HeaderValue) (us : List PacketValue) (fill : List Bool) → x ≡ bits_tree fill → ((hs : Items) × (y ≡ array hs) × IsAdmitted (header_reading h) × ArePairTrees (header_reading h) hs) → ((vs : List PacketValue) × (ds : Items) × (us ≡ map (unnamed ToTrain) vs) × (w ≡ array ds) × ArePacketTrees ToTrain vs ds) → IfSome o (λ t. telegram_value t ≡ record { size = size; header = h; packets = us; fill = fill })
     → IfSome o (λ t. (u : TelegramValue) × (telegram_value t ≡ unnamed_telegram u) × IsTelegramTree u (telegram_tree x y (string (kind_word size)) w))
 telegram_some x y w None size h us fill filled headed listed is = tt
 telegram_some x y w (Some t) size h us fill filled (hs, headed, admitted, header) (vs, ds, named, listed, packets) is =
@@ -141,7 +132,7 @@ pub record TelegramSays (t : TelegramValue) (x y z w : Data) : Type 0 where
   pub kind_is : z ≡ string (kind_word t.size)
   pub packets_is : w ≡ array trees
   pub header : ArePairTrees (header_reading t.header) pairs
-  pub packets : ArePacketTrees t.packets trees
+  pub packets : ArePacketTrees ToTrain t.packets trees
 
 pub telegram_says : (t : TelegramValue) (x y z w : Data) → IsTelegramTree t (telegram_tree x y z w) → TelegramSays t x y z w
 telegram_says t x y z w (hs, ps, e, h, p) = record {

@@ -1,15 +1,17 @@
--- JSON that was stored when fewer packets were typed: a packet that is typed by now may be kept as bits in it. It says the
--- item that has the same bits.
+-- JSON that was stored when fewer packets were typed: a packet to the train that is typed by now may be kept as bits in it.
+-- It says the item that has the same bits. To the track nothing was stored so.
 use Rattle.std.specs.Prelude.{◌≡◌, ℕ, ◌+◌, ◌*◌, ◌==◌, ◌||◌, Bool, false, List, [], ◌∷◌, ◌++◌, length, map, replicate, Option, Some, None, if◌then◌else◌}
 use Rattle.serde_json.specs.Data.{Data, Items}
 use Rattle.etcs_vars.specs.declared.var.Var.{Var}
 use Rattle.etcs_vars.specs.declared.var.Var.TheVariants.{FILL, PAD, PADDING, NID_MESSAGE, L_MESSAGE, OTHER_DATA}
 use Rattle.etcs_vars.specs.Reading.{Reading, spelled, kept, IsOutcome, refused}
+use Rattle.etcs_tables.specs.declared.row.Way.{Way}
+use Rattle.etcs_tables.specs.declared.row.Way.TheVariants.{ToTrain, ToTrack}
 use Rattle.etcs_packets.specs.PacketValues as packet
 use Rattle.etcs_packets.specs.PacketValues.{PacketValue, marker, typed}
-use Rattle.etcs_packets.specs.PacketReadings.{packets_reading}
+use Rattle.etcs_packets.specs.PacketReadings.{readings_to}
 use Rattle.etcs_telegram.specs.Telegrams.{TelegramValue, header_reading, closed_reading, pad_bits}
-use Rattle.etcs_radio.specs.Messages.{MessageValue, typed_message, kept_message, front_of, head_reading}
+use Rattle.etcs_messages.specs.Messages.{MessageValue, typed_message, kept_message, front_of, head_reading}
 use Rattle.etcs_text.specs.declared.entry.Kind.{Kind}
 use Rattle.etcs_text.specs.Entries.{EntryValue, of_telegram, of_message, EntryReads}
 use Rattle.etcs_json.specs.TreeReading.{IsTreeOf, ArePacketTrees}
@@ -17,28 +19,29 @@ use Rattle.etcs_json.specs.TreeReading.{IsTreeOf, ArePacketTrees}
 -- ---- The numbers that may be kept.
 
 -- NID_PACKET is one of those that stored JSON may have as bits
-abbrev pub is_carried : ℕ → Bool
-is_carried nid = nid == 49 || nid == 57 || nid == 58 || nid == 63 || nid == 68 || nid == 80 || nid == 131
+abbrev pub is_carried : Way → ℕ → Bool
+is_carried ToTrain nid = nid == 49 || nid == 57 || nid == 58 || nid == 63 || nid == 68 || nid == 80 || nid == 131
+is_carried ToTrack nid = false
 
 -- a number that is kept in its place: all kept packets have one frame
-abbrev pub stand_in : ℕ → ℕ
-stand_in nid = if is_carried nid then 44 else nid
+abbrev pub stand_in : Way → ℕ → ℕ
+stand_in way nid = if is_carried way nid then 44 else nid
 
-abbrev pub unnamed : PacketValue → PacketValue
-unnamed (marker n) = marker n
-unnamed (typed nid dir r) = typed nid dir r
-unnamed (packet.kept nid dir b) = packet.kept (stand_in nid) dir b
+abbrev pub unnamed : Way → PacketValue → PacketValue
+unnamed way (marker n) = marker n
+unnamed way (typed nid dir r) = typed nid dir r
+unnamed way (packet.kept nid dir b) = packet.kept (stand_in way nid) dir b
 
 abbrev pub unnamed_telegram : TelegramValue → TelegramValue
-unnamed_telegram t = record { size = t.size; header = t.header; packets = map unnamed t.packets; fill = t.fill }
+unnamed_telegram t = record { size = t.size; header = t.header; packets = map (unnamed ToTrain) t.packets; fill = t.fill }
 
-abbrev pub unnamed_message : MessageValue → MessageValue
-unnamed_message (typed_message nid head body vs padding) = typed_message nid head body (map unnamed vs) padding
-unnamed_message (kept_message nid b) = kept_message nid b
+abbrev pub unnamed_message : Way → MessageValue → MessageValue
+unnamed_message way (typed_message nid head body vs padding) = typed_message nid head body (map (unnamed way) vs) padding
+unnamed_message way (kept_message nid b) = kept_message nid b
 
 abbrev pub unnamed_entry : EntryValue → EntryValue
 unnamed_entry (of_telegram t) = of_telegram (unnamed_telegram t)
-unnamed_entry (of_message m) = of_message (unnamed_message m)
+unnamed_entry (of_message way m) = of_message way (unnamed_message way m)
 
 -- o is an item of the kind, but that a kept packet may have such a number
 abbrev pub IsLoose : Kind → EntryValue → Type 0
@@ -49,8 +52,8 @@ IsLoose kind o = (r : Reading) × EntryReads kind (unnamed_entry o) r
 -- b are the bits of o
 abbrev pub LooseSpells : EntryValue → List Bool → Type 0
 LooseSpells (of_telegram t) b = b ≡ spelled (header_reading t.header ++ closed_reading t.packets ++ kept FILL t.fill ++ kept PAD (replicate (pad_bits t.size) false))
-LooseSpells (of_message (typed_message nid head body vs padding)) b = (len : ℕ) × (front_of body + length (spelled (packets_reading vs)) + length padding ≡ 8 * len) × (b ≡ spelled (head_reading nid len head ++ body ++ packets_reading vs ++ kept PADDING padding))
-LooseSpells (of_message (kept_message nid c)) b = (len : ℕ) × (18 + length c ≡ 8 * len) × (b ≡ spelled ((NID_MESSAGE, nid) ∷ (L_MESSAGE, len) ∷ kept OTHER_DATA c))
+LooseSpells (of_message way (typed_message nid head body vs padding)) b = (len : ℕ) × (front_of way body + length (spelled (readings_to way vs)) + length padding ≡ 8 * len) × (b ≡ spelled (head_reading nid len head ++ body ++ readings_to way vs ++ kept PADDING padding))
+LooseSpells (of_message way (kept_message nid c)) b = (len : ℕ) × (18 + length c ≡ 8 * len) × (b ≡ spelled ((NID_MESSAGE, nid) ∷ (L_MESSAGE, len) ∷ kept OTHER_DATA c))
 
 -- ---- What a tree says.
 
@@ -76,8 +79,13 @@ HasStandIns kind d e = (o : EntryValue) × (e ≡ unnamed_entry o) × IsLoose ki
 
 abbrev pub packets_of : EntryValue → List PacketValue
 packets_of (of_telegram t) = t.packets
-packets_of (of_message (typed_message nid head body vs padding)) = vs
-packets_of (of_message (kept_message nid b)) = []
+packets_of (of_message way (typed_message nid head body vs padding)) = vs
+packets_of (of_message way (kept_message nid b)) = []
+
+-- which way they go
+abbrev pub way_of : EntryValue → Way
+way_of (of_telegram t) = ToTrain
+way_of (of_message way m) = way
 
 -- the number of a packet that is kept as bits
 abbrev pub kept_number : PacketValue → Option ℕ
@@ -89,7 +97,7 @@ kept_number (packet.kept nid dir b) = Some nid
 pub record StandsFor (kind : Kind) (e : EntryValue) (ds : Items) (o : EntryValue) : Type 0 where
   pub unnamed_is : e ≡ unnamed_entry o
   pub loose : IsLoose kind o
-  pub trees : ArePacketTrees (packets_of o) ds
+  pub trees : ArePacketTrees (way_of o) (packets_of o) ds
 
 -- each spelling of the kind that begins with these bits, or with which they begin, is as long as they are
 abbrev pub HasLength : Kind → List Bool → Type 0

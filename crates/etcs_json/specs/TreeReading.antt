@@ -6,13 +6,14 @@ use Rattle.etcs_vars.specs.declared.var.Var.{Var}
 use Rattle.etcs_vars.specs.declared.var.Var.TheVariants.{NID_RADIO, NID_VBCMK}
 use Rattle.etcs_vars.specs.Vars.{name}
 use Rattle.etcs_vars.specs.Reading.{Reading, Sent}
+use Rattle.etcs_tables.specs.declared.row.Way.{Way}
+use Rattle.etcs_tables.specs.declared.row.Way.TheVariants.{ToTrain}
 use Rattle.etcs_packets.specs.PacketValues.{PacketValue, marker, typed, kept}
 use Rattle.etcs_telegram.specs.Telegrams.{TelegramValue, header_reading}
-use Rattle.etcs_radio.specs.Bodies.{head_variables}
-use Rattle.etcs_radio.specs.Messages.{MessageValue, typed_message, kept_message}
+use Rattle.etcs_messages.specs.Messages.{MessageValue, typed_message, kept_message}
 use Rattle.etcs_text.specs.Entries.{EntryValue, of_telegram, of_message}
-use Rattle.etcs_text.specs.Show.{hex_digits, kind_word}
-use Rattle.etcs_text.specs.Trees.{bits_tree}
+use Rattle.etcs_text.specs.Show.{hex_digits, kind_word, way_word}
+use Rattle.etcs_text.specs.Trees.{bits_tree, with_dir}
 
 -- a number without fraction or exponent
 abbrev pub plain : ℕ → Data
@@ -34,35 +35,35 @@ ArePairTrees [] (item d ds) = ⊥
 ArePairTrees (p ∷ r) no_items = ⊥
 ArePairTrees (p ∷ r) (item d ds) = IsPairTree p d × ArePairTrees r ds
 
--- the members of a packet: packet 0 has no Q_DIR
+-- the members of a packet: to the train packet 0 has no Q_DIR, to the track none has one
 abbrev pub marker_tree : Data → Data → Data
 marker_tree fields nid = object (member (codes "fields") fields (member (codes "nid") nid no_members))
 
-abbrev pub typed_tree : Data → Data → Data → Data
-typed_tree dir fields nid = object (member (codes "dir") dir (member (codes "fields") fields (member (codes "nid") nid no_members)))
+abbrev pub typed_tree : Way → ℕ → Data → Data → Data
+typed_tree way dir fields nid = object (with_dir way dir (member (codes "fields") fields (member (codes "nid") nid no_members)))
 
-abbrev pub kept_tree : Data → Data → Data → Data
-kept_tree data' dir nid = object (member (codes "data") data' (member (codes "dir") dir (member (codes "nid") nid no_members)))
+abbrev pub kept_tree : Way → Data → ℕ → Data → Data
+kept_tree way data' dir nid = object (member (codes "data") data' (with_dir way dir (member (codes "nid") nid no_members)))
 
 -- d is a packet
-abbrev pub IsPacketTree : PacketValue → Data → Type 0
-IsPacketTree (marker n) d = (ps : Items) × (d ≡ marker_tree (array ps) (plain 0)) × ArePairTrees ((NID_VBCMK, n) ∷ []) ps
-IsPacketTree (typed nid dir r) d = (ps : Items) × (d ≡ typed_tree (plain dir) (array ps) (plain nid)) × ArePairTrees r ps
-IsPacketTree (kept nid dir b) d = d ≡ kept_tree (bits_tree b) (plain dir) (plain nid)
+abbrev pub IsPacketTree : Way → PacketValue → Data → Type 0
+IsPacketTree way (marker n) d = (ps : Items) × (d ≡ marker_tree (array ps) (plain 0)) × ArePairTrees ((NID_VBCMK, n) ∷ []) ps
+IsPacketTree way (typed nid dir r) d = (ps : Items) × (d ≡ typed_tree way dir (array ps) (plain nid)) × ArePairTrees r ps
+IsPacketTree way (kept nid dir b) d = d ≡ kept_tree way (bits_tree b) dir (plain nid)
 
 -- packets in order
-abbrev pub ArePacketTrees : List PacketValue → Items → Type 0
-ArePacketTrees [] no_items = Unit {0}
-ArePacketTrees [] (item d ds) = ⊥
-ArePacketTrees (v ∷ vs) no_items = ⊥
-ArePacketTrees (v ∷ vs) (item d ds) = IsPacketTree v d × ArePacketTrees vs ds
+abbrev pub ArePacketTrees : Way → List PacketValue → Items → Type 0
+ArePacketTrees way [] no_items = Unit {0}
+ArePacketTrees way [] (item d ds) = ⊥
+ArePacketTrees way (v ∷ vs) no_items = ⊥
+ArePacketTrees way (v ∷ vs) (item d ds) = IsPacketTree way v d × ArePacketTrees way vs ds
 
 -- d is a telegram
 abbrev pub telegram_tree : Data → Data → Data → Data → Data
 telegram_tree fill header kind packets = object (member (codes "fill") fill (member (codes "header") header (member (codes "kind") kind (member (codes "packets") packets no_members))))
 
 abbrev pub IsTelegramTree : TelegramValue → Data → Type 0
-IsTelegramTree t d = (hs : Items) × (ps : Items) × (d ≡ telegram_tree (bits_tree t.fill) (array hs) (string (kind_word t.size)) (array ps)) × ArePairTrees (header_reading t.header) hs × ArePacketTrees t.packets ps
+IsTelegramTree t d = (hs : Items) × (ps : Items) × (d ≡ telegram_tree (bits_tree t.fill) (array hs) (string (kind_word t.size)) (array ps)) × ArePairTrees (header_reading t.header) hs × ArePacketTrees ToTrain t.packets ps
 
 -- d is a message: L_MESSAGE follows from the rest
 abbrev pub message_tree : Data → Data → Data → Data → Data → Data → Data
@@ -71,11 +72,11 @@ message_tree fields header kind nid packets padding = object (member (codes "fie
 abbrev pub kept_message_tree : Data → Data → Data → Data
 kept_message_tree data' kind nid = object (member (codes "data") data' (member (codes "kind") kind (member (codes "nid") nid no_members)))
 
-abbrev pub IsMessageTree : MessageValue → Data → Type 0
-IsMessageTree (typed_message nid head body vs padding) d = (fs : Items) × (hs : Items) × (ps : Items) × (d ≡ message_tree (array fs) (array hs) (string (codes "radio")) (plain nid) (array ps) (bits_tree padding)) × ArePairTrees body fs × ArePairTrees (head_variables head) hs × ArePacketTrees vs ps
-IsMessageTree (kept_message nid b) d = d ≡ kept_message_tree (bits_tree b) (string (codes "radio")) (plain nid)
+abbrev pub IsMessageTree : Way → MessageValue → Data → Type 0
+IsMessageTree way (typed_message nid head body vs padding) d = (fs : Items) × (hs : Items) × (ps : Items) × (d ≡ message_tree (array fs) (array hs) (string (way_word way)) (plain nid) (array ps) (bits_tree padding)) × ArePairTrees body fs × ArePairTrees head hs × ArePacketTrees way vs ps
+IsMessageTree way (kept_message nid b) d = d ≡ kept_message_tree (bits_tree b) (string (way_word way)) (plain nid)
 
 -- d is the tree of the item
 abbrev pub IsTreeOf : EntryValue → Data → Type 0
 IsTreeOf (of_telegram t) d = IsTelegramTree t d
-IsTreeOf (of_message m) d = IsMessageTree m d
+IsTreeOf (of_message way m) d = IsMessageTree way m d

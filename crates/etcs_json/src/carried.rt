@@ -6,12 +6,13 @@ ghost use Rattle.serde_json.specs.View.{items_view, view};
 ghost use Rattle.etcs_bits.specs.Bits.{bits};
 ghost use Rattle.etcs_vars.specs.declared.var.Var.{Var};
 ghost use Rattle.etcs_vars.specs.Reading.{IsOutcome, Reading, refused, spelled};
+ghost use Rattle.etcs_tables.specs.declared.row.Way.TheVariants.{ToTrain};
 ghost use Rattle.etcs_packets.specs.PacketReadings.{packets_reading};
 ghost use Rattle.etcs_packets.specs.PacketValues.{IsPacket, PacketValue, packet_value};
 ghost use Rattle.etcs_text.specs.Entries.{EntryReads, EntryValue, Spells, entry_value, kind_of};
 ghost use Rattle.etcs_text.specs.declared.entry.Kind.{Kind};
 ghost use Rattle.etcs_text.specs.declared.entry.Kind.TheVariants as kind_is;
-ghost use Rattle.etcs_json.specs.Loose.{HasLength, HasStandIns, LooseSpells, StandsFor, TreeRefused, TreeSays, is_carried, kept_number, packets_of, stand_in, unnamed};
+ghost use Rattle.etcs_json.specs.Loose.{HasLength, HasStandIns, LooseSpells, StandsFor, TreeRefused, TreeSays, is_carried, kept_number, packets_of, stand_in, unnamed, way_of};
 ghost use Rattle.etcs_json.specs.TreeReading.{ArePacketTrees, IsPacketTree, IsTreeOf};
 
 use crate::digits::byte_in;
@@ -20,6 +21,7 @@ use crate::members::{four_members, message_members, three_members};
 use etcs_bits::parts::write;
 use etcs_packets::Packet;
 use etcs_radio::MessageReader;
+use etcs_tables::Way;
 use etcs_telegram::{Size, TelegramReader};
 use etcs_text::{Entry, Kind, encoded};
 use etcs_vars::parts::Variables;
@@ -28,20 +30,23 @@ use serde_json::Value;
 use std::alloc::Global;
 
 /// Whether stored JSON may have packets of this number as bits.
-fn is_carried(nid: u8) -> bool
-    ensures { result ≡ is_carried nid }
+fn is_carried(way: Way, nid: u8) -> bool
+    ensures { result ≡ is_carried way nid }
 {
-    matches!(nid, 49 | 57 | 58 | 63 | 68 | 80 | 131)
+    match way {
+        Way::ToTrain => matches!(nid, 49 | 57 | 58 | 63 | 68 | 80 | 131),
+        Way::ToTrack => false,
+    }
 }
 
 /// The number under which such bits are held: all kept packets have one frame.
-pub(crate) fn stand_in(nid: u8) -> u8
-    ensures { result ≡ stand_in nid }
+pub(crate) fn stand_in(way: Way, nid: u8) -> u8
+    ensures { result ≡ stand_in way nid }
 {
-    if is_carried(nid) { 44 } else { nid }
+    if is_carried(way, nid) { 44 } else { nid }
 }
 
-/// The item that a tree says, of which `entry` is the one with stand-ins.
+/// The item that a tree says, of which `entry` is the one with stand-ins. To the track there are none.
 ///
 /// # Errors
 ///
@@ -57,6 +62,9 @@ pub(crate) fn stored(
     ensures refused { (i : ℕ) (x : Var) → result ≡ Err (JsonFault.Refused i x) → TreeRefused kind (view value.now) i x }
     ensures shape { result ≢ Err JsonFault.Shape }
 {
+    if kind == Kind::Train {
+        return Ok(entry);
+    }
     let trees = packet_trees(value);
     if are_named(trees) {
         Ok(entry)
@@ -67,7 +75,7 @@ pub(crate) fn stored(
 
 /// The trees of an item's packets.
 fn packet_trees(value: &Value) -> &[Value]
-    ensures { (o : EntryValue) → IsTreeOf o (view value.now) → ArePacketTrees (packets_of o) (items_view result.now) }
+    ensures { (o : EntryValue) → IsTreeOf o (view value.now) → ArePacketTrees (way_of o) (packets_of o) (items_view result.now) }
 {
     if let Some((_, _, _, packets)) = four_members(value, "fill", "header", "kind", "packets") {
         return items_in(packets);
@@ -90,7 +98,7 @@ fn items_in(value: &Value) -> &[Value]
 
 /// The number of a packet that is kept as bits.
 fn kept_number(tree: &Value) -> Option<u8>
-    ensures { (v : PacketValue) → IsPacket (unnamed v) → IsPacketTree v (view tree.now) → result ≡ kept_number v }
+    ensures { (v : PacketValue) → IsPacket (unnamed ToTrain v) → IsPacketTree ToTrain v (view tree.now) → result ≡ kept_number v }
 {
     let (_, _, nid) = three_members(tree, "data", "dir", "nid")?;
     byte_in(nid)
@@ -98,11 +106,11 @@ fn kept_number(tree: &Value) -> Option<u8>
 
 /// Whether no packet needs a stand-in.
 fn are_named(trees: &[Value]) -> bool
-    ensures { IsTrue result → (vs : List PacketValue) → All IsPacket (map unnamed vs) → ArePacketTrees vs (items_view trees.now) → map unnamed vs ≡ vs }
+    ensures { IsTrue result → (vs : List PacketValue) → All IsPacket (map (unnamed ToTrain) vs) → ArePacketTrees ToTrain vs (items_view trees.now) → map (unnamed ToTrain) vs ≡ vs }
 {
     for tree in trees {
         if let Some(nid) = kept_number(tree) {
-            if is_carried(nid) {
+            if is_carried(Way::ToTrain, nid) {
                 return false;
             }
         }
@@ -112,7 +120,8 @@ fn are_named(trees: &[Value]) -> bool
 
 /// The item with the bits of `entry` but for the numbers of its packets, which are those of these trees.
 fn renamed(alloc: Global, kind: Kind, entry: &Entry, trees: &[Value]) -> Result<Entry, JsonFault>
-    requires { (o : EntryValue) × StandsFor kind (entry_value entry.now) (items_view trees.now) o }
+    requires kind { kind ≢ Kind.Train }
+    requires stands { (o : EntryValue) × StandsFor kind (entry_value entry.now) (items_view trees.now) o }
     ensures ok { IfOk result (λ e. (o : EntryValue) → StandsFor kind (entry_value entry.now) (items_view trees.now) o → (r : Reading) × LooseSpells o (spelled r) × EntryReads kind (entry_value e) r) }
     ensures refused { (i : ℕ) (x : Var) → result ≡ Err (JsonFault.Refused i x) → (o : EntryValue) → StandsFor kind (entry_value entry.now) (items_view trees.now) o → (b : List Bool) × LooseSpells o b × IsOutcome (EntryReads kind) b (refused i x) }
     ensures shape { result ≢ Err JsonFault.Shape }
@@ -128,7 +137,7 @@ fn renamed(alloc: Global, kind: Kind, entry: &Entry, trees: &[Value]) -> Result<
 /// Puts the numbers of these trees in the item's bytes.
 fn rename_item(bytes: &mut [u8], entry: &Entry, trees: &[Value])
     requires { (r : Reading) × Spells (entry_value entry.now) r × (bits bytes.old ≡ spelled r) }
-    ensures { (kind : Kind) (o : EntryValue) → StandsFor kind (entry_value entry.now) (items_view trees.now) o → LooseSpells o (bits bytes.new) × HasLength kind (bits bytes.new) }
+    ensures { (kind : Kind) (o : EntryValue) → kind ≢ Kind.Train → StandsFor kind (entry_value entry.now) (items_view trees.now) o → LooseSpells o (bits bytes.new) × HasLength kind (bits bytes.new) }
 {
     match entry {
         Entry::Telegram(telegram) => rename(bytes, 50, telegram.packets(), trees),
@@ -137,6 +146,7 @@ fn rename_item(bytes: &mut [u8], entry: &Entry, trees: &[Value])
                 rename(bytes, 75 + body.bits(), message.packets(), trees);
             }
         }
+        Entry::Train(_) => {}
     }
 }
 
@@ -145,7 +155,7 @@ fn rename(bytes: &mut [u8], at: usize, packets: &[Packet], trees: &[Value])
     requires room { at + length (spelled (packets_reading (map packet_value packets.now))) ≤ length (bits bytes.old) }
     requires small { length (bits bytes.old) < 2 ^ 64 }
     ensures length { length bytes.new ≡ length bytes.old }
-    ensures bits { (vs : List PacketValue) (front behind : List Bool) → map packet_value packets.now ≡ map unnamed vs → All IsPacket (map unnamed vs) → ArePacketTrees vs (items_view trees.now) → length front ≡ at → bits bytes.old ≡ front ++ spelled (packets_reading (map unnamed vs)) ++ behind → bits bytes.new ≡ front ++ spelled (packets_reading vs) ++ behind }
+    ensures bits { (vs : List PacketValue) (front behind : List Bool) → map packet_value packets.now ≡ map (unnamed ToTrain) vs → All IsPacket (map (unnamed ToTrain) vs) → ArePacketTrees ToTrain vs (items_view trees.now) → length front ≡ at → bits bytes.old ≡ front ++ spelled (packets_reading (map (unnamed ToTrain) vs)) ++ behind → bits bytes.new ≡ front ++ spelled (packets_reading vs) ++ behind }
 {
     let mut place = at;
     for (packet, tree) in packets.iter().zip(trees) {
@@ -162,7 +172,8 @@ fn rename(bytes: &mut [u8], at: usize, packets: &[Packet], trees: &[Value])
 ///
 /// `Refused` where they are no item's; `Memory` where memory was refused.
 fn read(alloc: Global, kind: Kind, bytes: &[u8]) -> Result<Entry, JsonFault>
-    requires { HasLength kind (bits bytes.now) }
+    requires kind { kind ≢ Kind.Train }
+    requires length { HasLength kind (bits bytes.now) }
     ensures ok { IfOk result (λ e. (r : Reading) × EntryReads kind (entry_value e) r × (spelled r ≡ bits bytes.now)) }
     ensures refused { (i : ℕ) (x : Var) → result ≡ Err (JsonFault.Refused i x) → IsOutcome (EntryReads kind) (bits bytes.now) (refused i x) }
     ensures shape { result ≢ Err JsonFault.Shape }
@@ -171,6 +182,7 @@ fn read(alloc: Global, kind: Kind, bytes: &[u8]) -> Result<Entry, JsonFault>
         Kind::Long => read_telegram(alloc, Size::Long, bytes),
         Kind::Short => read_telegram(alloc, Size::Short, bytes),
         Kind::Radio => read_message(alloc, bytes),
+        Kind::Train => unreachable!(),
     }
 }
 

@@ -16,19 +16,24 @@ use crate::from_telegram::telegram_in;
 use crate::written::written_item;
 use etcs_telegram::Size;
 use etcs_text::{Entry, Kind};
+use etcs_trees::tree_of;
 use serde_json::Value;
 use std::alloc::{AllocError, Global};
 
 /// The item of the kind whose tree the value is: an object of exactly the members of a telegram of the kind's size, or of
-/// a radio message, whose pairs are in the order of sending and whose numbers are whole numbers without fraction or
-/// exponent. The digits of NID_RADIO may be in either case. A packet 49, 57, 58, 63, 68, 80 or 131 may be in the form of
-/// packets that are kept as bits, as it was stored before these were typed: the item is then the one that has these bits.
+/// a message of the kind's way, whose pairs are in the order of sending and whose numbers are whole numbers without
+/// fraction or exponent. The digits of NID_RADIO may be in either case. A packet 49, 57, 58, 63, 68, 80 or 131 to the train
+/// may be in the form of packets that are kept as bits, as it was stored before these were typed: the item is then the one
+/// that has these bits.
+///
+/// The value is the caller's, and so is what it takes: made by serde_json of a text that isn't trusted, some 120 bytes for
+/// each byte of the text, and stack for each level. [`from_line`] makes no more of a line than an item may have.
 ///
 /// # Errors
 ///
 /// - [`JsonFault::Shape`] where no item of the kind has this tree;
 /// - [`JsonFault::Refused`] where it has packets of this older form, and its bits are no item's: with the first bit with
-///   which no item of the kind continues, and the variable that holds it;
+///   which no item of the kind continues, and the variable that holds it. Never of a message to the track;
 /// - [`JsonFault::Memory`] where memory was refused, whatever the value is.
 pub fn from_value(alloc: Global, kind: Kind, value: &Value) -> Result<Entry, JsonFault>
     ensures ok { IfOk result (λ e. TreeSays kind (view value.now) (entry_value e)) }
@@ -42,7 +47,8 @@ pub fn from_value(alloc: Global, kind: Kind, value: &Value) -> Result<Entry, Jso
     }
 }
 
-/// The item of the kind whose JSON the line is.
+/// The item of the kind whose JSON the line is. No more is made of the line than an item may have: one of 1 MiB takes some
+/// 4 MB at most, whatever it is.
 ///
 /// # Errors
 ///
@@ -67,13 +73,10 @@ fn from_any_line(alloc: Global, kind: Kind, line: &[u8]) -> Result<Entry, JsonFa
     ensures refused { (i : ℕ) (x : Var) → result ≡ Err (JsonFault.Refused i x) → SaysRefused kind line.now i x }
     ensures shape { result ≡ Err JsonFault.Shape → (o : EntryValue) → IsLoose kind o → OfLine (λ d. IsTreeOf o d) line.now → ⊥ }
 {
-    match Value::from_slice(alloc, line) {
-        Ok(value) => from_value(alloc, kind, &value),
-        Err(error) => Err(if error.is_memory() {
-            JsonFault::Memory
-        } else {
-            JsonFault::Shape
-        }),
+    match tree_of(alloc, line) {
+        Ok(Some(value)) => from_value(alloc, kind, &value),
+        Ok(None) => Err(JsonFault::Shape),
+        Err(AllocError) => Err(JsonFault::Memory),
     }
 }
 
@@ -86,6 +89,7 @@ fn entry_in(alloc: Global, kind: Kind, value: &Value) -> Result<Option<Entry>, A
         Kind::Long => telegram_entry(alloc, Size::Long, value),
         Kind::Short => telegram_entry(alloc, Size::Short, value),
         Kind::Radio => message_entry(alloc, value),
+        Kind::Train => train_entry(alloc, value),
     }
 }
 
@@ -100,13 +104,24 @@ fn telegram_entry(alloc: Global, size: Size, value: &Value) -> Result<Option<Ent
     }
 }
 
-/// The message of a tree, if there is one, with stand-ins.
+/// The message to the train of a tree, if there is one, with stand-ins.
 fn message_entry(alloc: Global, value: &Value) -> Result<Option<Entry>, AllocError>
     ensures some { IfOk result (λ o. IfSome o (λ e. HasStandIns Kind.Radio (view value.now) (entry_value e))) }
     ensures only { IfOk result (λ o. (e : EntryValue) → IsLoose Kind.Radio e → IsTreeOf e (view value.now) → IsSome o) }
 {
     match message_in(alloc, value)? {
         Some(message) => Ok(Some(Entry::Message(message))),
+        None => Ok(None),
+    }
+}
+
+/// The message to the track of a tree, if there is one.
+fn train_entry(alloc: Global, value: &Value) -> Result<Option<Entry>, AllocError>
+    ensures some { IfOk result (λ o. IfSome o (λ e. HasStandIns Kind.Train (view value.now) (entry_value e))) }
+    ensures only { IfOk result (λ o. (e : EntryValue) → IsLoose Kind.Train e → IsTreeOf e (view value.now) → IsSome o) }
+{
+    match message_in(alloc, value)? {
+        Some(message) => Ok(Some(Entry::Train(message))),
         None => Ok(None),
     }
 }

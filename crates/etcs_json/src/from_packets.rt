@@ -1,36 +1,45 @@
 //! Packets of their trees.
 
-ghost use Rattle.std.specs.Prelude.{◌≡◌, ◌∷◌, [], ◌++◌, ℕ, All, List, Some, IfOk, IfSome, IsTrue, OnOk, map, option_map};
-ghost use Rattle.serde_json.specs.Data.{Items, array};
+ghost use Rattle.std.specs.Prelude.{◌≡◌, ◌≢◌, ◌<◌, ◌∷◌, [], ◌++◌, ℕ, All, List, Bool, None, Some, IfOk, IfSome, IsTrue, OnOk, map, option_map};
+ghost use Rattle.serde_json.specs.Data.{Data, Items, array};
 ghost use Rattle.serde_json.specs.View.{view, items_view};
 ghost use Rattle.etcs_vars.specs.declared.var.Var.TheVariants.{NID_VBCMK};
 ghost use Rattle.etcs_vars.specs.Vars.{admits};
 ghost use Rattle.etcs_vars.specs.Reading.{Reading, numbers};
-ghost use Rattle.etcs_packets.specs.PacketValues.{PacketValue, IsPacket, IsTypedOf, kept, marker, packet_value, typed, variables_of, IsMade};
+ghost use Rattle.etcs_tables.specs.declared.row.Way.TheVariants.{ToTrain, ToTrack};
+ghost use Rattle.etcs_tables.specs.Frames.{is_marker};
+ghost use Rattle.etcs_packets.specs.PacketValues.{PacketValue, IsPacketTo, IsTypedOf, kept, marker, typed, variables_of};
+ghost use Rattle.etcs_text.specs.Trees.{bits_tree};
 ghost use Rattle.etcs_json.specs.Loose.{stand_in, unnamed};
+ghost use Rattle.etcs_json.specs.TreeParts.{SaysDirection};
 ghost use Rattle.etcs_json.specs.TreeReading.{ArePairTrees, ArePacketTrees, IsPacketTree, kept_tree, marker_tree, plain, typed_tree};
 
 use crate::carried::stand_in;
-use crate::digits::{bits_in, is_zero, two_bytes};
+use crate::digits::{bits_in, byte_in, is_zero, two_bytes};
 use crate::members::{three_members, two_members};
 use crate::numbers::numbers_in;
 use etcs_bits::Bits;
-use etcs_packets::parts::{from_fields, holds};
-use etcs_packets::{Other, Packet};
+use etcs_flat::parts::check_other;
+use etcs_packets::parts::AnyPacket;
 use etcs_tables::{Row, RowItem, Way, row_of};
 use etcs_vars::Var;
 use serde_json::Value;
 use std::alloc::{AllocError, Global};
 
 /// The typed packet of this number and direction with these numbers after L_PACKET, if there is one.
-fn typed_of(alloc: Global, nid: u8, dir: u8, fields: &[u64]) -> Result<Option<Packet>, AllocError>
-    ensures made { IfOk result (λ o. IfSome o (λ p. IsMade p × IsPacket (packet_value p))) }
-    ensures some { IfOk result (λ o. IfSome o (λ p. IsTypedOf nid dir (packet_value p) × (numbers (variables_of (packet_value p)) ≡ fields.now))) }
-    ensures only { IfOk result (λ o. (r : Reading) → IsPacket (typed nid dir r) → fields.now ≡ numbers r → option_map packet_value o ≡ Some (typed nid dir r)) }
+fn typed_of<P: AnyPacket>(
+    alloc: Global,
+    nid: u8,
+    dir: u8,
+    fields: &[u64],
+) -> Result<Option<P>, AllocError>
+    ensures made { IfOk result (λ o. IfSome o (λ p. (P.form p).made × IsPacketTo P.WAY (P.form p).value)) }
+    ensures some { IfOk result (λ o. IfSome o (λ p. IsTypedOf nid dir (P.form p).value × (numbers (variables_of (P.form p).value) ≡ fields.now))) }
+    ensures only { IfOk result (λ o. (r : Reading) → IsPacketTo P.WAY (typed nid dir r) → fields.now ≡ numbers r → option_map (λ p. (P.form p).value) o ≡ Some (typed nid dir r)) }
 {
-    match from_fields(alloc, nid, dir, fields)? {
+    match P::of_fields(alloc, nid, dir, fields)? {
         Some(packet) => {
-            holds(&packet);
+            packet.hold();
             Ok(Some(packet))
         }
         None => Ok(None),
@@ -38,12 +47,17 @@ fn typed_of(alloc: Global, nid: u8, dir: u8, fields: &[u64]) -> Result<Option<Pa
 }
 
 /// The typed packet of this number and direction with these pairs, if there is one.
-fn typed_by(alloc: Global, nid: u8, dir: u8, fields: &Value) -> Result<Option<Packet>, AllocError>
-    ensures made { IfOk result (λ o. IfSome o (λ p. IsMade p × IsPacket (packet_value p))) }
-    ensures some { IfOk result (λ o. IfSome o (λ p. (r : Reading) × (ps : Items) × (packet_value p ≡ typed nid dir r) × (view fields.now ≡ array ps) × ArePairTrees r ps)) }
-    ensures only { IfOk result (λ o. (r : Reading) (ps : Items) → IsPacket (typed nid dir r) → view fields.now ≡ array ps → ArePairTrees r ps → option_map packet_value o ≡ Some (typed nid dir r)) }
+fn typed_by<P: AnyPacket>(
+    alloc: Global,
+    nid: u8,
+    dir: u8,
+    fields: &Value,
+) -> Result<Option<P>, AllocError>
+    ensures made { IfOk result (λ o. IfSome o (λ p. (P.form p).made × IsPacketTo P.WAY (P.form p).value)) }
+    ensures some { IfOk result (λ o. IfSome o (λ p. (r : Reading) × (ps : Items) × ((P.form p).value ≡ typed nid dir r) × (view fields.now ≡ array ps) × ArePairTrees r ps)) }
+    ensures only { IfOk result (λ o. (r : Reading) (ps : Items) → IsPacketTo P.WAY (typed nid dir r) → view fields.now ≡ array ps → ArePairTrees r ps → option_map (λ p. (P.form p).value) o ≡ Some (typed nid dir r)) }
 {
-    match row_of(Way::ToTrain, nid) {
+    match row_of(P::WAY, nid) {
         Some(row) => match numbers_in(alloc, row, fields)? {
             Some(numbers) => typed_of(alloc, nid, dir, numbers.as_slice()),
             None => Ok(None),
@@ -52,51 +66,67 @@ fn typed_by(alloc: Global, nid: u8, dir: u8, fields: &Value) -> Result<Option<Pa
     }
 }
 
-/// The typed packet of these members, if there is one.
-fn typed_packet(
-    alloc: Global,
-    dir: &Value,
-    fields: &Value,
-    nid: &Value,
-) -> Result<Option<Packet>, AllocError>
-    ensures made { IfOk result (λ o. IfSome o (λ p. IsMade p × IsPacket (packet_value p))) }
-    ensures some { IfOk result (λ o. IfSome o (λ p. IsPacketTree (packet_value p) (typed_tree (view dir.now) (view fields.now) (view nid.now)))) }
-    ensures only { IfOk result (λ o. (v : PacketValue) → IsPacket v → IsPacketTree v (typed_tree (view dir.now) (view fields.now) (view nid.now)) → option_map packet_value o ≡ Some v) }
+/// The fields, the direction and the number of a typed packet. To the track the direction is 0 and has no member.
+fn typed_members(way: Way, value: &Value) -> Option<(&Value, u8, u8)>
+    ensures some { IfSome result (λ m. SaysDirection way m.1 × (view value.now ≡ typed_tree way m.1 (view m.0.now) (plain m.2))) }
+    ensures none { (dir nid : ℕ) (x : Data) → dir < 256 → nid < 256 → view value.now ≡ typed_tree way dir x (plain nid) → result ≢ None }
 {
-    match two_bytes(dir, nid) {
-        Some((dir, nid)) => typed_by(alloc, nid, dir, fields),
-        None => Ok(None),
+    match way {
+        Way::ToTrain => {
+            let (dir, fields, nid) = three_members(value, "dir", "fields", "nid")?;
+            let (dir, nid) = two_bytes(dir, nid)?;
+            Some((fields, dir, nid))
+        }
+        Way::ToTrack => {
+            let (fields, nid) = two_members(value, "fields", "nid")?;
+            Some((fields, 0, byte_in(nid)?))
+        }
+    }
+}
+
+/// The bits, the direction and the number of a packet that is kept as bits, as of [`typed_members`].
+fn kept_members(way: Way, value: &Value) -> Option<(&Value, u8, u8)>
+    ensures some { IfSome result (λ m. SaysDirection way m.1 × (view value.now ≡ kept_tree way (view m.0.now) m.1 (plain m.2))) }
+    ensures none { (dir nid : ℕ) (x : Data) → dir < 256 → nid < 256 → view value.now ≡ kept_tree way x dir (plain nid) → result ≢ None }
+{
+    match way {
+        Way::ToTrain => {
+            let (bits, dir, nid) = three_members(value, "data", "dir", "nid")?;
+            let (dir, nid) = two_bytes(dir, nid)?;
+            Some((bits, dir, nid))
+        }
+        Way::ToTrack => {
+            let (bits, nid) = two_members(value, "data", "nid")?;
+            Some((bits, 0, byte_in(nid)?))
+        }
     }
 }
 
 /// The packet of this number and direction that is kept as bits, if there is one.
-fn kept_by(nid: u8, dir: u8, bits: Bits) -> Option<Packet>
-    ensures made { IfSome result (λ p. IsMade p × IsPacket (packet_value p)) }
-    ensures some { IfSome result (λ p. packet_value p ≡ kept nid dir bits) }
-    ensures only { IsPacket (kept nid dir bits) → option_map packet_value result ≡ Some (kept nid dir bits) }
+fn kept_by<P: AnyPacket>(nid: u8, dir: u8, bits: Bits) -> Option<P>
+    ensures made { IfSome result (λ p. (P.form p).made × IsPacketTo P.WAY (P.form p).value) }
+    ensures some { IfSome result (λ p. (P.form p).value ≡ kept nid dir bits) }
+    ensures only { IsPacketTo P.WAY (kept nid dir bits) → option_map (λ p. (P.form p).value) result ≡ Some (kept nid dir bits) }
 {
-    match Other::new(nid, dir, bits) {
-        Ok(other) => Some(Packet::Other(other)),
+    match check_other(P::WAY, nid, dir, bits.len()) {
+        Ok(()) => Some(P::of_kept(nid, dir, bits)),
         Err(_) => None,
     }
 }
 
-/// The packet of these members that is kept as bits, with a stand-in for a number that is typed by now, if there is one.
-fn kept_packet(
+/// The packet of this number and direction that is kept as these bits, if there is one.
+fn kept_in<P: AnyPacket>(
     alloc: Global,
+    nid: u8,
+    dir: u8,
     bits: &Value,
-    dir: &Value,
-    nid: &Value,
-) -> Result<Option<Packet>, AllocError>
-    ensures made { IfOk result (λ o. IfSome o (λ p. IsMade p × IsPacket (packet_value p))) }
-    ensures some { IfOk result (λ o. IfSome o (λ p. (v : PacketValue) × (packet_value p ≡ unnamed v) × IsPacketTree v (kept_tree (view bits.now) (view dir.now) (view nid.now)))) }
-    ensures only { IfOk result (λ o. (v : PacketValue) → IsPacket (unnamed v) → IsPacketTree v (kept_tree (view bits.now) (view dir.now) (view nid.now)) → option_map packet_value o ≡ Some (unnamed v)) }
+) -> Result<Option<P>, AllocError>
+    ensures made { IfOk result (λ o. IfSome o (λ p. (P.form p).made × IsPacketTo P.WAY (P.form p).value)) }
+    ensures some { IfOk result (λ o. IfSome o (λ p. (b : List Bool) × ((P.form p).value ≡ kept nid dir b) × (view bits.now ≡ bits_tree b))) }
+    ensures only { IfOk result (λ o. (b : List Bool) → IsPacketTo P.WAY (kept nid dir b) → view bits.now ≡ bits_tree b → option_map (λ p. (P.form p).value) o ≡ Some (kept nid dir b)) }
 {
-    match two_bytes(dir, nid) {
-        Some((dir, nid)) => match bits_in(alloc, bits)? {
-            Some(bits) => Ok(kept_by(stand_in(nid), dir, bits)),
-            None => Ok(None),
-        },
+    match bits_in(alloc, bits)? {
+        Some(bits) => Ok(kept_by(nid, dir, bits)),
         None => Ok(None),
     }
 }
@@ -105,22 +135,25 @@ fn kept_packet(
 static MARKER: [RowItem; 1] = [RowItem::One(Var::NID_VBCMK)];
 
 /// The packet 0 of its number.
-fn marker_by(numbers: &[u64]) -> Packet
-    requires { (n : ℕ) × (numbers.now ≡ n ∷ []) × IsTrue (admits NID_VBCMK n) }
-    ensures made { IsMade result × IsPacket (packet_value result) }
-    ensures is { (n : ℕ) → numbers.now ≡ n ∷ [] → packet_value result ≡ marker n }
+fn marker_by<P: AnyPacket>(numbers: &[u64]) -> P
+    requires way { P.WAY ≡ ToTrain }
+    requires number { (n : ℕ) × (numbers.now ≡ n ∷ []) × IsTrue (admits NID_VBCMK n) }
+    ensures made { (P.form result).made × IsPacketTo P.WAY (P.form result).value }
+    ensures is { (n : ℕ) → numbers.now ≡ n ∷ [] → (P.form result).value ≡ marker n }
 {
-    match Packet::vbc_marker(numbers[0] as u8) {
-        Ok(packet) => packet,
-        Err(_) => unreachable!(),
-    }
+    P::of_marker(numbers[0] as u8)
 }
 
 /// The packet 0 of these members, if there is one.
-fn marker_packet(alloc: Global, fields: &Value, nid: &Value) -> Result<Option<Packet>, AllocError>
-    ensures made { IfOk result (λ o. IfSome o (λ p. IsMade p × IsPacket (packet_value p))) }
-    ensures some { IfOk result (λ o. IfSome o (λ p. IsPacketTree (packet_value p) (marker_tree (view fields.now) (view nid.now)))) }
-    ensures only { IfOk result (λ o. (v : PacketValue) → IsPacket v → IsPacketTree v (marker_tree (view fields.now) (view nid.now)) → option_map packet_value o ≡ Some v) }
+fn marker_packet<P: AnyPacket>(
+    alloc: Global,
+    fields: &Value,
+    nid: &Value,
+) -> Result<Option<P>, AllocError>
+    requires { P.WAY ≡ ToTrain }
+    ensures made { IfOk result (λ o. IfSome o (λ p. (P.form p).made × IsPacketTo P.WAY (P.form p).value)) }
+    ensures some { IfOk result (λ o. IfSome o (λ p. (n : ℕ) × ((P.form p).value ≡ marker n) × IsPacketTree P.WAY (marker n) (marker_tree (view fields.now) (view nid.now)))) }
+    ensures only { IfOk result (λ o. (n : ℕ) → IsTrue (is_marker P.WAY n) → IsPacketTree P.WAY (marker n) (marker_tree (view fields.now) (view nid.now)) → option_map (λ p. (P.form p).value) o ≡ Some (marker n)) }
 {
     if !is_zero(nid) {
         return Ok(None);
@@ -131,29 +164,42 @@ fn marker_packet(alloc: Global, fields: &Value, nid: &Value) -> Result<Option<Pa
     }
 }
 
-/// The packet of a tree, if there is one, with a stand-in for a number that is kept as bits and typed by now.
-fn packet_in(alloc: Global, value: &Value) -> Result<Option<Packet>, AllocError>
-    ensures made { IfOk result (λ o. IfSome o (λ p. IsMade p × IsPacket (packet_value p))) }
-    ensures some { IfOk result (λ o. IfSome o (λ p. (v : PacketValue) × (packet_value p ≡ unnamed v) × IsPacketTree v (view value.now))) }
-    ensures only { IfOk result (λ o. (v : PacketValue) → IsPacket (unnamed v) → IsPacketTree v (view value.now) → option_map packet_value o ≡ Some (unnamed v)) }
+/// The packet 0 of a tree, if there is one: to the train alone, since to the track packet 0 has a frame.
+fn marker_in<P: AnyPacket>(alloc: Global, value: &Value) -> Result<Option<P>, AllocError>
+    ensures made { IfOk result (λ o. IfSome o (λ p. (P.form p).made × IsPacketTo P.WAY (P.form p).value)) }
+    ensures some { IfOk result (λ o. IfSome o (λ p. (n : ℕ) × ((P.form p).value ≡ marker n) × IsPacketTree P.WAY (marker n) (view value.now))) }
+    ensures only { IfOk result (λ o. (n : ℕ) → IsTrue (is_marker P.WAY n) → IsPacketTree P.WAY (marker n) (view value.now) → option_map (λ p. (P.form p).value) o ≡ Some (marker n)) }
 {
-    if let Some((dir, fields, nid)) = three_members(value, "dir", "fields", "nid") {
-        return typed_packet(alloc, dir, fields, nid);
+    match (P::WAY, two_members(value, "fields", "nid")) {
+        (Way::ToTrain, Some((fields, nid))) => marker_packet(alloc, fields, nid),
+        _ => Ok(None),
     }
-    if let Some((bits, dir, nid)) = three_members(value, "data", "dir", "nid") {
-        return kept_packet(alloc, bits, dir, nid);
+}
+
+/// The packet of a tree, if there is one, with a stand-in for a number that is kept as bits and typed by now.
+fn packet_in<P: AnyPacket>(alloc: Global, value: &Value) -> Result<Option<P>, AllocError>
+    ensures made { IfOk result (λ o. IfSome o (λ p. (P.form p).made × IsPacketTo P.WAY (P.form p).value)) }
+    ensures some { IfOk result (λ o. IfSome o (λ p. (v : PacketValue) × ((P.form p).value ≡ unnamed P.WAY v) × IsPacketTree P.WAY v (view value.now))) }
+    ensures only { IfOk result (λ o. (v : PacketValue) → IsPacketTo P.WAY (unnamed P.WAY v) → IsPacketTree P.WAY v (view value.now) → option_map (λ p. (P.form p).value) o ≡ Some (unnamed P.WAY v)) }
+{
+    let way = P::WAY;
+    if let Some((fields, dir, nid)) = typed_members(way, value) {
+        return typed_by(alloc, nid, dir, fields);
     }
-    if let Some((fields, nid)) = two_members(value, "fields", "nid") {
-        return marker_packet(alloc, fields, nid);
+    if let Some((bits, dir, nid)) = kept_members(way, value) {
+        return kept_in(alloc, stand_in(way, nid), dir, bits);
     }
-    Ok(None)
+    marker_in(alloc, value)
 }
 
 /// The packets of trees, one after another, if there are such, with stand-ins.
-pub(crate) fn packets_in(alloc: Global, value: &Value) -> Result<Option<Vec<Packet>>, AllocError>
-    ensures made { IfOk result (λ o. IfSome o (λ ps. All IsMade ps.items × All IsPacket (map packet_value ps.items))) }
-    ensures some { IfOk result (λ o. IfSome o (λ ps. (vs : List PacketValue) × (ds : Items) × (map packet_value ps.items ≡ map unnamed vs) × (view value.now ≡ array ds) × ArePacketTrees vs ds)) }
-    ensures only { IfOk result (λ o. (vs : List PacketValue) (ds : Items) → All IsPacket (map unnamed vs) → view value.now ≡ array ds → ArePacketTrees vs ds → option_map (λ ps. map packet_value ps.items) o ≡ Some (map unnamed vs)) }
+pub(crate) fn packets_in<P: AnyPacket>(
+    alloc: Global,
+    value: &Value,
+) -> Result<Option<Vec<P>>, AllocError>
+    ensures made { IfOk result (λ o. IfSome o (λ ps. All (λ p. (P.form p).made) ps.items × All (IsPacketTo P.WAY) (map (λ p. (P.form p).value) ps.items))) }
+    ensures some { IfOk result (λ o. IfSome o (λ ps. (vs : List PacketValue) × (ds : Items) × (map (λ p. (P.form p).value) ps.items ≡ map (unnamed P.WAY) vs) × (view value.now ≡ array ds) × ArePacketTrees P.WAY vs ds)) }
+    ensures only { IfOk result (λ o. (vs : List PacketValue) (ds : Items) → All (IsPacketTo P.WAY) (map (unnamed P.WAY) vs) → view value.now ≡ array ds → ArePacketTrees P.WAY vs ds → option_map (λ ps. map (λ p. (P.form p).value) ps.items) o ≡ Some (map (unnamed P.WAY) vs)) }
 {
     match value.as_array() {
         Some(list) => packets_by(alloc, list.as_slice()),
@@ -162,10 +208,10 @@ pub(crate) fn packets_in(alloc: Global, value: &Value) -> Result<Option<Vec<Pack
 }
 
 /// The same of the list.
-fn packets_by(alloc: Global, list: &[Value]) -> Result<Option<Vec<Packet>>, AllocError>
-    ensures made { IfOk result (λ o. IfSome o (λ ps. All IsMade ps.items × All IsPacket (map packet_value ps.items))) }
-    ensures some { IfOk result (λ o. IfSome o (λ ps. (vs : List PacketValue) × (map packet_value ps.items ≡ map unnamed vs) × ArePacketTrees vs (items_view list.now))) }
-    ensures only { IfOk result (λ o. (vs : List PacketValue) → All IsPacket (map unnamed vs) → ArePacketTrees vs (items_view list.now) → option_map (λ ps. map packet_value ps.items) o ≡ Some (map unnamed vs)) }
+fn packets_by<P: AnyPacket>(alloc: Global, list: &[Value]) -> Result<Option<Vec<P>>, AllocError>
+    ensures made { IfOk result (λ o. IfSome o (λ ps. All (λ p. (P.form p).made) ps.items × All (IsPacketTo P.WAY) (map (λ p. (P.form p).value) ps.items))) }
+    ensures some { IfOk result (λ o. IfSome o (λ ps. (vs : List PacketValue) × (map (λ p. (P.form p).value) ps.items ≡ map (unnamed P.WAY) vs) × ArePacketTrees P.WAY vs (items_view list.now))) }
+    ensures only { IfOk result (λ o. (vs : List PacketValue) → All (IsPacketTo P.WAY) (map (unnamed P.WAY) vs) → ArePacketTrees P.WAY vs (items_view list.now) → option_map (λ ps. map (λ p. (P.form p).value) ps.items) o ≡ Some (map (unnamed P.WAY) vs)) }
 {
     let mut packets = Vec::new(alloc);
     for value in list {
@@ -178,7 +224,7 @@ fn packets_by(alloc: Global, list: &[Value]) -> Result<Option<Vec<Packet>>, Allo
 }
 
 /// Puts a packet after the others.
-fn put(packets: &mut Vec<Packet>, packet: Packet) -> Result<(), AllocError>
+fn put<P: AnyPacket>(packets: &mut Vec<P>, packet: P) -> Result<(), AllocError>
     ensures { OnOk result (packets.new.items ≡ packets.old.items ++ packet ∷ []) }
 {
     match packets.push(packet) {

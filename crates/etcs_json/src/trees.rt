@@ -1,69 +1,90 @@
 //! The tree of an item.
 
-ghost use Rattle.std.specs.Prelude.{◌≡◌, IfOk, None, map};
+ghost use Rattle.std.specs.Prelude.{◌≡◌, IfOk, None, Some, map};
 ghost use Rattle.serde_json.specs.View.{view};
 ghost use Rattle.etcs_bits.specs.Bits.{num};
-ghost use Rattle.etcs_packets.specs.PacketValues.{kept, packet_value, variables_of};
-ghost use Rattle.etcs_radio.specs.Messages.{message_value};
-ghost use Rattle.etcs_radio.specs.Readings.{kept_of, padding_bits_of, padding_of};
+ghost use Rattle.etcs_packets.specs.PacketValues as values;
+ghost use Rattle.etcs_packets.specs.PacketValues.{variables_of};
+ghost use Rattle.etcs_messages.specs.Messages.{message_value};
+ghost use Rattle.etcs_messages.specs.Readings.{kept_of, padding_bits_of, padding_of};
 ghost use Rattle.etcs_telegram.specs.Telegrams.{telegram_value};
 ghost use Rattle.etcs_text.specs.Entries.{entry_value};
-ghost use Rattle.etcs_text.specs.Show.{kind_word};
+ghost use Rattle.etcs_text.specs.Show.{kind_word, way_word};
 ghost use Rattle.etcs_text.specs.Trees.{bits_tree, json_tree, message_tree, packet_tree, packets_tree, pairs_tree, telegram_tree};
-ghost use Rattle.etcs_json.specs.TreeParts.{IsSent, typed_members};
+ghost use Rattle.etcs_json.specs.TreeParts.{member_dir, typed_members};
 
 use crate::pairs::{SentList, bits_json, pairs_json, variables_json};
 use etcs_bits::BitSlice;
-use etcs_packets::parts::{dir, send};
-use etcs_packets::{Other, Packet};
-use etcs_radio::Message;
+use etcs_messages::{Head, MessageOf, Own};
+use etcs_packets::parts::AnyPacket;
+use etcs_tables::Way;
 use etcs_telegram::{Size, Telegram};
 use etcs_text::Entry;
 use serde_json::{Value, json};
 use std::alloc::{AllocError, Global};
 
 /// The variables of a packet, each as a pair.
-fn fields_json(alloc: Global, packet: &Packet) -> Result<Value, AllocError>
-    ensures { IfOk result (λ v. view v ≡ pairs_tree (variables_of (packet_value packet.now))) }
+fn fields_json<P: AnyPacket>(alloc: Global, packet: &P) -> Result<Value, AllocError>
+    ensures { IfOk result (λ v. view v ≡ pairs_tree (variables_of (P.form packet.now).value)) }
 {
     let mut sent = SentList::new(alloc);
-    send(packet, &mut sent)?;
+    packet.send_variables(&mut sent)?;
     pairs_json(alloc, sent.as_slice())
 }
 
-/// A packet that isn't kept as bits. Packet 0 has no Q_DIR.
-fn sent_json(alloc: Global, packet: &Packet) -> Result<Value, AllocError>
-    requires { IsSent (packet_value packet.now) }
-    ensures { IfOk result (λ v. view v ≡ packet_tree (packet_value packet.now)) }
+/// The direction of a packet, where it has a member: to the train packet 0 has none, and to the track no packet has one.
+fn member_dir<P: AnyPacket>(packet: &P) -> Option<u8>
+    ensures { result ≡ member_dir P.WAY (P.form packet.now).value }
 {
-    let fields = fields_json(alloc, packet)?;
-    match dir(packet) {
-        Some(dir) => json!(in alloc; {"dir": dir, "fields": fields, "nid": packet.nid()}),
-        None => json!(in alloc; {"fields": fields, "nid": 0u8}),
+    match P::WAY {
+        Way::ToTrain => packet.direction(),
+        Way::ToTrack => None,
     }
 }
 
-/// A packet that is kept as bits.
-fn kept_json(alloc: Global, packet: &Other) -> Result<Value, AllocError>
-    ensures { IfOk result (λ v. view v ≡ packet_tree (kept packet.now.nid packet.now.dir packet.now.body)) }
+/// A packet that isn't kept as bits.
+fn sent_json<P: AnyPacket>(alloc: Global, packet: &P) -> Result<Value, AllocError>
+    requires { values.kept_of (P.form packet.now).value ≡ None }
+    ensures { IfOk result (λ v. view v ≡ packet_tree P.WAY (P.form packet.now).value) }
 {
-    let data = bits_json(alloc, &packet.body())?;
-    json!(in alloc; {"data": data, "dir": packet.dir(), "nid": packet.nid()})
+    let fields = fields_json(alloc, packet)?;
+    let nid = packet.number_of();
+    match member_dir(packet) {
+        Some(dir) => json!(in alloc; {"dir": dir, "fields": fields, "nid": nid}),
+        None => json!(in alloc; {"fields": fields, "nid": nid}),
+    }
+}
+
+/// A packet that is kept as these bits.
+fn kept_json<P: AnyPacket>(
+    alloc: Global,
+    packet: &P,
+    bits: &BitSlice<'_>,
+) -> Result<Value, AllocError>
+    requires { values.kept_of (P.form packet.now).value ≡ Some bits.now }
+    ensures { IfOk result (λ v. view v ≡ packet_tree P.WAY (P.form packet.now).value) }
+{
+    let data = bits_json(alloc, bits)?;
+    let nid = packet.number_of();
+    match member_dir(packet) {
+        Some(dir) => json!(in alloc; {"data": data, "dir": dir, "nid": nid}),
+        None => json!(in alloc; {"data": data, "nid": nid}),
+    }
 }
 
 /// A packet.
-fn packet_json(alloc: Global, packet: &Packet) -> Result<Value, AllocError>
-    ensures { IfOk result (λ v. view v ≡ packet_tree (packet_value packet.now)) }
+fn packet_json<P: AnyPacket>(alloc: Global, packet: &P) -> Result<Value, AllocError>
+    ensures { IfOk result (λ v. view v ≡ packet_tree P.WAY (P.form packet.now).value) }
 {
-    match packet {
-        Packet::Other(kept) => kept_json(alloc, kept),
-        _ => sent_json(alloc, packet),
+    match packet.kept_bits() {
+        Some(bits) => kept_json(alloc, packet, &bits),
+        None => sent_json(alloc, packet),
     }
 }
 
 /// Packets in their order.
-fn packets_json(alloc: Global, packets: &[Packet]) -> Result<Value, AllocError>
-    ensures { IfOk result (λ v. view v ≡ packets_tree (map packet_value packets.now)) }
+fn packets_json<P: AnyPacket>(alloc: Global, packets: &[P]) -> Result<Value, AllocError>
+    ensures { IfOk result (λ v. view v ≡ packets_tree P.WAY (map (λ p. (P.form p).value) packets.now)) }
 {
     let mut list = Vec::new(alloc);
     for packet in packets {
@@ -93,9 +114,22 @@ fn telegram_json(alloc: Global, telegram: &Telegram) -> Result<Value, AllocError
     json!(in alloc; {"fill": fill, "header": header, "kind": kind, "packets": packets})
 }
 
+/// The kind of the messages of a way.
+pub(crate) fn way_word(way: Way) -> &'static str
+    ensures { result.now ≡ way_word way }
+{
+    match way {
+        Way::ToTrain => "radio",
+        Way::ToTrack => "train",
+    }
+}
+
 /// The PADDING of a message.
-fn padding_json(alloc: Global, message: &Message) -> Result<Value, AllocError>
-    ensures { IfOk result (λ v. view v ≡ bits_tree (num (padding_bits_of message.now) (padding_of message.now))) }
+fn padding_json<H: Head, B: Own<Front = H>>(
+    alloc: Global,
+    message: &MessageOf<H, B>,
+) -> Result<Value, AllocError>
+    ensures { IfOk result (λ v. view v ≡ bits_tree (num (padding_bits_of H.Packet.WAY B.own H.Packet.form message.now) (padding_of message.now))) }
 {
     let (count, number) = message.padding();
     let byte = [number];
@@ -108,21 +142,25 @@ fn padding_json(alloc: Global, message: &Message) -> Result<Value, AllocError>
 /// The members of a typed message.
 fn typed_object(
     alloc: Global,
+    way: Way,
     fields: Value,
     header: Value,
     nid: u8,
     packets: Value,
     padding: Value,
 ) -> Result<Value, AllocError>
-    ensures { IfOk result (λ v. view v ≡ typed_members (view fields) (view header) nid (view packets) (view padding)) }
+    ensures { IfOk result (λ v. view v ≡ typed_members way (view fields) (view header) nid (view packets) (view padding)) }
 {
-    json!(in alloc; {"fields": fields, "header": header, "kind": "radio", "nid": nid, "packets": packets, "padding": padding})
+    json!(in alloc; {"fields": fields, "header": header, "kind": way_word(way), "nid": nid, "packets": packets, "padding": padding})
 }
 
 /// A typed message.
-fn typed_json(alloc: Global, message: &Message) -> Result<Value, AllocError>
+fn typed_json<H: Head, B: Own<Front = H>>(
+    alloc: Global,
+    message: &MessageOf<H, B>,
+) -> Result<Value, AllocError>
     requires { kept_of message.now ≡ None }
-    ensures { IfOk result (λ v. view v ≡ message_tree (message_value message.now)) }
+    ensures { IfOk result (λ v. view v ≡ message_tree H.Packet.WAY (message_value H.Packet.WAY H.head B.own H.Packet.form message.now)) }
 {
     let (Some(head), Some(body)) = (message.head(), message.body()) else {
         unreachable!()
@@ -131,31 +169,43 @@ fn typed_json(alloc: Global, message: &Message) -> Result<Value, AllocError>
     let header = variables_json(alloc, head)?;
     let packets = packets_json(alloc, message.packets())?;
     let padding = padding_json(alloc, message)?;
-    typed_object(alloc, fields, header, message.nid(), packets, padding)
+    typed_object(
+        alloc,
+        H::Packet::WAY,
+        fields,
+        header,
+        message.nid(),
+        packets,
+        padding,
+    )
 }
 
 /// A message.
-fn message_json(alloc: Global, message: &Message) -> Result<Value, AllocError>
-    ensures { IfOk result (λ v. view v ≡ message_tree (message_value message.now)) }
+fn message_json<H: Head, B: Own<Front = H>>(
+    alloc: Global,
+    message: &MessageOf<H, B>,
+) -> Result<Value, AllocError>
+    ensures { IfOk result (λ v. view v ≡ message_tree H.Packet.WAY (message_value H.Packet.WAY H.head B.own H.Packet.form message.now)) }
 {
     let Some(bits) = message.kept_bits() else {
         return typed_json(alloc, message);
     };
     let data = bits_json(alloc, &bits)?;
-    json!(in alloc; {"data": data, "kind": "radio", "nid": message.nid()})
+    json!(in alloc; {"data": data, "kind": way_word(H::Packet::WAY), "nid": message.nid()})
 }
 
 /// The JSON tree of an item, an object.
 ///
 /// - Of a telegram: `fill`, a text of the digits 0 and 1; `header`, its ten variables; `kind`, `"short"` or `"long"`;
 ///   `packets`, a list.
-/// - Of a typed message: `fields`, the variables of its number; `header`, T_TRAIN, M_ACK and NID_LRBG; `kind`,
-///   `"radio"`; `nid`, its number; `packets`; `padding`, a text of the digits 0 and 1.
+/// - Of a typed message: `fields`, the variables of its number; `header`, those after L_MESSAGE: T_TRAIN, M_ACK and
+///   NID_LRBG to the train, T_TRAIN and NID_ENGINE to the track; `kind`, `"radio"` to the train and `"train"` to the
+///   track; `nid`, its number; `packets`; `padding`, a text of the digits 0 and 1.
 /// - Of a message that is kept as bits: `data`, the bits after L_MESSAGE as digits; `kind` and `nid`.
 ///
-/// A packet is an object of `dir`, `fields` and `nid`, packet 0 of `fields` and `nid` alone, and a packet that is kept
-/// as bits of `data`, `dir` and `nid`. Variables are a list of pairs, each a name and a number; the number of
-/// NID_RADIO is a text of 16 hexadecimal digits in lower case.
+/// A packet is an object of `dir`, `fields` and `nid`, and one that is kept as bits of `data`, `dir` and `nid`. Packet 0
+/// to the train has no `dir`, nor has any packet to the track. Variables are a list of pairs, each a name and a number;
+/// the number of NID_RADIO is a text of 16 hexadecimal digits in lower case.
 ///
 /// # Errors
 ///
@@ -166,5 +216,6 @@ pub fn to_value(alloc: Global, entry: &Entry) -> Result<Value, AllocError>
     match entry {
         Entry::Telegram(telegram) => telegram_json(alloc, telegram),
         Entry::Message(message) => message_json(alloc, message),
+        Entry::Train(message) => message_json(alloc, message),
     }
 }

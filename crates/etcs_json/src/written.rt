@@ -24,7 +24,7 @@ use etcs_text::{Entry, Kind, json_line};
 use std::alloc::{AllocError, Global};
 
 /// An item of the kind that `json_line` writes as this line, without its LF. `None` says nothing: the line may still
-/// be JSON of an item, as with blanks between its parts.
+/// be JSON of an item, as with blanks between its parts, or of a message to the track, which is never guessed.
 ///
 /// # Errors
 ///
@@ -72,6 +72,7 @@ fn guessed(alloc: Global, kind: Kind, line: &[u8]) -> Result<Option<Entry>, Allo
         Kind::Long => telegram_guessed(alloc, Size::Long, line),
         Kind::Short => telegram_guessed(alloc, Size::Short, line),
         Kind::Radio => message_guessed(alloc, line),
+        Kind::Train => Ok(None),
     }
 }
 

@@ -8,7 +8,7 @@ use Rattle.etcs_packets.specs.PacketValues.{packet_value}
 use Rattle.etcs_packets.specs.PacketReadings.{packets_reading}
 use Rattle.etcs_radio.specs.Readings.{body_of}
 use Rattle.etcs_telegram.specs.Telegrams.{telegram_value}
-use Rattle.etcs_json.proofs.CarriedSpellings.{message_renamed, message_room, message_stays, telegram_renamed, telegram_room}
+use Rattle.etcs_json.proofs.CarriedSpellings.{message_renamed, message_room, message_stays, telegram_renamed, telegram_room, track_not}
 use Rattle.etcs_json.proofs.carried.rename_item.Goals as goal
 
 pub rename-requires-clause-room : goal.rename-requires-clause-room
@@ -48,7 +48,7 @@ returns-in-Telegram c =
     let new = bits c.rename.new.bytes in
     let (r, x, is) = rw c.in-Telegram.is at c.requires in
     let long : length new ≡ length old = length-bits c.rename.new.bytes ∙ ap (λ (n : ℕ). 8 * n) c.rename.ensures.length ∙ sym (length-bits c.args.bytes.now) in
-    λ kind o s.
+    λ kind o other s.
     (let s' = rw c.in-Telegram.is at s in
     telegram_renamed (telegram_value t) r (items_view c.args.trees.now) old new x is long
     (λ vs front behind values. c.rename.ensures.bits vs front behind (ap (map packet_value) c.packets.ensures ∙ values)) kind o s')
@@ -60,7 +60,7 @@ returns-in-Some c =
     let new = bits c.rename-in-Some.new.bytes in
     let (r, x, is) = rw c.in-Message.is at c.requires in
     let found : Some c.in-Some.body.now ≡ body_of m = rw c.in-Some.is at c.body.ensures in
-    λ kind o s.
+    λ kind o other s.
     (let s' = rw c.in-Message.is at s in
     message_renamed m c.in-Some.body.now r (items_view c.args.trees.now) (75 + c.bits.result) c.packets-in-Some.result.now old new x is found (ap (λ (n : ℕ). 75 + n) c.bits.ensures.bits) c.packets-in-Some.ensures c.rename-in-Some.ensures.bits kind o s')
 
@@ -69,4 +69,9 @@ returns-in_default c =
     let m = c.in-Message.message in
     let (r, x, is) = rw c.in-Message.is at c.requires in
     let found : None ≡ body_of m = rw c.in_default.is at c.body.ensures in
-    λ kind o s. (let s' = rw c.in-Message.is at s in message_stays m r (items_view c.args.trees.now) (bits c.args.bytes.now) x is found kind o s')
+    λ kind o other s. (let s' = rw c.in-Message.is at s in message_stays m r (items_view c.args.trees.now) (bits c.args.bytes.now) x is found kind o s')
+
+pub returns-in-Train : goal.returns-in-Train
+returns-in-Train c = λ kind o other s.
+    (let s' = rw c.in-Train.is at s in
+    absurd (track_not kind _ (items_view c.args.trees.now) o other s'))

@@ -1,14 +1,21 @@
+use Rattle.std.proofs.Common.{rules}
 use Rattle.std.proofs.lemmas.Result.{IfOk-weaker}
 use Rattle.serde_json.specs.View.{items_view, view}
 use Rattle.etcs_text.specs.Entries.{entry_value}
-use Rattle.etcs_json.specs.Loose.{StandsFor, packets_of}
-use Rattle.etcs_json.proofs.CarriedSpellings.{loose_packets, says_itself}
+use Rattle.etcs_json.specs.Loose.{StandsFor}
+use Rattle.etcs_json.proofs.CarriedSpellings.{says_itself, track_named, train_named}
 use Rattle.etcs_json.proofs.carried.stored.Goals as goal
+
+pub returns-then-eq-clause-ok : goal.returns-then-eq-clause-ok
+returns-then-eq-clause-ok c =
+    let (o, is, loose, tree) = c.requires in
+    says_itself c.args.kind (view c.args.value.now) (entry_value c.args.entry) o is loose tree (track_named c.args.kind o loose (search rules))
 
 pub returns-then-are_named-clause-ok : goal.returns-then-are_named-clause-ok
 returns-then-are_named-clause-ok c =
     let (o, is, loose, tree) = c.requires in
-    says_itself c.args.kind (view c.args.value.now) (entry_value c.args.entry) o is loose tree (c.are_named.ensures c.if-are_named.true (packets_of o) (loose_packets c.args.kind o loose) (c.packet_trees-trees.ensures o tree))
+    says_itself c.args.kind (view c.args.value.now) (entry_value c.args.entry) o is loose tree
+    (train_named c.args.kind o (items_view c.packet_trees-trees.result.now) loose (search rules) (c.packet_trees-trees.ensures o tree) (c.are_named.ensures c.if-are_named.true))
 
 pub returns-else-are_named-clause-ok : goal.returns-else-are_named-clause-ok
 returns-else-are_named-clause-ok c =

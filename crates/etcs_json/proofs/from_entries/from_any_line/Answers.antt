@@ -9,6 +9,7 @@ use Rattle.etcs_text.specs.Entries.{entry_value}
 use Rattle.etcs_json.specs.JsonLines.{SaysItem}
 use Rattle.etcs_json.specs.Loose.{TreeSays}
 use Rattle.etcs_json.specs.TreeReading.{IsTreeOf}
+use Rattle.etcs_json.proofs.FittingTrees.{item_fits}
 use Rattle.etcs_json.proofs.from_entries.from_any_line.Goals as goal
 
 -- what a line's tree says
@@ -16,16 +17,25 @@ line_says : (kind : Kind) (line : List ℕ) (d : Data) (E : Type 0) (res : Resul
 line_says kind line d E (Err x) utf8 is says = tt
 line_says kind line d E (Ok e) utf8 is says = (d, utf8, is, says)
 
-pub returns-in-Ok-clause-ok : goal.returns-in-Ok-clause-ok
-returns-in-Ok-clause-ok c =
-    line_says c.args.kind c.args.line.now (view c.in-Ok.value) _ c.from_value.result c.in-Ok.ensures.ok.0 c.in-Ok.ensures.ok.1 c.from_value.ensures.ok
+pub returns-in-Ok-Some-clause-ok : goal.returns-in-Ok-Some-clause-ok
+returns-in-Ok-Some-clause-ok c =
+    let found = rw c.in-Ok-Some.field-0-is at c.in-Ok-Some.ensures.some in
+    line_says c.args.kind c.args.line.now (view c.in-Ok-Some.value) _ c.from_value.result found.0 found.1 c.from_value.ensures.ok
 
-pub returns-in-Ok-clause-refused : goal.returns-in-Ok-clause-refused
-returns-in-Ok-clause-refused c = λ i x refused.
-    (view c.in-Ok.value, c.in-Ok.ensures.ok.0, c.in-Ok.ensures.ok.1, c.from_value.ensures.refused i x refused)
+pub returns-in-Ok-Some-clause-refused : goal.returns-in-Ok-Some-clause-refused
+returns-in-Ok-Some-clause-refused c = λ i x refused.
+    (let found = rw c.in-Ok-Some.field-0-is at c.in-Ok-Some.ensures.some in
+    (view c.in-Ok-Some.value, found.0, found.1, c.from_value.ensures.refused i x refused))
 
-pub returns-in-Ok-clause-shape : goal.returns-in-Ok-clause-shape
-returns-in-Ok-clause-shape c = λ shape o loose (d, utf8, is, tree).
-    (let both : ◌≡◌ {A = Option Data} (Some d) (Some (view c.in-Ok.value)) = sym is ∙ c.in-Ok.ensures.ok.1 in
-    let same : d ≡ view c.in-Ok.value = cc in
+pub returns-in-Ok-Some-clause-shape : goal.returns-in-Ok-Some-clause-shape
+returns-in-Ok-Some-clause-shape c = λ shape o loose (d, utf8, is, tree).
+    (let found = rw c.in-Ok-Some.field-0-is at c.in-Ok-Some.ensures.some in
+    let both : ◌≡◌ {A = Option Data} (Some d) (Some (view c.in-Ok-Some.value)) = sym is ∙ found.1 in
+    let same : d ≡ view c.in-Ok-Some.value = cc in
     c.from_value.ensures.shape shape o loose (subst (λ (x : Data). IsTreeOf o x) same tree))
+
+-- an item's tree would have been made
+pub returns-in-Ok-None-clause-shape : goal.returns-in-Ok-None-clause-shape
+returns-in-Ok-None-clause-shape c = λ shape o loose (d, utf8, is, tree).
+    (let none = rw c.in-Ok-None.field-0-is at c.in-Ok-None.ensures.none in
+    none d utf8 is (item_fits c.args.kind o d loose tree))

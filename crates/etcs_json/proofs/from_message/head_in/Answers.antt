@@ -1,28 +1,30 @@
 use Rattle.std.proofs.Common.{ap, Some}
 use Rattle.serde_json.specs.View.{view}
-use Rattle.etcs_radio.proofs.Fronts.{as_row}
+use Rattle.etcs_tables.specs.Layouts.{layout}
 use Rattle.etcs_json.proofs.TelegramTrees.{some_at, only_at, none_at}
-use Rattle.etcs_json.proofs.MessageTrees.{head_row, head_some, head_numbers, head_only, head_same}
+use Rattle.etcs_json.proofs.MessageTrees.{head_fields, head_some, head_numbers, head_only, head_none}
 use Rattle.etcs_json.proofs.from_message.head_in.Goals as goal
 
-pub head_of-requires : goal.head_of-requires
-head_of-requires c =
-    let some = some_at _ c.in_ok-numbers.field-0 c.in-Some.numbers (λ f. f.items) (as_row head_row) (view c.args.value.now) c.in-Some.is c.in_ok-numbers.ensures.some in
-    head_numbers (view c.args.value.now) c.in-Some.numbers.items c.as_slice.result.now some c.as_slice.ensures.value
+pub of_numbers-requires : goal.of_numbers-requires
+of_numbers-requires g c =
+    let row = layout c.head_items-items.result.now in
+    let some = some_at _ c.in_ok-numbers.field-0 c.in-Some.numbers (λ f. f.items) row (view c.args.value.now) c.in-Some.is c.in_ok-numbers.ensures.some in
+    head_numbers g.H.Packet.AnyPacket.WAY row (view c.args.value.now) c.in-Some.numbers.items c.as_slice.result.now (head_fields g.H.Packet.AnyPacket.WAY c.head_items-items.result.now (rw c.WAY.ensures at c.head_items-items.ensures)) some c.as_slice.ensures.value
 
 pub returns-in-Some-clause-some : goal.returns-in-Some-clause-some
-returns-in-Some-clause-some c =
-    let some = some_at _ c.in_ok-numbers.field-0 c.in-Some.numbers (λ f. f.items) (as_row head_row) (view c.args.value.now) c.in-Some.is c.in_ok-numbers.ensures.some in
-    head_some (view c.args.value.now) c.in-Some.numbers.items c.as_slice.result.now c.head_of.result some c.as_slice.ensures.value c.head_of.ensures
+returns-in-Some-clause-some g c =
+    let row = layout c.head_items-items.result.now in
+    let some = some_at _ c.in_ok-numbers.field-0 c.in-Some.numbers (λ f. f.items) row (view c.args.value.now) c.in-Some.is c.in_ok-numbers.ensures.some in
+    head_some g.H.Packet.AnyPacket.WAY g.H.Head.head g.met.H.Head.laws row (head_fields g.H.Packet.AnyPacket.WAY c.head_items-items.result.now (rw c.WAY.ensures at c.head_items-items.ensures)) (view c.args.value.now) c.in-Some.numbers.items c.as_slice.result.now c.of_numbers.result some c.as_slice.ensures.value c.of_numbers.ensures
 
 pub returns-in-Some-clause-only : goal.returns-in-Some-clause-only
-returns-in-Some-clause-only c = λ h hs a is t.
-    (let only = only_at _ c.in_ok-numbers.field-0 c.in-Some.numbers (λ f. f.items) (as_row head_row) (view c.args.value.now) c.in-Some.is c.in_ok-numbers.ensures.only in
-    let two = head_only (view c.args.value.now) (Some c.in-Some.numbers.items) h hs only a is t in
-    ap Some (head_same c.in-Some.numbers.items c.as_slice.result.now c.head_of.result h two c.as_slice.ensures.value c.head_of.ensures))
+returns-in-Some-clause-only g c = λ r hs own is t.
+    (let row = layout c.head_items-items.result.now in
+    let only = only_at _ c.in_ok-numbers.field-0 c.in-Some.numbers (λ f. f.items) row (view c.args.value.now) c.in-Some.is c.in_ok-numbers.ensures.only in
+    ap Some (head_only g.H.Packet.AnyPacket.WAY g.H.Head.head g.met.H.Head.laws row (head_fields g.H.Packet.AnyPacket.WAY c.head_items-items.result.now (rw c.WAY.ensures at c.head_items-items.ensures)) (view c.args.value.now) c.in-Some.numbers.items c.as_slice.result.now c.of_numbers.result r hs only c.as_slice.ensures.value c.of_numbers.ensures own is t))
 
 pub returns-in-None-clause-only : goal.returns-in-None-clause-only
-returns-in-None-clause-only c = λ h hs a is t.
-    (let only = none_at _ c.in_ok-numbers.field-0 (λ f. f.items) (as_row head_row) (view c.args.value.now) c.in-None.is c.in_ok-numbers.ensures.only in
-    let two = head_only (view c.args.value.now) _ h hs only a is t in
-    absurd cc)
+returns-in-None-clause-only g c = λ r hs own is t.
+    (let row = layout c.head_items-items.result.now in
+    let only = none_at _ c.in_ok-numbers.field-0 (λ f. f.items) row (view c.args.value.now) c.in-None.is c.in_ok-numbers.ensures.only in
+    absurd (head_none g.H.Packet.AnyPacket.WAY g.H.Head.head g.met.H.Head.laws row (head_fields g.H.Packet.AnyPacket.WAY c.head_items-items.result.now (rw c.WAY.ensures at c.head_items-items.ensures)) (view c.args.value.now) r hs only own is t))

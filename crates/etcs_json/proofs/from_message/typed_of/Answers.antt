@@ -1,16 +1,29 @@
-use Rattle.std.proofs.Common.{map}
 use Rattle.serde_json.specs.View.{view}
-use Rattle.etcs_packets.specs.PacketValues.{packet_value}
-use Rattle.etcs_radio.specs.Bodies.{body_reading, nid_of_body}
-use Rattle.etcs_json.proofs.MessageTrees.{typed_message_some}
+use Rattle.std.proofs.Common.{◌≡◌, map, sym, ◌∙◌, Some}
+use Rattle.std.specs.Prelude.{IsSome}
+use Rattle.etcs_messages.specs.Messages.{values_of}
+use Rattle.etcs_json.specs.Loose.{unnamed}
+use Rattle.etcs_json.proofs.MessageTrees.{typed_message_some, typed_message_only, one_value}
 use Rattle.etcs_json.proofs.from_message.typed_of.Goals as goal
 
 pub returns-clause-some : goal.returns-clause-some
-returns-clause-some c =
+returns-clause-some g c =
     let own = rw c.in-Some-2.is at c.in_ok-body.ensures.own in
     let fields = rw c.in-Some-2.is at c.in_ok-body.ensures.some in
     let header = rw c.in-Some-3.is at c.in_ok-head.ensures.some in
     let packets = rw c.in-Some-4.is at c.in_ok-packets.ensures.some in
     let padding = rw c.in-Some-5.is at c.in_ok-padding.ensures.some in
-    let body = c.in-Some-2.body in
-    typed_message_some (view c.args.fields.now) (view c.args.header.now) (view c.args.nid.now) (view c.args.packets.now) (view c.args.padding.now) c.typed_by.result c.in-Some.nid (nid_of_body body) c.in-Some-3.head (body_reading body) (map packet_value c.in-Some-4.packets.items) c.in-Some-5.padding own.1 c.in-Some.ensures.some fields header packets padding c.typed_by.ensures.some
+    typed_message_some g.H.Packet.AnyPacket.WAY g.H.Head.head g.B.Own.own g.H.Packet.AnyPacket.form (view c.args.fields.now) (view c.args.header.now) (view c.args.nid.now) (view c.args.packets.now) (view c.args.padding.now) c.typed_by.result c.in-Some.nid c.in-Some-3.head c.in-Some-2.body c.in-Some-4.packets.items c.in-Some-5.padding own c.in-Some.ensures.some fields header packets padding c.typed_by.ensures.some
+
+pub returns-clause-only : goal.returns-clause-only
+returns-clause-only g c =
+    let way = g.H.Packet.AnyPacket.WAY in
+    let form = g.H.Packet.AnyPacket.form in
+    let own = rw c.in-Some-2.is at c.in_ok-body.ensures.own in
+    typed_message_only way g.H.Head.head g.B.Own.own form (view c.args.fields.now) (view c.args.header.now) (view c.args.nid.now) (view c.args.packets.now) (view c.args.padding.now) c.in-Some.nid c.in-Some-3.head c.in-Some-2.body c.in-Some-4.packets.items c.in-Some-5.padding (IsSome c.typed_by.result)
+    c.in-Some.ensures.some own.1
+    (λ row r fs found reads is t. one_value c.in_ok-body.field-0 c.in-Some-2.body g.B.Own.own.reading r c.in-Some-2.is (c.in_ok-body.ensures.only row r fs found reads is t))
+    (λ r hs reads is t. one_value c.in_ok-head.field-0 c.in-Some-3.head g.H.Head.head.reading r c.in-Some-3.is (c.in_ok-head.ensures.only r hs reads is t))
+    (λ vs ds all is t. one_value c.in_ok-packets.field-0 c.in-Some-4.packets (λ ps. values_of form ps.items) (map (unnamed way) vs) c.in-Some-4.is (c.in_ok-packets.ensures.only vs ds all is t))
+    (λ q is. (let two : Some c.in-Some-5.padding ≡ Some q = sym c.in-Some-5.is ∙ c.in_ok-padding.ensures.only q is in cc))
+    c.typed_by.ensures.only

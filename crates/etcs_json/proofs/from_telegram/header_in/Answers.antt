@@ -1,7 +1,7 @@
 use Rattle.std.proofs.Common.{ap, Some}
 use Rattle.serde_json.specs.View.{view}
 use Rattle.etcs_telegram.specs.Telegrams.{header_row}
-use Rattle.etcs_radio.proofs.Fronts.{as_row}
+use Rattle.etcs_messages.proofs.Fronts.{as_row}
 use Rattle.etcs_json.proofs.TelegramTrees.{some_at, only_at, none_at, header_some, header_numbers, header_only, header_same}
 use Rattle.etcs_json.proofs.from_telegram.header_in.Goals as goal
 

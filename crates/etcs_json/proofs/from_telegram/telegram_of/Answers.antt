@@ -1,5 +1,6 @@
 use Rattle.std.proofs.Common.{◌≡◌, map, sym, ◌∙◌, Some}
 use Rattle.serde_json.specs.View.{view}
+use Rattle.etcs_tables.specs.declared.row.Way.TheVariants.{ToTrain}
 use Rattle.etcs_packets.specs.PacketValues.{packet_value}
 use Rattle.etcs_json.specs.Loose.{unnamed, unnamed_telegram}
 use Rattle.etcs_json.proofs.TelegramTrees.{telegram_says, telegram_some, values_at}
@@ -20,7 +21,7 @@ returns-clause-some c =
 pub returns-clause-only : goal.returns-clause-only
 returns-clause-only c = λ t r s h tree.
     (let says = telegram_says t _ _ _ _ tree in
-    let packets = values_at _ c.in_ok-packets.field-0 c.in-Some-2.packets (λ ps. map packet_value ps.items) (map unnamed t.packets) c.in-Some-2.is (c.in_ok-packets.ensures.only t.packets says.trees h.packets_hold says.packets_is says.packets) in
+    let packets = values_at _ c.in_ok-packets.field-0 c.in-Some-2.packets (λ ps. map packet_value ps.items) (map (unnamed ToTrain) t.packets) c.in-Some-2.is (c.in_ok-packets.ensures.only t.packets says.trees h.packets_hold says.packets_is says.packets) in
     let two = c.in_ok-fill.ensures.only t.fill says.fill_is in
     let is = c.in-Some-3.is in
     let both : Some t.fill ≡ Some c.in-Some-3.fill = sym two ∙ is in

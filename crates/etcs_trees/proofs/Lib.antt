@@ -1,0 +1,4 @@
+pub mod Reading
+pub mod Outcomes
+pub mod ListsFit
+pub mod ObjectsFit

@@ -1,0 +1,172 @@
+use Rattle.std.proofs.Common.{◌≡◌, ◌-◌, ◌<◌, [], ◌∷◌, length, Some, None, refl, ap, ap₂, ◌∙◌, arith}
+use Rattle.std.proofs.lemmas.Result.{on_ok_weaker, on_err_weaker}
+use Rattle.json.specs.Token.{Token}
+use Rattle.json.specs.Json.{parse_map, after_end_array, read_key, items, members, value}
+use Rattle.json.specs.Reads.{token_of}
+use Rattle.json.proofs.Grammar.{value_is, value-begin_array, value-begin_object, read_key-shorter}
+use Rattle.serde_json.specs.Data.{null, boolean, number, string, array, object, item, no_items, no_members, put}
+use Rattle.serde_json.specs.Read.{of_json, converted}
+use Rattle.serde_json.specs.View.{number_view}
+use Rattle.etcs_trees.specs.Skips.{SkipsItems, SkipsMembers, NoItems, NoMembers}
+use Rattle.etcs_trees.proofs.Reading.{converted-array, converted-object, item_read, item_refused, items_over, member_read, member_refused, key_refused, members_over, none_before, parse_map-twice}
+use Rattle.etcs_trees.proofs.Outcomes.{OnErr-always}
+use Rattle.etcs_trees.proofs.skip.+skip.Goals as goal
+
+pub skip-returns-in_err-token-clause-err : goal.skip-returns-in_err-token-clause-err
+skip-returns-in_err-token-clause-err t c =
+    let empty : c.args.reader.now ≡ [] = grind arith in
+    OnErr-always c.from_residual.result (ap (converted of_json) (ap (value c.args.depth) empty ∙ value_is c.args.depth []))
+
+pub skip-returns-in-String-clause-ok : goal.skip-returns-in-String-clause-ok
+skip-returns-in-String-clause-ok t c =
+    let first : c.args.reader.now ≡ token_of c.in_ok-token.token ∷ c.next.new.self = grind arith in
+    let is : c.args.reader.now ≡ Token.string c.in-String.field-0.now ∷ c.next.new.self = grind (arith, first) in
+    (string c.in-String.field-0.now, ap (converted of_json) (ap (value c.args.depth) is ∙ value_is c.args.depth _))
+
+pub skip-returns-in-Bool-clause-ok : goal.skip-returns-in-Bool-clause-ok
+skip-returns-in-Bool-clause-ok t c =
+    let first : c.args.reader.now ≡ token_of c.in_ok-token.token ∷ c.next.new.self = grind arith in
+    let is : c.args.reader.now ≡ Token.boolean c.in-Bool.field-0 ∷ c.next.new.self = grind (arith, first) in
+    (boolean c.in-Bool.field-0, ap (converted of_json) (ap (value c.args.depth) is ∙ value_is c.args.depth _))
+
+pub skip-returns-in-Null-clause-ok : goal.skip-returns-in-Null-clause-ok
+skip-returns-in-Null-clause-ok t c =
+    let first : c.args.reader.now ≡ token_of c.in_ok-token.token ∷ c.next.new.self = grind arith in
+    let is : c.args.reader.now ≡ Token.null ∷ c.next.new.self = grind (arith, first) in
+    (null, ap (converted of_json) (ap (value c.args.depth) is ∙ value_is c.args.depth _))
+
+pub skip-returns-in-Some-clause-ok : goal.skip-returns-in-Some-clause-ok
+skip-returns-in-Some-clause-ok t c =
+    let first : c.args.reader.now ≡ token_of c.in_ok-token.token ∷ c.next.new.self = grind arith in
+    let is : c.args.reader.now ≡ Token.number c.in-Number.text.now ∷ c.next.new.self = grind (arith, first) in
+    (number (number_view c.in-Some.field-0), ap (converted of_json) (ap (value c.args.depth) is ∙ value_is c.args.depth _) ∙ rw (← c.in-Some.ensures))
+
+pub skip-returns-in-None-clause-err : goal.skip-returns-in-None-clause-err
+skip-returns-in-None-clause-err t c =
+    let first : c.args.reader.now ≡ token_of c.in_ok-token.token ∷ c.next.new.self = grind arith in
+    let is : c.args.reader.now ≡ Token.number c.in-Number.text.now ∷ c.next.new.self = grind (arith, first) in
+    ap (converted of_json) (ap (value c.args.depth) is ∙ value_is c.args.depth _) ∙ rw (← c.in-None.ensures)
+
+pub skip-returns-in-EndObject-clause-err : goal.skip-returns-in-EndObject-clause-err
+skip-returns-in-EndObject-clause-err t c =
+    let first : c.args.reader.now ≡ token_of c.in_ok-token.token ∷ c.next.new.self = grind arith in
+    let none : value c.args.depth c.args.reader.now ≡ None = rw (value_is c.args.depth c.args.reader.now, first) (grind arith) in
+    ap (converted of_json) none
+
+pub skip-returns-then-depth-eq0-clause-err : goal.skip-returns-then-depth-eq0-clause-err
+unfolding value
+skip-returns-then-depth-eq0-clause-err t c =
+    let first : c.args.reader.now ≡ token_of c.in_ok-token.token ∷ c.next.new.self = grind arith in
+    let none : c.args.depth ≡ 0 = omega arith in
+    ap (converted of_json) (ap₂ value none (first ∙ ap (λ k. token_of k ∷ c.next.new.self) c.in-BeginArray.is))
+
+pub skip-returns-then-depth-eq0-2-clause-err : goal.skip-returns-then-depth-eq0-2-clause-err
+unfolding value
+skip-returns-then-depth-eq0-2-clause-err t c =
+    let first : c.args.reader.now ≡ token_of c.in_ok-token.token ∷ c.next.new.self = grind arith in
+    let none : c.args.depth ≡ 0 = omega arith in
+    ap (converted of_json) (ap₂ value none (first ∙ ap (λ k. token_of k ∷ c.next.new.self) c.in-BeginObject.is))
+
+pub skip-returns-else-depth-eq0-clause-ok : goal.skip-returns-else-depth-eq0-clause-ok
+skip-returns-else-depth-eq0-clause-ok t c =
+    let first : c.args.reader.now ≡ token_of c.in_ok-token.token ∷ c.next.new.self = grind arith in
+    let opened = ap (converted of_json) (ap (value c.args.depth) (first ∙ ap (λ k. token_of k ∷ c.next.new.self) c.in-BeginArray.is) ∙ value-begin_array c.args.depth c.next.new.self (omega arith)) ∙ converted-array (items (value (c.args.depth - 1)) (length c.next.new.self) c.next.new.self) in
+    on_ok_weaker c.skip_items.result (λ (h : SkipsItems (c.args.depth - 1) c.next.new.self c.skip_items.new.reader). let got = h (length c.next.new.self) (omega arith) in (array got.0, opened ∙ ap (parse_map array) got.1)) c.skip_items.ensures.ok
+
+pub skip-returns-else-depth-eq0-clause-err : goal.skip-returns-else-depth-eq0-clause-err
+skip-returns-else-depth-eq0-clause-err t c =
+    let first : c.args.reader.now ≡ token_of c.in_ok-token.token ∷ c.next.new.self = grind arith in
+    let opened = ap (converted of_json) (ap (value c.args.depth) (first ∙ ap (λ k. token_of k ∷ c.next.new.self) c.in-BeginArray.is) ∙ value-begin_array c.args.depth c.next.new.self (omega arith)) ∙ converted-array (items (value (c.args.depth - 1)) (length c.next.new.self) c.next.new.self) in
+    on_err_weaker c.skip_items.result (λ (h : NoItems (c.args.depth - 1) c.next.new.self). opened ∙ ap (parse_map array) (h (length c.next.new.self) (omega arith))) c.skip_items.ensures.err
+
+pub skip-returns-else-depth-eq0-2-clause-ok : goal.skip-returns-else-depth-eq0-2-clause-ok
+skip-returns-else-depth-eq0-2-clause-ok t c =
+    let first : c.args.reader.now ≡ token_of c.in_ok-token.token ∷ c.next.new.self = grind arith in
+    let opened = ap (converted of_json) (ap (value c.args.depth) (first ∙ ap (λ k. token_of k ∷ c.next.new.self) c.in-BeginObject.is) ∙ value-begin_object c.args.depth c.next.new.self (omega arith)) ∙ converted-object (members (value (c.args.depth - 1)) (length c.next.new.self) c.next.new.self) in
+    on_ok_weaker c.skip_members.result (λ (h : SkipsMembers (c.args.depth - 1) c.next.new.self c.skip_members.new.reader). let got = h (length c.next.new.self) no_members (omega arith) in (object got.0, opened ∙ ap (parse_map object) got.1)) c.skip_members.ensures.ok
+
+pub skip-returns-else-depth-eq0-2-clause-err : goal.skip-returns-else-depth-eq0-2-clause-err
+skip-returns-else-depth-eq0-2-clause-err t c =
+    let first : c.args.reader.now ≡ token_of c.in_ok-token.token ∷ c.next.new.self = grind arith in
+    let opened = ap (converted of_json) (ap (value c.args.depth) (first ∙ ap (λ k. token_of k ∷ c.next.new.self) c.in-BeginObject.is) ∙ value-begin_object c.args.depth c.next.new.self (omega arith)) ∙ converted-object (members (value (c.args.depth - 1)) (length c.next.new.self) c.next.new.self) in
+    on_err_weaker c.skip_members.result (λ (h : NoMembers (c.args.depth - 1) c.next.new.self). opened ∙ ap (parse_map object) (h (length c.next.new.self) no_members (omega arith))) c.skip_members.ensures.err
+
+pub skip_items-items-init : goal.skip_items-items-init
+skip_items-items-init t c = (λ n h. (n, (λ ds. ds), h, none_before _), omega arith)
+
+pub skip_items-items-preserved : goal.skip_items-items-preserved
+skip_items-items-preserved t c =
+    let p = value c.args.depth in
+    let l = c.items in
+    let going : (after_end_array l.reader ≡ None) × (c.take_end_array.new.self ≡ l.reader) = grind arith in
+    let less : length c.skip.new.reader < length l.reader = rw (← going.1) c.in_ok-skip.ensures.shorter in
+    let d = c.in_ok-skip.ensures.ok in (
+      λ n h.
+          let old = l.invariant.0 n h in
+          let enough = old.2 in (
+            old.0 - 1,
+            (λ ds. old.1 (item d.0 ds)),
+            omega arith,
+            old.3 ∙ ap (parse_map old.1) (item_read p old.0 l.reader _ d.0 (omega arith) going.0 (rw (← going.1) d.1)) ∙ parse_map-twice old.1 (item d.0) _,
+          ),
+      omega (arith, l.invariant.1),
+    )
+
+pub skip_items-returns-in_err-skip-clause-err : goal.skip_items-returns-in_err-skip-clause-err
+skip_items-returns-in_err-skip-clause-err t c =
+    let p = value c.args.depth in
+    let l = c.items in
+    let going : (after_end_array l.reader ≡ None) × (c.take_end_array.new.self ≡ l.reader) = grind arith in
+    let refused : NoItems c.args.depth c.args.reader.now = λ n h. let old = l.invariant.0 n h in old.3 ∙ ap (parse_map old.1) (item_refused p old.0 l.reader going.0 (rw (← going.1) c.in_err-skip.ensures.err)) in
+    OnErr-always c.from_residual.result refused
+
+pub skip_items-returns-clause-ok : goal.skip_items-returns-clause-ok
+skip_items-returns-clause-ok t c =
+    let p = value c.args.depth in
+    let l = c.items in
+    let over : after_end_array l.reader ≡ Some c.take_end_array.new.self = grind arith in
+    λ n h. let old = l.invariant.0 n h in (old.1 no_items, old.3 ∙ ap (parse_map old.1) (items_over p old.0 l.reader c.take_end_array.new.self old.2 over))
+
+pub skip_members-members-init : goal.skip_members-members-init
+skip_members-members-init t c = (λ n found h. (n, found, h, refl), omega arith)
+
+pub skip_members-members-preserved : goal.skip_members-members-preserved
+skip_members-members-preserved t c =
+    let p = value c.args.depth in
+    let l = c.members in
+    let k = c.in-Some.field-0.now in
+    let s = c.next_key.new.self in
+    let key : read_key l.reader ≡ Some (Some k, s) = grind arith in
+    let less = read_key-shorter l.reader (Some k) s key in
+    let lesser = c.in_ok-skip.ensures.shorter in
+    let d = c.in_ok-skip.ensures.ok in (
+      λ n found h.
+          let old = l.invariant.0 n found h in
+          let enough = old.2 in
+          (old.0 - 1, put k d.0 old.1, omega arith, old.3 ∙ member_read p old.1 old.0 k l.reader s _ d.0 (omega arith) key d.1),
+      omega (arith, l.invariant.1),
+    )
+
+pub skip_members-returns-in_err-next_key-clause-err : goal.skip_members-returns-in_err-next_key-clause-err
+skip_members-returns-in_err-next_key-clause-err t c =
+    let p = value c.args.depth in
+    let l = c.members in
+    let refused : NoMembers c.args.depth c.args.reader.now = λ n found h. let old = l.invariant.0 n found h in old.3 ∙ key_refused p old.1 old.0 l.reader c.in_err-next_key.ensures.value in
+    OnErr-always c.from_residual.result refused
+
+pub skip_members-returns-in_err-skip-clause-err : goal.skip_members-returns-in_err-skip-clause-err
+skip_members-returns-in_err-skip-clause-err t c =
+    let p = value c.args.depth in
+    let l = c.members in
+    let k = c.in-Some.field-0.now in
+    let s = c.next_key.new.self in
+    let key : read_key l.reader ≡ Some (Some k, s) = grind arith in
+    let refused : NoMembers c.args.depth c.args.reader.now = λ n found h. let old = l.invariant.0 n found h in old.3 ∙ member_refused p old.1 old.0 k l.reader s key c.in_err-skip.ensures.err in
+    OnErr-always c.from_residual-in_err-skip.result refused
+
+pub skip_members-returns-clause-ok : goal.skip_members-returns-clause-ok
+skip_members-returns-clause-ok t c =
+    let p = value c.args.depth in
+    let l = c.members in
+    let over : read_key l.reader ≡ Some (None, c.next_key.new.self) = grind arith in
+    λ n found h. let old = l.invariant.0 n found h in (old.1, old.3 ∙ members_over p old.1 old.0 l.reader c.next_key.new.self old.2 over)

@@ -1,0 +1,4 @@
+pub mod Skips
+pub mod Places
+pub mod Fits
+pub mod Found

@@ -1,0 +1,12 @@
+//! Trees of JSON that an item may have: whatever a line holds, no more is made of it than the largest item needs.
+#![tactic(auto)]
+
+mod fault;
+mod number;
+mod place;
+mod read;
+mod skip;
+mod tree;
+mod weight;
+
+pub use tree::tree_of;

@@ -1,0 +1,71 @@
+//! Skipping values: nothing is made of them.
+
+ghost use Rattle.std.specs.Prelude.{◌≡◌, ◌<◌, length, None, OnErr, OnOk, Some};
+ghost use Rattle.json.specs.Json.{value};
+ghost use Rattle.serde_json.specs.Data.{Data};
+ghost use Rattle.serde_json.specs.Read.{converted, of_json};
+ghost use Rattle.etcs_trees.specs.Skips.{NoItems, NoMembers, SkipsItems, SkipsMembers};
+
+use crate::number::number;
+use json::{Invalid, Reader, Token};
+
+/// Skips a value in which lists and objects nest at most `depth` deep.
+#[cycle(skip)]
+#[inline(always)]
+pub(crate) fn skip(reader: &mut Reader<'_>, depth: usize) -> Result<(), Invalid>
+    ensures ok { OnOk result ((d : Data) × (converted of_json (value depth reader.old) ≡ Some (d, reader.new))) }
+    ensures shorter { OnOk result (length reader.new < length reader.old) }
+    ensures err { OnErr result (converted of_json (value depth reader.old) ≡ None) }
+{
+    let token = reader.next().ok_or(Invalid)?;
+    match token {
+        Token::String(_) => Ok(()),
+        Token::Bool(_) => Ok(()),
+        Token::Null => Ok(()),
+        Token::Number(text) => match number(text) {
+            Some(_) => Ok(()),
+            None => Err(Invalid),
+        },
+        Token::EndObject | Token::EndArray | Token::Key(_) | Token::Bad => Err(Invalid),
+        Token::BeginArray => {
+            if depth == 0 {
+                return Err(Invalid);
+            }
+            skip_items(reader, depth - 1)
+        }
+        Token::BeginObject => {
+            if depth == 0 {
+                return Err(Invalid);
+            }
+            skip_members(reader, depth - 1)
+        }
+    }
+}
+
+/// Skips what is left of a list, with its end.
+#[cycle(skip)]
+#[inline(never)]
+pub(crate) fn skip_items(reader: &mut Reader<'_>, depth: usize) -> Result<(), Invalid>
+    ensures ok { OnOk result (SkipsItems depth reader.old reader.new) }
+    ensures shorter { OnOk result (length reader.new < length reader.old) }
+    ensures err { OnErr result (NoItems depth reader.old) }
+{
+    'items: while !reader.take_end_array() {
+        skip(reader, depth)?;
+    }
+    Ok(())
+}
+
+/// Skips what is left of an object, with its end.
+#[cycle(skip)]
+#[inline(never)]
+pub(crate) fn skip_members(reader: &mut Reader<'_>, depth: usize) -> Result<(), Invalid>
+    ensures ok { OnOk result (SkipsMembers depth reader.old reader.new) }
+    ensures shorter { OnOk result (length reader.new < length reader.old) }
+    ensures err { OnErr result (NoMembers depth reader.old) }
+{
+    'members: while let Some(_) = reader.next_key()? {
+        skip(reader, depth)?;
+    }
+    Ok(())
+}

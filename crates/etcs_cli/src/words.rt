@@ -24,11 +24,11 @@ const WRONG_WORDS: u8 = 2;
 const BROKEN: u8 = 3;
 
 /// What `--kind` takes.
-static KINDS: [&str; 3] = ["long", "short", "radio"];
+static KINDS: [&str; 4] = ["long", "short", "radio", "train"];
 
 /// What help says of them.
 static KINDS_HELP: &str =
-    "Balise telegrams of 830 user bits (long) or of 210 (short), or radio messages (radio)";
+    "Balise telegrams of 830 user bits (long) or of 210 (short), or radio messages to the train (radio) or to the track (train)";
 
 /// What it takes for the telegrams of a group.
 static GROUP_KINDS: [&str; 2] = ["long", "short"];
@@ -280,14 +280,12 @@ fn job_of(matches: &ArgMatches) -> Option<Job>
     let kind = kind_of(options.get_str("kind")?)?;
     let from = form_of(options.get_str("from")?)?;
     let command = command_of(name, options)?;
-    if command == Command::Group && kind == Kind::Radio {
-        return None;
-    }
-    Some(Job {
+    let job = Job {
         kind,
         from,
         command,
-    })
+    };
+    if job.is_groupable() { Some(job) } else { None }
 }
 
 /// The subcommand of that name, with its options.
@@ -307,6 +305,7 @@ fn kind_of(name: &str) -> Option<Kind> {
         "long" => Some(Kind::Long),
         "short" => Some(Kind::Short),
         "radio" => Some(Kind::Radio),
+        "train" => Some(Kind::Train),
         _ => None,
     }
 }

@@ -1,6 +1,7 @@
 -- What a telegram is to its group.
 use Rattle.std.proofs.Common.{◌≡◌, ℕ, Bool, List, ◌++◌, refl, sym, ap, subst, ◌∙◌, append_assoc, inl, inr}
 use Rattle.std.specs.Prelude.{◌↔◌, Option, Result, Ok, Err, OnOk, codes, map}
+use Rattle.etcs_tables.specs.declared.row.Way.TheVariants.{ToTrain}
 use Rattle.etcs_packets.specs.declared.packet.Packet.{Packet}
 use Rattle.etcs_packets.specs.PacketValues.{packet_value}
 use Rattle.etcs_telegram.specs.Telegrams.{TelegramContent}
@@ -29,11 +30,11 @@ module _ (held : List (Option TelegramContent)) (country group : ℕ) (some : (t
       inr (some.0, some.1, subst (λ (f : List ℕ). GroupLines held f text) front h)
 
   -- the last lines of a group that is whole
-  pub whole_lines : (ps : List Packet) (old mid new : List ℕ) → IsWhole held → IsGroupMessage held ps → mid ≡ old ++ group_front country group → new ≡ mid ++ (codes " complete\n" ++ packets_text (map packet_value ps)) → (last : List ℕ) × LastLines held last × (new ≡ old ++ last)
+  pub whole_lines : (ps : List Packet) (old mid new : List ℕ) → IsWhole held → IsGroupMessage held ps → mid ≡ old ++ group_front country group → new ≡ mid ++ (codes " complete\n" ++ packets_text ToTrain (map packet_value ps)) → (last : List ℕ) × LastLines held last × (new ≡ old ++ last)
   whole_lines ps old mid new whole message is h =
       let front = group_front country group in
-      let more = codes " complete\n" ++ packets_text (map packet_value ps) in
-      (front ++ more, lines (front ++ more) (inl (whole, (ps, message, sym (append_assoc front (codes " complete\n") (packets_text (map packet_value ps)))))), h ∙ ap (λ (z : List ℕ). z ++ more) is ∙ append_assoc old front more)
+      let more = codes " complete\n" ++ packets_text ToTrain (map packet_value ps) in
+      (front ++ more, lines (front ++ more) (inl (whole, (ps, message, sym (append_assoc front (codes " complete\n") (packets_text ToTrain (map packet_value ps)))))), h ∙ ap (λ (z : List ℕ). z ++ more) is ∙ append_assoc old front more)
 
   -- and of one that isn't
   pub lacking_lines : (bs : List Bool) (old mid new : List ℕ) → (IsWhole held → ⊥) → AreMissing held bs → mid ≡ old ++ group_front country group → new ≡ mid ++ (codes " missing" ++ positions_text (trues 8 bs) ++ codes "\n") → (last : List ℕ) × LastLines held last × (new ≡ old ++ last)

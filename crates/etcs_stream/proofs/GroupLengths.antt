@@ -7,6 +7,7 @@ use Rattle.std.proofs.lemmas.Option.{same_Some, none-some}
 use Rattle.etcs_vars.specs.declared.var.Var.TheVariants.{NID_PACKET, FILL, PAD}
 use Rattle.etcs_vars.specs.Reading.{Reading, kept}
 use Rattle.etcs_vars.proofs.Apart.{AllFit}
+use Rattle.etcs_tables.specs.declared.row.Way.TheVariants.{ToTrain}
 use Rattle.etcs_packets.specs.declared.packet.Packet.{Packet}
 use Rattle.etcs_packets.specs.PacketValues.{packet_value}
 use Rattle.etcs_packets.specs.PacketReadings.{packets_reading}
@@ -73,7 +74,7 @@ item_made t s text s' x made u h = elim ((x.held_is u).0 h) [
 items_made : (es : List EntryValue) (s : Told) (text : List ℕ) (s' : Told) → TellsItems Group s es text s' → AreMade s.held → AreMade s'.held
 items_made [] s text s' h made = subst (λ (k : Told). AreMade k.held) (sym h.1) made
 items_made (of_telegram t ∷ es) s text s' (mid, first, rest, _, told, more) made = items_made es mid rest s' more (item_made t s first mid told made)
-items_made (of_message m ∷ es) s text s' (mid, first, rest, _, told, more) made = absurd told
+items_made (of_message way m ∷ es) s text s' (mid, first, rest, _, told, more) made = absurd told
 
 pub held_made : (es : List EntryValue) (text : List ℕ) (s : Told) → TellsItems Group nothing_told es text s → AreMade s.held
 held_made es text s h = items_made es nothing_told text s h (λ t held. let place = held_place (replicate 8 None) t held in absurd (none_at 8 place.0 t place.1))
@@ -102,25 +103,25 @@ packets_fit t made =
     fit_front (packets_reading v.packets) closing (fit_behind head (closed_reading v.packets) headed)
 
 -- packets of at most 830 bits
-held_short : (t : TelegramContent) → IsTelegram t → length (packets_text (map packet_value t.packets)) ≤ 106240
+held_short : (t : TelegramContent) → IsTelegram t → length (packets_text ToTrain (map packet_value t.packets)) ≤ 106240
 held_short t made =
     let vs = map packet_value t.packets in
-    let short = packets_short vs (packets_fit t made) in
+    let short = packets_short ToTrain vs (packets_fit t made) in
     let l = spelled_long (packets_reading vs) closing in
     omega (arith, short, l, made.fill, user_short t.size)
 
-message_append : (ps qs : List Packet) → length (packets_text (map packet_value (ps ++ qs))) ≡ length (packets_text (map packet_value ps)) + length (packets_text (map packet_value qs))
+message_append : (ps qs : List Packet) → length (packets_text ToTrain (map packet_value (ps ++ qs))) ≡ length (packets_text ToTrain (map packet_value ps)) + length (packets_text ToTrain (map packet_value qs))
 message_append ps qs =
-    ap (λ z. length (packets_text z)) (map-append packet_value ps qs)
-    ∙ ap length (flat_map-append packet_text (map packet_value ps) (map packet_value qs))
-    ∙ length-append (packets_text (map packet_value ps)) (packets_text (map packet_value qs))
+    ap (λ z. length (packets_text ToTrain z)) (map-append packet_value ps qs)
+    ∙ ap length (flat_map-append (packet_text ToTrain) (map packet_value ps) (map packet_value qs))
+    ∙ length-append (packets_text ToTrain (map packet_value ps)) (packets_text ToTrain (map packet_value qs))
 
 module _ (held : List (Option TelegramContent)) (made : AreMade held) where
-  given_short : (p : ℕ) (ps : List Packet) → Gives held p ps → length (packets_text (map packet_value ps)) ≤ 106240
+  given_short : (p : ℕ) (ps : List Packet) → Gives held p ps → length (packets_text ToTrain (map packet_value ps)) ≤ 106240
   given_short p ps (inl (t, h, _, _, is)) = rw is (held_short t (made t h))
   given_short p ps (inr (_, is)) = rw is (omega arith)
 
-  message_short : (n : ℕ) (ps : List Packet) → FirstGive held n ps → length (packets_text (map packet_value ps)) ≤ n * 106240
+  message_short : (n : ℕ) (ps : List Packet) → FirstGive held n ps → length (packets_text ToTrain (map packet_value ps)) ≤ n * 106240
   unfolding FirstGive
   message_short zero ps h = rw h (omega arith)
   message_short (suc n) ps (front, last, h, g, is) =
@@ -164,7 +165,7 @@ front_short t made =
 
 lines_short : (held : List (Option TelegramContent)) (front text : List ℕ) → AreMade held → length front ≤ 47 → GroupLines held front text → length text ≤ 2 ^ 40
 lines_short held front text made short (inl (_, (ps, h, is))) =
-    let packets = packets_text (map packet_value ps) in
+    let packets = packets_text ToTrain (map packet_value ps) in
     let message : length packets ≤ 8 * 106240 = message_short held made 8 ps h in
     let x = length-append (front ++ codes " complete\n") packets in
     let y = length-append front (codes " complete\n") in

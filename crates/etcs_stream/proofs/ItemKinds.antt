@@ -1,5 +1,5 @@
 -- The items of a kind: their languages, and what a feed of their reader answers.
-use Rattle.std.proofs.Common.{◌≡◌, ℕ, ◌+◌, ◌<◌, Bool, List, length, Result, Ok, Err, ap, refl, sym, arith}
+use Rattle.std.proofs.Common.{◌≡◌, ℕ, ◌+◌, ◌<◌, Bool, List, length, Result, Ok, Err, ap, refl, subst, sym, arith}
 use Rattle.etcs_vars.specs.declared.var.Var.{Var}
 use Rattle.etcs_vars.specs.declared.feed.Fed.{Fed}
 use Rattle.etcs_vars.specs.declared.feed.Fed.TheVariants.{More, Done}
@@ -15,15 +15,17 @@ use Rattle.etcs_telegram.proofs.SameReadings.{viable_along, owner_along}
 use Rattle.etcs_telegram.proofs.Spellings as telegrams
 use Rattle.etcs_telegram.proofs.Examples.{some_telegram}
 use Rattle.etcs_sequence.specs.Progress as inner
-use Rattle.etcs_radio.specs.declared.message.Content.{Content}
-use Rattle.etcs_radio.specs.Messages.{MessageLanguage, MessageReads, IsMessage, message_value}
-use Rattle.etcs_radio.proofs.Spelling as messages
-use Rattle.etcs_radio.proofs.Bytes.{some_bits, some_message}
+use Rattle.etcs_tables.specs.declared.row.Way.{Way}
+use Rattle.etcs_tables.specs.declared.row.Way.TheVariants.{ToTrain, ToTrack}
+use Rattle.etcs_messages.specs.Messages.{MessageLanguage, MessageReads, MessageValue}
+use Rattle.etcs_messages.proofs.Bytes.{some_bits, some_message}
+use Rattle.etcs_messages.proofs.Spelling as messages
 use Rattle.etcs_text.specs.declared.entry.Kind.{Kind}
-use Rattle.etcs_text.specs.declared.entry.Kind.TheVariants.{Long, Short, Radio}
-use Rattle.etcs_text.specs.Entries.{EntryValue, of_telegram, of_message, kind_of, EntryReads}
-use Rattle.etcs_json.proofs.OneItems.{kind_same, telegram_radio}
-use Rattle.etcs_stream.specs.Readers.{progress_of, telegram_item, message_item, reading, finished, Feeds}
+use Rattle.etcs_text.specs.declared.entry.Kind.TheVariants.{Long, Short, Radio, Train}
+use Rattle.etcs_text.specs.Entries.{EntryValue, of_telegram, of_message, kind_of, message_kind, EntryReads}
+use Rattle.etcs_json.proofs.OneItems.{kind_same, way_same, telegram_message}
+use Rattle.etcs_stream.specs.Readers.{progress_of, telegram_item, reading, finished, Feeds}
+use Rattle.etcs_stream.specs.Tellers.{IsOfTelegrams}
 
 abbrev pub Language : Kind → Reading → Type 0
 Language kind = readings_of (EntryReads kind)
@@ -32,18 +34,22 @@ Language kind = readings_of (EntryReads kind)
 
 from_sized : (s : Size) (r : Reading) → Language (kind_of s) r → TelegramLanguage s r
 from_sized s r (of_telegram t, h) = (t, (kind_same t.size s h.0, h.1))
-from_sized s r (of_message m, h) = absurd (telegram_radio s (sym h.0))
+from_sized s r (of_message way m, h) = absurd (telegram_message s way (sym h.0))
 
-from_radio : (r : Reading) → Language Radio r → MessageLanguage r
-from_radio r (of_telegram t, h) = absurd (telegram_radio t.size h.0)
-from_radio r (of_message m, h) = (m, h.1)
+from_way : (way : Way) (r : Reading) → Language (message_kind way) r → MessageLanguage way r
+from_way way r (of_telegram t, h) = absurd (telegram_message t.size way h.0)
+from_way way r (of_message w m, h) = (m, subst (λ (z : Way). MessageReads z m r) (way_same w way h.0) h.1)
 
--- the readings of items of a kind are those of the telegrams of its size, or those of messages
+-- the readings of items of a kind are those of the telegrams of its size, or those of the messages of its way
 same_telegrams : (s : Size) → Same (TelegramLanguage s) (Language (kind_of s))
 same_telegrams s r = (λ (t, h). (of_telegram t, (ap kind_of h.0, h.1)), from_sized s r)
 
-same_messages : Same MessageLanguage (Language Radio)
-same_messages r = (λ (m, h). (of_message m, (refl, h)), from_radio r)
+same_messages : (way : Way) → Same (MessageLanguage way) (Language (message_kind way))
+same_messages way r = (λ (m, h). (of_message way m, (refl, h)), from_way way r)
+
+pub sized_telegrams : (s : Size) → IsOfTelegrams (kind_of s)
+sized_telegrams size.Long = refl
+sized_telegrams size.Short = refl
 
 -- ---- What holds of each kind.
 
@@ -53,10 +59,17 @@ regular_along P Q same regular = record {
   fit = λ a l. regular.fit a ((same a).1 l);
 }
 
+sized_regular : (s : Size) → Regular (Language (kind_of s))
+sized_regular s = regular_along (TelegramLanguage s) (Language (kind_of s)) (same_telegrams s) (telegrams.regular s)
+
+way_regular : (way : Way) → Regular (Language (message_kind way))
+way_regular way = regular_along (MessageLanguage way) (Language (message_kind way)) (same_messages way) (messages.regular way)
+
 pub kind_regular : (kind : Kind) → Regular (Language kind)
-kind_regular Long = regular_along (TelegramLanguage size.Long) (Language Long) (same_telegrams size.Long) (telegrams.regular size.Long)
-kind_regular Short = regular_along (TelegramLanguage size.Short) (Language Short) (same_telegrams size.Short) (telegrams.regular size.Short)
-kind_regular Radio = regular_along MessageLanguage (Language Radio) same_messages messages.regular
+kind_regular Long = sized_regular size.Long
+kind_regular Short = sized_regular size.Short
+kind_regular Radio = way_regular ToTrain
+kind_regular Train = way_regular ToTrack
 
 sized_bits : (s : Size) → 0 < user_bits s + pad_bits s
 sized_bits size.Short = omega arith
@@ -65,20 +78,28 @@ sized_bits size.Long = omega arith
 telegram_bits : (s : Size) (r : Reading) → Language (kind_of s) r → 0 < length (spelled r)
 telegram_bits s r l = omega (arith, telegrams.whole_length s r ((same_telegrams s r).1 l), sized_bits s)
 
+way_bits : (way : Way) (r : Reading) → Language (message_kind way) r → 0 < length (spelled r)
+way_bits way r l = some_bits way r ((same_messages way r).1 l)
+
 -- each item has a bit
 pub item_bits : (kind : Kind) (r : Reading) → Language kind r → 0 < length (spelled r)
 item_bits Long r l = telegram_bits size.Long r l
 item_bits Short r l = telegram_bits size.Short r l
-item_bits Radio r l = some_bits r ((same_messages r).1 l)
+item_bits Radio r l = way_bits ToTrain r l
+item_bits Train r l = way_bits ToTrack r l
 
 sized_item : (s : Size) → (r : Reading) × Language (kind_of s) r
 sized_item s = let (r, l) = some_telegram s in (r, (same_telegrams s r).0 l)
+
+way_item : (way : Way) → (r : Reading) × Language (message_kind way) r
+way_item way = let (r, l) = some_message way in (r, (same_messages way r).0 l)
 
 -- and there is one
 pub some_item : (kind : Kind) → (r : Reading) × Language kind r
 some_item Long = sized_item size.Long
 some_item Short = sized_item size.Short
-some_item Radio = let (r, l) = some_message in (r, (same_messages r).0 l)
+some_item Radio = way_item ToTrain
+some_item Train = way_item ToTrack
 
 -- ---- What a feed answers.
 
@@ -111,8 +132,8 @@ module _ {V W : Type 0} (Reads : W → Reading → Type 0) (value : V → W) (Is
 pub telegram_feeds : (s : Size) (seen new : List Bool) (answer : Result Fed ReadFault) (at : inner.Progress TelegramContent) → inner.Feeds (ReadsAs s) telegram_value IsTelegram 50 seen new answer at → Feeds (EntryReads (kind_of s)) seen new answer (progress_of telegram_item at)
 telegram_feeds s = inner_feeds (ReadsAs s) telegram_value IsTelegram 50 of_telegram (kind_of s) (same_telegrams s) (λ t r h. (ap kind_of h.0, h.1))
 
-pub message_feeds : (seen new : List Bool) (answer : Result Fed ReadFault) (at : inner.Progress Content) → inner.Feeds MessageReads message_value IsMessage 18 seen new answer at → Feeds (EntryReads Radio) seen new answer (progress_of message_item at)
-message_feeds = inner_feeds MessageReads message_value IsMessage 18 of_message Radio same_messages (λ m r h. (refl, h))
+pub message_feeds : {V : Type 0} (way : Way) (value : V → MessageValue) (IsMessage : V → Type 0) (seen new : List Bool) (answer : Result Fed ReadFault) (at : inner.Progress V) → inner.Feeds (MessageReads way) value IsMessage 18 seen new answer at → Feeds (EntryReads (message_kind way)) seen new answer (progress_of (λ (v : V). of_message way (value v)) at)
+message_feeds way value IsMessage = inner_feeds (MessageReads way) value IsMessage 18 (of_message way) (message_kind way) (same_messages way) (λ m r h. (refl, h))
 
 -- ---- The progress of the reader inside.
 

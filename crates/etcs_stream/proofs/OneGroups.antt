@@ -4,6 +4,7 @@ use Rattle.std.specs.Prelude.{All, codes, map, if◌then◌else◌, slice_index_
 use Rattle.std.proofs.lemmas.Bool.{both_ways, cases_lt, cases_order}
 use Rattle.std.proofs.lemmas.List.{same_lists, get_or_past, get_or-take, length-take-le}
 use Rattle.std.proofs.lemmas.Option.{same_Some, none-some, slice_get-get_or, get_or_from_slice_get}
+use Rattle.etcs_tables.specs.declared.row.Way.TheVariants.{ToTrain}
 use Rattle.etcs_packets.specs.declared.packet.Packet.{Packet}
 use Rattle.etcs_packets.specs.PacketValues.{packet_value}
 use Rattle.etcs_telegram.specs.Telegrams.{TelegramContent, TelegramValue}
@@ -167,7 +168,7 @@ module _ (held : List (Option TelegramContent)) (bs cs : List Bool) (h : AreMiss
 
 one_lines : (held : List (Option TelegramContent)) → IsGroup held → (front text text' : List ℕ) → GroupLines held front text → GroupLines held front text' → text ≡ text'
 one_lines held group front text text' (inl (whole, (ps, h, is))) (inl (_, (qs, k, is'))) =
-    is ∙ ap (λ (z : List Packet). front ++ codes " complete\n" ++ packets_text (map packet_value z)) (one_message held group 8 ps qs h k) ∙ sym is'
+    is ∙ ap (λ (z : List Packet). front ++ codes " complete\n" ++ packets_text ToTrain (map packet_value z)) (one_message held group 8 ps qs h k) ∙ sym is'
 one_lines held group front text text' (inl (whole, _)) (inr (part, _)) = absurd (part whole)
 one_lines held group front text text' (inr (part, _)) (inl (whole, _)) = absurd (part whole)
 one_lines held group front text text' (inr (part, (bs, h, is))) (inr (_, (cs, k, is'))) =

@@ -11,9 +11,11 @@ use Rattle.etcs_vars.specs.Reading as reading
 use Rattle.etcs_vars.proofs.Apart.{apart}
 use Rattle.etcs_vars.proofs.Outcomes.{viable_front}
 use Rattle.etcs_telegram.proofs.Spellings as telegrams
-use Rattle.etcs_radio.proofs.Spelling as messages
+use Rattle.etcs_tables.specs.declared.row.Way.{Way}
+use Rattle.etcs_messages.specs.Messages.{MessageValue, MessageReads}
+use Rattle.etcs_messages.proofs.Spelling as messages
 use Rattle.etcs_text.specs.declared.entry.Kind.{Kind}
-use Rattle.etcs_json.proofs.OneItems.{kind_same, telegram_radio}
+use Rattle.etcs_json.proofs.OneItems.{kind_same, way_same, telegram_message}
 use Rattle.etcs_json.proofs.OneStored.{one_refusal}
 use Rattle.etcs_stream.specs.declared.job.Form.{Form}
 use Rattle.etcs_stream.specs.declared.job.Form.TheVariants.{Hex, Bin, Json}
@@ -29,11 +31,16 @@ use Rattle.etcs_stream.proofs.OneJson.{one_json, one_whole_json, front_json}
 
 -- ---- One item.
 
+one_message : (w z : Way) (m n : MessageValue) (r : Reading) → w ≡ z → MessageReads w m r → MessageReads z n r → of_message w m ≡ of_message z n
+one_message w z m n r ways x y =
+    let one = messages.one_value w m n r x (subst (λ (v : Way). MessageReads v n r) (sym ways) y) in
+    λ i. of_message (ways i) (one i)
+
 one_item : (kind : Kind) (e f : EntryValue) (r : Reading) → EntryReads kind e r → EntryReads kind f r → e ≡ f
 one_item kind (of_telegram t) (of_telegram u) r x y = ap of_telegram (telegrams.one_value t u r (kind_same t.size u.size (x.0 ∙ sym y.0)) x.1 y.1)
-one_item kind (of_telegram t) (of_message n) r x y = absurd (telegram_radio t.size (x.0 ∙ sym y.0))
-one_item kind (of_message m) (of_telegram u) r x y = absurd (telegram_radio u.size (y.0 ∙ sym x.0))
-one_item kind (of_message m) (of_message n) r x y = ap of_message (messages.one_value m n r x.1 y.1)
+one_item kind (of_telegram t) (of_message z n) r x y = absurd (telegram_message t.size z (x.0 ∙ sym y.0))
+one_item kind (of_message w m) (of_telegram u) r x y = absurd (telegram_message u.size w (y.0 ∙ sym x.0))
+one_item kind (of_message w m) (of_message z n) r x y = one_message w z m n r (way_same w z (x.0 ∙ sym y.0)) x.1 y.1
 
 -- items with the same spelling in front are one, and so is what is after
 first_same : (kind : Kind) (e f : EntryValue) (r q : Reading) (b c : List Bool) → EntryReads kind e r → EntryReads kind f q → spelled r ++ b ≡ spelled q ++ c → (e ≡ f) × (b ≡ c)

@@ -6,7 +6,8 @@ use Rattle.std.proofs.lemmas.List.{get_or_past}
 use Rattle.hex.specs.Hex.{encode_upper}
 use Rattle.etcs_bits.proofs.Owned.{bits_same}
 use Rattle.etcs_vars.specs.Reading.{Reading, spelled}
-use Rattle.etcs_radio.specs.Messages.{MessageValue, typed_message, kept_message, MessageReads}
+use Rattle.etcs_tables.specs.declared.row.Way.{Way}
+use Rattle.etcs_messages.specs.Messages.{MessageValue, typed_message, kept_message, MessageReads}
 use Rattle.etcs_text.specs.Encodings.{IsEncoded}
 use Rattle.etcs_text.specs.Entries.{EntryValue, of_telegram, of_message, Spells}
 use Rattle.etcs_stream.specs.declared.job.Command.{Command}
@@ -18,17 +19,17 @@ use Rattle.etcs_stream.specs.Tellers.{TellsItem, TellsItems, nothing_told}
 use Rattle.etcs_stream.proofs.OneGroups.{one_group_item}
 
 -- L_MESSAGE is of the bits
-one_message : (m : MessageValue) (r q : Reading) → MessageReads m r → MessageReads m q → r ≡ q
-one_message (typed_message nid h body vs padding) r q x y =
+one_message : (way : Way) (m : MessageValue) (r q : Reading) → MessageReads way m r → MessageReads way m q → r ≡ q
+one_message way (typed_message nid h body vs padding) r q x y =
     let len : x.len ≡ y.len = omega (arith, x.bytes, y.bytes) in
     rw (x.reading_is, y.reading_is, len) refl
-one_message (kept_message nid b) r q x y =
+one_message way (kept_message nid b) r q x y =
     let len : x.len ≡ y.len = omega (arith, x.bytes, y.bytes) in
     rw (x.reading_is, y.reading_is, len) refl
 
 one_spelling : (e : EntryValue) (r q : Reading) → Spells e r → Spells e q → r ≡ q
 one_spelling (of_telegram t) r q x y = x.reading_is ∙ sym y.reading_is
-one_spelling (of_message m) r q x y = one_message m r q x y
+one_spelling (of_message way m) r q x y = one_message way m r q x y
 
 pub all_small : (bytes : List ℕ) → All (λ b. b < 256) bytes → (i : ℕ) → get_or bytes i 0 < 2 ^ 8
 all_small bytes h i = elim (cases_lt i (length bytes)) [
@@ -49,7 +50,7 @@ one_tell (Convert Hex) e s text s' text' s'' ((b, x, h), hs) ((d, y, k), ks) =
 one_tell (Convert Bin) e s text s' text' s'' h k = (one_encoding e text text' h.0 k.0, h.1 ∙ sym k.1)
 one_tell (Convert Json) e s text s' text' s'' h k = (h.0 ∙ sym k.0, h.1 ∙ sym k.1)
 one_tell Group (of_telegram t) s text s' text' s'' h k = one_group_item t s text s' text' s'' h k
-one_tell Group (of_message m) s text s' text' s'' h k = absurd h
+one_tell Group (of_message way m) s text s' text' s'' h k = absurd h
 
 pub one_tells : (c : Command) (s : Told) (es : List EntryValue) (text : List ℕ) (s' : Told) (text' : List ℕ) (s'' : Told) → TellsItems c s es text s' → TellsItems c s es text' s'' → (text ≡ text') × (s' ≡ s'')
 one_tells c s [] text s' text' s'' h k = (h.0 ∙ sym k.0, h.1 ∙ sym k.1)

@@ -22,7 +22,7 @@ use Rattle.etcs_text.specs.Encodings.{IsEncoded}
 use Rattle.etcs_text.specs.Entries.{EntryValue, of_telegram, of_message, EntryReads}
 use Rattle.etcs_text.proofs.TextLengths.{encoded_short, json_short}
 use Rattle.etcs_text.specs.Trees.{json_tree}
-use Rattle.etcs_radio.specs.Messages.{typed_message, kept_message}
+use Rattle.etcs_messages.specs.Messages.{typed_message, kept_message}
 use Rattle.etcs_json.proofs.OwnStored.{says_itself}
 use Rattle.etcs_json.proofs.PlainTrees.{read_tree, tree_without, utf8_tree}
 use Rattle.etcs_stream.specs.declared.job.Command.TheVariants.{Convert}
@@ -145,8 +145,8 @@ hex_text lines text is good = record {
 
 is_object : (e : EntryValue) → (ms : Members) × (json_tree e ≡ object ms)
 is_object (of_telegram t) = (_, refl)
-is_object (of_message (typed_message nid head body vs padding)) = (_, refl)
-is_object (of_message (kept_message nid b)) = (_, refl)
+is_object (of_message way (typed_message nid head body vs padding)) = (_, refl)
+is_object (of_message way (kept_message nid b)) = (_, refl)
 
 some_json : (e : EntryValue) → 0 < length (compact_text (json_tree e))
 some_json e = let (ms, is) = is_object e in rw is (omega arith)

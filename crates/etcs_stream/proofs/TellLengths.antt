@@ -32,7 +32,7 @@ told_short (Convert Json) kind e r s text s' x h is =
     let l = length-append (compact_text (json_tree e)) (10 ∷ []) in
     rw is.0 (omega (arith, l, json_short e r x.1))
 told_short Group kind (of_telegram t) r s text s' x h is = group_item_short t s text s' h is
-told_short Group kind (of_message m) r s text s' x h is = absurd is
+told_short Group kind (of_message way m) r s text s' x h is = absurd is
 
 -- each item has a reading of this kind
 abbrev pub AreRead : Kind → List EntryValue → Type 0

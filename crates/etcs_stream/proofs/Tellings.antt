@@ -23,7 +23,7 @@ one_count (Convert Hex) e s text s' h = ap (λ (k : Told). k.count) h.1
 one_count (Convert Bin) e s text s' h = ap (λ (k : Told). k.count) h.1
 one_count (Convert Json) e s text s' h = ap (λ (k : Told). k.count) h.1
 one_count Group (of_telegram t) s text s' h = h.count_is
-one_count Group (of_message m) s text s' h = absurd h
+one_count Group (of_message way m) s text s' h = absurd h
 
 pub tells_count : (c : Command) (s : Told) (es : List EntryValue) (text : List ℕ) (s' : Told) → TellsItems c s es text s' → s'.count ≡ s.count + length es
 tells_count c s [] text s' h = omega (arith, ap (λ (k : Told). k.count) h.1)

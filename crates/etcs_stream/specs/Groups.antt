@@ -1,6 +1,7 @@
 -- The lines of a balise group.
 use Rattle.std.specs.Prelude.{◌≡◌, ◌⊎◌, ◌↔◌, ℕ, zero, suc, ◌+◌, Bool, true, false, if◌then◌else◌, List, [], ◌∷◌, ◌++◌, Option, Some, Result, Ok, Err, codes, map, flat_map, slice_get, slice_index_or}
 use Rattle.std.specs.Fmt.{decimal}
+use Rattle.etcs_tables.specs.declared.row.Way.TheVariants.{ToTrain}
 use Rattle.etcs_packets.specs.declared.packet.Packet.{Packet}
 use Rattle.etcs_packets.specs.PacketValues.{packet_value}
 use Rattle.etcs_telegram.specs.Telegrams.{TelegramContent, TelegramValue, IsTelegram, telegram_value}
@@ -74,7 +75,7 @@ group_front country group = codes "group " ++ decimal country ++ codes " " ++ de
 -- what a group is whole or not: its message, or the positions that are missing
 abbrev pub GroupLines : List (Option TelegramContent) → List ℕ → List ℕ → Type 0
 GroupLines held front text =
-    (IsWhole held × ((ps : List Packet) × IsGroupMessage held ps × (text ≡ front ++ codes " complete\n" ++ packets_text (map packet_value ps))))
+    (IsWhole held × ((ps : List Packet) × IsGroupMessage held ps × (text ≡ front ++ codes " complete\n" ++ packets_text ToTrain (map packet_value ps))))
     ⊎ ((IsWhole held → ⊥) × ((bs : List Bool) × AreMissing held bs × (text ≡ front ++ codes " missing" ++ positions_text (trues 8 bs) ++ codes "\n")))
 
 -- the last lines of a run over a group

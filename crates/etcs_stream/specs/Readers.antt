@@ -5,15 +5,15 @@ use Rattle.etcs_vars.specs.declared.feed.Fed.{Fed}
 use Rattle.etcs_vars.specs.declared.feed.Fed.TheVariants.{More, Done}
 use Rattle.etcs_vars.specs.declared.feed.ReadFault.{ReadFault}
 use Rattle.etcs_vars.specs.declared.feed.ReadFault.TheVariants.{Refused, Ended, Memory}
+use Rattle.etcs_tables.specs.declared.row.Way.TheVariants.{ToTrain, ToTrack}
 use Rattle.etcs_sequence.specs.Progress as inner
 use Rattle.etcs_telegram.specs.Telegrams.{TelegramContent, telegram_value}
-use Rattle.etcs_radio.specs.declared.message.Content.{Content}
-use Rattle.etcs_radio.specs.Messages.{message_value}
+use Rattle.etcs_radio.specs.Messages as radio
+use Rattle.etcs_train.specs.Messages as train
 use Rattle.etcs_text.specs.declared.entry.Kind.{Kind}
-use Rattle.etcs_text.specs.declared.entry.Kind.TheVariants.{Radio}
-use Rattle.etcs_text.specs.Entries.{EntryValue, of_telegram, of_message, kind_of, EntryReads}
+use Rattle.etcs_text.specs.Entries.{EntryValue, of_telegram, of_message, kind_of, message_kind, EntryReads}
 use Rattle.etcs_stream.specs.declared.entries.Inner.{Inner}
-use Rattle.etcs_stream.specs.declared.entries.Inner.TheVariants.{Telegram, Message}
+use Rattle.etcs_stream.specs.declared.entries.Inner.TheVariants.{Telegram, Message, Train}
 
 -- it has taken these bits and wants more; it has an item; it takes no more
 pub data Progress : Type 0 where
@@ -35,13 +35,17 @@ progress_of item (inner.starved n) = stopped
 abbrev pub telegram_item : TelegramContent → EntryValue
 telegram_item t = of_telegram (telegram_value t)
 
-abbrev pub message_item : Content → EntryValue
-message_item m = of_message (message_value m)
+abbrev pub message_item : radio.Content → EntryValue
+message_item m = of_message ToTrain (radio.message_value m)
+
+abbrev pub train_item : train.Content → EntryValue
+train_item m = of_message ToTrack (train.message_value m)
 
 -- the reader of a kind reads items of that kind alone
 abbrev pub value_of : Inner → ReaderValue
 value_of (Telegram r) = record { kind = kind_of r.size; progress = progress_of telegram_item r.progress }
-value_of (Message s) = record { kind = Radio; progress = progress_of message_item s }
+value_of (Message s) = record { kind = message_kind ToTrain; progress = progress_of message_item s }
+value_of (Train s) = record { kind = message_kind ToTrack; progress = progress_of train_item s }
 
 -- the bits of an item that isn't whole yet
 abbrev pub seen_bits : Progress → List Bool

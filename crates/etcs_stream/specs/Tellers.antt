@@ -1,9 +1,10 @@
 -- What a run writes of its items, one after another, and after the last.
-use Rattle.std.specs.Prelude.{◌≡◌, ◌↔◌, ℕ, ◌+◌, true, List, [], ◌∷◌, ◌++◌, None, replicate}
+use Rattle.std.specs.Prelude.{◌≡◌, ◌↔◌, ℕ, ◌+◌, Bool, true, false, IsTrue, List, [], ◌∷◌, ◌++◌, None, replicate}
 use Rattle.hex.specs.Hex.{encode_upper}
 use Rattle.serde_json.specs.Written.{compact_text}
 use Rattle.etcs_group.specs.Messages.{IsWhole}
-use Rattle.etcs_text.specs.declared.entry.Kind.TheVariants.{Radio}
+use Rattle.etcs_text.specs.declared.entry.Kind.{Kind}
+use Rattle.etcs_text.specs.declared.entry.Kind.TheVariants.{Long, Short, Radio, Train}
 use Rattle.etcs_text.specs.Encodings.{IsEncoded, check_line}
 use Rattle.etcs_text.specs.Trees.{json_tree}
 use Rattle.etcs_text.specs.Entries.{EntryValue, of_telegram, of_message, entry_text}
@@ -15,9 +16,19 @@ use Rattle.etcs_stream.specs.declared.job.Tally.{Tally}
 use Rattle.etcs_stream.specs.Groups.{GroupItem, LastLines}
 use Rattle.etcs_stream.specs.Told.{Told}
 
+-- items of the kind are telegrams
+abbrev pub is_of_telegrams : Kind → Bool
+is_of_telegrams Long = true
+is_of_telegrams Short = true
+is_of_telegrams Radio = false
+is_of_telegrams Train = false
+
+abbrev pub IsOfTelegrams : Kind → Type 0
+IsOfTelegrams kind = IsTrue (is_of_telegrams kind)
+
 -- messages aren't grouped
 abbrev pub IsGroupable : Job → Type 0
-IsGroupable job = job.command ≡ Group → job.kind ≡ Radio → ⊥
+IsGroupable job = job.command ≡ Group → IsOfTelegrams job.kind
 
 abbrev pub nothing_told : Told
 nothing_told = record { count = 0; clashes = 0; held = replicate 8 None }
@@ -34,7 +45,7 @@ TellsItem (Convert Hex) e s text s' = ((bytes : List ℕ) × IsEncoded e bytes �
 TellsItem (Convert Bin) e s text s' = IsEncoded e text × (s' ≡ one_more s)
 TellsItem (Convert Json) e s text s' = (text ≡ compact_text (json_tree e) ++ 10 ∷ []) × (s' ≡ one_more s)
 TellsItem Group (of_telegram t) s text s' = GroupItem t s text s'
-TellsItem Group (of_message m) s text s' = ⊥
+TellsItem Group (of_message way m) s text s' = ⊥
 
 -- and of items one after another
 abbrev pub TellsItems : Command → Told → List EntryValue → List ℕ → Told → Type 0

@@ -2,24 +2,28 @@
 
 ghost use Rattle.std.specs.Prelude.{◌≡◌, List, Bool, [], OnErr, IfOk, length};
 ghost use Rattle.etcs_bits.specs.Bits.{bits};
+ghost use Rattle.etcs_messages.specs.declared.message.Content.{Content};
 ghost use Rattle.etcs_sequence.specs.Progress as inner;
-ghost use Rattle.etcs_text.specs.declared.entry.Kind.TheVariants.{Radio};
 ghost use Rattle.etcs_text.specs.Entries.{EntryReads, EntryValue, entry_value, kind_of};
-ghost use Rattle.etcs_stream.specs.Readers.{Feeds, reading, finished, progress_of, telegram_item, message_item};
+ghost use Rattle.etcs_stream.specs.Readers.{Feeds, reading, finished, progress_of, telegram_item};
+ghost use Rattle.etcs_stream.specs.Tellers.{IsOfTelegrams};
 
+use etcs_messages::{Head, MessageOf, Own, ReaderOf};
 use etcs_radio::MessageReader;
 use etcs_telegram::{Size, TelegramReader};
 use etcs_text::{Entry, Kind};
+use etcs_train::TrainReader;
 use etcs_vars::{Fed, ReadFault};
 use std::alloc::Global;
 use std::marker::Model;
 use std::mem;
 
-/// The reader of telegrams or of messages.
+/// The reader of telegrams, or of messages of a way.
 #[derive(Drop)]
 enum Inner {
     Telegram(TelegramReader),
     Message(MessageReader),
+    Train(TrainReader),
 }
 
 /// Reads an item of a kind from pieces of any length.
@@ -45,6 +49,7 @@ impl EntryReader {
             Kind::Long => Inner::Telegram(TelegramReader::new(alloc, Size::Long)),
             Kind::Short => Inner::Telegram(TelegramReader::new(alloc, Size::Short)),
             Kind::Radio => Inner::Message(MessageReader::new(alloc)),
+            Kind::Train => Inner::Train(TrainReader::new(alloc)),
         };
         EntryReader { inner }
     }
@@ -56,6 +61,7 @@ impl EntryReader {
         match &self.inner {
             Inner::Telegram(reader) => reader.bits_seen(),
             Inner::Message(reader) => reader.bits_seen(),
+            Inner::Train(reader) => reader.bits_seen(),
         }
     }
 
@@ -71,6 +77,7 @@ impl EntryReader {
         match &mut self.inner {
             Inner::Telegram(reader) => reader.feed(piece),
             Inner::Message(reader) => reader.feed(piece),
+            Inner::Train(reader) => reader.feed(piece),
         }
     }
 
@@ -88,20 +95,21 @@ impl EntryReader {
     {
         match &mut self.inner {
             Inner::Telegram(reader) => next_telegram(reader, alloc, size_of(kind)),
-            Inner::Message(reader) => next_message(reader, alloc),
+            Inner::Message(reader) => Ok(Entry::Message(next_message(reader, alloc)?)),
+            Inner::Train(reader) => Ok(Entry::Train(next_message(reader, alloc)?)),
         }
     }
 }
 
 /// The size of a kind's telegrams.
 fn size_of(kind: Kind) -> Size
-    requires { kind ≡ Radio → ⊥ }
+    requires { IsOfTelegrams kind }
     ensures { kind_of result ≡ kind }
 {
     match kind {
         Kind::Long => Size::Long,
         Kind::Short => Size::Short,
-        Kind::Radio => unreachable!(),
+        Kind::Radio | Kind::Train => unreachable!(),
     }
 }
 
@@ -120,13 +128,16 @@ fn next_telegram(reader: &mut TelegramReader, alloc: Global, size: Size) -> Resu
 
 /// The message that is whole. The next one is read then.
 #[inline(always)]
-fn next_message(reader: &mut MessageReader, alloc: Global) -> Result<Entry, ()>
-    ensures some { IfOk result (λ e. progress_of message_item reader.old ≡ finished (entry_value e)) }
-    ensures none { OnErr result ((e : EntryValue) → progress_of message_item reader.old ≡ finished e → ⊥) }
+fn next_message<H: Head, B: Own<Front = H>>(
+    reader: &mut ReaderOf<H, B>,
+    alloc: Global,
+) -> Result<MessageOf<H, B>, ()>
+    ensures some { IfOk result (λ m. reader.old ≡ inner.finished m) }
+    ensures none { OnErr result ((m : Content H B H.Packet) → reader.old ≡ inner.finished m → ⊥) }
     ensures next { reader.new ≡ inner.reading [] }
 {
-    match mem::replace(reader, MessageReader::new(alloc)).take() {
-        Ok(message) => Ok(Entry::Message(message)),
+    match mem::replace(reader, ReaderOf::new(alloc)).take() {
+        Ok(message) => Ok(message),
         Err(_) => Err(()),
     }
 }

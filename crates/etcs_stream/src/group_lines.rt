@@ -1,6 +1,7 @@
 //! The lines of a balise group.
 
 ghost use Rattle.std.specs.Prelude.{◌≡◌, ◌++◌, ℕ, List, codes, map, OnErr, OnOk};
+ghost use Rattle.etcs_tables.specs.declared.row.Way.TheVariants.{ToTrain};
 ghost use Rattle.etcs_packets.specs.PacketValues.{packet_value};
 ghost use Rattle.etcs_text.specs.Fronts.{Begins};
 ghost use Rattle.etcs_text.specs.Packets.{packets_text};
@@ -135,7 +136,7 @@ fn write_missing(missing: &[bool; 8], text: &mut Vec<u8>) -> Result<(), AllocErr
 /// Appends the end of the line of a whole group, and the packets of its message.
 #[tactic(auto, using(etcs_text::specs::laws::Fronts::begins_more))]
 fn write_complete(packets: &[Packet], text: &mut Vec<u8>) -> Result<(), AllocError>
-    ensures ok { OnOk result (text.new.items ≡ text.old.items ++ (codes " complete\n" ++ packets_text (map packet_value packets.now))) }
+    ensures ok { OnOk result (text.new.items ≡ text.old.items ++ (codes " complete\n" ++ packets_text ToTrain (map packet_value packets.now))) }
     ensures err { OnErr result (Begins text.old.items text.new.items) }
 {
     text.extend_from_slice(b" complete\n")?;

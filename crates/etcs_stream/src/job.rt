@@ -1,5 +1,8 @@
 //! What the program is asked to do, and what it answers.
 
+ghost use Rattle.std.specs.Prelude.{◌↔◌, IsTrue};
+ghost use Rattle.etcs_stream.specs.Tellers.{IsGroupable, IsOfTelegrams};
+
 use etcs_text::Kind;
 
 /// The form of items.
@@ -36,6 +39,28 @@ pub struct Job {
     pub from: Form,
     /// What is done.
     pub command: Command,
+}
+
+impl Job {
+    /// Whether it can be done: messages aren't grouped.
+    pub fn is_groupable(&self) -> bool
+        ensures { IsTrue result ↔ IsGroupable self.now }
+    {
+        match self.command {
+            Command::Group => is_of_telegrams(self.kind),
+            Command::Show | Command::Check | Command::Convert(_) => true,
+        }
+    }
+}
+
+/// Whether items of a kind are telegrams.
+fn is_of_telegrams(kind: Kind) -> bool
+    ensures { IsTrue result ↔ IsOfTelegrams kind }
+{
+    match kind {
+        Kind::Long | Kind::Short => true,
+        Kind::Radio | Kind::Train => false,
+    }
 }
 
 /// What a whole run met.

@@ -4,10 +4,9 @@ ghost use Rattle.std.specs.Prelude.{◌≡◌, ◌+◌, ◌<◌, ◌++◌, ℕ, 
 ghost use Rattle.etcs_telegram.specs.Telegrams.{IsTelegram};
 ghost use Rattle.etcs_group.specs.Groups.{HeldAfter, IsGroup};
 ghost use Rattle.etcs_text.specs.Entries.{entry_kind, entry_value};
-ghost use Rattle.etcs_text.specs.declared.entry.Kind.TheVariants as kind;
 ghost use Rattle.etcs_stream.specs.Groups.{Answers, clashes_with};
 ghost use Rattle.etcs_stream.specs.Told.{Told};
-ghost use Rattle.etcs_stream.specs.Tellers.{Closes, TellsItem, nothing_told, one_more};
+ghost use Rattle.etcs_stream.specs.Tellers.{Closes, IsOfTelegrams, TellsItem, nothing_told, one_more};
 
 use crate::group_lines::{answer_line, last_lines};
 use crate::job::{Command, Form, Tally};
@@ -67,7 +66,7 @@ impl Teller {
         text: &mut Vec<u8>,
     ) -> Result<(), AllocError>
         requires few { self.old.count < 1000000 }
-        requires grouped { command ≡ Command.Group → entry_kind (entry_value entry) ≡ kind.Radio → ⊥ }
+        requires grouped { command ≡ Command.Group → IsOfTelegrams (entry_kind (entry_value entry)) }
         ensures count { self.new.count ≡ self.old.count + 1 }
         ensures ok { OnOk result ((added : List ℕ) × TellsItem command (entry_value entry) self.old added self.new × (text.new.items ≡ text.old.items ++ added)) }
         ensures err { OnErr result (text.new.items ≡ text.old.items) }
@@ -114,14 +113,14 @@ impl Teller {
     /// Appends the line that says what a telegram is to the group, or nothing.
     fn tell_grouped(&mut self, entry: Entry, text: &mut Vec<u8>) -> Result<(), AllocError>
         requires few { self.old.count < 1000000 }
-        requires grouped { entry_kind (entry_value entry) ≡ kind.Radio → ⊥ }
+        requires grouped { IsOfTelegrams (entry_kind (entry_value entry)) }
         ensures count { self.new.count ≡ self.old.count + 1 }
         ensures ok { OnOk result ((added : List ℕ) × TellsItem Command.Group (entry_value entry) self.old added self.new × (text.new.items ≡ text.old.items ++ added)) }
         ensures err { OnErr result (text.new.items ≡ text.old.items) }
     {
         let answer = match entry {
             Entry::Telegram(telegram) => self.add(telegram),
-            Entry::Message(_) => unreachable!(),
+            Entry::Message(_) | Entry::Train(_) => unreachable!(),
         };
         answer_line(self.count, answer, text)
     }

@@ -2,13 +2,16 @@ use Rattle.std.proofs.Common.{◌≡◌, List, Bool, Result, ap, sym, ◌∙◌}
 use Rattle.etcs_bits.specs.Bits.{bits}
 use Rattle.etcs_vars.specs.declared.feed.Fed.{Fed}
 use Rattle.etcs_vars.specs.declared.feed.ReadFault.{ReadFault}
+use Rattle.etcs_tables.specs.declared.row.Way.TheVariants.{ToTrain, ToTrack}
+use Rattle.etcs_radio.specs.Messages as radio
+use Rattle.etcs_train.specs.Messages as train
 use Rattle.etcs_text.specs.Entries.{EntryReads}
 use Rattle.etcs_stream.specs.declared.entries.EntryReader.TheInside.{Inside}
 use Rattle.etcs_stream.specs.declared.entries.Inner.{Inner}
-use Rattle.etcs_stream.specs.declared.entries.Inner.TheVariants.{Telegram, Message}
-use Rattle.etcs_stream.specs.Readers.{ReaderValue, Feeds, telegram_item, message_item, value_of}
+use Rattle.etcs_stream.specs.declared.entries.Inner.TheVariants.{Telegram, Message, Train}
+use Rattle.etcs_stream.specs.Readers.{ReaderValue, Feeds, telegram_item, message_item, train_item, value_of}
 use Rattle.etcs_stream.proofs.ItemKinds.{telegram_feeds, message_feeds, inner_reading}
-use Rattle.etcs_stream.proofs.entries.EntryReader.feed.Goals.{in-Telegram, in-Message}
+use Rattle.etcs_stream.proofs.entries.EntryReader.feed.Goals.{in-Telegram, in-Message, in-Train}
 use Rattle.etcs_stream.proofs.entries.EntryReader.feed.Goals as goal
 
 -- what is said of the reader inside is said of the whole one
@@ -30,5 +33,11 @@ returns-clause-answer c seen h =
           let before : value_of (Message r) ≡ c.args.self.now = ap value_of (sym w.in-Message.is) ∙ c.self.view_is in
           let at = inner_reading message_item r seen (ap (λ (v : ReaderValue). v.progress) before ∙ h) in
           of_inside (Message r) (Message w.feed-in-Message.new.self) c.args.self.now (value_of c.match-self.self-inside.inner) seen b w.feed-in-Message.result c.match-self.result before (sym (ap (λ (i : Inside). value_of i.inner) w.self-inside-is)) w.result-is
-          (message_feeds seen b w.feed-in-Message.result w.feed-in-Message.new.self (w.feed-in-Message.ensures.answer seen at))
+          (message_feeds ToTrain radio.message_value radio.IsMessage seen b w.feed-in-Message.result w.feed-in-Message.new.self (w.feed-in-Message.ensures.answer seen at))
+      | in-Train w ↦
+          let r = w.in-Train.reader in
+          let before : value_of (Train r) ≡ c.args.self.now = ap value_of (sym w.in-Train.is) ∙ c.self.view_is in
+          let at = inner_reading train_item r seen (ap (λ (v : ReaderValue). v.progress) before ∙ h) in
+          of_inside (Train r) (Train w.feed-in-Train.new.self) c.args.self.now (value_of c.match-self.self-inside.inner) seen b w.feed-in-Train.result c.match-self.result before (sym (ap (λ (i : Inside). value_of i.inner) w.self-inside-is)) w.result-is
+          (message_feeds ToTrack train.message_value train.IsMessage seen b w.feed-in-Train.result w.feed-in-Train.new.self (w.feed-in-Train.ensures.answer seen at))
     ]

@@ -4,28 +4,36 @@
 //!
 //! A constructor's arguments are numbers: parts as the row has them, and the last list without its count. Those of
 //! `flat_packet` and `balise_list` begin with NID, those of `plain_text` have how many numbers the frame has after DIR.
+//!
+//! Lines of packets to the track have no DIR; `train_flat`, `train_kept` and `train_kept_long` are of these.
 
 use crate::case::{Case, FaultTexts};
-use crate::packets::{FAULTS, Spelled, check_packet, kept, marker, say_checked};
+use crate::forms::{Asked, is_copied};
+use crate::packets::{FAULTS, Spelled, check_packet, kept, next_dir, say_checked, say_dir};
 use crate::parts::{FAULTS as FAULTS_OF_PARTS, check_numbers, next_part};
 use crate::sent::packet_sent;
 use etcs_bits::Bits;
 use etcs_bodies::{Numbers, Part};
 use etcs_packets::{
-    Authority, BaliseAt, BaliseList, Condition, ConditionalLevelOrder, FixedText, Flat, Gradient,
+    Authority, BaliseAt, BaliseList, Condition, ConditionalLevelOrder, FixedText, Gradient,
     InfillLocation, Level, Level1Ma, Level23Ma, LevelAck, LevelOrder, Link, Linking, ModeProfile,
-    ModeSection, Other, Packet, PlainText, ReportAt, ReportParameters, Slope, Speed, SpeedProfile,
-    TextFrame, TrackCondition, TrackState, parts,
+    ModeSection, Packet, PlainText, ReportAt, ReportParameters, Slope, Speed, SpeedProfile,
+    TextFrame, TrackCondition, TrackState,
 };
+use etcs_tables::frame_bits;
+use etcs_track::{Located, PositionReport, PositionReportTwo, TrainPacket};
 use etcs_vars::BuildFault;
 use etcs_vars::parts::append_numbers;
 
 /// Answers a line about a packet that is built: whether it is one.
 pub(crate) fn answer(case: &mut Case, kind: &str) -> bool {
     match kind {
-        "flat" => flat(case),
-        "kept" => kept_bits(case),
-        "kept_long" => kept_long(case),
+        "flat" => flat::<Packet>(case),
+        "kept" => kept_bits::<Packet>(case),
+        "kept_long" => kept_long::<Packet>(case),
+        "train_flat" => flat::<TrainPacket>(case),
+        "train_kept" => kept_bits::<TrainPacket>(case),
+        "train_kept_long" => kept_long::<TrainPacket>(case),
         "marker" => say_marker(case),
         "linking"
         | "gradient"
@@ -42,6 +50,7 @@ pub(crate) fn answer(case: &mut Case, kind: &str) -> bool {
         | "track_condition"
         | "mode_profile"
         | "flat_packet" => built(case, kind),
+        "position_report" | "position_report_two" => reported(case, kind),
         _ => return false,
     }
     true
@@ -52,17 +61,30 @@ fn built(case: &mut Case, kind: &str) {
     let behind = case.split(":");
     let words = case.numbers();
     let packet = made(case, kind, words.as_slice());
+    say_made(case, behind, packet.as_ref());
+}
+
+/// The same of a position report, which goes to the track.
+fn reported(case: &mut Case, kind: &str) {
+    let behind = case.split(":");
+    let words = case.numbers();
+    let packet = report(case, kind, words.as_slice());
+    say_made(case, behind, packet.as_ref());
+}
+
+/// Answers what a constructor makes, before these words.
+fn say_made<'a, A: Asked>(case: &mut Case<'a>, behind: &'a str, packet: Option<&A>) {
     case.go_on(behind);
-    match packet.as_ref() {
+    match packet {
         Some(packet) if !behind.is_empty() => say_built(case, packet),
         packet => case.say(if packet.is_some() { "built" } else { "" }),
     }
 }
 
 /// The frame of a packet that is as `NUMBERS : BITS` has it.
-fn say_built(case: &mut Case, packet: &Packet) {
-    let dir = parts::dir(packet).unwrap_or(3);
-    let spelled = Spelled::next(case, packet.nid(), dir);
+fn say_built<A: Asked>(case: &mut Case, packet: &A) {
+    let dir = packet.direction().unwrap_or(3);
+    let spelled = Spelled::next(case, packet.number_of(), dir);
     say_checked(case, packet, &spelled);
 }
 
@@ -92,17 +114,17 @@ fn made(case: &mut Case, kind: &str, words: &[u64]) -> Option<Packet> {
                 return None;
             };
             let dir = case.byte_of(*dir);
-            found(case, flat_packet(first, dir, left), &FAULTS)
+            found(case, Packet::flat(first, dir, left), &FAULTS)
         }
     }
 }
 
 /// What was built, or why nothing was.
-fn found(
+fn found<A: Asked>(
     case: &mut Case,
-    built: Result<Packet, BuildFault>,
+    built: Result<A, BuildFault>,
     faults: &FaultTexts,
-) -> Option<Packet> {
+) -> Option<A> {
     match built {
         Ok(packet) => Some(packet),
         Err(fault) => {
@@ -447,48 +469,56 @@ fn mode_profile(case: &mut Case, dir: u8, words: &[u64]) -> Option<Packet> {
     listed!(case, left, ModeProfile of ModeSection, first further ModeProfile::new(dir, q_scale, first, further); q_scale)
 }
 
-/// The packet without groups of a number, a direction and its numbers.
-fn flat_packet(nid: u8, dir: u8, numbers: &[u64]) -> Result<Packet, BuildFault> {
-    Ok(match nid {
-        2 => Packet::SystemVersion(Flat::new(dir, numbers)?),
-        16 => Packet::Repositioning(Flat::new(dir, numbers)?),
-        42 => Packet::SessionManagement(Flat::new(dir, numbers)?),
-        45 => Packet::RadioNetwork(Flat::new(dir, numbers)?),
-        57 => Packet::MaRequest(Flat::new(dir, numbers)?),
-        64 => Packet::InhibitTsr(Flat::new(dir, numbers)?),
-        65 => Packet::Tsr(Flat::new(dir, numbers)?),
-        66 => Packet::TsrRevocation(Flat::new(dir, numbers)?),
-        131 => Packet::RbcTransition(Flat::new(dir, numbers)?),
-        132 => Packet::DangerForShunting(Flat::new(dir, numbers)?),
-        135 => Packet::StopShunting(Flat::new(dir, numbers)?),
-        137 => Packet::StopInSr(Flat::new(dir, numbers)?),
-        140 => Packet::TrainRunningNumber(Flat::new(dir, numbers)?),
-        141 => Packet::TsrGradient(Flat::new(dir, numbers)?),
-        145 => Packet::InhibitConsistency(Flat::new(dir, numbers)?),
-        254 => Packet::DefaultInformation(Flat::new(dir, numbers)?),
-        0 => return Err(refused::<0>(dir, numbers)),
-        44 => return Err(refused::<44>(dir, numbers)),
-        46 => return Err(refused::<46>(dir, numbers)),
-        136 => return Err(refused::<136>(dir, numbers)),
-        255 => return Err(refused::<255>(dir, numbers)),
-        _ => return Err(BuildFault::Count),
-    })
+/// `Q_SCALE NID_LRBG LOCATED`, of the second after NID_LRBG also `NID_PRVLRBG`
+fn report(case: &mut Case, kind: &str, words: &[u64]) -> Option<TrainPacket> {
+    let [q_scale, nid_lrbg, left @ ..] = words else {
+        return None;
+    };
+    let q_scale = case.byte_of(*q_scale);
+    let nid_lrbg = case.long_of(*nid_lrbg);
+    match kind {
+        "position_report" => first_report(case, q_scale, nid_lrbg, left),
+        _ => second_report(case, q_scale, nid_lrbg, left),
+    }
 }
 
-/// Why there is no packet without groups of this number.
-fn refused<const NID: u8>(dir: u8, numbers: &[u64]) -> BuildFault {
-    match Flat::<NID>::new(dir, numbers) {
-        Ok(_) => BuildFault::FillLength,
-        Err(fault) => fault,
+fn first_report(case: &mut Case, q_scale: u8, nid_lrbg: u32, left: &[u64]) -> Option<TrainPacket> {
+    let located: Located = next_part(case, &mut Numbers::new(left))?;
+    match PositionReport::new(q_scale, nid_lrbg, located) {
+        Ok(packet) => {
+            same!(case, packet: q_scale nid_lrbg located);
+            Some(TrainPacket::Report(packet))
+        }
+        Err(fault) => found(case, Err(fault), &FAULTS),
+    }
+}
+
+fn second_report(
+    case: &mut Case,
+    q_scale: u8,
+    nid_lrbg: u32,
+    words: &[u64],
+) -> Option<TrainPacket> {
+    let [nid_prvlrbg, left @ ..] = words else {
+        return None;
+    };
+    let nid_prvlrbg = case.long_of(*nid_prvlrbg);
+    let located: Located = next_part(case, &mut Numbers::new(left))?;
+    match PositionReportTwo::new(q_scale, nid_lrbg, nid_prvlrbg, located) {
+        Ok(packet) => {
+            same!(case, packet: q_scale nid_lrbg nid_prvlrbg located);
+            Some(TrainPacket::ReportTwo(packet))
+        }
+        Err(fault) => found(case, Err(fault), &FAULTS),
     }
 }
 
 /// `flat NID DIR NUMBERS`: the variables and bits of a packet without groups, or why there is none.
-fn flat(case: &mut Case) {
+fn flat<A: Asked>(case: &mut Case) {
     let nid = case.byte();
-    let dir = case.byte();
+    let dir = next_dir::<A>(case);
     let numbers = case.numbers();
-    let built = flat_packet(nid, dir, numbers.as_slice());
+    let built = A::flat(nid, dir, numbers.as_slice());
     let packet = found(case, built, &FAULTS_OF_PARTS);
     if let Some(packet) = packet.as_ref() {
         say_flat(case, packet, nid, dir, numbers);
@@ -496,7 +526,7 @@ fn flat(case: &mut Case) {
 }
 
 /// The variables and the bits of a packet of these numbers.
-fn say_flat(case: &mut Case, packet: &Packet, nid: u8, dir: u8, numbers: Vec<u64>) {
+fn say_flat<A: Asked>(case: &mut Case, packet: &A, nid: u8, dir: u8, numbers: Vec<u64>) {
     let sent = packet_sent(case, packet);
     let inner = sent.say_spelled(case);
     let spelled = Spelled::new(nid, dir, numbers, inner, sent.len());
@@ -504,35 +534,41 @@ fn say_flat(case: &mut Case, packet: &Packet, nid: u8, dir: u8, numbers: Vec<u64
 }
 
 /// `kept NID DIR BITS`: the parts of a kept packet, or why there is none.
-fn kept_bits(case: &mut Case) {
+fn kept_bits<A: Asked>(case: &mut Case) {
     let nid = case.byte();
-    let dir = case.byte();
+    let dir = next_dir::<A>(case);
     let bits = case.bits();
     let len = bits.len();
-    let packet = kept(case, nid, dir, bits, &FAULTS_OF_PARTS);
-    if let Some(Packet::Other(packet)) = packet.as_ref() {
+    let packet: Option<A> = kept(case, nid, dir, bits, &FAULTS_OF_PARTS);
+    if let Some(packet) = packet.as_ref() {
         say_kept(case, packet, len);
     }
 }
 
 /// The parts of a packet that is kept as this many bits.
-fn say_kept(case: &mut Case, packet: &Other, len: usize) {
-    case.say_next(u64::from(packet.nid()));
-    case.say_next(u64::from(packet.dir()));
-    case.say_bits(&packet.body());
-    let same = packet.bits() == len && packet.body().len() == len;
-    case.check(same, "another length");
-    let copy = case.got(packet.try_clone(case.alloc()));
-    case.check(copy.as_ref() == Some(packet), "another copy");
+fn say_kept<A: Asked>(case: &mut Case, packet: &A, len: usize) {
+    case.say_next(u64::from(packet.number_of()));
+    say_dir(case, packet);
+    match packet.kept_bits() {
+        Some(body) => {
+            case.say_bits(&body);
+            case.check(body.len() == len, "other bits");
+        }
+        None => case.check(false, "no kept bits"),
+    }
+    let body = packet.full_bits().checked_sub(frame_bits(A::WAY));
+    case.check(body == Some(len), "another length");
+    let copied = is_copied(case, packet);
+    case.check(copied, "another copy");
 }
 
 /// `kept_long NID DIR COUNT`: `ok` for this many bits of bytes A5, or why there is no such packet.
-fn kept_long(case: &mut Case) {
+fn kept_long<A: Asked>(case: &mut Case) {
     let nid = case.byte();
-    let dir = case.byte();
+    let dir = next_dir::<A>(case);
     let len = case.up_to(8176) as usize;
     let body = case.bits_between("", "1022 x 10100101", "");
-    let packet = kept(case, nid, dir, first_bits(body, len), &FAULTS_OF_PARTS);
+    let packet: Option<A> = kept(case, nid, dir, first_bits(body, len), &FAULTS_OF_PARTS);
     case.say(if packet.is_some() { "ok" } else { "" });
 }
 
@@ -546,7 +582,7 @@ fn first_bits(mut bits: Bits, len: usize) -> Bits {
 
 /// The marker's number, or why there is none: `marker NID_VBCMK`.
 fn say_marker(case: &mut Case) {
-    let packet = marker(case);
+    let packet = Packet::marker(case);
     if let Some(packet) = packet.as_ref() {
         let numbers = packet_sent(case, packet).numbers(case);
         case.say_found(numbers.as_slice().first().copied());

@@ -207,6 +207,11 @@ impl<'a> Case<'a> {
         self.bounded(number, 65535) as u16
     }
 
+    /// A number of a list as one of 32 bits.
+    pub fn long_of(&mut self, number: u64) -> u32 {
+        self.bounded(number, 4294967295) as u32
+    }
+
     pub fn byte_or_none(&mut self) -> Option<u8> {
         if self.is_none() {
             return None;

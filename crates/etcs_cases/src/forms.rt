@@ -1,38 +1,166 @@
-//! What each kind of packet does by itself: its numbers, and the law of its `==`.
+//! What packets of each way do by themselves: their numbers, what their types build, and the laws of their `==`.
 
 use crate::case::Case;
+use crate::packets::FAULTS;
+use etcs_bits::Bits;
 use etcs_bodies::Packetlike;
 use etcs_bodies::laws::exact_equality;
 use etcs_packets::laws::{exact_packet, one_packet};
-use etcs_packets::{Packet, parts};
-use etcs_tables::Way;
+use etcs_packets::parts::AnyPacket;
+use etcs_packets::{Flat, Other, Packet};
+use etcs_track::{TrainFlat, TrainOther, TrainPacket, laws};
+use etcs_vars::BuildFault;
 
 /// The number that is in a list before those of a packet.
 const BEFORE: u64 = 200;
 
-/// Checks that a packet's type has its number, and that the packet appends just these numbers to a list.
-pub(crate) fn check_listed(case: &mut Case, packet: &Packet, numbers: &[u64]) {
-    match packet {
-        Packet::Linking(own) => check_own(case, own, packet, numbers),
-        Packet::Level1Ma(own) => check_own(case, own, packet, numbers),
-        Packet::Level23Ma(own) => check_own(case, own, packet, numbers),
-        Packet::Gradient(own) => check_own(case, own, packet, numbers),
-        Packet::SpeedProfile(own) => check_own(case, own, packet, numbers),
-        Packet::LevelOrder(own) => check_own(case, own, packet, numbers),
-        Packet::ConditionalLevelOrder(own) => check_own(case, own, packet, numbers),
-        Packet::ShuntingList(own) => check_own(case, own, packet, numbers),
-        Packet::ReportParameters(own) => check_own(case, own, packet, numbers),
-        Packet::SrList(own) => check_own(case, own, packet, numbers),
-        Packet::TrackCondition(own) => check_own(case, own, packet, numbers),
-        Packet::PlainText(own) => check_own(case, own, packet, numbers),
-        Packet::FixedText(own) => check_own(case, own, packet, numbers),
-        Packet::ModeProfile(own) => check_own(case, own, packet, numbers),
-        Packet::InfillLocation(own) => check_own(case, own, packet, numbers),
-        _ => check_flat(case, packet, numbers),
+/// A packet of one way, of which lines ask.
+pub(crate) trait Asked: AnyPacket + PartialEq {
+    /// The packet 0 without a frame of the number that comes next.
+    fn marker(case: &mut Case) -> Option<Self>;
+
+    /// The packet without groups of a number, a direction and its numbers.
+    fn flat(nid: u8, dir: u8, numbers: &[u64]) -> Result<Self, BuildFault>;
+
+    /// The packet that is kept as these bits.
+    fn kept(nid: u8, dir: u8, body: Bits) -> Result<Self, (BuildFault, Bits)>;
+
+    /// Checks that its type has its number, and that it appends just these numbers to a list.
+    fn check_listed(&self, case: &mut Case, numbers: &[u64]);
+
+    /// Whether two packets are equal by every law that can be asked, where all of them say the same as `==`.
+    fn is_same(&self, other: &Self) -> bool;
+}
+
+impl Asked for Packet {
+    fn marker(case: &mut Case) -> Option<Packet> {
+        match Packet::vbc_marker(case.byte()) {
+            Ok(marker) => Some(marker),
+            Err(fault) => {
+                case.say_fault(fault, &FAULTS);
+                None
+            }
+        }
+    }
+
+    fn flat(nid: u8, dir: u8, numbers: &[u64]) -> Result<Packet, BuildFault> {
+        Ok(match nid {
+            2 => Packet::SystemVersion(Flat::new(dir, numbers)?),
+            16 => Packet::Repositioning(Flat::new(dir, numbers)?),
+            42 => Packet::SessionManagement(Flat::new(dir, numbers)?),
+            45 => Packet::RadioNetwork(Flat::new(dir, numbers)?),
+            57 => Packet::MaRequest(Flat::new(dir, numbers)?),
+            64 => Packet::InhibitTsr(Flat::new(dir, numbers)?),
+            65 => Packet::Tsr(Flat::new(dir, numbers)?),
+            66 => Packet::TsrRevocation(Flat::new(dir, numbers)?),
+            131 => Packet::RbcTransition(Flat::new(dir, numbers)?),
+            132 => Packet::DangerForShunting(Flat::new(dir, numbers)?),
+            135 => Packet::StopShunting(Flat::new(dir, numbers)?),
+            137 => Packet::StopInSr(Flat::new(dir, numbers)?),
+            140 => Packet::TrainRunningNumber(Flat::new(dir, numbers)?),
+            141 => Packet::TsrGradient(Flat::new(dir, numbers)?),
+            145 => Packet::InhibitConsistency(Flat::new(dir, numbers)?),
+            254 => Packet::DefaultInformation(Flat::new(dir, numbers)?),
+            0 => return Err(refused(Flat::<0>::new(dir, numbers))),
+            44 => return Err(refused(Flat::<44>::new(dir, numbers))),
+            46 => return Err(refused(Flat::<46>::new(dir, numbers))),
+            136 => return Err(refused(Flat::<136>::new(dir, numbers))),
+            255 => return Err(refused(Flat::<255>::new(dir, numbers))),
+            _ => return Err(BuildFault::Count),
+        })
+    }
+
+    fn kept(nid: u8, dir: u8, body: Bits) -> Result<Packet, (BuildFault, Bits)> {
+        match Other::new(nid, dir, body) {
+            Ok(other) => Ok(Packet::Other(other)),
+            Err(back) => Err(back),
+        }
+    }
+
+    fn check_listed(&self, case: &mut Case, numbers: &[u64]) {
+        match self {
+            Packet::Linking(own) => check_own(case, own, self, numbers),
+            Packet::Level1Ma(own) => check_own(case, own, self, numbers),
+            Packet::Level23Ma(own) => check_own(case, own, self, numbers),
+            Packet::Gradient(own) => check_own(case, own, self, numbers),
+            Packet::SpeedProfile(own) => check_own(case, own, self, numbers),
+            Packet::LevelOrder(own) => check_own(case, own, self, numbers),
+            Packet::ConditionalLevelOrder(own) => check_own(case, own, self, numbers),
+            Packet::ShuntingList(own) => check_own(case, own, self, numbers),
+            Packet::ReportParameters(own) => check_own(case, own, self, numbers),
+            Packet::SrList(own) => check_own(case, own, self, numbers),
+            Packet::TrackCondition(own) => check_own(case, own, self, numbers),
+            Packet::PlainText(own) => check_own(case, own, self, numbers),
+            Packet::FixedText(own) => check_own(case, own, self, numbers),
+            Packet::ModeProfile(own) => check_own(case, own, self, numbers),
+            Packet::InfillLocation(own) => check_own(case, own, self, numbers),
+            _ => check_flat(case, self, numbers),
+        }
+    }
+
+    fn is_same(&self, other: &Packet) -> bool {
+        one_packet(self, other);
+        agreed(self, other, exact_packet(self, other), by_own(self, other))
     }
 }
 
-/// The same of packets without groups.
+impl Asked for TrainPacket {
+    /// To the track packet 0 has a frame.
+    fn marker(case: &mut Case) -> Option<TrainPacket> {
+        case.bad();
+        None
+    }
+
+    fn flat(nid: u8, _dir: u8, numbers: &[u64]) -> Result<TrainPacket, BuildFault> {
+        Ok(match nid {
+            4 => TrainPacket::Fault(TrainFlat::new(numbers)?),
+            5 => TrainPacket::RunningNumber(TrainFlat::new(numbers)?),
+            0 => return Err(refused(TrainFlat::<0>::new(numbers))),
+            1 => return Err(refused(TrainFlat::<1>::new(numbers))),
+            9 => return Err(refused(TrainFlat::<9>::new(numbers))),
+            140 => return Err(refused(TrainFlat::<140>::new(numbers))),
+            255 => return Err(refused(TrainFlat::<255>::new(numbers))),
+            _ => return Err(BuildFault::Count),
+        })
+    }
+
+    fn kept(nid: u8, _dir: u8, body: Bits) -> Result<TrainPacket, (BuildFault, Bits)> {
+        match TrainOther::new(nid, body) {
+            Ok(other) => Ok(TrainPacket::Other(other)),
+            Err(back) => Err(back),
+        }
+    }
+
+    fn check_listed(&self, case: &mut Case, numbers: &[u64]) {
+        match self {
+            TrainPacket::Report(own) => check_own(case, own, self, numbers),
+            TrainPacket::ReportTwo(own) => check_own(case, own, self, numbers),
+            TrainPacket::Fault(own) => check_own(case, own, self, numbers),
+            TrainPacket::RunningNumber(own) => check_own(case, own, self, numbers),
+            TrainPacket::Other(_) => case.check(false, "no typed packet"),
+        }
+    }
+
+    fn is_same(&self, other: &TrainPacket) -> bool {
+        laws::one_packet(self, other);
+        let own = match (self, other) {
+            (TrainPacket::Report(a), TrainPacket::Report(b)) => Some(exact_equality(a, b)),
+            (TrainPacket::ReportTwo(a), TrainPacket::ReportTwo(b)) => Some(exact_equality(a, b)),
+            _ => None,
+        };
+        agreed(self, other, exact_equality(self, other), own)
+    }
+}
+
+/// Why there is no packet without groups of a number.
+fn refused<P: Drop>(built: Result<P, BuildFault>) -> BuildFault {
+    match built {
+        Ok(_) => BuildFault::FillLength,
+        Err(fault) => fault,
+    }
+}
+
+/// Checks the numbers of packets to the train without groups.
 fn check_flat(case: &mut Case, packet: &Packet, numbers: &[u64]) {
     match packet {
         Packet::SystemVersion(own) => check_own(case, own, packet, numbers),
@@ -55,7 +183,7 @@ fn check_flat(case: &mut Case, packet: &Packet, numbers: &[u64]) {
     }
 }
 
-fn check_own<P: Packetlike>(case: &mut Case, own: &P, packet: &Packet, numbers: &[u64]) {
+fn check_own<A: AnyPacket, P: Packetlike>(case: &mut Case, own: &P, packet: &A, numbers: &[u64]) {
     let mut fields = Vec::new(case.alloc());
     case.kept(fields.push(BEFORE).is_ok());
     case.kept(own.fields(&mut fields).is_ok());
@@ -63,16 +191,14 @@ fn check_own<P: Packetlike>(case: &mut Case, own: &P, packet: &Packet, numbers: 
         fields.as_slice().split_first() == Some((&BEFORE, numbers)),
         "other numbers listed",
     );
-    case.check(P::NID == packet.nid(), "another type's number");
-    case.check(P::WAY == Way::ToTrain, "another way");
-    case.check(parts::dir(packet) == Some(own.dir()), "another direction");
+    case.check(P::NID == packet.number_of(), "another type's number");
+    case.check(P::WAY == A::WAY, "another way");
+    case.check(packet.direction() == Some(own.dir()), "another direction");
 }
 
-/// Whether two packets are equal by every law that can be asked, where all of them say the same as `==`.
-pub(crate) fn is_same(first: &Packet, second: &Packet) -> bool {
-    one_packet(first, second);
-    let same = exact_packet(first, second);
-    if by_own(first, second).unwrap_or(same) == same {
+/// What a law says of two packets, where it is what `==` says and what the law of their type does, if there is one.
+fn agreed<A: PartialEq>(first: &A, second: &A, same: bool, own: Option<bool>) -> bool {
+    if own.unwrap_or(same) == same {
         same
     } else {
         first != second
@@ -104,8 +230,8 @@ fn by_own(first: &Packet, second: &Packet) -> Option<bool> {
 }
 
 /// Whether a packet, which is one, has an equal copy.
-pub(crate) fn is_copied(case: &mut Case, packet: &Packet) -> bool {
-    parts::holds(packet);
-    let copy = case.got(packet.try_clone(case.alloc()));
+pub(crate) fn is_copied<A: Asked>(case: &mut Case, packet: &A) -> bool {
+    packet.hold();
+    let copy = case.got(packet.copy(case.alloc()));
     copy.as_ref() == Some(packet)
 }

@@ -10,6 +10,7 @@ use etcs_packets::{
     Authority, BaliseAt, Condition, Differing, Level, LevelAck, Link, ModeSection, ReportAt,
     Section, Shown, Slope, Speed, TextFrame,
 };
+use etcs_track::Located;
 use etcs_vars::parts::{Variables, append_numbers};
 use etcs_vars::{BuildFault, Var};
 
@@ -52,6 +53,7 @@ fn of_part(case: &mut Case, kind: &str) {
         "level" => line::<Level>(case, kind),
         "level_ack" => line::<LevelAck>(case, kind),
         "link" => line::<Link>(case, kind),
+        "located" => line::<Located>(case, kind),
         "mode_section" => line::<ModeSection>(case, kind),
         "report_at" => line::<ReportAt>(case, kind),
         "section" => line::<Section>(case, kind),

@@ -1,6 +1,6 @@
 //! Lines about rows, their places and lengths, and the packets that fit.
 //!
-//! A row is named by `p` and a packet's number or `m` and a message's number.
+//! A row is named by `p` and a packet's number or `m` and a message's number, after a `t` where it goes to the track.
 
 ghost use Rattle.std.specs.Prelude.{◌≡◌, ◌≤◌, Bool, List, [], ◌++◌, length, IsTrue, IfOk};
 ghost use Rattle.etcs_tables.specs.Layouts.{layout, AdmitsFields, Spells};
@@ -29,11 +29,15 @@ pub(crate) fn answer(case: &mut Case, kind: &str) -> bool {
 
 /// The row of a name.
 pub(crate) fn row_named(name: &str) -> Option<Row> {
+    let (way, name) = match name.strip_prefix('t') {
+        Some(name) => (Way::ToTrack, name),
+        None => (Way::ToTrain, name),
+    };
     if let Some(number) = name.strip_prefix('p') {
-        return row_of(Way::ToTrain, number.parse::<u8>().ok()?);
+        return row_of(way, number.parse::<u8>().ok()?);
     }
     let number = name.strip_prefix('m')?;
-    message_row(Way::ToTrain, number.parse::<u8>().ok()?)
+    message_row(way, number.parse::<u8>().ok()?)
 }
 
 /// The row of the next word, which has to be one.
@@ -171,6 +175,7 @@ fn of_carrier(case: &mut Case, kind: &str) {
     let carrier = match case.word() {
         "telegram" => Carrier::Telegram,
         "message" => Carrier::Message(Way::ToTrain),
+        "track" => Carrier::Message(Way::ToTrack),
         _ => return case.bad(),
     };
     match kind {

@@ -2,7 +2,7 @@
 
 use crate::case::{Case, MOST_BITS};
 use etcs_bits::{BitSlice, Bits};
-use etcs_packets::{Packet, parts};
+use etcs_packets::parts::AnyPacket;
 use etcs_vars::Var;
 use etcs_vars::parts::{VarSink, Variables};
 use std::alloc::{AllocError, Global};
@@ -134,8 +134,8 @@ pub(crate) fn sent_of<V: Variables>(case: &mut Case, part: &V) -> Sent {
 }
 
 /// The variables of a packet after its frame.
-pub(crate) fn packet_sent(case: &mut Case, packet: &Packet) -> Sent {
+pub(crate) fn packet_sent<A: AnyPacket>(case: &mut Case, packet: &A) -> Sent {
     let mut sent = Sent::new(case.alloc());
-    case.kept(parts::send(packet, &mut sent).is_ok());
+    case.kept(packet.send_variables(&mut sent).is_ok());
     sent
 }

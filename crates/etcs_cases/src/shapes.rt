@@ -7,6 +7,7 @@ use etcs_packets::{
     Authority, BaliseAt, Condition, Differing, Level, LevelAck, Link, ModeSection, ReportAt,
     Section, Shown, Slope, Speed, TextFrame,
 };
+use etcs_track::Located;
 use etcs_vars::BuildFault;
 
 /// `D_LINK NID_C|- NID_BG Q_LINKORIENTATION Q_LINKREACTION Q_LOCACC`
@@ -235,6 +236,40 @@ impl Shape for TextFrame {
         )?;
         same!(case, frame: q_scale q_textclass q_textdisplay d_textdisplay start l_textdisplay t_textdisplay end q_textconfirm confirm);
         Ok(frame)
+    }
+}
+
+/// `D_LRBG Q_DIRLRBG Q_DLRBG L_DOUBTOVER L_DOUBTUNDER Q_LENGTH L_TRAININT|- V_TRAIN Q_DIRTRAIN M_MODE M_LEVEL NID_NTC|-`
+impl Shape for Located {
+    fn of_words(case: &mut Case) -> Result<Located, BuildFault> {
+        let d_lrbg = case.half();
+        let q_dirlrbg = case.byte();
+        let q_dlrbg = case.byte();
+        let l_doubtover = case.half();
+        let l_doubtunder = case.half();
+        let q_length = case.byte();
+        let l_trainint = case.half_or_none();
+        let v_train = case.byte();
+        let q_dirtrain = case.byte();
+        let m_mode = case.byte();
+        let m_level = case.byte();
+        let nid_ntc = case.byte_or_none();
+        let located = Located::new(
+            d_lrbg,
+            q_dirlrbg,
+            q_dlrbg,
+            l_doubtover,
+            l_doubtunder,
+            q_length,
+            l_trainint,
+            v_train,
+            q_dirtrain,
+            m_mode,
+            m_level,
+            nid_ntc,
+        )?;
+        same!(case, located: d_lrbg q_dirlrbg q_dlrbg l_doubtover l_doubtunder q_length l_trainint v_train q_dirtrain m_mode m_level nid_ntc);
+        Ok(located)
     }
 }
 

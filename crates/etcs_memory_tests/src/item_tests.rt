@@ -1,9 +1,11 @@
 //! Telegrams and messages where memory is refused: what is built, views, and the first bytes of a message.
 
 use etcs_fakes::{Checks, starve, starve_to};
+use etcs_messages::{Head, Own, ReaderOf};
 use etcs_packets::Packet;
 use etcs_radio::MessageReader;
 use etcs_telegram::{Fed, Header, Size, Telegram, TelegramView};
+use etcs_train::TrainReader;
 use etcs_vars::BuildFault;
 use std::alloc::{AllocError, Global};
 use std::test::Fail;
@@ -21,6 +23,9 @@ static TYPED: [u8; 13] = [
 /// Message 15, which is kept with six bits.
 static KEPT: [u8; 3] = [0x0F, 0x00, 0xFF];
 
+/// Message 159 to the track.
+static TRACK: [u8; 2] = [0x9F, 0x03];
+
 /// Packet 5 with one further link, of 108 bits: its last variable is in byte 19.
 static LINKS: [u8; 27] = [
     0xA0, 0x00, 0x7F, 0x80, 0x20, 0x00, 0xC1, 0x50, 0x36, 0x20, 0xFA, 0x00, 0x02, 0x93, 0x02, 0x0F,
@@ -37,21 +42,26 @@ fn short(packets: [u8; 4]) -> [u8; 27] {
 }
 
 /// Whether the first two bytes of a message are taken.
-fn takes_two(alloc: Global, bytes: &[u8]) -> bool {
-    let mut reader = MessageReader::new(alloc);
+fn takes_two<H: Head, B: Own<Front = H>>(mut reader: ReaderOf<H, B>, bytes: &[u8]) -> bool {
     reader.feed(bytes.get(..2).unwrap_or(&[])) == Ok(Fed::More)
+}
+
+/// Whether those of a message that is typed, one that is kept and one to the track are.
+fn take_two(alloc: Global) -> bool {
+    let typed = takes_two(MessageReader::new(alloc), &TYPED);
+    let kept = takes_two(MessageReader::new(alloc), &KEPT);
+    typed && kept && takes_two(TrainReader::new(alloc), &TRACK)
 }
 
 /// Two bytes take no memory.
 #[test]
 fn two_bytes_without_memory(rt: HostRuntime) -> Result<(), Fail> {
     let (checks, alloc) = (&mut Checks::new(), rt.alloc());
-    checks.check(takes_two(alloc, &TYPED), "two bytes with memory");
+    checks.check(take_two(alloc), "two bytes with memory");
     let held = starve(alloc)?;
-    let typed = takes_two(alloc, &TYPED);
-    let kept = takes_two(alloc, &KEPT);
+    let taken = take_two(alloc);
     drop(held);
-    checks.check(typed && kept, "two bytes");
+    checks.check(taken, "two bytes");
     assert_eq!(rt; checks.wrong(), None);
     Ok(())
 }

@@ -8,9 +8,10 @@ use crate::packet_calls::{Clones, Fields, FromFields, numbers_of, refuse_message
 use crate::runs::refuse_run;
 use etcs_cases::Case;
 use etcs_json::to_value;
+use etcs_messages::{Head, MessageOf, Own, ReaderOf};
 use etcs_packets::Packet;
-use etcs_radio::MessageReader;
-use etcs_telegram::{Size, TelegramReader};
+use etcs_packets::parts::AnyPacket;
+use etcs_telegram::{Size, Telegram, TelegramReader};
 use etcs_text::{Entry, Kind, json_line};
 
 /// Answers a line: `from_slice HEX`, `push WIDTH HEX`, `feed STEP KIND HEX`, `to_packet KIND HEX`, `message KIND HEX ..`,
@@ -33,6 +34,7 @@ pub(crate) fn kind(case: &mut Case) -> Kind {
         "short" => Kind::Short,
         "long" => Kind::Long,
         "radio" => Kind::Radio,
+        "train" => Kind::Train,
         _ => {
             case.bad();
             Kind::Short
@@ -51,22 +53,29 @@ pub(crate) fn size_of(kind: Kind) -> Size {
 
 /// The item of these bytes.
 pub(crate) fn entry(case: &mut Case, kind: Kind, bytes: &[u8]) -> Option<Entry> {
-    if kind == Kind::Radio {
-        let mut reader = MessageReader::new(case.alloc());
-        case.kept(reader.feed(bytes).is_ok());
-        return Some(Entry::Message(reader.take().ok()?));
+    match kind {
+        Kind::Long | Kind::Short => Some(Entry::Telegram(telegram(case, size_of(kind), bytes)?)),
+        Kind::Radio => Some(Entry::Message(message(case, bytes)?)),
+        Kind::Train => Some(Entry::Train(message(case, bytes)?)),
     }
-    let mut reader = TelegramReader::new(case.alloc(), size_of(kind));
-    case.kept(reader.feed(bytes).is_ok());
-    Some(Entry::Telegram(reader.take().ok()?))
 }
 
-/// The packets of an item.
-pub(crate) fn packets_of(entry: &Entry) -> &[Packet] {
-    match entry {
-        Entry::Telegram(telegram) => telegram.packets(),
-        Entry::Message(message) => message.packets(),
-    }
+/// The telegram of these bytes.
+fn telegram(case: &mut Case, size: Size, bytes: &[u8]) -> Option<Telegram> {
+    let mut reader = TelegramReader::new(case.alloc(), size);
+    case.kept(reader.feed(bytes).is_ok());
+    reader.take().ok()
+}
+
+/// The message of these bytes.
+fn message<H, B>(case: &mut Case, bytes: &[u8]) -> Option<MessageOf<H, B>>
+where
+    H: Head,
+    B: Own<Front = H>,
+{
+    let mut reader = ReaderOf::<H, B>::new(case.alloc());
+    case.kept(reader.feed(bytes).is_ok());
+    reader.take().ok()
 }
 
 /// Makes a call of an item.
@@ -82,22 +91,43 @@ fn of_item(case: &mut Case, call: &str) {
 
 /// Makes a call of an item of a kind.
 fn of_entry(case: &mut Case, call: &str, kind: Kind, entry: &Entry) {
-    let packets = packets_of(entry);
-    let listed = numbers_of(case, packets);
-    let rows = listed.as_slice();
     match call {
-        "fields" => refuse_each(case, Fields { packets }),
-        "from_fields" => refuse_each(case, FromFields { rows }),
-        "write_row" => refuse_each(case, Rows { rows }),
-        "try_clone" => refuse_each(case, Clones { packets }),
         "show_lines" => text(case, entry, Text::Show),
         "json_line" => text(case, entry, Text::Json),
         "hex_line" => text(case, entry, Text::Hex),
         "encode" => text(case, entry, Text::Encoded),
         "to_value" => to_tree(case, entry),
         "from_value" => from_tree(case, kind, entry),
+        _ => of_packets(case, call, entry),
+    }
+}
+
+/// Makes a call of the packets of an item: `try_clone`, and of those to the train further ones.
+fn of_packets(case: &mut Case, call: &str, entry: &Entry) {
+    match entry {
+        Entry::Telegram(telegram) => to_train(case, call, telegram.packets()),
+        Entry::Message(message) => to_train(case, call, message.packets()),
+        Entry::Train(message) if call == "try_clone" => clones(case, message.packets()),
+        Entry::Train(_) => case.bad(),
+    }
+}
+
+/// Makes a call of packets to the train.
+fn to_train(case: &mut Case, call: &str, packets: &[Packet]) {
+    let listed = numbers_of(case, packets);
+    let rows = listed.as_slice();
+    match call {
+        "fields" => refuse_each(case, Fields { packets }),
+        "from_fields" => refuse_each(case, FromFields { rows }),
+        "write_row" => refuse_each(case, Rows { rows }),
+        "try_clone" => clones(case, packets),
         _ => case.bad(),
     }
+}
+
+/// Copies packets.
+fn clones<P: AnyPacket + PartialEq>(case: &mut Case, packets: &[P]) {
+    refuse_each(case, Clones { packets });
 }
 
 /// Appends a text of an item.

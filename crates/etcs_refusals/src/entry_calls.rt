@@ -5,6 +5,7 @@ use etcs_json::{JsonFault, from_value, to_value};
 use etcs_radio::Message;
 use etcs_telegram::Telegram;
 use etcs_text::{Entry, Kind, encoded, hex_line, json_line, show_lines};
+use etcs_train::TrainMessage;
 use serde_json::Value;
 use std::alloc::{AllocError, Global};
 
@@ -74,6 +75,14 @@ impl Makes for ToTree<'_> {
     }
 }
 
+/// An item that can be compared.
+#[derive(Drop, PartialEq)]
+pub(crate) enum Found {
+    Telegram(Telegram),
+    Message(Message),
+    Train(TrainMessage),
+}
+
 /// The item of a tree.
 #[derive(Drop)]
 pub(crate) struct FromTree {
@@ -82,16 +91,17 @@ pub(crate) struct FromTree {
 }
 
 impl Makes for FromTree {
-    type Made = (Option<Telegram>, Option<Message>);
+    type Made = Found;
 
     fn count(&self) -> usize {
         1
     }
 
-    fn make(&self, alloc: Global, _index: usize) -> Result<Self::Made, bool> {
+    fn make(&self, alloc: Global, _index: usize) -> Result<Found, bool> {
         match from_value(alloc, self.kind, &self.tree) {
-            Ok(Entry::Telegram(telegram)) => Ok((Some(telegram), None)),
-            Ok(Entry::Message(message)) => Ok((None, Some(message))),
+            Ok(Entry::Telegram(telegram)) => Ok(Found::Telegram(telegram)),
+            Ok(Entry::Message(message)) => Ok(Found::Message(message)),
+            Ok(Entry::Train(message)) => Ok(Found::Train(message)),
             Err(fault) => Err(fault == JsonFault::Memory),
         }
     }

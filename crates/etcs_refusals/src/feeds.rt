@@ -3,25 +3,30 @@
 use crate::calls::{entry, kind, size_of};
 use crate::rooms::{Answer, Call, refuse};
 use etcs_cases::Case;
+use etcs_messages::{Head, MessageOf, Own, ReaderOf};
 use etcs_radio::MessageReader;
-use etcs_telegram::TelegramReader;
+use etcs_telegram::{Telegram, TelegramReader};
 use etcs_text::{Entry, Kind};
+use etcs_train::TrainReader;
 use etcs_vars::{Fed, ReadFault};
 use std::alloc::Global;
 
 /// A reader of items of one kind.
 trait Reads: Drop {
+    type Item: PartialEq + Drop;
+
     fn feed(&mut self, piece: &[u8]) -> Result<Fed, ReadFault>;
 
     fn bits_seen(&self) -> usize;
 
     fn is_holding(&self) -> bool;
 
-    /// Whether it gives this item, or none where none is wanted.
-    fn gives(self, entry: Option<&Entry>) -> bool;
+    fn take(self) -> Option<Self::Item>;
 }
 
 impl Reads for TelegramReader {
+    type Item = Telegram;
+
     fn feed(&mut self, piece: &[u8]) -> Result<Fed, ReadFault> {
         TelegramReader::feed(self, piece)
     }
@@ -34,37 +39,35 @@ impl Reads for TelegramReader {
         self.held().is_some()
     }
 
-    fn gives(self, entry: Option<&Entry>) -> bool {
-        let taken = self.take().ok();
-        match (taken.as_ref(), entry) {
-            (Some(telegram), Some(Entry::Telegram(wanted))) => telegram == wanted,
-            (None, None) => true,
-            _ => false,
-        }
+    fn take(self) -> Option<Telegram> {
+        TelegramReader::take(self).ok()
     }
 }
 
-impl Reads for MessageReader {
+impl<H: Head + PartialEq, B: Own<Front = H> + PartialEq> Reads for ReaderOf<H, B> {
+    type Item = MessageOf<H, B>;
+
     fn feed(&mut self, piece: &[u8]) -> Result<Fed, ReadFault> {
-        MessageReader::feed(self, piece)
+        ReaderOf::feed(self, piece)
     }
 
     fn bits_seen(&self) -> usize {
-        MessageReader::bits_seen(self)
+        ReaderOf::bits_seen(self)
     }
 
     fn is_holding(&self) -> bool {
         self.held().is_some()
     }
 
-    fn gives(self, entry: Option<&Entry>) -> bool {
-        let taken = self.take().ok();
-        match (taken.as_ref(), entry) {
-            (Some(message), Some(Entry::Message(wanted))) => message == wanted,
-            (None, None) => true,
-            _ => false,
-        }
+    fn take(self) -> Option<MessageOf<H, B>> {
+        ReaderOf::take(self).ok()
     }
+}
+
+/// Whether a reader gives this item, or none where none is wanted.
+fn gives<R: Reads>(reader: R, wanted: Option<&R::Item>) -> bool {
+    let taken = reader.take();
+    taken.as_ref() == wanted
 }
 
 /// The bytes of an item, in pieces of this many.
@@ -76,8 +79,8 @@ struct Feeds<'a> {
     entry: &'a Entry,
 }
 
-/// Feeds a reader with pieces.
-fn fed<R: Reads>(mut reader: R, feeds: &Feeds<'_>) -> Answer {
+/// Feeds a reader with pieces, until it gives this item.
+fn fed<R: Reads>(mut reader: R, feeds: &Feeds<'_>, item: &R::Item) -> Answer {
     for piece in feeds.bytes.chunks(feeds.step.max(1)) {
         let before = reader.bits_seen();
         match reader.feed(piece) {
@@ -88,7 +91,7 @@ fn fed<R: Reads>(mut reader: R, feeds: &Feeds<'_>) -> Answer {
             Err(_) => return Answer::Wrong,
         }
     }
-    Answer::made(reader.gives(Some(feeds.entry)))
+    Answer::made(gives(reader, Some(item)))
 }
 
 /// Whether a reader is as it must be that was refused memory in this piece, before which it had seen this many bits.
@@ -100,14 +103,17 @@ fn is_refused<R: Reads>(mut reader: R, before: usize, piece: &[u8]) -> bool {
     is_right &= reader.feed(piece) == Err(ReadFault::Memory);
     is_right &= reader.bits_seen() == seen;
     is_right &= !reader.is_holding();
-    is_right & reader.gives(None)
+    is_right & gives(reader, None)
 }
 
 impl Call for Feeds<'_> {
     fn make(&mut self, alloc: Global) -> Answer {
-        match self.kind {
-            Kind::Radio => fed(MessageReader::new(alloc), self),
-            kind => fed(TelegramReader::new(alloc, size_of(kind)), self),
+        match self.entry {
+            Entry::Message(message) => fed(MessageReader::new(alloc), self, message),
+            Entry::Train(message) => fed(TrainReader::new(alloc), self, message),
+            Entry::Telegram(telegram) => {
+                fed(TelegramReader::new(alloc, size_of(self.kind)), self, telegram)
+            }
         }
     }
 }

@@ -5,6 +5,7 @@ use crate::each::{Makes, refuse_each};
 use etcs_bodies::Framed;
 use etcs_cases::Case;
 use etcs_group::{Assembly, GroupFault};
+use etcs_packets::parts::AnyPacket;
 use etcs_packets::{Packet, parts};
 use etcs_telegram::{Size, TelegramView};
 use etcs_text::Entry;
@@ -130,20 +131,20 @@ impl Makes for FromFields<'_> {
 
 /// Copies of packets.
 #[derive(Drop)]
-pub(crate) struct Clones<'a> {
-    pub(crate) packets: &'a [Packet],
+pub(crate) struct Clones<'a, P: Drop> {
+    pub(crate) packets: &'a [P],
 }
 
-impl Makes for Clones<'_> {
-    type Made = Option<Packet>;
+impl<P: AnyPacket + PartialEq> Makes for Clones<'_, P> {
+    type Made = Option<P>;
 
     fn count(&self) -> usize {
         self.packets.len()
     }
 
-    fn make(&self, alloc: Global, index: usize) -> Result<Option<Packet>, bool> {
+    fn make(&self, alloc: Global, index: usize) -> Result<Option<P>, bool> {
         match self.packets.get(index) {
-            Some(packet) => match packet.try_clone(alloc) {
+            Some(packet) => match packet.copy(alloc) {
                 Ok(copy) => Ok(Some(copy)),
                 Err(_) => Err(true),
             },

@@ -28,7 +28,7 @@ fn ran(
     reader: Broken<'_>,
     written: &mut Vec<u8>,
 ) -> Result<Tally, RunFault> {
-    if job.command == Command::Group && job.kind == Kind::Radio {
+    if !job.is_groupable() {
         return Err(RunFault::Endless);
     }
     let mut source = Input::new(reader);

@@ -19,7 +19,7 @@ const BOTH: [u8; 11] = [
 ];
 
 /// A reader that makes the packets of a message of 88 bits.
-fn listed(alloc: Global) -> Feeder<PacketsRest<PacketList>> {
+fn listed(alloc: Global) -> Feeder<PacketsRest<PacketList<Packet>>> {
     let rest = PacketsRest::new(Carrier::Message(Way::ToTrain), 88, PacketList::new(alloc));
     Feeder::new(rest)
 }

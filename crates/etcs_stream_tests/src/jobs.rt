@@ -9,7 +9,7 @@ pub(crate) type Told = (
     &'static [u8],
 );
 
-pub(crate) static JOBS: [Told; 19] = [
+pub(crate) static JOBS: [Told; 25] = [
     ("etcs show --kind radio --from hex", HEX, SHOWN, b""),
     ("etcs show --kind radio --from bin", BIN, SHOWN, b""),
     ("etcs show --kind radio --from json", JSON, SHOWN, b""),
@@ -71,6 +71,42 @@ pub(crate) static JOBS: [Told; 19] = [
         b"",
     ),
     (
+        "etcs show --kind train --from hex",
+        TRAIN_HEX,
+        TRAIN_SHOWN,
+        b"",
+    ),
+    (
+        "etcs show --kind train --from json",
+        TRAIN_JSON,
+        TRAIN_SHOWN,
+        b"",
+    ),
+    (
+        "etcs check --kind train --from bin",
+        TRAIN_BIN,
+        TRAIN_CHECKED,
+        b"",
+    ),
+    (
+        "etcs convert --kind train --from hex --to json",
+        TRAIN_HEX,
+        TRAIN_JSON,
+        b"",
+    ),
+    (
+        "etcs convert --kind train --from json --to bin",
+        TRAIN_JSON,
+        TRAIN_BIN,
+        b"",
+    ),
+    (
+        "etcs convert --kind train --from bin --to hex",
+        TRAIN_BIN,
+        TRAIN_HEX,
+        b"",
+    ),
+    (
         "etcs group --kind short --from hex",
         GROUP_HEX,
         GROUPED,
@@ -111,6 +147,27 @@ const SHOWN: [&[u8]; 2] = [
 
 /// What is said of them where they are accepted.
 const CHECKED: [&[u8]; 2] = [b"item 1 ok 24 bits\n", b"item 2 ok 80 bits\n"];
+
+/// Two messages to the track: 132, which is kept with six bits, and 159 with a packet 9 of no bits.
+const TRAIN_HEX: [&[u8]; 2] = [b"8400FF\n", b"9F030000000000000042402A\n"];
+
+/// The same as bytes.
+const TRAIN_BIN: [&[u8]; 2] = [b"\x84\x00\xFF", b"\x9F\x03\x00\x00\x00\x00\x00\x00\x00B@*"];
+
+/// The same as JSON.
+const TRAIN_JSON: [&[u8]; 2] = [
+    b"{\"data\":\"111111\",\"kind\":\"train\",\"nid\":132}\n",
+    b"{\"fields\":[],\"header\":[[\"T_TRAIN\",0],[\"NID_ENGINE\",1]],\"kind\":\"train\",\"nid\":159,\"packets\":[{\"data\":\"\",\"nid\":9}],\"padding\":\"0\"}\n",
+];
+
+/// The same as text.
+const TRAIN_SHOWN: [&[u8]; 2] = [
+    b"item 1 train 24 bits\n  NID_MESSAGE 132\n  L_MESSAGE 3\n  OTHER_DATA 6 111111\n",
+    b"item 2 train 96 bits\n  NID_MESSAGE 159\n  L_MESSAGE 12\n  T_TRAIN 0\n  NID_ENGINE 1\npacket 9\n  L_PACKET 21\n  OTHER_DATA 0\nend\n  PADDING 1 0\n",
+];
+
+/// What is said of them where they are accepted.
+const TRAIN_CHECKED: [&[u8]; 2] = [b"item 1 ok 24 bits\n", b"item 2 ok 96 bits\n"];
 
 /// The two telegrams of a group.
 const GROUP_HEX: [&[u8]; 2] = [

@@ -1,17 +1,20 @@
 //! Vectors of headers and telegrams that are built of their parts. A header is its eight numbers in order. Packets are
-//! `0 NUMBER`, `NID Q_DIR NUMBERS` after L_PACKET, or `NID Q_DIR bDIGITS` for kept bits, with ` ; ` between two packets.
+//! `0 NUMBER`, `NID Q_DIR NUMBERS` after L_PACKET, or `NID Q_DIR bDIGITS` for kept bits, with ` ; ` between two packets. To the
+//! track there is no `0 NUMBER` and no Q_DIR.
 
 use crate::telegrams::{check_read, encoded, next_size};
 use etcs_bits::Bits;
 use etcs_cases::{Case, FaultTexts};
-use etcs_packets::{Other, Packet, parts};
+use etcs_packets::parts::AnyPacket;
+use etcs_packets::{Other, Packet};
 use etcs_telegram::parts::header_numbers;
 use etcs_telegram::{Header, Size, Telegram};
 use etcs_text::parts::write_packets;
+use etcs_track::{TrainOther, TrainPacket};
 use etcs_vars::BuildFault;
 
 /// What is answered of a fault.
-const FAULTS: FaultTexts = [
+pub(crate) const FAULTS: FaultTexts = [
     "not admitted ",
     "guard ",
     "too many ",
@@ -80,15 +83,45 @@ fn headers(case: &mut Case) {
     }
 }
 
+/// A packet of a way that words make.
+pub(crate) trait Worded: AnyPacket {
+    /// The packet of all words that are left.
+    fn of_words(case: &mut Case) -> Option<Self>;
+}
+
+impl Worded for Packet {
+    fn of_words(case: &mut Case) -> Option<Packet> {
+        let nid = case.byte();
+        let dir = case.byte();
+        if nid == 0 {
+            return Packet::vbc_marker(dir).ok();
+        }
+        match kept_bits(case) {
+            Some(body) => Some(Packet::Other(Other::new(nid, dir, body).ok()?)),
+            None => typed(case, nid, dir),
+        }
+    }
+}
+
+impl Worded for TrainPacket {
+    fn of_words(case: &mut Case) -> Option<TrainPacket> {
+        let nid = case.byte();
+        match kept_bits(case) {
+            Some(body) => Some(TrainPacket::Other(TrainOther::new(nid, body).ok()?)),
+            None => typed(case, nid, 0),
+        }
+    }
+}
+
 /// The packets of all words that are left.
-pub(crate) fn packets(case: &mut Case) -> Vec<Packet> {
+pub(crate) fn packets<P: Worded>(case: &mut Case) -> Vec<P> {
     let mut packets = Vec::new(case.alloc());
     for _ in 0..100u8 {
         if case.is_empty() {
             break;
         }
         let behind = case.split(" ; ");
-        match packet(case) {
+        match P::of_words(case) {
             Some(packet) => case.kept(packets.push(packet).is_ok()),
             None => case.bad(),
         }
@@ -97,36 +130,22 @@ pub(crate) fn packets(case: &mut Case) -> Vec<Packet> {
     packets
 }
 
-/// The packet of all words that are left.
-fn packet(case: &mut Case) -> Option<Packet> {
-    let nid = case.byte();
-    let dir = case.byte();
-    if nid == 0 {
-        return Packet::vbc_marker(dir).ok();
-    }
+/// The bits that are kept where the words that are left are such.
+fn kept_bits(case: &mut Case) -> Option<Bits> {
     let rest = case.rest();
     match rest.strip_prefix('b') {
-        Some(digits) => kept(case, nid, dir, digits),
+        Some(digits) => Some(case.bits_between("", digits, "")),
         None => {
             case.go_on(rest);
-            typed(case, nid, dir)
+            None
         }
     }
 }
 
-/// The packet that is kept as these bits.
-fn kept(case: &mut Case, nid: u8, dir: u8, digits: &str) -> Option<Packet> {
-    let body = case.bits_between("", digits, "");
-    match Other::new(nid, dir, body) {
-        Ok(kept) => Some(Packet::Other(kept)),
-        Err(_) => None,
-    }
-}
-
 /// The packet of the numbers that are left.
-fn typed(case: &mut Case, nid: u8, dir: u8) -> Option<Packet> {
+fn typed<P: AnyPacket>(case: &mut Case, nid: u8, dir: u8) -> Option<P> {
     let numbers = case.numbers();
-    match parts::from_fields(case.alloc(), nid, dir, numbers.as_slice()) {
+    match P::of_fields(case.alloc(), nid, dir, numbers.as_slice()) {
         Ok(packet) => packet,
         Err(_) => {
             case.kept(false);
@@ -200,7 +219,7 @@ fn say_built(case: &mut Case, telegram: &Telegram, size: Size, header: &Header) 
 }
 
 /// The text of packets that came back.
-fn say_back(case: &mut Case, packets: &[Packet]) {
+pub(crate) fn say_back<P: AnyPacket>(case: &mut Case, packets: &[P]) {
     if !packets.is_empty() {
         case.say("\n");
         say_packets(case, packets);
@@ -208,7 +227,7 @@ fn say_back(case: &mut Case, packets: &[Packet]) {
 }
 
 /// The text of packets.
-fn say_packets(case: &mut Case, packets: &[Packet]) {
+fn say_packets<P: AnyPacket>(case: &mut Case, packets: &[P]) {
     let mut text = Vec::new(case.alloc());
     case.kept(write_packets(packets, &mut text).is_ok());
     case.say_line(text.as_slice());
@@ -217,6 +236,6 @@ fn say_packets(case: &mut Case, packets: &[Packet]) {
 /// `text PACKETS`: their text.
 fn text(case: &mut Case) {
     case.say("before\n");
-    let packets = packets(case);
+    let packets: Vec<Packet> = packets(case);
     say_packets(case, packets.as_slice());
 }

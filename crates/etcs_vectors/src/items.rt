@@ -1,12 +1,27 @@
 //! Items in all ways to read them: in one piece, byte by byte, and cut in two at every place; and with each bit turned.
 
-use crate::radio::Radio;
+use crate::messages::{RADIO, TRAIN, message};
 use crate::telegrams::size_of;
 use etcs_cases::Case;
-use etcs_telegram::Size;
+use etcs_telegram::{Held, Size};
 use etcs_text::{Entry, show_lines};
 use etcs_vars::{Fed, ReadFault, Var};
 use std::alloc::Global;
+
+/// What a reader holds: how many packets, numbers and kept bits; the first bits of the unfinished variable as a number, and
+/// how many they are.
+pub(crate) type State = (usize, usize, usize, u64, usize);
+
+/// How much is held.
+pub(crate) fn state_of<P>(held: Held<'_, P>) -> State {
+    (
+        held.packets.len(),
+        held.numbers.len(),
+        held.kept.len(),
+        held.part,
+        held.taken,
+    )
+}
 
 /// Reads one item from pieces.
 pub(crate) trait Reads: Drop {
@@ -18,6 +33,9 @@ pub(crate) trait Reads: Drop {
     /// How many leading bits were accepted.
     fn bits_seen(&self) -> usize;
 
+    /// What is held.
+    fn state(&self) -> Option<State>;
+
     /// The item, where it is whole.
     fn take(self) -> Option<Self::Item>;
 }
@@ -27,6 +45,9 @@ pub(crate) trait Ways: Copy {
     type Item: PartialEq + Drop;
 
     type Reader: Reads<Item = Self::Item>;
+
+    /// What an item is called.
+    fn noun(self) -> &'static str;
 
     /// A reader that has read nothing.
     fn reader(self, alloc: Global) -> Self::Reader;
@@ -46,21 +67,25 @@ pub(crate) trait Ways: Copy {
 
 /// Answers a line about items: whether it is one.
 ///
-/// `short HEX`, `long HEX`, `radio HEX`: what is said of the bytes of an item. `message HEX`: how many bits and packets a
-/// message has. `turned SIZE HEX`, `turned radio HEX`: a line for each turned bit with which the bytes are none such, with
-/// what is answered. `alike SIZE HEX`: of how many bytes with one bit turned all ways to read them say the same.
-/// `pairs SIZE`, `pairs radio`: how many of all pairs of first bytes are refused.
+/// `short HEX`, `long HEX`, `radio HEX`, `train HEX`: what is said of the bytes of an item. `message HEX`, `train_message HEX`:
+/// how many bits and packets a message to the train or to the track has. `turned KIND HEX`: a line for each turned bit with
+/// which the bytes are none of these items, with what is answered. `alike KIND HEX`: of how many bytes with one bit turned all
+/// ways to read them say the same. `pairs KIND`: how many of all pairs of first bytes are refused. `fed KIND PIECE PIECE ..`:
+/// what a reader answers to each piece, how many bits it has seen and what it holds.
 pub(crate) fn answer(case: &mut Case, kind: &str) -> bool {
     match kind {
         "short" => read(case, Size::Short),
         "long" => read(case, Size::Long),
-        "radio" => read(case, Radio),
-        "message" => crate::radio::message(case),
-        "turned" | "alike" | "pairs" => match case.word() {
-            "radio" => turn(case, Radio, kind),
+        "radio" => read(case, RADIO),
+        "train" => read(case, TRAIN),
+        "message" => message(case, RADIO),
+        "train_message" => message(case, TRAIN),
+        "turned" | "alike" | "pairs" | "fed" => match case.word() {
+            "radio" => of_kind(case, RADIO, kind),
+            "train" => of_kind(case, TRAIN, kind),
             word => {
                 let size = size_of(case, word);
-                turn(case, size, kind);
+                of_kind(case, size, kind);
             }
         },
         _ => return false,
@@ -223,13 +248,16 @@ fn gives<R: Reads>(reader: R, item: Option<&R::Item>) -> bool {
     given.as_ref() == item
 }
 
-/// The lines of `turned`, `alike` and `pairs`.
-fn turn<W: Ways>(case: &mut Case, ways: W, kind: &str) {
-    if kind == "pairs" {
-        return say_pairs(case, ways);
+/// The lines of `turned`, `alike`, `pairs` and `fed`.
+fn of_kind<W: Ways>(case: &mut Case, ways: W, kind: &str) {
+    match kind {
+        "pairs" => say_pairs(case, ways),
+        "fed" => say_pieces(case, ways),
+        _ => {
+            let bytes = case.bytes();
+            turn_all(case, ways, bytes.as_slice(), kind);
+        }
     }
-    let bytes = case.bytes();
-    turn_all(case, ways, bytes.as_slice(), kind);
 }
 
 /// Checks that with each bit turned the bytes are answered alike in all ways, and no bit before the turned one is refused;
@@ -285,6 +313,55 @@ pub(crate) fn say_fed(case: &mut Case, fed: Result<Fed, ReadFault>) {
             case.say_number(taken as u64);
         }
         Err(fault) => say_fault(case, fault),
+    }
+}
+
+/// What a reader answers to each piece, how many bits it has seen and what it holds. A piece is hexadecimal parts with `+`
+/// between them, each of which `*COUNT` repeats; `-` is the empty one.
+fn say_pieces<W: Ways>(case: &mut Case, ways: W) {
+    let mut reader = ways.reader(case.alloc());
+    case.say("new");
+    say_state(case, &reader);
+    for word in case.rest().split(' ') {
+        let piece = piece(case, word);
+        case.say("\n");
+        say_fed(case, reader.feed(piece.as_slice()));
+        say_state(case, &reader);
+    }
+    let whole = reader.take().is_some();
+    case.say_either(whole, "\na ", "\nno ");
+    case.say(ways.noun());
+}
+
+/// The bytes of a piece.
+fn piece(case: &mut Case, word: &str) -> Vec<u8> {
+    let mut all = Vec::new(case.alloc());
+    if word != "-" {
+        for part in word.split('+') {
+            let (digits, count) = part.split_once('*').unwrap_or((part, "1"));
+            let bytes = case.bytes_of(digits);
+            for _ in 0..case.read(count).min(65535) {
+                case.kept(all.extend_from_slice(bytes.as_slice()).is_ok());
+            }
+        }
+    }
+    all
+}
+
+/// How many bits the reader has seen, and what it holds.
+fn say_state<R: Reads>(case: &mut Case, reader: &R) {
+    case.say(", seen ");
+    case.say_number(reader.bits_seen() as u64);
+    match reader.state() {
+        Some((packets, numbers, kept, part, taken)) => {
+            case.say(", held ");
+            case.say_next(packets as u64);
+            case.say_next(numbers as u64);
+            case.say_next(kept as u64);
+            case.say_next(part);
+            case.say_number(taken as u64);
+        }
+        None => case.say(", nothing held"),
     }
 }
 

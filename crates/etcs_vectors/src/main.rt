@@ -6,8 +6,9 @@
 #![tactic(auto)]
 
 mod builds;
+mod built_messages;
 mod items;
-mod radio;
+mod messages;
 mod runs;
 mod sheet;
 mod telegrams;

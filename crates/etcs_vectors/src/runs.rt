@@ -1,4 +1,5 @@
-//! Vectors of runs over lines of hexadecimal, and of the program's command line. In their texts `\n` is a LF and `\r` a CR.
+//! Vectors of runs over lines of hexadecimal, and of the program's command line. In their texts `\n` is a LF and `\r` a CR,
+//! and any other `\` is itself.
 
 ghost use Rattle.std.specs.Prelude.{◌≡◌};
 ghost use Rattle.etcs_stream.specs.declared.job.Command.TheVariants as command;
@@ -86,9 +87,9 @@ fn push_text(case: &mut Case, found: &mut Vec<u8>, words: &str) {
             (false, byte) => byte,
             (true, b'n') => b'\n',
             (true, b'r') => b'\r',
-            _ => {
-                case.bad();
-                0
+            (true, byte) => {
+                case.kept(found.push(b'\\').is_ok());
+                byte
             }
         };
         escaped = false;

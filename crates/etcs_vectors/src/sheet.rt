@@ -1,6 +1,6 @@
 //! The lines of vectors, and what is written of them.
 
-use crate::{builds, items, runs, telegrams, writes};
+use crate::{builds, built_messages, items, runs, telegrams, writes};
 use etcs_cases::Case;
 use std::alloc::{AllocError, Global};
 
@@ -154,6 +154,7 @@ fn answer(case: &mut Case, kind: &str) -> bool {
     let mut is_known = items::answer(case, kind);
     is_known |= telegrams::answer(case, kind);
     is_known |= builds::answer(case, kind);
+    is_known |= built_messages::answer(case, kind);
     is_known |= writes::answer(case, kind);
     is_known |= runs::answer(case, kind);
     is_known |= etcs_cases::answer(case, kind);

@@ -1,6 +1,6 @@
 //! Telegrams, as items; and lines about their readers and views.
 
-use crate::items::{Reads, Ways, say_fed, say_refused, say_text};
+use crate::items::{Reads, State, Ways, say_refused, say_text, state_of};
 use etcs_bits::{BitSlice, Bits};
 use etcs_cases::Case;
 use etcs_packets::Packet;
@@ -22,6 +22,10 @@ impl Reads for TelegramReader {
         TelegramReader::bits_seen(self)
     }
 
+    fn state(&self) -> Option<State> {
+        self.held().map(state_of)
+    }
+
     fn take(self) -> Option<Telegram> {
         TelegramReader::take(self).ok()
     }
@@ -31,6 +35,10 @@ impl Ways for Size {
     type Item = Telegram;
 
     type Reader = TelegramReader;
+
+    fn noun(self) -> &'static str {
+        "telegram"
+    }
 
     fn reader(self, alloc: Global) -> TelegramReader {
         TelegramReader::new(alloc, self)
@@ -65,7 +73,6 @@ pub(crate) fn answer(case: &mut Case, kind: &str) -> bool {
     match kind {
         "shown" => shown(case),
         "equal" => equal(case),
-        "fed" => fed(case),
         "view" => viewed(case),
         "room" => room(case),
         _ => return false,
@@ -194,55 +201,6 @@ fn say_equal(case: &mut Case, first: &Telegram, second: &Telegram) {
     case.say_truth(equal);
     case.check(exact_equality(first, second) == equal, "not by the law");
     case.check((first != second) != equal, "not unequal");
-}
-
-/// `fed SIZE PIECE PIECE ..`: what a reader answers to each piece, how many bits it has seen and what it holds. A piece is
-/// hexadecimal parts with `+` between them, each of which `*COUNT` repeats; `-` is the empty one.
-fn fed(case: &mut Case) {
-    let size = next_size(case);
-    let mut reader = TelegramReader::new(case.alloc(), size);
-    case.say("new");
-    say_state(case, &reader);
-    for word in case.rest().split(' ') {
-        let piece = piece(case, word);
-        case.say("\n");
-        say_fed(case, reader.feed(piece.as_slice()));
-        say_state(case, &reader);
-    }
-    case.say_either(reader.take().is_ok(), "\na telegram", "\nno telegram");
-}
-
-/// The bytes of a piece.
-fn piece(case: &mut Case, word: &str) -> Vec<u8> {
-    let mut all = Vec::new(case.alloc());
-    if word != "-" {
-        for part in word.split('+') {
-            let (digits, count) = part.split_once('*').unwrap_or((part, "1"));
-            let bytes = case.bytes_of(digits);
-            for _ in 0..case.read(count).min(65535) {
-                case.kept(all.extend_from_slice(bytes.as_slice()).is_ok());
-            }
-        }
-    }
-    all
-}
-
-/// How many bits the reader has seen, and how many packets, numbers and kept bits it holds, with the first bits of the
-/// unfinished variable as a number, and how many they are.
-fn say_state(case: &mut Case, reader: &TelegramReader) {
-    case.say(", seen ");
-    case.say_number(reader.bits_seen() as u64);
-    match reader.held() {
-        Some(held) => {
-            case.say(", held ");
-            case.say_next(held.packets.len() as u64);
-            case.say_next(held.numbers.len() as u64);
-            case.say_next(held.kept.len() as u64);
-            case.say_next(held.part);
-            case.say_number(held.taken as u64);
-        }
-        None => case.say(", nothing held"),
-    }
 }
 
 /// `view SIZE HEX`: the packets a line each, with their number, their length and their bits, and the length of FILL; or

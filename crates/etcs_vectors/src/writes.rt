@@ -21,7 +21,7 @@ pub(crate) fn answer(case: &mut Case, kind: &str) -> bool {
 /// them.
 fn written(case: &mut Case) {
     let (fill, at) = front(case);
-    let packets = packets(case);
+    let packets: Vec<Packet> = packets(case);
     let mut bytes = [fill; 8];
     match packets.as_slice() {
         [packet] => write_one(case, &mut bytes, at, packet),

@@ -21,7 +21,7 @@ from graphlib import TopologicalSorter
 
 TOP = os.path.dirname(os.path.dirname(os.path.realpath(__file__)))
 HEADLINE = [f"etcs_telegram::{it}" for it in ("TelegramReader::feed", "TelegramReader::take", "Telegram::encode_into")]
-HEADLINE += [f"etcs_radio::{it}" for it in ("MessageReader::feed", "MessageReader::take", "Message::encode")]
+HEADLINE += [f"etcs_messages::{it}" for it in ("ReaderOf::feed", "ReaderOf::take", "MessageOf::encode")]
 NAME = r'[^\s(){}.;,@"«»]+'
 TOKEN = re.compile(rf'"(?:\\.|[^"\\])*"|(?<!\S)--.*|⟦.*?⟧|{NAME}(?:\.{NAME})*|\.{NAME}|\S')
 SIGNATURE = re.compile(rf"( *)((?:(?:unfoldable|abbrev|pub|data|record) )*)({NAME})(?: [({{][^=]*[)}}])? :(?: |$)")

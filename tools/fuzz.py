@@ -120,7 +120,7 @@ class Trial:
             expect(fault[1] == count + 1, "a fault of another item", words, self.given)
         self.program.counts.update({"items": count, fault[0] if fault else "no fault": 1})
         self.alike(fault, count, ["show"])
-        if self.kind != "radio":
+        if self.kind in ("short", "long"):
             self.alike(fault, count, ["group"])
         texts = {to: self.alike(fault, count, ["convert", "--to", to]) for to in ("bin", "hex", "json")}
         self.there_and_back(fault, texts)
@@ -186,8 +186,8 @@ def changed_line(pick, line):
     """A line of JSON with one number, text or sign changed, or with kept bits of another packet."""
     text = line.decode()
     if pick.random() < 0.3:
-        nid = pick.choice((12, 49, 57, 58, 63, 68, 80, 131, 137))
-        return re.sub(r'("data":"[01]*","dir":\d,"nid":)\d+', rf"\g<1>{nid}", text).encode()
+        nid = pick.choice((0, 1, 4, 5, 12, 49, 57, 58, 63, 68, 80, 131, 137))
+        return re.sub(r'("data":"[01]*",(?:"dir":\d,)?"nid":)\d+', rf"\g<1>{nid}", text).encode()
     token = pick.choice(list(re.finditer(r'"[^"]*"|\d+|[^"\d]', text)))
     number = str(pick.getrandbits(pick.randrange(1, 65)))
     other = pick.choice(("", number, f'"{number}"', 2 * token[0], token[0][:1] + token[0][2:]))
@@ -199,7 +199,7 @@ class Inputs:
 
     def __init__(self, pick, program, sheet):
         self.pick, self.program, self.items = pick, program, collections.defaultdict(list)
-        for kind, digits in re.findall(r"^(short|long|radio) ([0-9A-F]+) =", sheet, re.MULTILINE):
+        for kind, digits in re.findall(r"^(short|long|radio|train) ([0-9A-F]+) =", sheet, re.MULTILINE):
             self.items[kind].append(bytes.fromhex(digits))
 
     def make(self, kind, form):
@@ -240,7 +240,7 @@ def fuzz(program, pick, sheet, seconds):
     end, findings = time.monotonic() + seconds, 0
     inputs = Inputs(pick, program, sheet)
     while time.monotonic() < end and findings < 20:
-        kind, form = pick.choice(("short", "long", "radio")), pick.choice(("bin", "hex", "json"))
+        kind, form = pick.choice(("short", "long", "radio", "train")), pick.choice(("bin", "hex", "json"))
         program.counts[f"inputs {kind} {form}"] += 1
         try:
             Trial(program, kind, form, inputs.make(kind, form)).run(pick)

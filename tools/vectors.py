@@ -90,15 +90,16 @@ def shown(program, kind, given):
 
 
 def answer_item(program, kind, words):
-    """`short HEX`, `long HEX`, `radio HEX`."""
+    """`short HEX`, `long HEX`, `radio HEX`, `train HEX`."""
     return shown(program, kind, bytes.fromhex(words))
 
 
-def answer_message(program, _, words):
-    """`message HEX`: how many bits and packets it has."""
-    lines = shown(program, "radio", bytes.fromhex(words)).split(b"\n")
+def answer_message(program, kind, words):
+    """`message HEX`, `train_message HEX`: how many bits and packets it has."""
+    kind = "radio" if kind == "message" else "train"
+    lines = shown(program, kind, bytes.fromhex(words)).split(b"\n")
     packets = sum(line.startswith(b"packet ") for line in lines)
-    return lines[0].removeprefix(b"item 1 radio ") + b", packets " + number(packets)
+    return lines[0].removeprefix(b"item 1 %b " % kind.encode()) + b", packets " + number(packets)
 
 
 def answer_turned(program, _, words):
@@ -121,7 +122,7 @@ def said_turned(program, kind, given):
     found = OK_LINE.match(output)
     if not found:
         return shown(program, kind, given)
-    if kind != "radio" or int(found[1]) == 8 * len(given):
+    if kind in ("short", "long") or int(found[1]) == 8 * len(given):
         return b""
     return b"done " + number(int(found[1]) // 8)
 
@@ -194,7 +195,9 @@ ANSWERS = {
     "short": answer_item,
     "long": answer_item,
     "radio": answer_item,
+    "train": answer_item,
     "message": answer_message,
+    "train_message": answer_message,
     "turned": answer_turned,
     "run": answer_run,
     "zeros": answer_zeros,

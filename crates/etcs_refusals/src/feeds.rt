@@ -64,10 +64,12 @@ impl<H: Head + PartialEq, B: Own<Front = H> + PartialEq> Reads for ReaderOf<H, B
     }
 }
 
-/// Whether a reader gives this item, or none where none is wanted.
-fn gives<R: Reads>(reader: R, wanted: Option<&R::Item>) -> bool {
-    let taken = reader.take();
-    taken.as_ref() == wanted
+/// Whether a reader gives this item.
+fn gives<R: Reads>(reader: R, wanted: &R::Item) -> bool {
+    match reader.take() {
+        Some(taken) => taken == *wanted,
+        None => false,
+    }
 }
 
 /// The bytes of an item, in pieces of this many.
@@ -91,7 +93,7 @@ fn fed<R: Reads>(mut reader: R, feeds: &Feeds<'_>, item: &R::Item) -> Answer {
             Err(_) => return Answer::Wrong,
         }
     }
-    Answer::made(gives(reader, Some(item)))
+    Answer::made(gives(reader, item))
 }
 
 /// Whether a reader is as it must be that was refused memory in this piece, before which it had seen this many bits.
@@ -103,7 +105,7 @@ fn is_refused<R: Reads>(mut reader: R, before: usize, piece: &[u8]) -> bool {
     is_right &= reader.feed(piece) == Err(ReadFault::Memory);
     is_right &= reader.bits_seen() == seen;
     is_right &= !reader.is_holding();
-    is_right & gives(reader, None)
+    is_right & reader.take().is_none()
 }
 
 impl Call for Feeds<'_> {
@@ -112,7 +114,11 @@ impl Call for Feeds<'_> {
             Entry::Message(message) => fed(MessageReader::new(alloc), self, message),
             Entry::Train(message) => fed(TrainReader::new(alloc), self, message),
             Entry::Telegram(telegram) => {
-                fed(TelegramReader::new(alloc, size_of(self.kind)), self, telegram)
+                fed(
+                    TelegramReader::new(alloc, size_of(self.kind)),
+                    self,
+                    telegram,
+                )
             }
         }
     }

@@ -141,7 +141,10 @@ fn marker_by<P: AnyPacket>(numbers: &[u64]) -> P
     ensures made { (P.form result).made × IsPacketTo P.WAY (P.form result).value }
     ensures is { (n : ℕ) → numbers.now ≡ n ∷ [] → (P.form result).value ≡ marker n }
 {
-    P::of_marker(numbers[0] as u8)
+    match P::of_marker(numbers[0] as u8) {
+        Some(packet) => packet,
+        None => unreachable!(),
+    }
 }
 
 /// The packet 0 of these members, if there is one.

@@ -104,11 +104,11 @@ pub trait AnyPacket: Sized + Drop {
         ensures made { (form result).made }
         ensures value { (form result).value ≡ kept nid dir body };
 
-    /// Packet 0 without a frame, with this number.
-    fn of_marker(number: u8) -> Self
-        requires { IsTrue (is_marker WAY number) }
-        ensures made { (form result).made }
-        ensures value { (form result).value ≡ marker number };
+    /// Packet 0 without a frame, with this number, where this way has one.
+    fn of_marker(number: u8) -> Option<Self>
+        ensures made { IfSome result (λ p. (form p).made) }
+        ensures value { IfSome result (λ p. (form p).value ≡ marker number) }
+        ensures none { IsNone result → IsTrue (is_marker WAY number) → ⊥ };
 
     /// An equal packet.
     ///
@@ -223,10 +223,10 @@ impl AnyPacket for Packet {
         }
     }
 
-    fn of_marker(number: u8) -> Packet {
+    fn of_marker(number: u8) -> Option<Packet> {
         match etcs_flat::parts::marker(number) {
-            Ok(marker) => Packet::VbcMarker(marker),
-            Err(_) => unreachable!(),
+            Ok(marker) => Some(Packet::VbcMarker(marker)),
+            Err(_) => None,
         }
     }
 

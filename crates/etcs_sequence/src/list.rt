@@ -72,7 +72,10 @@ impl<P: AnyPacket> PacketStore for PacketList<P> {
     }
 
     fn marker(&mut self, number: u8) -> Result<(), AllocError> {
-        put(&mut self.packets, P::of_marker(number))
+        match P::of_marker(number) {
+            Some(packet) => put(&mut self.packets, packet),
+            None => Ok(()),
+        }
     }
 
     fn typed(&mut self, nid: u8, dir: u8) -> Result<(), AllocError> {

@@ -52,8 +52,7 @@ pub trait PacketStore {
     ///
     /// `AllocError` where there is no memory.
     fn marker(&mut self, number: u8) -> Result<(), AllocError>
-        requires { IsTrue (is_marker WAY number) }
-        ensures ok { OnOk result ((vs : List PacketValue) → holds self.old vs [] [] → holds self.new (vs ++ marker number ∷ []) [] []) }
+        ensures ok { OnOk result (IsTrue (is_marker WAY number) → (vs : List PacketValue) → holds self.old vs [] [] → holds self.new (vs ++ marker number ∷ []) [] []) }
         ensures err { OnErr result fails };
 
     /// The typed packet of this number and direction is whole, with the numbers that were taken.

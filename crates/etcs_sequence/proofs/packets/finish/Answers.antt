@@ -5,9 +5,6 @@ use Rattle.etcs_sequence.specs.declared.stage.Event.{Event}
 use Rattle.etcs_sequence.proofs.PacketLemmas.{true_prop, Finishes, finish_marker, finish_typed, finish_kept, marker_admitted, typed_held, kept_held}
 use Rattle.etcs_sequence.proofs.packets.finish.Goals as goal
 
-pub marker-requires : goal.marker-requires
-marker-requires g c = ∥∥₁_elim c.requires (true_prop _) (λ (d, (s, (vs, (f, (k, (h, (to, (held, after)))))))). marker_admitted g.S.PacketStore.WAY d s f k h c.in-Marker.number to (rw c.in-Marker.is at after))
-
 pub typed-requires : goal.typed-requires
 typed-requires g c = ∥∥₁_map c.requires (λ (d, (s, (vs, (f, (k, (h, (to, (held, after)))))))). (vs, (f, typed_held g.S.PacketStore.WAY (g.S.PacketStore.holds c.args.store.now) d s vs f k h c.in-Typed.nid c.in-Typed.dir to held (rw c.in-Typed.is at after))))
 
@@ -18,7 +15,8 @@ pub returns-in-Marker-clause-ok : goal.returns-in-Marker-clause-ok
 returns-in-Marker-clause-ok g c =
     let H = g.S.PacketStore.holds c.args.store.now in
     let H' = g.S.PacketStore.holds c.marker.new.self in
-    on_ok_weaker c.marker.result (λ ok. subst (λ (e : Event). Finishes g.S.PacketStore.WAY H H' e) (sym c.in-Marker.is) (finish_marker g.S.PacketStore.WAY H H' c.in-Marker.number ok)) c.marker.ensures.ok
+    let admitted = ∥∥₁_elim c.requires (true_prop _) (λ (d, (s, (vs, (f, (k, (h, (to, (held, after)))))))). marker_admitted g.S.PacketStore.WAY d s f k h c.in-Marker.number to (rw c.in-Marker.is at after)) in
+    on_ok_weaker c.marker.result (λ ok. subst (λ (e : Event). Finishes g.S.PacketStore.WAY H H' e) (sym c.in-Marker.is) (finish_marker g.S.PacketStore.WAY H H' c.in-Marker.number (ok admitted))) c.marker.ensures.ok
 
 pub returns-in-Typed-clause-ok : goal.returns-in-Typed-clause-ok
 returns-in-Typed-clause-ok g c =

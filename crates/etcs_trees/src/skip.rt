@@ -1,13 +1,45 @@
 //! Skipping values: nothing is made of them.
 
-ghost use Rattle.std.specs.Prelude.{◌≡◌, ◌<◌, length, None, OnErr, OnOk, Some};
+ghost use Rattle.std.specs.Prelude.{ℕ, ◌≡◌, ◌∷◌, ◌<◌, length, None, Ok, OnErr, OnOk, Some};
 ghost use Rattle.json.specs.Json.{value};
+ghost use Rattle.json.specs.Token.{begin_array, begin_object};
 ghost use Rattle.serde_json.specs.Data.{Data};
 ghost use Rattle.serde_json.specs.Read.{converted, of_json};
 ghost use Rattle.etcs_trees.specs.Skips.{NoItems, NoMembers, SkipsItems, SkipsMembers};
 
 use crate::number::number;
 use json::{Invalid, Reader, Token};
+
+/// What a value is, by its first token.
+enum Shape {
+    Scalar,
+    Array,
+    Object,
+}
+
+/// Takes the first token of a value. Not inlined, so that no level of nesting holds its part of the stack.
+#[inline(never)]
+fn begin(reader: &mut Reader<'_>) -> Result<Shape, Invalid>
+    ensures scalar { result ≡ Ok Shape.Scalar → (d : Data) × ((depth : ℕ) → converted of_json (value depth reader.old) ≡ Some (d, reader.new)) }
+    ensures array { result ≡ Ok Shape.Array → reader.old ≡ begin_array ∷ reader.new }
+    ensures object { result ≡ Ok Shape.Object → reader.old ≡ begin_object ∷ reader.new }
+    ensures shorter { OnOk result (length reader.new < length reader.old) }
+    ensures err { OnErr result ((depth : ℕ) → converted of_json (value depth reader.old) ≡ None) }
+{
+    let token = reader.next().ok_or(Invalid)?;
+    match token {
+        Token::String(_) => Ok(Shape::Scalar),
+        Token::Bool(_) => Ok(Shape::Scalar),
+        Token::Null => Ok(Shape::Scalar),
+        Token::Number(text) => match number(text) {
+            Some(_) => Ok(Shape::Scalar),
+            None => Err(Invalid),
+        },
+        Token::BeginArray => Ok(Shape::Array),
+        Token::BeginObject => Ok(Shape::Object),
+        Token::EndObject | Token::EndArray | Token::Key(_) | Token::Bad => Err(Invalid),
+    }
+}
 
 /// Skips a value in which lists and objects nest at most `depth` deep.
 #[cycle(skip)]
@@ -17,23 +49,15 @@ pub(crate) fn skip(reader: &mut Reader<'_>, depth: usize) -> Result<(), Invalid>
     ensures shorter { OnOk result (length reader.new < length reader.old) }
     ensures err { OnErr result (converted of_json (value depth reader.old) ≡ None) }
 {
-    let token = reader.next().ok_or(Invalid)?;
-    match token {
-        Token::String(_) => Ok(()),
-        Token::Bool(_) => Ok(()),
-        Token::Null => Ok(()),
-        Token::Number(text) => match number(text) {
-            Some(_) => Ok(()),
-            None => Err(Invalid),
-        },
-        Token::EndObject | Token::EndArray | Token::Key(_) | Token::Bad => Err(Invalid),
-        Token::BeginArray => {
+    match begin(reader)? {
+        Shape::Scalar => Ok(()),
+        Shape::Array => {
             if depth == 0 {
                 return Err(Invalid);
             }
             skip_items(reader, depth - 1)
         }
-        Token::BeginObject => {
+        Shape::Object => {
             if depth == 0 {
                 return Err(Invalid);
             }

@@ -1,4 +1,4 @@
-use Rattle.std.proofs.Common.{◌≡◌, ◌-◌, ◌<◌, [], ◌∷◌, length, Some, None, refl, ap, ap₂, ◌∙◌, arith}
+use Rattle.std.proofs.Common.{◌≡◌, ◌-◌, ◌<◌, ◌∷◌, length, Some, None, Ok, refl, ap, ap₂, ◌∙◌, arith}
 use Rattle.std.proofs.lemmas.Result.{on_ok_weaker, on_err_weaker}
 use Rattle.json.specs.Token.{Token}
 use Rattle.json.specs.Json.{parse_map, after_end_array, read_key, items, members, value}
@@ -12,84 +12,43 @@ use Rattle.etcs_trees.proofs.Reading.{converted-array, converted-object, item_re
 use Rattle.etcs_trees.proofs.Outcomes.{OnErr-always}
 use Rattle.etcs_trees.proofs.skip.+skip.Goals as goal
 
-pub skip-returns-in_err-token-clause-err : goal.skip-returns-in_err-token-clause-err
-skip-returns-in_err-token-clause-err t c =
-    let empty : c.args.reader.now ≡ [] = grind arith in
-    OnErr-always c.from_residual.result (ap (converted of_json) (ap (value c.args.depth) empty ∙ value_is c.args.depth []))
+pub skip-returns-in_err-begin-clause-err : goal.skip-returns-in_err-begin-clause-err
+skip-returns-in_err-begin-clause-err t c = OnErr-always c.from_residual.result (c.in_err-begin.ensures.err c.args.depth)
 
-pub skip-returns-in-String-clause-ok : goal.skip-returns-in-String-clause-ok
-skip-returns-in-String-clause-ok t c =
-    let first : c.args.reader.now ≡ token_of c.in_ok-token.token ∷ c.next.new.self = grind arith in
-    let is : c.args.reader.now ≡ Token.string c.in-String.field-0.now ∷ c.next.new.self = grind (arith, first) in
-    (string c.in-String.field-0.now, ap (converted of_json) (ap (value c.args.depth) is ∙ value_is c.args.depth _))
-
-pub skip-returns-in-Bool-clause-ok : goal.skip-returns-in-Bool-clause-ok
-skip-returns-in-Bool-clause-ok t c =
-    let first : c.args.reader.now ≡ token_of c.in_ok-token.token ∷ c.next.new.self = grind arith in
-    let is : c.args.reader.now ≡ Token.boolean c.in-Bool.field-0 ∷ c.next.new.self = grind (arith, first) in
-    (boolean c.in-Bool.field-0, ap (converted of_json) (ap (value c.args.depth) is ∙ value_is c.args.depth _))
-
-pub skip-returns-in-Null-clause-ok : goal.skip-returns-in-Null-clause-ok
-skip-returns-in-Null-clause-ok t c =
-    let first : c.args.reader.now ≡ token_of c.in_ok-token.token ∷ c.next.new.self = grind arith in
-    let is : c.args.reader.now ≡ Token.null ∷ c.next.new.self = grind (arith, first) in
-    (null, ap (converted of_json) (ap (value c.args.depth) is ∙ value_is c.args.depth _))
-
-pub skip-returns-in-Some-clause-ok : goal.skip-returns-in-Some-clause-ok
-skip-returns-in-Some-clause-ok t c =
-    let first : c.args.reader.now ≡ token_of c.in_ok-token.token ∷ c.next.new.self = grind arith in
-    let is : c.args.reader.now ≡ Token.number c.in-Number.text.now ∷ c.next.new.self = grind (arith, first) in
-    (number (number_view c.in-Some.field-0), ap (converted of_json) (ap (value c.args.depth) is ∙ value_is c.args.depth _) ∙ rw (← c.in-Some.ensures))
-
-pub skip-returns-in-None-clause-err : goal.skip-returns-in-None-clause-err
-skip-returns-in-None-clause-err t c =
-    let first : c.args.reader.now ≡ token_of c.in_ok-token.token ∷ c.next.new.self = grind arith in
-    let is : c.args.reader.now ≡ Token.number c.in-Number.text.now ∷ c.next.new.self = grind (arith, first) in
-    ap (converted of_json) (ap (value c.args.depth) is ∙ value_is c.args.depth _) ∙ rw (← c.in-None.ensures)
-
-pub skip-returns-in-EndObject-clause-err : goal.skip-returns-in-EndObject-clause-err
-skip-returns-in-EndObject-clause-err t c =
-    let first : c.args.reader.now ≡ token_of c.in_ok-token.token ∷ c.next.new.self = grind arith in
-    let none : value c.args.depth c.args.reader.now ≡ None = rw (value_is c.args.depth c.args.reader.now, first) (grind arith) in
-    ap (converted of_json) none
+pub skip-returns-in-Scalar-clause-ok : goal.skip-returns-in-Scalar-clause-ok
+skip-returns-in-Scalar-clause-ok t c = let (d, is) = c.in_ok-begin.ensures.scalar (ap Ok c.in-Scalar.is) in (d, is c.args.depth)
 
 pub skip-returns-then-depth-eq0-clause-err : goal.skip-returns-then-depth-eq0-clause-err
 unfolding value
 skip-returns-then-depth-eq0-clause-err t c =
-    let first : c.args.reader.now ≡ token_of c.in_ok-token.token ∷ c.next.new.self = grind arith in
     let none : c.args.depth ≡ 0 = omega arith in
-    ap (converted of_json) (ap₂ value none (first ∙ ap (λ k. token_of k ∷ c.next.new.self) c.in-BeginArray.is))
+    ap (converted of_json) (ap₂ value none (c.in_ok-begin.ensures.array (ap Ok c.in-Array.is)))
 
 pub skip-returns-then-depth-eq0-2-clause-err : goal.skip-returns-then-depth-eq0-2-clause-err
 unfolding value
 skip-returns-then-depth-eq0-2-clause-err t c =
-    let first : c.args.reader.now ≡ token_of c.in_ok-token.token ∷ c.next.new.self = grind arith in
     let none : c.args.depth ≡ 0 = omega arith in
-    ap (converted of_json) (ap₂ value none (first ∙ ap (λ k. token_of k ∷ c.next.new.self) c.in-BeginObject.is))
+    ap (converted of_json) (ap₂ value none (c.in_ok-begin.ensures.object (ap Ok c.in-Object.is)))
 
 pub skip-returns-else-depth-eq0-clause-ok : goal.skip-returns-else-depth-eq0-clause-ok
 skip-returns-else-depth-eq0-clause-ok t c =
-    let first : c.args.reader.now ≡ token_of c.in_ok-token.token ∷ c.next.new.self = grind arith in
-    let opened = ap (converted of_json) (ap (value c.args.depth) (first ∙ ap (λ k. token_of k ∷ c.next.new.self) c.in-BeginArray.is) ∙ value-begin_array c.args.depth c.next.new.self (omega arith)) ∙ converted-array (items (value (c.args.depth - 1)) (length c.next.new.self) c.next.new.self) in
-    on_ok_weaker c.skip_items.result (λ (h : SkipsItems (c.args.depth - 1) c.next.new.self c.skip_items.new.reader). let got = h (length c.next.new.self) (omega arith) in (array got.0, opened ∙ ap (parse_map array) got.1)) c.skip_items.ensures.ok
+    let opened = ap (converted of_json) (ap (value c.args.depth) (c.in_ok-begin.ensures.array (ap Ok c.in-Array.is)) ∙ value-begin_array c.args.depth c.begin.new.reader (omega arith)) ∙ converted-array (items (value (c.args.depth - 1)) (length c.begin.new.reader) c.begin.new.reader) in
+    on_ok_weaker c.skip_items.result (λ (h : SkipsItems (c.args.depth - 1) c.begin.new.reader c.skip_items.new.reader). let got = h (length c.begin.new.reader) (omega arith) in (array got.0, opened ∙ ap (parse_map array) got.1)) c.skip_items.ensures.ok
 
 pub skip-returns-else-depth-eq0-clause-err : goal.skip-returns-else-depth-eq0-clause-err
 skip-returns-else-depth-eq0-clause-err t c =
-    let first : c.args.reader.now ≡ token_of c.in_ok-token.token ∷ c.next.new.self = grind arith in
-    let opened = ap (converted of_json) (ap (value c.args.depth) (first ∙ ap (λ k. token_of k ∷ c.next.new.self) c.in-BeginArray.is) ∙ value-begin_array c.args.depth c.next.new.self (omega arith)) ∙ converted-array (items (value (c.args.depth - 1)) (length c.next.new.self) c.next.new.self) in
-    on_err_weaker c.skip_items.result (λ (h : NoItems (c.args.depth - 1) c.next.new.self). opened ∙ ap (parse_map array) (h (length c.next.new.self) (omega arith))) c.skip_items.ensures.err
+    let opened = ap (converted of_json) (ap (value c.args.depth) (c.in_ok-begin.ensures.array (ap Ok c.in-Array.is)) ∙ value-begin_array c.args.depth c.begin.new.reader (omega arith)) ∙ converted-array (items (value (c.args.depth - 1)) (length c.begin.new.reader) c.begin.new.reader) in
+    on_err_weaker c.skip_items.result (λ (h : NoItems (c.args.depth - 1) c.begin.new.reader). opened ∙ ap (parse_map array) (h (length c.begin.new.reader) (omega arith))) c.skip_items.ensures.err
 
 pub skip-returns-else-depth-eq0-2-clause-ok : goal.skip-returns-else-depth-eq0-2-clause-ok
 skip-returns-else-depth-eq0-2-clause-ok t c =
-    let first : c.args.reader.now ≡ token_of c.in_ok-token.token ∷ c.next.new.self = grind arith in
-    let opened = ap (converted of_json) (ap (value c.args.depth) (first ∙ ap (λ k. token_of k ∷ c.next.new.self) c.in-BeginObject.is) ∙ value-begin_object c.args.depth c.next.new.self (omega arith)) ∙ converted-object (members (value (c.args.depth - 1)) (length c.next.new.self) c.next.new.self) in
-    on_ok_weaker c.skip_members.result (λ (h : SkipsMembers (c.args.depth - 1) c.next.new.self c.skip_members.new.reader). let got = h (length c.next.new.self) no_members (omega arith) in (object got.0, opened ∙ ap (parse_map object) got.1)) c.skip_members.ensures.ok
+    let opened = ap (converted of_json) (ap (value c.args.depth) (c.in_ok-begin.ensures.object (ap Ok c.in-Object.is)) ∙ value-begin_object c.args.depth c.begin.new.reader (omega arith)) ∙ converted-object (members (value (c.args.depth - 1)) (length c.begin.new.reader) c.begin.new.reader) in
+    on_ok_weaker c.skip_members.result (λ (h : SkipsMembers (c.args.depth - 1) c.begin.new.reader c.skip_members.new.reader). let got = h (length c.begin.new.reader) no_members (omega arith) in (object got.0, opened ∙ ap (parse_map object) got.1)) c.skip_members.ensures.ok
 
 pub skip-returns-else-depth-eq0-2-clause-err : goal.skip-returns-else-depth-eq0-2-clause-err
 skip-returns-else-depth-eq0-2-clause-err t c =
-    let first : c.args.reader.now ≡ token_of c.in_ok-token.token ∷ c.next.new.self = grind arith in
-    let opened = ap (converted of_json) (ap (value c.args.depth) (first ∙ ap (λ k. token_of k ∷ c.next.new.self) c.in-BeginObject.is) ∙ value-begin_object c.args.depth c.next.new.self (omega arith)) ∙ converted-object (members (value (c.args.depth - 1)) (length c.next.new.self) c.next.new.self) in
-    on_err_weaker c.skip_members.result (λ (h : NoMembers (c.args.depth - 1) c.next.new.self). opened ∙ ap (parse_map object) (h (length c.next.new.self) no_members (omega arith))) c.skip_members.ensures.err
+    let opened = ap (converted of_json) (ap (value c.args.depth) (c.in_ok-begin.ensures.object (ap Ok c.in-Object.is)) ∙ value-begin_object c.args.depth c.begin.new.reader (omega arith)) ∙ converted-object (members (value (c.args.depth - 1)) (length c.begin.new.reader) c.begin.new.reader) in
+    on_err_weaker c.skip_members.result (λ (h : NoMembers (c.args.depth - 1) c.begin.new.reader). opened ∙ ap (parse_map object) (h (length c.begin.new.reader) no_members (omega arith))) c.skip_members.ensures.err
 
 pub skip_items-items-init : goal.skip_items-items-init
 skip_items-items-init t c = (λ n h. (n, (λ ds. ds), h, none_before _), omega arith)

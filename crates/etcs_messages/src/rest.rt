@@ -275,7 +275,7 @@ impl<H: Head, B: Own<Front = H>> Rest for MessageRest<H, B> {
 
     ghost fails = { λ s. H.Store.fails × IsTrue (may_ask s.phase s.packets.left) };
 
-    #[inline]
+    #[inline(always)]
     fn var(&self) -> Option<Var> {
         match self.phase {
             Phase::Number => Some(Var::NID_MESSAGE),
@@ -288,7 +288,7 @@ impl<H: Head, B: Own<Front = H>> Rest for MessageRest<H, B> {
         }
     }
 
-    #[inline]
+    #[inline(always)]
     fn begins(&self, var: Var, rest: usize, number: u64) -> bool {
         match self.phase {
             Phase::Number => true,
@@ -301,6 +301,7 @@ impl<H: Head, B: Own<Front = H>> Rest for MessageRest<H, B> {
         }
     }
 
+    #[inline(always)]
     fn pass(&mut self, var: Var, number: u64) -> Result<(), AllocError> {
         match self.phase {
             Phase::Number => {

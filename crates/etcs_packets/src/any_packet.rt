@@ -62,10 +62,11 @@ pub trait AnyPacket: Sized + Drop {
         ensures bits { result ≡ bits_to WAY (form self.now).value }
         ensures small { result ≤ 8191 };
 
-    /// Writes it with its frame over the bits from `at` on.
-    fn put(&self, out: &mut [u8], at: usize)
-        requires room { at + bits_to WAY (form self.now).value ≤ length (bits out.old) }
-        requires small { at + bits_to WAY (form self.now).value < 2 ^ 64 }
+    /// Writes it, `len` bits with its frame, over the bits from `at` on.
+    fn put(&self, out: &mut [u8], at: usize, len: usize)
+        requires len { len ≡ bits_to WAY (form self.now).value }
+        requires room { at + len ≤ length (bits out.old) }
+        requires small { at + len < 2 ^ 64 }
         ensures { bits out.new ≡ replaced at (spelled (reading_to WAY (form self.now).value)) (bits out.old) };
 
     /// The typed packet of this number and direction with these numbers after L_PACKET, if there is one.
@@ -132,7 +133,7 @@ pub fn write_all<P: AnyPacket>(out: &mut [u8], at: usize, packets: &[P]) -> usiz
     let mut place = at;
     for packet in packets {
         let len = packet.full_bits();
-        packet.put(out, place);
+        packet.put(out, place, len);
         place += len;
     }
     place
@@ -194,8 +195,9 @@ impl AnyPacket for Packet {
         self.bit_len()
     }
 
-    fn put(&self, out: &mut [u8], at: usize) {
-        write::write_packet(out, at, self);
+    #[inline(always)]
+    fn put(&self, out: &mut [u8], at: usize, len: usize) {
+        write::put_packet(out, at, self, len);
     }
 
     fn of_fields(
@@ -207,6 +209,7 @@ impl AnyPacket for Packet {
         parts::from_fields(alloc, nid, dir, fields)
     }
 
+    #[inline(always)]
     fn of_bits(
         alloc: Global,
         nid: u8,

@@ -73,7 +73,7 @@ pub fn room_left(room: usize, packets: &[Packet]) -> Option<usize>
 }
 
 /// Writes a packet of this many bits, its frame among them.
-fn put_packet(out: &mut [u8], at: usize, packet: &Packet, len: usize)
+pub(crate) fn put_packet(out: &mut [u8], at: usize, packet: &Packet, len: usize)
     requires len { len ≡ bits_of (packet_value packet.now) }
     requires room { at + len ≤ length (bits out.old) }
     requires small { at + len < 2 ^ 64 }

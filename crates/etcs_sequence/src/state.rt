@@ -110,6 +110,7 @@ impl PacketsState {
 
     /// Whether some number of the variable that comes next continues whose first bits these are, with `rest`
     /// bits more after them.
+    #[inline(always)]
     pub(crate) fn begins(&self, var: Var, rest: usize, number: u64) -> bool
         requires next { next_of self.now.stage ≡ Some var }
         requires rest { rest < width var }
@@ -267,6 +268,7 @@ impl PacketsState {
     }
 
     /// Continues after the number of the variable that comes next, and says what is whole then.
+    #[inline(always)]
     pub(crate) fn pass(&mut self, var: Var, number: u64) -> Event
         requires next { next_of self.old.stage ≡ Some var }
         requires goes { Starts (left_of self.old.carrier self.old.room self.old.stage) var 0 number }

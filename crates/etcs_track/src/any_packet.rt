@@ -52,7 +52,7 @@ impl AnyPacket for TrainPacket {
     }
 
     #[tactic(auto, using(crate::specs::laws::TrackPackets::track_bits))]
-    fn put(&self, out: &mut [u8], at: usize) {
+    fn put(&self, out: &mut [u8], at: usize, _len: usize) {
         write_variables(out, at, self);
     }
 
@@ -65,6 +65,7 @@ impl AnyPacket for TrainPacket {
         parts::from_fields(alloc, nid, dir, fields)
     }
 
+    #[inline(always)]
     fn of_bits(
         alloc: Global,
         nid: u8,

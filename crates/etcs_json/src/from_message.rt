@@ -41,7 +41,7 @@ static HEAD_TO_TRAIN: [RowItem; 3] = [
 static HEAD_TO_TRACK: [RowItem; 2] = [RowItem::One(Var::T_TRAIN), RowItem::One(Var::NID_ENGINE)];
 
 /// Those of a way.
-fn head_items(way: Way) -> &'static [RowItem]
+pub(crate) fn head_items(way: Way) -> &'static [RowItem]
     ensures { result.now ≡ map One (head_row way) }
 {
     match way {

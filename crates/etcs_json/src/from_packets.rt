@@ -103,7 +103,7 @@ fn kept_members(way: Way, value: &Value) -> Option<(&Value, u8, u8)>
 }
 
 /// The packet of this number and direction that is kept as bits, if there is one.
-fn kept_by<P: AnyPacket>(nid: u8, dir: u8, bits: Bits) -> Option<P>
+pub(crate) fn kept_by<P: AnyPacket>(nid: u8, dir: u8, bits: Bits) -> Option<P>
     ensures made { IfSome result (λ p. (P.form p).made × IsPacketTo P.WAY (P.form p).value) }
     ensures some { IfSome result (λ p. (P.form p).value ≡ kept nid dir bits) }
     ensures only { IsPacketTo P.WAY (kept nid dir bits) → option_map (λ p. (P.form p).value) result ≡ Some (kept nid dir bits) }

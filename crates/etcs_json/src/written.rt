@@ -18,13 +18,13 @@ mod text;
 use crate::written::guess::guess_telegram;
 use crate::written::guess_message::guess_message;
 use crate::written::text::Text;
-use etcs_radio::parts as message_parts;
+use etcs_messages::parts as message_parts;
 use etcs_telegram::{Size, parts as telegram_parts};
 use etcs_text::{Entry, Kind, json_line};
 use std::alloc::{AllocError, Global};
 
 /// An item of the kind that `json_line` writes as this line, without its LF. `None` says nothing: the line may still
-/// be JSON of an item, as with blanks between its parts, or of a message to the track, which is never guessed.
+/// be JSON of an item, as with blanks between its parts.
 ///
 /// # Errors
 ///
@@ -72,7 +72,7 @@ fn guessed(alloc: Global, kind: Kind, line: &[u8]) -> Result<Option<Entry>, Allo
         Kind::Long => telegram_guessed(alloc, Size::Long, line),
         Kind::Short => telegram_guessed(alloc, Size::Short, line),
         Kind::Radio => message_guessed(alloc, line),
-        Kind::Train => Ok(None),
+        Kind::Train => train_guessed(alloc, line),
     }
 }
 
@@ -89,7 +89,7 @@ fn telegram_guessed(alloc: Global, size: Size, line: &[u8]) -> Result<Option<Ent
     }
 }
 
-/// A message that may be the line's.
+/// A message to the train that may be the line's.
 fn message_guessed(alloc: Global, line: &[u8]) -> Result<Option<Entry>, AllocError>
     ensures { IfOk result (λ o. IfSome o (λ e. (r : Reading) × EntryReads Kind.Radio (entry_value e) r)) }
 {
@@ -97,6 +97,19 @@ fn message_guessed(alloc: Global, line: &[u8]) -> Result<Option<Entry>, AllocErr
         Some(message) => {
             message_parts::reads(&message);
             Ok(Some(Entry::Message(message)))
+        }
+        None => Ok(None),
+    }
+}
+
+/// A message to the track that may be the line's.
+fn train_guessed(alloc: Global, line: &[u8]) -> Result<Option<Entry>, AllocError>
+    ensures { IfOk result (λ o. IfSome o (λ e. (r : Reading) × EntryReads Kind.Train (entry_value e) r)) }
+{
+    match guess_message(alloc, &mut Text::new(line))? {
+        Some(message) => {
+            message_parts::reads(&message);
+            Ok(Some(Entry::Train(message)))
         }
         None => Ok(None),
     }

@@ -3,10 +3,12 @@
 
 ghost use Rattle.std.specs.Prelude.{◌≡◌, IfOk, IfSome};
 
+use crate::from_packets::kept_by;
 use crate::written::text::Text;
 use etcs_bits::Bits;
-use etcs_packets::parts::from_fields;
-use etcs_packets::{Other, Packet};
+use etcs_packets::Packet;
+use etcs_packets::parts::AnyPacket;
+use etcs_tables::Way;
 use etcs_telegram::{Header, Size, Telegram};
 use std::alloc::{AllocError, Global};
 
@@ -28,49 +30,67 @@ fn header_of(numbers: &[u64]) -> Option<Header> {
     }
 }
 
-/// The packet after its direction's name.
-fn typed_packet(alloc: Global, text: &mut Text<'_>) -> Result<Option<Packet>, AllocError> {
-    let dir = text.byte();
-    if !text.skip(b",\"fields\":") {
-        return Ok(None);
-    }
+/// The typed packet of this direction, at its pairs.
+fn typed_packet<P: AnyPacket>(
+    alloc: Global,
+    text: &mut Text<'_>,
+    dir: u8,
+) -> Result<Option<P>, AllocError> {
     let Some(numbers) = text.pairs(alloc)? else {
         return Ok(None);
     };
     if !text.skip(b",\"nid\":") {
         return Ok(None);
     }
-    match (text.byte(), dir) {
-        (Some(nid), Some(dir)) => from_fields(alloc, nid, dir, numbers.as_slice()),
+    match text.byte() {
+        Some(nid) => P::of_fields(alloc, nid, dir, numbers.as_slice()),
+        None => Ok(None),
+    }
+}
+
+/// The typed packet after its direction's name.
+fn directed_packet<P: AnyPacket>(
+    alloc: Global,
+    text: &mut Text<'_>,
+) -> Result<Option<P>, AllocError> {
+    match (text.byte(), text.skip(b",\"fields\":")) {
+        (Some(dir), true) => typed_packet(alloc, text, dir),
         _ => Ok(None),
     }
 }
 
+/// The direction of a packet that is kept as bits, with the comma after it; to the track it isn't sent.
+fn kept_direction(text: &mut Text<'_>) -> Option<u8> {
+    if !text.skip(b"\"dir\":") {
+        return Some(0);
+    }
+    let dir = text.byte();
+    if text.skip(b",") { dir } else { None }
+}
+
 /// The packet that is kept as bits, after their quotation mark.
-fn kept_packet(alloc: Global, text: &mut Text<'_>) -> Result<Option<Packet>, AllocError> {
+fn kept_packet<P: AnyPacket>(alloc: Global, text: &mut Text<'_>) -> Result<Option<P>, AllocError> {
     let Some(bits) = text.bits(alloc)? else {
         return Ok(None);
     };
-    if !text.skip(b"\",\"dir\":") {
+    if !text.skip(b"\",") {
         return Ok(None);
     }
-    let dir = text.byte();
-    if !text.skip(b",\"nid\":") {
+    let dir = kept_direction(text);
+    if !text.skip(b"\"nid\":") {
         return Ok(None);
     }
-    Ok(other_of(text.byte(), dir, bits))
-}
-
-/// The packet of this number and direction that is kept as bits.
-fn other_of(nid: Option<u8>, dir: Option<u8>, bits: Bits) -> Option<Packet> {
-    match Other::new(nid?, dir?, bits) {
-        Ok(other) => Some(Packet::Other(other)),
-        Err(_) => None,
+    match (text.byte(), dir) {
+        (Some(nid), Some(dir)) => Ok(kept_by(nid, dir, bits)),
+        _ => Ok(None),
     }
 }
 
-/// Packet 0, at its pairs.
-fn marker_packet(alloc: Global, text: &mut Text<'_>) -> Result<Option<Packet>, AllocError> {
+/// Packet 0 without a frame, at its pairs.
+fn marker_packet<P: AnyPacket>(
+    alloc: Global,
+    text: &mut Text<'_>,
+) -> Result<Option<P>, AllocError> {
     let Some(numbers) = text.pairs(alloc)? else {
         return Ok(None);
     };
@@ -84,29 +104,32 @@ fn marker_packet(alloc: Global, text: &mut Text<'_>) -> Result<Option<Packet>, A
 }
 
 /// Packet 0 with this NID_VBCMK.
-fn marker_of(number: u64) -> Option<Packet> {
-    Packet::vbc_marker(u8::try_from(number).ok()?).ok()
+fn marker_of<P: AnyPacket>(number: u64) -> Option<P> {
+    P::of_marker(u8::try_from(number).ok()?)
 }
 
 /// The packet that comes next.
-fn packet(alloc: Global, text: &mut Text<'_>) -> Result<Option<Packet>, AllocError> {
+fn packet<P: AnyPacket>(alloc: Global, text: &mut Text<'_>) -> Result<Option<P>, AllocError> {
     if text.skip(b"{\"dir\":") {
-        return typed_packet(alloc, text);
+        return directed_packet(alloc, text);
     }
     if text.skip(b"{\"data\":\"") {
         return kept_packet(alloc, text);
     }
     if text.skip(b"{\"fields\":") {
-        return marker_packet(alloc, text);
+        return match P::WAY {
+            Way::ToTrain => marker_packet(alloc, text),
+            Way::ToTrack => typed_packet(alloc, text, 0),
+        };
     }
     Ok(None)
 }
 
 /// The packets of the list that comes next.
-pub(crate) fn packets(
+pub(crate) fn packets<P: AnyPacket>(
     alloc: Global,
     text: &mut Text<'_>,
-) -> Result<Option<Vec<Packet>>, AllocError> {
+) -> Result<Option<Vec<P>>, AllocError> {
     let mut packets = Vec::new(alloc);
     if text.skip(b"[]") {
         return Ok(Some(packets));
@@ -130,7 +153,7 @@ pub(crate) fn packets(
 }
 
 /// Puts a packet after the others.
-fn put(packets: &mut Vec<Packet>, packet: Packet) -> Result<(), AllocError> {
+fn put<P: AnyPacket>(packets: &mut Vec<P>, packet: P) -> Result<(), AllocError> {
     match packets.push(packet) {
         Ok(()) => Ok(()),
         Err(_) => Err(AllocError),

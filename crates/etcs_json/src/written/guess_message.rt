@@ -1,113 +1,88 @@
 //! Messages guessed of a text, by the shape of what `json_line` writes. No clause says which they are: each is compared
 //! with the text in the end.
 
+ghost use Rattle.std.specs.Prelude.{◌≡◌, [], map, IfSome};
+ghost use Rattle.etcs_messages.specs.Kinds.{IsHead, IsOwn};
+
+use crate::from_message::head_items;
+use crate::trees::way_word;
 use crate::written::digits::padding_number;
 use crate::written::guess::packets;
 use crate::written::text::Text;
 use etcs_bits::Bits;
-use etcs_packets::Packet;
-use etcs_radio::{Body, Message, RadioHead};
+use etcs_messages::{Head, MessageOf, Own};
+use etcs_packets::parts::AnyPacket;
+use etcs_rows::admits_fields;
+use etcs_tables::{Row, message_row};
 use std::alloc::{AllocError, Global};
 
-/// The head of its three numbers.
-fn head_of(numbers: &[u64]) -> Option<RadioHead> {
-    match numbers {
-        [time, ack, group] => Some(RadioHead {
-            t_train: u32::try_from(*time).ok()?,
-            m_ack: *ack == 1,
-            nid_lrbg: u32::try_from(*group).ok()?,
-        }),
-        _ => None,
-    }
-}
-
-/// The number whose two's complement in 16 bits is this one.
-fn signed(number: u16) -> i16 {
-    i16::from_be_bytes(number.to_be_bytes())
-}
-
-/// The body of a message of this number with two numbers of its own.
-fn body_of_two(nid: u8, first: u64, second: u64) -> Option<Body> {
-    let q_scale = u8::try_from(first).ok()?;
-    let number = u16::try_from(second).ok()?;
-    match nid {
-        2 => Some(Body::SrAuthorisation {
-            q_scale,
-            d_sr: number,
-        }),
-        33 => Some(Body::Shifted {
-            q_scale,
-            d_ref: signed(number),
-        }),
-        _ => None,
-    }
-}
-
-/// The body of a message of this number with one number of its own.
-fn body_of_one(nid: u8, number: u64) -> Option<Body> {
-    match nid {
-        8 | 27 | 28 => Some(Body::TrainTime {
-            nid,
-            t_train: u32::try_from(number).ok()?,
-        }),
-        16 | 18 => Some(Body::Emergency {
-            nid,
-            nid_em: u8::try_from(number).ok()?,
-        }),
-        32 => Some(Body::Version {
-            m_version: u8::try_from(number).ok()?,
-        }),
-        45 => Some(Body::Orientation {
-            q_orientation: number == 1,
-        }),
-        _ => None,
+/// The head of these numbers.
+fn head_of<H: Head>(numbers: &[u64]) -> Option<H> {
+    let items = head_items(H::Packet::WAY);
+    if admits_fields(Row { items }, numbers) {
+        Some(H::of_numbers(numbers))
+    } else {
+        None
     }
 }
 
 /// The body of a message of this number with these numbers of its own.
-fn body_of(nid: u8, numbers: &[u64]) -> Option<Body> {
-    match numbers {
-        [] => Some(Body::Plain { nid }),
-        [number] => body_of_one(nid, *number),
-        [first, second] => body_of_two(nid, *first, *second),
-        _ => None,
+fn body_of<H: Head, B: Own<Front = H>>(nid: u8, numbers: &[u64]) -> Option<B> {
+    let row = message_row(H::Packet::WAY, nid)?;
+    if admits_fields(row, numbers) {
+        Some(B::of_numbers(nid, numbers))
+    } else {
+        None
     }
 }
 
 /// The typed message of these parts.
-fn typed_of(
-    head: Option<RadioHead>,
-    body: Option<Body>,
-    packets: Vec<Packet>,
+fn typed_of<H: Head, B: Own<Front = H>>(
+    head: Option<H>,
+    body: Option<B>,
+    packets: Vec<H::Packet>,
     padding: &Bits,
-) -> Option<Message> {
-    match Message::with_padding(head?, body?, packets, padding_number(padding)?) {
+) -> Option<MessageOf<H, B>> {
+    match MessageOf::with_padding(head?, body?, packets, padding_number(padding)?) {
         Ok(message) => Some(message),
         Err(_) => None,
     }
 }
 
-/// The message that is kept as bits.
-fn kept_of(nid: Option<u8>, bits: Bits) -> Option<Message> {
-    match Message::kept(nid?, bits) {
-        Ok(message) => Some(message),
-        Err(_) => None,
+/// Passes over the name of a message's kind and that of its number, and answers the number.
+fn number(text: &mut Text<'_>, kind: &str) -> Option<u8> {
+    if text.skip(b"\"kind\":\"") && text.skip(kind.as_bytes()) && text.skip(b"\",\"nid\":") {
+        text.byte()
+    } else {
+        None
     }
 }
 
 /// The message that is kept as bits, after their quotation mark.
-fn kept_message(alloc: Global, text: &mut Text<'_>) -> Result<Option<Message>, AllocError> {
+fn kept_message<H: Head, B: Own<Front = H>>(
+    alloc: Global,
+    text: &mut Text<'_>,
+) -> Result<Option<MessageOf<H, B>>, AllocError> {
     let Some(bits) = text.bits(alloc)? else {
         return Ok(None);
     };
-    if !text.skip(b"\",\"kind\":\"radio\",\"nid\":") {
+    if !text.skip(b"\",") {
         return Ok(None);
     }
-    Ok(kept_of(text.byte(), bits))
+    let Some(nid) = number(text, way_word(H::Packet::WAY)) else {
+        return Ok(None);
+    };
+    match MessageOf::kept(nid, bits) {
+        Ok(message) => Ok(Some(message)),
+        Err(_) => Ok(None),
+    }
 }
 
 /// The typed message, at the pairs of its own variables.
-fn typed_message(alloc: Global, text: &mut Text<'_>) -> Result<Option<Message>, AllocError> {
+fn typed_message<H: Head, B: Own<Front = H>>(
+    alloc: Global,
+    text: &mut Text<'_>,
+) -> Result<Option<MessageOf<H, B>>, AllocError> {
     let Some(own) = text.pairs(alloc)? else {
         return Ok(None);
     };
@@ -117,27 +92,27 @@ fn typed_message(alloc: Global, text: &mut Text<'_>) -> Result<Option<Message>, 
     let Some(numbers) = text.pairs(alloc)? else {
         return Ok(None);
     };
-    if !text.skip(b",\"kind\":\"radio\",\"nid\":") {
+    if !text.skip(b",") {
         return Ok(None);
     }
-    let Some(nid) = text.byte() else {
+    let Some(nid) = number(text, way_word(H::Packet::WAY)) else {
         return Ok(None);
     };
-    let body = body_of(nid, own.as_slice());
-    behind_number(alloc, text, head_of(numbers.as_slice()), body)
+    let body = body_of::<H, B>(nid, own.as_slice());
+    behind_number(alloc, text, head_of::<H>(numbers.as_slice()), body)
 }
 
 /// The typed message with this head and body, after its number.
-fn behind_number(
+fn behind_number<H: Head, B: Own<Front = H>>(
     alloc: Global,
     text: &mut Text<'_>,
-    head: Option<RadioHead>,
-    body: Option<Body>,
-) -> Result<Option<Message>, AllocError> {
+    head: Option<H>,
+    body: Option<B>,
+) -> Result<Option<MessageOf<H, B>>, AllocError> {
     if !text.skip(b",\"packets\":") {
         return Ok(None);
     }
-    let Some(packets) = packets(alloc, text)? else {
+    let Some(packets) = packets::<H::Packet>(alloc, text)? else {
         return Ok(None);
     };
     if !text.skip(b",\"padding\":\"") {
@@ -150,10 +125,10 @@ fn behind_number(
 }
 
 /// A message that the text may be.
-pub(crate) fn guess_message(
+pub(crate) fn guess_message<H: Head, B: Own<Front = H>>(
     alloc: Global,
     text: &mut Text<'_>,
-) -> Result<Option<Message>, AllocError> {
+) -> Result<Option<MessageOf<H, B>>, AllocError> {
     if text.skip(b"{\"fields\":") {
         return typed_message(alloc, text);
     }

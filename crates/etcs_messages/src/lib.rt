@@ -9,6 +9,7 @@ pub mod parts;
 mod phase;
 mod reader;
 mod rest;
+mod whole;
 
 pub use kind::{Head, Own};
 pub use message::MessageOf;

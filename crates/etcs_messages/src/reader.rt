@@ -14,6 +14,7 @@ use crate::kind::{Head, Own};
 use crate::message::{Content, MessageOf};
 use crate::phase::{front_count, head_row};
 use crate::rest::MessageRest;
+use crate::whole::message_at;
 use etcs_bodies::ListOf;
 use etcs_packets::parts::AnyPacket;
 use etcs_sequence::{Held, ItemReader, ItemRest, ListStore, PacketList};
@@ -22,7 +23,7 @@ use std::alloc::Global;
 use std::marker::Model;
 
 /// The head and the body of a typed message by the numbers in front of its packets.
-fn front_by<H: Head, B: Own<Front = H>>(nid: u8, front: &[u64]) -> (H, B)
+pub(crate) fn front_by<H: Head, B: Own<Front = H>>(nid: u8, front: &[u64]) -> (H, B)
     requires there { length (head_row H.Packet.WAY) ≤ length front.now }
     requires head { IsHeadNumbers H.Packet.WAY (take (length (head_row H.Packet.WAY)) front.now) }
     requires own { IsOwnNumbers H.Packet.WAY nid (drop (length (head_row H.Packet.WAY)) front.now) }
@@ -98,6 +99,15 @@ impl<H: Head, B: Own<Front = H>> ItemRest for MessageRest<H, B> {
         1023
     }
 
+    fn begin(alloc: Global, _size: ()) -> Self {
+        MessageRest::new(H::Store::empty(alloc))
+    }
+
+    #[inline(always)]
+    fn whole(alloc: Global, _size: (), piece: &[u8]) -> Option<(MessageOf<H, B>, usize)> {
+        message_at(alloc, piece)
+    }
+
     #[inline]
     fn store(&self) -> &PacketList<H::Packet> {
         self.packets.store.list()
@@ -139,7 +149,7 @@ impl<H: Head, B: Own<Front = H>> ReaderOf<H, B> {
         ensures { result ≡ reading [] }
     {
         ReaderOf {
-            reader: ItemReader::new((), MessageRest::new(H::Store::empty(alloc))),
+            reader: ItemReader::new((), MessageRest::begin(alloc, ())),
         }
     }
 
@@ -188,5 +198,15 @@ impl<H: Head, B: Own<Front = H>> ReaderOf<H, B> {
             Ok(message) => Ok(message),
             Err(reader) => Err(ReaderOf { reader }),
         }
+    }
+
+    /// The message, once `feed` has answered `Done`. The reader then reads another, from its first bit. `None` where there
+    /// is no whole message; the reader stays as it was.
+    #[inline(always)]
+    pub fn take_next(&mut self) -> Option<MessageOf<H, B>>
+        ensures some { IfSome result (λ m. (self.old ≡ finished m) × (self.new ≡ reading [])) }
+        ensures none { IsNone result → (self.new ≡ self.old) × ((m : Content H B H.Packet) → self.old ≢ finished m) }
+    {
+        self.reader.take_next()
     }
 }

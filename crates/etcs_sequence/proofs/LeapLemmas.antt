@@ -31,20 +31,13 @@ use Rattle.etcs_reader.specs.Rests.{Goes, Starts}
 use Rattle.etcs_sequence.specs.declared.stage.Stage.{Stage}
 use Rattle.etcs_sequence.specs.declared.stage.Stage.TheVariants.{Number, Kept}
 use Rattle.etcs_sequence.specs.Lefts.{left_of, is_stage, keeps_at, Becomes, Here, HoldsAt, Moved}
-use Rattle.etcs_sequence.proofs.PacketLemmas.{Holds, held_whole}
+use Rattle.etcs_sequence.specs.AtOnce.{Holds, WholeAt}
+use Rattle.etcs_sequence.proofs.PacketLemmas.{held_whole}
 use Rattle.etcs_sequence.specs.laws.Framed.{typed_framed, kept_three, kept_two_hundred, some_direction}
 use Rattle.etcs_sequence.specs.declared.stage.Keep.TheVariants as keep
 use Rattle.etcs_sequence.specs.declared.stage.Event.TheVariants as event
 
 -- ---- A packet that lies whole in a piece.
-
--- a packet of l bits of a piece, and what H holds with it H' holds
-pub record WholeAt (c : Carrier) (H H' : Holds) (xs : List Bool) (at l : ℕ) : Type 0 where
-  pub packet : PacketValue
-  pub carried : Carries c packet
-  pub bits : spelled (reading_to (way_of c) packet) ≡ part at l xs
-  pub long : bits_to (way_of c) packet ≡ l
-  pub held : (vs : List PacketValue) → H vs [] [] → H' (vs ++ packet ∷ []) [] []
 
 module _ (c : Carrier) (H H' : Holds) (xs : List Bool) (at l nid dir : ℕ) (frame : FrameAt (way_of c) nid dir l at xs) (within : at + l ≤ length xs)
     (held : (vs : List PacketValue) (v : PacketValue) → H vs [] [] → IsTypedOf nid dir v → IsPacketTo (way_of c) v → spelled (variables_of v) ≡ part (at + frame_bits (way_of c)) (l - frame_bits (way_of c)) xs → H' (vs ++ v ∷ []) [] []) where

@@ -19,6 +19,7 @@ use Rattle.etcs_flat.specs.Others.{other_fault}
 use Rattle.etcs_packets.specs.PacketValues as packets
 use Rattle.etcs_packets.specs.PacketValues.{PacketValue, IsTypedOf, IsPacketTo, variables_of}
 use Rattle.etcs_packets.specs.PacketReadings.{in_frame, reading_to, readings_to}
+use Rattle.etcs_sequence.specs.AtOnce.{Holds}
 use Rattle.etcs_sequence.specs.Contents.{Carries}
 use Rattle.etcs_sequence.specs.declared.stage.Stage.{Stage}
 use Rattle.etcs_sequence.specs.declared.stage.Event.{Event}
@@ -28,9 +29,6 @@ use Rattle.etcs_sequence.specs.laws.Framed.{frame_between}
 use Rattle.etcs_sequence.specs.laws.RunSteps.{carried_packet}
 use Rattle.etcs_sequence.specs.declared.stage.Keep.TheVariants as keep
 use Rattle.etcs_sequence.specs.declared.stage.Event.TheVariants as event
-
-abbrev pub Holds : Type 1
-Holds = List PacketValue → List ℕ → List Bool → Type 0
 
 pub true_prop : (b : Bool) → IsProp (IsTrue b)
 true_prop b = hlevel Bool-set

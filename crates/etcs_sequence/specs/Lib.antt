@@ -1,6 +1,8 @@
+pub mod AtOnce
 pub mod BitLaws
 pub mod ChainLaws
 pub mod Contents
+pub mod Fronts
 pub mod Held
 pub mod Holdings
 pub mod Labels

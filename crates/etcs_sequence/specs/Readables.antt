@@ -1,5 +1,5 @@
 -- What a reader of any item stands for, and what it asks of what is left of one.
-use Rattle.std.specs.Prelude.{◌≡◌, ℕ, ◌*◌, ◌%◌, ◌^◌, ◌<◌, ◌≤◌, Bool, List, ◌++◌, length, Option, Some, None, IsTrue}
+use Rattle.std.specs.Prelude.{◌≡◌, ℕ, ◌*◌, ◌%◌, ◌^◌, ◌<◌, ◌≤◌, Bool, List, [], ◌++◌, length, Option, Some, None, IsTrue}
 use Rattle.etcs_vars.specs.declared.var.Var.{Var}
 use Rattle.etcs_vars.specs.Vars.{width}
 use Rattle.etcs_vars.specs.Reading.{Reading, spelled, readings_of}
@@ -8,7 +8,7 @@ use Rattle.etcs_vars.proofs.Walk.{Regular}
 use Rattle.etcs_reader.specs.Rests.{Goes, BeginsWith, Ended}
 use Rattle.etcs_reader.specs.Feeders.{FeederValue}
 use Rattle.etcs_sequence.specs.declared.list.PacketList.{PacketList}
-use Rattle.etcs_sequence.specs.Progress.{Progress, progress_by, IsReader, asks_memory, asked_from}
+use Rattle.etcs_sequence.specs.Progress.{Progress, reading, finished, progress_by, IsReader, asks_memory, asked_from}
 
 -- what is known of the item's size, and how far it came
 pub record ItemValue (S V : Type 0) : Type 0 where
@@ -49,3 +49,14 @@ pub record Readable (R V W P : Type 0) (left : R → Reading → Type 0) (next :
 pub record IsItemReader (R V W P : Type 0) (left : R → Reading → Type 0) (next : R → Option Var) (follows : R → Reading → R → Type 0) (fails : R → Type 0) (far : R → Reading) (holds : R → Reading → Type 0) (Reads : W → Reading → Type 0) (value : V → W) (IsValue : V → Type 0) (size : V → ℕ) (made : R → V) (store : R → PacketList P) (Members : List P → List ℕ → List Bool → Reading → Type 0) (most least : ℕ) (v : FeederValue R) : Type 0 where
   pub readable : Readable R V W P left next follows fails far holds Reads value IsValue size made store Members most least
   pub is : IsReader (readings_of Reads) (left v.rest) (holds v.rest) (far v.rest) v.part v.count v.stop
+
+-- ---- An item that was whole in the first piece, with the number of its bytes.
+
+abbrev pub progress_with : {V : Type 0} → Option (V × ℕ) → Progress V → Progress V
+progress_with None s = s
+progress_with (Some d) s = finished d.0
+
+-- it is a value of so many bytes, and the feeder, whose progress is s, took none of its bits
+abbrev pub IsDone : {V : Type 0} → (V → Type 0) → (V → ℕ) → Option (V × ℕ) → Progress V → Type 0
+IsDone IsValue size None s = Unit {0}
+IsDone IsValue size (Some d) s = IsValue d.0 × (size d.0 ≡ 8 * d.1) × (s ≡ reading [])

@@ -1,8 +1,9 @@
 //! One reader of every item: telegrams, and messages.
 
-ghost use Rattle.std.specs.Prelude.{◌≡◌, ◌≢◌, ℕ, List, Bool, [], Err, None, MatchResult, IfSome, IsNone};
-ghost use Rattle.etcs_bits.specs.Bits.{bits};
-ghost use Rattle.etcs_vars.specs.Reading.{Reading, readings_of};
+ghost use Rattle.std.specs.Prelude.{◌≡◌, ◌≢◌, ◌*◌, ◌≤◌, ◌<◌, ◌^◌, ℕ, List, Bool, [], length, Ok, Err, None, MatchResult, IfSome, IsNone};
+ghost use Rattle.etcs_bits.specs.Bits.{bits, part};
+ghost use Rattle.etcs_vars.specs.Reading.{Reading, spelled, readings_of};
+ghost use Rattle.etcs_vars.specs.declared.feed.Fed.TheVariants.{Done};
 ghost use Rattle.etcs_vars.proofs.Languages.{Same};
 ghost use Rattle.etcs_sequence.specs.declared.list.PacketList.{PacketList};
 ghost use Rattle.etcs_sequence.specs.Holdings.{IsHeld};
@@ -14,15 +15,17 @@ use crate::list::PacketList;
 use etcs_packets::parts::AnyPacket;
 use etcs_reader::{Feeder, Rest};
 use etcs_vars::{Fed, ReadFault};
+use std::alloc::Global;
 use std::marker::Model;
+use std::mem;
 
 /// What is left of an item whose packets go to a list, and the item that is made of what is kept of it.
-pub trait ItemRest: Rest {
+pub trait ItemRest: Rest + Drop {
     /// What is known of the item's size before its first bit.
     type Size: Copy;
 
     /// The item.
-    type Item;
+    type Item: Drop;
 
     /// What its packets are.
     type Packet: AnyPacket;
@@ -64,6 +67,19 @@ pub trait ItemRest: Rest {
     fn most(size: Self::Size) -> usize
         ensures { result ≡ most size };
 
+    /// All of an item of this size, of which nothing is kept.
+    fn begin(alloc: Global, size: Self::Size) -> Self
+        ensures left { Same (Self.left result) (readings_of (Reads size)) }
+        ensures holds { holds size result [] };
+
+    /// The item of this size that a piece begins with, where it lies whole in it, and how many bytes it has. `None`
+    /// says nothing: where the piece begins with no such item, and where memory is refused.
+    fn whole(alloc: Global, size: Self::Size, piece: &[u8]) -> Option<(Self::Item, usize)>
+        requires { length (bits piece.now) < 2 ^ 64 }
+        ensures within { IfSome result (λ t. 8 * t.1 ≤ length (bits piece.now)) }
+        ensures value { IfSome result (λ t. IsValue t.0) }
+        ensures reads { IfSome result (λ t. (r : Reading) × Reads size (value t.0) r × (spelled r ≡ part 0 (8 * t.1) (bits piece.now))) };
+
     /// Where the packets go.
     fn store(&self) -> &PacketList<Self::Packet>
         ensures { result.now ≡ store self.now };
@@ -77,21 +93,23 @@ pub trait ItemRest: Rest {
 }
 
 /// Reads an item from pieces of any length. It keeps none of the bytes: only what the rest keeps, and the
-/// bits of one unfinished variable.
+/// bits of one unfinished variable, or the item where it was whole in the first piece.
 #[derive(Drop)]
 pub struct ItemReader<R: ItemRest> {
     size: R::Size,
     feeder: Feeder<R>,
+    /// The item that was whole in the first piece, and how many bytes it has. The feeder took none of its bits.
+    done: Option<(R::Item, usize)>,
 }
 
 impl<R: ItemRest> Model for ItemReader<R> {
-    ghost use Rattle.etcs_sequence.specs.Readables.{ItemValue, progress_at, IsItemReader};
+    ghost use Rattle.etcs_sequence.specs.Readables.{ItemValue, progress_at, progress_with, IsItemReader, IsDone};
 
     ghost Value = { ItemValue R.Size R.Item };
 
-    ghost view = { λ r. record { size = r.size; progress = progress_at R.next R.far R.made r.feeder } };
+    ghost view = { λ r. record { size = r.size; progress = progress_with r.done (progress_at R.next R.far R.made r.feeder) } };
 
-    ghost invariant = { λ r. IsItemReader R R.Item R.Shown R.Packet R.left R.next R.follows R.fails R.far (R.holds r.size) (R.Reads r.size) R.value R.IsValue R.bits R.made R.store R.Members (R.most r.size) R.least r.feeder };
+    ghost invariant = { λ r. IsItemReader R R.Item R.Shown R.Packet R.left R.next R.follows R.fails R.far (R.holds r.size) (R.Reads r.size) R.value R.IsValue R.bits R.made R.store R.Members (R.most r.size) R.least r.feeder × IsDone R.IsValue R.bits r.done (progress_at R.next R.far R.made r.feeder) };
 }
 
 impl<R: ItemRest> ItemReader<R> {
@@ -107,6 +125,7 @@ impl<R: ItemRest> ItemReader<R> {
         ItemReader {
             size,
             feeder: Feeder::new(rest),
+            done: None,
         }
     }
 
@@ -114,7 +133,10 @@ impl<R: ItemRest> ItemReader<R> {
     pub fn bits_seen(&self) -> usize
         ensures { result ≡ seen_of R.bits self.now.progress }
     {
-        self.feeder.count()
+        match &self.done {
+            Some((_, bytes)) => bytes * 8,
+            None => self.feeder.count(),
+        }
     }
 
     /// Takes the next piece: `More` where all of it was taken and the item isn't whole yet, `Done` with the
@@ -130,10 +152,43 @@ impl<R: ItemRest> ItemReader<R> {
         ensures after { (IsReading self.old.progress → ⊥) → (self.new ≡ self.old) × (result ≡ Err (fault_of self.old.progress)) }
         ensures size { self.new.size ≡ self.old.size }
     {
+        if self.done.is_some() {
+            return Err(ReadFault::Ended);
+        }
+        if self.feeder.count() == 0 && self.feeder.stop().is_none() {
+            if let Some(taken) = self.feed_whole(piece) {
+                return Ok(Fed::Done { taken });
+            }
+        }
+        self.feed_on(piece)
+    }
+
+    /// Takes the item that a piece begins with, where it lies whole in it, and says how many bytes it has.
+    #[inline(always)]
+    fn feed_whole(&mut self, piece: &[u8]) -> Option<usize>
+        requires { self.old.progress ≡ reading [] }
+        ensures none { IsNone result → self.new ≡ self.old }
+        ensures some { IfSome result (λ taken. Feeds (R.Reads self.old.size) R.value R.IsValue R.least [] (bits piece.now) (Ok (Done taken)) self.new.progress) }
+        ensures size { self.new.size ≡ self.old.size }
+    {
+        // A few bytes more than the longest item, so that looks at its last bits find whole words.
+        let near = piece.len().min(R::most(self.size) + 8);
+        let alloc = self.feeder.rest().store().alloc;
+        let (item, taken) = R::whole(alloc, self.size, &piece[..near])?;
+        self.done = Some((item, taken));
+        Some(taken)
+    }
+
+    /// Takes the next piece variable by variable.
+    fn feed_on(&mut self, piece: &[u8]) -> Result<Fed, ReadFault>
+        ensures answer { (seen : List Bool) → self.old.progress ≡ reading seen → Feeds (R.Reads self.old.size) R.value R.IsValue R.least seen (bits piece.now) result self.new.progress }
+        ensures after { (IsReading self.old.progress → ⊥) → (self.new ≡ self.old) × (result ≡ Err (fault_of self.old.progress)) }
+        ensures size { self.new.size ≡ self.old.size }
+    {
         if let Some(stop) = self.feeder.stop() {
             return Err(fault_by(stop));
         }
-        if self.feeder.var().is_none() {
+        if self.done.is_some() || self.feeder.var().is_none() {
             return Err(ReadFault::Ended);
         }
         let wanted = R::most(self.size) - self.feeder.count() / 8;
@@ -153,7 +208,7 @@ impl<R: ItemRest> ItemReader<R> {
         ensures some { IfSome result (λ h. IsHeld (readings_of (R.Reads self.now.size)) (R.Members h.packets.now h.numbers.now h.kept) self.now.progress h.part h.taken) }
         ensures none { IsNone result → IsReading self.now.progress → ⊥ }
     {
-        if self.feeder.stop().is_some() || self.feeder.var().is_none() {
+        if self.done.is_some() || self.feeder.stop().is_some() || self.feeder.var().is_none() {
             return None;
         }
         let store = self.feeder.rest().store();
@@ -176,9 +231,48 @@ impl<R: ItemRest> ItemReader<R> {
     pub fn take(self) -> Result<R::Item, Self>
         ensures { MatchResult result (λ t. self.progress ≡ finished t) (λ r. (r ≡ self) × ((t : R.Item) → self.progress ≢ finished t)) }
     {
-        if self.feeder.stop().is_some() || self.feeder.var().is_some() {
-            return Err(self);
+        if self.done.is_none() {
+            if self.feeder.stop().is_some() || self.feeder.var().is_some() {
+                return Err(self);
+            }
+            return Ok(self.feeder.into_rest().into_item(self.size));
         }
-        Ok(self.feeder.into_rest().into_item(self.size))
+        match self.done {
+            Some((item, _)) => Ok(item),
+            None => unreachable!(),
+        }
+    }
+
+    /// The item, once `feed` has answered `Done`. The reader then reads another of the same size, from its first bit.
+    /// `None` where there is no whole item; the reader stays as it was.
+    #[inline(always)]
+    pub fn take_next(&mut self) -> Option<R::Item>
+        ensures some { IfSome result (λ t. (self.old.progress ≡ finished t) × (self.new.progress ≡ reading [])) }
+        ensures none { IsNone result → (self.new ≡ self.old) × ((t : R.Item) → self.old.progress ≢ finished t) }
+        ensures size { self.new.size ≡ self.old.size }
+    {
+        match mem::replace(&mut self.done, None) {
+            Some((item, _)) => Some(item),
+            None => self.take_read(),
+        }
+    }
+
+    /// As `take_next`, also of an item that was read variable by variable.
+    #[cold]
+    #[inline(never)]
+    fn take_read(&mut self) -> Option<R::Item>
+        ensures some { IfSome result (λ t. (self.old.progress ≡ finished t) × (self.new.progress ≡ reading [])) }
+        ensures none { IsNone result → (self.new ≡ self.old) × ((t : R.Item) → self.old.progress ≢ finished t) }
+        ensures size { self.new.size ≡ self.old.size }
+    {
+        let alloc = self.feeder.rest().store().alloc;
+        let next = ItemReader::new(self.size, R::begin(alloc, self.size));
+        match mem::replace(self, next).take() {
+            Ok(item) => Some(item),
+            Err(reader) => {
+                *self = reader;
+                None
+            }
+        }
     }
 }

@@ -20,6 +20,7 @@ mod packets_in;
 pub mod parts;
 mod pieces;
 mod row_bits;
+mod run;
 mod stage;
 mod state;
 mod store;

@@ -16,7 +16,6 @@ use etcs_train::TrainReader;
 use etcs_vars::{Fed, ReadFault};
 use std::alloc::Global;
 use std::marker::Model;
-use std::mem;
 
 /// The reader of telegrams, or of messages of a way.
 #[derive(Drop)]
@@ -116,13 +115,17 @@ fn size_of(kind: Kind) -> Size
 /// The telegram that is whole. The next one is read then.
 #[inline(always)]
 fn next_telegram(reader: &mut TelegramReader, alloc: Global, size: Size) -> Result<Entry, ()>
+    requires { reader.old.size ≡ size }
     ensures some { IfOk result (λ e. progress_of telegram_item reader.old.progress ≡ finished (entry_value e)) }
     ensures none { OnErr result ((e : EntryValue) → progress_of telegram_item reader.old.progress ≡ finished e → ⊥) }
     ensures next { reader.new ≡ record { size = size; progress = inner.reading [] } }
 {
-    match mem::replace(reader, TelegramReader::new(alloc, size)).take() {
-        Ok(telegram) => Ok(Entry::Telegram(telegram)),
-        Err(_) => Err(()),
+    match reader.take_next() {
+        Some(telegram) => Ok(Entry::Telegram(telegram)),
+        None => {
+            *reader = TelegramReader::new(alloc, size);
+            Err(())
+        }
     }
 }
 
@@ -136,8 +139,11 @@ fn next_message<H: Head, B: Own<Front = H>>(
     ensures none { OnErr result ((m : Content H B H.Packet) → reader.old ≡ inner.finished m → ⊥) }
     ensures next { reader.new ≡ inner.reading [] }
 {
-    match mem::replace(reader, ReaderOf::new(alloc)).take() {
-        Ok(message) => Ok(message),
-        Err(_) => Err(()),
+    match reader.take_next() {
+        Some(message) => Ok(message),
+        None => {
+            *reader = ReaderOf::new(alloc);
+            Err(())
+        }
     }
 }

@@ -15,7 +15,8 @@ use Rattle.etcs_reader.specs.Fields.{ReadsFields}
 use Rattle.etcs_reader.proofs.FieldLaws.{first_number}
 use Rattle.etcs_sequence.specs.Labels.{labelled, widths}
 use Rattle.etcs_sequence.proofs.LabelLaws.{length-widths, labelled_widths}
-use Rattle.etcs_telegram.specs.Fronts.{FieldsIn, FrontAt}
+use Rattle.etcs_sequence.specs.Fronts.{FrontAt}
+use Rattle.etcs_telegram.specs.Fronts.{FieldsIn}
 
 fields_count : (vs : List Var) (word : ℕ) (ns : List ℕ) → FieldsIn vs word ns → length ns ≡ length vs
 fields_count [] word ns h = ap length h

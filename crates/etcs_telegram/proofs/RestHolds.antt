@@ -17,7 +17,7 @@ use Rattle.etcs_sequence.specs.declared.state.PacketsState.{PacketsState}
 use Rattle.etcs_sequence.specs.declared.stage.Stage.TheVariants as stage
 use Rattle.etcs_sequence.specs.Labels.{labelled}
 use Rattle.etcs_sequence.proofs.LabelLaws.{labelled_more}
-use Rattle.etcs_telegram.specs.Fronts.{FrontAt}
+use Rattle.etcs_sequence.specs.Fronts.{FrontAt}
 use Rattle.etcs_telegram.proofs.FrontSteps.{front_all}
 use Rattle.etcs_sequence.specs.Lefts.{left_of, is_closed, HoldsAt, Moved}
 use Rattle.etcs_sequence.specs.laws.BitLaws.{bits_append}

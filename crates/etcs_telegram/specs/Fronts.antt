@@ -1,19 +1,8 @@
--- Variables one after another whose bits are all there.
-use Rattle.std.specs.Prelude.{◌≡◌, ℕ, ◌-◌, ◌/◌, ◌%◌, ◌^◌, ◌≤◌, Bool, List, [], ◌∷◌, length, IsTrue}
-use Rattle.etcs_bits.specs.Bits.{part}
+-- Variables one after another in the lowest bits of a word.
+use Rattle.std.specs.Prelude.{◌≡◌, ℕ, ◌/◌, ◌%◌, ◌^◌, List, [], ◌∷◌, IsTrue}
 use Rattle.etcs_vars.specs.declared.var.Var.{Var}
 use Rattle.etcs_vars.specs.Vars.{width, admits}
-use Rattle.etcs_vars.specs.Reading.{spelled}
-use Rattle.etcs_reader.specs.Fields.{ReadsFields}
-use Rattle.etcs_sequence.specs.Labels.{labelled, widths}
-
--- the bits of xs from at up to end spell the variables with these numbers, each of which is admitted
-pub record FrontAt (vs : List Var) (xs : List Bool) (at : ℕ) (ns : List ℕ) (end : ℕ) : Type 0 where
-  pub count : length ns ≡ length vs
-  pub onward : at ≤ end
-  pub inside : end ≤ length xs
-  pub reads : ReadsFields vs (labelled vs ns)
-  pub bits : spelled (labelled vs ns) ≡ part at (end - at) xs
+use Rattle.etcs_sequence.specs.Labels.{widths}
 
 -- the numbers of the variables in the lowest bits of a word, the last one's at the end; each is admitted
 abbrev pub FieldsIn : List Var → ℕ → List ℕ → Type 0

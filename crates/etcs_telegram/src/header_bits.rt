@@ -1,11 +1,14 @@
 //! The header's bits, all at once.
 
 ghost use Rattle.std.specs.Prelude.{◌≡◌, ◌+◌, ◌/◌, ◌%◌, ◌≤◌, ◌^◌, ◌<◌, length, IfSome, IsTrue};
-ghost use Rattle.etcs_bits.specs.Bits.{bits};
+ghost use Rattle.etcs_bits.specs.Bits.{bits, part};
+ghost use Rattle.etcs_vars.specs.Reading.{spelled};
 ghost use Rattle.etcs_vars.specs.Vars.{width, admits};
-ghost use Rattle.etcs_telegram.specs.Telegrams.{header_row};
-ghost use Rattle.etcs_telegram.specs.Fronts.{FieldsIn, FrontAt};
+ghost use Rattle.etcs_telegram.specs.Telegrams.{header_row, header_reading, IsAdmitted};
+ghost use Rattle.etcs_sequence.specs.Fronts.{FrontAt};
+ghost use Rattle.etcs_telegram.specs.Fronts.{FieldsIn};
 
+use crate::header::Header;
 use crate::parts::HEADER_BITS;
 use arrayvec::ArrayVec;
 use etcs_sequence::parts::number_at;
@@ -56,4 +59,15 @@ pub(crate) fn header_at(piece: &[u8], at: usize) -> Option<(ArrayVec<u64, 10>, u
     }
     let numbers = header_in(number_at(piece, at, HEADER_BITS))?;
     Some((ArrayVec::from(numbers), at + HEADER_BITS))
+}
+
+/// The header that a piece begins with. `None` where one of its variables doesn't admit its number.
+#[inline(always)]
+pub(crate) fn header_at_front(piece: &[u8]) -> Option<Header>
+    requires { 50 ≤ length (bits piece.now) }
+    ensures admitted { IfSome result (λ h. IsAdmitted (header_reading h)) }
+    ensures bits { IfSome result (λ h. spelled (header_reading h) ≡ part 0 50 (bits piece.now)) }
+{
+    let numbers = header_in(number_at(piece, 0, HEADER_BITS))?;
+    Some(Header::of_numbers(&numbers))
 }

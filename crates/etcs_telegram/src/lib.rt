@@ -14,6 +14,7 @@ mod size;
 mod store;
 mod telegram;
 mod view;
+mod whole;
 
 pub use encode::NoRoom;
 pub use etcs_sequence::{Held, PacketRef, Packets};

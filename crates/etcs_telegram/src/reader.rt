@@ -11,6 +11,7 @@ use crate::rest::TelegramRest;
 use crate::size::Size;
 use crate::store::TelegramStore;
 use crate::telegram::Telegram;
+use crate::whole::telegram_at;
 use etcs_bodies::ListOf;
 use etcs_packets::Packet;
 use etcs_sequence::{Held, ItemReader, ItemRest, PacketList};
@@ -54,6 +55,16 @@ impl ItemRest for TelegramRest<TelegramStore> {
         size.container_bytes()
     }
 
+    fn begin(alloc: Global, size: Size) -> Self {
+        let list = PacketList::new(alloc);
+        TelegramRest::new(size, TelegramStore { list })
+    }
+
+    #[inline(always)]
+    fn whole(alloc: Global, size: Size, piece: &[u8]) -> Option<(Telegram, usize)> {
+        Some((telegram_at(alloc, size, piece)?, size.container_bytes()))
+    }
+
     #[inline]
     fn store(&self) -> &PacketList<Packet> {
         &self.packets.store.list
@@ -94,10 +105,8 @@ impl TelegramReader {
     pub fn new(alloc: Global, size: Size) -> Self
         ensures { result ≡ record { size = size; progress = reading [] } }
     {
-        let list = PacketList::new(alloc);
-        let rest = TelegramRest::new(size, TelegramStore { list });
         TelegramReader {
-            reader: ItemReader::new(size, rest),
+            reader: ItemReader::new(size, TelegramRest::begin(alloc, size)),
         }
     }
 
@@ -147,5 +156,16 @@ impl TelegramReader {
             Ok(telegram) => Ok(telegram),
             Err(reader) => Err(TelegramReader { reader }),
         }
+    }
+
+    /// The telegram, once `feed` has answered `Done`. The reader then reads another of the same size, from its first bit.
+    /// `None` where there is no whole telegram; the reader stays as it was.
+    #[inline(always)]
+    pub fn take_next(&mut self) -> Option<Telegram>
+        ensures some { IfSome result (λ t. (self.old.progress ≡ finished t) × (self.new.progress ≡ reading [])) }
+        ensures none { IsNone result → (self.new ≡ self.old) × ((t : TelegramContent) → self.old.progress ≢ finished t) }
+        ensures size { self.new.size ≡ self.old.size }
+    {
+        self.reader.take_next()
     }
 }

@@ -11,7 +11,8 @@ use Rattle.etcs_packets.specs.laws.PacketReadings.{frame_is}
 use Rattle.etcs_rows.specs.Frames.{way_of}
 use Rattle.etcs_sequence.proofs.Fits.{run_some}
 use Rattle.etcs_sequence.proofs.Carried.{FrameAt}
-use Rattle.etcs_sequence.proofs.LeapLemmas.{WholeAt, whole_at, leapt_held, packet_viable}
+use Rattle.etcs_sequence.specs.AtOnce.{WholeAt}
+use Rattle.etcs_sequence.proofs.LeapLemmas.{whole_at, leapt_held, packet_viable}
 use Rattle.etcs_sequence.specs.declared.packets.PacketsRest.{PacketsRest, held-type}
 use Rattle.etcs_sequence.proofs.packets.PacketsRest.leap_packet.Given.{Over}
 use Rattle.etcs_sequence.proofs.packets.PacketsRest.leap_packet.Goals as goal

@@ -1,0 +1,190 @@
+//! A message that lies whole in a piece, in one pass.
+
+ghost use Rattle.std.specs.Prelude.{◌≡◌, ◌+◌, ◌*◌, ◌≤◌, ◌<◌, ◌^◌, ◌++◌, ◌∷◌, [], ℕ, List, Some, None, length, IfSome, OnSome};
+ghost use Rattle.etcs_bits.specs.Bits.{bits, num, part};
+ghost use Rattle.etcs_vars.specs.declared.var.Var.{Var};
+ghost use Rattle.etcs_vars.specs.Reading.{Reading, spelled};
+ghost use Rattle.etcs_tables.specs.Layouts.{layout};
+ghost use Rattle.etcs_flat.specs.Flats.{variables};
+ghost use Rattle.etcs_sequence.specs.Fronts.{FrontAt};
+ghost use Rattle.etcs_messages.specs.Messages.{MessageReads, message_value, IsMessage};
+ghost use Rattle.etcs_messages.specs.Kinds.{IsFrontBy};
+ghost use Rattle.etcs_messages.specs.Lefts.{front_row, front_vars, front_bits};
+
+use crate::kind::{Head, Own};
+use crate::message::{Content, MessageOf};
+use crate::phase::{front_bits, head_row};
+use crate::reader::front_by;
+use arrayvec::ArrayVec;
+use etcs_bits::{BitSlice, Bits, SliceWalker};
+use etcs_bodies::ListOf;
+use etcs_packets::parts::AnyPacket;
+use etcs_rows::parts::Carrier;
+use etcs_sequence::ListStore;
+use etcs_sequence::parts::{bits_at, number_at, take_run};
+use etcs_tables::{RowItem, message_row};
+use etcs_vars::Var;
+use std::alloc::Global;
+
+/// The bits of NID_MESSAGE and L_MESSAGE.
+const NUMBER_BITS: usize = 8;
+const LENGTH_BITS: usize = 10;
+
+/// The message that a piece begins with, and how many bytes it has. `None` says nothing: where the piece begins with none,
+/// and where memory is refused.
+pub(crate) fn message_at<H: Head, B: Own<Front = H>>(
+    alloc: Global,
+    piece: &[u8],
+) -> Option<(MessageOf<H, B>, usize)>
+    requires { length (bits piece.now) < 2 ^ 64 }
+    ensures within { IfSome result (λ t. t.1 ≤ length piece.now) }
+    ensures value { IfSome result (λ t. IsMessage H.Packet.WAY H.head B.own H.Packet.form t.0) }
+    ensures reads { IfSome result (λ t. (r : Reading) × MessageReads H.Packet.WAY (message_value H.Packet.WAY H.head B.own H.Packet.form t.0) r × (spelled r ≡ part 0 (8 * t.1) (bits piece.now))) }
+{
+    if piece.len() < 3 {
+        return None;
+    }
+    let nid = number_at(piece, 0, NUMBER_BITS) as u8;
+    let bytes = number_at(piece, NUMBER_BITS, LENGTH_BITS) as usize;
+    if bytes < 3 || bytes > piece.len() {
+        return None;
+    }
+    match front_bits(H::Packet::WAY, nid) {
+        Some(front) => Some((typed_at(alloc, nid, front, piece, bytes)?, bytes)),
+        None => Some((kept_at(alloc, nid, piece, bytes)?, bytes)),
+    }
+}
+
+/// The message of a number that isn't typed, whose bits after L_MESSAGE are kept.
+#[cold]
+#[inline(never)]
+fn kept_at<H: Head, B: Own<Front = H>>(
+    alloc: Global,
+    nid: u8,
+    piece: &[u8],
+    bytes: usize,
+) -> Option<MessageOf<H, B>>
+    requires inside { 8 * bytes ≤ length (bits piece.now) }
+    requires least { 3 ≤ bytes }
+    requires most { bytes < 2 ^ 10 }
+    requires untyped { front_row H.Packet.WAY nid ≡ None }
+    requires number { num 8 nid ≡ part 0 8 (bits piece.now) }
+    requires length { num 10 bytes ≡ part 8 10 (bits piece.now) }
+    ensures value { IfSome result (λ m. IsMessage H.Packet.WAY H.head B.own H.Packet.form m) }
+    ensures reads { IfSome result (λ m. (r : Reading) × MessageReads H.Packet.WAY (message_value H.Packet.WAY H.head B.own H.Packet.form m) r × (spelled r ≡ part 0 (8 * bytes) (bits piece.now))) }
+{
+    let front = NUMBER_BITS + LENGTH_BITS;
+    match Bits::from_slice(alloc, bits_at(piece, front, 8 * bytes - front)) {
+        Ok(bits) => Some(MessageOf {
+            content: Content::Kept { nid, bits },
+        }),
+        Err(_) => None,
+    }
+}
+
+/// The typed message of this number, with this many bits in front of its packets.
+#[inline(always)]
+fn typed_at<H: Head, B: Own<Front = H>>(
+    alloc: Global,
+    nid: u8,
+    front: usize,
+    piece: &[u8],
+    bytes: usize,
+) -> Option<MessageOf<H, B>>
+    requires inside { 8 * bytes ≤ length (bits piece.now) }
+    requires small { length (bits piece.now) < 2 ^ 64 }
+    requires most { bytes < 2 ^ 10 }
+    requires typed { (vars : List Var) × (front_row H.Packet.WAY nid ≡ Some vars) × (front ≡ front_bits vars) }
+    requires number { num 8 nid ≡ part 0 8 (bits piece.now) }
+    requires length { num 10 bytes ≡ part 8 10 (bits piece.now) }
+    ensures value { IfSome result (λ m. IsMessage H.Packet.WAY H.head B.own H.Packet.form m) }
+    ensures reads { IfSome result (λ m. (r : Reading) × MessageReads H.Packet.WAY (message_value H.Packet.WAY H.head B.own H.Packet.form m) r × (spelled r ≡ part 0 (8 * bytes) (bits piece.now))) }
+{
+    let end = 8 * bytes;
+    if front > end {
+        return None;
+    }
+    let (head, body) = front_at(nid, bits_at(piece, 0, front))?;
+    let mut store = H::Store::empty(alloc);
+    let left = take_run(&mut store, Carrier::Message(H::Packet::WAY), end - front, piece, front)?;
+    let padding = number_at(piece, end - left, left) as u8;
+    Some(MessageOf {
+        content: Content::Typed {
+            head,
+            body,
+            packets: ListOf::from_vec(store.into_list().packets),
+            padding,
+        },
+    })
+}
+
+/// What is in front of the packets of a typed message of this number, after L_MESSAGE, where each variable admits its
+/// number. The bits are those of the message in front of its packets.
+#[inline(always)]
+fn front_at<H: Head, B: Own<Front = H>>(nid: u8, bits: BitSlice<'_>) -> Option<(H, B)>
+    requires typed { (vars : List Var) × (front_row H.Packet.WAY nid ≡ Some vars) × (length bits.entry ≡ front_bits vars) }
+    ensures { IfSome result (λ t. (f : List ℕ) × FrontAt (front_vars H.Packet.WAY nid) bits.entry 18 f (length bits.entry) × IsFrontBy H.Packet.WAY H.head B.own nid f t.0 t.1) }
+{
+    let mut walker = SliceWalker::new(bits);
+    walker.next(NUMBER_BITS + LENGTH_BITS)?;
+    let mut numbers = ArrayVec::new();
+    take_numbers(head_row(H::Packet::WAY), &mut walker, &mut numbers)?;
+    let row = message_row(H::Packet::WAY, nid)?;
+    take_own(row.items, &mut walker, &mut numbers)?;
+    Some(front_by(nid, numbers.as_slice()))
+}
+
+/// Takes the number of a variable, where it is admitted.
+#[inline(always)]
+fn take_number(var: Var, walker: &mut SliceWalker<'_>, numbers: &mut ArrayVec<u64, 5>) -> Option<()>
+    requires room { length numbers.old.items < 5 }
+    requires place { walker.old.place ≤ length walker.old.bits }
+    ensures front { OnSome result ((n : ℕ) × (numbers.new.items ≡ numbers.old.items ++ n ∷ []) × FrontAt (var ∷ []) walker.old.bits walker.old.place (n ∷ []) walker.new.place) }
+    ensures bits { walker.new.bits ≡ walker.old.bits }
+{
+    let number = walker.next(var.width())?;
+    if !var.admits(number) {
+        return None;
+    }
+    numbers.push(number);
+    Some(())
+}
+
+/// Takes the numbers of variables, where each is admitted.
+#[inline(always)]
+fn take_numbers(
+    vars: &[Var],
+    walker: &mut SliceWalker<'_>,
+    numbers: &mut ArrayVec<u64, 5>,
+) -> Option<()>
+    requires room { length numbers.old.items + length vars.now ≤ 5 }
+    requires place { walker.old.place ≤ length walker.old.bits }
+    ensures front { OnSome result ((ns : List ℕ) × (numbers.new.items ≡ numbers.old.items ++ ns) × FrontAt vars.now walker.old.bits walker.old.place ns walker.new.place) }
+    ensures bits { walker.new.bits ≡ walker.old.bits }
+{
+    for var in vars {
+        take_number(*var, walker, numbers)?;
+    }
+    Some(())
+}
+
+/// Takes the numbers of a message's own variables, where each is admitted.
+#[inline(always)]
+fn take_own(
+    items: &[RowItem],
+    walker: &mut SliceWalker<'_>,
+    numbers: &mut ArrayVec<u64, 5>,
+) -> Option<()>
+    requires room { length numbers.old.items + length items.now ≤ 5 }
+    requires place { walker.old.place ≤ length walker.old.bits }
+    ensures front { OnSome result ((vars : List Var) → variables (layout items.now) ≡ Some vars → (ns : List ℕ) × (numbers.new.items ≡ numbers.old.items ++ ns) × FrontAt vars walker.old.bits walker.old.place ns walker.new.place) }
+    ensures bits { walker.new.bits ≡ walker.old.bits }
+{
+    for item in items {
+        match item {
+            RowItem::One(var) => take_number(*var, walker, numbers)?,
+            _ => return None,
+        }
+    }
+    Some(())
+}

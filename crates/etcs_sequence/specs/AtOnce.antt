@@ -1,0 +1,38 @@
+-- Packets that lie whole in a piece, taken in one pass.
+use Rattle.std.specs.Prelude.{◌≡◌, ℕ, ◌+◌, ◌-◌, ◌≤◌, Bool, List, [], ◌∷◌, ◌++◌, length}
+use Rattle.etcs_bits.specs.Bits.{part}
+use Rattle.etcs_vars.specs.Reading.{Reading, spelled}
+use Rattle.etcs_rows.specs.declared.frames.Carrier.{Carrier}
+use Rattle.etcs_rows.specs.Frames.{way_of}
+use Rattle.etcs_packets.specs.PacketValues.{PacketValue, bits_to}
+use Rattle.etcs_packets.specs.PacketReadings.{reading_to, readings_to}
+use Rattle.etcs_sequence.specs.Contents.{closing, Carries, Fills, ReadsPackets}
+
+-- what a store holds: these packets, and of the next one these numbers or bits
+abbrev pub Holds : Type 1
+Holds = List PacketValue → List ℕ → List Bool → Type 0
+
+-- a packet of l bits of a piece, and what H holds with it H' holds
+pub record WholeAt (c : Carrier) (H H' : Holds) (xs : List Bool) (at l : ℕ) : Type 0 where
+  pub packet : PacketValue
+  pub carried : Carries c packet
+  pub bits : spelled (reading_to (way_of c) packet) ≡ part at l xs
+  pub long : bits_to (way_of c) packet ≡ l
+  pub held : (vs : List PacketValue) → H vs [] [] → H' (vs ++ packet ∷ []) [] []
+
+-- the variables of these packets, with what closes them
+abbrev pub run_reading : Carrier → List PacketValue → Reading
+run_reading c vs = readings_to (way_of c) vs ++ closing c
+
+-- the bits of a piece from at on are those of packets in a room, which leave so many of it, and H holds the packets
+pub record RunAt (c : Carrier) (room : ℕ) (H : Holds) (xs : List Bool) (at left : ℕ) : Type 0 where
+  pub packets : List PacketValue
+  pub held : H packets [] []
+  pub run : ReadsPackets c room packets (run_reading c packets)
+  pub within : left ≤ room
+  pub long : length (spelled (run_reading c packets)) + left ≡ room
+  pub bits : spelled (run_reading c packets) ≡ part at (room - left) xs
+
+-- what closes the packets comes next, where this many bits of their room are left
+abbrev pub ClosesAt : Carrier → ℕ → List Bool → ℕ → Type 0
+ClosesAt c left xs at = Fills c left (length (spelled (closing c))) × (spelled (closing c) ≡ part at (length (spelled (closing c))) xs)

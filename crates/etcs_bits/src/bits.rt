@@ -3,6 +3,7 @@
 ghost use Rattle.std.specs.Prelude.{◌≡◌, ℕ, ◌+◌, ◌*◌, ◌^◌, ◌<◌, ◌≤◌, ◌==◌, nat_eq, [], ◌∷◌, ◌++◌, length, take, OnOk, OnErr, IfOk};
 ghost use Rattle.etcs_bits.specs.Bits.{num, bits};
 ghost use Rattle.std.specs.Bool.{Decides};
+ghost use Rattle.std.specs.Prelude.{vec_len, vec_capacity};
 ghost use Rattle.std.specs.Cmp.Lexicographic.{pointwise};
 
 use super::parts;
@@ -91,9 +92,32 @@ impl Bits {
         ensures ok { OnOk result (self.new ≡ self.old ++ slice.now) }
         ensures err { OnErr result (self.new ≡ self.old) }
     {
+        if self.len == 0 {
+            return self.fill(slice);
+        }
         let len = self.len + slice.len();
         self.bytes.resize(len.div_ceil(8), 0)?;
         parts::write_slice(self.bytes.as_mut_slice(), self.len, slice);
+        self.len = len;
+        Ok(())
+    }
+
+    /// Takes the bits of `slice` where there are none yet. On a refusal there are none.
+    fn fill(&mut self, slice: &BitSlice<'_>) -> Result<(), AllocError>
+        requires { self.old ≡ [] }
+        ensures ok { OnOk result (self.new ≡ slice.now) }
+        ensures err { OnErr result (self.new ≡ []) }
+    {
+        let len = slice.len();
+        self.bytes.reserve(len.div_ceil(8))?;
+        let mut left = len;
+        while left >= 64 {
+            push_bytes(&mut self.bytes, slice.word(len - left), 8);
+            left -= 64;
+        }
+        if left > 0 {
+            push_bytes(&mut self.bytes, slice.word(len - left), left.div_ceil(8));
+        }
         self.len = len;
         Ok(())
     }
@@ -150,6 +174,21 @@ impl Eq for Bits {
     ghost use Rattle.std.specs.Cmp.Lexicographic.{lists_equiv};
 
     ghost laws = { lists_equiv bool_eq_equiv };
+}
+
+/// Adds the first bytes of a word, for which there is room.
+#[inline(always)]
+fn push_bytes(bytes: &mut Vec<u8>, word: u64, count: usize)
+    requires count { count ≤ 8 }
+    requires room { vec_len bytes.old + count ≤ vec_capacity bytes.old }
+    ensures bits { bits bytes.new.items ≡ bits bytes.old.items ++ take (8 * count) (num 64 word) }
+    ensures len { vec_len bytes.new ≡ vec_len bytes.old + count }
+    ensures capacity { vec_capacity bytes.old ≤ vec_capacity bytes.new }
+{
+    match bytes.extend_from_slice(&word.to_be_bytes()[..count]) {
+        Ok(()) => {}
+        Err(_) => unreachable!(),
+    }
 }
 
 /// Whether two lists of bytes have the same bits.

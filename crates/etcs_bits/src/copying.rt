@@ -8,7 +8,7 @@ use super::walker::first_word;
 
 /// The number in the 64 bits of `bytes` from the bit `offset` on.
 #[inline(always)]
-fn word_at(bytes: &[u8], offset: usize) -> u64
+pub(crate) fn word_at(bytes: &[u8], offset: usize) -> u64
     requires offset { offset < 8 }
     requires inside { 9 ≤ length bytes.now }
     ensures { result ≡ value (part offset 64 (bits bytes.now)) }

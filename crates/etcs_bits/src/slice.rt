@@ -1,11 +1,11 @@
 //! A part of a byte slice, bit by bit.
 
-ghost use Rattle.std.specs.Prelude.{◌≡◌, ℕ, ◌+◌, ◌*◌, ◌<◌, ◌≤◌, ◌==◌, false, length, take, nat_lt, nat_le, slice_index_or, if◌then◌else◌, Some, IfSome};
-ghost use Rattle.etcs_bits.specs.Bits.{bits, part, number_at, replaced};
+ghost use Rattle.std.specs.Prelude.{◌≡◌, ℕ, ◌+◌, ◌-◌, ◌*◌, ◌/◌, ◌^◌, ◌<◌, ◌≤◌, ◌==◌, ◌++◌, false, length, take, drop, replicate, nat_lt, nat_le, slice_index_or, if◌then◌else◌, Some, IfSome};
+ghost use Rattle.etcs_bits.specs.Bits.{bits, num, part, number_at, replaced};
 ghost use Rattle.etcs_bits.specs.SliceWalker.{Keeps};
 
 use super::bytes::byte_of;
-use super::copying::copy_words;
+use super::copying::{copy_words, word_at};
 use super::walker::{first_word, peek_at_end, peek_by_bytes, peek_word};
 use std::marker::Model;
 
@@ -136,6 +136,51 @@ impl<'a> BitSlice<'a> {
         }
         let count = (64 - start % 8).min(self.len - from);
         Some((first_word(&self.bytes[at..]) << (start % 8), count))
+    }
+
+    /// The bits from `from` on, that bit highest, with zeros after the last of the slice.
+    #[inline(always)]
+    pub fn word(&self, from: usize) -> u64
+        requires { from < length self.now }
+        ensures { num 64 result ≡ take 64 (drop from self.now ++ replicate 64 false) }
+    {
+        let left = self.len - from;
+        let word = match self.nine_bytes(from) {
+            Some(word) => word,
+            None => self.word_at_end(from),
+        };
+        if left >= 64 {
+            return word;
+        }
+        (word >> (64 - left)) << (64 - left)
+    }
+
+    /// The 64 bits from the bit `from` on, where nine bytes hold them: those of the slice, and anything after its end.
+    /// `None` says nothing.
+    #[inline(always)]
+    fn nine_bytes(&self, from: usize) -> Option<u64>
+        requires { from < length self.now }
+        ensures { IfSome result (λ w. (count : ℕ) → count ≤ 64 → from + count ≤ length self.now → num count (w / 2 ^ (64 - count)) ≡ part from count self.now) }
+    {
+        let start = self.offset.checked_add(from)?;
+        let at = start / 8;
+        if at + 9 > self.bytes.len() {
+            return None;
+        }
+        Some(word_at(&self.bytes[at..], start % 8))
+    }
+
+    /// As `nine_bytes`, near the end of the bytes.
+    #[inline(never)]
+    fn word_at_end(&self, from: usize) -> u64
+        requires { from < length self.now }
+        ensures { (count : ℕ) → count ≤ 64 → from + count ≤ length self.now → num count (result / 2 ^ (64 - count)) ≡ part from count self.now }
+    {
+        let count = (self.len - from).min(64);
+        match self.number(from, count) {
+            Some(number) => number << (64 - count),
+            None => unreachable!(),
+        }
     }
 
     /// As `number`, of bits that are inside.

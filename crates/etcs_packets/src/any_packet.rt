@@ -1,6 +1,6 @@
 //! Any packet of one way.
 
-ghost use Rattle.std.specs.Prelude.{◌≡◌, ◌+◌, ◌≤◌, ◌<◌, ◌^◌, length, map, All, IsTrue, None, OnOk, OnErr, IfOk, IfSome, IfNone, IsNone, OnSome};
+ghost use Rattle.std.specs.Prelude.{◌≡◌, ◌+◌, ◌≤◌, ◌<◌, ◌^◌, ◌++◌, length, map, All, IsTrue, None, OnOk, OnErr, IfOk, IfSome, IfNone, IsNone, OnSome};
 ghost use Rattle.etcs_bits.specs.Bits.{bits, replaced};
 ghost use Rattle.etcs_vars.specs.Reading.{Reading, numbers, spelled};
 ghost use Rattle.etcs_tables.specs.Frames.{is_marker};
@@ -8,8 +8,10 @@ ghost use Rattle.etcs_tables.specs.Typed.{IsTyped, IsFramed};
 ghost use Rattle.etcs_flat.specs.Others.{other_fault};
 ghost use Rattle.etcs_packets.specs.PacketValues.{marker, kept, nid_of, dir_of, kept_of, variables_of, IsTypedOf, bits_to, IsPacketTo};
 ghost use Rattle.etcs_packets.specs.PacketReadings.{reading_to, readings_to};
+ghost use Rattle.etcs_packets.specs.WordSinks.{IsFront};
 
 use crate::packet::Packet;
+use crate::word_sink::WordSink;
 use crate::{parts, write};
 use etcs_bits::{BitSlice, Bits};
 use etcs_flat::Other;
@@ -68,6 +70,15 @@ pub trait AnyPacket: Sized + Drop {
         requires room { at + len ≤ length (bits out.old) }
         requires small { at + len < 2 ^ 64 }
         ensures { bits out.new ≡ replaced at (spelled (reading_to WAY (form self.now).value)) (bits out.old) };
+
+    /// Puts it with its frame after other bits.
+    ///
+    /// # Errors
+    ///
+    /// `AllocError` where there is no memory. Some of its bits may then be put.
+    fn append(&self, out: &mut WordSink) -> Result<(), AllocError>
+        ensures ok { OnOk result (out.new ≡ out.old ++ spelled (reading_to WAY (form self.now).value)) }
+        ensures err { OnErr result (IsFront out.old out.new) };
 
     /// The typed packet of this number and direction with these numbers after L_PACKET, if there is one.
     ///
@@ -139,6 +150,21 @@ pub fn write_all<P: AnyPacket>(out: &mut [u8], at: usize, packets: &[P]) -> usiz
     place
 }
 
+/// Puts packets after other bits, one after another.
+///
+/// # Errors
+///
+/// `AllocError` where there is no memory. Some of their bits may then be put.
+pub fn append_all<P: AnyPacket>(packets: &[P], out: &mut WordSink) -> Result<(), AllocError>
+    ensures ok { OnOk result (out.new ≡ out.old ++ spelled (readings_to P.WAY (map (λ p. (P.form p).value) packets.now))) }
+    ensures err { OnErr result (IsFront out.old out.new) }
+{
+    for packet in packets {
+        packet.append(out)?;
+    }
+    Ok(())
+}
+
 /// How many of `room` bits packets leave, one after another, or nothing where they don't fit.
 pub fn room_after<P: AnyPacket>(room: usize, packets: &[P]) -> Option<usize>
     ensures left { IfSome result (λ left. length (spelled (readings_to P.WAY (map (λ p. (P.form p).value) packets.now))) + left ≡ room) }
@@ -198,6 +224,11 @@ impl AnyPacket for Packet {
     #[inline(always)]
     fn put(&self, out: &mut [u8], at: usize, len: usize) {
         write::put_packet(out, at, self, len);
+    }
+
+    #[inline]
+    fn append(&self, out: &mut WordSink) -> Result<(), AllocError> {
+        write::append_packet(self, out)
     }
 
     fn of_fields(

@@ -8,6 +8,7 @@ mod packet;
 pub mod parts;
 mod sink;
 mod typed;
+mod word_sink;
 mod write;
 
 pub use etcs_flat::{Flat, Marker, Other};

@@ -6,11 +6,12 @@ ghost use Rattle.etcs_tables.specs.declared.row.Way.TheVariants.{ToTrain};
 ghost use Rattle.etcs_tables.specs.Typed.{IsTyped, IsFramed};
 ghost use Rattle.etcs_packets.specs.PacketValues.{packet_value, dir_of, kept_of, variables_of, IsTypedOf, IsMade, IsPacket};
 
-pub use crate::any_packet::{AnyPacket, room_after, write_all};
+pub use crate::any_packet::{AnyPacket, append_all, room_after, write_all};
 use crate::list::{by_number, of_each, packets};
 use crate::packet::Packet;
 use crate::typed::{packet_of_bits, packet_of_fields};
 pub use crate::typed::{hold, no_row, typed_bits, typed_nid};
+pub use crate::word_sink::{WordSink, give_back};
 pub use crate::write::{room_left, write_packet, write_packets, write_reading, write_variables};
 use etcs_bits::BitSlice;
 use etcs_bodies::Packetlike;

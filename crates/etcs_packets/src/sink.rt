@@ -117,17 +117,17 @@ fn write_at(bytes: &mut [u8], place: usize, width: usize, number: u64)
 
 /// Variables joined into one number.
 #[derive(Clone, Copy)]
-struct Front {
+pub(crate) struct Front {
     /// How many variables.
-    count: usize,
+    pub(crate) count: usize,
     /// How many bits they take.
-    width: usize,
-    number: u64,
+    pub(crate) width: usize,
+    pub(crate) number: u64,
 }
 
 /// The first of some variables, as many as a word takes at any bit of a byte, joined into one number.
 #[inline(always)]
-fn joined(sent: &[(Var, u64)]) -> Front
+pub(crate) fn joined(sent: &[(Var, u64)]) -> Front
     requires { 0 < length sent.now }
     ensures { Joins sent.now result.count result.width result.number }
 {

@@ -1,21 +1,24 @@
 //! Variables and packets written over bits.
 
-ghost use Rattle.std.specs.Prelude.{◌≡◌, ◌+◌, ◌≤◌, ◌<◌, ◌^◌, ◌∷◌, [], length, map, All, IfSome, IfNone, OnSome};
-ghost use Rattle.etcs_bits.specs.Bits.{bits, replaced};
+ghost use Rattle.std.specs.Prelude.{◌≡◌, ◌+◌, ◌≤◌, ◌<◌, ◌^◌, ◌∷◌, ◌++◌, [], length, map, All, IfSome, IfNone, OnSome, OnOk, OnErr};
+ghost use Rattle.etcs_bits.specs.Bits.{num, bits, replaced};
 ghost use Rattle.etcs_vars.specs.declared.var.Var.TheVariants.{NID_PACKET, Q_DIR, L_PACKET};
 ghost use Rattle.etcs_vars.specs.Reading.{spelled};
 ghost use Rattle.etcs_packets.specs.PacketValues.{packet_value, variables_of, bits_of, IsPacket, IsMade};
 ghost use Rattle.etcs_packets.specs.PacketReadings.{packet_reading, packets_reading};
 ghost use Rattle.etcs_packets.specs.Fronts.{front_of};
+ghost use Rattle.etcs_packets.specs.WordSinks.{IsFront};
 
 use crate::Packet;
 use crate::any_packet::{room_after, write_all};
 use crate::parts::{dir, holds, send};
 use crate::sink::BitSink;
+use crate::word_sink::WordSink;
 use etcs_bits::parts;
 use etcs_tables::{Way, frame_bits};
 use etcs_vars::Var;
 use etcs_vars::parts::{VarSink, Variables};
+use std::alloc::AllocError;
 
 /// Writes variables over the bits from `at` on, one after another, each with the lowest bits of its number.
 pub fn write_reading(out: &mut [u8], at: usize, sent: &[(Var, u64)])
@@ -128,5 +131,42 @@ fn put_variables(out: &mut [u8], at: usize, packet: &Packet)
     match send(packet, &mut sink) {
         Ok(()) => {}
         Err(_) => unreachable!(),
+    }
+}
+
+/// The number of NID_PACKET, Q_DIR and L_PACKET.
+fn frame_number(nid: u8, dir: u8, len: usize) -> u64
+    requires dir { dir < 4 }
+    requires len { len < 8192 }
+    ensures { num 23 result ≡ spelled ((NID_PACKET, nid) ∷ (Q_DIR, dir) ∷ (L_PACKET, len) ∷ []) }
+{
+    (u64::from(nid) * 4 + u64::from(dir)) * 8192 + len as u64
+}
+
+/// Puts what is in front of a packet's variables or kept bits after other bits.
+#[inline(always)]
+fn append_front(packet: &Packet, out: &mut WordSink) -> Result<(), AllocError>
+    ensures ok { OnOk result (out.new ≡ out.old ++ spelled (front_of (packet_value packet.now))) }
+    ensures err { OnErr result (out.new ≡ out.old) }
+{
+    holds(packet);
+    match dir(packet) {
+        Some(dir) => {
+            let number = frame_number(packet.nid(), dir, packet.bit_len());
+            out.put(frame_bits(Way::ToTrain), number)
+        }
+        None => out.put(8, u64::from(packet.nid())),
+    }
+}
+
+/// Puts a packet with its frame after other bits.
+pub(crate) fn append_packet(packet: &Packet, out: &mut WordSink) -> Result<(), AllocError>
+    ensures ok { OnOk result (out.new ≡ out.old ++ spelled (packet_reading (packet_value packet.now))) }
+    ensures err { OnErr result (IsFront out.old out.new) }
+{
+    append_front(packet, out)?;
+    match packet {
+        Packet::Other(kept) => out.put_slice(&kept.body()),
+        _ => send(packet, out),
     }
 }

@@ -1,15 +1,18 @@
 //! Writing telegrams.
 
-ghost use Rattle.std.specs.Prelude.{◌≡◌, ◌≤◌, ◌↔◌, ◌++◌, length, drop, codes, Some, IsOk, IfOk, OnErr};
+ghost use Rattle.std.specs.Prelude.{◌≡◌, ◌≤◌, ◌↔◌, ◌++◌, length, drop, codes, Some, IsOk, IfOk, OnOk, OnErr};
 ghost use Rattle.etcs_bits.specs.Bits.{bits};
 ghost use Rattle.etcs_vars.specs.Reading.{Reading, spelled};
 ghost use Rattle.etcs_telegram.specs.Telegrams.{TelegramReads, container_bytes, telegram_value};
+ghost use Rattle.etcs_packets.specs.WordSinks.{IsFront};
 ghost use Rattle.etcs_telegram.specs.Writing.{telegram_reading};
 
 use crate::telegram::Telegram;
 use etcs_bits::parts;
-use etcs_packets::parts::{write_packets, write_variables};
+use etcs_packets::parts::{WordSink, append_all, give_back, write_packets, write_variables};
 use etcs_tables::{CLOSING, CLOSING_BITS};
+use etcs_vars::parts::Variables;
+use std::alloc::AllocError;
 use std::error::Error;
 use std::fmt;
 
@@ -46,6 +49,35 @@ impl Telegram {
         write_telegram(&mut out[..len], self);
         Ok(len)
     }
+
+    /// Appends the telegram's bytes, 27 of a short telegram and 104 of a long one.
+    ///
+    /// # Errors
+    ///
+    /// `AllocError` where there is no memory. `out` then stays as it was.
+    pub fn encode(&self, out: &mut Vec<u8>) -> Result<(), AllocError>
+        ensures ok { OnOk result ((r : Reading) × TelegramReads (telegram_value self.now) r × (bits out.new.items ≡ bits out.old.items ++ spelled r)) }
+        ensures err { OnErr result (out.new.items ≡ out.old.items) }
+    {
+        self.readable();
+        out.reserve(self.size().container_bytes())?;
+        let start = out.len();
+        let mut sink = WordSink::new(out);
+        let put = append_telegram(self, &mut sink);
+        give_back(sink, put, start, out)
+    }
+}
+
+/// Puts the telegram after other bits.
+fn append_telegram(telegram: &Telegram, out: &mut WordSink) -> Result<(), AllocError>
+    ensures ok { OnOk result (out.new ≡ out.old ++ spelled (telegram_reading (telegram_value telegram.now))) }
+    ensures err { OnErr result (IsFront out.old out.new) }
+{
+    telegram.header().send(out)?;
+    append_all(telegram.packets(), out)?;
+    out.put(CLOSING_BITS, u64::from(CLOSING))?;
+    out.put_slice(&telegram.fill())?;
+    out.put(telegram.size().pad_bits(), 0)
 }
 
 /// Writes the telegram over exactly its bytes.

@@ -80,19 +80,25 @@ fn are_bytes(bytes: &[u8])
     let _ = bytes;
 }
 
-/// The telegram's encoding at the front of this many bytes, and how many of them it is.
-fn encode_telegram(telegram: &Telegram) -> ([u8; 104], usize)
-    ensures within { result.1 ≤ length result.0 }
-    ensures bytes { IsEncoded (of_telegram (telegram_value telegram.now)) (take result.1 result.0) }
+/// The telegram's encoding.
+fn encode_telegram(telegram: &Telegram, alloc: Global) -> Result<Vec<u8>, AllocError>
+    ensures { IfOk result (λ bytes. IsEncoded (of_telegram (telegram_value telegram.now)) bytes.items) }
 {
-    let mut buffer = [0u8; 104];
-    match telegram.encode_into(&mut buffer) {
-        Ok(count) => {
-            are_bytes(&buffer);
-            (buffer, count)
-        }
-        Err(_) => unreachable!(),
-    }
+    let mut bytes = Vec::new(alloc);
+    telegram.encode(&mut bytes)?;
+    are_bytes(bytes.as_slice());
+    Ok(bytes)
+}
+
+/// Appends the telegram's encoding, or nothing.
+fn append_telegram(telegram: &Telegram, out: &mut Vec<u8>) -> Result<(), AllocError>
+    ensures ok { OnOk result ((added : List ℕ) × IsEncoded (of_telegram (telegram_value telegram.now)) added × (out.new.items ≡ out.old.items ++ added)) }
+    ensures err { OnErr result (out.new.items ≡ out.old.items) }
+{
+    are_bytes(out.as_slice());
+    let appended = telegram.encode(out);
+    are_bytes(out.as_slice());
+    appended
 }
 
 /// The message's encoding.
@@ -132,10 +138,7 @@ pub fn encoded(entry: &Entry, out: &mut Vec<u8>) -> Result<(), AllocError>
     ensures err { OnErr result (out.new.items ≡ out.old.items) }
 {
     match entry {
-        Entry::Telegram(telegram) => {
-            let (buffer, count) = encode_telegram(telegram);
-            out.extend_from_slice(&buffer[..count])
-        }
+        Entry::Telegram(telegram) => append_telegram(telegram, out),
         Entry::Message(message) => append_message(message, out),
         Entry::Train(message) => append_message(message, out),
     }
@@ -174,8 +177,8 @@ pub fn hex_line(entry: &Entry, out: &mut Vec<u8>) -> Result<(), AllocError>
 {
     match entry {
         Entry::Telegram(telegram) => {
-            let (buffer, count) = encode_telegram(telegram);
-            write_digits(&buffer[..count], out)
+            let bytes = encode_telegram(telegram, *out.allocator())?;
+            write_digits(bytes.as_slice(), out)
         }
         Entry::Message(message) => write_message_digits(message, out),
         Entry::Train(message) => write_message_digits(message, out),

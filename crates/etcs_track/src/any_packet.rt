@@ -4,9 +4,9 @@ use crate::parts;
 use crate::train_other::TrainOther;
 use crate::train_packet::TrainPacket;
 use etcs_bits::{BitSlice, Bits};
-use etcs_packets::parts::{AnyPacket, write_variables};
+use etcs_packets::parts::{AnyPacket, WordSink, write_variables};
 use etcs_tables::Way;
-use etcs_vars::parts::VarSink;
+use etcs_vars::parts::{VarSink, Variables};
 use std::alloc::{AllocError, Global};
 
 impl AnyPacket for TrainPacket {
@@ -54,6 +54,11 @@ impl AnyPacket for TrainPacket {
     #[tactic(auto, using(crate::specs::laws::TrackPackets::track_bits))]
     fn put(&self, out: &mut [u8], at: usize, _len: usize) {
         write_variables(out, at, self);
+    }
+
+    #[inline]
+    fn append(&self, out: &mut WordSink) -> Result<(), AllocError> {
+        Variables::send(self, out)
     }
 
     fn of_fields(

@@ -1,4 +1,5 @@
 pub mod Bits
+pub mod NextBits
 pub mod Walker
 pub mod SliceWalker
 pub mod Poker

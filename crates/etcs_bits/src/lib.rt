@@ -14,4 +14,4 @@ pub use bits::Bits;
 pub use poker::{PokeFault, Poker, poke};
 pub use slice::BitSlice;
 pub use slice_walker::SliceWalker;
-pub use walker::{Walker, peek};
+pub use walker::{Walker, next_bits, peek};

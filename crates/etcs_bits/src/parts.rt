@@ -19,6 +19,15 @@ pub fn write(bytes: &mut [u8], start: usize, width: usize, value: u64)
     poker::write(bytes, start / 8, start % 8, width, value);
 }
 
+/// The `len` bits of `bytes` from the bit `start` on, which are inside `bytes`.
+#[inline(always)]
+pub fn slice_in<'a>(bytes: &'a [u8], start: usize, len: usize) -> BitSlice<'a>
+    requires { start + len ≤ length (bits bytes.now) }
+    ensures { result ≡ part start len (bits bytes.now) }
+{
+    BitSlice::inside(bytes, start, len)
+}
+
 /// Adds the bits of `slice` at the end of `bits`.
 ///
 /// # Errors

@@ -45,6 +45,19 @@ impl<'a> BitSlice<'a> {
         })
     }
 
+    /// The `len` bits of `bytes` from the bit `start` on, which are inside `bytes`.
+    #[inline(always)]
+    pub(crate) fn inside(bytes: &'a [u8], start: usize, len: usize) -> BitSlice<'a>
+        requires { start + len ≤ length (bits bytes.now) }
+        ensures { result ≡ part start len (bits bytes.now) }
+    {
+        BitSlice {
+            bytes: &bytes[start / 8..],
+            offset: start % 8,
+            len,
+        }
+    }
+
     /// The first `len` bits of `bytes`, which hold as many.
     pub(crate) fn whole(bytes: &'a [u8], len: usize) -> BitSlice<'a>
         requires { len ≤ length (bits bytes.now) }
@@ -54,6 +67,18 @@ impl<'a> BitSlice<'a> {
             bytes,
             offset: 0,
             len,
+        }
+    }
+
+    /// The same bits.
+    #[inline(always)]
+    pub fn all(&self) -> BitSlice<'a>
+        ensures { result ≡ self.now }
+    {
+        BitSlice {
+            bytes: self.bytes,
+            offset: self.offset,
+            len: self.len,
         }
     }
 

@@ -1,7 +1,8 @@
 //! Reading numbers at any bit of a byte slice.
 
-ghost use Rattle.std.specs.Prelude.{◌≡◌, ℕ, ◌+◌, ◌*◌, ◌^◌, ◌<◌, ◌≤◌, length, is_some, if◌then◌else◌, Some, IfSome};
+ghost use Rattle.std.specs.Prelude.{◌≡◌, ℕ, ◌+◌, ◌*◌, ◌/◌, ◌^◌, ◌<◌, ◌≤◌, length, is_some, if◌then◌else◌, Some, IfSome};
 ghost use Rattle.etcs_bits.specs.Bits.{value, bits, part, number_at};
+ghost use Rattle.etcs_bits.specs.NextBits.{AreNext};
 
 use super::bytes::{byte_of, read_byte};
 use std::marker::Model;
@@ -106,6 +107,37 @@ pub(crate) fn peek_by_bytes(bytes: &[u8], start: usize, width: usize) -> Option<
         return None;
     }
     Some(read_by_bytes(&bytes[start / 8..], start % 8, width))
+}
+
+/// The bits from `at` on, that bit highest: 57 of them, or all that are left where they are fewer. Below them anything
+/// may be.
+#[inline(always)]
+pub fn next_bits(bytes: &[u8], at: usize) -> u64
+    requires { at ≤ length (bits bytes.now) }
+    ensures { AreNext result (bits bytes.now) at }
+{
+    let byte = at / 8;
+    if byte + 8 > bytes.len() {
+        return next_bits_at_end(bytes, at);
+    }
+    first_word(&bytes[byte..]) << (at % 8)
+}
+
+/// As `next_bits`, near the end.
+#[inline(never)]
+fn next_bits_at_end(bytes: &[u8], at: usize) -> u64
+    requires inside { at ≤ length (bits bytes.now) }
+    requires short { length bytes.now < at / 8 + 8 }
+    ensures { AreNext result (bits bytes.now) at }
+{
+    let count = (bytes.len() - at / 8) * 8 - at % 8;
+    if count == 0 {
+        return 0;
+    }
+    match peek(bytes, at, count) {
+        Some(number) => number << (64 - count),
+        None => unreachable!(),
+    }
 }
 
 /// Reads numbers from bytes, one after another.

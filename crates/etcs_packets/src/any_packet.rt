@@ -6,7 +6,7 @@ ghost use Rattle.etcs_vars.specs.Reading.{Reading, numbers, spelled};
 ghost use Rattle.etcs_tables.specs.Frames.{is_marker};
 ghost use Rattle.etcs_tables.specs.Typed.{IsTyped, IsFramed};
 ghost use Rattle.etcs_flat.specs.Others.{other_fault};
-ghost use Rattle.etcs_packets.specs.PacketValues.{marker, kept, nid_of, dir_of, kept_of, variables_of, IsTypedOf, bits_to, IsPacketTo};
+ghost use Rattle.etcs_packets.specs.PacketValues.{marker, typed, kept, nid_of, dir_of, kept_of, variables_of, IsTypedOf, bits_to, IsPacketTo};
 ghost use Rattle.etcs_packets.specs.PacketReadings.{reading_to, readings_to};
 ghost use Rattle.etcs_packets.specs.WordSinks.{IsFront};
 
@@ -108,6 +108,7 @@ pub trait AnyPacket: Sized + Drop {
     ) -> Result<Option<Self>, AllocError>
         ensures made { IfOk result (λ o. IfSome o (λ p. (form p).made)) }
         ensures some { IfOk result (λ o. IfSome o (λ p. IsTypedOf nid dir (form p).value × (spelled (variables_of (form p).value) ≡ body.entry))) }
+        ensures typed { IfOk result (λ o. IfSome o (λ p. (r : Reading) × ((form p).value ≡ typed nid dir r))) }
         ensures none { IfOk result (λ o. IsNone o → (r : Reading) → IsFramed WAY nid dir r → spelled r ≡ body.entry → ⊥) };
 
     /// The packet of this number and direction whose bits after L_PACKET are kept.

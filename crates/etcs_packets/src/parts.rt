@@ -4,7 +4,7 @@ ghost use Rattle.std.specs.Prelude.{◌≡◌, ◌++◌, Some, OnOk, OnErr, IfOk
 ghost use Rattle.etcs_vars.specs.Reading.{Reading, numbers, spelled};
 ghost use Rattle.etcs_tables.specs.declared.row.Way.TheVariants.{ToTrain};
 ghost use Rattle.etcs_tables.specs.Typed.{IsTyped, IsFramed};
-ghost use Rattle.etcs_packets.specs.PacketValues.{packet_value, dir_of, kept_of, variables_of, IsTypedOf, IsMade, IsPacket};
+ghost use Rattle.etcs_packets.specs.PacketValues.{typed, packet_value, dir_of, kept_of, variables_of, IsTypedOf, IsMade, IsPacket};
 
 pub use crate::any_packet::{AnyPacket, append_all, room_after, write_all};
 use crate::list::{by_number, of_each, packets};
@@ -102,6 +102,7 @@ pub fn from_bits(
 ) -> Result<Option<Packet>, AllocError>
     ensures made { IfOk result (λ o. IfSome o (λ p. IsMade p)) }
     ensures some { IfOk result (λ o. IfSome o (λ p. IsTypedOf nid dir (packet_value p) × (spelled (variables_of (packet_value p)) ≡ bits.entry))) }
+    ensures typed { IfOk result (λ o. IfSome o (λ p. (r : Reading) × (packet_value p ≡ typed nid dir r))) }
     ensures none { IfOk result (λ o. IsNone o → (r : Reading) → IsFramed ToTrain nid dir r → spelled r ≡ bits.entry → ⊥) }
 {
     packets!(by_number, nid, packet_of_bits(alloc, dir, &bits))

@@ -5,7 +5,7 @@ ghost use Rattle.etcs_tables.specs.Rows.{row_to};
 ghost use Rattle.etcs_vars.specs.Reading.{Reading, numbers, spelled};
 ghost use Rattle.etcs_tables.specs.Frames.{frame_bits};
 ghost use Rattle.etcs_tables.specs.Typed.{IsTyped, IsFramed};
-ghost use Rattle.etcs_packets.specs.PacketValues.{packet_value, variables_of, IsTypedOf, IsMade, Makes};
+ghost use Rattle.etcs_packets.specs.PacketValues.{typed, packet_value, variables_of, IsTypedOf, IsMade, Makes};
 
 use crate::packet::Packet;
 use etcs_bits::BitSlice;
@@ -79,12 +79,10 @@ pub(crate) fn packet_of_bits<P: Framed, F: FnOnce(P) -> Packet>(
     requires value { Makes (F.post packet) P.is_value P.NID P.direction P.reading_of }
     ensures made { IfOk result (λ o. IfSome o (λ p. IsMade p)) }
     ensures some { IfOk result (λ o. IfSome o (λ p. IsTypedOf P.NID dir (packet_value p) × (spelled (variables_of (packet_value p)) ≡ bits.now))) }
+    ensures typed { IfOk result (λ o. IfSome o (λ p. (r : Reading) × (packet_value p ≡ typed P.NID dir r))) }
     ensures none { IfOk result (λ o. IsNone o → (r : Reading) → IsFramed P.WAY P.NID dir r → spelled r ≡ bits.now → ⊥) }
 {
-    let Some(bits) = bits.cut(0, bits.len()) else {
-        unreachable!()
-    };
-    match P::from_bits(alloc, dir, bits) {
+    match P::from_bits(alloc, dir, bits.all()) {
         Ok(Some(typed)) => Ok(Some(packet(typed))),
         Ok(None) => Ok(None),
         Err(error) => Err(error),

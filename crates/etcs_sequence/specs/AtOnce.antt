@@ -1,16 +1,24 @@
 -- Packets that lie whole in a piece, taken in one pass.
-use Rattle.std.specs.Prelude.{◌≡◌, ℕ, ◌+◌, ◌-◌, ◌≤◌, Bool, List, [], ◌∷◌, ◌++◌, length}
+use Rattle.std.specs.Prelude.{◌≡◌, ℕ, ◌+◌, ◌-◌, ◌/◌, ◌%◌, ◌^◌, ◌≤◌, Bool, List, [], ◌∷◌, ◌++◌, length}
 use Rattle.etcs_bits.specs.Bits.{part}
 use Rattle.etcs_vars.specs.Reading.{Reading, spelled}
+use Rattle.etcs_tables.specs.declared.row.Way.{Way}
+use Rattle.etcs_tables.specs.declared.row.Way.TheVariants.{ToTrain, ToTrack}
 use Rattle.etcs_rows.specs.declared.frames.Carrier.{Carrier}
 use Rattle.etcs_rows.specs.Frames.{way_of}
 use Rattle.etcs_packets.specs.PacketValues.{PacketValue, bits_to}
 use Rattle.etcs_packets.specs.PacketReadings.{reading_to, readings_to}
+use Rattle.etcs_sequence.specs.declared.run.Frame.{Frame}
 use Rattle.etcs_sequence.specs.Contents.{closing, Carries, Fills, ReadsPackets}
 
 -- what a store holds: these packets, and of the next one these numbers or bits
 abbrev pub Holds : Type 1
 Holds = List PacketValue → List ℕ → List Bool → Type 0
+
+-- the frame in the first bits of a word
+abbrev pub IsFrameIn : Way → ℕ → Frame → Type 0
+IsFrameIn ToTrain word f = (f.nid ≡ word / 2 ^ 56) × (f.dir ≡ word / 2 ^ 54 % 4) × (f.len ≡ word / 2 ^ 41 % 2 ^ 13)
+IsFrameIn ToTrack word f = (f.nid ≡ word / 2 ^ 56) × (f.dir ≡ 0) × (f.len ≡ word / 2 ^ 43 % 2 ^ 13)
 
 -- a packet of l bits of a piece, and what H holds with it H' holds
 pub record WholeAt (c : Carrier) (H H' : Holds) (xs : List Bool) (at l : ℕ) : Type 0 where

@@ -7,7 +7,6 @@ use crate::store::PacketStore;
 use etcs_bits::parts::append;
 use etcs_bits::{BitSlice, Bits};
 use etcs_packets::parts::AnyPacket;
-use etcs_tables::row_of;
 use std::alloc::{AllocError, Global};
 use std::mem;
 
@@ -38,11 +37,17 @@ impl<P: AnyPacket> PacketList<P> {
     }
 }
 
+/// For how many packets there is room once there is one. Few telegrams and messages have more.
+const FIRST_ROOM: usize = 8;
+
 /// Puts a packet after the others.
 #[inline(always)]
 fn put<P: AnyPacket>(packets: &mut Vec<P>, packet: P) -> Result<(), AllocError>
     ensures { OnOk result (packets.new.items ≡ packets.old.items ++ packet ∷ []) }
 {
+    if packets.is_empty() {
+        packets.reserve(FIRST_ROOM)?;
+    }
     match packets.push(packet) {
         Ok(()) => Ok(()),
         Err(_) => Err(AllocError),
@@ -98,9 +103,6 @@ impl<P: AnyPacket> PacketStore for PacketList<P> {
 
     #[inline(always)]
     fn whole(&mut self, nid: u8, dir: u8, body: BitSlice<'_>) -> Result<bool, AllocError> {
-        let Some(_) = row_of(P::WAY, nid) else {
-            return Ok(false);
-        };
         match P::of_bits(self.alloc, nid, dir, body) {
             Ok(Some(packet)) => {
                 packet.hold();

@@ -3,6 +3,7 @@
 ghost use Rattle.std.specs.Prelude.{◌≡◌, ◌<◌, ◌≤◌, ◌+◌, ◌^◌, length};
 ghost use Rattle.etcs_bits.specs.Bits.{bits, num, value, part};
 
+use etcs_bits::parts::slice_in;
 use etcs_bits::{BitSlice, peek};
 
 /// This many bits of a piece, which holds them.
@@ -10,10 +11,7 @@ pub fn bits_at<'a>(piece: &'a [u8], at: usize, count: usize) -> BitSlice<'a>
     requires { at + count ≤ length (bits piece.now) }
     ensures { result ≡ part at count (bits piece.now) }
 {
-    match BitSlice::new(piece, at, count) {
-        Some(slice) => slice,
-        None => unreachable!(),
-    }
+    slice_in(piece, at, count)
 }
 
 /// This many bits of a piece, which holds them, as a number.

@@ -1,7 +1,8 @@
 //! All packets of a room, in one pass over a piece that holds them.
 
-ghost use Rattle.std.specs.Prelude.{◌≡◌, ◌≤◌, ◌<◌, ◌+◌, ◌^◌, [], ◌∷◌, ◌++◌, None, List, length, IsTrue, IfSome, OnSome};
-ghost use Rattle.etcs_bits.specs.Bits.{part, num, bits};
+ghost use Rattle.std.specs.Prelude.{◌≡◌, ◌≤◌, ◌<◌, ◌+◌, ◌^◌, [], ◌∷◌, ◌++◌, None, ℕ, Bool, List, length, IsTrue, IfSome, OnSome};
+ghost use Rattle.etcs_bits.specs.Bits.{bits};
+ghost use Rattle.etcs_bits.specs.NextBits.{AreNext};
 ghost use Rattle.etcs_vars.specs.Reading.{spelled};
 ghost use Rattle.etcs_tables.specs.declared.row.Way.TheVariants.{ToTrain};
 ghost use Rattle.etcs_rows.specs.declared.frames.Carrier.TheVariants.{Telegram};
@@ -9,14 +10,44 @@ ghost use Rattle.etcs_rows.specs.Frames.{way_of};
 ghost use Rattle.etcs_packets.specs.PacketValues.{PacketValue, kept};
 ghost use Rattle.etcs_flat.specs.Others.{other_fault};
 ghost use Rattle.etcs_sequence.specs.Contents.{closing};
-ghost use Rattle.etcs_sequence.specs.AtOnce.{WholeAt, RunAt, ClosesAt};
+ghost use Rattle.etcs_sequence.specs.AtOnce.{IsFrameIn, WholeAt, RunAt, ClosesAt};
 
-use crate::parts::{bits_at, direction_at, length_at, number_at};
+use crate::parts::bits_at;
 use crate::store::PacketStore;
-use etcs_bits::BitSlice;
+use crate::whole::may_be_left;
+use etcs_bits::{BitSlice, next_bits};
 use etcs_flat::parts::check_other;
 use etcs_rows::parts::{Carrier, MOST_PADDING};
 use etcs_tables::{CLOSING, CLOSING_BITS, MARKER_BITS, Way, frame_bits};
+
+/// What is in front of a packet's variables or kept bits: its number, its direction, which is 0 to the track, and how
+/// many bits it has.
+#[derive(Clone, Copy)]
+struct Frame {
+    nid: u8,
+    dir: u8,
+    len: usize,
+}
+
+/// The frame in the first bits of a word.
+#[inline(always)]
+fn frame_in(way: Way, word: u64) -> Frame
+    ensures { IsFrameIn way word result }
+{
+    let nid = (word >> 56) as u8;
+    match way {
+        Way::ToTrain => Frame {
+            nid,
+            dir: (word >> 54) as u8 % 4,
+            len: (word >> 41) as usize % 8192,
+        },
+        Way::ToTrack => Frame {
+            nid,
+            dir: 0,
+            len: (word >> 43) as usize % 8192,
+        },
+    }
+}
 
 /// How many bits close the packets: those of packet 255 in a telegram, none in a message.
 #[inline(always)]
@@ -29,16 +60,14 @@ fn closing_bits(carrier: Carrier) -> usize
     }
 }
 
-/// Whether nothing but what closes the packets comes at `at`, where this many bits of the room are left.
+/// Whether nothing but what closes the packets comes next, where this many bits of the room are left and the word has the
+/// next ones.
 #[inline(always)]
-fn closes(carrier: Carrier, left: usize, piece: &[u8], at: usize) -> bool
-    requires { at + left ≤ length (bits piece.now) }
-    ensures { IsTrue result → ClosesAt carrier left (bits piece.now) at }
+fn closes(carrier: Carrier, left: usize, word: u64) -> bool
+    ensures { (xs : List Bool) (at : ℕ) → AreNext word xs at → at + left ≤ length xs → IsTrue result → ClosesAt carrier left xs at }
 {
     match carrier {
-        Carrier::Telegram => {
-            left >= CLOSING_BITS && number_at(piece, at, CLOSING_BITS) == u64::from(CLOSING)
-        }
+        Carrier::Telegram => left >= CLOSING_BITS && word >> 56 == u64::from(CLOSING),
         Carrier::Message(_) => left <= MOST_PADDING,
     }
 }
@@ -72,25 +101,19 @@ fn keep_packet<S: PacketStore>(
     }
 }
 
-/// Takes packet 0, the marker, of a telegram that has at least this many bits left, and says how many bits it has.
-/// `None` says nothing.
+/// Takes packet 0, the marker, of a telegram that has this many bits left, of which the word has the first, and says how
+/// many bits it has. `None` says nothing.
 #[inline(never)]
-fn take_marker<S: PacketStore>(
-    store: &mut S,
-    room: usize,
-    piece: &[u8],
-    at: usize,
-) -> Option<usize>
+fn take_marker<S: PacketStore>(store: &mut S, room: usize, word: u64) -> Option<usize>
     requires way { ToTrain ≡ S.WAY }
-    requires inside { at + room ≤ length (bits piece.now) }
-    requires number { num 8 0 ≡ part at 8 (bits piece.now) }
+    requires number { word < 2 ^ 56 }
     ensures within { IfSome result (λ n. (0 < n) × (n ≤ room)) }
-    ensures whole { IfSome result (λ n. WholeAt Telegram (S.holds store.old) (S.holds store.new) (bits piece.now) at n) }
+    ensures whole { (xs : List Bool) (at : ℕ) → AreNext word xs at → at + room ≤ length xs → IfSome result (λ n. WholeAt Telegram (S.holds store.old) (S.holds store.new) xs at n) }
 {
     if room < MARKER_BITS {
         return None;
     }
-    let number = number_at(piece, at + CLOSING_BITS, MARKER_BITS - CLOSING_BITS) as u8;
+    let number = (word >> 50) as u8 % 64;
     match store.marker(number) {
         Ok(()) => Some(MARKER_BITS),
         Err(_) => None,
@@ -106,33 +129,35 @@ fn take_framed<S: PacketStore>(
     room: usize,
     piece: &[u8],
     at: usize,
+    word: u64,
 ) -> Option<usize>
     requires way { way_of carrier ≡ S.WAY }
-    requires some { 0 < room }
     requires inside { at + room ≤ length (bits piece.now) }
-    requires small { length (bits piece.now) < 2 ^ 64 }
     requires room { room ≤ 8191 }
+    requires word { AreNext word (bits piece.now) at }
     requires held { ∥ ((vs : List PacketValue) × S.holds store.old vs [] []) ∥₁ }
     ensures within { IfSome result (λ n. (0 < n) × (n ≤ room)) }
     ensures whole { IfSome result (λ n. WholeAt carrier (S.holds store.old) (S.holds store.new) (bits piece.now) at n) }
 {
-    let len = length_at(carrier, room, piece, at)?;
     let way = carrier.way();
-    let frame = frame_bits(way);
-    let nid = number_at(piece, at, 8) as u8;
-    let dir = direction_at(way, piece, at);
-    match store.whole(nid, dir, bits_at(piece, at + frame, len - frame)) {
+    let Frame { nid, dir, len } = frame_in(way, word);
+    let front = frame_bits(way);
+    if len < front || len > room || !may_be_left(carrier, room - len) {
+        return None;
+    }
+    let body = bits_at(piece, at + front, len - front);
+    match store.whole(nid, dir, body.all()) {
         Ok(true) => Some(len),
         Ok(false) => {
-            keep_packet(store, way, nid, dir, &bits_at(piece, at + frame, len - frame))?;
+            keep_packet(store, way, nid, dir, &body)?;
             Some(len)
         }
         Err(_) => None,
     }
 }
 
-/// Takes the packet that begins at `at`, where it lies whole in the room, and says how many bits it has. `None` says
-/// nothing.
+/// Takes the packet that begins at `at`, where it lies whole in the room, and says how many bits it has. The word has its
+/// first bits. `None` says nothing.
 #[inline(always)]
 fn take_packet<S: PacketStore>(
     store: &mut S,
@@ -140,21 +165,19 @@ fn take_packet<S: PacketStore>(
     room: usize,
     piece: &[u8],
     at: usize,
+    word: u64,
 ) -> Option<usize>
     requires way { way_of carrier ≡ S.WAY }
     requires inside { at + room ≤ length (bits piece.now) }
-    requires small { length (bits piece.now) < 2 ^ 64 }
     requires room { room ≤ 8191 }
+    requires word { AreNext word (bits piece.now) at }
     requires held { ∥ ((vs : List PacketValue) × S.holds store.old vs [] []) ∥₁ }
     ensures within { IfSome result (λ n. (0 < n) × (n ≤ room)) }
     ensures whole { IfSome result (λ n. WholeAt carrier (S.holds store.old) (S.holds store.new) (bits piece.now) at n) }
 {
-    if room < CLOSING_BITS {
-        return None;
-    }
     match carrier {
-        Carrier::Telegram if number_at(piece, at, 8) == 0 => take_marker(store, room, piece, at),
-        _ => take_framed(store, carrier, room, piece, at),
+        Carrier::Telegram if word >> 56 == 0 => take_marker(store, room, word),
+        _ => take_framed(store, carrier, room, piece, at, word),
     }
 }
 
@@ -175,9 +198,14 @@ pub fn take_run<S: PacketStore>(
     requires room { room ≤ 8191 }
     ensures { IfSome result (λ left. RunAt carrier room (S.holds store.new) (bits piece.now) at left) }
 {
-    let mut taken = 0;
-    while !closes(carrier, room - taken, piece, at + taken) {
-        taken += take_packet(store, carrier, room - taken, piece, at + taken)?;
+    let mut left = room;
+    let mut place = at;
+    let mut word = next_bits(piece, place);
+    while !closes(carrier, left, word) {
+        let bits = take_packet(store, carrier, left, piece, place, word)?;
+        left -= bits;
+        place += bits;
+        word = next_bits(piece, place);
     }
-    Some(room - taken - closing_bits(carrier))
+    Some(left - closing_bits(carrier))
 }

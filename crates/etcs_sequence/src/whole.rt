@@ -11,7 +11,8 @@ use etcs_rows::parts::{Carrier, MOST_PADDING};
 use etcs_tables::{CLOSING_BITS, Way, frame_bits, head_bits};
 
 /// Whether this many bits may be left after a packet.
-fn may_be_left(carrier: Carrier, left: usize) -> bool
+#[inline(always)]
+pub(crate) fn may_be_left(carrier: Carrier, left: usize) -> bool
     ensures { result ≡ may_be_left carrier left }
 {
     match carrier {

@@ -4,7 +4,7 @@ ghost use Rattle.std.specs.Prelude.{◌≡◌, ◌++◌, Some, OnOk, OnErr, IfOk
 ghost use Rattle.etcs_vars.specs.Reading.{Reading, numbers, spelled};
 ghost use Rattle.etcs_tables.specs.declared.row.Way.TheVariants.{ToTrack};
 ghost use Rattle.etcs_tables.specs.Typed.{IsTyped, IsFramed};
-ghost use Rattle.etcs_packets.specs.PacketValues.{variables_of, IsTypedOf};
+ghost use Rattle.etcs_packets.specs.PacketValues.{typed, variables_of, IsTypedOf};
 ghost use Rattle.etcs_track.specs.TrackPackets.{track_value, IsTrackMade, IsTrackPacket};
 
 use crate::position_report::PositionReport;
@@ -110,6 +110,7 @@ pub fn from_bits(
 ) -> Result<Option<TrainPacket>, AllocError>
     ensures made { IfOk result (λ o. IfSome o (λ p. IsTrackMade p)) }
     ensures some { IfOk result (λ o. IfSome o (λ p. IsTypedOf nid dir (track_value p) × (spelled (variables_of (track_value p)) ≡ bits.entry))) }
+    ensures typed { IfOk result (λ o. IfSome o (λ p. (r : Reading) × (track_value p ≡ typed nid dir r))) }
     ensures none { IfOk result (λ o. IsNone o → (r : Reading) → IsFramed ToTrack nid dir r → spelled r ≡ bits.entry → ⊥) }
 {
     match nid {

@@ -1,6 +1,6 @@
 //! Messages.
 
-ghost use Rattle.std.specs.Prelude.{◌≡◌, ◌+◌, ◌*◌, ◌<◌, ◌≤◌, ℕ, None, Some, length, All, OnOk, OnSome, IfOk, IfErr, IfSome, IfNone};
+ghost use Rattle.std.specs.Prelude.{◌≡◌, ◌+◌, ◌*◌, ◌/◌, ◌<◌, ◌≤◌, ℕ, None, Some, length, All, OnOk, OnSome, IfOk, IfErr, IfSome, IfNone};
 ghost use Rattle.std.specs.List.{list_any};
 ghost use Rattle.std.specs.Option.{option_map};
 ghost use Rattle.etcs_vars.specs.Reading.{spelled};
@@ -47,19 +47,23 @@ pub(crate) enum Content<H, B, P> {
 #[derive(Debug, Drop, PartialEq, Eq)]
 pub struct MessageOf<H: Head, B: Own<Front = H>> {
     pub(crate) content: Content<H, B, H::Packet>,
+    /// L_MESSAGE: how many bytes it has.
+    pub(crate) bytes: usize,
 }
 
 impl<H: Head, B: Own<Front = H>> Model for MessageOf<H, B> {
     ghost use Rattle.etcs_messages.specs.declared.message.Content.{Content};
+    ghost use Rattle.std.specs.Prelude.{◌≡◌};
     ghost use Rattle.etcs_messages.specs.Messages.{IsMessage};
+    ghost use Rattle.etcs_messages.specs.Readings.{bytes_of};
 
     ghost Value = { Content H B H.Packet };
 
     ghost view = { λ m. m.content };
 
-    ghost invariant = { λ m. IsMessage H.Packet.WAY H.head B.own H.Packet.form m.content };
+    ghost invariant = { λ m. IsMessage H.Packet.WAY H.head B.own H.Packet.form m.content × (m.bytes ≡ bytes_of H.Packet.WAY B.own H.Packet.form m.content) };
 
-    ghost inverse = { λ c. record { content = c } };
+    ghost inverse = { λ c. record { content = c; bytes = bytes_of H.Packet.WAY B.own H.Packet.form c } };
 }
 
 impl<H: Head, B: Own<Front = H>> MessageOf<H, B> {
@@ -106,13 +110,14 @@ impl<H: Head, B: Own<Front = H>> MessageOf<H, B> {
         ensures packets { IfErr result (λ e. e.1.items ≡ packets.items) }
     {
         match check_typed(head, body, packets.as_slice(), padding) {
-            Ok(()) => Ok(MessageOf {
+            Ok(bytes) => Ok(MessageOf {
                 content: Content::Typed {
                     head,
                     body,
                     packets: ListOf::from_vec(packets),
                     padding,
                 },
+                bytes,
             }),
             Err(fault) => Err((fault, packets)),
         }
@@ -144,6 +149,7 @@ impl<H: Head, B: Own<Front = H>> MessageOf<H, B> {
         }
         Ok(MessageOf {
             content: Content::Kept { nid, bits },
+            bytes: (len + 18) / 8,
         })
     }
 
@@ -218,20 +224,15 @@ impl<H: Head, B: Own<Front = H>> MessageOf<H, B> {
     pub fn bit_len(&self) -> usize
         ensures { result ≡ length (spelled (message_reading H.Packet.WAY H.head B.own H.Packet.form self.now)) }
     {
-        match &self.content {
-            Content::Typed { body, packets, .. } => {
-                MOST_BITS - left_behind(*body, packets.as_slice()) / 8 * 8
-            }
-            Content::Kept { bits, .. } => 18 + bits.len(),
-        }
+        self.readable();
+        8 * self.bytes
     }
 
     /// L_MESSAGE: the message's bytes.
     pub(crate) fn bytes(&self) -> usize
         ensures { result ≡ bytes_of H.Packet.WAY B.own H.Packet.form self.now }
     {
-        self.readable();
-        self.bit_len() / 8
+        self.bytes
     }
 
     /// For callers: the message has a reading, of this many whole bytes.
@@ -260,14 +261,15 @@ fn check_front<H: Head, B: Own<Front = H>>(head: H, body: B) -> Result<(), Build
     body.check()
 }
 
-/// Whether head, body, packets and the number of PADDING make a message.
+/// Whether head, body, packets and the number of PADDING make a message, and how many bytes it has.
 fn check_typed<H: Head, B: Own<Front = H>>(
     head: H,
     body: B,
     packets: &[H::Packet],
     padding: u8,
-) -> Result<(), BuildFault>
+) -> Result<usize, BuildFault>
     ensures ok { OnOk result (IsTyped H.Packet.WAY H.head B.own H.Packet.form head body packets.now padding) }
+    ensures bytes { IfOk result (λ n. n ≡ (all_bits H.Packet.WAY B.own H.Packet.form body packets.now + 7) / 8) }
     ensures fault { IfErr result (λ e. padded_fault H.Packet.WAY H.head B.own H.Packet.form head body packets.now padding ≡ Some e) }
 {
     check_front(head, body)?;
@@ -280,7 +282,21 @@ fn check_typed<H: Head, B: Own<Front = H>>(
     if padding >> (left % 8) > 0 {
         return Err(BuildFault::NotAdmitted(Var::PADDING));
     }
-    Ok(())
+    Ok(MOST_BITS / 8 - left / 8)
+}
+
+/// How many bytes a message has.
+pub(crate) fn bytes_in<H: Head, B: Own<Front = H>>(content: &Content<H, B, H::Packet>) -> usize
+    requires { IsMessage H.Packet.WAY H.head B.own H.Packet.form content.now }
+    ensures { result ≡ bytes_of H.Packet.WAY B.own H.Packet.form content.now }
+{
+    let bits = match content {
+        Content::Typed { body, packets, .. } => {
+            MOST_BITS - left_behind(*body, packets.as_slice()) / 8 * 8
+        }
+        Content::Kept { bits, .. } => 18 + bits.len(),
+    };
+    bits / 8
 }
 
 /// Whether a packet 0 without a frame is among them, which goes to the train alone.

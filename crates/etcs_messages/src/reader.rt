@@ -11,7 +11,7 @@ ghost use Rattle.etcs_messages.specs.Readings.{bytes_of, content_by};
 ghost use Rattle.etcs_messages.specs.Readers.{Members, so_far};
 
 use crate::kind::{Head, Own};
-use crate::message::{Content, MessageOf};
+use crate::message::{Content, MessageOf, bytes_in};
 use crate::phase::{front_count, head_row};
 use crate::rest::MessageRest;
 use crate::whole::message_at;
@@ -119,7 +119,8 @@ impl<H: Head, B: Own<Front = H>> ItemRest for MessageRest<H, B> {
         let front = self.front;
         let store = self.packets.store.into_list();
         let content = content_of(nid, front.as_slice(), store, padding);
-        MessageOf { content }
+        let bytes = bytes_in(&content);
+        MessageOf { content, bytes }
     }
 }
 

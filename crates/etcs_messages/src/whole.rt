@@ -77,6 +77,7 @@ fn kept_at<H: Head, B: Own<Front = H>>(
     match Bits::from_slice(alloc, bits_at(piece, front, 8 * bytes - front)) {
         Ok(bits) => Some(MessageOf {
             content: Content::Kept { nid, bits },
+            bytes,
         }),
         Err(_) => None,
     }
@@ -115,6 +116,7 @@ fn typed_at<H: Head, B: Own<Front = H>>(
             packets: ListOf::from_vec(store.into_list().packets),
             padding,
         },
+        bytes,
     })
 }
 

@@ -40,6 +40,10 @@ impl Engine for Bin {
 
     ghost said = { λ s told. Says s.items.job.command nothing_told s.items.teller [] told };
 
+    fn wanted(&self) -> usize {
+        self.items.wanted()
+    }
+
     fn feed(&mut self, piece: &[u8], text: &mut Vec<u8>) -> Result<(), RunFault> {
         self.items.take_bytes(piece, text)
     }

@@ -7,10 +7,13 @@ ghost use Rattle.etcs_stream.specs.Readers.{Awaits, HasRoom, seen_bits, reading,
 ghost use Rattle.etcs_stream.specs.Taking.{Advances, Halts, Says};
 ghost use Rattle.etcs_stream.specs.Tellers.{Closes, IsGroupable, TellsItem, nothing_told};
 
+use crate::engine::MOST_READ;
 use crate::entries::EntryReader;
 use crate::fault::RunFault;
 use crate::job::{Job, Tally};
 use crate::teller::Teller;
+use etcs_telegram::Size;
+use etcs_text::Kind;
 use etcs_vars::{Fed, ReadFault};
 use std::alloc::{AllocError, Global};
 
@@ -42,6 +45,21 @@ impl ByteItems {
             reader: EntryReader::new(alloc, job.kind),
             teller: Teller::new(),
         }
+    }
+
+    /// How many bytes the next read asks for: as many as end with a telegram; messages have no one length.
+    pub(crate) fn wanted(&self) -> usize
+        ensures some { 0 < result }
+        ensures most { result ≤ 4096 }
+    {
+        let size = match self.job.kind {
+            Kind::Long => Size::Long,
+            Kind::Short => Size::Short,
+            Kind::Radio | Kind::Train => return MOST_READ,
+        };
+        let bytes = size.container_bytes();
+        let seen = self.reader.bits_seen() / 8 % bytes;
+        (MOST_READ + seen) / bytes * bytes - seen
     }
 
     /// Takes bytes, and appends the text of each item that becomes whole.

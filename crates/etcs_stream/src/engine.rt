@@ -1,15 +1,18 @@
 //! What is fed with the input, and writes text of it.
 
-ghost use Rattle.std.specs.Prelude.{◌≡◌, ◌<◌, ◌+◌, ◌^◌, ℕ, List, [], ◌++◌, length, IfOk, IfErr, OnErr, OnOk};
+ghost use Rattle.std.specs.Prelude.{◌≡◌, ◌<◌, ◌≤◌, ◌+◌, ◌^◌, ℕ, List, [], ◌++◌, length, IfOk, IfErr, OnErr, OnOk};
 ghost use Rattle.etcs_stream.specs.Faults.{IsOfEngine};
 ghost use Rattle.etcs_stream.specs.Engines.{Tells, Ends, Stops, StopsAtEnd};
 
 use crate::fault::RunFault;
 use crate::job::{Job, Tally};
 
+/// How many bytes a read asks for at most.
+pub(crate) const MOST_READ: usize = 4096;
+
 /// Writes text of the bytes that it is fed.
 pub(crate) trait Engine {
-    ghost use Rattle.std.specs.Prelude.{◌≡◌, ◌<◌, ◌+◌, ◌^◌, ℕ, List, [], ◌++◌, length};
+    ghost use Rattle.std.specs.Prelude.{◌≡◌, ◌<◌, ◌≤◌, ◌+◌, ◌^◌, ℕ, List, [], ◌++◌, length};
     ghost use Rattle.etcs_stream.specs.declared.job.Job.{Job};
     ghost use Rattle.etcs_stream.specs.Engines.{Tells};
 
@@ -20,6 +23,11 @@ pub(crate) trait Engine {
 
     /// This text was written of what was fed, up to a fault.
     ghost said: { Self → List ℕ → Type 0 };
+
+    /// How many bytes the next read asks for, so that it ends with an item where the items' length is known.
+    fn wanted(&self) -> usize
+        ensures some { 0 < result }
+        ensures most { result ≤ 4096 };
 
     /// Takes a piece of the input, and appends the text of each item that becomes whole.
     ///

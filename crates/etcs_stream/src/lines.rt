@@ -7,7 +7,7 @@ ghost use Rattle.etcs_stream.specs.Lines.{IsLine, lines_text, most_characters, s
 ghost use Rattle.etcs_stream.specs.laws.StandLaws.{lines_tell};
 ghost use Rattle.etcs_stream.specs.Stands.{LinesStand};
 
-use crate::engine::Engine;
+use crate::engine::{Engine, MOST_READ};
 use crate::fault::RunFault;
 use crate::job::{Job, Tally};
 use memchr::memchr;
@@ -162,6 +162,10 @@ impl<T: LineHandler> Engine for Lines<T> {
     ghost stands = { λ s given told. LinesStand (T.took s.handler) s.begun.items s.line given told };
 
     ghost said = { λ s told. T.said s.handler told };
+
+    fn wanted(&self) -> usize {
+        MOST_READ
+    }
 
     fn feed(&mut self, piece: &[u8], text: &mut Vec<u8>) -> Result<(), RunFault> {
         let mut rest = piece;

@@ -10,7 +10,7 @@ ghost use Rattle.etcs_stream.specs.Pipes.{Piped, PipedFirst};
 ghost use Rattle.etcs_stream.specs.Passes.{Stopped, Broken};
 
 use crate::ends::{Failed, Sink, Source};
-use crate::engine::Engine;
+use crate::engine::{Engine, MOST_READ};
 use crate::fault::RunFault;
 use crate::job::Tally;
 use std::alloc::Global;
@@ -126,10 +126,11 @@ pub(crate) fn run_engine<E: Engine, S: Source, W: Sink>(
     ensures pieces { (given : List ℕ) × Consumes (S.remaining source.old) (S.remaining source.new) given × (length given + 4096 * S.reads source.old ≤ 4096 * S.reads source.new) }
 {
     let mut text = Vec::new(alloc);
-    let mut buffer = [0u8; 4096];
+    let mut buffer = [0u8; MOST_READ];
     let mut sent = 0u64;
     for _ in 0..MOST_READS {
-        let count = match source.read(&mut buffer) {
+        let wanted = engine.wanted();
+        let count = match source.read(&mut buffer[..wanted]) {
             Ok(count) => count,
             Err(Failed) => return Err(RunFault::Read),
         };

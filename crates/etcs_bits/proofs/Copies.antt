@@ -52,7 +52,7 @@ word_written bytes new n small made =
     ∙ ap (λ x. num 64 n ++ x) (bits-drop bytes 8 ∙ ap (λ k. drop k (bits bytes)) size)
 
 -- a part as its number
-number_of_part : (s c : ℕ) (bs : List Bool) → s + c ≤ length bs → num c (value (part s c bs)) ≡ part s c bs
+pub number_of_part : (s c : ℕ) (bs : List Bool) → s + c ≤ length bs → num c (value (part s c bs)) ≡ part s c bs
 number_of_part s c bs h = ap (λ k. num k (value (part s c bs))) (sym (length-part s c bs h)) ∙ num-value (part s c bs)
 
 -- the words copied so far, with the next one

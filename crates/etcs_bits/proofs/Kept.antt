@@ -16,7 +16,7 @@ number_is s c number bs h e =
     cc
 
 -- the first bits of a word
-front : (word hi lo i j k : ℕ) → word / 2 ^ i ≡ hi * 2 ^ j + lo → lo < 2 ^ j → k ≡ i + j → word / 2 ^ k ≡ hi
+pub front : (word hi lo i j k : ℕ) → word / 2 ^ i ≡ hi * 2 ^ j + lo → lo < 2 ^ j → k ≡ i + j → word / 2 ^ k ≡ hi
 front word hi lo i j k is low e =
     ap (λ m. word / 2 ^ m) e
     ∙ sym (shr-shr word i j)

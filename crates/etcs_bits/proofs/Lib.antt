@@ -10,3 +10,4 @@ pub mod Words
 pub mod WordWrites
 mod Kept
 pub mod Equality
+mod NextWords

@@ -1,6 +1,6 @@
 //! Moves of many bits, a word at a time.
 
-ghost use Rattle.std.specs.Prelude.{◌≡◌, ◌+◌, ◌*◌, ◌<◌, ◌≤◌, length};
+ghost use Rattle.std.specs.Prelude.{◌≡◌, ◌+◌, ◌-◌, ◌*◌, ◌<◌, ◌≤◌, ◌++◌, length, replicate, false};
 ghost use Rattle.etcs_bits.specs.Bits.{num, value, bits, part, replaced};
 
 use super::bytes::read_byte;
@@ -14,6 +14,20 @@ pub(crate) fn word_at(bytes: &[u8], offset: usize) -> u64
     ensures { result ≡ value (part offset 64 (bits bytes.now)) }
 {
     (first_word(bytes) << offset) + read_byte(bytes[8], 0, offset)
+}
+
+/// The bits of at most eight bytes, the first one highest, with zeros after the last.
+#[inline(never)]
+pub(crate) fn last_word(bytes: &[u8]) -> u64
+    requires some { 0 < length bytes.now }
+    requires most { length bytes.now ≤ 8 }
+    ensures { num 64 result ≡ bits bytes.now ++ replicate (64 - 8 * length bytes.now) false }
+{
+    let mut word = 0u64;
+    for byte in bytes {
+        word = (word << 8) + u64::from(*byte);
+    }
+    word << (64 - 8 * bytes.len())
 }
 
 /// Writes a word into the first eight bytes.

@@ -1,11 +1,12 @@
 //! A part of a byte slice, bit by bit.
 
-ghost use Rattle.std.specs.Prelude.{◌≡◌, ℕ, ◌+◌, ◌-◌, ◌*◌, ◌/◌, ◌^◌, ◌<◌, ◌≤◌, ◌==◌, ◌++◌, false, length, take, drop, replicate, nat_lt, nat_le, slice_index_or, if◌then◌else◌, Some, IfSome};
+ghost use Rattle.std.specs.Prelude.{◌≡◌, ℕ, ◌+◌, ◌*◌, ◌<◌, ◌≤◌, ◌==◌, ◌++◌, false, length, take, drop, replicate, nat_lt, nat_le, slice_index_or, if◌then◌else◌, Some, IfSome};
 ghost use Rattle.etcs_bits.specs.Bits.{bits, num, part, number_at, replaced};
+ghost use Rattle.etcs_bits.specs.NextBits.{BeginsWith};
 ghost use Rattle.etcs_bits.specs.SliceWalker.{Keeps};
 
 use super::bytes::byte_of;
-use super::copying::{copy_words, word_at};
+use super::copying::{copy_words, last_word, word_at};
 use super::walker::{first_word, peek_at_end, peek_by_bytes, peek_word};
 use std::marker::Model;
 
@@ -180,12 +181,12 @@ impl<'a> BitSlice<'a> {
         (word >> (64 - left)) << (64 - left)
     }
 
-    /// The 64 bits from the bit `from` on, where nine bytes hold them: those of the slice, and anything after its end.
-    /// `None` says nothing.
+    /// The 64 bits from `from` on, where nine bytes hold them: those of the slice, and anything after its last. `None`
+    /// says nothing.
     #[inline(always)]
     fn nine_bytes(&self, from: usize) -> Option<u64>
         requires { from < length self.now }
-        ensures { IfSome result (λ w. (count : ℕ) → count ≤ 64 → from + count ≤ length self.now → num count (w / 2 ^ (64 - count)) ≡ part from count self.now) }
+        ensures { IfSome result (λ w. BeginsWith w self.now from) }
     {
         let start = self.offset.checked_add(from)?;
         let at = start / 8;
@@ -195,17 +196,18 @@ impl<'a> BitSlice<'a> {
         Some(word_at(&self.bytes[at..], start % 8))
     }
 
-    /// As `nine_bytes`, near the end of the bytes.
+    /// The same, however many bytes hold them.
     #[inline(never)]
     fn word_at_end(&self, from: usize) -> u64
         requires { from < length self.now }
-        ensures { (count : ℕ) → count ≤ 64 → from + count ≤ length self.now → num count (result / 2 ^ (64 - count)) ≡ part from count self.now }
+        ensures { BeginsWith result self.now from }
     {
-        let count = (self.len - from).min(64);
-        match self.number(from, count) {
-            Some(number) => number << (64 - count),
-            None => unreachable!(),
+        let (at, offset) = byte_of(self.offset, from);
+        let rest = &self.bytes[at..];
+        if rest.len() > 8 {
+            return word_at(rest, offset);
         }
+        last_word(rest) << offset
     }
 
     /// As `number`, of bits that are inside.

@@ -1,17 +1,18 @@
 -- The first bits of a word.
-use Rattle.std.proofs.Common.{◌≡◌, ℕ, zero, suc, ◌+◌, ◌-◌, ◌*◌, ◌/◌, ◌%◌, ◌^◌, ◌<◌, ◌≤◌, Bool, true, false, List, [], ◌∷◌, ◌++◌, length, take, drop, replicate, get_or, Some, None, leb, refl, sym, ap, subst, ◌∙◌, arith}
+use Rattle.std.proofs.Common.{◌≡◌, ℕ, zero, suc, ◌+◌, ◌-◌, ◌*◌, ◌/◌, ◌%◌, ◌^◌, ◌<◌, ◌≤◌, Bool, true, false, List, [], ◌∷◌, ◌++◌, length, take, drop, replicate, get_or, Some, None, leb, refl, sym, ap, subst, ◌∙◌, append_assoc, arith}
 use Rattle.std.proofs.lemmas.Bool.{le-leb}
-use Rattle.std.proofs.lemmas.List.{length-drop, length-take, length-replicate, take_all, take_more, take-append-le, take-replicate}
+use Rattle.std.proofs.lemmas.List.{length-append, length-drop, length-take, length-replicate, take_all, take_at, drop_at, take_more, take-take, take-append-le, take-append-drop, take-replicate, append-nil}
 use Rattle.std.proofs.lemmas.Nat.{mod_low, pow_pos, shl_whole, shl-shr}
 use Rattle.std.proofs.Math.Nat.{mod-eq_of_lt}
 use Rattle.std.proofs.Math.Pow.{pow_mono}
-use Rattle.std.proofs.Math.Seq.{take-append-add}
+use Rattle.std.proofs.Math.Seq.{take-add, take-append-add}
 use Rattle.etcs_bits.specs.Bits.{num, value, bits, part, number_at}
 use Rattle.etcs_bits.proofs.ByteBits.{bits-append, num_low}
 use Rattle.etcs_bits.proofs.Copies.{number_of_part}
 use Rattle.etcs_bits.proofs.Kept.{front}
 use Rattle.etcs_bits.proofs.Lists.{length-part, value-part_add}
 use Rattle.etcs_bits.proofs.Numbers.{length-num, num-add, num-value, value-append, value-num_low, value_below, value_same}
+use Rattle.etcs_bits.proofs.Owned.{Packed}
 use Rattle.etcs_bits.proofs.Positions.{length-bits}
 use Rattle.etcs_bits.proofs.Steps.{value-part_below}
 use Rattle.etcs_bits.proofs.Words.{value-bytes}
@@ -103,3 +104,49 @@ last_more bytes i word b inside most is e small =
     let all : value (bits (take (i + 1) bytes)) ≡ value before * 2 ^ 8 + value (bits (b ∷ [])) =
     ap (λ l. value (bits l)) more ∙ ap value (bits-append (take i bytes) (b ∷ [])) ∙ value-append before (bits (b ∷ [])) ∙ ap (λ l. value before * 2 ^ l + value (bits (b ∷ []))) long in
     omega (arith, all, next, none, is, below)
+
+-- ---- Bits added word by word.
+
+-- whole words
+pub filled_more : (seen old new : List Bool) (from word : ℕ) → from + 64 ≤ length seen → old ≡ take from seen → num 64 word ≡ take 64 (drop from seen ++ replicate 64 false) → new ≡ old ++ take (8 * 8) (num 64 word) → new ≡ take (from + 64) seen
+filled_more seen old new from word inside before is e =
+    let p = drop from seen in
+    let next : take 64 (num 64 word) ≡ take 64 p =
+    take_all 64 (num 64 word) (omega (arith, length-num 64 word)) ∙ is ∙ take-append-le 64 p (replicate 64 false) (omega (arith, length-drop from seen, inside)) in
+    e ∙ ap (λ x. old ++ x) next ∙ ap (λ x. x ++ take 64 p) before ∙ sym (take-add from 64 seen)
+
+-- the last bits, with zeros up to whole bytes
+pub filled_last : (seen old new : List Bool) (from left k word : ℕ) → from + left ≡ length seen → left ≤ 8 * k → k ≤ 8 → old ≡ take from seen → num 64 word ≡ take 64 (drop from seen ++ replicate 64 false) → new ≡ old ++ take (8 * k) (num 64 word) → new ≡ seen ++ replicate (8 * k - left) false
+filled_last seen old new from left k word all enough most before is e =
+    let p = drop from seen in
+    let zeros = replicate 64 false in
+    let m = 8 * k - left in
+    let size : length p ≡ left = omega (arith, length-drop from seen, all) in
+    let whole : 8 * k ≡ length p + m = omega (arith, size, enough) in
+    let next : take (8 * k) (num 64 word) ≡ p ++ replicate m false =
+    ap (take (8 * k)) is ∙ take-take (8 * k) 64 (p ++ zeros) (omega (arith, most)) ∙ ap (λ n. take n (p ++ zeros)) whole ∙ take-append-add p zeros m ∙ ap (λ x. p ++ x) (take-replicate m 64 false (omega (arith, most))) in
+    e ∙ ap (λ x. old ++ x) next ∙ ap (λ x. x ++ (p ++ replicate m false)) before ∙ sym (append_assoc (take from seen) p (replicate m false)) ∙ ap (λ x. x ++ replicate m false) (take-append-drop from seen)
+
+-- what `Bits` keeps of such bytes
+pub filled_packed : (bytes : List ℕ) (seen : List Bool) (len z : ℕ) → length seen ≡ len → z < 8 → bits bytes ≡ seen ++ replicate z false → Packed bytes len × (take len (bits bytes) ≡ seen)
+filled_packed bytes seen len z size short e =
+    let total : 8 * length bytes ≡ len + z = omega (arith, length-bits bytes, ap length e, length-append seen (replicate z false), length-replicate z false, size) in (
+      record {
+        inside = omega (arith, total);
+        short = omega (arith, total, short);
+        clear = ap (λ l. value (drop len l)) e ∙ ap value (drop_at seen (replicate z false) len size) ∙ value-falses z;
+      },
+      ap (take len) e ∙ take_at seen (replicate z false) len size,
+    )
+
+-- none at first
+pub filled_none : (bytes : List ℕ) (seen : List Bool) (n : ℕ) → length bytes ≡ 0 → bits bytes ≡ take (n - n) seen
+unfolding bits
+filled_none [] seen n e = let z : n - n ≡ 0 = omega arith in rw z refl
+filled_none (b ∷ bs) seen n e = absurd (omega (arith, e))
+
+-- all where nothing is left
+pub filled_whole : (bytes : List ℕ) (seen : List Bool) (len left : ℕ) → length seen ≡ len → left ≡ 0 → bits bytes ≡ take (len - left) seen → Packed bytes len × (take len (bits bytes) ≡ seen)
+filled_whole bytes seen len left size none e =
+    let whole : len - left ≡ length seen = omega (arith, size, none) in
+    filled_packed bytes seen len 0 size (omega arith) (e ∙ ap (λ k. take k seen) whole ∙ take_all (length seen) seen (omega arith) ∙ sym (append-nil seen))

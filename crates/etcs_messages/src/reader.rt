@@ -126,7 +126,8 @@ impl<H: Head, B: Own<Front = H>> ItemRest for MessageRest<H, B> {
 
 /// Reads a message from pieces of any length (SUBSET-026, 8). It keeps none of the bytes: only NID_MESSAGE,
 /// the numbers in front of the packets, the packets that are whole, the numbers or kept bits of the packet that is
-/// being read or of a message that is kept whole, PADDING and one unfinished variable.
+/// being read or of a message that is kept whole, PADDING and one unfinished variable; or the message, where the first
+/// piece had all of it.
 #[derive(Drop)]
 pub struct ReaderOf<H: Head, B: Own<Front = H>> {
     reader: ItemReader<MessageRest<H, B>>,

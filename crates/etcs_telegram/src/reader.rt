@@ -83,7 +83,7 @@ impl ItemRest for TelegramRest<TelegramStore> {
 
 /// Reads a balise telegram from pieces of any length. It keeps none of the bytes: only the header's numbers, the
 /// packets that are whole, the numbers or kept bits of the packet that is being read, the FILL bits so far and one
-/// unfinished variable.
+/// unfinished variable; or the telegram, where the first piece had all of it.
 #[derive(Drop)]
 pub struct TelegramReader {
     reader: ItemReader<TelegramRest<TelegramStore>>,

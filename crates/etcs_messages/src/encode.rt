@@ -3,7 +3,7 @@
 ghost use Rattle.std.specs.Prelude.{◌≡◌, ◌++◌, OnOk, OnErr};
 ghost use Rattle.etcs_bits.specs.Bits.{bits};
 ghost use Rattle.etcs_vars.specs.Reading.{Reading, spelled};
-ghost use Rattle.etcs_packets.specs.WordSinks.{IsFront};
+ghost use Rattle.etcs_packets.specs.WordSinks.{and_bits};
 ghost use Rattle.etcs_messages.specs.Messages.{MessageReads, message_value};
 ghost use Rattle.etcs_messages.specs.Readings.{message_reading, bytes_of};
 
@@ -26,10 +26,9 @@ impl<H: Head, B: Own<Front = H>> MessageOf<H, B> {
         self.readable();
         let bytes = self.bytes();
         out.reserve(bytes)?;
-        let start = out.len();
         let mut sink = WordSink::new(out);
         let put = append_message(self, bytes, &mut sink);
-        give_back(sink, put, start, out)
+        give_back(sink, put, out)
     }
 }
 
@@ -40,8 +39,8 @@ fn append_message<H: Head, B: Own<Front = H>>(
     out: &mut WordSink,
 ) -> Result<(), AllocError>
     requires { bytes ≡ bytes_of H.Packet.WAY B.own H.Packet.form message.now }
-    ensures ok { OnOk result (out.new ≡ out.old ++ spelled (message_reading H.Packet.WAY H.head B.own H.Packet.form message.now)) }
-    ensures err { OnErr result (IsFront out.old out.new) }
+    ensures ok { OnOk result (out.new ≡ and_bits out.old (spelled (message_reading H.Packet.WAY H.head B.own H.Packet.form message.now))) }
+    ensures err { OnErr result (out.new.first ≡ out.old.first) }
 {
     out.put(18, u64::from(message.nid()) * 1024 + bytes as u64)?;
     match &message.content {

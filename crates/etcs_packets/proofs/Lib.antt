@@ -6,3 +6,4 @@ pub mod PartBits
 pub mod Sending
 pub mod Equality
 pub mod OnePacket
+pub mod WordSinks

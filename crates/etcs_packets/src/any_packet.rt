@@ -8,7 +8,7 @@ ghost use Rattle.etcs_tables.specs.Typed.{IsTyped, IsFramed};
 ghost use Rattle.etcs_flat.specs.Others.{other_fault};
 ghost use Rattle.etcs_packets.specs.PacketValues.{marker, typed, kept, nid_of, dir_of, kept_of, variables_of, IsTypedOf, bits_to, IsPacketTo};
 ghost use Rattle.etcs_packets.specs.PacketReadings.{reading_to, readings_to};
-ghost use Rattle.etcs_packets.specs.WordSinks.{IsFront};
+ghost use Rattle.etcs_packets.specs.WordSinks.{and_bits};
 
 use crate::packet::Packet;
 use crate::word_sink::WordSink;
@@ -77,8 +77,8 @@ pub trait AnyPacket: Sized + Drop {
     ///
     /// `AllocError` where there is no memory. Some of its bits may then be put.
     fn append(&self, out: &mut WordSink) -> Result<(), AllocError>
-        ensures ok { OnOk result (out.new ≡ out.old ++ spelled (reading_to WAY (form self.now).value)) }
-        ensures err { OnErr result (IsFront out.old out.new) };
+        ensures ok { OnOk result (out.new ≡ and_bits out.old (spelled (reading_to WAY (form self.now).value))) }
+        ensures err { OnErr result (out.new.first ≡ out.old.first) };
 
     /// The typed packet of this number and direction with these numbers after L_PACKET, if there is one.
     ///
@@ -157,8 +157,8 @@ pub fn write_all<P: AnyPacket>(out: &mut [u8], at: usize, packets: &[P]) -> usiz
 ///
 /// `AllocError` where there is no memory. Some of their bits may then be put.
 pub fn append_all<P: AnyPacket>(packets: &[P], out: &mut WordSink) -> Result<(), AllocError>
-    ensures ok { OnOk result (out.new ≡ out.old ++ spelled (readings_to P.WAY (map (λ p. (P.form p).value) packets.now))) }
-    ensures err { OnErr result (IsFront out.old out.new) }
+    ensures ok { OnOk result (out.new ≡ and_bits out.old (spelled (readings_to P.WAY (map (λ p. (P.form p).value) packets.now)))) }
+    ensures err { OnErr result (out.new.first ≡ out.old.first) }
 {
     for packet in packets {
         packet.append(out)?;

@@ -1,9 +1,9 @@
 //! Bits appended to bytes, a word at a time.
 
-ghost use Rattle.std.specs.Prelude.{◌≡◌, ◌-◌, ◌≤◌, ◌<◌, ◌%◌, ◌++◌, ℕ, List, length, take, replicate, false, IsOk, IfOk, OnOk, OnErr};
+ghost use Rattle.std.specs.Prelude.{◌≡◌, ◌-◌, ◌≤◌, ◌<◌, ◌%◌, ◌^◌, ◌++◌, ℕ, List, [], length, take, replicate, false, IsOk, IfOk, OnOk, OnErr};
 ghost use Rattle.etcs_bits.specs.Bits.{bits, num};
 ghost use Rattle.etcs_vars.specs.Reading.{spelled};
-ghost use Rattle.etcs_packets.specs.WordSinks.{IsFront, AreBytes};
+ghost use Rattle.etcs_packets.specs.WordSinks.{and_bits};
 
 use crate::sink::joined;
 use etcs_bits::BitSlice;
@@ -13,9 +13,11 @@ use std::alloc::AllocError;
 use std::marker::Model;
 use std::mem;
 
-/// Bits one after another: those of bytes, and fewer than 64 that aren't in the bytes yet.
+/// Bytes and the bits behind them, of which fewer than 64 aren't in the bytes yet.
 #[derive(Debug, Drop)]
 pub struct WordSink {
+    /// How many bytes there were at first.
+    start: usize,
     bytes: Vec<u8>,
     /// The bits after the bytes, the first one highest, with zeros after the last.
     held: u64,
@@ -24,23 +26,24 @@ pub struct WordSink {
 }
 
 impl Model for WordSink {
-    ghost use Rattle.std.specs.Prelude.{◌≡◌, ◌-◌, ◌%◌, ◌^◌, ◌<◌, ◌++◌, Bool, List, take};
-    ghost use Rattle.etcs_bits.specs.Bits.{bits, num};
+    ghost use Rattle.etcs_packets.specs.WordSinks.{Held, held_in, IsSink};
 
-    ghost Value = { List Bool };
+    ghost Value = { Held };
 
-    ghost view = { λ s. bits s.bytes.items ++ take s.count (num 64 s.held) };
+    ghost view = { λ s. held_in s.start s.bytes.items s.held s.count };
 
-    ghost invariant = { λ s. (s.count < 64) × (s.held % 2 ^ (64 - s.count) ≡ 0) };
+    ghost invariant = { λ s. IsSink s.start s.bytes.items s.held s.count };
 }
 
 impl WordSink {
-    /// The bits of these bytes, after which others are put. `bytes` are none then, until they are given back.
+    /// These bytes, behind which bits are put. `bytes` are none then, until they are given back.
     pub fn new(bytes: &mut Vec<u8>) -> WordSink
-        ensures { result ≡ bits bytes.old.items }
+        ensures first { result.first ≡ bytes.old.items }
+        ensures behind { result.behind ≡ [] }
     {
         let empty = Vec::new(*bytes.allocator());
         WordSink {
+            start: bytes.len(),
             bytes: mem::replace(bytes, empty),
             held: 0,
             count: 0,
@@ -56,7 +59,7 @@ impl WordSink {
     pub fn put(&mut self, width: usize, number: u64) -> Result<(), AllocError>
         requires some { 0 < width }
         requires width { width ≤ 64 }
-        ensures ok { OnOk result (self.new ≡ self.old ++ num width number) }
+        ensures ok { OnOk result (self.new ≡ and_bits self.old (num width number)) }
         ensures err { OnErr result (self.new ≡ self.old) }
     {
         let top = number << (64 - width);
@@ -79,8 +82,8 @@ impl WordSink {
     ///
     /// `AllocError` where there is no memory. Some of them may then be put.
     pub fn put_slice(&mut self, slice: &BitSlice<'_>) -> Result<(), AllocError>
-        ensures ok { OnOk result (self.new ≡ self.old ++ slice.now) }
-        ensures err { OnErr result (IsFront self.old self.new) }
+        ensures ok { OnOk result (self.new ≡ and_bits self.old slice.now) }
+        ensures err { OnErr result (self.new.first ≡ self.old.first) }
     {
         let mut left = slice.len();
         while left >= 64 {
@@ -99,7 +102,7 @@ impl WordSink {
     ///
     /// `AllocError` where there is no memory. The bits then stay as they were.
     pub fn fill_up(&mut self, number: u64) -> Result<(), AllocError>
-        ensures ok { OnOk result (self.new ≡ self.old ++ num ((8 - length self.old % 8) % 8) number) }
+        ensures ok { OnOk result (self.new ≡ and_bits self.old (num ((8 - length self.old.behind % 8) % 8) number)) }
         ensures err { OnErr result (self.new ≡ self.old) }
     {
         let width = (8 - self.count % 8) % 8;
@@ -119,7 +122,7 @@ impl WordSink {
         requires { 0 < length sent.now }
         ensures some { IfOk result (λ n. 0 < n) }
         ensures most { IfOk result (λ n. n ≤ length sent.now) }
-        ensures sent { IfOk result (λ n. self.new ≡ self.old ++ spelled (take n sent.now)) }
+        ensures sent { IfOk result (λ n. self.new ≡ and_bits self.old (spelled (take n sent.now))) }
         ensures err { OnErr result (self.new ≡ self.old) }
     {
         let front = joined(sent);
@@ -130,8 +133,8 @@ impl WordSink {
     /// Puts variables after the others, as few numbers as they take.
     #[inline(never)]
     fn send_behind(&mut self, sent: &[(Var, u64)]) -> Result<(), AllocError>
-        ensures ok { OnOk result (self.new ≡ self.old ++ spelled sent.now) }
-        ensures err { OnErr result (IsFront self.old self.new) }
+        ensures ok { OnOk result (self.new ≡ and_bits self.old (spelled sent.now)) }
+        ensures err { OnErr result (self.new.first ≡ self.old.first) }
     {
         let mut done = 0;
         while done < sent.len() {
@@ -144,25 +147,24 @@ impl WordSink {
     ///
     /// # Errors
     ///
-    /// `AllocError` where there is no memory. The bytes then hold the first bits alone.
-    pub fn finish(self, bytes: &mut Vec<u8>) -> Result<(), AllocError>
-        ensures ok { OnOk result (bits bytes.new.items ≡ self ++ replicate ((8 - length self % 8) % 8) false) }
-        ensures err { OnErr result (IsFront (bits bytes.new.items) self) }
+    /// `AllocError` where there is no memory. The last bits are then left out.
+    fn finish(self, bytes: &mut Vec<u8>) -> Result<(), AllocError>
+        ensures first { take (length self.first) bytes.new.items ≡ self.first }
+        ensures ok { OnOk result (bits bytes.new.items ≡ bits self.first ++ (self.behind ++ replicate ((8 - length self.behind % 8) % 8) false)) }
     {
         let WordSink {
+            start: _,
             bytes: mut all,
             held,
             count,
         } = self;
-        let last = held.to_be_bytes();
-        let done = all.extend_from_slice(&last[..count.div_ceil(8)]);
+        let done = push_front(&mut all, held, count);
         *bytes = all;
         done
     }
 }
 
-/// Gives the bytes of a sink back, after bits were put after those of the first `start` bytes, or these bytes alone where
-/// memory was refused.
+/// Gives the bytes of a sink back with the bits that were put behind them, or alone where memory was refused.
 ///
 /// # Errors
 ///
@@ -170,14 +172,13 @@ impl WordSink {
 pub fn give_back(
     sink: WordSink,
     put: Result<(), AllocError>,
-    start: usize,
     bytes: &mut Vec<u8>,
 ) -> Result<(), AllocError>
-    requires { (xs : List ℕ) × AreBytes xs × (length xs ≡ start) × IsFront (bits xs) sink }
     ensures put { OnOk result (IsOk put) }
-    ensures ok { OnOk result (bits bytes.new.items ≡ sink ++ replicate ((8 - length sink % 8) % 8) false) }
-    ensures err { OnErr result ((xs : List ℕ) → AreBytes xs → length xs ≡ start → IsFront (bits xs) sink → bytes.new.items ≡ xs) }
+    ensures ok { OnOk result (bits bytes.new.items ≡ bits sink.first ++ (sink.behind ++ replicate ((8 - length sink.behind % 8) % 8) false)) }
+    ensures err { OnErr result (bytes.new.items ≡ sink.first) }
 {
+    let start = sink.start;
     let done = sink.finish(bytes);
     if put.is_err() || done.is_err() {
         bytes.truncate(start);
@@ -189,27 +190,39 @@ pub fn give_back(
 /// Adds the bytes of a word.
 #[inline]
 fn push_word(bytes: &mut Vec<u8>, word: u64) -> Result<(), AllocError>
-    ensures ok { OnOk result (bits bytes.new.items ≡ bits bytes.old.items ++ num 64 word) }
+    ensures ok { OnOk result ((more : List ℕ) × (bytes.new.items ≡ bytes.old.items ++ more) × (bits more ≡ num 64 word)) }
     ensures err { OnErr result (bytes.new.items ≡ bytes.old.items) }
 {
     bytes.extend_from_slice(&word.to_be_bytes())
 }
 
+/// Adds the bytes of the first bits of a word, after which it has zeros.
+#[inline]
+fn push_front(bytes: &mut Vec<u8>, word: u64, count: usize) -> Result<(), AllocError>
+    requires few { count < 64 }
+    requires zeros { word % 2 ^ (64 - count) ≡ 0 }
+    ensures ok { OnOk result ((more : List ℕ) × (bytes.new.items ≡ bytes.old.items ++ more) × (bits more ≡ take count (num 64 word) ++ replicate ((8 - count % 8) % 8) false)) }
+    ensures err { OnErr result (bytes.new.items ≡ bytes.old.items) }
+{
+    let last = word.to_be_bytes();
+    bytes.extend_from_slice(&last[..count.div_ceil(8)])
+}
+
 impl VarSink for WordSink {
-    ghost use Rattle.std.specs.Prelude.{◌++◌};
+    ghost use Rattle.std.specs.Prelude.{◌≡◌};
     ghost use Rattle.etcs_vars.specs.Reading.{spelled};
-    ghost use Rattle.etcs_packets.specs.WordSinks.{IsFront};
-    ghost use Rattle.etcs_packets.specs.laws.WordSinks.{spelled_none, spelled_both, front_behind};
+    ghost use Rattle.etcs_packets.specs.WordSinks.{and_bits};
+    ghost use Rattle.etcs_packets.specs.laws.WordSinks.{spelled_none, spelled_both};
 
-    ghost with = { λ b r. b ++ spelled r };
+    ghost with = { λ s r. and_bits s (spelled r) };
 
-    ghost failed = { λ b c. IsFront b c };
+    ghost failed = { λ s t. t.first ≡ s.first };
 
     ghost with_none = { spelled_none };
 
     ghost with_both = { spelled_both };
 
-    ghost failed_behind = { front_behind };
+    ghost failed_behind = { λ s a t h. h };
 
     #[inline(always)]
     fn send(&mut self, sent: &[(Var, u64)]) -> Result<(), AllocError> {

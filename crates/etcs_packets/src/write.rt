@@ -7,7 +7,7 @@ ghost use Rattle.etcs_vars.specs.Reading.{spelled};
 ghost use Rattle.etcs_packets.specs.PacketValues.{packet_value, variables_of, bits_of, IsPacket, IsMade};
 ghost use Rattle.etcs_packets.specs.PacketReadings.{packet_reading, packets_reading};
 ghost use Rattle.etcs_packets.specs.Fronts.{front_of};
-ghost use Rattle.etcs_packets.specs.WordSinks.{IsFront};
+ghost use Rattle.etcs_packets.specs.WordSinks.{and_bits};
 
 use crate::Packet;
 use crate::any_packet::{room_after, write_all};
@@ -146,7 +146,7 @@ fn frame_number(nid: u8, dir: u8, len: usize) -> u64
 /// Puts what is in front of a packet's variables or kept bits after other bits.
 #[inline(always)]
 fn append_front(packet: &Packet, out: &mut WordSink) -> Result<(), AllocError>
-    ensures ok { OnOk result (out.new ≡ out.old ++ spelled (front_of (packet_value packet.now))) }
+    ensures ok { OnOk result (out.new ≡ and_bits out.old (spelled (front_of (packet_value packet.now)))) }
     ensures err { OnErr result (out.new ≡ out.old) }
 {
     holds(packet);
@@ -161,8 +161,8 @@ fn append_front(packet: &Packet, out: &mut WordSink) -> Result<(), AllocError>
 
 /// Puts a packet with its frame after other bits.
 pub(crate) fn append_packet(packet: &Packet, out: &mut WordSink) -> Result<(), AllocError>
-    ensures ok { OnOk result (out.new ≡ out.old ++ spelled (packet_reading (packet_value packet.now))) }
-    ensures err { OnErr result (IsFront out.old out.new) }
+    ensures ok { OnOk result (out.new ≡ and_bits out.old (spelled (packet_reading (packet_value packet.now)))) }
+    ensures err { OnErr result (out.new.first ≡ out.old.first) }
 {
     append_front(packet, out)?;
     match packet {

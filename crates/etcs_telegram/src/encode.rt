@@ -4,7 +4,7 @@ ghost use Rattle.std.specs.Prelude.{◌≡◌, ◌≤◌, ◌↔◌, ◌++◌, l
 ghost use Rattle.etcs_bits.specs.Bits.{bits};
 ghost use Rattle.etcs_vars.specs.Reading.{Reading, spelled};
 ghost use Rattle.etcs_telegram.specs.Telegrams.{TelegramReads, container_bytes, telegram_value};
-ghost use Rattle.etcs_packets.specs.WordSinks.{IsFront};
+ghost use Rattle.etcs_packets.specs.WordSinks.{and_bits};
 ghost use Rattle.etcs_telegram.specs.Writing.{telegram_reading};
 
 use crate::telegram::Telegram;
@@ -61,17 +61,16 @@ impl Telegram {
     {
         self.readable();
         out.reserve(self.size().container_bytes())?;
-        let start = out.len();
         let mut sink = WordSink::new(out);
         let put = append_telegram(self, &mut sink);
-        give_back(sink, put, start, out)
+        give_back(sink, put, out)
     }
 }
 
 /// Puts the telegram after other bits.
 fn append_telegram(telegram: &Telegram, out: &mut WordSink) -> Result<(), AllocError>
-    ensures ok { OnOk result (out.new ≡ out.old ++ spelled (telegram_reading (telegram_value telegram.now))) }
-    ensures err { OnErr result (IsFront out.old out.new) }
+    ensures ok { OnOk result (out.new ≡ and_bits out.old (spelled (telegram_reading (telegram_value telegram.now)))) }
+    ensures err { OnErr result (out.new.first ≡ out.old.first) }
 {
     telegram.header().send(out)?;
     append_all(telegram.packets(), out)?;

@@ -1,24 +1,12 @@
 -- Bits of readings, one after another.
-use Rattle.std.proofs.Common.{◌≡◌, Bool, List, [], ◌∷◌, ◌++◌, length, take, refl, sym, ap, ◌∙◌, append_assoc}
+use Rattle.std.proofs.Common.{◌≡◌, [], ◌++◌, sym, ap, ◌∙◌, append_assoc}
 use Rattle.std.proofs.lemmas.List.{append-nil}
 use Rattle.etcs_vars.specs.Reading.{Reading, spelled}
 use Rattle.etcs_vars.proofs.Walk.{spelled-append}
-use Rattle.etcs_packets.specs.WordSinks.{IsFront}
+use Rattle.etcs_packets.specs.WordSinks.{Held, with_behind, and_bits}
 
-pub spelled_none : (b : List Bool) → b ++ spelled [] ≡ b
-spelled_none b = append-nil b
+pub spelled_none : (s : Held) → and_bits s (spelled []) ≡ s
+spelled_none s = ap (with_behind s) (append-nil s.behind)
 
-pub spelled_both : (b : List Bool) (r s : Reading) → b ++ spelled (r ++ s) ≡ (b ++ spelled r) ++ spelled s
-spelled_both b r s = ap (λ (t : List Bool). b ++ t) (spelled-append r s) ∙ sym (append_assoc b (spelled r) (spelled s))
-
--- what begins with bits and more begins with them
-pub front_in : (b m c : List Bool) → IsFront (b ++ m) c → IsFront b c
-front_in [] m c h = refl
-front_in (x ∷ b) m [] h = absurd cc
-front_in (x ∷ b) m (y ∷ c) h =
-    let first : y ≡ x = cc in
-    let rest : take (length (b ++ m)) c ≡ b ++ m = cc in
-    rw (first, front_in b m c rest) refl
-
-pub front_behind : (b : List Bool) (r : Reading) (c : List Bool) → IsFront (b ++ spelled r) c → IsFront b c
-front_behind b r c h = front_in b (spelled r) c h
+pub spelled_both : (s : Held) (a b : Reading) → and_bits s (spelled (a ++ b)) ≡ and_bits (and_bits s (spelled a)) (spelled b)
+spelled_both s a b = ap (and_bits s) (spelled-append a b) ∙ ap (with_behind s) (sym (append_assoc s.behind (spelled a) (spelled b)))

@@ -1,6 +1,6 @@
 //! Any packet of one way.
 
-ghost use Rattle.std.specs.Prelude.{◌≡◌, ◌+◌, ◌≤◌, ◌<◌, ◌^◌, ◌++◌, length, map, All, IsTrue, None, OnOk, OnErr, IfOk, IfSome, IfNone, IsNone, OnSome};
+ghost use Rattle.std.specs.Prelude.{◌≡◌, ◌+◌, ◌≤◌, ◌<◌, ◌^◌, length, map, All, IsTrue, None, OnOk, OnErr, IfOk, IfSome, IfNone, IsNone, OnSome};
 ghost use Rattle.etcs_bits.specs.Bits.{bits, replaced};
 ghost use Rattle.etcs_vars.specs.Reading.{Reading, numbers, spelled};
 ghost use Rattle.etcs_tables.specs.Frames.{is_marker};

@@ -1,6 +1,6 @@
 //! Variables and packets written over bits.
 
-ghost use Rattle.std.specs.Prelude.{◌≡◌, ◌+◌, ◌≤◌, ◌<◌, ◌^◌, ◌∷◌, ◌++◌, [], length, map, All, IfSome, IfNone, OnSome, OnOk, OnErr};
+ghost use Rattle.std.specs.Prelude.{◌≡◌, ◌+◌, ◌≤◌, ◌<◌, ◌^◌, ◌∷◌, [], length, map, All, IfSome, IfNone, OnSome, OnOk, OnErr};
 ghost use Rattle.etcs_bits.specs.Bits.{num, bits, replaced};
 ghost use Rattle.etcs_vars.specs.declared.var.Var.TheVariants.{NID_PACKET, Q_DIR, L_PACKET};
 ghost use Rattle.etcs_vars.specs.Reading.{spelled};

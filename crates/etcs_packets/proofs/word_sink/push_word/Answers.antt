@@ -1,5 +1,4 @@
 use Rattle.std.proofs.Common.{◌∙◌, ap, arith}
-use Rattle.std.specs.Int.{to_be_bytes, w64}
 use Rattle.etcs_bits.specs.Bits.{bits}
 use Rattle.etcs_bits.proofs.WordWrites.{bits-word}
 use Rattle.etcs_packets.proofs.WordSinks.{pushed, not_pushed}

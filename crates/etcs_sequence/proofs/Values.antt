@@ -23,6 +23,9 @@ typed_value way nid dir (marker n) has is (number, direction) = absurd cc
 typed_value way nid dir (kept nid' dir' b) has is (number, direction) = absurd (has (λ (row, e). kept_untyped way nid row (rw number at (kept_parts way nid' dir' (length b) is).0) e))
 typed_value way nid dir (typed nid' dir' r) has is (number, direction) = let to : dir' ≡ dir = cc in (r, rw (number, to) at is, rw (number, to) refl)
 
+pub typed_row : (way : Way) (nid dir : ℕ) (v : PacketValue) → (r : Reading) × (v ≡ typed nid dir r) → IsPacketTo way v → HasRow way nid
+typed_row way nid dir v (r, e) is = let framed : IsFramed way nid dir r = rw e at is in (framed.0, framed.1)
+
 -- readings of one row with the same bits, and those with the same numbers
 same_bits : (way : Way) (nid dir : ℕ) (r q : Reading) → IsFramed way nid dir r → IsFramed way nid dir q → spelled r ≡ spelled q → r ≡ q
 same_bits way nid dir r q (row, e, directed, reads, short) (row', e', directed', reads', short') bits =

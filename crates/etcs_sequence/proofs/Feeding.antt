@@ -33,7 +33,7 @@ use Rattle.etcs_sequence.specs.Readables.{Readable, seen_at, progress_at}
 bits_cut : (xs : List ℕ) (i : ℕ) → bits (take i xs) ++ bits (drop i xs) ≡ bits xs
 bits_cut xs i = sym (bits-append (take i xs) (drop i xs)) ∙ ap bits (take-append-drop i xs)
 
-bits_take : (xs : List ℕ) (i : ℕ) → i ≤ length xs → bits (take i xs) ≡ take (8 * i) (bits xs)
+pub bits_take : (xs : List ℕ) (i : ℕ) → i ≤ length xs → bits (take i xs) ≡ take (8 * i) (bits xs)
 bits_take xs i h =
     let len : length (bits (take i xs)) ≡ 8 * i = omega (arith, length-bits (take i xs), length-take-le i xs h) in
     sym (ap (take (8 * i)) (sym (bits_cut xs i)) ∙ take_at (bits (take i xs)) (bits (drop i xs)) (8 * i) len)

@@ -9,6 +9,7 @@ pub mod Framing
 pub mod Fronts
 pub mod Holding
 pub mod HoldingBetween
+pub mod ItemLemmas
 pub mod KindBits
 pub mod LeapLemmas
 pub mod LeftBodies
@@ -19,6 +20,7 @@ pub mod PacketLemmas
 pub mod Padding
 pub mod RoundTrips
 pub mod RowBits
+pub mod RunLemmas
 pub mod Splits
 pub mod Starting
 pub mod Values

@@ -36,7 +36,7 @@ true_prop b = hlevel Bool-set
 -- ---- A whole packet.
 
 -- one packet more
-packets_push : (way : Way) (vs : List PacketValue) (v : PacketValue) → readings_to way (vs ++ v ∷ []) ≡ readings_to way vs ++ reading_to way v
+pub packets_push : (way : Way) (vs : List PacketValue) (v : PacketValue) → readings_to way (vs ++ v ∷ []) ≡ readings_to way vs ++ reading_to way v
 packets_push way [] v = append-nil (reading_to way v)
 packets_push way (w ∷ vs) v = ap (λ (t : Reading). reading_to way w ++ t) (packets_push way vs v) ∙ sym (append_assoc (reading_to way w) (readings_to way vs) (reading_to way v))
 

@@ -38,7 +38,7 @@ fn frame_in(way: Way, word: u64) -> Frame
     match way {
         Way::ToTrain => Frame {
             nid,
-            dir: (word >> 54) as u8 % 4,
+            dir: ((word >> 54) % 4) as u8,
             len: (word >> 41) as usize % 8192,
         },
         Way::ToTrack => Frame {
@@ -133,6 +133,7 @@ fn take_framed<S: PacketStore>(
 ) -> Option<usize>
     requires way { way_of carrier ≡ S.WAY }
     requires inside { at + room ≤ length (bits piece.now) }
+    requires small { length (bits piece.now) < 2 ^ 64 }
     requires room { room ≤ 8191 }
     requires word { AreNext word (bits piece.now) at }
     requires held { ∥ ((vs : List PacketValue) × S.holds store.old vs [] []) ∥₁ }
@@ -169,6 +170,7 @@ fn take_packet<S: PacketStore>(
 ) -> Option<usize>
     requires way { way_of carrier ≡ S.WAY }
     requires inside { at + room ≤ length (bits piece.now) }
+    requires small { length (bits piece.now) < 2 ^ 64 }
     requires room { room ≤ 8191 }
     requires word { AreNext word (bits piece.now) at }
     requires held { ∥ ((vs : List PacketValue) × S.holds store.old vs [] []) ∥₁ }

@@ -1,0 +1,37 @@
+use Rattle.std.proofs.Common.{◌+◌, ◌≤◌, length, arith}
+use Rattle.etcs_bits.specs.Bits.{bits}
+use Rattle.etcs_sequence.specs.AtOnce.{ClosesAt}
+use Rattle.etcs_sequence.proofs.RunLemmas.{run_more, run_closed, closes_within}
+use Rattle.etcs_sequence.proofs.run.take_run.Goals as goal
+
+pub loop-store-preserved : goal.loop-store-preserved
+loop-store-preserved g c =
+    let a = c.args in
+    let l = c.loop-store in
+    let old = l.invariant in
+    let within = c.in_ok-bits.ensures.within in
+    record {
+      run = run_more a.carrier a.room (g.S.PacketStore.holds l.store) (g.S.PacketStore.holds c.take_packet.new.store) (bits a.piece.now) a.at l.left l.place c.in_ok-bits.bits old.run c.in_ok-bits.ensures.whole old.here within.1;
+      here = omega (arith, old.here, within.1);
+      word = c.next_bits-word-in-loop-store.ensures;
+    }
+
+pub overflow_sub-result : goal.overflow_sub-result
+overflow_sub-result g c =
+    let a = c.args in
+    let l = c.loop-store in
+    let old = l.invariant in
+    let xs = bits a.piece.now in
+    let inside : l.place + l.left ≤ length xs = omega (arith, old.here, c.requires.inside) in
+    let last : ClosesAt a.carrier l.left xs l.place = c.closes.ensures xs l.place old.word inside c.loop-store-test.false in
+    closes_within a.carrier l.left l.place c.closing_bits.result xs last c.closing_bits.ensures
+
+pub returns : goal.returns
+returns g c =
+    let a = c.args in
+    let l = c.loop-store in
+    let old = l.invariant in
+    let xs = bits a.piece.now in
+    let inside : l.place + l.left ≤ length xs = omega (arith, old.here, c.requires.inside) in
+    let last : ClosesAt a.carrier l.left xs l.place = c.closes.ensures xs l.place old.word inside c.loop-store-test.false in
+    run_closed a.carrier a.room (g.S.PacketStore.holds l.store) xs a.at l.left l.place c.closing_bits.result old.run last old.here c.closing_bits.ensures

@@ -1,0 +1,15 @@
+use Rattle.std.proofs.Common.{◌≡◌, ◌+◌}
+use Rattle.etcs_bits.specs.Bits.{bits}
+use Rattle.etcs_bits.specs.NextBits.{AreNext}
+use Rattle.etcs_sequence.proofs.RunLemmas.{RunTo}
+use Rattle.etcs_sequence.proofs.run.take_run.Given as goal
+
+abbrev pub invariant-loop-store : goal.invariant-loop-store
+invariant-loop-store g l = record {
+  run : RunTo l.carrier l.room (g.S.PacketStore.holds l.store) (bits l.piece) l.at l.left;
+  here : l.place + l.left ≡ l.at + l.room;
+  word : AreNext l.word (bits l.piece) l.place;
+}
+
+abbrev pub decreases-loop-store : goal.decreases-loop-store
+decreases-loop-store g l = l.left

@@ -14,7 +14,7 @@ use Rattle.etcs_reader.specs.declared.feeder.Stop.{Stop}
 use Rattle.etcs_reader.specs.declared.feeder.Stop.TheVariants.{Refused, Memory}
 use Rattle.etcs_reader.specs.Feeders.{FeederValue}
 use Rattle.etcs_sequence.specs.declared.list.PacketList.{PacketList}
-use Rattle.etcs_sequence.specs.Progress.{Progress, reading, finished, Feeds, fault_of, seen_of}
+use Rattle.etcs_sequence.specs.Progress.{Progress, reading, finished, Feeds, IsReading, fault_of, seen_of}
 use Rattle.etcs_sequence.specs.Readables.{Readable, progress_with, IsDone}
 use Rattle.etcs_sequence.proofs.Feeding.{seen, At, progress, Is, at_of, going_progress, whole_progress, whole_reading, whole_seen, bits_take}
 
@@ -31,6 +31,9 @@ none_kept (Some d) s b e = absurd cc
 pub with_none : {V : Type 0} (o : Option (V × ℕ)) (s : Progress V) → o ≡ None → progress_with o s ≡ s
 with_none o s e = rw e refl
 
+pub none_done : {V : Type 0} (IsValue : V → Type 0) (size : V → ℕ) (o : Option (V × ℕ)) (s : Progress V) → o ≡ None → IsDone IsValue size o s
+none_done IsValue size o s e = rw e tt
+
 -- where one is kept, it is finished
 pub some_kept : {V : Type 0} (o : Option (V × ℕ)) (s p : Progress V) → is_some o ≡ true → progress_with o s ≡ p → (v : V) × (p ≡ finished v)
 some_kept None s p e same = absurd cc
@@ -40,7 +43,10 @@ pub kept_ended : {V : Type 0} (o : Option (V × ℕ)) (s p : Progress V) → is_
 kept_ended o s p e same = let (v, is) = some_kept o s p e same in rw is refl
 
 pub kept_going : {V : Type 0} (o : Option (V × ℕ)) (s p : Progress V) (b : List Bool) → is_some o ≡ true → progress_with o s ≡ p → p ≡ reading b → ⊥
-kept_going o s p b e same is = let (v, f) = some_kept o s p e same in let two : ◌≡◌ {A = Progress V} (finished v) (reading b) = sym f ∙ is in absurd cc
+kept_going {V} o s p b e same is = let (v, f) = some_kept o s p e same in let two : ◌≡◌ {A = Progress V} (finished v) (reading b) = sym f ∙ is in absurd cc
+
+pub some_unread : {V : Type 0} (o : Option (V × ℕ)) (s p : Progress V) → is_some o ≡ true → progress_with o s ≡ p → IsReading p → ⊥
+some_unread o s p e same i = let (v, f) = some_kept o s p e same in subst IsReading f i
 
 -- how many bits it has
 pub kept_seen : {V : Type 0} (IsValue : V → Type 0) (size : V → ℕ) (o : Option (V × ℕ)) (d : V × ℕ) (s p : Progress V) → o ≡ Some d → IsDone IsValue size o s → progress_with o s ≡ p → (d.1 * 8 < 2 ^ 64) × (d.1 * 8 ≡ seen_of size p)

@@ -1,6 +1,7 @@
 //! One reader of every item: telegrams, and messages.
 
 ghost use Rattle.std.specs.Prelude.{◌≡◌, ◌≢◌, ◌*◌, ◌≤◌, ◌<◌, ◌^◌, ℕ, List, Bool, [], length, Ok, Err, None, MatchResult, IfSome, IsNone};
+ghost use Rattle.etcs_bits.specs.Bits as bit_lists;
 ghost use Rattle.etcs_bits.specs.Bits.{bits, part};
 ghost use Rattle.etcs_vars.specs.Reading.{Reading, spelled, readings_of};
 ghost use Rattle.etcs_vars.specs.declared.feed.Fed.TheVariants.{Done};
@@ -18,6 +19,9 @@ use etcs_vars::{Fed, ReadFault};
 use std::alloc::Global;
 use std::marker::Model;
 use std::mem;
+
+/// The most bytes whose bits a word counts.
+const MOST_NEAR: usize = usize::MAX / 8;
 
 /// What is left of an item whose packets go to a list, and the item that is made of what is kept of it.
 pub trait ItemRest: Rest + Drop {
@@ -75,10 +79,10 @@ pub trait ItemRest: Rest + Drop {
     /// The item of this size that a piece begins with, where it lies whole in it, and how many bytes it has. `None`
     /// says nothing: where the piece begins with no such item, and where memory is refused.
     fn whole(alloc: Global, size: Self::Size, piece: &[u8]) -> Option<(Self::Item, usize)>
-        requires { length (bits piece.now) < 2 ^ 64 }
-        ensures within { IfSome result (λ t. 8 * t.1 ≤ length (bits piece.now)) }
+        requires { length (bit_lists.bits piece.now) < 2 ^ 64 }
+        ensures within { IfSome result (λ t. 8 * t.1 ≤ length (bit_lists.bits piece.now)) }
         ensures value { IfSome result (λ t. IsValue t.0) }
-        ensures reads { IfSome result (λ t. (r : Reading) × Reads size (value t.0) r × (spelled r ≡ part 0 (8 * t.1) (bits piece.now))) };
+        ensures reads { IfSome result (λ t. (r : Reading) × Reads size (value t.0) r × (spelled r ≡ part 0 (8 * t.1) (bit_lists.bits piece.now))) };
 
     /// Where the packets go.
     fn store(&self) -> &PacketList<Self::Packet>
@@ -172,7 +176,7 @@ impl<R: ItemRest> ItemReader<R> {
         ensures size { self.new.size ≡ self.old.size }
     {
         // A few bytes more than the longest item, so that looks at its last bits find whole words.
-        let near = piece.len().min(R::most(self.size) + 8);
+        let near = piece.len().min(R::most(self.size) + 8).min(MOST_NEAR);
         let alloc = self.feeder.rest().store().alloc;
         let (item, taken) = R::whole(alloc, self.size, &piece[..near])?;
         self.done = Some((item, taken));
@@ -231,15 +235,13 @@ impl<R: ItemRest> ItemReader<R> {
     pub fn take(self) -> Result<R::Item, Self>
         ensures { MatchResult result (λ t. self.progress ≡ finished t) (λ r. (r ≡ self) × ((t : R.Item) → self.progress ≢ finished t)) }
     {
-        if self.done.is_none() {
-            if self.feeder.stop().is_some() || self.feeder.var().is_some() {
-                return Err(self);
-            }
-            return Ok(self.feeder.into_rest().into_item(self.size));
+        if self.done.is_none() && (self.feeder.stop().is_some() || self.feeder.var().is_some()) {
+            return Err(self);
         }
-        match self.done {
+        let ItemReader { size, feeder, done } = self;
+        match done {
             Some((item, _)) => Ok(item),
-            None => unreachable!(),
+            None => Ok(feeder.into_rest().into_item(size)),
         }
     }
 

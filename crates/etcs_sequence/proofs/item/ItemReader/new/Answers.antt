@@ -8,11 +8,13 @@ new-requires g c = let (r, l) = c.requires.readable.some in (r, (c.requires.same
 pub invariant_of-result : goal.invariant_of-result
 invariant_of-result g c =
     let w = c.requires.readable in
-    let e = c.new.ensures in
-    record {
-      readable = w;
-      is = first_is w c.new.result e.part e.count e.stop (rw e.rest c.requires.same) (rw e.rest c.requires.holds);
-    }
+    let e = c.new.ensures in (
+      record {
+        readable = w;
+        is = first_is w c.new.result e.part e.count e.stop (rw e.rest c.requires.same) (rw e.rest c.requires.holds);
+      },
+      tt,
+    )
 
 pub returns : goal.returns
 returns g c =

@@ -1,5 +1,5 @@
 -- A reader of items, which keeps an item that was whole in the first piece.
-use Rattle.std.proofs.Common.{◌≡◌, ℕ, ◌+◌, ◌*◌, ◌^◌, ◌<◌, ◌≤◌, Bool, true, false, List, [], ◌∷◌, length, take, Some, None, Ok, Err, refl, sym, ap, subst, ◌∙◌, arith}
+use Rattle.std.proofs.Common.{◌≡◌, ℕ, ◌+◌, ◌*◌, ◌^◌, ◌<◌, ◌≤◌, Bool, true, List, [], ◌∷◌, length, take, Some, None, Ok, Err, refl, sym, ap, subst, ◌∙◌, arith}
 use Rattle.std.specs.Prelude.{Option, Result, is_some}
 use Rattle.std.proofs.lemmas.List.{length-take-le, take-take}
 use Rattle.etcs_bits.specs.Bits.{bits, part}
@@ -16,7 +16,7 @@ use Rattle.etcs_reader.specs.Feeders.{FeederValue}
 use Rattle.etcs_sequence.specs.declared.list.PacketList.{PacketList}
 use Rattle.etcs_sequence.specs.Progress.{Progress, reading, finished, Feeds, IsReading, fault_of, seen_of}
 use Rattle.etcs_sequence.specs.Readables.{Readable, progress_with, IsDone}
-use Rattle.etcs_sequence.proofs.Feeding.{seen, At, progress, Is, at_of, going_progress, whole_progress, whole_reading, whole_seen, bits_take}
+use Rattle.etcs_sequence.proofs.Feeding.{seen, At, progress, Is, at_of, going_progress, whole_reading, whole_seen, bits_take}
 
 -- ---- By the item that is kept.
 

@@ -118,6 +118,7 @@ impl Packet {
     }
 
     /// How many bits the packet takes, its frame among them: at most 8,191.
+    #[inline(always)]
     pub fn bit_len(&self) -> usize
         ensures bits { result ≡ bits_of (packet_value self.now) }
         ensures spelling { result ≡ length (spelled (packet_reading (packet_value self.now))) }

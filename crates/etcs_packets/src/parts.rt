@@ -35,6 +35,7 @@ pub fn holds(packet: &Packet)
 }
 
 /// Q_DIR; packet 0 has none.
+#[inline(always)]
 pub fn dir(packet: &Packet) -> Option<u8>
     ensures { result ≡ dir_of (packet_value packet.now) }
 {

@@ -81,6 +81,7 @@ impl WordSink {
     /// # Errors
     ///
     /// `AllocError` where there is no memory. Some of them may then be put.
+    #[inline(always)]
     pub fn put_slice(&mut self, slice: &BitSlice<'_>) -> Result<(), AllocError>
         ensures ok { OnOk result (self.new ≡ and_bits self.old slice.now) }
         ensures err { OnErr result (self.new.first ≡ self.old.first) }

@@ -108,6 +108,7 @@ impl Part for BaliseAt {
     }
 
     #[tactic(auto, unfolding(crate::specs::BalisesAt::balise_at_from))]
+    #[inline(always)]
     fn take(_alloc: Global, numbers: &mut Numbers) -> Result<Option<BaliseAt>, AllocError> {
         let nid_c = if taken!(numbers.flag()) {
             Some(taken!(numbers.next(Var::NID_C)) as u16)

@@ -145,6 +145,7 @@ impl Part for Link {
     }
 
     #[tactic(auto, unfolding(crate::specs::Links::link_from))]
+    #[inline(always)]
     fn take(alloc: Global, numbers: &mut Numbers) -> Result<Option<Link>, AllocError> {
         fields!(take_fields: alloc, numbers)
     }

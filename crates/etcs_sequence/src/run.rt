@@ -14,7 +14,6 @@ ghost use Rattle.etcs_sequence.specs.AtOnce.{IsFrameIn, WholeAt, RunAt, ClosesAt
 
 use crate::parts::bits_at;
 use crate::store::PacketStore;
-use crate::whole::may_be_left;
 use etcs_bits::{BitSlice, next_bits};
 use etcs_flat::parts::check_other;
 use etcs_rows::parts::{Carrier, MOST_PADDING};
@@ -143,7 +142,7 @@ fn take_framed<S: PacketStore>(
     let way = carrier.way();
     let Frame { nid, dir, len } = frame_in(way, word);
     let front = frame_bits(way);
-    if len < front || len > room || !may_be_left(carrier, room - len) {
+    if len < front || len > room {
         return None;
     }
     let body = bits_at(piece, at + front, len - front);

@@ -28,6 +28,11 @@ pub user_small : (size : Size) → user_bits size ≤ 830
 user_small Short = omega arith
 user_small Long = omega arith
 
+-- every telegram of a size has the container's bytes
+pub whole_bytes : (size : Size) → user_bits size + pad_bits size ≡ 8 * container_bytes size
+whole_bytes Short = refl
+whole_bytes Long = refl
+
 pub container_bits : (size : Size) (out : List ℕ) → length out ≡ container_bytes size → length (bits out) ≡ user_bits size + pad_bits size
 container_bits Short out e = length-bits out ∙ ap (λ (k : ℕ). 8 * k) e
 container_bits Long out e = length-bits out ∙ ap (λ (k : ℕ). 8 * k) e
@@ -46,21 +51,25 @@ closed_spelled vs = spelled-append (packets_reading vs) (closing carrier.Telegra
 pub closed_length : (vs : List PacketValue) → length (spelled (closed_reading vs)) ≡ length (spelled (packets_reading vs)) + 8
 closed_length vs = ap length (closed_spelled vs) ∙ length-append (spelled (packets_reading vs)) (num 8 255) ∙ ap (λ (k : ℕ). length (spelled (packets_reading vs)) + k) (length-num 8 255)
 
-telegram_bits : (t : TelegramValue) → spelled (telegram_reading t) ≡ (((spelled (header_reading t.header) ++ spelled (packets_reading t.packets)) ++ num 8 255) ++ t.fill) ++ num (pad_bits t.size) 0
-telegram_bits t =
+-- header, packets with packet 255, FILL and zeros
+pub telegram_parts : (t : TelegramValue) → spelled (telegram_reading t) ≡ ((spelled (header_reading t.header) ++ spelled (closed_reading t.packets)) ++ t.fill) ++ num (pad_bits t.size) 0
+telegram_parts t =
     let h = header_reading t.header in
     let c = closed_reading t.packets in
     let f = kept FILL t.fill in
     let z = kept PAD (replicate (pad_bits t.size) false) in
-    let head = spelled h in
-    let packets = spelled (packets_reading t.packets) in
     let fill : spelled f ≡ t.fill = bits_spelled FILL t.fill refl in
     let zeros : spelled z ≡ num (pad_bits t.size) 0 = bits_spelled PAD (replicate (pad_bits t.size) false) refl ∙ sym (num-zeros (pad_bits t.size)) in
-    let first : spelled (h ++ c) ≡ (head ++ packets) ++ num 8 255 =
-    spelled-append h c ∙ ap (λ (b : List Bool). head ++ b) (closed_spelled t.packets) ∙ sym (append_assoc head packets (num 8 255)) in
-    let second : spelled ((h ++ c) ++ f) ≡ ((head ++ packets) ++ num 8 255) ++ t.fill =
-    spelled-append (h ++ c) f ∙ ap (λ (b : List Bool). b ++ spelled f) first ∙ ap (λ (b : List Bool). ((head ++ packets) ++ num 8 255) ++ b) fill in
-    spelled-append ((h ++ c) ++ f) z ∙ ap (λ (b : List Bool). b ++ spelled z) second ∙ ap (λ (b : List Bool). (((head ++ packets) ++ num 8 255) ++ t.fill) ++ b) zeros
+    let first : spelled ((h ++ c) ++ f) ≡ (spelled h ++ spelled c) ++ t.fill =
+    spelled-append (h ++ c) f ∙ ap (λ (b : List Bool). b ++ spelled f) (spelled-append h c) ∙ ap (λ (b : List Bool). (spelled h ++ spelled c) ++ b) fill in
+    spelled-append ((h ++ c) ++ f) z ∙ ap (λ (b : List Bool). b ++ spelled z) first ∙ ap (λ (b : List Bool). ((spelled h ++ spelled c) ++ t.fill) ++ b) zeros
+
+pub telegram_bits : (t : TelegramValue) → spelled (telegram_reading t) ≡ (((spelled (header_reading t.header) ++ spelled (packets_reading t.packets)) ++ num 8 255) ++ t.fill) ++ num (pad_bits t.size) 0
+telegram_bits t =
+    let head = spelled (header_reading t.header) in
+    let packets = spelled (packets_reading t.packets) in
+    let closed : head ++ spelled (closed_reading t.packets) ≡ (head ++ packets) ++ num 8 255 = ap (λ (b : List Bool). head ++ b) (closed_spelled t.packets) ∙ sym (append_assoc head packets (num 8 255)) in
+    telegram_parts t ∙ ap (λ (b : List Bool). (b ++ t.fill) ++ num (pad_bits t.size) 0) closed
 
 -- packets, packet 255 and FILL end at the user bits
 pub user_end : (t : TelegramValue) (end : ℕ) → TelegramReads t (telegram_reading t) → end ≡ 50 + length (spelled (packets_reading t.packets)) → user_bits t.size ≡ end + 8 + length t.fill

@@ -18,17 +18,17 @@ use Rattle.etcs_sequence.proofs.LabelLaws.{length-widths, labelled_widths}
 use Rattle.etcs_sequence.specs.Fronts.{FrontAt}
 use Rattle.etcs_telegram.specs.Fronts.{FieldsIn}
 
-fields_count : (vs : List Var) (word : ℕ) (ns : List ℕ) → FieldsIn vs word ns → length ns ≡ length vs
+pub fields_count : (vs : List Var) (word : ℕ) (ns : List ℕ) → FieldsIn vs word ns → length ns ≡ length vs
 fields_count [] word ns h = ap length h
 fields_count (v ∷ vs) word [] h = absurd h
 fields_count (v ∷ vs) word (n ∷ ns) (a, e, h) = ap suc (fields_count vs word ns h)
 
-fields_read : (vs : List Var) (word : ℕ) (ns : List ℕ) → FieldsIn vs word ns → ReadsFields vs (labelled vs ns)
+pub fields_read : (vs : List Var) (word : ℕ) (ns : List ℕ) → FieldsIn vs word ns → ReadsFields vs (labelled vs ns)
 fields_read [] word ns h = refl
 fields_read (v ∷ vs) word [] h = absurd h
 fields_read (v ∷ vs) word (n ∷ ns) (a, e, h) = (n, labelled vs ns, a, refl, fields_read vs word ns h)
 
-fields_bits : (vs : List Var) (word : ℕ) (ns : List ℕ) → FieldsIn vs word ns → spelled (labelled vs ns) ≡ num (widths vs) word
+pub fields_bits : (vs : List Var) (word : ℕ) (ns : List ℕ) → FieldsIn vs word ns → spelled (labelled vs ns) ≡ num (widths vs) word
 unfolding num
 fields_bits [] word ns h = refl
 fields_bits (v ∷ vs) word [] h = absurd h

@@ -21,3 +21,5 @@ pub mod SoFar
 pub mod Reading
 pub mod Holding
 pub mod OneHolding
+pub mod WholeTelegram
+pub mod Appending

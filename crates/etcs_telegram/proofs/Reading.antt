@@ -1,5 +1,5 @@
 -- What a reader of telegrams asks of what is left of one.
-use Rattle.std.proofs.Common.{◌≡◌, ◌+◌, ◌*◌, ◌%◌, ◌^◌, ◌<◌, ◌≤◌, length, refl, ◌∙◌, arith}
+use Rattle.std.proofs.Common.{◌≡◌, ◌*◌, ◌%◌, ◌^◌, ◌<◌, ◌≤◌, length, refl, ◌∙◌, arith}
 use Rattle.std.specs.Prelude.{Option, IsTrue}
 use Rattle.etcs_vars.specs.declared.var.Var.{Var}
 use Rattle.etcs_vars.specs.Reading.{Reading, spelled}
@@ -13,10 +13,11 @@ use Rattle.etcs_telegram.specs.declared.size.Size.TheVariants.{Short, Long}
 use Rattle.etcs_telegram.specs.declared.rest.TelegramRest.{TelegramRest}
 use Rattle.etcs_telegram.specs.declared.store.TelegramStore.{TelegramStore}
 use Rattle.etcs_telegram.specs.contracts.store.TelegramStorePacketStore.TheImpl as telegram_store
-use Rattle.etcs_telegram.specs.Telegrams.{TelegramContent, TelegramValue, TelegramLanguage, ReadsAs, IsTelegram, telegram_value, container_bytes, user_bits, pad_bits}
+use Rattle.etcs_telegram.specs.Telegrams.{TelegramContent, TelegramValue, TelegramLanguage, ReadsAs, IsTelegram, telegram_value, container_bytes}
 use Rattle.etcs_telegram.specs.Lefts.{left_at, next_at, may_ask, Follows}
 use Rattle.etcs_telegram.specs.laws.RestLaws.{rest_begins, rest_ended}
 use Rattle.etcs_telegram.specs.Readers.{so_far, telegram_by, telegram_bits, OwnHeld, Members}
+use Rattle.etcs_telegram.proofs.Encoding.{whole_bytes}
 use Rattle.etcs_telegram.proofs.Examples.{some_telegram}
 use Rattle.etcs_telegram.proofs.Finished.{finished_is}
 use Rattle.etcs_telegram.proofs.Holding.{members_at}
@@ -53,11 +54,6 @@ made s = telegram_by s.size s.header.items s.packets.store.list
 
 abbrev store : Kept → PacketList Packet
 store s = s.packets.store.list
-
--- every telegram of a size has the container's bytes
-whole_bytes : (size : Size) → user_bits size + pad_bits size ≡ 8 * container_bytes size
-whole_bytes Short = refl
-whole_bytes Long = refl
 
 small : (size : Size) → 8 * container_bytes size < 2 ^ 64
 small Short = omega arith

@@ -1,36 +1,46 @@
 -- The bytes of an encoding.
-use Rattle.std.proofs.Common.{◌≡◌, ℕ, ◌+◌, ◌*◌, ◌≤◌, ◌<◌, List, ◌++◌, length, take, drop, ap, ◌∙◌, arith}
-use Rattle.std.specs.Prelude.{All, Bool}
-use Rattle.std.proofs.lemmas.List.{length-append, length-drop, take_at}
-use Rattle.std.proofs.lemmas.List.Elements.{All-take}
+use Rattle.std.proofs.Common.{◌≡◌, ℕ, zero, suc, ◌+◌, ◌*◌, ◌^◌, ◌<◌, ◌≤◌, Bool, List, [], ◌∷◌, ◌++◌, length, take, drop, get_or, Result, Ok, Err, sym, ap, ◌∙◌, arith}
+use Rattle.std.specs.Prelude.{All, OnOk, OnErr}
+use Rattle.std.proofs.lemmas.List.{drop_at, length-append, take-append-drop, take_at}
+use Rattle.std.proofs.lemmas.List.Elements.{All-drop, All-get_or, All-take}
+use Rattle.hex.specs.Hex.{encode_upper}
 use Rattle.etcs_bits.specs.Bits.{bits}
-use Rattle.etcs_bits.proofs.Owned.{bits-take}
+use Rattle.etcs_bits.proofs.ByteBits.{bits-drop}
+use Rattle.etcs_bits.proofs.Owned.{bits-take, bits_same}
 use Rattle.etcs_bits.proofs.Positions.{length-bits}
 use Rattle.etcs_vars.specs.Reading.{Reading, spelled}
-use Rattle.etcs_telegram.specs.declared.size.Size.{Size}
-use Rattle.etcs_telegram.specs.declared.size.Size.TheVariants.{Short, Long}
-use Rattle.etcs_telegram.specs.Telegrams.{TelegramValue, TelegramReads, container_bytes}
-use Rattle.etcs_text.specs.Entries.{EntryValue, of_telegram}
-use Rattle.etcs_text.specs.Encodings.{Encodes, IsEncoded}
+use Rattle.etcs_text.specs.Entries.{EntryValue, Spells}
+use Rattle.etcs_text.specs.Encodings.{IsEncoded}
 
--- what was written over the front of bytes are their first bits
-first_bits : (old new : List ℕ) (n : ℕ) (x : List Bool) → length new ≡ length old → n ≤ length old → bits new ≡ x ++ bits (drop n old) → bits (take n new) ≡ x
-first_bits old new n x l le e =
-    let all : length (bits new) ≡ length x + length (bits (drop n old)) = ap (λ (b : List Bool). length b) e ∙ length-append x (bits (drop n old)) in
-    let len : length x ≡ 8 * n = omega (arith, all, length-bits new, length-bits (drop n old), length-drop n old) in
-    bits-take new n (omega (arith)) ∙ ap (take (8 * n)) e ∙ take_at x (bits (drop n old)) (8 * n) len
+all_small : (xs : List ℕ) → All (λ b. b < 256) xs → (i : ℕ) → get_or xs i 0 < 2 ^ 8
+all_small [] h i = omega arith
+all_small (x ∷ xs) h zero = All-get_or (λ b. b < 256) (x ∷ xs) 0 0 (omega arith) h
+all_small (x ∷ xs) h (suc i) = all_small xs (All-drop (λ b. b < 256) 1 (x ∷ xs) h) i
 
-pub container_small : (size : Size) → container_bytes size ≤ 104
-container_small Short = omega arith
-container_small Long = omega arith
+-- bytes after others
+appended : (e : EntryValue) (old new : List ℕ) (r : Reading) → All (λ b. b < 256) old → All (λ b. b < 256) new → Spells e r → bits new ≡ bits old ++ spelled r → (added : List ℕ) × IsEncoded e added × (new ≡ old ++ added)
+appended e old new r hold hnew reads is =
+    let n = length old in
+    let all : length (bits new) ≡ length (bits old) + length (spelled r) = ap (λ (b : List Bool). length b) is ∙ length-append (bits old) (spelled r) in
+    let inside : n ≤ length new = omega (arith, all, length-bits new, length-bits old) in
+    let front : bits (take n new) ≡ bits old = bits-take new n inside ∙ ap (λ (b : List Bool). take (8 * n) b) is ∙ take_at (bits old) (spelled r) (8 * n) (length-bits old) in
+    let behind : bits (drop n new) ≡ spelled r = bits-drop new n ∙ ap (λ (b : List Bool). drop (8 * n) b) is ∙ drop_at (bits old) (spelled r) (8 * n) (length-bits old) in
+    let same : take n new ≡ old = bits_same (take n new) old (all_small (take n new) (All-take (λ b. b < 256) n new hnew)) (all_small old hold) front in (
+      drop n new,
+      record { reading = r; reads = reads; small = All-drop (λ b. b < 256) n new hnew; bits_are = behind },
+      sym (take-append-drop n new) ∙ ap (λ (z : List ℕ). z ++ drop n new) same,
+    )
 
-pub encodes : (t : TelegramValue) (old new : List ℕ) (n : ℕ) (r : Reading) → length new ≡ length old → length old ≡ 104 → n ≡ container_bytes t.size → TelegramReads t r → bits new ≡ spelled r ++ bits (drop n old) → Encodes (of_telegram t) (take n new)
-encodes t old new n r l room is reads e = (r, reads, first_bits old new n (spelled r) l (omega (arith, is, room, container_small t.size)) e)
+pub appended_ok : {T E : Type 0} (res : Result T E) (e : EntryValue) (old new : List ℕ) → All (λ b. b < 256) old → All (λ b. b < 256) new → OnOk res ((r : Reading) × Spells e r × (bits new ≡ bits old ++ spelled r)) → OnOk res ((added : List ℕ) × IsEncoded e added × (new ≡ old ++ added))
+appended_ok (Ok x) e old new hold hnew (r, reads, is) = appended e old new r hold hnew reads is
+appended_ok (Err x) e old new hold hnew h = tt
 
-pub encoded : (e : EntryValue) (room : List ℕ) (n : ℕ) → All (λ b. b < 256) room → Encodes e (take n room) → IsEncoded e (take n room)
-encoded e room n small (r, reads, is) = record {
-  reading = r;
-  reads = reads;
-  small = All-take (λ b. b < 256) n room small;
-  bits_are = is;
-}
+-- ---- An encoding in digits.
+
+pub in_digits : {T E : Type 0} (res : Result T E) (e : EntryValue) (old items new : List ℕ) (start : ℕ) → start ≡ length old → (added : List ℕ) × IsEncoded e added × (items ≡ old ++ added) → OnOk res (new ≡ take start items ++ (encode_upper (drop start items) ++ 10 ∷ [])) → OnOk res ((bytes : List ℕ) × IsEncoded e bytes × (new ≡ old ++ (encode_upper bytes ++ 10 ∷ [])))
+in_digits (Ok x) e old items new start from (added, is, all) h = (added, is, rw (all, take_at old added start (sym from), drop_at old added start (sym from)) at h)
+in_digits (Err x) e old items new start from added h = tt
+
+pub gone_again : {T E : Type 0} (res : Result T E) (e : EntryValue) (old items new : List ℕ) (start : ℕ) → start ≡ length old → (added : List ℕ) × IsEncoded e added × (items ≡ old ++ added) → OnErr res (new ≡ take start items) → OnErr res (new ≡ old)
+gone_again (Ok x) e old items new start from added h = tt
+gone_again (Err x) e old items new start from (added, is, all) h = rw (all, take_at old added start (sym from)) at h

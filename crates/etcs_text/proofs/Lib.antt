@@ -1,5 +1,6 @@
 pub mod Encoding
 pub mod FrameLines
+pub mod HexDigits
 pub mod JsonExamples
 pub mod MessageExamples
 pub mod MessageTexts

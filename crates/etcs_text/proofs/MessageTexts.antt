@@ -1,25 +1,21 @@
 -- The text of a message, part by part.
-use Rattle.std.proofs.Common.{◌≡◌, ℕ, zero, suc, ◌+◌, ◌*◌, ◌/◌, ◌^◌, ◌<◌, ◌≤◌, Bool, List, [], ◌∷◌, ◌++◌, length, take, drop, get_or, flat_map, Some, None, Result, Ok, Err, refl, sym, ap, ◌∙◌, arith, append_assoc}
-use Rattle.std.specs.Prelude.{◌-◌, All, OnOk, codes, if◌then◌else◌, nat_le}
-use Rattle.std.proofs.lemmas.List.{drop_at, length-append, take-append-drop, take_all, take_at}
-use Rattle.std.proofs.lemmas.List.Elements.{All-drop, All-get_or, All-take}
+use Rattle.std.proofs.Common.{◌≡◌, ℕ, ◌+◌, ◌/◌, ◌^◌, ◌≤◌, Bool, List, [], ◌∷◌, ◌++◌, length, flat_map, Some, None, Result, Ok, Err, refl, sym, ap, ◌∙◌, arith, append_assoc}
+use Rattle.std.specs.Prelude.{◌-◌, OnOk, codes, if◌then◌else◌, nat_le}
+use Rattle.std.proofs.lemmas.List.{take_all}
 use Rattle.etcs_bits.specs.Bits.{num, bits, part}
-use Rattle.etcs_bits.proofs.ByteBits.{bits-drop, bits-part}
+use Rattle.etcs_bits.proofs.ByteBits.{bits-part}
 use Rattle.etcs_bits.proofs.Lists.{part-append_right}
 use Rattle.etcs_bits.proofs.Numbers.{length-num, num-add}
-use Rattle.etcs_bits.proofs.Owned.{bits-take, bits_same}
 use Rattle.etcs_bits.proofs.Positions.{length-bits}
 use Rattle.etcs_bits.proofs.Views.{part_inside}
-use Rattle.etcs_vars.specs.Reading.{Reading, spelled}
+use Rattle.etcs_vars.specs.Reading.{Reading}
 use Rattle.etcs_tables.specs.declared.row.Way.{Way}
 use Rattle.etcs_packets.specs.PacketValues.{Form}
 use Rattle.etcs_messages.specs.declared.message.Content.{Content}
 use Rattle.etcs_messages.specs.declared.message.Content.TheVariants.{Typed, Kept}
 use Rattle.etcs_messages.specs.Kinds.{HeadOf, OwnOf}
-use Rattle.etcs_messages.specs.Messages.{MessageValue, MessageReads, all_bits, head_reading, message_value, padding_room, values_of}
+use Rattle.etcs_messages.specs.Messages.{all_bits, head_reading, message_value, padding_room, values_of}
 use Rattle.etcs_messages.specs.Readings.{bytes_of, front_reading, kept_of, packets_of, padding_bits_of, padding_of}
-use Rattle.etcs_text.specs.Encodings.{IsEncoded}
-use Rattle.etcs_text.specs.Entries.{of_message}
 use Rattle.etcs_text.specs.Messages.{message_bits, message_bytes, message_line, front_variables, behind_lines, message_text}
 use Rattle.etcs_text.specs.Packets.{packets_text}
 use Rattle.etcs_text.specs.Show.{variable_line, bits_line}
@@ -80,40 +76,6 @@ module _ {H B P : Type 0} (way : Way) (k : HeadOf H) (o : OwnOf B) (form : P →
   pub text_ok : {T E : Type 0} (r : Result T E) (m : Content H B P) (item bits : ℕ) (old one two three : List ℕ) → bits ≡ message_bits way (message_value way k o form m) → one ≡ old ++ message_line way bits item → two ≡ one ++ flat_map variable_line (front_reading way k o form m) → OnOk r (three ≡ two ++ behind_lines way (message_value way k o form m)) → OnOk r (three ≡ old ++ message_text way (message_value way k o form m) item)
   text_ok (Ok x) m item bits old one two three long e f g = text_is m item bits old one two three long e f g
   text_ok (Err x) m item bits old one two three long e f g = tt
-
--- ---- The encoding.
-
-pub message_encoded : (way : Way) (m : MessageValue) (old new : List ℕ) (r : Reading) → old ≡ [] → MessageReads way m r → bits new ≡ bits old ++ spelled r → All (λ b. b < 256) new → IsEncoded (of_message way m) new
-unfolding bits
-message_encoded way m old new r none reads is small = record {
-  reading = r;
-  reads = reads;
-  small = small;
-  bits_are = is ∙ ap (λ (z : List ℕ). bits z ++ spelled r) none;
-}
-
-all_small : (xs : List ℕ) → All (λ b. b < 256) xs → (i : ℕ) → get_or xs i 0 < 2 ^ 8
-all_small [] h i = omega arith
-all_small (x ∷ xs) h zero = All-get_or (λ b. b < 256) (x ∷ xs) 0 0 (omega arith) h
-all_small (x ∷ xs) h (suc i) = all_small xs (All-drop (λ b. b < 256) 1 (x ∷ xs) h) i
-
--- bytes after others
-appended : (way : Way) (m : MessageValue) (old new : List ℕ) (r : Reading) → All (λ b. b < 256) old → All (λ b. b < 256) new → MessageReads way m r → bits new ≡ bits old ++ spelled r → (added : List ℕ) × IsEncoded (of_message way m) added × (new ≡ old ++ added)
-appended way m old new r hold hnew reads is =
-    let n = length old in
-    let all : length (bits new) ≡ length (bits old) + length (spelled r) = ap (λ (b : List Bool). length b) is ∙ length-append (bits old) (spelled r) in
-    let inside : n ≤ length new = omega (arith, all, length-bits new, length-bits old) in
-    let front : bits (take n new) ≡ bits old = bits-take new n inside ∙ ap (λ (b : List Bool). take (8 * n) b) is ∙ take_at (bits old) (spelled r) (8 * n) (length-bits old) in
-    let behind : bits (drop n new) ≡ spelled r = bits-drop new n ∙ ap (λ (b : List Bool). drop (8 * n) b) is ∙ drop_at (bits old) (spelled r) (8 * n) (length-bits old) in
-    let same : take n new ≡ old = bits_same (take n new) old (all_small (take n new) (All-take (λ b. b < 256) n new hnew)) (all_small old hold) front in (
-      drop n new,
-      record { reading = r; reads = reads; small = All-drop (λ b. b < 256) n new hnew; bits_are = behind },
-      sym (take-append-drop n new) ∙ ap (λ (z : List ℕ). z ++ drop n new) same,
-    )
-
-pub appended_ok : {T E : Type 0} (res : Result T E) (way : Way) (m : MessageValue) (old new : List ℕ) → All (λ b. b < 256) old → All (λ b. b < 256) new → OnOk res ((r : Reading) × MessageReads way m r × (bits new ≡ bits old ++ spelled r)) → OnOk res ((added : List ℕ) × IsEncoded (of_message way m) added × (new ≡ old ++ added))
-appended_ok (Ok x) way m old new hold hnew (r, reads, is) = appended way m old new r hold hnew reads is
-appended_ok (Err x) way m old new hold hnew h = tt
 
 -- ---- PADDING.
 

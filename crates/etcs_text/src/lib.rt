@@ -1,6 +1,7 @@
 //! The text of the items of an input: of each a line for itself, one for each variable, and one for kept bits.
 #![tactic(auto, using(crate::specs::laws::Fronts::begins_more))]
 
+mod digits;
 mod entry;
 mod fronts;
 mod json_lines;

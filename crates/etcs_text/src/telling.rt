@@ -1,6 +1,6 @@
 //! The encoding of an item, and the line that says that it was accepted.
 
-ghost use Rattle.std.specs.Prelude.{◌≡◌, ◌++◌, ◌<◌, ◌≤◌, ◌∷◌, All, ℕ, List, [], IfOk, OnErr, OnOk, codes, length, take};
+ghost use Rattle.std.specs.Prelude.{◌≡◌, ◌++◌, ◌<◌, ◌∷◌, All, ℕ, List, [], OnErr, OnOk, codes};
 ghost use Rattle.std.specs.Fmt.{decimal};
 ghost use Rattle.hex.specs.Hex.{encode_upper};
 ghost use Rattle.etcs_messages.specs.Messages.{message_value};
@@ -10,13 +10,14 @@ ghost use Rattle.etcs_text.specs.Fronts.{Begins};
 ghost use Rattle.etcs_text.specs.Encodings.{IsEncoded, check_line};
 ghost use Rattle.etcs_text.specs.Messages.{message_bits};
 
+use crate::digits::to_digits;
 use crate::entry::Entry;
 use crate::messages::message_bits;
 use crate::text::{write_decimal, write_item_number};
 use etcs_messages::{Head, MessageOf, Own};
 use etcs_packets::parts::AnyPacket;
 use etcs_telegram::{Size, Telegram};
-use std::alloc::{AllocError, Global};
+use std::alloc::AllocError;
 
 /// What follows the number in the line that says that a telegram was accepted.
 fn accepted(size: Size) -> &'static [u8]
@@ -80,16 +81,6 @@ fn are_bytes(bytes: &[u8])
     let _ = bytes;
 }
 
-/// The telegram's encoding.
-fn encode_telegram(telegram: &Telegram, alloc: Global) -> Result<Vec<u8>, AllocError>
-    ensures { IfOk result (λ bytes. IsEncoded (of_telegram (telegram_value telegram.now)) bytes.items) }
-{
-    let mut bytes = Vec::new(alloc);
-    telegram.encode(&mut bytes)?;
-    are_bytes(bytes.as_slice());
-    Ok(bytes)
-}
-
 /// Appends the telegram's encoding, or nothing.
 fn append_telegram(telegram: &Telegram, out: &mut Vec<u8>) -> Result<(), AllocError>
     ensures ok { OnOk result ((added : List ℕ) × IsEncoded (of_telegram (telegram_value telegram.now)) added × (out.new.items ≡ out.old.items ++ added)) }
@@ -99,19 +90,6 @@ fn append_telegram(telegram: &Telegram, out: &mut Vec<u8>) -> Result<(), AllocEr
     let appended = telegram.encode(out);
     are_bytes(out.as_slice());
     appended
-}
-
-/// The message's encoding.
-fn encode_message<H: Head, B: Own<Front = H>>(
-    message: &MessageOf<H, B>,
-    alloc: Global,
-) -> Result<Vec<u8>, AllocError>
-    ensures { IfOk result (λ bytes. IsEncoded (of_message H.Packet.WAY (message_value H.Packet.WAY H.head B.own H.Packet.form message.now)) bytes.items) }
-{
-    let mut bytes = Vec::new(alloc);
-    message.encode(&mut bytes)?;
-    are_bytes(bytes.as_slice());
-    Ok(bytes)
 }
 
 /// Appends the message's encoding, or nothing.
@@ -144,28 +122,6 @@ pub fn encoded(entry: &Entry, out: &mut Vec<u8>) -> Result<(), AllocError>
     }
 }
 
-/// Appends bytes as upper case digits and a LF, or nothing.
-fn write_digits(bytes: &[u8], out: &mut Vec<u8>) -> Result<(), AllocError>
-    ensures ok { OnOk result (out.new.items ≡ out.old.items ++ (encode_upper bytes.now ++ 10 ∷ [])) }
-    ensures err { OnErr result (out.new.items ≡ out.old.items) }
-{
-    let mut text = hex::encode_upper(*out.allocator(), bytes)?;
-    text.push('\n')?;
-    out.extend_from_slice(text.as_bytes())
-}
-
-/// Appends the message's encoding in upper case digits and a LF, or nothing.
-fn write_message_digits<H: Head, B: Own<Front = H>>(
-    message: &MessageOf<H, B>,
-    out: &mut Vec<u8>,
-) -> Result<(), AllocError>
-    ensures ok { OnOk result ((bytes : List ℕ) × IsEncoded (of_message H.Packet.WAY (message_value H.Packet.WAY H.head B.own H.Packet.form message.now)) bytes × (out.new.items ≡ out.old.items ++ (encode_upper bytes ++ 10 ∷ []))) }
-    ensures err { OnErr result (out.new.items ≡ out.old.items) }
-{
-    let bytes = encode_message(message, *out.allocator())?;
-    write_digits(bytes.as_slice(), out)
-}
-
 /// Appends the entry's encoding in upper case hexadecimal digits and a LF.
 ///
 /// # Errors
@@ -175,12 +131,7 @@ pub fn hex_line(entry: &Entry, out: &mut Vec<u8>) -> Result<(), AllocError>
     ensures ok { OnOk result ((bytes : List ℕ) × IsEncoded (entry_value entry.now) bytes × (out.new.items ≡ out.old.items ++ (encode_upper bytes ++ 10 ∷ []))) }
     ensures err { OnErr result (out.new.items ≡ out.old.items) }
 {
-    match entry {
-        Entry::Telegram(telegram) => {
-            let bytes = encode_telegram(telegram, *out.allocator())?;
-            write_digits(bytes.as_slice(), out)
-        }
-        Entry::Message(message) => write_message_digits(message, out),
-        Entry::Train(message) => write_message_digits(message, out),
-    }
+    let start = out.len();
+    encoded(entry, out)?;
+    to_digits(out, start)
 }

@@ -1,8 +1,9 @@
 -- Known bytes that are read or written one text after another.
-use Rattle.std.proofs.Common.{◌≡◌, ℕ, zero, suc, ◌+◌, ◌-◌, List, [], ◌∷◌, ◌++◌, Option, Some, None, Ok, length, take, drop, refl, sym, ap, subst, ◌∙◌, append_assoc, length-drop}
+use Rattle.std.proofs.Common.{◌≡◌, ℕ, zero, suc, ◌+◌, ◌-◌, ◌<◌, List, [], ◌∷◌, ◌++◌, Option, Some, None, Result, Ok, Err, length, take, drop, refl, sym, ap, subst, ◌∙◌, append_assoc, length-append, length-drop, arith}
 use Rattle.std.proofs.Math.Seq.{take-add}
-use Rattle.std.proofs.lemmas.List.{append-nil, take_rest}
-use Rattle.std.specs.Io.KnownBytes.{Appends, Consumes, Keeps}
+use Rattle.std.proofs.lemmas.List.{append-nil, take_rest, take-append-le}
+use Rattle.std.specs.Io.{ReadsAtMost}
+use Rattle.std.specs.Io.KnownBytes.{Appends, Consumes, Keeps, ReadConsumes}
 use Rattle.etcs_stream.specs.Ends.{failed_writes}
 
 pub Appends-none : (u : Option (List ℕ)) → Appends u u []
@@ -49,6 +50,15 @@ pub Consumes-end : (u v w : Option (List ℕ)) (a buffer : List ℕ) (n : ℕ) �
 Consumes-end u v w a buffer n e x y =
     let none : take n buffer ≡ [] = ap (λ k. take k buffer) e in
     subst (λ z. Consumes u w z) (ap (λ (z : List ℕ). a ++ z) none ∙ append-nil a) (Consumes-then u v w a (take n buffer) x y)
+
+-- a read to the front of a buffer is one to the whole buffer
+pub front_bound : {E : Type 0} (r : Result ℕ E) (front rest : List ℕ) → ReadsAtMost r front → ReadsAtMost r (front ++ rest)
+front_bound (Ok n) front rest h = (omega (arith, h.0, length-append front rest), h.1 ∙ ap length (sym (take-append-le n front rest h.0)))
+front_bound (Err e) front rest h = tt
+
+pub front_consumes : {E : Type 0} (u v : Option (List ℕ)) (r : Result ℕ E) (front rest : List ℕ) → 0 < length front → ReadsAtMost r front → ReadConsumes u v r front → ReadConsumes u v r (front ++ rest)
+front_consumes u v (Ok n) front rest some h read = (subst (Consumes u v) (sym (take-append-le n front rest h.0)) read.0, λ none _. read.1 none some)
+front_consumes u v (Err e) front rest some h read = read
 
 pub length-rest : (text : List ℕ) (at : ℕ) → length (take (length text - at) (drop at text)) ≡ length text - at
 length-rest text at = ap length (take_rest text at) ∙ length-drop at text

@@ -1,8 +1,9 @@
 //! Bytes from a source through an engine to a sink.
 
-ghost use Rattle.std.specs.Prelude.{◌≡◌, ◌+◌, ◌*◌, ◌%◌, ◌^◌, ◌<◌, ◌≤◌, ◌⊎◌, ◌++◌, ℕ, List, [], length, take, Err, IfOk, IfErr, OnErr, OnOk};
-ghost use Rattle.std.specs.Io.KnownBytes.{Appends, Consumes, IsAtEnd};
-ghost use Rattle.etcs_stream.specs.Ends.{FailedBy, FlushedOnlyWhere};
+ghost use Rattle.std.specs.Prelude.{◌≡◌, ◌+◌, ◌-◌, ◌*◌, ◌%◌, ◌^◌, ◌<◌, ◌≤◌, ◌⊎◌, ◌++◌, ℕ, List, [], length, take, Err, IfOk, IfErr, OnErr, OnOk};
+ghost use Rattle.std.specs.Io.{ReadsAtMost};
+ghost use Rattle.std.specs.Io.KnownBytes.{Appends, Consumes, IsAtEnd, ReadConsumes};
+ghost use Rattle.etcs_stream.specs.Ends.{FailedBy, FlushedOnlyWhere, failed_calls};
 ghost use Rattle.etcs_stream.specs.declared.fault.RunFault.{RunFault};
 ghost use Rattle.etcs_stream.specs.Faults.{IsOfEngine};
 ghost use Rattle.etcs_stream.specs.Engines.{Tells, Ends, EndsWhole, Stops, StopsAtEnd, StarvesIn, Prints};
@@ -101,6 +102,25 @@ fn close<E: Engine, W: Sink>(
     }
 }
 
+/// Reads as many bytes as the engine wants to the front of the buffer.
+#[inline(always)]
+fn read_wanted<E: Engine, S: Source>(
+    engine: &E,
+    source: &mut S,
+    buffer: &mut [u8],
+) -> Result<usize, Failed>
+    requires room { length buffer.old ≡ 4096 }
+    requires more_reads { S.reads source.old < 2 ^ 64 - 1 }
+    requires more_failures { S.failures source.old < 2 ^ 64 - 1 }
+    ensures bound { ReadsAtMost result buffer.new }
+    ensures bytes { ReadConsumes (S.remaining source.old) (S.remaining source.new) result buffer.new }
+    ensures counted { S.reads source.new ≡ S.reads source.old + 1 }
+    ensures failed { S.failures source.new ≡ S.failures source.old + failed_calls result }
+{
+    let wanted = engine.wanted();
+    source.read(&mut buffer[..wanted])
+}
+
 /// Runs an engine over the whole input.
 pub(crate) fn run_engine<E: Engine, S: Source, W: Sink>(
     engine: &mut E,
@@ -129,8 +149,7 @@ pub(crate) fn run_engine<E: Engine, S: Source, W: Sink>(
     let mut buffer = [0u8; MOST_READ];
     let mut sent = 0u64;
     for _ in 0..MOST_READS {
-        let wanted = engine.wanted();
-        let count = match source.read(&mut buffer[..wanted]) {
+        let count = match read_wanted(engine, source, &mut buffer) {
             Ok(count) => count,
             Err(Failed) => return Err(RunFault::Read),
         };

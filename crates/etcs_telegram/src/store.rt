@@ -49,7 +49,7 @@ impl PacketStore for TelegramStore {
         self.list.kept(nid, dir)
     }
 
-    #[inline]
+    #[inline(always)]
     fn whole(&mut self, nid: u8, dir: u8, body: BitSlice<'_>) -> Result<bool, AllocError> {
         self.list.whole(nid, dir, body)
     }

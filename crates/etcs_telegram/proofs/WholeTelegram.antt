@@ -17,7 +17,7 @@ use Rattle.etcs_telegram.specs.Telegrams.{HeaderValue, IsTelegram, IsAdmitted, R
 use Rattle.etcs_telegram.specs.Headers.{IsHeaderNumbers}
 use Rattle.etcs_telegram.specs.Fronts.{FieldsIn}
 use Rattle.etcs_telegram.specs.Writing.{telegram_reading}
-use Rattle.etcs_telegram.proofs.Encoding.{room_more, whole_bytes, telegram_parts, telegram_reads}
+use Rattle.etcs_telegram.proofs.Encoding.{room_more, user_small, whole_bytes, telegram_parts, telegram_reads}
 use Rattle.etcs_telegram.proofs.FrontSteps.{fields_count, fields_read, fields_bits}
 use Rattle.etcs_telegram.proofs.Rows.{row_header, admitted_row}
 use Rattle.etcs_telegram.proofs.Spellings.{held}
@@ -59,55 +59,51 @@ four_parts xs a b c d second third all e f g =
 pub container_inside : (size : Size) (piece : List ℕ) → container_bytes size ≤ length piece → user_bits size + pad_bits size ≤ length (bits piece)
 container_inside size piece h = omega (arith, h, length-bits piece, whole_bytes size)
 
-module _ (size : Size) (xs : List Bool) (left : ℕ) (H : Holds) (long : user_bits size + pad_bits size ≤ length xs) (run : RunAt carrier.Telegram (packet_room size) H xs 50 left) where
-  pub fill_room : left ≤ user_bits size
-  fill_room = omega (arith, run.within, room_more size)
+-- packets in their room, of which so many bits are left, and the bits of FILL behind them
+module _ (size : Size) (piece : List ℕ) (left room user : ℕ) (H : Holds) (long : container_bytes size ≤ length piece) (room_is : room ≡ packet_room size) (user_is : user ≡ user_bits size) (run : RunAt carrier.Telegram room H (bits piece) 50 left) (fill : List Bool) (fill_is : fill ≡ part (user - left) left (bits piece)) where
+  fill_long : length fill ≡ left
+  fill_long =
+      let inside : (user - left) + left ≤ length (bits piece) = omega (arith, run.within, room_is, user_is, room_more size, container_inside size piece long) in
+      ap length fill_is ∙ length-part (user - left) left (bits piece) inside
 
-  pub fill_inside : (user_bits size - left) + left ≤ length xs
-  fill_inside = omega (arith, fill_room, long)
+  pub fill_fits : 0 + length fill ≤ 8191
+  fill_fits = omega (arith, fill_long, run.within, room_is, room_more size, user_small size)
 
-  pub fill_long : length (part (user_bits size - left) left xs) ≡ left
-  fill_long = length-part (user_bits size - left) left xs fill_inside
-
-  module _ (header : HeaderValue) (ps : List Packet) (f : List ℕ) (k : List Bool) (kept : list_holds form ps f k run.packets [] (part (user_bits size - left) left xs)) where
-    fill_is : part (user_bits size - left) left xs ≡ k
-    fill_is = kept.1.1.1
-
+  module _ (header : HeaderValue) (ps : List Packet) (f : List ℕ) (k : List Bool) (kept : list_holds form ps f k run.packets [] fill) where
     carried : All IsPacket run.packets
     carried = λ i d lt. run.run.carried i d lt
 
     pub whole_value : IsAdmitted (header_reading header) → IsTelegram (held size header ps k)
     whole_value admitted =
-        let size_of : length k ≡ left = ap length (sym fill_is) ∙ fill_long in
-        let run_long : length (spelled (closed_reading run.packets)) + left ≡ packet_room size = run.long in
+        let size_of : length k ≡ left = ap length (sym kept.1.1.1) ∙ fill_long in
+        let run_long : length (spelled (closed_reading run.packets)) + left ≡ room = run.long in
         let closed : length (spelled (closed_reading run.packets)) ≡ length (spelled (closed_reading (map packet_value ps))) = ap (λ (vs : List PacketValue). length (spelled (closed_reading vs))) kept.0 in
         record {
           header = admitted;
           made = kept.1.0;
           packets = subst (All IsPacket) kept.0 carried;
-          fill = omega (arith, run_long, room_more size, size_of, closed);
+          fill = omega (arith, run_long, room_is, room_more size, size_of, closed);
         }
 
-    pub whole_reads : (pad : ℕ) → IsAdmitted (header_reading header) → spelled (header_reading header) ≡ part 0 50 xs → pad ≡ 0 → num (pad_bits size) pad ≡ part (user_bits size) (pad_bits size) xs → (r : Reading) × ReadsAs size (telegram_value (held size header ps k)) r × (spelled r ≡ part 0 (8 * container_bytes size) xs)
+    pub whole_reads : (pad : ℕ) → IsAdmitted (header_reading header) → spelled (header_reading header) ≡ part 0 50 (bits piece) → pad ≡ 0 → num (pad_bits size) pad ≡ part (user_bits size) (pad_bits size) (bits piece) → (r : Reading) × ReadsAs size (telegram_value (held size header ps k)) r × (spelled r ≡ part 0 (8 * container_bytes size) (bits piece))
     whole_reads pad admitted front none zeros =
         let t = telegram_value (held size header ps k) in
-        let room = packet_room size in
+        let xs = bits piece in
         let p0 = part 0 50 xs in
         let p1 = part 50 (room - left) xs in
-        let p2 = part (user_bits size - left) left xs in
+        let p2 = part (user - left) left xs in
         let p3 = part (user_bits size) (pad_bits size) xs in
         let c = spelled (closed_reading t.packets) in
         let closed : c ≡ p1 = ap (λ (vs : List PacketValue). spelled (closed_reading vs)) (sym kept.0) ∙ run.bits in
         let last : num (pad_bits size) 0 ≡ p3 = ap (λ (n : ℕ). num (pad_bits size) n) (sym none) ∙ zeros in
-        let second : user_bits size - left ≡ 50 + (room - left) = omega (arith, run.within, room_more size) in
-        let third : user_bits size ≡ user_bits size - left + left = omega (arith, fill_room) in
-        let all : 8 * container_bytes size ≡ user_bits size + pad_bits size = sym (whole_bytes size) in (
+        let second : user - left ≡ 50 + (room - left) = omega (arith, run.within, room_is, user_is, room_more size) in
+        let third : user_bits size ≡ user - left + left = omega (arith, run.within, room_is, user_is, room_more size) in (
           telegram_reading t,
           (refl, telegram_reads (held size header ps k) (whole_value admitted)),
           telegram_parts t
               ∙ ap (λ (b : List Bool). ((b ++ c) ++ k) ++ num (pad_bits size) 0) front
               ∙ ap (λ (b : List Bool). ((p0 ++ b) ++ k) ++ num (pad_bits size) 0) closed
-              ∙ ap (λ (b : List Bool). ((p0 ++ p1) ++ b) ++ num (pad_bits size) 0) (sym fill_is)
+              ∙ ap (λ (b : List Bool). ((p0 ++ p1) ++ b) ++ num (pad_bits size) 0) (sym kept.1.1.1 ∙ fill_is)
               ∙ ap (λ (b : List Bool). ((p0 ++ p1) ++ p2) ++ b) last
-              ∙ sym (four_parts xs 50 (room - left) left (pad_bits size) (user_bits size - left) (user_bits size) (8 * container_bytes size) second third all),
+              ∙ sym (four_parts xs 50 (room - left) left (pad_bits size) (user - left) (user_bits size) (8 * container_bytes size) second third (sym (whole_bytes size))),
         )

@@ -25,7 +25,9 @@ pub(crate) fn telegram_at(alloc: Global, size: Size, piece: &[u8]) -> Option<Tel
     ensures value { IfSome result (λ t. IsTelegram t) }
     ensures reads { IfSome result (λ t. (r : Reading) × ReadsAs size (telegram_value t) r × (spelled r ≡ part 0 (8 * container_bytes size) (bits piece.now))) }
 {
-    if piece.len() < size.container_bytes() || number_at(piece, size.user_bits(), size.pad_bits()) > 0 {
+    if piece.len() < size.container_bytes()
+        || number_at(piece, size.user_bits(), size.pad_bits()) > 0
+    {
         return None;
     }
     let header = header_at_front(piece)?;

@@ -1,6 +1,6 @@
 //! Writing messages.
 
-ghost use Rattle.std.specs.Prelude.{◌≡◌, ◌++◌, OnOk, OnErr};
+ghost use Rattle.std.specs.Prelude.{◌≡◌, ◌<◌, [], ◌++◌, OnOk, OnErr};
 ghost use Rattle.etcs_bits.specs.Bits.{bits};
 ghost use Rattle.etcs_vars.specs.Reading.{Reading, spelled};
 ghost use Rattle.etcs_packets.specs.WordSinks.{and_bits};
@@ -32,13 +32,15 @@ impl<H: Head, B: Own<Front = H>> MessageOf<H, B> {
     }
 }
 
-/// Puts a message of this many bytes after other bits.
+/// Puts a message of this many bytes after whole bytes.
 fn append_message<H: Head, B: Own<Front = H>>(
     message: &MessageOf<H, B>,
     bytes: usize,
     out: &mut WordSink,
 ) -> Result<(), AllocError>
-    requires { bytes ≡ bytes_of H.Packet.WAY B.own H.Packet.form message.now }
+    requires bytes { bytes ≡ bytes_of H.Packet.WAY B.own H.Packet.form message.now }
+    requires small { bytes < 1024 }
+    requires none { out.old.behind ≡ [] }
     ensures ok { OnOk result (out.new ≡ and_bits out.old (spelled (message_reading H.Packet.WAY H.head B.own H.Packet.form message.now))) }
     ensures err { OnErr result (out.new.first ≡ out.old.first) }
 {

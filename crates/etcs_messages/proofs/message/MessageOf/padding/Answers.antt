@@ -6,6 +6,6 @@ use Rattle.etcs_messages.proofs.message.MessageOf.padding.Goals as goal
 pub left_behind-requires : goal.left_behind-requires
 left_behind-requires g c =
     let t = c.in-Typed in
-    let typed : IsTyped g.H.Packet.AnyPacket.WAY g.H.Head.head g.B.Own.own g.H.Packet.AnyPacket.form t.head t.body t.packets t.padding = subst (IsMessage g.H.Packet.AnyPacket.WAY g.H.Head.head g.B.Own.own g.H.Packet.AnyPacket.form) t.is c.self.invariant in
+    let typed : IsTyped g.H.Packet.AnyPacket.WAY g.H.Head.head g.B.Own.own g.H.Packet.AnyPacket.form t.head t.body t.packets t.padding = subst (IsMessage g.H.Packet.AnyPacket.WAY g.H.Head.head g.B.Own.own g.H.Packet.AnyPacket.form) t.is c.self.invariant.0 in
     let short = (faultless g.H.Packet.AnyPacket.WAY g.H.Head.head g.B.Own.own g.H.Packet.AnyPacket.form t.head t.body t.packets t.padding typed.no_fault).short in
     rw c.as_slice.ensures short

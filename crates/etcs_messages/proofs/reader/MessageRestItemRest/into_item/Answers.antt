@@ -15,6 +15,17 @@ content_of-content-requires g c =
     let numbers = whole_numbers g.H.Packet.AnyPacket.WAY g.H.Head.head g.B.Own.own g.H.Packet.AnyPacket.form g.met.H.Head.laws g.met.B.Own.laws s.nid s.phase s.front.items s.packets.left list s.padding (length s.front.items) s.stands c.requires.ended c.requires.whole held in
     rw c.as_slice.ensures.value numbers
 
+pub bytes_in-bytes-requires : goal.bytes_in-bytes-requires
+bytes_in-bytes-requires g c =
+    let s = c.args.self in
+    let list = g.H.Store.ListStore.list s.packets.store in
+    let held = in_list g.H.Packet.AnyPacket.form list (g.H.Store.PacketStore.holds s.packets.store) (g.met.H.Store.ListStore.listed s.packets.store) g.H.Packet.AnyPacket.WAY s.nid s.phase s.front.items s.packets.left s.padding _ c.requires.holds in
+    let is : c.content_of-content.result ≡ content_by g.H.Packet.AnyPacket.WAY g.H.Head.head g.B.Own.own (front_row g.H.Packet.AnyPacket.WAY s.nid) s.nid s.front.items list.packets.items list.bits s.padding =
+    c.content_of-content.ensures
+    ∙ ap (λ (front : List ℕ). content_by g.H.Packet.AnyPacket.WAY g.H.Head.head g.B.Own.own (front_row g.H.Packet.AnyPacket.WAY s.nid) s.nid front c.into_list-store.result.packets.items c.into_list-store.result.bits s.padding) c.as_slice.ensures.value
+    ∙ ap (λ (l : PacketList _). content_by g.H.Packet.AnyPacket.WAY g.H.Head.head g.B.Own.own (front_row g.H.Packet.AnyPacket.WAY s.nid) s.nid s.front.items l.packets.items l.bits s.padding) c.into_list-store.ensures in
+    subst (IsMessage g.H.Packet.AnyPacket.WAY g.H.Head.head g.B.Own.own g.H.Packet.AnyPacket.form) (sym is) (whole_reads g.H.Packet.AnyPacket.WAY g.H.Head.head g.B.Own.own g.H.Packet.AnyPacket.form g.met.H.Head.laws g.met.B.Own.laws s.nid s.phase s.front.items s.packets.left list s.padding (length s.front.items) s.stands c.requires.ended c.requires.whole held).0
+
 pub invariant_of-result : goal.invariant_of-result
 invariant_of-result g c =
     let s = c.args.self in
@@ -24,4 +35,4 @@ invariant_of-result g c =
     c.content_of-content.ensures
     ∙ ap (λ (front : List ℕ). content_by g.H.Packet.AnyPacket.WAY g.H.Head.head g.B.Own.own (front_row g.H.Packet.AnyPacket.WAY s.nid) s.nid front c.into_list-store.result.packets.items c.into_list-store.result.bits s.padding) c.as_slice.ensures.value
     ∙ ap (λ (l : PacketList _). content_by g.H.Packet.AnyPacket.WAY g.H.Head.head g.B.Own.own (front_row g.H.Packet.AnyPacket.WAY s.nid) s.nid s.front.items l.packets.items l.bits s.padding) c.into_list-store.ensures in
-    subst (IsMessage g.H.Packet.AnyPacket.WAY g.H.Head.head g.B.Own.own g.H.Packet.AnyPacket.form) (sym is) (whole_reads g.H.Packet.AnyPacket.WAY g.H.Head.head g.B.Own.own g.H.Packet.AnyPacket.form g.met.H.Head.laws g.met.B.Own.laws s.nid s.phase s.front.items s.packets.left list s.padding (length s.front.items) s.stands c.requires.ended c.requires.whole held).0
+    (subst (IsMessage g.H.Packet.AnyPacket.WAY g.H.Head.head g.B.Own.own g.H.Packet.AnyPacket.form) (sym is) (whole_reads g.H.Packet.AnyPacket.WAY g.H.Head.head g.B.Own.own g.H.Packet.AnyPacket.form g.met.H.Head.laws g.met.B.Own.laws s.nid s.phase s.front.items s.packets.left list s.padding (length s.front.items) s.stands c.requires.ended c.requires.whole held).0, c.bytes_in-bytes.ensures)

@@ -80,7 +80,7 @@ few_are (Some vs) own h e =
     let both = and_parts (leb (widths vs) 32) (leb (length vs) 2) h in
     rw (← same) (leb-true (widths vs) 32 both.0, leb-true (length vs) 2 both.1)
 
-own_few : (way : Way) (n : ℕ) (own : List Var) → own_row way n ≡ Some own → (widths own ≤ 32) × (length own ≤ 2)
+pub own_few : (way : Way) (n : ℕ) (own : List Var) → own_row way n ≡ Some own → (widths own ≤ 32) × (length own ≤ 2)
 own_few way n own e =
     option_and_then_some variables (message_row_to way n) own e
     (λ row is its. few_are (variables row) own (row_few way n row is) its)
@@ -145,7 +145,7 @@ none_asked way {A} f nid e = of (own_row way nid) refl (e ∙ ap (option_map f) 
     of None is same = ap (option_map (front_behind way)) is
     of (Some own) is same = absurd cc
 
-as_items : (own : List Var) → items (as_row own) ≡ map One own
+pub as_items : (own : List Var) → items (as_row own) ≡ map One own
 as_items [] = refl
 as_items (v ∷ own) = ap (λ (table : List RowItem). One v ∷ table) (as_items own)
 

@@ -22,3 +22,5 @@ pub mod OneHolding
 pub mod Wholes
 pub mod RoundTrips
 pub mod Equality
+pub mod FrontsAtOnce
+pub mod MessagesAtOnce

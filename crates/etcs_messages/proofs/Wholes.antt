@@ -47,7 +47,7 @@ no_own : (way : Way) (o : Option (List Var)) → option_map (front_behind way) o
 no_own way None e = refl
 no_own way (Some own) e = absurd cc
 
-row_none : (way : Way) (nid : ℕ) → front_row way nid ≡ None → message_row_to way nid ≡ None
+pub row_none : (way : Way) (nid : ℕ) → front_row way nid ≡ None → message_row_to way nid ≡ None
 row_none way nid e = rows_alike way nid ∙ ap (option_map as_row) (no_own way (own_row way nid) e)
 
 -- ---- A typed message.

@@ -124,7 +124,7 @@ fn typed_at<H: Head, B: Own<Front = H>>(
 /// number. The bits are those of the message in front of its packets.
 #[inline(always)]
 fn front_at<H: Head, B: Own<Front = H>>(nid: u8, bits: BitSlice<'_>) -> Option<(H, B)>
-    requires typed { (vars : List Var) × (front_row H.Packet.WAY nid ≡ Some vars) × (length bits.entry ≡ front_bits vars) }
+    requires typed { (vars : List Var) × (front_row H.Packet.WAY nid ≡ Some vars) × (length bits ≡ front_bits vars) }
     ensures { IfSome result (λ t. (f : List ℕ) × FrontAt (front_vars H.Packet.WAY nid) bits.entry 18 f (length bits.entry) × IsFrontBy H.Packet.WAY H.head B.own nid f t.0 t.1) }
 {
     let mut walker = SliceWalker::new(bits);

@@ -8,8 +8,8 @@ use Rattle.etcs_messages.proofs.SoFar.{far_is, far_long, next_asks}
 use Rattle.etcs_messages.proofs.Wholes.{whole_reads}
 use Rattle.etcs_messages.proofs.reader.ReaderOf.new.Goals as goal
 
-pub new-requires-2-clause-readable : goal.new-requires-2-clause-readable
-new-requires-2-clause-readable g c = record {
+pub new-requires-clause-readable : goal.new-requires-clause-readable
+new-requires-clause-readable g c = record {
   regular = regular g.H.Packet.AnyPacket.WAY;
   some = some_message g.H.Packet.AnyPacket.WAY;
   bytes = message_bytes g.H.Packet.AnyPacket.WAY;

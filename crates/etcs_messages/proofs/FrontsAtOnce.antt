@@ -200,8 +200,7 @@ whole_front way nid vars table xs hs f mid end typed long found h o =
 -- behind NID_MESSAGE and L_MESSAGE
 pub numbers_passed : (xs : List Bool) (w next : SliceWalk) (r : Option ℕ) (n : ℕ) → w ≡ record { bits = xs; place = 0 } → r ≡ number_at w.place 18 w.bits → next ≡ record w { place = if is_some r then w.place + 18 else w.place } → r ≡ Some n → (next ≡ record { bits = xs; place = 18 }) × (18 ≤ length xs)
 numbers_passed xs w next r n first found moved some =
-    let inside : number_at 0 18 xs ≡ Some n = ap (λ (x : SliceWalk). number_at x.place 18 x.bits) (sym first) ∙ sym found ∙ some in
-    (
+    let inside : number_at 0 18 xs ≡ Some n = ap (λ (x : SliceWalk). number_at x.place 18 x.bits) (sym first) ∙ sym found ∙ some in (
       moved ∙ ap (λ (o : Option ℕ). record w { place = if is_some o then w.place + 18 else w.place }) some ∙ ap (λ (x : SliceWalk). record x { place = x.place + 18 }) first,
       found_inside 0 18 n xs inside,
     )

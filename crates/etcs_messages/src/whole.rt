@@ -26,8 +26,10 @@ use etcs_tables::{RowItem, message_row};
 use etcs_vars::Var;
 use std::alloc::Global;
 
-/// The bits of NID_MESSAGE and L_MESSAGE.
+/// The bits of NID_MESSAGE.
 const NUMBER_BITS: usize = 8;
+
+/// The bits of L_MESSAGE.
 const LENGTH_BITS: usize = 10;
 
 /// The message that a piece begins with, and how many bytes it has. `None` says nothing: where the piece begins with none,
@@ -107,7 +109,13 @@ fn typed_at<H: Head, B: Own<Front = H>>(
     }
     let (head, body) = front_at(nid, bits_at(piece, 0, front))?;
     let mut store = H::Store::empty(alloc);
-    let left = take_run(&mut store, Carrier::Message(H::Packet::WAY), end - front, piece, front)?;
+    let left = take_run(
+        &mut store,
+        Carrier::Message(H::Packet::WAY),
+        end - front,
+        piece,
+        front,
+    )?;
     let padding = number_at(piece, end - left, left) as u8;
     Some(MessageOf {
         content: Content::Typed {

@@ -5,7 +5,7 @@ use Rattle.etcs_bits.specs.Bits.{num, part}
 use Rattle.etcs_bits.proofs.Lists.{length-part, part-part, part-add}
 use Rattle.etcs_bits.proofs.Numbers.{length-num}
 use Rattle.etcs_vars.specs.declared.var.Var.{Var}
-use Rattle.etcs_vars.specs.declared.var.Var.TheVariants.{NID_MESSAGE, L_MESSAGE, PADDING, OTHER_DATA}
+use Rattle.etcs_vars.specs.declared.var.Var.TheVariants.{PADDING, OTHER_DATA}
 use Rattle.etcs_vars.specs.Reading.{Reading, spelled, kept}
 use Rattle.etcs_vars.proofs.Walk.{spelled-append}
 use Rattle.etcs_tables.specs.declared.row.Way.{Way}

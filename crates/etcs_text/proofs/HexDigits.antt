@@ -59,6 +59,13 @@ one_before old text new count left some most room front behind written before =
       one_more (take count old) (drop (2 * count) old) text new k (omega (arith, length-take count old)) (rw e at behind) (rw byte at written),
     )
 
+-- one place is left behind the digits
+last_left : (bytes : List ℕ) (count : ℕ) → length bytes ≡ count → drop (2 * count) (bytes ++ replicate (count + 1) 10) ≡ 10 ∷ []
+last_left bytes count few =
+    let place : 2 * count ≡ length bytes + count = omega (arith, few) in
+    let one : count + 1 - count ≡ 1 = omega arith in
+    rw (place, drop-append-add bytes (replicate {A = ℕ} (count + 1) 10) count, drop-replicate {X = ℕ} count (count + 1) 10, one) refl
+
 -- the bytes behind the first ones, as digits with a LF
 pub line_is : (old items slice new : List ℕ) (start count len n : ℕ) → start + count ≡ length old → n ≡ length old → len ≡ start + 2 * count + 1 → items ≡ take (start + 2 * count + 1) old ++ replicate (start + 2 * count + 1 - n) 10 → slice ≡ drop start items → new ≡ encode_upper (take count slice) ++ drop (2 * count) slice → take len (take start items ++ (new ++ drop (length new) (drop start items)) ++ drop (length (take start items ++ (new ++ drop (length new) (drop start items)))) items) ≡ take start old ++ (encode_upper (drop start old) ++ 10 ∷ [])
 line_is old items slice new start count len n all same_length end filled cut written =
@@ -69,9 +76,7 @@ line_is old items slice new start count len n all same_length end filled cut wri
     let items_are : items ≡ old ++ room = filled ∙ ap (λ (xs : List ℕ). xs ++ replicate (start + 2 * count + 1 - n) 10) (take_all (start + 2 * count + 1) old (omega arith)) ∙ ap (λ (n : ℕ). old ++ replicate n 10) left in
     let front : take start items ≡ take start old = ap (take start) items_are ∙ take-append-le start old room (omega arith) in
     let behind : drop start items ≡ bytes ++ room = ap (drop start) items_are ∙ drop-append-le start old room (omega arith) in
-    let place : 2 * count ≡ length bytes + count = omega (arith, few) in
-    let one : count + 1 - count ≡ 1 = omega arith in
-    let last : drop (2 * count) (bytes ++ room) ≡ 10 ∷ [] = ap (λ (n : ℕ). drop n (bytes ++ room)) place ∙ drop-append-add bytes room count ∙ drop-replicate count (count + 1) 10 ∙ ap (λ (n : ℕ). replicate n 10) one in
+    let last : drop (2 * count) (bytes ++ room) ≡ 10 ∷ [] = last_left bytes count few in
     let new_is : new ≡ encode_upper bytes ++ 10 ∷ [] = rw (cut, behind, take_at bytes room count few, last) at written in
     let long : length new ≡ 2 * count + 1 = omega (arith, ap (λ (xs : List ℕ). length xs) new_is, length-append (encode_upper bytes) (10 ∷ []), length-encode_with upper_digits bytes, few) in
     let none : drop (length new) (drop start items) ≡ [] = drop_all (length new) (drop start items) (omega (arith, long, ap (λ (xs : List ℕ). length xs) behind, length-append bytes room, length-replicate {A = ℕ} (count + 1) 10, few)) in

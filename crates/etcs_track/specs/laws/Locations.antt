@@ -1,5 +1,5 @@
 -- Lemmas about specs/Locations.antt.
-use Rattle.std.proofs.Common.{◌≡◌, ℕ, ◌+◌, ◌≤◌, ◌∷◌, ◌++◌, length, Option, Some, None, refl, arith}
+use Rattle.std.proofs.Common.{◌≡◌, ℕ, ◌+◌, ◌≤◌, ◌∷◌, length, Option, Some, None, refl, arith}
 use Rattle.etcs_vars.specs.declared.var.Var.TheVariants.{D_LRBG, Q_DIRLRBG, Q_DLRBG, L_DOUBTOVER, L_DOUBTUNDER, Q_LENGTH, L_TRAININT, V_TRAIN, Q_DIRTRAIN, M_MODE, M_LEVEL, NID_NTC}
 use Rattle.etcs_vars.specs.Reading.{Reading, spelled}
 use Rattle.etcs_tables.specs.declared.item.Test.TheVariants.{IsOne, IsOneOrTwo}
@@ -11,7 +11,7 @@ use Rattle.etcs_bodies.specs.laws.Codecs.{number, both, group_of, form}
 use Rattle.etcs_bodies.specs.laws.Groups.{guarded_is, guarded_none}
 use Rattle.etcs_bodies.specs.Repeats.{bit_count}
 use Rattle.etcs_bodies.specs.laws.Repeats.{bit_count_is, bit_count-append}
-use Rattle.etcs_track.specs.Locations.{integrity_fault, integrity_reading, integrity_from, integrity_count, level_fault, level_reading, level_from, level_count, LocatedValue, located_fault, IsLocated, located_reading, located_from, LocatedFacts}
+use Rattle.etcs_track.specs.Locations.{integrity_fault, integrity_reading, integrity_from, integrity_count, level_fault, level_reading, level_from, level_count, LocatedValue, IsLocated, located_reading, located_from, LocatedFacts}
 
 -- ---- It is what its row spells.
 

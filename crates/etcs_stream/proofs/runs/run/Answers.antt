@@ -47,3 +47,9 @@ returns-in-Json-clause-read g c = rw c.new-handler-in-Json.ensures.job at (rw c.
 
 pub returns-in-Json-clause-memory : goal.returns-in-Json-clause-memory
 returns-in-Json-clause-memory g c = rw c.new-handler-in-Json.ensures.job at (rw c.new-in-Json.ensures.job at c.run_engine-in-Json.ensures.memory)
+
+pub returns-in-Hex-clause-ok : goal.returns-in-Hex-clause-ok
+returns-in-Hex-clause-ok g c = rw c.new-handler.ensures.job at (rw c.new.ensures.job at c.run_engine.ensures.ok)
+
+pub returns-in-Json-clause-ok : goal.returns-in-Json-clause-ok
+returns-in-Json-clause-ok g c = rw c.new-handler-in-Json.ensures.job at (rw c.new-in-Json.ensures.job at c.run_engine-in-Json.ensures.ok)

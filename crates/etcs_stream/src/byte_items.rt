@@ -113,6 +113,7 @@ impl ByteItems {
     }
 
     /// Takes bytes up to the end of an item, which it reports, or all of them, and says how many.
+    #[inline(always)]
     fn take_front(&mut self, bytes: &[u8], text: &mut Vec<u8>) -> Result<usize, RunFault>
         requires some { 0 < length bytes.now }
         requires waits { Awaits self.old.job.kind self.old.reader }

@@ -145,7 +145,7 @@ impl Number for i16 {
 
 // ---- Reading bits.
 
-/// Bits of bytes, and how many were read. There are bytes behind an item too, so a run may reach past its end;
+/// Bits of bytes, and how many were read. There are bytes after an item too, so a run may reach past its end;
 /// whether what was taken lies inside is asked at the end of each packet and of the item.
 struct Bits<'a> {
     bytes: &'a [u8],
@@ -1774,7 +1774,7 @@ const fn digit_values() -> [u8; 256] {
 
 /// The most bytes of a line.
 const LINE: usize = 2048;
-/// What may be read behind an item.
+/// What may be read after an item.
 const SLACK: usize = 16;
 
 /// How far standard input was read.

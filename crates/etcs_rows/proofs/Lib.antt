@@ -18,6 +18,7 @@ pub mod RestLemmas
 pub mod RowLaws
 pub mod RowSums
 pub mod RowWalkLemmas
+pub mod RunLemmas
 pub mod SetLemmas
 pub mod Shifts
 pub mod StepLemmas

@@ -13,6 +13,7 @@ use Rattle.etcs_rows.specs.Places.{first_variable, after_any, after_number, onto
 use Rattle.etcs_rows.specs.Lengths.{FirstWithin, FitsWithin}
 use Rattle.etcs_rows.proofs.Behind.{follows}
 use Rattle.etcs_rows.proofs.RowWalkLemmas.{may_from, may_only}
+use Rattle.etcs_rows.proofs.WholeWalks.{after_one, one_looks}
 use Rattle.etcs_reader.specs.Rests.{Starts, Goes}
 use Rattle.etcs_rows.specs.laws.RestLaws.{head_of}
 
@@ -70,17 +71,26 @@ one_admitted : (v : Var) (rest : Layout) (n : ℕ) (q : Reading) → Reads (one 
 unfolding Reads
 one_admitted v rest n q (m, q', ok, is, reads) = let h = head_of v n m q q' is in rw h.0 at ok
 
-pub row_behind : (row new : Layout) (v : Var) (len number : ℕ) → first_variable row ≡ Some v → IsTrue (looks None row) → after_any row number ≡ Some new → Starts (ReadsIn row len) v 0 number → (width v ≤ len) × (after_number row number ≡ Some new) × Residual (ReadsIn row len) ((v, number) ∷ []) (ReadsIn new (len - width v))
-row_behind whole new v len number f look a s = absurd cc
-row_behind (one w rest) new v len number f look a (n, r, l, e) =
+-- a number that continues is admitted, and there is room for it
+pub row_admits : (row : Layout) (v : Var) (len number : ℕ) → first_variable row ≡ Some v → Starts (ReadsIn row len) v 0 number → (width v ≤ len) × IsTrue (admits v number)
+row_admits whole v len number f s = absurd cc
+row_admits (one w rest) v len number f (n, r, l, e) =
     let same : w ≡ v = cc in
     let whole_is : n ≡ number = (let one_is : n / 2 ^ 0 ≡ n = omega arith in sym one_is ∙ e) in
+    let l' : ReadsIn (one w rest) len ((w, number) ∷ r) = rw whole_is at (subst (λ (u : Var). ReadsIn (one w rest) len ((u, n) ∷ r)) (sym same) l) in
+    let wide : width w ≤ len = omega (arith, l'.1, length-sent w number r) in
+    (subst (λ u. width u ≤ len) same wide, subst (λ u. IsTrue (admits u number)) same (one_admitted w rest number r l'.0))
+row_admits (guarded g group rest) v len number f s = absurd cc
+row_admits (counted group rest) v len number f s = absurd cc
+
+-- what is left after an admitted number for which there is room
+pub row_behind : (row new : Layout) (v : Var) (len number : ℕ) → first_variable row ≡ Some v → IsTrue (looks None row) → after_any row number ≡ Some new → IsTrue (admits v number) → width v ≤ len → (after_number row number ≡ Some new) × Residual (ReadsIn row len) ((v, number) ∷ []) (ReadsIn new (len - width v))
+row_behind whole new v len number f look a ok wide = absurd cc
+row_behind (one w rest) new v len number f look a admitted wide =
+    let same : w ≡ v = cc in
     let is : onto number rest whole ≡ new = cc in
-    let back = λ (m : ℕ) (q : Reading) (h : ReadsIn (one w rest) len ((v, m) ∷ q)). subst (λ (u : Var). ReadsIn (one w rest) len ((u, m) ∷ q)) (sym same) h in
-    let l' : ReadsIn (one w rest) len ((w, number) ∷ r) = rw whole_is at (back n r l) in
-    let ok = one_admitted w rest number r l'.0 in
-    let wide : width w ≤ len = omega (arith, l'.1, length-sent w number r) in (
-      subst (λ u. width u ≤ len) same wide,
+    let ok : IsTrue (admits w number) = subst (λ (u : Var). IsTrue (admits u number)) (sym same) admitted in
+    let back = λ (m : ℕ) (q : Reading) (h : ReadsIn (one w rest) len ((v, m) ∷ q)). subst (λ (u : Var). ReadsIn (one w rest) len ((u, m) ∷ q)) (sym same) h in (
       rw (let yes : admits w number ≡ true = ok in yes) (ap (λ (x : Layout). Some x) is),
       record {
         to = λ q h.
@@ -93,5 +103,16 @@ row_behind (one w rest) new v len number f look a (n, r, l, e) =
             subst (λ (u : Var). ReadsIn (one w rest) len ((u, number) ∷ q)) same all;
       },
     )
-row_behind (guarded g group rest) new v len number f look a s = absurd cc
-row_behind (counted group rest) new v len number f look a s = absurd cc
+row_behind (guarded g group rest) new v len number f look a ok wide = absurd cc
+row_behind (counted group rest) new v len number f look a ok wide = absurd cc
+
+-- the same by what is left
+pub row_step : (row new : Layout) (v : Var) (len number : ℕ) → first_variable row ≡ Some v → IsTrue (looks None row) → after_number row number ≡ Some new → width v ≤ len → Residual (ReadsIn row len) ((v, number) ∷ []) (ReadsIn new (len - width v)) × IsTrue (looks None new)
+row_step whole new v len number f look a wide = absurd cc
+row_step (one w rest) new v len number f look a wide =
+    let same : w ≡ v = cc in
+    let is = after_one w rest new number a in
+    let b = row_behind (one w rest) new v len number f look (ap (λ (x : Layout). Some x) is.1) (subst (λ (u : Var). IsTrue (admits u number)) same is.0) wide in
+    (b.1, one_looks w rest new number look a)
+row_step (guarded g group rest) new v len number f look a wide = absurd cc
+row_step (counted group rest) new v len number f look a wide = absurd cc

@@ -51,7 +51,7 @@ one_back v rest mid len n q look e wide (reads, l) =
     let a = after_one v rest mid n e in
     ((follows v rest n look a.0 q).1 (subst (λ (x : Layout). Reads x [] q) (sym a.1) reads), (let s = length-sent v n q in omega (arith, s, l, wide)))
 
-one_looks : (v : Var) (rest mid : Layout) (n : ℕ) → IsTrue (looks None (one v rest)) → after_number (one v rest) n ≡ Some mid → IsTrue (looks None mid)
+pub one_looks : (v : Var) (rest mid : Layout) (n : ℕ) → IsTrue (looks None (one v rest)) → after_number (one v rest) n ≡ Some mid → IsTrue (looks None mid)
 one_looks v rest mid n look e = subst (λ (x : Layout). IsTrue (looks None x)) (after_one v rest mid n e).1 (looks-onto n (Some v) rest whole tt look refl)
 
 -- ---- All variables that were read.

@@ -1,5 +1,5 @@
 -- Which numbers and which lengths a packet may still have, by what is left after it (SUBSET-026, 7.4 and 8).
-use Rattle.std.specs.Prelude.{◌≡◌, ℕ, ◌+◌, ◌-◌, ◌/◌, ◌≤◌, ◌<◌, ◌^◌, Bool, ◌&&◌, ◌||◌, not, nat_le, nat_lt, IsTrue, Some, is_some, [], ◌⊎◌, ◌↔◌}
+use Rattle.std.specs.Prelude.{◌≡◌, ℕ, ◌+◌, ◌-◌, ◌/◌, ◌≤◌, ◌<◌, ◌^◌, Bool, ◌||◌, nat_le, IsTrue, Some, [], ◌⊎◌, ◌↔◌}
 use Rattle.etcs_tables.specs.declared.row.Way.{Way}
 use Rattle.etcs_tables.specs.declared.row.Way.TheVariants.{ToTrain}
 use Rattle.etcs_rows.specs.declared.frames.Carrier.{Carrier}

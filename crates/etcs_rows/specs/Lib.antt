@@ -5,6 +5,7 @@ pub mod Messages
 pub mod Places
 pub mod Sets
 pub mod Progressions
+pub mod Runs
 pub mod Sums
 pub mod Totals
 pub mod Waiting

@@ -12,6 +12,7 @@ pub mod parts;
 mod place;
 mod progression;
 mod rest;
+mod row_run;
 mod total;
 mod walk;
 mod write;

@@ -12,6 +12,7 @@ ghost use Rattle.etcs_rows.specs.Walks.{Walks};
 pub use crate::frames::{Carrier, MOST_PADDING, length_fits, number_fits};
 pub use crate::message::message_lengths;
 pub use crate::rest::RowRest;
+pub use crate::row_run::RowRun;
 use crate::walk::{RowWalk, Step, Stopped};
 pub use crate::write::put_row;
 pub use etcs_tables::message_bits;

@@ -271,7 +271,7 @@ impl Place {
         Some(place)
     }
 
-    fn copied(&self) -> Place
+    pub(crate) fn copied(&self) -> Place
         ensures { result ≡ self.now }
     {
         let mut pending = ArrayVec::new();

@@ -1,7 +1,7 @@
 //! What is left of a row of a known number of bits.
 
 ghost use Rattle.std.specs.Prelude.{◌≡◌, ◌↔◌, ◌<◌, ◌≤◌, ◌+◌, ◌-◌, ◌*◌, ◌^◌, [], ◌∷◌, Some, IsTrue, IsSome, IfSome, None};
-ghost use Rattle.etcs_vars.specs.Vars.{width};
+ghost use Rattle.etcs_vars.specs.Vars.{width, admits};
 ghost use Rattle.etcs_vars.specs.Walking.{Residual};
 ghost use Rattle.etcs_reader.specs.Rests.{Goes, Starts};
 ghost use Rattle.etcs_tables.specs.Layouts.{layout, looks, Lengths, ReadsIn};
@@ -72,6 +72,32 @@ impl RowRest {
         }
     }
 
+    /// The same once more.
+    pub(crate) fn copied(&self) -> RowRest
+        ensures place { result.place ≡ self.now.place }
+        ensures len { result.len ≡ self.now.len }
+    {
+        RowRest {
+            place: self.place.copied(),
+            len: self.len,
+        }
+    }
+
+    /// Continues after an admitted number of the variable that comes next, whether or not the row can end in its bits
+    /// then.
+    #[inline(always)]
+    pub(crate) fn pass_admitted(&mut self, var: Var, number: u64)
+        requires next { first_variable self.old.place ≡ Some var }
+        requires admitted { IsTrue (admits var number) }
+        requires room { width var ≤ self.old.len }
+        ensures len { self.old.len ≡ width var + self.new.len }
+        ensures after { after_number self.old.place number ≡ Some self.new.place }
+        ensures left { Residual (ReadsIn self.old.place self.old.len) ((var, number) ∷ []) (ReadsIn self.new.place self.new.len) }
+    {
+        self.place.pass(number);
+        self.len -= var.width();
+    }
+
     /// Continues after the number of the variable that comes next.
     #[inline]
     pub fn go_on(&mut self, var: Var, number: u64)
@@ -81,8 +107,7 @@ impl RowRest {
         ensures after { after_number self.old.place number ≡ Some self.new.place }
         ensures left { Residual (ReadsIn self.old.place self.old.len) ((var, number) ∷ []) (ReadsIn self.new.place self.new.len) }
     {
-        self.place.pass(number);
-        self.len -= var.width();
+        self.pass_admitted(var, number);
     }
 }
 

@@ -1,26 +1,12 @@
-use Rattle.std.proofs.Common.{arith}
-use Rattle.etcs_rows.proofs.RestLemmas.{row_behind}
+use Rattle.etcs_rows.proofs.RestLemmas.{row_admits}
 use Rattle.etcs_rows.proofs.rest.RowRest.go_on.Goals as goal
 
-pub overflow_sub-self : goal.overflow_sub-self
-overflow_sub-self c =
+pub pass_admitted-requires-clause-admitted : goal.pass_admitted-requires-clause-admitted
+pass_admitted-requires-clause-admitted c =
     let s = c.args.self.now in
-    let b = row_behind s.place c.pass.new.self c.args.var s.len c.args.number c.requires.next s.looks_well c.pass.ensures.left c.requires.goes in
-    omega (arith, b.0, c.width.ensures)
+    (row_admits s.place c.args.var s.len c.args.number c.requires.next c.requires.goes).1
 
-pub returns-clause-len : goal.returns-clause-len
-returns-clause-len c =
+pub pass_admitted-requires-clause-room : goal.pass_admitted-requires-clause-room
+pass_admitted-requires-clause-room c =
     let s = c.args.self.now in
-    let b = row_behind s.place c.pass.new.self c.args.var s.len c.args.number c.requires.next s.looks_well c.pass.ensures.left c.requires.goes in
-    omega (arith, b.0, c.width.ensures)
-
-pub returns-clause-left : goal.returns-clause-left
-returns-clause-left c =
-    let s = c.args.self.now in
-    let b = row_behind s.place c.pass.new.self c.args.var s.len c.args.number c.requires.next s.looks_well c.pass.ensures.left c.requires.goes in
-    rw c.width.ensures b.2
-
-pub returns-clause-after : goal.returns-clause-after
-returns-clause-after c =
-    let s = c.args.self.now in
-    (row_behind s.place c.pass.new.self c.args.var s.len c.args.number c.requires.next s.looks_well c.pass.ensures.left c.requires.goes).1
+    (row_admits s.place c.args.var s.len c.args.number c.requires.next c.requires.goes).0

@@ -1,0 +1,73 @@
+//! Several variables of a row at once.
+
+ghost use Rattle.std.specs.Prelude.{◌≡◌, ◌+◌, ◌<◌, ◌≤◌, ◌^◌, length, IfSome};
+ghost use Rattle.arrayvec.specs.ArrayVec.{array_vec_len};
+ghost use Rattle.etcs_bits.specs.Bits.{bits};
+ghost use Rattle.etcs_reader.specs.Rests.{Goes};
+ghost use Rattle.etcs_tables.specs.Layouts.{ReadsIn};
+ghost use Rattle.etcs_rows.specs.Runs.{NextIn, RunsTo};
+
+use crate::place::reaches;
+use crate::rest::RowRest;
+use arrayvec::ArrayVec;
+use etcs_bits::peek;
+use etcs_vars::Var;
+
+/// Variables of a row one after another: their numbers, how many bits they are, and what is left of the row then.
+#[derive(Drop)]
+pub struct RowRun {
+    pub rest: RowRest,
+    pub numbers: ArrayVec<u64, 64>,
+    pub bits: usize,
+}
+
+impl RowRun {
+    /// The variable that comes next with its number, where the piece has it whole from `at` on, the number is admitted and
+    /// the row has room for it. `None` says nothing.
+    #[inline(always)]
+    fn next(&self, piece: &[u8], at: usize) -> Option<(Var, u64)>
+        requires inside { at ≤ length (bits piece.now) }
+        requires small { length (bits piece.now) < 2 ^ 64 }
+        ensures room { IfSome result (λ p. array_vec_len self.now.numbers < 64) }
+        ensures next { IfSome result (λ p. NextIn self.now.rest.place self.now.rest.len (bits piece.now) at p.0 p.1) }
+    {
+        if self.numbers.is_full() {
+            return None;
+        }
+        let var = self.rest.place.var()?;
+        let width = var.width();
+        if width > self.rest.len || width > piece.len() * 8 - at {
+            return None;
+        }
+        let number = peek(piece, at, width)?;
+        if !var.admits(number) {
+            return None;
+        }
+        Some((var, number))
+    }
+
+    /// The next variables of a row as far as the piece has them whole from `at` on, where the row can end in its bits after
+    /// them. `None` says nothing.
+    pub fn ahead(row: &RowRest, piece: &[u8], at: usize) -> Option<RowRun>
+        requires inside { at ≤ length (bits piece.now) }
+        requires small { length (bits piece.now) < 2 ^ 64 }
+        ensures some { IfSome result (λ r. 0 < r.bits) }
+        ensures goes { IfSome result (λ r. Goes (ReadsIn r.rest.place r.rest.len)) }
+        ensures run { IfSome result (λ r. RunsTo row.now.place row.now.len (bits piece.now) at r.bits r.numbers.items r.rest.place r.rest.len) }
+    {
+        let mut run = RowRun {
+            rest: row.copied(),
+            numbers: ArrayVec::new(),
+            bits: 0,
+        };
+        while let Some((var, number)) = run.next(piece, at + run.bits) {
+            run.numbers.push(number);
+            run.rest.pass_admitted(var, number);
+            run.bits += var.width();
+        }
+        if run.bits == 0 || !reaches(&run.rest.place, run.rest.len) {
+            return None;
+        }
+        Some(run)
+    }
+}

@@ -5,18 +5,23 @@ use Rattle.std.proofs.lemmas.Bool.{ltb-true}
 use Rattle.std.proofs.lemmas.List.{length-replicate}
 use Rattle.std.proofs.lemmas.List.Elements.{All-nil}
 use Rattle.etcs_bits.specs.Bits.{num, part}
-use Rattle.etcs_bits.proofs.Lists.{length-part}
+use Rattle.etcs_bits.proofs.Lists.{length-part, part-add}
 use Rattle.etcs_vars.specs.declared.var.Var.TheVariants.{NID_PACKET, L_PACKET, OTHER_DATA}
-use Rattle.etcs_vars.specs.Reading.{Reading, Then, spelled, kept, Viable}
+use Rattle.etcs_vars.specs.Reading.{Reading, Then, spelled, numbers, kept, Viable}
 use Rattle.etcs_vars.specs.Walking.{Residual}
 use Rattle.etcs_vars.proofs.Sent.{length-sent}
 use Rattle.etcs_vars.proofs.Walk.{spelled-append}
 use Rattle.etcs_tables.specs.declared.row.Way.{Way}
 use Rattle.etcs_rows.specs.declared.frames.Carrier.{Carrier}
-use Rattle.etcs_rows.specs.declared.frames.Carrier.TheVariants.{Telegram, Message}
+use Rattle.etcs_rows.specs.declared.frames.Carrier.TheVariants.{Telegram}
 use Rattle.etcs_tables.specs.Frames.{frame_bits, is_kept, is_direction, directed}
 use Rattle.etcs_rows.specs.Frames.{may_be_left, way_of}
 use Rattle.etcs_rows.proofs.PlaceLemmas.{and_both}
+use Rattle.etcs_rows.specs.declared.rest.RowRest.{RowRest}
+use Rattle.etcs_rows.specs.Walks.{ReadTo}
+use Rattle.etcs_tables.specs.Layouts.{ReadsIn}
+use Rattle.etcs_sequence.proofs.LeftBodies.{then_run}
+use Rattle.etcs_sequence.proofs.ThenLaws.{then_goes}
 use Rattle.etcs_packets.specs.PacketValues as packets
 use Rattle.etcs_packets.specs.PacketValues.{PacketValue, IsTypedOf, variables_of, IsPacketTo, bits_to}
 use Rattle.etcs_packets.specs.PacketReadings.{in_frame, reading_to, readings_to}
@@ -29,8 +34,9 @@ use Rattle.etcs_sequence.proofs.Carried.{typed_bits, FrameAt, frame_spelled}
 use Rattle.etcs_sequence.specs.laws.RunSteps.{in_front, framed_carried}
 use Rattle.etcs_reader.specs.Rests.{Goes, Starts}
 use Rattle.etcs_sequence.specs.declared.stage.Stage.{Stage}
-use Rattle.etcs_sequence.specs.declared.stage.Stage.TheVariants.{Number, Kept}
-use Rattle.etcs_sequence.specs.Lefts.{left_of, is_stage, keeps_at, Becomes, Here, HoldsAt, Moved}
+use Rattle.etcs_sequence.specs.declared.stage.Stage.TheVariants.{Number, Row, Kept}
+use Rattle.etcs_sequence.specs.declared.stage.Event.{Event}
+use Rattle.etcs_sequence.specs.Lefts.{left_of, is_stage, keeps_at, Becomes, Here, After, HoldsAt, Moved}
 use Rattle.etcs_sequence.specs.AtOnce.{Holds, WholeAt}
 use Rattle.etcs_sequence.proofs.PacketLemmas.{held_whole}
 use Rattle.etcs_sequence.specs.laws.Framed.{typed_framed, kept_three, kept_two_hundred, some_direction}
@@ -136,6 +142,42 @@ module _ (c : Carrier) (room : ℕ) (s : Stage) (nid dir left : ℕ) (e : s ≡ 
 
   pub kept_goes : (t : List Bool) (R : Reading → Type 0) → length t ≤ left → Residual (left_of c room s) (kept OTHER_DATA t) R → Goes R
   kept_goes t R le behind = let q = on t le in (q.0, behind.to q.0 q.1)
+
+-- ---- Variables of a row.
+
+pub same_row : (s : Stage) (a b nid dir : ℕ) (row : RowRest) → s ≡ Row a b row → ((r : RowRest) × (s ≡ Row nid dir r)) → s ≡ Row nid dir row
+same_row s a b nid dir row is (r, at) =
+    let two : ◌≡◌ {A = Stage} (Row a b row) (Row nid dir r) = sym is ∙ at in
+    let number : a ≡ nid = cc in
+    let direction : b ≡ dir = cc in
+    rw (number, direction) at is
+
+-- by the numbers of the variables
+pub run_here : (c : Carrier) (s s' : Stage) (p : Reading) (n : List ℕ) (e : Event) → numbers p ≡ n → ((f : List ℕ) (k : List Bool) (h : Reading) → Here c s f k h → After c s' (f ++ numbers p) k (h ++ p) e)
+    → (f : List ℕ) (k : List Bool) (h : Reading) → Here c s f k h → After c s' (f ++ n) k (h ++ p) e
+run_here c s s' p n e is here f k h i = subst (λ (m : List ℕ). After c s' (f ++ m) k (h ++ p) e) is (here f k h i)
+
+module _ (c : Carrier) (room : ℕ) (s : Stage) (nid dir : ℕ) (row left : RowRest) (p : Reading) (e : s ≡ Row nid dir row) (goes : Goes (left_of c room s)) (more : Goes (ReadsIn left.place left.len)) (to : ReadTo row.place row.len p left.place left.len) where
+  -- something continues after them
+  behind_run : (q : Reading) × left_of c room s (p ++ q)
+  behind_run =
+      let Q = PacketsIn c room in
+      let g : Goes (left_of c room (Row nid dir row)) = rw e at goes in
+      let tail = (then_goes (ReadsIn row.place row.len) Q g).1 in
+      let q = more.0 ++ tail.0 in
+      rw e (q, (then_run row.place row.len p left.place left.len Q row.looks_well to).from q (more.0, tail.0, refl, more.1, tail.1))
+
+  -- so it does after their first bit
+  pub run_viable : (xs : List Bool) (at count : ℕ) → 0 < count → spelled p ≡ part at count xs → Viable (left_of c room s) (part at 1 xs)
+  run_viable xs at count some is =
+      let q = behind_run in
+      let last = part (at + 1) (count - 1) xs in
+      let size : 1 + (count - 1) ≡ count = omega (arith, some) in
+      let cut : spelled p ≡ part at 1 xs ++ last = is ∙ sym (ap (λ (m : ℕ). part at m xs) size) ∙ part-add at 1 (count - 1) xs in
+      (p ++ q.0, last ++ spelled q.0, q.1, spelled-append p q.0 ∙ ap (λ (b : List Bool). b ++ spelled q.0) cut ∙ append_assoc (part at 1 xs) last (spelled q.0))
+
+  pub run_goes : (R : Reading → Type 0) → Residual (left_of c room s) p R → Goes R
+  run_goes R behind = let q = behind_run in (q.0, behind.to q.0 q.1)
 
 -- ---- Packet 255.
 

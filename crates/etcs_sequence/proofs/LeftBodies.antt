@@ -11,7 +11,9 @@ use Rattle.etcs_vars.proofs.Languages.{Same, same_along, same_back, same_self, T
 use Rattle.etcs_vars.proofs.Sent.{length-sent}
 use Rattle.etcs_rows.specs.declared.frames.Carrier.{Carrier}
 use Rattle.etcs_tables.specs.Layouts.{Layout, looks, ReadsIn}
-use Rattle.etcs_rows.specs.Places.{first_variable}
+use Rattle.etcs_rows.specs.Places.{first_variable, after_number}
+use Rattle.etcs_rows.specs.Walks.{ReadTo}
+use Rattle.etcs_rows.proofs.RestLemmas.{row_step}
 use Rattle.etcs_rows.specs.Frames.{way_of}
 use Rattle.etcs_tables.specs.Rows.{row_to}
 use Rattle.etcs_tables.specs.Frames.{is_kept, frame_bits, head_bits, kept_limit, is_direction, directed}
@@ -151,12 +153,31 @@ row_goes c room row new x n next goes d =
     let whole : m ≡ n = (let one : m / 2 ^ 0 ≡ m = omega arith in sym one ∙ e) in
     (r, d.to r (rw whole at l))
 
-pub row_passed : (c : Carrier) (room nid dir : ℕ) (row new : RowRest) (x : Var) (n : ℕ) → first_variable row.place ≡ Some x → row.len ≡ width x + new.len → Residual (ReadsIn row.place row.len) ((x, n) ∷ []) (ReadsIn new.place new.len) → Moved c room (Row nid dir row) ((x, n) ∷ []) c room (Row nid dir new)
-row_passed c room nid dir row new x n next len d = record {
+-- what follows it stays, after variables of it
+pub then_run : (row : Layout) (len : ℕ) (p : Reading) (left : Layout) (bits : ℕ) (Q : Reading → Type 0) → IsTrue (looks None row) → ReadTo row len p left bits → Residual (Then (ReadsIn row len) Q) p (Then (ReadsIn left bits) Q)
+then_run row len [] left bits Q look (same, much) = rw (same, much) (residual_none (Then (ReadsIn row len) Q))
+then_run row len ((v, n) ∷ p) left bits Q look (mid, next, after, wide, to) =
+    let more = len - width v in
+    let step = row_step row mid v len n next look after wide in
+    residual_along (Then (ReadsIn row len) Q) ((v, n) ∷ []) (Then (ReadsIn mid more) Q) p (Then (ReadsIn left bits) Q)
+    (then_behind (ReadsIn row len) Q (ReadsIn mid more) v (row_begins_with row len v next) n step.0)
+    (then_run mid more p left bits Q step.1 to)
+
+run_bits : (row : Layout) (len : ℕ) (p : Reading) (left : Layout) (bits : ℕ) → ReadTo row len p left bits → len ≡ length (spelled p) + bits
+run_bits row len [] left bits (same, much) = omega (arith, much)
+run_bits row len ((v, n) ∷ p) left bits (mid, next, after, wide, to) = omega (arith, run_bits mid (len - width v) p left bits to, wide, length-sent v n p)
+
+-- after variables of it
+pub row_run : (c : Carrier) (room nid dir : ℕ) (row new : RowRest) (p : Reading) → ReadTo row.place row.len p new.place new.len → Moved c room (Row nid dir row) p c room (Row nid dir new)
+row_run c room nid dir row new p to = record {
   same = refl;
-  residual = then_behind (ReadsIn row.place row.len) (PacketsIn c room) (ReadsIn new.place new.len) x (row_begins_with row.place row.len x next) n d;
-  ahead_is = omega (arith, len, length-sent x n []);
+  residual = then_run row.place row.len p new.place new.len (PacketsIn c room) row.looks_well to;
+  ahead_is = (let b = run_bits row.place row.len p new.place new.len to in omega (arith, b));
 }
+
+-- after one
+pub row_passed : (c : Carrier) (room nid dir : ℕ) (row new : RowRest) (x : Var) (n : ℕ) → first_variable row.place ≡ Some x → row.len ≡ width x + new.len → after_number row.place n ≡ Some new.place → Moved c room (Row nid dir row) ((x, n) ∷ []) c room (Row nid dir new)
+row_passed c room nid dir row new x n next len after = row_run c room nid dir row new ((x, n) ∷ []) (new.place, next, after, omega (arith, len), (refl, omega (arith, len)))
 
 -- nothing is left of it
 row_over : (row : Layout) (len : ℕ) → IsTrue (looks None row) → first_variable row ≡ None → Goes (ReadsIn row len) → ReadsIn row len [] × (len ≡ 0)
@@ -199,19 +220,18 @@ here_begun c room nid dir l row rest h goes typed place len e =
       numbers_are = refl;
     }
 
-pub here_more : (way : Way) (nid dir : ℕ) (left : Layout) (len : ℕ) (new : Layout) (len' : ℕ) (f : List ℕ) (h : Reading) (x : Var) (n : ℕ) → RowHere way nid dir left len f h → Residual (ReadsIn left len) ((x, n) ∷ []) (ReadsIn new len') → RowHere way nid dir new len' (f ++ n ∷ []) (h ++ (x, n) ∷ [])
-here_more way nid dir left len new len' f h x n k d =
-    let one : Reading = (x, n) ∷ [] in record {
-      row = k.row;
-      total = k.total;
-      read = k.read ++ one;
-      typed = k.typed;
-      looks_well = k.looks_well;
-      short = k.short;
-      residual = residual_along (ReadsIn k.row k.total) k.read (ReadsIn left len) one (ReadsIn new len') k.residual d;
-      here = ap (λ (t : Reading). t ++ one) k.here ∙ in_frame-append way nid dir k.total k.read one;
-      numbers_are = map-append (λ (s : Sent). s.1) k.read one ∙ ap (λ (t : List ℕ). t ++ n ∷ []) k.numbers_are;
-    }
+pub here_more : (way : Way) (nid dir : ℕ) (left : Layout) (len : ℕ) (new : Layout) (len' : ℕ) (f : List ℕ) (h p : Reading) → RowHere way nid dir left len f h → Residual (ReadsIn left len) p (ReadsIn new len') → RowHere way nid dir new len' (f ++ numbers p) (h ++ p)
+here_more way nid dir left len new len' f h p k d = record {
+  row = k.row;
+  total = k.total;
+  read = k.read ++ p;
+  typed = k.typed;
+  looks_well = k.looks_well;
+  short = k.short;
+  residual = residual_along (ReadsIn k.row k.total) k.read (ReadsIn left len) p (ReadsIn new len') k.residual d;
+  here = ap (λ (t : Reading). t ++ p) k.here ∙ in_frame-append way nid dir k.total k.read p;
+  numbers_are = map-append (λ (s : Sent). s.1) k.read p ∙ ap (λ (t : List ℕ). t ++ numbers p) k.numbers_are;
+}
 
 -- they are those of a whole packet
 pub here_whole : (c : Carrier) (nid dir : ℕ) (row : RowRest) (f : List ℕ) (h : Reading) → IsTrue (is_direction (way_of c) dir) → first_variable row.place ≡ None → Goes (ReadsIn row.place row.len) → RowHere (way_of c) nid dir row.place row.len f h

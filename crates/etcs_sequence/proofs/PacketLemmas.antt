@@ -10,7 +10,6 @@ use Rattle.etcs_vars.specs.declared.var.Var.TheVariants.{NID_PACKET, NID_VBCMK, 
 use Rattle.etcs_vars.specs.Reading.{Sent, Reading, spelled, numbers, kept}
 use Rattle.etcs_tables.specs.declared.row.Way.TheVariants.{ToTrain, ToTrack}
 use Rattle.etcs_rows.specs.declared.frames.Carrier.{Carrier}
-use Rattle.etcs_rows.specs.declared.frames.Carrier.TheVariants.{Telegram, Message}
 use Rattle.etcs_rows.specs.Frames.{way_of}
 use Rattle.etcs_tables.specs.Typed.{IsTyped}
 use Rattle.etcs_tables.specs.declared.row.Way.{Way}

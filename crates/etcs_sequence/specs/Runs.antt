@@ -1,5 +1,5 @@
 -- What was read of a packet, whole or not.
-use Rattle.std.specs.Prelude.{◌≡◌, ℕ, ◌+◌, ◌<◌, Bool, List, [], ◌∷◌, ◌++◌, length, ◌⊎◌, IsTrue, Option, Some, None}
+use Rattle.std.specs.Prelude.{◌≡◌, ℕ, ◌+◌, ◌<◌, Bool, List, [], ◌∷◌, length, ◌⊎◌, IsTrue, Option, Some, None}
 use Rattle.std.specs.Option.{is_some}
 use Rattle.etcs_vars.specs.declared.var.Var.TheVariants.{NID_PACKET, OTHER_DATA}
 use Rattle.etcs_vars.specs.Reading.{Reading, spelled, numbers, kept}

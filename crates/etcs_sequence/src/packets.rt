@@ -10,6 +10,7 @@ ghost use Rattle.etcs_packets.specs.PacketReadings.{readings_to};
 ghost use Rattle.etcs_rows.specs.Frames.{way_of};
 ghost use Rattle.etcs_sequence.specs.Contents.{Carries, PacketsIn};
 ghost use Rattle.etcs_rows.specs.declared.frames.Carrier.{Carrier};
+ghost use Rattle.etcs_rows.specs.declared.rest.RowRest.{RowRest};
 ghost use Rattle.etcs_reader.specs.Rests.{Starts, Goes, LeapsBy};
 ghost use Rattle.etcs_sequence.specs.declared.stage.Stage.{Stage};
 ghost use Rattle.etcs_sequence.specs.Lefts.{Here, next_of, left_of, ahead, is_closed, may_grow, numbers_with, bits_with, After, Moved, HoldsAt};
@@ -21,7 +22,7 @@ use crate::state::PacketsState;
 use crate::store::PacketStore;
 use etcs_bits::BitSlice;
 use etcs_reader::Rest;
-use etcs_rows::parts::Carrier;
+use etcs_rows::parts::{Carrier, RowRun};
 use etcs_tables::{CLOSING, CLOSING_BITS, frame_bits};
 use etcs_vars::Var;
 use std::alloc::AllocError;
@@ -49,6 +50,20 @@ fn absorb<S: PacketStore>(store: &mut S, keep: Keep, number: u64) -> Result<(), 
         }
         Keep::Nothing => Ok(()),
     }
+}
+
+/// Keeps numbers of a row.
+fn absorb_numbers<S: PacketStore>(store: &mut S, numbers: &[u64]) -> Result<(), AllocError>
+    ensures ok { OnOk result ((vs : List PacketValue) (f : List ℕ) (k : List Bool) → S.holds store.old vs f k → S.holds store.new vs (f ++ numbers.now) k) }
+    ensures err { OnErr result S.fails }
+{
+    for number in numbers {
+        match store.number(*number) {
+            Ok(()) => {}
+            Err(error) => return Err(error),
+        }
+    }
+    Ok(())
 }
 
 /// Makes the packet that is whole.
@@ -175,6 +190,49 @@ impl<S: PacketStore> PacketsRest<S> {
         }
     }
 
+    /// Takes the next variables of a row as far as the piece has them whole, where the row can end in its bits after them,
+    /// and says how many bits they were.
+    #[inline(never)]
+    fn leap_row(
+        &mut self,
+        nid: u8,
+        dir: u8,
+        piece: &[u8],
+        at: usize,
+    ) -> Result<Option<usize>, AllocError>
+        requires row { (row : RowRest) × (self.old.left.stage ≡ Stage.Row nid dir row) }
+        requires inside { at < length (bits piece.now) }
+        requires small { length (bits piece.now) < 2 ^ 64 }
+        requires goes { Goes (left_of self.old.left.carrier self.old.left.room self.old.left.stage) }
+        ensures none { IfOk result (λ o. IsNone o → self.new ≡ self.old) }
+        ensures some { IfOk result (λ o. IfSome o (λ n. LeapsBy (left_of self.new.left.carrier self.new.left.room self.new.left.stage) (λ p. Moved self.old.left.carrier self.old.left.room self.old.left.stage p self.new.left.carrier self.new.left.room self.new.left.stage × ((q : Reading) → HoldsAt self.old.left.carrier self.old.left.stage (S.holds self.old.store) q → HoldsAt self.new.left.carrier self.new.left.stage (S.holds self.new.store) (q ++ p))) (bits piece.now) at n)) }
+        ensures err { OnErr result S.fails }
+        ensures viable { OnErr result (Viable (left_of self.old.left.carrier self.old.left.room self.old.left.stage) (part at 1 (bits piece.now))) }
+    {
+        let Stage::Row(_, _, row) = &self.left.stage else {
+            unreachable!()
+        };
+        let Some(run) = RowRun::ahead(row, piece, at) else {
+            return Ok(None);
+        };
+        match absorb_numbers(&mut self.store, run.numbers.as_slice()) {
+            Ok(()) => {}
+            Err(error) => {
+                self.left.close();
+                return Err(error);
+            }
+        }
+        let taken = run.bits;
+        let event = self.left.pass_to(nid, dir, run.rest);
+        match finish(&mut self.store, event) {
+            Ok(()) => Ok(Some(taken)),
+            Err(error) => {
+                self.left.close();
+                Err(error)
+            }
+        }
+    }
+
     /// Takes a run of OTHER_DATA, of which `left` bits are wanted, and says how many bits it was.
     fn leap_kept(
         &mut self,
@@ -256,6 +314,13 @@ impl<S: PacketStore> Rest for PacketsRest<S> {
             Stage::Kept(nid, dir, left) => {
                 let (nid, dir, left) = (*nid, *dir, *left);
                 match self.leap_kept(nid, dir, left, piece, at) {
+                    Ok(taken) => Ok(taken),
+                    Err(error) => Err(error),
+                }
+            }
+            Stage::Row(nid, dir, _) => {
+                let (nid, dir) = (*nid, *dir);
+                match self.leap_row(nid, dir, piece, at) {
                     Ok(taken) => Ok(taken),
                     Err(error) => Err(error),
                 }

@@ -3,9 +3,9 @@
 ghost use Rattle.std.specs.Prelude.{◌≡◌, ◌↔◌, ℕ, ◌+◌, ◌-◌, ◌^◌, ◌<◌, ◌≤◌, [], ◌∷◌, ◌++◌, Some, None, true, false, Bool, List, length, IsTrue};
 ghost use Rattle.etcs_vars.specs.declared.var.Var.TheVariants.{NID_PACKET, NID_VBCMK, Q_DIR, L_PACKET, OTHER_DATA};
 ghost use Rattle.etcs_vars.specs.Vars.{width};
-ghost use Rattle.etcs_vars.specs.Reading.{Reading, kept};
+ghost use Rattle.etcs_vars.specs.Reading.{Reading, kept, numbers};
 ghost use Rattle.etcs_vars.proofs.Languages.{Same};
-ghost use Rattle.etcs_tables.specs.Layouts.{layout};
+ghost use Rattle.etcs_tables.specs.Layouts.{layout, ReadsIn};
 ghost use Rattle.etcs_tables.specs.Rows.{row_to};
 ghost use Rattle.etcs_tables.specs.Frames.{is_kept};
 ghost use Rattle.etcs_rows.specs.Frames.{way_of};
@@ -14,6 +14,7 @@ ghost use Rattle.etcs_packets.specs.PacketReadings.{reading_to};
 ghost use Rattle.etcs_sequence.specs.Contents.{Carries, PacketsIn};
 ghost use Rattle.etcs_reader.specs.Rests.{Goes, Starts};
 ghost use Rattle.etcs_rows.specs.declared.rest.RowRest.{RowRest};
+ghost use Rattle.etcs_rows.specs.Walks.{Follows};
 ghost use Rattle.etcs_sequence.specs.Lefts.{next_of, behind_framed, left_of, ahead, is_stage, keeps_at, Here, After, Becomes, Moved};
 
 use crate::stage::{Event, Keep, Stage};
@@ -245,6 +246,21 @@ impl PacketsState {
         };
         row.go_on(var, number);
         if row.var().is_some() {
+            return Event::More;
+        }
+        self.stage = behind_packet(self.carrier, self.room);
+        Event::Typed(nid, dir)
+    }
+
+    /// After several numbers of a row, of which this is left.
+    pub(crate) fn pass_to(&mut self, nid: u8, dir: u8, left: RowRest) -> Event
+        requires row { (row : RowRest) × (self.old.stage ≡ Stage.Row nid dir row) }
+        requires goes { Goes (ReadsIn left.place left.len) }
+        ensures moved { (row : RowRest) (p : Reading) → self.old.stage ≡ Stage.Row nid dir row → Follows row.place row.len p left.place left.len → Moved self.old.carrier self.old.room self.old.stage p self.new.carrier self.new.room self.new.stage }
+        ensures here { (row : RowRest) (p : Reading) → self.old.stage ≡ Stage.Row nid dir row → Follows row.place row.len p left.place left.len → (f : List ℕ) (k : List Bool) (h : Reading) → Here self.old.carrier self.old.stage f k h → After self.old.carrier self.new.stage (f ++ numbers p) k (h ++ p) result }
+    {
+        if left.var().is_some() {
+            self.stage = Stage::Row(nid, dir, left);
             return Event::More;
         }
         self.stage = behind_packet(self.carrier, self.room);

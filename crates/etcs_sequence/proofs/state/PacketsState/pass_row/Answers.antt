@@ -22,7 +22,7 @@ returns-then-is_some-clause-moved c =
     let s = c.args.self.now in
     let r = c.in-Row in
     let e = c.go_on.ensures in
-    rw r.is (row_passed s.carrier s.room r.field-0 r.field-1 r.row c.go_on.new.self c.args.var c.args.number (rw r.is at c.requires.next) e.len e.left)
+    rw r.is (row_passed s.carrier s.room r.field-0 r.field-1 r.row c.go_on.new.self c.args.var c.args.number (rw r.is at c.requires.next) e.len e.after)
 
 pub returns-then-is_some-clause-here : goal.returns-then-is_some-clause-here
 returns-then-is_some-clause-here c f k h here =
@@ -30,7 +30,7 @@ returns-then-is_some-clause-here c f k h here =
     let r = c.in-Row in
     let new = c.go_on.new.self in
     let i = rw r.is at here in
-    rw r.is (i.0, here_more (way_of s.carrier) r.field-0 r.field-1 r.row.place r.row.len new.place new.len f h c.args.var c.args.number i.1 c.go_on.ensures.left)
+    rw r.is (i.0, here_more (way_of s.carrier) r.field-0 r.field-1 r.row.place r.row.len new.place new.len f h ((c.args.var, c.args.number) ∷ []) i.1 c.go_on.ensures.left)
 
 pub returns-clause-moved : goal.returns-clause-moved
 returns-clause-moved c =
@@ -42,7 +42,7 @@ returns-clause-moved c =
     let next = rw r.is at c.requires.next in
     let goes = row_goes s.carrier s.room r.row new c.args.var c.args.number next (rw r.is at c.requires.goes) e.left in
     let none = rw c.var.ensures at (none_is c.var.result (sym c.if-is_some.ensures)) in
-    let m = row_passed s.carrier s.room r.field-0 r.field-1 r.row new c.args.var c.args.number next e.len e.left in
+    let m = row_passed s.carrier s.room r.field-0 r.field-1 r.row new c.args.var c.args.number next e.len e.after in
     rw r.is (row_whole s.carrier s.room (Row r.field-0 r.field-1 r.row) ((c.args.var, c.args.number) ∷ []) s.carrier s.room r.field-0 r.field-1 new b.result m none goes b.ensures.same b.ensures.ahead)
 
 pub returns-clause-here : goal.returns-clause-here
@@ -61,5 +61,5 @@ returns-clause-here c f k h here =
     let directed = (and_both (is_direction (way_of s.carrier) r.field-1) (is_some (first_variable r.row.place)) last.1).0 in
     let goes = row_goes s.carrier s.room r.row new c.args.var c.args.number (rw r.is at c.requires.next) (rw r.is at c.requires.goes) d in
     let none = rw c.var.ensures at (none_is c.var.result (sym c.if-is_some.ensures)) in
-    let more = here_more (way_of s.carrier) r.field-0 r.field-1 r.row.place r.row.len new.place new.len f h c.args.var c.args.number i.1 d in
+    let more = here_more (way_of s.carrier) r.field-0 r.field-1 r.row.place r.row.len new.place new.len f h ((c.args.var, c.args.number) ∷ []) i.1 d in
     rw (r.is, ← number, ← direction) (i.0, here_whole s.carrier r.field-0 r.field-1 new (f ++ c.args.number ∷ []) (h ++ (c.args.var, c.args.number) ∷ []) directed none goes more, c.behind_packet-self.ensures.here)

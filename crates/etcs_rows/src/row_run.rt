@@ -48,6 +48,7 @@ impl RowRun {
 
     /// The next variables of a row as far as the piece has them whole from `at` on, where the row can end in its bits after
     /// them. `None` says nothing.
+    #[inline(always)]
     pub fn ahead(row: &RowRest, piece: &[u8], at: usize) -> Option<RowRun>
         requires inside { at ≤ length (bits piece.now) }
         requires small { length (bits piece.now) < 2 ^ 64 }

@@ -1,3 +1,4 @@
 pub mod Choices
 pub mod EntriesLaws
 pub mod Repeats
+pub mod Splits

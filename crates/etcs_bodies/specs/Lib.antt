@@ -8,6 +8,7 @@ pub mod Guards
 pub mod PacketCodes
 pub mod Packets
 pub mod Repeats
+pub mod Runs
 pub mod Sources
 pub mod Taking
 pub mod laws

@@ -7,5 +7,6 @@ pub mod Guards
 pub mod PacketCodes
 pub mod Packets
 pub mod Repeats
+pub mod Runs
 pub mod Sources
 pub mod Takes

@@ -35,7 +35,7 @@ macro_rules! build_packet {
 #[macro_export]
 macro_rules! take_fields {
     ({ $alloc:ident, $numbers:ident $(, $dir:ident)? } $($($field:ident: $($kind:ident)+),+);+) => {{
-        $($(let $field = $crate::take_field!($alloc $numbers $($kind)+);)+)+
+        $($crate::take_run!($alloc $numbers $($field: $($kind)+),+);)+
         Ok(Some(Self { $($dir,)? $($($field),+),+ }))
     }};
 }
@@ -96,6 +96,47 @@ macro_rules! take_field {
     };
     ($alloc:ident $numbers:ident $part:ident) => {
         $crate::taken!($part::take($alloc, $numbers)?)
+    };
+}
+
+/// Takes a part, or numbers that follow one another.
+#[macro_export]
+macro_rules! take_run {
+    ($alloc:ident $numbers:ident $field:ident: $part:ident) => {
+        let $field = $crate::taken!($part::take($alloc, $numbers)?);
+    };
+    ($alloc:ident $numbers:ident $field:ident: $var:ident $type:ident) => {
+        let $field = $crate::take_field!($alloc $numbers $var $type);
+    };
+    ($alloc:ident $numbers:ident $($field:ident: $var:ident $type:ident),+) => {
+        let run = $crate::taken!($numbers.run($crate::run_of!($($var $type),+)));
+        $crate::name_run!(run $($field: $type),+);
+    };
+}
+
+/// The variables of a run.
+#[macro_export]
+macro_rules! run_of {
+    ($var:ident bool) => { $crate::Flag };
+    ($var:ident $type:ident) => { Var::$var };
+    ($var:ident $type:ident, $($vars:ident $types:ident),+) => {
+        ($crate::run_of!($var $type), $crate::run_of!($($vars $types),+))
+    };
+}
+
+/// The numbers of a run, by name.
+#[macro_export]
+macro_rules! name_run {
+    ($run:ident $field:ident: bool) => { let $field = $run; };
+    ($run:ident $field:ident: $type:ident) => { let $field = $run as $type; };
+    ($run:ident $field:ident: bool, $($fields:ident: $types:ident),+) => {
+        let ($field, behind) = $run;
+        $crate::name_run!(behind $($fields: $types),+);
+    };
+    ($run:ident $field:ident: $type:ident, $($fields:ident: $types:ident),+) => {
+        let (number, behind) = $run;
+        let $field = number as $type;
+        $crate::name_run!(behind $($fields: $types),+);
     };
 }
 

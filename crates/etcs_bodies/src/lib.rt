@@ -13,6 +13,7 @@ mod list_of;
 mod numbers;
 mod packetlike;
 mod part;
+mod runs;
 
 pub use body::Body;
 pub use counted::Counted;
@@ -24,3 +25,4 @@ pub use list_of::ListOf;
 pub use numbers::Numbers;
 pub use packetlike::Packetlike;
 pub use part::{Part, clone_all, hold_all, send_list, take_list};
+pub use runs::{Flag, Run};

@@ -1,11 +1,12 @@
 //! Numbers of a row, taken one by one.
 
-ghost use Rattle.std.specs.Prelude.{◌≡◌, Some, None, IfSome, IfNone, IsTrue};
+ghost use Rattle.std.specs.Prelude.{◌≡◌, ◌<◌, Some, None, IfSome, IfNone, IsTrue};
 ghost use Rattle.etcs_vars.specs.Vars.{admits};
 ghost use Rattle.etcs_bodies.specs.Taking.{Left, listed, in_bits, is_spent, next_number, next_flag};
 ghost use Rattle.etcs_bodies.specs.Faults.{number_fault};
 ghost use Rattle.etcs_bodies.specs.Sources.{bits_left};
 
+use crate::runs::Run;
 use etcs_bits::{BitSlice, SliceWalker};
 use etcs_vars::Var;
 use std::marker::Model;
@@ -76,6 +77,19 @@ impl<'a> Numbers<'a> {
         }
     }
 
+    /// The next numbers, where the variables of the run admit them.
+    #[inline(always)]
+    pub fn run<R: Run>(&mut self, run: R) -> Option<R::Taken>
+        requires { R.bits run < 64 }
+        ensures some { IfSome result (λ ns. R.Takes run self.old ns self.new) }
+        ensures none { IfNone result (R.Lacks run self.old) }
+    {
+        match &mut self.left {
+            Source::Listed(list) => run.listed(list),
+            Source::Spelled(walker) => run_in_bits(walker, run),
+        }
+    }
+
     /// The next number as a flag.
     #[inline(always)]
     pub fn flag(&mut self) -> Option<bool>
@@ -92,7 +106,7 @@ impl<'a> Numbers<'a> {
 /// Takes the first number of a list, where the variable admits it.
 #[tactic(auto, using(crate::specs::laws::Sources::next_is_listed, crate::specs::laws::Sources::not_listed, crate::specs::laws::Sources::none_next))]
 #[inline(always)]
-fn next_listed<'a>(list: &mut &'a [u64], var: Var) -> Option<u64>
+pub(crate) fn next_listed<'a>(list: &mut &'a [u64], var: Var) -> Option<u64>
     ensures some { IfSome result (λ n. next_number var (listed list.old.now) ≡ Some (n, listed list.new.now)) }
     ensures bounded { IfSome result (λ n. IsTrue (admits var n)) }
     ensures none { IfNone result (next_number var (listed list.old.now) ≡ None) }
@@ -124,10 +138,21 @@ fn next_in_bits(walker: &mut SliceWalker<'_>, var: Var) -> Option<u64>
     Some(number)
 }
 
+/// Takes the numbers of the next bits, all from one word.
+#[inline(always)]
+fn run_in_bits<R: Run>(walker: &mut SliceWalker<'_>, run: R) -> Option<R::Taken>
+    requires { R.bits run < 64 }
+    ensures some { IfSome result (λ ns. R.Takes run (bits_left walker.old) ns (bits_left walker.new)) }
+    ensures none { IfNone result (R.Lacks run (bits_left walker.old)) }
+{
+    let word = walker.next(run.width())?;
+    run.split(word, 0)
+}
+
 /// Takes the first number of a list as a flag.
 #[tactic(auto, using(crate::specs::laws::Sources::flag_is_listed, crate::specs::laws::Sources::no_flag, crate::specs::laws::Sources::flag_too_large))]
 #[inline(always)]
-fn flag_listed<'a>(list: &mut &'a [u64]) -> Option<bool>
+pub(crate) fn flag_listed<'a>(list: &mut &'a [u64]) -> Option<bool>
     ensures some { IfSome result (λ b. next_flag (listed list.old.now) ≡ Some (b, listed list.new.now)) }
     ensures none { IfNone result (next_flag (listed list.old.now) ≡ None) }
 {

@@ -1,0 +1,28 @@
+-- Variables one after another, whose numbers are taken together.
+use Rattle.std.specs.Prelude.{◌≡◌, ℕ, ◌+◌, ◌≤◌, Bool, List, length, drop, Option, Some, None, IsTrue, ◌⊎◌}
+use Rattle.etcs_bits.specs.Bits.{num, part}
+use Rattle.etcs_vars.specs.declared.var.Var.{Var}
+use Rattle.etcs_vars.specs.Vars.{admits}
+use Rattle.etcs_bodies.specs.Faults.{number_fault}
+use Rattle.etcs_bodies.specs.Taking.{Left, in_bits, next_number}
+
+-- the number of the variable is taken
+abbrev pub TakesNumber : Var → Left → ℕ → Left → Type 0
+TakesNumber v s n t = (next_number v s ≡ Some (n, t)) × (number_fault v n ≡ None) × IsTrue (admits v n)
+
+-- both are taken, one after the other
+abbrev pub TakesBoth : {V W : Type 0} → (Left → V → Left → Type 0) → (Left → W → Left → Type 0) → Left → V × W → Left → Type 0
+TakesBoth takes takes' s p t = (u : Left) × takes s p.0 u × takes' u p.1 t
+
+-- the first isn't there, or the second isn't there after it
+abbrev pub LacksOne : {V : Type 0} → (Left → V → Left → Type 0) → (Left → Type 0) → (Left → Type 0) → Left → Type 0
+LacksOne {V} takes lacks lacks' s = lacks s ⊎ ((v : V) × (u : Left) × takes s v u × lacks' u)
+
+-- they are taken from these bits
+abbrev pub TakesBits : {V : Type 0} → (Left → V → Left → Type 0) → ℕ → List Bool → ℕ → Type 0
+TakesBits {V} takes w b k = (k + w ≤ length b) × (v : V) × takes (in_bits (drop k b)) v (in_bits (drop (k + w) b))
+
+-- the lowest bits of a word are those of a list from a place on
+pub record LiesAt (word width : ℕ) (b : List Bool) (k : ℕ) : Type 0 where
+  pub inside : k + width ≤ length b
+  pub bits : num width word ≡ part k width b

@@ -1,0 +1,163 @@
+//! Variables one after another, whose numbers are taken together.
+
+ghost use Rattle.std.specs.Prelude.{◌≡◌, ℕ, ◌+◌, ◌/◌, ◌%◌, ◌^◌, ◌<◌, List, Bool, ◌⊎◌, IfSome, IfNone, drop};
+ghost use Rattle.etcs_bodies.specs.Taking.{Left, listed, in_bits};
+ghost use Rattle.etcs_bodies.specs.Runs.{TakesBits, LiesAt};
+
+use crate::numbers::{flag_listed, next_listed};
+use etcs_vars::Var;
+
+/// Variables one after another.
+pub trait Run: Copy {
+    ghost use Rattle.std.specs.Prelude.{◌≡◌, ℕ, ◌+◌, ◌<◌, List, Bool, ◌⊎◌, IfSome, IfNone, drop};
+    ghost use Rattle.etcs_bodies.specs.Taking.{Left, listed, in_bits};
+    ghost use Rattle.etcs_bodies.specs.Runs.{TakesBits, LiesAt};
+
+    /// Their numbers.
+    type Taken: Copy;
+
+    /// Their widths together.
+    ghost bits: { Self → ℕ };
+
+    /// These numbers are taken, and this is after them.
+    ghost Takes: { Self → Left → Self.Taken → Left → Type 0 };
+
+    /// One of them can't be taken.
+    ghost Lacks: { Self → Left → Type 0 };
+
+    /// Bits begin with their numbers, or lack one.
+    ghost either: { (r : Self) (b : List Bool) (k : ℕ) → Lacks r (in_bits (drop k b)) ⊎ TakesBits (Takes r) (bits r) b k };
+
+    /// Their widths together.
+    fn width(self) -> usize
+        requires { bits self < 64 }
+        ensures { result ≡ bits self };
+
+    /// Takes their numbers from the front of a list.
+    fn listed(self, list: &mut &[u64]) -> Option<Self::Taken>
+        ensures some { IfSome result (λ ns. Takes self (listed list.old.now) ns (listed list.new.now)) }
+        ensures none { IfNone result (Lacks self (listed list.old.now)) };
+
+    /// Their numbers in a word, with this many bits after them.
+    fn split(self, word: u64, behind: usize) -> Option<Self::Taken>
+        requires { bits self + behind < 64 }
+        ensures some { IfSome result (λ ns. (b : List Bool) (k : ℕ) → LiesAt word (bits self + behind) b k → Takes self (in_bits (drop k b)) ns (in_bits (drop (k + bits self) b))) }
+        ensures none { IfNone result ((b : List Bool) (k : ℕ) → LiesAt word (bits self + behind) b k → Lacks self (in_bits (drop k b))) };
+}
+
+/// The number in `width` bits of a word, with this many bits after them.
+#[inline(always)]
+fn field(word: u64, width: usize, behind: usize) -> u64
+    requires { width + behind < 64 }
+    ensures { result ≡ word / 2 ^ behind % 2 ^ width }
+{
+    (word >> behind) % (1 << width)
+}
+
+/// A variable of one bit.
+#[derive(Clone, Copy)]
+pub struct Flag;
+
+impl Run for Flag {
+    ghost use Rattle.std.specs.Prelude.{◌≡◌, Some, None};
+    ghost use Rattle.etcs_bodies.specs.Taking.{next_flag};
+    ghost use Rattle.etcs_bodies.specs.laws.Runs.{flag_or_none};
+
+    type Taken = bool;
+
+    ghost bits = { λ f. 1 };
+
+    ghost Takes = { λ f s b t. next_flag s ≡ Some (b, t) };
+
+    ghost Lacks = { λ f s. next_flag s ≡ None };
+
+    ghost either = { λ f. flag_or_none };
+
+    #[inline(always)]
+    fn width(self) -> usize {
+        1
+    }
+
+    #[inline(always)]
+    fn listed(self, list: &mut &[u64]) -> Option<bool> {
+        flag_listed(list)
+    }
+
+    #[inline(always)]
+    fn split(self, word: u64, behind: usize) -> Option<bool> {
+        Some(field(word, 1, behind) == 1)
+    }
+}
+
+impl Run for Var {
+    ghost use Rattle.std.specs.Prelude.{◌≡◌, None};
+    ghost use Rattle.etcs_vars.specs.Vars.{width};
+    ghost use Rattle.etcs_bodies.specs.Taking.{next_number};
+    ghost use Rattle.etcs_bodies.specs.Runs.{TakesNumber};
+    ghost use Rattle.etcs_bodies.specs.laws.Runs.{number_or_none};
+
+    type Taken = u64;
+
+    ghost bits = { λ v. width v };
+
+    ghost Takes = { TakesNumber };
+
+    ghost Lacks = { λ v s. next_number v s ≡ None };
+
+    ghost either = { number_or_none };
+
+    #[inline(always)]
+    fn width(self) -> usize {
+        Var::width(self)
+    }
+
+    #[tactic(auto, using(crate::specs::laws::Takes::number_ok))]
+    #[inline(always)]
+    fn listed(self, list: &mut &[u64]) -> Option<u64> {
+        next_listed(list, self)
+    }
+
+    #[inline(always)]
+    fn split(self, word: u64, behind: usize) -> Option<u64> {
+        let number = field(word, Var::width(self), behind);
+        if !self.admits(number) {
+            return None;
+        }
+        Some(number)
+    }
+}
+
+impl<A: Run, B: Run> Run for (A, B) {
+    ghost use Rattle.std.specs.Prelude.{◌+◌};
+    ghost use Rattle.etcs_bodies.specs.Runs.{TakesBoth, LacksOne};
+    ghost use Rattle.etcs_bodies.specs.laws.Runs.{both_or_none};
+
+    type Taken = (A::Taken, B::Taken);
+
+    ghost bits = { λ r. A.bits r.0 + B.bits r.1 };
+
+    ghost Takes = { λ r. TakesBoth (A.Takes r.0) (B.Takes r.1) };
+
+    ghost Lacks = { λ r. LacksOne (A.Takes r.0) (A.Lacks r.0) (B.Lacks r.1) };
+
+    ghost either = { λ r. both_or_none (A.Takes r.0) (A.Lacks r.0) (A.bits r.0) (B.Takes r.1) (B.Lacks r.1) (B.bits r.1) (A.either r.0) (B.either r.1) };
+
+    #[inline(always)]
+    fn width(self) -> usize {
+        self.0.width() + self.1.width()
+    }
+
+    #[inline(always)]
+    fn listed(self, list: &mut &[u64]) -> Option<(A::Taken, B::Taken)> {
+        let first = self.0.listed(list)?;
+        let second = self.1.listed(list)?;
+        Some((first, second))
+    }
+
+    #[inline(always)]
+    fn split(self, word: u64, behind: usize) -> Option<(A::Taken, B::Taken)> {
+        let first = self.0.split(word, self.1.width() + behind)?;
+        let second = self.1.split(word, behind)?;
+        Some((first, second))
+    }
+}

@@ -1,5 +1,5 @@
 -- The numbers of variables whose bits lie one after another in a word.
-use Rattle.std.proofs.Common.{◌≡◌, ℕ, ◌+◌, ◌-◌, ◌*◌, ◌/◌, ◌%◌, ◌^◌, ◌<◌, ◌≤◌, Bool, List, ◌++◌, length, take, drop, Option, Some, None, refl, sym, ap, subst, ◌∙◌, arith, inl, inr}
+use Rattle.std.proofs.Common.{◌≡◌, ℕ, ◌+◌, ◌/◌, ◌%◌, ◌^◌, ◌≤◌, Bool, List, ◌++◌, length, take, drop, Option, Some, None, sym, ap, subst, ◌∙◌, arith, inl, inr}
 use Rattle.std.proofs.lemmas.Bool.{cases_lt}
 use Rattle.std.proofs.Math.Seq.{take-append_seam, drop-append_seam}
 use Rattle.etcs_bits.specs.Bits.{num, value, part, number_at}
@@ -11,16 +11,17 @@ use Rattle.etcs_bodies.specs.Runs.{LiesAt}
 
 -- two lists of which the first parts are equally long
 halves : (xs ys xs' ys' : List Bool) → length xs ≡ length xs' → xs ++ ys ≡ xs' ++ ys' → (xs ≡ xs') × (ys ≡ ys')
-halves xs ys xs' ys' l e =
-    (sym (take-append_seam xs ys) ∙ ap (take (length xs)) e ∙ ap (λ k. take k (xs' ++ ys')) l ∙ take-append_seam xs' ys',
-    sym (drop-append_seam xs ys) ∙ ap (drop (length xs)) e ∙ ap (λ k. drop k (xs' ++ ys')) l ∙ drop-append_seam xs' ys')
+halves xs ys xs' ys' l e = (
+  sym (take-append_seam xs ys) ∙ ap (take (length xs)) e ∙ ap (λ k. take k (xs' ++ ys')) l ∙ take-append_seam xs' ys',
+  sym (drop-append_seam xs ys) ∙ ap (drop (length xs)) e ∙ ap (λ k. drop k (xs' ++ ys')) l ∙ drop-append_seam xs' ys',
+)
 
 both_lie : (word w m : ℕ) (b : List Bool) (k : ℕ) → LiesAt word (w + m) b k → (num w (word / 2 ^ m) ≡ part k w b) × (num m word ≡ part (k + w) m b)
 both_lie word w m b k h =
     let inside = h.inside in
     halves (num w (word / 2 ^ m)) (num m word) (part k w b) (part (k + w) m b)
-        (length-num w (word / 2 ^ m) ∙ sym (length-part k w b (omega (arith, inside))))
-        (sym (num-add w m word) ∙ h.bits ∙ part-add k w m b)
+    (length-num w (word / 2 ^ m) ∙ sym (length-part k w b (omega (arith, inside))))
+    (sym (num-add w m word) ∙ h.bits ∙ part-add k w m b)
 
 -- the number in the first of them
 pub first_lies : (word w m : ℕ) (b : List Bool) (k : ℕ) → LiesAt word (w + m) b k → number_at k w b ≡ Some (word / 2 ^ m % 2 ^ w)

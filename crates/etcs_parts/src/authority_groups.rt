@@ -58,7 +58,7 @@ pub(crate) fn take_end_timer(numbers: &mut Numbers) -> Option<Option<(u16, u16)>
     ensures from { IfSome result (λ t. end_timer_from numbers.old ≡ Some (t, numbers.new)) }
     ensures none { IfNone result (end_timer_from numbers.old ≡ None) }
 {
-    end_timer!(take_group: numbers)
+    end_timer!(take_group: numbers, numbers.flag()?)
 }
 
 /// Refuses a danger point that has a fault.
@@ -87,7 +87,7 @@ pub(crate) fn take_danger_point(numbers: &mut Numbers) -> Option<Option<(u16, u8
     ensures from { IfSome result (λ p. danger_from numbers.old ≡ Some (p, numbers.new)) }
     ensures none { IfNone result (danger_from numbers.old ≡ None) }
 {
-    danger_point!(take_group: numbers)
+    danger_point!(take_group: numbers, numbers.flag()?)
 }
 
 /// Refuses an overlap that has a fault.
@@ -116,5 +116,5 @@ pub(crate) fn take_overlap(numbers: &mut Numbers) -> Option<Option<(u16, u16, u1
     ensures from { IfSome result (λ o. overlap_from numbers.old ≡ Some (o, numbers.new)) }
     ensures none { IfNone result (overlap_from numbers.old ≡ None) }
 {
-    overlap!(take_group: numbers)
+    overlap!(take_group: numbers, numbers.flag()?)
 }

@@ -47,6 +47,15 @@ impl BaliseAt {
         Ok(BaliseAt { nid_c, nid_bg })
     }
 
+    /// The group of these numbers, which are admitted.
+    #[inline(always)]
+    pub(crate) fn of(nid_c: Option<u16>, nid_bg: u16) -> BaliseAt
+        requires { balise_at_fault (balise_at_value nid_c nid_bg) ≡ None }
+        ensures { result ≡ balise_at_value nid_c nid_bg }
+    {
+        BaliseAt { nid_c, nid_bg }
+    }
+
     /// The group's country or region, where it is another than that of the group before.
     pub fn nid_c(&self) -> Option<u16>
         ensures { result ≡ self.now.nid_c }
@@ -110,12 +119,12 @@ impl Part for BaliseAt {
     #[tactic(auto, unfolding(crate::specs::BalisesAt::balise_at_from))]
     #[inline(always)]
     fn take(_alloc: Global, numbers: &mut Numbers) -> Result<Option<BaliseAt>, AllocError> {
-        let nid_c = if taken!(numbers.flag()) {
-            Some(taken!(numbers.next(Var::NID_C)) as u16)
+        let (nid_c, nid_bg) = if taken!(numbers.flag()) {
+            let (country, group) = taken!(numbers.run((Var::NID_C, Var::NID_BG)));
+            (Some(country as u16), group as u16)
         } else {
-            None
+            (None, taken!(numbers.next(Var::NID_BG)) as u16)
         };
-        let nid_bg = taken!(numbers.next(Var::NID_BG)) as u16;
         Ok(Some(BaliseAt { nid_c, nid_bg }))
     }
 

@@ -3,7 +3,7 @@
 ghost use Rattle.std.specs.Prelude.{◌≡◌, None, Some, IfOk, IfErr, IfSome, IfNone, OnOk, OnErr, ◌≤◌};
 ghost use Rattle.etcs_parts.specs.TextFrames.{IsReport, report_from, IsConfirm, confirm_from, confirmed_fault, confirmed_reading, confirmed_count, confirmed_from};
 
-use etcs_bodies::{Numbers, check, check_guard, taken};
+use etcs_bodies::{Flag, Numbers, check, check_guard, taken};
 use etcs_vars::parts::VarSink;
 use etcs_vars::{BuildFault, Var};
 use std::alloc::{AllocError, Global};
@@ -107,10 +107,11 @@ fn next_report(numbers: &mut Numbers) -> Option<(u8, u16, u16)>
     ensures from { IfSome result (λ r. report_from numbers.old ≡ Some (r, numbers.new)) }
     ensures none { IfNone result (report_from numbers.old ≡ None) }
 {
-    let message = numbers.next(Var::NID_TEXTMESSAGE)? as u8;
-    let country = numbers.next(Var::NID_C)? as u16;
-    let centre = numbers.next(Var::NID_RBC)? as u16;
-    Some((message, country, centre))
+    let (message, (country, centre)) = numbers.run((
+        Var::NID_TEXTMESSAGE,
+        (Var::NID_C, Var::NID_RBC),
+    ))?;
+    Some((message as u8, country as u16, centre as u16))
 }
 
 /// The confirmation that the numbers begin with.
@@ -120,8 +121,8 @@ fn next_confirm(numbers: &mut Numbers) -> Option<(bool, Option<(u8, u16, u16)>)>
     ensures from { IfSome result (λ c. confirm_from numbers.old ≡ Some (c, numbers.new)) }
     ensures none { IfNone result (confirm_from numbers.old ≡ None) }
 {
-    let q_conftextdisplay = numbers.flag()?;
-    let report = if numbers.flag()? {
+    let (q_conftextdisplay, reported) = numbers.run((Flag, Flag))?;
+    let report = if reported {
         Some(next_report(numbers)?)
     } else {
         None

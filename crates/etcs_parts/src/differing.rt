@@ -126,19 +126,16 @@ impl Part for Differing {
         let _ = &self.q_diff;
     }
 
-    #[tactic(auto, unfolding(crate::specs::Differings::differing_from))]
+    #[tactic(auto, using(crate::specs::laws::Differings::same_category, crate::specs::laws::Differings::category_admitted), unfolding(crate::specs::Differings::differing_from))]
     fn take(_alloc: Global, numbers: &mut Numbers) -> Result<Option<Differing>, AllocError> {
-        let q_diff = taken!(numbers.next(Var::Q_DIFF)) as u8;
-        let category = if q_diff == 0 {
-            taken!(numbers.next(Var::NC_CDDIFF)) as u8
-        } else {
-            taken!(numbers.next(Var::NC_DIFF)) as u8
-        };
-        let v_diff = taken!(numbers.next(Var::V_DIFF)) as u8;
+        let (q_diff, (category, v_diff)) = taken!(numbers.run((
+            Var::Q_DIFF,
+            (Var::NC_DIFF, Var::V_DIFF)
+        )));
         Ok(Some(Differing {
-            q_diff,
-            category,
-            v_diff,
+            q_diff: q_diff as u8,
+            category: category as u8,
+            v_diff: v_diff as u8,
         }))
     }
 

@@ -23,13 +23,14 @@ macro_rules! send_group {
     };
 }
 
-/// Takes the flag and the group.
+/// Takes the group where its flag is set.
 macro_rules! take_group {
-    ({ $numbers:ident } $flag:ident $($name:ident: $var:ident $type:ident),*) => {{
-        if !$numbers.flag()? {
+    ({ $numbers:ident, $flagged:expr } $flag:ident $($name:ident: $var:ident $type:ident),*) => {{
+        if !$flagged {
             return Some(None);
         }
-        $(let $name = $numbers.next(Var::$var)? as $type;)*
+        let run = $numbers.run(etcs_bodies::run_of!($($var $type),*))?;
+        etcs_bodies::name_run!(run $($name: $type),*);
         Some(Some(($($name),*)))
     }};
 }

@@ -3,7 +3,7 @@
 ghost use Rattle.std.specs.Prelude.{◌≡◌, None, Some, IfOk, IfErr, OnOk};
 
 use crate::balise_at::BaliseAt;
-use etcs_bodies::{Entry, Numbers, Part, build_part, send_fields, take_fields};
+use etcs_bodies::{Entry, Flag, Numbers, Part, build_part, send_fields, taken};
 use etcs_vars::parts::{VarSink, Variables};
 use etcs_vars::{BuildFault, Var};
 use std::alloc::{AllocError, Global};
@@ -144,10 +144,24 @@ impl Part for Link {
         let _ = &self.d_link;
     }
 
-    #[tactic(auto, unfolding(crate::specs::Links::link_from))]
+    #[tactic(auto, unfolding(crate::specs::Links::link_from, crate::specs::BalisesAt::balise_at_from))]
     #[inline(always)]
-    fn take(alloc: Global, numbers: &mut Numbers) -> Result<Option<Link>, AllocError> {
-        fields!(take_fields: alloc, numbers)
+    fn take(_alloc: Global, numbers: &mut Numbers) -> Result<Option<Link>, AllocError> {
+        let (d_link, far) = taken!(numbers.run((Var::D_LINK, Flag)));
+        let behind = (Flag, (Var::Q_LINKREACTION, Var::Q_LOCACC));
+        let (nid_c, (nid_bg, (q_linkorientation, (q_linkreaction, q_locacc)))) = if far {
+            let (country, rest) = taken!(numbers.run((Var::NID_C, (Var::NID_BG, behind))));
+            (Some(country as u16), rest)
+        } else {
+            (None, taken!(numbers.run((Var::NID_BG, behind))))
+        };
+        Ok(Some(Link {
+            d_link: d_link as u16,
+            balise: BaliseAt::of(nid_c, nid_bg as u16),
+            q_linkorientation,
+            q_linkreaction: q_linkreaction as u8,
+            q_locacc: q_locacc as u8,
+        }))
     }
 
     fn try_clone(&self, _alloc: Global) -> Result<Link, AllocError> {

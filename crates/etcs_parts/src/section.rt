@@ -1,10 +1,13 @@
 //! A section of a movement authority.
 
 ghost use Rattle.std.specs.Prelude.{◌≡◌, None, Some, IfOk, IfErr, IfSome, IfNone, OnOk, OnErr};
-ghost use Rattle.etcs_parts.specs.Sections.{timer_fault, timer_reading, timer_from};
+ghost use Rattle.etcs_parts.specs.Sections.{timer_fault, timer_reading};
+ghost use Rattle.etcs_bodies.specs.Codecs.{opened};
+ghost use Rattle.etcs_bodies.specs.Groups.{pair_from};
+ghost use Rattle.etcs_vars.specs.declared.var.Var.TheVariants.{T_SECTIONTIMER, D_SECTIONTIMERSTOPLOC};
 
 use crate::groups::{check_group, send_group, take_group};
-use etcs_bodies::{Numbers, Part, check, taken};
+use etcs_bodies::{Flag, Numbers, Part, check, taken};
 use etcs_vars::parts::{VarSink, Variables};
 use etcs_vars::{BuildFault, Var};
 use std::alloc::{AllocError, Global};
@@ -82,15 +85,18 @@ impl Section {
     }
 
     /// The end section that the numbers begin with.
-    #[tactic(auto, unfolding(crate::specs::Sections::end_from), using(crate::specs::laws::Sections::same_length))]
+    #[tactic(auto, unfolding(crate::specs::Sections::end_from, crate::specs::Sections::timer_from), using(crate::specs::laws::Sections::same_length))]
     pub(crate) fn end_from_numbers(numbers: &mut Numbers) -> Option<Section>
         ensures part { IfSome result (λ s. IsSection s) }
         ensures from { IfSome result (λ s. end_from numbers.old ≡ Some (s, numbers.new)) }
         ensures none { IfNone result (end_from numbers.old ≡ None) }
     {
-        let length = numbers.next(Var::L_ENDSECTION)? as u16;
-        let timer = take_timer(numbers)?;
-        Some(Section { length, timer })
+        let (length, timed) = numbers.run((Var::L_ENDSECTION, Flag))?;
+        let timer = timer_behind(timed, numbers)?;
+        Some(Section {
+            length: length as u16,
+            timer,
+        })
     }
 
     /// Sends its variables as those of the end section.
@@ -119,15 +125,14 @@ fn send_timer<S: VarSink>(timer: Option<(u16, u16)>, out: &mut S) -> Result<(), 
     timer!(send_group: timer, out)
 }
 
-/// The timer that the numbers begin with, after its flag.
-#[tactic(auto, unfolding(crate::specs::Sections::timer_from))]
+/// The timer that the numbers begin with, where its flag is set.
 #[inline(always)]
-fn take_timer(numbers: &mut Numbers) -> Option<Option<(u16, u16)>>
+fn timer_behind(timed: bool, numbers: &mut Numbers) -> Option<Option<(u16, u16)>>
     ensures part { IfSome result (λ t. timer_fault t ≡ None) }
-    ensures from { IfSome result (λ t. timer_from numbers.old ≡ Some (t, numbers.new)) }
-    ensures none { IfNone result (timer_from numbers.old ≡ None) }
+    ensures from { IfSome result (λ t. opened (pair_from T_SECTIONTIMER D_SECTIONTIMERSTOPLOC) timed numbers.old ≡ Some (t, numbers.new)) }
+    ensures none { IfNone result (opened (pair_from T_SECTIONTIMER D_SECTIONTIMERSTOPLOC) timed numbers.old ≡ None) }
 {
-    timer!(take_group: numbers)
+    timer!(take_group: numbers, timed)
 }
 
 impl Variables for Section {
@@ -167,11 +172,14 @@ impl Part for Section {
         let _ = &self.length;
     }
 
-    #[tactic(auto, unfolding(crate::specs::Sections::section_from))]
+    #[tactic(auto, unfolding(crate::specs::Sections::section_from, crate::specs::Sections::timer_from))]
     fn take(_alloc: Global, numbers: &mut Numbers) -> Result<Option<Section>, AllocError> {
-        let length = taken!(numbers.next(Var::L_SECTION)) as u16;
-        let timer = taken!(take_timer(numbers));
-        Ok(Some(Section { length, timer }))
+        let (length, timed) = taken!(numbers.run((Var::L_SECTION, Flag)));
+        let timer = taken!(timer_behind(timed, numbers));
+        Ok(Some(Section {
+            length: length as u16,
+            timer,
+        }))
     }
 
     fn try_clone(&self, _alloc: Global) -> Result<Section, AllocError> {

@@ -133,8 +133,9 @@ impl Part for Shown {
 
     #[tactic(auto, using(etcs_bodies::specs::laws::Guards::guard_ok), unfolding(crate::specs::Displays::shown_from, etcs_bodies::specs::Guards::guard_fault))]
     fn take(_alloc: Global, numbers: &mut Numbers) -> Result<Option<Shown>, AllocError> {
-        let m_modetextdisplay = taken!(numbers.next(Var::M_MODETEXTDISPLAY)) as u8;
-        let m_leveltextdisplay = taken!(numbers.next(Var::M_LEVELTEXTDISPLAY)) as u8;
+        let (mode, level) = taken!(numbers.run((Var::M_MODETEXTDISPLAY, Var::M_LEVELTEXTDISPLAY)));
+        let m_modetextdisplay = mode as u8;
+        let m_leveltextdisplay = level as u8;
         let nid_ntc = if m_leveltextdisplay == 1 {
             Some(taken!(numbers.next(Var::NID_NTC)) as u8)
         } else {

@@ -1,5 +1,5 @@
 -- What is left either begins with the numbers of a run, in the bits of its widths, or lacks one.
-use Rattle.std.proofs.Common.{◌≡◌, ℕ, ◌+◌, ◌≤◌, Bool, true, false, List, length, drop, Option, Some, None, refl, sym, ap, subst, ◌∙◌, arith, inl, inr}
+use Rattle.std.proofs.Common.{◌≡◌, ℕ, ◌+◌, ◌≤◌, Bool, true, false, List, length, drop, Option, Some, None, refl, sym, subst, ◌∙◌, arith, inl, inr}
 use Rattle.std.specs.Prelude.{◌⊎◌, nat_eq}
 use Rattle.std.proofs.lemmas.Bool.{cases_lt}
 use Rattle.etcs_bits.specs.Bits.{number_at, value, part}
@@ -38,11 +38,11 @@ both_or_none takes lacks w takes' lacks' w' first second b k =
     elim (first b k) [
       | inl l ↦ inl (inl l)
       | inr h ↦ elim (second b (k + w)) [
-          | inl l ↦ inl (inr (h.1, in_bits (drop (k + w) b), h.2, l))
-          | inr i ↦
-              let all : k + w + w' ≡ k + (w + w') = omega arith in
-              inr (omega (arith, i.0), (h.1, i.1), (in_bits (drop (k + w) b), h.2, subst (λ j. takes' (in_bits (drop (k + w) b)) i.1 (in_bits (drop j b))) all i.2))
-        ]
+        | inl l ↦ inl (inr (h.1, in_bits (drop (k + w) b), h.2, l))
+        | inr i ↦
+            let all : k + w + w' ≡ k + (w + w') = omega arith in
+            inr (omega (arith, i.0), (h.1, i.1), (in_bits (drop (k + w) b), h.2, subst (λ j. takes' (in_bits (drop (k + w) b)) i.1 (in_bits (drop j b))) all i.2))
+      ]
     ]
 
 -- where the bits of a run aren't all there, one of its numbers isn't

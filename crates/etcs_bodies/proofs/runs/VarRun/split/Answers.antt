@@ -1,4 +1,4 @@
-use Rattle.std.proofs.Common.{◌≡◌, ◌/◌, ◌%◌, ◌^◌, Some, sym, ap, ◌∙◌}
+use Rattle.std.proofs.Common.{◌/◌, ◌%◌, ◌^◌, Some, sym, ap, ◌∙◌}
 use Rattle.etcs_vars.specs.Vars.{width}
 use Rattle.etcs_bodies.specs.laws.Sources.{next_is_in_bits, not_in_bits}
 use Rattle.etcs_bodies.specs.laws.Takes.{number_ok}

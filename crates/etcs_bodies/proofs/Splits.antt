@@ -29,7 +29,7 @@ first_lies word w m b k h =
     let inside = h.inside in
     sym (number_inside k w b (word / 2 ^ m % 2 ^ w) (omega (arith, inside)) (sym (value-num_low w (word / 2 ^ m)) ∙ ap value (both_lie word w m b k h).0))
 
--- and those behind them
+-- and those after them
 pub second_lies : (word w m : ℕ) (b : List Bool) (k : ℕ) → LiesAt word (w + m) b k → LiesAt word m b (k + w)
 second_lies word w m b k h =
     let inside = h.inside in

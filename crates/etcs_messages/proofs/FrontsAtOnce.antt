@@ -197,7 +197,7 @@ whole_front way nid vars table xs hs f mid end typed long found h o =
 
 -- ---- A walker that comes by the front.
 
--- behind NID_MESSAGE and L_MESSAGE
+-- after NID_MESSAGE and L_MESSAGE
 pub numbers_passed : (xs : List Bool) (w next : SliceWalk) (r : Option ℕ) (n : ℕ) → w ≡ record { bits = xs; place = 0 } → r ≡ number_at w.place 18 w.bits → next ≡ record w { place = if is_some r then w.place + 18 else w.place } → r ≡ Some n → (next ≡ record { bits = xs; place = 18 }) × (18 ≤ length xs)
 numbers_passed xs w next r n first found moved some =
     let inside : number_at 0 18 xs ≡ Some n = ap (λ (x : SliceWalk). number_at x.place 18 x.bits) (sym first) ∙ sym found ∙ some in (
@@ -205,7 +205,7 @@ numbers_passed xs w next r n first found moved some =
       found_inside 0 18 n xs inside,
     )
 
--- the numbers of these variables come behind others, and the walker passes them
+-- the numbers of these variables come after others, and the walker passes them
 abbrev pub Passes : List Var → SliceWalk → List ℕ → List ℕ → ℕ → Type 0
 Passes vs w before now end = (ns : List ℕ) × (now ≡ before ++ ns) × FrontAt vs w.bits w.place ns end
 

@@ -62,7 +62,7 @@ typed_bits way hd bd form head body ps padding =
     ∙ ap (λ (s : List Bool). s ++ spelled (kept PADDING z)) third
     ∙ ap (λ (s : List Bool). (((spelled n ++ spelled (hd.reading head)) ++ spelled b) ++ spelled p) ++ s) (bits_spelled PADDING z refl)
 
--- the same put behind others, PADDING up to whole bytes
+-- the same put after others, PADDING up to whole bytes
 typed_put : {H B P : Type 0} (way : Way) (hd : HeadOf H) (bd : OwnOf B) (form : P → Form) {sent_head : H → Reading} {sent_own : B → Reading} (hl : HeadLaws way H sent_head hd) (ol : OwnLaws way B sent_own bd) (head : H) (body : B) (ps : List P) (padding : ℕ) (s s1 s2 s3 s4 s5 : Held) → IsTyped way hd bd form head body ps padding → s.behind ≡ [] → s1 ≡ and_bits s (spelled (numbers_front (bd.nid body) (bytes_of way bd form (Typed head body ps padding)))) → s2 ≡ and_bits s1 (spelled (sent_head head)) → s3 ≡ and_bits s2 (spelled (sent_own body)) → s4 ≡ and_bits s3 (spelled (readings_to way (values_of form ps))) → s5 ≡ and_bits s4 (num ((8 - length s4.behind % 8) % 8) padding)
     → s5 ≡ and_bits s (spelled (message_reading way hd bd form (Typed head body ps padding)))
 typed_put way hd bd form hl ol head body ps padding s s1 s2 s3 s4 s5 is none e1 e2 e3 e4 e5 =
@@ -101,7 +101,7 @@ pub kept_put_if : {T E : Type 0} (r : Result T E) {H B P : Type 0} (way : Way) (
 kept_put_if (Ok x) way hd bd form nid b s s1 s2 e1 e2 = kept_put way hd bd form nid b s s1 s2 e1 e2
 kept_put_if (Err x) way hd bd form nid b s s1 s2 e1 e2 = tt
 
--- ---- Bytes with the bits that were put behind them.
+-- ---- Bytes with the bits that were put after them.
 
 -- whole bytes need no more bits
 pub given_if : {T E U F : Type 0} (put : Result T E) (done : Result U F) (old new : List ℕ) (s t : Held) (b : List Bool) (n : ℕ) → s.first ≡ old → s.behind ≡ [] → length b ≡ 8 * n → OnOk put (t ≡ and_bits s b) → OnOk done (IsOk put) → OnOk done (bits new ≡ bits t.first ++ (t.behind ++ replicate ((8 - length t.behind % 8) % 8) false)) → OnOk done (bits new ≡ bits old ++ b)

@@ -1,4 +1,4 @@
--- Bits put into a word behind others.
+-- Bits put into a word after others.
 use Rattle.std.proofs.Common.{◌≡◌, ℕ, zero, suc, ◌+◌, ◌-◌, ◌*◌, ◌/◌, ◌%◌, ◌^◌, ◌<◌, ◌≤◌, Bool, false, List, [], ◌∷◌, ◌++◌, length, take, drop, get_or, map, replicate, refl, sym, ap, subst, ◌∙◌, arith, append_assoc}
 use Rattle.std.specs.Int.{to_be_bytes, w64}
 use Rattle.std.specs.Prelude.{Result, Ok, Err, Some, None, OnOk, OnErr, is_ok, if◌then◌else◌}
@@ -127,7 +127,7 @@ within_zeros h c w n room most e =
 number_of_part : (s k : ℕ) (b : List Bool) → s + k ≤ length b → num k (value (part s k b)) ≡ part s k b
 number_of_part s k b h = ap (λ (x : ℕ). num x (value (part s k b))) (sym (length-part s k b h)) ∙ num-value (part s k b)
 
--- what is left of the number behind a whole word, as the code finds it
+-- what is left of the number after a whole word, as the code finds it
 abbrev pub left_over : ℕ → ℕ → ℕ
 left_over c t = t * 2 % 2 ^ 64 * 2 ^ (63 - c) % 2 ^ 64
 
@@ -204,7 +204,7 @@ put_over start bytes more new h c w n s full most hb e f =
       sink = record { within = (let long = ap length e ∙ length-append bytes more in omega (arith, within, long)); few = omega (arith, few, most); zeros = over_zeros c w n few most full };
     }
 
--- none behind the bytes
+-- none after the bytes
 pub new_behind : (bytes : List ℕ) (start : ℕ) → start ≡ length bytes → drop (8 * start) (bits bytes) ++ [] ≡ []
 new_behind bytes start e = append-nil (drop (8 * start) (bits bytes)) ∙ drop_all (8 * start) (bits bytes) (omega (arith, e, length-bits bytes))
 
@@ -341,7 +341,7 @@ joins_some (p ∷ sent) (suc count) wide number j =
     let size : wide ≡ length (new ++ rest) = j.width_is in
     omega (arith, size, length-append new rest, length-num (width p.0) p.1, width_pos p.0)
 
--- variables behind others
+-- variables after others
 pub send_more : (s one two : Held) (sent : Reading) (done n : ℕ) → one ≡ and_bits s (spelled (take done sent)) → two ≡ and_bits one (spelled (take n (drop done sent))) → two ≡ and_bits s (spelled (take (done + n) sent))
 send_more s one two sent done n e f =
     let a = take done sent in

@@ -1,4 +1,4 @@
--- What a sink of bits holds: the bytes that it was made of, and the bits behind them.
+-- What a sink of bits holds: the bytes that it was made of, and the bits after them.
 use Rattle.std.specs.Prelude.{◌≡◌, ℕ, ◌-◌, ◌*◌, ◌%◌, ◌^◌, ◌<◌, ◌≤◌, Bool, List, ◌++◌, length, take, drop}
 use Rattle.etcs_bits.specs.Bits.{bits, num}
 
@@ -9,7 +9,7 @@ pub record Held : Type 0 where
 abbrev pub held_of : List ℕ → List Bool → Held
 held_of bytes b = record { first = bytes; behind = b }
 
--- the same bytes, and these bits behind them
+-- the same bytes, and these bits after them
 abbrev pub with_behind : Held → List Bool → Held
 with_behind s b = held_of s.first b
 

@@ -13,7 +13,7 @@ use std::alloc::AllocError;
 use std::marker::Model;
 use std::mem;
 
-/// Bytes and the bits behind them, of which fewer than 64 aren't in the bytes yet.
+/// Bytes and the bits after them, of which fewer than 64 aren't in the bytes yet.
 #[derive(Debug, Drop)]
 pub struct WordSink {
     /// How many bytes there were at first.
@@ -36,7 +36,7 @@ impl Model for WordSink {
 }
 
 impl WordSink {
-    /// These bytes, behind which bits are put. `bytes` are none then, until they are given back.
+    /// These bytes, after which bits are put. `bytes` are none then, until they are given back.
     pub fn new(bytes: &mut Vec<u8>) -> WordSink
         ensures first { result.first ≡ bytes.old.items }
         ensures behind { result.behind ≡ [] }
@@ -165,7 +165,7 @@ impl WordSink {
     }
 }
 
-/// Gives the bytes of a sink back with the bits that were put behind them, or alone where memory was refused.
+/// Gives the bytes of a sink back with the bits that were put after them, or alone where memory was refused.
 ///
 /// # Errors
 ///

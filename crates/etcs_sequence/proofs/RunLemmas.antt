@@ -111,7 +111,7 @@ kept_at way c to H H' xs at l nid dir body frame within same fine held =
 
 -- ---- One after another.
 
--- the bits from at on are those of whole packets, which leave so many of the room, and H holds the packets
+-- the bits from at on are those of whole packets, which leave this many bits of the room, and H holds the packets
 pub record RunTo (c : Carrier) (room : ℕ) (H : Holds) (xs : List Bool) (at left : ℕ) : Type 0 where
   pub packets : List PacketValue
   pub held : H packets [] []

@@ -32,7 +32,7 @@ pub record WholeAt (c : Carrier) (H H' : Holds) (xs : List Bool) (at l : ℕ) : 
 abbrev pub run_reading : Carrier → List PacketValue → Reading
 run_reading c vs = readings_to (way_of c) vs ++ closing c
 
--- the bits of a piece from at on are those of packets in a room, which leave so many of it, and H holds the packets
+-- the bits of a piece from at on are those of packets in a room, which leave this many bits of it, and H holds the packets
 pub record RunAt (c : Carrier) (room : ℕ) (H : Holds) (xs : List Bool) (at left : ℕ) : Type 0 where
   pub packets : List PacketValue
   pub held : H packets [] []

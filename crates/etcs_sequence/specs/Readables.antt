@@ -56,7 +56,7 @@ abbrev pub progress_with : {V : Type 0} → Option (V × ℕ) → Progress V →
 progress_with None s = s
 progress_with (Some d) s = finished d.0
 
--- it is a value of so many bytes, whose bits a word counts, and the feeder, whose progress is s, took none of them
+-- it is a value of this many bytes, whose bits a word counts, and the feeder, whose progress is s, took none of them
 abbrev pub IsDone : {V : Type 0} → (V → Type 0) → (V → ℕ) → Option (V × ℕ) → Progress V → Type 0
 IsDone IsValue size None s = Unit {0}
 IsDone IsValue size (Some d) s = IsValue d.0 × (size d.0 ≡ 8 * d.1) × (8 * d.1 < 2 ^ 64) × (s ≡ reading [])

@@ -1,4 +1,4 @@
--- A telegram put behind other bits.
+-- A telegram put after other bits.
 use Rattle.std.proofs.Common.{◌≡◌, ℕ, ◌-◌, ◌%◌, Bool, false, List, [], ◌++◌, length, refl, sym, ap, ◌∙◌, arith}
 use Rattle.std.specs.Prelude.{Result, Ok, Err, OnOk, OnErr, IsOk, replicate}
 use Rattle.std.proofs.lemmas.List.{append-nil}
@@ -12,7 +12,7 @@ use Rattle.etcs_telegram.specs.Writing.{telegram_reading}
 use Rattle.etcs_telegram.proofs.Encoding.{telegram_bits, whole_bytes}
 use Rattle.etcs_telegram.proofs.Spellings.{whole_length}
 
--- bits behind others, and more behind them
+-- bits after others, and more after them
 put_behind : (s one two : Held) (a b : List Bool) → one ≡ and_bits s a → two ≡ and_bits one b → two ≡ and_bits s (a ++ b)
 put_behind s one two a b e f = f ∙ ap (λ (t : Held). and_bits t b) e ∙ and_both s a b
 

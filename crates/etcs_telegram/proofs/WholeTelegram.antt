@@ -59,7 +59,7 @@ four_parts xs a b c d second third all e f g =
 pub container_inside : (size : Size) (piece : List ℕ) → container_bytes size ≤ length piece → user_bits size + pad_bits size ≤ length (bits piece)
 container_inside size piece h = omega (arith, h, length-bits piece, whole_bytes size)
 
--- packets in their room, of which so many bits are left, and the bits of FILL behind them
+-- packets in their room, of which this many bits are left, and the bits of FILL after them
 module _ (size : Size) (piece : List ℕ) (left room user : ℕ) (H : Holds) (long : container_bytes size ≤ length piece) (room_is : room ≡ packet_room size) (user_is : user ≡ user_bits size) (run : RunAt carrier.Telegram room H (bits piece) 50 left) (fill : List Bool) (fill_is : fill ≡ part (user - left) left (bits piece)) where
   fill_long : length fill ≡ left
   fill_long =

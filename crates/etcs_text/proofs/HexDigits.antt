@@ -59,14 +59,14 @@ one_before old text new count left some most room front behind written before =
       one_more (take count old) (drop (2 * count) old) text new k (omega (arith, length-take count old)) (rw e at behind) (rw byte at written),
     )
 
--- one place is left behind the digits
+-- one place is left after the digits
 last_left : (bytes : List ℕ) (count : ℕ) → length bytes ≡ count → drop (2 * count) (bytes ++ replicate (count + 1) 10) ≡ 10 ∷ []
 last_left bytes count few =
     let place : 2 * count ≡ length bytes + count = omega (arith, few) in
     let one : count + 1 - count ≡ 1 = omega arith in
     rw (place, drop-append-add bytes (replicate {A = ℕ} (count + 1) 10) count, drop-replicate {X = ℕ} count (count + 1) 10, one) refl
 
--- the bytes behind the first ones, as digits with a LF
+-- the bytes after the first ones, as digits with a LF
 pub line_is : (old items slice new : List ℕ) (start count len n : ℕ) → start + count ≡ length old → n ≡ length old → len ≡ start + 2 * count + 1 → items ≡ take (start + 2 * count + 1) old ++ replicate (start + 2 * count + 1 - n) 10 → slice ≡ drop start items → new ≡ encode_upper (take count slice) ++ drop (2 * count) slice → take len (take start items ++ (new ++ drop (length new) (drop start items)) ++ drop (length (take start items ++ (new ++ drop (length new) (drop start items)))) items) ≡ take start old ++ (encode_upper (drop start old) ++ 10 ∷ [])
 line_is old items slice new start count len n all same_length end filled cut written =
     let bytes : List ℕ = drop start old in

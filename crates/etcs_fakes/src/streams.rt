@@ -5,7 +5,7 @@ use std::io::{self, ErrorKind, Read, Write};
 /// How many bytes a reader may be asked for at once.
 const MOST: usize = 4096;
 
-/// Gives so many bytes a read, and then fails, or is at its end. It fails, too, where it is asked for more than 4,096 bytes.
+/// Gives n bytes a read, and then fails, or is at its end. It fails, too, where it is asked for more than 4,096 bytes.
 #[derive(Drop)]
 pub struct Broken<'a> {
     pub rest: &'a [u8],

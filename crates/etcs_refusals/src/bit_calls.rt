@@ -27,7 +27,7 @@ fn is_front(bits: &Bits, slice: &BitSlice<'_>) -> bool {
     same
 }
 
-/// Appends the number of so many bits of a slice.
+/// Appends the number of `width` bits of a slice.
 fn push(bits: &mut Bits, slice: &BitSlice<'_>, width: usize) -> Result<(), AllocError> {
     if bits.len() > 10_000 {
         return Ok(());

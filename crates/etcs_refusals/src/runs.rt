@@ -49,7 +49,7 @@ impl Runs<'_> {
         Answer::refused(is_right)
     }
 
-    /// Whether it was refused after each of so many numbers of items, from none on.
+    /// Whether it was refused after each number of items up to `count`.
     fn is_met(&self, count: usize) -> bool {
         let mut all = count <= self.texts.len();
         for (_, is_met) in self.texts.iter().take(count) {

@@ -44,7 +44,7 @@ fn written_of(alloc: Global, told: &Told, count: usize) -> Result<Vec<u8>, Alloc
     joined(alloc, first, second, b"")
 }
 
-/// Checks runs over a reader that gives so many bytes a read and fails in this way, after each number of bytes.
+/// Checks runs over a reader that gives n bytes a read and fails in this way, after each number of bytes.
 fn check_reads(
     checks: &mut Checks,
     alloc: Global,

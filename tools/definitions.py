@@ -37,8 +37,8 @@ CLAUSE = r"\s+(?:requires|ensures)\b"
 class Declaration:
     """A definition, a type or a lemma of an antt file."""
 
-    def __init__(self, file, line, signature):
-        self.file, self.path, self.line, self.lines = file, file.path, line, [signature[0]]
+    def __init__(self, file, line, signature, module):
+        self.file, self.path, self.line, self.lines, self.module = file, file.path, line, [signature[0]], module
         self.indent, self.marks, self.name = len(signature[1]), signature[2].split(), signature[3]
         self.is_type = bool({"data", "record"} & set(self.marks))
 
@@ -66,16 +66,20 @@ class Antt:
 
     def __init__(self, module):
         self.path = "/".join(["crates", *module.split(".")[1:]]) + ".antt"
-        self.declared, self.fixities, now = {}, set(), None
+        self.declared, self.fixities, now, module = {}, set(), None, None
         lines = open(f"{TOP}/{self.path}", encoding="utf-8").read().splitlines()
         self.uses = brought(lines)
         for number, line in enumerate(lines, 1):
             indent = len(line) - len(line.lstrip())
+            if line.startswith("module _ "):
+                module = (number, line.removeprefix("module _ ").removesuffix(" where"))
+            elif indent == 0 and line:
+                module = None
             if line.lstrip().startswith(("use ", "pub use ", "module ", "infix")):
                 self.fixities |= {line.split()[-1]} if line.startswith("infix") else set()
                 now = None
             elif (found := SIGNATURE.match(line)) and (now is None or indent <= now.indent):
-                now = self.declared[found[3]] = Declaration(self, number, found)
+                now = self.declared[found[3]] = Declaration(self, number, found, module)
             elif now:
                 now.lines.append(line)
 
@@ -270,6 +274,10 @@ class Reached:
         elif item not in self.seen:
             self.seen[item] = None
             scope = Scope(item.file, item.file.uses, item.members() if "record" in item.marks else [])
+            if item.module:  # what the module around it is of, which its parts name too
+                first, text = item.module
+                self.visit_all(scope.meanings(first, [text]), item)
+                scope.bound |= {it for names in re.findall(r"[({]([^(){}]*?) :", text) for it in names.split()}
             for first, lines in item.parts():
                 self.visit_all(scope.meanings(first, lines, first != item.line), item)
 

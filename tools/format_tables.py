@@ -1,0 +1,289 @@
+#!/usr/bin/env python3
+"""Writes the tables of docs/FORMAT.md, docs/COVERAGE.md and docs/USING.md that come from the sources.
+
+    tools/format_tables.py [--check]
+
+A part between `<!-- made by tools/format_tables.py: NAME -->` and `<!-- end -->` is written anew. With --check nothing is
+written: the status is 1 where a document has parted from the sources. The sources are the tables of crates/etcs_vars and
+crates/etcs_tables, the enums of packets and bodies with their comments, and crates.txt. Variables are compared with their
+definitions, and lengths with the vectors `lengths`, before anything is written.
+"""
+
+import re
+import sys
+import textwrap
+
+import sources
+from sources import FRAMES, MOST_LENGTH, TESTS, TOP, Many, One, messages, packets, variable, variables
+
+KEPT = "\u00a0"  # a blank at which no line is broken
+DOCUMENTS = ["docs/FORMAT.md", "docs/COVERAGE.md", "docs/USING.md"]
+PART = re.compile(r"(<!-- made by tools/format_tables.py: ([\w ]+) -->\n)(.*?)(<!-- end -->)", re.S)
+
+# Units, and meanings of numbers, that a comment says elsewhere than at the variable: the file, and words that are there.
+ELSEWHERE = {
+    "T_LOA": ("1 s", "etcs_grouped/src/level1_ma.rt", "how long that speed holds, in seconds"),
+    "T_SECTIONTIMER": ("1 s", "etcs_parts/src/section.rt", "T_SECTIONTIMER in seconds"),
+    "T_ENDTIMER": ("1 s", "etcs_parts/src/authority.rt", "T_ENDTIMER in seconds"),
+    "T_OL": ("1 s", "etcs_parts/src/authority.rt", "T_OL in seconds"),
+    "T_TEXTDISPLAY": ("1 s", "etcs_parts/src/text_frame.rt", "its duration in seconds"),
+    "G_A": ("1 ‰", "etcs_parts/src/slope.rt", "The gradient in promille"),
+    "G_TSR": ("1 ‰", "etcs_flat/src/flat.rt", "G_TSR | the gradient, in thousandths"),
+    "Q_LOCACC": ("1 m", "etcs_parts/src/link.rt", "How exactly the group is placed, in metres"),
+}
+UNITS = {
+    "in steps of 5 km/h": "5 km/h",
+    "in seconds": "1 s",
+    "in metres": "1 m",
+    "in bits": "1 bit",
+    "in bytes": "1 byte",
+    "by Q_SCALE": "Q_SCALE",
+}
+
+
+def thousands(number):
+    """Returns a number with commas."""
+    return f"{number:,}"
+
+
+def spans(numbers):
+    """Returns numbers as text, those in a row as a range."""
+    groups = []
+    for n in sorted(numbers):
+        if groups and groups[-1][1] == n - 1:
+            groups[-1][1] = n
+        else:
+            groups.append([n, n])
+    return ", ".join(map(span, groups))
+
+
+def span(ends):
+    """Returns a range as text: both numbers where there are only two."""
+    low, high = map(thousands, ends)
+    return low if ends[0] == ends[1] else f"{low}, {high}" if ends[0] + 1 == ends[1] else f"{low} to {high}"
+
+
+# ---- Variables.
+
+
+def every_row():
+    """Returns the rows of all packets and messages."""
+    return [it.row for way in FRAMES for table in (packets(way), messages(way)) for it in table.values()]
+
+
+def flat_vars(row):
+    """Yields the variables of a row, those of groups too."""
+    for item in row:
+        if isinstance(item, One):
+            yield item.var
+        else:
+            yield from flat_vars(item.items)
+
+
+def is_scaled(var):
+    """Returns whether a variable is a distance or length of rows that have Q_SCALE, all of them."""
+    rows = [list(flat_vars(it)) for it in every_row()]
+    rows = [it for it in rows if var in it]
+    return var[:2] in ("D_", "L_") and var != "L_TEXT" and bool(rows) and all("Q_SCALE" in it for it in rows)
+
+
+def unit_of(var):
+    """Returns the unit of a variable's numbers, or nothing."""
+    said = next((unit for words, unit in UNITS.items() if words in var.text), None)
+    if said or var.var not in ELSEWHERE:
+        return said or ("Q_SCALE" if is_scaled(var.var) else "")
+    unit, path, words = ELSEWHERE[var.var]
+    if words not in " ".join(sources.source(path).split()):
+        raise LookupError(f"{path} doesn't say '{words}'")
+    return unit
+
+
+def flat_meanings():
+    """Returns the meanings of numbers that the table of `Flat` has, by variable."""
+    lines = re.findall(r"^/// \| (\w+) \| (.*?) \|$", sources.source("etcs_flat/src/flat.rt"), re.M)
+    return {var: text for var, text in lines if re.search(r"\(\d\)", text)}
+
+
+def meaning_of(var):
+    """Returns what a variable means: its comment, that of `Flat` where only that one says its numbers, its special texts."""
+    text = var.text.removesuffix(".")
+    if not re.search(r"\b\d\b", text.replace("5 km/h", "")) and var.var in flat_meanings():
+        text = flat_meanings()[var.var]
+    text = text[0].upper() + text[1:]
+    return text + "".join(f"; {n} is {it}" for n, it in var.special)
+
+
+def admitted(var):
+    """Returns the numbers that a variable admits, as text."""
+    if var.ranges == [(0, 2**var.width - 1)]:
+        return "all"
+    return ", ".join(map(span, var.ranges))
+
+
+def table_of_variables():
+    """Returns the tables of variables, one for each group of the sources."""
+    lines = []
+    for var in variables():
+        if not lines or var.group != group:
+            group = var.group
+            lines += [f"**{group}**", "", "| variable | bits | admits | unit | meaning |", "|---|---|---|---|---|"]
+        lines.append(f"| {var.name} | {var.width} | {admitted(var)} | {unit_of(var)} | {meaning_of(var)} |")
+        following = variables()[variables().index(var) + 1 :]
+        if following and following[0].group != group:
+            lines.append("")
+    return lines
+
+
+# ---- Rows.
+
+
+def row_text(row):
+    """Returns a row as text: a variable and its bits; `(..) if V is 1`; `[..] V times`. KEPT is a blank within a line."""
+    return ", ".join(map(item_text, row))
+
+
+def item_text(item):
+    """Returns an item of a row as text."""
+    if isinstance(item, One):
+        return f"{variable(item.var).name}{KEPT}{variable(item.var).width}"
+    if isinstance(item, Many):
+        return f"[{row_text(item.items)}]{KEPT}{item.var}{KEPT}times"
+    test = TESTS[item.test][0].replace(" ", KEPT)
+    return f"({row_text(item.items)}){KEPT}if{KEPT}{item.var}{KEPT}{test}"
+
+
+def row_lines(row):
+    """Returns a row as indented lines."""
+    lines = textwrap.wrap(row_text(row) or "nothing", 104, break_long_words=False, break_on_hyphens=False)
+    return ["    " + it.replace(KEPT, " ") for it in lines]
+
+
+def packet_blocks(way):
+    """Returns the rows of the packets of a way."""
+    lines = ["```text"]
+    for packet in packets(way).values():
+        lines += [f"{packet.nid} {packet.variant}: {packet.text}", *row_lines(packet.row)]
+    return [*lines, "```"]
+
+
+def message_blocks(way):
+    """Returns the rows of the messages of a way that have variables of their own, and the numbers of those without."""
+    rows = {}
+    for message in messages(way).values():
+        rows.setdefault(row_text(message.row).replace(KEPT, " "), []).append(message.nid)
+    lines = ["| messages | variables after the header |", "|---|---|"]
+    return lines + [f"| {', '.join(map(str, nids))} | {row or 'none'} |" for row, nids in rows.items()]
+
+
+# ---- Coverage.
+
+
+def bits_of(packet, way):
+    """Returns the least and the largest number of bits of a packet, its frame among them."""
+    least, most = packet.lengths[0] + FRAMES[way], packet.lengths[-1] + FRAMES[way]
+    return f"{thousands(least)} | {thousands(most)}"
+
+
+def coverage_of_packets(way):
+    """Returns the table of the packets of a way: typed ones, and those that are kept as bits."""
+    enum, typed = {"train": "Packet", "track": "TrainPacket"}[way], packets(way)
+    lines = ["| NID_PACKET | what it is | Rust value | least bits | largest bits |", "|---|---|---|---|---|"]
+    if way == "train":
+        bits = 8 + variable("NID_VBCMK").width
+        lines.append(f"| 0 | the marker of a virtual balise cover | `{enum}::VbcMarker(Marker)` | {bits} | {bits} |")
+    for it in typed.values():
+        lines.append(f"| {it.nid} | {it.text} | `{enum}::{it.variant}({it.type})` | {bits_of(it, way)} |")
+    kept = set(range(256)) - set(typed) - ({0, 255} if way == "train" else set())
+    other = {"train": "Other", "track": "TrainOther"}[way]
+    lines.append(f"| {spans(kept)} | kept as bits | `{enum}::Other({other})` | {FRAMES[way]} | {thousands(MOST_LENGTH)} |")
+    if way == "train":
+        lines.append("| 255 | the end of a telegram's packets | none: it isn't in the list of packets | 8 | 8 |")
+    return lines
+
+
+def coverage_of_messages(way):
+    """Returns the table of the messages of a way."""
+    lines = ["| NID_MESSAGE | Rust value of the body | variables | bits before the packets | bytes, L_MESSAGE |", "|---|---|---|---|---|"]
+    groups = {}
+    for it in messages(way).values():
+        groups.setdefault((it.variant, row_text(it.row).replace(KEPT, " "), it.bits, tuple(it.lengths)), []).append(it.nid)
+    header = {"train": 75, "track": 74}[way]
+    for (variant, row, bits, ranges), nids in groups.items():
+        lengths = ", ".join(map(span, ranges))
+        lines.append(f"| {', '.join(map(str, nids))} | `{variant}` | {row or 'none'} | {header + bits} | {lengths} |")
+    kept = set(range(256)) - set(messages(way))
+    made = {"train": "Message", "track": "TrainMessage"}[way]
+    return [*lines, f"| {spans(kept)} | none: `{made}::kept(nid, bits)` | kept as bits | 18 | 3 to 1,023 |"]
+
+
+# ---- Crates.
+
+
+def crates():
+    """Returns the crates of crates.txt with those that each names."""
+    lines = (it.split("#")[0].strip() for it in open(f"{TOP}/crates.txt", encoding="utf-8"))
+    return {it.partition(":")[0]: it.partition(":")[2].split() for it in lines if it}
+
+
+def crates_below(names):
+    """Returns the crates of this repository that these names need, in the order of crates.txt, and those of the kit."""
+    every, needed = crates(), set()
+    waiting = list(names)
+    while waiting:
+        name = waiting.pop()
+        if name not in needed:
+            needed.add(name)
+            waiting += every.get(name, [])
+    return [it for it in every if it in needed], sorted(needed - set(every))
+
+
+def table_of_crates():
+    """Returns what has to be copied for each use of the library."""
+    uses = [
+        ("telegrams: reading, building, viewing", ["etcs_telegram"]),
+        ("balise groups", ["etcs_group"]),
+        ("radio messages to the train", ["etcs_radio"]),
+        ("radio messages to the track", ["etcs_train"]),
+        ("text of items", ["etcs_text"]),
+        ("JSON of items", ["etcs_json"]),
+        ("runs over streams, as the program's commands", ["etcs_stream"]),
+    ]
+    lines = ["| for | crate | folders to copy, with their lines of crates.txt | crates of the kit |", "|---|---|---|---|"]
+    for use, names in uses:
+        own, kit = crates_below(names)
+        lines.append(f"| {use} | `{names[0]}` | {len(own)}: {', '.join(own)} | {', '.join(kit)} |")
+    return lines
+
+
+PARTS = {
+    "variables": table_of_variables,
+    "packets to the train": lambda: packet_blocks("train"),
+    "packets to the track": lambda: packet_blocks("track"),
+    "messages to the train": lambda: message_blocks("train"),
+    "messages to the track": lambda: message_blocks("track"),
+    "coverage of packets to the train": lambda: coverage_of_packets("train"),
+    "coverage of packets to the track": lambda: coverage_of_packets("track"),
+    "coverage of messages to the train": lambda: coverage_of_messages("train"),
+    "coverage of messages to the track": lambda: coverage_of_messages("track"),
+    "crates": table_of_crates,
+}
+
+
+def main(words):
+    if words not in ([], ["--check"]):
+        sys.exit(__doc__)
+    sources.check_with_vectors()
+    parted = False
+    for path in DOCUMENTS:
+        old = open(f"{TOP}/{path}", encoding="utf-8").read()
+        new = PART.sub(lambda it: it[1] + "\n".join(PARTS[it[2]]()) + "\n" + it[4], old)
+        if new != old and words:
+            print(f"{path} has parted from the sources: run tools/format_tables.py", file=sys.stderr)
+            parted = True
+        elif new != old:
+            open(f"{TOP}/{path}", "w", encoding="utf-8").write(new)
+    return 1 if parted else 0
+
+
+if __name__ == "__main__":
+    sys.exit(main(sys.argv[1:]))

@@ -2,6 +2,7 @@
 """Prints the definitions that the contracts of public calls rest on, each after those that it names.
 
     tools/definitions.py [--count] [--clauses] [--most N] (--headline | CALL ..)
+    tools/definitions.py --page [--check]
 
 A CALL is `etcs_telegram::TelegramReader::feed` or `etcs_stream::run`; --headline names those that read and write
 telegrams and messages. It follows the names in `requires` and `ensures`, in the ghost members of types and traits in
@@ -10,6 +11,11 @@ in the definitions of crates/*/specs; not invariants, names of the kit, and item
 end. A line has a file and line, a name and how many lines it has without comments; the last one, which --count prints
 alone, has the counts. The status is 1 where a name isn't found, where a contract rests on a lemma (it lies in
 specs/laws or proofs, or is neither `abbrev` nor `unfoldable` nor a type), and where there are more than N definitions.
+
+--page writes the parts of docs/READ-TO-BELIEVE.md between `<!-- definitions: FILE .. -->`, `<!-- clauses: CALL .. -->` or
+`<!-- counts: CALL .. -->` and `<!-- end -->`: the headline's definitions in these files of crates/, the clauses of these
+calls, and how many definitions each rests on. Each definition has to be in one part. With --check nothing is written, and
+the status is 1 where the page has parted from the sources.
 """
 
 import os
@@ -22,6 +28,8 @@ from graphlib import TopologicalSorter
 TOP = os.path.dirname(os.path.dirname(os.path.realpath(__file__)))
 HEADLINE = [f"etcs_telegram::{it}" for it in ("TelegramReader::feed", "TelegramReader::take", "Telegram::encode_into")]
 HEADLINE += [f"etcs_messages::{it}" for it in ("ReaderOf::feed", "ReaderOf::take", "MessageOf::encode")]
+LANGUAGES = ["telegram.specs.Telegrams.TelegramLanguage", "messages.specs.Messages.MessageLanguage", "vars.specs.Reading.IsOutcome"]
+LANGUAGES = [f"Rattle.etcs_{it}" for it in LANGUAGES]
 NAME = r'[^\s(){}.;,@"«»]+'
 TOKEN = re.compile(rf'"(?:\\.|[^"\\])*"|(?<!\S)--.*|⟦.*?⟧|{NAME}(?:\.{NAME})*|\.{NAME}|\S')
 SIGNATURE = re.compile(rf"( *)((?:(?:unfoldable|abbrev|pub|data|record) )*)({NAME})(?: [({{][^=]*[)}}])? :(?: |$)")
@@ -143,7 +151,7 @@ class Scope:
 
     def variables(self, pattern):
         """Returns the variables of a pattern: no constructors, and none of the kit's names."""
-        for word in re.sub(r" : [^)}]*", "", pattern).split():
+        for word in re.sub(r" : [^)}]*", " ", pattern).split():
             known, item = self.meaning(word)
             if not known or isinstance(item, Declaration) and word == item.name:
                 yield word
@@ -287,7 +295,83 @@ class Reached:
         return sorted(self.seen, key=lambda it: (order[it.path], it.line))
 
 
+# ---- The page.
+
+PAGE = f"{TOP}/docs/READ-TO-BELIEVE.md"
+PART = re.compile(r"(<!-- (definitions|clauses|counts): ([^>]*?) -->\n)(.*?)(<!-- end -->)", re.S)
+
+
+def link(path, line):
+    """Returns a link to a line of a file."""
+    return f"[{path.removeprefix('crates/')}:{line}](../{path}#L{line})"
+
+
+def definition_lines(found, files):
+    """Yields a line for each file: where its definitions of the headline begin, and each with its line."""
+    for file in files:
+        here = [it for it in found if it.path == f"crates/{file}"]
+        names = ", ".join(f"`{it.name}` {it.line}" for it in here)
+        lines = sum(it.size() for it in here)
+        yield f"- {link(here[0].path, here[0].line)}, {lines} lines: {names}"
+
+
+def clause_lines(calls):
+    """Yields the clauses of calls, each call with its file and line."""
+    for call in calls:
+        code, _, _, at, _ = function_of(call)
+        yield from ["", f"`{call}`, {link(code.path, at + 1)}:", "", "```text"]
+        for line in code.lines[at + 1 :]:
+            if not re.match(r"    +(?:requires|ensures) ", line) and line.strip() in ("{", ""):
+                break
+            if re.match(CLAUSE, line):
+                yield line.strip()
+        yield "```"
+
+
+def reached_by(name):
+    """Returns what a call rests on, the headline, or both languages and the outcome."""
+    reached = Reached()
+    if name == "languages":
+        reached.visit_all(found_in(*it.rsplit(".", 1)) for it in LANGUAGES)
+    for call in {"headline": HEADLINE, "languages": []}.get(name, [name]):
+        reached.visit_all(named_by(call, False))
+    return reached
+
+
+def count_lines(names):
+    """Yields a row for each name: how many definitions and lines it rests on."""
+    yield from ["| of | definitions | lines | files |", "|---|---|---|---|"]
+    said = {"languages": "both languages and the outcome", "headline": "the headline"}
+    for name in names:
+        found = reached_by(name).in_order()
+        lines, files = sum(it.size() for it in found), {it.path for it in found}
+        yield f"| {said.get(name, f'`{name}`')} | {len(found)} | {lines:,} | {len(files)} |"
+
+
+def write_page(check):
+    """Writes the page's parts, or compares them; returns the status."""
+    reached = reached_by("headline")
+    found, old = reached.in_order(), open(PAGE, encoding="utf-8").read()
+    makers = {"definitions": lambda it: definition_lines(found, it), "clauses": clause_lines, "counts": count_lines}
+
+    def part(match):
+        return match[1] + "".join(f"{it}\n" for it in makers[match[2]](match[3].split())) + match[5]
+
+    named = [f"crates/{it}" for match in PART.finditer(old) if match[2] == "definitions" for it in match[3].split()]
+    faults = [*reached.refused, *(f"{it} is in no part" for it in sorted({it.path for it in found} - {*named}))]
+    faults += [f"{it} is in two parts" for it in sorted({*named}) if named.count(it) > 1]
+    new = PART.sub(part, old)
+    if check and new != old:
+        faults.append("docs/READ-TO-BELIEVE.md has parted from the sources: run tools/definitions.py --page")
+    elif new != old:
+        open(PAGE, "w", encoding="utf-8").write(new)
+    sys.stderr.writelines(f"{it}\n" for it in faults)
+    return 1 if faults else 0
+
+
 def main(words):
+    if "--page" in words:
+        return write_page("--check" in words)
     most = int(words[words.index("--most") + 1]) if "--most" in words else sys.maxsize
     calls = [it for it in words if "::" in it] + (HEADLINE if "--headline" in words else [])
     reached = Reached()

@@ -11,8 +11,8 @@ PROGRAM is the built `etcs`. The documents are README.md, examples/README.md and
 - After `<!-- bits: KIND FILE -->` the block is the first item of a file of examples/, bit by bit: its variables and
   numbers are those that PROGRAM shows, its widths those of the sources, and its bits those of the file, in which the
   numbers have to be. `<!-- bits: KIND FILE 50..128 -->` is of these bits alone.
-- After `<!-- file: PATH -->` the block is the file, or its lines between `// NAME` and `// end` of
-  `<!-- file: PATH NAME -->`.
+- After `<!-- file: PATH -->` the block is the file; after `<!-- file: PATH NAME .. -->` its lines between `// NAME` and
+  `// end`, of one name after another.
 
 Blocks of the last two kinds are written anew; with --check they are compared. The status is 1 where an output or a block
 differs.
@@ -24,6 +24,7 @@ import re
 import subprocess
 import sys
 import tempfile
+import textwrap
 from collections import namedtuple
 
 import sources
@@ -138,14 +139,11 @@ def item_lines(program, words):
 
 
 def file_lines(words):
-    """Returns the lines of a file, or of a part of it, without the blanks that all of them begin with."""
-    path, *name = words.split(" ", 1)
+    """Returns the lines of a file, or of parts of it, without the blanks that all lines of a part begin with."""
+    path, *names = words.split()
     text = open(f"{TOP}/{path}", encoding="utf-8").read()
-    if name:
-        text = re.search(rf"^ *// {re.escape(name[0])}\n(.*?)^ *// end$", text, re.S | re.M)[1]
-    lines = text.rstrip("\n").split("\n")
-    indent = min(len(it) - len(it.lstrip()) for it in lines if it.strip())
-    return [it[indent:] for it in lines]
+    parts = [re.search(rf"^ *// {re.escape(it)}\n(.*?)^ *// end$", text, re.S | re.M)[1] for it in names]
+    return "\n".join(textwrap.dedent(it) for it in parts or [text]).rstrip("\n").split("\n")
 
 
 def remade(text, program):

@@ -65,21 +65,21 @@ def number(count):
     return str(count).encode()
 
 
-def behind(text):
+def after_lf(text):
     """A text after a LF, without the LF at its end; of nothing nothing."""
     return b"\n" + text.removesuffix(b"\n") if text else b""
 
 
 def whole(status, output, faults):
     """All that a call answered."""
-    return number(status) + behind(output) + behind(faults)
+    return number(status) + after_lf(output) + after_lf(faults)
 
 
 def shown(program, kind, given):
     """What is said of the bytes of one item: its text, what is refused, or that more are wanted."""
     status, output, faults = program.run(["show", "--kind", kind], given.hex().upper().encode())
     if status == 0 and not faults:
-        return output.removesuffix(b"\n") if given else b"wants more" + behind(output)
+        return output.removesuffix(b"\n") if given else b"wants more" + after_lf(output)
     refused = REFUSED.fullmatch(faults)
     truncated = TRUNCATED.fullmatch(faults)
     if (status, output) == (1, b"") and refused:
@@ -132,9 +132,9 @@ def answer_text(program, size, given):
     status, output, faults = program.run(["show", "--kind", size], given)
     if (status, faults) == (0, b""):
         items = len(re.findall(rb"^item ", output, re.MULTILINE))
-        return b"ok " + number(items) + behind(output)
+        return b"ok " + number(items) + after_lf(output)
     if status in (1, 3):
-        return faults.removesuffix(b"\n") + behind(output)
+        return faults.removesuffix(b"\n") + after_lf(output)
     return whole(status, output, faults)
 
 
@@ -160,7 +160,7 @@ def answer_repeated(program, _, words):
     wanted = b"".join(b"item " + number(item) + rest for item in range(1, int(count) + 1))
     if (status, output, faults) != (0, wanted, b""):
         return whole(status, output, faults)
-    return b"ok " + count.encode() + behind(one)
+    return b"ok " + count.encode() + after_lf(one)
 
 
 def shape(text):
@@ -188,7 +188,7 @@ def answer_bytes(program, _, words):
     """`bytes LINE < HEX`: status and output."""
     line, _, digits = words.partition(" < ")
     status, output, _ = program.run(line.split(" ")[1:], bytes.fromhex(digits))
-    return number(status) + behind(output.hex().upper().encode())
+    return number(status) + after_lf(output.hex().upper().encode())
 
 
 ANSWERS = {

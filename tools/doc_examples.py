@@ -8,6 +8,8 @@ PROGRAM is the built `etcs`. The documents are README.md, examples/README.md and
 - Each block ```console is run by bash in a folder for its document, in which `./etcs` is PROGRAM and `examples` is the
   repository's folder. After each command, a line that begins with `$ ` with those that begin with `> `, comes all that it
   writes, standard error too. A line `..` stands for any number of lines, and `..` at a line's end for any rest of it.
+- Each row of examples/README.md is run, a file with its kind or its command: the status, and the line `etcs: ..` or none,
+  have to be those that it says.
 - After `<!-- bits: KIND FILE -->` the block is the first item of a file of examples/, bit by bit: its variables and
   numbers are those that PROGRAM shows, its widths those of the sources, and its bits those of the file, in which the
   numbers have to be. `<!-- bits: KIND FILE 50..128 -->` is of these bits alone.
@@ -209,6 +211,17 @@ def differences(text, path, program):
                     yield f"{path}:{line}: $ {command}\n{output}"
 
 
+def row_differences(text, path, program):
+    """Yields what is wrong with the rows of examples/README.md: a file, its kind or a command, and what it answers."""
+    for name, given, answer in re.findall(r"^\| `(\w+\.\w+)` \| (.*?) \| (.*) \|$", text, re.M):
+        command = given.strip("`") if "etcs" in given else f"./etcs show --kind {given} < examples/{name}"
+        command += " --from json" * name.endswith(".json")
+        done = subprocess.run(["bash", "-c", command.replace("./etcs", program)], cwd=TOP, capture_output=True, timeout=120)
+        status, fault = re.search(r"status (\d)$", answer)[1], re.search(r"`(etcs: [^`]*)`", answer)
+        if str(done.returncode) != status or done.stderr.decode() != (fault[1] + "\n" if fault else ""):
+            yield f"{path}: {name} answers {done.returncode}\n{done.stderr.decode()}"
+
+
 def main(words):
     check = "--check" in words
     words = [it for it in words if it != "--check"]
@@ -225,6 +238,8 @@ def main(words):
         elif new != old:
             open(f"{TOP}/{path}", "w", encoding="utf-8").write(new)
         faults += differences(new, path, program)
+        if path == "examples/README.md":
+            faults += row_differences(new, path, os.path.realpath(program))
     print("\n".join(faults) or f"{len(paths)} documents, no difference")
     return 1 if faults else 0
 

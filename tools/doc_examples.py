@@ -29,6 +29,7 @@ import tempfile
 import textwrap
 from collections import namedtuple
 
+sys.dont_write_bytecode = True
 import sources
 from sources import TESTS, TOP, One, When
 

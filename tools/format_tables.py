@@ -13,6 +13,7 @@ import re
 import sys
 import textwrap
 
+sys.dont_write_bytecode = True
 import sources
 from sources import FRAMES, MOST_LENGTH, TESTS, TOP, Many, One, messages, packets, variable, variables
 

@@ -3,7 +3,7 @@
 use crate::case::Case;
 use crate::rows::{next_row, place_behind};
 use etcs_bits::BitSlice;
-use etcs_rows::parts::{take, unfinished, wanted};
+use etcs_rows::parts::{unfinished, wanted};
 use etcs_rows::{LengthSet, RowWalk, Step, Stopped, lengths};
 use etcs_tables::Row;
 
@@ -18,35 +18,6 @@ pub(crate) fn answer(case: &mut Case, kind: &str) -> bool {
         _ => return false,
     }
     true
-}
-
-/// Takes a number of this many bits. `None` where the next variable doesn't want as many.
-fn take_some(walk: &mut RowWalk, count: usize, number: u64) -> Option<Result<Step, Stopped>> {
-    if count == 0 || count > 63 || number >= 1 << count {
-        return None;
-    }
-    if count > wanted(walk) && !walk.is_whole() {
-        return None;
-    }
-    Some(take(walk, count, number))
-}
-
-/// Takes `count` bits of the digits from `at` on: one alone by `bit` where `most` is 0, else by `take`.
-/// `None` where the digits have no such bits or the next variable doesn't want as many.
-fn taken(
-    walk: &mut RowWalk,
-    digits: &BitSlice<'_>,
-    at: usize,
-    count: usize,
-    most: usize,
-) -> Option<Result<Step, Stopped>> {
-    if most == 0 {
-        return Some(walk.bit(digits.bit(at)?));
-    }
-    if count > 63 {
-        return None;
-    }
-    take_some(walk, count, digits.number(at, count)?)
 }
 
 /// Whether a walk says the same by each of its calls, after a step.
@@ -102,60 +73,33 @@ fn say_step(case: &mut Case, walk: &RowWalk, step: Step) {
     case.check(is_sound(walk, step), "unsound");
 }
 
-/// The course of a walk over the digits: its whole variables, and where it ended. It goes
-/// bit by bit where `most` is 0, else by at most this many bits at once.
-fn say_course(case: &mut Case, walk: &mut RowWalk, digits: &BitSlice<'_>, most: usize) {
-    let mut at = 0usize;
-    for _ in 0..digits.len() {
-        if at >= digits.len() {
-            break;
-        }
-        let left = digits.len() - at;
-        let count = wanted(walk).min(most).min(left).max(1);
-        let before = unfinished(walk).1;
-        match taken(walk, digits, at, count, most) {
+/// The course of a walk over the digits: its whole variables, and where it ended.
+fn say_course(case: &mut Case, walk: &mut RowWalk, digits: &BitSlice<'_>) {
+    for at in 0..digits.len() {
+        match digits.bit(at).map(|bit| walk.bit(bit)) {
             Some(Ok(step)) => say_step(case, walk, step),
-            Some(Err(stopped)) => {
-                let good = unfinished(walk).1.saturating_sub(before);
-                return say_stopped(case, walk, stopped, at.saturating_add(good));
-            }
+            Some(Err(stopped)) => return say_stopped(case, walk, stopped, at),
             None => return case.bad(),
         }
-        at = at.saturating_add(count);
     }
     say_end(case, walk);
 }
 
-/// The course of a walk over the row of this many bits, or `no walk`.
-fn say_walk(case: &mut Case, row: Row, len: usize, digits: &BitSlice<'_>, most: usize) {
-    match RowWalk::start(row, len) {
-        Some(mut walk) => say_course(case, &mut walk, digits, most),
-        None => case.say("no walk"),
-    }
-}
-
-/// `walk ROW LEN DIGITS`: the course of a walk over the row of this many bits, or `no walk`; it must
-/// be the same bit by bit and by several bits at once.
+/// `walk ROW LEN DIGITS`: the course of a walk over the row of this many bits, or `no walk`.
 fn walked(case: &mut Case) {
     if let Some(row) = next_row(case) {
         let len = case.place();
         let digits = case.bits();
-        say_walk(case, row, len, &digits.as_slice(), 0);
-        for most in [1usize, 3, 7, 63] {
-            let mut other = Case::new(case.alloc(), "");
-            say_walk(&mut other, row, len, &digits.as_slice(), most);
-            let alike = case.is_like(&other);
-            case.check(alike, "not by several bits");
+        match RowWalk::start(row, len) {
+            Some(mut walk) => say_course(case, &mut walk, &digits.as_slice()),
+            None => case.say("no walk"),
         }
     }
 }
 
-/// Whether a walk takes a number of its next variable, bit by bit or at once.
-fn takes(walk: &mut RowWalk, number: u64, at_once: bool) -> bool {
+/// Whether a walk takes a number of its next variable.
+fn takes(walk: &mut RowWalk, number: u64) -> bool {
     let count = wanted(walk);
-    if at_once {
-        return matches!(take_some(walk, count, number), Some(Ok(_)));
-    }
     if count == 0 || count > 63 || number >= 1 << count {
         return false;
     }
@@ -168,12 +112,12 @@ fn takes(walk: &mut RowWalk, number: u64, at_once: bool) -> bool {
 }
 
 /// Whether a walk over the row of this many bits takes the numbers.
-fn takes_all(row: Row, len: usize, numbers: &[u64], at_once: bool) -> bool {
+fn takes_all(row: Row, len: usize, numbers: &[u64]) -> bool {
     let Some(mut walk) = RowWalk::start(row, len) else {
         return false;
     };
     for number in numbers {
-        if !takes(&mut walk, *number, at_once) {
+        if !takes(&mut walk, *number) {
             return false;
         }
     }
@@ -201,8 +145,7 @@ fn fits(case: &mut Case) {
                 Some(set) => set.holds(rest),
                 None => false,
             };
-            alike &= takes_all(row, len, numbers.as_slice(), true) == fits;
-            alike &= takes_all(row, len, numbers.as_slice(), false) == fits;
+            alike &= takes_all(row, len, numbers.as_slice()) == fits;
         }
         case.say_truth(alike);
     }

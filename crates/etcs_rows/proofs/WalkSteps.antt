@@ -1,6 +1,6 @@
 -- The steps of a walk.
-use Rattle.std.proofs.Common.{◌≡◌, ℕ, zero, suc, ◌+◌, ◌-◌, ◌*◌, ◌/◌, ◌%◌, ◌^◌, ◌<◌, ◌≤◌, Bool, true, false, List, [], ◌∷◌, ◌++◌, length, Option, Some, None, Ok, Err, inl, inr, refl, sym, ap, subst, ◌∙◌, arith}
-use Rattle.std.specs.Prelude.{IsTrue, IfSome, Result, ◌==◌, ◌⊎◌}
+use Rattle.std.proofs.Common.{◌≡◌, ℕ, ◌+◌, ◌-◌, ◌*◌, ◌^◌, ◌<◌, ◌≤◌, Bool, true, false, List, [], ◌∷◌, ◌++◌, length, Option, Some, None, Ok, Err, inl, inr, refl, sym, ap, subst, ◌∙◌, arith}
+use Rattle.std.specs.Prelude.{IsTrue, IfSome, Result, ◌⊎◌}
 use Rattle.std.proofs.lemmas.List.{append-nil, length-append, nil_from_length, take_at, take_all}
 use Rattle.std.proofs.lemmas.Nat.{pow-add}
 use Rattle.std.proofs.Math.Pow.{pow_mono}
@@ -16,13 +16,11 @@ use Rattle.etcs_reader.specs.declared.feeder.Stop.{Stop}
 use Rattle.etcs_reader.specs.declared.feeder.Stop.TheVariants as stop
 use Rattle.etcs_reader.specs.Feeders.{FeederValue, Feeds}
 use Rattle.etcs_rows.specs.declared.rest.RowRest.{RowRest}
-use Rattle.etcs_rows.specs.declared.walk.Step.{Step}
 use Rattle.etcs_rows.specs.declared.walk.Step.TheVariants.{More, Number, Whole}
-use Rattle.etcs_rows.specs.declared.walk.Stopped.{Stopped}
 use Rattle.etcs_rows.specs.declared.walk.Stopped.TheVariants.{Refused}
 use Rattle.etcs_tables.specs.Layouts.{Layout, whole, one, guarded, counted, looks, Reads, ReadsIn}
 use Rattle.etcs_rows.specs.Places.{first_variable, after_number}
-use Rattle.etcs_rows.specs.Walks.{WalkValue, WalkKept, ReadTo, Follows, Ends, TakesBit, Walks, walk_of}
+use Rattle.etcs_rows.specs.Walks.{WalkValue, WalkKept, ReadTo, Follows, Ends, TakesBit, walk_of}
 
 pub some_same : {v w : Var} → ◌≡◌ {A = Option Var} (Some v) (Some w) → v ≡ w
 some_same e = cc
@@ -225,25 +223,3 @@ pub number_room : (v : FeederValue RowRest) (x : Var) (bits taken : ℕ) → Kep
 number_room v x bits taken kept first part small =
     let inside : taken < width x = omega (arith, part_long v.part bits taken part, kept.inside x first) in
     (inside, walk_room bits taken (width x) small inside (width-le x))
-
--- ---- Several bits of one variable.
-
--- the first of several bits
-pub num_first : (w n : ℕ) → 0 < w → num w n ≡ (n / 2 ^ (w - 1) % 2 == 1) ∷ num (w - 1) n
-unfolding num
-num_first zero n pos = absurd (omega arith)
-num_first (suc w) n pos = let e : suc w - 1 ≡ w = omega arith in rw e refl
-
--- the first bit ends it
-pub walks_stop : (w : WalkValue) (n bits : ℕ) (result stop : Result Step Stopped) (new : WalkValue) → 0 < n → result ≡ stop → (stop ≡ Ok More → ⊥) → TakesBit w (bits / 2 ^ (n - 1) % 2 == 1) result new → Walks w (num n bits) stop new
-walks_stop w n bits result stop new pos is ends step = rw (num_first n bits pos) (inl (ends, subst (λ (r : Result Step Stopped). TakesBit w (bits / 2 ^ (n - 1) % 2 == 1) r new) is step))
-
--- the first bit continues
-pub walks_more : (w mid : WalkValue) (n bits : ℕ) (step : Step) (first result : Result Step Stopped) (new : WalkValue) → 0 < n → first ≡ Ok step → step ≡ More → TakesBit w (bits / 2 ^ (n - 1) % 2 == 1) first mid → Walks mid (num (n - 1) bits) result new → Walks w (num n bits) result new
-walks_more w mid n bits step first result new pos is more steps rest =
-    rw (num_first n bits pos) (inr (mid, subst (λ (r : Result Step Stopped). TakesBit w (bits / 2 ^ (n - 1) % 2 == 1) r mid) (is ∙ ap (λ (s : Step). Ok s) more) steps, rest))
-
--- no bits are left
-pub walks_none : (w : WalkValue) (n bits : ℕ) → n ≡ 0 → Walks w (num n bits) (Ok More) w
-unfolding num
-walks_none w n bits none = rw none (refl, refl)

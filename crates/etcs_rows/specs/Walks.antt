@@ -55,11 +55,6 @@ TakesBit old b (Err (Refused x)) new =
     ⊎ ((old.refused ≡ Some x) × (new ≡ old))
 TakesBit old b (Err Ended) new = (old.refused ≡ None) × (old.left ≡ whole) × (old.len ≡ 0) × (new ≡ old)
 
--- what several bits do, one after another, up to the first that ends a variable or isn't taken
-abbrev pub Walks : WalkValue → List Bool → Result Step Stopped → WalkValue → Type 0
-Walks old [] result new = (result ≡ Ok More) × (new ≡ old)
-Walks old (b ∷ bs) result new = ((result ≡ Ok More → ⊥) × TakesBit old b result new) ⊎ ((mid : WalkValue) × TakesBit old b (Ok More) mid × Walks mid bs result new)
-
 -- what a feeder of a row stands for
 abbrev pub refused_by : Option Stop → Option Var
 refused_by None = None

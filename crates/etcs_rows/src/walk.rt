@@ -5,7 +5,7 @@ ghost use Rattle.etcs_bits.specs.Bits.{bit, num};
 ghost use Rattle.etcs_vars.specs.Vars.{width};
 ghost use Rattle.etcs_tables.specs.Layouts.{layout, whole, Lengths};
 ghost use Rattle.etcs_rows.specs.Places.{first_variable};
-ghost use Rattle.etcs_rows.specs.Walks.{TakesBit, Walks, IsDone};
+ghost use Rattle.etcs_rows.specs.Walks.{TakesBit, IsDone};
 
 use crate::place::Place;
 use crate::rest::RowRest;
@@ -148,37 +148,5 @@ impl RowWalk {
             Err(Stop::Refused { var, .. }) => Err(Stopped::Refused(var)),
             Err(Stop::Memory) => unreachable!(),
         }
-    }
-
-    /// Takes `count` bits of the next variable, which `bits` holds as a number, up to the first that ends
-    /// the variable or isn't taken.
-    pub(crate) fn take(&mut self, count: usize, bits: u64) -> Result<Step, Stopped>
-        requires some { 0 < count }
-        requires inside { (x : Var) → first_variable self.old.left ≡ Some x → length self.old.part + count ≤ width x }
-        requires small { bits < 2 ^ count }
-        ensures { Walks self.old (num count bits) result self.new }
-    {
-        match self.holder() {
-            Some(_) => self.bit_by_bit(count, bits),
-            None => Err(Stopped::Ended),
-        }
-    }
-
-    /// Takes `count` bits, one after another, up to the first that ends a variable or isn't taken.
-    fn bit_by_bit(&mut self, count: usize, bits: u64) -> Result<Step, Stopped>
-        requires { count ≤ 64 }
-        ensures { Walks self.old (num count bits) result self.new }
-    {
-        let mut left = count;
-        while left > 0 {
-            left -= 1;
-            match self.bit((bits >> left) % 2 == 1) {
-                Ok(Step::More) => {}
-                Ok(Step::Number(var, number)) => return Ok(Step::Number(var, number)),
-                Ok(Step::Whole(var, number)) => return Ok(Step::Whole(var, number)),
-                Err(stopped) => return Err(stopped),
-            }
-        }
-        Ok(Step::More)
     }
 }

@@ -4,6 +4,7 @@
 
 mod fault;
 mod feed;
+mod pairs;
 pub mod parts;
 mod ranges;
 mod sink;
@@ -12,5 +13,6 @@ mod var;
 
 pub use fault::{BuildFault, check};
 pub use feed::{Fed, ReadFault};
+pub use pairs::pairs_of;
 pub use ranges::begins;
 pub use var::Var;

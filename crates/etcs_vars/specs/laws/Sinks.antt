@@ -9,6 +9,12 @@ numbers_none f = append-nil f
 pub numbers_both : (f : List ℕ) (a b : Reading) → f ++ numbers (a ++ b) ≡ (f ++ numbers a) ++ numbers b
 numbers_both f a b = ap (λ (t : List ℕ). f ++ t) (map-append (λ (p : Sent). p.1) a b) ∙ sym (append_assoc f (numbers a) (numbers b))
 
+pub pairs_none : (r : Reading) → r ++ [] ≡ r
+pairs_none r = append-nil r
+
+pub pairs_both : (r a b : Reading) → r ++ (a ++ b) ≡ (r ++ a) ++ b
+pairs_both r a b = sym (append_assoc r a b)
+
 -- what begins with numbers and more begins with them
 begin : (f m g : List ℕ) → take (length (f ++ m)) g ≡ f ++ m → take (length f) g ≡ f
 begin [] m g h = refl

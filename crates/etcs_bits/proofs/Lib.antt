@@ -11,3 +11,5 @@ pub mod WordWrites
 mod Kept
 pub mod Equality
 mod NextWords
+mod SliceEquality
+mod Walked

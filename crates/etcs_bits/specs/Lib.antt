@@ -3,3 +3,4 @@ pub mod NextBits
 pub mod Walker
 pub mod SliceWalker
 pub mod Poker
+pub mod Texts

@@ -54,6 +54,17 @@ impl Bits {
         Ok(bits)
     }
 
+    /// Equal bits.
+    ///
+    /// # Errors
+    ///
+    /// `AllocError` where there is no memory.
+    pub fn try_clone(&self, alloc: Global) -> Result<Bits, AllocError>
+        ensures { IfOk result (λ b. b ≡ self.now) }
+    {
+        Bits::from_slice(alloc, self.as_slice())
+    }
+
     /// Adds a bit at the end.
     ///
     /// # Errors

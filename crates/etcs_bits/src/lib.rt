@@ -7,11 +7,15 @@ mod copying;
 pub mod parts;
 mod poker;
 mod slice;
+mod slice_digits;
+mod slice_equality;
+mod slice_iterator;
 mod slice_walker;
 mod walker;
 
 pub use bits::Bits;
 pub use poker::{PokeFault, Poker, poke};
 pub use slice::BitSlice;
+pub use slice_iterator::BitIterator;
 pub use slice_walker::SliceWalker;
 pub use walker::{Walker, next_bits, peek};

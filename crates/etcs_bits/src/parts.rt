@@ -76,7 +76,7 @@ fn write_part(bytes: &mut [u8], start: usize, slice: &BitSlice<'_>, from: usize,
 }
 
 /// The number in `width` bits of `slice` from `from` on, which are inside it.
-fn chunk(slice: &BitSlice<'_>, from: usize, width: usize) -> u64
+pub(crate) fn chunk(slice: &BitSlice<'_>, from: usize, width: usize) -> u64
     requires width { width ≤ 64 }
     requires inside { from + width ≤ length slice.now }
     ensures bits { num width result ≡ part from width slice.now }

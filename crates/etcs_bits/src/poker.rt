@@ -1,11 +1,14 @@
 //! Writing numbers at any bit of a byte slice.
 
-ghost use Rattle.std.specs.Prelude.{◌≡◌, ℕ, ◌+◌, ◌*◌, ◌^◌, ◌<◌, ◌≤◌, ◌↔◌, length, OnOk, OnErr};
+ghost use Rattle.std.specs.Prelude.{◌≡◌, ℕ, ◌+◌, ◌*◌, ◌^◌, ◌<◌, ◌≤◌, ◌↔◌, length, Some, OnOk, OnErr};
 ghost use Rattle.etcs_bits.specs.Bits.{num, bits, replaced};
+ghost use Rattle.etcs_bits.specs.Texts.{poke_fault_text};
 
 use super::bytes::{byte_of, with_number};
 use super::parts;
 use super::walker::first_word;
+use std::error::Error;
+use std::fmt;
 
 /// Why a number was not written.
 #[derive(Clone, Copy, Debug, PartialEq, Eq)]
@@ -15,6 +18,19 @@ pub enum PokeFault {
     /// The number has more bits than its width.
     TooLarge,
 }
+
+impl fmt::Display for PokeFault {
+    ghost output = { λ fault. Some (poke_fault_text fault) };
+
+    fn fmt<W: fmt::Write>(&self, f: &mut fmt::Formatter<W>) -> fmt::Result {
+        f.write_str(match self {
+            PokeFault::PastEnd => "the bits go past the end",
+            PokeFault::TooLarge => "the number has more bits than its width",
+        })
+    }
+}
+
+impl Error for PokeFault {}
 
 /// Writes a number into `width` bits of `bytes` from the bit `offset` of the byte `at` on, which are inside `bytes`.
 #[inline]

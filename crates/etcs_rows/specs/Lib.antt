@@ -7,6 +7,7 @@ pub mod Sets
 pub mod Progressions
 pub mod Runs
 pub mod Sums
+pub mod Texts
 pub mod Totals
 pub mod Waiting
 pub mod Walks

@@ -5,6 +5,7 @@ ghost use Rattle.etcs_bits.specs.Bits.{bit, num};
 ghost use Rattle.etcs_vars.specs.Vars.{width};
 ghost use Rattle.etcs_tables.specs.Layouts.{layout, whole, Lengths};
 ghost use Rattle.etcs_rows.specs.Places.{first_variable};
+ghost use Rattle.etcs_rows.specs.Texts.{stopped_text};
 ghost use Rattle.etcs_rows.specs.Walks.{TakesBit, IsDone};
 
 use crate::place::Place;
@@ -12,6 +13,8 @@ use crate::rest::RowRest;
 use etcs_reader::{Feeder, Stop};
 use etcs_tables::Row;
 use etcs_vars::Var;
+use std::error::Error;
+use std::fmt;
 use std::marker::Model;
 
 /// What bits did that were taken.
@@ -33,6 +36,19 @@ pub enum Stopped {
     /// The row was whole before.
     Ended,
 }
+
+impl fmt::Display for Stopped {
+    ghost output = { λ stopped. Some (stopped_text stopped) };
+
+    fn fmt<W: fmt::Write>(&self, f: &mut fmt::Formatter<W>) -> fmt::Result {
+        match self {
+            Stopped::Refused(var) => write!(f, "refused at {var}"),
+            Stopped::Ended => f.write_str("the row was whole before"),
+        }
+    }
+}
+
+impl Error for Stopped {}
 
 /// A row of a known number of bits that is being read.
 ///

@@ -1,15 +1,27 @@
 //! Where bytes come from and where they go, with a count of reads, flushes and failures.
 
-ghost use Rattle.std.specs.Prelude.{◌≡◌, ℕ, ◌+◌, ◌-◌, ◌%◌, ◌^◌, ◌<◌, List, Option};
+ghost use Rattle.std.specs.Prelude.{◌≡◌, ℕ, ◌+◌, ◌-◌, ◌%◌, ◌^◌, ◌<◌, List, Option, Some, codes};
 ghost use Rattle.std.specs.Io.KnownBytes.{Keeps, ReadConsumes, WriteAppends};
 ghost use Rattle.std.specs.Io.{ReadsAtMost, WritesAtMost};
 ghost use Rattle.etcs_stream.specs.Ends.{failed_calls, failed_writes};
 
+use std::error::Error;
+use std::fmt;
 use std::io::{Read, Write};
 
 /// A call of a reader or a writer failed.
 #[derive(Clone, Copy, Debug, PartialEq, Eq)]
 pub struct Failed;
+
+impl fmt::Display for Failed {
+    ghost output = { λ _. Some (codes "a read or a write failed") };
+
+    fn fmt<W: fmt::Write>(&self, f: &mut fmt::Formatter<W>) -> fmt::Result {
+        f.write_str("a read or a write failed")
+    }
+}
+
+impl Error for Failed {}
 
 /// Gives bytes.
 pub trait Source {

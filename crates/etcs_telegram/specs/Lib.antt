@@ -1,4 +1,5 @@
 pub mod Telegrams
+pub mod Texts
 pub mod Headers
 pub mod Writing
 pub mod Fronts

@@ -12,13 +12,16 @@ mod rest;
 mod sent;
 mod size;
 mod store;
+mod taken_apart;
 mod telegram;
 mod view;
 mod whole;
 
 pub use encode::NoRoom;
+pub use etcs_bits::{BitSlice, Bits};
+pub use etcs_packets::Packet;
 pub use etcs_sequence::{Held, PacketRef, Packets};
-pub use etcs_vars::{Fed, ReadFault};
+pub use etcs_vars::{BuildFault, Fed, ReadFault, Var};
 pub use header::Header;
 pub use reader::TelegramReader;
 pub use size::Size;

@@ -1,10 +1,11 @@
 //! A telegram in bytes of the caller's.
 
-ghost use Rattle.std.specs.Prelude.{◌≡◌, ◌≢◌, ◌↔◌, ℕ, length, Err, IfOk};
+ghost use Rattle.std.specs.Prelude.{◌≡◌, ◌≢◌, ◌↔◌, ℕ, length, Some, Err, IfOk};
 ghost use Rattle.etcs_bits.specs.Bits.{bits};
 ghost use Rattle.etcs_vars.specs.Walking.{Refuses};
 ghost use Rattle.etcs_sequence.specs.Refs.{spellings};
 ghost use Rattle.etcs_telegram.specs.Telegrams.{TelegramValue, TelegramLanguage, container_bytes};
+ghost use Rattle.etcs_telegram.specs.Texts.{view_fault_text};
 ghost use Rattle.etcs_telegram.specs.Views.{Sees};
 
 use crate::header::Header;
@@ -16,6 +17,8 @@ use etcs_reader::{Feeder, Stop};
 use etcs_sequence::parts::{bits_at, packets};
 use etcs_sequence::{PacketCount, Packets};
 use etcs_vars::Var;
+use std::error::Error;
+use std::fmt;
 use std::marker::Model;
 
 /// Why bytes aren't a telegram.
@@ -26,6 +29,19 @@ pub enum ViewFault {
     /// No telegram begins with the bits up to this one, counted from 0, which is in this variable.
     Refused { bit: usize, var: Var },
 }
+
+impl fmt::Display for ViewFault {
+    ghost output = { λ fault. Some (view_fault_text fault) };
+
+    fn fmt<W: fmt::Write>(&self, f: &mut fmt::Formatter<W>) -> fmt::Result {
+        match self {
+            ViewFault::Length => f.write_str("not as many bytes as a telegram of this size takes"),
+            ViewFault::Refused { bit, var } => write!(f, "refused at bit {bit}, {var}"),
+        }
+    }
+}
+
+impl Error for ViewFault {}
 
 /// A balise telegram in bytes of the caller's (SUBSET-026, 8; the user bits: SUBSET-036): nothing of it is copied but
 /// the header's numbers, and no memory is taken.
@@ -82,6 +98,13 @@ impl<'a> TelegramView<'a> {
             Err(Stop::Refused { bit, var }) => Err(ViewFault::Refused { bit, var }),
             Err(Stop::Memory) => unreachable!(),
         }
+    }
+
+    /// The telegram's size.
+    pub fn size(&self) -> Size
+        ensures { result ≡ self.now.size }
+    {
+        self.size
     }
 
     /// The header.

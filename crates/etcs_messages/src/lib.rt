@@ -1,6 +1,7 @@
 //! Messages of either way: what they are, how they are written, and their reader.
 #![tactic(auto)]
 
+mod asked;
 mod encode;
 mod kind;
 pub mod laws;
@@ -11,6 +12,9 @@ mod reader;
 mod rest;
 mod whole;
 
+pub use etcs_bits::{BitSlice, Bits};
+pub use etcs_sequence::Held;
+pub use etcs_vars::{BuildFault, Fed, ReadFault, Var};
 pub use kind::{Head, Own};
 pub use message::MessageOf;
 pub use reader::ReaderOf;

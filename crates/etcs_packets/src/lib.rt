@@ -2,6 +2,8 @@
 #![tactic(auto)]
 
 mod any_packet;
+mod asked;
+mod copies;
 pub mod laws;
 mod list;
 mod packet;
@@ -11,6 +13,8 @@ mod typed;
 mod word_sink;
 mod write;
 
+pub use etcs_bits::{BitSlice, Bits};
+pub use etcs_bodies::Packetlike;
 pub use etcs_flat::{Flat, Marker, Other};
 pub use etcs_grouped::{
     BaliseList, ConditionalLevelOrder, FixedText, Gradient, InfillLocation, Level1Ma, Level23Ma,
@@ -21,4 +25,6 @@ pub use etcs_parts::{
     Authority, BaliseAt, Condition, Differing, Level, LevelAck, Link, ModeSection, ReportAt,
     Section, Shown, Slope, Speed, TextFrame,
 };
+pub use etcs_tables::Way;
+pub use etcs_vars::{BuildFault, Var};
 pub use packet::Packet;

@@ -7,6 +7,7 @@ ghost use Rattle.etcs_tables.specs.Typed.{IsTyped, IsFramed};
 ghost use Rattle.etcs_packets.specs.PacketValues.{typed, packet_value, dir_of, kept_of, variables_of, IsTypedOf, IsMade, IsPacket};
 
 pub use crate::any_packet::{AnyPacket, append_all, room_after, write_all};
+pub use crate::copies::copy_all;
 use crate::list::{by_number, of_each, packets};
 use crate::packet::Packet;
 use crate::typed::{packet_of_bits, packet_of_fields};

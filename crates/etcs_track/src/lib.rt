@@ -2,6 +2,7 @@
 #![tactic(auto)]
 
 mod any_packet;
+mod asked;
 pub mod laws;
 mod located;
 pub mod parts;
@@ -12,6 +13,9 @@ mod train_flat;
 mod train_other;
 mod train_packet;
 
+pub use etcs_bits::{BitSlice, Bits};
+pub use etcs_packets::Packetlike;
+pub use etcs_vars::{BuildFault, Var};
 pub use located::Located;
 pub use position_report::PositionReport;
 pub use position_report_two::PositionReportTwo;

@@ -1,6 +1,5 @@
 -- Lists of bits compared part by part.
-use Rattle.std.proofs.Common.{◌≡◌, ℕ, ◌+◌, ◌^◌, ◌<◌, ◌≤◌, ◌++◌, nat_eq, Bool, List, length, take, sym, ap, ◌∙◌, arith}
-use Rattle.std.proofs.lemmas.List.{take_all}
+use Rattle.std.proofs.Common.{◌≡◌, ℕ, ◌+◌, ◌^◌, ◌<◌, ◌++◌, nat_eq, Bool, List, take, sym, ap, ◌∙◌}
 use Rattle.std.proofs.Math.Seq.{take-add}
 use Rattle.std.specs.Bool.{Decides}
 use Rattle.std.specs.Cmp.{unsigned_Decides}
@@ -14,10 +13,6 @@ same_more xs ys done count front behind =
     ∙ ap (λ (l : List Bool). l ++ part done count xs) front
     ∙ ap (λ (l : List Bool). take done ys ++ l) behind
     ∙ sym (take-add done count ys)
-
--- what is the same up to its end is the same
-pub same_whole : (xs ys : List Bool) (done : ℕ) → length xs ≤ done → length xs ≡ length ys → take done xs ≡ take done ys → xs ≡ ys
-same_whole xs ys done end one same = sym (take_all done xs end) ∙ same ∙ take_all done ys (omega (arith, one))
 
 -- numbers are equal exactly where their bits are
 pub same_numbers : (count m n : ℕ) (p q : List Bool) → m < 2 ^ count → n < 2 ^ count → num count m ≡ p → num count n ≡ q → Decides (nat_eq m n) (p ≡ q)

@@ -9,6 +9,9 @@ mod other;
 pub mod parts;
 mod table;
 
+pub use etcs_bits::{BitSlice, Bits};
+pub use etcs_bodies::Packetlike;
+pub use etcs_vars::BuildFault;
 pub use flat::Flat;
 pub use marker::Marker;
 pub use other::Other;

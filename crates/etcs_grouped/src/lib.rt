@@ -22,6 +22,8 @@ mod track_state;
 pub use balise_list::BaliseList;
 pub use chain::{Chain, Chained};
 pub use conditional_level_order::ConditionalLevelOrder;
+pub use etcs_bodies::Packetlike;
+pub use etcs_vars::BuildFault;
 pub use fixed_text::FixedText;
 pub use gradient::Gradient;
 pub use infill_location::InfillLocation;

@@ -15,6 +15,9 @@ mod pairs;
 mod trees;
 mod written;
 
+pub use etcs_text::{Entry, Kind};
+pub use etcs_vars::Var;
 pub use fault::JsonFault;
 pub use from_entries::{from_line, from_value};
+pub use serde_json::Value;
 pub use trees::to_value;

@@ -24,6 +24,7 @@ pub use authority::Authority;
 pub use balise_at::BaliseAt;
 pub use condition::Condition;
 pub use differing::Differing;
+pub use etcs_vars::BuildFault;
 pub use level::Level;
 pub use level_ack::LevelAck;
 pub use link::Link;

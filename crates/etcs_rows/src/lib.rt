@@ -17,8 +17,10 @@ mod total;
 mod walk;
 mod write;
 
+pub use etcs_bits::{BitSlice, Bits};
 pub use etcs_bodies::Packetlike;
 pub use etcs_tables::{Guard, Row, RowItem, Test, Way, message_row, row_of};
+pub use etcs_vars::Var;
 pub use length_set::LengthSet;
 pub use place::{Place, lengths, reaches};
 pub use walk::{RowWalk, Step, Stopped};

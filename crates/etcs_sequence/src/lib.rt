@@ -27,6 +27,9 @@ mod store;
 mod whole;
 
 pub use count::PacketCount;
+pub use etcs_bits::BitSlice;
+pub use etcs_packets::Packet;
+pub use etcs_vars::{Fed, ReadFault, Var};
 pub use held::Held;
 pub use item::{ItemReader, ItemRest};
 pub use list::PacketList;

@@ -20,8 +20,9 @@ mod runs;
 mod teller;
 
 pub use ends::{Failed, Input, Output, Sink, Source};
-pub use etcs_json::{JsonFault, from_value, to_value};
+pub use etcs_json::{JsonFault, Value, from_value, to_value};
 pub use etcs_text::{Entry, Kind, show_lines};
+pub use etcs_vars::Var;
 pub use fault::{RunFault, write_fault};
 pub use job::{Command, Form, Job, Tally};
 pub use runs::run;

@@ -6,6 +6,7 @@ mod item;
 mod row;
 mod tables;
 
+pub use etcs_vars::Var;
 pub use frame::{
     CLOSING, CLOSING_BITS, MARKER_BITS, MOST_LENGTH, frame_bits, head_bits, is_direction,
     is_framed, is_kept, kept_limit,

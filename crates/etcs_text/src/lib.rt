@@ -17,6 +17,9 @@ mod text;
 mod variables;
 
 pub use entry::{Entry, Kind};
+pub use etcs_radio::Message;
+pub use etcs_telegram::Telegram;
+pub use etcs_train::TrainMessage;
 pub use json_lines::json_line;
 pub use show::show_lines;
 pub use telling::{check_line, encoded, hex_line};

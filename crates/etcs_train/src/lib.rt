@@ -6,7 +6,10 @@ pub mod laws;
 mod store;
 
 pub use body::{TrainBody, TrainHead};
-use etcs_messages::{MessageOf, ReaderOf};
+pub use etcs_messages::{
+    BitSlice, Bits, BuildFault, Fed, Held, MessageOf, ReadFault, ReaderOf, Var,
+};
+pub use etcs_track::TrainPacket;
 
 /// A radio message to the track (SUBSET-026, 8).
 ///

@@ -1,0 +1,20 @@
+//! The whole codec in one crate: a program or a library names it alone in `crates.txt`.
+//!
+//! [`prelude`] has what most programs use, for `use etcs_codec::prelude::*`. Here is the rest: bits at any offset, rows
+//! and walks over them, runs over streams. The crates below are in [`crates`], each with all that it has.
+#![tactic(auto)]
+
+pub mod crates;
+pub mod prelude;
+
+pub use etcs_bits::{BitIterator, PokeFault, Poker, SliceWalker, Walker, next_bits, peek, poke};
+pub use etcs_json::from_line;
+pub use etcs_rows::{
+    LengthSet, Place, RowWalk, Step, Stopped, admits_fields, lengths, reaches, write_row,
+};
+pub use etcs_stream::{
+    Command, Failed, Form, Input, Job, Output, RunFault, Sink, Source, Tally, run, write_fault,
+};
+pub use etcs_tables::{Guard, Row, RowItem, Test, message_row, row_of};
+pub use etcs_text::{check_line, encoded};
+pub use etcs_vars::{begins, check};

@@ -1,16 +1,15 @@
 //! Writing messages.
 
-ghost use Rattle.std.specs.Prelude.{◌≡◌, ◌<◌, [], ◌++◌, OnOk, OnErr};
+ghost use Rattle.std.specs.Prelude.{◌≡◌, ◌*◌, ◌<◌, ◌++◌, length, OnOk, OnErr};
 ghost use Rattle.etcs_bits.specs.Bits.{bits};
 ghost use Rattle.etcs_vars.specs.Reading.{Reading, spelled};
-ghost use Rattle.etcs_packets.specs.WordSinks.{and_bits};
+ghost use Rattle.etcs_packets.specs.WordSinks.{fresh, and_bits};
 ghost use Rattle.etcs_messages.specs.Messages.{MessageReads, message_value};
 ghost use Rattle.etcs_messages.specs.Readings.{message_reading, bytes_of};
 
 use crate::kind::{Head, Own};
 use crate::message::{Content, MessageOf};
-use etcs_packets::parts::{AnyPacket, WordSink, append_all, give_back};
-use etcs_vars::parts::Variables;
+use etcs_packets::parts::{AnyPacket, WordSink, append_all, append_variables};
 use std::alloc::AllocError;
 
 impl<H: Head, B: Own<Front = H>> MessageOf<H, B> {
@@ -23,28 +22,38 @@ impl<H: Head, B: Own<Front = H>> MessageOf<H, B> {
         ensures ok { OnOk result ((r : Reading) × MessageReads H.Packet.WAY (message_value H.Packet.WAY H.head B.own H.Packet.form self.now) r × (bits out.new.items ≡ bits out.old.items ++ spelled r)) }
         ensures err { OnErr result (out.new.items ≡ out.old.items) }
     {
-        self.readable();
-        let bytes = self.bytes();
-        out.reserve(bytes)?;
-        let mut sink = WordSink::new(out);
-        let put = append_message(self, bytes, &mut sink);
-        give_back(sink, put, out)
+        let start = out.len();
+        out.resize(start + self.bytes(), 0)?;
+        write_message(&mut out[start..], self);
+        Ok(())
     }
 }
 
-/// Puts a message of this many bytes after whole bytes.
+/// Writes the message over exactly its bytes.
+fn write_message<H: Head, B: Own<Front = H>>(out: &mut [u8], message: &MessageOf<H, B>)
+    requires { length out.old ≡ bytes_of H.Packet.WAY B.own H.Packet.form message.now }
+    ensures reads { MessageReads H.Packet.WAY (message_value H.Packet.WAY H.head B.own H.Packet.form message.now) (message_reading H.Packet.WAY H.head B.own H.Packet.form message.now) }
+    ensures bits { bits out.new ≡ spelled (message_reading H.Packet.WAY H.head B.own H.Packet.form message.now) }
+{
+    message.readable();
+    let bytes = out.len();
+    let mut sink = WordSink::new(out);
+    append_message(message, bytes, &mut sink);
+    sink.finish();
+}
+
+/// Puts a message of this many bytes over all of them.
 fn append_message<H: Head, B: Own<Front = H>>(
     message: &MessageOf<H, B>,
     bytes: usize,
-    out: &mut WordSink,
-) -> Result<(), AllocError>
+    out: &mut WordSink<'_>,
+)
     requires bytes { bytes ≡ bytes_of H.Packet.WAY B.own H.Packet.form message.now }
     requires small { bytes < 1024 }
-    requires none { out.old.behind ≡ [] }
-    ensures ok { OnOk result (out.new ≡ and_bits out.old (spelled (message_reading H.Packet.WAY H.head B.own H.Packet.form message.now))) }
-    ensures err { OnErr result (out.new.first ≡ out.old.first) }
+    requires all { out.old.put ≡ (fresh out.old.name (8 * bytes)).put }
+    ensures { out.new ≡ and_bits out.old (spelled (message_reading H.Packet.WAY H.head B.own H.Packet.form message.now)) }
 {
-    out.put(18, u64::from(message.nid()) * 1024 + bytes as u64)?;
+    out.put(18, u64::from(message.nid()) * 1024 + bytes as u64);
     match &message.content {
         Content::Typed {
             head,
@@ -52,10 +61,10 @@ fn append_message<H: Head, B: Own<Front = H>>(
             packets,
             padding,
         } => {
-            head.send(out)?;
-            body.send(out)?;
-            append_all(packets.as_slice(), out)?;
-            out.fill_up(u64::from(*padding))
+            append_variables(head, out);
+            append_variables(body, out);
+            append_all(packets.as_slice(), out);
+            out.fill_up(u64::from(*padding));
         }
         Content::Kept { bits, .. } => out.put_slice(&bits.as_slice()),
     }

@@ -1,8 +1,7 @@
-pub mod Joining
+pub mod Joins
 pub mod Leaving
 pub mod PacketBits
 pub mod PacketLists
-pub mod PartBits
 pub mod Sending
 pub mod Equality
 pub mod OnePacket

@@ -1,28 +1,53 @@
--- What a sink of bits holds: the bytes that it was made of, and the bits after them.
-use Rattle.std.specs.Prelude.{◌≡◌, ℕ, ◌-◌, ◌*◌, ◌%◌, ◌^◌, ◌<◌, ◌≤◌, Bool, List, ◌++◌, length, take, drop}
+-- What a sink of bits holds: how many bits more have room in the bytes that it writes over, and the bits put so far.
+use Rattle.std.specs.Prelude.{◌≡◌, ℕ, ◌+◌, ◌-◌, ◌*◌, ◌%◌, ◌^◌, ◌<◌, ◌≤◌, Bool, List, [], ◌++◌, length, take, Option, Some, None, nat_le, if◌then◌else◌}
+use Rattle.std.specs.Borrow.{GName}
 use Rattle.etcs_bits.specs.Bits.{bits, num}
 
+-- how many bits more have room, and the bits so far
+pub record Put : Type 0 where
+  pub left : ℕ
+  pub done : List Bool
+
+-- the bytes, by the name of their loan, and what was put: nothing once some bits had no room
 pub record Held : Type 0 where
-  pub first : List ℕ
-  pub behind : List Bool
+  pub name : GName
+  pub put : Option Put
 
-abbrev pub held_of : List ℕ → List Bool → Held
-held_of bytes b = record { first = bytes; behind = b }
+abbrev pub put_of : ℕ → List Bool → Put
+put_of left b = record { left = left; done = b }
 
--- the same bytes, and these bits after them
-abbrev pub with_behind : Held → List Bool → Held
-with_behind s b = held_of s.first b
+abbrev pub held_of : GName → Option Put → Held
+held_of name put = record { name = name; put = put }
 
--- with bits more
+-- nothing put yet over bytes of these bits
+abbrev pub fresh : GName → ℕ → Held
+fresh name room = held_of name (Some (put_of room []))
+
+-- with bits more, where they have room
+abbrev pub more : Option Put → List Bool → Option Put
+more None b = None
+more (Some p) b = if nat_le (length b) p.left then Some (put_of (p.left - length b) (p.done ++ b)) else None
+
 abbrev pub and_bits : Held → List Bool → Held
-and_bits s b = with_behind s (s.behind ++ b)
+and_bits s b = held_of s.name (more s.put b)
 
--- what a sink's fields stand for: the first bytes stay, and a word holds the last bits
-abbrev pub held_in : ℕ → List ℕ → ℕ → ℕ → Held
-held_in start bytes held count = held_of (take start bytes) (drop (8 * start) (bits bytes) ++ take count (num 64 held))
+-- how many bits more have room
+abbrev pub left_of : Held → ℕ
+left_of s = left_in s.put where
+  left_in : Option Put → ℕ
+  left_in None = 0
+  left_in (Some p) = p.left
 
--- the first bytes are there, and the word has zeros after its bits
-pub record IsSink (start : ℕ) (bytes : List ℕ) (held count : ℕ) : Type 0 where
-  pub within : start ≤ length bytes
+-- what a sink's fields stand for: the bytes so far, and a word that holds the last bits
+abbrev pub held_in : GName → List ℕ → ℕ → ℕ → ℕ → Held
+held_in name bytes at held count = held_of name (
+  if nat_le (8 * at + count) (8 * length bytes)
+  then Some (put_of (8 * length bytes - (8 * at + count)) (take (8 * at) (bits bytes) ++ take count (num 64 held)))
+  else None
+)
+
+-- the bytes are there, and the word has zeros after its bits
+pub record IsSink (bytes : List ℕ) (at held count : ℕ) : Type 0 where
+  pub within : at ≤ length bytes
   pub few : count < 64
   pub zeros : held % 2 ^ (64 - count) ≡ 0

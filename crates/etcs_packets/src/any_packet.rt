@@ -1,7 +1,6 @@
 //! Any packet of one way.
 
-ghost use Rattle.std.specs.Prelude.{◌≡◌, ◌+◌, ◌≤◌, ◌<◌, ◌^◌, length, map, All, IsTrue, None, OnOk, OnErr, IfOk, IfSome, IfNone, IsNone, OnSome};
-ghost use Rattle.etcs_bits.specs.Bits.{bits, replaced};
+ghost use Rattle.std.specs.Prelude.{◌≡◌, ◌+◌, ◌≤◌, ◌<◌, length, map, All, IsTrue, None, OnOk, OnErr, IfOk, IfSome, IfNone, IsNone, OnSome};
 ghost use Rattle.etcs_vars.specs.Reading.{Reading, numbers, spelled};
 ghost use Rattle.etcs_tables.specs.Frames.{is_marker};
 ghost use Rattle.etcs_tables.specs.Typed.{IsTyped, IsFramed};
@@ -64,21 +63,9 @@ pub trait AnyPacket: Sized + Drop {
         ensures bits { result ≡ bits_to WAY (form self.now).value }
         ensures small { result ≤ 8191 };
 
-    /// Writes it, `len` bits with its frame, over the bits from `at` on.
-    fn put(&self, out: &mut [u8], at: usize, len: usize)
-        requires len { len ≡ bits_to WAY (form self.now).value }
-        requires room { at + len ≤ length (bits out.old) }
-        requires small { at + len < 2 ^ 64 }
-        ensures { bits out.new ≡ replaced at (spelled (reading_to WAY (form self.now).value)) (bits out.old) };
-
     /// Puts it with its frame after other bits.
-    ///
-    /// # Errors
-    ///
-    /// `AllocError` where there is no memory. Some of its bits may then be put.
-    fn append(&self, out: &mut WordSink) -> Result<(), AllocError>
-        ensures ok { OnOk result (out.new ≡ and_bits out.old (spelled (reading_to WAY (form self.now).value))) }
-        ensures err { OnErr result (out.new.first ≡ out.old.first) };
+    fn append(&self, out: &mut WordSink<'_>)
+        ensures { out.new ≡ and_bits out.old (spelled (reading_to WAY (form self.now).value)) };
 
     /// The typed packet of this number and direction with these numbers after L_PACKET, if there is one.
     ///
@@ -135,35 +122,13 @@ pub trait AnyPacket: Sized + Drop {
     ghost one: { (p q : Self) → (form p).made → (form q).made → (form p).value ≡ (form q).value → p ≡ q };
 }
 
-/// Writes packets one after another over the bits from `at` on, and answers the bit after them.
-pub fn write_all<P: AnyPacket>(out: &mut [u8], at: usize, packets: &[P]) -> usize
-    requires room { at + length (spelled (readings_to P.WAY (map (λ p. (P.form p).value) packets.now))) ≤ length (bits out.old) }
-    requires small { at + length (spelled (readings_to P.WAY (map (λ p. (P.form p).value) packets.now))) < 2 ^ 64 }
-    ensures end { result ≡ at + length (spelled (readings_to P.WAY (map (λ p. (P.form p).value) packets.now))) }
-    ensures bits { bits out.new ≡ replaced at (spelled (readings_to P.WAY (map (λ p. (P.form p).value) packets.now))) (bits out.old) }
-{
-    let mut place = at;
-    for packet in packets {
-        let len = packet.full_bits();
-        packet.put(out, place, len);
-        place += len;
-    }
-    place
-}
-
 /// Puts packets after other bits, one after another.
-///
-/// # Errors
-///
-/// `AllocError` where there is no memory. Some of their bits may then be put.
-pub fn append_all<P: AnyPacket>(packets: &[P], out: &mut WordSink) -> Result<(), AllocError>
-    ensures ok { OnOk result (out.new ≡ and_bits out.old (spelled (readings_to P.WAY (map (λ p. (P.form p).value) packets.now)))) }
-    ensures err { OnErr result (out.new.first ≡ out.old.first) }
+pub fn append_all<P: AnyPacket>(packets: &[P], out: &mut WordSink<'_>)
+    ensures { out.new ≡ and_bits out.old (spelled (readings_to P.WAY (map (λ p. (P.form p).value) packets.now))) }
 {
     for packet in packets {
-        packet.append(out)?;
+        packet.append(out);
     }
-    Ok(())
 }
 
 /// How many of `room` bits packets leave, one after another, or nothing where they don't fit.
@@ -222,14 +187,9 @@ impl AnyPacket for Packet {
         self.bit_len()
     }
 
-    #[inline(always)]
-    fn put(&self, out: &mut [u8], at: usize, len: usize) {
-        write::put_packet(out, at, self, len);
-    }
-
     #[inline]
-    fn append(&self, out: &mut WordSink) -> Result<(), AllocError> {
-        write::append_packet(self, out)
+    fn append(&self, out: &mut WordSink<'_>) {
+        write::append_packet(self, out);
     }
 
     fn of_fields(

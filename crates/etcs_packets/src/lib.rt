@@ -4,11 +4,11 @@
 mod any_packet;
 mod asked;
 mod copies;
+mod joining;
 pub mod laws;
 mod list;
 mod packet;
 pub mod parts;
-mod sink;
 mod typed;
 mod word_sink;
 mod write;

@@ -6,14 +6,14 @@ ghost use Rattle.etcs_tables.specs.declared.row.Way.TheVariants.{ToTrain};
 ghost use Rattle.etcs_tables.specs.Typed.{IsTyped, IsFramed};
 ghost use Rattle.etcs_packets.specs.PacketValues.{typed, packet_value, dir_of, kept_of, variables_of, IsTypedOf, IsMade, IsPacket};
 
-pub use crate::any_packet::{AnyPacket, append_all, room_after, write_all};
+pub use crate::any_packet::{AnyPacket, append_all, room_after};
 pub use crate::copies::copy_all;
 use crate::list::{by_number, of_each, packets};
 use crate::packet::Packet;
 use crate::typed::{packet_of_bits, packet_of_fields};
 pub use crate::typed::{hold, no_row, typed_bits, typed_nid};
-pub use crate::word_sink::{WordSink, give_back};
-pub use crate::write::{room_left, write_packet, write_packets, write_reading, write_variables};
+pub use crate::word_sink::WordSink;
+pub use crate::write::{append_variables, room_left};
 use etcs_bits::BitSlice;
 use etcs_bodies::Packetlike;
 use etcs_tables::Way;

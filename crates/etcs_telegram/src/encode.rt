@@ -8,10 +8,8 @@ ghost use Rattle.etcs_packets.specs.WordSinks.{and_bits};
 ghost use Rattle.etcs_telegram.specs.Writing.{telegram_reading};
 
 use crate::telegram::Telegram;
-use etcs_bits::parts;
-use etcs_packets::parts::{WordSink, append_all, give_back, write_packets, write_variables};
+use etcs_packets::parts::{WordSink, append_all, append_variables};
 use etcs_tables::{CLOSING, CLOSING_BITS};
-use etcs_vars::parts::Variables;
 use std::alloc::AllocError;
 use std::error::Error;
 use std::fmt;
@@ -59,24 +57,11 @@ impl Telegram {
         ensures ok { OnOk result ((r : Reading) × TelegramReads (telegram_value self.now) r × (bits out.new.items ≡ bits out.old.items ++ spelled r)) }
         ensures err { OnErr result (out.new.items ≡ out.old.items) }
     {
-        self.readable();
-        out.reserve(self.size().container_bytes())?;
-        let mut sink = WordSink::new(out);
-        let put = append_telegram(self, &mut sink);
-        give_back(sink, put, out)
+        let start = out.len();
+        out.resize(start + self.size().container_bytes(), 0)?;
+        write_telegram(&mut out[start..], self);
+        Ok(())
     }
-}
-
-/// Puts the telegram after other bits.
-fn append_telegram(telegram: &Telegram, out: &mut WordSink) -> Result<(), AllocError>
-    ensures ok { OnOk result (out.new ≡ and_bits out.old (spelled (telegram_reading (telegram_value telegram.now)))) }
-    ensures err { OnErr result (out.new.first ≡ out.old.first) }
-{
-    telegram.header().send(out)?;
-    append_all(telegram.packets(), out)?;
-    out.put(CLOSING_BITS, u64::from(CLOSING))?;
-    out.put_slice(&telegram.fill())?;
-    out.put(telegram.size().pad_bits(), 0)
 }
 
 /// Writes the telegram over exactly its bytes.
@@ -86,11 +71,18 @@ fn write_telegram(out: &mut [u8], telegram: &Telegram)
     ensures bits { bits out.new ≡ spelled (telegram_reading (telegram_value telegram.now)) }
 {
     telegram.readable();
-    let size = telegram.size();
-    // 50 bits of header, the packets, packet 255, FILL up to the user bits, and zeros.
-    write_variables(out, 0, telegram.header());
-    let end = write_packets(out, 50, telegram.packets());
-    parts::write(out, end, CLOSING_BITS, u64::from(CLOSING));
-    parts::write_slice(out, end + CLOSING_BITS, &telegram.fill());
-    parts::write(out, size.user_bits(), size.pad_bits(), 0);
+    let mut sink = WordSink::new(out);
+    append_telegram(telegram, &mut sink);
+    sink.finish();
+}
+
+/// Puts the telegram after other bits: header, packets, packet 255, FILL up to the user bits, and zeros.
+fn append_telegram(telegram: &Telegram, out: &mut WordSink<'_>)
+    ensures { out.new ≡ and_bits out.old (spelled (telegram_reading (telegram_value telegram.now))) }
+{
+    append_variables(telegram.header(), out);
+    append_all(telegram.packets(), out);
+    out.put(CLOSING_BITS, u64::from(CLOSING));
+    out.put_slice(&telegram.fill());
+    out.put(telegram.size().pad_bits(), 0);
 }

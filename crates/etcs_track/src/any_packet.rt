@@ -1,6 +1,6 @@
 //! What readers and messages ask of a packet.
 
-ghost use Rattle.std.specs.Prelude.{◌≡◌, ◌∷◌, OnOk, OnErr};
+ghost use Rattle.std.specs.Prelude.{◌≡◌, ◌∷◌};
 ghost use Rattle.etcs_vars.specs.declared.var.Var.TheVariants.{NID_PACKET, L_PACKET, OTHER_DATA};
 ghost use Rattle.etcs_vars.specs.Reading.{spelled, kept};
 ghost use Rattle.etcs_packets.specs.WordSinks.{and_bits};
@@ -9,27 +9,21 @@ use crate::parts;
 use crate::train_other::TrainOther;
 use crate::train_packet::TrainPacket;
 use etcs_bits::{BitSlice, Bits};
-use etcs_packets::parts::{AnyPacket, WordSink, write_variables};
+use etcs_packets::parts::{AnyPacket, WordSink, append_variables};
 use etcs_tables::Way;
 use etcs_vars::Var;
-use etcs_vars::parts::{VarSink, Variables};
+use etcs_vars::parts::VarSink;
 use std::alloc::{AllocError, Global};
 
 /// Puts the frame of a packet that is kept, and its bits, after other bits.
-fn append_kept(
-    nid: u8,
-    len: usize,
-    body: &BitSlice<'_>,
-    out: &mut WordSink,
-) -> Result<(), AllocError>
-    ensures ok { OnOk result (out.new ≡ and_bits out.old (spelled ((NID_PACKET, nid) ∷ (L_PACKET, len) ∷ kept OTHER_DATA body.now))) }
-    ensures err { OnErr result (out.new.first ≡ out.old.first) }
+fn append_kept(nid: u8, len: usize, body: &BitSlice<'_>, out: &mut WordSink<'_>)
+    ensures { out.new ≡ and_bits out.old (spelled ((NID_PACKET, nid) ∷ (L_PACKET, len) ∷ kept OTHER_DATA body.now)) }
 {
-    out.send(&[
+    out.put_reading(&[
         (Var::NID_PACKET, u64::from(nid)),
         (Var::L_PACKET, len as u64),
-    ])?;
-    out.put_slice(body)
+    ]);
+    out.put_slice(body);
 }
 
 impl AnyPacket for TrainPacket {
@@ -74,16 +68,11 @@ impl AnyPacket for TrainPacket {
         self.bit_len()
     }
 
-    #[tactic(auto, using(crate::specs::laws::TrackPackets::track_bits))]
-    fn put(&self, out: &mut [u8], at: usize, _len: usize) {
-        write_variables(out, at, self);
-    }
-
     #[inline]
-    fn append(&self, out: &mut WordSink) -> Result<(), AllocError> {
+    fn append(&self, out: &mut WordSink<'_>) {
         match self {
             TrainPacket::Other(kept) => append_kept(kept.nid(), self.bit_len(), &kept.body(), out),
-            _ => Variables::send(self, out),
+            _ => append_variables(self, out),
         }
     }
 

@@ -4,7 +4,7 @@ use crate::builds::packets;
 use etcs_bits::BitSlice;
 use etcs_cases::Case;
 use etcs_packets::Packet;
-use etcs_packets::parts::{room_left, write_packet, write_packets, write_reading};
+use etcs_packets::parts::{AnyPacket, WordSink, append_all, room_left};
 use etcs_vars::Var;
 
 /// Answers a line about what is written: whether it is one.
@@ -22,10 +22,33 @@ pub(crate) fn answer(case: &mut Case, kind: &str) -> bool {
 fn written(case: &mut Case) {
     let (fill, at) = front(case);
     let packets: Vec<Packet> = packets(case);
-    let mut bytes = [fill; 8];
+    if at > 64 {
+        return case.bad();
+    }
+    let Some(left) = room_left(64 - at, packets.as_slice()) else {
+        return case.bad();
+    };
+    let mut bytes = [!fill; 8];
+    let mut sink = WordSink::new(&mut bytes);
+    put_equal(&mut sink, fill, 0, at);
     match packets.as_slice() {
-        [packet] => write_one(case, &mut bytes, at, packet),
-        packets => write_all(case, &mut bytes, at, packets),
+        [packet] => packet.append(&mut sink),
+        packets => append_all(packets, &mut sink),
+    }
+    put_equal(&mut sink, fill, 64 - left, 64);
+    sink.finish();
+    case.say_hex(&bytes);
+    if packets.len() != 1 {
+        case.say(" ");
+        case.say_number((64 - left) as u64);
+    }
+}
+
+/// Puts the bits of thirty-two equal bytes from one up to another.
+fn put_equal(sink: &mut WordSink<'_>, byte: u8, from: usize, to: usize) {
+    let bytes = [byte; 32];
+    if let Some(bits) = BitSlice::new(&bytes, from, to.saturating_sub(from)) {
+        sink.put_slice(&bits);
     }
 }
 
@@ -42,30 +65,6 @@ fn front(case: &mut Case) -> (u8, usize) {
             (0, at)
         }
     }
-}
-
-/// Bytes with a packet over them, where it has room.
-fn write_one(case: &mut Case, bytes: &mut [u8], at: usize, packet: &Packet) {
-    let len = packet.bit_len();
-    if at > 64 || len > 64 || BitSlice::new(bytes, at, len).is_none() {
-        return case.bad();
-    }
-    write_packet(bytes, at, packet);
-    case.say_hex(bytes);
-}
-
-/// Bytes with packets over their first 64 bits, where these have room, and the bit after them.
-fn write_all(case: &mut Case, bytes: &mut [u8], at: usize, packets: &[Packet]) {
-    if at > 64 || BitSlice::new(bytes, 0, 64).is_none() {
-        return case.bad();
-    }
-    let Some(_) = room_left(64 - at, packets) else {
-        return case.bad();
-    };
-    let end = write_packets(bytes, at, packets);
-    case.say_hex(bytes);
-    case.say(" ");
-    case.say_number(end as u64);
 }
 
 /// `sent BYTE BIT ; VARIABLE NUMBER ; ..`: thirty-two such bytes with variables over them.
@@ -88,10 +87,15 @@ fn sent(case: &mut Case) {
 
 /// Thirty-two equal bytes with variables over them, where these have room.
 fn write_sent(case: &mut Case, fill: u8, at: usize, sent: &[(Var, u64)]) {
-    if at > 64 || sent.len() > 3 {
-        return case.bad();
+    let mut bytes = [!fill; 32];
+    let mut sink = WordSink::new(&mut bytes);
+    put_equal(&mut sink, fill, 0, at);
+    sink.put_reading(sent);
+    let mut end = at;
+    for pair in sent {
+        end = end.saturating_add(pair.0.width());
     }
-    let mut bytes = [fill; 32];
-    write_reading(&mut bytes, at, sent);
+    put_equal(&mut sink, fill, end, 256);
+    sink.finish();
     case.say_hex(&bytes);
 }

@@ -1,7 +1,7 @@
 use Rattle.std.proofs.Common.{◌∙◌, ap}
 use Rattle.etcs_packets.specs.WordSinks.{and_bits}
 use Rattle.etcs_packets.proofs.WordSinks.{joins_some}
-use Rattle.etcs_packets.proofs.word_sink.WordSink.send_front.Goals as goal
+use Rattle.etcs_packets.proofs.word_sink.WordSink.put_front.Goals as goal
 
 pub put-requires-clause-some : goal.put-requires-clause-some
 put-requires-clause-some c =

@@ -1,7 +1,7 @@
 use Rattle.std.proofs.Common.{◌≡◌, ◌-◌, ◌≤◌, length, take}
 use Rattle.etcs_vars.specs.Reading.{spelled}
 use Rattle.etcs_packets.specs.WordSinks.{and_bits}
-use Rattle.etcs_packets.proofs.word_sink.WordSink.send_behind.Given as goal
+use Rattle.etcs_packets.proofs.word_sink.WordSink.put_rest.Given as goal
 
 -- the variables so far are put
 abbrev pub invariant-loop-done : goal.invariant-loop-done

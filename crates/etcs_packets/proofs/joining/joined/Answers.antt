@@ -2,8 +2,8 @@ use Rattle.std.proofs.Common.{◌≡◌, ◌+◌, ◌*◌, ◌%◌, ◌^◌, ◌
 use Rattle.std.proofs.Math.Nat.{mod-lt}
 use Rattle.std.proofs.lemmas.Nat.{pow_pos}
 use Rattle.etcs_packets.proofs.Sending.{num-low}
-use Rattle.etcs_packets.proofs.Joining.{at_place, join_first, join_next, join_word}
-use Rattle.etcs_packets.proofs.sink.joined.Goals as goal
+use Rattle.etcs_packets.proofs.Joins.{at_place, join_first, join_next, join_word}
+use Rattle.etcs_packets.proofs.joining.joined.Goals as goal
 
 pub loop-count-init : goal.loop-count-init
 loop-count-init c = join_first c.args.sent.now c.width-width.result c.lowest-number.result c.requires c.width-width.ensures c.lowest-number.ensures.fits c.lowest-number.ensures.bits

@@ -3,7 +3,7 @@ use Rattle.std.proofs.lemmas.List.{take_all, length-drop}
 use Rattle.etcs_vars.specs.Reading.{Reading, spelled}
 use Rattle.etcs_packets.specs.WordSinks.{and_bits}
 use Rattle.etcs_packets.proofs.WordSinks.{send_more}
-use Rattle.etcs_packets.proofs.word_sink.WordSink.send_behind.Goals as goal
+use Rattle.etcs_packets.proofs.word_sink.WordSink.put_rest.Goals as goal
 
 pub loop-done-preserved : goal.loop-done-preserved
 loop-done-preserved c =

@@ -1,6 +1,6 @@
 use Rattle.std.proofs.Common.{◌-◌, ◌≤◌, length}
 use Rattle.etcs_packets.specs.Joins.{Joins}
-use Rattle.etcs_packets.proofs.sink.joined.Given as goal
+use Rattle.etcs_packets.proofs.joining.joined.Given as goal
 
 abbrev pub invariant-loop-count : goal.invariant-loop-count
 invariant-loop-count l = Joins l.sent l.count l.width l.number

@@ -12,7 +12,7 @@ use Rattle.etcs_vars.proofs.Prefixes.{width-le}
 use Rattle.etcs_vars.proofs.Stepping.{parts_fit, next_number}
 use Rattle.etcs_vars.proofs.Walk.{spelled-append}
 use Rattle.etcs_packets.specs.Joins.{Joins}
-use Rattle.etcs_packets.proofs.Sending.{num-low}
+use Rattle.etcs_packets.proofs.LowestBits.{num-low}
 
 -- the variable at a place
 abbrev pub at_place : Reading → ℕ → Sent

@@ -2,7 +2,7 @@ pub mod Joins
 pub mod Leaving
 pub mod PacketBits
 pub mod PacketLists
-pub mod Sending
+pub mod LowestBits
 pub mod Equality
 pub mod OnePacket
 pub mod WordSinks

@@ -28,26 +28,12 @@ frame_number nid dir len d l =
     let second : num 10 (nid * 4 + dir) ≡ num 8 nid ++ num 2 dir = next_number 8 2 nid dir d in
     first ∙ ap (λ (b : List Bool). b ++ num 13 len) second ∙ append_assoc (num 8 nid) (num 2 dir) (num 13 len) ∙ ap (λ (b : List Bool). num 8 nid ++ (num 2 dir ++ b)) (sym (append-nil (num 13 len)))
 
-pub frame_bits : (nid dir len : ℕ) → length (spelled ((NID_PACKET, nid) ∷ (Q_DIR, dir) ∷ (L_PACKET, len) ∷ [])) ≡ 23
-frame_bits nid dir len = omega (arith, length-sent NID_PACKET nid ((Q_DIR, dir) ∷ (L_PACKET, len) ∷ []), length-sent Q_DIR dir ((L_PACKET, len) ∷ []), length-sent L_PACKET len [])
-
 -- ---- What is in front.
 
 pub front_marked : (v : PacketValue) → None ≡ dir_of v → num 8 (nid_of v) ≡ spelled (front_of v)
 front_marked (marker n) e = sym (append-nil (num 8 0))
 front_marked (typed nid dir r) e = absurd cc
 front_marked (kept nid dir b) e = absurd cc
-
--- how many bits it takes
-pub front_framed_bits : (v : PacketValue) (d : ℕ) → Some d ≡ dir_of v → (length (spelled (front_of v)) ≡ 23) × (23 ≤ bits_of v)
-front_framed_bits (marker n) d e = absurd cc
-front_framed_bits (typed nid dir r) d e = (frame_bits nid dir (23 + length (spelled r)), omega arith)
-front_framed_bits (kept nid dir b) d e = (frame_bits nid dir (23 + length b), omega arith)
-
-pub front_marked_bits : (v : PacketValue) → None ≡ dir_of v → (length (spelled (front_of v)) ≡ 8) × (8 ≤ bits_of v)
-front_marked_bits (marker n) e = (ap length (sym (front_marked (marker n) e)) ∙ length-num 8 0, omega arith)
-front_marked_bits (typed nid dir r) e = absurd cc
-front_marked_bits (kept nid dir b) e = absurd cc
 
 -- ---- What follows.
 
@@ -74,28 +60,3 @@ rest_kept p o e = sym (ap (λ (q : Packet). rest_of (packet_value q)) e)
 pub rest_sent : (p : Packet) → ((o : OtherValue) → p ≡ Other o → ⊥) → spelled (variables_of (packet_value p)) ≡ rest_of (packet_value p)
 rest_sent (Other o) h = absurd (h o refl)
 rest_sent p h = refl
-
--- how many bits both take
-pub parts_bits : (v : PacketValue) → length (spelled (front_of v)) + length (rest_of v) ≡ bits_of v
-parts_bits v = sym (length-append (spelled (front_of v)) (rest_of v)) ∙ sym (ap length (spelled_parts v)) ∙ packet_bits v
-
--- ---- One after another.
-
-module _ (v : PacketValue) (at : ℕ) (before front rest : List Bool) (is : rest ≡ rest_of v) (room : at + bits_of v ≤ length before) (wrote : front ≡ replaced at (spelled (front_of v)) before) where
-  lengths : length (spelled (front_of v)) + length rest ≡ bits_of v
-  lengths = ap (λ (b : List Bool). length (spelled (front_of v)) + length b) is ∙ parts_bits v
-
-  pub rest_room : at + length (spelled (front_of v)) + length rest ≤ length front
-  rest_room =
-      let inside : at + length (spelled (front_of v)) ≤ length before = omega (arith, lengths, room) in
-      omega (arith, lengths, room, ap length wrote, length-replaced at (spelled (front_of v)) before inside)
-
-  pub both_written : (now : List Bool) → now ≡ replaced (at + length (spelled (front_of v))) rest front → now ≡ replaced at (spelled (packet_reading v)) before
-  both_written now e =
-      let place = at + length (spelled (front_of v)) in
-      let inside : place + length rest ≤ length before = omega (arith, lengths, room) in
-      e
-      ∙ ap (replaced place rest) wrote
-      ∙ replaced_more at place (spelled (front_of v)) rest before refl inside
-      ∙ ap (λ (b : List Bool). replaced at (spelled (front_of v) ++ b) before) is
-      ∙ sym (ap (λ (b : List Bool). replaced at b before) (spelled_parts v))

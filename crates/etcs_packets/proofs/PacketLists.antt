@@ -36,27 +36,3 @@ module _ {P : Type 0} (way : Way) (value : P → PacketValue) where
       let all : length (spelled (readings_to way (map value ps))) ≡ length (spelled before) + length (spelled one) + length (spelled behind) =
       ap (λ (r : Reading). length (spelled r)) cut ∙ length-spelled (before ++ one) behind ∙ ap (λ (k : ℕ). k + length (spelled behind)) (length-spelled before one) in
       omega (arith, all, bits_are way (value p))
-
--- a packet more after those that are there
-module _ {P : Type 0} (way : Way) (value : P → PacketValue) (ps : List P) (i : ℕ) (p : P) (h : i < length ps) (e : p ≡ get_or ps i p) (at place : ℕ) (before now : List Bool) (is : place ≡ at + length (spelled (readings_to way (map value (take i ps))))) (wrote : now ≡ replaced at (spelled (readings_to way (map value (take i ps)))) before) (room : at + length (spelled (readings_to way (map value ps))) ≤ length before) where
-  pub next_room : place + bits_to way (value p) ≤ length now
-  next_room =
-      let more = packets_room way value ps i p h e in
-      let inside : at + length (spelled (readings_to way (map value (take i ps)))) ≤ length before = omega (arith, more, room) in
-      omega (arith, more, room, is, ap length wrote, length-replaced at (spelled (readings_to way (map value (take i ps)))) before inside)
-
-  pub next_place : place + bits_to way (value p) ≡ at + length (spelled (readings_to way (map value (take (i + 1) ps))))
-  next_place =
-      let all : length (spelled (readings_to way (map value (take (i + 1) ps)))) ≡ length (spelled (readings_to way (map value (take i ps)))) + length (spelled (reading_to way (value p))) =
-      ap (λ (r : Reading). length (spelled r)) (packets_more way value ps i p h e) ∙ length-spelled (readings_to way (map value (take i ps))) (reading_to way (value p)) in
-      omega (arith, all, is, bits_are way (value p))
-
-  pub next_bits : (next : List Bool) → next ≡ replaced place (spelled (reading_to way (value p))) now → next ≡ replaced at (spelled (readings_to way (map value (take (i + 1) ps)))) before
-  next_bits next w =
-      let front = readings_to way (map value (take i ps)) in
-      let one = reading_to way (value p) in
-      let inside : place + length (spelled one) ≤ length before = omega (arith, packets_room way value ps i p h e, room, is, bits_are way (value p)) in
-      w
-      ∙ ap (replaced place (spelled one)) wrote
-      ∙ replaced_more at place (spelled front) (spelled one) before is inside
-      ∙ ap (λ (b : List Bool). replaced at b before) (sym (spelled-append front one) ∙ ap spelled (sym (packets_more way value ps i p h e)))

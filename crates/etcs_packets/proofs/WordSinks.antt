@@ -1,17 +1,22 @@
 -- Bits put into a word after others.
-use Rattle.std.proofs.Common.{◌≡◌, ℕ, zero, suc, ◌+◌, ◌-◌, ◌*◌, ◌/◌, ◌%◌, ◌^◌, ◌<◌, ◌≤◌, Bool, false, List, [], ◌∷◌, ◌++◌, length, take, drop, get_or, map, replicate, refl, sym, ap, subst, ◌∙◌, arith, append_assoc}
+use Rattle.std.proofs.Common.{◌≡◌, ℕ, zero, suc, ◌+◌, ◌-◌, ◌*◌, ◌/◌, ◌%◌, ◌^◌, ◌<◌, ◌≤◌, min, Bool, true, false, List, [], ◌∷◌, ◌++◌, length, take, drop, get_or, map, replicate, leb, refl, sym, ap, subst, ◌∙◌, arith, append_assoc, le-leb, leb-true, leb-false}
+use Rattle.std.specs.Prelude.{Option, Some, None, IfSome, if◌then◌else◌}
+use Rattle.std.specs.Borrow.{GName}
 use Rattle.std.specs.Int.{to_be_bytes, w64}
-use Rattle.std.specs.Prelude.{Result, Ok, Err, Some, None, OnOk, OnErr, is_ok, if◌then◌else◌}
-use Rattle.std.proofs.lemmas.List.{append-nil, length-append, length-take-le, length-drop, length-replicate, take_all, take_at, take-take, take-append-le, take-append-drop, take-replicate, drop_all, drop_at, drop-append-le}
+use Rattle.std.proofs.lemmas.Bool.{lt-leb}
+use Rattle.std.proofs.lemmas.List.{append-nil, length-append, length-take-le, length-drop, take_all, take_at, take-take, take-append-le, take-append-drop, drop_all}
 use Rattle.std.proofs.lemmas.Nat.{field_of, shr_split, mul-mod_first, pow-add}
 use Rattle.std.proofs.Math.Nat.{mul_assoc, add-mul, mul-mod_left, zero-mod, zero-div}
 use Rattle.std.proofs.Math.Seq.{take-add, take-append-add}
-use Rattle.etcs_bits.specs.Bits.{num, value, bits, part}
-use Rattle.etcs_bits.proofs.ByteBits.{bits-append}
+use borrow.Rule.Slice.PartMut.{put_mid}
+use Rattle.etcs_bits.specs.Bits.{num, value, bits, part, replaced}
+use Rattle.etcs_bits.proofs.ByteBits.{bits-append, bits-drop}
+use Rattle.etcs_bits.proofs.Copies.{same_length}
 use Rattle.etcs_bits.proofs.Lists.{length-part}
-use Rattle.etcs_bits.proofs.Numbers.{length-num, num-add, num-value, value_same, value-num_low}
+use Rattle.etcs_bits.proofs.Numbers.{length-num, num-value}
 use Rattle.etcs_bits.proofs.Owned.{bits-take}
 use Rattle.etcs_bits.proofs.Positions.{length-bits}
+use Rattle.etcs_bits.proofs.Steps.{replaced-rest}
 use Rattle.etcs_bits.proofs.Words.{word_middle}
 use Rattle.etcs_bits.proofs.WordWrites.{bits-word, word_low}
 use Rattle.etcs_vars.specs.declared.var.Var.TheVariants.{NID_PACKET, Q_DIR, L_PACKET}
@@ -24,11 +29,11 @@ use Rattle.etcs_packets.specs.Fronts.{front_of}
 use Rattle.etcs_packets.specs.Joins.{Joins}
 use Rattle.etcs_packets.specs.PacketReadings.{reading_to, readings_to, packet_reading}
 use Rattle.etcs_packets.specs.PacketValues.{PacketValue, marker, typed, kept, nid_of, dir_of, bits_of}
-use Rattle.etcs_packets.specs.WordSinks.{Held, held_of, with_behind, and_bits, held_in, IsSink}
-use Rattle.etcs_packets.specs.laws.WordSinks.{spelled_both}
+use Rattle.etcs_packets.specs.WordSinks.{Put, Held, put_of, held_of, fresh, more, and_bits, left_of, put_at, held_in, IsSink}
+use Rattle.etcs_packets.specs.laws.WordSinks.{more_some, more_lost, and_none, and_both, spelled_both}
 use Rattle.etcs_packets.proofs.PacketBits.{rest_of, spelled_parts, front_marked}
 use Rattle.etcs_packets.proofs.PacketLists.{packets_more}
-use Rattle.etcs_packets.proofs.Sending.{low_found, num-low}
+use Rattle.etcs_packets.proofs.LowestBits.{low_found, num-low}
 
 -- ---- Numbers that end in zeros.
 
@@ -170,137 +175,168 @@ joined_fits h c w n few hb e = (joined_bits h c (top w n) (omega (arith, few)) h
 
 -- ---- The sink.
 
-pub record Puts (start : ℕ) (bytes : List ℕ) (held count : ℕ) (before : Held) (b : List Bool) : Type 0 where
-  pub is : held_in start bytes held count ≡ and_bits before b
-  pub sink : IsSink start bytes held count
+put_in : (room place : ℕ) (b : List Bool) → place ≤ room → put_at room place b ≡ Some (put_of (room - place) b)
+put_in room place b h = let t : leb place room ≡ true = le-leb _ _ h in rw t refl
 
-pub put_within : (start : ℕ) (bytes : List ℕ) (h c w n : ℕ) → IsSink start bytes h c → c + w < 64 → w ≤ 64 → h < 2 ^ 64 → Puts start bytes (joined h c (top w n)) (c + w) (held_in start bytes h c) (num w n)
-put_within start bytes h c w n s room most hb =
-    let front = drop (8 * start) (bits bytes) in
-    record {
-      is = ap (with_behind (held_in start bytes h c)) (ap (λ (b : List Bool). front ++ b) (within_bits h c w n room most hb s.zeros) ∙ sym (append_assoc front (take c (num 64 h)) (num w n)));
-      sink = record { within = s.within; few = room; zeros = within_zeros h c w n room most s.zeros };
-    }
+put_past : (room place : ℕ) (b : List Bool) → room < place → put_at room place b ≡ None
+put_past room place b h = let t : leb place room ≡ false = lt-leb _ _ h in rw t refl
 
-same_held : (a b : List ℕ) (x y : List Bool) → a ≡ b → x ≡ y → held_of a x ≡ held_of b y
-same_held a b x y e f = ap (λ (z : List ℕ). held_of z x) e ∙ ap (held_of b) f
+same_put : (left next : ℕ) (b c : List Bool) → left ≡ next → b ≡ c → Some (put_of left b) ≡ Some (put_of next c)
+same_put left next b c e f = ap (λ (k : ℕ). Some (put_of k b)) e ∙ ap (λ (l : List Bool). Some (put_of next l)) f
 
-pub put_over : (start : ℕ) (bytes more new : List ℕ) (h c w n : ℕ) → IsSink start bytes h c → 64 ≤ c + w → w ≤ 64 → h < 2 ^ 64 → new ≡ bytes ++ more → bits more ≡ num 64 (joined h c (top w n)) → Puts start new (left_over c (top w n)) (c + w - 64) (held_in start bytes h c) (num w n)
-put_over start bytes more new h c w n s full most hb e f =
-    let within = s.within in
-    let few = s.few in
-    let word = num 64 (joined h c (top w n)) in
-    let rest = take (c + w - 64) (num 64 (left_over c (top w n))) in
-    let front = drop (8 * start) (bits bytes) in
-    let all : bits new ≡ bits bytes ++ word = ap bits e ∙ bits-append bytes more ∙ ap (λ (b : List Bool). bits bytes ++ b) f in
-    let first : take start new ≡ take start bytes = ap (take start) e ∙ take-append-le start bytes more within in
-    let behind : drop (8 * start) (bits new) ≡ front ++ word = ap (drop (8 * start)) all ∙ drop-append-le (8 * start) (bits bytes) word (omega (arith, length-bits bytes, within)) in
-    record {
-      is = same_held (take start new) (take start bytes) (drop (8 * start) (bits new) ++ rest) ((front ++ take c (num 64 h)) ++ num w n) first
-          (ap (λ (b : List Bool). b ++ rest) behind
-          ∙ append_assoc front word rest
-          ∙ ap (λ (b : List Bool). front ++ b) (over_bits h c w n few most full hb s.zeros)
-          ∙ sym (append_assoc front (take c (num 64 h)) (num w n)));
-      sink = record { within = (let long = ap length e ∙ length-append bytes more in omega (arith, within, long)); few = omega (arith, few, most); zeros = over_zeros c w n few most full };
-    }
+-- bits more up to a later place
+more_fit : (room place next : ℕ) (done b now : List Bool) (fits : Bool) → leb next room ≡ fits → place ≤ room → next ≡ place + length b → (next ≤ room → now ≡ done ++ b) → put_at room next now ≡ more (Some (put_of (room - place) done)) b
+more_fit room place next done b now true t h e is =
+    let inside : next ≤ room = leb-true _ _ t in
+    put_in room next now inside
+    ∙ same_put (room - next) (room - place - length b) now (done ++ b) (omega (arith, e)) (is inside)
+    ∙ sym (more_some (put_of (room - place) done) b (omega (arith, e, inside, h)))
+more_fit room place next done b now false t h e is =
+    let past : room < next = leb-false _ _ t in
+    put_past room next now past ∙ sym (more_lost (put_of (room - place) done) b (omega (arith, e, past, h)))
 
--- none after the bytes
-pub new_behind : (bytes : List ℕ) (start : ℕ) → start ≡ length bytes → drop (8 * start) (bits bytes) ++ [] ≡ []
-new_behind bytes start e = append-nil (drop (8 * start) (bits bytes)) ∙ drop_all (8 * start) (bits bytes) (omega (arith, e, length-bits bytes))
+more_at : (room place next : ℕ) (done b now : List Bool) (fits : Bool) → leb place room ≡ fits → next ≡ place + length b → (next ≤ room → now ≡ done ++ b) → put_at room next now ≡ more (put_at room place done) b
+more_at room place next done b now true t e is =
+    let inside : place ≤ room = leb-true _ _ t in
+    more_fit room place next done b now (leb next room) refl inside e is ∙ ap (λ (p : Option Put). more p b) (sym (put_in room place done inside))
+more_at room place next done b now false t e is =
+    let past : room < place = leb-false _ _ t in
+    put_past room next now (omega (arith, e, past)) ∙ ap (λ (p : Option Put). more p b) (sym (put_past room place done past))
+
+pub record Puts (name : GName) (bytes : List ℕ) (at held count : ℕ) (before : Held) (b : List Bool) : Type 0 where
+  pub is : held_in name bytes at held count ≡ and_bits before b
+  pub sink : IsSink bytes at held count
+
+module _ (name : GName) (bytes : List ℕ) (at h c w n : ℕ) (s : IsSink bytes at h c) (most : w ≤ 64) (below : h < 2 ^ 64) where
+  abbrev done : List Bool
+  done = take (8 * at) (bits bytes) ++ take c (num 64 h)
+
+  pub put_within : c + w < 64 → Puts name bytes at (joined h c (top w n)) (c + w) (held_in name bytes at h c) (num w n)
+  put_within room =
+      let front = take (8 * at) (bits bytes) in
+      let now = front ++ take (c + w) (num 64 (joined h c (top w n))) in
+      let size = length-num w n in
+      let both : now ≡ done ++ num w n = ap (λ (b : List Bool). front ++ b) (within_bits h c w n room most below s.zeros) ∙ sym (append_assoc front (take c (num 64 h)) (num w n)) in
+      record {
+        is = ap (held_of name) (more_at (8 * length bytes) (8 * at + c) (8 * at + (c + w)) done (num w n) now (leb (8 * at + c) (8 * length bytes)) refl (omega (arith, size)) (λ _. both));
+        sink = record { within = s.within; few = room; zeros = within_zeros h c w n room most s.zeros };
+      }
+
+  -- where the word has no room
+  pub put_lost : 64 ≤ c + w → length bytes - at < 8 → Puts name bytes at 0 63 (held_in name bytes at h c) (num w n)
+  put_lost full none =
+      let room = 8 * length bytes in
+      let size = length-num w n in
+      let within = s.within in
+      let after = done ++ num w n in
+      let past : room < 8 * at + c + w = omega (arith, full, none, within) in
+      record {
+        is = ap (held_of name) (
+            put_past room (8 * at + 63) (take (8 * at) (bits bytes) ++ take 63 (num 64 0)) (omega (arith, none, within))
+            ∙ sym (put_past room (8 * at + c + w) after past)
+            ∙ more_at room (8 * at + c) (8 * at + c + w) done (num w n) after (leb (8 * at + c) room) refl (omega (arith, size)) (λ _. refl)
+        );
+        sink = record { within = within; few = omega arith; zeros = refl };
+      }
+
+  -- where it is written
+  pub put_over : (new : List ℕ) → 64 ≤ c + w → 8 ≤ length bytes - at → bits new ≡ replaced 0 (take 64 (num 64 (joined h c (top w n)))) (bits (take (length bytes - at) (drop at bytes))) → Puts name (put_mid at (length bytes - at) bytes new) (at + 8) (left_over c (top w n)) (c + w - 64) (held_in name bytes at h c) (num w n)
+  put_over new full room written =
+      let few = s.few in
+      let all = put_mid at (length bytes - at) bytes new in
+      let word = num 64 (joined h c (top w n)) in
+      let front = take (8 * at) (bits bytes) in
+      let rest = take (c + w - 64) (num 64 (left_over c (top w n))) in
+      let wide = length-num 64 (joined h c (top w n)) in
+      let size = length-num w n in
+      let inside = length-bits bytes in
+      let eight : take 64 word ≡ word = take_all 64 word (omega (arith, wide)) in
+      let wrote : bits all ≡ replaced (8 * at) word (bits bytes) = replaced-rest bytes new at (8 * at) 0 word s.within (omega arith) (written ∙ ap (λ (b : List Bool). replaced 0 b (bits (take (length bytes - at) (drop at bytes)))) eight) in
+      let long : length all ≡ length bytes = same_length bytes all (8 * at) word (omega (arith, wide, inside, room)) wrote in
+      let place : 8 * (at + 8) ≡ length (front ++ word) = omega (arith, length-append front word, wide, length-take-le (8 * at) (bits bytes) (omega (arith, inside, room))) in
+      let first : take (8 * (at + 8)) (bits all) ≡ front ++ word = ap (take (8 * (at + 8))) wrote ∙ take_at (front ++ word) (drop (8 * at + length word) (bits bytes)) (8 * (at + 8)) (sym place) in
+      let now = take (8 * (at + 8)) (bits all) ++ rest in
+      let both : now ≡ done ++ num w n =
+      ap (λ (b : List Bool). b ++ rest) first
+      ∙ append_assoc front word rest
+      ∙ ap (λ (b : List Bool). front ++ b) (over_bits h c w n few most full below s.zeros)
+      ∙ sym (append_assoc front (take c (num 64 h)) (num w n)) in
+      record {
+        is = ap (held_of name) (
+            ap (λ (k : ℕ). put_at (8 * k) (8 * (at + 8) + (c + w - 64)) now) long
+            ∙ more_at (8 * length bytes) (8 * at + c) (8 * (at + 8) + (c + w - 64)) done (num w n) now (leb (8 * at + c) (8 * length bytes)) refl (omega (arith, size, full)) (λ _. both)
+        );
+        sink = record { within = omega (arith, long, room); few = omega (arith, few, most); zeros = over_zeros c w n few most full };
+      }
+
+-- no bits
+pub fresh_is : (name : GName) (bytes : List ℕ) → held_in name bytes 0 0 0 ≡ fresh name (8 * length bytes)
+fresh_is name bytes =
+    let room = 8 * length bytes in
+    ap (held_of name) (put_in room 0 [] (omega arith) ∙ same_put (room - 0) room [] [] (omega arith) refl)
 
 -- ---- Up to whole bytes.
 
-pub length-behind : (start : ℕ) (bytes : List ℕ) (h c : ℕ) → IsSink start bytes h c → length (held_in start bytes h c).behind ≡ 8 * (length bytes - start) + c
-length-behind start bytes h c s =
-    let within = s.within in
-    let few = s.few in
-    let front = drop (8 * start) (bits bytes) in
-    let last = take c (num 64 h) in
-    let size : length last ≡ c = length-take-le c (num 64 h) (omega (arith, length-num 64 h, few)) in
-    omega (arith, length-append front last, size, length-drop (8 * start) (bits bytes), length-bits bytes, within)
+left_whole : (room at c : ℕ) (done : List Bool) (fits : Bool) (name : GName) (n : ℕ) → leb (8 * at + c) (8 * room) ≡ fits → and_bits (held_of name (put_at (8 * room) (8 * at + c) done)) (num ((8 - c % 8) % 8) n) ≡ and_bits (held_of name (put_at (8 * room) (8 * at + c) done)) (num (left_of (held_of name (put_at (8 * room) (8 * at + c) done)) % 8) n)
+left_whole room at c done true name n t =
+    let inside : 8 * at + c ≤ 8 * room = leb-true _ _ t in
+    let p = put_of (8 * room - (8 * at + c)) done in
+    let same : (8 - c % 8) % 8 ≡ (8 * room - (8 * at + c)) % 8 = omega (arith, inside) in
+    let is = put_in (8 * room) (8 * at + c) done inside in
+    rw is (ap (λ (k : ℕ). and_bits (held_of name (Some p)) (num k n)) same)
+left_whole room at c done false name n t =
+    let past : 8 * room < 8 * at + c = leb-false _ _ t in
+    let is = put_past (8 * room) (8 * at + c) done past in
+    rw is refl
 
 -- how many bits are left up to whole bytes
-pub room_is : (start : ℕ) (bytes : List ℕ) (h c : ℕ) (s : Held) → IsSink start bytes h c → held_in start bytes h c ≡ s → (8 - length s.behind % 8) % 8 ≡ (8 - c % 8) % 8
-room_is start bytes h c s i e =
-    let size : length s.behind ≡ 8 * (length bytes - start) + c = ap (λ (t : Held). length t.behind) (sym e) ∙ length-behind start bytes h c i in
-    omega (arith, size)
+pub room_is : (name : GName) (bytes : List ℕ) (at h c n : ℕ) (s : Held) → held_in name bytes at h c ≡ s → and_bits s (num ((8 - c % 8) % 8) n) ≡ and_bits s (num (left_of s % 8) n)
+room_is name bytes at h c n s e =
+    subst (λ (t : Held). and_bits t (num ((8 - c % 8) % 8) n) ≡ and_bits t (num (left_of t % 8) n)) e
+    (left_whole (length bytes) at c (take (8 * at) (bits bytes) ++ take c (num 64 h)) (leb (8 * at + c) (8 * length bytes)) name n refl)
 
-value-falses : (n : ℕ) → value (replicate n false) ≡ 0
-value-falses zero = refl
-value-falses (suc n) = omega (arith, value-falses n)
+-- ---- The last bytes.
 
-zeros_bits : (m h : ℕ) → h % 2 ^ m ≡ 0 → num m h ≡ replicate m false
-zeros_bits m h e = value_same (num m h) (replicate m false) (length-num m h ∙ sym (length-replicate m false)) (value-num_low m h ∙ e ∙ sym (value-falses m))
+pub front_written : (bytes new : List ℕ) (word count : ℕ) → word < 2 ^ 64 → count ≤ 8 → new ≡ take count (to_be_bytes w64 word) → bits (new ++ drop count bytes) ≡ replaced 0 (take (8 * count) (num 64 word)) (bits bytes)
+front_written bytes new word count small few made =
+    let x = take (8 * count) (num 64 word) in
+    let size : 8 * count ≡ 0 + length x = omega (arith, length-num 64 word, few, length-take-le (8 * count) (num 64 word) (omega (arith, length-num 64 word, few))) in
+    bits-append new (drop count bytes)
+    ∙ ap (λ (b : List Bool). b ++ bits (drop count bytes)) (ap bits made ∙ bits-take (to_be_bytes w64 word) count few ∙ ap (take (8 * count)) (bits-word word small))
+    ∙ ap (λ (b : List Bool). x ++ b) (bits-drop bytes count ∙ ap (λ (k : ℕ). drop k (bits bytes)) size)
 
--- the last bits, with zeros up to whole bytes
-last_bits : (h c k : ℕ) → c < 64 → h % 2 ^ (64 - c) ≡ 0 → c ≤ 8 * k → k ≤ 8 → take (8 * k) (num 64 h) ≡ take c (num 64 h) ++ replicate (8 * k - c) false
-last_bits h c k few e enough most =
-    let m = 64 - c in
-    let z = 8 * k - c in
-    let all : 64 ≡ c + m = omega (arith, few) in
-    let both : 8 * k ≡ c + z = omega (arith, enough) in
-    let behind : drop c (num 64 h) ≡ replicate m false =
-    ap (λ (x : ℕ). drop c (num x h)) all ∙ ap (drop c) (num-add c m h) ∙ drop_at (num c (h / 2 ^ m)) (num m h) c (length-num c (h / 2 ^ m)) ∙ zeros_bits m h e in
-    ap (λ (x : ℕ). take x (num 64 h)) both
-    ∙ take-add c z (num 64 h)
-    ∙ ap (λ (b : List Bool). take c (num 64 h) ++ b) (ap (take z) behind ∙ take-replicate z m false (omega (arith, most)))
+last_written : (bytes new : List ℕ) (at h c k : ℕ) → at ≤ length bytes → 8 * at + c ≡ 8 * length bytes → 8 * k ≡ c → bits new ≡ replaced (8 * at) (take (8 * k) (num 64 h)) (bits bytes) → c < 64 → bits new ≡ take (8 * at) (bits bytes) ++ take c (num 64 h)
+last_written bytes new at h c k within full last wrote few =
+    let front = take (8 * at) (bits bytes) in
+    let word = take (8 * k) (num 64 h) in
+    let long : length word ≡ 8 * k = length-take-le (8 * k) (num 64 h) (omega (arith, length-num 64 h, last, few)) in
+    let none : drop (8 * at + length word) (bits bytes) ≡ [] = drop_all (8 * at + length word) (bits bytes) (omega (arith, length-bits bytes, long, full, last)) in
+    wrote ∙ ap (λ (b : List Bool). front ++ word ++ b) none ∙ append-nil (front ++ word) ∙ ap (λ (x : ℕ). front ++ take x (num 64 h)) last
 
--- the last bytes
-abbrev pub Last : List ℕ → List ℕ → ℕ → ℕ → Type 0
-Last bytes new h c = (more : List ℕ) × (new ≡ bytes ++ more) × (bits more ≡ take c (num 64 h) ++ replicate ((8 - c % 8) % 8) false)
+finished_in : (bytes new : List ℕ) (at h c k : ℕ) (fits : Bool) → leb (8 * at + c) (8 * length bytes) ≡ fits → IsSink bytes at h c → k ≡ min (length bytes - at) 8 → bits new ≡ replaced (8 * at) (take (8 * k) (num 64 h)) (bits bytes) → IfSome (put_at (8 * length bytes) (8 * at + c) (take (8 * at) (bits bytes) ++ take c (num 64 h))) (λ p. p.left ≡ 0 → bits new ≡ p.done)
+finished_in bytes new at h c k true t s most wrote =
+    let inside : 8 * at + c ≤ 8 * length bytes = leb-true _ _ t in
+    let within = s.within in
+    let few = s.few in
+    let done = take (8 * at) (bits bytes) ++ take c (num 64 h) in
+    subst (λ (o : Option Put). IfSome o (λ p. p.left ≡ 0 → bits new ≡ p.done)) (sym (put_in (8 * length bytes) (8 * at + c) done inside))
+    (λ none.
+        let full : 8 * at + c ≡ 8 * length bytes = omega (arith, none, inside) in
+        let last : 8 * k ≡ c = omega (arith, most, full, few, within) in
+        last_written bytes new at h c k within full last wrote few)
+finished_in bytes new at h c k false t s most wrote =
+    let past : 8 * length bytes < 8 * at + c = leb-false _ _ t in
+    let done = take (8 * at) (bits bytes) ++ take c (num 64 h) in
+    subst (λ (o : Option Put). IfSome o (λ p. p.left ≡ 0 → bits new ≡ p.done)) (sym (put_past (8 * length bytes) (8 * at + c) done past)) tt
 
-pub last_added : {T E : Type 0} (r : Result T E) (bytes new last : List ℕ) (h c k : ℕ) → c < 64 → h % 2 ^ (64 - c) ≡ 0 → h < 2 ^ 64 → last ≡ to_be_bytes w64 h → c ≤ 8 * k → 8 * k < c + 8 → new ≡ (if is_ok r then bytes ++ take k last else bytes) → OnOk r (Last bytes new h c)
-last_added (Ok x) bytes new last h c k few e hb l enough most is =
-    let rest : 8 * k - c ≡ (8 - c % 8) % 8 = omega (arith, enough, most) in (
-      take k last,
-      is,
-      ap (λ (b : List ℕ). bits (take k b)) l ∙ bits-take (to_be_bytes w64 h) k (omega (arith, few, enough, most)) ∙ ap (take (8 * k)) (bits-word h hb)
-          ∙ last_bits h c k few e enough (omega (arith, few, most)) ∙ ap (λ (x : ℕ). take c (num 64 h) ++ replicate x false) rest,
-    )
-last_added (Err x) bytes new last h c k few e hb l enough most is = tt
-
--- the bytes with them
-finished : (start : ℕ) (bytes new : List ℕ) (h c : ℕ) (s : Held) → IsSink start bytes h c → held_in start bytes h c ≡ s → Last bytes new h c → bits new ≡ bits s.first ++ (s.behind ++ replicate ((8 - length s.behind % 8) % 8) false)
-finished start bytes new h c s i e (more, new_is, m) =
-    let room = room_is start bytes h c s i e in
-    let kept = take (8 * start) (bits bytes) in
-    let front = drop (8 * start) (bits bytes) in
-    let last = take c (num 64 h) in
-    let zs = replicate ((8 - length s.behind % 8) % 8) false in
-    let more_bits : bits more ≡ last ++ zs = m ∙ ap (λ (x : ℕ). last ++ replicate x false) (sym room) in
-    let first : kept ≡ bits s.first = sym (bits-take bytes start i.within) ∙ ap (λ (t : Held). bits t.first) e in
-    let behind : front ++ last ≡ s.behind = ap (λ (t : Held). t.behind) e in
-    ap bits new_is
-    ∙ bits-append bytes more
-    ∙ ap (λ (b : List Bool). bits bytes ++ b) more_bits
-    ∙ ap (λ (b : List Bool). b ++ (last ++ zs)) (sym (take-append-drop (8 * start) (bits bytes)))
-    ∙ append_assoc kept front (last ++ zs)
-    ∙ ap (λ (b : List Bool). kept ++ b) (sym (append_assoc front last zs) ∙ ap (λ (b : List Bool). b ++ zs) behind)
-    ∙ ap (λ (b : List Bool). b ++ (s.behind ++ zs)) first
-
-pub finished_if : {T E : Type 0} (r : Result T E) (start : ℕ) (bytes new : List ℕ) (h c : ℕ) (s : Held) → IsSink start bytes h c → held_in start bytes h c ≡ s → OnOk r (Last bytes new h c) → OnOk r (bits new ≡ bits s.first ++ (s.behind ++ replicate ((8 - length s.behind % 8) % 8) false))
-finished_if (Ok x) start bytes new h c s i e l = finished start bytes new h c s i e l
-finished_if (Err x) start bytes new h c s i e l = tt
-
--- what was there first
-pub length-first : (start : ℕ) (bytes : List ℕ) (h c : ℕ) (s : Held) → IsSink start bytes h c → held_in start bytes h c ≡ s → length s.first ≡ start
-length-first start bytes h c s i e = ap (λ (t : Held). length t.first) (sym e) ∙ length-take-le start bytes i.within
-
-first_in : (start : ℕ) (bytes new more : List ℕ) (h c : ℕ) (s : Held) → IsSink start bytes h c → held_in start bytes h c ≡ s → new ≡ bytes ++ more → take (length s.first) new ≡ s.first
-first_in start bytes new more h c s i e new_is =
-    ap (λ (k : ℕ). take k new) (length-first start bytes h c s i e) ∙ ap (take start) new_is ∙ take-append-le start bytes more i.within ∙ ap (λ (t : Held). t.first) e
-
-pub first_kept : {T E : Type 0} (r : Result T E) (start : ℕ) (bytes new : List ℕ) (h c : ℕ) (s : Held) → IsSink start bytes h c → held_in start bytes h c ≡ s → OnOk r (Last bytes new h c) → OnErr r (new ≡ bytes) → take (length s.first) new ≡ s.first
-first_kept (Ok x) start bytes new h c s i e (more, is, b) f = first_in start bytes new more h c s i e is
-first_kept (Err x) start bytes new h c s i e l f = first_in start bytes new [] h c s i e (f ∙ sym (append-nil bytes))
+pub finished : (name : GName) (bytes new : List ℕ) (at h c k : ℕ) (s : Held) → held_in name bytes at h c ≡ s → IsSink bytes at h c → k ≡ min (length bytes - at) 8 → bits new ≡ replaced 0 (take (8 * k) (num 64 h)) (bits (take (length bytes - at) (drop at bytes))) → IfSome s.put (λ p. p.left ≡ 0 → bits (put_mid at (length bytes - at) bytes new) ≡ p.done)
+finished name bytes new at h c k s e i most written =
+    let all = put_mid at (length bytes - at) bytes new in
+    let wrote : bits all ≡ replaced (8 * at) (take (8 * k) (num 64 h)) (bits bytes) = replaced-rest bytes new at (8 * at) 0 (take (8 * k) (num 64 h)) i.within (omega arith) written in
+    subst (λ (t : Held). IfSome t.put (λ p. p.left ≡ 0 → bits all ≡ p.done)) e
+    (finished_in bytes all at h c k (leb (8 * at + c) (8 * length bytes)) refl i most wrote)
 
 -- ---- Bits one after another.
-
-pub and_both : (s : Held) (a b : List Bool) → and_bits (and_bits s a) b ≡ and_bits s (a ++ b)
-and_both s a b = ap (with_behind s) (append_assoc s.behind a b)
-
-pub and_none : (s : Held) → and_bits s [] ≡ s
-and_none s = ap (with_behind s) (append-nil s.behind)
 
 -- a word of a slice
 pub put_more : (s one two : Held) (seen : List Bool) (from word : ℕ) → from + 64 ≤ length seen → one ≡ and_bits s (take from seen) → num 64 word ≡ take 64 (drop from seen ++ replicate 64 false) → two ≡ and_bits one (num 64 word) → two ≡ and_bits s (take (from + 64) seen)
@@ -351,18 +387,14 @@ send_more s one two sent done n e f =
     ∙ sym (spelled_both s a b)
     ∙ ap (λ (r : Reading). and_bits s (spelled r)) (sym (take-add done n sent))
 
-send_rest : (s one two : Held) (sent : Reading) (n : ℕ) → one ≡ and_bits s (spelled (take n sent)) → two ≡ and_bits one (spelled (drop n sent)) → two ≡ and_bits s (spelled sent)
+pub send_rest : (s one two : Held) (sent : Reading) (n : ℕ) → one ≡ and_bits s (spelled (take n sent)) → two ≡ and_bits one (spelled (take (length sent - n) (drop n sent))) → two ≡ and_bits s (spelled sent)
 send_rest s one two sent n e f =
+    let whole : take (length sent - n) (drop n sent) ≡ drop n sent = take_all (length sent - n) (drop n sent) (omega (arith, length-drop n sent)) in
     f
+    ∙ ap (λ (r : Reading). and_bits one (spelled r)) whole
     ∙ ap (λ (t : Held). and_bits t (spelled (drop n sent))) e
     ∙ sym (spelled_both s (take n sent) (drop n sent))
     ∙ ap (λ (r : Reading). and_bits s (spelled r)) (take-append-drop n sent)
-
-pub send_rest_if : {T E : Type 0} (r : Result T E) (s one two : Held) (sent : Reading) (n : ℕ) → one ≡ and_bits s (spelled (take n sent)) → OnOk r (two ≡ and_bits one (spelled (take (length sent - n) (drop n sent)))) → OnOk r (two ≡ and_bits s (spelled sent))
-send_rest_if (Ok x) s one two sent n e f =
-    let whole : take (length sent - n) (drop n sent) ≡ drop n sent = take_all (length sent - n) (drop n sent) (omega (arith, length-drop n sent)) in
-    send_rest s one two sent n e (f ∙ ap (λ (r : Reading). and_bits one (spelled r)) whole)
-send_rest_if (Err x) s one two sent n e f = tt
 
 -- ---- Packets.
 
@@ -376,32 +408,13 @@ append_more way value ps i p s one two h is e f =
     ∙ ap (λ (r : Reading). and_bits s (spelled r)) (sym (packets_more way value ps i p h is))
 
 -- a packet's front, and what follows it
-append_parts : (v : PacketValue) (s one two : Held) (rest : List Bool) → rest ≡ rest_of v → one ≡ and_bits s (spelled (front_of v)) → two ≡ and_bits one rest → two ≡ and_bits s (spelled (packet_reading v))
+pub append_parts : (v : PacketValue) (s one two : Held) (rest : List Bool) → rest ≡ rest_of v → one ≡ and_bits s (spelled (front_of v)) → two ≡ and_bits one rest → two ≡ and_bits s (spelled (packet_reading v))
 append_parts v s one two rest is e f =
     f
     ∙ ap (and_bits one) is
     ∙ ap (λ (t : Held). and_bits t (rest_of v)) e
     ∙ and_both s (spelled (front_of v)) (rest_of v)
     ∙ ap (and_bits s) (sym (spelled_parts v))
-
--- ---- Bytes added to others, or not.
-
-pub pushed : {T E : Type 0} (r : Result T E) (old new more : List ℕ) (word : ℕ) → new ≡ (if is_ok r then old ++ more else old) → bits more ≡ num 64 word → OnOk r ((m : List ℕ) × (new ≡ old ++ m) × (bits m ≡ num 64 word))
-pushed (Ok x) old new more word e f = (more, e, f)
-pushed (Err x) old new more word e f = tt
-
-pub not_pushed : {T E : Type 0} (r : Result T E) (old new more : List ℕ) → new ≡ (if is_ok r then old ++ more else old) → OnErr r (new ≡ old)
-not_pushed (Ok x) old new more e = tt
-not_pushed (Err x) old new more e = e
-
--- a number of no bits
-pub none_put : (s : Held) (n : ℕ) → and_bits s (num 0 n) ≡ s
-unfolding num
-none_put s n = and_none s
-
-pub append_parts_if : {T E : Type 0} (r : Result T E) (v : PacketValue) (s one two : Held) (rest : List Bool) → rest ≡ rest_of v → one ≡ and_bits s (spelled (front_of v)) → OnOk r (two ≡ and_bits one rest) → OnOk r (two ≡ and_bits s (spelled (packet_reading v)))
-append_parts_if (Ok x) v s one two rest is e f = append_parts v s one two rest is e f
-append_parts_if (Err x) v s one two rest is e f = tt
 
 -- ---- What is in front of a packet, as one number.
 

@@ -38,13 +38,13 @@ left_of s = left_in s.put where
   left_in None = 0
   left_in (Some p) = p.left
 
+-- these bits, up to a place among the bits of a room
+abbrev pub put_at : ℕ → ℕ → List Bool → Option Put
+put_at room place b = if nat_le place room then Some (put_of (room - place) b) else None
+
 -- what a sink's fields stand for: the bytes so far, and a word that holds the last bits
 abbrev pub held_in : GName → List ℕ → ℕ → ℕ → ℕ → Held
-held_in name bytes at held count = held_of name (
-  if nat_le (8 * at + count) (8 * length bytes)
-  then Some (put_of (8 * length bytes - (8 * at + count)) (take (8 * at) (bits bytes) ++ take count (num 64 held)))
-  else None
-)
+held_in name bytes at held count = held_of name (put_at (8 * length bytes) (8 * at + count) (take (8 * at) (bits bytes) ++ take count (num 64 held)))
 
 -- the bytes are there, and the word has zeros after its bits
 pub record IsSink (bytes : List ℕ) (at held count : ℕ) : Type 0 where

@@ -1,7 +1,7 @@
 use Rattle.std.proofs.Common.{◌≡◌, ◌+◌, ◌*◌, ◌%◌, ◌^◌, ◌<◌, ◌≤◌, arith}
 use Rattle.std.proofs.Math.Nat.{mod-lt}
 use Rattle.std.proofs.lemmas.Nat.{pow_pos}
-use Rattle.etcs_packets.proofs.Sending.{num-low}
+use Rattle.etcs_packets.proofs.LowestBits.{num-low}
 use Rattle.etcs_packets.proofs.Joins.{at_place, join_first, join_next, join_word}
 use Rattle.etcs_packets.proofs.joining.joined.Goals as goal
 

@@ -1,7 +1,7 @@
 use Rattle.std.proofs.Common.{◌∙◌, ◌^◌, ap}
 use Rattle.std.proofs.lemmas.Nat.{mod_below, pow_pos}
 use Rattle.etcs_bits.specs.Bits.{num}
-use Rattle.etcs_packets.proofs.Sending.{low_found, num-low}
+use Rattle.etcs_packets.proofs.LowestBits.{low_found, num-low}
 use Rattle.etcs_packets.proofs.joining.lowest.Goals as goal
 
 pub returns-clause-fits : goal.returns-clause-fits

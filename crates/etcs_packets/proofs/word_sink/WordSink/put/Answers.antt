@@ -1,7 +1,7 @@
 use Rattle.std.proofs.Common.{◌+◌, ◌-◌, ◌*◌, ◌/◌, ◌%◌, ◌^◌, ◌<◌, ap, ◌∙◌, arith, rules}
 use Rattle.etcs_bits.specs.Bits.{num}
 use Rattle.etcs_packets.specs.WordSinks.{Held, and_bits}
-use Rattle.etcs_packets.proofs.WordSinks.{joined_fits, put_within, put_over}
+use Rattle.etcs_packets.proofs.WordSinks.{joined_fits, put_within, put_lost, put_over}
 use Rattle.etcs_packets.proofs.word_sink.WordSink.put.Goals as goal
 
 pub overflow_add-word : goal.overflow_add-word
@@ -13,23 +13,27 @@ overflow_add-word c =
 pub invariant_of-self : goal.invariant_of-self
 invariant_of-self c =
     let s = c.self.inside in
-    (put_within s.start s.bytes.items s.held s.count c.args.width c.args.number c.self.invariant c.if-count-lt64.true c.requires.width (omega arith)).sink
+    (put_within s.bytes.ghost_name s.bytes.now s.at s.held s.count c.args.width c.args.number c.self.invariant c.requires.width (omega arith) c.if-count-lt64.true).sink
 
-pub returns-then-count-lt64-clause-ok : goal.returns-then-count-lt64-clause-ok
-returns-then-count-lt64-clause-ok c =
+pub invariant_of-self-else-self-lt8 : goal.invariant_of-self-else-self-lt8
+invariant_of-self-else-self-lt8 c =
     let s = c.self.inside in
-    (put_within s.start s.bytes.items s.held s.count c.args.width c.args.number c.self.invariant c.if-count-lt64.true c.requires.width (omega arith)).is
+    (put_over s.bytes.ghost_name s.bytes.now s.at s.held s.count c.args.width c.args.number c.self.invariant c.requires.width (omega arith) c.write_front.new.bytes (omega (arith, c.if-count-lt64.false)) (omega (arith, c.if-self-lt8.false)) c.write_front.ensures).sink
+
+pub returns-then-count-lt64 : goal.returns-then-count-lt64
+returns-then-count-lt64 c =
+    let s = c.self.inside in
+    (put_within s.bytes.ghost_name s.bytes.now s.at s.held s.count c.args.width c.args.number c.self.invariant c.requires.width (omega arith) c.if-count-lt64.true).is
     ∙ ap (λ (t : Held). and_bits t (num c.args.width c.args.number)) c.self.view_is
 
-pub invariant_of-self-2 : goal.invariant_of-self-2
-invariant_of-self-2 c =
+pub returns-then-self-lt8 : goal.returns-then-self-lt8
+returns-then-self-lt8 c =
     let s = c.self.inside in
-    let (more, e, f) = c.in_ok-push_word.ensures.ok in
-    (put_over s.start s.bytes.items more c.push_word.new.bytes.items s.held s.count c.args.width c.args.number c.self.invariant (omega (arith, c.if-count-lt64.false)) c.requires.width (omega arith) e f).sink
+    (put_lost s.bytes.ghost_name s.bytes.now s.at s.held s.count c.args.width c.args.number c.self.invariant c.requires.width (omega arith) (omega (arith, c.if-count-lt64.false)) c.if-self-lt8.true).is
+    ∙ ap (λ (t : Held). and_bits t (num c.args.width c.args.number)) c.self.view_is
 
-pub returns-clause-ok : goal.returns-clause-ok
-returns-clause-ok c =
+pub returns-else-self-lt8 : goal.returns-else-self-lt8
+returns-else-self-lt8 c =
     let s = c.self.inside in
-    let (more, e, f) = c.in_ok-push_word.ensures.ok in
-    (put_over s.start s.bytes.items more c.push_word.new.bytes.items s.held s.count c.args.width c.args.number c.self.invariant (omega (arith, c.if-count-lt64.false)) c.requires.width (omega arith) e f).is
+    (put_over s.bytes.ghost_name s.bytes.now s.at s.held s.count c.args.width c.args.number c.self.invariant c.requires.width (omega arith) c.write_front.new.bytes (omega (arith, c.if-count-lt64.false)) (omega (arith, c.if-self-lt8.false)) c.write_front.ensures).is
     ∙ ap (λ (t : Held). and_bits t (num c.args.width c.args.number)) c.self.view_is

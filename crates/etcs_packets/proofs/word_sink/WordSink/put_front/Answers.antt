@@ -9,4 +9,4 @@ put-requires-clause-some c =
     joins_some c.args.sent.now f.count f.width f.number c.joined-front.ensures
 
 pub returns-clause-sent : goal.returns-clause-sent
-returns-clause-sent c = c.in_ok-put.ensures.ok ∙ ap (and_bits c.args.self.now) c.joined-front.ensures.bits_are
+returns-clause-sent c = c.put.ensures ∙ ap (and_bits c.args.self.now) c.joined-front.ensures.bits_are

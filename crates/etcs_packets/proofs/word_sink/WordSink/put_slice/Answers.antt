@@ -1,6 +1,7 @@
 use Rattle.std.proofs.Common.{◌≡◌, ◌-◌, ◌≤◌, length, take, sym, ap, ◌∙◌, arith}
 use Rattle.etcs_packets.specs.WordSinks.{and_bits}
-use Rattle.etcs_packets.proofs.WordSinks.{put_more, put_last, and_none}
+use Rattle.etcs_packets.specs.laws.WordSinks.{and_none}
+use Rattle.etcs_packets.proofs.WordSinks.{put_more, put_last}
 use Rattle.etcs_packets.proofs.word_sink.WordSink.put_slice.Goals as goal
 
 pub loop-left-init : goal.loop-left-init
@@ -22,15 +23,15 @@ loop-left-preserved c =
     record {
       within = omega (arith, within);
       put =
-          put_more c.args.self.now l.self c.put.new.self seen from c.word.result (omega (arith, within, enough)) l.invariant.put (rw c.len.ensures at c.word.ensures) c.in_ok-put.ensures.ok
+          put_more c.args.self.now l.self c.put.new.self seen from c.word.result (omega (arith, within, enough)) l.invariant.put (rw c.len.ensures at c.word.ensures) c.put.ensures
           ∙ ap (λ k. and_bits c.args.self.now (take k seen)) (omega (arith, within, enough));
     }
 
-pub returns-in_ok-put-2-clause-ok : goal.returns-in_ok-put-2-clause-ok
-returns-in_ok-put-2-clause-ok c =
+pub returns-then-left-gt0 : goal.returns-then-left-gt0
+returns-then-left-gt0 c =
     let l = c.loop-left in
     let seen = c.args.slice.now in
     let from = length seen - l.left in
     let within = l.invariant.within in
     let few : l.left ≤ 64 = omega (arith, c.loop-left-test.false) in
-    put_last c.args.self.now l.self c.put-then-left-gt0.new.self seen from l.left c.word-then-left-gt0.result (omega (arith, within)) few l.invariant.put (rw c.len-then-left-gt0.ensures at c.word-then-left-gt0.ensures) c.in_ok-put-2.ensures.ok
+    put_last c.args.self.now l.self c.put-then-left-gt0.new.self seen from l.left c.word-then-left-gt0.result (omega (arith, within)) few l.invariant.put (rw c.len-then-left-gt0.ensures at c.word-then-left-gt0.ensures) c.put-then-left-gt0.ensures

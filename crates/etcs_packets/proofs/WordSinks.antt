@@ -11,8 +11,7 @@ use Rattle.std.proofs.Math.Seq.{take-add, take-append-add}
 use borrow.Rule.Slice.PartMut.{put_mid}
 use Rattle.etcs_bits.specs.Bits.{num, value, bits, part, replaced}
 use Rattle.etcs_bits.proofs.ByteBits.{bits-append, bits-drop}
-use Rattle.etcs_bits.proofs.Copies.{same_length}
-use Rattle.etcs_bits.proofs.Lists.{length-part}
+use Rattle.etcs_bits.proofs.Lists.{length-part, length-replaced}
 use Rattle.etcs_bits.proofs.Numbers.{length-num, num-value}
 use Rattle.etcs_bits.proofs.Owned.{bits-take}
 use Rattle.etcs_bits.proofs.Positions.{length-bits}
@@ -252,7 +251,7 @@ module _ (name : GName) (bytes : List ℕ) (at h c w n : ℕ) (s : IsSink bytes 
       let inside = length-bits bytes in
       let eight : take 64 word ≡ word = take_all 64 word (omega (arith, wide)) in
       let wrote : bits all ≡ replaced (8 * at) word (bits bytes) = replaced-rest bytes new at (8 * at) 0 word s.within (omega arith) (written ∙ ap (λ (b : List Bool). replaced 0 b (bits (take (length bytes - at) (drop at bytes)))) eight) in
-      let long : length all ≡ length bytes = same_length bytes all (8 * at) word (omega (arith, wide, inside, room)) wrote in
+      let long : length all ≡ length bytes = omega (arith, ap length wrote, length-replaced (8 * at) word (bits bytes) (omega (arith, wide, inside, room)), length-bits all, inside) in
       let place : 8 * (at + 8) ≡ length (front ++ word) = omega (arith, length-append front word, wide, length-take-le (8 * at) (bits bytes) (omega (arith, inside, room))) in
       let first : take (8 * (at + 8)) (bits all) ≡ front ++ word = ap (take (8 * (at + 8))) wrote ∙ take_at (front ++ word) (drop (8 * at + length word) (bits bytes)) (8 * (at + 8)) (sym place) in
       let now = take (8 * (at + 8)) (bits all) ++ rest in
@@ -294,6 +293,11 @@ pub room_is : (name : GName) (bytes : List ℕ) (at h c n : ℕ) (s : Held) → 
 room_is name bytes at h c n s e =
     subst (λ (t : Held). and_bits t (num ((8 - c % 8) % 8) n) ≡ and_bits t (num (left_of t % 8) n)) e
     (left_whole (length bytes) at c (take (8 * at) (bits bytes) ++ take c (num 64 h)) (leb (8 * at + c) (8 * length bytes)) name n refl)
+
+-- a number of no bits
+pub none_put : (s : Held) (n : ℕ) → and_bits s (num 0 n) ≡ s
+unfolding num
+none_put s n = and_none s
 
 -- ---- The last bytes.
 

@@ -135,8 +135,8 @@ impl<'a> WordSink<'a> {
 
     /// The bytes with all bits that were put, where these have all of their room.
     pub fn finish(self) -> &'a mut [u8]
-        ensures lent { result.ghost_name ≡ self.name }
-        ensures bits { IfSome self.put (λ p. p.left ≡ 0 → bits result.now ≡ p.done) }
+        ensures lent { result.ghost_name ≡ self.entry.name }
+        ensures bits { IfSome self.entry.put (λ p. p.left ≡ 0 → bits result.now ≡ p.done) }
     {
         let WordSink {
             bytes,
@@ -161,7 +161,6 @@ fn write_front(bytes: &mut [u8], word: u64, count: usize)
 }
 
 impl<'a> VarSink for WordSink<'a> {
-    ghost use Rattle.std.specs.Prelude.{⊥};
     ghost use Rattle.etcs_vars.specs.Reading.{spelled};
     ghost use Rattle.etcs_packets.specs.WordSinks.{and_bits};
     ghost use Rattle.etcs_packets.specs.laws.WordSinks.{spelled_none, spelled_both};

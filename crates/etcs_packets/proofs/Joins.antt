@@ -1,5 +1,5 @@
 -- Variables joined into one number.
-use Rattle.std.proofs.Common.{◌≡◌, ℕ, suc, ◌+◌, ◌*◌, ◌/◌, ◌%◌, ◌^◌, ◌<◌, ◌≤◌, Bool, List, [], ◌∷◌, ◌++◌, length, take, drop, get_or, refl, sym, ap, ◌∙◌, arith, append-nil, length-append}
+use Rattle.std.proofs.Common.{◌≡◌, ℕ, ◌+◌, ◌*◌, ◌%◌, ◌^◌, ◌<◌, ◌≤◌, Bool, List, [], ◌∷◌, ◌++◌, length, take, get_or, refl, sym, ap, ◌∙◌, arith, append-nil, length-append}
 use Rattle.std.proofs.lemmas.List.{take_more}
 use Rattle.std.proofs.lemmas.Nat.{pow_pos}
 use Rattle.std.proofs.Math.Pow.{pow_mono}
@@ -12,7 +12,6 @@ use Rattle.etcs_vars.proofs.Prefixes.{width-le}
 use Rattle.etcs_vars.proofs.Stepping.{parts_fit, next_number}
 use Rattle.etcs_vars.proofs.Walk.{spelled-append}
 use Rattle.etcs_packets.specs.Joins.{Joins}
-use Rattle.etcs_packets.proofs.LowestBits.{num-low}
 
 -- the variable at a place
 abbrev pub at_place : Reading → ℕ → Sent

@@ -1,20 +1,16 @@
 -- Packets over the bits of bytes.
-use Rattle.std.proofs.Common.{◌≡◌, ℕ, ◌+◌, ◌*◌, ◌<◌, ◌≤◌, Bool, true, false, List, [], ◌∷◌, ◌++◌, length, take, Some, None, refl, sym, ap, ◌∙◌, arith, append_assoc, append-nil, length-append}
-use Rattle.etcs_bits.specs.Bits.{num, replaced}
-use Rattle.etcs_bits.proofs.Numbers.{length-num}
-use Rattle.etcs_bits.proofs.Lists.{replaced_more, length-replaced}
+use Rattle.std.proofs.Common.{◌≡◌, ℕ, ◌+◌, ◌*◌, ◌<◌, Bool, true, false, List, [], ◌∷◌, ◌++◌, length, None, refl, sym, ap, ◌∙◌, append_assoc, append-nil, length-append}
+use Rattle.etcs_bits.specs.Bits.{num}
 use Rattle.etcs_vars.specs.declared.var.Var.TheVariants.{NID_PACKET, Q_DIR, L_PACKET, OTHER_DATA}
 use Rattle.etcs_vars.specs.Reading.{Reading, spelled}
 use Rattle.etcs_vars.specs.Reading as sent
 use Rattle.etcs_vars.proofs.Stepping.{next_number}
 use Rattle.etcs_vars.proofs.Walk.{spelled-append}
-use Rattle.etcs_vars.proofs.Sent.{length-sent}
 use Rattle.etcs_flat.specs.Others.{OtherValue}
 use Rattle.etcs_packets.specs.declared.packet.Packet.{Packet}
 use Rattle.etcs_packets.specs.declared.packet.Packet.TheVariants.{Other}
-use Rattle.etcs_packets.specs.PacketValues.{PacketValue, marker, typed, kept, packet_value, nid_of, dir_of, variables_of, bits_of}
+use Rattle.etcs_packets.specs.PacketValues.{PacketValue, marker, typed, kept, packet_value, nid_of, dir_of, variables_of}
 use Rattle.etcs_packets.specs.PacketReadings.{packet_reading}
-use Rattle.etcs_packets.specs.laws.PacketReadings.{packet_bits}
 use Rattle.etcs_packets.specs.Fronts.{front_of}
 
 pub length-spelled : (p q : Reading) → length (spelled (p ++ q)) ≡ length (spelled p) + length (spelled q)

@@ -1,11 +1,8 @@
 -- Packets one after another, over the bits of bytes.
-use Rattle.std.proofs.Common.{◌≡◌, ℕ, ◌+◌, ◌<◌, ◌≤◌, Bool, List, [], ◌∷◌, ◌++◌, length, take, drop, get_or, map, sym, ap, ◌∙◌, arith, append-nil}
+use Rattle.std.proofs.Common.{◌≡◌, ℕ, ◌+◌, ◌<◌, ◌≤◌, List, [], ◌∷◌, ◌++◌, length, take, drop, get_or, map, sym, ap, ◌∙◌, arith, append-nil}
 use Rattle.std.proofs.lemmas.List.{map_more, map-append, take-append-drop}
 use Rattle.std.proofs.lemmas.Grind.{flat_map-append}
-use Rattle.etcs_bits.specs.Bits.{replaced}
-use Rattle.etcs_bits.proofs.Lists.{replaced_more, length-replaced}
 use Rattle.etcs_vars.specs.Reading.{Reading, spelled}
-use Rattle.etcs_vars.proofs.Walk.{spelled-append}
 use Rattle.etcs_tables.specs.declared.row.Way.{Way}
 use Rattle.etcs_packets.specs.PacketValues.{PacketValue, bits_to}
 use Rattle.etcs_packets.specs.PacketReadings.{reading_to, readings_to}

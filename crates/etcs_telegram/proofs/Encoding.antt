@@ -33,10 +33,6 @@ pub whole_bytes : (size : Size) → user_bits size + pad_bits size ≡ 8 * conta
 whole_bytes Short = refl
 whole_bytes Long = refl
 
-pub container_bits : (size : Size) (out : List ℕ) → length out ≡ container_bytes size → length (bits out) ≡ user_bits size + pad_bits size
-container_bits Short out e = length-bits out ∙ ap (λ (k : ℕ). 8 * k) e
-container_bits Long out e = length-bits out ∙ ap (λ (k : ℕ). 8 * k) e
-
 pub telegram_reads : (t : TelegramContent) → IsTelegram t → TelegramReads (telegram_value t) (telegram_reading (telegram_value t))
 telegram_reads t i = record {
   header_admitted = i.header;
@@ -70,15 +66,3 @@ telegram_bits t =
     let packets = spelled (packets_reading t.packets) in
     let closed : head ++ spelled (closed_reading t.packets) ≡ (head ++ packets) ++ num 8 255 = ap (λ (b : List Bool). head ++ b) (closed_spelled t.packets) ∙ sym (append_assoc head packets (num 8 255)) in
     telegram_parts t ∙ ap (λ (b : List Bool). (b ++ t.fill) ++ num (pad_bits t.size) 0) closed
-
--- packets, packet 255 and FILL end at the user bits
-pub user_end : (t : TelegramValue) (end : ℕ) → TelegramReads t (telegram_reading t) → end ≡ 50 + length (spelled (packets_reading t.packets)) → user_bits t.size ≡ end + 8 + length t.fill
-user_end t end reads e = omega (arith, e, header_length t.header, closed_length t.packets, reads.user_bits_is)
-
-pub telegram_written : (t : TelegramValue) (end : ℕ) (b b1 b2 b3 b4 b5 : List Bool) → TelegramReads t (telegram_reading t) → length b ≡ user_bits t.size + pad_bits t.size → end ≡ 50 + length (spelled (packets_reading t.packets)) → b1 ≡ replaced 0 (spelled (header_reading t.header)) b → b2 ≡ replaced 50 (spelled (packets_reading t.packets)) b1 → b3 ≡ replaced end (num 8 255) b2 → b4 ≡ replaced (end + 8) t.fill b3 → b5 ≡ replaced (user_bits t.size) (num (pad_bits t.size) 0) b4 → b5 ≡ spelled (telegram_reading t)
-telegram_written t end b b1 b2 b3 b4 b5 reads size e e1 e2 e3 e4 e5 =
-    let pad = num (pad_bits t.size) 0 in
-    let nid : end + 8 ≡ end + length (num 8 255) = ap (λ (k : ℕ). end + k) (sym (length-num 8 255)) in
-    let whole : length b ≡ user_bits t.size + length pad = size ∙ ap (λ (k : ℕ). user_bits t.size + k) (sym (length-num (pad_bits t.size) 0)) in
-    five_written (spelled (header_reading t.header)) (spelled (packets_reading t.packets)) (num 8 255) t.fill pad b b1 b2 b3 b4 b5 50 end (end + 8) (user_bits t.size) (sym (header_length t.header)) e nid (user_end t end reads e) whole e1 e2 e3 e4 e5
-    ∙ sym (telegram_bits t)

@@ -1,6 +1,5 @@
 -- Bits of readings, one after another.
-use Rattle.std.proofs.Common.{◌≡◌, ℕ, ◌+◌, ◌-◌, ◌<◌, ◌≤◌, Bool, true, false, List, [], ◌++◌, length, Option, Some, None, leb, refl, sym, ap, ◌∙◌, arith, append_assoc, length-append, le-leb, leb-true, leb-false}
-use Rattle.std.specs.Prelude.{if◌then◌else◌}
+use Rattle.std.proofs.Common.{◌≡◌, ℕ, ◌-◌, ◌<◌, ◌≤◌, Bool, true, false, List, [], ◌++◌, length, Option, Some, None, leb, refl, sym, ap, ◌∙◌, arith, append_assoc, length-append, le-leb, leb-true, leb-false}
 use Rattle.std.proofs.lemmas.Bool.{lt-leb}
 use Rattle.std.proofs.lemmas.List.{append-nil}
 use Rattle.etcs_vars.specs.Reading.{Reading, spelled}

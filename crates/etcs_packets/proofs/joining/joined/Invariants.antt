@@ -1,4 +1,4 @@
-use Rattle.std.proofs.Common.{◌-◌, ◌≤◌, length}
+use Rattle.std.proofs.Common.{◌-◌, length}
 use Rattle.etcs_packets.specs.Joins.{Joins}
 use Rattle.etcs_packets.proofs.joining.joined.Given as goal
 

@@ -6,3 +6,4 @@ pub mod LowestBits
 pub mod Equality
 pub mod OnePacket
 pub mod WordSinks
+pub mod Words

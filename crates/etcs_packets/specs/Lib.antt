@@ -3,4 +3,5 @@ pub mod Joins
 pub mod PacketReadings
 pub mod PacketValues
 pub mod WordSinks
+pub mod Words
 pub mod laws

@@ -10,6 +10,7 @@ mod list;
 mod packet;
 pub mod parts;
 mod typed;
+mod word;
 mod word_sink;
 mod write;
 

@@ -1,49 +1,41 @@
-//! Bits written over bytes, a word at a time.
+//! Bits put over those of bytes, a word at a time.
 
-ghost use Rattle.std.specs.Prelude.{◌≡◌, ◌*◌, ◌<◌, ◌≤◌, ◌%◌, length, take, IfSome};
-ghost use Rattle.etcs_bits.specs.Bits.{bits, num, replaced};
+ghost use Rattle.std.specs.Prelude.{◌≡◌, ◌+◌, ◌-◌, ◌<◌, ◌≤◌, ◌%◌, [], length, take};
+ghost use Rattle.etcs_bits.specs.Bits.{num};
 ghost use Rattle.etcs_vars.specs.Reading.{spelled};
-ghost use Rattle.etcs_packets.specs.WordSinks.{fresh, and_bits, left_of};
+ghost use Rattle.etcs_packets.specs.Words.{with_front};
 
 use crate::joining::joined;
+use crate::word::Word;
 use etcs_bits::BitSlice;
 use etcs_vars::Var;
 use etcs_vars::parts::VarSink;
 use std::alloc::AllocError;
-use std::marker::Model;
 
-/// Bytes over whose bits others are put, one after another, of which fewer than 64 aren't in the bytes yet.
+/// Bytes over whose first bits others are put, one after another. Bits that have no room are left out.
 #[derive(Drop)]
 pub struct WordSink<'a> {
     bytes: &'a mut [u8],
     /// How many bytes are written.
     at: usize,
-    /// The bits after them, the first one highest, with zeros after the last.
-    held: u64,
-    /// How many they are. Where some bits had no room, these have none.
-    count: usize,
-}
-
-impl<'a> Model for WordSink<'a> {
-    ghost use Rattle.etcs_packets.specs.WordSinks.{Held, held_in, IsSink};
-
-    ghost Value = { Held };
-
-    ghost view = { λ s. held_in s.bytes.ghost_name s.bytes.now s.at s.held s.count };
-
-    ghost invariant = { λ s. IsSink s.bytes.now s.at s.held s.count };
+    /// The bits after them.
+    word: Word,
 }
 
 impl<'a> WordSink<'a> {
+    ghost use Rattle.etcs_packets.specs.WordSinks.{pushed, and_bits, IsWritten};
+
     /// These bytes, over whose first bits others are put.
     pub fn new(bytes: &'a mut [u8]) -> WordSink<'a>
-        ensures { result ≡ fresh bytes.entry.ghost_name (8 * length bytes.old) }
+        ensures lent { result.bytes.ghost_name ≡ bytes.entry.ghost_name }
+        ensures bytes { result.bytes.now ≡ bytes.old }
+        ensures at { result.at ≡ 0 }
+        ensures word { result.word ≡ [] }
     {
         WordSink {
             bytes,
             at: 0,
-            held: 0,
-            count: 0,
+            word: Word::new(),
         }
     }
 
@@ -54,20 +46,20 @@ impl<'a> WordSink<'a> {
         requires width { width ≤ 64 }
         ensures { self.new ≡ and_bits self.old (num width number) }
     {
-        let top = number << (64 - width);
-        let word = self.held + (top >> self.count);
-        let count = self.count + width;
-        if count < 64 {
-            self.held = word;
-            self.count = count;
-        } else if self.bytes.len() - self.at < 8 {
-            self.held = 0;
-            self.count = 63;
-        } else {
-            write_front(&mut self.bytes[self.at..], word, 8);
+        if let Some(word) = self.word.put(width, number) {
+            self.push(word);
+        }
+    }
+
+    /// Writes a word over the next eight bytes, where it has room.
+    #[inline(always)]
+    fn push(&mut self, word: u64)
+        ensures { self.new ≡ pushed self.old (num 64 word) }
+    {
+        if self.bytes.len().saturating_sub(self.at) >= 8 {
+            let bytes = &mut *self.bytes;
+            write_front(bytes, self.at, word, 8);
             self.at += 8;
-            self.held = (top << 1) << (63 - self.count);
-            self.count = count - 64;
         }
     }
 
@@ -88,9 +80,9 @@ impl<'a> WordSink<'a> {
 
     /// Puts the lowest bits of a number after the others, as many as are left up to whole bytes.
     pub fn fill_up(&mut self, number: u64)
-        ensures { self.new ≡ and_bits self.old (num (left_of self.old % 8) number) }
+        ensures { self.new ≡ and_bits self.old (num ((8 - length self.old.word % 8) % 8) number) }
     {
-        let width = (8 - self.count % 8) % 8;
+        let width = (8 - self.word.len() % 8) % 8;
         if width > 0 {
             self.put(width, number);
         }
@@ -133,31 +125,26 @@ impl<'a> WordSink<'a> {
         }
     }
 
-    /// The bytes with all bits that were put, where these have all of their room.
-    pub fn finish(self) -> &'a mut [u8]
-        ensures lent { result.ghost_name ≡ self.entry.name }
-        ensures bits { IfSome self.entry.put (λ p. p.left ≡ 0 → bits result.now ≡ p.done) }
+    /// Writes the last bits. Those after them, up to eight bytes, are then zeros.
+    pub fn finish(self)
+        ensures { IsWritten self.entry self.exit.0.now }
     {
-        let WordSink {
-            bytes,
-            at,
-            held,
-            count: _,
-        } = self;
-        let rest = bytes.len() - at;
-        write_front(&mut bytes[at..], held, rest.min(8));
-        bytes
+        let WordSink { bytes, at, word } = self;
+        if at < bytes.len() {
+            let count = (bytes.len() - at).min(8);
+            write_front(bytes, at, word.number(), count);
+        }
     }
 }
 
-/// Writes this many bytes of a word over the first ones.
+/// Writes the first bytes of a word over those from one on.
 #[inline(always)]
-fn write_front(bytes: &mut [u8], word: u64, count: usize)
+fn write_front(bytes: &mut [u8], at: usize, word: u64, count: usize)
     requires word { count ≤ 8 }
-    requires inside { count ≤ length bytes.old }
-    ensures { bits bytes.new ≡ replaced 0 (take (8 * count) (num 64 word)) (bits bytes.old) }
+    requires inside { at + count ≤ length bytes.old }
+    ensures { bytes.new ≡ with_front bytes.old at word count }
 {
-    bytes[..count].copy_from_slice(&word.to_be_bytes()[..count]);
+    bytes[at..at + count].copy_from_slice(&word.to_be_bytes()[..count]);
 }
 
 impl<'a> VarSink for WordSink<'a> {

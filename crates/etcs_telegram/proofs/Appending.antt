@@ -1,13 +1,14 @@
 -- A telegram put after other bits.
-use Rattle.std.proofs.Common.{◌≡◌, ◌++◌, Bool, List, sym, ap, ◌∙◌}
+use Rattle.std.proofs.Common.{◌≡◌, ◌*◌, ◌++◌, Bool, List, length, refl, sym, ap, ◌∙◌}
 use Rattle.etcs_bits.specs.Bits.{num}
 use Rattle.etcs_vars.specs.Reading.{spelled}
 use Rattle.etcs_packets.specs.PacketReadings.{packets_reading}
 use Rattle.etcs_packets.specs.WordSinks.{Held, and_bits}
 use Rattle.etcs_packets.specs.laws.WordSinks.{and_both}
-use Rattle.etcs_telegram.specs.Telegrams.{TelegramValue, header_reading, pad_bits}
+use Rattle.etcs_telegram.specs.Telegrams.{TelegramValue, TelegramReads, header_reading, pad_bits, container_bytes}
 use Rattle.etcs_telegram.specs.Writing.{telegram_reading}
-use Rattle.etcs_telegram.proofs.Encoding.{telegram_bits}
+use Rattle.etcs_telegram.proofs.Encoding.{telegram_bits, whole_bytes}
+use Rattle.etcs_telegram.proofs.Spellings.{whole_length}
 
 -- bits after others, and more after them
 put_behind : (s one two : Held) (a b : List Bool) → one ≡ and_bits s a → two ≡ and_bits one b → two ≡ and_bits s (a ++ b)
@@ -25,3 +26,8 @@ appended t s one two three four five e1 e2 e3 e4 e5 =
     let b4 = put_behind s three four ((head ++ packets) ++ nid) t.fill b3 e4 in
     let b5 = put_behind s four five (((head ++ packets) ++ nid) ++ t.fill) zeros b4 e5 in
     b5 ∙ ap (and_bits s) (sym (telegram_bits t))
+
+-- ---- Whole bytes.
+
+pub reading_length : (t : TelegramValue) → TelegramReads t (telegram_reading t) → length (spelled (telegram_reading t)) ≡ 8 * container_bytes t.size
+reading_length t reads = whole_length t.size (telegram_reading t) (t, (refl, reads)) ∙ whole_bytes t.size

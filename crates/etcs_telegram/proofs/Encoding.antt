@@ -12,7 +12,6 @@ use Rattle.etcs_packets.specs.PacketValues.{PacketValue}
 use Rattle.etcs_packets.specs.PacketReadings.{packets_reading}
 use Rattle.etcs_sequence.specs.Contents.{closing}
 use Rattle.etcs_sequence.specs.laws.BitLaws.{bits_spelled}
-use Rattle.etcs_packets.proofs.PartBits.{five_written}
 use Rattle.etcs_telegram.proofs.Ones.{num-zeros}
 use Rattle.etcs_telegram.specs.declared.size.Size.{Size}
 use Rattle.etcs_telegram.specs.declared.size.Size.TheVariants.{Short, Long}

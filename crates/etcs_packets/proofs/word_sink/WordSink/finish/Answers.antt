@@ -1,7 +1,13 @@
-use Rattle.etcs_packets.proofs.WordSinks.{finished}
+use Rattle.std.proofs.Common.{◌∙◌, subst, sym, arith}
+use Rattle.etcs_packets.specs.WordSinks.{IsWritten}
+use Rattle.etcs_packets.proofs.WordSinks.{none_written, last_written}
+use Rattle.etcs_packets.proofs.word_sink.WordSink.finish.Goals.{then-at-bytes, else-at-bytes}
 use Rattle.etcs_packets.proofs.word_sink.WordSink.finish.Goals as goal
 
-pub returns-clause-bits : goal.returns-clause-bits
-returns-clause-bits c =
-    let s = c.self.inside in
-    finished s.bytes.ghost_name s.bytes.now c.write_front.new.bytes s.at s.held s.count c.min.result c.args.self c.self.view_is c.self.invariant c.min.ensures c.write_front.ensures
+pub returns : goal.returns
+returns c =
+    let s = c.args.self in
+    elim c.if-at-bytes.branch [
+      then-at-bytes w ↦ last_written s c.if-at-bytes.bytes w.number.result w.min-count.result w.if-at-bytes.true w.min-count.ensures (omega arith) w.number.ensures.bits w.number.ensures.few (w.bytes-is ∙ w.write_front.ensures)
+    | else-at-bytes w ↦ subst (IsWritten s) (sym w.bytes-is) (none_written s (omega (arith, w.if-at-bytes.false)))
+    ]

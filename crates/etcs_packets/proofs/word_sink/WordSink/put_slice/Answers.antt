@@ -1,6 +1,5 @@
 use Rattle.std.proofs.Common.{◌≡◌, ◌-◌, ◌≤◌, length, take, sym, ap, ◌∙◌, arith}
 use Rattle.etcs_packets.specs.WordSinks.{and_bits}
-use Rattle.etcs_packets.specs.laws.WordSinks.{and_none}
 use Rattle.etcs_packets.proofs.WordSinks.{put_more, put_last}
 use Rattle.etcs_packets.proofs.word_sink.WordSink.put_slice.Goals as goal
 
@@ -10,7 +9,7 @@ loop-left-init c =
     let none : length seen - c.len-left.result ≡ 0 = omega (arith, c.len-left.ensures) in
     record {
       within = omega (arith, c.len-left.ensures);
-      put = sym (ap (λ k. and_bits c.args.self.now (take k seen)) none ∙ and_none c.args.self.now);
+      put = sym (ap (λ k. and_bits c.args.self.now (take k seen)) none);
     }
 
 pub loop-left-preserved : goal.loop-left-preserved

@@ -1,7 +1,6 @@
 -- The parts of a message, put one after another.
-use Rattle.std.proofs.Common.{◌≡◌, ℕ, ◌+◌, ◌-◌, ◌*◌, ◌/◌, ◌%◌, ◌^◌, ◌<◌, ◌≤◌, Bool, false, List, [], ◌∷◌, ◌++◌, length, replicate, refl, sym, ap, ◌∙◌, arith, length-append, append-nil}
-use Rattle.std.specs.Prelude.{Result, Ok, Err, OnOk, OnErr, IsOk}
-use Rattle.etcs_bits.specs.Bits.{bits, num}
+use Rattle.std.proofs.Common.{◌≡◌, ℕ, ◌+◌, ◌-◌, ◌*◌, ◌/◌, ◌%◌, ◌^◌, ◌<◌, ◌≤◌, Bool, List, [], ◌∷◌, ◌++◌, length, refl, sym, ap, ◌∙◌, arith, length-append, append-nil}
+use Rattle.etcs_bits.specs.Bits.{num}
 use Rattle.etcs_bits.proofs.ByteBits.{num_low}
 use Rattle.etcs_bits.proofs.Numbers.{num-add}
 use Rattle.etcs_vars.specs.declared.var.Var.TheVariants.{NID_MESSAGE, L_MESSAGE, PADDING, OTHER_DATA}
@@ -9,8 +8,10 @@ use Rattle.etcs_vars.specs.Reading.{Reading, spelled, kept}
 use Rattle.etcs_vars.proofs.Walk.{spelled-append}
 use Rattle.etcs_packets.specs.PacketValues.{Form}
 use Rattle.etcs_packets.specs.PacketReadings.{readings_to}
-use Rattle.etcs_packets.specs.WordSinks.{Held, and_bits}
-use Rattle.etcs_packets.proofs.WordSinks.{and_both}
+use Rattle.etcs_packets.specs.declared.word_sink.WordSink.{WordSink}
+use Rattle.etcs_packets.specs.WordSinks.{and_bits}
+use Rattle.etcs_packets.specs.laws.WordSinks.{and_both}
+use Rattle.etcs_packets.proofs.WordSinks.{word_length}
 use Rattle.etcs_messages.specs.declared.message.Content.TheVariants.{Typed, Kept}
 use Rattle.etcs_tables.specs.declared.row.Way.{Way}
 use Rattle.etcs_messages.specs.Kinds.{HeadOf, OwnOf, HeadLaws, OwnLaws}
@@ -38,7 +39,7 @@ front_number nid len few =
     ∙ ap (λ (k : ℕ). num 8 k ++ num 10 all) high
     ∙ ap (λ (t : List Bool). num 8 nid ++ t) (num_low 10 all len low ∙ sym (append-nil (num 10 len)))
 
-pub front_put : (number bytes nid len : ℕ) (s s1 : Held) → bytes < 1024 → number ≡ nid → bytes ≡ len → s1 ≡ and_bits s (num 18 (number * 1024 + bytes)) → s1 ≡ and_bits s (spelled (numbers_front nid len))
+pub front_put : (number bytes nid len : ℕ) (s s1 : WordSink) → bytes < 1024 → number ≡ nid → bytes ≡ len → s1 ≡ and_bits s (num 18 (number * 1024 + bytes)) → s1 ≡ and_bits s (spelled (numbers_front nid len))
 front_put number bytes nid len s s1 few n l e =
     e
     ∙ ap (and_bits s) (front_number number bytes (omega (arith, few)))
@@ -63,7 +64,7 @@ typed_bits way hd bd form head body ps padding =
     ∙ ap (λ (s : List Bool). (((spelled n ++ spelled (hd.reading head)) ++ spelled b) ++ spelled p) ++ s) (bits_spelled PADDING z refl)
 
 -- the same put after others, PADDING up to whole bytes
-typed_put : {H B P : Type 0} (way : Way) (hd : HeadOf H) (bd : OwnOf B) (form : P → Form) {sent_head : H → Reading} {sent_own : B → Reading} (hl : HeadLaws way H sent_head hd) (ol : OwnLaws way B sent_own bd) (head : H) (body : B) (ps : List P) (padding : ℕ) (s s1 s2 s3 s4 s5 : Held) → IsTyped way hd bd form head body ps padding → s.behind ≡ [] → s1 ≡ and_bits s (spelled (numbers_front (bd.nid body) (bytes_of way bd form (Typed head body ps padding)))) → s2 ≡ and_bits s1 (spelled (sent_head head)) → s3 ≡ and_bits s2 (spelled (sent_own body)) → s4 ≡ and_bits s3 (spelled (readings_to way (values_of form ps))) → s5 ≡ and_bits s4 (num ((8 - length s4.behind % 8) % 8) padding)
+pub typed_put : {H B P : Type 0} (way : Way) (hd : HeadOf H) (bd : OwnOf B) (form : P → Form) {sent_head : H → Reading} {sent_own : B → Reading} (hl : HeadLaws way H sent_head hd) (ol : OwnLaws way B sent_own bd) (head : H) (body : B) (ps : List P) (padding : ℕ) (s s1 s2 s3 s4 s5 : WordSink) → IsTyped way hd bd form head body ps padding → s.word ≡ [] → s1 ≡ and_bits s (spelled (numbers_front (bd.nid body) (bytes_of way bd form (Typed head body ps padding)))) → s2 ≡ and_bits s1 (spelled (sent_head head)) → s3 ≡ and_bits s2 (spelled (sent_own body)) → s4 ≡ and_bits s3 (spelled (readings_to way (values_of form ps))) → s5 ≡ and_bits s4 (num ((8 - length s4.word % 8) % 8) padding)
     → s5 ≡ and_bits s (spelled (message_reading way hd bd form (Typed head body ps padding)))
 typed_put way hd bd form hl ol head body ps padding s s1 s2 s3 s4 s5 is none e1 e2 e3 e4 e5 =
     let nid = bd.nid body in
@@ -72,55 +73,24 @@ typed_put way hd bd form hl ol head body ps padding s s1 s2 s3 s4 s5 is none e1 
     let h = spelled (hd.reading head) in
     let o = spelled (bd.reading body) in
     let p = spelled (readings_to way (values_of form ps)) in
-    let f2 : s2 ≡ and_bits s (n ++ h) = e2 ∙ ap (λ (r : Reading). and_bits s1 (spelled r)) (hl.is_sent head) ∙ ap (λ (t : Held). and_bits t h) e1 ∙ and_both s n h in
-    let f3 : s3 ≡ and_bits s ((n ++ h) ++ o) = e3 ∙ ap (λ (r : Reading). and_bits s2 (spelled r)) (ol.is_sent body) ∙ ap (λ (t : Held). and_bits t o) f2 ∙ and_both s (n ++ h) o in
-    let f4 : s4 ≡ and_bits s (((n ++ h) ++ o) ++ p) = e4 ∙ ap (λ (t : Held). and_bits t p) f3 ∙ and_both s ((n ++ h) ++ o) p in
+    let f2 : s2 ≡ and_bits s (n ++ h) = e2 ∙ ap (λ (r : Reading). and_bits s1 (spelled r)) (hl.is_sent head) ∙ ap (λ (t : WordSink). and_bits t h) e1 ∙ and_both s n h in
+    let f3 : s3 ≡ and_bits s ((n ++ h) ++ o) = e3 ∙ ap (λ (r : Reading). and_bits s2 (spelled r)) (ol.is_sent body) ∙ ap (λ (t : WordSink). and_bits t o) f2 ∙ and_both s (n ++ h) o in
+    let f4 : s4 ≡ and_bits s (((n ++ h) ++ o) ++ p) = e4 ∙ ap (λ (t : WordSink). and_bits t p) f3 ∙ and_both s ((n ++ h) ++ o) p in
     let l1 = length-append n h in
     let l2 = length-append (n ++ h) o in
     let l3 = length-append ((n ++ h) ++ o) p in
     let front = head_bits way (hd.reading head) (hl.reads head (is_head way hd bd form head body ps padding is)) in
-    let behind : length s4.behind ≡ length (((n ++ h) ++ o) ++ p) = ap (λ (t : Held). length t.behind) f4 ∙ ap (λ (b : List Bool). length (b ++ (((n ++ h) ++ o) ++ p))) none in
-    let room : (8 - length s4.behind % 8) % 8 ≡ padding_room (all_bits way bd form body ps) = omega (arith, behind, l1, l2, l3, front, front_18 nid len) in
+    let all = ((n ++ h) ++ o) ++ p in
+    let empty : length s.word ≡ 0 = ap length none in
+    let after : length s4.word % 8 ≡ (length s.word + length all) % 8 = ap (λ (t : WordSink). length t.word % 8) f4 ∙ word_length s all (omega (arith, empty)) in
+    let room : (8 - length s4.word % 8) % 8 ≡ padding_room (all_bits way bd form body ps) = omega (arith, after, empty, l1, l2, l3, front, front_18 nid len) in
     let z = num (padding_room (all_bits way bd form body ps)) padding in
-    e5 ∙ ap (λ (k : ℕ). and_bits s4 (num k padding)) room ∙ ap (λ (t : Held). and_bits t z) f4 ∙ and_both s (((n ++ h) ++ o) ++ p) z ∙ ap (and_bits s) (sym (typed_bits way hd bd form head body ps padding))
-
-pub typed_put_if : {T E : Type 0} (r : Result T E) {H B P : Type 0} (way : Way) (hd : HeadOf H) (bd : OwnOf B) (form : P → Form) {sent_head : H → Reading} {sent_own : B → Reading} (hl : HeadLaws way H sent_head hd) (ol : OwnLaws way B sent_own bd) (head : H) (body : B) (ps : List P) (padding : ℕ) (s s1 s2 s3 s4 s5 : Held) → IsTyped way hd bd form head body ps padding → s.behind ≡ [] → s1 ≡ and_bits s (spelled (numbers_front (bd.nid body) (bytes_of way bd form (Typed head body ps padding)))) → s2 ≡ and_bits s1 (spelled (sent_head head)) → s3 ≡ and_bits s2 (spelled (sent_own body)) → s4 ≡ and_bits s3 (spelled (readings_to way (values_of form ps))) → OnOk r (s5 ≡ and_bits s4 (num ((8 - length s4.behind % 8) % 8) padding))
-    → OnOk r (s5 ≡ and_bits s (spelled (message_reading way hd bd form (Typed head body ps padding))))
-typed_put_if (Ok x) way hd bd form hl ol head body ps padding s s1 s2 s3 s4 s5 is none e1 e2 e3 e4 e5 = typed_put way hd bd form hl ol head body ps padding s s1 s2 s3 s4 s5 is none e1 e2 e3 e4 e5
-typed_put_if (Err x) way hd bd form hl ol head body ps padding s s1 s2 s3 s4 s5 is none e1 e2 e3 e4 e5 = tt
+    e5 ∙ ap (λ (k : ℕ). and_bits s4 (num k padding)) room ∙ ap (λ (t : WordSink). and_bits t z) f4 ∙ and_both s (((n ++ h) ++ o) ++ p) z ∙ ap (and_bits s) (sym (typed_bits way hd bd form head body ps padding))
 
 -- ---- A kept message.
 
-kept_put : {H B P : Type 0} (way : Way) (hd : HeadOf H) (bd : OwnOf B) (form : P → Form) (nid : ℕ) (b : List Bool) (s s1 s2 : Held) → s1 ≡ and_bits s (spelled (numbers_front nid (bytes_of {H = H} way bd form (Kept nid b)))) → s2 ≡ and_bits s1 b → s2 ≡ and_bits s (spelled (message_reading way hd bd form (Kept nid b)))
+pub kept_put : {H B P : Type 0} (way : Way) (hd : HeadOf H) (bd : OwnOf B) (form : P → Form) (nid : ℕ) (b : List Bool) (s s1 s2 : WordSink) → s1 ≡ and_bits s (spelled (numbers_front nid (bytes_of {H = H} way bd form (Kept nid b)))) → s2 ≡ and_bits s1 b → s2 ≡ and_bits s (spelled (message_reading way hd bd form (Kept nid b)))
 kept_put {H} way hd bd form nid b s s1 s2 e1 e2 =
     let n = numbers_front nid (bytes_of {H = H} way bd form (Kept nid b)) in
     let all : spelled (n ++ kept OTHER_DATA b) ≡ spelled n ++ b = spelled-append n (kept OTHER_DATA b) ∙ ap (λ (t : List Bool). spelled n ++ t) (bits_spelled OTHER_DATA b refl) in
-    e2 ∙ ap (λ (t : Held). and_bits t b) e1 ∙ and_both s (spelled n) b ∙ ap (and_bits s) (sym all)
-
-pub kept_put_if : {T E : Type 0} (r : Result T E) {H B P : Type 0} (way : Way) (hd : HeadOf H) (bd : OwnOf B) (form : P → Form) (nid : ℕ) (b : List Bool) (s s1 s2 : Held) → s1 ≡ and_bits s (spelled (numbers_front nid (bytes_of {H = H} way bd form (Kept nid b)))) → OnOk r (s2 ≡ and_bits s1 b) → OnOk r (s2 ≡ and_bits s (spelled (message_reading way hd bd form (Kept nid b))))
-kept_put_if (Ok x) way hd bd form nid b s s1 s2 e1 e2 = kept_put way hd bd form nid b s s1 s2 e1 e2
-kept_put_if (Err x) way hd bd form nid b s s1 s2 e1 e2 = tt
-
--- ---- Bytes with the bits that were put after them.
-
--- whole bytes need no more bits
-pub given_if : {T E U F : Type 0} (put : Result T E) (done : Result U F) (old new : List ℕ) (s t : Held) (b : List Bool) (n : ℕ) → s.first ≡ old → s.behind ≡ [] → length b ≡ 8 * n → OnOk put (t ≡ and_bits s b) → OnOk done (IsOk put) → OnOk done (bits new ≡ bits t.first ++ (t.behind ++ replicate ((8 - length t.behind % 8) % 8) false)) → OnOk done (bits new ≡ bits old ++ b)
-given_if (Ok x) (Ok y) old new s t b n first none whole e is f =
-    let behind : t.behind ≡ b = ap (λ (h : Held). h.behind) e ∙ ap (λ (l : List Bool). l ++ b) none in
-    let long = ap length behind in
-    let no_more : (8 - length t.behind % 8) % 8 ≡ 0 = omega (arith, long, whole) in
-    f
-    ∙ ap (λ (l : List ℕ). bits l ++ (t.behind ++ replicate ((8 - length t.behind % 8) % 8) false)) (ap (λ (h : Held). h.first) e ∙ first)
-    ∙ ap (λ (k : ℕ). bits old ++ (t.behind ++ replicate k false)) no_more
-    ∙ ap (λ (l : List Bool). bits old ++ l) (append-nil t.behind ∙ behind)
-given_if (Err x) (Ok y) old new s t b n first none whole e is f = absurd cc
-given_if put (Err y) old new s t b n first none whole e is f = tt
-
-pub taken_back_if : {T E U F : Type 0} (put : Result T E) (done : Result U F) (old new : List ℕ) (s t : Held) (b : List Bool) → s.first ≡ old → OnOk put (t ≡ and_bits s b) → OnErr put (t.first ≡ s.first) → OnErr done (new ≡ t.first) → OnErr done (new ≡ old)
-taken_back_if put (Ok y) old new s t b first e f g = tt
-taken_back_if (Ok x) (Err y) old new s t b first e f g = g ∙ ap (λ (h : Held). h.first) e ∙ first
-taken_back_if (Err x) (Err y) old new s t b first e f g = g ∙ f ∙ first
-
-pub with_reading : {T E : Type 0} (done : Result T E) (Reads : Reading → Type 0) (r : Reading) (old new : List ℕ) → Reads r → OnOk done (bits new ≡ bits old ++ spelled r) → OnOk done ((q : Reading) × Reads q × (bits new ≡ bits old ++ spelled q))
-with_reading (Ok x) Reads r old new h e = (r, h, e)
-with_reading (Err x) Reads r old new h e = tt
+    e2 ∙ ap (λ (t : WordSink). and_bits t b) e1 ∙ and_both s (spelled n) b ∙ ap (and_bits s) (sym all)

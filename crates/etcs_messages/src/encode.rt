@@ -1,9 +1,9 @@
 //! Writing messages.
 
-ghost use Rattle.std.specs.Prelude.{◌≡◌, ◌*◌, ◌<◌, ◌++◌, length, OnOk, OnErr};
+ghost use Rattle.std.specs.Prelude.{◌≡◌, ◌*◌, ◌<◌, [], ◌++◌, length, OnOk, OnErr};
 ghost use Rattle.etcs_bits.specs.Bits.{bits};
 ghost use Rattle.etcs_vars.specs.Reading.{Reading, spelled};
-ghost use Rattle.etcs_packets.specs.WordSinks.{fresh, and_bits};
+ghost use Rattle.etcs_packets.specs.WordSinks.{and_bits};
 ghost use Rattle.etcs_messages.specs.Messages.{MessageReads, message_value};
 ghost use Rattle.etcs_messages.specs.Readings.{message_reading, bytes_of};
 
@@ -34,6 +34,7 @@ fn write_message<H: Head, B: Own<Front = H>>(out: &mut [u8], message: &MessageOf
     requires { length out.old ≡ bytes_of H.Packet.WAY B.own H.Packet.form message.now }
     ensures reads { MessageReads H.Packet.WAY (message_value H.Packet.WAY H.head B.own H.Packet.form message.now) (message_reading H.Packet.WAY H.head B.own H.Packet.form message.now) }
     ensures bits { bits out.new ≡ spelled (message_reading H.Packet.WAY H.head B.own H.Packet.form message.now) }
+    ensures length { length (spelled (message_reading H.Packet.WAY H.head B.own H.Packet.form message.now)) ≡ 8 * bytes_of H.Packet.WAY B.own H.Packet.form message.now }
 {
     message.readable();
     let bytes = out.len();
@@ -50,7 +51,7 @@ fn append_message<H: Head, B: Own<Front = H>>(
 )
     requires bytes { bytes ≡ bytes_of H.Packet.WAY B.own H.Packet.form message.now }
     requires small { bytes < 1024 }
-    requires all { out.old.put ≡ (fresh out.old.name (8 * bytes)).put }
+    requires none { out.old.word ≡ [] }
     ensures { out.new ≡ and_bits out.old (spelled (message_reading H.Packet.WAY H.head B.own H.Packet.form message.now)) }
 {
     out.put(18, u64::from(message.nid()) * 1024 + bytes as u64);

@@ -5,6 +5,7 @@ use Rattle.std.specs.Int.{to_be_bytes, w64}
 use Rattle.std.proofs.lemmas.Bool.{lt-leb}
 use Rattle.std.proofs.lemmas.List.{append-nil, length-append, length-take-le, length-drop, take_all, take_at, take-take, take-append-le, take-append-drop, drop_at, drop_all}
 use Rattle.std.proofs.Math.Seq.{take-add, take-append-add, drop-append-add}
+use borrow.Rule.Slice.PartMut.{put_mid}
 use Rattle.etcs_bits.specs.Bits.{num, value, bits}
 use Rattle.etcs_bits.proofs.ByteBits.{bits-append}
 use Rattle.etcs_bits.proofs.Numbers.{length-num, num-value, value-num, value_below}
@@ -225,6 +226,58 @@ last_written s bytes word count some most small is few e = λ room.
     ∙ ap (λ (k : ℕ). take k (front ++ b)) place
     ∙ take-append-add front b n
     ∙ ap (λ (l : List Bool). front ++ l) (take-take n (8 * count) (num 64 word) enough ∙ is)
+
+-- ---- How many bits a word has.
+
+pub word_length : (s : WordSink) (b : List Bool) → length s.word < 64 → length (and_bits s b).word % 8 ≡ (length s.word + length b) % 8
+word_length s [] few = omega arith
+word_length s (x ∷ b) few = one_by s x b (ltb (length s.word + 1) 64) refl few where
+  one_by : (s : WordSink) (x : Bool) (b : List Bool) (fits : Bool) → ltb (length s.word + 1) 64 ≡ fits → length s.word < 64 → length (and_bits (and_bit s x) b).word % 8 ≡ (length s.word + (1 + length b)) % 8
+  one_by s x b true t few =
+      let one = with_word s (s.word ++ x ∷ []) in
+      let size = length-append s.word (x ∷ []) in
+      let rest = word_length one b (omega (arith, size, ltb-true _ _ t)) in
+      ap (λ (u : WordSink). length (and_bits u b).word % 8) (bit_some s x (ltb-true _ _ t)) ∙ omega (arith, rest, size)
+  one_by s x b false t few =
+      let full : 64 ≤ length s.word + 1 = ltb-false _ _ t in
+      let one = with_word (pushed s (s.word ++ x ∷ [])) [] in
+      let rest = word_length one b (omega arith) in
+      ap (λ (u : WordSink). length (and_bits u b).word % 8) (bit_full s x full) ∙ omega (arith, rest, full, few)
+
+-- ---- All bytes of a slice.
+
+pub record Fills (s t : WordSink) (b : List Bool) (new : List ℕ) : Type 0 where
+  pub name : s.bytes.ghost_name ≡ t.bytes.ghost_name
+  pub bits : length new ≡ length s.bytes.now → bits new ≡ b
+
+pub fills : (bytes new : List ℕ) (b : List Bool) (s t : WordSink) → s.bytes.now ≡ bytes → s.at ≡ 0 → s.word ≡ [] → length b ≡ 8 * length bytes → t ≡ and_bits s b → IsWritten t new → Fills s t b new
+fills bytes new b s t now at none size is wrote =
+    let empty : length s.word ≡ 0 = ap length none in
+    let same : length s.bytes.now ≡ length bytes = ap length now in
+    let g : Goes s t b = subst (λ (u : WordSink). Goes s u b) (sym is) (goes s b (omega (arith, at)) (omega (arith, empty)) (omega (arith, at, empty, size, same))) in
+    let end : 8 * t.at + length t.word ≡ 8 * length bytes = omega (arith, g.place, at, empty, size) in
+    let first : bits_so_far s ≡ [] = ap (λ (k : ℕ). take (8 * k) (bits s.bytes.now) ++ s.word) at ∙ none in
+    record {
+      name = sym g.name;
+      bits = λ long.
+          sym (take_all (8 * t.at + length t.word) (bits new) (omega (arith, length-bits new, long, same, end)))
+          ∙ wrote (omega (arith, end, g.long, same))
+          ∙ g.is
+          ∙ ap (λ (l : List Bool). l ++ b) first;
+    }
+
+-- ---- Bytes after others.
+
+-- bytes that grew by some, over which bits were written
+pub appended : (old big slice new : List ℕ) (start count zeros len : ℕ) (b : List Bool) → start ≡ length old → big ≡ take (start + count) old ++ replicate zeros 0 → slice ≡ big → len ≡ start + count → length b ≡ 8 * count → bits new ≡ b → bits (take len (put_mid start (length slice - start) slice new ++ drop (length (put_mid start (length slice - start) slice new)) big)) ≡ bits old ++ b
+appended old big slice new start count zeros len b at grew same size whole wrote =
+    let all = put_mid start (length slice - start) slice new in
+    let kept : take (start + count) old ≡ old = take_all (start + count) old (omega (arith, at)) in
+    let first : take start slice ≡ old = ap (take start) (same ∙ grew ∙ ap (λ (l : List ℕ). l ++ replicate zeros 0) kept) ∙ take_at old (replicate zeros 0) start (sym at) in
+    let none : drop (length slice - start) (drop start slice) ≡ [] = drop_all (length slice - start) (drop start slice) (omega (arith, length-drop start slice)) in
+    let parts : all ≡ old ++ new = ap (λ (l : List ℕ). take start slice ++ (new ++ l)) none ∙ ap (λ (l : List ℕ). take start slice ++ l) (append-nil new) ∙ ap (λ (l : List ℕ). l ++ new) first in
+    let long : length all ≡ len = omega (arith, ap length parts, length-append old new, at, size, whole, ap length wrote, length-bits new) in
+    ap bits (take_at all (drop (length all) big) len long ∙ parts) ∙ bits-append old new ∙ ap (λ (l : List Bool). bits old ++ l) wrote
 
 -- ---- Bits one after another.
 

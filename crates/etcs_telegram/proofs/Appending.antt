@@ -3,7 +3,8 @@ use Rattle.std.proofs.Common.{◌≡◌, ◌*◌, ◌++◌, Bool, List, length, 
 use Rattle.etcs_bits.specs.Bits.{num}
 use Rattle.etcs_vars.specs.Reading.{spelled}
 use Rattle.etcs_packets.specs.PacketReadings.{packets_reading}
-use Rattle.etcs_packets.specs.WordSinks.{Held, and_bits}
+use Rattle.etcs_packets.specs.WordSinks.{and_bits}
+use Rattle.etcs_packets.specs.declared.word_sink.WordSink.{WordSink}
 use Rattle.etcs_packets.specs.laws.WordSinks.{and_both}
 use Rattle.etcs_telegram.specs.Telegrams.{TelegramValue, TelegramReads, header_reading, pad_bits, container_bytes}
 use Rattle.etcs_telegram.specs.Writing.{telegram_reading}
@@ -11,11 +12,11 @@ use Rattle.etcs_telegram.proofs.Encoding.{telegram_bits, whole_bytes}
 use Rattle.etcs_telegram.proofs.Spellings.{whole_length}
 
 -- bits after others, and more after them
-put_behind : (s one two : Held) (a b : List Bool) → one ≡ and_bits s a → two ≡ and_bits one b → two ≡ and_bits s (a ++ b)
-put_behind s one two a b e f = f ∙ ap (λ (t : Held). and_bits t b) e ∙ and_both s a b
+put_behind : (s one two : WordSink) (a b : List Bool) → one ≡ and_bits s a → two ≡ and_bits one b → two ≡ and_bits s (a ++ b)
+put_behind s one two a b e f = f ∙ ap (λ (t : WordSink). and_bits t b) e ∙ and_both s a b
 
 -- header, packets, packet 255, FILL and zeros
-pub appended : (t : TelegramValue) (s one two three four five : Held) → one ≡ and_bits s (spelled (header_reading t.header)) → two ≡ and_bits one (spelled (packets_reading t.packets)) → three ≡ and_bits two (num 8 255) → four ≡ and_bits three t.fill → five ≡ and_bits four (num (pad_bits t.size) 0) → five ≡ and_bits s (spelled (telegram_reading t))
+pub appended : (t : TelegramValue) (s one two three four five : WordSink) → one ≡ and_bits s (spelled (header_reading t.header)) → two ≡ and_bits one (spelled (packets_reading t.packets)) → three ≡ and_bits two (num 8 255) → four ≡ and_bits three t.fill → five ≡ and_bits four (num (pad_bits t.size) 0) → five ≡ and_bits s (spelled (telegram_reading t))
 appended t s one two three four five e1 e2 e3 e4 e5 =
     let head = spelled (header_reading t.header) in
     let packets = spelled (packets_reading t.packets) in

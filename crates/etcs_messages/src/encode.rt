@@ -1,6 +1,6 @@
 //! Writing messages.
 
-ghost use Rattle.std.specs.Prelude.{◌≡◌, ◌*◌, ◌<◌, [], ◌++◌, length, OnOk, OnErr};
+ghost use Rattle.std.specs.Prelude.{◌≡◌, ◌<◌, [], ◌++◌, length, OnOk, OnErr};
 ghost use Rattle.etcs_bits.specs.Bits.{bits};
 ghost use Rattle.etcs_vars.specs.Reading.{Reading, spelled};
 ghost use Rattle.etcs_packets.specs.WordSinks.{and_bits};
@@ -22,6 +22,7 @@ impl<H: Head, B: Own<Front = H>> MessageOf<H, B> {
         ensures ok { OnOk result ((r : Reading) × MessageReads H.Packet.WAY (message_value H.Packet.WAY H.head B.own H.Packet.form self.now) r × (bits out.new.items ≡ bits out.old.items ++ spelled r)) }
         ensures err { OnErr result (out.new.items ≡ out.old.items) }
     {
+        self.readable();
         let start = out.len();
         out.resize(start + self.bytes(), 0)?;
         write_message(&mut out[start..], self);
@@ -32,9 +33,7 @@ impl<H: Head, B: Own<Front = H>> MessageOf<H, B> {
 /// Writes the message over exactly its bytes.
 fn write_message<H: Head, B: Own<Front = H>>(out: &mut [u8], message: &MessageOf<H, B>)
     requires { length out.old ≡ bytes_of H.Packet.WAY B.own H.Packet.form message.now }
-    ensures reads { MessageReads H.Packet.WAY (message_value H.Packet.WAY H.head B.own H.Packet.form message.now) (message_reading H.Packet.WAY H.head B.own H.Packet.form message.now) }
-    ensures bits { bits out.new ≡ spelled (message_reading H.Packet.WAY H.head B.own H.Packet.form message.now) }
-    ensures length { length (spelled (message_reading H.Packet.WAY H.head B.own H.Packet.form message.now)) ≡ 8 * bytes_of H.Packet.WAY B.own H.Packet.form message.now }
+    ensures { bits out.new ≡ spelled (message_reading H.Packet.WAY H.head B.own H.Packet.form message.now) }
 {
     message.readable();
     let bytes = out.len();
@@ -43,7 +42,7 @@ fn write_message<H: Head, B: Own<Front = H>>(out: &mut [u8], message: &MessageOf
     sink.finish();
 }
 
-/// Puts a message of this many bytes over all of them.
+/// Puts a message of this many bytes after whole bytes.
 fn append_message<H: Head, B: Own<Front = H>>(
     message: &MessageOf<H, B>,
     bytes: usize,

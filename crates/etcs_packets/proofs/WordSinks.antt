@@ -229,20 +229,21 @@ last_written s bytes word count some most small is few e = λ room.
 
 -- ---- How many bits a word has.
 
+bit_length : (s : WordSink) (x : Bool) (fits : Bool) → ltb (length s.word + 1) 64 ≡ fits → length s.word < 64 → (length (and_bit s x).word < 64) × (length (and_bit s x).word % 8 ≡ (length s.word + 1) % 8)
+bit_length s x true t few =
+    let is : length (and_bit s x).word ≡ length s.word + 1 = ap (λ (u : WordSink). length u.word) (bit_some s x (ltb-true _ _ t)) ∙ length-append s.word (x ∷ []) in
+    (omega (arith, is, ltb-true _ _ t), ap (λ (k : ℕ). k % 8) is)
+bit_length s x false t few =
+    let full : 64 ≤ length s.word + 1 = ltb-false _ _ t in
+    let is : length (and_bit s x).word ≡ 0 = ap (λ (u : WordSink). length u.word) (bit_full s x full) in
+    (omega (arith, is), omega (arith, is, full, few))
+
 pub word_length : (s : WordSink) (b : List Bool) → length s.word < 64 → length (and_bits s b).word % 8 ≡ (length s.word + length b) % 8
-word_length s [] few = omega arith
-word_length s (x ∷ b) few = one_by s x b (ltb (length s.word + 1) 64) refl few where
-  one_by : (s : WordSink) (x : Bool) (b : List Bool) (fits : Bool) → ltb (length s.word + 1) 64 ≡ fits → length s.word < 64 → length (and_bits (and_bit s x) b).word % 8 ≡ (length s.word + (1 + length b)) % 8
-  one_by s x b true t few =
-      let one = with_word s (s.word ++ x ∷ []) in
-      let size = length-append s.word (x ∷ []) in
-      let rest = word_length one b (omega (arith, size, ltb-true _ _ t)) in
-      ap (λ (u : WordSink). length (and_bits u b).word % 8) (bit_some s x (ltb-true _ _ t)) ∙ omega (arith, rest, size)
-  one_by s x b false t few =
-      let full : 64 ≤ length s.word + 1 = ltb-false _ _ t in
-      let one = with_word (pushed s (s.word ++ x ∷ [])) [] in
-      let rest = word_length one b (omega arith) in
-      ap (λ (u : WordSink). length (and_bits u b).word % 8) (bit_full s x full) ∙ omega (arith, rest, full, few)
+word_length s [] few = ap (λ (k : ℕ). k % 8) (let same : length s.word ≡ length s.word + 0 = omega arith in same)
+word_length s (x ∷ b) few =
+    let one = bit_length s x (ltb (length s.word + 1) 64) refl few in
+    let rest = word_length (and_bit s x) b one.0 in
+    omega (arith, rest, one.1)
 
 -- ---- All bytes of a slice.
 

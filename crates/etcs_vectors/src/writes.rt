@@ -28,6 +28,7 @@ fn written(case: &mut Case) {
     let Some(left) = room_left(64 - at, packets.as_slice()) else {
         return case.bad();
     };
+    let end = 64usize.saturating_sub(left);
     let mut bytes = [!fill; 8];
     let mut sink = WordSink::new(&mut bytes);
     put_equal(&mut sink, fill, 0, at);
@@ -35,12 +36,12 @@ fn written(case: &mut Case) {
         [packet] => packet.append(&mut sink),
         packets => append_all(packets, &mut sink),
     }
-    put_equal(&mut sink, fill, 64 - left, 64);
+    put_equal(&mut sink, fill, end, 64);
     sink.finish();
     case.say_hex(&bytes);
     if packets.len() != 1 {
         case.say(" ");
-        case.say_number((64 - left) as u64);
+        case.say_number(end as u64);
     }
 }
 

@@ -3,11 +3,12 @@
 ghost use Rattle.std.specs.Prelude.{◌≡◌, IfSome};
 ghost use Rattle.etcs_stream.specs.declared.job.Job.{Job};
 ghost use Rattle.etcs_stream.specs.Tellers.{IsGroupable};
-ghost use Rattle.etcs_cli.specs.Statuses.{fault_status, tally_status};
+ghost use Rattle.etcs_cli.specs.Statuses.{fault_status, log_status, tally_status};
 
 use clap::builder::ValueParser;
 use clap::error::ErrorKind;
-use clap::{Arg, ArgMatches, Command as Line, Error};
+use clap::{Arg, ArgAction, ArgMatches, Command as Line, Error};
+use etcs_log::{LogJob, LogTally, run_log};
 use etcs_stream::{
     Command, Form, Input, Job, Kind, Output, RunFault, Sink, Tally, run, write_fault,
 };
@@ -36,6 +37,12 @@ static GROUP_KINDS: [&str; 2] = ["long", "short"];
 /// What help says of them.
 static GROUP_KINDS_HELP: &str = "Balise telegrams of 830 user bits (long) or of 210 (short)";
 
+/// What help says of `--good` and `--summary`.
+static GOOD_HELP: &str =
+    "Write the good lines' digits, and what is said of bad lines to standard error";
+static SUMMARY_HELP: &str =
+    "Count items, bad lines, packets and messages by number and refusals by variable";
+
 /// What `--from` and `--to` take.
 static FORMS: [&str; 3] = ["hex", "bin", "json"];
 
@@ -47,6 +54,8 @@ static VERSION: &str = "0.1.0 (rattle-kit-13f logic dac8208d650f15bf)";
 pub enum Parsed {
     /// A run.
     Job(Job),
+    /// A log.
+    Log(LogJob),
     /// Help or the version, with its text.
     Help(String),
     /// Nothing that can be done, with a text that says why.
@@ -64,8 +73,8 @@ pub fn parse(alloc: Global, words: &[String]) -> Parsed
         Err(AllocError) => return Parsed::Memory,
     };
     match line.try_get_matches_from(words) {
-        Ok(matches) => match job_of(&matches) {
-            Some(job) => Parsed::Job(job),
+        Ok(matches) => match asked(&matches) {
+            Some(parsed) => parsed,
             // doesn't come: the values were checked against the same lists
             None => Parsed::Wrong(String::new(alloc)),
         },
@@ -89,6 +98,7 @@ pub fn run_words(
 ) -> u8 {
     match parse(alloc, words.as_slice()) {
         Parsed::Job(job) => run_job(alloc, job, input, output, faults),
+        Parsed::Log(job) => read_log(alloc, job, input, output, faults),
         Parsed::Help(text) => {
             let _ = output.write_all(text.as_bytes());
             let _ = output.flush();
@@ -123,6 +133,27 @@ fn run_job(
     }
 }
 
+/// Reads a log from the reader to the writer, and where good lines are asked for writes what is said of bad ones to
+/// `faults`. After a fault, what was written is passed on.
+fn read_log(
+    alloc: Global,
+    job: LogJob,
+    input: impl Read + Drop,
+    output: impl Write + Drop,
+    faults: &mut impl Write,
+) -> u8 {
+    let mut source = Input::new(input);
+    let mut sink = Output::new(output);
+    let mut notes = Output::new(&mut *faults);
+    match run_log(alloc, job, &mut source, &mut sink, &mut notes) {
+        Ok(tally) => log_status(&tally),
+        Err(fault) => {
+            let _ = sink.flush();
+            answer_fault(&fault, faults)
+        }
+    }
+}
+
 /// Writes the line of a fault, as far as that can be done, and answers its status.
 fn answer_fault(fault: &RunFault, faults: &mut impl Write) -> u8
     ensures { result ≡ fault_status fault.now }
@@ -140,6 +171,13 @@ fn tally_status(tally: &Tally) -> u8
     } else {
         REFUSED
     }
+}
+
+/// The status of a log that was read to its end: whether no line is bad.
+fn log_status(tally: &LogTally) -> u8
+    ensures { result ≡ log_status tally.now }
+{
+    if tally.bad == 0 { ACCEPTED } else { REFUSED }
 }
 
 /// The status of a run that ended with the fault.
@@ -167,7 +205,8 @@ fn line<'a>(alloc: Global) -> Result<Line<'a>, AllocError> {
         .subcommand(show(alloc)?)?
         .subcommand(check(alloc)?)?
         .subcommand(convert(alloc)?)?
-        .subcommand(group(alloc)?)
+        .subcommand(group(alloc)?)?
+        .subcommand(log(alloc)?)
 }
 
 /// `show`.
@@ -205,6 +244,25 @@ fn group<'a>(alloc: Global) -> Result<Line<'a>, AllocError> {
             "Put the telegrams of a balise group together, in any order, and show its message",
         ).after_help("Example: etcs group --kind short --from json < group.json"),
     )
+}
+
+/// `log`.
+fn log<'a>(alloc: Global) -> Result<Line<'a>, AllocError> {
+    let line = Line::new(alloc, "log").arg(kind_option(alloc, &KINDS, KINDS_HELP))?;
+    Ok(
+        line.arg(flag(alloc, "good", GOOD_HELP))?
+            .arg(flag(alloc, "summary", SUMMARY_HELP))?
+            .about("Read a log, an item a line, and say of each line that is no item why")
+            .after_help("Example: etcs log --kind short --good < balises.log | etcs group --kind short"),
+    )
+}
+
+/// An option without a value.
+fn flag<'a>(alloc: Global, name: &'static str, help: &'static str) -> Arg<'a> {
+    Arg::new(alloc, name)
+        .long(name)
+        .action(ArgAction::SetTrue)
+        .help(help)
 }
 
 /// A subcommand that takes items of some kinds.
@@ -272,11 +330,30 @@ fn refused(alloc: Global, error: Error) -> Parsed
     }
 }
 
-/// The job that the matches name. Messages aren't grouped.
-fn job_of(matches: &ArgMatches) -> Option<Job>
-    ensures { IfSome result (λ job. IsGroupable job) }
+/// What the matches name.
+fn asked(matches: &ArgMatches) -> Option<Parsed>
+    ensures { IfSome result (λ parsed. (job : Job) → parsed ≡ Parsed.Job job → IsGroupable job) }
 {
     let (name, options) = matches.subcommand()?;
+    if name == "log" {
+        return Some(Parsed::Log(log_of(options)?));
+    }
+    Some(Parsed::Job(job_of(name, options)?))
+}
+
+/// The log that the options name.
+fn log_of(options: &ArgMatches) -> Option<LogJob> {
+    Some(LogJob {
+        kind: kind_of(options.get_str("kind")?)?,
+        good: options.get_flag("good"),
+        summary: options.get_flag("summary"),
+    })
+}
+
+/// The job that a subcommand names with its options. Messages aren't grouped.
+fn job_of(name: &str, options: &ArgMatches) -> Option<Job>
+    ensures { IfSome result (λ job. IsGroupable job) }
+{
     let kind = kind_of(options.get_str("kind")?)?;
     let from = form_of(options.get_str("from")?)?;
     let command = command_of(name, options)?;

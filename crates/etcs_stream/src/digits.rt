@@ -29,8 +29,8 @@ static DIGITS: [u16; 256] = [
     256, 256, 256, 256, 256, 256, 256, 256, 256, 256, 256, 256, 256, 256, 256, 256,
 ];
 
-/// The value of a hexadecimal digit, or 256.
-fn digit(character: u8) -> u16
+/// The value of a hexadecimal digit of either case, or 256.
+pub fn digit(character: u8) -> u16
     ensures { result ≡ unwrap_or (hex_digit_value character) 256 }
 {
     DIGITS[usize::from(character)]

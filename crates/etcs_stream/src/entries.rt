@@ -27,7 +27,7 @@ enum Inner {
 
 /// Reads an item of a kind from pieces of any length.
 #[derive(Drop)]
-pub(crate) struct EntryReader {
+pub struct EntryReader {
     inner: Inner,
 }
 
@@ -41,7 +41,7 @@ impl Model for EntryReader {
 
 impl EntryReader {
     /// A reader of items of this kind.
-    pub(crate) fn new(alloc: Global, kind: Kind) -> EntryReader
+    pub fn new(alloc: Global, kind: Kind) -> EntryReader
         ensures { result ≡ record { kind = kind; progress = reading [] } }
     {
         let inner = match kind {
@@ -54,7 +54,7 @@ impl EntryReader {
     }
 
     /// How many bits of an item that isn't whole were taken.
-    pub(crate) fn bits_seen(&self) -> usize
+    pub fn bits_seen(&self) -> usize
         ensures { (seen : List Bool) → self.now.progress ≡ reading seen → result ≡ length seen }
     {
         match &self.inner {
@@ -69,7 +69,7 @@ impl EntryReader {
     /// # Errors
     ///
     /// `Refused` with the first bit of the item with which none continues, and the variable that holds it; `Memory`.
-    pub(crate) fn feed(&mut self, piece: &[u8]) -> Result<Fed, ReadFault>
+    pub fn feed(&mut self, piece: &[u8]) -> Result<Fed, ReadFault>
         ensures answer { (seen : List Bool) → self.old.progress ≡ reading seen → Feeds (EntryReads self.old.kind) seen (bits piece.now) result self.new.progress }
         ensures kind { self.new.kind ≡ self.old.kind }
     {
@@ -86,7 +86,7 @@ impl EntryReader {
     ///
     /// Where no item is whole.
     #[inline(always)]
-    pub(crate) fn next(&mut self, alloc: Global, kind: Kind) -> Result<Entry, ()>
+    pub fn next(&mut self, alloc: Global, kind: Kind) -> Result<Entry, ()>
         requires { kind ≡ self.old.kind }
         ensures some { IfOk result (λ e. self.old.progress ≡ finished (entry_value e)) }
         ensures none { OnErr result ((e : EntryValue) → self.old.progress ≡ finished e → ⊥) }

@@ -15,6 +15,7 @@ mod job;
 mod json_lines;
 pub mod laws;
 mod lines;
+pub mod parts;
 mod pump;
 mod runs;
 mod teller;

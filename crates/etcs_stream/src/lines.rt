@@ -79,7 +79,7 @@ pub(crate) struct Lines<T: LineHandler> {
 }
 
 /// The characters before the first LF, and those after it.
-fn split_line(text: &[u8]) -> Option<(&[u8], &[u8])>
+pub fn split_line(text: &[u8]) -> Option<(&[u8], &[u8])>
     ensures some { IfSome result (λ p. (text.now ≡ p.0.now ++ 10 ∷ p.1.now) × IsLine p.0.now) }
     ensures none { IsNone result → IsLine text.now }
 {

@@ -20,7 +20,11 @@ use std::alloc::Global;
 const MOST_READS: u64 = 16_000_000;
 
 /// Writes all of the text, and adds to `sent` how many bytes were taken.
-fn send<W: Sink>(sink: &mut W, text: &[u8], sent: &mut u64) -> Result<(), Failed>
+///
+/// # Errors
+///
+/// Where a write fails or takes nothing. The sink has then taken the front of the text that is counted.
+pub fn send<W: Sink>(sink: &mut W, text: &[u8], sent: &mut u64) -> Result<(), Failed>
     requires failures { W.failures sink.old < 2 ^ 63 }
     requires room { sent.old + length text.now < 2 ^ 64 }
     ensures ok { OnOk result (Appends (W.contents sink.old) (W.contents sink.new) text.now × (sent.new ≡ sent.old + length text.now)) }

@@ -1,0 +1,191 @@
+-- Lines that are answered one after another.
+use Rattle.std.proofs.Common.{◌≡◌, ℕ, ◌+◌, ◌<◌, ◌≤◌, ◌^◌, Bool, true, false, List, [], ◌∷◌, ◌++◌, length, Result, Ok, Err, refl, sym, ap, subst, ◌∙◌, arith}
+use Rattle.std.specs.Prelude.{All, IfOk, OnOk, Option}
+use Rattle.std.specs.Io.KnownBytes.{Appends, Consumes}
+use Rattle.etcs_stream.specs.Pipes.{Piped}
+use Rattle.etcs_stream.proofs.Known.{Appends-then}
+use Rattle.std.proofs.lemmas.List.{append-nil, append_assoc, length-append}
+use Rattle.std.proofs.lemmas.List.Elements.{All-append, All-cons, All-nil}
+use Rattle.hex.specs.Hex.{encode_upper}
+use Rattle.etcs_text.specs.declared.entry.Kind.{Kind}
+use Rattle.etcs_stream.specs.Lines.{IsLine, lines_text}
+use Rattle.etcs_stream.proofs.Cutting.{lines_few, lines_text-append, one_line}
+use Rattle.etcs_log.specs.declared.job.LogJob.{LogJob}
+use Rattle.etcs_log.specs.declared.job.LogTally.{LogTally}
+use Rattle.etcs_log.specs.Logs.{Answer, passed, item, bad, IsAnswer, AreAnswers, Answered, Counted, GoodText, IsLog, Tells, items_in, bad_in}
+use Rattle.etcs_log.specs.Stands.{IsBegun, LogStands}
+
+pub answers-push : (kind : Kind) (lines : List (List ℕ)) (others : List Answer) (line : List ℕ) (a : Answer) → AreAnswers kind lines others → IsAnswer kind line a → AreAnswers kind (lines ++ line ∷ []) (others ++ a ∷ [])
+answers-push kind [] [] line a h k = (k, tt)
+answers-push kind [] (b ∷ bs) line a h k = absurd h
+answers-push kind (l ∷ ls) [] line a h k = absurd h
+answers-push kind (l ∷ ls) (b ∷ bs) line a h k = (h.0, answers-push kind ls bs line a h.1 k)
+
+answers_count : (kind : Kind) (lines : List (List ℕ)) (others : List Answer) → AreAnswers kind lines others → length others ≡ length lines
+answers_count kind [] [] h = refl
+answers_count kind [] (b ∷ bs) h = absurd h
+answers_count kind (l ∷ ls) [] h = absurd h
+answers_count kind (l ∷ ls) (b ∷ bs) h = omega (arith, answers_count kind ls bs h.1)
+
+items_few : (others : List Answer) → items_in others ≤ length others
+items_few [] = omega arith
+items_few (passed ∷ others) = omega (arith, items_few others)
+items_few (item e ∷ others) = omega (arith, items_few others)
+items_few (bad ∷ others) = omega (arith, items_few others)
+
+bad_few : (others : List Answer) → bad_in others ≤ length others
+bad_few [] = omega arith
+bad_few (passed ∷ others) = omega (arith, bad_few others)
+bad_few (item e ∷ others) = omega (arith, bad_few others)
+bad_few (bad ∷ others) = omega (arith, bad_few others)
+
+items_in-push : (others : List Answer) (a : Answer) → items_in (others ++ a ∷ []) ≡ items_in others + items_in (a ∷ [])
+items_in-push [] a = omega arith
+items_in-push (passed ∷ others) a = items_in-push others a
+items_in-push (item e ∷ others) a = omega (arith, items_in-push others a)
+items_in-push (bad ∷ others) a = items_in-push others a
+
+bad_in-push : (others : List Answer) (a : Answer) → bad_in (others ++ a ∷ []) ≡ bad_in others + bad_in (a ∷ [])
+bad_in-push [] a = omega arith
+bad_in-push (passed ∷ others) a = bad_in-push others a
+bad_in-push (item e ∷ others) a = bad_in-push others a
+bad_in-push (bad ∷ others) a = omega (arith, bad_in-push others a)
+
+text-push : (others : List Answer) (a : Answer) (text added : List ℕ) → GoodText others text → GoodText (a ∷ []) added → GoodText (others ++ a ∷ []) (text ++ added)
+text-push [] a text added h k = subst (λ (z : List ℕ). GoodText (a ∷ []) z) (sym (ap (λ (z : List ℕ). z ++ added) h)) k
+text-push (passed ∷ others) a text added h k = text-push others a text added h k
+text-push (item e ∷ others) a text added (bytes, rest, is, t, more) k = (bytes, rest ++ added, is, ap (λ (z : List ℕ). z ++ added) t ∙ append_assoc (encode_upper bytes ++ 10 ∷ []) rest added, text-push others a rest added more k)
+text-push (bad ∷ others) a text added h k = text-push others a text added h k
+
+tells-push : (job : LogJob) (others : List Answer) (a : Answer) (text added : List ℕ) → Tells job others text → Tells job (a ∷ []) added → Tells job (others ++ a ∷ []) (text ++ added)
+tells-push job others a text added h k = λ asked. text-push others a text added (h asked) (k asked)
+
+-- ---- What stands.
+
+pub stand_nothing : (job : LogJob) (kept : List ℕ) (tally : LogTally) → kept ≡ [] → tally.items ≡ 0 → tally.bad ≡ 0 → LogStands job kept false 0 tally [] []
+stand_nothing job kept tally k i b = record {
+  lines = [];
+  part = [];
+  given_is = refl;
+  are_lines = (All-nil IsLine, All-nil (λ c. c ≡ 10 → ⊥));
+  begun = (k, omega arith);
+  line_is = refl;
+  answers = [];
+  are_answers = tt;
+  tells = λ _. refl;
+  items_are = i;
+  bad_are = b;
+}
+
+module _ (job : LogJob) (kept : List ℕ) (is_long : Bool) (line : ℕ) (tally : LogTally) (given told : List ℕ) (h : LogStands job kept is_long line tally given told) where
+  lines_short : length h.lines ≤ length given
+  lines_short = omega (arith, lines_few h.lines, ap length h.given_is, length-append (lines_text h.lines) h.part)
+
+  pub few_lines : length given < 2 ^ 62 → line < 2 ^ 63
+  few_lines short = omega (arith, short, lines_short, h.line_is)
+
+  pub few_items : length given < 2 ^ 62 → tally.items < 2 ^ 63
+  few_items short = omega (arith, short, lines_short, h.items_are, items_few h.answers, answers_count job.kind h.lines h.answers h.are_answers)
+
+  pub few_bad : length given < 2 ^ 62 → tally.bad < 2 ^ 63
+  few_bad short = omega (arith, short, lines_short, h.bad_are, bad_few h.answers, answers_count job.kind h.lines h.answers h.are_answers)
+
+  whole : (part : List ℕ) → IsLine part → IsLine (h.part ++ part)
+  whole part l = All-append (λ c. c ≡ 10 → ⊥) h.part part h.are_lines.1 l
+
+  ended : (part : List ℕ) → given ++ (part ++ 10 ∷ []) ≡ lines_text (h.lines ++ (h.part ++ part) ∷ []) ++ []
+  ended part =
+      ap (λ (z : List ℕ). z ++ (part ++ 10 ∷ [])) h.given_is
+      ∙ append_assoc (lines_text h.lines) h.part (part ++ 10 ∷ [])
+      ∙ ap (λ (z : List ℕ). lines_text h.lines ++ z) (sym (append_assoc h.part part (10 ∷ [])) ∙ sym (one_line (h.part ++ part) []))
+      ∙ sym (append_assoc (lines_text h.lines) (lines_text ((h.part ++ part) ∷ [])) [])
+      ∙ ap (λ (z : List ℕ). z ++ []) (sym (lines_text-append h.lines ((h.part ++ part) ∷ [])))
+
+  -- a line ends, of which this is the last part
+  pub stand_line : (part : List ℕ) → IsLine part → (kept' : List ℕ) (is_long' : Bool) (line' : ℕ) (tally' : LogTally) (before text text' : List ℕ) → told ≡ before ++ text → IsBegun is_long' kept' [] → line' ≡ line + 1 → Answered job (h.part ++ part) tally tally' text text' → LogStands job kept' is_long' line' tally' (given ++ (part ++ 10 ∷ [])) (before ++ text')
+  stand_line part l kept' is_long' line' tally' before text text' t begun n (a, is, (added, tells, grown, items, bads)) = record {
+    lines = h.lines ++ (h.part ++ part) ∷ [];
+    part = [];
+    given_is = ended part;
+    are_lines = (All-append IsLine h.lines ((h.part ++ part) ∷ []) h.are_lines.0 (All-cons IsLine (h.part ++ part) [] (whole part l) (All-nil IsLine)), All-nil (λ c. c ≡ 10 → ⊥));
+    begun = begun;
+    line_is = omega (arith, n, h.line_is, length-append h.lines ((h.part ++ part) ∷ []));
+    answers = h.answers ++ a ∷ [];
+    are_answers = answers-push job.kind h.lines h.answers (h.part ++ part) a h.are_answers is;
+    tells = subst (λ (z : List ℕ). Tells job (h.answers ++ a ∷ []) z) (ap (λ (z : List ℕ). z ++ added) t ∙ append_assoc before text added ∙ ap (λ (z : List ℕ). before ++ z) (sym grown)) (tells-push job h.answers a told added h.tells tells);
+    items_are = omega (arith, items, h.items_are, items_in-push h.answers a);
+    bad_are = omega (arith, bads, h.bad_are, bad_in-push h.answers a);
+  }
+
+  -- a part more of a line is there
+  pub stand_part : (part : List ℕ) → IsLine part → (kept' : List ℕ) (is_long' : Bool) → IsBegun is_long' kept' (h.part ++ part) → LogStands job kept' is_long' line tally (given ++ part) told
+  stand_part part l kept' is_long' begun = record {
+    lines = h.lines;
+    part = h.part ++ part;
+    given_is = ap (λ (z : List ℕ). z ++ part) h.given_is ∙ append_assoc (lines_text h.lines) h.part part;
+    are_lines = (h.are_lines.0, whole part l);
+    begun = begun;
+    line_is = h.line_is;
+    answers = h.answers;
+    are_answers = h.are_answers;
+    tells = h.tells;
+    items_are = h.items_are;
+    bad_are = h.bad_are;
+  }
+
+  -- the input ends
+  pub stand_end : (tally' : LogTally) (before text text' : List ℕ) → told ≡ before ++ text → Answered job (h.part ++ []) tally tally' text text' → IsLog job given (before ++ text') tally'
+  stand_end tally' before text text' t (a, is, (added, tells, grown, items, bads)) = record {
+    lines = h.lines;
+    last = h.part;
+    given_is = h.given_is;
+    are_lines = h.are_lines;
+    answers = h.answers ++ a ∷ [];
+    are_answers = answers-push job.kind h.lines h.answers h.part a h.are_answers (subst (λ (z : List ℕ). IsAnswer job.kind z a) (append-nil h.part) is);
+    tells = subst (λ (z : List ℕ). Tells job (h.answers ++ a ∷ []) z) (ap (λ (z : List ℕ). z ++ added) t ∙ append_assoc before text added ∙ ap (λ (z : List ℕ). before ++ z) (sym grown)) (tells-push job h.answers a told added h.tells tells);
+    items_are = omega (arith, items, h.items_are, items_in-push h.answers a);
+    bad_are = omega (arith, bads, h.bad_are, bad_in-push h.answers a);
+  }
+
+  -- where good lines aren't asked for, any text may be written
+  pub stand_told : (told' : List ℕ) → (job.good ≡ true → told ≡ told') → LogStands job kept is_long line tally given told'
+  stand_told told' same = record {
+    lines = h.lines;
+    part = h.part;
+    given_is = h.given_is;
+    are_lines = h.are_lines;
+    begun = h.begun;
+    line_is = h.line_is;
+    answers = h.answers;
+    are_answers = h.are_answers;
+    tells = λ asked. subst (λ (z : List ℕ). GoodText h.answers z) (same asked) (h.tells asked);
+    items_are = h.items_are;
+    bad_are = h.bad_are;
+  }
+
+-- ---- What is kept.
+
+pub begun_kept : (b : Bool) (kept line : List ℕ) → b ≡ false → IsBegun b kept line → kept ≡ line
+begun_kept true kept line is h = cc is
+begun_kept false kept line is h = h.0
+
+pub stand_part_if : {T E : Type 0} (r : Result T E) (job : LogJob) (kept : List ℕ) (is_long : Bool) (line : ℕ) (tally : LogTally) (given told : List ℕ) (h : LogStands job kept is_long line tally given told) (part : List ℕ) → IsLine part → (kept' : List ℕ) (is_long' : Bool) → OnOk r (IsBegun is_long' kept' (h.part ++ part)) → OnOk r (LogStands job kept' is_long' line tally (given ++ part) told)
+stand_part_if (Ok x) job kept is_long line tally given told h part l kept' is_long' begun = stand_part job kept is_long line tally given told h part l kept' is_long' begun
+stand_part_if (Err e) job kept is_long line tally given told h part l kept' is_long' begun = tt
+
+pub log_told : (job : LogJob) (given told told' : List ℕ) (tally : LogTally) → IsLog job given told tally → (job.good ≡ true → told ≡ told') → IsLog job given told' tally
+log_told job given told told' tally h same = record {
+  lines = h.lines;
+  last = h.last;
+  given_is = h.given_is;
+  are_lines = h.are_lines;
+  answers = h.answers;
+  are_answers = h.are_answers;
+  tells = λ asked. subst (λ (z : List ℕ). GoodText h.answers z) (same asked) (h.tells asked);
+  items_are = h.items_are;
+  bad_are = h.bad_are;
+}
+
+pub closed_if : {E : Type 0} (r : Result LogTally E) (job : LogJob) (left left' held mid held' : Option (List ℕ)) (given told : List ℕ) → Consumes left left' given → Appends held mid told → IfOk r (λ tally. (added : List ℕ) × Appends mid held' added × IsLog job given (told ++ added) tally) → IfOk r (λ tally. Piped (λ g t. IsLog job g t tally) left left' held held')
+closed_if (Ok tally) job left left' held mid held' given told gave a (added, more, log) = (given, told ++ added, gave, Appends-then held mid held' told added a more, log)
+closed_if (Err e) job left left' held mid held' given told gave a h = tt

@@ -1,0 +1,3 @@
+pub mod Items
+pub mod Answering
+pub mod Counting

@@ -1,0 +1,3 @@
+pub mod Verdicts
+pub mod Logs
+pub mod Stands

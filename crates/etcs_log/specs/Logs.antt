@@ -1,0 +1,92 @@
+-- What is said of the lines of a log.
+use Rattle.std.specs.Prelude.{◌≡◌, ℕ, ◌+◌, ◌<◌, ◌≤◌, Bool, true, false, List, [], ◌∷◌, ◌++◌, length, ◌⊎◌, Ok, All}
+use Rattle.hex.specs.Hex.{decode_of, encode_upper}
+use Rattle.etcs_digits.specs.Digits.{is_passed_over, line_digits}
+use Rattle.etcs_text.specs.declared.entry.Kind.{Kind}
+use Rattle.etcs_text.specs.Entries.{EntryValue}
+use Rattle.etcs_text.specs.Encodings.{IsEncoded}
+use Rattle.etcs_stream.specs.Lines.{IsLine, lines_text}
+use Rattle.etcs_log.specs.declared.job.LogJob.{LogJob}
+use Rattle.etcs_log.specs.declared.job.LogTally.{LogTally}
+use Rattle.etcs_log.specs.Verdicts.{IsItem}
+
+-- it is passed over; it is this item; it is bad
+pub data Answer : Type 0 where
+  passed : Answer
+  item : EntryValue → Answer
+  bad : Answer
+
+-- a line of at most 8,192 characters whose digits say these bytes
+pub record SaysBytes (line bytes : List ℕ) : Type 0 where
+  pub short : length line ≤ 8192
+  pub read : is_passed_over line ≡ false
+  pub digits : decode_of (line_digits line) ≡ Ok bytes
+
+-- its bytes are the spelling of this item, and nothing else
+abbrev pub IsItemLine : Kind → List ℕ → EntryValue → Type 0
+IsItemLine kind line e = (bytes : List ℕ) × SaysBytes line bytes × IsItem kind bytes e
+
+abbrev pub IsAnswer : Kind → List ℕ → Answer → Type 0
+IsAnswer kind line passed = (length line ≤ 8192) × (is_passed_over line ≡ true)
+IsAnswer kind line (item e) = IsItemLine kind line e
+IsAnswer kind line bad = ((8192 < length line) ⊎ (is_passed_over line ≡ false)) × ((e : EntryValue) → IsItemLine kind line e → ⊥)
+
+-- one for each line, in order
+abbrev pub AreAnswers : Kind → List (List ℕ) → List Answer → Type 0
+AreAnswers kind [] [] = Unit {0}
+AreAnswers kind [] (a ∷ others) = ⊥
+AreAnswers kind (line ∷ lines) [] = ⊥
+AreAnswers kind (line ∷ lines) (a ∷ others) = IsAnswer kind line a × AreAnswers kind lines others
+
+-- the digits of the items, in upper case, a line each
+abbrev pub GoodText : List Answer → List ℕ → Type 0
+GoodText [] text = text ≡ []
+GoodText (passed ∷ others) text = GoodText others text
+GoodText (item e ∷ others) text = (bytes : List ℕ) × (rest : List ℕ) × IsEncoded e bytes × (text ≡ (encode_upper bytes ++ 10 ∷ []) ++ rest) × GoodText others rest
+GoodText (bad ∷ others) text = GoodText others text
+
+abbrev pub items_in : List Answer → ℕ
+items_in [] = 0
+items_in (passed ∷ others) = items_in others
+items_in (item e ∷ others) = 1 + items_in others
+items_in (bad ∷ others) = items_in others
+
+abbrev pub bad_in : List Answer → ℕ
+bad_in [] = 0
+bad_in (passed ∷ others) = bad_in others
+bad_in (item e ∷ others) = bad_in others
+bad_in (bad ∷ others) = 1 + bad_in others
+
+-- where good lines are asked for, this text is theirs
+abbrev pub Tells : LogJob → List Answer → List ℕ → Type 0
+Tells job others text = job.good ≡ true → GoodText others text
+
+-- this is said of a line; the text written of it; and how it is counted
+abbrev pub Counted : LogJob → Answer → LogTally → LogTally → List ℕ → List ℕ → Type 0
+Counted job a before after text text' = (added : List ℕ) × Tells job (a ∷ []) added × (text' ≡ text ++ added) × (after.items ≡ before.items + items_in (a ∷ [])) × (after.bad ≡ before.bad + bad_in (a ∷ []))
+
+-- a line was answered
+abbrev pub Answered : LogJob → List ℕ → LogTally → LogTally → List ℕ → List ℕ → Type 0
+Answered job line before after text text' = (a : Answer) × IsAnswer job.kind line a × Counted job a before after text text'
+
+-- what these bytes are
+abbrev pub IsBytesAnswer : Kind → List ℕ → Answer → Type 0
+IsBytesAnswer kind bytes passed = ⊥
+IsBytesAnswer kind bytes (item e) = IsItem kind bytes e
+IsBytesAnswer kind bytes bad = (e : EntryValue) → IsItem kind bytes e → ⊥
+
+-- the bytes of a line were answered
+abbrev pub BytesAnswered : LogJob → List ℕ → LogTally → LogTally → List ℕ → List ℕ → Type 0
+BytesAnswered job bytes before after text text' = (a : Answer) × IsBytesAnswer job.kind bytes a × Counted job a before after text text'
+
+-- a whole log: each of its lines, of which the last may be empty and has no LF, is answered once and in order
+pub record IsLog (job : LogJob) (given told : List ℕ) (tally : LogTally) : Type 0 where
+  pub lines : List (List ℕ)
+  pub last : List ℕ
+  pub given_is : given ≡ lines_text lines ++ last
+  pub are_lines : All IsLine lines × IsLine last
+  pub answers : List Answer
+  pub are_answers : AreAnswers job.kind (lines ++ last ∷ []) answers
+  pub tells : Tells job answers told
+  pub items_are : tally.items ≡ items_in answers
+  pub bad_are : tally.bad ≡ bad_in answers

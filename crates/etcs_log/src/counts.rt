@@ -1,0 +1,104 @@
+//! What a log has.
+
+use etcs_packets::parts::AnyPacket;
+use etcs_stream::Entry;
+use etcs_text::parts::write_decimal;
+use etcs_vars::Var;
+use std::alloc::{AllocError, Global};
+
+/// What items have, and where bad lines are refused. No count passes 2^64 - 1.
+#[derive(Drop)]
+pub(crate) struct Counts {
+    packets: [u64; 256],
+    messages: [u64; 256],
+    refusals: Vec<(Var, u64)>,
+}
+
+/// One more.
+fn count(number: &mut u64) {
+    *number = number.saturating_add(1);
+}
+
+/// Counts packets by their numbers.
+fn count_packets<P: AnyPacket>(packets: &[P], counts: &mut [u64; 256]) {
+    for packet in packets {
+        count(&mut counts[usize::from(packet.number_of())]);
+    }
+}
+
+/// Appends a line of each number that was counted.
+fn write_counts(name: &[u8], counts: &[u64; 256], out: &mut Vec<u8>) -> Result<(), AllocError> {
+    for number in 0..256 {
+        if counts[number] > 0 {
+            out.extend_from_slice(name)?;
+            write_decimal(number as u64, out)?;
+            write_count(b"", counts[number], out)?;
+        }
+    }
+    Ok(())
+}
+
+/// Appends a name, a count and a LF.
+pub(crate) fn write_count(name: &[u8], count: u64, out: &mut Vec<u8>) -> Result<(), AllocError> {
+    out.extend_from_slice(name)?;
+    out.extend_from_slice(b" ")?;
+    write_decimal(count, out)?;
+    out.extend_from_slice(b"\n")
+}
+
+impl Counts {
+    /// Nothing was counted.
+    pub(crate) fn new(alloc: Global) -> Counts {
+        Counts {
+            packets: [0; 256],
+            messages: [0; 256],
+            refusals: Vec::new(alloc),
+        }
+    }
+
+    /// Counts what is in an item.
+    pub(crate) fn add_item(&mut self, entry: &Entry) {
+        match entry {
+            Entry::Telegram(telegram) => count_packets(telegram.packets(), &mut self.packets),
+            Entry::Message(message) => {
+                count(&mut self.messages[usize::from(message.nid())]);
+                count_packets(message.packets(), &mut self.packets);
+            }
+            Entry::Train(message) => {
+                count(&mut self.messages[usize::from(message.nid())]);
+                count_packets(message.packets(), &mut self.packets);
+            }
+        }
+    }
+
+    /// Counts a refusal at this variable.
+    ///
+    /// # Errors
+    ///
+    /// Where memory is refused.
+    pub(crate) fn add_refused(&mut self, var: Var) -> Result<(), AllocError> {
+        for entry in &mut self.refusals {
+            if entry.0 == var {
+                count(&mut entry.1);
+                return Ok(());
+            }
+        }
+        self.refusals.push((var, 1))?;
+        Ok(())
+    }
+
+    /// Appends a line for each count: packets by number, messages by number, refusals by variable.
+    ///
+    /// # Errors
+    ///
+    /// Where memory is refused. A part of the text may then be in `out`.
+    pub(crate) fn write(&self, out: &mut Vec<u8>) -> Result<(), AllocError> {
+        write_counts(b"packet ", &self.packets, out)?;
+        write_counts(b"message ", &self.messages, out)?;
+        for (var, count) in &self.refusals {
+            out.extend_from_slice(b"refused ")?;
+            write_count(var.name().as_bytes(), *count, out)?;
+        }
+        Ok(())
+    }
+}

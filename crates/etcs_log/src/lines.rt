@@ -1,0 +1,216 @@
+//! What is said of one line after another.
+
+ghost use Rattle.std.specs.Prelude.{◌≡◌, ◌+◌, ◌*◌, ◌<◌, ◌≤◌, ◌^◌, OnOk, length};
+ghost use Rattle.etcs_text.specs.Entries.{entry_value};
+ghost use Rattle.etcs_log.specs.Logs.{Answered, BytesAnswered, Counted, item};
+ghost use Rattle.etcs_log.specs.Stands.{IsFresh};
+
+use crate::counts::{Counts, write_count};
+use crate::job::{LogJob, LogTally};
+use crate::notes::{Bad, MOST_CHARACTERS, wanted_bytes, write_note};
+use crate::verdict::{ItemReader, Verdict};
+use etcs_digits::{NoBytes, line_bytes};
+use etcs_stream::Entry;
+use etcs_text::hex_line;
+use etcs_vars::Var;
+use std::alloc::{AllocError, Global};
+
+/// How many characters a line has that needs no large buffer.
+const FEW_CHARACTERS: usize = 1024;
+
+/// The digits of the good lines, and what is said of the bad ones.
+#[derive(Drop)]
+pub(crate) struct Texts {
+    pub(crate) good: Vec<u8>,
+    pub(crate) notes: Vec<u8>,
+}
+
+/// Says what lines are, and counts them.
+#[derive(Drop)]
+pub(crate) struct Lines {
+    pub(crate) job: LogJob,
+    pub(crate) tally: LogTally,
+    pub(crate) reader: ItemReader,
+    counts: Counts,
+}
+
+impl Lines {
+    /// No line has come.
+    pub(crate) fn new(alloc: Global, job: LogJob) -> Lines
+        ensures job { result.job ≡ job }
+        ensures tally { (result.tally.items ≡ 0) × (result.tally.bad ≡ 0) }
+        ensures fresh { (result.reader.kind ≡ job.kind) × IsFresh job.kind result.reader.reader }
+    {
+        Lines {
+            job,
+            tally: LogTally { items: 0, bad: 0 },
+            reader: ItemReader::new(alloc, job.kind),
+            counts: Counts::new(alloc),
+        }
+    }
+
+    /// Says what the line of this number is.
+    ///
+    /// # Errors
+    ///
+    /// Where memory is refused.
+    pub(crate) fn take(
+        &mut self,
+        number: u64,
+        line: &[u8],
+        texts: &mut Texts,
+    ) -> Result<(), AllocError>
+        requires short { length line.now ≤ 8192 }
+        requires fresh { (self.old.reader.kind ≡ self.old.job.kind) × IsFresh self.old.job.kind self.old.reader.reader }
+        requires items { self.old.tally.items < 2 ^ 63 }
+        requires bad { self.old.tally.bad < 2 ^ 63 }
+        ensures job { self.new.job ≡ self.old.job }
+        ensures fresh { OnOk result ((self.new.reader.kind ≡ self.old.job.kind) × IsFresh self.old.job.kind self.new.reader.reader) }
+        ensures ok { OnOk result (Answered self.old.job line.now self.old.tally self.new.tally texts.old.good.items texts.new.good.items) }
+    {
+        if line.len() <= FEW_CHARACTERS {
+            self.take_by(number, line, &mut [0u8; FEW_CHARACTERS / 2], texts)
+        } else {
+            self.take_by(number, line, &mut [0u8; MOST_CHARACTERS / 2], texts)
+        }
+    }
+
+    /// The same, by a buffer that has room for what the line says.
+    ///
+    /// # Errors
+    ///
+    /// Where memory is refused.
+    fn take_by(
+        &mut self,
+        number: u64,
+        line: &[u8],
+        buffer: &mut [u8],
+        texts: &mut Texts,
+    ) -> Result<(), AllocError>
+        requires short { length line.now ≤ 8192 }
+        requires room { length line.now ≤ 2 * length buffer.old }
+        requires fresh { (self.old.reader.kind ≡ self.old.job.kind) × IsFresh self.old.job.kind self.old.reader.reader }
+        requires items { self.old.tally.items < 2 ^ 63 }
+        requires bad { self.old.tally.bad < 2 ^ 63 }
+        ensures job { self.new.job ≡ self.old.job }
+        ensures fresh { OnOk result ((self.new.reader.kind ≡ self.old.job.kind) × IsFresh self.old.job.kind self.new.reader.reader) }
+        ensures ok { OnOk result (Answered self.old.job line.now self.old.tally self.new.tally texts.old.good.items texts.new.good.items) }
+    {
+        match line_bytes(line, buffer) {
+            Ok(count) => self.take_bytes(number, &buffer[buffer.len() - count..], texts),
+            Err(NoBytes::Empty) => Ok(()),
+            Err(NoBytes::NoDigits) => self.refuse(number, Bad::NoDigits, texts),
+            Err(NoBytes::OddDigits(count)) => self.refuse(number, Bad::OddDigits(count), texts),
+        }
+    }
+
+    /// Says what the line is that says these bytes.
+    ///
+    /// # Errors
+    ///
+    /// Where memory is refused.
+    fn take_bytes(
+        &mut self,
+        number: u64,
+        bytes: &[u8],
+        texts: &mut Texts,
+    ) -> Result<(), AllocError>
+        requires fresh { (self.old.reader.kind ≡ self.old.job.kind) × IsFresh self.old.job.kind self.old.reader.reader }
+        requires items { self.old.tally.items < 2 ^ 63 }
+        requires bad { self.old.tally.bad < 2 ^ 63 }
+        ensures job { self.new.job ≡ self.old.job }
+        ensures fresh { OnOk result ((self.new.reader.kind ≡ self.old.job.kind) × IsFresh self.old.job.kind self.new.reader.reader) }
+        ensures ok { OnOk result (BytesAnswered self.old.job bytes.now self.old.tally self.new.tally texts.old.good.items texts.new.good.items) }
+    {
+        match self.reader.read(bytes)? {
+            Verdict::Item(entry) => self.take_item(&entry, texts),
+            Verdict::Refused { bit, var } => {
+                self.refuse_bytes(number, Some((bit, var)), bytes, texts)
+            }
+            Verdict::OtherCount => self.refuse_bytes(number, None, bytes, texts),
+        }
+    }
+
+    /// Counts an item, and writes its digits where they are asked for.
+    ///
+    /// # Errors
+    ///
+    /// Where memory is refused.
+    fn take_item(&mut self, entry: &Entry, texts: &mut Texts) -> Result<(), AllocError>
+        requires items { self.old.tally.items < 2 ^ 63 }
+        ensures job { self.new.job ≡ self.old.job }
+        ensures reader { self.new.reader ≡ self.old.reader }
+        ensures ok { OnOk result (Counted self.old.job (item (entry_value entry.now)) self.old.tally self.new.tally texts.old.good.items texts.new.good.items) }
+    {
+        self.tally.items += 1;
+        self.counts.add_item(entry);
+        if self.job.good {
+            hex_line(entry, &mut texts.good)
+        } else {
+            Ok(())
+        }
+    }
+
+    /// Says why these bytes are no item: they are refused at a bit, or are more or fewer than an item has.
+    ///
+    /// # Errors
+    ///
+    /// Where memory is refused.
+    fn refuse_bytes(
+        &mut self,
+        number: u64,
+        refusal: Option<(usize, Var)>,
+        bytes: &[u8],
+        texts: &mut Texts,
+    ) -> Result<(), AllocError>
+        requires bad { self.old.tally.bad < 2 ^ 63 }
+        ensures job { self.new.job ≡ self.old.job }
+        ensures reader { self.new.reader ≡ self.old.reader }
+        ensures items { self.new.tally.items ≡ self.old.tally.items }
+        ensures bad { self.new.tally.bad ≡ self.old.tally.bad + 1 }
+        ensures good { texts.new.good.items ≡ texts.old.good.items }
+    {
+        self.tally.bad += 1;
+        let kind = self.job.kind;
+        let bad = match refusal {
+            Some((bit, var)) if wanted_bytes(kind, bytes) == Some(bytes.len()) => {
+                self.counts.add_refused(var)?;
+                Bad::Refused { bit, var }
+            }
+            _ => Bad::Count,
+        };
+        write_note(number, bad, kind, bytes, &mut texts.notes)
+    }
+
+    /// Says that a line says no bytes.
+    pub(crate) fn refuse(
+        &mut self,
+        number: u64,
+        bad: Bad,
+        texts: &mut Texts,
+    ) -> Result<(), AllocError>
+        requires bad { self.old.tally.bad < 2 ^ 63 }
+        ensures job { self.new.job ≡ self.old.job }
+        ensures reader { self.new.reader ≡ self.old.reader }
+        ensures items { self.new.tally.items ≡ self.old.tally.items }
+        ensures bad { self.new.tally.bad ≡ self.old.tally.bad + 1 }
+        ensures good { texts.new.good.items ≡ texts.old.good.items }
+    {
+        self.tally.bad += 1;
+        write_note(number, bad, self.job.kind, &[], &mut texts.notes)
+    }
+
+    /// Appends the counts, a line each, where they are asked for.
+    ///
+    /// # Errors
+    ///
+    /// Where memory is refused. Some of them may then be there.
+    pub(crate) fn write_counts(&self, out: &mut Vec<u8>) -> Result<(), AllocError> {
+        if !self.job.summary {
+            return Ok(());
+        }
+        write_count(b"items", self.tally.items, out)?;
+        write_count(b"bad", self.tally.bad, out)?;
+        self.counts.write(out)
+    }
+}

@@ -8,6 +8,7 @@ ghost use Rattle.etcs_cli.specs.Statuses.{fault_status, log_status, tally_status
 use clap::builder::ValueParser;
 use clap::error::ErrorKind;
 use clap::{Arg, ArgAction, ArgMatches, Command as Line, Error};
+use etcs_explain::{Layout, Task, explain};
 use etcs_log::{LogJob, LogTally, run_log};
 use etcs_stream::{
     Command, Form, Input, Job, Kind, Output, RunFault, Sink, Tally, run, write_fault,
@@ -46,6 +47,9 @@ static SUMMARY_HELP: &str =
 /// What `--from` and `--to` take.
 static FORMS: [&str; 3] = ["hex", "bin", "json"];
 
+/// What `--to` of `explain` takes.
+static LAYOUTS: [&str; 2] = ["text", "html"];
+
 /// What `--version` says after the name: the version, and the line of the kit that proves it.
 static VERSION: &str = "0.1.0 (rattle-kit-13f logic dac8208d650f15bf)";
 
@@ -56,6 +60,8 @@ pub enum Parsed {
     Job(Job),
     /// A log.
     Log(LogJob),
+    /// A run that explains items.
+    Explain(Task),
     /// Help or the version, with its text.
     Help(String),
     /// Nothing that can be done, with a text that says why.
@@ -99,6 +105,10 @@ pub fn run_words(
     match parse(alloc, words.as_slice()) {
         Parsed::Job(job) => run_job(alloc, job, input, output, faults),
         Parsed::Log(job) => read_log(alloc, job, input, output, faults),
+        Parsed::Explain(task) => match explain(alloc, task, input, output) {
+            Ok(()) => ACCEPTED,
+            Err(fault) => answer_fault(&fault, faults),
+        },
         Parsed::Help(text) => {
             let _ = output.write_all(text.as_bytes());
             let _ = output.flush();
@@ -199,14 +209,15 @@ fn line<'a>(alloc: Global) -> Result<Line<'a>, AllocError> {
         .bin_name("etcs")?
         .version(VERSION)
         .about(
-            "Show, check, convert and group ETCS balise telegrams (user bits) and radio messages from standard input",
+            "Show, check, convert, group and explain ETCS balise telegrams (user bits) and radio messages from standard input, and read logs of them",
         )
         .subcommand_required(true)
         .subcommand(show(alloc)?)?
         .subcommand(check(alloc)?)?
         .subcommand(convert(alloc)?)?
         .subcommand(group(alloc)?)?
-        .subcommand(log(alloc)?)
+        .subcommand(log(alloc)?)?
+        .subcommand(explained(alloc)?)
 }
 
 /// `show`.
@@ -265,6 +276,16 @@ fn flag<'a>(alloc: Global, name: &'static str, help: &'static str) -> Arg<'a> {
         .help(help)
 }
 
+/// `explain`.
+fn explained<'a>(alloc: Global) -> Result<Line<'a>, AllocError> {
+    let line = subcommand(alloc, "explain", &KINDS, KINDS_HELP)?.arg(layout_option(alloc))?;
+    Ok(
+        line.about(
+            "Explain each telegram or message: the bits, the number and the meaning of each variable, and why it is refused",
+        ).after_help("Example: etcs explain --kind short < telegrams.hex"),
+    )
+}
+
 /// A subcommand that takes items of some kinds.
 fn subcommand<'a>(
     alloc: Global,
@@ -311,6 +332,16 @@ fn to_option<'a>(alloc: Global) -> Arg<'a> {
         )
 }
 
+/// `--to` of `explain`, whose default is text.
+fn layout_option<'a>(alloc: Global) -> Arg<'a> {
+    Arg::new(alloc, "to")
+        .long("to")
+        .value_name("FORM")
+        .value_parser(ValueParser::from(LAYOUTS.as_slice()))
+        .default_value("text")
+        .help("Form of the output: lines of text (text) or a page for a browser (html)")
+}
+
 /// What clap answered in place of matches.
 fn refused(alloc: Global, error: Error) -> Parsed
     ensures { (job : Job) → result ≡ Parsed.Job job → ⊥ }
@@ -335,10 +366,11 @@ fn asked(matches: &ArgMatches) -> Option<Parsed>
     ensures { IfSome result (λ parsed. (job : Job) → parsed ≡ Parsed.Job job → IsGroupable job) }
 {
     let (name, options) = matches.subcommand()?;
-    if name == "log" {
-        return Some(Parsed::Log(log_of(options)?));
+    match name {
+        "log" => Some(Parsed::Log(log_of(options)?)),
+        "explain" => Some(Parsed::Explain(task_of(options)?)),
+        _ => Some(Parsed::Job(job_of(name, options)?)),
     }
-    Some(Parsed::Job(job_of(name, options)?))
 }
 
 /// The log that the options name.
@@ -363,6 +395,19 @@ fn job_of(name: &str, options: &ArgMatches) -> Option<Job>
         command,
     };
     if job.is_groupable() { Some(job) } else { None }
+}
+
+/// The run that explains items, as the options name it.
+fn task_of(options: &ArgMatches) -> Option<Task> {
+    let layout = match options.get_str("to")? {
+        "html" => Layout::Html,
+        _ => Layout::Text,
+    };
+    Some(Task {
+        kind: kind_of(options.get_str("kind")?)?,
+        from: form_of(options.get_str("from")?)?,
+        layout,
+    })
 }
 
 /// The subcommand of that name, with its options.

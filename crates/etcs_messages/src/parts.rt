@@ -1,4 +1,5 @@
-//! For the crates above: the variables in front of a message's packets, in the order of sending.
+//! For the crates above: the variables in front of a message's packets, in the order of sending, and what is left of a
+//! message.
 
 ghost use Rattle.std.specs.Prelude.{◌≡◌, OnOk, OnErr};
 ghost use Rattle.etcs_messages.specs.Messages.{MessageReads, message_value};
@@ -6,6 +7,7 @@ ghost use Rattle.etcs_messages.specs.Readings.{front_reading, message_reading, o
 
 use crate::kind::{Head, Own};
 use crate::message::{Content, MessageOf};
+pub use crate::rest::MessageRest;
 use etcs_vars::Var;
 use etcs_vars::parts::VarSink;
 use std::alloc::AllocError;

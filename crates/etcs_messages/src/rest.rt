@@ -26,7 +26,7 @@ use std::marker::PhantomData;
 
 /// What is left of a message, and what is kept of the variables that were read.
 #[derive(Drop)]
-pub(crate) struct MessageRest<H: Head, B: Own<Front = H>> {
+pub struct MessageRest<H: Head, B: Own<Front = H>> {
     /// Which messages they are.
     kind: PhantomData<(H, B)>,
     /// NID_MESSAGE, once it was read.

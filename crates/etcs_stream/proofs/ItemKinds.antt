@@ -41,10 +41,10 @@ from_way way r (of_telegram t, h) = absurd (telegram_message t.size way h.0)
 from_way way r (of_message w m, h) = (m, subst (λ (z : Way). MessageReads z m r) (way_same w way h.0) h.1)
 
 -- the readings of items of a kind are those of the telegrams of its size, or those of the messages of its way
-same_telegrams : (s : Size) → Same (TelegramLanguage s) (Language (kind_of s))
+pub same_telegrams : (s : Size) → Same (TelegramLanguage s) (Language (kind_of s))
 same_telegrams s r = (λ (t, h). (of_telegram t, (ap kind_of h.0, h.1)), from_sized s r)
 
-same_messages : (way : Way) → Same (MessageLanguage way) (Language (message_kind way))
+pub same_messages : (way : Way) → Same (MessageLanguage way) (Language (message_kind way))
 same_messages way r = (λ (m, h). (of_message way m, (refl, h)), from_way way r)
 
 pub sized_telegrams : (s : Size) → IsOfTelegrams (kind_of s)

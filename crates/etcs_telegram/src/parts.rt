@@ -1,10 +1,12 @@
-//! For the crates above: the header's variables with their numbers.
+//! For the crates above: the header's variables with their numbers, and what is left of a telegram.
 
 ghost use Rattle.std.specs.Prelude.{◌≡◌, map};
 ghost use Rattle.etcs_telegram.specs.Telegrams.{header_reading, header_row, telegram_value, IsAdmitted, TelegramReads};
 ghost use Rattle.etcs_telegram.specs.Writing.{telegram_reading};
 
 use crate::header::Header;
+pub use crate::rest::TelegramRest;
+pub use crate::store::TelegramStore;
 use crate::telegram::Telegram;
 use etcs_vars::Var;
 

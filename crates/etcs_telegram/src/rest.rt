@@ -28,7 +28,7 @@ use std::alloc::AllocError;
 
 /// What is left of a telegram, and what is kept of the variables that were read.
 #[derive(Drop)]
-pub(crate) struct TelegramRest<S: PacketStore> {
+pub struct TelegramRest<S: PacketStore> {
     pub(crate) size: Size,
     pub(crate) phase: Phase,
     /// The header's numbers so far.

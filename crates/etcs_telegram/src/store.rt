@@ -9,7 +9,7 @@ use std::alloc::AllocError;
 
 /// The packets of a telegram that were read, the numbers or bits of the one that is being read, and the bits of FILL.
 #[derive(Drop)]
-pub(crate) struct TelegramStore {
+pub struct TelegramStore {
     pub(crate) list: PacketList<Packet>,
 }
 

@@ -1,0 +1,98 @@
+//! What the variables of an item before a refused one say about it.
+
+use etcs_rows::Place;
+use etcs_tables::{Way, row_of};
+use etcs_telegram::Size;
+use etcs_text::Kind;
+use etcs_vars::Var;
+
+/// What is known after some variables of an item.
+#[derive(Drop)]
+pub(crate) struct Front {
+    pub(crate) kind: Kind,
+    /// How many bits the variables have.
+    pub(crate) bit: usize,
+    /// How many bits the packets of the item end within: those that it has, without PAD.
+    pub(crate) end: usize,
+    /// NID_MESSAGE.
+    pub(crate) message: u8,
+    /// NID_PACKET of the last packet, its first bit and its L_PACKET.
+    pub(crate) packet: u8,
+    pub(crate) start: usize,
+    pub(crate) length: usize,
+    /// What is left of the last packet's row, where it is typed.
+    pub(crate) place: Option<Place>,
+}
+
+/// The way of the items of a kind.
+pub(crate) fn way_of(kind: Kind) -> Way {
+    match kind {
+        Kind::Long | Kind::Short | Kind::Radio => Way::ToTrain,
+        Kind::Train => Way::ToTrack,
+    }
+}
+
+/// How many bits items of a kind have before PAD: 0 where L_MESSAGE says it.
+pub(crate) fn user_bits(kind: Kind) -> usize {
+    match kind {
+        Kind::Long => Size::Long.user_bits(),
+        Kind::Short => Size::Short.user_bits(),
+        Kind::Radio | Kind::Train => 0,
+    }
+}
+
+/// A number of at most 8 bits.
+fn low_byte(number: u64) -> u8 {
+    (number & 255) as u8
+}
+
+impl Front {
+    /// What is known after these variables.
+    pub(crate) fn new(kind: Kind, fields: &[(Var, u64)]) -> Front {
+        let mut front = Front {
+            kind,
+            bit: 0,
+            end: user_bits(kind),
+            message: 0,
+            packet: 0,
+            start: 0,
+            length: 0,
+            place: None,
+        };
+        for field in fields {
+            front.pass(field.0, field.1);
+        }
+        front
+    }
+
+    /// After one variable more.
+    fn pass(&mut self, var: Var, number: u64) {
+        match var {
+            Var::NID_MESSAGE => self.message = low_byte(number),
+            Var::L_MESSAGE => self.end = (number & 1023) as usize * 8,
+            Var::NID_PACKET => {
+                self.packet = low_byte(number);
+                self.start = self.bit;
+                self.place = None;
+            }
+            Var::L_PACKET => {
+                self.length = (number & 8191) as usize;
+                self.place = match row_of(way_of(self.kind), self.packet) {
+                    Some(row) => Some(Place::start(row)),
+                    None => None,
+                };
+            }
+            _ => self.pass_row(number),
+        }
+        self.bit = self.bit.saturating_add(var.width());
+    }
+
+    /// After one variable more of the last packet's row.
+    fn pass_row(&mut self, number: u64) {
+        if let Some(place) = &mut self.place {
+            if place.var().is_some() {
+                place.pass(number);
+            }
+        }
+    }
+}

@@ -1,0 +1,19 @@
+//! Items explained: each variable with its bits, its number and what it stands for; and why bytes or JSON are no item.
+#![tactic(auto)]
+
+mod account;
+mod front;
+mod json;
+mod meanings;
+mod names;
+mod page;
+mod reasons;
+mod refusal;
+mod run;
+mod sheet;
+mod table;
+
+pub use account::{Account, End, Part};
+pub use refusal::{Reason, why};
+pub use run::{Task, explain};
+pub use sheet::Layout;

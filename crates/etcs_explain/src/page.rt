@@ -1,0 +1,103 @@
+//! A page of HTML: the bytes of each item beside its variables.
+
+use crate::sheet::Sheet;
+use std::alloc::AllocError;
+
+/// What is in front of the first item.
+pub(crate) static HEAD: &str = "<!doctype html>
+<html lang=en><meta charset=utf-8><meta name=viewport content='width=device-width'><title>etcs explain</title>
+<style>
+:root{color-scheme:light dark;--on:#ffd54a;--no:#d32f2f;--line:#8886}
+body{font:14px/1.45 system-ui,sans-serif;margin:1.5em}
+h2{font-size:1.1em;margin:0 0 .6em}
+section{margin:0 0 2.5em}
+.g{display:flex;gap:2em;align-items:flex-start}
+.h+div{flex:1}
+@media(max-width:60em){.g{display:block}}
+.h{font:13px/1.2 ui-monospace,monospace;position:sticky;top:1em}
+.r{display:flex;gap:.5em;margin-bottom:.35em}
+.r s{width:3.5em;text-decoration:none;opacity:.6;text-align:right}
+b{font-weight:400;text-align:center}
+b u{display:flex;text-decoration:none;gap:1px}
+i{font-style:normal;width:.55em;height:.45em;background:var(--line);color:transparent;font-size:11px;overflow:hidden}
+.bits i{height:auto;width:1.1em;color:inherit}
+table{border-collapse:collapse}
+td,th{padding:.05em .7em .05em 0;text-align:left;vertical-align:top}
+td:first-child{font-family:ui-monospace,monospace;opacity:.7;min-width:5.5em}
+td:nth-child(3){text-align:right;font-variant-numeric:tabular-nums;overflow-wrap:anywhere}
+th{font-weight:600;padding-top:.3em}
+.d1{padding-left:1em}.d2{padding-left:2em}.d3{padding-left:3em}
+summary{font-weight:600;cursor:pointer;margin-top:.4em}
+i.on,tr.on{background:var(--on);color:#000}
+i.no,tr.no td{background:var(--no);color:#fff}
+p.no{color:var(--no);font-weight:600;max-width:60em}
+@media print{body{margin:0;font-size:10px}section{break-inside:avoid-page}label{display:none}.h{position:static}}
+</style>
+<label><input type=checkbox onchange='document.body.classList.toggle(\"bits\",this.checked)'> bits</label>
+";
+
+/// What comes after the last item.
+pub(crate) static FOOT: &str = "<script>
+for (const s of document.querySelectorAll('section')) {
+  const bits = [...s.querySelectorAll('i')], rows = [...s.querySelectorAll('tr[data-a]')], of = [];
+  const mark = (row, on) => {
+    if (!row) return;
+    row.classList.toggle('on', on);
+    bits.slice(+row.dataset.a, +row.dataset.b + 1).forEach(bit => bit.classList.toggle('on', on));
+  };
+  rows.forEach(row => {
+    row.tabIndex = 0;
+    for (let k = +row.dataset.a; k <= +row.dataset.b; k++) of[k] = row;
+    for (const [name, on] of [['mouseenter', 1], ['focus', 1], ['mouseleave', 0], ['blur', 0]])
+      row.addEventListener(name, () => mark(row, on));
+  });
+  bits.forEach((bit, k) => {
+    bit.addEventListener('mouseenter', () => mark(of[k], 1));
+    bit.addEventListener('mouseleave', () => mark(of[k], 0));
+    bit.addEventListener('click', () => {
+      if (!of[k]) return;
+      of[k].closest('details').open = true;
+      of[k].scrollIntoView({block: 'nearest'});
+    });
+  });
+}
+</script>
+";
+
+/// Appends the bits of a byte, of which this one, counted from the byte's first, is refused.
+fn write_bits(byte: u8, refused: Option<usize>, out: &mut String) -> Result<(), AllocError> {
+    for place in 0..8usize {
+        out.push_str(if refused == Some(place) {
+            "<i class=no>"
+        } else {
+            "<i>"
+        })?;
+        out.push(if (byte >> (7 - place)) & 1 == 1 { '1' } else { '0' })?;
+        out.push_str("</i>")?;
+    }
+    Ok(())
+}
+
+/// Writes the bytes of an item in rows of eight, of which this bit is refused, and begins the column of its variables.
+pub(crate) fn write_bytes(
+    sheet: &mut Sheet,
+    bytes: &[u8],
+    refused: Option<usize>,
+) -> Result<(), AllocError> {
+    let out = &mut sheet.out;
+    out.push_str("<div class=g><div class=h>\n")?;
+    for (at, byte) in bytes.iter().enumerate() {
+        if at % 8 == 0 {
+            let end = if at == 0 { "" } else { "</div>\n" };
+            write!(out, "{end}<div class=r><s>{}</s>", at.saturating_mul(8))?;
+        }
+        write!(out, "<b>{byte:02X}<u>")?;
+        let here = match refused {
+            Some(bit) if bit / 8 == at => Some(bit % 8),
+            _ => None,
+        };
+        write_bits(*byte, here, out)?;
+        out.push_str("</u></b>")?;
+    }
+    out.push_str("</div>\n</div><div>\n")
+}

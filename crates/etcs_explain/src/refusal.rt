@@ -1,0 +1,144 @@
+//! Why bytes are no item.
+
+ghost use Rattle.std.specs.Prelude.{◌≡◌, ℕ, take, IfOk, IfSome, IsNone};
+ghost use Rattle.etcs_bits.specs.Bits.{bits};
+ghost use Rattle.etcs_vars.specs.declared.var.Var.{Var};
+ghost use Rattle.etcs_vars.specs.Reading.{readings_of};
+ghost use Rattle.etcs_vars.specs.Walking.{Refuses};
+ghost use Rattle.etcs_text.specs.Entries.{EntryReads};
+ghost use Rattle.etcs_explain.specs.declared.account.End.{End};
+
+use crate::account::{Account, End};
+use crate::front::{Front, way_of};
+use crate::reasons::{often, write_reason};
+use etcs_bits::peek;
+use etcs_tables::message_row;
+use etcs_text::Kind;
+use etcs_vars::Var;
+use std::alloc::{AllocError, Global};
+
+/// Where bytes stop being an item, and why.
+#[derive(Debug, Drop)]
+pub struct Reason {
+    /// The first bit with which no item continues, counted from 0.
+    pub bit: usize,
+    /// The variable that holds it.
+    pub var: Var,
+    /// Why, in a sentence with no capital and no full stop.
+    pub sentence: String,
+    /// What this most often comes of, in such words.
+    pub often: Option<&'static str>,
+}
+
+static KINDS: [Kind; 4] = [Kind::Long, Kind::Short, Kind::Radio, Kind::Train];
+
+/// Whether the bytes may be meant as an item of a kind: not as a message that is kept whole, which any bytes may be.
+fn is_meant(kind: Kind, bytes: &[u8]) -> bool {
+    match (kind, bytes.first()) {
+        (Kind::Long | Kind::Short, _) => true,
+        (_, Some(number)) => message_row(way_of(kind), *number).is_some(),
+        (_, None) => false,
+    }
+}
+
+/// The kind, if there is another, of whose items the bytes are one.
+fn kind_of_all(
+    alloc: Global,
+    kind: Kind,
+    bytes: &[u8],
+) -> Result<Option<Kind>, AllocError> {
+    for other in &KINDS {
+        if *other != kind && is_meant(*other, bytes) {
+            let account = Account::read(alloc, *other, bytes)?;
+            if account.end == End::Whole && account.bytes() == bytes.len() {
+                return Ok(Some(*other));
+            }
+        }
+    }
+    Ok(None)
+}
+
+/// What to do where the bytes are an item of another kind.
+fn advice(kind: Kind) -> &'static str {
+    match kind {
+        Kind::Long => "these bytes are a long telegram: --kind long",
+        Kind::Short => "these bytes are a short telegram: --kind short",
+        Kind::Radio => "these bytes are a message to the train: --kind radio",
+        Kind::Train => "these bytes are a message to the track: --kind train",
+    }
+}
+
+/// Appends how many bytes are there and how many are wanted, where they end inside an item.
+fn write_missing(
+    kind: Kind,
+    bytes: &[u8],
+    fields: &[(Var, u64)],
+    out: &mut String,
+) -> Result<(), AllocError> {
+    write!(out, "{} of ", bytes.len())?;
+    match (kind, fields) {
+        (Kind::Long, _) => out.push_str("104")?,
+        (Kind::Short, _) => out.push_str("27")?,
+        (_, [_, (Var::L_MESSAGE, length), ..]) => write!(out, "{length}")?,
+        _ => out.push_str("at least 3")?,
+    }
+    out.push_str(" bytes are here")
+}
+
+/// Why the bytes of an account are no item, and what this most often comes of. `None` where they are one.
+pub(crate) fn cause(
+    alloc: Global,
+    kind: Kind,
+    bytes: &[u8],
+    account: &Account,
+) -> Result<Option<(String, Option<&'static str>)>, AllocError>
+    ensures { IfOk result (λ o. IsNone o → account.now.end ≡ End.Whole) }
+{
+    let mut sentence = String::new(alloc);
+    let fields = account.fields.as_slice();
+    let usual = match account.end {
+        End::Whole => return Ok(None),
+        End::Open(_) => {
+            write_missing(kind, bytes, fields, &mut sentence)?;
+            None
+        }
+        End::Refused(_, part) => {
+            let front = Front::new(kind, fields);
+            let number = peek(bytes, front.bit, part.var.width());
+            write_reason(&front, part, number, &mut sentence)?;
+            often(kind, part.var)
+        }
+    };
+    match kind_of_all(alloc, kind, bytes)? {
+        Some(other) => Ok(Some((sentence, Some(advice(other))))),
+        None => Ok(Some((sentence, usual))),
+    }
+}
+
+/// Why the first of the bytes, at most 1,023, begin no item of the kind: the bit that the kind's reader refuses, its
+/// variable, and the reason in a sentence. `None` where no bit is refused: they begin with an item, or end inside one.
+///
+/// # Errors
+///
+/// Where memory is refused.
+pub fn why(alloc: Global, kind: Kind, bytes: &[u8]) -> Result<Option<Reason>, AllocError>
+    ensures some { IfOk result (λ o. IfSome o (λ r. Refuses (readings_of (EntryReads kind)) (take 8184 (bits bytes.now)) r.bit r.var)) }
+    ensures none { IfOk result (λ o. IsNone o → (i : ℕ) (x : Var) → Refuses (readings_of (EntryReads kind)) (take 8184 (bits bytes.now)) i x → ⊥) }
+{
+    let account = Account::read(alloc, kind, bytes)?;
+    let (bit, part) = match account.end {
+        End::Whole => return Ok(None),
+        End::Open(_) => return Ok(None),
+        End::Refused(bit, part) => (bit, part),
+    };
+    let Some((sentence, often)) = cause(alloc, kind, bytes, &account)? else {
+        unreachable!()
+    };
+    let var = part.var;
+    Ok(Some(Reason {
+        bit,
+        var,
+        sentence,
+        often,
+    }))
+}

@@ -1,5 +1,5 @@
 -- The status that the program ends with.
-use Rattle.std.specs.Prelude.{ℕ, Bool, true, false, ◌==◌, if◌then◌else◌}
+use Rattle.std.specs.Prelude.{ℕ, ◌==◌, if◌then◌else◌}
 use Rattle.etcs_log.specs.declared.job.LogTally.{LogTally}
 use Rattle.etcs_stream.specs.declared.job.Tally.{Tally}
 use Rattle.etcs_stream.specs.declared.fault.RunFault.{RunFault}

@@ -1,5 +1,5 @@
 -- What is said of a line, by what its digits say.
-use Rattle.std.proofs.Common.{◌≡◌, ℕ, ◌+◌, ◌-◌, ◌<◌, ◌≤◌, ◌%◌, Bool, true, false, IsTrue, List, [], ◌∷◌, ◌++◌, length, take, drop, Option, Some, None, Result, Ok, Err, inl, inr, refl, sym, ap, subst, ◌∙◌, arith}
+use Rattle.std.proofs.Common.{◌≡◌, ℕ, ◌+◌, ◌-◌, ◌≤◌, ◌%◌, Bool, true, false, IsTrue, List, [], ◌∷◌, ◌++◌, length, take, drop, Option, Some, None, Result, Ok, Err, inr, refl, sym, ap, subst, ◌∙◌, arith}
 use Rattle.std.proofs.lemmas.List.{append-nil, length-drop}
 use Rattle.std.proofs.Math.Seq.{take-length}
 use Rattle.std.specs.Prelude.{OnOk}
@@ -10,7 +10,6 @@ use Rattle.etcs_log.specs.declared.verdict.Verdict.TheVariants.{Item, Refused, O
 use Rattle.hex.specs.Hex.{decode_of, encode_upper}
 use Rattle.hex.proofs.HexLemmas.{decode_of-odd, decode_of-ok, decode_of-same}
 use Rattle.etcs_bits.specs.Bits.{bits}
-use Rattle.etcs_vars.specs.Reading.{spelled}
 use Rattle.etcs_digits.specs.Answers.{Says}
 use Rattle.etcs_digits.specs.Digits.{is_passed_over, line_digits}
 use Rattle.etcs_digits.specs.declared.digits.NoBytes.{NoBytes}
@@ -22,7 +21,7 @@ use Rattle.etcs_stream.proofs.ItemKinds.{item_bits}
 use Rattle.etcs_log.specs.declared.job.LogJob.{LogJob}
 use Rattle.etcs_log.specs.declared.job.LogTally.{LogTally}
 use Rattle.etcs_log.specs.Verdicts.{IsItem, IsVerdict}
-use Rattle.etcs_log.specs.Logs.{Answer, passed, item, bad, IsItemLine, IsAnswer, IsBytesAnswer, Answered, BytesAnswered, Counted, Tells}
+use Rattle.etcs_log.specs.Logs.{Answer, passed, item, bad, IsItemLine, IsAnswer, IsBytesAnswer, Answered, BytesAnswered, Counted}
 
 read_by : (b : Bool) (r : Result ℕ NoBytes) → (IsTrue b → r ≡ Err Empty) → (r ≡ Err Empty → ⊥) → b ≡ false
 read_by true r f other = absurd (other (f refl))

@@ -1,6 +1,6 @@
 -- Lines that are answered one after another.
 use Rattle.std.proofs.Common.{◌≡◌, ℕ, ◌+◌, ◌<◌, ◌≤◌, ◌^◌, Bool, true, false, List, [], ◌∷◌, ◌++◌, length, Result, Ok, Err, refl, sym, ap, subst, ◌∙◌, arith}
-use Rattle.std.specs.Prelude.{All, IfOk, OnOk, Option}
+use Rattle.std.specs.Prelude.{IfOk, OnOk, Option}
 use Rattle.std.specs.Io.KnownBytes.{Appends, Consumes}
 use Rattle.etcs_stream.specs.Pipes.{Piped}
 use Rattle.etcs_stream.proofs.Known.{Appends-then}
@@ -12,7 +12,7 @@ use Rattle.etcs_stream.specs.Lines.{IsLine, lines_text}
 use Rattle.etcs_stream.proofs.Cutting.{lines_few, lines_text-append, one_line}
 use Rattle.etcs_log.specs.declared.job.LogJob.{LogJob}
 use Rattle.etcs_log.specs.declared.job.LogTally.{LogTally}
-use Rattle.etcs_log.specs.Logs.{Answer, passed, item, bad, IsAnswer, AreAnswers, Answered, Counted, GoodText, IsLog, Tells, items_in, bad_in}
+use Rattle.etcs_log.specs.Logs.{Answer, passed, item, bad, IsAnswer, AreAnswers, Answered, GoodText, IsLog, Tells, items_in, bad_in}
 use Rattle.etcs_log.specs.Stands.{IsBegun, LogStands}
 
 pub answers-push : (kind : Kind) (lines : List (List ℕ)) (others : List Answer) (line : List ℕ) (a : Answer) → AreAnswers kind lines others → IsAnswer kind line a → AreAnswers kind (lines ++ line ∷ []) (others ++ a ∷ [])

@@ -1,5 +1,5 @@
 -- What a reader to which nothing was fed answers of the bytes of a line.
-use Rattle.std.proofs.Common.{◌≡◌, ℕ, ◌+◌, ◌*◌, ◌≤◌, Bool, List, [], ◌++◌, length, take, drop, Result, Ok, Err, refl, sym, ap, subst, ◌∙◌, arith}
+use Rattle.std.proofs.Common.{◌≡◌, ℕ, ◌+◌, ◌*◌, Bool, List, [], ◌++◌, length, take, drop, Result, Ok, Err, sym, ap, subst, ◌∙◌, arith}
 use Rattle.std.proofs.lemmas.List.{append-nil, take-append-drop, length-drop}
 use Rattle.std.proofs.Math.Seq.{take-length}
 use Rattle.etcs_bits.specs.Bits.{bits}
@@ -9,7 +9,7 @@ use Rattle.etcs_vars.specs.declared.feed.Fed.{Fed}
 use Rattle.etcs_vars.specs.declared.feed.Fed.TheVariants.{More, Done}
 use Rattle.etcs_vars.specs.declared.feed.ReadFault.{ReadFault}
 use Rattle.etcs_vars.specs.declared.feed.ReadFault.TheVariants.{Refused}
-use Rattle.etcs_vars.specs.Reading.{Reading, NoneYet, readings_of, spelled}
+use Rattle.etcs_vars.specs.Reading.{NoneYet, readings_of, spelled}
 use Rattle.etcs_vars.proofs.Apart.{apart}
 use Rattle.etcs_text.specs.declared.entry.Kind.{Kind}
 use Rattle.etcs_text.specs.Entries.{EntryValue, EntryReads}

@@ -1,5 +1,5 @@
 -- What is said of the lines of a log.
-use Rattle.std.specs.Prelude.{◌≡◌, ℕ, ◌+◌, ◌<◌, ◌≤◌, Bool, true, false, List, [], ◌∷◌, ◌++◌, length, ◌⊎◌, Ok, All}
+use Rattle.std.specs.Prelude.{◌≡◌, ℕ, ◌+◌, ◌<◌, ◌≤◌, true, false, List, [], ◌∷◌, ◌++◌, length, ◌⊎◌, Ok, All}
 use Rattle.hex.specs.Hex.{decode_of, encode_upper}
 use Rattle.etcs_digits.specs.Digits.{is_passed_over, line_digits}
 use Rattle.etcs_text.specs.declared.entry.Kind.{Kind}

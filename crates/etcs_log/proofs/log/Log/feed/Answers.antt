@@ -1,11 +1,11 @@
-use Rattle.std.proofs.Common.{◌≡◌, ◌<◌, ◌^◌, ◌∙◌, ◌++◌, ◌∷◌, [], List, ℕ, length, refl, sym, ap, subst, arith, append_assoc, length-append}
+use Rattle.std.proofs.Common.{◌∙◌, ◌++◌, ◌∷◌, [], List, ℕ, length, refl, sym, ap, subst, arith, append_assoc, length-append}
 use Rattle.std.specs.Prelude.{OnOk}
 use Rattle.etcs_stream.specs.Lines.{IsLine}
 use Rattle.etcs_stream.proofs.LineSteps.{cut_line, cut_given}
 use Rattle.etcs_log.specs.declared.job.LogJob.{LogJob}
 use Rattle.etcs_log.specs.declared.lines.Lines.{Lines}
 use Rattle.etcs_log.specs.Logs.{Answered}
-use Rattle.etcs_log.specs.Stands.{IsBegun, IsFresh, LogStands}
+use Rattle.etcs_log.specs.Stands.{IsFresh, LogStands}
 use Rattle.etcs_log.proofs.Counting.{few_lines, few_items, few_bad, stand_line, stand_part_if}
 use Rattle.etcs_log.proofs.log.Log.feed.Goals as goal
 

@@ -69,6 +69,7 @@ impl EntryReader {
     /// # Errors
     ///
     /// `Refused` with the first bit of the item with which none continues, and the variable that holds it; `Memory`.
+    #[inline(always)]
     pub fn feed(&mut self, piece: &[u8]) -> Result<Fed, ReadFault>
         ensures answer { (seen : List Bool) → self.old.progress ≡ reading seen → Feeds (EntryReads self.old.kind) seen (bits piece.now) result self.new.progress }
         ensures kind { self.new.kind ≡ self.old.kind }

@@ -1,0 +1,19 @@
+-- What is said where an encoding is delivered.
+use Rattle.std.proofs.Common.{ℕ, List, Result, Ok, Err, inl, inr}
+use Rattle.std.specs.Prelude.{IfOk, MatchResult}
+use Rattle.etcs_text.specs.declared.entry.Kind.{Kind}
+use Rattle.etcs_text.specs.Encodings.{IsEncoded}
+use Rattle.etcs_text.specs.Entries.{EntryValue}
+use Rattle.etcs_json.specs.JsonLines.{SaysItem}
+use Rattle.etcs_c.specs.declared.answer.EtcsAnswer.{EtcsAnswer}
+use Rattle.etcs_c.specs.Answers.{SaysLine, Starves, Writes}
+use Rattle.etcs_c.specs.Built.{SaysPacked}
+
+module _ {V E : Type 0} (items : V → List ℕ) (e : EntryValue) (old new : List ℕ) (s : ℕ) (a : EtcsAnswer) where
+  pub encoding_said : (made : Result V E) → IfOk made (λ v. IsEncoded e (items v)) → MatchResult made (λ v. Writes (items v) old new s a) (λ x. Starves old new s) → SaysPacked e old new s a
+  encoding_said (Ok v) is writes = inl (items v, is, writes)
+  encoding_said (Err x) is starves = inr starves
+
+  pub line_said : (kind : Kind) (line : List ℕ) → SaysItem kind line e → (made : Result V E) → IfOk made (λ v. IsEncoded e (items v)) → MatchResult made (λ v. Writes (items v) old new s a) (λ x. Starves old new s) → SaysLine kind line old new s a
+  line_said kind line says (Ok v) is writes = inl (e, items v, says, is, writes)
+  line_said kind line says (Err x) is starves = inr (inr (inr starves))

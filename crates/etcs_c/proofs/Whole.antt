@@ -1,0 +1,116 @@
+-- When no item has given fields.
+use Rattle.std.proofs.Common.{Result, inl, inr, ◌≡◌, ℕ, ◌+◌, ◌*◌, ◌/◌, ◌%◌, ◌≤◌, Bool, List, [], ◌∷◌, ◌++◌, length, take, drop, refl, sym, ap, subst, ◌∙◌, arith}
+use Rattle.std.proofs.lemmas.List.{append-nil, take_all, take-append-drop}
+use Rattle.etcs_vars.specs.declared.var.Var.{Var}
+use Rattle.etcs_vars.specs.declared.var.Var.TheVariants.{PADDING, OTHER_DATA, NID_MESSAGE, L_MESSAGE}
+use Rattle.etcs_vars.specs.Reading.{Reading, spelled, kept, readings_of, NoneYet, IsOutcome, done, refused, more}
+use Rattle.etcs_vars.proofs.Apart.{AllFit, apart}
+use Rattle.etcs_packets.specs.PacketReadings.{readings_to}
+use Rattle.etcs_telegram.specs.declared.size.Size.{Size}
+use Rattle.etcs_telegram.specs.declared.size.Size.TheVariants as size
+use Rattle.etcs_telegram.specs.Telegrams.{pad_bits, user_bits}
+use Rattle.etcs_telegram.proofs.Spellings.{whole_length}
+use Rattle.etcs_messages.specs.Messages.{head_reading, typed_message, kept_message}
+use Rattle.etcs_messages.proofs.Bytes.{message_bytes}
+use Rattle.etcs_text.specs.declared.entry.Kind.{Kind}
+use Rattle.etcs_text.specs.Entries.{EntryReads, EntryValue, Spells, of_message, of_telegram}
+use Rattle.etcs_stream.proofs.ItemKinds.{kind_regular}
+use Rattle.etcs_c.specs.declared.fields.EtcsField.{EtcsField}
+use Rattle.std.specs.Prelude.{IfOk, MatchResult}
+use Rattle.etcs_text.specs.declared.entry.Entry.{Entry}
+use Rattle.etcs_text.specs.Encodings.{IsEncoded}
+use Rattle.etcs_c.specs.declared.answer.EtcsAnswer.{EtcsAnswer}
+use Rattle.etcs_c.specs.declared.found.Found.{Found}
+use Rattle.etcs_c.specs.declared.found.Found.TheVariants as found_as
+use Rattle.etcs_c.specs.Answers.{Finds, Says, Starves, Writes}
+use Rattle.etcs_c.specs.Built.{IsBuilt, NoneHas}
+use Rattle.etcs_c.proofs.Delivering.{encoding_said}
+use Rattle.etcs_c.specs.Fields.{AreFit, fields_of, packed, whole_bytes}
+use Rattle.etcs_c.proofs.Packing.{fit_reading, packed_reading}
+
+-- ---- The spelling of an item.
+
+record InBytes (r : Reading) : Type 0 where
+  whole : length (spelled r) % 8 ≡ 0
+  most : length (spelled r) ≤ 8 * 1023
+
+sized : (s : Size) (n : ℕ) → n ≡ user_bits s + pad_bits s → (n % 8 ≡ 0) × (n ≤ 8 * 1023)
+sized size.Short n h = (omega (arith, h), omega (arith, h))
+sized size.Long n h = (omega (arith, h), omega (arith, h))
+
+item_bytes : (e : EntryValue) (r : Reading) → Spells e r → InBytes r
+item_bytes (of_telegram t) r h =
+    let n = sized t.size (length (spelled r)) (whole_length t.size r (t, (refl, h))) in
+    record { whole = n.0; most = n.1 }
+item_bytes (of_message way m) r h = let n = message_bytes way r (m, h) in record { whole = n.0; most = n.1 }
+
+all_bytes : (b : List Bool) → length b % 8 ≡ 0 → whole_bytes b ≡ b
+all_bytes b h = take_all (8 * (length b / 8)) b (omega (arith, h))
+
+-- an item has one reading
+one_sent : (e : EntryValue) (r q : Reading) → Spells e r → Spells e q → r ≡ q
+one_sent (of_telegram t) r q h k = h.reading_is ∙ sym k.reading_is
+one_sent (of_message way (typed_message nid head body vs padding)) r q h k =
+    let same : h.len ≡ k.len = omega (arith, h.bytes, k.bytes) in
+    h.reading_is ∙ ap (λ (n : ℕ). head_reading nid n head ++ body ++ readings_to way vs ++ kept PADDING padding) same ∙ sym k.reading_is
+one_sent (of_message way (kept_message nid b)) r q h k =
+    let same : h.len ≡ k.len = omega (arith, h.bytes, k.bytes) in
+    h.reading_is ∙ ap (λ (n : ℕ). (NID_MESSAGE, nid) ∷ (L_MESSAGE, n) ∷ kept OTHER_DATA b) same ∙ sym k.reading_is
+
+-- ---- Its fields.
+
+-- the whole bytes of its fields are its spelling
+fields_spell : (e : EntryValue) (r : Reading) (fs : List EtcsField) → Spells e r → fs ≡ fields_of r → whole_bytes (packed fs) ≡ spelled r
+fields_spell e r fs h is =
+    let bits : packed fs ≡ spelled r = ap packed is ∙ packed_reading r in
+    ap whole_bytes bits ∙ all_bytes (spelled r) (item_bytes e r h).whole
+
+fits : (kind : Kind) (e : EntryValue) (r : Reading) → EntryReads kind e r → AllFit r
+fits kind e r h = (kind_regular kind).fit r (e, h)
+
+pub unfit_none : (kind : Kind) (fs : List EtcsField) → (AreFit fs → length (packed fs) ≤ 8 * 1023 → ⊥) → NoneHas kind fs
+unfit_none kind fs not e (r, h, is) =
+    let fit : AreFit fs = subst AreFit (sym is) (fit_reading r (fits kind e r h)) in
+    let bits : length (packed fs) ≡ length (spelled r) = ap (λ (b : List Bool). length b) (ap packed is ∙ packed_reading r) in
+    not fit (omega (arith, bits, (item_bytes e r h.1).most))
+
+none_yet : (kind : Kind) (fs : List EtcsField) → NoneYet (readings_of (EntryReads kind)) (whole_bytes (packed fs)) → NoneHas kind fs
+none_yet kind fs none e (r, h, is) =
+    let same = fields_spell e r fs h.1 is in
+    let all : take (length (whole_bytes (packed fs))) (whole_bytes (packed fs)) ≡ whole_bytes (packed fs) = take_all (length (whole_bytes (packed fs))) (whole_bytes (packed fs)) (omega arith) in
+    none (length (whole_bytes (packed fs))) (omega arith) (r, (e, h), sym same ∙ sym all)
+
+pub more_none : (kind : Kind) (fs : List EtcsField) → IsOutcome (EntryReads kind) (whole_bytes (packed fs)) more → NoneHas kind fs
+more_none kind fs o = none_yet kind fs o.0
+
+pub refused_none : (kind : Kind) (fs : List EtcsField) (i : ℕ) (x : Var) → IsOutcome (EntryReads kind) (whole_bytes (packed fs)) (refused i x) → NoneHas kind fs
+refused_none kind fs i x o = none_yet kind fs o.0.0
+
+-- the item that the bytes begin with has other fields
+pub other_none : (kind : Kind) (fs : List EtcsField) (e : EntryValue) (n : ℕ) (q : Reading) → IsOutcome (EntryReads kind) (whole_bytes (packed fs)) (done e n) → Spells e q → (fs ≡ fields_of q → ⊥) → NoneHas kind fs
+other_none kind fs e n q (le, p, reads, bits) h not e' (r, h', is) =
+    let b = whole_bytes (packed fs) in
+    let same = fields_spell e' r fs h'.1 is in
+    let whole : spelled p ++ drop n b ≡ spelled r ++ [] = ap (λ (t : List Bool). t ++ drop n b) bits ∙ take-append-drop n b ∙ same ∙ sym (append-nil (spelled r)) in
+    let regular = kind_regular kind in
+    let one = apart p r (drop n b) [] (regular.agree p r (e, reads) (e', h')) (regular.fit p (e, reads)) (regular.fit r (e', h')) whole in
+    let read : q ≡ r = one_sent e q p h reads.1 ∙ one.0 in
+    not (is ∙ ap fields_of (sym read))
+
+-- the kind of an item that bytes of a kind begin with
+pub found_reads : (kind : Kind) (b : List Bool) (e : EntryValue) (n : ℕ) (q : Reading) → IsOutcome (EntryReads kind) b (done e n) → Spells e q → EntryReads kind e q
+found_reads kind b e n q (le, p, reads, bits) h = (reads.0, h)
+
+-- ---- What is said of each found.
+
+pub built_said : {V E : Type 0} (items : V → List ℕ) (kind : Kind) (fs : List EtcsField) (e : EntryValue) (n : ℕ) (q : Reading) → IsOutcome (EntryReads kind) (whole_bytes (packed fs)) (done e n) → Spells e q → fs ≡ fields_of q → (old new : List ℕ) (s : ℕ) (a : EtcsAnswer) (made : Result V E) → IfOk made (λ v. IsEncoded e (items v)) → MatchResult made (λ v. Writes (items v) old new s a) (λ x. Starves old new s) → IsBuilt kind fs old new s a
+built_said items kind fs e n q o h is old new s a made made_is writes = inl (e, (q, found_reads kind (whole_bytes (packed fs)) e n q o h, is), encoding_said items e old new s a made made_is writes)
+
+pub other_said : (kind : Kind) (fs : List EtcsField) (e : EntryValue) (n : ℕ) (q : Reading) → IsOutcome (EntryReads kind) (whole_bytes (packed fs)) (done e n) → Spells e q → (fs ≡ fields_of q → ⊥) → (old : List ℕ) (a : EtcsAnswer) → IsBuilt kind fs old old 7 a
+other_said kind fs e n q o h not old a = inr (inl (other_none kind fs e n q o h not, inl refl, refl))
+
+pub missed_said : (kind : Kind) (fs : List EtcsField) (found : Found) (old : List ℕ) (s : ℕ) (a : EtcsAnswer) → ((e : Entry) (k : ℕ) → found ≡ found_as.Whole e k → ⊥) → Finds kind (whole_bytes (packed fs)) found → Says found s a → IsBuilt kind fs old old s a
+missed_said kind fs (found_as.Whole e k) old s a not o says = absurd (not e k refl)
+missed_said kind fs found_as.More old s a not o says = inr (inl (more_none kind fs o, inr (inl (says, o)), refl))
+missed_said kind fs (found_as.Refused i x) old s a not o (is, bit, var) = inr (inl (refused_none kind fs i x o, inr (inr (i, x, is, bit, var, o)), refl))
+missed_said kind fs found_as.Memory old s a not o says = inr (inr (says, refl))

@@ -1,0 +1,34 @@
+-- Items of their fields, as C has them.
+use Rattle.std.specs.Prelude.{◌≡◌, ℕ, ◌⊎◌, Bool, List}
+use Rattle.etcs_vars.specs.declared.var.Var.{Var}
+use Rattle.etcs_vars.specs.Reading.{Reading, IsOutcome, refused, more}
+use Rattle.etcs_text.specs.declared.entry.Kind.{Kind}
+use Rattle.etcs_text.specs.Entries.{EntryReads, EntryValue}
+use Rattle.etcs_text.specs.Encodings.{IsEncoded}
+use Rattle.etcs_c.specs.declared.answer.EtcsAnswer.{EtcsAnswer}
+use Rattle.etcs_c.specs.declared.fields.EtcsField.{EtcsField}
+use Rattle.etcs_c.specs.Answers.{NoKind, Starves, Writes, kind_number, name_field}
+use Rattle.etcs_c.specs.Fields.{fields_of, packed, whole_bytes}
+
+-- these are the fields of the item, which is of the kind
+abbrev pub HasFields : Kind → List EtcsField → EntryValue → Type 0
+HasFields kind fs e = (r : Reading) × EntryReads kind e r × (fs ≡ fields_of r)
+
+-- they are those of no item of the kind
+abbrev pub NoneHas : Kind → List EtcsField → Type 0
+NoneHas kind fs = (e : EntryValue) → HasFields kind fs e → ⊥
+
+-- the item's encoding is written
+abbrev pub SaysPacked : EntryValue → List ℕ → List ℕ → ℕ → EtcsAnswer → Type 0
+SaysPacked e old new s a = ((bytes : List ℕ) × IsEncoded e bytes × Writes bytes old new s a) ⊎ Starves old new s
+
+-- what is said where no item has them: what their bits begin with, up to the last whole byte; or that it isn't that
+abbrev pub Misses : Kind → List Bool → ℕ → EtcsAnswer → Type 0
+Misses kind b s a = (s ≡ 7) ⊎ (((s ≡ 1) × IsOutcome (EntryReads kind) b more) ⊎ ((i : ℕ) × (x : Var) × (s ≡ 2) × (a.bit ≡ i) × (a.var ≡ name_field x) × IsOutcome (EntryReads kind) b (refused i x)))
+
+-- of the item whose fields these are its encoding; else nothing is written
+abbrev pub IsBuilt : Kind → List EtcsField → List ℕ → List ℕ → ℕ → EtcsAnswer → Type 0
+IsBuilt kind fs old new s a = ((e : EntryValue) × HasFields kind fs e × SaysPacked e old new s a) ⊎ ((NoneHas kind fs × Misses kind (whole_bytes (packed fs)) s a × (new ≡ old)) ⊎ Starves old new s)
+
+abbrev pub Builds : ℕ → List EtcsField → List ℕ → List ℕ → ℕ → EtcsAnswer → Type 0
+Builds n fs old new s a = ((kind : Kind) × (kind_number kind ≡ n) × IsBuilt kind fs old new s a) ⊎ (NoKind n s × (new ≡ old))

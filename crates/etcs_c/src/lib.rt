@@ -1,0 +1,133 @@
+//! The codec for callers of C: functions over numbers and over bytes of the caller's. `etcs.h` declares them.
+//!
+//! A slice is a pointer and then its length; `alloc` takes no place. Nothing is kept from one call to the next.
+#![tactic(auto)]
+
+mod answer;
+mod built;
+mod fields;
+mod found;
+mod json;
+mod kind;
+mod told;
+
+ghost use Rattle.std.specs.Prelude.{◌≡◌, ◌⊎◌};
+ghost use Rattle.etcs_bits.specs.Bits.{bits};
+ghost use Rattle.etcs_text.specs.declared.entry.Kind.{Kind};
+ghost use Rattle.etcs_c.specs.Answers.{Checks, Finds, NoKind, Tells, TellsJson, kind_number};
+ghost use Rattle.etcs_c.specs.Built.{Builds};
+ghost use Rattle.etcs_c.specs.Fields.{SaysFields};
+ghost use Rattle.etcs_c.specs.declared.found.Found.{Found};
+ghost use Rattle.etcs_c.specs.declared.told.Wanted.TheVariants as wanted;
+
+pub use answer::EtcsAnswer;
+use answer::UNKNOWN_KIND;
+use built::from_fields;
+pub use fields::EtcsField;
+use fields::tell_fields;
+use found::{find, say};
+use json::from_json;
+use kind::kind_of;
+use std::alloc::Global;
+use told::{Wanted, tell};
+
+/// Whether the bytes begin with an item of the kind: `ETCS_OK` with the number of its bytes, `ETCS_MORE` where they
+/// begin one and hold none, `ETCS_REFUSED` with the first bit with which none continues and the variable that holds it.
+#[unsafe(no_mangle)]
+pub extern "C" fn etcs_check(alloc: Global, kind: u32, bytes: &[u8], answer: &mut EtcsAnswer) -> u32
+    ensures { Checks kind (bits bytes.now) result answer.new }
+{
+    match kind_of(kind) {
+        Some(kind) => say(&find(alloc, kind, bytes), answer),
+        None => UNKNOWN_KIND,
+    }
+}
+
+/// As `etcs_check`, and of an item its text, as the item of this number.
+#[unsafe(no_mangle)]
+pub extern "C" fn etcs_show(
+    alloc: Global,
+    kind: u32,
+    item: u64,
+    bytes: &[u8],
+    out: &mut [u8],
+    answer: &mut EtcsAnswer,
+) -> u32
+    ensures { Tells (wanted.Show item) kind (bits bytes.now) out.old out.new result answer.new }
+{
+    match kind_of(kind) {
+        Some(kind) => tell(alloc, Wanted::Show(item), kind, bytes, out, answer),
+        None => UNKNOWN_KIND,
+    }
+}
+
+/// As `etcs_check`, and of an item its JSON.
+#[unsafe(no_mangle)]
+pub extern "C" fn etcs_to_json(
+    alloc: Global,
+    kind: u32,
+    bytes: &[u8],
+    out: &mut [u8],
+    answer: &mut EtcsAnswer,
+) -> u32
+    ensures { Tells wanted.Json kind (bits bytes.now) out.old out.new result answer.new }
+{
+    match kind_of(kind) {
+        Some(kind) => tell(alloc, Wanted::Json, kind, bytes, out, answer),
+        None => UNKNOWN_KIND,
+    }
+}
+
+/// The encoding of the item whose JSON this is; `ETCS_BAD_JSON` where it is that of no item of the kind, `ETCS_REFUSED`
+/// where it stores bits of packets that are typed by now, and no item has them.
+#[unsafe(no_mangle)]
+pub extern "C" fn etcs_from_json(
+    alloc: Global,
+    kind: u32,
+    line: &[u8],
+    out: &mut [u8],
+    answer: &mut EtcsAnswer,
+) -> u32
+    ensures { TellsJson kind line.now out.old out.new result answer.new }
+{
+    match kind_of(kind) {
+        Some(kind) => from_json(alloc, kind, line, out, answer),
+        None => UNKNOWN_KIND,
+    }
+}
+
+/// As `etcs_check`, and of an item its fields, in the order of sending: a variable each, or up to 64 bits of a run of
+/// FILL, OTHER_DATA, PADDING or PAD.
+#[unsafe(no_mangle)]
+pub extern "C" fn etcs_fields(
+    alloc: Global,
+    kind: u32,
+    bytes: &[u8],
+    out: &mut [EtcsField],
+    answer: &mut EtcsAnswer,
+) -> u32
+    ensures { ((k : Kind) × (found : Found) × (kind_number k ≡ kind) × Finds k (bits bytes.now) found × SaysFields found out.old out.new result answer.new) ⊎ (NoKind kind result × (out.new ≡ out.old)) }
+{
+    match kind_of(kind) {
+        Some(kind) => tell_fields(alloc, kind, bytes, out, answer),
+        None => UNKNOWN_KIND,
+    }
+}
+
+/// The encoding of the item whose fields these are, as `etcs_fields` writes them; as `etcs_check` where their bits are
+/// refused or their whole bytes end inside an item, and else `ETCS_BAD_FIELDS`; in these cases no item has them.
+#[unsafe(no_mangle)]
+pub extern "C" fn etcs_from_fields(
+    alloc: Global,
+    kind: u32,
+    fields: &[EtcsField],
+    out: &mut [u8],
+    answer: &mut EtcsAnswer,
+) -> u32
+    ensures { Builds kind fields.now out.old out.new result answer.new }
+{
+    match kind_of(kind) {
+        Some(kind) => from_fields(alloc, kind, fields, out, answer),
+        None => UNKNOWN_KIND,
+    }
+}

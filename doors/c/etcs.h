@@ -1,0 +1,109 @@
+/* Balise telegrams and radio messages of ETCS: the codec for callers of C and C++.
+ *
+ *     uint8_t telegram[27] = ..;
+ *     etcs_field fields[ETCS_MOST_FIELDS];
+ *     etcs_answer answer = {0};
+ *     switch (etcs_fields(ETCS_SHORT, telegram, sizeof telegram, fields, ETCS_MOST_FIELDS, &answer)) {
+ *     case ETCS_OK:      the variables are fields[0] to fields[answer.written - 1]
+ *     case ETCS_REFUSED: no telegram continues with bit answer.bit, which answer.var holds
+ *     case ETCS_MORE:    these bytes begin a telegram and hold none
+ *     }
+ *
+ * Each function here is proved to answer as its comment says. etcs_help.h has what is written in C over them:
+ * names of variables and statuses, look-up of a variable, a reader of pieces.
+ *
+ * Memory: all buffers are the caller's, and nothing of them is kept. Calls take memory by malloc and give all of it
+ * back before they return; there is nothing to free, open or close.
+ * Threads: each call is a function of its arguments, so any thread may call at any time with buffers of its own.
+ *
+ * What a caller owes, and nothing checks:
+ *   - a pointer is never null, also where its length is 0, and points to that many bytes, fewer than 2^63;
+ *   - out and answer overlap neither each other nor the bytes that are read;
+ *   - no call from a signal handler, nor in the forked child of a process with threads;
+ *   - stack: 64 KiB; etcs_from_json 256 KiB, since lists and objects may be in one another, up to 127 deep.
+ */
+#ifndef ETCS_H
+#define ETCS_H
+
+#include <stddef.h>
+#include <stdint.h>
+
+#ifdef __cplusplus
+extern "C" {
+#endif
+
+/* What the bytes hold. */
+enum {
+    ETCS_LONG = 1,  /* balise telegrams of 830 user bits, 104 bytes */
+    ETCS_SHORT = 2, /* of 210, 27 bytes */
+    ETCS_RADIO = 3, /* radio messages to the train, at most 1,023 bytes */
+    ETCS_TRAIN = 4  /* radio messages from the train to the track, at most 1,023 bytes */
+};
+
+/* How a call ended. Each but ETCS_NO_MEMORY comes exactly where its line says so. */
+enum {
+    ETCS_OK = 0,           /* done */
+    ETCS_MORE = 1,         /* the bytes begin an item and hold none: call again with more after them */
+    ETCS_REFUSED = 2,      /* no item begins with the bits up to answer.bit, which answer.var holds */
+    ETCS_NO_ROOM = 3,      /* out is shorter than answer.written bytes, and is as before */
+    ETCS_NO_MEMORY = 4,    /* memory was refused; out is as before */
+    ETCS_UNKNOWN_KIND = 5, /* the kind is none of the above */
+    ETCS_BAD_JSON = 6,     /* no item of the kind has this JSON */
+    ETCS_BAD_FIELDS = 7    /* no item of the kind has these fields */
+};
+
+/* Room that is enough for each item: of its bytes, and of its fields, each of which has a bit. */
+#define ETCS_MOST_BYTES 1023
+#define ETCS_MOST_FIELDS 8192
+
+typedef uint32_t etcs_kind;
+typedef uint32_t etcs_status;
+
+/* What a call answers beside its status. Begin with etcs_answer a = {0}. */
+typedef struct etcs_answer {
+    size_t taken;   /* after ETCS_OK and ETCS_NO_ROOM of a call that reads bytes: how many of them the item takes */
+    size_t written; /* after ETCS_OK and ETCS_NO_ROOM of a call with out: how many bytes, or fields, it has or wants */
+    size_t bit;     /* after ETCS_REFUSED: the first bit that is refused, from 0, the top bit of the first byte */
+    char var[32];   /* after ETCS_REFUSED: the name of the variable that holds it, a string */
+} etcs_answer;
+
+/* A variable of an item. Bits that are kept as they are (FILL, OTHER_DATA, PADDING) and PAD are up to 64 in a field, of
+ * which the first is the highest of its number: a run of 150 is three fields, of 64, 64 and 22 bits. */
+typedef struct etcs_field {
+    uint64_t number;
+    uint32_t var;   /* which variable: ETCS_VAR_... of etcs_vars.h */
+    uint32_t width; /* how many bits its number takes: a field begins at the sum of the widths before it */
+} etcs_field;
+
+/* Whether the bytes begin with an item. Bytes after it count for nothing. */
+etcs_status etcs_check(etcs_kind kind, const uint8_t *bytes, size_t len, etcs_answer *answer);
+
+/* The same, and of the item its text, as item number item. It is no string: answer->written bytes, no zero after them. */
+etcs_status etcs_show(etcs_kind kind, uint64_t item, const uint8_t *bytes, size_t len, uint8_t *out, size_t room,
+                      etcs_answer *answer);
+
+/* The same, and of the item its JSON, a line without its LF. No string either. */
+etcs_status etcs_to_json(etcs_kind kind, const uint8_t *bytes, size_t len, uint8_t *out, size_t room,
+                         etcs_answer *answer);
+
+/* The same, and of the item its fields, all of them in the order of sending: answer->written of them. */
+etcs_status etcs_fields(etcs_kind kind, const uint8_t *bytes, size_t len, etcs_field *out, size_t room,
+                        etcs_answer *answer);
+
+/* The bytes of the item whose JSON this is, at most 1,023: ETCS_OK, ETCS_NO_ROOM, ETCS_BAD_JSON, ETCS_NO_MEMORY; and
+ * ETCS_REFUSED, of older JSON alone, where it has bits of packets that are typed by now, and no item has these bits. */
+etcs_status etcs_from_json(etcs_kind kind, const uint8_t *line, size_t len, uint8_t *out, size_t room,
+                           etcs_answer *answer);
+
+/* The bytes of the item whose fields these are, all of them in the order of sending, as etcs_fields writes them: var and
+ * width of each too. Of the numbers' bits, one after another, it is ETCS_REFUSED with the first that is refused, or
+ * ETCS_MORE where their whole bytes end inside an item. Else it is ETCS_BAD_FIELDS: a number has more bits than its width,
+ * or the item that the bits begin with has other fields. In all three cases no item of the kind has these fields. */
+etcs_status etcs_from_fields(etcs_kind kind, const etcs_field *fields, size_t len, uint8_t *out, size_t room,
+                             etcs_answer *answer);
+
+#ifdef __cplusplus
+}
+#endif
+
+#endif

@@ -1,0 +1,377 @@
+/* What no contract says, tried from C. It says "all is well" or what isn't.
+ *
+ *     test                each refused allocation, buffers that are too short, variables, the reader, deep JSON, threads
+ *     test KIND FILE      over the items of a file: a small stack, each call against the others, pieces, turned bits
+ *
+ * With a word `quick` after them, stacks are left out, which a look from outside spoils under valgrind, and threads.
+ * Linked with -Wl,--wrap=malloc,--wrap=realloc -pthread. */
+#define _GNU_SOURCE
+#include "etcs_help.h"
+
+#include <limits.h>
+#include <pthread.h>
+#include <stdio.h>
+#include <stdlib.h>
+#include <string.h>
+
+_Static_assert(sizeof(etcs_answer) == 56 && offsetof(etcs_answer, var) == 24, "etcs_answer");
+_Static_assert(sizeof(etcs_field) == 16 && offsetof(etcs_field, var) == 8 && offsetof(etcs_field, width) == 12, "etcs_field");
+
+static __thread long left = LONG_MAX;
+static __thread long taken_now;
+void *__real_malloc(size_t size);
+void *__real_realloc(void *at, size_t size);
+void *__wrap_malloc(size_t size) { if (left-- <= 0) return NULL; taken_now++; return __real_malloc(size); }
+void *__wrap_realloc(void *at, size_t size) { if (left-- <= 0) return NULL; return __real_realloc(at, size); }
+
+static int wrong;
+#define EXPECT(x) do { if (!(x)) { fprintf(stderr, "line %d: %s\n", __LINE__, #x); wrong = 1; } } while (0)
+
+static size_t item(uint8_t *bytes, const char *digits)
+{
+    size_t n = strlen(digits) / 2;
+    for (size_t i = 0; i < n; i++) sscanf(digits + 2 * i, "%2hhx", &bytes[i]);
+    return n;
+}
+
+/* message 24 with packet 137; a short telegram with packet 44; message 136 with packet 0 */
+static const char *RADIO = "18034000000000080031280620", *SHORT = "A0007F802000CB200C7FFFFFFFFFFFFFFFFFFFFFFFFFFFFFFFFFC0";
+static const char *TRAIN = "8806800078900001348001028C610000FA5000A0015028061060";
+
+static void refused_memory(void)
+{
+    uint8_t bytes[64], before[8192];
+    _Alignas(16) uint8_t out[8192];
+    for (int kind = ETCS_SHORT; kind <= ETCS_TRAIN; kind++) {
+        size_t len = item(bytes, kind == ETCS_TRAIN ? TRAIN : kind == ETCS_RADIO ? RADIO : SHORT);
+        for (int call = 0; call < 6; call++) {
+            etcs_answer a = {0};
+            char line[8192];
+            etcs_field sent[512];
+            if (etcs_fields(kind, bytes, len, sent, 512, &a) != ETCS_OK) { EXPECT(0); return; }
+            size_t count = a.written;
+            if (etcs_to_json(kind, bytes, len, (uint8_t *)line, sizeof line, &a) != ETCS_OK) { EXPECT(0); return; }
+            size_t line_len = a.written;
+            for (long n = 0;; n++) {
+                memset(out, 7, sizeof out), memcpy(before, out, sizeof out);
+                left = n;
+                etcs_status s = call == 0 ? etcs_check(kind, bytes, len, &a)
+                    : call == 1 ? etcs_show(kind, 1, bytes, len, out, sizeof out, &a)
+                    : call == 2 ? etcs_to_json(kind, bytes, len, out, sizeof out, &a)
+                    : call == 3 ? etcs_from_json(kind, (uint8_t *)line, line_len, out, sizeof out, &a)
+                    : call == 4 ? etcs_fields(kind, bytes, len, (etcs_field *)out, sizeof out / sizeof(etcs_field), &a)
+                    : etcs_from_fields(kind, sent, count, out, sizeof out, &a);
+                left = LONG_MAX;
+                if (s == ETCS_OK) { printf("kind %d, call %d: %ld allocations\n", kind, call, n); break; }
+                EXPECT(s == ETCS_NO_MEMORY);
+                EXPECT(!memcmp(out, before, sizeof out));
+                if (n > 1000) { EXPECT(0); break; }
+            }
+        }
+    }
+}
+
+static void short_buffers(void)
+{
+    uint8_t bytes[64], out[4096], wanted[4096];
+    size_t len = item(bytes, RADIO);
+    etcs_answer a = {0};
+    EXPECT(etcs_show(ETCS_RADIO, 1, bytes, len, wanted, sizeof wanted, &a) == ETCS_OK);
+    size_t size = a.written;
+    for (size_t room = 0; room <= size; room++) {
+        memset(out, 7, sizeof out);
+        etcs_status s = etcs_show(ETCS_RADIO, 1, bytes, len, out, room, &a);
+        EXPECT(s == (room < size ? ETCS_NO_ROOM : ETCS_OK) && a.written == size && a.taken == len);
+        for (size_t i = 0; i < sizeof out; i++) EXPECT(out[i] == (room < size || i >= size ? 7 : wanted[i]));
+    }
+    for (size_t n = 0; n < len; n++) EXPECT(etcs_check(ETCS_RADIO, bytes, n, &a) == ETCS_MORE);
+    EXPECT(etcs_check(0, bytes, len, &a) == ETCS_UNKNOWN_KIND && etcs_check(5, bytes, len, &a) == ETCS_UNKNOWN_KIND);
+    bytes[1] = 0x02, bytes[2] = 0xC0;
+    EXPECT(etcs_check(ETCS_RADIO, bytes, 3, &a) == ETCS_REFUSED);
+    printf("refused at bit %zu, %s\n", a.bit, a.var);
+}
+
+static void variables(void)
+{
+    uint8_t bytes[64] = {0}, out[64];
+    etcs_field sent[512], other[512];
+    size_t len = item(bytes, SHORT);
+    etcs_answer a = {0};
+    EXPECT(etcs_fields(ETCS_SHORT, bytes, len, sent, 512, &a) == ETCS_OK);
+    size_t count = a.written;
+    /* ten of the header, three of the frame, a bit of packet 44, packet 255, 128 bits of FILL, PAD */
+    EXPECT(count == 18 && sent[13].var == ETCS_VAR_OTHER_DATA && sent[13].width == 1 && sent[13].number == 1);
+    for (size_t i = 15; i < 17; i++) EXPECT(sent[i].var == ETCS_VAR_FILL && sent[i].width == 64 && sent[i].number == UINT64_MAX);
+    EXPECT(sent[17].var == ETCS_VAR_PAD && sent[17].width == 6 && sent[17].number == 0);
+    /* a run cut elsewhere is the run of no item */
+    memcpy(other, sent, sizeof sent), memmove(other + 17, other + 16, 2 * sizeof *other);
+    other[15].width = 60, other[15].number >>= 4, other[16].width = 4, other[16].number = 15;
+    EXPECT(etcs_from_fields(ETCS_SHORT, other, count + 1, out, len, &a) == ETCS_BAD_FIELDS);
+    for (size_t room = 0; room < count; room++) {
+        memset(other, 7, sizeof other);
+        EXPECT(etcs_fields(ETCS_SHORT, bytes, len, other, room, &a) == ETCS_NO_ROOM && a.written == count && a.taken == len);
+        for (size_t i = 0; i < sizeof other; i++) EXPECT(((uint8_t *)other)[i] == 7);
+    }
+    for (size_t room = 0; room < len; room++) {
+        memset(out, 7, sizeof out);
+        EXPECT(etcs_from_fields(ETCS_SHORT, sent, count, out, room, &a) == ETCS_NO_ROOM && a.written == len);
+        for (size_t i = 0; i < sizeof out; i++) EXPECT(out[i] == 7);
+    }
+    EXPECT(etcs_from_fields(ETCS_SHORT, sent, count, out, len, &a) == ETCS_OK && a.written == len && !memcmp(out, bytes, len));
+    EXPECT(etcs_from_fields(ETCS_RADIO, sent, count, out, len, &a) != ETCS_OK);
+    EXPECT(etcs_from_fields(9, sent, count, out, len, &a) == ETCS_UNKNOWN_KIND);
+    for (size_t n = 0; n < count; n++)
+        EXPECT(etcs_from_fields(ETCS_SHORT, sent, n, out, len, &a) != ETCS_OK);
+    for (size_t i = 0; i < count; i++) {
+        memcpy(other, sent, sizeof sent), other[i].var ^= 1;
+        EXPECT(etcs_from_fields(ETCS_SHORT, other, count, out, len, &a) == ETCS_BAD_FIELDS);
+        memcpy(other, sent, sizeof sent), other[i].width += 1;
+        EXPECT(etcs_from_fields(ETCS_SHORT, other, count, out, len, &a) != ETCS_OK);
+        memcpy(other, sent, sizeof sent), other[i].width = 0xFFFFFFFF;
+        EXPECT(etcs_from_fields(ETCS_SHORT, other, count, out, len, &a) == ETCS_BAD_FIELDS);
+        if (sent[i].width == 64) continue;
+        memcpy(other, sent, sizeof sent), other[i].number = (uint64_t)1 << other[i].width;
+        EXPECT(etcs_from_fields(ETCS_SHORT, other, count, out, len, &a) == ETCS_BAD_FIELDS);
+    }
+    static etcs_field many[70000];
+    for (size_t i = 0; i < 70000; i++) many[i].width = 64;
+    EXPECT(etcs_from_fields(ETCS_SHORT, many, 70000, out, len, &a) == ETCS_BAD_FIELDS);
+    /* one that takes a variable as the header names it */
+    size_t at = etcs_find(sent, count, ETCS_VAR_NID_BG, 0);
+    EXPECT(at < count && sent[at].width == 14 && etcs_bit_of(sent, at) == 35 && etcs_bit_of(sent, count) == 216);
+    EXPECT(etcs_find(sent, count, ETCS_VAR_D_LINK, 0) == count);
+    sent[at].number = 77;
+    EXPECT(etcs_from_fields(ETCS_SHORT, sent, count, out, len, &a) == ETCS_OK);
+    EXPECT(etcs_fields(ETCS_SHORT, out, len, other, 512, &a) == ETCS_OK && other[at].number == 77);
+    EXPECT(!strcmp(etcs_var_name(ETCS_VAR_M_VERSION_HEADER), "M_VERSION") && !*etcs_var_name(ETCS_VAR_COUNT));
+    for (etcs_status s = 0; s < 8; s++) EXPECT(strcmp(etcs_status_text(s), etcs_status_text(99)));
+}
+
+/* Feeds bytes in pieces, and compares the items with those of the bytes at once. */
+static void pieces(etcs_kind kind, const uint8_t *bytes, size_t len, size_t piece)
+{
+    etcs_reader reader;
+    etcs_answer a = {0}, b = {0};
+    size_t item_at = 0;
+    etcs_reader_start(&reader, kind);
+    for (size_t at = 0; at < len; at += piece) {
+        size_t n = len - at < piece ? len - at : piece;
+        for (size_t from = 0, used; from < n; from += used) {
+            etcs_status s = etcs_reader_feed(&reader, bytes + at + from, n - from, &used, &a);
+            if (s == ETCS_OK) {
+                EXPECT(etcs_check(kind, bytes + item_at, len - item_at, &b) == ETCS_OK && a.taken == b.taken);
+                EXPECT(!memcmp(reader.bytes, bytes + item_at, a.taken));
+                item_at += a.taken;
+                EXPECT(item_at == at + from + used);
+            } else if (s == ETCS_REFUSED) {
+                EXPECT(etcs_check(kind, bytes + item_at, len - item_at, &b) == ETCS_REFUSED && a.bit == b.bit && !strcmp(a.var, b.var));
+                EXPECT(a.bit / 8 + item_at >= at && a.bit / 8 + item_at < at + n);
+                EXPECT(etcs_reader_feed(&reader, bytes, len, &used, &b) == ETCS_REFUSED && used == 0 && a.bit == b.bit);
+                return;
+            } else if (s != ETCS_MORE) { EXPECT(0); return; }
+        }
+    }
+    EXPECT(etcs_check(kind, bytes + item_at, len - item_at, &b) == ETCS_MORE && reader.len == len - item_at);
+}
+
+static void *many(void *arg)
+{
+    uint8_t bytes[64], out[4096], wanted[4096];
+    size_t len = item(bytes, SHORT);
+    etcs_answer a = {0};
+    (void)arg;
+    if (etcs_show(ETCS_SHORT, 1, bytes, len, wanted, sizeof wanted, &a)) return (void *)1;
+    size_t size = a.written;
+    for (int i = 0; i < 200000; i++)
+        if (etcs_show(ETCS_SHORT, 1, bytes, len, out, sizeof out, &a) || a.written != size || memcmp(out, wanted, size)) return (void *)1;
+    return NULL;
+}
+
+static void threads(void)
+{
+    pthread_t t[4];
+    void *said;
+    for (int i = 0; i < 4; i++) pthread_create(&t[i], NULL, many, NULL);
+    for (int i = 0; i < 4; i++) { pthread_join(t[i], &said); EXPECT(!said); }
+}
+
+/* How much of a thread's stack the calls touch: painted, and looked at afterwards. */
+static uint8_t file[1 << 20], text[1 << 20], json_text[1 << 20];
+static size_t file_len;
+static etcs_kind file_kind;
+
+static void *all_calls(void *arg)
+{
+    etcs_answer a = {0};
+    int call = *(int *)arg;
+    static etcs_field sent[ETCS_MOST_FIELDS];
+    for (size_t at = 0; at < file_len; at += a.taken) {
+        if (call < 3) {
+            etcs_status s = call == 0 ? etcs_check(file_kind, file + at, file_len - at, &a)
+                : call == 1 ? etcs_show(file_kind, 1, file + at, file_len - at, text, sizeof text, &a)
+                : etcs_to_json(file_kind, file + at, file_len - at, text, sizeof text, &a);
+            if (s) return (void *)1;
+        } else if (call > 3) {
+            if (etcs_fields(file_kind, file + at, file_len - at, sent, ETCS_MOST_FIELDS, &a)) return (void *)1;
+            size_t taken = a.taken;
+            if (call == 5 && etcs_from_fields(file_kind, sent, a.written, text, sizeof text, &a)) return (void *)1;
+            a.taken = taken;
+        } else {
+            if (etcs_to_json(file_kind, file + at, file_len - at, json_text, sizeof json_text, &a)) return (void *)1;
+            size_t taken = a.taken, n = a.written;
+            memmove(json_text + 1, json_text, n), json_text[0] = ' '; /* a blank: by way of a tree */
+            if (etcs_from_json(file_kind, json_text, n + 1, text, sizeof text, &a)) return (void *)1;
+            a.taken = taken;
+        }
+    }
+    return NULL;
+}
+
+static void stack(void)
+{
+    size_t size = 1 << 20;
+    for (int call = 0; call < 6; call++) {
+        uint8_t *room;
+        if (posix_memalign((void **)&room, 4096, size)) return;
+        memset(room, 0xA5, size);
+        pthread_attr_t attr;
+        pthread_t t;
+        void *said;
+        pthread_attr_init(&attr);
+        pthread_attr_setstack(&attr, room, size);
+        pthread_create(&t, &attr, all_calls, &call);
+        pthread_join(t, &said);
+        EXPECT(!said);
+        size_t clean = 0;
+        while (clean < size && room[clean] == 0xA5) clean++;
+        printf("kind %u, call %d: %zu bytes of stack\n", file_kind, call, size - clean);
+        free(room);
+    }
+}
+
+/* Lists and objects in one another, on the stack that etcs.h asks for. */
+static void *deep(void *arg)
+{
+    static const char *const units[] = {"[", "{\"a\":", "[{\"a\":", "{\"kind\":[", "[[],", "[\"\\u0041\","};
+    static const size_t len = 100000;
+    uint8_t *text = malloc(len), out[64];
+    etcs_answer a = {0};
+    (void)arg;
+    for (size_t u = 0; u < sizeof units / sizeof *units; u++)
+        for (etcs_kind kind = ETCS_LONG; kind <= ETCS_TRAIN; kind++) {
+            for (size_t i = 0; i < len; i++) text[i] = (uint8_t)units[u][i % strlen(units[u])];
+            for (size_t n = 1; n <= len; n = n < 2000 ? n + 1 : n * 3)
+                EXPECT(etcs_from_json(kind, text, n, out, sizeof out, &a) == ETCS_BAD_JSON);
+        }
+    free(text);
+    return NULL;
+}
+
+static void deep_json(void)
+{
+    size_t size = 256 << 10, clean = 0;
+    uint8_t *room;
+    pthread_attr_t attr;
+    pthread_t t;
+    if (posix_memalign((void **)&room, 4096, size)) return;
+    memset(room, 0xA5, size);
+    pthread_attr_init(&attr);
+    pthread_attr_setstack(&attr, room, size);
+    pthread_create(&t, &attr, deep, NULL);
+    pthread_join(t, NULL);
+    while (clean < size && room[clean] == 0xA5) clean++;
+    printf("deep JSON: %zu bytes of stack\n", size - clean);
+    free(room);
+}
+
+/* All calls over buffers of exactly their lengths, in which valgrind sees each byte too far. */
+static void exact(const uint8_t *bytes, size_t len, size_t taken)
+{
+    etcs_answer a = {0};
+    uint8_t *in = malloc(len);
+    memcpy(in, bytes, len);
+    etcs_status s = etcs_check(file_kind, in, len, &a);
+    EXPECT(s == (len < taken ? ETCS_MORE : ETCS_OK));
+    if (s == ETCS_OK) {
+        EXPECT(etcs_show(file_kind, 1, in, len, in, 0, &a) == ETCS_NO_ROOM);
+        size_t n = a.written;
+        uint8_t *out = malloc(n);
+        EXPECT(etcs_show(file_kind, 1, in, len, out, n, &a) == ETCS_OK && a.written == n);
+        free(out);
+        EXPECT(etcs_to_json(file_kind, in, len, in, 0, &a) == ETCS_NO_ROOM);
+        out = malloc(n = a.written);
+        EXPECT(etcs_to_json(file_kind, in, len, out, n, &a) == ETCS_OK && a.written == n);
+        uint8_t *back = malloc(taken);
+        EXPECT(etcs_from_json(file_kind, out, n, back, taken, &a) == ETCS_OK && !memcmp(back, in, taken));
+        free(out), free(back), back = malloc(taken);
+        etcs_field *sent = malloc(sizeof(etcs_field) * ETCS_MOST_FIELDS);
+        EXPECT(etcs_fields(file_kind, in, len, sent, ETCS_MOST_FIELDS, &a) == ETCS_OK);
+        sent = realloc(sent, sizeof(etcs_field) * a.written);
+        EXPECT(etcs_fields(file_kind, in, len, sent, a.written, &a) == ETCS_OK);
+        EXPECT(etcs_from_fields(file_kind, sent, a.written, back, taken, &a) == ETCS_OK && !memcmp(back, in, taken));
+        free(sent), free(back);
+    }
+    free(in);
+}
+
+/* Of each item: the calls against each other, pieces, and each bit turned. */
+static void items(void)
+{
+    static etcs_field sent[ETCS_MOST_FIELDS];
+    static uint8_t out[ETCS_MOST_BYTES];
+    etcs_answer a = {0}, b = {0};
+    size_t count = 0, most = 0, refused = 0;
+    for (size_t at = 0, taken; at < file_len; at += taken, count++) {
+        uint8_t *front = file + at;
+        if (etcs_check(file_kind, front, file_len - at, &a)) { EXPECT(0); return; }
+        taken = a.taken;
+        EXPECT(etcs_check(file_kind, front, taken, &b) == ETCS_OK && b.taken == taken);
+        EXPECT(etcs_fields(file_kind, front, taken, sent, ETCS_MOST_FIELDS, &a) == ETCS_OK && a.taken == taken);
+        size_t fields = a.written;
+        if (fields > most) most = fields;
+        EXPECT(etcs_bit_of(sent, fields) == 8 * taken);
+        EXPECT(etcs_from_fields(file_kind, sent, fields, out, sizeof out, &a) == ETCS_OK && a.written == taken && !memcmp(out, front, taken));
+        EXPECT(etcs_to_json(file_kind, front, taken, json_text, sizeof json_text, &a) == ETCS_OK);
+        EXPECT(etcs_from_json(file_kind, json_text, a.written, out, sizeof out, &a) == ETCS_OK && a.written == taken && !memcmp(out, front, taken));
+        if (count % 31 == 0)
+            for (size_t n = 1; n <= taken; n++)
+                exact(front, n, taken);
+        if (count % 97 == 0)
+            for (size_t bit = 0; bit < 8 * taken; bit++) {
+                front[bit / 8] ^= 0x80 >> bit % 8;
+                etcs_status s = etcs_check(file_kind, front, taken, &a);
+                EXPECT(etcs_fields(file_kind, front, taken, sent, ETCS_MOST_FIELDS, &b) == s && a.bit == b.bit && !strcmp(a.var, b.var));
+                if (s == ETCS_OK && a.taken == taken)
+                    EXPECT(etcs_from_fields(file_kind, sent, b.written, out, sizeof out, &b) == ETCS_OK && !memcmp(out, front, taken));
+                if (s == ETCS_REFUSED) refused++, pieces(file_kind, front, taken, 1 + bit % 40);
+                front[bit / 8] ^= 0x80 >> bit % 8;
+            }
+    }
+    for (size_t piece = 1; piece < 300; piece += piece / 4 + 1)
+        pieces(file_kind, file, file_len < 20000 ? file_len : 20000, piece);
+    printf("kind %u: %zu items, at most %zu fields, %zu turned bits refused\n", file_kind, count, most, refused);
+}
+
+int main(int argc, char **argv)
+{
+    if (argc > 2) {
+        file_kind = (etcs_kind)atoi(argv[1]);
+        FILE *f = fopen(argv[2], "rb");
+        file_len = f ? fread(file, 1, sizeof file, f) : 0;
+        if (argc < 4) stack();
+        items();
+    } else {
+        refused_memory();
+        short_buffers();
+        variables();
+        for (size_t n = 1; n < 100; n++) {
+            uint8_t bytes[256];
+            size_t len = 0;
+            for (int i = 0; i < 3; i++) len += item(bytes + len, RADIO);
+            pieces(ETCS_RADIO, bytes, len, n);
+        }
+        if (argc < 2) deep_json(), threads();
+    }
+    puts(wrong ? "something is wrong" : "all is well");
+    return wrong;
+}

@@ -1,0 +1,144 @@
+#!/usr/bin/env python3
+"""Compares etcs.h with the exports of crates/etcs_c/src: names, types in order, the structs and the constants; and the
+tables of variables for C, Python and Ada with the specs.
+
+    doors/header.py            the status is 0 where they agree; nothing else compares them
+    doors/header.py --write    writes the tables anew
+"""
+import os
+import re
+import sys
+
+VARS_H, VARS_PY, VARS_ADS = "doors/c/etcs_vars.h", "doors/python/src/etcs/_variables.py", "doors/ada/etcs-variables.ads"
+TOP = os.path.join(os.path.dirname(os.path.abspath(__file__)), "..")
+C_TYPES = {
+    "u32": ["uint32_t"], "u64": ["uint64_t"], "usize": ["size_t"], "Global": [],
+    "&[u8]": ["const uint8_t *", "size_t"], "&mut [u8]": ["uint8_t *", "size_t"],
+    "&mut EtcsAnswer": ["etcs_answer *"], "&mut [EtcsField]": ["etcs_field *", "size_t"], "&[EtcsField]": ["const etcs_field *", "size_t"], "[u8; 32]": ["char", "[32]"],
+}
+
+
+def source(name):
+    with open(os.path.join(TOP, name), encoding="utf-8") as file:
+        return re.sub(r"//.*|/\*.*?\*/", "", file.read(), flags=re.S if name.endswith(".h") else 0)
+
+
+def exports(text):
+    """Each export's C types, its result first."""
+    for name, args, result in re.findall(r'#\[unsafe\(no_mangle\)\]\s*pub extern "C" fn (\w+)\((.*?)\)\s*-> (\w+)', text, re.S):
+        types = [arg.split(":", 1)[1].strip() for arg in args.split(",") if arg.strip()]
+        yield name, C_TYPES[result] + [c for each in types for c in C_TYPES[each]]
+
+
+def declared(text):
+    """Each declaration's types, without the names of its arguments."""
+    named = dict(re.findall(r"typedef (uint32_t) (\w+);", text) and [(b, a) for a, b in re.findall(r"typedef (uint32_t) (\w+);", text)])
+    for result, name, args in re.findall(r"^(\w+) (etcs_\w+)\(([^;{]*)\);", text, re.M):
+        types = [re.match(r"((?:const )?\w+ \*?)\s*\w+$", " ".join(arg.split())).group(1).strip() for arg in args.split(",")]
+        yield name, [named.get(each, each) for each in [result, *types]]
+
+
+def names():
+    """Each variable's name as the standard prints it, and its width, by its name in code."""
+    text = source("crates/etcs_vars/specs/Vars.antt")
+    rows = re.findall(r'^variable Var\.(\w+) = (?:only|all) "(\w+)" (\d+)', text, re.M)
+    return {var: (name, int(width)) for var, name, width in rows}
+
+
+def vars_h(table):
+    """etcs_vars.h."""
+    known = names()
+    rows = " \\\n".join(f'    X({number}, {var}, "{known[var][0]}")' for var, number in table.items())
+    return f"""/* The variables: number, name in C, name as the standard prints it. Written by doors/header.py from the specs. */
+#ifndef ETCS_VARS_H
+#define ETCS_VARS_H
+
+#include <stdint.h>
+
+#define ETCS_VARS(X) \\
+{rows}
+
+enum {{
+#define ETCS_VAR(number, name, text) ETCS_VAR_##name = number,
+    ETCS_VARS(ETCS_VAR)
+#undef ETCS_VAR
+    ETCS_VAR_COUNT
+}};
+
+/* A variable's name; "" where none has the number. */
+static inline const char *etcs_var_name(uint32_t var)
+{{
+    static const char *const names[] = {{
+#define ETCS_VAR(number, name, text) text,
+        ETCS_VARS(ETCS_VAR)
+#undef ETCS_VAR
+    }};
+    return var < ETCS_VAR_COUNT ? names[var] : "";
+}}
+
+#endif
+"""
+
+
+def vars_py(table):
+    """_variables.py."""
+    known = names()
+    rows = "".join(f'    ("{known[var][0]}", {known[var][1]}),  # {number}\n' for var, number in table.items())
+    return f"""# Written by doors/header.py from the specs.
+_TABLE = (
+{rows})
+
+#: the names of variables, by their numbers in the library
+VARIABLES = tuple(name for name, _ in _TABLE)
+
+#: how many bits each takes
+WIDTHS = tuple(width for _, width in _TABLE)
+"""
+
+
+def vars_ads(table):
+    """etcs-variables.ads."""
+    rows = "".join(f"   {var} : constant Unsigned_32 := {number};\n" for var, number in table.items())
+    return f"""--  The variables by their numbers. Written by doors/header.py from the specs.
+package Etcs.Variables is
+
+{rows}
+end Etcs.Variables;
+"""
+
+
+def main():
+    rattle = source("crates/etcs_c/src/lib.rt")
+    answer = source("crates/etcs_c/src/answer.rt")
+    header = source("doors/c/etcs.h")
+    ours, theirs = dict(exports(rattle)), dict(declared(header))
+    wrong = [f"{name}: {ours.get(name)} in the source, {theirs.get(name)} in the header" for name in sorted({*ours, *theirs}) if ours.get(name) != theirs.get(name)]
+    structs = [("etcs_answer", "EtcsAnswer", answer), ("etcs_field", "EtcsField", source("crates/etcs_c/src/fields.rt"))]
+    count = 0
+    for c_name, name, text in structs:
+        body = re.search(r"pub struct %s \{(.*?)\n\}" % name, text, re.S).group(1)
+        members = re.search(r"typedef struct %s \{(.*?)\}" % c_name, header, re.S).group(1)
+        fields = [(n, C_TYPES[t]) for n, t in re.findall(r"pub (\w+): ([^,]+),", body)]
+        theirs_ = [(n, [t] + ([a] if a else [])) for t, n, a in re.findall(r"(\w+) (\w+)(\[\d+\])?;", members)]
+        count += len(fields)
+        if fields != theirs_:
+            wrong.append(f"{c_name}: {fields} in the source, {theirs_} in the header")
+    table = dict(re.findall(r"^var_number (\w+) = (\d+)", source("crates/etcs_c/specs/Fields.antt"), re.M))
+    for path, text in ((VARS_H, vars_h(table)), (VARS_PY, vars_py(table)), (VARS_ADS, vars_ads(table))):
+        if "--write" in sys.argv:
+            with open(os.path.join(TOP, path), "w", encoding="utf-8") as file:
+                file.write(text)
+        elif not os.path.exists(os.path.join(TOP, path)) or open(os.path.join(TOP, path), encoding="utf-8").read() != text:
+            wrong.append(f"{path} isn't what the specs say: doors/header.py --write")
+    renamed = {"WHOLE": "OK"}
+    numbers = {renamed.get(n, n): int(v) for n, v in re.findall(r"pub\(crate\) const (\w+): u32 = (\d+);", answer)}
+    kinds = {n.upper(): int(v) for v, n in re.findall(r"(\d+) => Some\(Kind::(\w+)\)", source("crates/etcs_c/src/kind.rt"))}
+    constants = {n: int(v) for n, v in re.findall(r"ETCS_(\w+) = (\d+)", header)}
+    if {**numbers, **kinds} != constants:
+        wrong.append(f"constants: { {**numbers, **kinds} } in the source, {constants} in the header")
+    print("\n".join(wrong) or f"etcs.h agrees with {len(ours)} exports, {count} members, {len(constants)} constants and {len(table)} variables")
+    return 1 if wrong else 0
+
+
+if __name__ == "__main__":
+    sys.exit(main())

@@ -1,6 +1,6 @@
 -- What is said of the bits so far, variable by variable.
 use Rattle.std.proofs.Common.{◌≡◌, ℕ, ◌+◌, ◌*◌, ◌≤◌, ◌<◌, min, Bool, true, false, List, [], ◌∷◌, ◌++◌, length, take, drop, Some, None, refl, sym, ap, subst, ◌∙◌, arith, append_assoc, inl, inr}
-use Rattle.std.specs.Prelude.{Option, IfSome, is_none, nat_lt, slice_index_or, if◌then◌else◌}
+use Rattle.std.specs.Prelude.{Option, IfSome, is_some, nat_lt, slice_index_or, if◌then◌else◌}
 use Rattle.std.proofs.lemmas.Bool.{cases_lt, lt-ltb}
 use Rattle.std.proofs.lemmas.Grind.{take_at_read}
 use Rattle.std.proofs.lemmas.List.{append-nil, length-append, length-take-le, take_all, take_at, take-append-drop}
@@ -39,6 +39,10 @@ whole_unrefused L regular p b a i x r = none_refused L regular b i x r a.1 a.2 (
 pub open_unrefused : (L : Reading → Type 0) (p : Reading) (part : Part) (b : List Bool) → Accounts L p (end.Open part) b → (i : ℕ) (x : Var) → Refuses L b i x → ⊥
 open_unrefused L p part b a i x r = r.blocked (viable_front L (i + 1) b a.1.viable)
 
+-- a part of equal values
+pub through : {A B : Type 0} (x y : A) (f : A → B) → x ≡ y → f x ≡ f y
+through x y f e = ap f e
+
 -- ---- One bit of a list.
 
 pub bit_at : (xs : List Bool) (at : ℕ) (b : Bool) → at < length xs → (if nat_lt at (length xs) then Some (slice_index_or xs at false) else None) ≡ Some b → take (at + 1) xs ≡ take at xs ++ b ∷ []
@@ -48,7 +52,7 @@ bit_at xs at b lt e =
     let is : slice_index_or xs at false ≡ b = cc in
     (take_at_read xs at false lt).1 ∙ ap (λ (c : Bool). take at xs ++ c ∷ []) is
 
-pub some_of : (o : Option Var) (P : Var → Type 0) → is_none o ≡ false → IfSome o P → (y : Var) × P y
+pub some_of : (o : Option Var) (P : Var → Type 0) → is_some o ≡ true → IfSome o P → (y : Var) × P y
 some_of None P e h = absurd cc
 some_of (Some y) P e h = (y, h)
 

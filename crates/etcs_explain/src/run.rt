@@ -1,5 +1,7 @@
 //! A run: the items of an input, explained one after another.
 
+ghost use Rattle.std.specs.Prelude.{◌<◌, length, IfSome};
+
 use crate::account::{Account, End, MOST_BYTES};
 use crate::front::way_of;
 use crate::json::{Wrong, test_json, word};
@@ -371,6 +373,14 @@ impl Held {
     }
 }
 
+/// The characters before the first LF, and those after it.
+fn split_line(text: &[u8]) -> Option<(&[u8], &[u8])>
+    ensures { IfSome result (λ p. length p.1.now < length text.now) }
+{
+    let at = memchr(b'\n', text)?;
+    Some((&text[..at], &text[at + 1..]))
+}
+
 /// Keeps a part of a line, of which no more is kept than shows that it is too long.
 fn keep(begun: &mut Vec<u8>, part: &[u8]) -> Result<(), RunFault> {
     let room = (MOST_LINE + 2).saturating_sub(begun.len());
@@ -420,9 +430,9 @@ impl Lines {
     /// Takes a piece of the input.
     fn feed<W: Write>(&mut self, piece: &[u8], explainer: &mut Explainer<W>) -> Result<(), RunFault> {
         let mut rest = piece;
-        while let Some(at) = memchr(b'\n', rest) {
-            self.end_line(&rest[..at], explainer)?;
-            rest = &rest[at + 1..];
+        while let Some((line, behind)) = split_line(rest) {
+            self.end_line(line, explainer)?;
+            rest = behind;
         }
         keep(&mut self.begun, rest)
     }

@@ -41,6 +41,7 @@ static GROUP_KINDS_HELP: &str = "Balise telegrams of 830 user bits (long) or of 
 /// What help says of `--good` and `--summary`.
 static GOOD_HELP: &str =
     "Write the good lines' digits, and what is said of bad lines to standard error";
+
 static SUMMARY_HELP: &str =
     "Count items, bad lines, packets and messages by number and refusals by variable";
 
@@ -264,7 +265,9 @@ fn log<'a>(alloc: Global) -> Result<Line<'a>, AllocError> {
         line.arg(flag(alloc, "good", GOOD_HELP))?
             .arg(flag(alloc, "summary", SUMMARY_HELP))?
             .about("Read a log, an item a line, and say of each line that is no item why")
-            .after_help("Example: etcs log --kind short --good < balises.log | etcs group --kind short"),
+            .after_help(
+                "Example: etcs log --kind short --good < balises.log | etcs group --kind short",
+            ),
     )
 }
 

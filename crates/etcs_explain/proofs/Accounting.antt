@@ -89,8 +89,7 @@ module _ {S : Type 0} (left : S → Reading → Type 0) (regular : (s : S) → R
   pub account_whole : (s : S) (r : Reading) (xs part : List Bool) (n : ℕ) → At s r (take n xs) part → n ≤ length xs → part ≡ [] → left s [] → Accounts L r end.Whole xs
   account_whole s r xs part n f le gone l =
       let same_read = read_is s r (take n xs) part f in
-      let all : L f.whole = subst L (append-nil f.whole) ((same (f.whole ++ [])).0 ((residual start s f.whole f.follows.0).from [] l)) in
-      (
+      let all : L f.whole = subst L (append-nil f.whole) ((same (f.whole ++ [])).0 ((residual start s f.whole f.follows.0).from [] l)) in (
         subst L (sym same_read) all,
         n,
         le,

@@ -48,12 +48,15 @@ static HEADER: [RowItem; 10] = [
     RowItem::One(Var::NID_BG),
     RowItem::One(Var::Q_LINK),
 ];
+
 static TO_TRAIN: [RowItem; 3] = [
     RowItem::One(Var::T_TRAIN),
     RowItem::One(Var::M_ACK),
     RowItem::One(Var::NID_LRBG),
 ];
+
 static TO_TRACK: [RowItem; 2] = [RowItem::One(Var::T_TRAIN), RowItem::One(Var::NID_ENGINE)];
+
 static MARKER: [RowItem; 1] = [RowItem::One(Var::NID_VBCMK)];
 
 /// The word of a kind.
@@ -142,7 +145,8 @@ fn test_bits(alloc: Global, value: &Value, name: &str, wanted: usize) -> Result<
 fn number_of(alloc: Global, at: &str, value: &Value, var: Var) -> Result<u64, Wrong> {
     if var == Var::NID_RADIO {
         return match value.as_str() {
-            Some(text) if text.len() == 16 && text.as_bytes().iter().all(u8::is_ascii_hexdigit) => Ok(0),
+            Some(text) if text.len() == 16 && text.as_bytes().iter().all(u8::is_ascii_hexdigit) =>
+                Ok(0),
             _ => wrong!(alloc; "{at}: NID_RADIO is a text of 16 hexadecimal digits"),
         };
     }

@@ -72,7 +72,11 @@ fn write_bits(byte: u8, refused: Option<usize>, out: &mut String) -> Result<(), 
         } else {
             "<i>"
         })?;
-        out.push(if (byte >> (7 - place)) & 1 == 1 { '1' } else { '0' })?;
+        out.push(if (byte >> (7 - place)) & 1 == 1 {
+            '1'
+        } else {
+            '0'
+        })?;
         out.push_str("</i>")?;
     }
     Ok(())

@@ -136,7 +136,10 @@ fn write_no_packet(front: &Front, number: Option<u64>, out: &mut String) -> Resu
     if row.is_none() && (number == 0 || number == 255) && way == Way::ToTrain {
         return match front.kind {
             Kind::Radio => write!(out, "a message has no packet {number}"),
-            _ => write!(out, "packet {number} and packet 255 have 22 bits, and {room} are left"),
+            _ => write!(
+                out,
+                "packet {number} and packet 255 have 22 bits, and {room} are left"
+            ),
         };
     }
     let frame = frame_bits(way);
@@ -145,7 +148,10 @@ fn write_no_packet(front: &Front, number: Option<u64>, out: &mut String) -> Resu
         None => frame,
     };
     if least > room {
-        write!(out, "packet {number} has at least {least} bits, and {room} are left")
+        write!(
+            out,
+            "packet {number} has at least {least} bits, and {room} are left"
+        )
     } else {
         write!(out, "packet {number} has at least {least} bits, and that ")?;
         write_rest(front.kind, room.saturating_sub(least), out)
@@ -183,17 +189,27 @@ fn write_no_length(front: &Front, number: Option<u64>, out: &mut String) -> Resu
             return write!(out, ", not {length}");
         }
     } else if length < frame {
-        return write!(out, "a packet has at least {frame} bits, and L_PACKET says {length}");
+        return write!(
+            out,
+            "a packet has at least {frame} bits, and L_PACKET says {length}"
+        );
     }
     if length > room {
-        return write!(out, "L_PACKET {length} is more than the {room} bits that are left");
+        return write!(
+            out,
+            "L_PACKET {length} is more than the {room} bits that are left"
+        );
     }
     write!(out, "L_PACKET {length} ")?;
     write_rest(front.kind, room.saturating_sub(length), out)
 }
 
 /// Appends why the message hasn't this length.
-fn write_no_message(front: &Front, number: Option<u64>, out: &mut String) -> Result<(), AllocError> {
+fn write_no_message(
+    front: &Front,
+    number: Option<u64>,
+    out: &mut String,
+) -> Result<(), AllocError> {
     write!(out, "message {} has ", front.message)?;
     write_ranges(message_lengths(way_of(front.kind), front.message), out)?;
     match number {
@@ -203,12 +219,7 @@ fn write_no_message(front: &Front, number: Option<u64>, out: &mut String) -> Res
 }
 
 /// Appends why a packet of its length can't have this number, which the variable admits.
-fn write_no_fit(
-    front: &Front,
-    var: Var,
-    number: u64,
-    out: &mut String,
-) -> Result<(), AllocError> {
+fn write_no_fit(front: &Front, var: Var, number: u64, out: &mut String) -> Result<(), AllocError> {
     let Some(place) = &front.place else {
         return write!(out, "{} {number} doesn't fit", var.name());
     };
@@ -226,12 +237,7 @@ fn write_no_fit(
 }
 
 /// Appends which numbers of a variable fit in place of one that doesn't, at most four of them.
-fn write_fitting(
-    place: &Place,
-    var: Var,
-    left: usize,
-    out: &mut String,
-) -> Result<(), AllocError> {
+fn write_fitting(place: &Place, var: Var, left: usize, out: &mut String) -> Result<(), AllocError> {
     let mut count = 0usize;
     for number in 0..256 {
         let fits = match place.after(number) {

@@ -42,11 +42,7 @@ fn is_meant(kind: Kind, bytes: &[u8]) -> bool {
 }
 
 /// The kind, if there is another, of whose items the bytes are one.
-fn kind_of_all(
-    alloc: Global,
-    kind: Kind,
-    bytes: &[u8],
-) -> Result<Option<Kind>, AllocError> {
+fn kind_of_all(alloc: Global, kind: Kind, bytes: &[u8]) -> Result<Option<Kind>, AllocError> {
     for other in &KINDS {
         if *other != kind && is_meant(*other, bytes) {
             let account = Account::read(alloc, *other, bytes)?;

@@ -206,12 +206,16 @@ impl<W: Write> Explainer<W> {
         if before == 0 {
             held.line = number;
         }
-        held.bytes.extend_from_slice(bytes.as_slice()).map_err(memory)?;
+        held.bytes
+            .extend_from_slice(bytes.as_slice())
+            .map_err(memory)?;
         if before > 0 && self.is_refused(held.bytes.as_slice())? {
             held.bytes.truncate(before);
             self.end_held(held)?;
             held.line = number;
-            held.bytes.extend_from_slice(bytes.as_slice()).map_err(memory)?;
+            held.bytes
+                .extend_from_slice(bytes.as_slice())
+                .map_err(memory)?;
         }
         match self.items(held.bytes.as_slice(), held.line)? {
             Some(at) => held.pass(at, number),
@@ -266,8 +270,9 @@ impl<W: Write> Explainer<W> {
                     bit,
                     var,
                 });
-                let text = format!(in self.alloc; "the bits of its data are refused at bit {bit}, {var}")
-                    .map_err(memory)?;
+                let text = format!(in self.alloc;
+                    "the bits of its data are refused at bit {bit}, {var}"
+                ).map_err(memory)?;
                 self.wrong(number, text.as_str())
             }
             Err(JsonFault::Memory) => Err(RunFault::Memory),
@@ -324,7 +329,9 @@ fn json_reason(alloc: Global, kind: Kind, line: &[u8]) -> Result<String, AllocEr
             }
             let column = error.column();
             return if error.is_eof() {
-                format!(in alloc; "no JSON: it ends at column {column}, inside a value; jq -c . makes one line of several")
+                format!(in alloc;
+                    "no JSON: it ends at column {column}, inside a value; jq -c . makes one line of several"
+                )
             } else {
                 format!(in alloc; "no JSON: another character is wanted at column {column}")
             };
@@ -410,7 +417,11 @@ impl Lines {
     }
 
     /// A line ends here, of which this is the last part.
-    fn end_line<W: Write>(&mut self, part: &[u8], explainer: &mut Explainer<W>) -> Result<(), RunFault> {
+    fn end_line<W: Write>(
+        &mut self,
+        part: &[u8],
+        explainer: &mut Explainer<W>,
+    ) -> Result<(), RunFault> {
         keep(&mut self.begun, part)?;
         self.number = self.number.saturating_add(1);
         let line = without_cr(self.begun.as_slice());
@@ -428,7 +439,11 @@ impl Lines {
     }
 
     /// Takes a piece of the input.
-    fn feed<W: Write>(&mut self, piece: &[u8], explainer: &mut Explainer<W>) -> Result<(), RunFault> {
+    fn feed<W: Write>(
+        &mut self,
+        piece: &[u8],
+        explainer: &mut Explainer<W>,
+    ) -> Result<(), RunFault> {
         let mut rest = piece;
         while let Some((line, behind)) = split_line(rest) {
             self.end_line(line, explainer)?;
@@ -485,7 +500,9 @@ fn run_bytes<R: Read, W: Write>(
         if count == 0 {
             return explainer.end_held(&mut held);
         }
-        held.bytes.extend_from_slice(&buffer[..count]).map_err(memory)?;
+        held.bytes
+            .extend_from_slice(&buffer[..count])
+            .map_err(memory)?;
         match explainer.items(held.bytes.as_slice(), 0)? {
             Some(at) => held.pass(at, 0),
             None => return Ok(()),
@@ -531,7 +548,9 @@ pub fn explain<R: Read + Drop, W: Write + Drop>(
     explainer.send()?;
     match explainer.output.flush() {
         Ok(()) => {}
-        Err(_) => return Err(RunFault::Write { sent: explainer.sent }),
+        Err(_) => return Err(RunFault::Write {
+            sent: explainer.sent,
+        }),
     }
     match explainer.first {
         Some(fault) => Err(fault),

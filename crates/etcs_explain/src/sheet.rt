@@ -87,7 +87,8 @@ impl Sheet {
         match self.layout {
             Layout::Text => {
                 self.out.push_str(self.meaning.as_str())?;
-                self.out.push_str("\n  bits        variable              number  meaning\n")
+                self.out
+                    .push_str("\n  bits        variable              number  meaning\n")
             }
             Layout::Html => {
                 self.out.push_str("<h2>")?;
@@ -130,10 +131,7 @@ impl Sheet {
                 pad(&mut self.out, start.saturating_add(depth.saturating_mul(2)))?;
                 writeln!(self.out, "  entry {entry} of {count}")
             }
-            Layout::Html => writeln!(
-                self.out,
-                "<tr><th colspan=4>entry {entry} of {count}"
-            ),
+            Layout::Html => writeln!(self.out, "<tr><th colspan=4>entry {entry} of {count}"),
         }
     }
 
@@ -158,7 +156,10 @@ impl Sheet {
         pad(&mut self.out, start.saturating_add(14))?;
         self.out.push_str(name)?;
         let width = self.value.len().saturating_add(1);
-        pad(&mut self.out, start.saturating_add(42usize.saturating_sub(width)))?;
+        pad(
+            &mut self.out,
+            start.saturating_add(42usize.saturating_sub(width)),
+        )?;
         write!(self.out, " {}", self.value)?;
         if !self.meaning.is_empty() {
             write!(self.out, "  {}", self.meaning)?;

@@ -27,10 +27,7 @@ pub(crate) struct Table<'a> {
 
 /// Whether each bit is a variable of its own, of which one line speaks.
 fn is_kept(var: Var) -> bool {
-    matches!(
-        var,
-        Var::FILL | Var::OTHER_DATA | Var::PADDING | Var::PAD
-    )
+    matches!(var, Var::FILL | Var::OTHER_DATA | Var::PADDING | Var::PAD)
 }
 
 impl<'a> Table<'a> {
@@ -249,7 +246,9 @@ impl<'a> Table<'a> {
         }
         if ones == 0 || ones == count {
             sheet.meaning.clear();
-            sheet.meaning.push_str(if ones == 0 { "all zeros" } else { "all ones" })?;
+            sheet
+                .meaning
+                .push_str(if ones == 0 { "all zeros" } else { "all ones" })?;
         }
         let last = self.bit.saturating_sub(1);
         sheet.line(0, Span { first, last }, var.name(), false)

@@ -109,12 +109,7 @@ impl Lines {
     /// # Errors
     ///
     /// Where memory is refused.
-    fn take_bytes(
-        &mut self,
-        number: u64,
-        bytes: &[u8],
-        texts: &mut Texts,
-    ) -> Result<(), AllocError>
+    fn take_bytes(&mut self, number: u64, bytes: &[u8], texts: &mut Texts) -> Result<(), AllocError>
         requires fresh { (self.old.reader.kind ≡ self.old.job.kind) × IsFresh self.old.job.kind self.old.reader.reader }
         requires items { self.old.tally.items < 2 ^ 63 }
         requires bad { self.old.tally.bad < 2 ^ 63 }

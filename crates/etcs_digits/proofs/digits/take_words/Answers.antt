@@ -57,9 +57,10 @@ loop-before-preserved c =
       bytes = λ behind h. (
           let taken = i.bytes behind h in
           let yes : c.decode.result ≡ true = cc in
-          let one : decode_of (bare word) ≡ Ok c.decode.new.bytes = subst (λ (z : List ℕ). decode_of z ≡ Ok c.decode.new.bytes) value (c.decode.ensures.bytes yes) in
-          (bare word ++ taken.0,
+          let one : decode_of (bare word) ≡ Ok c.decode.new.bytes = subst (λ (z : List ℕ). decode_of z ≡ Ok c.decode.new.bytes) value (c.decode.ensures.bytes yes) in (
+            bare word ++ taken.0,
             decode_of-append (bare word) taken.0 c.decode.new.bytes (drop here c.loop-before.buffer) one taken.1 ∙ ap Ok (sym (drop-put_mid_here (here - half) (here - (here - half)) here c.loop-before.buffer c.decode.new.bytes (omega (arith, i.before, i.same, fits)) long_bytes (omega (arith, room)))),
-            taken.2 ∙ take_more_digits at n c.loop-before.rest.now c.in-Some.before.now word c.in-Some.ensures.some digit taken.0)
+            taken.2 ∙ take_more_digits at n c.loop-before.rest.now c.in-Some.before.now word c.in-Some.ensures.some digit taken.0,
+          )
           );
     }

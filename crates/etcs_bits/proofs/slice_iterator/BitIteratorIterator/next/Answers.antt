@@ -8,5 +8,5 @@ returns-clause-steps c =
     let w = c.self.inside.walker in
     let n = c.in_ok-number.number in
     sym c.self.view_is
-        ∙ first_bit w.bits w.place n (sym c.in_ok-number.ensures.number)
-        ∙ ap (λ (s : SliceWalk). nat_eq n 1 ∷ drop s.place s.bits) (sym c.in_ok-number.ensures.moved)
+    ∙ first_bit w.bits w.place n (sym c.in_ok-number.ensures.number)
+    ∙ ap (λ (s : SliceWalk). nat_eq n 1 ∷ drop s.place s.bits) (sym c.in_ok-number.ensures.moved)

@@ -8,6 +8,6 @@ pub returns : goal.returns
 returns c =
     let s = c.args.self in
     elim c.if-at-bytes.branch [
-      then-at-bytes w ↦ last_written s c.if-at-bytes.bytes w.number.result w.min-count.result w.if-at-bytes.true w.min-count.ensures (omega arith) w.number.ensures.bits w.number.ensures.few (w.bytes-is ∙ w.write_front.ensures)
-    | else-at-bytes w ↦ subst (IsWritten s) (sym w.bytes-is) (none_written s (omega (arith, w.if-at-bytes.false)))
+      | then-at-bytes w ↦ last_written s c.if-at-bytes.bytes w.number.result w.min-count.result w.if-at-bytes.true w.min-count.ensures (omega arith) w.number.ensures.bits w.number.ensures.few (w.bytes-is ∙ w.write_front.ensures)
+      | else-at-bytes w ↦ subst (IsWritten s) (sym w.bytes-is) (none_written s (omega (arith, w.if-at-bytes.false)))
     ]

@@ -49,7 +49,7 @@ pub fn exact_equality<H: Head + PartialEq, B: Own<Front = H> + PartialEq>(
 ///
 /// # Errors
 ///
-/// Where memory was refused, for the bytes or for the reader, and for no other cause.
+/// Where memory was refused, for the bytes or for the reader.
 pub fn round_trip<H: Head, B: Own<Front = H>>(
     alloc: Global,
     message: &MessageOf<H, B>,
@@ -102,7 +102,7 @@ fn append_again<H: Head, B: Own<Front = H>>(
 ///
 /// # Errors
 ///
-/// Where memory was refused, for the reader or for the bytes, and for no other cause. `out` then stays as it was.
+/// Where memory was refused, for the reader or for the bytes. `out` then stays as it was.
 pub fn read_back<H: Head, B: Own<Front = H>>(
     alloc: Global,
     bytes: &[u8],

@@ -47,7 +47,7 @@ pub fn exact_equality(first: &Telegram, second: &Telegram) -> bool
 ///
 /// # Errors
 ///
-/// Where the reader was refused memory, and for no other cause.
+/// Where the reader was refused memory.
 pub fn round_trip(alloc: Global, telegram: &Telegram) -> Result<Telegram, AllocError>
     ensures { IfOk result (λ again. again ≡ telegram.now) }
 {
@@ -85,7 +85,7 @@ fn write_over(telegram: &Telegram, out: &mut [u8])
 ///
 /// # Errors
 ///
-/// Where the reader was refused memory, and for no other cause.
+/// Where the reader was refused memory.
 pub fn read_back(
     alloc: Global,
     size: Size,

@@ -10,7 +10,8 @@ use std::fmt;
 
 /// A variable of telegrams and radio messages, under its name in the standard (SUBSET-026, 7.5).
 ///
-/// Its number is sent in [`width`](Var::width) bits, the most significant first.
+/// Its number is sent in [`width`](Var::width) bits, the most significant first. Distances (`D_`) and lengths (`L_`) are
+/// in steps of Q_SCALE where nothing else is said.
 #[derive(Clone, Copy, Debug, PartialEq, Eq)]
 pub enum Var {
     // The header of a telegram.
@@ -59,7 +60,7 @@ pub enum Var {
     Q_LINKORIENTATION,
     /// What the train does where linking finds a fault.
     Q_LINKREACTION,
-    /// How exactly the place of the linked group is known.
+    /// How exactly the place of the linked group is known, in metres.
     Q_LOCACC,
 
     // Movement authorities.
@@ -67,13 +68,13 @@ pub enum Var {
     V_MAIN,
     /// The speed at the limit of authority, in steps of 5 km/h.
     V_LOA,
-    /// How long V_LOA holds.
+    /// How long V_LOA holds, in seconds.
     T_LOA,
     /// The length of a section.
     L_SECTION,
     /// Whether the section has a timer, which then follows.
     Q_SECTIONTIMER,
-    /// How long the section is valid.
+    /// How long the section is valid, in seconds.
     T_SECTIONTIMER,
     /// Where the section's timer stops.
     D_SECTIONTIMERSTOPLOC,
@@ -81,7 +82,7 @@ pub enum Var {
     L_ENDSECTION,
     /// Whether the last section has an end timer, which then follows.
     Q_ENDTIMER,
-    /// How long the last section is valid.
+    /// How long the last section is valid, in seconds.
     T_ENDTIMER,
     /// Where the end timer starts.
     D_ENDTIMERSTARTLOC,
@@ -95,7 +96,7 @@ pub enum Var {
     Q_OVERLAP,
     /// Where the overlap's timer starts.
     D_STARTOL,
-    /// How long the overlap is valid.
+    /// How long the overlap is valid, in seconds.
     T_OL,
     /// The distance from the end of the authority to the end of the overlap.
     D_OL,
@@ -107,9 +108,9 @@ pub enum Var {
     D_GRADIENT,
     /// Whether the track climbs or falls.
     Q_GDIR,
-    /// The gradient without its sign.
+    /// The gradient without its sign, in per mille.
     G_A,
-    /// The gradient to assume in temporary restrictions, without its sign.
+    /// The gradient to assume in temporary restrictions, without its sign, in per mille.
     G_TSR,
     /// The distance to the next change of speed.
     D_STATIC,
@@ -171,7 +172,7 @@ pub enum Var {
     M_LEVELTEXTDISPLAY,
     /// The length over which the text is shown.
     L_TEXTDISPLAY,
-    /// How long the text is shown.
+    /// How long the text is shown, in seconds.
     T_TEXTDISPLAY,
     /// Whether and how the driver confirms the text.
     Q_TEXTCONFIRM,
@@ -203,7 +204,7 @@ pub enum Var {
     NID_MESSAGE,
     /// The length of the whole message in bytes.
     L_MESSAGE,
-    /// The time by the train's clock.
+    /// The time by the train's clock, in steps of 10 ms.
     T_TRAIN,
     /// Whether the train acknowledges the message.
     M_ACK,

@@ -1,6 +1,6 @@
 //! The variables of an item, one after another, up to its end or the first refused bit.
 
-ghost use Rattle.std.specs.Prelude.{◌≡◌, take, IfOk};
+ghost use Rattle.std.specs.Prelude.{◌≡◌, length, take, IfOk};
 ghost use Rattle.etcs_bits.specs.Bits.{bits};
 ghost use Rattle.etcs_vars.specs.Reading.{readings_of};
 ghost use Rattle.etcs_reader.specs.Rests.{Goes};
@@ -71,6 +71,13 @@ impl Model for Trace {
 }
 
 impl Trace {
+    /// How many they are.
+    fn len(&self) -> usize
+        ensures { result ≡ length self.now }
+    {
+        self.fields.len()
+    }
+
     /// The variables.
     fn into_fields(self) -> Vec<(Var, u64)>
         ensures { result.items ≡ self }
@@ -128,7 +135,7 @@ fn account_of<R: ItemRest>(
                 end: End::Whole,
             });
         }
-        let whole = feeder.rest().store.fields.len();
+        let whole = feeder.rest().store.len();
         let (part, count) = feeder.unfinished();
         match feeder.bit(bit) {
             Ok(()) => {}

@@ -3,6 +3,7 @@ use Rattle.std.specs.Prelude.{None, not}
 use Rattle.etcs_vars.proofs.Languages.{Same}
 use Rattle.etcs_vars.specs.Reading.{Reading, readings_of}
 use Rattle.etcs_explain.specs.Accounts.{Accounts}
+use Rattle.etcs_explain.specs.declared.account.End.TheVariants.{Refused}
 use Rattle.etcs_explain.proofs.Accounting.{bit_at, some_of, through, at_more, account_whole, account_open, account_refused, kept_front}
 use Rattle.etcs_explain.proofs.account.account_of.Goals as goal
 use Rattle.etcs_explain.proofs.account.account_of.Goals.{in-None, in-Some-var}
@@ -22,8 +23,8 @@ returns-in-Err-Refused g c =
     let same : Same (R.left start.rest) (readings_of (g.R.ItemRest.Reads c.args.size)) = subst (λ s. Same (R.left s) (readings_of (g.R.ItemRest.Reads c.args.size))) (sym (through start _ (λ s. s.rest) c.new-feeder.ensures.rest)) c.begin.ensures.left in
     let none = through start _ (λ s. s.store) c.new-feeder.ensures.rest ∙ c.new.ensures.items in
     let a = account_refused R.left g.met.R.Rest.regular R.follows g.met.R.Rest.residual g.met.R.Rest.both start.rest start.store none (readings_of (g.R.ItemRest.Reads c.args.size)) same old.rest.rest old.rest.store xs old.part l.at n c.in-Err-Refused.bit c.in-Some.bit l.invariant.standing lt more own.0 own.1 c.in-Err-Refused.var h.refuses (place ∙ ap (λ k. k + n) l.invariant.counted) c.unfinished-part.result.1 c.unfinished-part.result.0 c.unfinished-part.ensures.bits in
-    let kept = kept_front c.len-whole.result c.truncate.new.self.items c.into_fields-fields-in-Err-Refused.result.items c.bit-in-loop-at.new.self.rest.store _ old.rest.store h.passed.whole c.truncate.ensures.items (c.into_fields-fields-in-Err-Refused.ensures ∙ through c.into_rest-in-Err-Refused.result _ (λ s. s.store) c.into_rest-in-Err-Refused.ensures) c.len-whole.ensures (c.behind-feeder.view_is ∙ through c.rest.result.now _ (λ s. s.store) c.rest.ensures) h.passed.follows.1 in
-    subst (λ (u : Reading). Accounts (readings_of (g.R.ItemRest.Reads c.args.size)) u _ xs) (sym kept) a
+    let kept = kept_front c.len-whole.result c.truncate.new.self.items c.into_fields-fields-in-Err-Refused.result.items c.bit-in-loop-at.new.self.rest.store _ old.rest.store h.passed.whole c.truncate.ensures.items (c.into_fields-fields-in-Err-Refused.ensures ∙ through c.into_rest-in-Err-Refused.result _ (λ s. s.store) c.into_rest-in-Err-Refused.ensures) c.len-whole.ensures (through c.rest.result.now _ (λ s. s.store) c.rest.ensures) h.passed.follows.1 in
+    rw c.in-Err-Refused.field-0-is (subst (λ (u : Reading). Accounts (readings_of (g.R.ItemRest.Reads c.args.size)) u (Refused c.in-Err-Refused.bit (record { var = c.in-Err-Refused.var; bits = c.unfinished-part.result.0; count = c.unfinished-part.result.1 })) xs) (sym kept) a)
 
 pub loop-at-preserved : goal.loop-at-preserved
 loop-at-preserved g c =

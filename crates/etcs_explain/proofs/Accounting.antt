@@ -1,6 +1,6 @@
 -- What is said of the bits so far, variable by variable.
 use Rattle.std.proofs.Common.{◌≡◌, ℕ, ◌+◌, ◌*◌, ◌≤◌, ◌<◌, min, Bool, true, false, List, [], ◌∷◌, ◌++◌, length, take, drop, Some, None, refl, sym, ap, subst, ◌∙◌, arith, append_assoc, inl, inr}
-use Rattle.std.specs.Prelude.{Option, IfSome, is_some, nat_lt, slice_index_or, if◌then◌else◌}
+use Rattle.std.specs.Prelude.{Option, Result, Ok, Err, IfOk, IfSome, is_some, nat_lt, slice_index_or, if◌then◌else◌}
 use Rattle.std.proofs.lemmas.Bool.{cases_lt, lt-ltb}
 use Rattle.std.proofs.lemmas.Grind.{take_at_read}
 use Rattle.std.proofs.lemmas.List.{append-nil, length-append, length-take-le, take_all, take_at, take-append-drop}
@@ -8,7 +8,7 @@ use Rattle.etcs_bits.specs.Bits.{bits, num, part}
 use Rattle.etcs_bits.proofs.Positions.{length-bits}
 use Rattle.etcs_vars.specs.declared.var.Var.{Var}
 use Rattle.etcs_vars.specs.Walking.{Residual, Refuses}
-use Rattle.etcs_vars.specs.Reading.{Reading, spelled, Viable, Owner}
+use Rattle.etcs_vars.specs.Reading.{Reading, spelled, Owner}
 use Rattle.etcs_vars.proofs.Languages.{Same}
 use Rattle.etcs_vars.proofs.Outcomes.{refuses_longer, viable_front, none_refused}
 use Rattle.etcs_vars.proofs.Walk.{Regular}
@@ -17,6 +17,7 @@ use Rattle.etcs_reader.specs.Rests.{Goes}
 use Rattle.etcs_reader.specs.Readers.{Passed}
 use Rattle.etcs_reader.proofs.Passing.{passed_along, passed_owner, passed_refuses}
 use Rattle.etcs_explain.specs.Accounts.{Shows, Accounts}
+use Rattle.etcs_explain.specs.declared.account.Account.{Account}
 use Rattle.etcs_explain.specs.declared.account.Part.{Part}
 use Rattle.etcs_explain.specs.declared.account.End.{End}
 use Rattle.etcs_explain.specs.declared.account.End.TheVariants as end
@@ -129,3 +130,9 @@ first_bits bytes k e =
       | inl lt ↦ take_all (k * 8) (bits bytes) (omega (arith, e, long, lt)) ∙ sym (take_all 8184 (bits bytes) (omega (arith, long, lt)))
       | inr ge ↦ let n : k * 8 ≡ 8184 = omega (arith, e, ge) in ap (λ (m : ℕ). take m (bits bytes)) n
     ]
+
+-- ---- Of the items of a kind.
+
+pub of_kind : {E : Type 0} (P Q : Reading → Type 0) → Same P Q → (xs b : List Bool) → xs ≡ b → (result : Result Account E) → IfOk result (λ a. Accounts P a.fields.items a.end xs) → IfOk result (λ a. Accounts Q a.fields.items a.end b)
+of_kind P Q same xs b e (Ok a) h = subst (λ (u : List Bool). Accounts Q a.fields.items a.end u) e (accounts_along P Q same a.fields.items a.end xs h)
+of_kind P Q same xs b e (Err x) h = tt

@@ -23,6 +23,7 @@ use std::alloc::Global;
 use std::marker::Model;
 
 /// The head and the body of a typed message by the numbers in front of its packets.
+#[inline(always)]
 pub(crate) fn front_by<H: Head, B: Own<Front = H>>(nid: u8, front: &[u64]) -> (H, B)
     requires there { length (head_row H.Packet.WAY) ≤ length front.now }
     requires head { IsHeadNumbers H.Packet.WAY (take (length (head_row H.Packet.WAY)) front.now) }

@@ -2,6 +2,15 @@
 //!
 //! [`prelude`] has what most programs use, for `use etcs_codec::prelude::*`. Here is the rest: bits at any offset, rows
 //! and walks over them, runs over streams. The crates below are in [`crates`], each with all that it has.
+//!
+//! ```rust
+//! use etcs_codec::prelude::*;
+//!
+//! match TelegramView::new(bytes, Size::Long) {
+//!     Ok(view) => view.packets().count(),
+//!     Err(_) => 0,
+//! }
+//! ```
 #![tactic(auto)]
 
 pub mod crates;

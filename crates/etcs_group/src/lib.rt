@@ -1,4 +1,17 @@
-//! Balise groups: telegrams put together in any order.
+//! Balise groups: telegrams put together in any order, and the packets of the whole group.
+//!
+//! ```rust
+//! let mut assembly = Assembly::new();
+//! for telegram in telegrams {
+//!     if let Err((_clash, _telegram)) = assembly.add(telegram) {
+//!         return Ok(None);
+//!     }
+//! }
+//! if assembly.is_complete() {
+//!     let packets = assembly.message(alloc)?;
+//!     return Ok(Some(packets));
+//! }
+//! ```
 #![tactic(auto)]
 
 mod assembly;

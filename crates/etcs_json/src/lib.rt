@@ -1,4 +1,13 @@
-//! The items of an input as JSON.
+//! Items as JSON, and items of JSON.
+//!
+//! ```rust
+//! match from_line(alloc, Kind::Short, line) {
+//!     Ok(entry) => Some(entry),
+//!     Err(JsonFault::Shape) => None,          // not the JSON of a telegram of 210 bits
+//!     Err(JsonFault::Refused { .. }) => None, // of an older form, and its bits are no telegram's
+//!     Err(JsonFault::Memory) => None,
+//! }
+//! ```
 #![tactic(auto)]
 
 mod carried;

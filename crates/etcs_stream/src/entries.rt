@@ -85,7 +85,7 @@ impl EntryReader {
     ///
     /// # Errors
     ///
-    /// Where no item is whole.
+    /// `()` where no item is whole.
     #[inline(always)]
     pub fn next(&mut self, alloc: Global, kind: Kind) -> Result<Entry, ()>
         requires { kind ≡ self.old.kind }

@@ -38,7 +38,11 @@ pub enum RunFault {
     Memory,
 }
 
-/// Writes the fault's line, with its LF. The error is the writer's.
+/// Writes the fault's line, with its LF.
+///
+/// # Errors
+///
+/// That of the writer. A part of the line may then be written.
 #[tactic(auto, using(std::proofs::Common::append_assoc))]
 pub fn write_fault<W: Write>(fault: &RunFault, out: &mut W) -> io::Result<()>
     ensures { OnOk result (Appends (W.contents out.old) (W.contents out.new) (fault_line fault.now)) }

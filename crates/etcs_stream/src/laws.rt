@@ -4,7 +4,8 @@ ghost use Rattle.etcs_stream.specs.OneRuns.{OneEnd, OneFront, OneLast, OneText, 
 ghost use Rattle.etcs_stream.specs.ReadBacks.{ReadBack};
 
 /// What `run` says of an input is said of one run. The input has one list of items and ends in one way, and a part of
-/// it has one list of whole items; first items of it are the front of that list; items have one text; and the last lines of a group are one text.
+/// it has one list of whole items; first items of it are the front of that list; items have one text; and the last lines
+/// of a group are one text.
 pub fn one_run()
     ensures end { OneEnd }
     ensures whole { OneWhole }

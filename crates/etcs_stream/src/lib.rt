@@ -1,5 +1,16 @@
 //! A run: it reads items from a source, as lines of hexadecimal, bytes or lines of JSON, and writes what a command says of
-//! them to a sink.
+//! them to a sink. It takes any reader and writer.
+//!
+//! ```rust
+//! let job = Job { kind: Kind::Long, from: Form::Hex, command: Command::Convert(Form::Json) };
+//! match run(alloc, job, &mut Input::new(reader), &mut Output::new(writer)) {
+//!     Ok(tally) => Some(tally.items),
+//!     Err(fault) => {
+//!         let _ = write_fault(&fault, faults); // `etcs: item 3 refused at bit 72, L_PACKET`
+//!         None
+//!     }
+//! }
+//! ```
 #![tactic(auto)]
 
 mod bin;

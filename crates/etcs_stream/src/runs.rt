@@ -25,9 +25,13 @@ use std::alloc::Global;
 ///
 /// # Errors
 ///
-/// `Refused` and `Truncated` speak of an item, `BadHex` and `BadJson` of a line; `Read`, `Write` of a call that failed,
-/// `Write` with how many bytes of the text the sink took; `Endless` of more than 16,000,000 reads or 1,000,000 items, and
-/// `Memory` of a refused allocation. The text of the items that were whole before a fault is written first.
+/// - [`RunFault::Refused`] and [`RunFault::Truncated`] of an item, [`RunFault::BadHex`] and [`RunFault::BadJson`] of a line;
+/// - [`RunFault::Read`] and [`RunFault::Write`] of a call that failed, the latter with how many bytes of the text the sink
+///   took;
+/// - [`RunFault::Endless`] of more than 16,000,000 reads or 1,000,000 items;
+/// - [`RunFault::Memory`] of a refused allocation.
+///
+/// The text of the items that were whole before a fault is written first.
 pub fn run<S: Source, W: Sink>(
     alloc: Global,
     job: Job,

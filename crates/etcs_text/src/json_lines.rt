@@ -176,8 +176,8 @@ fn write_line(entry: &Entry, out: &mut Vec<u8>) -> Result<(), AllocError>
 /// The members are in the order of their names. A telegram has `fill`, `header`, `kind` and `packets`, a typed message
 /// `fields`, `header`, `kind`, `nid`, `packets` and `padding`, and one that is kept as bits `data`, `kind` and `nid`. A
 /// packet has `dir` (but for packet 0), `fields` and `nid`, or `data`, `dir` and `nid` where it is kept as bits; to the
-/// track no packet has `dir`. Bits are a text of digits 0 and 1. A variable is a pair of its name and its number, that of NID_RADIO as a text of sixteen
-/// hexadecimal digits in lower case.
+/// track no packet has `dir`. Bits are a text of digits 0 and 1. A variable is a pair of its name and its number, that of
+/// NID_RADIO as a text of sixteen hexadecimal digits in lower case.
 ///
 /// # Errors
 ///

@@ -1,4 +1,10 @@
-//! The text of the items of an input: of each a line for itself, one for each variable, and one for kept bits.
+//! Items as text: a line for each variable, one line of JSON, a line of hexadecimal, or the line that says that one was
+//! accepted. All of them are appended to bytes; no tree is made.
+//!
+//! ```rust
+//! show_lines(&entry, 1, &mut out)?; // as `etcs show`: the item of number 1
+//! json_line(&entry, &mut out)?; // as `etcs convert --to json`
+//! ```
 #![tactic(auto, using(crate::specs::laws::Fronts::begins_more))]
 
 mod digits;

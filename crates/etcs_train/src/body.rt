@@ -13,7 +13,7 @@ use std::alloc::AllocError;
 /// What is in the header of a typed message to the track after its number and length (SUBSET-026, 8).
 #[derive(Clone, Copy, Debug, PartialEq, Eq)]
 pub struct TrainHead {
-    /// T_TRAIN, the time at which the message was sent, in the train's clock: 32 bits.
+    /// T_TRAIN, the time at which the message was sent, in the train's clock: 32 bits, in units of 10 ms.
     pub t_train: u32,
     /// NID_ENGINE, the on-board equipment that sent it: 24 bits.
     pub nid_engine: u32,
@@ -66,14 +66,14 @@ impl Head for TrainHead {
 pub enum TrainBody {
     /// Messages 130, 136, 150, 155, 156 and 159, which have no variables of their own.
     Plain { nid: u8 },
-    /// Messages 137, 138 and 146: the T_TRAIN of the message that is answered.
+    /// Messages 137, 138 and 146: the T_TRAIN of the message that is answered, in units of 10 ms.
     TrainTime { nid: u8, t_train: u32 },
     /// Message 157: what is known of the position at the start of a mission, Q_STATUS: 0 to 3.
     Status { q_status: u8 },
 }
 
 impl TrainBody {
-    /// NID_MESSAGE.
+    /// NID_MESSAGE, the number of the message.
     pub fn nid(&self) -> u8
         ensures { result ≡ nid_of_body self.now }
     {

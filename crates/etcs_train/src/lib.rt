@@ -1,4 +1,13 @@
-//! Radio messages to the track.
+//! Radio messages to the track: built, written, read from pieces.
+//!
+//! ```rust
+//! // message 146: the message with T_TRAIN 1000 is acknowledged
+//! let head = TrainHead { t_train: 1250, nid_engine: 4711 };
+//! let body = TrainBody::TrainTime { nid: 146, t_train: 1000 };
+//! if let Ok(message) = TrainMessage::new(head, body, packets) {
+//!     message.encode(&mut bytes)?;
+//! }
+//! ```
 #![tactic(auto)]
 
 mod body;

@@ -46,7 +46,7 @@ fn spread(text: &mut [u8], count: usize)
 /// # Errors
 ///
 /// Where memory is refused. The bytes from `start` on are then gone.
-pub(crate) fn to_digits(out: &mut Vec<u8>, start: usize) -> Result<(), AllocError>
+pub fn to_digits(out: &mut Vec<u8>, start: usize) -> Result<(), AllocError>
     requires { start ≤ length out.old.items }
     ensures ok { OnOk result (out.new.items ≡ take start out.old.items ++ (encode_upper (drop start out.old.items) ++ 10 ∷ [])) }
     ensures err { OnErr result (out.new.items ≡ take start out.old.items) }

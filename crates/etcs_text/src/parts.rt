@@ -1,4 +1,5 @@
-//! For the crates above: the text of packets alone, and of numbers.
+//! For the crates above: the text of packets alone, of numbers, and of bytes.
 
+pub use crate::digits::to_digits;
 pub use crate::packets::write_packets;
 pub use crate::text::{write_decimal, write_item_number};

@@ -1,12 +1,14 @@
-use Rattle.std.proofs.Common.{◌≡◌, ◌-◌, ◌≤◌, [], ◌∙◌}
+use Rattle.std.proofs.Common.{◌≡◌, ℕ, ◌+◌, ◌-◌, ◌*◌, ◌≤◌, List, [], length, sym, ap, ◌∙◌}
 use Rattle.etcs_bits.specs.Bits.{bits}
+use Rattle.etcs_bits.proofs.Positions.{length-bits}
+use Rattle.etcs_telegram.specs.declared.size.Size.{Size}
 use Rattle.etcs_telegram.specs.declared.view.ViewFault.{ViewFault}
 use Rattle.etcs_telegram.specs.declared.view.ViewFault.TheVariants.{Refused}
-use Rattle.etcs_telegram.specs.Telegrams.{TelegramLanguage, header_of, user_bits}
+use Rattle.etcs_telegram.specs.Telegrams.{TelegramLanguage, container_bytes, header_of, pad_bits, user_bits}
 use Rattle.etcs_telegram.specs.Headers.{IsHeaderNumbers}
 use Rattle.etcs_telegram.specs.Lefts.{left_at}
 use Rattle.etcs_telegram.specs.Views.{ViewIn}
-use Rattle.etcs_telegram.proofs.Encoding.{container_bits}
+use Rattle.etcs_telegram.proofs.Encoding.{whole_bytes}
 use Rattle.etcs_telegram.proofs.Examples.{some_telegram}
 use Rattle.etcs_telegram.proofs.Viewing.{refused_same, refused_bit, all_seen}
 use Rattle.etcs_telegram.proofs.view.TelegramView.new.Goals as goal
@@ -14,6 +16,9 @@ use Rattle.etcs_telegram.proofs.view.TelegramView.new.Goals.{In-Ok}
 
 pub new-feeder-requires : goal.new-feeder-requires
 new-feeder-requires c = let (r, l) = some_telegram c.args.size in (r, (c.new.ensures.left r).1 l)
+
+container_bits : (size : Size) (out : List ℕ) → length out ≡ container_bytes size → length (bits out) ≡ user_bits size + pad_bits size
+container_bits size out e = length-bits out ∙ ap (λ (k : ℕ). 8 * k) e ∙ sym (whole_bytes size)
 
 -- all bits are a telegram's
 seen : (c : In-Ok) → ViewIn c.args.size (bits c.args.bytes.now) (header_of c.feed.new.self.rest.header.items) c.feed.new.self.rest.packets.store.packets (user_bits c.args.size - c.feed.new.self.rest.packets.left.room) × IsHeaderNumbers c.feed.new.self.rest.header.items × (c.feed.new.self.rest.packets.left.room ≤ user_bits c.args.size)

@@ -54,6 +54,39 @@ static LAYOUTS: [&str; 2] = ["text", "html"];
 /// What `--version` says after the name: the version, and the line of the kit that proves it.
 static VERSION: &str = "0.1.0 (rattle-kit-13f logic dac8208d650f15bf)";
 
+/// What help says after a subcommand's options: what an item is, where the run ends, what the statuses mean, and an
+/// example.
+macro_rules! after_help {
+    (run, $example:literal) => {
+        after_help!(
+            items,
+            "The run ends at the first item that is refused; what was accepted before it is written.",
+            "an item refused or cut short",
+            $example
+        )
+    };
+    (items, $run:literal, $refused:literal, $example:literal) => {
+        after_help!(
+            "An item is a telegram or a message: hexadecimal digits in one line or several, the bytes themselves\nwith nothing between two items, or a line of JSON.",
+            $run,
+            $refused,
+            $example
+        )
+    };
+    ($item:literal, $run:literal, $refused:literal, $example:literal) => {
+        concat!(
+            "Reads standard input. ",
+            $item,
+            "\n",
+            $run,
+            "\n\nStatus: 0 all accepted; 1 ",
+            $refused,
+            "; 2 wrong words;\n3 a stream failed, memory was refused or the input doesn't end.\n\nExample: etcs ",
+            $example
+        )
+    };
+}
+
 /// What a command line asks for.
 #[derive(Drop)]
 pub enum Parsed {
@@ -226,7 +259,7 @@ fn show<'a>(alloc: Global) -> Result<Line<'a>, AllocError> {
     let line = subcommand(alloc, "show", &KINDS, KINDS_HELP)?;
     Ok(
         line.about("Show the variables of each telegram or message, a line each")
-            .after_help("Example: etcs show --kind long < telegrams.hex"),
+            .after_help(after_help!(run, "show --kind long < telegrams.hex")),
     )
 }
 
@@ -235,7 +268,7 @@ fn check<'a>(alloc: Global) -> Result<Line<'a>, AllocError> {
     let line = subcommand(alloc, "check", &KINDS, KINDS_HELP)?;
     Ok(
         line.about("Check each telegram or message: a line with its number of bits")
-            .after_help("Example: etcs check --kind radio --from bin < messages.bin"),
+            .after_help(after_help!(run, "check --kind radio --from bin < messages.bin")),
     )
 }
 
@@ -244,7 +277,7 @@ fn convert<'a>(alloc: Global) -> Result<Line<'a>, AllocError> {
     let line = subcommand(alloc, "convert", &KINDS, KINDS_HELP)?.arg(to_option(alloc))?;
     Ok(
         line.about("Write each telegram or message in another form")
-            .after_help("Example: etcs convert --kind short --to json < telegrams.hex"),
+            .after_help(after_help!(run, "convert --kind short --to json < telegrams.hex")),
     )
 }
 
@@ -254,7 +287,12 @@ fn group<'a>(alloc: Global) -> Result<Line<'a>, AllocError> {
     Ok(
         line.about(
             "Put the telegrams of a balise group together, in any order, and show its message",
-        ).after_help("Example: etcs group --kind short --from json < group.json"),
+        ).after_help(after_help!(
+            items,
+            "The run ends at the first telegram that is refused. One that doesn't fit those before it is a clash, and left out.",
+            "a telegram refused or cut short, a clash, or telegrams missing",
+            "group --kind short --from json < group.json"
+        )),
     )
 }
 
@@ -265,9 +303,12 @@ fn log<'a>(alloc: Global) -> Result<Line<'a>, AllocError> {
         line.arg(flag(alloc, "good", GOOD_HELP))?
             .arg(flag(alloc, "summary", SUMMARY_HELP))?
             .about("Read a log, an item a line, and say of each line that is no item why")
-            .after_help(
-                "Example: etcs log --kind short --good < balises.log | etcs group --kind short",
-            ),
+            .after_help(after_help!(
+                "An item is the hexadecimal digits at a line's end, with blanks, tabs, commas, colons,\ndashes or 0x between them or none. Blank lines and lines that begin with # are passed over.",
+                "The run continues after a bad line, to the end of the input.",
+                "a line is bad",
+                "log --kind short --good < balises.log | etcs group --kind short"
+            )),
     )
 }
 
@@ -285,7 +326,12 @@ fn explained<'a>(alloc: Global) -> Result<Line<'a>, AllocError> {
     Ok(
         line.about(
             "Explain each telegram or message: the bits, the number and the meaning of each variable, and why it is refused",
-        ).after_help("Example: etcs explain --kind short < telegrams.hex"),
+        ).after_help(after_help!(
+            items,
+            "After an item that is refused the run continues with the next line; of bytes (bin) it ends there.",
+            "an item refused or cut short",
+            "explain --kind short < telegrams.hex"
+        )),
     )
 }
 

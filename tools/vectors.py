@@ -178,6 +178,13 @@ def answer_status(program, _, words):
     return f"{status}, output {shape(output)}, faults {shape(faults)}".encode()
 
 
+def answer_help(program, _, words):
+    """`help LINE, LINE ..`: what each of these command lines answers over an empty input."""
+    lines = [line.split(" ")[1:] for line in words.split(", ")]
+    answers = {whole(*program.run(line, b"")) for line in lines}
+    return answers.pop() if len(answers) == 1 else b"not each so"
+
+
 def answer_program(program, _, words):
     """`program LINE < TEXT`."""
     line, _, text = words.partition(" < ")
@@ -202,6 +209,7 @@ ANSWERS = {
     "run": answer_run,
     "zeros": answer_zeros,
     "repeated": answer_repeated,
+    "help": answer_help,
     "status": answer_status,
     "program": answer_program,
     "bytes": answer_bytes,

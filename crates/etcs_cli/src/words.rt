@@ -67,7 +67,7 @@ macro_rules! after_help {
     };
     (items, $run:literal, $refused:literal, $example:literal) => {
         after_help!(
-            "An item is a telegram or a message: hexadecimal digits in one line or several, the bytes themselves\nwith nothing between two items, or a line of JSON.",
+            "An item is a telegram or message of the kind: hexadecimal digits in one line or several,\nthe bytes themselves with nothing between two items, or a line of JSON.",
             $run,
             $refused,
             $example

@@ -1,4 +1,4 @@
-//! The whole program but for taking its words and streams, where its streams fail; and its version.
+//! The whole program but for taking its words and streams, where its streams fail.
 
 use etcs_cli::run_words;
 use etcs_fakes::Checks;
@@ -112,37 +112,6 @@ fn failing_faults(rt: HostRuntime) -> Result<(), Fail> {
         let words = words_of(alloc, line)?;
         let status = run_words(alloc, words, Unreadable, &mut output, &mut faults);
         checks.check(status == wanted, "another status");
-    }
-    assert_eq!(rt; checks.wrong(), None);
-    Ok(())
-}
-
-/// Whether a text has another within it.
-fn has(text: &[u8], part: &[u8]) -> bool {
-    let mut is_there = false;
-    for found in text.windows(part.len().max(1)) {
-        is_there |= found == part;
-    }
-    is_there
-}
-
-/// What `--version` says, and by which name the texts call the program.
-#[test]
-fn version_and_help(rt: HostRuntime) -> Result<(), Fail> {
-    let (checks, alloc) = (&mut Checks::new(), rt.alloc());
-    let version = b"etcs 0.1.0 (rattle-kit-13f logic dac8208d650f15bf)\n".as_slice();
-    for (line, part) in [
-        ("etcs --version", version),
-        ("etcs -V", version),
-        ("/tmp/program --help", b"\nUsage: etcs <COMMAND>\n"),
-    ] {
-        let mut output: Vec<u8> = Vec::new(alloc);
-        let mut faults: Vec<u8> = Vec::new(alloc);
-        let nothing: &[u8] = &[];
-        let words = words_of(alloc, line)?;
-        let status = run_words(alloc, words, nothing, &mut output, &mut faults);
-        checks.check(status == 0 && faults.is_empty(), "a fault");
-        checks.check(has(output.as_slice(), part), "another text");
     }
     assert_eq!(rt; checks.wrong(), None);
     Ok(())

@@ -41,6 +41,7 @@ pub(crate) fn answer(case: &mut Case, kind: &str) -> bool {
         "slow" => run_slowly(case),
         "repeated" => repeated(case),
         "program" | "bytes" | "status" => program(case, kind),
+        "help" => help(case),
         "fault" => fault(case),
         _ => return false,
     }
@@ -229,6 +230,30 @@ fn program(case: &mut Case, kind: &str) {
     let again = status_of(case, line, Slow { rest }, &mut slowly, &mut slow_faults);
     case.check(again == status && slowly == output, "not byte by byte");
     case.check(slow_faults == faults, "other faults byte by byte");
+}
+
+/// `help LINE, LINE ..`: the status of each of these command lines over an empty input, and what it writes.
+fn help(case: &mut Case) {
+    for line in case.rest().split(", ") {
+        if case.is_silent() {
+            say_call(case, line);
+        } else {
+            let mut said = Case::new(case.alloc(), "");
+            say_call(&mut said, line);
+            let is_like = case.is_like(&said);
+            case.check(is_like, "not each so");
+        }
+    }
+}
+
+/// The status of a command line over an empty input, and what it writes.
+fn say_call(case: &mut Case, line: &str) {
+    let mut output: Vec<u8> = Vec::new(case.alloc());
+    let mut faults: Vec<u8> = Vec::new(case.alloc());
+    let nothing: &[u8] = &[];
+    let status = status_of(case, line, nothing, &mut output, &mut faults);
+    case.say_number(u64::from(status));
+    say_streams(case, "program", output.as_slice(), faults.as_slice());
 }
 
 /// The status of a command line over a reader.

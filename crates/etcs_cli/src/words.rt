@@ -328,7 +328,7 @@ fn explained<'a>(alloc: Global) -> Result<Line<'a>, AllocError> {
             "Explain each telegram or message: the bits, the number and the meaning of each variable, and why it is refused",
         ).after_help(after_help!(
             items,
-            "After an item that is refused the run continues with the next line; of bytes (bin) it ends there.",
+            "What is in front of the digits of a line is passed over. After an item that is refused the run\ncontinues with the next line; of bytes (bin) it ends there.",
             "an item refused or cut short",
             "explain --kind short < telegrams.hex"
         )),

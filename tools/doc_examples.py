@@ -14,7 +14,7 @@ PROGRAM is the built `etcs`. The documents are README.md, examples/README.md and
   numbers are those that PROGRAM shows, its widths those of the sources, and its bits those of the file, in which the
   numbers have to be. `<!-- bits: KIND FILE 50..128 -->` is of these bits alone.
 - After `<!-- file: PATH -->` the block is the file; after `<!-- file: PATH NAME .. -->` its lines between `// NAME` and
-  `// end`, of one name after another.
+  `// end`, of one name after another, and for a name `NAME()` the function with what is said above it, after a blank line.
 
 Blocks of the last two kinds are written anew; with --check they are compared. The status is 1 where an output or a block
 differs.
@@ -145,8 +145,15 @@ def file_lines(words):
     """Returns the lines of a file, or of parts of it, without the blanks that all lines of a part begin with."""
     path, *names = words.split()
     text = open(f"{TOP}/{path}", encoding="utf-8").read()
-    parts = [re.search(rf"^ *// {re.escape(it)}\n(.*?)^ *// end$", text, re.S | re.M)[1] for it in names]
+    parts = [part_of(text, it) for it in names]
     return "\n".join(textwrap.dedent(it) for it in parts or [text]).rstrip("\n").split("\n")
+
+
+def part_of(text, name):
+    """Returns the lines of a part of a file, or those of a function `NAME()` with the comment above it."""
+    if name.endswith("()"):
+        return re.search(rf"^(?:///[^\n]*\n)*(?:pub )?fn {re.escape(name[:-2])}\b.*?^\}}\n", text, re.S | re.M)[0]
+    return re.search(rf"^ *// {re.escape(name)}\n(.*?)^ *// end$", text, re.S | re.M)[1]
 
 
 def remade(text, program):

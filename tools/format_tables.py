@@ -21,23 +21,15 @@ KEPT = "\u00a0"  # a blank at which no line is broken
 DOCUMENTS = ["docs/FORMAT.md", "docs/COVERAGE.md", "docs/USING.md"]
 PART = re.compile(r"(<!-- made by tools/format_tables.py: ([\w ]+) -->\n)(.*?)(<!-- end -->)", re.S)
 
-# Units, and meanings of numbers, that a comment says elsewhere than at the variable: the file, and words that are there.
-ELSEWHERE = {
-    "T_LOA": ("1 s", "etcs_grouped/src/level1_ma.rt", "how long that speed holds, in seconds"),
-    "T_SECTIONTIMER": ("1 s", "etcs_parts/src/section.rt", "T_SECTIONTIMER in seconds"),
-    "T_ENDTIMER": ("1 s", "etcs_parts/src/authority.rt", "T_ENDTIMER in seconds"),
-    "T_OL": ("1 s", "etcs_parts/src/authority.rt", "T_OL in seconds"),
-    "T_TEXTDISPLAY": ("1 s", "etcs_parts/src/text_frame.rt", "its duration in seconds"),
-    "G_A": ("1 ‰", "etcs_parts/src/slope.rt", "The gradient in promille"),
-    "G_TSR": ("1 ‰", "etcs_flat/src/flat.rt", "G_TSR | the gradient, in thousandths"),
-    "Q_LOCACC": ("1 m", "etcs_parts/src/link.rt", "How exactly the group is placed, in metres"),
-}
+# What the line of a variable says of its unit.
 UNITS = {
     "in steps of 5 km/h": "5 km/h",
     "in seconds": "1 s",
     "in metres": "1 m",
     "in bits": "1 bit",
     "in bytes": "1 byte",
+    "in per mille": "1 ‰",
+    "in steps of 10 ms": "10 ms",
     "by Q_SCALE": "Q_SCALE",
 }
 
@@ -91,12 +83,7 @@ def is_scaled(var):
 def unit_of(var):
     """Returns the unit of a variable's numbers, or nothing."""
     said = next((unit for words, unit in UNITS.items() if words in var.text), None)
-    if said or var.var not in ELSEWHERE:
-        return said or ("Q_SCALE" if is_scaled(var.var) else "")
-    unit, path, words = ELSEWHERE[var.var]
-    if words not in " ".join(sources.source(path).split()):
-        raise LookupError(f"{path} doesn't say '{words}'")
-    return unit
+    return said or ("Q_SCALE" if is_scaled(var.var) else "")
 
 
 def flat_meanings():
@@ -106,8 +93,11 @@ def flat_meanings():
 
 
 def meaning_of(var):
-    """Returns what a variable means: its comment, that of `Flat` where only that one says its numbers, its special texts."""
+    """Returns what a variable means: its comment without its unit, that of `Flat` where only that one says its numbers, its
+    special texts."""
     text = var.text.removesuffix(".")
+    for words in UNITS:
+        text = text.replace(f", {words}", "")
     if not re.search(r"\b\d\b", text.replace("5 km/h", "")) and var.var in flat_meanings():
         text = flat_meanings()[var.var]
     text = text[0].upper() + text[1:]

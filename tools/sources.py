@@ -198,9 +198,9 @@ def row_lengths(name):
 def variants(path, enum):
     """Yields the variants of an enum with the text above each, and what is in its parentheses."""
     body = found_one(rf"^pub enum {enum} \{{\n(.*?)\n\}}", source(path), enum)[1]
-    line = r"^    /// ([^\n]*)\n    (\w+)(?:\(([^\n]*)\)| \{ ([^\n]*) \})?,$"
+    line = r"^((?:    /// [^\n]*\n)+)    (\w+)(?:\(([^\n]*)\)| \{ ([^\n]*) \})?,$"
     for text, name, fields, named in re.findall(line, body, re.M):
-        yield text, name, fields or named
+        yield " ".join(re.findall(r"/// (.*)", text)), name, fields or named
 
 
 @lru_cache(maxsize=None)

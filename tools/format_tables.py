@@ -229,20 +229,30 @@ def crates_below(names):
 
 
 def table_of_crates():
-    """Returns what has to be copied for each use of the library."""
+    """Returns what has to be copied for each use of the library: the crates, or how they differ from those of a use above."""
     uses = [
-        ("telegrams: reading, building, viewing", ["etcs_telegram"]),
-        ("balise groups", ["etcs_group"]),
-        ("radio messages to the train", ["etcs_radio"]),
-        ("radio messages to the track", ["etcs_train"]),
-        ("text of items", ["etcs_text"]),
-        ("JSON of items", ["etcs_json"]),
-        ("runs over streams, as the program's commands", ["etcs_stream"]),
+        ("telegrams: reading, building, viewing", "etcs_telegram"),
+        ("balise groups", "etcs_group"),
+        ("radio messages to the train", "etcs_radio"),
+        ("radio messages to the track", "etcs_train"),
+        ("text of items", "etcs_text"),
+        ("JSON of items", "etcs_json"),
+        ("runs over streams, as the program's commands", "etcs_stream"),
+        ("all of it", "etcs_codec"),
+        ("why an input is refused", "etcs_explain"),
+        ("logs", "etcs_log"),
     ]
     lines = ["| for | crate | folders to copy, with their lines of crates.txt | crates of the kit |", "|---|---|---|---|"]
-    for use, names in uses:
-        own, kit = crates_below(names)
-        lines.append(f"| {use} | `{names[0]}` | {len(own)}: {', '.join(own)} | {', '.join(kit)} |")
+    above = {}
+    for use, name in uses:
+        own, kit = crates_below([name])
+        near = min(above, key=lambda it: len(set(above[it]) ^ set(own)), default=None)
+        text = ", ".join(f"`{it}`" for it in own if it not in above.get(near, []))
+        if near:
+            less = ", ".join(f"`{it}`" for it in above[near] if it not in own)
+            text = f"those of `{near}`" + (f" but {less}" if less else "") + f", and {text}"
+        lines.append(f"| {use} | `{name}` | {len(own)}: {text} | {', '.join(f'`{it}`' for it in kit)} |")
+        above[name] = own
     return lines
 
 

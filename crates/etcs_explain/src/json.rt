@@ -2,12 +2,16 @@
 
 use crate::front::{user_bits, way_of};
 use crate::reasons::write_not_admitted;
+use etcs_json::{JsonFault, from_line};
 use etcs_rows::Place;
 use etcs_tables::{Row, RowItem, Way, frame_bits, message_row, row_of};
 use etcs_text::Kind;
 use etcs_vars::Var;
 use serde_json::Value;
 use std::alloc::{AllocError, AllocFailed, Global};
+
+/// How many bytes of JSON that is no item are looked into.
+const MOST_JSON: usize = 65_536;
 
 /// Why nothing is counted.
 #[derive(Debug, Drop)]
@@ -330,9 +334,70 @@ fn kept_message(alloc: Global, kind: Kind, value: &Value) -> Result<(), Wrong> {
 /// # Errors
 ///
 /// `Part` with the path and the reason; `Memory`.
-pub(crate) fn test_json(alloc: Global, kind: Kind, value: &Value) -> Result<(), Wrong> {
+fn test_json(alloc: Global, kind: Kind, value: &Value) -> Result<(), Wrong> {
     match kind {
         Kind::Long | Kind::Short => telegram(alloc, kind, value),
         Kind::Radio | Kind::Train => message(alloc, kind, value),
+    }
+}
+
+/// Why no item of the kind has the JSON of a line.
+fn shape_reason(alloc: Global, kind: Kind, line: &[u8]) -> Result<String, AllocError> {
+    if line.len() > MOST_JSON {
+        return format!(in alloc; "{} bytes, which no item has", line.len());
+    }
+    let value = match Value::from_slice(alloc, line) {
+        Ok(value) => value,
+        Err(error) => {
+            if error.is_memory() {
+                return Err(AllocError);
+            }
+            let column = error.column();
+            return if error.is_eof() {
+                format!(in alloc;
+                    "no JSON: it ends at column {column}, inside a value; jq -c . makes one line of several"
+                )
+            } else {
+                format!(in alloc; "no JSON: another character is wanted at column {column}")
+            };
+        }
+    };
+    match test_json(alloc, kind, &value) {
+        Err(Wrong::Part(text)) => Ok(text),
+        Err(Wrong::Memory) => Err(AllocError),
+        Ok(()) => format!(in alloc; "no item of kind {} has this JSON", word(kind)),
+    }
+}
+
+/// Why a line of JSON that was answered with this fault is no item.
+///
+/// # Errors
+///
+/// Where memory is refused.
+pub(crate) fn json_reason(
+    alloc: Global,
+    kind: Kind,
+    line: &[u8],
+    fault: JsonFault,
+) -> Result<String, AllocError> {
+    match fault {
+        JsonFault::Shape => shape_reason(alloc, kind, line),
+        JsonFault::Refused { bit, var } => {
+            format!(in alloc; "the bits of its data are refused at bit {bit}, {var}")
+        }
+        JsonFault::Memory => Err(AllocError),
+    }
+}
+
+/// Why a line isn't the JSON of an item of the kind: the path of the first part that is wrong, as jq has it, and the reason.
+/// `None` where it is.
+///
+/// # Errors
+///
+/// Where memory is refused.
+pub fn why_json(alloc: Global, kind: Kind, line: &[u8]) -> Result<Option<String>, AllocError> {
+    match from_line(alloc, kind, line) {
+        Ok(_) => Ok(None),
+        Err(fault) => Ok(Some(json_reason(alloc, kind, line, fault)?)),
     }
 }

@@ -3,10 +3,12 @@
 
 mod account;
 mod front;
+mod hex_lines;
 mod json;
 mod meanings;
 mod names;
 mod page;
+pub mod parts;
 mod reasons;
 mod refusal;
 mod run;
@@ -14,6 +16,7 @@ mod sheet;
 mod table;
 
 pub use account::{Account, End, Part};
+pub use json::why_json;
 pub use refusal::{Reason, why};
 pub use run::{Task, explain};
 pub use sheet::Layout;

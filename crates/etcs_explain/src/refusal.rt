@@ -10,6 +10,7 @@ ghost use Rattle.etcs_explain.specs.declared.account.End.{End};
 
 use crate::account::{Account, End};
 use crate::front::{Front, way_of};
+use crate::hex_lines::wanted_bytes;
 use crate::reasons::{often, write_reason};
 use etcs_bits::peek;
 use etcs_tables::message_row;
@@ -65,20 +66,11 @@ fn advice(kind: Kind) -> &'static str {
 }
 
 /// Appends how many bytes are there and how many are wanted, where they end inside an item.
-fn write_missing(
-    kind: Kind,
-    bytes: &[u8],
-    fields: &[(Var, u64)],
-    out: &mut String,
-) -> Result<(), AllocError> {
-    write!(out, "{} of ", bytes.len())?;
-    match (kind, fields) {
-        (Kind::Long, _) => out.push_str("104")?,
-        (Kind::Short, _) => out.push_str("27")?,
-        (_, [_, (Var::L_MESSAGE, length), ..]) => write!(out, "{length}")?,
-        _ => out.push_str("at least 3")?,
+fn write_missing(kind: Kind, bytes: &[u8], out: &mut String) -> Result<(), AllocError> {
+    match wanted_bytes(kind, bytes) {
+        Some(wanted) => write!(out, "{} of {wanted} bytes are here", bytes.len()),
+        None => write!(out, "{} of at least 3 bytes are here", bytes.len()),
     }
-    out.push_str(" bytes are here")
 }
 
 /// Why the bytes of an account are no item, and what this most often comes of. `None` where they are one.
@@ -95,7 +87,7 @@ pub(crate) fn cause(
     let usual = match account.end {
         End::Whole => return Ok(None),
         End::Open(_) => {
-            write_missing(kind, bytes, fields, &mut sentence)?;
+            write_missing(kind, bytes, &mut sentence)?;
             None
         }
         End::Refused(_, part) => {

@@ -1,19 +1,18 @@
 //! A run: the items of an input, explained one after another.
 
-ghost use Rattle.std.specs.Prelude.{◌<◌, length, IfSome};
-
 use crate::account::{Account, End, MOST_BYTES};
 use crate::front::way_of;
-use crate::json::{Wrong, test_json, word};
+use crate::hex_lines::{wanted_bytes, write_no_bytes};
+use crate::json::json_reason;
 use crate::page::{FOOT, HEAD, write_bytes};
 use crate::refusal::cause;
 use crate::sheet::{Layout, Sheet};
 use crate::table::Table;
+use etcs_digits::{NoBytes, line_bytes};
 use etcs_json::{JsonFault, from_line};
+use etcs_stream::parts::split_line;
 use etcs_stream::{Form, RunFault};
 use etcs_text::{Kind, encoded};
-use memchr::memchr;
-use serde_json::Value;
 use std::alloc::{AllocError, Global};
 use std::io::{Read, Write};
 
@@ -25,9 +24,6 @@ const MOST_READS: u64 = 16_000_000;
 
 /// How many bytes a line has at most.
 const MOST_LINE: usize = 1_048_576;
-
-/// How many bytes of JSON that is no item are looked into.
-const MOST_JSON: usize = 65_536;
 
 /// What is to be explained, and how.
 #[derive(Clone, Copy, Debug, PartialEq, Eq)]
@@ -198,24 +194,25 @@ impl<W: Write> Explainer<W> {
         held: &mut Held,
         bytes: &mut Vec<u8>,
     ) -> Result<(), RunFault> {
-        if let Some(place) = decode(line, bytes).map_err(memory)? {
-            self.end_held(held)?;
-            return self.bad_line(line, number, place);
-        }
+        bytes.resize(line.len() / 2 + 1, 0).map_err(memory)?;
+        let said = match line_bytes(line, bytes.as_mut_slice()) {
+            Ok(count) => &bytes[bytes.len() - count..],
+            Err(NoBytes::Empty) => return Ok(()),
+            Err(why) => {
+                self.end_held(held)?;
+                return self.bad_line(line, number, why);
+            }
+        };
         let before = held.bytes.len();
         if before == 0 {
             held.line = number;
         }
-        held.bytes
-            .extend_from_slice(bytes.as_slice())
-            .map_err(memory)?;
+        held.bytes.extend_from_slice(said).map_err(memory)?;
         if before > 0 && self.is_refused(held.bytes.as_slice())? {
             held.bytes.truncate(before);
             self.end_held(held)?;
             held.line = number;
-            held.bytes
-                .extend_from_slice(bytes.as_slice())
-                .map_err(memory)?;
+            held.bytes.extend_from_slice(said).map_err(memory)?;
         }
         match self.items(held.bytes.as_slice(), held.line)? {
             Some(at) => held.pass(at, number),
@@ -234,19 +231,19 @@ impl<W: Write> Explainer<W> {
         Ok(matches!(account.end, End::Refused(_, _)))
     }
 
-    /// Says why a line is no digits.
-    fn bad_line(&mut self, line: &[u8], number: u64, place: usize) -> Result<(), RunFault> {
+    /// Says why a line says no bytes.
+    fn bad_line(&mut self, line: &[u8], number: u64, why: NoBytes) -> Result<(), RunFault> {
+        let place = match line.iter().position(|c| !c.is_ascii_hexdigit()) {
+            Some(place) if why == NoBytes::NoDigits => place,
+            _ => line.len(),
+        };
         self.note(RunFault::BadHex {
             line: number,
             place: place as u64,
         });
-        let text = if place == line.len() {
-            format!(in self.alloc; "{place} digits: one is missing or too many")
-        } else {
-            format!(in self.alloc; "no hexadecimal digit at {place}")
-        };
-        let text = text.map_err(memory)?;
-        self.wrong(number, text.as_str())
+        let mut reason = String::new(self.alloc);
+        write_no_bytes(why, &mut reason).map_err(memory)?;
+        self.wrong(number, reason.as_str())
     }
 
     /// Explains the item of a line of JSON.
@@ -258,25 +255,21 @@ impl<W: Write> Explainer<W> {
                 self.item(bytes.as_slice(), number)?;
                 Ok(())
             }
-            Err(JsonFault::Shape) => {
-                self.note(RunFault::BadJson { line: number });
-                let text = json_reason(self.alloc, self.task.kind, line).map_err(memory)?;
-                self.wrong(number, text.as_str())
-            }
-            Err(JsonFault::Refused { bit, var }) => {
-                self.items = self.items.saturating_add(1);
-                self.note(RunFault::Refused {
-                    item: self.items,
-                    bit,
-                    var,
-                });
-                let text = format!(in self.alloc;
-                    "the bits of its data are refused at bit {bit}, {var}"
-                ).map_err(memory)?;
-                self.wrong(number, text.as_str())
-            }
-            Err(JsonFault::Memory) => Err(RunFault::Memory),
+            Err(fault) => self.bad_json(line, number, fault),
         }
+    }
+
+    /// Says why a line of JSON is no item.
+    fn bad_json(&mut self, line: &[u8], number: u64, fault: JsonFault) -> Result<(), RunFault> {
+        let reason = json_reason(self.alloc, self.task.kind, line, fault).map_err(memory)?;
+        if let JsonFault::Refused { bit, var } = fault {
+            self.items = self.items.saturating_add(1);
+            let item = self.items;
+            self.note(RunFault::Refused { item, bit, var });
+        } else {
+            self.note(RunFault::BadJson { line: number });
+        }
+        self.wrong(number, reason.as_str())
     }
 }
 
@@ -299,48 +292,6 @@ fn write_title(
             Kind::Radio => write!(out, "message to the train, {} bytes", bytes.len()),
             Kind::Train => write!(out, "message to the track, {} bytes", bytes.len()),
         },
-    }
-}
-
-/// Puts the bytes that a line of digits says into a list, or answers the place at which it isn't hexadecimal.
-fn decode(line: &[u8], bytes: &mut Vec<u8>) -> Result<Option<usize>, AllocError> {
-    bytes.clear();
-    if let Some(place) = line.iter().position(|c| !c.is_ascii_hexdigit()) {
-        return Ok(Some(place));
-    }
-    if line.len() % 2 == 1 {
-        return Ok(Some(line.len()));
-    }
-    bytes.resize(line.len() / 2, 0)?;
-    let _ = hex::decode_to_slice(line, bytes.as_mut_slice());
-    Ok(None)
-}
-
-/// Why a line of JSON is no item.
-fn json_reason(alloc: Global, kind: Kind, line: &[u8]) -> Result<String, AllocError> {
-    if line.len() > MOST_JSON {
-        return format!(in alloc; "{} bytes, which no item has", line.len());
-    }
-    let value = match Value::from_slice(alloc, line) {
-        Ok(value) => value,
-        Err(error) => {
-            if error.is_memory() {
-                return Err(AllocError);
-            }
-            let column = error.column();
-            return if error.is_eof() {
-                format!(in alloc;
-                    "no JSON: it ends at column {column}, inside a value; jq -c . makes one line of several"
-                )
-            } else {
-                format!(in alloc; "no JSON: another character is wanted at column {column}")
-            };
-        }
-    };
-    match test_json(alloc, kind, &value) {
-        Err(Wrong::Part(text)) => Ok(text),
-        Err(Wrong::Memory) => Err(AllocError),
-        Ok(()) => format!(in alloc; "no item of kind {} has this JSON", word(kind)),
     }
 }
 
@@ -378,14 +329,6 @@ impl Held {
         self.bytes.copy_within(count.., 0);
         self.bytes.truncate(len - count);
     }
-}
-
-/// The characters before the first LF, and those after it.
-fn split_line(text: &[u8]) -> Option<(&[u8], &[u8])>
-    ensures { IfSome result (λ p. length p.1.now < length text.now) }
-{
-    let at = memchr(b'\n', text)?;
-    Some((&text[..at], &text[at + 1..]))
 }
 
 /// Keeps a part of a line, of which no more is kept than shows that it is too long.
@@ -475,15 +418,7 @@ fn run_lines<R: Read, W: Write>(
 
 /// How many bytes the item has that these begin, as far as that is known.
 fn wanted(kind: Kind, bytes: &[u8]) -> usize {
-    match (kind, bytes) {
-        (Kind::Long, _) => 104,
-        (Kind::Short, _) => 27,
-        (_, [_, high, low, ..]) => {
-            let length = usize::from(*high) * 4 + usize::from(*low) / 64;
-            length.clamp(3, MOST_BYTES)
-        }
-        _ => 3,
-    }
+    wanted_bytes(kind, bytes).unwrap_or(3).clamp(3, MOST_BYTES)
 }
 
 /// Explains the items of bytes, up to one that is refused.

@@ -2,7 +2,6 @@
 
 use etcs_packets::parts::AnyPacket;
 use etcs_stream::Entry;
-use etcs_text::parts::write_decimal;
 use etcs_vars::Var;
 use std::alloc::{AllocError, Global};
 
@@ -27,23 +26,13 @@ fn count_packets<P: AnyPacket>(packets: &[P], counts: &mut [u64; 256]) {
 }
 
 /// Appends a line of each number that was counted.
-fn write_counts(name: &[u8], counts: &[u64; 256], out: &mut Vec<u8>) -> Result<(), AllocError> {
+fn write_counts(name: &str, counts: &[u64; 256], out: &mut String) -> Result<(), AllocError> {
     for number in 0..256 {
         if counts[number] > 0 {
-            out.extend_from_slice(name)?;
-            write_decimal(number as u64, out)?;
-            write_count(b"", counts[number], out)?;
+            writeln!(out, "{name} {number} {}", counts[number])?;
         }
     }
     Ok(())
-}
-
-/// Appends a name, a count and a LF.
-pub(crate) fn write_count(name: &[u8], count: u64, out: &mut Vec<u8>) -> Result<(), AllocError> {
-    out.extend_from_slice(name)?;
-    out.extend_from_slice(b" ")?;
-    write_decimal(count, out)?;
-    out.extend_from_slice(b"\n")
 }
 
 impl Counts {
@@ -92,12 +81,11 @@ impl Counts {
     /// # Errors
     ///
     /// Where memory is refused. A part of the text may then be in `out`.
-    pub(crate) fn write(&self, out: &mut Vec<u8>) -> Result<(), AllocError> {
-        write_counts(b"packet ", &self.packets, out)?;
-        write_counts(b"message ", &self.messages, out)?;
+    pub(crate) fn write(&self, out: &mut String) -> Result<(), AllocError> {
+        write_counts("packet", &self.packets, out)?;
+        write_counts("message", &self.messages, out)?;
         for (var, count) in &self.refusals {
-            out.extend_from_slice(b"refused ")?;
-            write_count(var.name().as_bytes(), *count, out)?;
+            writeln!(out, "refused {var} {count}")?;
         }
         Ok(())
     }

@@ -5,11 +5,12 @@ ghost use Rattle.etcs_text.specs.Entries.{entry_value};
 ghost use Rattle.etcs_log.specs.Logs.{Answered, BytesAnswered, Counted, item};
 ghost use Rattle.etcs_log.specs.Stands.{IsFresh};
 
-use crate::counts::{Counts, write_count};
+use crate::counts::Counts;
 use crate::job::{LogJob, LogTally};
-use crate::notes::{Bad, MOST_CHARACTERS, wanted_bytes, write_note};
+use crate::notes::{Bad, MOST_CHARACTERS, write_note};
 use crate::verdict::{ItemReader, Verdict};
 use etcs_digits::{NoBytes, line_bytes};
+use etcs_explain::parts::wanted_bytes;
 use etcs_stream::Entry;
 use etcs_text::hex_line;
 use etcs_vars::Var;
@@ -22,7 +23,7 @@ const FEW_CHARACTERS: usize = 1024;
 #[derive(Drop)]
 pub(crate) struct Texts {
     pub(crate) good: Vec<u8>,
-    pub(crate) notes: Vec<u8>,
+    pub(crate) notes: String,
 }
 
 /// Says what lines are, and counts them.
@@ -99,8 +100,7 @@ impl Lines {
         match line_bytes(line, buffer) {
             Ok(count) => self.take_bytes(number, &buffer[buffer.len() - count..], texts),
             Err(NoBytes::Empty) => Ok(()),
-            Err(NoBytes::NoDigits) => self.refuse(number, Bad::NoDigits, texts),
-            Err(NoBytes::OddDigits(count)) => self.refuse(number, Bad::OddDigits(count), texts),
+            Err(why) => self.refuse(number, Bad::NoBytes(why), texts),
         }
     }
 
@@ -200,12 +200,12 @@ impl Lines {
     /// # Errors
     ///
     /// Where memory is refused. Some of them may then be there.
-    pub(crate) fn write_counts(&self, out: &mut Vec<u8>) -> Result<(), AllocError> {
+    pub(crate) fn write_counts(&self, out: &mut String) -> Result<(), AllocError> {
         if !self.job.summary {
             return Ok(());
         }
-        write_count(b"items", self.tally.items, out)?;
-        write_count(b"bad", self.tally.bad, out)?;
+        writeln!(out, "items {}", self.tally.items)?;
+        writeln!(out, "bad {}", self.tally.bad)?;
         self.counts.write(out)
     }
 }

@@ -62,10 +62,10 @@ fn pass<W: Sink, N: Sink>(
 {
     if good {
         let mut noted = 0;
-        let _ = write_all(notes, texts.notes.as_slice(), &mut noted);
+        let _ = write_all(notes, texts.notes.as_bytes(), &mut noted);
         write_all(sink, texts.good.as_slice(), sent)?;
     } else {
-        write_all(sink, texts.notes.as_slice(), sent)?;
+        write_all(sink, texts.notes.as_bytes(), sent)?;
     }
     texts.good.clear();
     texts.notes.clear();
@@ -174,7 +174,7 @@ pub fn run_log<S: Source, W: Sink, N: Sink>(
     let mut log = Log::new(alloc, job);
     let mut texts = Texts {
         good: Vec::new(alloc),
-        notes: Vec::new(alloc),
+        notes: String::new(alloc),
     };
     read_all(&mut log, &mut texts, source, sink, notes)
 }

@@ -42,7 +42,7 @@ pub(crate) fn user_bits(kind: Kind) -> usize {
 }
 
 /// A number of at most 8 bits.
-fn low_byte(number: u64) -> u8 {
+pub(crate) fn low_byte(number: u64) -> u8 {
     (number & 255) as u8
 }
 

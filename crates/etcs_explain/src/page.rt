@@ -1,7 +1,7 @@
 //! A page of HTML: the bytes of each item beside its variables.
 
-use crate::sheet::Sheet;
-use std::alloc::AllocError;
+use crate::account::End;
+use crate::sheet::Written;
 
 /// What is in front of the first item.
 pub(crate) static HEAD: &str = "<!doctype html>
@@ -64,44 +64,30 @@ for (const s of document.querySelectorAll('section')) {
 </script>
 ";
 
-/// Appends the bits of a byte, of which this one, counted from the byte's first, is refused.
-fn write_bits(byte: u8, refused: Option<usize>, out: &mut String) -> Result<(), AllocError> {
-    for place in 0..8usize {
-        out.push_str(if refused == Some(place) {
-            "<i class=no>"
-        } else {
-            "<i>"
-        })?;
-        out.push(if (byte >> (7 - place)) & 1 == 1 {
-            '1'
-        } else {
-            '0'
-        })?;
-        out.push_str("</i>")?;
-    }
-    Ok(())
-}
-
-/// Writes the bytes of an item in rows of eight, of which this bit is refused, and begins the column of its variables.
-pub(crate) fn write_bytes(
-    sheet: &mut Sheet,
-    bytes: &[u8],
-    refused: Option<usize>,
-) -> Result<(), AllocError> {
-    let out = &mut sheet.out;
+/// Appends the bytes of an item in rows of eight, with the refused bit, and begins the column of its variables.
+pub(crate) fn write_bytes(bytes: &[u8], end: End, out: &mut String) -> Written {
     out.push_str("<div class=g><div class=h>\n")?;
     for (at, byte) in bytes.iter().enumerate() {
+        let bit = at.saturating_mul(8);
         if at % 8 == 0 {
-            let end = if at == 0 { "" } else { "</div>\n" };
-            write!(out, "{end}<div class=r><s>{}</s>", at.saturating_mul(8))?;
+            let row = if at == 0 { "" } else { "</div>\n" };
+            write!(out, "{row}<div class=r><s>{bit}</s>")?;
         }
         write!(out, "<b>{byte:02X}<u>")?;
-        let here = match refused {
-            Some(bit) if bit / 8 == at => Some(bit % 8),
-            _ => None,
-        };
-        write_bits(*byte, here, out)?;
+        write_bits(*byte, bit, end, out)?;
         out.push_str("</u></b>")?;
     }
     out.push_str("</div>\n</div><div>\n")
+}
+
+/// Appends the bits of a byte, of which the first is this one of the item.
+fn write_bits(byte: u8, first: usize, end: End, out: &mut String) -> Written {
+    for place in 0..8usize {
+        let class = match end {
+            End::Refused(bit, _) if bit == first.saturating_add(place) => " class=no",
+            _ => "",
+        };
+        write!(out, "<i{class}>{}</i>", (byte >> (7 - place)) & 1)?;
+    }
+    Ok(())
 }

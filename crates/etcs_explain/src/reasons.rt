@@ -1,27 +1,24 @@
 //! Why a bit of an item is refused, in a sentence.
 
 use crate::account::Part;
-use crate::front::{Front, way_of};
+use crate::front::{Front, low_byte, way_of};
 use crate::meanings::write_meaning;
+use crate::sheet::Written;
 use etcs_rows::parts::message_lengths;
 use etcs_rows::{LengthSet, Place, lengths, reaches};
-use etcs_tables::{Way, frame_bits, row_of};
+use etcs_tables::{MOST_LENGTH, frame_bits, is_framed, row_of};
 use etcs_text::Kind;
 use etcs_vars::Var;
-use std::alloc::AllocError;
-
-/// The largest length of a packet.
-const MOST: usize = 8191;
 
 /// Appends ranges of numbers, with both ends.
-pub(crate) fn write_ranges(ranges: &[(u64, u64)], out: &mut String) -> Result<(), AllocError> {
+fn write_ranges(ranges: &[(u64, u64)], out: &mut String) -> Written {
     let mut before = "";
-    for range in ranges {
+    for (low, high) in ranges {
         out.push_str(before)?;
-        write!(out, "{}", range.0)?;
-        if range.1 > range.0 {
-            let between = if range.1 - range.0 == 1 { "and" } else { "to" };
-            write!(out, " {between} {}", range.1)?;
+        match high.saturating_sub(*low) {
+            0 => write!(out, "{low}")?,
+            1 => write!(out, "{low} and {high}")?,
+            _ => write!(out, "{low} to {high}")?,
         }
         before = " or ";
     }
@@ -29,12 +26,8 @@ pub(crate) fn write_ranges(ranges: &[(u64, u64)], out: &mut String) -> Result<()
 }
 
 /// Appends which numbers a variable admits, and that this one isn't among them.
-pub(crate) fn write_not_admitted(
-    var: Var,
-    number: Option<u64>,
-    out: &mut String,
-) -> Result<(), AllocError> {
-    write!(out, "{} admits ", var.name())?;
+pub(crate) fn write_not_admitted(var: Var, number: Option<u64>, out: &mut String) -> Written {
+    write!(out, "{var} admits ")?;
     write_ranges(var.ranges(), out)?;
     let Some(number) = number else {
         return out.push_str(", and none of them begins with these bits");
@@ -49,81 +42,48 @@ pub(crate) fn write_not_admitted(
     }
 }
 
-/// The largest number of a set that is below one.
-fn below(set: &LengthSet, number: usize) -> Option<usize> {
-    for length in (0..number.min(MOST + 1)).rev() {
-        if set.holds(length) {
-            return Some(length);
-        }
-    }
-    None
+/// The least number of a set that isn't below one.
+fn least_from(set: &LengthSet, number: usize) -> Option<usize> {
+    (number..MOST_LENGTH + 1).find(|length| set.holds(*length))
 }
 
-/// The least number of a set that is above one.
-fn above(set: &LengthSet, number: usize) -> Option<usize> {
-    for length in number..MOST + 1 {
-        if length > number && set.holds(length) {
-            return Some(length);
-        }
-    }
-    None
+/// The least number of bits that may be left of a row.
+fn least_of(place: &Place) -> usize {
+    least_from(&lengths(place), 0).unwrap_or(0)
 }
 
-/// Appends which of the lengths of a set, each with this many bits before it, are next to one that it hasn't.
-fn write_nearest(
-    set: &LengthSet,
-    before: usize,
-    length: usize,
-    out: &mut String,
-) -> Result<(), AllocError> {
-    let number = length.saturating_sub(before);
-    let low = below(set, number);
-    let high = if length < before && set.holds(0) {
-        Some(0)
-    } else {
-        above(set, number)
-    };
-    match (low, high) {
-        (Some(low), Some(high)) => write!(
-            out,
-            "{} or {} bits",
-            low.saturating_add(before),
-            high.saturating_add(before)
-        ),
-        (Some(low), None) => write!(out, "at most {} bits", low.saturating_add(before)),
-        (None, Some(high)) => match above(set, high) {
-            Some(_) => write!(out, "at least {} bits", high.saturating_add(before)),
-            None => write!(out, "{} bits", high.saturating_add(before)),
-        },
+/// Appends which lengths of a set are next to one that it hasn't.
+fn write_nearest(set: &LengthSet, length: usize, out: &mut String) -> Written {
+    let length = length.min(MOST_LENGTH);
+    let low = (0..length).rev().find(|length| set.holds(*length));
+    match (low, least_from(set, length.saturating_add(1))) {
+        (Some(low), Some(high)) => write!(out, "{low} or {high} bits"),
+        (Some(low), None) => write!(out, "at most {low} bits"),
+        (None, Some(high)) => {
+            if least_from(set, high.saturating_add(1)).is_some() {
+                out.push_str("at least ")?;
+            }
+            write!(out, "{high} bits")
+        }
         (None, None) => out.push_str("no length"),
     }
 }
 
 /// Appends what may be left after a packet where this much isn't.
-fn write_rest(kind: Kind, rest: usize, out: &mut String) -> Result<(), AllocError> {
+fn write_rest(kind: Kind, rest: usize, out: &mut String) -> Written {
+    write!(out, "would leave {rest} bits")?;
     match kind {
-        Kind::Long | Kind::Short => write!(
-            out,
-            "would leave {rest} bits in the telegram, and packet 255 needs 8"
-        ),
+        Kind::Long | Kind::Short => out.push_str(" in the telegram, and packet 255 needs 8"),
         Kind::Radio | Kind::Train => write!(
             out,
-            "would leave {rest} bits: after the last packet there are 0 to 7, and another has at least {}",
+            ": after the last packet there are 0 to 7, and another has at least {}",
             frame_bits(way_of(kind))
         ),
     }
 }
 
-/// Whether so many bits may be left after a packet.
-fn is_rest(kind: Kind, rest: usize) -> bool {
-    match kind {
-        Kind::Long | Kind::Short => rest >= 8,
-        Kind::Radio | Kind::Train => rest <= 7 || rest >= frame_bits(way_of(kind)),
-    }
-}
-
 /// Appends why a packet of this number doesn't fit.
-fn write_no_packet(front: &Front, number: Option<u64>, out: &mut String) -> Result<(), AllocError> {
+fn write_no_packet(front: &Front, number: Option<u64>, out: &mut String) -> Written {
     let room = front.end.saturating_sub(front.bit);
     let way = way_of(front.kind);
     let Some(number) = number else {
@@ -132,60 +92,47 @@ fn write_no_packet(front: &Front, number: Option<u64>, out: &mut String) -> Resu
             "no packet whose number begins with these bits fits into the {room} bits that are left"
         );
     };
-    let row = row_of(way, (number & 255) as u8);
-    if row.is_none() && (number == 0 || number == 255) && way == Way::ToTrain {
+    let nid = low_byte(number);
+    if !is_framed(way, nid) {
         return match front.kind {
-            Kind::Radio => write!(out, "a message has no packet {number}"),
+            Kind::Radio => write!(out, "a message has no packet {nid}"),
             _ => write!(
                 out,
-                "packet {number} and packet 255 have 22 bits, and {room} are left"
+                "packet {nid} and packet 255 have 22 bits, and {room} are left"
             ),
         };
     }
-    let frame = frame_bits(way);
-    let least = match row {
-        Some(row) => least_of(&Place::start(row)).saturating_add(frame),
-        None => frame,
+    let row = match row_of(way, nid) {
+        Some(row) => least_of(&Place::start(row)),
+        None => 0,
     };
+    let least = row.saturating_add(frame_bits(way));
+    write!(out, "packet {nid} has at least {least} bits, and ")?;
     if least > room {
-        write!(
-            out,
-            "packet {number} has at least {least} bits, and {room} are left"
-        )
+        write!(out, "{room} are left")
     } else {
-        write!(out, "packet {number} has at least {least} bits, and that ")?;
+        out.push_str("that ")?;
         write_rest(front.kind, room.saturating_sub(least), out)
     }
 }
 
-/// The least number of bits that may be left of a row.
-fn least_of(place: &Place) -> usize {
-    let set = lengths(place);
-    if set.holds(0) {
-        0
-    } else {
-        above(&set, 0).unwrap_or(0)
-    }
-}
-
 /// Appends why a packet hasn't this length here.
-fn write_no_length(front: &Front, number: Option<u64>, out: &mut String) -> Result<(), AllocError> {
-    let Some(number) = number else {
+fn write_no_length(front: &Front, number: Option<u64>, out: &mut String) -> Written {
+    let packet = front.packet;
+    let Some(length) = number else {
         return write!(
             out,
-            "no length of packet {} that begins with these bits fits",
-            front.packet
+            "no length of packet {packet} that begins with these bits fits"
         );
     };
+    let length = (length & 8191) as usize;
     let way = way_of(front.kind);
     let frame = frame_bits(way);
-    let length = (number & 8191) as usize;
-    let room = front.end.saturating_sub(front.start);
-    if let Some(row) = row_of(way, front.packet) {
-        let set = lengths(&Place::start(row));
-        if length < frame || !set.holds(length.saturating_sub(frame)) {
-            write!(out, "packet {} has ", front.packet)?;
-            write_nearest(&set, frame, length, out)?;
+    if let Some(row) = row_of(way, packet) {
+        let set = lengths(&Place::start(row)).shift(frame);
+        if !set.holds(length) {
+            write!(out, "packet {packet} has ")?;
+            write_nearest(&set, length, out)?;
             return write!(out, ", not {length}");
         }
     } else if length < frame {
@@ -194,42 +141,40 @@ fn write_no_length(front: &Front, number: Option<u64>, out: &mut String) -> Resu
             "a packet has at least {frame} bits, and L_PACKET says {length}"
         );
     }
-    if length > room {
-        return write!(
-            out,
-            "L_PACKET {length} is more than the {room} bits that are left"
-        );
-    }
+    let room = front.end.saturating_sub(front.start);
     write!(out, "L_PACKET {length} ")?;
-    write_rest(front.kind, room.saturating_sub(length), out)
+    if length > room {
+        write!(out, "is more than the {room} bits that are left")
+    } else {
+        write_rest(front.kind, room.saturating_sub(length), out)
+    }
 }
 
 /// Appends why the message hasn't this length.
-fn write_no_message(
-    front: &Front,
-    number: Option<u64>,
-    out: &mut String,
-) -> Result<(), AllocError> {
+fn write_no_message(front: &Front, number: Option<u64>, out: &mut String) -> Written {
     write!(out, "message {} has ", front.message)?;
     write_ranges(message_lengths(way_of(front.kind), front.message), out)?;
+    out.push_str(" bytes")?;
     match number {
-        Some(number) => write!(out, " bytes, not {number}"),
-        None => out.push_str(" bytes"),
+        Some(number) => write!(out, ", not {number}"),
+        None => Ok(()),
     }
 }
 
 /// Appends why a packet of its length can't have this number, which the variable admits.
-fn write_no_fit(front: &Front, var: Var, number: u64, out: &mut String) -> Result<(), AllocError> {
+fn write_no_fit(front: &Front, var: Var, number: u64, out: &mut String) -> Written {
     let Some(place) = &front.place else {
-        return write!(out, "{} {number} doesn't fit", var.name());
+        return write!(out, "{var} {number} doesn't fit");
     };
-    let before = front
-        .bit
-        .saturating_sub(front.start)
-        .saturating_add(var.width());
-    write!(out, "with {} {number} the packet has ", var.name())?;
+    let end = front.bit.saturating_add(var.width());
+    let before = end.saturating_sub(front.start);
+    write!(out, "with {var} {number} the packet has ")?;
     match place.after(number) {
-        Some(next) => write_nearest(&lengths(&next), before, front.length, out)?,
+        Some(next) => write_nearest(
+            &lengths(&next).shift(before.min(MOST_LENGTH)),
+            front.length,
+            out,
+        )?,
         None => out.push_str("no length")?,
     }
     write!(out, ", and L_PACKET says {}", front.length)?;
@@ -237,24 +182,19 @@ fn write_no_fit(front: &Front, var: Var, number: u64, out: &mut String) -> Resul
 }
 
 /// Appends which numbers of a variable fit in place of one that doesn't, at most four of them.
-fn write_fitting(place: &Place, var: Var, left: usize, out: &mut String) -> Result<(), AllocError> {
-    let mut count = 0usize;
+fn write_fitting(place: &Place, var: Var, left: usize, out: &mut String) -> Written {
+    let mut count = 0u8;
     for number in 0..256 {
-        let fits = match place.after(number) {
-            Some(next) => reaches(&next, left),
-            None => false,
+        let Some(next) = place.after(number) else {
+            continue;
         };
-        if fits {
-            if count == 4 {
-                return out.push_str(" ..");
+        if reaches(&next, left) {
+            match count {
+                0 => write!(out, ", as with {var} {number}")?,
+                1..=3 => write!(out, " or {number}")?,
+                _ => return out.push_str(" .."),
             }
             count = count.saturating_add(1);
-            if count == 1 {
-                write!(out, ", as with {} ", var.name())?;
-            } else {
-                out.push_str(" or ")?;
-            }
-            write!(out, "{number}")?;
         }
     }
     Ok(())
@@ -267,12 +207,10 @@ pub(crate) fn write_reason(
     part: Part,
     number: Option<u64>,
     out: &mut String,
-) -> Result<(), AllocError> {
+) -> Written {
     match (part.var, number) {
-        (Var::PAD, _) => match front.kind {
-            Kind::Long => out.push_str("PAD is two zeros"),
-            _ => out.push_str("PAD is six zeros"),
-        },
+        (Var::PAD, _) if front.kind == Kind::Long => out.push_str("PAD is two zeros"),
+        (Var::PAD, _) => out.push_str("PAD is six zeros"),
         (Var::NID_PACKET, _) => write_no_packet(front, number, out),
         (Var::L_PACKET, _) => write_no_length(front, number, out),
         (Var::L_MESSAGE, _) => write_no_message(front, number, out),

@@ -31,7 +31,22 @@ pub struct Reason {
     pub often: Option<&'static str>,
 }
 
-static KINDS: [Kind; 4] = [Kind::Long, Kind::Short, Kind::Radio, Kind::Train];
+/// What to do where bytes are an item of another kind.
+static ADVICE: [(Kind, &str); 4] = [
+    (Kind::Long, "these bytes are a long telegram: --kind long"),
+    (
+        Kind::Short,
+        "these bytes are a short telegram: --kind short",
+    ),
+    (
+        Kind::Radio,
+        "these bytes are a message to the train: --kind radio",
+    ),
+    (
+        Kind::Train,
+        "these bytes are a message to the track: --kind train",
+    ),
+];
 
 /// Whether the bytes may be meant as an item of a kind: not as a message that is kept whole, which any bytes may be.
 fn is_meant(kind: Kind, bytes: &[u8]) -> bool {
@@ -42,27 +57,17 @@ fn is_meant(kind: Kind, bytes: &[u8]) -> bool {
     }
 }
 
-/// The kind, if there is another, of whose items the bytes are one.
-fn kind_of_all(alloc: Global, kind: Kind, bytes: &[u8]) -> Result<Option<Kind>, AllocError> {
-    for other in &KINDS {
+/// What to do where the bytes are an item of a kind that is another than this one.
+fn advice(alloc: Global, kind: Kind, bytes: &[u8]) -> Result<Option<&'static str>, AllocError> {
+    for (other, text) in &ADVICE {
         if *other != kind && is_meant(*other, bytes) {
             let account = Account::read(alloc, *other, bytes)?;
             if account.end == End::Whole && account.bytes() == bytes.len() {
-                return Ok(Some(*other));
+                return Ok(Some(*text));
             }
         }
     }
     Ok(None)
-}
-
-/// What to do where the bytes are an item of another kind.
-fn advice(kind: Kind) -> &'static str {
-    match kind {
-        Kind::Long => "these bytes are a long telegram: --kind long",
-        Kind::Short => "these bytes are a short telegram: --kind short",
-        Kind::Radio => "these bytes are a message to the train: --kind radio",
-        Kind::Train => "these bytes are a message to the track: --kind train",
-    }
 }
 
 /// Appends how many bytes are there and how many are wanted, where they end inside an item.
@@ -97,10 +102,8 @@ pub(crate) fn cause(
             often(kind, part.var)
         }
     };
-    match kind_of_all(alloc, kind, bytes)? {
-        Some(other) => Ok(Some((sentence, Some(advice(other))))),
-        None => Ok(Some((sentence, usual))),
-    }
+    let often = advice(alloc, kind, bytes)?.or(usual);
+    Ok(Some((sentence, often)))
 }
 
 /// Why the first of the bytes, at most 1,023, begin no item of the kind: the bit that the kind's reader refuses, its

@@ -6,7 +6,7 @@ use crate::hex_lines::{wanted_bytes, write_no_bytes};
 use crate::json::json_reason;
 use crate::page::{FOOT, HEAD, write_bytes};
 use crate::refusal::cause;
-use crate::sheet::{Layout, Sheet};
+use crate::sheet::{Layout, Sheet, Written};
 use crate::table::Table;
 use etcs_digits::{NoBytes, line_bytes};
 use etcs_json::{JsonFault, from_line};
@@ -36,6 +36,19 @@ pub struct Task {
     pub layout: Layout,
 }
 
+/// What ends a run before its input does.
+#[derive(Debug, Drop)]
+struct Broken(RunFault);
+
+/// What a step of a run answers.
+type Step<T> = Result<T, Broken>;
+
+impl From<AllocError> for Broken {
+    fn from(_refused: AllocError) -> Broken {
+        Broken(RunFault::Memory)
+    }
+}
+
 /// Explains items, and writes what it says.
 #[derive(Drop)]
 struct Explainer<W> {
@@ -51,14 +64,9 @@ struct Explainer<W> {
     first: Option<RunFault>,
 }
 
-/// Refused memory.
-fn memory(_: AllocError) -> RunFault {
-    RunFault::Memory
-}
-
 impl<W: Write> Explainer<W> {
     /// Writes what the sheet has, and empties it.
-    fn send(&mut self) -> Result<(), RunFault> {
+    fn send(&mut self) -> Step<()> {
         let text = self.sheet.out.as_bytes();
         let mut at = 0;
         while at < text.len() {
@@ -67,7 +75,7 @@ impl<W: Write> Explainer<W> {
                     at += count;
                     self.sent = self.sent.saturating_add(count as u64);
                 }
-                _ => return Err(RunFault::Write { sent: self.sent }),
+                _ => return Err(Broken(RunFault::Write { sent: self.sent })),
             }
         }
         self.sheet.out.clear();
@@ -81,226 +89,138 @@ impl<W: Write> Explainer<W> {
         }
     }
 
-    /// Explains the item that the bytes begin with, at this line or item, and says how many bytes it has. `None` where they
-    /// begin with none.
-    fn item(&mut self, bytes: &[u8], number: u64) -> Result<Option<usize>, RunFault> {
+    /// Explains the item that the bytes begin with, at this line, and says how many bytes it has. `None` where they begin
+    /// with none.
+    fn item(&mut self, bytes: &[u8], line: u64) -> Step<Option<usize>> {
         self.items = self.items.saturating_add(1);
-        let account = Account::read(self.alloc, self.task.kind, bytes).map_err(memory)?;
+        let item = self.items;
+        let account = Account::read(self.alloc, self.task.kind, bytes)?;
         let count = match account.end {
             End::Whole => account.bytes(),
-            _ => bytes.len().min(MOST_BYTES),
+            _ => MOST_BYTES,
         };
         let shown = &bytes[..count.min(bytes.len())];
-        self.tell(shown, &account, number).map_err(memory)?;
+        self.tell(shown, &account, line)?;
         self.send()?;
         match account.end {
-            End::Whole => Ok(Some(shown.len())),
+            End::Whole => return Ok(Some(shown.len())),
             End::Open(_) => {
-                self.note(RunFault::Truncated {
-                    item: self.items,
-                    bits: shown.len() as u64 * 8,
-                });
-                Ok(None)
+                let bits = shown.len() as u64 * 8;
+                self.note(RunFault::Truncated { item, bits });
             }
             End::Refused(bit, part) => {
-                self.note(RunFault::Refused {
-                    item: self.items,
-                    bit,
-                    var: part.var,
-                });
-                Ok(None)
+                let var = part.var;
+                self.note(RunFault::Refused { item, bit, var });
             }
         }
+        Ok(None)
     }
 
     /// Begins a title with this line, or with the item of bytes.
-    fn place(&mut self, number: u64) -> Result<(), AllocError> {
+    fn place(&mut self, line: u64) -> Written {
         self.sheet.clear();
         match self.task.from {
             Form::Bin => write!(self.sheet.meaning, "item {}: ", self.items),
-            Form::Hex | Form::Json => write!(self.sheet.meaning, "line {number}: "),
+            Form::Hex | Form::Json => write!(self.sheet.meaning, "line {line}: "),
         }
     }
 
     /// Writes the title, the table and the reason of an item.
-    fn tell(&mut self, bytes: &[u8], account: &Account, number: u64) -> Result<(), AllocError> {
+    fn tell(&mut self, bytes: &[u8], account: &Account, line: u64) -> Written {
         let kind = self.task.kind;
-        self.place(number)?;
-        write_title(kind, bytes, account, &mut self.sheet.meaning)?;
-        let html = self.task.layout == Layout::Html;
-        if html {
-            self.sheet.out.push_str("<section>")?;
-        }
+        self.place(line)?;
+        write_title(kind, bytes, account.end, &mut self.sheet.meaning)?;
         self.sheet.open_item()?;
-        if html {
-            let refused = match account.end {
-                End::Refused(bit, _) => Some(bit),
-                _ => None,
-            };
-            write_bytes(&mut self.sheet, bytes, refused)?;
+        if let Some(page) = self.sheet.page() {
+            write_bytes(bytes, account.end, page)?;
         }
         Table::new(way_of(kind), bytes, account).write(&mut self.sheet)?;
+        self.sheet.clear();
+        let mut usual = None;
         if let Some((sentence, often)) = cause(self.alloc, kind, bytes, account)? {
-            self.sheet.clear();
             self.sheet.meaning.push_str(sentence.as_str())?;
-            self.sheet.remark(often)?;
+            usual = often;
         }
-        if html {
-            self.sheet.out.push_str("</div></div></section>\n")?;
-        }
-        Ok(())
+        self.sheet.close_item(usual)
     }
 
-    /// Writes the line of what is no item, with a reason.
-    fn wrong(&mut self, number: u64, reason: &str) -> Result<(), RunFault> {
-        self.wrong_line(number, reason).map_err(memory)?;
+    /// Writes the line of what is no item, with a reason, and notes the fault.
+    fn wrong(&mut self, line: u64, reason: &str, fault: RunFault) -> Step<()> {
+        self.note(fault);
+        self.place(line)?;
+        self.sheet.meaning.push_str(reason)?;
+        self.sheet.heading()?;
         self.send()
     }
 
-    fn wrong_line(&mut self, number: u64, reason: &str) -> Result<(), AllocError> {
-        self.place(number)?;
-        self.sheet.meaning.push_str(reason)?;
-        self.sheet.heading()
-    }
-
-    /// Explains the whole items that bytes begin with, one after another, and says how many bytes they have. `None` after one
-    /// that is refused.
-    fn items(&mut self, bytes: &[u8], number: u64) -> Result<Option<usize>, RunFault> {
-        let mut at = 0;
-        while at < bytes.len() && bytes.len() - at >= wanted(self.task.kind, &bytes[at..]) {
-            match self.item(&bytes[at..], number)? {
-                Some(count) if count > 0 && count <= bytes.len() - at => at += count,
-                _ => return Ok(None),
+    /// Explains the item of a line of JSON.
+    fn json_line(&mut self, text: &[u8], line: u64, bytes: &mut Vec<u8>) -> Step<()> {
+        let fault = match from_line(self.alloc, self.task.kind, text) {
+            Ok(entry) => {
+                bytes.clear();
+                encoded(&entry, bytes)?;
+                self.item(bytes.as_slice(), line)?;
+                return Ok(());
             }
-        }
-        Ok(Some(at))
-    }
-
-    /// Explains the item that is held, of which no more comes.
-    fn end_held(&mut self, held: &mut Held) -> Result<(), RunFault> {
-        if !held.bytes.is_empty() {
-            self.item(held.bytes.as_slice(), held.line)?;
-            held.bytes.clear();
-        }
-        Ok(())
-    }
-
-    /// Explains the items of a line of digits, of which the first may have begun in a line before. One that a line makes
-    /// no item ended before it.
-    fn hex_line(
-        &mut self,
-        line: &[u8],
-        number: u64,
-        held: &mut Held,
-        bytes: &mut Vec<u8>,
-    ) -> Result<(), RunFault> {
-        bytes.resize(line.len() / 2 + 1, 0).map_err(memory)?;
-        let said = match line_bytes(line, bytes.as_mut_slice()) {
-            Ok(count) => &bytes[bytes.len() - count..],
-            Err(NoBytes::Empty) => return Ok(()),
-            Err(why) => {
-                self.end_held(held)?;
-                return self.bad_line(line, number, why);
-            }
+            Err(fault) => fault,
         };
-        let before = held.bytes.len();
-        if before == 0 {
-            held.line = number;
-        }
-        held.bytes.extend_from_slice(said).map_err(memory)?;
-        if before > 0 && self.is_refused(held.bytes.as_slice())? {
-            held.bytes.truncate(before);
-            self.end_held(held)?;
-            held.line = number;
-            held.bytes.extend_from_slice(said).map_err(memory)?;
-        }
-        match self.items(held.bytes.as_slice(), held.line)? {
-            Some(at) => held.pass(at, number),
-            None => held.bytes.clear(),
-        }
-        Ok(())
-    }
-
-    /// Whether a bit is refused of the item that the bytes begin with, where all its bytes are there.
-    fn is_refused(&self, bytes: &[u8]) -> Result<bool, RunFault> {
-        let kind = self.task.kind;
-        if bytes.len() < wanted(kind, bytes) {
-            return Ok(false);
-        }
-        let account = Account::read(self.alloc, kind, bytes).map_err(memory)?;
-        Ok(matches!(account.end, End::Refused(_, _)))
+        let reason = json_reason(self.alloc, self.task.kind, text, fault)?;
+        let fault = if let JsonFault::Refused { bit, var } = fault {
+            self.items = self.items.saturating_add(1);
+            let item = self.items;
+            RunFault::Refused { item, bit, var }
+        } else {
+            RunFault::BadJson { line }
+        };
+        self.wrong(line, reason.as_str(), fault)
     }
 
     /// Says why a line says no bytes.
-    fn bad_line(&mut self, line: &[u8], number: u64, why: NoBytes) -> Result<(), RunFault> {
-        let place = match line.iter().position(|c| !c.is_ascii_hexdigit()) {
-            Some(place) if why == NoBytes::NoDigits => place,
-            _ => line.len(),
-        };
-        self.note(RunFault::BadHex {
-            line: number,
-            place: place as u64,
-        });
+    fn bad_hex(&mut self, text: &[u8], line: u64, why: NoBytes) -> Step<()> {
         let mut reason = String::new(self.alloc);
-        write_no_bytes(why, &mut reason).map_err(memory)?;
-        self.wrong(number, reason.as_str())
+        write_no_bytes(why, &mut reason)?;
+        let place = match text.iter().position(|c| !c.is_ascii_hexdigit()) {
+            Some(place) if why == NoBytes::NoDigits => place,
+            _ => text.len(),
+        };
+        let place = place as u64;
+        self.wrong(line, reason.as_str(), RunFault::BadHex { line, place })
     }
 
-    /// Explains the item of a line of JSON.
-    fn json_line(&mut self, line: &[u8], number: u64, bytes: &mut Vec<u8>) -> Result<(), RunFault> {
-        match from_line(self.alloc, self.task.kind, line) {
-            Ok(entry) => {
-                bytes.clear();
-                encoded(&entry, bytes).map_err(memory)?;
-                self.item(bytes.as_slice(), number)?;
-                Ok(())
-            }
-            Err(fault) => self.bad_json(line, number, fault),
-        }
-    }
-
-    /// Says why a line of JSON is no item.
-    fn bad_json(&mut self, line: &[u8], number: u64, fault: JsonFault) -> Result<(), RunFault> {
-        let reason = json_reason(self.alloc, self.task.kind, line, fault).map_err(memory)?;
-        if let JsonFault::Refused { bit, var } = fault {
-            self.items = self.items.saturating_add(1);
-            let item = self.items;
-            self.note(RunFault::Refused { item, bit, var });
-        } else {
-            self.note(RunFault::BadJson { line: number });
-        }
-        self.wrong(number, reason.as_str())
+    /// Says that a line is too long.
+    fn bad_length(&mut self, line: u64) -> Step<()> {
+        let fault = match self.task.from {
+            Form::Json => RunFault::BadJson { line },
+            _ => RunFault::BadHex {
+                line,
+                place: MOST_LINE as u64,
+            },
+        };
+        self.wrong(line, "more than 1,048,576 bytes, which no line has", fault)
     }
 }
 
 /// Appends what bytes are, or where they stop being so.
-fn write_title(
-    kind: Kind,
-    bytes: &[u8],
-    account: &Account,
-    out: &mut String,
-) -> Result<(), AllocError> {
-    match account.end {
-        End::Refused(bit, part) => write!(out, "refused at bit {bit}, {}", part.var.name()),
+fn write_title(kind: Kind, bytes: &[u8], end: End, out: &mut String) -> Written {
+    let count = bytes.len();
+    match end {
+        End::Refused(bit, part) => write!(out, "refused at bit {bit}, {}", part.var),
         End::Open(part) => {
-            let bits = bytes.len().saturating_mul(8);
-            write!(out, "truncated after {bits} bits, in {}", part.var.name())
+            let bits = count.saturating_mul(8);
+            write!(out, "truncated after {bits} bits, in {}", part.var)
         }
         End::Whole => match kind {
             Kind::Long => out.push_str("telegram, long, 830 bits"),
             Kind::Short => out.push_str("telegram, short, 210 bits"),
-            Kind::Radio => write!(out, "message to the train, {} bytes", bytes.len()),
-            Kind::Train => write!(out, "message to the track, {} bytes", bytes.len()),
+            Kind::Radio => write!(out, "message to the train, {count} bytes"),
+            Kind::Train => write!(out, "message to the track, {count} bytes"),
         },
     }
 }
 
-/// A line without the CR at its end.
-fn without_cr(line: &[u8]) -> &[u8] {
-    match line.split_last() {
-        Some((b'\r', line)) => line,
-        _ => line,
-    }
+/// How many bytes the item has that these begin, as far as that is known.
+fn wanted(kind: Kind, bytes: &[u8]) -> usize {
+    wanted_bytes(kind, bytes).unwrap_or(3).clamp(3, MOST_BYTES)
 }
 
 /// The bytes of an item that isn't whole yet, and the line in which it begins.
@@ -311,139 +231,173 @@ struct Held {
 }
 
 impl Held {
-    /// Nothing is held.
-    fn new(alloc: Global) -> Held {
-        Held {
-            bytes: Vec::new(alloc),
-            line: 0,
+    /// Explains the whole items that the bytes begin with, of which the last come from this line, and says whether none is
+    /// refused. What is left is held on.
+    fn pass<W: Write>(&mut self, line: u64, to: &mut Explainer<W>) -> Step<bool> {
+        let mut rest = self.bytes.as_slice();
+        while !rest.is_empty() && rest.len() >= wanted(to.task.kind, rest) {
+            match to.item(rest, self.line)? {
+                Some(count) if count > 0 && count <= rest.len() => rest = &rest[count..],
+                _ => {
+                    self.bytes.clear();
+                    return Ok(false);
+                }
+            }
         }
-    }
-
-    /// After this many of the bytes: what is left began in this line.
-    fn pass(&mut self, count: usize, line: u64) {
-        if count > 0 {
+        let at = self.bytes.len() - rest.len();
+        if at > 0 {
             self.line = line;
         }
-        let len = self.bytes.len();
-        let count = count.min(len);
-        self.bytes.copy_within(count.., 0);
-        self.bytes.truncate(len - count);
+        self.bytes.copy_within(at.., 0);
+        self.bytes.truncate(self.bytes.len() - at);
+        Ok(true)
+    }
+
+    /// Explains the item that is held, of which no more comes.
+    fn end<W: Write>(&mut self, to: &mut Explainer<W>) -> Step<()> {
+        if !self.bytes.is_empty() {
+            to.item(self.bytes.as_slice(), self.line)?;
+            self.bytes.clear();
+        }
+        Ok(())
+    }
+
+    /// Whether a bit is refused of the item that is held with these bytes, where all its bytes are there.
+    fn refuses<W>(&self, to: &Explainer<W>) -> Step<bool> {
+        let bytes = self.bytes.as_slice();
+        let kind = to.task.kind;
+        if bytes.len() < wanted(kind, bytes) {
+            return Ok(false);
+        }
+        let account = Account::read(to.alloc, kind, bytes)?;
+        Ok(matches!(account.end, End::Refused(_, _)))
+    }
+
+    /// Takes the bytes of a line. An item that they make no item ended before them.
+    fn take<W: Write>(&mut self, bytes: &[u8], line: u64, to: &mut Explainer<W>) -> Step<()> {
+        let before = self.bytes.len();
+        self.bytes.extend_from_slice(bytes)?;
+        if before > 0 && self.refuses(to)? {
+            self.bytes.truncate(before);
+            self.end(to)?;
+            self.bytes.extend_from_slice(bytes)?;
+            self.line = line;
+        }
+        if before == 0 {
+            self.line = line;
+        }
+        self.pass(line, to)?;
+        Ok(())
     }
 }
 
-/// Keeps a part of a line, of which no more is kept than shows that it is too long.
-fn keep(begun: &mut Vec<u8>, part: &[u8]) -> Result<(), RunFault> {
-    let room = (MOST_LINE + 2).saturating_sub(begun.len());
-    begun
-        .extend_from_slice(&part[..part.len().min(room)])
-        .map_err(memory)
-}
-
-/// Takes the lines of an input.
+/// Takes the pieces of an input.
 #[derive(Drop)]
-struct Lines {
+struct Pieces {
     begun: Vec<u8>,
-    number: u64,
+    line: u64,
     held: Held,
     bytes: Vec<u8>,
 }
 
-impl Lines {
-    /// Nothing has come yet.
-    fn new(alloc: Global) -> Lines {
-        Lines {
-            begun: Vec::new(alloc),
-            number: 0,
-            held: Held::new(alloc),
-            bytes: Vec::new(alloc),
-        }
+impl Pieces {
+    /// Keeps a part of a line, of which no more is kept than shows that it is too long.
+    fn keep(&mut self, part: &[u8]) -> Written {
+        let room = (MOST_LINE + 2).saturating_sub(self.begun.len());
+        self.begun.extend_from_slice(&part[..part.len().min(room)])
     }
 
     /// A line ends here, of which this is the last part.
-    fn end_line<W: Write>(
-        &mut self,
-        part: &[u8],
-        explainer: &mut Explainer<W>,
-    ) -> Result<(), RunFault> {
-        keep(&mut self.begun, part)?;
-        self.number = self.number.saturating_add(1);
-        let line = without_cr(self.begun.as_slice());
-        if line.len() > MOST_LINE {
-            explainer.note(RunFault::BadJson { line: self.number });
-            explainer.wrong(self.number, "more than 1,048,576 bytes, which no line has")?;
-        } else if !line.is_empty() {
-            match explainer.task.from {
-                Form::Json => explainer.json_line(line, self.number, &mut self.bytes)?,
-                _ => explainer.hex_line(line, self.number, &mut self.held, &mut self.bytes)?,
+    fn end_line<W: Write>(&mut self, part: &[u8], to: &mut Explainer<W>) -> Step<()> {
+        self.keep(part)?;
+        self.line = self.line.saturating_add(1);
+        let line = self.line;
+        let text = match self.begun.as_slice().split_last() {
+            Some((b'\r', text)) => text,
+            _ => self.begun.as_slice(),
+        };
+        if text.len() > MOST_LINE {
+            to.bad_length(line)?;
+        } else if to.task.from == Form::Json {
+            if !text.is_empty() {
+                to.json_line(text, line, &mut self.bytes)?;
+            }
+        } else {
+            self.bytes.resize(text.len() / 2 + 1, 0)?;
+            match line_bytes(text, self.bytes.as_mut_slice()) {
+                Ok(count) => {
+                    let said = &self.bytes[self.bytes.len() - count..];
+                    self.held.take(said, line, to)?;
+                }
+                Err(NoBytes::Empty) => {}
+                Err(why) => {
+                    self.held.end(to)?;
+                    to.bad_hex(text, line, why)?;
+                }
             }
         }
         self.begun.clear();
         Ok(())
     }
 
-    /// Takes a piece of the input.
-    fn feed<W: Write>(
-        &mut self,
-        piece: &[u8],
-        explainer: &mut Explainer<W>,
-    ) -> Result<(), RunFault> {
+    /// Takes a piece of the input, and says whether more is wanted.
+    fn feed<W: Write>(&mut self, piece: &[u8], to: &mut Explainer<W>) -> Step<bool> {
+        if to.task.from == Form::Bin {
+            self.held.bytes.extend_from_slice(piece)?;
+            return self.held.pass(0, to);
+        }
         let mut rest = piece;
         while let Some((line, behind)) = split_line(rest) {
-            self.end_line(line, explainer)?;
+            self.end_line(line, to)?;
             rest = behind;
         }
-        keep(&mut self.begun, rest)
+        self.keep(rest)?;
+        Ok(true)
     }
 }
 
-/// Explains the lines of an input.
-fn run_lines<R: Read, W: Write>(
-    explainer: &mut Explainer<W>,
-    input: &mut R,
-) -> Result<(), RunFault> {
+/// Explains the whole input.
+fn read_all<R: Read, W: Write>(to: &mut Explainer<W>, input: &mut R) -> Step<()> {
+    let alloc = to.alloc;
     let mut buffer = [0u8; MOST_READ];
-    let mut lines = Lines::new(explainer.alloc);
+    let mut pieces = Pieces {
+        begun: Vec::new(alloc),
+        line: 0,
+        held: Held {
+            bytes: Vec::new(alloc),
+            line: 0,
+        },
+        bytes: Vec::new(alloc),
+    };
     for _ in 0..MOST_READS {
         let Ok(count) = input.read(&mut buffer) else {
-            return Err(RunFault::Read);
+            return Err(Broken(RunFault::Read));
         };
         if count == 0 {
-            lines.end_line(&[], explainer)?;
-            return explainer.end_held(&mut lines.held);
+            if to.task.from != Form::Bin {
+                pieces.end_line(&[], to)?;
+            }
+            return pieces.held.end(to);
         }
-        lines.feed(&buffer[..count], explainer)?;
-    }
-    Err(RunFault::Endless)
-}
-
-/// How many bytes the item has that these begin, as far as that is known.
-fn wanted(kind: Kind, bytes: &[u8]) -> usize {
-    wanted_bytes(kind, bytes).unwrap_or(3).clamp(3, MOST_BYTES)
-}
-
-/// Explains the items of bytes, up to one that is refused.
-fn run_bytes<R: Read, W: Write>(
-    explainer: &mut Explainer<W>,
-    input: &mut R,
-) -> Result<(), RunFault> {
-    let mut buffer = [0u8; MOST_READ];
-    let mut held = Held::new(explainer.alloc);
-    for _ in 0..MOST_READS {
-        let Ok(count) = input.read(&mut buffer) else {
-            return Err(RunFault::Read);
-        };
-        if count == 0 {
-            return explainer.end_held(&mut held);
-        }
-        held.bytes
-            .extend_from_slice(&buffer[..count])
-            .map_err(memory)?;
-        match explainer.items(held.bytes.as_slice(), 0)? {
-            Some(at) => held.pass(at, 0),
-            None => return Ok(()),
+        if !pieces.feed(&buffer[..count], to)? {
+            return Ok(());
         }
     }
-    Err(RunFault::Endless)
+    Err(Broken(RunFault::Endless))
+}
+
+/// Explains the whole input, between what a page has before and after its items.
+fn explain_all<R: Read, W: Write>(explainer: &mut Explainer<W>, input: &mut R) -> Step<()> {
+    explainer.sheet.put("", HEAD)?;
+    read_all(explainer, input)?;
+    explainer.sheet.put("", FOOT)?;
+    explainer.send()?;
+    match explainer.output.flush() {
+        Ok(()) => Ok(()),
+        Err(_) => Err(Broken(RunFault::Write {
+            sent: explainer.sent,
+        })),
+    }
 }
 
 /// Explains the items of an input, one after another: each variable with its bits, its number and what it stands for, and
@@ -470,25 +424,8 @@ pub fn explain<R: Read + Drop, W: Write + Drop>(
         items: 0,
         first: None,
     };
-    if task.layout == Layout::Html {
-        explainer.sheet.out.push_str(HEAD).map_err(memory)?;
-    }
-    match task.from {
-        Form::Bin => run_bytes(&mut explainer, &mut input)?,
-        Form::Hex | Form::Json => run_lines(&mut explainer, &mut input)?,
-    }
-    if task.layout == Layout::Html {
-        explainer.sheet.out.push_str(FOOT).map_err(memory)?;
-    }
-    explainer.send()?;
-    match explainer.output.flush() {
-        Ok(()) => {}
-        Err(_) => return Err(RunFault::Write {
-            sent: explainer.sent,
-        }),
-    }
-    match explainer.first {
-        Some(fault) => Err(fault),
-        None => Ok(()),
+    match (explain_all(&mut explainer, &mut input), explainer.first) {
+        (Err(Broken(fault)), _) | (Ok(()), Some(fault)) => Err(fault),
+        (Ok(()), None) => Ok(()),
     }
 }

@@ -11,50 +11,33 @@ pub enum Layout {
     Html,
 }
 
-/// Bits from the first to the last.
-#[derive(Clone, Copy)]
-pub(crate) struct Span {
-    pub(crate) first: usize,
-    pub(crate) last: usize,
-}
+/// What writing a text answers: nothing, or that memory was refused, and then a part of it may be there.
+pub(crate) type Written = Result<(), AllocError>;
 
 /// Takes the lines of tables. A line's value and meaning are written first, and then the line.
 #[derive(Drop)]
 pub(crate) struct Sheet {
-    pub(crate) layout: Layout,
+    layout: Layout,
     pub(crate) out: String,
     pub(crate) value: String,
     pub(crate) meaning: String,
 }
 
 /// Appends blanks up to this length.
-fn pad(out: &mut String, len: usize) -> Result<(), AllocError> {
+fn pad(out: &mut String, len: usize) -> Written {
     for _ in out.len()..len {
         out.push(' ')?;
     }
     Ok(())
 }
 
-/// Appends the numbers of a span's bits.
-fn write_span(span: Span, out: &mut String) -> Result<(), AllocError> {
-    if span.first == span.last {
-        write!(out, "{}", span.first)
+/// Appends the numbers of the first and the last bit.
+fn write_bits(bits: (usize, usize), out: &mut String) -> Written {
+    if bits.0 == bits.1 {
+        write!(out, "{}", bits.0)
     } else {
-        write!(out, "{}..{}", span.first, span.last)
+        write!(out, "{}..{}", bits.0, bits.1)
     }
-}
-
-/// Appends text in which no character means anything to HTML.
-fn write_escaped(text: &str, out: &mut String) -> Result<(), AllocError> {
-    for character in text.chars() {
-        match character {
-            '&' => out.push_str("&amp;")?,
-            '<' => out.push_str("&lt;")?,
-            '>' => out.push_str("&gt;")?,
-            _ => out.push(character)?,
-        }
-    }
-    Ok(())
 }
 
 impl Sheet {
@@ -74,152 +57,137 @@ impl Sheet {
         self.meaning.clear();
     }
 
-    /// Appends text as the form has it.
-    pub(crate) fn write(&mut self, text: &str) -> Result<(), AllocError> {
-        match self.layout {
-            Layout::Text => self.out.push_str(text),
-            Layout::Html => write_escaped(text, &mut self.out),
+    /// Appends the one of these that the form has.
+    pub(crate) fn put(&mut self, text: &str, page: &str) -> Written {
+        self.out.push_str(match self.layout {
+            Layout::Text => text,
+            Layout::Html => page,
+        })
+    }
+
+    /// Appends the meaning, in which no character means anything to HTML.
+    fn put_meaning(&mut self) -> Written {
+        for character in self.meaning.chars() {
+            match (self.layout, character) {
+                (Layout::Html, '&') => self.out.push_str("&amp;")?,
+                (Layout::Html, '<') => self.out.push_str("&lt;")?,
+                (Layout::Html, '>') => self.out.push_str("&gt;")?,
+                _ => self.out.push(character)?,
+            }
         }
+        Ok(())
     }
 
     /// Begins the table of an item, whose title is the meaning.
-    pub(crate) fn open_item(&mut self) -> Result<(), AllocError> {
-        match self.layout {
-            Layout::Text => {
-                self.out.push_str(self.meaning.as_str())?;
-                self.out
-                    .push_str("\n  bits        variable              number  meaning\n")
-            }
-            Layout::Html => {
-                self.out.push_str("<h2>")?;
-                write_escaped(self.meaning.as_str(), &mut self.out)?;
-                self.out.push_str("</h2>\n")
-            }
-        }
+    pub(crate) fn open_item(&mut self) -> Written {
+        self.put("", "<section><h2>")?;
+        self.put_meaning()?;
+        self.put(
+            "\n  bits        variable              number  meaning\n",
+            "</h2>\n",
+        )
     }
 
     /// Begins a run of lines, whose title is the meaning, if it has one.
-    pub(crate) fn open_part(&mut self) -> Result<(), AllocError> {
-        match self.layout {
-            Layout::Text if self.meaning.is_empty() => Ok(()),
-            Layout::Text => writeln!(self.out, "  {}", self.meaning),
-            Layout::Html => {
-                self.out.push_str("<details open><summary>")?;
-                if self.meaning.is_empty() {
-                    self.out.push_str("header")?;
-                } else {
-                    write_escaped(self.meaning.as_str(), &mut self.out)?;
-                }
-                self.out.push_str("</summary><table>\n")
-            }
+    pub(crate) fn open_part(&mut self) -> Written {
+        self.put("", "<details open><summary>")?;
+        if self.meaning.is_empty() {
+            return self.put("", "header</summary><table>\n");
         }
+        self.put("  ", "")?;
+        self.put_meaning()?;
+        self.put("\n", "</summary><table>\n")
     }
 
     /// Ends a run of lines.
-    pub(crate) fn close_part(&mut self) -> Result<(), AllocError> {
-        match self.layout {
-            Layout::Text => Ok(()),
-            Layout::Html => self.out.push_str("</table></details>\n"),
-        }
+    pub(crate) fn close_part(&mut self) -> Written {
+        self.put("", "</table></details>\n")
     }
 
     /// Writes the line of an entry, at this depth.
-    pub(crate) fn entry(&mut self, depth: usize, entry: u64, count: u64) -> Result<(), AllocError> {
-        match self.layout {
-            Layout::Text => {
-                let start = self.out.len();
-                pad(&mut self.out, start.saturating_add(depth.saturating_mul(2)))?;
-                writeln!(self.out, "  entry {entry} of {count}")
-            }
-            Layout::Html => writeln!(self.out, "<tr><th colspan=4>entry {entry} of {count}"),
+    pub(crate) fn entry(&mut self, depth: usize, entry: u64, count: u64) -> Written {
+        self.put("  ", "<tr><th colspan=4>")?;
+        if self.layout == Layout::Text {
+            let len = self.out.len().saturating_add(depth.saturating_mul(2));
+            pad(&mut self.out, len)?;
         }
+        writeln!(self.out, "entry {entry} of {count}")
     }
 
-    /// Writes the line of a variable, at this depth.
+    /// Writes the line of a variable of these bits, at this depth.
     pub(crate) fn line(
         &mut self,
         depth: usize,
-        span: Span,
+        bits: (usize, usize),
         name: &str,
         refused: bool,
-    ) -> Result<(), AllocError> {
+    ) -> Written {
         match self.layout {
-            Layout::Text => self.text_line(depth, span, name),
-            Layout::Html => self.table_row(depth, span, name, refused),
+            Layout::Text => self.text_line(depth, bits, name),
+            Layout::Html => self.table_row(depth, bits, name, refused),
         }
     }
 
-    fn text_line(&mut self, depth: usize, span: Span, name: &str) -> Result<(), AllocError> {
+    fn text_line(&mut self, depth: usize, bits: (usize, usize), name: &str) -> Written {
         let start = self.out.len().saturating_add(depth.saturating_mul(2));
         pad(&mut self.out, start.saturating_add(2))?;
-        write_span(span, &mut self.out)?;
+        write_bits(bits, &mut self.out)?;
         pad(&mut self.out, start.saturating_add(14))?;
         self.out.push_str(name)?;
-        let width = self.value.len().saturating_add(1);
-        pad(
-            &mut self.out,
-            start.saturating_add(42usize.saturating_sub(width)),
-        )?;
+        let blanks = 41usize.saturating_sub(self.value.len());
+        pad(&mut self.out, start.saturating_add(blanks))?;
         write!(self.out, " {}", self.value)?;
         if !self.meaning.is_empty() {
             write!(self.out, "  {}", self.meaning)?;
         }
-        self.out.push('\n')?;
-        Ok(())
+        self.out.push('\n')
     }
 
     fn table_row(
         &mut self,
         depth: usize,
-        span: Span,
+        bits: (usize, usize),
         name: &str,
         refused: bool,
-    ) -> Result<(), AllocError> {
+    ) -> Written {
         let class = if refused { " class=no" } else { "" };
         write!(
             self.out,
             "<tr{class} data-a={} data-b={}><td>",
-            span.first, span.last
+            bits.0, bits.1
         )?;
-        write_span(span, &mut self.out)?;
+        write_bits(bits, &mut self.out)?;
         write!(self.out, "<td class=d{depth}>{name}<td>{}<td>", self.value)?;
-        write_escaped(self.meaning.as_str(), &mut self.out)?;
-        self.out.push('\n')?;
-        Ok(())
+        self.put_meaning()?;
+        self.out.push('\n')
     }
-}
 
-impl Sheet {
-    /// Writes the reason that the meaning has, and what it often comes of.
-    pub(crate) fn remark(&mut self, often: Option<&'static str>) -> Result<(), AllocError> {
-        match self.layout {
-            Layout::Text => {
-                writeln!(self.out, "  Why: {}.", self.meaning)?;
-                match often {
-                    Some(often) => writeln!(self.out, "  Often: {often}."),
-                    None => Ok(()),
-                }
+    /// Ends the table of an item, with the reason that the meaning has, if it has one, and what it often comes of.
+    pub(crate) fn close_item(&mut self, often: Option<&'static str>) -> Written {
+        if !self.meaning.is_empty() {
+            self.put("  Why: ", "<p class=no>Why: ")?;
+            self.put_meaning()?;
+            if let Some(often) = often {
+                self.put(".\n  Often: ", ".<p>Often: ")?;
+                self.out.push_str(often)?;
             }
-            Layout::Html => {
-                self.out.push_str("<p class=no>Why: ")?;
-                write_escaped(self.meaning.as_str(), &mut self.out)?;
-                match often {
-                    Some(often) => writeln!(self.out, ".<p>Often: {often}."),
-                    None => self.out.push_str(".\n"),
-                }
-            }
+            self.out.push_str(".\n")?;
         }
+        self.put("", "</div></div></section>\n")
     }
 
     /// Writes the meaning as the line of what is no item.
-    pub(crate) fn heading(&mut self) -> Result<(), AllocError> {
+    pub(crate) fn heading(&mut self) -> Written {
+        self.put("", "<p class=no>")?;
+        self.put_meaning()?;
+        self.out.push('\n')
+    }
+
+    /// The page on which bytes are shown, if it is one.
+    pub(crate) fn page(&mut self) -> Option<&mut String> {
         match self.layout {
-            Layout::Text => writeln!(self.out, "{}", self.meaning),
-            Layout::Html => {
-                self.out.push_str("<p class=no>")?;
-                write_escaped(self.meaning.as_str(), &mut self.out)?;
-                self.out.push_str("\n")
-            }
+            Layout::Text => None,
+            Layout::Html => Some(&mut self.out),
         }
     }
 }

@@ -1,13 +1,13 @@
 //! The table of an item: a line for each variable, packets and entries with lines of their own.
 
 use crate::account::{Account, End};
+use crate::front::low_byte;
 use crate::meanings::write_meaning;
 use crate::names::{message_name, packet_name};
-use crate::sheet::{Sheet, Span};
+use crate::sheet::{Sheet, Written};
 use etcs_bits::peek;
-use etcs_tables::{RowItem, Way, row_of};
+use etcs_tables::{CLOSING_BITS, MARKER_BITS, RowItem, Way, row_of};
 use etcs_vars::Var;
-use std::alloc::AllocError;
 
 /// Where the writer of a table is among the variables of an account.
 #[derive(Drop)]
@@ -60,7 +60,7 @@ impl<'a> Table<'a> {
     }
 
     /// Writes all lines.
-    pub(crate) fn write(&mut self, sheet: &mut Sheet) -> Result<(), AllocError> {
+    pub(crate) fn write(&mut self, sheet: &mut Sheet) -> Written {
         sheet.clear();
         sheet.open_part()?;
         for _ in 0..self.fields.len() {
@@ -78,28 +78,20 @@ impl<'a> Table<'a> {
         sheet.close_part()
     }
 
-    /// Passes the next variable, and answers its bits.
-    fn pass(&mut self, var: Var) -> Span {
+    /// Passes this many variables with this many bits, and answers the first and the last of the bits.
+    fn pass(&mut self, count: usize, bits: usize) -> (usize, usize) {
         let first = self.bit;
-        self.at = self.at.saturating_add(1);
-        self.bit = first.saturating_add(var.width());
-        Span {
-            first,
-            last: self.bit.saturating_sub(1),
-        }
+        self.at = self.at.saturating_add(count);
+        self.bit = first.saturating_add(bits);
+        (first, self.bit.saturating_sub(1))
     }
 
     /// Writes the line of the next variable, after which this item of its row comes.
-    fn line(
-        &mut self,
-        depth: usize,
-        behind: Option<&RowItem>,
-        sheet: &mut Sheet,
-    ) -> Result<(), AllocError> {
+    fn line(&mut self, depth: usize, behind: Option<&RowItem>, sheet: &mut Sheet) -> Written {
         let Some((var, number)) = self.field() else {
             return Ok(());
         };
-        let span = self.pass(var);
+        let bits = self.pass(1, var.width());
         if var == Var::Q_SCALE {
             self.scale = Some(number);
         }
@@ -107,7 +99,7 @@ impl<'a> Table<'a> {
         write_number(var, number, &mut sheet.value)?;
         write_meaning(var, number, self.scale, &mut sheet.meaning)?;
         self.write_effect(var, number, behind, &mut sheet.meaning)?;
-        sheet.line(depth, span, var.name(), false)
+        sheet.line(depth, bits, var.name(), false)
     }
 
     /// Appends what a number means for what follows it.
@@ -117,12 +109,12 @@ impl<'a> Table<'a> {
         number: u64,
         behind: Option<&RowItem>,
         out: &mut String,
-    ) -> Result<(), AllocError> {
+    ) -> Written {
         match (var, behind) {
             (Var::L_PACKET, _) => write_end("packet", self.start, number, out),
             (Var::L_MESSAGE, _) => write_end("message", 0, number.saturating_mul(8), out),
             (Var::NID_MESSAGE, _) => out.push_str(message_name(number).unwrap_or("")),
-            (Var::L_TEXT, _) => write!(out, "characters that follow"),
+            (Var::L_TEXT, _) => out.push_str("characters that follow"),
             (_, Some(RowItem::Many(_))) => match number {
                 0 => out.push_str("no entry follows"),
                 1 => out.push_str("1 entry follows"),
@@ -132,17 +124,15 @@ impl<'a> Table<'a> {
                 let Some(next) = self.next() else {
                     return Ok(());
                 };
-                if !out.is_empty() {
-                    out.push_str(", ")?;
-                }
-                write!(out, "{} is next", next.name())
+                let comma = if out.is_empty() { "" } else { ", " };
+                write!(out, "{comma}{next} is next")
             }
             _ => Ok(()),
         }
     }
 
     /// Writes the lines of a packet of this number.
-    fn packet(&mut self, number: u64, sheet: &mut Sheet) -> Result<(), AllocError> {
+    fn packet(&mut self, number: u64, sheet: &mut Sheet) -> Written {
         self.start = self.bit;
         self.scale = None;
         sheet.clear();
@@ -158,24 +148,24 @@ impl<'a> Table<'a> {
                 self.line(0, None, sheet)?;
             }
         }
-        match row_of(self.way, (number & 255) as u8) {
+        match row_of(self.way, low_byte(number)) {
             Some(row) => self.row(row.items, 0, 0, sheet),
             None => Ok(()),
         }
     }
 
     /// Appends the first and the last bit of the packet whose frame comes next.
-    fn write_extent(&self, out: &mut String) -> Result<(), AllocError> {
+    fn write_extent(&self, out: &mut String) -> Written {
         let first = self.bit;
         for field in self.fields.iter().skip(self.at).take(3) {
             let length = match *field {
                 (Var::L_PACKET, length) => length,
-                (Var::NID_VBCMK, _) => 14,
-                (Var::NID_PACKET, 255) if self.way == Way::ToTrain => 8,
+                (Var::NID_VBCMK, _) => MARKER_BITS as u64,
+                (Var::NID_PACKET, 255) if self.way == Way::ToTrain => CLOSING_BITS as u64,
                 (Var::NID_PACKET | Var::Q_DIR, _) => continue,
                 _ => break,
             };
-            let last = length.saturating_add(first as u64).saturating_sub(1);
+            let last = last_bit(first, length);
             return write!(out, ", bits {first} to {last}");
         }
         write!(out, ", from bit {first} on")
@@ -188,7 +178,7 @@ impl<'a> Table<'a> {
         before: u64,
         depth: usize,
         sheet: &mut Sheet,
-    ) -> Result<(), AllocError> {
+    ) -> Written {
         match items.split_first() {
             None => Ok(()),
             Some((RowItem::One(_), rest)) => {
@@ -221,71 +211,63 @@ impl<'a> Table<'a> {
     }
 
     /// Writes the line of a run of kept bits.
-    fn run(&mut self, var: Var, sheet: &mut Sheet) -> Result<(), AllocError> {
-        let first = self.bit;
+    fn run(&mut self, var: Var, sheet: &mut Sheet) -> Written {
+        sheet.clear();
         let mut count = 0usize;
         let mut ones = 0usize;
-        sheet.clear();
-        for field in self.fields.iter().skip(self.at) {
-            if field.0 != var {
+        for (next, bit) in self.fields.iter().skip(self.at) {
+            if *next != var {
                 break;
             }
-            if count < 64 {
-                sheet.meaning.push(if field.1 == 0 { '0' } else { '1' })?;
+            match count {
+                0..=63 => write!(sheet.meaning, "{bit}")?,
+                64 => sheet.meaning.push_str("..")?,
+                _ => {}
             }
             count = count.saturating_add(1);
-            if field.1 == 1 {
-                ones = ones.saturating_add(1);
-            }
-        }
-        self.at = self.at.saturating_add(count);
-        self.bit = first.saturating_add(count);
-        write!(sheet.value, "{count} bits")?;
-        if count > 64 {
-            sheet.meaning.push_str("..")?;
+            ones = ones.saturating_add(*bit as usize);
         }
         if ones == 0 || ones == count {
             sheet.meaning.clear();
-            sheet
-                .meaning
-                .push_str(if ones == 0 { "all zeros" } else { "all ones" })?;
+            let all = if ones == 0 { "all zeros" } else { "all ones" };
+            sheet.meaning.push_str(all)?;
         }
-        let last = self.bit.saturating_sub(1);
-        sheet.line(0, Span { first, last }, var.name(), false)
+        write!(sheet.value, "{count} bits")?;
+        let bits = self.pass(count, count);
+        sheet.line(0, bits, var.name(), false)
     }
 
     /// Writes the line of the variable that isn't whole, if there is one: its number where the bytes have all of it, else
     /// how many bits they have.
-    fn unfinished(&mut self, sheet: &mut Sheet) -> Result<(), AllocError> {
-        let (part, refused) = match self.end {
+    fn unfinished(&mut self, sheet: &mut Sheet) -> Written {
+        sheet.clear();
+        let (var, refused) = match self.end {
             End::Whole => return Ok(()),
             End::Open(part) if part.count == 0 => return Ok(()),
-            End::Open(part) => (part, None),
-            End::Refused(bit, part) => (part, Some(bit)),
-        };
-        let first = self.bit;
-        sheet.clear();
-        let last = match peek(self.bytes, first, part.var.width()) {
-            Some(number) => {
-                write_number(part.var, number, &mut sheet.value)?;
-                first.saturating_add(part.var.width()).saturating_sub(1)
+            End::Open(part) => {
+                sheet.meaning.push_str("not whole")?;
+                (part.var, false)
             }
+            End::Refused(bit, part) => {
+                write!(sheet.meaning, "refused at bit {bit}")?;
+                (part.var, true)
+            }
+        };
+        let mut count = var.width();
+        match peek(self.bytes, self.bit, count) {
+            Some(number) => write_number(var, number, &mut sheet.value)?,
             None => {
-                let all = self.bytes.len().saturating_mul(8);
-                write!(sheet.value, "{} bits", all.saturating_sub(first))?;
-                all.saturating_sub(1)
+                count = self.bytes.len().saturating_mul(8).saturating_sub(self.bit);
+                write!(sheet.value, "{count} bits")?;
             }
-        };
-        match refused {
-            Some(bit) => write!(sheet.meaning, "refused at bit {bit}")?,
-            None => sheet.meaning.push_str("not whole")?,
         }
-        sheet.line(0, Span { first, last }, part.var.name(), refused.is_some())
+        let bits = self.pass(0, count);
+        sheet.line(0, bits, var.name(), refused)
     }
 }
 
 /// Appends a number of the variable: NID_RADIO in hexadecimal, all others in decimal, D_REF with its sign.
-fn write_number(var: Var, number: u64, out: &mut String) -> Result<(), AllocError> {
+fn write_number(var: Var, number: u64, out: &mut String) -> Written {
     match var {
         Var::NID_RADIO => write!(out, "{number:016x}"),
         Var::D_REF if number > 32767 => write!(out, "-{}", 65536u64.saturating_sub(number)),
@@ -293,8 +275,16 @@ fn write_number(var: Var, number: u64, out: &mut String) -> Result<(), AllocErro
     }
 }
 
+/// The last of this many bits from one on.
+fn last_bit(first: usize, count: u64) -> u64 {
+    count.saturating_add(first as u64).saturating_sub(1)
+}
+
 /// Appends where a part ends that begins at a bit and has this many.
-fn write_end(what: &str, start: usize, count: u64, out: &mut String) -> Result<(), AllocError> {
-    let last = count.saturating_add(start as u64).saturating_sub(1);
-    write!(out, "so the {what} ends with bit {last}")
+fn write_end(what: &str, first: usize, count: u64, out: &mut String) -> Written {
+    write!(
+        out,
+        "so the {what} ends with bit {}",
+        last_bit(first, count)
+    )
 }

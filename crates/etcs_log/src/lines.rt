@@ -1,6 +1,8 @@
 //! What is said of one line after another.
 
-ghost use Rattle.std.specs.Prelude.{◌≡◌, ◌+◌, ◌*◌, ◌<◌, ◌≤◌, ◌^◌, OnOk, length};
+ghost use Rattle.std.specs.Prelude.{◌≡◌, ◌+◌, ◌*◌, ◌<◌, ◌≤◌, ◌^◌, ◌++◌, ◌∷◌, [], All, OnOk, length};
+ghost use Rattle.hex.specs.Hex.{encode_upper};
+ghost use Rattle.etcs_text.specs.Encodings.{IsEncoded};
 ghost use Rattle.etcs_text.specs.Entries.{entry_value};
 ghost use Rattle.etcs_log.specs.Logs.{Answered, BytesAnswered, Counted, item};
 ghost use Rattle.etcs_log.specs.Stands.{IsFresh};
@@ -12,7 +14,7 @@ use crate::verdict::{ItemReader, Verdict};
 use etcs_digits::{NoBytes, line_bytes};
 use etcs_explain::parts::wanted_bytes;
 use etcs_stream::Entry;
-use etcs_text::hex_line;
+use etcs_text::parts::to_digits;
 use etcs_vars::Var;
 use std::alloc::{AllocError, Global};
 
@@ -24,6 +26,27 @@ const FEW_CHARACTERS: usize = 1024;
 pub(crate) struct Texts {
     pub(crate) good: Vec<u8>,
     pub(crate) notes: String,
+}
+
+/// Appends bytes in upper case digits and a LF.
+///
+/// # Errors
+///
+/// Where memory is refused.
+fn write_digits(bytes: &[u8], out: &mut Vec<u8>) -> Result<(), AllocError>
+    ensures { OnOk result (out.new.items ≡ out.old.items ++ (encode_upper bytes.now ++ 10 ∷ [])) }
+{
+    let start = out.len();
+    out.extend_from_slice(bytes)?;
+    to_digits(out, start)
+}
+
+/// For callers: each byte is below 256.
+#[inline]
+fn are_bytes(bytes: &[u8])
+    ensures { All (λ b. b < 256) bytes.now }
+{
+    let _ = bytes;
 }
 
 /// Says what lines are, and counts them.
@@ -117,8 +140,9 @@ impl Lines {
         ensures fresh { OnOk result ((self.new.reader.kind ≡ self.old.job.kind) × IsFresh self.old.job.kind self.new.reader.reader) }
         ensures ok { OnOk result (BytesAnswered self.old.job bytes.now self.old.tally self.new.tally texts.old.good.items texts.new.good.items) }
     {
+        are_bytes(bytes);
         match self.reader.read(bytes)? {
-            Verdict::Item(entry) => self.take_item(&entry, texts),
+            Verdict::Item(entry) => self.take_item(&entry, bytes, texts),
             Verdict::Refused { bit, var } => {
                 self.refuse_bytes(number, Some((bit, var)), bytes, texts)
             }
@@ -126,12 +150,18 @@ impl Lines {
         }
     }
 
-    /// Counts an item, and writes its digits where they are asked for.
+    /// Counts an item of these bytes, and writes their digits where they are asked for.
     ///
     /// # Errors
     ///
     /// Where memory is refused.
-    fn take_item(&mut self, entry: &Entry, texts: &mut Texts) -> Result<(), AllocError>
+    fn take_item(
+        &mut self,
+        entry: &Entry,
+        bytes: &[u8],
+        texts: &mut Texts,
+    ) -> Result<(), AllocError>
+        requires encoded { IsEncoded (entry_value entry.now) bytes.now }
         requires items { self.old.tally.items < 2 ^ 63 }
         ensures job { self.new.job ≡ self.old.job }
         ensures reader { self.new.reader ≡ self.old.reader }
@@ -139,11 +169,10 @@ impl Lines {
     {
         self.tally.items += 1;
         self.counts.add_item(entry);
-        if self.job.good {
-            hex_line(entry, &mut texts.good)
-        } else {
-            Ok(())
+        if !self.job.good {
+            return Ok(());
         }
+        write_digits(bytes, &mut texts.good)
     }
 
     /// Says why these bytes are no item: they are refused at a bit, or are more or fewer than an item has.

@@ -1,8 +1,8 @@
 -- What is said of a line, by what its digits say.
-use Rattle.std.proofs.Common.{◌≡◌, ℕ, ◌+◌, ◌-◌, ◌≤◌, ◌%◌, Bool, true, false, IsTrue, List, [], ◌∷◌, ◌++◌, length, take, drop, Option, Some, None, Result, Ok, Err, inr, refl, sym, ap, subst, ◌∙◌, arith}
+use Rattle.std.proofs.Common.{◌≡◌, ℕ, ◌+◌, ◌-◌, ◌<◌, ◌≤◌, ◌%◌, Bool, true, false, IsTrue, List, [], ◌∷◌, ◌++◌, length, take, drop, Option, Some, None, Result, Ok, Err, inr, refl, sym, ap, subst, ◌∙◌, arith}
 use Rattle.std.proofs.lemmas.List.{append-nil, length-drop}
 use Rattle.std.proofs.Math.Seq.{take-length}
-use Rattle.std.specs.Prelude.{OnOk}
+use Rattle.std.specs.Prelude.{All, OnOk}
 use Rattle.etcs_vars.specs.declared.var.Var.{Var}
 use Rattle.etcs_text.specs.declared.entry.Entry.{Entry}
 use Rattle.etcs_log.specs.declared.verdict.Verdict.{Verdict}
@@ -85,6 +85,11 @@ pub counted_silently : (job : LogJob) (e : EntryValue) (before after : LogTally)
 counted_silently job e before after text text' i b silent t = ([], (λ asked. cc (sym silent ∙ asked)), t ∙ sym (append-nil text), omega (arith, i), omega (arith, b))
 
 -- ---- What is said of bytes.
+
+pub encoded_is : (kind : Kind) (bytes : List ℕ) (v : Verdict) (e : Entry) → All (λ b. b < 256) bytes → IsVerdict kind bytes v → v ≡ Item e → IsEncoded (entry_value e) bytes
+encoded_is kind bytes v e small says is =
+    let (r, reads, same) = subst (λ (z : Verdict). IsVerdict kind bytes z) is says in
+    record { reading = r; reads = reads.1; small = small; bits_are = sym same }
 
 pub on_ok : {T E : Type 0} (r : Result T E) (P : Type 0) → P → OnOk r P
 on_ok (Ok x) P h = h

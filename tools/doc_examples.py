@@ -8,6 +8,8 @@ PROGRAM is the built `etcs`. The documents are README.md, examples/README.md and
 - Each block ```console is run by bash in a folder for its document, in which `./etcs` is PROGRAM and `examples` is the
   repository's folder. After each command, a line that begins with `$ ` with those that begin with `> `, comes all that it
   writes, standard error too. A line `..` stands for any number of lines, and `..` at a line's end for any rest of it.
+- After `<!-- lines: PATH .. -->` each line of the block, but for comments and empty ones, is a line of one of these files.
+  `{ .. }` at its end stands for a block of any length.
 - Each row of examples/README.md is run, a file with its kind or its command: the status, and the line `etcs: ..` or none,
   have to be those that it says.
 - After `<!-- bits: KIND FILE -->` the block is the first item of a file of examples/, bit by bit: its variables and
@@ -35,6 +37,7 @@ from sources import TESTS, TOP, One, When
 
 Piece = namedtuple("Piece", "at width name number note")
 MARKED = re.compile(r"(<!-- (bits|file): ([^\n]*?) -->\n```\w*\n)(.*?)(^```\n)", re.S | re.M)
+LINES = re.compile(r"<!-- lines: ([^\n]*?) -->\n```\w*\n(.*?)^```\n", re.S | re.M)
 CONSOLE = re.compile(r"^```console\n(.*?)\n```$", re.S | re.M)
 END = "-- the end of a command --"
 
@@ -219,6 +222,17 @@ def differences(text, path, program):
                     yield f"{path}:{line}: $ {command}\n{output}"
 
 
+def line_differences(text, path):
+    """Yields the lines of quoted blocks that are in none of their files."""
+    for paths, block in LINES.findall(text):
+        sources = [f"{TOP}/{it}" for it in paths.split()]
+        there = {line.strip() for it in sources if os.path.exists(it) for line in open(it, encoding="utf-8")}
+        for line in block.split("\n"):
+            line = line.strip().replace("{ .. }", "{")
+            if line and not line.startswith("//") and line not in there:
+                yield f"{path}: no source has the line {line}"
+
+
 def row_differences(text, path, program):
     """Yields what is wrong with the rows of examples/README.md: a file, its kind or a command, and what it answers."""
     for name, given, answer in re.findall(r"^\| `(\w+\.\w+)` \| (.*?) \| (.*) \|$", text, re.M):
@@ -245,7 +259,7 @@ def main(words):
             faults.append(f"{path}: a block has parted from its source: run tools/doc_examples.py")
         elif new != old:
             open(f"{TOP}/{path}", "w", encoding="utf-8").write(new)
-        faults += differences(new, path, program)
+        faults += [*differences(new, path, program), *line_differences(new, path)]
         if path == "examples/README.md":
             faults += row_differences(new, path, os.path.realpath(program))
     print("\n".join(faults) or f"{len(paths)} documents, no difference")

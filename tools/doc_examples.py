@@ -228,7 +228,7 @@ def line_differences(text, path):
         sources = [f"{TOP}/{it}" for it in paths.split()]
         there = {line.strip() for it in sources if os.path.exists(it) for line in open(it, encoding="utf-8")}
         for line in block.split("\n"):
-            line = line.strip().replace("{ .. }", "{")
+            line = re.sub(r"\{ \.\. \}$", "{", line.strip())
             if line and not line.startswith("//") and line not in there:
                 yield f"{path}: no source has the line {line}"
 

@@ -69,4 +69,21 @@ package Etcs is
       Output : access Unsigned_8; Room : size_t; A : in out Answer) return Status
      with Import, Convention => C, External_Name => "etcs_from_fields";
 
+   --  Why input is no item: written where the status is Refused (or Bad_Json).
+
+   function Explain
+     (K : Kind; Bytes : access constant Unsigned_8; Len : size_t;
+      Output : access Unsigned_8; Room : size_t; A : in out Answer) return Status
+     with Import, Convention => C, External_Name => "etcs_explain";
+
+   function Fields_Before
+     (K : Kind; Bytes : access constant Unsigned_8; Len : size_t;
+      Output : access Field; Room : size_t; A : in out Answer) return Status
+     with Import, Convention => C, External_Name => "etcs_fields_before";
+
+   function Explain_Json
+     (K : Kind; Line : access constant Unsigned_8; Len : size_t;
+      Output : access Unsigned_8; Room : size_t; A : in out Answer) return Status
+     with Import, Convention => C, External_Name => "etcs_explain_json";
+
 end Etcs;

@@ -20,7 +20,7 @@
  *   - a pointer is never null, also where its length is 0, and points to that many bytes, fewer than 2^63;
  *   - out and answer overlap neither each other nor the bytes that are read;
  *   - no call from a signal handler, nor in the forked child of a process with threads;
- *   - stack: 64 KiB; etcs_from_json 256 KiB, since lists and objects may be in one another, up to 127 deep.
+ *   - stack: 64 KiB; etcs_from_json and etcs_explain_json 256 KiB, since lists and objects may be in one another, up to 127 deep.
  */
 #ifndef ETCS_H
 #define ETCS_H
@@ -62,7 +62,8 @@ typedef uint32_t etcs_status;
 /* What a call answers beside its status. Begin with etcs_answer a = {0}. */
 typedef struct etcs_answer {
     size_t taken;   /* after ETCS_OK and ETCS_NO_ROOM of a call that reads bytes: how many of them the item takes */
-    size_t written; /* after ETCS_OK and ETCS_NO_ROOM of a call with out: how many bytes, or fields, it has or wants */
+    size_t written; /* after ETCS_OK and ETCS_NO_ROOM of a call with out, and after what the calls that say why answer
+                     * where they write: how many bytes, or fields, it has or wants */
     size_t bit;     /* after ETCS_REFUSED: the first bit that is refused, from 0, the top bit of the first byte */
     char var[32];   /* after ETCS_REFUSED: the name of the variable that holds it, a string */
 } etcs_answer;
@@ -101,6 +102,26 @@ etcs_status etcs_from_json(etcs_kind kind, const uint8_t *line, size_t len, uint
  * or the item that the bits begin with has other fields. In all three cases no item of the kind has these fields. */
 etcs_status etcs_from_fields(etcs_kind kind, const etcs_field *fields, size_t len, uint8_t *out, size_t room,
                              etcs_answer *answer);
+
+/* ---- Why input is no item. These three write where it is refused: answer->written bytes or fields with ETCS_REFUSED or
+ * ETCS_BAD_JSON, none with ETCS_NO_ROOM, which has answer->bit and answer->var too where they are known. With ETCS_OK and
+ * ETCS_MORE nothing is written, and answer->written is 0. */
+
+/* As etcs_check, and of a refused bit why it is: a sentence in UTF-8, without a capital, a full stop or a zero after it, as
+ * "message 6 has 10 or 13 to 1023 bytes, not 11". The words may be others in the next version. */
+etcs_status etcs_explain(etcs_kind kind, const uint8_t *bytes, size_t len, uint8_t *out, size_t room,
+                         etcs_answer *answer);
+
+/* As etcs_check, and of a refused bit the fields of the variables before the one that holds it, in the order of sending,
+ * as etcs_fields writes them. Where they end that variable begins; up to answer->bit its bits are those of an item. */
+etcs_status etcs_fields_before(etcs_kind kind, const uint8_t *bytes, size_t len, etcs_field *out, size_t room,
+                               etcs_answer *answer);
+
+/* As etcs_from_json, but that no encoding is written; and of a line that says no item why: the path of the first part that
+ * is wrong and the reason, as ".packets[0].fields[2]: Q_DIR is wanted after ..", or where it is no JSON. After
+ * ETCS_REFUSED or ETCS_BAD_JSON. */
+etcs_status etcs_explain_json(etcs_kind kind, const uint8_t *line, size_t len, uint8_t *out, size_t room,
+                              etcs_answer *answer);
 
 #ifdef __cplusplus
 }

@@ -53,14 +53,15 @@ static inline size_t etcs_bit_of(const etcs_field *fields, size_t place)
  *         for (size_t at = 0, used; at < n; at += used) {
  *             status = etcs_reader_feed(&reader, piece + at, n - at, &used, &answer);
  *             if (status == ETCS_OK)        the item is reader.bytes, answer.taken bytes of it, until the next call
- *             else if (status != ETCS_MORE) stop: it answers this status from now on
+ *             else if (status != ETCS_MORE) stop: it answers this status from now on, and etcs_explain of reader.bytes,
+ *                                           reader.len of them, says why
  *         }
  *     if (reader.len > 0)                   the input ended inside an item
  */
 typedef struct etcs_reader {
     etcs_kind kind;
     etcs_status status;    /* ETCS_MORE, or how it failed */
-    size_t len;            /* how many bytes of an item that isn't whole it keeps */
+    size_t len;            /* how many bytes it keeps of an item that isn't whole, or that is refused */
     etcs_answer failed;    /* what it answered where it failed */
     uint8_t bytes[ETCS_MOST_BYTES];
 } etcs_reader;
@@ -99,6 +100,7 @@ static inline etcs_status etcs_reader_feed(etcs_reader *reader, const uint8_t *p
     case ETCS_NO_MEMORY: /* as before the call */
         break;
     default:
+        reader->len = held + take;
         reader->status = status;
         reader->failed = *answer;
     }

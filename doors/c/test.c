@@ -71,6 +71,89 @@ static void refused_memory(void)
     }
 }
 
+/* The same of the calls that say why, of bytes that are refused and of JSON that is wrong. */
+static void refused_reasons(void)
+{
+    static const char wrong_json[] = "{\"kind\":\"radio\",\"nid\":24,\"header\":[[\"T_TRAIN\",0],[\"M_ACK\",2]]}";
+    uint8_t bytes[64], before[8192];
+    _Alignas(16) uint8_t out[8192];
+    size_t len = item(bytes, RADIO);
+    etcs_answer a = {0};
+    bytes[1] = 0x02, bytes[2] = 0xC0;   /* L_MESSAGE 11 */
+    for (int call = 0; call < 3; call++)
+        for (long n = 0;; n++) {
+            memset(out, 7, sizeof out), memcpy(before, out, sizeof out);
+            left = n;
+            etcs_status s = call == 0 ? etcs_explain(ETCS_RADIO, bytes, len, out, sizeof out, &a)
+                : call == 1 ? etcs_fields_before(ETCS_RADIO, bytes, len, (etcs_field *)out, sizeof out / sizeof(etcs_field), &a)
+                : etcs_explain_json(ETCS_RADIO, (const uint8_t *)wrong_json, sizeof wrong_json - 1, out, sizeof out, &a);
+            left = LONG_MAX;
+            if (s == (call == 2 ? ETCS_BAD_JSON : ETCS_REFUSED)) { printf("reason, call %d: %ld allocations\n", call, n); break; }
+            EXPECT(s == ETCS_NO_MEMORY);
+            EXPECT(!memcmp(out, before, sizeof out));
+            if (n > 1000) { EXPECT(0); break; }
+        }
+}
+
+/* What is said of bytes and lines that are no item, and of those that are. */
+static void reasons(void)
+{
+    static const char *const why = "message 24 has 10 or 13 to 1023 bytes, not 11";
+    uint8_t bytes[64], out[4096];
+    char line[4096];
+    etcs_field before[8];
+    size_t len = item(bytes, RADIO), size;
+    etcs_answer a = {0};
+    /* an item, and the front of one, have no refused bit */
+    EXPECT(etcs_explain(ETCS_RADIO, bytes, len, out, sizeof out, &a) == ETCS_OK && a.taken == len && a.written == 0);
+    EXPECT(etcs_fields_before(ETCS_RADIO, bytes, len, before, 8, &a) == ETCS_OK && a.taken == len && a.written == 0);
+    EXPECT(etcs_explain(ETCS_RADIO, bytes, len - 1, out, sizeof out, &a) == ETCS_MORE && a.written == 0);
+    EXPECT(etcs_fields_before(ETCS_RADIO, bytes, 0, before, 8, &a) == ETCS_MORE && a.written == 0);
+    EXPECT(etcs_explain(9, bytes, len, out, sizeof out, &a) == ETCS_UNKNOWN_KIND);
+    EXPECT(etcs_fields_before(9, bytes, len, before, 8, &a) == ETCS_UNKNOWN_KIND);
+    EXPECT(etcs_explain_json(9, bytes, len, out, sizeof out, &a) == ETCS_UNKNOWN_KIND);
+    /* L_MESSAGE 11 is no length of message 24: its last bit is bit 17 */
+    bytes[1] = 0x02, bytes[2] = 0xC0;
+    size = strlen(why);
+    for (size_t room = 0; room <= size; room++) {
+        memset(out, 7, sizeof out), memset(&a, 0, sizeof a);
+        etcs_status s = etcs_explain(ETCS_RADIO, bytes, len, out, room, &a);
+        EXPECT(s == (room < size ? ETCS_NO_ROOM : ETCS_REFUSED) && a.written == size && a.bit == 17 && !strcmp(a.var, "L_MESSAGE"));
+        for (size_t i = 0; i < sizeof out; i++) EXPECT(out[i] == (room < size || i >= size ? 7 : (uint8_t)why[i]));
+    }
+    memset(before, 7, sizeof before), memset(&a, 0, sizeof a);
+    EXPECT(etcs_fields_before(ETCS_RADIO, bytes, len, before, 0, &a) == ETCS_NO_ROOM && a.written == 1 && a.bit == 17 && before[0].width == 0x07070707);
+    EXPECT(etcs_fields_before(ETCS_RADIO, bytes, len, before, 8, &a) == ETCS_REFUSED && a.written == 1 && a.bit == 17 && !strcmp(a.var, "L_MESSAGE"));
+    EXPECT(before[0].var == ETCS_VAR_NID_MESSAGE && before[0].number == 24 && before[0].width == 8 && before[1].width == 0x07070707);
+    /* JSON: of an item nothing is said; M_ACK, a variable of one bit, has no number 2 */
+    len = item(bytes, RADIO);
+    EXPECT(etcs_to_json(ETCS_RADIO, bytes, len, (uint8_t *)line, sizeof line, &a) == ETCS_OK);
+    size_t line_len = a.written;
+    EXPECT(etcs_explain_json(ETCS_RADIO, (uint8_t *)line, line_len, out, sizeof out, &a) == ETCS_OK && a.written == 0);
+    line[line_len] = 0;
+    char *number = strstr(line, "[\"M_ACK\",0]");
+    EXPECT(number);
+    if (!number) return;
+    number[9] = '2';
+    EXPECT(etcs_explain_json(ETCS_RADIO, (uint8_t *)line, line_len, out, 0, &a) == ETCS_NO_ROOM);
+    EXPECT(etcs_explain_json(ETCS_RADIO, (uint8_t *)line, line_len, out, sizeof out, &a) == ETCS_BAD_JSON);
+    out[a.written] = 0;
+    printf("%s\n", out);
+    EXPECT(strstr((char *)out, ".header[1]") && strstr((char *)out, "M_ACK"));
+    EXPECT(etcs_explain_json(ETCS_SHORT, (uint8_t *)line, line_len, out, sizeof out, &a) == ETCS_BAD_JSON && a.written > 0);
+    EXPECT(etcs_explain_json(ETCS_RADIO, (uint8_t *)line, 0, out, sizeof out, &a) == ETCS_BAD_JSON && a.written > 0);
+}
+
+/* Whether these fields' bits are the first of the bytes, and the bit comes after them, in one variable more. */
+static int are_first(const etcs_field *fields, size_t count, const uint8_t *bytes, size_t bit)
+{
+    size_t at = 0;
+    for (size_t i = 0; i < count; i++)
+        for (uint32_t n = fields[i].width; n-- > 0; at++)
+            if ((fields[i].number >> n & 1) != (bytes[at / 8] >> (7 - at % 8) & 1u)) return 0;
+    return at <= bit && bit < at + 64;
+}
+
 static void short_buffers(void)
 {
     uint8_t bytes[64], out[4096], wanted[4096];
@@ -147,6 +230,8 @@ static void variables(void)
     for (etcs_status s = 0; s < 8; s++) EXPECT(strcmp(etcs_status_text(s), etcs_status_text(99)));
 }
 
+static uint8_t file[1 << 20], text[1 << 20], json_text[1 << 20];
+
 /* Feeds bytes in pieces, and compares the items with those of the bytes at once. */
 static void pieces(etcs_kind kind, const uint8_t *bytes, size_t len, size_t piece)
 {
@@ -167,6 +252,7 @@ static void pieces(etcs_kind kind, const uint8_t *bytes, size_t len, size_t piec
                 EXPECT(etcs_check(kind, bytes + item_at, len - item_at, &b) == ETCS_REFUSED && a.bit == b.bit && !strcmp(a.var, b.var));
                 EXPECT(a.bit / 8 + item_at >= at && a.bit / 8 + item_at < at + n);
                 EXPECT(etcs_reader_feed(&reader, bytes, len, &used, &b) == ETCS_REFUSED && used == 0 && a.bit == b.bit);
+                EXPECT(etcs_explain(kind, reader.bytes, reader.len, text, sizeof text, &b) == ETCS_REFUSED && a.bit == b.bit && b.written > 0);
                 return;
             } else if (s != ETCS_MORE) { EXPECT(0); return; }
         }
@@ -196,7 +282,6 @@ static void threads(void)
 }
 
 /* How much of a thread's stack the calls touch: painted, and looked at afterwards. */
-static uint8_t file[1 << 20], text[1 << 20], json_text[1 << 20];
 static size_t file_len;
 static etcs_kind file_kind;
 
@@ -206,7 +291,27 @@ static void *all_calls(void *arg)
     int call = *(int *)arg;
     static etcs_field sent[ETCS_MOST_FIELDS];
     for (size_t at = 0; at < file_len; at += a.taken) {
-        if (call < 3) {
+        if (call >= 6) {
+            if (etcs_check(file_kind, file + at, file_len - at, &a)) return (void *)1;
+            size_t taken = a.taken;
+            if (call == 8) {
+                if (etcs_to_json(file_kind, file + at, taken, json_text, sizeof json_text, &a)) return (void *)1;
+                size_t n = a.written;
+                for (size_t i = at % 13; i < n; i += 61) {
+                    uint8_t was = json_text[i];
+                    json_text[i] = '7';
+                    etcs_explain_json(file_kind, json_text, n, text, sizeof text, &a);
+                    json_text[i] = was;
+                }
+            } else
+                for (size_t bit = at % 13; bit < 8 * taken; bit += 17) {
+                    file[at + bit / 8] ^= 0x80 >> bit % 8;
+                    if (call == 6) etcs_explain(file_kind, file + at, taken, text, sizeof text, &a);
+                    else etcs_fields_before(file_kind, file + at, taken, sent, ETCS_MOST_FIELDS, &a);
+                    file[at + bit / 8] ^= 0x80 >> bit % 8;
+                }
+            a.taken = taken;
+        } else if (call < 3) {
             etcs_status s = call == 0 ? etcs_check(file_kind, file + at, file_len - at, &a)
                 : call == 1 ? etcs_show(file_kind, 1, file + at, file_len - at, text, sizeof text, &a)
                 : etcs_to_json(file_kind, file + at, file_len - at, text, sizeof text, &a);
@@ -230,7 +335,7 @@ static void *all_calls(void *arg)
 static void stack(void)
 {
     size_t size = 1 << 20;
-    for (int call = 0; call < 6; call++) {
+    for (int call = 0; call < 9; call++) {
         uint8_t *room;
         if (posix_memalign((void **)&room, 4096, size)) return;
         memset(room, 0xA5, size);
@@ -254,14 +359,16 @@ static void *deep(void *arg)
 {
     static const char *const units[] = {"[", "{\"a\":", "[{\"a\":", "{\"kind\":[", "[[],", "[\"\\u0041\","};
     static const size_t len = 100000;
-    uint8_t *text = malloc(len), out[64];
+    uint8_t *text = malloc(len), out[1024];
     etcs_answer a = {0};
     (void)arg;
     for (size_t u = 0; u < sizeof units / sizeof *units; u++)
         for (etcs_kind kind = ETCS_LONG; kind <= ETCS_TRAIN; kind++) {
             for (size_t i = 0; i < len; i++) text[i] = (uint8_t)units[u][i % strlen(units[u])];
-            for (size_t n = 1; n <= len; n = n < 2000 ? n + 1 : n * 3)
+            for (size_t n = 1; n <= len; n = n < 2000 ? n + 1 : n * 3) {
                 EXPECT(etcs_from_json(kind, text, n, out, sizeof out, &a) == ETCS_BAD_JSON);
+                EXPECT(etcs_explain_json(kind, text, n, out, sizeof out, &a) == ETCS_BAD_JSON && a.written > 0);
+            }
         }
     free(text);
     return NULL;
@@ -343,7 +450,12 @@ static void items(void)
                 EXPECT(etcs_fields(file_kind, front, taken, sent, ETCS_MOST_FIELDS, &b) == s && a.bit == b.bit && !strcmp(a.var, b.var));
                 if (s == ETCS_OK && a.taken == taken)
                     EXPECT(etcs_from_fields(file_kind, sent, b.written, out, sizeof out, &b) == ETCS_OK && !memcmp(out, front, taken));
-                if (s == ETCS_REFUSED) refused++, pieces(file_kind, front, taken, 1 + bit % 40);
+                if (s == ETCS_REFUSED) {
+                    refused++, pieces(file_kind, front, taken, 1 + bit % 40);
+                    EXPECT(etcs_explain(file_kind, front, taken, text, sizeof text, &b) == s && a.bit == b.bit && !strcmp(a.var, b.var) && b.written > 0);
+                    EXPECT(etcs_fields_before(file_kind, front, taken, sent, ETCS_MOST_FIELDS, &b) == s && a.bit == b.bit && !strcmp(a.var, b.var));
+                    EXPECT(are_first(sent, b.written, front, b.bit));
+                }
                 front[bit / 8] ^= 0x80 >> bit % 8;
             }
     }
@@ -362,6 +474,8 @@ int main(int argc, char **argv)
         items();
     } else {
         refused_memory();
+        refused_reasons();
+        reasons();
         short_buffers();
         variables();
         for (size_t n = 1; n < 100; n++) {

@@ -4,5 +4,6 @@ pub mod Firsts
 pub mod Names
 pub mod Packing
 pub mod Packs
+pub mod Refusals
 pub mod Rooms
 pub mod Whole

@@ -30,15 +30,15 @@ use Rattle.etcs_c.proofs.Packing.{fit_reading, packed_reading}
 
 -- ---- The spelling of an item.
 
-record InBytes (r : Reading) : Type 0 where
-  whole : length (spelled r) % 8 ≡ 0
-  most : length (spelled r) ≤ 8 * 1023
+pub record InBytes (r : Reading) : Type 0 where
+  pub whole : length (spelled r) % 8 ≡ 0
+  pub most : length (spelled r) ≤ 8 * 1023
 
 sized : (s : Size) (n : ℕ) → n ≡ user_bits s + pad_bits s → (n % 8 ≡ 0) × (n ≤ 8 * 1023)
 sized size.Short n h = (omega (arith, h), omega (arith, h))
 sized size.Long n h = (omega (arith, h), omega (arith, h))
 
-item_bytes : (e : EntryValue) (r : Reading) → Spells e r → InBytes r
+pub item_bytes : (e : EntryValue) (r : Reading) → Spells e r → InBytes r
 item_bytes (of_telegram t) r h =
     let n = sized t.size (length (spelled r)) (whole_length t.size r (t, (refl, h))) in
     record { whole = n.0; most = n.1 }

@@ -1,4 +1,5 @@
 pub mod Answers
 pub mod Built
+pub mod Explained
 pub mod Fields
 pub mod laws

@@ -1,7 +1,7 @@
 //! What a call answers.
 
 ghost use Rattle.std.specs.Prelude.{◌≡◌, MatchResult};
-ghost use Rattle.etcs_c.specs.Answers.{Starves, Writes, name_field};
+ghost use Rattle.etcs_c.specs.Answers.{Starves, WritesAs, name_field};
 
 use etcs_vars::Var;
 use std::alloc::AllocError;
@@ -60,9 +60,11 @@ pub(crate) fn refuse(bit: usize, var: Var, answer: &mut EtcsAnswer) -> u32
 }
 
 /// Writes to the front of a buffer, where it has room, and answers how many there are.
-fn write_out<T: Copy>(items: &[T], out: &mut [T], answer: &mut EtcsAnswer) -> u32
-    ensures writes { Writes items.now out.old out.new result answer.new }
+fn write_out<T: Copy>(done: u32, items: &[T], out: &mut [T], answer: &mut EtcsAnswer) -> u32
+    ensures writes { WritesAs done items.now out.old out.new result answer.new }
     ensures taken { answer.new.taken ≡ answer.old.taken }
+    ensures bit { answer.new.bit ≡ answer.old.bit }
+    ensures var { answer.new.var ≡ answer.old.var }
 {
     let count = items.len();
     answer.written = count;
@@ -70,20 +72,24 @@ fn write_out<T: Copy>(items: &[T], out: &mut [T], answer: &mut EtcsAnswer) -> u3
         return NO_ROOM;
     }
     out[..count].copy_from_slice(items);
-    WHOLE
+    done
 }
 
-/// Writes what was made to the front of a buffer, where it has room and memory wasn't refused.
+/// Writes what was made to the front of a buffer, where it has room and memory wasn't refused; the status is then this
+/// one.
 pub(crate) fn deliver<T: Copy>(
+    done: u32,
     made: Result<Vec<T>, AllocError>,
     out: &mut [T],
     answer: &mut EtcsAnswer,
 ) -> u32
-    ensures writes { MatchResult made (λ items. Writes items.items out.old out.new result answer.new) (λ _. Starves out.old out.new result) }
+    ensures writes { MatchResult made (λ items. WritesAs done items.items out.old out.new result answer.new) (λ _. Starves out.old out.new result) }
     ensures taken { answer.new.taken ≡ answer.old.taken }
+    ensures bit { answer.new.bit ≡ answer.old.bit }
+    ensures var { answer.new.var ≡ answer.old.var }
 {
     match made {
-        Ok(items) => write_out(items.as_slice(), out, answer),
+        Ok(items) => write_out(done, items.as_slice(), out, answer),
         Err(AllocError) => NO_MEMORY,
     }
 }

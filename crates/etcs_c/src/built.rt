@@ -6,7 +6,7 @@ ghost use Rattle.etcs_c.specs.Answers.{Finds};
 ghost use Rattle.etcs_c.specs.Built.{IsBuilt};
 ghost use Rattle.etcs_c.specs.Fields.{AreFit, IsFit, packed, whole_bytes};
 
-use crate::answer::{BAD_FIELDS, EtcsAnswer, NO_MEMORY, deliver};
+use crate::answer::{BAD_FIELDS, EtcsAnswer, NO_MEMORY, WHOLE, deliver};
 use crate::fields::{EtcsField, fields_of};
 use crate::found::{Found, find, say};
 use crate::json::encoding_of;
@@ -71,7 +71,7 @@ fn build(
         Found::Whole { entry, .. } => match fields_of(alloc, entry) {
             Ok(own) => {
                 if own.as_slice() == fields {
-                    deliver(encoding_of(alloc, entry), out, answer)
+                    deliver(WHOLE, encoding_of(alloc, entry), out, answer)
                 } else {
                     BAD_FIELDS
                 }

@@ -7,7 +7,7 @@ ghost use Rattle.etcs_text.specs.Entries.{Spells, entry_value};
 ghost use Rattle.etcs_c.specs.Fields.{SaysFields, field, fields_of, is_run, joins, var_number};
 ghost use Rattle.etcs_c.specs.Answers.{Finds};
 
-use crate::answer::{EtcsAnswer, deliver};
+use crate::answer::{EtcsAnswer, WHOLE, deliver};
 use crate::found::{Found, find, say};
 use etcs_sent::send_item;
 use etcs_text::{Entry, Kind};
@@ -156,13 +156,22 @@ pub(crate) fn fields_of(alloc: Global, entry: &Entry) -> Result<Vec<EtcsField>, 
     list.into_vec()
 }
 
+/// The fields of variables.
+pub(crate) fn fields_in(alloc: Global, vars: &[(Var, u64)]) -> Result<Vec<EtcsField>, AllocError>
+    ensures { IfOk result (λ fields. fields.items ≡ fields_of vars.now) }
+{
+    let mut list = FieldList::new(alloc);
+    list.send(vars)?;
+    list.into_vec()
+}
+
 /// Answers what was found, and writes the fields of an item.
 fn say_fields(alloc: Global, found: &Found, out: &mut [EtcsField], answer: &mut EtcsAnswer) -> u32
     ensures { SaysFields found.now out.old out.new result answer.new }
 {
     let status = say(found, answer);
     match found {
-        Found::Whole { entry, .. } => deliver(fields_of(alloc, entry), out, answer),
+        Found::Whole { entry, .. } => deliver(WHOLE, fields_of(alloc, entry), out, answer),
         _ => status,
     }
 }

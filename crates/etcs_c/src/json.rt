@@ -5,7 +5,7 @@ ghost use Rattle.etcs_text.specs.Entries.{entry_value};
 ghost use Rattle.etcs_text.specs.Encodings.{IsEncoded};
 ghost use Rattle.etcs_c.specs.Answers.{SaysLine};
 
-use crate::answer::{BAD_JSON, EtcsAnswer, NO_MEMORY, deliver, refuse};
+use crate::answer::{BAD_JSON, EtcsAnswer, NO_MEMORY, WHOLE, deliver, refuse};
 use etcs_json::{JsonFault, from_line};
 use etcs_text::{Entry, Kind, encoded};
 use std::alloc::{AllocError, Global};
@@ -30,7 +30,7 @@ pub(crate) fn from_json(
     ensures { SaysLine kind line.now out.old out.new result answer.new }
 {
     match from_line(alloc, kind, line) {
-        Ok(entry) => deliver(encoding_of(alloc, &entry), out, answer),
+        Ok(entry) => deliver(WHOLE, encoding_of(alloc, &entry), out, answer),
         Err(JsonFault::Refused { bit, var }) => refuse(bit, var, answer),
         Err(JsonFault::Shape) => BAD_JSON,
         Err(JsonFault::Memory) => NO_MEMORY,

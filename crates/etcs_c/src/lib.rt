@@ -5,6 +5,7 @@
 
 mod answer;
 mod built;
+mod explained;
 mod fields;
 mod found;
 mod json;
@@ -16,6 +17,7 @@ ghost use Rattle.etcs_bits.specs.Bits.{bits};
 ghost use Rattle.etcs_text.specs.declared.entry.Kind.{Kind};
 ghost use Rattle.etcs_c.specs.Answers.{Checks, Finds, NoKind, Tells, TellsJson, kind_number};
 ghost use Rattle.etcs_c.specs.Built.{Builds};
+ghost use Rattle.etcs_c.specs.Explained.{SaysBefore, SaysLineWhy, SaysWhy};
 ghost use Rattle.etcs_c.specs.Fields.{SaysFields};
 ghost use Rattle.etcs_c.specs.declared.found.Found.{Found};
 ghost use Rattle.etcs_c.specs.declared.told.Wanted.TheVariants as wanted;
@@ -23,6 +25,7 @@ ghost use Rattle.etcs_c.specs.declared.told.Wanted.TheVariants as wanted;
 pub use answer::EtcsAnswer;
 use answer::UNKNOWN_KIND;
 use built::from_fields;
+use explained::{tell_before, tell_line_why, tell_why};
 pub use fields::EtcsField;
 use fields::tell_fields;
 use found::{find, say};
@@ -128,6 +131,58 @@ pub extern "C" fn etcs_from_fields(
 {
     match kind_of(kind) {
         Some(kind) => from_fields(alloc, kind, fields, out, answer),
+        None => UNKNOWN_KIND,
+    }
+}
+
+/// As `etcs_check`, and of a refused bit why it is, in a sentence in UTF-8.
+#[unsafe(no_mangle)]
+pub extern "C" fn etcs_explain(
+    alloc: Global,
+    kind: u32,
+    bytes: &[u8],
+    out: &mut [u8],
+    answer: &mut EtcsAnswer,
+) -> u32
+    ensures { ((k : Kind) × (found : Found) × (kind_number k ≡ kind) × Finds k (bits bytes.now) found × SaysWhy found out.old out.new result answer.new) ⊎ (NoKind kind result × (out.new ≡ out.old)) }
+{
+    match kind_of(kind) {
+        Some(kind) => tell_why(alloc, kind, bytes, out, answer),
+        None => UNKNOWN_KIND,
+    }
+}
+
+/// As `etcs_check`, and of a refused bit the fields of the variables before the one that holds it.
+#[unsafe(no_mangle)]
+pub extern "C" fn etcs_fields_before(
+    alloc: Global,
+    kind: u32,
+    bytes: &[u8],
+    out: &mut [EtcsField],
+    answer: &mut EtcsAnswer,
+) -> u32
+    ensures { ((k : Kind) × (found : Found) × (kind_number k ≡ kind) × Finds k (bits bytes.now) found × SaysBefore k (bits bytes.now) found out.old out.new result answer.new) ⊎ (NoKind kind result × (out.new ≡ out.old)) }
+{
+    match kind_of(kind) {
+        Some(kind) => tell_before(alloc, kind, bytes, out, answer),
+        None => UNKNOWN_KIND,
+    }
+}
+
+/// As `etcs_from_json`, but that no encoding is written; and of a line that is the JSON of no item why, in UTF-8: the path
+/// of the first part that is wrong, and a sentence.
+#[unsafe(no_mangle)]
+pub extern "C" fn etcs_explain_json(
+    alloc: Global,
+    kind: u32,
+    line: &[u8],
+    out: &mut [u8],
+    answer: &mut EtcsAnswer,
+) -> u32
+    ensures { ((k : Kind) × (kind_number k ≡ kind) × SaysLineWhy k line.now out.old out.new result answer.new) ⊎ (NoKind kind result × (out.new ≡ out.old)) }
+{
+    match kind_of(kind) {
+        Some(kind) => tell_line_why(alloc, kind, line, out, answer),
         None => UNKNOWN_KIND,
     }
 }

@@ -7,7 +7,7 @@ ghost use Rattle.etcs_text.specs.Entries.{entry_value};
 ghost use Rattle.etcs_text.specs.Trees.{json_tree};
 ghost use Rattle.etcs_c.specs.Answers.{Finds, IsText, SaysText};
 
-use crate::answer::{EtcsAnswer, deliver};
+use crate::answer::{EtcsAnswer, WHOLE, deliver};
 use crate::found::{Found, find, say};
 use etcs_text::{Entry, Kind, json_line, show_lines};
 use std::alloc::{AllocError, Global};
@@ -56,7 +56,7 @@ fn say_text(
 {
     let status = say(found, answer);
     match found {
-        Found::Whole { entry, .. } => deliver(text_of(alloc, wanted, entry), out, answer),
+        Found::Whole { entry, .. } => deliver(WHOLE, text_of(alloc, wanted, entry), out, answer),
         _ => status,
     }
 }

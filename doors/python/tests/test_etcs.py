@@ -3,6 +3,7 @@
 import doctest
 import json
 import os
+import pickle
 import threading
 import unittest
 
@@ -20,7 +21,10 @@ def example(name):
 
 class Tests(unittest.TestCase):
     def test_doc(self):
-        self.assertEqual(doctest.testmod(etcs).failed, 0)
+        for module in (etcs, etcs._library):
+            found = doctest.testmod(module)
+            self.assertEqual(found.failed, 0)
+            self.assertGreater(found.attempted, 5)
 
     def test_round_trip(self):
         for data, kind in ((SHORT, "short"), (RADIO, "radio"), (example("long_line_ahead.hex"), "long"), (example("radio_kept.hex"), "radio"),
@@ -38,7 +42,11 @@ class Tests(unittest.TestCase):
     def test_tree(self):
         lines = repr(etcs.decode(RADIO, "radio")).split("\n")
         self.assertEqual(lines, ["radio message 24", "  T_TRAIN = 0", "  M_ACK = 0", "  NID_LRBG = 16385", "  packet 137, direction 1", "    Q_SRSTOP = 1", "  PADDING 00000"])
+        short = repr(etcs.decode(SHORT, "short")).split("\n")
+        self.assertEqual((short[0], short[1], short[-1]), ("short telegram", "  Q_UPDOWN = 1", "  FILL 128 times 1"))
         self.assertEqual(repr(etcs.decode(SHORT, "short").packets[0]), "packet 44, direction 2\n  bits 1")
+        self.assertEqual(repr(etcs.Packet(44, 0, data="10" * 20)), "packet 44, direction 0\n  bits " + "10" * 16 + ".., 40 bits")
+        self.assertEqual(repr(etcs.Packet(44, 0, data=7)), "packet 44, direction 0\n  bits 7")
 
     def test_names(self):
         telegram = etcs.decode(example("short_linking.hex"), "short")
@@ -108,6 +116,62 @@ class Tests(unittest.TestCase):
             etcs.decode("A000", "short")
         for form in (bytearray, memoryview):
             self.assertEqual(etcs.check(form(SHORT), "short"), 27)
+
+    def test_reasons(self):
+        with self.assertRaises(etcs.Refused) as caught:
+            etcs.decode(bytes.fromhex("0602C0"), "radio")
+        fault = caught.exception
+        self.assertEqual(fault.fields, [("NID_MESSAGE", 6, 0, 8, etcs.VARIABLES.index("NID_MESSAGE"))])
+        self.assertEqual(fault.reason, "message 6 has 10 or 13 to 1023 bytes, not 11")
+        self.assertEqual(pickle.loads(pickle.dumps(fault)).reason, fault.reason)
+        # M_VERSION 34 of a telegram: bit 6 is its last but one, and 100010 begins 34 and 35
+        sent = etcs.fields(SHORT, "short")
+        sent[1] = sent[1]._replace(number=34)
+        with self.assertRaises(etcs.Refused) as caught:
+            etcs.from_fields(sent, "short")
+        fault = caught.exception
+        self.assertEqual((fault.bit, fault.variable, fault.fields), (6, "M_VERSION", sent[:1]))
+        self.assertIn("M_VERSION admits", fault.reason)
+        # the fields before a bit are those of the item whose bit was turned
+        data = example("short_linking.hex")[:27]
+        for bit in range(len(data) * 8):
+            turned = bytearray(data)
+            turned[bit // 8] ^= 0x80 >> bit % 8
+            try:
+                etcs.check(turned, "short")
+            except etcs.Refused as fault:
+                before = fault.fields
+                self.assertTrue(all(each.bit + each.width <= fault.bit for each in before))
+                self.assertLess(fault.bit - sum(each.width for each in before), 64)
+                whole = sum(each.width for each in before)
+                spelled = "".join(f"{each.number:0{each.width}b}" for each in before)
+                self.assertEqual(spelled, f"{int.from_bytes(turned, 'big'):0216b}"[:whole])
+                self.assertTrue(fault.reason)
+        reader = etcs.Reader("radio")
+        with self.assertRaises(etcs.Refused) as caught:
+            reader.feed(RADIO + bytes.fromhex("0602C0"))
+        self.assertEqual((caught.exception.item, caught.exception.reason), (2, "message 6 has 10 or 13 to 1023 bytes, not 11"))
+        # a fault that somebody made has nothing to say
+        self.assertEqual((etcs.Refused(3, "FILL").fields, etcs.Refused(3, "FILL").reason), ([], ""))
+
+    def test_reasons_of_trees(self):
+        item = etcs.decode(RADIO, "radio")
+        item.packets[0]["Q_SRSTOP"] = 2
+        with self.assertRaises(etcs.NotAnItem) as caught:
+            etcs.encode(item)
+        self.assertTrue(caught.exception.reason.startswith(".packets[0].fields[0]"), caught.exception.reason)
+        self.assertEqual(str(caught.exception), "no item of the kind has this tree: " + caught.exception.reason)
+        self.assertEqual(pickle.loads(pickle.dumps(caught.exception)).reason, caught.exception.reason)
+        with self.assertRaises(etcs.NotAnItem) as caught:
+            etcs.encode({"kind": "tram"})
+        self.assertEqual(caught.exception.reason, str(caught.exception))
+        # JSON of a packet 68 with stored bits, from before it was typed, of which no packet has one bit
+        tree = etcs.decode(SHORT, "short").to_dict()
+        tree["packets"][0].update(nid=68, data="1")
+        with self.assertRaises(etcs.Refused) as caught:
+            etcs.encode(tree)
+        self.assertEqual(caught.exception.fields, [])
+        self.assertIn(f"refused at bit {caught.exception.bit}, {caught.exception.variable}", caught.exception.reason)
 
     def test_pieces(self):
         data = RADIO * 3

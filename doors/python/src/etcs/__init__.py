@@ -11,6 +11,22 @@
     Traceback (most recent call last):
     etcs.Refused: refused at bit 17, L_MESSAGE
 
+An item prints as a tree, and a refusal says why when it is asked:
+
+    >>> message
+    radio message 24
+      T_TRAIN = 0
+      M_ACK = 0
+      NID_LRBG = 16385
+      packet 137, direction 1
+        Q_SRSTOP = 0
+      PADDING 00000
+    >>> try:
+    ...     etcs.decode(bytes.fromhex("0602C0"), "radio")
+    ... except etcs.Refused as fault:
+    ...     print(fault.reason)
+    message 6 has 10 or 13 to 1023 bytes, not 11
+
 `decode` and `encode` go between bytes and values, `check` finds where an item ends, `items` and `Reader` read many,
 `show` gives the program's text, `fields` each variable with its bit. What is accepted, refused and written is the
 library's answer, which is proved; this module carries it over.
@@ -23,10 +39,10 @@ from __future__ import annotations
 
 import json
 from dataclasses import dataclass, field
-from typing import Any, Dict, Iterable, Iterator, List, Literal, NamedTuple, Optional, Tuple, Union
+from typing import Any, Dict, Iterable, Iterator, List, Literal, Optional, Tuple, Union
 
 from . import _library
-from ._library import EtcsError, NotAnItem, Refused, Truncated
+from ._library import EtcsError, Field, NotAnItem, Refused, Truncated
 from ._variables import VARIABLES
 
 __all__ = [
@@ -41,8 +57,8 @@ Kind = Literal["long", "short", "radio", "train"]
 #: the kinds of items: balise telegrams of 830 and of 210 user bits, radio messages to the train and to the track
 KINDS: Tuple[str, ...] = tuple(_library.KINDS)
 
-for _fault in (EtcsError, NotAnItem, Refused, Truncated):
-    _fault.__module__ = "etcs"
+for _public in (EtcsError, Field, NotAnItem, Refused, Truncated):
+    _public.__module__ = "etcs"
 
 _LONGEST = {"long": 104, "short": 27, "radio": 1023, "train": 1023}
 
@@ -111,6 +127,15 @@ def _indented(tree: str) -> str:
     return "".join(f"\n  {line}" for line in tree.split("\n"))
 
 
+def _digits(bits: str) -> str:
+    """Bits, of many the first ones alone, or of many alike how many they are."""
+    if not isinstance(bits, str) or len(bits) <= 32:
+        return bits
+    if bits == len(bits) * bits[0]:
+        return f"{len(bits)} times {bits[0]}"
+    return f"{bits[:32]}.., {len(bits)} bits"
+
+
 def _tree(head: str, *parts) -> str:
     """The head, and below it variables, packets and bits, each further in."""
     lines = [head]
@@ -135,7 +160,7 @@ class Packet(_Named):
 
     def __repr__(self) -> str:
         head = f"packet {self.nid}" if self.dir is None else f"packet {self.nid}, direction {self.dir}"
-        return _tree(head, self.fields if self.data is None else f"bits {self.data}")
+        return _tree(head, self.fields if self.data is None else f"bits {_digits(self.data)}")
 
     def to_dict(self) -> Dict[str, Any]:
         tree: Dict[str, Any] = {"nid": self.nid}
@@ -158,7 +183,7 @@ class Telegram:
     fill: str
 
     def __repr__(self) -> str:
-        return _tree(f"{self.kind} telegram", self.header, self.packets, f"FILL {self.fill}")
+        return _tree(f"{self.kind} telegram", self.header, self.packets, f"FILL {_digits(self.fill)}")
 
     def __getitem__(self, name: str) -> int:
         return self.header[name]
@@ -188,8 +213,8 @@ class Message(_Named):
     def __repr__(self) -> str:
         head = f"{self.kind} message {self.nid}"
         if self.data is not None:
-            return _tree(head, f"bits {self.data}")
-        return _tree(head, self.header, self.fields, self.packets, *([f"PADDING {self.padding}"] if self.padding else []))
+            return _tree(head, f"bits {_digits(self.data)}")
+        return _tree(head, self.header, self.fields, self.packets, *([f"PADDING {_digits(self.padding)}"] if self.padding else []))
 
     def to_dict(self) -> Dict[str, Any]:
         """The tree of its JSON."""
@@ -202,18 +227,6 @@ class Message(_Named):
 
 
 Item = Union[Telegram, Message]
-
-
-class Field(NamedTuple):
-    """A variable as it is sent."""
-
-    name: str
-    number: int
-    #: the bit where it begins, from 0, and how many it takes
-    bit: int
-    width: int
-    #: which variable, by its place in VARIABLES
-    var: int
 
 
 def _pairs(variables: Iterable[Tuple[str, int]]) -> List[List[Any]]:
@@ -271,8 +284,8 @@ def decode(data: bytes, kind: Kind) -> Item:
 
 
 def encode(item: Union[Item, Dict[str, Any]]) -> bytes:
-    """The bytes of an item or of its tree. Raises NotAnItem where there is no such item, and Refused where it has bits of packets that are typed by
-    now and no item has these."""
+    """The bytes of an item or of its tree. Raises NotAnItem where there is no such item, and Refused where it has bits of
+    packets that are typed by now and no item has these."""
     tree = item if isinstance(item, dict) else item.to_dict()
     return _library.from_json(json.dumps(tree, separators=(",", ":")).encode(), tree.get("kind", ""))
 
@@ -296,11 +309,7 @@ def show(data: Union[bytes, Item], kind: Optional[Kind] = None, number: int = 1)
 def fields(data: bytes, kind: Kind) -> List[Field]:
     """The variables of the item at the front, all of them in the order of sending, from the first of the header to PAD
     or PADDING. Of FILL, OTHER_DATA, PADDING and PAD up to 64 bits are one field; X_TEXT comes once for each byte."""
-    found, bit = [], 0
-    for number, var, width in _library.fields(bytes(data), kind):
-        found.append(Field(VARIABLES[var], number, bit, width, var))
-        bit += width
-    return found
+    return _library.placed(_library.fields(bytes(data), kind))
 
 
 def from_fields(sent: Iterable[Field], kind: Kind) -> bytes:

@@ -6,7 +6,9 @@ import ctypes
 import os
 import struct
 import threading
-from typing import Iterable, List, Optional, Tuple
+from typing import Iterable, List, NamedTuple, Optional, Tuple
+
+from ._variables import VARIABLES
 
 #: the kinds by their numbers in the library
 KINDS = {"long": 1, "short": 2, "radio": 3, "train": 4}
@@ -14,21 +16,63 @@ KINDS = {"long": 1, "short": 2, "radio": 3, "train": 4}
 _OK, _MORE, _REFUSED, _NO_ROOM, _NO_MEMORY, _UNKNOWN_KIND, _BAD_JSON, _BAD_FIELDS = range(8)
 _FIELD = struct.Struct("=QII")
 
+#: no item has more bytes
+_LONGEST = 1023
+
+
+class Field(NamedTuple):
+    """A variable as it is sent."""
+
+    name: str
+    number: int
+    #: the bit where it begins, from 0, and how many it takes
+    bit: int
+    width: int
+    #: which variable, by its place in VARIABLES
+    var: int
+
 
 class EtcsError(ValueError):
     """Bytes or values that are no item."""
 
 
 class Refused(EtcsError):
-    """No item of the kind continues with the bit `bit` (from 0), which the variable holds."""
+    """No item of the kind continues with the bit `bit` (from 0), which the variable `variable` holds.
+
+    `fields` and `reason` say more. They are worked out when they are asked for, so a refusal costs nothing that nobody
+    reads.
+
+        >>> import etcs
+        >>> try:
+        ...     etcs.decode(bytes.fromhex("0602C0"), "radio")
+        ... except etcs.Refused as fault:
+        ...     print(fault.bit, fault.variable, fault.fields[0].name, fault.fields[0].number)
+        ...     print(fault.reason)
+        17 L_MESSAGE NID_MESSAGE 6
+        message 6 has 10 or 13 to 1023 bytes, not 11
+    """
 
     #: from a Reader: the items before it, and which item this one is
     items: Optional[list] = None
     item: Optional[int] = None
 
-    def __init__(self, bit: int, variable: str) -> None:
+    def __init__(self, bit: int, variable: str, kind: str = "", data: bytes = b"", line: Optional[bytes] = None) -> None:
         super().__init__(bit, variable)
         self.bit, self.variable = bit, variable
+        self._kind, self._data, self._line = kind, data, line
+
+    @property
+    def fields(self) -> List[Field]:
+        """The variables before the one that holds the bit, as `etcs.fields` has them; of JSON with stored bits that are
+        refused, none."""
+        return [] if self._line is not None or not self._kind else fields_before(self._data, self._kind)
+
+    @property
+    def reason(self) -> str:
+        """Why the bit is refused, in a sentence without a capital and a full stop. The words may change."""
+        if not self._kind:
+            return ""
+        return explain(self._data, self._kind) if self._line is None else explain_json(self._line, self._kind)
 
     def __str__(self) -> str:
         return f"refused at bit {self.bit}, {self.variable}"
@@ -46,7 +90,32 @@ class Truncated(EtcsError):
 
 
 class NotAnItem(EtcsError):
-    """No item of the kind has these values."""
+    """No item of the kind has these values.
+
+    `reason` says why, of a tree or JSON with the path of the first part that is wrong. It is worked out when it is asked
+    for, or when the fault is printed.
+
+        >>> import etcs
+        >>> message = etcs.decode(bytes.fromhex("18034000000000080031280620"), "radio")
+        >>> message.packets[0]["Q_SRSTOP"] = 2
+        >>> try:
+        ...     etcs.encode(message)
+        ... except etcs.NotAnItem as fault:
+        ...     print(fault.reason)
+        .packets[0].fields[0][1]: Q_SRSTOP admits 0 to 1, not 2
+    """
+
+    def __init__(self, text: str, kind: str = "", line: Optional[bytes] = None) -> None:
+        super().__init__(text)
+        self._kind, self._line = kind, line
+
+    @property
+    def reason(self) -> str:
+        """Why, in a sentence without a capital and a full stop. The words may change."""
+        return self.args[0] if self._line is None else explain_json(self._line, self._kind)
+
+    def __str__(self) -> str:
+        return self.args[0] if self._line is None else f"{self.args[0]}: {self.reason}"
 
 
 class _Answer(ctypes.Structure):
@@ -70,6 +139,9 @@ for _name, _types in {
     "etcs_from_json": [_number, _bytes, _size, _out, _size, _answer],
     "etcs_fields": [_number, _bytes, _size, _out, _size, _answer],
     "etcs_from_fields": [_number, _bytes, _size, _out, _size, _answer],
+    "etcs_explain": [_number, _bytes, _size, _out, _size, _answer],
+    "etcs_fields_before": [_number, _bytes, _size, _out, _size, _answer],
+    "etcs_explain_json": [_number, _bytes, _size, _out, _size, _answer],
 }.items():
     getattr(_lib, _name).argtypes = _types
     getattr(_lib, _name).restype = _number
@@ -97,57 +169,85 @@ def kind_number(kind: str) -> int:
     return number
 
 
-def _raise(status: int, answer: _Answer, bits: int) -> None:
+def _raise(status: int, answer: _Answer, kind: str, data: bytes, line: Optional[bytes] = None) -> None:
+    """What a status says of bytes of a kind, or of a line of JSON."""
     if status == _MORE:
-        raise Truncated(bits)
+        raise Truncated(8 * len(data))
     if status == _REFUSED:
-        raise Refused(answer.bit, answer.var.decode())
+        raise Refused(answer.bit, answer.var.decode(), kind, data[:_LONGEST], line)
     if status == _NO_MEMORY:
         raise MemoryError("libetcs")
     if status == _BAD_JSON:
-        raise NotAnItem("no item of the kind has this tree")
+        raise NotAnItem("no item of the kind has this tree", kind, line)
     if status == _BAD_FIELDS:
         raise NotAnItem("no item of the kind has these fields")
     raise RuntimeError(f"libetcs answered status {status}")
 
 
-def _written(call, bits: int, *before, wide: int = 1) -> bytes:
-    """What a call writes into the thread's buffer, in parts of `wide` bytes; it is called once more where that has no room."""
+def _call(call, *before, wide: int = 1, done: Tuple[int, ...] = (_OK,)) -> Tuple[int, bytes]:
+    """A call's status, and where it is one of `done` what is then in the thread's buffer, in parts of `wide` bytes; it is
+    called once more where that has no room."""
     room = _room
     status = call(*before, room.buffer, room.room // wide, room.answer)
     if status == _NO_ROOM:
         room.grow(room.answer.written * wide)
         status = call(*before, room.buffer, room.room // wide, room.answer)
-    if status:
-        _raise(status, room.answer, bits)
-    return ctypes.string_at(room.buffer, room.answer.written * wide)
+    return status, ctypes.string_at(room.buffer, room.answer.written * wide) if status in done else b""
 
 
 def check(data: bytes, kind: str) -> int:
     answer = _room.answer
     status = _lib.etcs_check(kind_number(kind), data, len(data), answer)
     if status:
-        _raise(status, answer, 8 * len(data))
+        _raise(status, answer, kind, data)
     return answer.taken
 
 
 def show(data: bytes, kind: str, number: int) -> str:
-    return _written(_lib.etcs_show, 8 * len(data), kind_number(kind), number, data, len(data)).decode("ascii")
+    status, text = _call(_lib.etcs_show, kind_number(kind), number, data, len(data))
+    if status:
+        _raise(status, _room.answer, kind, data)
+    return text.decode("ascii")
 
 
 def to_json(data: bytes, kind: str) -> Tuple[bytes, int]:
-    line = _written(_lib.etcs_to_json, 8 * len(data), kind_number(kind), data, len(data))
+    status, line = _call(_lib.etcs_to_json, kind_number(kind), data, len(data))
+    if status:
+        _raise(status, _room.answer, kind, data)
     return line, _room.answer.taken
 
 
 def from_json(line: bytes, kind: str) -> bytes:
     if kind not in KINDS:
         raise NotAnItem(f"the member kind is none of {', '.join(KINDS)}")
-    return _written(_lib.etcs_from_json, 0, KINDS[kind], line, len(line))
+    status, data = _call(_lib.etcs_from_json, KINDS[kind], line, len(line))
+    if status:
+        _raise(status, _room.answer, kind, b"", line)
+    return data
 
 
 def fields(data: bytes, kind: str) -> Iterable[Tuple[int, int, int]]:
-    return _FIELD.iter_unpack(_written(_lib.etcs_fields, 8 * len(data), kind_number(kind), data, len(data), wide=_FIELD.size))
+    status, sent = _call(_lib.etcs_fields, kind_number(kind), data, len(data), wide=_FIELD.size)
+    if status:
+        _raise(status, _room.answer, kind, data)
+    return _FIELD.iter_unpack(sent)
+
+
+def placed(sent: Iterable[Tuple[int, int, int]]) -> List[Field]:
+    """Fields with the bits where they begin."""
+    found, bit = [], 0
+    for number, var, width in sent:
+        found.append(Field(VARIABLES[var], number, bit, width, var))
+        bit += width
+    return found
+
+
+def _whole_bytes(sent: List[Tuple[int, int, int]]) -> bytes:
+    """The bits of fields that have their widths, up to the last whole byte."""
+    bits = number = 0
+    for each, _, width in sent:
+        number, bits = number << width | each, bits + width
+    return (number >> bits % 8).to_bytes(bits // 8, "big")
 
 
 def from_fields(sent: List[Tuple[int, int, int]], kind: str) -> bytes:
@@ -155,4 +255,33 @@ def from_fields(sent: List[Tuple[int, int, int]], kind: str) -> bytes:
         packed = b"".join([_FIELD.pack(*each) for each in sent])
     except struct.error as fault:
         raise NotAnItem(f"no variable has this number: {fault}") from None
-    return _written(_lib.etcs_from_fields, sum(width for _, _, width in sent), kind_number(kind), packed, len(sent))
+    status, data = _call(_lib.etcs_from_fields, kind_number(kind), packed, len(sent))
+    if status == _MORE:
+        raise Truncated(sum(width for _, _, width in sent))
+    if status:
+        _raise(status, _room.answer, kind, _whole_bytes(sent) if status == _REFUSED else b"")
+    return data
+
+
+def explain(data: bytes, kind: str) -> str:
+    """Why a bit of the bytes is refused; "" where none is."""
+    status, text = _call(_lib.etcs_explain, kind_number(kind), data, len(data), done=(_REFUSED,))
+    if status not in (_OK, _MORE, _REFUSED):
+        _raise(status, _room.answer, kind, data)
+    return text.decode()
+
+
+def fields_before(data: bytes, kind: str) -> List[Field]:
+    """The fields before a refused bit; none where no bit is refused."""
+    status, sent = _call(_lib.etcs_fields_before, kind_number(kind), data, len(data), wide=_FIELD.size, done=(_REFUSED,))
+    if status not in (_OK, _MORE, _REFUSED):
+        _raise(status, _room.answer, kind, data)
+    return placed(_FIELD.iter_unpack(sent))
+
+
+def explain_json(line: bytes, kind: str) -> str:
+    """Why a line is the JSON of no item; "" where it is that of one."""
+    status, text = _call(_lib.etcs_explain_json, kind_number(kind), line, len(line), done=(_REFUSED, _BAD_JSON))
+    if status not in (_OK, _REFUSED, _BAD_JSON):
+        _raise(status, _room.answer, kind, b"", line)
+    return text.decode()

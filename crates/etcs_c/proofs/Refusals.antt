@@ -1,0 +1,87 @@
+-- A refused bit, and the account of the bits before it.
+use Rattle.std.proofs.Common.{◌≡◌, ℕ, ◌+◌, ◌<◌, ◌⊎◌, Bool, List, [], ◌∷◌, ◌++◌, Result, Ok, Err, inl, inr, length, take, ap, subst, ◌∙◌, arith}
+use Rattle.std.specs.Prelude.{IfOk, MatchResult}
+use Rattle.std.proofs.lemmas.Bool.{cases_lt}
+use Rattle.std.proofs.lemmas.List.{append-nil, length-append, length-take, length-take-le, take-take}
+use Rattle.etcs_vars.specs.declared.var.Var.{Var}
+use Rattle.etcs_vars.specs.Walking.{Refuses}
+use Rattle.etcs_vars.specs.Reading.{Reading, spelled, readings_of, IsOutcome, refused, InLanguage, Viable}
+use Rattle.etcs_vars.proofs.Outcomes.{viable_front}
+use Rattle.etcs_bits.specs.Bits.{num}
+use Rattle.etcs_text.specs.declared.entry.Kind.{Kind}
+use Rattle.etcs_text.specs.Entries.{EntryReads}
+use Rattle.etcs_stream.proofs.ItemKinds.{kind_regular}
+use Rattle.etcs_explain.specs.Accounts.{Shows, Accounts}
+use Rattle.etcs_explain.specs.declared.account.End.{End}
+use Rattle.etcs_explain.specs.declared.account.End.TheVariants as end
+use Rattle.etcs_explain.proofs.Accounting.{whole_unrefused, open_unrefused}
+use Rattle.etcs_c.specs.declared.answer.EtcsAnswer.{EtcsAnswer}
+use Rattle.etcs_c.specs.declared.fields.EtcsField.{EtcsField}
+use Rattle.etcs_c.specs.Answers.{Starves, WritesAs}
+use Rattle.etcs_c.specs.Explained.{AreBefore, Words}
+use Rattle.etcs_c.specs.Fields.{fields_of}
+use Rattle.etcs_c.proofs.Whole.{item_bytes}
+
+abbrev Items : Kind → Reading → Type 0
+Items kind = readings_of (EntryReads kind)
+
+-- a bit after which no item continues is among the bits that an item may have
+inside : (kind : Kind) (b : List Bool) (i : ℕ) (r : Reading) (c : List Bool) → Items kind r → spelled r ≡ take i b ++ c → (InLanguage (Items kind) (take i b) → ⊥) → i < length b → i < 8184
+inside kind b i r [] l e open_end lt = absurd (open_end (r, l, e ∙ append-nil (take i b)))
+inside kind b i r (x ∷ c) l e open_end lt =
+    let most = (item_bytes l.0 r l.1.1).most in
+    let front : length (take i b) ≡ i = length-take-le i b (omega (arith, lt)) in
+    let long : length (spelled r) ≡ length (take i b) + length (x ∷ c) = ap (λ (t : List Bool). length t) e ∙ length-append (take i b) (x ∷ c) in
+    omega (arith, most, front, long)
+
+-- so it is refused of the first bits alone
+pub first_refused : (kind : Kind) (b : List Bool) (i : ℕ) (x : Var) → IsOutcome (EntryReads kind) b (refused i x) → Refuses (Items kind) (take 8184 b) i x
+first_refused kind b i x (answer, owner) =
+    let (r, c, l, e) = owner.viable in
+    let lt = inside kind b i r c l e owner.open_end answer.1.0 in
+    let front : take i (take 8184 b) ≡ take i b = take-take i 8184 b (omega (arith, lt)) in
+    let next : take (i + 1) (take 8184 b) ≡ take (i + 1) b = take-take (i + 1) 8184 b (omega (arith, lt)) in
+    record {
+      within = omega (arith, lt, answer.1.0, length-take 8184 b);
+      owned = rw front owner;
+      blocked = λ v. answer.1.1 (rw next at v);
+    }
+
+-- one bit is refused
+later : (L : Reading → Type 0) (b : List Bool) (i j : ℕ) (x y : Var) → Refuses L b i x → Refuses L b j y → i < j → ⊥
+later L b i j x y f g lt =
+    let e : take (i + 1) (take j b) ≡ take (i + 1) b = take-take (i + 1) j b (omega (arith, lt)) in
+    f.blocked (subst (λ (t : List Bool). Viable L t) e (viable_front L (i + 1) (take j b) g.owned.viable))
+
+one_refused : (L : Reading → Type 0) (b : List Bool) (i j : ℕ) (x y : Var) → Refuses L b i x → Refuses L b j y → j ≡ i
+one_refused L b i j x y f g =
+    elim (cases_lt i j) [
+      | inl lt ↦ absurd (later L b i j x y f g lt)
+      | inr ge ↦ elim (cases_lt j i) [
+        | inl lt ↦ absurd (later L b j i y x g f lt)
+        | inr le ↦ omega (arith, ge, le)
+      ]
+    ]
+
+-- what the account has before it
+pub before : (kind : Kind) (b : List Bool) (i : ℕ) (x : Var) → IsOutcome (EntryReads kind) b (refused i x) → (p : Reading) (e : End) → Accounts (Items kind) p e (take 8184 b) → (part : List Bool) × Shows (Items kind) p part (take i b)
+before kind b i x o p end.Whole a = absurd (whole_unrefused (Items kind) (kind_regular kind) p (take 8184 b) a i x (first_refused kind b i x o))
+before kind b i x o p (end.Open part) a = absurd (open_unrefused (Items kind) p part (take 8184 b) a i x (first_refused kind b i x o))
+before kind b i x o p (end.Refused j part) a =
+    let f = first_refused kind b i x o in
+    let same = one_refused (Items kind) (take 8184 b) i j x part.var f a.1 in
+    let (r, c, l, e) = o.1.viable in
+    let lt = inside kind b i r c l e o.1.open_end o.0.1.0 in
+    let front : take j (take 8184 b) ≡ take i b = ap (λ (n : ℕ). take n (take 8184 b)) same ∙ take-take i 8184 b (omega (arith, lt)) in
+    (num part.count part.bits, subst (λ (t : List Bool). Shows (Items kind) p (num part.count part.bits) t) front a.0)
+
+-- ---- What is said where words or fields are delivered.
+
+module _ (old new : List ℕ) (s : ℕ) (a : EtcsAnswer) where
+  pub words_said : {V E : Type 0} (items : V → List ℕ) (done : ℕ) (made : Result V E) → MatchResult made (λ v. WritesAs done (items v) old new s a) (λ x. Starves old new s) → Words done old new s a
+  words_said items done (Ok v) writes = inl (items v, writes)
+  words_said items done (Err x) starves = inr starves
+
+pub before_said : {V E : Type 0} (items : V → List EtcsField) (kind : Kind) (b : List Bool) (i : ℕ) (x : Var) → IsOutcome (EntryReads kind) b (refused i x) → (old new : List EtcsField) (s : ℕ) (a : EtcsAnswer) (made : Result V E) → IfOk made (λ v. (p : Reading) × (e : End) × Accounts (Items kind) p e (take 8184 b) × (items v ≡ fields_of p)) → MatchResult made (λ v. WritesAs 2 (items v) old new s a) (λ x. Starves old new s) → ((fs : List EtcsField) × AreBefore kind b i fs × WritesAs 2 fs old new s a) ⊎ Starves old new s
+before_said items kind b i x o old new s a (Ok v) (p, e, accounts, is) writes = let (part, shows) = before kind b i x o p e accounts in inl (items v, (p, part, shows, is), writes)
+before_said items kind b i x o old new s a (Err y) h starves = inr starves

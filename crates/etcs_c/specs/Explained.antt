@@ -1,0 +1,44 @@
+-- What is said of bytes that no item begins with, and of lines that say none.
+use Rattle.std.specs.Prelude.{◌≡◌, ℕ, ◌⊎◌, Bool, List, take}
+use Rattle.etcs_vars.specs.declared.var.Var.{Var}
+use Rattle.etcs_vars.specs.Reading.{Reading, readings_of}
+use Rattle.etcs_text.specs.declared.entry.Kind.{Kind}
+use Rattle.etcs_text.specs.Entries.{EntryReads, EntryValue}
+use Rattle.etcs_json.specs.JsonLines.{OfLine, SaysItem, SaysRefused}
+use Rattle.etcs_json.specs.Loose.{IsLoose}
+use Rattle.etcs_json.specs.TreeReading.{IsTreeOf}
+use Rattle.etcs_explain.specs.Accounts.{Shows}
+use Rattle.etcs_c.specs.declared.answer.EtcsAnswer.{EtcsAnswer}
+use Rattle.etcs_c.specs.declared.fields.EtcsField.{EtcsField}
+use Rattle.etcs_c.specs.declared.found.Found.{Found}
+use Rattle.etcs_c.specs.declared.found.Found.TheVariants.{Whole, More, Refused, Memory}
+use Rattle.etcs_c.specs.Answers.{Says, Starves, WritesAs, name_field}
+use Rattle.etcs_c.specs.Fields.{fields_of}
+
+-- some words are written, and the status is this one
+abbrev pub Words : ℕ → List ℕ → List ℕ → ℕ → EtcsAnswer → Type 0
+Words done old new s a = ((text : List ℕ) × WritesAs done text old new s a) ⊎ Starves old new s
+
+-- of a refused bit which it is, its variable and words; else as a check, and nothing is written
+abbrev pub SaysWhy : Found → List ℕ → List ℕ → ℕ → EtcsAnswer → Type 0
+SaysWhy (Whole e k) old new s a = Says (Whole e k) s a × (a.written ≡ 0) × (new ≡ old)
+SaysWhy More old new s a = Says More s a × (a.written ≡ 0) × (new ≡ old)
+SaysWhy (Refused i x) old new s a = (a.bit ≡ i) × (a.var ≡ name_field x) × Words 2 old new s a
+SaysWhy Memory old new s a = Says Memory s a × (a.written ≡ 0) × (new ≡ old)
+
+-- these are fields of variables with which an item of the kind begins, and their bits and a part of the next variable are
+-- the bits before bit i
+abbrev pub AreBefore : Kind → List Bool → ℕ → List EtcsField → Type 0
+AreBefore kind b i fs = (p : Reading) × (part : List Bool) × Shows (readings_of (EntryReads kind)) p part (take i b) × (fs ≡ fields_of p)
+
+-- of a refused bit which it is, its variable and the fields before it; else as a check, and nothing is written
+abbrev pub SaysBefore : Kind → List Bool → Found → List EtcsField → List EtcsField → ℕ → EtcsAnswer → Type 0
+SaysBefore kind b (Whole e k) old new s a = Says (Whole e k) s a × (a.written ≡ 0) × (new ≡ old)
+SaysBefore kind b More old new s a = Says More s a × (a.written ≡ 0) × (new ≡ old)
+SaysBefore kind b (Refused i x) old new s a = (a.bit ≡ i) × (a.var ≡ name_field x) × (((fs : List EtcsField) × AreBefore kind b i fs × WritesAs 2 fs old new s a) ⊎ Starves old new s)
+SaysBefore kind b Memory old new s a = Says Memory s a × (a.written ≡ 0) × (new ≡ old)
+
+-- of a line that says no item words, with what is said of it where an item's encoding is wanted; of one that says an item
+-- nothing is written
+abbrev pub SaysLineWhy : Kind → List ℕ → List ℕ → List ℕ → ℕ → EtcsAnswer → Type 0
+SaysLineWhy kind line old new s a = ((e : EntryValue) × SaysItem kind line e × (s ≡ 0) × (a.written ≡ 0) × (new ≡ old)) ⊎ (((i : ℕ) × (x : Var) × SaysRefused kind line i x × (a.bit ≡ i) × (a.var ≡ name_field x) × Words 2 old new s a) ⊎ ((((e : EntryValue) → IsLoose kind e → OfLine (λ d. IsTreeOf e d) line → ⊥) × Words 6 old new s a) ⊎ Starves old new s))

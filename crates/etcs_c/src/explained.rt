@@ -1,0 +1,142 @@
+//! Why bytes or a line of JSON are no item.
+
+ghost use Rattle.std.specs.Prelude.{◌≡◌, ◌*◌, ℕ, IfOk, take};
+ghost use Rattle.etcs_bits.specs.Bits.{bits};
+ghost use Rattle.etcs_vars.specs.declared.var.Var.{Var};
+ghost use Rattle.etcs_vars.specs.Reading.{Reading, IsOutcome, readings_of, refused};
+ghost use Rattle.etcs_text.specs.Entries.{EntryReads};
+ghost use Rattle.etcs_explain.specs.Accounts.{Accounts};
+ghost use Rattle.etcs_explain.specs.declared.account.End.{End};
+ghost use Rattle.etcs_c.specs.Answers.{Finds};
+ghost use Rattle.etcs_c.specs.Explained.{SaysBefore, SaysLineWhy, SaysWhy};
+ghost use Rattle.etcs_c.specs.Fields.{fields_of};
+
+use crate::answer::{BAD_JSON, EtcsAnswer, NO_MEMORY, REFUSED, WHOLE, deliver, refuse};
+use crate::fields::{EtcsField, fields_in};
+use crate::found::{Found, find, say};
+use etcs_explain::{Account, why, why_json};
+use etcs_json::{JsonFault, from_line};
+use etcs_text::Kind;
+use std::alloc::{AllocError, Global};
+
+/// Why a bit of the bytes is refused.
+fn sentence_of(alloc: Global, kind: Kind, bytes: &[u8]) -> Result<Vec<u8>, AllocError>
+    requires { (i : ℕ) × (x : Var) × IsOutcome (EntryReads kind) (bits bytes.now) (refused i x) }
+{
+    match why(alloc, kind, bytes)? {
+        Some(reason) => Ok(reason.sentence.into_bytes()),
+        None => unreachable!(),
+    }
+}
+
+/// The fields of the variables that are whole where an item ends or a bit is refused.
+fn fields_before(alloc: Global, kind: Kind, bytes: &[u8]) -> Result<Vec<EtcsField>, AllocError>
+    ensures { IfOk result (λ fields. (p : Reading) × (end : End) × Accounts (readings_of (EntryReads kind)) p end (take 8184 (bits bytes.now)) × (fields.items ≡ fields_of p)) }
+{
+    let account = Account::read(alloc, kind, bytes)?;
+    fields_in(alloc, account.fields.as_slice())
+}
+
+/// Answers what was found, and writes why a bit is refused.
+fn say_why(
+    alloc: Global,
+    kind: Kind,
+    bytes: &[u8],
+    found: &Found,
+    out: &mut [u8],
+    answer: &mut EtcsAnswer,
+) -> u32
+    requires { Finds kind (bits bytes.now) found.now }
+    ensures { SaysWhy found.now out.old out.new result answer.new }
+{
+    let status = say(found, answer);
+    match found {
+        Found::Refused { .. } => deliver(REFUSED, sentence_of(alloc, kind, bytes), out, answer),
+        _ => {
+            answer.written = 0;
+            status
+        }
+    }
+}
+
+/// Answers what was found, and writes the fields before a refused bit.
+fn say_before(
+    alloc: Global,
+    kind: Kind,
+    bytes: &[u8],
+    found: &Found,
+    out: &mut [EtcsField],
+    answer: &mut EtcsAnswer,
+) -> u32
+    requires { Finds kind (bits bytes.now) found.now }
+    ensures { SaysBefore kind (bits bytes.now) found.now out.old out.new result answer.new }
+{
+    let status = say(found, answer);
+    match found {
+        Found::Refused { .. } => deliver(REFUSED, fields_before(alloc, kind, bytes), out, answer),
+        _ => {
+            answer.written = 0;
+            status
+        }
+    }
+}
+
+/// Answers what the bytes begin with, and writes why a bit is refused.
+pub(crate) fn tell_why(
+    alloc: Global,
+    kind: Kind,
+    bytes: &[u8],
+    out: &mut [u8],
+    answer: &mut EtcsAnswer,
+) -> u32
+    ensures { (found : Found) × Finds kind (bits bytes.now) found × SaysWhy found out.old out.new result answer.new }
+{
+    say_why(alloc, kind, bytes, &find(alloc, kind, bytes), out, answer)
+}
+
+/// Answers what the bytes begin with, and writes the fields before a refused bit.
+pub(crate) fn tell_before(
+    alloc: Global,
+    kind: Kind,
+    bytes: &[u8],
+    out: &mut [EtcsField],
+    answer: &mut EtcsAnswer,
+) -> u32
+    ensures { (found : Found) × Finds kind (bits bytes.now) found × SaysBefore kind (bits bytes.now) found out.old out.new result answer.new }
+{
+    say_before(alloc, kind, bytes, &find(alloc, kind, bytes), out, answer)
+}
+
+/// Why a line is the JSON of no item; nothing where it is that of one.
+fn line_sentence_of(alloc: Global, kind: Kind, line: &[u8]) -> Result<Vec<u8>, AllocError> {
+    match why_json(alloc, kind, line)? {
+        Some(sentence) => Ok(sentence.into_bytes()),
+        None => Ok(Vec::new(alloc)),
+    }
+}
+
+/// Answers as where the encoding of a line's item is wanted, and writes why the line says none.
+pub(crate) fn tell_line_why(
+    alloc: Global,
+    kind: Kind,
+    line: &[u8],
+    out: &mut [u8],
+    answer: &mut EtcsAnswer,
+) -> u32
+    ensures { SaysLineWhy kind line.now out.old out.new result answer.new }
+{
+    match from_line(alloc, kind, line) {
+        Ok(_) => {
+            answer.written = 0;
+            WHOLE
+        }
+        Err(JsonFault::Refused { bit, var }) => {
+            refuse(bit, var, answer);
+            deliver(REFUSED, line_sentence_of(alloc, kind, line), out, answer)
+        }
+        Err(JsonFault::Shape) => {
+            deliver(BAD_JSON, line_sentence_of(alloc, kind, line), out, answer)
+        }
+        Err(JsonFault::Memory) => NO_MEMORY,
+    }
+}

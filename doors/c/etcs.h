@@ -118,7 +118,7 @@ etcs_status etcs_fields_before(etcs_kind kind, const uint8_t *bytes, size_t len,
                                etcs_answer *answer);
 
 /* As etcs_from_json, but that no encoding is written; and of a line that says no item why: the path of the first part that
- * is wrong and the reason, as ".packets[0].fields[2]: Q_DIR is wanted after ..", or where it is no JSON. After
+ * is wrong and the reason, as ".packets[0].fields[0]: Q_SRSTOP admits 0 and 1, not 2", or where it is no JSON. After
  * ETCS_REFUSED or ETCS_BAD_JSON. */
 etcs_status etcs_explain_json(etcs_kind kind, const uint8_t *line, size_t len, uint8_t *out, size_t room,
                               etcs_answer *answer);

@@ -21,10 +21,9 @@ def example(name):
 
 class Tests(unittest.TestCase):
     def test_doc(self):
-        for module in (etcs, etcs._library):
-            found = doctest.testmod(module)
-            self.assertEqual(found.failed, 0)
-            self.assertGreater(found.attempted, 5)
+        found = doctest.testmod(etcs)
+        self.assertEqual(found.failed, 0)
+        self.assertGreater(found.attempted, 12)
 
     def test_round_trip(self):
         for data, kind in ((SHORT, "short"), (RADIO, "radio"), (example("long_line_ahead.hex"), "long"), (example("radio_kept.hex"), "radio"),

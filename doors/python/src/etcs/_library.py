@@ -102,7 +102,7 @@ class NotAnItem(EtcsError):
         ...     etcs.encode(message)
         ... except etcs.NotAnItem as fault:
         ...     print(fault.reason)
-        .packets[0].fields[0][1]: Q_SRSTOP admits 0 to 1, not 2
+        .packets[0].fields[0]: Q_SRSTOP admits 0 and 1, not 2
     """
 
     def __init__(self, text: str, kind: str = "", line: Optional[bytes] = None) -> None:

@@ -1,6 +1,6 @@
 /* bench CALL KIND FILE COUNT: nanoseconds of processor an item, over all items of the file COUNT times.
- * CALL is check, show, to_json, from_json, fields, pack (fields and from_fields) or a number: the reader,
- * fed pieces of that many bytes. */
+ * CALL is check, show, to_json, from_json, fields, pack (fields and from_fields), explain or before (of telegrams
+ * whose last bit is turned, which is refused), or a number: the reader, fed pieces of that many bytes. */
 #include "etcs_help.h"
 #include <stdio.h>
 #include <stdlib.h>
@@ -54,6 +54,18 @@ int main(int argc, char **argv) {
                     if (status == ETCS_OK) items++, sum += answer.taken;
                     else if (status != ETCS_MORE) return 3;
                 }
+            }
+            continue;
+        }
+        if (!strcmp(call, "explain") || !strcmp(call, "before")) {
+            size_t size = kind == ETCS_LONG ? 104 : 27;
+            for (size_t at = 0; at < len; at += size, items++) {
+                bytes[at + size - 1] ^= 1;
+                etcs_status status = !strcmp(call, "before") ? etcs_fields_before(kind, bytes + at, size, fields, 8192, &answer)
+                    : etcs_explain(kind, bytes + at, size, out, sizeof out, &answer);
+                if (status != ETCS_REFUSED) return 3;
+                sum += answer.written;
+                bytes[at + size - 1] ^= 1;
             }
             continue;
         }

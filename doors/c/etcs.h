@@ -20,7 +20,8 @@
  *   - a pointer is never null, also where its length is 0, and points to that many bytes, fewer than 2^63;
  *   - out and answer overlap neither each other nor the bytes that are read;
  *   - no call from a signal handler, nor in the forked child of a process with threads;
- *   - stack: 64 KiB; etcs_from_json and etcs_explain_json 256 KiB, since lists and objects may be in one another, up to 127 deep.
+ *   - stack: 64 KiB; etcs_from_json and etcs_explain_json 256 KiB, since lists and objects may be in one another, up to
+ *     127 deep; etcs_explain 512 KiB, since it works out which lengths a packet may have.
  */
 #ifndef ETCS_H
 #define ETCS_H

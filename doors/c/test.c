@@ -334,6 +334,7 @@ static void *all_calls(void *arg)
 
 static void stack(void)
 {
+    static const size_t most[] = {64, 64, 64, 256, 64, 64, 512, 64, 256}; /* KiB, as etcs.h asks for */
     size_t size = 1 << 20;
     for (int call = 0; call < 9; call++) {
         uint8_t *room;
@@ -350,6 +351,7 @@ static void stack(void)
         size_t clean = 0;
         while (clean < size && room[clean] == 0xA5) clean++;
         printf("kind %u, call %d: %zu bytes of stack\n", file_kind, call, size - clean);
+        EXPECT(size - clean <= most[call] << 10);
         free(room);
     }
 }

@@ -1,6 +1,6 @@
 #!/usr/bin/env python3
-"""Compares etcs.h with the exports of crates/etcs_c/src: names, types in order, the structs and the constants; and the
-tables of variables for C, Python and Ada with the specs.
+"""Compares etcs.h with the exports of crates/etcs_c/src: names, types in order, the structs and the constants; the names in
+the map of symbols, in Ada and in Python with them; and the tables of variables for C, Python and Ada with the specs.
 
     doors/header.py            the status is 0 where they agree; nothing else compares them
     doors/header.py --write    writes the tables anew
@@ -11,6 +11,11 @@ import sys
 
 VARS_H, VARS_PY, VARS_ADS = "doors/c/etcs_vars.h", "doors/python/src/etcs/_variables.py", "doors/ada/etcs-variables.ads"
 TOP = os.path.join(os.path.dirname(os.path.abspath(__file__)), "..")
+NAMES = {
+    "doors/c/libetcs.map": r"^ *(etcs_\w+);",
+    "doors/ada/etcs.ads": r'External_Name => "(etcs_\w+)"',
+    "doors/python/src/etcs/_library.py": r'^ *"(etcs_\w+)": \[',
+}
 C_TYPES = {
     "u32": ["uint32_t"], "u64": ["uint64_t"], "usize": ["size_t"], "Global": [],
     "&[u8]": ["const uint8_t *", "size_t"], "&mut [u8]": ["uint8_t *", "size_t"],
@@ -113,6 +118,10 @@ def main():
     header = source("doors/c/etcs.h")
     ours, theirs = dict(exports(rattle)), dict(declared(header))
     wrong = [f"{name}: {ours.get(name)} in the source, {theirs.get(name)} in the header" for name in sorted({*ours, *theirs}) if ours.get(name) != theirs.get(name)]
+    for path, pattern in NAMES.items():
+        found = re.findall(pattern, source(path), re.M)
+        if sorted(found) != sorted(ours):
+            wrong.append(f"{path} has {', '.join(sorted(found))}")
     structs = [("etcs_answer", "EtcsAnswer", answer), ("etcs_field", "EtcsField", source("crates/etcs_c/src/fields.rt"))]
     count = 0
     for c_name, name, text in structs:

@@ -8,6 +8,7 @@ import threading
 import unittest
 
 import etcs
+from etcs._variables import VARIABLES, WIDTHS
 
 SHORT = bytes.fromhex("A0007F802000CB200C7F" + "FF" * 16 + "C0")
 RADIO = bytes.fromhex("18034000000000080031280620")
@@ -132,7 +133,7 @@ class Tests(unittest.TestCase):
         self.assertEqual((fault.bit, fault.variable, fault.fields), (6, "M_VERSION", sent[:1]))
         self.assertIn("M_VERSION admits", fault.reason)
         # the fields before a bit are those of the item whose bit was turned
-        data, widths = example("short_linking.hex")[:27], dict(zip(etcs.VARIABLES, etcs._variables.WIDTHS))
+        data, widths = example("short_linking.hex")[:27], dict(zip(VARIABLES, WIDTHS))
         for bit in range(len(data) * 8):
             turned = bytearray(data)
             turned[bit // 8] ^= 0x80 >> bit % 8

@@ -116,6 +116,19 @@ impl<W: Write> Explainer<W> {
         Ok(None)
     }
 
+    /// Explains the whole items that bytes begin with, one after another, and says how many bytes they have. `None` after one
+    /// that is refused.
+    fn items(&mut self, bytes: &[u8], line: u64) -> Step<Option<usize>> {
+        let mut at = 0;
+        while at < bytes.len() && bytes.len() - at >= wanted(self.task.kind, &bytes[at..]) {
+            match self.item(&bytes[at..], line)? {
+                Some(count) if count > 0 && count <= bytes.len() - at => at += count,
+                _ => return Ok(None),
+            }
+        }
+        Ok(Some(at))
+    }
+
     /// Begins a title with this line, or with the item of bytes.
     fn place(&mut self, line: u64) -> Written {
         self.sheet.clear();
@@ -234,22 +247,17 @@ impl Held {
     /// Explains the whole items that the bytes begin with, of which the last come from this line, and says whether none is
     /// refused. What is left is held on.
     fn pass<W: Write>(&mut self, line: u64, to: &mut Explainer<W>) -> Step<bool> {
-        let mut rest = self.bytes.as_slice();
-        while !rest.is_empty() && rest.len() >= wanted(to.task.kind, rest) {
-            match to.item(rest, self.line)? {
-                Some(count) if count > 0 && count <= rest.len() => rest = &rest[count..],
-                _ => {
-                    self.bytes.clear();
-                    return Ok(false);
-                }
-            }
-        }
-        let at = self.bytes.len() - rest.len();
+        let Some(at) = to.items(self.bytes.as_slice(), self.line)? else {
+            self.bytes.clear();
+            return Ok(false);
+        };
         if at > 0 {
             self.line = line;
         }
+        let len = self.bytes.len();
+        let at = at.min(len);
         self.bytes.copy_within(at.., 0);
-        self.bytes.truncate(self.bytes.len() - at);
+        self.bytes.truncate(len - at);
         Ok(true)
     }
 
@@ -326,8 +334,8 @@ impl Pieces {
             self.bytes.resize(text.len() / 2 + 1, 0)?;
             match line_bytes(text, self.bytes.as_mut_slice()) {
                 Ok(count) => {
-                    let said = &self.bytes[self.bytes.len() - count..];
-                    self.held.take(said, line, to)?;
+                    let start = self.bytes.len().saturating_sub(count);
+                    self.held.take(&self.bytes[start..], line, to)?;
                 }
                 Err(NoBytes::Empty) => {}
                 Err(why) => {

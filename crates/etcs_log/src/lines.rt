@@ -123,7 +123,8 @@ impl Lines {
         match line_bytes(line, buffer) {
             Ok(count) => self.take_bytes(number, &buffer[buffer.len() - count..], texts),
             Err(NoBytes::Empty) => Ok(()),
-            Err(why) => self.refuse(number, Bad::NoBytes(why), texts),
+            Err(NoBytes::NoDigits) => self.refuse(number, Bad::NoDigits, texts),
+            Err(NoBytes::OddDigits(count)) => self.refuse(number, Bad::OddDigits(count), texts),
         }
     }
 

@@ -15,8 +15,10 @@ pub(crate) const MOST_CHARACTERS: usize = 8192;
 pub(crate) enum Bad {
     /// It has more than 8,192 characters.
     Long,
-    /// It says no bytes.
-    NoBytes(NoBytes),
+    /// It doesn't end with digits.
+    NoDigits,
+    /// It ends with so many digits, an odd number.
+    OddDigits(usize),
     /// It says another number of bytes than the item has.
     Count,
     /// No item continues with this bit.
@@ -38,7 +40,8 @@ pub(crate) fn write_note(
     write!(out, "line {number}: ")?;
     match bad {
         Bad::Long => write!(out, "more than {MOST_CHARACTERS} characters")?,
-        Bad::NoBytes(why) => write_no_bytes(why, out)?,
+        Bad::NoDigits => write_no_bytes(NoBytes::NoDigits, out)?,
+        Bad::OddDigits(count) => write_no_bytes(NoBytes::OddDigits(count), out)?,
         Bad::Count => write_bytes(kind, bytes, out)?,
         Bad::Refused { bit, var } => {
             write!(out, "refused at bit {bit}, {var}")?;

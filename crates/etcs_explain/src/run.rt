@@ -105,7 +105,7 @@ impl<W: Write> Explainer<W> {
         match account.end {
             End::Whole => return Ok(Some(shown.len())),
             End::Open(_) => {
-                let bits = shown.len() as u64 * 8;
+                let bits = (shown.len() as u64).saturating_mul(8);
                 self.note(RunFault::Truncated { item, bits });
             }
             End::Refused(bit, part) => {

@@ -331,7 +331,10 @@ impl Pieces {
                 to.json_line(text, line, &mut self.bytes)?;
             }
         } else {
-            self.bytes.resize(text.len() / 2 + 1, 0)?;
+            let room = text.len() / 2 + 1;
+            if self.bytes.len() < room {
+                self.bytes.resize(room, 0)?;
+            }
             match line_bytes(text, self.bytes.as_mut_slice()) {
                 Ok(count) => {
                     let start = self.bytes.len().saturating_sub(count);

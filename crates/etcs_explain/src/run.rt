@@ -412,7 +412,8 @@ fn explain_all<R: Read, W: Write>(explainer: &mut Explainer<W>, input: &mut R) -
 }
 
 /// Explains the items of an input, one after another: each variable with its bits, its number and what it stands for, and
-/// of what is refused everything before the refused bit, and why. Of hexadecimal and JSON each line is explained by itself;
+/// of what is refused everything before the refused bit, and why. Of JSON each line is explained by itself. A line of
+/// hexadecimal says the bytes that `line_bytes` finds in it, and the item that a line before began may continue with them;
 /// of bytes a refused item is the last.
 ///
 /// # Errors

@@ -1,5 +1,5 @@
 -- A refused bit, and the account of the bits before it.
-use Rattle.std.proofs.Common.{◌≡◌, ℕ, ◌+◌, ◌<◌, ◌⊎◌, Bool, List, [], ◌∷◌, ◌++◌, Result, Ok, Err, inl, inr, length, take, ap, subst, ◌∙◌, arith}
+use Rattle.std.proofs.Common.{◌≡◌, ℕ, ◌+◌, ◌<◌, ◌⊎◌, Bool, List, [], ◌∷◌, ◌++◌, Result, Ok, Err, inl, inr, length, take, refl, ap, subst, ◌∙◌, arith}
 use Rattle.std.specs.Prelude.{IfOk, MatchResult}
 use Rattle.std.proofs.lemmas.Bool.{cases_lt}
 use Rattle.std.proofs.lemmas.List.{append-nil, length-append, length-take, length-take-le, take-take}
@@ -17,8 +17,10 @@ use Rattle.etcs_explain.specs.declared.account.End.TheVariants as end
 use Rattle.etcs_explain.proofs.Accounting.{whole_unrefused, open_unrefused}
 use Rattle.etcs_c.specs.declared.answer.EtcsAnswer.{EtcsAnswer}
 use Rattle.etcs_c.specs.declared.fields.EtcsField.{EtcsField}
-use Rattle.etcs_c.specs.Answers.{Starves, WritesAs}
-use Rattle.etcs_c.specs.Explained.{AreBefore, Words}
+use Rattle.etcs_c.specs.declared.found.Found.{Found}
+use Rattle.etcs_c.specs.declared.found.Found.TheVariants as found_as
+use Rattle.etcs_c.specs.Answers.{Says, Starves, WritesAs}
+use Rattle.etcs_c.specs.Explained.{AreBefore, SaysBefore, SaysWhy, Words}
 use Rattle.etcs_c.specs.Fields.{fields_of}
 use Rattle.etcs_c.proofs.Whole.{item_bytes}
 
@@ -85,3 +87,17 @@ module _ (old new : List ℕ) (s : ℕ) (a : EtcsAnswer) where
 pub before_said : {V E : Type 0} (items : V → List EtcsField) (kind : Kind) (b : List Bool) (i : ℕ) (x : Var) → IsOutcome (EntryReads kind) b (refused i x) → (old new : List EtcsField) (s : ℕ) (a : EtcsAnswer) (made : Result V E) → IfOk made (λ v. (p : Reading) × (e : End) × Accounts (Items kind) p e (take 8184 b) × (items v ≡ fields_of p)) → MatchResult made (λ v. WritesAs 2 (items v) old new s a) (λ x. Starves old new s) → ((fs : List EtcsField) × AreBefore kind b i fs × WritesAs 2 fs old new s a) ⊎ Starves old new s
 before_said items kind b i x o old new s a (Ok v) (p, e, accounts, is) writes = let (part, shows) = before kind b i x o p e accounts in inl (items v, (p, part, shows, is), writes)
 before_said items kind b i x o old new s a (Err y) h starves = inr starves
+
+-- ---- What is said where no bit is refused.
+
+pub unwritten : (found : Found) → ((i : ℕ) (x : Var) → found ≡ found_as.Refused i x → ⊥) → (s : ℕ) (a a' : EtcsAnswer) → Says found s a → a'.taken ≡ a.taken → a'.written ≡ 0 → (old : List ℕ) → SaysWhy found old old s a'
+unwritten (found_as.Whole e k) not s a a' says same none old = ((says.0, same ∙ says.1), none, refl)
+unwritten found_as.More not s a a' says same none old = (says, none, refl)
+unwritten (found_as.Refused i x) not s a a' says same none old = absurd (not i x refl)
+unwritten found_as.Memory not s a a' says same none old = (says, none, refl)
+
+pub unwritten_fields : (kind : Kind) (b : List Bool) (found : Found) → ((i : ℕ) (x : Var) → found ≡ found_as.Refused i x → ⊥) → (s : ℕ) (a a' : EtcsAnswer) → Says found s a → a'.taken ≡ a.taken → a'.written ≡ 0 → (old : List EtcsField) → SaysBefore kind b found old old s a'
+unwritten_fields kind b (found_as.Whole e k) not s a a' says same none old = ((says.0, same ∙ says.1), none, refl)
+unwritten_fields kind b found_as.More not s a a' says same none old = (says, none, refl)
+unwritten_fields kind b (found_as.Refused i x) not s a a' says same none old = absurd (not i x refl)
+unwritten_fields kind b found_as.Memory not s a a' says same none old = (says, none, refl)

@@ -23,7 +23,8 @@ use std::alloc::{AllocError, Global};
 fn sentence_of(alloc: Global, kind: Kind, bytes: &[u8]) -> Result<Vec<u8>, AllocError>
     requires { (i : ℕ) × (x : Var) × IsOutcome (EntryReads kind) (bits bytes.now) (refused i x) }
 {
-    match why(alloc, kind, bytes)? {
+    let said = why(alloc, kind, bytes)?;
+    match said {
         Some(reason) => Ok(reason.sentence.into_bytes()),
         None => unreachable!(),
     }

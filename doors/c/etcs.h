@@ -9,8 +9,8 @@
  *     case ETCS_MORE:    these bytes begin a telegram and hold none
  *     }
  *
- * Each function here is proved to answer as its comment says. etcs_help.h has what is written in C over them:
- * names of variables and statuses, look-up of a variable, a reader of pieces.
+ * Each function here is proved to answer as its comment says, but for the words of a reason. etcs_help.h has what is
+ * written in C over them: names of variables and statuses, look-up of a variable, a reader of pieces.
  *
  * Memory: all buffers are the caller's, and nothing of them is kept. Calls take memory by malloc and give all of it
  * back before they return; there is nothing to free, open or close.

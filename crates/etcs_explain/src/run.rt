@@ -299,6 +299,14 @@ impl Held {
     }
 }
 
+/// A line without the CR at its end.
+fn without_cr(line: &[u8]) -> &[u8] {
+    match line.split_last() {
+        Some((b'\r', line)) => line,
+        _ => line,
+    }
+}
+
 /// Takes the pieces of an input.
 #[derive(Drop)]
 struct Pieces {
@@ -320,10 +328,7 @@ impl Pieces {
         self.keep(part)?;
         self.line = self.line.saturating_add(1);
         let line = self.line;
-        let text = match self.begun.as_slice().split_last() {
-            Some((b'\r', text)) => text,
-            _ => self.begun.as_slice(),
-        };
+        let text = without_cr(self.begun.as_slice());
         if text.len() > MOST_LINE {
             to.bad_length(line)?;
         } else if to.task.from == Form::Json {

@@ -40,13 +40,13 @@ inside kind b i r (x ∷ c) l e open_end lt =
 pub first_refused : (kind : Kind) (b : List Bool) (i : ℕ) (x : Var) → IsOutcome (EntryReads kind) b (refused i x) → Refuses (Items kind) (take 8184 b) i x
 first_refused kind b i x (answer, owner) =
     let (r, c, l, e) = owner.viable in
-    let lt = inside kind b i r c l e owner.open_end answer.1.0 in
+    let lt = inside kind b i r c l e owner.open_end answer.1 in
     let front : take i (take 8184 b) ≡ take i b = take-take i 8184 b (omega (arith, lt)) in
     let next : take (i + 1) (take 8184 b) ≡ take (i + 1) b = take-take (i + 1) 8184 b (omega (arith, lt)) in
     record {
-      within = omega (arith, lt, answer.1.0, length-take 8184 b);
+      within = omega (arith, lt, answer.1, length-take 8184 b);
       owned = rw front owner;
-      blocked = λ v. answer.1.1 (rw next at v);
+      blocked = λ v. answer.2 (rw next at v);
     }
 
 -- one bit is refused
@@ -73,16 +73,20 @@ before kind b i x o p (end.Refused j part) a =
     let f = first_refused kind b i x o in
     let same = one_refused (Items kind) (take 8184 b) i j x part.var f a.1 in
     let (r, c, l, e) = o.1.viable in
-    let lt = inside kind b i r c l e o.1.open_end o.0.1.0 in
+    let lt = inside kind b i r c l e o.1.open_end o.0.1 in
     let front : take j (take 8184 b) ≡ take i b = ap (λ (n : ℕ). take n (take 8184 b)) same ∙ take-take i 8184 b (omega (arith, lt)) in
     (num part.count part.bits, subst (λ (t : List Bool). Shows (Items kind) p (num part.count part.bits) t) front a.0)
 
 -- ---- What is said where words or fields are delivered.
 
+pub account_fields : {V E : Type 0} (items : V → List EtcsField) (kind : Kind) (b : List Bool) (p sent : Reading) (e : End) (made : Result V E) → Accounts (Items kind) p e (take 8184 b) → sent ≡ p → IfOk made (λ v. items v ≡ fields_of sent) → IfOk made (λ v. (q : Reading) × (end : End) × Accounts (Items kind) q end (take 8184 b) × (items v ≡ fields_of q))
+account_fields items kind b p sent e (Ok v) a same is = (p, e, a, is ∙ ap fields_of same)
+account_fields items kind b p sent e (Err x) a same is = tt
+
 module _ (old new : List ℕ) (s : ℕ) (a : EtcsAnswer) where
-  pub words_said : {V E : Type 0} (items : V → List ℕ) (done : ℕ) (made : Result V E) → MatchResult made (λ v. WritesAs done (items v) old new s a) (λ x. Starves old new s) → Words done old new s a
-  words_said items done (Ok v) writes = inl (items v, writes)
-  words_said items done (Err x) starves = inr starves
+  pub words_said : {V E : Type 0} (items : V → List ℕ) (status : ℕ) (made : Result V E) → MatchResult made (λ v. WritesAs status (items v) old new s a) (λ x. Starves old new s) → Words status old new s a
+  words_said items status (Ok v) writes = inl (items v, writes)
+  words_said items status (Err x) starves = inr starves
 
 pub before_said : {V E : Type 0} (items : V → List EtcsField) (kind : Kind) (b : List Bool) (i : ℕ) (x : Var) → IsOutcome (EntryReads kind) b (refused i x) → (old new : List EtcsField) (s : ℕ) (a : EtcsAnswer) (made : Result V E) → IfOk made (λ v. (p : Reading) × (e : End) × Accounts (Items kind) p e (take 8184 b) × (items v ≡ fields_of p)) → MatchResult made (λ v. WritesAs 2 (items v) old new s a) (λ x. Starves old new s) → ((fs : List EtcsField) × AreBefore kind b i fs × WritesAs 2 fs old new s a) ⊎ Starves old new s
 before_said items kind b i x o old new s a (Ok v) (p, e, accounts, is) writes = let (part, shows) = before kind b i x o p e accounts in inl (items v, (p, part, shows, is), writes)

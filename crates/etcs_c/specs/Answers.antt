@@ -53,7 +53,7 @@ Checks n b s a = ((kind : Kind) × (found : Found) × (kind_number kind ≡ n) �
 
 -- these are at the front of the buffer, and the status is this one; or it has no room for them, and is as before
 abbrev pub WritesAs : {A : Type 0} → ℕ → List A → List A → List A → ℕ → EtcsAnswer → Type 0
-WritesAs done items old new s a = (a.written ≡ length items) × (((length items ≤ length old) × (s ≡ done) × (new ≡ items ++ drop (length items) old)) ⊎ ((length old < length items) × (s ≡ 3) × (new ≡ old)))
+WritesAs status items old new s a = (a.written ≡ length items) × (((length items ≤ length old) × (s ≡ status) × (new ≡ items ++ drop (length items) old)) ⊎ ((length old < length items) × (s ≡ 3) × (new ≡ old)))
 
 abbrev pub Writes : {A : Type 0} → List A → List A → List A → ℕ → EtcsAnswer → Type 0
 Writes items old new s a = WritesAs 0 items old new s a

@@ -17,7 +17,7 @@ use Rattle.etcs_c.specs.Fields.{fields_of}
 
 -- some words are written, and the status is this one
 abbrev pub Words : ℕ → List ℕ → List ℕ → ℕ → EtcsAnswer → Type 0
-Words done old new s a = ((text : List ℕ) × WritesAs done text old new s a) ⊎ Starves old new s
+Words status old new s a = ((text : List ℕ) × WritesAs status text old new s a) ⊎ Starves old new s
 
 -- of a refused bit which it is, its variable and words; else as a check, and nothing is written
 abbrev pub SaysWhy : Found → List ℕ → List ℕ → ℕ → EtcsAnswer → Type 0

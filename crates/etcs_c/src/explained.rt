@@ -127,7 +127,7 @@ pub(crate) fn tell_line_why(
     ensures { SaysLineWhy kind line.now out.old out.new result answer.new }
 {
     match from_line(alloc, kind, line) {
-        Ok(_) => {
+        Ok(_entry) => {
             answer.written = 0;
             WHOLE
         }

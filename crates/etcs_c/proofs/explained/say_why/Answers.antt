@@ -9,7 +9,7 @@ pub returns-in-Refused : goal.returns-in-Refused
 returns-in-Refused c =
     let says = rw c.in-Refused.is at c.say-status.ensures in
     let words = words_said c.args.out.now c.deliver.new.out c.deliver.result c.deliver.new.answer (λ v. v.items) 2 c.sentence_of.result c.deliver.ensures.writes in
-    rw c.in-Refused.is (c.deliver.ensures.bit ∙ says.1.0, c.deliver.ensures.var ∙ says.1.1, words)
+    rw c.in-Refused.is (c.deliver.ensures.bit ∙ says.1, c.deliver.ensures.var ∙ says.2, words)
 
-pub returns : goal.returns
-returns c = unwritten c.args.found.now c.in_default.not-Refused c.say-status.result c.say-status.new.answer _ c.say-status.ensures refl refl c.args.out.now
+pub returns-in_default : goal.returns-in_default
+returns-in_default c = unwritten c.args.found.now c.in_default.not-Refused c.say-status.result c.say-status.new.answer _ c.say-status.ensures refl refl c.args.out.now

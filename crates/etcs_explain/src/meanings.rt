@@ -95,8 +95,13 @@ fn text_of(var: Var, number: u64) -> Option<&'static str> {
     match (var, number) {
         (Var::M_MCOUNT, 254) => Some("fits no message of the group"),
         (Var::M_MCOUNT, 255) => Some("fits each message of the group"),
-        (Var::T_TRAIN, 4294967295) | (Var::NID_PRVLRBG, 16777215) => Some("unknown"),
-        (Var::V_MAMODE, 127) => Some("national value"),
+        (Var::V_STATIC, 127) | (Var::G_A, 255) => Some("end of profile"),
+        (Var::V_RELEASEDP | Var::V_RELEASEOL, 126) => Some("calculated on board"),
+        (Var::V_RELEASEDP | Var::V_RELEASEOL | Var::V_MAMODE, 127) => Some("national value"),
+        (Var::T_LOA | Var::T_SECTIONTIMER | Var::T_ENDTIMER | Var::T_OL, 1023) => Some("unlimited"),
+        (Var::D_LEVELTR, 32767) => Some("now"),
+        (Var::T_TRAIN, 4294967295) => Some("unknown"),
+        (Var::NID_LRBG | Var::NID_PRVLRBG, 16777215) => Some("unknown"),
         _ => {
             let (_, texts) = TEXTS.iter().find(|texts| texts.0.contains(&var))?;
             texts.get(number as usize).copied()
@@ -142,7 +147,7 @@ pub(crate) fn write_meaning(
     scale: Option<u64>,
     out: &mut String,
 ) -> Written {
-    if let Some(text) = var.special(number).or(text_of(var, number)) {
+    if let Some(text) = text_of(var, number) {
         return out.push_str(text);
     }
     match UNITS.iter().find(|unit| unit.1.contains(&var)) {

@@ -113,6 +113,24 @@ Packed-pushed bytes slice new count len size x p n h inside short e w =
       pushed_bits bytes new len (size - count) x p.inside written,
     )
 
+-- the fields that hold these bytes
+pub packed_fields : (held bytes : List ℕ) (n m : ℕ) → held ≡ bytes → n ≡ m → Packed bytes n → (m ≤ 8 * length held) × (8 * length held < m + 8) × (value (drop m (bits held)) ≡ 0)
+packed_fields held bytes n m e h p =
+    let clear : value (drop m (bits held)) ≡ 0 = ap (λ l. value (drop m (bits l))) e ∙ ap (λ k. value (drop k (bits bytes))) (sym h) ∙ p.clear in
+    let size : length held ≡ length bytes = ap length e in
+    (omega (arith, p.inside, size), omega (arith, p.short, size), clear)
+
+-- the same of the bytes that are then held
+pub pushed : (bytes slice new held : List ℕ) (count len size n : ℕ) (x : List Bool) → length bytes ≡ count → (len ≤ 8 * length bytes) × (8 * length bytes < len + 8) × (value (drop len (bits bytes)) ≡ 0) → len + n ≤ 8 * size → 8 * size < len + n + 8 → length x ≡ n → slice ≡ take size bytes ++ replicate (size - count) 0 → bits new ≡ replaced len x (bits slice) → (length new ≡ length slice → held ≡ new) → ((len + n ≤ 8 * length held) × (8 * length held < len + n + 8) × (value (drop (len + n) (bits held)) ≡ 0)) × (take (len + n) (bits held) ≡ take len (bits bytes) ++ x)
+pushed bytes slice new held count len size n x is p inside short many e w keeps =
+    let old : Packed bytes len = record { inside = p.0; short = p.1; clear = p.2 } in
+    let fits : count ≤ size = omega (arith, is, p, inside, short) in
+    let now = Packed-pushed bytes slice new count len size x old is fits (omega (arith, many, inside)) (omega (arith, many, short)) e w in
+    let g = grown bytes slice count size is fits e in
+    let kept : held ≡ new = keeps (length-written slice new len x (omega (arith, g.1, many, inside)) w) in
+    let at : len + length x ≡ len + n = ap (λ k. len + k) many in
+    (packed_fields held new (len + length x) (len + n) kept at now.0, ap (λ l. take (len + n) (bits l)) kept ∙ ap (λ k. take k (bits new)) (sym at) ∙ now.1)
+
 -- bytes cut, and the bits after the new end set to 0
 pub Packed-cut : (bytes slice new : List ℕ) (old len size spare : ℕ) → Packed bytes old → len ≤ old → len + spare ≡ 8 * size → spare < 8 → slice ≡ take size bytes → bits new ≡ replaced len (num spare 0) (bits slice) → Packed new len × (take len (bits new) ≡ take len (take old (bits bytes)))
 Packed-cut bytes slice new old len size spare p h whole short e w =
@@ -127,6 +145,14 @@ Packed-cut bytes slice new old len size spare p h whole short e w =
       },
       cut_bits bytes new len size old (num spare 0) h (omega arith) fits written,
     )
+
+-- the same of the bytes that are then held
+pub cut : (bytes slice new held : List ℕ) (old len size spare : ℕ) → (old ≤ 8 * length bytes) × (8 * length bytes < old + 8) × (value (drop old (bits bytes)) ≡ 0) → len ≤ old → len + spare ≡ 8 * size → spare < 8 → slice ≡ take size bytes → bits new ≡ replaced len (num spare 0) (bits slice) → (length new ≡ length slice → held ≡ new) → ((len ≤ 8 * length held) × (8 * length held < len + 8) × (value (drop len (bits held)) ≡ 0)) × (take len (bits held) ≡ take len (take old (bits bytes)))
+cut bytes slice new held old len size spare p h whole short e w keeps =
+    let now = Packed-cut bytes slice new old len size spare (record { inside = p.0; short = p.1; clear = p.2 }) h whole short e w in
+    let many : length slice ≡ size = ap length e ∙ omega (arith, length-take size bytes, p, h, whole, short) in
+    let kept : held ≡ new = keeps (length-written slice new len (num spare 0) (omega (arith, length-num spare 0, many, whole)) w) in
+    (packed_fields held new len len kept refl now.0, ap (λ l. take len (bits l)) kept ∙ now.1)
 
 -- equal bits, equal bytes
 pub bits_same : (xs ys : List ℕ) → ((i : ℕ) → get_or xs i 0 < 2 ^ 8) → ((i : ℕ) → get_or ys i 0 < 2 ^ 8) → bits xs ≡ bits ys → xs ≡ ys
@@ -177,10 +203,3 @@ pushed_bit b n e = ap (num 1) e ∙ one_bit b
 -- the same lists, the same test
 pub Decides-lists : (a xs b ys : List ℕ) (r : Bool) → a ≡ xs → b ≡ ys → Decides r (bits a ≡ bits b) → Decides r (bits xs ≡ bits ys)
 Decides-lists a xs b ys r e f d = ((λ t. sym (ap bits e) ∙ d.0 t ∙ ap bits f), (λ s. d.1 (ap bits e ∙ s ∙ sym (ap bits f))))
-
--- the fields that hold these bytes
-pub packed_fields : (held bytes : List ℕ) (n m : ℕ) → held ≡ bytes → n ≡ m → Packed bytes n → (m ≤ 8 * length held) × (8 * length held < m + 8) × (value (drop m (bits held)) ≡ 0)
-packed_fields held bytes n m e h p =
-    let clear : value (drop m (bits held)) ≡ 0 = ap (λ l. value (drop m (bits l))) e ∙ ap (λ k. value (drop k (bits bytes))) (sym h) ∙ p.clear in
-    let size : length held ≡ length bytes = ap length e in
-    (omega (arith, p.inside, size), omega (arith, p.short, size), clear)

@@ -1,9 +1,9 @@
-use Rattle.std.proofs.Common.{◌≡◌, ◌+◌, ◌++◌, length, take, sym, ap, ◌∙◌, arith}
+use Rattle.std.proofs.Common.{◌++◌, ap, ◌∙◌, arith}
 use Rattle.std.proofs.lemmas.List.{with_items_is}
 use Rattle.etcs_bits.specs.Bits.{bits, num}
 use Rattle.etcs_bits.proofs.Numbers.{length-num}
 use Rattle.etcs_bits.proofs.Positions.{length-bits}
-use Rattle.etcs_bits.proofs.Owned.{length-owned, grown, length-written, Packed, Packed-pushed, packed_fields}
+use Rattle.etcs_bits.proofs.Owned.{length-owned, grown, pushed}
 use Rattle.std.specs.Vec.{with_items}
 use Rattle.etcs_bits.proofs.bits.Bits.push_number.Goals as goal
 
@@ -21,28 +21,12 @@ write-requires-clause-inside c =
 pub invariant_of-self-2 : goal.invariant_of-self-2
 invariant_of-self-2 c =
     let v = c.self.inside.bytes in
-    let len = c.self.inside.len in
-    let slice = c.as_mut_slice.result.now in
     let new = c.write.new.bytes in
-    let x = num c.args.width c.args.value in
-    let size : length x ≡ c.args.width = length-num c.args.width c.args.value in
-    let e = c.as_mut_slice.ensures.value ∙ c.in_ok-resize.ensures.items in
-    let old : Packed v.items len = record { inside = c.self.invariant.0; short = c.self.invariant.1; clear = c.self.invariant.2 } in
-    let now = Packed-pushed v.items slice new v.len len c.div_ceil.result x old (omega (arith, v.ok.0)) (omega (arith, c.self.invariant, v.ok.0)) (omega (arith, size)) (omega (arith, size)) e c.write.ensures in
-    let kept : (with_items c.resize.new.self new).items ≡ new = with_items_is c.resize.new.self new (omega (arith, length-written slice new len x (omega (arith, now.0.inside, c.as_mut_slice.ensures.len, c.in_ok-resize.ensures.len, size)) c.write.ensures, c.as_mut_slice.ensures.len)) in
-    let at : len + length x ≡ len + c.args.width = ap (λ k. len + k) size in
-    packed_fields _ new (len + length x) (len + c.args.width) kept at now.0
+    (pushed v.items c.as_mut_slice.result.now new _ v.len c.self.inside.len c.div_ceil.result c.args.width (num c.args.width c.args.value) (omega (arith, v.ok.0)) c.self.invariant (omega arith) (omega arith) (length-num c.args.width c.args.value) (c.as_mut_slice.ensures.value ∙ c.in_ok-resize.ensures.items) c.write.ensures (λ e. with_items_is c.resize.new.self new (e ∙ c.as_mut_slice.ensures.len))).0
 
 pub returns-clause-ok : goal.returns-clause-ok
 returns-clause-ok c =
     let v = c.self.inside.bytes in
-    let len = c.self.inside.len in
-    let slice = c.as_mut_slice.result.now in
     let new = c.write.new.bytes in
-    let x = num c.args.width c.args.value in
-    let size : length x ≡ c.args.width = length-num c.args.width c.args.value in
-    let e = c.as_mut_slice.ensures.value ∙ c.in_ok-resize.ensures.items in
-    let old : Packed v.items len = record { inside = c.self.invariant.0; short = c.self.invariant.1; clear = c.self.invariant.2 } in
-    let now = Packed-pushed v.items slice new v.len len c.div_ceil.result x old (omega (arith, v.ok.0)) (omega (arith, c.self.invariant, v.ok.0)) (omega (arith, size)) (omega (arith, size)) e c.write.ensures in
-    let kept : (with_items c.resize.new.self new).items ≡ new = with_items_is c.resize.new.self new (omega (arith, length-written slice new len x (omega (arith, now.0.inside, c.as_mut_slice.ensures.len, c.in_ok-resize.ensures.len, size)) c.write.ensures, c.as_mut_slice.ensures.len)) in
-    ap (λ l. take (len + c.args.width) (bits l)) kept ∙ ap (λ k. take (len + k) (bits new)) (sym size) ∙ now.1 ∙ ap (λ l. l ++ x) c.self.view_is
+    (pushed v.items c.as_mut_slice.result.now new _ v.len c.self.inside.len c.div_ceil.result c.args.width (num c.args.width c.args.value) (omega (arith, v.ok.0)) c.self.invariant (omega arith) (omega arith) (length-num c.args.width c.args.value) (c.as_mut_slice.ensures.value ∙ c.in_ok-resize.ensures.items) c.write.ensures (λ e. with_items_is c.resize.new.self new (e ∙ c.as_mut_slice.ensures.len))).1
+    ∙ ap (λ l. l ++ (num c.args.width c.args.value)) c.self.view_is

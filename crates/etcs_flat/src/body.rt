@@ -1,18 +1,10 @@
-//! The packets without groups, each with its number as the body of a typed packet.
+//! The numbers of packets without groups.
 
-ghost use Rattle.std.specs.Prelude.{◌≡◌, None, IsSome};
+ghost use Rattle.std.specs.Prelude.{IsSome};
 ghost use Rattle.std.proofs.Common.{refl};
-ghost use Rattle.etcs_tables.specs.declared.row.Way.TheVariants.{ToTrain};
-ghost use Rattle.etcs_flat.specs.Flats.{flat_row, flat_fault, flat_reading};
-ghost use Rattle.etcs_flat.specs.FlatCodes.{flat_from};
-ghost use Rattle.etcs_flat.specs.laws.FlatCodes.{flat_codes};
+ghost use Rattle.etcs_flat.specs.Flats.{flat_row};
 
 use crate::flat::Flat;
-use crate::table::{send_table, table_bits};
-use etcs_bodies::{Body, Numbers};
-use etcs_tables::Way;
-use etcs_vars::parts::{VarSink, Variables};
-use std::alloc::{AllocError, Global};
 
 /// A number whose packets have a row without groups.
 pub trait FlatNumber<const N: u8> {
@@ -81,49 +73,4 @@ impl FlatNumber<145> for Flat<145> {
 
 impl FlatNumber<254> for Flat<254> {
     ghost flat = { refl };
-}
-
-impl<const NID: u8> Variables for Flat<NID> {
-    ghost reading_of = { λ p. flat_reading NID p.numbers };
-
-    fn bits(&self) -> usize {
-        table_bits(self.table())
-    }
-
-    fn send<S: VarSink>(&self, out: &mut S) -> Result<(), AllocError> {
-        send_table(self.table(), self.numbers(), out)
-    }
-}
-
-impl<const N: u8> Body for Flat<N>
-where
-    Flat<N>: FlatNumber<N>,
-{
-    const NID: u8 = N;
-
-    const WAY: Way = Way::ToTrain;
-
-    ghost NID = { N };
-
-    ghost WAY = { ToTrain };
-
-    ghost direction = { λ p. p.dir };
-
-    ghost is_value = { λ p. flat_fault N p.dir p.numbers ≡ None };
-
-    ghost read_from = { flat_from N };
-
-    ghost codes = { flat_codes N bound-1.flat };
-
-    fn q_dir(&self) -> u8 {
-        self.direction()
-    }
-
-    fn take(_alloc: Global, dir: u8, numbers: &mut Numbers) -> Result<Option<Self>, AllocError> {
-        Ok(Flat::taken(dir, numbers))
-    }
-
-    fn copy(&self, _alloc: Global) -> Result<Self, AllocError> {
-        Ok(self.copied())
-    }
 }

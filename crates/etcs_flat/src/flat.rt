@@ -7,15 +7,20 @@ ghost use Rattle.etcs_vars.specs.declared.var.Var.{Var};
 ghost use Rattle.etcs_vars.specs.declared.var.Var.TheVariants.{Q_DIR};
 ghost use Rattle.etcs_vars.specs.Vars.{admits};
 ghost use Rattle.etcs_tables.specs.declared.item.RowItem.TheVariants.{One};
-ghost use Rattle.etcs_flat.specs.Flats.{flat_value, flat_row, flat_row_to, flat_fault, flat_fault_to, numbers_fault, is_one};
+ghost use Rattle.etcs_tables.specs.declared.row.Way.TheVariants.{ToTrain};
+ghost use Rattle.etcs_flat.specs.Flats.{flat_value, flat_row, flat_row_to, flat_fault, flat_fault_to, flat_reading, numbers_fault, is_one};
 ghost use Rattle.etcs_flat.specs.FlatCodes.{flat_from};
+ghost use Rattle.etcs_flat.specs.laws.FlatCodes.{flat_codes};
 
+use crate::body::FlatNumber;
 use crate::other::check_direction;
-use crate::table::{table_of, take_table};
+use crate::table::{few, send_table, table_bits, table_of, take_table};
 use arrayvec::ArrayVec;
-use etcs_bodies::Numbers;
+use etcs_bodies::{Body, Numbers};
 use etcs_tables::{RowItem, Way, row_of};
+use etcs_vars::parts::{VarSink, Variables};
 use etcs_vars::{BuildFault, Var, check};
+use std::alloc::{AllocError, Global};
 use std::marker::Model;
 
 /// A packet to the train whose row has no groups (SUBSET-026, 7.4.2). Two of them are equal where they have the
@@ -42,29 +47,7 @@ use std::marker::Model;
 /// | 145 | the reaction to inconsistent balise groups is inhibited | none |
 /// | 254 | default information of a balise | none |
 ///
-/// | variable | meaning |
-/// |---|---|
-/// | M_VERSION | the version: three bits X, four bits Y |
-/// | Q_SCALE | the unit of L_SECTION, D_TSR, L_TSR and D_RBCTR: 0 is 10 cm, 1 is 1 m, 2 is 10 m |
-/// | L_SECTION | the length of the section, by Q_SCALE |
-/// | Q_RBC | 0 ends the session, 1 opens it |
-/// | NID_C, NID_RBC | the radio block centre: its country or region, its number there |
-/// | NID_RADIO | the radio number to call, sixteen digits of four bits |
-/// | Q_SLEEPSESSION | whether sleeping equipment manages the session too: 1 for yes |
-/// | NID_MN | the radio network, six digits of four bits |
-/// | T_MAR | how long before the train would brake it asks for an authority, in seconds |
-/// | T_TIMEOUTRQST | how long before a speed's time runs out it asks, in seconds |
-/// | T_CYCRQST | the time between two requests, in seconds |
-/// | NID_TSR | the restriction's number |
-/// | D_TSR, L_TSR | the distance to the restriction and its length, by Q_SCALE |
-/// | Q_FRONT | whether the speed may rise with the train's front (1) or only with its end (0) |
-/// | V_TSR | the speed in the restriction, in steps of 5 km/h, at most 120 steps |
-/// | D_RBCTR | the distance to the place where the other radio block centre takes over, by Q_SCALE |
-/// | Q_ASPECT | whether the train stops (0) or continues (1) in shunting mode |
-/// | Q_SRSTOP | whether the train stops (0) or continues (1) in staff responsible mode |
-/// | NID_OPERATIONAL | the running number, eight digits of four bits |
-/// | Q_GDIR | whether the track falls (0) or climbs (1) |
-/// | G_TSR | the gradient, in thousandths |
+/// [`Var`] says what each variable means, and in which unit.
 #[derive(Clone, Debug, Drop, PartialEq, Eq)]
 pub struct Flat<const NID: u8> {
     dir: u8,
@@ -104,10 +87,10 @@ impl<const NID: u8> Flat<NID> {
         ensures fault { IfErr result (λ e. flat_fault NID dir numbers.now ≡ Some e) }
     {
         check_flat(Way::ToTrain, NID, dir, numbers)?;
-        let Ok(numbers) = ArrayVec::try_from(numbers) else {
-            unreachable!()
-        };
-        Ok(Flat { dir, numbers })
+        Ok(Flat {
+            dir,
+            numbers: few(numbers),
+        })
     }
 
     /// Its numbers, in the order of the table of [`Flat`].
@@ -118,7 +101,7 @@ impl<const NID: u8> Flat<NID> {
     }
 
     /// Takes the packet of a direction that the numbers begin with, if they begin with one. Takes no memory.
-    pub(crate) fn taken(dir: u8, numbers: &mut Numbers) -> Option<Self>
+    fn taken(dir: u8, numbers: &mut Numbers) -> Option<Self>
         requires flat { IsSome (flat_row NID) }
         requires dir { IsTrue (admits Q_DIR dir) }
         ensures some { IfSome result (λ p. flat_from NID dir numbers.old ≡ Some (p, numbers.new)) }
@@ -131,22 +114,9 @@ impl<const NID: u8> Flat<NID> {
         })
     }
 
-    /// An equal packet.
-    pub(crate) fn copied(&self) -> Self
-        ensures { result ≡ self.now }
-    {
-        let Ok(numbers) = ArrayVec::try_from(self.numbers.as_slice()) else {
-            unreachable!()
-        };
-        Flat {
-            dir: self.dir,
-            numbers,
-        }
-    }
-
     /// The table of its row.
     #[tactic(auto, using(crate::specs::laws::TableLaws::row_there))]
-    pub(crate) fn table(&self) -> &'static [RowItem]
+    fn table(&self) -> &'static [RowItem]
         ensures table { Some result.now ≡ option_map (λ vs. map One vs) (flat_row NID) }
         ensures short { length result.now ≤ 6 }
         ensures value { flat_fault NID self.now.dir self.now.numbers ≡ None }
@@ -154,13 +124,53 @@ impl<const NID: u8> Flat<NID> {
         let _ = &self.numbers;
         table_of(Way::ToTrain, NID)
     }
+}
 
-    /// Its Q_DIR.
-    pub(crate) fn direction(&self) -> u8
-        ensures dir { result ≡ self.now.dir }
-        ensures value { flat_fault NID self.now.dir self.now.numbers ≡ None }
-    {
+impl<const NID: u8> Variables for Flat<NID> {
+    ghost reading_of = { λ p. flat_reading NID p.numbers };
+
+    fn bits(&self) -> usize {
+        table_bits(self.table())
+    }
+
+    fn send<S: VarSink>(&self, out: &mut S) -> Result<(), AllocError> {
+        send_table(self.table(), self.numbers(), out)
+    }
+}
+
+impl<const N: u8> Body for Flat<N>
+where
+    Flat<N>: FlatNumber<N>,
+{
+    const NID: u8 = N;
+
+    const WAY: Way = Way::ToTrain;
+
+    ghost NID = { N };
+
+    ghost WAY = { ToTrain };
+
+    ghost direction = { λ p. p.dir };
+
+    ghost is_value = { λ p. flat_fault N p.dir p.numbers ≡ None };
+
+    ghost read_from = { flat_from N };
+
+    ghost codes = { flat_codes N bound-1.flat };
+
+    fn q_dir(&self) -> u8 {
         self.dir
+    }
+
+    fn take(_alloc: Global, dir: u8, numbers: &mut Numbers) -> Result<Option<Self>, AllocError> {
+        Ok(Flat::taken(dir, numbers))
+    }
+
+    fn copy(&self, _alloc: Global) -> Result<Self, AllocError> {
+        Ok(Flat {
+            dir: self.dir,
+            numbers: few(self.numbers.as_slice()),
+        })
     }
 }
 

@@ -7,7 +7,7 @@ ghost use Rattle.etcs_vars.specs.Faults.{number_fault};
 pub use crate::flat::check_flat;
 use crate::marker::Marker;
 pub use crate::other::check_other;
-pub use crate::table::{send_table, table_bits, table_of, take_table};
+pub use crate::table::{few, send_table, table_bits, table_of, take_table};
 use etcs_vars::BuildFault;
 
 /// The marker of an NID_VBCMK.

@@ -79,3 +79,14 @@ pub fn take_table(table: &[RowItem], numbers: &mut Numbers<'_>) -> Option<ArrayV
     }
     Some(taken)
 }
+
+/// The same numbers, at most six.
+pub fn few(numbers: &[u64]) -> ArrayVec<u64, 6>
+    requires { length numbers.now ≤ 6 }
+    ensures { result.items ≡ numbers.now }
+{
+    match ArrayVec::try_from(numbers) {
+        Ok(few) => few,
+        Err(_) => unreachable!(),
+    }
+}

@@ -240,6 +240,7 @@ impl Var {
 
     /// What the number stands for where it is no measure, as `unlimited` for 1023 of T_LOA. Every
     /// other number has no such text.
+    #[inline(always)]
     pub fn special(self, number: u64) -> Option<&'static str>
         ensures { option_map (λ text. text.now) result ≡ special self number }
     {

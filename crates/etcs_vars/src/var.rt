@@ -106,7 +106,7 @@ pub enum Var {
     // Profiles of gradient and speed.
     /// The distance to the next change of gradient.
     D_GRADIENT,
-    /// Whether the track climbs or falls.
+    /// Whether the track climbs (1) or falls (0).
     Q_GDIR,
     /// The gradient without its sign, in per mille.
     G_A,
@@ -116,7 +116,7 @@ pub enum Var {
     D_STATIC,
     /// The static speed, in steps of 5 km/h.
     V_STATIC,
-    /// Whether the speed may rise with the train's front or only with its end.
+    /// Whether the speed may rise with the train's front (1) or only with its end (0).
     Q_FRONT,
     /// Which of NC_CDDIFF and NC_DIFF follows.
     Q_DIFF,
@@ -138,15 +138,15 @@ pub enum Var {
     L_ACKLEVELTR,
 
     // The radio network.
-    /// Whether to open or to end the session.
+    /// Whether to open (1) or to end (0) the session.
     Q_RBC,
     /// The radio block centre.
     NID_RBC,
     /// The radio number to call, as sixteen digits of four bits.
     NID_RADIO,
-    /// Whether sleeping equipment manages the session too.
+    /// Whether sleeping equipment manages the session too: 1 for yes.
     Q_SLEEPSESSION,
-    /// The radio network.
+    /// The radio network, as six digits of four bits.
     NID_MN,
 
     // Temporary speed restrictions.
@@ -190,13 +190,13 @@ pub enum Var {
     Q_TEXT,
 
     // Other packets.
-    /// Whether the train stops in shunting mode.
+    /// Whether the train stops (0) or continues (1) in shunting mode.
     Q_ASPECT,
-    /// Whether the train stops in staff responsible mode.
+    /// Whether the train stops (0) or continues (1) in staff responsible mode.
     Q_SRSTOP,
-    /// The train's running number.
+    /// The train's running number, as eight digits of four bits.
     NID_OPERATIONAL,
-    /// The version of the system in packet 2 and in message 32.
+    /// The version of the system in packet 2 and in message 32: three bits X, four bits Y.
     M_VERSION,
 
     // Radio messages.

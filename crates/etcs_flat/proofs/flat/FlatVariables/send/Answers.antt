@@ -1,6 +1,6 @@
 use Rattle.etcs_tables.specs.declared.row.Way.TheVariants.{ToTrain}
 use Rattle.etcs_flat.specs.laws.TableLaws.{table_reading}
-use Rattle.etcs_flat.proofs.body.FlatVariables.send.Goals as goal
+use Rattle.etcs_flat.proofs.flat.FlatVariables.send.Goals as goal
 
 pub returns-clause-ok : goal.returns-clause-ok
 returns-clause-ok g c =

@@ -1,7 +1,7 @@
 use Rattle.std.proofs.Common.{◌∙◌}
 use Rattle.etcs_tables.specs.declared.row.Way.TheVariants.{ToTrain}
 use Rattle.etcs_flat.specs.laws.TableLaws.{table_width}
-use Rattle.etcs_flat.proofs.body.FlatVariables.bits.Goals as goal
+use Rattle.etcs_flat.proofs.flat.FlatVariables.bits.Goals as goal
 
 pub returns-clause-bits : goal.returns-clause-bits
 returns-clause-bits g c =

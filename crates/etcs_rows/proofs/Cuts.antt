@@ -1,5 +1,5 @@
 -- A group in front, cut off as the code does.
-use Rattle.std.proofs.Common.{◌≡◌, ℕ, List, ◌∷◌, length, take, drop, ap, ◌∙◌}
+use Rattle.std.proofs.Common.{◌≡◌, ℕ, List, [], ◌∷◌, length, take, drop, refl, ap, ◌∙◌, arith}
 use Rattle.std.specs.Prelude.{min}
 use Rattle.std.proofs.Math.Nat.{min_comm}
 use Rattle.std.proofs.lemmas.List.{take_min, drop_min}
@@ -8,6 +8,10 @@ use Rattle.etcs_tables.specs.declared.item.RowItem.{RowItem}
 use Rattle.etcs_tables.specs.declared.item.RowItem.TheVariants.{When, Many}
 use Rattle.etcs_tables.specs.Layouts.{guarded, counted, layout}
 use Rattle.etcs_tables.specs.laws.Flat.{layout-when, layout-many}
+
+pub no_item : (xs : List RowItem) → length xs ≡ 0 → xs ≡ []
+no_item [] e = refl
+no_item (x ∷ xs) e = absurd (omega (arith, e))
 
 take_clamped : {A : Type 0} (n : ℕ) (xs : List A) → take (min (length xs) n) xs ≡ take n xs
 take_clamped n xs = ap (λ k. take k xs) (min_comm (length xs) n) ∙ take_min n xs

@@ -18,6 +18,8 @@ use Rattle.etcs_rows.specs.Progressions.{InProgression, IsProgression, AtMost}
 use Rattle.etcs_rows.specs.Totals.{InTotal, AreTotal}
 use Rattle.etcs_rows.specs.Sums.{Plus, SumOf}
 use Rattle.etcs_rows.specs.Waiting.{Agains, Tails, Onward}
+use Rattle.etcs_rows.specs.declared.head.Looked.{Looked}
+use Rattle.etcs_rows.specs.Heads.{AfterLooked}
 use Rattle.etcs_rows.proofs.CursorLemmas.{reverse-push}
 use Rattle.etcs_rows.proofs.PlaceLemmas.{Open-onto, Open-waiting}
 use Rattle.etcs_rows.proofs.LengthLemmas.{SameSet, set_along, set_back, set_self, Plus-same, lengths-onto, lengths-append, lengths-iterate}
@@ -95,11 +97,11 @@ moved A S W R T L hs same =
     (Plus-same S (Plus W (Plus R T)) S (Plus L T) (set_self S)
     (set_along (Plus W (Plus R T)) (Plus (Plus W R) T) (Plus L T) (set_back (Plus (Plus W R) T) (Plus W (Plus R T)) (Plus-assoc W R T)) (Plus-same (Plus W R) T L T same (set_self T)))))
 
--- the variables in front that no group looks at
-pub led : (S A : ℕ → Type 0) (wide : Progression) (items behind : List RowItem) (ps : List Pending) (width : ℕ) → IsProgression wide (λ k. k ≡ width) → SameSet A (Plus S (InProgression wide)) → SameSet (LengthsBy (layout items) 0) (Plus (λ k. k ≡ width) (LengthsBy (layout behind) 0))
-    → SameSet (Plus A (Onward behind ps)) (Plus S (Onward items ps))
-led S A wide items behind ps width hw hs same =
-    let W : ℕ → Type 0 = λ k. k ≡ width in let R = LengthsBy (layout behind) 0 in let L = LengthsBy (layout items) 0 in
+-- the variables in front
+pub led : (S A : ℕ → Type 0) (wide : Progression) (items : List RowItem) (looked : Option Looked) (ps : List Pending) (width : ℕ) → IsProgression wide (λ k. k ≡ width) → SameSet A (Plus S (InProgression wide)) → SameSet (LengthsBy (layout items) 0) (Plus (λ k. k ≡ width) (AfterLooked looked))
+    → SameSet (Plus A (Plus (AfterLooked looked) (Tails (reverse ps)))) (Plus S (Onward items ps))
+led S A wide items looked ps width hw hs same =
+    let W : ℕ → Type 0 = λ k. k ≡ width in let R = AfterLooked looked in let L = LengthsBy (layout items) 0 in
     let has : SameSet A (Plus S W) = set_along A (Plus S (InProgression wide)) (Plus S W) hs (Plus-same S (InProgression wide) S W (set_self S) hw) in
     moved A S W R (Tails (reverse ps)) L has (set_back L (Plus W R) same)
 

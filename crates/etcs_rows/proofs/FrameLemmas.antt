@@ -124,14 +124,6 @@ any_length carrier nid room = (
   λ (l, fits). (l, (let short = fits.1 in (all_lengths l).1 (omega arith, omega (arith, short))), fits),
 )
 
--- a packet that is kept fits where some length leaves what may be left; and nothing fits elsewhere
-pub framed_windows : (carrier : Carrier) (nid room : ℕ) (w : Windows) → AreBodies carrier room 0 8191 w
-    → ((l : ℕ) × LengthFits carrier nid room l) ↔ ((m : ℕ) × InWindows w m × BodyLength (way_of carrier) nid m)
-framed_windows carrier nid room w window =
-    let all = any_length carrier nid room in
-    let by = fits_windows carrier nid room (2 ^ 13) 0 0 8191 w (omega arith) all_lengths window in
-    (λ x. by.0 (all.1 x), λ x. all.0 (by.1 x))
-
 -- ---- Numbers.
 
 -- where no packet without a frame fits, those with one decide

@@ -135,7 +135,3 @@ lengths-iterate k n group x h =
     (Plus-same (LengthOf (Times k G)) (LengthOf (ReadsBy x 0)) (SumOf k (LengthsBy group n)) (LengthsBy x 0)
     (set_along (LengthOf (Times k G)) (SumOf k (LengthOf G)) (SumOf k (LengthsBy group n)) (of_times k G) (SumOf-same k (LengthOf G) (LengthsBy group n) (set_back (LengthsBy group n) (LengthOf G) (lengths_by group n))))
     (set_back (LengthsBy x 0) (LengthOf (ReadsBy x 0)) (lengths_by x 0)))))
-
-pub lengths_whole : (n m : ℕ) → LengthsBy whole n m ↔ (m ≡ 0)
-unfolding LengthsBy
-lengths_whole n m = (λ x. x, λ x. x)

@@ -96,12 +96,17 @@ counted_times row group rest A e open_group none same n =
 
 -- ---- Groups of variables that no group looks at.
 
-pub led_alone : (row behind : Layout) (w n : ℕ) → begins_with_group row ≡ false → behind ≡ whole → SameSet (LengthsBy row 0) (Plus (λ k. k ≡ w) (LengthsBy behind 0)) → SameSet (λ k. k ≡ w) (LengthsBy row n)
-led_alone row behind w n begun none sum =
+-- a row whose variables all are in front
+pub led_whole : (row left : Layout) (w : ℕ) → left ≡ whole → SameSet (LengthsBy row 0) (Plus (λ k. k ≡ w) (LengthsBy left 0)) → SameSet (LengthsBy row 0) (Plus (λ k. k ≡ w) (λ m. m ≡ 0))
+led_whole row left w none sum =
+    let W : ℕ → Type 0 = λ k. k ≡ w in let Z : ℕ → Type 0 = λ k. k ≡ 0 in
+    set_along (LengthsBy row 0) (Plus W (LengthsBy left 0)) (Plus W Z) sum (Plus-same W (LengthsBy left 0) W Z (set_self W) (set_back Z (LengthsBy left 0) (whole_sum left 0 none)))
+
+pub led_alone : (row : Layout) (w n : ℕ) → begins_with_group row ≡ false → SameSet (LengthsBy row 0) (Plus (λ k. k ≡ w) (λ m. m ≡ 0)) → SameSet (λ k. k ≡ w) (LengthsBy row n)
+led_alone row w n begun sum =
     let W : ℕ → Type 0 = λ k. k ≡ w in let Z : ℕ → Type 0 = λ k. k ≡ 0 in
     set_along W (Plus W Z) (LengthsBy row n) (Plus-zero W)
-    (set_along (Plus W Z) (Plus W (LengthsBy behind 0)) (LengthsBy row n) (Plus-same W Z W (LengthsBy behind 0) (set_self W) (whole_sum behind 0 none))
-    (set_along (Plus W (LengthsBy behind 0)) (LengthsBy row 0) (LengthsBy row n) (set_back (LengthsBy row 0) (Plus W (LengthsBy behind 0)) sum) (lengths-free row 0 n (is_open_false row begun))))
+    (set_along (Plus W Z) (LengthsBy row 0) (LengthsBy row n) (set_back (LengthsBy row 0) (Plus W Z) sum) (lengths-free row 0 n (is_open_false row begun)))
 
 -- one of them in front, which takes v bits
 guarded_front : (p : Bool) (left : Layout) (g : Guard) (group rest : Layout) (n v : ℕ) → passes g.test n ≡ p → left ≡ guarded g group rest → (passes g.test n ≡ true → SameSet (λ k. k ≡ v) (LengthsBy group n)) → (passes g.test n ≡ false → v ≡ 0)

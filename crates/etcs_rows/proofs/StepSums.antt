@@ -20,10 +20,6 @@ pub some_are : (r : Option Progression) (A B : ℕ → Type 0) → SameSet A B �
 some_are None A B same h = tt
 some_are (Some s) A B same h = set_along (InProgression s) A B h same
 
-pub some_all : (r : Option Progression) (P Q : Progression → Type 0) → ((s : Progression) → P s → Q s) → IfSome r P → IfSome r Q
-some_all None P Q f h = tt
-some_all (Some s) P Q f h = f s h
-
 -- the sums of two sets
 pub plus_are : (r : Option Progression) (a b : Progression) (A B T : ℕ → Type 0) → IsProgression a A → IsProgression b B → SameSet (Plus A B) T → IfSome r (λ s. IsProgression s (Plus (InProgression a) (InProgression b))) → IfSome r (λ s. IsProgression s T)
 plus_are r a b A B T ha hb same h = some_are r (Plus (InProgression a) (InProgression b)) T (set_along (Plus (InProgression a) (InProgression b)) (Plus A B) T (Plus-same (InProgression a) (InProgression b) A B ha hb) same) h

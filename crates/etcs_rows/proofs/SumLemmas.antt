@@ -12,6 +12,10 @@ use Rattle.etcs_tables.specs.declared.item.Guard.{Guard}
 use Rattle.etcs_tables.specs.declared.item.RowItem.{RowItem}
 use Rattle.etcs_tables.specs.declared.item.RowItem.TheVariants.{One}
 use Rattle.etcs_tables.specs.Layouts.{Layout, whole, one, guarded, counted, passes, layout, begins}
+use denote.Bor.{Bor}
+use Rattle.etcs_rows.specs.declared.head.Head.{Head}
+use Rattle.etcs_rows.specs.declared.head.Head.TheVariants as head
+use Rattle.etcs_rows.specs.Heads.{IsHead}
 use Rattle.etcs_rows.specs.Places.{append, onto, first_variable}
 use Rattle.etcs_rows.specs.Cursors.{waiting, left_of, IsSettled}
 use Rattle.etcs_rows.specs.declared.place.Pending.{Pending}
@@ -61,6 +65,12 @@ behind-open whole = tt
 behind-open (one v rest) = tt
 behind-open (guarded g group rest) = behind-open rest
 behind-open (counted group rest) = behind-open rest
+
+pub behind_begins : (row : Layout) → begins_with_group (behind row) ≡ false
+behind_begins whole = refl
+behind_begins (one v rest) = refl
+behind_begins (guarded g group rest) = behind_begins rest
+behind_begins (counted group rest) = behind_begins rest
 
 pub lengths-parts : (row : Layout) (n : ℕ) → SameSet (LengthsBy row n) (Plus (LengthsBy (front row) n) (LengthsBy (behind row) 0))
 lengths-parts row n m =
@@ -222,6 +232,13 @@ most_admits v n a =
 pub no_items : (xs : List RowItem) → length xs ≡ 0 → layout xs ≡ whole
 no_items [] e = refl
 no_items (x ∷ xs) e = absurd (omega (arith, e))
+
+-- a row that begins with neither a group nor a variable
+pub open_end : (h : Head) (items : List RowItem) → IsHead h items → ((v : Var) → (r : Bor (List RowItem)) → h ≡ head.One v r → ⊥) → begins_with_group (layout items) ≡ false → layout items ≡ whole
+open_end head.End items is off none = ap (λ (x : List RowItem). layout x) is
+open_end (head.One v r) items is off none = absurd (off v r refl)
+open_end (head.When g a b) items (is, x, y) off none = absurd (let t = rw is at none in cc)
+open_end (head.Many a b) items (is, x, y) off none = absurd (let t = rw is at none in cc)
 
 -- a row with no group in front
 pub set_no_front : (s : LengthSet) (row : Layout) (n : ℕ) → ((m : ℕ) → In s m ↔ (m ≡ 0)) → front row ≡ whole → IsSet s (LengthsBy (front row) n)

@@ -1,5 +1,6 @@
 pub mod Cursors
 pub mod Frames
+pub mod Heads
 pub mod Lengths
 pub mod Messages
 pub mod Places

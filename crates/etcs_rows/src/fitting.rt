@@ -12,7 +12,7 @@ ghost use Rattle.etcs_rows.specs.Totals.{InTotal};
 ghost use Rattle.etcs_rows.specs.Cursors.{waiting, left_of, Nests, WaitsNest, KnowsSteps};
 ghost use Rattle.etcs_rows.specs.Waiting.{Agains, Tails, Onward};
 
-use crate::measure::behind_groups;
+use crate::head::{Looked, behind_groups};
 use crate::place::{Cursor, Pending};
 use crate::progression::{
     Progression, counted_within, groups_steps, leading, steps_each, steps_of, times_steps,
@@ -108,27 +108,14 @@ pub(crate) fn fits_at(cursor: &Cursor, number: u64, bits: usize) -> Option<bool>
 fn onward(sum: Total, items: &'static [RowItem], waiting: &[Pending], bits: usize) -> Option<bool>
     ensures { IfSome result (λ b. IsTrue b ↔ Plus (InTotal sum) (Onward items.now waiting.now) bits) }
 {
-    let (width, behind) = leading(items)?;
+    let (width, looked) = leading(items)?;
     let sum = sum.plus(Progression::single(width))?;
     if sum.steps.first > bits {
         return Some(false);
     }
-    turn(sum, behind, waiting, bits)
-}
-
-/// The same, where groups may look at the variable in front.
-#[cycle(fitting)]
-fn turn(sum: Total, items: &'static [RowItem], waiting: &[Pending], bits: usize) -> Option<bool>
-    ensures { IfSome result (λ b. IsTrue b ↔ Plus (InTotal sum) (Onward items.now waiting.now) bits) }
-{
-    match items.split_first() {
+    match looked {
         None => leave(sum, waiting, bits),
-        Some((RowItem::One(var), rest)) => {
-            let sum = sum.plus(Progression::single(var.width()))?;
-            choose(sum, *var, rest, 0, u64::MAX, waiting, bits)
-        }
-        Some((RowItem::When(_, _), _)) => None,
-        Some((RowItem::Many(_), _)) => None,
+        Some(Looked { var, rest }) => choose(sum, var, rest, 0, u64::MAX, waiting, bits),
     }
 }
 

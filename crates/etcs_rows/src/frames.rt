@@ -1,7 +1,6 @@
 //! Which numbers and which lengths of packets still fit.
 
 ghost use Rattle.std.specs.Prelude.{◌≡◌, ◌↔◌, ℕ, ◌-◌, ◌/◌, ◌^◌, ◌<◌, ◌≤◌, [], IsTrue};
-ghost use Rattle.etcs_tables.specs.Frames.{frame_bits, is_kept};
 ghost use Rattle.etcs_rows.specs.Frames.{way_of, LengthFits, UnframedFits, NumberFits, IsBlock, Within, InWindows, AreBodies};
 ghost use Rattle.etcs_tables.specs.Layouts.{layout, Lengths};
 
@@ -190,18 +189,6 @@ fn unframed_fits(carrier: Carrier, room: usize, low: u8, high: u8) -> bool
     }
 }
 
-/// Whether one of the numbers from low to high is kept as bits.
-fn any_kept(way: Way, low: u8, high: u8) -> bool
-    ensures { IsTrue result ↔ ((n : ℕ) × (low ≤ n) × (n ≤ high) × IsTrue (is_kept way n)) }
-{
-    for nid in low..=high {
-        if is_kept(way, nid) {
-            return true;
-        }
-    }
-    false
-}
-
 /// Whether a packet of this number fits with its frame.
 fn framed_fits(carrier: Carrier, nid: u8, room: usize) -> bool
     ensures { IsTrue result ↔ ((l : ℕ) × LengthFits carrier nid room l) }
@@ -233,9 +220,5 @@ pub fn number_fits(carrier: Carrier, room: usize, rest: usize, bits: u64) -> boo
     if unframed_fits(carrier, room, low, high) {
         return true;
     }
-    // Where no length leaves what may be left, no row need be asked.
-    if !Windows::new(carrier, room, 0, MOST_LENGTH).any() {
-        return false;
-    }
-    any_kept(carrier.way(), low, high) || any_framed(carrier, room, low, high)
+    any_framed(carrier, room, low, high)
 }

@@ -5,6 +5,7 @@ ghost use Rattle.etcs_vars.specs.Vars.{admits};
 ghost use Rattle.etcs_tables.specs.Layouts.{layout};
 ghost use Rattle.etcs_rows.specs.Lengths.{LengthsBy};
 
+use crate::head::{Head, first_item};
 use etcs_tables::RowItem;
 use etcs_vars::Var;
 
@@ -21,14 +22,13 @@ fn least_of(var: Var) -> Option<u64>
 pub(crate) fn some_length(items: &'static [RowItem], before: u64) -> Option<usize>
     ensures { IfSome result (λ m. LengthsBy (layout items.now) before m) }
 {
-    match items.split_first() {
-        None => Some(0),
-        Some((RowItem::One(var), rest)) => {
-            let behind = some_length(rest, least_of(*var)?)?;
+    match first_item(items) {
+        Head::End => Some(0),
+        Head::One(var, rest) => {
+            let behind = some_length(rest, least_of(var)?)?;
             behind.checked_add(var.width())
         }
-        Some((RowItem::When(guard, count), rest)) => {
-            let (group, rest) = rest.split_at(rest.len().min(*count));
+        Head::When(guard, group, rest) => {
             let behind = some_length(rest, before)?;
             if guard.test.passes(before) {
                 behind.checked_add(some_length(group, before)?)
@@ -36,8 +36,7 @@ pub(crate) fn some_length(items: &'static [RowItem], before: u64) -> Option<usiz
                 Some(behind)
             }
         }
-        Some((RowItem::Many(count), rest)) => {
-            let (_, rest) = rest.split_at(rest.len().min(*count));
+        Head::Many(_, rest) => {
             if before > 0 {
                 return None;
             }

@@ -3,6 +3,7 @@
 
 mod fitting;
 mod frames;
+mod head;
 pub mod laws;
 mod least;
 mod length_set;

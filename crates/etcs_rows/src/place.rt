@@ -7,8 +7,9 @@ ghost use Rattle.etcs_rows.specs.Sets.{In};
 ghost use Rattle.etcs_rows.specs.Places.{first_variable, after_any, after_number};
 
 use crate::fitting::{fits_at, fits_by_steps, meets_by_steps, tail_steps};
+use crate::head::{Head, first_item, has_group};
 use crate::length_set::LengthSet;
-use crate::measure::{first_lengths, has_group, lengths_of};
+use crate::measure::{first_lengths, lengths_of};
 use crate::progression::{Progression, steps_again};
 use arrayvec::ArrayVec;
 use etcs_tables::{Guard, Row, RowItem};
@@ -169,17 +170,11 @@ impl Cursor {
     {
         let mut settled = false;
         while !settled {
-            settled = match self.items.split_first() {
-                None => self.leave(),
-                Some((RowItem::One(_), _)) => true,
-                Some((RowItem::When(guard, count), rest)) => {
-                    let (group, rest) = rest.split_at(rest.len().min(*count));
-                    self.enter_guarded(*guard, group, rest)
-                }
-                Some((RowItem::Many(count), rest)) => {
-                    let (group, rest) = rest.split_at(rest.len().min(*count));
-                    self.enter_counted(group, rest)
-                }
+            settled = match first_item(self.items) {
+                Head::End => self.leave(),
+                Head::One(_, _) => true,
+                Head::When(guard, group, rest) => self.enter_guarded(guard, group, rest),
+                Head::Many(group, rest) => self.enter_counted(group, rest),
             };
         }
     }

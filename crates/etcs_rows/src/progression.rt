@@ -1,8 +1,8 @@
 //! Numbers in equal steps.
 
-ghost use Rattle.std.specs.Prelude.{◌≡◌, ◌↔◌, ℕ, ◌+◌, ◌*◌, ◌≤◌, true, false, IsTrue, IfSome, ◌⊎◌, length};
+ghost use Rattle.std.specs.Prelude.{◌≡◌, ◌↔◌, ℕ, ◌+◌, ◌*◌, ◌<◌, ◌≤◌, true, false, IsTrue, IfSome, ◌⊎◌, length};
 
-use crate::measure::{behind_groups, has_group};
+use crate::head::{Alone, Head, Looked, behind_groups, first_item, has_group, only_group};
 use etcs_tables::{RowItem, Test};
 use etcs_vars::Var;
 
@@ -144,6 +144,7 @@ ghost use Rattle.etcs_tables.specs.Layouts.{layout, passes};
 ghost use Rattle.etcs_rows.specs.Lengths.{LengthsBy, front, behind, GroupsWithin, SetsWithin};
 ghost use Rattle.etcs_rows.specs.Progressions.{IsProgression, InGuarded, InProgression, TimesWithin};
 ghost use Rattle.etcs_rows.specs.Sums.{Plus, SumOf};
+ghost use Rattle.etcs_rows.specs.Heads.{AfterLooked};
 
 /// The first and the last number from low to high that a variable admits, if it admits all between them.
 fn admitted_between(var: Var, low: u64, high: u64) -> Option<(u64, u64)>
@@ -188,13 +189,8 @@ pub(crate) fn times_steps(group: Progression, first: u64, last: u64) -> Option<P
 pub(crate) fn steps_of(items: &'static [RowItem], before: u64) -> Option<Progression>
     ensures { IfSome result (λ s. IsProgression s (LengthsBy (layout items.now) before)) }
 {
-    match plain_groups(items, before) {
-        Some((width, behind)) => Progression::single(width).plus(open_steps(behind)?),
-        None => {
-            let groups = groups_steps(items, before)?;
-            groups.plus(open_steps(behind_groups(items))?)
-        }
-    }
+    let groups = groups_steps(items, before)?;
+    groups.plus(open_steps(behind_groups(items))?)
 }
 
 /// The same of a group that occurs more than once. How long others are each time isn't asked.
@@ -208,21 +204,25 @@ pub(crate) fn steps_again(group: &'static [RowItem], times: u64) -> Option<Progr
     }
 }
 
-/// The width of the variables in front that no group looks at, and what follows them.
-pub(crate) fn leading(items: &'static [RowItem]) -> Option<(usize, &'static [RowItem])>
-    ensures sum { IfSome result (λ r. (m : ℕ) → LengthsBy (layout items.now) 0 m ↔ Plus (λ k. k ≡ r.0) (LengthsBy (layout r.1.now) 0) m) }
-    ensures shorter { IfSome result (λ r. length r.1.now ≤ length items.now) }
+/// The width of the variables in front with the first that a group looks at, and that one, if there is one.
+pub(crate) fn leading(items: &'static [RowItem]) -> Option<(usize, Option<Looked>)>
+    ensures sum { IfSome result (λ r. (m : ℕ) → LengthsBy (layout items.now) 0 m ↔ Plus (λ k. k ≡ r.0) (AfterLooked r.1) m) }
+    ensures shorter { IfSome result (λ r. IfSome r.1 (λ l. length l.rest.now < length items.now)) }
 {
     let mut width = 0usize;
-    let mut behind = items;
-    while let Some((RowItem::One(var), rest)) = behind.split_first() {
-        if has_group(rest) {
-            return Some((width, behind));
-        }
+    let mut left = items;
+    while let Some((RowItem::One(var), rest)) = left.split_first() {
         width = width.checked_add(var.width())?;
-        behind = rest;
+        if has_group(rest) {
+            return Some((width, Some(Looked { var: *var, rest })));
+        }
+        left = rest;
     }
-    Some((width, behind))
+    if left.is_empty() {
+        Some((width, None))
+    } else {
+        None
+    }
 }
 
 /// The width of a group of variables that no group looks at.
@@ -232,8 +232,11 @@ fn plain_width(group: &'static [RowItem]) -> Option<usize>
     if has_group(group) {
         return None;
     }
-    let (width, behind) = leading(group)?;
-    if behind.is_empty() { Some(width) } else { None }
+    let (width, looked) = leading(group)?;
+    match looked {
+        None => Some(width),
+        Some(_) => None,
+    }
 }
 
 /// The width of such a group where a number passes the test, and else 0.
@@ -257,8 +260,7 @@ fn plain_groups(items: &'static [RowItem], before: u64) -> Option<(usize, &'stat
 {
     let mut width = 0usize;
     let mut left = items;
-    while let Some((RowItem::When(guard, count), rest)) = left.split_first() {
-        let (group, rest) = rest.split_at(rest.len().min(*count));
+    while let Head::When(guard, group, rest) = first_item(left) {
         let more = guarded_width(guard.test, group, before)?;
         width = width.checked_add(more)?;
         left = rest;
@@ -275,17 +277,15 @@ fn plain_groups(items: &'static [RowItem], before: u64) -> Option<(usize, &'stat
 fn open_steps(items: &'static [RowItem]) -> Option<Progression>
     ensures { IfSome result (λ s. IsProgression s (LengthsBy (layout items.now) 0)) }
 {
-    let (width, behind) = leading(items)?;
+    let (width, looked) = leading(items)?;
     let front = Progression::single(width);
-    match behind.split_first() {
+    match looked {
         None => Some(front),
-        Some((RowItem::One(var), rest)) => {
-            let groups = steps_within(*var, rest, 0, u64::MAX)?;
+        Some(Looked { var, rest }) => {
+            let groups = steps_within(var, rest, 0, u64::MAX)?;
             let tail = groups.plus(open_steps(behind_groups(rest))?)?;
-            front.plus(Progression::single(var.width()).plus(tail)?)
+            front.plus(tail)
         }
-        Some((RowItem::When(_, _), _)) => None,
-        Some((RowItem::Many(_), _)) => None,
     }
 }
 
@@ -297,9 +297,8 @@ pub(crate) fn groups_steps(items: &'static [RowItem], before: u64) -> Option<Pro
     if let Some((width, _)) = plain_groups(items, before) {
         return Some(Progression::single(width));
     }
-    match items.split_first() {
-        Some((RowItem::When(guard, count), rest)) => {
-            let (group, rest) = rest.split_at(rest.len().min(*count));
+    match first_item(items) {
+        Head::When(guard, group, rest) => {
             if guard.test.passes(before) {
                 let own = steps_of(group, before)?;
                 own.plus(groups_steps(rest, before)?)
@@ -307,13 +306,11 @@ pub(crate) fn groups_steps(items: &'static [RowItem], before: u64) -> Option<Pro
                 groups_steps(rest, before)
             }
         }
-        Some((RowItem::Many(count), rest)) => {
-            let (group, rest) = rest.split_at(rest.len().min(*count));
+        Head::Many(group, rest) => {
             let all = steps_of(group, before)?.times(before)?;
             all.plus(groups_steps(rest, before)?)
         }
-        None => Some(Progression::single(0)),
-        Some((RowItem::One(_), _)) => Some(Progression::single(0)),
+        _ => None,
     }
 }
 
@@ -329,28 +326,12 @@ pub(crate) fn counted_within(
     ensures order { IfSome result (λ r. r.1 ≤ r.2) }
     ensures all { IfSome result (λ r. (m : ℕ) → TimesWithin r.0 r.1 r.2 m ↔ GroupsWithin var (layout rest.now) low high m) }
 {
-    let group = counted_group(rest)?;
-    let (first, last) = admitted_between(var, low, high)?;
-    Some((group, first, last))
-}
-
-/// How many bits the counted group in front may take each time, if no other group looks at its number.
-#[cycle(steps)]
-fn counted_group(rest: &'static [RowItem]) -> Option<Progression>
-    ensures { IfSome result (λ s. (n : ℕ) → (m : ℕ) → SumOf n (InProgression s) m ↔ LengthsBy (front (layout rest.now)) n m) }
-{
-    match rest.split_first() {
-        Some((RowItem::Many(count), tail)) => {
-            let (group, tail) = tail.split_at(tail.len().min(*count));
-            if has_group(group) {
-                None
-            } else if has_group(tail) {
-                None
-            } else {
-                steps_of(group, 0)
-            }
+    match only_group(rest)? {
+        Alone::Many(group) => {
+            let (first, last) = admitted_between(var, low, high)?;
+            Some((open_steps(group)?, first, last))
         }
-        _ => None,
+        Alone::When(_, _) => None,
     }
 }
 
@@ -375,29 +356,11 @@ pub(crate) fn steps_each(
 ) -> Option<Progression>
     ensures { IfSome result (λ s. IsProgression s (GroupsWithin var (layout rest.now) low high)) }
 {
-    match guarded_group(rest) {
-        Some((test, group)) => guarded_each(var, test, group, low, high),
-        None => groups_each(var, rest, low, high),
-    }
-}
-
-/// The test and the steps of the guarded group in front, if no other group looks at the number.
-#[cycle(steps)]
-fn guarded_group(rest: &'static [RowItem]) -> Option<(Test, Progression)>
-    ensures { IfSome result (λ r. (n : ℕ) → (m : ℕ) → InGuarded r.0 r.1 n m ↔ LengthsBy (front (layout rest.now)) n m) }
-{
-    match rest.split_first() {
-        Some((RowItem::When(guard, count), tail)) => {
-            let (group, tail) = tail.split_at(tail.len().min(*count));
-            if has_group(group) {
-                None
-            } else if has_group(tail) {
-                None
-            } else {
-                Some((guard.test, open_steps(group)?))
-            }
+    match only_group(rest) {
+        Some(Alone::When(guard, group)) => {
+            guarded_each(var, guard.test, open_steps(group)?, low, high)
         }
-        _ => None,
+        _ => groups_each(var, rest, low, high),
     }
 }
 

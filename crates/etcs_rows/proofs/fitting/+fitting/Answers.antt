@@ -1,53 +1,43 @@
-use Rattle.std.proofs.Common.{◌≡◌, ℕ, ◌-◌, ◌/◌, ◌^◌, ◌≤◌, List, length, ◌∷◌, reverse, IsTrue, false, subst, refl, ap, ◌∙◌, arith, sym}
+use Rattle.std.proofs.Common.{Some, None, ◌≡◌, ℕ, ◌-◌, ◌/◌, ◌^◌, ◌≤◌, length, reverse, IsTrue, false, subst, refl, ◌∙◌, arith, sym}
 use Rattle.std.specs.Prelude.{◌↔◌}
 use Rattle.std.proofs.lemmas.Bool.{both_ways}
 use Rattle.etcs_vars.specs.Vars.{width}
-use Rattle.etcs_tables.specs.declared.item.RowItem.{RowItem}
-use Rattle.etcs_tables.specs.Layouts.{Layout, layout, one}
-use Rattle.etcs_rows.specs.Lengths.{LengthsBy, front, behind, GroupsWithin, FirstWithin}
+use Rattle.etcs_tables.specs.Layouts.{Layout, layout}
+use Rattle.etcs_rows.specs.Lengths.{LengthsBy, front, behind, GroupsWithin}
 use Rattle.etcs_rows.specs.Progressions.{InProgression, TimesWithin}
-use Rattle.etcs_rows.specs.Totals.{InTotal, AreTotal}
+use Rattle.etcs_rows.specs.Totals.{InTotal}
 use Rattle.etcs_rows.specs.Sums.{Plus}
 use Rattle.etcs_rows.specs.Waiting.{Tails, Onward}
-use Rattle.etcs_rows.proofs.LengthLemmas.{SameSet, set_along, set_self, Plus-same}
+use Rattle.etcs_rows.specs.Heads.{AfterLooked}
+use Rattle.etcs_rows.proofs.LengthLemmas.{set_along, set_back, set_self, Plus-same}
 use Rattle.etcs_rows.proofs.SumLemmas.{no_items, most_admits}
-use Rattle.etcs_rows.proofs.RowSums.{Plus-assoc, first_sum, one_sum}
+use Rattle.etcs_rows.proofs.RowSums.{Plus-assoc, zero-Plus}
 use Rattle.etcs_rows.proofs.StepLemmas.{is_zero}
-use Rattle.etcs_rows.proofs.FitLemmas.{leave_empty, chosen, exchanged, answer_same, past_bits, onward_end, onward_none, moved_two, led, leave_sum, tails_none, NoneTo, none_more, none_all, each_not, at_found, at_more, at_none}
+use Rattle.etcs_rows.proofs.FitLemmas.{leave_empty, chosen, exchanged, answer_same, past_bits, onward_none, led, leave_sum, tails_none, NoneTo, none_more, none_all, each_not, at_found, at_more, at_none}
 use Rattle.etcs_rows.proofs.fitting.+fitting.Goals as goal
 use Rattle.etcs_rows.proofs.fitting.+fitting.Goals.{choose_each-then-admits+in_ok-groups+in_ok-spread+else-branch, choose_each-else-admits}
 
 pub onward-returns-then-sum-bits : goal.onward-returns-then-sum-bits
 onward-returns-then-sum-bits t c =
-    let all = led (InTotal c.args.sum) (InTotal c.in_ok-sum.sum) c.single.result c.args.items.now c.in_ok-width.behind.now c.args.waiting.now c.in_ok-width.width c.single.ensures c.in_ok-sum.ensures c.in_ok-width.ensures.sum c.args.bits in
-    let past = past_bits c.in_ok-sum.sum (Onward c.in_ok-width.behind.now c.args.waiting.now) c.args.bits c.if-sum-bits.true in
+    let all = led (InTotal c.args.sum) (InTotal c.in_ok-sum.sum) c.single.result c.args.items.now c.in_ok-width.looked c.args.waiting.now c.in_ok-width.width c.single.ensures c.in_ok-sum.ensures c.in_ok-width.ensures.sum c.args.bits in
+    let past = past_bits c.in_ok-sum.sum (Plus (AfterLooked c.in_ok-width.looked) (Tails (reverse c.args.waiting.now))) c.args.bits c.if-sum-bits.true in
     (λ x. absurd cc, λ x. past.1 (all.1 x))
 
-pub turn-returns-in-None : goal.turn-returns-in-None
-turn-returns-in-None t c =
-    let S = InTotal c.args.sum in let T = Tails (reverse c.args.waiting.now) in let all = Onward c.args.items.now c.args.waiting.now in
-    answer_same c.leave.result (Plus S T c.args.bits) (Plus S all c.args.bits)
-    (Plus-same S T S all (set_self S) (onward_end c.args.items.now c.args.waiting.now (no_items c.args.items.now c.in-None.ensures.cases)) c.args.bits) c.leave.ensures
+pub onward-returns-in-None : goal.onward-returns-in-None
+onward-returns-in-None t c =
+    let S = InTotal c.in_ok-sum.sum in let T = Tails (reverse c.args.waiting.now) in let Z : ℕ → Type 0 = λ m. m ≡ 0 in
+    answer_same c.leave.result (Plus S T c.args.bits) (Plus (InTotal c.args.sum) (Onward c.args.items.now c.args.waiting.now) c.args.bits)
+    (set_along (Plus S T) (Plus S (Plus Z T)) (Plus (InTotal c.args.sum) (Onward c.args.items.now c.args.waiting.now)) (Plus-same S T S (Plus Z T) (set_self S) (zero-Plus T))
+    (led (InTotal c.args.sum) S c.single.result c.args.items.now None c.args.waiting.now c.in_ok-width.width c.single.ensures c.in_ok-sum.ensures (rw c.in-None.is at c.in_ok-width.ensures.sum)) c.args.bits) c.leave.ensures
 
-pub turn-returns-in_ok-sum-in-Some-One-default : goal.turn-returns-in_ok-sum-in-Some-One-default
-turn-returns-in_ok-sum-in-Some-One-default t c =
-    let v = c.in-Some-One-default.var in let rest = c.in-Some-One-default.rest.now in
-    let is : layout c.args.items.now ≡ one v (layout rest) = ap (λ (x : List RowItem). layout x) (c.in-Some-One-default.ensures.cases.0 ∙ ap (λ (x : RowItem). x ∷ rest) c.in-Some-One-default.field-0-0-is) in
-    let row = layout c.args.items.now in
-    let S = InTotal c.args.sum in let W : ℕ → Type 0 = λ k. k ≡ width v in
-    let G = GroupsWithin v (layout rest) 0 18446744073709551615 in let B = LengthsBy (behind (layout rest)) 0 in let T = Tails (reverse c.args.waiting.now) in let L = LengthsBy row 0 in
-    let sum = c.in_ok-sum-in-Some-One-default.sum in
-    let own : SameSet (InProgression c.single.result) W = rw c.width.ensures at c.single.ensures in
-    let has : AreTotal sum (Plus S W) = set_along (InTotal sum) (Plus S (InProgression c.single.result)) (Plus S W) c.in_ok-sum-in-Some-One-default.ensures (Plus-same S (InProgression c.single.result) S W (set_self S) own) in
-    answer_same c.choose.result (Plus (InTotal sum) (Plus G (Plus B T)) c.args.bits) (Plus S (Plus L T) c.args.bits)
-    (moved_two (InTotal sum) S W G B T L has (set_along (Plus W (Plus G B)) (FirstWithin v (layout rest) 0 18446744073709551615) L (first_sum v (layout rest) 0 18446744073709551615) (one_sum row v (layout rest) 0 is)) c.args.bits)
-    c.choose.ensures
-
-pub onward-returns : goal.onward-returns
-onward-returns t c =
-    let behind = c.in_ok-width.behind.now in
-    answer_same c.turn.result (Plus (InTotal c.in_ok-sum.sum) (Onward behind c.args.waiting.now) c.args.bits) (Plus (InTotal c.args.sum) (Onward c.args.items.now c.args.waiting.now) c.args.bits)
-    (led (InTotal c.args.sum) (InTotal c.in_ok-sum.sum) c.single.result c.args.items.now behind c.args.waiting.now c.in_ok-width.width c.single.ensures c.in_ok-sum.ensures c.in_ok-width.ensures.sum c.args.bits) c.turn.ensures
+pub onward-returns-in-Some : goal.onward-returns-in-Some
+onward-returns-in-Some t c =
+    let S = InTotal c.in_ok-sum.sum in let T = Tails (reverse c.args.waiting.now) in let row = layout c.in-Some.field-0.rest.now in
+    let G = GroupsWithin c.in-Some.field-0.var row 0 18446744073709551615 in let B = LengthsBy (behind row) 0 in
+    answer_same c.choose.result (Plus S (Plus G (Plus B T)) c.args.bits) (Plus (InTotal c.args.sum) (Onward c.args.items.now c.args.waiting.now) c.args.bits)
+    (set_along (Plus S (Plus G (Plus B T))) (Plus S (Plus (Plus G B) T)) (Plus (InTotal c.args.sum) (Onward c.args.items.now c.args.waiting.now))
+    (Plus-same S (Plus G (Plus B T)) S (Plus (Plus G B) T) (set_self S) (set_back (Plus (Plus G B) T) (Plus G (Plus B T)) (Plus-assoc G B T)))
+    (led (InTotal c.args.sum) S c.single.result c.args.items.now (Some c.in-Some.field-0) c.args.waiting.now c.in_ok-width.width c.single.ensures c.in_ok-sum.ensures (rw c.in-Some.is at c.in_ok-width.ensures.sum)) c.args.bits) c.choose.ensures
 
 pub leave-returns-in-None : goal.leave-returns-in-None
 leave-returns-in-None t c =

@@ -31,9 +31,6 @@ decreases-spread l = 6 * items_left l.items.now l.waiting.now + 4
 abbrev pub decreases-spread_each : goal.decreases-spread_each
 decreases-spread_each l = 6 * items_left l.items.now l.waiting.now + 3
 
-abbrev pub decreases-turn : goal.decreases-turn
-decreases-turn l = 6 * items_left l.items.now l.waiting.now + 1
-
 abbrev pub invariant-choose_each-loop-number : goal.invariant-choose_each-loop-number
 invariant-choose_each-loop-number l = record {
   none : NoneTo l.var (λ n. LengthsBy (front (layout l.rest)) n) (InTotal l.sum) (Onward l.behind l.waiting) l.low l.number l.bits;

@@ -1,45 +1,72 @@
-use Rattle.std.proofs.Common.{◌≡◌, ℕ, ◌+◌, ◌-◌, ◌/◌, ◌^◌, ◌≤◌, take, drop, List, ◌∷◌, sym, ap, ◌∙◌, arith}
+use Rattle.std.proofs.Common.{◌≡◌, ℕ, ◌+◌, ◌-◌, ◌/◌, ◌^◌, ◌≤◌, List, sym, ap, ◌∙◌, arith}
 use Rattle.std.proofs.lemmas.Bool.{both_ways}
 use Rattle.etcs_tables.specs.declared.item.RowItem.{RowItem}
 use Rattle.etcs_tables.specs.Layouts.{Layout, layout, one}
-use Rattle.etcs_rows.specs.Lengths.{LengthsBy, front}
-use Rattle.etcs_rows.proofs.Cuts.{layout-when_cut, layout-many_cut}
-use Rattle.etcs_rows.proofs.SumLemmas.{set_whole, set_passed, set_not_passed, set_counted, set_one, set_free_one, set_first, groups_none, groups_more, groups_same, groups_all, GroupsTo, most_admits, no_items, set_no_front, counted_all}
+use Rattle.etcs_rows.specs.Lengths.{LengthsBy, front, behind}
+use Rattle.etcs_rows.specs.Sums.{Plus}
+use Rattle.etcs_rows.proofs.LengthLemmas.{set_back}
+use Rattle.etcs_rows.proofs.SumLemmas.{set_same, set_plus, lengths-parts, behind_begins, set_whole, set_passed, set_not_passed, set_counted, set_one, set_free_one, set_first, groups_none, groups_more, groups_same, groups_all, GroupsTo, most_admits, set_no_front, counted_all, open_end}
 use Rattle.etcs_rows.proofs.measure.+lengths.Goals as goal
 use Rattle.etcs_rows.proofs.measure.+lengths.Goals.{groups_each-then-admits, groups_each-else-admits}
+
+pub lengths_of-returns : goal.lengths_of-returns
+lengths_of-returns t c =
+    let row = layout c.args.items.now in let n = c.args.before in let F = LengthsBy (front row) n in let B = LengthsBy (behind row) 0 in
+    let bare = c.open_lengths.ensures (rw c.behind_groups.ensures.behind (behind_begins row)) in
+    set_same c.plus.result (Plus F B) (LengthsBy row n) (set_back (LengthsBy row n) (Plus F B) (lengths-parts row n))
+    (set_plus c.groups_at.result c.open_lengths.result c.plus.result F B c.groups_at.ensures (rw c.behind_groups.ensures.behind at bare) c.plus.ensures)
 
 pub first_lengths-returns : goal.first_lengths-returns
 first_lengths-returns t c =
     let rest = layout c.args.rest.now in
-    set_first c.groups_within.result c.shift.result c.lengths_of.result c.plus.result c.args.var rest c.args.low c.args.high c.groups_within.ensures
-    (rw c.width.ensures at c.shift.ensures) (rw c.behind_groups.ensures.behind at c.lengths_of.ensures) c.plus.ensures
+    let bare = c.open_lengths.ensures (rw c.behind_groups.ensures.behind (behind_begins rest)) in
+    set_first c.groups_within.result c.shift.result c.open_lengths.result c.plus.result c.args.var rest c.args.low c.args.high c.groups_within.ensures
+    (rw c.width.ensures at c.shift.ensures) (rw c.behind_groups.ensures.behind at bare) c.plus.ensures
+
+pub open_lengths-returns-then-has_group : goal.open_lengths-returns-then-has_group
+open_lengths-returns-then-has_group t c = λ none.
+    let rest = layout c.in-One.rest.now in
+    let is : layout c.args.items.now ≡ one c.in-One.var rest = ap (λ (x : List RowItem). layout x) c.in-One.ensures.0 in
+    set_one c.first_lengths.result (layout c.args.items.now) rest c.in-One.var 0 is c.first_lengths.ensures
+
+pub open_lengths-returns-else-has_group : goal.open_lengths-returns-else-has_group
+open_lengths-returns-else-has_group t c = λ none.
+    let rest = layout c.in-One.rest.now in
+    let is : layout c.args.items.now ≡ one c.in-One.var rest = ap (λ (x : List RowItem). layout x) c.in-One.ensures.0 in
+    let free = sym c.has_group.ensures ∙ c.if-has_group.false in
+    set_free_one c.open_lengths.result c.shift.result (layout c.args.items.now) rest c.in-One.var 0 is free (c.open_lengths.ensures free) (rw c.width.ensures at c.shift.ensures)
+
+pub open_lengths-returns-in_default : goal.open_lengths-returns-in_default
+open_lengths-returns-in_default t c = λ none. set_whole c.single.result (layout c.args.items.now) 0 c.single.ensures (open_end c.first_item.result c.args.items.now c.first_item.ensures c.in_default.not-One none)
 
 pub groups_at-returns-then-passes : goal.groups_at-returns-then-passes
 groups_at-returns-then-passes t c =
-    let cut = layout-when_cut c.in-Some-When-default.guard c.in-Some-When-default.count c.args.items.now c.in-Some-When-default.rest.now c.split_at.result.0.now c.split_at.result.1.now
-    (c.in-Some-When-default.ensures.cases.0 ∙ ap (λ (x : RowItem). x ∷ c.in-Some-When-default.rest.now) c.in-Some-When-default.field-0-0-is)
-    (c.split_at.ensures.front ∙ ap (λ k. take k c.in-Some-When-default.rest.now) c.min.ensures)
-    (c.split_at.ensures.back ∙ ap (λ k. drop k c.in-Some-When-default.rest.now) c.min.ensures) in
-    set_passed c.lengths_of.result c.groups_at-behind.result c.plus.result (front (layout c.args.items.now)) c.in-Some-When-default.guard (layout c.split_at.result.0.now) (front (layout c.split_at.result.1.now)) c.args.before
-    (ap (λ (x : Layout). front x) cut) (sym c.passes.ensures ∙ c.if-passes.true) c.lengths_of.ensures c.groups_at-behind.ensures c.plus.ensures
+    let w = c.in-When in
+    set_passed c.lengths_of.result c.groups_at-behind.result c.plus.result (front (layout c.args.items.now)) w.guard (layout w.group.now) (front (layout w.rest.now)) c.args.before
+    (ap (λ (x : Layout). front x) w.ensures.0) (sym c.passes.ensures ∙ c.if-passes.true) c.lengths_of.ensures c.groups_at-behind.ensures c.plus.ensures
 
 pub groups_at-returns-else-passes : goal.groups_at-returns-else-passes
 groups_at-returns-else-passes t c =
-    let cut = layout-when_cut c.in-Some-When-default.guard c.in-Some-When-default.count c.args.items.now c.in-Some-When-default.rest.now c.split_at.result.0.now c.split_at.result.1.now
-    (c.in-Some-When-default.ensures.cases.0 ∙ ap (λ (x : RowItem). x ∷ c.in-Some-When-default.rest.now) c.in-Some-When-default.field-0-0-is)
-    (c.split_at.ensures.front ∙ ap (λ k. take k c.in-Some-When-default.rest.now) c.min.ensures)
-    (c.split_at.ensures.back ∙ ap (λ k. drop k c.in-Some-When-default.rest.now) c.min.ensures) in
-    set_not_passed c.groups_at-behind.result (front (layout c.args.items.now)) c.in-Some-When-default.guard (layout c.split_at.result.0.now) (front (layout c.split_at.result.1.now)) c.args.before
-    (ap (λ (x : Layout). front x) cut) (sym c.passes.ensures ∙ c.if-passes.false) c.groups_at-behind.ensures
+    let w = c.in-When in
+    set_not_passed c.groups_at-behind.result (front (layout c.args.items.now)) w.guard (layout w.group.now) (front (layout w.rest.now)) c.args.before
+    (ap (λ (x : Layout). front x) w.ensures.0) (sym c.passes.ensures ∙ c.if-passes.false) c.groups_at-behind.ensures
 
-pub groups_at-returns-in-Some-Many-default : goal.groups_at-returns-in-Some-Many-default
-groups_at-returns-in-Some-Many-default t c =
-    let cut = layout-many_cut c.in-Some-Many-default.count c.args.items.now c.in-Some-Many-default.rest.now c.split_at-in-Some-Many-default.result.0.now c.split_at-in-Some-Many-default.result.1.now
-    (c.in-Some-Many-default.ensures.cases.0 ∙ ap (λ (x : RowItem). x ∷ c.in-Some-Many-default.rest.now) c.in-Some-Many-default.field-0-0-is)
-    (c.split_at-in-Some-Many-default.ensures.front ∙ ap (λ k. take k c.in-Some-Many-default.rest.now) c.min-in-Some-Many-default.ensures)
-    (c.split_at-in-Some-Many-default.ensures.back ∙ ap (λ k. drop k c.in-Some-Many-default.rest.now) c.min-in-Some-Many-default.ensures) in
-    set_counted c.lengths_of-in-Some-Many-default.result c.times.result c.groups_at.result c.plus-in-Some-Many-default.result (front (layout c.args.items.now)) (layout c.split_at-in-Some-Many-default.result.0.now) (front (layout c.split_at-in-Some-Many-default.result.1.now)) c.args.before
-    (ap (λ (x : Layout). front x) cut) c.lengths_of-in-Some-Many-default.ensures c.times.ensures c.groups_at.ensures c.plus-in-Some-Many-default.ensures
+pub groups_at-returns-in-Many : goal.groups_at-returns-in-Many
+groups_at-returns-in-Many t c =
+    let w = c.in-Many in
+    set_counted c.lengths_of-in-Many.result c.times.result c.groups_at.result c.plus-in-Many.result (front (layout c.args.items.now)) (layout w.group.now) (front (layout w.rest.now)) c.args.before
+    (ap (λ (x : Layout). front x) w.ensures.0) c.lengths_of-in-Many.ensures c.times.ensures c.groups_at.ensures c.plus-in-Many.ensures
+
+pub groups_at-returns-in-One : goal.groups_at-returns-in-One
+groups_at-returns-in-One t c = set_no_front c.single.result (layout c.args.items.now) c.args.before c.single.ensures (ap (λ (x : List RowItem). front (layout x)) c.in-One.ensures.0)
+
+pub groups_at-returns-in-End : goal.groups_at-returns-in-End
+groups_at-returns-in-End t c = set_no_front c.single-in-End.result (layout c.args.items.now) c.args.before c.single-in-End.ensures (ap (λ (x : List RowItem). front (layout x)) c.in-End.ensures)
+
+pub groups_within-returns-in-Some-Many : goal.groups_within-returns-in-Some-Many
+groups_within-returns-in-Some-Many t c =
+    let a = rw c.in-Some-Many.field-0-is at c.in-Some-Many.ensures in
+    counted_all c.args.var (layout c.args.rest.now) (layout c.in-Some-Many.group.now) a.0 c.args.low c.args.high c.lengths_of.result c.counted_within.result a.1 a.2 a.3 c.lengths_of.ensures c.counted_within.ensures
 
 pub groups_each-loop-number-init : goal.groups_each-loop-number-init
 groups_each-loop-number-init t c = record {
@@ -76,64 +103,3 @@ groups_each-returns-after-admits t c =
     ] in
     groups_all c.args.var F c.args.low c.args.high (n + 1) c.if-admits.all all (λ k l h. omega arith)
     (λ k l u a. let most : k ≤ 18446744073709551615 / 2 ^ (64 - c.width.result) = rw c.width.ensures (most_admits c.args.var k a) in omega (arith, most))
-
-pub groups_at-returns-in-None : goal.groups_at-returns-in-None
-groups_at-returns-in-None t c = set_no_front c.single-in-None.result (layout c.args.items.now) c.args.before c.single-in-None.ensures (ap (λ (x : Layout). front x) (no_items c.args.items.now c.in-None.ensures.cases))
-
-pub groups_at-returns-in-Some-One-default : goal.groups_at-returns-in-Some-One-default
-groups_at-returns-in-Some-One-default t c =
-    let rest = c.in-Some-One-default.field-0-1.now in
-    let is : layout c.args.items.now ≡ one c.in-Some-One-default.field-0-0-0 (layout rest) = ap (λ (x : List RowItem). layout x) (c.in-Some-One-default.ensures.cases.0 ∙ ap (λ (x : RowItem). x ∷ rest) c.in-Some-One-default.field-0-0-is) in
-    set_no_front c.single.result (layout c.args.items.now) c.args.before c.single.ensures (ap (λ (x : Layout). front x) is)
-
-pub lengths_of-returns-in-None : goal.lengths_of-returns-in-None
-lengths_of-returns-in-None t c = set_whole c.single.result (layout c.args.items.now) c.args.before c.single.ensures (no_items c.args.items.now c.in-None.ensures.cases)
-
-pub lengths_of-returns-then-has_group : goal.lengths_of-returns-then-has_group
-lengths_of-returns-then-has_group t c =
-    let rest = c.in-Some-One-default.rest.now in
-    let is : layout c.args.items.now ≡ one c.in-Some-One-default.var (layout rest) = ap (λ (x : List RowItem). layout x) (c.in-Some-One-default.ensures.cases.0 ∙ ap (λ (x : RowItem). x ∷ rest) c.in-Some-One-default.field-0-0-is) in
-    set_one c.first_lengths.result (layout c.args.items.now) (layout rest) c.in-Some-One-default.var c.args.before is c.first_lengths.ensures
-
-pub lengths_of-returns-else-has_group : goal.lengths_of-returns-else-has_group
-lengths_of-returns-else-has_group t c =
-    let rest = c.in-Some-One-default.rest.now in
-    let is : layout c.args.items.now ≡ one c.in-Some-One-default.var (layout rest) = ap (λ (x : List RowItem). layout x) (c.in-Some-One-default.ensures.cases.0 ∙ ap (λ (x : RowItem). x ∷ rest) c.in-Some-One-default.field-0-0-is) in
-    set_free_one c.lengths_of.result c.shift.result (layout c.args.items.now) (layout rest) c.in-Some-One-default.var c.args.before is (sym c.has_group.ensures ∙ c.if-has_group.false) c.lengths_of.ensures (rw c.width.ensures at c.shift.ensures)
-
-pub lengths_of-returns-then-passes : goal.lengths_of-returns-then-passes
-lengths_of-returns-then-passes t c =
-    let cut = layout-when_cut c.in-Some-When-default.guard c.in-Some-When-default.count c.args.items.now c.in-Some-When-default.rest.now c.split_at.result.0.now c.split_at.result.1.now
-    (c.in-Some-When-default.ensures.cases.0 ∙ ap (λ (x : RowItem). x ∷ c.in-Some-When-default.rest.now) c.in-Some-When-default.field-0-0-is)
-    (c.split_at.ensures.front ∙ ap (λ k. take k c.in-Some-When-default.rest.now) c.min.ensures)
-    (c.split_at.ensures.back ∙ ap (λ k. drop k c.in-Some-When-default.rest.now) c.min.ensures) in
-    set_passed c.lengths_of-then-passes.result c.lengths_of-behind.result c.plus.result (layout c.args.items.now) c.in-Some-When-default.guard (layout c.split_at.result.0.now) (layout c.split_at.result.1.now) c.args.before
-    cut (sym c.passes.ensures ∙ c.if-passes.true) c.lengths_of-then-passes.ensures c.lengths_of-behind.ensures c.plus.ensures
-
-pub lengths_of-returns-else-passes : goal.lengths_of-returns-else-passes
-lengths_of-returns-else-passes t c =
-    let cut = layout-when_cut c.in-Some-When-default.guard c.in-Some-When-default.count c.args.items.now c.in-Some-When-default.rest.now c.split_at.result.0.now c.split_at.result.1.now
-    (c.in-Some-When-default.ensures.cases.0 ∙ ap (λ (x : RowItem). x ∷ c.in-Some-When-default.rest.now) c.in-Some-When-default.field-0-0-is)
-    (c.split_at.ensures.front ∙ ap (λ k. take k c.in-Some-When-default.rest.now) c.min.ensures)
-    (c.split_at.ensures.back ∙ ap (λ k. drop k c.in-Some-When-default.rest.now) c.min.ensures) in
-    set_not_passed c.lengths_of-behind.result (layout c.args.items.now) c.in-Some-When-default.guard (layout c.split_at.result.0.now) (layout c.split_at.result.1.now) c.args.before
-    cut (sym c.passes.ensures ∙ c.if-passes.false) c.lengths_of-behind.ensures
-
-pub lengths_of-returns-in-Some-Many-default : goal.lengths_of-returns-in-Some-Many-default
-lengths_of-returns-in-Some-Many-default t c =
-    let cut = layout-many_cut c.in-Some-Many-default.count c.args.items.now c.in-Some-Many-default.rest.now c.split_at-in-Some-Many-default.result.0.now c.split_at-in-Some-Many-default.result.1.now
-    (c.in-Some-Many-default.ensures.cases.0 ∙ ap (λ (x : RowItem). x ∷ c.in-Some-Many-default.rest.now) c.in-Some-Many-default.field-0-0-is)
-    (c.split_at-in-Some-Many-default.ensures.front ∙ ap (λ k. take k c.in-Some-Many-default.rest.now) c.min-in-Some-Many-default.ensures)
-    (c.split_at-in-Some-Many-default.ensures.back ∙ ap (λ k. drop k c.in-Some-Many-default.rest.now) c.min-in-Some-Many-default.ensures) in
-    set_counted c.lengths_of-in-Some-Many-default.result c.times.result c.lengths_of-in-Some-Many-default-2.result c.plus-in-Some-Many-default.result (layout c.args.items.now) (layout c.split_at-in-Some-Many-default.result.0.now) (layout c.split_at-in-Some-Many-default.result.1.now) c.args.before
-    cut c.lengths_of-in-Some-Many-default.ensures c.times.ensures c.lengths_of-in-Some-Many-default-2.ensures c.plus-in-Some-Many-default.ensures
-
-pub groups_within-returns-else-has_group-2 : goal.groups_within-returns-else-has_group-2
-groups_within-returns-else-has_group-2 t c =
-    let tail = c.in-Some-Many-default.tail.now in
-    let cut = layout-many_cut c.in-Some-Many-default.count c.args.rest.now tail c.split_at.result.0.now c.split_at.result.1.now
-    (c.in-Some-Many-default.ensures.cases.0 ∙ ap (λ (x : RowItem). x ∷ tail) c.in-Some-Many-default.field-0-0-is)
-    (c.split_at.ensures.front ∙ ap (λ k. take k tail) c.min.ensures)
-    (c.split_at.ensures.back ∙ ap (λ k. drop k tail) c.min.ensures) in
-    counted_all c.args.var (layout c.args.rest.now) (layout c.split_at.result.0.now) (layout c.split_at.result.1.now) c.args.low c.args.high c.lengths_of.result c.counted_within.result cut
-    (sym c.has_group.ensures ∙ c.if-has_group.false) (sym c.has_group-else-has_group.ensures ∙ c.if-has_group-2.false) c.lengths_of.ensures c.counted_within.ensures

@@ -16,14 +16,8 @@ decreases-groups_each l = 4 * length l.rest.now + 1
 abbrev pub decreases-steps_each : goal.decreases-steps_each
 decreases-steps_each l = 4 * length l.rest.now + 2
 
-abbrev pub decreases-guarded_group : goal.decreases-guarded_group
-decreases-guarded_group l = 4 * length l.rest.now
-
 abbrev pub decreases-steps_of : goal.decreases-steps_of
 decreases-steps_of l = 4 * length l.items.now + 1
-
-abbrev pub decreases-counted_group : goal.decreases-counted_group
-decreases-counted_group l = 4 * length l.rest.now
 
 abbrev pub decreases-counted_within : goal.decreases-counted_within
 decreases-counted_within l = 4 * length l.rest.now + 1

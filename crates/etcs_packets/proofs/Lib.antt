@@ -5,5 +5,6 @@ pub mod PacketLists
 pub mod LowestBits
 pub mod Equality
 pub mod OnePacket
+pub mod Outcomes
 pub mod WordSinks
 pub mod Words

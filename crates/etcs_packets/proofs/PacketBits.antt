@@ -39,7 +39,7 @@ rest_of (marker n) = spelled (variables_of (marker n))
 rest_of (typed nid dir r) = spelled r
 rest_of (kept nid dir b) = b
 
-spelled_kept : (b : List Bool) → spelled (sent.kept OTHER_DATA b) ≡ b
+pub spelled_kept : (b : List Bool) → spelled (sent.kept OTHER_DATA b) ≡ b
 unfolding num
 spelled_kept [] = refl
 spelled_kept (true ∷ b) = ap (λ (l : List Bool). true ∷ l) (spelled_kept b)

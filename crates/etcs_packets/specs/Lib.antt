@@ -1,5 +1,6 @@
 pub mod Fronts
 pub mod Joins
+pub mod Outcomes
 pub mod PacketReadings
 pub mod PacketValues
 pub mod WordSinks

@@ -112,10 +112,6 @@ kept_of (kept nid dir b) = Some b
 abbrev pub IsTypedOf : ℕ → ℕ → PacketValue → Type 0
 IsTypedOf nid dir p = (nid_of p ≡ nid) × (dir_of p ≡ Some dir)
 
--- what is called makes of each value of a type the packet that it is
-abbrev pub Makes : {P : Type 0} → (P → Packet → Type 0) → (P → Type 0) → ℕ → (P → ℕ) → (P → Reading) → Type 0
-Makes {P} post IsValue nid dir reading = (p : P) (q : Packet) → IsValue p → post p q → IsMade q × (packet_value q ≡ typed nid (dir p) (reading p))
-
 -- ---- As it goes one way.
 
 -- how many bits the packet takes with its frame

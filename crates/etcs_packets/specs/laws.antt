@@ -1,4 +1,5 @@
 pub mod OnePacket
+pub mod Outcomes
 pub mod PacketReadings
 pub mod Variants
 pub mod WordSinks

@@ -10,6 +10,7 @@ ghost use Rattle.etcs_packets.specs.PacketReadings.{reading_to, readings_to};
 ghost use Rattle.etcs_packets.specs.WordSinks.{and_bits};
 
 use crate::packet::Packet;
+use crate::typed::Made;
 use crate::word_sink::WordSink;
 use crate::{parts, write};
 use etcs_bits::{BitSlice, Bits};
@@ -192,22 +193,12 @@ impl AnyPacket for Packet {
         write::append_packet(self, out);
     }
 
-    fn of_fields(
-        alloc: Global,
-        nid: u8,
-        dir: u8,
-        fields: &[u64],
-    ) -> Result<Option<Packet>, AllocError> {
+    fn of_fields(alloc: Global, nid: u8, dir: u8, fields: &[u64]) -> Made<Packet> {
         parts::from_fields(alloc, nid, dir, fields)
     }
 
     #[inline(always)]
-    fn of_bits(
-        alloc: Global,
-        nid: u8,
-        dir: u8,
-        body: BitSlice<'_>,
-    ) -> Result<Option<Packet>, AllocError> {
+    fn of_bits(alloc: Global, nid: u8, dir: u8, body: BitSlice<'_>) -> Made<Packet> {
         parts::from_bits(alloc, nid, dir, body)
     }
 

@@ -1,4 +1,5 @@
-//! The typed packets to the train, said once: number and variant of each.
+//! The typed packets to the train, said once: number and variant of each; and what such a list, of either way, is
+//! handed to.
 //!
 //! [`packets`] hands the list to another macro, with what that one is given in braces before it.
 
@@ -7,6 +8,7 @@ macro_rules! packets {
     ($then:ident, $($with:tt)*) => {
         $then! {
             { $($with)* }
+            Packet:
             2 SystemVersion,
             5 Linking,
             12 Level1Ma,
@@ -42,42 +44,39 @@ macro_rules! packets {
     };
 }
 
-/// A match over all packets: of the marker, of any typed packet, and of a packet that is kept.
+/// A match over all packets: of the marker, where there is one, of any typed packet, and of a packet that is kept.
+#[macro_export]
 macro_rules! of_each {
-    ({ $packet:expr, $marker:pat => $of_marker:expr, $typed:ident => $of_typed:expr, $kept:pat => $of_kept:expr } $($nid:literal $variant:ident,)*) => {
+    ({ $packet:expr, $([$marker:pat => $of_marker:expr])? $typed:ident => $of_typed:expr, $kept:pat => $of_kept:expr } $sum:ident: $($nid:literal $variant:ident,)*) => {
         match $packet {
-            Packet::VbcMarker($marker) => $of_marker,
-            $(Packet::$variant($typed) => $of_typed,)*
-            Packet::Other($kept) => $of_kept,
+            $($sum::VbcMarker($marker) => $of_marker,)?
+            $($sum::$variant($typed) => $of_typed,)*
+            $sum::Other($kept) => $of_kept,
         }
     };
 }
 
 /// An equal packet of the same variant.
+#[macro_export]
 macro_rules! copied {
-    ({ $packet:expr, $alloc:expr } $($nid:literal $variant:ident,)*) => {
+    ({ $packet:expr, $alloc:expr $(, $marker:ident)? } $sum:ident: $($nid:literal $variant:ident,)*) => {
         match $packet {
-            Packet::VbcMarker(marker) => Packet::VbcMarker(*marker),
-            $(Packet::$variant(packet) => Packet::$variant(packet.try_clone($alloc)?),)*
-            Packet::Other(packet) => Packet::Other(packet.try_clone($alloc)?),
+            $($sum::$marker(marker) => $sum::$marker(*marker),)?
+            $($sum::$variant(packet) => $sum::$variant(packet.try_clone($alloc)?),)*
+            $sum::Other(packet) => $sum::Other(packet.try_clone($alloc)?),
         }
     };
 }
 
 /// The packet of a number: for each that is typed a call whose last argument makes its variant, and else none.
+#[macro_export]
 macro_rules! by_number {
-    ({ $number:expr, $make:ident($alloc:expr, $dir:expr, $from:expr) } $($nid:literal $variant:ident,)*) => {
+    ({ $way:expr, $number:expr, $alloc:expr, $dir:expr, $source:expr } $sum:ident: $($nid:literal $variant:ident,)*) => {
         match $number {
-            $($nid => $make($alloc, $dir, $from, Packet::$variant),)*
-            _ => {
-                no_row(Way::ToTrain, $number);
-                Ok(None)
-            }
+            $($nid => $crate::parts::packet_of($alloc, $dir, $source, $sum::$variant),)*
+            _ => $crate::parts::none_of($way, $number, $source),
         }
     };
 }
 
-pub(crate) use by_number;
-pub(crate) use copied;
-pub(crate) use of_each;
 pub(crate) use packets;

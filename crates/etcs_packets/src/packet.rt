@@ -6,8 +6,9 @@ ghost use Rattle.etcs_vars.specs.Faults.{number_fault};
 ghost use Rattle.etcs_vars.specs.Reading.{spelled};
 ghost use Rattle.etcs_packets.specs.PacketValues.{bits_of, packet_value};
 
-use crate::list::{copied, of_each, packets};
-use crate::typed::{typed_bits, typed_nid};
+use crate::list::packets;
+use crate::typed::{Formed, typed_bits, typed_nid};
+use crate::{copied, of_each};
 use etcs_bodies::Framed;
 use etcs_flat::{Flat, Marker, Other, parts};
 use etcs_grouped::{
@@ -89,6 +90,12 @@ pub enum Packet {
     Other(Other),
 }
 
+impl Formed for Packet {
+    ghost use Rattle.etcs_packets.specs.PacketValues.{form};
+
+    ghost form = { form };
+}
+
 impl Packet {
     ghost use Rattle.std.specs.Prelude.{◌≡◌, ◌≤◌, IfOk};
     ghost use Rattle.etcs_packets.specs.PacketValues.{packet_value, nid_of, bits_of};
@@ -114,7 +121,7 @@ impl Packet {
     pub fn nid(&self) -> u8
         ensures { result ≡ nid_of (packet_value self.now) }
     {
-        packets!(of_each, self, _ => 0, packet => typed_nid(packet), packet => packet.nid())
+        packets!(of_each, self, [_ => 0] packet => typed_nid(packet), packet => packet.nid())
     }
 
     /// How many bits the packet takes, its frame among them: at most 8,191.
@@ -135,7 +142,7 @@ impl Packet {
     pub fn try_clone(&self, alloc: Global) -> Result<Packet, AllocError>
         ensures { IfOk result (λ p. p ≡ self.now) }
     {
-        Ok(packets!(copied, self, alloc))
+        Ok(packets!(copied, self, alloc, VbcMarker))
     }
 }
 
@@ -144,5 +151,5 @@ fn bits_in(packet: &Packet) -> usize
     ensures bits { result ≡ bits_of (packet_value packet.now) }
     ensures small { result ≤ 8191 }
 {
-    packets!(of_each, packet, _ => MARKER_BITS, packet => typed_bits(packet), packet => frame_bits(Way::ToTrain) + packet.bits())
+    packets!(of_each, packet, [_ => MARKER_BITS] packet => typed_bits(packet), packet => frame_bits(Way::ToTrain) + packet.bits())
 }

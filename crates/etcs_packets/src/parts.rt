@@ -4,16 +4,19 @@ ghost use Rattle.std.specs.Prelude.{◌≡◌, ◌++◌, Some, OnOk, OnErr, IfOk
 ghost use Rattle.etcs_vars.specs.Reading.{Reading, numbers, spelled};
 ghost use Rattle.etcs_tables.specs.declared.row.Way.TheVariants.{ToTrain};
 ghost use Rattle.etcs_tables.specs.Typed.{IsTyped, IsFramed};
-ghost use Rattle.etcs_packets.specs.PacketValues.{typed, packet_value, dir_of, kept_of, variables_of, IsTypedOf, IsMade, IsPacket};
+ghost use Rattle.etcs_packets.specs.PacketValues.{typed, form, packet_value, dir_of, kept_of, variables_of, IsTypedOf, IsMade, IsPacket};
+ghost use Rattle.etcs_packets.specs.Outcomes.{IsMadeOf};
 
 pub use crate::any_packet::{AnyPacket, append_all, room_after};
 pub use crate::copies::copy_all;
-use crate::list::{by_number, of_each, packets};
+use crate::list::packets;
 use crate::packet::Packet;
-use crate::typed::{packet_of_bits, packet_of_fields};
-pub use crate::typed::{hold, no_row, typed_bits, typed_nid};
+pub use crate::typed::{
+    Formed, Made, Source, hold, no_row, none_of, packet_of, typed_bits, typed_nid,
+};
 pub use crate::word_sink::WordSink;
 pub use crate::write::{append_variables, room_left};
+use crate::{by_number, of_each};
 use etcs_bits::BitSlice;
 use etcs_bodies::Packetlike;
 use etcs_tables::Way;
@@ -29,7 +32,7 @@ pub fn holds(packet: &Packet)
     packets!(
         of_each,
         packet,
-        marker => { marker.number(); },
+        [marker => { marker.number(); }]
         packet => hold(packet),
         packet => { packet.nid(); }
     )
@@ -40,7 +43,7 @@ pub fn holds(packet: &Packet)
 pub fn dir(packet: &Packet) -> Option<u8>
     ensures { result ≡ dir_of (packet_value packet.now) }
 {
-    packets!(of_each, packet, _ => None, packet => Some(packet.dir()), packet => Some(packet.dir()))
+    packets!(of_each, packet, [_ => None] packet => Some(packet.dir()), packet => Some(packet.dir()))
 }
 
 /// The bits after L_PACKET of a packet that is kept as bits.
@@ -66,10 +69,18 @@ pub fn send<S: VarSink>(packet: &Packet, out: &mut S) -> Result<(), AllocError>
     packets!(
         of_each,
         packet,
-        marker => out.send(&[(Var::NID_VBCMK, u64::from(marker.number()))]),
+        [marker => out.send(&[(Var::NID_VBCMK, u64::from(marker.number()))])]
         packet => packet.send(out),
         _ => out.send(&[])
     )
+}
+
+/// The typed packet of this number and direction with these numbers or bits after L_PACKET, if there is one.
+#[inline(always)]
+fn of_number<S: Source>(alloc: Global, nid: u8, dir: u8, source: &S) -> Made<Packet>
+    ensures { IfOk result (λ o. IsMadeOf form (S.says source.now) (S.is_of source.now ToTrain nid dir) nid dir o) }
+{
+    packets!(by_number, Way::ToTrain, nid, alloc, dir, source)
 }
 
 /// The typed packet of this number and direction with these numbers after L_PACKET, if there is one.
@@ -87,7 +98,7 @@ pub fn from_fields(
     ensures some { IfOk result (λ o. IfSome o (λ p. IsTypedOf nid dir (packet_value p) × (numbers (variables_of (packet_value p)) ≡ fields.now))) }
     ensures none { IfOk result (λ o. IsNone o → IsTyped ToTrain nid dir fields.now → ⊥) }
 {
-    packets!(by_number, nid, packet_of_fields(alloc, dir, fields))
+    of_number(alloc, nid, dir, &fields)
 }
 
 /// The typed packet of this number and direction with these bits after L_PACKET, if there is one.
@@ -107,5 +118,5 @@ pub fn from_bits(
     ensures typed { IfOk result (λ o. IfSome o (λ p. (r : Reading) × (packet_value p ≡ typed nid dir r))) }
     ensures none { IfOk result (λ o. IsNone o → (r : Reading) → IsFramed ToTrain nid dir r → spelled r ≡ bits.entry → ⊥) }
 {
-    packets!(by_number, nid, packet_of_bits(alloc, dir, &bits))
+    of_number(alloc, nid, dir, &bits)
 }

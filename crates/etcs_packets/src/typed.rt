@@ -5,13 +5,75 @@ ghost use Rattle.etcs_tables.specs.Rows.{row_to};
 ghost use Rattle.etcs_vars.specs.Reading.{Reading, numbers, spelled};
 ghost use Rattle.etcs_tables.specs.Frames.{frame_bits};
 ghost use Rattle.etcs_tables.specs.Typed.{IsTyped, IsFramed};
-ghost use Rattle.etcs_packets.specs.PacketValues.{typed, packet_value, variables_of, IsTypedOf, IsMade, Makes};
+ghost use Rattle.etcs_packets.specs.Outcomes.{Makes, IsMadeOf};
 
-use crate::packet::Packet;
 use etcs_bits::BitSlice;
 use etcs_bodies::{Framed, Packetlike};
 use etcs_tables::{Way, frame_bits};
 use std::alloc::{AllocError, Global};
+
+/// The packet that is made of numbers or of bits, where there is one.
+pub type Made<P> = Result<Option<P>, AllocError>;
+
+/// Packets of one way, each of which stands for a value.
+pub trait Formed {
+    ghost use Rattle.etcs_packets.specs.PacketValues.{Form};
+
+    /// What it stands for, and what its own type says of it.
+    ghost form: { Self → Form };
+}
+
+/// What is after L_PACKET: numbers, or bits.
+pub trait Source {
+    ghost use Rattle.etcs_tables.specs.declared.row.Way.{Way};
+
+    /// It is these variables.
+    ghost says: { Self → Reading → Type 0 };
+
+    /// It is a typed packet of this number and this direction.
+    ghost is_of: { Self → Way → ℕ → ℕ → Type 0 };
+
+    /// The packet of a direction and one type that it is, if it is one.
+    ///
+    /// # Errors
+    ///
+    /// `AllocError` where there is no memory.
+    fn packet<P: Framed>(&self, alloc: Global, dir: u8) -> Made<P>
+        ensures some { IfOk result (λ o. IfSome o (λ p. P.is_value p × (P.direction p ≡ dir) × says self.now (P.reading_of p))) }
+        ensures none { IfOk result (λ o. IsNone o → is_of self.now P.WAY P.NID dir → ⊥) };
+
+    /// A number without a row has no typed packets.
+    ghost rowed: { (s : Self) (way : Way) (nid dir : ℕ) → row_to way nid ≡ None → is_of s way nid dir → ⊥ };
+}
+
+impl<'a> Source for &'a [u64] {
+    ghost use Rattle.etcs_packets.specs.laws.Outcomes.{untyped};
+
+    ghost says = { λ s r. numbers r ≡ s.now };
+
+    ghost is_of = { λ s way nid dir. IsTyped way nid dir s.now };
+
+    ghost rowed = { λ s way nid dir none h. untyped way nid dir s.now none h };
+
+    fn packet<P: Framed>(&self, alloc: Global, dir: u8) -> Made<P> {
+        P::from_fields(alloc, dir, self)
+    }
+}
+
+impl<'a> Source for BitSlice<'a> {
+    ghost use Rattle.etcs_packets.specs.laws.Outcomes.{unframed};
+
+    ghost says = { λ s r. spelled r ≡ s };
+
+    ghost is_of = { λ s way nid dir. (r : Reading) × IsFramed way nid dir r × (spelled r ≡ s) };
+
+    ghost rowed = { λ s way nid dir none h. unframed way nid dir h.0 none h.1 };
+
+    #[inline(always)]
+    fn packet<P: Framed>(&self, alloc: Global, dir: u8) -> Made<P> {
+        P::from_bits(alloc, dir, self.all())
+    }
+}
 
 /// Says of a typed packet that its variables are its row's.
 pub fn hold<P: Framed>(packet: &P)
@@ -46,45 +108,35 @@ pub fn typed_nid<P: Packetlike>(_packet: &P) -> u8
     P::NID
 }
 
-/// The packet of a direction and these numbers of one type, if there is one; `packet` makes it.
+/// The packet of a direction and of what is after L_PACKET, of one type, if there is one; `packet` makes it.
+///
+/// # Errors
+///
+/// `AllocError` where there is no memory.
 #[inline(never)]
-pub(crate) fn packet_of_fields<P: Framed, F: FnOnce(P) -> Packet>(
+pub fn packet_of<Q: Formed, P: Framed, S: Source, F: FnOnce(P) -> Q>(
     alloc: Global,
     dir: u8,
-    fields: &[u64],
+    source: &S,
     packet: F,
-) -> Result<Option<Packet>, AllocError>
+) -> Made<Q>
     requires callable { F.IsAlwaysCallable packet }
-    requires value { Makes (F.post packet) P.is_value P.NID P.direction P.reading_of }
-    ensures made { IfOk result (λ o. IfSome o (λ p. IsMade p)) }
-    ensures some { IfOk result (λ o. IfSome o (λ p. IsTypedOf P.NID dir (packet_value p) × (numbers (variables_of (packet_value p)) ≡ fields.now))) }
-    ensures none { IfOk result (λ o. IsNone o → IsTyped P.WAY P.NID dir fields.now → ⊥) }
+    requires value { Makes Q.form (F.post packet) P.is_value P.NID P.direction P.reading_of }
+    ensures { (nid : ℕ) → nid ≡ P.NID → IfOk result (λ o. IsMadeOf Q.form (S.says source.now) (S.is_of source.now P.WAY nid dir) nid dir o) }
 {
-    match P::from_fields(alloc, dir, fields) {
+    match source.packet(alloc, dir) {
         Ok(Some(typed)) => Ok(Some(packet(typed))),
         Ok(None) => Ok(None),
         Err(error) => Err(error),
     }
 }
 
-/// The packet of a direction and these bits of one type, if there is one; `packet` makes it.
-#[inline(never)]
-pub(crate) fn packet_of_bits<P: Framed, F: FnOnce(P) -> Packet>(
-    alloc: Global,
-    dir: u8,
-    bits: &BitSlice<'_>,
-    packet: F,
-) -> Result<Option<Packet>, AllocError>
-    requires callable { F.IsAlwaysCallable packet }
-    requires value { Makes (F.post packet) P.is_value P.NID P.direction P.reading_of }
-    ensures made { IfOk result (λ o. IfSome o (λ p. IsMade p)) }
-    ensures some { IfOk result (λ o. IfSome o (λ p. IsTypedOf P.NID dir (packet_value p) × (spelled (variables_of (packet_value p)) ≡ bits.now))) }
-    ensures typed { IfOk result (λ o. IfSome o (λ p. (r : Reading) × (packet_value p ≡ typed P.NID dir r))) }
-    ensures none { IfOk result (λ o. IsNone o → (r : Reading) → IsFramed P.WAY P.NID dir r → spelled r ≡ bits.now → ⊥) }
+/// No packet, of a number without a row.
+pub fn none_of<Q: Formed, S: Source>(way: Way, nid: u8, source: &S) -> Made<Q>
+    requires { row_to way nid ≡ None }
+    ensures { (dir : ℕ) → IfOk result (λ o. IsMadeOf Q.form (S.says source.now) (S.is_of source.now way nid dir) nid dir o) }
 {
-    match P::from_bits(alloc, dir, bits.all()) {
-        Ok(Some(typed)) => Ok(Some(packet(typed))),
-        Ok(None) => Ok(None),
-        Err(error) => Err(error),
-    }
+    let _ = (way, nid);
+    let _ = source;
+    Ok(None)
 }

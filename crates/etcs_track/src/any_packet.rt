@@ -9,7 +9,7 @@ use crate::parts;
 use crate::train_other::TrainOther;
 use crate::train_packet::TrainPacket;
 use etcs_bits::{BitSlice, Bits};
-use etcs_packets::parts::{AnyPacket, WordSink, append_variables};
+use etcs_packets::parts::{AnyPacket, Made, WordSink, append_variables};
 use etcs_tables::Way;
 use etcs_vars::Var;
 use etcs_vars::parts::VarSink;
@@ -76,22 +76,12 @@ impl AnyPacket for TrainPacket {
         }
     }
 
-    fn of_fields(
-        alloc: Global,
-        nid: u8,
-        dir: u8,
-        fields: &[u64],
-    ) -> Result<Option<TrainPacket>, AllocError> {
+    fn of_fields(alloc: Global, nid: u8, dir: u8, fields: &[u64]) -> Made<TrainPacket> {
         parts::from_fields(alloc, nid, dir, fields)
     }
 
     #[inline(always)]
-    fn of_bits(
-        alloc: Global,
-        nid: u8,
-        dir: u8,
-        body: BitSlice<'_>,
-    ) -> Result<Option<TrainPacket>, AllocError> {
+    fn of_bits(alloc: Global, nid: u8, dir: u8, body: BitSlice<'_>) -> Made<TrainPacket> {
         parts::from_bits(alloc, nid, dir, body)
     }
 

@@ -4,6 +4,7 @@
 mod any_packet;
 mod asked;
 pub mod laws;
+mod list;
 mod located;
 pub mod parts;
 mod position_report;

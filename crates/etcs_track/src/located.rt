@@ -3,7 +3,7 @@
 ghost use Rattle.std.specs.Prelude.{◌≡◌, ◌≤◌, None, Some, IfOk, IfErr, IfSome, IfNone, OnOk, OnErr};
 ghost use Rattle.etcs_track.specs.Locations.{integrity_fault, integrity_reading, integrity_from, integrity_count, level_fault, level_reading, level_from, level_count};
 
-use etcs_bodies::{Numbers, Part, check, check_guard, taken};
+use etcs_bodies::{Numbers, Part, check, check_guard, send_run, take_run, taken};
 use etcs_vars::parts::{VarSink, Variables};
 use etcs_vars::{BuildFault, Var};
 use std::alloc::{AllocError, Global};
@@ -327,19 +327,10 @@ impl Variables for Located {
     }
 
     fn send<S: VarSink>(&self, out: &mut S) -> Result<(), AllocError> {
-        out.send(&[
-            (Var::D_LRBG, u64::from(self.d_lrbg)),
-            (Var::Q_DIRLRBG, u64::from(self.q_dirlrbg)),
-            (Var::Q_DLRBG, u64::from(self.q_dlrbg)),
-            (Var::L_DOUBTOVER, u64::from(self.l_doubtover)),
-            (Var::L_DOUBTUNDER, u64::from(self.l_doubtunder)),
-        ])?;
+        send_run!(self out d_lrbg: D_LRBG u16, q_dirlrbg: Q_DIRLRBG u8, q_dlrbg: Q_DLRBG u8,
+            l_doubtover: L_DOUBTOVER u16, l_doubtunder: L_DOUBTUNDER u16)?;
         send_integrity(self.q_length, self.l_trainint, out)?;
-        out.send(&[
-            (Var::V_TRAIN, u64::from(self.v_train)),
-            (Var::Q_DIRTRAIN, u64::from(self.q_dirtrain)),
-            (Var::M_MODE, u64::from(self.m_mode)),
-        ])?;
+        send_run!(self out v_train: V_TRAIN u8, q_dirtrain: Q_DIRTRAIN u8, m_mode: M_MODE u8)?;
         send_level(self.m_level, self.nid_ntc, out)
     }
 }
@@ -363,15 +354,10 @@ impl Part for Located {
 
     #[tactic(auto, unfolding(crate::specs::Locations::located_from))]
     fn take(_alloc: Global, numbers: &mut Numbers) -> Result<Option<Located>, AllocError> {
-        let d_lrbg = taken!(numbers.next(Var::D_LRBG)) as u16;
-        let q_dirlrbg = taken!(numbers.next(Var::Q_DIRLRBG)) as u8;
-        let q_dlrbg = taken!(numbers.next(Var::Q_DLRBG)) as u8;
-        let l_doubtover = taken!(numbers.next(Var::L_DOUBTOVER)) as u16;
-        let l_doubtunder = taken!(numbers.next(Var::L_DOUBTUNDER)) as u16;
+        take_run!(_alloc numbers d_lrbg: D_LRBG u16, q_dirlrbg: Q_DIRLRBG u8, q_dlrbg: Q_DLRBG u8);
+        take_run!(_alloc numbers l_doubtover: L_DOUBTOVER u16, l_doubtunder: L_DOUBTUNDER u16);
         let (q_length, l_trainint) = taken!(take_integrity(numbers));
-        let v_train = taken!(numbers.next(Var::V_TRAIN)) as u8;
-        let q_dirtrain = taken!(numbers.next(Var::Q_DIRTRAIN)) as u8;
-        let m_mode = taken!(numbers.next(Var::M_MODE)) as u8;
+        take_run!(_alloc numbers v_train: V_TRAIN u8, q_dirtrain: Q_DIRTRAIN u8, m_mode: M_MODE u8);
         let (m_level, nid_ntc) = taken!(take_level(numbers));
         Ok(Some(Located {
             d_lrbg,

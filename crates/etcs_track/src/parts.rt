@@ -5,44 +5,24 @@ ghost use Rattle.etcs_vars.specs.Reading.{Reading, numbers, spelled};
 ghost use Rattle.etcs_tables.specs.declared.row.Way.TheVariants.{ToTrack};
 ghost use Rattle.etcs_tables.specs.Typed.{IsTyped, IsFramed};
 ghost use Rattle.etcs_packets.specs.PacketValues.{typed, variables_of, IsTypedOf};
-ghost use Rattle.etcs_track.specs.TrackPackets.{track_value, IsTrackMade, IsTrackPacket};
+ghost use Rattle.etcs_packets.specs.Outcomes.{IsMadeOf};
+ghost use Rattle.etcs_track.specs.TrackPackets.{track_form, track_value, IsTrackMade, IsTrackPacket};
 
-use crate::position_report::PositionReport;
-use crate::position_report_two::PositionReportTwo;
-use crate::train_flat::TrainFlat;
+use crate::list::packets;
 use crate::train_packet::TrainPacket;
 use etcs_bits::BitSlice;
-use etcs_bodies::{Framed, Packetlike};
-use etcs_packets::parts::{hold, no_row};
+use etcs_packets::parts::{Made, Source, hold};
+use etcs_packets::{by_number, of_each};
 use etcs_tables::Way;
 use etcs_vars::parts::{VarSink, Variables};
 use std::alloc::{AllocError, Global};
-
-/// The packet of this variant, where there is one.
-macro_rules! packet {
-    ($variant:ident, $made:expr) => {
-        match $made {
-            Ok(Some(typed)) => Ok(Some(TrainPacket::$variant(typed))),
-            Ok(None) => Ok(None),
-            Err(error) => Err(error),
-        }
-    };
-}
 
 /// The packet is one that its own type admits, and stands for a packet.
 pub fn holds(packet: &TrainPacket)
     ensures made { IsTrackMade packet.now }
     ensures packet { IsTrackPacket (track_value packet.now) }
 {
-    match packet {
-        TrainPacket::Report(packet) => hold(packet),
-        TrainPacket::ReportTwo(packet) => hold(packet),
-        TrainPacket::Fault(packet) => hold(packet),
-        TrainPacket::RunningNumber(packet) => hold(packet),
-        TrainPacket::Other(packet) => {
-            packet.nid();
-        }
-    }
+    packets!(of_each, packet, packet => hold(packet), packet => { packet.nid(); })
 }
 
 /// Sends the variables after the frame, in order: of a packet that is kept as bits none. Takes no memory of its own.
@@ -54,13 +34,15 @@ pub fn send<S: VarSink>(packet: &TrainPacket, out: &mut S) -> Result<(), AllocEr
     ensures ok { OnOk result (out.new ≡ S.with out.old (variables_of (track_value packet.now))) }
     ensures err { OnErr result (S.failed out.old out.new) }
 {
-    match packet {
-        TrainPacket::Report(packet) => packet.send(out),
-        TrainPacket::ReportTwo(packet) => packet.send(out),
-        TrainPacket::Fault(packet) => packet.send(out),
-        TrainPacket::RunningNumber(packet) => packet.send(out),
-        TrainPacket::Other(_) => out.send(&[]),
-    }
+    packets!(of_each, packet, packet => packet.send(out), _ => out.send(&[]))
+}
+
+/// The typed packet of this number and direction with these numbers or bits after L_PACKET, if there is one.
+#[inline(always)]
+fn of_number<S: Source>(alloc: Global, nid: u8, dir: u8, source: &S) -> Made<TrainPacket>
+    ensures { IfOk result (λ o. IsMadeOf track_form (S.says source.now) (S.is_of source.now ToTrack nid dir) nid dir o) }
+{
+    packets!(by_number, Way::ToTrack, nid, alloc, dir, source)
 }
 
 /// The typed packet of this number with these numbers after L_PACKET, if there is one. There is none of a direction
@@ -79,22 +61,7 @@ pub fn from_fields(
     ensures some { IfOk result (λ o. IfSome o (λ p. IsTypedOf nid dir (track_value p) × (numbers (variables_of (track_value p)) ≡ fields.now))) }
     ensures none { IfOk result (λ o. IsNone o → IsTyped ToTrack nid dir fields.now → ⊥) }
 {
-    match nid {
-        0 => packet!(Report, PositionReport::from_fields(alloc, dir, fields)),
-        1 => packet!(
-            ReportTwo,
-            PositionReportTwo::from_fields(alloc, dir, fields)
-        ),
-        4 => packet!(Fault, TrainFlat::<4>::from_fields(alloc, dir, fields)),
-        5 => packet!(
-            RunningNumber,
-            TrainFlat::<5>::from_fields(alloc, dir, fields)
-        ),
-        _ => {
-            no_row(Way::ToTrack, nid);
-            Ok(None)
-        }
-    }
+    of_number(alloc, nid, dir, &fields)
 }
 
 /// The typed packet of this number with these bits after L_PACKET, if there is one. There is none of a direction but 0.
@@ -113,14 +80,5 @@ pub fn from_bits(
     ensures typed { IfOk result (λ o. IfSome o (λ p. (r : Reading) × (track_value p ≡ typed nid dir r))) }
     ensures none { IfOk result (λ o. IsNone o → (r : Reading) → IsFramed ToTrack nid dir r → spelled r ≡ bits.entry → ⊥) }
 {
-    match nid {
-        0 => packet!(Report, PositionReport::from_bits(alloc, dir, bits)),
-        1 => packet!(ReportTwo, PositionReportTwo::from_bits(alloc, dir, bits)),
-        4 => packet!(Fault, TrainFlat::<4>::from_bits(alloc, dir, bits)),
-        5 => packet!(RunningNumber, TrainFlat::<5>::from_bits(alloc, dir, bits)),
-        _ => {
-            no_row(Way::ToTrack, nid);
-            Ok(None)
-        }
-    }
+    of_number(alloc, nid, dir, &bits)
 }

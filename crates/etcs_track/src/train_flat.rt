@@ -12,7 +12,7 @@ ghost use Rattle.etcs_track.specs.laws.TrainFlats.{train_flat_codes};
 
 use arrayvec::ArrayVec;
 use etcs_bodies::{Body, Numbers};
-use etcs_flat::parts::{check_flat, send_table, table_bits, table_of, take_table};
+use etcs_flat::parts::{check_flat, few, send_table, table_bits, table_of, take_table};
 use etcs_tables::{RowItem, Way};
 use etcs_vars::BuildFault;
 use etcs_vars::parts::{VarSink, Variables};
@@ -61,10 +61,9 @@ impl<const NID: u8> TrainFlat<NID> {
         ensures fault { IfErr result (λ e. flat_fault_to ToTrack NID 0 numbers.now ≡ Some e) }
     {
         check_flat(Way::ToTrack, NID, 0, numbers)?;
-        let Ok(numbers) = ArrayVec::try_from(numbers) else {
-            unreachable!()
-        };
-        Ok(TrainFlat { numbers })
+        Ok(TrainFlat {
+            numbers: few(numbers),
+        })
     }
 
     /// Its numbers, in the order of the table of [`TrainFlat`].
@@ -83,16 +82,6 @@ impl<const NID: u8> TrainFlat<NID> {
         let _ = dir;
         let taken = take_table(table_of(Way::ToTrack, NID), numbers)?;
         Some(TrainFlat { numbers: taken })
-    }
-
-    /// An equal packet.
-    fn copied(&self) -> Self
-        ensures { result ≡ self.now }
-    {
-        let Ok(numbers) = ArrayVec::try_from(self.numbers.as_slice()) else {
-            unreachable!()
-        };
-        TrainFlat { numbers }
     }
 
     /// The table of its row.
@@ -162,6 +151,8 @@ where
     }
 
     fn copy(&self, _alloc: Global) -> Result<Self, AllocError> {
-        Ok(self.copied())
+        Ok(TrainFlat {
+            numbers: few(self.numbers.as_slice()),
+        })
     }
 }

@@ -4,12 +4,14 @@ ghost use Rattle.std.specs.Prelude.{◌≡◌, ◌≤◌, length, IfOk};
 ghost use Rattle.etcs_vars.specs.Reading.{spelled};
 ghost use Rattle.etcs_track.specs.TrackPackets.{track_value, track_bits_of};
 
+use crate::list::packets;
 use crate::position_report::PositionReport;
 use crate::position_report_two::PositionReportTwo;
 use crate::train_flat::TrainFlat;
 use crate::train_other::TrainOther;
 use etcs_bodies::Framed;
-use etcs_packets::parts::{typed_bits, typed_nid};
+use etcs_packets::parts::{Formed, typed_bits, typed_nid};
+use etcs_packets::{copied, of_each};
 use etcs_tables::{Way, frame_bits};
 use std::alloc::{AllocError, Global};
 
@@ -28,6 +30,12 @@ pub enum TrainPacket {
     Other(TrainOther),
 }
 
+impl Formed for TrainPacket {
+    ghost use Rattle.etcs_track.specs.TrackPackets.{track_form};
+
+    ghost form = { track_form };
+}
+
 impl TrainPacket {
     ghost use Rattle.std.specs.Prelude.{◌≡◌, ◌≤◌, IfOk};
     ghost use Rattle.etcs_packets.specs.PacketValues.{nid_of};
@@ -37,13 +45,7 @@ impl TrainPacket {
     pub fn nid(&self) -> u8
         ensures { result ≡ nid_of (track_value self.now) }
     {
-        match self {
-            TrainPacket::Report(packet) => typed_nid(packet),
-            TrainPacket::ReportTwo(packet) => typed_nid(packet),
-            TrainPacket::Fault(packet) => typed_nid(packet),
-            TrainPacket::RunningNumber(packet) => typed_nid(packet),
-            TrainPacket::Other(packet) => packet.nid(),
-        }
+        packets!(of_each, self, packet => typed_nid(packet), packet => packet.nid())
     }
 
     /// How many bits the packet takes, its frame of 21 bits among them: at most 8,191.
@@ -63,15 +65,7 @@ impl TrainPacket {
     pub fn try_clone(&self, alloc: Global) -> Result<TrainPacket, AllocError>
         ensures { IfOk result (λ p. p ≡ self.now) }
     {
-        Ok(match self {
-            TrainPacket::Report(packet) => TrainPacket::Report(*packet),
-            TrainPacket::ReportTwo(packet) => TrainPacket::ReportTwo(*packet),
-            TrainPacket::Fault(packet) => TrainPacket::Fault(packet.try_clone(alloc)?),
-            TrainPacket::RunningNumber(packet) => {
-                TrainPacket::RunningNumber(packet.try_clone(alloc)?)
-            }
-            TrainPacket::Other(packet) => TrainPacket::Other(packet.try_clone(alloc)?),
-        })
+        Ok(packets!(copied, self, alloc))
     }
 }
 
@@ -80,11 +74,5 @@ fn bits_in(packet: &TrainPacket) -> usize
     ensures bits { result ≡ track_bits_of (track_value packet.now) }
     ensures small { result ≤ 8191 }
 {
-    match packet {
-        TrainPacket::Report(packet) => typed_bits(packet),
-        TrainPacket::ReportTwo(packet) => typed_bits(packet),
-        TrainPacket::Fault(packet) => typed_bits(packet),
-        TrainPacket::RunningNumber(packet) => typed_bits(packet),
-        TrainPacket::Other(packet) => frame_bits(Way::ToTrack) + packet.bits(),
-    }
+    packets!(of_each, packet, packet => typed_bits(packet), packet => frame_bits(Way::ToTrack) + packet.bits())
 }

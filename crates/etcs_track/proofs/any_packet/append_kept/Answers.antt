@@ -1,23 +1,17 @@
-use Rattle.std.proofs.Common.{◌≡◌, [], ◌∷◌, ◌++◌, true, false, Bool, List, refl, sym, ap, ◌∙◌}
-use Rattle.etcs_bits.specs.Bits.{num}
+use Rattle.std.proofs.Common.{◌≡◌, [], ◌∷◌, ◌++◌, Bool, List, sym, ap, ◌∙◌}
 use Rattle.etcs_vars.specs.declared.var.Var.TheVariants.{NID_PACKET, L_PACKET, OTHER_DATA}
 use Rattle.etcs_vars.specs.Reading.{Reading, spelled, kept}
 use Rattle.etcs_packets.specs.declared.word_sink.WordSink.{WordSink}
 use Rattle.etcs_packets.specs.WordSinks.{and_bits}
 use Rattle.etcs_packets.specs.laws.WordSinks.{spelled_both}
+use Rattle.etcs_packets.proofs.PacketBits.{spelled_kept}
 use Rattle.etcs_track.proofs.any_packet.append_kept.Goals as goal
-
-kept_bits : (b : List Bool) → spelled (kept OTHER_DATA b) ≡ b
-unfolding num
-kept_bits [] = refl
-kept_bits (true ∷ b) = ap (λ (l : List Bool). true ∷ l) (kept_bits b)
-kept_bits (false ∷ b) = ap (λ (l : List Bool). false ∷ l) (kept_bits b)
 
 after_front : (s one two : WordSink) (front : Reading) (b : List Bool) → one ≡ and_bits s (spelled front) → two ≡ and_bits one b → two ≡ and_bits s (spelled (front ++ kept OTHER_DATA b))
 after_front s one two front b e f =
     f
     ∙ ap (λ (o : WordSink). and_bits o b) e
-    ∙ ap (and_bits (and_bits s (spelled front))) (sym (kept_bits b))
+    ∙ ap (and_bits (and_bits s (spelled front))) (sym (spelled_kept b))
     ∙ sym (spelled_both s front (kept OTHER_DATA b))
 
 pub returns : goal.returns

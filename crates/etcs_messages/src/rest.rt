@@ -196,7 +196,7 @@ impl<H: Head, B: Own<Front = H>> MessageRest<H, B> {
         requires within { length slice.now ≤ left }
         ensures ok { OnOk result (Follows H.Packet.WAY self.old.nid self.old.phase self.old.front.items self.old.packets.left self.old.padding (H.Store.holds self.old.packets.store) (kept OTHER_DATA slice.now) self.new.nid self.new.phase self.new.front.items self.new.packets.left self.new.padding (H.Store.holds self.new.packets.store)) }
         ensures goes { OnOk result (Goes (left_at H.Packet.WAY self.new.nid self.new.phase self.new.packets.left)) }
-        ensures err { OnErr result H.Store.fails }
+        ensures err { OnErr result (H.Store.fails × IsTrue (may_ask self.old.phase self.old.packets.left)) }
     {
         let packets = &mut self.packets;
         match packets.store.bits(slice) {
@@ -216,27 +216,30 @@ impl<H: Head, B: Own<Front = H>> MessageRest<H, B> {
         requires phase { self.old.phase ≡ Phase.Data left }
         requires small { number < 2 }
         ensures ok { OnOk result (Follows H.Packet.WAY self.old.nid self.old.phase self.old.front.items self.old.packets.left self.old.padding (H.Store.holds self.old.packets.store) ((OTHER_DATA, number) ∷ []) self.new.nid self.new.phase self.new.front.items self.new.packets.left self.new.padding (H.Store.holds self.new.packets.store)) }
-        ensures err { OnErr result H.Store.fails }
+        ensures err { OnErr result (H.Store.fails × IsTrue (may_ask self.old.phase self.old.packets.left)) }
     {
         let byte = [number as u8];
-        match self.keep(left, &bits_at(&byte, 7, 1)) {
-            Ok(()) => Ok(()),
-            Err(error) => Err(error),
-        }
+        self.keep(left, &bits_at(&byte, 7, 1))
     }
 
     /// Takes a run of bits of a message that is kept, of which `left` are wanted, and says how many it was.
-    fn leap_data(&mut self, left: usize, piece: &[u8], at: usize) -> Result<usize, AllocError>
+    fn leap_data(
+        &mut self,
+        left: usize,
+        piece: &[u8],
+        at: usize,
+    ) -> Result<Option<usize>, AllocError>
         requires phase { self.old.phase ≡ Phase.Data left }
         requires inside { at < length (bits piece.now) }
         requires small { length (bits piece.now) < 2 ^ 64 }
-        ensures ok { IfOk result (λ n. LeapsBy (left_at H.Packet.WAY self.new.nid self.new.phase self.new.packets.left) (λ p. Follows H.Packet.WAY self.old.nid self.old.phase self.old.front.items self.old.packets.left self.old.padding (H.Store.holds self.old.packets.store) p self.new.nid self.new.phase self.new.front.items self.new.packets.left self.new.padding (H.Store.holds self.new.packets.store)) (bits piece.now) at n) }
-        ensures err { OnErr result H.Store.fails }
+        ensures none { IfOk result (λ o. IsNone o → self.new ≡ self.old) }
+        ensures some { IfOk result (λ o. IfSome o (λ n. LeapsBy (left_at H.Packet.WAY self.new.nid self.new.phase self.new.packets.left) (λ p. Follows H.Packet.WAY self.old.nid self.old.phase self.old.front.items self.old.packets.left self.old.padding (H.Store.holds self.old.packets.store) p self.new.nid self.new.phase self.new.front.items self.new.packets.left self.new.padding (H.Store.holds self.new.packets.store)) (bits piece.now) at n)) }
+        ensures err { OnErr result (H.Store.fails × IsTrue (may_ask self.old.phase self.old.packets.left)) }
         ensures viable { OnErr result (Viable (left_at H.Packet.WAY self.old.nid self.old.phase self.old.packets.left) (part at 1 (bits piece.now))) }
     {
         let count = left.min(piece.len() * 8 - at);
         match self.keep(left, &bits_at(piece, at, count)) {
-            Ok(()) => Ok(count),
+            Ok(()) => Ok(Some(count)),
             Err(error) => Err(error),
         }
     }
@@ -316,18 +319,12 @@ impl<H: Head, B: Own<Front = H>> Rest for MessageRest<H, B> {
                 self.pass_front(at, number);
                 Ok(())
             }
-            Phase::Packets => match self.pass_packets(var, number) {
-                Ok(()) => Ok(()),
-                Err(error) => Err(error),
-            },
+            Phase::Packets => self.pass_packets(var, number),
             Phase::Padding(left) => {
                 self.pad(left, 1, number);
                 Ok(())
             }
-            Phase::Data(left) => match self.pass_data(left, number) {
-                Ok(()) => Ok(()),
-                Err(error) => Err(error),
-            },
+            Phase::Data(left) => self.pass_data(left, number),
             Phase::Whole => unreachable!(),
         }
     }
@@ -335,15 +332,9 @@ impl<H: Head, B: Own<Front = H>> Rest for MessageRest<H, B> {
     #[inline]
     fn leap(&mut self, piece: &[u8], at: usize) -> Result<Option<usize>, AllocError> {
         match self.phase {
-            Phase::Packets => match self.leap_packets(piece, at) {
-                Ok(taken) => Ok(taken),
-                Err(error) => Err(error),
-            },
+            Phase::Packets => self.leap_packets(piece, at),
             Phase::Padding(left) => Ok(Some(self.leap_padding(left, piece, at))),
-            Phase::Data(left) => match self.leap_data(left, piece, at) {
-                Ok(count) => Ok(Some(count)),
-                Err(error) => Err(error),
-            },
+            Phase::Data(left) => self.leap_data(left, piece, at),
             _ => Ok(None),
         }
     }

@@ -58,10 +58,7 @@ fn absorb_numbers<S: PacketStore>(store: &mut S, numbers: &[u64]) -> Result<(), 
     ensures err { OnErr result S.fails }
 {
     for number in numbers {
-        match store.number(*number) {
-            Ok(()) => {}
-            Err(error) => return Err(error),
-        }
+        store.number(*number)?;
     }
     Ok(())
 }
@@ -206,7 +203,7 @@ impl<S: PacketStore> PacketsRest<S> {
         requires goes { Goes (left_of self.old.left.carrier self.old.left.room self.old.left.stage) }
         ensures none { IfOk result (λ o. IsNone o → self.new ≡ self.old) }
         ensures some { IfOk result (λ o. IfSome o (λ n. LeapsBy (left_of self.new.left.carrier self.new.left.room self.new.left.stage) (λ p. Moved self.old.left.carrier self.old.left.room self.old.left.stage p self.new.left.carrier self.new.left.room self.new.left.stage × ((q : Reading) → HoldsAt self.old.left.carrier self.old.left.stage (S.holds self.old.store) q → HoldsAt self.new.left.carrier self.new.left.stage (S.holds self.new.store) (q ++ p))) (bits piece.now) at n)) }
-        ensures err { OnErr result S.fails }
+        ensures err { OnErr result (S.fails × IsTrue (may_grow self.old.left.stage)) }
         ensures viable { OnErr result (Viable (left_of self.old.left.carrier self.old.left.room self.old.left.stage) (part at 1 (bits piece.now))) }
     {
         let Stage::Row(_, _, row) = &self.left.stage else {
@@ -246,8 +243,9 @@ impl<S: PacketStore> PacketsRest<S> {
         requires inside { at < length (bits piece.now) }
         requires small { length (bits piece.now) < 2 ^ 64 }
         requires goes { Goes (left_of self.old.left.carrier self.old.left.room self.old.left.stage) }
-        ensures some { IfOk result (λ o. (n : ℕ) × ((o ≡ Some n) × LeapsBy (left_of self.new.left.carrier self.new.left.room self.new.left.stage) (λ p. Moved self.old.left.carrier self.old.left.room self.old.left.stage p self.new.left.carrier self.new.left.room self.new.left.stage × ((q : Reading) → HoldsAt self.old.left.carrier self.old.left.stage (S.holds self.old.store) q → HoldsAt self.new.left.carrier self.new.left.stage (S.holds self.new.store) (q ++ p))) (bits piece.now) at n)) }
-        ensures err { OnErr result S.fails }
+        ensures none { IfOk result (λ o. IsNone o → self.new ≡ self.old) }
+        ensures some { IfOk result (λ o. IfSome o (λ n. LeapsBy (left_of self.new.left.carrier self.new.left.room self.new.left.stage) (λ p. Moved self.old.left.carrier self.old.left.room self.old.left.stage p self.new.left.carrier self.new.left.room self.new.left.stage × ((q : Reading) → HoldsAt self.old.left.carrier self.old.left.stage (S.holds self.old.store) q → HoldsAt self.new.left.carrier self.new.left.stage (S.holds self.new.store) (q ++ p))) (bits piece.now) at n)) }
+        ensures err { OnErr result (S.fails × IsTrue (may_grow self.old.left.stage)) }
         ensures viable { OnErr result (Viable (left_of self.old.left.carrier self.old.left.room self.old.left.stage) (part at 1 (bits piece.now))) }
     {
         let count = left.min(piece.len() * 8 - at);
@@ -313,17 +311,11 @@ impl<S: PacketStore> Rest for PacketsRest<S> {
             Stage::Number => self.leap_number(piece, at),
             Stage::Kept(nid, dir, left) => {
                 let (nid, dir, left) = (*nid, *dir, *left);
-                match self.leap_kept(nid, dir, left, piece, at) {
-                    Ok(taken) => Ok(taken),
-                    Err(error) => Err(error),
-                }
+                self.leap_kept(nid, dir, left, piece, at)
             }
             Stage::Row(nid, dir, _) => {
                 let (nid, dir) = (*nid, *dir);
-                match self.leap_row(nid, dir, piece, at) {
-                    Ok(taken) => Ok(taken),
-                    Err(error) => Err(error),
-                }
+                self.leap_row(nid, dir, piece, at)
             }
             _ => Ok(None),
         }

@@ -119,43 +119,6 @@ fn take_marker<S: PacketStore>(store: &mut S, room: usize, word: u64) -> Option<
     }
 }
 
-/// Takes the packet with a frame that begins at `at`, where it lies whole in the room, and says how many bits it has.
-/// `None` says nothing.
-#[inline(always)]
-fn take_framed<S: PacketStore>(
-    store: &mut S,
-    carrier: Carrier,
-    room: usize,
-    piece: &[u8],
-    at: usize,
-    word: u64,
-) -> Option<usize>
-    requires way { way_of carrier ≡ S.WAY }
-    requires inside { at + room ≤ length (bits piece.now) }
-    requires small { length (bits piece.now) < 2 ^ 64 }
-    requires room { room ≤ 8191 }
-    requires word { AreNext word (bits piece.now) at }
-    requires held { ∥ ((vs : List PacketValue) × S.holds store.old vs [] []) ∥₁ }
-    ensures within { IfSome result (λ n. (0 < n) × (n ≤ room)) }
-    ensures whole { IfSome result (λ n. WholeAt carrier (S.holds store.old) (S.holds store.new) (bits piece.now) at n) }
-{
-    let way = carrier.way();
-    let Frame { nid, dir, len } = frame_in(way, word);
-    let front = frame_bits(way);
-    if len < front || len > room {
-        return None;
-    }
-    let body = bits_at(piece, at + front, len - front);
-    match store.whole(nid, dir, body.all()) {
-        Ok(true) => Some(len),
-        Ok(false) => {
-            keep_packet(store, way, nid, dir, &body)?;
-            Some(len)
-        }
-        Err(_) => None,
-    }
-}
-
 /// Takes the packet that begins at `at`, where it lies whole in the room, and says how many bits it has. The word has its
 /// first bits. `None` says nothing.
 #[inline(always)]
@@ -177,8 +140,23 @@ fn take_packet<S: PacketStore>(
     ensures whole { IfSome result (λ n. WholeAt carrier (S.holds store.old) (S.holds store.new) (bits piece.now) at n) }
 {
     match carrier {
-        Carrier::Telegram if word >> 56 == 0 => take_marker(store, room, word),
-        _ => take_framed(store, carrier, room, piece, at, word),
+        Carrier::Telegram if word >> 56 == 0 => return take_marker(store, room, word),
+        _ => {}
+    }
+    let way = carrier.way();
+    let Frame { nid, dir, len } = frame_in(way, word);
+    let front = frame_bits(way);
+    if len < front || len > room {
+        return None;
+    }
+    let body = bits_at(piece, at + front, len - front);
+    match store.whole(nid, dir, body.all()) {
+        Ok(true) => Some(len),
+        Ok(false) => {
+            keep_packet(store, way, nid, dir, &body)?;
+            Some(len)
+        }
+        Err(_) => None,
     }
 }
 

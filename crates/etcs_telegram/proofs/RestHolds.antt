@@ -26,7 +26,7 @@ use Rattle.etcs_telegram.specs.declared.size.Size.{Size}
 use Rattle.etcs_telegram.specs.declared.phase.Phase.{Phase}
 use Rattle.etcs_telegram.specs.declared.phase.Phase.TheVariants.{Header, Packets, Fill, Pad, Whole}
 use Rattle.etcs_telegram.specs.Telegrams.{header_row, pad_bits, closed_reading}
-use Rattle.etcs_telegram.specs.Phases.{after, after_fill}
+use Rattle.etcs_telegram.specs.Phases.{after_header, after_pad, after_fill}
 use Rattle.etcs_telegram.specs.Lefts.{PacketsBehind, left_at, next_at, is_open, stands_at, behind_packets, FillFits, Filled, HoldsIn, Follows}
 use Rattle.etcs_telegram.proofs.PhaseSteps.{by_test, below_false, below_true}
 use Rattle.etcs_telegram.proofs.RestSteps.{header_behind, packets_behind, fill_behind, pad_behind, header_parts, packets_parts}
@@ -34,7 +34,7 @@ use Rattle.etcs_telegram.proofs.RestSteps.{header_behind, packets_behind, fill_b
 -- ---- The header.
 
 header_held : (size : Size) (at : ℕ) (header : List ℕ) (l : PacketsState) (holds : List PacketValue → List ℕ → List Bool → Type 0) (x : Var) (n : ℕ) (q : Reading)
-    → length header ≡ at → next_at (Header at) l ≡ Some x → HoldsIn size (Header at) header l holds q → HoldsIn size (after size (Header at)) (header ++ n ∷ []) l holds (q ++ (x, n) ∷ [])
+    → length header ≡ at → next_at (Header at) l ≡ Some x → HoldsIn size (Header at) header l holds q → HoldsIn size (after_header at) (header ++ n ∷ []) l holds (q ++ (x, n) ∷ [])
 header_held size at header l holds x n q len e (is, none) =
     let e' : first_of (drop (length header) header_row) ≡ Some x = rw len e in
     let all : q ++ (x, n) ∷ [] ≡ labelled header_row (header ++ n ∷ []) = ap (λ (t : Reading). t ++ (x, n) ∷ []) is ∙ sym (labelled_more header_row header x n e') in
@@ -149,7 +149,7 @@ padded_more header holds room zeros q f =
     ∙ ap (λ (x : Reading). h ++ x) (append_assoc p (k ++ z) one ∙ ap (λ (x : Reading). p ++ x) (append_assoc k z one ∙ ap (λ (x : Reading). k ++ x) (sym (zeros_more zeros)))) in
     record { ten = f.ten; packets = f.packets; fill = f.fill; held = f.held; carried = f.carried; room_is = f.room_is; reading_is = all }
 
-pad_held : (size : Size) (left : ℕ) (header : List ℕ) (l : PacketsState) (holds : List PacketValue → List ℕ → List Bool → Type 0) (q : Reading) → 0 < left → HoldsIn size (Pad left) header l holds q → HoldsIn size (after size (Pad left)) header l holds (q ++ (PAD, 0) ∷ [])
+pad_held : (size : Size) (left : ℕ) (header : List ℕ) (l : PacketsState) (holds : List PacketValue → List ℕ → List Bool → Type 0) (q : Reading) → 0 < left → HoldsIn size (Pad left) header l holds q → HoldsIn size (after_pad left) header l holds (q ++ (PAD, 0) ∷ [])
 pad_held size left header l holds q pos (zeros, n, h) =
     let more = padded_more header holds l.room zeros q h in
     by_test (ltb 1 left) (λ x. HoldsIn size x header l holds (q ++ (PAD, 0) ∷ [])) (Pad (left - 1)) Whole
@@ -159,13 +159,13 @@ pad_held size left header l holds q pos (zeros, n, h) =
 -- ---- From one to the next.
 
 pub header_follows : (size : Size) (phase phase' : Phase) (at : ℕ) (header : List ℕ) (l : PacketsState) (holds : List PacketValue → List ℕ → List Bool → Type 0) (x : Var) (n : ℕ)
-    → phase ≡ Header at → phase' ≡ after size (Header at) → IsTrue (stands_at phase (length header) l) → next_at phase l ≡ Some x → Starts (left_at size phase l) x 0 n
+    → phase ≡ Header at → phase' ≡ after_header at → IsTrue (stands_at phase (length header) l) → next_at phase l ≡ Some x → Starts (left_at size phase l) x 0 n
     → Follows size phase header l holds ((x, n) ∷ []) size phase' (header ++ n ∷ []) l holds
 header_follows size phase phase' at header l holds x n e e' h next goes =
     let parts = header_parts phase at (length header) l e h in
     let next' : next_at (Header at) l ≡ Some x = subst (λ (p : Phase). next_at p l ≡ Some x) e next in
     let goes' : Starts (left_at size (Header at) l) x 0 n = subst (λ (p : Phase). Starts (left_at size p l) x 0 n) e goes in
-    let all : Follows size (Header at) header l holds ((x, n) ∷ []) size (after size (Header at)) (header ++ n ∷ []) l holds = record {
+    let all : Follows size (Header at) header l holds ((x, n) ∷ []) size (after_header at) (header ++ n ∷ []) l holds = record {
       same = refl;
       residual = header_behind size at l x n parts.0 next' goes';
       held = λ q k. header_held size at header l holds x n q parts.1 next' k;
@@ -198,9 +198,9 @@ fill_follows size phase phase' left header l holds holds' t e e' le more =
     (subst (λ (x : Phase). Follows size (Fill left) header l holds (kept FILL t) size x header l holds') (sym e') all)
 
 pub pad_follows : (size : Size) (phase phase' : Phase) (left : ℕ) (header : List ℕ) (l : PacketsState) (holds : List PacketValue → List ℕ → List Bool → Type 0)
-    → phase ≡ Pad left → phase' ≡ after size (Pad left) → 0 < left → Follows size phase header l holds ((PAD, 0) ∷ []) size phase' header l holds
+    → phase ≡ Pad left → phase' ≡ after_pad left → 0 < left → Follows size phase header l holds ((PAD, 0) ∷ []) size phase' header l holds
 pad_follows size phase phase' left header l holds e e' pos =
-    let all : Follows size (Pad left) header l holds ((PAD, 0) ∷ []) size (after size (Pad left)) header l holds = record {
+    let all : Follows size (Pad left) header l holds ((PAD, 0) ∷ []) size (after_pad left) header l holds = record {
       same = refl;
       residual = pad_behind size left l pos;
       held = λ q h. pad_held size left header l holds q pos h;
@@ -220,7 +220,7 @@ pub fits_behind : (size : Size) (phase phase' : Phase) (left : ℕ) (holds holds
 fits_behind size phase phase' left holds holds' t e e' le more h =
     subst (λ (x : Phase). FillFits x holds') (sym e') (fill_fits size left holds holds' t le more (subst (λ (x : Phase). FillFits x holds) e h))
 
-pub pad_fits : (size : Size) (phase' : Phase) (left : ℕ) (holds : List PacketValue → List ℕ → List Bool → Type 0) → phase' ≡ after size (Pad left) → FillFits phase' holds
+pub pad_fits : (size : Size) (phase' : Phase) (left : ℕ) (holds : List PacketValue → List ℕ → List Bool → Type 0) → phase' ≡ after_pad left → FillFits phase' holds
 pad_fits size phase' left holds e = rw e (by_test (ltb 1 left) (λ x. FillFits x holds) (Pad (left - 1)) Whole (λ _. tt) (λ _. tt))
 
 -- ---- All of the header, and all of PAD.

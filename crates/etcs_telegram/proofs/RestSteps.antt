@@ -27,7 +27,7 @@ use Rattle.etcs_telegram.specs.declared.size.Size.TheVariants.{Short, Long}
 use Rattle.etcs_telegram.specs.declared.phase.Phase.{Phase}
 use Rattle.etcs_telegram.specs.declared.phase.Phase.TheVariants.{Header, Packets, Fill, Pad, Whole}
 use Rattle.etcs_telegram.specs.Telegrams.{header_row, pad_bits}
-use Rattle.etcs_telegram.specs.Phases.{var_at, after, after_fill, PadLeft, FillLeft}
+use Rattle.etcs_telegram.specs.Phases.{header_var, after_header, after_pad, after_fill, PadLeft, FillLeft}
 use Rattle.etcs_sequence.specs.ChainLaws.{Chain}
 use Rattle.etcs_sequence.specs.laws.ChainLaws.{chain_viable}
 use Rattle.etcs_sequence.proofs.ChainLaws.{chain_along, chain_none}
@@ -46,17 +46,17 @@ header_parts phase at m l e h =
 pub header_tested : (size : Size) (at : ℕ) (l : PacketsState) (x : Var) (rest bits : ℕ) → next_at (Header at) l ≡ Some x → rest < width x → bits < 2 ^ (width x - rest) → Goes (left_at size (Header at) l) → IsTrue (begins (ranges x) rest bits) ↔ Starts (left_at size (Header at) l) x rest bits
 header_tested size at l x rest bits e lt fits g = front_tested (PacketsBehind size l) (drop at header_row) x rest bits e lt fits g
 
-after_header : (size : Size) (at : ℕ) (l : PacketsState) → at < 10 → Same (Chain (ReadsFields (drop (suc at) header_row)) (λ _. PacketsBehind size l)) (left_at size (after size (Header at)) l)
-after_header size at l h =
+header_after : (size : Size) (at : ℕ) (l : PacketsState) → at < 10 → Same (Chain (ReadsFields (drop (suc at) header_row)) (λ _. PacketsBehind size l)) (left_at size (after_header at) l)
+header_after size at l h =
     by_test (ltb at 9) (λ x. Same (Chain (ReadsFields (drop (suc at) header_row)) (λ _. PacketsBehind size l)) (left_at size x l)) (Header (at + 1)) Packets
     (λ _. let e : at + 1 ≡ suc at = omega arith in rw e (same_self (Chain (ReadsFields (drop (suc at) header_row)) (λ _. PacketsBehind size l))))
     (λ t. let e : at ≡ 9 = (let b = below_false at 9 t in omega arith) in rw e (chain_none (λ _. PacketsBehind size l)))
 
-pub header_behind : (size : Size) (at : ℕ) (l : PacketsState) (x : Var) (number : ℕ) → at < 10 → next_at (Header at) l ≡ Some x → Starts (left_at size (Header at) l) x 0 number → Residual (left_at size (Header at) l) ((x, number) ∷ []) (left_at size (after size (Header at)) l)
+pub header_behind : (size : Size) (at : ℕ) (l : PacketsState) (x : Var) (number : ℕ) → at < 10 → next_at (Header at) l ≡ Some x → Starts (left_at size (Header at) l) x 0 number → Residual (left_at size (Header at) l) ((x, number) ∷ []) (left_at size (after_header at) l)
 header_behind size at l x number h e s =
-    residual_same (left_at size (Header at) l) ((x, number) ∷ []) (Then (ReadsFields (drop (suc at) header_row)) (PacketsBehind size l)) (left_at size (after size (Header at)) l) (front_behind (PacketsBehind size l) header_row at x number h e s) (after_header size at l h)
+    residual_same (left_at size (Header at) l) ((x, number) ∷ []) (Then (ReadsFields (drop (suc at) header_row)) (PacketsBehind size l)) (left_at size (after_header at) l) (front_behind (PacketsBehind size l) header_row at x number h e s) (header_after size at l h)
 
-pub var_header : (phase : Phase) (at m : ℕ) (l : PacketsState) → phase ≡ Header at → IsTrue (stands_at phase m l) → Some (var_at phase) ≡ next_at phase l
+pub var_header : (phase : Phase) (at m : ℕ) (l : PacketsState) → phase ≡ Header at → IsTrue (stands_at phase m l) → Some (header_var at) ≡ next_at phase l
 var_header phase at m l e h =
     let row : drop at header_row ≡ get_or header_row at PAD ∷ drop (suc at) header_row = drop-cons header_row at PAD (header_parts phase at m l e h).0 in
     rw e (rw row refl)
@@ -127,20 +127,20 @@ pad_starts (suc left) number pos = (
   λ (n, r, h, e). (let one : n / 2 ^ 0 ≡ n = omega arith in sym e ∙ one ∙ pad_number (suc left) n r h),
 )
 
-after_pad : (size : Size) (k : ℕ) (l : PacketsState) → Same (PadLeft k) (left_at size (after size (Pad (suc k))) l)
-after_pad size k l =
+pad_after : (size : Size) (k : ℕ) (l : PacketsState) → Same (PadLeft k) (left_at size (after_pad (suc k)) l)
+pad_after size k l =
     by_test (ltb 1 (suc k)) (λ x. Same (PadLeft k) (left_at size x l)) (Pad (suc k - 1)) Whole
     (λ _. let e : suc k - 1 ≡ k = omega arith in rw e (same_self (PadLeft k)))
     (λ t. let e : k ≡ 0 = (let b = below_false 1 (suc k) t in omega arith) in rw e (same_self (PadLeft 0)))
 
-pub pad_behind : (size : Size) (left : ℕ) (l : PacketsState) → 0 < left → Residual (PadLeft left) ((PAD, 0) ∷ []) (left_at size (after size (Pad left)) l)
+pub pad_behind : (size : Size) (left : ℕ) (l : PacketsState) → 0 < left → Residual (PadLeft left) ((PAD, 0) ∷ []) (left_at size (after_pad left) l)
 pad_behind size zero l pos = absurd (omega arith)
 pad_behind size (suc k) l pos =
     let one : Residual (PadLeft (suc k)) ((PAD, 0) ∷ []) (PadLeft k) = record {
       to = λ q e. (let t : q ≡ kept PAD (replicate k false) = cc in t);
       from = λ q e. (let t : ◌≡◌ {A = Reading} ((PAD, 0) ∷ q) ((PAD, 0) ∷ kept PAD (replicate k false)) = cc in t);
     } in
-    residual_same (PadLeft (suc k)) ((PAD, 0) ∷ []) (PadLeft k) (left_at size (after size (Pad (suc k))) l) one (after_pad size k l)
+    residual_same (PadLeft (suc k)) ((PAD, 0) ∷ []) (PadLeft k) (left_at size (after_pad (suc k)) l) one (pad_after size k l)
 
 -- ---- What holds.
 
@@ -181,7 +181,7 @@ packets_stands size phase phase' m l l' p e e' h moved =
     let parts = packets_parts phase m l e h in
     rw e' (packets_stand size m l' parts.0 (moved.same ∙ parts.1))
 
-pub pad_stands : (size : Size) (phase phase' : Phase) (left m : ℕ) (l : PacketsState) → phase' ≡ after size (Pad left) → IsTrue (stands_at phase' m l)
+pub pad_stands : (size : Size) (phase phase' : Phase) (left m : ℕ) (l : PacketsState) → phase' ≡ after_pad left → IsTrue (stands_at phase' m l)
 pad_stands size phase phase' left m l e =
     rw e
     (by_test (ltb 1 left) (λ x. IsTrue (stands_at x m l)) (Pad (left - 1)) Whole

@@ -1,6 +1,7 @@
 //! What is left of a telegram.
 
 ghost use Rattle.std.specs.Prelude.{◌≡◌};
+ghost use Rattle.etcs_telegram.specs.Phases.{header_var};
 
 use crate::parts::HEADER;
 use crate::size::Size;
@@ -22,46 +23,16 @@ pub(crate) enum Phase {
 }
 
 impl Phase {
-    ghost use Rattle.etcs_telegram.specs.Phases.{var_at, after, after_fill, IsPhase};
+    ghost use Rattle.etcs_telegram.specs.Phases.{after_header, after_fill};
 
-    /// The variable that comes next.
-    pub(crate) fn var(self) -> Var
-        ensures { result ≡ var_at self }
+    /// What comes after the variable at this place of the header.
+    pub(crate) fn after_header(at: usize) -> Phase
+        ensures { result ≡ after_header at }
     {
-        match self {
-            Phase::Header(at) => match HEADER.get(at) {
-                Some(var) => *var,
-                None => Var::PAD,
-            },
-            Phase::Packets => Var::NID_PACKET,
-            Phase::Fill(_) => Var::FILL,
-            Phase::Pad(_) | Phase::Whole => Var::PAD,
-        }
-    }
-
-    /// What comes after the variable that comes next; packets aside.
-    pub(crate) fn after(self, size: Size) -> Phase
-        requires { IsPhase size self }
-        ensures { result ≡ after size self }
-    {
-        match self {
-            Phase::Header(at) => {
-                if at < 9 {
-                    Phase::Header(at + 1)
-                } else {
-                    Phase::Packets
-                }
-            }
-            Phase::Packets => Phase::Packets,
-            Phase::Fill(left) => Phase::after_fill(size, left, 1),
-            Phase::Pad(left) => {
-                if left > 1 {
-                    Phase::Pad(left - 1)
-                } else {
-                    Phase::Whole
-                }
-            }
-            Phase::Whole => Phase::Whole,
+        if at < 9 {
+            Phase::Header(at + 1)
+        } else {
+            Phase::Packets
         }
     }
 
@@ -74,5 +45,15 @@ impl Phase {
         } else {
             Phase::Pad(size.pad_bits())
         }
+    }
+}
+
+/// The variable at this place of the header.
+pub(crate) fn header_var(at: usize) -> Var
+    ensures { result ≡ header_var at }
+{
+    match HEADER.get(at) {
+        Some(var) => *var,
+        None => Var::PAD,
     }
 }

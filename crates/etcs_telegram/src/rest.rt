@@ -10,12 +10,12 @@ ghost use Rattle.etcs_tables.specs.declared.row.Way.TheVariants.{ToTrain};
 ghost use Rattle.etcs_reader.specs.Rests.{Goes, Starts, LeapsBy};
 ghost use Rattle.etcs_telegram.specs.declared.size.Size.{Size};
 ghost use Rattle.etcs_telegram.specs.Telegrams.{TelegramLanguage};
-ghost use Rattle.etcs_telegram.specs.Phases.{after};
+ghost use Rattle.etcs_telegram.specs.Phases.{after_pad};
 ghost use Rattle.etcs_telegram.specs.Lefts.{left_at, next_at, stands_at, may_ask, behind_packets, FillFits, HoldsIn, Follows};
 ghost use Rattle.etcs_telegram.specs.laws.RestLaws.{rest_regular, rest_begins, rest_ended, follows_none, follows_along};
 
 use crate::header_bits::header_at;
-use crate::phase::Phase;
+use crate::phase::{Phase, header_var};
 use crate::size::Size;
 use arrayvec::ArrayVec;
 use etcs_bits::BitSlice;
@@ -51,7 +51,7 @@ fn behind_packets(size: Size, left: &PacketsState) -> Phase
 
 /// What comes after a bit of PAD, of which `left` are wanted.
 fn behind_pad(left: usize) -> Phase
-    ensures { (size : Size) → result ≡ after size (Phase.Pad left) }
+    ensures { result ≡ after_pad left }
 {
     if left > 1 {
         Phase::Pad(left - 1)
@@ -84,7 +84,7 @@ impl<S: PacketStore> TelegramRest<S> {
         ensures { (x : Var) → next_at self.old.phase self.old.packets.left ≡ Some x → Starts (left_at self.old.size self.old.phase self.old.packets.left) x 0 number → Follows self.old.size self.old.phase self.old.header.items self.old.packets.left (S.holds self.old.packets.store) ((x, number) ∷ []) self.new.size self.new.phase self.new.header.items self.new.packets.left (S.holds self.new.packets.store) }
     {
         self.header.push(number);
-        self.phase = Phase::Header(at).after(self.size);
+        self.phase = Phase::after_header(at);
     }
 
     /// Takes the whole header, where the piece has it and each number is admitted, and says how many bits it was.
@@ -155,7 +155,7 @@ impl<S: PacketStore> TelegramRest<S> {
         requires within { length slice.now ≤ left }
         ensures ok { OnOk result (Follows self.old.size self.old.phase self.old.header.items self.old.packets.left (S.holds self.old.packets.store) (kept FILL slice.now) self.new.size self.new.phase self.new.header.items self.new.packets.left (S.holds self.new.packets.store)) }
         ensures goes { OnOk result (Goes (left_at self.new.size self.new.phase self.new.packets.left)) }
-        ensures err { OnErr result S.fails }
+        ensures err { OnErr result (S.fails × IsTrue (may_ask self.old.phase self.old.packets.left)) }
     {
         let packets = &mut self.packets;
         match packets.store.bits(slice) {
@@ -175,27 +175,30 @@ impl<S: PacketStore> TelegramRest<S> {
         requires phase { self.old.phase ≡ Phase.Fill left }
         requires small { number < 2 }
         ensures ok { OnOk result (Follows self.old.size self.old.phase self.old.header.items self.old.packets.left (S.holds self.old.packets.store) ((FILL, number) ∷ []) self.new.size self.new.phase self.new.header.items self.new.packets.left (S.holds self.new.packets.store)) }
-        ensures err { OnErr result S.fails }
+        ensures err { OnErr result (S.fails × IsTrue (may_ask self.old.phase self.old.packets.left)) }
     {
         let byte = [number as u8];
-        match self.fill(left, &bits_at(&byte, 7, 1)) {
-            Ok(()) => Ok(()),
-            Err(error) => Err(error),
-        }
+        self.fill(left, &bits_at(&byte, 7, 1))
     }
 
     /// Takes a run of FILL, of which `left` bits are wanted, and says how many bits it was.
-    fn leap_fill(&mut self, left: usize, piece: &[u8], at: usize) -> Result<usize, AllocError>
+    fn leap_fill(
+        &mut self,
+        left: usize,
+        piece: &[u8],
+        at: usize,
+    ) -> Result<Option<usize>, AllocError>
         requires phase { self.old.phase ≡ Phase.Fill left }
         requires inside { at < length (bits piece.now) }
         requires small { length (bits piece.now) < 2 ^ 64 }
-        ensures ok { IfOk result (λ n. LeapsBy (left_at self.new.size self.new.phase self.new.packets.left) (λ p. Follows self.old.size self.old.phase self.old.header.items self.old.packets.left (S.holds self.old.packets.store) p self.new.size self.new.phase self.new.header.items self.new.packets.left (S.holds self.new.packets.store)) (bits piece.now) at n) }
-        ensures err { OnErr result S.fails }
+        ensures none { IfOk result (λ o. IsNone o → self.new ≡ self.old) }
+        ensures some { IfOk result (λ o. IfSome o (λ n. LeapsBy (left_at self.new.size self.new.phase self.new.packets.left) (λ p. Follows self.old.size self.old.phase self.old.header.items self.old.packets.left (S.holds self.old.packets.store) p self.new.size self.new.phase self.new.header.items self.new.packets.left (S.holds self.new.packets.store)) (bits piece.now) at n)) }
+        ensures err { OnErr result (S.fails × IsTrue (may_ask self.old.phase self.old.packets.left)) }
         ensures viable { OnErr result (Viable (left_at self.old.size self.old.phase self.old.packets.left) (part at 1 (bits piece.now))) }
     {
         let count = left.min(piece.len() * 8 - at);
         match self.fill(left, &bits_at(piece, at, count)) {
-            Ok(()) => Ok(count),
+            Ok(()) => Ok(Some(count)),
             Err(error) => Err(error),
         }
     }
@@ -237,7 +240,7 @@ impl<S: PacketStore> Rest for TelegramRest<S> {
     #[inline]
     fn var(&self) -> Option<Var> {
         match self.phase {
-            Phase::Header(_) => Some(self.phase.var()),
+            Phase::Header(at) => Some(header_var(at)),
             Phase::Packets => self.packets.var(),
             Phase::Fill(_) => Some(Var::FILL),
             Phase::Pad(_) => Some(Var::PAD),
@@ -262,14 +265,8 @@ impl<S: PacketStore> Rest for TelegramRest<S> {
                 self.pass_header(at, number);
                 Ok(())
             }
-            Phase::Packets => match self.pass_packets(var, number) {
-                Ok(()) => Ok(()),
-                Err(error) => Err(error),
-            },
-            Phase::Fill(left) => match self.pass_fill(left, number) {
-                Ok(()) => Ok(()),
-                Err(error) => Err(error),
-            },
+            Phase::Packets => self.pass_packets(var, number),
+            Phase::Fill(left) => self.pass_fill(left, number),
             Phase::Pad(left) => {
                 self.pass_pad(left);
                 Ok(())
@@ -282,14 +279,8 @@ impl<S: PacketStore> Rest for TelegramRest<S> {
     fn leap(&mut self, piece: &[u8], at: usize) -> Result<Option<usize>, AllocError> {
         match self.phase {
             Phase::Header(0) => Ok(self.leap_header(piece, at)),
-            Phase::Packets => match self.leap_packets(piece, at) {
-                Ok(taken) => Ok(taken),
-                Err(error) => Err(error),
-            },
-            Phase::Fill(left) => match self.leap_fill(left, piece, at) {
-                Ok(count) => Ok(Some(count)),
-                Err(error) => Err(error),
-            },
+            Phase::Packets => self.leap_packets(piece, at),
+            Phase::Fill(left) => self.leap_fill(left, piece, at),
             Phase::Pad(left) => Ok(self.leap_pad(left, piece, at)),
             _ => Ok(None),
         }

@@ -1,7 +1,9 @@
 use Rattle.std.proofs.Common.{ap, ◌∙◌}
 use Rattle.etcs_messages.specs.Kinds.{head_row}
-use Rattle.etcs_messages.proofs.FrontsAtOnce.{head_room, own_room, numbers_passed, front_passed}
+use Rattle.etcs_messages.proofs.FrontsAtOnce.{WholeFront, head_room, own_room, numbers_passed, front_passed}
+use Rattle.etcs_messages.proofs.whole.front_at.Given.{Over}
 use Rattle.etcs_messages.proofs.whole.front_at.Goals as goal
+use Rattle.etcs_messages.proofs.whole.front_at.Goals.{After-as_slice}
 
 pub take_numbers-requires-clause-room : goal.take_numbers-requires-clause-room
 take_numbers-requires-clause-room g c = head_room g.H.Packet.AnyPacket.WAY c.new-numbers.result.items c.head_row.result.now c.new-numbers.ensures (c.head_row.ensures ∙ ap head_row c.WAY.ensures)
@@ -19,34 +21,22 @@ pub take_own-requires-clause-place : goal.take_own-requires-clause-place
 take_own-requires-clause-place g c =
     rw c.take_numbers.ensures.bits (own_room g.H.Packet.AnyPacket.WAY c.args.nid c.in_ok-row.row.items.now c.new-numbers.result.items c.take_numbers.new.numbers.items c.head_row.result.now c.next.new.self c.take_numbers.new.walker.place (rw c.WAY-2.ensures at c.in_ok-row.ensures) c.new-numbers.ensures (c.head_row.ensures ∙ ap head_row c.WAY.ensures) c.in_ok-take_numbers.ensures.front).1
 
-pub front_by-requires-clause-there : goal.front_by-requires-clause-there
-front_by-requires-clause-there g c =
+-- what is in front of the packets
+taken : (g : Over) (c : After-as_slice g) → WholeFront g.H.Packet.AnyPacket.WAY c.args.nid c.args.bits c.as_slice.result.now
+taken g c =
     let xs = c.args.bits in
     let (vars, typed, long) = c.requires.typed in
     let passed = numbers_passed xs c.new-walker.result c.next.new.self c.next.result c.in_ok-next.field-0 c.new-walker.ensures c.next.ensures.number c.next.ensures.moved c.in_ok-next.was in
-    let front = front_passed g.H.Packet.AnyPacket.WAY c.args.nid vars c.in_ok-row.row.items.now xs c.next.new.self c.take_numbers.new.walker c.new-numbers.result.items c.take_numbers.new.numbers.items c.take_own.new.numbers.items c.as_slice.result.now c.head_row.result.now c.take_own.new.walker.place typed long (rw c.WAY-2.ensures at c.in_ok-row.ensures) passed.0 c.new-numbers.ensures (c.head_row.ensures ∙ ap head_row c.WAY.ensures) c.in_ok-take_numbers.ensures.front c.take_numbers.ensures.bits c.in_ok-take_own.ensures.front c.as_slice.ensures.value in
-    front.there
+    front_passed g.H.Packet.AnyPacket.WAY c.args.nid vars c.in_ok-row.row.items.now xs c.next.new.self c.take_numbers.new.walker c.new-numbers.result.items c.take_numbers.new.numbers.items c.take_own.new.numbers.items c.as_slice.result.now c.head_row.result.now c.take_own.new.walker.place typed long (rw c.WAY-2.ensures at c.in_ok-row.ensures) passed.0 c.new-numbers.ensures (c.head_row.ensures ∙ ap head_row c.WAY.ensures) c.in_ok-take_numbers.ensures.front c.take_numbers.ensures.bits c.in_ok-take_own.ensures.front c.as_slice.ensures.value
+
+pub front_by-requires-clause-there : goal.front_by-requires-clause-there
+front_by-requires-clause-there g c = (taken g (goal.at.front_by-requires-clause-there g c).After-as_slice).there
 
 pub front_by-requires-clause-head : goal.front_by-requires-clause-head
-front_by-requires-clause-head g c =
-    let xs = c.args.bits in
-    let (vars, typed, long) = c.requires.typed in
-    let passed = numbers_passed xs c.new-walker.result c.next.new.self c.next.result c.in_ok-next.field-0 c.new-walker.ensures c.next.ensures.number c.next.ensures.moved c.in_ok-next.was in
-    let front = front_passed g.H.Packet.AnyPacket.WAY c.args.nid vars c.in_ok-row.row.items.now xs c.next.new.self c.take_numbers.new.walker c.new-numbers.result.items c.take_numbers.new.numbers.items c.take_own.new.numbers.items c.as_slice.result.now c.head_row.result.now c.take_own.new.walker.place typed long (rw c.WAY-2.ensures at c.in_ok-row.ensures) passed.0 c.new-numbers.ensures (c.head_row.ensures ∙ ap head_row c.WAY.ensures) c.in_ok-take_numbers.ensures.front c.take_numbers.ensures.bits c.in_ok-take_own.ensures.front c.as_slice.ensures.value in
-    front.head
+front_by-requires-clause-head g c = (taken g (goal.at.front_by-requires-clause-head g c).After-as_slice).head
 
 pub front_by-requires-clause-own : goal.front_by-requires-clause-own
-front_by-requires-clause-own g c =
-    let xs = c.args.bits in
-    let (vars, typed, long) = c.requires.typed in
-    let passed = numbers_passed xs c.new-walker.result c.next.new.self c.next.result c.in_ok-next.field-0 c.new-walker.ensures c.next.ensures.number c.next.ensures.moved c.in_ok-next.was in
-    let front = front_passed g.H.Packet.AnyPacket.WAY c.args.nid vars c.in_ok-row.row.items.now xs c.next.new.self c.take_numbers.new.walker c.new-numbers.result.items c.take_numbers.new.numbers.items c.take_own.new.numbers.items c.as_slice.result.now c.head_row.result.now c.take_own.new.walker.place typed long (rw c.WAY-2.ensures at c.in_ok-row.ensures) passed.0 c.new-numbers.ensures (c.head_row.ensures ∙ ap head_row c.WAY.ensures) c.in_ok-take_numbers.ensures.front c.take_numbers.ensures.bits c.in_ok-take_own.ensures.front c.as_slice.ensures.value in
-    front.own
+front_by-requires-clause-own g c = (taken g (goal.at.front_by-requires-clause-own g c).After-as_slice).own
 
 pub returns : goal.returns
-returns g c =
-    let xs = c.args.bits in
-    let (vars, typed, long) = c.requires.typed in
-    let passed = numbers_passed xs c.new-walker.result c.next.new.self c.next.result c.in_ok-next.field-0 c.new-walker.ensures c.next.ensures.number c.next.ensures.moved c.in_ok-next.was in
-    let front = front_passed g.H.Packet.AnyPacket.WAY c.args.nid vars c.in_ok-row.row.items.now xs c.next.new.self c.take_numbers.new.walker c.new-numbers.result.items c.take_numbers.new.numbers.items c.take_own.new.numbers.items c.as_slice.result.now c.head_row.result.now c.take_own.new.walker.place typed long (rw c.WAY-2.ensures at c.in_ok-row.ensures) passed.0 c.new-numbers.ensures (c.head_row.ensures ∙ ap head_row c.WAY.ensures) c.in_ok-take_numbers.ensures.front c.take_numbers.ensures.bits c.in_ok-take_own.ensures.front c.as_slice.ensures.value in
-    (c.as_slice.result.now, front.front, (c.front_by.ensures.head, c.front_by.ensures.own))
+returns g c = (c.as_slice.result.now, (taken g (goal.at.returns g c).After-as_slice).front, (c.front_by.ensures.head, c.front_by.ensures.own))

@@ -17,8 +17,8 @@ overflow_sub-piece g c = omega (arith, c.requires.inside, length-bits c.args.pie
 pub bits_at-requires : goal.bits_at-requires
 bits_at-requires g c = omega (arith, c.min-count.ensures, c.requires.inside, length-bits c.args.piece.now)
 
-pub returns-in-Ok-clause-ok : goal.returns-in-Ok-clause-ok
-returns-in-Ok-clause-ok g c =
+pub returns-in-Ok-clause-some : goal.returns-in-Ok-clause-some
+returns-in-Ok-clause-some g c =
     let s = c.args.self.now in
     let pos = (data_parts g.H.Packet.AnyPacket.WAY s.nid s.phase c.args.left (length s.front.items) s.packets.left c.requires.phase s.stands).0 in
     record {

@@ -8,7 +8,7 @@ use Rattle.etcs_messages.proofs.rest.MessageRest.pass_data.Goals as goal
 pub bits_at-requires : goal.bits_at-requires
 bits_at-requires g c = omega (arith, length-bits (c.args.number ∷ []))
 
-pub returns-in-Ok-clause-ok : goal.returns-in-Ok-clause-ok
-returns-in-Ok-clause-ok g c =
+pub returns-clause-ok : goal.returns-clause-ok
+returns-clause-ok g c =
     let read : ◌≡◌ {A = Reading} (kept OTHER_DATA c.bits_at.result) ((OTHER_DATA, c.args.number) ∷ []) = ap (kept OTHER_DATA) (c.bits_at.ensures ∙ byte_bit c.args.number c.requires.small) ∙ bit_read OTHER_DATA c.args.number c.requires.small in
-    rw read at c.in-Ok.ensures.ok
+    rw read at c.keep.ensures.ok

@@ -94,20 +94,15 @@ returns-in-Ok-finish-clause-some g c =
     let here = (goal.at.returns-in-Ok-finish-clause-some g c).In-Ok-finish in
     let size = many g here in
     let moved = c.pass_bits-event.ensures.moved t size in
-    let some = kept_some s.carrier s.room s.stage c.args.nid c.args.dir c.args.left c.requires.stage s.stands in (
-      c.min-count.result,
-      (
-        refl,
-        record {
-          some = omega (arith, some, c.requires.inside, c.min-count.ensures, length-bits c.args.piece.now);
-          inside = omega (arith, c.requires.inside, c.min-count.ensures, length-bits c.args.piece.now);
-          goes = kept_goes s.carrier s.room s.stage c.args.nid c.args.dir c.args.left c.requires.stage c.requires.goes t _ (omega (arith, size, c.min-count.ensures)) moved.residual;
-          whole = kept OTHER_DATA t;
-          follows = (moved, kept_held g here);
-          bits = spelled_kept t ∙ c.bits_at.ensures;
-        },
-      ),
-    )
+    let some = kept_some s.carrier s.room s.stage c.args.nid c.args.dir c.args.left c.requires.stage s.stands in
+    record {
+      some = omega (arith, some, c.requires.inside, c.min-count.ensures, length-bits c.args.piece.now);
+      inside = omega (arith, c.requires.inside, c.min-count.ensures, length-bits c.args.piece.now);
+      goes = kept_goes s.carrier s.room s.stage c.args.nid c.args.dir c.args.left c.requires.stage c.requires.goes t _ (omega (arith, size, c.min-count.ensures)) moved.residual;
+      whole = kept OTHER_DATA t;
+      follows = (moved, kept_held g here);
+      bits = spelled_kept t ∙ c.bits_at.ensures;
+    }
 
 pub returns-in-Err-finish-clause-viable : goal.returns-in-Err-finish-clause-viable
 returns-in-Err-finish-clause-viable g c =

@@ -8,7 +8,7 @@ use Rattle.etcs_telegram.proofs.rest.TelegramRest.pass_fill.Goals as goal
 pub bits_at-requires : goal.bits_at-requires
 bits_at-requires g c = omega (arith, length-bits (c.args.number ∷ []))
 
-pub returns-in-Ok-clause-ok : goal.returns-in-Ok-clause-ok
-returns-in-Ok-clause-ok g c =
+pub returns-clause-ok : goal.returns-clause-ok
+returns-clause-ok g c =
     let read : ◌≡◌ {A = Reading} (kept FILL c.bits_at.result) ((FILL, c.args.number) ∷ []) = ap (kept FILL) (c.bits_at.ensures ∙ byte_bit c.args.number c.requires.small) ∙ bit_read FILL c.args.number c.requires.small in
-    rw read at c.in-Ok.ensures.ok
+    rw read at c.fill.ensures.ok

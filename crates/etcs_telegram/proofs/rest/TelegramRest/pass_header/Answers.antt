@@ -6,4 +6,4 @@ returns g c =
     let s = c.args.self.now in
     λ x next goes.
     rw c.push.ensures.items
-    (header_follows s.size s.phase c.after-self.result c.args.at s.header.items s.packets.left (g.S.PacketStore.holds s.packets.store) x c.args.number c.requires.phase c.after-self.ensures s.stands next goes)
+    (header_follows s.size s.phase c.after_header-self.result c.args.at s.header.items s.packets.left (g.S.PacketStore.holds s.packets.store) x c.args.number c.requires.phase c.after_header-self.ensures s.stands next goes)

@@ -5,4 +5,4 @@ use Rattle.etcs_telegram.proofs.rest.TelegramRestRest.var.Goals as goal
 pub returns-in-Header : goal.returns-in-Header
 returns-in-Header g c =
     let s = c.args.self.now in
-    rw c.var.ensures (var_header s.phase c.in-Header.field-0 (length s.header.items) s.packets.left c.in-Header.is s.stands)
+    rw c.header_var.ensures (var_header s.phase c.in-Header.at (length s.header.items) s.packets.left c.in-Header.is s.stands)

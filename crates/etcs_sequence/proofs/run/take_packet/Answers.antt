@@ -8,7 +8,7 @@ use Rattle.etcs_sequence.specs.AtOnce.{IsFrameIn}
 use Rattle.etcs_sequence.proofs.Carried.{FrameAt}
 use Rattle.etcs_sequence.proofs.LeapLemmas.{whole_at}
 use Rattle.etcs_sequence.proofs.RunLemmas.{word_frame, kept_at}
-use Rattle.etcs_sequence.proofs.run.take_framed.Goals as goal
+use Rattle.etcs_sequence.proofs.run.take_packet.Goals as goal
 
 pub overflow_add-at : goal.overflow_add-at
 overflow_add-at g c = omega (arith, c.requires.inside, c.requires.small, c.if-len-front.false, c.if-len-room.false)

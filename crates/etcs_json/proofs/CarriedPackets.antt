@@ -40,9 +40,6 @@ named_itself (kept nid dir b) h = ap (λ (t : Bool). kept (if t then 44 else nid
 abbrev pub Rests : Items → Items → Type 0
 Rests ds es = (vs : List PacketValue) → All IsPacket (map (unnamed ToTrain) vs) → ArePacketTrees ToTrain vs ds → (ws : List PacketValue) × All IsPacket (map (unnamed ToTrain) ws) × ArePacketTrees ToTrain ws es × (map (unnamed ToTrain) ws ≡ ws → map (unnamed ToTrain) vs ≡ vs)
 
-pub rests_all : (ds : Items) → Rests ds ds
-rests_all ds vs packets trees = (vs, packets, trees, λ e. e)
-
 one_named : (w : PacketValue) (ws : List PacketValue) → unnamed ToTrain w ≡ w → map (unnamed ToTrain) ws ≡ ws → map (unnamed ToTrain) (w ∷ ws) ≡ w ∷ ws
 one_named w ws e f = rw (e, f) refl
 

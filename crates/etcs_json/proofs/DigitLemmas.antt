@@ -1,10 +1,10 @@
 -- Digits of hexadecimal numbers and of bits, and the number of PADDING.
-use Rattle.std.proofs.Common.{◌≡◌, ℕ, zero, suc, ◌+◌, ◌*◌, ◌/◌, ◌%◌, ◌^◌, ◌<◌, ◌≤◌, Bool, true, false, List, [], ◌∷◌, ◌++◌, length, get_or, take, Option, Some, None, map, refl, sym, ap, subst, ◌∙◌, arith, add-one}
+use Rattle.std.proofs.Common.{◌≡◌, ℕ, zero, suc, ◌+◌, ◌/◌, ◌%◌, ◌^◌, ◌<◌, ◌≤◌, Bool, true, false, List, [], ◌∷◌, ◌++◌, length, get_or, Some, map, refl, sym, ap, subst, ◌∙◌, arith, add-one}
 use Rattle.std.specs.Prelude.{All, nat_lt}
 use Rattle.std.proofs.Math.Nat.{pow-le-pow_right}
-use Rattle.std.proofs.lemmas.Bool.{ltb-true, ltb-false}
+use Rattle.std.proofs.lemmas.Bool.{ltb-true}
 use Rattle.std.proofs.lemmas.Grind.{pow_more}
-use Rattle.std.proofs.lemmas.List.{map_push, take_more, take_all, get_or-map, length-append, length-map}
+use Rattle.std.proofs.lemmas.List.{take_all, get_or-map, length-append, length-map}
 use Rattle.std.proofs.lemmas.List.Elements.{All-nil, All-push}
 use Rattle.etcs_bits.specs.Bits.{num, number_at}
 use Rattle.etcs_bits.proofs.Views.{number_bits, number_below}
@@ -12,19 +12,6 @@ use Rattle.etcs_text.specs.Show.{hex_digit, hex_digits, bit_digit}
 use Rattle.etcs_json.specs.Digits.{lower}
 
 -- ---- Hexadecimal digits.
-
--- one digit more
-pub hex_next : (i n d c : ℕ) (text : List ℕ) → i < length text → c ≡ get_or text i 0 → map lower (take i text) ≡ hex_digits i n → d < 16 → lower c ≡ hex_digit d → map lower (take (i + 1) text) ≡ hex_digits (i + 1) (n * 16 + d)
-hex_next i n d c text inside at e h k =
-    let q : (n * 16 + d) / 16 ≡ n = omega (arith, h) in
-    let m : (n * 16 + d) % 16 ≡ d = omega (arith, h) in
-    let l = take_more text i 0 inside in
-    let s : take (i + 1) text ≡ take i text ++ c ∷ [] = l ∙ ap (λ (z : ℕ). take i text ++ z ∷ []) (sym at) in
-    ap (map lower) s ∙ map_push lower (take i text) c ∙ ap (λ (z : ℕ). map lower (take i text) ++ z ∷ []) k ∙ ap (λ (z : List ℕ). z ++ hex_digit d ∷ []) e
-    ∙ sym (ap (λ (j : ℕ). hex_digits j (n * 16 + d)) (add-one i) ∙ rw (q, m) refl)
-
-pub hex_small : (i n d : ℕ) → n < 16 ^ i → d < 16 → n * 16 + d < 16 ^ (i + 1)
-hex_small i n d h k = let p = pow_more 16 i in omega (arith, p, h, k)
 
 pub hex_room : (i n : ℕ) → i < 16 → n < 16 ^ i → n < 1152921504606846976
 hex_room i n small h = let p = pow-le-pow_right {n = 16} (omega arith) {i = i} {j = 15} (omega arith) in omega (arith, p, h)
@@ -47,9 +34,6 @@ not_digit text k i n c inside at e other =
 pub length-hex : (k n : ℕ) → length (hex_digits k n) ≡ k
 length-hex zero n = refl
 length-hex (suc k) n = let l = length-append (hex_digits k (n / 16)) (hex_digit (n % 16) ∷ []) in omega (arith, l, length-hex k (n / 16))
-
-pub not_long : (text : List ℕ) (k n : ℕ) → (length text ≡ k → ⊥) → map lower text ≡ hex_digits k n → ⊥
-not_long text k n other e = other (sym (length-map text lower) ∙ ap length e ∙ length-hex k n)
 
 push_same : (xs ys : List ℕ) (a b : ℕ) → xs ++ a ∷ [] ≡ ys ++ b ∷ [] → (xs ≡ ys) × (a ≡ b)
 push_same [] [] a b e = (refl, cc)
@@ -84,10 +68,6 @@ one_hex (suc k) n m h g e =
     omega (arith, rest, digit)
 
 -- ---- Bits.
-
-pub bit_next : (i c : ℕ) (b : Bool) (bs : List Bool) (text : List ℕ) → i < length text → c ≡ get_or text i 0 → take i text ≡ map bit_digit bs → c ≡ bit_digit b → take (i + 1) text ≡ map bit_digit (bs ++ b ∷ [])
-bit_next i c b bs text inside at e k =
-    take_more text i 0 inside ∙ ap (λ (z : ℕ). take i text ++ z ∷ []) (sym at ∙ k) ∙ ap (λ (z : List ℕ). z ++ bit_digit b ∷ []) e ∙ sym (map_push bit_digit bs b)
 
 one_bit : (a b : Bool) → bit_digit a ≡ bit_digit b → a ≡ b
 one_bit true true e = refl

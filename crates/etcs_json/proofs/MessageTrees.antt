@@ -1,9 +1,9 @@
 -- Messages and their trees.
-use Rattle.std.proofs.Common.{◌≡◌, ℕ, ◌+◌, ◌-◌, ◌*◌, ◌/◌, ◌^◌, ◌≤◌, ◌<◌, Bool, List, [], ◌∷◌, ◌++◌, length, map, Option, None, Some, refl, sym, ap, subst, ◌∙◌, arith}
+use Rattle.std.proofs.Common.{◌≡◌, ℕ, ◌-◌, ◌^◌, ◌≤◌, ◌<◌, Bool, List, [], length, map, Option, None, Some, refl, sym, ap, subst, ◌∙◌, arith}
 use Rattle.std.specs.Prelude.{All, IfSome, ◌↔◌, option_map}
 use Rattle.serde_json.specs.Data.{Data, array, string, Items}
 use Rattle.etcs_vars.specs.declared.var.Var.TheVariants.{L_MESSAGE}
-use Rattle.etcs_vars.specs.Reading.{Reading, numbers, spelled}
+use Rattle.etcs_vars.specs.Reading.{Reading, numbers}
 use Rattle.etcs_vars.proofs.Prefixes.{admits_parts}
 use Rattle.etcs_tables.specs.declared.row.Way.{Way}
 use Rattle.etcs_tables.specs.declared.row.Way.TheVariants.{ToTrain, ToTrack}
@@ -12,29 +12,24 @@ use Rattle.etcs_tables.specs.declared.item.RowItem.TheVariants.{One}
 use Rattle.etcs_tables.specs.Layouts.{Layout, Reads, layout}
 use Rattle.etcs_tables.specs.Rows.{message_row_to}
 use Rattle.etcs_packets.specs.PacketValues.{PacketValue, Form, IsPacketTo}
-use Rattle.etcs_packets.specs.PacketReadings.{readings_to}
 use Rattle.etcs_reader.specs.Fields.{ReadsFields}
 use Rattle.etcs_messages.specs.declared.message.Content.{Content}
 use Rattle.etcs_messages.specs.declared.message.Content.TheVariants.{Typed, Kept}
 use Rattle.etcs_messages.specs.Kinds.{HeadOf, OwnOf, HeadLaws, OwnLaws, IsHead, IsOwn, IsHeadNumbers, IsOwnNumbers, IsMadeOf, head_row}
-use Rattle.etcs_messages.specs.Messages.{MessageValue, typed_message, kept_message, TypedReads, KeptReads, MessageReads, all_bits, padding_room, padded_fault, kept_fault, message_value, values_of}
+use Rattle.etcs_messages.specs.Messages.{MessageValue, typed_message, kept_message, TypedReads, MessageReads, all_bits, padding_room, padded_fault, kept_fault, message_value, values_of}
 use Rattle.etcs_messages.specs.Readings.{message_reading}
-use Rattle.etcs_messages.proofs.Faults.{carried_packets, no_typed_fault, no_kept_fault}
+use Rattle.etcs_messages.proofs.Faults.{carried_packets, no_typed_fault}
 use Rattle.etcs_messages.proofs.Fronts.{row_fields, fields_row}
 use Rattle.etcs_messages.proofs.OneReading.{message_reads}
-use Rattle.etcs_telegram.specs.declared.size.Size.{Size}
 use Rattle.etcs_text.specs.Entries.{EntryValue, of_telegram, of_message, message_kind}
 use Rattle.etcs_text.specs.Show.{way_word}
 use Rattle.etcs_text.specs.Trees.{bits_tree}
 use Rattle.etcs_json.specs.Loose.{HasStandIns, IsLoose, unnamed, unnamed_message}
-use Rattle.etcs_json.specs.TreeReading.{ArePairTrees, ArePacketTrees, IsMessageTree, IsTreeOf, message_tree, kept_message_tree, plain}
+use Rattle.etcs_json.specs.TreeReading.{ArePairTrees, ArePacketTrees, IsMessageTree, IsTreeOf, message_tree, plain}
 use Rattle.etcs_json.proofs.OneItems.{telegram_message, way_same}
 use Rattle.etcs_json.proofs.PacketTrees.{SaysNumbers, OnlyNumbers}
 
 -- ---- Its parts.
-
-pub kept_fine : (way : Way) (nid : ℕ) (b : List Bool) (r : Reading) → KeptReads way nid b r → kept_fault way nid (length b) ≡ None
-kept_fine way nid b r h = no_kept_fault way nid (length b) h.len h.untyped h.bytes h.least h.most
 
 pub record TypedFine {H B P : Type 0} (way : Way) (k : HeadOf H) (o : OwnOf B) (form : P → Form) (head : H) (body : B) (ps : List P) (padding : List Bool) : Type 0 where
   pub short : length padding ≤ 7
@@ -148,18 +143,6 @@ one_value (Some z) x g y e h =
     let same : z ≡ x = cc in
     let two : g z ≡ y = cc in
     sym (ap g same) ∙ two
-
-pub record KeptSays (way : Way) (m : MessageValue) (x y z : Data) : Type 0 where
-  pub nid : ℕ
-  pub bits : List Bool
-  pub is : m ≡ kept_message nid bits
-  pub data_is : x ≡ bits_tree bits
-  pub kind_is : y ≡ string (way_word way)
-  pub nid_is : z ≡ plain nid
-
-pub kept_message_says : (way : Way) (m : MessageValue) (x y z : Data) → IsMessageTree way m (kept_message_tree x y z) → KeptSays way m x y z
-kept_message_says way (typed_message nid head body vs padding) x y z (fs, hs, ps, e, f, h, p) = absurd cc
-kept_message_says way (kept_message nid b) x y z e = record { nid = nid; bits = b; is = refl; data_is = cc; kind_is = cc; nid_is = cc }
 
 -- ---- The header.
 

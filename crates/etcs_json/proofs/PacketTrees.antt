@@ -1,6 +1,6 @@
 -- Packets and their trees.
-use Rattle.std.proofs.Common.{◌≡◌, ◌≢◌, ℕ, ◌+◌, ◌^◌, ◌<◌, ◌≤◌, ◌==◌, Bool, true, false, List, [], ◌∷◌, ◌++◌, length, Option, Some, None, Result, Ok, Err, map, inl, inr, refl, sym, ap, subst, ◌∙◌, arith, append_assoc, append-nil}
-use Rattle.std.specs.Prelude.{All, IsTrue, IfOk, IfSome, IsSome, option_map}
+use Rattle.std.proofs.Common.{◌≡◌, ℕ, ◌+◌, ◌<◌, ◌==◌, Bool, false, List, [], ◌∷◌, ◌++◌, length, Option, Some, None, Result, Ok, Err, map, inl, inr, refl, sym, ap, subst, ◌∙◌, arith, append_assoc, append-nil}
+use Rattle.std.specs.Prelude.{All, IsTrue, IfOk, IfSome, option_map}
 use Rattle.std.proofs.lemmas.Bool.{cases_lt, eqb-true, ne_eqb}
 use Rattle.std.proofs.lemmas.List.{map_push}
 use Rattle.std.proofs.lemmas.List.Elements.{All-head, All-push, All-tail}
@@ -21,7 +21,7 @@ use Rattle.etcs_packets.specs.PacketValues.{PacketValue, Form, marker, typed, ke
 use Rattle.etcs_sequence.specs.laws.Framed.{framed_small, typed_framed}
 use Rattle.etcs_sequence.specs.laws.Others.{kept_parts, kept_framed, kept_untyped}
 use Rattle.etcs_text.specs.Trees.{bits_tree}
-use Rattle.etcs_json.specs.Loose.{is_carried, stand_in, unnamed}
+use Rattle.etcs_json.specs.Loose.{stand_in, unnamed}
 use Rattle.etcs_json.specs.TreeParts.{SaysDirection}
 use Rattle.etcs_json.specs.TreeReading.{ArePairTrees, IsPacketTree, ArePacketTrees, marker_tree, typed_tree, kept_tree, plain}
 use Rattle.etcs_json.proofs.OneTrees as trees
@@ -181,9 +181,6 @@ pub record Listed (way : Way) (ds : Items) (us : List PacketValue) (es : Items) 
   pub on : (ws : List PacketValue) → ArePacketTrees way ws es → ArePacketTrees way (named ++ ws) ds
   pub back : (gs : List PacketValue) → All (IsPacketTo way) (map (unnamed way) gs) → ArePacketTrees way gs ds → (ws : List PacketValue) × (map (unnamed way) gs ≡ us ++ map (unnamed way) ws) × All (IsPacketTo way) (map (unnamed way) ws) × ArePacketTrees way ws es
 
-pub none_listed : (way : Way) (ds : Items) → Listed way ds [] ds
-none_listed way ds = record { named = []; is = refl; on = λ ws t. t; back = λ gs a t. (gs, refl, a, t) }
-
 first_tree : (way : Way) (ws : List PacketValue) (d : Data) (es : Items) → All (IsPacketTo way) (map (unnamed way) ws) → ArePacketTrees way ws (item d es) → (w : PacketValue) × (ws' : List PacketValue) × (ws ≡ w ∷ ws') × IsPacketTo way (unnamed way w) × All (IsPacketTo way) (map (unnamed way) ws') × IsPacketTree way w d × ArePacketTrees way ws' es
 first_tree way [] d es a t = elim t [ ]
 first_tree way (w ∷ ws) d es a t = (w, ws, refl, All-head (IsPacketTo way) (unnamed way w) (map (unnamed way) ws) a, All-tail (IsPacketTo way) (unnamed way w) (map (unnamed way) ws) a, t.0, t.1)
@@ -265,9 +262,6 @@ marker_tree_some way x y f v zero' (r, ps, is, reads, trees, nums) some =
     let (n, r_is, a) = marker_reading r reads in
     let tree : marker_tree x y ≡ marker_tree (array ps) (plain 0) = rw (is, zero') refl in
     (n, some n (sym nums ∙ ap numbers r_is), (ps, tree, subst (λ (q : Reading). ArePairTrees q ps) r_is trees))
-
-pub to_train : (way : Way) (n : ℕ) → way ≡ ToTrain → IsTrue (admits NID_VBCMK n) → IsTrue (is_marker way n)
-to_train way n e h = subst (λ (w : Way). IsTrue (is_marker w n)) (sym e) h
 
 pub marker_tree_only : (way : Way) (x y : Data) (o : Option (List ℕ)) (n : ℕ) → way ≡ ToTrain → OnlyNumbers marker_row x o → IsTrue (is_marker way n) → IsPacketTree way (marker n) (marker_tree x y) → o ≡ Some (n ∷ [])
 marker_tree_only way x y o n going only packet (ps, e, t) =

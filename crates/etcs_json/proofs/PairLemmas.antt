@@ -1,8 +1,8 @@
 -- Pairs of variables with their numbers.
-use Rattle.std.proofs.Common.{◌≡◌, ℕ, ◌^◌, ◌<◌, ◌≤◌, Bool, true, false, List, [], ◌∷◌, ◌++◌, length, get_or, drop, Option, Some, None, map, refl, sym, ap, subst, ◌∙◌, arith, append_assoc, append-nil}
-use Rattle.std.specs.Prelude.{IsTrue, IfSome, option_map}
+use Rattle.std.proofs.Common.{◌≡◌, ℕ, ◌^◌, ◌<◌, List, [], ◌∷◌, ◌++◌, length, get_or, Option, Some, None, map, refl, sym, ap, subst, ◌∙◌, arith, append_assoc, append-nil}
+use Rattle.std.specs.Prelude.{IsTrue}
 use Rattle.std.proofs.Math.Nat.{pow-le-pow_right}
-use Rattle.serde_json.specs.Data.{Data, null, boolean, number, unsigned, string, array, object, Items, no_items, item}
+use Rattle.serde_json.specs.Data.{Data, null, boolean, number, string, array, object, Items, no_items, item}
 use Rattle.serde_json.specs.Find.{as_array, as_str}
 use Rattle.serde_json.specs.Events.{items_len}
 use Rattle.serde_json.specs.View.{view, items_view}
@@ -10,8 +10,8 @@ use Rattle.serde_json.specs.declared.value.Value.{Value}
 use Rattle.serde_json.proofs.Views.{items_len-items_view}
 use Rattle.etcs_vars.specs.declared.var.Var.{Var}
 use Rattle.etcs_vars.specs.declared.var.Var.TheVariants.{NID_RADIO}
-use Rattle.etcs_vars.specs.Vars.{admits, width}
-use Rattle.etcs_vars.specs.Reading.{Sent, Reading, numbers}
+use Rattle.etcs_vars.specs.Vars.{admits}
+use Rattle.etcs_vars.specs.Reading.{Reading, numbers}
 use Rattle.etcs_vars.proofs.Prefixes.{admits_parts, width-le}
 use Rattle.etcs_tables.specs.Layouts.{Layout, whole, one, guarded, counted, Reads, looks}
 use Rattle.etcs_rows.specs.Places.{onto, first_variable, after_any}
@@ -64,9 +64,6 @@ pub record Goes (row : Layout) (ds : Items) (f : List ℕ) (left : Layout) (es :
   pub looks_well : IsTrue (looks None left)
   pub on : (q : Reading) → Reads left [] q → ArePairTrees q es → (r : Reading) × Reads row [] r × ArePairTrees r ds × (numbers r ≡ f ++ numbers q)
   pub back : (r : Reading) → Reads row [] r → ArePairTrees r ds → (q : Reading) × Reads left [] q × ArePairTrees q es × (numbers r ≡ f ++ numbers q)
-
-pub at_start : (row : Layout) (ds : Items) → IsTrue (looks None row) → Goes row ds [] row ds
-at_start row ds l = record { looks_well = l; on = λ q h k. (q, h, k, refl); back = λ r h k. (r, h, k, refl) }
 
 pub below_all : (v : Var) (m : ℕ) → IsTrue (admits v m) → m < 2 ^ 64
 below_all v m a = let le = pow-le-pow_right {n = 2} (omega arith) (width-le v) in omega (arith, le, (admits_parts v m a).1)

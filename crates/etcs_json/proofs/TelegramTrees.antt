@@ -1,9 +1,7 @@
 -- Telegrams and their trees.
-use Rattle.std.proofs.Common.{◌≡◌, ℕ, ◌+◌, ◌-◌, ◌≤◌, ◌<◌, Bool, false, List, [], ◌∷◌, ◌++◌, length, map, Option, None, Some, inl, inr, refl, sym, ap, subst, ◌∙◌, arith}
-use Rattle.std.specs.Prelude.{◌⊎◌, ◌≢◌, All, IfSome, IsTrue, option_map, replicate, slice_index}
+use Rattle.std.proofs.Common.{◌≡◌, ℕ, ◌+◌, ◌-◌, ◌≤◌, ◌<◌, Bool, false, List, [], ◌++◌, length, map, Option, None, Some, inl, inr, refl, sym, ap, subst, ◌∙◌, arith}
+use Rattle.std.specs.Prelude.{◌⊎◌, ◌≢◌, All, IfSome, option_map, replicate}
 use Rattle.serde_json.specs.Data.{Data, array, string, Items}
-use Rattle.etcs_bits.specs.Bits.{bit}
-use Rattle.etcs_vars.specs.Vars.{admits}
 use Rattle.etcs_vars.specs.Reading.{Reading, numbers, spelled, kept}
 use Rattle.etcs_vars.specs.declared.var.Var.TheVariants.{FILL, PAD}
 use Rattle.etcs_tables.specs.declared.row.Way.TheVariants.{ToTrain}
@@ -12,7 +10,7 @@ use Rattle.etcs_packets.specs.declared.packet.Packet.{Packet}
 use Rattle.etcs_packets.specs.PacketValues.{PacketValue, IsPacket, packet_value}
 use Rattle.etcs_telegram.specs.declared.size.Size.{Size}
 use Rattle.etcs_telegram.specs.declared.size.Size.TheVariants.{Short, Long}
-use Rattle.etcs_telegram.specs.Headers.{header_fault, IsHeaderNumbers}
+use Rattle.etcs_telegram.specs.Headers.{IsHeaderNumbers}
 use Rattle.etcs_telegram.specs.Telegrams.{HeaderValue, IsAdmitted, TelegramReads, TelegramValue, TelegramContent, telegram_value, header_row, header_of, header_reading, closed_reading, closed_bits, packet_room, pad_bits, user_bits}
 use Rattle.etcs_telegram.proofs.HeaderLemmas.{header_length, header_back}
 use Rattle.etcs_telegram.proofs.Rows.{row_header, admitted_row, header_reads}
@@ -46,20 +44,6 @@ header_read r h =
 
 pub header_row_of : (h : HeaderValue) → IsAdmitted (header_reading h) → Reads (as_row header_row) [] (header_reading h)
 header_row_of h a = fields_row header_row [] (header_reading h) (header_reads h a)
-
-pub header_fine : (ns : List ℕ) → IsHeaderNumbers ns → header_fault (slice_index ns 1) (slice_index ns 3) (slice_index ns 4) (slice_index ns 5) (slice_index ns 6) (slice_index ns 7) (slice_index ns 8) ≡ None
-header_fine [] h = absurd (omega (arith, h.ten))
-header_fine (a ∷ []) h = absurd (omega (arith, h.ten))
-header_fine (a ∷ b ∷ []) h = absurd (omega (arith, h.ten))
-header_fine (a ∷ b ∷ c ∷ []) h = absurd (omega (arith, h.ten))
-header_fine (a ∷ b ∷ c ∷ d ∷ []) h = absurd (omega (arith, h.ten))
-header_fine (a ∷ b ∷ c ∷ d ∷ e ∷ []) h = absurd (omega (arith, h.ten))
-header_fine (a ∷ b ∷ c ∷ d ∷ e ∷ f ∷ []) h = absurd (omega (arith, h.ten))
-header_fine (a ∷ b ∷ c ∷ d ∷ e ∷ f ∷ g ∷ []) h = absurd (omega (arith, h.ten))
-header_fine (a ∷ b ∷ c ∷ d ∷ e ∷ f ∷ g ∷ i ∷ []) h = absurd (omega (arith, h.ten))
-header_fine (a ∷ b ∷ c ∷ d ∷ e ∷ f ∷ g ∷ i ∷ j ∷ ns) h =
-    let (a0, (a1, (a2, (a3, (a4, (a5, (a6, (a7, (a8, rest))))))))) = h.admitted in
-    rw (a1, a3, a4, a5, a6, a7, a8) refl
 
 -- what a clause says of an option, at what it is
 pub some_at : (X : Type 0) (o : Option X) (x : X) (g : X → List ℕ) (row : Layout) (d : Data) → o ≡ Some x → IfSome o (λ y. SaysNumbers row d (g y)) → SaysNumbers row d (g x)

@@ -15,9 +15,8 @@ ghost use Rattle.etcs_text.specs.declared.entry.Kind.TheVariants as kind_is;
 ghost use Rattle.etcs_json.specs.Loose.{HasLength, HasStandIns, LooseSpells, StandsFor, TreeRefused, TreeSays, is_carried, kept_number, packets_of, stand_in, unnamed, way_of};
 ghost use Rattle.etcs_json.specs.TreeReading.{ArePacketTrees, IsPacketTree, IsTreeOf};
 
-use crate::digits::byte_in;
 use crate::fault::JsonFault;
-use crate::members::{four_members, message_members, three_members};
+use crate::from_packets::kept_members;
 use etcs_bits::parts::write;
 use etcs_packets::Packet;
 use etcs_radio::MessageReader;
@@ -77,11 +76,8 @@ pub(crate) fn stored(
 fn packet_trees(value: &Value) -> &[Value]
     ensures { (o : EntryValue) → IsTreeOf o (view value.now) → ArePacketTrees (way_of o) (packets_of o) (items_view result.now) }
 {
-    if let Some((_, _, _, packets)) = four_members(value, "fill", "header", "kind", "packets") {
-        return items_in(packets);
-    }
-    match message_members(value) {
-        Some((_, _, _, _, packets, _)) => items_in(packets),
+    match value.get("packets") {
+        Some(packets) => items_in(packets),
         None => &[],
     }
 }
@@ -100,8 +96,8 @@ fn items_in(value: &Value) -> &[Value]
 fn kept_number(tree: &Value) -> Option<u8>
     ensures { (v : PacketValue) → IsPacket (unnamed ToTrain v) → IsPacketTree ToTrain v (view tree.now) → result ≡ kept_number v }
 {
-    let (_, _, nid) = three_members(tree, "data", "dir", "nid")?;
-    byte_in(nid)
+    let (_, _, nid) = kept_members(Way::ToTrain, tree)?;
+    Some(nid)
 }
 
 /// Whether no packet needs a stand-in.

@@ -30,14 +30,6 @@ pub(crate) fn byte_in(value: &Value) -> Option<u8>
     u8::try_from(value.as_u64()?).ok()
 }
 
-/// The numbers of two such values.
-pub(crate) fn two_bytes(first: &Value, second: &Value) -> Option<(u8, u8)>
-    ensures some { IfSome result (λ p. (view first.now ≡ plain p.0) × (view second.now ≡ plain p.1)) }
-    ensures only { (m n : ℕ) → m < 256 → n < 256 → view first.now ≡ plain m → view second.now ≡ plain n → result ≡ Some (m, n) }
-{
-    Some((byte_in(first)?, byte_in(second)?))
-}
-
 /// Whether a value is this text.
 pub(crate) fn is_text(value: &Value, text: &str) -> bool
     ensures { IsTrue result ↔ (view value.now ≡ string text.now) }

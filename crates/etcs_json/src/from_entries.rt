@@ -13,6 +13,7 @@ use crate::carried::stored;
 use crate::fault::JsonFault;
 use crate::from_message::message_in;
 use crate::from_telegram::telegram_in;
+use crate::written::text::Miss;
 use crate::written::written_item;
 use etcs_telegram::Size;
 use etcs_text::{Entry, Kind};
@@ -61,9 +62,9 @@ pub fn from_line(alloc: Global, kind: Kind, line: &[u8]) -> Result<Entry, JsonFa
     ensures shape { result ≡ Err JsonFault.Shape → (o : EntryValue) → IsLoose kind o → OfLine (λ d. IsTreeOf o d) line.now → ⊥ }
 {
     match written_item(alloc, kind, line) {
-        Ok(Some(entry)) => Ok(entry),
-        Ok(None) => from_any_line(alloc, kind, line),
-        Err(AllocError) => Err(JsonFault::Memory),
+        Ok(entry) => Ok(entry),
+        Err(Miss::Shape) => from_any_line(alloc, kind, line),
+        Err(Miss::Memory) => Err(JsonFault::Memory),
     }
 }
 

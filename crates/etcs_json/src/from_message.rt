@@ -1,7 +1,7 @@
 //! Messages of their trees.
 
 ghost use Rattle.std.specs.Prelude.{◌≡◌, ◌<◌, ◌≤◌, ◌^◌, [], All, Bool, List, Some, IfOk, IfSome, IsNone, IsSome, length, map, option_map};
-ghost use Rattle.serde_json.specs.Data.{Items, array, string};
+ghost use Rattle.serde_json.specs.Data.{Data, Items, array, string};
 ghost use Rattle.serde_json.specs.View.{view};
 ghost use Rattle.etcs_bits.specs.Bits.{num};
 ghost use Rattle.etcs_vars.specs.Reading.{Reading};
@@ -18,7 +18,7 @@ ghost use Rattle.etcs_json.specs.TreeReading.{ArePairTrees, IsMessageTree, kept_
 
 use crate::digits::{bits_in, byte_in, is_text};
 use crate::from_packets::packets_in;
-use crate::members::{message_members, three_members};
+use crate::members::Rest;
 use crate::numbers::numbers_in;
 use crate::trees::way_word;
 use crate::written::digits::padding_number;
@@ -110,7 +110,7 @@ fn typed_by<H: Head, B: Own<Front = H>>(
 }
 
 /// The message of these parts that is kept as bits, if there is one.
-fn kept_by<H: Head, B: Own<Front = H>>(nid: u8, bits: Bits) -> Option<MessageOf<H, B>>
+pub(crate) fn kept_by<H: Head, B: Own<Front = H>>(nid: u8, bits: Bits) -> Option<MessageOf<H, B>>
     ensures some { IfSome result (λ m. message_value H.Packet.WAY H.head B.own H.Packet.form m ≡ kept_message nid bits) }
     ensures reads { IfSome result (λ m. (r : Reading) × MessageReads H.Packet.WAY (message_value H.Packet.WAY H.head B.own H.Packet.form m) r) }
     ensures only { (r : Reading) → KeptReads H.Packet.WAY nid bits r → IsSome result }
@@ -171,6 +171,30 @@ fn typed_of<H: Head, B: Own<Front = H>>(
     Ok(typed_by(head, body, packets, &padding))
 }
 
+/// The fields, the header, the kind, the number, the packets and the padding of a typed message.
+fn typed_members(value: &Value) -> Option<(&Value, &Value, &Value, &Value, &Value, &Value)>
+    ensures some { IfSome result (λ m. view value.now ≡ message_tree (view m.0.now) (view m.1.now) (view m.2.now) (view m.3.now) (view m.4.now) (view m.5.now)) }
+    ensures none { (x y z w u v : Data) → view value.now ≡ message_tree x y z w u v → IsSome result }
+{
+    let mut members = Rest::of(value)?;
+    let (fields, header) = members.two("fields", "header")?;
+    let (kind, nid) = members.two("kind", "nid")?;
+    let (packets, padding) = members.last_two("packets", "padding")?;
+    Some((fields, header, kind, nid, packets, padding))
+}
+
+/// The bits, the kind and the number of a message that is kept as bits.
+fn kept_members(value: &Value) -> Option<(&Value, &Value, &Value)>
+    ensures some { IfSome result (λ m. view value.now ≡ kept_message_tree (view m.0.now) (view m.1.now) (view m.2.now)) }
+    ensures none { (x y z : Data) → view value.now ≡ kept_message_tree x y z → IsSome result }
+{
+    let mut members = Rest::of(value)?;
+    let bits = members.next("data")?;
+    let kind = members.next("kind")?;
+    let nid = members.last("nid")?;
+    Some((bits, kind, nid))
+}
+
 /// The message of a tree, if there is one, with stand-ins for packets that are kept as bits and typed by now.
 pub(crate) fn message_in<H: Head, B: Own<Front = H>>(
     alloc: Global,
@@ -180,13 +204,13 @@ pub(crate) fn message_in<H: Head, B: Own<Front = H>>(
     ensures some { IfOk result (λ o. IfSome o (λ m. (u : MessageValue) × (message_value H.Packet.WAY H.head B.own H.Packet.form m ≡ unnamed_message H.Packet.WAY u) × IsMessageTree H.Packet.WAY u (view value.now))) }
     ensures only { IfOk result (λ o. (m : MessageValue) (r : Reading) → MessageReads H.Packet.WAY (unnamed_message H.Packet.WAY m) r → IsMessageTree H.Packet.WAY m (view value.now) → IsSome o) }
 {
-    if let Some((fields, header, kind, nid, packets, padding)) = message_members(value) {
+    if let Some((fields, header, kind, nid, packets, padding)) = typed_members(value) {
         if !is_text(kind, way_word(H::Packet::WAY)) {
             return Ok(None);
         }
         return typed_of(alloc, fields, header, nid, packets, padding);
     }
-    match three_members(value, "data", "kind", "nid") {
+    match kept_members(value) {
         Some((bits, kind, nid)) => {
             if !is_text(kind, way_word(H::Packet::WAY)) {
                 return Ok(None);

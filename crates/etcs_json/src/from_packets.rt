@@ -1,22 +1,22 @@
 //! Packets of their trees.
 
-ghost use Rattle.std.specs.Prelude.{◌≡◌, ◌≢◌, ◌<◌, ◌∷◌, [], ◌++◌, ℕ, All, List, Bool, None, Some, IfOk, IfSome, IsTrue, OnOk, map, option_map};
-ghost use Rattle.serde_json.specs.Data.{Data, Items, array};
-ghost use Rattle.serde_json.specs.View.{view, items_view};
+ghost use Rattle.std.specs.Prelude.{◌≡◌, ◌≢◌, ◌<◌, ◌∷◌, [], ◌++◌, ℕ, All, List, Bool, None, Some, IfOk, IfSome, IsSome, IsTrue, OnOk, map, option_map};
+ghost use Rattle.serde_json.specs.Data.{Data, Items, Members, array};
+ghost use Rattle.serde_json.specs.View.{items_view, members_view, view};
 ghost use Rattle.etcs_vars.specs.declared.var.Var.TheVariants.{NID_VBCMK};
 ghost use Rattle.etcs_vars.specs.Vars.{admits};
 ghost use Rattle.etcs_vars.specs.Reading.{Reading, numbers};
 ghost use Rattle.etcs_tables.specs.declared.row.Way.TheVariants.{ToTrain, ToTrack};
 ghost use Rattle.etcs_tables.specs.Frames.{is_marker};
 ghost use Rattle.etcs_packets.specs.PacketValues.{PacketValue, IsPacketTo, IsTypedOf, kept, marker, typed, variables_of};
-ghost use Rattle.etcs_text.specs.Trees.{bits_tree};
+ghost use Rattle.etcs_text.specs.Trees.{bits_tree, with_dir};
 ghost use Rattle.etcs_json.specs.Loose.{stand_in, unnamed};
 ghost use Rattle.etcs_json.specs.TreeParts.{SaysDirection};
 ghost use Rattle.etcs_json.specs.TreeReading.{ArePairTrees, ArePacketTrees, IsPacketTree, kept_tree, marker_tree, plain, typed_tree};
 
 use crate::carried::stand_in;
-use crate::digits::{bits_in, byte_in, is_zero, two_bytes};
-use crate::members::{three_members, two_members};
+use crate::digits::{bits_in, byte_in, is_zero};
+use crate::members::Rest;
 use crate::numbers::numbers_in;
 use etcs_bits::Bits;
 use etcs_flat::parts::check_other;
@@ -66,40 +66,39 @@ fn typed_by<P: AnyPacket>(
     }
 }
 
-/// The fields, the direction and the number of a typed packet. To the track the direction is 0 and has no member.
+/// The direction of a packet, which comes next to the train. To the track it is 0 and has no member.
+fn direction(way: Way, members: &mut Rest<'_>) -> Option<u8>
+    ensures some { IfSome result (λ dir. SaysDirection way dir × (members_view members.old.members ≡ with_dir way dir (members_view members.new.members))) }
+    ensures none { (dir : ℕ) (ms : Members) → dir < 256 → members_view members.old.members ≡ with_dir way dir ms → IsSome result }
+{
+    match way {
+        Way::ToTrain => byte_in(members.next("dir")?),
+        Way::ToTrack => Some(0),
+    }
+}
+
+/// The fields, the direction and the number of a typed packet.
 fn typed_members(way: Way, value: &Value) -> Option<(&Value, u8, u8)>
     ensures some { IfSome result (λ m. SaysDirection way m.1 × (view value.now ≡ typed_tree way m.1 (view m.0.now) (plain m.2))) }
     ensures none { (dir nid : ℕ) (x : Data) → dir < 256 → nid < 256 → view value.now ≡ typed_tree way dir x (plain nid) → result ≢ None }
 {
-    match way {
-        Way::ToTrain => {
-            let (dir, fields, nid) = three_members(value, "dir", "fields", "nid")?;
-            let (dir, nid) = two_bytes(dir, nid)?;
-            Some((fields, dir, nid))
-        }
-        Way::ToTrack => {
-            let (fields, nid) = two_members(value, "fields", "nid")?;
-            Some((fields, 0, byte_in(nid)?))
-        }
-    }
+    let mut members = Rest::of(value)?;
+    let dir = direction(way, &mut members)?;
+    let fields = members.next("fields")?;
+    let nid = members.last("nid")?;
+    Some((fields, dir, byte_in(nid)?))
 }
 
-/// The bits, the direction and the number of a packet that is kept as bits, as of [`typed_members`].
-fn kept_members(way: Way, value: &Value) -> Option<(&Value, u8, u8)>
+/// The bits, the direction and the number of a packet that is kept as bits.
+pub(crate) fn kept_members(way: Way, value: &Value) -> Option<(&Value, u8, u8)>
     ensures some { IfSome result (λ m. SaysDirection way m.1 × (view value.now ≡ kept_tree way (view m.0.now) m.1 (plain m.2))) }
     ensures none { (dir nid : ℕ) (x : Data) → dir < 256 → nid < 256 → view value.now ≡ kept_tree way x dir (plain nid) → result ≢ None }
 {
-    match way {
-        Way::ToTrain => {
-            let (bits, dir, nid) = three_members(value, "data", "dir", "nid")?;
-            let (dir, nid) = two_bytes(dir, nid)?;
-            Some((bits, dir, nid))
-        }
-        Way::ToTrack => {
-            let (bits, nid) = two_members(value, "data", "nid")?;
-            Some((bits, 0, byte_in(nid)?))
-        }
-    }
+    let mut members = Rest::of(value)?;
+    let bits = members.next("data")?;
+    let dir = direction(way, &mut members)?;
+    let nid = members.last("nid")?;
+    Some((bits, dir, byte_in(nid)?))
 }
 
 /// The packet of this number and direction that is kept as bits, if there is one.
@@ -167,13 +166,24 @@ fn marker_packet<P: AnyPacket>(
     }
 }
 
+/// The fields and the number of packet 0.
+fn marker_members(value: &Value) -> Option<(&Value, &Value)>
+    ensures some { IfSome result (λ m. view value.now ≡ marker_tree (view m.0.now) (view m.1.now)) }
+    ensures none { (x y : Data) → view value.now ≡ marker_tree x y → IsSome result }
+{
+    let mut members = Rest::of(value)?;
+    let fields = members.next("fields")?;
+    let nid = members.last("nid")?;
+    Some((fields, nid))
+}
+
 /// The packet 0 of a tree, if there is one: to the train alone, since to the track packet 0 has a frame.
 fn marker_in<P: AnyPacket>(alloc: Global, value: &Value) -> Result<Option<P>, AllocError>
     ensures made { IfOk result (λ o. IfSome o (λ p. (P.form p).made × IsPacketTo P.WAY (P.form p).value)) }
     ensures some { IfOk result (λ o. IfSome o (λ p. (n : ℕ) × ((P.form p).value ≡ marker n) × IsPacketTree P.WAY (marker n) (view value.now))) }
     ensures only { IfOk result (λ o. (n : ℕ) → IsTrue (is_marker P.WAY n) → IsPacketTree P.WAY (marker n) (view value.now) → option_map (λ p. (P.form p).value) o ≡ Some (marker n)) }
 {
-    match (P::WAY, two_members(value, "fields", "nid")) {
+    match (P::WAY, marker_members(value)) {
         (Way::ToTrain, Some((fields, nid))) => marker_packet(alloc, fields, nid),
         _ => Ok(None),
     }
@@ -226,11 +236,12 @@ fn packets_by<P: AnyPacket>(alloc: Global, list: &[Value]) -> Result<Option<Vec<
     Ok(Some(packets))
 }
 
-/// Puts a packet after the others.
-fn put<P: AnyPacket>(packets: &mut Vec<P>, packet: P) -> Result<(), AllocError>
-    ensures { OnOk result (packets.new.items ≡ packets.old.items ++ packet ∷ []) }
+/// Puts an item after the others.
+#[inline]
+pub(crate) fn put<T: Drop>(list: &mut Vec<T>, item: T) -> Result<(), AllocError>
+    ensures { OnOk result (list.new.items ≡ list.old.items ++ item ∷ []) }
 {
-    match packets.push(packet) {
+    match list.push(item) {
         Ok(()) => Ok(()),
         Err(_) => Err(AllocError),
     }

@@ -1,7 +1,7 @@
 //! Telegrams of their trees.
 
 ghost use Rattle.std.specs.Prelude.{◌≡◌, ◌↔◌, All, Some, IfOk, IfSome, IsSome, IsTrue, map};
-ghost use Rattle.serde_json.specs.Data.{Items, array, string};
+ghost use Rattle.serde_json.specs.Data.{Data, Items, array, string};
 ghost use Rattle.serde_json.specs.View.{view};
 ghost use Rattle.etcs_vars.specs.Reading.{Reading};
 ghost use Rattle.etcs_packets.specs.PacketValues.{IsPacket, packet_value};
@@ -13,8 +13,9 @@ ghost use Rattle.etcs_json.specs.TreeReading.{ArePairTrees, IsTelegramTree, tele
 
 use crate::digits::{bits_in, is_text};
 use crate::from_packets::packets_in;
-use crate::members::four_members;
+use crate::members::Rest;
 use crate::numbers::numbers_in;
+use crate::trees::size_word;
 use etcs_bits::Bits;
 use etcs_packets::Packet;
 use etcs_tables::{Row, RowItem};
@@ -68,16 +69,6 @@ fn header_in(alloc: Global, value: &Value) -> Result<Option<Header>, AllocError>
     }
 }
 
-/// The word for a size.
-fn size_word(size: Size) -> &'static str
-    ensures { result.now ≡ kind_word size }
-{
-    match size {
-        Size::Short => "short",
-        Size::Long => "long",
-    }
-}
-
 /// The telegram of these parts, if there is one.
 fn telegram_by(size: Size, header: Header, packets: Vec<Packet>, fill: Bits) -> Option<Telegram>
     requires header { IsAdmitted (header_reading header) }
@@ -92,6 +83,18 @@ fn telegram_by(size: Size, header: Header, packets: Vec<Packet>, fill: Bits) -> 
     }
 }
 
+/// The fill, the header, the kind and the packets of a telegram.
+fn telegram_members(value: &Value) -> Option<(&Value, &Value, &Value, &Value)>
+    ensures some { IfSome result (λ m. view value.now ≡ telegram_tree (view m.0.now) (view m.1.now) (view m.2.now) (view m.3.now)) }
+    ensures none { (x y z w : Data) → view value.now ≡ telegram_tree x y z w → IsSome result }
+{
+    let mut members = Rest::of(value)?;
+    let (fill, header) = members.two("fill", "header")?;
+    let kind = members.next("kind")?;
+    let packets = members.last("packets")?;
+    Some((fill, header, kind, packets))
+}
+
 /// The telegram of a tree, if there is one of this size, with stand-ins for numbers that are kept as bits and typed by
 /// now.
 pub(crate) fn telegram_in(
@@ -104,7 +107,7 @@ pub(crate) fn telegram_in(
     ensures some { IfOk result (λ o. IfSome o (λ t. (u : TelegramValue) × (telegram_value t ≡ unnamed_telegram u) × IsTelegramTree u (view value.now))) }
     ensures only { IfOk result (λ o. (t : TelegramValue) (r : Reading) → t.size ≡ size → TelegramReads (unnamed_telegram t) r → IsTelegramTree t (view value.now) → IsSome o) }
 {
-    match four_members(value, "fill", "header", "kind", "packets") {
+    match telegram_members(value) {
         Some((fill, header, kind, packets)) => {
             if !is_text(kind, size_word(size)) {
                 return Ok(None);

@@ -1,16 +1,15 @@
 //! The trees of variables with their numbers, and of bits.
 
-ghost use Rattle.std.specs.Prelude.{◌≡◌, ◌<◌, ◌++◌, [], IfOk, OnOk, string_bytes};
+ghost use Rattle.std.specs.Prelude.{◌≡◌, ◌<◌, ◌++◌, IfOk, OnOk, string_bytes};
 ghost use Rattle.serde_json.specs.View.{view};
 ghost use Rattle.etcs_text.specs.Show.{hex_digit, hex_digits};
 ghost use Rattle.etcs_text.specs.Trees.{bits_tree, number_tree, pair_tree, pairs_tree};
 
 use etcs_bits::BitSlice;
-use etcs_vars::Var;
-use etcs_vars::parts::{VarSink, Variables};
+use etcs_vars::parts::Variables;
+use etcs_vars::{Var, pairs_of};
 use serde_json::{Value, json};
 use std::alloc::{AllocError, Global};
-use std::marker::Model;
 
 /// The digit of four bits, in lower case.
 fn hex_digit_of(bits: u8) -> char
@@ -82,56 +81,6 @@ pub(crate) fn bits_json(alloc: Global, bits: &BitSlice<'_>) -> Result<Value, All
     json!(in alloc; text)
 }
 
-/// Variables with their numbers, in the order of sending.
-#[derive(Drop)]
-pub(crate) struct SentList {
-    held: Vec<(Var, u64)>,
-}
-
-impl Model for SentList {
-    ghost use Rattle.etcs_vars.specs.Reading.{Reading};
-
-    ghost Value = { Reading };
-
-    ghost view = { λ s. s.held.items };
-}
-
-impl SentList {
-    /// An empty one.
-    pub(crate) fn new(alloc: Global) -> SentList
-        ensures { result ≡ [] }
-    {
-        SentList {
-            held: Vec::new(alloc),
-        }
-    }
-
-    /// They as they are.
-    pub(crate) fn as_slice(&self) -> &[(Var, u64)]
-        ensures { result.now ≡ self.now }
-    {
-        self.held.as_slice()
-    }
-}
-
-impl VarSink for SentList {
-    ghost use Rattle.std.proofs.Common.{◌++◌, append-nil, append_assoc, sym};
-
-    ghost with = { λ s r. s ++ r };
-
-    ghost failed = { λ s t. Unit {0} };
-
-    ghost with_none = { λ s. append-nil s };
-
-    ghost with_both = { λ s a b. sym (append_assoc s a b) };
-
-    ghost failed_behind = { λ s a t h. tt };
-
-    fn send(&mut self, sent: &[(Var, u64)]) -> Result<(), AllocError> {
-        self.held.extend_from_slice(sent)
-    }
-}
-
 /// The variables of a run, each as a pair.
 pub(crate) fn variables_json<V: Variables>(
     alloc: Global,
@@ -139,7 +88,6 @@ pub(crate) fn variables_json<V: Variables>(
 ) -> Result<Value, AllocError>
     ensures { IfOk result (λ v. view v ≡ pairs_tree (V.reading_of variables.now)) }
 {
-    let mut sent = SentList::new(alloc);
-    variables.send(&mut sent)?;
-    pairs_json(alloc, sent.as_slice())
+    let pairs = pairs_of(variables, alloc)?;
+    pairs_json(alloc, pairs.as_slice())
 }

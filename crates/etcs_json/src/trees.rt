@@ -13,13 +13,14 @@ ghost use Rattle.etcs_text.specs.Show.{kind_word, way_word};
 ghost use Rattle.etcs_text.specs.Trees.{bits_tree, json_tree, message_tree, packet_tree, packets_tree, pairs_tree, telegram_tree};
 ghost use Rattle.etcs_json.specs.TreeParts.{member_dir, typed_members};
 
-use crate::pairs::{SentList, bits_json, pairs_json, variables_json};
+use crate::pairs::{bits_json, pairs_json, variables_json};
 use etcs_bits::BitSlice;
 use etcs_messages::{Head, MessageOf, Own};
 use etcs_packets::parts::AnyPacket;
 use etcs_tables::Way;
 use etcs_telegram::{Size, Telegram};
 use etcs_text::Entry;
+use etcs_vars::parts::PairList;
 use serde_json::{Value, json};
 use std::alloc::{AllocError, Global};
 
@@ -27,9 +28,9 @@ use std::alloc::{AllocError, Global};
 fn fields_json<P: AnyPacket>(alloc: Global, packet: &P) -> Result<Value, AllocError>
     ensures { IfOk result (λ v. view v ≡ pairs_tree (variables_of (P.form packet.now).value)) }
 {
-    let mut sent = SentList::new(alloc);
+    let mut sent = PairList::new(alloc);
     packet.send_variables(&mut sent)?;
-    pairs_json(alloc, sent.as_slice())
+    pairs_json(alloc, sent.into_vec().as_slice())
 }
 
 /// The direction of a packet, where it has a member: to the train packet 0 has none, and to the track no packet has one.
@@ -94,7 +95,7 @@ fn packets_json<P: AnyPacket>(alloc: Global, packets: &[P]) -> Result<Value, All
 }
 
 /// The kind of the telegrams of a size.
-fn size_word(size: Size) -> &'static str
+pub(crate) fn size_word(size: Size) -> &'static str
     ensures { result.now ≡ kind_word size }
 {
     match size {

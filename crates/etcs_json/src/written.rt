@@ -4,7 +4,7 @@
 //! passed over. Then the item is written, and the line is its JSON where that is the line. So a guess needs no contract:
 //! what it takes is compared, each byte of it.
 
-ghost use Rattle.std.specs.Prelude.{◌≡◌, ◌++◌, ◌∷◌, [], IsTrue, IfOk, IfSome};
+ghost use Rattle.std.specs.Prelude.{◌≡◌, ◌++◌, ◌∷◌, [], IsTrue, IfOk};
 ghost use Rattle.serde_json.specs.Written.{compact_text};
 ghost use Rattle.etcs_vars.specs.Reading.{Reading};
 ghost use Rattle.etcs_text.specs.Entries.{EntryReads, entry_value, kind_of};
@@ -13,34 +13,31 @@ ghost use Rattle.etcs_text.specs.Trees.{json_tree};
 pub(crate) mod digits;
 mod guess;
 mod guess_message;
-mod text;
+pub(crate) mod text;
 
 use crate::written::guess::guess_telegram;
 use crate::written::guess_message::guess_message;
-use crate::written::text::Text;
+use crate::written::text::{Miss, Text};
 use etcs_messages::parts as message_parts;
 use etcs_telegram::{Size, parts as telegram_parts};
 use etcs_text::{Entry, Kind, json_line};
 use std::alloc::{AllocError, Global};
 
-/// An item of the kind that `json_line` writes as this line, without its LF. `None` says nothing: the line may still
-/// be JSON of an item, as with blanks between its parts.
+/// An item of the kind that `json_line` writes as this line, without its LF.
 ///
 /// # Errors
 ///
-/// - [`AllocError`] where memory was refused; nothing is kept.
-pub fn written_item(alloc: Global, kind: Kind, line: &[u8]) -> Result<Option<Entry>, AllocError>
-    ensures { IfOk result (λ o. IfSome o (λ e. (r : Reading) × EntryReads kind (entry_value e) r × (line.now ≡ compact_text (json_tree (entry_value e))))) }
+/// - [`Miss::Shape`] where there is none, which says nothing: the line may still be JSON of an item, as with blanks between
+///   its parts;
+/// - [`Miss::Memory`] where memory was refused; nothing is kept.
+pub(crate) fn written_item(alloc: Global, kind: Kind, line: &[u8]) -> Result<Entry, Miss>
+    ensures { IfOk result (λ e. (r : Reading) × EntryReads kind (entry_value e) r × (line.now ≡ compact_text (json_tree (entry_value e)))) }
 {
-    match guessed(alloc, kind, line)? {
-        Some(entry) => {
-            if is_written(alloc, &entry, line)? {
-                Ok(Some(entry))
-            } else {
-                Ok(None)
-            }
-        }
-        None => Ok(None),
+    let entry = guessed(alloc, kind, line)?;
+    if is_written(alloc, &entry, line)? {
+        Ok(entry)
+    } else {
+        Err(Miss::Shape)
     }
 }
 
@@ -65,8 +62,8 @@ fn is_line(text: &[u8], line: &[u8]) -> bool
 }
 
 /// An item of the kind that may be the line's.
-fn guessed(alloc: Global, kind: Kind, line: &[u8]) -> Result<Option<Entry>, AllocError>
-    ensures { IfOk result (λ o. IfSome o (λ e. (r : Reading) × EntryReads kind (entry_value e) r)) }
+fn guessed(alloc: Global, kind: Kind, line: &[u8]) -> Result<Entry, Miss>
+    ensures { IfOk result (λ e. (r : Reading) × EntryReads kind (entry_value e) r) }
 {
     match kind {
         Kind::Long => telegram_guessed(alloc, Size::Long, line),
@@ -77,40 +74,28 @@ fn guessed(alloc: Global, kind: Kind, line: &[u8]) -> Result<Option<Entry>, Allo
 }
 
 /// A telegram of the size that may be the line's.
-fn telegram_guessed(alloc: Global, size: Size, line: &[u8]) -> Result<Option<Entry>, AllocError>
-    ensures { IfOk result (λ o. IfSome o (λ e. (r : Reading) × EntryReads (kind_of size) (entry_value e) r)) }
+fn telegram_guessed(alloc: Global, size: Size, line: &[u8]) -> Result<Entry, Miss>
+    ensures { IfOk result (λ e. (r : Reading) × EntryReads (kind_of size) (entry_value e) r) }
 {
-    match guess_telegram(alloc, size, &mut Text::new(line))? {
-        Some(telegram) => {
-            telegram_parts::reads(&telegram);
-            Ok(Some(Entry::Telegram(telegram)))
-        }
-        None => Ok(None),
-    }
+    let telegram = guess_telegram(alloc, size, &mut Text::new(line))?;
+    telegram_parts::reads(&telegram);
+    Ok(Entry::Telegram(telegram))
 }
 
 /// A message to the train that may be the line's.
-fn message_guessed(alloc: Global, line: &[u8]) -> Result<Option<Entry>, AllocError>
-    ensures { IfOk result (λ o. IfSome o (λ e. (r : Reading) × EntryReads Kind.Radio (entry_value e) r)) }
+fn message_guessed(alloc: Global, line: &[u8]) -> Result<Entry, Miss>
+    ensures { IfOk result (λ e. (r : Reading) × EntryReads Kind.Radio (entry_value e) r) }
 {
-    match guess_message(alloc, &mut Text::new(line))? {
-        Some(message) => {
-            message_parts::reads(&message);
-            Ok(Some(Entry::Message(message)))
-        }
-        None => Ok(None),
-    }
+    let message = guess_message(alloc, &mut Text::new(line))?;
+    message_parts::reads(&message);
+    Ok(Entry::Message(message))
 }
 
 /// A message to the track that may be the line's.
-fn train_guessed(alloc: Global, line: &[u8]) -> Result<Option<Entry>, AllocError>
-    ensures { IfOk result (λ o. IfSome o (λ e. (r : Reading) × EntryReads Kind.Train (entry_value e) r)) }
+fn train_guessed(alloc: Global, line: &[u8]) -> Result<Entry, Miss>
+    ensures { IfOk result (λ e. (r : Reading) × EntryReads Kind.Train (entry_value e) r) }
 {
-    match guess_message(alloc, &mut Text::new(line))? {
-        Some(message) => {
-            message_parts::reads(&message);
-            Ok(Some(Entry::Train(message)))
-        }
-        None => Ok(None),
-    }
+    let message = guess_message(alloc, &mut Text::new(line))?;
+    message_parts::reads(&message);
+    Ok(Entry::Train(message))
 }

@@ -21,12 +21,6 @@ frame_is way (marker n) dir bits d b = absurd cc
 frame_is way (typed nid dir' r) dir bits d b = let same : dir ≡ dir' = cc in rw (same, b) refl
 frame_is way (kept nid dir' k) dir bits d b = let same : dir ≡ dir' = cc in rw (same, b) refl
 
--- where there is no direction
-pub no_frame : (way : Way) (v : PacketValue) → None ≡ dir_of v → [] ≡ frame_lines way v
-no_frame way (marker n) d = refl
-no_frame way (typed nid dir r) d = absurd cc
-no_frame way (kept nid dir k) d = absurd cc
-
 -- those of bits that are kept
 pub kept_lines : (v : PacketValue) (b : List Bool) → Some b ≡ kept_of v → bits_line (codes "OTHER_DATA") b ≡ body_lines v
 kept_lines (marker n) b e = absurd cc

@@ -1,6 +1,6 @@
 -- The text of a message, part by part.
 use Rattle.std.proofs.Common.{◌≡◌, ℕ, ◌+◌, ◌/◌, ◌^◌, ◌≤◌, Bool, List, [], ◌∷◌, ◌++◌, length, flat_map, Some, None, Result, Ok, Err, refl, sym, ap, ◌∙◌, arith, append_assoc}
-use Rattle.std.specs.Prelude.{◌-◌, OnOk, codes, if◌then◌else◌, nat_le}
+use Rattle.std.specs.Prelude.{◌-◌, OnOk, if◌then◌else◌, nat_le}
 use Rattle.std.proofs.lemmas.List.{take_all}
 use Rattle.etcs_bits.specs.Bits.{num, bits, part}
 use Rattle.etcs_bits.proofs.ByteBits.{bits-part}
@@ -14,11 +14,10 @@ use Rattle.etcs_packets.specs.PacketValues.{Form}
 use Rattle.etcs_messages.specs.declared.message.Content.{Content}
 use Rattle.etcs_messages.specs.declared.message.Content.TheVariants.{Typed, Kept}
 use Rattle.etcs_messages.specs.Kinds.{HeadOf, OwnOf}
-use Rattle.etcs_messages.specs.Messages.{all_bits, head_reading, message_value, padding_room, values_of}
-use Rattle.etcs_messages.specs.Readings.{bytes_of, front_reading, kept_of, packets_of, padding_bits_of, padding_of}
+use Rattle.etcs_messages.specs.Messages.{all_bits, head_reading, message_value, padding_room}
+use Rattle.etcs_messages.specs.Readings.{bytes_of, front_reading, padding_bits_of, padding_of}
 use Rattle.etcs_text.specs.Messages.{message_bits, message_bytes, message_line, front_variables, behind_lines, message_text}
-use Rattle.etcs_text.specs.Packets.{packets_text}
-use Rattle.etcs_text.specs.Show.{variable_line, bits_line}
+use Rattle.etcs_text.specs.Show.{variable_line}
 
 module _ {H B P : Type 0} (way : Way) (k : HeadOf H) (o : OwnOf B) (form : P → Form) where
   -- ---- How many bits there are.
@@ -32,20 +31,6 @@ module _ {H B P : Type 0} (way : Way) (k : HeadOf H) (o : OwnOf B) (form : P →
   front_is : (m : Content H B P) → front_reading way k o form m ≡ front_variables way (message_value way k o form m)
   front_is (Typed head body ps padding) = ap (λ (len : ℕ). head_reading (o.nid body) len (k.reading head) ++ o.reading body) (bytes_are (Typed head body ps padding))
   front_is (Kept nid b) = refl
-
-  -- ---- What follows them.
-
-  -- packets, the end and PADDING
-  abbrev pub closed_lines : Content H B P → List ℕ
-  closed_lines m = packets_text way (values_of form (packets_of m)) ++ codes "end\n" ++ bits_line (codes "PADDING") (num (padding_bits_of way o form m) (padding_of m))
-
-  pub typed_behind : (m : Content H B P) → kept_of m ≡ None → closed_lines m ≡ behind_lines way (message_value way k o form m)
-  typed_behind (Typed head body ps padding) e = refl
-  typed_behind (Kept nid b) e = absurd cc
-
-  pub kept_behind : (m : Content H B P) (b : List Bool) → kept_of m ≡ Some b → bits_line (codes "OTHER_DATA") b ≡ behind_lines way (message_value way k o form m)
-  kept_behind (Typed head body ps padding) b e = absurd cc
-  kept_behind (Kept nid c) b e = let same : c ≡ b = cc in rw same refl
 
 -- the last bits of a byte
 pub low_bits : (o k n : ℕ) → o + k ≡ 8 → part o k (bits (n ∷ [])) ≡ num k n
@@ -90,10 +75,6 @@ module _ {H B P : Type 0} (way : Way) (o : OwnOf B) (form : P → Form) where
       let whole : at + count ≡ 8 = omega (arith, rest, same, padding_few m) in
       let all = num (padding_bits_of way o form m) (padding_of m) in
       sym (part_inside at count (bits (n ∷ [])) all (omega (arith, whole, length-bits (n ∷ []))) (ap (λ (w : ℕ). num w (padding_of m)) (sym same) ∙ ap (num count) (sym number) ∙ sym (low_bits at count n whole)))
-
-  -- and has a number of bits that can be written
-  pub padding_fits : (m : Content H B P) (count : ℕ) → count ≡ padding_bits_of way o form m → count ≤ 7
-  padding_fits m count same = omega (arith, same, padding_few m)
 
 pub some_bits : (a b : List Bool) → Some a ≡ Some b → a ≡ b
 some_bits a b e = cc

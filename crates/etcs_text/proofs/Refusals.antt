@@ -1,5 +1,5 @@
 -- What holds on an error, and without one.
-use Rattle.std.proofs.Common.{◌≡◌, ℕ, List, [], ◌∷◌, ◌++◌, Result, Ok, Err, ap, ◌∙◌, append_assoc}
+use Rattle.std.proofs.Common.{◌≡◌, ℕ, List, ◌++◌, Result, Ok, Err, ap, ◌∙◌, append_assoc}
 use Rattle.std.specs.Prelude.{OnErr, OnOk}
 use Rattle.etcs_text.specs.Fronts.{Begins}
 use Rattle.etcs_text.specs.laws.Fronts.{begins_more}
@@ -23,8 +23,3 @@ on_error (Err f) old mid new more e p = begins_more old mid new more e p
 pub behind_ok : {T E : Type 0} (r : Result T E) (old a one rest new : List ℕ) → one ≡ old ++ a → OnOk r (new ≡ one ++ rest) → OnOk r (new ≡ old ++ (a ++ rest))
 behind_ok (Ok x) old a one rest new e h = h ∙ ap (λ (z : List ℕ). z ++ rest) e ∙ append_assoc old a rest
 behind_ok (Err f) old a one rest new e h = tt
-
--- the same of a text with one byte more
-pub behind_and_ok : {T E : Type 0} (r : Result T E) (old a : List ℕ) (end : ℕ) (one rest new : List ℕ) → one ≡ old ++ (a ++ end ∷ []) → OnOk r (new ≡ one ++ rest) → OnOk r (new ≡ old ++ (a ++ end ∷ rest))
-behind_and_ok r old a end one rest new e h =
-    on_ok r old new ((a ++ end ∷ []) ++ rest) (a ++ end ∷ rest) (append_assoc a (end ∷ []) rest) (behind_ok r old (a ++ end ∷ []) one rest new e h)

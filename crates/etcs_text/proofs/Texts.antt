@@ -2,17 +2,10 @@
 use Rattle.std.proofs.Common.{◌≡◌, ℕ, ◌+◌, ◌-◌, ◌/◌, ◌%◌, ◌^◌, ◌<◌, ◌≤◌, Bool, false, List, [], ◌∷◌, ◌++◌, length, take, get_or, map, flat_map, set, Some, None, cond, Result, Ok, Err, sym, ap, ◌∙◌, arith, append_assoc}
 use Rattle.std.specs.Prelude.{bit_and, OnOk, codes}
 use Rattle.std.specs.Result.{is_ok}
-use Rattle.std.specs.Fmt.{decimal}
-use Rattle.std.proofs.lemmas.Fmt.{decimal_step}
-use Rattle.etcs_vars.specs.declared.var.Var.{Var}
-use Rattle.etcs_vars.specs.Reading.{Reading, Sent}
 use Rattle.std.proofs.lemmas.Nat.{and_mask}
 use Rattle.std.proofs.lemmas.Bool.{le-leb}
 use Rattle.std.proofs.Math.Seq.{take-add}
-use Rattle.std.proofs.lemmas.List.{append-nil, take_all, take_more, take_more_set, map_more, map-append}
-use Rattle.std.proofs.lemmas.Grind.{flat_map-append}
-use Rattle.std.specs.List.{zip}
-use Rattle.std.proofs.lemmas.Slice.Zip.{length-zip, get_or-zip}
+use Rattle.std.proofs.lemmas.List.{take_all, take_more_set, map_more, map-append}
 use Rattle.etcs_bits.specs.Bits.{num, bit, value, part, number_at}
 use Rattle.etcs_bits.proofs.Numbers.{length-num, bit-eqb, num-value}
 use Rattle.etcs_bits.proofs.Lists.{length-part}
@@ -103,27 +96,3 @@ packets_telegram_text size size' item header header' packets packets' fill fill'
 pub telegram_text : (t : TelegramContent) (item : ℕ) (size : Size) (header : HeaderValue) (packets : List PacketValue) (fill : List Bool) (old one two three four five : List ℕ) → size ≡ t.size → header ≡ t.header → packets ≡ map packet_value t.packets → fill ≡ t.fill → one ≡ old ++ item_line size item → two ≡ one ++ flat_map variable_line (header_reading header) → three ≡ two ++ packets_text ToTrain packets → four ≡ three ++ codes "packet 255\n" → five ≡ four ++ fill_line fill → five ≡ old ++ show_text (telegram_value t) item
 unfolding show_text
 telegram_text t item size header packets fill old one two three four five s h p f e g k l m = packets_telegram_text size t.size item header t.header packets (map packet_value t.packets) fill t.fill old one two three four five s h p f e g k l m
-
--- a number of several digits
-pub decimal_more : (n : ℕ) (old front out : List ℕ) → 10 ≤ n → n < 2 ^ 64 → front ≡ old ++ decimal (n / 10) → out ≡ front ++ (48 + n % 10) ∷ [] → out ≡ old ++ decimal n
-decimal_more n old front out big fits e f =
-    f
-    ∙ ap (λ (z : List ℕ). z ++ (48 + n % 10) ∷ []) e
-    ∙ append_assoc old (decimal (n / 10)) ((48 + n % 10) ∷ [])
-    ∙ ap (λ (z : List ℕ). old ++ z) (sym (decimal_step n big fits))
-
--- the line of one more variable
-pub line_more : (vars : List Var) (numbers : List ℕ) (k j : ℕ) (v : Var) (n : ℕ) (front out done : List ℕ) → j ≡ k + 1 → k < length vars → k < length numbers → v ≡ get_or vars k v → n ≡ get_or numbers k n → done ≡ front ++ flat_map variable_line (take k (zip vars numbers)) → out ≡ done ++ variable_line (v, n) → out ≡ front ++ flat_map variable_line (take j (zip vars numbers))
-line_more vars numbers k j v n front out done next h g e f was is =
-    let pairs = zip vars numbers in
-    let below : k < length pairs = omega (arith, length-zip vars numbers) in
-    let here : ◌≡◌ {A = Sent} (v, n) (get_or pairs k (v, n)) = sym (get_or-zip vars numbers k (v, n) h g ∙ ap (λ (x : Var). (x, get_or numbers k n)) (sym e) ∙ ap (λ (x : ℕ). (v, x)) (sym f)) in
-    is
-    ∙ ap (λ (z : List ℕ). z ++ variable_line (v, n)) was
-    ∙ append_assoc front (flat_map variable_line (take k pairs)) (variable_line (v, n))
-    ∙ ap (λ (z : List ℕ). front ++ z)
-    (ap (λ (z : Sent). flat_map variable_line (take k pairs) ++ variable_line z) here
-    ∙ ap (λ (z : List ℕ). flat_map variable_line (take k pairs) ++ z) (sym (append-nil (variable_line (get_or pairs k (v, n)))))
-    ∙ sym (flat_map-append variable_line (take k pairs) (get_or pairs k (v, n) ∷ []))
-    ∙ ap (λ (z : Reading). flat_map variable_line z) (sym (take_more pairs k (v, n) below))
-    ∙ ap (λ i. flat_map variable_line (take i pairs)) (sym next))

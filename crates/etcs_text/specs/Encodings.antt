@@ -5,10 +5,6 @@ use Rattle.etcs_bits.specs.Bits.{bits}
 use Rattle.etcs_vars.specs.Reading.{Reading, spelled}
 use Rattle.etcs_text.specs.Entries.{EntryValue, Spells, entry_bits}
 
--- the bits of the bytes are the item's spelling
-abbrev pub Encodes : EntryValue → List ℕ → Type 0
-Encodes e bytes = (r : Reading) × Spells e r × (bits bytes ≡ spelled r)
-
 -- the bytes whose bits are the item's spelling
 pub record IsEncoded (e : EntryValue) (bytes : List ℕ) : Type 0 where
   pub reading : Reading

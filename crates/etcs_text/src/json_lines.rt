@@ -24,7 +24,8 @@ use etcs_telegram::{Size, Telegram};
 use std::alloc::AllocError;
 
 /// The kind of a telegram, and the name of its packets.
-fn kind_member(size: Size) -> &'static [u8]
+#[inline]
+pub fn kind_member(size: Size) -> &'static [u8]
     ensures { result.now ≡ kind_member size }
 {
     match size {
@@ -49,7 +50,7 @@ fn write_telegram(telegram: &Telegram, out: &mut Vec<u8>) -> Result<(), AllocErr
 
 /// The kind of the messages of a way, and the name of their number.
 #[inline(always)]
-fn way_member(way: Way) -> &'static [u8]
+pub fn way_member(way: Way) -> &'static [u8]
     ensures { result.now ≡ way_member way }
 {
     match way {

@@ -1,9 +1,9 @@
 -- The grammar's loops, a turn at a time, under the conversion to data: as serde_json has it for its own proofs.
-use Rattle.std.proofs.Common.{◌≡◌, ℕ, zero, suc, ◌-◌, ◌<◌, ◌≤◌, List, [], ◌∷◌, ◌++◌, length, Option, Some, None, option_map, option_and_then, refl, ap, ◌∙◌}
+use Rattle.std.proofs.Common.{◌≡◌, ℕ, zero, suc, ◌-◌, ◌<◌, ◌≤◌, List, [], ◌∷◌, ◌++◌, length, Option, Some, None, option_map, option_and_then, refl, ap, ◌∙◌, arith}
 use Rattle.json.specs.Token.{Token}
 use Rattle.json.specs.Json as json
 use Rattle.json.specs.Json.{Parse, parse_map, after_end_array, read_key, items_step, items, members}
-use Rattle.json.proofs.Grammar.{items_end, items_more, members_end, members_no_key, members_more}
+use Rattle.json.proofs.Grammar.{items_end, items_more, members_end, members_no_key, members_more, read_key-shorter}
 use Rattle.serde_json.specs.Data.{Data, array, object, Items, no_items, item, Members, no_members, put}
 use Rattle.serde_json.specs.Read.{of_json, of_items, of_members, converted}
 use Rattle.serde_json.specs.View.{view, items_view}
@@ -119,3 +119,19 @@ none_before (Some p) = refl
 pub parse_map-twice : {A B C : Type 0} (f : B → C) (g : A → B) (r : Option (A × List Token)) → json.parse_map f (json.parse_map g r) ≡ json.parse_map (λ a. f (g a)) r
 parse_map-twice f g None = refl
 parse_map-twice f g (Some p) = refl
+
+-- ---- a turn of a loop
+
+-- an item more of the list `whole`, of which vs were read before
+pub item_turn : (p : Parse json.Json) (n : ℕ) (ts us r : List Token) (vs : List Value) (d : Data) (whole : Option (Items × List Token)) → length ts ≤ n → (after_end_array ts ≡ None) × (us ≡ ts) → length r < length us → converted of_json (p us) ≡ Some (d, r)
+    → whole ≡ parse_map (items_before vs) (converted of_items (items p n ts)) → (length r < length ts) × (length r ≤ n - 1) × (whole ≡ parse_map (items_before vs) (parse_map (item d) (converted of_items (items p (n - 1) r))))
+item_turn p n ts us r vs d whole enough going shorter e is =
+    let less : length r < length ts = omega (arith, shorter, ap length going.1) in
+    (less, omega arith, is ∙ ap (parse_map (items_before vs)) (item_read p n ts r d (omega arith) going.0 (rw going.1 at e)))
+
+-- a member more of the object `whole`, of which `old` was found before
+pub member_turn : (p : Parse json.Json) (n : ℕ) (k : List ℕ) (ts s r : List Token) (old : Members) (d : Data) (whole : Option (Members × List Token)) → length ts ≤ n → read_key ts ≡ Some (Some k, s) → length r < length s → converted of_json (p s) ≡ Some (d, r)
+    → whole ≡ converted (λ ms. of_members ms old) (members p n ts) → (length r < length ts) × (length r ≤ n - 1) × (whole ≡ converted (λ ms. of_members ms (put k d old)) (members p (n - 1) r))
+member_turn p n k ts s r old d whole enough key shorter e is =
+    let less = read_key-shorter ts (Some k) s key in
+    (omega arith, omega arith, is ∙ member_read p old n k ts s r d (omega arith) key e)

@@ -4,17 +4,17 @@
 ghost use Rattle.std.specs.Prelude.{◌≡◌, [], map, IfSome};
 ghost use Rattle.etcs_messages.specs.Kinds.{IsHead, IsOwn};
 
-use crate::from_message::head_items;
-use crate::trees::way_word;
+use crate::from_message::{head_items, kept_by};
 use crate::written::digits::padding_number;
 use crate::written::guess::packets;
-use crate::written::text::Text;
+use crate::written::text::{Miss, Text};
 use etcs_bits::Bits;
 use etcs_messages::{Head, MessageOf, Own};
 use etcs_packets::parts::AnyPacket;
 use etcs_rows::admits_fields;
 use etcs_tables::{Row, message_row};
-use std::alloc::{AllocError, Global};
+use etcs_text::parts::way_member;
+use std::alloc::Global;
 
 /// The head of these numbers.
 fn head_of<H: Head>(numbers: &[u64]) -> Option<H> {
@@ -49,91 +49,53 @@ fn typed_of<H: Head, B: Own<Front = H>>(
     }
 }
 
-/// Passes over the name of a message's kind and that of its number, and answers the number.
-fn number(text: &mut Text<'_>, kind: &str) -> Option<u8> {
-    if text.skip(b"\"kind\":\"") && text.skip(kind.as_bytes()) && text.skip(b"\",\"nid\":") {
-        text.byte()
-    } else {
-        None
-    }
-}
-
 /// The message that is kept as bits, after their quotation mark.
 fn kept_message<H: Head, B: Own<Front = H>>(
     alloc: Global,
     text: &mut Text<'_>,
-) -> Result<Option<MessageOf<H, B>>, AllocError> {
-    let Some(bits) = text.bits(alloc)? else {
-        return Ok(None);
-    };
-    if !text.skip(b"\",") {
-        return Ok(None);
-    }
-    let Some(nid) = number(text, way_word(H::Packet::WAY)) else {
-        return Ok(None);
-    };
-    match MessageOf::kept(nid, bits) {
-        Ok(message) => Ok(Some(message)),
-        Err(_) => Ok(None),
-    }
+) -> Result<MessageOf<H, B>, Miss> {
+    let bits = text.bits(alloc)?;
+    text.pass(b"\"")?;
+    text.pass(way_member(H::Packet::WAY))?;
+    let nid = text.byte()?;
+    kept_by(nid, bits).ok_or(Miss::Shape)
 }
 
 /// The typed message, at the pairs of its own variables.
 fn typed_message<H: Head, B: Own<Front = H>>(
     alloc: Global,
     text: &mut Text<'_>,
-) -> Result<Option<MessageOf<H, B>>, AllocError> {
-    let Some(own) = text.pairs(alloc)? else {
-        return Ok(None);
-    };
-    if !text.skip(b",\"header\":") {
-        return Ok(None);
-    }
-    let Some(numbers) = text.pairs(alloc)? else {
-        return Ok(None);
-    };
-    if !text.skip(b",") {
-        return Ok(None);
-    }
-    let Some(nid) = number(text, way_word(H::Packet::WAY)) else {
-        return Ok(None);
-    };
+) -> Result<MessageOf<H, B>, Miss> {
+    let own = text.pairs(alloc)?;
+    text.pass(b",\"header\":")?;
+    let numbers = text.pairs(alloc)?;
+    text.pass(way_member(H::Packet::WAY))?;
+    let nid = text.byte()?;
+    let (packets, padding) = behind_number::<H>(alloc, text)?;
     let body = body_of::<H, B>(nid, own.as_slice());
-    behind_number(alloc, text, head_of::<H>(numbers.as_slice()), body)
+    let head = head_of::<H>(numbers.as_slice());
+    typed_of(head, body, packets, &padding).ok_or(Miss::Shape)
 }
 
-/// The typed message with this head and body, after its number.
-fn behind_number<H: Head, B: Own<Front = H>>(
+/// The packets and the padding of a typed message, after its number.
+fn behind_number<H: Head>(
     alloc: Global,
     text: &mut Text<'_>,
-    head: Option<H>,
-    body: Option<B>,
-) -> Result<Option<MessageOf<H, B>>, AllocError> {
-    if !text.skip(b",\"packets\":") {
-        return Ok(None);
-    }
-    let Some(packets) = packets::<H::Packet>(alloc, text)? else {
-        return Ok(None);
-    };
-    if !text.skip(b",\"padding\":\"") {
-        return Ok(None);
-    }
-    let Some(padding) = text.bits(alloc)? else {
-        return Ok(None);
-    };
-    Ok(typed_of(head, body, packets, &padding))
+) -> Result<(Vec<H::Packet>, Bits), Miss> {
+    text.pass(b",\"packets\":")?;
+    let packets = packets::<H::Packet>(alloc, text)?;
+    text.pass(b",\"padding\":\"")?;
+    Ok((packets, text.bits(alloc)?))
 }
 
 /// A message that the text may be.
 pub(crate) fn guess_message<H: Head, B: Own<Front = H>>(
     alloc: Global,
     text: &mut Text<'_>,
-) -> Result<Option<MessageOf<H, B>>, AllocError> {
+) -> Result<MessageOf<H, B>, Miss> {
     if text.skip(b"{\"fields\":") {
         return typed_message(alloc, text);
     }
-    if text.skip(b"{\"data\":\"") {
-        return kept_message(alloc, text);
-    }
-    Ok(None)
+    text.pass(b"{\"data\":\"")?;
+    kept_message(alloc, text)
 }

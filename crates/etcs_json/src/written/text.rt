@@ -1,9 +1,25 @@
 //! The numbers and bits in a text of JSON.
 
+use crate::from_packets::put;
 use crate::written::digits::hex_number;
 use etcs_bits::{BitSlice, Bits};
 use memchr::memchr;
 use std::alloc::{AllocError, Global};
+
+/// Why nothing is guessed.
+#[derive(Clone, Copy)]
+pub(crate) enum Miss {
+    /// The text has another shape than what `json_line` writes.
+    Shape,
+    /// Memory was refused.
+    Memory,
+}
+
+impl From<AllocError> for Miss {
+    fn from(_refused: AllocError) -> Miss {
+        Miss::Memory
+    }
+}
 
 /// What is left of a text. What its calls take is a guess, which is compared with the text in the end.
 #[derive(Drop)]
@@ -32,15 +48,15 @@ fn byte_of(digits: &[u8]) -> u8 {
 }
 
 /// The lowest bits of digits.
-fn lowest_bits(alloc: Global, digits: &[u8]) -> Result<Option<Bits>, AllocError> {
+fn lowest_bits(alloc: Global, digits: &[u8]) -> Result<Bits, Miss> {
     let mut bytes = Vec::new(alloc);
     bytes.reserve_exact(digits.len().div_ceil(8))?;
     for eight in digits.chunks(8) {
-        bytes.push(byte_of(eight))?;
+        put(&mut bytes, byte_of(eight))?;
     }
     match BitSlice::new(bytes.as_slice(), 0, digits.len()) {
-        Some(bits) => Ok(Some(Bits::from_slice(alloc, bits)?)),
-        None => Ok(None),
+        Some(bits) => Ok(Bits::from_slice(alloc, bits)?),
+        None => Err(Miss::Shape),
     }
 }
 
@@ -61,16 +77,26 @@ impl<'a> Text<'a> {
         }
     }
 
-    /// Passes over what is in front of the next such byte, and answers it. `None` where there is no such byte.
-    fn up_to(&mut self, end: u8) -> Option<&'a [u8]> {
-        let count = memchr(end, self.left)?;
-        let (front, left) = self.left.split_at_checked(count)?;
+    /// Passes over these bytes, which have to come next.
+    #[inline]
+    pub(crate) fn pass(&mut self, front: &[u8]) -> Result<(), Miss> {
+        if self.skip(front) {
+            Ok(())
+        } else {
+            Err(Miss::Shape)
+        }
+    }
+
+    /// Passes over what is in front of the next such byte, and answers it.
+    fn up_to(&mut self, end: u8) -> Result<&'a [u8], Miss> {
+        let count = memchr(end, self.left).ok_or(Miss::Shape)?;
+        let (front, left) = self.left.split_at_checked(count).ok_or(Miss::Shape)?;
         self.left = left;
-        Some(front)
+        Ok(front)
     }
 
     /// The number of the decimal digits that come next, as far as it fits.
-    pub(crate) fn number(&mut self) -> u64 {
+    fn number(&mut self) -> u64 {
         let mut number = 0u64;
         let mut count = 0usize;
         for byte in self.left {
@@ -87,28 +113,27 @@ impl<'a> Text<'a> {
     }
 
     /// The same, where a byte holds it.
-    pub(crate) fn byte(&mut self) -> Option<u8> {
-        u8::try_from(self.number()).ok()
+    pub(crate) fn byte(&mut self) -> Result<u8, Miss> {
+        u8::try_from(self.number()).map_err(|_| Miss::Shape)
     }
 
     /// The bits of the digits up to the quotation mark that comes next.
-    pub(crate) fn bits(&mut self, alloc: Global) -> Result<Option<Bits>, AllocError> {
-        match self.up_to(b'"') {
-            Some(digits) => lowest_bits(alloc, digits),
-            None => Ok(None),
-        }
+    pub(crate) fn bits(&mut self, alloc: Global) -> Result<Bits, Miss> {
+        let digits = self.up_to(b'"')?;
+        lowest_bits(alloc, digits)
     }
 
     /// The number of the sixteen hexadecimal digits up to the quotation mark that comes next.
-    fn hex(&mut self) -> Option<u64> {
-        let number = hex_number(self.up_to(b'"')?)?;
-        if self.skip(b"\"") { Some(number) } else { None }
+    fn hex(&mut self) -> Result<u64, Miss> {
+        let number = hex_number(self.up_to(b'"')?).ok_or(Miss::Shape)?;
+        self.pass(b"\"")?;
+        Ok(number)
     }
 
     /// The number of the pair of a variable that comes next, whose name is passed over.
-    fn pair(&mut self) -> Option<u64> {
+    fn pair(&mut self) -> Result<u64, Miss> {
         self.up_to(b',')?;
-        let (_, left) = self.left.split_first()?;
+        let (_, left) = self.left.split_first().ok_or(Miss::Shape)?;
         match left.split_first() {
             Some((b'"', digits)) => {
                 self.left = digits;
@@ -116,33 +141,30 @@ impl<'a> Text<'a> {
             }
             _ => {
                 self.left = left;
-                Some(self.number())
+                Ok(self.number())
             }
         }
     }
 
     /// The numbers of the list of pairs that comes next.
-    pub(crate) fn pairs(&mut self, alloc: Global) -> Result<Option<Vec<u64>>, AllocError> {
+    pub(crate) fn pairs(&mut self, alloc: Global) -> Result<Vec<u64>, Miss> {
         let mut numbers = Vec::new(alloc);
         if self.skip(b"[]") {
-            return Ok(Some(numbers));
+            return Ok(numbers);
         }
         numbers.reserve(16)?;
         for _ in 0..self.left.len() {
-            match self.pair() {
-                Some(number) => numbers.push(number)?,
-                None => return Ok(None),
-            }
+            put(&mut numbers, self.pair()?)?;
             match self.left {
                 [b']', end, left @ ..] => {
                     self.left = left;
                     if *end == b']' {
-                        return Ok(Some(numbers));
+                        return Ok(numbers);
                     }
                 }
-                _ => return Ok(None),
+                _ => return Err(Miss::Shape),
             }
         }
-        Ok(None)
+        Err(Miss::Shape)
     }
 }

@@ -15,7 +15,7 @@ says_written kind line e r reads is =
     subst (λ (t : List ℕ). SaysItem kind t e) (sym is)
     (json_tree e, utf8_tree e r reads.1, read_tree e r reads.1, says_itself kind e r reads)
 
-pub returns-in-Ok-Some-clause-ok : goal.returns-in-Ok-Some-clause-ok
-returns-in-Ok-Some-clause-ok c =
-    let (r, reads, is) = rw c.in-Ok-Some.field-0-is at c.in-Ok-Some.ensures in
-    says_written c.args.kind c.args.line.now (entry_value c.in-Ok-Some.entry) r reads is
+pub returns-in-Ok-clause-ok : goal.returns-in-Ok-clause-ok
+returns-in-Ok-clause-ok c =
+    let (r, reads, is) = c.in-Ok.ensures in
+    says_written c.args.kind c.args.line.now (entry_value c.in-Ok.entry) r reads is

@@ -15,7 +15,7 @@ loop-value-preserved g c =
     let some = rw c.in-Some.is at c.in_ok-packet.ensures.some in
     let made = rw c.in-Some.is at c.in_ok-packet.ensures.made in
     let only = rw c.in-Some.is at c.in_ok-packet.ensures.only in
-    packet_listed g.P.AnyPacket.WAY g.P.AnyPacket.form (items_view list) c.loop-value.packets.items c.put.new.packets.items c.in-Some.packet (view c.value-item.result) _ _ c.loop-value.invariant here c.in_ok-put-in-Some.ensures made some only
+    packet_listed g.P.AnyPacket.WAY g.P.AnyPacket.form (items_view list) c.loop-value.packets.items c.put.new.list.items c.in-Some.packet (view c.value-item.result) _ _ c.loop-value.invariant here c.in_ok-put-in-Some.ensures made some only
 
 pub returns-in-None-clause-only : goal.returns-in-None-clause-only
 returns-in-None-clause-only g c = λ vs all trees.

@@ -1,8 +1,8 @@
-use Rattle.std.proofs.Common.{◌≡◌, ◌-◌, ◌<◌, [], ◌∷◌, inl, length, min, Some, None, IsSomeAnd, refl, subst, sym, ap, ap₂, ◌∙◌, arith, rules}
+use Rattle.std.proofs.Common.{◌≡◌, ◌-◌, [], ◌∷◌, inl, length, min, Some, None, IsSomeAnd, refl, subst, sym, ap, ap₂, ◌∙◌, arith, rules}
 use Rattle.json.specs.Token.{Token}
 use Rattle.json.specs.Json.{parse_map, after_end_array, read_key, items, members, value}
 use Rattle.json.specs.Reads.{token_of}
-use Rattle.json.proofs.Grammar.{value_is, value-begin_array, value-begin_object, read_key-shorter}
+use Rattle.json.proofs.Grammar.{value_is, value-begin_array, value-begin_object}
 use Rattle.serde_json.specs.Data.{null, boolean, number, string, array, object, item, no_members, put}
 use Rattle.serde_json.specs.Read.{of_json, of_items, of_members, converted}
 use Rattle.serde_json.specs.View.{view, number_view, members_view}
@@ -12,7 +12,7 @@ use Rattle.etcs_trees.specs.Fits.{Fits}
 use Rattle.etcs_trees.specs.Found.{Keeps}
 use Rattle.etcs_trees.proofs.ListsFit.{ItemsHaveShape-push, items_weight-push, item_unfit, Finds-array}
 use Rattle.etcs_trees.proofs.ObjectsFit.{FitsNamed, HasName-put_here, HasName-stays, name_unfit, Masked-put, put-put, Finds-members, Finds-object}
-use Rattle.etcs_trees.proofs.Reading.{converted-array, converted-object, item_read, item_refused, items_over, member_read, member_refused, key_refused, members_over, items_before, items_before-no_items, one_more_item}
+use Rattle.etcs_trees.proofs.Reading.{converted-array, converted-object, item_refused, item_turn, items_over, member_refused, member_turn, key_refused, members_over, items_before, items_before-no_items, one_more_item}
 use Rattle.etcs_trees.proofs.read.+read.Goals as goal
 
 pub read-returns-in_err-token-clause-err : goal.read-returns-in_err-token-clause-err
@@ -128,29 +128,21 @@ read_items-returns-in_err-item-clause-err t c refused =
 
 pub read_items-returns-in_err-skip_items-clause-err : goal.read_items-returns-in_err-skip_items-clause-err
 read_items-returns-in_err-skip_items-clause-err t c refused =
-    let p = value c.args.depth in
     let l = c.items in
     let n = l.invariant.0 in
-    let r = c.read.new.reader in
-    let enough = l.invariant.1 in
-    let going : (after_end_array l.reader ≡ None) × (c.take_end_array.new.self ≡ l.reader) = grind arith in
-    let less : length r < length l.reader = rw (← going.1) c.in_ok-item.ensures.shorter in
     let h = rw c.in_default.is at c.in_ok-item.ensures.ok in
-    l.invariant.2 ∙ ap (parse_map (items_before l.found.items)) (item_read p n l.reader r h.0 (omega arith) going.0 (rw (← going.1) h.1) ∙ ap (parse_map (item h.0)) (c.in_err-skip_items.ensures.err (n - 1) (omega arith)))
+    let turn = item_turn (value c.args.depth) n l.reader c.take_end_array.new.self c.read.new.reader l.found.items h.0 _ l.invariant.1 (grind arith) c.in_ok-item.ensures.shorter h.1 l.invariant.2 in
+    turn.2 ∙ ap (λ r. parse_map (items_before l.found.items) (parse_map (item h.0) r)) (c.in_err-skip_items.ensures.err (n - 1) turn.1)
 
 pub read_items-returns-in_default-clause-ok : goal.read_items-returns-in_default-clause-ok
 read_items-returns-in_default-clause-ok t c =
-    let p = value c.args.depth in
     let l = c.items in
     let n = l.invariant.0 in
-    let r = c.read.new.reader in
-    let enough = l.invariant.1 in
-    let going : (after_end_array l.reader ≡ None) × (c.take_end_array.new.self ≡ l.reader) = grind arith in
-    let less : length r < length l.reader = rw (← going.1) c.in_ok-item.ensures.shorter in
     let h = rw c.in_default.is at c.in_ok-item.ensures.ok in
-    let got = c.in_ok-skip_items.ensures.ok (n - 1) (omega arith) in (
+    let turn = item_turn (value c.args.depth) n l.reader c.take_end_array.new.self c.read.new.reader l.found.items h.0 _ l.invariant.1 (grind arith) c.in_ok-item.ensures.shorter h.1 l.invariant.2 in
+    let got = c.in_ok-skip_items.ensures.ok (n - 1) turn.1 in (
       items_before l.found.items (item h.0 got.0),
-      l.invariant.2 ∙ ap (parse_map (items_before l.found.items)) (item_read p n l.reader r h.0 (omega arith) going.0 (rw (← going.1) h.1) ∙ ap (parse_map (item h.0)) got.1),
+      turn.2 ∙ ap (λ r. parse_map (items_before l.found.items) (parse_map (item h.0) r)) got.1,
       item_unfit c.args.place l.found.items h.0 got.0 l.left c.args.room l.invariant.5 h.2,
     )
 
@@ -160,18 +152,14 @@ read_items-items-preserved t c =
     let l = c.items in
     let n = l.invariant.0 in
     let r = c.read.new.reader in
-    let enough = l.invariant.1 in
-    let going : (after_end_array l.reader ≡ None) × (c.take_end_array.new.self ≡ l.reader) = grind arith in
-    let less : length r < length l.reader = rw (← going.1) c.in_ok-item.ensures.shorter in
     let v = c.in-Some.item in
     let h = rw c.in-Some.is at c.in_ok-item.ensures.ok in
     let pushed = c.in_ok-add.ensures in
-    let turn = item_read p n l.reader r (view v) (omega arith) going.0 (rw (← going.1) h.0) in (
+    let turn = item_turn p n l.reader c.take_end_array.new.self r l.found.items (view v) _ l.invariant.1 (grind arith) c.in_ok-item.ensures.shorter h.0 l.invariant.2 in (
       n - 1,
-      omega arith,
-      l.invariant.2 ∙ ap (parse_map (items_before l.found.items)) turn ∙ one_more_item l.found.items v _
-          ∙ ap (λ vs. parse_map (items_before vs) (converted of_items (items p (n - 1) r))) (sym pushed),
-      omega (arith, l.invariant.3),
+      turn.1,
+      turn.2 ∙ one_more_item l.found.items v _ ∙ ap (λ vs. parse_map (items_before vs) (converted of_items (items p (n - 1) r))) (sym pushed),
+      omega (arith, turn.0, l.invariant.3),
       rw pushed (ItemsHaveShape-push c.args.place l.found.items v l.invariant.4 h.1.0),
       rw pushed (omega (arith, items_weight-push l.found.items v, c.in-Some-spend.ensures, l.invariant.5)),
     )
@@ -214,13 +202,9 @@ read_members-returns-in_err-skip_members-clause-err t c refused =
     let l = c.members in
     let n = l.invariant.0 in
     let k = c.in-Some.name.now in
-    let s = c.next_key.new.self in
-    let named : read_key l.reader ≡ Some (Some k, s) = grind arith in
-    let enough = l.invariant.2 in
-    let less = read_key-shorter l.reader (Some k) s named in
-    let lesser = c.in_ok-skip.ensures.shorter in
     let d = c.in_ok-skip.ensures.ok in
-    l.invariant.3 ∙ member_read (value c.args.depth) l.invariant.1 n k l.reader s _ d.0 (omega arith) named d.1 ∙ c.in_err-skip_members.ensures.err (n - 1) (put k d.0 l.invariant.1) (omega arith)
+    let turn = member_turn (value c.args.depth) n k l.reader c.next_key.new.self c.skip.new.reader l.invariant.1 d.0 _ l.invariant.2 (grind arith) c.in_ok-skip.ensures.shorter d.1 l.invariant.3 in
+    turn.2 ∙ c.in_err-skip_members.ensures.err (n - 1) (put k d.0 l.invariant.1) turn.1
 
 pub read_members-returns-in_default-member-clause-ok : goal.read_members-returns-in_default-member-clause-ok
 read_members-returns-in_default-member-clause-ok t c =
@@ -229,42 +213,31 @@ read_members-returns-in_default-member-clause-ok t c =
     let n = l.invariant.0 in
     let old = l.invariant.1 in
     let k = c.in-Some.name.now in
-    let s = c.next_key.new.self in
-    let named : read_key l.reader ≡ Some (Some k, s) = grind arith in
+    let r = c.skip.new.reader in
     let unknown : member_place c.args.place k ≡ None = grind arith in
-    let enough = l.invariant.2 in
-    let less = read_key-shorter l.reader (Some k) s named in
-    let lesser = c.in_ok-skip.ensures.shorter in
     let d = c.in_ok-skip.ensures.ok in
-    let got = c.in_ok-skip_members.ensures.ok (n - 1) (put k d.0 old) (omega arith) in
-    let there = HasName-stays k (members p (n - 1) c.skip.new.reader) (put k d.0 old) got.0 c.skip_members.new.reader got.1 (HasName-put_here k d.0 old) in (
-      got.0,
-      l.invariant.3 ∙ member_read p old n k l.reader s _ d.0 (omega arith) named d.1 ∙ got.1,
-      λ fits. name_unfit c.args.place k unknown got.0 there fits.0,
-    )
+    let turn = member_turn p n k l.reader c.next_key.new.self r old d.0 _ l.invariant.2 (grind arith) c.in_ok-skip.ensures.shorter d.1 l.invariant.3 in
+    let got = c.in_ok-skip_members.ensures.ok (n - 1) (put k d.0 old) turn.1 in
+    let there = HasName-stays k (members p (n - 1) r) (put k d.0 old) got.0 c.skip_members.new.reader got.1 (HasName-put_here k d.0 old) in
+    (got.0, turn.2 ∙ got.1, λ fits. name_unfit c.args.place k unknown got.0 there fits.0)
 
 pub read_members-members-preserved : goal.read_members-members-preserved
 read_members-members-preserved t c =
-    let p = value c.args.depth in
     let l = c.members in
     let n = l.invariant.0 in
     let old = l.invariant.1 in
     let k = c.in-Some.name.now in
-    let s = c.next_key.new.self in
     let q = c.in-Some-member.inner in
-    let named : read_key l.reader ≡ Some (Some k, s) = grind arith in
     let known : member_place c.args.place k ≡ Some q = grind arith in
-    let enough = l.invariant.2 in
-    let less = read_key-shorter l.reader (Some k) s named in
-    let lesser = c.in_ok-read_member.ensures.shorter in
     let d = c.in_ok-read_member.ensures.ok in
+    let turn = member_turn (value c.args.depth) n k l.reader c.next_key.new.self c.read_member.new.reader old d.0 _ l.invariant.2 (grind arith) c.in_ok-read_member.ensures.shorter d.2 l.invariant.3 in
     let keeps : Keeps (FitsNamed c.args.place c.args.room k d.0) d.0 d.1 =
     subst (λ o. Keeps (IsSomeAnd o (λ x. Fits x (min c.args.room (limit x)) d.0)) d.0 d.1) (sym known) (subst (λ m. Keeps (Fits q m d.0) d.0 d.1) c.room.ensures d.3) in (
       n - 1,
       put k d.0 old,
-      omega arith,
-      l.invariant.3 ∙ member_read p old n k l.reader s _ d.0 (omega arith) named d.2,
-      omega (arith, l.invariant.4),
+      turn.1,
+      turn.2,
+      omega (arith, turn.0, l.invariant.4),
       rw d.4 (Masked-put (FitsNamed c.args.place c.args.room) k d.0 d.1 old (members_view l.found.entries) keeps l.invariant.5),
     )
 

@@ -1,6 +1,6 @@
 -- How a step and a run end.
 use Rattle.std.proofs.Common.{◌≡◌, ℕ, ◌+◌, ◌%◌, ◌^◌, ◌≤◌, List, ◌++◌, length, take, Option, Result, Ok, Err, sym, ap, subst, ◌∙◌, arith, length-append, inl, inr}
-use Rattle.std.specs.Prelude.{◌⊎◌, IfErr, IfOk}
+use Rattle.std.specs.Prelude.{◌⊎◌, IfErr}
 use Rattle.std.proofs.Math.Seq.{take-append-add}
 use Rattle.std.proofs.lemmas.List.{take_all}
 use Rattle.std.specs.Io.KnownBytes.{Appends, Consumes, Keeps}
@@ -59,17 +59,13 @@ module _ (left left' held mid held' : Option (List ℕ)) (given told text : List
   said_if Said (Ok t) h k = tt
   said_if Said (Err e) h k = said_of Said e h k
 
+  pub never_read : (e : RunFault) → Stopped Stops told text mid held' e ⊎ Broken Prints told text mid held' before after e → e ≡ Read → ⊥
+  never_read e (inl s) h = subst IsOfEngine h s.0
+  never_read e (inr b) h = let w : ◌≡◌ {A = RunFault} (Write (length told + b.0)) Read = sym b.1 ∙ h in absurd cc
+
   pub failed_of : (s s' w : ℕ) (e : RunFault) → Stopped Stops told text mid held' e ⊎ Broken Prints told text mid held' before after e → s' ≡ s → before ≡ w → (IsOfEngine e → after ≡ before) → FailedBy e s s' w after
   failed_of s s' w e (inl h) a b k = of_engine s s' w after e h.0 a (k h.0 ∙ b)
   failed_of s s' w e (inr h) a b k = subst (λ (f : RunFault). FailedBy f s s' w after) (sym h.1) (a, h.5 ∙ ap (λ n. n + 1) b)
-
-  pub starved_if : (T : List ℕ → List ℕ → Type 0) (r : Result Tally RunFault) → IfErr r (λ e. Stopped Stops told text mid held' e ⊎ Broken Prints told text mid held' before after e) → ((e : RunFault) → Stops (told ++ text) e → T given (told ++ text)) → IfErr r (λ e. e ≡ Memory → Piped T left left' held held')
-  starved_if T (Ok t) h k = tt
-  starved_if T (Err e) h k = starved_of T e h (k e)
-
-  pub failed_if : (s s' w : ℕ) (r : Result Tally RunFault) → IfErr r (λ e. Stopped Stops told text mid held' e ⊎ Broken Prints told text mid held' before after e) → s' ≡ s → before ≡ w → IfErr r (λ e. IsOfEngine e → after ≡ before) → IfErr r (λ e. FailedBy e s s' w after)
-  failed_if s s' w (Ok t) h a b k = tt
-  failed_if s s' w (Err e) h a b k = failed_of s s' w e h a b k
 
   pub write_of : (P : List ℕ → List ℕ → Type 0) (e : RunFault) → Stopped Stops told text mid held' e ⊎ Broken Prints told text mid held' before after e → ((t : List ℕ) → Prints t → P given t) → (n : ℕ) → e ≡ Write n → PipedFirst n P left left' held held'
   write_of P e (inl s) k n h = absurd (subst IsOfEngine h s.0)
@@ -79,19 +75,6 @@ module _ (left left' held mid held' : Option (List ℕ)) (given told text : List
       let all : take n (told ++ text) ≡ told ++ take b.0 text = ap (λ (m : ℕ). take m (told ++ text)) (sym same) ∙ take-append-add told text b.0 in
       let len = length-append told text in
       (given, told ++ text, gave, omega (arith, same, b.2, len), subst (λ (t : List ℕ). Appends held held' t) (sym all) (Appends-then held mid held' told (take b.0 text) took b.3), k (told ++ text) b.4)
-
-  -- by the answer of the last step
-  pub engine_if : (T : RunFault → List ℕ → List ℕ → Type 0) (r : Result Tally RunFault) → IfErr r (λ e. Stopped Stops told text mid held' e ⊎ Broken Prints told text mid held' before after e) → ((e : RunFault) (t : List ℕ) → Stops t e → T e given t) → IfErr r (λ e. IsOfEngine e → Piped (T e) left left' held held')
-  engine_if T (Ok t) h k = tt
-  engine_if T (Err e) h k = engine_of (T e) e h (k e)
-
-  pub write_if : (P : List ℕ → List ℕ → Type 0) (r : Result Tally RunFault) → IfErr r (λ e. Stopped Stops told text mid held' e ⊎ Broken Prints told text mid held' before after e) → ((t : List ℕ) → Prints t → P given t) → (n : ℕ) → r ≡ Err (Write n) → PipedFirst n P left left' held held'
-  write_if P (Ok t) h k n e = absurd cc
-  write_if P (Err f) h k n e = let same : f ≡ Write n = cc in write_of P f h k n same
-
-  pub ends_if : (T : Tally → List ℕ → List ℕ → Type 0) (r : Result Tally RunFault) (Last : Tally → Type 0) → IfOk r (λ t. T t given (told ++ text) × Appends mid held' text × Last t) → IfOk r (λ t. Piped (T t) left left' held held')
-  ends_if T (Ok t) Last h = (given, told ++ text, gave, Appends-then held mid held' told text took h.1, h.0)
-  ends_if T (Err e) Last h = tt
 
 -- ---- How often the sink is flushed.
 
@@ -104,10 +87,6 @@ flush_failed held mid held' told text slice Whole first before after sent sent' 
 
 -- from the last step to the run
 module _ (left left' held mid held' : Option (List ℕ)) (given told text : List ℕ) (gave : Consumes left left' given) (took : Appends held mid told) (AtEnd : Type 0) (at : AtEnd) (Whole : List ℕ → List ℕ → Type 0) (first before after : ℕ) (none : before ≡ first) where
-  flushed_of : (e : RunFault) → FlushedOnlyWhere before after ((e ≡ Write (length (told ++ text))) × Appends mid held' text × Whole given (told ++ text)) → FlushedOnlyWhere first after (Piped (λ given told. (e ≡ Write (length told)) × AtEnd × Whole given told) left left' held held')
+  pub flushed_of : (e : RunFault) → FlushedOnlyWhere before after ((e ≡ Write (length (told ++ text))) × Appends mid held' text × Whole given (told ++ text)) → FlushedOnlyWhere first after (Piped (λ given told. (e ≡ Write (length told)) × AtEnd × Whole given told) left left' held held')
   flushed_of e (inl kept) = inl (kept ∙ none)
   flushed_of e (inr both) = inr (both.0 ∙ ap (λ n. (n + 1) % 2 ^ 64) none, (given, told ++ text, gave, Appends-then held mid held' told text took both.1.1, (both.1.0, at, both.1.2)))
-
-  pub flushed_if : (r : Result Tally RunFault) → IfErr r (λ e. FlushedOnlyWhere before after ((e ≡ Write (length (told ++ text))) × Appends mid held' text × Whole given (told ++ text))) → IfErr r (λ e. FlushedOnlyWhere first after (Piped (λ given told. (e ≡ Write (length told)) × AtEnd × Whole given told) left left' held held'))
-  flushed_if (Ok t) h = tt
-  flushed_if (Err e) h = flushed_of e h

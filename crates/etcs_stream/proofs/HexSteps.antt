@@ -12,14 +12,13 @@ use Rattle.etcs_text.specs.declared.entry.Kind.{Kind}
 use Rattle.etcs_stream.specs.declared.job.Form.{Form}
 use Rattle.etcs_stream.specs.declared.job.Form.TheVariants.{Hex}
 use Rattle.etcs_text.specs.Entries.{EntryValue}
-use Rattle.etcs_stream.specs.declared.byte_items.ByteItems.{ByteItems}
 use Rattle.etcs_stream.specs.declared.job.Job.{Job}
 use Rattle.etcs_stream.specs.declared.fault.RunFault.{RunFault}
 use Rattle.etcs_stream.specs.declared.fault.RunFault.TheVariants.{Truncated, BadHex, Memory}
 use Rattle.etcs_stream.specs.Faults.{IsOfEngine}
 use Rattle.etcs_stream.specs.Lines.{IsLine, bad_place, strip_cr, line_bytes, lines_text, lines_bytes, AreGood, IsHexText}
 use Rattle.etcs_stream.specs.Told.{Told}
-use Rattle.etcs_stream.specs.Tellers.{Closes, nothing_told}
+use Rattle.etcs_stream.specs.Tellers.{Closes}
 use Rattle.etcs_stream.specs.declared.job.Tally.{Tally}
 use Rattle.etcs_stream.specs.Readers.{ReaderValue, Awaits, HasRoom, seen_bits}
 use Rattle.etcs_stream.specs.Taking.{Advances, Halts}
@@ -30,7 +29,7 @@ use Rattle.etcs_stream.proofs.ItemKinds.{Language}
 use Rattle.etcs_bits.proofs.ByteBits.{bits-append}
 use Rattle.etcs_stream.proofs.Streams.{Advances-none}
 use Rattle.etcs_stream.proofs.Tellings.{closes_items}
-use Rattle.etcs_stream.proofs.Standing.{ItemsHalt, stand_first, IsEarly, stand_more, stand_halts, stand_nothing, halt_stops, halt_ends, stand_ended, stand_truncated}
+use Rattle.etcs_stream.proofs.Standing.{ItemsHalt, stand_first, IsEarly, stand_more, stand_halts, halt_stops, halt_ends, stand_ended, stand_truncated}
 use Rattle.etcs_stream.proofs.Cutting.{Says, AreGood-append, lines_text-append, lines_bytes-append, lines_few, first_lf, one_line, cut_text, says_behind, long_bad, long_bad_stripped}
 
 -- ---- The items of a text.
@@ -121,31 +120,10 @@ module _ (job : Job) (r : ReaderValue) (n : Told) (begun : List ℕ) (line : ℕ
         (stand_more job (seen_bits r.progress) n (lines_bytes h.lines) told t h.items (line_bytes (strip_cr whole)) t' (seen_bits r'.progress) n' more few (room h.items.room) waits.unfinished);
   }
 
-  pub hex_part : (part whole : List ℕ) → whole ≡ begun ++ part → IsLine part → HexStands job r n whole line (given ++ part) (told ++ t)
-  hex_part part whole w l = record {
-    form = h.form;
-    waits = h.waits;
-    lines = h.lines;
-    given_is = ap (λ (x : List ℕ). x ++ part) h.given_is ∙ append_assoc (lines_text h.lines) begun part ∙ ap (λ (x : List ℕ). lines_text h.lines ++ x) (sym w);
-    lines_good = h.lines_good;
-    is_line = subst IsLine (sym w) (All-append (λ c. c ≡ 10 → ⊥) begun part h.is_line l);
-    line_is = h.line_is;
-    items = h.items;
-  }
-
   pub hex_lines : line ≤ length given
   hex_lines = omega (arith, h.line_is, lines_few h.lines, ap length h.given_is, length-append (lines_text h.lines) begun)
 
   -- ---- The faults of a piece.
-
-  pub hex_starves : (rest : List ℕ) (fault : RunFault) → fault ≡ Memory → IsOfEngine fault × Stops job (given ++ rest) (told ++ t) fault
-  hex_starves rest fault e =
-      let text : given ++ rest ≡ lines_text h.lines ++ (begun ++ rest) = ap (λ (z : List ℕ). z ++ rest) h.given_is ∙ append_assoc (lines_text h.lines) begun rest in
-      let says = says_first job (given ++ rest) (lines_bytes h.lines) h.form (inl (h.lines, begun ++ rest, text, h.lines_good, refl)) in
-      let first = stand_first job (seen_bits r.progress) n (given ++ rest) (lines_bytes h.lines) (told ++ t) h.items says in (
-        subst IsOfEngine (sym e) tt,
-        inl (e, (h.items.items, first, (n, h.items.text))),
-      )
 
   hex_bad : (rest : List ℕ) (place : ℕ) (fault : RunFault) → fault ≡ BadHex (line + 1) place → ((more : List ℕ) → IsBadLine (begun ++ (rest ++ more)) place) → IsOfEngine fault × Stops job (given ++ rest) (told ++ t) fault
   hex_bad rest place fault e bad = (
@@ -175,10 +153,6 @@ module _ (job : Job) (r : ReaderValue) (n : Told) (begun : List ℕ) (line : ℕ
       ap (λ (z : List ℕ). begun ++ z) (append_assoc part (10 ∷ behind) more) ∙ sym (append_assoc begun part (10 ∷ (behind ++ more))) in
       (begun ++ part, behind ++ more, All-append (λ c. c ≡ 10 → ⊥) begun part h.is_line l, inl (text, bad))
       ))
-
-  pub hex_long : (part behind : List ℕ) (fault : RunFault) → IsLine part → 4097 < length begun + length part → fault ≡ BadHex (line + 1) 4096 → IsOfEngine fault × Stops job (given ++ (part ++ 10 ∷ behind)) (told ++ t) fault
-  hex_long part behind fault l long e =
-      hex_bad_line part behind 4096 fault l (long_bad_stripped (begun ++ part) (omega (arith, length-append begun part))) e
 
   -- a line is too long, wherever it ends
   long_line : (part more : List ℕ) → IsLine part → 4097 < length begun + length part → IsBadLine (begun ++ (part ++ more)) 4096
@@ -238,24 +212,6 @@ module _ (job : Job) (r : ReaderValue) (n : Told) (begun : List ℕ) (line : ℕ
       (λ es end early k. items_of job given es end h.form (inl (lines_bytes h.lines ++ line_bytes begun, text, k)))
 
   -- ---- What the code answers.
-
-  -- a part of a line could not be kept
-  abbrev pub NotKept : List ℕ → RunFault → Type 0
-  NotKept part fault = (fault ≡ Memory) ⊎ ((4097 < length begun + length part) × (fault ≡ BadHex (line + 1) 4096))
-
-  pub hex_keep_stops : (part behind : List ℕ) (fault : RunFault) → IsLine part → NotKept part fault → IsOfEngine fault × Stops job (given ++ (part ++ 10 ∷ behind)) (told ++ t) fault
-  hex_keep_stops part behind fault l (inl e) = hex_starves (part ++ 10 ∷ behind) fault e
-  hex_keep_stops part behind fault l (inr p) = hex_long part behind fault l p.0 p.1
-
-  -- the last part, which has no LF
-  pub hex_part_stops : (part : List ℕ) (answer : Result Unit RunFault) → IsLine part → IfErr answer (λ e. NotKept part e) → IfErr answer (λ e. IsOfEngine e × Stops job (given ++ part) (told ++ t) e)
-  hex_part_stops part (Ok u) l h' = tt
-  hex_part_stops part (Err e) l (inl m) = hex_starves part e m
-  hex_part_stops part (Err e) l (inr p) = hex_long_open part e l p.0 p.1
-
-  pub hex_part_kept : (part whole : List ℕ) (answer : Result Unit RunFault) → IsLine part → OnOk answer (whole ≡ begun ++ part) → OnOk answer (HexStands job r n whole line (given ++ part) (told ++ t))
-  hex_part_kept part whole (Ok u) l w = hex_part part whole w l
-  hex_part_kept part whole (Err e) l w = tt
 
   -- a line is bad, or its items halted
   pub hex_line_stops : (part whole behind t' : List ℕ) (fault : RunFault) → IsLine part → whole ≡ begun ++ part → ((place : ℕ) × (bad_place (strip_cr whole) ≡ Some place) × (fault ≡ BadHex (line + 1) place) × (t' ≡ t)) ⊎ ((bad_place (strip_cr whole) ≡ None) × Halts job.kind job.command (seen_bits r.progress) n (line_bytes (strip_cr whole)) t t' fault) → IsOfEngine fault × Stops job (given ++ (part ++ 10 ∷ behind)) (told ++ t') fault
@@ -322,19 +278,6 @@ module _ (job : Job) (r : ReaderValue) (n : Told) (begun : List ℕ) (line : ℕ
     hex_finish_stops t'' (Ok tally) h' = tt
     hex_finish_stops t'' (Err f) (same, why) = hex_not_closed t'' f same why
 
--- nothing has come
-pub hex_nothing : (job : Job) (r : ReaderValue) (n : Told) (begun : List ℕ) → job.from ≡ Hex → Awaits job.kind r → seen_bits r.progress ≡ [] → n ≡ nothing_told → begun ≡ [] → HexStands job r n begun 0 [] []
-hex_nothing job r n begun form waits seen count e = record {
-  form = form;
-  waits = waits;
-  lines = [];
-  given_is = sym e;
-  lines_good = tt;
-  is_line = subst IsLine (sym e) (All-nil (λ c. c ≡ 10 → ⊥));
-  line_is = refl;
-  items = stand_nothing job (seen_bits r.progress) n seen count waits.unfinished;
-}
-
 -- an empty line says nothing
 pub Advances-empty : (kind : Kind) (c : Command) (seen : List Bool) (items : Told) (text line : List ℕ) → eqb (length line) 0 ≡ true → Advances kind c seen seen items items (line_bytes line) text text
 unfolding decode_pairs
@@ -344,11 +287,6 @@ Advances-empty kind c seen items text (x ∷ xs) h = absurd (omega (arith, eqb-t
 -- no text was written since
 pub hex_start : (job : Job) (r : ReaderValue) (n : Told) (begun : List ℕ) (line : ℕ) (given told t : List ℕ) → t ≡ [] → HexStands job r n begun line given told → HexStands job r n begun line given (told ++ t)
 hex_start job r n begun line given told t e h = subst (λ z. HexStands job r n begun line given z) (sym (ap (λ (z : List ℕ). told ++ z) e ∙ append-nil told)) h
-
--- the state of the items is the same
-pub hex_same : (i i' : ByteItems) (begun : List ℕ) (line line' : ℕ) (given told : List ℕ) → i' ≡ i → line' ≡ line → HexStands i.job i.reader i.teller begun line given told → HexStands i'.job i'.reader i'.teller begun line' given told
-hex_same i i' begun line line' given told e m h =
-    subst (λ (k : ByteItems). HexStands k.job k.reader k.teller begun line' given told) (sym e) (subst (λ k. HexStands i.job i.reader i.teller begun k given told) (sym m) h)
 
 -- one more line is taken off
 pub cut_line : (piece front rest line behind : List ℕ) → piece ≡ front ++ rest → rest ≡ line ++ 10 ∷ behind → piece ≡ (front ++ (line ++ 10 ∷ [])) ++ behind

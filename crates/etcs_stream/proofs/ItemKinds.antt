@@ -25,7 +25,6 @@ use Rattle.etcs_text.specs.declared.entry.Kind.TheVariants.{Long, Short, Radio, 
 use Rattle.etcs_text.specs.Entries.{EntryValue, of_telegram, of_message, kind_of, message_kind, EntryReads}
 use Rattle.etcs_json.proofs.OneItems.{kind_same, way_same, telegram_message}
 use Rattle.etcs_stream.specs.Readers.{progress_of, telegram_item, reading, finished, Feeds}
-use Rattle.etcs_stream.specs.Tellers.{IsOfTelegrams}
 
 abbrev pub Language : Kind → Reading → Type 0
 Language kind = readings_of (EntryReads kind)
@@ -46,10 +45,6 @@ same_telegrams s r = (λ (t, h). (of_telegram t, (ap kind_of h.0, h.1)), from_si
 
 pub same_messages : (way : Way) → Same (MessageLanguage way) (Language (message_kind way))
 same_messages way r = (λ (m, h). (of_message way m, (refl, h)), from_way way r)
-
-pub sized_telegrams : (s : Size) → IsOfTelegrams (kind_of s)
-sized_telegrams size.Long = refl
-sized_telegrams size.Short = refl
 
 -- ---- What holds of each kind.
 
@@ -142,9 +137,3 @@ inner_reading item (inner.reading b) seen h = let e : b ≡ seen = cc in ap inne
 inner_reading item (inner.finished v) seen h = absurd cc
 inner_reading item (inner.stopped i x) seen h = absurd cc
 inner_reading item (inner.starved n) seen h = absurd cc
-
-pub inner_finished : {V : Type 0} (item : V → EntryValue) (s : inner.Progress V) (e : EntryValue) → progress_of item s ≡ finished e → (v : V) × (s ≡ inner.finished v)
-inner_finished item (inner.reading b) e h = absurd cc
-inner_finished item (inner.finished v) e h = (v, refl)
-inner_finished item (inner.stopped i x) e h = absurd cc
-inner_finished item (inner.starved n) e h = absurd cc

@@ -270,18 +270,6 @@ module _ (job : Job) (n : Told) (lines : List (List ℕ)) (told t : List ℕ) (h
       let prints = all_prints line n' t' (line_told job line n n' t t' takes) l in
       (tt, inl (refl, subst (λ (z : List ℕ). Prints job (lines_text lines ++ line) (told ++ z)) (sym same) prints))
 
--- no line was taken
-pub json_nothing : (job : Job) (n : Told) → job.from ≡ Json → n ≡ nothing_told → JsonTook job n [] []
-json_nothing job n form e = record {
-  form = form;
-  are_lines = All-nil IsLine;
-  items = [];
-  are_items = refl;
-  count_is = ap (λ (k : Told). k.count) e;
-  few = omega (arith, ap (λ (k : Told). k.count) e);
-  text = (refl, e);
-}
-
 -- no text was written since
 pub json_start : (job : Job) (n : Told) (lines : List (List ℕ)) (told t : List ℕ) → t ≡ [] → JsonTook job n lines told → JsonTook job n lines (told ++ t)
 json_start job n lines told t e h = subst (λ (z : List ℕ). JsonTook job n lines z) (sym (ap (λ (z : List ℕ). told ++ z) e ∙ append-nil told)) h

@@ -32,6 +32,12 @@ Consumes-then (Some xs) None w a b x y = absurd x
 Consumes-then (Some xs) (Some ys) None a b x y = y
 Consumes-then (Some xs) (Some ys) (Some zs) a b x y = x ∙ ap (λ (t : List ℕ). a ++ t) y ∙ sym (append_assoc a b zs)
 
+pub Consumes-kept : (u v w : Option (List ℕ)) (a : List ℕ) → Consumes u v a → Keeps v w → Consumes u w a
+Consumes-kept None v w a x y = tt
+Consumes-kept (Some xs) None w a x y = absurd x
+Consumes-kept (Some xs) (Some ys) None a x y = absurd y
+Consumes-kept (Some xs) (Some ys) (Some zs) a x y = x ∙ ap (λ (t : List ℕ). a ++ t) (sym y)
+
 -- the next bytes of a text
 pub Appends-slice : (u v w : Option (List ℕ)) (text : List ℕ) (at n m : ℕ) → m ≡ length text → Appends u v (take at text) → Appends v w (take n (take (m - at) (drop at text))) → Appends u w (take (at + n) text)
 Appends-slice u v w text at n m e x y =

@@ -11,6 +11,7 @@ pub mod OneGroups
 pub mod OneTexts
 pub mod ReadingBack
 pub mod Streams
+pub mod Fronts
 pub mod Standing
 pub mod Cutting
 pub mod BinSteps
@@ -21,6 +22,7 @@ pub mod Known
 pub mod Printing
 pub mod Shortness
 pub mod Endings
+pub mod Running
 pub mod OneLines
 pub mod OneJson
 pub mod OneItems

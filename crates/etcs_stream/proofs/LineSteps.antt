@@ -15,7 +15,7 @@ use Rattle.etcs_stream.specs.declared.job.Job.{Job}
 use Rattle.etcs_stream.specs.declared.fault.RunFault.{RunFault}
 use Rattle.etcs_stream.specs.declared.fault.RunFault.TheVariants.{Memory}
 use Rattle.etcs_stream.specs.Faults.{IsOfEngine}
-use Rattle.etcs_stream.specs.Lines.{IsLine, lines_text, most_characters, line_bytes, lines_bytes}
+use Rattle.etcs_stream.specs.Lines.{IsLine, lines_text, line_bytes, lines_bytes}
 use Rattle.etcs_stream.specs.JsonItems.{AreItemLines, JsonFront, FirstJson}
 use Rattle.etcs_stream.specs.Inputs.{ItemsOf, SaysFirst, FirstItems, WholeItems}
 use Rattle.etcs_stream.specs.Engines.{Tells, Stops, Prints}
@@ -105,11 +105,6 @@ stops_behind job given more told fault (inr h) =
     inr (h.0, h.1, h.2, h.3, λ z. subst (λ (t : List ℕ). ItemsOf job.from job.kind t h.0 h.1) (append_assoc given (10 ∷ []) (more ++ z) ∙ sym (append_assoc given (10 ∷ more) z)) (h.4 (more ++ z)))
 
 -- ---- What is kept of a line.
-
-pub most_few : (form : Form) → most_characters form ≤ 1048576
-most_few Hex = omega arith
-most_few Bin = omega arith
-most_few Json = omega arith
 
 module _ (Took : List (List ℕ) → List ℕ → Type 0) (begun : List ℕ) (line : ℕ) (given told : List ℕ) (h : LinesStand Took begun line given told) where
   pub lines_count : line ≤ length given

@@ -39,10 +39,6 @@ module _ (job : Job) (given told text : List ℕ) where
       let bound : 2097152 * 1000000 + 2 ^ 40 < 2 ^ 62 = omega arith in
       omega (arith, short, first.0, bound, last, length-append told text, ap length h.told_is, length-append h.lines h.last)
 
-  pub fault_short : {A : Type 0} (answer : Result A RunFault) (f : RunFault) → answer ≡ Err f → IfErr answer (λ e. IsOfEngine e × StopsAtEnd job given (told ++ text) e) → length told + length text < 2 ^ 62
-  fault_short (Ok tally) f is err = absurd cc
-  fault_short (Err e) f is err = prints_short (end_prints job given (told ++ text) e err.1)
-
   pub finished_short : (answer : Result Tally RunFault) → IfOk answer (λ tally. Ends job given (told ++ text) tally) → IfErr answer (λ e. IsOfEngine e × StopsAtEnd job given (told ++ text) e) → length told + length text < 2 ^ 62
   finished_short (Ok tally) ok err = whole_short tally ok
   finished_short (Err e) ok err = prints_short (end_prints job given (told ++ text) e err.1)

@@ -115,10 +115,6 @@ Halts-here kind c seen s bytes text text' fault few same why = record {
   why = subst (λ n. HaltsBy kind n (seen ++ bits bytes) fault) (sym (add-zero s.count)) why;
 }
 
--- the same of one kind
-pub Advances-kind : {kind kind' : Kind} {c : Command} {a b : List Bool} {i j : Told} {bytes t u : List ℕ} → kind ≡ kind' → Advances kind c a b i j bytes t u → Advances kind' c a b i j bytes t u
-Advances-kind {c = c} {a = a} {b = b} {i = i} {j = j} {bytes = bytes} {t = t} {u = u} e h = subst (λ z. Advances z c a b i j bytes t u) e h
-
 -- one more front is taken off
 pub cut_front : (bytes front rest : List ℕ) (n m : ℕ) → m ≡ length rest → bytes ≡ front ++ rest → bytes ≡ (front ++ take n rest) ++ take (m - n) (drop n rest)
 cut_front bytes front rest n m e h =

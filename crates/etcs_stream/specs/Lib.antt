@@ -12,6 +12,7 @@ pub mod Inputs
 pub mod Engines
 pub mod Pipes
 pub mod Passes
+pub mod Runs
 pub mod Stands
 pub mod OneRuns
 pub mod ReadBacks

@@ -1,5 +1,5 @@
 -- How a run continues with each piece that it is given, and how it ends early.
-use Rattle.std.specs.Prelude.{◌≡◌, ℕ, ◌+◌, ◌<◌, ◌≤◌, Bool, List, [], ◌++◌, length}
+use Rattle.std.specs.Prelude.{◌≡◌, ℕ, ◌+◌, ◌<◌, ◌≤◌, Bool, List, [], ◌++◌, length, take}
 use Rattle.etcs_bits.specs.Bits.{bits}
 use Rattle.etcs_vars.specs.Reading.{readings_of}
 use Rattle.etcs_vars.specs.Walking.{Refuses}
@@ -13,6 +13,7 @@ use Rattle.etcs_stream.specs.declared.job.Job.{Job}
 use Rattle.etcs_stream.specs.JsonItems.{IsItemLine, IsRefusedLine}
 use Rattle.etcs_stream.specs.declared.fault.RunFault.{RunFault}
 use Rattle.etcs_stream.specs.declared.fault.RunFault.TheVariants.{Refused, Truncated, BadHex, BadJson, Read, Write, Endless, Memory}
+use Rattle.etcs_stream.specs.Readers.{ReaderValue, Awaits, HasRoom, seen_bits}
 use Rattle.etcs_stream.specs.Streams.{AreSpelled}
 
 -- with these bytes after the bits seen before, some items became whole and were reported, and bits are left
@@ -24,6 +25,15 @@ pub record Advances (kind : Kind) (command : Command) (seen seen' : List Bool) (
   pub bits_are : seen ++ bits bytes ≡ spelt ++ seen'
   pub added_is : TellsItems command before told added after
   pub text_is : text' ≡ text ++ added
+
+-- the first n of the bytes were taken, up to the end of an item or all of them
+pub record TakesFront (job : Job) (reader reader' : ReaderValue) (before after : Told) (bytes text text' : List ℕ) (n : ℕ) : Type 0 where
+  pub some : 0 < n
+  pub within : n ≤ length bytes
+  pub waits : Awaits job.kind reader'
+  pub few : after.count ≤ 1000000
+  pub room : HasRoom after.count (seen_bits reader'.progress)
+  pub advances : Advances job.kind job.command (seen_bits reader.progress) (seen_bits reader'.progress) before after (take n bytes) text text'
 
 -- why no more is taken of the bits after this many items
 abbrev pub HaltsBy : Kind → ℕ → List Bool → RunFault → Type 0

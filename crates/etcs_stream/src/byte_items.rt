@@ -1,10 +1,10 @@
 //! The items of bytes, one after another.
 
-ghost use Rattle.std.specs.Prelude.{◌≡◌, ◌+◌, ◌<◌, ◌≤◌, ◌⊎◌, ◌++◌, ℕ, List, [], length, take, IfErr, IfOk, OnErr, OnOk};
+ghost use Rattle.std.specs.Prelude.{◌≡◌, ◌+◌, ◌<◌, ◌≤◌, ◌⊎◌, ◌++◌, ℕ, List, [], length, IfErr, IfOk, OnErr, OnOk};
 ghost use Rattle.etcs_text.specs.Entries.{EntryValue, entry_kind};
 ghost use Rattle.etcs_stream.specs.declared.fault.RunFault.{RunFault};
 ghost use Rattle.etcs_stream.specs.Readers.{Awaits, HasRoom, seen_bits, reading, finished};
-ghost use Rattle.etcs_stream.specs.Taking.{Advances, Halts, Says};
+ghost use Rattle.etcs_stream.specs.Taking.{Advances, Halts, Says, TakesFront};
 ghost use Rattle.etcs_stream.specs.Tellers.{Closes, IsGroupable, TellsItem, nothing_told};
 
 use crate::engine::MOST_READ;
@@ -118,15 +118,9 @@ impl ByteItems {
         requires some { 0 < length bytes.now }
         requires waits { Awaits self.old.job.kind self.old.reader }
         requires told { self.old.teller.count ≤ 1000000 }
-        ensures some { IfOk result (λ n. 0 < n) }
-        ensures within { IfOk result (λ n. n ≤ length bytes.now) }
         ensures job { self.new.job ≡ self.old.job }
-        ensures waits { OnOk result (Awaits self.old.job.kind self.new.reader) }
-        ensures told { OnOk result (self.new.teller.count ≤ 1000000) }
-        ensures room { OnOk result (HasRoom self.new.teller.count (seen_bits self.new.reader.progress)) }
-        ensures ok { IfOk result (λ n. Advances self.old.job.kind self.old.job.command (seen_bits self.old.reader.progress) (seen_bits self.new.reader.progress) self.old.teller self.new.teller (take n bytes.now) text.old.items text.new.items) }
-        ensures err { IfErr result (λ e. Halts self.old.job.kind self.old.job.command (seen_bits self.old.reader.progress) self.old.teller bytes.now text.old.items text.new.items e) }
-        ensures said { OnErr result (Says self.old.job.command self.old.teller self.new.teller text.old.items text.new.items) }
+        ensures ok { IfOk result (λ n. TakesFront self.old.job self.old.reader self.new.reader self.old.teller self.new.teller bytes.now text.old.items text.new.items n) }
+        ensures err { IfErr result (λ e. Halts self.old.job.kind self.old.job.command (seen_bits self.old.reader.progress) self.old.teller bytes.now text.old.items text.new.items e × Says self.old.job.command self.old.teller self.new.teller text.old.items text.new.items) }
     {
         if self.teller.count() == MOST_ITEMS {
             return Err(RunFault::Endless);

@@ -1,14 +1,15 @@
 //! Bytes from a source through an engine to a sink.
 
-ghost use Rattle.std.specs.Prelude.{◌≡◌, ◌+◌, ◌-◌, ◌*◌, ◌%◌, ◌^◌, ◌<◌, ◌≤◌, ◌⊎◌, ◌++◌, ℕ, List, [], length, take, Err, IfOk, IfErr, OnErr, OnOk};
+ghost use Rattle.std.specs.Prelude.{◌≡◌, ◌+◌, ◌-◌, ◌%◌, ◌^◌, ◌<◌, ◌≤◌, ◌⊎◌, ◌++◌, ℕ, List, [], length, take, IfOk, IfErr, OnErr, OnOk};
 ghost use Rattle.std.specs.Io.{ReadsAtMost};
-ghost use Rattle.std.specs.Io.KnownBytes.{Appends, Consumes, IsAtEnd, ReadConsumes};
-ghost use Rattle.etcs_stream.specs.Ends.{FailedBy, FlushedOnlyWhere, failed_calls};
+ghost use Rattle.std.specs.Io.KnownBytes.{Appends, ReadConsumes};
+ghost use Rattle.etcs_stream.specs.Ends.{FlushedOnlyWhere, failed_calls};
 ghost use Rattle.etcs_stream.specs.declared.fault.RunFault.{RunFault};
 ghost use Rattle.etcs_stream.specs.Faults.{IsOfEngine};
-ghost use Rattle.etcs_stream.specs.Engines.{Tells, Ends, EndsWhole, Stops, StopsAtEnd, StarvesIn, Prints};
-ghost use Rattle.etcs_stream.specs.Pipes.{Piped, PipedFirst};
+ghost use Rattle.etcs_stream.specs.Engines.{Ends, EndsWhole, Stops, StopsAtEnd, Prints};
+ghost use Rattle.etcs_stream.specs.Pipes.{Piped};
 ghost use Rattle.etcs_stream.specs.Passes.{Stopped, Broken};
+ghost use Rattle.etcs_stream.specs.Runs.{Ran};
 
 use crate::ends::{Failed, Sink, Source};
 use crate::engine::{Engine, MOST_READ};
@@ -136,18 +137,8 @@ pub(crate) fn run_engine<E: Engine, S: Source, W: Sink>(
     requires reads { S.reads source.old < 2 ^ 63 }
     requires read_failures { S.failures source.old < 2 ^ 63 }
     requires write_failures { W.failures sink.old < 2 ^ 63 }
-    ensures ok { IfOk result (λ tally. Piped (λ given told. Ends (E.job engine.old) given told tally) (S.remaining source.old) (S.remaining source.new) (W.contents sink.old) (W.contents sink.new)) }
-    ensures at_end { OnOk result (IsAtEnd (S.remaining source.new) × (S.failures source.new ≡ S.failures source.old) × (W.failures sink.new ≡ W.failures sink.old)) }
-    ensures engine { IfErr result (λ e. IsOfEngine e → Piped (λ given told. Stops (E.job engine.old) given told e ⊎ ((IsAtEnd (S.remaining source.new) × StopsAtEnd (E.job engine.old) given told e) ⊎ ((e ≡ RunFault.Endless) × (S.reads source.new ≡ S.reads source.old + 16000000) × (16000000 ≤ length given) × Tells (E.job engine.old) given told))) (S.remaining source.old) (S.remaining source.new) (W.contents sink.old) (W.contents sink.new)) }
-    ensures read { result ≡ Err RunFault.Read → Piped (Tells (E.job engine.old)) (S.remaining source.old) (S.remaining source.new) (W.contents sink.old) (W.contents sink.new) }
-    ensures write { (n : ℕ) → result ≡ Err (RunFault.Write n) → PipedFirst n (λ given told. Prints (E.job engine.old) given told ⊎ (IsAtEnd (S.remaining source.new) × EndsWhole (E.job engine.old) given told)) (S.remaining source.old) (S.remaining source.new) (W.contents sink.old) (W.contents sink.new) }
-    ensures flushed { OnOk result (W.flushes sink.new ≡ (W.flushes sink.old + 1) % 2 ^ 64) }
-    ensures unflushed { IfErr result (λ e. FlushedOnlyWhere (W.flushes sink.old) (W.flushes sink.new) (Piped (λ given told. (e ≡ RunFault.Write (length told)) × IsAtEnd (S.remaining source.new) × EndsWhole (E.job engine.old) given told) (S.remaining source.old) (S.remaining source.new) (W.contents sink.old) (W.contents sink.new))) }
-    ensures reads { S.reads source.new ≤ S.reads source.old + 16000000 }
-    ensures memory { IfErr result (λ e. e ≡ RunFault.Memory → Piped (StarvesIn (E.job engine.old)) (S.remaining source.old) (S.remaining source.new) (W.contents sink.old) (W.contents sink.new)) }
+    ensures ran { Ran (E.job engine.old) (S.remaining source.old) (S.remaining source.new) (S.reads source.old) (S.reads source.new) (S.failures source.old) (S.failures source.new) (W.contents sink.old) (W.contents sink.new) (W.failures sink.old) (W.failures sink.new) (W.flushes sink.old) (W.flushes sink.new) result }
     ensures said { IfErr result (λ e. e ≡ RunFault.Memory → Piped (λ given told. E.said engine.new told) (S.remaining source.old) (S.remaining source.new) (W.contents sink.old) (W.contents sink.new)) }
-    ensures failures { IfErr result (λ e. FailedBy e (S.failures source.old) (S.failures source.new) (W.failures sink.old) (W.failures sink.new)) }
-    ensures pieces { (given : List ℕ) × Consumes (S.remaining source.old) (S.remaining source.new) given × (length given + 4096 * S.reads source.old ≤ 4096 * S.reads source.new) }
 {
     let mut text = Vec::new(alloc);
     let mut buffer = [0u8; MOST_READ];

@@ -8,6 +8,7 @@ ghost use Rattle.etcs_stream.specs.Faults.{IsOfEngine};
 ghost use Rattle.etcs_stream.specs.Engines.{Tells, Ends, EndsWhole, Stops, StopsAtEnd, StarvesIn, Prints};
 ghost use Rattle.etcs_stream.specs.Tellers.{IsGroupable};
 ghost use Rattle.etcs_stream.specs.Pipes.{Piped, PipedFirst};
+ghost use Rattle.etcs_stream.specs.Runs.{Ran};
 
 use crate::bin::Bin;
 use crate::ends::{Sink, Source};
@@ -15,7 +16,7 @@ use crate::fault::RunFault;
 use crate::hex_lines::HexLines;
 use crate::job::{Form, Job, Tally};
 use crate::json_lines::JsonLines;
-use crate::lines::Lines;
+use crate::lines::{LineHandler, Lines};
 use crate::pump::run_engine;
 use std::alloc::Global;
 
@@ -54,15 +55,41 @@ pub fn run<S: Source, W: Sink>(
     ensures failures { IfErr result (λ e. FailedBy e (S.failures source.old) (S.failures source.new) (W.failures sink.old) (W.failures sink.new)) }
     ensures pieces { (given : List ℕ) × Consumes (S.remaining source.old) (S.remaining source.new) given × (length given + 4096 * S.reads source.old ≤ 4096 * S.reads source.new) }
 {
+    run_form(alloc, job, source, sink)
+}
+
+/// Does the job by the engine of the input's form.
+fn run_form<S: Source, W: Sink>(
+    alloc: Global,
+    job: Job,
+    source: &mut S,
+    sink: &mut W,
+) -> Result<Tally, RunFault>
+    requires groupable { IsGroupable job }
+    requires reads { S.reads source.old < 2 ^ 63 }
+    requires read_failures { S.failures source.old < 2 ^ 63 }
+    requires write_failures { W.failures sink.old < 2 ^ 63 }
+    ensures { Ran job (S.remaining source.old) (S.remaining source.new) (S.reads source.old) (S.reads source.new) (S.failures source.old) (S.failures source.new) (W.contents sink.old) (W.contents sink.new) (W.failures sink.old) (W.failures sink.new) (W.flushes sink.old) (W.flushes sink.new) result }
+{
     match job.from {
-        Form::Hex => {
-            let handler = HexLines::new(alloc, job);
-            run_engine(&mut Lines::new(alloc, handler), alloc, source, sink)
-        }
+        Form::Hex => run_lines(alloc, HexLines::new(alloc, job), source, sink),
         Form::Bin => run_engine(&mut Bin::new(alloc, job), alloc, source, sink),
-        Form::Json => {
-            let handler = JsonLines::new(alloc, job);
-            run_engine(&mut Lines::new(alloc, handler), alloc, source, sink)
-        }
+        Form::Json => run_lines(alloc, JsonLines::new(alloc, job), source, sink),
     }
+}
+
+/// Gives the lines of the input to what handles them.
+fn run_lines<T: LineHandler + Drop, S: Source, W: Sink>(
+    alloc: Global,
+    handler: T,
+    source: &mut S,
+    sink: &mut W,
+) -> Result<Tally, RunFault>
+    requires took { T.took handler [] [] }
+    requires reads { S.reads source.old < 2 ^ 63 }
+    requires read_failures { S.failures source.old < 2 ^ 63 }
+    requires write_failures { W.failures sink.old < 2 ^ 63 }
+    ensures { Ran (T.job handler) (S.remaining source.old) (S.remaining source.new) (S.reads source.old) (S.reads source.new) (S.failures source.old) (S.failures source.new) (W.contents sink.old) (W.contents sink.new) (W.failures sink.old) (W.failures sink.new) (W.flushes sink.old) (W.flushes sink.new) result }
+{
+    run_engine(&mut Lines::new(alloc, handler), alloc, source, sink)
 }

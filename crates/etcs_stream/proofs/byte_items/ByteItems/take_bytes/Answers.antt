@@ -20,7 +20,7 @@ loop-rest-init c = record {
 pub loop-rest-preserved : goal.loop-rest-preserved
 loop-rest-preserved c =
     let before = c.loop-rest.invariant in
-    let more = c.in_ok-taken.ensures in
+    let more = c.in_ok-taken.ensures.ok in
     let n = c.in_ok-taken.taken in
     let rest = c.loop-rest.rest.now in
     let job = c.args.self.now.job in
@@ -28,12 +28,12 @@ loop-rest-preserved c =
       front = before.front ++ take n rest;
       job_is = c.take_front.ensures.job ∙ before.job_is;
       waits = subst (λ (j : Job). Awaits j.kind c.take_front.new.self.reader) before.job_is more.waits;
-      few = more.told;
+      few = more.few;
       room = λ h. more.room;
       all = cut_front c.args.bytes.now before.front rest n _ refl before.all;
       advances =
           Advances-then job.kind job.command _ _ _ _ before.front (take n rest) _ _ _ before.advances _ _
-          (rw before.job_is at more.ok);
+          (rw before.job_is at more.advances);
     }
 
 pub returns-in_err-taken-clause-err : goal.returns-in_err-taken-clause-err
@@ -42,7 +42,7 @@ returns-in_err-taken-clause-err c =
     let job = c.args.self.now.job in
     let p = err_from_is_err_and c.from_residual.result c.from_residual.ensures.1 in
     rw (p.1, p.2, before.all)
-    (Halts-then job.kind job.command _ _ _ _ before.front c.loop-rest.rest.now _ _ _ before.advances c.in_err-taken.field-0.0 (rw before.job_is at c.in_err-taken.ensures.err))
+    (Halts-then job.kind job.command _ _ _ _ before.front c.loop-rest.rest.now _ _ _ before.advances c.in_err-taken.field-0.0 (rw before.job_is at c.in_err-taken.ensures.err.0))
 
 pub returns-in_err-taken-clause-said : goal.returns-in_err-taken-clause-said
 returns-in_err-taken-clause-said c =
@@ -50,4 +50,4 @@ returns-in_err-taken-clause-said c =
     let job = c.args.self.now.job in
     let p = err_from_is_err_and c.from_residual.result c.from_residual.ensures.1 in
     let told = before.advances in
-    rw p.1 (says_then job.command _ _ c.take_front.new.self.teller told.told _ told.added _ _ told.added_is told.text_is (rw before.job_is at c.in_err-taken.ensures.said))
+    rw p.1 (says_then job.command _ _ c.take_front.new.self.teller told.told _ told.added _ _ told.added_is told.text_is (rw before.job_is at c.in_err-taken.ensures.err.1))

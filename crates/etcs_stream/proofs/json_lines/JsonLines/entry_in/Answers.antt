@@ -1,4 +1,4 @@
-use Rattle.std.proofs.Common.{◌≡◌, ℕ, ◌+◌, List, ap, refl, ◌∙◌, Err}
+use Rattle.std.proofs.Common.{ℕ, ◌+◌, List, ap, refl, ◌∙◌, Err}
 use Rattle.etcs_vars.specs.declared.var.Var.{Var}
 use Rattle.etcs_text.specs.declared.entry.Kind.{Kind}
 use Rattle.etcs_text.specs.Entries.{EntryValue}

@@ -1,0 +1,10 @@
+use Rattle.etcs_stream.proofs.runs.run_form.Goals as goal
+
+pub returns-in-Hex : goal.returns-in-Hex
+returns-in-Hex g c = rw c.new.ensures.job at c.run_lines.ensures
+
+pub returns-in-Bin : goal.returns-in-Bin
+returns-in-Bin g c = rw c.new-in-Bin.ensures.job at c.run_engine.ensures.ran
+
+pub returns-in-Json : goal.returns-in-Json
+returns-in-Json g c = rw c.new-in-Json.ensures.job at c.run_lines-in-Json.ensures

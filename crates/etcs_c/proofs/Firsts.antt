@@ -1,5 +1,5 @@
 -- What a first feed of the reader of a kind says of an item, and that it says of other answers.
-use Rattle.std.proofs.Common.{◌≡◌, ℕ, ◌+◌, ◌*◌, Bool, List, [], Result, Ok, Err, ap, sym, subst, ◌∙◌, arith}
+use Rattle.std.proofs.Common.{◌≡◌, ℕ, ◌+◌, ◌*◌, Bool, List, [], Result, Ok, Err, ap, refl, sym, subst, ◌∙◌, arith}
 use Rattle.etcs_vars.specs.declared.var.Var.{Var}
 use Rattle.etcs_vars.specs.declared.feed.Fed.{Fed}
 use Rattle.etcs_vars.specs.declared.feed.ReadFault.{ReadFault}
@@ -10,7 +10,12 @@ use Rattle.etcs_sequence.specs.Progress as inner
 use Rattle.etcs_text.specs.declared.entry.Kind.{Kind}
 use Rattle.etcs_text.specs.Entries.{EntryReads, EntryValue}
 use Rattle.etcs_stream.specs.Readers.{Feeds, Progress, finished, progress_of}
-use Rattle.etcs_stream.proofs.ItemKinds.{inner_finished}
+
+inner_finished : {V : Type 0} (item : V → EntryValue) (s : inner.Progress V) (e : EntryValue) → progress_of item s ≡ finished e → (v : V) × (s ≡ inner.finished v)
+inner_finished item (inner.reading b) e h = absurd cc
+inner_finished item (inner.finished v) e h = (v, refl)
+inner_finished item (inner.stopped i x) e h = absurd cc
+inner_finished item (inner.starved n) e h = absurd cc
 
 module _ {V : Type 0} (item : V → EntryValue) (kind : Kind) (b : List Bool) (at : inner.Progress V) where
   abbrev pub First : Result Fed ReadFault → Type 0

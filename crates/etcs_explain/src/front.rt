@@ -59,8 +59,8 @@ impl Front {
             length: 0,
             place: None,
         };
-        for field in fields {
-            front.pass(field.0, field.1);
+        for (var, number) in fields {
+            front.pass(*var, *number);
         }
         front
     }
@@ -77,22 +77,16 @@ impl Front {
             }
             Var::L_PACKET => {
                 self.length = (number & 8191) as usize;
-                self.place = match row_of(way_of(self.kind), self.packet) {
-                    Some(row) => Some(Place::start(row)),
-                    None => None,
-                };
+                self.place = row_of(way_of(self.kind), self.packet).map(Place::start);
             }
-            _ => self.pass_row(number),
+            _ => {
+                if let Some(place) = &mut self.place {
+                    if place.var().is_some() {
+                        place.pass(number);
+                    }
+                }
+            }
         }
         self.bit = self.bit.saturating_add(var.width());
-    }
-
-    /// After one variable more of the last packet's row.
-    fn pass_row(&mut self, number: u64) {
-        if let Some(place) = &mut self.place {
-            if place.var().is_some() {
-                place.pass(number);
-            }
-        }
     }
 }

@@ -2,6 +2,7 @@
 
 use crate::front::{low_byte, user_bits, way_of};
 use crate::reasons::write_not_admitted;
+use crate::text::Text;
 use etcs_json::{JsonFault, from_line};
 use etcs_rows::Place;
 use etcs_tables::{
@@ -9,33 +10,19 @@ use etcs_tables::{
 };
 use etcs_text::Kind;
 use etcs_vars::Var;
-use serde_json::Value;
+use serde_json::{Error, Value};
 use std::alloc::{AllocError, Global};
+use std::fmt;
 
 /// How many bytes of JSON that is no item are looked into.
 const MOST_JSON: usize = 65_536;
 
-/// Why nothing is counted.
-#[derive(Debug, Drop)]
-enum Wrong {
-    /// A part is wrong: its path and the reason.
-    Part(String),
-    /// Memory was refused.
-    Memory,
-}
-
-impl From<AllocError> for Wrong {
-    fn from(_refused: AllocError) -> Wrong {
-        Wrong::Memory
-    }
-}
-
-/// Answers that a part is wrong.
+/// Writes that a part is wrong, and why, and answers none.
 macro_rules! wrong {
-    ($part:expr; $($text:tt)*) => {{
-        let mut reason = $part.begun()?;
-        write!(reason, $($text)*)?;
-        return Err(Wrong::Part(reason))
+    ($part:expr, $out:ident; $($text:tt)*) => {{
+        $part.write_path($out);
+        write!($out, $($text)*);
+        return None;
     }};
 }
 
@@ -65,183 +52,186 @@ fn word(kind: Kind) -> &'static str {
     }
 }
 
-/// A part of a tree, with its path.
-#[derive(Drop)]
+/// A value in few words.
+#[derive(Clone, Copy)]
+struct Brief<'a>(&'a Value);
+
+impl<'a> fmt::Display for Brief<'a> {
+    fn fmt<W: fmt::Write>(&self, f: &mut fmt::Formatter<W>) -> fmt::Result {
+        match self.0 {
+            Value::Array(_) => f.write_str("a list"),
+            Value::Object(_) => f.write_str("an object"),
+            Value::String(text) if text.len() > 40 => f.write_str("a longer text"),
+            value => write!(f, "{value}"),
+        }
+    }
+}
+
+/// A part of a tree, with its path: in which packet it is, which member, and which entry of that.
+#[derive(Clone, Copy)]
 struct Part<'a> {
-    alloc: Global,
-    path: String,
     value: &'a Value,
+    packet: Option<usize>,
+    name: Option<&'a str>,
+    entry: Option<usize>,
 }
 
 impl<'a> Part<'a> {
-    /// The beginning of a reason: the path.
-    fn begun(&self) -> Result<String, AllocError> {
-        match self.path.as_str() {
-            "" => String::from_str(self.alloc, ".: "),
-            path => format!(in self.alloc; "{path}: "),
+    /// Writes the beginning of a reason: the path.
+    fn write_path(self, out: &mut Text) {
+        if let Some(packet) = self.packet {
+            write!(out, ".packets[{packet}]");
+        }
+        match (self.name, self.entry) {
+            (Some(name), Some(entry)) => write!(out, ".{name}[{entry}]: "),
+            (Some(name), None) => write!(out, ".{name}: "),
+            (None, _) if self.packet.is_none() => out.push(".: "),
+            (None, _) => out.push(": "),
         }
     }
 
-    /// A part of this path.
-    fn at(&self, path: String, value: &'a Value) -> Part<'a> {
-        let alloc = self.alloc;
-        Part { alloc, path, value }
-    }
-
-    /// The member of a name that isn't there, as a path alone.
-    fn absent(&self, name: &str) -> Result<Part<'a>, AllocError> {
-        let path = format!(in self.alloc; "{}.{name}", self.path)?;
-        Ok(self.at(path, self.value))
-    }
-
-    /// The part at an index of it.
-    fn entry(&self, index: usize, value: &'a Value) -> Result<Part<'a>, AllocError> {
-        let path = format!(in self.alloc; "{}[{index}]", self.path)?;
-        Ok(self.at(path, value))
-    }
-
-    /// A value in few words.
-    fn describe(&self, value: &Value) -> Result<String, AllocError> {
-        match value {
-            Value::Array(_) => String::from_str(self.alloc, "a list"),
-            Value::Object(_) => String::from_str(self.alloc, "an object"),
-            Value::String(text) if text.len() > 40 => String::from_str(self.alloc, "a longer text"),
-            _ => value.to_string(self.alloc),
-        }
-    }
-
-    /// What it is in few words.
-    fn is(&self) -> Result<String, AllocError> {
-        self.describe(self.value)
+    /// The member of a name, as a path alone.
+    fn named(mut self, name: &'a str) -> Part<'a> {
+        self.name = Some(name);
+        self
     }
 
     /// Whether it has a member of this name.
-    fn has(&self, name: &str) -> bool {
+    fn has(self, name: &str) -> bool {
         self.value.get(name).is_some()
     }
 
     /// The member of a name.
-    fn member(&self, name: &str) -> Result<Part<'a>, Wrong> {
-        let mut part = self.absent(name)?;
-        match self.value.get(name) {
-            Some(value) => part.value = value,
-            None => wrong!(part; "this member is missing"),
-        }
-        Ok(part)
+    fn member(self, name: &'static str, out: &mut Text) -> Option<Part<'a>> {
+        let mut part = self.named(name);
+        let Some(value) = self.value.get(name) else {
+            wrong!(part, out; "this member is missing");
+        };
+        part.value = value;
+        Some(part)
     }
 
     /// Tests that it is an object with no members but these.
-    fn test_names(&self, names: &[&str]) -> Result<(), Wrong> {
+    fn test_names(self, names: &[&str], out: &mut Text) -> Option<()> {
         let Some(map) = self.value.as_object() else {
-            wrong!(self; "an object is wanted, not {}", self.is()?);
+            wrong!(self, out; "an object is wanted, not {}", Brief(self.value));
         };
         for (name, _) in map.iter() {
-            if !names.contains(&name.as_str()) {
-                wrong!(self.absent(name.as_str())?; "there is no such member here");
+            if !(&*names).contains(&name.as_str()) {
+                wrong!(self.named(name.as_str()), out; "there is no such member here");
             }
         }
-        Ok(())
+        Some(())
     }
 
     /// The whole number that it is.
-    fn number(&self, most: u64) -> Result<u64, Wrong> {
+    fn number(self, most: u64, out: &mut Text) -> Option<u64> {
         match self.value.as_u64() {
-            Some(number) if number <= most => Ok(number),
-            _ => wrong!(self; "a whole number from 0 to {most} is wanted, not {}", self.is()?),
+            Some(number) if number <= most => Some(number),
+            _ => {
+                let value = Brief(self.value);
+                wrong!(self, out; "a whole number from 0 to {most} is wanted, not {value}")
+            }
         }
     }
 
     /// The NID_MESSAGE or NID_PACKET of an item.
-    fn nid(&self) -> Result<u8, Wrong> {
-        Ok(low_byte(self.member("nid")?.number(255)?))
+    fn nid(self, out: &mut Text) -> Option<u8> {
+        Some(low_byte(self.member("nid", out)?.number(255, out)?))
     }
 
     /// How many bits it has as a text.
-    fn bits(&self) -> Result<usize, Wrong> {
+    fn bits(self, out: &mut Text) -> Option<usize> {
         if let Some(text) = self.value.as_str() {
             if text.as_bytes().iter().all(|c| matches!(*c, b'0' | b'1')) {
-                return Ok(text.len());
+                return Some(text.len());
             }
         }
-        wrong!(self; "a text of zeros and ones is wanted")
+        wrong!(self, out; "a text of zeros and ones is wanted")
     }
 
     /// Tests that it has this many bits.
-    fn test_bits(&self, wanted: usize) -> Result<(), Wrong> {
-        let count = self.bits()?;
+    fn test_bits(self, wanted: usize, out: &mut Text) -> Option<()> {
+        let count = self.bits(out)?;
         let (what, by) = if count > wanted {
             ("shorten", count - wanted)
         } else {
             ("lengthen", wanted - count)
         };
         if by == 0 {
-            return Ok(());
+            return Some(());
         }
-        wrong!(self; "{count} bits, and {wanted} are left: {what} it by {by}")
+        wrong!(self, out; "{count} bits, and {wanted} are left: {what} it by {by}")
     }
 
     /// The number of a variable, where the pair of this path has this value.
-    fn number_of(&self, value: &Value, var: Var) -> Result<u64, Wrong> {
+    fn number_of(self, value: &Value, var: Var, out: &mut Text) -> Option<u64> {
         if var == Var::NID_RADIO {
             let digits = value.as_str().unwrap_or("").as_bytes();
             if digits.len() == 16 && digits.iter().all(u8::is_ascii_hexdigit) {
-                return Ok(0);
+                return Some(0);
             }
-            wrong!(self; "{var} is a text of 16 hexadecimal digits");
+            wrong!(self, out; "{var} is a text of 16 hexadecimal digits");
         }
-        match value.as_u64() {
-            Some(number) if var.admits(number) => Ok(number),
-            Some(number) => {
-                let mut reason = self.begun()?;
-                write_not_admitted(var, Some(number), &mut reason)?;
-                Err(Wrong::Part(reason))
+        let number = value.as_u64();
+        match number {
+            Some(number) if var.admits(number) => Some(number),
+            Some(_) => {
+                self.write_path(out);
+                write_not_admitted(var, number, out);
+                None
             }
-            None => wrong!(self; "{var} has whole numbers, not {}", self.describe(value)?),
+            None => wrong!(self, out; "{var} has whole numbers, not {}", Brief(value)),
         }
     }
 
-    /// The number in the pair of a variable, which comes after what is said.
-    fn pair(&self, var: Var, after: &str) -> Result<u64, Wrong> {
+    /// The number in the pair of a variable.
+    fn pair(self, var: Var, after: &str, out: &mut Text) -> Option<u64> {
         let value = self.value;
         let (name, number) = (value.get(0usize), value.get(1usize));
         let (Some(name), Some(number), None) = (name, number, value.get(2usize)) else {
-            wrong!(self; "a pair [\"{var}\", number] is wanted");
+            wrong!(self, out; "a pair [\"{var}\", number] is wanted");
         };
         if name.as_str() == Some(var.name()) {
-            return self.number_of(number, var);
+            return self.number_of(number, var, out);
         }
-        wrong!(self; "{var} is wanted {after}, not {}", self.describe(name)?)
+        wrong!(self, out; "{var} is wanted {after}, not {}", Brief(name))
     }
 
     /// How many bits the pairs of a row have.
-    fn pairs(&self, row: Row) -> Result<usize, Wrong> {
+    fn pairs(self, row: Row, out: &mut Text) -> Option<usize> {
         let Some(list) = self.value.as_array() else {
-            wrong!(self; "a list of pairs is wanted, not {}", self.is()?);
+            wrong!(self, out; "a list of pairs is wanted, not {}", Brief(self.value));
         };
         let mut place = Place::start(row);
-        let mut after = String::from_str(self.alloc, "first")?;
+        let mut after = Text::new(out.alloc());
+        after.push("first");
         let mut count = 0usize;
         for (index, value) in list.as_slice().iter().enumerate() {
-            let part = self.entry(index, value)?;
+            let mut part = self;
+            part.value = value;
+            part.entry = Some(index);
             let Some(var) = place.var() else {
-                wrong!(part; "nothing is wanted {after}");
+                wrong!(part, out; "nothing is wanted {}", after.as_str());
             };
-            let number = part.pair(var, after.as_str())?;
+            let number = part.pair(var, after.as_str(), out)?;
             place.pass(number);
-            after = format!(in self.alloc; "after {var} {number}")?;
+            after.clear();
+            write!(after, "after {var} {number}");
             count = count.saturating_add(var.width());
         }
         match place.var() {
-            None => Ok(count),
-            Some(var) => wrong!(self; "{var} is wanted {after}, where the list ends"),
+            None => Some(count),
+            Some(var) =>
+                wrong!(self, out; "{var} is wanted {}, where the list ends", after.as_str()),
         }
     }
 
     /// How many bits a packet has.
-    fn packet(&self, way: Way) -> Result<usize, Wrong> {
-        let nid = self.nid()?;
+    fn packet(self, way: Way, out: &mut Text) -> Option<usize> {
+        let nid = self.nid(out)?;
         if (way, nid) == (Way::ToTrain, CLOSING) {
-            wrong!(self.absent("nid")?; "packet {nid} closes each telegram, and isn't written");
+            wrong!(self.named("nid"), out; "packet {nid} closes each telegram, and isn't written");
         }
         let row = match (way, nid) {
             (Way::ToTrain, 0) => Some(MARKER),
@@ -255,165 +245,161 @@ impl<'a> Part<'a> {
         };
         let is_framed = is_framed(way, nid);
         if is_framed && self.has(other) {
-            wrong!(self.absent(other)?; "packet {nid} is {what} here: give {name} in place of {other}");
+            wrong!(self.named(other), out; "packet {nid} is {what} here: give {name} in place of {other}");
         }
         if is_framed && way == Way::ToTrain {
-            self.test_names(&[name, "dir", "nid"])?;
-            self.member("dir")?.number(2)?;
+            self.test_names(&[name, "dir", "nid"], out)?;
+            self.member("dir", out)?.number(2, out)?;
         } else {
-            self.test_names(&[name, "nid"])?;
+            self.test_names(&[name, "nid"], out)?;
         }
         let front = if is_framed {
             frame_bits(way)
         } else {
             Var::NID_PACKET.width()
         };
-        let member = self.member(name)?;
+        let member = self.member(name, out)?;
         let bits = match row {
-            Some(row) => member.pairs(row)?,
-            None => member.bits()?,
+            Some(row) => member.pairs(row, out)?,
+            None => member.bits(out)?,
         };
-        Ok(bits.saturating_add(front))
+        Some(bits.saturating_add(front))
     }
 
     /// How many bits the packets of an item have.
-    fn packets(&self, way: Way) -> Result<usize, Wrong> {
-        let member = self.member("packets")?;
+    fn packets(self, way: Way, out: &mut Text) -> Option<usize> {
+        let member = self.member("packets", out)?;
         let Some(list) = member.value.as_array() else {
-            wrong!(member; "a list is wanted");
+            wrong!(member, out; "a list is wanted");
         };
         let mut count = 0usize;
         for (index, value) in list.as_slice().iter().enumerate() {
-            let bits = member.entry(index, value)?.packet(way)?;
-            count = count.saturating_add(bits);
+            let mut part = self;
+            part.value = value;
+            part.packet = Some(index);
+            count = count.saturating_add(part.packet(way, out)?);
         }
-        Ok(count)
+        Some(count)
     }
 
     /// Tests that an item has no members but these, and is of the kind.
-    fn test_kind(&self, kind: Kind, names: &[&str]) -> Result<(), Wrong> {
-        self.test_names(names)?;
-        let member = self.member("kind")?;
+    fn test_kind(self, kind: Kind, names: &[&str], out: &mut Text) -> Option<()> {
+        self.test_names(names, out)?;
+        let member = self.member("kind", out)?;
         let word = word(kind);
         if member.value.as_str() == Some(word) {
-            return Ok(());
+            return Some(());
         }
-        wrong!(member; "\"{word}\" is wanted, as --kind says, not {}", member.is()?)
+        wrong!(member, out; "\"{word}\" is wanted, as --kind says, not {}", Brief(member.value))
     }
 
     /// Tests a telegram.
-    fn test_telegram(&self, kind: Kind) -> Result<(), Wrong> {
-        self.test_kind(kind, &["kind", "header", "packets", "fill"])?;
-        let header = self.member("header")?.pairs(HEADER)?;
-        let packets = self.packets(Way::ToTrain)?;
+    fn test_telegram(self, kind: Kind, out: &mut Text) -> Option<()> {
+        self.test_kind(kind, &["kind", "header", "packets", "fill"], out)?;
+        let header = self.member("header", out)?.pairs(HEADER, out)?;
+        let packets = self.packets(Way::ToTrain, out)?;
         let room = user_bits(kind).saturating_sub(header.saturating_add(CLOSING_BITS));
         if packets > room {
             let word = word(kind);
-            wrong!(self.absent("packets")?; "{packets} bits, and a {word} telegram has room for {room}");
+            wrong!(self.named("packets"), out; "{packets} bits, and a {word} telegram has room for {room}");
         }
-        self.member("fill")?.test_bits(room - packets)
+        self.member("fill", out)?.test_bits(room - packets, out)
     }
 
     /// Tests a message that isn't kept as bits.
-    fn test_message(&self, kind: Kind) -> Result<(), Wrong> {
+    fn test_message(self, kind: Kind, out: &mut Text) -> Option<()> {
         let names = ["kind", "nid", "header", "fields", "packets", "padding"];
-        self.test_kind(kind, &names)?;
-        let nid = self.nid()?;
+        self.test_kind(kind, &names, out)?;
+        let nid = self.nid(out)?;
         let way = way_of(kind);
         let Some(row) = message_row(way, nid) else {
-            wrong!(self.absent("nid")?; "message {nid} is kept as bits here: its members are kind, nid and data");
+            wrong!(self.named("nid"), out; "message {nid} is kept as bits here: its members are kind, nid and data");
         };
         let head = match way {
             Way::ToTrain => TO_TRAIN,
             Way::ToTrack => TO_TRACK,
         };
-        let header = self.member("header")?.pairs(head)?;
-        let fields = self.member("fields")?.pairs(row)?;
-        let packets = self.packets(way)?;
+        let header = self.member("header", out)?.pairs(head, out)?;
+        let fields = self.member("fields", out)?.pairs(row, out)?;
+        let packets = self.packets(way, out)?;
         let all = packets.saturating_add(header.saturating_add(fields).saturating_add(18));
         if all > 8184 {
-            wrong!(self.absent("packets")?; "the message has {all} bits, and at most 1,023 bytes");
+            wrong!(self.named("packets"), out; "the message has {all} bits, and at most 1,023 bytes");
         }
-        self.member("padding")?.test_bits(7 - (all + 7) % 8)
+        self.member("padding", out)?
+            .test_bits(7 - (all + 7) % 8, out)
     }
 
     /// Tests a message that is kept as bits.
-    fn test_kept(&self, kind: Kind) -> Result<(), Wrong> {
-        self.test_kind(kind, &["kind", "nid", "data"])?;
-        let nid = self.nid()?;
+    fn test_kept(self, kind: Kind, out: &mut Text) -> Option<()> {
+        self.test_kind(kind, &["kind", "nid", "data"], out)?;
+        let nid = self.nid(out)?;
         if message_row(way_of(kind), nid).is_some() {
-            wrong!(self.absent("data")?; "message {nid} is typed here: its members are kind, nid, header, fields, packets and padding");
+            wrong!(self.named("data"), out; "message {nid} is typed here: its members are kind, nid, header, fields, packets and padding");
         }
-        let member = self.member("data")?;
-        let count = member.bits()?;
+        let member = self.member("data", out)?;
+        let count = member.bits(out)?;
         if count % 8 != 6 || count > 8166 {
-            wrong!(member; "{count} bits, and with the 18 before it a message has 3 to 1,023 whole bytes");
+            wrong!(member, out; "{count} bits, and with the 18 before it a message has 3 to 1,023 whole bytes");
         }
-        Ok(())
+        Some(())
     }
 
     /// Finds the first part that no item of the kind has.
-    fn test(&self, kind: Kind) -> Result<(), Wrong> {
+    fn test(self, kind: Kind, out: &mut Text) -> Option<()> {
         match kind {
-            Kind::Long | Kind::Short => self.test_telegram(kind),
-            Kind::Radio | Kind::Train if self.has("data") => self.test_kept(kind),
-            Kind::Radio | Kind::Train => self.test_message(kind),
+            Kind::Long | Kind::Short => self.test_telegram(kind, out),
+            Kind::Radio | Kind::Train if self.has("data") => self.test_kept(kind, out),
+            Kind::Radio | Kind::Train => self.test_message(kind, out),
         }
     }
 }
 
 /// Why no item of the kind has the JSON of a line.
-fn shape_reason(alloc: Global, kind: Kind, line: &[u8]) -> Result<String, AllocError> {
+fn write_shape(kind: Kind, line: &[u8], out: &mut Text) {
     if line.len() > MOST_JSON {
-        return format!(in alloc; "{} bytes, which no item has", line.len());
+        return write!(out, "{} bytes, which no item has", line.len());
     }
-    let value = match Value::from_slice(alloc, line) {
+    let value = match Value::from_slice(out.alloc(), line) {
         Ok(value) => value,
-        Err(error) if error.is_memory() => return Err(AllocError),
-        Err(error) if error.is_eof() => {
-            return format!(in alloc;
-                "no JSON: it ends at column {}, inside a value; jq -c . makes one line of several",
-                error.column()
-            );
-        }
-        Err(error) => {
-            return format!(in alloc;
-                "no JSON: another character is wanted at column {}",
-                error.column()
-            );
-        }
+        Err(error) if error.is_memory() => return out.note(Err(AllocError)),
+        Err(error) => return write_no_json(&error, out),
     };
-    let path = String::new(alloc);
-    let tested = Part {
-        alloc,
-        path,
+    let whole = Part {
         value: &value,
-    }
-    .test(kind);
-    match tested {
-        Err(Wrong::Part(reason)) => Ok(reason),
-        Err(Wrong::Memory) => Err(AllocError),
-        Ok(()) => format!(in alloc; "no item of kind {} has this JSON", word(kind)),
+        packet: None,
+        name: None,
+        entry: None,
+    };
+    if whole.test(kind, out).is_some() {
+        write!(out, "no item of kind {} has this JSON", word(kind));
     }
 }
 
-/// Why a line of JSON that was answered with this fault is no item.
-///
-/// # Errors
-///
-/// Where memory is refused.
-pub(crate) fn json_reason(
-    alloc: Global,
-    kind: Kind,
-    line: &[u8],
-    fault: JsonFault,
-) -> Result<String, AllocError> {
+/// Appends where a line stops being JSON.
+fn write_no_json(error: &Error, out: &mut Text) {
+    let column = error.column();
+    if error.is_eof() {
+        write!(
+            out,
+            "no JSON: it ends at column {column}, inside a value; jq -c . makes one line of several"
+        );
+    } else {
+        write!(
+            out,
+            "no JSON: another character is wanted at column {column}"
+        );
+    }
+}
+
+/// Appends why a line of JSON that was answered with this fault is no item.
+pub(crate) fn write_no_item(kind: Kind, line: &[u8], fault: JsonFault, out: &mut Text) {
     match fault {
-        JsonFault::Shape => shape_reason(alloc, kind, line),
+        JsonFault::Shape => write_shape(kind, line, out),
         JsonFault::Refused { bit, var } => {
-            format!(in alloc; "the bits of its data are refused at bit {bit}, {var}")
+            write!(out, "the bits of its data are refused at bit {bit}, {var}")
         }
-        JsonFault::Memory => Err(AllocError),
+        JsonFault::Memory => out.note(Err(AllocError)),
     }
 }
 
@@ -424,8 +410,11 @@ pub(crate) fn json_reason(
 ///
 /// Where memory is refused.
 pub fn why_json(alloc: Global, kind: Kind, line: &[u8]) -> Result<Option<String>, AllocError> {
-    match from_line(alloc, kind, line) {
-        Ok(_) => Ok(None),
-        Err(fault) => Ok(Some(json_reason(alloc, kind, line, fault)?)),
-    }
+    let fault = match from_line(alloc, kind, line) {
+        Ok(_) => return Ok(None),
+        Err(fault) => fault,
+    };
+    let mut reason = Text::new(alloc);
+    write_no_item(kind, line, fault, &mut reason);
+    Ok(Some(reason.into_string()?))
 }

@@ -14,6 +14,7 @@ mod refusal;
 mod run;
 mod sheet;
 mod table;
+mod text;
 
 pub use account::{Account, End, Part};
 pub use json::why_json;

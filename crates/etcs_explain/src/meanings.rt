@@ -1,6 +1,6 @@
 //! What the numbers of variables stand for (SUBSET-026, 7.5).
 
-use crate::sheet::Written;
+use crate::text::Text;
 use etcs_vars::Var;
 
 /// What a number measures, or how it is put together.
@@ -90,37 +90,52 @@ static TEXTS: [(&[Var], &[&str]); 28] = texts! {
         "system failure" "isolation" "non leading" "limited supervision" "national system" "reversing" "passive shunting";
 };
 
+/// The texts of a variable's numbers from 0 on.
+fn texts_of(var: Var) -> &'static [&'static str] {
+    for (vars, texts) in &TEXTS {
+        if vars.contains(&var) {
+            return texts;
+        }
+    }
+    &[]
+}
+
+/// The unit of a variable's numbers.
+fn unit_of(var: Var) -> Option<Unit> {
+    for (unit, vars) in &UNITS {
+        if vars.contains(&var) {
+            return Some(*unit);
+        }
+    }
+    None
+}
+
 /// The text of a number that has one.
 fn text_of(var: Var, number: u64) -> Option<&'static str> {
+    if let Some(text) = var.special(number) {
+        return Some(text);
+    }
     match (var, number) {
         (Var::M_MCOUNT, 254) => Some("fits no message of the group"),
         (Var::M_MCOUNT, 255) => Some("fits each message of the group"),
-        (Var::V_STATIC, 127) | (Var::G_A, 255) => Some("end of profile"),
-        (Var::V_RELEASEDP | Var::V_RELEASEOL, 126) => Some("calculated on board"),
-        (Var::V_RELEASEDP | Var::V_RELEASEOL | Var::V_MAMODE, 127) => Some("national value"),
-        (Var::T_LOA | Var::T_SECTIONTIMER | Var::T_ENDTIMER | Var::T_OL, 1023) => Some("unlimited"),
-        (Var::D_LEVELTR, 32767) => Some("now"),
-        (Var::T_TRAIN, 4294967295) => Some("unknown"),
-        (Var::NID_LRBG | Var::NID_PRVLRBG, 16777215) => Some("unknown"),
-        _ => {
-            let (_, texts) = TEXTS.iter().find(|texts| texts.0.contains(&var))?;
-            texts.get(number as usize).copied()
-        }
+        (Var::V_MAMODE, 127) => Some("national value"),
+        (Var::T_TRAIN, 4294967295) | (Var::NID_PRVLRBG, 16777215) => Some("unknown"),
+        _ => texts_of(var).get(number as usize).copied(),
     }
 }
 
 /// Appends a distance in the unit of Q_SCALE, after a sign; the sign alone where the unit isn't known.
-fn write_distance(sign: &str, number: u64, scale: Option<u64>, out: &mut String) -> Written {
+fn write_distance(sign: &str, number: u64, scale: Option<u64>, out: &mut Text) {
     match scale {
         Some(0) => write!(out, "{sign}{}.{} m", number / 10, number % 10),
         Some(1) => write!(out, "{sign}{number} m"),
         Some(2) => write!(out, "{sign}{} m", number.saturating_mul(10)),
-        _ => out.push_str(sign),
+        _ => out.push(sign),
     }
 }
 
 /// Appends a number in its unit.
-fn write_measure(unit: Unit, number: u64, scale: Option<u64>, out: &mut String) -> Written {
+fn write_measure(unit: Unit, number: u64, scale: Option<u64>, out: &mut Text) {
     match unit {
         Unit::Shift if number > 32767 => {
             write_distance("-", 65536u64.saturating_sub(number), scale, out)
@@ -135,23 +150,16 @@ fn write_measure(unit: Unit, number: u64, scale: Option<u64>, out: &mut String) 
         Unit::Group => write!(out, "NID_C {}, NID_BG {}", number / 16384, number % 16384),
         Unit::Position => write!(out, "position {}", number.saturating_add(1)),
         Unit::Count => write!(out, "{} in the group", number.saturating_add(1)),
-        Unit::Letter if number < 32 || number > 126 => Ok(()),
+        Unit::Letter if number < 32 || number > 126 => {}
         Unit::Letter => write!(out, "'{}'", char::from((number & 127) as u8)),
     }
 }
 
 /// Appends what a number of the variable stands for, with distances by this Q_SCALE; nothing where it has no meaning.
-pub(crate) fn write_meaning(
-    var: Var,
-    number: u64,
-    scale: Option<u64>,
-    out: &mut String,
-) -> Written {
+pub(crate) fn write_meaning(var: Var, number: u64, scale: Option<u64>, out: &mut Text) {
     if let Some(text) = text_of(var, number) {
-        return out.push_str(text);
-    }
-    match UNITS.iter().find(|unit| unit.1.contains(&var)) {
-        Some((unit, _)) => write_measure(*unit, number, scale, out),
-        None => Ok(()),
+        out.push(text);
+    } else if let Some(unit) = unit_of(var) {
+        write_measure(unit, number, scale, out);
     }
 }

@@ -1,7 +1,7 @@
 //! A page of HTML: the bytes of each item beside its variables.
 
 use crate::account::End;
-use crate::sheet::Written;
+use crate::text::Text;
 
 /// What is in front of the first item.
 pub(crate) static HEAD: &str = "<!doctype html>
@@ -65,29 +65,28 @@ for (const s of document.querySelectorAll('section')) {
 ";
 
 /// Appends the bytes of an item in rows of eight, with the refused bit, and begins the column of its variables.
-pub(crate) fn write_bytes(bytes: &[u8], end: End, out: &mut String) -> Written {
-    out.push_str("<div class=g><div class=h>\n")?;
+pub(crate) fn write_bytes(bytes: &[u8], end: End, out: &mut Text) {
+    out.push("<div class=g><div class=h>\n");
     for (at, byte) in bytes.iter().enumerate() {
         let bit = at.saturating_mul(8);
         if at % 8 == 0 {
             let row = if at == 0 { "" } else { "</div>\n" };
-            write!(out, "{row}<div class=r><s>{bit}</s>")?;
+            write!(out, "{row}<div class=r><s>{bit}</s>");
         }
-        write!(out, "<b>{byte:02X}<u>")?;
-        write_bits(*byte, bit, end, out)?;
-        out.push_str("</u></b>")?;
+        write!(out, "<b>{byte:02X}<u>");
+        write_bits(*byte, bit, end, out);
+        out.push("</u></b>");
     }
-    out.push_str("</div>\n</div><div>\n")
+    out.push("</div>\n</div><div>\n");
 }
 
 /// Appends the bits of a byte, of which the first is this one of the item.
-fn write_bits(byte: u8, first: usize, end: End, out: &mut String) -> Written {
+fn write_bits(byte: u8, first: usize, end: End, out: &mut Text) {
     for place in 0..8usize {
         let class = match end {
             End::Refused(bit, _) if bit == first.saturating_add(place) => " class=no",
             _ => "",
         };
-        write!(out, "<i{class}>{}</i>", (byte >> (7 - place)) & 1)?;
+        write!(out, "<i{class}>{}</i>", (byte >> (7 - place)) & 1);
     }
-    Ok(())
 }

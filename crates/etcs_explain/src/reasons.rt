@@ -3,7 +3,7 @@
 use crate::account::Part;
 use crate::front::{Front, low_byte, way_of};
 use crate::meanings::write_meaning;
-use crate::sheet::Written;
+use crate::text::Text;
 use etcs_rows::parts::message_lengths;
 use etcs_rows::{LengthSet, Place, lengths, reaches};
 use etcs_tables::{MOST_LENGTH, frame_bits, is_framed, row_of};
@@ -11,34 +11,32 @@ use etcs_text::Kind;
 use etcs_vars::Var;
 
 /// Appends ranges of numbers, with both ends.
-fn write_ranges(ranges: &[(u64, u64)], out: &mut String) -> Written {
+fn write_ranges(ranges: &[(u64, u64)], out: &mut Text) {
     let mut before = "";
     for (low, high) in ranges {
-        out.push_str(before)?;
         match high.saturating_sub(*low) {
-            0 => write!(out, "{low}")?,
-            1 => write!(out, "{low} and {high}")?,
-            _ => write!(out, "{low} to {high}")?,
+            0 => write!(out, "{before}{low}"),
+            1 => write!(out, "{before}{low} and {high}"),
+            _ => write!(out, "{before}{low} to {high}"),
         }
         before = " or ";
     }
-    Ok(())
 }
 
 /// Appends which numbers a variable admits, and that this one isn't among them.
-pub(crate) fn write_not_admitted(var: Var, number: Option<u64>, out: &mut String) -> Written {
-    write!(out, "{var} admits ")?;
-    write_ranges(var.ranges(), out)?;
+pub(crate) fn write_not_admitted(var: Var, number: Option<u64>, out: &mut Text) {
+    write!(out, "{var} admits ");
+    write_ranges(var.ranges(), out);
     let Some(number) = number else {
-        return out.push_str(", and none of them begins with these bits");
+        return out.push(", and none of them begins with these bits");
     };
-    write!(out, ", not {number}")?;
-    let mut meaning = String::new(*out.allocator());
-    write_meaning(var, number, None, &mut meaning)?;
-    if meaning.is_empty() {
-        Ok(())
-    } else {
-        write!(out, " ({meaning})")
+    write!(out, ", not {number}");
+    let mut meaning = Text::new(out.alloc());
+    write_meaning(var, number, None, &mut meaning);
+    match meaning.whole() {
+        Ok("") => {}
+        Ok(meaning) => write!(out, " ({meaning})"),
+        Err(refused) => out.note(Err(refused)),
     }
 }
 
@@ -47,13 +45,8 @@ fn least_from(set: &LengthSet, number: usize) -> Option<usize> {
     (number..MOST_LENGTH + 1).find(|length| set.holds(*length))
 }
 
-/// The least number of bits that may be left of a row.
-fn least_of(place: &Place) -> usize {
-    least_from(&lengths(place), 0).unwrap_or(0)
-}
-
 /// Appends which lengths of a set are next to one that it hasn't.
-fn write_nearest(set: &LengthSet, length: usize, out: &mut String) -> Written {
+fn write_nearest(set: &LengthSet, length: usize, out: &mut Text) {
     let length = length.min(MOST_LENGTH);
     let low = (0..length).rev().find(|length| set.holds(*length));
     match (low, least_from(set, length.saturating_add(1))) {
@@ -61,36 +54,36 @@ fn write_nearest(set: &LengthSet, length: usize, out: &mut String) -> Written {
         (Some(low), None) => write!(out, "at most {low} bits"),
         (None, Some(high)) => {
             if least_from(set, high.saturating_add(1)).is_some() {
-                out.push_str("at least ")?;
+                out.push("at least ");
             }
-            write!(out, "{high} bits")
+            write!(out, "{high} bits");
         }
-        (None, None) => out.push_str("no length"),
+        (None, None) => out.push("no length"),
     }
 }
 
 /// Appends what may be left after a packet where this much isn't.
-fn write_rest(kind: Kind, rest: usize, out: &mut String) -> Written {
-    write!(out, "would leave {rest} bits")?;
+fn write_rest(kind: Kind, rest: usize, out: &mut Text) {
+    write!(out, "would leave {rest} bits");
     match kind {
-        Kind::Long | Kind::Short => out.push_str(" in the telegram, and packet 255 needs 8"),
-        Kind::Radio | Kind::Train => write!(
-            out,
-            ": after the last packet there are 0 to 7, and another has at least {}",
-            frame_bits(way_of(kind))
-        ),
+        Kind::Long | Kind::Short => out.push(" in the telegram, and packet 255 needs 8"),
+        Kind::Radio | Kind::Train => {
+            let least = frame_bits(way_of(kind));
+            write!(
+                out,
+                ": after the last packet there are 0 to 7, and another has at least {least}"
+            );
+        }
     }
 }
 
 /// Appends why a packet of this number doesn't fit.
-fn write_no_packet(front: &Front, number: Option<u64>, out: &mut String) -> Written {
+fn write_no_packet(front: &Front, number: Option<u64>, out: &mut Text) {
     let room = front.end.saturating_sub(front.bit);
     let way = way_of(front.kind);
     let Some(number) = number else {
-        return write!(
-            out,
-            "no packet whose number begins with these bits fits into the {room} bits that are left"
-        );
+        out.push("no packet whose number begins with these bits fits into the ");
+        return write!(out, "{room} bits that are left");
     };
     let nid = low_byte(number);
     if !is_framed(way, nid) {
@@ -102,22 +95,18 @@ fn write_no_packet(front: &Front, number: Option<u64>, out: &mut String) -> Writ
             ),
         };
     }
-    let row = match row_of(way, nid) {
-        Some(row) => least_of(&Place::start(row)),
-        None => 0,
-    };
-    let least = row.saturating_add(frame_bits(way));
-    write!(out, "packet {nid} has at least {least} bits, and ")?;
+    let row = row_of(way, nid).and_then(|row| least_from(&lengths(&Place::start(row)), 0));
+    let least = frame_bits(way).saturating_add(row.unwrap_or(0));
+    write!(out, "packet {nid} has at least {least} bits, and ");
     if least > room {
-        write!(out, "{room} are left")
-    } else {
-        out.push_str("that ")?;
-        write_rest(front.kind, room.saturating_sub(least), out)
+        return write!(out, "{room} are left");
     }
+    out.push("that ");
+    write_rest(front.kind, room.saturating_sub(least), out);
 }
 
 /// Appends why a packet hasn't this length here.
-fn write_no_length(front: &Front, number: Option<u64>, out: &mut String) -> Written {
+fn write_no_length(front: &Front, number: Option<u64>, out: &mut Text) {
     let packet = front.packet;
     let Some(length) = number else {
         return write!(
@@ -131,8 +120,8 @@ fn write_no_length(front: &Front, number: Option<u64>, out: &mut String) -> Writ
     if let Some(row) = row_of(way, packet) {
         let set = lengths(&Place::start(row)).shift(frame);
         if !set.holds(length) {
-            write!(out, "packet {packet} has ")?;
-            write_nearest(&set, length, out)?;
+            write!(out, "packet {packet} has ");
+            write_nearest(&set, length, out);
             return write!(out, ", not {length}");
         }
     } else if length < frame {
@@ -142,47 +131,44 @@ fn write_no_length(front: &Front, number: Option<u64>, out: &mut String) -> Writ
         );
     }
     let room = front.end.saturating_sub(front.start);
-    write!(out, "L_PACKET {length} ")?;
+    write!(out, "L_PACKET {length} ");
     if length > room {
-        write!(out, "is more than the {room} bits that are left")
-    } else {
-        write_rest(front.kind, room.saturating_sub(length), out)
+        return write!(out, "is more than the {room} bits that are left");
     }
+    write_rest(front.kind, room.saturating_sub(length), out);
 }
 
 /// Appends why the message hasn't this length.
-fn write_no_message(front: &Front, number: Option<u64>, out: &mut String) -> Written {
-    write!(out, "message {} has ", front.message)?;
-    write_ranges(message_lengths(way_of(front.kind), front.message), out)?;
-    out.push_str(" bytes")?;
-    match number {
-        Some(number) => write!(out, ", not {number}"),
-        None => Ok(()),
+fn write_no_message(front: &Front, number: Option<u64>, out: &mut Text) {
+    write!(out, "message {} has ", front.message);
+    write_ranges(message_lengths(way_of(front.kind), front.message), out);
+    out.push(" bytes");
+    if let Some(number) = number {
+        write!(out, ", not {number}");
     }
 }
 
 /// Appends why a packet of its length can't have this number, which the variable admits.
-fn write_no_fit(front: &Front, var: Var, number: u64, out: &mut String) -> Written {
+fn write_no_fit(front: &Front, var: Var, number: u64, out: &mut Text) {
     let Some(place) = &front.place else {
         return write!(out, "{var} {number} doesn't fit");
     };
     let end = front.bit.saturating_add(var.width());
     let before = end.saturating_sub(front.start);
-    write!(out, "with {var} {number} the packet has ")?;
+    write!(out, "with {var} {number} the packet has ");
     match place.after(number) {
-        Some(next) => write_nearest(
-            &lengths(&next).shift(before.min(MOST_LENGTH)),
-            front.length,
-            out,
-        )?,
-        None => out.push_str("no length")?,
+        Some(next) => {
+            let set = lengths(&next).shift(before.min(MOST_LENGTH));
+            write_nearest(&set, front.length, out);
+        }
+        None => out.push("no length"),
     }
-    write!(out, ", and L_PACKET says {}", front.length)?;
-    write_fitting(place, var, front.length.saturating_sub(before), out)
+    write!(out, ", and L_PACKET says {}", front.length);
+    write_fitting(place, var, front.length.saturating_sub(before), out);
 }
 
 /// Appends which numbers of a variable fit in place of one that doesn't, at most four of them.
-fn write_fitting(place: &Place, var: Var, left: usize, out: &mut String) -> Written {
+fn write_fitting(place: &Place, var: Var, left: usize, out: &mut Text) {
     let mut count = 0u8;
     for number in 0..256 {
         let Some(next) = place.after(number) else {
@@ -190,27 +176,21 @@ fn write_fitting(place: &Place, var: Var, left: usize, out: &mut String) -> Writ
         };
         if reaches(&next, left) {
             match count {
-                0 => write!(out, ", as with {var} {number}")?,
-                1..=3 => write!(out, " or {number}")?,
-                _ => return out.push_str(" .."),
+                0 => write!(out, ", as with {var} {number}"),
+                1..=3 => write!(out, " or {number}"),
+                _ => return out.push(" .."),
             }
             count = count.saturating_add(1);
         }
     }
-    Ok(())
 }
 
 /// Appends why a bit of the variable is refused after the variables in front, where its number is this one or its bits
 /// aren't all there. No capital and no full stop.
-pub(crate) fn write_reason(
-    front: &Front,
-    part: Part,
-    number: Option<u64>,
-    out: &mut String,
-) -> Written {
+pub(crate) fn write_reason(front: &Front, part: Part, number: Option<u64>, out: &mut Text) {
     match (part.var, number) {
-        (Var::PAD, _) if front.kind == Kind::Long => out.push_str("PAD is two zeros"),
-        (Var::PAD, _) => out.push_str("PAD is six zeros"),
+        (Var::PAD, _) if front.kind == Kind::Long => out.push("PAD is two zeros"),
+        (Var::PAD, _) => out.push("PAD is six zeros"),
         (Var::NID_PACKET, _) => write_no_packet(front, number, out),
         (Var::L_PACKET, _) => write_no_length(front, number, out),
         (Var::L_MESSAGE, _) => write_no_message(front, number, out),

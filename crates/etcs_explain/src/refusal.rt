@@ -1,17 +1,17 @@
 //! Why bytes are no item.
 
-ghost use Rattle.std.specs.Prelude.{◌≡◌, ℕ, take, IfOk, IfSome, IsNone};
+ghost use Rattle.std.specs.Prelude.{ℕ, take, IfOk, IfSome, IsNone};
 ghost use Rattle.etcs_bits.specs.Bits.{bits};
 ghost use Rattle.etcs_vars.specs.declared.var.Var.{Var};
 ghost use Rattle.etcs_vars.specs.Reading.{readings_of};
 ghost use Rattle.etcs_vars.specs.Walking.{Refuses};
 ghost use Rattle.etcs_text.specs.Entries.{EntryReads};
-ghost use Rattle.etcs_explain.specs.declared.account.End.{End};
 
 use crate::account::{Account, End};
 use crate::front::{Front, way_of};
 use crate::hex_lines::wanted_bytes;
 use crate::reasons::{often, write_reason};
+use crate::text::Text;
 use etcs_bits::peek;
 use etcs_tables::message_row;
 use etcs_text::Kind;
@@ -32,78 +32,64 @@ pub struct Reason {
 }
 
 /// What to do where bytes are an item of another kind.
+#[rattlefmt::skip]
 static ADVICE: [(Kind, &str); 4] = [
     (Kind::Long, "these bytes are a long telegram: --kind long"),
-    (
-        Kind::Short,
-        "these bytes are a short telegram: --kind short",
-    ),
-    (
-        Kind::Radio,
-        "these bytes are a message to the train: --kind radio",
-    ),
-    (
-        Kind::Train,
-        "these bytes are a message to the track: --kind train",
-    ),
+    (Kind::Short, "these bytes are a short telegram: --kind short"),
+    (Kind::Radio, "these bytes are a message to the train: --kind radio"),
+    (Kind::Train, "these bytes are a message to the track: --kind train"),
 ];
 
-/// Whether the bytes may be meant as an item of a kind: not as a message that is kept whole, which any bytes may be.
-fn is_meant(kind: Kind, bytes: &[u8]) -> bool {
-    match (kind, bytes.first()) {
-        (Kind::Long | Kind::Short, _) => true,
-        (_, Some(number)) => message_row(way_of(kind), *number).is_some(),
-        (_, None) => false,
+/// Whether the bytes are an item of a kind, and may be meant so: not as a message that is kept whole, which any bytes may be.
+fn is_meant(alloc: Global, kind: Kind, bytes: &[u8]) -> Result<bool, AllocError> {
+    if let (Kind::Radio | Kind::Train, Some(number)) = (kind, bytes.first()) {
+        if message_row(way_of(kind), *number).is_none() {
+            return Ok(false);
+        }
     }
+    let account = Account::read(alloc, kind, bytes)?;
+    Ok(account.end == End::Whole && account.bytes() == bytes.len())
 }
 
 /// What to do where the bytes are an item of a kind that is another than this one.
 fn advice(alloc: Global, kind: Kind, bytes: &[u8]) -> Result<Option<&'static str>, AllocError> {
     for (other, text) in &ADVICE {
-        if *other != kind && is_meant(*other, bytes) {
-            let account = Account::read(alloc, *other, bytes)?;
-            if account.end == End::Whole && account.bytes() == bytes.len() {
-                return Ok(Some(*text));
-            }
+        if *other != kind && is_meant(alloc, *other, bytes)? {
+            return Ok(Some(*text));
         }
     }
     Ok(None)
 }
 
 /// Appends how many bytes are there and how many are wanted, where they end inside an item.
-fn write_missing(kind: Kind, bytes: &[u8], out: &mut String) -> Result<(), AllocError> {
+fn write_missing(kind: Kind, bytes: &[u8], out: &mut Text) {
     match wanted_bytes(kind, bytes) {
         Some(wanted) => write!(out, "{} of {wanted} bytes are here", bytes.len()),
         None => write!(out, "{} of at least 3 bytes are here", bytes.len()),
     }
 }
 
-/// Why the bytes of an account are no item, and what this most often comes of. `None` where they are one.
-pub(crate) fn cause(
-    alloc: Global,
+/// Appends why the bytes of an account are no item, and answers what this most often comes of. Nothing where they are one.
+pub(crate) fn write_cause(
     kind: Kind,
     bytes: &[u8],
     account: &Account,
-) -> Result<Option<(String, Option<&'static str>)>, AllocError>
-    ensures { IfOk result (λ o. IsNone o → account.now.end ≡ End.Whole) }
-{
-    let mut sentence = String::new(alloc);
-    let fields = account.fields.as_slice();
+    out: &mut Text,
+) -> Result<Option<&'static str>, AllocError> {
     let usual = match account.end {
         End::Whole => return Ok(None),
         End::Open(_) => {
-            write_missing(kind, bytes, &mut sentence)?;
+            write_missing(kind, bytes, out);
             None
         }
         End::Refused(_, part) => {
-            let front = Front::new(kind, fields);
+            let front = Front::new(kind, account.fields.as_slice());
             let number = peek(bytes, front.bit, part.var.width());
-            write_reason(&front, part, number, &mut sentence)?;
+            write_reason(&front, part, number, out);
             often(kind, part.var)
         }
     };
-    let often = advice(alloc, kind, bytes)?.or(usual);
-    Ok(Some((sentence, often)))
+    Ok(advice(out.alloc(), kind, bytes)?.or(usual))
 }
 
 /// Why the first of the bytes, at most 1,023, begin no item of the kind: the bit that the kind's reader refuses, its
@@ -122,14 +108,12 @@ pub fn why(alloc: Global, kind: Kind, bytes: &[u8]) -> Result<Option<Reason>, Al
         End::Open(_) => return Ok(None),
         End::Refused(bit, part) => (bit, part),
     };
-    let Some((sentence, often)) = cause(alloc, kind, bytes, &account)? else {
-        unreachable!()
-    };
-    let var = part.var;
+    let mut sentence = Text::new(alloc);
+    let often = write_cause(kind, bytes, &account, &mut sentence)?;
     Ok(Some(Reason {
         bit,
-        var,
-        sentence,
+        var: part.var,
+        sentence: sentence.into_string()?,
         often,
     }))
 }

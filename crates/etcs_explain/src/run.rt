@@ -1,13 +1,14 @@
 //! A run: the items of an input, explained one after another.
 
-use crate::account::{Account, End, MOST_BYTES};
+use crate::account::{Account, End, MOST_BYTES, Part};
 use crate::front::way_of;
 use crate::hex_lines::{wanted_bytes, write_no_bytes};
-use crate::json::json_reason;
+use crate::json::write_no_item;
 use crate::page::{FOOT, HEAD, write_bytes};
-use crate::refusal::cause;
-use crate::sheet::{Layout, Sheet, Written};
-use crate::table::Table;
+use crate::refusal::write_cause;
+use crate::sheet::{Layout, Sheet};
+use crate::table::write_table;
+use crate::text::Text;
 use etcs_digits::{NoBytes, line_bytes};
 use etcs_json::{JsonFault, from_line};
 use etcs_stream::parts::split_line;
@@ -67,7 +68,7 @@ struct Explainer<W> {
 impl<W: Write> Explainer<W> {
     /// Writes what the sheet has, and empties it.
     fn send(&mut self) -> Step<()> {
-        let text = self.sheet.out.as_bytes();
+        let text = self.sheet.whole()?.as_bytes();
         let mut at = 0;
         while at < text.len() {
             match self.output.write(&text[at..]) {
@@ -84,9 +85,7 @@ impl<W: Write> Explainer<W> {
 
     /// Notes a fault, where it is the first.
     fn note(&mut self, fault: RunFault) {
-        if self.first.is_none() {
-            self.first = Some(fault);
-        }
+        self.first = self.first.or(Some(fault));
     }
 
     /// Explains the item that the bytes begin with, at this line, and says how many bytes it has. `None` where they begin
@@ -102,17 +101,13 @@ impl<W: Write> Explainer<W> {
         let shown = &bytes[..count.min(bytes.len())];
         self.tell(shown, &account, line)?;
         self.send()?;
-        match account.end {
+        let bits = (shown.len() as u64).saturating_mul(8);
+        let fault = match account.end {
             End::Whole => return Ok(Some(shown.len())),
-            End::Open(_) => {
-                let bits = (shown.len() as u64).saturating_mul(8);
-                self.note(RunFault::Truncated { item, bits });
-            }
-            End::Refused(bit, part) => {
-                let var = part.var;
-                self.note(RunFault::Refused { item, bit, var });
-            }
-        }
+            End::Open(_) => RunFault::Truncated { item, bits },
+            End::Refused(bit, Part { var, .. }) => RunFault::Refused { item, bit, var },
+        };
+        self.note(fault);
         Ok(None)
     }
 
@@ -130,7 +125,7 @@ impl<W: Write> Explainer<W> {
     }
 
     /// Begins a title with this line, or with the item of bytes.
-    fn place(&mut self, line: u64) -> Written {
+    fn place(&mut self, line: u64) {
         self.sheet.clear();
         match self.task.from {
             Form::Bin => write!(self.sheet.meaning, "item {}: ", self.items),
@@ -139,36 +134,32 @@ impl<W: Write> Explainer<W> {
     }
 
     /// Writes the title, the table and the reason of an item.
-    fn tell(&mut self, bytes: &[u8], account: &Account, line: u64) -> Written {
+    fn tell(&mut self, bytes: &[u8], account: &Account, line: u64) -> Result<(), AllocError> {
         let kind = self.task.kind;
-        self.place(line)?;
-        write_title(kind, bytes, account.end, &mut self.sheet.meaning)?;
-        self.sheet.open_item()?;
+        self.place(line);
+        write_title(kind, bytes, account.end, &mut self.sheet.meaning);
+        self.sheet.open_item();
         if let Some(page) = self.sheet.page() {
-            write_bytes(bytes, account.end, page)?;
+            write_bytes(bytes, account.end, page);
         }
-        Table::new(way_of(kind), bytes, account).write(&mut self.sheet)?;
+        write_table(way_of(kind), bytes, account, &mut self.sheet);
         self.sheet.clear();
-        let mut usual = None;
-        if let Some((sentence, often)) = cause(self.alloc, kind, bytes, account)? {
-            self.sheet.meaning.push_str(sentence.as_str())?;
-            usual = often;
-        }
-        self.sheet.close_item(usual)
+        let often = write_cause(kind, bytes, account, &mut self.sheet.meaning)?;
+        self.sheet.close_item(often);
+        Ok(())
     }
 
-    /// Writes the line of what is no item, with a reason, and notes the fault.
-    fn wrong(&mut self, line: u64, reason: &str, fault: RunFault) -> Step<()> {
+    /// Writes the line of what is no item, of which the place and the reason are written, and notes the fault.
+    fn wrong(&mut self, fault: RunFault) -> Step<()> {
         self.note(fault);
-        self.place(line)?;
-        self.sheet.meaning.push_str(reason)?;
-        self.sheet.heading()?;
+        self.sheet.heading();
         self.send()
     }
 
     /// Explains the item of a line of JSON.
     fn json_line(&mut self, text: &[u8], line: u64, bytes: &mut Vec<u8>) -> Step<()> {
-        let fault = match from_line(self.alloc, self.task.kind, text) {
+        let kind = self.task.kind;
+        let fault = match from_line(self.alloc, kind, text) {
             Ok(entry) => {
                 bytes.clear();
                 encoded(&entry, bytes)?;
@@ -177,44 +168,47 @@ impl<W: Write> Explainer<W> {
             }
             Err(fault) => fault,
         };
-        let reason = json_reason(self.alloc, self.task.kind, text, fault)?;
-        let fault = if let JsonFault::Refused { bit, var } = fault {
+        self.place(line);
+        write_no_item(kind, text, fault, &mut self.sheet.meaning);
+        if let JsonFault::Refused { bit, var } = fault {
             self.items = self.items.saturating_add(1);
             let item = self.items;
-            RunFault::Refused { item, bit, var }
-        } else {
-            RunFault::BadJson { line }
-        };
-        self.wrong(line, reason.as_str(), fault)
+            return self.wrong(RunFault::Refused { item, bit, var });
+        }
+        self.wrong(RunFault::BadJson { line })
     }
 
     /// Says why a line says no bytes.
     fn bad_hex(&mut self, text: &[u8], line: u64, why: NoBytes) -> Step<()> {
-        let mut reason = String::new(self.alloc);
-        write_no_bytes(why, &mut reason)?;
+        self.place(line);
+        let meaning = &mut self.sheet.meaning;
+        let written = write_no_bytes(why, meaning.string());
+        meaning.note(written);
         let place = match text.iter().position(|c| !c.is_ascii_hexdigit()) {
             Some(place) if why == NoBytes::NoDigits => place,
             _ => text.len(),
         };
         let place = place as u64;
-        self.wrong(line, reason.as_str(), RunFault::BadHex { line, place })
+        self.wrong(RunFault::BadHex { line, place })
     }
 
     /// Says that a line is too long.
     fn bad_length(&mut self, line: u64) -> Step<()> {
+        self.place(line);
+        self.sheet
+            .meaning
+            .push("more than 1,048,576 bytes, which no line has");
+        let place = MOST_LINE as u64;
         let fault = match self.task.from {
             Form::Json => RunFault::BadJson { line },
-            _ => RunFault::BadHex {
-                line,
-                place: MOST_LINE as u64,
-            },
+            _ => RunFault::BadHex { line, place },
         };
-        self.wrong(line, "more than 1,048,576 bytes, which no line has", fault)
+        self.wrong(fault)
     }
 }
 
 /// Appends what bytes are, or where they stop being so.
-fn write_title(kind: Kind, bytes: &[u8], end: End, out: &mut String) -> Written {
+fn write_title(kind: Kind, bytes: &[u8], end: End, out: &mut Text) {
     let count = bytes.len();
     match end {
         End::Refused(bit, part) => write!(out, "refused at bit {bit}, {}", part.var),
@@ -223,8 +217,8 @@ fn write_title(kind: Kind, bytes: &[u8], end: End, out: &mut String) -> Written 
             write!(out, "truncated after {bits} bits, in {}", part.var)
         }
         End::Whole => match kind {
-            Kind::Long => out.push_str("telegram, long, 830 bits"),
-            Kind::Short => out.push_str("telegram, short, 210 bits"),
+            Kind::Long => out.push("telegram, long, 830 bits"),
+            Kind::Short => out.push("telegram, short, 210 bits"),
             Kind::Radio => write!(out, "message to the train, {count} bytes"),
             Kind::Train => write!(out, "message to the track, {count} bytes"),
         },
@@ -297,6 +291,31 @@ impl Held {
         self.pass(line, to)?;
         Ok(())
     }
+
+    /// Takes a line of hexadecimal, whose bytes are written to the end of the buffer.
+    fn hex_line<W: Write>(
+        &mut self,
+        text: &[u8],
+        line: u64,
+        buffer: &mut Vec<u8>,
+        to: &mut Explainer<W>,
+    ) -> Step<()> {
+        let room = text.len() / 2 + 1;
+        if buffer.len() < room {
+            buffer.resize(room, 0)?;
+        }
+        match line_bytes(text, buffer.as_mut_slice()) {
+            Ok(count) => {
+                let start = buffer.len().saturating_sub(count);
+                self.take(&buffer[start..], line, to)
+            }
+            Err(NoBytes::Empty) => Ok(()),
+            Err(why) => {
+                self.end(to)?;
+                to.bad_hex(text, line, why)
+            }
+        }
+    }
 }
 
 /// A line without the CR at its end.
@@ -318,7 +337,7 @@ struct Pieces {
 
 impl Pieces {
     /// Keeps a part of a line, of which no more is kept than shows that it is too long.
-    fn keep(&mut self, part: &[u8]) -> Written {
+    fn keep(&mut self, part: &[u8]) -> Result<(), AllocError> {
         let room = (MOST_LINE + 2).saturating_sub(self.begun.len());
         self.begun.extend_from_slice(&part[..part.len().min(room)])
     }
@@ -329,28 +348,11 @@ impl Pieces {
         self.line = self.line.saturating_add(1);
         let line = self.line;
         let text = without_cr(self.begun.as_slice());
-        if text.len() > MOST_LINE {
-            to.bad_length(line)?;
-        } else if to.task.from == Form::Json {
-            if !text.is_empty() {
-                to.json_line(text, line, &mut self.bytes)?;
-            }
-        } else {
-            let room = text.len() / 2 + 1;
-            if self.bytes.len() < room {
-                self.bytes.resize(room, 0)?;
-            }
-            match line_bytes(text, self.bytes.as_mut_slice()) {
-                Ok(count) => {
-                    let start = self.bytes.len().saturating_sub(count);
-                    self.held.take(&self.bytes[start..], line, to)?;
-                }
-                Err(NoBytes::Empty) => {}
-                Err(why) => {
-                    self.held.end(to)?;
-                    to.bad_hex(text, line, why)?;
-                }
-            }
+        match to.task.from {
+            _ if text.len() > MOST_LINE => to.bad_length(line)?,
+            Form::Json if text.is_empty() => {}
+            Form::Json => to.json_line(text, line, &mut self.bytes)?,
+            Form::Hex | Form::Bin => self.held.hex_line(text, line, &mut self.bytes, to)?,
         }
         self.begun.clear();
         Ok(())
@@ -404,9 +406,9 @@ fn read_all<R: Read, W: Write>(to: &mut Explainer<W>, input: &mut R) -> Step<()>
 
 /// Explains the whole input, between what a page has before and after its items.
 fn explain_all<R: Read, W: Write>(explainer: &mut Explainer<W>, input: &mut R) -> Step<()> {
-    explainer.sheet.put("", HEAD)?;
+    explainer.sheet.put("", HEAD);
     read_all(explainer, input)?;
-    explainer.sheet.put("", FOOT)?;
+    explainer.sheet.put("", FOOT);
     explainer.send()?;
     match explainer.output.flush() {
         Ok(()) => Ok(()),

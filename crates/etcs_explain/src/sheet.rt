@@ -1,5 +1,7 @@
 //! Where the lines of a table are written: as text, or as a part of a page.
 
+use crate::text::Text;
+use etcs_vars::Var;
 use std::alloc::{AllocError, Global};
 
 /// The form of an account.
@@ -11,28 +13,17 @@ pub enum Layout {
     Html,
 }
 
-/// What writing a text answers: nothing, or that memory was refused, and then a part of it may be there.
-pub(crate) type Written = Result<(), AllocError>;
-
 /// Takes the lines of tables. A line's value and meaning are written first, and then the line.
 #[derive(Drop)]
 pub(crate) struct Sheet {
     layout: Layout,
-    pub(crate) out: String,
-    pub(crate) value: String,
-    pub(crate) meaning: String,
-}
-
-/// Appends blanks up to this length.
-fn pad(out: &mut String, len: usize) -> Written {
-    for _ in out.len()..len {
-        out.push(' ')?;
-    }
-    Ok(())
+    pub(crate) out: Text,
+    pub(crate) value: Text,
+    pub(crate) meaning: Text,
 }
 
 /// Appends the numbers of the first and the last bit.
-fn write_bits(bits: (usize, usize), out: &mut String) -> Written {
+fn write_bits(bits: (usize, usize), out: &mut Text) {
     if bits.0 == bits.1 {
         write!(out, "{}", bits.0)
     } else {
@@ -45,9 +36,9 @@ impl Sheet {
     pub(crate) fn new(alloc: Global, layout: Layout) -> Sheet {
         Sheet {
             layout,
-            out: String::new(alloc),
-            value: String::new(alloc),
-            meaning: String::new(alloc),
+            out: Text::new(alloc),
+            value: Text::new(alloc),
+            meaning: Text::new(alloc),
         }
     }
 
@@ -57,134 +48,134 @@ impl Sheet {
         self.meaning.clear();
     }
 
+    /// What was written.
+    ///
+    /// # Errors
+    ///
+    /// Where memory was refused for a part of it.
+    pub(crate) fn whole(&self) -> Result<&str, AllocError> {
+        self.value.whole()?;
+        self.meaning.whole()?;
+        self.out.whole()
+    }
+
     /// Appends the one of these that the form has.
-    pub(crate) fn put(&mut self, text: &str, page: &str) -> Written {
-        self.out.push_str(match self.layout {
+    pub(crate) fn put(&mut self, text: &str, page: &str) {
+        self.out.push(match self.layout {
             Layout::Text => text,
             Layout::Html => page,
         })
     }
 
     /// Appends the meaning, in which no character means anything to HTML.
-    fn put_meaning(&mut self) -> Written {
-        for character in self.meaning.chars() {
+    fn put_meaning(&mut self) {
+        for character in self.meaning.as_str().chars() {
             match (self.layout, character) {
-                (Layout::Html, '&') => self.out.push_str("&amp;")?,
-                (Layout::Html, '<') => self.out.push_str("&lt;")?,
-                (Layout::Html, '>') => self.out.push_str("&gt;")?,
-                _ => self.out.push(character)?,
+                (Layout::Html, '&') => self.out.push("&amp;"),
+                (Layout::Html, '<') => self.out.push("&lt;"),
+                (Layout::Html, '>') => self.out.push("&gt;"),
+                _ => write!(self.out, "{character}"),
             }
         }
-        Ok(())
+    }
+
+    /// Appends blanks up to this length.
+    fn pad(&mut self, len: usize) {
+        for _ in self.out.as_str().len()..len {
+            self.out.push(" ");
+        }
     }
 
     /// Begins the table of an item, whose title is the meaning.
-    pub(crate) fn open_item(&mut self) -> Written {
-        self.put("", "<section><h2>")?;
-        self.put_meaning()?;
-        self.put(
-            "\n  bits        variable              number  meaning\n",
-            "</h2>\n",
-        )
+    pub(crate) fn open_item(&mut self) {
+        self.put("", "<section><h2>");
+        self.put_meaning();
+        let head = "\n  bits        variable              number  meaning\n";
+        self.put(head, "</h2>\n");
     }
 
     /// Begins a run of lines, whose title is the meaning, if it has one.
-    pub(crate) fn open_part(&mut self) -> Written {
-        self.put("", "<details open><summary>")?;
-        if self.meaning.is_empty() {
+    pub(crate) fn open_part(&mut self) {
+        self.put("", "<details open><summary>");
+        if self.meaning.as_str().is_empty() {
             return self.put("", "header</summary><table>\n");
         }
-        self.put("  ", "")?;
-        self.put_meaning()?;
-        self.put("\n", "</summary><table>\n")
+        self.put("  ", "");
+        self.put_meaning();
+        self.put("\n", "</summary><table>\n");
     }
 
     /// Ends a run of lines.
-    pub(crate) fn close_part(&mut self) -> Written {
-        self.put("", "</table></details>\n")
+    pub(crate) fn close_part(&mut self) {
+        self.put("", "</table></details>\n");
     }
 
     /// Writes the line of an entry, at this depth.
-    pub(crate) fn entry(&mut self, depth: usize, entry: u64, count: u64) -> Written {
-        self.put("  ", "<tr><th colspan=4>")?;
+    pub(crate) fn entry(&mut self, depth: usize, entry: u64, count: u64) {
+        self.put("  ", "<tr><th colspan=4>");
         if self.layout == Layout::Text {
-            let len = self.out.len().saturating_add(depth.saturating_mul(2));
-            pad(&mut self.out, len)?;
+            write!(self.out, "{:1$}", "", depth.saturating_mul(2));
         }
-        writeln!(self.out, "entry {entry} of {count}")
+        writeln!(self.out, "entry {entry} of {count}");
     }
 
-    /// Writes the line of a variable of these bits, at this depth.
-    pub(crate) fn line(
-        &mut self,
-        depth: usize,
-        bits: (usize, usize),
-        name: &str,
-        refused: bool,
-    ) -> Written {
+    /// Writes the line of a variable of these bits, at this depth, with the value and the meaning.
+    pub(crate) fn line(&mut self, depth: usize, bits: (usize, usize), var: Var, refused: bool) {
         match self.layout {
-            Layout::Text => self.text_line(depth, bits, name),
-            Layout::Html => self.table_row(depth, bits, name, refused),
+            Layout::Text => self.text_line(depth, bits, var),
+            Layout::Html => self.table_row(depth, bits, var, refused),
+        }
+        self.out.push("\n");
+    }
+
+    fn text_line(&mut self, depth: usize, bits: (usize, usize), var: Var) {
+        let len = self.out.as_str().len();
+        let start = len.saturating_add(depth.saturating_mul(2));
+        self.pad(start.saturating_add(2));
+        write_bits(bits, &mut self.out);
+        self.pad(start.saturating_add(14));
+        self.out.push(var.name());
+        let blanks = 41usize.saturating_sub(self.value.as_str().len());
+        self.pad(start.saturating_add(blanks));
+        write!(self.out, " {}", self.value.as_str());
+        if !self.meaning.as_str().is_empty() {
+            write!(self.out, "  {}", self.meaning.as_str());
         }
     }
 
-    fn text_line(&mut self, depth: usize, bits: (usize, usize), name: &str) -> Written {
-        let start = self.out.len().saturating_add(depth.saturating_mul(2));
-        pad(&mut self.out, start.saturating_add(2))?;
-        write_bits(bits, &mut self.out)?;
-        pad(&mut self.out, start.saturating_add(14))?;
-        self.out.push_str(name)?;
-        let blanks = 41usize.saturating_sub(self.value.len());
-        pad(&mut self.out, start.saturating_add(blanks))?;
-        write!(self.out, " {}", self.value)?;
-        if !self.meaning.is_empty() {
-            write!(self.out, "  {}", self.meaning)?;
-        }
-        self.out.push('\n')
-    }
-
-    fn table_row(
-        &mut self,
-        depth: usize,
-        bits: (usize, usize),
-        name: &str,
-        refused: bool,
-    ) -> Written {
+    fn table_row(&mut self, depth: usize, bits: (usize, usize), var: Var, refused: bool) {
         let class = if refused { " class=no" } else { "" };
-        write!(
-            self.out,
-            "<tr{class} data-a={} data-b={}><td>",
-            bits.0, bits.1
-        )?;
-        write_bits(bits, &mut self.out)?;
-        write!(self.out, "<td class=d{depth}>{name}<td>{}<td>", self.value)?;
-        self.put_meaning()?;
-        self.out.push('\n')
+        let (first, last) = bits;
+        let value = self.value.as_str();
+        write!(self.out, "<tr{class} data-a={first} data-b={last}><td>");
+        write_bits(bits, &mut self.out);
+        write!(self.out, "<td class=d{depth}>{var}<td>{value}<td>");
+        self.put_meaning();
     }
 
     /// Ends the table of an item, with the reason that the meaning has, if it has one, and what it often comes of.
-    pub(crate) fn close_item(&mut self, often: Option<&'static str>) -> Written {
-        if !self.meaning.is_empty() {
-            self.put("  Why: ", "<p class=no>Why: ")?;
-            self.put_meaning()?;
+    pub(crate) fn close_item(&mut self, often: Option<&'static str>) {
+        if !self.meaning.as_str().is_empty() {
+            self.put("  Why: ", "<p class=no>Why: ");
+            self.put_meaning();
             if let Some(often) = often {
-                self.put(".\n  Often: ", ".<p>Often: ")?;
-                self.out.push_str(often)?;
+                self.put(".\n  Often: ", ".<p>Often: ");
+                self.out.push(often);
             }
-            self.out.push_str(".\n")?;
+            self.out.push(".\n");
         }
-        self.put("", "</div></div></section>\n")
+        self.put("", "</div></div></section>\n");
     }
 
     /// Writes the meaning as the line of what is no item.
-    pub(crate) fn heading(&mut self) -> Written {
-        self.put("", "<p class=no>")?;
-        self.put_meaning()?;
-        self.out.push('\n')
+    pub(crate) fn heading(&mut self) {
+        self.put("", "<p class=no>");
+        self.put_meaning();
+        self.out.push("\n");
     }
 
     /// The page on which bytes are shown, if it is one.
-    pub(crate) fn page(&mut self) -> Option<&mut String> {
+    pub(crate) fn page(&mut self) -> Option<&mut Text> {
         match self.layout {
             Layout::Text => None,
             Layout::Html => Some(&mut self.out),

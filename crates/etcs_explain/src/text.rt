@@ -1,0 +1,85 @@
+//! A text that is put together by calls that don't fail.
+
+use std::alloc::{AllocError, Global};
+use std::fmt::Display;
+
+/// A text, which notes where memory was refused for a part of it.
+#[derive(Drop)]
+pub(crate) struct Text {
+    held: String,
+    is_starved: bool,
+}
+
+impl Text {
+    /// Nothing is written yet.
+    pub(crate) fn new(alloc: Global) -> Text {
+        Text {
+            held: String::new(alloc),
+            is_starved: false,
+        }
+    }
+
+    /// Notes whether a part was written.
+    pub(crate) fn note(&mut self, written: Result<(), AllocError>) {
+        self.is_starved |= written.is_err();
+    }
+
+    /// Appends a part.
+    pub(crate) fn push(&mut self, part: &str) {
+        let written = self.held.push_str(part);
+        self.note(written);
+    }
+
+    /// Appends what `write!` has.
+    pub(crate) fn write_fmt<D: Display + Drop>(&mut self, part: D) {
+        let written = self.held.write_fmt(part);
+        self.note(written);
+    }
+
+    /// Writes it anew.
+    pub(crate) fn clear(&mut self) {
+        self.held.clear();
+    }
+
+    /// The text itself, for calls that write to a string.
+    pub(crate) fn string(&mut self) -> &mut String {
+        &mut self.held
+    }
+
+    /// What gives it memory.
+    pub(crate) fn alloc(&self) -> Global {
+        *self.held.allocator()
+    }
+
+    /// What was written so far.
+    pub(crate) fn as_str(&self) -> &str {
+        self.held.as_str()
+    }
+
+    /// What was written.
+    ///
+    /// # Errors
+    ///
+    /// Where memory was refused for a part of it.
+    pub(crate) fn whole(&self) -> Result<&str, AllocError> {
+        if self.is_starved {
+            Err(AllocError)
+        } else {
+            Ok(self.held.as_str())
+        }
+    }
+
+    /// The same, of which no more is written.
+    ///
+    /// # Errors
+    ///
+    /// Where memory was refused for a part of it.
+    pub(crate) fn into_string(self) -> Result<String, AllocError> {
+        let Text { held, is_starved } = self;
+        if is_starved {
+            Err(AllocError)
+        } else {
+            Ok(held)
+        }
+    }
+}

@@ -48,11 +48,22 @@ static SUMMARY_HELP: &str =
 /// What `--from` and `--to` take.
 static FORMS: [&str; 3] = ["hex", "bin", "json"];
 
+/// What help says of them.
+static FROM_HELP: &str =
+    "Form of the input: lines of hexadecimal digits (hex), the bytes themselves (bin) or lines of JSON (json)";
+
+static TO_HELP: &str =
+    "Form of the output: a line of hexadecimal digits each (hex), the bytes themselves (bin) or a line of JSON each (json)";
+
 /// What `--to` of `explain` takes.
 static LAYOUTS: [&str; 2] = ["text", "html"];
 
+/// What help says of it.
+static LAYOUTS_HELP: &str =
+    "Form of the output: lines of text (text) or a page for a browser (html)";
+
 /// What `--version` says after the name: the version, and the line of the kit that proves it.
-static VERSION: &str = "0.1.0 (rattle-kit-13f logic dac8208d650f15bf)";
+static VERSION: &str = "0.1.0 (rattle-kit-13b logic dac8208d650f15bf)";
 
 /// What help says after a subcommand's options: what an item is, where the run ends, what the statuses mean, and an
 /// example.
@@ -108,9 +119,8 @@ pub enum Parsed {
 pub fn parse(alloc: Global, words: &[String]) -> Parsed
     ensures { (job : Job) → result ≡ Parsed.Job job → IsGroupable job }
 {
-    let line = match line(alloc) {
-        Ok(line) => line,
-        Err(AllocError) => return Parsed::Memory,
+    let Ok(line) = line(alloc) else {
+        return Parsed::Memory;
     };
     match line.try_get_matches_from(words) {
         Ok(matches) => match asked(&matches) {
@@ -136,64 +146,62 @@ pub fn run_words(
     mut output: impl Write + Drop,
     faults: &mut impl Write,
 ) -> u8 {
-    match parse(alloc, words.as_slice()) {
-        Parsed::Job(job) => run_job(alloc, job, input, output, faults),
+    let ended = match parse(alloc, words.as_slice()) {
+        Parsed::Job(job) => run_job(alloc, job, input, output),
         Parsed::Log(job) => read_log(alloc, job, input, output, faults),
-        Parsed::Explain(task) => match explain(alloc, task, input, output) {
-            Ok(()) => ACCEPTED,
-            Err(fault) => answer_fault(&fault, faults),
-        },
+        Parsed::Explain(task) => explain(alloc, task, input, output).map(|()| ACCEPTED),
         Parsed::Help(text) => {
             let _ = output.write_all(text.as_bytes());
             let _ = output.flush();
-            ACCEPTED
+            Ok(ACCEPTED)
         }
         Parsed::Wrong(text) => {
             let _ = faults.write_all(text.as_bytes());
-            WRONG_WORDS
+            Ok(WRONG_WORDS)
         }
-        Parsed::Memory => answer_fault(&RunFault::Memory, faults),
+        Parsed::Memory => Err(RunFault::Memory),
+    };
+    match ended {
+        Ok(status) => status,
+        Err(fault) => answer_fault(&fault, faults),
     }
 }
 
-/// Runs a job from the reader to the writer. After a fault, what was written is passed on.
+/// Runs a job from the reader to the writer, and answers its status. After a fault, what was written is passed on.
 fn run_job(
     alloc: Global,
     job: Job,
     input: impl Read + Drop,
     output: impl Write + Drop,
-    faults: &mut impl Write,
-) -> u8
+) -> Result<u8, RunFault>
     requires { IsGroupable job }
 {
-    let mut source = Input::new(input);
     let mut sink = Output::new(output);
-    match run(alloc, job, &mut source, &mut sink) {
-        Ok(tally) => tally_status(&tally),
+    match run(alloc, job, &mut Input::new(input), &mut sink) {
+        Ok(tally) => Ok(tally_status(&tally)),
         Err(fault) => {
             let _ = sink.flush();
-            answer_fault(&fault, faults)
+            Err(fault)
         }
     }
 }
 
 /// Reads a log from the reader to the writer, and where good lines are asked for writes what is said of bad ones to
-/// `faults`. After a fault, what was written is passed on.
+/// `faults`; answers its status. After a fault, what was written is passed on.
 fn read_log(
     alloc: Global,
     job: LogJob,
     input: impl Read + Drop,
     output: impl Write + Drop,
     faults: &mut impl Write,
-) -> u8 {
-    let mut source = Input::new(input);
+) -> Result<u8, RunFault> {
     let mut sink = Output::new(output);
-    let mut notes = Output::new(&mut *faults);
-    match run_log(alloc, job, &mut source, &mut sink, &mut notes) {
-        Ok(tally) => log_status(&tally),
+    let mut notes = Output::new(faults);
+    match run_log(alloc, job, &mut Input::new(input), &mut sink, &mut notes) {
+        Ok(tally) => Ok(log_status(&tally)),
         Err(fault) => {
             let _ = sink.flush();
-            answer_fault(&fault, faults)
+            Err(fault)
         }
     }
 }
@@ -237,79 +245,91 @@ fn fault_status(fault: &RunFault) -> u8
     }
 }
 
+/// A subcommand: its name, what it does, and what help says after its options.
+struct Words {
+    name: &'static str,
+    about: &'static str,
+    after: &'static str,
+}
+
+/// The subcommands, in the order of help.
+static SUBCOMMANDS: [Words; 6] = [
+    Words {
+        name: "show",
+        about: "Show the variables of each telegram or message, a line each",
+        after: after_help!(run, "show --kind long < telegrams.hex"),
+    },
+    Words {
+        name: "check",
+        about: "Check each telegram or message: a line with its number of bits",
+        after: after_help!(run, "check --kind radio --from bin < messages.bin"),
+    },
+    Words {
+        name: "convert",
+        about: "Write each telegram or message in another form",
+        after: after_help!(run, "convert --kind short --to json < telegrams.hex"),
+    },
+    Words {
+        name: "group",
+        about: "Put the telegrams of a balise group together, in any order, and show its message",
+        after: after_help!(
+            items,
+            "The run ends at the first telegram that is refused. One that doesn't fit those before it is a clash, and left out.",
+            "a telegram refused or cut short, a clash, or telegrams missing",
+            "group --kind short --from json < group.json"
+        ),
+    },
+    Words {
+        name: "log",
+        about: "Read a log, an item a line, and say of each line that is no item why",
+        after: after_help!(
+            "An item is the hexadecimal digits at a line's end, with blanks, tabs, commas, colons,\ndashes or 0x between them or none. Blank lines and lines that begin with # are passed over.",
+            "The run continues after a bad line, to the end of the input.",
+            "a line is bad",
+            "log --kind short --good < balises.log | etcs group --kind short"
+        ),
+    },
+    Words {
+        name: "explain",
+        about: "Explain each telegram or message: the bits, the number and the meaning of each variable, and why it is refused",
+        after: after_help!(
+            items,
+            "What is in front of the digits of a line is passed over. After an item that is refused the run\ncontinues with the next line; of bytes (bin) it ends there.",
+            "an item refused or cut short",
+            "explain --kind short < telegrams.hex"
+        ),
+    },
+];
+
 /// All that a command line can say. Its texts call the program `etcs`, whatever its file is named.
 fn line<'a>(alloc: Global) -> Result<Line<'a>, AllocError> {
-    Line::new(alloc, "etcs")
+    let mut line = Line::new(alloc, "etcs")
         .bin_name("etcs")?
         .version(VERSION)
         .about(
             "Show, check, convert, group and explain ETCS balise telegrams (user bits) and radio messages from standard input, and read logs of them",
         )
-        .subcommand_required(true)
-        .subcommand(show(alloc)?)?
-        .subcommand(check(alloc)?)?
-        .subcommand(convert(alloc)?)?
-        .subcommand(group(alloc)?)?
-        .subcommand(log(alloc)?)?
-        .subcommand(explained(alloc)?)
+        .subcommand_required(true);
+    for words in &SUBCOMMANDS {
+        line = line.subcommand(subcommand(alloc, words)?)?;
+    }
+    Ok(line)
 }
 
-/// `show`.
-fn show<'a>(alloc: Global) -> Result<Line<'a>, AllocError> {
-    let line = subcommand(alloc, "show", &KINDS, KINDS_HELP)?;
-    Ok(
-        line.about("Show the variables of each telegram or message, a line each")
-            .after_help(after_help!(run, "show --kind long < telegrams.hex")),
-    )
-}
-
-/// `check`.
-fn check<'a>(alloc: Global) -> Result<Line<'a>, AllocError> {
-    let line = subcommand(alloc, "check", &KINDS, KINDS_HELP)?;
-    Ok(
-        line.about("Check each telegram or message: a line with its number of bits")
-            .after_help(after_help!(run, "check --kind radio --from bin < messages.bin")),
-    )
-}
-
-/// `convert`.
-fn convert<'a>(alloc: Global) -> Result<Line<'a>, AllocError> {
-    let line = subcommand(alloc, "convert", &KINDS, KINDS_HELP)?.arg(to_option(alloc))?;
-    Ok(
-        line.about("Write each telegram or message in another form")
-            .after_help(after_help!(run, "convert --kind short --to json < telegrams.hex")),
-    )
-}
-
-/// `group`.
-fn group<'a>(alloc: Global) -> Result<Line<'a>, AllocError> {
-    let line = subcommand(alloc, "group", &GROUP_KINDS, GROUP_KINDS_HELP)?;
-    Ok(
-        line.about(
-            "Put the telegrams of a balise group together, in any order, and show its message",
-        ).after_help(after_help!(
-            items,
-            "The run ends at the first telegram that is refused. One that doesn't fit those before it is a clash, and left out.",
-            "a telegram refused or cut short, a clash, or telegrams missing",
-            "group --kind short --from json < group.json"
-        )),
-    )
-}
-
-/// `log`.
-fn log<'a>(alloc: Global) -> Result<Line<'a>, AllocError> {
-    let line = Line::new(alloc, "log").arg(kind_option(alloc, &KINDS, KINDS_HELP))?;
-    Ok(
-        line.arg(flag(alloc, "good", GOOD_HELP))?
-            .arg(flag(alloc, "summary", SUMMARY_HELP))?
-            .about("Read a log, an item a line, and say of each line that is no item why")
-            .after_help(after_help!(
-                "An item is the hexadecimal digits at a line's end, with blanks, tabs, commas, colons,\ndashes or 0x between them or none. Blank lines and lines that begin with # are passed over.",
-                "The run continues after a bad line, to the end of the input.",
-                "a line is bad",
-                "log --kind short --good < balises.log | etcs group --kind short"
-            )),
-    )
+/// A subcommand with its options.
+fn subcommand<'a>(alloc: Global, words: &Words) -> Result<Line<'a>, AllocError> {
+    let line = Line::new(alloc, words.name)
+        .about(words.about)
+        .after_help(words.after)
+        .arg(kind_option(alloc, words.name))?;
+    match words.name {
+        "log" => line
+            .arg(flag(alloc, "good", GOOD_HELP))?
+            .arg(flag(alloc, "summary", SUMMARY_HELP)),
+        "convert" => line.arg(from_option(alloc))?.arg(to_option(alloc)),
+        "explain" => line.arg(from_option(alloc))?.arg(layout_option(alloc)),
+        _ => line.arg(from_option(alloc)),
+    }
 }
 
 /// An option without a value.
@@ -320,75 +340,43 @@ fn flag<'a>(alloc: Global, name: &'static str, help: &'static str) -> Arg<'a> {
         .help(help)
 }
 
-/// `explain`.
-fn explained<'a>(alloc: Global) -> Result<Line<'a>, AllocError> {
-    let line = subcommand(alloc, "explain", &KINDS, KINDS_HELP)?.arg(layout_option(alloc))?;
-    Ok(
-        line.about(
-            "Explain each telegram or message: the bits, the number and the meaning of each variable, and why it is refused",
-        ).after_help(after_help!(
-            items,
-            "What is in front of the digits of a line is passed over. After an item that is refused the run\ncontinues with the next line; of bytes (bin) it ends there.",
-            "an item refused or cut short",
-            "explain --kind short < telegrams.hex"
-        )),
-    )
-}
-
-/// A subcommand that takes items of some kinds.
-fn subcommand<'a>(
+/// An option whose value is one of a few words.
+fn choice<'a>(
     alloc: Global,
     name: &'static str,
-    kinds: &'static [&'static str],
+    value: &'static str,
+    words: &'static [&'static str],
     help: &'static str,
-) -> Result<Line<'a>, AllocError> {
-    Line::new(alloc, name)
-        .arg(kind_option(alloc, kinds, help))?
-        .arg(from_option(alloc))
+) -> Arg<'a> {
+    Arg::new(alloc, name)
+        .long(name)
+        .value_name(value)
+        .value_parser(ValueParser::from(words))
+        .help(help)
 }
 
-/// `--kind`, which has no default.
-fn kind_option<'a>(alloc: Global, kinds: &'static [&'static str], help: &'static str) -> Arg<'a> {
-    Arg::new(alloc, "kind")
-        .long("kind")
-        .required(true)
-        .value_name("KIND")
-        .value_parser(ValueParser::from(kinds))
-        .help(help)
+/// `--kind` of a subcommand, which has no default.
+fn kind_option<'a>(alloc: Global, subcommand: &str) -> Arg<'a> {
+    let kind = match subcommand {
+        "group" => choice(alloc, "kind", "KIND", &GROUP_KINDS, GROUP_KINDS_HELP),
+        _ => choice(alloc, "kind", "KIND", &KINDS, KINDS_HELP),
+    };
+    kind.required(true)
 }
 
 /// `--from`, whose default is hex.
 fn from_option<'a>(alloc: Global) -> Arg<'a> {
-    Arg::new(alloc, "from")
-        .long("from")
-        .value_name("FORM")
-        .value_parser(ValueParser::from(FORMS.as_slice()))
-        .default_value("hex")
-        .help(
-            "Form of the input: lines of hexadecimal digits (hex), the bytes themselves (bin) or lines of JSON (json)",
-        )
+    choice(alloc, "from", "FORM", &FORMS, FROM_HELP).default_value("hex")
 }
 
 /// `--to`, which has no default.
 fn to_option<'a>(alloc: Global) -> Arg<'a> {
-    Arg::new(alloc, "to")
-        .long("to")
-        .required(true)
-        .value_name("FORM")
-        .value_parser(ValueParser::from(FORMS.as_slice()))
-        .help(
-            "Form of the output: a line of hexadecimal digits each (hex), the bytes themselves (bin) or a line of JSON each (json)",
-        )
+    choice(alloc, "to", "FORM", &FORMS, TO_HELP).required(true)
 }
 
 /// `--to` of `explain`, whose default is text.
 fn layout_option<'a>(alloc: Global) -> Arg<'a> {
-    Arg::new(alloc, "to")
-        .long("to")
-        .value_name("FORM")
-        .value_parser(ValueParser::from(LAYOUTS.as_slice()))
-        .default_value("text")
-        .help("Form of the output: lines of text (text) or a page for a browser (html)")
+    choice(alloc, "to", "FORM", &LAYOUTS, LAYOUTS_HELP).default_value("text")
 }
 
 /// What clap answered in place of matches.
@@ -399,13 +387,8 @@ fn refused(alloc: Global, error: Error) -> Parsed
         return Parsed::Memory;
     }
     match error.to_string(alloc) {
-        Ok(text) => {
-            if error.use_stderr() {
-                Parsed::Wrong(text)
-            } else {
-                Parsed::Help(text)
-            }
-        }
+        Ok(text) if error.use_stderr() => Parsed::Wrong(text),
+        Ok(text) => Parsed::Help(text),
         Err(_) => Parsed::Memory,
     }
 }
@@ -435,13 +418,10 @@ fn log_of(options: &ArgMatches) -> Option<LogJob> {
 fn job_of(name: &str, options: &ArgMatches) -> Option<Job>
     ensures { IfSome result (λ job. IsGroupable job) }
 {
-    let kind = kind_of(options.get_str("kind")?)?;
-    let from = form_of(options.get_str("from")?)?;
-    let command = command_of(name, options)?;
     let job = Job {
-        kind,
-        from,
-        command,
+        kind: kind_of(options.get_str("kind")?)?,
+        from: form_of(options.get_str("from")?)?,
+        command: command_of(name, options)?,
     };
     if job.is_groupable() { Some(job) } else { None }
 }

@@ -16,12 +16,11 @@ use etcs_bits::Bits;
 use etcs_bodies::{Numbers, Part};
 use etcs_packets::{
     Authority, BaliseAt, BaliseList, Condition, ConditionalLevelOrder, FixedText, Gradient,
-    InfillLocation, Level, Level1Ma, Level23Ma, LevelAck, LevelOrder, Link, Linking, ModeProfile,
-    ModeSection, Packet, PlainText, ReportAt, ReportParameters, Slope, Speed, SpeedProfile,
-    TextFrame, TrackCondition, TrackState,
+    InfillLocation, Level1Ma, Level23Ma, LevelOrder, Linking, ModeProfile, Packet, PlainText,
+    ReportAt, ReportParameters, SpeedProfile, TextFrame, TrackCondition, TrackState,
 };
 use etcs_tables::frame_bits;
-use etcs_track::{Located, PositionReport, PositionReportTwo, TrainPacket};
+use etcs_track::{PositionReport, PositionReportTwo, TrainPacket};
 use etcs_vars::BuildFault;
 use etcs_vars::parts::append_numbers;
 
@@ -34,41 +33,49 @@ pub(crate) fn answer(case: &mut Case, kind: &str) -> bool {
         "train_flat" => flat::<TrainPacket>(case),
         "train_kept" => kept_bits::<TrainPacket>(case),
         "train_kept_long" => kept_long::<TrainPacket>(case),
-        "marker" => say_marker(case),
-        "linking"
-        | "gradient"
-        | "speed_profile"
-        | "level1_ma"
-        | "level23_ma"
-        | "level_order"
-        | "conditional_level_order"
-        | "plain_text"
-        | "fixed_text"
-        | "infill_location"
-        | "balise_list"
-        | "report_parameters"
-        | "track_condition"
-        | "mode_profile"
-        | "flat_packet" => built(case, kind),
-        "position_report" | "position_report_two" => reported(case, kind),
+        "marker" => say_marker::<Packet>(case),
+        "flat_packet" => flat_packet::<Packet>(case),
+        "balise_list" => balise_list(case),
+        _ => return of_constructor(case, kind),
+    }
+    true
+}
+
+/// The same of the constructors of packets with groups.
+fn of_constructor(case: &mut Case, kind: &str) -> bool {
+    match kind {
+        "linking" => built::<Linking>(case),
+        "gradient" => built::<Gradient>(case),
+        "speed_profile" => built::<SpeedProfile>(case),
+        "level1_ma" => built::<Level1Ma>(case),
+        "level23_ma" => built::<Level23Ma>(case),
+        "level_order" => built::<LevelOrder>(case),
+        "conditional_level_order" => built::<ConditionalLevelOrder>(case),
+        "plain_text" => built::<PlainText>(case),
+        "fixed_text" => built::<FixedText>(case),
+        "infill_location" => built::<InfillLocation>(case),
+        "report_parameters" => built::<ReportParameters>(case),
+        "track_condition" => built::<TrackCondition>(case),
+        "mode_profile" => built::<ModeProfile>(case),
+        "position_report" => built::<PositionReport>(case),
+        "position_report_two" => built::<PositionReportTwo>(case),
         _ => return false,
     }
     true
 }
 
-/// Answers a constructor's arguments, or them and `: NUMBERS : BITS`.
-fn built(case: &mut Case, kind: &str) {
-    let behind = case.split(":");
-    let words = case.numbers();
-    let packet = made(case, kind, words.as_slice());
-    say_made(case, behind, packet.as_ref());
+/// A type of packets with groups, which words make.
+trait FromWords {
+    type Packet: Asked;
+
+    /// The packet of the arguments that come next, or none after its fault; notes where its readers don't give them back.
+    fn of_words(case: &mut Case) -> Option<Self::Packet>;
 }
 
-/// The same of a position report, which goes to the track.
-fn reported(case: &mut Case, kind: &str) {
+/// Answers a constructor's arguments, or them and `: NUMBERS : BITS`.
+fn built<P: FromWords>(case: &mut Case) {
     let behind = case.split(":");
-    let words = case.numbers();
-    let packet = report(case, kind, words.as_slice());
+    let packet = P::of_words(case);
     say_made(case, behind, packet.as_ref());
 }
 
@@ -88,43 +95,8 @@ fn say_built<A: Asked>(case: &mut Case, packet: &A) {
     say_checked(case, packet, &spelled);
 }
 
-/// The packet that a constructor builds of these numbers.
-fn made(case: &mut Case, kind: &str, words: &[u64]) -> Option<Packet> {
-    let [first, left @ ..] = words else {
-        return None;
-    };
-    let first = case.byte_of(*first);
-    match kind {
-        "linking" => linking(case, first, left),
-        "gradient" => gradient(case, first, left),
-        "speed_profile" => speed_profile(case, first, left),
-        "level1_ma" => level1_ma(case, first, left),
-        "level23_ma" => level23_ma(case, first, left),
-        "level_order" => level_order(case, first, left),
-        "conditional_level_order" => conditional_level_order(case, first, left),
-        "plain_text" => plain_text(case, first, left),
-        "fixed_text" => fixed_text(case, first, left),
-        "infill_location" => infill_location(case, first, left),
-        "balise_list" => balise_list(case, first, left),
-        "report_parameters" => report_parameters(case, first, left),
-        "track_condition" => track_condition(case, first, left),
-        "mode_profile" => mode_profile(case, first, left),
-        _ => {
-            let [dir, left @ ..] = left else {
-                return None;
-            };
-            let dir = case.byte_of(*dir);
-            found(case, Packet::flat(first, dir, left), &FAULTS)
-        }
-    }
-}
-
 /// What was built, or why nothing was.
-fn found<A: Asked>(
-    case: &mut Case,
-    built: Result<A, BuildFault>,
-    faults: &FaultTexts,
-) -> Option<A> {
+fn found<A: Drop>(case: &mut Case, built: Result<A, BuildFault>, faults: &FaultTexts) -> Option<A> {
     match built {
         Ok(packet) => Some(packet),
         Err(fault) => {
@@ -135,12 +107,11 @@ fn found<A: Asked>(
 }
 
 /// The parts of all these numbers, of which there may be none.
-fn each<P: Part + Drop>(case: &mut Case, numbers: &[u64]) -> Option<Vec<P>> {
-    let mut numbers = Numbers::new(numbers);
+fn each<P: Part + Drop>(case: &mut Case, numbers: &mut Numbers) -> Option<Vec<P>> {
     let mut parts = Vec::new(case.alloc());
     for _ in 0..1000u16 {
         if !numbers.is_empty() {
-            let part = next_part(case, &mut numbers)?;
+            let part = next_part(case, numbers)?;
             case.kept(parts.push(part).is_ok());
         }
     }
@@ -150,31 +121,25 @@ fn each<P: Part + Drop>(case: &mut Case, numbers: &[u64]) -> Option<Vec<P>> {
 /// The parts of all these numbers.
 fn all<P: Part + Drop>(case: &mut Case, numbers: &[u64]) -> Option<(P, Vec<P>)> {
     let mut numbers = Numbers::new(numbers);
-    let mut further = Vec::new(case.alloc());
     let first = next_part(case, &mut numbers)?;
-    for _ in 0..1000u16 {
-        if !numbers.is_empty() {
-            let part = next_part(case, &mut numbers)?;
-            case.kept(further.push(part).is_ok());
-        }
-    }
-    Some((first, further))
+    Some((first, each(case, &mut numbers)?))
 }
 
 /// Checks that parts are those of these numbers.
 fn check_each<P: Part>(case: &mut Case, parts: &[P], numbers: &[u64]) {
-    let mut own = Vec::new(case.alloc());
-    for part in parts {
-        case.kept(append_numbers(part, &mut own).is_ok());
-    }
-    case.check(own.as_slice() == numbers, "other parts");
+    check_all(case, Vec::new(case.alloc()), parts, numbers);
 }
 
-/// Checks that parts are those of these numbers.
+/// The same of a first part and further ones.
 fn check_parts<P: Part>(case: &mut Case, first: &P, further: &[P], numbers: &[u64]) {
     let mut own = Vec::new(case.alloc());
     case.kept(append_numbers(first, &mut own).is_ok());
-    for part in further {
+    check_all(case, own, further, numbers);
+}
+
+/// The same of the parts after those of which there are the numbers.
+fn check_all<P: Part>(case: &mut Case, mut own: Vec<u64>, parts: &[P], numbers: &[u64]) {
+    for part in parts {
         case.kept(append_numbers(part, &mut own).is_ok());
     }
     case.check(own.as_slice() == numbers, "other parts");
@@ -182,269 +147,168 @@ fn check_parts<P: Part>(case: &mut Case, first: &P, further: &[P], numbers: &[u6
 
 /// The packet of a constructor whose last arguments are a first part and further ones, which come back with a fault.
 macro_rules! listed {
-    ($case:ident, $left:ident, $packet:ident of $part:ident, $first:ident $further:ident $built:expr; $($reader:ident)*) => {{
-        let ($first, $further): ($part, Vec<$part>) = all($case, $left)?;
-        match $built {
+    ($case:ident, $packet:ident: $($argument:ident)*) => {{
+        let dir = $case.next();
+        $(let $argument = $case.next();)*
+        let numbers = $case.numbers();
+        let (first, further) = all($case, numbers.as_slice())?;
+        match $packet::new(dir, $($argument,)* first, further) {
             Ok(packet) => {
-                same!($case, packet: $($reader)*);
-                check_parts($case, &packet.first(), packet.further(), $left);
+                same!($case, packet: $($argument)*);
+                check_parts($case, &packet.first(), packet.further(), numbers.as_slice());
                 Some(Packet::$packet(packet))
             }
             Err((fault, back)) => {
                 $case.say_fault(fault, &FAULTS);
-                check_parts($case, &$first, back.as_slice(), $left);
+                check_parts($case, &first, back.as_slice(), numbers.as_slice());
                 None
             }
         }
     }};
 }
 
-/// The packet of a constructor whose last argument is an authority, which comes back with a fault.
-macro_rules! authorised {
-    ($case:ident, $left:ident, $packet:ident, $authority:ident $built:expr; $($reader:ident)*) => {{
-        let $authority: Authority = next_part($case, &mut Numbers::new($left))?;
-        match $built {
+/// The packet of a constructor whose last argument comes back with a fault, as `$take` makes it of the numbers that are left.
+macro_rules! ending {
+    ($case:ident, $packet:ident: $($argument:ident)*; $last:ident $take:expr, $check:ident) => {{
+        let dir = $case.next();
+        $(let $argument = $case.next();)*
+        let numbers = $case.numbers();
+        let $last = $take($case, numbers.as_slice())?;
+        match $packet::new(dir, $($argument,)* $last) {
             Ok(packet) => {
-                same!($case, packet: $($reader)*);
-                check_numbers($case, packet.authority(), $left);
+                same!($case, packet: $($argument)*);
+                $check($case, packet.$last(), numbers.as_slice());
                 Some(Packet::$packet(packet))
             }
             Err((fault, back)) => {
                 $case.say_fault(fault, &FAULTS);
-                check_numbers($case, &back, $left);
+                $check($case, &back, numbers.as_slice());
                 None
             }
         }
     }};
 }
 
-/// `DIR Q_SCALE FIRST FURTHER..`
-fn linking(case: &mut Case, dir: u8, words: &[u64]) -> Option<Packet> {
-    let [q_scale, left @ ..] = words else {
-        return None;
-    };
-    let q_scale = case.byte_of(*q_scale);
-    listed!(case, left, Linking of Link, first further Linking::new(dir, q_scale, first, further); q_scale)
+/// The position report of a constructor whose last argument is where the train is.
+macro_rules! located {
+    ($case:ident, $report:ident as $variant:ident: $($argument:ident)*) => {{
+        $(let $argument = $case.next();)*
+        let numbers = $case.numbers();
+        let located = part_of($case, numbers.as_slice())?;
+        let packet = found($case, $report::new($($argument,)* located), &FAULTS)?;
+        same!($case, packet: $($argument)* located);
+        Some(TrainPacket::$variant(packet))
+    }};
+}
+
+/// The part that begins these numbers.
+fn part_of<P: Part + Drop>(case: &mut Case, numbers: &[u64]) -> Option<P> {
+    next_part(case, &mut Numbers::new(numbers))
 }
 
 /// `DIR Q_SCALE FIRST FURTHER..`
-fn gradient(case: &mut Case, dir: u8, words: &[u64]) -> Option<Packet> {
-    let [q_scale, left @ ..] = words else {
-        return None;
-    };
-    let q_scale = case.byte_of(*q_scale);
-    listed!(case, left, Gradient of Slope, first further Gradient::new(dir, q_scale, first, further); q_scale)
+impl FromWords for Linking {
+    type Packet = Packet;
+
+    fn of_words(case: &mut Case) -> Option<Packet> {
+        listed!(case, Linking: q_scale)
+    }
 }
 
 /// `DIR Q_SCALE FIRST FURTHER..`
-fn speed_profile(case: &mut Case, dir: u8, words: &[u64]) -> Option<Packet> {
-    let [q_scale, left @ ..] = words else {
-        return None;
-    };
-    let q_scale = case.byte_of(*q_scale);
-    let (first, further): (Speed, Vec<Speed>) = all(case, left)?;
-    match SpeedProfile::new(dir, q_scale, first, further) {
-        Ok(packet) => {
-            same!(case, packet: q_scale);
-            check_parts(case, packet.first(), packet.further(), left);
-            Some(Packet::SpeedProfile(packet))
-        }
-        Err((fault, first, back)) => {
-            case.say_fault(fault, &FAULTS);
-            check_parts(case, &first, back.as_slice(), left);
-            None
+impl FromWords for Gradient {
+    type Packet = Packet;
+
+    fn of_words(case: &mut Case) -> Option<Packet> {
+        listed!(case, Gradient: q_scale)
+    }
+}
+
+/// `DIR Q_SCALE FIRST FURTHER..`
+impl FromWords for ModeProfile {
+    type Packet = Packet;
+
+    fn of_words(case: &mut Case) -> Option<Packet> {
+        listed!(case, ModeProfile: q_scale)
+    }
+}
+
+/// `DIR Q_SCALE D_LEVELTR FIRST FURTHER..`
+impl FromWords for LevelOrder {
+    type Packet = Packet;
+
+    fn of_words(case: &mut Case) -> Option<Packet> {
+        listed!(case, LevelOrder: q_scale d_leveltr)
+    }
+}
+
+/// `DIR FIRST FURTHER..`
+impl FromWords for ConditionalLevelOrder {
+    type Packet = Packet;
+
+    fn of_words(case: &mut Case) -> Option<Packet> {
+        listed!(case, ConditionalLevelOrder:)
+    }
+}
+
+/// `DIR Q_SCALE FIRST FURTHER..`
+impl FromWords for SpeedProfile {
+    type Packet = Packet;
+
+    fn of_words(case: &mut Case) -> Option<Packet> {
+        let dir = case.next();
+        let q_scale = case.next();
+        let numbers = case.numbers();
+        let (first, further) = all(case, numbers.as_slice())?;
+        match SpeedProfile::new(dir, q_scale, first, further) {
+            Ok(packet) => {
+                same!(case, packet: q_scale);
+                check_parts(case, packet.first(), packet.further(), numbers.as_slice());
+                Some(Packet::SpeedProfile(packet))
+            }
+            Err((fault, first, back)) => {
+                case.say_fault(fault, &FAULTS);
+                check_parts(case, &first, back.as_slice(), numbers.as_slice());
+                None
+            }
         }
     }
 }
 
 /// `DIR Q_SCALE V_MAIN V_LOA T_LOA AUTHORITY`
-fn level1_ma(case: &mut Case, dir: u8, words: &[u64]) -> Option<Packet> {
-    let [q_scale, v_main, v_loa, t_loa, left @ ..] = words else {
-        return None;
-    };
-    let q_scale = case.byte_of(*q_scale);
-    let v_main = case.byte_of(*v_main);
-    let v_loa = case.byte_of(*v_loa);
-    let t_loa = case.half_of(*t_loa);
-    authorised!(case, left, Level1Ma, authority Level1Ma::new(dir, q_scale, v_main, v_loa, t_loa, authority); q_scale v_main v_loa t_loa)
+impl FromWords for Level1Ma {
+    type Packet = Packet;
+
+    fn of_words(case: &mut Case) -> Option<Packet> {
+        ending!(case, Level1Ma: q_scale v_main v_loa t_loa; authority part_of, check_numbers)
+    }
 }
 
 /// `DIR Q_SCALE V_LOA T_LOA AUTHORITY`
-fn level23_ma(case: &mut Case, dir: u8, words: &[u64]) -> Option<Packet> {
-    let [q_scale, v_loa, t_loa, left @ ..] = words else {
-        return None;
-    };
-    let q_scale = case.byte_of(*q_scale);
-    let v_loa = case.byte_of(*v_loa);
-    let t_loa = case.half_of(*t_loa);
-    authorised!(case, left, Level23Ma, authority Level23Ma::new(dir, q_scale, v_loa, t_loa, authority); q_scale v_loa t_loa)
-}
+impl FromWords for Level23Ma {
+    type Packet = Packet;
 
-/// `DIR Q_SCALE D_LEVELTR FIRST FURTHER..`
-fn level_order(case: &mut Case, dir: u8, words: &[u64]) -> Option<Packet> {
-    let [q_scale, d_leveltr, left @ ..] = words else {
-        return None;
-    };
-    let q_scale = case.byte_of(*q_scale);
-    let d_leveltr = case.half_of(*d_leveltr);
-    listed!(case, left, LevelOrder of LevelAck, first further LevelOrder::new(dir, q_scale, d_leveltr, first, further); q_scale d_leveltr)
-}
-
-/// `DIR FIRST FURTHER..`
-fn conditional_level_order(case: &mut Case, dir: u8, left: &[u64]) -> Option<Packet> {
-    listed!(case, left, ConditionalLevelOrder of Level, first further ConditionalLevelOrder::new(dir, first, further);)
-}
-
-/// The bytes of a text.
-fn text_of(case: &mut Case, numbers: &[u64]) -> Vec<u8> {
-    let mut text = Vec::new(case.alloc());
-    for number in numbers {
-        let byte = case.byte_of(*number);
-        case.kept(text.push(byte).is_ok());
-    }
-    text
-}
-
-/// `DIR LENGTH FRAME BYTES..`, where the frame has this many numbers
-fn plain_text(case: &mut Case, dir: u8, words: &[u64]) -> Option<Packet> {
-    let [length, left @ ..] = words else {
-        return None;
-    };
-    let (framed, bytes) = left.split_at_checked(usize::from(case.byte_of(*length)))?;
-    let frame: TextFrame = next_part(case, &mut Numbers::new(framed))?;
-    let text = text_of(case, bytes);
-    let same = text_of(case, bytes);
-    match PlainText::new(dir, frame, text) {
-        Ok(packet) => {
-            case.check(packet.text() == same.as_slice(), "another text");
-            check_numbers(case, &packet.frame(), framed);
-            Some(Packet::PlainText(packet))
-        }
-        Err((fault, back)) => {
-            case.say_fault(fault, &FAULTS);
-            case.check(back == same, "another text back");
-            None
-        }
-    }
-}
-
-/// `DIR Q_TEXT FRAME`
-fn fixed_text(case: &mut Case, dir: u8, words: &[u64]) -> Option<Packet> {
-    let [q_text, left @ ..] = words else {
-        return None;
-    };
-    let q_text = case.byte_of(*q_text);
-    let frame: TextFrame = next_part(case, &mut Numbers::new(left))?;
-    match FixedText::new(dir, frame, q_text) {
-        Ok(packet) => {
-            same!(case, packet: q_text);
-            check_numbers(case, &packet.frame(), left);
-            Some(Packet::FixedText(packet))
-        }
-        Err(fault) => found(case, Err(fault), &FAULTS),
-    }
-}
-
-/// `DIR NID_BG`, or `DIR NID_BG NID_C`
-fn infill_location(case: &mut Case, dir: u8, words: &[u64]) -> Option<Packet> {
-    let [nid_bg, left @ ..] = words else {
-        return None;
-    };
-    let nid_bg = case.half_of(*nid_bg);
-    let nid_c = match left.first() {
-        Some(country) => Some(case.half_of(*country)),
-        None => None,
-    };
-    match InfillLocation::new(dir, nid_c, nid_bg) {
-        Ok(packet) => {
-            same!(case, packet: nid_c nid_bg);
-            Some(Packet::InfillLocation(packet))
-        }
-        Err(fault) => found(case, Err(fault), &FAULTS),
-    }
-}
-
-/// `NID DIR BALISES..`
-fn balise_list(case: &mut Case, nid: u8, words: &[u64]) -> Option<Packet> {
-    let [dir, left @ ..] = words else {
-        return None;
-    };
-    let dir = case.byte_of(*dir);
-    match nid {
-        49 => Some(Packet::ShuntingList(listed::<49>(case, dir, left)?)),
-        63 => Some(Packet::SrList(listed::<63>(case, dir, left)?)),
-        _ => {
-            listed::<5>(case, dir, left)?;
-            None
-        }
-    }
-}
-
-/// The list of these groups, which come back with a fault.
-fn listed<const NID: u8>(case: &mut Case, dir: u8, left: &[u64]) -> Option<BaliseList<NID>> {
-    let balises: Vec<BaliseAt> = each(case, left)?;
-    match BaliseList::new(dir, balises) {
-        Ok(packet) => {
-            check_each(case, packet.balises(), left);
-            Some(packet)
-        }
-        Err((fault, back)) => {
-            case.say_fault(fault, &FAULTS);
-            check_each(case, back.as_slice(), left);
-            None
-        }
-    }
-}
-
-/// `DIR Q_SCALE T_CYCLOC D_CYCLOC M_LOC REPORTS..`
-fn report_parameters(case: &mut Case, dir: u8, words: &[u64]) -> Option<Packet> {
-    let [q_scale, t_cycloc, d_cycloc, m_loc, left @ ..] = words else {
-        return None;
-    };
-    let q_scale = case.byte_of(*q_scale);
-    let t_cycloc = case.byte_of(*t_cycloc);
-    let d_cycloc = case.half_of(*d_cycloc);
-    let m_loc = case.byte_of(*m_loc);
-    let reports: Vec<ReportAt> = each(case, left)?;
-    match ReportParameters::new(dir, q_scale, t_cycloc, d_cycloc, m_loc, reports) {
-        Ok(packet) => {
-            same!(case, packet: q_scale t_cycloc d_cycloc m_loc);
-            check_each(case, packet.reports(), left);
-            Some(Packet::ReportParameters(packet))
-        }
-        Err((fault, back)) => {
-            case.say_fault(fault, &FAULTS);
-            check_each(case, back.as_slice(), left);
-            None
-        }
+    fn of_words(case: &mut Case) -> Option<Packet> {
+        ending!(case, Level23Ma: q_scale v_loa t_loa; authority part_of, check_numbers)
     }
 }
 
 /// `DIR Q_SCALE D_TRACKINIT`, or `DIR Q_SCALE FIRST FURTHER..`
-fn track_condition(case: &mut Case, dir: u8, words: &[u64]) -> Option<Packet> {
-    let [q_scale, left @ ..] = words else {
-        return None;
-    };
-    let q_scale = case.byte_of(*q_scale);
-    let state = match left {
-        [distance] => TrackState::Initial(case.half_of(*distance)),
-        _ => {
-            let (first, further): (Condition, Vec<Condition>) = all(case, left)?;
-            TrackState::Conditions(first, further)
-        }
-    };
-    match TrackCondition::new(dir, q_scale, state) {
-        Ok(packet) => {
-            same!(case, packet: q_scale);
-            check_state(case, packet.state(), left);
-            Some(Packet::TrackCondition(packet))
-        }
-        Err((fault, back)) => {
-            case.say_fault(fault, &FAULTS);
-            check_state(case, &back, left);
-            None
-        }
+impl FromWords for TrackCondition {
+    type Packet = Packet;
+
+    fn of_words(case: &mut Case) -> Option<Packet> {
+        ending!(case, TrackCondition: q_scale; state state_of, check_state)
     }
+}
+
+/// What a packet 68 says by these numbers.
+fn state_of(case: &mut Case, numbers: &[u64]) -> Option<TrackState> {
+    if let [distance] = numbers {
+        return Some(TrackState::Initial(case.half_of(*distance)));
+    }
+    let (first, further): (Condition, Vec<Condition>) = all(case, numbers)?;
+    Some(TrackState::Conditions(first, further))
 }
 
 /// Checks that a packet 68 says these numbers.
@@ -460,57 +324,182 @@ fn check_state(case: &mut Case, state: &TrackState, numbers: &[u64]) {
     }
 }
 
-/// `DIR Q_SCALE FIRST FURTHER..`
-fn mode_profile(case: &mut Case, dir: u8, words: &[u64]) -> Option<Packet> {
-    let [q_scale, left @ ..] = words else {
-        return None;
-    };
-    let q_scale = case.byte_of(*q_scale);
-    listed!(case, left, ModeProfile of ModeSection, first further ModeProfile::new(dir, q_scale, first, further); q_scale)
-}
-
-/// `Q_SCALE NID_LRBG LOCATED`, of the second after NID_LRBG also `NID_PRVLRBG`
-fn report(case: &mut Case, kind: &str, words: &[u64]) -> Option<TrainPacket> {
-    let [q_scale, nid_lrbg, left @ ..] = words else {
-        return None;
-    };
-    let q_scale = case.byte_of(*q_scale);
-    let nid_lrbg = case.long_of(*nid_lrbg);
-    match kind {
-        "position_report" => first_report(case, q_scale, nid_lrbg, left),
-        _ => second_report(case, q_scale, nid_lrbg, left),
+/// The bytes of a text.
+fn text_of(case: &mut Case, numbers: &[u64]) -> Vec<u8> {
+    let mut text = Vec::new(case.alloc());
+    for number in numbers {
+        let byte = case.byte_of(*number);
+        case.kept(text.push(byte).is_ok());
     }
+    text
 }
 
-fn first_report(case: &mut Case, q_scale: u8, nid_lrbg: u32, left: &[u64]) -> Option<TrainPacket> {
-    let located: Located = next_part(case, &mut Numbers::new(left))?;
-    match PositionReport::new(q_scale, nid_lrbg, located) {
-        Ok(packet) => {
-            same!(case, packet: q_scale nid_lrbg located);
-            Some(TrainPacket::Report(packet))
+/// `DIR LENGTH FRAME BYTES..`, where the frame has this many numbers
+impl FromWords for PlainText {
+    type Packet = Packet;
+
+    fn of_words(case: &mut Case) -> Option<Packet> {
+        let dir = case.next();
+        let length = usize::from(case.byte());
+        let numbers = case.numbers();
+        let (framed, bytes) = numbers.as_slice().split_at_checked(length)?;
+        let frame: TextFrame = part_of(case, framed)?;
+        let same = text_of(case, bytes);
+        let text = text_of(case, bytes);
+        match PlainText::new(dir, frame, text) {
+            Ok(packet) => {
+                case.check(packet.text() == same.as_slice(), "another text");
+                check_numbers(case, &packet.frame(), framed);
+                Some(Packet::PlainText(packet))
+            }
+            Err((fault, back)) => {
+                case.say_fault(fault, &FAULTS);
+                case.check(back == same, "another text back");
+                None
+            }
         }
-        Err(fault) => found(case, Err(fault), &FAULTS),
     }
 }
 
-fn second_report(
-    case: &mut Case,
-    q_scale: u8,
-    nid_lrbg: u32,
-    words: &[u64],
-) -> Option<TrainPacket> {
-    let [nid_prvlrbg, left @ ..] = words else {
-        return None;
-    };
-    let nid_prvlrbg = case.long_of(*nid_prvlrbg);
-    let located: Located = next_part(case, &mut Numbers::new(left))?;
-    match PositionReportTwo::new(q_scale, nid_lrbg, nid_prvlrbg, located) {
-        Ok(packet) => {
-            same!(case, packet: q_scale nid_lrbg nid_prvlrbg located);
-            Some(TrainPacket::ReportTwo(packet))
-        }
-        Err(fault) => found(case, Err(fault), &FAULTS),
+/// `DIR Q_TEXT FRAME`
+impl FromWords for FixedText {
+    type Packet = Packet;
+
+    fn of_words(case: &mut Case) -> Option<Packet> {
+        let dir = case.next();
+        let q_text = case.next();
+        let numbers = case.numbers();
+        let frame: TextFrame = part_of(case, numbers.as_slice())?;
+        let packet = found(case, FixedText::new(dir, frame, q_text), &FAULTS)?;
+        same!(case, packet: q_text);
+        check_numbers(case, &packet.frame(), numbers.as_slice());
+        Some(Packet::FixedText(packet))
     }
+}
+
+/// `DIR NID_BG`, or `DIR NID_BG NID_C`
+impl FromWords for InfillLocation {
+    type Packet = Packet;
+
+    fn of_words(case: &mut Case) -> Option<Packet> {
+        let dir = case.next();
+        let nid_bg = case.next();
+        let nid_c = if case.is_empty() { None } else { case.next() };
+        let packet = found(case, InfillLocation::new(dir, nid_c, nid_bg), &FAULTS)?;
+        same!(case, packet: nid_c nid_bg);
+        Some(Packet::InfillLocation(packet))
+    }
+}
+
+/// `balise_list NID DIR BALISES..`
+fn balise_list(case: &mut Case) {
+    match case.byte() {
+        49 => built::<BaliseList<49>>(case),
+        63 => built::<BaliseList<63>>(case),
+        _ => built::<BaliseList<5>>(case),
+    }
+}
+
+/// Packet 49.
+impl FromWords for BaliseList<49> {
+    type Packet = Packet;
+
+    fn of_words(case: &mut Case) -> Option<Packet> {
+        Some(Packet::ShuntingList(balises(case)?))
+    }
+}
+
+/// Packet 63.
+impl FromWords for BaliseList<63> {
+    type Packet = Packet;
+
+    fn of_words(case: &mut Case) -> Option<Packet> {
+        Some(Packet::SrList(balises(case)?))
+    }
+}
+
+/// There is none of another number.
+impl FromWords for BaliseList<5> {
+    type Packet = Packet;
+
+    fn of_words(case: &mut Case) -> Option<Packet> {
+        balises::<5>(case)?;
+        None
+    }
+}
+
+/// The list of these groups, which come back with a fault.
+fn balises<const NID: u8>(case: &mut Case) -> Option<BaliseList<NID>> {
+    let dir = case.next();
+    let numbers = case.numbers();
+    let balises: Vec<BaliseAt> = each(case, &mut Numbers::new(numbers.as_slice()))?;
+    match BaliseList::new(dir, balises) {
+        Ok(packet) => {
+            check_each(case, packet.balises(), numbers.as_slice());
+            Some(packet)
+        }
+        Err((fault, back)) => {
+            case.say_fault(fault, &FAULTS);
+            check_each(case, back.as_slice(), numbers.as_slice());
+            None
+        }
+    }
+}
+
+/// `DIR Q_SCALE T_CYCLOC D_CYCLOC M_LOC REPORTS..`
+impl FromWords for ReportParameters {
+    type Packet = Packet;
+
+    fn of_words(case: &mut Case) -> Option<Packet> {
+        let dir = case.next();
+        let q_scale = case.next();
+        let t_cycloc = case.next();
+        let d_cycloc = case.next();
+        let m_loc = case.next();
+        let numbers = case.numbers();
+        let reports: Vec<ReportAt> = each(case, &mut Numbers::new(numbers.as_slice()))?;
+        match ReportParameters::new(dir, q_scale, t_cycloc, d_cycloc, m_loc, reports) {
+            Ok(packet) => {
+                same!(case, packet: q_scale t_cycloc d_cycloc m_loc);
+                check_each(case, packet.reports(), numbers.as_slice());
+                Some(Packet::ReportParameters(packet))
+            }
+            Err((fault, back)) => {
+                case.say_fault(fault, &FAULTS);
+                check_each(case, back.as_slice(), numbers.as_slice());
+                None
+            }
+        }
+    }
+}
+
+/// `Q_SCALE NID_LRBG LOCATED`
+impl FromWords for PositionReport {
+    type Packet = TrainPacket;
+
+    fn of_words(case: &mut Case) -> Option<TrainPacket> {
+        located!(case, PositionReport as Report: q_scale nid_lrbg)
+    }
+}
+
+/// `Q_SCALE NID_LRBG NID_PRVLRBG LOCATED`
+impl FromWords for PositionReportTwo {
+    type Packet = TrainPacket;
+
+    fn of_words(case: &mut Case) -> Option<TrainPacket> {
+        located!(case, PositionReportTwo as ReportTwo: q_scale nid_lrbg nid_prvlrbg)
+    }
+}
+
+/// `flat_packet NID DIR NUMBERS`: as other constructors.
+fn flat_packet<A: Asked>(case: &mut Case) {
+    let behind = case.split(":");
+    let nid = case.byte();
+    let dir = case.byte();
+    let numbers = case.numbers();
+    let built = A::flat(nid, dir, numbers.as_slice());
+    let packet = found(case, built, &FAULTS);
+    say_made(case, behind, packet.as_ref());
 }
 
 /// `flat NID DIR NUMBERS`: the variables and bits of a packet without groups, or why there is none.
@@ -581,8 +570,8 @@ fn first_bits(mut bits: Bits, len: usize) -> Bits {
 }
 
 /// The marker's number, or why there is none: `marker NID_VBCMK`.
-fn say_marker(case: &mut Case) {
-    let packet = Packet::marker(case);
+fn say_marker<A: Asked>(case: &mut Case) {
+    let packet = A::marker(case);
     if let Some(packet) = packet.as_ref() {
         let numbers = packet_sent(case, packet).numbers(case);
         case.say_found(numbers.as_slice().first().copied());

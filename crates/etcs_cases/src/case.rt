@@ -212,18 +212,9 @@ impl<'a> Case<'a> {
         self.bounded(number, 4294967295) as u32
     }
 
-    pub fn byte_or_none(&mut self) -> Option<u8> {
-        if self.is_none() {
-            return None;
-        }
-        Some(self.byte())
-    }
-
-    pub fn half_or_none(&mut self) -> Option<u16> {
-        if self.is_none() {
-            return None;
-        }
-        Some(self.half())
+    /// The next argument.
+    pub fn next<A: Argument>(&mut self) -> A {
+        A::next(self)
     }
 
     /// A variable's name.
@@ -423,5 +414,61 @@ impl<'a> Case<'a> {
             self.say("\nbut ");
             self.say(text);
         }
+    }
+}
+
+/// What the next words are, by its type: a number of a width, `0` or `1`, several in turn, or `-` for none.
+pub trait Argument: Sized {
+    fn next(case: &mut Case) -> Self;
+}
+
+impl Argument for u8 {
+    fn next(case: &mut Case) -> u8 {
+        case.byte()
+    }
+}
+
+impl Argument for u16 {
+    fn next(case: &mut Case) -> u16 {
+        case.half()
+    }
+}
+
+impl Argument for u32 {
+    fn next(case: &mut Case) -> u32 {
+        case.up_to(4294967295) as u32
+    }
+}
+
+impl Argument for bool {
+    fn next(case: &mut Case) -> bool {
+        case.flag()
+    }
+}
+
+impl<A: Argument> Argument for Option<A> {
+    fn next(case: &mut Case) -> Option<A> {
+        if case.is_none() {
+            return None;
+        }
+        Some(case.next())
+    }
+}
+
+impl<A: Argument, B: Argument> Argument for (A, B) {
+    fn next(case: &mut Case) -> (A, B) {
+        (case.next(), case.next())
+    }
+}
+
+impl<A: Argument, B: Argument, C: Argument> Argument for (A, B, C) {
+    fn next(case: &mut Case) -> (A, B, C) {
+        (case.next(), case.next(), case.next())
+    }
+}
+
+impl<A: Argument, B: Argument, C: Argument, D: Argument> Argument for (A, B, C, D) {
+    fn next(case: &mut Case) -> (A, B, C, D) {
+        (case.next(), case.next(), case.next(), case.next())
     }
 }

@@ -3,15 +3,18 @@
 
 /// Checks that these readers give back what a value was made of.
 macro_rules! same {
-    ($case:ident, $value:ident: $($reader:ident)*) => {
-        $($case.check($value.$reader() == $reader, concat!("another ", stringify!($reader)));)*
-    };
+    ($case:ident, $value:ident: $($reader:ident)*) => {{
+        let mut is_same = true;
+        $(is_same &= $value.$reader() == $reader;)*
+        $case.check(is_same, concat!("other than ", stringify!($($reader)*)));
+    }};
 }
 
 mod bits;
 mod built;
 mod case;
 mod forms;
+mod list;
 mod names;
 mod packets;
 mod parts;
@@ -23,6 +26,7 @@ mod vars;
 mod walks;
 
 pub use case::{Case, FaultTexts};
+pub use forms::{Own, own_fields};
 pub use names::variable;
 
 /// Answers a line of this kind: whether there is such a kind here.

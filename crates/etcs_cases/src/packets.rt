@@ -6,7 +6,7 @@
 //! `train_` in front of a kind asks the same of packets to the track, whose lines have no DIR.
 
 use crate::case::{Case, FaultTexts};
-use crate::forms::{Asked, is_copied};
+use crate::forms::{Asked, check_listed, is_copied};
 use crate::sent::{BEFORE, packet_sent};
 use etcs_bits::{BitSlice, Bits};
 use etcs_packets::Packet;
@@ -217,16 +217,21 @@ pub(crate) fn check_packet<A: Asked>(case: &mut Case, packet: &A, spelled: &Spel
     let length = packet.full_bits().checked_sub(frame_bits(A::WAY));
     case.check(length == Some(spelled.len), "another length");
     check_sent(case, packet, spelled);
-    packet.check_listed(case, spelled.numbers.as_slice());
+    check_listed(case, packet, spelled.numbers.as_slice());
     check_copy(case, packet);
     for dir in 0..=3u8 {
-        let read = spelled.listed(case, dir, spelled.numbers.as_slice());
-        check_like(case, packet, dir, read.as_ref());
-        let read = spelled.in_bits(case, dir, spelled.bits());
-        check_like(case, packet, dir, read.as_ref());
+        check_direction(case, packet, spelled, dir);
     }
     check_numbers_whole::<A>(case, spelled);
     check_bits_whole::<A>(case, spelled);
+}
+
+/// Checks what a packet's numbers and bits are read as in a direction.
+fn check_direction<A: Asked>(case: &mut Case, packet: &A, spelled: &Spelled, dir: u8) {
+    let read = spelled.listed(case, dir, spelled.numbers.as_slice());
+    check_like(case, packet, dir, read.as_ref());
+    let read = spelled.in_bits(case, dir, spelled.bits());
+    check_like(case, packet, dir, read.as_ref());
 }
 
 /// Checks that a packet sends just the numbers and the bits.

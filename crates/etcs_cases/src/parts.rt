@@ -46,19 +46,26 @@ pub(crate) fn answer(case: &mut Case, kind: &str) -> bool {
 /// What is asked of a part of this name.
 fn of_part(case: &mut Case, kind: &str) {
     match case.word() {
-        "authority" => line::<Authority>(case, kind),
         "balise_at" => line::<BaliseAt>(case, kind),
         "condition" => line::<Condition>(case, kind),
         "differing" => line::<Differing>(case, kind),
-        "level" => line::<Level>(case, kind),
-        "level_ack" => line::<LevelAck>(case, kind),
         "link" => line::<Link>(case, kind),
-        "located" => line::<Located>(case, kind),
         "mode_section" => line::<ModeSection>(case, kind),
         "report_at" => line::<ReportAt>(case, kind),
+        "slope" => line::<Slope>(case, kind),
+        name => of_guarded(case, kind, name),
+    }
+}
+
+/// The same of a part in which something is guarded or counted.
+fn of_guarded(case: &mut Case, kind: &str, name: &str) {
+    match name {
+        "authority" => line::<Authority>(case, kind),
+        "level" => line::<Level>(case, kind),
+        "level_ack" => line::<LevelAck>(case, kind),
+        "located" => line::<Located>(case, kind),
         "section" => line::<Section>(case, kind),
         "shown" => line::<Shown>(case, kind),
-        "slope" => line::<Slope>(case, kind),
         "speed" => line::<Speed>(case, kind),
         "text_frame" => line::<TextFrame>(case, kind),
         _ => case.bad(),

@@ -4,9 +4,7 @@ use crate::case::{Case, MOST_BITS};
 use etcs_bits::{BitSlice, Bits};
 use etcs_packets::parts::AnyPacket;
 use etcs_vars::Var;
-use etcs_vars::parts::{VarSink, Variables};
-use std::alloc::{AllocError, Global};
-use std::marker::Model;
+use etcs_vars::parts::{PairList, Variables};
 
 /// How many bits come before those of what was sent, so that they begin inside a byte.
 pub(crate) const BEFORE: usize = 5;
@@ -20,40 +18,7 @@ pub(crate) struct Sent {
     pairs: Vec<(Var, u64)>,
 }
 
-impl Model for Sent {
-    ghost use Rattle.etcs_vars.specs.Reading.{Reading};
-
-    ghost Value = { Reading };
-
-    ghost view = { λ s. s.pairs.items };
-}
-
-impl VarSink for Sent {
-    ghost use Rattle.std.specs.Prelude.{◌++◌};
-    ghost use Rattle.std.proofs.Common.{append_assoc, append-nil, sym};
-
-    ghost with = { λ s r. s ++ r };
-
-    ghost failed = { λ s t. Unit {0} };
-
-    ghost with_none = { append-nil };
-
-    ghost with_both = { λ s a b. sym (append_assoc s a b) };
-
-    ghost failed_behind = { λ s a t h. tt };
-
-    fn send(&mut self, sent: &[(Var, u64)]) -> Result<(), AllocError> {
-        self.pairs.extend_from_slice(sent)
-    }
-}
-
 impl Sent {
-    fn new(alloc: Global) -> Sent {
-        Sent {
-            pairs: Vec::new(alloc),
-        }
-    }
-
     /// The numbers alone.
     pub(crate) fn numbers(&self, case: &mut Case) -> Vec<u64> {
         let mut numbers = Vec::new(case.alloc());
@@ -128,14 +93,16 @@ fn push(case: &mut Case, bits: &mut Bits, width: usize, number: u64) {
 
 /// The variables of a part.
 pub(crate) fn sent_of<V: Variables>(case: &mut Case, part: &V) -> Sent {
-    let mut sent = Sent::new(case.alloc());
-    case.kept(part.send(&mut sent).is_ok());
-    sent
+    let mut list = PairList::new(case.alloc());
+    case.kept(part.send(&mut list).is_ok());
+    let pairs = list.into_vec();
+    Sent { pairs }
 }
 
 /// The variables of a packet after its frame.
 pub(crate) fn packet_sent<A: AnyPacket>(case: &mut Case, packet: &A) -> Sent {
-    let mut sent = Sent::new(case.alloc());
-    case.kept(packet.send_variables(&mut sent).is_ok());
-    sent
+    let mut list = PairList::new(case.alloc());
+    case.kept(packet.send_variables(&mut list).is_ok());
+    let pairs = list.into_vec();
+    Sent { pairs }
 }

@@ -74,17 +74,10 @@ struct Copies<'a> {
 impl Makes for Copies<'_> {
     type Made = Bits;
 
-    fn count(&self) -> usize {
-        1
-    }
-
     fn make(&self, alloc: Global, _index: usize) -> Result<Bits, bool> {
         let len = self.bytes.len().saturating_mul(8).saturating_sub(3);
         match BitSlice::new(self.bytes, 3, len) {
-            Some(slice) => match Bits::from_slice(alloc, slice) {
-                Ok(bits) => Ok(bits),
-                Err(_) => Err(true),
-            },
+            Some(slice) => Bits::from_slice(alloc, slice).or(Err(true)),
             None => Err(false),
         }
     }

@@ -9,7 +9,9 @@ pub(crate) trait Makes: Drop {
     type Made: PartialEq + Drop;
 
     /// How many there are.
-    fn count(&self) -> usize;
+    fn count(&self) -> usize {
+        1
+    }
 
     /// Makes one of them. The error is that memory was refused, and says whether all that was lent is as it was.
     fn make(&self, alloc: Global, index: usize) -> Result<Self::Made, bool>;

@@ -38,10 +38,6 @@ fn append(text: Text, entry: &Entry, out: &mut Vec<u8>) -> Result<(), AllocError
 impl Makes for Texts<'_> {
     type Made = Vec<u8>;
 
-    fn count(&self) -> usize {
-        1
-    }
-
     fn make(&self, alloc: Global, _index: usize) -> Result<Vec<u8>, bool> {
         let mut out = Vec::new(alloc);
         if out.push(0xA5u8).is_err() {
@@ -63,15 +59,8 @@ pub(crate) struct ToTree<'a> {
 impl Makes for ToTree<'_> {
     type Made = Value;
 
-    fn count(&self) -> usize {
-        1
-    }
-
     fn make(&self, alloc: Global, _index: usize) -> Result<Value, bool> {
-        match to_value(alloc, self.entry) {
-            Ok(tree) => Ok(tree),
-            Err(_) => Err(true),
-        }
+        to_value(alloc, self.entry).or(Err(true))
     }
 }
 
@@ -92,10 +81,6 @@ pub(crate) struct FromTree {
 
 impl Makes for FromTree {
     type Made = Found;
-
-    fn count(&self) -> usize {
-        1
-    }
 
     fn make(&self, alloc: Global, _index: usize) -> Result<Found, bool> {
         match from_value(alloc, self.kind, &self.tree) {

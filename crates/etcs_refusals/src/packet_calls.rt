@@ -2,57 +2,13 @@
 
 use crate::calls::{entry, kind, size_of};
 use crate::each::{Makes, refuse_each};
-use etcs_bodies::Framed;
-use etcs_cases::Case;
+use etcs_cases::{Case, own_fields};
 use etcs_group::{Assembly, GroupFault};
 use etcs_packets::parts::AnyPacket;
 use etcs_packets::{Packet, parts};
 use etcs_telegram::{Size, TelegramView};
 use etcs_text::Entry;
 use std::alloc::{AllocError, Global};
-
-/// Appends the numbers of a packet of its own type.
-fn append<P: Framed>(packet: &P, out: &mut Vec<u64>) -> Result<(), AllocError> {
-    packet.fields(out)
-}
-
-/// Appends the numbers of a packet, but for packet 0 and kept bits.
-fn append_fields(packet: &Packet, out: &mut Vec<u64>) -> Result<(), AllocError> {
-    match packet {
-        Packet::VbcMarker(_) | Packet::Other(_) => Ok(()),
-        Packet::SystemVersion(packet) => append(packet, out),
-        Packet::Linking(packet) => append(packet, out),
-        Packet::Level1Ma(packet) => append(packet, out),
-        Packet::Level23Ma(packet) => append(packet, out),
-        Packet::Repositioning(packet) => append(packet, out),
-        Packet::Gradient(packet) => append(packet, out),
-        Packet::SpeedProfile(packet) => append(packet, out),
-        Packet::LevelOrder(packet) => append(packet, out),
-        Packet::SessionManagement(packet) => append(packet, out),
-        Packet::RadioNetwork(packet) => append(packet, out),
-        Packet::ConditionalLevelOrder(packet) => append(packet, out),
-        Packet::ShuntingList(packet) => append(packet, out),
-        Packet::MaRequest(packet) => append(packet, out),
-        Packet::ReportParameters(packet) => append(packet, out),
-        Packet::SrList(packet) => append(packet, out),
-        Packet::InhibitTsr(packet) => append(packet, out),
-        Packet::Tsr(packet) => append(packet, out),
-        Packet::TsrRevocation(packet) => append(packet, out),
-        Packet::TrackCondition(packet) => append(packet, out),
-        Packet::PlainText(packet) => append(packet, out),
-        Packet::FixedText(packet) => append(packet, out),
-        Packet::ModeProfile(packet) => append(packet, out),
-        Packet::RbcTransition(packet) => append(packet, out),
-        Packet::DangerForShunting(packet) => append(packet, out),
-        Packet::StopShunting(packet) => append(packet, out),
-        Packet::InfillLocation(packet) => append(packet, out),
-        Packet::StopInSr(packet) => append(packet, out),
-        Packet::TrainRunningNumber(packet) => append(packet, out),
-        Packet::TsrGradient(packet) => append(packet, out),
-        Packet::InhibitConsistency(packet) => append(packet, out),
-        Packet::DefaultInformation(packet) => append(packet, out),
-    }
-}
 
 /// The lists of numbers of packets, after three others.
 #[derive(Drop)]
@@ -78,7 +34,7 @@ impl Makes for Fields<'_> {
         let (Some(packet), Ok(mut out)) = (self.packets.get(index), three(alloc)) else {
             return Err(true);
         };
-        if append_fields(packet, &mut out).is_ok() {
+        if own_fields(packet, &mut out).is_ok() {
             return Ok(out);
         }
         Err(out.as_slice() == [7, 8, 9].as_slice())
@@ -98,7 +54,7 @@ pub(crate) fn numbers_of(case: &mut Case, packets: &[Packet]) -> Vec<Listed> {
     let mut all = Vec::new(case.alloc());
     for packet in packets {
         let mut numbers = Vec::new(case.alloc());
-        case.kept(append_fields(packet, &mut numbers).is_ok());
+        case.kept(own_fields(packet, &mut numbers).is_ok());
         let (nid, dir) = (packet.nid(), parts::dir(packet).unwrap_or(3));
         case.kept(all.push(Listed { nid, dir, numbers }).is_ok());
     }
@@ -120,10 +76,9 @@ impl Makes for FromFields<'_> {
 
     fn make(&self, alloc: Global, index: usize) -> Result<Option<Packet>, bool> {
         match self.rows.get(index) {
-            Some(row) => match parts::from_fields(alloc, row.nid, row.dir, row.numbers.as_slice()) {
-                Ok(packet) => Ok(packet),
-                Err(_) => Err(true),
-            },
+            Some(row) => {
+                parts::from_fields(alloc, row.nid, row.dir, row.numbers.as_slice()).or(Err(true))
+            }
             None => Ok(None),
         }
     }
@@ -215,10 +170,6 @@ struct Messages<'a> {
 
 impl Makes for Messages<'_> {
     type Made = Vec<Packet>;
-
-    fn count(&self) -> usize {
-        1
-    }
 
     fn make(&self, alloc: Global, _index: usize) -> Result<Vec<Packet>, bool> {
         match self.assembly.message(alloc) {

@@ -56,13 +56,13 @@ fn built(case: &mut Case, kind: &str) {
     };
     let body = body(case);
     case.go_on(behind);
-    let packets = packets(case);
-    let made = if kind == "train_built" {
-        TrainMessage::new(head, body, packets)
+    let padding = if kind == "train_built" {
+        None
     } else {
         let number = case.read(padding);
-        TrainMessage::with_padding(head, body, packets, case.byte_of(number))
+        Some(case.byte_of(number))
     };
+    let made = made(head, body, packets(case), padding);
     match made.as_ref() {
         Ok(message) => {
             say_message(case, message);
@@ -70,6 +70,19 @@ fn built(case: &mut Case, kind: &str) {
             case.check(parts, "of other parts");
         }
         Err((fault, packets)) => refused(case, *fault, packets.as_slice()),
+    }
+}
+
+/// The message of its parts, and of a PADDING where one is given.
+fn made(
+    head: TrainHead,
+    body: TrainBody,
+    packets: Vec<TrainPacket>,
+    padding: Option<u8>,
+) -> Result<TrainMessage, (BuildFault, Vec<TrainPacket>)> {
+    match padding {
+        Some(padding) => TrainMessage::with_padding(head, body, packets, padding),
+        None => TrainMessage::new(head, body, packets),
     }
 }
 

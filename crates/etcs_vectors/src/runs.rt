@@ -63,17 +63,25 @@ fn job(size: Size) -> Job
     }
 }
 
-/// What a run over a reader answers, and how often it read; what it writes is appended to `written`.
-fn run_over<R: Read + Drop>(
-    alloc: Global,
-    size: Size,
-    reader: R,
-    written: &mut Vec<u8>,
-) -> (Result<Tally, RunFault>, u64) {
+/// What a run over a reader answers, how often it read, and what it wrote.
+#[derive(Drop)]
+struct Ran {
+    answer: Result<Tally, RunFault>,
+    reads: u64,
+    written: Vec<u8>,
+}
+
+/// A run over a reader.
+fn run_over<R: Read + Drop>(alloc: Global, size: Size, reader: R) -> Ran {
+    let mut written = Vec::new(alloc);
     let mut source = Input::new(reader);
-    let mut sink = Output::new(written);
+    let mut sink = Output::new(&mut written);
     let answer = run(alloc, job(size), &mut source, &mut sink);
-    (answer, source.reads())
+    Ran {
+        answer,
+        reads: source.reads(),
+        written,
+    }
 }
 
 /// Appends the bytes of a text.
@@ -141,13 +149,17 @@ fn shown(case: &mut Case, kind: &str) {
 
 /// What a run answers and writes.
 fn say_run(case: &mut Case, size: Size, input: &[u8]) {
-    let mut written = Vec::new(case.alloc());
-    let (answer, _) = run_over(case.alloc(), size, input, &mut written);
-    say_answer(case, answer);
-    say_written(case, written.as_slice());
-    let mut slowly = Vec::new(case.alloc());
-    let (slow, _) = run_over(case.alloc(), size, Slow { rest: input }, &mut slowly);
-    case.check(slow == answer && slowly == written, "not byte by byte");
+    let ran = run_over(case.alloc(), size, input);
+    say_answer(case, ran.answer);
+    say_written(case, ran.written.as_slice());
+    check_slowly(case, size, input, &ran);
+}
+
+/// Checks that a run that gets one byte a read answers and writes the same.
+fn check_slowly(case: &mut Case, size: Size, input: &[u8], wanted: &Ran) {
+    let slowly = run_over(case.alloc(), size, Slow { rest: input });
+    let is_alike = slowly.answer == wanted.answer && slowly.written == wanted.written;
+    case.check(is_alike, "not byte by byte");
 }
 
 /// `slow SIZE TEXT`: what a run answers that gets one byte a read, and how often it reads.
@@ -156,15 +168,12 @@ fn run_slowly(case: &mut Case) {
     let mut input = Vec::new(case.alloc());
     let text = case.rest();
     push_text(case, &mut input, text);
-    let mut written = Vec::new(case.alloc());
-    let slow = Slow {
-        rest: input.as_slice(),
-    };
-    let (answer, reads) = run_over(case.alloc(), size, slow, &mut written);
-    say_answer(case, answer);
+    let rest = input.as_slice();
+    let slow = run_over(case.alloc(), size, Slow { rest });
+    say_answer(case, slow.answer);
     case.say(", reads ");
-    case.say_number(reads);
-    say_written(case, written.as_slice());
+    case.say_number(slow.reads);
+    say_written(case, slow.written.as_slice());
 }
 
 /// `repeated COUNT SIZE HEX`: the text of this telegram where it is item 1; a run over COUNT lines of it writes it so
@@ -173,24 +182,27 @@ fn repeated(case: &mut Case) {
     let count = case.half();
     let size = next_size(case);
     let line = case.rest();
-    let mut one = Vec::new(case.alloc());
-    let (_, reads) = run_over(case.alloc(), size, line.as_bytes(), &mut one);
-    case.check(reads > 0, "no read");
+    let one = run_over(case.alloc(), size, line.as_bytes());
+    case.check(one.reads > 0, "no read");
     let mut input = Vec::new(case.alloc());
     let mut wanted = Case::new(case.alloc(), "");
-    let rest = one.as_slice().strip_prefix(b"item 1").unwrap_or(&[]);
-    for item in 0..count {
+    let rest = one
+        .written
+        .as_slice()
+        .strip_prefix(b"item 1")
+        .unwrap_or(&[]);
+    for item in 1..=u64::from(count) {
         push_text(case, &mut input, line);
         case.kept(input.push(b'\n').is_ok());
         wanted.say("item ");
-        wanted.say_number(u64::from(item).saturating_add(1));
+        wanted.say_number(item);
         wanted.say_bytes(rest);
     }
-    let mut all = Vec::new(case.alloc());
-    let (answer, _) = run_over(case.alloc(), size, input.as_slice(), &mut all);
-    say_answer(case, answer);
-    say_written(case, one.as_slice());
-    case.check(wanted.has_said(all.as_slice()), "not each so");
+    let all = run_over(case.alloc(), size, input.as_slice());
+    say_answer(case, all.answer);
+    say_written(case, one.written.as_slice());
+    let is_each = wanted.has_said(all.written.as_slice());
+    case.check(is_each, "not each so");
 }
 
 /// The words of a command line, which are between single blanks.
@@ -213,23 +225,20 @@ fn line_words(case: &mut Case, line: &str) -> Vec<String> {
 fn program(case: &mut Case, kind: &str) {
     let given = case.split(" < ");
     let line = case.rest();
-    let mut input = Vec::new(case.alloc());
+    let input = input_of(case, kind, given);
+    let called = call(case, line, input.as_slice());
+    say_called(case, kind, &called);
+    check_called_slowly(case, line, input.as_slice(), &called);
+}
+
+/// The bytes of a text, or those that its hexadecimal digits say.
+fn input_of(case: &mut Case, kind: &str, given: &str) -> Vec<u8> {
     if kind == "bytes" {
-        input = case.bytes_of(given);
-    } else {
-        push_text(case, &mut input, given);
+        return case.bytes_of(given);
     }
-    let mut output: Vec<u8> = Vec::new(case.alloc());
-    let mut faults: Vec<u8> = Vec::new(case.alloc());
-    let status = status_of(case, line, input.as_slice(), &mut output, &mut faults);
-    case.say_number(u64::from(status));
-    say_streams(case, kind, output.as_slice(), faults.as_slice());
-    let rest = input.as_slice();
-    let mut slowly: Vec<u8> = Vec::new(case.alloc());
-    let mut slow_faults: Vec<u8> = Vec::new(case.alloc());
-    let again = status_of(case, line, Slow { rest }, &mut slowly, &mut slow_faults);
-    case.check(again == status && slowly == output, "not byte by byte");
-    case.check(slow_faults == faults, "other faults byte by byte");
+    let mut input = Vec::new(case.alloc());
+    push_text(case, &mut input, given);
+    input
 }
 
 /// `help LINE, LINE ..`: the status of each of these command lines over an empty input, and what it writes.
@@ -248,28 +257,44 @@ fn help(case: &mut Case) {
 
 /// The status of a command line over an empty input, and what it writes.
 fn say_call(case: &mut Case, line: &str) {
-    let mut output: Vec<u8> = Vec::new(case.alloc());
-    let mut faults: Vec<u8> = Vec::new(case.alloc());
     let nothing: &[u8] = &[];
-    let status = status_of(case, line, nothing, &mut output, &mut faults);
-    case.say_number(u64::from(status));
-    say_streams(case, "program", output.as_slice(), faults.as_slice());
+    let called = call(case, line, nothing);
+    say_called(case, "program", &called);
 }
 
-/// The status of a command line over a reader.
-fn status_of<R: Read + Drop>(
-    case: &mut Case,
-    line: &str,
-    reader: R,
-    output: &mut Vec<u8>,
-    faults: &mut Vec<u8>,
-) -> u8 {
+/// The status of a command line, what it wrote, and its faults.
+#[derive(Drop)]
+struct Called {
+    status: u8,
+    output: Vec<u8>,
+    faults: Vec<u8>,
+}
+
+/// A command line over a reader.
+fn call<R: Read + Drop>(case: &mut Case, line: &str, reader: R) -> Called {
     let words = line_words(case, line);
-    run_words(case.alloc(), words, reader, output, faults)
+    let mut output = Vec::new(case.alloc());
+    let mut faults = Vec::new(case.alloc());
+    let status = run_words(case.alloc(), words, reader, &mut output, &mut faults);
+    Called {
+        status,
+        output,
+        faults,
+    }
 }
 
-/// What the program wrote, as this kind of lines says it.
-fn say_streams(case: &mut Case, kind: &str, output: &[u8], faults: &[u8]) {
+/// Checks that a command line does the same where it gets one byte a read.
+fn check_called_slowly(case: &mut Case, line: &str, input: &[u8], wanted: &Called) {
+    let slowly = call(case, line, Slow { rest: input });
+    let is_alike = slowly.status == wanted.status && slowly.output == wanted.output;
+    case.check(is_alike, "not byte by byte");
+    case.check(slowly.faults == wanted.faults, "other faults byte by byte");
+}
+
+/// The status and what the program wrote, as this kind of lines says it.
+fn say_called(case: &mut Case, kind: &str, called: &Called) {
+    case.say_number(u64::from(called.status));
+    let (output, faults) = (called.output.as_slice(), called.faults.as_slice());
     match kind {
         "program" => {
             say_written(case, output);

@@ -1,5 +1,5 @@
 -- Where a train is, and what it does, of packets 0 and 1 to the track.
-use Rattle.std.proofs.Common.{◌≡◌, ℕ, [], ◌∷◌, ◌++◌, Option, Some, None}
+use Rattle.std.proofs.Common.{◌≡◌, ℕ, [], ◌∷◌, ◌++◌, Option, None}
 use Rattle.std.specs.Option.{is_some}
 use Rattle.etcs_vars.specs.declared.var.Var.{Var}
 use Rattle.etcs_vars.specs.declared.var.Var.TheVariants.{D_LRBG, Q_DIRLRBG, Q_DLRBG, L_DOUBTOVER, L_DOUBTUNDER, Q_LENGTH, L_TRAININT, V_TRAIN, Q_DIRTRAIN, M_MODE, M_LEVEL, NID_NTC}
@@ -33,10 +33,6 @@ integrity_reading n o = after_reading Q_LENGTH L_TRAININT n o
 unfoldable pub integrity_from : Left → Option ((ℕ × Option ℕ) × Left)
 integrity_from = group_from Q_LENGTH IsOneOrTwo (next_number L_TRAININT)
 
-abbrev pub integrity_count : Option ℕ → ℕ
-integrity_count None = 2
-integrity_count (Some n) = 17
-
 -- ---- The level, and the national system where it is that of one.
 
 abbrev pub level_fault : ℕ → Option ℕ → Option BuildFault
@@ -47,10 +43,6 @@ level_reading n o = after_reading M_LEVEL NID_NTC n o
 
 unfoldable pub level_from : Left → Option ((ℕ × Option ℕ) × Left)
 level_from = group_from M_LEVEL IsOne (next_number NID_NTC)
-
-abbrev pub level_count : Option ℕ → ℕ
-level_count None = 3
-level_count (Some n) = 11
 
 -- ---- The whole.
 
@@ -124,16 +116,3 @@ located_from = form_from located_of (
     both_from (next_number Q_DIRTRAIN) (
     both_from (next_number M_MODE) (
     level_from))))))))))
-
--- each of its numbers is admitted
-pub record LocatedFacts (p : LocatedValue) : Type 0 where
-  pub d_lrbg : number_fault D_LRBG p.d_lrbg ≡ None
-  pub q_dirlrbg : number_fault Q_DIRLRBG p.q_dirlrbg ≡ None
-  pub q_dlrbg : number_fault Q_DLRBG p.q_dlrbg ≡ None
-  pub l_doubtover : number_fault L_DOUBTOVER p.l_doubtover ≡ None
-  pub l_doubtunder : number_fault L_DOUBTUNDER p.l_doubtunder ≡ None
-  pub integrity : integrity_fault p.q_length p.l_trainint ≡ None
-  pub v_train : number_fault V_TRAIN p.v_train ≡ None
-  pub q_dirtrain : number_fault Q_DIRTRAIN p.q_dirtrain ≡ None
-  pub m_mode : number_fault M_MODE p.m_mode ≡ None
-  pub level : level_fault p.m_level p.nid_ntc ≡ None

@@ -1,7 +1,7 @@
 //! Where a train is, and what it does.
 
-ghost use Rattle.std.specs.Prelude.{◌≡◌, ◌≤◌, None, Some, IfOk, IfErr, IfSome, IfNone, OnOk, OnErr};
-ghost use Rattle.etcs_track.specs.Locations.{integrity_fault, integrity_reading, integrity_from, integrity_count, level_fault, level_reading, level_from, level_count};
+ghost use Rattle.std.specs.Prelude.{◌≡◌, None, Some, IfOk, IfErr, IfSome, IfNone, OnOk, OnErr};
+ghost use Rattle.etcs_track.specs.Locations.{integrity_fault, integrity_reading, integrity_from, level_fault, level_reading, level_from};
 
 use etcs_bodies::{Numbers, Part, check, check_guard, send_run, take_run, taken};
 use etcs_vars::parts::{VarSink, Variables};
@@ -294,28 +294,6 @@ fn send_level<S: VarSink>(m_level: u8, nid_ntc: Option<u8>, out: &mut S) -> Resu
     }
 }
 
-/// How many bits Q_LENGTH and the length take.
-fn integrity_bits(l_trainint: Option<u16>) -> usize
-    ensures bits { result ≡ integrity_count l_trainint }
-    ensures small { result ≤ 17 }
-{
-    match l_trainint {
-        None => 2,
-        Some(_) => 17,
-    }
-}
-
-/// How many bits M_LEVEL and the national system take.
-fn level_bits(nid_ntc: Option<u8>) -> usize
-    ensures bits { result ≡ level_count nid_ntc }
-    ensures small { result ≤ 11 }
-{
-    match nid_ntc {
-        None => 3,
-        Some(_) => 11,
-    }
-}
-
 impl Variables for Located {
     ghost use Rattle.etcs_track.specs.Locations.{located_reading};
 
@@ -323,7 +301,7 @@ impl Variables for Located {
 
     #[tactic(auto, using(crate::specs::laws::Locations::located_bits))]
     fn bits(&self) -> usize {
-        62 + integrity_bits(self.l_trainint) + level_bits(self.nid_ntc)
+        67 + 15 * usize::from(self.l_trainint.is_some()) + 8 * usize::from(self.nid_ntc.is_some())
     }
 
     fn send<S: VarSink>(&self, out: &mut S) -> Result<(), AllocError> {

@@ -1,15 +1,6 @@
 use Rattle.etcs_packets.specs.PacketValues.{form}
-use Rattle.etcs_packets.proofs.Outcomes.{ok_made, ok_some, ok_typed, ok_absent}
+use Rattle.etcs_packets.proofs.Outcomes.{ok_bits}
 use Rattle.etcs_packets.proofs.parts.from_bits.Goals as goal
 
-pub returns-clause-made : goal.returns-clause-made
-returns-clause-made c = ok_made form _ _ _ _ c.of_number.result c.of_number.ensures
-
-pub returns-clause-some : goal.returns-clause-some
-returns-clause-some c = ok_some form _ _ _ _ c.of_number.result c.of_number.ensures
-
-pub returns-clause-typed : goal.returns-clause-typed
-returns-clause-typed c = ok_typed form _ _ _ _ c.of_number.result c.of_number.ensures
-
-pub returns-clause-none : goal.returns-clause-none
-returns-clause-none c = ok_absent form _ _ _ _ _ c.of_number.result c.of_number.ensures
+pub returns : goal.returns
+returns c = ok_bits form _ _ _ _ _ c.of_number.result c.of_number.ensures

@@ -110,13 +110,6 @@ authority_then rest =
     Q_DANGERPOINT ▸ guarded (is_one Q_DANGERPOINT) (D_DP ▸ V_RELEASEDP ▸ whole) (
     Q_OVERLAP ▸ guarded (is_one Q_OVERLAP) (D_STARTOL ▸ T_OL ▸ D_OL ▸ V_RELEASEOL ▸ whole) rest))))
 
--- no part of it has a fault
-pub record AuthorityFacts (p : AuthorityValue) : Type 0 where
-  pub count : count_fault N_ITER (length p.sections) ≡ None
-  pub end_timer : end_timer_fault p.end_timer ≡ None
-  pub danger_point : danger_fault p.danger_point ≡ None
-  pub overlap : overlap_fault p.overlap ≡ None
-
 -- ---- Its bits.
 
 abbrev pub groups_reading : AuthorityValue → Reading

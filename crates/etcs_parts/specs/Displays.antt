@@ -41,11 +41,3 @@ shown_of n = shown_value n.0 n.1.0 n.1.1
 
 unfoldable pub shown_from : Left → Option (ShownValue × Left)
 shown_from = form_from shown_of (both_from (next_number M_MODETEXTDISPLAY) (group_from M_LEVELTEXTDISPLAY IsOne (next_number NID_NTC)))
-
--- ---- It is what its row spells.
-
-pub record ShownFacts (s : ShownValue) : Type 0 where
-  pub m_modetextdisplay : number_fault M_MODETEXTDISPLAY s.m_modetextdisplay ≡ None
-  pub m_leveltextdisplay : number_fault M_LEVELTEXTDISPLAY s.m_leveltextdisplay ≡ None
-  pub guard : guard_fault M_LEVELTEXTDISPLAY (passes IsOne s.m_leveltextdisplay) (is_some s.nid_ntc) ≡ None
-  pub nid_ntc : option_fault NID_NTC s.nid_ntc ≡ None

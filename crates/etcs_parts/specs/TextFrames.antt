@@ -140,17 +140,6 @@ text_frame_from = form_from text_frame_of (
     both_from shown_from (
     confirmed_from)))))))))
 
--- each of its numbers is admitted
-pub record TextFrameFacts (t : TextFrameValue) : Type 0 where
-  pub q_scale : number_fault Q_SCALE t.q_scale ≡ None
-  pub q_textclass : number_fault Q_TEXTCLASS t.q_textclass ≡ None
-  pub d_textdisplay : number_fault D_TEXTDISPLAY t.d_textdisplay ≡ None
-  pub l_textdisplay : number_fault L_TEXTDISPLAY t.l_textdisplay ≡ None
-  pub t_textdisplay : number_fault T_TEXTDISPLAY t.t_textdisplay ≡ None
-  pub q_textconfirm : number_fault Q_TEXTCONFIRM t.q_textconfirm ≡ None
-  pub guard : guard_fault Q_TEXTCONFIRM (passes IsNotZero t.q_textconfirm) (is_some t.confirm) ≡ None
-  pub confirm : confirm_fault t.confirm ≡ None
-
 -- ---- Its bits.
 
 -- how many bits a confirmation takes with Q_TEXTCONFIRM

@@ -76,12 +76,9 @@ impl Variables for BaliseAt {
 
     ghost reading_of = { λ p. balise_at_reading p };
 
-    #[tactic(auto, using(crate::specs::laws::BalisesAt::balise_at_bits_near, crate::specs::laws::BalisesAt::balise_at_bits_far))]
+    #[tactic(auto, using(crate::specs::laws::BalisesAt::balise_at_bits))]
     fn bits(&self) -> usize {
-        match self.nid_c {
-            None => 15,
-            Some(_) => 25,
-        }
+        15 + 10 * usize::from(self.nid_c.is_some())
     }
 
     fn send<S: VarSink>(&self, out: &mut S) -> Result<(), AllocError> {

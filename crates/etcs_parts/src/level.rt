@@ -73,12 +73,9 @@ impl Variables for Level {
 
     ghost reading_of = { λ p. level_reading p };
 
-    #[tactic(auto, using(etcs_bodies::specs::laws::Repeats::bit_count_is))]
+    #[tactic(auto, using(crate::specs::laws::Levels::level_bits))]
     fn bits(&self) -> usize {
-        match self.nid_ntc {
-            None => 3,
-            Some(_) => 11,
-        }
+        3 + 8 * usize::from(self.nid_ntc.is_some())
     }
 
     fn send<S: VarSink>(&self, out: &mut S) -> Result<(), AllocError> {

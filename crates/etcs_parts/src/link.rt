@@ -114,12 +114,9 @@ impl Variables for Link {
 
     ghost reading_of = { λ l. link_reading l };
 
-    #[tactic(auto, using(crate::specs::laws::Links::link_bits_near, crate::specs::laws::Links::link_bits_far))]
+    #[tactic(auto, using(crate::specs::laws::Links::link_bits, crate::specs::laws::BalisesAt::balise_at_bits, crate::specs::laws::Flags::at_most_one))]
     fn bits(&self) -> usize {
-        match self.balise.nid_c() {
-            None => 39,
-            Some(_) => 49,
-        }
+        24 + self.balise.bits()
     }
 
     fn send<S: VarSink>(&self, out: &mut S) -> Result<(), AllocError> {

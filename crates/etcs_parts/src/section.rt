@@ -140,12 +140,9 @@ impl Variables for Section {
 
     ghost reading_of = { λ p. section_reading p };
 
-    #[tactic(auto, using(crate::specs::laws::Sections::section_bits_short, crate::specs::laws::Sections::section_bits_long))]
+    #[tactic(auto, using(crate::specs::laws::Sections::section_bits))]
     fn bits(&self) -> usize {
-        match self.timer {
-            None => 16,
-            Some(_) => 41,
-        }
+        16 + 25 * usize::from(self.timer.is_some())
     }
 
     fn send<S: VarSink>(&self, out: &mut S) -> Result<(), AllocError> {

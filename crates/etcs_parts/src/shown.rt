@@ -91,12 +91,9 @@ impl Variables for Shown {
 
     ghost reading_of = { λ p. shown_reading p };
 
-    #[tactic(auto, using(crate::specs::laws::Displays::shown_bits_short, crate::specs::laws::Displays::shown_bits_long))]
+    #[tactic(auto, using(crate::specs::laws::Displays::shown_bits))]
     fn bits(&self) -> usize {
-        match self.nid_ntc {
-            None => 7,
-            Some(_) => 15,
-        }
+        7 + 8 * usize::from(self.nid_ntc.is_some())
     }
 
     fn send<S: VarSink>(&self, out: &mut S) -> Result<(), AllocError> {

@@ -6,7 +6,6 @@ use Rattle.etcs_vars.specs.declared.var.Var.TheVariants.{N_ITER, L_SECTION, Q_EN
 use Rattle.etcs_vars.specs.Reading.{spelled}
 use Rattle.etcs_tables.specs.Layouts.{whole, guarded, counted}
 use Rattle.etcs_tables.specs.Rows.{section_timer, is_one, ◌▸◌}
-use Rattle.etcs_bodies.specs.Faults.{◌or_else◌, number_fault, count_fault}
 use Rattle.etcs_bodies.specs.laws.Takes.{none_of}
 use Rattle.etcs_bodies.specs.Repeats.{bit_count}
 use Rattle.etcs_bodies.specs.laws.Repeats.{bit_count_is, bit_count-append, bit_count-flat}
@@ -17,7 +16,7 @@ use Rattle.etcs_bodies.specs.Groups.{pair_fault}
 use Rattle.etcs_bodies.specs.laws.Groups.{flagged, pair}
 use Rattle.etcs_parts.specs.Sections.{IsSection, section_reading, end_reading}
 use Rattle.etcs_parts.specs.laws.Sections.{section_codes, end_codes, end_bits, section_most}
-use Rattle.etcs_parts.specs.Authorities.{end_timer_fault, end_timer_reading, end_timer_from, danger_fault, danger_reading, danger_from, Overlap, some_overlap_fault, overlap_fault, some_overlap_reading, overlap_reading, some_overlap_from, overlap_from, AuthorityValue, authority_fault, IsAuthority, authority_reading, sections_from, authority_from, authority_then, AuthorityFacts, groups_reading}
+use Rattle.etcs_parts.specs.Authorities.{end_timer_fault, end_timer_reading, end_timer_from, danger_fault, danger_reading, danger_from, Overlap, some_overlap_fault, overlap_fault, some_overlap_reading, overlap_reading, some_overlap_from, overlap_from, AuthorityValue, authority_fault, IsAuthority, authority_reading, sections_from, authority_from, authority_then, groups_reading}
 
 -- ---- The timer of the end section.
 
@@ -41,10 +40,9 @@ some_overlap_codes =
       there = λ o. refl;
       again = λ v. refl;
       is = λ o h.
-          let a = none_of (number_fault D_STARTOL o.0) (number_fault T_OL o.1 or_else number_fault D_OL o.2 or_else number_fault V_RELEASEOL o.3) h in
-          let b = none_of (number_fault T_OL o.1) (number_fault D_OL o.2 or_else number_fault V_RELEASEOL o.3) a.1 in
-          let c = none_of (number_fault D_OL o.2) (number_fault V_RELEASEOL o.3) b.1 in
-          (a.0, (b.0, (c.0, c.1)));
+          let (start, h1) = none_of _ _ h in
+          let (time, h2) = none_of _ _ h1 in
+          (start, (time, none_of _ _ h2));
       so = λ v h. rw (h.0, h.1.0, h.1.1.0, h.1.1.1) refl;
       same = λ o. refl;
     })
@@ -54,13 +52,6 @@ unfolding overlap_from
 overlap_codes = flagged Q_OVERLAP (refl, refl, refl) some_overlap_fault some_overlap_codes
 
 -- ---- An authority is what its row spells.
-
-facts : (p : AuthorityValue) → authority_fault p ≡ None → AuthorityFacts p
-facts p h =
-    let a = none_of (count_fault N_ITER (length p.sections)) (end_timer_fault p.end_timer or_else danger_fault p.danger_point or_else overlap_fault p.overlap) h in
-    let b = none_of (end_timer_fault p.end_timer) (danger_fault p.danger_point or_else overlap_fault p.overlap) a.1 in
-    let c = none_of (danger_fault p.danger_point) (overlap_fault p.overlap) b.1 in
-    record { count = a.0; end_timer = b.0; danger_point = c.0; overlap = c.1 }
 
 sections_codes : Codes (λ rest. N_ITER ▸ counted (L_SECTION ▸ section_timer whole) rest) (IsEntries N_ITER IsSection) (list_reading N_ITER section_reading) sections_from
 unfolding sections_from
@@ -74,7 +65,10 @@ authority_codes =
       back = λ p. (p.sections, (p.end, (p.end_timer, (p.danger_point, p.overlap))));
       there = λ p. refl;
       again = λ v. refl;
-      is = λ p h. let k = facts p h.faultless in ((k.count, h.sections), (h.end, (k.end_timer, (k.danger_point, k.overlap))));
+      is = λ p h.
+          let (count, h1) = none_of _ _ h.faultless in
+          let (end_timer, h2) = none_of _ _ h1 in
+          ((count, h.sections), (h.end, (end_timer, none_of _ _ h2)));
       so = λ v h. record { faultless = rw (h.0.0, h.1.1.0, h.1.1.1.0, h.1.1.1.1) refl; sections = h.0.1; end = h.1.0 };
       same = λ p. refl;
     })
@@ -82,7 +76,7 @@ authority_codes =
 -- ---- Its bits.
 
 pub few_sections : (p : AuthorityValue) → authority_fault p ≡ None → length p.sections ≤ 31
-few_sections p h = few_counted (length p.sections) (facts p h).count
+few_sections p h = few_counted (length p.sections) (none_of _ _ h).0
 
 count_end_timer : (o : Option (ℕ × ℕ)) → bit_count (end_timer_reading o) ≡ (if is_some o then 26 else 1)
 count_end_timer None = refl
@@ -114,15 +108,9 @@ authority_bits p a b c ha hb hc =
     let ec = hc ∙ bit_count_is (groups_reading p) in
     rw (bit_count_is (authority_reading p)) (omega arith)
 
-most_of_groups : (a b c : Bool) → (if a then 26 else 1) + (if b then 23 else 1) + (if c then 48 else 1) ≤ 97
-most_of_groups true true true = omega arith
-most_of_groups true true false = omega arith
-most_of_groups true false true = omega arith
-most_of_groups true false false = omega arith
-most_of_groups false true true = omega arith
-most_of_groups false true false = omega arith
-most_of_groups false false true = omega arith
-most_of_groups false false false = omega arith
+most_of_group : (b : Bool) (n : ℕ) → 1 ≤ n → (if b then n else 1) ≤ n
+most_of_group true n h = omega arith
+most_of_group false n h = h
 
 -- all of 31 sections, the end section and every group
 pub authority_small : (p : AuthorityValue) → authority_fault p ≡ None → length (spelled (authority_reading p)) ≤ 1414
@@ -133,6 +121,8 @@ authority_small p h =
     let end = bit_count-append (end_reading p.end) (groups_reading p) in
     let one : bit_count (end_reading p.end) ≤ 41 = section_most p.end in
     let groups = groups_bits p (if is_some p.end_timer then 26 else 1) (if is_some p.danger_point then 23 else 1) (if is_some p.overlap then 48 else 1) refl refl refl in
-    let most = most_of_groups (is_some p.end_timer) (is_some p.danger_point) (is_some p.overlap) in
+    let end_timer = most_of_group (is_some p.end_timer) 26 (omega arith) in
+    let danger_point = most_of_group (is_some p.danger_point) 23 (omega arith) in
+    let overlap = most_of_group (is_some p.overlap) 48 (omega arith) in
     let counted : length (spelled (groups_reading p)) ≡ bit_count (groups_reading p) = bit_count_is (groups_reading p) in
     rw (bit_count_is (authority_reading p)) (omega arith)

@@ -1,9 +1,8 @@
 -- Lemmas about specs/Conditions.antt.
-use Rattle.std.proofs.Common.{◌≡◌, length, ◌≤◌, None, refl, arith}
+use Rattle.std.proofs.Common.{◌≡◌, length, ◌≤◌, refl, arith}
 use Rattle.etcs_vars.specs.declared.var.Var.TheVariants.{D_TRACKCOND, L_TRACKCOND, M_TRACKCOND}
 use Rattle.etcs_vars.specs.Reading.{spelled}
 use Rattle.etcs_tables.specs.Rows.{condition}
-use Rattle.etcs_bodies.specs.Faults.{◌or_else◌, number_fault}
 use Rattle.etcs_bodies.specs.laws.Takes.{none_of}
 use Rattle.etcs_bodies.specs.Codecs.{Codes}
 use Rattle.etcs_bodies.specs.laws.Codecs.{number, both, form}
@@ -13,12 +12,6 @@ use Rattle.etcs_parts.specs.Conditions.{ConditionValue, IsCondition, condition_r
 
 -- ---- A condition is what its row spells.
 
-facts : (p : ConditionValue) → IsCondition p → (number_fault D_TRACKCOND p.d_trackcond ≡ None) × (number_fault L_TRACKCOND p.l_trackcond ≡ None) × (number_fault M_TRACKCOND p.m_trackcond ≡ None)
-facts p h =
-    let h1 = none_of (number_fault D_TRACKCOND p.d_trackcond) (number_fault L_TRACKCOND p.l_trackcond or_else number_fault M_TRACKCOND p.m_trackcond) h in
-    let h2 = none_of (number_fault L_TRACKCOND p.l_trackcond) (number_fault M_TRACKCOND p.m_trackcond) h1.1 in
-    (h1.0, h2.0, h2.1)
-
 pub condition_codes : Codes condition IsCondition condition_reading condition_from
 unfolding condition_from
 condition_codes =
@@ -27,7 +20,7 @@ condition_codes =
       back = λ p. (p.d_trackcond, (p.l_trackcond, p.m_trackcond));
       there = λ p. refl;
       again = λ v. refl;
-      is = λ p h. let k = facts p h in (k.0, (k.1, k.2));
+      is = λ p h. let (d_trackcond, h1) = none_of _ _ h in (d_trackcond, none_of _ _ h1);
       so = λ v h. rw (h.0, h.1.0, h.1.1) refl;
       same = λ p. refl;
     })

@@ -1,12 +1,12 @@
 -- Lemmas about specs/Differings.antt.
-use Rattle.std.proofs.Common.{◌≡◌, ℕ, zero, suc, ◌<◌, ◌≤◌, Bool, true, false, List, [], ◌∷◌, length, None, refl, arith}
+use Rattle.std.proofs.Common.{◌≡◌, ℕ, zero, suc, ◌<◌, ◌≤◌, Bool, true, false, [], ◌∷◌, length, None, refl, arith}
 use Rattle.std.specs.Prelude.{◌==◌, not}
 use Rattle.etcs_vars.specs.declared.var.Var.TheVariants.{Q_DIFF, NC_CDDIFF, NC_DIFF, V_DIFF}
 use Rattle.etcs_vars.specs.Vars.{width, admits}
 use Rattle.etcs_vars.specs.Reading.{spelled}
 use Rattle.etcs_tables.specs.declared.item.Test.TheVariants.{IsZero, IsOneOrTwo}
 use Rattle.etcs_tables.specs.Layouts.{passes}
-use Rattle.etcs_bodies.specs.Faults.{◌or_else◌, number_fault}
+use Rattle.etcs_bodies.specs.Faults.{number_fault}
 use Rattle.etcs_bodies.specs.laws.Takes.{none_of, in_width, number_ok, admitted}
 use Rattle.etcs_bodies.specs.Taking.{Left, listed, in_bits, next_number}
 use Rattle.etcs_bodies.specs.Repeats.{bit_count}
@@ -14,7 +14,7 @@ use Rattle.etcs_bodies.specs.laws.Repeats.{bit_count_is}
 use Rattle.etcs_bodies.specs.Codecs.{Codes}
 use Rattle.etcs_bodies.specs.laws.Codecs.{number, both, form}
 use Rattle.etcs_bodies.specs.laws.Choices.{choice}
-use Rattle.etcs_parts.specs.Differings.{DifferingValue, category_var, category_of, IsDiffering, differing_reading, differing_row, differing_from}
+use Rattle.etcs_parts.specs.Differings.{DifferingValue, category_var, IsDiffering, differing_reading, differing_row, differing_from}
 
 -- ---- The numbers of both categories are the same, in as many bits.
 
@@ -42,12 +42,6 @@ small_apart (suc (suc (suc (suc n)))) lt h = absurd (omega arith)
 apart : (n : ℕ) → admits Q_DIFF n ≡ true → passes IsOneOrTwo n ≡ not (passes IsZero n)
 apart n h = small_apart n (in_width Q_DIFF n h) h
 
-facts : (d : DifferingValue) → IsDiffering d → (number_fault Q_DIFF d.q_diff ≡ None) × (number_fault (category_of d.q_diff) d.category ≡ None) × (number_fault V_DIFF d.v_diff ≡ None)
-facts d h =
-    let h1 = none_of (number_fault Q_DIFF d.q_diff) (number_fault (category_of d.q_diff) d.category or_else number_fault V_DIFF d.v_diff) h in
-    let h2 = none_of (number_fault (category_of d.q_diff) d.category) (number_fault V_DIFF d.v_diff) h1.1 in
-    (h1.0, h2.0, h2.1)
-
 pub differing_codes : Codes differing_row IsDiffering differing_reading differing_from
 unfolding differing_from
 differing_codes =
@@ -58,7 +52,10 @@ differing_codes =
       back = λ d. ((d.q_diff, d.category), d.v_diff);
       there = λ d. refl;
       again = λ v. refl;
-      is = λ d h. let k = facts d h in ((k.0, k.1), k.2);
+      is = λ d h.
+          let (q_diff, h1) = none_of _ _ h in
+          let (category, v_diff) = none_of _ _ h1 in
+          ((q_diff, category), v_diff);
       so = λ v h. rw (h.0.0, h.0.1, h.1) refl;
       same = λ d. refl;
     })

@@ -1,6 +1,9 @@
 -- Lemmas about specs/Levels.antt.
-use Rattle.std.proofs.Common.{◌≤◌, arith, ◌≡◌, ℕ, [], ◌∷◌, Option, Some, None, refl}
+use Rattle.std.proofs.Common.{◌≤◌, arith, ◌≡◌, ℕ, ◌+◌, ◌*◌, [], ◌∷◌, length, Option, Some, None, refl, ◌∙◌}
+use Rattle.std.specs.Int.{from_bool}
+use Rattle.std.specs.Option.{is_some}
 use Rattle.etcs_vars.specs.declared.var.Var.TheVariants.{M_LEVELTR, NID_NTC, L_ACKLEVELTR}
+use Rattle.etcs_vars.specs.Reading.{spelled}
 use Rattle.etcs_tables.specs.declared.item.Test.TheVariants.{IsOne}
 use Rattle.etcs_tables.specs.Rows.{level, level_ack}
 use Rattle.etcs_bodies.specs.Faults.{number_fault}
@@ -9,8 +12,9 @@ use Rattle.etcs_bodies.specs.Codecs.{Codes, IsGroup, group_reading}
 use Rattle.etcs_bodies.specs.laws.Codecs.{number, both, group_of, form}
 use Rattle.etcs_bodies.specs.laws.Groups.{guarded_is, guarded_none}
 use Rattle.etcs_bodies.specs.Repeats.{bit_count}
-use Rattle.etcs_bodies.specs.laws.Repeats.{bit_count-append}
-use Rattle.etcs_parts.specs.Levels.{LevelValue, level_fault, IsLevel, system_reading, level_reading, level_from, LevelAckValue, IsLevelAck, level_ack_reading, level_ack_from}
+use Rattle.etcs_bodies.specs.laws.Repeats.{bit_count_is, bit_count-append}
+use Rattle.etcs_parts.specs.laws.Flags.{at_most_one}
+use Rattle.etcs_parts.specs.Levels.{LevelValue, IsLevel, system_reading, level_reading, level_from, LevelAckValue, IsLevelAck, level_ack_reading, level_ack_from}
 
 -- ---- A level is what its row spells.
 
@@ -44,19 +48,22 @@ level_ack_codes =
       back = λ p. (p.level, p.l_ackleveltr);
       there = λ p. refl;
       again = λ v. refl;
-      is = λ p h. none_of (level_fault p.level) (number_fault L_ACKLEVELTR p.l_ackleveltr) h;
+      is = λ p h. none_of _ _ h;
       so = λ v h. rw (h.0, h.1) refl;
       same = λ p. refl;
     })
 
 -- ---- Their bits.
 
-system_most : (m : ℕ) (o : Option ℕ) → bit_count (system_reading m o) ≤ 11
-system_most m None = omega arith
-system_most m (Some n) = omega arith
+system_count : (m : ℕ) (o : Option ℕ) → bit_count (system_reading m o) ≡ 3 + 8 * from_bool (is_some o)
+system_count m None = refl
+system_count m (Some n) = refl
+
+pub level_bits : (p : LevelValue) → length (spelled (level_reading p)) ≡ 3 + 8 * from_bool (is_some p.nid_ntc)
+level_bits p = bit_count_is (level_reading p) ∙ system_count p.m_leveltr p.nid_ntc
 
 pub level_most : (p : LevelValue) → bit_count (level_reading p) ≤ 11
-level_most p = system_most p.m_leveltr p.nid_ntc
+level_most p = omega (arith, system_count p.m_leveltr p.nid_ntc, at_most_one (is_some p.nid_ntc))
 
 pub level_ack_most : (p : LevelAckValue) → bit_count (level_ack_reading p) ≤ 26
 level_ack_most p =

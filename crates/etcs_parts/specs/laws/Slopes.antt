@@ -3,7 +3,6 @@ use Rattle.std.proofs.Common.{◌≡◌, length, ◌≤◌, refl, arith}
 use Rattle.etcs_vars.specs.declared.var.Var.TheVariants.{D_GRADIENT, Q_GDIR, G_A}
 use Rattle.etcs_vars.specs.Reading.{spelled}
 use Rattle.etcs_tables.specs.Rows.{slope}
-use Rattle.etcs_bodies.specs.Faults.{number_fault}
 use Rattle.etcs_bodies.specs.laws.Takes.{none_of}
 use Rattle.etcs_bodies.specs.Codecs.{Codes}
 use Rattle.etcs_bodies.specs.laws.Codecs.{number, flag, both, form}
@@ -21,7 +20,7 @@ slope_codes =
       back = λ p. (p.d_gradient, (p.q_gdir, p.g_a));
       there = λ p. refl;
       again = λ v. refl;
-      is = λ p h. let k = none_of (number_fault D_GRADIENT p.d_gradient) (number_fault G_A p.g_a) h in (k.0, (tt, k.1));
+      is = λ p h. let (d_gradient, g_a) = none_of _ _ h in (d_gradient, (tt, g_a));
       so = λ v h. rw (h.0, h.1.1) refl;
       same = λ p. refl;
     })

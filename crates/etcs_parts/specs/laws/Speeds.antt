@@ -3,7 +3,6 @@ use Rattle.std.proofs.Common.{◌≡◌, ◌+◌, ◌*◌, ◌≤◌, length, No
 use Rattle.etcs_vars.specs.declared.var.Var.TheVariants.{D_STATIC, V_STATIC, Q_FRONT, N_ITER}
 use Rattle.etcs_vars.specs.Reading.{spelled}
 use Rattle.etcs_tables.specs.Rows.{speed}
-use Rattle.etcs_bodies.specs.Faults.{◌or_else◌, number_fault, count_fault}
 use Rattle.etcs_bodies.specs.laws.Takes.{none_of}
 use Rattle.etcs_bodies.specs.Codecs.{Codes}
 use Rattle.etcs_bodies.specs.laws.Codecs.{number, flag, both, list, form}
@@ -15,12 +14,6 @@ use Rattle.etcs_bodies.specs.laws.Repeats.{bit_count_is}
 use Rattle.etcs_parts.specs.Speeds.{SpeedValue, speed_fault, IsSpeed, speed_reading, speed_from}
 
 -- ---- A speed is what its row spells.
-
-facts : (s : SpeedValue) → speed_fault s ≡ None → (number_fault D_STATIC s.d_static ≡ None) × (number_fault V_STATIC s.v_static ≡ None) × (count_fault N_ITER (length s.differing) ≡ None)
-facts s h =
-    let h1 = none_of (number_fault D_STATIC s.d_static) (number_fault V_STATIC s.v_static or_else count_fault N_ITER (length s.differing)) h in
-    let h2 = none_of (number_fault V_STATIC s.v_static) (count_fault N_ITER (length s.differing)) h1.1 in
-    (h1.0, h2.0, h2.1)
 
 pub speed_codes : Codes speed IsSpeed speed_reading speed_from
 unfolding speed_from
@@ -34,7 +27,10 @@ speed_codes =
       back = λ s. (s.d_static, (s.v_static, (s.q_front, s.differing)));
       there = λ s. refl;
       again = λ v. refl;
-      is = λ s h. let k = facts s h.faultless in (k.0, (k.1, (tt, (k.2, h.differing))));
+      is = λ s h.
+          let (d_static, h1) = none_of _ _ h.faultless in
+          let (v_static, count) = none_of _ _ h1 in
+          (d_static, (v_static, (tt, (count, h.differing))));
       so = λ v h. record { faultless = rw (h.0, h.1.0, h.1.1.1.0) refl; differing = h.1.1.1.1 };
       same = λ s. refl;
     })
@@ -45,7 +41,7 @@ pub speed_bits : (s : SpeedValue) → bit_count (speed_reading s) ≡ 28 + 13 * 
 speed_bits s = let entries = bit_count-same differing_reading 13 differing_bits s.differing in omega arith
 
 pub few_entries : (s : SpeedValue) → speed_fault s ≡ None → length s.differing ≤ 31
-few_entries s h = few_counted (length s.differing) (facts s h).2
+few_entries s h = let (d_static, h1) = none_of _ _ h in few_counted (length s.differing) (none_of _ _ h1).1
 
 pub speed_spelled : (s : SpeedValue) → length (spelled (speed_reading s)) ≡ 28 + 13 * length s.differing
 speed_spelled s = bit_count_is (speed_reading s) ∙ speed_bits s

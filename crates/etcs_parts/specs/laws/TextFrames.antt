@@ -1,23 +1,19 @@
 -- Lemmas about specs/TextFrames.antt.
 use Rattle.std.proofs.Common.{◌≡◌, ℕ, Bool, ◌∷◌, ◌++◌, ◌+◌, ◌≤◌, length, Option, Some, None, refl, ap, arith}
-use Rattle.std.specs.Option.{is_some}
 use Rattle.etcs_bodies.specs.Repeats.{bit_count}
 use Rattle.etcs_bodies.specs.laws.Repeats.{bit_count_is, bit_count-append}
 use Rattle.etcs_bits.specs.Bits.{bit}
 use Rattle.etcs_vars.specs.declared.var.Var.TheVariants.{Q_SCALE, Q_TEXTCLASS, Q_TEXTDISPLAY, D_TEXTDISPLAY, L_TEXTDISPLAY, T_TEXTDISPLAY, Q_TEXTCONFIRM, Q_CONFTEXTDISPLAY, Q_TEXTREPORT, NID_TEXTMESSAGE, NID_C, NID_RBC}
 use Rattle.etcs_vars.specs.Reading.{Reading, spelled}
 use Rattle.etcs_tables.specs.declared.item.Test.TheVariants.{IsNotZero}
-use Rattle.etcs_tables.specs.Layouts.{passes}
 use Rattle.etcs_tables.specs.Rows.{text_frame}
-use Rattle.etcs_bodies.specs.Faults.{◌or_else◌, number_fault}
 use Rattle.etcs_bodies.specs.laws.Takes.{none_of}
 use Rattle.etcs_bodies.specs.Codecs.{Codes, IsOptional, optional_reading}
 use Rattle.etcs_bodies.specs.laws.Codecs.{number, flag, both, optional, group_of, form}
-use Rattle.etcs_bodies.specs.Guards.{guard_fault}
 use Rattle.etcs_bodies.specs.laws.Guards.{group_is, group_gives, group_reading_is}
 use Rattle.etcs_parts.specs.Displays.{shown_reading}
 use Rattle.etcs_parts.specs.laws.Displays.{shown_codes, shown_small}
-use Rattle.etcs_parts.specs.TextFrames.{Report, IsReport, report_reading, report_row, report_from, Confirm, confirm_fault, IsConfirm, reported, confirm_reading, confirm_row, confirm_from, confirmed_fault, confirmed_reading, confirmed_from, TextFrameValue, text_frame_fault, IsTextFrame, text_frame_reading, text_frame_from, TextFrameFacts, confirmed_count}
+use Rattle.etcs_parts.specs.TextFrames.{Report, IsReport, report_reading, report_row, report_from, Confirm, confirm_fault, IsConfirm, reported, confirm_reading, confirm_row, confirm_from, confirmed_reading, confirmed_from, TextFrameValue, IsTextFrame, text_frame_reading, text_frame_from, confirmed_count}
 
 -- ---- To whom the confirmation is reported: NID_TEXTMESSAGE, NID_C and NID_RBC.
 
@@ -29,10 +25,7 @@ report_codes =
       back = λ r. (r.0, (r.1, r.2));
       there = λ r. refl;
       again = λ v. refl;
-      is = λ r h.
-          let h1 = none_of (number_fault NID_TEXTMESSAGE r.0) (number_fault NID_C r.1 or_else number_fault NID_RBC r.2) h in
-          let h2 = none_of (number_fault NID_C r.1) (number_fault NID_RBC r.2) h1.1 in
-          (h1.0, (h2.0, h2.1));
+      is = λ r h. let (message, h1) = none_of _ _ h in (message, none_of _ _ h1);
       so = λ v h. rw (h.0, h.1.0, h.1.1) refl;
       same = λ r. refl;
     })
@@ -66,21 +59,6 @@ confirm_codes =
 
 -- ---- The whole.
 
-facts : (t : TextFrameValue) → text_frame_fault t ≡ None → TextFrameFacts t
-facts t h =
-    let from_t = number_fault T_TEXTDISPLAY t.t_textdisplay or_else confirmed_fault t.q_textconfirm t.confirm in
-    let from_l = number_fault L_TEXTDISPLAY t.l_textdisplay or_else from_t in
-    let from_d = number_fault D_TEXTDISPLAY t.d_textdisplay or_else from_l in
-    let guard = guard_fault Q_TEXTCONFIRM (passes IsNotZero t.q_textconfirm) (is_some t.confirm) in
-    let h1 = none_of (number_fault Q_SCALE t.q_scale) (number_fault Q_TEXTCLASS t.q_textclass or_else from_d) h in
-    let h2 = none_of (number_fault Q_TEXTCLASS t.q_textclass) from_d h1.1 in
-    let h3 = none_of (number_fault D_TEXTDISPLAY t.d_textdisplay) from_l h2.1 in
-    let h4 = none_of (number_fault L_TEXTDISPLAY t.l_textdisplay) from_t h3.1 in
-    let h5 = none_of (number_fault T_TEXTDISPLAY t.t_textdisplay) (confirmed_fault t.q_textconfirm t.confirm) h4.1 in
-    let h6 = none_of (number_fault Q_TEXTCONFIRM t.q_textconfirm) (guard or_else confirm_fault t.confirm) h5.1 in
-    let h7 = none_of guard (confirm_fault t.confirm) h6.1 in
-    record { q_scale = h1.0; q_textclass = h2.0; d_textdisplay = h3.0; l_textdisplay = h4.0; t_textdisplay = h5.0; q_textconfirm = h6.0; guard = h7.0; confirm = h7.1 }
-
 confirm_is : (o : Option Confirm) → confirm_fault o ≡ None → IsOptional IsConfirm o
 confirm_is None h = tt
 confirm_is (Some c) h = h
@@ -107,9 +85,15 @@ text_frame_codes =
       there = λ t. refl;
       again = λ v. refl;
       is = λ t h.
-          let k = facts t h.faultless in
-          let group = group_is Q_TEXTCONFIRM IsNotZero IsConfirm t.q_textconfirm t.confirm k.q_textconfirm k.guard (confirm_is t.confirm k.confirm) in
-          (k.q_scale, (k.q_textclass, (tt, (k.d_textdisplay, (h.start, (k.l_textdisplay, (k.t_textdisplay, (h.end, group))))))));
+          let (q_scale, h1) = none_of _ _ h.faultless in
+          let (q_textclass, h2) = none_of _ _ h1 in
+          let (d_textdisplay, h3) = none_of _ _ h2 in
+          let (l_textdisplay, h4) = none_of _ _ h3 in
+          let (t_textdisplay, h5) = none_of _ _ h4 in
+          let (q_textconfirm, h6) = none_of _ _ h5 in
+          let (guard, confirm) = none_of _ _ h6 in
+          let group = group_is Q_TEXTCONFIRM IsNotZero IsConfirm t.q_textconfirm t.confirm q_textconfirm guard (confirm_is t.confirm confirm) in
+          (q_scale, (q_textclass, (tt, (d_textdisplay, (h.start, (l_textdisplay, (t_textdisplay, (h.end, group))))))));
       so = λ v h.
           let group = v.1.1.1.1.1.1.1.1 in
           let g = group_gives Q_TEXTCONFIRM IsNotZero IsConfirm group.0 group.1 h.1.1.1.1.1.1.1.1 in

@@ -4,7 +4,7 @@ use Rattle.std.specs.Prelude.{All, get_or}
 use Rattle.std.proofs.lemmas.Bool.{lt-ltb, le-leb}
 use Rattle.std.proofs.lemmas.Grind.{get_or_default_zero}
 use Rattle.etcs_vars.specs.declared.var.Var.TheVariants.{X_TEXT}
-use Rattle.etcs_bodies.specs.laws.Takes.{number_ok, in_width}
+use Rattle.etcs_bodies.specs.laws.Takes.{number_ok}
 use Rattle.etcs_grouped.specs.PlainTexts.{IsByte}
 
 -- ---- The text: L_TEXT, and this many bytes.

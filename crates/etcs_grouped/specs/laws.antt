@@ -3,6 +3,7 @@ pub mod Chains
 pub mod ConditionalLevelOrders
 pub mod Equality
 pub mod FixedTexts
+pub mod Fronts
 pub mod InfillLocations
 pub mod Level1Mas
 pub mod Level23Mas

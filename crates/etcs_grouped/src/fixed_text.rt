@@ -75,7 +75,7 @@ impl Variables for FixedText {
 
     ghost reading_of = { λ p. fixed_text_reading p };
 
-    #[tactic(auto, using(crate::specs::laws::FixedTexts::fixed_text_length))]
+    #[tactic(auto, using(crate::specs::laws::FixedTexts::fixed_text_length, etcs_parts::specs::laws::TextFrames::text_frame_small))]
     fn bits(&self) -> usize {
         self.frame.bits() + 8
     }

@@ -112,7 +112,7 @@ impl Variables for Level1Ma {
 
     ghost reading_of = { λ p. level1_ma_reading p };
 
-    #[tactic(auto, using(crate::specs::laws::Level1Mas::level1_ma_length))]
+    #[tactic(auto, using(crate::specs::laws::Level1Mas::level1_ma_length, etcs_parts::specs::laws::Authorities::authority_small))]
     fn bits(&self) -> usize {
         26 + self.authority.bits()
     }

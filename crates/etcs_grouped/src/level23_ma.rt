@@ -102,7 +102,7 @@ impl Variables for Level23Ma {
 
     ghost reading_of = { λ p. level23_ma_reading p };
 
-    #[tactic(auto, using(crate::specs::laws::Level23Mas::level23_ma_length))]
+    #[tactic(auto, using(crate::specs::laws::Level23Mas::level23_ma_length, etcs_parts::specs::laws::Authorities::authority_small))]
     fn bits(&self) -> usize {
         19 + self.authority.bits()
     }

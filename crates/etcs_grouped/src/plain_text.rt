@@ -146,7 +146,7 @@ impl Variables for PlainText {
 
     ghost reading_of = { λ p. plain_text_reading p };
 
-    #[tactic(auto, using(crate::specs::laws::PlainTexts::plain_text_length))]
+    #[tactic(auto, using(crate::specs::laws::PlainTexts::plain_text_length, crate::specs::laws::PlainTexts::few_bytes, etcs_parts::specs::laws::TextFrames::text_frame_small))]
     fn bits(&self) -> usize {
         self.frame.bits() + 8 + 8 * self.text.len()
     }

@@ -1,30 +1,24 @@
 -- Lemmas about specs/Level1Mas.antt.
-use Rattle.std.proofs.Common.{◌≡◌, ℕ, ◌+◌, ◌≤◌, length, refl, ◌∙◌, arith}
+use Rattle.std.proofs.Common.{◌≡◌, ℕ, ◌+◌, length, refl, arith}
 use Rattle.etcs_vars.specs.declared.var.Var.TheVariants.{Q_SCALE, V_MAIN, V_LOA, T_LOA}
 use Rattle.etcs_vars.specs.Reading.{spelled}
 use Rattle.etcs_tables.specs.declared.row.Way.TheVariants.{ToTrain}
-use Rattle.etcs_bodies.specs.laws.Repeats.{bit_count_is}
 use Rattle.etcs_bodies.specs.laws.Codecs.{number, both}
 use Rattle.etcs_bodies.specs.Packets.{packet_from}
 use Rattle.etcs_bodies.specs.PacketCodes.{PacketCodes}
 use Rattle.etcs_bodies.specs.laws.PacketCodes.{packet_codes, never_long}
 use Rattle.etcs_parts.specs.Authorities.{authority_reading}
 use Rattle.etcs_parts.specs.laws.Authorities.{authority_codes, authority_small}
+use Rattle.etcs_grouped.specs.laws.Fronts.{after_front}
 use Rattle.etcs_grouped.specs.Level1Mas.{Level1MaValue, level1_ma_reading, body_of, IsLevel1Ma, level1_ma_from}
 
 -- ---- Its bits.
 
 pub level1_ma_length : (p : Level1MaValue) (a : ℕ) → a ≡ length (spelled (authority_reading p.authority)) → 26 + a ≡ length (spelled (level1_ma_reading p))
-level1_ma_length p a h =
-    let e = h ∙ bit_count_is (authority_reading p.authority) in
-    rw (bit_count_is (level1_ma_reading p)) (omega arith)
-
--- it is far from the most bits that L_PACKET counts
-pub level1_ma_small : (p : Level1MaValue) → IsLevel1Ma p → length (spelled (level1_ma_reading p)) ≤ 1440
-level1_ma_small p h = omega (arith, level1_ma_length p (length (spelled (authority_reading p.authority))) refl, authority_small p.authority h.1.1.1.1.1.faultless)
+level1_ma_length p a h = after_front (level1_ma_reading p) (authority_reading p.authority) 26 a (omega arith) h
 
 pub level1_ma_codes : PacketCodes ToTrain 12 (λ (p : Level1MaValue). p.dir) IsLevel1Ma level1_ma_reading (packet_from level1_ma_from)
 unfolding level1_ma_from
 level1_ma_codes =
     packet_codes (both (number Q_SCALE) (both (number V_MAIN) (both (number V_LOA) (both (number T_LOA) authority_codes)))) ToTrain 12 refl
-    (never_long body_of (λ p. refl) (λ dir b. refl) (λ dir b. refl) (λ dir b. refl) (λ p h. omega (arith, level1_ma_small p h)))
+    (never_long body_of (λ p. refl) (λ dir b. refl) (λ dir b. refl) (λ dir b. refl) (λ p h. omega (arith, level1_ma_length p _ refl, authority_small p.authority h.1.1.1.1.1)))

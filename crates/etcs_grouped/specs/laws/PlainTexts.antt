@@ -1,8 +1,9 @@
 -- Lemmas about specs/PlainTexts.antt.
-use Rattle.std.proofs.Common.{◌≡◌, ◌+◌, ◌*◌, ◌≤◌, length, refl, arith}
+use Rattle.std.proofs.Common.{◌≡◌, ℕ, ◌+◌, ◌*◌, ◌≤◌, List, length, None, refl, arith}
 use Rattle.etcs_vars.specs.declared.var.Var.TheVariants.{L_TEXT, X_TEXT}
 use Rattle.etcs_vars.specs.Reading.{spelled}
 use Rattle.etcs_tables.specs.declared.row.Way.TheVariants.{ToTrain}
+use Rattle.etcs_bodies.specs.Faults.{count_fault}
 use Rattle.etcs_bodies.specs.laws.Takes.{counted_admitted, in_width}
 use Rattle.etcs_bodies.specs.laws.Repeats.{bit_count_is, bit_count-append}
 use Rattle.etcs_bodies.specs.laws.Codecs.{number, both, list}
@@ -16,8 +17,8 @@ use Rattle.etcs_grouped.specs.PlainTexts.{byte_reading, text_reading, PlainTextV
 
 -- ---- Its bits.
 
-pub plain_text_few : (p : PlainTextValue) → IsPlainText p → length p.text ≤ 255
-plain_text_few p h = let few = in_width L_TEXT (length p.text) (counted_admitted L_TEXT (length p.text) h.1.1.0) in omega arith
+pub few_bytes : (text : List ℕ) → count_fault L_TEXT (length text) ≡ None → length text ≤ 255
+few_bytes text h = let few = in_width L_TEXT (length text) (counted_admitted L_TEXT (length text) h) in omega arith
 
 pub plain_text_length : (p : PlainTextValue) → length (spelled (plain_text_reading p)) ≡ length (spelled (text_frame_reading p.frame)) + 8 + 8 * length p.text
 plain_text_length p =
@@ -26,7 +27,7 @@ plain_text_length p =
     rw (bit_count_is (plain_text_reading p), bit_count_is (text_frame_reading p.frame)) (omega arith)
 
 pub plain_text_small : (p : PlainTextValue) → IsPlainText p → length (spelled (plain_text_reading p)) ≤ 2159
-plain_text_small p h = omega (arith, plain_text_length p, text_frame_small p.frame, plain_text_few p h)
+plain_text_small p h = omega (arith, plain_text_length p, text_frame_small p.frame, few_bytes p.text h.1.1.0)
 
 pub plain_text_codes : PacketCodes ToTrain 72 (λ (p : PlainTextValue). p.dir) IsPlainText plain_text_reading (packet_from plain_text_from)
 unfolding plain_text_from

@@ -1,5 +1,5 @@
 -- Lemmas about specs/TrackConditions.antt.
-use Rattle.std.proofs.Common.{◌≡◌, ℕ, ◌+◌, ◌*◌, ◌≤◌, List, length, Decides, refl, ap, ◌∙◌, arith, inl, inr}
+use Rattle.std.proofs.Common.{◌≡◌, ℕ, ◌+◌, ◌*◌, ◌≤◌, List, length, Decides, refl, ap, arith, inl, inr}
 use Rattle.etcs_vars.specs.declared.var.Var.TheVariants.{Q_SCALE, Q_TRACKINIT, D_TRACKINIT}
 use Rattle.etcs_vars.specs.Reading.{spelled}
 use Rattle.etcs_tables.specs.declared.row.Way.TheVariants.{ToTrain}
@@ -20,6 +20,7 @@ use Rattle.etcs_tables.specs.Rows.{condition, ◌▸◌}
 use Rattle.etcs_parts.specs.Conditions.{ConditionValue, IsCondition, condition_reading}
 use Rattle.etcs_parts.specs.laws.Conditions.{condition_codes, condition_most}
 use Rattle.etcs_parts.specs.laws.Equality.{condition_exact}
+use Rattle.etcs_grouped.specs.laws.Fronts.{after_front}
 use Rattle.etcs_grouped.specs.TrackConditions.{StateValue, IsState, state_reading, state_from, state_eq, TrackConditionValue, track_condition_reading, track_condition_eq, body_of, track_condition_of, IsTrackCondition, track_condition_from}
 
 -- ---- The state.
@@ -54,9 +55,7 @@ state_exact (inr d) (inr e) = let k = both_exact condition_exact (list_exact con
 -- ---- The packet.
 
 pub track_condition_length : (p : TrackConditionValue) (a : ℕ) → a ≡ length (spelled (state_reading p.state)) → 2 + a ≡ length (spelled (track_condition_reading p))
-track_condition_length p a h =
-    let e = h ∙ bit_count_is (state_reading p.state) in
-    rw (bit_count_is (track_condition_reading p)) (omega arith)
+track_condition_length p a h = after_front (track_condition_reading p) (state_reading p.state) 2 a (omega arith) h
 
 track_condition_small : (p : TrackConditionValue) → IsTrackCondition p → length (spelled (track_condition_reading p)) ≤ 1096
 track_condition_small p h =

@@ -113,9 +113,9 @@ most_of_group true n h = omega arith
 most_of_group false n h = h
 
 -- all of 31 sections, the end section and every group
-pub authority_small : (p : AuthorityValue) → authority_fault p ≡ None → length (spelled (authority_reading p)) ≤ 1414
+pub authority_small : (p : AuthorityValue) → IsAuthority p → length (spelled (authority_reading p)) ≤ 1414
 authority_small p h =
-    let few = few_sections p h in
+    let few = few_sections p h.faultless in
     let flat = bit_count-flat section_reading 41 section_most p.sections in
     let sections = bit_count-append (list_reading N_ITER section_reading p.sections) (end_reading p.end ++ groups_reading p) in
     let end = bit_count-append (end_reading p.end) (groups_reading p) in

@@ -14,5 +14,5 @@ returns-clause-small c =
     let i = c.self.inside in
     let p = authority_value i.sections i.end i.end_timer i.danger_point i.overlap in
     let whole = authority_bits p c.bits_of_all.result c.bits.result c.group_bits.result (rw c.as_slice.ensures at c.bits_of_all.ensures.bits) c.bits.ensures.bits (rw (← c.self.view_is) at c.group_bits.ensures.bits) in
-    let most = authority_small p c.self.invariant.faultless in
+    let most = authority_small p c.self.invariant in
     omega arith

@@ -35,6 +35,9 @@ bit_read v zero h = refl
 bit_read v (suc zero) h = refl
 bit_read v (suc (suc n)) h = absurd (omega arith)
 
+pub byte_read : (v : Var) (n : ℕ) (t : List Bool) → n < 2 → t ≡ part 7 1 (bits (n ∷ [])) → ◌≡◌ {A = Reading} (kept v t) ((v, n) ∷ [])
+byte_read v n t h e = ap (kept v) (e ∙ byte_bit n h) ∙ bit_read v n h
+
 -- and as a number of one bit
 pub bit_number : (v : Var) (n : ℕ) → n < 2 → ◌≡◌ {A = Reading} (kept v (num 1 n)) ((v, n) ∷ [])
 unfolding num

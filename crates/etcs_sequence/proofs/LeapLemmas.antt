@@ -38,6 +38,7 @@ use Rattle.etcs_sequence.specs.declared.stage.Stage.TheVariants.{Number, Row, Ke
 use Rattle.etcs_sequence.specs.declared.stage.Event.{Event}
 use Rattle.etcs_sequence.specs.Lefts.{left_of, is_stage, keeps_at, Becomes, Here, After, HoldsAt, Moved}
 use Rattle.etcs_sequence.specs.AtOnce.{Holds, WholeAt}
+use Rattle.etcs_sequence.proofs.PacketLemmas.{Taken, taken}
 use Rattle.etcs_sequence.proofs.PacketLemmas.{held_whole}
 use Rattle.etcs_sequence.specs.laws.Framed.{typed_framed, kept_three, kept_two_hundred, some_direction}
 use Rattle.etcs_sequence.specs.declared.stage.Keep.TheVariants as keep
@@ -152,10 +153,10 @@ same_row s a b nid dir row is (r, at) =
     let direction : b ≡ dir = cc in
     rw (number, direction) at is
 
--- by the numbers of the variables
-pub run_here : (c : Carrier) (s s' : Stage) (p : Reading) (n : List ℕ) (e : Event) → numbers p ≡ n → ((f : List ℕ) (k : List Bool) (h : Reading) → Here c s f k h → After c s' (f ++ numbers p) k (h ++ p) e)
-    → (f : List ℕ) (k : List Bool) (h : Reading) → Here c s f k h → After c s' (f ++ n) k (h ++ p) e
-run_here c s s' p n e is here f k h i = subst (λ (m : List ℕ). After c s' (f ++ m) k (h ++ p) e) is (here f k h i)
+-- by several numbers of a row
+pub run_taken : (c : Carrier) (s s' : Stage) (p : Reading) (n : List ℕ) (e : Event) (H M : Holds) → numbers p ≡ n → ((vs : List PacketValue) (f : List ℕ) (k : List Bool) → H vs f k → M vs (f ++ n) k)
+    → ((f : List ℕ) (k : List Bool) (h : Reading) → Here c s f k h → After c s' (f ++ numbers p) k (h ++ p) e) → (q : Reading) → HoldsAt c s H q → Taken c s' M e (q ++ p)
+run_taken c s s' p n e H M is absorbed here = taken c s s' (λ f. f ++ numbers p) (λ k. k) p e H M (rw is absorbed) here
 
 module _ (c : Carrier) (room : ℕ) (s : Stage) (nid dir : ℕ) (row left : RowRest) (p : Reading) (e : s ≡ Row nid dir row) (goes : Goes (left_of c room s)) (more : Goes (ReadsIn left.place left.len)) (to : ReadTo row.place row.len p left.place left.len) where
   -- something continues after them

@@ -31,6 +31,7 @@ pub mod FilledLaws
 pub mod FrontLaws
 pub mod KeptLaws
 pub mod LabelLaws
+pub mod Leaps
 pub mod StageLaws
 pub mod ThenLaws
 pub mod Turns

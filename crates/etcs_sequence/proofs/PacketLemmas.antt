@@ -22,8 +22,9 @@ use Rattle.etcs_sequence.specs.AtOnce.{Holds}
 use Rattle.etcs_sequence.specs.Contents.{Carries}
 use Rattle.etcs_sequence.specs.declared.stage.Stage.{Stage}
 use Rattle.etcs_sequence.specs.declared.stage.Event.{Event}
+use Rattle.etcs_sequence.specs.declared.stage.Keep.{Keep}
 use Rattle.etcs_sequence.specs.declared.stage.Stage.TheVariants.{Direction, Row, Kept, Closed}
-use Rattle.etcs_sequence.specs.Lefts.{next_of, is_closed, may_grow, keeps_at, Here, After, Becomes, HoldsAt}
+use Rattle.etcs_sequence.specs.Lefts.{next_of, is_closed, may_grow, keeps_at, numbers_with, bits_with, Here, After, Becomes, HoldsAt}
 use Rattle.etcs_sequence.specs.laws.Framed.{frame_between}
 use Rattle.etcs_sequence.specs.laws.RunSteps.{carried_packet}
 use Rattle.etcs_sequence.specs.declared.stage.Keep.TheVariants as keep
@@ -131,14 +132,38 @@ grows_whole c s s' x n e f k h next b here other = refl
 
 -- ---- More variables.
 
--- by the variables p the numbers and the bits that are held become those that F and K give
-module _ (way : Way) (c : Carrier) (to : way_of c ≡ way) (s s' : Stage) (F : List ℕ → List ℕ) (K : List Bool → List Bool) (p : Reading) (e : Event) (H M : Holds) (absorbed : (vs : List PacketValue) (f : List ℕ) (k : List Bool) → H vs f k → M vs (F f) (K k))
-    (after : (f : List ℕ) (k : List Bool) (h : Reading) → Here c s f k h → After c s' (F f) (K k) (h ++ p) e) where
-  pub event_held : (q : Reading) → HoldsAt c s H q → (d : Carrier) × ((t : Stage) × ((vs : List PacketValue) × ((f : List ℕ) × ((k : List Bool) × ((h : Reading) × ((way_of d ≡ way) × (M vs f k × After d t f k h e)))))))
-  event_held q (vs, f, k, h, held, all, here, eq) = (c, (s', (vs, (F f, (K k, (h ++ p, (to, (absorbed vs f k held, after f k h here))))))))
+-- after the variables t the store holds M, and e may make a packet of it
+pub record Taken (c : Carrier) (s : Stage) (M : Holds) (e : Event) (t : Reading) : Type 0 where
+  pub whole : List PacketValue
+  pub numbers : List ℕ
+  pub bits : List Bool
+  pub last : Reading
+  pub held : M whole numbers bits
+  pub carried : All (Carries c) whole
+  pub after : After c s numbers bits last e
+  pub reading_is : t ≡ readings_to (way_of c) whole ++ last
 
-  pub more_held : (N : Holds) (c' : Carrier) → c' ≡ c → Finishes way M N e → (q : Reading) → HoldsAt c s H q → HoldsAt c' s' N (q ++ p)
-  more_held N c' same fin q (vs, f, k, h, held, all, here, eq) =
-      let new = fin c s' vs (F f) (K k) (h ++ p) to (absorbed vs f k held) all (after f k h here) in
-      let whole : q ++ p ≡ readings_to (way_of c) vs ++ (h ++ p) = ap (λ (t : Reading). t ++ p) eq ∙ append_assoc (readings_to (way_of c) vs) h p in
-      rw (same, whole) new
+-- by the variables p the numbers and the bits that are held become those that F and K give
+pub taken : (c : Carrier) (s s' : Stage) (F : List ℕ → List ℕ) (K : List Bool → List Bool) (p : Reading) (e : Event) (H M : Holds) → ((vs : List PacketValue) (f : List ℕ) (k : List Bool) → H vs f k → M vs (F f) (K k))
+    → ((f : List ℕ) (k : List Bool) (h : Reading) → Here c s f k h → After c s' (F f) (K k) (h ++ p) e) → (q : Reading) → HoldsAt c s H q → Taken c s' M e (q ++ p)
+taken c s s' F K p e H M absorbed after q (vs, f, k, h, held, all, here, eq) = record {
+  whole = vs;
+  numbers = F f;
+  bits = K k;
+  last = h ++ p;
+  held = absorbed vs f k held;
+  carried = all;
+  after = after f k h here;
+  reading_is = ap (λ (t : Reading). t ++ p) eq ∙ append_assoc (readings_to (way_of c) vs) h p;
+}
+
+-- by a number, which is kept so
+pub number_taken : (c : Carrier) (s s' : Stage) (x : Var) (n : ℕ) (e : Event) (H M : Holds) (keep : Keep) → keep ≡ keeps_at s → ((vs : List PacketValue) (f : List ℕ) (k : List Bool) → H vs f k → M vs (numbers_with keep f n) (bits_with keep k n))
+    → Becomes c s x n e s' → (q : Reading) → HoldsAt c s H q → Taken c s' M e (q ++ (x, n) ∷ [])
+number_taken c s s' x n e H M keep same absorbed here = taken c s s' (λ f. numbers_with (keeps_at s) f n) (λ k. bits_with (keeps_at s) k n) ((x, n) ∷ []) e H M (rw same at absorbed) here
+
+pub event_held : (way : Way) {c : Carrier} {s : Stage} {M : Holds} {e : Event} {t : Reading} → way_of c ≡ way → Taken c s M e t → (d : Carrier) × ((t : Stage) × ((vs : List PacketValue) × ((f : List ℕ) × ((k : List Bool) × ((h : Reading) × ((way_of d ≡ way) × (M vs f k × After d t f k h e)))))))
+event_held way {c} {s} to x = (c, (s, (x.whole, (x.numbers, (x.bits, (x.last, (to, (x.held, x.after))))))))
+
+pub more_held : (way : Way) {c : Carrier} {s : Stage} {M : Holds} {e : Event} {t : Reading} → way_of c ≡ way → (N : Holds) (c' : Carrier) → c' ≡ c → Finishes way M N e → Taken c s M e t → HoldsAt c' s N t
+more_held way {c} {s} to N c' same fin x = rw (same, x.reading_is) (fin c s x.whole x.numbers x.bits x.last to x.held x.carried x.after)

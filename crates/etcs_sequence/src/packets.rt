@@ -16,7 +16,7 @@ ghost use Rattle.etcs_sequence.specs.declared.stage.Stage.{Stage};
 ghost use Rattle.etcs_sequence.specs.Lefts.{Here, next_of, left_of, ahead, is_closed, may_grow, numbers_with, bits_with, After, Moved, HoldsAt};
 ghost use Rattle.etcs_sequence.specs.laws.LeftLaws.{left_regular, left_begins, left_ended, moved_none, moved_along, held_none, held_along};
 
-use crate::parts::{bits_at, direction_at, length_at, number_at};
+use crate::parts::{bits_at, direction_at, length_at, number_at, run_at};
 use crate::stage::{Event, Keep, Stage};
 use crate::state::PacketsState;
 use crate::store::PacketStore;
@@ -34,6 +34,19 @@ pub struct PacketsRest<S: PacketStore> {
     pub store: S,
     pub ghost way: { way_of left.carrier ≡ S.WAY },
     pub ghost held: { ∥ (is_closed left.stage ≡ false → ((q : Reading) × HoldsAt left.carrier left.stage (S.holds store) q)) ∥₁ },
+}
+
+/// What the store answered. Where it was refused memory, nothing more is wanted, and the function returns.
+macro_rules! stored {
+    ($this:ident, $answer:expr) => {
+        match $answer {
+            Ok(value) => value,
+            Err(error) => {
+                $this.left.close();
+                return Err(error);
+            }
+        }
+    };
 }
 
 /// Keeps what a number says, which goes to a row's numbers or to kept bits.
@@ -151,20 +164,13 @@ impl<S: PacketStore> PacketsRest<S> {
         let frame = frame_bits(way);
         let nid = number_at(piece, at, 8) as u8;
         let dir = direction_at(way, piece, at);
-        match self
-            .store
-            .whole(nid, dir, bits_at(piece, at + frame, len - frame))
-        {
-            Ok(true) => {
-                self.left.skip(len);
-                Ok(Some(len))
-            }
-            Ok(false) => Ok(None),
-            Err(error) => {
-                self.left.close();
-                Err(error)
-            }
+        let body = bits_at(piece, at + frame, len - frame);
+        let whole = stored!(self, self.store.whole(nid, dir, body));
+        if !whole {
+            return Ok(None);
         }
+        self.left.skip(len);
+        Ok(Some(len))
     }
 
     /// Takes packet 255, or the typed packet that begins at `at`, where it lies whole in the piece, and says how many
@@ -181,10 +187,7 @@ impl<S: PacketStore> PacketsRest<S> {
         if let Some(count) = self.leap_closing(piece, at) {
             return Ok(Some(count));
         }
-        match self.leap_packet(piece, at) {
-            Ok(taken) => Ok(taken),
-            Err(error) => Err(error),
-        }
+        self.leap_packet(piece, at)
     }
 
     /// Takes the next variables of a row as far as the piece has them whole, where the row can end in its bits after them,
@@ -212,22 +215,14 @@ impl<S: PacketStore> PacketsRest<S> {
         let Some(run) = RowRun::ahead(row, piece, at) else {
             return Ok(None);
         };
-        match absorb_numbers(&mut self.store, run.numbers.as_slice()) {
-            Ok(()) => {}
-            Err(error) => {
-                self.left.close();
-                return Err(error);
-            }
-        }
+        stored!(
+            self,
+            absorb_numbers(&mut self.store, run.numbers.as_slice())
+        );
         let taken = run.bits;
         let event = self.left.pass_to(nid, dir, run.rest);
-        match finish(&mut self.store, event) {
-            Ok(()) => Ok(Some(taken)),
-            Err(error) => {
-                self.left.close();
-                Err(error)
-            }
-        }
+        stored!(self, finish(&mut self.store, event));
+        Ok(Some(taken))
     }
 
     /// Takes a run of OTHER_DATA, of which `left` bits are wanted, and says how many bits it was.
@@ -248,22 +243,12 @@ impl<S: PacketStore> PacketsRest<S> {
         ensures err { OnErr result (S.fails × IsTrue (may_grow self.old.left.stage)) }
         ensures viable { OnErr result (Viable (left_of self.old.left.carrier self.old.left.room self.old.left.stage) (part at 1 (bits piece.now))) }
     {
-        let count = left.min(piece.len() * 8 - at);
-        match self.store.bits(&bits_at(piece, at, count)) {
-            Ok(()) => {}
-            Err(error) => {
-                self.left.close();
-                return Err(error);
-            }
-        }
+        let run = run_at(piece, at, left);
+        let count = run.len();
+        stored!(self, self.store.bits(&run));
         let event = self.left.pass_bits(nid, dir, left, count);
-        match finish(&mut self.store, event) {
-            Ok(()) => Ok(Some(count)),
-            Err(error) => {
-                self.left.close();
-                Err(error)
-            }
-        }
+        stored!(self, finish(&mut self.store, event));
+        Ok(Some(count))
     }
 }
 
@@ -288,21 +273,10 @@ impl<S: PacketStore> Rest for PacketsRest<S> {
 
     fn pass(&mut self, var: Var, number: u64) -> Result<(), AllocError> {
         let keep = self.left.keeps();
-        match absorb(&mut self.store, keep, number) {
-            Ok(()) => {}
-            Err(error) => {
-                self.left.close();
-                return Err(error);
-            }
-        }
+        stored!(self, absorb(&mut self.store, keep, number));
         let event = self.left.pass(var, number);
-        match finish(&mut self.store, event) {
-            Ok(()) => Ok(()),
-            Err(error) => {
-                self.left.close();
-                Err(error)
-            }
-        }
+        stored!(self, finish(&mut self.store, event));
+        Ok(())
     }
 
     #[inline]

@@ -8,7 +8,7 @@ ghost use Rattle.etcs_packets.specs.PacketReadings.{packets_reading};
 ghost use Rattle.etcs_sequence.specs.Refs.{ArePackets, spellings};
 
 use crate::packets_in::Packets;
-pub use crate::pieces::{bits_at, cut_in, number_at, number_in};
+pub use crate::pieces::{bits_at, cut_in, number_at, number_in, run_at};
 pub use crate::run::take_run;
 pub use crate::whole::{direction_at, length_at};
 use etcs_bits::BitSlice;

@@ -14,6 +14,19 @@ pub fn bits_at<'a>(piece: &'a [u8], at: usize, count: usize) -> BitSlice<'a>
     slice_in(piece, at, count)
 }
 
+/// The bits of a piece from here on, at most this many.
+pub fn run_at<'a>(piece: &'a [u8], at: usize, most: usize) -> BitSlice<'a>
+    requires inside { at < length (bits piece.now) }
+    requires small { length (bits piece.now) < 2 ^ 64 }
+    ensures bits { result ≡ part at (length result) (bits piece.now) }
+    ensures within { length result ≤ most }
+    ensures inside { at + length result ≤ length (bits piece.now) }
+    ensures some { 0 < most → 0 < length result }
+{
+    let count = most.min(piece.len() * 8 - at);
+    bits_at(piece, at, count)
+}
+
 /// This many bits of a piece, which holds them, as a number.
 pub fn number_at(piece: &[u8], at: usize, count: usize) -> u64
     requires width { count ≤ 64 }

@@ -1,12 +1,8 @@
-use Rattle.std.proofs.Common.{List, ℕ, Bool, [], ◌∷◌, ◌++◌, sym, ap, ◌∙◌}
+use Rattle.std.proofs.Common.{[], ◌∷◌, ◌++◌, sym, ap, ◌∙◌}
 use Rattle.std.proofs.Math.Logic.{∥∥₁_elim, ∥∥₁_map}
-use Rattle.etcs_vars.specs.Reading.{Reading}
 use Rattle.etcs_rows.specs.Frames.{way_of}
-use Rattle.etcs_sequence.specs.Lefts.{HoldsAt, keeps_at, numbers_with, bits_with}
-use Rattle.etcs_sequence.proofs.PacketLemmas.{true_prop, open_next, kept_room, grows_kept, grows_whole, event_held, more_held}
-use Rattle.etcs_sequence.proofs.packets.PacketsRestRest.pass.Given.{Over}
+use Rattle.etcs_sequence.proofs.PacketLemmas.{true_prop, open_next, kept_room, grows_kept, grows_whole, number_taken, event_held, more_held}
 use Rattle.etcs_sequence.proofs.packets.PacketsRestRest.pass.Goals as goal
-use Rattle.etcs_sequence.proofs.packets.PacketsRestRest.pass.Goals.{In-Ok-finish}
 
 pub absorb-requires : goal.absorb-requires
 absorb-requires g c =
@@ -21,37 +17,22 @@ returns-in-Err-clause-err g c =
 pub finish-requires : goal.finish-requires
 finish-requires g c =
     let s = c.args.self.now.left in
-    let keep = keeps_at s.stage in
-    let F = λ (f : List ℕ). numbers_with keep f c.args.number in
-    let K = λ (k : List Bool). bits_with keep k c.args.number in
-    let p : Reading = (c.args.var, c.args.number) ∷ [] in
-    let H = g.S.PacketStore.holds c.args.self.now.store in
-    let M = g.S.PacketStore.holds c.absorb.new.store in
-    let absorbed = rw c.keeps-keep.ensures at c.in-Ok.ensures.ok in
-    let here = c.pass-event.ensures.here in
-    ∥∥₁_map c.args.self.now.held (λ old. let w = old (open_next s.stage c.args.var c.requires.next) in event_held g.S.PacketStore.WAY s.carrier c.args.self.now.way s.stage c.pass-event.new.self.stage F K p c.pass-event.result H M absorbed here w.0 w.1)
-
--- what is held with the number
-passed_held : (g : Over) (c : In-Ok-finish g) (q : Reading) → HoldsAt c.args.self.now.left.carrier c.args.self.now.left.stage (g.S.PacketStore.holds c.args.self.now.store) q
-    → HoldsAt c.pass-event.new.self.carrier c.pass-event.new.self.stage (g.S.PacketStore.holds c.finish.new.store) (q ++ (c.args.var, c.args.number) ∷ [])
-passed_held g c =
-    let s = c.args.self.now.left in
-    let keep = keeps_at s.stage in
-    let F = λ (f : List ℕ). numbers_with keep f c.args.number in
-    let K = λ (k : List Bool). bits_with keep k c.args.number in
-    let p : Reading = (c.args.var, c.args.number) ∷ [] in
-    let H = g.S.PacketStore.holds c.args.self.now.store in
-    let M = g.S.PacketStore.holds c.absorb.new.store in
-    let absorbed = rw c.keeps-keep.ensures at c.in-Ok.ensures.ok in
-    more_held g.S.PacketStore.WAY s.carrier c.args.self.now.way s.stage c.pass-event.new.self.stage F K p c.pass-event.result H M absorbed c.pass-event.ensures.here (g.S.PacketStore.holds c.finish.new.store) c.pass-event.new.self.carrier c.pass-event.ensures.moved.same c.in-Ok-finish.ensures.ok
+    let by = number_taken s.carrier s.stage c.pass-event.new.self.stage c.args.var c.args.number c.pass-event.result (g.S.PacketStore.holds c.args.self.now.store) (g.S.PacketStore.holds c.absorb.new.store) c.keeps-keep.result c.keeps-keep.ensures c.in-Ok.ensures.ok c.pass-event.ensures.here in
+    ∥∥₁_map c.args.self.now.held (λ old. let w = old (open_next s.stage c.args.var c.requires.next) in event_held g.S.PacketStore.WAY c.args.self.now.way (by w.0 w.1))
 
 pub invariant_of-self-in-Ok-finish : goal.invariant_of-self-in-Ok-finish
 invariant_of-self-in-Ok-finish g c =
-    let held = passed_held g (goal.at.invariant_of-self-in-Ok-finish g c).In-Ok-finish in
-    record { way = ap way_of c.pass-event.ensures.moved.same ∙ c.args.self.now.way; held = ∥∥₁_map c.args.self.now.held (λ old closed. let w = old (open_next c.args.self.now.left.stage c.args.var c.requires.next) in (w.0 ++ (c.args.var, c.args.number) ∷ [], held w.0 w.1)) }
+    let s = c.args.self.now.left in
+    let same = c.pass-event.ensures.moved.same in
+    let by = number_taken s.carrier s.stage c.pass-event.new.self.stage c.args.var c.args.number c.pass-event.result (g.S.PacketStore.holds c.args.self.now.store) (g.S.PacketStore.holds c.absorb.new.store) c.keeps-keep.result c.keeps-keep.ensures c.in-Ok.ensures.ok c.pass-event.ensures.here in
+    record { way = ap way_of same ∙ c.args.self.now.way; held = ∥∥₁_map c.args.self.now.held (λ old closed. let w = old (open_next s.stage c.args.var c.requires.next) in (w.0 ++ (c.args.var, c.args.number) ∷ [], more_held g.S.PacketStore.WAY c.args.self.now.way (g.S.PacketStore.holds c.finish.new.store) c.pass-event.new.self.carrier same c.in-Ok-finish.ensures.ok (by w.0 w.1))) }
 
-pub returns-in-Ok-finish-clause-ok : goal.returns-in-Ok-finish-clause-ok
-returns-in-Ok-finish-clause-ok g c = (c.pass-event.ensures.moved, passed_held g (goal.at.returns-in-Ok-finish-clause-ok g c).In-Ok-finish)
+pub returns-clause-ok : goal.returns-clause-ok
+returns-clause-ok g c =
+    let s = c.args.self.now.left in
+    let moved = c.pass-event.ensures.moved in
+    let by = number_taken s.carrier s.stage c.pass-event.new.self.stage c.args.var c.args.number c.pass-event.result (g.S.PacketStore.holds c.args.self.now.store) (g.S.PacketStore.holds c.absorb.new.store) c.keeps-keep.result c.keeps-keep.ensures c.in-Ok.ensures.ok c.pass-event.ensures.here in
+    (moved, λ q h. more_held g.S.PacketStore.WAY c.args.self.now.way (g.S.PacketStore.holds c.finish.new.store) c.pass-event.new.self.carrier moved.same c.in-Ok-finish.ensures.ok (by q h))
 
 pub returns-in-Err-finish-clause-err : goal.returns-in-Err-finish-clause-err
 returns-in-Err-finish-clause-err g c =

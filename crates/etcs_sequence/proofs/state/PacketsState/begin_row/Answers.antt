@@ -20,9 +20,7 @@ overflow_sub-length c =
     rw (c.frame_bits.ensures.bits, c.way.ensures) w.0
 
 pub overflow_sub-self : goal.overflow_sub-self
-overflow_sub-self c =
-    let s = c.args.self.now in
-    (length_whole s.carrier c.args.nid s.room c.args.length (rw c.requires.stage at c.requires.goes)).2
+overflow_sub-self c = let s = c.args.self.now in (length_whole s.carrier c.args.nid s.room c.args.length (rw c.requires.stage at c.requires.goes)).2
 
 pub begin-left-requires : goal.begin-left-requires
 begin-left-requires c =
@@ -30,29 +28,25 @@ begin-left-requires c =
     let some = some_after s.carrier c.args.nid s.room c.args.length (rw c.requires.stage at c.requires.goes) in
     rw (c.frame_bits.ensures.bits, c.way.ensures) (row_lengths s.carrier c.args.nid s.room c.args.length (layout c.args.row.items.now) c.requires.row some)
 
-pub returns-then-is_none-clause-moved : goal.returns-then-is_none-clause-moved
-returns-then-is_none-clause-moved c =
+pub returns-then-is_none : goal.returns-then-is_none
+returns-then-is_none c =
     let s = c.args.self.now in
     let a = c.args in
     let b = c.behind_packet-self in
     let v = c.begin-left.result in
+    let goes = rw c.requires.stage at c.requires.goes in
     let w = rw (c.frame_bits.ensures.bits, c.way.ensures) at c.begin-left.ensures in
     let none = rw c.var.ensures at (none_is c.var.result c.if-is_none.ensures) in
-    let m = row_begun s.carrier a.nid a.dir s.room a.length (layout a.row.items.now) v (rw c.requires.stage at c.requires.goes) c.requires.row w.0 w.1 in
-    rw c.requires.stage (row_whole s.carrier s.room (Length a.nid a.dir) ((L_PACKET, a.length) ∷ []) s.carrier (s.room - a.length) a.nid a.dir v b.result m none w.2 b.ensures.same b.ensures.ahead)
-
-pub returns-then-is_none-clause-here : goal.returns-then-is_none-clause-here
-returns-then-is_none-clause-here c f k h here =
-    let s = c.args.self.now in
-    let a = c.args in
-    let v = c.begin-left.result in
-    let w = rw (c.frame_bits.ensures.bits, c.way.ensures) at c.begin-left.ensures in
-    let i = rw c.requires.stage at here in
     let stands : IsTrue (is_stage s.carrier s.room s.stage) = s.stands in
     let directed = (and_both (is_framed (way_of s.carrier) a.nid) (is_direction (way_of s.carrier) a.dir) (rw c.requires.stage at stands)).1 in
-    let none = rw c.var.ensures at (none_is c.var.result c.if-is_none.ensures) in
-    let begun = here_begun s.carrier s.room a.nid a.dir a.length (layout a.row.items.now) v h (rw c.requires.stage at c.requires.goes) c.requires.row w.0 w.1 i.2 in
-    rw (c.requires.stage, i.0) (i.1, here_whole s.carrier a.nid a.dir v [] (h ++ (L_PACKET, a.length) ∷ []) directed none w.2 begun, c.behind_packet-self.ensures.here)
+    let m = row_begun s.carrier a.nid a.dir s.room a.length (layout a.row.items.now) v goes c.requires.row w.0 w.1 in
+    record {
+      moved = rw c.requires.stage (row_whole s.carrier s.room (Length a.nid a.dir) ((L_PACKET, a.length) ∷ []) s.carrier (s.room - a.length) a.nid a.dir v b.result m none w.2 b.ensures.same b.ensures.ahead);
+      here = λ f k h here.
+          let i = rw c.requires.stage at here in
+          let begun = here_begun s.carrier s.room a.nid a.dir a.length (layout a.row.items.now) v h goes c.requires.row w.0 w.1 i.2 in
+          rw (c.requires.stage, i.0) (i.1, here_whole s.carrier a.nid a.dir v [] (h ++ (L_PACKET, a.length) ∷ []) directed none w.2 begun, b.ensures.here);
+    }
 
 pub invariant_of-self-2 : goal.invariant_of-self-2
 invariant_of-self-2 c =
@@ -62,16 +56,15 @@ invariant_of-self-2 c =
     let some : is_some (first_variable c.begin-left.result.place) ≡ true = rw c.var.ensures at c.if-is_none.ensures in
     record { small = omega (arith, s.small); stands = rw (c.requires.row, directed) some }
 
-pub returns-clause-moved : goal.returns-clause-moved
-returns-clause-moved c =
+pub returns : goal.returns
+returns c =
     let s = c.args.self.now in
+    let a = c.args in
+    let goes = rw c.requires.stage at c.requires.goes in
     let w = rw (c.frame_bits.ensures.bits, c.way.ensures) at c.begin-left.ensures in
-    rw c.requires.stage (row_begun s.carrier c.args.nid c.args.dir s.room c.args.length (layout c.args.row.items.now) c.begin-left.result (rw c.requires.stage at c.requires.goes) c.requires.row w.0 w.1)
-
-pub returns-clause-here : goal.returns-clause-here
-returns-clause-here c f k h here =
-    let s = c.args.self.now in
-    let w = rw (c.frame_bits.ensures.bits, c.way.ensures) at c.begin-left.ensures in
-    let i = rw c.requires.stage at here in
-    let begun = here_begun s.carrier s.room c.args.nid c.args.dir c.args.length (layout c.args.row.items.now) c.begin-left.result h (rw c.requires.stage at c.requires.goes) c.requires.row w.0 w.1 i.2 in
-    rw (c.requires.stage, i.0) (i.1, begun)
+    record {
+      moved = rw c.requires.stage (row_begun s.carrier a.nid a.dir s.room a.length (layout a.row.items.now) c.begin-left.result goes c.requires.row w.0 w.1);
+      here = λ f k h here.
+          let i = rw c.requires.stage at here in
+          rw (c.requires.stage, i.0) (i.1, here_begun s.carrier s.room a.nid a.dir a.length (layout a.row.items.now) c.begin-left.result h goes c.requires.row w.0 w.1 i.2);
+    }

@@ -17,57 +17,32 @@ invariant_of-self c =
     let framed : IsTrue (is_framed (way_of s.carrier) c.args.number) = rw c.way-way.ensures at (sym c.is_framed.ensures ∙ c.if-is_framed.true) in
     record { small = s.small; stands = rw (c.behind_framed-self.ensures, c.way-way.ensures) (framed_stands s.carrier s.room c.args.number framed) }
 
-pub returns-then-is_framed-clause-moved : goal.returns-then-is_framed-clause-moved
-returns-then-is_framed-clause-moved c =
+pub returns-then-is_framed : goal.returns-then-is_framed
+returns-then-is_framed c =
     let s = c.args.self.now in
     let more = rw c.requires.stage at s.stands in
     let goes = rw c.requires.stage at c.requires.goes in
     let framed : IsTrue (is_framed (way_of s.carrier) c.args.number) = rw c.way-way.ensures at (sym c.is_framed.ensures ∙ c.if-is_framed.true) in
-    rw (c.requires.stage, c.behind_framed-self.ensures, c.way-way.ensures) (framed_moved s.carrier s.room c.args.number more goes framed)
+    rw (c.requires.stage, c.behind_framed-self.ensures, c.way-way.ensures) record { moved = framed_moved s.carrier s.room c.args.number more goes framed; here = framed_here s.carrier s.room c.args.number more goes }
 
-pub returns-then-is_framed-clause-here : goal.returns-then-is_framed-clause-here
-returns-then-is_framed-clause-here c =
-    let s = c.args.self.now in
-    let more = rw c.requires.stage at s.stands in
-    let goes = rw c.requires.stage at c.requires.goes in
-    rw (c.requires.stage, c.behind_framed-self.ensures, c.way-way.ensures) (framed_here s.carrier s.room c.args.number more goes)
-
-pub returns-then-nid-clause-moved : goal.returns-then-nid-clause-moved
-returns-then-nid-clause-moved c =
+pub returns-then-nid : goal.returns-then-nid
+returns-then-nid c =
     let s = c.args.self.now in
     let more = rw c.requires.stage at s.stands in
     let goes = rw c.requires.stage at c.requires.goes in
     let unframed : is_framed (way_of s.carrier) c.args.number ≡ false = rw c.way-way.ensures at (sym c.is_framed.ensures ∙ c.if-is_framed.false) in
-    rw c.requires.stage (closing_moved s.carrier s.room c.args.number more goes unframed c.if-nid.true)
-
-pub returns-then-nid-clause-here : goal.returns-then-nid-clause-here
-returns-then-nid-clause-here c =
-    let s = c.args.self.now in
-    let more = rw c.requires.stage at s.stands in
-    let goes = rw c.requires.stage at c.requires.goes in
-    let unframed : is_framed (way_of s.carrier) c.args.number ≡ false = rw c.way-way.ensures at (sym c.is_framed.ensures ∙ c.if-is_framed.false) in
-    rw c.requires.stage (closing_here s.carrier s.room c.args.number more goes unframed c.if-nid.true)
+    rw c.requires.stage record { moved = closing_moved s.carrier s.room c.args.number more goes unframed c.if-nid.true; here = closing_here s.carrier s.room c.args.number more goes unframed c.if-nid.true }
 
 pub invariant_of-self-2 : goal.invariant_of-self-2
 invariant_of-self-2 c =
     let s = c.args.self.now in
-    let more = rw c.requires.stage at s.stands in
-    let goes = rw c.requires.stage at c.requires.goes in
     let unframed : is_framed (way_of s.carrier) c.args.number ≡ false = rw c.way-way.ensures at (sym c.is_framed.ensures ∙ c.if-is_framed.false) in
-    record { small = s.small; stands = zero_telegram s.carrier s.room c.args.number more goes unframed c.if-nid.false }
+    record { small = s.small; stands = zero_telegram s.carrier s.room c.args.number (rw c.requires.stage at s.stands) (rw c.requires.stage at c.requires.goes) unframed c.if-nid.false }
 
-pub returns-clause-moved : goal.returns-clause-moved
-returns-clause-moved c =
+pub returns : goal.returns
+returns c =
     let s = c.args.self.now in
     let more = rw c.requires.stage at s.stands in
     let goes = rw c.requires.stage at c.requires.goes in
     let unframed : is_framed (way_of s.carrier) c.args.number ≡ false = rw c.way-way.ensures at (sym c.is_framed.ensures ∙ c.if-is_framed.false) in
-    rw c.requires.stage (zero_moved s.carrier s.room c.args.number more goes unframed c.if-nid.false)
-
-pub returns-clause-here : goal.returns-clause-here
-returns-clause-here c =
-    let s = c.args.self.now in
-    let more = rw c.requires.stage at s.stands in
-    let goes = rw c.requires.stage at c.requires.goes in
-    let unframed : is_framed (way_of s.carrier) c.args.number ≡ false = rw c.way-way.ensures at (sym c.is_framed.ensures ∙ c.if-is_framed.false) in
-    rw c.requires.stage (zero_here s.carrier s.room c.args.number more goes unframed c.if-nid.false)
+    rw c.requires.stage record { moved = zero_moved s.carrier s.room c.args.number more goes unframed c.if-nid.false; here = zero_here s.carrier s.room c.args.number more goes unframed c.if-nid.false }

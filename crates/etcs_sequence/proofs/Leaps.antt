@@ -1,0 +1,29 @@
+-- What a leap over packets comes to, for what reads them in a frame of its own.
+use Rattle.std.proofs.Common.{◌≡◌, ℕ, Bool, List, [], ◌++◌, None, Some, Result, Ok, Err, OnErr, refl}
+use Rattle.std.specs.Prelude.{IsNone, IfSome, Option}
+use mathlib.Core.HLevel.{is_prop→PathP}
+use Rattle.etcs_vars.specs.Reading.{Reading}
+use Rattle.etcs_reader.specs.Rests.{LeapsBy}
+use Rattle.etcs_packets.specs.PacketValues.{PacketValue}
+use Rattle.etcs_sequence.specs.declared.state.PacketsState.{PacketsState}
+use Rattle.etcs_sequence.specs.Lefts.{left_of, HoldsAt, Moved}
+use Rattle.etcs_sequence.specs.laws.LeftLaws.{moved_none, held_none}
+
+-- what holds however a call ended
+pub on_err : {T E P : Type 0} (r : Result T E) → P → OnErr r P
+on_err (Ok x) p = tt
+on_err (Err e) p = p
+
+-- from packets to others by these variables
+abbrev pub Steps : (l l' : PacketsState) (holds holds' : List PacketValue → List ℕ → List Bool → Type 0) → Reading → Type 0
+Steps l l' holds holds' p = Moved l.carrier l.room l.stage p l'.carrier l'.room l'.stage × ((q : Reading) → HoldsAt l.carrier l.stage holds q → HoldsAt l'.carrier l'.stage holds' (q ++ p))
+
+-- a leap that takes nothing goes by no variable
+pub steps : (l l' : PacketsState) (holds holds' : List PacketValue → List ℕ → List Bool → Type 0) (xs : List Bool) (at : ℕ) (o : Option ℕ) → (IsNone o → (l' ≡ l) × (holds' ≡ holds))
+    → IfSome o (λ n. LeapsBy (left_of l'.carrier l'.room l'.stage) (Steps l l' holds holds') xs at n) → (p : Reading) × Steps l l' holds holds' p
+steps l l' holds holds' xs at None same h = ([], rw ((same refl).0, (same refl).1) (moved_none l.carrier l.room l.stage, held_none l.carrier l.stage holds))
+steps l l' holds holds' xs at (Some n) same h = (h.whole, h.follows)
+
+-- what is made of the same, and of two facts about it, is the same
+pub same_made : {A R : Type 0} (P Q : A → Type 0) → ((a : A) (x y : P a) → x ≡ y) → ((a : A) (x y : Q a) → x ≡ y) → (make : (a : A) → P a → Q a → R) → (a b : A) → a ≡ b → (h : P a) (k : Q a) (h' : P b) (k' : Q b) → make a h k ≡ make b h' k'
+same_made P Q one two make a b e h k h' k' i = make (e i) (is_prop→PathP (λ j. P (e j)) (λ j. one (e j)) h h' i) (is_prop→PathP (λ j. Q (e j)) (λ j. two (e j)) k k' i)

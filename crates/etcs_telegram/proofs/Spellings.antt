@@ -111,11 +111,7 @@ abbrev made : Size → HeaderValue → List PacketValue → List Bool → Telegr
 made s h ps f = record { size = s; header = h; packets = ps; fill = f }
 
 parts_one : (t u : TelegramValue) → t.size ≡ u.size → t.header ≡ u.header → t.packets ≡ u.packets → t.fill ≡ u.fill → t ≡ u
-parts_one t u s h p f =
-    ap (λ (x : Size). made x t.header t.packets t.fill) s
-    ∙ ap (λ (x : HeaderValue). made u.size x t.packets t.fill) h
-    ∙ ap (λ (x : List PacketValue). made u.size u.header x t.fill) p
-    ∙ ap (λ (x : List Bool). made u.size u.header u.packets x) f
+parts_one t u s h p f i = made (s i) (h i) (p i) (f i)
 
 pub one_value : (t u : TelegramValue) (r : Reading) → t.size ≡ u.size → TelegramReads t r → TelegramReads u r → t ≡ u
 one_value t u r s x y =
@@ -133,11 +129,7 @@ abbrev pub held : Size → HeaderValue → List Packet → List Bool → Telegra
 held s h ps f = record { size = s; header = h; packets = ps; fill = f }
 
 held_one : (t u : TelegramContent) → t.size ≡ u.size → t.header ≡ u.header → t.packets ≡ u.packets → t.fill ≡ u.fill → t ≡ u
-held_one t u s h p f =
-    ap (λ (x : Size). held x t.header t.packets t.fill) s
-    ∙ ap (λ (x : HeaderValue). held u.size x t.packets t.fill) h
-    ∙ ap (λ (x : List Packet). held u.size u.header x t.fill) p
-    ∙ ap (λ (x : List Bool). held u.size u.header u.packets x) f
+held_one t u s h p f i = held (s i) (h i) (p i) (f i)
 
 -- a value is one telegram's
 pub one_parts : (t u : TelegramContent) → All IsMade t.packets → All IsMade u.packets → telegram_value t ≡ telegram_value u → t ≡ u

@@ -21,7 +21,7 @@ use arrayvec::ArrayVec;
 use etcs_bits::BitSlice;
 use etcs_reader::Rest;
 use etcs_rows::parts::Carrier;
-use etcs_sequence::parts::{bits_at, number_at};
+use etcs_sequence::parts::{bits_at, number_at, run_at};
 use etcs_sequence::{PacketStore, PacketsRest, PacketsState, Stage};
 use etcs_vars::{Var, begins};
 use std::alloc::AllocError;
@@ -110,17 +110,11 @@ impl<S: PacketStore> TelegramRest<S> {
         ensures ok { OnOk result (Follows self.old.size self.old.phase self.old.header.items self.old.packets.left (S.holds self.old.packets.store) ((var, number) ∷ []) self.new.size self.new.phase self.new.header.items self.new.packets.left (S.holds self.new.packets.store)) }
         ensures err { OnErr result (S.fails × IsTrue (may_ask self.old.phase self.old.packets.left)) }
     {
+        self.phase = Phase::Whole;
         let packets = &mut self.packets;
-        match packets.pass(var, number) {
-            Ok(()) => {
-                self.phase = behind_packets(self.size, &packets.left);
-                Ok(())
-            }
-            Err(error) => {
-                self.phase = Phase::Whole;
-                Err(error)
-            }
-        }
+        packets.pass(var, number)?;
+        self.phase = behind_packets(self.size, &packets.left);
+        Ok(())
     }
 
     /// Takes variables of the packets together where a piece has such, and says how many bits they are.
@@ -134,18 +128,11 @@ impl<S: PacketStore> TelegramRest<S> {
         ensures err { OnErr result (S.fails × IsTrue (may_ask self.old.phase self.old.packets.left)) }
         ensures viable { OnErr result (Viable (left_at self.old.size self.old.phase self.old.packets.left) (part at 1 (bits piece.now))) }
     {
+        self.phase = Phase::Whole;
         let packets = &mut self.packets;
-        match packets.leap(piece, at) {
-            Ok(Some(count)) => {
-                self.phase = behind_packets(self.size, &packets.left);
-                Ok(Some(count))
-            }
-            Ok(None) => Ok(None),
-            Err(error) => {
-                self.phase = Phase::Whole;
-                Err(error)
-            }
-        }
+        let leapt = packets.leap(piece, at)?;
+        self.phase = behind_packets(self.size, &packets.left);
+        Ok(leapt)
     }
 
     /// Takes bits of FILL, of which `left` are wanted.
@@ -157,17 +144,11 @@ impl<S: PacketStore> TelegramRest<S> {
         ensures goes { OnOk result (Goes (left_at self.new.size self.new.phase self.new.packets.left)) }
         ensures err { OnErr result (S.fails × IsTrue (may_ask self.old.phase self.old.packets.left)) }
     {
+        self.phase = Phase::Whole;
         let packets = &mut self.packets;
-        match packets.store.bits(slice) {
-            Ok(()) => {
-                self.phase = Phase::after_fill(self.size, left, slice.len());
-                Ok(())
-            }
-            Err(error) => {
-                self.phase = Phase::Whole;
-                Err(error)
-            }
-        }
+        packets.store.bits(slice)?;
+        self.phase = Phase::after_fill(self.size, left, slice.len());
+        Ok(())
     }
 
     /// After a bit of FILL, of which `left` are wanted.
@@ -196,11 +177,9 @@ impl<S: PacketStore> TelegramRest<S> {
         ensures err { OnErr result (S.fails × IsTrue (may_ask self.old.phase self.old.packets.left)) }
         ensures viable { OnErr result (Viable (left_at self.old.size self.old.phase self.old.packets.left) (part at 1 (bits piece.now))) }
     {
-        let count = left.min(piece.len() * 8 - at);
-        match self.fill(left, &bits_at(piece, at, count)) {
-            Ok(()) => Ok(Some(count)),
-            Err(error) => Err(error),
-        }
+        let run = run_at(piece, at, left);
+        self.fill(left, &run)?;
+        Ok(Some(run.len()))
     }
 
     /// After a bit of PAD, of which `left` are wanted.

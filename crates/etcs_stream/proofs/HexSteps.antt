@@ -283,18 +283,3 @@ pub Advances-empty : (kind : Kind) (c : Command) (seen : List Bool) (items : Tol
 unfolding decode_pairs
 Advances-empty kind c seen items text [] h = Advances-none kind c seen items text
 Advances-empty kind c seen items text (x ∷ xs) h = absurd (omega (arith, eqb-true (length (x ∷ xs)) 0 h))
-
--- no text was written since
-pub hex_start : (job : Job) (r : ReaderValue) (n : Told) (begun : List ℕ) (line : ℕ) (given told t : List ℕ) → t ≡ [] → HexStands job r n begun line given told → HexStands job r n begun line given (told ++ t)
-hex_start job r n begun line given told t e h = subst (λ z. HexStands job r n begun line given z) (sym (ap (λ (z : List ℕ). told ++ z) e ∙ append-nil told)) h
-
--- one more line is taken off
-pub cut_line : (piece front rest line behind : List ℕ) → piece ≡ front ++ rest → rest ≡ line ++ 10 ∷ behind → piece ≡ (front ++ (line ++ 10 ∷ [])) ++ behind
-cut_line piece front rest line behind h e =
-    h
-    ∙ ap (λ (z : List ℕ). front ++ z) (e ∙ sym (append_assoc line (10 ∷ []) behind))
-    ∙ sym (append_assoc front (line ++ 10 ∷ []) behind)
-
--- all of the input so far
-pub cut_given : (given piece front rest : List ℕ) → piece ≡ front ++ rest → (given ++ front) ++ rest ≡ given ++ piece
-cut_given given piece front rest e = append_assoc given front rest ∙ ap (λ (z : List ℕ). given ++ z) (sym e)

@@ -24,7 +24,7 @@ use Rattle.etcs_text.specs.declared.entry.Kind.{Kind}
 use Rattle.etcs_text.specs.declared.entry.Kind.TheVariants.{Long, Short, Radio, Train}
 use Rattle.etcs_text.specs.Entries.{EntryValue, of_telegram, of_message, kind_of, message_kind, EntryReads}
 use Rattle.etcs_json.proofs.OneItems.{kind_same, way_same, telegram_message}
-use Rattle.etcs_stream.specs.Readers.{progress_of, telegram_item, reading, finished, Feeds}
+use Rattle.etcs_stream.specs.Readers.{progress_of, telegram_item, reading, Feeds}
 
 abbrev pub Language : Kind → Reading → Type 0
 Language kind = readings_of (EntryReads kind)

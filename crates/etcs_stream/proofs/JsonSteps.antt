@@ -269,7 +269,3 @@ module _ (job : Job) (n : Told) (lines : List (List ℕ)) (told t : List ℕ) (h
   json_not_closed line n' t' t'' l takes same =
       let prints = all_prints line n' t' (line_told job line n n' t t' takes) l in
       (tt, inl (refl, subst (λ (z : List ℕ). Prints job (lines_text lines ++ line) (told ++ z)) (sym same) prints))
-
--- no text was written since
-pub json_start : (job : Job) (n : Told) (lines : List (List ℕ)) (told t : List ℕ) → t ≡ [] → JsonTook job n lines told → JsonTook job n lines (told ++ t)
-json_start job n lines told t e h = subst (λ (z : List ℕ). JsonTook job n lines z) (sym (ap (λ (z : List ℕ). told ++ z) e ∙ append-nil told)) h

@@ -1,5 +1,5 @@
 -- Lines, piece by piece, whatever takes them.
-use Rattle.std.proofs.Common.{◌≡◌, ℕ, ◌+◌, ◌≤◌, Bool, true, eqb, List, [], ◌∷◌, ◌++◌, length, Result, Ok, Err, refl, sym, ap, subst, ◌∙◌, arith, append_assoc, length-append, inl, inr}
+use Rattle.std.proofs.Common.{◌≡◌, ℕ, ◌+◌, ◌<◌, ◌^◌, Bool, true, eqb, List, [], ◌∷◌, ◌++◌, length, Result, Ok, Err, refl, sym, ap, subst, ◌∙◌, arith, append_assoc, length-append, inl, inr}
 use Rattle.std.specs.Prelude.{OnOk, IfErr}
 use Rattle.std.proofs.lemmas.Bool.{eqb-true}
 use Rattle.std.proofs.lemmas.List.{append-nil}
@@ -104,12 +104,17 @@ stops_behind job given more told fault (inl h) = inl (h.0, (h.1.0, first_behind 
 stops_behind job given more told fault (inr h) =
     inr (h.0, h.1, h.2, h.3, λ z. subst (λ (t : List ℕ). ItemsOf job.from job.kind t h.0 h.1) (append_assoc given (10 ∷ []) (more ++ z) ∙ sym (append_assoc given (10 ∷ more) z)) (h.4 (more ++ z)))
 
+-- no text was written since
+pub none_told : (P : List ℕ → Type 0) (told t : List ℕ) → t ≡ [] → P told → P (told ++ t)
+none_told P told t e h = subst P (sym (ap (λ (z : List ℕ). told ++ z) e ∙ append-nil told)) h
+
 -- ---- What is kept of a line.
 
-module _ (Took : List (List ℕ) → List ℕ → Type 0) (begun : List ℕ) (line : ℕ) (given told : List ℕ) (h : LinesStand Took begun line given told) where
-  pub lines_count : line ≤ length given
-  lines_count = omega (arith, h.line_is, lines_few h.lines, ap length h.given_is, length-append (lines_text h.lines) begun)
+-- there are no more lines than a count has
+pub lines_fit : (Took : List (List ℕ) → List ℕ → Type 0) (begun : List ℕ) (line : ℕ) → ((given : List ℕ) × (told : List ℕ) × LinesStand Took begun line given told × (length given < 2 ^ 40)) → line + 1 < 2 ^ 64
+lines_fit Took begun line (given, told, h, short) = omega (arith, h.line_is, lines_few h.lines, ap length h.given_is, length-append (lines_text h.lines) begun, short)
 
+module _ (Took : List (List ℕ) → List ℕ → Type 0) (begun : List ℕ) (line : ℕ) (given told : List ℕ) (h : LinesStand Took begun line given told) where
   part_text : (part : List ℕ) → given ++ part ≡ lines_text h.lines ++ (begun ++ part)
   part_text part = longer_text (lines_text h.lines) begun given part h.given_is
 
@@ -197,7 +202,3 @@ piece_stops job given piece front rest line behind told fault h e (of, stops) =
     let text : (start ++ line) ++ 10 ∷ behind ≡ given ++ piece = append_assoc start line (10 ∷ behind) ∙ ap (λ (z : List ℕ). start ++ z) (sym e) ∙ cut_given given piece front rest h in
     let here : Stops job ((start ++ line) ++ 10 ∷ []) told fault = subst (λ (z : List ℕ). Stops job z told fault) (sym (append_assoc start line (10 ∷ []))) stops in
     (of, subst (λ (z : List ℕ). Stops job z told fault) text (stops_behind job (start ++ line) behind told fault here))
-
--- no text was written since
-pub told_none : (Took : List (List ℕ) → List ℕ → Type 0) (begun : List ℕ) (line : ℕ) (given told t : List ℕ) → t ≡ [] → LinesStand Took begun line given told → LinesStand Took begun line given (told ++ t)
-told_none Took begun line given told t e h = subst (λ (z : List ℕ). LinesStand Took begun line given z) (sym (ap (λ (z : List ℕ). told ++ z) e ∙ append-nil told)) h

@@ -80,6 +80,15 @@ pub trait Sink {
         ensures { result ≡ failures self.now };
 }
 
+/// What a call that failed answers, which is one more of them.
+fn counted(failures: &mut u64) -> Failed
+    requires { failures.old < 2 ^ 64 - 1 }
+    ensures { failures.new ≡ failures.old + 1 }
+{
+    *failures += 1;
+    Failed
+}
+
 /// A source over any reader.
 #[derive(Drop)]
 pub struct Input<R> {
@@ -114,10 +123,7 @@ impl<R: Read> Source for Input<R> {
         self.reads += 1;
         match self.reader.read(buffer) {
             Ok(count) => Ok(count),
-            Err(_) => {
-                self.failures += 1;
-                Err(Failed)
-            }
+            Err(_) => Err(counted(&mut self.failures)),
         }
     }
 
@@ -168,10 +174,7 @@ impl<W: Write> Sink for Output<W> {
                 }
                 Ok(count)
             }
-            Err(_) => {
-                self.failures += 1;
-                Err(Failed)
-            }
+            Err(_) => Err(counted(&mut self.failures)),
         }
     }
 
@@ -179,10 +182,7 @@ impl<W: Write> Sink for Output<W> {
         self.flushes = self.flushes.wrapping_add(1);
         match self.writer.flush() {
             Ok(()) => Ok(()),
-            Err(_) => {
-                self.failures += 1;
-                Err(Failed)
-            }
+            Err(_) => Err(counted(&mut self.failures)),
         }
     }
 

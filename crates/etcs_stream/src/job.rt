@@ -46,10 +46,7 @@ impl Job {
     pub fn is_groupable(&self) -> bool
         ensures { IsTrue result ↔ IsGroupable self.now }
     {
-        match self.command {
-            Command::Group => is_of_telegrams(self.kind),
-            Command::Show | Command::Check | Command::Convert(_) => true,
-        }
+        self.command != Command::Group || is_of_telegrams(self.kind)
     }
 }
 
@@ -57,10 +54,7 @@ impl Job {
 fn is_of_telegrams(kind: Kind) -> bool
     ensures { IsTrue result ↔ IsOfTelegrams kind }
 {
-    match kind {
-        Kind::Long | Kind::Short => true,
-        Kind::Radio | Kind::Train => false,
-    }
+    matches!(kind, Kind::Long | Kind::Short)
 }
 
 /// What a whole run met.

@@ -36,16 +36,12 @@ pub fn send<W: Sink>(sink: &mut W, text: &[u8], sent: &mut u64) -> Result<(), Fa
 {
     let mut at = 0;
     while at < text.len() {
-        match sink.write(&text[at..]) {
-            Ok(count) => {
-                if count == 0 {
-                    return Err(Failed);
-                }
-                at += count;
-                *sent += count as u64;
-            }
-            Err(Failed) => return Err(Failed),
+        let count = sink.write(&text[at..])?;
+        if count == 0 {
+            return Err(Failed);
         }
+        at += count;
+        *sent += count as u64;
     }
     Ok(())
 }
@@ -97,10 +93,7 @@ fn close<E: Engine, W: Sink>(
         Ok(()) => {}
         Err(Failed) => return Err(RunFault::Write { sent: *sent }),
     }
-    let tally = match finished {
-        Ok(tally) => tally,
-        Err(fault) => return Err(fault),
-    };
+    let tally = finished?;
     match sink.flush() {
         Ok(()) => Ok(tally),
         Err(Failed) => Err(RunFault::Write { sent: *sent }),

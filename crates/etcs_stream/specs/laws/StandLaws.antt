@@ -1,5 +1,5 @@
 -- What was reported of an input's front is the text of the items that are whole there.
-use Rattle.std.proofs.Common.{ℕ, ◌≤◌, ◌+◌, List, [], ◌++◌, length, refl, sym, subst, arith}
+use Rattle.std.proofs.Common.{ℕ, ◌≤◌, List, [], ◌++◌, length, refl, sym, subst, arith}
 use Rattle.etcs_stream.specs.declared.job.Form.{Form}
 use Rattle.etcs_stream.specs.declared.job.Form.TheVariants.{Hex, Bin}
 use Rattle.etcs_stream.specs.declared.job.Job.{Job}

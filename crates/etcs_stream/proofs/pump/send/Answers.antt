@@ -7,11 +7,11 @@ pub loop-at-preserved : goal.loop-at-preserved
 loop-at-preserved g c =
     let text = c.args.text.now in
     let at = c.loop-at.at in
-    let some = wrote_some Failed c.in-Ok.count (take (length text - at) (drop at text)) c.if-count-eq0.false in
+    let some = wrote_some Failed c.in_ok-count.count (take (length text - at) (drop at text)) c.if-count-eq0.false in
     record {
-      within = omega (arith, c.in-Ok.ensures.bound, length-rest text at);
-      failures = c.in-Ok.ensures.failed ∙ ap (λ n. g.W.Sink.failures c.loop-at.sink + n) some ∙ add-zero _ ∙ c.loop-at.invariant.failures;
-      flushes = c.in-Ok.ensures.unflushed ∙ c.loop-at.invariant.flushes;
+      within = omega (arith, c.in_ok-count.ensures.bound, length-rest text at);
+      failures = c.in_ok-count.ensures.failed ∙ ap (λ n. g.W.Sink.failures c.loop-at.sink + n) some ∙ add-zero _ ∙ c.loop-at.invariant.failures;
+      flushes = c.in_ok-count.ensures.unflushed ∙ c.loop-at.invariant.flushes;
       sent = omega (arith, c.loop-at.invariant.sent);
-      appends = Appends-slice _ (g.W.Sink.contents c.loop-at.sink) _ text at c.in-Ok.count _ refl c.loop-at.invariant.appends c.in-Ok.ensures.bytes;
+      appends = Appends-slice _ (g.W.Sink.contents c.loop-at.sink) _ text at c.in_ok-count.count _ refl c.loop-at.invariant.appends c.in_ok-count.ensures.bytes;
     }

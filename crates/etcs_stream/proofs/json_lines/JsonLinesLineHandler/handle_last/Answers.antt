@@ -2,7 +2,9 @@ use Rattle.std.proofs.Common.{arith, subst}
 use Rattle.std.proofs.lemmas.Result.{err_from_is_err_and}
 use Rattle.etcs_stream.specs.declared.job.Job.{Job}
 use Rattle.etcs_stream.specs.Tellers.{Closes}
-use Rattle.etcs_stream.proofs.JsonSteps.{line_told, json_start, json_last_stops, json_ends, json_not_closed}
+use Rattle.etcs_stream.specs.Stands.{JsonTook}
+use Rattle.etcs_stream.proofs.LineSteps.{none_told}
+use Rattle.etcs_stream.proofs.JsonSteps.{line_told, json_last_stops, json_ends, json_not_closed}
 use Rattle.etcs_stream.proofs.Saying.{says_first, says_here, says_then}
 use Rattle.etcs_stream.proofs.json_lines.JsonLinesLineHandler.handle_last.Goals as goal
 
@@ -10,7 +12,7 @@ pub returns-in_err-handle-clause-err : goal.returns-in_err-handle-clause-err
 returns-in_err-handle-clause-err c lines told h l at =
     let s = c.args.self.now in
     let text = c.args.text.now.items in
-    let h' = json_start s.job s.teller lines told text c.requires.empty h in
+    let h' = none_told (JsonTook s.job s.teller lines) told text c.requires.empty h in
     let p = err_from_is_err_and c.from_residual.result c.from_residual.ensures.1 in
     rw (p.1, p.2)
     (json_last_stops s.job s.teller lines told text h' c.args.line.now c.args.number c.handle.new.text.items c.in_err-handle.field-0.0 l at c.in_err-handle.ensures.err)
@@ -20,7 +22,7 @@ returns-in-Ok-clause-ok c lines told h l =
     let s = c.args.self.now in
     let n = c.handle.new.self.teller in
     let text = c.args.text.now.items in
-    let h' = json_start s.job s.teller lines told text c.requires.empty h in
+    let h' = none_told (JsonTook s.job s.teller lines) told text c.requires.empty h in
     let (last, closes, is) = c.in-Ok.ensures.ok in
     let closes' = subst (λ (j : Job). Closes j.command n last c.in-Ok.tally) c.in_ok-handle.ensures.job closes in
     json_ends s.job s.teller lines told text h' c.args.line.now n c.handle.new.text.items last c.close.new.text.items c.in-Ok.tally l c.in_ok-handle.ensures.ok closes' is
@@ -29,7 +31,7 @@ pub returns-in-Err-clause-err : goal.returns-in-Err-clause-err
 returns-in-Err-clause-err c lines told h l at =
     let s = c.args.self.now in
     let text = c.args.text.now.items in
-    let h' = json_start s.job s.teller lines told text c.requires.empty h in
+    let h' = none_told (JsonTook s.job s.teller lines) told text c.requires.empty h in
     json_not_closed s.job s.teller lines told text h' c.args.line.now c.handle.new.self.teller c.handle.new.text.items c.close.new.text.items l c.in_ok-handle.ensures.ok c.in-Err.ensures.err
 
 pub returns-in_err-handle-clause-said : goal.returns-in_err-handle-clause-said

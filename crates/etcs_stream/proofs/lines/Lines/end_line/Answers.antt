@@ -5,15 +5,11 @@ use Rattle.etcs_stream.specs.declared.job.Job.{Job}
 use Rattle.etcs_stream.specs.Faults.{IsOfEngine}
 use Rattle.etcs_stream.specs.Lines.{strip_cr}
 use Rattle.etcs_stream.specs.Engines.{Stops}
-use Rattle.etcs_stream.proofs.LineSteps.{lines_count, keeps, none_kept, line_taken, line_taken_if, line_stops, line_stops_if}
+use Rattle.etcs_stream.proofs.LineSteps.{lines_fit, keeps, none_kept, line_taken, line_taken_if, line_stops, line_stops_if}
 use Rattle.etcs_stream.proofs.lines.Lines.end_line.Goals as goal
 
 pub overflow_add-self : goal.overflow_add-self
-overflow_add-self g c =
-    let s = c.args.self.now in
-    let (given, told, h, short) = c.requires.stands in
-    let lines = lines_count (g.T.LineHandler.took s.handler) s.begun.items s.line given told h in
-    omega (arith, lines, short)
+overflow_add-self g c = omega (arith, lines_fit _ _ _ c.requires.stands)
 
 pub returns-then-is_empty-clause-ok : goal.returns-then-is_empty-clause-ok
 returns-then-is_empty-clause-ok g c given told h l =
@@ -43,11 +39,7 @@ returns-in_err-keep-clause-err g c given told h l =
     rw (p.1, p.2) (c.in_err-keep.ensures.err given (told ++ c.args.text.now.items) (10 ∷ []) h l)
 
 pub overflow_add-self-2 : goal.overflow_add-self-2
-overflow_add-self-2 g c =
-    let s = c.args.self.now in
-    let (given, told, h, short) = c.requires.stands in
-    let lines = lines_count (g.T.LineHandler.took s.handler) s.begun.items s.line given told h in
-    omega (arith, lines, short, c.keep.ensures.line)
+overflow_add-self-2 g c = omega (arith, lines_fit _ _ _ c.requires.stands, c.keep.ensures.line)
 
 pub returns-in_err-handle_line-clause-err : goal.returns-in_err-handle_line-clause-err
 returns-in_err-handle_line-clause-err g c given told h l =

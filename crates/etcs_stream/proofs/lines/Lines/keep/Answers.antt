@@ -1,13 +1,9 @@
 use Rattle.std.proofs.Common.{arith, ◌++◌, length-append}
-use Rattle.etcs_stream.proofs.LineSteps.{lines_count, keeps, keep_starves, keep_refuses, part_line}
+use Rattle.etcs_stream.proofs.LineSteps.{lines_fit, keeps, keep_starves, keep_refuses, part_line}
 use Rattle.etcs_stream.proofs.lines.Lines.keep.Goals as goal
 
 pub overflow_add-self : goal.overflow_add-self
-overflow_add-self g c =
-    let s = c.args.self.now in
-    let (given, told, h, short) = c.requires.stands in
-    let lines = lines_count (g.T.LineHandler.took s.handler) s.begun.items s.line given told h in
-    omega (arith, lines, short)
+overflow_add-self g c = omega (arith, lines_fit _ _ _ c.requires.stands)
 
 pub returns-then-part-room-clause-err : goal.returns-then-part-room-clause-err
 returns-then-part-room-clause-err g c given told more h l =

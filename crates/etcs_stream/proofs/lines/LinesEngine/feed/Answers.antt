@@ -9,7 +9,7 @@ use Rattle.etcs_stream.specs.Stands.{LinesStand}
 use Rattle.etcs_stream.specs.Engines.{Stops}
 use Rattle.etcs_stream.specs.laws.StandLaws.{lines_tell}
 use Rattle.etcs_stream.proofs.Shortness.{fed_short, stop_short}
-use Rattle.etcs_stream.proofs.LineSteps.{told_none, cut_line, cut_given, piece_stops}
+use Rattle.etcs_stream.proofs.LineSteps.{none_told, cut_line, cut_given, piece_stops}
 use Rattle.etcs_stream.proofs.Saying.{on_err}
 use Rattle.etcs_stream.proofs.lines.LinesEngine.feed.Goals as goal
 
@@ -22,7 +22,7 @@ loop-line-init g c = record {
       let s = c.args.self.now in
       let took = g.T.LineHandler.took s.handler in
       subst (λ (z : List ℕ). LinesStand took s.begun.items s.line z (told ++ c.args.text.now.items)) (sym (append-nil given))
-      (told_none took s.begun.items s.line given told c.args.text.now.items c.requires.empty h)
+      (none_told (LinesStand took s.begun.items s.line given) told c.args.text.now.items c.requires.empty h)
       );
 }
 

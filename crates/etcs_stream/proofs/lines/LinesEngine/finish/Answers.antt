@@ -3,16 +3,12 @@ use Rattle.std.specs.Prelude.{IfOk, IfErr}
 use Rattle.etcs_stream.specs.Faults.{IsOfEngine}
 use Rattle.etcs_stream.specs.Lines.{IsLine, lines_text}
 use Rattle.etcs_stream.specs.Engines.{Ends, StopsAtEnd}
-use Rattle.etcs_stream.proofs.LineSteps.{lines_count}
+use Rattle.etcs_stream.proofs.LineSteps.{lines_fit}
 use Rattle.etcs_stream.proofs.Shortness.{finished_short}
 use Rattle.etcs_stream.proofs.lines.LinesEngine.finish.Goals as goal
 
 pub overflow_add-self : goal.overflow_add-self
-overflow_add-self g c =
-    let s = c.args.self.now in
-    let (given, told, h, short) = c.requires.stands in
-    let lines = lines_count (g.T.LineHandler.took s.handler) s.begun.items s.line given told h in
-    omega (arith, lines, short)
+overflow_add-self g c = omega (arith, lines_fit _ _ _ c.requires.stands)
 
 pub returns-clause-ok : goal.returns-clause-ok
 returns-clause-ok g c given told h =

@@ -56,10 +56,8 @@ impl<const NID: u8> BaliseList<NID> {
         if let Err(fault) = check_head(NID, dir) {
             return Err((fault, balises));
         }
-        match Counted::new(balises) {
-            Ok(balises) => Ok(BaliseList { dir, balises }),
-            Err(back) => Err(back),
-        }
+        let balises = Counted::new(balises)?;
+        Ok(BaliseList { dir, balises })
     }
 
     /// The groups.

@@ -53,10 +53,8 @@ impl ConditionalLevelOrder {
         ensures further { IfErr result (λ e. e.1.items ≡ further.items) }
     {
         check_field!([further] dir Q_DIR u8);
-        match Entries::new(first, further) {
-            Ok(levels) => Ok(ConditionalLevelOrder { dir, levels }),
-            Err((fault, _, further)) => Err((fault, further)),
-        }
+        let levels = Entries::new(first, further).map_err(|(fault, _, further)| (fault, further))?;
+        Ok(ConditionalLevelOrder { dir, levels })
     }
 
     /// The level of the highest priority.

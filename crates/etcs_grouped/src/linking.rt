@@ -43,10 +43,7 @@ impl Chain<Link> {
         ensures fault { IfErr result (λ e. linking_fault (chain_value dir q_scale first further.items) ≡ Some e.0) }
         ensures further { IfErr result (λ e. e.1.items ≡ further.items) }
     {
-        match Chain::build(dir, q_scale, first, further) {
-            Ok(packet) => Ok(packet),
-            Err((fault, _, further)) => Err((fault, further)),
-        }
+        Chain::build(dir, q_scale, first, further).map_err(|(fault, _, further)| (fault, further))
     }
 
     /// The first group.

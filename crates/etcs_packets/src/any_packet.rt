@@ -210,10 +210,8 @@ impl AnyPacket for Packet {
     }
 
     fn of_marker(number: u8) -> Option<Packet> {
-        match etcs_flat::parts::marker(number) {
-            Ok(marker) => Some(Packet::VbcMarker(marker)),
-            Err(_) => None,
-        }
+        let marker = etcs_flat::parts::marker(number).ok()?;
+        Some(Packet::VbcMarker(marker))
     }
 
     fn copy(&self, alloc: Global) -> Result<Packet, AllocError> {

@@ -111,10 +111,7 @@ impl Packet {
         ensures fits { OnOk result (number_fault NID_VBCMK number ≡ None) }
         ensures fault { IfErr result (λ e. number_fault NID_VBCMK number ≡ Some e) }
     {
-        match parts::marker(number) {
-            Ok(marker) => Ok(Packet::VbcMarker(marker)),
-            Err(fault) => Err(fault),
-        }
+        Ok(Packet::VbcMarker(parts::marker(number)?))
     }
 
     /// NID_PACKET.

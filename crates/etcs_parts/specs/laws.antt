@@ -4,6 +4,7 @@ pub mod Conditions
 pub mod Differings
 pub mod Displays
 pub mod Equality
+pub mod Faults
 pub mod Flags
 pub mod Levels
 pub mod Links

@@ -14,6 +14,7 @@ use Rattle.etcs_bodies.specs.Codecs.{Codes, list_reading, IsEntries}
 use Rattle.etcs_bodies.specs.laws.Codecs.{number, both, list, form}
 use Rattle.etcs_bodies.specs.Groups.{pair_fault}
 use Rattle.etcs_bodies.specs.laws.Groups.{flagged, pair}
+use Rattle.etcs_parts.specs.laws.Faults.{fine}
 use Rattle.etcs_parts.specs.Sections.{IsSection, section_reading, end_reading}
 use Rattle.etcs_parts.specs.laws.Sections.{section_codes, end_codes, end_bits, section_most}
 use Rattle.etcs_parts.specs.Authorities.{end_timer_fault, end_timer_reading, end_timer_from, danger_fault, danger_reading, danger_from, Overlap, some_overlap_fault, overlap_fault, some_overlap_reading, overlap_reading, some_overlap_from, overlap_from, AuthorityValue, authority_fault, IsAuthority, authority_reading, sections_from, authority_from, authority_then, groups_reading}
@@ -39,10 +40,7 @@ some_overlap_codes =
       back = λ o. (o.0, (o.1, (o.2, o.3)));
       there = λ o. refl;
       again = λ v. refl;
-      is = λ o h.
-          let (start, h1) = none_of _ _ h in
-          let (time, h2) = none_of _ _ h1 in
-          (start, (time, none_of _ _ h2));
+      is = λ o h. fine (fine (none_of _ _)) h;
       so = λ v h. rw (h.0, h.1.0, h.1.1.0, h.1.1.1) refl;
       same = λ o. refl;
     })
@@ -66,9 +64,8 @@ authority_codes =
       there = λ p. refl;
       again = λ v. refl;
       is = λ p h.
-          let (count, h1) = none_of _ _ h.faultless in
-          let (end_timer, h2) = none_of _ _ h1 in
-          ((count, h.sections), (h.end, (end_timer, none_of _ _ h2)));
+          let (count, others) = fine (fine (none_of _ _)) h.faultless in
+          ((count, h.sections), (h.end, others));
       so = λ v h. record { faultless = rw (h.0.0, h.1.1.0, h.1.1.1.0, h.1.1.1.1) refl; sections = h.0.1; end = h.1.0 };
       same = λ p. refl;
     })

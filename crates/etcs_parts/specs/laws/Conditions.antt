@@ -3,11 +3,11 @@ use Rattle.std.proofs.Common.{◌≡◌, length, ◌≤◌, refl, arith}
 use Rattle.etcs_vars.specs.declared.var.Var.TheVariants.{D_TRACKCOND, L_TRACKCOND, M_TRACKCOND}
 use Rattle.etcs_vars.specs.Reading.{spelled}
 use Rattle.etcs_tables.specs.Rows.{condition}
-use Rattle.etcs_bodies.specs.laws.Takes.{none_of}
 use Rattle.etcs_bodies.specs.Codecs.{Codes}
 use Rattle.etcs_bodies.specs.laws.Codecs.{number, both, form}
 use Rattle.etcs_bodies.specs.Repeats.{bit_count}
 use Rattle.etcs_bodies.specs.laws.Repeats.{bit_count_is}
+use Rattle.etcs_parts.specs.laws.Faults.{fine}
 use Rattle.etcs_parts.specs.Conditions.{ConditionValue, IsCondition, condition_reading, condition_from}
 
 -- ---- A condition is what its row spells.
@@ -20,7 +20,7 @@ condition_codes =
       back = λ p. (p.d_trackcond, (p.l_trackcond, p.m_trackcond));
       there = λ p. refl;
       again = λ v. refl;
-      is = λ p h. let (d_trackcond, h1) = none_of _ _ h in (d_trackcond, none_of _ _ h1);
+      is = λ p h. fine (fine (λ last. last)) h;
       so = λ v h. rw (h.0, h.1.0, h.1.1) refl;
       same = λ p. refl;
     })

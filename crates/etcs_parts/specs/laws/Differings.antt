@@ -14,6 +14,7 @@ use Rattle.etcs_bodies.specs.laws.Repeats.{bit_count_is}
 use Rattle.etcs_bodies.specs.Codecs.{Codes}
 use Rattle.etcs_bodies.specs.laws.Codecs.{number, both, form}
 use Rattle.etcs_bodies.specs.laws.Choices.{choice}
+use Rattle.etcs_parts.specs.laws.Faults.{fine}
 use Rattle.etcs_parts.specs.Differings.{DifferingValue, category_var, IsDiffering, differing_reading, differing_row, differing_from}
 
 -- ---- The numbers of both categories are the same, in as many bits.
@@ -53,8 +54,7 @@ differing_codes =
       there = λ d. refl;
       again = λ v. refl;
       is = λ d h.
-          let (q_diff, h1) = none_of _ _ h in
-          let (category, v_diff) = none_of _ _ h1 in
+          let (q_diff, (category, v_diff)) = fine (none_of _ _) h in
           ((q_diff, category), v_diff);
       so = λ v h. rw (h.0.0, h.0.1, h.1) refl;
       same = λ d. refl;

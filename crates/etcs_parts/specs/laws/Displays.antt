@@ -14,6 +14,7 @@ use Rattle.etcs_bodies.specs.Codecs.{Codes}
 use Rattle.etcs_bodies.specs.laws.Codecs.{number, both, group_of, form, option_is, option_none}
 use Rattle.etcs_bodies.specs.Guards.{optional_group}
 use Rattle.etcs_bodies.specs.laws.Guards.{group_is, group_gives, group_reading_is}
+use Rattle.etcs_parts.specs.laws.Faults.{fine}
 use Rattle.etcs_parts.specs.laws.Flags.{at_most_one}
 use Rattle.etcs_parts.specs.Displays.{ShownValue, IsShown, shown_reading, shown_from}
 
@@ -28,9 +29,7 @@ shown_codes =
       there = λ s. refl;
       again = λ v. refl;
       is = λ s h.
-          let (mode, h1) = none_of _ _ h in
-          let (level, h2) = none_of _ _ h1 in
-          let (guard, system) = none_of _ _ h2 in
+          let (mode, (level, (guard, system))) = fine (fine (none_of _ _)) h in
           (mode, group_is M_LEVELTEXTDISPLAY IsOne (λ n. number_fault NID_NTC n ≡ None) s.m_leveltextdisplay s.nid_ntc level guard (option_is NID_NTC s.nid_ntc system));
       so = λ v h. let g = group_gives M_LEVELTEXTDISPLAY IsOne (λ n. number_fault NID_NTC n ≡ None) v.1.0 v.1.1 h.1 in rw (h.0, g.number, g.guard, option_none NID_NTC v.1.1 g.is) refl;
       same = λ s. rw (group_reading_is M_LEVELTEXTDISPLAY (λ n. (NID_NTC, n) ∷ []) s.m_leveltextdisplay s.nid_ntc) refl;

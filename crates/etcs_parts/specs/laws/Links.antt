@@ -9,6 +9,7 @@ use Rattle.etcs_bodies.specs.Codecs.{Codes}
 use Rattle.etcs_bodies.specs.laws.Codecs.{number, flag, both, form}
 use Rattle.etcs_bodies.specs.Repeats.{bit_count}
 use Rattle.etcs_bodies.specs.laws.Repeats.{bit_count_is, bit_count-append}
+use Rattle.etcs_parts.specs.laws.Faults.{fine}
 use Rattle.etcs_parts.specs.BalisesAt.{balise_at_reading}
 use Rattle.etcs_parts.specs.laws.BalisesAt.{balise_at_codes, balise_at_most}
 use Rattle.etcs_parts.specs.Links.{LinkValue, balise_of, IsLink, link_reading, link_from}
@@ -29,9 +30,7 @@ link_codes =
       there = λ l. refl;
       again = λ v. refl;
       is = λ l h.
-          let (d_link, h1) = none_of _ _ h in
-          let (balise, h2) = none_of _ _ h1 in
-          (d_link, (balise, (tt, none_of _ _ h2)));
+          fine (fine (λ others. (tt, none_of _ _ others))) h;
       so = λ v h. rw (h.0, h.1.0, h.1.1.1.0, h.1.1.1.1) refl;
       same = λ l. refl;
     })

@@ -3,11 +3,11 @@ use Rattle.std.proofs.Common.{◌≡◌, length, ◌≤◌, refl, arith}
 use Rattle.etcs_vars.specs.declared.var.Var.TheVariants.{D_MAMODE, M_MAMODE, V_MAMODE, L_MAMODE, L_ACKMAMODE, Q_MAMODE}
 use Rattle.etcs_vars.specs.Reading.{spelled}
 use Rattle.etcs_tables.specs.Rows.{mode_section}
-use Rattle.etcs_bodies.specs.laws.Takes.{none_of}
 use Rattle.etcs_bodies.specs.Codecs.{Codes}
 use Rattle.etcs_bodies.specs.laws.Codecs.{number, flag, both, form}
 use Rattle.etcs_bodies.specs.Repeats.{bit_count}
 use Rattle.etcs_bodies.specs.laws.Repeats.{bit_count_is}
+use Rattle.etcs_parts.specs.laws.Faults.{fine}
 use Rattle.etcs_parts.specs.ModeSections.{ModeSectionValue, IsModeSection, mode_section_reading, mode_section_from}
 
 -- ---- An area is what its row spells.
@@ -20,12 +20,7 @@ mode_section_codes =
       back = λ p. (p.d_mamode, (p.m_mamode, (p.v_mamode, (p.l_mamode, (p.l_ackmamode, p.q_mamode)))));
       there = λ p. refl;
       again = λ v. refl;
-      is = λ p h.
-          let (d_mamode, h1) = none_of _ _ h in
-          let (m_mamode, h2) = none_of _ _ h1 in
-          let (v_mamode, h3) = none_of _ _ h2 in
-          let (l_mamode, l_ackmamode) = none_of _ _ h3 in
-          (d_mamode, (m_mamode, (v_mamode, (l_mamode, (l_ackmamode, tt)))));
+      is = λ p h. fine (fine (fine (fine (λ last. (last, tt))))) h;
       so = λ v h. rw (h.0, h.1.0, h.1.1.0, h.1.1.1.0, h.1.1.1.1.0) refl;
       same = λ p. refl;
     })

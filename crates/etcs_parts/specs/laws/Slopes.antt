@@ -3,11 +3,11 @@ use Rattle.std.proofs.Common.{◌≡◌, length, ◌≤◌, refl, arith}
 use Rattle.etcs_vars.specs.declared.var.Var.TheVariants.{D_GRADIENT, Q_GDIR, G_A}
 use Rattle.etcs_vars.specs.Reading.{spelled}
 use Rattle.etcs_tables.specs.Rows.{slope}
-use Rattle.etcs_bodies.specs.laws.Takes.{none_of}
 use Rattle.etcs_bodies.specs.Codecs.{Codes}
 use Rattle.etcs_bodies.specs.laws.Codecs.{number, flag, both, form}
 use Rattle.etcs_bodies.specs.Repeats.{bit_count}
 use Rattle.etcs_bodies.specs.laws.Repeats.{bit_count_is}
+use Rattle.etcs_parts.specs.laws.Faults.{fine}
 use Rattle.etcs_parts.specs.Slopes.{SlopeValue, IsSlope, slope_reading, slope_from}
 
 -- ---- A slope is what its row spells.
@@ -20,7 +20,7 @@ slope_codes =
       back = λ p. (p.d_gradient, (p.q_gdir, p.g_a));
       there = λ p. refl;
       again = λ v. refl;
-      is = λ p h. let (d_gradient, g_a) = none_of _ _ h in (d_gradient, (tt, g_a));
+      is = λ p h. fine (λ last. (tt, last)) h;
       so = λ v h. rw (h.0, h.1.1) refl;
       same = λ p. refl;
     })

@@ -6,6 +6,7 @@ use Rattle.etcs_tables.specs.Rows.{speed}
 use Rattle.etcs_bodies.specs.laws.Takes.{none_of}
 use Rattle.etcs_bodies.specs.Codecs.{Codes}
 use Rattle.etcs_bodies.specs.laws.Codecs.{number, flag, both, list, form}
+use Rattle.etcs_parts.specs.laws.Faults.{fine}
 use Rattle.etcs_parts.specs.Differings.{differing_reading}
 use Rattle.etcs_parts.specs.laws.Differings.{differing_codes, differing_bits}
 use Rattle.etcs_bodies.specs.laws.Choices.{few_counted, bit_count-same}
@@ -27,10 +28,7 @@ speed_codes =
       back = λ s. (s.d_static, (s.v_static, (s.q_front, s.differing)));
       there = λ s. refl;
       again = λ v. refl;
-      is = λ s h.
-          let (d_static, h1) = none_of _ _ h.faultless in
-          let (v_static, count) = none_of _ _ h1 in
-          (d_static, (v_static, (tt, (count, h.differing))));
+      is = λ s h. fine (fine (λ last. (tt, (last, h.differing)))) h.faultless;
       so = λ v h. record { faultless = rw (h.0, h.1.0, h.1.1.1.0) refl; differing = h.1.1.1.1 };
       same = λ s. refl;
     })

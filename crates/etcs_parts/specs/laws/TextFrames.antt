@@ -11,6 +11,7 @@ use Rattle.etcs_bodies.specs.laws.Takes.{none_of}
 use Rattle.etcs_bodies.specs.Codecs.{Codes, IsOptional, optional_reading}
 use Rattle.etcs_bodies.specs.laws.Codecs.{number, flag, both, optional, group_of, form}
 use Rattle.etcs_bodies.specs.laws.Guards.{group_is, group_gives, group_reading_is}
+use Rattle.etcs_parts.specs.laws.Faults.{fine}
 use Rattle.etcs_parts.specs.Displays.{shown_reading}
 use Rattle.etcs_parts.specs.laws.Displays.{shown_codes, shown_small}
 use Rattle.etcs_parts.specs.TextFrames.{Report, IsReport, report_reading, report_row, report_from, Confirm, confirm_fault, IsConfirm, reported, confirm_reading, confirm_row, confirm_from, confirmed_reading, confirmed_from, TextFrameValue, IsTextFrame, text_frame_reading, text_frame_from, confirmed_count}
@@ -25,7 +26,7 @@ report_codes =
       back = λ r. (r.0, (r.1, r.2));
       there = λ r. refl;
       again = λ v. refl;
-      is = λ r h. let (message, h1) = none_of _ _ h in (message, none_of _ _ h1);
+      is = λ r h. fine (none_of _ _) h;
       so = λ v h. rw (h.0, h.1.0, h.1.1) refl;
       same = λ r. refl;
     })
@@ -85,13 +86,7 @@ text_frame_codes =
       there = λ t. refl;
       again = λ v. refl;
       is = λ t h.
-          let (q_scale, h1) = none_of _ _ h.faultless in
-          let (q_textclass, h2) = none_of _ _ h1 in
-          let (d_textdisplay, h3) = none_of _ _ h2 in
-          let (l_textdisplay, h4) = none_of _ _ h3 in
-          let (t_textdisplay, h5) = none_of _ _ h4 in
-          let (q_textconfirm, h6) = none_of _ _ h5 in
-          let (guard, confirm) = none_of _ _ h6 in
+          let (q_scale, (q_textclass, (d_textdisplay, (l_textdisplay, (t_textdisplay, (q_textconfirm, (guard, confirm))))))) = fine (fine (fine (fine (fine (fine (none_of _ _)))))) h.faultless in
           let group = group_is Q_TEXTCONFIRM IsNotZero IsConfirm t.q_textconfirm t.confirm q_textconfirm guard (confirm_is t.confirm confirm) in
           (q_scale, (q_textclass, (tt, (d_textdisplay, (h.start, (l_textdisplay, (t_textdisplay, (h.end, group))))))));
       so = λ v h.

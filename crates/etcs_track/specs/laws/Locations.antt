@@ -4,11 +4,12 @@ use Rattle.std.specs.Int.{from_bool}
 use Rattle.std.specs.Option.{is_some}
 use Rattle.etcs_vars.specs.declared.var.Var.{Var}
 use Rattle.etcs_vars.specs.declared.var.Var.TheVariants.{D_LRBG, Q_DIRLRBG, Q_DLRBG, L_DOUBTOVER, L_DOUBTUNDER, Q_LENGTH, L_TRAININT, V_TRAIN, Q_DIRTRAIN, M_MODE, M_LEVEL, NID_NTC}
+use Rattle.etcs_vars.specs.declared.fault.BuildFault.{BuildFault}
 use Rattle.etcs_vars.specs.Vars.{width}
 use Rattle.etcs_vars.specs.Reading.{Reading, spelled}
 use Rattle.etcs_tables.specs.declared.item.Test.TheVariants.{IsOne, IsOneOrTwo}
 use Rattle.etcs_tables.specs.Rows.{located}
-use Rattle.etcs_bodies.specs.Faults.{number_fault}
+use Rattle.etcs_bodies.specs.Faults.{◌or_else◌, number_fault}
 use Rattle.etcs_bodies.specs.laws.Takes.{none_of}
 use Rattle.etcs_bodies.specs.Codecs.{Codes}
 use Rattle.etcs_bodies.specs.laws.Codecs.{number, both, group_of, form}
@@ -18,6 +19,10 @@ use Rattle.etcs_bodies.specs.laws.Repeats.{bit_count_is, bit_count-append}
 use Rattle.etcs_track.specs.Locations.{after_reading, integrity_reading, integrity_from, level_reading, level_from, LocatedValue, IsLocated, located_reading, located_from}
 
 -- ---- It is what its row spells.
+
+-- the first fault isn't there, and what follows from the others
+fine : {a b : Option BuildFault} {B : Type 0} → (b ≡ None → B) → a or_else b ≡ None → (a ≡ None) × B
+fine behind h = let (first, others) = none_of _ _ h in (first, behind others)
 
 pub located_codes : Codes located IsLocated located_reading located_from
 unfolding located_from integrity_from level_from
@@ -37,19 +42,10 @@ located_codes =
       back = λ p. (p.d_lrbg, (p.q_dirlrbg, (p.q_dlrbg, (p.l_doubtover, (p.l_doubtunder, ((p.q_length, p.l_trainint), (p.v_train, (p.q_dirtrain, (p.m_mode, (p.m_level, p.nid_ntc))))))))));
       there = λ p. refl;
       again = λ v. refl;
-      is = λ p h.
-          let (d_lrbg, h1) = none_of _ _ h in
-          let (q_dirlrbg, h2) = none_of _ _ h1 in
-          let (q_dlrbg, h3) = none_of _ _ h2 in
-          let (l_doubtover, h4) = none_of _ _ h3 in
-          let (l_doubtunder, h5) = none_of _ _ h4 in
-          let (length, h6) = none_of _ _ h5 in
-          let (v_train, h7) = none_of _ _ h6 in
-          let (q_dirtrain, h8) = none_of _ _ h7 in
-          let (m_mode, system) = none_of _ _ h8 in
+      is = λ p. fine (fine (fine (fine (fine (λ h.
+          let (length, others) = none_of _ _ h in
           let integrity = guarded_is Q_LENGTH IsOneOrTwo (number_fault L_TRAININT) p.q_length p.l_trainint length in
-          let level = guarded_is M_LEVEL IsOne (number_fault NID_NTC) p.m_level p.nid_ntc system in
-          (d_lrbg, (q_dirlrbg, (q_dlrbg, (l_doubtover, (l_doubtunder, (integrity, (v_train, (q_dirtrain, (m_mode, level)))))))));
+          (integrity, fine (fine (fine (guarded_is M_LEVEL IsOne (number_fault NID_NTC) p.m_level p.nid_ntc))) others))))));
       so = λ v h.
           let integrity = guarded_none Q_LENGTH IsOneOrTwo (number_fault L_TRAININT) v.1.1.1.1.1.0.0 v.1.1.1.1.1.0.1 h.1.1.1.1.1.0 in
           let level = guarded_none M_LEVEL IsOne (number_fault NID_NTC) v.1.1.1.1.1.1.1.1.1.0 v.1.1.1.1.1.1.1.1.1.1 h.1.1.1.1.1.1.1.1.1 in

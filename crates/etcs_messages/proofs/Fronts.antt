@@ -20,7 +20,7 @@ use Rattle.etcs_sequence.specs.Labels.{widths}
 use Rattle.etcs_messages.specs.Kinds.{OfRow, head_row}
 use Rattle.etcs_messages.proofs.Ways.{header_is, header_few, head_some, head_short, few, row_flat, row_few}
 use Rattle.etcs_messages.proofs.Fields.{fields_length, widths_append}
-use Rattle.etcs_messages.specs.Lefts.{own_row, front_behind, front_row, front_bits}
+use Rattle.etcs_messages.specs.Lefts.{own_row, front_behind, front_row, some_row, front_vars, front_bits}
 
 -- ---- A row of variables alone.
 
@@ -222,6 +222,10 @@ own_at way nid at table vars far e typed =
 pub front_there : (f : List Var → ℕ) (o : Option (List Var)) (n : ℕ) → Some n ≡ option_map f o → (vs : List Var) × (o ≡ Some vs) × (n ≡ f vs)
 front_there f None n e = absurd cc
 front_there f (Some vs) n e = (vs, refl, (let same : n ≡ f vs = cc in same))
+
+-- how many variables a front has that is there
+pub front_counted : (way : Way) (nid n : ℕ) → Some n ≡ option_map length (front_row way nid) → n ≡ length (front_vars way nid)
+front_counted way nid n e = let (vs, found, same) = front_there length (front_row way nid) n e in same ∙ sym (ap (λ o. length (some_row o)) found)
 
 pub no_front : (f : List Var → ℕ) (o : Option (List Var)) → None ≡ option_map f o → o ≡ None
 no_front f None e = refl

@@ -58,10 +58,7 @@ pub fn round_trip<H: Head, B: Own<Front = H>>(
 {
     message.readable();
     let mut bytes = Vec::new(alloc);
-    match message.encode(&mut bytes) {
-        Ok(()) => {}
-        Err(error) => return Err(error),
-    }
+    message.encode(&mut bytes)?;
     let mut reader = ReaderOf::<H, B>::new(alloc);
     match reader.feed(bytes.as_slice()) {
         Ok(Fed::Done { .. }) => match reader.take() {

@@ -1,6 +1,6 @@
 //! What is left of a message, for the one reader.
 
-ghost use Rattle.std.specs.Prelude.{◌≡◌, ℕ, ◌-◌, ◌+◌, ◌^◌, ◌<◌, ◌≤◌, [], ◌∷◌, Some, length, IsTrue, OnOk, OnErr, IfOk, IfSome, IsNone};
+ghost use Rattle.std.specs.Prelude.{◌≡◌, ℕ, ◌-◌, ◌+◌, ◌^◌, ◌<◌, ◌≤◌, nat_lt, if◌then◌else◌, [], ◌∷◌, Some, length, IsTrue, OnOk, OnErr, IfOk, IfSome, IsNone};
 ghost use Rattle.etcs_bits.specs.Bits.{bits, num, part};
 ghost use Rattle.etcs_vars.specs.Reading.{kept, Viable};
 ghost use Rattle.etcs_vars.specs.declared.var.Var.{Var};
@@ -8,7 +8,7 @@ ghost use Rattle.etcs_vars.specs.declared.var.Var.TheVariants.{NID_MESSAGE, L_ME
 ghost use Rattle.etcs_vars.proofs.Languages.{Same};
 ghost use Rattle.etcs_reader.specs.Rests.{Goes, Starts, LeapsBy};
 ghost use Rattle.etcs_messages.specs.Messages.{MessageLanguage};
-ghost use Rattle.etcs_messages.specs.Lefts.{left_at, next_at, stands_at, may_ask, behind_packets, behind_front, behind_padding, behind_data, DataFits, HoldsIn, Follows};
+ghost use Rattle.etcs_messages.specs.Lefts.{left_at, next_at, stands_at, may_ask, behind_packets, behind_front, DataFits, HoldsIn, Follows};
 ghost use Rattle.etcs_messages.specs.laws.RestLaws.{rest_regular, rest_begins, rest_ended, follows_none, follows_along};
 
 use crate::kind::{Head, Own};
@@ -18,7 +18,7 @@ use etcs_bits::BitSlice;
 use etcs_packets::parts::AnyPacket;
 use etcs_reader::Rest;
 use etcs_rows::parts::{Carrier, message_lengths};
-use etcs_sequence::parts::{bits_at, number_at};
+use etcs_sequence::parts::{bits_at, number_at, run_at};
 use etcs_sequence::{PacketStore, PacketsRest, PacketsState, Stage};
 use etcs_vars::{Var, begins};
 use std::alloc::AllocError;
@@ -42,26 +42,11 @@ pub struct MessageRest<H: Head, B: Own<Front = H>> {
     ghost fits: { ∥ DataFits phase (H.Store.holds packets.store) ∥₁ },
 }
 
-/// What comes where this many bits of PADDING are left.
-fn behind_padding(left: usize) -> Phase
-    ensures { result ≡ behind_padding left }
+/// What comes where this many bits of a phase are left.
+fn behind_bits(left: usize, phase: Phase) -> Phase
+    ensures { result ≡ if nat_lt 0 left then phase else Phase.Whole }
 {
-    if left > 0 {
-        Phase::Padding(left)
-    } else {
-        Phase::Whole
-    }
-}
-
-/// What comes where this many bits of a message that is kept are left.
-fn behind_data(left: usize) -> Phase
-    ensures { result ≡ behind_data left }
-{
-    if left > 0 {
-        Phase::Data(left)
-    } else {
-        Phase::Whole
-    }
+    if left > 0 { phase } else { Phase::Whole }
 }
 
 /// What comes after a variable of the packets.
@@ -69,7 +54,7 @@ fn behind_packets(left: &PacketsState) -> Phase
     ensures { result ≡ behind_packets left.now }
 {
     match &left.stage {
-        Stage::Closed => behind_padding(left.room),
+        Stage::Closed => behind_bits(left.room, Phase::Padding(left.room)),
         _ => Phase::Packets,
     }
 }
@@ -152,17 +137,11 @@ impl<H: Head, B: Own<Front = H>> MessageRest<H, B> {
         ensures ok { OnOk result (Follows H.Packet.WAY self.old.nid self.old.phase self.old.front.items self.old.packets.left self.old.padding (H.Store.holds self.old.packets.store) ((var, number) ∷ []) self.new.nid self.new.phase self.new.front.items self.new.packets.left self.new.padding (H.Store.holds self.new.packets.store)) }
         ensures err { OnErr result (H.Store.fails × IsTrue (may_ask self.old.phase self.old.packets.left)) }
     {
+        self.phase = Phase::Whole;
         let packets = &mut self.packets;
-        match packets.pass(var, number) {
-            Ok(()) => {
-                self.phase = behind_packets(&packets.left);
-                Ok(())
-            }
-            Err(error) => {
-                self.phase = Phase::Whole;
-                Err(error)
-            }
-        }
+        packets.pass(var, number)?;
+        self.phase = behind_packets(&packets.left);
+        Ok(())
     }
 
     /// Takes variables of the packets together where a piece has such, and says how many bits they are.
@@ -176,18 +155,11 @@ impl<H: Head, B: Own<Front = H>> MessageRest<H, B> {
         ensures err { OnErr result (H.Store.fails × IsTrue (may_ask self.old.phase self.old.packets.left)) }
         ensures viable { OnErr result (Viable (left_at H.Packet.WAY self.old.nid self.old.phase self.old.packets.left) (part at 1 (bits piece.now))) }
     {
+        self.phase = Phase::Whole;
         let packets = &mut self.packets;
-        match packets.leap(piece, at) {
-            Ok(Some(count)) => {
-                self.phase = behind_packets(&packets.left);
-                Ok(Some(count))
-            }
-            Ok(None) => Ok(None),
-            Err(error) => {
-                self.phase = Phase::Whole;
-                Err(error)
-            }
-        }
+        let leapt = packets.leap(piece, at)?;
+        self.phase = behind_packets(&packets.left);
+        Ok(leapt)
     }
 
     /// Takes bits of a message that is kept, of which `left` are wanted.
@@ -198,17 +170,12 @@ impl<H: Head, B: Own<Front = H>> MessageRest<H, B> {
         ensures goes { OnOk result (Goes (left_at H.Packet.WAY self.new.nid self.new.phase self.new.packets.left)) }
         ensures err { OnErr result (H.Store.fails × IsTrue (may_ask self.old.phase self.old.packets.left)) }
     {
+        self.phase = Phase::Whole;
         let packets = &mut self.packets;
-        match packets.store.bits(slice) {
-            Ok(()) => {
-                self.phase = behind_data(left - slice.len());
-                Ok(())
-            }
-            Err(error) => {
-                self.phase = Phase::Whole;
-                Err(error)
-            }
-        }
+        packets.store.bits(slice)?;
+        let wanted = left - slice.len();
+        self.phase = behind_bits(wanted, Phase::Data(wanted));
+        Ok(())
     }
 
     /// After a bit of a message that is kept, of which `left` are wanted.
@@ -237,11 +204,9 @@ impl<H: Head, B: Own<Front = H>> MessageRest<H, B> {
         ensures err { OnErr result (H.Store.fails × IsTrue (may_ask self.old.phase self.old.packets.left)) }
         ensures viable { OnErr result (Viable (left_at H.Packet.WAY self.old.nid self.old.phase self.old.packets.left) (part at 1 (bits piece.now))) }
     {
-        let count = left.min(piece.len() * 8 - at);
-        match self.keep(left, &bits_at(piece, at, count)) {
-            Ok(()) => Ok(Some(count)),
-            Err(error) => Err(error),
-        }
+        let run = run_at(piece, at, left);
+        self.keep(left, &run)?;
+        Ok(Some(run.len()))
     }
 
     /// Takes this many bits of PADDING, of which `left` are wanted, as a number.
@@ -253,7 +218,8 @@ impl<H: Head, B: Own<Front = H>> MessageRest<H, B> {
         ensures goes { Goes (left_at H.Packet.WAY self.new.nid self.new.phase self.new.packets.left) }
     {
         self.padding = (self.padding << count) | number as u8;
-        self.phase = behind_padding(left - count);
+        let wanted = left - count;
+        self.phase = behind_bits(wanted, Phase::Padding(wanted));
     }
 
     /// Takes the bits of PADDING that a piece has, of which `left` are wanted, and says how many it was.

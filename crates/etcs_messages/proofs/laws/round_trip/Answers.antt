@@ -7,7 +7,7 @@ use Rattle.etcs_messages.proofs.laws.round_trip.Given.{Over}
 
 answered : (g : Over) (c : After-feed g) → Answered c.args.message.now c.feed.result c.feed.new.self
 answered g c =
-    read_again g.H.Packet.AnyPacket.WAY g.H.Head.head g.B.Own.own g.H.Packet.AnyPacket.form g.met.H.Head.laws g.met.B.Own.laws g.met.H.Packet.AnyPacket.one c.args.message.now c.new-bytes.result.items c.encode.new.out.items c.as_slice.result.now c.new-reader.result c.feed.result c.feed.new.self c.readable.ensures.value c.new-bytes.ensures.items c.in-Ok.ensures.ok c.as_slice.ensures.value c.new-reader.ensures c.feed.ensures.answer
+    read_again g.H.Packet.AnyPacket.WAY g.H.Head.head g.B.Own.own g.H.Packet.AnyPacket.form g.met.H.Head.laws g.met.B.Own.laws g.met.H.Packet.AnyPacket.one c.args.message.now c.new-bytes.result.items c.encode.new.out.items c.as_slice.result.now c.new-reader.result c.feed.result c.feed.new.self c.readable.ensures.value c.new-bytes.ensures.items c.in_ok-encode.ensures.ok c.as_slice.ensures.value c.new-reader.ensures c.feed.ensures.answer
 
 pub unreachable-requires-in-Ok-More : goal.unreachable-requires-in-Ok-More
 unreachable-requires-in-Ok-More g c =
@@ -27,9 +27,9 @@ unreachable-requires-in-Err-Ended g c =
 pub unreachable-requires : goal.unreachable-requires
 unreachable-requires g c =
     let a = answered g (goal.at.unreachable-requires g c).After-feed in
-    c.in-Err-take.ensures.1 c.args.message.now (rw (c.in-Ok-Done.is, c.in-Ok-Done.field-0-is) at a)
+    c.in-Err.ensures.1 c.args.message.now (rw (c.in-Ok-Done.is, c.in-Ok-Done.field-0-is) at a)
 
-pub returns-in-Ok-take : goal.returns-in-Ok-take
-returns-in-Ok-take g c =
-    let a = answered g (goal.at.returns-in-Ok-take g c).After-feed in
-    same_value c.in-Ok-take.again c.args.message.now (sym c.in-Ok-take.ensures ∙ (rw (c.in-Ok-Done.is, c.in-Ok-Done.field-0-is) at a))
+pub returns-in-Ok : goal.returns-in-Ok
+returns-in-Ok g c =
+    let a = answered g (goal.at.returns-in-Ok g c).After-feed in
+    same_value c.in-Ok.again c.args.message.now (sym c.in-Ok.ensures ∙ (rw (c.in-Ok-Done.is, c.in-Ok-Done.field-0-is) at a))

@@ -7,20 +7,11 @@ use Rattle.etcs_messages.specs.Readings.{content_by}
 use Rattle.etcs_messages.proofs.Fronts.{front_there, no_front}
 use Rattle.etcs_messages.proofs.reader.content_of.Goals as goal
 
-pub front_by-head-requires-clause-there : goal.front_by-head-requires-clause-there
-front_by-head-requires-clause-there g c =
+pub front_by-head-requires : goal.front_by-head-requires
+front_by-head-requires g c =
     let (vars, typed, count) = front_there length (front_row g.H.Packet.AnyPacket.WAY c.args.nid) c.in-Some.field-0 (rw (c.in-Some.is, c.WAY.ensures) at c.front_count.ensures) in
-    (c.requires vars typed).0
-
-pub front_by-head-requires-clause-head : goal.front_by-head-requires-clause-head
-front_by-head-requires-clause-head g c =
-    let (vars, typed, count) = front_there length (front_row g.H.Packet.AnyPacket.WAY c.args.nid) c.in-Some.field-0 (rw (c.in-Some.is, c.WAY.ensures) at c.front_count.ensures) in
-    (c.requires vars typed).1
-
-pub front_by-head-requires-clause-own : goal.front_by-head-requires-clause-own
-front_by-head-requires-clause-own g c =
-    let (vars, typed, count) = front_there length (front_row g.H.Packet.AnyPacket.WAY c.args.nid) c.in-Some.field-0 (rw (c.in-Some.is, c.WAY.ensures) at c.front_count.ensures) in
-    (c.requires vars typed).2
+    let held = c.requires vars typed in
+    record { there = held.0; head = held.1; own = held.2 }
 
 pub returns-in-Some : goal.returns-in-Some
 returns-in-Some g c =

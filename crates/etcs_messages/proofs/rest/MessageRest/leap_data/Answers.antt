@@ -1,39 +1,30 @@
-use Rattle.std.proofs.Common.{refl, length, ◌∙◌, arith}
+use Rattle.std.proofs.Common.{refl, sym, ap, length, ◌∙◌, arith}
 use Rattle.etcs_bits.specs.Bits.{bits, part}
-use Rattle.etcs_bits.proofs.Positions.{length-bits}
 use Rattle.etcs_bits.proofs.Lists.{length-part}
 use Rattle.etcs_vars.specs.declared.var.Var.TheVariants.{OTHER_DATA}
 use Rattle.etcs_vars.specs.Reading.{kept}
 use Rattle.etcs_sequence.specs.laws.BitLaws.{bits_spelled, bits_viable}
+use Rattle.etcs_sequence.proofs.Leaps.{on_err}
 use Rattle.etcs_messages.proofs.RestStands.{data_parts}
 use Rattle.etcs_messages.proofs.rest.MessageRest.leap_data.Goals as goal
 
-pub overflow_mul-piece : goal.overflow_mul-piece
-overflow_mul-piece g c = omega (arith, c.requires.small, length-bits c.args.piece.now)
-
-pub overflow_sub-piece : goal.overflow_sub-piece
-overflow_sub-piece g c = omega (arith, c.requires.inside, length-bits c.args.piece.now)
-
-pub bits_at-requires : goal.bits_at-requires
-bits_at-requires g c = omega (arith, c.min-count.ensures, c.requires.inside, length-bits c.args.piece.now)
-
-pub returns-in-Ok-clause-some : goal.returns-in-Ok-clause-some
-returns-in-Ok-clause-some g c =
+pub returns-clause-some : goal.returns-clause-some
+returns-clause-some g c =
     let s = c.args.self.now in
     let pos = (data_parts g.H.Packet.AnyPacket.WAY s.nid s.phase c.args.left (length s.front.items) s.packets.left c.requires.phase s.stands).0 in
     record {
-      some = omega (arith, c.min-count.ensures, pos, c.requires.inside, length-bits c.args.piece.now);
-      inside = omega (arith, c.min-count.ensures, c.requires.inside, length-bits c.args.piece.now);
-      goes = c.in-Ok.ensures.goes;
-      whole = kept OTHER_DATA c.bits_at.result;
-      follows = c.in-Ok.ensures.ok;
-      bits = bits_spelled OTHER_DATA c.bits_at.result refl ∙ c.bits_at.ensures;
+      some = omega (arith, c.run_at-run.ensures.some pos, c.len.ensures);
+      inside = omega (arith, c.run_at-run.ensures.inside, c.len.ensures);
+      goes = c.in_ok-keep.ensures.goes;
+      whole = kept OTHER_DATA c.run_at-run.result;
+      follows = c.in_ok-keep.ensures.ok;
+      bits = bits_spelled OTHER_DATA c.run_at-run.result refl ∙ c.run_at-run.ensures.bits ∙ ap (λ n. part c.args.at n (bits c.args.piece.now)) (sym c.len.ensures);
     }
 
-pub returns-in-Err-clause-viable : goal.returns-in-Err-clause-viable
-returns-in-Err-clause-viable g c =
+pub returns-in_err-keep-clause-viable : goal.returns-in_err-keep-clause-viable
+returns-in_err-keep-clause-viable g c =
     let s = c.args.self.now in
     let xs = bits c.args.piece.now in
     let pos = (data_parts g.H.Packet.AnyPacket.WAY s.nid s.phase c.args.left (length s.front.items) s.packets.left c.requires.phase s.stands).0 in
     let one = length-part c.args.at 1 xs (omega (arith, c.requires.inside)) in
-    rw c.requires.phase (bits_viable OTHER_DATA refl c.args.left (part c.args.at 1 xs) (omega (arith, one, pos)))
+    on_err c.from_residual.result (rw c.requires.phase (bits_viable OTHER_DATA refl c.args.left (part c.args.at 1 xs) (omega (arith, one, pos))))

@@ -13,7 +13,7 @@ use Rattle.etcs_stream.proofs.Cutting.{lines_few, lines_text-append, one_line}
 use Rattle.etcs_log.specs.declared.job.LogJob.{LogJob}
 use Rattle.etcs_log.specs.declared.job.LogTally.{LogTally}
 use Rattle.etcs_log.specs.Logs.{Answer, passed, item, bad, IsAnswer, AreAnswers, Answered, GoodText, IsLog, Tells, items_in, bad_in}
-use Rattle.etcs_log.specs.Stands.{IsBegun, LogStands}
+use Rattle.etcs_log.specs.Stands.{AreAnswered, IsBegun, LogStands}
 
 pub answers-push : (kind : Kind) (lines : List (List ℕ)) (others : List Answer) (line : List ℕ) (a : Answer) → AreAnswers kind lines others → IsAnswer kind line a → AreAnswers kind (lines ++ line ∷ []) (others ++ a ∷ [])
 answers-push kind [] [] line a h k = (k, tt)
@@ -60,6 +60,28 @@ text-push (bad ∷ others) a text added h k = text-push others a text added h k
 tells-push : (job : LogJob) (others : List Answer) (a : Answer) (text added : List ℕ) → Tells job others text → Tells job (a ∷ []) added → Tells job (others ++ a ∷ []) (text ++ added)
 tells-push job others a text added h k = λ asked. text-push others a text added (h asked) (k asked)
 
+-- ---- What was answered.
+
+-- a line more
+answered_more : (job : LogJob) (lines : List (List ℕ)) (line : List ℕ) (tally tally' : LogTally) (told before text text' : List ℕ) → AreAnswered job lines tally told → told ≡ before ++ text → Answered job line tally tally' text text' → AreAnswered job (lines ++ line ∷ []) tally' (before ++ text')
+answered_more job lines line tally tally' told before text text' h t (a, is, (added, tells, grown, items, bads)) = record {
+  answers = h.answers ++ a ∷ [];
+  are_answers = answers-push job.kind lines h.answers line a h.are_answers is;
+  tells = subst (λ (z : List ℕ). Tells job (h.answers ++ a ∷ []) z) (ap (λ (z : List ℕ). z ++ added) t ∙ append_assoc before text added ∙ ap (λ (z : List ℕ). before ++ z) (sym grown)) (tells-push job h.answers a told added h.tells tells);
+  items_are = omega (arith, items, h.items_are, items_in-push h.answers a);
+  bad_are = omega (arith, bads, h.bad_are, bad_in-push h.answers a);
+}
+
+-- no more than there are lines
+answered_few : (job : LogJob) (lines : List (List ℕ)) (tally : LogTally) (told : List ℕ) → AreAnswered job lines tally told → (tally.items ≤ length lines) × (tally.bad ≤ length lines)
+answered_few job lines tally told h =
+    let count = answers_count job.kind lines h.answers h.are_answers in
+    (omega (arith, h.items_are, items_few h.answers, count), omega (arith, h.bad_are, bad_few h.answers, count))
+
+-- where good lines aren't asked for, any text may be written
+retold : (job : LogJob) (answers : List Answer) (told told' : List ℕ) → Tells job answers told → (job.good ≡ true → told ≡ told') → Tells job answers told'
+retold job answers told told' tells same = λ asked. subst (λ (z : List ℕ). GoodText answers z) (same asked) (tells asked)
+
 -- ---- What stands.
 
 pub stand_nothing : (job : LogJob) (kept : List ℕ) (tally : LogTally) → kept ≡ [] → tally.items ≡ 0 → tally.bad ≡ 0 → LogStands job kept false 0 tally [] []
@@ -70,25 +92,15 @@ stand_nothing job kept tally k i b = record {
   are_lines = (All-nil IsLine, All-nil (λ c. c ≡ 10 → ⊥));
   begun = (k, omega arith);
   line_is = refl;
-  answers = [];
-  are_answers = tt;
-  tells = λ _. refl;
-  items_are = i;
-  bad_are = b;
+  answered = record { answers = []; are_answers = tt; tells = λ _. refl; items_are = i; bad_are = b };
 }
 
 module _ (job : LogJob) (kept : List ℕ) (is_long : Bool) (line : ℕ) (tally : LogTally) (given told : List ℕ) (h : LogStands job kept is_long line tally given told) where
-  lines_short : length h.lines ≤ length given
-  lines_short = omega (arith, lines_few h.lines, ap length h.given_is, length-append (lines_text h.lines) h.part)
-
-  pub few_lines : length given < 2 ^ 62 → line < 2 ^ 63
-  few_lines short = omega (arith, short, lines_short, h.line_is)
-
-  pub few_items : length given < 2 ^ 62 → tally.items < 2 ^ 63
-  few_items short = omega (arith, short, lines_short, h.items_are, items_few h.answers, answers_count job.kind h.lines h.answers h.are_answers)
-
-  pub few_bad : length given < 2 ^ 62 → tally.bad < 2 ^ 63
-  few_bad short = omega (arith, short, lines_short, h.bad_are, bad_few h.answers, answers_count job.kind h.lines h.answers h.are_answers)
+  pub few : length given < 2 ^ 62 → (line < 2 ^ 63) × (tally.items < 2 ^ 63) × (tally.bad < 2 ^ 63)
+  few short =
+      let lines_short : length h.lines ≤ length given = omega (arith, lines_few h.lines, ap length h.given_is, length-append (lines_text h.lines) h.part) in
+      let answered = answered_few job h.lines tally told h.answered in
+      (omega (arith, short, lines_short, h.line_is), omega (arith, short, lines_short, answered.0), omega (arith, short, lines_short, answered.1))
 
   whole : (part : List ℕ) → IsLine part → IsLine (h.part ++ part)
   whole part l = All-append (λ c. c ≡ 10 → ⊥) h.part part h.are_lines.1 l
@@ -103,18 +115,14 @@ module _ (job : LogJob) (kept : List ℕ) (is_long : Bool) (line : ℕ) (tally :
 
   -- a line ends, of which this is the last part
   pub stand_line : (part : List ℕ) → IsLine part → (kept' : List ℕ) (is_long' : Bool) (line' : ℕ) (tally' : LogTally) (before text text' : List ℕ) → told ≡ before ++ text → IsBegun is_long' kept' [] → line' ≡ line + 1 → Answered job (h.part ++ part) tally tally' text text' → LogStands job kept' is_long' line' tally' (given ++ (part ++ 10 ∷ [])) (before ++ text')
-  stand_line part l kept' is_long' line' tally' before text text' t begun n (a, is, (added, tells, grown, items, bads)) = record {
+  stand_line part l kept' is_long' line' tally' before text text' t begun n answered = record {
     lines = h.lines ++ (h.part ++ part) ∷ [];
     part = [];
     given_is = ended part;
     are_lines = (All-append IsLine h.lines ((h.part ++ part) ∷ []) h.are_lines.0 (All-cons IsLine (h.part ++ part) [] (whole part l) (All-nil IsLine)), All-nil (λ c. c ≡ 10 → ⊥));
     begun = begun;
     line_is = omega (arith, n, h.line_is, length-append h.lines ((h.part ++ part) ∷ []));
-    answers = h.answers ++ a ∷ [];
-    are_answers = answers-push job.kind h.lines h.answers (h.part ++ part) a h.are_answers is;
-    tells = subst (λ (z : List ℕ). Tells job (h.answers ++ a ∷ []) z) (ap (λ (z : List ℕ). z ++ added) t ∙ append_assoc before text added ∙ ap (λ (z : List ℕ). before ++ z) (sym grown)) (tells-push job h.answers a told added h.tells tells);
-    items_are = omega (arith, items, h.items_are, items_in-push h.answers a);
-    bad_are = omega (arith, bads, h.bad_are, bad_in-push h.answers a);
+    answered = answered_more job h.lines (h.part ++ part) tally tally' told before text text' h.answered t answered;
   }
 
   -- a part more of a line is there
@@ -126,42 +134,44 @@ module _ (job : LogJob) (kept : List ℕ) (is_long : Bool) (line : ℕ) (tally :
     are_lines = (h.are_lines.0, whole part l);
     begun = begun;
     line_is = h.line_is;
-    answers = h.answers;
-    are_answers = h.are_answers;
-    tells = h.tells;
-    items_are = h.items_are;
-    bad_are = h.bad_are;
+    answered = h.answered;
   }
 
   -- the input ends
   pub stand_end : (tally' : LogTally) (before text text' : List ℕ) → told ≡ before ++ text → Answered job (h.part ++ []) tally tally' text text' → IsLog job given (before ++ text') tally'
-  stand_end tally' before text text' t (a, is, (added, tells, grown, items, bads)) = record {
-    lines = h.lines;
-    last = h.part;
-    given_is = h.given_is;
-    are_lines = h.are_lines;
-    answers = h.answers ++ a ∷ [];
-    are_answers = answers-push job.kind h.lines h.answers h.part a h.are_answers (subst (λ (z : List ℕ). IsAnswer job.kind z a) (append-nil h.part) is);
-    tells = subst (λ (z : List ℕ). Tells job (h.answers ++ a ∷ []) z) (ap (λ (z : List ℕ). z ++ added) t ∙ append_assoc before text added ∙ ap (λ (z : List ℕ). before ++ z) (sym grown)) (tells-push job h.answers a told added h.tells tells);
-    items_are = omega (arith, items, h.items_are, items_in-push h.answers a);
-    bad_are = omega (arith, bads, h.bad_are, bad_in-push h.answers a);
-  }
+  stand_end tally' before text text' t answered =
+      let all = answered_more job h.lines h.part tally tally' told before text text' h.answered t (subst (λ (z : List ℕ). Answered job z tally tally' text text') (append-nil h.part) answered) in
+      record {
+        lines = h.lines;
+        last = h.part;
+        given_is = h.given_is;
+        are_lines = h.are_lines;
+        answers = all.answers;
+        are_answers = all.are_answers;
+        tells = all.tells;
+        items_are = all.items_are;
+        bad_are = all.bad_are;
+      }
 
   -- where good lines aren't asked for, any text may be written
   pub stand_told : (told' : List ℕ) → (job.good ≡ true → told ≡ told') → LogStands job kept is_long line tally given told'
-  stand_told told' same = record {
-    lines = h.lines;
-    part = h.part;
-    given_is = h.given_is;
-    are_lines = h.are_lines;
-    begun = h.begun;
-    line_is = h.line_is;
-    answers = h.answers;
-    are_answers = h.are_answers;
-    tells = λ asked. subst (λ (z : List ℕ). GoodText h.answers z) (same asked) (h.tells asked);
-    items_are = h.items_are;
-    bad_are = h.bad_are;
-  }
+  stand_told told' same =
+      let answered = h.answered in
+      record {
+        lines = h.lines;
+        part = h.part;
+        given_is = h.given_is;
+        are_lines = h.are_lines;
+        begun = h.begun;
+        line_is = h.line_is;
+        answered = record {
+          answers = answered.answers;
+          are_answers = answered.are_answers;
+          tells = retold job answered.answers told told' answered.tells same;
+          items_are = answered.items_are;
+          bad_are = answered.bad_are;
+        };
+      }
 
 -- ---- What is kept.
 
@@ -181,7 +191,7 @@ log_told job given told told' tally h same = record {
   are_lines = h.are_lines;
   answers = h.answers;
   are_answers = h.are_answers;
-  tells = λ asked. subst (λ (z : List ℕ). GoodText h.answers z) (same asked) (h.tells asked);
+  tells = retold job h.answers told told' h.tells same;
   items_are = h.items_are;
   bad_are = h.bad_are;
 }

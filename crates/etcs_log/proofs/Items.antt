@@ -1,5 +1,6 @@
 -- What a reader to which nothing was fed answers of the bytes of a line.
 use Rattle.std.proofs.Common.{◌≡◌, ℕ, ◌+◌, ◌*◌, Bool, List, [], ◌++◌, length, take, drop, Result, Ok, Err, sym, ap, subst, ◌∙◌, arith}
+use Rattle.std.specs.Prelude.{IfOk}
 use Rattle.std.proofs.lemmas.List.{append-nil, take-append-drop, length-drop}
 use Rattle.std.proofs.Math.Seq.{take-length}
 use Rattle.etcs_bits.specs.Bits.{bits}
@@ -15,7 +16,8 @@ use Rattle.etcs_text.specs.declared.entry.Kind.{Kind}
 use Rattle.etcs_text.specs.Entries.{EntryValue, EntryReads}
 use Rattle.etcs_stream.specs.Readers.{ReaderValue, Progress, Feeds, reading, finished, stopped}
 use Rattle.etcs_stream.proofs.ItemKinds.{kind_regular}
-use Rattle.etcs_log.specs.Verdicts.{IsItem}
+use Rattle.etcs_log.specs.declared.verdict.Verdict.{Verdict}
+use Rattle.etcs_log.specs.Verdicts.{IsItem, IsVerdict}
 
 pub fresh_feeds : (kind : Kind) (r : ReaderValue) (new : List Bool) (answer : Result Fed ReadFault) (at : Progress) → r ≡ record { kind = kind; progress = reading [] } → ((seen : List Bool) → r.progress ≡ reading seen → Feeds (EntryReads r.kind) seen new answer at) → Feeds (EntryReads kind) [] new answer at
 fresh_feeds kind r new answer at is f = subst (λ (k : Kind). Feeds (EntryReads k) [] new answer at) (ap (λ (z : ReaderValue). z.kind) is) (f [] (ap (λ (z : ReaderValue). z.progress) is))
@@ -59,3 +61,6 @@ pub is_taken : (kind : Kind) (bytes : List ℕ) (k : ℕ) (at : Progress) (taken
 is_taken kind bytes k at taken f all is =
     let whole = item_of kind bytes k at f all in
     same_item kind bytes at whole.0 taken whole.1 is whole.2
+
+pub verdict_by : {E : Type 0} (kind : Kind) (bytes : List ℕ) (r r' : Result Verdict E) → r ≡ r' → IfOk r' (λ v. IsVerdict kind bytes v) → IfOk r (λ v. IsVerdict kind bytes v)
+verdict_by kind bytes r r' is h = subst (λ z. IfOk z (λ v. IsVerdict kind bytes v)) (sym is) h

@@ -5,7 +5,6 @@ ghost use Rattle.hex.specs.Hex.{encode_upper};
 ghost use Rattle.etcs_text.specs.Encodings.{IsEncoded};
 ghost use Rattle.etcs_text.specs.Entries.{entry_value};
 ghost use Rattle.etcs_log.specs.Logs.{Answered, BytesAnswered, Counted, item};
-ghost use Rattle.etcs_log.specs.Stands.{IsFresh};
 
 use crate::counts::Counts;
 use crate::job::{LogJob, LogTally};
@@ -13,7 +12,7 @@ use crate::notes::{Bad, MOST_CHARACTERS, write_note};
 use crate::verdict::{ItemReader, Verdict};
 use etcs_digits::{NoBytes, line_bytes};
 use etcs_explain::parts::wanted_bytes;
-use etcs_stream::Entry;
+use etcs_stream::{Entry, Kind};
 use etcs_text::parts::to_digits;
 use etcs_vars::Var;
 use std::alloc::{AllocError, Global};
@@ -49,13 +48,34 @@ fn are_bytes(bytes: &[u8])
     let _ = bytes;
 }
 
+/// Why these bytes are no item: they are refused at a bit, which is counted, or are more or fewer than an item has.
+///
+/// # Errors
+///
+/// Where memory is refused.
+fn bad_bytes(
+    kind: Kind,
+    refusal: Option<(usize, Var)>,
+    bytes: &[u8],
+    counts: &mut Counts,
+) -> Result<Bad, AllocError> {
+    match refusal {
+        Some((bit, var)) if wanted_bytes(kind, bytes) == Some(bytes.len()) => {
+            counts.add_refused(var)?;
+            Ok(Bad::Refused { bit, var })
+        }
+        _ => Ok(Bad::Count),
+    }
+}
+
 /// Says what lines are, and counts them.
 #[derive(Drop)]
 pub(crate) struct Lines {
     pub(crate) job: LogJob,
     pub(crate) tally: LogTally,
-    pub(crate) reader: ItemReader,
+    reader: ItemReader,
     counts: Counts,
+    ghost same: { reader ≡ job.kind },
 }
 
 impl Lines {
@@ -63,7 +83,6 @@ impl Lines {
     pub(crate) fn new(alloc: Global, job: LogJob) -> Lines
         ensures job { result.job ≡ job }
         ensures tally { (result.tally.items ≡ 0) × (result.tally.bad ≡ 0) }
-        ensures fresh { (result.reader.kind ≡ job.kind) × IsFresh job.kind result.reader.reader }
     {
         Lines {
             job,
@@ -85,11 +104,9 @@ impl Lines {
         texts: &mut Texts,
     ) -> Result<(), AllocError>
         requires short { length line.now ≤ 8192 }
-        requires fresh { (self.old.reader.kind ≡ self.old.job.kind) × IsFresh self.old.job.kind self.old.reader.reader }
         requires items { self.old.tally.items < 2 ^ 63 }
         requires bad { self.old.tally.bad < 2 ^ 63 }
         ensures job { self.new.job ≡ self.old.job }
-        ensures fresh { OnOk result ((self.new.reader.kind ≡ self.old.job.kind) × IsFresh self.old.job.kind self.new.reader.reader) }
         ensures ok { OnOk result (Answered self.old.job line.now self.old.tally self.new.tally texts.old.good.items texts.new.good.items) }
     {
         if line.len() <= FEW_CHARACTERS {
@@ -113,18 +130,21 @@ impl Lines {
     ) -> Result<(), AllocError>
         requires short { length line.now ≤ 8192 }
         requires room { length line.now ≤ 2 * length buffer.old }
-        requires fresh { (self.old.reader.kind ≡ self.old.job.kind) × IsFresh self.old.job.kind self.old.reader.reader }
         requires items { self.old.tally.items < 2 ^ 63 }
         requires bad { self.old.tally.bad < 2 ^ 63 }
         ensures job { self.new.job ≡ self.old.job }
-        ensures fresh { OnOk result ((self.new.reader.kind ≡ self.old.job.kind) × IsFresh self.old.job.kind self.new.reader.reader) }
         ensures ok { OnOk result (Answered self.old.job line.now self.old.tally self.new.tally texts.old.good.items texts.new.good.items) }
     {
         match line_bytes(line, buffer) {
             Ok(count) => self.take_bytes(number, &buffer[buffer.len() - count..], texts),
             Err(NoBytes::Empty) => Ok(()),
-            Err(NoBytes::NoDigits) => self.refuse(number, Bad::NoDigits, texts),
-            Err(NoBytes::OddDigits(count)) => self.refuse(number, Bad::OddDigits(count), texts),
+            Err(NoBytes::NoDigits) => self.refuse(number, Bad::NoDigits, &[], texts),
+            Err(NoBytes::OddDigits(count)) => self.refuse(
+                number,
+                Bad::OddDigits(count),
+                &[],
+                texts,
+            ),
         }
     }
 
@@ -134,21 +154,19 @@ impl Lines {
     ///
     /// Where memory is refused.
     fn take_bytes(&mut self, number: u64, bytes: &[u8], texts: &mut Texts) -> Result<(), AllocError>
-        requires fresh { (self.old.reader.kind ≡ self.old.job.kind) × IsFresh self.old.job.kind self.old.reader.reader }
         requires items { self.old.tally.items < 2 ^ 63 }
         requires bad { self.old.tally.bad < 2 ^ 63 }
         ensures job { self.new.job ≡ self.old.job }
-        ensures fresh { OnOk result ((self.new.reader.kind ≡ self.old.job.kind) × IsFresh self.old.job.kind self.new.reader.reader) }
         ensures ok { OnOk result (BytesAnswered self.old.job bytes.now self.old.tally self.new.tally texts.old.good.items texts.new.good.items) }
     {
         are_bytes(bytes);
-        match self.reader.read(bytes)? {
-            Verdict::Item(entry) => self.take_item(&entry, bytes, texts),
-            Verdict::Refused { bit, var } => {
-                self.refuse_bytes(number, Some((bit, var)), bytes, texts)
-            }
-            Verdict::OtherCount => self.refuse_bytes(number, None, bytes, texts),
-        }
+        let refusal = match self.reader.read(bytes)? {
+            Verdict::Item(entry) => return self.take_item(&entry, bytes, texts),
+            Verdict::Refused { bit, var } => Some((bit, var)),
+            Verdict::OtherCount => None,
+        };
+        let bad = bad_bytes(self.job.kind, refusal, bytes, &mut self.counts)?;
+        self.refuse(number, bad, bytes, texts)
     }
 
     /// Counts an item of these bytes, and writes their digits where they are asked for.
@@ -165,7 +183,6 @@ impl Lines {
         requires encoded { IsEncoded (entry_value entry.now) bytes.now }
         requires items { self.old.tally.items < 2 ^ 63 }
         ensures job { self.new.job ≡ self.old.job }
-        ensures reader { self.new.reader ≡ self.old.reader }
         ensures ok { OnOk result (Counted self.old.job (item (entry_value entry.now)) self.old.tally self.new.tally texts.old.good.items texts.new.good.items) }
     {
         self.tally.items += 1;
@@ -176,53 +193,26 @@ impl Lines {
         write_digits(bytes, &mut texts.good)
     }
 
-    /// Says why these bytes are no item: they are refused at a bit, or are more or fewer than an item has.
+    /// Says why a line is bad, which says these bytes, if it says any.
     ///
     /// # Errors
     ///
     /// Where memory is refused.
-    fn refuse_bytes(
+    pub(crate) fn refuse(
         &mut self,
         number: u64,
-        refusal: Option<(usize, Var)>,
+        bad: Bad,
         bytes: &[u8],
         texts: &mut Texts,
     ) -> Result<(), AllocError>
         requires bad { self.old.tally.bad < 2 ^ 63 }
         ensures job { self.new.job ≡ self.old.job }
-        ensures reader { self.new.reader ≡ self.old.reader }
         ensures items { self.new.tally.items ≡ self.old.tally.items }
         ensures bad { self.new.tally.bad ≡ self.old.tally.bad + 1 }
         ensures good { texts.new.good.items ≡ texts.old.good.items }
     {
         self.tally.bad += 1;
-        let kind = self.job.kind;
-        let bad = match refusal {
-            Some((bit, var)) if wanted_bytes(kind, bytes) == Some(bytes.len()) => {
-                self.counts.add_refused(var)?;
-                Bad::Refused { bit, var }
-            }
-            _ => Bad::Count,
-        };
-        write_note(number, bad, kind, bytes, &mut texts.notes)
-    }
-
-    /// Says that a line says no bytes.
-    pub(crate) fn refuse(
-        &mut self,
-        number: u64,
-        bad: Bad,
-        texts: &mut Texts,
-    ) -> Result<(), AllocError>
-        requires bad { self.old.tally.bad < 2 ^ 63 }
-        ensures job { self.new.job ≡ self.old.job }
-        ensures reader { self.new.reader ≡ self.old.reader }
-        ensures items { self.new.tally.items ≡ self.old.tally.items }
-        ensures bad { self.new.tally.bad ≡ self.old.tally.bad + 1 }
-        ensures good { texts.new.good.items ≡ texts.old.good.items }
-    {
-        self.tally.bad += 1;
-        write_note(number, bad, self.job.kind, &[], &mut texts.notes)
+        write_note(number, bad, self.job.kind, bytes, &mut texts.notes)
     }
 
     /// Appends the counts, a line each, where they are asked for.

@@ -2,7 +2,7 @@
 
 ghost use Rattle.std.specs.Prelude.{◌≡◌, ◌+◌, ◌<◌, ◌^◌, ◌++◌, ℕ, List, [], IfOk, OnOk, length};
 ghost use Rattle.etcs_log.specs.Logs.{Answered, IsLog};
-ghost use Rattle.etcs_log.specs.Stands.{IsBegun, IsFresh, LogStands};
+ghost use Rattle.etcs_log.specs.Stands.{IsBegun, LogStands};
 
 use crate::job::{LogJob, LogTally};
 use crate::lines::{Lines, Texts};
@@ -24,7 +24,6 @@ impl Log {
     pub(crate) fn new(alloc: Global, job: LogJob) -> Log
         ensures job { result.lines.job ≡ job }
         ensures stands { LogStands job result.begun.items result.is_long result.line result.lines.tally [] [] }
-        ensures fresh { (result.lines.reader.kind ≡ job.kind) × IsFresh job.kind result.lines.reader.reader }
     {
         Log {
             begun: Vec::new(alloc),
@@ -62,12 +61,10 @@ impl Log {
     /// Where memory is refused.
     fn end_line(&mut self, part: &[u8], texts: &mut Texts) -> Result<(), AllocError>
         requires begun { (front : List ℕ) × IsBegun self.old.is_long self.old.begun.items front }
-        requires fresh { (self.old.lines.reader.kind ≡ self.old.lines.job.kind) × IsFresh self.old.lines.job.kind self.old.lines.reader.reader }
         requires line { self.old.line < 2 ^ 63 }
         requires items { self.old.lines.tally.items < 2 ^ 63 }
         requires bad { self.old.lines.tally.bad < 2 ^ 63 }
         ensures job { self.new.lines.job ≡ self.old.lines.job }
-        ensures fresh { OnOk result ((self.new.lines.reader.kind ≡ self.old.lines.job.kind) × IsFresh self.old.lines.job.kind self.new.lines.reader.reader) }
         ensures line { OnOk result (self.new.line ≡ self.old.line + 1) }
         ensures begun { OnOk result (IsBegun self.new.is_long self.new.begun.items []) }
         ensures ok { (front : List ℕ) → IsBegun self.old.is_long self.old.begun.items front → OnOk result (Answered self.old.lines.job (front ++ part.now) self.old.lines.tally self.new.lines.tally texts.old.good.items texts.new.good.items) }
@@ -91,16 +88,14 @@ impl Log {
     /// Where memory is refused.
     fn end_kept(&mut self, texts: &mut Texts) -> Result<(), AllocError>
         requires begun { (line : List ℕ) × IsBegun self.old.is_long self.old.begun.items line }
-        requires fresh { (self.old.lines.reader.kind ≡ self.old.lines.job.kind) × IsFresh self.old.lines.job.kind self.old.lines.reader.reader }
         requires items { self.old.lines.tally.items < 2 ^ 63 }
         requires bad { self.old.lines.tally.bad < 2 ^ 63 }
         ensures job { self.new.lines.job ≡ self.old.lines.job }
         ensures line { self.new.line ≡ self.old.line }
-        ensures fresh { OnOk result ((self.new.lines.reader.kind ≡ self.old.lines.job.kind) × IsFresh self.old.lines.job.kind self.new.lines.reader.reader) }
         ensures ok { (line : List ℕ) → IsBegun self.old.is_long self.old.begun.items line → OnOk result (Answered self.old.lines.job line self.old.lines.tally self.new.lines.tally texts.old.good.items texts.new.good.items) }
     {
         if self.is_long {
-            self.lines.refuse(self.line, Bad::Long, texts)
+            self.lines.refuse(self.line, Bad::Long, &[], texts)
         } else {
             self.lines.take(self.line, self.begun.as_slice(), texts)
         }
@@ -113,9 +108,7 @@ impl Log {
     /// Where memory is refused.
     pub(crate) fn feed(&mut self, piece: &[u8], texts: &mut Texts) -> Result<(), AllocError>
         requires stands { (given : List ℕ) × (told : List ℕ) × LogStands self.old.lines.job self.old.begun.items self.old.is_long self.old.line self.old.lines.tally given (told ++ texts.old.good.items) × (length given + length piece.now < 2 ^ 62) }
-        requires fresh { (self.old.lines.reader.kind ≡ self.old.lines.job.kind) × IsFresh self.old.lines.job.kind self.old.lines.reader.reader }
         ensures job { self.new.lines.job ≡ self.old.lines.job }
-        ensures fresh { OnOk result ((self.new.lines.reader.kind ≡ self.old.lines.job.kind) × IsFresh self.old.lines.job.kind self.new.lines.reader.reader) }
         ensures ok { (given told : List ℕ) → LogStands self.old.lines.job self.old.begun.items self.old.is_long self.old.line self.old.lines.tally given (told ++ texts.old.good.items) → OnOk result (LogStands self.old.lines.job self.new.begun.items self.new.is_long self.new.line self.new.lines.tally (given ++ piece.now) (told ++ texts.new.good.items)) }
     {
         let mut rest = piece;
@@ -133,7 +126,6 @@ impl Log {
     /// Where memory is refused.
     pub(crate) fn finish(&mut self, texts: &mut Texts) -> Result<LogTally, AllocError>
         requires stands { (given : List ℕ) × (told : List ℕ) × LogStands self.old.lines.job self.old.begun.items self.old.is_long self.old.line self.old.lines.tally given (told ++ texts.old.good.items) × (length given < 2 ^ 62) }
-        requires fresh { (self.old.lines.reader.kind ≡ self.old.lines.job.kind) × IsFresh self.old.lines.job.kind self.old.lines.reader.reader }
         ensures ok { (given told : List ℕ) → LogStands self.old.lines.job self.old.begun.items self.old.is_long self.old.line self.old.lines.tally given (told ++ texts.old.good.items) → IfOk result (λ tally. IsLog self.old.lines.job given (told ++ texts.new.good.items) tally) }
     {
         self.end_line(&[], texts)?;

@@ -4,7 +4,7 @@ ghost use Rattle.std.specs.Prelude.{◌≡◌, ◌+◌, ◌<◌, ◌≤◌, ◌^
 ghost use Rattle.std.specs.Io.KnownBytes.{Appends, IsAtEnd};
 ghost use Rattle.etcs_stream.specs.Pipes.{Piped};
 ghost use Rattle.etcs_log.specs.Logs.{IsLog};
-ghost use Rattle.etcs_log.specs.Stands.{IsFresh, LogStands};
+ghost use Rattle.etcs_log.specs.Stands.{LogStands};
 
 use crate::job::{LogJob, LogTally};
 use crate::lines::Texts;
@@ -85,7 +85,6 @@ fn close<W: Sink, N: Sink>(
     sent: &mut u64,
 ) -> Result<LogTally, RunFault>
     requires stands { (given : List ℕ) × (told : List ℕ) × LogStands log.old.lines.job log.old.begun.items log.old.is_long log.old.line log.old.lines.tally given told × (length given < 2 ^ 62) }
-    requires fresh { (log.old.lines.reader.kind ≡ log.old.lines.job.kind) × IsFresh log.old.lines.job.kind log.old.lines.reader.reader }
     requires empty { texts.old.good.items ≡ [] }
     requires failures { W.failures sink.old < 2 ^ 63 }
     requires note_failures { N.failures notes.old < 2 ^ 63 }
@@ -117,7 +116,6 @@ fn read_all<S: Source, W: Sink, N: Sink>(
     notes: &mut N,
 ) -> Result<LogTally, RunFault>
     requires stands { LogStands log.old.lines.job log.old.begun.items log.old.is_long log.old.line log.old.lines.tally [] [] }
-    requires fresh { (log.old.lines.reader.kind ≡ log.old.lines.job.kind) × IsFresh log.old.lines.job.kind log.old.lines.reader.reader }
     requires empty { texts.old.good.items ≡ [] }
     requires reads { S.reads source.old < 2 ^ 63 }
     requires read_failures { S.failures source.old < 2 ^ 63 }

@@ -1,6 +1,6 @@
 //! What the bytes of a line are.
 
-ghost use Rattle.std.specs.Prelude.{◌≡◌, [], IfOk, OnOk};
+ghost use Rattle.std.specs.Prelude.{◌≡◌, [], IfOk};
 ghost use Rattle.etcs_text.specs.Entries.{EntryValue, entry_value};
 ghost use Rattle.etcs_stream.specs.Readers.{finished, reading};
 ghost use Rattle.etcs_log.specs.Verdicts.{IsVerdict};
@@ -9,6 +9,7 @@ use etcs_stream::parts::EntryReader;
 use etcs_stream::{Entry, Kind};
 use etcs_vars::{Fed, ReadFault, Var};
 use std::alloc::{AllocError, Global};
+use std::marker::Model;
 
 /// What bytes are.
 #[derive(Debug, Drop)]
@@ -25,15 +26,39 @@ pub(crate) enum Verdict {
 #[derive(Drop)]
 pub(crate) struct ItemReader {
     alloc: Global,
-    pub(crate) kind: Kind,
-    pub(crate) reader: EntryReader,
+    kind: Kind,
+    reader: EntryReader,
+}
+
+impl Model for ItemReader {
+    ghost use Rattle.std.specs.Prelude.{◌≡◌, []};
+    ghost use Rattle.etcs_text.specs.declared.entry.Kind.{Kind};
+    ghost use Rattle.etcs_stream.specs.Readers.{reading};
+
+    ghost Value = { Kind };
+
+    ghost view = { λ s. s.kind };
+
+    ghost invariant = { λ s. s.reader ≡ record { kind = s.kind; progress = reading [] } };
+}
+
+/// The item that is whole. The next one is read then.
+fn take(reader: &mut EntryReader, alloc: Global, kind: Kind) -> Entry
+    requires kind { reader.old.kind ≡ kind }
+    requires whole { (e : EntryValue) × (reader.old.progress ≡ finished e) }
+    ensures fresh { reader.new ≡ record { kind = kind; progress = reading [] } }
+    ensures item { reader.old.progress ≡ finished (entry_value result) }
+{
+    match reader.next(alloc, kind) {
+        Ok(entry) => entry,
+        Err(()) => unreachable!(),
+    }
 }
 
 impl ItemReader {
     /// A reader of items of this kind.
     pub(crate) fn new(alloc: Global, kind: Kind) -> ItemReader
-        ensures kind { result.kind ≡ kind }
-        ensures fresh { result.reader ≡ record { kind = kind; progress = reading [] } }
+        ensures { result ≡ kind }
     {
         ItemReader {
             alloc,
@@ -46,48 +71,25 @@ impl ItemReader {
     ///
     /// # Errors
     ///
-    /// Where memory is refused. Nothing more can be read then.
+    /// Where memory is refused.
     pub(crate) fn read(&mut self, bytes: &[u8]) -> Result<Verdict, AllocError>
-        requires fresh { self.old.reader ≡ record { kind = self.old.kind; progress = reading [] } }
-        ensures kind { self.new.kind ≡ self.old.kind }
-        ensures fresh { OnOk result (self.new.reader ≡ record { kind = self.old.kind; progress = reading [] }) }
-        ensures verdict { IfOk result (λ v. IsVerdict self.old.kind bytes.now v) }
+        ensures kind { self.new ≡ self.old }
+        ensures verdict { IfOk result (λ v. IsVerdict self.old bytes.now v) }
     {
         let verdict = match self.reader.feed(bytes) {
             Ok(Fed::Done { taken }) => {
                 if taken == bytes.len() {
-                    return Ok(Verdict::Item(self.take()));
+                    let entry = take(&mut self.reader, self.alloc, self.kind);
+                    return Ok(Verdict::Item(entry));
                 }
-                Verdict::OtherCount
+                Ok(Verdict::OtherCount)
             }
-            Ok(Fed::More) => Verdict::OtherCount,
-            Err(ReadFault::Refused { bit, var }) => Verdict::Refused { bit, var },
-            Err(ReadFault::Memory) => return Err(AllocError),
+            Ok(Fed::More) => Ok(Verdict::OtherCount),
+            Err(ReadFault::Refused { bit, var }) => Ok(Verdict::Refused { bit, var }),
+            Err(ReadFault::Memory) => Err(AllocError),
             Err(ReadFault::Ended) => unreachable!(),
         };
-        self.renew();
-        Ok(verdict)
-    }
-
-    /// A new item is read from here on.
-    fn renew(&mut self)
-        ensures kind { self.new.kind ≡ self.old.kind }
-        ensures fresh { self.new.reader ≡ record { kind = self.old.kind; progress = reading [] } }
-    {
         self.reader = EntryReader::new(self.alloc, self.kind);
-    }
-
-    /// The item that is whole. The next one is read then.
-    fn take(&mut self) -> Entry
-        requires kind { self.old.reader.kind ≡ self.old.kind }
-        requires whole { (e : EntryValue) × (self.old.reader.progress ≡ finished e) }
-        ensures kind { self.new.kind ≡ self.old.kind }
-        ensures fresh { self.new.reader ≡ record { kind = self.old.kind; progress = reading [] } }
-        ensures item { self.old.reader.progress ≡ finished (entry_value result) }
-    {
-        match self.reader.next(self.alloc, self.kind) {
-            Ok(entry) => entry,
-            Err(()) => unreachable!(),
-        }
+        verdict
     }
 }

@@ -5,12 +5,12 @@ use Rattle.etcs_log.specs.Stands.{LogStands}
 use Rattle.etcs_log.proofs.Counting.{log_told}
 use Rattle.etcs_log.proofs.runs.close.Goals as goal
 
-pub finish-finished-requires-clause-stands : goal.finish-finished-requires-clause-stands
-finish-finished-requires-clause-stands g c =
+pub finish-finished-requires : goal.finish-finished-requires
+finish-finished-requires g c =
     let (given, told, h, short) = c.requires.stands in
     let l = c.args.log.now in
     let none : told ++ c.args.texts.now.good.items ≡ told = ap (λ (z : List ℕ). told ++ z) c.requires.empty ∙ append-nil told in
-    (given, told, subst (λ (z : List ℕ). LogStands l.lines.job l.begun.items l.is_long l.line l.lines.tally given z) (sym none) h, short)
+    record { stands = (given, told, subst (λ (z : List ℕ). LogStands l.lines.job l.begun.items l.is_long l.line l.lines.tally given z) (sym none) h, short) }
 
 pub returns-in-Ok-flush-clause-ok : goal.returns-in-Ok-flush-clause-ok
 returns-in-Ok-flush-clause-ok g c given told h =

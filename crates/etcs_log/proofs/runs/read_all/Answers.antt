@@ -5,7 +5,7 @@ use Rattle.std.proofs.lemmas.List.{append-nil, length-append, length-take-le}
 use Rattle.etcs_stream.proofs.Known.{Appends-then, Consumes-end, Consumes-then}
 use Rattle.etcs_log.specs.declared.job.LogJob.{LogJob}
 use Rattle.etcs_log.specs.Logs.{IsLog}
-use Rattle.etcs_log.specs.Stands.{IsFresh, LogStands}
+use Rattle.etcs_log.specs.Stands.{LogStands}
 use Rattle.etcs_log.proofs.Counting.{closed_if, stand_told}
 use Rattle.etcs_log.proofs.runs.read_all.Goals as goal
 
@@ -18,8 +18,8 @@ returns-then-count-eq0-clause-ok g c =
     let closed = subst (λ (j : LogJob). IfOk c.close.result (λ tally. (added : List ℕ) × Appends (g.W.Sink.contents c.loop.sink) (g.W.Sink.contents c.close.new.sink) added × IsLog j i.given (i.told ++ added) tally)) i.job (c.close.ensures.ok i.given i.told stands) in
     closed_if c.close.result c.args.log.now.lines.job _ _ _ (g.W.Sink.contents c.loop.sink) (g.W.Sink.contents c.close.new.sink) i.given i.told gave i.appends closed
 
-pub feed-fed-requires-clause-stands : goal.feed-fed-requires-clause-stands
-feed-fed-requires-clause-stands g c =
+pub feed-fed-requires : goal.feed-fed-requires
+feed-fed-requires g c =
     let i = c.loop.invariant in
     let l = c.loop.log in
     let buffer = c.read.new.buffer in
@@ -27,7 +27,7 @@ feed-fed-requires-clause-stands g c =
     let long : length (take c.in-Ok.count buffer) ≡ c.in-Ok.count = length-take-le c.in-Ok.count buffer (omega (arith, c.in-Ok.ensures.bound)) in
     let none : i.told ++ c.loop.texts.good.items ≡ i.told = ap (λ (z : List ℕ). i.told ++ z) i.empty ∙ append-nil i.told in
     let stands = subst (λ (j : LogJob). LogStands j l.begun.items l.is_long l.line l.lines.tally i.given i.told) (sym i.job) i.stands in
-    (i.given, i.told, subst (λ (z : List ℕ). LogStands l.lines.job l.begun.items l.is_long l.line l.lines.tally i.given z) (sym none) stands, omega (arith, i.most, long, room, c.in-Ok.ensures.bound, c.loop-test.true))
+    record { stands = (i.given, i.told, subst (λ (z : List ℕ). LogStands l.lines.job l.begun.items l.is_long l.line l.lines.tally i.given z) (sym none) stands, omega (arith, i.most, long, room, c.in-Ok.ensures.bound, c.loop-test.true)) }
 
 pub loop-preserved : goal.loop-preserved
 loop-preserved g c =
@@ -51,8 +51,6 @@ loop-preserved g c =
       appends = Appends-then _ (g.W.Sink.contents c.loop.sink) _ i.told sent.0 i.appends sent.1;
       stands = stand_told job n.begun.items n.is_long n.line n.lines.tally (i.given ++ piece) (i.told ++ text) (subst (λ (j : LogJob). LogStands j n.begun.items n.is_long n.line n.lines.tally (i.given ++ piece) (i.told ++ text)) i.job fed) (i.told ++ sent.0) (λ asked. ap (λ (z : List ℕ). i.told ++ z) (sym (sent.2 asked)));
       job = c.feed-fed.ensures.job ∙ i.job;
-      kind = c.in-Ok-fed.ensures.fresh.0 ∙ ap (λ (j : LogJob). j.kind) i.job;
-      fresh = subst (λ (j : LogJob). IsFresh j.kind n.lines.reader.reader) i.job c.in-Ok-fed.ensures.fresh.1;
       empty = c.in_ok-pass.ensures.cleared;
       most = omega (arith, i.most, long, room, c.in-Ok.ensures.bound, length-append i.given piece);
       room = room;

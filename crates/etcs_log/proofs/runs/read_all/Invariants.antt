@@ -1,6 +1,6 @@
 use Rattle.std.proofs.Common.{◌≡◌, ◌+◌, ◌*◌, ◌≤◌, [], List, length, ℕ}
 use Rattle.std.specs.Io.KnownBytes.{Appends, Consumes}
-use Rattle.etcs_log.specs.Stands.{IsFresh, LogStands}
+use Rattle.etcs_log.specs.Stands.{LogStands}
 use Rattle.etcs_log.proofs.runs.read_all.Given as goal
 
 abbrev pub invariant-loop : goal.invariant-loop
@@ -11,8 +11,6 @@ invariant-loop g l = record {
   appends : Appends (g.W.Sink.contents l.fn.sink) (g.W.Sink.contents l.sink) told;
   stands : LogStands l.fn.log.lines.job l.log.begun.items l.log.is_long l.log.line l.log.lines.tally given told;
   job : l.log.lines.job ≡ l.fn.log.lines.job;
-  kind : l.log.lines.reader.kind ≡ l.fn.log.lines.job.kind;
-  fresh : IsFresh l.fn.log.lines.job.kind l.log.lines.reader.reader;
   empty : l.texts.good.items ≡ [];
   most : length given ≤ 4096 * l.counter;
   room : length l.buffer ≡ 4096;

@@ -5,36 +5,18 @@ use Rattle.etcs_stream.proofs.LineSteps.{cut_line, cut_given}
 use Rattle.etcs_log.specs.declared.job.LogJob.{LogJob}
 use Rattle.etcs_log.specs.declared.lines.Lines.{Lines}
 use Rattle.etcs_log.specs.Logs.{Answered}
-use Rattle.etcs_log.specs.Stands.{IsFresh, LogStands}
-use Rattle.etcs_log.proofs.Counting.{few_lines, few_items, few_bad, stand_line, stand_part_if}
+use Rattle.etcs_log.specs.Stands.{LogStands}
+use Rattle.etcs_log.proofs.Counting.{few, stand_line, stand_part_if}
 use Rattle.etcs_log.proofs.log.Log.feed.Goals as goal
 
-pub end_line-requires-clause-begun : goal.end_line-requires-clause-begun
-end_line-requires-clause-begun c =
-    let (given, told, h, short) = c.requires.stands in
-    let s = c.loop-line.invariant.stands given told h in
-    (s.part, s.begun)
-
-pub end_line-requires-clause-line : goal.end_line-requires-clause-line
-end_line-requires-clause-line c =
+pub end_line-requires : goal.end_line-requires
+end_line-requires c =
     let (given, told, h, short) = c.requires.stands in
     let i = c.loop-line.invariant in
     let l = c.loop-line.self in
-    few_lines c.args.self.now.lines.job l.begun.items l.is_long l.line l.lines.tally (given ++ i.front) _ (i.stands given told h) (omega (arith, short, length-append given i.front, ap length i.all, length-append i.front c.loop-line.rest.now))
-
-pub end_line-requires-clause-items : goal.end_line-requires-clause-items
-end_line-requires-clause-items c =
-    let (given, told, h, short) = c.requires.stands in
-    let i = c.loop-line.invariant in
-    let l = c.loop-line.self in
-    few_items c.args.self.now.lines.job l.begun.items l.is_long l.line l.lines.tally (given ++ i.front) _ (i.stands given told h) (omega (arith, short, length-append given i.front, ap length i.all, length-append i.front c.loop-line.rest.now))
-
-pub end_line-requires-clause-bad : goal.end_line-requires-clause-bad
-end_line-requires-clause-bad c =
-    let (given, told, h, short) = c.requires.stands in
-    let i = c.loop-line.invariant in
-    let l = c.loop-line.self in
-    few_bad c.args.self.now.lines.job l.begun.items l.is_long l.line l.lines.tally (given ++ i.front) _ (i.stands given told h) (omega (arith, short, length-append given i.front, ap length i.all, length-append i.front c.loop-line.rest.now))
+    let s = i.stands given told h in
+    let small = few c.args.self.now.lines.job l.begun.items l.is_long l.line l.lines.tally (given ++ i.front) _ s (omega (arith, short, length-append given i.front, ap length i.all, length-append i.front c.loop-line.rest.now)) in
+    record { begun = (s.part, s.begun); line = small.0; items = small.1; bad = small.2 }
 
 pub loop-line-preserved : goal.loop-line-preserved
 loop-line-preserved c =
@@ -48,8 +30,6 @@ loop-line-preserved c =
     record {
       front = i.front ++ (line ++ 10 ∷ []);
       job_is = e.job ∙ i.job_is;
-      kind = e.fresh.0 ∙ ap (λ (j : LogJob). j.kind) i.job_is;
-      fresh = subst (λ (j : LogJob). IsFresh j.kind n.lines.reader.reader) i.job_is e.fresh.1;
       all = cut_line c.args.piece.now i.front c.loop-line.rest.now line c.in-Some.behind.now i.all c.in-Some.ensures.some.0;
       stands = λ given told h. (
           let s = i.stands given told h in

@@ -1,24 +1,13 @@
 use Rattle.std.proofs.Common.{refl}
-use Rattle.etcs_log.proofs.Counting.{few_lines, few_items, few_bad, stand_end}
+use Rattle.etcs_log.proofs.Counting.{few, stand_end}
 use Rattle.etcs_log.proofs.log.Log.finish.Goals as goal
 
-pub end_line-requires-clause-line : goal.end_line-requires-clause-line
-end_line-requires-clause-line c =
+pub end_line-requires : goal.end_line-requires
+end_line-requires c =
     let (given, told, h, short) = c.requires.stands in
     let s = c.args.self.now in
-    few_lines s.lines.job s.begun.items s.is_long s.line s.lines.tally given _ h short
-
-pub end_line-requires-clause-items : goal.end_line-requires-clause-items
-end_line-requires-clause-items c =
-    let (given, told, h, short) = c.requires.stands in
-    let s = c.args.self.now in
-    few_items s.lines.job s.begun.items s.is_long s.line s.lines.tally given _ h short
-
-pub end_line-requires-clause-bad : goal.end_line-requires-clause-bad
-end_line-requires-clause-bad c =
-    let (given, told, h, short) = c.requires.stands in
-    let s = c.args.self.now in
-    few_bad s.lines.job s.begun.items s.is_long s.line s.lines.tally given _ h short
+    let small = few s.lines.job s.begun.items s.is_long s.line s.lines.tally given _ h short in
+    record { begun = (h.part, h.begun); line = small.0; items = small.1; bad = small.2 }
 
 pub returns : goal.returns
 returns c = record {

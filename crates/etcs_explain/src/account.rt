@@ -89,23 +89,20 @@ impl Trace {
 
 impl VarSink for Trace {
     ghost use Rattle.std.specs.Prelude.{◌++◌, ⊤};
-    ghost use Rattle.etcs_explain.specs.laws.Traces.{with_none, with_both};
+    ghost use Rattle.etcs_vars.specs.laws.Sinks.{pairs_none, pairs_both};
 
     ghost with = { λ s p. s ++ p };
 
     ghost failed = { λ s t. ⊤ };
 
-    ghost with_none = { with_none };
+    ghost with_none = { pairs_none };
 
-    ghost with_both = { with_both };
+    ghost with_both = { pairs_both };
 
     ghost failed_behind = { λ s a t h. h };
 
     fn send(&mut self, sent: &[(Var, u64)]) -> Result<(), AllocError> {
-        for pair in sent {
-            self.fields.push(*pair)?;
-        }
-        Ok(())
+        self.fields.extend_from_slice(sent)
     }
 }
 

@@ -6,7 +6,7 @@ use crate::text::Text;
 use etcs_json::{JsonFault, from_line};
 use etcs_rows::Place;
 use etcs_tables::{
-    CLOSING, CLOSING_BITS, Row, RowItem, Way, frame_bits, is_framed, message_row, row_of,
+    CLOSING, CLOSING_BITS, MARKER_BITS, Row, RowItem, Way, frame_bits, message_row, row_of,
 };
 use etcs_text::Kind;
 use etcs_vars::Var;
@@ -103,12 +103,11 @@ impl<'a> Part<'a> {
 
     /// The member of a name.
     fn member(self, name: &'static str, out: &mut Text) -> Option<Part<'a>> {
-        let mut part = self.named(name);
-        let Some(value) = self.value.get(name) else {
-            wrong!(part, out; "this member is missing");
-        };
-        part.value = value;
-        Some(part)
+        let part = self.named(name);
+        match self.value.get(name) {
+            Some(value) => Some(Part { value, ..part }),
+            None => wrong!(part, out; "this member is missing"),
+        }
     }
 
     /// Tests that it is an object with no members but these.
@@ -153,14 +152,15 @@ impl<'a> Part<'a> {
     /// Tests that it has this many bits.
     fn test_bits(self, wanted: usize, out: &mut Text) -> Option<()> {
         let count = self.bits(out)?;
-        let (what, by) = if count > wanted {
-            ("shorten", count - wanted)
-        } else {
-            ("lengthen", wanted - count)
-        };
-        if by == 0 {
+        if count == wanted {
             return Some(());
         }
+        let what = if count > wanted {
+            "shorten"
+        } else {
+            "lengthen"
+        };
+        let by = count.max(wanted).saturating_sub(count.min(wanted));
         wrong!(self, out; "{count} bits, and {wanted} are left: {what} it by {by}")
     }
 
@@ -233,8 +233,12 @@ impl<'a> Part<'a> {
         if (way, nid) == (Way::ToTrain, CLOSING) {
             wrong!(self.named("nid"), out; "packet {nid} closes each telegram, and isn't written");
         }
+        if (way, nid) == (Way::ToTrain, 0) {
+            self.test_names(&["fields", "nid"], out)?;
+            self.member("fields", out)?.pairs(MARKER, out)?;
+            return Some(MARKER_BITS);
+        }
         let row = match (way, nid) {
-            (Way::ToTrain, 0) => Some(MARKER),
             // packets that may be bits, as they were before they were typed
             (Way::ToTrain, 49 | 57 | 58 | 63 | 68 | 80 | 131) if self.has("data") => None,
             _ => row_of(way, nid),
@@ -243,27 +247,21 @@ impl<'a> Part<'a> {
             Some(_) => ("fields", "data", "typed"),
             None => ("data", "fields", "kept as bits"),
         };
-        let is_framed = is_framed(way, nid);
-        if is_framed && self.has(other) {
+        if self.has(other) {
             wrong!(self.named(other), out; "packet {nid} is {what} here: give {name} in place of {other}");
         }
-        if is_framed && way == Way::ToTrain {
+        if way == Way::ToTrain {
             self.test_names(&[name, "dir", "nid"], out)?;
             self.member("dir", out)?.number(2, out)?;
         } else {
             self.test_names(&[name, "nid"], out)?;
         }
-        let front = if is_framed {
-            frame_bits(way)
-        } else {
-            Var::NID_PACKET.width()
-        };
         let member = self.member(name, out)?;
         let bits = match row {
             Some(row) => member.pairs(row, out)?,
             None => member.bits(out)?,
         };
-        Some(bits.saturating_add(front))
+        Some(bits.saturating_add(frame_bits(way)))
     }
 
     /// How many bits the packets of an item have.
@@ -379,16 +377,12 @@ fn write_shape(kind: Kind, line: &[u8], out: &mut Text) {
 /// Appends where a line stops being JSON.
 fn write_no_json(error: &Error, out: &mut Text) {
     let column = error.column();
+    out.push("no JSON: ");
     if error.is_eof() {
-        write!(
-            out,
-            "no JSON: it ends at column {column}, inside a value; jq -c . makes one line of several"
-        );
+        write!(out, "it ends at column {column}, inside a value");
+        out.push("; jq -c . makes one line of several");
     } else {
-        write!(
-            out,
-            "no JSON: another character is wanted at column {column}"
-        );
+        write!(out, "another character is wanted at column {column}");
     }
 }
 

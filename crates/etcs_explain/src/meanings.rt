@@ -10,13 +10,10 @@ enum Unit {
     Distance,
     /// The same with a sign, in two's complement of 16 bits.
     Shift,
-    Metres,
-    /// Steps of 5 km/h.
-    Speed,
-    Seconds,
+    /// So many times the number, in the unit of this text.
+    Times(u64, &'static str),
     /// Steps of 10 ms.
     Hundredths,
-    PerMille,
     /// Three bits X and four bits Y of a version X.Y.
     Version,
     /// 10 bits of NID_C and 14 bits of NID_BG.
@@ -31,7 +28,9 @@ enum Unit {
 
 /// Units, each with the variables that have it.
 macro_rules! units {
-    ($($unit:ident: $($var:ident)*;)*) => { [$((Unit::$unit, &[$(Var::$var),*])),*] };
+    ($($unit:ident $(($times:literal $text:literal))?: $($var:ident)*;)*) => {
+        [$((Unit::$unit $(($times, $text))?, &[$(Var::$var),*])),*]
+    };
 }
 
 #[rattlefmt::skip]
@@ -40,11 +39,11 @@ static UNITS: [(Unit, &[Var]); 12] = units! {
         D_LEVELTR L_ACKLEVELTR D_TSR L_TSR D_TEXTDISPLAY L_TEXTDISPLAY D_SR D_CYCLOC D_LOC D_TRACKINIT D_TRACKCOND L_TRACKCOND
         D_MAMODE L_MAMODE L_ACKMAMODE D_RBCTR D_LRBG L_DOUBTOVER L_DOUBTUNDER;
     Shift: D_REF;
-    Metres: Q_LOCACC L_TRAININT;
-    Speed: V_MAIN V_LOA V_RELEASEDP V_RELEASEOL V_STATIC V_DIFF V_TSR V_MAMODE V_TRAIN;
-    Seconds: T_LOA T_SECTIONTIMER T_ENDTIMER T_OL T_TEXTDISPLAY T_MAR T_TIMEOUTRQST T_CYCRQST T_CYCLOC;
+    Times(1 " m"): Q_LOCACC L_TRAININT;
+    Times(5 " km/h"): V_MAIN V_LOA V_RELEASEDP V_RELEASEOL V_STATIC V_DIFF V_TSR V_MAMODE V_TRAIN;
+    Times(1 " s"): T_LOA T_SECTIONTIMER T_ENDTIMER T_OL T_TEXTDISPLAY T_MAR T_TIMEOUTRQST T_CYCRQST T_CYCLOC;
     Hundredths: T_TRAIN;
-    PerMille: G_A G_TSR;
+    Times(1 " per mille"): G_A G_TSR;
     Version: M_VERSION_HEADER M_VERSION;
     Group: NID_LRBG NID_PRVLRBG;
     Position: N_PIG;
@@ -52,13 +51,13 @@ static UNITS: [(Unit, &[Var]); 12] = units! {
     Letter: X_TEXT;
 };
 
-/// Variables, with the texts of their numbers from 0 on.
+/// The texts of variables' numbers from 0 on, each with the variables that have them.
 macro_rules! texts {
-    ($($($var:ident)*: $($text:literal)*;)*) => { [$((&[$(Var::$var),*], &[$($text),*])),*] };
+    ($($($var:ident)*: $($text:literal)*;)*) => { [$((&[$($text),*], &[$(Var::$var),*])),*] };
 }
 
 #[rattlefmt::skip]
-static TEXTS: [(&[Var], &[&str]); 28] = texts! {
+static TEXTS: [(&[&str], &[Var]); 28] = texts! {
     Q_UPDOWN: "" "track to train";
     Q_MEDIA: "balise";
     M_DUP: "no duplicate" "duplicate of the next balise" "duplicate of the previous balise";
@@ -90,24 +89,10 @@ static TEXTS: [(&[Var], &[&str]); 28] = texts! {
         "system failure" "isolation" "non leading" "limited supervision" "national system" "reversing" "passive shunting";
 };
 
-/// The texts of a variable's numbers from 0 on.
-fn texts_of(var: Var) -> &'static [&'static str] {
-    for (vars, texts) in &TEXTS {
-        if vars.contains(&var) {
-            return texts;
-        }
-    }
-    &[]
-}
-
-/// The unit of a variable's numbers.
-fn unit_of(var: Var) -> Option<Unit> {
-    for (unit, vars) in &UNITS {
-        if vars.contains(&var) {
-            return Some(*unit);
-        }
-    }
-    None
+/// What a list has of a variable.
+fn listed<T: Copy>(list: &'static [(T, &'static [Var])], var: Var) -> Option<T> {
+    let found = list.iter().find(|row| row.1.contains(&var))?;
+    Some(found.0)
 }
 
 /// The text of a number that has one.
@@ -120,7 +105,7 @@ fn text_of(var: Var, number: u64) -> Option<&'static str> {
         (Var::M_MCOUNT, 255) => Some("fits each message of the group"),
         (Var::V_MAMODE, 127) => Some("national value"),
         (Var::T_TRAIN, 4294967295) | (Var::NID_PRVLRBG, 16777215) => Some("unknown"),
-        _ => texts_of(var).get(number as usize).copied(),
+        _ => listed(&TEXTS, var)?.get(number as usize).copied(),
     }
 }
 
@@ -141,11 +126,8 @@ fn write_measure(unit: Unit, number: u64, scale: Option<u64>, out: &mut Text) {
             write_distance("-", 65536u64.saturating_sub(number), scale, out)
         }
         Unit::Distance | Unit::Shift => write_distance("", number, scale, out),
-        Unit::Metres => write!(out, "{number} m"),
-        Unit::Speed => write!(out, "{} km/h", number.saturating_mul(5)),
-        Unit::Seconds => write!(out, "{number} s"),
+        Unit::Times(times, text) => write!(out, "{}{text}", number.saturating_mul(times)),
         Unit::Hundredths => write!(out, "{}.{:02} s", number / 100, number % 100),
-        Unit::PerMille => write!(out, "{number} per mille"),
         Unit::Version => write!(out, "version {}.{}", number / 16, number % 16),
         Unit::Group => write!(out, "NID_C {}, NID_BG {}", number / 16384, number % 16384),
         Unit::Position => write!(out, "position {}", number.saturating_add(1)),
@@ -159,7 +141,7 @@ fn write_measure(unit: Unit, number: u64, scale: Option<u64>, out: &mut Text) {
 pub(crate) fn write_meaning(var: Var, number: u64, scale: Option<u64>, out: &mut Text) {
     if let Some(text) = text_of(var, number) {
         out.push(text);
-    } else if let Some(unit) = unit_of(var) {
+    } else if let Some(unit) = listed(&UNITS, var) {
         write_measure(unit, number, scale, out);
     }
 }

@@ -37,8 +37,9 @@ static TO_TRACK: [(u8, &str); 9] = [
     (44, "Data used by applications outside the ERTMS/ETCS system"),
 ];
 
+/// Of both ways: each number is of one.
 #[rattlefmt::skip]
-static MESSAGES: [(u8, &str); 38] = [
+pub(crate) static MESSAGES: [(u8, &str); 38] = [
     (2, "SR Authorisation"), (3, "Movement Authority"), (6, "Recognition of exit from TRIP mode"),
     (8, "Acknowledgement of Train Data"), (9, "Request to Shorten MA"), (15, "Conditional Emergency Stop"),
     (16, "Unconditional Emergency Stop"), (18, "Revocation of Emergency Stop"), (24, "General message"),
@@ -55,7 +56,7 @@ static MESSAGES: [(u8, &str); 38] = [
 ];
 
 /// The name of a number in a list.
-fn name_in(names: &'static [(u8, &'static str)], number: u64) -> Option<&'static str> {
+pub(crate) fn name_in(names: &'static [(u8, &'static str)], number: u64) -> Option<&'static str> {
     let name = names.iter().find(|name| u64::from(name.0) == number)?;
     Some(name.1)
 }
@@ -66,9 +67,4 @@ pub(crate) fn packet_name(way: Way, number: u64) -> Option<&'static str> {
         Way::ToTrain => name_in(&TO_TRAIN, number),
         Way::ToTrack => name_in(&TO_TRACK, number),
     }
-}
-
-/// The name of the message of a number, which is of one way.
-pub(crate) fn message_name(number: u64) -> Option<&'static str> {
-    name_in(&MESSAGES, number)
 }

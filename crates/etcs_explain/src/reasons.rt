@@ -69,10 +69,8 @@ fn write_rest(kind: Kind, rest: usize, out: &mut Text) {
         Kind::Long | Kind::Short => out.push(" in the telegram, and packet 255 needs 8"),
         Kind::Radio | Kind::Train => {
             let least = frame_bits(way_of(kind));
-            write!(
-                out,
-                ": after the last packet there are 0 to 7, and another has at least {least}"
-            );
+            out.push(": after the last packet there are 0 to 7");
+            write!(out, ", and another has at least {least}");
         }
     }
 }
@@ -87,13 +85,11 @@ fn write_no_packet(front: &Front, number: Option<u64>, out: &mut Text) {
     };
     let nid = low_byte(number);
     if !is_framed(way, nid) {
-        return match front.kind {
-            Kind::Radio => write!(out, "a message has no packet {nid}"),
-            _ => write!(
-                out,
-                "packet {nid} and packet 255 have 22 bits, and {room} are left"
-            ),
-        };
+        if front.kind == Kind::Radio {
+            return write!(out, "a message has no packet {nid}");
+        }
+        write!(out, "packet {nid} and packet 255 have 22 bits");
+        return write!(out, ", and {room} are left");
     }
     let row = row_of(way, nid).and_then(|row| least_from(&lengths(&Place::start(row)), 0));
     let least = frame_bits(way).saturating_add(row.unwrap_or(0));
@@ -109,10 +105,8 @@ fn write_no_packet(front: &Front, number: Option<u64>, out: &mut Text) {
 fn write_no_length(front: &Front, number: Option<u64>, out: &mut Text) {
     let packet = front.packet;
     let Some(length) = number else {
-        return write!(
-            out,
-            "no length of packet {packet} that begins with these bits fits"
-        );
+        write!(out, "no length of packet {packet}");
+        return out.push(" that begins with these bits fits");
     };
     let length = (length & 8191) as usize;
     let way = way_of(front.kind);
@@ -125,10 +119,8 @@ fn write_no_length(front: &Front, number: Option<u64>, out: &mut Text) {
             return write!(out, ", not {length}");
         }
     } else if length < frame {
-        return write!(
-            out,
-            "a packet has at least {frame} bits, and L_PACKET says {length}"
-        );
+        write!(out, "a packet has at least {frame} bits");
+        return write!(out, ", and L_PACKET says {length}");
     }
     let room = front.end.saturating_sub(front.start);
     write!(out, "L_PACKET {length} ");
@@ -169,18 +161,15 @@ fn write_no_fit(front: &Front, var: Var, number: u64, out: &mut Text) {
 
 /// Appends which numbers of a variable fit in place of one that doesn't, at most four of them.
 fn write_fitting(place: &Place, var: Var, left: usize, out: &mut Text) {
-    let mut count = 0u8;
-    for number in 0..256 {
-        let Some(next) = place.after(number) else {
-            continue;
-        };
-        if reaches(&next, left) {
-            match count {
-                0 => write!(out, ", as with {var} {number}"),
-                1..=3 => write!(out, " or {number}"),
-                _ => return out.push(" .."),
-            }
-            count = count.saturating_add(1);
+    let fits = |number: &u64| match place.after(*number) {
+        Some(next) => reaches(&next, left),
+        None => false,
+    };
+    for (count, number) in (0..256u64).filter(fits).take(5).enumerate() {
+        match count {
+            0 => write!(out, ", as with {var} {number}"),
+            1..=3 => write!(out, " or {number}"),
+            _ => out.push(" .."),
         }
     }
 }

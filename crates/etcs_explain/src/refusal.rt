@@ -61,14 +61,6 @@ fn advice(alloc: Global, kind: Kind, bytes: &[u8]) -> Result<Option<&'static str
     Ok(None)
 }
 
-/// Appends how many bytes are there and how many are wanted, where they end inside an item.
-fn write_missing(kind: Kind, bytes: &[u8], out: &mut Text) {
-    match wanted_bytes(kind, bytes) {
-        Some(wanted) => write!(out, "{} of {wanted} bytes are here", bytes.len()),
-        None => write!(out, "{} of at least 3 bytes are here", bytes.len()),
-    }
-}
-
 /// Appends why the bytes of an account are no item, and answers what this most often comes of. Nothing where they are one.
 pub(crate) fn write_cause(
     kind: Kind,
@@ -79,7 +71,11 @@ pub(crate) fn write_cause(
     let usual = match account.end {
         End::Whole => return Ok(None),
         End::Open(_) => {
-            write_missing(kind, bytes, out);
+            let count = bytes.len();
+            match wanted_bytes(kind, bytes) {
+                Some(wanted) => write!(out, "{count} of {wanted} bytes are here"),
+                None => write!(out, "{count} of at least 3 bytes are here"),
+            }
             None
         }
         End::Refused(_, part) => {

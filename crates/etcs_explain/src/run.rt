@@ -16,6 +16,7 @@ use etcs_stream::{Form, RunFault};
 use etcs_text::{Kind, encoded};
 use std::alloc::{AllocError, Global};
 use std::io::{Read, Write};
+use std::mem;
 
 /// How many bytes a read asks for at most.
 const MOST_READ: usize = 4096;
@@ -102,12 +103,11 @@ impl<W: Write> Explainer<W> {
         self.tell(shown, &account, line)?;
         self.send()?;
         let bits = (shown.len() as u64).saturating_mul(8);
-        let fault = match account.end {
+        match account.end {
             End::Whole => return Ok(Some(shown.len())),
-            End::Open(_) => RunFault::Truncated { item, bits },
-            End::Refused(bit, Part { var, .. }) => RunFault::Refused { item, bit, var },
-        };
-        self.note(fault);
+            End::Open(_) => self.note(RunFault::Truncated { item, bits }),
+            End::Refused(bit, Part { var, .. }) => self.note(RunFault::Refused { item, bit, var }),
+        }
         Ok(None)
     }
 
@@ -139,8 +139,8 @@ impl<W: Write> Explainer<W> {
         self.place(line);
         write_title(kind, bytes, account.end, &mut self.sheet.meaning);
         self.sheet.open_item();
-        if let Some(page) = self.sheet.page() {
-            write_bytes(bytes, account.end, page);
+        if self.task.layout == Layout::Html {
+            write_bytes(bytes, account.end, &mut self.sheet.out);
         }
         write_table(way_of(kind), bytes, account, &mut self.sheet);
         self.sheet.clear();
@@ -157,12 +157,12 @@ impl<W: Write> Explainer<W> {
     }
 
     /// Explains the item of a line of JSON.
-    fn json_line(&mut self, text: &[u8], line: u64, bytes: &mut Vec<u8>) -> Step<()> {
+    fn json_line(&mut self, text: &[u8], line: u64) -> Step<()> {
         let kind = self.task.kind;
         let fault = match from_line(self.alloc, kind, text) {
             Ok(entry) => {
-                bytes.clear();
-                encoded(&entry, bytes)?;
+                let mut bytes = Vec::new(self.alloc);
+                encoded(&entry, &mut bytes)?;
                 self.item(bytes.as_slice(), line)?;
                 return Ok(());
             }
@@ -181,14 +181,13 @@ impl<W: Write> Explainer<W> {
     /// Says why a line says no bytes.
     fn bad_hex(&mut self, text: &[u8], line: u64, why: NoBytes) -> Step<()> {
         self.place(line);
-        let meaning = &mut self.sheet.meaning;
-        let written = write_no_bytes(why, meaning.string());
-        meaning.note(written);
+        let mut reason = String::new(self.alloc);
+        write_no_bytes(why, &mut reason)?;
+        self.sheet.meaning.push(reason.as_str());
         let place = match text.iter().position(|c| !c.is_ascii_hexdigit()) {
             Some(place) if why == NoBytes::NoDigits => place,
             _ => text.len(),
-        };
-        let place = place as u64;
+        } as u64;
         self.wrong(RunFault::BadHex { line, place })
     }
 
@@ -210,112 +209,20 @@ impl<W: Write> Explainer<W> {
 /// Appends what bytes are, or where they stop being so.
 fn write_title(kind: Kind, bytes: &[u8], end: End, out: &mut Text) {
     let count = bytes.len();
-    match end {
-        End::Refused(bit, part) => write!(out, "refused at bit {bit}, {}", part.var),
-        End::Open(part) => {
-            let bits = count.saturating_mul(8);
-            write!(out, "truncated after {bits} bits, in {}", part.var)
-        }
-        End::Whole => match kind {
-            Kind::Long => out.push("telegram, long, 830 bits"),
-            Kind::Short => out.push("telegram, short, 210 bits"),
-            Kind::Radio => write!(out, "message to the train, {count} bytes"),
-            Kind::Train => write!(out, "message to the track, {count} bytes"),
-        },
+    let bits = count.saturating_mul(8);
+    match (end, kind) {
+        (End::Refused(bit, Part { var, .. }), _) => write!(out, "refused at bit {bit}, {var}"),
+        (End::Open(Part { var, .. }), _) => write!(out, "truncated after {bits} bits, in {var}"),
+        (End::Whole, Kind::Long) => out.push("telegram, long, 830 bits"),
+        (End::Whole, Kind::Short) => out.push("telegram, short, 210 bits"),
+        (End::Whole, Kind::Radio) => write!(out, "message to the train, {count} bytes"),
+        (End::Whole, Kind::Train) => write!(out, "message to the track, {count} bytes"),
     }
 }
 
 /// How many bytes the item has that these begin, as far as that is known.
 fn wanted(kind: Kind, bytes: &[u8]) -> usize {
     wanted_bytes(kind, bytes).unwrap_or(3).clamp(3, MOST_BYTES)
-}
-
-/// The bytes of an item that isn't whole yet, and the line in which it begins.
-#[derive(Drop)]
-struct Held {
-    bytes: Vec<u8>,
-    line: u64,
-}
-
-impl Held {
-    /// Explains the whole items that the bytes begin with, of which the last come from this line, and says whether none is
-    /// refused. What is left is held on.
-    fn pass<W: Write>(&mut self, line: u64, to: &mut Explainer<W>) -> Step<bool> {
-        let Some(at) = to.items(self.bytes.as_slice(), self.line)? else {
-            self.bytes.clear();
-            return Ok(false);
-        };
-        if at > 0 {
-            self.line = line;
-        }
-        let len = self.bytes.len();
-        let at = at.min(len);
-        self.bytes.copy_within(at.., 0);
-        self.bytes.truncate(len - at);
-        Ok(true)
-    }
-
-    /// Explains the item that is held, of which no more comes.
-    fn end<W: Write>(&mut self, to: &mut Explainer<W>) -> Step<()> {
-        if !self.bytes.is_empty() {
-            to.item(self.bytes.as_slice(), self.line)?;
-            self.bytes.clear();
-        }
-        Ok(())
-    }
-
-    /// Whether a bit is refused of the item that is held with these bytes, where all its bytes are there.
-    fn refuses<W>(&self, to: &Explainer<W>) -> Step<bool> {
-        let bytes = self.bytes.as_slice();
-        let kind = to.task.kind;
-        if bytes.len() < wanted(kind, bytes) {
-            return Ok(false);
-        }
-        let account = Account::read(to.alloc, kind, bytes)?;
-        Ok(matches!(account.end, End::Refused(_, _)))
-    }
-
-    /// Takes the bytes of a line. An item that they make no item ended before them.
-    fn take<W: Write>(&mut self, bytes: &[u8], line: u64, to: &mut Explainer<W>) -> Step<()> {
-        let before = self.bytes.len();
-        self.bytes.extend_from_slice(bytes)?;
-        if before > 0 && self.refuses(to)? {
-            self.bytes.truncate(before);
-            self.end(to)?;
-            self.bytes.extend_from_slice(bytes)?;
-            self.line = line;
-        }
-        if before == 0 {
-            self.line = line;
-        }
-        self.pass(line, to)?;
-        Ok(())
-    }
-
-    /// Takes a line of hexadecimal, whose bytes are written to the end of the buffer.
-    fn hex_line<W: Write>(
-        &mut self,
-        text: &[u8],
-        line: u64,
-        buffer: &mut Vec<u8>,
-        to: &mut Explainer<W>,
-    ) -> Step<()> {
-        let room = text.len() / 2 + 1;
-        if buffer.len() < room {
-            buffer.resize(room, 0)?;
-        }
-        match line_bytes(text, buffer.as_mut_slice()) {
-            Ok(count) => {
-                let start = buffer.len().saturating_sub(count);
-                self.take(&buffer[start..], line, to)
-            }
-            Err(NoBytes::Empty) => Ok(()),
-            Err(why) => {
-                self.end(to)?;
-                to.bad_hex(text, line, why)
-            }
-        }
-    }
 }
 
 /// A line without the CR at its end.
@@ -326,16 +233,90 @@ fn without_cr(line: &[u8]) -> &[u8] {
     }
 }
 
-/// Takes the pieces of an input.
+/// What is held of an input.
 #[derive(Drop)]
-struct Pieces {
+struct Held {
+    /// The line that isn't whole yet, and how many came before it.
     begun: Vec<u8>,
     line: u64,
-    held: Held,
+    /// The bytes of the item that isn't whole yet, and the line in which it begins.
     bytes: Vec<u8>,
+    start: u64,
 }
 
-impl Pieces {
+impl Held {
+    /// Drops the first bytes. Where some are dropped, the next one is of this line.
+    fn cut(&mut self, at: usize) {
+        let len = self.bytes.len();
+        let at = at.min(len);
+        self.bytes.copy_within(at.., 0);
+        self.bytes.truncate(len - at);
+        if at > 0 {
+            self.start = self.line;
+        }
+    }
+
+    /// Explains the whole items that the bytes begin with, of which the last come from this line, and says whether none is
+    /// refused. What is left is held on.
+    fn pass<W: Write>(&mut self, to: &mut Explainer<W>) -> Step<bool> {
+        let passed = to.items(self.bytes.as_slice(), self.start)?;
+        self.cut(passed.unwrap_or(usize::MAX));
+        Ok(passed.is_some())
+    }
+
+    /// Explains the item that is held, of which no more comes.
+    fn end<W: Write>(&mut self, to: &mut Explainer<W>) -> Step<()> {
+        if !self.bytes.is_empty() {
+            to.item(self.bytes.as_slice(), self.start)?;
+            self.bytes.clear();
+        }
+        Ok(())
+    }
+
+    /// Whether a bit is refused of the item that is held, where all its bytes are there.
+    fn is_refused<W>(&self, to: &Explainer<W>) -> Step<bool> {
+        let bytes = self.bytes.as_slice();
+        let kind = to.task.kind;
+        if bytes.len() < wanted(kind, bytes) {
+            return Ok(false);
+        }
+        let account = Account::read(to.alloc, kind, bytes)?;
+        Ok(matches!(account.end, End::Refused(_, _)))
+    }
+
+    /// Takes the bytes of this line. An item that they make no item ended before them.
+    fn take<W: Write>(&mut self, bytes: &[u8], to: &mut Explainer<W>) -> Step<()> {
+        let before = self.bytes.len();
+        self.bytes.extend_from_slice(bytes)?;
+        if before > 0 && self.is_refused(to)? {
+            self.bytes.truncate(before);
+            self.end(to)?;
+            self.bytes.extend_from_slice(bytes)?;
+        }
+        if self.bytes.len() == bytes.len() {
+            self.start = self.line;
+        }
+        self.pass(to)?;
+        Ok(())
+    }
+
+    /// Takes this line of hexadecimal.
+    fn hex_line<W: Write>(&mut self, text: &[u8], to: &mut Explainer<W>) -> Step<()> {
+        let mut buffer = Vec::new(to.alloc);
+        buffer.resize(text.len() / 2 + 1, 0)?;
+        match line_bytes(text, buffer.as_mut_slice()) {
+            Ok(count) => {
+                let start = buffer.len().saturating_sub(count);
+                self.take(&buffer[start..], to)
+            }
+            Err(NoBytes::Empty) => Ok(()),
+            Err(why) => {
+                self.end(to)?;
+                to.bad_hex(text, self.line, why)
+            }
+        }
+    }
+
     /// Keeps a part of a line, of which no more is kept than shows that it is too long.
     fn keep(&mut self, part: &[u8]) -> Result<(), AllocError> {
         let room = (MOST_LINE + 2).saturating_sub(self.begun.len());
@@ -346,23 +327,21 @@ impl Pieces {
     fn end_line<W: Write>(&mut self, part: &[u8], to: &mut Explainer<W>) -> Step<()> {
         self.keep(part)?;
         self.line = self.line.saturating_add(1);
-        let line = self.line;
-        let text = without_cr(self.begun.as_slice());
+        let whole = mem::replace(&mut self.begun, Vec::new(to.alloc));
+        let text = without_cr(whole.as_slice());
         match to.task.from {
-            _ if text.len() > MOST_LINE => to.bad_length(line)?,
-            Form::Json if text.is_empty() => {}
-            Form::Json => to.json_line(text, line, &mut self.bytes)?,
-            Form::Hex | Form::Bin => self.held.hex_line(text, line, &mut self.bytes, to)?,
+            _ if text.len() > MOST_LINE => to.bad_length(self.line),
+            Form::Json if text.is_empty() => Ok(()),
+            Form::Json => to.json_line(text, self.line),
+            Form::Hex | Form::Bin => self.hex_line(text, to),
         }
-        self.begun.clear();
-        Ok(())
     }
 
     /// Takes a piece of the input, and says whether more is wanted.
     fn feed<W: Write>(&mut self, piece: &[u8], to: &mut Explainer<W>) -> Step<bool> {
         if to.task.from == Form::Bin {
-            self.held.bytes.extend_from_slice(piece)?;
-            return self.held.pass(0, to);
+            self.bytes.extend_from_slice(piece)?;
+            return self.pass(to);
         }
         let mut rest = piece;
         while let Some((line, behind)) = split_line(rest) {
@@ -376,16 +355,12 @@ impl Pieces {
 
 /// Explains the whole input.
 fn read_all<R: Read, W: Write>(to: &mut Explainer<W>, input: &mut R) -> Step<()> {
-    let alloc = to.alloc;
     let mut buffer = [0u8; MOST_READ];
-    let mut pieces = Pieces {
-        begun: Vec::new(alloc),
+    let mut held = Held {
+        begun: Vec::new(to.alloc),
         line: 0,
-        held: Held {
-            bytes: Vec::new(alloc),
-            line: 0,
-        },
-        bytes: Vec::new(alloc),
+        bytes: Vec::new(to.alloc),
+        start: 0,
     };
     for _ in 0..MOST_READS {
         let Ok(count) = input.read(&mut buffer) else {
@@ -393,11 +368,11 @@ fn read_all<R: Read, W: Write>(to: &mut Explainer<W>, input: &mut R) -> Step<()>
         };
         if count == 0 {
             if to.task.from != Form::Bin {
-                pieces.end_line(&[], to)?;
+                held.end_line(&[], to)?;
             }
-            return pieces.held.end(to);
+            return held.end(to);
         }
-        if !pieces.feed(&buffer[..count], to)? {
+        if !held.feed(&buffer[..count], to)? {
             return Ok(());
         }
     }
@@ -410,11 +385,10 @@ fn explain_all<R: Read, W: Write>(explainer: &mut Explainer<W>, input: &mut R) -
     read_all(explainer, input)?;
     explainer.sheet.put("", FOOT);
     explainer.send()?;
+    let sent = explainer.sent;
     match explainer.output.flush() {
         Ok(()) => Ok(()),
-        Err(_) => Err(Broken(RunFault::Write {
-            sent: explainer.sent,
-        })),
+        Err(_) => Err(Broken(RunFault::Write { sent })),
     }
 }
 

@@ -18,17 +18,9 @@ pub enum Layout {
 pub(crate) struct Sheet {
     layout: Layout,
     pub(crate) out: Text,
+    bits: Text,
     pub(crate) value: Text,
     pub(crate) meaning: Text,
-}
-
-/// Appends the numbers of the first and the last bit.
-fn write_bits(bits: (usize, usize), out: &mut Text) {
-    if bits.0 == bits.1 {
-        write!(out, "{}", bits.0)
-    } else {
-        write!(out, "{}..{}", bits.0, bits.1)
-    }
 }
 
 impl Sheet {
@@ -37,6 +29,7 @@ impl Sheet {
         Sheet {
             layout,
             out: Text::new(alloc),
+            bits: Text::new(alloc),
             value: Text::new(alloc),
             meaning: Text::new(alloc),
         }
@@ -54,6 +47,7 @@ impl Sheet {
     ///
     /// Where memory was refused for a part of it.
     pub(crate) fn whole(&self) -> Result<&str, AllocError> {
+        self.bits.whole()?;
         self.value.whole()?;
         self.meaning.whole()?;
         self.out.whole()
@@ -76,13 +70,6 @@ impl Sheet {
                 (Layout::Html, '>') => self.out.push("&gt;"),
                 _ => write!(self.out, "{character}"),
             }
-        }
-    }
-
-    /// Appends blanks up to this length.
-    fn pad(&mut self, len: usize) {
-        for _ in self.out.as_str().len()..len {
-            self.out.push(" ");
         }
     }
 
@@ -121,36 +108,31 @@ impl Sheet {
 
     /// Writes the line of a variable of these bits, at this depth, with the value and the meaning.
     pub(crate) fn line(&mut self, depth: usize, bits: (usize, usize), var: Var, refused: bool) {
-        match self.layout {
-            Layout::Text => self.text_line(depth, bits, var),
-            Layout::Html => self.table_row(depth, bits, var, refused),
-        }
-        self.out.push("\n");
-    }
-
-    fn text_line(&mut self, depth: usize, bits: (usize, usize), var: Var) {
-        let len = self.out.as_str().len();
-        let start = len.saturating_add(depth.saturating_mul(2));
-        self.pad(start.saturating_add(2));
-        write_bits(bits, &mut self.out);
-        self.pad(start.saturating_add(14));
-        self.out.push(var.name());
-        let blanks = 41usize.saturating_sub(self.value.as_str().len());
-        self.pad(start.saturating_add(blanks));
-        write!(self.out, " {}", self.value.as_str());
-        if !self.meaning.as_str().is_empty() {
-            write!(self.out, "  {}", self.meaning.as_str());
-        }
-    }
-
-    fn table_row(&mut self, depth: usize, bits: (usize, usize), var: Var, refused: bool) {
-        let class = if refused { " class=no" } else { "" };
         let (first, last) = bits;
+        self.bits.clear();
+        write!(self.bits, "{first}");
+        if last != first {
+            write!(self.bits, "..{last}");
+        }
+        let (bits, name) = (self.bits.as_str(), var.name());
         let value = self.value.as_str();
-        write!(self.out, "<tr{class} data-a={first} data-b={last}><td>");
-        write_bits(bits, &mut self.out);
-        write!(self.out, "<td class=d{depth}>{var}<td>{value}<td>");
+        if self.layout == Layout::Text {
+            let indent = depth.saturating_mul(2).saturating_add(2);
+            let room = 27usize.saturating_sub(name.len());
+            write!(self.out, "{:indent$}{bits:<12}{name} {value:>room$}", "");
+            if !self.meaning.as_str().is_empty() {
+                self.out.push("  ");
+            }
+        } else {
+            let class = if refused { " class=no" } else { "" };
+            write!(
+                self.out,
+                "<tr{class} data-a={first} data-b={last}><td>{bits}"
+            );
+            write!(self.out, "<td class=d{depth}>{name}<td>{value}<td>");
+        }
         self.put_meaning();
+        self.out.push("\n");
     }
 
     /// Ends the table of an item, with the reason that the meaning has, if it has one, and what it often comes of.
@@ -172,13 +154,5 @@ impl Sheet {
         self.put("", "<p class=no>");
         self.put_meaning();
         self.out.push("\n");
-    }
-
-    /// The page on which bytes are shown, if it is one.
-    pub(crate) fn page(&mut self) -> Option<&mut Text> {
-        match self.layout {
-            Layout::Text => None,
-            Layout::Html => Some(&mut self.out),
-        }
     }
 }

@@ -3,7 +3,7 @@
 use crate::account::{Account, End};
 use crate::front::low_byte;
 use crate::meanings::write_meaning;
-use crate::names::{message_name, packet_name};
+use crate::names::{MESSAGES, name_in, packet_name};
 use crate::sheet::Sheet;
 use crate::text::Text;
 use etcs_bits::peek;
@@ -16,8 +16,7 @@ pub(crate) struct Table<'a> {
     sheet: &'a mut Sheet,
     way: Way,
     bytes: &'a [u8],
-    fields: &'a [(Var, u64)],
-    end: End,
+    account: &'a Account,
     /// How many variables have their line.
     at: usize,
     /// How many bits those have.
@@ -40,8 +39,7 @@ pub(crate) fn write_table(way: Way, bytes: &[u8], account: &Account, sheet: &mut
         sheet,
         way,
         bytes,
-        fields: account.fields.as_slice(),
-        end: account.end,
+        account,
         at: 0,
         bit: 0,
         start: 0,
@@ -55,12 +53,12 @@ pub(crate) fn write_table(way: Way, bytes: &[u8], account: &Account, sheet: &mut
 impl<'a> Table<'a> {
     /// The next variable, if it is whole.
     fn field(&self) -> Option<(Var, u64)> {
-        self.fields.get(self.at).copied()
+        self.account.fields.get(self.at).copied()
     }
 
     /// The variable that comes next, whole or not.
     fn next(&self) -> Option<Var> {
-        match (self.field(), self.end) {
+        match (self.field(), self.account.end) {
             (Some(field), _) => Some(field.0),
             (None, End::Open(part) | End::Refused(_, part)) => Some(part.var),
             (None, End::Whole) => None,
@@ -69,7 +67,7 @@ impl<'a> Table<'a> {
 
     /// Writes the lines of all whole variables.
     fn lines(&mut self) {
-        for _ in 0..self.fields.len() {
+        for _ in 0..self.account.fields.len() {
             match self.field() {
                 None => return,
                 Some((Var::NID_PACKET, number)) => self.packet(number),
@@ -110,7 +108,7 @@ impl<'a> Table<'a> {
         match (var, behind) {
             (Var::L_PACKET, _) => write_end("packet", self.start, number, out),
             (Var::L_MESSAGE, _) => write_end("message", 0, number.saturating_mul(8), out),
-            (Var::NID_MESSAGE, _) => out.push(message_name(number).unwrap_or("")),
+            (Var::NID_MESSAGE, _) => out.push(name_in(&MESSAGES, number).unwrap_or("")),
             (Var::L_TEXT, _) => out.push("characters that follow"),
             (_, Some(RowItem::Many(_))) => match number {
                 0 => out.push("no entry follows"),
@@ -154,7 +152,8 @@ impl<'a> Table<'a> {
     fn write_extent(&mut self) {
         let first = self.bit;
         let out = &mut self.sheet.meaning;
-        for field in self.fields.iter().skip(self.at).take(3) {
+        let fields = self.account.fields.as_slice();
+        for field in fields.iter().skip(self.at).take(3) {
             let length = match *field {
                 (Var::L_PACKET, length) => length,
                 (Var::NID_VBCMK, _) => MARKER_BITS as u64,
@@ -207,7 +206,8 @@ impl<'a> Table<'a> {
         let meaning = &mut self.sheet.meaning;
         let mut count = 0usize;
         let mut ones = 0usize;
-        for (next, bit) in self.fields.iter().skip(self.at) {
+        let fields = self.account.fields.as_slice();
+        for (next, bit) in fields.iter().skip(self.at) {
             if *next != var {
                 break;
             }
@@ -231,9 +231,9 @@ impl<'a> Table<'a> {
     /// Writes the line of the variable that isn't whole, if there is one: its number where the bytes have all of it, else
     /// how many bits they have.
     fn unfinished(&mut self) {
+        self.sheet.clear();
         let out = &mut self.sheet.meaning;
-        out.clear();
-        let (var, refused) = match self.end {
+        let (var, refused) = match self.account.end {
             End::Open(part) if part.count > 0 => {
                 out.push("not whole");
                 (part.var, false)
@@ -245,7 +245,6 @@ impl<'a> Table<'a> {
             _ => return,
         };
         let mut count = var.width();
-        self.sheet.value.clear();
         match peek(self.bytes, self.bit, count) {
             Some(number) => write_number(var, number, &mut self.sheet.value),
             None => {
@@ -274,9 +273,6 @@ fn last_bit(first: usize, count: u64) -> u64 {
 
 /// Appends where a part ends that begins at a bit and has this many.
 fn write_end(what: &str, first: usize, count: u64, out: &mut Text) {
-    write!(
-        out,
-        "so the {what} ends with bit {}",
-        last_bit(first, count)
-    );
+    let last = last_bit(first, count);
+    write!(out, "so the {what} ends with bit {last}");
 }

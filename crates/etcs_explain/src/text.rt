@@ -41,11 +41,6 @@ impl Text {
         self.held.clear();
     }
 
-    /// The text itself, for calls that write to a string.
-    pub(crate) fn string(&mut self) -> &mut String {
-        &mut self.held
-    }
-
     /// What gives it memory.
     pub(crate) fn alloc(&self) -> Global {
         *self.held.allocator()
@@ -75,11 +70,8 @@ impl Text {
     ///
     /// Where memory was refused for a part of it.
     pub(crate) fn into_string(self) -> Result<String, AllocError> {
-        let Text { held, is_starved } = self;
-        if is_starved {
-            Err(AllocError)
-        } else {
-            Ok(held)
-        }
+        self.whole()?;
+        let Text { held, .. } = self;
+        Ok(held)
     }
 }

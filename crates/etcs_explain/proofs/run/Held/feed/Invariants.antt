@@ -1,5 +1,5 @@
 use Rattle.std.proofs.Common.{length}
-use Rattle.etcs_explain.proofs.run.Pieces.feed.Given as goal
+use Rattle.etcs_explain.proofs.run.Held.feed.Given as goal
 
 abbrev pub decreases-loop-line : goal.decreases-loop-line
 decreases-loop-line g l = length l.rest

@@ -1,5 +1,5 @@
--- The variables of a message's own: their bits, and a body of its numbers.
-use Rattle.std.proofs.Common.{◌≡◌, ℕ, ◌^◌, ◌<◌, ◌≤◌, Bool, true, false, List, [], ◌∷◌, length, Option, Some, None, refl, sym, ap, ◌∙◌, subst, inl, inr, arith}
+-- The variables of a message's own: a body of its numbers.
+use Rattle.std.proofs.Common.{◌≡◌, ℕ, ◌^◌, ◌<◌, Bool, true, false, List, [], ◌∷◌, length, Option, Some, None, refl, sym, ap, ◌∙◌, subst, inl, inr, arith}
 use Rattle.std.proofs.lemmas.Bool.{or_cases, eqb-true, ne_eqb}
 use Rattle.std.specs.Prelude.{◌||◌, ◌++◌, option_map, IsTrue, if◌then◌else◌, ℤ, slice_index_or, ◌==◌}
 use Rattle.etcs_bits.specs.Bits.{bit}
@@ -9,7 +9,7 @@ use Rattle.etcs_vars.specs.declared.var.Var.TheVariants.{T_TRAIN, NID_EM, M_VERS
 use Rattle.etcs_vars.specs.declared.fault.BuildFault.TheVariants.{NotAdmitted}
 use Rattle.etcs_vars.specs.Faults.{number_fault}
 use Rattle.etcs_vars.specs.Vars.{width, admits}
-use Rattle.etcs_vars.specs.Reading.{Sent, Reading, spelled, numbers}
+use Rattle.etcs_vars.specs.Reading.{Sent, Reading, numbers}
 use Rattle.etcs_vars.proofs.Prefixes.{admits_parts}
 use Rattle.etcs_tables.specs.declared.item.RowItem.{RowItem}
 use Rattle.etcs_tables.specs.declared.item.RowItem.TheVariants as item
@@ -17,34 +17,9 @@ use Rattle.etcs_tables.specs.declared.row.Way.TheVariants.{ToTrain}
 use Rattle.etcs_tables.specs.Layouts.{Layout, whole, one, guarded, counted, Reads, items}
 use Rattle.etcs_tables.specs.Rows.{message_row_to, message_rows_to}
 use Rattle.etcs_tables.proofs.EachRow.{of_each}
-use Rattle.etcs_sequence.proofs.LabelLaws.{length-widths}
 use Rattle.etcs_radio.specs.declared.body.Body.{Body}
-use Rattle.etcs_radio.specs.declared.body.Body.TheVariants.{SrAuthorisation, Plain, TrainTime, Emergency, Version, Shifted, Orientation}
-use Rattle.etcs_radio.specs.declared.body.RadioHead.{RadioHead}
-use Rattle.etcs_radio.specs.Bodies.{head_variables, body_reading, body_bits, is_plain, is_plain_message, FitsSigned16, IsBody, IsBodyNumbers, ReadsBack}
-
--- ---- How many bits they take.
-
-pub head_length : (h : RadioHead) → length (spelled (head_variables h)) ≡ 57
-head_length h = length-widths (head_variables h)
-
-pub body_length : (b : Body) → length (spelled (body_reading b)) ≡ body_bits b
-body_length (SrAuthorisation q d) = length-widths (body_reading (SrAuthorisation q d))
-body_length (Plain n) = refl
-body_length (TrainTime n t) = length-widths (body_reading (TrainTime n t))
-body_length (Emergency n e) = length-widths (body_reading (Emergency n e))
-body_length (Version v) = length-widths (body_reading (Version v))
-body_length (Shifted q d) = length-widths (body_reading (Shifted q d))
-body_length (Orientation o) = length-widths (body_reading (Orientation o))
-
-pub body_few : (b : Body) → body_bits b ≤ 32
-body_few (SrAuthorisation q d) = omega arith
-body_few (Plain n) = omega arith
-body_few (TrainTime n t) = omega arith
-body_few (Emergency n e) = omega arith
-body_few (Version v) = omega arith
-body_few (Shifted q d) = omega arith
-body_few (Orientation o) = omega arith
+use Rattle.etcs_radio.specs.declared.body.Body.TheVariants.{SrAuthorisation, TrainTime, Emergency, Version, Shifted}
+use Rattle.etcs_radio.specs.Bodies.{body_reading, is_plain, is_plain_message, FitsSigned16, IsBody, IsBodyNumbers, ReadsBack}
 
 -- ---- The numbers of a row.
 

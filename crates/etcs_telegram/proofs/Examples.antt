@@ -1,5 +1,5 @@
 -- The definitions, computed on whole telegrams.
-use Rattle.std.proofs.Common.{◌≡◌, ℕ, Bool, true, false, List, [], ◌∷◌, ◌++◌, refl}
+use Rattle.std.proofs.Common.{◌≡◌, ℕ, ◌+◌, Bool, true, false, List, [], ◌∷◌, ◌++◌, length, refl}
 use Rattle.std.specs.Prelude.{replicate}
 use Rattle.std.proofs.lemmas.List.Elements.{All-nil}
 use Rattle.etcs_bits.specs.Bits.{num, bits}
@@ -8,7 +8,7 @@ use Rattle.etcs_vars.specs.Reading.{Reading, spelled, kept}
 use Rattle.etcs_reader.specs.Rests.{Goes}
 use Rattle.etcs_telegram.specs.declared.size.Size.{Size}
 use Rattle.etcs_telegram.specs.declared.size.Size.TheVariants.{Short, Long}
-use Rattle.etcs_telegram.specs.Telegrams.{HeaderValue, TelegramValue, TelegramReads, TelegramLanguage, header_reading, header_of, pad_bits}
+use Rattle.etcs_telegram.specs.Telegrams.{HeaderValue, TelegramValue, TelegramReads, TelegramLanguage, header_reading, header_of, user_bits, pad_bits}
 
 abbrev plain_header : HeaderValue
 plain_header = record { m_version = 32; n_pig = 0; n_total = 0; m_dup = 0; m_mcount = 255; nid_c = 1; nid_bg = 1; q_link = true }
@@ -26,9 +26,12 @@ first_bytes = 0xA0 ∷ 0 ∷ 0x7F ∷ 0x80 ∷ 0x20 ∷ 0 ∷ []
 abbrev with_zero : List Bool
 with_zero = replicate 149 true ++ false ∷ true ∷ true ∷ []
 
-pub short_reads : TelegramReads (plain Short (replicate 152 true)) (plain_reading Short (replicate 152 true))
+plain_reads : (size : Size) (fill : List Bool) → 58 + length fill ≡ user_bits size → TelegramReads (plain size fill) (plain_reading size fill)
 unfolding num
-short_reads = record { header_admitted = (refl, (refl, (refl, (refl, (refl, (refl, (refl, (refl, (refl, (refl, tt)))))))))); packets_hold = All-nil _; reading_is = refl; user_bits_is = refl }
+plain_reads size fill e = record { header_admitted = (refl, (refl, (refl, (refl, (refl, (refl, (refl, (refl, (refl, (refl, tt)))))))))); packets_hold = All-nil _; reading_is = refl; user_bits_is = e }
+
+pub short_reads : TelegramReads (plain Short (replicate 152 true)) (plain_reading Short (replicate 152 true))
+short_reads = plain_reads Short (replicate 152 true) refl
 
 pub short_bits : spelled (plain_reading Short (replicate 152 true)) ≡ bits (first_bytes ++ (replicate 20 255 ++ 0xC0 ∷ []))
 unfolding num bits
@@ -39,8 +42,7 @@ unfolding num bits
 with_zero_bits = refl
 
 pub long_reads : TelegramReads (plain Long (replicate 772 true)) (plain_reading Long (replicate 772 true))
-unfolding num
-long_reads = record { header_admitted = (refl, (refl, (refl, (refl, (refl, (refl, (refl, (refl, (refl, (refl, tt)))))))))); packets_hold = All-nil _; reading_is = refl; user_bits_is = refl }
+long_reads = plain_reads Long (replicate 772 true) refl
 
 pub long_bits : spelled (plain_reading Long (replicate 772 true)) ≡ bits (first_bytes ++ (replicate 97 255 ++ 0xFC ∷ []))
 unfolding num bits

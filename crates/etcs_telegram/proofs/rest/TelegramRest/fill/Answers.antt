@@ -17,14 +17,12 @@ invariant_of-self-2 g c =
       fits = ∥∥₁_map s.fits (fits_behind s.size s.phase c.after_fill-self.result c.args.left (g.S.PacketStore.holds s.packets.store) (g.S.PacketStore.holds c.bits.new.self) c.args.slice.now c.requires.phase to c.requires.within (λ vs k h. c.in_ok-bits.ensures.ok vs [] k h));
     }
 
-pub returns-clause-ok : goal.returns-clause-ok
-returns-clause-ok g c =
+pub returns : goal.returns
+returns g c =
     let s = c.args.self.now in
     let to : c.after_fill-self.result ≡ after_fill s.size c.args.left (length c.args.slice.now) = c.after_fill-self.ensures ∙ ap (after_fill s.size c.args.left) c.len.ensures in
-    fill_follows s.size s.phase c.after_fill-self.result c.args.left s.header.items s.packets.left (g.S.PacketStore.holds s.packets.store) (g.S.PacketStore.holds c.bits.new.self) c.args.slice.now c.requires.phase to c.requires.within (λ vs k h. c.in_ok-bits.ensures.ok vs [] k h)
-
-pub returns-clause-goes : goal.returns-clause-goes
-returns-clause-goes g c =
-    let s = c.args.self.now in
-    let to : c.after_fill-self.result ≡ after_fill s.size c.args.left (length c.args.slice.now) = c.after_fill-self.ensures ∙ ap (after_fill s.size c.args.left) c.len.ensures in
-    rw to (fill_goes s.size c.args.left (length c.args.slice.now) s.packets.left c.requires.within)
+    record {
+      ok = fill_follows s.size s.phase c.after_fill-self.result c.args.left s.header.items s.packets.left (g.S.PacketStore.holds s.packets.store) (g.S.PacketStore.holds c.bits.new.self) c.args.slice.now c.requires.phase to c.requires.within (λ vs k h. c.in_ok-bits.ensures.ok vs [] k h);
+      goes = rw to (fill_goes s.size c.args.left (length c.args.slice.now) s.packets.left c.requires.within);
+      err = tt;
+    }

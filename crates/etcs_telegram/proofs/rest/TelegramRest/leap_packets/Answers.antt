@@ -6,12 +6,10 @@ use mathlib.Core.Bool.{Bool-set}
 use Rattle.etcs_bits.specs.Bits.{bits, part}
 use Rattle.etcs_sequence.specs.declared.packets.PacketsRest.{PacketsRest}
 use Rattle.etcs_telegram.specs.declared.phase.Phase.{Phase}
-use Rattle.etcs_telegram.specs.declared.rest.TelegramRest.{TelegramRest}
 use Rattle.etcs_telegram.specs.Lefts.{stands_at, behind_packets, FillFits}
 use Rattle.etcs_sequence.proofs.Leaps.{on_err, steps, same_made}
 use Rattle.etcs_telegram.proofs.RestSteps.{packets_all, packets_viable, packets_stands, packets_parts}
 use Rattle.etcs_telegram.proofs.RestHolds.{packets_follow, packets_fits}
-use Rattle.etcs_telegram.proofs.rest.TelegramRest.leap_packets.Given.{Over}
 use Rattle.etcs_telegram.proofs.rest.TelegramRest.leap_packets.Goals as goal
 
 pub invariant_of-self-2 : goal.invariant_of-self-2

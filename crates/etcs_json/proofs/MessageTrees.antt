@@ -1,5 +1,5 @@
 -- Messages and their trees.
-use Rattle.std.proofs.Common.{◌≡◌, ℕ, ◌-◌, ◌^◌, ◌≤◌, ◌<◌, Bool, List, [], length, map, Option, None, Some, refl, sym, ap, subst, ◌∙◌, arith}
+use Rattle.std.proofs.Common.{◌≡◌, ℕ, ◌^◌, ◌≤◌, ◌<◌, Bool, List, [], length, map, Option, None, Some, refl, sym, ap, subst, ◌∙◌, arith}
 use Rattle.std.specs.Prelude.{All, IfSome, ◌↔◌, option_map}
 use Rattle.serde_json.specs.Data.{Data, array, string, Items}
 use Rattle.etcs_vars.specs.declared.var.Var.TheVariants.{L_MESSAGE}

@@ -1,13 +1,12 @@
 -- The trees of packets and of messages by what is asked of them.
-use Rattle.std.proofs.Common.{◌≡◌, ℕ, Some, None, Result, Ok, Err, refl, ◌∙◌}
-use Rattle.std.specs.Prelude.{IfOk}
+use Rattle.std.proofs.Common.{◌≡◌, ℕ, Option, Some, None, IsSomeAnd, MatchOption, Result, Ok, Err, refl, ◌∙◌}
+use Rattle.std.specs.Prelude.{IfOk, IfSome, IsSome, is_some}
 use Rattle.serde_json.specs.Data.{Data}
 use Rattle.serde_json.specs.View.{view}
 use Rattle.serde_json.specs.declared.value.Value.{Value}
 use Rattle.etcs_bits.specs.Bits.{num}
 use Rattle.etcs_tables.specs.declared.row.Way.{Way}
-use Rattle.etcs_packets.specs.PacketValues as packet
-use Rattle.etcs_packets.specs.PacketValues.{Form, typed}
+use Rattle.etcs_packets.specs.PacketValues.{Form}
 use Rattle.etcs_messages.specs.declared.message.Content.{Content}
 use Rattle.etcs_messages.specs.declared.message.Content.TheVariants.{Typed, Kept}
 use Rattle.etcs_messages.specs.Kinds.{HeadOf, OwnOf}
@@ -22,6 +21,16 @@ use Rattle.etcs_json.specs.TreeParts.{typed_members}
 pub tree_same : {E : Type 0} (r : Result Value E) (d e : Data) → d ≡ e → IfOk r (λ v. view v ≡ d) → IfOk r (λ v. view v ≡ e)
 tree_same (Ok v) d e same h = h ∙ same
 tree_same (Err x) d e same h = tt
+
+-- what is made of a value that is there
+pub mapped_some : {T U : Type 0} {Q : U → Type 0} {R : T → U → Type 0} (o : Option T) (r : Option U) → MatchOption o (r ≡ None) (λ x. IsSomeAnd r (R x)) → ((x : T) → o ≡ Some x → (y : U) → R x y → Q y) → IfSome r Q
+mapped_some None r is then = rw is tt
+mapped_some (Some x) None h then = absurd h
+mapped_some (Some x) (Some y) h then = then x refl y h
+
+pub mapped_only : {T U : Type 0} (o : Option T) (r : Option U) → is_some r ≡ is_some o → (o ≡ None → ⊥) → IsSome r
+mapped_only None r same never = absurd (never refl)
+mapped_only (Some x) r same never = same
 
 -- ---- Messages.
 

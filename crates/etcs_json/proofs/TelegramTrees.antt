@@ -1,5 +1,5 @@
 -- Telegrams and their trees.
-use Rattle.std.proofs.Common.{◌≡◌, ℕ, ◌+◌, ◌-◌, ◌≤◌, ◌<◌, Bool, false, List, [], ◌++◌, length, map, Option, None, Some, inl, inr, refl, sym, ap, subst, ◌∙◌, arith}
+use Rattle.std.proofs.Common.{◌≡◌, ℕ, ◌+◌, ◌≤◌, ◌<◌, Bool, false, List, [], ◌++◌, length, map, Option, None, Some, inl, inr, refl, sym, ap, subst, ◌∙◌, arith}
 use Rattle.std.specs.Prelude.{◌⊎◌, ◌≢◌, All, IfSome, option_map, replicate}
 use Rattle.serde_json.specs.Data.{Data, array, string, Items}
 use Rattle.etcs_vars.specs.Reading.{Reading, numbers, spelled, kept}

@@ -1,5 +1,5 @@
 -- What the JSON of an item says, as it is read: the digits of NID_RADIO may be in either case.
-use Rattle.std.specs.Prelude.{◌≡◌, ℕ, ◌+◌, ◌&&◌, List, [], ◌∷◌, map, codes, nat_le, if◌then◌else◌}
+use Rattle.std.specs.Prelude.{◌≡◌, ℕ, List, [], ◌∷◌, map, codes}
 use Rattle.serde_json.specs.Data.{Data, number, unsigned, string, array, object, Items, no_items, item, no_members, member}
 use Rattle.etcs_json.specs.Digits.{lower}
 use Rattle.etcs_vars.specs.declared.var.Var.{Var}

@@ -34,18 +34,12 @@ pub(crate) fn byte_in(value: &Value) -> Option<u8>
 pub(crate) fn is_text(value: &Value, text: &str) -> bool
     ensures { IsTrue result ↔ (view value.now ≡ string text.now) }
 {
-    match value.as_str() {
-        Some(found) => found == text,
-        None => false,
-    }
+    value.as_str() == Some(text)
 }
 
 /// Whether a value is the number 0.
 pub(crate) fn is_zero(value: &Value) -> bool
     ensures { IsTrue result ↔ (view value.now ≡ plain 0) }
 {
-    match value.as_u64() {
-        Some(number) => number == 0,
-        None => false,
-    }
+    value.as_u64() == Some(0)
 }

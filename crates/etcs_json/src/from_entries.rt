@@ -89,8 +89,8 @@ fn entry_in(alloc: Global, kind: Kind, value: &Value) -> Result<Option<Entry>, A
     match kind {
         Kind::Long => telegram_entry(alloc, Size::Long, value),
         Kind::Short => telegram_entry(alloc, Size::Short, value),
-        Kind::Radio => message_entry(alloc, value),
-        Kind::Train => train_entry(alloc, value),
+        Kind::Radio => Ok(message_in(alloc, value)?.map(|message| Entry::Message(message))),
+        Kind::Train => Ok(message_in(alloc, value)?.map(|message| Entry::Train(message))),
     }
 }
 
@@ -99,30 +99,5 @@ fn telegram_entry(alloc: Global, size: Size, value: &Value) -> Result<Option<Ent
     ensures some { IfOk result (λ o. IfSome o (λ e. HasStandIns (kind_of size) (view value.now) (entry_value e))) }
     ensures only { IfOk result (λ o. (e : EntryValue) → IsLoose (kind_of size) e → IsTreeOf e (view value.now) → IsSome o) }
 {
-    match telegram_in(alloc, size, value)? {
-        Some(telegram) => Ok(Some(Entry::Telegram(telegram))),
-        None => Ok(None),
-    }
-}
-
-/// The message to the train of a tree, if there is one, with stand-ins.
-fn message_entry(alloc: Global, value: &Value) -> Result<Option<Entry>, AllocError>
-    ensures some { IfOk result (λ o. IfSome o (λ e. HasStandIns Kind.Radio (view value.now) (entry_value e))) }
-    ensures only { IfOk result (λ o. (e : EntryValue) → IsLoose Kind.Radio e → IsTreeOf e (view value.now) → IsSome o) }
-{
-    match message_in(alloc, value)? {
-        Some(message) => Ok(Some(Entry::Message(message))),
-        None => Ok(None),
-    }
-}
-
-/// The message to the track of a tree, if there is one.
-fn train_entry(alloc: Global, value: &Value) -> Result<Option<Entry>, AllocError>
-    ensures some { IfOk result (λ o. IfSome o (λ e. HasStandIns Kind.Train (view value.now) (entry_value e))) }
-    ensures only { IfOk result (λ o. (e : EntryValue) → IsLoose Kind.Train e → IsTreeOf e (view value.now) → IsSome o) }
-{
-    match message_in(alloc, value)? {
-        Some(message) => Ok(Some(Entry::Train(message))),
-        None => Ok(None),
-    }
+    Ok(telegram_in(alloc, size, value)?.map(Entry::Telegram))
 }

@@ -241,8 +241,6 @@ fn packets_by<P: AnyPacket>(alloc: Global, list: &[Value]) -> Result<Option<Vec<
 pub(crate) fn put<T: Drop>(list: &mut Vec<T>, item: T) -> Result<(), AllocError>
     ensures { OnOk result (list.new.items ≡ list.old.items ++ item ∷ []) }
 {
-    match list.push(item) {
-        Ok(()) => Ok(()),
-        Err(_) => Err(AllocError),
-    }
+    list.push(item)?;
+    Ok(())
 }

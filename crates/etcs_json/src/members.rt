@@ -31,11 +31,7 @@ impl<'a> Rest<'a> {
         ensures none { (d : Data) (ms : Members) → members_view self.old.members ≡ member name.now d ms → IsSome result }
     {
         let (found, value) = self.members.next()?;
-        if found.as_str() == name {
-            Some(value)
-        } else {
-            None
-        }
+        (found.as_str() == name).then_some(value)
     }
 
     /// The values of the two members that come next, where they have these names.

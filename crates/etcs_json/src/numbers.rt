@@ -68,13 +68,11 @@ pub(crate) fn numbers_by(
     let mut numbers = Vec::new(alloc);
     let mut place = Place::start(row);
     for value in list {
-        match next_number(&place, value) {
-            Some(number) => {
-                place.pass(number);
-                numbers.push(number)?;
-            }
-            None => return Ok(None),
-        }
+        let Some(number) = next_number(&place, value) else {
+            return Ok(None);
+        };
+        place.pass(number);
+        numbers.push(number)?;
     }
     match place.var() {
         Some(_) => Ok(None),

@@ -136,8 +136,5 @@ fn telegram_of(
 ) -> Result<Telegram, Miss>
     ensures { IfOk result (λ t. t.size ≡ size) }
 {
-    match Telegram::with_fill(size, header.ok_or(Miss::Shape)?, packets, fill) {
-        Ok(telegram) => Ok(telegram),
-        Err(_) => Err(Miss::Shape),
-    }
+    Telegram::with_fill(size, header.ok_or(Miss::Shape)?, packets, fill).map_err(|_| Miss::Shape)
 }

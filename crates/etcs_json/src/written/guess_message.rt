@@ -43,10 +43,7 @@ fn typed_of<H: Head, B: Own<Front = H>>(
     packets: Vec<H::Packet>,
     padding: &Bits,
 ) -> Option<MessageOf<H, B>> {
-    match MessageOf::with_padding(head?, body?, packets, padding_number(padding)?) {
-        Ok(message) => Some(message),
-        Err(_) => None,
-    }
+    MessageOf::with_padding(head?, body?, packets, padding_number(padding)?).ok()
 }
 
 /// The message that is kept as bits, after their quotation mark.

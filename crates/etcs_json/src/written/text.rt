@@ -54,10 +54,8 @@ fn lowest_bits(alloc: Global, digits: &[u8]) -> Result<Bits, Miss> {
     for eight in digits.chunks(8) {
         put(&mut bytes, byte_of(eight))?;
     }
-    match BitSlice::new(bytes.as_slice(), 0, digits.len()) {
-        Some(bits) => Ok(Bits::from_slice(alloc, bits)?),
-        None => Err(Miss::Shape),
-    }
+    let bits = BitSlice::new(bytes.as_slice(), 0, digits.len()).ok_or(Miss::Shape)?;
+    Ok(Bits::from_slice(alloc, bits)?)
 }
 
 impl<'a> Text<'a> {
@@ -68,13 +66,11 @@ impl<'a> Text<'a> {
 
     /// Passes over these bytes, where they come next, and says whether they do.
     pub(crate) fn skip(&mut self, front: &[u8]) -> bool {
-        match self.left.strip_prefix(front) {
-            Some(left) => {
-                self.left = left;
-                true
-            }
-            None => false,
-        }
+        let Some(left) = self.left.strip_prefix(front) else {
+            return false;
+        };
+        self.left = left;
+        true
     }
 
     /// Passes over these bytes, which have to come next.
@@ -155,14 +151,12 @@ impl<'a> Text<'a> {
         numbers.reserve(16)?;
         for _ in 0..self.left.len() {
             put(&mut numbers, self.pair()?)?;
-            match self.left {
-                [b']', end, left @ ..] => {
-                    self.left = left;
-                    if *end == b']' {
-                        return Ok(numbers);
-                    }
-                }
-                _ => return Err(Miss::Shape),
+            let [b']', end, left @ ..] = self.left else {
+                return Err(Miss::Shape);
+            };
+            self.left = left;
+            if *end == b']' {
+                return Ok(numbers);
             }
         }
         Err(Miss::Shape)

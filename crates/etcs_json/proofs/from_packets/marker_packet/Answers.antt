@@ -1,4 +1,4 @@
-use Rattle.std.proofs.Common.{◌≡◌, List, ℕ, [], ◌∷◌, ap, sym, ◌∙◌, Some, rules}
+use Rattle.std.proofs.Common.{◌≡◌, [], ◌∷◌, ap, ◌∙◌, Some, rules}
 use Rattle.serde_json.specs.View.{view}
 use Rattle.etcs_json.proofs.PacketTrees.{marker_numbers, marker_tree_some, marker_tree_only}
 use Rattle.etcs_json.proofs.from_packets.marker_packet.Goals as goal

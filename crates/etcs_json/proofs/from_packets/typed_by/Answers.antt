@@ -1,4 +1,3 @@
-use Rattle.std.proofs.Common.{ap, ◌∙◌, Some}
 use Rattle.serde_json.specs.View.{view}
 use Rattle.etcs_tables.specs.Layouts.{layout}
 use Rattle.etcs_tables.specs.Rows.{row_to}

@@ -1,6 +1,6 @@
 use Rattle.std.proofs.Common.{◌≡◌, length, rules, sym, ap, ◌∙◌, Some, arith}
 use Rattle.std.proofs.lemmas.Option.{IfSome_then}
-use Rattle.serde_json.specs.Data.{Data, Items, string, array, item, no_items}
+use Rattle.serde_json.specs.Data.{Data, string, array, item, no_items}
 use Rattle.serde_json.specs.View.{view, items_view}
 use Rattle.etcs_vars.specs.Vars.{name}
 use Rattle.etcs_json.proofs.PairLemmas.{array_is, string_is, array_back, two_long, two_items}

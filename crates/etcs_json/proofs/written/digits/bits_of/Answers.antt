@@ -1,4 +1,4 @@
-use Rattle.std.proofs.Common.{◌≡◌, ℕ, ◌<◌, List, length, take, map, refl, sym, ap, ◌∙◌, arith, Some}
+use Rattle.std.proofs.Common.{refl, sym, ap, ◌∙◌, arith, Some}
 use Rattle.std.proofs.lemmas.List.{take_all}
 use Rattle.etcs_json.proofs.DigitLemmas.{not_bit, one_bits}
 use Rattle.etcs_json.proofs.written.digits.bits_of.Goals as goal

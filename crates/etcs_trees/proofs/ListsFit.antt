@@ -1,14 +1,10 @@
 -- Lists whose items fit, one after another, and lists with one that doesn't.
-use Rattle.std.proofs.Common.{◌≡◌, ℕ, ◌+◌, List, [], ◌∷◌, ◌++◌, Option, Some, None, IsSomeAnd, option_map, sym, ap, subst, arith}
-use Rattle.json.specs.Token.{Token}
-use Rattle.json.specs.Json.{parse_map}
-use Rattle.serde_json.specs.Data.{Data, array, Items, item}
+use Rattle.std.proofs.Common.{◌≡◌, ℕ, ◌+◌, List, [], ◌∷◌, ◌++◌, arith}
+use Rattle.serde_json.specs.Data.{Data, Items, item}
 use Rattle.serde_json.specs.View.{view, items_view}
 use Rattle.serde_json.specs.declared.value.Value.{Value}
 use Rattle.etcs_trees.specs.declared.place.Place.{Place}
-use Rattle.etcs_trees.specs.Places.{items_place}
 use Rattle.etcs_trees.specs.Fits.{weight, items_weight, HasShape, ItemsHaveShape, Fits, ItemsFit}
-use Rattle.etcs_trees.specs.Found.{Finds}
 use Rattle.etcs_trees.proofs.Reading.{items_before}
 
 module _ (q : Place) where
@@ -31,11 +27,3 @@ items_weight-within (v ∷ vs) d ds = omega (arith, items_weight-within vs d ds)
 -- an item that doesn't fit what is left of the room
 pub item_unfit : (q : Place) (vs : List Value) (d : Data) (ds : Items) (left room : ℕ) → items_weight (items_view vs) + left ≡ room → (Fits q left d → ⊥) → ItemsFit q room (items_before vs (item d ds)) → ⊥
 item_unfit q vs d ds left room spent unfit h = unfit (HasShape-within q vs d ds h.0, omega (arith, items_weight-within vs d ds, h.1))
-
--- a list with its bracket
-module _ (r : Option (Items × List Token)) (rest : List Token) (p inner : Place) (room left : ℕ) (is : items_place p ≡ Some inner) (enough : 1 + left ≡ room) where
-  pub Finds-array : (o : Option Items) → Finds r (ItemsFit inner left) o rest → Finds (parse_map array r) (Fits p room) (option_map array o) rest
-  Finds-array None h =
-      (array h.0, ap (parse_map array) h.1, λ fits. h.2 (subst (λ o. IsSomeAnd o (λ q. ItemsHaveShape q h.0)) is fits.0, omega (arith, fits.1)))
-  Finds-array (Some ds) h =
-      (ap (parse_map array) h.0, (subst (λ o. IsSomeAnd o (λ q. ItemsHaveShape q ds)) (sym is) h.1.0, omega (arith, h.1.1)))

@@ -1,5 +1,5 @@
 -- Objects whose members fit, where of two members of one name the last counts.
-use Rattle.std.proofs.Common.{◌≡◌, ℕ, ◌+◌, ◌<◌, ◌≤◌, ◌⊎◌, inl, inr, min, List, Option, Some, None, IsTrue, IsSomeAnd, MatchOption, String, BTreeMap, Global, option_map, option_and_then, Ordering, Less, Equal, Greater, nat_cmp, is_eq, refl, sym, ap, ◌∙◌, subst, arith}
+use Rattle.std.proofs.Common.{◌≡◌, ℕ, ◌<◌, ◌≤◌, ◌⊎◌, inl, inr, min, List, Option, Some, None, IsSomeAnd, MatchOption, String, BTreeMap, Global, option_map, option_and_then, Ordering, Less, Equal, Greater, nat_cmp, is_eq, refl, sym, ap, ◌∙◌, subst, arith}
 use Rattle.std.proofs.lemmas.Cmp.{nat_list_cmp_total, tied_itself}
 use Rattle.std.proofs.lemmas.Map.Text.{is_eq-slice_cmp}
 use Rattle.std.proofs.lemmas.Slice.Eq.{bytes_eq-Decides}
@@ -7,13 +7,12 @@ use Rattle.std.specs.Cmp.Lexicographic.{slice_cmp}
 use Rattle.std.specs.Ordering.{match_ordering}
 use Rattle.json.specs.Token.{Token}
 use Rattle.json.specs.Json as json
-use Rattle.json.specs.Json.{parse_map}
-use Rattle.serde_json.specs.Data.{Data, null, object, Members, no_members, member, put}
+use Rattle.serde_json.specs.Data.{Data, null, Members, no_members, member, put}
 use Rattle.serde_json.specs.Read.{of_json, of_members, converted}
 use Rattle.serde_json.specs.View.{members_view}
 use Rattle.serde_json.specs.declared.value.Value.{Value}
 use Rattle.etcs_trees.specs.declared.place.Place.{Place}
-use Rattle.etcs_trees.specs.Places.{is_object, member_place, limit}
+use Rattle.etcs_trees.specs.Places.{member_place, limit}
 use Rattle.etcs_trees.specs.Fits.{weight, members_weight, HasShape, MembersHaveShape, Fits, MembersFit}
 use Rattle.etcs_trees.specs.Found.{Finds, Keeps, HasNull}
 use Rattle.etcs_trees.proofs.Reading.{converted_some}
@@ -190,9 +189,3 @@ Finds-members p n r rest ms es e masked None h = (ms, e, members_unfit p n ms es
 Finds-members p n r rest ms es e masked (Some m) h =
     let fit = members_fit p n ms es masked h.1 h.2 in
     rw h.0 (e ∙ ap (λ x. Some (x, rest)) fit.0, fit.1)
-
--- an object with its brace
-module _ (r : Option (Members × List Token)) (rest : List Token) (p : Place) (room left : ℕ) (is : IsTrue (is_object p)) (enough : 16 + left ≡ room) where
-  pub Finds-object : (o : Option Members) → Finds r (MembersFit p left) o rest → Finds (parse_map object r) (Fits p room) (option_map object o) rest
-  Finds-object None h = (object h.0, ap (parse_map object) h.1, λ fits. h.2 (fits.0.1, omega (arith, fits.1)))
-  Finds-object (Some ms) h = (ap (parse_map object) h.0, ((is, h.1.0), omega (arith, h.1.1)))

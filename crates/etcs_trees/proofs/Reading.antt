@@ -1,9 +1,9 @@
 -- The grammar's loops, a turn at a time, under the conversion to data: as serde_json has it for its own proofs.
-use Rattle.std.proofs.Common.{◌≡◌, ℕ, zero, suc, ◌-◌, ◌<◌, ◌≤◌, List, [], ◌∷◌, ◌++◌, length, Option, Some, None, option_map, option_and_then, refl, ap, ◌∙◌, arith}
+use Rattle.std.proofs.Common.{◌≡◌, ℕ, zero, suc, ◌⊎◌, inl, inr, ◌-◌, ◌<◌, ◌≤◌, List, [], ◌∷◌, ◌++◌, length, Option, Some, None, option_map, option_and_then, refl, ap, ap₂, ◌∙◌, arith}
 use Rattle.json.specs.Token.{Token}
 use Rattle.json.specs.Json as json
-use Rattle.json.specs.Json.{Parse, parse_map, after_end_array, read_key, items_step, items, members}
-use Rattle.json.proofs.Grammar.{items_end, items_more, members_end, members_no_key, members_more, read_key-shorter}
+use Rattle.json.specs.Json.{Parse, parse_map, after_end_array, read_key, items_step, items, members, value}
+use Rattle.json.proofs.Grammar.{value-begin_array, value-begin_object, items_end, items_more, members_end, members_no_key, members_more, read_key-shorter}
 use Rattle.serde_json.specs.Data.{Data, array, object, Items, no_items, item, Members, no_members, put}
 use Rattle.serde_json.specs.Read.{of_json, of_items, of_members, converted}
 use Rattle.serde_json.specs.View.{view, items_view}
@@ -93,6 +93,21 @@ module _ (p : Parse json.Json) where
 
     pub members_over : (n : ℕ) (ts r : List Token) → length ts ≤ n → read_key ts ≡ Some (None, r) → converted (λ ms. of_members ms old) (members p n ts) ≡ Some (old, r)
     members_over n ts r enough e = ap (converted (λ ms. of_members ms old)) (members_end p n ts r enough e)
+
+-- ---- a value that begins with a bracket or a brace
+
+module _ (depth : ℕ) (ts r : List Token) where
+  pub array_opened : (left : ℕ) → ts ≡ Token.begin_array ∷ r → (1 ≤ depth) × (left ≡ depth - 1) → converted of_json (value depth ts) ≡ parse_map array (converted of_items (items (value left) (length r) r))
+  array_opened left is inner = rw (is, inner.1) (ap (converted of_json) (value-begin_array depth r (omega arith)) ∙ converted-array (items (value (depth - 1)) (length r) r))
+
+  pub object_opened : (left : ℕ) → ts ≡ Token.begin_object ∷ r → (1 ≤ depth) × (left ≡ depth - 1) → converted of_json (value depth ts) ≡ parse_map object (converted (λ ms. of_members ms no_members) (members (value left) (length r) r))
+  object_opened left is inner = rw (is, inner.1) (ap (converted of_json) (value-begin_object depth r (omega arith)) ∙ converted-object (members (value (depth - 1)) (length r) r))
+
+  pub too_deep : (ts ≡ Token.begin_array ∷ r) ⊎ (ts ≡ Token.begin_object ∷ r) → (1 ≤ depth → ⊥) → converted of_json (value depth ts) ≡ None
+  unfolding value
+  too_deep begun deep =
+      let none : depth ≡ 0 = omega (arith, deep) in
+      elim begun [ inl is ↦ ap (converted of_json) (ap₂ value none is) | inr is ↦ ap (converted of_json) (ap₂ value none is) ]
 
 -- ---- a list that grows at its end
 

@@ -51,16 +51,12 @@ pub(crate) fn read(
         Token::Null => Ok(None),
         Token::EndObject | Token::EndArray | Token::Key(_) | Token::Bad => Err(Fault::Invalid),
         Token::BeginArray => {
-            if depth == 0 {
-                return Err(Fault::Invalid);
-            }
-            read_array(alloc, reader, depth - 1, place, room)
+            let inner = depth.checked_sub(1).ok_or(Fault::Invalid)?;
+            read_array(alloc, reader, inner, place, room)
         }
         Token::BeginObject => {
-            if depth == 0 {
-                return Err(Fault::Invalid);
-            }
-            read_object(alloc, reader, depth - 1, place, room)
+            let inner = depth.checked_sub(1).ok_or(Fault::Invalid)?;
+            read_object(alloc, reader, inner, place, room)
         }
     }
 }
@@ -82,10 +78,7 @@ fn read_array(
         skip_items(reader, depth)?;
         return Ok(None);
     };
-    match read_items(alloc, reader, depth, inner, left)? {
-        Some(found) => Ok(Some(Value::Array(found))),
-        None => Ok(None),
-    }
+    Ok(read_items(alloc, reader, depth, inner, left)?.map(Value::Array))
 }
 
 /// The items of a list.
@@ -145,10 +138,7 @@ fn read_object(
         skip_members(reader, depth)?;
         return Ok(None);
     };
-    match read_members(alloc, reader, depth, place, left)? {
-        Some(found) => Ok(Some(Value::Object(found))),
-        None => Ok(None),
-    }
+    Ok(read_members(alloc, reader, depth, place, left)?.map(Value::Object))
 }
 
 /// The members of an object. One that doesn't fit is null until its name comes again.
@@ -200,13 +190,10 @@ fn read_member(
     ensures err { result ≡ Err Fault.Invalid → converted of_json (value depth reader.old) ≡ None }
 {
     set(alloc, found, name, Value::Null)?;
-    match read(alloc, reader, depth, place, room)? {
-        Some(member) => {
-            set(alloc, found, name, member)?;
-            Ok(())
-        }
-        None => Ok(()),
+    if let Some(member) = read(alloc, reader, depth, place, room)? {
+        set(alloc, found, name, member)?;
     }
+    Ok(())
 }
 
 /// Sets the member of this name.
@@ -228,10 +215,7 @@ fn finished(found: Map<String, Value>, room: usize) -> Option<Map<String, Value>
     ensures { MatchOption result (HasNull (members_view found.entries) ⊎ (room < members_weight (members_view found.entries)))
         (λ m. (members_view m.entries ≡ members_view found.entries) × (HasNull (members_view found.entries) → ⊥) × (members_weight (members_view found.entries) ≤ room)) }
 {
-    if has_null(&found) {
-        return None;
-    }
-    if spend_members(&found, room).is_none() {
+    if has_null(&found) || spend_members(&found, room).is_none() {
         return None;
     }
     Some(found)

@@ -51,18 +51,8 @@ pub(crate) fn skip(reader: &mut Reader<'_>, depth: usize) -> Result<(), Invalid>
 {
     match begin(reader)? {
         Shape::Scalar => Ok(()),
-        Shape::Array => {
-            if depth == 0 {
-                return Err(Invalid);
-            }
-            skip_items(reader, depth - 1)
-        }
-        Shape::Object => {
-            if depth == 0 {
-                return Err(Invalid);
-            }
-            skip_members(reader, depth - 1)
-        }
+        Shape::Array => skip_items(reader, depth.checked_sub(1).ok_or(Invalid)?),
+        Shape::Object => skip_members(reader, depth.checked_sub(1).ok_or(Invalid)?),
     }
 }
 

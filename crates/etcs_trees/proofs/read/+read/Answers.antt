@@ -1,18 +1,18 @@
-use Rattle.std.proofs.Common.{◌≡◌, ◌-◌, [], ◌∷◌, inl, length, min, Some, None, IsSomeAnd, refl, subst, sym, ap, ap₂, ◌∙◌, arith, rules}
-use Rattle.json.specs.Token.{Token}
+use Rattle.std.proofs.Common.{◌≡◌, ◌-◌, [], ◌∷◌, inl, inr, length, min, Some, None, IsSomeAnd, refl, subst, sym, ap, ◌∙◌, arith, rules}
+use Rattle.json.specs.Token.{Token, begin_array, begin_object}
 use Rattle.json.specs.Json.{parse_map, after_end_array, read_key, items, members, value}
 use Rattle.json.specs.Reads.{token_of}
-use Rattle.json.proofs.Grammar.{value_is, value-begin_array, value-begin_object}
+use Rattle.json.proofs.Grammar.{value_is}
 use Rattle.serde_json.specs.Data.{null, boolean, number, string, array, object, item, no_members, put}
-use Rattle.serde_json.specs.Read.{of_json, of_items, of_members, converted}
+use Rattle.serde_json.specs.Read.{of_json, of_items, converted}
 use Rattle.serde_json.specs.View.{view, number_view, members_view}
 use Rattle.serde_json.specs.declared.value.Value.{String, Number, Null, the_lemmas}
 use Rattle.etcs_trees.specs.Places.{limit, member_place}
 use Rattle.etcs_trees.specs.Fits.{Fits}
 use Rattle.etcs_trees.specs.Found.{Keeps}
-use Rattle.etcs_trees.proofs.ListsFit.{ItemsHaveShape-push, items_weight-push, item_unfit, Finds-array}
-use Rattle.etcs_trees.proofs.ObjectsFit.{FitsNamed, HasName-put_here, HasName-stays, name_unfit, Masked-put, put-put, Finds-members, Finds-object}
-use Rattle.etcs_trees.proofs.Reading.{converted-array, converted-object, item_refused, item_turn, items_over, member_refused, member_turn, key_refused, members_over, items_before, items_before-no_items, one_more_item}
+use Rattle.etcs_trees.proofs.ListsFit.{ItemsHaveShape-push, items_weight-push, item_unfit}
+use Rattle.etcs_trees.proofs.ObjectsFit.{FitsNamed, HasName-put_here, HasName-stays, name_unfit, Masked-put, put-put, Finds-members}
+use Rattle.etcs_trees.proofs.Reading.{array_opened, object_opened, too_deep, item_refused, item_turn, items_over, member_refused, member_turn, key_refused, members_over, items_before, items_before-no_items, one_more_item}
 use Rattle.etcs_trees.proofs.read.+read.Goals as goal
 
 pub read-returns-in_err-token-clause-err : goal.read-returns-in_err-token-clause-err
@@ -26,31 +26,17 @@ read-returns-then-not-admits_scalar-clause-ok t c =
     let is : c.args.reader.now ≡ Token.string c.in-String.text.now ∷ c.next.new.self = grind (arith, first) in
     (string c.in-String.text.now, ap (converted of_json) (ap (value c.args.depth) is ∙ value_is c.args.depth _), c.if-not-admits_scalar.ensures)
 
-pub read-returns-in_default-clause-err : goal.read-returns-in_default-clause-err
-read-returns-in_default-clause-err t c refused =
-    let first : c.args.reader.now ≡ token_of c.in_ok-token.token ∷ c.next.new.self = grind arith in
-    let is : c.args.reader.now ≡ Token.number c.in-Number.text.now ∷ c.next.new.self = grind (arith, first) in
-    ap (converted of_json) (ap (value c.args.depth) is ∙ value_is c.args.depth _) ∙ rw (← c.in_default.ensures)
-
 pub read-returns-then-not-admits_scalar-2-clause-ok : goal.read-returns-then-not-admits_scalar-2-clause-ok
 read-returns-then-not-admits_scalar-2-clause-ok t c =
     let first : c.args.reader.now ≡ token_of c.in_ok-token.token ∷ c.next.new.self = grind arith in
     let is : c.args.reader.now ≡ Token.number c.in-Number.text.now ∷ c.next.new.self = grind (arith, first) in
     (number (number_view c.in-Some.found), ap (converted of_json) (ap (value c.args.depth) is ∙ value_is c.args.depth _) ∙ rw (← c.in-Some.ensures), c.if-not-admits_scalar-2.ensures)
 
-pub read-returns-then-depth-eq0-clause-err : goal.read-returns-then-depth-eq0-clause-err
-unfolding value
-read-returns-then-depth-eq0-clause-err t c never =
+pub read-returns-in_default-clause-err : goal.read-returns-in_default-clause-err
+read-returns-in_default-clause-err t c refused =
     let first : c.args.reader.now ≡ token_of c.in_ok-token.token ∷ c.next.new.self = grind arith in
-    let none : c.args.depth ≡ 0 = omega arith in
-    ap (converted of_json) (ap₂ value none (first ∙ ap (λ k. token_of k ∷ c.next.new.self) c.in-BeginArray.is))
-
-pub read-returns-then-depth-eq0-2-clause-err : goal.read-returns-then-depth-eq0-2-clause-err
-unfolding value
-read-returns-then-depth-eq0-2-clause-err t c never =
-    let first : c.args.reader.now ≡ token_of c.in_ok-token.token ∷ c.next.new.self = grind arith in
-    let none : c.args.depth ≡ 0 = omega arith in
-    ap (converted of_json) (ap₂ value none (first ∙ ap (λ k. token_of k ∷ c.next.new.self) c.in-BeginObject.is))
+    let is : c.args.reader.now ≡ Token.number c.in-Number.text.now ∷ c.next.new.self = grind (arith, first) in
+    ap (converted of_json) (ap (value c.args.depth) is ∙ value_is c.args.depth _) ∙ rw (← c.in_default.ensures)
 
 pub read-returns-in_ok-from_str-in-String-clause-ok : goal.read-returns-in_ok-from_str-in-String-clause-ok
 read-returns-in_ok-from_str-in-String-clause-ok t c =
@@ -84,39 +70,46 @@ read-returns-in-EndObject-clause-err t c refused =
     let none : value c.args.depth c.args.reader.now ≡ None = rw (value_is c.args.depth c.args.reader.now, first) (grind arith) in
     ap (converted of_json) none
 
-pub read-returns-else-depth-eq0-clause-ok : goal.read-returns-else-depth-eq0-clause-ok
-read-returns-else-depth-eq0-clause-ok t c =
+pub read-returns-in_err-inner-in-BeginArray-clause-err : goal.read-returns-in_err-inner-in-BeginArray-clause-err
+read-returns-in_err-inner-in-BeginArray-clause-err t c never =
     let first : c.args.reader.now ≡ token_of c.in_ok-token.token ∷ c.next.new.self = grind arith in
-    let opened = ap (converted of_json) (ap (value c.args.depth) (first ∙ ap (λ k. token_of k ∷ c.next.new.self) c.in-BeginArray.is) ∙ value-begin_array c.args.depth c.next.new.self (omega arith)) ∙ converted-array (items (value (c.args.depth - 1)) (length c.next.new.self) c.next.new.self) in
-    rw opened c.read_array.ensures.ok
+    let is : c.args.reader.now ≡ begin_array ∷ c.next.new.self = grind (arith, first) in
+    too_deep c.args.depth _ c.next.new.self (inl is) (λ some. grind arith)
 
-pub read-returns-else-depth-eq0-clause-err : goal.read-returns-else-depth-eq0-clause-err
-read-returns-else-depth-eq0-clause-err t c refused =
+pub read-returns-in_ok-inner-in-BeginArray-clause-ok : goal.read-returns-in_ok-inner-in-BeginArray-clause-ok
+read-returns-in_ok-inner-in-BeginArray-clause-ok t c =
     let first : c.args.reader.now ≡ token_of c.in_ok-token.token ∷ c.next.new.self = grind arith in
-    let opened = ap (converted of_json) (ap (value c.args.depth) (first ∙ ap (λ k. token_of k ∷ c.next.new.self) c.in-BeginArray.is) ∙ value-begin_array c.args.depth c.next.new.self (omega arith)) ∙ converted-array (items (value (c.args.depth - 1)) (length c.next.new.self) c.next.new.self) in
-    opened ∙ ap (parse_map array) (c.read_array.ensures.err refused)
+    let is : c.args.reader.now ≡ begin_array ∷ c.next.new.self = grind (arith, first) in
+    rw (array_opened c.args.depth _ c.next.new.self c.in_ok-inner-in-BeginArray.inner is (grind arith)) c.read_array.ensures.ok
 
-pub read-returns-else-depth-eq0-2-clause-ok : goal.read-returns-else-depth-eq0-2-clause-ok
-read-returns-else-depth-eq0-2-clause-ok t c =
+pub read-returns-in_ok-inner-in-BeginArray-clause-err : goal.read-returns-in_ok-inner-in-BeginArray-clause-err
+read-returns-in_ok-inner-in-BeginArray-clause-err t c refused =
     let first : c.args.reader.now ≡ token_of c.in_ok-token.token ∷ c.next.new.self = grind arith in
-    let opened = ap (converted of_json) (ap (value c.args.depth) (first ∙ ap (λ k. token_of k ∷ c.next.new.self) c.in-BeginObject.is) ∙ value-begin_object c.args.depth c.next.new.self (omega arith)) ∙ converted-object (members (value (c.args.depth - 1)) (length c.next.new.self) c.next.new.self) in
-    rw opened c.read_object.ensures.ok
+    let is : c.args.reader.now ≡ begin_array ∷ c.next.new.self = grind (arith, first) in
+    array_opened c.args.depth _ c.next.new.self c.in_ok-inner-in-BeginArray.inner is (grind arith) ∙ ap (parse_map array) (c.read_array.ensures.err refused)
 
-pub read-returns-else-depth-eq0-2-clause-err : goal.read-returns-else-depth-eq0-2-clause-err
-read-returns-else-depth-eq0-2-clause-err t c refused =
+pub read-returns-in_err-inner-in-BeginObject-clause-err : goal.read-returns-in_err-inner-in-BeginObject-clause-err
+read-returns-in_err-inner-in-BeginObject-clause-err t c never =
     let first : c.args.reader.now ≡ token_of c.in_ok-token.token ∷ c.next.new.self = grind arith in
-    let opened = ap (converted of_json) (ap (value c.args.depth) (first ∙ ap (λ k. token_of k ∷ c.next.new.self) c.in-BeginObject.is) ∙ value-begin_object c.args.depth c.next.new.self (omega arith)) ∙ converted-object (members (value (c.args.depth - 1)) (length c.next.new.self) c.next.new.self) in
-    opened ∙ ap (parse_map object) (c.read_object.ensures.err refused)
+    let is : c.args.reader.now ≡ begin_object ∷ c.next.new.self = grind (arith, first) in
+    too_deep c.args.depth _ c.next.new.self (inr is) (λ some. grind arith)
+
+pub read-returns-in_ok-inner-in-BeginObject-clause-ok : goal.read-returns-in_ok-inner-in-BeginObject-clause-ok
+read-returns-in_ok-inner-in-BeginObject-clause-ok t c =
+    let first : c.args.reader.now ≡ token_of c.in_ok-token.token ∷ c.next.new.self = grind arith in
+    let is : c.args.reader.now ≡ begin_object ∷ c.next.new.self = grind (arith, first) in
+    rw (object_opened c.args.depth _ c.next.new.self c.in_ok-inner-in-BeginObject.inner is (grind arith)) c.read_object.ensures.ok
+
+pub read-returns-in_ok-inner-in-BeginObject-clause-err : goal.read-returns-in_ok-inner-in-BeginObject-clause-err
+read-returns-in_ok-inner-in-BeginObject-clause-err t c refused =
+    let first : c.args.reader.now ≡ token_of c.in_ok-token.token ∷ c.next.new.self = grind arith in
+    let is : c.args.reader.now ≡ begin_object ∷ c.next.new.self = grind (arith, first) in
+    object_opened c.args.depth _ c.next.new.self c.in_ok-inner-in-BeginObject.inner is (grind arith) ∙ ap (parse_map object) (c.read_object.ensures.err refused)
 
 pub read_array-returns-in_default-clause-ok : goal.read_array-returns-in_default-clause-ok
 read_array-returns-in_default-clause-ok t c =
     let got = c.in_ok-skip_items.ensures.ok (length c.args.reader.now) (omega arith) in
     (array got.0, ap (parse_map array) got.1, c.in_default.ensures got.0)
-
-pub read_array-returns-in-None-clause-ok : goal.read_array-returns-in-None-clause-ok
-read_array-returns-in-None-clause-ok t c =
-    let h = rw c.in-None.is at c.in_ok-found.ensures.ok in
-    Finds-array (converted of_items (items (value c.args.depth) (length c.args.reader.now) c.args.reader.now)) c.read_items.new.reader c.args.place c.in-Some.inner c.args.room c.in-Some.left (grind arith) (grind arith) None h
 
 pub read_items-returns-in_err-item-clause-err : goal.read_items-returns-in_err-item-clause-err
 read_items-returns-in_err-item-clause-err t c refused =
@@ -173,13 +166,13 @@ read_items-returns-clause-ok t c =
     let over : after_end_array l.reader ≡ Some r = grind arith in
     (l.invariant.2 ∙ ap (parse_map (items_before l.found.items)) (items_over p n l.reader r l.invariant.1 over) ∙ ap (λ ds. Some (ds, r)) (items_before-no_items l.found.items), (l.invariant.4, omega (arith, l.invariant.5)))
 
-pub read_member-returns-in_ok-set-in-Some-clause-ok : goal.read_member-returns-in_ok-set-in-Some-clause-ok
-read_member-returns-in_ok-set-in-Some-clause-ok t c =
+pub read_member-returns-in_ok-set-2-clause-ok : goal.read_member-returns-in_ok-set-2-clause-ok
+read_member-returns-in_ok-set-2-clause-ok t c =
     let name = c.args.name.now in
     let v = c.in-Some.member in
     let old = members_view c.args.found.now.entries in
     let h = rw c.in-Some.is at c.in_ok-member.ensures.ok in
-    (view v, view v, h.0, inl (refl, h.1), c.in_ok-set-in-Some.ensures ∙ ap (put name (view v)) c.in_ok-set.ensures ∙ put-put name (view v) (view Null) old)
+    (view v, view v, h.0, inl (refl, h.1), c.in_ok-set-2.ensures ∙ ap (put name (view v)) c.in_ok-set.ensures ∙ put-put name (view v) (view Null) old)
 
 pub read_members-members-init : goal.read_members-members-init
 read_members-members-init t c = (length c.args.reader.now, no_members, omega arith, refl, omega arith, rw c.new-found.ensures.empty tt)
@@ -260,8 +253,3 @@ pub read_object-returns-in_default-clause-ok : goal.read_object-returns-in_defau
 read_object-returns-in_default-clause-ok t c =
     let got = c.in_ok-skip_members.ensures.ok (length c.args.reader.now) no_members (omega arith) in
     (object got.0, ap (parse_map object) got.1, c.in_default.ensures got.0)
-
-pub read_object-returns-in-None-clause-ok : goal.read_object-returns-in-None-clause-ok
-read_object-returns-in-None-clause-ok t c =
-    let h = rw c.in-None.is at c.in_ok-found.ensures.ok in
-    Finds-object (converted (λ js. of_members js no_members) (members (value c.args.depth) (length c.args.reader.now) c.args.reader.now)) c.read_members.new.reader c.args.place c.args.room c.in-Some.left c.in-Some.ensures.0 c.in-Some.ensures.1 None h

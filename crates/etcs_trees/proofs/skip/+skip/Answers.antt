@@ -1,14 +1,10 @@
-use Rattle.std.proofs.Common.{◌≡◌, ◌-◌, ◌<◌, ◌∷◌, length, Some, None, Ok, refl, ap, ap₂, ◌∙◌, arith}
+use Rattle.std.proofs.Common.{inl, inr, ◌≡◌, ◌-◌, ◌<◌, length, Some, None, Ok, refl, ap, ◌∙◌, arith}
 use Rattle.std.proofs.lemmas.Result.{on_ok_weaker, on_err_weaker}
-use Rattle.json.specs.Token.{Token}
-use Rattle.json.specs.Json.{parse_map, after_end_array, read_key, items, members, value}
-use Rattle.json.specs.Reads.{token_of}
-use Rattle.json.proofs.Grammar.{value_is, value-begin_array, value-begin_object, read_key-shorter}
-use Rattle.serde_json.specs.Data.{null, boolean, number, string, array, object, item, no_items, no_members, put}
-use Rattle.serde_json.specs.Read.{of_json, converted}
-use Rattle.serde_json.specs.View.{number_view}
+use Rattle.json.specs.Json.{parse_map, after_end_array, read_key, value}
+use Rattle.json.proofs.Grammar.{read_key-shorter}
+use Rattle.serde_json.specs.Data.{array, object, item, no_items, no_members, put}
 use Rattle.etcs_trees.specs.Skips.{SkipsItems, SkipsMembers, NoItems, NoMembers}
-use Rattle.etcs_trees.proofs.Reading.{converted-array, converted-object, item_read, item_refused, items_over, member_read, member_refused, key_refused, members_over, none_before, parse_map-twice}
+use Rattle.etcs_trees.proofs.Reading.{array_opened, object_opened, too_deep, item_read, item_refused, items_over, member_read, member_refused, key_refused, members_over, none_before, parse_map-twice}
 use Rattle.etcs_trees.proofs.Outcomes.{OnErr-always}
 use Rattle.etcs_trees.proofs.skip.+skip.Goals as goal
 
@@ -18,37 +14,33 @@ skip-returns-in_err-begin-clause-err t c = OnErr-always c.from_residual.result (
 pub skip-returns-in-Scalar-clause-ok : goal.skip-returns-in-Scalar-clause-ok
 skip-returns-in-Scalar-clause-ok t c = let (d, is) = c.in_ok-begin.ensures.scalar (ap Ok c.in-Scalar.is) in (d, is c.args.depth)
 
-pub skip-returns-then-depth-eq0-clause-err : goal.skip-returns-then-depth-eq0-clause-err
-unfolding value
-skip-returns-then-depth-eq0-clause-err t c =
-    let none : c.args.depth ≡ 0 = omega arith in
-    ap (converted of_json) (ap₂ value none (c.in_ok-begin.ensures.array (ap Ok c.in-Array.is)))
+pub skip-returns-in_err-ok_or-in-Array-clause-err : goal.skip-returns-in_err-ok_or-in-Array-clause-err
+skip-returns-in_err-ok_or-in-Array-clause-err t c =
+    OnErr-always c.from_residual-in_err-ok_or-in-Array.result (too_deep c.args.depth _ c.begin.new.reader (inl (c.in_ok-begin.ensures.array (ap Ok c.in-Array.is))) (λ some. grind arith))
 
-pub skip-returns-then-depth-eq0-2-clause-err : goal.skip-returns-then-depth-eq0-2-clause-err
-unfolding value
-skip-returns-then-depth-eq0-2-clause-err t c =
-    let none : c.args.depth ≡ 0 = omega arith in
-    ap (converted of_json) (ap₂ value none (c.in_ok-begin.ensures.object (ap Ok c.in-Object.is)))
+pub skip-returns-in_ok-ok_or-in-Array-clause-ok : goal.skip-returns-in_ok-ok_or-in-Array-clause-ok
+skip-returns-in_ok-ok_or-in-Array-clause-ok t c =
+    let opened = array_opened c.args.depth _ c.begin.new.reader c.in_ok-ok_or-in-Array.field-0 (c.in_ok-begin.ensures.array (ap Ok c.in-Array.is)) (grind arith) in
+    on_ok_weaker c.skip_items.result (λ (h : SkipsItems c.in_ok-ok_or-in-Array.field-0 c.begin.new.reader c.skip_items.new.reader). let got = h (length c.begin.new.reader) (omega arith) in (array got.0, opened ∙ ap (parse_map array) got.1)) c.skip_items.ensures.ok
 
-pub skip-returns-else-depth-eq0-clause-ok : goal.skip-returns-else-depth-eq0-clause-ok
-skip-returns-else-depth-eq0-clause-ok t c =
-    let opened = ap (converted of_json) (ap (value c.args.depth) (c.in_ok-begin.ensures.array (ap Ok c.in-Array.is)) ∙ value-begin_array c.args.depth c.begin.new.reader (omega arith)) ∙ converted-array (items (value (c.args.depth - 1)) (length c.begin.new.reader) c.begin.new.reader) in
-    on_ok_weaker c.skip_items.result (λ (h : SkipsItems (c.args.depth - 1) c.begin.new.reader c.skip_items.new.reader). let got = h (length c.begin.new.reader) (omega arith) in (array got.0, opened ∙ ap (parse_map array) got.1)) c.skip_items.ensures.ok
+pub skip-returns-in_ok-ok_or-in-Array-clause-err : goal.skip-returns-in_ok-ok_or-in-Array-clause-err
+skip-returns-in_ok-ok_or-in-Array-clause-err t c =
+    let opened = array_opened c.args.depth _ c.begin.new.reader c.in_ok-ok_or-in-Array.field-0 (c.in_ok-begin.ensures.array (ap Ok c.in-Array.is)) (grind arith) in
+    on_err_weaker c.skip_items.result (λ (h : NoItems c.in_ok-ok_or-in-Array.field-0 c.begin.new.reader). opened ∙ ap (parse_map array) (h (length c.begin.new.reader) (omega arith))) c.skip_items.ensures.err
 
-pub skip-returns-else-depth-eq0-clause-err : goal.skip-returns-else-depth-eq0-clause-err
-skip-returns-else-depth-eq0-clause-err t c =
-    let opened = ap (converted of_json) (ap (value c.args.depth) (c.in_ok-begin.ensures.array (ap Ok c.in-Array.is)) ∙ value-begin_array c.args.depth c.begin.new.reader (omega arith)) ∙ converted-array (items (value (c.args.depth - 1)) (length c.begin.new.reader) c.begin.new.reader) in
-    on_err_weaker c.skip_items.result (λ (h : NoItems (c.args.depth - 1) c.begin.new.reader). opened ∙ ap (parse_map array) (h (length c.begin.new.reader) (omega arith))) c.skip_items.ensures.err
+pub skip-returns-in_err-ok_or-in-Object-clause-err : goal.skip-returns-in_err-ok_or-in-Object-clause-err
+skip-returns-in_err-ok_or-in-Object-clause-err t c =
+    OnErr-always c.from_residual-in_err-ok_or-in-Object.result (too_deep c.args.depth _ c.begin.new.reader (inr (c.in_ok-begin.ensures.object (ap Ok c.in-Object.is))) (λ some. grind arith))
 
-pub skip-returns-else-depth-eq0-2-clause-ok : goal.skip-returns-else-depth-eq0-2-clause-ok
-skip-returns-else-depth-eq0-2-clause-ok t c =
-    let opened = ap (converted of_json) (ap (value c.args.depth) (c.in_ok-begin.ensures.object (ap Ok c.in-Object.is)) ∙ value-begin_object c.args.depth c.begin.new.reader (omega arith)) ∙ converted-object (members (value (c.args.depth - 1)) (length c.begin.new.reader) c.begin.new.reader) in
-    on_ok_weaker c.skip_members.result (λ (h : SkipsMembers (c.args.depth - 1) c.begin.new.reader c.skip_members.new.reader). let got = h (length c.begin.new.reader) no_members (omega arith) in (object got.0, opened ∙ ap (parse_map object) got.1)) c.skip_members.ensures.ok
+pub skip-returns-in_ok-ok_or-in-Object-clause-ok : goal.skip-returns-in_ok-ok_or-in-Object-clause-ok
+skip-returns-in_ok-ok_or-in-Object-clause-ok t c =
+    let opened = object_opened c.args.depth _ c.begin.new.reader c.in_ok-ok_or-in-Object.field-0 (c.in_ok-begin.ensures.object (ap Ok c.in-Object.is)) (grind arith) in
+    on_ok_weaker c.skip_members.result (λ (h : SkipsMembers c.in_ok-ok_or-in-Object.field-0 c.begin.new.reader c.skip_members.new.reader). let got = h (length c.begin.new.reader) no_members (omega arith) in (object got.0, opened ∙ ap (parse_map object) got.1)) c.skip_members.ensures.ok
 
-pub skip-returns-else-depth-eq0-2-clause-err : goal.skip-returns-else-depth-eq0-2-clause-err
-skip-returns-else-depth-eq0-2-clause-err t c =
-    let opened = ap (converted of_json) (ap (value c.args.depth) (c.in_ok-begin.ensures.object (ap Ok c.in-Object.is)) ∙ value-begin_object c.args.depth c.begin.new.reader (omega arith)) ∙ converted-object (members (value (c.args.depth - 1)) (length c.begin.new.reader) c.begin.new.reader) in
-    on_err_weaker c.skip_members.result (λ (h : NoMembers (c.args.depth - 1) c.begin.new.reader). opened ∙ ap (parse_map object) (h (length c.begin.new.reader) no_members (omega arith))) c.skip_members.ensures.err
+pub skip-returns-in_ok-ok_or-in-Object-clause-err : goal.skip-returns-in_ok-ok_or-in-Object-clause-err
+skip-returns-in_ok-ok_or-in-Object-clause-err t c =
+    let opened = object_opened c.args.depth _ c.begin.new.reader c.in_ok-ok_or-in-Object.field-0 (c.in_ok-begin.ensures.object (ap Ok c.in-Object.is)) (grind arith) in
+    on_err_weaker c.skip_members.result (λ (h : NoMembers c.in_ok-ok_or-in-Object.field-0 c.begin.new.reader). opened ∙ ap (parse_map object) (h (length c.begin.new.reader) no_members (omega arith))) c.skip_members.ensures.err
 
 pub skip_items-items-init : goal.skip_items-items-init
 skip_items-items-init t c = (λ n h. (n, (λ ds. ds), h, none_before _), omega arith)

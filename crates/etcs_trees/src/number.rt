@@ -42,12 +42,10 @@ fn from_zero(numeral: &Numeral<'_>) -> Option<Number>
 fn below_zero(numeral: &Numeral<'_>) -> Option<Number>
     ensures { option_map number_view result ≡ number_from true numeral.now }
 {
-    if let Some(n) = numeral.to_i64(true) {
-        if n < 0 {
-            return Some(Number::from(n));
-        }
+    match numeral.to_i64(true) {
+        Some(n) if n < 0 => Some(Number::from(n)),
+        _ => nearest(true, numeral),
     }
-    nearest(true, numeral)
 }
 
 /// The nearest float.

@@ -58,11 +58,7 @@ impl Place {
         ensures { MatchOption result ((ds : Items) → Fits self room (array ds) → ⊥)
             (λ p. (items_place self ≡ Some p.0) × (1 + p.1 ≡ room)) }
     {
-        let inner = self.items()?;
-        if room == 0 {
-            return None;
-        }
-        Some((inner, room - 1))
+        Some((self.items()?, room.checked_sub(1)?))
     }
 
     /// The place of the items of a list.

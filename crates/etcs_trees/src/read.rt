@@ -161,15 +161,8 @@ fn read_members(
             skip_members(reader, depth)?;
             return Ok(None);
         };
-        read_member(
-            alloc,
-            reader,
-            depth,
-            inner,
-            inner.room(room),
-            &mut found,
-            name,
-        )?;
+        let left = inner.room(room);
+        read_member(alloc, reader, depth, inner, left, &mut found, name)?;
     }
     Ok(finished(found, room))
 }

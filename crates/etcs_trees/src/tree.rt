@@ -48,13 +48,8 @@ fn whole(alloc: Global, text: &str, scratch: &mut Scratch) -> Result<Option<Valu
     ensures err { result ≡ Err Fault.Invalid → read_text text.now ≡ None }
 {
     let mut reader = Reader::new(text, scratch)?;
-    let tree = read(
-        alloc,
-        &mut reader,
-        MAX_DEPTH,
-        Place::Item,
-        Place::Item.limit(),
-    )?;
+    let limit = Place::Item.limit();
+    let tree = read(alloc, &mut reader, MAX_DEPTH, Place::Item, limit)?;
     if reader.next().is_some() {
         return Err(Fault::Invalid);
     }

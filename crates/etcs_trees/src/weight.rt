@@ -13,24 +13,9 @@ pub(crate) fn spend(value: &Value, room: usize) -> Option<usize>
     ensures { MatchOption result (room < weight (view value.now)) (λ left. weight (view value.now) + left ≡ room) }
 {
     match value {
-        Value::Array(items) => {
-            if room < 1 {
-                return None;
-            }
-            spend_items(items, room - 1)
-        }
-        Value::Object(members) => {
-            if room < 16 {
-                return None;
-            }
-            spend_members(members, room - 16)
-        }
-        _ => {
-            if room < 1 {
-                return None;
-            }
-            Some(room - 1)
-        }
+        Value::Array(items) => spend_items(items, room.checked_sub(1)?),
+        Value::Object(members) => spend_members(members, room.checked_sub(16)?),
+        _ => room.checked_sub(1),
     }
 }
 

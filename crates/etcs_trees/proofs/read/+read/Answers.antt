@@ -225,7 +225,7 @@ read_members-members-preserved t c =
     let d = c.in_ok-read_member.ensures.ok in
     let turn = member_turn (value c.args.depth) n k l.reader c.next_key.new.self c.read_member.new.reader old d.0 _ l.invariant.2 (grind arith) c.in_ok-read_member.ensures.shorter d.2 l.invariant.3 in
     let keeps : Keeps (FitsNamed c.args.place c.args.room k d.0) d.0 d.1 =
-    subst (λ o. Keeps (IsSomeAnd o (λ x. Fits x (min c.args.room (limit x)) d.0)) d.0 d.1) (sym known) (subst (λ m. Keeps (Fits q m d.0) d.0 d.1) c.room.ensures d.3) in (
+    subst (λ o. Keeps (IsSomeAnd o (λ x. Fits x (min c.args.room (limit x)) d.0)) d.0 d.1) (sym known) (subst (λ m. Keeps (Fits q m d.0) d.0 d.1) c.room-left.ensures d.3) in (
       n - 1,
       put k d.0 old,
       turn.1,

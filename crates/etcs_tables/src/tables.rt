@@ -272,6 +272,7 @@ pub fn message_ranges(way: Way, nid: u8) -> &'static [(u64, u64)]
 }
 
 /// The typed message of a number.
+#[inline(always)]
 fn typed_message(way: Way, nid: u8) -> Option<&'static TypedMessage>
     ensures row { option_map (λ message. message.now.items.now) result ≡ option_map items (message_row_to way nid) }
     ensures bits { option_map (λ message. message.now.bits) result ≡ option_map row_bits (message_row_to way nid) }

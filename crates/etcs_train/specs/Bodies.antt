@@ -27,11 +27,6 @@ nid_of_body (Plain n) = n
 nid_of_body (TrainTime n t) = n
 nid_of_body (Status q) = 157
 
-abbrev pub body_bits : TrainBody → ℕ
-body_bits (Plain n) = 0
-body_bits (TrainTime n t) = 32
-body_bits (Status q) = 2
-
 abbrev pub body_reading : TrainBody → Reading
 body_reading (Plain n) = []
 body_reading (TrainTime n t) = (T_TRAIN, t) ∷ []

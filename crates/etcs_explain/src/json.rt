@@ -342,15 +342,6 @@ impl<'a> Part<'a> {
         }
         Some(())
     }
-
-    /// Finds the first part that no item of the kind has.
-    fn test(self, kind: Kind, out: &mut Text) -> Option<()> {
-        match kind {
-            Kind::Long | Kind::Short => self.test_telegram(kind, out),
-            Kind::Radio | Kind::Train if self.has("data") => self.test_kept(kind, out),
-            Kind::Radio | Kind::Train => self.test_message(kind, out),
-        }
-    }
 }
 
 /// Why no item of the kind has the JSON of a line.
@@ -369,7 +360,12 @@ fn write_shape(kind: Kind, line: &[u8], out: &mut Text) {
         name: None,
         entry: None,
     };
-    if whole.test(kind, out).is_some() {
+    let tested = match kind {
+        Kind::Long | Kind::Short => whole.test_telegram(kind, out),
+        Kind::Radio | Kind::Train if whole.has("data") => whole.test_kept(kind, out),
+        Kind::Radio | Kind::Train => whole.test_message(kind, out),
+    };
+    if tested.is_some() {
         write!(out, "no item of kind {} has this JSON", word(kind));
     }
 }

@@ -1,9 +1,8 @@
 //! The names of packets and messages (SUBSET-026, 7.4 and 8).
 
-use etcs_tables::Way;
-
+/// Of packets to the train.
 #[rattlefmt::skip]
-static TO_TRAIN: [(u8, &str); 55] = [
+pub(crate) static TO_TRAIN: [(u8, &str); 55] = [
     (0, "Virtual Balise Cover marker"), (2, "System Version order"), (3, "National Values"), (5, "Linking"),
     (6, "Virtual Balise Cover order"), (12, "Level 1 Movement Authority"),
     (13, "Staff Responsible distance information from loop"), (15, "Level 2/3 Movement Authority"),
@@ -29,15 +28,16 @@ static TO_TRAIN: [(u8, &str); 55] = [
     (254, "Default balise, loop or RIU information"), (255, "end of information"),
 ];
 
+/// Of those to the track.
 #[rattlefmt::skip]
-static TO_TRACK: [(u8, &str); 9] = [
+pub(crate) static TO_TRACK: [(u8, &str); 9] = [
     (0, "Position Report"), (1, "Position Report based on two balise groups"), (2, "Onboard supported system versions"),
     (3, "Onboard telephone numbers"), (4, "Error Reporting"), (5, "Train running number"),
     (9, "Level 2/3 transition information"), (11, "Validated train data"),
     (44, "Data used by applications outside the ERTMS/ETCS system"),
 ];
 
-/// Of both ways: each number is of one.
+/// Of messages of both ways: each number is of one.
 #[rattlefmt::skip]
 pub(crate) static MESSAGES: [(u8, &str); 38] = [
     (2, "SR Authorisation"), (3, "Movement Authority"), (6, "Recognition of exit from TRIP mode"),
@@ -59,12 +59,4 @@ pub(crate) static MESSAGES: [(u8, &str); 38] = [
 pub(crate) fn name_in(names: &'static [(u8, &'static str)], number: u64) -> Option<&'static str> {
     let name = names.iter().find(|name| u64::from(name.0) == number)?;
     Some(name.1)
-}
-
-/// The name of the packet of a number.
-pub(crate) fn packet_name(way: Way, number: u64) -> Option<&'static str> {
-    match way {
-        Way::ToTrain => name_in(&TO_TRAIN, number),
-        Way::ToTrack => name_in(&TO_TRACK, number),
-    }
 }

@@ -3,7 +3,7 @@
 use crate::account::{Account, End};
 use crate::front::low_byte;
 use crate::meanings::write_meaning;
-use crate::names::{MESSAGES, name_in, packet_name};
+use crate::names::{MESSAGES, TO_TRACK, TO_TRAIN, name_in};
 use crate::sheet::Sheet;
 use crate::text::Text;
 use etcs_bits::peek;
@@ -132,7 +132,11 @@ impl<'a> Table<'a> {
         self.sheet.close_part();
         self.sheet.clear();
         write!(self.sheet.meaning, "packet {number}");
-        if let Some(name) = packet_name(self.way, number) {
+        let name = match self.way {
+            Way::ToTrain => name_in(&TO_TRAIN, number),
+            Way::ToTrack => name_in(&TO_TRACK, number),
+        };
+        if let Some(name) = name {
             write!(self.sheet.meaning, ", {name}");
         }
         self.write_extent();

@@ -19,8 +19,7 @@ use Rattle.etcs_grouped.specs.BaliseLists.{BaliseListValue, balise_list_reading,
 -- its longest list is far from the most bits that L_PACKET counts
 balise_list_small : (nid : ℕ) (p : BaliseListValue) → IsBaliseList nid p → length (spelled (balise_list_reading p)) ≤ 780
 balise_list_small nid p h =
-    let groups = list_most IsBaliseAt balise_at_reading 25 (λ b _. balise_at_most b) p.balises h.2 in
-    rw (bit_count_is (balise_list_reading p)) (omega arith)
+    rw (bit_count_is (balise_list_reading p)) (list_most IsBaliseAt balise_at_reading 25 (λ b _. balise_at_most b) p.balises h.2)
 
 pub balise_list_codes : (nid : ℕ) → nid_fault nid ≡ None → row_to ToTrain nid ≡ Some balise_list → PacketCodes ToTrain nid (λ (p : BaliseListValue). p.dir) (IsBaliseList nid) balise_list_reading (packet_from balise_list_from)
 unfolding balise_list_from

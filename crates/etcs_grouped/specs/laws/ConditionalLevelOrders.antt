@@ -14,10 +14,9 @@ use Rattle.etcs_grouped.specs.ConditionalLevelOrders.{ConditionalLevelOrderValue
 -- ---- All but the direction.
 
 -- its longest list is far from the most bits that L_PACKET counts
-pub conditional_level_order_small : (p : ConditionalLevelOrderValue) → IsConditionalLevelOrder p → length (spelled (conditional_level_order_reading p)) ≤ 357
+conditional_level_order_small : (p : ConditionalLevelOrderValue) → IsConditionalLevelOrder p → length (spelled (conditional_level_order_reading p)) ≤ 357
 conditional_level_order_small p h =
-    let levels = entries_most IsLevel level_reading 11 (λ l _. level_most l) (p.first, p.further) h.1 in
-    rw (bit_count_is (conditional_level_order_reading p)) (omega arith)
+    rw (bit_count_is (conditional_level_order_reading p)) (entries_most IsLevel level_reading 11 (λ l _. level_most l) (p.first, p.further) h.1)
 
 pub conditional_level_order_codes : PacketCodes ToTrain 46 (λ (p : ConditionalLevelOrderValue). p.dir) IsConditionalLevelOrder conditional_level_order_reading (packet_from conditional_level_order_from)
 unfolding conditional_level_order_from

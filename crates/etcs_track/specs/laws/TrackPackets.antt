@@ -1,15 +1,11 @@
 -- Lemmas about specs/TrackPackets.antt.
 use Rattle.std.proofs.Common.{◌≡◌, ℕ, [], ◌∷◌, ◌++◌, length, Option, None, Some, refl, sym, subst, ◌∙◌}
-use Rattle.std.specs.Prelude.{if◌then◌else◌, nat_le}
 use Rattle.std.proofs.lemmas.Bool.{eqb-true}
 use Rattle.etcs_vars.specs.declared.var.Var.TheVariants.{NID_PACKET, L_PACKET, OTHER_DATA}
 use Rattle.etcs_vars.specs.Reading.{Reading, spelled}
 use Rattle.etcs_vars.specs.Reading as sent
-use Rattle.etcs_vars.specs.Faults.{◌or_else◌}
 use Rattle.etcs_vars.specs.declared.fault.BuildFault.{BuildFault}
-use Rattle.etcs_vars.specs.declared.fault.BuildFault.TheVariants.{NotAdmitted, TooLong}
-use Rattle.etcs_tables.specs.Frames.{is_kept, kept_limit}
-use Rattle.etcs_flat.specs.Others.{direction_fault, other_fault}
+use Rattle.etcs_flat.specs.Others.{other_fault}
 use Rattle.etcs_flat.specs.laws.FlatLaws.{none_both, direction_fine}
 use Rattle.etcs_tables.specs.declared.row.Way.TheVariants.{ToTrack}
 use Rattle.etcs_packets.specs.PacketValues.{PacketValue, nid_of, variables_of}
@@ -40,11 +36,7 @@ track_bits v = bits_are ToTrack v
 
 -- the direction of one with which nothing is wrong is 0
 pub kept_undirected : (nid dir bits : ℕ) → other_fault ToTrack nid dir bits ≡ None → dir ≡ 0
-kept_undirected nid dir bits h =
-    let front = if is_kept ToTrack nid then None else Some (NotAdmitted NID_PACKET) in
-    let long = if nat_le bits (kept_limit ToTrack) then None else Some TooLong in
-    let both = none_both (front or_else direction_fault ToTrack dir) long h in
-    eqb-true dir 0 (direction_fine ToTrack dir (none_both front (direction_fault ToTrack dir) both.0).1)
+kept_undirected nid dir bits h = eqb-true dir 0 (direction_fine ToTrack dir (none_both _ _ (none_both _ _ h).0).1)
 
 -- so it is one of no direction
 pub kept_alike : (nid dir bits : ℕ) (e : BuildFault) → other_fault ToTrack nid dir bits ≡ None → other_fault ToTrack nid 0 bits ≡ Some e → ⊥

@@ -76,17 +76,12 @@ read-returns-in_err-inner-in-BeginArray-clause-err t c never =
     let is : c.args.reader.now ≡ begin_array ∷ c.next.new.self = grind (arith, first) in
     too_deep c.args.depth _ c.next.new.self (inl is) (λ some. grind arith)
 
-pub read-returns-in_ok-inner-in-BeginArray-clause-ok : goal.read-returns-in_ok-inner-in-BeginArray-clause-ok
-read-returns-in_ok-inner-in-BeginArray-clause-ok t c =
+pub read-returns-in_ok-inner-in-BeginArray : goal.read-returns-in_ok-inner-in-BeginArray
+read-returns-in_ok-inner-in-BeginArray t c =
     let first : c.args.reader.now ≡ token_of c.in_ok-token.token ∷ c.next.new.self = grind arith in
     let is : c.args.reader.now ≡ begin_array ∷ c.next.new.self = grind (arith, first) in
-    rw (array_opened c.args.depth _ c.next.new.self c.in_ok-inner-in-BeginArray.inner is (grind arith)) c.read_array.ensures.ok
-
-pub read-returns-in_ok-inner-in-BeginArray-clause-err : goal.read-returns-in_ok-inner-in-BeginArray-clause-err
-read-returns-in_ok-inner-in-BeginArray-clause-err t c refused =
-    let first : c.args.reader.now ≡ token_of c.in_ok-token.token ∷ c.next.new.self = grind arith in
-    let is : c.args.reader.now ≡ begin_array ∷ c.next.new.self = grind (arith, first) in
-    array_opened c.args.depth _ c.next.new.self c.in_ok-inner-in-BeginArray.inner is (grind arith) ∙ ap (parse_map array) (c.read_array.ensures.err refused)
+    let opened = array_opened c.args.depth _ c.next.new.self c.in_ok-inner-in-BeginArray.inner is (grind arith) in
+    record { ok = rw opened c.read_array.ensures.ok; shorter = search rules; err = λ refused. opened ∙ ap (parse_map array) (c.read_array.ensures.err refused) }
 
 pub read-returns-in_err-inner-in-BeginObject-clause-err : goal.read-returns-in_err-inner-in-BeginObject-clause-err
 read-returns-in_err-inner-in-BeginObject-clause-err t c never =
@@ -94,17 +89,12 @@ read-returns-in_err-inner-in-BeginObject-clause-err t c never =
     let is : c.args.reader.now ≡ begin_object ∷ c.next.new.self = grind (arith, first) in
     too_deep c.args.depth _ c.next.new.self (inr is) (λ some. grind arith)
 
-pub read-returns-in_ok-inner-in-BeginObject-clause-ok : goal.read-returns-in_ok-inner-in-BeginObject-clause-ok
-read-returns-in_ok-inner-in-BeginObject-clause-ok t c =
+pub read-returns-in_ok-inner-in-BeginObject : goal.read-returns-in_ok-inner-in-BeginObject
+read-returns-in_ok-inner-in-BeginObject t c =
     let first : c.args.reader.now ≡ token_of c.in_ok-token.token ∷ c.next.new.self = grind arith in
     let is : c.args.reader.now ≡ begin_object ∷ c.next.new.self = grind (arith, first) in
-    rw (object_opened c.args.depth _ c.next.new.self c.in_ok-inner-in-BeginObject.inner is (grind arith)) c.read_object.ensures.ok
-
-pub read-returns-in_ok-inner-in-BeginObject-clause-err : goal.read-returns-in_ok-inner-in-BeginObject-clause-err
-read-returns-in_ok-inner-in-BeginObject-clause-err t c refused =
-    let first : c.args.reader.now ≡ token_of c.in_ok-token.token ∷ c.next.new.self = grind arith in
-    let is : c.args.reader.now ≡ begin_object ∷ c.next.new.self = grind (arith, first) in
-    object_opened c.args.depth _ c.next.new.self c.in_ok-inner-in-BeginObject.inner is (grind arith) ∙ ap (parse_map object) (c.read_object.ensures.err refused)
+    let opened = object_opened c.args.depth _ c.next.new.self c.in_ok-inner-in-BeginObject.inner is (grind arith) in
+    record { ok = rw opened c.read_object.ensures.ok; shorter = search rules; err = λ refused. opened ∙ ap (parse_map object) (c.read_object.ensures.err refused) }
 
 pub read_array-returns-in_default-clause-ok : goal.read_array-returns-in_default-clause-ok
 read_array-returns-in_default-clause-ok t c =

@@ -1,4 +1,4 @@
-use Rattle.std.proofs.Common.{inl, inr, ◌≡◌, ◌-◌, ◌<◌, length, Some, None, Ok, refl, ap, ◌∙◌, arith}
+use Rattle.std.proofs.Common.{inl, inr, rules, ◌≡◌, ◌-◌, ◌<◌, length, Some, None, Ok, refl, ap, ◌∙◌, arith}
 use Rattle.std.proofs.lemmas.Result.{on_ok_weaker, on_err_weaker}
 use Rattle.json.specs.Json.{parse_map, after_end_array, read_key, value}
 use Rattle.json.proofs.Grammar.{read_key-shorter}
@@ -18,29 +18,31 @@ pub skip-returns-in_err-ok_or-in-Array-clause-err : goal.skip-returns-in_err-ok_
 skip-returns-in_err-ok_or-in-Array-clause-err t c =
     OnErr-always c.from_residual-in_err-ok_or-in-Array.result (too_deep c.args.depth _ c.begin.new.reader (inl (c.in_ok-begin.ensures.array (ap Ok c.in-Array.is))) (λ some. grind arith))
 
-pub skip-returns-in_ok-ok_or-in-Array-clause-ok : goal.skip-returns-in_ok-ok_or-in-Array-clause-ok
-skip-returns-in_ok-ok_or-in-Array-clause-ok t c =
-    let opened = array_opened c.args.depth _ c.begin.new.reader c.in_ok-ok_or-in-Array.field-0 (c.in_ok-begin.ensures.array (ap Ok c.in-Array.is)) (grind arith) in
-    on_ok_weaker c.skip_items.result (λ (h : SkipsItems c.in_ok-ok_or-in-Array.field-0 c.begin.new.reader c.skip_items.new.reader). let got = h (length c.begin.new.reader) (omega arith) in (array got.0, opened ∙ ap (parse_map array) got.1)) c.skip_items.ensures.ok
-
-pub skip-returns-in_ok-ok_or-in-Array-clause-err : goal.skip-returns-in_ok-ok_or-in-Array-clause-err
-skip-returns-in_ok-ok_or-in-Array-clause-err t c =
-    let opened = array_opened c.args.depth _ c.begin.new.reader c.in_ok-ok_or-in-Array.field-0 (c.in_ok-begin.ensures.array (ap Ok c.in-Array.is)) (grind arith) in
-    on_err_weaker c.skip_items.result (λ (h : NoItems c.in_ok-ok_or-in-Array.field-0 c.begin.new.reader). opened ∙ ap (parse_map array) (h (length c.begin.new.reader) (omega arith))) c.skip_items.ensures.err
+pub skip-returns-in_ok-ok_or-in-Array : goal.skip-returns-in_ok-ok_or-in-Array
+skip-returns-in_ok-ok_or-in-Array t c =
+    let r = c.begin.new.reader in
+    let left = c.in_ok-ok_or-in-Array.field-0 in
+    let opened = array_opened c.args.depth _ r left (c.in_ok-begin.ensures.array (ap Ok c.in-Array.is)) (grind arith) in
+    record {
+      ok = on_ok_weaker c.skip_items.result (λ (h : SkipsItems left r c.skip_items.new.reader). let got = h (length r) (omega arith) in (array got.0, opened ∙ ap (parse_map array) got.1)) c.skip_items.ensures.ok;
+      shorter = search rules;
+      err = on_err_weaker c.skip_items.result (λ (h : NoItems left r). opened ∙ ap (parse_map array) (h (length r) (omega arith))) c.skip_items.ensures.err;
+    }
 
 pub skip-returns-in_err-ok_or-in-Object-clause-err : goal.skip-returns-in_err-ok_or-in-Object-clause-err
 skip-returns-in_err-ok_or-in-Object-clause-err t c =
     OnErr-always c.from_residual-in_err-ok_or-in-Object.result (too_deep c.args.depth _ c.begin.new.reader (inr (c.in_ok-begin.ensures.object (ap Ok c.in-Object.is))) (λ some. grind arith))
 
-pub skip-returns-in_ok-ok_or-in-Object-clause-ok : goal.skip-returns-in_ok-ok_or-in-Object-clause-ok
-skip-returns-in_ok-ok_or-in-Object-clause-ok t c =
-    let opened = object_opened c.args.depth _ c.begin.new.reader c.in_ok-ok_or-in-Object.field-0 (c.in_ok-begin.ensures.object (ap Ok c.in-Object.is)) (grind arith) in
-    on_ok_weaker c.skip_members.result (λ (h : SkipsMembers c.in_ok-ok_or-in-Object.field-0 c.begin.new.reader c.skip_members.new.reader). let got = h (length c.begin.new.reader) no_members (omega arith) in (object got.0, opened ∙ ap (parse_map object) got.1)) c.skip_members.ensures.ok
-
-pub skip-returns-in_ok-ok_or-in-Object-clause-err : goal.skip-returns-in_ok-ok_or-in-Object-clause-err
-skip-returns-in_ok-ok_or-in-Object-clause-err t c =
-    let opened = object_opened c.args.depth _ c.begin.new.reader c.in_ok-ok_or-in-Object.field-0 (c.in_ok-begin.ensures.object (ap Ok c.in-Object.is)) (grind arith) in
-    on_err_weaker c.skip_members.result (λ (h : NoMembers c.in_ok-ok_or-in-Object.field-0 c.begin.new.reader). opened ∙ ap (parse_map object) (h (length c.begin.new.reader) no_members (omega arith))) c.skip_members.ensures.err
+pub skip-returns-in_ok-ok_or-in-Object : goal.skip-returns-in_ok-ok_or-in-Object
+skip-returns-in_ok-ok_or-in-Object t c =
+    let r = c.begin.new.reader in
+    let left = c.in_ok-ok_or-in-Object.field-0 in
+    let opened = object_opened c.args.depth _ r left (c.in_ok-begin.ensures.object (ap Ok c.in-Object.is)) (grind arith) in
+    record {
+      ok = on_ok_weaker c.skip_members.result (λ (h : SkipsMembers left r c.skip_members.new.reader). let got = h (length r) no_members (omega arith) in (object got.0, opened ∙ ap (parse_map object) got.1)) c.skip_members.ensures.ok;
+      shorter = search rules;
+      err = on_err_weaker c.skip_members.result (λ (h : NoMembers left r). opened ∙ ap (parse_map object) (h (length r) no_members (omega arith))) c.skip_members.ensures.err;
+    }
 
 pub skip_items-items-init : goal.skip_items-items-init
 skip_items-items-init t c = (λ n h. (n, (λ ds. ds), h, none_before _), omega arith)

@@ -173,23 +173,6 @@ impl<S: PacketStore> PacketsRest<S> {
         Ok(Some(len))
     }
 
-    /// Takes packet 255, or the typed packet that begins at `at`, where it lies whole in the piece, and says how many
-    /// bits it was.
-    fn leap_number(&mut self, piece: &[u8], at: usize) -> Result<Option<usize>, AllocError>
-        requires stage { self.old.left.stage ≡ Stage.Number }
-        requires inside { at < length (bits piece.now) }
-        requires small { length (bits piece.now) < 2 ^ 64 }
-        ensures none { IfOk result (λ o. IsNone o → self.new ≡ self.old) }
-        ensures some { IfOk result (λ o. IfSome o (λ n. LeapsBy (left_of self.new.left.carrier self.new.left.room self.new.left.stage) (λ p. Moved self.old.left.carrier self.old.left.room self.old.left.stage p self.new.left.carrier self.new.left.room self.new.left.stage × ((q : Reading) → HoldsAt self.old.left.carrier self.old.left.stage (S.holds self.old.store) q → HoldsAt self.new.left.carrier self.new.left.stage (S.holds self.new.store) (q ++ p))) (bits piece.now) at n)) }
-        ensures err { OnErr result S.fails }
-        ensures viable { OnErr result (Viable (left_of self.old.left.carrier self.old.left.room self.old.left.stage) (part at 1 (bits piece.now))) }
-    {
-        if let Some(count) = self.leap_closing(piece, at) {
-            return Ok(Some(count));
-        }
-        self.leap_packet(piece, at)
-    }
-
     /// Takes the next variables of a row as far as the piece has them whole, where the row can end in its bits after them,
     /// and says how many bits they were.
     #[inline(never)]
@@ -282,7 +265,10 @@ impl<S: PacketStore> Rest for PacketsRest<S> {
     #[inline]
     fn leap(&mut self, piece: &[u8], at: usize) -> Result<Option<usize>, AllocError> {
         match &self.left.stage {
-            Stage::Number => self.leap_number(piece, at),
+            Stage::Number => match self.leap_closing(piece, at) {
+                Some(count) => Ok(Some(count)),
+                None => self.leap_packet(piece, at),
+            },
             Stage::Kept(nid, dir, left) => {
                 let (nid, dir, left) = (*nid, *dir, *left);
                 self.leap_kept(nid, dir, left, piece, at)

@@ -51,20 +51,6 @@ pub closed_err : {A T E : Type 0} (r : Result T E) (f : A → Data) (old text ne
 closed_err (Ok x) f old text new s xs is t e = tt
 closed_err (Err x) f old text new s xs is t e = list_begins f old new s xs is (ap (take (length s.0)) (e ∙ t) ∙ take_all (length s.0) s.0 (omega arith))
 
--- a list of pairs that a sink held, with its end where all of them were sent
-pub list_ok : {T E S F : Type 0} (sent : Result S F) (r : Result T E) (old new : List ℕ) (s t : Listed) (xs : Reading) → s ≡ (old ++ 91 ∷ [], false) → OnOk sent (t ≡ with_pairs s xs)
-    → OnOk sent (OnOk r (new ≡ t.0 ++ 93 ∷ []) × OnErr r (new ≡ t.0)) → OnErr sent (OnOk r ⊥ × (new ≡ t.0)) → OnOk r (new ≡ old ++ compact_text (pairs_tree xs))
-list_ok (Ok u) (Ok x) old new s t xs is held ended none = closed_ok {E = ℕ} (Ok x) pair_tree old t.0 new t xs (held ∙ ap (λ (z : Listed). with_pairs z xs) is) refl ended.0
-list_ok (Err u) (Ok x) old new s t xs is held ended none = absurd none.0
-list_ok sent (Err x) old new s t xs is held ended none = tt
-
-pub list_err : {T E S F : Type 0} (sent : Result S F) (r : Result T E) (old new : List ℕ) (s t : Listed) (xs : Reading) → s ≡ (old ++ 91 ∷ [], false) → OnOk sent (t ≡ with_pairs s xs) → OnErr sent (Begins s.0 t.0)
-    → OnOk sent (OnOk r (new ≡ t.0 ++ 93 ∷ []) × OnErr r (new ≡ t.0)) → OnErr sent (OnOk r ⊥ × (new ≡ t.0)) → OnErr r (Begins old new)
-list_err sent (Ok x) old new s t xs is held begun ended none = tt
-list_err (Ok u) (Err x) old new s t xs is held begun ended none = closed_err {T = ℕ} (Err x) pair_tree old t.0 new t xs (held ∙ ap (λ (z : Listed). with_pairs z xs) is) refl ended.1
-list_err (Err u) (Err x) old new s t xs is held begun ended none =
-    begins_more old (old ++ 91 ∷ []) new (91 ∷ []) refl (subst (λ (z : List ℕ). Begins z new) (ap (λ (z : Listed). z.0) is) (subst (λ (z : List ℕ). Begins s.0 z) (sym none.1) begun))
-
 pub begins_listed : (s t : Listed) (r : Reading) (new : List ℕ) → t ≡ with_pairs s r → Begins t.0 new → Begins s.0 new
 begins_listed s t r new e h = each_begins pair_tree s r new (subst (λ (z : Listed). Begins z.0 new) e h)
 

@@ -1,6 +1,6 @@
 //! Variables as pairs of name and number.
 
-ghost use Rattle.std.specs.Prelude.{◌≡◌, ◌∷◌, ◌++◌, [], false, IfOk, OnErr, OnOk};
+ghost use Rattle.std.specs.Prelude.{◌≡◌, ◌∷◌, ◌++◌, [], false, OnErr, OnOk};
 ghost use Rattle.serde_json.specs.Written.{comma_if, compact_text};
 ghost use Rattle.etcs_text.specs.Fronts.{Begins};
 ghost use Rattle.etcs_vars.specs.declared.var.Var.TheVariants.{NID_RADIO};
@@ -64,29 +64,22 @@ impl Model for PairSink {
 
 impl PairSink {
     /// A list at the end of the text, which is taken.
-    #[inline]
-    fn open(text: &mut Vec<u8>) -> Result<PairSink, AllocError>
-        ensures ok { IfOk result (λ s. s ≡ (text.old.items ++ 91 ∷ [], false)) }
-        ensures err { OnErr result (Begins text.old.items text.new.items) }
+    fn open(text: &mut Vec<u8>) -> PairSink
+        ensures { result ≡ (text.old.items, false) }
     {
-        text.extend_from_slice(b"[")?;
         let empty = Vec::new(*text.allocator());
-        Ok(PairSink {
+        PairSink {
             text: mem::replace(text, empty),
             later: false,
-        })
+        }
     }
 
-    /// Puts the text back, with the list's end where all pairs were sent.
-    #[inline]
-    fn close(self, sent: Result<(), AllocError>, text: &mut Vec<u8>) -> Result<(), AllocError>
-        ensures sent { OnOk sent (OnOk result (text.new.items ≡ self.0 ++ 93 ∷ []) × OnErr result (text.new.items ≡ self.0)) }
-        ensures refused { OnErr sent (OnOk result ⊥ × (text.new.items ≡ self.0)) }
+    /// The text.
+    fn into_text(self) -> Vec<u8>
+        ensures { result.items ≡ self.0 }
     {
-        let PairSink { text: list, .. } = self;
-        *text = list;
-        sent?;
-        text.extend_from_slice(b"]")
+        let PairSink { text, .. } = self;
+        text
     }
 }
 
@@ -122,9 +115,12 @@ pub(crate) fn write_variables<V: Variables>(
     ensures ok { OnOk result (out.new.items ≡ out.old.items ++ compact_text (pairs_tree (V.reading_of variables.now))) }
     ensures err { OnErr result (Begins out.old.items out.new.items) }
 {
-    let mut sink = PairSink::open(out)?;
+    out.extend_from_slice(b"[")?;
+    let mut sink = PairSink::open(out);
     let sent = variables.send(&mut sink);
-    sink.close(sent, out)
+    *out = sink.into_text();
+    sent?;
+    out.extend_from_slice(b"]")
 }
 
 /// Appends the pairs of a packet's variables after its frame, as a list.
@@ -132,7 +128,10 @@ pub(crate) fn write_fields<P: AnyPacket>(packet: &P, out: &mut Vec<u8>) -> Resul
     ensures ok { OnOk result (out.new.items ≡ out.old.items ++ compact_text (pairs_tree (variables_of (P.form packet.now).value))) }
     ensures err { OnErr result (Begins out.old.items out.new.items) }
 {
-    let mut sink = PairSink::open(out)?;
+    out.extend_from_slice(b"[")?;
+    let mut sink = PairSink::open(out);
     let sent = packet.send_variables(&mut sink);
-    sink.close(sent, out)
+    *out = sink.into_text();
+    sent?;
+    out.extend_from_slice(b"]")
 }

@@ -1,10 +1,22 @@
-use Rattle.etcs_text.proofs.TreeTexts.{list_err, list_ok}
+use Rattle.std.proofs.Common.{◌≡◌, ◌∙◌, ◌∷◌, ◌++◌, [], false, List, ℕ, ap}
+use Rattle.etcs_vars.specs.Reading.{Reading}
+use Rattle.etcs_text.specs.PairSinks.{Listed, with_pairs}
+use Rattle.etcs_text.specs.Trees.{pair_tree}
+use Rattle.etcs_text.proofs.TreeTexts.{closed_err, closed_ok}
 use Rattle.etcs_text.proofs.pairs.write_variables.Goals as goal
 
 pub returns-clause-ok : goal.returns-clause-ok
 returns-clause-ok g c =
-    list_ok c.send-sent.result c.close.result c.args.out.now.items c.close.new.text.items c.in_ok-sink.sink c.send-sent.new.out (g.V.Variables.reading_of c.args.variables.now) c.in_ok-sink.ensures.ok c.send-sent.ensures.ok c.close.ensures.sent c.close.ensures.refused
+    let old = c.args.out.now.items in
+    let xs : Reading = g.V.Variables.reading_of c.args.variables.now in
+    let opened : c.open-sink.result ≡ (old ++ 91 ∷ [], false) = c.open-sink.ensures ∙ ap (λ (t : List ℕ). (t, false)) c.in_ok-extend_from_slice.ensures.items in
+    let is : c.send-sent.new.out ≡ with_pairs (old ++ 91 ∷ [], false) xs = c.in_ok-sent.ensures.ok ∙ ap (λ (s : Listed). with_pairs s xs) opened in
+    closed_ok c.extend_from_slice-2.result pair_tree old c.into_text.result.items c.extend_from_slice-2.new.self.items c.send-sent.new.out xs is c.into_text.ensures c.extend_from_slice-2.ensures.items
 
 pub returns-clause-err : goal.returns-clause-err
 returns-clause-err g c =
-    list_err c.send-sent.result c.close.result c.args.out.now.items c.close.new.text.items c.in_ok-sink.sink c.send-sent.new.out (g.V.Variables.reading_of c.args.variables.now) c.in_ok-sink.ensures.ok c.send-sent.ensures.ok c.send-sent.ensures.err c.close.ensures.sent c.close.ensures.refused
+    let old = c.args.out.now.items in
+    let xs : Reading = g.V.Variables.reading_of c.args.variables.now in
+    let opened : c.open-sink.result ≡ (old ++ 91 ∷ [], false) = c.open-sink.ensures ∙ ap (λ (t : List ℕ). (t, false)) c.in_ok-extend_from_slice.ensures.items in
+    let is : c.send-sent.new.out ≡ with_pairs (old ++ 91 ∷ [], false) xs = c.in_ok-sent.ensures.ok ∙ ap (λ (s : Listed). with_pairs s xs) opened in
+    closed_err c.extend_from_slice-2.result pair_tree old c.into_text.result.items c.extend_from_slice-2.new.self.items c.send-sent.new.out xs is c.into_text.ensures c.extend_from_slice-2.ensures.items

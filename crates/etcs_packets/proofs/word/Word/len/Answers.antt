@@ -1,4 +1,4 @@
-use Rattle.std.proofs.Common.{Bool, List, length, sym, ap, ◌∙◌}
+use Rattle.std.proofs.Common.{length, sym, ap, ◌∙◌}
 use Rattle.etcs_packets.proofs.Words.{length-word}
 use Rattle.etcs_packets.proofs.word.Word.len.Goals as goal
 

@@ -1,4 +1,4 @@
-use Rattle.std.proofs.Common.{◌≡◌, ◌+◌, ◌<◌, length, refl, sym, ap, ◌∙◌, arith, length-append}
+use Rattle.std.proofs.Common.{◌+◌, ◌<◌, length, refl, sym, ap, ◌∙◌, arith, length-append}
 use Rattle.etcs_bits.specs.Bits.{num}
 use Rattle.etcs_packets.specs.WordSinks.{with_word}
 use Rattle.etcs_packets.proofs.WordSinks.{bits_within, number_over}

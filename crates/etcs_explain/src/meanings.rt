@@ -10,7 +10,7 @@ enum Unit {
     Distance,
     /// The same with a sign, in two's complement of 16 bits.
     Shift,
-    /// So many times the number, in the unit of this text.
+    /// This times the number, in the unit of this text.
     Times(u64, &'static str),
     /// Steps of 10 ms.
     Hundredths,

@@ -11,7 +11,6 @@ use Rattle.etcs_parts.specs.laws.Equality.{link_exact, slope_exact, speed_exact,
 use Rattle.etcs_grouped.specs.laws.Chains.{chain_exact}
 use Rattle.etcs_grouped.specs.laws.Equality.{level1_ma_exact, level23_ma_exact, level_order_exact, conditional_level_order_exact, plain_text_exact, fixed_text_exact, infill_location_exact, balise_list_exact, report_parameters_exact}
 use Rattle.etcs_grouped.specs.laws.TrackConditions.{track_condition_exact}
-use Rattle.etcs_packets.specs.laws.Variants.{◌also◌}
 use Rattle.etcs_packets.specs.contracts.packet.Packet as packet
 use Rattle.etcs_packets.specs.contracts.packet.PacketPartialEq.TheImpl as packet_eq
 
@@ -37,40 +36,25 @@ one {V} {E} e x y = ((λ h. ap (λ (v : V). (v, tt {0})) ((e x.0 y.0).0 h)), (λ
 
 -- ---- Of packets.
 
+-- each variant by its type
 pub packet_exact : IsExact packet_eq.ghosts.eq
 packet_exact a b =
-    enum_exact packet.enum _ (
-    one marker_exact also
-    one flat_exact also
-    one (chain_exact link_exact) also
-    one level1_ma_exact also
-    one level23_ma_exact also
-    one flat_exact also
-    one (chain_exact slope_exact) also
-    one (chain_exact speed_exact) also
-    one level_order_exact also
-    one flat_exact also
-    one flat_exact also
-    one conditional_level_order_exact also
-    one balise_list_exact also
-    one flat_exact also
-    one report_parameters_exact also
-    one balise_list_exact also
-    one flat_exact also
-    one flat_exact also
-    one flat_exact also
-    one track_condition_exact also
-    one plain_text_exact also
-    one fixed_text_exact also
-    one (chain_exact mode_section_exact) also
-    one flat_exact also
-    one flat_exact also
-    one flat_exact also
-    one infill_location_exact also
-    one flat_exact also
-    one flat_exact also
-    one flat_exact also
-    one flat_exact also
-    one flat_exact also
-    one other_exact also
-    tt) a b
+    enum_exact packet.enum _ (search (
+      one marker_exact,
+      one flat_exact,
+      one (chain_exact link_exact),
+      one level1_ma_exact,
+      one level23_ma_exact,
+      one (chain_exact slope_exact),
+      one (chain_exact speed_exact),
+      one level_order_exact,
+      one conditional_level_order_exact,
+      one balise_list_exact,
+      one report_parameters_exact,
+      one track_condition_exact,
+      one plain_text_exact,
+      one fixed_text_exact,
+      one (chain_exact mode_section_exact),
+      one infill_location_exact,
+      one other_exact,
+    )) a b

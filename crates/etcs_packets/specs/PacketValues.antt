@@ -22,7 +22,6 @@ use Rattle.etcs_grouped.specs.InfillLocations.{IsInfillLocation, infill_location
 use Rattle.etcs_grouped.specs.ReportParameters.{IsReportParameters, report_parameters_reading}
 use Rattle.etcs_grouped.specs.TrackConditions.{IsTrackCondition, track_condition_reading}
 use Rattle.etcs_packets.specs.declared.packet.Packet.{Packet}
-use Rattle.etcs_packets.specs.declared.packet.Packet.TheVariants.{VbcMarker, SystemVersion, Linking, Level1Ma, Level23Ma, Repositioning, Gradient, SpeedProfile, LevelOrder, SessionManagement, RadioNetwork, ConditionalLevelOrder, ShuntingList, MaRequest, ReportParameters, SrList, InhibitTsr, Tsr, TsrRevocation, TrackCondition, PlainText, FixedText, ModeProfile, RbcTransition, DangerForShunting, StopShunting, InfillLocation, StopInSr, TrainRunningNumber, TsrGradient, InhibitConsistency, DefaultInformation, Other}
 
 pub data PacketValue : Type 0 where
   marker : ℕ → PacketValue
@@ -44,39 +43,39 @@ abbrev list_form : ℕ → BaliseListValue → Form
 list_form nid p = form_of (typed nid p.dir (balise_list_reading p)) (IsBaliseList nid p)
 
 abbrev pub form : Packet → Form
-form (VbcMarker n) = form_of (marker n) (IsTrue (admits NID_VBCMK n))
-form (SystemVersion p) = flat_form 2 p
-form (Linking p) = form_of (typed 5 p.dir (linking_reading p)) (IsLinking p)
-form (Level1Ma p) = form_of (typed 12 p.dir (level1_ma_reading p)) (IsLevel1Ma p)
-form (Level23Ma p) = form_of (typed 15 p.dir (level23_ma_reading p)) (IsLevel23Ma p)
-form (Repositioning p) = flat_form 16 p
-form (Gradient p) = form_of (typed 21 p.dir (gradient_reading p)) (IsGradient p)
-form (SpeedProfile p) = form_of (typed 27 p.dir (profile_reading p)) (IsSpeedProfile p)
-form (LevelOrder p) = form_of (typed 41 p.dir (level_order_reading p)) (IsLevelOrder p)
-form (SessionManagement p) = flat_form 42 p
-form (RadioNetwork p) = flat_form 45 p
-form (ConditionalLevelOrder p) = form_of (typed 46 p.dir (conditional_level_order_reading p)) (IsConditionalLevelOrder p)
-form (ShuntingList p) = list_form 49 p
-form (MaRequest p) = flat_form 57 p
-form (ReportParameters p) = form_of (typed 58 p.dir (report_parameters_reading p)) (IsReportParameters p)
-form (SrList p) = list_form 63 p
-form (InhibitTsr p) = flat_form 64 p
-form (Tsr p) = flat_form 65 p
-form (TsrRevocation p) = flat_form 66 p
-form (TrackCondition p) = form_of (typed 68 p.dir (track_condition_reading p)) (IsTrackCondition p)
-form (PlainText p) = form_of (typed 72 p.dir (plain_text_reading p)) (IsPlainText p)
-form (FixedText p) = form_of (typed 76 p.dir (fixed_text_reading p)) (IsFixedText p)
-form (ModeProfile p) = form_of (typed 80 p.dir (mode_profile_reading p)) (IsModeProfile p)
-form (RbcTransition p) = flat_form 131 p
-form (DangerForShunting p) = flat_form 132 p
-form (StopShunting p) = flat_form 135 p
-form (InfillLocation p) = form_of (typed 136 p.dir (infill_location_reading p)) (IsInfillLocation p)
-form (StopInSr p) = flat_form 137 p
-form (TrainRunningNumber p) = flat_form 140 p
-form (TsrGradient p) = flat_form 141 p
-form (InhibitConsistency p) = flat_form 145 p
-form (DefaultInformation p) = flat_form 254 p
-form (Other p) = form_of (kept p.nid p.dir p.body) (other_fault ToTrain p.nid p.dir (length p.body) ≡ None)
+form (Packet.VbcMarker n) = form_of (marker n) (IsTrue (admits NID_VBCMK n))
+form (Packet.SystemVersion p) = flat_form 2 p
+form (Packet.Linking p) = form_of (typed 5 p.dir (linking_reading p)) (IsLinking p)
+form (Packet.Level1Ma p) = form_of (typed 12 p.dir (level1_ma_reading p)) (IsLevel1Ma p)
+form (Packet.Level23Ma p) = form_of (typed 15 p.dir (level23_ma_reading p)) (IsLevel23Ma p)
+form (Packet.Repositioning p) = flat_form 16 p
+form (Packet.Gradient p) = form_of (typed 21 p.dir (gradient_reading p)) (IsGradient p)
+form (Packet.SpeedProfile p) = form_of (typed 27 p.dir (profile_reading p)) (IsSpeedProfile p)
+form (Packet.LevelOrder p) = form_of (typed 41 p.dir (level_order_reading p)) (IsLevelOrder p)
+form (Packet.SessionManagement p) = flat_form 42 p
+form (Packet.RadioNetwork p) = flat_form 45 p
+form (Packet.ConditionalLevelOrder p) = form_of (typed 46 p.dir (conditional_level_order_reading p)) (IsConditionalLevelOrder p)
+form (Packet.ShuntingList p) = list_form 49 p
+form (Packet.MaRequest p) = flat_form 57 p
+form (Packet.ReportParameters p) = form_of (typed 58 p.dir (report_parameters_reading p)) (IsReportParameters p)
+form (Packet.SrList p) = list_form 63 p
+form (Packet.InhibitTsr p) = flat_form 64 p
+form (Packet.Tsr p) = flat_form 65 p
+form (Packet.TsrRevocation p) = flat_form 66 p
+form (Packet.TrackCondition p) = form_of (typed 68 p.dir (track_condition_reading p)) (IsTrackCondition p)
+form (Packet.PlainText p) = form_of (typed 72 p.dir (plain_text_reading p)) (IsPlainText p)
+form (Packet.FixedText p) = form_of (typed 76 p.dir (fixed_text_reading p)) (IsFixedText p)
+form (Packet.ModeProfile p) = form_of (typed 80 p.dir (mode_profile_reading p)) (IsModeProfile p)
+form (Packet.RbcTransition p) = flat_form 131 p
+form (Packet.DangerForShunting p) = flat_form 132 p
+form (Packet.StopShunting p) = flat_form 135 p
+form (Packet.InfillLocation p) = form_of (typed 136 p.dir (infill_location_reading p)) (IsInfillLocation p)
+form (Packet.StopInSr p) = flat_form 137 p
+form (Packet.TrainRunningNumber p) = flat_form 140 p
+form (Packet.TsrGradient p) = flat_form 141 p
+form (Packet.InhibitConsistency p) = flat_form 145 p
+form (Packet.DefaultInformation p) = flat_form 254 p
+form (Packet.Other p) = form_of (kept p.nid p.dir p.body) (other_fault ToTrain p.nid p.dir (length p.body) ≡ None)
 
 abbrev pub packet_value : Packet → PacketValue
 packet_value p = (form p).value

@@ -5,7 +5,7 @@ ghost use Rattle.std.specs.Prelude.{◌≡◌, ◌++◌, OnErr, OnOk, codes, fla
 ghost use Rattle.etcs_telegram.specs.Telegrams.{header_reading, user_bits};
 ghost use Rattle.etcs_text.specs.Entries.{entry_text, entry_value};
 ghost use Rattle.etcs_text.specs.Fronts.{Begins};
-ghost use Rattle.etcs_text.specs.Show.{fill_line, item_line, kind_word, variable_line};
+ghost use Rattle.etcs_text.specs.Show.{item_line, kind_word, variable_line};
 ghost use Rattle.etcs_text.specs.Telegrams.{show_text};
 ghost use Rattle.etcs_telegram.specs.Telegrams.{telegram_value};
 
@@ -14,7 +14,6 @@ use crate::messages::write_message;
 use crate::packets::{LineSink, write_packets};
 use crate::text::write_item_number;
 use crate::variables::write_bits_line;
-use etcs_bits::BitSlice;
 use etcs_telegram::{Header, Size, Telegram};
 use etcs_vars::Var;
 use etcs_vars::parts::Variables;
@@ -50,14 +49,6 @@ fn write_header(header: &Header, out: &mut Vec<u8>) -> Result<(), AllocError>
     sent
 }
 
-/// Appends the line of the bits after the last packet.
-fn write_fill(fill: &BitSlice<'_>, out: &mut Vec<u8>) -> Result<(), AllocError>
-    ensures ok { OnOk result (out.new.items ≡ out.old.items ++ fill_line fill.now) }
-    ensures err { OnErr result (Begins out.old.items out.new.items) }
-{
-    write_bits_line(Var::FILL, fill, out)
-}
-
 /// Appends the text of a telegram.
 fn write_telegram(telegram: &Telegram, item: u64, out: &mut Vec<u8>) -> Result<(), AllocError>
     ensures ok { OnOk result (out.new.items ≡ out.old.items ++ show_text (telegram_value telegram.now) item) }
@@ -67,7 +58,7 @@ fn write_telegram(telegram: &Telegram, item: u64, out: &mut Vec<u8>) -> Result<(
     write_header(telegram.header(), out)?;
     write_packets(telegram.packets(), out)?;
     out.extend_from_slice(b"packet 255\n")?;
-    write_fill(&telegram.fill(), out)?;
+    write_bits_line(Var::FILL, &telegram.fill(), out)?;
     Ok(())
 }
 

@@ -119,11 +119,13 @@ module _ {V W : Type 0} (Reads : W → Reading → Type 0) (value : V → W) (Is
       let whole = all_taken kind b v r c long k is in
       f.1.0 (length b) (omega arith) (r, l, whole ∙ sym (take_all (length b) b (omega arith)))
 
-  not_unfinished : (k : ℕ) → answer ≡ Ok (Done k) → ((v : V) → at ≡ finished v → ⊥) → ⊥
-  not_unfinished k e none = let f : Fed_by (Ok (Done k)) = subst Fed_by e fed in none f.0 f.1
+  not_unfinished : (f : Fed) → answer ≡ Ok f → ((v : V) → at ≡ finished v → ⊥) → ⊥
+  not_unfinished More e none = not_more e
+  not_unfinished (Done k) e none = let f : Fed_by (Ok (Done k)) = subst Fed_by e fed in none f.0 f.1
 
-  all_read : (k : ℕ) (v : V) → answer ≡ Ok (Done k) → at ≡ finished v → (r : Reading) × EntryReads kind (item (value v)) r × (spelled r ≡ b)
-  all_read k v e end =
+  all_read : (f : Fed) (v : V) → answer ≡ Ok f → at ≡ finished v → (r : Reading) × EntryReads kind (item (value v)) r × (spelled r ≡ b)
+  all_read More v e end = absurd (not_more e)
+  all_read (Done k) v e end =
       let f : Fed_by (Ok (Done k)) = subst Fed_by e fed in
       let (w, is, made, few, (in_all, r, l, taken)) = f in
       let one : w ≡ v = (let two : ◌≡◌ {A = Progress V} (finished w) (finished v) = sym is ∙ end in cc) in
@@ -143,9 +145,8 @@ module _ {V W : Type 0} (Reads : W → Reading → Type 0) (value : V → W) (Is
       ((none, f.1.0.1, λ v. f.1.0.2 (viable_along (Language kind) (readings_of Reads) back _ v)), owner_along (readings_of Reads) (Language kind) same _ x f.1.1)
 
 pub record Outcomes {V : Type 0} (kind : Kind) (item : V → EntryValue) (b : List Bool) (answer : Result Fed ReadFault) (at : Progress V) : Type 0 where
-  pub not_more : answer ≡ Ok More → ⊥
-  pub not_unfinished : (k : ℕ) → answer ≡ Ok (Done k) → ((v : V) → at ≡ finished v → ⊥) → ⊥
-  pub all_read : (k : ℕ) (v : V) → answer ≡ Ok (Done k) → at ≡ finished v → (r : Reading) × EntryReads kind (item v) r × (spelled r ≡ b)
+  pub not_unfinished : (f : Fed) → answer ≡ Ok f → ((v : V) → at ≡ finished v → ⊥) → ⊥
+  pub all_read : (f : Fed) (v : V) → answer ≡ Ok f → at ≡ finished v → (r : Reading) × EntryReads kind (item v) r × (spelled r ≡ b)
   pub refused_at : (i : ℕ) (x : Var) → answer ≡ Err (Refused i x) → IsOutcome (EntryReads kind) b (refused i x)
 
 pub telegram_outcomes : (s z : Size) (b : List Bool) (answer : Result Fed ReadFault) (at : Progress TelegramContent) → HasLength (kind_of s) b → z ≡ s → Feeds (ReadsAs z) telegram_value IsTelegram 50 [] b answer at → Outcomes (kind_of s) (λ t. of_telegram (telegram_value t)) b answer at
@@ -153,7 +154,6 @@ telegram_outcomes s z b answer at long is fed =
     let own = subst (λ (x : Size). Feeds (ReadsAs x) telegram_value IsTelegram 50 [] b answer at) is fed in
     let reads : (t : TelegramValue) (r : Reading) → ReadsAs s t r → EntryReads (kind_of s) (of_telegram t) r = λ t r h. (ap kind_of h.0, h.1) in
     record {
-      not_more = not_more (ReadsAs s) telegram_value IsTelegram 50 of_telegram (kind_of s) (same_telegrams s) reads b long answer at own;
       not_unfinished = not_unfinished (ReadsAs s) telegram_value IsTelegram 50 of_telegram (kind_of s) (same_telegrams s) reads b long answer at own;
       all_read = all_read (ReadsAs s) telegram_value IsTelegram 50 of_telegram (kind_of s) (same_telegrams s) reads b long answer at own;
       refused_at = refused_at (ReadsAs s) telegram_value IsTelegram 50 of_telegram (kind_of s) (same_telegrams s) reads b long answer at own;
@@ -163,11 +163,14 @@ pub message_outcomes : (b : List Bool) (answer : Result Fed ReadFault) (at : Pro
 message_outcomes b answer at long fed =
     let reads : (m : MessageValue) (r : Reading) → MessageReads ToTrain m r → EntryReads kind_is.Radio (of_message ToTrain m) r = λ m r h. (refl, h) in
     record {
-      not_more = not_more (MessageReads ToTrain) message_value IsMessage 18 (of_message ToTrain) kind_is.Radio same_messages reads b long answer at fed;
       not_unfinished = not_unfinished (MessageReads ToTrain) message_value IsMessage 18 (of_message ToTrain) kind_is.Radio same_messages reads b long answer at fed;
       all_read = all_read (MessageReads ToTrain) message_value IsMessage 18 (of_message ToTrain) kind_is.Radio same_messages reads b long answer at fed;
       refused_at = refused_at (MessageReads ToTrain) message_value IsMessage 18 (of_message ToTrain) kind_is.Radio same_messages reads b long answer at fed;
     }
+
+pub not_failed : {A E : Type 0} (a : Result A E) → ((x : E) → a ≡ Err x → ⊥) → (f : A) × (a ≡ Ok f)
+not_failed (Ok f) none = (f, refl)
+not_failed (Err x) none = absurd (none x refl)
 
 pub same_fault : {A E : Type 0} (x y : E) → ◌≡◌ {A = Result A E} (Err x) (Err y) → x ≡ y
 same_fault x y e = cc

@@ -23,8 +23,8 @@ use etcs_radio::MessageReader;
 use etcs_tables::Way;
 use etcs_telegram::{Size, TelegramReader};
 use etcs_text::{Entry, Kind, encoded};
+use etcs_vars::ReadFault;
 use etcs_vars::parts::Variables;
-use etcs_vars::{Fed, ReadFault};
 use serde_json::Value;
 use std::alloc::Global;
 
@@ -190,13 +190,12 @@ fn read_telegram(alloc: Global, size: Size, bytes: &[u8]) -> Result<Entry, JsonF
     ensures shape { result ≢ Err JsonFault.Shape }
 {
     let mut reader = TelegramReader::new(alloc, size);
-    match reader.feed(bytes) {
-        Ok(Fed::Done { .. }) => match reader.take() {
-            Ok(telegram) => Ok(Entry::Telegram(telegram)),
-            Err(_) => unreachable!(),
-        },
-        Ok(Fed::More) => unreachable!(),
-        Err(fault) => Err(fault_of(fault)),
+    if let Err(fault) = reader.feed(bytes) {
+        return Err(fault_of(fault));
+    }
+    match reader.take() {
+        Ok(telegram) => Ok(Entry::Telegram(telegram)),
+        Err(_) => unreachable!(),
     }
 }
 
@@ -208,13 +207,12 @@ fn read_message(alloc: Global, bytes: &[u8]) -> Result<Entry, JsonFault>
     ensures shape { result ≢ Err JsonFault.Shape }
 {
     let mut reader = MessageReader::new(alloc);
-    match reader.feed(bytes) {
-        Ok(Fed::Done { .. }) => match reader.take() {
-            Ok(message) => Ok(Entry::Message(message)),
-            Err(_) => unreachable!(),
-        },
-        Ok(Fed::More) => unreachable!(),
-        Err(fault) => Err(fault_of(fault)),
+    if let Err(fault) = reader.feed(bytes) {
+        return Err(fault_of(fault));
+    }
+    match reader.take() {
+        Ok(message) => Ok(Entry::Message(message)),
+        Err(_) => unreachable!(),
     }
 }
 

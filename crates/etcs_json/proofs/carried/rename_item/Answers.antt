@@ -11,35 +11,21 @@ use Rattle.etcs_telegram.specs.Telegrams.{telegram_value}
 use Rattle.etcs_json.proofs.CarriedSpellings.{message_renamed, message_room, message_stays, telegram_renamed, telegram_room, track_not}
 use Rattle.etcs_json.proofs.carried.rename_item.Goals as goal
 
-pub rename-requires-clause-room : goal.rename-requires-clause-room
-rename-requires-clause-room c =
+pub rename-requires : goal.rename-requires
+rename-requires c =
     let t = c.in-Telegram.telegram in
     let (r, x, is) = rw c.in-Telegram.is at c.requires in
     let room = telegram_room (telegram_value t) r x in
     let packets : length (spelled (packets_reading (map packet_value c.packets.result.now))) ≡ length (spelled (packets_reading (map packet_value t.packets))) = ap (λ (ps : List Packet). length (spelled (packets_reading (map packet_value ps)))) c.packets.ensures in
-    omega (arith, room.0, packets, ap length is)
+    record { room = omega (arith, room.0, packets, ap length is); small = omega (arith, room.1, ap length is) }
 
-pub rename-requires-clause-small : goal.rename-requires-clause-small
-rename-requires-clause-small c =
-    let (r, x, is) = rw c.in-Telegram.is at c.requires in
-    let room = telegram_room (telegram_value c.in-Telegram.telegram) r x in
-    omega (arith, room.1, ap length is)
-
-pub rename-requires-in-Some-clause-room : goal.rename-requires-in-Some-clause-room
-rename-requires-in-Some-clause-room c =
+pub rename-requires-in-Some : goal.rename-requires-in-Some
+rename-requires-in-Some c =
     let m = c.in-Message.message in
     let (r, x, is) = rw c.in-Message.is at c.requires in
     let found : Some c.in-Some.body.now ≡ body_of m = rw c.in-Some.is at c.body.ensures in
     let room = message_room m c.in-Some.body.now r (75 + c.bits.result) c.packets-in-Some.result.now x found (ap (λ (n : ℕ). 75 + n) c.bits.ensures.bits) c.packets-in-Some.ensures in
-    omega (arith, room.0, ap length is)
-
-pub rename-requires-in-Some-clause-small : goal.rename-requires-in-Some-clause-small
-rename-requires-in-Some-clause-small c =
-    let m = c.in-Message.message in
-    let (r, x, is) = rw c.in-Message.is at c.requires in
-    let found : Some c.in-Some.body.now ≡ body_of m = rw c.in-Some.is at c.body.ensures in
-    let room = message_room m c.in-Some.body.now r (75 + c.bits.result) c.packets-in-Some.result.now x found (ap (λ (n : ℕ). 75 + n) c.bits.ensures.bits) c.packets-in-Some.ensures in
-    omega (arith, room.1, ap length is)
+    record { room = omega (arith, room.0, ap length is); small = omega (arith, room.1, ap length is) }
 
 pub returns-in-Telegram : goal.returns-in-Telegram
 returns-in-Telegram c =

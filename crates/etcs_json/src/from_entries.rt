@@ -74,10 +74,12 @@ fn from_any_line(alloc: Global, kind: Kind, line: &[u8]) -> Result<Entry, JsonFa
     ensures refused { (i : ℕ) (x : Var) → result ≡ Err (JsonFault.Refused i x) → SaysRefused kind line.now i x }
     ensures shape { result ≡ Err JsonFault.Shape → (o : EntryValue) → IsLoose kind o → OfLine (λ d. IsTreeOf o d) line.now → ⊥ }
 {
-    match tree_of(alloc, line) {
-        Ok(Some(value)) => from_value(alloc, kind, &value),
-        Ok(None) => Err(JsonFault::Shape),
-        Err(AllocError) => Err(JsonFault::Memory),
+    let Ok(tree) = tree_of(alloc, line) else {
+        return Err(JsonFault::Memory);
+    };
+    match tree.as_ref() {
+        Some(value) => from_value(alloc, kind, value),
+        None => Err(JsonFault::Shape),
     }
 }
 

@@ -136,5 +136,7 @@ fn telegram_of(
 ) -> Result<Telegram, Miss>
     ensures { IfOk result (λ t. t.size ≡ size) }
 {
-    Telegram::with_fill(size, header.ok_or(Miss::Shape)?, packets, fill).map_err(|_| Miss::Shape)
+    Telegram::with_fill(size, header.ok_or(Miss::Shape)?, packets, fill)
+        .ok()
+        .ok_or(Miss::Shape)
 }

@@ -110,7 +110,7 @@ impl<'a> Text<'a> {
 
     /// The same, where a byte holds it.
     pub(crate) fn byte(&mut self) -> Result<u8, Miss> {
-        u8::try_from(self.number()).map_err(|_| Miss::Shape)
+        u8::try_from(self.number()).ok().ok_or(Miss::Shape)
     }
 
     /// The bits of the digits up to the quotation mark that comes next.

@@ -1,4 +1,4 @@
-use Rattle.std.proofs.Common.{◌≡◌, ℕ, List, Option, Some, Result, Ok, Err, subst, sym, ◌∙◌}
+use Rattle.std.proofs.Common.{◌≡◌, ℕ, List, Option, Some, None, Result, Ok, Err, subst, sym, ◌∙◌}
 use Rattle.std.specs.Prelude.{IfOk, IsUtf8}
 use Rattle.serde_json.specs.Data.{Data}
 use Rattle.serde_json.specs.Read.{read}
@@ -17,25 +17,29 @@ line_says : (kind : Kind) (line : List ℕ) (d : Data) (E : Type 0) (res : Resul
 line_says kind line d E (Err x) utf8 is says = tt
 line_says kind line d E (Ok e) utf8 is says = (d, utf8, is, says)
 
-pub returns-in-Ok-Some-clause-ok : goal.returns-in-Ok-Some-clause-ok
-returns-in-Ok-Some-clause-ok c =
-    let found = rw c.in-Ok-Some.field-0-is at c.in-Ok-Some.ensures.some in
-    line_says c.args.kind c.args.line.now (view c.in-Ok-Some.value) _ c.from_value.result found.0 found.1 c.from_value.ensures.ok
+pub returns-in-Some-clause-ok : goal.returns-in-Some-clause-ok
+returns-in-Some-clause-ok c =
+    let is : c.in-Ok.tree ≡ Some c.in-Some.value.now = sym c.in-Some.ensures.value in
+    let found = rw is at c.in-Ok.ensures.some in
+    line_says c.args.kind c.args.line.now (view c.in-Some.value.now) _ c.from_value.result found.0 found.1 c.from_value.ensures.ok
 
-pub returns-in-Ok-Some-clause-refused : goal.returns-in-Ok-Some-clause-refused
-returns-in-Ok-Some-clause-refused c = λ i x refused.
-    (let found = rw c.in-Ok-Some.field-0-is at c.in-Ok-Some.ensures.some in
-    (view c.in-Ok-Some.value, found.0, found.1, c.from_value.ensures.refused i x refused))
+pub returns-in-Some-clause-refused : goal.returns-in-Some-clause-refused
+returns-in-Some-clause-refused c = λ i x refused.
+    (let is : c.in-Ok.tree ≡ Some c.in-Some.value.now = sym c.in-Some.ensures.value in
+    let found = rw is at c.in-Ok.ensures.some in
+    (view c.in-Some.value.now, found.0, found.1, c.from_value.ensures.refused i x refused))
 
-pub returns-in-Ok-Some-clause-shape : goal.returns-in-Ok-Some-clause-shape
-returns-in-Ok-Some-clause-shape c = λ shape o loose (d, utf8, is, tree).
-    (let found = rw c.in-Ok-Some.field-0-is at c.in-Ok-Some.ensures.some in
-    let both : ◌≡◌ {A = Option Data} (Some d) (Some (view c.in-Ok-Some.value)) = sym is ∙ found.1 in
-    let same : d ≡ view c.in-Ok-Some.value = cc in
+pub returns-in-Some-clause-shape : goal.returns-in-Some-clause-shape
+returns-in-Some-clause-shape c = λ shape o loose (d, utf8, read_is, tree).
+    (let is : c.in-Ok.tree ≡ Some c.in-Some.value.now = sym c.in-Some.ensures.value in
+    let found = rw is at c.in-Ok.ensures.some in
+    let both : ◌≡◌ {A = Option Data} (Some d) (Some (view c.in-Some.value.now)) = sym read_is ∙ found.1 in
+    let same : d ≡ view c.in-Some.value.now = cc in
     c.from_value.ensures.shape shape o loose (subst (λ (x : Data). IsTreeOf o x) same tree))
 
 -- an item's tree would have been made
-pub returns-in-Ok-None-clause-shape : goal.returns-in-Ok-None-clause-shape
-returns-in-Ok-None-clause-shape c = λ shape o loose (d, utf8, is, tree).
-    (let none = rw c.in-Ok-None.field-0-is at c.in-Ok-None.ensures.none in
-    none d utf8 is (item_fits c.args.kind o d loose tree))
+pub returns-clause-shape : goal.returns-clause-shape
+returns-clause-shape c = λ shape o loose (d, utf8, read_is, tree).
+    (let is : c.in-Ok.tree ≡ None = sym c.in-None.ensures.value in
+    let none = rw is at c.in-Ok.ensures.none in
+    none d utf8 read_is (item_fits c.args.kind o d loose tree))

@@ -4,6 +4,7 @@ pub mod CarriedSpellings
 pub mod CarriedTrees
 pub mod DigitLemmas
 pub mod FittingTrees
+pub mod MemberLemmas
 pub mod MessageTrees
 pub mod OneItems
 pub mod OneStored

@@ -1,6 +1,6 @@
 -- Messages and their trees.
-use Rattle.std.proofs.Common.{◌≡◌, ℕ, ◌^◌, ◌≤◌, ◌<◌, Bool, List, [], length, map, Option, None, Some, refl, sym, ap, subst, ◌∙◌, arith}
-use Rattle.std.specs.Prelude.{All, IfSome, ◌↔◌, option_map}
+use Rattle.std.proofs.Common.{◌≡◌, ℕ, ◌^◌, ◌≤◌, ◌<◌, Bool, List, [], length, map, Option, None, Some, Result, Ok, Err, refl, sym, ap, subst, ◌∙◌, arith}
+use Rattle.std.specs.Prelude.{All, IfOk, IfSome, IsSome, ◌↔◌, option_map}
 use Rattle.serde_json.specs.Data.{Data, array, string, Items}
 use Rattle.etcs_vars.specs.declared.var.Var.TheVariants.{L_MESSAGE}
 use Rattle.etcs_vars.specs.Reading.{Reading, numbers}
@@ -25,7 +25,7 @@ use Rattle.etcs_text.specs.Entries.{EntryValue, of_telegram, of_message, message
 use Rattle.etcs_text.specs.Show.{way_word}
 use Rattle.etcs_text.specs.Trees.{bits_tree}
 use Rattle.etcs_json.specs.Loose.{HasStandIns, IsLoose, unnamed, unnamed_message}
-use Rattle.etcs_json.specs.TreeReading.{ArePairTrees, ArePacketTrees, IsMessageTree, IsTreeOf, message_tree, plain}
+use Rattle.etcs_json.specs.TreeReading.{ArePairTrees, ArePacketTrees, IsMessageTree, IsTreeOf, kept_message_tree, message_tree, plain}
 use Rattle.etcs_json.proofs.OneItems.{telegram_message, way_same}
 use Rattle.etcs_json.proofs.PacketTrees.{SaysNumbers, OnlyNumbers}
 
@@ -113,6 +113,31 @@ typed_message_says way (typed_message nid head body vs padding) x y z w u v (fs,
   all = p;
 }
 typed_message_says way (kept_message nid b) x y z w u v e = absurd cc
+
+-- one that is kept as bits has no stand-ins
+kept_itself : (way : Way) (m : MessageValue) (x z : Data) → IsMessageTree way m (kept_message_tree x (string (way_word way)) z) → m ≡ unnamed_message way m
+kept_itself way (kept_message nid b) x z is = refl
+kept_itself way (typed_message nid head body vs padding) x z (fs, hs, ps, is, f, h, p) = absurd cc
+
+pub kept_named : {H B P : Type 0} (way : Way) (k : HeadOf H) (o : OwnOf B) (form : P → Form) {E : Type 0} (res : Result (Option (Content H B P)) E) (x z d : Data) → d ≡ kept_message_tree x (string (way_word way)) z → IfOk res (λ c. IfSome c (λ m. IsMessageTree way (message_value way k o form m) (kept_message_tree x (string (way_word way)) z)))
+    → IfOk res (λ c. IfSome c (λ m. (u : MessageValue) × (message_value way k o form m ≡ unnamed_message way u) × IsMessageTree way u d))
+kept_named way k o form (Err e) x z d is some = tt
+kept_named way k o form (Ok None) x z d is some = tt
+kept_named way k o form (Ok (Some m)) x z d is some =
+    let u = message_value way k o form m in
+    (u, kept_itself way u x z some, subst (IsMessageTree way u) (sym is) some)
+
+pub kept_only : (way : Way) {T E : Type 0} (res : Result (Option T) E) (x z d : Data) → d ≡ kept_message_tree x (string (way_word way)) z → IfOk res (λ c. (m : MessageValue) (r : Reading) → MessageReads way m r → IsMessageTree way m (kept_message_tree x (string (way_word way)) z) → IsSome c)
+    → IfOk res (λ c. (m : MessageValue) (r : Reading) → MessageReads way (unnamed_message way m) r → IsMessageTree way m d → IsSome c)
+kept_only way (Err e) x z d is only = tt
+kept_only way (Ok c) x z d is only = λ m r reads tree.
+    (let tree' = subst (IsMessageTree way m) is tree in
+    only m r (subst (λ (n : MessageValue). MessageReads way n r) (sym (kept_itself way m x z tree')) reads) tree')
+
+-- a tree with the members of neither
+pub no_message : (way : Way) (m : MessageValue) (d : Data) → ((x y w u v : Data) → d ≡ message_tree x y (string (way_word way)) w u v → ⊥) → ((x z : Data) → d ≡ kept_message_tree x (string (way_word way)) z → ⊥) → IsMessageTree way m d → ⊥
+no_message way (typed_message nid head body vs padding) d no_typed no_kept (fs, hs, ps, is, f, h, p) = no_typed (array fs) (array hs) (plain nid) (array ps) (bits_tree padding) is
+no_message way (kept_message nid b) d no_typed no_kept is = no_kept (bits_tree b) (plain nid) is
 
 -- what each part alone can be makes the message of a tree
 pub typed_message_only : {H B P : Type 0} (way : Way) (k : HeadOf H) (o : OwnOf B) (form : P → Form) (x y z v u : Data) (nid : ℕ) (h : H) (b : B) (ps : List P) (pad : List Bool) (F : Type 0)

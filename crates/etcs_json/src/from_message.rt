@@ -16,7 +16,7 @@ ghost use Rattle.etcs_text.specs.Show.{way_word};
 ghost use Rattle.etcs_json.specs.Loose.{unnamed_message};
 ghost use Rattle.etcs_json.specs.TreeReading.{ArePairTrees, IsMessageTree, kept_message_tree, message_tree};
 
-use crate::digits::{bits_in, byte_in, is_text};
+use crate::digits::{bits_in, byte_in};
 use crate::from_packets::packets_in;
 use crate::members::Rest;
 use crate::numbers::numbers_in;
@@ -171,28 +171,29 @@ fn typed_of<H: Head, B: Own<Front = H>>(
     Ok(typed_by(head, body, packets, &padding))
 }
 
-/// The fields, the header, the kind, the number, the packets and the padding of a typed message.
-fn typed_members(value: &Value) -> Option<(&Value, &Value, &Value, &Value, &Value, &Value)>
-    ensures some { IfSome result (λ m. view value.now ≡ message_tree (view m.0.now) (view m.1.now) (view m.2.now) (view m.3.now) (view m.4.now) (view m.5.now)) }
-    ensures none { (x y z w u v : Data) → view value.now ≡ message_tree x y z w u v → IsSome result }
+/// The fields, the header, the number, the packets and the padding of a typed message of this way.
+fn typed_members(way: Way, value: &Value) -> Option<(&Value, &Value, &Value, &Value, &Value)>
+    ensures some { IfSome result (λ m. view value.now ≡ message_tree (view m.0.now) (view m.1.now) (string (way_word way)) (view m.2.now) (view m.3.now) (view m.4.now)) }
+    ensures none { (x y w u v : Data) → view value.now ≡ message_tree x y (string (way_word way)) w u v → IsSome result }
 {
     let mut members = Rest::of(value)?;
     let (fields, header) = members.two("fields", "header")?;
-    let (kind, nid) = members.two("kind", "nid")?;
+    members.text("kind", way_word(way))?;
+    let nid = members.next("nid")?;
     let (packets, padding) = members.last_two("packets", "padding")?;
-    Some((fields, header, kind, nid, packets, padding))
+    Some((fields, header, nid, packets, padding))
 }
 
-/// The bits, the kind and the number of a message that is kept as bits.
-fn kept_members(value: &Value) -> Option<(&Value, &Value, &Value)>
-    ensures some { IfSome result (λ m. view value.now ≡ kept_message_tree (view m.0.now) (view m.1.now) (view m.2.now)) }
-    ensures none { (x y z : Data) → view value.now ≡ kept_message_tree x y z → IsSome result }
+/// The bits and the number of a message of this way that is kept as bits.
+fn kept_members(way: Way, value: &Value) -> Option<(&Value, &Value)>
+    ensures some { IfSome result (λ m. view value.now ≡ kept_message_tree (view m.0.now) (string (way_word way)) (view m.1.now)) }
+    ensures none { (x z : Data) → view value.now ≡ kept_message_tree x (string (way_word way)) z → IsSome result }
 {
     let mut members = Rest::of(value)?;
     let bits = members.next("data")?;
-    let kind = members.next("kind")?;
+    members.text("kind", way_word(way))?;
     let nid = members.last("nid")?;
-    Some((bits, kind, nid))
+    Some((bits, nid))
 }
 
 /// The message of a tree, if there is one, with stand-ins for packets that are kept as bits and typed by now.
@@ -204,19 +205,12 @@ pub(crate) fn message_in<H: Head, B: Own<Front = H>>(
     ensures some { IfOk result (λ o. IfSome o (λ m. (u : MessageValue) × (message_value H.Packet.WAY H.head B.own H.Packet.form m ≡ unnamed_message H.Packet.WAY u) × IsMessageTree H.Packet.WAY u (view value.now))) }
     ensures only { IfOk result (λ o. (m : MessageValue) (r : Reading) → MessageReads H.Packet.WAY (unnamed_message H.Packet.WAY m) r → IsMessageTree H.Packet.WAY m (view value.now) → IsSome o) }
 {
-    if let Some((fields, header, kind, nid, packets, padding)) = typed_members(value) {
-        if !is_text(kind, way_word(H::Packet::WAY)) {
-            return Ok(None);
-        }
+    let way = H::Packet::WAY;
+    if let Some((fields, header, nid, packets, padding)) = typed_members(way, value) {
         return typed_of(alloc, fields, header, nid, packets, padding);
     }
-    match kept_members(value) {
-        Some((bits, kind, nid)) => {
-            if !is_text(kind, way_word(H::Packet::WAY)) {
-                return Ok(None);
-            }
-            kept_of(alloc, bits, nid)
-        }
-        None => Ok(None),
+    if let Some((bits, nid)) = kept_members(way, value) {
+        return kept_of(alloc, bits, nid);
     }
+    Ok(None)
 }

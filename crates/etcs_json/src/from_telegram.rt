@@ -11,7 +11,7 @@ ghost use Rattle.etcs_text.specs.Show.{kind_word};
 ghost use Rattle.etcs_json.specs.Loose.{unnamed_telegram};
 ghost use Rattle.etcs_json.specs.TreeReading.{ArePairTrees, IsTelegramTree, telegram_tree};
 
-use crate::digits::{bits_in, is_text};
+use crate::digits::bits_in;
 use crate::from_packets::packets_in;
 use crate::members::Rest;
 use crate::numbers::numbers_in;
@@ -83,16 +83,16 @@ fn telegram_by(size: Size, header: Header, packets: Vec<Packet>, fill: Bits) -> 
     }
 }
 
-/// The fill, the header, the kind and the packets of a telegram.
-fn telegram_members(value: &Value) -> Option<(&Value, &Value, &Value, &Value)>
-    ensures some { IfSome result (λ m. view value.now ≡ telegram_tree (view m.0.now) (view m.1.now) (view m.2.now) (view m.3.now)) }
-    ensures none { (x y z w : Data) → view value.now ≡ telegram_tree x y z w → IsSome result }
+/// The fill, the header and the packets of a telegram of this size.
+fn telegram_members(size: Size, value: &Value) -> Option<(&Value, &Value, &Value)>
+    ensures some { IfSome result (λ m. view value.now ≡ telegram_tree (view m.0.now) (view m.1.now) (string (kind_word size)) (view m.2.now)) }
+    ensures none { (x y w : Data) → view value.now ≡ telegram_tree x y (string (kind_word size)) w → IsSome result }
 {
     let mut members = Rest::of(value)?;
     let (fill, header) = members.two("fill", "header")?;
-    let kind = members.next("kind")?;
+    members.text("kind", size_word(size))?;
     let packets = members.last("packets")?;
-    Some((fill, header, kind, packets))
+    Some((fill, header, packets))
 }
 
 /// The telegram of a tree, if there is one of this size, with stand-ins for numbers that are kept as bits and typed by
@@ -107,13 +107,8 @@ pub(crate) fn telegram_in(
     ensures some { IfOk result (λ o. IfSome o (λ t. (u : TelegramValue) × (telegram_value t ≡ unnamed_telegram u) × IsTelegramTree u (view value.now))) }
     ensures only { IfOk result (λ o. (t : TelegramValue) (r : Reading) → t.size ≡ size → TelegramReads (unnamed_telegram t) r → IsTelegramTree t (view value.now) → IsSome o) }
 {
-    match telegram_members(value) {
-        Some((fill, header, kind, packets)) => {
-            if !is_text(kind, size_word(size)) {
-                return Ok(None);
-            }
-            telegram_of(alloc, size, fill, header, packets)
-        }
+    match telegram_members(size, value) {
+        Some((fill, header, packets)) => telegram_of(alloc, size, fill, header, packets),
         None => Ok(None),
     }
 }

@@ -1,9 +1,10 @@
 //! The members of an object, which are in the order of their names.
 
 ghost use Rattle.std.specs.Prelude.{◌≡◌, IfSome, IsSome};
-ghost use Rattle.serde_json.specs.Data.{Data, Members, member, no_members, object};
+ghost use Rattle.serde_json.specs.Data.{Data, Members, member, no_members, object, string};
 ghost use Rattle.serde_json.specs.View.{members_view, view};
 
+use crate::digits::is_text;
 use serde_json::Value;
 use std::collections::btree_map::Iter;
 
@@ -32,6 +33,15 @@ impl<'a> Rest<'a> {
     {
         let (found, value) = self.members.next()?;
         (found.as_str() == name).then_some(value)
+    }
+
+    /// Passes over the member that comes next, where it has this name and this text.
+    pub(crate) fn text(&mut self, name: &str, text: &str) -> Option<()>
+        ensures some { IfSome result (λ _. members_view self.old.members ≡ member name.now (string text.now) (members_view self.new.members)) }
+        ensures none { (ms : Members) → members_view self.old.members ≡ member name.now (string text.now) ms → IsSome result }
+    {
+        let value = self.next(name)?;
+        if is_text(value, text) { Some(()) } else { None }
     }
 
     /// The values of the two members that come next, where they have these names.

@@ -14,26 +14,18 @@ of_numbers-requires g c =
     let some = some_at _ c.in_ok-numbers-in-Some.field-0 c.in-Some-2.numbers (λ f. f.items) (layout items) (view c.args.value.now) c.in-Some-2.is c.in_ok-numbers-in-Some.ensures.some in
     own_numbers g.H.Packet.AnyPacket.WAY c.args.nid (layout items) (view c.args.value.now) c.in-Some-2.numbers.items c.as_slice.result.now found some c.as_slice.ensures.value
 
-pub returns-in-Some-2-clause-own : goal.returns-in-Some-2-clause-own
-returns-in-Some-2-clause-own g c =
+pub returns-in-Some-2 : goal.returns-in-Some-2
+returns-in-Some-2 g c =
     let items = c.in-Some.row.items.now in
     let found = row_found (message_row_to g.H.Packet.AnyPacket.WAY c.args.nid) items (rw c.WAY.ensures at c.in-Some.ensures) in
     let some = some_at _ c.in_ok-numbers-in-Some.field-0 c.in-Some-2.numbers (λ f. f.items) (layout items) (view c.args.value.now) c.in-Some-2.is c.in_ok-numbers-in-Some.ensures.some in
-    (own_some g.H.Packet.AnyPacket.WAY g.B.Own.own g.met.B.Own.laws c.args.nid (layout items) found (view c.args.value.now) c.in-Some-2.numbers.items c.as_slice.result.now c.of_numbers.result some c.as_slice.ensures.value c.of_numbers.ensures).0
-
-pub returns-in-Some-2-clause-some : goal.returns-in-Some-2-clause-some
-returns-in-Some-2-clause-some g c =
-    let items = c.in-Some.row.items.now in
-    let found = row_found (message_row_to g.H.Packet.AnyPacket.WAY c.args.nid) items (rw c.WAY.ensures at c.in-Some.ensures) in
-    let some = some_at _ c.in_ok-numbers-in-Some.field-0 c.in-Some-2.numbers (λ f. f.items) (layout items) (view c.args.value.now) c.in-Some-2.is c.in_ok-numbers-in-Some.ensures.some in
-    (own_some g.H.Packet.AnyPacket.WAY g.B.Own.own g.met.B.Own.laws c.args.nid (layout items) found (view c.args.value.now) c.in-Some-2.numbers.items c.as_slice.result.now c.of_numbers.result some c.as_slice.ensures.value c.of_numbers.ensures).1
-
-pub returns-in-Some-2-clause-only : goal.returns-in-Some-2-clause-only
-returns-in-Some-2-clause-only g c = λ row r fs is_row reads is t.
-    (let items = c.in-Some.row.items.now in
-    let found = row_found (message_row_to g.H.Packet.AnyPacket.WAY c.args.nid) items (rw c.WAY.ensures at c.in-Some.ensures) in
     let only = only_at _ c.in_ok-numbers-in-Some.field-0 c.in-Some-2.numbers (λ f. f.items) (layout items) (view c.args.value.now) c.in-Some-2.is c.in_ok-numbers-in-Some.ensures.only in
-    ap Some (own_only g.H.Packet.AnyPacket.WAY g.B.Own.own g.met.B.Own.laws c.args.nid (layout items) found (view c.args.value.now) c.in-Some-2.numbers.items c.as_slice.result.now c.of_numbers.result row r fs only c.as_slice.ensures.value c.of_numbers.ensures is_row reads is t))
+    let (made, pairs) = own_some g.H.Packet.AnyPacket.WAY g.B.Own.own g.met.B.Own.laws c.args.nid (layout items) found (view c.args.value.now) c.in-Some-2.numbers.items c.as_slice.result.now c.of_numbers.result some c.as_slice.ensures.value c.of_numbers.ensures in
+    record {
+      own = made;
+      some = pairs;
+      only = λ row r fs is_row reads is t. ap Some (own_only g.H.Packet.AnyPacket.WAY g.B.Own.own g.met.B.Own.laws c.args.nid (layout items) found (view c.args.value.now) c.in-Some-2.numbers.items c.as_slice.result.now c.of_numbers.result row r fs only c.as_slice.ensures.value c.of_numbers.ensures is_row reads is t);
+    }
 
 pub returns-in-None-2-clause-only : goal.returns-in-None-2-clause-only
 returns-in-None-2-clause-only g c = λ row r fs is_row reads is t.

@@ -1,5 +1,5 @@
 -- The variables so far are those that the fields say.
-use Rattle.std.proofs.Common.{◌≡◌, ℕ, ◌+◌, ◌-◌, ◌*◌, ◌/◌, ◌≤◌, List, Bool, ◌++◌, length, drop, Some, refl, sym, ap, subst, ◌∙◌, arith, append_assoc, inl, inr}
+use Rattle.std.proofs.Common.{◌≡◌, ℕ, ◌+◌, ◌-◌, ◌*◌, ◌/◌, ◌≤◌, List, Bool, false, ◌++◌, length, drop, Some, refl, sym, ap, subst, ◌∙◌, arith, append_assoc, inl, inr}
 use Rattle.std.specs.Prelude.{IsTrue, Option, not}
 use Rattle.std.proofs.lemmas.Bool.{and_parts}
 use Rattle.std.proofs.lemmas.List.{length-append}
@@ -58,6 +58,10 @@ packets_are way form nid front l store q g h =
     let m = measured_is nid h.len (ahead l.carrier l.room l.stage) (labelled h.vars front ++ packets_so_far form l.carrier l.stage store.packets.items store.numbers.items store.bits) q is h.room_is in
     subst (λ (vs : List Var). q ≡ measured nid (labelled vs front ++ packets_so_far form l.carrier l.stage store.packets.items store.numbers.items store.bits) (ahead l.carrier l.room l.stage)) (sym (ap some_row h.typed)) m
 
+-- bits that fill whole bytes are as many as there is room for
+room_for : (n k left len : ℕ) → n + k + left ≡ 8 * len → k + left ≤ 7 → k ≡ padding_room n - left
+room_for n k left len whole short = omega (arith, whole, short)
+
 -- PADDING is what is left up to whole bytes
 padding_far : {P : Type 0} (way : Way) (form : P → Form) (nid : ℕ) (front : List ℕ) (ps : List P) (f : List ℕ) (k : List Bool) (number left : ℕ) (q : Reading) → PaddingHeld way nid front (list_holds form ps f k) number left q → q ≡ measured nid (padded (packed way form nid front ps) number left) left
 padding_far way form nid front ps f k number left q h =
@@ -71,7 +75,7 @@ padding_far way form nid front ps f k number left q h =
     let is = h.reading_is ∙ ap (headed nid h.len) parts in
     let l1 = ap (λ (t : Reading). length (spelled t)) is ∙ headed_length nid h.len (r ++ kept PADDING h.bits) in
     let l2 = ap length (spelled-append r (kept PADDING h.bits)) ∙ length-append (spelled r) (spelled (kept PADDING h.bits)) in
-    let count : length h.bits ≡ padding_room (18 + length (spelled r)) - left = omega (arith, l1, l2, pad_bits h.bits, h.room_is, h.short) in
+    let count = room_for (18 + length (spelled r)) (length h.bits) left h.len (omega (arith, l1, l2, pad_bits h.bits, h.room_is)) h.short in
     let bits : h.bits ≡ num (padding_room (18 + length (spelled r)) - left) number = h.padding_is ∙ ap (λ (n : ℕ). num n number) count in
     let is' : q ≡ headed nid h.len (padded r number left) = is ∙ ap (λ (b : List Bool). headed nid h.len (r ++ kept PADDING b)) bits in
     measured_is nid h.len left (padded r number left) q is' h.room_is
@@ -101,14 +105,17 @@ far_is way form nid Whole front l store number q g (inr h) =
 headed_long : (nid len : ℕ) (r q : Reading) → q ≡ headed nid len r → 18 ≤ length (spelled q)
 headed_long nid len r q e = omega (arith, ap (λ (t : Reading). length (spelled t)) e ∙ headed_length nid len r)
 
+never : {A : Type 0} → IsTrue false → A
+never a = absurd cc
+
 pub far_long : (way : Way) (nid : ℕ) (phase : Phase) (front : List ℕ) (l : PacketsState) (number : ℕ) (holds : List PacketValue → List ℕ → List Bool → Type 0) (q : Reading) → IsTrue (may_ask phase l) → HoldsIn way nid phase front l number holds q → 18 ≤ length (spelled q)
-far_long way nid Number front l number holds q a h = absurd cc
-far_long way nid Length front l number holds q a h = absurd cc
-far_long way nid (Front at) front l number holds q a h = absurd cc
+far_long way nid Number front l number holds q a h = never a
+far_long way nid Length front l number holds q a h = never a
+far_long way nid (Front at) front l number holds q a h = never a
 far_long way nid Packets front l number holds q a (z, h) = headed_long nid h.len (labelled h.vars front ++ h.here) q h.reading_is
-far_long way nid (Padding left) front l number holds q a h = absurd cc
+far_long way nid (Padding left) front l number holds q a h = never a
 far_long way nid (Data left) front l number holds q a h = headed_long nid h.len (kept OTHER_DATA h.bits) q h.reading_is
-far_long way nid Whole front l number holds q a h = absurd cc
+far_long way nid Whole front l number holds q a h = never a
 
 -- all of the front
 front_long : (way : Way) (nid len : ℕ) (vars : List Var) (front : List ℕ) (here q : Reading) → front_row way nid ≡ Some vars → length front ≡ length vars → q ≡ headed nid len (labelled vars front ++ here) → header_bits way + length (spelled here) ≤ length (spelled q)
@@ -121,9 +128,9 @@ front_long way nid len vars front here q typed count e =
 
 -- the variable that comes next there asks for it
 pub next_asks : (way : Way) (nid : ℕ) (phase : Phase) (front : List ℕ) (l : PacketsState) (number : ℕ) (holds : List PacketValue → List ℕ → List Bool → Type 0) (q : Reading) (x : Var) → IsTrue (may_ask phase l) → HoldsIn way nid phase front l number holds q → Goes (left_at way nid phase l) → IsTrue (stands_at way nid phase (length front) l) → next_at way nid phase l ≡ Some x → IsTrue (asks_memory x) × (asked_from x ≤ length (spelled q))
-next_asks way nid Number front l number holds q x a h g s e = absurd cc
-next_asks way nid Length front l number holds q x a h g s e = absurd cc
-next_asks way nid (Front at) front l number holds q x a h g s e = absurd cc
+next_asks way nid Number front l number holds q x a h g s e = never a
+next_asks way nid Length front l number holds q x a h g s e = never a
+next_asks way nid (Front at) front l number holds q x a h g s e = never a
 next_asks way nid Packets front l number holds q x a (z, h) g s e =
     let asks = packets_ask l.carrier l.room l.stage holds h.here a h.held (first_goes l g) x e in
     let same = (message_parts way l (and_parts (is_message way l) (not (is_closed l.stage)) s).0).0 in
@@ -131,6 +138,6 @@ next_asks way nid Packets front l number holds q x a (z, h) g s e =
     let long = front_long way nid h.len h.vars front h.here q h.typed h.count h.reading_is in
     let few = asked_few way in
     (asks.0, omega (arith, asks.1, after, long, few))
-next_asks way nid (Padding left) front l number holds q x a h g s e = absurd cc
+next_asks way nid (Padding left) front l number holds q x a h g s e = never a
 next_asks way nid (Data left) front l number holds q x a h g s e = asks_anywhere (length (spelled q)) x OTHER_DATA refl refl cc
-next_asks way nid Whole front l number holds q x a h g s e = absurd cc
+next_asks way nid Whole front l number holds q x a h g s e = never a

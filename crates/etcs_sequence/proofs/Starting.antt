@@ -27,13 +27,14 @@ starts_length c nid room rest bits result small told = (
   λ (l, r, e, a). told.1 (l, e, some_length c nid room l r a),
 )
 
+some_goes : (After : ℕ → Reading → Type 0) (k rest bits : ℕ) → k ≡ rest → (n : ℕ) × (r : Reading) × (n / 2 ^ k ≡ bits) × After n r → GoesOn After rest bits
+some_goes After k rest bits same (n, r, e, a) = (n, r, ap (λ (j : ℕ). n / 2 ^ j) (sym same) ∙ e, a)
+
 -- a variable with no condition after it
 starts_admitted : (x : Var) (After : ℕ → Reading → Type 0) (rest bits : ℕ) → rest ≤ width x → bits < 2 ^ (width x - rest) → Tested x After (begins (ranges x)) → IsTrue (begins (ranges x) rest bits) ↔ GoesOn After rest bits
 starts_admitted x After rest bits le fits t =
     let whole : width x - (width x - rest) ≡ rest = omega arith in (
-      λ yes.
-          let s = t.some (width x - rest) bits (omega arith) fits (rw whole yes) in
-          (s.0, s.1, ap (λ (k : ℕ). s.0 / 2 ^ k) (sym whole) ∙ s.2, s.3),
+      λ yes. some_goes After (width x - (width x - rest)) rest bits whole (t.some (width x - rest) bits (omega arith) fits (rw whole yes)),
       λ (n, r, e, a). rw e at (t.each rest n r a),
     )
 

@@ -3,7 +3,7 @@ use Rattle.std.proofs.Common.{◌≡◌, ℕ, Bool, List, [], ◌++◌, None, So
 use Rattle.std.specs.Prelude.{IsNone, IfSome, Option}
 use mathlib.Core.HLevel.{is_prop→PathP}
 use Rattle.etcs_vars.specs.Reading.{Reading}
-use Rattle.etcs_reader.specs.Rests.{LeapsBy}
+use Rattle.etcs_reader.specs.Rests.{Goes, LeapsBy}
 use Rattle.etcs_packets.specs.PacketValues.{PacketValue}
 use Rattle.etcs_sequence.specs.declared.state.PacketsState.{PacketsState}
 use Rattle.etcs_sequence.specs.Lefts.{left_of, HoldsAt, Moved}
@@ -23,6 +23,19 @@ pub steps : (l l' : PacketsState) (holds holds' : List PacketValue → List ℕ 
     → IfSome o (λ n. LeapsBy (left_of l'.carrier l'.room l'.stage) (Steps l l' holds holds') xs at n) → (p : Reading) × Steps l l' holds holds' p
 steps l l' holds holds' xs at None same h = ([], rw ((same refl).0, (same refl).1) (moved_none l.carrier l.room l.stage, held_none l.carrier l.stage holds))
 steps l l' holds holds' xs at (Some n) same h = (h.whole, h.follows)
+
+-- and one that takes some, in a frame of its own
+pub leaps_on : (l l' : PacketsState) (holds holds' : List PacketValue → List ℕ → List Bool → Type 0) (xs : List Bool) (at : ℕ) (o : Option ℕ) {Left F : Reading → Type 0} → (Goes (left_of l'.carrier l'.room l'.stage) → Goes Left) → ((p : Reading) → Goes (left_of l'.carrier l'.room l'.stage) → Steps l l' holds holds' p → F p)
+    → IfSome o (λ n. LeapsBy (left_of l'.carrier l'.room l'.stage) (Steps l l' holds holds') xs at n) → IfSome o (λ n. LeapsBy Left F xs at n)
+leaps_on l l' holds holds' xs at None goes on h = tt
+leaps_on l l' holds holds' xs at (Some n) goes on h = record {
+  some = h.some;
+  inside = h.inside;
+  goes = goes h.goes;
+  whole = h.whole;
+  follows = on h.whole h.goes h.follows;
+  bits = h.bits;
+}
 
 -- what is made of the same, and of two facts about it, is the same
 pub same_made : {A R : Type 0} (P Q : A → Type 0) → ((a : A) (x y : P a) → x ≡ y) → ((a : A) (x y : Q a) → x ≡ y) → (make : (a : A) → P a → Q a → R) → (a b : A) → a ≡ b → (h : P a) (k : Q a) (h' : P b) (k' : Q b) → make a h k ≡ make b h' k'

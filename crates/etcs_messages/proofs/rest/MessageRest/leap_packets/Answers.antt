@@ -1,13 +1,12 @@
 use Rattle.std.proofs.Common.{◌≡◌, length, ap, ◌∙◌, sym}
 use Rattle.std.specs.Prelude.{IsTrue}
 use Rattle.std.proofs.Math.Logic.{∥∥₁_prop}
-use Rattle.std.proofs.lemmas.Option.{IfSome_then}
 use mathlib.Core.Bool.{Bool-set}
 use Rattle.etcs_bits.specs.Bits.{bits, part}
 use Rattle.etcs_sequence.specs.declared.packets.PacketsRest.{PacketsRest}
 use Rattle.etcs_messages.specs.declared.phase.Phase.{Phase}
 use Rattle.etcs_messages.specs.Lefts.{stands_at, behind_packets, DataFits}
-use Rattle.etcs_sequence.proofs.Leaps.{on_err, steps, same_made}
+use Rattle.etcs_sequence.proofs.Leaps.{on_err, steps, leaps_on, same_made}
 use Rattle.etcs_messages.proofs.RestSteps.{packets_all, packets_viable}
 use Rattle.etcs_messages.proofs.RestStands.{packets_stands, packets_message, packets_parts}
 use Rattle.etcs_messages.proofs.RestHolds.{packets_follow, no_data_packets}
@@ -33,14 +32,11 @@ returns-clause-some g c =
     let l = s.packets.left in
     let l' = c.leap.new.self.left in
     let e = c.behind_packets-self.ensures in
-    IfSome_then c.in_ok-leapt.leapt c.in_ok-leapt.ensures.some (λ n leaps. record {
-      some = leaps.some;
-      inside = leaps.inside;
-      goes = rw e (packets_all g.H.Packet.AnyPacket.WAY s.nid l' leaps.goes);
-      whole = leaps.whole;
-      follows = packets_follow g.H.Packet.AnyPacket.WAY s.nid s.phase c.behind_packets-self.result s.front.items l l' s.padding (g.H.Store.PacketStore.holds s.packets.store) (g.H.Store.PacketStore.holds c.leap.new.self.store) leaps.whole c.requires.phase e (packets_message g.H.Packet.AnyPacket.WAY s.nid s.phase (length s.front.items) l l' leaps.whole c.requires.phase s.stands leaps.follows.0) leaps.follows.0 leaps.goes leaps.follows.1;
-      bits = leaps.bits;
-    })
+    let holds = g.H.Store.PacketStore.holds s.packets.store in
+    let holds' = g.H.Store.PacketStore.holds c.leap.new.self.store in
+    leaps_on l l' holds holds' (bits c.args.piece.now) c.args.at c.in_ok-leapt.leapt (λ goes. rw e (packets_all g.H.Packet.AnyPacket.WAY s.nid l' goes))
+    (λ p goes moved. packets_follow g.H.Packet.AnyPacket.WAY s.nid s.phase c.behind_packets-self.result s.front.items l l' s.padding holds holds' p c.requires.phase e (packets_message g.H.Packet.AnyPacket.WAY s.nid s.phase (length s.front.items) l l' p c.requires.phase s.stands moved.0) moved.0 goes moved.1)
+    c.in_ok-leapt.ensures.some
 
 pub returns-clause-none : goal.returns-clause-none
 returns-clause-none g c =

@@ -1,13 +1,12 @@
 use Rattle.std.proofs.Common.{◌≡◌, length, ap, ◌∙◌, sym}
 use Rattle.std.specs.Prelude.{IsTrue}
 use Rattle.std.proofs.Math.Logic.{∥∥₁_map, ∥∥₁_prop}
-use Rattle.std.proofs.lemmas.Option.{IfSome_then}
 use mathlib.Core.Bool.{Bool-set}
 use Rattle.etcs_bits.specs.Bits.{bits, part}
 use Rattle.etcs_sequence.specs.declared.packets.PacketsRest.{PacketsRest}
 use Rattle.etcs_telegram.specs.declared.phase.Phase.{Phase}
 use Rattle.etcs_telegram.specs.Lefts.{stands_at, behind_packets, FillFits}
-use Rattle.etcs_sequence.proofs.Leaps.{on_err, steps, same_made}
+use Rattle.etcs_sequence.proofs.Leaps.{on_err, steps, leaps_on, same_made}
 use Rattle.etcs_telegram.proofs.RestSteps.{packets_all, packets_viable, packets_stands, packets_parts}
 use Rattle.etcs_telegram.proofs.RestHolds.{packets_follow, packets_fits}
 use Rattle.etcs_telegram.proofs.rest.TelegramRest.leap_packets.Goals as goal
@@ -33,14 +32,10 @@ returns-clause-some g c =
     let l = s.packets.left in
     let l' = c.leap.new.self.left in
     let e = c.behind_packets-self.ensures in
-    IfSome_then c.in_ok-leapt.leapt c.in_ok-leapt.ensures.some (λ n leaps. record {
-      some = leaps.some;
-      inside = leaps.inside;
-      goes = rw e (packets_all s.size l' leaps.goes);
-      whole = leaps.whole;
-      follows = packets_follow s.size s.phase c.behind_packets-self.result s.header.items l l' (g.S.PacketStore.holds s.packets.store) (g.S.PacketStore.holds c.leap.new.self.store) leaps.whole c.requires.phase e s.stands leaps.follows.0 leaps.goes leaps.follows.1;
-      bits = leaps.bits;
-    })
+    let holds = g.S.PacketStore.holds s.packets.store in
+    let holds' = g.S.PacketStore.holds c.leap.new.self.store in
+    leaps_on l l' holds holds' (bits c.args.piece.now) c.args.at c.in_ok-leapt.leapt (λ goes. rw e (packets_all s.size l' goes))
+    (λ p goes moved. packets_follow s.size s.phase c.behind_packets-self.result s.header.items l l' holds holds' p c.requires.phase e s.stands moved.0 goes moved.1) c.in_ok-leapt.ensures.some
 
 pub returns-clause-none : goal.returns-clause-none
 returns-clause-none g c =

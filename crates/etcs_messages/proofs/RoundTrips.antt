@@ -1,38 +1,44 @@
--- A reader of messages that is fed a message's bytes.
+-- A message that is read from its encoding, and written again.
 use Rattle.std.proofs.Common.{◌≡◌, ℕ, zero, suc, ◌^◌, ◌<◌, Bool, List, [], ◌∷◌, ◌++◌, get_or, sym, ap, ◌∙◌, arith}
-use Rattle.std.specs.Prelude.{Result, All}
+use Rattle.std.specs.Prelude.{All}
 use Rattle.etcs_bits.specs.Bits.{bits}
 use Rattle.etcs_bits.proofs.ByteBits.{bits-append}
 use Rattle.etcs_bits.proofs.Owned.{bits_same}
 use Rattle.etcs_vars.specs.declared.var.Var.TheVariants.{NID_MESSAGE, L_MESSAGE, PADDING, OTHER_DATA}
-use Rattle.etcs_vars.specs.Reading.{Reading, spelled, kept}
-use Rattle.etcs_vars.specs.declared.feed.Fed.{Fed}
-use Rattle.etcs_vars.specs.declared.feed.ReadFault.{ReadFault}
+use Rattle.etcs_vars.specs.Reading.{Reading, spelled, kept, NoneYet}
 use Rattle.etcs_packets.specs.PacketValues.{Form}
 use Rattle.etcs_packets.specs.PacketReadings.{readings_to}
-use Rattle.etcs_sequence.specs.Progress.{Progress, reading, Feeds}
-use Rattle.etcs_sequence.proofs.RoundTrips.{Answered, answered}
+use Rattle.etcs_sequence.specs.Firsts.{IsFirst}
+use Rattle.etcs_sequence.proofs.RoundTrips.{one_first, some_there}
 use Rattle.etcs_messages.specs.declared.message.Content.{Content}
-use Rattle.etcs_messages.specs.Messages.{MessageValue, typed_message, kept_message, MessageReads, head_reading, message_value, IsMessage}
+use Rattle.etcs_messages.specs.Messages.{MessageValue, typed_message, kept_message, MessageReads, MessageLanguage, head_reading, message_value, IsMessage}
 use Rattle.etcs_messages.proofs.Spelling.{OnePacket, one_spelled}
 use Rattle.etcs_tables.specs.declared.row.Way.{Way}
 use Rattle.etcs_messages.specs.Kinds.{HeadOf, OwnOf, HeadLaws, OwnLaws}
 
-pub read_again : {H B P : Type 0} (way : Way) (hd : HeadOf H) (bd : OwnOf B) (form : P → Form) {sent_head : H → Reading} {sent_own : B → Reading} (hl : HeadLaws way H sent_head hd) (ol : OwnLaws way B sent_own bd) (one : OnePacket form) (m : Content H B P) (old bytes piece : List ℕ) (fresh : Progress (Content H B P)) (result : Result Fed ReadFault) (s : Progress (Content H B P)) → IsMessage way hd bd form m → old ≡ [] → ((r : Reading) × MessageReads way (message_value way hd bd form m) r × (bits bytes ≡ bits old ++ spelled r)) → piece ≡ bytes → fresh ≡ reading []
-    → ((seen : List Bool) → fresh ≡ reading seen → Feeds (MessageReads way) (message_value way hd bd form) (IsMessage way hd bd form) 18 seen (bits piece) result s) → Answered m result s
-unfolding bits
-read_again way hd bd form hl ol one m old bytes piece fresh result s is none (r, reads, e) same start f =
-    let all : spelled r ≡ bits piece = ap (λ (b : List ℕ). bits b ++ spelled r) (sym none) ∙ sym e ∙ ap bits (sym same) in
-    answered (MessageReads way) (message_value way hd bd form) (IsMessage way hd bd form) 18 (one_spelled way hd bd form hl ol one) m r (bits piece) result s is reads all (f [] start)
-
--- ---- What was read is written again.
-
-abbrev pub FedFirst : {H B P : Type 0} (way : Way) (hd : HeadOf H) (bd : OwnOf B) (form : P → Form) → List ℕ → Result Fed ReadFault → Progress (Content H B P) → Type 0
-FedFirst way hd bd form bytes result s = Feeds (MessageReads way) (message_value way hd bd form) (IsMessage way hd bd form) 18 [] (bits bytes) result s
-
 -- the message spells these bytes
 abbrev pub Spelled : {H B P : Type 0} (way : Way) (hd : HeadOf H) (bd : OwnOf B) (form : P → Form) → Content H B P → List ℕ → Type 0
 Spelled way hd bd form m piece = (r : Reading) × MessageReads way (message_value way hd bd form m) r × (spelled r ≡ bits piece)
+
+-- what encoding appends to nothing
+pub spelled_first : {H B P : Type 0} (way : Way) (hd : HeadOf H) (bd : OwnOf B) (form : P → Form) (m : Content H B P) (old bytes piece : List ℕ) → old ≡ [] → ((r : Reading) × MessageReads way (message_value way hd bd form m) r × (bits bytes ≡ bits old ++ spelled r)) → piece ≡ bytes → Spelled way hd bd form m piece
+unfolding bits
+spelled_first way hd bd form m old bytes piece none (r, reads, e) same = (r, reads, ap (λ (b : List ℕ). bits b ++ spelled r) (sym none) ∙ sym e ∙ ap bits (sym same))
+
+module _ {H B P : Type 0} (way : Way) (hd : HeadOf H) (bd : OwnOf B) (form : P → Form) (m : Content H B P) (bytes : List ℕ) (spells : Spelled way hd bd form m bytes) where
+  -- what is read of an encoding
+  pub read_again : {sent_head : H → Reading} {sent_own : B → Reading} (hl : HeadLaws way H sent_head hd) (ol : OwnLaws way B sent_own bd) (one : OnePacket form) (again : Content H B P) (k : ℕ) → IsMessage way hd bd form m → IsFirst (MessageReads way) (message_value way hd bd form) (IsMessage way hd bd form) bytes again k → again ≡ m
+  read_again hl ol one again k is first =
+      let (r, reads, e) = spells in
+      one_first (MessageReads way) (message_value way hd bd form) (IsMessage way hd bd form) bytes again k m r is reads e (one_spelled way hd bd form hl ol one) first
+
+  -- and something is
+  pub some_again : NoneYet (MessageLanguage way) (bits bytes) → ⊥
+  some_again none =
+      let (r, reads, e) = spells in
+      some_there (MessageReads way) (message_value way hd bd form m) r (bits bytes) reads e none
+
+-- ---- What was read is written again.
 
 -- a message has one reading
 one_reading : (way : Way) (v : MessageValue) (r q : Reading) → MessageReads way v r → MessageReads way v q → r ≡ q

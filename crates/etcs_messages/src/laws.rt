@@ -11,7 +11,7 @@ ghost use Rattle.etcs_messages.specs.Messages.{MessageLanguage, MessageReads, me
 use crate::kind::{Head, Own};
 use crate::message::MessageOf;
 use crate::reader::ReaderOf;
-use etcs_vars::{Fed, ReadFault};
+use etcs_sequence::parts::first_item;
 use std::alloc::{AllocError, Global};
 
 /// Messages with one spelling are equal, and no spelling begins another.
@@ -59,16 +59,10 @@ pub fn round_trip<H: Head, B: Own<Front = H>>(
     message.readable();
     let mut bytes = Vec::new(alloc);
     message.encode(&mut bytes)?;
-    let mut reader = ReaderOf::<H, B>::new(alloc);
-    match reader.feed(bytes.as_slice()) {
-        Ok(Fed::Done { .. }) => match reader.take() {
-            Ok(again) => Ok(again),
-            Err(_) => unreachable!(),
-        },
-        Ok(Fed::More) => unreachable!(),
-        Err(ReadFault::Refused { .. }) => unreachable!(),
-        Err(ReadFault::Ended) => unreachable!(),
-        Err(ReadFault::Memory) => Err(AllocError),
+    let reader = ReaderOf::<H, B>::new(alloc);
+    match first_item(reader.reader, bytes.as_slice())? {
+        Some((again, _)) => Ok(again),
+        None => unreachable!(),
     }
 }
 
@@ -111,18 +105,12 @@ pub fn read_back<H: Head, B: Own<Front = H>>(
     ensures kept { IfOk result (λ found. IfNone found (out.new.items ≡ out.old.items)) }
     ensures err { OnErr result (out.new.items ≡ out.old.items) }
 {
-    let mut reader = ReaderOf::<H, B>::new(alloc);
-    match reader.feed(bytes) {
-        Ok(Fed::Done { taken }) => match reader.take() {
-            Ok(message) => {
-                append_again(&message, &bytes[..taken], out)?;
-                Ok(Some(taken))
-            }
-            Err(_) => unreachable!(),
-        },
-        Ok(Fed::More) => Ok(None),
-        Err(ReadFault::Refused { .. }) => Ok(None),
-        Err(ReadFault::Ended) => unreachable!(),
-        Err(ReadFault::Memory) => Err(AllocError),
+    let reader = ReaderOf::<H, B>::new(alloc);
+    match first_item(reader.reader, bytes)? {
+        Some((message, taken)) => {
+            append_again(&message, &bytes[..taken], out)?;
+            Ok(Some(taken))
+        }
+        None => Ok(None),
     }
 }

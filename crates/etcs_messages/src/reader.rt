@@ -131,7 +131,7 @@ impl<H: Head, B: Own<Front = H>> ItemRest for MessageRest<H, B> {
 /// piece had all of it.
 #[derive(Drop)]
 pub struct ReaderOf<H: Head, B: Own<Front = H>> {
-    reader: ItemReader<MessageRest<H, B>>,
+    pub(crate) reader: ItemReader<MessageRest<H, B>>,
 }
 
 impl<H: Head, B: Own<Front = H>> Model for ReaderOf<H, B> {

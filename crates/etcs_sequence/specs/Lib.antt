@@ -2,6 +2,7 @@ pub mod AtOnce
 pub mod BitLaws
 pub mod ChainLaws
 pub mod Contents
+pub mod Firsts
 pub mod Fronts
 pub mod Held
 pub mod Holdings

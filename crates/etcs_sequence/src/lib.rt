@@ -8,6 +8,7 @@
 
 mod count;
 mod fault;
+mod first;
 mod held;
 mod item;
 mod kinds;

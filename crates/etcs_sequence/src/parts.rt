@@ -1,5 +1,5 @@
-//! For the crates above: bits and numbers that a piece or a slice holds, and packets in bits that are known
-//! to hold them.
+//! For the crates above: bits and numbers that a piece or a slice holds, packets in bits that are known to hold them, and
+//! the item that bytes begin with.
 
 ghost use Rattle.std.specs.Prelude.{◌≡◌, List, Bool, ◌++◌, length, All};
 ghost use Rattle.etcs_vars.specs.Reading.{spelled};
@@ -7,6 +7,7 @@ ghost use Rattle.etcs_packets.specs.PacketValues.{PacketValue, IsPacket};
 ghost use Rattle.etcs_packets.specs.PacketReadings.{packets_reading};
 ghost use Rattle.etcs_sequence.specs.Refs.{ArePackets, spellings};
 
+pub use crate::first::first_item;
 use crate::packets_in::Packets;
 pub use crate::pieces::{bits_at, cut_in, number_at, number_in, run_at};
 pub use crate::run::take_run;

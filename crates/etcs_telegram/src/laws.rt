@@ -11,7 +11,7 @@ ghost use Rattle.etcs_telegram.specs.Readers.{OneHolding};
 use crate::reader::TelegramReader;
 use crate::size::Size;
 use crate::telegram::Telegram;
-use etcs_vars::{Fed, ReadFault};
+use etcs_sequence::parts::first_item;
 use std::alloc::{AllocError, Global};
 
 /// Telegrams of one size with one spelling are equal, and no spelling begins another.
@@ -56,16 +56,10 @@ pub fn round_trip(alloc: Global, telegram: &Telegram) -> Result<Telegram, AllocE
     let Ok(len) = telegram.encode_into(&mut bytes) else {
         unreachable!()
     };
-    let mut reader = TelegramReader::new(alloc, telegram.size());
-    match reader.feed(&bytes[..len]) {
-        Ok(Fed::Done { .. }) => match reader.take() {
-            Ok(again) => Ok(again),
-            Err(_) => unreachable!(),
-        },
-        Ok(Fed::More) => unreachable!(),
-        Err(ReadFault::Refused { .. }) => unreachable!(),
-        Err(ReadFault::Ended) => unreachable!(),
-        Err(ReadFault::Memory) => Err(AllocError),
+    let reader = TelegramReader::new(alloc, telegram.size());
+    match first_item(reader.reader, &bytes[..len])? {
+        Some((again, _)) => Ok(again),
+        None => unreachable!(),
     }
 }
 
@@ -96,18 +90,12 @@ pub fn read_back(
     ensures none { IfOk result (λ found. IfNone found (NoneYet (TelegramLanguage size) (bits bytes.now))) }
     ensures back { IfOk result (λ found. IfSome found (λ n. take n out.new ≡ take n bytes.now)) }
 {
-    let mut reader = TelegramReader::new(alloc, size);
-    match reader.feed(bytes) {
-        Ok(Fed::Done { taken }) => match reader.take() {
-            Ok(telegram) => {
-                write_over(&telegram, out);
-                Ok(Some(taken))
-            }
-            Err(_) => unreachable!(),
-        },
-        Ok(Fed::More) => Ok(None),
-        Err(ReadFault::Refused { .. }) => Ok(None),
-        Err(ReadFault::Ended) => unreachable!(),
-        Err(ReadFault::Memory) => Err(AllocError),
+    let reader = TelegramReader::new(alloc, size);
+    match first_item(reader.reader, bytes)? {
+        Some((telegram, taken)) => {
+            write_over(&telegram, out);
+            Ok(Some(taken))
+        }
+        None => Ok(None),
     }
 }

@@ -86,7 +86,7 @@ impl ItemRest for TelegramRest<TelegramStore> {
 /// unfinished variable; or the telegram, where the first piece had all of it.
 #[derive(Drop)]
 pub struct TelegramReader {
-    reader: ItemReader<TelegramRest<TelegramStore>>,
+    pub(crate) reader: ItemReader<TelegramRest<TelegramStore>>,
 }
 
 impl Model for TelegramReader {

@@ -1,40 +1,34 @@
-use Rattle.std.proofs.Common.{◌∙◌, arith}
+use Rattle.std.proofs.Common.{ap, subst, ◌∙◌, arith}
+use Rattle.std.specs.Prelude.{IfSome, IfNone}
 use Rattle.etcs_bits.specs.Bits.{bits}
-use Rattle.etcs_sequence.proofs.RoundTrips.{front_read}
-use Rattle.etcs_telegram.specs.Telegrams.{ReadsAs, IsTelegram, telegram_value}
-use Rattle.etcs_telegram.proofs.RoundTrips.{fed_first, written_back, container_small}
+use Rattle.etcs_vars.specs.Reading.{NoneYet}
+use Rattle.etcs_sequence.specs.Firsts.{IsFirst}
+use Rattle.etcs_sequence.proofs.RoundTrips.{first_in}
+use Rattle.etcs_telegram.specs.declared.size.Size.{Size}
+use Rattle.etcs_telegram.specs.Readers.{ReaderValue}
+use Rattle.etcs_telegram.specs.Telegrams.{ReadsAs, TelegramLanguage, IsTelegram, telegram_value}
+use Rattle.etcs_telegram.proofs.RoundTrips.{written_back, container_small}
 use Rattle.etcs_telegram.proofs.laws.read_back.Goals as goal
 
 pub write_over-requires : goal.write_over-requires
-write_over-requires c = omega (arith, container_small c.in-Ok.telegram.size, c.told-out)
+write_over-requires c = omega (arith, container_small c.in-Some.telegram.size, c.told-out)
 
-pub returns-in-Ok-clause-some : goal.returns-in-Ok-clause-some
-returns-in-Ok-clause-some c =
-    let f = fed_first c.args.size c.new-reader.result (bits c.args.bytes.now) c.feed.result c.feed.new.self.progress c.new-reader.ensures c.feed.ensures.answer in
-    front_read (ReadsAs c.args.size) telegram_value IsTelegram 50 c.args.bytes.now c.in-Ok-Done.taken c.feed.new.self.progress (rw (c.in-Ok-Done.is, c.in-Ok-Done.field-0-is) at f)
+pub returns-in-Some-clause-some : goal.returns-in-Some-clause-some
+returns-in-Some-clause-some c =
+    let same = ap (λ (v : ReaderValue). v.size) (c.reader.view_is ∙ c.new-reader.ensures) in
+    let found = subst (λ (z : Size). IfSome c.in_ok-telegram.field-0 (λ t. IsFirst (ReadsAs z) telegram_value IsTelegram c.args.bytes.now t.0 t.1)) same c.in_ok-telegram.ensures.some in
+    let first = rw c.in-Some.is at found in
+    (first.1, first_in (ReadsAs c.args.size) telegram_value IsTelegram c.args.bytes.now c.in-Some.telegram c.in-Some.taken first)
 
-pub returns-in-Ok-clause-back : goal.returns-in-Ok-clause-back
-returns-in-Ok-clause-back c =
-    let f = fed_first c.args.size c.new-reader.result (bits c.args.bytes.now) c.feed.result c.feed.new.self.progress c.new-reader.ensures c.feed.ensures.answer in
-    written_back c.args.size c.args.bytes.now c.write_over.new.out c.in-Ok-Done.taken c.feed.new.self.progress c.in-Ok.telegram (rw (c.in-Ok-Done.is, c.in-Ok-Done.field-0-is) at f) c.in-Ok.ensures (c.write_over.auto.out ∙ c.told-out) c.write_over.ensures.writes (λ k. (c.type_inv.bytes k).fits) c.write_over.ensures.bytes
+pub returns-in-Some-clause-back : goal.returns-in-Some-clause-back
+returns-in-Some-clause-back c =
+    let same = ap (λ (v : ReaderValue). v.size) (c.reader.view_is ∙ c.new-reader.ensures) in
+    let found = subst (λ (z : Size). IfSome c.in_ok-telegram.field-0 (λ t. IsFirst (ReadsAs z) telegram_value IsTelegram c.args.bytes.now t.0 t.1)) same c.in_ok-telegram.ensures.some in
+    let first = rw c.in-Some.is at found in
+    written_back c.args.size c.args.bytes.now c.write_over.new.out c.in-Some.taken c.in-Some.telegram first (c.write_over.auto.out ∙ c.told-out) c.write_over.ensures.writes (λ k. (c.type_inv.bytes k).fits) c.write_over.ensures.bytes
 
-pub unreachable-requires : goal.unreachable-requires
-unreachable-requires c =
-    let f = fed_first c.args.size c.new-reader.result (bits c.args.bytes.now) c.feed.result c.feed.new.self.progress c.new-reader.ensures c.feed.ensures.answer in
-    let (t, at, tel, le, read) = rw (c.in-Ok-Done.is, c.in-Ok-Done.field-0-is) at f in
-    c.in-Err.ensures.1 t at
-
-pub returns-in-Ok-More-clause-none : goal.returns-in-Ok-More-clause-none
-returns-in-Ok-More-clause-none c =
-    let f = fed_first c.args.size c.new-reader.result (bits c.args.bytes.now) c.feed.result c.feed.new.self.progress c.new-reader.ensures c.feed.ensures.answer in
-    (rw (c.in-Ok-More.is, c.in-Ok-More.field-0-is) at f).1.0
-
-pub returns-in-Err-Refused-clause-none : goal.returns-in-Err-Refused-clause-none
-returns-in-Err-Refused-clause-none c =
-    let f = fed_first c.args.size c.new-reader.result (bits c.args.bytes.now) c.feed.result c.feed.new.self.progress c.new-reader.ensures c.feed.ensures.answer in
-    (rw (c.in-Err-Refused.is, c.in-Err-Refused.field-0-is) at f).1.0.0
-
-pub unreachable-requires-in-Err-Ended : goal.unreachable-requires-in-Err-Ended
-unreachable-requires-in-Err-Ended c =
-    let f = fed_first c.args.size c.new-reader.result (bits c.args.bytes.now) c.feed.result c.feed.new.self.progress c.new-reader.ensures c.feed.ensures.answer in
-    rw (c.in-Err-Ended.is, c.in-Err-Ended.field-0-is) at f
+pub returns-in-None-clause-none : goal.returns-in-None-clause-none
+returns-in-None-clause-none c =
+    let same = ap (λ (v : ReaderValue). v.size) (c.reader.view_is ∙ c.new-reader.ensures) in
+    let none = subst (λ (z : Size). IfNone c.in_ok-telegram.field-0 (NoneYet (TelegramLanguage z) (bits c.args.bytes.now))) same c.in_ok-telegram.ensures.none in
+    rw c.in-None.is at none

@@ -1,39 +1,29 @@
-use Rattle.std.proofs.Common.{arith, ◌∙◌, sym}
-use Rattle.etcs_sequence.proofs.RoundTrips.{Answered, same_value}
-use Rattle.etcs_telegram.proofs.RoundTrips.{read_again, container_small}
+use Rattle.std.proofs.Common.{◌≡◌, take, ap, ◌∙◌, arith}
+use Rattle.std.specs.Prelude.{IfSome, IfNone}
+use Rattle.etcs_bits.specs.Bits.{bits}
+use Rattle.etcs_vars.specs.Reading.{NoneYet}
+use Rattle.etcs_sequence.specs.Firsts.{IsFirst}
+use Rattle.etcs_telegram.specs.Readers.{ReaderValue}
+use Rattle.etcs_telegram.specs.Telegrams.{ReadsAs, TelegramLanguage, IsTelegram, telegram_value}
+use Rattle.etcs_telegram.proofs.RoundTrips.{read_again, some_again, container_small}
 use Rattle.etcs_telegram.proofs.laws.round_trip.Goals as goal
-use Rattle.etcs_telegram.proofs.laws.round_trip.Goals.{After-feed}
 
-answered : (c : After-feed) → Answered c.args.telegram.now c.feed.result c.feed.new.self.progress
-answered c =
+pub unreachable-requires-in-None : goal.unreachable-requires-in-None
+unreachable-requires-in-None c =
     let t = c.args.telegram.now in
     let e = c.in-Ok.ensures.ok in
-    let len = e.0 in
-    read_again t _ c.encode_into.new.out c.in-Ok.len c.new-reader.result c.feed.result c.feed.new.self.progress c.encode_into.auto.out (omega (arith, len, container_small t.size)) c.readable.ensures.value e c.size.result c.size.ensures c.new-reader.ensures c.feed.ensures.answer
+    let wrote = e.0 in
+    let size = c.reader.inside.reader.size in
+    let same : size ≡ t.size = ap (λ (v : ReaderValue). v.size) (c.reader.view_is ∙ c.new-reader.ensures) ∙ c.size.ensures in
+    let none : IfNone c.in_ok-again.field-0 (NoneYet (TelegramLanguage size) (bits (take c.in-Ok.len c.encode_into.new.out))) = c.in_ok-again.ensures.none in
+    some_again t _ c.encode_into.new.out c.in-Ok.len size c.encode_into.auto.out (omega (arith, wrote, container_small t.size)) c.readable.ensures.value e same (rw c.in-None.is at none)
 
-pub unreachable-requires-in-Ok-More : goal.unreachable-requires-in-Ok-More
-unreachable-requires-in-Ok-More c =
-    let a = answered (goal.at.unreachable-requires-in-Ok-More c).After-feed in
-    rw (c.in-Ok-More.is, c.in-Ok-More.field-0-is) at a
-
-pub unreachable-requires-in-Err-Refused : goal.unreachable-requires-in-Err-Refused
-unreachable-requires-in-Err-Refused c =
-    let a = answered (goal.at.unreachable-requires-in-Err-Refused c).After-feed in
-    rw (c.in-Err-Refused.is, c.in-Err-Refused.field-0-is) at a
-
-pub unreachable-requires-in-Err-Ended : goal.unreachable-requires-in-Err-Ended
-unreachable-requires-in-Err-Ended c =
-    let a = answered (goal.at.unreachable-requires-in-Err-Ended c).After-feed in
-    rw (c.in-Err-Ended.is, c.in-Err-Ended.field-0-is) at a
-
-pub unreachable-requires-in-Err : goal.unreachable-requires-in-Err
-unreachable-requires-in-Err c =
-    let a = answered (goal.at.unreachable-requires-in-Err c).After-feed in
+pub returns : goal.returns
+returns c =
     let t = c.args.telegram.now in
-    c.in-Err.ensures.1 t (rw (c.in-Ok-Done.is, c.in-Ok-Done.field-0-is) at a)
-
-pub returns-in-Ok-take : goal.returns-in-Ok-take
-returns-in-Ok-take c =
-    let a = answered (goal.at.returns-in-Ok-take c).After-feed in
-    let t = c.args.telegram.now in
-    same_value c.in-Ok-take.again t (sym c.in-Ok-take.ensures ∙ (rw (c.in-Ok-Done.is, c.in-Ok-Done.field-0-is) at a))
+    let e = c.in-Ok.ensures.ok in
+    let wrote = e.0 in
+    let size = c.reader.inside.reader.size in
+    let same : size ≡ t.size = ap (λ (v : ReaderValue). v.size) (c.reader.view_is ∙ c.new-reader.ensures) ∙ c.size.ensures in
+    let first : IfSome c.in_ok-again.field-0 (λ f. IsFirst (ReadsAs size) telegram_value IsTelegram (take c.in-Ok.len c.encode_into.new.out) f.0 f.1) = c.in_ok-again.ensures.some in
+    read_again t _ c.encode_into.new.out c.in-Ok.len size c.encode_into.auto.out (omega (arith, wrote, container_small t.size)) c.readable.ensures.value e same c.in-Some.again c.in-Some.field-0-1 (rw c.in-Some.is at first)

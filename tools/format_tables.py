@@ -86,20 +86,11 @@ def unit_of(var):
     return said or ("Q_SCALE" if is_scaled(var.var) else "")
 
 
-def flat_meanings():
-    """Returns the meanings of numbers that the table of `Flat` has, by variable."""
-    lines = re.findall(r"^/// \| (\w+) \| (.*?) \|$", sources.source("etcs_flat/src/flat.rt"), re.M)
-    return {var: text for var, text in lines if re.search(r"\(\d\)", text)}
-
-
 def meaning_of(var):
-    """Returns what a variable means: its comment without its unit, that of `Flat` where only that one says its numbers, its
-    special texts."""
+    """Returns what a variable means: its comment without its unit, and its special texts."""
     text = var.text.removesuffix(".")
     for words in UNITS:
         text = text.replace(f", {words}", "")
-    if not re.search(r"\b\d\b", text.replace("5 km/h", "")) and var.var in flat_meanings():
-        text = flat_meanings()[var.var]
     text = text[0].upper() + text[1:]
     return text + "".join(f"; {n} is {it}" for n, it in var.special)
 

@@ -24,30 +24,10 @@ use std::alloc::{AllocError, Global};
 use std::marker::Model;
 
 /// A packet to the train whose row has no groups (SUBSET-026, 7.4.2). Two of them are equal where they have the
-/// same direction and the same numbers. A `NID` that isn't in the table has no packets.
+/// same direction and the same numbers. A `NID` that isn't typed, or whose row has groups, has no packets.
 ///
-/// Its numbers are those after L_PACKET, in this order:
-///
-/// | NID | packet | numbers |
-/// |---|---|---|
-/// | 2 | order of the system's version | M_VERSION |
-/// | 16 | repositioning | Q_SCALE, L_SECTION |
-/// | 42 | session management | Q_RBC, NID_C, NID_RBC, NID_RADIO, Q_SLEEPSESSION |
-/// | 45 | registration with a radio network | NID_MN |
-/// | 57 | when the train asks for an authority | T_MAR, T_TIMEOUTRQST, T_CYCRQST |
-/// | 64 | revocable restrictions from balises are inhibited | none |
-/// | 65 | temporary speed restriction | Q_SCALE, NID_TSR, D_TSR, L_TSR, Q_FRONT, V_TSR |
-/// | 66 | revocation of a temporary speed restriction | NID_TSR |
-/// | 131 | handing over to another radio block centre | Q_SCALE, D_RBCTR, NID_C, NID_RBC, NID_RADIO, Q_SLEEPSESSION |
-/// | 132 | danger for shunting | Q_ASPECT |
-/// | 135 | stop of shunting where the desk is opened | none |
-/// | 137 | stop in staff responsible mode | Q_SRSTOP |
-/// | 140 | running number of the train | NID_OPERATIONAL |
-/// | 141 | default gradient in temporary speed restrictions | Q_GDIR, G_TSR |
-/// | 145 | the reaction to inconsistent balise groups is inhibited | none |
-/// | 254 | default information of a balise | none |
-///
-/// [`Var`] says what each variable means, and in which unit.
+/// Its numbers are those of its row, which comes after L_PACKET: of each variable one, in the order of the row.
+/// docs/FORMAT.md has the rows of all packets. [`Var`] says what each variable means, and in which unit.
 #[derive(Clone, Debug, Drop, PartialEq, Eq)]
 pub struct Flat<const NID: u8> {
     dir: u8,
@@ -69,15 +49,15 @@ impl<const NID: u8> Model for Flat<NID> {
 }
 
 impl<const NID: u8> Flat<NID> {
-    /// A packet of this Q_DIR (0 reverse, 1 nominal, 2 both directions) and of the numbers in the table of [`Flat`].
+    /// A packet of this Q_DIR (0 reverse, 1 nominal, 2 both directions) and of the numbers of its row, in order.
     /// Takes no memory.
     ///
     /// # Errors
     ///
     /// The first of these that holds:
     ///
-    /// - `NotAdmitted(NID_PACKET)`: `NID` isn't in the table.
-    /// - `Count`: there are more or fewer numbers than the table has for it.
+    /// - `NotAdmitted(NID_PACKET)`: `NID` isn't typed, or its row has groups.
+    /// - `Count`: there are more or fewer numbers than variables in the row.
     /// - `NotAdmitted(Q_DIR)`: the direction is above 2.
     /// - `NotAdmitted` with the first variable, in order, that doesn't admit its number: it is spare, or too large
     ///   for the variable's width.
@@ -93,7 +73,7 @@ impl<const NID: u8> Flat<NID> {
         })
     }
 
-    /// Its numbers, in the order of the table of [`Flat`].
+    /// Its numbers, in the order of its row.
     pub fn numbers(&self) -> &[u64]
         ensures { result.now ≡ self.now.numbers }
     {

@@ -1,20 +1,20 @@
 -- `==` of parts is equality of their values.
-use Rattle.std.proofs.Common.{rules, ◌≡◌, ◌&&◌, ℕ, Decides, nat_eq, refl}
+use Rattle.std.proofs.Common.{◌≡◌, ◌&&◌, ℕ, Decides, nat_eq, refl}
 use Rattle.etcs_bodies.specs.Equality.{IsExact}
 use Rattle.etcs_bodies.specs.laws.Equality.{number_exact, flag_exact, option_exact, list_exact, fields_exact, both_exact}
-use Rattle.etcs_parts.specs.Links.{LinkValue}
-use Rattle.etcs_parts.specs.Slopes.{SlopeValue}
-use Rattle.etcs_parts.specs.Levels.{LevelValue, LevelAckValue}
-use Rattle.etcs_parts.specs.Sections.{SectionValue}
+use Rattle.etcs_parts.specs.Links.{LinkValue, balise_of, link_of}
+use Rattle.etcs_parts.specs.Slopes.{SlopeValue, slope_of}
+use Rattle.etcs_parts.specs.Levels.{LevelValue, level_of, LevelAckValue, level_ack_of}
+use Rattle.etcs_parts.specs.Sections.{SectionValue, section_of}
 use Rattle.etcs_parts.specs.Authorities.{AuthorityValue, authority_value, Overlap}
-use Rattle.etcs_parts.specs.Differings.{DifferingValue}
+use Rattle.etcs_parts.specs.Differings.{DifferingValue, differing_value}
 use Rattle.etcs_parts.specs.Speeds.{SpeedValue, speed_value}
-use Rattle.etcs_parts.specs.Displays.{ShownValue}
+use Rattle.etcs_parts.specs.Displays.{ShownValue, shown_of}
 use Rattle.etcs_parts.specs.TextFrames.{TextFrameValue, text_frame_value, Report}
-use Rattle.etcs_parts.specs.BalisesAt.{BaliseAtValue}
-use Rattle.etcs_parts.specs.ReportsAt.{ReportAtValue}
-use Rattle.etcs_parts.specs.Conditions.{ConditionValue}
-use Rattle.etcs_parts.specs.ModeSections.{ModeSectionValue}
+use Rattle.etcs_parts.specs.BalisesAt.{BaliseAtValue, balise_at_of}
+use Rattle.etcs_parts.specs.ReportsAt.{ReportAtValue, report_at_of}
+use Rattle.etcs_parts.specs.Conditions.{ConditionValue, condition_of}
+use Rattle.etcs_parts.specs.ModeSections.{ModeSectionValue, mode_section_of}
 use Rattle.etcs_parts.specs.contracts.authority.AuthorityPartialEq.TheImpl as authority
 use Rattle.etcs_parts.specs.contracts.differing.DifferingPartialEq.TheImpl as differing
 use Rattle.etcs_parts.specs.contracts.level.LevelPartialEq.TheImpl as level
@@ -32,41 +32,51 @@ use Rattle.etcs_parts.specs.contracts.mode_section.ModeSectionPartialEq.TheImpl 
 
 -- ---- Of the parts.
 
-pub link_exact : (a b : LinkValue) → Decides (link.ghosts.eq a b) (a ≡ b)
-link_exact a b = search rules
-
-pub slope_exact : (a b : SlopeValue) → Decides (slope.ghosts.eq a b) (a ≡ b)
-slope_exact a b = search rules
-
-pub level_exact : (a b : LevelValue) → Decides (level.ghosts.eq a b) (a ≡ b)
-level_exact a b = search rules
-
-pub level_ack_exact : (a b : LevelAckValue) → Decides (level_ack.ghosts.eq a b) (a ≡ b)
-level_ack_exact a b = search rules
-
-pub section_exact : (a b : SectionValue) → Decides (section.ghosts.eq a b) (a ≡ b)
-section_exact a b = search rules
-
-pub differing_exact : (a b : DifferingValue) → Decides (differing.ghosts.eq a b) (a ≡ b)
-differing_exact a b = search rules
-
-pub shown_exact : (a b : ShownValue) → Decides (shown.ghosts.eq a b) (a ≡ b)
-shown_exact a b = search rules
-
-pub balise_at_exact : (a b : BaliseAtValue) → Decides (balise_at.ghosts.eq a b) (a ≡ b)
-balise_at_exact a b = search rules
-
-pub report_at_exact : (a b : ReportAtValue) → Decides (report_at.ghosts.eq a b) (a ≡ b)
-report_at_exact a b = search rules
-
-pub condition_exact : (a b : ConditionValue) → Decides (condition.ghosts.eq a b) (a ≡ b)
-condition_exact a b = search rules
-
-pub mode_section_exact : (a b : ModeSectionValue) → Decides (mode_section.ghosts.eq a b) (a ≡ b)
-mode_section_exact a b = search rules
-
 numbers_exact : IsExact (λ (a b : ℕ × ℕ). nat_eq a.0 b.0 && nat_eq a.1 b.1)
 numbers_exact = both_exact number_exact number_exact
+
+pub balise_at_exact : (a b : BaliseAtValue) → Decides (balise_at.ghosts.eq a b) (a ≡ b)
+balise_at_exact = fields_exact (λ (p : BaliseAtValue). (p.nid_c, p.nid_bg)) balise_at_of (λ p. refl) (both_exact (option_exact number_exact) number_exact)
+
+pub link_exact : (a b : LinkValue) → Decides (link.ghosts.eq a b) (a ≡ b)
+link_exact =
+    fields_exact (λ (p : LinkValue). (p.d_link, (balise_of p, (p.q_linkorientation, (p.q_linkreaction, p.q_locacc))))) link_of (λ p. refl) (
+    both_exact number_exact (both_exact balise_at_exact (both_exact flag_exact numbers_exact)))
+
+pub slope_exact : (a b : SlopeValue) → Decides (slope.ghosts.eq a b) (a ≡ b)
+slope_exact = fields_exact (λ (p : SlopeValue). (p.d_gradient, (p.q_gdir, p.g_a))) slope_of (λ p. refl) (both_exact number_exact (both_exact flag_exact number_exact))
+
+pub level_exact : (a b : LevelValue) → Decides (level.ghosts.eq a b) (a ≡ b)
+level_exact = fields_exact (λ (p : LevelValue). (p.m_leveltr, p.nid_ntc)) level_of (λ p. refl) (both_exact number_exact (option_exact number_exact))
+
+pub level_ack_exact : (a b : LevelAckValue) → Decides (level_ack.ghosts.eq a b) (a ≡ b)
+level_ack_exact = fields_exact (λ (p : LevelAckValue). (p.l_ackleveltr, p.level)) (λ n. level_ack_of (n.1, n.0)) (λ p. refl) (both_exact number_exact level_exact)
+
+pub section_exact : (a b : SectionValue) → Decides (section.ghosts.eq a b) (a ≡ b)
+section_exact = fields_exact (λ (p : SectionValue). (p.length, p.timer)) section_of (λ p. refl) (both_exact number_exact (option_exact numbers_exact))
+
+pub differing_exact : (a b : DifferingValue) → Decides (differing.ghosts.eq a b) (a ≡ b)
+differing_exact =
+    fields_exact (λ (p : DifferingValue). (p.q_diff, (p.category, p.v_diff))) (λ n. differing_value n.0 n.1.0 n.1.1) (λ p. refl) (
+    both_exact number_exact numbers_exact)
+
+pub shown_exact : (a b : ShownValue) → Decides (shown.ghosts.eq a b) (a ≡ b)
+shown_exact =
+    fields_exact (λ (p : ShownValue). (p.m_modetextdisplay, (p.m_leveltextdisplay, p.nid_ntc))) shown_of (λ p. refl) (
+    both_exact number_exact (both_exact number_exact (option_exact number_exact)))
+
+pub report_at_exact : (a b : ReportAtValue) → Decides (report_at.ghosts.eq a b) (a ≡ b)
+report_at_exact = fields_exact (λ (p : ReportAtValue). (p.d_loc, p.q_lgtloc)) report_at_of (λ p. refl) (both_exact number_exact flag_exact)
+
+pub condition_exact : (a b : ConditionValue) → Decides (condition.ghosts.eq a b) (a ≡ b)
+condition_exact =
+    fields_exact (λ (p : ConditionValue). (p.d_trackcond, (p.l_trackcond, p.m_trackcond))) condition_of (λ p. refl) (
+    both_exact number_exact numbers_exact)
+
+pub mode_section_exact : (a b : ModeSectionValue) → Decides (mode_section.ghosts.eq a b) (a ≡ b)
+mode_section_exact =
+    fields_exact (λ (p : ModeSectionValue). (p.d_mamode, (p.m_mamode, (p.v_mamode, (p.l_mamode, (p.l_ackmamode, p.q_mamode)))))) mode_section_of (λ p. refl) (
+    both_exact number_exact (both_exact number_exact (both_exact number_exact (both_exact number_exact (both_exact number_exact flag_exact)))))
 
 overlap_exact : IsExact (λ (a b : Overlap). ((nat_eq a.0 b.0 && nat_eq a.1 b.1) && nat_eq a.2 b.2) && nat_eq a.3 b.3)
 overlap_exact =

@@ -1,5 +1,5 @@
 -- `==` of packets is equality of their values.
-use Rattle.std.proofs.Common.{rules, ◌≡◌, ◌&&◌, nat_eq, Decides, refl}
+use Rattle.std.proofs.Common.{◌≡◌, ◌&&◌, nat_eq, Decides, refl}
 use Rattle.std.specs.Cmp.Lexicographic.{pointwise}
 use Rattle.etcs_bodies.specs.Equality.{IsExact}
 use Rattle.etcs_bodies.specs.laws.Equality.{number_exact, list_exact, both_exact, fields_exact}
@@ -12,7 +12,7 @@ use Rattle.etcs_grouped.specs.LevelOrders.{LevelOrderValue, level_order_value}
 use Rattle.etcs_grouped.specs.ConditionalLevelOrders.{ConditionalLevelOrderValue, conditional_level_order_value}
 use Rattle.etcs_grouped.specs.PlainTexts.{PlainTextValue, plain_text_value}
 use Rattle.etcs_grouped.specs.FixedTexts.{FixedTextValue, fixed_text_value}
-use Rattle.etcs_grouped.specs.InfillLocations.{InfillLocationValue}
+use Rattle.etcs_grouped.specs.InfillLocations.{InfillLocationValue, body_of, infill_location_of}
 use Rattle.etcs_grouped.specs.contracts.level_order.LevelOrderPartialEq.TheImpl as level_order
 use Rattle.etcs_grouped.specs.contracts.conditional_level_order.ConditionalLevelOrderPartialEq.TheImpl as conditional_level_order
 use Rattle.etcs_grouped.specs.contracts.plain_text.PlainTextPartialEq.TheImpl as plain_text
@@ -44,7 +44,7 @@ fixed_text_exact =
     both_exact number_exact (both_exact number_exact text_frame_exact))
 
 pub infill_location_exact : (a b : InfillLocationValue) → Decides (infill_location.ghosts.eq a b) (a ≡ b)
-infill_location_exact a b = search rules
+infill_location_exact = fields_exact (λ (p : InfillLocationValue). (p.dir, body_of p)) (λ n. infill_location_of n.0 n.1) (λ p. refl) (both_exact number_exact balise_at_exact)
 
 pub level1_ma_exact : (a b : Level1MaValue) → Decides (level1_ma.ghosts.eq a b) (a ≡ b)
 level1_ma_exact =

@@ -10,7 +10,7 @@ use Rattle.etcs_vars.proofs.Outcomes.{viable_front}
 use Rattle.etcs_bits.specs.Bits.{num}
 use Rattle.etcs_text.specs.declared.entry.Kind.{Kind}
 use Rattle.etcs_text.specs.Entries.{EntryReads}
-use Rattle.etcs_stream.proofs.ItemKinds.{kind_regular}
+use Rattle.etcs_text.proofs.ItemKinds.{kind_regular}
 use Rattle.etcs_explain.specs.Accounts.{Shows, Accounts}
 use Rattle.etcs_explain.specs.declared.account.End.{End}
 use Rattle.etcs_explain.specs.declared.account.End.TheVariants as end

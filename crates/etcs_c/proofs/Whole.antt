@@ -14,7 +14,7 @@ use Rattle.etcs_messages.specs.Messages.{head_reading, typed_message, kept_messa
 use Rattle.etcs_messages.proofs.Bytes.{message_bytes}
 use Rattle.etcs_text.specs.declared.entry.Kind.{Kind}
 use Rattle.etcs_text.specs.Entries.{EntryReads, EntryValue, Spells, of_message, of_telegram}
-use Rattle.etcs_stream.proofs.ItemKinds.{kind_regular}
+use Rattle.etcs_text.proofs.ItemKinds.{kind_regular}
 use Rattle.etcs_c.specs.declared.fields.EtcsField.{EtcsField}
 use Rattle.std.specs.Prelude.{IfOk, MatchResult}
 use Rattle.etcs_text.specs.declared.entry.Entry.{Entry}

@@ -11,8 +11,7 @@ use crate::table::write_table;
 use crate::text::Text;
 use etcs_digits::{NoBytes, line_bytes};
 use etcs_json::{JsonFault, from_line};
-use etcs_stream::parts::split_line;
-use etcs_stream::{Form, RunFault};
+use etcs_runs::{Form, RunFault, split_line, without_cr};
 use etcs_text::{Kind, encoded};
 use std::alloc::{AllocError, Global};
 use std::io::{Read, Write};
@@ -223,14 +222,6 @@ fn write_title(kind: Kind, bytes: &[u8], end: End, out: &mut Text) {
 /// How many bytes the item has that these begin, as far as that is known.
 fn wanted(kind: Kind, bytes: &[u8]) -> usize {
     wanted_bytes(kind, bytes).unwrap_or(3).clamp(3, MOST_BYTES)
-}
-
-/// A line without the CR at its end.
-fn without_cr(line: &[u8]) -> &[u8] {
-    match line.split_last() {
-        Some((b'\r', line)) => line,
-        _ => line,
-    }
 }
 
 /// What is held of an input.

@@ -17,7 +17,7 @@ use Rattle.etcs_digits.specs.declared.digits.NoBytes.TheVariants.{Empty, NoDigit
 use Rattle.etcs_text.specs.declared.entry.Kind.{Kind}
 use Rattle.etcs_text.specs.Entries.{EntryValue, entry_value}
 use Rattle.etcs_text.specs.Encodings.{IsEncoded}
-use Rattle.etcs_stream.proofs.ItemKinds.{item_bits}
+use Rattle.etcs_text.proofs.ItemKinds.{item_bits}
 use Rattle.etcs_log.specs.declared.job.LogJob.{LogJob}
 use Rattle.etcs_log.specs.declared.job.LogTally.{LogTally}
 use Rattle.etcs_log.specs.Verdicts.{IsItem, IsVerdict}

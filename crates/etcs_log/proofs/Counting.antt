@@ -8,7 +8,7 @@ use Rattle.std.proofs.lemmas.List.{append-nil, append_assoc, length-append}
 use Rattle.std.proofs.lemmas.List.Elements.{All-append, All-cons, All-nil}
 use Rattle.hex.specs.Hex.{encode_upper}
 use Rattle.etcs_text.specs.declared.entry.Kind.{Kind}
-use Rattle.etcs_stream.specs.Lines.{IsLine, lines_text}
+use Rattle.etcs_runs.specs.Lines.{IsLine, lines_text}
 use Rattle.etcs_stream.proofs.Cutting.{lines_few, lines_text-append, one_line}
 use Rattle.etcs_log.specs.declared.job.LogJob.{LogJob}
 use Rattle.etcs_log.specs.declared.job.LogTally.{LogTally}

@@ -15,7 +15,7 @@ use Rattle.etcs_vars.proofs.Apart.{apart}
 use Rattle.etcs_text.specs.declared.entry.Kind.{Kind}
 use Rattle.etcs_text.specs.Entries.{EntryValue, EntryReads}
 use Rattle.etcs_stream.specs.Readers.{ReaderValue, Progress, Feeds, reading, finished, stopped}
-use Rattle.etcs_stream.proofs.ItemKinds.{kind_regular}
+use Rattle.etcs_text.proofs.ItemKinds.{kind_regular}
 use Rattle.etcs_log.specs.declared.verdict.Verdict.{Verdict}
 use Rattle.etcs_log.specs.Verdicts.{IsItem, IsVerdict}
 

@@ -5,7 +5,7 @@ use Rattle.etcs_digits.specs.Digits.{is_passed_over, line_digits}
 use Rattle.etcs_text.specs.declared.entry.Kind.{Kind}
 use Rattle.etcs_text.specs.Entries.{EntryValue}
 use Rattle.etcs_text.specs.Encodings.{IsEncoded}
-use Rattle.etcs_stream.specs.Lines.{IsLine, lines_text}
+use Rattle.etcs_runs.specs.Lines.{IsLine, lines_text}
 use Rattle.etcs_log.specs.declared.job.LogJob.{LogJob}
 use Rattle.etcs_log.specs.declared.job.LogTally.{LogTally}
 use Rattle.etcs_log.specs.Verdicts.{IsItem}

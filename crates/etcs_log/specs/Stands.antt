@@ -1,6 +1,6 @@
 -- What was said of the bytes that a log has so far.
 use Rattle.std.specs.Prelude.{◌≡◌, ℕ, ◌<◌, ◌≤◌, Bool, true, false, List, ◌++◌, length, All}
-use Rattle.etcs_stream.specs.Lines.{IsLine, lines_text}
+use Rattle.etcs_runs.specs.Lines.{IsLine, lines_text}
 use Rattle.etcs_log.specs.declared.job.LogJob.{LogJob}
 use Rattle.etcs_log.specs.declared.job.LogTally.{LogTally}
 use Rattle.etcs_log.specs.Logs.{Answer, AreAnswers, Tells, items_in, bad_in}

@@ -3,12 +3,12 @@ use Rattle.std.proofs.Common.{◌≡◌, ℕ, ◌+◌, ◌<◌, ◌≤◌, List,
 use Rattle.std.specs.Prelude.{◌⊎◌, OnOk, IfOk, IfErr}
 use Rattle.std.proofs.lemmas.List.{append-nil}
 use Rattle.etcs_bits.specs.Bits.{bits}
-use Rattle.etcs_stream.specs.declared.job.Form.{Form}
-use Rattle.etcs_stream.specs.declared.job.Form.TheVariants.{Bin}
+use Rattle.etcs_runs.specs.declared.form.Form.{Form}
+use Rattle.etcs_runs.specs.declared.form.Form.TheVariants.{Bin}
 use Rattle.etcs_text.specs.Entries.{EntryValue}
 use Rattle.etcs_stream.specs.declared.job.Job.{Job}
-use Rattle.etcs_stream.specs.declared.fault.RunFault.{RunFault}
-use Rattle.etcs_stream.specs.declared.fault.RunFault.TheVariants.{Truncated, Memory}
+use Rattle.etcs_runs.specs.declared.fault.RunFault.{RunFault}
+use Rattle.etcs_runs.specs.declared.fault.RunFault.TheVariants.{Truncated, Memory}
 use Rattle.etcs_stream.specs.Faults.{IsOfEngine}
 use Rattle.etcs_stream.specs.Told.{Told}
 use Rattle.etcs_stream.specs.Tellers.{Closes}

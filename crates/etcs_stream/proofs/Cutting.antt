@@ -7,7 +7,8 @@ use Rattle.std.proofs.lemmas.Bool.Decides.{nat_tests}
 use Rattle.std.proofs.lemmas.Grind.{flat_map-append}
 use Rattle.std.proofs.lemmas.List.{append-nil, length-take-le}
 use Rattle.std.proofs.lemmas.List.Elements.{All-nil, All-cons}
-use Rattle.etcs_stream.specs.Lines.{IsLine, bad_place, strip_cr, line_bytes, lines_text, lines_bytes, AreGood, IsHexText}
+use Rattle.etcs_runs.specs.Lines.{IsLine, strip_cr, lines_text}
+use Rattle.etcs_stream.specs.Lines.{bad_place, line_bytes, lines_bytes, AreGood, IsHexText}
 use Rattle.etcs_stream.specs.Inputs.{IsBad}
 
 pub AreGood-append : (xs ys : List (List ℕ)) → AreGood xs → AreGood ys → AreGood (xs ++ ys)

@@ -3,7 +3,7 @@ use Rattle.std.proofs.Common.{◌≡◌, ℕ, ◌+◌, ◌<◌, ◌≤◌, List,
 use Rattle.etcs_bits.specs.Bits.{bits}
 use Rattle.etcs_vars.specs.declared.feed.Fed.TheVariants.{More, Done}
 use Rattle.etcs_text.specs.Entries.{EntryReads}
-use Rattle.etcs_stream.specs.declared.fault.RunFault.{RunFault}
+use Rattle.etcs_runs.specs.declared.fault.RunFault.{RunFault}
 use Rattle.etcs_stream.specs.declared.job.Job.{Job}
 use Rattle.etcs_stream.specs.Readers.{ReaderValue, Awaits, Feeds, reading, seen_bits}
 use Rattle.etcs_stream.specs.Taking.{Advances, Halts, HaltsBy, Says, TakesFront}

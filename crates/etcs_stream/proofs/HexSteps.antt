@@ -9,14 +9,15 @@ use Rattle.std.proofs.lemmas.List.Elements.{All-append, All-nil}
 use Rattle.etcs_bits.specs.Bits.{bits}
 use Rattle.etcs_vars.specs.Reading.{Viable}
 use Rattle.etcs_text.specs.declared.entry.Kind.{Kind}
-use Rattle.etcs_stream.specs.declared.job.Form.{Form}
-use Rattle.etcs_stream.specs.declared.job.Form.TheVariants.{Hex}
+use Rattle.etcs_runs.specs.declared.form.Form.{Form}
+use Rattle.etcs_runs.specs.declared.form.Form.TheVariants.{Hex}
 use Rattle.etcs_text.specs.Entries.{EntryValue}
 use Rattle.etcs_stream.specs.declared.job.Job.{Job}
-use Rattle.etcs_stream.specs.declared.fault.RunFault.{RunFault}
-use Rattle.etcs_stream.specs.declared.fault.RunFault.TheVariants.{Truncated, BadHex, Memory}
+use Rattle.etcs_runs.specs.declared.fault.RunFault.{RunFault}
+use Rattle.etcs_runs.specs.declared.fault.RunFault.TheVariants.{Truncated, BadHex, Memory}
 use Rattle.etcs_stream.specs.Faults.{IsOfEngine}
-use Rattle.etcs_stream.specs.Lines.{IsLine, bad_place, strip_cr, line_bytes, lines_text, lines_bytes, AreGood, IsHexText}
+use Rattle.etcs_runs.specs.Lines.{IsLine, strip_cr, lines_text}
+use Rattle.etcs_stream.specs.Lines.{bad_place, line_bytes, lines_bytes, AreGood, IsHexText}
 use Rattle.etcs_stream.specs.Told.{Told}
 use Rattle.etcs_stream.specs.Tellers.{Closes}
 use Rattle.etcs_stream.specs.declared.job.Tally.{Tally}
@@ -25,7 +26,7 @@ use Rattle.etcs_stream.specs.Taking.{Advances, Halts}
 use Rattle.etcs_stream.specs.Stands.{ItemsStand, HexStands}
 use Rattle.etcs_stream.specs.Inputs.{End, ended, refused, truncated, bad_hex, bad_json, endless, BitItems, IsBad, ItemsOf, SaysFirst}
 use Rattle.etcs_stream.specs.Engines.{Ends, Stops, StopsAtEnd}
-use Rattle.etcs_stream.proofs.ItemKinds.{Language}
+use Rattle.etcs_text.proofs.ItemKinds.{Language}
 use Rattle.etcs_bits.proofs.ByteBits.{bits-append}
 use Rattle.etcs_stream.proofs.Streams.{Advances-none}
 use Rattle.etcs_stream.proofs.Tellings.{closes_items}

@@ -1,6 +1,6 @@
 pub mod HexDigits
 pub mod GoodLines
-pub mod ItemKinds
+pub mod ItemFeeds
 pub mod Tellings
 pub mod Saying
 pub mod Answering

@@ -9,13 +9,14 @@ use Rattle.etcs_bits.proofs.ByteBits.{bits-append}
 use Rattle.hex.specs.Hex.{decode_pairs}
 use Rattle.etcs_text.specs.declared.entry.Kind.{Kind}
 use Rattle.etcs_text.specs.Entries.{EntryValue}
-use Rattle.etcs_stream.specs.declared.job.Form.{Form}
-use Rattle.etcs_stream.specs.declared.job.Form.TheVariants.{Hex, Bin, Json}
+use Rattle.etcs_runs.specs.declared.form.Form.{Form}
+use Rattle.etcs_runs.specs.declared.form.Form.TheVariants.{Hex, Bin, Json}
 use Rattle.etcs_stream.specs.declared.job.Job.{Job}
-use Rattle.etcs_stream.specs.declared.fault.RunFault.{RunFault}
-use Rattle.etcs_stream.specs.declared.fault.RunFault.TheVariants.{Memory}
+use Rattle.etcs_runs.specs.declared.fault.RunFault.{RunFault}
+use Rattle.etcs_runs.specs.declared.fault.RunFault.TheVariants.{Memory}
 use Rattle.etcs_stream.specs.Faults.{IsOfEngine}
-use Rattle.etcs_stream.specs.Lines.{IsLine, lines_text, line_bytes, lines_bytes}
+use Rattle.etcs_runs.specs.Lines.{IsLine, lines_text}
+use Rattle.etcs_stream.specs.Lines.{line_bytes, lines_bytes}
 use Rattle.etcs_stream.specs.JsonItems.{AreItemLines, JsonFront, FirstJson}
 use Rattle.etcs_stream.specs.Inputs.{ItemsOf, SaysFirst, FirstItems, WholeItems}
 use Rattle.etcs_stream.specs.Engines.{Tells, Stops, Prints}

@@ -15,15 +15,14 @@ use Rattle.etcs_tables.specs.declared.row.Way.{Way}
 use Rattle.etcs_messages.specs.Messages.{MessageValue, MessageReads}
 use Rattle.etcs_messages.proofs.Spelling as messages
 use Rattle.etcs_text.specs.declared.entry.Kind.{Kind}
-use Rattle.etcs_json.proofs.OneItems.{kind_same, way_same, telegram_message}
 use Rattle.etcs_json.proofs.OneStored.{one_refusal}
-use Rattle.etcs_stream.specs.declared.job.Form.{Form}
-use Rattle.etcs_stream.specs.declared.job.Form.TheVariants.{Hex, Bin, Json}
+use Rattle.etcs_runs.specs.declared.form.Form.{Form}
+use Rattle.etcs_runs.specs.declared.form.Form.TheVariants.{Hex, Bin, Json}
 use Rattle.etcs_text.specs.Entries.{EntryValue, of_telegram, of_message, EntryReads}
 use Rattle.etcs_stream.specs.Inputs.{End, ended, refused, truncated, bad_hex, bad_json, endless, EndsWith, BitItems, BadItems, SaysSoFar, WholeBytes, FirstBytes}
 use Rattle.etcs_stream.specs.Streams.{AreSpelled}
 use Rattle.etcs_stream.specs.OneRuns.{OneEnd, OneWhole, OneFront}
-use Rattle.etcs_stream.proofs.ItemKinds.{Language, kind_regular}
+use Rattle.etcs_text.proofs.ItemKinds.{Language, kind_same, way_same, telegram_message, kind_regular}
 use Rattle.etcs_stream.proofs.Streams.{nothing_is_spelled}
 use Rattle.etcs_stream.proofs.Printing.{bad_items}
 use Rattle.etcs_stream.proofs.OneLines.{one_hex, one_bad, hex_or_bad, one_so_far, front_hex, front_bad}

@@ -7,7 +7,7 @@ use Rattle.etcs_vars.specs.declared.var.Var.{Var}
 use Rattle.etcs_text.specs.declared.entry.Kind.{Kind}
 use Rattle.etcs_text.specs.Entries.{EntryValue}
 use Rattle.etcs_json.proofs.OneStored.{line_said, line_refused, line_not_both}
-use Rattle.etcs_stream.specs.Lines.{IsLine, strip_cr, lines_text}
+use Rattle.etcs_runs.specs.Lines.{IsLine, strip_cr, lines_text}
 use Rattle.etcs_stream.specs.JsonItems.{IsItemLine, IsRefusedLine, AreItemLines, JsonFront, BeginsWith, WholeJson, EndedJson, FirstJson, FurtherLine}
 use Rattle.etcs_stream.specs.Inputs.{End, ended, refused, truncated, bad_hex, bad_json, endless, JsonItems}
 use Rattle.etcs_stream.proofs.OneLines.{Longer, fronts, first_of, cut_lf, has_lf}

@@ -6,9 +6,10 @@ use Rattle.std.proofs.lemmas.Bool.{cases_lt, eqb-true}
 use Rattle.std.proofs.lemmas.List.{get_or-take, get_or_default, length-take-le, append-nil}
 use Rattle.std.proofs.lemmas.List.Elements.{All-nil, All-cons, All-head, All-tail}
 use Rattle.hex.specs.Hex.{is_hex_digit}
-use Rattle.etcs_stream.specs.Lines.{IsLine, bad_place, strip_cr, line_bytes, lines_text, lines_bytes, AreGood, IsHexText}
+use Rattle.etcs_runs.specs.Lines.{IsLine, strip_cr, lines_text}
+use Rattle.etcs_stream.specs.Lines.{bad_place, line_bytes, lines_bytes, AreGood, IsHexText}
 use Rattle.etcs_stream.specs.Inputs.{IsBad, SaysSoFar, SaysFirst}
-use Rattle.etcs_stream.specs.declared.job.Form.TheVariants.{Hex}
+use Rattle.etcs_runs.specs.declared.form.Form.TheVariants.{Hex}
 use Rattle.etcs_stream.proofs.HexDigits.{good_digits}
 use Rattle.etcs_stream.proofs.Cutting.{lines_bytes-append}
 

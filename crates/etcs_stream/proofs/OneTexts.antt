@@ -12,7 +12,7 @@ use Rattle.etcs_text.specs.Encodings.{IsEncoded}
 use Rattle.etcs_text.specs.Entries.{EntryValue, of_telegram, of_message, Spells}
 use Rattle.etcs_stream.specs.declared.job.Command.{Command}
 use Rattle.etcs_stream.specs.declared.job.Command.TheVariants.{Show, Check, Convert, Group}
-use Rattle.etcs_stream.specs.declared.job.Form.TheVariants.{Hex, Bin, Json}
+use Rattle.etcs_runs.specs.declared.form.Form.TheVariants.{Hex, Bin, Json}
 use Rattle.etcs_stream.specs.OneRuns.{OneText}
 use Rattle.etcs_stream.specs.Told.{Told}
 use Rattle.etcs_stream.specs.Tellers.{TellsItem, TellsItems, nothing_told}

@@ -4,18 +4,18 @@ use Rattle.std.specs.Prelude.{◌⊎◌, IfErr, IfOk, OnOk}
 use Rattle.std.proofs.lemmas.List.{append-nil}
 use Rattle.etcs_bits.specs.Bits.{bits}
 use Rattle.etcs_text.specs.declared.entry.Kind.{Kind}
-use Rattle.etcs_stream.specs.declared.job.Form.{Form}
-use Rattle.etcs_stream.specs.declared.job.Form.TheVariants.{Hex, Bin, Json}
+use Rattle.etcs_runs.specs.declared.form.Form.{Form}
+use Rattle.etcs_runs.specs.declared.form.Form.TheVariants.{Hex, Bin, Json}
 use Rattle.etcs_text.specs.Entries.{EntryValue}
 use Rattle.etcs_stream.specs.declared.job.Job.{Job}
 use Rattle.etcs_stream.specs.declared.job.Tally.{Tally}
-use Rattle.etcs_stream.specs.declared.fault.RunFault.{RunFault}
+use Rattle.etcs_runs.specs.declared.fault.RunFault.{RunFault}
 use Rattle.etcs_stream.specs.Faults.{IsOfEngine}
 use Rattle.etcs_stream.specs.Inputs.{End, ended, refused, truncated, bad_hex, bad_json, endless, IsBad, BitItems, BadItems, ItemsOf, JsonItems, SaysSoFar, SaysFirst, WholeBytes, WholeItems, FirstBytes, FirstItems}
 use Rattle.etcs_stream.specs.JsonItems.{AreItemLines, FirstJson}
 use Rattle.etcs_stream.proofs.Standing.{first_bytes}
 use Rattle.etcs_stream.proofs.TellLengths.{AreRead, are_read}
-use Rattle.etcs_stream.specs.Lines.{strip_cr}
+use Rattle.etcs_runs.specs.Lines.{strip_cr}
 use Rattle.etcs_stream.specs.Engines.{Tells, Ends, EndsWhole, Stops, StopsAtEnd, Prints}
 
 -- the items of these bytes are the first of an input that says them first

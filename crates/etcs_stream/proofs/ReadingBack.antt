@@ -26,10 +26,11 @@ use Rattle.etcs_messages.specs.Messages.{typed_message, kept_message}
 use Rattle.etcs_json.proofs.OwnStored.{says_itself}
 use Rattle.etcs_json.proofs.PlainTrees.{read_tree, tree_without, utf8_tree}
 use Rattle.etcs_stream.specs.declared.job.Command.TheVariants.{Convert}
-use Rattle.etcs_stream.specs.declared.job.Form.TheVariants.{Hex, Bin, Json}
+use Rattle.etcs_runs.specs.declared.form.Form.TheVariants.{Hex, Bin, Json}
 use Rattle.etcs_stream.specs.Inputs.{BitItems, ended}
 use Rattle.etcs_stream.specs.JsonItems.{AreItemLines, EndedJson, IsItemLine}
-use Rattle.etcs_stream.specs.Lines.{AreGood, IsHexText, IsLine, bad_place, line_bytes, lines_bytes, lines_text, strip_cr}
+use Rattle.etcs_runs.specs.Lines.{IsLine, lines_text, strip_cr}
+use Rattle.etcs_stream.specs.Lines.{AreGood, IsHexText, bad_place, line_bytes, lines_bytes}
 use Rattle.etcs_stream.specs.ReadBacks.{ReadBack}
 use Rattle.etcs_stream.specs.Streams.{AreSpelled}
 use Rattle.etcs_stream.specs.Tellers.{TellsItems, nothing_told}

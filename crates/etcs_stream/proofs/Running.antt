@@ -4,8 +4,8 @@ use Rattle.std.specs.Prelude.{◌⊎◌, IfErr, IfOk, OnOk}
 use Rattle.std.proofs.lemmas.List.{append-nil, length-take-le}
 use Rattle.std.specs.Io.KnownBytes.{Appends, Consumes, IsAtEnd, Keeps}
 use Rattle.etcs_stream.specs.Ends.{FlushedOnlyWhere}
-use Rattle.etcs_stream.specs.declared.fault.RunFault.{RunFault}
-use Rattle.etcs_stream.specs.declared.fault.RunFault.TheVariants.{Read, Write, Endless}
+use Rattle.etcs_runs.specs.declared.fault.RunFault.{RunFault}
+use Rattle.etcs_runs.specs.declared.fault.RunFault.TheVariants.{Read, Write, Endless}
 use Rattle.etcs_stream.specs.declared.job.Job.{Job}
 use Rattle.etcs_stream.specs.declared.job.Tally.{Tally}
 use Rattle.etcs_stream.specs.Faults.{IsOfEngine}

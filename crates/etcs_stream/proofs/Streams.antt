@@ -17,11 +17,11 @@ use Rattle.etcs_stream.specs.declared.job.Command.{Command}
 use Rattle.etcs_text.specs.Entries.{EntryValue, EntryReads}
 use Rattle.etcs_stream.specs.Told.{Told}
 use Rattle.etcs_stream.specs.Tellers.{TellsItem}
-use Rattle.etcs_stream.specs.declared.fault.RunFault.{RunFault}
+use Rattle.etcs_runs.specs.declared.fault.RunFault.{RunFault}
 use Rattle.etcs_stream.specs.Readers.{ReaderValue, Progress, Feeds, Awaits, seen_bits, reading}
 use Rattle.etcs_stream.specs.Streams.{AreSpelled}
 use Rattle.etcs_stream.specs.Taking.{Advances, Halts, HaltsBy}
-use Rattle.etcs_stream.proofs.ItemKinds.{Language, item_bits, some_item}
+use Rattle.etcs_text.proofs.ItemKinds.{Language, item_bits, some_item}
 use Rattle.etcs_stream.proofs.Tellings.{tells_append, tells_count, tells_one}
 
 -- the bits of the first k bytes

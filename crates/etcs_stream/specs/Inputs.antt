@@ -5,10 +5,11 @@ use Rattle.etcs_vars.specs.declared.var.Var.{Var}
 use Rattle.etcs_vars.specs.Reading as reading
 use Rattle.etcs_vars.specs.Reading.{IsOutcome, NoneYet, readings_of}
 use Rattle.etcs_text.specs.declared.entry.Kind.{Kind}
-use Rattle.etcs_stream.specs.declared.job.Form.{Form}
-use Rattle.etcs_stream.specs.declared.job.Form.TheVariants.{Hex, Bin, Json}
+use Rattle.etcs_runs.specs.declared.form.Form.{Form}
+use Rattle.etcs_runs.specs.declared.form.Form.TheVariants.{Hex, Bin, Json}
 use Rattle.etcs_text.specs.Entries.{EntryValue, EntryReads}
-use Rattle.etcs_stream.specs.Lines.{IsLine, bad_place, strip_cr, lines_text, lines_bytes, AreGood, IsHexText}
+use Rattle.etcs_runs.specs.Lines.{IsLine, strip_cr, lines_text}
+use Rattle.etcs_stream.specs.Lines.{bad_place, lines_bytes, AreGood, IsHexText}
 use Rattle.etcs_stream.specs.JsonItems.{EndedJson, BadJsonLine, RefusedJsonLine, EndlessJson, WholeJson, FirstJson}
 use Rattle.etcs_stream.specs.Streams.{AreSpelled}
 

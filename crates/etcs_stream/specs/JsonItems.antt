@@ -4,7 +4,7 @@ use Rattle.etcs_vars.specs.declared.var.Var.{Var}
 use Rattle.etcs_text.specs.declared.entry.Kind.{Kind}
 use Rattle.etcs_text.specs.Entries.{EntryValue}
 use Rattle.etcs_json.specs.JsonLines.{SaysItem, SaysRefused}
-use Rattle.etcs_stream.specs.Lines.{IsLine, strip_cr, lines_text}
+use Rattle.etcs_runs.specs.Lines.{IsLine, strip_cr, lines_text}
 
 -- the line is the JSON of an item of the kind, and isn't too long
 abbrev pub IsItemLine : Kind → List ℕ → EntryValue → Type 0

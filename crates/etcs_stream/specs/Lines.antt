@@ -1,15 +1,11 @@
--- Lines, and the bytes that those of hexadecimal digits say.
-use Rattle.std.specs.Prelude.{◌≡◌, ℕ, ◌%◌, List, [], ◌∷◌, ◌++◌, length, Option, Some, None, nat_lt, not, ◌==◌, if◌then◌else◌, flat_map, All}
+-- How long lines are, and the bytes that those of hexadecimal digits say.
+use Rattle.std.specs.Prelude.{◌≡◌, ℕ, ◌%◌, List, [], ◌∷◌, ◌++◌, length, Option, Some, None, nat_lt, not, ◌==◌, if◌then◌else◌, flat_map}
 use Rattle.std.specs.List.{position}
-use Rattle.std.specs.Io.BufRead.{strip_last}
 use Rattle.std.specs.Result.{result_unwrap_or}
-use Rattle.etcs_stream.specs.declared.job.Form.{Form}
-use Rattle.etcs_stream.specs.declared.job.Form.TheVariants.{Hex, Bin, Json}
+use Rattle.etcs_runs.specs.declared.form.Form.{Form}
+use Rattle.etcs_runs.specs.declared.form.Form.TheVariants.{Hex, Bin, Json}
+use Rattle.etcs_runs.specs.Lines.{strip_cr, lines_text}
 use Rattle.hex.specs.Hex.{is_hex_digit, decode_of}
-
--- no LF
-abbrev pub IsLine : List ℕ → Type 0
-IsLine line = All (λ c. c ≡ 10 → ⊥) line
 
 -- how many characters a line of an input has at most
 abbrev pub most_characters : Form → ℕ
@@ -24,17 +20,9 @@ bad_place line =
     else if length line % 2 == 1 then Some (length line)
     else position (λ c. not (is_hex_digit c)) line
 
--- the characters of a line that ends with a LF: one CR just before it is dropped
-abbrev pub strip_cr : List ℕ → List ℕ
-strip_cr line = strip_last 13 line
-
 -- the bytes that a good line says
 abbrev pub line_bytes : List ℕ → List ℕ
 line_bytes line = result_unwrap_or (decode_of line) []
-
--- each line with its LF
-abbrev pub lines_text : List (List ℕ) → List ℕ
-lines_text lines = flat_map (λ line. line ++ 10 ∷ []) lines
 
 -- what lines with a LF say
 abbrev pub lines_bytes : List (List ℕ) → List ℕ

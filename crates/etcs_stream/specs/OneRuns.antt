@@ -4,7 +4,7 @@ use Rattle.etcs_telegram.specs.Telegrams.{TelegramContent}
 use Rattle.etcs_group.specs.Groups.{IsGroup}
 use Rattle.etcs_text.specs.declared.entry.Kind.{Kind}
 use Rattle.etcs_stream.specs.declared.job.Command.{Command}
-use Rattle.etcs_stream.specs.declared.job.Form.{Form}
+use Rattle.etcs_runs.specs.declared.form.Form.{Form}
 use Rattle.etcs_text.specs.Entries.{EntryValue}
 use Rattle.etcs_stream.specs.Groups.{LastLines}
 use Rattle.etcs_stream.specs.Tellers.{ItemsText}

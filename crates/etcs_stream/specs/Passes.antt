@@ -1,8 +1,8 @@
 -- What became of a piece.
 use Rattle.std.specs.Prelude.{◌≡◌, ℕ, ◌+◌, ◌≤◌, List, ◌++◌, length, take, Option}
 use Rattle.std.specs.Io.KnownBytes.{Appends}
-use Rattle.etcs_stream.specs.declared.fault.RunFault.{RunFault}
-use Rattle.etcs_stream.specs.declared.fault.RunFault.TheVariants.{Write}
+use Rattle.etcs_runs.specs.declared.fault.RunFault.{RunFault}
+use Rattle.etcs_runs.specs.declared.fault.RunFault.TheVariants.{Write}
 use Rattle.etcs_stream.specs.Faults.{IsOfEngine}
 
 -- after the text written the sink took this one; the fault is the engine's

@@ -3,7 +3,7 @@ use Rattle.std.specs.Prelude.{ℕ, ◌≤◌, Bool, List, length}
 use Rattle.etcs_text.specs.declared.entry.Kind.{Kind}
 use Rattle.etcs_text.specs.Entries.{EntryValue}
 use Rattle.etcs_stream.specs.declared.job.Command.TheVariants.{Convert}
-use Rattle.etcs_stream.specs.declared.job.Form.{Form}
+use Rattle.etcs_runs.specs.declared.form.Form.{Form}
 use Rattle.etcs_stream.specs.Inputs.{ItemsOf, ended}
 use Rattle.etcs_stream.specs.Streams.{AreSpelled}
 use Rattle.etcs_stream.specs.Tellers.{ItemsText}

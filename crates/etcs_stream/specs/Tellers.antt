@@ -8,7 +8,7 @@ use Rattle.etcs_text.specs.declared.entry.Kind.TheVariants.{Long, Short, Radio, 
 use Rattle.etcs_text.specs.Encodings.{IsEncoded, check_line}
 use Rattle.etcs_text.specs.Trees.{json_tree}
 use Rattle.etcs_text.specs.Entries.{EntryValue, of_telegram, of_message, entry_text}
-use Rattle.etcs_stream.specs.declared.job.Form.TheVariants.{Hex, Bin, Json}
+use Rattle.etcs_runs.specs.declared.form.Form.TheVariants.{Hex, Bin, Json}
 use Rattle.etcs_stream.specs.declared.job.Command.{Command}
 use Rattle.etcs_stream.specs.declared.job.Command.TheVariants.{Show, Check, Convert, Group}
 use Rattle.etcs_stream.specs.declared.job.Job.{Job}

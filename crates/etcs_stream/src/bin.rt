@@ -1,7 +1,7 @@
 //! The engine of bytes that are the items themselves.
 
 ghost use Rattle.std.specs.Prelude.{◌≡◌, []};
-ghost use Rattle.etcs_stream.specs.declared.job.Form.TheVariants as form;
+ghost use Rattle.etcs_runs.specs.declared.form.Form.TheVariants as form;
 ghost use Rattle.etcs_stream.specs.Stands.{BinStands};
 ghost use Rattle.etcs_stream.specs.Taking.{Says};
 ghost use Rattle.etcs_stream.specs.laws.StandLaws.{bin_tells};
@@ -9,8 +9,8 @@ ghost use Rattle.etcs_stream.specs.Tellers.{IsGroupable, nothing_told};
 
 use crate::byte_items::ByteItems;
 use crate::engine::Engine;
-use crate::fault::RunFault;
 use crate::job::{Job, Tally};
+use etcs_runs::RunFault;
 use std::alloc::Global;
 
 /// Reports the items of bytes.

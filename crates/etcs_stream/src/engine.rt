@@ -4,8 +4,8 @@ ghost use Rattle.std.specs.Prelude.{◌≡◌, ◌<◌, ◌≤◌, ◌+◌, ◌^
 ghost use Rattle.etcs_stream.specs.Faults.{IsOfEngine};
 ghost use Rattle.etcs_stream.specs.Engines.{Tells, Ends, Stops, StopsAtEnd};
 
-use crate::fault::RunFault;
 use crate::job::{Job, Tally};
+use etcs_runs::RunFault;
 
 /// How many bytes a read asks for at most.
 pub(crate) const MOST_READ: usize = 4096;

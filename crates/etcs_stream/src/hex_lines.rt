@@ -1,8 +1,8 @@
 //! Lines of hexadecimal.
 
 ghost use Rattle.std.specs.Prelude.{◌≡◌, ◌≤◌, ◌⊎◌, ℕ, [], None, Some, IfErr, OnErr, OnOk};
-ghost use Rattle.etcs_stream.specs.declared.fault.RunFault.{RunFault};
-ghost use Rattle.etcs_stream.specs.declared.job.Form.TheVariants as form;
+ghost use Rattle.etcs_runs.specs.declared.fault.RunFault.{RunFault};
+ghost use Rattle.etcs_runs.specs.declared.form.Form.TheVariants as form;
 ghost use Rattle.etcs_stream.specs.Lines.{bad_place, line_bytes};
 ghost use Rattle.etcs_stream.specs.Readers.{Awaits, HasRoom, seen_bits};
 ghost use Rattle.etcs_stream.specs.laws.StandLaws.{hex_said, hex_tells};
@@ -12,9 +12,9 @@ ghost use Rattle.etcs_stream.specs.Tellers.{IsGroupable, nothing_told};
 
 use crate::byte_items::ByteItems;
 use crate::digits::{MOST_CHARACTERS, decode_line};
-use crate::fault::RunFault;
 use crate::job::{Job, Tally};
 use crate::lines::LineHandler;
+use etcs_runs::RunFault;
 use std::alloc::Global;
 
 /// Gives the bytes of lines of hexadecimal to the items.

@@ -3,18 +3,8 @@
 ghost use Rattle.std.specs.Prelude.{◌↔◌, IsTrue};
 ghost use Rattle.etcs_stream.specs.Tellers.{IsGroupable, IsOfTelegrams};
 
+use etcs_runs::Form;
 use etcs_text::Kind;
-
-/// The form of items.
-#[derive(Clone, Copy, Debug, PartialEq, Eq)]
-pub enum Form {
-    /// Lines of hexadecimal digits.
-    Hex,
-    /// The bytes themselves.
-    Bin,
-    /// A line of JSON each.
-    Json,
-}
 
 /// What is done with the items.
 #[derive(Clone, Copy, Debug, PartialEq, Eq)]

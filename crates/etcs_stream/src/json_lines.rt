@@ -2,8 +2,8 @@
 
 ghost use Rattle.std.specs.Prelude.{◌≡◌, ◌+◌, ◌<◌, ◌≤◌, ◌⊎◌, ◌++◌, ℕ, List, [], length, IfOk, IfErr, OnErr, OnOk};
 ghost use Rattle.etcs_text.specs.Entries.{EntryValue, entry_kind, entry_value};
-ghost use Rattle.etcs_stream.specs.declared.fault.RunFault.{RunFault};
-ghost use Rattle.etcs_stream.specs.declared.job.Form.TheVariants as form;
+ghost use Rattle.etcs_runs.specs.declared.fault.RunFault.{RunFault};
+ghost use Rattle.etcs_runs.specs.declared.form.Form.TheVariants as form;
 ghost use Rattle.etcs_stream.specs.JsonItems.{IsItemLine};
 ghost use Rattle.etcs_stream.specs.laws.StandLaws.{json_said, json_tells};
 ghost use Rattle.etcs_stream.specs.Stands.{JsonTook};
@@ -11,11 +11,11 @@ ghost use Rattle.etcs_stream.specs.Taking.{TakesJson, HaltsJson, Says};
 ghost use Rattle.etcs_stream.specs.Tellers.{IsGroupable, nothing_told};
 
 use crate::byte_items::MOST_ITEMS;
-use crate::fault::RunFault;
 use crate::job::{Job, Tally};
 use crate::lines::LineHandler;
 use crate::teller::Teller;
 use etcs_json::{JsonFault, from_line};
+use etcs_runs::RunFault;
 use etcs_text::Entry;
 use std::alloc::{AllocError, Global};
 

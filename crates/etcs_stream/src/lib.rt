@@ -19,7 +19,6 @@ mod digits;
 mod ends;
 mod engine;
 mod entries;
-mod fault;
 mod group_lines;
 mod hex_lines;
 mod job;
@@ -33,8 +32,8 @@ mod teller;
 
 pub use ends::{Failed, Input, Output, Sink, Source};
 pub use etcs_json::{JsonFault, Value, from_value, to_value};
+pub use etcs_runs::{Form, RunFault, write_fault};
 pub use etcs_text::{Entry, Kind, show_lines};
 pub use etcs_vars::Var;
-pub use fault::{RunFault, write_fault};
-pub use job::{Command, Form, Job, Tally};
+pub use job::{Command, Job, Tally};
 pub use runs::run;

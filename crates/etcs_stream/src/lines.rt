@@ -1,16 +1,16 @@
 //! Cuts text into lines.
 
-ghost use Rattle.std.specs.Prelude.{◌≡◌, ◌+◌, ◌-◌, ◌^◌, ◌<◌, ◌≤◌, ◌++◌, ◌∷◌, ℕ, List, [], length, vec_len, IfSome, IfOk, IfErr, OnErr, OnOk, IsNone};
+ghost use Rattle.std.specs.Prelude.{◌≡◌, ◌+◌, ◌-◌, ◌^◌, ◌<◌, ◌≤◌, ◌++◌, ◌∷◌, ℕ, List, [], length, vec_len, IfOk, IfErr, OnErr, OnOk};
 ghost use Rattle.etcs_stream.specs.Engines.{Ends, Stops, StopsAtEnd, Tells};
 ghost use Rattle.etcs_stream.specs.Faults.{IsOfEngine};
-ghost use Rattle.etcs_stream.specs.Lines.{IsLine, lines_text, most_characters, strip_cr};
+ghost use Rattle.etcs_runs.specs.Lines.{IsLine, lines_text, strip_cr};
+ghost use Rattle.etcs_stream.specs.Lines.{most_characters};
 ghost use Rattle.etcs_stream.specs.laws.StandLaws.{lines_tell};
 ghost use Rattle.etcs_stream.specs.Stands.{LinesStand};
 
 use crate::engine::{Engine, MOST_READ};
-use crate::fault::RunFault;
 use crate::job::{Job, Tally};
-use memchr::memchr;
+use etcs_runs::{RunFault, split_line, without_cr};
 use std::alloc::{AllocError, Global};
 
 /// Takes the lines of a text one after another, and reports the items in them.
@@ -18,7 +18,8 @@ pub(crate) trait LineHandler {
     ghost use Rattle.std.specs.Prelude.{◌≡◌, ◌+◌, ◌<◌, ℕ, List, [], ◌++◌, ◌∷◌, length};
     ghost use Rattle.etcs_stream.specs.declared.job.Job.{Job};
     ghost use Rattle.etcs_stream.specs.Engines.{Tells};
-    ghost use Rattle.etcs_stream.specs.Lines.{IsLine, lines_text, most_characters};
+    ghost use Rattle.etcs_runs.specs.Lines.{IsLine, lines_text};
+    ghost use Rattle.etcs_stream.specs.Lines.{most_characters};
 
     ghost job: { Self → Job };
 
@@ -76,27 +77,6 @@ pub(crate) struct Lines<T: LineHandler> {
     begun: Vec<u8>,
     line: u64,
     handler: T,
-}
-
-/// The characters before the first LF, and those after it.
-pub fn split_line(text: &[u8]) -> Option<(&[u8], &[u8])>
-    ensures some { IfSome result (λ p. (text.now ≡ p.0.now ++ 10 ∷ p.1.now) × IsLine p.0.now) }
-    ensures none { IsNone result → IsLine text.now }
-{
-    let at = memchr(b'\n', text)?;
-    Some((&text[..at], &text[at + 1..]))
-}
-
-/// A line without the CR at its end.
-fn without_cr(line: &[u8]) -> &[u8]
-    ensures { result.now ≡ strip_cr line.now }
-{
-    let count = line.len();
-    if count > 0 && line[count - 1] == b'\r' {
-        &line[..count - 1]
-    } else {
-        line
-    }
 }
 
 impl<T: LineHandler> Lines<T> {

@@ -4,7 +4,7 @@ ghost use Rattle.std.specs.Prelude.{◌≡◌, ◌+◌, ◌-◌, ◌%◌, ◌^�
 ghost use Rattle.std.specs.Io.{ReadsAtMost};
 ghost use Rattle.std.specs.Io.KnownBytes.{Appends, ReadConsumes};
 ghost use Rattle.etcs_stream.specs.Ends.{FlushedOnlyWhere, failed_calls};
-ghost use Rattle.etcs_stream.specs.declared.fault.RunFault.{RunFault};
+ghost use Rattle.etcs_runs.specs.declared.fault.RunFault.{RunFault};
 ghost use Rattle.etcs_stream.specs.Faults.{IsOfEngine};
 ghost use Rattle.etcs_stream.specs.Engines.{Ends, EndsWhole, Stops, StopsAtEnd, Prints};
 ghost use Rattle.etcs_stream.specs.Pipes.{Piped};
@@ -13,8 +13,8 @@ ghost use Rattle.etcs_stream.specs.Runs.{Ran};
 
 use crate::ends::{Failed, Sink, Source};
 use crate::engine::{Engine, MOST_READ};
-use crate::fault::RunFault;
 use crate::job::Tally;
+use etcs_runs::RunFault;
 use std::alloc::Global;
 
 /// How many reads a run has at most.

@@ -9,8 +9,9 @@ ghost use Rattle.etcs_stream.specs.Told.{Told};
 ghost use Rattle.etcs_stream.specs.Tellers.{Closes, IsOfTelegrams, TellsItem, nothing_told, one_more};
 
 use crate::group_lines::{answer_line, last_lines};
-use crate::job::{Command, Form, Tally};
+use crate::job::{Command, Tally};
 use etcs_group::{Added, Assembly, Clash};
+use etcs_runs::Form;
 use etcs_telegram::Telegram;
 use etcs_text::{Entry, check_line, encoded, hex_line, json_line, show_lines};
 use std::alloc::AllocError;

@@ -1,6 +1,7 @@
 pub mod Encoding
 pub mod FrameLines
 pub mod HexDigits
+pub mod ItemKinds
 pub mod JsonExamples
 pub mod MessageExamples
 pub mod MessageTexts

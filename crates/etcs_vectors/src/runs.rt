@@ -3,7 +3,7 @@
 
 ghost use Rattle.std.specs.Prelude.{◌≡◌};
 ghost use Rattle.etcs_stream.specs.declared.job.Command.TheVariants as command;
-ghost use Rattle.etcs_stream.specs.declared.job.Form.TheVariants as form;
+ghost use Rattle.etcs_runs.specs.declared.form.Form.TheVariants as form;
 
 use crate::telegrams::next_size;
 use etcs_cases::Case;

@@ -1,10 +1,11 @@
 -- What was reported of an input's front is the text of the items that are whole there.
 use Rattle.std.proofs.Common.{ℕ, ◌≤◌, List, [], ◌++◌, length, refl, sym, subst, arith}
-use Rattle.etcs_stream.specs.declared.job.Form.{Form}
-use Rattle.etcs_stream.specs.declared.job.Form.TheVariants.{Hex, Bin}
+use Rattle.etcs_runs.specs.declared.form.Form.{Form}
+use Rattle.etcs_runs.specs.declared.form.Form.TheVariants.{Hex, Bin}
 use Rattle.etcs_stream.specs.declared.job.Job.{Job}
 use Rattle.etcs_stream.specs.Inputs.{SaysSoFar, WholeBytes, WholeItems}
-use Rattle.etcs_stream.specs.Lines.{IsLine, lines_text, lines_bytes}
+use Rattle.etcs_runs.specs.Lines.{IsLine, lines_text}
+use Rattle.etcs_stream.specs.Lines.{lines_bytes}
 use Rattle.etcs_stream.specs.Told.{Told}
 use Rattle.etcs_stream.specs.Tellers.{nothing_told}
 use Rattle.etcs_stream.specs.Readers.{ReaderValue, seen_bits}

@@ -2,7 +2,7 @@ use Rattle.std.proofs.Common.{take}
 use Rattle.etcs_bits.specs.Bits.{bits}
 use Rattle.etcs_vars.specs.Reading.{readings_of}
 use Rattle.etcs_text.specs.Entries.{EntryReads}
-use Rattle.etcs_stream.proofs.ItemKinds.{kind_regular}
+use Rattle.etcs_text.proofs.ItemKinds.{kind_regular}
 use Rattle.etcs_explain.proofs.Accounting.{whole_unrefused, open_unrefused}
 use Rattle.etcs_explain.proofs.refusal.why.Goals as goal
 

@@ -10,7 +10,7 @@ use Rattle.etcs_messages.specs.Messages.{MessageLanguage}
 use Rattle.etcs_messages.proofs.Bytes.{some_message}
 use Rattle.etcs_text.specs.declared.entry.Kind.TheVariants.{Long, Short, Radio, Train}
 use Rattle.etcs_text.specs.Entries.{EntryReads}
-use Rattle.etcs_stream.proofs.ItemKinds.{same_telegrams, same_messages}
+use Rattle.etcs_text.proofs.ItemKinds.{same_telegrams, same_messages}
 use Rattle.etcs_explain.proofs.Accounting.{first_bits, of_kind}
 use Rattle.etcs_explain.proofs.account.Account.read.Goals as goal
 

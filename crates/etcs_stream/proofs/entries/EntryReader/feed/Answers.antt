@@ -10,7 +10,7 @@ use Rattle.etcs_stream.specs.declared.entries.EntryReader.TheInside.{Inside}
 use Rattle.etcs_stream.specs.declared.entries.Inner.{Inner}
 use Rattle.etcs_stream.specs.declared.entries.Inner.TheVariants.{Telegram, Message, Train}
 use Rattle.etcs_stream.specs.Readers.{ReaderValue, Feeds, telegram_item, message_item, train_item, value_of}
-use Rattle.etcs_stream.proofs.ItemKinds.{telegram_feeds, message_feeds, inner_reading}
+use Rattle.etcs_stream.proofs.ItemFeeds.{telegram_feeds, message_feeds, inner_reading}
 use Rattle.etcs_stream.proofs.entries.EntryReader.feed.Goals.{in-Telegram, in-Message, in-Train}
 use Rattle.etcs_stream.proofs.entries.EntryReader.feed.Goals as goal
 

@@ -1,5 +1,5 @@
 use Rattle.std.proofs.Common.{refl}
-use Rattle.etcs_stream.specs.declared.fault.RunFault.TheVariants.{BadHex}
+use Rattle.etcs_runs.specs.declared.fault.RunFault.TheVariants.{BadHex}
 use Rattle.etcs_stream.proofs.HexTakes.{long_stops}
 use Rattle.etcs_stream.proofs.hex_lines.HexLinesLineHandler.refuse_long.Goals as goal
 

@@ -3,7 +3,7 @@ use Rattle.std.specs.Prelude.{vec_len}
 use Rattle.std.proofs.lemmas.Result.{err_from_is_err_and}
 use Rattle.etcs_stream.specs.declared.job.Job.{Job}
 use Rattle.etcs_stream.specs.Faults.{IsOfEngine}
-use Rattle.etcs_stream.specs.Lines.{strip_cr}
+use Rattle.etcs_runs.specs.Lines.{strip_cr}
 use Rattle.etcs_stream.specs.Engines.{Stops}
 use Rattle.etcs_stream.proofs.LineSteps.{lines_fit, keeps, none_kept, line_taken, line_taken_if, line_stops, line_stops_if}
 use Rattle.etcs_stream.proofs.lines.Lines.end_line.Goals as goal

@@ -4,7 +4,7 @@ use Rattle.std.proofs.lemmas.List.{append-nil}
 use Rattle.std.proofs.lemmas.Result.{err_from_is_err_and}
 use Rattle.etcs_stream.specs.declared.job.Job.{Job}
 use Rattle.etcs_stream.specs.Faults.{IsOfEngine}
-use Rattle.etcs_stream.specs.Lines.{IsLine}
+use Rattle.etcs_runs.specs.Lines.{IsLine}
 use Rattle.etcs_stream.specs.Stands.{LinesStand}
 use Rattle.etcs_stream.specs.Engines.{Stops}
 use Rattle.etcs_stream.specs.laws.StandLaws.{lines_tell}

@@ -1,7 +1,7 @@
 use Rattle.std.proofs.Common.{◌≡◌, ℕ, List, ◌++◌, sym, ap, subst, ◌∙◌, arith}
 use Rattle.std.specs.Prelude.{IfOk, IfErr}
 use Rattle.etcs_stream.specs.Faults.{IsOfEngine}
-use Rattle.etcs_stream.specs.Lines.{IsLine, lines_text}
+use Rattle.etcs_runs.specs.Lines.{IsLine, lines_text}
 use Rattle.etcs_stream.specs.Engines.{Ends, StopsAtEnd}
 use Rattle.etcs_stream.proofs.LineSteps.{lines_fit}
 use Rattle.etcs_stream.proofs.Shortness.{finished_short}

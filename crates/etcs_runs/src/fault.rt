@@ -2,7 +2,7 @@
 
 ghost use Rattle.std.specs.Prelude.{◌≡◌, OnOk};
 ghost use Rattle.std.specs.Io.KnownBytes.{Appends};
-ghost use Rattle.etcs_stream.specs.Faults.{fault_line};
+ghost use Rattle.etcs_runs.specs.Faults.{fault_line};
 
 use etcs_vars::Var;
 use std::io::{self, Write};

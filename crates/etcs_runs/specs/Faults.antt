@@ -1,0 +1,17 @@
+-- The line of each fault.
+use Rattle.std.specs.Prelude.{ℕ, List, ◌++◌, codes}
+use Rattle.std.specs.Fmt.{decimal}
+use Rattle.etcs_vars.specs.Vars.{name}
+use Rattle.etcs_runs.specs.declared.fault.RunFault.{RunFault}
+use Rattle.etcs_runs.specs.declared.fault.RunFault.TheVariants.{Refused, Truncated, BadHex, BadJson, Read, Write, Endless, Memory}
+
+-- with its LF
+abbrev pub fault_line : RunFault → List ℕ
+fault_line (Refused item bit var) = codes "etcs: item " ++ decimal item ++ codes " refused at bit " ++ decimal bit ++ codes ", " ++ name var ++ codes "\n"
+fault_line (Truncated item bits) = codes "etcs: item " ++ decimal item ++ codes " truncated after " ++ decimal bits ++ codes " bits\n"
+fault_line (BadHex line place) = codes "etcs: line " ++ decimal line ++ codes ": bad hexadecimal at " ++ decimal place ++ codes "\n"
+fault_line (BadJson line) = codes "etcs: line " ++ decimal line ++ codes ": bad JSON\n"
+fault_line Read = codes "etcs: read fault\n"
+fault_line (Write sent) = codes "etcs: write fault after " ++ decimal sent ++ codes " bytes\n"
+fault_line Endless = codes "etcs: input without end\n"
+fault_line Memory = codes "etcs: out of memory\n"

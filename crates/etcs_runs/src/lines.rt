@@ -1,0 +1,27 @@
+//! Lines of a text.
+
+ghost use Rattle.std.specs.Prelude.{◌≡◌, ◌++◌, ◌∷◌, IfSome, IsNone};
+ghost use Rattle.etcs_runs.specs.Lines.{IsLine, strip_cr};
+
+use memchr::memchr;
+
+/// The characters before the first LF, and those after it.
+pub fn split_line(text: &[u8]) -> Option<(&[u8], &[u8])>
+    ensures some { IfSome result (λ p. (text.now ≡ p.0.now ++ 10 ∷ p.1.now) × IsLine p.0.now) }
+    ensures none { IsNone result → IsLine text.now }
+{
+    let at = memchr(b'\n', text)?;
+    Some((&text[..at], &text[at + 1..]))
+}
+
+/// A line without the CR at its end.
+pub fn without_cr(line: &[u8]) -> &[u8]
+    ensures { result.now ≡ strip_cr line.now }
+{
+    let count = line.len();
+    if count > 0 && line[count - 1] == b'\r' {
+        &line[..count - 1]
+    } else {
+        line
+    }
+}

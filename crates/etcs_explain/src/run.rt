@@ -208,14 +208,23 @@ impl<W: Write> Explainer<W> {
 /// Appends what bytes are, or where they stop being so.
 fn write_title(kind: Kind, bytes: &[u8], end: End, out: &mut Text) {
     let count = bytes.len();
-    let bits = count.saturating_mul(8);
-    match (end, kind) {
-        (End::Refused(bit, Part { var, .. }), _) => write!(out, "refused at bit {bit}, {var}"),
-        (End::Open(Part { var, .. }), _) => write!(out, "truncated after {bits} bits, in {var}"),
-        (End::Whole, Kind::Long) => out.push("telegram, long, 830 bits"),
-        (End::Whole, Kind::Short) => out.push("telegram, short, 210 bits"),
-        (End::Whole, Kind::Radio) => write!(out, "message to the train, {count} bytes"),
-        (End::Whole, Kind::Train) => write!(out, "message to the track, {count} bytes"),
+    match end {
+        End::Refused(bit, part) => write!(out, "refused at bit {bit}, {}", part.var),
+        End::Open(part) => {
+            let bits = count.saturating_mul(8);
+            write!(out, "truncated after {bits} bits, in {}", part.var)
+        }
+        End::Whole => write_whole(kind, count, out),
+    }
+}
+
+/// Appends what an item of a kind is that has this many bytes.
+fn write_whole(kind: Kind, count: usize, out: &mut Text) {
+    match kind {
+        Kind::Long => out.push("telegram, long, 830 bits"),
+        Kind::Short => out.push("telegram, short, 210 bits"),
+        Kind::Radio => write!(out, "message to the train, {count} bytes"),
+        Kind::Train => write!(out, "message to the track, {count} bytes"),
     }
 }
 

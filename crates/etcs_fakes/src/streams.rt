@@ -50,14 +50,15 @@ impl Read for Repeated<'_> {
 }
 
 /// What a writer does once it has no room.
-#[derive(Clone, Copy, Debug, PartialEq, Eq)]
+#[derive(Clone, Copy)]
 pub enum Full {
     Fails,
     IsInterrupted,
     TakesNothing,
 }
 
-/// Has room for this many bytes, of which it takes at most `step` a write.
+/// Has room for this many bytes, of which it takes at most `step` a write. It counts how often it is flushed, which fails
+/// unless it `flushes`.
 #[derive(Drop)]
 pub struct Narrow<'a> {
     pub held: &'a mut Vec<u8>,
@@ -65,6 +66,7 @@ pub struct Narrow<'a> {
     pub step: usize,
     pub full: Full,
     pub flushes: bool,
+    pub flushed: u64,
 }
 
 impl Write for Narrow<'_> {
@@ -83,6 +85,7 @@ impl Write for Narrow<'_> {
     }
 
     fn flush(&mut self) -> io::Result<()> {
+        self.flushed = self.flushed.saturating_add(1);
         if self.flushes {
             Ok(())
         } else {

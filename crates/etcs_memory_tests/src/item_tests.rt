@@ -81,23 +81,35 @@ fn marker(alloc: Global) -> Result<Vec<Packet>, Fail> {
     Ok(packets)
 }
 
+/// Checks that the packets, which are `same`, come back where FILL finds no memory in this room.
+fn check_built(
+    checks: &mut Checks,
+    alloc: Global,
+    packets: Vec<Packet>,
+    same: &[Packet],
+    room: usize,
+) {
+    let held = starve_to(alloc, room);
+    let built = built(alloc, packets);
+    checks.check(held.is_ok(), "no memory to hold");
+    drop(held);
+    checks.count(built.is_err());
+    match built.as_ref() {
+        Ok(telegram) => checks.check(telegram.fill().len() == 758, "another fill"),
+        Err((fault, packets)) => {
+            checks.check(*fault == BuildFault::Memory, "another fault");
+            checks.check(packets.as_slice() == same, "other packets back");
+        }
+    }
+}
+
 /// The packets come back where FILL finds no memory.
 #[test]
 fn built_telegrams(rt: HostRuntime) -> Result<(), Fail> {
     let (checks, alloc) = (&mut Checks::new(), rt.alloc());
+    let same = marker(alloc)?;
     for room in ROOMS {
-        let packets = marker(alloc)?;
-        let held = starve_to(alloc, room)?;
-        let built = built(alloc, packets);
-        drop(held);
-        checks.count(built.is_err());
-        match built {
-            Ok(telegram) => checks.check(telegram.fill().len() == 758, "another fill"),
-            Err((fault, packets)) => {
-                checks.check(fault == BuildFault::Memory, "another fault");
-                checks.check(packets == marker(alloc)?, "other packets back");
-            }
-        }
+        check_built(checks, alloc, marker(alloc)?, same.as_slice(), room);
     }
     checks.check_counts();
     assert_eq!(rt; checks.wrong(), None);

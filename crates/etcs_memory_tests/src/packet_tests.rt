@@ -1,20 +1,11 @@
 //! Packets where memory is refused.
 
-use etcs_bits::{BitSlice, Bits};
+use etcs_bits::BitSlice;
 use etcs_bodies::Framed;
 use etcs_fakes::{Checks, starve};
-use etcs_packets::{Flat, Other};
+use etcs_packets::Flat;
 use std::alloc::{AllocError, Global};
 use std::test::Fail;
-
-/// Packet 44 with this many kept bits.
-pub(crate) fn kept_bits(alloc: Global, len: usize) -> Result<Other, Fail> {
-    let slice = BitSlice::new(&[0x5A; 100], 0, len).ok_or("too few bytes")?;
-    match Other::new(44, 1, Bits::from_slice(alloc, slice)?) {
-        Ok(packet) => Ok(packet),
-        Err((fault, _)) => Err(fault)?,
-    }
-}
 
 /// Whether a packet's number, direction, fields and bits make it again, and its clones are equal.
 fn is_made<P: Framed + PartialEq + Drop>(

@@ -1,7 +1,9 @@
-//! Tests of the one reader over variables, rows and packets, from pieces; and of a packet and of sinks used through
-//! their bounds.
+//! Tests of the one reader over variables, rows and packets, from pieces; of a packet and of sinks used through their
+//! bounds; and of the texts of faults.
 #![tactic(auto)]
 
+#[cfg(test)]
+mod fault_tests;
 #[cfg(test)]
 mod field_tests;
 #[cfg(test)]

@@ -1,12 +1,15 @@
 //! Packets of a message, from pieces.
 
+ghost use Rattle.std.specs.Prelude.{◌≡◌, []};
+ghost use Rattle.etcs_tables.specs.declared.row.Way.TheVariants.{ToTrain};
+
 use crate::pieces::{check_bytes, check_end, check_refused, feed};
 use etcs_bodies::Packetlike;
 use etcs_fakes::{Checks, starve};
 use etcs_packets::Packet;
 use etcs_reader::{Feeder, Stop};
 use etcs_rows::parts::Carrier;
-use etcs_sequence::{PacketCount, PacketList, PacketsRest};
+use etcs_sequence::{PacketCount, PacketList, PacketStore, PacketsRest};
 use etcs_tables::Way;
 use etcs_vars::Var;
 use std::alloc::Global;
@@ -18,20 +21,23 @@ const BOTH: [u8; 11] = [
     0x88, 0x40, 0x61, 0x01, 0xC0, 0x05, 0x2C, 0x80, 0x47, 0x4B, 0x40,
 ];
 
-/// A reader that makes the packets of a message of 88 bits.
-fn listed(alloc: Global) -> Feeder<PacketsRest<PacketList<Packet>>> {
-    let rest = PacketsRest::new(Carrier::Message(Way::ToTrain), 88, PacketList::new(alloc));
+/// A reader of the packets of a message of 88 bits.
+fn reader_of<S: PacketStore>(store: S) -> Feeder<PacketsRest<S>>
+    requires way { ToTrain ≡ S.WAY }
+    requires none { S.holds store [] [] [] }
+{
+    let rest = PacketsRest::new(Carrier::Message(Way::ToTrain), 88, store);
     Feeder::new(rest)
 }
 
-/// A reader that counts the packets of a message of 88 bits.
+/// A reader that makes them.
+fn listed(alloc: Global) -> Feeder<PacketsRest<PacketList<Packet>>> {
+    reader_of(PacketList::new(alloc))
+}
+
+/// A reader that counts them.
 fn counted() -> Feeder<PacketsRest<PacketCount>> {
-    let rest = PacketsRest::new(
-        Carrier::Message(Way::ToTrain),
-        88,
-        PacketCount { packets: 0 },
-    );
-    Feeder::new(rest)
+    reader_of(PacketCount { packets: 0 })
 }
 
 /// Whether these are the packets of `BOTH`.
@@ -125,15 +131,16 @@ fn refused_bits(rt: HostRuntime) {
     assert_eq!(rt; checks.wrong(), None);
 }
 
-/// How many bits a reader took that was refused memory after this many bytes, and where it stopped.
-fn starved(alloc: Global, at: usize) -> Result<(usize, Option<Stop>), Fail> {
+/// Checks how many bits a reader takes that is refused memory after the first bytes.
+fn check_starved(checks: &mut Checks, alloc: Global, front: &[u8], back: &[u8], seen: usize) {
     let mut list = listed(alloc);
-    let (front, back) = BOTH.as_slice().split_at_checked(at).ok_or("outside")?;
     feed(&mut list, front, false);
-    let held = starve(alloc)?;
+    let held = starve(alloc);
     feed(&mut list, back, false);
+    checks.check(held.is_ok(), "no memory to hold");
     drop(held);
-    Ok((list.count(), list.stop()))
+    checks.check(list.count() == seen, "another bit");
+    checks.check(list.stop() == Some(Stop::Memory), "another stop");
 }
 
 /// A packet that lies whole in the piece, the first number of its row after its frame, and bits that are kept. Counting
@@ -144,8 +151,8 @@ fn packets_without_memory(rt: HostRuntime) -> Result<(), Fail> {
     check_made(&mut checks, rt.alloc(), false);
     check_made(&mut checks, rt.alloc(), true);
     for (at, seen) in [(0, 0), (2, 23), (6, 71)] {
-        let stopped = starved(rt.alloc(), at)?;
-        checks.check(stopped == (seen, Some(Stop::Memory)), "another stop");
+        let (front, back) = BOTH.as_slice().split_at_checked(at).ok_or("outside")?;
+        check_starved(&mut checks, rt.alloc(), front, back, seen);
     }
     let held = starve(rt.alloc())?;
     let mut count = counted();

@@ -3,7 +3,7 @@
 use etcs_fakes::Checks;
 use etcs_packets::{Flat, Packet, parts};
 use etcs_vars::Var;
-use etcs_vars::parts::{VarSink, Variables};
+use etcs_vars::parts::VarSink;
 use std::alloc::{AllocError, Global};
 use std::marker::Model;
 use std::test::Fail;
@@ -60,34 +60,29 @@ impl VarSink for Few {
     }
 }
 
-/// Whether a sink with so much room refuses what is sent.
-fn is_refused<V: Variables>(run: &V, few: &mut Few) -> bool {
-    run.send(few).is_err()
+/// Checks that a sink with so much room refuses a packet, after it took these variables of it.
+fn check_full(
+    checks: &mut Checks,
+    alloc: Global,
+    packet: &Packet,
+    room: usize,
+    taken: &[(Var, u64)],
+) {
+    let mut few = Few::new(alloc, room);
+    let sent = parts::send(packet, &mut few);
+    checks.check(sent.is_err(), "a packet in too little room");
+    checks.check(few.has(taken), "other variables");
 }
 
 /// The sink's refusal is the packet's; it keeps what it took.
 #[test]
 fn a_sink_that_is_full(rt: HostRuntime) -> Result<(), Fail> {
-    let mut checks = Checks::new();
-    let gradient = Flat::<141>::new(2, &[1, 5])?;
-    let mut few = Few::new(rt.alloc(), 1);
-    checks.check(
-        is_refused(&gradient, &mut few),
-        "two variables in room for one",
-    );
-    checks.check(few.has(&[(Var::Q_GDIR, 1)]), "other variables");
-    let mut none = Few::new(rt.alloc(), 0);
+    let (checks, alloc) = (&mut Checks::new(), rt.alloc());
     let marker = Packet::vbc_marker(63)?;
-    checks.check(
-        parts::send(&marker, &mut none).is_err(),
-        "a marker in no room",
-    );
-    let packet = Packet::TsrGradient(gradient);
-    checks.check(
-        parts::send(&packet, &mut none).is_err(),
-        "a packet in no room",
-    );
-    checks.check(none.has(&[]), "something was taken");
+    let gradient = Packet::TsrGradient(Flat::<141>::new(2, &[1, 5])?);
+    check_full(checks, alloc, &gradient, 1, &[(Var::Q_GDIR, 1)]);
+    check_full(checks, alloc, &gradient, 0, &[]);
+    check_full(checks, alloc, &marker, 0, &[]);
     assert_eq!(rt; checks.wrong(), None);
     Ok(())
 }

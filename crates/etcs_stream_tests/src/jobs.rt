@@ -1,130 +1,110 @@
-//! Command lines over two items in each form, and what is written of them. The texts are those of a second implementation,
-//! which was made of the tables alone.
+//! Jobs over two items in each form, and what is written of them. The texts are those of a second implementation, which was
+//! made of the tables alone.
 
-/// A command line, the items of its input, what is written of each, and what is written at the end.
+use etcs_stream::{Command, Form, Job, Kind};
+
+/// A kind, the form of the input and a command; the items of the input, what is written of each, and what is written at
+/// the end.
 pub(crate) type Told = (
-    &'static str,
+    Kind,
+    Form,
+    Command,
     [&'static [u8]; 2],
     [&'static [u8]; 2],
     &'static [u8],
 );
 
+/// The job.
+pub(crate) fn job_of(told: &Told) -> Job {
+    let (kind, from, command, ..) = *told;
+    Job {
+        kind,
+        from,
+        command,
+    }
+}
+
+const TO_HEX: Command = Command::Convert(Form::Hex);
+
+const TO_BIN: Command = Command::Convert(Form::Bin);
+
+const TO_JSON: Command = Command::Convert(Form::Json);
+
 pub(crate) static JOBS: [Told; 25] = [
-    ("etcs show --kind radio --from hex", HEX, SHOWN, b""),
-    ("etcs show --kind radio --from bin", BIN, SHOWN, b""),
-    ("etcs show --kind radio --from json", JSON, SHOWN, b""),
-    ("etcs check --kind radio --from hex", HEX, CHECKED, b""),
-    ("etcs check --kind radio --from bin", BIN, CHECKED, b""),
-    ("etcs check --kind radio --from json", JSON, CHECKED, b""),
+    (Kind::Radio, Form::Hex, Command::Show, HEX, SHOWN, b""),
+    (Kind::Radio, Form::Bin, Command::Show, BIN, SHOWN, b""),
+    (Kind::Radio, Form::Json, Command::Show, JSON, SHOWN, b""),
+    (Kind::Radio, Form::Hex, Command::Check, HEX, CHECKED, b""),
+    (Kind::Radio, Form::Bin, Command::Check, BIN, CHECKED, b""),
+    (Kind::Radio, Form::Json, Command::Check, JSON, CHECKED, b""),
+    (Kind::Radio, Form::Hex, TO_HEX, HEX, HEX, b""),
+    (Kind::Radio, Form::Hex, TO_BIN, HEX, BIN, b""),
+    (Kind::Radio, Form::Hex, TO_JSON, HEX, JSON, b""),
+    (Kind::Radio, Form::Bin, TO_HEX, BIN, HEX, b""),
+    (Kind::Radio, Form::Bin, TO_BIN, BIN, BIN, b""),
+    (Kind::Radio, Form::Bin, TO_JSON, BIN, JSON, b""),
+    (Kind::Radio, Form::Json, TO_HEX, JSON, HEX, b""),
+    (Kind::Radio, Form::Json, TO_BIN, JSON, BIN, b""),
+    (Kind::Radio, Form::Json, TO_JSON, JSON, JSON, b""),
     (
-        "etcs convert --kind radio --from hex --to hex",
-        HEX,
-        HEX,
-        b"",
-    ),
-    (
-        "etcs convert --kind radio --from hex --to bin",
-        HEX,
-        BIN,
-        b"",
-    ),
-    (
-        "etcs convert --kind radio --from hex --to json",
-        HEX,
-        JSON,
-        b"",
-    ),
-    (
-        "etcs convert --kind radio --from bin --to hex",
-        BIN,
-        HEX,
-        b"",
-    ),
-    (
-        "etcs convert --kind radio --from bin --to bin",
-        BIN,
-        BIN,
-        b"",
-    ),
-    (
-        "etcs convert --kind radio --from bin --to json",
-        BIN,
-        JSON,
-        b"",
-    ),
-    (
-        "etcs convert --kind radio --from json --to hex",
-        JSON,
-        HEX,
-        b"",
-    ),
-    (
-        "etcs convert --kind radio --from json --to bin",
-        JSON,
-        BIN,
-        b"",
-    ),
-    (
-        "etcs convert --kind radio --from json --to json",
-        JSON,
-        JSON,
-        b"",
-    ),
-    (
-        "etcs show --kind train --from hex",
+        Kind::Train,
+        Form::Hex,
+        Command::Show,
         TRAIN_HEX,
         TRAIN_SHOWN,
         b"",
     ),
     (
-        "etcs show --kind train --from json",
+        Kind::Train,
+        Form::Json,
+        Command::Show,
         TRAIN_JSON,
         TRAIN_SHOWN,
         b"",
     ),
     (
-        "etcs check --kind train --from bin",
+        Kind::Train,
+        Form::Bin,
+        Command::Check,
         TRAIN_BIN,
         TRAIN_CHECKED,
         b"",
     ),
+    (Kind::Train, Form::Hex, TO_JSON, TRAIN_HEX, TRAIN_JSON, b""),
+    (Kind::Train, Form::Json, TO_BIN, TRAIN_JSON, TRAIN_BIN, b""),
+    (Kind::Train, Form::Bin, TO_HEX, TRAIN_BIN, TRAIN_HEX, b""),
     (
-        "etcs convert --kind train --from hex --to json",
-        TRAIN_HEX,
-        TRAIN_JSON,
-        b"",
-    ),
-    (
-        "etcs convert --kind train --from json --to bin",
-        TRAIN_JSON,
-        TRAIN_BIN,
-        b"",
-    ),
-    (
-        "etcs convert --kind train --from bin --to hex",
-        TRAIN_BIN,
-        TRAIN_HEX,
-        b"",
-    ),
-    (
-        "etcs group --kind short --from hex",
+        Kind::Short,
+        Form::Hex,
+        Command::Group,
         GROUP_HEX,
         GROUPED,
         LAST,
     ),
     (
-        "etcs group --kind short --from bin",
+        Kind::Short,
+        Form::Bin,
+        Command::Group,
         GROUP_BIN,
         GROUPED,
         LAST,
     ),
     (
-        "etcs group --kind short --from json",
+        Kind::Short,
+        Form::Json,
+        Command::Group,
         GROUP_JSON,
         GROUPED,
         LAST,
     ),
-    ("etcs show --kind short", GROUP_HEX, GROUP_SHOWN, b""),
+    (
+        Kind::Short,
+        Form::Hex,
+        Command::Show,
+        GROUP_HEX,
+        GROUP_SHOWN,
+        b"",
+    ),
 ];
 
 /// Two messages: 15, which is kept with six bits, and 16.

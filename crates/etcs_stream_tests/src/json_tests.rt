@@ -1,21 +1,21 @@
 //! Runs over lines of JSON that are long, aren't UTF-8, hold what JSON doesn't have, or nest deep.
 
-use crate::stream_tests::NOTHING;
+use crate::runs::{ENOUGH, all_of, check_run, counted, joined, tally};
 use etcs_fakes::{Checks, Repeated};
-use etcs_stream::{Command, Form, Input, Job, Kind, Output, RunFault, Source, Tally, run};
-use std::alloc::{AllocError, Global};
-use std::test::Fail;
+use etcs_stream::{Command, Form, Job, Kind, RunFault};
+use std::alloc::Global;
 
 /// A message that is kept.
 const LINE: &[u8] = b"{\"data\":\"111111\",\"kind\":\"radio\",\"nid\":15}";
 
-/// What is written of it, once and three times.
-const ONE: &[u8] = b"item 1 ok 24 bits\n";
+/// The same with its line's end.
+const FIRST: &[u8] = b"{\"data\":\"111111\",\"kind\":\"radio\",\"nid\":15}\n";
 
+/// What is written of three such lines: 18 bytes each.
 const THREE: &[u8] = b"item 1 ok 24 bits\nitem 2 ok 24 bits\nitem 3 ok 24 bits\n";
 
 /// How many bytes a line has at most.
-const MOST: u32 = 1_048_576;
+const MOST: usize = 1_048_576;
 
 const CHECK_RADIO: Job = Job {
     kind: Kind::Radio,
@@ -23,60 +23,33 @@ const CHECK_RADIO: Job = Job {
     command: Command::Check,
 };
 
-/// The tally of this many items.
-fn items(count: u64) -> Result<Tally, RunFault> {
-    Ok(Tally {
-        items: count,
-        clashes: 0,
-        complete: true,
-    })
-}
-
-/// What a run over this text answers and writes.
-fn check(alloc: Global, text: &[u8]) -> (Result<Tally, RunFault>, Vec<u8>) {
-    let mut written = Vec::new(alloc);
-    let mut source = Input::new(text);
-    let mut sink = Output::new(&mut written);
-    let answer = run(alloc, CHECK_RADIO, &mut source, &mut sink);
-    drop(sink);
-    (answer, written)
-}
-
-/// Checks that a run over a text is answered so and writes this.
-fn check_run(checks: &mut Checks, alloc: Global, text: &[u8], answer: Result<Tally, RunFault>) {
-    let (found, written) = check(alloc, text);
-    checks.check(found == answer, "another answer");
-    let wanted = match answer {
-        Ok(tally) => tally.items,
-        Err(RunFault::BadJson { line }) => line.saturating_sub(1),
-        Err(_) => 0,
+/// Checks that a run over a text reads n items, or refuses this line.
+fn check_text(checks: &mut Checks, alloc: Global, text: &[u8], (line, items, is_good): Read) {
+    let (answer, items) = if is_good {
+        (tally(items), items)
+    } else {
+        (Err(RunFault::BadJson { line }), line.saturating_sub(1))
     };
-    let lines = THREE.get(..ONE.len().saturating_mul(wanted as usize));
-    checks.check(lines == Some(written.as_slice()), "another text");
+    let written = THREE.get(..(items as usize).saturating_mul(18));
+    let wanted = (answer, written.unwrap_or(&[]));
+    check_run(checks, alloc, CHECK_RADIO, all_of(text), ENOUGH, wanted);
 }
+
+/// A line, how many items a text has where it may be, and whether it may.
+type Read = (u64, u64, bool);
 
 /// Checks that this line between two good ones is a third, or is the first bad one.
-fn check_between(
-    checks: &mut Checks,
-    alloc: Global,
-    line: &[u8],
-    is_good: bool,
-) -> Result<(), AllocError> {
-    let mut text = LINE.to_vec(alloc)?;
-    text.push(b'\n')?;
-    text.extend_from_slice(line)?;
-    text.push(b'\n')?;
-    text.extend_from_slice(LINE)?;
-    let answer = if is_good { items(3) } else { Err(BAD) };
-    check_run(checks, alloc, text.as_slice(), answer);
-    Ok(())
+fn check_between(checks: &mut Checks, alloc: Global, line: &[u8], is_good: bool) {
+    let text = joined(
+        checks,
+        alloc,
+        &[(FIRST, 1), (line, 1), (b"\n", 1), (LINE, 1)],
+    );
+    check_text(checks, alloc, text.as_slice(), (2, 3, is_good));
 }
 
-/// The second line is no item.
-const BAD: RunFault = RunFault::BadJson { line: 2 };
-
 /// How a last line ends that has this many bytes with the blanks in front of its item, and whether it is read.
-static LONG: [(u32, &[u8], bool); 14] = [
+static LONG: [(usize, &[u8], bool); 14] = [
     (MOST, b"\n", true),
     (MOST, b"\r\n", true),
     (MOST, b"", true),
@@ -93,87 +66,60 @@ static LONG: [(u32, &[u8], bool); 14] = [
     (MOST + 9000, b"\n", false),
 ];
 
-/// Checks a text and after it an item in this many bytes, most of which are blanks, and these.
-fn check_long(
-    checks: &mut Checks,
-    alloc: Global,
-    before: &[u8],
-    (count, end, is_good): (u32, &[u8], bool),
-) -> Result<(), AllocError> {
-    let first = if before.is_empty() { 1 } else { 2 };
-    let mut text = before.to_vec(alloc)?;
-    let blanks = (count as usize).saturating_sub(LINE.len());
-    text.resize(before.len().saturating_add(blanks), b' ')?;
-    text.extend_from_slice(LINE)?;
-    text.extend_from_slice(end)?;
-    let bad = Err(RunFault::BadJson { line: first });
-    let answer = if is_good { items(first) } else { bad };
-    check_run(checks, alloc, text.as_slice(), answer);
-    Ok(())
-}
-
+/// Lines of an item after blanks, alone and after another.
 #[test]
-fn long_lines(rt: HostRuntime) -> Result<(), Fail> {
+fn long_lines(rt: HostRuntime) {
     let (checks, alloc) = (&mut Checks::new(), rt.alloc());
-    let mut first = LINE.to_vec(alloc)?;
-    first.push(b'\n')?;
-    for long in LONG {
-        check_long(checks, alloc, &[], long)?;
-        check_long(checks, alloc, first.as_slice(), long)?;
+    for (count, end, is_good) in &LONG {
+        let blanks = count.saturating_sub(LINE.len());
+        let line = joined(checks, alloc, &[(b" ", blanks), (LINE, 1), (*end, 1)]);
+        check_text(checks, alloc, line.as_slice(), (1, 1, *is_good));
+        let second = joined(checks, alloc, &[(FIRST, 1), (line.as_slice(), 1)]);
+        check_text(checks, alloc, second.as_slice(), (2, 2, *is_good));
     }
     assert_eq!(rt; checks.wrong(), None);
-    Ok(())
 }
 
-/// This many of each of these bytes, one after another.
-fn repeated(alloc: Global, bytes: &[u8], count: u32) -> Result<Vec<u8>, AllocError> {
-    let mut text = Vec::new(alloc);
-    for byte in bytes {
-        text.resize(text.len().saturating_add(count as usize), *byte)?;
-    }
-    Ok(text)
-}
+/// Lines of n blanks or brackets, up to as many as a line has, and of so many closed brackets after them.
+static NO_ITEMS: [(&[u8], usize, usize); 18] = [
+    (b" ", 1, 0),
+    (b" ", 4096, 0),
+    (b" ", MOST - 1, 0),
+    (b" ", MOST, 0),
+    (b" ", MOST + 1, 0),
+    (b" ", MOST + 2, 0),
+    (b"[", 100, 0),
+    (b"[", 127, 0),
+    (b"[", 128, 0),
+    (b"[", 129, 0),
+    (b"[", 100_000, 0),
+    (b"[", MOST, 0),
+    (b"[", 100, 100),
+    (b"[", 127, 127),
+    (b"[", 128, 128),
+    (b"[", 129, 129),
+    (b"[", 100_000, 100_000),
+    (b"[", 500_000, 500_000),
+];
 
-/// Lines of blanks, and brackets alone, open and closed, up to as many as a line has.
 #[test]
-fn lines_that_are_no_items(rt: HostRuntime) -> Result<(), Fail> {
+fn lines_that_are_no_items(rt: HostRuntime) {
     let (checks, alloc) = (&mut Checks::new(), rt.alloc());
-    for (bytes, counts) in [
-        (
-            b" ".as_slice(),
-            [1, 4096, MOST - 1, MOST, MOST + 1, MOST + 2],
-        ),
-        (b"[", [100, 127, 128, 129, 100_000, MOST]),
-        (b"[]", [100, 127, 128, 129, 100_000, 500_000]),
-    ] {
-        for count in counts {
-            let line = repeated(alloc, bytes, count)?;
-            check_between(checks, alloc, line.as_slice(), false)?;
-        }
+    for (text, count, closed) in &NO_ITEMS {
+        let line = joined(checks, alloc, &[(*text, *count), (b"]", *closed)]);
+        check_between(checks, alloc, line.as_slice(), false);
     }
-    assert_eq!(rt; checks.wrong(), None);
-    Ok(())
-}
-
-/// A line that doesn't end is refused, and isn't read on.
-#[test]
-fn endless_lines(rt: HostRuntime) {
-    let checks = &mut Checks::new();
-    let mut written = Vec::new(rt.alloc());
-    let mut source = Input::new(Repeated {
-        bytes: b"                                                                ",
+    let blanks = b"                                                                ";
+    let reader = Repeated {
+        bytes: blanks,
         left: u64::MAX,
-        then: NOTHING,
-    });
-    let mut sink = Output::new(&mut written);
-    let answer = run(rt.alloc(), CHECK_RADIO, &mut source, &mut sink);
-    drop(sink);
-    checks.check(
-        answer == Err(RunFault::BadJson { line: 1 }),
-        "another answer",
-    );
-    checks.check(source.reads() < 20_000, "too many reads");
-    checks.check(written.is_empty(), "something is written");
+        then: all_of(&[]),
+    };
+    let (answer, reads, written) = counted(alloc, CHECK_RADIO, reader);
+    let bad = Err(RunFault::BadJson { line: 1 });
+    checks.check(answer == bad, "another answer to a line without end");
+    checks.check(reads < 20_000, "too many reads");
+    checks.check(written == (0, 0), "something is written");
     assert_eq!(rt; checks.wrong(), None);
 }
 
@@ -230,51 +176,40 @@ static IN_FRONT: [(&[u8], bool); 8] = [
     (b"\xC2\xA0", false),
 ];
 
-/// A line of three parts.
-fn joined(alloc: Global, front: &[u8], middle: &[u8], end: &[u8]) -> Result<Vec<u8>, AllocError> {
-    let mut line = front.to_vec(alloc)?;
-    line.extend_from_slice(middle)?;
-    line.extend_from_slice(end)?;
-    Ok(line)
-}
+/// The front of an item whose first member is a text, and of one whose first member is something else.
+const TEXT: &[u8] = b"{\"data\":\"";
+
+const DATA: &[u8] = b"{\"data\":";
 
 /// The end of an item with a member that another of its name replaces, so that nothing else is wrong with the line.
 const REPLACED: &[u8] = b",\"data\":\"111111\",\"kind\":\"radio\",\"nid\":15}";
 
+/// Bytes in a text and around an item; and an item with a member that nests deep, of which another one of its name replaces
+/// all: the object and 126 lists are read.
 #[test]
-fn bytes_in_texts(rt: HostRuntime) -> Result<(), Fail> {
+fn bytes_and_lists(rt: HostRuntime) {
     let (checks, alloc) = (&mut Checks::new(), rt.alloc());
-    for (bytes, is_good) in IN_TEXTS {
-        let text = joined(alloc, b"\"", bytes, b"\"")?;
-        let line = joined(alloc, b"{\"data\":", text.as_slice(), REPLACED)?;
-        check_between(checks, alloc, line.as_slice(), is_good)?;
+    for (bytes, is_good) in &IN_TEXTS {
+        let line = joined(
+            checks,
+            alloc,
+            &[(TEXT, 1), (*bytes, 1), (b"\"", 1), (REPLACED, 1)],
+        );
+        check_between(checks, alloc, line.as_slice(), *is_good);
     }
-    assert_eq!(rt; checks.wrong(), None);
-    Ok(())
-}
-
-#[test]
-fn bytes_around_items(rt: HostRuntime) -> Result<(), Fail> {
-    let (checks, alloc) = (&mut Checks::new(), rt.alloc());
-    for (bytes, is_good) in IN_FRONT {
-        let line = joined(alloc, bytes, LINE, &[])?;
-        check_between(checks, alloc, line.as_slice(), is_good)?;
-        let line = joined(alloc, LINE, bytes, &[])?;
-        check_between(checks, alloc, line.as_slice(), is_good)?;
+    for (bytes, is_good) in &IN_FRONT {
+        let line = joined(checks, alloc, &[(*bytes, 1), (LINE, 1)]);
+        check_between(checks, alloc, line.as_slice(), *is_good);
+        let line = joined(checks, alloc, &[(LINE, 1), (*bytes, 1)]);
+        check_between(checks, alloc, line.as_slice(), *is_good);
     }
-    assert_eq!(rt; checks.wrong(), None);
-    Ok(())
-}
-
-/// An item with a member that nests deep, of which another one of its name replaces all: the object and 126 lists are read.
-#[test]
-fn deep_members(rt: HostRuntime) -> Result<(), Fail> {
-    let (checks, alloc) = (&mut Checks::new(), rt.alloc());
     for depth in [1, 126, 127, 128, 100_000] {
-        let lists = repeated(alloc, b"[]", depth)?;
-        let line = joined(alloc, b"{\"data\":", lists.as_slice(), REPLACED)?;
-        check_between(checks, alloc, line.as_slice(), depth < 127)?;
+        let line = joined(
+            checks,
+            alloc,
+            &[(DATA, 1), (b"[", depth), (b"]", depth), (REPLACED, 1)],
+        );
+        check_between(checks, alloc, line.as_slice(), depth < 127);
     }
     assert_eq!(rt; checks.wrong(), None);
-    Ok(())
 }

@@ -562,7 +562,7 @@ fn kept_long<A: Asked>(case: &mut Case) {
 }
 
 /// This many of these bits.
-fn first_bits(mut bits: Bits, len: usize) -> Bits {
+pub(crate) fn first_bits(mut bits: Bits, len: usize) -> Bits {
     if len < bits.len() {
         bits.truncate(len);
     }

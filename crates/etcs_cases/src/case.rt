@@ -207,11 +207,6 @@ impl<'a> Case<'a> {
         self.bounded(number, 65535) as u16
     }
 
-    /// A number of a list as one of 32 bits.
-    pub fn long_of(&mut self, number: u64) -> u32 {
-        self.bounded(number, 4294967295) as u32
-    }
-
     /// The next argument.
     pub fn next<A: Argument>(&mut self) -> A {
         A::next(self)

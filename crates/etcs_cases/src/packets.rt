@@ -98,7 +98,7 @@ impl Spelled {
 }
 
 /// The packet of numbers.
-fn listed<A: Asked>(case: &mut Case, nid: u8, dir: u8, numbers: &[u64]) -> Option<A> {
+pub(crate) fn listed<A: Asked>(case: &mut Case, nid: u8, dir: u8, numbers: &[u64]) -> Option<A> {
     match A::of_fields(case.alloc(), nid, dir, numbers) {
         Ok(packet) => packet,
         Err(_) => {

@@ -179,10 +179,11 @@ fn compared<P: Shape>(case: &mut Case) {
     let behind = case.split(" / ");
     let first = P::of_words(case);
     case.go_on(behind);
-    match (first, P::of_words(case)) {
+    let second = P::of_words(case);
+    match (first.as_ref(), second.as_ref()) {
         (Ok(first), Ok(second)) => {
             case.say_truth(first == second);
-            let same = exact_equality(&first, &second);
+            let same = exact_equality(first, second);
             case.check(same == (first == second), "not by the law");
         }
         _ => case.bad(),

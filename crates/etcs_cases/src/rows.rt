@@ -76,7 +76,7 @@ fn fields(case: &mut Case) {
 }
 
 /// Appends a row, if it admits the numbers, and says whether it does.
-fn append(row: Row, fields: &[u64], out: &mut Bits) -> Result<bool, AllocError>
+pub fn append_row(row: Row, fields: &[u64], out: &mut Bits) -> Result<bool, AllocError>
     requires { length out.old ≤ 64 }
     ensures admitted { IfOk result (λ good. IsTrue good → AdmitsFields (layout row.items.now) fields.now) }
     ensures spelled { IfOk result (λ good. IsTrue good → (b : List Bool) × Spells (layout row.items.now) [] fields.now b × (out.new ≡ out.old ++ b)) }
@@ -97,7 +97,7 @@ fn written(case: &mut Case) {
         if held.len() > 64 {
             return case.bad();
         }
-        match case.got(append(row, numbers.as_slice(), &mut held)) {
+        match case.got(append_row(row, numbers.as_slice(), &mut held)) {
             Some(true) => case.say_bits(&held.as_slice()),
             _ => case.say("not admitted"),
         }
@@ -114,7 +114,7 @@ fn put_over(
     start: usize,
 ) -> Result<Option<usize>, AllocError> {
     let mut out = Bits::new(alloc);
-    let admitted = append(row, fields, &mut out)?;
+    let admitted = append_row(row, fields, &mut out)?;
     if !admitted || start > 64 || bytes.len() > 64 || out.len() > bytes.len() * 8 {
         return Ok(None);
     }

@@ -188,11 +188,15 @@ impl Shape for Located {
 /// This many parts after their count.
 fn list_of<P: Shape>(case: &mut Case) -> Result<Vec<P>, BuildFault> {
     let mut list = Vec::new(case.alloc());
+    let mut refused = None;
     for _ in 0..case.byte() {
-        let part = P::of_words(case)?;
-        if list.push(part).is_err() {
-            return Err(BuildFault::Memory);
+        match P::of_words(case) {
+            Ok(part) => case.kept(list.push(part).is_ok()),
+            Err(fault) => refused = Some(fault),
         }
     }
-    Ok(list)
+    match refused {
+        Some(fault) => Err(fault),
+        None => Ok(list),
+    }
 }

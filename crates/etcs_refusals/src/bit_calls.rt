@@ -1,14 +1,11 @@
 //! Bits that are appended, and rows.
 
-ghost use Rattle.std.specs.Prelude.{◌≤◌, length};
-
 use crate::each::{Makes, refuse_each};
 use crate::packet_calls::Listed;
 use crate::rooms::{Answer, Call, refuse};
 use etcs_bits::{BitSlice, Bits};
-use etcs_cases::Case;
-use etcs_rows::{admits_fields, write_row};
-use etcs_tables::{Row, Way, row_of};
+use etcs_cases::{Case, append_row};
+use etcs_tables::{Way, row_of};
 use std::alloc::{AllocError, Global};
 
 /// Appends all bits of a slice, one by one or eight by eight.
@@ -96,16 +93,6 @@ pub(crate) struct Rows<'a> {
     pub(crate) rows: &'a [Listed],
 }
 
-/// Appends a row, if it admits the numbers.
-fn append(row: Row, fields: &[u64], out: &mut Bits) -> Option<Result<(), AllocError>>
-    requires { length out.old ≤ 64 }
-{
-    if !admits_fields(row, fields) {
-        return None;
-    }
-    Some(write_row(row, fields, out))
-}
-
 /// Three bits and a row after them. Without memory there are three bits, or none where there was none for these.
 fn written(alloc: Global, nid: u8, numbers: &[u64]) -> Result<Bits, bool> {
     let mut bits = Bits::new(alloc);
@@ -115,10 +102,10 @@ fn written(alloc: Global, nid: u8, numbers: &[u64]) -> Result<Bits, bool> {
     let Some(row) = row_of(Way::ToTrain, nid) else {
         return Err(false);
     };
-    match append(row, numbers, &mut bits) {
-        Some(Ok(())) => Ok(bits),
-        Some(Err(_)) => Err(bits.len() == 3 && bits.as_slice().number(0, 3) == Some(5)),
-        None => Err(false),
+    match append_row(row, numbers, &mut bits) {
+        Ok(true) => Ok(bits),
+        Ok(false) => Err(false),
+        Err(_) => Err(bits.len() == 3 && bits.as_slice().number(0, 3) == Some(5)),
     }
 }
 

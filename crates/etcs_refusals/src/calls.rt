@@ -6,12 +6,10 @@ use crate::entry_calls::{FromTree, Text, Texts, ToTree};
 use crate::feeds::refuse_feed;
 use crate::packet_calls::{Clones, Fields, FromFields, numbers_of, refuse_message, refuse_view};
 use crate::runs::refuse_run;
-use etcs_cases::Case;
+use etcs_cases::{Case, item_of, next_kind};
 use etcs_json::to_value;
-use etcs_messages::{Head, MessageOf, Own, ReaderOf};
 use etcs_packets::Packet;
 use etcs_packets::parts::AnyPacket;
-use etcs_telegram::{Size, Telegram, TelegramReader};
 use etcs_text::{Entry, Kind, json_line};
 
 /// Answers a line: `from_slice HEX`, `push WIDTH HEX`, `feed STEP KIND HEX`, `to_packet KIND HEX`, `message KIND HEX ..`,
@@ -28,62 +26,12 @@ pub(crate) fn answer(case: &mut Case) {
     }
 }
 
-/// The kind of a word.
-pub(crate) fn kind(case: &mut Case) -> Kind {
-    match case.word() {
-        "short" => Kind::Short,
-        "long" => Kind::Long,
-        "radio" => Kind::Radio,
-        "train" => Kind::Train,
-        _ => {
-            case.bad();
-            Kind::Short
-        }
-    }
-}
-
-/// The size of telegrams of a kind.
-pub(crate) fn size_of(kind: Kind) -> Size {
-    if kind == Kind::Long {
-        Size::Long
-    } else {
-        Size::Short
-    }
-}
-
-/// The item of these bytes.
-pub(crate) fn entry(case: &mut Case, kind: Kind, bytes: &[u8]) -> Option<Entry> {
-    match kind {
-        Kind::Long | Kind::Short => Some(Entry::Telegram(telegram(case, size_of(kind), bytes)?)),
-        Kind::Radio => Some(Entry::Message(message(case, bytes)?)),
-        Kind::Train => Some(Entry::Train(message(case, bytes)?)),
-    }
-}
-
-/// The telegram of these bytes.
-fn telegram(case: &mut Case, size: Size, bytes: &[u8]) -> Option<Telegram> {
-    let mut reader = TelegramReader::new(case.alloc(), size);
-    case.kept(reader.feed(bytes).is_ok());
-    reader.take().ok()
-}
-
-/// The message of these bytes.
-fn message<H, B>(case: &mut Case, bytes: &[u8]) -> Option<MessageOf<H, B>>
-where
-    H: Head,
-    B: Own<Front = H>,
-{
-    let mut reader = ReaderOf::<H, B>::new(case.alloc());
-    case.kept(reader.feed(bytes).is_ok());
-    reader.take().ok()
-}
-
 /// Makes a call of an item.
 fn of_item(case: &mut Case, call: &str) {
-    let kind = kind(case);
+    let kind = next_kind(case);
     let bytes = case.bytes();
-    let entry = entry(case, kind, bytes.as_slice());
-    match entry.as_ref() {
+    let item = item_of(case, kind, bytes.as_slice());
+    match item.as_ref() {
         Some(entry) => of_entry(case, call, kind, entry),
         None => case.bad(),
     }

@@ -2,10 +2,7 @@
 
 use crate::each::Makes;
 use etcs_json::{JsonFault, from_value, to_value};
-use etcs_radio::Message;
-use etcs_telegram::Telegram;
 use etcs_text::{Entry, Kind, encoded, hex_line, json_line, show_lines};
-use etcs_train::TrainMessage;
 use serde_json::Value;
 use std::alloc::{AllocError, Global};
 
@@ -64,14 +61,6 @@ impl Makes for ToTree<'_> {
     }
 }
 
-/// An item that can be compared.
-#[derive(Drop, PartialEq)]
-pub(crate) enum Found {
-    Telegram(Telegram),
-    Message(Message),
-    Train(TrainMessage),
-}
-
 /// The item of a tree.
 #[derive(Drop)]
 pub(crate) struct FromTree {
@@ -80,13 +69,11 @@ pub(crate) struct FromTree {
 }
 
 impl Makes for FromTree {
-    type Made = Found;
+    type Made = Entry;
 
-    fn make(&self, alloc: Global, _index: usize) -> Result<Found, bool> {
+    fn make(&self, alloc: Global, _index: usize) -> Result<Entry, bool> {
         match from_value(alloc, self.kind, &self.tree) {
-            Ok(Entry::Telegram(telegram)) => Ok(Found::Telegram(telegram)),
-            Ok(Entry::Message(message)) => Ok(Found::Message(message)),
-            Ok(Entry::Train(message)) => Ok(Found::Train(message)),
+            Ok(item) => Ok(item),
             Err(fault) => Err(fault == JsonFault::Memory),
         }
     }

@@ -1,12 +1,11 @@
 //! Packets: their numbers, from numbers and from bits, and their copies; and the message of a group.
 
-use crate::calls::{entry, kind, size_of};
 use crate::each::{Makes, refuse_each};
-use etcs_cases::{Case, own_fields};
+use etcs_cases::{Case, item_of, next_kind, own_fields, size_of, viewed};
 use etcs_group::{Assembly, GroupFault};
+use etcs_packets::Packet;
 use etcs_packets::parts::AnyPacket;
-use etcs_packets::{Packet, parts};
-use etcs_telegram::{Size, TelegramView};
+use etcs_telegram::Size;
 use etcs_text::Entry;
 use std::alloc::{AllocError, Global};
 
@@ -55,7 +54,7 @@ pub(crate) fn numbers_of(case: &mut Case, packets: &[Packet]) -> Vec<Listed> {
     for packet in packets {
         let mut numbers = Vec::new(case.alloc());
         case.kept(own_fields(packet, &mut numbers).is_ok());
-        let (nid, dir) = (packet.nid(), parts::dir(packet).unwrap_or(3));
+        let (nid, dir) = (packet.number_of(), packet.direction().unwrap_or(3));
         case.kept(all.push(Listed { nid, dir, numbers }).is_ok());
     }
     all
@@ -77,7 +76,7 @@ impl Makes for FromFields<'_> {
     fn make(&self, alloc: Global, index: usize) -> Result<Option<Packet>, bool> {
         match self.rows.get(index) {
             Some(row) => {
-                parts::from_fields(alloc, row.nid, row.dir, row.numbers.as_slice()).or(Err(true))
+                Packet::of_fields(alloc, row.nid, row.dir, row.numbers.as_slice()).or(Err(true))
             }
             None => Ok(None),
         }
@@ -124,42 +123,30 @@ impl Makes for Seen<'_> {
     }
 
     fn make(&self, alloc: Global, index: usize) -> Result<Option<Packet>, bool> {
-        let Ok(view) = TelegramView::new(self.bytes, self.size) else {
-            return Err(false);
-        };
-        let mut left = index;
-        for packet in view.packets() {
-            if left == 0 {
-                return match packet.to_packet(alloc) {
-                    Ok(packet) => Ok(Some(packet)),
-                    Err(_) => Err(true),
-                };
-            }
-            left -= 1;
-        }
-        Ok(None)
+        viewed(alloc, self.size, self.bytes, index)
     }
 }
 
 /// `to_packet KIND HEX`: the packets of a view.
 pub(crate) fn refuse_view(case: &mut Case) {
-    let size = size_of(kind(case));
+    let kind = next_kind(case);
     let held = case.bytes();
     let bytes = held.as_slice();
-    let mut packets = 0usize;
-    if let Ok(view) = TelegramView::new(bytes, size) {
-        for _packet in view.packets() {
-            packets = packets.saturating_add(1);
+    let item = item_of(case, kind, bytes);
+    match (size_of(kind), item.as_ref()) {
+        (Some(size), Some(Entry::Telegram(telegram))) => {
+            let packets = telegram.packets().len();
+            refuse_each(
+                case,
+                Seen {
+                    bytes,
+                    size,
+                    packets,
+                },
+            );
         }
+        _ => case.bad(),
     }
-    refuse_each(
-        case,
-        Seen {
-            bytes,
-            size,
-            packets,
-        },
-    );
 }
 
 /// The message of a group.
@@ -182,12 +169,12 @@ impl Makes for Messages<'_> {
 /// `message KIND HEX ..`: the message of the group of these telegrams.
 pub(crate) fn refuse_message(case: &mut Case) {
     let mut assembly = Assembly::new();
-    let kind = kind(case);
+    let kind = next_kind(case);
     for _ in 0..8u8 {
         if !case.is_empty() {
             let bytes = case.bytes();
-            let telegram = entry(case, kind, bytes.as_slice());
-            add(case, &mut assembly, telegram);
+            let item = item_of(case, kind, bytes.as_slice());
+            add(case, &mut assembly, item);
         }
     }
     let assembly = &assembly;
@@ -195,8 +182,8 @@ pub(crate) fn refuse_message(case: &mut Case) {
 }
 
 /// Adds a telegram.
-fn add(case: &mut Case, assembly: &mut Assembly, entry: Option<Entry>) {
-    match entry {
+fn add(case: &mut Case, assembly: &mut Assembly, item: Option<Entry>) {
+    match item {
         Some(Entry::Telegram(telegram)) => case.kept(assembly.add(telegram).is_ok()),
         _ => case.bad(),
     }

@@ -1,11 +1,10 @@
 //! Whole runs.
 
-use crate::calls::{entry, kind};
 use crate::rooms::{Answer, Call, refuse};
-use etcs_cases::Case;
+use etcs_cases::{Case, item_of, next_kind};
 use etcs_fakes::Broken;
 use etcs_stream::{Command, Form, Input, Job, Kind, Output, RunFault, Tally, run};
-use etcs_text::{Entry, json_line};
+use etcs_text::{Entry, encoded, hex_line, json_line};
 use std::alloc::Global;
 use std::io::ErrorKind;
 
@@ -102,18 +101,24 @@ fn command(case: &mut Case) -> Command {
     }
 }
 
-/// Appends an item in a form.
+/// Appends the item of digits in a form.
 fn append(case: &mut Case, form: Form, digits: &str, kind: Kind, input: &mut Vec<u8>) {
     let bytes = case.bytes_of(digits);
-    match (form, entry(case, kind, bytes.as_slice())) {
-        (Form::Hex, Some(_)) => {
-            case.kept(input.extend_from_slice(digits.as_bytes()).is_ok());
-            case.kept(input.push(b'\n').is_ok());
-        }
-        (Form::Bin, Some(_)) => case.kept(input.extend_from_slice(bytes.as_slice()).is_ok()),
-        (Form::Json, Some(entry)) => case.kept(json_line(&entry, input).is_ok()),
-        (_, None) => case.bad(),
+    let item = item_of(case, kind, bytes.as_slice());
+    match item.as_ref() {
+        Some(item) => append_item(case, form, item, input),
+        None => case.bad(),
     }
+}
+
+/// Appends an item in a form.
+fn append_item(case: &mut Case, form: Form, item: &Entry, input: &mut Vec<u8>) {
+    let appended = match form {
+        Form::Hex => hex_line(item, input),
+        Form::Bin => encoded(item, input),
+        Form::Json => json_line(item, input),
+    };
+    case.kept(appended.is_ok());
 }
 
 /// What is written of an input, after which the reader fails or ends.
@@ -129,27 +134,38 @@ fn text(case: &mut Case, job: Job, input: &[u8], fails: Option<ErrorKind>) -> Ve
     text
 }
 
-/// `run COMMAND KIND FORM STEP COUNT HEX ..`: memory must be refused after no item, after the first one, and so on, for COUNT
-/// such numbers.
-pub(crate) fn refuse_run(case: &mut Case) {
-    let command = command(case);
-    let kind = kind(case);
-    let from = form(case);
-    let job = Job {
-        kind,
-        from,
-        command,
-    };
-    let step = case.place();
-    let count = case.place();
-    let mut input = Vec::new(case.alloc());
+/// Appends the items that are left to an input in this job's form: what is written of no item, of the first one, and so on.
+fn texts(case: &mut Case, job: Job, input: &mut Vec<u8>) -> Vec<(Vec<u8>, bool)> {
     let mut texts = Vec::new(case.alloc());
     case.kept(texts.push((Vec::new(case.alloc()), false)).is_ok());
     for digits in case.rest().split(' ') {
-        append(case, from, digits, kind, &mut input);
-        let told = text(case, job, input.as_slice(), Some(ErrorKind::BrokenPipe));
-        case.kept(texts.push((told, false)).is_ok());
+        append(case, job.from, digits, job.kind, input);
+        let text = text(case, job, input.as_slice(), Some(ErrorKind::BrokenPipe));
+        case.kept(texts.push((text, false)).is_ok());
     }
+    texts
+}
+
+/// The job of `COMMAND KIND FORM`.
+fn job(case: &mut Case) -> Job {
+    let command = command(case);
+    let kind = next_kind(case);
+    let from = form(case);
+    Job {
+        kind,
+        from,
+        command,
+    }
+}
+
+/// `run COMMAND KIND FORM STEP COUNT HEX ..`: memory must be refused after no item, after the first one, and so on, for COUNT
+/// such numbers.
+pub(crate) fn refuse_run(case: &mut Case) {
+    let job = job(case);
+    let step = case.place();
+    let count = case.place();
+    let mut input = Vec::new(case.alloc());
+    let texts = texts(case, job, &mut input);
     let whole = text(case, job, input.as_slice(), None);
     let mut written = Vec::new(case.alloc());
     case.kept(written.reserve(65536).is_ok());

@@ -5,14 +5,8 @@
 //! answered as expected is written with what was answered, and at the end how many there were of each kind.
 #![tactic(auto)]
 
-mod builds;
-mod built_messages;
-mod items;
-mod messages;
 mod runs;
 mod sheet;
-mod telegrams;
-mod writes;
 
 use crate::sheet::Sheet;
 use std::alloc::Global;

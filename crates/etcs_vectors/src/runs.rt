@@ -1,38 +1,14 @@
 //! Vectors of runs over lines of hexadecimal, and of the program's command line. In their texts `\n` is a LF and `\r` a CR,
 //! and any other `\` is itself.
 
-ghost use Rattle.std.specs.Prelude.{◌≡◌};
-ghost use Rattle.etcs_stream.specs.declared.job.Command.TheVariants as command;
-ghost use Rattle.etcs_runs.specs.declared.form.Form.TheVariants as form;
-
-use crate::telegrams::next_size;
 use etcs_cases::Case;
 use etcs_cli::run_words;
-use etcs_stream::{
-    Command, Form, Input, Job, Kind, Output, RunFault, Source, Tally, run, write_fault,
-};
-use etcs_telegram::Size;
-use std::alloc::Global;
+use etcs_fakes::Broken;
+use etcs_stream::{RunFault, write_fault};
 use std::io::{self, Read};
 
-/// Gives one byte a read.
-#[derive(Drop)]
-struct Slow<'a> {
-    rest: &'a [u8],
-}
-
-impl Read for Slow<'_> {
-    fn read(&mut self, buffer: &mut [u8]) -> io::Result<usize> {
-        match (self.rest.split_first(), buffer.first_mut()) {
-            (Some((first, rest)), Some(place)) => {
-                *place = *first;
-                self.rest = rest;
-                Ok(1)
-            }
-            _ => Ok(0),
-        }
-    }
-}
+/// How many bytes a read gives where it gives all that it is asked for.
+const ALL: usize = 4096;
 
 /// Answers a line about runs: whether it is one.
 pub(crate) fn answer(case: &mut Case, kind: &str) -> bool {
@@ -48,39 +24,17 @@ pub(crate) fn answer(case: &mut Case, kind: &str) -> bool {
     true
 }
 
-/// The job of showing telegrams of a size.
-fn job(size: Size) -> Job
-    ensures shows { result.command ≡ command.Show }
-    ensures reads { result.from ≡ form.Hex }
-{
-    Job {
-        kind: match size {
-            Size::Short => Kind::Short,
-            Size::Long => Kind::Long,
-        },
-        from: Form::Hex,
-        command: Command::Show,
-    }
-}
-
-/// What a run over a reader answers, how often it read, and what it wrote.
+/// A reader that gives this many bytes a read, and how often it was asked.
 #[derive(Drop)]
-struct Ran {
-    answer: Result<Tally, RunFault>,
-    reads: u64,
-    written: Vec<u8>,
+struct Pieces<'a> {
+    inner: Broken<'a>,
+    reads: &'a mut u64,
 }
 
-/// A run over a reader.
-fn run_over<R: Read + Drop>(alloc: Global, size: Size, reader: R) -> Ran {
-    let mut written = Vec::new(alloc);
-    let mut source = Input::new(reader);
-    let mut sink = Output::new(&mut written);
-    let answer = run(alloc, job(size), &mut source, &mut sink);
-    Ran {
-        answer,
-        reads: source.reads(),
-        written,
+impl Read for Pieces<'_> {
+    fn read(&mut self, buffer: &mut [u8]) -> io::Result<usize> {
+        *self.reads = self.reads.saturating_add(1);
+        self.inner.read(buffer)
     }
 }
 
@@ -106,15 +60,26 @@ fn push_text(case: &mut Case, found: &mut Vec<u8>, words: &str) {
     }
 }
 
-/// What a run answered.
-fn say_answer(case: &mut Case, answer: Result<Tally, RunFault>) {
-    match answer {
-        Ok(tally) => {
-            case.say("ok ");
-            case.say_number(tally.items);
-            case.check(tally.clashes == 0 && tally.complete, "of groups");
+/// How many items a run shows.
+fn items_of(output: &[u8]) -> u64 {
+    let mut items = 0u64;
+    let mut last = b'\n';
+    for byte in output {
+        if last == b'\n' && *byte == b'i' {
+            items = items.saturating_add(1);
         }
-        Err(fault) => say_fault(case, &fault),
+        last = *byte;
+    }
+    items
+}
+
+/// What a run answered: of how many items it is, or its fault.
+fn say_answer(case: &mut Case, called: &Called) {
+    if called.status == 0 {
+        case.say("ok ");
+        case.say_number(items_of(called.output.as_slice()));
+    } else {
+        case.say_line(called.faults.as_slice());
     }
 }
 
@@ -133,10 +98,22 @@ fn say_written(case: &mut Case, written: &[u8]) {
     }
 }
 
-/// `run SIZE TEXT`: what a run answers and writes, also where it reads byte by byte; and `zeros SIZE COUNT TEXT`: the same
-/// with COUNT zeros in front of the text.
+/// The command line that shows telegrams of the size of the next word.
+fn show_line(case: &mut Case) -> &'static str {
+    match case.word() {
+        "short" => "etcs show --kind short",
+        "long" => "etcs show --kind long",
+        _ => {
+            case.bad();
+            "etcs"
+        }
+    }
+}
+
+/// `run SIZE TEXT`: what a run that shows telegrams answers and writes, also where it reads byte by byte; and
+/// `zeros SIZE COUNT TEXT`: the same with COUNT zeros in front of the text.
 fn shown(case: &mut Case, kind: &str) {
-    let size = next_size(case);
+    let line = show_line(case);
     let mut input = Vec::new(case.alloc());
     if kind == "zeros" {
         let zeros = case.half();
@@ -144,64 +121,46 @@ fn shown(case: &mut Case, kind: &str) {
     }
     let text = case.rest();
     push_text(case, &mut input, text);
-    say_run(case, size, input.as_slice());
-}
-
-/// What a run answers and writes.
-fn say_run(case: &mut Case, size: Size, input: &[u8]) {
-    let ran = run_over(case.alloc(), size, input);
-    say_answer(case, ran.answer);
-    say_written(case, ran.written.as_slice());
-    check_slowly(case, size, input, &ran);
-}
-
-/// Checks that a run that gets one byte a read answers and writes the same.
-fn check_slowly(case: &mut Case, size: Size, input: &[u8], wanted: &Ran) {
-    let slowly = run_over(case.alloc(), size, Slow { rest: input });
-    let is_alike = slowly.answer == wanted.answer && slowly.written == wanted.written;
-    case.check(is_alike, "not byte by byte");
+    let ran = call(case, line, input.as_slice(), ALL);
+    say_answer(case, &ran);
+    say_written(case, ran.output.as_slice());
+    check_slowly(case, line, input.as_slice(), &ran);
 }
 
 /// `slow SIZE TEXT`: what a run answers that gets one byte a read, and how often it reads.
 fn run_slowly(case: &mut Case) {
-    let size = next_size(case);
+    let line = show_line(case);
     let mut input = Vec::new(case.alloc());
     let text = case.rest();
     push_text(case, &mut input, text);
-    let rest = input.as_slice();
-    let slow = run_over(case.alloc(), size, Slow { rest });
-    say_answer(case, slow.answer);
+    let slow = call(case, line, input.as_slice(), 1);
+    say_answer(case, &slow);
     case.say(", reads ");
     case.say_number(slow.reads);
-    say_written(case, slow.written.as_slice());
+    say_written(case, slow.output.as_slice());
 }
 
 /// `repeated COUNT SIZE HEX`: the text of this telegram where it is item 1; a run over COUNT lines of it writes it so
 /// often, with their numbers.
 fn repeated(case: &mut Case) {
     let count = case.half();
-    let size = next_size(case);
-    let line = case.rest();
-    let one = run_over(case.alloc(), size, line.as_bytes());
-    case.check(one.reads > 0, "no read");
+    let line = show_line(case);
+    let text = case.rest();
+    let one = call(case, line, text.as_bytes(), ALL);
     let mut input = Vec::new(case.alloc());
     let mut wanted = Case::new(case.alloc(), "");
-    let rest = one
-        .written
-        .as_slice()
-        .strip_prefix(b"item 1")
-        .unwrap_or(&[]);
+    let rest = one.output.as_slice().strip_prefix(b"item 1").unwrap_or(&[]);
     for item in 1..=u64::from(count) {
-        push_text(case, &mut input, line);
+        push_text(case, &mut input, text);
         case.kept(input.push(b'\n').is_ok());
         wanted.say("item ");
         wanted.say_number(item);
         wanted.say_bytes(rest);
     }
-    let all = run_over(case.alloc(), size, input.as_slice());
-    say_answer(case, all.answer);
-    say_written(case, one.written.as_slice());
-    let is_each = wanted.has_said(all.written.as_slice());
+    let all = call(case, line, input.as_slice(), ALL);
+    say_answer(case, &all);
+    say_written(case, one.output.as_slice());
+    let is_each = wanted.has_said(all.output.as_slice());
     case.check(is_each, "not each so");
 }
 
@@ -226,9 +185,9 @@ fn program(case: &mut Case, kind: &str) {
     let given = case.split(" < ");
     let line = case.rest();
     let input = input_of(case, kind, given);
-    let called = call(case, line, input.as_slice());
+    let called = call(case, line, input.as_slice(), ALL);
     say_called(case, kind, &called);
-    check_called_slowly(case, line, input.as_slice(), &called);
+    check_slowly(case, line, input.as_slice(), &called);
 }
 
 /// The bytes of a text, or those that its hexadecimal digits say.
@@ -257,35 +216,46 @@ fn help(case: &mut Case) {
 
 /// The status of a command line over an empty input, and what it writes.
 fn say_call(case: &mut Case, line: &str) {
-    let nothing: &[u8] = &[];
-    let called = call(case, line, nothing);
+    let called = call(case, line, &[], ALL);
     say_called(case, "program", &called);
 }
 
-/// The status of a command line, what it wrote, and its faults.
+/// The status of a command line, how often it read, what it wrote, and its faults.
 #[derive(Drop)]
 struct Called {
     status: u8,
+    reads: u64,
     output: Vec<u8>,
     faults: Vec<u8>,
 }
 
-/// A command line over a reader.
-fn call<R: Read + Drop>(case: &mut Case, line: &str, reader: R) -> Called {
+/// A command line over bytes, of which a read gives this many.
+fn call(case: &mut Case, line: &str, input: &[u8], step: usize) -> Called {
     let words = line_words(case, line);
+    let mut reads = 0;
+    let inner = Broken {
+        rest: input,
+        step,
+        fails: None,
+    };
+    let reader = Pieces {
+        inner,
+        reads: &mut reads,
+    };
     let mut output = Vec::new(case.alloc());
     let mut faults = Vec::new(case.alloc());
     let status = run_words(case.alloc(), words, reader, &mut output, &mut faults);
     Called {
         status,
+        reads,
         output,
         faults,
     }
 }
 
 /// Checks that a command line does the same where it gets one byte a read.
-fn check_called_slowly(case: &mut Case, line: &str, input: &[u8], wanted: &Called) {
-    let slowly = call(case, line, Slow { rest: input });
+fn check_slowly(case: &mut Case, line: &str, input: &[u8], wanted: &Called) {
+    let slowly = call(case, line, input, 1);
     let is_alike = slowly.status == wanted.status && slowly.output == wanted.output;
     case.check(is_alike, "not byte by byte");
     case.check(slowly.faults == wanted.faults, "other faults byte by byte");

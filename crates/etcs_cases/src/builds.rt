@@ -2,15 +2,18 @@
 //! `0 NUMBER`, `NID Q_DIR NUMBERS` after L_PACKET, or `NID Q_DIR bDIGITS` for kept bits, with ` ; ` between two packets. To the
 //! track there is no `0 NUMBER` and no Q_DIR.
 
-use crate::telegrams::{check_read, encoded, next_size};
+use crate::case::{Case, FaultTexts};
+use crate::forms::Asked;
+use crate::packets::{listed, next_dir};
+use crate::readers::next_size;
+use crate::telegrams::{check_laws, encoded};
 use etcs_bits::Bits;
-use etcs_cases::{Case, FaultTexts};
+use etcs_packets::Packet;
 use etcs_packets::parts::AnyPacket;
-use etcs_packets::{Other, Packet};
+use etcs_tables::Way;
 use etcs_telegram::parts::header_numbers;
 use etcs_telegram::{Header, Size, Telegram};
 use etcs_text::parts::write_packets;
-use etcs_track::{TrainOther, TrainPacket};
 use etcs_vars::BuildFault;
 
 /// What is answered of a fault.
@@ -83,75 +86,39 @@ fn headers(case: &mut Case) {
     }
 }
 
-/// A packet of a way that words make.
-pub(crate) trait Worded: AnyPacket {
-    /// The packet of all words that are left.
-    fn of_words(case: &mut Case) -> Option<Self>;
-}
-
-impl Worded for Packet {
-    fn of_words(case: &mut Case) -> Option<Packet> {
-        let nid = case.byte();
-        let dir = case.byte();
-        if nid == 0 {
-            return Packet::vbc_marker(dir).ok();
-        }
-        match kept_bits(case) {
-            Some(body) => Some(Packet::Other(Other::new(nid, dir, body).ok()?)),
-            None => typed(case, nid, dir),
-        }
+/// The packet of all words that are left.
+fn packet<A: Asked>(case: &mut Case) -> Option<A> {
+    let nid = case.byte();
+    if nid == 0 && A::WAY == Way::ToTrain {
+        return A::marker(case);
     }
-}
-
-impl Worded for TrainPacket {
-    fn of_words(case: &mut Case) -> Option<TrainPacket> {
-        let nid = case.byte();
-        match kept_bits(case) {
-            Some(body) => Some(TrainPacket::Other(TrainOther::new(nid, body).ok()?)),
-            None => typed(case, nid, 0),
+    let dir = next_dir::<A>(case);
+    let rest = case.rest();
+    match rest.strip_prefix('b') {
+        Some(digits) => A::kept(nid, dir, case.bits_between("", digits, "")).ok(),
+        None => {
+            case.go_on(rest);
+            let numbers = case.numbers();
+            listed(case, nid, dir, numbers.as_slice())
         }
     }
 }
 
 /// The packets of all words that are left.
-pub(crate) fn packets<P: Worded>(case: &mut Case) -> Vec<P> {
+pub(crate) fn packets<A: Asked>(case: &mut Case) -> Vec<A> {
     let mut packets = Vec::new(case.alloc());
     for _ in 0..100u8 {
         if case.is_empty() {
             break;
         }
         let behind = case.split(" ; ");
-        match P::of_words(case) {
+        match packet(case) {
             Some(packet) => case.kept(packets.push(packet).is_ok()),
             None => case.bad(),
         }
         case.go_on(behind);
     }
     packets
-}
-
-/// The bits that are kept where the words that are left are such.
-fn kept_bits(case: &mut Case) -> Option<Bits> {
-    let rest = case.rest();
-    match rest.strip_prefix('b') {
-        Some(digits) => Some(case.bits_between("", digits, "")),
-        None => {
-            case.go_on(rest);
-            None
-        }
-    }
-}
-
-/// The packet of the numbers that are left.
-fn typed<P: AnyPacket>(case: &mut Case, nid: u8, dir: u8) -> Option<P> {
-    let numbers = case.numbers();
-    match P::of_fields(case.alloc(), nid, dir, numbers.as_slice()) {
-        Ok(packet) => packet,
-        Err(_) => {
-            case.kept(false);
-            None
-        }
-    }
 }
 
 /// `built SIZE HEADER ; PACKETS`: the bytes of the telegram, or what is refused and the packets that come back.
@@ -215,7 +182,7 @@ fn say_built(case: &mut Case, telegram: &Telegram, size: Size, header: &Header) 
     case.say_hex(bytes.as_slice());
     let parts = telegram.size() == size && telegram.header() == header;
     case.check(parts, "of other parts");
-    check_read(case, telegram, size, bytes.as_slice());
+    check_laws(case, telegram, bytes.as_slice());
 }
 
 /// The text of packets that came back.

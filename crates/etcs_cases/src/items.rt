@@ -1,69 +1,11 @@
 //! Items in all ways to read them: in one piece, byte by byte, and cut in two at every place; and with each bit turned.
 
-use crate::messages::{RADIO, TRAIN, message};
-use crate::telegrams::size_of;
-use etcs_cases::Case;
-use etcs_telegram::{Held, Size};
-use etcs_text::{Entry, show_lines};
+use crate::case::Case;
+use crate::readers::{Reader, next_kind, read_whole, size_of};
+use crate::{messages, telegrams};
+use etcs_text::{Entry, Kind, show_lines};
 use etcs_vars::{Fed, ReadFault, Var};
 use std::alloc::Global;
-
-/// What a reader holds: how many packets, numbers and kept bits; the first bits of the unfinished variable as a number, and
-/// how many they are.
-pub(crate) type State = (usize, usize, usize, u64, usize);
-
-/// How much is held.
-pub(crate) fn state_of<P>(held: Held<'_, P>) -> State {
-    (
-        held.packets.len(),
-        held.numbers.len(),
-        held.kept.len(),
-        held.part,
-        held.taken,
-    )
-}
-
-/// Reads one item from pieces.
-pub(crate) trait Reads: Drop {
-    type Item: PartialEq + Drop;
-
-    /// Takes the next piece.
-    fn feed(&mut self, piece: &[u8]) -> Result<Fed, ReadFault>;
-
-    /// How many leading bits were accepted.
-    fn bits_seen(&self) -> usize;
-
-    /// What is held.
-    fn state(&self) -> Option<State>;
-
-    /// The item, where it is whole.
-    fn take(self) -> Option<Self::Item>;
-}
-
-/// Items of one kind, and the ways in which they are read and written.
-pub(crate) trait Ways: Copy {
-    type Item: PartialEq + Drop;
-
-    type Reader: Reads<Item = Self::Item>;
-
-    /// What an item is called.
-    fn noun(self) -> &'static str;
-
-    /// A reader that has read nothing.
-    fn reader(self, alloc: Global) -> Self::Reader;
-
-    /// The item as one of all kinds.
-    fn entry(self, item: Self::Item) -> Entry;
-
-    /// Checks that the item is written as these bytes, and that a view of them, where there are views, has it.
-    fn check(self, case: &mut Case, item: &Self::Item, bytes: &[u8]);
-
-    /// Checks that the item is read from its encoding, and that these bytes are written as what they are read as.
-    fn check_laws(self, case: &mut Case, item: &Self::Item, bytes: &[u8]);
-
-    /// Whether these bytes have no view where a reader answers so, where items of this kind have views.
-    fn is_no_view(self, bytes: &[u8], fed: Result<Fed, ReadFault>) -> bool;
-}
 
 /// Answers a line about items: whether it is one.
 ///
@@ -72,38 +14,44 @@ pub(crate) trait Ways: Copy {
 /// which the bytes are none of these items, with what is answered. `alike KIND HEX`: of how many bytes with one bit turned all
 /// ways to read them say the same. `pairs KIND`: how many of all pairs of first bytes are refused. `fed KIND PIECE PIECE ..`:
 /// what a reader answers to each piece, how many bits it has seen and what it holds.
-pub(crate) fn answer(case: &mut Case, kind: &str) -> bool {
-    match kind {
-        "short" => read(case, Size::Short),
-        "long" => read(case, Size::Long),
-        "radio" => read(case, RADIO),
-        "train" => read(case, TRAIN),
-        "message" => message(case, RADIO),
-        "train_message" => message(case, TRAIN),
-        "turned" | "alike" | "pairs" | "fed" => match case.word() {
-            "radio" => of_kind(case, RADIO, kind),
-            "train" => of_kind(case, TRAIN, kind),
-            word => {
-                let size = size_of(case, word);
-                of_kind(case, size, kind);
-            }
-        },
+pub(crate) fn answer(case: &mut Case, asked: &str) -> bool {
+    match asked {
+        "short" => read(case, Kind::Short),
+        "long" => read(case, Kind::Long),
+        "radio" => read(case, Kind::Radio),
+        "train" => read(case, Kind::Train),
+        "message" => measured(case, Kind::Radio),
+        "train_message" => measured(case, Kind::Train),
+        "turned" | "alike" | "pairs" | "fed" => {
+            let kind = next_kind(case);
+            of_kind(case, kind, asked);
+        }
         _ => return false,
     }
     true
 }
 
 /// What is said of the bytes of an item.
-fn read<W: Ways>(case: &mut Case, ways: W) {
+fn read(case: &mut Case, kind: Kind) {
     let bytes = case.bytes();
-    let mut reader = ways.reader(case.alloc());
-    let fed = reader.feed(bytes.as_slice());
-    let item = reader.take();
-    check_read(case, ways, bytes.as_slice(), fed, item.as_ref());
-    match item {
-        Some(item) => say_text(case, &ways.entry(item), 1),
+    let (fed, item) = read_whole(case.alloc(), kind, bytes.as_slice());
+    check_read(case, kind, bytes.as_slice(), fed, item.as_ref());
+    match item.as_ref() {
+        Some(item) => say_text(case, item, 1),
         None => say_unread(case, fed),
     }
+}
+
+/// `message HEX`, `train_message HEX`: how many bits and packets a message has, and what doesn't hold of it.
+fn measured(case: &mut Case, kind: Kind) {
+    let bytes = case.bytes();
+    let (fed, item) = read_whole(case.alloc(), kind, bytes.as_slice());
+    match item.as_ref() {
+        Some(Entry::Message(message)) => messages::say_size(case, message),
+        Some(Entry::Train(message)) => messages::say_size(case, message),
+        _ => case.bad(),
+    }
+    check_read(case, kind, bytes.as_slice(), fed, item.as_ref());
 }
 
 /// The text of an entry with this number.
@@ -114,29 +62,55 @@ pub(crate) fn say_text(case: &mut Case, entry: &Entry, number: u64) {
 }
 
 /// Checks what must hold of bytes that are answered so, and of their item, if any.
-pub(crate) fn check_read<W: Ways>(
+pub(crate) fn check_read(
     case: &mut Case,
-    ways: W,
+    kind: Kind,
     bytes: &[u8],
     fed: Result<Fed, ReadFault>,
-    item: Option<&W::Item>,
+    item: Option<&Entry>,
 ) {
-    check_pieces(case, ways, bytes, fed, item);
+    check_pieces(case, kind, bytes, fed, item);
     match item {
-        Some(item) => check_item(case, ways, item, bytes),
-        None => case.check(ways.is_no_view(bytes, fed), "not by a view"),
+        Some(item) => check_item(case, kind, item, bytes),
+        None => case.check(is_no_view(kind, bytes, fed), "not by a view"),
     }
 }
 
 /// Checks what must hold of the item of these bytes.
-fn check_item<W: Ways>(case: &mut Case, ways: W, item: &W::Item, bytes: &[u8]) {
+fn check_item(case: &mut Case, kind: Kind, item: &Entry, bytes: &[u8]) {
     for at in 0..bytes.len() {
         let front = bytes.get(..at).unwrap_or(&[]);
-        case.check(ways.is_no_view(front, Ok(Fed::More)), "a view of a front");
+        case.check(is_no_view(kind, front, Ok(Fed::More)), "a view of a front");
     }
-    ways.check(case, item, bytes);
-    ways.check_laws(case, item, bytes);
-    turn_all(case, ways, bytes, "");
+    check_written(case, item, bytes);
+    check_laws(case, item, bytes);
+    turn_all(case, kind, bytes, "");
+}
+
+/// Checks that an item is written as these bytes, and that a view of them, where there are views, has it.
+fn check_written(case: &mut Case, item: &Entry, bytes: &[u8]) {
+    match item {
+        Entry::Telegram(telegram) => telegrams::check(case, telegram, bytes),
+        Entry::Message(message) => messages::check(case, message, bytes),
+        Entry::Train(message) => messages::check(case, message, bytes),
+    }
+}
+
+/// Checks that an item is read from its encoding, and that these bytes are written as what they are read as.
+fn check_laws(case: &mut Case, item: &Entry, bytes: &[u8]) {
+    match item {
+        Entry::Telegram(telegram) => telegrams::check_laws(case, telegram, bytes),
+        Entry::Message(message) => messages::check_laws(case, message, bytes),
+        Entry::Train(message) => messages::check_laws(case, message, bytes),
+    }
+}
+
+/// Whether these bytes have no view where a reader answers so, where items of the kind have views.
+fn is_no_view(kind: Kind, bytes: &[u8], fed: Result<Fed, ReadFault>) -> bool {
+    match size_of(kind) {
+        Some(size) => telegrams::is_no_view(size, bytes, fed),
+        None => true,
+    }
 }
 
 /// What is said of bytes that are no item.
@@ -164,52 +138,47 @@ pub(crate) fn say_refused(case: &mut Case, bit: usize, var: Var) {
 }
 
 /// Checks that bytes are answered so byte by byte, and in two pieces that are cut at every place.
-fn check_pieces<W: Ways>(
+fn check_pieces(
     case: &mut Case,
-    ways: W,
+    kind: Kind,
     bytes: &[u8],
     fed: Result<Fed, ReadFault>,
-    item: Option<&W::Item>,
+    item: Option<&Entry>,
 ) {
     let alloc = case.alloc();
-    let singly = is_alike(alloc, ways, bytes, (0, 1), fed, item);
+    let singly = is_alike(alloc, kind, bytes, (0, 1), fed, item);
     case.check(singly, "not byte by byte");
     for at in 0..bytes.len() {
-        let in_two = is_alike(alloc, ways, bytes, (at, bytes.len()), fed, item);
+        let in_two = is_alike(alloc, kind, bytes, (at, bytes.len()), fed, item);
         case.check(in_two, "not in two pieces");
     }
 }
 
 /// Whether bytes are answered so where the first piece has `at` of them and each further one `step`.
-fn is_alike<W: Ways>(
+fn is_alike(
     alloc: Global,
-    ways: W,
+    kind: Kind,
     bytes: &[u8],
     (at, step): (usize, usize),
     fed: Result<Fed, ReadFault>,
-    item: Option<&W::Item>,
+    item: Option<&Entry>,
 ) -> bool {
     let Some((front, back)) = bytes.split_at_checked(at) else {
         return false;
     };
-    let mut reader = ways.reader(alloc);
+    let mut reader = Reader::new(alloc, kind);
     let mut alike = is_fed(&mut reader, front, 0, fed);
     let mut from = front.len();
     for piece in back.chunks(step.max(1)) {
         alike &= is_fed(&mut reader, piece, from, fed);
         from = from.saturating_add(piece.len());
     }
-    let ended = is_ended(&mut reader, fed);
-    alike && ended && gives(reader, item)
+    alike &= is_ended(&mut reader, fed);
+    alike & gives(reader, item)
 }
 
 /// Whether the piece from a byte on is answered as it must be where all bytes are answered so.
-fn is_fed<R: Reads>(
-    reader: &mut R,
-    piece: &[u8],
-    from: usize,
-    fed: Result<Fed, ReadFault>,
-) -> bool {
+fn is_fed(reader: &mut Reader, piece: &[u8], from: usize, fed: Result<Fed, ReadFault>) -> bool {
     let to = from.saturating_add(piece.len());
     let mut wanted = fed;
     let mut seen = to.saturating_mul(8);
@@ -234,7 +203,7 @@ fn is_fed<R: Reads>(
 }
 
 /// Whether no bytes are answered as they must be after all were answered so.
-fn is_ended<R: Reads>(reader: &mut R, fed: Result<Fed, ReadFault>) -> bool {
+fn is_ended(reader: &mut Reader, fed: Result<Fed, ReadFault>) -> bool {
     let again = reader.feed(&[]);
     match fed {
         Ok(Fed::Done { .. }) => again == Err(ReadFault::Ended),
@@ -243,26 +212,26 @@ fn is_ended<R: Reads>(reader: &mut R, fed: Result<Fed, ReadFault>) -> bool {
 }
 
 /// Whether the reader has read this item, or none.
-fn gives<R: Reads>(reader: R, item: Option<&R::Item>) -> bool {
+fn gives(reader: Reader, item: Option<&Entry>) -> bool {
     let given = reader.take();
     given.as_ref() == item
 }
 
 /// The lines of `turned`, `alike`, `pairs` and `fed`.
-fn of_kind<W: Ways>(case: &mut Case, ways: W, kind: &str) {
-    match kind {
-        "pairs" => say_pairs(case, ways),
-        "fed" => say_pieces(case, ways),
+fn of_kind(case: &mut Case, kind: Kind, asked: &str) {
+    match asked {
+        "pairs" => say_pairs(case, kind),
+        "fed" => say_pieces(case, kind),
         _ => {
             let bytes = case.bytes();
-            turn_all(case, ways, bytes.as_slice(), kind);
+            turn_all(case, kind, bytes.as_slice(), asked);
         }
     }
 }
 
 /// Checks that with each bit turned the bytes are answered alike in all ways, and no bit before the turned one is refused;
 /// says what `turned` and `alike` say. In items of more than 128 bytes each 17th bit is turned.
-fn turn_all<W: Ways>(case: &mut Case, ways: W, bytes: &[u8], kind: &str) {
+fn turn_all(case: &mut Case, kind: Kind, bytes: &[u8], asked: &str) {
     let mut turned = Vec::new(case.alloc());
     case.kept(turned.extend_from_slice(bytes).is_ok());
     let mut count = 0u64;
@@ -270,16 +239,16 @@ fn turn_all<W: Ways>(case: &mut Case, ways: W, bytes: &[u8], kind: &str) {
     for bit in 0..bytes.len().saturating_mul(8) {
         if bit % step == 0 {
             flip(turned.as_mut_slice(), bit);
-            let fed = fed_turned(case, ways, turned.as_slice());
+            let fed = fed_turned(case, kind, turned.as_slice());
             flip(turned.as_mut_slice(), bit);
             check_turned(case, fed, bit);
-            if kind == "turned" && fed != Ok(Fed::Done { taken: bytes.len() }) {
+            if asked == "turned" && fed != Ok(Fed::Done { taken: bytes.len() }) {
                 say_turned(case, fed, bit);
             }
             count = count.saturating_add(1);
         }
     }
-    if kind == "alike" {
+    if asked == "alike" {
         case.say_number(count);
     }
 }
@@ -318,8 +287,8 @@ pub(crate) fn say_fed(case: &mut Case, fed: Result<Fed, ReadFault>) {
 
 /// What a reader answers to each piece, how many bits it has seen and what it holds. A piece is hexadecimal parts with `+`
 /// between them, each of which `*COUNT` repeats; `-` is the empty one.
-fn say_pieces<W: Ways>(case: &mut Case, ways: W) {
-    let mut reader = ways.reader(case.alloc());
+fn say_pieces(case: &mut Case, kind: Kind) {
+    let mut reader = Reader::new(case.alloc(), kind);
     case.say("new");
     say_state(case, &reader);
     for word in case.rest().split(' ') {
@@ -330,7 +299,7 @@ fn say_pieces<W: Ways>(case: &mut Case, ways: W) {
     }
     let whole = reader.take().is_some();
     case.say_either(whole, "\na ", "\nno ");
-    case.say(ways.noun());
+    case.say_either(size_of(kind).is_some(), "telegram", "message");
 }
 
 /// The bytes of a piece.
@@ -349,27 +318,26 @@ fn piece(case: &mut Case, word: &str) -> Vec<u8> {
 }
 
 /// How many bits the reader has seen, and what it holds.
-fn say_state<R: Reads>(case: &mut Case, reader: &R) {
+fn say_state(case: &mut Case, reader: &Reader) {
     case.say(", seen ");
     case.say_number(reader.bits_seen() as u64);
     match reader.state() {
-        Some((packets, numbers, kept, part, taken)) => {
-            case.say(", held ");
-            case.say_next(packets as u64);
-            case.say_next(numbers as u64);
-            case.say_next(kept as u64);
-            case.say_next(part);
-            case.say_number(taken as u64);
+        Some(state) => {
+            case.say(", held");
+            for number in &state {
+                case.say(" ");
+                case.say_number(*number);
+            }
         }
         None => case.say(", nothing held"),
     }
 }
 
 /// How many of all pairs of first bytes are refused.
-fn say_pairs<W: Ways>(case: &mut Case, ways: W) {
+fn say_pairs(case: &mut Case, kind: Kind) {
     let mut refused = 0u64;
     for pair in 0..=u16::MAX {
-        let fed = fed_turned(case, ways, &pair.to_be_bytes());
+        let fed = fed_turned(case, kind, &pair.to_be_bytes());
         if fed != Ok(Fed::More) {
             refused = refused.saturating_add(1);
         }
@@ -379,19 +347,17 @@ fn say_pairs<W: Ways>(case: &mut Case, ways: W) {
 
 /// What a reader answers to bytes; checks that it is the same byte by byte and by a view, and that an item is written as
 /// the bytes that were taken.
-fn fed_turned<W: Ways>(case: &mut Case, ways: W, bytes: &[u8]) -> Result<Fed, ReadFault> {
-    let mut reader = ways.reader(case.alloc());
-    let fed = reader.feed(bytes);
-    let item = reader.take();
+fn fed_turned(case: &mut Case, kind: Kind, bytes: &[u8]) -> Result<Fed, ReadFault> {
+    let (fed, item) = read_whole(case.alloc(), kind, bytes);
     let own = match fed {
         Ok(Fed::Done { taken }) => bytes.get(..taken).unwrap_or(&[]),
         _ => bytes,
     };
-    let singly = is_alike(case.alloc(), ways, own, (0, 1), fed, item.as_ref());
+    let singly = is_alike(case.alloc(), kind, own, (0, 1), fed, item.as_ref());
     case.check(singly, "turned, not byte by byte");
     match item.as_ref() {
-        Some(item) => ways.check(case, item, own),
-        None => case.check(ways.is_no_view(own, fed), "turned, a view"),
+        Some(item) => check_written(case, item, own),
+        None => case.check(is_no_view(kind, own, fed), "turned, a view"),
     }
     fed
 }

@@ -1,71 +1,30 @@
 //! Telegrams, as items; and lines about their readers and views.
 
-use crate::items::{Reads, State, Ways, say_refused, say_text, state_of};
+use crate::case::Case;
+use crate::items::{say_refused, say_text};
+use crate::readers::{item_of, next_kind, next_size};
 use etcs_bits::{BitSlice, Bits};
-use etcs_cases::Case;
 use etcs_packets::Packet;
 use etcs_telegram::laws::{exact_equality, read_back, round_trip};
-use etcs_telegram::{
-    Fed, PacketRef, ReadFault, Size, Telegram, TelegramReader, TelegramView, ViewFault,
-};
+use etcs_telegram::{Fed, PacketRef, ReadFault, Size, Telegram, TelegramView, ViewFault};
 use etcs_text::Entry;
 use std::alloc::Global;
 
-impl Reads for TelegramReader {
-    type Item = Telegram;
-
-    fn feed(&mut self, piece: &[u8]) -> Result<Fed, ReadFault> {
-        TelegramReader::feed(self, piece)
-    }
-
-    fn bits_seen(&self) -> usize {
-        TelegramReader::bits_seen(self)
-    }
-
-    fn state(&self) -> Option<State> {
-        self.held().map(state_of)
-    }
-
-    fn take(self) -> Option<Telegram> {
-        TelegramReader::take(self).ok()
-    }
+/// Checks that a telegram is written as these bytes, and that a view of them has it.
+pub(crate) fn check(case: &mut Case, telegram: &Telegram, bytes: &[u8]) {
+    check_written(case, telegram, bytes);
+    check_view(case, telegram, bytes);
 }
 
-impl Ways for Size {
-    type Item = Telegram;
-
-    type Reader = TelegramReader;
-
-    fn noun(self) -> &'static str {
-        "telegram"
-    }
-
-    fn reader(self, alloc: Global) -> TelegramReader {
-        TelegramReader::new(alloc, self)
-    }
-
-    fn entry(self, telegram: Telegram) -> Entry {
-        Entry::Telegram(telegram)
-    }
-
-    fn check(self, case: &mut Case, telegram: &Telegram, bytes: &[u8]) {
-        check_written(case, telegram, bytes);
-        check_view(case, telegram, self, bytes);
-    }
-
-    fn check_laws(self, case: &mut Case, telegram: &Telegram, bytes: &[u8]) {
-        check_read(case, telegram, self, bytes);
-    }
-
-    fn is_no_view(self, bytes: &[u8], fed: Result<Fed, ReadFault>) -> bool {
-        let wanted = match fed {
-            Err(ReadFault::Refused { bit, var }) if bytes.len() == self.container_bytes() => {
-                ViewFault::Refused { bit, var }
-            }
-            _ => ViewFault::Length,
-        };
-        TelegramView::new(bytes, self).err() == Some(wanted)
-    }
+/// Whether these bytes have no view where a reader answers so.
+pub(crate) fn is_no_view(size: Size, bytes: &[u8], fed: Result<Fed, ReadFault>) -> bool {
+    let wanted = match fed {
+        Err(ReadFault::Refused { bit, var }) if bytes.len() == size.container_bytes() => {
+            ViewFault::Refused { bit, var }
+        }
+        _ => ViewFault::Length,
+    };
+    TelegramView::new(bytes, size).err() == Some(wanted)
 }
 
 /// Answers a line about telegrams: whether it is one.
@@ -73,39 +32,18 @@ pub(crate) fn answer(case: &mut Case, kind: &str) -> bool {
     match kind {
         "shown" => shown(case),
         "equal" => equal(case),
-        "view" => viewed(case),
+        "view" => view(case),
         "room" => room(case),
         _ => return false,
     }
     true
 }
 
-/// The size of a word.
-pub(crate) fn size_of(case: &mut Case, word: &str) -> Size {
-    match word {
-        "short" => Size::Short,
-        "long" => Size::Long,
-        _ => {
-            case.bad();
-            Size::Short
-        }
-    }
-}
-
-/// The size of the next word.
-pub(crate) fn next_size(case: &mut Case) -> Size {
-    let word = case.word();
-    size_of(case, word)
-}
-
-/// The telegram of `SIZE HEX`.
-fn telegram(case: &mut Case) -> Option<Telegram> {
-    let size = next_size(case);
+/// The item of `SIZE HEX`.
+fn next_item(case: &mut Case) -> Option<Entry> {
+    let kind = next_kind(case);
     let bytes = case.bytes();
-    let mut reader = TelegramReader::new(case.alloc(), size);
-    let fed = reader.feed(bytes.as_slice());
-    case.kept(fed != Err(ReadFault::Memory));
-    reader.take().ok()
+    item_of(case, kind, bytes.as_slice())
 }
 
 /// How many bytes are written of the telegram over this many equal bytes, and all bytes then.
@@ -129,13 +67,12 @@ fn check_written(case: &mut Case, telegram: &Telegram, bytes: &[u8]) {
 }
 
 /// Checks that a telegram is read from its encoding, and bytes are written as what they are read as.
-pub(crate) fn check_read(case: &mut Case, telegram: &Telegram, size: Size, bytes: &[u8]) {
+pub(crate) fn check_laws(case: &mut Case, telegram: &Telegram, bytes: &[u8]) {
     let alloc = case.alloc();
-    if let Some(again) = case.got(round_trip(alloc, telegram)) {
-        case.check(again == *telegram, "not read again");
-    }
+    let again = case.got(round_trip(alloc, telegram));
+    case.check(again.as_ref() == Some(telegram), "not read again");
     let mut back = [0u8; 104];
-    let count = case.got(read_back(alloc, size, bytes, &mut back));
+    let count = case.got(read_back(alloc, telegram.size(), bytes, &mut back));
     case.check(count == Some(Some(bytes.len())), "not written back");
     case.check(
         back.as_slice().starts_with(bytes),
@@ -144,8 +81,8 @@ pub(crate) fn check_read(case: &mut Case, telegram: &Telegram, size: Size, bytes
 }
 
 /// Checks that a view of bytes has what the telegram has.
-fn check_view(case: &mut Case, telegram: &Telegram, size: Size, bytes: &[u8]) {
-    let view = TelegramView::new(bytes, size);
+fn check_view(case: &mut Case, telegram: &Telegram, bytes: &[u8]) {
+    let view = TelegramView::new(bytes, telegram.size());
     if let Ok(view) = view.as_ref() {
         let header = view.header() == *telegram.header();
         case.check(header, "another header viewed");
@@ -174,12 +111,37 @@ fn check_packets(case: &mut Case, view: &TelegramView<'_>, packets: &[Packet]) {
     case.check(made.as_slice() == packets, "other packets viewed");
 }
 
+/// The packet of a view of bytes with this index, if there are so many. The error is `true` where memory was refused, and
+/// `false` where there is no view.
+pub fn viewed(
+    alloc: Global,
+    size: Size,
+    bytes: &[u8],
+    index: usize,
+) -> Result<Option<Packet>, bool> {
+    let Ok(view) = TelegramView::new(bytes, size) else {
+        return Err(false);
+    };
+    let mut left = index;
+    for packet in view.packets() {
+        if left == 0 {
+            return match packet.to_packet(alloc) {
+                Ok(packet) => Ok(Some(packet)),
+                Err(_) => Err(true),
+            };
+        }
+        left -= 1;
+    }
+    Ok(None)
+}
+
 /// `shown ITEM SIZE HEX`: the text with this number.
 fn shown(case: &mut Case) {
     let number = case.number();
     case.say("before\n");
-    match telegram(case) {
-        Some(telegram) => say_text(case, &Entry::Telegram(telegram), number),
+    let item = next_item(case);
+    match item.as_ref() {
+        Some(item) => say_text(case, item, number),
         None => case.bad(),
     }
 }
@@ -187,11 +149,13 @@ fn shown(case: &mut Case) {
 /// `equal SIZE HEX , SIZE HEX`: whether these are the same telegram.
 fn equal(case: &mut Case) {
     let behind = case.split(" , ");
-    let first = telegram(case);
+    let first = next_item(case);
     case.go_on(behind);
-    let second = telegram(case);
+    let second = next_item(case);
     match (first.as_ref(), second.as_ref()) {
-        (Some(first), Some(second)) => say_equal(case, first, second),
+        (Some(Entry::Telegram(first)), Some(Entry::Telegram(second))) => {
+            say_equal(case, first, second);
+        }
         _ => case.bad(),
     }
 }
@@ -205,7 +169,7 @@ fn say_equal(case: &mut Case, first: &Telegram, second: &Telegram) {
 
 /// `view SIZE HEX`: the packets a line each, with their number, their length and their bits, and the length of FILL; or
 /// why there is no view.
-fn viewed(case: &mut Case) {
+fn view(case: &mut Case) {
     let size = next_size(case);
     let bytes = case.bytes();
     let view = TelegramView::new(bytes.as_slice(), size);
@@ -239,10 +203,10 @@ fn say_viewed(case: &mut Case, packet: &PacketRef<'_>) {
 /// `room COUNT SIZE HEX`: what the telegram leaves in a buffer of this many bytes 55.
 fn room(case: &mut Case) {
     let room = usize::from(case.byte());
-    let telegram = telegram(case);
-    match telegram.as_ref() {
-        Some(telegram) => say_room(case, telegram, room),
-        None => case.bad(),
+    let item = next_item(case);
+    match item.as_ref() {
+        Some(Entry::Telegram(telegram)) => say_room(case, telegram, room),
+        _ => case.bad(),
     }
 }
 

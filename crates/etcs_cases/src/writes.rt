@@ -1,8 +1,8 @@
 //! Vectors of what is written over equal bytes, from a bit on.
 
 use crate::builds::packets;
+use crate::case::Case;
 use etcs_bits::BitSlice;
-use etcs_cases::Case;
 use etcs_packets::Packet;
 use etcs_packets::parts::{AnyPacket, WordSink, append_all, room_left};
 use etcs_vars::Var;

@@ -2,10 +2,10 @@
 //! `status Q_STATUS`. Packets are `NID NUMBERS` after L_PACKET or `NID bDIGITS` for kept bits, with ` ; ` in front of each.
 
 use crate::builds::{FAULTS, packets, say_back};
+use crate::built::first_bits;
+use crate::case::Case;
 use crate::items::check_read;
-use crate::messages::TRAIN;
-use etcs_bits::Bits;
-use etcs_cases::Case;
+use etcs_text::{Entry, Kind};
 use etcs_track::TrainPacket;
 use etcs_train::{TrainBody, TrainHead, TrainMessage};
 use etcs_vars::{BuildFault, Fed};
@@ -20,19 +20,13 @@ pub(crate) fn answer(case: &mut Case, kind: &str) -> bool {
     true
 }
 
-/// A number of 32 bits.
-fn long(case: &mut Case) -> u32 {
-    let number = case.number();
-    case.long_of(number)
-}
-
 /// A number and the variables of its own.
 fn body(case: &mut Case) -> TrainBody {
     match case.word() {
         "plain" => TrainBody::Plain { nid: case.byte() },
         "time" => TrainBody::TrainTime {
             nid: case.byte(),
-            t_train: long(case),
+            t_train: case.next(),
         },
         word => {
             if word != "status" {
@@ -51,8 +45,8 @@ fn built(case: &mut Case, kind: &str) {
     let padding = case.split(" : ");
     let behind = case.split(" ; ");
     let head = TrainHead {
-        t_train: long(case),
-        nid_engine: long(case),
+        t_train: case.next(),
+        nid_engine: case.next(),
     };
     let body = body(case);
     case.go_on(behind);
@@ -62,14 +56,13 @@ fn built(case: &mut Case, kind: &str) {
         let number = case.read(padding);
         Some(case.byte_of(number))
     };
-    let made = made(head, body, packets(case), padding);
-    match made.as_ref() {
+    match made(head, body, packets(case), padding) {
         Ok(message) => {
-            say_message(case, message);
             let parts = message.head() == Some(&head) && message.body() == Some(&body);
             case.check(parts, "of other parts");
+            say_message(case, message);
         }
-        Err((fault, packets)) => refused(case, *fault, packets.as_slice()),
+        Err((fault, packets)) => refused(case, fault, packets.as_slice()),
     }
 }
 
@@ -93,37 +86,25 @@ fn refused(case: &mut Case, fault: BuildFault, packets: &[TrainPacket]) {
 }
 
 /// The bytes of a message.
-fn say_message(case: &mut Case, message: &TrainMessage) {
+fn say_message(case: &mut Case, message: TrainMessage) {
     let mut bytes = Vec::new(case.alloc());
     case.kept(message.encode(&mut bytes).is_ok());
     case.say_hex(bytes.as_slice());
     let fed = Ok(Fed::Done { taken: bytes.len() });
-    check_read(case, TRAIN, bytes.as_slice(), fed, Some(message));
+    let item = Entry::Train(message);
+    check_read(case, Kind::Train, bytes.as_slice(), fed, Some(&item));
 }
 
 /// `train_whole NID COUNT`: the bytes of the message that is kept as this many ones, or what is refused.
 fn whole(case: &mut Case) {
     let nid = case.byte();
-    let count = case.up_to(9000);
-    let ones = ones(case, count);
-    let len = ones.len();
-    let made = TrainMessage::kept(nid, ones);
-    match made.as_ref() {
+    let len = case.up_to(9000) as usize;
+    let ones = case.bits_between("", "9000 x 1", "");
+    match TrainMessage::kept(nid, first_bits(ones, len)) {
         Ok(message) => say_message(case, message),
         Err((fault, bits)) => {
-            case.say_fault(*fault, &FAULTS);
+            case.say_fault(fault, &FAULTS);
             case.check(bits.len() == len, "other bits back");
         }
     }
-}
-
-/// This many ones.
-fn ones(case: &mut Case, count: u64) -> Bits {
-    let mut ones = Bits::new(case.alloc());
-    for _ in 0..count {
-        if ones.len() < 9000 {
-            case.kept(ones.push(true).is_ok());
-        }
-    }
-    ones
 }

@@ -10,8 +10,11 @@ Two runs of `rt` can't go side by side here: each locks its crate's folder and t
 below it until it ends, and every crate rests on the lowest. `rt all` locks all of them once and goes
 side by side, but with one job a crate, and most crates here rest on one another. So this is one run
 over the module that `rt` itself is made of: it locks once, as `rt all` does, and makes for each
-library the call that `rt lib` makes, with a job for each core. What is proved, and what is kept in
-out/, is the same. `rt run` then proves and builds the program, and first whatever is left.
+library the call that `rt lib` makes. What is proved, and what is kept in out/, is the same. `rt run`
+then proves and builds the program, and first whatever is left.
+
+The libraries that go side by side share the cores. Each job of a library loads all below it once more:
+with two jobs one of 145 seconds took 112, with four 109, at 181 and 190 seconds of processor.
 
 To see what changed, rt sums a crate's files and those of each library below it, once for each way
 down to it: thousands of times for the upper crates here. In this run each is summed once a time.
@@ -122,7 +125,7 @@ def prove_below(rt, folder):
     locks = rtlib.lock(crates)
     crates = [it for it in crates if not it.is_built()]
     has_room = rtlib.fits(*[MEMORY] * AT_ONCE)
-    flags = ["--jobs", str(min(rtlib.cores(), 8))] if has_room else []
+    flags = ["--jobs", str(max(1, min(rtlib.cores(), 8) // AT_ONCE))] if has_room else []
     is_well = prove_all(crates, AT_ONCE if has_room else 1, flags)
     for it in locks:
         os.close(it)

@@ -132,7 +132,7 @@ def main():
         count += len(fields)
         if fields != theirs_:
             wrong.append(f"{c_name}: {fields} in the source, {theirs_} in the header")
-    table = dict(re.findall(r"^var_number (\w+) = (\d+)", source("crates/etcs_c/specs/Fields.antt"), re.M))
+    table = dict(re.findall(r"^var_number Var\.(\w+) = (\d+)", source("crates/etcs_c/specs/Fields.antt"), re.M))
     for path, text in ((VARS_H, vars_h(table)), (VARS_PY, vars_py(table)), (VARS_ADS, vars_ads(table))):
         if "--write" in sys.argv:
             with open(os.path.join(TOP, path), "w", encoding="utf-8") as file:

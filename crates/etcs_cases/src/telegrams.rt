@@ -111,7 +111,7 @@ fn check_packets(case: &mut Case, view: &TelegramView<'_>, packets: &[Packet]) {
     case.check(made.as_slice() == packets, "other packets viewed");
 }
 
-/// The packet of a view of bytes with this index, if there are so many. The error is `true` where memory was refused, and
+/// The packet of a view of bytes with this index, where it has one. The error is `true` where memory was refused, and
 /// `false` where there is no view.
 pub fn viewed(
     alloc: Global,

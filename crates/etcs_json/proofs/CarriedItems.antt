@@ -28,7 +28,7 @@ use Rattle.etcs_text.specs.declared.entry.Kind.{Kind}
 use Rattle.etcs_text.specs.declared.entry.Kind.TheVariants as kind_is
 use Rattle.etcs_text.specs.Entries.{EntryValue, of_telegram, of_message, kind_of, EntryReads}
 use Rattle.etcs_json.specs.Loose.{HasLength}
-use Rattle.etcs_json.proofs.OneItems.{kind_same, telegram_message, way_same}
+use Rattle.etcs_text.proofs.ItemKinds.{kind_same, telegram_message, way_same}
 
 abbrev pub Language : Kind → Reading → Type 0
 Language kind = readings_of (EntryReads kind)

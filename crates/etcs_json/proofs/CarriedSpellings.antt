@@ -39,7 +39,7 @@ use Rattle.etcs_json.specs.TreeReading.{ArePacketTrees, IsTreeOf}
 use Rattle.etcs_json.specs.Loose.{HasLength, IsLoose, LooseSpells, StandsFor, TreeSays, packets_of, unnamed, unnamed_entry, unnamed_message, unnamed_telegram, way_of}
 use Rattle.etcs_json.proofs.CarriedPackets.{same_bits}
 use Rattle.etcs_json.proofs.CarriedItems.{headed, message_long, telegram_long}
-use Rattle.etcs_json.proofs.OneItems.{telegram_message}
+use Rattle.etcs_text.proofs.ItemKinds.{telegram_message}
 use Rattle.etcs_json.proofs.OwnStored.{own_bits}
 
 -- ---- Items that need no stand-ins.

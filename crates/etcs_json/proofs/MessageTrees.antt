@@ -26,7 +26,7 @@ use Rattle.etcs_text.specs.Show.{way_word}
 use Rattle.etcs_text.specs.Trees.{bits_tree}
 use Rattle.etcs_json.specs.Loose.{HasStandIns, IsLoose, unnamed, unnamed_message}
 use Rattle.etcs_json.specs.TreeReading.{ArePairTrees, ArePacketTrees, IsMessageTree, IsTreeOf, kept_message_tree, message_tree, plain}
-use Rattle.etcs_json.proofs.OneItems.{telegram_message, way_same}
+use Rattle.etcs_text.proofs.ItemKinds.{telegram_message, way_same}
 use Rattle.etcs_json.proofs.PacketTrees.{SaysNumbers, OnlyNumbers}
 
 -- ---- Its parts.

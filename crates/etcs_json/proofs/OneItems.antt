@@ -5,7 +5,7 @@ use Rattle.serde_json.specs.View.{items_of}
 use Rattle.etcs_vars.specs.Reading.{Reading}
 use Rattle.etcs_vars.proofs.Apart.{AllFit}
 use Rattle.etcs_tables.specs.declared.row.Way.{Way}
-use Rattle.etcs_tables.specs.declared.row.Way.TheVariants.{ToTrain, ToTrack}
+use Rattle.etcs_tables.specs.declared.row.Way.TheVariants.{ToTrain}
 use Rattle.etcs_tables.specs.Layouts.{Layout, Reads}
 use Rattle.etcs_tables.specs.Rows.{message_row_to}
 use Rattle.etcs_reader.specs.laws.FieldLaws.{fields_agree}
@@ -13,13 +13,12 @@ use Rattle.etcs_messages.specs.Kinds.{head_row}
 use Rattle.etcs_messages.specs.Messages.{MessageValue, typed_message, kept_message, MessageReads, head_reading}
 use Rattle.etcs_messages.proofs.Faults.{carried_packets}
 use Rattle.etcs_messages.proofs.Spelling.{admitted_fit as head_fit}
-use Rattle.etcs_telegram.specs.declared.size.Size.{Size}
-use Rattle.etcs_telegram.specs.declared.size.Size.TheVariants as size
 use Rattle.etcs_telegram.specs.Telegrams.{TelegramValue, TelegramReads, header_reading}
 use Rattle.etcs_telegram.proofs.HeaderLemmas.{admitted_fit, header_same}
 use Rattle.etcs_telegram.proofs.Spellings.{header_agree}
 use Rattle.etcs_text.specs.declared.entry.Kind.{Kind}
-use Rattle.etcs_text.specs.Entries.{EntryValue, of_telegram, of_message, kind_of, message_kind}
+use Rattle.etcs_text.specs.Entries.{EntryValue, of_telegram, of_message}
+use Rattle.etcs_text.proofs.ItemKinds.{kind_same, way_same, telegram_message}
 use Rattle.etcs_text.specs.Trees.{bits_tree, pair_tree, packet_tree, json_tree}
 use Rattle.etcs_json.specs.Loose.{IsLoose, unnamed, unnamed_telegram, unnamed_message}
 use Rattle.etcs_json.specs.TreeReading.{IsTelegramTree, IsMessageTree, IsTreeOf}
@@ -27,12 +26,6 @@ use Rattle.etcs_json.proofs.OneTrees.{bits_same, packets_same, pairs_same, row_s
 use Rattle.etcs_json.proofs.OwnTrees.{packets_own, pairs_own}
 
 -- ---- Telegrams.
-
-pub kind_same : (s z : Size) → kind_of s ≡ kind_of z → s ≡ z
-kind_same size.Long size.Long e = refl
-kind_same size.Short size.Short e = refl
-kind_same size.Long size.Short e = absurd cc
-kind_same size.Short size.Long e = absurd cc
 
 telegram_same : (t u : TelegramValue) (d : Data) (r q : Reading) → TelegramReads (unnamed_telegram t) r → TelegramReads (unnamed_telegram u) q → t.size ≡ u.size → IsTelegramTree t d → IsTelegramTree u d → t ≡ u
 telegram_same t u d r q x y sized (hs, ps, is, head, packets) (hs', ps', is', head', packets') =
@@ -74,18 +67,6 @@ message_same way (kept_message nid b) (kept_message nid' c) d r q x y is is' =
     λ i. kept_message (number i) (same i)
 
 -- ---- Items.
-
-pub way_same : (v w : Way) → message_kind v ≡ message_kind w → v ≡ w
-way_same ToTrain ToTrain e = refl
-way_same ToTrack ToTrack e = refl
-way_same ToTrain ToTrack e = absurd cc
-way_same ToTrack ToTrain e = absurd cc
-
-pub telegram_message : (s : Size) (way : Way) → kind_of s ≡ message_kind way → ⊥
-telegram_message size.Long ToTrain e = absurd cc
-telegram_message size.Long ToTrack e = absurd cc
-telegram_message size.Short ToTrain e = absurd cc
-telegram_message size.Short ToTrack e = absurd cc
 
 -- messages with one tree are one
 messages_same : (v w : Way) (m n : MessageValue) (d : Data) (r q : Reading) → v ≡ w → MessageReads v (unnamed_message v m) r → MessageReads w (unnamed_message w n) q → IsMessageTree v m d → IsMessageTree w n d → ◌≡◌ {A = EntryValue} (of_message v m) (of_message w n)

@@ -22,7 +22,8 @@ use Rattle.etcs_text.specs.declared.entry.Kind.{Kind}
 use Rattle.etcs_text.specs.Entries.{EntryValue, of_telegram, of_message, EntryReads}
 use Rattle.etcs_json.specs.JsonLines.{OfLine, SaysItem, SaysRefused}
 use Rattle.etcs_json.specs.Loose.{LooseSpells, IsStored, TreeSays, TreeRefused}
-use Rattle.etcs_json.proofs.OneItems.{kind_same, telegram_message, way_same, one_loose}
+use Rattle.etcs_text.proofs.ItemKinds.{kind_same, telegram_message, way_same}
+use Rattle.etcs_json.proofs.OneItems.{one_loose}
 
 -- ---- One spelling.
 

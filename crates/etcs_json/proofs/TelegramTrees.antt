@@ -20,7 +20,7 @@ use Rattle.etcs_text.specs.Show.{kind_word}
 use Rattle.etcs_text.specs.Trees.{bits_tree}
 use Rattle.etcs_json.specs.Loose.{HasStandIns, IsLoose, unnamed, unnamed_telegram}
 use Rattle.etcs_json.specs.TreeReading.{ArePairTrees, ArePacketTrees, IsTelegramTree, IsTreeOf, telegram_tree}
-use Rattle.etcs_json.proofs.OneItems.{kind_same, telegram_message}
+use Rattle.etcs_text.proofs.ItemKinds.{kind_same, telegram_message}
 use Rattle.etcs_json.proofs.PacketTrees.{SaysNumbers, OnlyNumbers}
 
 -- ---- The header.

@@ -80,7 +80,7 @@ fn long_lines(rt: HostRuntime) {
     assert_eq!(rt; checks.wrong(), None);
 }
 
-/// Lines of n blanks or brackets, up to as many as a line has, and of so many closed brackets after them.
+/// Lines of n blanks or brackets, up to as many as a line has, and of n closed brackets after them.
 static NO_ITEMS: [(&[u8], usize, usize); 18] = [
     (b" ", 1, 0),
     (b" ", 4096, 0),

@@ -4,7 +4,7 @@ use Rattle.std.specs.Prelude.{codes, replicate}
 use Rattle.std.specs.Fmt.{digits}
 use Rattle.json.specs.Print.{escape_byte}
 use Rattle.serde_json.specs.Written.{compact_text}
-use Rattle.etcs_vars.specs.declared.var.Var.TheVariants.{T_TRAIN, M_ACK, NID_LRBG, NID_EM, Q_SRSTOP, NID_RADIO, NID_ENGINE, Q_STATUS, M_ERROR}
+use Rattle.etcs_vars.specs.declared.var.Var.TheVariants.{T_TRAIN, M_ACK, NID_LRBG, NID_EM, NID_ENGINE, Q_STATUS}
 use Rattle.etcs_vars.specs.Reading.{Reading}
 use Rattle.etcs_tables.specs.declared.row.Way.TheVariants.{ToTrain, ToTrack}
 use Rattle.etcs_packets.specs.PacketValues as packet
@@ -12,7 +12,7 @@ use Rattle.etcs_messages.specs.Messages.{typed_message, kept_message}
 use Rattle.etcs_telegram.specs.declared.size.Size.TheVariants.{Short}
 use Rattle.etcs_telegram.specs.Telegrams.{HeaderValue}
 use Rattle.etcs_text.specs.Entries.{of_message, of_telegram}
-use Rattle.etcs_text.specs.Trees.{json_tree, packet_tree, pair_tree}
+use Rattle.etcs_text.specs.Trees.{json_tree}
 
 abbrev head : Reading
 head = (T_TRAIN, 0) ∷ (M_ACK, 0) ∷ (NID_LRBG, 16385) ∷ []
@@ -35,20 +35,7 @@ pub telegram_line : compact_text (json_tree (of_telegram (record { size = Short;
 unfolding digits escape_byte
 telegram_line = refl
 
-pub typed_packet : compact_text (packet_tree ToTrain (packet.typed 137 1 ((Q_SRSTOP, 1) ∷ []))) ≡ codes "{\"dir\":1,\"fields\":[[\"Q_SRSTOP\",1]],\"nid\":137}"
-unfolding digits escape_byte
-typed_packet = refl
-
 -- to the track no packet has a direction
 pub train_line : compact_text (json_tree (of_message ToTrack (typed_message 157 ((T_TRAIN, 0) ∷ (NID_ENGINE, 7) ∷ []) ((Q_STATUS, 1) ∷ []) (packet.kept 44 0 (true ∷ []) ∷ []) (replicate 6 false)))) ≡ codes "{\"fields\":[[\"Q_STATUS\",1]],\"header\":[[\"T_TRAIN\",0],[\"NID_ENGINE\",7]],\"kind\":\"train\",\"nid\":157,\"packets\":[{\"data\":\"1\",\"nid\":44}],\"padding\":\"000000\"}"
 unfolding digits escape_byte
 train_line = refl
-
-pub train_packet : compact_text (packet_tree ToTrack (packet.typed 4 0 ((M_ERROR, 1) ∷ []))) ≡ codes "{\"fields\":[[\"M_ERROR\",1]],\"nid\":4}"
-unfolding digits escape_byte
-train_packet = refl
-
--- the digits of NID_RADIO
-pub radio_pair : compact_text (pair_tree (NID_RADIO, 1311768467750121216)) ≡ codes "[\"NID_RADIO\",\"12345678abcdef00\"]"
-unfolding digits escape_byte
-radio_pair = refl

@@ -1,14 +1,9 @@
+pub mod AcceptedLines
 pub mod Encoding
-pub mod FrameLines
-pub mod HexDigits
 pub mod ItemKinds
 pub mod JsonExamples
 pub mod MessageExamples
 pub mod MessageTexts
-pub mod NumberTexts
-pub mod PairSinks
-pub mod PlainTexts
-pub mod Refusals
+pub mod TelegramTexts
 pub mod TextLengths
-pub mod Texts
 pub mod TreeTexts

@@ -17,7 +17,7 @@ use Rattle.etcs_messages.specs.Kinds.{HeadOf, OwnOf}
 use Rattle.etcs_messages.specs.Messages.{all_bits, head_reading, message_value, padding_room}
 use Rattle.etcs_messages.specs.Readings.{bytes_of, front_reading, padding_bits_of, padding_of}
 use Rattle.etcs_text.specs.Messages.{message_bits, message_bytes, message_line, front_variables, behind_lines, message_text}
-use Rattle.etcs_text.specs.Show.{variable_line}
+use Rattle.etcs_packet_text.specs.Show.{variable_line}
 
 module _ {H B P : Type 0} (way : Way) (k : HeadOf H) (o : OwnOf B) (form : P → Form) where
   -- ---- How many bits there are.

@@ -1,18 +1,13 @@
--- The text of trees, part by part.
-use Rattle.std.proofs.Common.{◌≡◌, ℕ, length, take, Bool, false, List, [], ◌∷◌, ◌++◌, map, refl, sym, ap, ◌∙◌, cond, arith, append_assoc, subst, Result, Ok, Err, Some, None}
-use Rattle.std.specs.Prelude.{OnOk, OnErr, codes, decimal}
-use Rattle.std.specs.Result.{is_ok}
-use Rattle.std.proofs.lemmas.List.{take_all}
+-- The text of trees of items, part by part.
+use Rattle.std.proofs.Common.{◌≡◌, ℕ, Bool, List, ◌++◌, map, refl, sym, ap, ◌∙◌, append_assoc, Some}
+use Rattle.std.specs.Prelude.{codes, decimal}
 use Rattle.json.specs.Print.{escape_byte, quoted}
-use Rattle.serde_json.specs.Data.{Data, array}
-use Rattle.serde_json.specs.View.{items_of}
-use Rattle.serde_json.specs.Written.{compact_text, items_text}
+use Rattle.serde_json.specs.Written.{compact_text}
 use Rattle.etcs_bits.specs.Bits.{num}
 use Rattle.etcs_vars.specs.Reading.{Reading}
 use Rattle.etcs_tables.specs.declared.row.Way.{Way}
 use Rattle.etcs_tables.specs.declared.row.Way.TheVariants.{ToTrain, ToTrack}
-use Rattle.etcs_packets.specs.PacketValues.{PacketValue, Form, marker, typed, kept}
-use Rattle.etcs_packets.specs.PacketValues as packet
+use Rattle.etcs_packets.specs.PacketValues.{PacketValue, Form}
 use Rattle.etcs_messages.specs.declared.message.Content.{Content}
 use Rattle.etcs_messages.specs.declared.message.Content.TheVariants.{Typed, Kept}
 use Rattle.etcs_messages.specs.Kinds.{HeadOf, OwnOf}
@@ -21,68 +16,12 @@ use Rattle.etcs_messages.specs.Readings.{body_of, head_of, kept_of, nid_of_messa
 use Rattle.etcs_telegram.specs.declared.size.Size.{Size}
 use Rattle.etcs_telegram.specs.declared.size.Size.TheVariants.{Short, Long}
 use Rattle.etcs_telegram.specs.Telegrams.{HeaderValue, header_reading}
-use Rattle.etcs_text.specs.Fronts.{Begins}
-use Rattle.etcs_text.specs.laws.Fronts.{begins_more}
-use Rattle.etcs_text.specs.JsonParts.{data_text, fields_text, message_behind, message_front, telegram_text, way_member}
-use Rattle.etcs_text.specs.PairSinks.{Listed, with_each, with_pairs}
-use Rattle.etcs_text.specs.laws.PairSinks.{each_begins}
-use Rattle.etcs_text.proofs.PairSinks.{list_text}
-use Rattle.etcs_text.proofs.PlainTexts.{quoted_bits}
-use Rattle.etcs_text.specs.Show.{bit_digit, way_word}
-use Rattle.etcs_text.specs.Trees.{message_tree, packet_tree, packets_tree, pair_tree, pairs_tree, telegram_tree}
-
--- ---- Lists.
-
--- a list with its end
-pub closed_ok : {A T E : Type 0} (r : Result T E) (f : A → Data) (old text new : List ℕ) (s : Listed) (xs : List A) → s ≡ with_each f (old ++ 91 ∷ [], false) xs → text ≡ s.0 → new ≡ cond (is_ok r) (text ++ 93 ∷ []) text → OnOk r (new ≡ old ++ compact_text (array (items_of (map f xs))))
-closed_ok (Ok x) f old text new s xs is t e =
-    e
-    ∙ ap (λ (z : List ℕ). z ++ 93 ∷ []) (t ∙ ap (λ (z : Listed). z.0) is)
-    ∙ list_text f (old ++ 91 ∷ []) false xs
-    ∙ append_assoc old (91 ∷ []) (items_text false (items_of (map f xs)))
-closed_ok (Err x) f old text new s xs is t e = tt
-
--- what was there stays, after a bracket and items
-pub list_begins : {A : Type 0} (f : A → Data) (old new : List ℕ) (s : Listed) (xs : List A) → s ≡ with_each f (old ++ 91 ∷ [], false) xs → Begins s.0 new → Begins old new
-list_begins f old new s xs is h =
-    begins_more old (old ++ 91 ∷ []) new (91 ∷ []) refl (each_begins f (old ++ 91 ∷ [], false) xs new (subst (λ (t : Listed). Begins t.0 new) is h))
-
-pub closed_err : {A T E : Type 0} (r : Result T E) (f : A → Data) (old text new : List ℕ) (s : Listed) (xs : List A) → s ≡ with_each f (old ++ 91 ∷ [], false) xs → text ≡ s.0 → new ≡ cond (is_ok r) (text ++ 93 ∷ []) text → OnErr r (Begins old new)
-closed_err (Ok x) f old text new s xs is t e = tt
-closed_err (Err x) f old text new s xs is t e = list_begins f old new s xs is (ap (take (length s.0)) (e ∙ t) ∙ take_all (length s.0) s.0 (omega arith))
-
-pub begins_listed : (s t : Listed) (r : Reading) (new : List ℕ) → t ≡ with_pairs s r → Begins t.0 new → Begins s.0 new
-begins_listed s t r new e h = each_begins pair_tree s r new (subst (λ (z : Listed). Begins z.0 new) e h)
-
--- ---- Packets.
-
--- a packet that is kept as bits
-pub kept_packet : (way : Way) (v : PacketValue) (bits : List Bool) → Some bits ≡ packet.kept_of v → data_text way v bits ≡ compact_text (packet_tree way v)
-unfolding escape_byte
-kept_packet way (marker n) bits e = absurd cc
-kept_packet way (typed nid dir r) bits e = absurd cc
-kept_packet ToTrain (kept nid dir b) bits e =
-    let same : bits ≡ b = cc in
-    let rest = decimal nid ++ codes "}" in
-    ap (λ (z : List Bool). codes "{\"data\":\"" ++ (map bit_digit z ++ ((codes "\",\"dir\":" ++ (decimal dir ++ codes ",\"nid\":")) ++ rest))) same
-    ∙ ap (λ (z : List ℕ). codes "{\"data\":\"" ++ (map bit_digit b ++ (codes "\",\"dir\":" ++ z))) (append_assoc (decimal dir) (codes ",\"nid\":") rest)
-    ∙ ap (λ (z : List ℕ). codes "{\"data\":" ++ z) (sym (quoted_bits b (codes ",\"dir\":" ++ (decimal dir ++ (codes ",\"nid\":" ++ rest)))))
-kept_packet ToTrack (kept nid dir b) bits e =
-    let same : bits ≡ b = cc in
-    let rest = decimal nid ++ codes "}" in
-    ap (λ (z : List Bool). codes "{\"data\":\"" ++ (map bit_digit z ++ (codes "\",\"nid\":" ++ rest))) same
-    ∙ ap (λ (z : List ℕ). codes "{\"data\":" ++ z) (sym (quoted_bits b (codes ",\"nid\":" ++ rest)))
-
--- a packet with fields
-pub sent_packet : (way : Way) (v : PacketValue) → None ≡ packet.kept_of v → fields_text way v ≡ compact_text (packet_tree way v)
-unfolding escape_byte
-sent_packet ToTrain (marker n) h = refl
-sent_packet ToTrack (marker n) h = refl
-sent_packet ToTrain (typed nid dir r) h =
-    let rest = compact_text (pairs_tree r) ++ (codes ",\"nid\":" ++ (decimal nid ++ codes "}")) in
-    ap (λ (z : List ℕ). codes "{\"dir\":" ++ z) (append_assoc (decimal dir) (codes ",\"fields\":") rest)
-sent_packet ToTrack (typed nid dir r) h = refl
-sent_packet way (kept nid dir b) h = absurd cc
+use Rattle.etcs_text.specs.JsonParts.{message_behind, message_front, telegram_text, way_member}
+use Rattle.etcs_packet_text.proofs.PlainTexts.{quoted_bits}
+use Rattle.etcs_packet_text.specs.Show.{bit_digit}
+use Rattle.etcs_text.specs.Show.{way_word}
+use Rattle.etcs_packet_text.specs.Trees.{packets_tree, pairs_tree}
+use Rattle.etcs_text.specs.Trees.{message_tree, telegram_tree}
 
 -- ---- Telegrams.
 

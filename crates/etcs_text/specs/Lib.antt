@@ -1,12 +1,7 @@
-pub mod Fronts
 pub mod Entries
 pub mod Encodings
 pub mod JsonParts
-pub mod LineSinks
 pub mod Messages
-pub mod Packets
-pub mod PairSinks
 pub mod Show
 pub mod Telegrams
 pub mod Trees
-pub mod laws

@@ -6,8 +6,9 @@ use Rattle.etcs_vars.specs.Reading.{Reading, spelled}
 use Rattle.etcs_tables.specs.declared.row.Way.{Way}
 use Rattle.etcs_packets.specs.PacketReadings.{readings_to}
 use Rattle.etcs_messages.specs.Messages.{MessageValue, typed_message, kept_message, front_of, head_reading}
-use Rattle.etcs_text.specs.Show.{variable_line, bits_line, way_word}
-use Rattle.etcs_text.specs.Packets.{packets_text}
+use Rattle.etcs_packet_text.specs.Show.{variable_line, bits_line}
+use Rattle.etcs_text.specs.Show.{way_word}
+use Rattle.etcs_packet_text.specs.Packets.{packets_text}
 
 -- how many bits it has
 abbrev pub message_bits : Way → MessageValue → ℕ

@@ -1,11 +1,6 @@
--- The text of an item: a line for it, one for each variable, and one for the bits after the last packet.
-use Rattle.std.specs.Prelude.{ℕ, zero, suc, ◌+◌, ◌-◌, ◌/◌, ◌%◌, Bool, List, [], ◌∷◌, ◌++◌, length, map, Option, Some, None, codes, nat_lt, if◌then◌else◌}
+-- The first line of the text of an item.
+use Rattle.std.specs.Prelude.{ℕ, List, ◌++◌, codes}
 use Rattle.std.specs.Fmt.{decimal}
-use Rattle.etcs_bits.specs.Bits.{bit}
-use Rattle.etcs_vars.specs.declared.var.Var.{Var}
-use Rattle.etcs_vars.specs.declared.var.Var.TheVariants.{NID_RADIO, D_REF}
-use Rattle.etcs_vars.specs.Vars.{name, special}
-use Rattle.etcs_vars.specs.Reading.{Sent}
 use Rattle.etcs_tables.specs.declared.row.Way.{Way}
 use Rattle.etcs_tables.specs.declared.row.Way.TheVariants.{ToTrain, ToTrack}
 use Rattle.etcs_telegram.specs.declared.size.Size.{Size}
@@ -24,52 +19,3 @@ way_word ToTrack = codes "train"
 -- the line of the item with its number, its kind and its count of bits
 abbrev pub item_line : Size → ℕ → List ℕ
 item_line size item = codes "item " ++ decimal item ++ codes " " ++ kind_word size ++ codes " " ++ decimal (user_bits size) ++ codes " bits\n"
-
--- what follows a number that has a meaning of its own
-abbrev pub special_text : Option (List ℕ) → List ℕ
-special_text None = []
-special_text (Some text) = codes " (" ++ text ++ codes ")"
-
--- a digit of a hexadecimal number: 0 to 9, then a to f
-abbrev pub hex_digit : ℕ → ℕ
-hex_digit d = if nat_lt d 10 then 48 + d else 87 + d
-
--- the last digits of a number in hexadecimal, this many of them
-abbrev pub hex_digits : ℕ → ℕ → List ℕ
-hex_digits zero n = []
-hex_digits (suc count) n = hex_digits count (n / 16) ++ hex_digit (n % 16) ∷ []
-
--- a number that is sent in two's complement of 16 bits
-abbrev pub signed_text : ℕ → List ℕ
-signed_text n = if nat_lt n 32768 then decimal n else codes "-" ++ decimal (65536 - n)
-
--- the number of a variable: NID_RADIO as its sixteen digits of four bits, D_REF with its sign, all others in decimal
-abbrev pub number_text : Var → ℕ → List ℕ
-number_text NID_RADIO n = hex_digits 16 n
-number_text D_REF n = signed_text n
-number_text v n = decimal n
-
--- what comes before it in its line
-abbrev pub line_front : Var → List ℕ
-line_front v = codes "  " ++ name v ++ codes " "
-
--- a variable and its number
-abbrev pub variable_line : Sent → List ℕ
-variable_line p = line_front p.0 ++ number_text p.0 p.1 ++ special_text (special p.0 p.1) ++ codes "\n"
-
--- a bit as a digit, 0 or 1
-abbrev pub bit_digit : Bool → ℕ
-bit_digit b = 48 + bit b
-
--- bits, where there are any
-abbrev pub bits_text : List Bool → List ℕ
-bits_text [] = []
-bits_text (b ∷ bs) = codes " " ++ map bit_digit (b ∷ bs)
-
--- bits under a name: their count, and they themselves
-abbrev pub bits_line : List ℕ → List Bool → List ℕ
-bits_line text bs = codes "  " ++ text ++ codes " " ++ decimal (length bs) ++ bits_text bs ++ codes "\n"
-
--- the bits after the last packet
-abbrev pub fill_line : List Bool → List ℕ
-fill_line bs = bits_line (codes "FILL") bs

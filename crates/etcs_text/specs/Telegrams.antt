@@ -2,8 +2,9 @@
 use Rattle.std.specs.Prelude.{ℕ, List, ◌++◌, flat_map, codes}
 use Rattle.etcs_tables.specs.declared.row.Way.TheVariants.{ToTrain}
 use Rattle.etcs_telegram.specs.Telegrams.{TelegramValue, header_reading}
-use Rattle.etcs_text.specs.Show.{item_line, variable_line, fill_line}
-use Rattle.etcs_text.specs.Packets.{packets_text}
+use Rattle.etcs_packet_text.specs.Show.{variable_line, fill_line}
+use Rattle.etcs_text.specs.Show.{item_line}
+use Rattle.etcs_packet_text.specs.Packets.{packets_text}
 
 -- the text of a telegram that is the item of this number
 unfoldable pub show_text : TelegramValue → ℕ → List ℕ

@@ -5,22 +5,14 @@
 //! show_lines(&entry, 1, &mut out)?; // as `etcs show`: the item of number 1
 //! json_line(&entry, &mut out)?; // as `etcs convert --to json`
 //! ```
-#![tactic(auto, using(crate::specs::laws::Fronts::begins_more))]
+#![tactic(auto, using(etcs_packet_text::specs::laws::Fronts::begins_more))]
 
-mod digits;
 mod entry;
-mod fronts;
 mod json_lines;
-mod json_packets;
 mod messages;
-mod packets;
-mod pairs;
 pub mod parts;
 mod show;
-mod signed;
 mod telling;
-mod text;
-mod variables;
 
 pub use entry::{Entry, Kind};
 pub use etcs_radio::Message;

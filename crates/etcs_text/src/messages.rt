@@ -4,17 +4,18 @@ ghost use Rattle.std.specs.Prelude.{◌≡◌, ◌++◌, OnErr, OnOk, codes, fla
 ghost use Rattle.etcs_bits.specs.Bits.{num};
 ghost use Rattle.etcs_messages.specs.Messages.{message_value, values_of};
 ghost use Rattle.etcs_messages.specs.Readings.{front_reading, packets_of, padding_bits_of, padding_of};
-ghost use Rattle.etcs_text.specs.Fronts.{Begins};
+ghost use Rattle.etcs_packet_text.specs.Fronts.{Begins};
+ghost use Rattle.etcs_packet_text.specs.Packets.{packets_text};
+ghost use Rattle.etcs_packet_text.specs.Show.{bits_line, variable_line};
 ghost use Rattle.etcs_text.specs.Messages.{behind_lines, message_bits, message_line, message_text};
-ghost use Rattle.etcs_text.specs.Packets.{packets_text};
-ghost use Rattle.etcs_text.specs.Show.{bits_line, variable_line, way_word};
+ghost use Rattle.etcs_text.specs.Show.{way_word};
 
-use crate::packets::{LineSink, write_packets};
-use crate::text::{write_decimal, write_item_number};
-use crate::variables::write_bits_line;
 use etcs_bits::BitSlice;
 use etcs_messages::parts::{reads, send_front};
 use etcs_messages::{Head, MessageOf, Own};
+use etcs_packet_text::parts::{
+    LineSink, write_bits_line, write_decimal, write_item_number, write_packets,
+};
 use etcs_packets::parts::AnyPacket;
 use etcs_tables::Way;
 use etcs_vars::Var;

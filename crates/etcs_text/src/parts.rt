@@ -1,6 +1,5 @@
-//! For the crates above: the text of packets alone, of numbers, and of bytes, and parts of JSON.
+//! For the crates above: parts of JSON, and the text of packets alone, of numbers, and of bytes, which is that of
+//! `etcs_packet_text`.
 
-pub use crate::digits::to_digits;
 pub use crate::json_lines::{kind_member, way_member};
-pub use crate::packets::write_packets;
-pub use crate::text::{write_decimal, write_item_number};
+pub use etcs_packet_text::parts::{to_digits, write_decimal, write_item_number, write_packets};

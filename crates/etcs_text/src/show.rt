@@ -3,17 +3,16 @@
 ghost use Rattle.std.specs.Fmt.{decimal};
 ghost use Rattle.std.specs.Prelude.{◌≡◌, ◌++◌, OnErr, OnOk, codes, flat_map};
 ghost use Rattle.etcs_telegram.specs.Telegrams.{header_reading, user_bits};
+ghost use Rattle.etcs_packet_text.specs.Fronts.{Begins};
+ghost use Rattle.etcs_packet_text.specs.Show.{variable_line};
 ghost use Rattle.etcs_text.specs.Entries.{entry_text, entry_value};
-ghost use Rattle.etcs_text.specs.Fronts.{Begins};
-ghost use Rattle.etcs_text.specs.Show.{item_line, kind_word, variable_line};
+ghost use Rattle.etcs_text.specs.Show.{item_line, kind_word};
 ghost use Rattle.etcs_text.specs.Telegrams.{show_text};
 ghost use Rattle.etcs_telegram.specs.Telegrams.{telegram_value};
 
 use crate::entry::Entry;
 use crate::messages::write_message;
-use crate::packets::{LineSink, write_packets};
-use crate::text::write_item_number;
-use crate::variables::write_bits_line;
+use etcs_packet_text::parts::{LineSink, write_bits_line, write_item_number, write_packets};
 use etcs_telegram::{Header, Size, Telegram};
 use etcs_vars::Var;
 use etcs_vars::parts::Variables;

@@ -5,16 +5,15 @@ ghost use Rattle.std.specs.Fmt.{decimal};
 ghost use Rattle.hex.specs.Hex.{encode_upper};
 ghost use Rattle.etcs_messages.specs.Messages.{message_value};
 ghost use Rattle.etcs_telegram.specs.Telegrams.{telegram_value, user_bits};
+ghost use Rattle.etcs_packet_text.specs.Fronts.{Begins};
 ghost use Rattle.etcs_text.specs.Entries.{entry_value, of_message, of_telegram};
-ghost use Rattle.etcs_text.specs.Fronts.{Begins};
 ghost use Rattle.etcs_text.specs.Encodings.{IsEncoded, check_line};
 ghost use Rattle.etcs_text.specs.Messages.{message_bits};
 
-use crate::digits::to_digits;
 use crate::entry::Entry;
 use crate::messages::message_bits;
-use crate::text::{write_decimal, write_item_number};
 use etcs_messages::{Head, MessageOf, Own};
+use etcs_packet_text::parts::{to_digits, write_decimal, write_item_number};
 use etcs_packets::parts::AnyPacket;
 use etcs_telegram::{Size, Telegram};
 use std::alloc::AllocError;

@@ -4,11 +4,11 @@ use Rattle.serde_json.specs.Written.{compact_text}
 use Rattle.etcs_bits.specs.Bits.{num}
 use Rattle.etcs_messages.specs.Messages.{values_of}
 use Rattle.etcs_messages.specs.Readings.{packets_of, padding_bits_of, padding_of}
-use Rattle.etcs_text.specs.laws.Fronts.{begins_more}
-use Rattle.etcs_text.specs.Show.{bit_digit}
-use Rattle.etcs_text.specs.Trees.{packets_tree}
-use Rattle.etcs_text.proofs.Refusals.{behind_ok, on_err}
-use Rattle.etcs_text.proofs.Texts.{on_extended}
+use Rattle.etcs_packet_text.specs.laws.Fronts.{begins_more}
+use Rattle.etcs_packet_text.specs.Show.{bit_digit}
+use Rattle.etcs_packet_text.specs.Trees.{packets_tree}
+use Rattle.etcs_packet_text.proofs.Refusals.{behind_ok, on_err}
+use Rattle.etcs_packet_text.proofs.Texts.{on_extended}
 use Rattle.etcs_text.proofs.json_lines.write_behind.Goals as goal
 
 pub returns-in_err-write_padding-clause-err : goal.returns-in_err-write_padding-clause-err

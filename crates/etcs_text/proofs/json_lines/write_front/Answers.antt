@@ -1,11 +1,11 @@
 use Rattle.std.proofs.Common.{◌++◌, ◌∙◌, ap}
 use Rattle.std.specs.Prelude.{codes}
 use Rattle.serde_json.specs.Written.{compact_text}
-use Rattle.etcs_text.specs.laws.Fronts.{begins_more}
+use Rattle.etcs_packet_text.specs.laws.Fronts.{begins_more}
 use Rattle.etcs_text.specs.JsonParts.{way_member}
-use Rattle.etcs_text.specs.Trees.{pairs_tree}
-use Rattle.etcs_text.proofs.Refusals.{behind_ok, on_err}
-use Rattle.etcs_text.proofs.Texts.{on_extended}
+use Rattle.etcs_packet_text.specs.Trees.{pairs_tree}
+use Rattle.etcs_packet_text.proofs.Refusals.{behind_ok, on_err}
+use Rattle.etcs_packet_text.proofs.Texts.{on_extended}
 use Rattle.etcs_text.proofs.json_lines.write_front.Goals as goal
 
 pub returns-in_err-write_variables-2-clause-err : goal.returns-in_err-write_variables-2-clause-err

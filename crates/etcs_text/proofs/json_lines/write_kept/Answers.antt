@@ -2,8 +2,8 @@ use Rattle.std.proofs.Common.{◌++◌, ◌∙◌, ℕ, List, ap, map, decimal}
 use Rattle.std.specs.Prelude.{codes}
 use Rattle.etcs_messages.specs.Readings.{nid_of_message}
 use Rattle.etcs_text.specs.JsonParts.{way_member}
-use Rattle.etcs_text.specs.Show.{bit_digit}
-use Rattle.etcs_text.proofs.Refusals.{behind_ok, on_error, on_ok}
+use Rattle.etcs_packet_text.specs.Show.{bit_digit}
+use Rattle.etcs_packet_text.proofs.Refusals.{behind_ok, on_error, on_ok}
 use Rattle.etcs_text.proofs.TreeTexts.{kept_is}
 use Rattle.etcs_text.proofs.json_lines.write_kept.Goals as goal
 

@@ -3,8 +3,8 @@ use Rattle.std.specs.Prelude.{codes}
 use Rattle.serde_json.specs.Written.{compact_text}
 use Rattle.etcs_text.specs.Entries.{entry_value}
 use Rattle.etcs_text.specs.Trees.{json_tree}
-use Rattle.etcs_text.proofs.Refusals.{behind_ok, extended_err, on_error}
-use Rattle.etcs_text.proofs.Texts.{on_extended}
+use Rattle.etcs_packet_text.proofs.Refusals.{behind_ok, extended_err, on_error}
+use Rattle.etcs_packet_text.proofs.Texts.{on_extended}
 use Rattle.etcs_text.proofs.json_lines.write_line.Goals as goal
 
 pub returns-clause-ok : goal.returns-clause-ok

@@ -6,12 +6,12 @@ use Rattle.etcs_packets.specs.PacketValues.{packet_value}
 use Rattle.etcs_tables.specs.declared.row.Way.TheVariants.{ToTrain}
 use Rattle.etcs_telegram.specs.declared.size.Size.{Size}
 use Rattle.etcs_telegram.specs.Telegrams.{HeaderValue, header_reading}
-use Rattle.etcs_text.specs.laws.Fronts.{begins_more}
+use Rattle.etcs_packet_text.specs.laws.Fronts.{begins_more}
 use Rattle.etcs_text.specs.JsonParts.{kind_member}
-use Rattle.etcs_text.specs.Show.{bit_digit}
-use Rattle.etcs_text.specs.Trees.{packets_tree, pairs_tree}
-use Rattle.etcs_text.proofs.Refusals.{behind_ok, on_err, on_ok}
-use Rattle.etcs_text.proofs.Texts.{on_extended}
+use Rattle.etcs_packet_text.specs.Show.{bit_digit}
+use Rattle.etcs_packet_text.specs.Trees.{packets_tree, pairs_tree}
+use Rattle.etcs_packet_text.proofs.Refusals.{behind_ok, on_err, on_ok}
+use Rattle.etcs_packet_text.proofs.Texts.{on_extended}
 use Rattle.etcs_text.proofs.TreeTexts.{telegram_is}
 use Rattle.etcs_text.proofs.json_lines.write_telegram.Goals as goal
 

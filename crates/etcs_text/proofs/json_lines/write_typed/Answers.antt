@@ -3,8 +3,8 @@ use Rattle.etcs_bits.specs.Bits.{num}
 use Rattle.etcs_messages.specs.Messages.{values_of}
 use Rattle.etcs_messages.specs.Readings.{nid_of_message, packets_of, padding_bits_of, padding_of}
 use Rattle.etcs_text.specs.JsonParts.{message_behind, message_front}
-use Rattle.etcs_text.specs.laws.Fronts.{begins_more}
-use Rattle.etcs_text.proofs.Refusals.{behind_ok, on_err, on_error, on_ok}
+use Rattle.etcs_packet_text.specs.laws.Fronts.{begins_more}
+use Rattle.etcs_packet_text.proofs.Refusals.{behind_ok, on_err, on_error, on_ok}
 use Rattle.etcs_text.proofs.TreeTexts.{typed_is}
 use Rattle.etcs_text.proofs.json_lines.write_typed.Goals as goal
 

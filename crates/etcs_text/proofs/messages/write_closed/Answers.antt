@@ -1,4 +1,4 @@
-use Rattle.etcs_text.proofs.Refusals.{on_error}
+use Rattle.etcs_packet_text.proofs.Refusals.{on_error}
 use Rattle.etcs_text.proofs.messages.write_closed.Goals as goal
 
 pub returns-clause-err : goal.returns-clause-err

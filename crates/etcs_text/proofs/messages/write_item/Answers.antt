@@ -1,5 +1,5 @@
-use Rattle.etcs_text.specs.laws.Fronts.{begins_more}
-use Rattle.etcs_text.proofs.Refusals.{on_err}
+use Rattle.etcs_packet_text.specs.laws.Fronts.{begins_more}
+use Rattle.etcs_packet_text.proofs.Refusals.{on_err}
 use Rattle.etcs_text.proofs.messages.write_item.Goals as goal
 
 pub returns-in_err-write_decimal-clause-err : goal.returns-in_err-write_decimal-clause-err

@@ -1,9 +1,9 @@
 use Rattle.std.proofs.Common.{◌++◌, ◌∙◌, ap}
 use Rattle.etcs_tables.specs.declared.row.Way.{Way}
 use Rattle.etcs_text.specs.Messages.{message_line}
-use Rattle.etcs_text.specs.laws.Fronts.{begins_more}
+use Rattle.etcs_packet_text.specs.laws.Fronts.{begins_more}
 use Rattle.etcs_text.proofs.MessageTexts.{text_ok}
-use Rattle.etcs_text.proofs.Refusals.{on_err, on_error}
+use Rattle.etcs_packet_text.proofs.Refusals.{on_err, on_error}
 use Rattle.etcs_text.proofs.messages.write_message.Goals as goal
 
 pub returns-clause-ok : goal.returns-clause-ok

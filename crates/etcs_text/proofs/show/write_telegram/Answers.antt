@@ -1,8 +1,8 @@
 use Rattle.std.proofs.Common.{map, ap}
 use Rattle.etcs_packets.specs.PacketValues.{packet_value}
-use Rattle.etcs_text.specs.laws.Fronts.{begins_more}
-use Rattle.etcs_text.proofs.Refusals.{on_err, unchanged}
-use Rattle.etcs_text.proofs.Texts.{telegram_text}
+use Rattle.etcs_packet_text.specs.laws.Fronts.{begins_more}
+use Rattle.etcs_packet_text.proofs.Refusals.{on_err, unchanged}
+use Rattle.etcs_text.proofs.TelegramTexts.{telegram_text}
 use Rattle.etcs_text.proofs.show.write_telegram.Goals as goal
 
 pub returns-clause-ok : goal.returns-clause-ok

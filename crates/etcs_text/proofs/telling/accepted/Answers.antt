@@ -1,4 +1,4 @@
-use Rattle.etcs_text.proofs.NumberTexts.{short_text, long_text}
+use Rattle.etcs_text.proofs.AcceptedLines.{short_text, long_text}
 use Rattle.etcs_text.proofs.telling.accepted.Goals as goal
 
 pub returns-in-Short : goal.returns-in-Short

@@ -1,6 +1,6 @@
 use Rattle.std.proofs.Common.{refl}
-use Rattle.etcs_text.proofs.NumberTexts.{accepted_line}
-use Rattle.etcs_text.proofs.Refusals.{extended_err, on_error}
+use Rattle.etcs_text.proofs.AcceptedLines.{accepted_line}
+use Rattle.etcs_packet_text.proofs.Refusals.{extended_err, on_error}
 use Rattle.etcs_text.proofs.telling.write_check.Goals as goal
 
 pub returns-in-Message-clause-ok : goal.returns-in-Message-clause-ok

@@ -1,0 +1,10 @@
+pub mod FrameLines
+pub mod HexDigits
+pub mod JsonExamples
+pub mod NumberTexts
+pub mod PairSinks
+pub mod PlainTexts
+pub mod Refusals
+pub mod TextLengths
+pub mod Texts
+pub mod TreeTexts

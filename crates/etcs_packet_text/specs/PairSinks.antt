@@ -1,0 +1,22 @@
+-- What a list in JSON holds before its end: a text, with the items that were appended, and a sink of pairs.
+use Rattle.std.proofs.Common.{ℕ, Bool, true, List, ◌++◌, fold}
+use Rattle.serde_json.specs.Data.{Data}
+use Rattle.serde_json.specs.Written.{comma_if, compact_text}
+use Rattle.etcs_vars.specs.Reading.{Reading}
+use Rattle.etcs_packet_text.specs.Trees.{pair_tree}
+
+-- a text, and whether an item of the list is at its end
+abbrev pub Listed : Type 0
+Listed = List ℕ × Bool
+
+-- one more item, after a comma where it isn't the first
+abbrev pub with_item : Listed → Data → Listed
+with_item s d = (s.0 ++ (comma_if s.1 ++ compact_text d), true)
+
+-- an item for each x
+abbrev pub with_each : {A : Type 0} → (A → Data) → Listed → List A → Listed
+with_each f s xs = fold (λ t x. with_item t (f x)) s xs
+
+-- a pair for each variable
+abbrev pub with_pairs : Listed → Reading → Listed
+with_pairs s r = with_each pair_tree s r

@@ -1,0 +1,13 @@
+//! Text and JSON of variables and packets: lines, digits, and pairs of name and number. All of them are appended to bytes; no
+//! tree is made. Its calls are in `parts`, for the crates above.
+#![tactic(auto, using(crate::specs::laws::Fronts::begins_more))]
+
+mod digits;
+mod fronts;
+mod json_packets;
+mod packets;
+mod pairs;
+pub mod parts;
+mod signed;
+mod text;
+mod variables;

@@ -1,5 +1,5 @@
-//! Text and JSON of variables and packets: lines, digits, and pairs of name and number. All of them are appended to bytes; no
-//! tree is made. Its calls are in `parts`, for the crates above.
+//! Text and JSON of variables and packets: lines, pairs of name and number, and digits. All of them are appended to bytes;
+//! no tree is made. The calls are in `parts`, for the crates above.
 #![tactic(auto, using(crate::specs::laws::Fronts::begins_more))]
 
 mod digits;

@@ -8,12 +8,12 @@ use crate::packets::{listed, next_dir};
 use crate::readers::next_size;
 use crate::telegrams::{check_laws, encoded};
 use etcs_bits::Bits;
+use etcs_packet_text::parts::write_packets;
 use etcs_packets::Packet;
 use etcs_packets::parts::AnyPacket;
 use etcs_tables::Way;
 use etcs_telegram::parts::header_numbers;
 use etcs_telegram::{Header, Size, Telegram};
-use etcs_text::parts::write_packets;
 use etcs_vars::BuildFault;
 
 /// What is answered of a fault.

@@ -8,7 +8,7 @@ use Rattle.std.proofs.lemmas.List.{take_all, get_or-map, length-append, length-m
 use Rattle.std.proofs.lemmas.List.Elements.{All-nil, All-push}
 use Rattle.etcs_bits.specs.Bits.{num, number_at}
 use Rattle.etcs_bits.proofs.Views.{number_bits, number_below}
-use Rattle.etcs_text.specs.Show.{hex_digit, hex_digits, bit_digit}
+use Rattle.etcs_packet_text.specs.Show.{hex_digit, hex_digits, bit_digit}
 use Rattle.etcs_json.specs.Digits.{lower}
 
 -- ---- Hexadecimal digits.

@@ -19,8 +19,8 @@ use Rattle.etcs_flat.specs.Others.{other_fault}
 use Rattle.etcs_packets.specs.PacketValues.{PacketValue, marker, typed, kept, IsPacketTo}
 use Rattle.etcs_sequence.specs.laws.Framed.{marker_small}
 use Rattle.etcs_sequence.specs.laws.Others as others
-use Rattle.etcs_text.specs.Show.{hex_digit, bit_digit}
-use Rattle.etcs_text.specs.Trees.{bits_tree}
+use Rattle.etcs_packet_text.specs.Show.{hex_digit, bit_digit}
+use Rattle.etcs_packet_text.specs.Trees.{bits_tree}
 use Rattle.etcs_json.proofs.DigitLemmas.{one_bits, one_hex}
 use Rattle.etcs_json.specs.Loose.{stand_in, unnamed}
 use Rattle.etcs_json.specs.TreeParts.{SaysDirection}

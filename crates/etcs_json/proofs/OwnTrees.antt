@@ -8,8 +8,8 @@ use Rattle.etcs_vars.specs.declared.var.Var.TheVariants.{NID_RADIO, NID_VBCMK}
 use Rattle.etcs_vars.specs.Reading.{Reading}
 use Rattle.etcs_tables.specs.declared.row.Way.{Way}
 use Rattle.etcs_packets.specs.PacketValues.{PacketValue, marker, typed, kept}
-use Rattle.etcs_text.specs.Show.{hex_digit, hex_digits}
-use Rattle.etcs_text.specs.Trees.{number_tree, pair_tree, packet_tree}
+use Rattle.etcs_packet_text.specs.Show.{hex_digit, hex_digits}
+use Rattle.etcs_packet_text.specs.Trees.{number_tree, pair_tree, packet_tree}
 use Rattle.etcs_json.proofs.OneTrees.{digit_is}
 use Rattle.etcs_json.specs.Digits.{lower}
 use Rattle.etcs_json.specs.TreeReading.{SaysNumber, ArePairTrees, IsPacketTree, ArePacketTrees}

@@ -20,7 +20,7 @@ use Rattle.etcs_rows.proofs.RowLaws.{one_spelling}
 use Rattle.etcs_packets.specs.PacketValues.{PacketValue, Form, marker, typed, kept, variables_of, IsTypedOf, IsPacketTo}
 use Rattle.etcs_sequence.specs.laws.Framed.{framed_small, typed_framed}
 use Rattle.etcs_sequence.specs.laws.Others.{kept_parts, kept_framed, kept_untyped}
-use Rattle.etcs_text.specs.Trees.{bits_tree}
+use Rattle.etcs_packet_text.specs.Trees.{bits_tree}
 use Rattle.etcs_json.specs.Loose.{stand_in, unnamed}
 use Rattle.etcs_json.specs.TreeParts.{SaysDirection}
 use Rattle.etcs_json.specs.TreeReading.{ArePairTrees, IsPacketTree, ArePacketTrees, marker_tree, typed_tree, kept_tree, plain}

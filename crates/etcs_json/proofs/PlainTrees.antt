@@ -27,8 +27,10 @@ use Rattle.etcs_telegram.specs.declared.size.Size.TheVariants as size
 use Rattle.etcs_telegram.specs.Telegrams.{TelegramValue, TelegramReads, header_reading, closed_reading, pad_bits}
 use Rattle.etcs_telegram.proofs.Spellings.{regular}
 use Rattle.etcs_text.specs.Entries.{EntryValue, of_telegram, of_message, Spells}
-use Rattle.etcs_text.specs.Show.{hex_digit, hex_digits, bit_digit, kind_word, way_word}
-use Rattle.etcs_text.specs.Trees.{number_tree, pair_tree, packet_tree, telegram_tree, message_tree, json_tree}
+use Rattle.etcs_packet_text.specs.Show.{hex_digit, hex_digits, bit_digit}
+use Rattle.etcs_text.specs.Show.{kind_word, way_word}
+use Rattle.etcs_packet_text.specs.Trees.{number_tree, pair_tree, packet_tree}
+use Rattle.etcs_text.specs.Trees.{telegram_tree, message_tree, json_tree}
 use Rattle.etcs_json.proofs.PlainTexts.{is_plain, are_plain, IsPlain, ArePlain, read_plain, utf8_plain, without_plain}
 
 -- ---- Texts.

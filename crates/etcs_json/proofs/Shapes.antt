@@ -12,7 +12,8 @@ use Rattle.etcs_messages.specs.declared.message.Content.TheVariants.{Typed, Kept
 use Rattle.etcs_messages.specs.Kinds.{HeadOf, OwnOf}
 use Rattle.etcs_messages.specs.Messages.{message_value, values_of}
 use Rattle.etcs_messages.specs.Readings.{nid_of_message, head_of, body_of, kept_of, packets_of, padding_bits_of, padding_of}
-use Rattle.etcs_text.specs.Trees.{pairs_tree, bits_tree, packets_tree, message_tree}
+use Rattle.etcs_packet_text.specs.Trees.{pairs_tree, bits_tree, packets_tree}
+use Rattle.etcs_text.specs.Trees.{message_tree}
 use Rattle.etcs_json.specs.TreeParts.{typed_members}
 
 -- ---- Values.

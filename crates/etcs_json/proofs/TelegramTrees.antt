@@ -17,7 +17,7 @@ use Rattle.etcs_telegram.proofs.Rows.{row_header, admitted_row, header_reads}
 use Rattle.etcs_messages.proofs.Fronts.{as_row, row_fields, fields_row}
 use Rattle.etcs_text.specs.Entries.{EntryValue, of_telegram, of_message, kind_of}
 use Rattle.etcs_text.specs.Show.{kind_word}
-use Rattle.etcs_text.specs.Trees.{bits_tree}
+use Rattle.etcs_packet_text.specs.Trees.{bits_tree}
 use Rattle.etcs_json.specs.Loose.{HasStandIns, IsLoose, unnamed, unnamed_telegram}
 use Rattle.etcs_json.specs.TreeReading.{ArePairTrees, ArePacketTrees, IsTelegramTree, IsTreeOf, telegram_tree}
 use Rattle.etcs_text.proofs.ItemKinds.{kind_same, telegram_message}

@@ -12,8 +12,9 @@ use Rattle.etcs_packets.specs.PacketValues.{PacketValue, marker, typed, kept}
 use Rattle.etcs_telegram.specs.Telegrams.{TelegramValue, header_reading}
 use Rattle.etcs_messages.specs.Messages.{MessageValue, typed_message, kept_message}
 use Rattle.etcs_text.specs.Entries.{EntryValue, of_telegram, of_message}
-use Rattle.etcs_text.specs.Show.{hex_digits, kind_word, way_word}
-use Rattle.etcs_text.specs.Trees.{bits_tree, with_dir}
+use Rattle.etcs_packet_text.specs.Show.{hex_digits}
+use Rattle.etcs_text.specs.Show.{kind_word, way_word}
+use Rattle.etcs_packet_text.specs.Trees.{bits_tree, with_dir}
 
 -- a number without fraction or exponent
 abbrev pub plain : ℕ → Data

@@ -3,7 +3,7 @@
 ghost use Rattle.std.specs.Prelude.{◌≡◌, ◌↔◌, ℕ, ◌<◌, IsTrue, List, Bool, Some, IfOk, IfSome};
 ghost use Rattle.serde_json.specs.Data.{string};
 ghost use Rattle.serde_json.specs.View.{view};
-ghost use Rattle.etcs_text.specs.Trees.{bits_tree};
+ghost use Rattle.etcs_packet_text.specs.Trees.{bits_tree};
 ghost use Rattle.etcs_json.specs.TreeReading.{plain};
 
 use crate::written::digits::bits_of;

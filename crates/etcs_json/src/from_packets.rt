@@ -9,7 +9,7 @@ ghost use Rattle.etcs_vars.specs.Reading.{Reading, numbers};
 ghost use Rattle.etcs_tables.specs.declared.row.Way.TheVariants.{ToTrain, ToTrack};
 ghost use Rattle.etcs_tables.specs.Frames.{is_marker};
 ghost use Rattle.etcs_packets.specs.PacketValues.{PacketValue, IsPacketTo, IsTypedOf, kept, marker, typed, variables_of};
-ghost use Rattle.etcs_text.specs.Trees.{bits_tree, with_dir};
+ghost use Rattle.etcs_packet_text.specs.Trees.{bits_tree, with_dir};
 ghost use Rattle.etcs_json.specs.Loose.{stand_in, unnamed};
 ghost use Rattle.etcs_json.specs.TreeParts.{SaysDirection};
 ghost use Rattle.etcs_json.specs.TreeReading.{ArePairTrees, ArePacketTrees, IsPacketTree, kept_tree, marker_tree, plain, typed_tree};

@@ -2,8 +2,8 @@
 
 ghost use Rattle.std.specs.Prelude.{◌≡◌, ◌<◌, ◌++◌, IfOk, OnOk, string_bytes};
 ghost use Rattle.serde_json.specs.View.{view};
-ghost use Rattle.etcs_text.specs.Show.{hex_digit, hex_digits};
-ghost use Rattle.etcs_text.specs.Trees.{bits_tree, number_tree, pair_tree, pairs_tree};
+ghost use Rattle.etcs_packet_text.specs.Show.{hex_digit, hex_digits};
+ghost use Rattle.etcs_packet_text.specs.Trees.{bits_tree, number_tree, pair_tree, pairs_tree};
 
 use etcs_bits::BitSlice;
 use etcs_vars::parts::Variables;

@@ -10,7 +10,8 @@ ghost use Rattle.etcs_messages.specs.Readings.{kept_of, padding_bits_of, padding
 ghost use Rattle.etcs_telegram.specs.Telegrams.{telegram_value};
 ghost use Rattle.etcs_text.specs.Entries.{entry_value};
 ghost use Rattle.etcs_text.specs.Show.{kind_word, way_word};
-ghost use Rattle.etcs_text.specs.Trees.{bits_tree, json_tree, message_tree, packet_tree, packets_tree, pairs_tree, telegram_tree};
+ghost use Rattle.etcs_packet_text.specs.Trees.{bits_tree, packet_tree, packets_tree, pairs_tree};
+ghost use Rattle.etcs_text.specs.Trees.{json_tree, message_tree, telegram_tree};
 ghost use Rattle.etcs_json.specs.TreeParts.{member_dir, typed_members};
 
 use crate::pairs::{bits_json, pairs_json, variables_json};

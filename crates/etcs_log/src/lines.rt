@@ -12,8 +12,8 @@ use crate::notes::{Bad, MOST_CHARACTERS, write_note};
 use crate::verdict::{ItemReader, Verdict};
 use etcs_digits::{NoBytes, line_bytes};
 use etcs_explain::parts::wanted_bytes;
+use etcs_packet_text::parts::to_digits;
 use etcs_stream::{Entry, Kind};
-use etcs_text::parts::to_digits;
 use etcs_vars::Var;
 use std::alloc::{AllocError, Global};
 

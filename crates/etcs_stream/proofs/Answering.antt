@@ -9,7 +9,7 @@ use Rattle.etcs_group.specs.declared.assembly.Added.{Added}
 use Rattle.etcs_group.specs.declared.assembly.Added.TheVariants.{New, Repeat}
 use Rattle.etcs_group.specs.Groups.{Holds, Joins}
 use Rattle.etcs_group.specs.Messages.{IsWhole, IsGroupMessage}
-use Rattle.etcs_text.specs.Packets.{packets_text}
+use Rattle.etcs_packet_text.specs.Packets.{packets_text}
 use Rattle.etcs_stream.specs.Groups.{Answers, AreMissing, GroupLines, LastLines, group_front, positions_text, trues}
 
 -- an answer of the assembly

@@ -26,8 +26,9 @@ use Rattle.etcs_group.specs.Groups.{Holds}
 use Rattle.etcs_group.specs.Messages.{Gives, FirstGive}
 use Rattle.etcs_group.proofs.Places.{held_place}
 use Rattle.etcs_text.specs.Entries.{EntryValue, of_telegram, of_message}
-use Rattle.etcs_text.specs.Packets.{packet_text, packets_text}
-use Rattle.etcs_text.proofs.TextLengths.{decimal_short, five_long, fit_front, fit_behind, spelled_long, packets_short}
+use Rattle.etcs_packet_text.specs.Packets.{packet_text, packets_text}
+use Rattle.etcs_packet_text.proofs.TextLengths.{decimal_short, fit_front, fit_behind, spelled_long, packets_short}
+use Rattle.etcs_text.proofs.TextLengths.{five_long}
 use Rattle.etcs_stream.specs.declared.job.Command.TheVariants.{Group}
 use Rattle.etcs_stream.specs.Told.{Told}
 use Rattle.etcs_stream.specs.Groups.{GroupItem, LastLines, GroupLines, trues, clash_name, answer_words, positions_text, group_front}

@@ -19,7 +19,7 @@ use Rattle.etcs_group.specs.Messages.{Gives, FirstGive}
 use Rattle.etcs_group.proofs.Clashing.{order}
 use Rattle.etcs_group.proofs.Joining.{joins_not}
 use Rattle.etcs_group.proofs.Places.{held_place, place_held}
-use Rattle.etcs_text.specs.Packets.{packets_text}
+use Rattle.etcs_packet_text.specs.Packets.{packets_text}
 use Rattle.etcs_stream.specs.Told.{Told}
 use Rattle.etcs_stream.specs.Groups.{GroupItem, Answers, answer_line, clashes_with, AreMissing, trues, positions_text, group_front, GroupLines, LastLines}
 

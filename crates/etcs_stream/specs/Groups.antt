@@ -12,7 +12,7 @@ use Rattle.etcs_group.specs.declared.clash.Clash.TheVariants.{BadPosition, BadDu
 use Rattle.etcs_group.specs.Groups.{IsGroup, Holds, HoldsNone, Joins, HeldAfter}
 use Rattle.etcs_group.specs.Clashes.{IsFirstClash}
 use Rattle.etcs_group.specs.Messages.{IsMissing, IsWhole, IsGroupMessage}
-use Rattle.etcs_text.specs.Packets.{packets_text}
+use Rattle.etcs_packet_text.specs.Packets.{packets_text}
 use Rattle.etcs_stream.specs.Told.{Told}
 
 abbrev pub clash_name : Clash → List ℕ

@@ -3,15 +3,15 @@
 ghost use Rattle.std.specs.Prelude.{◌≡◌, ◌++◌, ℕ, List, codes, map, OnErr, OnOk};
 ghost use Rattle.etcs_tables.specs.declared.row.Way.TheVariants.{ToTrain};
 ghost use Rattle.etcs_packets.specs.PacketValues.{packet_value};
-ghost use Rattle.etcs_text.specs.Fronts.{Begins};
-ghost use Rattle.etcs_text.specs.Packets.{packets_text};
+ghost use Rattle.etcs_packet_text.specs.Fronts.{Begins};
+ghost use Rattle.etcs_packet_text.specs.Packets.{packets_text};
 ghost use Rattle.std.specs.Fmt.{decimal};
 ghost use Rattle.etcs_stream.specs.Groups.{LastLines, answer_line, answer_words, clash_name, group_front, positions_text, trues};
 
 use etcs_group::parts::group;
 use etcs_group::{Added, Assembly, Clash, GroupFault};
+use etcs_packet_text::parts::{write_decimal, write_item_number, write_packets};
 use etcs_packets::Packet;
-use etcs_text::parts::{write_decimal, write_item_number, write_packets};
 use std::alloc::AllocError;
 
 /// Appends the line that says what the item of this number is to the group, or nothing.
@@ -68,7 +68,7 @@ fn name_of(clash: Clash) -> &'static str
 }
 
 /// Appends the words of an answer.
-#[tactic(auto, using(etcs_text::specs::laws::Fronts::begins_more))]
+#[tactic(auto, using(etcs_packet_text::specs::laws::Fronts::begins_more))]
 fn write_words(answer: Result<Added, Clash>, text: &mut Vec<u8>) -> Result<(), AllocError>
     ensures ok { OnOk result (text.new.items ≡ text.old.items ++ answer_words answer) }
     ensures err { OnErr result (Begins text.old.items text.new.items) }
@@ -84,7 +84,7 @@ fn write_words(answer: Result<Added, Clash>, text: &mut Vec<u8>) -> Result<(), A
 }
 
 /// Appends the line of an answer.
-#[tactic(auto, using(etcs_text::specs::laws::Fronts::begins_more))]
+#[tactic(auto, using(etcs_packet_text::specs::laws::Fronts::begins_more))]
 fn write_answer(
     item: u64,
     answer: Result<Added, Clash>,
@@ -100,7 +100,7 @@ fn write_answer(
 }
 
 /// Appends a number after what comes before it.
-#[tactic(auto, using(etcs_text::specs::laws::Fronts::begins_more))]
+#[tactic(auto, using(etcs_packet_text::specs::laws::Fronts::begins_more))]
 fn write_number(front: &[u8], number: u64, text: &mut Vec<u8>) -> Result<(), AllocError>
     ensures ok { OnOk result (text.new.items ≡ text.old.items ++ (front.now ++ decimal number)) }
     ensures err { OnErr result (Begins text.old.items text.new.items) }
@@ -110,7 +110,7 @@ fn write_number(front: &[u8], number: u64, text: &mut Vec<u8>) -> Result<(), All
 }
 
 /// Appends NID_C and NID_BG of a group.
-#[tactic(auto, using(etcs_text::specs::laws::Fronts::begins_more))]
+#[tactic(auto, using(etcs_packet_text::specs::laws::Fronts::begins_more))]
 fn write_group(country: u16, group: u16, text: &mut Vec<u8>) -> Result<(), AllocError>
     ensures ok { OnOk result (text.new.items ≡ text.old.items ++ group_front country group) }
     ensures err { OnErr result (Begins text.old.items text.new.items) }
@@ -120,7 +120,7 @@ fn write_group(country: u16, group: u16, text: &mut Vec<u8>) -> Result<(), Alloc
 }
 
 /// Appends the positions that are missing, each after a blank.
-#[tactic(auto, using(etcs_text::specs::laws::Fronts::begins_more))]
+#[tactic(auto, using(etcs_packet_text::specs::laws::Fronts::begins_more))]
 fn write_missing(missing: &[bool; 8], text: &mut Vec<u8>) -> Result<(), AllocError>
     ensures ok { OnOk result (text.new.items ≡ text.old.items ++ positions_text (trues 8 missing.now)) }
     ensures err { OnErr result (Begins text.old.items text.new.items) }
@@ -134,7 +134,7 @@ fn write_missing(missing: &[bool; 8], text: &mut Vec<u8>) -> Result<(), AllocErr
 }
 
 /// Appends the end of the line of a whole group, and the packets of its message.
-#[tactic(auto, using(etcs_text::specs::laws::Fronts::begins_more))]
+#[tactic(auto, using(etcs_packet_text::specs::laws::Fronts::begins_more))]
 fn write_complete(packets: &[Packet], text: &mut Vec<u8>) -> Result<(), AllocError>
     ensures ok { OnOk result (text.new.items ≡ text.old.items ++ (codes " complete\n" ++ packets_text ToTrain (map packet_value packets.now))) }
     ensures err { OnErr result (Begins text.old.items text.new.items) }
@@ -144,7 +144,7 @@ fn write_complete(packets: &[Packet], text: &mut Vec<u8>) -> Result<(), AllocErr
 }
 
 /// Appends the end of the line of a group that isn't whole.
-#[tactic(auto, using(etcs_text::specs::laws::Fronts::begins_more))]
+#[tactic(auto, using(etcs_packet_text::specs::laws::Fronts::begins_more))]
 fn write_lacking(missing: &[bool; 8], text: &mut Vec<u8>) -> Result<(), AllocError>
     ensures ok { OnOk result (text.new.items ≡ text.old.items ++ (codes " missing" ++ positions_text (trues 8 missing.now) ++ codes "\n")) }
     ensures err { OnErr result (Begins text.old.items text.new.items) }
@@ -155,7 +155,7 @@ fn write_lacking(missing: &[bool; 8], text: &mut Vec<u8>) -> Result<(), AllocErr
 }
 
 /// Appends the last lines.
-#[tactic(auto, using(etcs_text::specs::laws::Fronts::begins_more))]
+#[tactic(auto, using(etcs_packet_text::specs::laws::Fronts::begins_more))]
 fn write_last(assembly: &Assembly, text: &mut Vec<u8>) -> Result<(), AllocError>
     ensures ok { OnOk result ((last : List ℕ) × LastLines assembly.now last × (text.new.items ≡ text.old.items ++ last)) }
     ensures err { OnErr result (Begins text.old.items text.new.items) }

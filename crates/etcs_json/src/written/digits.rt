@@ -2,7 +2,7 @@
 
 ghost use Rattle.std.specs.Prelude.{◌≡◌, ◌<◌, ◌≤◌, ◌^◌, ℕ, Bool, List, Some, IfOk, IfSome, IsNone, length, map};
 ghost use Rattle.etcs_bits.specs.Bits.{num};
-ghost use Rattle.etcs_text.specs.Show.{hex_digit, hex_digits, bit_digit};
+ghost use Rattle.etcs_packet_text.specs.Show.{hex_digit, hex_digits, bit_digit};
 ghost use Rattle.etcs_json.specs.Digits.{lower};
 
 use etcs_bits::Bits;

@@ -2,7 +2,7 @@ use Rattle.std.proofs.Common.{ap, ◌∙◌}
 use Rattle.serde_json.specs.Data.{array, string}
 use Rattle.etcs_telegram.specs.declared.size.Size.{Size}
 use Rattle.etcs_text.specs.Show.{kind_word}
-use Rattle.etcs_text.specs.Trees.{bits_tree}
+use Rattle.etcs_packet_text.specs.Trees.{bits_tree}
 use Rattle.etcs_json.specs.TreeReading.{telegram_tree}
 use Rattle.etcs_json.proofs.from_telegram.telegram_in.Goals as goal
 

@@ -1,6 +1,6 @@
 use Rattle.std.proofs.Common.{◌≡◌, map, take}
 use Rattle.serde_json.specs.View.{view}
-use Rattle.etcs_text.specs.Trees.{packet_tree}
+use Rattle.etcs_packet_text.specs.Trees.{packet_tree}
 use Rattle.etcs_json.proofs.trees.packets_json.Given as goal
 
 abbrev pub invariant-loop-packet : goal.invariant-loop-packet

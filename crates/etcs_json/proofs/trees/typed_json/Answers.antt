@@ -1,6 +1,6 @@
 use Rattle.std.proofs.Common.{◌∙◌, List, ap, sym}
 use Rattle.etcs_messages.specs.Messages.{values_of}
-use Rattle.etcs_text.specs.Trees.{packets_tree, pairs_tree}
+use Rattle.etcs_packet_text.specs.Trees.{packets_tree, pairs_tree}
 use Rattle.etcs_json.proofs.Shapes.{typed_ok}
 use Rattle.etcs_json.proofs.trees.typed_json.Goals as goal
 

@@ -1,5 +1,5 @@
 use Rattle.std.proofs.Common.{◌≡◌, map, take, length}
-use Rattle.etcs_text.specs.Show.{bit_digit}
+use Rattle.etcs_packet_text.specs.Show.{bit_digit}
 use Rattle.etcs_json.proofs.written.digits.bits_of.Given as goal
 
 abbrev pub invariant-loop-digit : goal.invariant-loop-digit

@@ -1,6 +1,6 @@
 use Rattle.std.proofs.Common.{◌≡◌, ℕ, ◌<◌, map, refl, sym, ap, ◌∙◌, arith, Some}
 use Rattle.std.proofs.lemmas.List.{take_all}
-use Rattle.etcs_text.specs.Show.{hex_digits}
+use Rattle.etcs_packet_text.specs.Show.{hex_digits}
 use Rattle.etcs_json.specs.Digits.{lower}
 use Rattle.etcs_json.proofs.DigitLemmas.{hex_room, not_digit, one_hex}
 use Rattle.etcs_json.proofs.written.digits.hex_number.Goals as goal

@@ -1,5 +1,5 @@
 use Rattle.std.proofs.Common.{◌≡◌, ◌^◌, ◌<◌, map, take}
-use Rattle.etcs_text.specs.Show.{hex_digits}
+use Rattle.etcs_packet_text.specs.Show.{hex_digits}
 use Rattle.etcs_json.specs.Digits.{lower}
 use Rattle.etcs_json.proofs.written.digits.hex_number.Given as goal
 

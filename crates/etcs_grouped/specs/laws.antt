@@ -1,7 +1,6 @@
 pub mod BaliseLists
 pub mod Chains
 pub mod ConditionalLevelOrders
-pub mod Equality
 pub mod FixedTexts
 pub mod Fronts
 pub mod InfillLocations

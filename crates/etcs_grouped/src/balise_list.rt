@@ -9,6 +9,7 @@ ghost use Rattle.etcs_tables.specs.Rows.{row_to, balise_list};
 ghost use Rattle.etcs_bodies.specs.Faults.{◌or_else◌, number_fault};
 ghost use Rattle.etcs_grouped.specs.BaliseLists.{balise_list_value, nid_fault, balise_list_fault, balise_list_from};
 
+use etcs_bodies::laws::Exact;
 use etcs_bodies::{Body, Counted, Numbers, Part, check, taken};
 use etcs_parts::BaliseAt;
 use etcs_tables::Way;
@@ -163,4 +164,10 @@ where
             balises: self.balises.try_clone(alloc)?,
         })
     }
+}
+
+impl<const NID: u8> Exact for BaliseList<NID> {
+    ghost use Rattle.etcs_grouped.specs.laws.BaliseLists.{balise_list_exact};
+
+    ghost exact = { balise_list_exact };
 }

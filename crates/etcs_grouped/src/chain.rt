@@ -6,6 +6,7 @@ ghost use Rattle.etcs_tables.specs.Layouts.{whole};
 ghost use Rattle.etcs_tables.specs.Rows.{row_to};
 ghost use Rattle.etcs_grouped.specs.Chains.{chain_value, chain_fault, chain_row, too_long};
 
+use etcs_bodies::laws::Exact;
 use etcs_bodies::{Body, Entries, Entry, Numbers, Part, check_field, taken};
 use etcs_tables::Way;
 use etcs_vars::parts::{VarSink, Variables};
@@ -173,4 +174,10 @@ impl<E: Chained> Body for Chain<E> {
             entries: self.entries.try_clone(alloc)?,
         })
     }
+}
+
+impl<E: Entry + Exact> Exact for Chain<E> {
+    ghost use Rattle.etcs_grouped.specs.laws.Chains.{chain_exact};
+
+    ghost exact = { chain_exact E.exact };
 }

@@ -3,6 +3,7 @@
 ghost use Rattle.std.specs.Prelude.{◌≡◌, None, Some, IfOk, IfErr};
 ghost use Rattle.etcs_grouped.specs.ConditionalLevelOrders.{conditional_level_order_value, conditional_level_order_fault};
 
+use etcs_bodies::laws::Exact;
 use etcs_bodies::{Body, Entries, Numbers, Part, check_field, taken};
 use etcs_parts::Level;
 use etcs_tables::Way;
@@ -123,4 +124,10 @@ impl Body for ConditionalLevelOrder {
             levels: self.levels.try_clone(alloc)?,
         })
     }
+}
+
+impl Exact for ConditionalLevelOrder {
+    ghost use Rattle.etcs_grouped.specs.laws.ConditionalLevelOrders.{conditional_level_order_exact};
+
+    ghost exact = { conditional_level_order_exact };
 }

@@ -3,6 +3,7 @@
 ghost use Rattle.std.specs.Prelude.{◌≡◌, None, Some, IfOk, IfErr};
 ghost use Rattle.etcs_grouped.specs.FixedTexts.{fixed_text_value, fixed_text_fault, IsFixedText};
 
+use etcs_bodies::laws::Exact;
 use etcs_bodies::{Body, Numbers, Part, build_packet, send_fields, take_fields};
 use etcs_parts::TextFrame;
 use etcs_tables::Way;
@@ -118,4 +119,10 @@ impl Body for FixedText {
     fn copy(&self, _alloc: Global) -> Result<FixedText, AllocError> {
         Ok(*self)
     }
+}
+
+impl Exact for FixedText {
+    ghost use Rattle.etcs_grouped.specs.laws.FixedTexts.{fixed_text_exact};
+
+    ghost exact = { fixed_text_exact };
 }

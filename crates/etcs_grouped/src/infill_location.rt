@@ -3,6 +3,7 @@
 ghost use Rattle.std.specs.Prelude.{◌≡◌, None, Some, IfOk, IfErr};
 ghost use Rattle.etcs_grouped.specs.InfillLocations.{infill_location_value, infill_location_fault};
 
+use etcs_bodies::laws::Exact;
 use etcs_bodies::{Body, Numbers, Part, check, taken};
 use etcs_parts::BaliseAt;
 use etcs_tables::Way;
@@ -117,4 +118,10 @@ impl Body for InfillLocation {
     fn copy(&self, _alloc: Global) -> Result<InfillLocation, AllocError> {
         Ok(*self)
     }
+}
+
+impl Exact for InfillLocation {
+    ghost use Rattle.etcs_grouped.specs.laws.InfillLocations.{infill_location_exact};
+
+    ghost exact = { infill_location_exact };
 }

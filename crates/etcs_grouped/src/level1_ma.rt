@@ -3,6 +3,7 @@
 ghost use Rattle.std.specs.Prelude.{◌≡◌, None, Some, IfOk, IfErr};
 ghost use Rattle.etcs_grouped.specs.Level1Mas.{level1_ma_value, level1_ma_fault};
 
+use etcs_bodies::laws::Exact;
 use etcs_bodies::{Body, Numbers, Part, build_packet, copy_fields, send_fields, take_fields};
 use etcs_parts::Authority;
 use etcs_tables::Way;
@@ -155,4 +156,10 @@ impl Body for Level1Ma {
     fn copy(&self, alloc: Global) -> Result<Level1Ma, AllocError> {
         fields!(copy_fields: self, alloc, dir)
     }
+}
+
+impl Exact for Level1Ma {
+    ghost use Rattle.etcs_grouped.specs.laws.Level1Mas.{level1_ma_exact};
+
+    ghost exact = { level1_ma_exact };
 }

@@ -3,6 +3,7 @@
 ghost use Rattle.std.specs.Prelude.{◌≡◌, None, Some, IfOk, IfErr};
 ghost use Rattle.etcs_grouped.specs.Level23Mas.{level23_ma_value, level23_ma_fault};
 
+use etcs_bodies::laws::Exact;
 use etcs_bodies::{Body, Numbers, Part, build_packet, copy_fields, send_fields, take_fields};
 use etcs_parts::Authority;
 use etcs_tables::Way;
@@ -145,4 +146,10 @@ impl Body for Level23Ma {
     fn copy(&self, alloc: Global) -> Result<Level23Ma, AllocError> {
         fields!(copy_fields: self, alloc, dir)
     }
+}
+
+impl Exact for Level23Ma {
+    ghost use Rattle.etcs_grouped.specs.laws.Level23Mas.{level23_ma_exact};
+
+    ghost exact = { level23_ma_exact };
 }

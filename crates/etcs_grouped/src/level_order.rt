@@ -3,6 +3,7 @@
 ghost use Rattle.std.specs.Prelude.{◌≡◌, None, Some, IfOk, IfErr};
 ghost use Rattle.etcs_grouped.specs.LevelOrders.{level_order_value, level_order_fault};
 
+use etcs_bodies::laws::Exact;
 use etcs_bodies::{
     Body, Entries, Numbers, Part, build_packet, copy_fields, send_fields, take_fields,
 };
@@ -147,4 +148,10 @@ impl Body for LevelOrder {
     fn copy(&self, alloc: Global) -> Result<LevelOrder, AllocError> {
         fields!(copy_fields: self, alloc, dir)
     }
+}
+
+impl Exact for LevelOrder {
+    ghost use Rattle.etcs_grouped.specs.laws.LevelOrders.{level_order_exact};
+
+    ghost exact = { level_order_exact };
 }

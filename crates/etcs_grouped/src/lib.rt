@@ -7,7 +7,6 @@ mod conditional_level_order;
 mod fixed_text;
 mod gradient;
 mod infill_location;
-mod laws;
 mod level1_ma;
 mod level23_ma;
 mod level_order;

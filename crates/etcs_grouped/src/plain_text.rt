@@ -7,6 +7,7 @@ ghost use Rattle.etcs_bodies.specs.Faults.{count_fault};
 ghost use Rattle.etcs_vars.specs.declared.var.Var.TheVariants.{L_TEXT, X_TEXT};
 ghost use Rattle.etcs_grouped.specs.PlainTexts.{plain_text_value, plain_text_fault, IsPlainText, IsByte, text_reading, bytes_reading};
 
+use etcs_bodies::laws::Exact;
 use etcs_bodies::{Body, ListOf, Numbers, Part, check, check_count, taken};
 use etcs_parts::TextFrame;
 use etcs_tables::Way;
@@ -209,4 +210,10 @@ fn copy(alloc: Global, bytes: &[u8]) -> Result<Vec<u8>, AllocError>
     let mut copied = Vec::with_capacity(alloc, bytes.len())?;
     copied.extend_from_slice(bytes)?;
     Ok(copied)
+}
+
+impl Exact for PlainText {
+    ghost use Rattle.etcs_grouped.specs.laws.PlainTexts.{plain_text_exact};
+
+    ghost exact = { plain_text_exact };
 }

@@ -3,6 +3,7 @@
 ghost use Rattle.std.specs.Prelude.{◌≡◌, None, Some, IfOk, IfErr};
 ghost use Rattle.etcs_grouped.specs.ReportParameters.{report_parameters_value, report_parameters_fault};
 
+use etcs_bodies::laws::Exact;
 use etcs_bodies::{
     Body, Counted, Numbers, Part, build_packet, copy_fields, send_fields, take_fields,
 };
@@ -157,4 +158,10 @@ impl Body for ReportParameters {
     fn copy(&self, alloc: Global) -> Result<ReportParameters, AllocError> {
         fields!(copy_fields: self, alloc, dir)
     }
+}
+
+impl Exact for ReportParameters {
+    ghost use Rattle.etcs_grouped.specs.laws.ReportParameters.{report_parameters_exact};
+
+    ghost exact = { report_parameters_exact };
 }

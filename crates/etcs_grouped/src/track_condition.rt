@@ -8,6 +8,7 @@ ghost use Rattle.etcs_grouped.specs.laws.TrackConditions.{track_condition_exact}
 use crate::track_state::{
     TrackState, check_state, copy_state, same_state, send_state, state_bits, take_state,
 };
+use etcs_bodies::laws::Exact;
 use etcs_bodies::{Body, Numbers, check_field, taken};
 use etcs_tables::Way;
 use etcs_vars::parts::{VarSink, Variables};
@@ -158,4 +159,10 @@ impl Body for TrackCondition {
             state: copy_state(alloc, &self.state)?,
         })
     }
+}
+
+impl Exact for TrackCondition {
+    ghost use Rattle.etcs_grouped.specs.laws.TrackConditions.{track_condition_exact};
+
+    ghost exact = { track_condition_exact };
 }

@@ -7,9 +7,20 @@ use denote.Enum.Declared.{Choice, Record, values_one}
 use denote.Enum.Compared.{Each, by}
 use Rattle.etcs_bodies.specs.Equality.{IsExact}
 use Rattle.etcs_flat.proofs.Equality.{marker_exact, flat_exact, other_exact}
-use Rattle.etcs_parts.specs.laws.Equality.{link_exact, slope_exact, speed_exact, mode_section_exact}
+use Rattle.etcs_parts.specs.laws.Links.{link_exact}
+use Rattle.etcs_parts.specs.laws.Slopes.{slope_exact}
+use Rattle.etcs_parts.specs.laws.Speeds.{speed_exact}
+use Rattle.etcs_parts.specs.laws.ModeSections.{mode_section_exact}
 use Rattle.etcs_grouped.specs.laws.Chains.{chain_exact}
-use Rattle.etcs_grouped.specs.laws.Equality.{level1_ma_exact, level23_ma_exact, level_order_exact, conditional_level_order_exact, plain_text_exact, fixed_text_exact, infill_location_exact, balise_list_exact, report_parameters_exact}
+use Rattle.etcs_grouped.specs.laws.Level1Mas.{level1_ma_exact}
+use Rattle.etcs_grouped.specs.laws.Level23Mas.{level23_ma_exact}
+use Rattle.etcs_grouped.specs.laws.LevelOrders.{level_order_exact}
+use Rattle.etcs_grouped.specs.laws.ConditionalLevelOrders.{conditional_level_order_exact}
+use Rattle.etcs_grouped.specs.laws.PlainTexts.{plain_text_exact}
+use Rattle.etcs_grouped.specs.laws.FixedTexts.{fixed_text_exact}
+use Rattle.etcs_grouped.specs.laws.InfillLocations.{infill_location_exact}
+use Rattle.etcs_grouped.specs.laws.BaliseLists.{balise_list_exact}
+use Rattle.etcs_grouped.specs.laws.ReportParameters.{report_parameters_exact}
 use Rattle.etcs_grouped.specs.laws.TrackConditions.{track_condition_exact}
 use Rattle.etcs_packets.specs.contracts.packet.Packet as packet
 use Rattle.etcs_packets.specs.contracts.packet.PacketPartialEq.TheImpl as packet_eq

@@ -9,6 +9,7 @@ use crate::authority_groups::{
     send_overlap, take_danger_point, take_end_timer, take_overlap,
 };
 use crate::section::Section;
+use etcs_bodies::laws::Exact;
 use etcs_bodies::{
     ListOf, Numbers, Part, check_count, clone_all, hold_all, send_list, take_list, taken,
 };
@@ -219,4 +220,10 @@ impl Part for Authority {
             sections: ListOf::from_vec(clone_all(alloc, self.sections.as_slice())?),
         })
     }
+}
+
+impl Exact for Authority {
+    ghost use Rattle.etcs_parts.specs.laws.Authorities.{authority_exact};
+
+    ghost exact = { authority_exact };
 }

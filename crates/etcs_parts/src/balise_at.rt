@@ -2,6 +2,7 @@
 
 ghost use Rattle.std.specs.Prelude.{◌≡◌, None, Some, IfOk, IfErr, OnOk};
 
+use etcs_bodies::laws::Exact;
 use etcs_bodies::{Entry, Numbers, Part, check, taken};
 use etcs_vars::parts::{VarSink, Variables};
 use etcs_vars::{BuildFault, Var};
@@ -141,4 +142,10 @@ impl Entry for BaliseAt {
     ghost most = { λ p h. balise_at_most p };
 
     ghost short = { refl };
+}
+
+impl Exact for BaliseAt {
+    ghost use Rattle.etcs_parts.specs.laws.BalisesAt.{balise_at_exact};
+
+    ghost exact = { balise_at_exact };
 }

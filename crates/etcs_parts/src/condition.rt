@@ -2,6 +2,7 @@
 
 ghost use Rattle.std.specs.Prelude.{◌≡◌, None, Some, IfOk, IfErr, OnOk};
 
+use etcs_bodies::laws::Exact;
 use etcs_bodies::{Entry, Numbers, Part, build_part, send_fields, take_fields};
 use etcs_vars::parts::{VarSink, Variables};
 use etcs_vars::{BuildFault, Var};
@@ -129,4 +130,10 @@ impl Entry for Condition {
     ghost most = { λ p h. condition_most p };
 
     ghost short = { refl };
+}
+
+impl Exact for Condition {
+    ghost use Rattle.etcs_parts.specs.laws.Conditions.{condition_exact};
+
+    ghost exact = { condition_exact };
 }

@@ -3,6 +3,7 @@
 ghost use Rattle.std.specs.Prelude.{◌≡◌, None, Some, IfOk, IfErr, OnOk};
 ghost use Rattle.etcs_parts.specs.Differings.{category_of};
 
+use etcs_bodies::laws::Exact;
 use etcs_bodies::{Entry, Numbers, Part, check, taken};
 use etcs_vars::parts::{VarSink, Variables};
 use etcs_vars::{BuildFault, Var};
@@ -155,4 +156,10 @@ impl Entry for Differing {
     ghost most = { λ d h. differing_most d };
 
     ghost short = { refl };
+}
+
+impl Exact for Differing {
+    ghost use Rattle.etcs_parts.specs.laws.Differings.{differing_exact};
+
+    ghost exact = { differing_exact };
 }

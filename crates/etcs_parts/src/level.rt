@@ -2,6 +2,7 @@
 
 ghost use Rattle.std.specs.Prelude.{◌≡◌, None, Some, IfOk, IfErr, OnOk};
 
+use etcs_bodies::laws::Exact;
 use etcs_bodies::{Entry, Numbers, Part, check, check_guard, taken};
 use etcs_vars::parts::{VarSink, Variables};
 use etcs_vars::{BuildFault, Var};
@@ -133,4 +134,10 @@ impl Entry for Level {
     ghost most = { λ p h. level_most p };
 
     ghost short = { refl };
+}
+
+impl Exact for Level {
+    ghost use Rattle.etcs_parts.specs.laws.Levels.{level_exact};
+
+    ghost exact = { level_exact };
 }

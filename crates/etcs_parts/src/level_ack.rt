@@ -3,6 +3,7 @@
 ghost use Rattle.std.specs.Prelude.{◌≡◌, None, Some, IfOk, IfErr, OnOk};
 
 use crate::level::Level;
+use etcs_bodies::laws::Exact;
 use etcs_bodies::{Entry, Numbers, Part, build_part, send_fields, take_fields};
 use etcs_vars::parts::{VarSink, Variables};
 use etcs_vars::{BuildFault, Var};
@@ -140,4 +141,10 @@ impl Entry for LevelAck {
     ghost most = { λ p h. level_ack_most p };
 
     ghost short = { refl };
+}
+
+impl Exact for LevelAck {
+    ghost use Rattle.etcs_parts.specs.laws.Levels.{level_ack_exact};
+
+    ghost exact = { level_ack_exact };
 }

@@ -8,7 +8,6 @@ mod condition;
 mod confirmed;
 mod differing;
 mod groups;
-mod laws;
 mod level;
 mod level_ack;
 mod link;

@@ -3,6 +3,7 @@
 ghost use Rattle.std.specs.Prelude.{◌≡◌, None, Some, IfOk, IfErr, OnOk};
 
 use crate::balise_at::BaliseAt;
+use etcs_bodies::laws::Exact;
 use etcs_bodies::{Entry, Flag, Numbers, Part, build_part, send_fields, taken};
 use etcs_vars::parts::{VarSink, Variables};
 use etcs_vars::{BuildFault, Var};
@@ -177,4 +178,10 @@ impl Entry for Link {
     ghost most = { λ p h. link_most p };
 
     ghost short = { refl };
+}
+
+impl Exact for Link {
+    ghost use Rattle.etcs_parts.specs.laws.Links.{link_exact};
+
+    ghost exact = { link_exact };
 }

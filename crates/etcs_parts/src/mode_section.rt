@@ -2,6 +2,7 @@
 
 ghost use Rattle.std.specs.Prelude.{◌≡◌, None, Some, IfOk, IfErr, OnOk};
 
+use etcs_bodies::laws::Exact;
 use etcs_bodies::{Entry, Numbers, Part, build_part, send_fields, take_fields};
 use etcs_vars::parts::{VarSink, Variables};
 use etcs_vars::{BuildFault, Var};
@@ -164,4 +165,10 @@ impl Entry for ModeSection {
     ghost most = { λ p h. mode_section_most p };
 
     ghost short = { refl };
+}
+
+impl Exact for ModeSection {
+    ghost use Rattle.etcs_parts.specs.laws.ModeSections.{mode_section_exact};
+
+    ghost exact = { mode_section_exact };
 }

@@ -2,6 +2,7 @@
 
 ghost use Rattle.std.specs.Prelude.{◌≡◌, None, Some, IfOk, IfErr, OnOk};
 
+use etcs_bodies::laws::Exact;
 use etcs_bodies::{Entry, Numbers, Part, build_part, send_fields, take_fields};
 use etcs_vars::parts::{VarSink, Variables};
 use etcs_vars::{BuildFault, Var};
@@ -117,4 +118,10 @@ impl Entry for ReportAt {
     ghost most = { λ p h. report_at_most p };
 
     ghost short = { refl };
+}
+
+impl Exact for ReportAt {
+    ghost use Rattle.etcs_parts.specs.laws.ReportsAt.{report_at_exact};
+
+    ghost exact = { report_at_exact };
 }

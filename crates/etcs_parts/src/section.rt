@@ -7,6 +7,7 @@ ghost use Rattle.etcs_bodies.specs.Groups.{pair_from};
 ghost use Rattle.etcs_vars.specs.declared.var.Var.TheVariants.{T_SECTIONTIMER, D_SECTIONTIMERSTOPLOC};
 
 use crate::groups::{check_group, send_group, take_group};
+use etcs_bodies::laws::Exact;
 use etcs_bodies::{Flag, Numbers, Part, check, taken};
 use etcs_vars::parts::{VarSink, Variables};
 use etcs_vars::{BuildFault, Var};
@@ -182,4 +183,10 @@ impl Part for Section {
     fn try_clone(&self, _alloc: Global) -> Result<Section, AllocError> {
         Ok(*self)
     }
+}
+
+impl Exact for Section {
+    ghost use Rattle.etcs_parts.specs.laws.Sections.{section_exact};
+
+    ghost exact = { section_exact };
 }

@@ -2,6 +2,7 @@
 
 ghost use Rattle.std.specs.Prelude.{◌≡◌, None, Some, IfOk, IfErr, OnOk};
 
+use etcs_bodies::laws::Exact;
 use etcs_bodies::{Numbers, Part, check, check_guard, taken};
 use etcs_vars::parts::{VarSink, Variables};
 use etcs_vars::{BuildFault, Var};
@@ -148,4 +149,10 @@ impl Part for Shown {
     fn try_clone(&self, _alloc: Global) -> Result<Shown, AllocError> {
         Ok(*self)
     }
+}
+
+impl Exact for Shown {
+    ghost use Rattle.etcs_parts.specs.laws.Displays.{shown_exact};
+
+    ghost exact = { shown_exact };
 }

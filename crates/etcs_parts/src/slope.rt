@@ -2,6 +2,7 @@
 
 ghost use Rattle.std.specs.Prelude.{◌≡◌, None, Some, IfOk, IfErr, OnOk};
 
+use etcs_bodies::laws::Exact;
 use etcs_bodies::{Entry, Numbers, Part, build_part, send_fields, take_fields};
 use etcs_vars::parts::{VarSink, Variables};
 use etcs_vars::{BuildFault, Var};
@@ -130,4 +131,10 @@ impl Entry for Slope {
     ghost most = { λ p h. slope_most p };
 
     ghost short = { refl };
+}
+
+impl Exact for Slope {
+    ghost use Rattle.etcs_parts.specs.laws.Slopes.{slope_exact};
+
+    ghost exact = { slope_exact };
 }

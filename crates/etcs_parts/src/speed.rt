@@ -3,6 +3,7 @@
 ghost use Rattle.std.specs.Prelude.{◌≡◌, Some, OnOk, IfOk, IfErr, None};
 
 use crate::differing::Differing;
+use etcs_bodies::laws::Exact;
 use etcs_bodies::{
     Counted, Entry, Numbers, Part, build_part, copy_fields, send_fields, take_fields,
 };
@@ -152,4 +153,10 @@ impl Entry for Speed {
     ghost most = { speed_most };
 
     ghost short = { refl };
+}
+
+impl Exact for Speed {
+    ghost use Rattle.etcs_parts.specs.laws.Speeds.{speed_exact};
+
+    ghost exact = { speed_exact };
 }

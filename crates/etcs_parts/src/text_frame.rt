@@ -4,6 +4,7 @@ ghost use Rattle.std.specs.Prelude.{◌≡◌, None, Some, IfOk, IfErr, OnOk};
 
 use crate::confirmed::Confirmed;
 use crate::shown::Shown;
+use etcs_bodies::laws::Exact;
 use etcs_bodies::{Numbers, Part, build_part, send_fields, take_fields};
 use etcs_vars::parts::{VarSink, Variables};
 use etcs_vars::{BuildFault, Var};
@@ -200,4 +201,10 @@ impl Part for TextFrame {
     fn try_clone(&self, _alloc: Global) -> Result<TextFrame, AllocError> {
         Ok(*self)
     }
+}
+
+impl Exact for TextFrame {
+    ghost use Rattle.etcs_parts.specs.laws.TextFrames.{text_frame_exact};
+
+    ghost exact = { text_frame_exact };
 }

@@ -1,5 +1,5 @@
 -- Lemmas about specs/Equality.antt.
-use Rattle.std.proofs.Common.{◌≡◌, ◌∙◌, ◌&&◌, Bool, None, Some, Decides, nat_eq, is_some, is_none, unwrap_or, true≢false, refl, sym, ap}
+use Rattle.std.proofs.Common.{◌≡◌, ◌∙◌, ◌&&◌, ℕ, Bool, None, Some, Decides, nat_eq, is_some, is_none, unwrap_or, true≢false, refl, sym, ap}
 use Rattle.std.specs.Option.{option_eq}
 use Rattle.std.specs.Cmp.{booleans_Decides, unsigned_Decides}
 use Rattle.std.specs.Cmp.Lexicographic.{pointwise, pointwise_decides}
@@ -33,3 +33,7 @@ module _ {V : Type 0} {E : V → V → Bool} where
 module _ {V W : Type 0} {E : V → V → Bool} {F : W → W → Bool} where
   pub both_exact : IsExact E → IsExact F → IsExact (λ (a b : V × W). E a.0 b.0 && F a.1 b.1)
   both_exact e f a b = along (E a.0 b.0 && F a.1 b.1) (Decides-and (E a.0 b.0) (F a.1 b.1) (e a.0 b.0) (f a.1 b.1)) (λ h i. (h.0 i, h.1 i)) (λ h. (λ i. (h i).0, λ i. (h i).1))
+
+-- of two numbers
+pub numbers_exact : IsExact (λ (a b : ℕ × ℕ). nat_eq a.0 b.0 && nat_eq a.1 b.1)
+numbers_exact = both_exact number_exact number_exact

@@ -1,5 +1,5 @@
 -- Lemmas about specs/BaliseLists.antt.
-use Rattle.std.proofs.Common.{◌≡◌, ℕ, ◌≤◌, length, Some, None, refl, arith}
+use Rattle.std.proofs.Common.{◌≡◌, ℕ, ◌≤◌, length, Some, None, refl, arith, ◌&&◌, nat_eq}
 use Rattle.etcs_vars.specs.declared.var.Var.TheVariants.{N_ITER}
 use Rattle.etcs_vars.specs.Reading.{spelled}
 use Rattle.etcs_tables.specs.declared.row.Way.TheVariants.{ToTrain}
@@ -11,8 +11,12 @@ use Rattle.etcs_bodies.specs.Packets.{packet_from}
 use Rattle.etcs_bodies.specs.PacketCodes.{PacketCodes}
 use Rattle.etcs_bodies.specs.laws.PacketCodes.{packet_codes}
 use Rattle.etcs_parts.specs.BalisesAt.{IsBaliseAt, balise_at_reading}
-use Rattle.etcs_parts.specs.laws.BalisesAt.{balise_at_codes, balise_at_most}
-use Rattle.etcs_grouped.specs.BaliseLists.{BaliseListValue, balise_list_reading, nid_fault, IsBaliseList, balise_list_from}
+use Rattle.etcs_parts.specs.laws.BalisesAt.{balise_at_codes, balise_at_most, balise_at_exact}
+use Rattle.etcs_grouped.specs.BaliseLists.{BaliseListValue, balise_list_reading, nid_fault, IsBaliseList, balise_list_from, balise_list_value}
+use Rattle.std.specs.Cmp.Lexicographic.{pointwise}
+use Rattle.etcs_bodies.specs.Equality.{IsExact}
+use Rattle.etcs_bodies.specs.laws.Equality.{number_exact, list_exact, both_exact, fields_exact}
+use Rattle.etcs_parts.specs.contracts.balise_at.BaliseAtPartialEq.TheImpl as balise_at_eq
 
 -- ---- All but the direction.
 
@@ -34,3 +38,10 @@ balise_list_codes nid listed typed =
       so = λ dir b h ok fits. (listed, ok, h);
       fits = λ dir b short. refl;
     })
+
+-- ---- Its `==`.
+
+pub balise_list_exact : IsExact (λ (a b : BaliseListValue). nat_eq a.dir b.dir && pointwise balise_at_eq.ghosts.eq a.balises b.balises)
+balise_list_exact =
+    fields_exact (λ (p : BaliseListValue). (p.dir, p.balises)) (λ n. balise_list_value n.0 n.1) (λ p. refl) (
+    both_exact number_exact (list_exact balise_at_exact))

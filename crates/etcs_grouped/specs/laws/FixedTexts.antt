@@ -1,5 +1,5 @@
 -- Lemmas about specs/FixedTexts.antt.
-use Rattle.std.proofs.Common.{◌≡◌, ◌+◌, ◌≤◌, [], ◌∷◌, length, refl, arith}
+use Rattle.std.proofs.Common.{◌≡◌, ◌+◌, ◌≤◌, [], ◌∷◌, length, refl, arith, Decides}
 use Rattle.etcs_vars.specs.declared.var.Var.TheVariants.{Q_TEXT}
 use Rattle.etcs_vars.specs.Reading.{spelled}
 use Rattle.etcs_tables.specs.declared.row.Way.TheVariants.{ToTrain}
@@ -9,8 +9,10 @@ use Rattle.etcs_bodies.specs.Packets.{packet_from}
 use Rattle.etcs_bodies.specs.PacketCodes.{PacketCodes}
 use Rattle.etcs_bodies.specs.laws.PacketCodes.{packet_codes, never_long}
 use Rattle.etcs_parts.specs.TextFrames.{text_frame_reading}
-use Rattle.etcs_parts.specs.laws.TextFrames.{text_frame_codes, text_frame_small}
-use Rattle.etcs_grouped.specs.FixedTexts.{FixedTextValue, fixed_text_reading, body_of, IsFixedText, fixed_text_from}
+use Rattle.etcs_parts.specs.laws.TextFrames.{text_frame_codes, text_frame_small, text_frame_exact}
+use Rattle.etcs_grouped.specs.FixedTexts.{FixedTextValue, fixed_text_reading, body_of, IsFixedText, fixed_text_from, fixed_text_value}
+use Rattle.etcs_bodies.specs.laws.Equality.{number_exact, both_exact, fields_exact}
+use Rattle.etcs_grouped.specs.contracts.fixed_text.FixedTextPartialEq.TheImpl as fixed_text_eq
 
 -- ---- Its bits.
 
@@ -27,3 +29,10 @@ unfolding fixed_text_from
 fixed_text_codes =
     packet_codes (both text_frame_codes (number Q_TEXT)) ToTrain 76 refl
     (never_long body_of (λ p. refl) (λ dir b. refl) (λ dir b. refl) (λ dir b. refl) (λ p h. omega (arith, fixed_text_small p)))
+
+-- ---- Its `==`.
+
+pub fixed_text_exact : (a b : FixedTextValue) → Decides (fixed_text_eq.ghosts.eq a b) (a ≡ b)
+fixed_text_exact =
+    fields_exact (λ (p : FixedTextValue). (p.dir, (p.q_text, p.frame))) (λ n. fixed_text_value n.0 n.1.1 n.1.0) (λ p. refl) (
+    both_exact number_exact (both_exact number_exact text_frame_exact))

@@ -1,5 +1,5 @@
 -- Lemmas about specs/LevelOrders.antt.
-use Rattle.std.proofs.Common.{◌≡◌, ℕ, ◌+◌, ◌≤◌, List, length, refl, arith}
+use Rattle.std.proofs.Common.{◌≡◌, ℕ, ◌+◌, ◌≤◌, List, length, refl, arith, Decides}
 use Rattle.etcs_vars.specs.declared.var.Var.TheVariants.{Q_SCALE, D_LEVELTR}
 use Rattle.etcs_vars.specs.Reading.{spelled}
 use Rattle.etcs_tables.specs.declared.row.Way.TheVariants.{ToTrain}
@@ -11,9 +11,11 @@ use Rattle.etcs_bodies.specs.Packets.{packet_from}
 use Rattle.etcs_bodies.specs.PacketCodes.{PacketCodes}
 use Rattle.etcs_bodies.specs.laws.PacketCodes.{packet_codes, never_long}
 use Rattle.etcs_parts.specs.Levels.{LevelAckValue, IsLevelAck, level_ack_reading}
-use Rattle.etcs_parts.specs.laws.Levels.{level_ack_codes, level_ack_most}
+use Rattle.etcs_parts.specs.laws.Levels.{level_ack_codes, level_ack_most, level_ack_exact}
 use Rattle.etcs_grouped.specs.laws.Fronts.{after_front}
-use Rattle.etcs_grouped.specs.LevelOrders.{LevelOrderValue, level_order_reading, body_of, IsLevelOrder, level_order_from}
+use Rattle.etcs_grouped.specs.LevelOrders.{LevelOrderValue, level_order_reading, body_of, IsLevelOrder, level_order_from, level_order_value}
+use Rattle.etcs_bodies.specs.laws.Equality.{number_exact, list_exact, both_exact, fields_exact}
+use Rattle.etcs_grouped.specs.contracts.level_order.LevelOrderPartialEq.TheImpl as level_order_eq
 
 -- ---- Its bits.
 
@@ -29,3 +31,10 @@ unfolding level_order_from
 level_order_codes =
     packet_codes (both (number Q_SCALE) (both (number D_LEVELTR) (entries_codes level_ack_codes))) ToTrain 41 refl
     (never_long body_of (λ p. refl) (λ dir b. refl) (λ dir b. refl) (λ dir b. refl) (λ p h. omega (arith, level_order_length p _ refl, levels_small (p.first, p.further) h.1.1.1)))
+
+-- ---- Its `==`.
+
+pub level_order_exact : (a b : LevelOrderValue) → Decides (level_order_eq.ghosts.eq a b) (a ≡ b)
+level_order_exact =
+    fields_exact (λ (p : LevelOrderValue). (p.dir, (p.q_scale, (p.d_leveltr, (p.first, p.further))))) (λ n. level_order_value n.0 n.1.0 n.1.1.0 n.1.1.1.0 n.1.1.1.1) (λ p. refl) (
+    both_exact number_exact (both_exact number_exact (both_exact number_exact (both_exact level_ack_exact (list_exact level_ack_exact)))))

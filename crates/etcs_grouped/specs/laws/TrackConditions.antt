@@ -18,8 +18,7 @@ use Rattle.etcs_bodies.specs.Equality.{IsExact}
 use Rattle.etcs_bodies.specs.laws.Equality.{number_exact, list_exact, both_exact, fields_exact}
 use Rattle.etcs_tables.specs.Rows.{condition, ◌▸◌}
 use Rattle.etcs_parts.specs.Conditions.{ConditionValue, IsCondition, condition_reading}
-use Rattle.etcs_parts.specs.laws.Conditions.{condition_codes, condition_most}
-use Rattle.etcs_parts.specs.laws.Equality.{condition_exact}
+use Rattle.etcs_parts.specs.laws.Conditions.{condition_codes, condition_most, condition_exact}
 use Rattle.etcs_grouped.specs.laws.Fronts.{after_front}
 use Rattle.etcs_grouped.specs.TrackConditions.{StateValue, IsState, state_reading, state_from, state_eq, TrackConditionValue, track_condition_reading, track_condition_eq, body_of, track_condition_of, IsTrackCondition, track_condition_from}
 

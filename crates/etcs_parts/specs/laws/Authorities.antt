@@ -1,5 +1,5 @@
 -- Lemmas about specs/Authorities.antt.
-use Rattle.std.proofs.Common.{◌≡◌, ℕ, Bool, true, false, ◌++◌, ◌+◌, ◌≤◌, length, Option, Some, None, refl, sym, ◌∙◌, arith}
+use Rattle.std.proofs.Common.{◌≡◌, ℕ, Bool, true, false, ◌++◌, ◌+◌, ◌≤◌, length, Option, Some, None, refl, sym, ◌∙◌, arith, ◌&&◌, nat_eq, Decides}
 use Rattle.std.specs.Prelude.{flat_map, if◌then◌else◌}
 use Rattle.std.specs.Option.{is_some}
 use Rattle.etcs_vars.specs.declared.var.Var.TheVariants.{N_ITER, L_SECTION, Q_ENDTIMER, T_ENDTIMER, D_ENDTIMERSTARTLOC, Q_DANGERPOINT, D_DP, V_RELEASEDP, Q_OVERLAP, D_STARTOL, T_OL, D_OL, V_RELEASEOL}
@@ -16,8 +16,11 @@ use Rattle.etcs_bodies.specs.Groups.{pair_fault}
 use Rattle.etcs_bodies.specs.laws.Groups.{flagged, pair}
 use Rattle.etcs_parts.specs.laws.Faults.{fine}
 use Rattle.etcs_parts.specs.Sections.{IsSection, section_reading, end_reading}
-use Rattle.etcs_parts.specs.laws.Sections.{section_codes, end_codes, end_bits, section_most}
-use Rattle.etcs_parts.specs.Authorities.{end_timer_fault, end_timer_reading, end_timer_from, danger_fault, danger_reading, danger_from, Overlap, some_overlap_fault, overlap_fault, some_overlap_reading, overlap_reading, some_overlap_from, overlap_from, AuthorityValue, authority_fault, IsAuthority, authority_reading, sections_from, authority_from, authority_then, groups_reading}
+use Rattle.etcs_parts.specs.laws.Sections.{section_codes, end_codes, end_bits, section_most, section_exact}
+use Rattle.etcs_parts.specs.Authorities.{end_timer_fault, end_timer_reading, end_timer_from, danger_fault, danger_reading, danger_from, Overlap, some_overlap_fault, overlap_fault, some_overlap_reading, overlap_reading, some_overlap_from, overlap_from, AuthorityValue, authority_fault, IsAuthority, authority_reading, sections_from, authority_from, authority_then, groups_reading, authority_value}
+use Rattle.etcs_bodies.specs.Equality.{IsExact}
+use Rattle.etcs_bodies.specs.laws.Equality.{number_exact, fields_exact, both_exact, numbers_exact, option_exact, list_exact}
+use Rattle.etcs_parts.specs.contracts.authority.AuthorityPartialEq.TheImpl as authority_eq
 
 -- ---- The timer of the end section.
 
@@ -123,3 +126,15 @@ authority_small p h =
     let overlap = most_of_group (is_some p.overlap) 48 (omega arith) in
     let counted : length (spelled (groups_reading p)) ≡ bit_count (groups_reading p) = bit_count_is (groups_reading p) in
     rw (bit_count_is (authority_reading p)) (omega arith)
+
+-- ---- Its `==`.
+
+overlap_exact : IsExact (λ (a b : Overlap). ((nat_eq a.0 b.0 && nat_eq a.1 b.1) && nat_eq a.2 b.2) && nat_eq a.3 b.3)
+overlap_exact =
+    fields_exact (λ (o : Overlap). (((o.0, o.1), o.2), o.3)) (λ n. (n.0.0.0, n.0.0.1, n.0.1, n.1)) (λ o. refl) (
+    both_exact (both_exact numbers_exact number_exact) number_exact)
+
+pub authority_exact : (a b : AuthorityValue) → Decides (authority_eq.ghosts.eq a b) (a ≡ b)
+authority_exact =
+    fields_exact (λ (p : AuthorityValue). (p.end_timer, (p.danger_point, (p.overlap, (p.end, p.sections))))) (λ n. authority_value n.1.1.1.1 n.1.1.1.0 n.0 n.1.0 n.1.1.0) (λ p. refl) (
+    both_exact (option_exact numbers_exact) (both_exact (option_exact numbers_exact) (both_exact (option_exact overlap_exact) (both_exact section_exact (list_exact section_exact)))))

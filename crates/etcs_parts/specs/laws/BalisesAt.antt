@@ -1,5 +1,5 @@
 -- Lemmas about specs/BalisesAt.antt.
-use Rattle.std.proofs.Common.{◌≡◌, ℕ, ◌+◌, ◌*◌, length, ◌≤◌, Option, Some, None, refl, ◌∙◌, arith}
+use Rattle.std.proofs.Common.{◌≡◌, ℕ, ◌+◌, ◌*◌, length, ◌≤◌, Option, Some, None, refl, ◌∙◌, arith, Decides}
 use Rattle.std.specs.Int.{from_bool}
 use Rattle.std.specs.Option.{is_some}
 use Rattle.etcs_vars.specs.declared.var.Var.TheVariants.{Q_NEWCOUNTRY, NID_C, NID_BG}
@@ -11,7 +11,9 @@ use Rattle.etcs_bodies.specs.laws.Codecs.{number, both, optional, form, option_i
 use Rattle.etcs_bodies.specs.Repeats.{bit_count}
 use Rattle.etcs_bodies.specs.laws.Repeats.{bit_count_is}
 use Rattle.etcs_parts.specs.laws.Flags.{at_most_one}
-use Rattle.etcs_parts.specs.BalisesAt.{BaliseAtValue, balise_at_value, IsBaliseAt, balise_at_reading, balise_at_from}
+use Rattle.etcs_parts.specs.BalisesAt.{BaliseAtValue, balise_at_value, IsBaliseAt, balise_at_reading, balise_at_from, balise_at_of}
+use Rattle.etcs_bodies.specs.laws.Equality.{number_exact, option_exact, fields_exact, both_exact}
+use Rattle.etcs_parts.specs.contracts.balise_at.BaliseAtPartialEq.TheImpl as balise_at_eq
 
 -- ---- A group is what its row spells.
 
@@ -39,3 +41,8 @@ balise_at_bits p = bit_count_is (balise_at_reading p) ∙ count p.nid_c p.nid_bg
 
 pub balise_at_most : (p : BaliseAtValue) → bit_count (balise_at_reading p) ≤ 25
 balise_at_most p = omega (arith, count p.nid_c p.nid_bg, at_most_one (is_some p.nid_c))
+
+-- ---- Its `==`.
+
+pub balise_at_exact : (a b : BaliseAtValue) → Decides (balise_at_eq.ghosts.eq a b) (a ≡ b)
+balise_at_exact = fields_exact (λ (p : BaliseAtValue). (p.nid_c, p.nid_bg)) balise_at_of (λ p. refl) (both_exact (option_exact number_exact) number_exact)

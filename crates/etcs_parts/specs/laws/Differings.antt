@@ -1,5 +1,5 @@
 -- Lemmas about specs/Differings.antt.
-use Rattle.std.proofs.Common.{◌≡◌, ℕ, zero, suc, ◌<◌, ◌≤◌, Bool, true, false, [], ◌∷◌, length, None, refl, arith}
+use Rattle.std.proofs.Common.{◌≡◌, ℕ, zero, suc, ◌<◌, ◌≤◌, Bool, true, false, [], ◌∷◌, length, None, refl, arith, Decides}
 use Rattle.std.specs.Prelude.{◌==◌, not}
 use Rattle.etcs_vars.specs.declared.var.Var.TheVariants.{Q_DIFF, NC_CDDIFF, NC_DIFF, V_DIFF}
 use Rattle.etcs_vars.specs.Vars.{width, admits}
@@ -15,7 +15,9 @@ use Rattle.etcs_bodies.specs.Codecs.{Codes}
 use Rattle.etcs_bodies.specs.laws.Codecs.{number, both, form}
 use Rattle.etcs_bodies.specs.laws.Choices.{choice}
 use Rattle.etcs_parts.specs.laws.Faults.{fine}
-use Rattle.etcs_parts.specs.Differings.{DifferingValue, category_var, IsDiffering, differing_reading, differing_row, differing_from}
+use Rattle.etcs_parts.specs.Differings.{DifferingValue, category_var, IsDiffering, differing_reading, differing_row, differing_from, differing_value}
+use Rattle.etcs_bodies.specs.laws.Equality.{number_exact, fields_exact, both_exact, numbers_exact}
+use Rattle.etcs_parts.specs.contracts.differing.DifferingPartialEq.TheImpl as differing_eq
 
 -- ---- The numbers of both categories are the same, in as many bits.
 
@@ -74,3 +76,10 @@ differing_spelled d = rw (bit_count_is (differing_reading d), differing_bits d) 
 
 pub differing_most : (d : DifferingValue) → bit_count (differing_reading d) ≤ 13
 differing_most d = omega (arith, differing_bits d)
+
+-- ---- Its `==`.
+
+pub differing_exact : (a b : DifferingValue) → Decides (differing_eq.ghosts.eq a b) (a ≡ b)
+differing_exact =
+    fields_exact (λ (p : DifferingValue). (p.q_diff, (p.category, p.v_diff))) (λ n. differing_value n.0 n.1.0 n.1.1) (λ p. refl) (
+    both_exact number_exact numbers_exact)

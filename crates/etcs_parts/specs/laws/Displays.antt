@@ -1,5 +1,5 @@
 -- Lemmas about specs/Displays.antt.
-use Rattle.std.proofs.Common.{◌≡◌, ℕ, ◌+◌, ◌*◌, [], ◌∷◌, length, Option, ◌≤◌, Some, None, refl, arith}
+use Rattle.std.proofs.Common.{◌≡◌, ℕ, ◌+◌, ◌*◌, [], ◌∷◌, length, Option, ◌≤◌, Some, None, refl, arith, Decides}
 use Rattle.std.specs.Int.{from_bool}
 use Rattle.std.specs.Option.{is_some}
 use Rattle.etcs_vars.specs.declared.var.Var.TheVariants.{M_MODETEXTDISPLAY, M_LEVELTEXTDISPLAY, NID_NTC}
@@ -16,7 +16,9 @@ use Rattle.etcs_bodies.specs.Guards.{optional_group}
 use Rattle.etcs_bodies.specs.laws.Guards.{group_is, group_gives, group_reading_is}
 use Rattle.etcs_parts.specs.laws.Faults.{fine}
 use Rattle.etcs_parts.specs.laws.Flags.{at_most_one}
-use Rattle.etcs_parts.specs.Displays.{ShownValue, IsShown, shown_reading, shown_from}
+use Rattle.etcs_parts.specs.Displays.{ShownValue, IsShown, shown_reading, shown_from, shown_of}
+use Rattle.etcs_bodies.specs.laws.Equality.{number_exact, option_exact, fields_exact, both_exact}
+use Rattle.etcs_parts.specs.contracts.shown.ShownPartialEq.TheImpl as shown_eq
 
 -- ---- It is what its row spells.
 
@@ -46,3 +48,10 @@ shown_bits s = rw (bit_count_is (shown_reading s)) (omega (arith, system_bits s.
 
 pub shown_small : (s : ShownValue) → length (spelled (shown_reading s)) ≤ 15
 shown_small s = omega (arith, shown_bits s, at_most_one (is_some s.nid_ntc))
+
+-- ---- Its `==`.
+
+pub shown_exact : (a b : ShownValue) → Decides (shown_eq.ghosts.eq a b) (a ≡ b)
+shown_exact =
+    fields_exact (λ (p : ShownValue). (p.m_modetextdisplay, (p.m_leveltextdisplay, p.nid_ntc))) shown_of (λ p. refl) (
+    both_exact number_exact (both_exact number_exact (option_exact number_exact)))

@@ -1,5 +1,5 @@
 -- Lemmas about specs/Levels.antt.
-use Rattle.std.proofs.Common.{◌≤◌, arith, ◌≡◌, ℕ, ◌+◌, ◌*◌, [], ◌∷◌, length, Option, Some, None, refl, ◌∙◌}
+use Rattle.std.proofs.Common.{◌≤◌, arith, ◌≡◌, ℕ, ◌+◌, ◌*◌, [], ◌∷◌, length, Option, Some, None, refl, ◌∙◌, Decides}
 use Rattle.std.specs.Int.{from_bool}
 use Rattle.std.specs.Option.{is_some}
 use Rattle.etcs_vars.specs.declared.var.Var.TheVariants.{M_LEVELTR, NID_NTC, L_ACKLEVELTR}
@@ -14,7 +14,10 @@ use Rattle.etcs_bodies.specs.laws.Groups.{guarded_is, guarded_none}
 use Rattle.etcs_bodies.specs.Repeats.{bit_count}
 use Rattle.etcs_bodies.specs.laws.Repeats.{bit_count_is, bit_count-append}
 use Rattle.etcs_parts.specs.laws.Flags.{at_most_one}
-use Rattle.etcs_parts.specs.Levels.{LevelValue, IsLevel, system_reading, level_reading, level_from, LevelAckValue, IsLevelAck, level_ack_reading, level_ack_from}
+use Rattle.etcs_parts.specs.Levels.{LevelValue, IsLevel, system_reading, level_reading, level_from, LevelAckValue, IsLevelAck, level_ack_reading, level_ack_from, level_of, level_ack_of}
+use Rattle.etcs_bodies.specs.laws.Equality.{number_exact, option_exact, fields_exact, both_exact}
+use Rattle.etcs_parts.specs.contracts.level.LevelPartialEq.TheImpl as level_eq
+use Rattle.etcs_parts.specs.contracts.level_ack.LevelAckPartialEq.TheImpl as level_ack_eq
 
 -- ---- A level is what its row spells.
 
@@ -69,3 +72,11 @@ pub level_ack_most : (p : LevelAckValue) → bit_count (level_ack_reading p) ≤
 level_ack_most p =
     let both = bit_count-append (level_reading p.level) ((L_ACKLEVELTR, p.l_ackleveltr) ∷ []) in
     omega (arith, level_most p.level)
+
+-- ---- Its `==`.
+
+pub level_exact : (a b : LevelValue) → Decides (level_eq.ghosts.eq a b) (a ≡ b)
+level_exact = fields_exact (λ (p : LevelValue). (p.m_leveltr, p.nid_ntc)) level_of (λ p. refl) (both_exact number_exact (option_exact number_exact))
+
+pub level_ack_exact : (a b : LevelAckValue) → Decides (level_ack_eq.ghosts.eq a b) (a ≡ b)
+level_ack_exact = fields_exact (λ (p : LevelAckValue). (p.l_ackleveltr, p.level)) (λ n. level_ack_of (n.1, n.0)) (λ p. refl) (both_exact number_exact level_exact)

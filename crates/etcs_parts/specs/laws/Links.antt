@@ -1,5 +1,5 @@
 -- Lemmas about specs/Links.antt.
-use Rattle.std.proofs.Common.{◌≡◌, ◌+◌, [], ◌∷◌, length, ◌≤◌, refl, arith}
+use Rattle.std.proofs.Common.{◌≡◌, ◌+◌, [], ◌∷◌, length, ◌≤◌, refl, arith, Decides}
 use Rattle.etcs_bits.specs.Bits.{bit}
 use Rattle.etcs_vars.specs.declared.var.Var.TheVariants.{D_LINK, Q_LINKORIENTATION, Q_LINKREACTION, Q_LOCACC}
 use Rattle.etcs_vars.specs.Reading.{spelled}
@@ -11,8 +11,10 @@ use Rattle.etcs_bodies.specs.Repeats.{bit_count}
 use Rattle.etcs_bodies.specs.laws.Repeats.{bit_count_is, bit_count-append}
 use Rattle.etcs_parts.specs.laws.Faults.{fine}
 use Rattle.etcs_parts.specs.BalisesAt.{balise_at_reading}
-use Rattle.etcs_parts.specs.laws.BalisesAt.{balise_at_codes, balise_at_most}
-use Rattle.etcs_parts.specs.Links.{LinkValue, balise_of, IsLink, link_reading, link_from}
+use Rattle.etcs_parts.specs.laws.BalisesAt.{balise_at_codes, balise_at_most, balise_at_exact}
+use Rattle.etcs_parts.specs.Links.{LinkValue, balise_of, IsLink, link_reading, link_from, link_of}
+use Rattle.etcs_bodies.specs.laws.Equality.{number_exact, flag_exact, fields_exact, both_exact, numbers_exact}
+use Rattle.etcs_parts.specs.contracts.link.LinkPartialEq.TheImpl as link_eq
 
 -- ---- A link is what its row spells.
 
@@ -47,3 +49,10 @@ link_bits l = rw (bit_count_is (link_reading l), bit_count_is (balise_at_reading
 
 pub link_most : (l : LinkValue) → bit_count (link_reading l) ≤ 49
 link_most l = omega (arith, link_count l, balise_at_most (balise_of l))
+
+-- ---- Its `==`.
+
+pub link_exact : (a b : LinkValue) → Decides (link_eq.ghosts.eq a b) (a ≡ b)
+link_exact =
+    fields_exact (λ (p : LinkValue). (p.d_link, (balise_of p, (p.q_linkorientation, (p.q_linkreaction, p.q_locacc))))) link_of (λ p. refl) (
+    both_exact number_exact (both_exact balise_at_exact (both_exact flag_exact numbers_exact)))

@@ -1,5 +1,5 @@
 -- Lemmas about specs/ModeSections.antt.
-use Rattle.std.proofs.Common.{◌≡◌, length, ◌≤◌, refl, arith}
+use Rattle.std.proofs.Common.{◌≡◌, length, ◌≤◌, refl, arith, Decides}
 use Rattle.etcs_vars.specs.declared.var.Var.TheVariants.{D_MAMODE, M_MAMODE, V_MAMODE, L_MAMODE, L_ACKMAMODE, Q_MAMODE}
 use Rattle.etcs_vars.specs.Reading.{spelled}
 use Rattle.etcs_tables.specs.Rows.{mode_section}
@@ -8,7 +8,9 @@ use Rattle.etcs_bodies.specs.laws.Codecs.{number, flag, both, form}
 use Rattle.etcs_bodies.specs.Repeats.{bit_count}
 use Rattle.etcs_bodies.specs.laws.Repeats.{bit_count_is}
 use Rattle.etcs_parts.specs.laws.Faults.{fine}
-use Rattle.etcs_parts.specs.ModeSections.{ModeSectionValue, IsModeSection, mode_section_reading, mode_section_from}
+use Rattle.etcs_parts.specs.ModeSections.{ModeSectionValue, IsModeSection, mode_section_reading, mode_section_from, mode_section_of}
+use Rattle.etcs_bodies.specs.laws.Equality.{number_exact, flag_exact, fields_exact, both_exact}
+use Rattle.etcs_parts.specs.contracts.mode_section.ModeSectionPartialEq.TheImpl as mode_section_eq
 
 -- ---- An area is what its row spells.
 
@@ -32,3 +34,10 @@ mode_section_bits p = rw (bit_count_is (mode_section_reading p)) refl
 
 pub mode_section_most : (p : ModeSectionValue) → bit_count (mode_section_reading p) ≤ 55
 mode_section_most p = omega arith
+
+-- ---- Its `==`.
+
+pub mode_section_exact : (a b : ModeSectionValue) → Decides (mode_section_eq.ghosts.eq a b) (a ≡ b)
+mode_section_exact =
+    fields_exact (λ (p : ModeSectionValue). (p.d_mamode, (p.m_mamode, (p.v_mamode, (p.l_mamode, (p.l_ackmamode, p.q_mamode)))))) mode_section_of (λ p. refl) (
+    both_exact number_exact (both_exact number_exact (both_exact number_exact (both_exact number_exact (both_exact number_exact flag_exact)))))

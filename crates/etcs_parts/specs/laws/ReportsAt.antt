@@ -1,5 +1,5 @@
 -- Lemmas about specs/ReportsAt.antt.
-use Rattle.std.proofs.Common.{◌≡◌, length, ◌≤◌, refl, arith}
+use Rattle.std.proofs.Common.{◌≡◌, length, ◌≤◌, refl, arith, Decides}
 use Rattle.etcs_vars.specs.declared.var.Var.TheVariants.{D_LOC, Q_LGTLOC}
 use Rattle.etcs_vars.specs.Reading.{spelled}
 use Rattle.etcs_tables.specs.Rows.{report_at}
@@ -7,7 +7,9 @@ use Rattle.etcs_bodies.specs.Codecs.{Codes}
 use Rattle.etcs_bodies.specs.laws.Codecs.{number, flag, both, form}
 use Rattle.etcs_bodies.specs.Repeats.{bit_count}
 use Rattle.etcs_bodies.specs.laws.Repeats.{bit_count_is}
-use Rattle.etcs_parts.specs.ReportsAt.{ReportAtValue, IsReportAt, report_at_reading, report_at_from}
+use Rattle.etcs_parts.specs.ReportsAt.{ReportAtValue, IsReportAt, report_at_reading, report_at_from, report_at_of}
+use Rattle.etcs_bodies.specs.laws.Equality.{number_exact, flag_exact, fields_exact, both_exact}
+use Rattle.etcs_parts.specs.contracts.report_at.ReportAtPartialEq.TheImpl as report_at_eq
 
 -- ---- A place is what its row spells.
 
@@ -31,3 +33,8 @@ report_at_bits p = rw (bit_count_is (report_at_reading p)) refl
 
 pub report_at_most : (p : ReportAtValue) → bit_count (report_at_reading p) ≤ 16
 report_at_most p = omega arith
+
+-- ---- Its `==`.
+
+pub report_at_exact : (a b : ReportAtValue) → Decides (report_at_eq.ghosts.eq a b) (a ≡ b)
+report_at_exact = fields_exact (λ (p : ReportAtValue). (p.d_loc, p.q_lgtloc)) report_at_of (λ p. refl) (both_exact number_exact flag_exact)

@@ -1,5 +1,5 @@
 -- Lemmas about specs/Sections.antt.
-use Rattle.std.proofs.Common.{◌≡◌, ℕ, ◌+◌, ◌*◌, ◌∷◌, length, ◌≤◌, Option, Some, None, refl, sym, ◌∙◌, arith}
+use Rattle.std.proofs.Common.{◌≡◌, ℕ, ◌+◌, ◌*◌, ◌∷◌, length, ◌≤◌, Option, Some, None, refl, sym, ◌∙◌, arith, Decides}
 use Rattle.std.specs.Int.{from_bool}
 use Rattle.std.specs.Option.{is_some}
 use Rattle.etcs_vars.specs.declared.var.Var.{Var}
@@ -18,6 +18,8 @@ use Rattle.etcs_bodies.specs.Groups.{pair_fault}
 use Rattle.etcs_bodies.specs.laws.Groups.{flagged, pair}
 use Rattle.etcs_parts.specs.laws.Flags.{at_most_one}
 use Rattle.etcs_parts.specs.Sections.{section_of, timer_fault, timer_reading, timer_from, SectionValue, IsSection, section_reading, end_reading, section_from, end_from}
+use Rattle.etcs_bodies.specs.laws.Equality.{number_exact, option_exact, fields_exact, both_exact, numbers_exact}
+use Rattle.etcs_parts.specs.contracts.section.SectionPartialEq.TheImpl as section_eq
 
 -- ---- The timer of a section.
 
@@ -67,3 +69,8 @@ same_count p = refl
 
 pub end_bits : (p : SectionValue) → length (spelled (end_reading p)) ≡ length (spelled (section_reading p))
 end_bits p = bit_count_is (end_reading p) ∙ same_count p ∙ sym (bit_count_is (section_reading p))
+
+-- ---- Its `==`.
+
+pub section_exact : (a b : SectionValue) → Decides (section_eq.ghosts.eq a b) (a ≡ b)
+section_exact = fields_exact (λ (p : SectionValue). (p.length, p.timer)) section_of (λ p. refl) (both_exact number_exact (option_exact numbers_exact))

@@ -1,5 +1,5 @@
 -- Lemmas about specs/Slopes.antt.
-use Rattle.std.proofs.Common.{◌≡◌, length, ◌≤◌, refl, arith}
+use Rattle.std.proofs.Common.{◌≡◌, length, ◌≤◌, refl, arith, Decides}
 use Rattle.etcs_vars.specs.declared.var.Var.TheVariants.{D_GRADIENT, Q_GDIR, G_A}
 use Rattle.etcs_vars.specs.Reading.{spelled}
 use Rattle.etcs_tables.specs.Rows.{slope}
@@ -8,7 +8,9 @@ use Rattle.etcs_bodies.specs.laws.Codecs.{number, flag, both, form}
 use Rattle.etcs_bodies.specs.Repeats.{bit_count}
 use Rattle.etcs_bodies.specs.laws.Repeats.{bit_count_is}
 use Rattle.etcs_parts.specs.laws.Faults.{fine}
-use Rattle.etcs_parts.specs.Slopes.{SlopeValue, IsSlope, slope_reading, slope_from}
+use Rattle.etcs_parts.specs.Slopes.{SlopeValue, IsSlope, slope_reading, slope_from, slope_of}
+use Rattle.etcs_bodies.specs.laws.Equality.{number_exact, flag_exact, fields_exact, both_exact}
+use Rattle.etcs_parts.specs.contracts.slope.SlopePartialEq.TheImpl as slope_eq
 
 -- ---- A slope is what its row spells.
 
@@ -32,3 +34,8 @@ slope_bits p = rw (bit_count_is (slope_reading p)) refl
 
 pub slope_most : (p : SlopeValue) → bit_count (slope_reading p) ≤ 24
 slope_most p = omega arith
+
+-- ---- Its `==`.
+
+pub slope_exact : (a b : SlopeValue) → Decides (slope_eq.ghosts.eq a b) (a ≡ b)
+slope_exact = fields_exact (λ (p : SlopeValue). (p.d_gradient, (p.q_gdir, p.g_a))) slope_of (λ p. refl) (both_exact number_exact (both_exact flag_exact number_exact))

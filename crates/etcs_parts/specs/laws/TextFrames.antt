@@ -1,5 +1,5 @@
 -- Lemmas about specs/TextFrames.antt.
-use Rattle.std.proofs.Common.{◌≡◌, ℕ, Bool, ◌∷◌, ◌++◌, ◌+◌, ◌≤◌, length, Option, Some, None, refl, ap, arith}
+use Rattle.std.proofs.Common.{◌≡◌, ℕ, Bool, ◌∷◌, ◌++◌, ◌+◌, ◌≤◌, length, Option, Some, None, refl, ap, arith, ◌&&◌, nat_eq, Decides}
 use Rattle.etcs_bodies.specs.Repeats.{bit_count}
 use Rattle.etcs_bodies.specs.laws.Repeats.{bit_count_is, bit_count-append}
 use Rattle.etcs_bits.specs.Bits.{bit}
@@ -13,8 +13,11 @@ use Rattle.etcs_bodies.specs.laws.Codecs.{number, flag, both, optional, group_of
 use Rattle.etcs_bodies.specs.laws.Guards.{group_is, group_gives, group_reading_is}
 use Rattle.etcs_parts.specs.laws.Faults.{fine}
 use Rattle.etcs_parts.specs.Displays.{shown_reading}
-use Rattle.etcs_parts.specs.laws.Displays.{shown_codes, shown_small}
-use Rattle.etcs_parts.specs.TextFrames.{Report, IsReport, report_reading, report_row, report_from, Confirm, confirm_fault, IsConfirm, reported, confirm_reading, confirm_row, confirm_from, confirmed_reading, confirmed_from, TextFrameValue, IsTextFrame, text_frame_reading, text_frame_from, confirmed_count}
+use Rattle.etcs_parts.specs.laws.Displays.{shown_codes, shown_small, shown_exact}
+use Rattle.etcs_parts.specs.TextFrames.{Report, IsReport, report_reading, report_row, report_from, Confirm, confirm_fault, IsConfirm, reported, confirm_reading, confirm_row, confirm_from, confirmed_reading, confirmed_from, TextFrameValue, IsTextFrame, text_frame_reading, text_frame_from, confirmed_count, text_frame_value}
+use Rattle.etcs_bodies.specs.Equality.{IsExact}
+use Rattle.etcs_bodies.specs.laws.Equality.{number_exact, fields_exact, both_exact, numbers_exact, flag_exact, option_exact}
+use Rattle.etcs_parts.specs.contracts.text_frame.TextFramePartialEq.TheImpl as text_frame_eq
 
 -- ---- To whom the confirmation is reported: NID_TEXTMESSAGE, NID_C and NID_RBC.
 
@@ -122,3 +125,23 @@ confirm_most (Some (shown, Some report)) = omega arith
 
 pub text_frame_small : (t : TextFrameValue) → length (spelled (text_frame_reading t)) ≤ 111
 text_frame_small t = omega (arith, text_frame_bits t, shown_small t.start, shown_small t.end, confirm_most t.confirm)
+
+-- ---- Its `==`.
+
+report_exact : IsExact (λ (a b : Report). (nat_eq a.0 b.0 && nat_eq a.1 b.1) && nat_eq a.2 b.2)
+report_exact = fields_exact (λ (r : Report). ((r.0, r.1), r.2)) (λ n. (n.0.0, n.0.1, n.1)) (λ r. refl) (both_exact numbers_exact number_exact)
+
+pub text_frame_exact : (a b : TextFrameValue) → Decides (text_frame_eq.ghosts.eq a b) (a ≡ b)
+text_frame_exact =
+    fields_exact
+    (λ (p : TextFrameValue). (p.q_scale, (p.q_textclass, (p.q_textdisplay, (p.d_textdisplay, (p.l_textdisplay, (p.t_textdisplay, ((p.q_textconfirm, p.confirm), (p.start, p.end)))))))))
+    (λ n. text_frame_value n.0 n.1.0 n.1.1.0 n.1.1.1.0 n.1.1.1.1.1.1.1.0 n.1.1.1.1.0 n.1.1.1.1.1.0 n.1.1.1.1.1.1.1.1 n.1.1.1.1.1.1.0.0 n.1.1.1.1.1.1.0.1)
+    (λ p. refl) (
+    both_exact number_exact (
+    both_exact number_exact (
+    both_exact flag_exact (
+    both_exact number_exact (
+    both_exact number_exact (
+    both_exact number_exact (
+    both_exact (both_exact number_exact (option_exact (both_exact flag_exact (option_exact report_exact)))) (
+    both_exact shown_exact shown_exact))))))))

@@ -1,6 +1,6 @@
 //! Numbers of a row, taken one by one.
 
-ghost use Rattle.std.specs.Prelude.{◌≡◌, ◌<◌, Some, None, IfSome, IfNone, IsTrue};
+ghost use Rattle.std.specs.Prelude.{◌≡◌, ◌<◌, nat_lt, Some, None, IfSome, IfNone, IsTrue};
 ghost use Rattle.etcs_vars.specs.Vars.{admits};
 ghost use Rattle.etcs_bodies.specs.Taking.{Left, listed, in_bits, is_spent, next_number, next_flag};
 ghost use Rattle.etcs_bodies.specs.Faults.{number_fault};
@@ -80,7 +80,7 @@ impl<'a> Numbers<'a> {
     /// The next numbers, where the variables of the run admit them.
     #[inline(always)]
     pub fn run<R: Run>(&mut self, run: R) -> Option<R::Taken>
-        requires { R.bits run < 64 }
+        requires { IsTrue (nat_lt (R.bits run) 64) }
         ensures some { IfSome result (λ ns. R.Takes run self.old ns self.new) }
         ensures none { IfNone result (R.Lacks run self.old) }
     {

@@ -8,10 +8,10 @@ use Rattle.etcs_vars.specs.Reading.{Reading, spelled, kept}
 use Rattle.etcs_vars.proofs.Walk.{spelled-append}
 use Rattle.etcs_packets.specs.PacketValues.{Form}
 use Rattle.etcs_packets.specs.PacketReadings.{readings_to}
-use Rattle.etcs_packets.specs.declared.word_sink.WordSink.{WordSink}
-use Rattle.etcs_packets.specs.WordSinks.{and_bits}
-use Rattle.etcs_packets.specs.laws.WordSinks.{and_both}
-use Rattle.etcs_packets.proofs.WordSinks.{word_length}
+use Rattle.etcs_words.specs.declared.word_sink.WordSink.{WordSink}
+use Rattle.etcs_words.specs.WordSinks.{and_bits}
+use Rattle.etcs_words.specs.laws.WordSinks.{and_both}
+use Rattle.etcs_words.proofs.WordSinks.{word_length}
 use Rattle.etcs_messages.specs.declared.message.Content.TheVariants.{Typed, Kept}
 use Rattle.etcs_tables.specs.declared.row.Way.{Way}
 use Rattle.etcs_messages.specs.Kinds.{HeadOf, OwnOf, HeadLaws, OwnLaws}

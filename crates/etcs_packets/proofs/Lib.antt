@@ -1,10 +1,7 @@
-pub mod Joins
 pub mod Leaving
 pub mod PacketBits
 pub mod PacketLists
-pub mod LowestBits
 pub mod Equality
 pub mod OnePacket
 pub mod Outcomes
-pub mod WordSinks
-pub mod Words
+pub mod PacketsPut

@@ -2,4 +2,3 @@ pub mod OnePacket
 pub mod Outcomes
 pub mod PacketReadings
 pub mod Variants
-pub mod WordSinks

@@ -7,16 +7,16 @@ ghost use Rattle.etcs_tables.specs.Typed.{IsTyped, IsFramed};
 ghost use Rattle.etcs_flat.specs.Others.{other_fault};
 ghost use Rattle.etcs_packets.specs.PacketValues.{marker, typed, kept, nid_of, dir_of, kept_of, variables_of, IsTypedOf, bits_to, IsPacketTo};
 ghost use Rattle.etcs_packets.specs.PacketReadings.{reading_to, readings_to};
-ghost use Rattle.etcs_packets.specs.WordSinks.{and_bits};
+ghost use Rattle.etcs_words.specs.WordSinks.{and_bits};
 
 use crate::packet::Packet;
 use crate::typed::Made;
-use crate::word_sink::WordSink;
 use crate::{parts, write};
 use etcs_bits::{BitSlice, Bits};
 use etcs_flat::Other;
 use etcs_tables::Way;
 use etcs_vars::parts::VarSink;
+use etcs_words::WordSink;
 use std::alloc::{AllocError, Global};
 
 /// A packet of one way, of any number: what readers and messages ask of it.

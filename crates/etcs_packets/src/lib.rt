@@ -4,14 +4,11 @@
 mod any_packet;
 mod asked;
 mod copies;
-mod joining;
 pub mod laws;
 mod list;
 mod packet;
 pub mod parts;
 mod typed;
-mod word;
-mod word_sink;
 mod write;
 
 pub use etcs_bits::{BitSlice, Bits};

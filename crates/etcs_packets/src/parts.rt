@@ -14,7 +14,6 @@ use crate::packet::Packet;
 pub use crate::typed::{
     Formed, Made, Source, hold, no_row, none_of, packet_of, typed_bits, typed_nid,
 };
-pub use crate::word_sink::WordSink;
 pub use crate::write::{append_variables, room_left};
 use crate::{by_number, of_each};
 use etcs_bits::BitSlice;

@@ -7,14 +7,14 @@ ghost use Rattle.etcs_vars.specs.Reading.{spelled};
 ghost use Rattle.etcs_packets.specs.PacketValues.{packet_value, variables_of, IsPacket, IsMade};
 ghost use Rattle.etcs_packets.specs.PacketReadings.{packet_reading, packets_reading};
 ghost use Rattle.etcs_packets.specs.Fronts.{front_of};
-ghost use Rattle.etcs_packets.specs.WordSinks.{and_bits};
+ghost use Rattle.etcs_words.specs.WordSinks.{and_bits};
 
 use crate::Packet;
 use crate::any_packet::room_after;
 use crate::parts::{dir, holds, send};
-use crate::word_sink::WordSink;
 use etcs_tables::{Way, frame_bits};
 use etcs_vars::parts::Variables;
+use etcs_words::WordSink;
 
 /// How many of `room` bits packets leave, one after another, or nothing where they don't fit.
 pub fn room_left(room: usize, packets: &[Packet]) -> Option<usize>

@@ -3,16 +3,17 @@
 ghost use Rattle.std.specs.Prelude.{◌≡◌, ◌∷◌};
 ghost use Rattle.etcs_vars.specs.declared.var.Var.TheVariants.{NID_PACKET, L_PACKET, OTHER_DATA};
 ghost use Rattle.etcs_vars.specs.Reading.{spelled, kept};
-ghost use Rattle.etcs_packets.specs.WordSinks.{and_bits};
+ghost use Rattle.etcs_words.specs.WordSinks.{and_bits};
 
 use crate::parts;
 use crate::train_other::TrainOther;
 use crate::train_packet::TrainPacket;
 use etcs_bits::{BitSlice, Bits};
-use etcs_packets::parts::{AnyPacket, Made, WordSink, append_variables};
+use etcs_packets::parts::{AnyPacket, Made, append_variables};
 use etcs_tables::Way;
 use etcs_vars::Var;
 use etcs_vars::parts::VarSink;
+use etcs_words::WordSink;
 use std::alloc::{AllocError, Global};
 
 /// Puts the frame of a packet that is kept, and its bits, after other bits.

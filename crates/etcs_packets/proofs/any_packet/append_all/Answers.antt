@@ -1,4 +1,4 @@
-use Rattle.etcs_packets.proofs.WordSinks.{append_more}
+use Rattle.etcs_packets.proofs.PacketsPut.{append_more}
 use Rattle.etcs_packets.proofs.any_packet.append_all.Goals as goal
 
 pub loop-packet-preserved : goal.loop-packet-preserved

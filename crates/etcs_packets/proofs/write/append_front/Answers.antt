@@ -1,6 +1,6 @@
 use Rattle.std.proofs.Common.{sym, ◌∙◌}
 use Rattle.etcs_packets.specs.PacketValues.{packet_value}
-use Rattle.etcs_packets.proofs.WordSinks.{front_number, front_marker}
+use Rattle.etcs_packets.proofs.PacketsPut.{front_number, front_marker}
 use Rattle.etcs_packets.proofs.write.append_front.Goals as goal
 
 pub returns-in-Some : goal.returns-in-Some

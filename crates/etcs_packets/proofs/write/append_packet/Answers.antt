@@ -2,7 +2,7 @@ use Rattle.std.proofs.Common.{◌∙◌}
 use Rattle.etcs_vars.specs.Reading.{spelled}
 use Rattle.etcs_packets.specs.PacketValues.{packet_value, variables_of}
 use Rattle.etcs_packets.proofs.PacketBits.{rest_kept, rest_sent}
-use Rattle.etcs_packets.proofs.WordSinks.{append_parts}
+use Rattle.etcs_packets.proofs.PacketsPut.{append_parts}
 use Rattle.etcs_packets.proofs.write.append_packet.Goals as goal
 
 pub returns-in-Other : goal.returns-in-Other

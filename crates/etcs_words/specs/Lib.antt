@@ -1,0 +1,4 @@
+pub mod Joins
+pub mod WordSinks
+pub mod Words
+pub mod laws

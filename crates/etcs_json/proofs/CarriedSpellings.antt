@@ -35,9 +35,11 @@ use Rattle.etcs_telegram.proofs.Spellings.{whole_length}
 use Rattle.etcs_text.specs.declared.entry.Kind.{Kind}
 use Rattle.etcs_text.specs.declared.entry.Kind.TheVariants as kind_is
 use Rattle.etcs_text.specs.Entries.{EntryValue, of_telegram, of_message, EntryReads, entry_kind}
-use Rattle.etcs_json.specs.TreeReading.{ArePacketTrees, IsTreeOf}
-use Rattle.etcs_json.specs.Loose.{HasLength, IsLoose, LooseSpells, StandsFor, TreeSays, packets_of, unnamed, unnamed_entry, unnamed_message, unnamed_telegram, way_of}
-use Rattle.etcs_json.proofs.CarriedPackets.{same_bits}
+use Rattle.etcs_packet_json.specs.TreeReading.{ArePacketTrees}
+use Rattle.etcs_json.specs.TreeReading.{IsTreeOf}
+use Rattle.etcs_packet_json.specs.Loose.{unnamed}
+use Rattle.etcs_json.specs.Loose.{HasLength, IsLoose, LooseSpells, StandsFor, TreeSays, packets_of, unnamed_entry, unnamed_message, unnamed_telegram, way_of}
+use Rattle.etcs_packet_json.proofs.CarriedPackets.{same_bits}
 use Rattle.etcs_json.proofs.CarriedItems.{headed, message_long, telegram_long}
 use Rattle.etcs_text.proofs.ItemKinds.{telegram_message}
 use Rattle.etcs_json.proofs.OwnStored.{own_bits}

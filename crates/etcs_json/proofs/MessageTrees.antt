@@ -24,10 +24,12 @@ use Rattle.etcs_messages.proofs.OneReading.{message_reads}
 use Rattle.etcs_text.specs.Entries.{EntryValue, of_telegram, of_message, message_kind}
 use Rattle.etcs_text.specs.Show.{way_word}
 use Rattle.etcs_packet_text.specs.Trees.{bits_tree}
-use Rattle.etcs_json.specs.Loose.{HasStandIns, IsLoose, unnamed, unnamed_message}
-use Rattle.etcs_json.specs.TreeReading.{ArePairTrees, ArePacketTrees, IsMessageTree, IsTreeOf, kept_message_tree, message_tree, plain}
+use Rattle.etcs_packet_json.specs.Loose.{unnamed}
+use Rattle.etcs_json.specs.Loose.{HasStandIns, IsLoose, unnamed_message}
+use Rattle.etcs_packet_json.specs.TreeReading.{ArePairTrees, ArePacketTrees, plain}
+use Rattle.etcs_json.specs.TreeReading.{IsMessageTree, IsTreeOf, kept_message_tree, message_tree}
 use Rattle.etcs_text.proofs.ItemKinds.{telegram_message, way_same}
-use Rattle.etcs_json.proofs.PacketTrees.{SaysNumbers, OnlyNumbers}
+use Rattle.etcs_packet_json.proofs.PacketTrees.{SaysNumbers, OnlyNumbers}
 
 -- ---- Its parts.
 

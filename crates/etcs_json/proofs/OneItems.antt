@@ -21,10 +21,11 @@ use Rattle.etcs_text.specs.Entries.{EntryValue, of_telegram, of_message}
 use Rattle.etcs_text.proofs.ItemKinds.{kind_same, way_same, telegram_message}
 use Rattle.etcs_packet_text.specs.Trees.{bits_tree, pair_tree, packet_tree}
 use Rattle.etcs_text.specs.Trees.{json_tree}
-use Rattle.etcs_json.specs.Loose.{IsLoose, unnamed, unnamed_telegram, unnamed_message}
+use Rattle.etcs_packet_json.specs.Loose.{unnamed}
+use Rattle.etcs_json.specs.Loose.{IsLoose, unnamed_telegram, unnamed_message}
 use Rattle.etcs_json.specs.TreeReading.{IsTelegramTree, IsMessageTree, IsTreeOf}
-use Rattle.etcs_json.proofs.OneTrees.{bits_same, packets_same, pairs_same, row_same}
-use Rattle.etcs_json.proofs.OwnTrees.{packets_own, pairs_own}
+use Rattle.etcs_packet_json.proofs.OneTrees.{bits_same, packets_same, pairs_same, row_same}
+use Rattle.etcs_packet_json.proofs.OwnTrees.{packets_own, pairs_own}
 
 -- ---- Telegrams.
 

@@ -1,40 +1,21 @@
 -- An item's own tree says the item.
-use Rattle.std.proofs.Common.{◌≡◌, ℕ, ◌==◌, false, List, [], ◌∷◌, length, map, refl, sym, ap, ap₂, subst}
-use Rattle.std.specs.Prelude.{All, IsTrue}
-use Rattle.std.proofs.lemmas.Bool.{eqb-true, false_from_ne_true}
-use Rattle.std.proofs.lemmas.List.Elements.{All-head, All-tail}
+use Rattle.std.proofs.Common.{◌≡◌, List, refl, sym, ap, subst}
+use Rattle.std.specs.Prelude.{All}
 use Rattle.etcs_vars.specs.Reading.{Reading, spelled}
 use Rattle.etcs_tables.specs.declared.row.Way.{Way}
-use Rattle.etcs_tables.specs.declared.row.Way.TheVariants.{ToTrain, ToTrack}
-use Rattle.etcs_tables.specs.Frames.{is_kept}
-use Rattle.etcs_packets.specs.PacketValues.{PacketValue, marker, typed, kept, IsPacketTo}
-use Rattle.etcs_sequence.specs.laws.Others.{kept_parts}
+use Rattle.etcs_tables.specs.declared.row.Way.TheVariants.{ToTrain}
+use Rattle.etcs_packets.specs.PacketValues.{PacketValue, IsPacketTo}
 use Rattle.etcs_telegram.specs.Telegrams.{TelegramValue}
 use Rattle.etcs_messages.specs.Messages.{MessageValue, typed_message, kept_message, MessageReads}
 use Rattle.etcs_messages.proofs.Faults.{carried_packets}
 use Rattle.etcs_text.specs.declared.entry.Kind.{Kind}
 use Rattle.etcs_text.specs.Entries.{EntryValue, of_telegram, of_message, EntryReads, Spells}
 use Rattle.etcs_text.specs.Trees.{json_tree}
-use Rattle.etcs_json.specs.Loose.{IsStored, LooseSpells, TreeSays, stand_in, unnamed, unnamed_entry, unnamed_message, unnamed_telegram}
+use Rattle.etcs_packet_json.proofs.OwnPackets.{unnamed_all}
+use Rattle.etcs_json.specs.Loose.{IsStored, LooseSpells, TreeSays, unnamed_entry, unnamed_message, unnamed_telegram}
 use Rattle.etcs_json.proofs.OneItems.{tree_of}
 
 -- ---- No packet of the profile has a stand-in.
-
-differs : (nid other : ℕ) → IsTrue (is_kept ToTrain nid) → is_kept ToTrain other ≡ false → (nid == other) ≡ false
-differs nid other h is = false_from_ne_true (nid == other) (λ e. let both = rw (eqb-true nid other e) at h in absurd cc)
-
-own_number : (way : Way) (nid : ℕ) → IsTrue (is_kept way nid) → stand_in way nid ≡ nid
-own_number ToTrain nid h = rw (differs nid 49 h refl, differs nid 57 h refl, differs nid 58 h refl, differs nid 63 h refl, differs nid 68 h refl, differs nid 80 h refl, differs nid 131 h refl) refl
-own_number ToTrack nid h = refl
-
-pub unnamed_own : (way : Way) (v : PacketValue) → IsPacketTo way v → unnamed way v ≡ v
-unnamed_own way (marker n) h = refl
-unnamed_own way (typed nid dir r) h = refl
-unnamed_own way (kept nid dir b) h = ap (λ (n : ℕ). kept n dir b) (own_number way nid (kept_parts way nid dir (length b) h).0)
-
-pub unnamed_all : (way : Way) (vs : List PacketValue) → All (IsPacketTo way) vs → map (unnamed way) vs ≡ vs
-unnamed_all way [] h = refl
-unnamed_all way (v ∷ vs) h = ap₂ (λ (w : PacketValue) (ws : List PacketValue). w ∷ ws) (unnamed_own way v (All-head (IsPacketTo way) v vs h)) (unnamed_all way vs (All-tail (IsPacketTo way) v vs h))
 
 telegram_own : (t : TelegramValue) → All (IsPacketTo ToTrain) t.packets → unnamed_telegram t ≡ t
 telegram_own t h =

@@ -18,10 +18,12 @@ use Rattle.etcs_messages.proofs.Fronts.{as_row, row_fields, fields_row}
 use Rattle.etcs_text.specs.Entries.{EntryValue, of_telegram, of_message, kind_of}
 use Rattle.etcs_text.specs.Show.{kind_word}
 use Rattle.etcs_packet_text.specs.Trees.{bits_tree}
-use Rattle.etcs_json.specs.Loose.{HasStandIns, IsLoose, unnamed, unnamed_telegram}
-use Rattle.etcs_json.specs.TreeReading.{ArePairTrees, ArePacketTrees, IsTelegramTree, IsTreeOf, telegram_tree}
+use Rattle.etcs_packet_json.specs.Loose.{unnamed}
+use Rattle.etcs_json.specs.Loose.{HasStandIns, IsLoose, unnamed_telegram}
+use Rattle.etcs_packet_json.specs.TreeReading.{ArePairTrees, ArePacketTrees}
+use Rattle.etcs_json.specs.TreeReading.{IsTelegramTree, IsTreeOf, telegram_tree}
 use Rattle.etcs_text.proofs.ItemKinds.{kind_same, telegram_message}
-use Rattle.etcs_json.proofs.PacketTrees.{SaysNumbers, OnlyNumbers}
+use Rattle.etcs_packet_json.proofs.PacketTrees.{SaysNumbers, OnlyNumbers}
 
 -- ---- The header.
 

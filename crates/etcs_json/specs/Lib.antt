@@ -1,4 +1,3 @@
-pub mod Digits
 pub mod FaultTexts
 pub mod JsonLines
 pub mod Loose

@@ -1,36 +1,23 @@
 -- JSON that was stored when fewer packets were typed: a packet to the train that is typed by now may be kept as bits in it.
 -- It says the item that has the same bits. To the track nothing was stored so.
-use Rattle.std.specs.Prelude.{◌≡◌, ℕ, ◌+◌, ◌*◌, ◌==◌, ◌||◌, Bool, false, List, [], ◌∷◌, ◌++◌, length, map, replicate, Option, Some, None, if◌then◌else◌}
+use Rattle.std.specs.Prelude.{◌≡◌, ℕ, ◌+◌, ◌*◌, Bool, false, List, [], ◌∷◌, ◌++◌, length, map, replicate}
 use Rattle.serde_json.specs.Data.{Data, Items}
 use Rattle.etcs_vars.specs.declared.var.Var.{Var}
 use Rattle.etcs_vars.specs.declared.var.Var.TheVariants.{FILL, PAD, PADDING, NID_MESSAGE, L_MESSAGE, OTHER_DATA}
 use Rattle.etcs_vars.specs.Reading.{Reading, spelled, kept, IsOutcome, refused}
 use Rattle.etcs_tables.specs.declared.row.Way.{Way}
-use Rattle.etcs_tables.specs.declared.row.Way.TheVariants.{ToTrain, ToTrack}
-use Rattle.etcs_packets.specs.PacketValues as packet
-use Rattle.etcs_packets.specs.PacketValues.{PacketValue, marker, typed}
+use Rattle.etcs_tables.specs.declared.row.Way.TheVariants.{ToTrain}
+use Rattle.etcs_packets.specs.PacketValues.{PacketValue}
 use Rattle.etcs_packets.specs.PacketReadings.{readings_to}
 use Rattle.etcs_telegram.specs.Telegrams.{TelegramValue, header_reading, closed_reading, pad_bits}
 use Rattle.etcs_messages.specs.Messages.{MessageValue, typed_message, kept_message, front_of, head_reading}
 use Rattle.etcs_text.specs.declared.entry.Kind.{Kind}
 use Rattle.etcs_text.specs.Entries.{EntryValue, of_telegram, of_message, EntryReads}
-use Rattle.etcs_json.specs.TreeReading.{IsTreeOf, ArePacketTrees}
+use Rattle.etcs_packet_json.specs.Loose.{unnamed}
+use Rattle.etcs_packet_json.specs.TreeReading.{ArePacketTrees}
+use Rattle.etcs_json.specs.TreeReading.{IsTreeOf}
 
--- ---- The numbers that may be kept.
-
--- NID_PACKET is one of those that stored JSON may have as bits
-abbrev pub is_carried : Way → ℕ → Bool
-is_carried ToTrain nid = nid == 49 || nid == 57 || nid == 58 || nid == 63 || nid == 68 || nid == 80 || nid == 131
-is_carried ToTrack nid = false
-
--- a number that is kept in its place: all kept packets have one frame
-abbrev pub stand_in : Way → ℕ → ℕ
-stand_in way nid = if is_carried way nid then 44 else nid
-
-abbrev pub unnamed : Way → PacketValue → PacketValue
-unnamed way (marker n) = marker n
-unnamed way (typed nid dir r) = typed nid dir r
-unnamed way (packet.kept nid dir b) = packet.kept (stand_in way nid) dir b
+-- ---- Its packets with stand-ins.
 
 abbrev pub unnamed_telegram : TelegramValue → TelegramValue
 unnamed_telegram t = record { size = t.size; header = t.header; packets = map (unnamed ToTrain) t.packets; fill = t.fill }
@@ -86,12 +73,6 @@ packets_of (of_message way (kept_message nid b)) = []
 abbrev pub way_of : EntryValue → Way
 way_of (of_telegram t) = ToTrain
 way_of (of_message way m) = way
-
--- the number of a packet that is kept as bits
-abbrev pub kept_number : PacketValue → Option ℕ
-kept_number (marker n) = None
-kept_number (typed nid dir r) = None
-kept_number (packet.kept nid dir b) = Some nid
 
 -- e is o with stand-ins, and these are the trees of o's packets
 pub record StandsFor (kind : Kind) (e : EntryValue) (ds : Items) (o : EntryValue) : Type 0 where

@@ -1,49 +1,27 @@
-//! Packets that were kept as bits in JSON before they were typed.
+//! Items with packets that were kept as bits in JSON before they were typed.
 
-ghost use Rattle.std.specs.Prelude.{◌≡◌, ◌≢◌, ◌+◌, ◌≤◌, ◌<◌, ◌^◌, ◌++◌, ℕ, Bool, Err, IfOk, IsTrue, List, All, length, map};
+ghost use Rattle.std.specs.Prelude.{◌≡◌, ◌≢◌, ℕ, Bool, Err, IfOk, List};
 ghost use Rattle.serde_json.specs.Data.{Items, array};
 ghost use Rattle.serde_json.specs.View.{items_view, view};
 ghost use Rattle.etcs_bits.specs.Bits.{bits};
 ghost use Rattle.etcs_vars.specs.declared.var.Var.{Var};
 ghost use Rattle.etcs_vars.specs.Reading.{IsOutcome, Reading, refused, spelled};
-ghost use Rattle.etcs_tables.specs.declared.row.Way.TheVariants.{ToTrain};
-ghost use Rattle.etcs_packets.specs.PacketReadings.{packets_reading};
-ghost use Rattle.etcs_packets.specs.PacketValues.{IsPacket, PacketValue, packet_value};
 ghost use Rattle.etcs_text.specs.Entries.{EntryReads, EntryValue, Spells, entry_value, kind_of};
 ghost use Rattle.etcs_text.specs.declared.entry.Kind.{Kind};
 ghost use Rattle.etcs_text.specs.declared.entry.Kind.TheVariants as kind_is;
-ghost use Rattle.etcs_json.specs.Loose.{HasLength, HasStandIns, LooseSpells, StandsFor, TreeRefused, TreeSays, is_carried, kept_number, packets_of, stand_in, unnamed, way_of};
-ghost use Rattle.etcs_json.specs.TreeReading.{ArePacketTrees, IsPacketTree, IsTreeOf};
+ghost use Rattle.etcs_json.specs.Loose.{HasLength, HasStandIns, LooseSpells, StandsFor, TreeRefused, TreeSays, packets_of, way_of};
+ghost use Rattle.etcs_packet_json.specs.TreeReading.{ArePacketTrees};
+ghost use Rattle.etcs_json.specs.TreeReading.{IsTreeOf};
 
 use crate::fault::JsonFault;
-use crate::from_packets::kept_members;
-use etcs_bits::parts::write;
-use etcs_packets::Packet;
+use etcs_packet_json::parts::{are_named, rename};
 use etcs_radio::MessageReader;
-use etcs_tables::Way;
 use etcs_telegram::{Size, TelegramReader};
 use etcs_text::{Entry, Kind, encoded};
 use etcs_vars::ReadFault;
 use etcs_vars::parts::Variables;
 use serde_json::Value;
 use std::alloc::Global;
-
-/// Whether stored JSON may have packets of this number as bits.
-fn is_carried(way: Way, nid: u8) -> bool
-    ensures { result ≡ is_carried way nid }
-{
-    match way {
-        Way::ToTrain => matches!(nid, 49 | 57 | 58 | 63 | 68 | 80 | 131),
-        Way::ToTrack => false,
-    }
-}
-
-/// The number under which such bits are held: all kept packets have one frame.
-pub(crate) fn stand_in(way: Way, nid: u8) -> u8
-    ensures { result ≡ stand_in way nid }
-{
-    if is_carried(way, nid) { 44 } else { nid }
-}
 
 /// The item that a tree says, of which `entry` is the one with stand-ins. To the track there are none.
 ///
@@ -92,28 +70,6 @@ fn items_in(value: &Value) -> &[Value]
     }
 }
 
-/// The number of a packet that is kept as bits.
-fn kept_number(tree: &Value) -> Option<u8>
-    ensures { (v : PacketValue) → IsPacket (unnamed ToTrain v) → IsPacketTree ToTrain v (view tree.now) → result ≡ kept_number v }
-{
-    let (_, _, nid) = kept_members(Way::ToTrain, tree)?;
-    Some(nid)
-}
-
-/// Whether no packet needs a stand-in.
-fn are_named(trees: &[Value]) -> bool
-    ensures { IsTrue result → (vs : List PacketValue) → All IsPacket (map (unnamed ToTrain) vs) → ArePacketTrees ToTrain vs (items_view trees.now) → map (unnamed ToTrain) vs ≡ vs }
-{
-    for tree in trees {
-        if let Some(nid) = kept_number(tree) {
-            if is_carried(Way::ToTrain, nid) {
-                return false;
-            }
-        }
-    }
-    true
-}
-
 /// The item with the bits of `entry` but for the numbers of its packets, which are those of these trees.
 fn renamed(alloc: Global, kind: Kind, entry: &Entry, trees: &[Value]) -> Result<Entry, JsonFault>
     requires kind { kind ≢ Kind.Train }
@@ -143,22 +99,6 @@ fn rename_item(bytes: &mut [u8], entry: &Entry, trees: &[Value])
             }
         }
         Entry::Train(_) => {}
-    }
-}
-
-/// Puts the numbers of these trees in place of those of the packets, of which the first begins at the bit `at`.
-fn rename(bytes: &mut [u8], at: usize, packets: &[Packet], trees: &[Value])
-    requires room { at + length (spelled (packets_reading (map packet_value packets.now))) ≤ length (bits bytes.old) }
-    requires small { length (bits bytes.old) < 2 ^ 64 }
-    ensures length { length bytes.new ≡ length bytes.old }
-    ensures bits { (vs : List PacketValue) (front behind : List Bool) → map packet_value packets.now ≡ map (unnamed ToTrain) vs → All IsPacket (map (unnamed ToTrain) vs) → ArePacketTrees ToTrain vs (items_view trees.now) → length front ≡ at → bits bytes.old ≡ front ++ spelled (packets_reading (map (unnamed ToTrain) vs)) ++ behind → bits bytes.new ≡ front ++ spelled (packets_reading vs) ++ behind }
-{
-    let mut place = at;
-    for (packet, tree) in packets.iter().zip(trees) {
-        if let Some(nid) = kept_number(tree) {
-            write(bytes, place, 8, u64::from(nid));
-        }
-        place += packet.bit_len();
     }
 }
 

@@ -1,9 +1,8 @@
 //! Messages of their trees.
 
-ghost use Rattle.std.specs.Prelude.{◌≡◌, ◌<◌, ◌≤◌, ◌^◌, [], All, Bool, List, Some, IfOk, IfSome, IsNone, IsSome, length, map, option_map};
+ghost use Rattle.std.specs.Prelude.{◌≡◌, [], All, Some, IfOk, IfSome, IsSome, map, option_map};
 ghost use Rattle.serde_json.specs.Data.{Data, Items, array, string};
 ghost use Rattle.serde_json.specs.View.{view};
-ghost use Rattle.etcs_bits.specs.Bits.{num};
 ghost use Rattle.etcs_vars.specs.Reading.{Reading};
 ghost use Rattle.etcs_tables.specs.declared.item.RowItem.TheVariants.{One};
 ghost use Rattle.etcs_tables.specs.Layouts.{Layout, Reads};
@@ -14,16 +13,13 @@ ghost use Rattle.etcs_messages.specs.Kinds.{IsHead, IsOwn, head_row};
 ghost use Rattle.etcs_messages.specs.Messages.{KeptReads, MessageReads, MessageValue, TypedReads, kept_message, message_value, typed_message, values_of};
 ghost use Rattle.etcs_text.specs.Show.{way_word};
 ghost use Rattle.etcs_json.specs.Loose.{unnamed_message};
-ghost use Rattle.etcs_json.specs.TreeReading.{ArePairTrees, IsMessageTree, kept_message_tree, message_tree};
+ghost use Rattle.etcs_packet_json.specs.TreeReading.{ArePairTrees};
+ghost use Rattle.etcs_json.specs.TreeReading.{IsMessageTree, kept_message_tree, message_tree};
 
-use crate::digits::{bits_in, byte_in};
-use crate::from_packets::packets_in;
-use crate::members::Rest;
-use crate::numbers::numbers_in;
 use crate::trees::way_word;
-use crate::written::digits::padding_number;
 use etcs_bits::Bits;
 use etcs_messages::{Head, MessageOf, Own};
+use etcs_packet_json::parts::{Rest, bits_in, byte_in, numbers_in, packets_in, padding_number};
 use etcs_packets::parts::AnyPacket;
 use etcs_tables::{Row, RowItem, Way, message_row};
 use etcs_vars::Var;

@@ -1,6 +1,6 @@
 //! Telegrams of their trees.
 
-ghost use Rattle.std.specs.Prelude.{◌≡◌, ◌↔◌, All, Some, IfOk, IfSome, IsSome, IsTrue, map};
+ghost use Rattle.std.specs.Prelude.{◌≡◌, All, Some, IfOk, IfSome, IsSome, map};
 ghost use Rattle.serde_json.specs.Data.{Data, Items, array, string};
 ghost use Rattle.serde_json.specs.View.{view};
 ghost use Rattle.etcs_vars.specs.Reading.{Reading};
@@ -9,14 +9,12 @@ ghost use Rattle.etcs_telegram.specs.Headers.{IsHeaderNumbers};
 ghost use Rattle.etcs_telegram.specs.Telegrams.{HeaderValue, IsAdmitted, TelegramReads, TelegramValue, header_of, header_reading, telegram_value};
 ghost use Rattle.etcs_text.specs.Show.{kind_word};
 ghost use Rattle.etcs_json.specs.Loose.{unnamed_telegram};
-ghost use Rattle.etcs_json.specs.TreeReading.{ArePairTrees, IsTelegramTree, telegram_tree};
+ghost use Rattle.etcs_packet_json.specs.TreeReading.{ArePairTrees};
+ghost use Rattle.etcs_json.specs.TreeReading.{IsTelegramTree, telegram_tree};
 
-use crate::digits::bits_in;
-use crate::from_packets::packets_in;
-use crate::members::Rest;
-use crate::numbers::numbers_in;
 use crate::trees::size_word;
 use etcs_bits::Bits;
+use etcs_packet_json::parts::{Rest, bits_in, numbers_in, packets_in};
 use etcs_packets::Packet;
 use etcs_tables::{Row, RowItem};
 use etcs_telegram::{Header, Size, Telegram};

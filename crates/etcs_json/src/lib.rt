@@ -11,16 +11,11 @@
 #![tactic(auto)]
 
 mod carried;
-mod digits;
 mod fault;
 mod from_entries;
 mod from_message;
-mod from_packets;
 mod from_telegram;
 pub mod laws;
-mod members;
-mod numbers;
-mod pairs;
 mod trees;
 mod written;
 

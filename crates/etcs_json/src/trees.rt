@@ -1,99 +1,26 @@
 //! The tree of an item.
 
-ghost use Rattle.std.specs.Prelude.{◌≡◌, IfOk, None, Some, map};
+ghost use Rattle.std.specs.Prelude.{◌≡◌, IfOk, None};
 ghost use Rattle.serde_json.specs.View.{view};
 ghost use Rattle.etcs_bits.specs.Bits.{num};
-ghost use Rattle.etcs_packets.specs.PacketValues as values;
-ghost use Rattle.etcs_packets.specs.PacketValues.{variables_of};
 ghost use Rattle.etcs_messages.specs.Messages.{message_value};
 ghost use Rattle.etcs_messages.specs.Readings.{kept_of, padding_bits_of, padding_of};
 ghost use Rattle.etcs_telegram.specs.Telegrams.{telegram_value};
 ghost use Rattle.etcs_text.specs.Entries.{entry_value};
 ghost use Rattle.etcs_text.specs.Show.{kind_word, way_word};
-ghost use Rattle.etcs_packet_text.specs.Trees.{bits_tree, packet_tree, packets_tree, pairs_tree};
+ghost use Rattle.etcs_packet_text.specs.Trees.{bits_tree};
 ghost use Rattle.etcs_text.specs.Trees.{json_tree, message_tree, telegram_tree};
-ghost use Rattle.etcs_json.specs.TreeParts.{member_dir, typed_members};
+ghost use Rattle.etcs_json.specs.TreeParts.{typed_members};
 
-use crate::pairs::{bits_json, pairs_json, variables_json};
 use etcs_bits::BitSlice;
 use etcs_messages::{Head, MessageOf, Own};
+use etcs_packet_json::parts::{bits_json, packets_json, variables_json};
 use etcs_packets::parts::AnyPacket;
 use etcs_tables::Way;
 use etcs_telegram::{Size, Telegram};
 use etcs_text::Entry;
-use etcs_vars::parts::PairList;
 use serde_json::{Value, json};
 use std::alloc::{AllocError, Global};
-
-/// The variables of a packet, each as a pair.
-fn fields_json<P: AnyPacket>(alloc: Global, packet: &P) -> Result<Value, AllocError>
-    ensures { IfOk result (λ v. view v ≡ pairs_tree (variables_of (P.form packet.now).value)) }
-{
-    let mut sent = PairList::new(alloc);
-    packet.send_variables(&mut sent)?;
-    pairs_json(alloc, sent.into_vec().as_slice())
-}
-
-/// The direction of a packet, where it has a member: to the train packet 0 has none, and to the track no packet has one.
-fn member_dir<P: AnyPacket>(packet: &P) -> Option<u8>
-    ensures { result ≡ member_dir P.WAY (P.form packet.now).value }
-{
-    match P::WAY {
-        Way::ToTrain => packet.direction(),
-        Way::ToTrack => None,
-    }
-}
-
-/// A packet that isn't kept as bits.
-fn sent_json<P: AnyPacket>(alloc: Global, packet: &P) -> Result<Value, AllocError>
-    requires { values.kept_of (P.form packet.now).value ≡ None }
-    ensures { IfOk result (λ v. view v ≡ packet_tree P.WAY (P.form packet.now).value) }
-{
-    let fields = fields_json(alloc, packet)?;
-    let nid = packet.number_of();
-    match member_dir(packet) {
-        Some(dir) => json!(in alloc; {"dir": dir, "fields": fields, "nid": nid}),
-        None => json!(in alloc; {"fields": fields, "nid": nid}),
-    }
-}
-
-/// A packet that is kept as these bits.
-fn kept_json<P: AnyPacket>(
-    alloc: Global,
-    packet: &P,
-    bits: &BitSlice<'_>,
-) -> Result<Value, AllocError>
-    requires { values.kept_of (P.form packet.now).value ≡ Some bits.now }
-    ensures { IfOk result (λ v. view v ≡ packet_tree P.WAY (P.form packet.now).value) }
-{
-    let data = bits_json(alloc, bits)?;
-    let nid = packet.number_of();
-    match member_dir(packet) {
-        Some(dir) => json!(in alloc; {"data": data, "dir": dir, "nid": nid}),
-        None => json!(in alloc; {"data": data, "nid": nid}),
-    }
-}
-
-/// A packet.
-fn packet_json<P: AnyPacket>(alloc: Global, packet: &P) -> Result<Value, AllocError>
-    ensures { IfOk result (λ v. view v ≡ packet_tree P.WAY (P.form packet.now).value) }
-{
-    match packet.kept_bits() {
-        Some(bits) => kept_json(alloc, packet, &bits),
-        None => sent_json(alloc, packet),
-    }
-}
-
-/// Packets in their order.
-fn packets_json<P: AnyPacket>(alloc: Global, packets: &[P]) -> Result<Value, AllocError>
-    ensures { IfOk result (λ v. view v ≡ packets_tree P.WAY (map (λ p. (P.form p).value) packets.now)) }
-{
-    let mut list = Vec::new(alloc);
-    for packet in packets {
-        list.push(packet_json(alloc, packet)?)?;
-    }
-    Ok(Value::Array(list))
-}
 
 /// The kind of the telegrams of a size.
 pub(crate) fn size_word(size: Size) -> &'static str

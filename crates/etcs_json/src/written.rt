@@ -10,15 +10,13 @@ ghost use Rattle.etcs_vars.specs.Reading.{Reading};
 ghost use Rattle.etcs_text.specs.Entries.{EntryReads, entry_value, kind_of};
 ghost use Rattle.etcs_text.specs.Trees.{json_tree};
 
-pub(crate) mod digits;
 mod guess;
 mod guess_message;
-pub(crate) mod text;
 
 use crate::written::guess::guess_telegram;
 use crate::written::guess_message::guess_message;
-use crate::written::text::{Miss, Text};
 use etcs_messages::parts as message_parts;
+use etcs_packet_json::parts::{Miss, Text};
 use etcs_telegram::{Size, parts as telegram_parts};
 use etcs_text::{Entry, Kind, json_line};
 use std::alloc::{AllocError, Global};

@@ -1,15 +1,10 @@
 //! Messages guessed of a text, by the shape of what `json_line` writes. No clause says which they are: each is compared
 //! with the text in the end.
 
-ghost use Rattle.std.specs.Prelude.{◌≡◌, [], map, IfSome};
-ghost use Rattle.etcs_messages.specs.Kinds.{IsHead, IsOwn};
-
 use crate::from_message::{head_items, kept_by};
-use crate::written::digits::padding_number;
-use crate::written::guess::packets;
-use crate::written::text::{Miss, Text};
 use etcs_bits::Bits;
 use etcs_messages::{Head, MessageOf, Own};
+use etcs_packet_json::parts::{Miss, Text, guess_packets, padding_number};
 use etcs_packets::parts::AnyPacket;
 use etcs_rows::admits_fields;
 use etcs_tables::{Row, message_row};
@@ -80,7 +75,7 @@ fn behind_number<H: Head>(
     text: &mut Text<'_>,
 ) -> Result<(Vec<H::Packet>, Bits), Miss> {
     text.pass(b",\"packets\":")?;
-    let packets = packets::<H::Packet>(alloc, text)?;
+    let packets = guess_packets::<H::Packet>(alloc, text)?;
     text.pass(b",\"padding\":\"")?;
     Ok((packets, text.bits(alloc)?))
 }

@@ -1,0 +1,4 @@
+pub mod Digits
+pub mod Loose
+pub mod TreeParts
+pub mod TreeReading

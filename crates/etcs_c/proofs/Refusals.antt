@@ -11,10 +11,10 @@ use Rattle.etcs_bits.specs.Bits.{num}
 use Rattle.etcs_text.specs.declared.entry.Kind.{Kind}
 use Rattle.etcs_text.specs.Entries.{EntryReads}
 use Rattle.etcs_text.proofs.ItemKinds.{kind_regular}
-use Rattle.etcs_explain.specs.Accounts.{Shows, Accounts}
-use Rattle.etcs_explain.specs.declared.account.End.{End}
-use Rattle.etcs_explain.specs.declared.account.End.TheVariants as end
-use Rattle.etcs_explain.proofs.Accounting.{whole_unrefused, open_unrefused}
+use Rattle.etcs_accounts.specs.Accounts.{Shows, Accounts}
+use Rattle.etcs_accounts.specs.declared.account.End.{End}
+use Rattle.etcs_accounts.specs.declared.account.End.TheVariants as end
+use Rattle.etcs_accounts.proofs.Accounting.{whole_unrefused, open_unrefused}
 use Rattle.etcs_c.specs.declared.answer.EtcsAnswer.{EtcsAnswer}
 use Rattle.etcs_c.specs.declared.fields.EtcsField.{EtcsField}
 use Rattle.etcs_c.specs.declared.found.Found.{Found}

@@ -7,7 +7,7 @@ use Rattle.etcs_text.specs.Entries.{EntryReads, EntryValue}
 use Rattle.etcs_json.specs.JsonLines.{OfLine, SaysItem, SaysRefused}
 use Rattle.etcs_json.specs.Loose.{IsLoose}
 use Rattle.etcs_json.specs.TreeReading.{IsTreeOf}
-use Rattle.etcs_explain.specs.Accounts.{Shows}
+use Rattle.etcs_accounts.specs.Accounts.{Shows}
 use Rattle.etcs_c.specs.declared.answer.EtcsAnswer.{EtcsAnswer}
 use Rattle.etcs_c.specs.declared.fields.EtcsField.{EtcsField}
 use Rattle.etcs_c.specs.declared.found.Found.{Found}

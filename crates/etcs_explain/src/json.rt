@@ -1,8 +1,6 @@
 //! Why JSON is no item: the path of the first part that is wrong, as jq has it, and the reason.
 
-use crate::front::{low_byte, user_bits, way_of};
-use crate::reasons::write_not_admitted;
-use crate::text::Text;
+use etcs_accounts::parts::{Text, low_byte, user_bits, way_of, write_not_admitted};
 use etcs_json::{JsonFault, from_line};
 use etcs_rows::Place;
 use etcs_tables::{

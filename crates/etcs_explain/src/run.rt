@@ -1,14 +1,11 @@
 //! A run: the items of an input, explained one after another.
 
-use crate::account::{Account, End, MOST_BYTES, Part};
-use crate::front::way_of;
-use crate::hex_lines::{wanted_bytes, write_no_bytes};
 use crate::json::write_no_item;
-use crate::page::{FOOT, HEAD, write_bytes};
-use crate::refusal::write_cause;
-use crate::sheet::{Layout, Sheet};
-use crate::table::write_table;
-use crate::text::Text;
+use etcs_accounts::parts::{
+    FOOT, HEAD, MOST_BYTES, Sheet, Text, wanted_bytes, way_of, write_bytes, write_cause,
+    write_no_bytes, write_table,
+};
+use etcs_accounts::{Account, End, Layout, Part};
 use etcs_digits::{NoBytes, line_bytes};
 use etcs_json::{JsonFault, from_line};
 use etcs_runs::{Form, RunFault, split_line, without_cr};

@@ -2,11 +2,11 @@ use Rattle.std.proofs.Common.{◌≡◌, ◌∙◌, refl, sym, ap, subst, arith,
 use Rattle.std.specs.Prelude.{None, not}
 use Rattle.etcs_vars.proofs.Languages.{Same}
 use Rattle.etcs_vars.specs.Reading.{Reading, readings_of}
-use Rattle.etcs_explain.specs.Accounts.{Accounts}
-use Rattle.etcs_explain.specs.declared.account.End.TheVariants.{Refused}
-use Rattle.etcs_explain.proofs.Accounting.{bit_at, some_of, through, at_more, account_whole, account_open, account_refused, kept_front}
-use Rattle.etcs_explain.proofs.account.account_of.Goals as goal
-use Rattle.etcs_explain.proofs.account.account_of.Goals.{in-None, in-Some-var}
+use Rattle.etcs_accounts.specs.Accounts.{Accounts}
+use Rattle.etcs_accounts.specs.declared.account.End.TheVariants.{Refused}
+use Rattle.etcs_accounts.proofs.Accounting.{bit_at, some_of, through, at_more, account_whole, account_open, account_refused, kept_front}
+use Rattle.etcs_accounts.proofs.account.account_of.Goals as goal
+use Rattle.etcs_accounts.proofs.account.account_of.Goals.{in-None, in-Some-var}
 
 pub returns-in-Err-Refused : goal.returns-in-Err-Refused
 returns-in-Err-Refused g c =

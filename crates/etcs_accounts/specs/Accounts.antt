@@ -3,8 +3,8 @@ use Rattle.std.specs.Prelude.{◌≡◌, ℕ, ◌≤◌, Bool, List, ◌++◌, l
 use Rattle.etcs_bits.specs.Bits.{num}
 use Rattle.etcs_vars.specs.Reading.{Reading, spelled, Owner}
 use Rattle.etcs_vars.specs.Walking.{Refuses}
-use Rattle.etcs_explain.specs.declared.account.End.{End}
-use Rattle.etcs_explain.specs.declared.account.End.TheVariants.{Whole, Open, Refused}
+use Rattle.etcs_accounts.specs.declared.account.End.{End}
+use Rattle.etcs_accounts.specs.declared.account.End.TheVariants.{Whole, Open, Refused}
 
 -- the bits b are the whole variables p and these bits of the next one, and a reading of L begins with p
 pub record Shows (L : Reading → Type 0) (p : Reading) (part b : List Bool) : Type 0 where

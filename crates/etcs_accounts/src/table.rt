@@ -32,7 +32,7 @@ fn is_kept(var: Var) -> bool {
 }
 
 /// Writes the lines of all variables of an account.
-pub(crate) fn write_table(way: Way, bytes: &[u8], account: &Account, sheet: &mut Sheet) {
+pub fn write_table(way: Way, bytes: &[u8], account: &Account, sheet: &mut Sheet) {
     sheet.clear();
     sheet.open_part();
     let mut table = Table {
@@ -108,7 +108,7 @@ impl<'a> Table<'a> {
         match (var, behind) {
             (Var::L_PACKET, _) => write_end("packet", self.start, number, out),
             (Var::L_MESSAGE, _) => write_end("message", 0, number.saturating_mul(8), out),
-            (Var::NID_MESSAGE, _) => out.push(name_in(&MESSAGES, number).unwrap_or("")),
+            (Var::NID_MESSAGE, _) => out.push(name_in(MESSAGES, number).unwrap_or("")),
             (Var::L_TEXT, _) => out.push("characters that follow"),
             (_, Some(RowItem::Many(_))) => match number {
                 0 => out.push("no entry follows"),
@@ -133,8 +133,8 @@ impl<'a> Table<'a> {
         self.sheet.clear();
         write!(self.sheet.meaning, "packet {number}");
         let name = match self.way {
-            Way::ToTrain => name_in(&TO_TRAIN, number),
-            Way::ToTrack => name_in(&TO_TRACK, number),
+            Way::ToTrain => name_in(TO_TRAIN, number),
+            Way::ToTrack => name_in(TO_TRACK, number),
         };
         if let Some(name) = name {
             write!(self.sheet.meaning, ", {name}");

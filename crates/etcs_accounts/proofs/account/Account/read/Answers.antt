@@ -11,8 +11,8 @@ use Rattle.etcs_messages.proofs.Bytes.{some_message}
 use Rattle.etcs_text.specs.declared.entry.Kind.TheVariants.{Long, Short, Radio, Train}
 use Rattle.etcs_text.specs.Entries.{EntryReads}
 use Rattle.etcs_text.proofs.ItemKinds.{same_telegrams, same_messages}
-use Rattle.etcs_explain.proofs.Accounting.{first_bits, of_kind}
-use Rattle.etcs_explain.proofs.account.Account.read.Goals as goal
+use Rattle.etcs_accounts.proofs.Accounting.{first_bits, of_kind}
+use Rattle.etcs_accounts.proofs.account.Account.read.Goals as goal
 
 pub bits_at-bits-requires : goal.bits_at-bits-requires
 bits_at-bits-requires c = omega (arith, length-bits c.args.bytes.now, c.min.ensures)

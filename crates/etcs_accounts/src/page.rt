@@ -4,7 +4,7 @@ use crate::account::End;
 use crate::text::Text;
 
 /// What is in front of the first item.
-pub(crate) static HEAD: &str = "<!doctype html>
+pub static HEAD: &str = "<!doctype html>
 <html lang=en><meta charset=utf-8><meta name=viewport content='width=device-width'><title>etcs explain</title>
 <style>
 :root{color-scheme:light dark;--on:#ffd54a;--no:#d32f2f;--line:#8886}
@@ -37,7 +37,7 @@ p.no{color:var(--no);font-weight:600;max-width:60em}
 ";
 
 /// What comes after the last item.
-pub(crate) static FOOT: &str = "<script>
+pub static FOOT: &str = "<script>
 for (const s of document.querySelectorAll('section')) {
   const bits = [...s.querySelectorAll('i')], rows = [...s.querySelectorAll('tr[data-a]')], of = [];
   const mark = (row, on) => {
@@ -65,7 +65,7 @@ for (const s of document.querySelectorAll('section')) {
 ";
 
 /// Appends the bytes of an item in rows of eight, with the refused bit, and begins the column of its variables.
-pub(crate) fn write_bytes(bytes: &[u8], end: End, out: &mut Text) {
+pub fn write_bytes(bytes: &[u8], end: End, out: &mut Text) {
     out.push("<div class=g><div class=h>\n");
     for (at, byte) in bytes.iter().enumerate() {
         let bit = at.saturating_mul(8);

@@ -34,7 +34,7 @@ macro_rules! units {
 }
 
 #[rattlefmt::skip]
-static UNITS: [(Unit, &[Var]); 12] = units! {
+static UNITS: &[(Unit, &[Var])] = &units! {
     Distance: D_LINK L_SECTION D_SECTIONTIMERSTOPLOC L_ENDSECTION D_ENDTIMERSTARTLOC D_DP D_STARTOL D_OL D_GRADIENT D_STATIC
         D_LEVELTR L_ACKLEVELTR D_TSR L_TSR D_TEXTDISPLAY L_TEXTDISPLAY D_SR D_CYCLOC D_LOC D_TRACKINIT D_TRACKCOND L_TRACKCOND
         D_MAMODE L_MAMODE L_ACKMAMODE D_RBCTR D_LRBG L_DOUBTOVER L_DOUBTUNDER;
@@ -57,7 +57,7 @@ macro_rules! texts {
 }
 
 #[rattlefmt::skip]
-static TEXTS: [(&[&str], &[Var]); 28] = texts! {
+static TEXTS: &[(&[&str], &[Var])] = &texts! {
     Q_UPDOWN: "" "track to train";
     Q_MEDIA: "balise";
     M_DUP: "no duplicate" "duplicate of the next balise" "duplicate of the previous balise";
@@ -105,7 +105,7 @@ fn text_of(var: Var, number: u64) -> Option<&'static str> {
         (Var::M_MCOUNT, 255) => Some("fits each message of the group"),
         (Var::V_MAMODE, 127) => Some("national value"),
         (Var::T_TRAIN, 4294967295) | (Var::NID_PRVLRBG, 16777215) => Some("unknown"),
-        _ => listed(&TEXTS, var)?.get(number as usize).copied(),
+        _ => listed(TEXTS, var)?.get(number as usize).copied(),
     }
 }
 
@@ -141,7 +141,7 @@ fn write_measure(unit: Unit, number: u64, scale: Option<u64>, out: &mut Text) {
 pub(crate) fn write_meaning(var: Var, number: u64, scale: Option<u64>, out: &mut Text) {
     if let Some(text) = text_of(var, number) {
         out.push(text);
-    } else if let Some(unit) = listed(&UNITS, var) {
+    } else if let Some(unit) = listed(UNITS, var) {
         write_measure(unit, number, scale, out);
     }
 }

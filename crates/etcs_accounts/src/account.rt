@@ -5,7 +5,7 @@ ghost use Rattle.etcs_bits.specs.Bits.{bits};
 ghost use Rattle.etcs_vars.specs.Reading.{readings_of};
 ghost use Rattle.etcs_reader.specs.Rests.{Goes};
 ghost use Rattle.etcs_text.specs.Entries.{EntryReads};
-ghost use Rattle.etcs_explain.specs.Accounts.{Accounts};
+ghost use Rattle.etcs_accounts.specs.Accounts.{Accounts};
 
 use etcs_bits::BitSlice;
 use etcs_messages::parts::MessageRest;

@@ -24,7 +24,7 @@ fn write_ranges(ranges: &[(u64, u64)], out: &mut Text) {
 }
 
 /// Appends which numbers a variable admits, and that this one isn't among them.
-pub(crate) fn write_not_admitted(var: Var, number: Option<u64>, out: &mut Text) {
+pub fn write_not_admitted(var: Var, number: Option<u64>, out: &mut Text) {
     write!(out, "{var} admits ");
     write_ranges(var.ranges(), out);
     let Some(number) = number else {

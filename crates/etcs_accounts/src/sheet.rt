@@ -15,17 +15,19 @@ pub enum Layout {
 
 /// Takes the lines of tables. A line's value and meaning are written first, and then the line.
 #[derive(Drop)]
-pub(crate) struct Sheet {
+pub struct Sheet {
     layout: Layout,
-    pub(crate) out: Text,
+    /// What was written.
+    pub out: Text,
     bits: Text,
     pub(crate) value: Text,
-    pub(crate) meaning: Text,
+    /// What the next line or title says.
+    pub meaning: Text,
 }
 
 impl Sheet {
     /// Nothing is written yet.
-    pub(crate) fn new(alloc: Global, layout: Layout) -> Sheet {
+    pub fn new(alloc: Global, layout: Layout) -> Sheet {
         Sheet {
             layout,
             out: Text::new(alloc),
@@ -36,7 +38,7 @@ impl Sheet {
     }
 
     /// Begins the next line.
-    pub(crate) fn clear(&mut self) {
+    pub fn clear(&mut self) {
         self.value.clear();
         self.meaning.clear();
     }
@@ -46,7 +48,7 @@ impl Sheet {
     /// # Errors
     ///
     /// Where memory was refused for a part of it.
-    pub(crate) fn whole(&self) -> Result<&str, AllocError> {
+    pub fn whole(&self) -> Result<&str, AllocError> {
         self.bits.whole()?;
         self.value.whole()?;
         self.meaning.whole()?;
@@ -54,7 +56,7 @@ impl Sheet {
     }
 
     /// Appends the one of these that the form has.
-    pub(crate) fn put(&mut self, text: &str, page: &str) {
+    pub fn put(&mut self, text: &str, page: &str) {
         self.out.push(match self.layout {
             Layout::Text => text,
             Layout::Html => page,
@@ -74,7 +76,7 @@ impl Sheet {
     }
 
     /// Begins the table of an item, whose title is the meaning.
-    pub(crate) fn open_item(&mut self) {
+    pub fn open_item(&mut self) {
         self.put("", "<section><h2>");
         self.put_meaning();
         let head = "\n  bits        variable              number  meaning\n";
@@ -136,7 +138,7 @@ impl Sheet {
     }
 
     /// Ends the table of an item, with the reason that the meaning has, if it has one, and what it often comes of.
-    pub(crate) fn close_item(&mut self, often: Option<&'static str>) {
+    pub fn close_item(&mut self, often: Option<&'static str>) {
         if !self.meaning.as_str().is_empty() {
             self.put("  Why: ", "<p class=no>Why: ");
             self.put_meaning();
@@ -150,7 +152,7 @@ impl Sheet {
     }
 
     /// Writes the meaning as the line of what is no item.
-    pub(crate) fn heading(&mut self) {
+    pub fn heading(&mut self) {
         self.put("", "<p class=no>");
         self.put_meaning();
         self.out.push("\n");

@@ -62,7 +62,11 @@ fn advice(alloc: Global, kind: Kind, bytes: &[u8]) -> Result<Option<&'static str
 }
 
 /// Appends why the bytes of an account are no item, and answers what this most often comes of. Nothing where they are one.
-pub(crate) fn write_cause(
+///
+/// # Errors
+///
+/// Where memory is refused.
+pub fn write_cause(
     kind: Kind,
     bytes: &[u8],
     account: &Account,

@@ -25,7 +25,7 @@ pub(crate) struct Front {
 }
 
 /// The way of the items of a kind.
-pub(crate) fn way_of(kind: Kind) -> Way {
+pub fn way_of(kind: Kind) -> Way {
     match kind {
         Kind::Long | Kind::Short | Kind::Radio => Way::ToTrain,
         Kind::Train => Way::ToTrack,
@@ -33,7 +33,7 @@ pub(crate) fn way_of(kind: Kind) -> Way {
 }
 
 /// How many bits items of a kind have before PAD: 0 where L_MESSAGE says it.
-pub(crate) fn user_bits(kind: Kind) -> usize {
+pub fn user_bits(kind: Kind) -> usize {
     match kind {
         Kind::Long => Size::Long.user_bits(),
         Kind::Short => Size::Short.user_bits(),
@@ -41,8 +41,8 @@ pub(crate) fn user_bits(kind: Kind) -> usize {
     }
 }
 
-/// A number of at most 8 bits.
-pub(crate) fn low_byte(number: u64) -> u8 {
+/// The last 8 bits of a number.
+pub fn low_byte(number: u64) -> u8 {
     (number & 255) as u8
 }
 

@@ -16,11 +16,11 @@ use Rattle.etcs_telegram.proofs.SameReadings.{owner_along, refuses_along}
 use Rattle.etcs_reader.specs.Rests.{Goes}
 use Rattle.etcs_reader.specs.Readers.{Passed}
 use Rattle.etcs_reader.proofs.Passing.{passed_along, passed_owner, passed_refuses}
-use Rattle.etcs_explain.specs.Accounts.{Shows, Accounts}
-use Rattle.etcs_explain.specs.declared.account.Account.{Account}
-use Rattle.etcs_explain.specs.declared.account.Part.{Part}
-use Rattle.etcs_explain.specs.declared.account.End.{End}
-use Rattle.etcs_explain.specs.declared.account.End.TheVariants as end
+use Rattle.etcs_accounts.specs.Accounts.{Shows, Accounts}
+use Rattle.etcs_accounts.specs.declared.account.Account.{Account}
+use Rattle.etcs_accounts.specs.declared.account.Part.{Part}
+use Rattle.etcs_accounts.specs.declared.account.End.{End}
+use Rattle.etcs_accounts.specs.declared.account.End.TheVariants as end
 
 -- ---- In two languages of the same readings.
 

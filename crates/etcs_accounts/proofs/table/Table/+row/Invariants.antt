@@ -1,5 +1,5 @@
 use Rattle.std.proofs.Common.{length, ◌<◌}
-use Rattle.etcs_explain.proofs.table.Table.+row.Given as goal
+use Rattle.etcs_accounts.proofs.table.Table.+row.Given as goal
 
 abbrev pub decreases-row : goal.decreases-row
 decreases-row l = length l.items.now

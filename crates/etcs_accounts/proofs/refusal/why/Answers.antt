@@ -3,8 +3,8 @@ use Rattle.etcs_bits.specs.Bits.{bits}
 use Rattle.etcs_vars.specs.Reading.{readings_of}
 use Rattle.etcs_text.specs.Entries.{EntryReads}
 use Rattle.etcs_text.proofs.ItemKinds.{kind_regular}
-use Rattle.etcs_explain.proofs.Accounting.{whole_unrefused, open_unrefused}
-use Rattle.etcs_explain.proofs.refusal.why.Goals as goal
+use Rattle.etcs_accounts.proofs.Accounting.{whole_unrefused, open_unrefused}
+use Rattle.etcs_accounts.proofs.refusal.why.Goals as goal
 
 pub returns-in-Whole-clause-none : goal.returns-in-Whole-clause-none
 returns-in-Whole-clause-none c = λ e i x r.

@@ -2,7 +2,7 @@
 
 /// Of packets to the train.
 #[rattlefmt::skip]
-pub(crate) static TO_TRAIN: [(u8, &str); 55] = [
+pub(crate) static TO_TRAIN: &[(u8, &str)] = &[
     (0, "Virtual Balise Cover marker"), (2, "System Version order"), (3, "National Values"), (5, "Linking"),
     (6, "Virtual Balise Cover order"), (12, "Level 1 Movement Authority"),
     (13, "Staff Responsible distance information from loop"), (15, "Level 2/3 Movement Authority"),
@@ -30,7 +30,7 @@ pub(crate) static TO_TRAIN: [(u8, &str); 55] = [
 
 /// Of those to the track.
 #[rattlefmt::skip]
-pub(crate) static TO_TRACK: [(u8, &str); 9] = [
+pub(crate) static TO_TRACK: &[(u8, &str)] = &[
     (0, "Position Report"), (1, "Position Report based on two balise groups"), (2, "Onboard supported system versions"),
     (3, "Onboard telephone numbers"), (4, "Error Reporting"), (5, "Train running number"),
     (9, "Level 2/3 transition information"), (11, "Validated train data"),
@@ -39,7 +39,7 @@ pub(crate) static TO_TRACK: [(u8, &str); 9] = [
 
 /// Of messages of both ways: each number is of one.
 #[rattlefmt::skip]
-pub(crate) static MESSAGES: [(u8, &str); 38] = [
+pub(crate) static MESSAGES: &[(u8, &str)] = &[
     (2, "SR Authorisation"), (3, "Movement Authority"), (6, "Recognition of exit from TRIP mode"),
     (8, "Acknowledgement of Train Data"), (9, "Request to Shorten MA"), (15, "Conditional Emergency Stop"),
     (16, "Unconditional Emergency Stop"), (18, "Revocation of Emergency Stop"), (24, "General message"),

@@ -5,14 +5,14 @@ use std::fmt::Display;
 
 /// A text, which notes where memory was refused for a part of it.
 #[derive(Drop)]
-pub(crate) struct Text {
+pub struct Text {
     held: String,
     is_starved: bool,
 }
 
 impl Text {
     /// Nothing is written yet.
-    pub(crate) fn new(alloc: Global) -> Text {
+    pub fn new(alloc: Global) -> Text {
         Text {
             held: String::new(alloc),
             is_starved: false,
@@ -20,34 +20,34 @@ impl Text {
     }
 
     /// Notes whether a part was written.
-    pub(crate) fn note(&mut self, written: Result<(), AllocError>) {
+    pub fn note(&mut self, written: Result<(), AllocError>) {
         self.is_starved |= written.is_err();
     }
 
     /// Appends a part.
-    pub(crate) fn push(&mut self, part: &str) {
+    pub fn push(&mut self, part: &str) {
         let written = self.held.push_str(part);
         self.note(written);
     }
 
     /// Appends what `write!` has.
-    pub(crate) fn write_fmt<D: Display + Drop>(&mut self, part: D) {
+    pub fn write_fmt<D: Display + Drop>(&mut self, part: D) {
         let written = self.held.write_fmt(part);
         self.note(written);
     }
 
     /// Writes it anew.
-    pub(crate) fn clear(&mut self) {
+    pub fn clear(&mut self) {
         self.held.clear();
     }
 
     /// What gives it memory.
-    pub(crate) fn alloc(&self) -> Global {
+    pub fn alloc(&self) -> Global {
         *self.held.allocator()
     }
 
     /// What was written so far.
-    pub(crate) fn as_str(&self) -> &str {
+    pub fn as_str(&self) -> &str {
         self.held.as_str()
     }
 
@@ -69,7 +69,7 @@ impl Text {
     /// # Errors
     ///
     /// Where memory was refused for a part of it.
-    pub(crate) fn into_string(self) -> Result<String, AllocError> {
+    pub fn into_string(self) -> Result<String, AllocError> {
         self.whole()?;
         let Text { held, .. } = self;
         Ok(held)

@@ -1,7 +1,7 @@
 use Rattle.std.proofs.Common.{◌≡◌, ◌++◌, take}
 use Rattle.std.specs.Prelude.{None}
 use Rattle.etcs_reader.specs.Readers.{Passed}
-use Rattle.etcs_explain.proofs.account.account_of.Given as goal
+use Rattle.etcs_accounts.proofs.account.account_of.Given as goal
 
 abbrev pub invariant-loop-at : goal.invariant-loop-at
 invariant-loop-at g l = record {

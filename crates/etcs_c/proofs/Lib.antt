@@ -1,7 +1,5 @@
 pub mod Delivering
-pub mod Equality
 pub mod Firsts
-pub mod Names
 pub mod Packing
 pub mod Packs
 pub mod Refusals

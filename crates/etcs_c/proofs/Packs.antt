@@ -9,7 +9,7 @@ use Rattle.etcs_bits.proofs.Lists.{replaced_more, replaced_none}
 use Rattle.etcs_bits.proofs.Numbers.{length-num}
 use Rattle.etcs_bits.proofs.Owned.{bits-take}
 use Rattle.etcs_bits.proofs.Positions.{length-bits}
-use Rattle.etcs_c.specs.declared.fields.EtcsField.{EtcsField}
+use Rattle.etcs_sent.specs.declared.fields.EtcsField.{EtcsField}
 use Rattle.etcs_c.specs.Fields.{AreFit, IsFit, packed, whole_bytes}
 use Rattle.etcs_c.proofs.Packing.{packed_more}
 

@@ -15,13 +15,14 @@ use Rattle.etcs_accounts.specs.Accounts.{Shows, Accounts}
 use Rattle.etcs_accounts.specs.declared.account.End.{End}
 use Rattle.etcs_accounts.specs.declared.account.End.TheVariants as end
 use Rattle.etcs_accounts.proofs.Accounting.{whole_unrefused, open_unrefused}
-use Rattle.etcs_c.specs.declared.answer.EtcsAnswer.{EtcsAnswer}
-use Rattle.etcs_c.specs.declared.fields.EtcsField.{EtcsField}
+use Rattle.etcs_sent.specs.declared.answer.EtcsAnswer.{EtcsAnswer}
+use Rattle.etcs_sent.specs.declared.fields.EtcsField.{EtcsField}
 use Rattle.etcs_c.specs.declared.found.Found.{Found}
 use Rattle.etcs_c.specs.declared.found.Found.TheVariants as found_as
-use Rattle.etcs_c.specs.Answers.{Says, Starves, WritesAs}
+use Rattle.etcs_sent.specs.Answers.{Starves, WritesAs}
+use Rattle.etcs_c.specs.Answers.{Says}
 use Rattle.etcs_c.specs.Explained.{AreBefore, SaysBefore, SaysWhy, Words}
-use Rattle.etcs_c.specs.Fields.{fields_of}
+use Rattle.etcs_sent.specs.Fields.{fields_of}
 use Rattle.etcs_c.proofs.Whole.{item_bytes}
 
 abbrev Items : Kind → Reading → Type 0

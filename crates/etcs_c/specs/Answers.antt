@@ -1,8 +1,7 @@
 -- What the calls answer, as numbers.
-use Rattle.std.specs.Prelude.{◌≡◌, ℕ, ◌*◌, ◌<◌, ◌≤◌, ◌⊎◌, Bool, List, ◌++◌, length, drop, replicate}
+use Rattle.std.specs.Prelude.{◌≡◌, ℕ, ◌*◌, ◌⊎◌, Bool, List}
 use Rattle.serde_json.specs.Written.{compact_text}
 use Rattle.etcs_vars.specs.declared.var.Var.{Var}
-use Rattle.etcs_vars.specs.Vars.{name}
 use Rattle.etcs_vars.specs.Reading.{IsOutcome, done, refused, more}
 use Rattle.etcs_text.specs.declared.entry.Kind.{Kind}
 use Rattle.etcs_text.specs.declared.entry.Kind.TheVariants.{Long, Short, Radio, Train}
@@ -12,7 +11,8 @@ use Rattle.etcs_text.specs.Trees.{json_tree}
 use Rattle.etcs_json.specs.JsonLines.{OfLine, SaysItem, SaysRefused}
 use Rattle.etcs_json.specs.Loose.{IsLoose}
 use Rattle.etcs_json.specs.TreeReading.{IsTreeOf}
-use Rattle.etcs_c.specs.declared.answer.EtcsAnswer.{EtcsAnswer}
+use Rattle.etcs_sent.specs.declared.answer.EtcsAnswer.{EtcsAnswer}
+use Rattle.etcs_sent.specs.Answers.{Starves, Writes, name_field}
 use Rattle.etcs_c.specs.declared.found.Found.{Found}
 use Rattle.etcs_c.specs.declared.found.Found.TheVariants.{Whole, More, Refused, Memory}
 use Rattle.etcs_c.specs.declared.told.Wanted.{Wanted}
@@ -24,10 +24,6 @@ kind_number Long = 1
 kind_number Short = 2
 kind_number Radio = 3
 kind_number Train = 4
-
--- the name of a variable in 32 bytes, zeros after it
-abbrev pub name_field : Var → List ℕ
-name_field x = name x ++ drop (length (name x)) (replicate 32 0)
 
 -- what the bits begin with, of items of a kind: refused memory says nothing
 abbrev pub Finds : Kind → List Bool → Found → Type 0
@@ -50,17 +46,6 @@ NoKind n s = (s ≡ 5) × ((kind : Kind) → kind_number kind ≡ n → ⊥)
 -- what a check answers of a kind's number and of bits
 abbrev pub Checks : ℕ → List Bool → ℕ → EtcsAnswer → Type 0
 Checks n b s a = ((kind : Kind) × (found : Found) × (kind_number kind ≡ n) × Finds kind b found × Says found s a) ⊎ NoKind n s
-
--- these are at the front of the buffer, and the status is this one; or it has no room for them, and is as before
-abbrev pub WritesAs : {A : Type 0} → ℕ → List A → List A → List A → ℕ → EtcsAnswer → Type 0
-WritesAs status items old new s a = (a.written ≡ length items) × (((length items ≤ length old) × (s ≡ status) × (new ≡ items ++ drop (length items) old)) ⊎ ((length old < length items) × (s ≡ 3) × (new ≡ old)))
-
-abbrev pub Writes : {A : Type 0} → List A → List A → List A → ℕ → EtcsAnswer → Type 0
-Writes items old new s a = WritesAs 0 items old new s a
-
--- memory was refused, and the buffer is as before
-abbrev pub Starves : {A : Type 0} → List A → List A → ℕ → Type 0
-Starves old new s = (s ≡ 4) × (new ≡ old)
 
 -- what is written of an item
 abbrev pub IsText : Wanted → EntryValue → List ℕ → Type 0

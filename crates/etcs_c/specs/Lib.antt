@@ -2,4 +2,3 @@ pub mod Answers
 pub mod Built
 pub mod Explained
 pub mod Fields
-pub mod laws

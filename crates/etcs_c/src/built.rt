@@ -6,11 +6,11 @@ ghost use Rattle.etcs_c.specs.Answers.{Finds};
 ghost use Rattle.etcs_c.specs.Built.{IsBuilt};
 ghost use Rattle.etcs_c.specs.Fields.{AreFit, IsFit, packed, whole_bytes};
 
-use crate::answer::{BAD_FIELDS, EtcsAnswer, NO_MEMORY, WHOLE, deliver};
-use crate::fields::{EtcsField, fields_of};
 use crate::found::{Found, find, say};
 use crate::json::encoding_of;
 use etcs_bits::{PokeFault, poke};
+use etcs_sent::parts::{BAD_FIELDS, NO_MEMORY, WHOLE, deliver, has_fields};
+use etcs_sent::{EtcsAnswer, EtcsField};
 use etcs_text::Kind;
 use std::alloc::{AllocError, Global};
 
@@ -68,14 +68,9 @@ fn build(
 {
     let status = say(found, answer);
     match found {
-        Found::Whole { entry, .. } => match fields_of(alloc, entry) {
-            Ok(own) => {
-                if own.as_slice() == fields {
-                    deliver(WHOLE, encoding_of(alloc, entry), out, answer)
-                } else {
-                    BAD_FIELDS
-                }
-            }
+        Found::Whole { entry, .. } => match has_fields(alloc, entry, fields) {
+            Ok(true) => deliver(WHOLE, encoding_of(alloc, entry), out, answer),
+            Ok(false) => BAD_FIELDS,
             Err(AllocError) => NO_MEMORY,
         },
         _ => status,

@@ -9,14 +9,14 @@ ghost use Rattle.etcs_accounts.specs.Accounts.{Accounts};
 ghost use Rattle.etcs_accounts.specs.declared.account.End.{End};
 ghost use Rattle.etcs_c.specs.Answers.{Finds};
 ghost use Rattle.etcs_c.specs.Explained.{SaysBefore, SaysLineWhy, SaysWhy};
-ghost use Rattle.etcs_c.specs.Fields.{fields_of};
+ghost use Rattle.etcs_sent.specs.Fields.{fields_of};
 
-use crate::answer::{BAD_JSON, EtcsAnswer, NO_MEMORY, REFUSED, WHOLE, deliver, refuse};
-use crate::fields::{EtcsField, fields_in};
 use crate::found::{Found, find, say};
 use etcs_accounts::{Account, why};
 use etcs_explain::why_json;
 use etcs_json::{JsonFault, from_line};
+use etcs_sent::parts::{BAD_JSON, NO_MEMORY, REFUSED, WHOLE, deliver, fields_in, refuse};
+use etcs_sent::{EtcsAnswer, EtcsField};
 use etcs_text::Kind;
 use std::alloc::{AllocError, Global};
 

@@ -3,7 +3,6 @@
 //! A slice is a pointer and then its length; `alloc` takes no place. Nothing is kept from one call to the next.
 #![tactic(auto)]
 
-mod answer;
 mod built;
 mod explained;
 mod fields;
@@ -22,11 +21,10 @@ ghost use Rattle.etcs_c.specs.Fields.{SaysFields};
 ghost use Rattle.etcs_c.specs.declared.found.Found.{Found};
 ghost use Rattle.etcs_c.specs.declared.told.Wanted.TheVariants as wanted;
 
-pub use answer::EtcsAnswer;
-use answer::UNKNOWN_KIND;
 use built::from_fields;
+pub use etcs_sent::{EtcsAnswer, EtcsField};
+use etcs_sent::parts::UNKNOWN_KIND;
 use explained::{tell_before, tell_line_why, tell_why};
-pub use fields::EtcsField;
 use fields::tell_fields;
 use found::{find, say};
 use json::from_json;

@@ -1,2 +1,5 @@
+pub mod Answers
+pub mod Fields
 pub mod Fronts
 pub mod Parts
+pub mod laws

@@ -1,4 +1,5 @@
 //! Items.
+#![tactic(auto, using(std::proofs::Common::append_assoc))]
 
 ghost use Rattle.std.specs.Prelude.{◌≡◌, ◌++◌, false, OnErr, OnOk, map, replicate};
 ghost use Rattle.etcs_bits.specs.Bits.{num};

@@ -1,4 +1,5 @@
 //! Packets.
+#![tactic(auto, using(std::proofs::Common::append_assoc))]
 
 ghost use Rattle.std.specs.Prelude.{◌≡◌, ◌∷◌, [], OnErr, OnOk, map};
 ghost use Rattle.etcs_vars.specs.declared.var.Var.TheVariants.{L_PACKET};

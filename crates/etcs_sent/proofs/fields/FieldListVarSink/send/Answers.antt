@@ -2,9 +2,9 @@ use Rattle.std.proofs.Common.{◌≡◌, ◌+◌, take, get_or, ap, ◌∙◌, s
 use Rattle.std.proofs.lemmas.List.{take_more}
 use Rattle.etcs_vars.specs.declared.var.Var.TheVariants.{Q_UPDOWN}
 use Rattle.etcs_vars.specs.Reading.{Sent}
-use Rattle.etcs_c.specs.Fields.{Joined, join, joined}
-use Rattle.etcs_c.specs.laws.Joining.{joined_both}
-use Rattle.etcs_c.proofs.fields.FieldListVarSink.send.Goals as goal
+use Rattle.etcs_sent.specs.Fields.{Joined, join, joined}
+use Rattle.etcs_sent.specs.laws.Joining.{joined_both}
+use Rattle.etcs_sent.proofs.fields.FieldListVarSink.send.Goals as goal
 
 pub loop-pair-preserved : goal.loop-pair-preserved
 loop-pair-preserved c =

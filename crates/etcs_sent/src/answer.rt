@@ -1,27 +1,27 @@
 //! What a call answers.
 
 ghost use Rattle.std.specs.Prelude.{◌≡◌, MatchResult};
-ghost use Rattle.etcs_c.specs.Answers.{Starves, WritesAs, name_field};
+ghost use Rattle.etcs_sent.specs.Answers.{Starves, WritesAs, name_field};
 
 use etcs_vars::Var;
 use std::alloc::AllocError;
 
 /// An item, or what is written of it.
-pub(crate) const WHOLE: u32 = 0;
+pub const WHOLE: u32 = 0;
 /// The bytes begin an item, and hold none.
-pub(crate) const MORE: u32 = 1;
+pub const MORE: u32 = 1;
 /// A bit is refused.
-pub(crate) const REFUSED: u32 = 2;
+pub const REFUSED: u32 = 2;
 /// The buffer is too short.
-pub(crate) const NO_ROOM: u32 = 3;
+pub const NO_ROOM: u32 = 3;
 /// Memory was refused.
-pub(crate) const NO_MEMORY: u32 = 4;
+pub const NO_MEMORY: u32 = 4;
 /// No kind has this number.
-pub(crate) const UNKNOWN_KIND: u32 = 5;
+pub const UNKNOWN_KIND: u32 = 5;
 /// The JSON is that of no item of the kind.
-pub(crate) const BAD_JSON: u32 = 6;
+pub const BAD_JSON: u32 = 6;
 /// The variables are those of no item of the kind.
-pub(crate) const BAD_FIELDS: u32 = 7;
+pub const BAD_FIELDS: u32 = 7;
 
 /// What a call answers beside its status.
 #[repr(C)]
@@ -49,7 +49,7 @@ fn name_field(var: Var) -> [u8; 32]
 }
 
 /// Answers that this bit is refused, which the variable holds.
-pub(crate) fn refuse(bit: usize, var: Var, answer: &mut EtcsAnswer) -> u32
+pub fn refuse(bit: usize, var: Var, answer: &mut EtcsAnswer) -> u32
     ensures status { result ≡ 2 }
     ensures bit { answer.new.bit ≡ bit }
     ensures var { answer.new.var ≡ name_field var }
@@ -77,7 +77,7 @@ fn write_out<T: Copy>(done: u32, items: &[T], out: &mut [T], answer: &mut EtcsAn
 
 /// Writes what was made to the front of a buffer, where it has room and memory wasn't refused; the status is then this
 /// one.
-pub(crate) fn deliver<T: Copy>(
+pub fn deliver<T: Copy>(
     done: u32,
     made: Result<Vec<T>, AllocError>,
     out: &mut [T],

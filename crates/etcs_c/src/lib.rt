@@ -22,8 +22,8 @@ ghost use Rattle.etcs_c.specs.declared.found.Found.{Found};
 ghost use Rattle.etcs_c.specs.declared.told.Wanted.TheVariants as wanted;
 
 use built::from_fields;
-pub use etcs_sent::{EtcsAnswer, EtcsField};
 use etcs_sent::parts::UNKNOWN_KIND;
+pub use etcs_sent::{EtcsAnswer, EtcsField};
 use explained::{tell_before, tell_line_why, tell_why};
 use fields::tell_fields;
 use found::{find, say};

@@ -5,8 +5,8 @@ use Rattle.std.proofs.Math.Seq.{take-length}
 use Rattle.std.specs.Prelude.{All, OnOk}
 use Rattle.etcs_vars.specs.declared.var.Var.{Var}
 use Rattle.etcs_text.specs.declared.entry.Entry.{Entry}
-use Rattle.etcs_log.specs.declared.verdict.Verdict.{Verdict}
-use Rattle.etcs_log.specs.declared.verdict.Verdict.TheVariants.{Item, Refused, OtherCount}
+use Rattle.etcs_entries.specs.declared.verdict.Verdict.{Verdict}
+use Rattle.etcs_entries.specs.declared.verdict.Verdict.TheVariants.{Item, Refused, OtherCount}
 use Rattle.hex.specs.Hex.{decode_of, encode_upper}
 use Rattle.hex.proofs.HexLemmas.{decode_of-odd, decode_of-ok, decode_of-same}
 use Rattle.etcs_bits.specs.Bits.{bits}
@@ -20,7 +20,7 @@ use Rattle.etcs_text.specs.Encodings.{IsEncoded}
 use Rattle.etcs_text.proofs.ItemKinds.{item_bits}
 use Rattle.etcs_log.specs.declared.job.LogJob.{LogJob}
 use Rattle.etcs_log.specs.declared.job.LogTally.{LogTally}
-use Rattle.etcs_log.specs.Verdicts.{IsItem, IsVerdict}
+use Rattle.etcs_entries.specs.Verdicts.{IsItem, IsVerdict}
 use Rattle.etcs_log.specs.Logs.{Answer, passed, item, bad, IsItemLine, IsAnswer, IsBytesAnswer, Answered, BytesAnswered, Counted}
 
 read_by : (b : Bool) (r : Result ℕ NoBytes) → (IsTrue b → r ≡ Err Empty) → (r ≡ Err Empty → ⊥) → b ≡ false

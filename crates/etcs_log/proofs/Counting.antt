@@ -2,14 +2,14 @@
 use Rattle.std.proofs.Common.{◌≡◌, ℕ, ◌+◌, ◌<◌, ◌≤◌, ◌^◌, Bool, true, false, List, [], ◌∷◌, ◌++◌, length, Result, Ok, Err, refl, sym, ap, subst, ◌∙◌, arith}
 use Rattle.std.specs.Prelude.{IfOk, OnOk, Option}
 use Rattle.std.specs.Io.KnownBytes.{Appends, Consumes}
-use Rattle.etcs_stream.specs.Pipes.{Piped}
-use Rattle.etcs_stream.proofs.Known.{Appends-then}
+use Rattle.etcs_runs.specs.Pipes.{Piped}
+use Rattle.etcs_runs.proofs.Known.{Appends-then}
 use Rattle.std.proofs.lemmas.List.{append-nil, append_assoc, length-append}
 use Rattle.std.proofs.lemmas.List.Elements.{All-append, All-cons, All-nil}
 use Rattle.hex.specs.Hex.{encode_upper}
 use Rattle.etcs_text.specs.declared.entry.Kind.{Kind}
 use Rattle.etcs_runs.specs.Lines.{IsLine, lines_text}
-use Rattle.etcs_stream.proofs.Cutting.{lines_few, lines_text-append, one_line}
+use Rattle.etcs_runs.proofs.LineTexts.{lines_few, lines_text-append, one_line}
 use Rattle.etcs_log.specs.declared.job.LogJob.{LogJob}
 use Rattle.etcs_log.specs.declared.job.LogTally.{LogTally}
 use Rattle.etcs_log.specs.Logs.{Answer, passed, item, bad, IsAnswer, AreAnswers, Answered, GoodText, IsLog, Tells, items_in, bad_in}

@@ -8,7 +8,7 @@ use Rattle.etcs_text.specs.Encodings.{IsEncoded}
 use Rattle.etcs_runs.specs.Lines.{IsLine, lines_text}
 use Rattle.etcs_log.specs.declared.job.LogJob.{LogJob}
 use Rattle.etcs_log.specs.declared.job.LogTally.{LogTally}
-use Rattle.etcs_log.specs.Verdicts.{IsItem}
+use Rattle.etcs_entries.specs.Verdicts.{IsItem}
 
 -- it is passed over; it is this item; it is bad
 pub data Answer : Type 0 where

@@ -1,7 +1,7 @@
 //! What a log has.
 
 use etcs_packets::parts::AnyPacket;
-use etcs_stream::Entry;
+use etcs_text::Entry;
 use etcs_vars::Var;
 use std::alloc::{AllocError, Global};
 

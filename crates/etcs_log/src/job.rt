@@ -1,6 +1,6 @@
 //! What is asked of a log, and what it has.
 
-use etcs_stream::Kind;
+use etcs_text::Kind;
 
 /// What is asked of a log.
 #[derive(Clone, Copy, Debug, PartialEq, Eq)]

@@ -7,7 +7,6 @@ mod lines;
 mod log;
 mod notes;
 mod runs;
-mod verdict;
 
 pub use job::{LogJob, LogTally};
 pub use runs::run_log;

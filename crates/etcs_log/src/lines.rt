@@ -9,11 +9,11 @@ ghost use Rattle.etcs_log.specs.Logs.{Answered, BytesAnswered, Counted, item};
 use crate::counts::Counts;
 use crate::job::{LogJob, LogTally};
 use crate::notes::{Bad, MOST_CHARACTERS, write_note};
-use crate::verdict::{ItemReader, Verdict};
 use etcs_accounts::parts::wanted_bytes;
 use etcs_digits::{NoBytes, line_bytes};
+use etcs_entries::{SingleReader, Verdict};
 use etcs_packet_text::parts::to_digits;
-use etcs_stream::{Entry, Kind};
+use etcs_text::{Entry, Kind};
 use etcs_vars::Var;
 use std::alloc::{AllocError, Global};
 
@@ -73,7 +73,7 @@ fn bad_bytes(
 pub(crate) struct Lines {
     pub(crate) job: LogJob,
     pub(crate) tally: LogTally,
-    reader: ItemReader,
+    reader: SingleReader,
     counts: Counts,
     ghost same: { reader ≡ job.kind },
 }
@@ -87,7 +87,7 @@ impl Lines {
         Lines {
             job,
             tally: LogTally { items: 0, bad: 0 },
-            reader: ItemReader::new(alloc, job.kind),
+            reader: SingleReader::new(alloc, job.kind),
             counts: Counts::new(alloc),
         }
     }

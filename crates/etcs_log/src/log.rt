@@ -7,7 +7,7 @@ ghost use Rattle.etcs_log.specs.Stands.{IsBegun, LogStands};
 use crate::job::{LogJob, LogTally};
 use crate::lines::{Lines, Texts};
 use crate::notes::{Bad, MOST_CHARACTERS};
-use etcs_stream::parts::split_line;
+use etcs_runs::split_line;
 use std::alloc::{AllocError, Global};
 
 /// The line that isn't whole yet, and how many came before it.

@@ -3,7 +3,7 @@
 use etcs_accounts::parts::{wanted_bytes, write_count_of, write_no_bytes};
 use etcs_accounts::why;
 use etcs_digits::NoBytes;
-use etcs_stream::Kind;
+use etcs_text::Kind;
 use etcs_vars::Var;
 use std::alloc::AllocError;
 

@@ -2,15 +2,15 @@
 
 ghost use Rattle.std.specs.Prelude.{◌≡◌, ◌+◌, ◌<◌, ◌≤◌, ◌^◌, ◌++◌, ℕ, List, [], true, length, IfOk, OnOk};
 ghost use Rattle.std.specs.Io.KnownBytes.{Appends, IsAtEnd};
-ghost use Rattle.etcs_stream.specs.Pipes.{Piped};
+ghost use Rattle.etcs_runs.specs.Pipes.{Piped};
 ghost use Rattle.etcs_log.specs.Logs.{IsLog};
 ghost use Rattle.etcs_log.specs.Stands.{LogStands};
 
 use crate::job::{LogJob, LogTally};
 use crate::lines::Texts;
 use crate::log::Log;
-use etcs_stream::parts::send;
-use etcs_stream::{Failed, RunFault, Sink, Source};
+use etcs_runs::parts::send;
+use etcs_runs::{Failed, RunFault, Sink, Source};
 use std::alloc::{AllocError, Global};
 
 /// How many bytes a read asks for.

@@ -1,10 +1,14 @@
-//! What a run reads and why it ends: the form of its input, the lines of a text, and faults.
+//! What runs share: where bytes come from and where they go, the form of an input, the lines of a text, and why a run ends.
 #![tactic(auto)]
 
+mod ends;
 mod fault;
 mod form;
 mod lines;
+pub mod parts;
+mod send;
 
+pub use ends::{Failed, Input, Output, Sink, Source};
 pub use fault::{RunFault, write_fault};
 pub use form::Form;
 pub use lines::{split_line, without_cr};

@@ -5,9 +5,10 @@ use Rattle.std.specs.Io.BufRead.{ends_with_byte}
 use Rattle.std.proofs.lemmas.Bool.{lt-ltb, eqb-true}
 use Rattle.std.proofs.lemmas.Bool.Decides.{nat_tests}
 use Rattle.std.proofs.lemmas.Grind.{flat_map-append}
-use Rattle.std.proofs.lemmas.List.{append-nil, length-take-le}
+use Rattle.std.proofs.lemmas.List.{length-take-le}
 use Rattle.std.proofs.lemmas.List.Elements.{All-nil, All-cons}
 use Rattle.etcs_runs.specs.Lines.{IsLine, strip_cr, lines_text}
+use Rattle.etcs_runs.proofs.LineTexts.{lines_text-append, one_line}
 use Rattle.etcs_stream.specs.Lines.{bad_place, line_bytes, lines_bytes, AreGood, IsHexText}
 use Rattle.etcs_stream.specs.Inputs.{IsBad}
 
@@ -15,21 +16,8 @@ pub AreGood-append : (xs ys : List (List ℕ)) → AreGood xs → AreGood ys →
 AreGood-append [] ys h g = g
 AreGood-append (x ∷ xs) ys h g = (h.0, AreGood-append xs ys h.1 g)
 
-pub lines_text-append : (xs ys : List (List ℕ)) → lines_text (xs ++ ys) ≡ lines_text xs ++ lines_text ys
-lines_text-append xs ys = flat_map-append (λ line. line ++ 10 ∷ []) xs ys
-
 pub lines_bytes-append : (xs ys : List (List ℕ)) → lines_bytes (xs ++ ys) ≡ lines_bytes xs ++ lines_bytes ys
 lines_bytes-append xs ys = flat_map-append (λ line. line_bytes (strip_cr line)) xs ys
-
--- one line, and a text after it
-pub one_line : (line behind : List ℕ) → lines_text (line ∷ []) ++ behind ≡ line ++ 10 ∷ behind
-one_line line behind = ap (λ (z : List ℕ). z ++ behind) (append-nil (line ++ 10 ∷ [])) ∙ append_assoc line (10 ∷ []) behind
-
--- each line has a character
-pub lines_few : (lines : List (List ℕ)) → length lines ≤ length (lines_text lines)
-lines_few [] = omega arith
-lines_few (line ∷ lines) =
-    omega (arith, lines_few lines, length-append (line ++ 10 ∷ []) (lines_text lines), length-append line (10 ∷ []))
 
 no_lf : (x : ℕ) → eqb x 10 ≡ false → x ≡ 10 → ⊥
 no_lf x h = grind (arith, nat_tests)

@@ -4,14 +4,14 @@ use Rattle.std.specs.Prelude.{◌⊎◌, IfErr}
 use Rattle.std.proofs.Math.Seq.{take-append-add}
 use Rattle.std.proofs.lemmas.List.{take_all}
 use Rattle.std.specs.Io.KnownBytes.{Appends, Consumes, Keeps}
-use Rattle.etcs_stream.specs.Ends.{FailedBy, FlushedOnlyWhere}
+use Rattle.etcs_runs.specs.Ends.{FailedBy, FlushedOnlyWhere}
 use Rattle.etcs_runs.specs.declared.fault.RunFault.{RunFault}
 use Rattle.etcs_runs.specs.declared.fault.RunFault.TheVariants.{Refused, Truncated, BadHex, BadJson, Read, Write, Endless, Memory}
 use Rattle.etcs_stream.specs.declared.job.Tally.{Tally}
 use Rattle.etcs_stream.specs.Faults.{IsOfEngine}
-use Rattle.etcs_stream.specs.Pipes.{Piped, PipedFirst}
+use Rattle.etcs_runs.specs.Pipes.{Piped, PipedFirst}
 use Rattle.etcs_stream.specs.Passes.{Stopped, Broken}
-use Rattle.etcs_stream.proofs.Known.{Appends-then, Appends-kept}
+use Rattle.etcs_runs.proofs.Known.{Appends-then, Appends-kept}
 
 module _ (held held' : Option (List ℕ)) (told text slice : List ℕ) (same : slice ≡ text) where
   -- the text was written, whatever the engine answers

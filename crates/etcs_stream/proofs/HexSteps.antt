@@ -21,7 +21,8 @@ use Rattle.etcs_stream.specs.Lines.{bad_place, line_bytes, lines_bytes, AreGood,
 use Rattle.etcs_stream.specs.Told.{Told}
 use Rattle.etcs_stream.specs.Tellers.{Closes}
 use Rattle.etcs_stream.specs.declared.job.Tally.{Tally}
-use Rattle.etcs_stream.specs.Readers.{ReaderValue, Awaits, HasRoom, seen_bits}
+use Rattle.etcs_entries.specs.Readers.{ReaderValue, seen_bits}
+use Rattle.etcs_stream.specs.Readers.{Awaits, HasRoom}
 use Rattle.etcs_stream.specs.Taking.{Advances, Halts}
 use Rattle.etcs_stream.specs.Stands.{ItemsStand, HexStands}
 use Rattle.etcs_stream.specs.Inputs.{End, ended, refused, truncated, bad_hex, bad_json, endless, BitItems, IsBad, ItemsOf, SaysFirst}
@@ -31,7 +32,8 @@ use Rattle.etcs_bits.proofs.ByteBits.{bits-append}
 use Rattle.etcs_stream.proofs.Streams.{Advances-none}
 use Rattle.etcs_stream.proofs.Tellings.{closes_items}
 use Rattle.etcs_stream.proofs.Standing.{ItemsHalt, stand_first, IsEarly, stand_more, stand_halts, halt_stops, halt_ends, stand_ended, stand_truncated}
-use Rattle.etcs_stream.proofs.Cutting.{Says, AreGood-append, lines_text-append, lines_bytes-append, lines_few, first_lf, one_line, cut_text, says_behind, long_bad, long_bad_stripped}
+use Rattle.etcs_runs.proofs.LineTexts.{lines_text-append, lines_few, one_line}
+use Rattle.etcs_stream.proofs.Cutting.{Says, AreGood-append, lines_bytes-append, first_lf, cut_text, says_behind, long_bad, long_bad_stripped}
 
 -- ---- The items of a text.
 

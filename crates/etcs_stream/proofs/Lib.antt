@@ -1,6 +1,5 @@
 pub mod HexDigits
 pub mod GoodLines
-pub mod ItemFeeds
 pub mod Tellings
 pub mod Saying
 pub mod Answering
@@ -18,7 +17,6 @@ pub mod BinSteps
 pub mod HexSteps
 pub mod HexTakes
 pub mod JsonSteps
-pub mod Known
 pub mod Printing
 pub mod Shortness
 pub mod Endings

@@ -1,7 +1,6 @@
 -- Lines, piece by piece, whatever takes them.
-use Rattle.std.proofs.Common.{◌≡◌, ℕ, ◌+◌, ◌<◌, ◌^◌, Bool, true, eqb, List, [], ◌∷◌, ◌++◌, length, Result, Ok, Err, refl, sym, ap, subst, ◌∙◌, arith, append_assoc, length-append, inl, inr}
+use Rattle.std.proofs.Common.{◌≡◌, ℕ, ◌+◌, ◌<◌, ◌^◌, Bool, List, [], ◌∷◌, ◌++◌, length, Result, Ok, Err, refl, sym, ap, subst, ◌∙◌, arith, append_assoc, length-append, inl, inr}
 use Rattle.std.specs.Prelude.{OnOk, IfErr}
-use Rattle.std.proofs.lemmas.Bool.{eqb-true}
 use Rattle.std.proofs.lemmas.List.{append-nil}
 use Rattle.std.proofs.lemmas.List.Elements.{All-append, All-nil, All-tail}
 use Rattle.etcs_bits.specs.Bits.{bits}
@@ -21,7 +20,7 @@ use Rattle.etcs_stream.specs.JsonItems.{AreItemLines, JsonFront, FirstJson}
 use Rattle.etcs_stream.specs.Inputs.{ItemsOf, SaysFirst, FirstItems, WholeItems}
 use Rattle.etcs_stream.specs.Engines.{Tells, Stops, Prints}
 use Rattle.etcs_stream.specs.Stands.{LinesStand}
-use Rattle.etcs_stream.proofs.Cutting.{lines_few, lines_text-append, one_line}
+use Rattle.etcs_runs.proofs.LineTexts.{cut_given, lines_few, lines_text-append, one_line}
 use Rattle.etcs_stream.proofs.OneLines.{good_last}
 
 -- ---- A text that continues.
@@ -149,10 +148,6 @@ module _ (Took : List (List ℕ) → List ℕ → Type 0) (begun : List ℕ) (li
 
 -- ---- A line that ends.
 
-pub none_kept : (xs : List ℕ) (n : ℕ) → n ≡ length xs → eqb n 0 ≡ true → xs ≡ []
-none_kept [] n e h = refl
-none_kept (x ∷ xs) n e h = absurd (omega (arith, e, eqb-true n 0 h))
-
 module _ (Took : List (List ℕ) → List ℕ → Type 0) (raw : List ℕ) (line : ℕ) (given part told : List ℕ) (h : LinesStand Took raw line (given ++ part) told) where
   line_text : given ++ (part ++ 10 ∷ []) ≡ lines_text h.lines ++ (raw ++ 10 ∷ [])
   line_text = sym (append_assoc given part (10 ∷ [])) ∙ longer_text (lines_text h.lines) raw (given ++ part) (10 ∷ []) h.given_is
@@ -184,17 +179,6 @@ module _ (Took : List (List ℕ) → List ℕ → Type 0) (raw : List ℕ) (line
   line_stops_if job told' (Err f) k = line_stops job told' f k
 
 -- ---- The lines of a piece.
-
--- one more line is taken off
-pub cut_line : (piece front rest line behind : List ℕ) → piece ≡ front ++ rest → rest ≡ line ++ 10 ∷ behind → piece ≡ (front ++ (line ++ 10 ∷ [])) ++ behind
-cut_line piece front rest line behind h e =
-    h
-    ∙ ap (λ (z : List ℕ). front ++ z) (e ∙ sym (append_assoc line (10 ∷ []) behind))
-    ∙ sym (append_assoc front (line ++ 10 ∷ []) behind)
-
--- all of the input so far
-pub cut_given : (given piece front rest : List ℕ) → piece ≡ front ++ rest → (given ++ front) ++ rest ≡ given ++ piece
-cut_given given piece front rest e = append_assoc given front rest ∙ ap (λ (z : List ℕ). given ++ z) (sym e)
 
 -- a line of it isn't taken
 pub piece_stops : (job : Job) (given piece front rest line behind told : List ℕ) (fault : RunFault) → piece ≡ front ++ rest → rest ≡ line ++ 10 ∷ behind → IsOfEngine fault × Stops job ((given ++ front) ++ (line ++ 10 ∷ [])) told fault → IsOfEngine fault × Stops job (given ++ piece) told fault

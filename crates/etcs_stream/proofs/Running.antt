@@ -3,7 +3,7 @@ use Rattle.std.proofs.Common.{◌≡◌, ℕ, ◌+◌, ◌*◌, ◌<◌, ◌≤�
 use Rattle.std.specs.Prelude.{◌⊎◌, IfErr, IfOk, OnOk}
 use Rattle.std.proofs.lemmas.List.{append-nil, length-take-le}
 use Rattle.std.specs.Io.KnownBytes.{Appends, Consumes, IsAtEnd, Keeps}
-use Rattle.etcs_stream.specs.Ends.{FlushedOnlyWhere}
+use Rattle.etcs_runs.specs.Ends.{FlushedOnlyWhere}
 use Rattle.etcs_runs.specs.declared.fault.RunFault.{RunFault}
 use Rattle.etcs_runs.specs.declared.fault.RunFault.TheVariants.{Read, Write, Endless}
 use Rattle.etcs_stream.specs.declared.job.Job.{Job}
@@ -12,7 +12,7 @@ use Rattle.etcs_stream.specs.Faults.{IsOfEngine}
 use Rattle.etcs_stream.specs.Engines.{Tells, Ends, EndsWhole, Stops, StopsAtEnd, StarvesIn, Prints}
 use Rattle.etcs_stream.specs.Passes.{Stopped, Broken}
 use Rattle.etcs_stream.specs.Runs.{Ran}
-use Rattle.etcs_stream.proofs.Known.{Appends-none, Appends-then, Consumes-none, Consumes-end, Consumes-kept, Consumes-then}
+use Rattle.etcs_runs.proofs.Known.{Appends-none, Appends-then, Consumes-none, Consumes-end, Consumes-kept, Consumes-then}
 use Rattle.etcs_stream.proofs.Endings.{engine_of, write_of, starved_of, failed_of, flushed_of, never_read}
 use Rattle.etcs_stream.proofs.Printing.{end_prints, stops_prints}
 

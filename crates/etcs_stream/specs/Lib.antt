@@ -1,4 +1,3 @@
-pub mod Ends
 pub mod Faults
 pub mod Lines
 pub mod Readers
@@ -10,7 +9,6 @@ pub mod JsonItems
 pub mod Taking
 pub mod Inputs
 pub mod Engines
-pub mod Pipes
 pub mod Passes
 pub mod Runs
 pub mod Stands

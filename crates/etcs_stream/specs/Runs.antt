@@ -5,10 +5,10 @@ use Rattle.etcs_runs.specs.declared.fault.RunFault.{RunFault}
 use Rattle.etcs_runs.specs.declared.fault.RunFault.TheVariants.{Read, Write, Endless, Memory}
 use Rattle.etcs_stream.specs.declared.job.Job.{Job}
 use Rattle.etcs_stream.specs.declared.job.Tally.{Tally}
-use Rattle.etcs_stream.specs.Ends.{FailedBy, FlushedOnlyWhere}
+use Rattle.etcs_runs.specs.Ends.{FailedBy, FlushedOnlyWhere}
 use Rattle.etcs_stream.specs.Faults.{IsOfEngine}
 use Rattle.etcs_stream.specs.Engines.{Tells, Ends, EndsWhole, Stops, StopsAtEnd, StarvesIn, Prints}
-use Rattle.etcs_stream.specs.Pipes.{Piped, PipedFirst}
+use Rattle.etcs_runs.specs.Pipes.{Piped, PipedFirst}
 
 -- by its answer: of the source what is left, how often it was read and how often that failed; of the sink what it holds,
 -- how often it failed and how often it was flushed; each of them before the run and after it

@@ -1,10 +1,8 @@
 -- What a run writes of its items, one after another, and after the last.
-use Rattle.std.specs.Prelude.{◌≡◌, ◌↔◌, ℕ, ◌+◌, Bool, true, false, IsTrue, List, [], ◌∷◌, ◌++◌, None, replicate}
+use Rattle.std.specs.Prelude.{◌≡◌, ◌↔◌, ℕ, ◌+◌, true, List, [], ◌∷◌, ◌++◌, None, replicate}
 use Rattle.hex.specs.Hex.{encode_upper}
 use Rattle.serde_json.specs.Written.{compact_text}
 use Rattle.etcs_group.specs.Messages.{IsWhole}
-use Rattle.etcs_text.specs.declared.entry.Kind.{Kind}
-use Rattle.etcs_text.specs.declared.entry.Kind.TheVariants.{Long, Short, Radio, Train}
 use Rattle.etcs_text.specs.Encodings.{IsEncoded, check_line}
 use Rattle.etcs_text.specs.Trees.{json_tree}
 use Rattle.etcs_text.specs.Entries.{EntryValue, of_telegram, of_message, entry_text}
@@ -13,18 +11,9 @@ use Rattle.etcs_stream.specs.declared.job.Command.{Command}
 use Rattle.etcs_stream.specs.declared.job.Command.TheVariants.{Show, Check, Convert, Group}
 use Rattle.etcs_stream.specs.declared.job.Job.{Job}
 use Rattle.etcs_stream.specs.declared.job.Tally.{Tally}
+use Rattle.etcs_entries.specs.Kinds.{IsOfTelegrams}
 use Rattle.etcs_stream.specs.Groups.{GroupItem, LastLines}
 use Rattle.etcs_stream.specs.Told.{Told}
-
--- items of the kind are telegrams
-abbrev pub is_of_telegrams : Kind → Bool
-is_of_telegrams Long = true
-is_of_telegrams Short = true
-is_of_telegrams Radio = false
-is_of_telegrams Train = false
-
-abbrev pub IsOfTelegrams : Kind → Type 0
-IsOfTelegrams kind = IsTrue (is_of_telegrams kind)
 
 -- messages aren't grouped
 abbrev pub IsGroupable : Job → Type 0

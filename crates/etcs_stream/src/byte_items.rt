@@ -3,14 +3,15 @@
 ghost use Rattle.std.specs.Prelude.{◌≡◌, ◌+◌, ◌<◌, ◌≤◌, ◌⊎◌, ◌++◌, ℕ, List, [], length, IfErr, IfOk, OnErr, OnOk};
 ghost use Rattle.etcs_text.specs.Entries.{EntryValue, entry_kind};
 ghost use Rattle.etcs_runs.specs.declared.fault.RunFault.{RunFault};
-ghost use Rattle.etcs_stream.specs.Readers.{Awaits, HasRoom, seen_bits, reading, finished};
+ghost use Rattle.etcs_entries.specs.Readers.{seen_bits, reading, finished};
+ghost use Rattle.etcs_stream.specs.Readers.{Awaits, HasRoom};
 ghost use Rattle.etcs_stream.specs.Taking.{Advances, Halts, Says, TakesFront};
 ghost use Rattle.etcs_stream.specs.Tellers.{Closes, IsGroupable, TellsItem, nothing_told};
 
 use crate::engine::MOST_READ;
-use crate::entries::EntryReader;
 use crate::job::{Job, Tally};
 use crate::teller::Teller;
+use etcs_entries::EntryReader;
 use etcs_runs::RunFault;
 use etcs_telegram::Size;
 use etcs_text::Kind;

@@ -16,9 +16,7 @@
 mod bin;
 mod byte_items;
 mod digits;
-mod ends;
 mod engine;
-mod entries;
 mod group_lines;
 mod hex_lines;
 mod job;
@@ -30,9 +28,8 @@ mod pump;
 mod runs;
 mod teller;
 
-pub use ends::{Failed, Input, Output, Sink, Source};
 pub use etcs_json::{JsonFault, Value, from_value, to_value};
-pub use etcs_runs::{Form, RunFault, write_fault};
+pub use etcs_runs::{Failed, Form, Input, Output, RunFault, Sink, Source, write_fault};
 pub use etcs_text::{Entry, Kind, show_lines};
 pub use etcs_vars::Var;
 pub use job::{Command, Job, Tally};

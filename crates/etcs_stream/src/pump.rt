@@ -1,50 +1,24 @@
 //! Bytes from a source through an engine to a sink.
 
-ghost use Rattle.std.specs.Prelude.{◌≡◌, ◌+◌, ◌-◌, ◌%◌, ◌^◌, ◌<◌, ◌≤◌, ◌⊎◌, ◌++◌, ℕ, List, [], length, take, IfOk, IfErr, OnErr, OnOk};
+ghost use Rattle.std.specs.Prelude.{◌≡◌, ◌+◌, ◌-◌, ◌%◌, ◌^◌, ◌<◌, ◌⊎◌, ◌++◌, ℕ, List, [], length, IfOk, IfErr, OnOk};
 ghost use Rattle.std.specs.Io.{ReadsAtMost};
 ghost use Rattle.std.specs.Io.KnownBytes.{Appends, ReadConsumes};
-ghost use Rattle.etcs_stream.specs.Ends.{FlushedOnlyWhere, failed_calls};
+ghost use Rattle.etcs_runs.specs.Ends.{FlushedOnlyWhere, failed_calls};
 ghost use Rattle.etcs_runs.specs.declared.fault.RunFault.{RunFault};
 ghost use Rattle.etcs_stream.specs.Faults.{IsOfEngine};
 ghost use Rattle.etcs_stream.specs.Engines.{Ends, EndsWhole, Stops, StopsAtEnd, Prints};
-ghost use Rattle.etcs_stream.specs.Pipes.{Piped};
+ghost use Rattle.etcs_runs.specs.Pipes.{Piped};
 ghost use Rattle.etcs_stream.specs.Passes.{Stopped, Broken};
 ghost use Rattle.etcs_stream.specs.Runs.{Ran};
 
-use crate::ends::{Failed, Sink, Source};
 use crate::engine::{Engine, MOST_READ};
 use crate::job::Tally;
-use etcs_runs::RunFault;
+use etcs_runs::parts::send;
+use etcs_runs::{Failed, RunFault, Sink, Source};
 use std::alloc::Global;
 
 /// How many reads a run has at most.
 const MOST_READS: u64 = 16_000_000;
-
-/// Writes all of the text, and adds to `sent` how many bytes were taken.
-///
-/// # Errors
-///
-/// Where a write fails or takes nothing. The sink has then taken the front of the text that is counted.
-pub fn send<W: Sink>(sink: &mut W, text: &[u8], sent: &mut u64) -> Result<(), Failed>
-    requires failures { W.failures sink.old < 2 ^ 63 }
-    requires room { sent.old + length text.now < 2 ^ 64 }
-    ensures ok { OnOk result (Appends (W.contents sink.old) (W.contents sink.new) text.now × (sent.new ≡ sent.old + length text.now)) }
-    ensures none { OnOk result (W.failures sink.new ≡ W.failures sink.old) }
-    ensures one { OnErr result (W.failures sink.new ≡ W.failures sink.old + 1) }
-    ensures part { OnErr result ((n : ℕ) × (n ≤ length text.now) × (sent.new ≡ sent.old + n) × Appends (W.contents sink.old) (W.contents sink.new) (take n text.now)) }
-    ensures unflushed { W.flushes sink.new ≡ W.flushes sink.old }
-{
-    let mut at = 0;
-    while at < text.len() {
-        let count = sink.write(&text[at..])?;
-        if count == 0 {
-            return Err(Failed);
-        }
-        at += count;
-        *sent += count as u64;
-    }
-    Ok(())
-}
 
 /// Passes a piece of the input through to the sink. What was reported before a fault is written first.
 fn pass<E: Engine, W: Sink>(

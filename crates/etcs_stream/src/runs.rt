@@ -2,22 +2,21 @@
 
 ghost use Rattle.std.specs.Prelude.{◌≡◌, ◌+◌, ◌*◌, ◌%◌, ◌^◌, ◌<◌, ◌≤◌, ◌⊎◌, ℕ, List, [], length, Err, IfOk, IfErr, OnOk};
 ghost use Rattle.std.specs.Io.KnownBytes.{Consumes, IsAtEnd};
-ghost use Rattle.etcs_stream.specs.Ends.{FailedBy, FlushedOnlyWhere};
+ghost use Rattle.etcs_runs.specs.Ends.{FailedBy, FlushedOnlyWhere};
 ghost use Rattle.etcs_runs.specs.declared.fault.RunFault.{RunFault};
 ghost use Rattle.etcs_stream.specs.Faults.{IsOfEngine};
 ghost use Rattle.etcs_stream.specs.Engines.{Tells, Ends, EndsWhole, Stops, StopsAtEnd, StarvesIn, Prints};
 ghost use Rattle.etcs_stream.specs.Tellers.{IsGroupable};
-ghost use Rattle.etcs_stream.specs.Pipes.{Piped, PipedFirst};
+ghost use Rattle.etcs_runs.specs.Pipes.{Piped, PipedFirst};
 ghost use Rattle.etcs_stream.specs.Runs.{Ran};
 
 use crate::bin::Bin;
-use crate::ends::{Sink, Source};
 use crate::hex_lines::HexLines;
 use crate::job::{Job, Tally};
 use crate::json_lines::JsonLines;
 use crate::lines::{LineHandler, Lines};
 use crate::pump::run_engine;
-use etcs_runs::{Form, RunFault};
+use etcs_runs::{Form, RunFault, Sink, Source};
 use std::alloc::Global;
 
 /// Does the job, which groups no messages: reads the items of the input, and writes of each what the command says, once it

@@ -1,6 +1,6 @@
 use Rattle.std.proofs.Common.{◌≡◌, ◌∙◌, ◌++◌, List, ℕ, sym, ap, subst}
 use Rattle.std.proofs.lemmas.List.{append-nil}
-use Rattle.etcs_stream.proofs.Known.{Appends-kept}
+use Rattle.etcs_runs.proofs.Known.{Appends-kept}
 use Rattle.etcs_log.specs.Stands.{LogStands}
 use Rattle.etcs_log.proofs.Counting.{log_told}
 use Rattle.etcs_log.proofs.runs.close.Goals as goal

@@ -2,7 +2,7 @@ use Rattle.std.proofs.Common.{◌≡◌, ◌∙◌, ◌++◌, List, ℕ, length,
 use Rattle.std.specs.Prelude.{IfOk}
 use Rattle.std.specs.Io.KnownBytes.{Appends}
 use Rattle.std.proofs.lemmas.List.{append-nil, length-append, length-take-le}
-use Rattle.etcs_stream.proofs.Known.{Appends-then, Consumes-end, Consumes-then}
+use Rattle.etcs_runs.proofs.Known.{Appends-then, Consumes-end, Consumes-then}
 use Rattle.etcs_log.specs.declared.job.LogJob.{LogJob}
 use Rattle.etcs_log.specs.Logs.{IsLog}
 use Rattle.etcs_log.specs.Stands.{LogStands}

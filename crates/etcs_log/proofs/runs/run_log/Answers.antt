@@ -1,6 +1,6 @@
 use Rattle.std.proofs.Common.{subst}
 use Rattle.std.specs.Prelude.{IfOk}
-use Rattle.etcs_stream.specs.Pipes.{Piped}
+use Rattle.etcs_runs.specs.Pipes.{Piped}
 use Rattle.etcs_log.specs.declared.job.LogJob.{LogJob}
 use Rattle.etcs_log.specs.Logs.{IsLog}
 use Rattle.etcs_log.proofs.runs.run_log.Goals as goal

@@ -1,6 +1,6 @@
 use Rattle.std.proofs.Common.{arith}
 use Rattle.std.proofs.lemmas.List.{length-take-le}
-use Rattle.etcs_stream.proofs.Known.{front_bound, front_consumes}
+use Rattle.etcs_runs.proofs.Known.{front_bound, front_consumes}
 use Rattle.etcs_stream.proofs.pump.read_wanted.Goals as goal
 
 pub returns-clause-bound : goal.returns-clause-bound

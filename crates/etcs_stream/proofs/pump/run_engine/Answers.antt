@@ -2,7 +2,7 @@ use Rattle.std.proofs.Common.{arith, [], ◌++◌, take, rules, ◌∙◌, refl}
 use Rattle.std.specs.Prelude.{◌⊎◌}
 use Rattle.std.proofs.lemmas.Result.{err_from_is_err_and}
 use Rattle.etcs_stream.specs.Engines.{EndsWhole, Stops, StopsAtEnd, Prints}
-use Rattle.etcs_stream.proofs.Known.{Consumes-end, Consumes-then}
+use Rattle.etcs_runs.proofs.Known.{Consumes-end, Consumes-then}
 use Rattle.etcs_stream.proofs.Endings.{said_if, said_of}
 use Rattle.etcs_stream.proofs.Running.{begun, few_given, few_more, continued, read_failed, endless, passed_not, closed}
 use Rattle.etcs_stream.proofs.pump.run_engine.Goals as goal

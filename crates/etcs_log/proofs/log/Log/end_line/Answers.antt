@@ -2,7 +2,7 @@ use Rattle.std.proofs.Common.{◌≡◌, ◌∙◌, ◌++◌, false, [], List, �
 use Rattle.std.specs.Prelude.{OnOk}
 use Rattle.etcs_log.specs.Logs.{Answered}
 use Rattle.etcs_log.specs.declared.lines.Lines.{Lines}
-use Rattle.etcs_stream.proofs.LineSteps.{none_kept}
+use Rattle.etcs_runs.proofs.LineTexts.{none_kept}
 use Rattle.etcs_log.proofs.Counting.{begun_kept}
 use Rattle.etcs_log.proofs.log.Log.end_line.Goals as goal
 

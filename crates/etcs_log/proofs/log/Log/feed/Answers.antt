@@ -1,7 +1,7 @@
 use Rattle.std.proofs.Common.{◌∙◌, ◌++◌, ◌∷◌, [], List, ℕ, length, refl, sym, ap, subst, arith, append_assoc, length-append}
 use Rattle.std.specs.Prelude.{OnOk}
 use Rattle.etcs_runs.specs.Lines.{IsLine}
-use Rattle.etcs_stream.proofs.LineSteps.{cut_line, cut_given}
+use Rattle.etcs_runs.proofs.LineTexts.{cut_line, cut_given}
 use Rattle.etcs_log.specs.declared.job.LogJob.{LogJob}
 use Rattle.etcs_log.specs.declared.lines.Lines.{Lines}
 use Rattle.etcs_log.specs.Logs.{Answered}

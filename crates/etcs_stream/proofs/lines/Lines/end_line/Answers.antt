@@ -5,7 +5,8 @@ use Rattle.etcs_stream.specs.declared.job.Job.{Job}
 use Rattle.etcs_stream.specs.Faults.{IsOfEngine}
 use Rattle.etcs_runs.specs.Lines.{strip_cr}
 use Rattle.etcs_stream.specs.Engines.{Stops}
-use Rattle.etcs_stream.proofs.LineSteps.{lines_fit, keeps, none_kept, line_taken, line_taken_if, line_stops, line_stops_if}
+use Rattle.etcs_runs.proofs.LineTexts.{none_kept}
+use Rattle.etcs_stream.proofs.LineSteps.{lines_fit, keeps, line_taken, line_taken_if, line_stops, line_stops_if}
 use Rattle.etcs_stream.proofs.lines.Lines.end_line.Goals as goal
 
 pub overflow_add-self : goal.overflow_add-self

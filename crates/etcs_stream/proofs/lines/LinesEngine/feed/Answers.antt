@@ -9,7 +9,8 @@ use Rattle.etcs_stream.specs.Stands.{LinesStand}
 use Rattle.etcs_stream.specs.Engines.{Stops}
 use Rattle.etcs_stream.specs.laws.StandLaws.{lines_tell}
 use Rattle.etcs_stream.proofs.Shortness.{fed_short, stop_short}
-use Rattle.etcs_stream.proofs.LineSteps.{none_told, cut_line, cut_given, piece_stops}
+use Rattle.etcs_runs.proofs.LineTexts.{cut_line, cut_given}
+use Rattle.etcs_stream.proofs.LineSteps.{none_told, piece_stops}
 use Rattle.etcs_stream.proofs.Saying.{on_err}
 use Rattle.etcs_stream.proofs.lines.LinesEngine.feed.Goals as goal
 

@@ -1,11 +1,11 @@
--- What the bytes of a line are.
+-- What bytes are.
 use Rattle.std.specs.Prelude.{◌≡◌, ℕ, List}
 use Rattle.etcs_bits.specs.Bits.{bits}
 use Rattle.etcs_vars.specs.Reading.{Reading, spelled, IsOutcome, refused}
 use Rattle.etcs_text.specs.declared.entry.Kind.{Kind}
 use Rattle.etcs_text.specs.Entries.{EntryValue, EntryReads, entry_value}
-use Rattle.etcs_log.specs.declared.verdict.Verdict.{Verdict}
-use Rattle.etcs_log.specs.declared.verdict.Verdict.TheVariants.{Item, Refused, OtherCount}
+use Rattle.etcs_entries.specs.declared.verdict.Verdict.{Verdict}
+use Rattle.etcs_entries.specs.declared.verdict.Verdict.TheVariants.{Item, Refused, OtherCount}
 
 -- the bits of the bytes are the spelling of an item of the kind
 abbrev pub IsItem : Kind → List ℕ → EntryValue → Type 0

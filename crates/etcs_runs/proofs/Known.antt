@@ -4,7 +4,7 @@ use Rattle.std.proofs.Math.Seq.{take-add}
 use Rattle.std.proofs.lemmas.List.{append-nil, take_rest, take-append-le}
 use Rattle.std.specs.Io.{ReadsAtMost}
 use Rattle.std.specs.Io.KnownBytes.{Appends, Consumes, Keeps, ReadConsumes}
-use Rattle.etcs_stream.specs.Ends.{failed_writes}
+use Rattle.etcs_runs.specs.Ends.{failed_writes}
 
 pub Appends-none : (u : Option (List ℕ)) → Appends u u []
 Appends-none None = tt

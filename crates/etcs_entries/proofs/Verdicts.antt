@@ -1,4 +1,4 @@
--- What a reader to which nothing was fed answers of the bytes of a line.
+-- What a reader to which nothing was fed answers of bytes.
 use Rattle.std.proofs.Common.{◌≡◌, ℕ, ◌+◌, ◌*◌, Bool, List, [], ◌++◌, length, take, drop, Result, Ok, Err, sym, ap, subst, ◌∙◌, arith}
 use Rattle.std.specs.Prelude.{IfOk}
 use Rattle.std.proofs.lemmas.List.{append-nil, take-append-drop, length-drop}
@@ -14,10 +14,10 @@ use Rattle.etcs_vars.specs.Reading.{NoneYet, readings_of, spelled}
 use Rattle.etcs_vars.proofs.Apart.{apart}
 use Rattle.etcs_text.specs.declared.entry.Kind.{Kind}
 use Rattle.etcs_text.specs.Entries.{EntryValue, EntryReads}
-use Rattle.etcs_stream.specs.Readers.{ReaderValue, Progress, Feeds, reading, finished, stopped}
+use Rattle.etcs_entries.specs.Readers.{ReaderValue, Progress, Feeds, reading, finished, stopped}
 use Rattle.etcs_text.proofs.ItemKinds.{kind_regular}
-use Rattle.etcs_log.specs.declared.verdict.Verdict.{Verdict}
-use Rattle.etcs_log.specs.Verdicts.{IsItem, IsVerdict}
+use Rattle.etcs_entries.specs.declared.verdict.Verdict.{Verdict}
+use Rattle.etcs_entries.specs.Verdicts.{IsItem, IsVerdict}
 
 pub fresh_feeds : (kind : Kind) (r : ReaderValue) (new : List Bool) (answer : Result Fed ReadFault) (at : Progress) → r ≡ record { kind = kind; progress = reading [] } → ((seen : List Bool) → r.progress ≡ reading seen → Feeds (EntryReads r.kind) seen new answer at) → Feeds (EntryReads kind) [] new answer at
 fresh_feeds kind r new answer at is f = subst (λ (k : Kind). Feeds (EntryReads k) [] new answer at) (ap (λ (z : ReaderValue). z.kind) is) (f [] (ap (λ (z : ReaderValue). z.progress) is))

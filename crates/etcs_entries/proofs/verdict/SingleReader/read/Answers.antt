@@ -3,9 +3,9 @@ use Rattle.etcs_vars.specs.declared.feed.Fed.{Fed}
 use Rattle.etcs_vars.specs.declared.feed.Fed.TheVariants.{More, Done}
 use Rattle.etcs_vars.specs.declared.feed.ReadFault.{ReadFault}
 use Rattle.etcs_vars.specs.declared.feed.ReadFault.TheVariants.{Refused, Ended}
-use Rattle.etcs_log.proofs.Items.{fed_as, item_of, is_taken, none_of_done, none_of_more, none_of_refused, verdict_by}
-use Rattle.etcs_log.proofs.verdict.ItemReader.read.Goals as goal
-use Rattle.etcs_log.proofs.verdict.ItemReader.read.Goals.{in-Ok-Done+else-taken-bytes, in-Ok-More, in-Err-Refused, in-Err-Memory}
+use Rattle.etcs_entries.proofs.Verdicts.{fed_as, item_of, is_taken, none_of_done, none_of_more, none_of_refused, verdict_by}
+use Rattle.etcs_entries.proofs.verdict.SingleReader.read.Goals as goal
+use Rattle.etcs_entries.proofs.verdict.SingleReader.read.Goals.{in-Ok-Done+else-taken-bytes, in-Ok-More, in-Err-Refused, in-Err-Memory}
 
 pub take-entry-requires-clause-whole : goal.take-entry-requires-clause-whole
 take-entry-requires-clause-whole c =

@@ -3,7 +3,7 @@
 ghost use Rattle.std.specs.Prelude.{◌≡◌, ℕ, ◌+◌, ◌-◌, ◌%◌, ◌^◌, ◌<◌, List, Option, Some, codes};
 ghost use Rattle.std.specs.Io.KnownBytes.{Keeps, ReadConsumes, WriteAppends};
 ghost use Rattle.std.specs.Io.{ReadsAtMost, WritesAtMost};
-ghost use Rattle.etcs_stream.specs.Ends.{failed_calls, failed_writes};
+ghost use Rattle.etcs_runs.specs.Ends.{failed_calls, failed_writes};
 
 use std::error::Error;
 use std::fmt;

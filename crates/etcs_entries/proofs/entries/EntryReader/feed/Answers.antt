@@ -6,13 +6,13 @@ use Rattle.etcs_tables.specs.declared.row.Way.TheVariants.{ToTrain, ToTrack}
 use Rattle.etcs_radio.specs.Messages as radio
 use Rattle.etcs_train.specs.Messages as train
 use Rattle.etcs_text.specs.Entries.{EntryReads}
-use Rattle.etcs_stream.specs.declared.entries.EntryReader.TheInside.{Inside}
-use Rattle.etcs_stream.specs.declared.entries.Inner.{Inner}
-use Rattle.etcs_stream.specs.declared.entries.Inner.TheVariants.{Telegram, Message, Train}
-use Rattle.etcs_stream.specs.Readers.{ReaderValue, Feeds, telegram_item, message_item, train_item, value_of}
-use Rattle.etcs_stream.proofs.ItemFeeds.{telegram_feeds, message_feeds, inner_reading}
-use Rattle.etcs_stream.proofs.entries.EntryReader.feed.Goals.{in-Telegram, in-Message, in-Train}
-use Rattle.etcs_stream.proofs.entries.EntryReader.feed.Goals as goal
+use Rattle.etcs_entries.specs.declared.entries.EntryReader.TheInside.{Inside}
+use Rattle.etcs_entries.specs.declared.entries.Inner.{Inner}
+use Rattle.etcs_entries.specs.declared.entries.Inner.TheVariants.{Telegram, Message, Train}
+use Rattle.etcs_entries.specs.Readers.{ReaderValue, Feeds, telegram_item, message_item, train_item, value_of}
+use Rattle.etcs_entries.proofs.ItemFeeds.{telegram_feeds, message_feeds, inner_reading}
+use Rattle.etcs_entries.proofs.entries.EntryReader.feed.Goals.{in-Telegram, in-Message, in-Train}
+use Rattle.etcs_entries.proofs.entries.EntryReader.feed.Goals as goal
 
 -- what is said of the reader inside is said of the whole one
 of_inside : (inner inner' : Inner) (v u : ReaderValue) (seen new : List Bool) (answer wanted : Result Fed ReadFault) → value_of inner ≡ v → value_of inner' ≡ u → wanted ≡ answer → Feeds (EntryReads (value_of inner).kind) seen new answer (value_of inner').progress → Feeds (EntryReads v.kind) seen new wanted u.progress

@@ -1,7 +1,7 @@
 use Rattle.std.proofs.Common.{◌∙◌, ◌+◌, ◌-◌, ap, refl, arith, length, take, drop, add-zero}
-use Rattle.etcs_stream.specs.declared.ends.Failed.{Failed}
-use Rattle.etcs_stream.proofs.Known.{Appends-slice, length-rest, wrote_some}
-use Rattle.etcs_stream.proofs.pump.send.Goals as goal
+use Rattle.etcs_runs.specs.declared.ends.Failed.{Failed}
+use Rattle.etcs_runs.proofs.Known.{Appends-slice, length-rest, wrote_some}
+use Rattle.etcs_runs.proofs.send.send.Goals as goal
 
 pub loop-at-preserved : goal.loop-at-preserved
 loop-at-preserved g c =

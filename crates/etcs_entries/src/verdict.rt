@@ -1,19 +1,19 @@
-//! What the bytes of a line are.
+//! What bytes are: an item and nothing else, or not.
 
 ghost use Rattle.std.specs.Prelude.{◌≡◌, [], IfOk};
 ghost use Rattle.etcs_text.specs.Entries.{EntryValue, entry_value};
-ghost use Rattle.etcs_stream.specs.Readers.{finished, reading};
-ghost use Rattle.etcs_log.specs.Verdicts.{IsVerdict};
+ghost use Rattle.etcs_entries.specs.Readers.{finished, reading};
+ghost use Rattle.etcs_entries.specs.Verdicts.{IsVerdict};
 
-use etcs_stream::parts::EntryReader;
-use etcs_stream::{Entry, Kind};
+use crate::entries::EntryReader;
+use etcs_text::{Entry, Kind};
 use etcs_vars::{Fed, ReadFault, Var};
 use std::alloc::{AllocError, Global};
 use std::marker::Model;
 
 /// What bytes are.
 #[derive(Debug, Drop)]
-pub(crate) enum Verdict {
+pub enum Verdict {
     /// This item, and nothing else.
     Item(Entry),
     /// No item continues with this bit, which the variable holds.
@@ -24,16 +24,16 @@ pub(crate) enum Verdict {
 
 /// Reads items of a kind, each by itself.
 #[derive(Drop)]
-pub(crate) struct ItemReader {
+pub struct SingleReader {
     alloc: Global,
     kind: Kind,
     reader: EntryReader,
 }
 
-impl Model for ItemReader {
+impl Model for SingleReader {
     ghost use Rattle.std.specs.Prelude.{◌≡◌, []};
     ghost use Rattle.etcs_text.specs.declared.entry.Kind.{Kind};
-    ghost use Rattle.etcs_stream.specs.Readers.{reading};
+    ghost use Rattle.etcs_entries.specs.Readers.{reading};
 
     ghost Value = { Kind };
 
@@ -55,12 +55,12 @@ fn take(reader: &mut EntryReader, alloc: Global, kind: Kind) -> Entry
     }
 }
 
-impl ItemReader {
+impl SingleReader {
     /// A reader of items of this kind.
-    pub(crate) fn new(alloc: Global, kind: Kind) -> ItemReader
+    pub fn new(alloc: Global, kind: Kind) -> SingleReader
         ensures { result ≡ kind }
     {
-        ItemReader {
+        SingleReader {
             alloc,
             kind,
             reader: EntryReader::new(alloc, kind),
@@ -72,7 +72,7 @@ impl ItemReader {
     /// # Errors
     ///
     /// Where memory is refused.
-    pub(crate) fn read(&mut self, bytes: &[u8]) -> Result<Verdict, AllocError>
+    pub fn read(&mut self, bytes: &[u8]) -> Result<Verdict, AllocError>
         ensures kind { self.new ≡ self.old }
         ensures verdict { IfOk result (λ v. IsVerdict self.old bytes.now v) }
     {

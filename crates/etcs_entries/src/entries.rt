@@ -5,8 +5,8 @@ ghost use Rattle.etcs_bits.specs.Bits.{bits};
 ghost use Rattle.etcs_messages.specs.declared.message.Content.{Content};
 ghost use Rattle.etcs_sequence.specs.Progress as inner;
 ghost use Rattle.etcs_text.specs.Entries.{EntryReads, EntryValue, entry_value, kind_of};
-ghost use Rattle.etcs_stream.specs.Readers.{Feeds, reading, finished, progress_of, telegram_item};
-ghost use Rattle.etcs_stream.specs.Tellers.{IsOfTelegrams};
+ghost use Rattle.etcs_entries.specs.Readers.{Feeds, reading, finished, progress_of, telegram_item};
+ghost use Rattle.etcs_entries.specs.Kinds.{IsOfTelegrams};
 
 use etcs_messages::{Head, MessageOf, Own, ReaderOf};
 use etcs_radio::MessageReader;
@@ -32,7 +32,7 @@ pub struct EntryReader {
 }
 
 impl Model for EntryReader {
-    ghost use Rattle.etcs_stream.specs.Readers.{ReaderValue, value_of};
+    ghost use Rattle.etcs_entries.specs.Readers.{ReaderValue, value_of};
 
     ghost Value = { ReaderValue };
 

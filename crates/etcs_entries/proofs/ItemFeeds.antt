@@ -16,7 +16,7 @@ use Rattle.etcs_messages.specs.Messages.{MessageReads, MessageValue}
 use Rattle.etcs_text.specs.declared.entry.Kind.{Kind}
 use Rattle.etcs_text.specs.Entries.{EntryValue, of_telegram, of_message, kind_of, message_kind, EntryReads}
 use Rattle.etcs_text.proofs.ItemKinds.{Language, same_telegrams, same_messages}
-use Rattle.etcs_stream.specs.Readers.{progress_of, telegram_item, reading, Feeds}
+use Rattle.etcs_entries.specs.Readers.{progress_of, telegram_item, reading, Feeds}
 
 module _ {V : Type 0} (Reads : V → Reading → Type 0) (kind : Kind) (same : Same (readings_of Reads) (Language kind)) where
   none_along : (b : List Bool) → NoneYet (readings_of Reads) b → NoneYet (Language kind) b

@@ -1,0 +1,2 @@
+pub mod ItemFeeds
+pub mod Verdicts

@@ -1,0 +1,3 @@
+//! For the crates above: what writes all of a text.
+
+pub use crate::send::send;

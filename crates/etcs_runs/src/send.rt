@@ -1,0 +1,32 @@
+//! Texts to a sink.
+
+ghost use Rattle.std.specs.Prelude.{◌≡◌, ◌+◌, ◌^◌, ◌<◌, ◌≤◌, ℕ, length, take, OnErr, OnOk};
+ghost use Rattle.std.specs.Io.KnownBytes.{Appends};
+
+use crate::ends::{Failed, Sink};
+
+/// Writes all of the text, and adds to `sent` how many bytes were taken.
+///
+/// # Errors
+///
+/// Where a write fails or takes nothing. The sink has then taken the front of the text that is counted.
+pub fn send<W: Sink>(sink: &mut W, text: &[u8], sent: &mut u64) -> Result<(), Failed>
+    requires failures { W.failures sink.old < 2 ^ 63 }
+    requires room { sent.old + length text.now < 2 ^ 64 }
+    ensures ok { OnOk result (Appends (W.contents sink.old) (W.contents sink.new) text.now × (sent.new ≡ sent.old + length text.now)) }
+    ensures none { OnOk result (W.failures sink.new ≡ W.failures sink.old) }
+    ensures one { OnErr result (W.failures sink.new ≡ W.failures sink.old + 1) }
+    ensures part { OnErr result ((n : ℕ) × (n ≤ length text.now) × (sent.new ≡ sent.old + n) × Appends (W.contents sink.old) (W.contents sink.new) (take n text.now)) }
+    ensures unflushed { W.flushes sink.new ≡ W.flushes sink.old }
+{
+    let mut at = 0;
+    while at < text.len() {
+        let count = sink.write(&text[at..])?;
+        if count == 0 {
+            return Err(Failed);
+        }
+        at += count;
+        *sent += count as u64;
+    }
+    Ok(())
+}

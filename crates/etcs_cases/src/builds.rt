@@ -1,17 +1,14 @@
-//! Vectors of headers and telegrams that are built of their parts. A header is its eight numbers in order. Packets are
-//! `0 NUMBER`, `NID Q_DIR NUMBERS` after L_PACKET, or `NID Q_DIR bDIGITS` for kept bits, with ` ; ` between two packets. To the
-//! track there is no `0 NUMBER` and no Q_DIR.
+//! Lines about headers and telegrams that are built of their parts. A header is its eight numbers in order. Packets are as
+//! `several.rt` of etcs_packet_cases has them.
 
-use crate::case::{Case, FaultTexts};
-use crate::forms::Asked;
-use crate::packets::{listed, next_dir};
 use crate::readers::next_size;
 use crate::telegrams::{check_laws, encoded};
 use etcs_bits::Bits;
+use etcs_packet_cases::all_packets;
 use etcs_packet_text::parts::write_packets;
 use etcs_packets::Packet;
 use etcs_packets::parts::AnyPacket;
-use etcs_tables::Way;
+use etcs_row_cases::{Case, FaultTexts};
 use etcs_telegram::parts::header_numbers;
 use etcs_telegram::{Header, Size, Telegram};
 use etcs_vars::BuildFault;
@@ -86,41 +83,6 @@ fn headers(case: &mut Case) {
     }
 }
 
-/// The packet of all words that are left.
-fn packet<A: Asked>(case: &mut Case) -> Option<A> {
-    let nid = case.byte();
-    if nid == 0 && A::WAY == Way::ToTrain {
-        return A::marker(case);
-    }
-    let dir = next_dir::<A>(case);
-    let rest = case.rest();
-    match rest.strip_prefix('b') {
-        Some(digits) => A::kept(nid, dir, case.bits_between("", digits, "")).ok(),
-        None => {
-            case.go_on(rest);
-            let numbers = case.numbers();
-            listed(case, nid, dir, numbers.as_slice())
-        }
-    }
-}
-
-/// The packets of all words that are left.
-pub(crate) fn packets<A: Asked>(case: &mut Case) -> Vec<A> {
-    let mut packets = Vec::new(case.alloc());
-    for _ in 0..100u8 {
-        if case.is_empty() {
-            break;
-        }
-        let behind = case.split(" ; ");
-        match packet(case) {
-            Some(packet) => case.kept(packets.push(packet).is_ok()),
-            None => case.bad(),
-        }
-        case.go_on(behind);
-    }
-    packets
-}
-
 /// `built SIZE HEADER ; PACKETS`: the bytes of the telegram, or what is refused and the packets that come back.
 /// `filled SIZE HEADER ; PACKETS : DIGITS`: the same with this FILL, which comes back too.
 fn built(case: &mut Case, kind: &str) {
@@ -129,7 +91,7 @@ fn built(case: &mut Case, kind: &str) {
     let size = next_size(case);
     let header = header(case);
     case.go_on(behind);
-    let packets = packets(case);
+    let packets = all_packets(case);
     let fill = case.bits_between("", digits, "");
     match header {
         Ok(header) => say_new(case, kind, size, header, packets, fill),
@@ -203,6 +165,6 @@ fn say_packets<P: AnyPacket>(case: &mut Case, packets: &[P]) {
 /// `text PACKETS`: their text.
 fn text(case: &mut Case) {
     case.say("before\n");
-    let packets: Vec<Packet> = packets(case);
+    let packets: Vec<Packet> = all_packets(case);
     say_packets(case, packets.as_slice());
 }

@@ -1,10 +1,10 @@
 //! Vectors of messages to the track that are built of their parts: T_TRAIN, NID_ENGINE, and `plain NID`, `time NID T_TRAIN` or
 //! `status Q_STATUS`. Packets are `NID NUMBERS` after L_PACKET or `NID bDIGITS` for kept bits, with ` ; ` in front of each.
 
-use crate::builds::{FAULTS, packets, say_back};
-use crate::built::first_bits;
-use crate::case::Case;
+use crate::builds::{FAULTS, say_back};
 use crate::items::check_read;
+use etcs_packet_cases::{all_packets, first_bits};
+use etcs_row_cases::Case;
 use etcs_text::{Entry, Kind};
 use etcs_track::TrainPacket;
 use etcs_train::{TrainBody, TrainHead, TrainMessage};
@@ -56,7 +56,7 @@ fn built(case: &mut Case, kind: &str) {
         let number = case.read(padding);
         Some(case.byte_of(number))
     };
-    match made(head, body, packets(case), padding) {
+    match made(head, body, all_packets(case), padding) {
         Ok(message) => {
             let parts = message.head() == Some(&head) && message.body() == Some(&body);
             case.check(parts, "of other parts");

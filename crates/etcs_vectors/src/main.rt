@@ -5,10 +5,9 @@
 //! answered as expected is written with what was answered, and at the end how many there were of each kind.
 #![tactic(auto)]
 
-mod runs;
-mod sheet;
-
-use crate::sheet::Sheet;
+use etcs_cases::Case;
+use etcs_cli::run_words;
+use etcs_run_cases::{Answers, Pieces, Program, Sheet};
 use std::alloc::Global;
 use std::io::{self, Read, Write};
 use std::process::ExitCode;
@@ -21,6 +20,27 @@ fn main(rt: HostRuntime) -> ExitCode {
     }
 }
 
+/// The library and the program that the vectors ask.
+struct Etcs;
+
+impl Program for Etcs {
+    fn run(
+        alloc: Global,
+        words: Vec<String>,
+        input: Pieces<'_>,
+        output: &mut Vec<u8>,
+        faults: &mut Vec<u8>,
+    ) -> u8 {
+        run_words(alloc, words, input, output, faults)
+    }
+}
+
+impl Answers for Etcs {
+    fn answer(case: &mut Case, kind: &str) -> bool {
+        etcs_run_cases::answer::<Etcs>(case, kind) || etcs_cases::answer(case, kind)
+    }
+}
+
 /// Checks the vectors of the input and writes the report: whether all are answered as expected.
 fn check(
     alloc: Global,
@@ -28,7 +48,7 @@ fn check(
     mut output: impl Write + Drop,
 ) -> io::Result<bool> {
     let text = io::read_to_string(alloc, input)?;
-    let (report, is_right) = Sheet::check(alloc, text.as_str())?;
+    let (report, is_right) = Sheet::check::<Etcs>(alloc, text.as_str())?;
     output.write_all(report.as_slice())?;
     output.flush()?;
     Ok(is_right)

@@ -1,7 +1,7 @@
 use Rattle.std.proofs.Common.{arith}
 use Rattle.etcs_tables.specs.Layouts.{layout}
 use Rattle.etcs_rows.proofs.RowLaws.{admitted_length}
-use Rattle.etcs_cases.proofs.rows.append_row.Goals as goal
+use Rattle.etcs_row_cases.proofs.rows.append_row.Goals as goal
 
 pub write_row-requires-clause-room : goal.write_row-requires-clause-room
 write_row-requires-clause-room c = λ b spells.

@@ -1,23 +1,35 @@
-//! Vectors of runs over lines of hexadecimal, and of the program's command line. In their texts `\n` is a LF and `\r` a CR,
-//! and any other `\` is itself.
+//! Lines about runs over lines of hexadecimal, and about the program's command line. In their texts `\n` is a LF and `\r` a
+//! CR, and any other `\` is itself.
 
-use etcs_cases::Case;
-use etcs_cli::run_words;
 use etcs_fakes::Broken;
-use etcs_stream::{RunFault, write_fault};
+use etcs_row_cases::Case;
+use etcs_runs::{RunFault, write_fault};
+use std::alloc::Global;
 use std::io::{self, Read};
 
 /// How many bytes a read gives where it gives all that it is asked for.
 const ALL: usize = 4096;
 
-/// Answers a line about runs: whether it is one.
-pub(crate) fn answer(case: &mut Case, kind: &str) -> bool {
+/// A program that lines run.
+pub trait Program {
+    /// Runs it over words, the first of which is its name, and an input: its status.
+    fn run(
+        alloc: Global,
+        words: Vec<String>,
+        input: Pieces<'_>,
+        output: &mut Vec<u8>,
+        faults: &mut Vec<u8>,
+    ) -> u8;
+}
+
+/// Answers a line about runs of a program: whether it is one.
+pub fn answer<P: Program>(case: &mut Case, kind: &str) -> bool {
     match kind {
-        "run" | "zeros" => shown(case, kind),
-        "slow" => run_slowly(case),
-        "repeated" => repeated(case),
-        "program" | "bytes" | "status" => program(case, kind),
-        "help" => help(case),
+        "run" | "zeros" => shown::<P>(case, kind),
+        "slow" => run_slowly::<P>(case),
+        "repeated" => repeated::<P>(case),
+        "program" | "bytes" | "status" => command_line::<P>(case, kind),
+        "help" => help::<P>(case),
         "fault" => fault(case),
         _ => return false,
     }
@@ -26,7 +38,7 @@ pub(crate) fn answer(case: &mut Case, kind: &str) -> bool {
 
 /// A reader that gives this many bytes a read, and how often it was asked.
 #[derive(Drop)]
-struct Pieces<'a> {
+pub struct Pieces<'a> {
     inner: Broken<'a>,
     reads: &'a mut u64,
 }
@@ -112,7 +124,7 @@ fn show_line(case: &mut Case) -> &'static str {
 
 /// `run SIZE TEXT`: what a run that shows telegrams answers and writes, also where it reads byte by byte; and
 /// `zeros SIZE COUNT TEXT`: the same with COUNT zeros in front of the text.
-fn shown(case: &mut Case, kind: &str) {
+fn shown<P: Program>(case: &mut Case, kind: &str) {
     let line = show_line(case);
     let mut input = Vec::new(case.alloc());
     if kind == "zeros" {
@@ -121,19 +133,19 @@ fn shown(case: &mut Case, kind: &str) {
     }
     let text = case.rest();
     push_text(case, &mut input, text);
-    let ran = call(case, line, input.as_slice(), ALL);
+    let ran = call::<P>(case, line, input.as_slice(), ALL);
     say_answer(case, &ran);
     say_written(case, ran.output.as_slice());
-    check_slowly(case, line, input.as_slice(), &ran);
+    check_slowly::<P>(case, line, input.as_slice(), &ran);
 }
 
 /// `slow SIZE TEXT`: what a run answers that gets one byte a read, and how often it reads.
-fn run_slowly(case: &mut Case) {
+fn run_slowly<P: Program>(case: &mut Case) {
     let line = show_line(case);
     let mut input = Vec::new(case.alloc());
     let text = case.rest();
     push_text(case, &mut input, text);
-    let slow = call(case, line, input.as_slice(), 1);
+    let slow = call::<P>(case, line, input.as_slice(), 1);
     say_answer(case, &slow);
     case.say(", reads ");
     case.say_number(slow.reads);
@@ -142,11 +154,11 @@ fn run_slowly(case: &mut Case) {
 
 /// `repeated COUNT SIZE HEX`: the text of this telegram where it is item 1; a run over COUNT lines of it writes it so
 /// often, with their numbers.
-fn repeated(case: &mut Case) {
+fn repeated<P: Program>(case: &mut Case) {
     let count = case.half();
     let line = show_line(case);
     let text = case.rest();
-    let one = call(case, line, text.as_bytes(), ALL);
+    let one = call::<P>(case, line, text.as_bytes(), ALL);
     let mut input = Vec::new(case.alloc());
     let mut wanted = Case::new(case.alloc(), "");
     let rest = one.output.as_slice().strip_prefix(b"item 1").unwrap_or(&[]);
@@ -157,7 +169,7 @@ fn repeated(case: &mut Case) {
         wanted.say_number(item);
         wanted.say_bytes(rest);
     }
-    let all = call(case, line, input.as_slice(), ALL);
+    let all = call::<P>(case, line, input.as_slice(), ALL);
     say_answer(case, &all);
     say_written(case, one.output.as_slice());
     let is_each = wanted.has_said(all.output.as_slice());
@@ -181,13 +193,13 @@ fn line_words(case: &mut Case, line: &str) -> Vec<String> {
 /// `bytes LINE < HEX`: the status of this command line over these bytes, and what it writes, as hexadecimal digits.
 /// `status LINE`: the status of this command line over an empty input, and whether lines went to the output and to the
 /// faults. Each is the same where the program reads byte by byte.
-fn program(case: &mut Case, kind: &str) {
+fn command_line<P: Program>(case: &mut Case, kind: &str) {
     let given = case.split(" < ");
     let line = case.rest();
     let input = input_of(case, kind, given);
-    let called = call(case, line, input.as_slice(), ALL);
+    let called = call::<P>(case, line, input.as_slice(), ALL);
     say_called(case, kind, &called);
-    check_slowly(case, line, input.as_slice(), &called);
+    check_slowly::<P>(case, line, input.as_slice(), &called);
 }
 
 /// The bytes of a text, or those that its hexadecimal digits say.
@@ -201,13 +213,13 @@ fn input_of(case: &mut Case, kind: &str, given: &str) -> Vec<u8> {
 }
 
 /// `help LINE, LINE ..`: the status of each of these command lines over an empty input, and what it writes.
-fn help(case: &mut Case) {
+fn help<P: Program>(case: &mut Case) {
     for line in case.rest().split(", ") {
         if case.is_silent() {
-            say_call(case, line);
+            say_call::<P>(case, line);
         } else {
             let mut said = Case::new(case.alloc(), "");
-            say_call(&mut said, line);
+            say_call::<P>(&mut said, line);
             let is_like = case.is_like(&said);
             case.check(is_like, "not each so");
         }
@@ -215,8 +227,8 @@ fn help(case: &mut Case) {
 }
 
 /// The status of a command line over an empty input, and what it writes.
-fn say_call(case: &mut Case, line: &str) {
-    let called = call(case, line, &[], ALL);
+fn say_call<P: Program>(case: &mut Case, line: &str) {
+    let called = call::<P>(case, line, &[], ALL);
     say_called(case, "program", &called);
 }
 
@@ -230,7 +242,7 @@ struct Called {
 }
 
 /// A command line over bytes, of which a read gives this many.
-fn call(case: &mut Case, line: &str, input: &[u8], step: usize) -> Called {
+fn call<P: Program>(case: &mut Case, line: &str, input: &[u8], step: usize) -> Called {
     let words = line_words(case, line);
     let mut reads = 0;
     let inner = Broken {
@@ -244,7 +256,7 @@ fn call(case: &mut Case, line: &str, input: &[u8], step: usize) -> Called {
     };
     let mut output = Vec::new(case.alloc());
     let mut faults = Vec::new(case.alloc());
-    let status = run_words(case.alloc(), words, reader, &mut output, &mut faults);
+    let status = P::run(case.alloc(), words, reader, &mut output, &mut faults);
     Called {
         status,
         reads,
@@ -254,8 +266,8 @@ fn call(case: &mut Case, line: &str, input: &[u8], step: usize) -> Called {
 }
 
 /// Checks that a command line does the same where it gets one byte a read.
-fn check_slowly(case: &mut Case, line: &str, input: &[u8], wanted: &Called) {
-    let slowly = call(case, line, input, 1);
+fn check_slowly<P: Program>(case: &mut Case, line: &str, input: &[u8], wanted: &Called) {
+    let slowly = call::<P>(case, line, input, 1);
     let is_alike = slowly.status == wanted.status && slowly.output == wanted.output;
     case.check(is_alike, "not byte by byte");
     case.check(slowly.faults == wanted.faults, "other faults byte by byte");

@@ -1,6 +1,5 @@
 //! What packets of each way do by themselves: their numbers, what their types build, and the laws of their `==`.
 
-use crate::case::Case;
 use crate::list::{by_number, of_flat, of_grouped, of_two, to_track, to_train};
 use crate::packets::FAULTS;
 use etcs_bits::Bits;
@@ -9,6 +8,7 @@ use etcs_bodies::laws::exact_equality;
 use etcs_packets::laws::{exact_packet, one_packet};
 use etcs_packets::parts::AnyPacket;
 use etcs_packets::{Flat, Other, Packet};
+use etcs_row_cases::Case;
 use etcs_tables::Way;
 use etcs_track::{TrainFlat, TrainOther, TrainPacket, laws};
 use etcs_vars::BuildFault;
@@ -26,7 +26,7 @@ pub struct Own {
 }
 
 /// A packet of one way, of which lines ask.
-pub(crate) trait Asked: AnyPacket + PartialEq {
+pub trait Asked: AnyPacket + PartialEq {
     /// The packet 0 without a frame of the number that comes next.
     fn marker(case: &mut Case) -> Option<Self>;
 

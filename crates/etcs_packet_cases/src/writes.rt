@@ -1,11 +1,12 @@
-//! Vectors of what is written over equal bytes, from a bit on.
+//! Lines about what is written over equal bytes, from a bit on.
 
-use crate::builds::packets;
-use crate::case::Case;
+use crate::several::all_packets;
 use etcs_bits::BitSlice;
 use etcs_packets::Packet;
-use etcs_packets::parts::{AnyPacket, WordSink, append_all, room_left};
+use etcs_packets::parts::{AnyPacket, append_all, room_left};
+use etcs_row_cases::Case;
 use etcs_vars::Var;
+use etcs_words::WordSink;
 
 /// Answers a line about what is written: whether it is one.
 pub(crate) fn answer(case: &mut Case, kind: &str) -> bool {
@@ -21,7 +22,7 @@ pub(crate) fn answer(case: &mut Case, kind: &str) -> bool {
 /// them.
 fn written(case: &mut Case) {
     let (fill, at) = front(case);
-    let packets: Vec<Packet> = packets(case);
+    let packets: Vec<Packet> = all_packets(case);
     if at > 64 {
         return case.bad();
     }

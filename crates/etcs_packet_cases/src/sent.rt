@@ -1,8 +1,8 @@
 //! What packets and their parts send: variables with their numbers.
 
-use crate::case::{Case, MOST_BITS};
 use etcs_bits::{BitSlice, Bits};
 use etcs_packets::parts::AnyPacket;
+use etcs_row_cases::{Case, MOST_BITS};
 use etcs_vars::Var;
 use etcs_vars::parts::{PairList, Variables};
 

@@ -5,11 +5,11 @@
 //!
 //! `train_` in front of a kind asks the same of packets to the track, whose lines have no DIR.
 
-use crate::case::{Case, FaultTexts};
 use crate::forms::{Asked, check_listed, is_copied};
 use crate::sent::{BEFORE, packet_sent};
 use etcs_bits::{BitSlice, Bits};
 use etcs_packets::Packet;
+use etcs_row_cases::{Case, FaultTexts};
 use etcs_tables::{Way, frame_bits, is_direction};
 use etcs_track::TrainPacket;
 

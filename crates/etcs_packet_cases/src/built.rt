@@ -7,7 +7,6 @@
 //!
 //! Lines of packets to the track have no DIR; `train_flat`, `train_kept` and `train_kept_long` are of these.
 
-use crate::case::{Case, FaultTexts};
 use crate::forms::{Asked, is_copied};
 use crate::packets::{FAULTS, Spelled, check_packet, kept, next_dir, say_checked, say_dir};
 use crate::parts::{FAULTS as FAULTS_OF_PARTS, check_numbers, next_part};
@@ -19,6 +18,7 @@ use etcs_packets::{
     InfillLocation, Level1Ma, Level23Ma, LevelOrder, Linking, ModeProfile, Packet, PlainText,
     ReportAt, ReportParameters, SpeedProfile, TextFrame, TrackCondition, TrackState,
 };
+use etcs_row_cases::{Case, FaultTexts};
 use etcs_tables::frame_bits;
 use etcs_track::{PositionReport, PositionReportTwo, TrainPacket};
 use etcs_vars::BuildFault;
@@ -562,7 +562,7 @@ fn kept_long<A: Asked>(case: &mut Case) {
 }
 
 /// This many of these bits.
-pub(crate) fn first_bits(mut bits: Bits, len: usize) -> Bits {
+pub fn first_bits(mut bits: Bits, len: usize) -> Bits {
     if len < bits.len() {
         bits.truncate(len);
     }

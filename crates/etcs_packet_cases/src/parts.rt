@@ -1,7 +1,5 @@
 //! Lines about parts of packets: built, sent, read and cloned, what is none, and what refuses a number.
 
-use crate::case::{Case, FaultTexts};
-use crate::names::variable;
 use crate::sent::{BEFORE, BEHIND, Sent, sent_of};
 use etcs_bits::BitSlice;
 use etcs_bodies::laws::{Exact, exact_equality};
@@ -10,6 +8,7 @@ use etcs_packets::{
     Authority, BaliseAt, Condition, Differing, Level, LevelAck, Link, ModeSection, ReportAt,
     Section, Shown, Slope, Speed, TextFrame,
 };
+use etcs_row_cases::{Case, FaultTexts, variable};
 use etcs_track::Located;
 use etcs_vars::parts::{Variables, append_numbers};
 use etcs_vars::{BuildFault, Var};

@@ -1,12 +1,12 @@
 //! Each part, made of the words of a line.
 
-use crate::case::Case;
 use crate::parts::Shape;
 use etcs_bodies::clone_all;
 use etcs_packets::{
     Authority, BaliseAt, Condition, Differing, Level, LevelAck, Link, ModeSection, ReportAt,
     Section, Shown, Slope, Speed, TextFrame,
 };
+use etcs_row_cases::Case;
 use etcs_track::Located;
 use etcs_vars::BuildFault;
 

@@ -2,7 +2,7 @@ use Rattle.std.proofs.Common.{◌≡◌, ℕ, Bool, List, [], length, ap, ◌∙
 use Rattle.etcs_bits.proofs.Positions.{length-bits}
 use Rattle.etcs_tables.specs.Layouts.{Layout, layout, Spells}
 use Rattle.etcs_rows.proofs.RowLaws.{one_spelling}
-use Rattle.etcs_cases.proofs.rows.put_over.Goals as goal
+use Rattle.etcs_row_cases.proofs.rows.put_over.Goals as goal
 
 same_length : (row : Layout) (f : List ℕ) (b out : List Bool) → Spells row [] f b → Spells row [] f out → length b ≡ length out
 same_length row f b out h k = ap length (one_spelling.1 row f b out h k)

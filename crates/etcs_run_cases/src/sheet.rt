@@ -1,8 +1,13 @@
 //! The lines of vectors, and what is written of them.
 
-use crate::runs;
-use etcs_cases::Case;
+use etcs_row_cases::Case;
 use std::alloc::{AllocError, Global};
+
+/// What answers lines.
+pub trait Answers {
+    /// Answers a line of this kind: whether there is such a kind.
+    fn answer(case: &mut Case, kind: &str) -> bool;
+}
 
 /// How many vectors of a kind there are.
 #[derive(Drop)]
@@ -13,7 +18,7 @@ struct Count<'a> {
 
 /// The vectors so far; the last one, whose head is empty where there is none; and what was written.
 #[derive(Drop)]
-pub(crate) struct Sheet<'a> {
+pub struct Sheet<'a> {
     alloc: Global,
     line: u64,
     first_line: u64,
@@ -27,7 +32,7 @@ pub(crate) struct Sheet<'a> {
 
 impl<'a> Sheet<'a> {
     /// Checks each vector of a text: the report, and whether all are right.
-    pub(crate) fn check(alloc: Global, text: &'a str) -> Result<(Vec<u8>, bool), AllocError> {
+    pub fn check<A: Answers>(alloc: Global, text: &'a str) -> Result<(Vec<u8>, bool), AllocError> {
         let mut sheet = Sheet {
             alloc,
             line: 0,
@@ -40,22 +45,22 @@ impl<'a> Sheet<'a> {
             report: Case::new(alloc, ""),
         };
         for line in text.split('\n') {
-            sheet.take(line);
+            sheet.take::<A>(line);
         }
-        sheet.judge();
+        sheet.judge::<A>();
         sheet.say_counts();
         let Sheet { report, wrong, .. } = sheet;
         Ok((report.into_answer()?, wrong == 0))
     }
 
     /// Takes the next line.
-    fn take(&mut self, line: &'a str) {
+    fn take<A: Answers>(&mut self, line: &'a str) {
         self.line = self.line.saturating_add(1);
         match line.strip_prefix(' ') {
             Some(more) if self.head.is_empty() => self.say_wrong(more, b"after no vector"),
             Some(more) => self.expect(more),
             None => {
-                self.judge();
+                self.judge::<A>();
                 self.begin(line);
             }
         }
@@ -88,14 +93,14 @@ impl<'a> Sheet<'a> {
     }
 
     /// Asks what the vector asks, and compares.
-    fn judge(&mut self) {
+    fn judge<A: Answers>(&mut self) {
         let head = self.head;
         if head.is_empty() {
             return;
         }
         let (kind, words) = head.split_once(' ').unwrap_or((head, ""));
         let mut case = Case::new(self.alloc, words);
-        if !answer(&mut case, kind) {
+        if !A::answer(&mut case, kind) {
             case.say("no such kind");
         }
         self.count(kind);
@@ -147,9 +152,4 @@ impl<'a> Sheet<'a> {
         self.report.say_number(self.wrong);
         self.report.say(" wrong\n\n");
     }
-}
-
-/// Answers a line of this kind: whether there is such a kind.
-fn answer(case: &mut Case, kind: &str) -> bool {
-    runs::answer(case, kind) || etcs_cases::answer(case, kind)
 }

@@ -40,16 +40,14 @@ pub(crate) fn answer(case: &mut Case, kind: &str) -> bool {
 
 /// The header of the next eight numbers, or why there is none.
 fn header(case: &mut Case) -> Result<Header, BuildFault> {
-    let (version, pig, total) = (case.byte(), case.byte(), case.byte());
-    let (dup, count) = (case.byte(), case.byte());
-    let (country, group) = (case.half(), case.half());
-    let link = case.number() == 1;
+    let (version, pig, total, dup): (u8, u8, u8, u8) = case.next();
+    let (count, country, group, link): (u8, u16, u16, bool) = case.next();
     Header::new(version, pig, total, dup, count, country, group, link)
 }
 
-/// `header NUMBERS`: the numbers that it gives, and those of its ten variables; or what isn't admitted.
-fn say_header(case: &mut Case, header: &Header) {
-    let given = [
+/// The numbers that a header gives.
+fn given(header: &Header) -> [u64; 8] {
+    [
         u64::from(header.m_version()),
         u64::from(header.n_pig()),
         u64::from(header.n_total()),
@@ -58,8 +56,12 @@ fn say_header(case: &mut Case, header: &Header) {
         u64::from(header.nid_c()),
         u64::from(header.nid_bg()),
         u64::from(header.q_link()),
-    ];
-    say_numbers(case, &given);
+    ]
+}
+
+/// `header NUMBERS`: the numbers that it gives, and those of its ten variables; or what isn't admitted.
+fn say_header(case: &mut Case, header: &Header) {
+    say_numbers(case, &given(header));
     case.say("/");
     say_numbers(case, &header_numbers(header));
 }
@@ -76,10 +78,9 @@ fn headers(case: &mut Case) {
     let behind = case.split(" , ");
     let first = header(case);
     case.go_on(behind);
-    let second = header(case);
-    case.say_truth(first == second);
-    if first.is_err() || second.is_err() {
-        case.bad();
+    match (first, header(case)) {
+        (Ok(first), Ok(second)) => case.say_truth(first == second),
+        _ => case.bad(),
     }
 }
 

@@ -1,4 +1,4 @@
-//! For the crates above: the text of packets, numbers, bits and bytes, and in `json` variables and packets as JSON.
+//! For the crates above: the text of packets, numbers, bits and bytes, and in `json_text` variables and packets as JSON.
 
 pub use crate::digits::to_digits;
 pub use crate::packets::{LineSink, write_packets};
@@ -8,7 +8,7 @@ pub use crate::text::{
 pub use crate::variables::write_bits_line;
 
 /// Variables and packets as JSON.
-pub mod json {
+pub mod json_text {
     pub use crate::json_packets::write_packets;
     pub use crate::pairs::write_variables;
 }

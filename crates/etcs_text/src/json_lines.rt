@@ -15,7 +15,7 @@ ghost use Rattle.etcs_text.specs.Trees.{json_tree, message_tree, telegram_tree};
 use crate::entry::Entry;
 use etcs_bits::BitSlice;
 use etcs_messages::{Head, MessageOf, Own};
-use etcs_packet_text::parts::json::{write_packets, write_variables};
+use etcs_packet_text::parts::json_text::{write_packets, write_variables};
 use etcs_packet_text::parts::{write_bits, write_decimal, write_decimal_and, write_slice};
 use etcs_packets::parts::AnyPacket;
 use etcs_tables::Way;

@@ -4,5 +4,5 @@
 mod runs;
 mod sheet;
 
-pub use runs::{Pieces, Program, answer};
+pub use runs::{Ended, Pieces, Program, answer};
 pub use sheet::{Answers, Sheet};

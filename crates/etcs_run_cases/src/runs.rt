@@ -12,14 +12,16 @@ const ALL: usize = 4096;
 
 /// A program that lines run.
 pub trait Program {
-    /// Runs it over words, the first of which is its name, and an input: its status.
-    fn run(
-        alloc: Global,
-        words: Vec<String>,
-        input: Pieces<'_>,
-        output: &mut Vec<u8>,
-        faults: &mut Vec<u8>,
-    ) -> u8;
+    /// Runs it over words, the first of which is its name, and an input.
+    fn run(alloc: Global, words: Vec<String>, input: Pieces<'_>) -> Ended;
+}
+
+/// How a program ended: its status, what it wrote, and its faults.
+#[derive(Drop)]
+pub struct Ended {
+    pub status: u8,
+    pub output: Vec<u8>,
+    pub faults: Vec<u8>,
 }
 
 /// Answers a line about runs of a program: whether it is one.
@@ -254,9 +256,11 @@ fn call<P: Program>(case: &mut Case, line: &str, input: &[u8], step: usize) -> C
         inner,
         reads: &mut reads,
     };
-    let mut output = Vec::new(case.alloc());
-    let mut faults = Vec::new(case.alloc());
-    let status = P::run(case.alloc(), words, reader, &mut output, &mut faults);
+    let Ended {
+        status,
+        output,
+        faults,
+    } = P::run(case.alloc(), words, reader);
     Called {
         status,
         reads,

@@ -7,7 +7,7 @@
 
 use etcs_cases::Case;
 use etcs_cli::run_words;
-use etcs_run_cases::{Answers, Pieces, Program, Sheet};
+use etcs_run_cases::{Answers, Ended, Pieces, Program, Sheet};
 use std::alloc::Global;
 use std::io::{self, Read, Write};
 use std::process::ExitCode;
@@ -24,14 +24,15 @@ fn main(rt: HostRuntime) -> ExitCode {
 struct Etcs;
 
 impl Program for Etcs {
-    fn run(
-        alloc: Global,
-        words: Vec<String>,
-        input: Pieces<'_>,
-        output: &mut Vec<u8>,
-        faults: &mut Vec<u8>,
-    ) -> u8 {
-        run_words(alloc, words, input, output, faults)
+    fn run(alloc: Global, words: Vec<String>, input: Pieces<'_>) -> Ended {
+        let mut output = Vec::new(alloc);
+        let mut faults = Vec::new(alloc);
+        let status = run_words(alloc, words, input, &mut output, &mut faults);
+        Ended {
+            status,
+            output,
+            faults,
+        }
     }
 }
 

@@ -1,14 +1,14 @@
 //! Lines about headers and telegrams that are built of their parts. A header is its eight numbers in order. Packets are as
-//! `several.rt` of etcs_packet_cases has them.
+//! `several.rt` has them.
 
+use crate::case::{Case, FaultTexts};
 use crate::readers::next_size;
+use crate::several::all_packets;
 use crate::telegrams::{check_laws, encoded};
 use etcs_bits::Bits;
-use etcs_packet_cases::all_packets;
 use etcs_packet_text::parts::write_packets;
 use etcs_packets::Packet;
 use etcs_packets::parts::AnyPacket;
-use etcs_row_cases::{Case, FaultTexts};
 use etcs_telegram::parts::header_numbers;
 use etcs_telegram::{Header, Size, Telegram};
 use etcs_vars::BuildFault;

@@ -2,9 +2,10 @@
 //! `status Q_STATUS`. Packets are `NID NUMBERS` after L_PACKET or `NID bDIGITS` for kept bits, with ` ; ` in front of each.
 
 use crate::builds::{FAULTS, say_back};
+use crate::built::first_bits;
+use crate::case::Case;
 use crate::items::check_read;
-use etcs_packet_cases::{all_packets, first_bits};
-use etcs_row_cases::Case;
+use crate::several::all_packets;
 use etcs_text::{Entry, Kind};
 use etcs_track::TrainPacket;
 use etcs_train::{TrainBody, TrainHead, TrainMessage};

@@ -1,8 +1,8 @@
 //! Items in all ways to read them: in one piece, byte by byte, and cut in two at every place; and with each bit turned.
 
+use crate::case::Case;
 use crate::readers::{Reader, next_kind, read_whole, size_of};
 use crate::{messages, telegrams};
-use etcs_row_cases::Case;
 use etcs_text::{Entry, Kind, show_lines};
 use etcs_vars::{Fed, ReadFault, Var};
 use std::alloc::Global;

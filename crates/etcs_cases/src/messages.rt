@@ -1,7 +1,7 @@
 //! Messages of either way, as items.
 
+use crate::case::Case;
 use etcs_messages::{Head, MessageOf, Own, laws};
-use etcs_row_cases::Case;
 
 /// Says how many bits and packets a message has.
 pub(crate) fn say_size<H: Head, B: Own<Front = H>>(case: &mut Case, message: &MessageOf<H, B>) {

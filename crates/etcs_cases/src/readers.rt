@@ -1,7 +1,7 @@
 //! A reader of the items of any kind.
 
+use crate::case::Case;
 use etcs_radio::MessageReader;
-use etcs_row_cases::Case;
 use etcs_telegram::{Held, Size, TelegramReader};
 use etcs_text::{Entry, Kind};
 use etcs_train::TrainReader;

@@ -1,10 +1,10 @@
 //! Telegrams, as items; and lines about their readers and views.
 
+use crate::case::Case;
 use crate::items::{say_refused, say_text};
 use crate::readers::{item_of, next_kind, next_size};
 use etcs_bits::{BitSlice, Bits};
 use etcs_packets::Packet;
-use etcs_row_cases::Case;
 use etcs_telegram::laws::{exact_equality, read_back, round_trip};
 use etcs_telegram::{Fed, PacketRef, ReadFault, Size, Telegram, TelegramView, ViewFault};
 use etcs_text::Entry;

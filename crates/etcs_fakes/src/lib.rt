@@ -7,4 +7,4 @@ mod streams;
 
 pub use checks::Checks;
 pub use memory::{starve, starve_to};
-pub use streams::{Broken, Counted, Full, Narrow, Repeated};
+pub use streams::{Broken, Full, Narrow, Repeated};

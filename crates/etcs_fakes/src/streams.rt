@@ -57,21 +57,32 @@ pub enum Full {
     TakesNothing,
 }
 
-/// Has room for this many bytes, of which it takes at most `step` a write. It counts how often it is flushed, which fails
-/// unless it `flushes`.
+/// Has room for this many bytes. It counts how often it is flushed, which fails unless it `flushes`.
 #[derive(Drop)]
 pub struct Narrow<'a> {
     pub held: &'a mut Vec<u8>,
     pub room: usize,
-    pub step: usize,
     pub full: Full,
     pub flushes: bool,
     pub flushed: u64,
 }
 
+impl<'a> Narrow<'a> {
+    /// A writer that holds what it takes.
+    pub fn new(held: &'a mut Vec<u8>, room: usize, full: Full, flushes: bool) -> Narrow<'a> {
+        Narrow {
+            held,
+            room,
+            full,
+            flushes,
+            flushed: 0,
+        }
+    }
+}
+
 impl Write for Narrow<'_> {
     fn write(&mut self, buf: &[u8]) -> io::Result<usize> {
-        let count = buf.len().min(self.room).min(self.step);
+        let count = buf.len().min(self.room);
         if count == 0 && !buf.is_empty() {
             return match self.full {
                 Full::Fails => Err(ErrorKind::StorageFull.into()),
@@ -91,28 +102,5 @@ impl Write for Narrow<'_> {
         } else {
             Err(ErrorKind::StorageFull.into())
         }
-    }
-}
-
-/// Counts what is written, and the lines of it.
-#[derive(Drop)]
-pub struct Counted {
-    pub bytes: u64,
-    pub lines: u64,
-}
-
-impl Write for Counted {
-    fn write(&mut self, buf: &[u8]) -> io::Result<usize> {
-        self.bytes = self.bytes.saturating_add(buf.len() as u64);
-        for byte in buf {
-            if *byte == b'\n' {
-                self.lines = self.lines.saturating_add(1);
-            }
-        }
-        Ok(buf.len())
-    }
-
-    fn flush(&mut self) -> io::Result<()> {
-        Ok(())
     }
 }

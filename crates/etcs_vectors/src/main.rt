@@ -5,9 +5,9 @@
 //! answered as expected is written with what was answered, and at the end how many there were of each kind.
 #![tactic(auto)]
 
-use etcs_cases::Case;
+use etcs_cases::{Ended, Pieces, Program, Room, Sheet};
 use etcs_cli::run_words;
-use etcs_run_cases::{Answers, Ended, Pieces, Program, Sheet};
+use etcs_fakes::Narrow;
 use std::alloc::Global;
 use std::io::{self, Read, Write};
 use std::process::ExitCode;
@@ -20,25 +20,23 @@ fn main(rt: HostRuntime) -> ExitCode {
     }
 }
 
-/// The library and the program that the vectors ask.
+/// The program that the vectors ask.
 struct Etcs;
 
 impl Program for Etcs {
-    fn run(alloc: Global, words: Vec<String>, input: Pieces<'_>) -> Ended {
-        let mut output = Vec::new(alloc);
-        let mut faults = Vec::new(alloc);
+    fn run(alloc: Global, words: Vec<String>, input: Pieces<'_>, room: Room) -> Ended {
+        let mut held = Vec::new(alloc);
+        let mut kept = Vec::new(alloc);
+        let mut output = Narrow::new(&mut held, room.output, room.full, room.flushes);
+        let mut faults = Narrow::new(&mut kept, room.faults, room.full, true);
         let status = run_words(alloc, words, input, &mut output, &mut faults);
+        let is_flushed = output.flushed > 0;
         Ended {
             status,
-            output,
-            faults,
+            output: held,
+            is_flushed,
+            faults: kept,
         }
-    }
-}
-
-impl Answers for Etcs {
-    fn answer(case: &mut Case, kind: &str) -> bool {
-        etcs_run_cases::answer::<Etcs>(case, kind) || etcs_cases::answer(case, kind)
     }
 }
 

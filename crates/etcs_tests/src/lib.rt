@@ -1,0 +1,25 @@
+//! Tests of what no vector says: the one reader over variables, rows and packets, from pieces; a packet and sinks used
+//! through their bounds; calls that take no memory or hand back what they were lent, which the program `etcs_refusals`
+//! doesn't ask; what a group answers to its caller alone; and texts of faults.
+#![tactic(auto)]
+
+#[cfg(test)]
+mod fault_tests;
+#[cfg(test)]
+mod field_tests;
+#[cfg(test)]
+mod flat_tests;
+#[cfg(test)]
+mod group_tests;
+#[cfg(test)]
+mod item_tests;
+#[cfg(test)]
+mod packet_tests;
+#[cfg(test)]
+mod packetlike_tests;
+#[cfg(test)]
+mod pieces;
+#[cfg(test)]
+mod row_tests;
+#[cfg(test)]
+mod sink_tests;

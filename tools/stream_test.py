@@ -1,0 +1,227 @@
+#!/usr/bin/env python3
+"""Tries a program over streams that a vector can't give it: that fail, that are long, or that don't end.
+
+    tools/stream_test.py PROGRAM
+
+PROGRAM is the built `etcs`. It is run over outputs of little room, inputs that can't be read, a million items and more,
+lines of JSON that are long, deep or no UTF-8, and with few addresses. Expected answers come from docs/FORMAT.md and from
+counting. Each answer that isn't as expected is written; the last line says how many there were. The status is 1 where one
+differs.
+"""
+
+import os
+import resource
+import subprocess
+import sys
+import tempfile
+import threading
+from concurrent.futures import ThreadPoolExecutor
+
+MOST = 1_048_576  # the bytes of the longest line of JSON
+LIMIT = 120  # seconds that a call may take
+ENDLESS = (3, b"etcs: input without end\n")
+WELL = (0, b"")
+
+# two messages, and what `check` and `convert --to json` write of them
+TWO = b"0F00FF\n1002800000000008002A\n"
+CHECKED = b"item 1 ok 24 bits\nitem 2 ok 80 bits\n"
+KEPT = b'{"data":"111111","kind":"radio","nid":15}'
+TYPED = b'{"fields":[["NID_EM",5]],"header":[["T_TRAIN",0],["M_ACK",0],["NID_LRBG",16385]],"kind":"radio","nid":16,"packets":[],"padding":"0"}'
+TO_JSON = KEPT + b"\n" + TYPED + b"\n"
+
+# a form, a message in it, what may come after a million of them, and what may not
+MILLIONS = (
+    ("hex", b"0F00FF\n", (b"", b"\r\n\n"), (b"0F00FF\n", b"0F00FF")),
+    ("bin", b"\x0f\x00\xff", (b"",), (b"\x0f\x00\xff", b"\x18\x02\x00")),
+    ("json", KEPT + b"\n", (b"\r\n\n",), (b"x\n", KEPT, b" " * (MOST + 1))),
+)
+
+# how many bytes a last line has, its end, and whether it is read
+LONG_LINES = (
+    *((MOST, end, True) for end in (b"\n", b"\r\n", b"")),
+    *((MOST - 1, end, True) for end in (b"\r", b"\r\r\n")),
+    *((MOST, end, False) for end in (b"\r", b"\r\r\n")),
+    *((MOST + 1, end, False) for end in (b"\n", b"\r\n", b"", b"\r")),
+    *((MOST + 2, end, False) for end in (b"\n", b"")),
+    (MOST + 9000, b"\n", False),
+)
+
+# lines that are no items: n of one byte, and n of another
+NO_ITEMS = (
+    *((b" " * n) for n in (1, 4096, MOST - 1, MOST, MOST + 1, MOST + 2)),
+    *((b"[" * n) for n in (100, 127, 128, 129, 100_000, MOST)),
+    *((b"[" * n + b"]" * n) for n in (100, 127, 128, 129, 100_000, 500_000)),
+)
+
+# what may be in a text, and what may not: bytes that are no UTF-8, half of a pair of surrogates, control characters
+IN_TEXTS = (
+    b"\x7f \xc2\x80 \xdf\xbf \xe0\xa0\x80 \xed\x9f\xbf \xef\xbf\xbf \xf0\x90\x80\x80 \xf4\x8f\xbf\xbf "
+    rb"\u0000\/\b\f \ud83d\uDE00"
+).split(b" ")
+NOT_IN_TEXTS = (
+    b"\xff \xfe \x80 \xbf \xc3 \xe2\x82 \xf0\x9f\x98 \xc0\xaf \xc1\xbf \xe0\x80\xaf \xe0\x9f\xbf \xf0\x80\x80\xaf \xf0\x8f\xbf\xbf "
+    b"\xed\xa0\x80 \xed\xbf\xbf \xed\xa0\xbd\xed\xb8\x80 \xf4\x90\x80\x80 \xf5\x80\x80\x80 \xf8\x88\x80\x80\x80 "
+    rb"\ud83d \ude00 \ud83dx \x41 \u12g4 " + b"\x00 \x1f \t"
+).split(b" ")
+
+# what may be around an item, and what may not; the second of these is a mark of the order of bytes
+AROUND = (b" \t\r \t",)
+NOT_AROUND = (b"\xef\xbb\xbf", b"\xff", b"\x80", b"\x00", b"\x0b", b"\x0c", b"\xc2\xa0")
+
+
+class Program:
+    """The program, and what it was found to do wrong."""
+
+    def __init__(self, path):
+        self.path, self.faults, self.count = os.path.realpath(path), [], 0
+
+    def call(self, words, given=b"", **how):
+        """Returns the status, the output and the faults of a command line."""
+        how = {"stdout": subprocess.PIPE, "stderr": subprocess.PIPE, **how}
+        if "stdin" not in how:
+            how["input"] = given
+        done = subprocess.run([self.path, *words.split()], timeout=LIMIT, **how)
+        return done.returncode, done.stdout, done.stderr
+
+    def check(self, what, found, wanted):
+        """Notes an answer that isn't as it should be."""
+        self.count += 1
+        if found != wanted:
+            self.faults.append(f"{what}: {shortened(found)}, wanted {shortened(wanted)}")
+
+
+def shortened(answer):
+    """Returns an answer with the front of long texts."""
+    return tuple(it[:60] if isinstance(it, bytes) else it for it in answer)
+
+
+def check_writes(program):
+    """An output with room for n bytes has the first n, and the fault says so."""
+    for words, text in (("check --kind radio", CHECKED), ("convert --kind radio --to json", TO_JSON)):
+        for room in range(len(text)):
+            with tempfile.TemporaryFile() as output:
+                limit = lambda: resource.setrlimit(resource.RLIMIT_FSIZE, (room, room))
+                # Python ignores the signal of a file that is too large, and so does the program then
+                how = {"stdout": output, "preexec_fn": limit, "restore_signals": False}
+                status, _, faults = program.call(words, TWO, **how)
+                output.seek(0)
+                wanted = (3, text[:room], b"etcs: write fault after %d bytes\n" % room)
+                program.check(f"{words}, room for {room} bytes", (status, output.read(), faults), wanted)
+
+
+def check_full(program):
+    """What can't be written changes the status of a run, and not that of help or of wrong words."""
+    with open("/dev/full", "wb") as full:
+        for words, status in (("help", 0), ("--version", 0), ("show --help", 0), ("check --kind radio", 3)):
+            program.check(f"{words} > /dev/full", program.call(words, TWO, stdout=full)[0:1], (status,))
+        for words, status in (("", 2), ("show", 2), ("show --kind short", 1)):
+            program.check(f"{words} 2> /dev/full", program.call(words, b"x", stderr=full)[0:1], (status,))
+
+
+def check_reads(program):
+    """An input that can't be read is a fault of reading."""
+    folder = os.open("/", os.O_RDONLY)
+    for words in ("show --kind short", "group --kind long --from bin", "log --kind radio", "explain --kind train"):
+        program.check(f"{words} < /", program.call(words, stdin=folder), (3, b"", b"etcs: read fault\n"))
+    os.close(folder)
+
+
+def check_millions(program):
+    """A million items are read, and one more isn't: the numbers of the lines have 9 + 180 + .. + 7 digits."""
+    written = 17 * 1_000_000 + 9 + 180 + 2_700 + 36_000 + 450_000 + 5_400_000 + 7
+    runs = [(form, item, then, WELL) for form, item, good, _ in MILLIONS for then in good]
+    runs += [(form, item, then, ENDLESS) for form, item, _, bad in MILLIONS for then in bad]
+
+    def run(form, item, then, wanted):
+        status, output, faults = program.call(f"check --kind radio --from {form}", item * 1_000_000 + then)
+        found = (status, faults, len(output), output.count(b"\n"))
+        program.check(f"a million items from {form}, then {then[:20]}", found, (*wanted, written, 1_000_000))
+
+    with ThreadPoolExecutor(os.cpu_count()) as pool:
+        list(pool.map(lambda it: run(*it), runs))
+
+
+def check_json(program, text, line, items, is_read):
+    """Checks that all lines of a text are items, or that this line is the first that is none."""
+    status, output, faults = program.call("check --kind radio --from json", text)
+    good = items if is_read else line - 1
+    wanted = b"".join(b"item %d ok 24 bits\n" % (n + 1) for n in range(good))
+    fault = b"" if is_read else b"etcs: line %d: bad JSON\n" % line
+    # (why it is bad comes before the line of the fault)
+    program.check(f"{text[-60:]}, {len(text)} bytes", (status, output, faults.split(b"\n")[-2:]), (int(not is_read), wanted, fault.split(b"\n")[-2:]))
+
+
+def check_lines(program):
+    """Lines of JSON by their length, alone and after another, and lines that are no items between two good ones."""
+    for count, end, is_read in LONG_LINES:
+        line = KEPT.rjust(count) + end
+        check_json(program, line, 1, 1, is_read)
+        check_json(program, KEPT + b"\n" + line, 2, 2, is_read)
+    for line in NO_ITEMS:
+        check_between(program, line, False)
+
+
+def check_between(program, line, is_read):
+    """Checks a line between two good ones."""
+    check_json(program, b"\n".join((KEPT, line, KEPT)), 2, 3, is_read)
+
+
+def check_bytes(program):
+    """Bytes in a text and around an item, and lists in one another in a member that another of its name replaces."""
+    replaced = b',"data":"111111","kind":"radio","nid":15}'
+    for it in (*IN_TEXTS, *NOT_IN_TEXTS):
+        check_between(program, b'{"data":"' + it + b'"' + replaced, it in IN_TEXTS)
+    for it in (*AROUND, *NOT_AROUND):
+        check_between(program, it + KEPT, it in AROUND)
+        check_between(program, KEPT + it, it in AROUND)
+    for depth in (1, 126, 127, 128, 100_000):
+        check_between(program, b'{"data":' + b"[" * depth + b"]" * depth + replaced, depth < 127)
+
+
+def check_endless_line(program):
+    """A line of JSON that doesn't end is refused before twice as many bytes are read as a line may have."""
+    words = [program.path, "check", "--kind", "radio", "--from", "json"]
+    with subprocess.Popen(words, stdin=subprocess.PIPE, stdout=subprocess.PIPE, stderr=subprocess.PIPE, bufsize=0) as run:
+        guard = threading.Timer(LIMIT, run.kill)
+        guard.start()
+        given = 0
+        try:
+            while given < 16 * MOST:
+                given += run.stdin.write(b" " * 4096)
+        except BrokenPipeError:
+            pass
+        found = (run.stdout.read(), run.stderr.read().split(b"\n")[-2], run.wait(), given < 2 * MOST)
+        guard.cancel()
+    program.check("a line without end", found, (b"", b"etcs: line 1: bad JSON", 1, True))
+
+
+def check_addresses(program):
+    """With ever more addresses the program can't be loaded, then says that memory was refused, then answers."""
+    for words, given, answer in (("show --kind short", b"", 0), ("help", b"", 0), ("show", b"", 2)):
+        seen = []
+        for kilobytes in range(2048, 40960, 64):
+            limit = lambda: resource.setrlimit(resource.RLIMIT_AS, (1024 * kilobytes, 1024 * kilobytes))
+            status, _, faults = program.call(words, given, preexec_fn=limit)
+            state = "refused" if (status, faults) == (3, b"etcs: out of memory\n") else "answered" if status == answer else "not loaded"
+            seen += [] if seen[-1:] == [state] else [state]
+            if state == "answered":
+                break
+        program.check(f"{words} with few addresses", tuple(seen[-2:]), ("refused", "answered"))
+
+
+CHECKS = (check_millions, check_writes, check_full, check_reads, check_lines, check_bytes, check_endless_line, check_addresses)
+
+
+def main(words):
+    if len(words) != 1 or words[0].startswith("-"):
+        sys.exit(__doc__)
+    program = Program(words[0])
+    with ThreadPoolExecutor(os.cpu_count()) as pool:
+        list(pool.map(lambda check: check(program), CHECKS))
+    print("\n".join(program.faults) or "all streams are as they should be")
+    print(f"{program.count} answers, {len(program.faults)} wrong")
+    return 1 if program.faults else 0
+
+
+if __name__ == "__main__":
+    sys.exit(main(sys.argv[1:]))

@@ -1,9 +1,8 @@
 //! Reads a log of short telegrams, one a line in hexadecimal digits: says of each line that is none why, and at the end how
 //! many telegrams, bad lines and links to other groups there were.
-#![tactic(auto)]
 
 use etcs_codec::prelude::*;
-use std::io::{BufRead, BufReader};
+use std::io::BufRead;
 
 /// What was seen so far.
 #[derive(Default, Drop)]
@@ -25,10 +24,10 @@ impl Counts {
     }
 }
 
-fn main(rt: HostRuntime) -> anyhow::Result<()> {
+pub fn run(rt: HostRuntime, input: impl BufRead + Drop) -> anyhow::Result<()> {
     let mut counts = Counts::default();
     let mut number: u64 = 0;
-    for line in BufReader::new(rt.alloc(), rt.reader())?.lines(rt.alloc()) {
+    for line in input.lines(rt.alloc()) {
         let line = line?;
         number = number.saturating_add(1);
         let mut bytes = [0; 27];

@@ -1,6 +1,5 @@
 //! Simulates two balises and a radio block centre: builds their telegrams and a message, sends them byte by byte, puts the
 //! group of balises together, and shows what was received.
-#![tactic(auto)]
 
 use etcs_codec::prelude::*;
 use std::alloc::Global;
@@ -74,7 +73,7 @@ fn receive_message(alloc: Global, bytes: &[u8]) -> Result<Option<Message>, ReadF
     Ok(None)
 }
 
-fn main(rt: HostRuntime) -> anyhow::Result<()> {
+pub fn run(rt: HostRuntime) -> anyhow::Result<()> {
     let alloc = rt.alloc();
     let mut text = Vec::new(alloc);
     let group = receive_group(alloc)?;

@@ -1,10 +1,9 @@
 //! Programs a balise: reads a short telegram in hexadecimal digits, limits the speed of its temporary restrictions to
 //! 40 km/h, and writes it in the same form.
-#![tactic(auto)]
 
 use etcs_codec::prelude::*;
 use std::alloc::Global;
-use std::io::Write;
+use std::io::{BufRead, Write};
 
 /// 40 km/h, in steps of 5.
 const LIMIT: u64 = 8;
@@ -47,10 +46,10 @@ fn read(alloc: Global, line: &str) -> anyhow::Result<Option<Telegram>> {
     Ok(reader.take().ok())
 }
 
-fn main(rt: HostRuntime) -> anyhow::Result<()> {
+pub fn run(rt: HostRuntime, input: impl BufRead + Drop) -> anyhow::Result<()> {
     let alloc = rt.alloc();
     let mut digits = Vec::new(alloc);
-    for line in rt.lines(alloc) {
+    for line in input.lines(alloc) {
         if let Some(telegram) = read(alloc, line?.as_str())? {
             hex_line(&Entry::Telegram(edited(alloc, telegram)?), &mut digits)?;
         }

@@ -15,7 +15,7 @@ import textwrap
 
 sys.dont_write_bytecode = True
 import sources
-from sources import FRAMES, MOST_LENGTH, TESTS, TOP, Many, One, messages, packets, variable, variables
+from sources import FRAMES, MOST_LENGTH, TESTS, TOP, Many, One, crates_below, messages, packets, variable, variables
 
 KEPT = "\u00a0"  # a blank at which no line is broken
 DOCUMENTS = ["docs/FORMAT.md", "docs/COVERAGE.md", "docs/USING.md"]
@@ -199,24 +199,6 @@ def coverage_of_messages(way):
 
 
 # ---- Crates.
-
-
-def crates():
-    """Returns the crates of crates.txt with those that each names."""
-    lines = (it.split("#")[0].strip() for it in open(f"{TOP}/crates.txt", encoding="utf-8"))
-    return {it.partition(":")[0]: it.partition(":")[2].split() for it in lines if it}
-
-
-def crates_below(names):
-    """Returns the crates of this repository that these names need, in the order of crates.txt, and those of the kit."""
-    every, needed = crates(), set()
-    waiting = list(names)
-    while waiting:
-        name = waiting.pop()
-        if name not in needed:
-            needed.add(name)
-            waiting += every.get(name, [])
-    return [it for it in every if it in needed], sorted(needed - set(every))
 
 
 def table_of_crates():

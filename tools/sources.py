@@ -1,4 +1,4 @@
-"""What the sources say of variables, packets and messages, as values for the tools that make parts of documents."""
+"""What the sources say of variables, packets, messages and crates, as values for other tools."""
 
 import os
 import re
@@ -246,6 +246,30 @@ def messages(way):
             raise LookupError(f"message {nid}: its row hasn't {bits} bits")
         found[nid] = Message(nid, body_variant(way, nid), row, int(bits), spans)
     return dict(sorted(found.items()))
+
+
+# ---- Crates.
+
+
+def crates():
+    """Returns the crates of crates.txt with those that each names."""
+    lines = (it.split("#")[0].partition(":") for it in open(f"{TOP}/crates.txt", encoding="utf-8"))
+    return {head.split()[0]: uses.split() for head, _, uses in lines if head.strip()}
+
+
+def crates_below(names):
+    """Returns the crates of this repository that these names need, in the order of crates.txt, and those of the kit."""
+    every, needed = crates(), set()
+    waiting = list(names)
+    while waiting:
+        name = waiting.pop()
+        if name not in needed:
+            needed.add(name)
+            waiting += every.get(name, [])
+    return [it for it in every if it in needed], sorted(needed - set(every))
+
+
+# ---- The vectors.
 
 
 def check_with_vectors():

@@ -1,20 +1,22 @@
 #!/usr/bin/env python3
 """Runs a program over the vectors that a command line can answer.
 
-    tools/vectors.py [--kinds KIND,KIND] [--seconds N] PROGRAM [WORD ..]
+    tools/vectors.py [--kinds KIND,KIND] [--seconds N] [--jobs N] PROGRAM [WORD ..]
 
 PROGRAM is `etcs`, or another codec with its command line; the WORDs go before those of each vector, as
 in `tools/vectors.py python3 my_wrapper.py`. The vectors are those of crates/etcs_vectors/stdin, and
 docs/VECTORS.md has their form. Kinds that speak of the library's calls alone are passed over. Each
 vector that isn't answered as expected is written with what was answered, and at the end how many there
-were of each kind. A call has N seconds, 60 where nothing is said. The status is 0 where none differs, 1
-where one does, and 2 where the words here are wrong or the program can't be run.
+were of each kind. A call has N seconds, 60 where nothing is said, and N jobs make calls side by side, one
+for each core where nothing is said. The status is 0 where none differs, 1 where one does, and 2 where
+the words here are wrong or the program can't be run.
 """
 
 import os
 import re
 import subprocess
 import sys
+from concurrent.futures import ThreadPoolExecutor
 
 REFUSED = re.compile(rb"etcs: item 1 refused at bit (\d+), (.+)\n")
 TRUNCATED = re.compile(rb"etcs: item 1 truncated after (\d+) bits\n")
@@ -216,23 +218,26 @@ ANSWERS = {
 }
 
 
-def check(program, kinds, text):
+def answer(program, vector):
+    """Returns what the program answers to a vector; nothing where no command line can answer it."""
+    _, kind, words, _ = vector
+    try:
+        return ANSWERS[kind](program, kind, words)
+    except subprocess.TimeoutExpired:
+        return b"no answer in time"
+
+
+def check(program, vectors, kinds, jobs):
     """Writes each vector that differs, and the counts: whether none differs."""
     counts = dict.fromkeys(kinds, 0)
     wrong = 0
-    for line, kind, words, expected in vectors_of(text):
-        if kind not in kinds:
-            continue
-        try:
-            found = ANSWERS[kind](program, kind, words)
-        except subprocess.TimeoutExpired:
-            found = b"no answer in time"
-        if found is None:
-            continue
-        counts[kind] += 1
-        if found != expected.encode():
-            wrong += 1
-            print(f"line {line}: {kind} {words} =\n{found.decode(errors='replace')}")
+    with ThreadPoolExecutor(jobs) as pool:
+        answers = pool.map(lambda it: answer(program, it), vectors)
+        for (line, kind, words, expected), found in zip(vectors, answers):
+            counts[kind] += found is not None
+            if found not in (None, expected.encode()):
+                wrong += 1
+                print(f"line {line}: {kind} {words} =\n{found.decode(errors='replace')}")
     for kind, count in counts.items():
         print(f"{kind} {count}")
     print(f"{sum(counts.values())} vectors, {wrong} wrong")
@@ -240,24 +245,23 @@ def check(program, kinds, text):
 
 
 def main(words):
-    kinds, seconds = list(ANSWERS), 60
-    while len(words) > 1 and words[0] in ("--kinds", "--seconds"):
-        if words[0] == "--kinds":
-            kinds = words[1].split(",")
-        else:
-            seconds = int(words[1])
+    options = {"--kinds": ",".join(ANSWERS), "--seconds": "60", "--jobs": str(os.cpu_count())}
+    while len(words) > 1 and words[0] in options:
+        options[words[0]] = words[1]
         words = words[2:]
+    kinds = options["--kinds"].split(",")
     if missing := {*kinds} - {*ANSWERS}:
         print(f"no command line answers: {' '.join(sorted(missing))}", file=sys.stderr)
         return 2
-    if not words or words[0].startswith("-"):
+    seconds, jobs = (int(options[it]) if options[it].isdecimal() else 0 for it in ("--seconds", "--jobs"))
+    if not words or words[0].startswith("-") or not seconds or not jobs:
         print(__doc__, file=sys.stderr)
         return 2
     top = os.path.dirname(os.path.dirname(os.path.realpath(__file__)))
     with open(f"{top}/crates/etcs_vectors/stdin", encoding="utf-8", newline="") as sheet:
-        text = sheet.read()
+        vectors = [it for it in vectors_of(sheet.read()) if it[1] in kinds]
     try:
-        return 0 if check(Program(words, seconds), kinds, text) else 1
+        return 0 if check(Program(words, seconds), vectors, kinds, jobs) else 1
     except OSError as error:
         print(f"{words[0]}: {error.strerror}", file=sys.stderr)
         return 2

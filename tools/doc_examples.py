@@ -8,6 +8,7 @@ PROGRAM is the built `etcs`. The documents are README.md, examples/README.md and
 - Each block ```console is run by bash in a folder for its document, in which `./etcs` is PROGRAM and `examples` is the
   repository's folder. After each command, a line that begins with `$ ` with those that begin with `> `, comes all that it
   writes, standard error too. A line `..` stands for any number of lines, and `..` at a line's end for any rest of it.
+  What a block writes isn't compared where a tool that it needs isn't installed: a line `skipped: ..` says so.
 - After `<!-- lines: PATH .. -->` each line of the block, but for comments and empty ones, is a line of one of these files.
   `{ .. }` at its end stands for a block of any length.
 - Each row of examples/README.md is run, a file with its kind or its command: the status, and the line `etcs: ..` or none,
@@ -25,6 +26,7 @@ differs.
 import glob
 import os
 import re
+import shutil
 import subprocess
 import sys
 import tempfile
@@ -40,6 +42,8 @@ MARKED = re.compile(r"(<!-- (bits|file): ([^\n]*?) -->\n```\w*\n)(.*?)(^```\n)",
 LINES = re.compile(r"<!-- lines: ([^\n]*?) -->\n```\w*\n(.*?)^```\n", re.S | re.M)
 CONSOLE = re.compile(r"^```console\n(.*?)\n```$", re.S | re.M)
 END = "-- the end of a command --"
+TOOLS = ("cc", "jq", "parallel", "python3", "xxd")  # what commands need that not every machine has
+
 
 def widths():
     """Returns the widths of the variables by their printed names."""
@@ -210,16 +214,36 @@ def agrees(lines, wanted):
     return same and agrees(lines[1:], rest)
 
 
+def tools_missing(block):
+    """Returns the tools that commands of a block need and that aren't installed."""
+    words = {word for command, _ in commands(block) for word in re.findall(r"[\w-]+", command)}
+    return [it for it in TOOLS if it in words and not shutil.which(it)]
+
+
+def skipped(text, path):
+    """Yields a line for each console block of a document that isn't compared."""
+    for found in CONSOLE.finditer(text):
+        if missing := tools_missing(found[1]):
+            yield f"skipped: {path}:{line_of(text, found)} needs {', '.join(missing)}"
+
+
+def line_of(text, found):
+    """Returns the line of a document at which a block's first command is."""
+    return text.count("\n", 0, found.start()) + 2
+
+
 def differences(text, path, program):
     """Yields what is wrong with the console blocks of a document."""
     with tempfile.TemporaryDirectory(prefix="etcs-examples-") as folder:
         os.symlink(os.path.realpath(program), f"{folder}/etcs")
         os.symlink(f"{TOP}/examples", f"{folder}/examples")
         for found in CONSOLE.finditer(text):
-            line = text.count("\n", 0, found.start()) + 2
-            for (command, wanted), output in zip(commands(found[1]), written(found[1], folder)):
+            outputs = written(found[1], folder)
+            if tools_missing(found[1]):
+                continue
+            for (command, wanted), output in zip(commands(found[1]), outputs):
                 if not agrees(output.removesuffix("\n").split("\n") if output else [], wanted):
-                    yield f"{path}:{line}: $ {command}\n{output}"
+                    yield f"{path}:{line_of(text, found)}: $ {command}\n{output}"
 
 
 def line_differences(text, path):
@@ -259,6 +283,7 @@ def main(words):
             faults.append(f"{path}: a block has parted from its source: run tools/doc_examples.py")
         elif new != old:
             open(f"{TOP}/{path}", "w", encoding="utf-8").write(new)
+        sys.stdout.writelines(f"{it}\n" for it in skipped(new, path))
         faults += [*differences(new, path, program), *line_differences(new, path)]
         if path == "examples/README.md":
             faults += row_differences(new, path, os.path.realpath(program))

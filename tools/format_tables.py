@@ -248,15 +248,17 @@ def main(words):
     if words not in ([], ["--check"]):
         sys.exit(__doc__)
     sources.check_with_vectors()
-    parted = False
+    parted, count = False, 0
     for path in DOCUMENTS:
         old = open(f"{TOP}/{path}", encoding="utf-8").read()
+        count += len(PART.findall(old))
         new = PART.sub(lambda it: it[1] + "\n".join(PARTS[it[2]]()) + "\n" + it[4], old)
         if new != old and words:
             print(f"{path} has parted from the sources: run tools/format_tables.py", file=sys.stderr)
             parted = True
         elif new != old:
             open(f"{TOP}/{path}", "w", encoding="utf-8").write(new)
+    print(f"{count} tables in {len(DOCUMENTS)} documents" + ("" if parted else ", no difference"))
     return 1 if parted else 0
 
 

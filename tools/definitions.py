@@ -366,7 +366,7 @@ def write_page(check):
     elif new != old:
         open(PAGE, "w", encoding="utf-8").write(new)
     sys.stderr.writelines(f"{it}\n" for it in faults)
-    print(f"{len(found)} definitions and {len(PART.findall(old))} parts of docs/READ-TO-BELIEVE.md, {len(faults)} differences")
+    print(f"{len(found)} definitions and {len(PART.findall(old))} parts of docs/READ-TO-BELIEVE.md" + ("" if faults else ", no difference"))
     return 1 if faults else 0
 
 

@@ -1,0 +1,264 @@
+#!/usr/bin/env python3
+"""Tests all that can be tested without a proof.
+
+    tools/test.py RT [PART ..]
+
+RT is the path of `rt`. What the parts ask is built first, without a proof, where it isn't there or a source changed
+(tools/unproved.py): in about a minute and a half on 4 cores. Then the parts run side by side, all of them or those named:
+
+    vectors      every vector, by `etcs_vectors`, and how many there are of each kind
+    commands     the vectors that a command line can answer, by `etcs` (tools/vectors.py)
+    documents    the commands and the quoted files of all documents (tools/doc_examples.py)
+    script       the script `etcs` (tools/script_test.py)
+    streams      streams that fail or have no end (tools/stream_test.py)
+    chance       inputs by chance, for 10 seconds (tools/fuzz.py)
+    tests        the tests of the crates whose names end with `_tests`
+    definitions  docs/READ-TO-BELIEVE.md against the definitions (tools/definitions.py)
+    tables       the tables of documents against the sources (tools/format_tables.py)
+    help         the texts of help against the vectors (tools/help_texts.py)
+
+Where `./etcs build` has built the program and no source is newer, the parts that ask `etcs` ask the proved program too. A line
+says of each part whether it passed, which program it asked, and what it counted; after a part that failed is what it wrote. What
+needs a tool that isn't installed is skipped. The last line is `N passed, N failed`, with `, N skipped` where something was.
+
+The status is 0 where all passed, 1 where a part failed or the sources are refused, and 70 where nothing could be tested.
+"""
+
+import os
+import re
+import resource
+import subprocess
+import sys
+import tempfile
+import time
+from collections import Counter, namedtuple
+from concurrent.futures import ThreadPoolExecutor, as_completed
+
+sys.dont_write_bytecode = True
+import unproved
+from build import say
+from sources import TOP, crates, crates_below
+from unproved import PROGRAM, REFUSED, UNBUILT, NotBuilt, folder_of, kit_of, tests_of, title_of
+
+PASSED, FAILED, SKIPPED = "passed", "FAILED", "skipped"
+LIMIT = 600  # seconds for a part
+LINES = 40  # that are written of a part that failed
+BUILD_MEMORY = 2_000_000_000  # that the front end takes
+FREE_SPACE = 16_000_000  # that temporary files of the parts take at most
+PROGRAM_SCRIPTS = {
+    "commands": ["vectors.py"],
+    "documents": ["doc_examples.py", "--check"],
+    "script": ["script_test.py"],
+    "streams": ["stream_test.py"],
+    "chance": ["fuzz.py", "--seconds", "10"],
+}
+SCRIPTS = {
+    "definitions": ["definitions.py", "--page", "--check"],
+    "tables": ["format_tables.py", "--check"],
+    "help": ["help_texts.py", "--check"],
+}
+ASKED = {**PROGRAM_SCRIPTS, **SCRIPTS}
+PARTS = ["vectors", "tests", *(it for it in ASKED if os.path.exists(f"{TOP}/tools/{ASKED[it][0]}"))]
+
+# Something that is run: what its line says, the target that has to be built before it, and a call that answers whether it
+# passed, and what it wrote.
+Job = namedtuple("Job", "label target call")
+
+
+# ---- The parts.
+
+
+def script(name, *words):
+    """Runs a script of tools/."""
+    status, said = unproved.run([sys.executable, f"{TOP}/tools/{name}", *words], LIMIT, cwd=TOP)
+    return status == 0, said
+
+
+def shares_of(text, count):
+    """Returns vectors in shares. The lines of other shares are empty in each, so that its lines keep their numbers."""
+    shares, at = [[] for _ in range(count)], 0
+    for line in text.split("\n"):
+        at += not line.startswith(" ")
+        for number, share in enumerate(shares):
+            share.append(line if at % count == number else "")
+    return ["\n".join(it) for it in shares]
+
+
+def counts_of(said):
+    """Returns a report of vectors in two: what is wrong, and how many there are of each kind."""
+    found = re.search(r"((?:\w+ \d+\n)*)\d+ vectors, \d+ wrong\n*\Z", said)
+    if not found:
+        return said, {}
+    return said[: found.start()], {it.split()[0]: int(it.split()[1]) for it in found[1].splitlines()}
+
+
+def vectors(program):
+    """Runs all vectors, a share on each core, and compares how many there are of each kind with what the gate wants."""
+    with open(f"{TOP}/crates/etcs_vectors/stdin", encoding="utf-8", newline="") as file:
+        shares = shares_of(file.read(), len(os.sched_getaffinity(0)))
+    with open(f"{TOP}/crates/etcs_vectors/stdout", encoding="utf-8") as file:
+        wanted = Counter(counts_of(file.read())[1])
+    with ThreadPoolExecutor(len(shares)) as pool:
+        ran = list(pool.map(lambda it: unproved.run([program], LIMIT, it.encode()), shares))
+    reports = [counts_of(said) for _, said in ran]
+    found = sum((Counter(counts) for _, counts in reports), Counter())
+    faults = [wrong for wrong, _ in reports if wrong]
+    faults += [f"a share ended with {status}" for status, _ in ran if status not in (0, 1)]
+    faults += [f"{it}: {found[it]} vectors, and crates/etcs_vectors/stdout has {wanted[it]}" for it in (found - wanted) + (wanted - found)]
+    return not faults, "\n".join([*faults, f"{sum(found.values())} vectors"])
+
+
+def crate_tests(rt, target):
+    """Runs the tests of a crate, each in a process of its own."""
+    runner, program = f"{kit_of(rt)}/bin/rattle-test", f"{folder_of(target)}/{target.names[0]}"
+    status, said = unproved.run([runner, "--seconds", "60", program], LIMIT)
+    return status == 0, said
+
+
+def is_proved(program):
+    """Returns whether the program is there, whole, and no source of the crates that it rests on is newer, as the script `etcs` asks."""
+    if not os.access(program, os.X_OK) or os.path.exists(f"{TOP}/crates/etcs/out/building"):
+        return False
+    built = os.stat(program).st_mtime
+    folders = [f"{TOP}/crates/{crate}/{part}" for crate in crates_below(["etcs"])[0] for part in ("src", "specs", "proofs")]
+    paths = (path for folder in folders for at, _, names in os.walk(folder) for path in (at, *(f"{at}/{it}" for it in names)))
+    return all(os.stat(it).st_mtime <= built for it in paths)
+
+
+def jobs_of(rt, part):
+    """Yields what is to be run for a part."""
+    made, proved = folder_of(PROGRAM), f"{TOP}/crates/etcs/out/etcs"
+    if part == "vectors":
+        yield Job("vectors, unproved program", PROGRAM, lambda: vectors(f"{made}/etcs_vectors"))
+    elif part == "tests":
+        for target in (tests_of(it) for it in crates() if it.endswith("_tests")):
+            yield Job(f"{title_of(target)}, unproved", target, lambda target=target: crate_tests(rt, target))
+    elif part in SCRIPTS:
+        yield Job(part, None, lambda: script(*SCRIPTS[part]))
+    else:
+        yield Job(f"{part}, unproved program", PROGRAM, lambda: script(*PROGRAM_SCRIPTS[part], f"{made}/etcs"))
+        if is_proved(proved):
+            yield Job(f"{part}, proved program", None, lambda: script(*PROGRAM_SCRIPTS[part], proved))
+
+
+# ---- The run.
+
+
+class Report:
+    """Writes a line for each part, and counts them."""
+
+    def __init__(self):
+        self.counts = {PASSED: 0, FAILED: 0, SKIPPED: 0}
+
+    def say(self, how, label, what):
+        self.counts[how] += 1
+        print(f"{how}  {label}: {what}", flush=True)
+
+    def say_ended(self, label, is_well, said, seconds):
+        """Says what a part came to, by the last line that it wrote."""
+        lines = said.strip().split("\n")
+        for line in [it for it in lines if it.startswith("skipped: ")]:
+            self.say(SKIPPED, label, line.removeprefix("skipped: "))
+            lines.remove(line)
+        last = lines.pop() if lines and lines[-1] else "no difference" if is_well else "nothing was written"
+        self.say(PASSED if is_well else FAILED, label, f"{last} ({seconds:.0f} s)")
+        if not is_well:
+            more = [f".. and {len(lines) - LINES} lines more"] * (len(lines) > LINES)
+            print(*(f"{it}\n" for it in [*lines[:LINES], *more]), sep="", end="", flush=True)
+
+    def end(self):
+        """Writes the last line, and returns the status."""
+        skipped = f", {self.counts[SKIPPED]} skipped" * (self.counts[SKIPPED] > 0)
+        print(f"{self.counts[PASSED]} passed, {self.counts[FAILED]} failed{skipped}", flush=True)
+        return 1 if self.counts[FAILED] else 0
+
+
+def ended(job, built):
+    """Runs a job once its target is built, and returns whether it passed, what it wrote, and its seconds; none where that isn't built."""
+    if job.target and built[job.target.names[0]].exception():
+        return None
+    begun = time.monotonic()
+    try:
+        is_well, said = job.call()
+    except subprocess.TimeoutExpired:
+        is_well, said = False, f"no end in {LIMIT} s"
+    except OSError as error:
+        is_well, said = False, unproved.reason_of(error)
+    return is_well, said, time.monotonic() - begun
+
+
+def run_all(rt, jobs, report):
+    """Builds what the jobs need and runs them, as many builds side by side as there is memory for."""
+    targets = {it.target.names[0]: it.target for it in jobs if it.target}
+    fits = sys.modules["rtlib"].fits
+    builders = ThreadPoolExecutor(max(it for it in range(1, len(targets) + 2) if it == 1 or fits(*[BUILD_MEMORY] * it)))
+    workers = ThreadPoolExecutor(len(jobs) + 1)
+    try:
+        built = {name: builders.submit(unproved.make, rt, target) for name, target in targets.items()}
+        builds = {built[name]: target for name, target in targets.items()}
+        runs = {workers.submit(ended, job, built): job for job in jobs}
+        for run in as_completed([*builds, *runs]):
+            if run in builds:
+                say_built(run, builds[run], report)
+            elif run.result():
+                report.say_ended(runs[run].label, *run.result())
+            else:
+                report.say(SKIPPED, runs[run].label, "not built")
+    finally:
+        unproved.RUNNING.stop()
+        for pool in (builders, workers):
+            pool.shutdown(cancel_futures=True)
+
+
+def say_built(run, target, report):
+    """Says that the sources of a target are refused; ends where it isn't built for another reason."""
+    try:
+        run.result()
+    except NotBuilt as error:
+        if error.status != REFUSED:
+            raise
+        report.say_ended(f"building {title_of(target)}", False, f"{error.said}\n{error.line}", 0)
+
+
+def check_space():
+    """Stops where there is no room for temporary files."""
+    try:
+        with tempfile.TemporaryFile() as file:
+            file.write(bytes(FREE_SPACE))
+    except OSError as error:
+        raise NotBuilt(UNBUILT, f"no room for temporary files: {unproved.reason_of(error)}") from error
+
+
+def test(rt, parts):
+    """Tests the parts, and returns the status."""
+    report = Report()
+    check_space()
+    unproved.prepare(rt)
+    # a test that fails leaves no core file
+    resource.setrlimit(resource.RLIMIT_CORE, (0, 0))
+    run_all(rt, [it for part in parts for it in jobs_of(rt, part)], report)
+    return report.end()
+
+
+def main(words):
+    if not words or {"-h", "--help"} & {*words}:
+        print(__doc__)
+        return 0 if words else UNBUILT
+    rt, parts = words[0], words[1:] or PARTS
+    try:
+        if unknown := [it for it in parts if it not in PARTS]:
+            raise NotBuilt(UNBUILT, f"there is no part {unknown[0]}: the parts are {', '.join(PARTS)}")
+        if not os.access(rt, os.X_OK):
+            raise NotBuilt(UNBUILT, f"there is no rt at {rt}")
+        return test(rt, parts)
+    except NotBuilt as error:
+        error.report("not tested")
+    except KeyboardInterrupt:
+        say("not tested: interrupted")
+    except OSError as error:
+        say(f"not tested: {unproved.reason_of(error)}")
+    return UNBUILT
+
+
+if __name__ == "__main__":
+    sys.exit(main(sys.argv[1:]))

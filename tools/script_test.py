@@ -3,28 +3,69 @@
 
     tools/script_test.py PROGRAM
 
-PROGRAM is the built `etcs`. In a folder with the script, crates.txt, a file in each crate and a stand-in for `rt`, it
-checks which words are answered without the program and that they are answered as by PROGRAM, which sources make a built
-program old, what is said at a terminal, and the faults of `build` and `install`. The gate doesn't run it: run it where
-the script, crates.txt or a text of the program changes. The status is 1 where something isn't as it should be.
+PROGRAM is the built `etcs`. In a folder whose name has a blank, with the script, doors/install, a file in each crate and
+stand-ins for `rt`, tools/build.py, tools/unproved.py, tools/test.py and doors/build, it checks which words are answered
+without the program and that they are answered as by PROGRAM, which sources make a built program old, both ways of a first
+look, what is said at a terminal, and how `build`, `install` and `test` end, well and badly. The gate doesn't run it: run it
+where the script, doors/install, crates.txt or a text of the program changes. The status is 1 where something isn't as it
+should be.
 """
 
 import os
 import pty
 import shutil
+import signal
 import subprocess
 import sys
 import tempfile
 import time
+from concurrent.futures import ThreadPoolExecutor
 
 TOP = os.path.dirname(os.path.dirname(os.path.realpath(__file__)))
+LIMIT = 100  # seconds for a call, on a machine that is shared
 SOURCES, BUILT, CHANGED = 1_000_000_000, 1_000_000_100, 1_000_000_200
+OUT, MARK, UNPROVED = "crates/etcs/out/etcs", "crates/etcs/out/building", "crates/etcs/out/unproved/etcs"
+# What the script and doors/install call, but for python3.
+TOOLS = (
+    "awk cat cut date dirname find flock git grep head install ln ls mkdir mktemp mv readlink rm sed sh sha256sum sleep sort tail touch tr"
+    " wc xargs"
+).split()
 RT = """#!/bin/sh
 echo tried
 printf 'checked: ended status=0\\nrun=ended status=0 runners=1 proved=no\\n' >&2
 """
+# What the stand-ins begin with: a line of their words in the file `calls`, and the folder as $top or TOP.
+SHELL = """#!/bin/sh
+top=$(dirname "$(dirname "$0")")
+echo "${0##*/} $*" >> "$top/calls"
+"""
+PYTHON = """import os, shutil, sys, time
+TOP = os.path.dirname(os.path.dirname(os.path.realpath(__file__)))
+print(os.path.basename(__file__), *sys.argv[1:], file=open(TOP + "/calls", "a"))
+def make(path):
+    os.makedirs(os.path.dirname(f"{TOP}/{path}"), exist_ok=True)
+    shutil.copy(f"{TOP}/program", f"{TOP}/{path}")
+if "--check" in sys.argv:
+    sys.exit(not os.path.exists(TOP + "/same"))
+"""
+MAKES = f"make({OUT!r})\n"
+WAITS = "open(TOP + '/pid', 'w').write(str(os.getpid()))\n" + MAKES + "while not os.path.exists(TOP + '/go'): time.sleep(0.02)\n"
+LIBRARY = 'mkdir -p "$top/doors/out"; touch "$top/doors/out/libetcs.a" "$top/doors/out/libetcs.so.1"\n'
 COMMANDS = ("show", "check", "convert", "group", "log", "explain")
-SHORT = "A0007F802000FFFFFFFFFFFFFFFFFFFFFFFFFFFFFFFFFFFFFFFFC0\n"
+SHORT = b"A0007F802000FFFFFFFFFFFFFFFFFFFFFFFFFFFFFFFFFFFFFFFFC0\n"
+CHECK = ["check", "--kind", "short"]
+# Words that are wrong at the first word, or at the one after `help`.
+WRONG = (
+    ["shwo"], ["sho", "--kind", "short"], ["h"], ["c"], ["ex"], ["logs", "-h"], ["Show"], ["SHOW"], ["converts"], ["short"], ["42"],
+    [""], ["", "show"], ["show "], [" check"], ["a b", "c"], ["it's"], ['"log"'], ["gro\\up"], ["\\"], ["%s"], ["100%"], ["a\nb"], ["$x"],
+    ["`log`"], ["*"], ["show, etcs show"], ["help show"], ["-"], ["-x"], ["-xh"], ["-v", "show"], ["--kind", "short"], ["--kind=short"],
+    ["--a b"], ["--\\n", "%d"], ["help", "shwo"], ["help", ""], ["help", "-x"], ["help", "--help"], ["help", "shwo", "show"], ["biuld"],
+)  # fmt: skip
+# Words that the program alone answers.
+LEFT = (
+    ["show"], CHECK, ["help", "show", "x"], ["help", "help", "x"], ["é"], ["shwo", "é"], ["--hlep"], ["--kind", "short", "show"],
+    ["--", "show"], ["--"], ["-1"], ["--help", "x"], ["-Vx"], [b"\xff"],
+)  # fmt: skip
 
 
 class Room:
@@ -32,17 +73,39 @@ class Room:
 
     def __init__(self, folder, program):
         self.folder, self.program, self.faults = folder, os.path.realpath(program), []
-        self.out = f"{folder}/crates/etcs/out/etcs"
-        for name in ("etcs", "crates.txt", "crates/etcs_vectors/stdin"):
-            os.makedirs(os.path.dirname(f"{folder}/{name}"), exist_ok=True)
-            shutil.copy(f"{TOP}/{name}", f"{folder}/{name}")
+        for name in ("crates.txt", "docs", "doors", "examples", "tools/similar.awk"):
+            copy = shutil.copytree if os.path.isdir(f"{TOP}/{name}") else self.copy
+            copy(f"{TOP}/{name}", f"{folder}/{name}")
+        shutil.rmtree(f"{folder}/doors/out", ignore_errors=True)
+        self.copy(self.program, f"{folder}/program")
         for line in open(f"{TOP}/crates.txt", encoding="utf-8"):
             if ":" in line and not line.startswith("#"):
                 self.touch(f"crates/{line.split(':')[0].split()[0]}/src/lib.rt", SOURCES)
-        os.makedirs(f"{folder}/bin")
-        with open(f"{folder}/bin/rt", "w", encoding="ascii") as rt:
-            rt.write(RT)
-        os.chmod(f"{folder}/bin/rt", 0o755)
+        # where the kit is, no rt is to be found
+        script = open(f"{TOP}/etcs", encoding="utf-8").read().replace("/opt/rattle/bin", "/nowhere")
+        self.write("etcs", script)
+        for name in TOOLS:
+            os.makedirs(f"{folder}/path", exist_ok=True)
+            os.symlink(shutil.which(name), f"{folder}/path/{name}")
+        for name in ("rt", "cc", "objcopy", "ar", "ld"):
+            self.write(f"bin/{name}", RT)
+        self.write("python/python3", f'#!/bin/sh\nexec "{sys.executable}" "$@"\n')
+        self.write("tools/build.py", PYTHON + MAKES)
+        self.write("tools/unproved.py", PYTHON + f"make({UNPROVED!r})\n")
+        self.write("tools/test.py", PYTHON + "sys.exit(len(sys.argv))\n")
+        self.write("doors/build", SHELL + LIBRARY)
+
+    @staticmethod
+    def copy(source, to):
+        os.makedirs(os.path.dirname(to), exist_ok=True)
+        shutil.copy(source, to)
+
+    def write(self, path, text):
+        """Writes a program."""
+        os.makedirs(os.path.dirname(f"{self.folder}/{path}"), exist_ok=True)
+        with open(f"{self.folder}/{path}", "w", encoding="utf-8") as file:
+            file.write(text)
+        os.chmod(f"{self.folder}/{path}", 0o755)
 
     def touch(self, path, at):
         """Makes a file, and dates it and its folder."""
@@ -54,104 +117,377 @@ class Room:
 
     def build(self):
         """Makes the program newer than all sources."""
-        os.makedirs(os.path.dirname(self.out), exist_ok=True)
-        shutil.copy(self.program, self.out)
-        os.utime(self.out, (BUILT, BUILT))
+        self.copy(self.program, f"{self.folder}/{OUT}")
+        os.utime(f"{self.folder}/{OUT}", (BUILT, BUILT))
 
-    def run(self, words, given=b""):
-        """Returns the status, the output and the faults of the script."""
-        path = f"{self.folder}/bin:{os.environ['PATH']}"
-        done = subprocess.run(
-            [f"{self.folder}/etcs", *words], input=given, capture_output=True, env={**os.environ, "PATH": path}, cwd=self.folder
+    def is_there(self, path):
+        return os.path.lexists(f"{self.folder}/{path}")
+
+    def calls(self):
+        """Returns which stand-ins were called since this was asked last, but for a mere look."""
+        path = f"{self.folder}/calls"
+        lines = [it.split() for it in open(path, encoding="utf-8")] if os.path.exists(path) else []
+        open(path, "w", encoding="utf-8").close()
+        return [it[0] for it in lines if it[-1] != "--check"]
+
+    def start(self, words, given=subprocess.DEVNULL, tools=("bin", "python", "path"), **how):
+        """Starts the script with these folders on the path."""
+        path = ":".join(f"{self.folder}/{it}" for it in tools)
+        pipe = subprocess.PIPE
+        return subprocess.Popen(
+            [f"{self.folder}/etcs", *words], stdin=given, stdout=pipe, stderr=pipe, env={"PATH": path}, cwd=self.folder, **how
         )
+
+    def run(self, words, given=b"", **how):
+        """Returns the status, the output and the faults of the script."""
+        started = self.start(words, subprocess.PIPE, **how)
+        return (started.communicate(given, timeout=LIMIT), started.returncode)[::-1]
+
+    def answer(self, words, given=b"", **how):
+        status, (output, faults) = self.run(words, given, **how)
+        return status, output, faults
+
+    def answer_of_program(self, words, given=b""):
+        done = subprocess.run([self.program, *words], input=given, capture_output=True)
         return done.returncode, done.stdout, done.stderr
 
     def check(self, holds, what):
         if not holds:
             self.faults.append(what)
 
+    def check_end(self, words, status, line, **how):
+        """The script ends with this status, no output and this line."""
+        answer = self.answer(words, **how)
+        lines = answer[2].decode().splitlines() or [""]
+        self.check(answer[:2] == (status, b"") and lines[-1] == f"etcs: {line}", f"{words}: {answer[0]} {answer[2].decode()}")
+
+
+def without_own(text, script):
+    """Returns a text without the lines that the script adds to the program's help; nothing where they aren't there."""
+    text, *own = text.decode().rsplit("\n\n", 1)
+    names = [it.removeprefix(f"{script} ").split()[0] for it in own[0].splitlines()] if own else []
+    return f"{text}\n".encode() if names == ["build", "install", "test"] else b""
+
 
 def check_help(room):
-    """Words that ask for help, the version or nothing are the program's without it; others aren't answered from the texts."""
-    asked = [[], ["-h"], ["--help"], ["help"], ["-V"], ["--version"], ["help", "help"]]
+    """Words that ask for help, the version or nothing are the program's, and where they ask for all commands three lines more."""
+    asked = [["-V"], ["--version"], ["help", "help"], ["help", "-h"]]
     for command in COMMANDS:
         asked += [[command, "-h"], [command, "--help"], ["help", command]]
-    for words in asked:
-        begun = time.monotonic()
-        answer = room.run(words)
-        room.check(time.monotonic() - begun < 0.5, f"{words}: slow")
-        done = subprocess.run([room.program, *words], input=b"", capture_output=True)
-        room.check(answer == (done.returncode, done.stdout, done.stderr), f"{words}: not as the program")
-    for words in (["help show"], ["show, etcs show"], [""], ["show"], ["check", "--kind", "short"], ["help", "shwo"]):
-        status, output, faults = room.run(words)
-        room.check((status, output) == (0, b"tried\n") and b"a first look" in faults, f"{words}: no first look")
+    for is_built in (False, True):
+        for words in asked:
+            answer = room.answer(words, tools=["path"])
+            room.check(answer == room.answer_of_program(words), f"{words}: not as the program")
+        for words in ([], ["-h"], ["--help"], ["help"]):
+            status, output, faults = room.answer(words, tools=["path"])
+            answer = [status, *(without_own(it, f"{room.folder}/etcs") if it else it for it in (output, faults))]
+            room.check(answer == [*room.answer_of_program(words)], f"{words}: not as the program")
+        for word in ("build", "install", "test"):
+            for words in ([word, "-h"], [word, "--help"], ["help", word]):
+                status, output, faults = room.answer(words, tools=["path"])
+                usage = f"Usage: {room.folder}/etcs {word}".encode()
+                room.check((status, faults) == (0, b"") and output.startswith(usage), f"{words}: no usage")
+        room.build()
+
+
+def check_words(room):
+    """Words that are wrong at the first are answered as by the program, without it; what isn't sure is left to it."""
+    for words in WRONG:
+        answer = room.answer(words, tools=["path"])
+        room.check(answer == room.answer_of_program(words), f"{words}: not as the program: {answer}")
+    for words in LEFT:
+        status, output, faults = room.answer(words, tools=["path"])
+        room.check((status, output) == (71, b"") and b"no first look: rt is" in faults, f"{words}: not left to the program")
 
 
 def check_age(room):
     """A source of a crate that the program rests on makes it old, and nothing else does."""
-    words, answer = ["check", "--kind", "short"], (0, b"item 1 ok 210 bits\n", b"")
+    answer = (0, b"item 1 ok 210 bits\n", b"")
+    room.write("tools/unproved.py", PYTHON + "sys.exit(70)\n")
     room.build()
     for path in ("crates.txt", "crates/etcs_vectors/src/main.rt", "crates/etcs_codec/src/lib.rt", "crates/mine/src/main.rt"):
         room.touch(path, CHANGED)
-        room.check(room.run(words, SHORT.encode()) == answer, f"{path}: not the built program")
+        room.check(room.answer(CHECK, SHORT) == answer, f"{path}: not the built program")
     for crate in ("etcs", "etcs_cli", "etcs_bits", "etcs_log", "etcs_trees"):
         for path in ("src/lib.rt", "specs/Lib.antt", "proofs/Deep/In/It.antt"):
             room.touch(f"crates/{crate}/{path}", CHANGED)
-            room.check(room.run(words)[1] == b"tried\n", f"{crate}/{path}: still the built program")
+            room.check(room.answer(CHECK)[1] == b"tried\n", f"{crate}/{path}: still the built program")
             room.touch(f"crates/{crate}/{path}", SOURCES)
         for part in ("src", "specs", "proofs", "proofs/Deep"):
             os.utime(f"{room.folder}/crates/{crate}/{part}", (SOURCES, SOURCES))
-        room.check(room.run(words, SHORT.encode()) == answer, f"{crate}: not the built program again")
-    room.check(room.run(["build"]) == (0, b"", b"etcs: built already: no source is newer\n"), "build of what is built")
+        room.check(room.answer(CHECK, SHORT) == answer, f"{crate}: not the built program again")
+    room.check(room.answer(["build"]) == (0, b"", b"etcs: built already: no source is newer\n"), "build of what is built")
+
+
+def check_look(room):
+    """A first look builds the unproved program once, and again where a source is newer; it says so, and answers as the program."""
+    for words, given in ((CHECK, SHORT), (CHECK, b"A0"), (["show"], b""), (["--hlep"], b"")):
+        status, output, faults = room.answer_of_program(words, given)
+        for lines in (2, 1):
+            answer = room.answer(words, given)
+            said = answer[2].splitlines(keepends=True)
+            room.check(answer[:2] == (status, output) and b"".join(said[lines:]) == faults, f"{words}: {answer}")
+            announced = b"".join(said[:lines])
+            room.check(b"unproved" in announced and b"build proves" in announced, f"{words}: not said: {said}")
+            room.check(room.calls() == ["unproved.py"] * (lines - 1), f"{words}: built at the wrong time")
+        room.check(not room.is_there(OUT), "the unproved program is taken for the proved one")
+        room.touch("crates/etcs_cli/src/lib.rt", time.time() + 60)
+        room.check(room.answer(words, given)[1] == output and room.calls() == ["unproved.py"], f"{words}: not built anew")
+        room.touch("crates/etcs_cli/src/lib.rt", SOURCES)
+        room.check(room.answer(words, given, tools=["path"])[1] == output, f"{words}: not run where there is no rt")
+        os.remove(f"{room.folder}/{UNPROVED}")
+        room.calls()
+
+
+def check_same(room):
+    """Where a source is newer and all the same, as tools/unproved.py finds, the unproved program is run at once, and later without it."""
+    room.touch("crates/etcs/src/lib.rt", time.time() - 10)
+    room.copy(room.program, f"{room.folder}/{UNPROVED}")
+    os.utime(f"{room.folder}/{UNPROVED}", (1, 1))
+    room.touch("same", BUILT)
+    for tools in (("bin", "python", "path"), ("path",)):
+        answer = room.answer(CHECK, SHORT, tools=tools)
+        room.check(answer[:2] == (0, b"item 1 ok 210 bits\n") and answer[2].startswith(b"etcs: unproved: "), f"same sources: {answer}")
+
+
+def check_try(room):
+    """Where no unproved program can be built, `rt try` answers; where the sources are refused nothing does."""
+    tried = (0, b"tried\n")
+    room.check(room.answer(CHECK, tools=("bin", "path"))[:2] == tried, "no python3: no first look")
+    room.write("tools/unproved.py", PYTHON + "sys.exit(70)\n")
+    answer = room.answer(CHECK)
+    room.check(answer[:2] == tried and b"rt tries" in answer[2], f"nothing unproved can be built: {answer}")
+    room.write("tools/unproved.py", PYTHON + "sys.exit(1)\n")
+    room.check_end(CHECK, 71, "first look: no answer, as the lines above say")
+    room.calls()
+    room.write("tools/unproved.py", PYTHON + "time.sleep(60)\n")
+    started = room.start(CHECK)
+    wait_for(lambda: room.calls())
+    started.send_signal(signal.SIGTERM)
+    _, faults = started.communicate(timeout=LIMIT)
+    room.check(started.returncode == 71 and faults.endswith(b"etcs: first look: it was ended\n"), f"ended: {faults}")
 
 
 def check_terminal(room):
-    """At a terminal the words that wait for input say so, and no others."""
-    room.build()
-    for words, waits in (
-        (["check", "--kind", "short"], True),
-        (["log", "--kind", "radio", "--good"], True),
-        (["check"], False),
-        (["check", "--kind", "shrt"], False),
-        (["show", "--help"], False),
-        ([], False),
-    ):
-        master, slave = pty.openpty()
-        done = subprocess.Popen([f"{room.folder}/etcs", *words], stdin=slave, stdout=subprocess.PIPE, stderr=subprocess.PIPE)
-        os.close(slave)
-        os.write(master, b"\x04\x04")
-        _, faults = done.communicate(timeout=20)
-        os.close(master)
-        room.check((b"which Ctrl-D ends" in faults) == waits, f"{words}: at a terminal\n{faults.decode()}")
+    """At a terminal the words that wait for input say so, and no others; of an unproved program too."""
+    for path in (OUT, UNPROVED):
+        room.copy(room.program, f"{room.folder}/{path}")
+        for words, waits in (
+            (CHECK, True),
+            (["log", "--kind", "radio", "--good"], True),
+            (["check"], False),
+            (["check", "--kind", "shrt"], False),
+            (["show", "--help"], False),
+            ([], False),
+        ):
+            master, slave = pty.openpty()
+            started = room.start(words, slave)
+            os.close(slave)
+            os.write(master, b"\x04\x04")
+            _, faults = started.communicate(timeout=LIMIT)
+            os.close(master)
+            room.check((b"which Ctrl-D ends" in faults) == waits, f"{words}: at a terminal\n{faults.decode()}")
+        os.remove(f"{room.folder}/{path}")
 
 
 def check_faults(room):
-    """What stops `build` and `install` has its line and the status 70."""
-    room.build()
-    os.makedirs(f"{room.folder}/full/in")
-    for words, fault in (
-        (["build", "now"], "build takes no further words"),
-        (["install"], "install takes a folder"),
-        (["install", ""], "install takes a folder"),
-        (["install", "a", "b"], "install takes a folder"),
-        (["install", "full"], "not installed: full isn't empty"),
-        (["install", "crates.txt"], "not installed: there can be no folder crates.txt"),
-        (["install", "to"], "not installed: doors/build ended with 127"),
+    """What stops `build`, `install`, `test` and a first look has its line, before anything is announced."""
+    where = '(README.md, "What it needs")'
+    for words, done, status in (
+        (["build"], "not built", 70),
+        (["install", "to"], "not installed", 70),
+        (["test"], "not tested", 70),
+        (CHECK, "no first look", 71),
     ):
-        status, output, faults = room.run(words)
-        lines = faults.decode().splitlines() or [""]
-        room.check((status, output, lines[-1]) == (70, b"", f"etcs: {fault}"), f"{words}: {status} {faults.decode()}")
+        line = f"{done}: rt is neither on PATH nor at /nowhere {where}"
+        answer = room.answer(words, tools=("python", "path"))
+        room.check(answer == (status, b"", f"etcs: {line}\n".encode()), f"{words}: no rt: {answer}")
+        if status == 70:
+            room.check_end(words, 70, f"{done}: there is no python3 on PATH {where}", tools=("bin", "path"))
+    for words, fault in (
+        (["build", "now"], b"build takes no further words"),
+        (["install"], b"install takes a folder"),
+        (["install", ""], b"install takes a folder"),
+        (["install", "-x"], b"install takes a folder"),
+        (["install", "--prefix"], b"install takes a folder"),
+        (["install", "--prefix", "-x"], b"install --prefix takes a folder"),
+        (["install", "a", "b"], b"install takes a folder"),
+    ):
+        status, output, faults = room.answer(words)
+        lines = faults.split(b"\n")
+        room.check((status, output, lines[0]) == (70, b"", b"etcs: " + fault) and b"Usage: " in lines[1], f"{words}: {faults}")
+    room.check(room.answer(["test", "a b", "-c"])[0] == 4, "test: not the words and the status of tools/test.py")
+    room.check(room.calls() == ["test.py"], "something was begun")
+
+
+def wait_for(holds):
+    """Waits until something holds, or the limit is over."""
+    end = time.monotonic() + LIMIT
+    while not holds() and time.monotonic() < end:
+        time.sleep(0.02)
+
+
+def check_build(room):
+    """A build ends with a whole program and says so, or leaves none."""
+    status, _, faults = room.answer(["build"])
+    said = faults.endswith(f"etcs: built: {room.folder}/{OUT}\n".encode())
+    room.check(status == 0 and said and room.is_there(OUT) and not room.is_there(MARK), f"build: {faults}")
+    continues = f"as the lines above say; what is proved is kept, and {room.folder}/etcs build continues there"
+    half = f"open({OUT!r}, 'w').write('half'); os.chmod({OUT!r}, 0o755)\n"
+    for text, fault in (
+        (half + "sys.exit(1)\n", continues),
+        (half + "open('/dev/full', 'w', 1).write('\\n')\n", continues),
+        (MAKES + "time.sleep(0.1); open(f'{TOP}/crates/etcs_bits/src/lib.rt', 'w')\n", "a source changed meanwhile, so build again"),
+    ):
+        room.touch("crates/etcs/src/lib.rt", time.time() + 60)
+        room.write("tools/build.py", PYTHON + text)
+        room.touch("crates/etcs/src/lib.rt", SOURCES)
+        os.utime(f"{room.folder}/{OUT}", (1, 1)) if room.is_there(OUT) else None
+        room.check_end(["build"], 70, f"not built: {fault}")
+        room.check(not room.is_there(OUT) and not room.is_there(MARK), f"a program is left where it is {fault}")
+    room.write("tools/build.py", PYTHON + MAKES)
+    room.touch("crates/etcs_bits/src/lib.rt", SOURCES)
+    os.utime(f"{room.folder}/crates/etcs_bits/src", (SOURCES, SOURCES))
+    room.check_end(["build"], 0, f"built: {room.folder}/{OUT}")
+
+
+def check_ended(room):
+    """A build that is ended, by a signal to it alone or by Ctrl-C, ends what it began and leaves no program; none that comes is taken."""
+    room.write("tools/build.py", PYTHON + WAITS)
+    for number, send in ((signal.SIGTERM, os.kill), (signal.SIGHUP, os.kill), (signal.SIGINT, os.killpg)):
+        started = room.start(["build"], start_new_session=True)
+        wait_for(lambda: room.is_there(OUT))
+        send(started.pid, number)
+        _, faults = started.communicate(timeout=LIMIT)
+        said = b"etcs: not built: it was ended; what is proved is kept" in faults and b"etcs: built" not in faults
+        room.check(started.returncode == 70 and said, f"ended by {number}: {faults}")
+        room.check(not room.is_there(OUT), f"ended by {number}: a program is left")
+        with open(f"{room.folder}/pid", encoding="ascii") as file:
+            room.check(not os.path.exists(f"/proc/{file.read()}"), f"ended by {number}: what it began continues")
+        room.build()
+        room.check(b"unproved" in room.answer(CHECK, SHORT)[2], f"ended by {number}: a program that a build left is taken for whole")
+        os.remove(f"{room.folder}/{OUT}")
+
+
+def check_two(room):
+    """A second build waits for the first, and finds it done."""
+    room.write("tools/build.py", PYTHON + WAITS)
+    first = room.start(["build"])
+    wait_for(lambda: room.is_there(OUT))
+    second = room.start(["build"])
+    said = second.stderr.readline()
+    room.check(said == b"etcs: waiting for another build in this folder to end\n", f"two builds: {said}")
+    room.touch("go", CHANGED)
+    ends = [it.communicate(timeout=LIMIT) and it.returncode for it in (first, second)]
+    room.check(ends == [0, 0] and room.calls() == ["build.py"], "two builds: not one after the other")
+
+
+def check_unwritable(room):
+    """Where a folder can't be written, that is said before anything begins."""
+    os.makedirs(f"{room.folder}/crates/etcs/out")
+    os.makedirs(f"{room.folder}/kept")
+    os.chmod(room.folder, 0o755)
+    room.write("python/python3", "#!/bin/sh\necho etcs-0-any.whl\n")
+    how = {"user": 65534, "group": 65534, "extra_groups": []} if os.geteuid() == 0 else {}
+    if not how:
+        os.chmod(f"{room.folder}/crates/etcs/out", 0o555)
+        os.chmod(f"{room.folder}/kept", 0o555)
+    room.check_end(["build"], 70, f"not built: {room.folder}/crates/etcs/out can't be written", **how)
+    room.check_end(["install", "kept"], 70, f"not installed: {room.folder}/kept can't be written", **how)
+    room.check_end(["install", "--prefix", "kept/in/it"], 70, f"not installed: {room.folder}/kept can't be written", **how)
+    os.chmod(f"{room.folder}/crates/etcs/out", 0o755)
+    os.chmod(f"{room.folder}/kept", 0o755)
+
+
+def files_of(folder):
+    """Returns all files of a folder with their contents, links with where they lead."""
+    found = {}
+    for here, folders, names in os.walk(folder):
+        for name in [*names, *(it for it in folders if os.path.islink(f"{here}/{it}"))]:
+            path = f"{here}/{name}"
+            found[os.path.relpath(path, folder)] = os.readlink(path) if os.path.islink(path) else open(path, "rb").read()
+    return found
+
+
+def sums_hold(folder, sums):
+    """Returns whether the files are those of a list of sums."""
+    done = subprocess.run(["sha256sum", "--check", "--quiet", "--strict", sums], cwd=folder, capture_output=True)
+    return done.returncode == 0
+
+
+def check_install(room):
+    """An installation is whole, in a folder of its own or below a prefix, and names what it wrote."""
+    wanted = {"bin/etcs", "lib/libetcs.a", "lib/libetcs.so", "lib/libetcs.so.1", "lib/pkgconfig/etcs.pc", "include/etcs.h"}
+    for words, where, sums, docs in (
+        (["in to"], "in to", "SHA256SUMS", "docs"),
+        (["--prefix", "usr/local"], "usr/local", "share/doc/etcs/SHA256SUMS", "share/doc/etcs"),
+        (["--prefix=usr/local"], "usr/local", "share/doc/etcs/SHA256SUMS", "share/doc/etcs"),
+    ):
+        if where == "usr/local":
+            room.write("usr/local/bin/other", "kept")
+        status, output, faults = room.answer(["install", *words])
+        found = files_of(f"{room.folder}/{where}")
+        texts = {f"{docs}/{it}.md" for it in ("DOORS", "FORMAT", "COOKBOOK")}
+        room.check(status == 0 and not (wanted | texts) - found.keys(), f"install {words}: {status} {faults}")
+        named = {os.path.relpath(it, f"{room.folder}/{where}") for it in output.decode().splitlines()}
+        room.check(named == found.keys() - {"bin/other"}, f"install {words}: named {named ^ found.keys()}")
+        room.check(sums_hold(f"{room.folder}/{where}", sums), f"install {words}: sums")
+        room.check(found.get("bin/other", b"kept") == b"kept", f"install {words}: another's file")
+        calls = ["build.py", "build"] if where == "in to" else ["build"]
+        room.check(room.calls() == calls, f"install {words}: built at the wrong time")
+
+
+def check_refused(room):
+    """Where something is in the way of an installation, it is named before anything is proved, and nothing is written."""
+    room.write("full/in", "")
+    other = "is there, and no installation of this wrote it"
+    room.write("taken/bin/etcs", "another's")
+    room.write("linked/real", "")
+    os.makedirs(f"{room.folder}/linked/lib")
+    os.symlink("../real", f"{room.folder}/linked/lib/libetcs.a")
+    os.makedirs(f"{room.folder}/folder/include/etcs.h")
+    room.write("file/share", "")
+    for words, fault in (
+        (["full"], "full isn't empty"),
+        (["crates.txt"], "crates.txt is no folder"),
+        (["crates.txt/in"], "crates.txt is no folder"),
+        (["--prefix", "crates.txt"], "crates.txt is no folder"),
+        (["--prefix", "taken"], f"taken/bin/etcs {other}"),
+        (["--prefix", "linked"], f"linked/lib/libetcs.a {other}"),
+        (["--prefix", "folder"], f"folder/include/etcs.h {other}"),
+        (["--prefix", "file"], "file/share is no folder"),
+    ):
+        before = files_of(room.folder)
+        room.check_end(["install", *words], 70, f"not installed: {room.folder}/{fault}")
+        room.check(files_of(room.folder) == before, f"install {words}: something is written")
+    room.answer(["install", "--prefix", "own"])
+    os.rename(f"{room.folder}/own/lib/libetcs.a", f"{room.folder}/own/real")
+    os.symlink("../real", f"{room.folder}/own/lib/libetcs.a")
+    room.check_end(["install", "--prefix", "own"], 70, f"not installed: {room.folder}/own/lib/libetcs.a {other}")
+    room.write("doors/build", SHELL + "exit 3\n")
+    room.check_end(["install", "to"], 70, "not installed: no library was built, as the lines above say")
+    room.check(not room.is_there("to"), "install: a folder is left")
+
+
+CHECKS = (
+    check_help, check_words, check_age, check_look, check_same, check_try, check_terminal, check_faults, check_build, check_ended,
+    check_two, check_unwritable, check_install, check_refused,
+)  # fmt: skip
+
+
+def faults_of(check, program):
+    """Returns what a check finds in a folder of its own."""
+    with tempfile.TemporaryDirectory(prefix="etcs script ") as folder:
+        room = Room(os.path.realpath(folder), program)
+        check(room)
+        return room.faults
 
 
 def main(words):
     if len(words) != 1 or words[0].startswith("-"):
         sys.exit(__doc__)
-    faults = []
-    for check in (check_help, check_age, check_terminal, check_faults):
-        with tempfile.TemporaryDirectory(prefix="etcs-script-") as folder:
-            room = Room(folder, words[0])
-            check(room)
-            faults += room.faults
+    with ThreadPoolExecutor(os.cpu_count()) as pool:
+        faults = [it for found in pool.map(lambda check: faults_of(check, words[0]), CHECKS) for it in found]
     print("\n".join(faults) or "the script does as it should")
     return 1 if faults else 0
 

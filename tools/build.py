@@ -1,25 +1,34 @@
 #!/usr/bin/env python3
-"""Proves the libraries that a program rests on, side by side where that can be, and builds the program.
+"""Proves the libraries that a program or a static library rests on, side by side where that can be, and builds it.
 
-    tools/build.py RT CRATE [VERB ..]
+    tools/build.py RT CRATE
+    tools/build.py RT . VERB [WORD ..]
 
-With a verb it does what `rt VERB ..` does in the folder that it is called in. RT is the path of `rt`, and CRATE the folder of the program's crate. How far it is goes to standard
-error, and what rt writes of a crate to its out/build.log. The status is 0 where the program is built.
+RT is the path of `rt`, and CRATE the folder of the crate. With a verb it does what `rt VERB ..` does in the folder that
+it is called in, as tools/rt does. How far it is goes to standard error, and what rt writes of a crate to its
+out/build.log. The status is 0 where the crate is built.
 
-Two runs of `rt` can't go side by side here: each locks its crate's folder and those of all libraries
-below it until it ends, and every crate rests on the lowest. `rt all` locks all of them once and goes
-side by side, but with one job a crate, and most crates here rest on one another. So this is one run
-over the module that `rt` itself is made of: it locks once, as `rt all` does, and makes for each
-library the call that `rt lib` makes. What is proved, and what is kept in out/, is the same. `rt run`
-then proves and builds the program, and first whatever is left.
+Two runs of `rt` can't go side by side here: each locks its crate's folder and those of all libraries below it until it
+ends, and every crate rests on the lowest. `rt all` locks all of them once and goes side by side, but with one job a
+crate, and most crates here rest on one another. So this is one run over the module that `rt` itself is made of: it locks
+once, as `rt all` does, and makes for each crate the call that `rt lib` or `rt run` makes. What is proved, and what is
+kept in out/, is the same. It differs in two things.
 
-The libraries that go side by side share the cores. Each job of a library loads all below it once more:
-with two jobs one of 145 seconds took 112, with four 109, at 181 and 190 seconds of processor.
+A sum once: to see what changed, rt sums a crate's files and those of each library below it, once for each way down to
+it: thousands of times for the upper crates here. In this run each is summed once a time.
 
-To see what changed, rt sums a crate's files and those of each library below it, once for each way
-down to it: thousands of times for the upper crates here. In this run each is summed once a time.
+What it reads: rt builds a library anew where any file below it changed, and rattle then finds that nothing is to be
+checked again. Here a library stays as it is where its own files, and all that its build read of those below it, are as
+they were (read.py says what that is, and why no more is needed). It gets the stamp that rt would give it. The program
+and the static library are built anew where any file changed, and then rattle looks at all libraries: it refuses one that
+read something else than what is there now.
+
+The libraries that go side by side share the cores. Each job of a library loads all below it once more: with two jobs one
+of 145 seconds took 112, with four 109, at 181 and 190 seconds of processor.
 """
 
+import contextlib
+import copy
 import os
 import signal
 import subprocess
@@ -27,12 +36,19 @@ import sys
 import threading
 import time
 from concurrent.futures import FIRST_COMPLETED, ThreadPoolExecutor, wait
+from importlib.machinery import SourceFileLoader
+from importlib.util import module_from_spec, spec_from_loader
 
-# How many libraries are proved at a time: there is seldom a third that waits for neither.
-AT_ONCE = 2
-# The free memory that is wanted for each of them. Where there is less, they go one by one, and rt picks the jobs.
-MEMORY = 6_000_000_000
+import reads
+
+# How many libraries are proved at a time, and the free memory that is wanted for each: there is seldom a third that waits for
+# neither. Where each has kept work, most have nothing to check again, and take little.
+AT_ONCE, MEMORY = 2, 6_000_000_000
+AT_ONCE_KEPT, MEMORY_KEPT = 4, 3_000_000_000
+# What judges the repository, and so is rt itself with nothing changed.
+JUDGES = ("ci", "verdict", "selftest")
 START = time.monotonic()
+LOOK = threading.local()
 
 
 def say(words):
@@ -57,111 +73,215 @@ def give_up_on(folder):
     say(f"{os.path.basename(folder)} isn't proved: all lines are in {log_of(folder)}")
 
 
+@contextlib.contextmanager
+def one_look():
+    """Gives the sums that are taken within it, or within the look that it is a part of: each crate is summed once."""
+    if hasattr(LOOK, "sums"):
+        yield LOOK.sums
+        return
+    LOOK.sums = {}
+    try:
+        yield LOOK.sums
+    finally:
+        del LOOK.sums
+
+
 def sum_once(stamp):
     """Returns rt's sum of a crate such that it takes each crate below once, and not once for each way down to it."""
-    local = threading.local()
 
     def summed(crate):
-        if hasattr(local, "made"):
-            if crate.folder not in local.made:
-                local.made[crate.folder] = stamp(crate)
-            return local.made[crate.folder]
-        local.made = {}
-        try:
-            return summed(crate)
-        finally:
-            del local.made
+        with one_look() as sums:
+            if crate.folder not in sums:
+                sums[crate.folder] = stamp(crate)
+            return sums[crate.folder]
 
     return summed
 
 
-def module_of(rt):
-    """Returns the module that rt is made of."""
-    sys.dont_write_bytecode = True
-    sys.path.insert(0, os.path.dirname(os.path.realpath(rt)))
-    import rtlib
+def sum_alone(stamp):
+    """Returns the same of a crate's own files."""
 
-    rtlib.Crate.stamp = sum_once(rtlib.Crate.stamp)
-    return rtlib
+    def summed(crate):
+        alone = copy.copy(crate)
+        alone.deps = []
+        return stamp(alone)
+
+    return summed
+
+
+def stamp_unchanged(is_built):
+    """Returns rt's test whether a library is built such that one stays, and gets its stamp, where all that it read is as it was."""
+
+    def answered(crate):
+        with one_look():
+            if is_built(crate):
+                return True
+            if not all(is_built(it) for it in crate.below()) or not reads.is_as_read(crate):
+                return False
+            with open(f"{os.path.dirname(crate.rlib)}/stamp", "w", encoding="utf-8") as it:
+                it.write(crate.stamp())
+            return True
+
+    return answered
+
+
+def build_noted(build_rlib):
+    """Returns rt's build of a library such that it notes what it read."""
+
+    def built(crate, flags, anew):
+        if not anew and crate.is_built():
+            return 0
+        status = build_rlib(crate, flags, anew)
+        if not status and not anew:
+            with contextlib.suppress(ValueError, LookupError, TypeError):
+                reads.take_note(crate)
+        return status
+
+    return built
+
+
+def module_of(path):
+    """Returns the module that rt is, with those two changes."""
+    sys.dont_write_bytecode = True
+    loader = SourceFileLoader("rt", os.path.realpath(path))
+    rt = module_from_spec(spec_from_loader("rt", loader))
+    sys.modules["rt"] = rt
+    loader.exec_module(rt)
+    crate = rt.rtlib.Crate
+    stamp = crate.stamp
+    crate.stamp, crate.own = sum_once(stamp), sum_alone(stamp)
+    crate.is_built = stamp_unchanged(crate.is_built)
+    crate.build_rlib = build_noted(crate.build_rlib)
+    return rt
+
+
+def end_after(running):
+    """Says what is still waited for, where something is."""
+    if running:
+        say(f"ending once {' and '.join(it.name for it in running.values())} are tried: that work is kept")
 
 
 def prove(crate, flags):
-    """Proves and builds a library, and returns rt's status."""
+    """Proves and builds a library where it must be, and returns rt's status and how long that took, or None where it stays as it is."""
+    if crate.is_built():
+        return 0, None
+    say(f"proving {crate.name}")
+    begun = time.monotonic()
     with open(log_of(crate.folder), "w", encoding="utf-8") as crate.out:
-        return crate.build_rlib(flags, anew=False)
+        return crate.build_rlib(flags, anew=False), since(begun)
 
 
 def prove_all(crates, at_once, flags):
     """Proves libraries, each once those below it are proved, and returns whether all went well."""
     # those that most others rest on go first
     left = sorted(crates, key=lambda it: -sum(it in other.below() for other in crates))
-    running, begun = {}, {}
+    running, unread = {}, 0
     with ThreadPoolExecutor(at_once) as pool:
         while left or running:
             unproved = {*left, *running.values()}
             ready = [it for it in left if not unproved & {*it.below()}]
             for crate in ready[: at_once - len(running)]:
-                say(f"proving {crate.name}")
-                begun[crate] = time.monotonic()
                 running[pool.submit(prove, crate, flags)] = crate
                 left.remove(crate)
             for run in wait(running, return_when=FIRST_COMPLETED).done:
                 crate = running.pop(run)
-                if run.result():
+                status, took = run.result()
+                if status:
                     give_up_on(crate.folder)
+                    end_after(running)
                     return False
-                done = len(crates) - len(left) - len(running)
-                took = f"{since(begun[crate])}, {since(START)} in all"
-                say(f"proved {crate.name}, {done} of {len(crates)} libraries ({took})")
+                unread += not took
+                if took:
+                    done = len(crates) - len(left) - len(running)
+                    say(f"proved {crate.name}, {done} of {len(crates)} libraries ({took}, {since(START)} in all)")
+    if unread:
+        say(f"libraries that stay as they are, since nothing that they read has changed: {unread}")
     return True
 
 
-def prove_below(rt, folder):
-    """Proves the libraries below the program that aren't, and returns whether all are, and the flags to continue with."""
-    rtlib = module_of(rt)
+def share(rtlib, crates):
+    """Returns how many of the crates to prove at a time, and rt's flags for each."""
+    is_kept = bool(crates) and all(it.has_kept() for it in crates)
+    for at_once, memory in ((AT_ONCE_KEPT, MEMORY_KEPT),) * is_kept + ((AT_ONCE, MEMORY),):
+        if rtlib.fits(*[memory] * at_once):
+            return at_once, ["--jobs", str(max(1, min(rtlib.cores(), 8) // at_once))]
+    return 1, []
+
+
+@contextlib.contextmanager
+def output_to(file):
+    """Has what is written to standard output, by this process and by those that it starts, go to the file."""
+    sys.stdout.flush()
+    was = os.dup(1)
+    os.dup2(file.fileno(), 1)
+    try:
+        yield
+    finally:
+        os.dup2(was, 1)
+        os.close(was)
+
+
+def build_top(crate, flags):
+    """Proves and compiles the program or the static library, and returns whether that went well. rt runs a program: it is asked for help."""
+    kind = "static library" if crate.is_static else "program"
+    say(f"proving and compiling the {kind} {crate.name}")
+    begun = time.monotonic()
+    with open(log_of(crate.folder), "w", encoding="utf-8") as crate.out, output_to(crate.out):
+        status = crate.build_static(flags) if crate.is_static else crate.run(flags, ["--help"])
+    if status:
+        give_up_on(crate.folder)
+        return False
+    say(f"the {kind} is proved and built ({since(begun)}, {since(START)} in all)")
+    return True
+
+
+def build(rt, folder):
+    """Builds the crate, after the libraries below it, and returns whether all went well."""
+    rtlib = rt.rtlib
     # as in rt: what it started ends with it
     rtlib.guarded()
-    crates = rtlib.Crate(folder, rtlib.root_above(folder), {}).below()
-    locks = rtlib.lock(crates)
-    crates = [it for it in crates if not it.is_built()]
-    has_room = rtlib.fits(*[MEMORY] * AT_ONCE)
-    flags = ["--jobs", str(max(1, min(rtlib.cores(), 8) // AT_ONCE))] if has_room else []
-    is_well = prove_all(crates, AT_ONCE if has_room else 1, flags)
-    for it in locks:
-        os.close(it)
-    return is_well, flags
+    crate = rtlib.Crate(folder, rtlib.root_above(folder), {})
+    rt.read_files(crate)
+    if crate.makes_rlib():
+        rtlib.stop(f"{crate.name} is neither a program nor a static library")
+    below = crate.below()
+    crate.held = rtlib.lock([*below, crate])
+    for it in [*below, crate]:
+        rtlib.stop_on_links(it.folder)
+    left = [it for it in below if not it.is_built()]
+    return prove_all(left, *share(rtlib, left)) and build_top(crate, share(rtlib, [])[1])
 
 
-def build_program(words, folder, flags):
-    """Proves, compiles and links the program, and returns whether that went well. rt also runs it, so it is asked for its help."""
-    say(f"proving and compiling the program {os.path.basename(folder)}")
-    begun = time.monotonic()
-    with open(log_of(folder), "w", encoding="utf-8") as log:
-        how = {"stdin": subprocess.DEVNULL, "stdout": log, "stderr": subprocess.STDOUT}
-        ran = subprocess.run([*words, "run", *flags, "--", "--help"], cwd=folder, **how)
-    if ran.returncode:
-        give_up_on(folder)
-        return False
-    say(f"the program is proved and built ({since(begun)}, {since(START)} in all)")
-    return True
+def as_rt(path, words):
+    """Does what rt does with these words, and returns its status."""
+    if words[0] in JUDGES or words[:2] == ("all", "verdict"):
+        os.execv(path, [path, *words])
+    return module_of(path).main([*words])
 
 
-def main(rt, folder, *run):
+def leave_to_rt(path, folder, words):
+    """Becomes rt, with nothing changed."""
+    os.chdir(folder)
+    is_program = os.path.isfile("src/main.rt")
+    os.execv(path, [path, *(words or (["run", "--", "--help"] if is_program else ["lib"]))])
+
+
+def main(path, folder, *words):
     # Ctrl-C doesn't wait for the threads
     signal.signal(signal.SIGINT, signal.SIG_DFL)
-    if run:
-        return module_of(rt).main(*run)
-    folder, words = os.path.realpath(folder), [sys.executable, os.path.realpath(__file__), rt, folder]
     try:
-        is_well, flags = prove_below(rt, folder)
+        if words:
+            return as_rt(path, words)
+        return 0 if build(module_of(path), os.path.realpath(folder)) else 1
     except (ImportError, AttributeError, TypeError) as error:
-        say(f"rt's module isn't as expected ({error}), so rt proves one crate after the other")
-        is_well, flags, words = True, [], [rt]
+        say(f"rt's module isn't as expected ({error}), so rt itself continues, one crate after the other")
+        leave_to_rt(path, folder, words)
     except OSError as error:
-        say(f"{error.filename}: {error.strerror}")
+        say(f"{error.filename or 'a file'}: {error.strerror}")
         return 1
-    return 0 if is_well and build_program(words, folder, flags) else 1
 
 
 if __name__ == "__main__":
+    if len(sys.argv) < 3:
+        sys.exit("use: tools/build.py RT CRATE, or tools/build.py RT . VERB [WORD ..]")
     sys.exit(main(*sys.argv[1:]))

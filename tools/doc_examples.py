@@ -26,6 +26,7 @@ differs.
 import glob
 import os
 import re
+import shlex
 import shutil
 import subprocess
 import sys
@@ -262,7 +263,7 @@ def row_differences(text, path, program):
     for name, given, answer in re.findall(r"^\| `(\w+\.\w+)` \| (.*?) \| (.*) \|$", text, re.M):
         command = given.strip("`") if "etcs" in given else f"./etcs show --kind {given} < examples/{name}"
         command += " --from json" * name.endswith(".json")
-        done = subprocess.run(["bash", "-c", command.replace("./etcs", program)], cwd=TOP, capture_output=True, timeout=120)
+        done = subprocess.run(["bash", "-c", command.replace("./etcs", shlex.quote(program))], cwd=TOP, capture_output=True, timeout=120)
         status, fault = re.search(r"status (\d)$", answer)[1], re.search(r"`(etcs: [^`]*)`", answer)
         if str(done.returncode) != status or done.stderr.decode() != (fault[1] + "\n" if fault else ""):
             yield f"{path}: {name} answers {done.returncode}\n{done.stderr.decode()}"

@@ -38,7 +38,7 @@ sys.dont_write_bytecode = True
 import unproved
 from build import say
 from sources import TOP, crates, crates_below
-from unproved import PROGRAM, REFUSED, UNBUILT, NotBuilt, folder_of, kit_of, tests_of, title_of
+from unproved import PROGRAM, REFUSED, UNBUILT, NotBuilt, folder_of, kit_of, locked, room_noted, tests_of, title_of
 
 PASSED, FAILED, SKIPPED = "passed", "FAILED", "skipped"
 LIMIT = 600  # seconds for a part
@@ -150,21 +150,22 @@ class Report:
     def __init__(self):
         self.counts = {PASSED: 0, FAILED: 0, SKIPPED: 0}
 
-    def say(self, how, label, what):
+    def say(self, how, what):
         self.counts[how] += 1
-        print(f"{how}  {label}: {what}", flush=True)
+        print(f"{how}  {what}", flush=True)
 
     def say_ended(self, label, is_well, said, seconds):
-        """Says what a part came to, by the last line that it wrote."""
-        lines = said.strip().split("\n")
+        """Says whether a part passed, and the last line that it wrote; of one that failed the first lines too."""
+        *lines, last = said.strip().split("\n")
         for line in [it for it in lines if it.startswith("skipped: ")]:
-            self.say(SKIPPED, label, line.removeprefix("skipped: "))
+            self.say(SKIPPED, f"{label}: {line.removeprefix('skipped: ')}")
             lines.remove(line)
-        last = lines.pop() if lines and lines[-1] else "no difference" if is_well else "nothing was written"
-        self.say(PASSED if is_well else FAILED, label, f"{last} ({seconds:.0f} s)")
-        if not is_well:
-            more = [f".. and {len(lines) - LINES} lines more"] * (len(lines) > LINES)
-            print(*(f"{it}\n" for it in [*lines[:LINES], *more]), sep="", end="", flush=True)
+        if is_well:
+            self.say(PASSED, f"{label}: {last} ({seconds:.0f} s)")
+            return
+        self.say(FAILED, f"{label} ({seconds:.0f} s):")
+        more = [f".. {len(lines) - LINES} lines more"] * (len(lines) > LINES)
+        print(*lines[:LINES], *more, last, sep="\n", flush=True)
 
     def end(self):
         """Writes the last line, and returns the status."""
@@ -203,7 +204,7 @@ def run_all(rt, jobs, report):
             elif run.result():
                 report.say_ended(runs[run].label, *run.result())
             else:
-                report.say(SKIPPED, runs[run].label, "not built")
+                report.say(SKIPPED, f"{runs[run].label}: not built")
     finally:
         unproved.RUNNING.stop()
         for pool in (builders, workers):
@@ -231,12 +232,15 @@ def check_space():
 
 def test(rt, parts):
     """Tests the parts, and returns the status."""
-    report = Report()
     check_space()
     unproved.prepare(rt)
     # a test that fails leaves no core file
     resource.setrlimit(resource.RLIMIT_CORE, (0, 0))
-    run_all(rt, [it for part in parts for it in jobs_of(rt, part)], report)
+    report = Report()
+    with locked(PROGRAM, "test", "tests") as lock, room_noted(lock) as room:
+        # what the parts leave there where they are ended goes with it
+        os.environ["TMPDIR"] = room
+        run_all(rt, [it for part in parts for it in jobs_of(rt, part)], report)
     return report.end()
 
 

@@ -30,6 +30,7 @@ import resource
 import subprocess
 import sys
 import tempfile
+import threading
 import time
 from collections import Counter, namedtuple
 from concurrent.futures import ThreadPoolExecutor, as_completed
@@ -59,6 +60,9 @@ SCRIPTS = {
 }
 ASKED = {**PROGRAM_SCRIPTS, **SCRIPTS}
 PARTS = ["vectors", "tests", *(it for it in ASKED if os.path.exists(f"{TOP}/tools/{ASKED[it][0]}"))]
+
+# As many parts run at a time as there are cores, so that none is so slow that a call in it is given up.
+PLACES = threading.Semaphore(len(os.sched_getaffinity(0)))
 
 # Something that is run: what its line says, the target that has to be built before it, and a call that answers whether it
 # passed, and what it wrote.
@@ -178,14 +182,15 @@ def ended(job, built):
     """Runs a job once its target is built, and returns whether it passed, what it wrote, and its seconds; none where that isn't built."""
     if job.target and built[job.target.names[0]].exception():
         return None
-    begun = time.monotonic()
-    try:
-        is_well, said = job.call()
-    except subprocess.TimeoutExpired:
-        is_well, said = False, f"no end in {LIMIT} s"
-    except OSError as error:
-        is_well, said = False, unproved.reason_of(error)
-    return is_well, said, time.monotonic() - begun
+    with PLACES:
+        begun = time.monotonic()
+        try:
+            is_well, said = job.call()
+        except subprocess.TimeoutExpired:
+            is_well, said = False, f"no end in {LIMIT} s"
+        except OSError as error:
+            is_well, said = False, unproved.reason_of(error)
+        return is_well, said, time.monotonic() - begun
 
 
 def run_all(rt, jobs, report):

@@ -277,7 +277,7 @@ def main(path, folder, *words):
         say(f"rt's module isn't as expected ({error}), so rt itself continues, one crate after the other")
         leave_to_rt(path, folder, words)
     except OSError as error:
-        say(f"{error.filename or 'a file'}: {error.strerror}")
+        say(f"{error.filename or 'a file that was to be written'}: {error.strerror}")
         return 1
 
 

@@ -15,18 +15,8 @@ import os
 import shutil
 import sys
 import tempfile
-from importlib.machinery import SourceFileLoader
-from importlib.util import module_from_spec, spec_from_loader
 
-
-def module_of(path):
-    """Returns the module that rt is."""
-    sys.dont_write_bytecode = True
-    loader = SourceFileLoader("rt", path)
-    module = module_from_spec(spec_from_loader("rt", loader))
-    sys.modules["rt"] = module
-    loader.exec_module(module)
-    return module
+from build import module_of
 
 
 def edits_of(crate, words):

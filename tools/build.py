@@ -19,7 +19,7 @@ it: thousands of times for the upper crates here. In this run each is summed onc
 
 What it reads: rt builds a library anew where any file below it changed, and rattle then finds that nothing is to be
 checked again. Here a library stays as it is where its own files, and all that its build read of those below it, are as
-they were (read.py says what that is, and why no more is needed). It gets the stamp that rt would give it. The program
+they were (reads.py says what that is, and why no more is needed). It gets the stamp that rt would give it. The program
 and the static library are built anew where any file changed, and then rattle looks at all libraries: it refuses one that
 read something else than what is there now.
 

@@ -9,10 +9,12 @@ read of each library below. A build reads of an rlib below it (`rattle build --h
   checked modules, as imported or seen by way of an import, and of each the text that it is made from.
 
 It doesn't read the code of functions (toolchain/mir.json) nor the private items (lang/src). The build of a program or of
-a static library reads these, and it is done anew where any file changed. It also reads every library's checked modules,
-and rattle refuses one that read something else than what is there now ("something that it read has changed"), so a note
-that says too little can make a build fail, and nothing unproved pass. Where a note is missing or can't be read, or a
-module is not in the form that is known here, the library is built anew.
+a static library reads these, and it is done anew where any file changed. It also reads checked modules of all libraries,
+and rattle refuses one that read something else than what is there now ("something that it read has changed"): a clause,
+a definition or a type that this file overlooked would make that build fail, and nothing unproved pass. rattle doesn't
+notice a constant or a macro that changed, whose value is in the code of the library above. Those are in the interface,
+which is why it counts in whole. Where a note is missing or can't be read, or a module is not in the form that is known
+here, the library is built anew.
 """
 
 import functools

@@ -162,7 +162,7 @@ def end_after(running):
 
 
 def prove(crate, flags):
-    """Proves and builds a library where it must be, and returns rt's status and how long that took, or None where it stays as it is."""
+    """Proves and builds a library, if it must be, and returns rt's status and how long that took, or None where it stays as it is."""
     if crate.is_built():
         return 0, None
     say(f"proving {crate.name}")
@@ -222,7 +222,7 @@ def output_to(file):
 
 
 def build_top(crate, flags):
-    """Proves and compiles the program or the static library, and returns whether that went well. rt runs a program: it is asked for help."""
+    """Proves and compiles the program or the static library, and returns whether that went well. rt runs a program, for its help."""
     kind = "static library" if crate.is_static else "program"
     say(f"proving and compiling the {kind} {crate.name}")
     begun = time.monotonic()

@@ -26,12 +26,15 @@ WELL = (0, b"")
 TWO = b"0F00FF\n1002800000000008002A\n"
 CHECKED = b"item 1 ok 24 bits\nitem 2 ok 80 bits\n"
 KEPT = b'{"data":"111111","kind":"radio","nid":15}'
-TYPED = b'{"fields":[["NID_EM",5]],"header":[["T_TRAIN",0],["M_ACK",0],["NID_LRBG",16385]],"kind":"radio","nid":16,"packets":[],"padding":"0"}'
+TYPED = (
+    b'{"fields":[["NID_EM",5]],"header":[["T_TRAIN",0],["M_ACK",0],["NID_LRBG",16385]],'
+    b'"kind":"radio","nid":16,"packets":[],"padding":"0"}'
+)
 TO_JSON = KEPT + b"\n" + TYPED + b"\n"
 
 # a form, a message in it, what may come after a million of them, and what may not
 MILLIONS = (
-    ("hex", b"0F00FF\n", (b"", b"\r\n\n"), (b"0F00FF\n", b"0F00FF")),
+    ("hex", b"0F00FF\n", (b"\r\n\n",), (b"0F00FF",)),
     ("bin", b"\x0f\x00\xff", (b"",), (b"\x0f\x00\xff", b"\x18\x02\x00")),
     ("json", KEPT + b"\n", (b"\r\n\n",), (b"x\n", KEPT, b" " * (MOST + 1))),
 )
@@ -146,9 +149,10 @@ def check_json(program, text, line, items, is_read):
     status, output, faults = program.call("check --kind radio --from json", text)
     good = items if is_read else line - 1
     wanted = b"".join(b"item %d ok 24 bits\n" % (n + 1) for n in range(good))
-    fault = b"" if is_read else b"etcs: line %d: bad JSON\n" % line
-    # (why it is bad comes before the line of the fault)
-    program.check(f"{text[-60:]}, {len(text)} bytes", (status, output, faults.split(b"\n")[-2:]), (int(not is_read), wanted, fault.split(b"\n")[-2:]))
+    # why a line is bad may come before the line of the fault
+    fault = [] if is_read else [b"etcs: line %d: bad JSON" % line]
+    found = (status, output, faults.splitlines()[-1:])
+    program.check(f"{text[-60:]}, {len(text)} bytes", found, (int(not is_read), wanted, fault))
 
 
 def check_lines(program):
@@ -202,14 +206,24 @@ def check_addresses(program):
         for kilobytes in range(2048, 40960, 64):
             limit = lambda: resource.setrlimit(resource.RLIMIT_AS, (1024 * kilobytes, 1024 * kilobytes))
             status, _, faults = program.call(words, given, preexec_fn=limit)
-            state = "refused" if (status, faults) == (3, b"etcs: out of memory\n") else "answered" if status == answer else "not loaded"
-            seen += [] if seen[-1:] == [state] else [state]
+            is_refused = (status, faults) == (3, b"etcs: out of memory\n")
+            state = "refused" if is_refused else "answered" if status == answer else "not loaded"
+            seen += [state] * (seen[-1:] != [state])
             if state == "answered":
                 break
         program.check(f"{words} with few addresses", tuple(seen[-2:]), ("refused", "answered"))
 
 
-CHECKS = (check_millions, check_writes, check_full, check_reads, check_lines, check_bytes, check_endless_line, check_addresses)
+CHECKS = (
+    check_millions,
+    check_writes,
+    check_full,
+    check_reads,
+    check_lines,
+    check_bytes,
+    check_endless_line,
+    check_addresses,
+)
 
 
 def main(words):

@@ -68,6 +68,12 @@ LEFT = (
 )  # fmt: skip
 
 
+def heed_signals():
+    """Has a command end by signals that this process may ignore, as in the background or under nohup."""
+    for it in (signal.SIGINT, signal.SIGHUP, signal.SIGTERM):
+        signal.signal(it, signal.SIG_DFL)
+
+
 class Room:
     """A folder with the script, and what it was found to do wrong."""
 
@@ -133,10 +139,8 @@ class Room:
     def start(self, words, given=subprocess.DEVNULL, tools=("bin", "python", "path"), **how):
         """Starts the script with these folders on the path."""
         path = ":".join(f"{self.folder}/{it}" for it in tools)
-        pipe = subprocess.PIPE
-        return subprocess.Popen(
-            [f"{self.folder}/etcs", *words], stdin=given, stdout=pipe, stderr=pipe, env={"PATH": path}, cwd=self.folder, **how
-        )
+        how = {"stdin": given, "stdout": subprocess.PIPE, "stderr": subprocess.PIPE, "cwd": self.folder, **how}
+        return subprocess.Popen([f"{self.folder}/etcs", *words], env={"PATH": path}, preexec_fn=heed_signals, **how)
 
     def run(self, words, given=b"", **how):
         """Returns the status, the output and the faults of the script."""

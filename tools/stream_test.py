@@ -18,7 +18,7 @@ import threading
 from concurrent.futures import ThreadPoolExecutor
 
 MOST = 1_048_576  # the bytes of the longest line of JSON
-LIMIT = 120  # seconds that a call may take
+LIMIT = 600  # seconds that a call may take
 ENDLESS = (3, b"etcs: input without end\n")
 WELL = (0, b"")
 

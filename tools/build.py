@@ -221,13 +221,28 @@ def output_to(file):
         os.close(was)
 
 
+def build_archive(crate, flags):
+    """Builds a static library where a file that it is made of changed, and returns rt's status. rt itself builds it each time."""
+    archive, note = f"{crate.folder}/out/lib{crate.name}.a", f"{crate.folder}/out/lib{crate.name}.stamp"
+    stamp = crate.stamp()
+    with contextlib.suppress(FileNotFoundError), open(note, encoding="ascii") as it:
+        if it.read() == stamp and os.path.isfile(archive):
+            return 0
+        os.remove(note)
+    status = crate.build_static(flags)
+    if not status and crate.stamp() == stamp:
+        with open(note, "w", encoding="ascii") as it:
+            it.write(stamp)
+    return status
+
+
 def build_top(crate, flags):
     """Proves and compiles the program or the static library, and returns whether that went well. rt runs a program, for its help."""
     kind = "static library" if crate.is_static else "program"
     say(f"proving and compiling the {kind} {crate.name}")
     begun = time.monotonic()
     with open(log_of(crate.folder), "w", encoding="utf-8") as crate.out, output_to(crate.out):
-        status = crate.build_static(flags) if crate.is_static else crate.run(flags, ["--help"])
+        status = build_archive(crate, flags) if crate.is_static else crate.run(flags, ["--help"])
     if status:
         give_up_on(crate.folder)
         return False

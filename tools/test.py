@@ -46,12 +46,13 @@ LIMIT = 600  # seconds for a part
 LINES = 40  # that are written of a part that failed
 BUILD_MEMORY = 2_000_000_000  # that the front end takes
 FREE_SPACE = 16_000_000  # that temporary files of the parts take at most
+# The longest first, since as many run at a time as there are cores.
 PROGRAM_SCRIPTS = {
+    "chance": ["fuzz.py", "--seconds", "10"],
     "commands": ["vectors.py"],
-    "documents": ["doc_examples.py", "--check"],
     "script": ["script_test.py"],
     "streams": ["stream_test.py"],
-    "chance": ["fuzz.py", "--seconds", "10"],
+    "documents": ["doc_examples.py", "--check"],
 }
 SCRIPTS = {
     "definitions": ["definitions.py", "--page", "--check"],
@@ -59,7 +60,7 @@ SCRIPTS = {
     "help": ["help_texts.py", "--check"],
 }
 ASKED = {**PROGRAM_SCRIPTS, **SCRIPTS}
-PARTS = ["vectors", "tests", *(it for it in ASKED if os.path.exists(f"{TOP}/tools/{ASKED[it][0]}"))]
+PARTS = [*PROGRAM_SCRIPTS, "vectors", "tests", *SCRIPTS]
 
 # As many parts run at a time as there are cores, so that none is so slow that a call in it is given up.
 PLACES = threading.Semaphore(len(os.sched_getaffinity(0)))

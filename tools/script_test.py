@@ -49,7 +49,9 @@ if "--check" in sys.argv:
     sys.exit(not os.path.exists(TOP + "/same"))
 """
 MAKES = f"make({OUT!r})\n"
-WAITS = "open(TOP + '/pid', 'w').write(str(os.getpid()))\n" + MAKES + "while not os.path.exists(TOP + '/go'): time.sleep(0.02)\n"
+# It ends with the test's folder too, where a test is ended.
+WAITS = "open(TOP + '/pid', 'w').write(str(os.getpid()))\n" + MAKES
+WAITS += "while os.path.exists(TOP + '/pid') and not os.path.exists(TOP + '/go'): time.sleep(0.02)\n"
 LIBRARY = 'mkdir -p "$top/doors/out"; touch "$top/doors/out/libetcs.a" "$top/doors/out/libetcs.so.1"\n'
 COMMANDS = ("show", "check", "convert", "group", "log", "explain")
 SHORT = b"A0007F802000FFFFFFFFFFFFFFFFFFFFFFFFFFFFFFFFFFFFFFFFC0\n"

@@ -13,3 +13,4 @@ pub mod Equality
 mod NextWords
 mod SliceEquality
 mod Walked
+pub mod DigitTexts

@@ -6,7 +6,7 @@ ghost use Rattle.std.specs.Bool.{Decides};
 ghost use Rattle.std.specs.Prelude.{vec_len, vec_capacity};
 ghost use Rattle.std.specs.Cmp.Lexicographic.{pointwise};
 
-use super::parts;
+use super::inner;
 use super::slice::BitSlice;
 use std::alloc::{AllocError, Global};
 use std::marker::Model;
@@ -50,7 +50,7 @@ impl Bits {
         ensures { IfOk result (λ b. b ≡ slice.entry) }
     {
         let mut bits = Bits::new(alloc);
-        parts::append(&mut bits, &slice)?;
+        inner::append(&mut bits, &slice)?;
         Ok(bits)
     }
 
@@ -92,7 +92,7 @@ impl Bits {
     {
         let len = self.len + width;
         self.bytes.resize(len.div_ceil(8), 0)?;
-        parts::write(self.bytes.as_mut_slice(), self.len, width, value);
+        inner::write(self.bytes.as_mut_slice(), self.len, width, value);
         self.len = len;
         Ok(())
     }
@@ -108,7 +108,7 @@ impl Bits {
         }
         let len = self.len + slice.len();
         self.bytes.resize(len.div_ceil(8), 0)?;
-        parts::write_slice(self.bytes.as_mut_slice(), self.len, slice);
+        inner::write_slice(self.bytes.as_mut_slice(), self.len, slice);
         self.len = len;
         Ok(())
     }
@@ -139,7 +139,7 @@ impl Bits {
         ensures { self.new ≡ take len self.old }
     {
         self.bytes.truncate(len.div_ceil(8));
-        parts::write(self.bytes.as_mut_slice(), len, (8 - len % 8) % 8, 0);
+        inner::write(self.bytes.as_mut_slice(), len, (8 - len % 8) % 8, 0);
         self.len = len;
     }
 

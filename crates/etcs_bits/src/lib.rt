@@ -4,10 +4,10 @@
 mod bits;
 mod bytes;
 mod copying;
-pub mod parts;
+mod digits;
+pub mod inner;
 mod poker;
 mod slice;
-mod slice_digits;
 mod slice_equality;
 mod slice_iterator;
 mod slice_walker;

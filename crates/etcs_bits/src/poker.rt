@@ -5,7 +5,7 @@ ghost use Rattle.etcs_bits.specs.Bits.{num, bits, replaced};
 ghost use Rattle.etcs_bits.specs.Texts.{poke_fault_text};
 
 use super::bytes::{byte_of, with_number};
-use super::parts;
+use super::inner;
 use super::walker::first_word;
 use std::error::Error;
 use std::fmt;
@@ -128,7 +128,7 @@ pub fn poke(bytes: &mut [u8], start: usize, width: usize, value: u64) -> Result<
     if width < 64 && value >> width != 0 {
         return Err(PokeFault::TooLarge);
     }
-    parts::write(bytes, start, width, value);
+    inner::write(bytes, start, width, value);
     Ok(())
 }
 

@@ -4,7 +4,7 @@ ghost use Rattle.std.specs.Prelude.{◌≡◌, ◌+◌, ◌≤◌, length};
 ghost use Rattle.std.specs.Bool.{Decides};
 ghost use Rattle.etcs_bits.specs.Bits.{part};
 
-use super::parts::chunk;
+use super::inner::chunk;
 use super::slice::BitSlice;
 
 impl PartialEq for BitSlice<'_> {

@@ -1,11 +1,11 @@
 -- A choice between two groups by the number before them, rows with nothing after a part, counts and bits of lists.
 use Rattle.std.proofs.Common.{◌≡◌, ℕ, Bool, true, false, ◌∷◌, Option, Some, None, ◌⊎◌, inl, inr}
 use Rattle.etcs_vars.specs.declared.var.Var.{Var}
+use Rattle.etcs_vars.specs.Faults.{number_fault}
 use Rattle.etcs_vars.specs.Reading.{Reading}
 use Rattle.etcs_tables.specs.declared.item.Test.{Test}
 use Rattle.etcs_tables.specs.declared.item.Test.TheVariants.{IsZero, IsOne}
 use Rattle.etcs_tables.specs.Layouts.{Layout, whole, one, guarded, passes}
-use Rattle.etcs_bodies.specs.Faults.{number_fault}
 use Rattle.etcs_bodies.specs.Taking.{Left, ◌and_then◌, next_number, next_flag}
 
 -- ---- One group where the number passes a test, another where it doesn't.

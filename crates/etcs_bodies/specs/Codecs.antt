@@ -3,10 +3,11 @@ use Rattle.std.proofs.Common.{◌≡◌, ℕ, Bool, true, false, List, [], ◌�
 use Rattle.std.specs.Prelude.{if◌then◌else◌, flat_map, All}
 use Rattle.etcs_vars.specs.declared.var.Var.{Var}
 use Rattle.etcs_vars.specs.Vars.{width, admits}
+use Rattle.etcs_vars.specs.Faults.{number_fault}
 use Rattle.etcs_vars.specs.Reading.{Reading}
 use Rattle.etcs_tables.specs.declared.item.Test.{Test}
 use Rattle.etcs_tables.specs.Layouts.{Layout, whole, one, guarded, Scope, Reads, passes}
-use Rattle.etcs_bodies.specs.Faults.{number_fault, count_fault}
+use Rattle.etcs_bodies.specs.Faults.{count_fault}
 use Rattle.etcs_bodies.specs.Taking.{Left, ahead, ◌and_then◌, next_number, next_flag, times_from}
 
 -- a reading of the row in front of rest is a value's, and one of rest

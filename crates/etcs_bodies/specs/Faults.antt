@@ -1,17 +1,10 @@
--- Which numbers a variable doesn't admit.
+-- What is wrong with a count, and with a number that need not be there.
 use Rattle.std.specs.Prelude.{ℕ, Option, Some, None, if◌then◌else◌}
 use Rattle.etcs_vars.specs.declared.var.Var.{Var}
 use Rattle.etcs_vars.specs.Vars.{admits}
 use Rattle.etcs_vars.specs.declared.fault.BuildFault.{BuildFault}
-use Rattle.etcs_vars.specs.declared.fault.BuildFault.TheVariants.{NotAdmitted, TooMany}
-
-infixr 10 ◌or_else◌
-abbrev pub ◌or_else◌ : Option BuildFault → Option BuildFault → Option BuildFault
-(Some e) or_else f = Some e
-None or_else f = f
-
-unfoldable pub number_fault : Var → ℕ → Option BuildFault
-number_fault v n = if admits v n then None else Some (NotAdmitted v)
+use Rattle.etcs_vars.specs.declared.fault.BuildFault.TheVariants.{TooMany}
+use Rattle.etcs_vars.specs.Faults.{number_fault}
 
 -- a count that its variable doesn't hold
 unfoldable pub count_fault : Var → ℕ → Option BuildFault

@@ -2,13 +2,13 @@
 use Rattle.std.proofs.Common.{◌≡◌, ℕ, ◌≤◌, Bool, List, length, Option, Some, None}
 use Rattle.etcs_vars.specs.declared.var.Var.TheVariants.{Q_DIR}
 use Rattle.etcs_vars.specs.declared.fault.BuildFault.{BuildFault}
+use Rattle.etcs_vars.specs.Faults.{number_fault}
 use Rattle.etcs_vars.specs.Reading.{Reading, numbers, spelled}
 use Rattle.etcs_tables.specs.declared.row.Way.{Way}
 use Rattle.etcs_tables.specs.declared.row.Way.TheVariants.{ToTrain, ToTrack}
 use Rattle.etcs_tables.specs.Layouts.{ROW_LIMIT}
 use Rattle.etcs_tables.specs.Typed.{IsTyped, IsFramed}
 use Rattle.etcs_bodies.specs.Taking.{Left, listed, in_bits, ◌and_then◌}
-use Rattle.etcs_bodies.specs.Faults.{number_fault}
 
 -- what is read as a packet is one, and a packet is read of what it spells
 pub record PacketCodes {P : Type 0} (way : Way) (nid : ℕ) (direction : P → ℕ) (IsValue : P → Type 0) (reading : P → Reading) (from : ℕ → Left → Option P) : Type 0 where

@@ -3,7 +3,7 @@ use Rattle.std.specs.Prelude.{◌≡◌, ℕ, ◌+◌, ◌≤◌, Bool, List, le
 use Rattle.etcs_bits.specs.Bits.{num, part}
 use Rattle.etcs_vars.specs.declared.var.Var.{Var}
 use Rattle.etcs_vars.specs.Vars.{admits}
-use Rattle.etcs_bodies.specs.Faults.{number_fault}
+use Rattle.etcs_vars.specs.Faults.{number_fault}
 use Rattle.etcs_bodies.specs.Taking.{Left, in_bits, next_number}
 
 -- the number of the variable is taken

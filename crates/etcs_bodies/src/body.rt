@@ -11,7 +11,7 @@ use crate::numbers::Numbers;
 use crate::packetlike::Packetlike;
 use etcs_bits::BitSlice;
 use etcs_tables::{Way, is_direction};
-use etcs_vars::parts::{Variables, append_numbers};
+use etcs_vars::inner::{Variables, append_numbers};
 use std::alloc::{AllocError, Global};
 
 /// The body of a typed packet, which makes it a `Packetlike` and a `Framed`.

@@ -11,7 +11,7 @@ use crate::list_of::ListOf;
 use crate::numbers::Numbers;
 use crate::part::{Part, clone_all, hold_all, send_list, take_list};
 use crate::taken;
-use etcs_vars::parts::{VarSink, Variables, bits_of_all};
+use etcs_vars::inner::{VarSink, Variables, bits_of_all};
 use etcs_vars::{BuildFault, Var};
 use std::alloc::{AllocError, Global};
 use std::marker::Model;

@@ -1,22 +1,9 @@
-//! Tests of numbers and counts.
+//! The test of a count.
 
 ghost use Rattle.std.specs.Prelude.{◌≡◌, None, Some, OnOk, IfErr};
-ghost use Rattle.etcs_bodies.specs.Faults.{number_fault, count_fault};
+ghost use Rattle.etcs_bodies.specs.Faults.{count_fault};
 
 use etcs_vars::{BuildFault, Var};
-
-/// Refuses a number that the variable doesn't admit.
-#[tactic(auto, using(crate::specs::laws::Takes::number_ok, crate::specs::laws::Takes::number_bad))]
-pub fn check(var: Var, number: u64) -> Result<(), BuildFault>
-    ensures ok { OnOk result (number_fault var number ≡ None) }
-    ensures fault { IfErr result (λ e. number_fault var number ≡ Some e) }
-{
-    if var.admits(number) {
-        Ok(())
-    } else {
-        Err(BuildFault::NotAdmitted(var))
-    }
-}
 
 /// Refuses a list that is longer than its count can say.
 #[tactic(auto, using(crate::specs::laws::Takes::count_ok, crate::specs::laws::Takes::count_bad))]

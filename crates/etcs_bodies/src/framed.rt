@@ -6,7 +6,7 @@ ghost use Rattle.etcs_tables.specs.Typed.{IsFramed};
 
 use crate::packetlike::Packetlike;
 use etcs_bits::BitSlice;
-use etcs_vars::parts::Variables;
+use etcs_vars::inner::Variables;
 use std::alloc::{AllocError, Global};
 
 /// A typed packet with its variables after L_PACKET, which it also is made of.

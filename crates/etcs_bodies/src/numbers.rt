@@ -2,8 +2,8 @@
 
 ghost use Rattle.std.specs.Prelude.{◌≡◌, ◌<◌, nat_lt, Some, None, IfSome, IfNone, IsTrue};
 ghost use Rattle.etcs_vars.specs.Vars.{admits};
+ghost use Rattle.etcs_vars.specs.Faults.{number_fault};
 ghost use Rattle.etcs_bodies.specs.Taking.{Left, listed, in_bits, is_spent, next_number, next_flag};
-ghost use Rattle.etcs_bodies.specs.Faults.{number_fault};
 ghost use Rattle.etcs_bodies.specs.Sources.{bits_left};
 
 use crate::runs::Run;

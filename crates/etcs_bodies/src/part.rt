@@ -10,7 +10,7 @@ ghost use Rattle.etcs_bodies.specs.Faults.{count_fault};
 use crate::numbers::Numbers;
 use crate::taken;
 use etcs_vars::Var;
-use etcs_vars::parts::{VarSink, Variables, bits_of_all, send_all};
+use etcs_vars::inner::{VarSink, Variables, bits_of_all, send_all};
 use std::alloc::{AllocError, Global};
 
 /// A part of a packet: a run of variables of its row.

@@ -5,8 +5,8 @@ use Rattle.etcs_text.specs.declared.entry.Kind.{Kind}
 use Rattle.etcs_text.specs.Encodings.{IsEncoded}
 use Rattle.etcs_text.specs.Entries.{EntryValue}
 use Rattle.etcs_json.specs.JsonLines.{SaysItem}
-use Rattle.etcs_sent.specs.declared.answer.EtcsAnswer.{EtcsAnswer}
-use Rattle.etcs_sent.specs.Answers.{Starves, Writes}
+use Rattle.etcs_c.specs.declared.answer.EtcsAnswer.{EtcsAnswer}
+use Rattle.etcs_c.specs.Writes.{Starves, Writes}
 use Rattle.etcs_c.specs.Answers.{SaysLine}
 use Rattle.etcs_c.specs.Built.{SaysPacked}
 

@@ -5,3 +5,6 @@ pub mod Packs
 pub mod Refusals
 pub mod Rooms
 pub mod Whole
+pub mod Equality
+pub mod Joining
+pub mod Names

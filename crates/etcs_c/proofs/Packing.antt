@@ -14,9 +14,9 @@ use Rattle.etcs_vars.specs.Vars.{width}
 use Rattle.etcs_vars.specs.Reading.{Reading, Sent, spelled}
 use Rattle.etcs_vars.proofs.Apart.{AllFit}
 use Rattle.etcs_vars.proofs.Prefixes.{width-le}
-use Rattle.etcs_sent.specs.declared.fields.EtcsField.{EtcsField}
-use Rattle.etcs_sent.specs.Fields.{Joined, closed, field, fields_of, is_run, join, joined, joins, var_number, widened}
-use Rattle.etcs_c.specs.Fields.{AreFit, IsFit, packed}
+use Rattle.etcs_c.specs.declared.fields.EtcsField.{EtcsField}
+use Rattle.etcs_c.specs.Fields.{Joined, closed, field, fields_of, is_run, join, joined, joins, var_number, widened}
+use Rattle.etcs_c.specs.ItemFields.{AreFit, IsFit, packed}
 
 pub packed_more : (fs : List EtcsField) (f : EtcsField) → packed (fs ++ f ∷ []) ≡ packed fs ++ num f.width f.number
 packed_more fs f = flat_map-append (λ (g : EtcsField). num g.width g.number) fs (f ∷ []) ∙ ap (λ (b : List Bool). packed fs ++ b) (append-nil (num f.width f.number))

@@ -3,14 +3,14 @@ use Rattle.std.proofs.Common.{◌≡◌, ℕ, ◌+◌, ◌*◌, ◌/◌, ◌≤�
 use Rattle.std.specs.Prelude.{Some}
 use Rattle.std.proofs.lemmas.Grind.{flat_map-append}
 use Rattle.std.proofs.lemmas.List.{length-append, take-append-le, take_at}
-use Rattle.std.proofs.lemmas.List.Elements.{All-nil, All-pop, All-push, All-take}
+use Rattle.std.proofs.lemmas.List.Elements.{All-pop, All-push, All-take}
 use Rattle.etcs_bits.specs.Bits.{bits, num, replaced}
-use Rattle.etcs_bits.proofs.Lists.{replaced_more, replaced_none}
+use Rattle.etcs_bits.proofs.Lists.{replaced_more}
 use Rattle.etcs_bits.proofs.Numbers.{length-num}
 use Rattle.etcs_bits.proofs.Owned.{bits-take}
 use Rattle.etcs_bits.proofs.Positions.{length-bits}
-use Rattle.etcs_sent.specs.declared.fields.EtcsField.{EtcsField}
-use Rattle.etcs_c.specs.Fields.{AreFit, IsFit, packed, whole_bytes}
+use Rattle.etcs_c.specs.declared.fields.EtcsField.{EtcsField}
+use Rattle.etcs_c.specs.ItemFields.{AreFit, IsFit, packed, whole_bytes}
 use Rattle.etcs_c.proofs.Packing.{packed_more}
 
 -- the bytes new are the bytes old with these fields' bits at their front, up to place
@@ -20,9 +20,6 @@ pub record Packs (fs : List EtcsField) (old new : List ℕ) (place : ℕ) : Type
   pub same : length new ≡ length old
   pub fit : AreFit fs
   pub bits_are : bits new ≡ replaced 0 (packed fs) (bits old)
-
-pub packs_none : (old : List ℕ) → Packs [] old old 0
-packs_none old = record { place_is = refl; inside = omega arith; same = refl; fit = All-nil IsFit; bits_are = sym (replaced_none 0 (bits old)) }
 
 pub packs_more : (fs : List EtcsField) (f : EtcsField) (old mid new : List ℕ) (place behind : ℕ) → Packs fs old mid place → IsFit f → behind ≡ place + f.width → behind ≤ 8 * length mid → length new ≡ length mid → bits new ≡ replaced place (num f.width f.number) (bits mid) → Packs (fs ++ f ∷ []) old new behind
 packs_more fs f old mid new place behind p fit is inside same written =

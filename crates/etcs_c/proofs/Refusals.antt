@@ -11,18 +11,18 @@ use Rattle.etcs_bits.specs.Bits.{num}
 use Rattle.etcs_text.specs.declared.entry.Kind.{Kind}
 use Rattle.etcs_text.specs.Entries.{EntryReads}
 use Rattle.etcs_text.proofs.ItemKinds.{kind_regular}
-use Rattle.etcs_accounts.specs.Accounts.{Shows, Accounts}
-use Rattle.etcs_accounts.specs.declared.account.End.{End}
-use Rattle.etcs_accounts.specs.declared.account.End.TheVariants as end
-use Rattle.etcs_accounts.proofs.Accounting.{whole_unrefused, open_unrefused}
-use Rattle.etcs_sent.specs.declared.answer.EtcsAnswer.{EtcsAnswer}
-use Rattle.etcs_sent.specs.declared.fields.EtcsField.{EtcsField}
+use Rattle.etcs_reasons.specs.Accounts.{Shows, Accounts}
+use Rattle.etcs_reasons.specs.declared.account.End.{End}
+use Rattle.etcs_reasons.specs.declared.account.End.TheVariants as end
+use Rattle.etcs_reasons.proofs.Accounting.{whole_unrefused, open_unrefused}
+use Rattle.etcs_c.specs.declared.answer.EtcsAnswer.{EtcsAnswer}
+use Rattle.etcs_c.specs.declared.fields.EtcsField.{EtcsField}
 use Rattle.etcs_c.specs.declared.found.Found.{Found}
 use Rattle.etcs_c.specs.declared.found.Found.TheVariants as found_as
-use Rattle.etcs_sent.specs.Answers.{Starves, WritesAs}
+use Rattle.etcs_c.specs.Writes.{Starves, WritesAs}
 use Rattle.etcs_c.specs.Answers.{Says}
 use Rattle.etcs_c.specs.Explained.{AreBefore, SaysBefore, SaysWhy, Words}
-use Rattle.etcs_sent.specs.Fields.{fields_of}
+use Rattle.etcs_c.specs.Fields.{fields_of}
 use Rattle.etcs_c.proofs.Whole.{item_bytes}
 
 abbrev Items : Kind → Reading → Type 0

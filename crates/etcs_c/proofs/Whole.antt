@@ -15,19 +15,19 @@ use Rattle.etcs_messages.proofs.Bytes.{message_bytes}
 use Rattle.etcs_text.specs.declared.entry.Kind.{Kind}
 use Rattle.etcs_text.specs.Entries.{EntryReads, EntryValue, Spells, of_message, of_telegram}
 use Rattle.etcs_text.proofs.ItemKinds.{kind_regular}
-use Rattle.etcs_sent.specs.declared.fields.EtcsField.{EtcsField}
+use Rattle.etcs_c.specs.declared.fields.EtcsField.{EtcsField}
 use Rattle.std.specs.Prelude.{IfOk, MatchResult}
 use Rattle.etcs_text.specs.declared.entry.Entry.{Entry}
 use Rattle.etcs_text.specs.Encodings.{IsEncoded}
-use Rattle.etcs_sent.specs.declared.answer.EtcsAnswer.{EtcsAnswer}
+use Rattle.etcs_c.specs.declared.answer.EtcsAnswer.{EtcsAnswer}
 use Rattle.etcs_c.specs.declared.found.Found.{Found}
 use Rattle.etcs_c.specs.declared.found.Found.TheVariants as found_as
-use Rattle.etcs_sent.specs.Answers.{Starves, Writes}
+use Rattle.etcs_c.specs.Writes.{Starves, Writes}
 use Rattle.etcs_c.specs.Answers.{Finds, Says}
 use Rattle.etcs_c.specs.Built.{IsBuilt, NoneHas}
 use Rattle.etcs_c.proofs.Delivering.{encoding_said}
-use Rattle.etcs_sent.specs.Fields.{fields_of}
-use Rattle.etcs_c.specs.Fields.{AreFit, packed, whole_bytes}
+use Rattle.etcs_c.specs.Fields.{fields_of}
+use Rattle.etcs_c.specs.ItemFields.{AreFit, packed, whole_bytes}
 use Rattle.etcs_c.proofs.Packing.{fit_reading, packed_reading}
 
 -- ---- The spelling of an item.

@@ -11,8 +11,8 @@ use Rattle.etcs_text.specs.Trees.{json_tree}
 use Rattle.etcs_json.specs.JsonLines.{OfLine, SaysItem, SaysRefused}
 use Rattle.etcs_json.specs.Loose.{IsLoose}
 use Rattle.etcs_json.specs.TreeReading.{IsTreeOf}
-use Rattle.etcs_sent.specs.declared.answer.EtcsAnswer.{EtcsAnswer}
-use Rattle.etcs_sent.specs.Answers.{Starves, Writes, name_field}
+use Rattle.etcs_c.specs.declared.answer.EtcsAnswer.{EtcsAnswer}
+use Rattle.etcs_c.specs.Writes.{Starves, Writes, name_field}
 use Rattle.etcs_c.specs.declared.found.Found.{Found}
 use Rattle.etcs_c.specs.declared.found.Found.TheVariants.{Whole, More, Refused, Memory}
 use Rattle.etcs_c.specs.declared.told.Wanted.{Wanted}

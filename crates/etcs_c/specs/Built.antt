@@ -5,12 +5,12 @@ use Rattle.etcs_vars.specs.Reading.{Reading, IsOutcome, refused, more}
 use Rattle.etcs_text.specs.declared.entry.Kind.{Kind}
 use Rattle.etcs_text.specs.Entries.{EntryReads, EntryValue}
 use Rattle.etcs_text.specs.Encodings.{IsEncoded}
-use Rattle.etcs_sent.specs.declared.answer.EtcsAnswer.{EtcsAnswer}
-use Rattle.etcs_sent.specs.declared.fields.EtcsField.{EtcsField}
-use Rattle.etcs_sent.specs.Answers.{Starves, Writes, name_field}
+use Rattle.etcs_c.specs.declared.answer.EtcsAnswer.{EtcsAnswer}
+use Rattle.etcs_c.specs.declared.fields.EtcsField.{EtcsField}
+use Rattle.etcs_c.specs.Writes.{Starves, Writes, name_field}
 use Rattle.etcs_c.specs.Answers.{NoKind, kind_number}
-use Rattle.etcs_sent.specs.Fields.{fields_of}
-use Rattle.etcs_c.specs.Fields.{packed, whole_bytes}
+use Rattle.etcs_c.specs.Fields.{fields_of}
+use Rattle.etcs_c.specs.ItemFields.{packed, whole_bytes}
 
 -- these are the fields of the item, which is of the kind
 abbrev pub HasFields : Kind → List EtcsField → EntryValue → Type 0

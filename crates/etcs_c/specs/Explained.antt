@@ -7,14 +7,14 @@ use Rattle.etcs_text.specs.Entries.{EntryReads, EntryValue}
 use Rattle.etcs_json.specs.JsonLines.{OfLine, SaysItem, SaysRefused}
 use Rattle.etcs_json.specs.Loose.{IsLoose}
 use Rattle.etcs_json.specs.TreeReading.{IsTreeOf}
-use Rattle.etcs_accounts.specs.Accounts.{Shows}
-use Rattle.etcs_sent.specs.declared.answer.EtcsAnswer.{EtcsAnswer}
-use Rattle.etcs_sent.specs.declared.fields.EtcsField.{EtcsField}
+use Rattle.etcs_reasons.specs.Accounts.{Shows}
+use Rattle.etcs_c.specs.declared.answer.EtcsAnswer.{EtcsAnswer}
+use Rattle.etcs_c.specs.declared.fields.EtcsField.{EtcsField}
 use Rattle.etcs_c.specs.declared.found.Found.{Found}
 use Rattle.etcs_c.specs.declared.found.Found.TheVariants.{Whole, More, Refused, Memory}
-use Rattle.etcs_sent.specs.Answers.{Starves, WritesAs, name_field}
+use Rattle.etcs_c.specs.Writes.{Starves, WritesAs, name_field}
 use Rattle.etcs_c.specs.Answers.{Says}
-use Rattle.etcs_sent.specs.Fields.{fields_of}
+use Rattle.etcs_c.specs.Fields.{fields_of}
 
 -- some words are written, and the status is this one
 abbrev pub Words : ℕ → List ℕ → List ℕ → ℕ → EtcsAnswer → Type 0

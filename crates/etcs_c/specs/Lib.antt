@@ -1,4 +1,8 @@
 pub mod Answers
 pub mod Built
 pub mod Explained
+pub mod ItemFields
+pub mod Writes
 pub mod Fields
+pub mod Parts
+pub mod laws

@@ -4,13 +4,13 @@ ghost use Rattle.std.specs.Prelude.{◌≡◌, ◌+◌, ◌≤◌, ◌*◌, IfSo
 ghost use Rattle.etcs_bits.specs.Bits.{bits, num, replaced};
 ghost use Rattle.etcs_c.specs.Answers.{Finds};
 ghost use Rattle.etcs_c.specs.Built.{IsBuilt};
-ghost use Rattle.etcs_c.specs.Fields.{AreFit, IsFit, packed, whole_bytes};
+ghost use Rattle.etcs_c.specs.ItemFields.{AreFit, IsFit, packed, whole_bytes};
 
+use crate::answer::{BAD_FIELDS, EtcsAnswer, NO_MEMORY, WHOLE, deliver};
+use crate::fields::{EtcsField, has_fields};
 use crate::found::{Found, find, say};
 use crate::json::encoding_of;
 use etcs_bits::{PokeFault, poke};
-use etcs_sent::parts::{BAD_FIELDS, NO_MEMORY, WHOLE, deliver, has_fields};
-use etcs_sent::{EtcsAnswer, EtcsField};
 use etcs_text::Kind;
 use std::alloc::{AllocError, Global};
 

@@ -5,18 +5,18 @@ ghost use Rattle.etcs_bits.specs.Bits.{bits};
 ghost use Rattle.etcs_vars.specs.declared.var.Var.{Var};
 ghost use Rattle.etcs_vars.specs.Reading.{Reading, IsOutcome, readings_of, refused};
 ghost use Rattle.etcs_text.specs.Entries.{EntryReads};
-ghost use Rattle.etcs_accounts.specs.Accounts.{Accounts};
-ghost use Rattle.etcs_accounts.specs.declared.account.End.{End};
+ghost use Rattle.etcs_reasons.specs.Accounts.{Accounts};
+ghost use Rattle.etcs_reasons.specs.declared.account.End.{End};
 ghost use Rattle.etcs_c.specs.Answers.{Finds};
 ghost use Rattle.etcs_c.specs.Explained.{SaysBefore, SaysLineWhy, SaysWhy};
-ghost use Rattle.etcs_sent.specs.Fields.{fields_of};
+ghost use Rattle.etcs_c.specs.Fields.{fields_of};
 
+use crate::answer::{BAD_JSON, EtcsAnswer, NO_MEMORY, REFUSED, WHOLE, deliver, refuse};
+use crate::fields::{EtcsField, fields_in};
 use crate::found::{Found, find, say};
-use etcs_accounts::{Account, why};
 use etcs_explain::why_json;
 use etcs_json::{JsonFault, from_line};
-use etcs_sent::parts::{BAD_JSON, NO_MEMORY, REFUSED, WHOLE, deliver, fields_in, refuse};
-use etcs_sent::{EtcsAnswer, EtcsField};
+use etcs_reasons::{Account, why};
 use etcs_text::Kind;
 use std::alloc::{AllocError, Global};
 

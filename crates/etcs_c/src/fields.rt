@@ -1,35 +1,183 @@
-//! The fields of an item.
+//! The fields of items: their variables, of which bits of one run are joined.
 
-ghost use Rattle.etcs_bits.specs.Bits.{bits};
-ghost use Rattle.etcs_c.specs.Answers.{Finds};
-ghost use Rattle.etcs_c.specs.Fields.{SaysFields};
+ghost use Rattle.std.specs.Prelude.{◌≡◌, IfOk};
+ghost use Rattle.std.specs.Bool.{Decides};
+ghost use Rattle.etcs_vars.specs.Reading.{Reading};
+ghost use Rattle.etcs_text.specs.Entries.{Spells, entry_value};
+ghost use Rattle.etcs_c.specs.Fields.{field, fields_of, is_run, joins, var_number};
 
-use crate::found::{Found, find, say};
-use etcs_sent::parts::{WHOLE, deliver, fields_of};
-use etcs_sent::{EtcsAnswer, EtcsField};
-use etcs_text::Kind;
-use std::alloc::Global;
+use crate::items::send_item;
+use etcs_text::Entry;
+use etcs_vars::Var;
+use etcs_vars::inner::VarSink;
+use std::alloc::{AllocError, Global};
+use std::marker::Model;
 
-/// Answers what was found, and writes the fields of an item.
-fn say_fields(alloc: Global, found: &Found, out: &mut [EtcsField], answer: &mut EtcsAnswer) -> u32
-    ensures { SaysFields found.now out.old out.new result answer.new }
+/// A variable of an item, or up to 64 bits one after another of FILL, OTHER_DATA, PADDING or PAD.
+#[repr(C)]
+#[derive(Clone, Copy, PartialEq, Eq)]
+pub struct EtcsField {
+    /// Its number; of bits the first is the highest.
+    pub number: u64,
+    /// Which variable it is.
+    pub var: u32,
+    /// How many bits its number takes.
+    pub width: u32,
+}
+
+/// The number of a variable.
+fn var_number(var: Var) -> u32
+    ensures { result ≡ var_number var }
 {
-    let status = say(found, answer);
-    match found {
-        Found::Whole { entry, .. } => deliver(WHOLE, fields_of(alloc, entry), out, answer),
-        _ => status,
+    var as u32
+}
+
+/// Whether bits of the variable are joined.
+fn is_run(var: Var) -> bool
+    ensures { result ≡ is_run var }
+{
+    matches!(var, Var::FILL | Var::OTHER_DATA | Var::PADDING | Var::PAD)
+}
+
+/// A variable with its number.
+fn field_of(var: Var, number: u64) -> EtcsField
+    ensures { result ≡ field (var, number) }
+{
+    EtcsField {
+        number,
+        var: var_number(var),
+        width: var.width() as u32,
     }
 }
 
-/// Answers what the bytes begin with, and writes the fields of an item.
-pub(crate) fn tell_fields(
-    alloc: Global,
-    kind: Kind,
-    bytes: &[u8],
-    out: &mut [EtcsField],
-    answer: &mut EtcsAnswer,
-) -> u32
-    ensures { (found : Found) × Finds kind (bits bytes.now) found × SaysFields found out.old out.new result answer.new }
+/// Whether a variable with its number is one bit more of these.
+fn joins(field: &EtcsField, var: Var, number: u64) -> bool
+    ensures { result ≡ joins field.now (var, number) }
 {
-    say_fields(alloc, &find(alloc, kind, bytes), out, answer)
+    is_run(var)
+        && field.var == var_number(var)
+        && field.width < 64
+        && field.number < 1 << 63
+        && number < 2
+}
+
+/// Fields of variables, in the order of sending. The last one is by itself, since a bit more may join it.
+#[derive(Drop)]
+struct FieldList {
+    before: Vec<EtcsField>,
+    last: Option<EtcsField>,
+}
+
+impl Model for FieldList {
+    ghost use Rattle.etcs_c.specs.Fields.{Joined};
+
+    ghost Value = { Joined };
+
+    ghost view = { λ s. (s.before.items, s.last) };
+}
+
+impl FieldList {
+    ghost use Rattle.std.specs.Prelude.{[], None, OnOk};
+    ghost use Rattle.etcs_c.specs.Fields.{closed, join};
+
+    /// None.
+    fn new(alloc: Global) -> FieldList
+        ensures { result ≡ ([], None) }
+    {
+        FieldList {
+            before: Vec::new(alloc),
+            last: None,
+        }
+    }
+
+    /// Takes a variable more.
+    fn join(&mut self, var: Var, number: u64) -> Result<(), AllocError>
+        ensures { OnOk result (self.new ≡ join self.old (var, number)) }
+    {
+        if let Some(last) = self.last {
+            if joins(&last, var, number) {
+                self.last = Some(EtcsField {
+                    number: last.number * 2 + number,
+                    var: last.var,
+                    width: last.width + 1,
+                });
+                return Ok(());
+            }
+            self.before.push(last)?;
+        }
+        self.last = Some(field_of(var, number));
+        Ok(())
+    }
+
+    /// All of them.
+    fn into_vec(self) -> Result<Vec<EtcsField>, AllocError>
+        ensures { IfOk result (λ fields. fields.items ≡ closed self) }
+    {
+        let FieldList { mut before, last } = self;
+        if let Some(last) = last {
+            before.push(last)?;
+        }
+        Ok(before)
+    }
+}
+
+impl VarSink for FieldList {
+    ghost use Rattle.std.proofs.Common.{refl};
+    ghost use Rattle.etcs_c.specs.Fields.{joined};
+    ghost use Rattle.etcs_c.specs.laws.Joining.{joined_both};
+
+    ghost with = { joined };
+
+    ghost failed = { λ s t. Unit {0} };
+
+    ghost with_none = { λ s. refl };
+
+    ghost with_both = { joined_both };
+
+    ghost failed_behind = { λ s a t h. tt };
+
+    fn send(&mut self, sent: &[(Var, u64)]) -> Result<(), AllocError> {
+        for pair in sent {
+            self.join(pair.0, pair.1)?;
+        }
+        Ok(())
+    }
+}
+
+/// The fields of an item.
+///
+/// # Errors
+///
+/// Where memory is refused.
+pub fn fields_of(alloc: Global, entry: &Entry) -> Result<Vec<EtcsField>, AllocError>
+    ensures { IfOk result (λ fields. (r : Reading) × Spells (entry_value entry.now) r × (fields.items ≡ fields_of r)) }
+{
+    let mut list = FieldList::new(alloc);
+    send_item(entry, &mut list)?;
+    list.into_vec()
+}
+
+/// The fields of variables.
+///
+/// # Errors
+///
+/// Where memory is refused.
+pub fn fields_in(alloc: Global, vars: &[(Var, u64)]) -> Result<Vec<EtcsField>, AllocError>
+    ensures { IfOk result (λ fields. fields.items ≡ fields_of vars.now) }
+{
+    let mut list = FieldList::new(alloc);
+    list.send(vars)?;
+    list.into_vec()
+}
+
+/// Whether these are the fields of an item, all of them.
+///
+/// # Errors
+///
+/// Where memory is refused.
+pub fn has_fields(alloc: Global, entry: &Entry, fields: &[EtcsField]) -> Result<bool, AllocError>
+    ensures { IfOk result (λ has. (r : Reading) × Spells (entry_value entry.now) r × Decides has (fields.now ≡ fields_of r)) }
+{
+    let own = fields_of(alloc, entry)?;
+    Ok(own.as_slice() == fields)
 }

@@ -7,9 +7,8 @@ ghost use Rattle.etcs_messages.specs.Messages.{message_value};
 ghost use Rattle.etcs_text.specs.Entries.{EntryReads, kind_of, message_kind, of_message};
 ghost use Rattle.etcs_c.specs.Answers.{Finds, Says};
 
+use crate::answer::{EtcsAnswer, MORE, NO_MEMORY, WHOLE, refuse};
 use etcs_messages::{Head, MessageOf, Own, ReaderOf};
-use etcs_sent::EtcsAnswer;
-use etcs_sent::parts::{MORE, NO_MEMORY, WHOLE, refuse};
 use etcs_telegram::{Size, TelegramReader};
 use etcs_text::{Entry, Kind};
 use etcs_vars::{Fed, ReadFault, Var};

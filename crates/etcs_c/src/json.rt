@@ -5,9 +5,8 @@ ghost use Rattle.etcs_text.specs.Entries.{entry_value};
 ghost use Rattle.etcs_text.specs.Encodings.{IsEncoded};
 ghost use Rattle.etcs_c.specs.Answers.{SaysLine};
 
+use crate::answer::{BAD_JSON, EtcsAnswer, NO_MEMORY, WHOLE, deliver, refuse};
 use etcs_json::{JsonFault, from_line};
-use etcs_sent::EtcsAnswer;
-use etcs_sent::parts::{BAD_JSON, NO_MEMORY, WHOLE, deliver, refuse};
 use etcs_text::{Entry, Kind, encoded};
 use std::alloc::{AllocError, Global};
 

@@ -3,10 +3,13 @@
 //! A slice is a pointer and then its length; `alloc` takes no place. Nothing is kept from one call to the next.
 #![tactic(auto)]
 
+mod answer;
 mod built;
 mod explained;
 mod fields;
 mod found;
+mod item_fields;
+mod items;
 mod json;
 mod kind;
 mod told;
@@ -17,16 +20,17 @@ ghost use Rattle.etcs_text.specs.declared.entry.Kind.{Kind};
 ghost use Rattle.etcs_c.specs.Answers.{Checks, Finds, NoKind, Tells, TellsJson, kind_number};
 ghost use Rattle.etcs_c.specs.Built.{Builds};
 ghost use Rattle.etcs_c.specs.Explained.{SaysBefore, SaysLineWhy, SaysWhy};
-ghost use Rattle.etcs_c.specs.Fields.{SaysFields};
+ghost use Rattle.etcs_c.specs.ItemFields.{SaysFields};
 ghost use Rattle.etcs_c.specs.declared.found.Found.{Found};
 ghost use Rattle.etcs_c.specs.declared.told.Wanted.TheVariants as wanted;
 
+pub use answer::EtcsAnswer;
+use answer::UNKNOWN_KIND;
 use built::from_fields;
-use etcs_sent::parts::UNKNOWN_KIND;
-pub use etcs_sent::{EtcsAnswer, EtcsField};
 use explained::{tell_before, tell_line_why, tell_why};
-use fields::tell_fields;
+pub use fields::EtcsField;
 use found::{find, say};
+use item_fields::tell_fields;
 use json::from_json;
 use kind::kind_of;
 use std::alloc::Global;

@@ -7,9 +7,8 @@ ghost use Rattle.etcs_text.specs.Entries.{entry_value};
 ghost use Rattle.etcs_text.specs.Trees.{json_tree};
 ghost use Rattle.etcs_c.specs.Answers.{Finds, IsText, SaysText};
 
+use crate::answer::{EtcsAnswer, WHOLE, deliver};
 use crate::found::{Found, find, say};
-use etcs_sent::EtcsAnswer;
-use etcs_sent::parts::{WHOLE, deliver};
 use etcs_text::{Entry, Kind, json_line, show_lines};
 use std::alloc::{AllocError, Global};
 

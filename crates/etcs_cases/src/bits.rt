@@ -1,7 +1,7 @@
 //! Lines about bits at any offset.
 
 use crate::case::{Case, MOST_BITS};
-use etcs_bits::{BitSlice, Bits, PokeFault, Poker, SliceWalker, Walker, parts, peek, poke};
+use etcs_bits::{BitSlice, Bits, PokeFault, Poker, SliceWalker, Walker, inner, peek, poke};
 
 /// How many numbers a line has at most.
 const MOST: u8 = 100;
@@ -194,7 +194,7 @@ fn append(case: &mut Case, held: &mut Bits, slice: BitSlice<'_>) {
     if slice.len() > MOST_BITS || held.len() > MOST_BITS {
         return case.bad();
     }
-    case.kept(parts::append(held, &slice).is_ok());
+    case.kept(inner::append(held, &slice).is_ok());
 }
 
 /// The bits of a copy.
@@ -223,6 +223,6 @@ fn lay(case: &mut Case, into: &mut [u8], at: usize, slice: BitSlice<'_>) {
     if BitSlice::new(into, at, slice.len()).is_none() {
         case.bad();
     } else {
-        parts::write_slice(into, at, &slice);
+        inner::write_slice(into, at, &slice);
     }
 }

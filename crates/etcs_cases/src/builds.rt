@@ -6,10 +6,10 @@ use crate::readers::next_size;
 use crate::several::all_packets;
 use crate::telegrams::{check_laws, encoded};
 use etcs_bits::Bits;
-use etcs_packet_text::parts::write_packets;
+use etcs_packet_text::inner::write_packets;
 use etcs_packets::Packet;
-use etcs_packets::parts::AnyPacket;
-use etcs_telegram::parts::header_numbers;
+use etcs_packets::inner::AnyPacket;
+use etcs_telegram::inner::header_numbers;
 use etcs_telegram::{Header, Size, Telegram};
 use etcs_vars::BuildFault;
 

@@ -22,7 +22,7 @@ use etcs_packets::{
 use etcs_tables::frame_bits;
 use etcs_track::{PositionReport, PositionReportTwo, TrainPacket};
 use etcs_vars::BuildFault;
-use etcs_vars::parts::append_numbers;
+use etcs_vars::inner::append_numbers;
 
 /// Answers a line about a packet that is built: whether it is one.
 pub(crate) fn answer(case: &mut Case, kind: &str) -> bool {
@@ -90,8 +90,8 @@ fn say_made<'a, A: Asked>(case: &mut Case<'a>, behind: &'a str, packet: Option<&
 
 /// The frame of a packet that is as `NUMBERS : BITS` has it.
 fn say_built<A: Asked>(case: &mut Case, packet: &A) {
-    let dir = packet.direction().unwrap_or(3);
-    let spelled = Spelled::next(case, packet.number_of(), dir);
+    let dir = packet.dir().unwrap_or(3);
+    let spelled = Spelled::next(case, packet.nid(), dir);
     say_checked(case, packet, &spelled);
 }
 
@@ -536,7 +536,7 @@ fn kept_bits<A: Asked>(case: &mut Case) {
 
 /// The parts of a packet that is kept as this many bits.
 fn say_kept<A: Asked>(case: &mut Case, packet: &A, len: usize) {
-    case.say_next(u64::from(packet.number_of()));
+    case.say_next(u64::from(packet.nid()));
     say_dir(case, packet);
     match packet.kept_bits() {
         Some(body) => {
@@ -545,7 +545,7 @@ fn say_kept<A: Asked>(case: &mut Case, packet: &A, len: usize) {
         }
         None => case.check(false, "no kept bits"),
     }
-    let body = packet.full_bits().checked_sub(frame_bits(A::WAY));
+    let body = packet.bit_len().checked_sub(frame_bits(A::WAY));
     case.check(body == Some(len), "another length");
     let copied = is_copied(case, packet);
     case.check(copied, "another copy");

@@ -6,8 +6,8 @@ use crate::packets::FAULTS;
 use etcs_bits::Bits;
 use etcs_bodies::Packetlike;
 use etcs_bodies::laws::exact_equality;
+use etcs_packets::inner::AnyPacket;
 use etcs_packets::laws::{exact_packet, one_packet};
-use etcs_packets::parts::AnyPacket;
 use etcs_packets::{Flat, Other, Packet};
 use etcs_tables::Way;
 use etcs_track::{TrainFlat, TrainOther, TrainPacket, laws};
@@ -188,9 +188,9 @@ pub(crate) fn check_listed<A: Asked>(case: &mut Case, packet: &A, numbers: &[u64
 }
 
 fn check_own<A: AnyPacket>(case: &mut Case, packet: &A, own: Own) {
-    case.check(own.nid == packet.number_of(), "another type's number");
+    case.check(own.nid == packet.nid(), "another type's number");
     case.check(own.way == A::WAY, "another way");
-    case.check(packet.direction() == Some(own.dir), "another direction");
+    case.check(packet.dir() == Some(own.dir), "another direction");
 }
 
 /// What a law says of two packets, where it is what `==` says and what the law of their type does, if there is one.
@@ -205,6 +205,6 @@ fn agreed<A: PartialEq>(first: &A, second: &A, same: bool, own: Option<bool>) ->
 /// Whether a packet, which is one, has an equal copy.
 pub(crate) fn is_copied<A: Asked>(case: &mut Case, packet: &A) -> bool {
     packet.hold();
-    let copy = case.got(packet.copy(case.alloc()));
+    let copy = case.got(packet.try_clone(case.alloc()));
     copy.as_ref() == Some(packet)
 }

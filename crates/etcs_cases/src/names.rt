@@ -1,6 +1,6 @@
 //! The variables by their names.
 
-use etcs_vars::parts::COUNT;
+use etcs_vars::inner::COUNT;
 use etcs_vars::{Var, variables};
 
 /// A variable.

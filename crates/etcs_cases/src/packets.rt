@@ -189,15 +189,15 @@ fn say_read<A: Asked>(case: &mut Case, read: Option<&A>) {
 
 /// Number, direction where there is any, and length of a packet.
 pub(crate) fn say_frame<A: Asked>(case: &mut Case, packet: &A) {
-    case.say_next(u64::from(packet.number_of()));
+    case.say_next(u64::from(packet.nid()));
     say_dir(case, packet);
-    case.say_number(packet.full_bits() as u64);
+    case.say_number(packet.bit_len() as u64);
 }
 
 /// The direction of a packet to the train.
 pub(crate) fn say_dir<A: Asked>(case: &mut Case, packet: &A) {
     if A::WAY == Way::ToTrain {
-        match packet.direction() {
+        match packet.dir() {
             Some(dir) => case.say_next(u64::from(dir)),
             None => case.say("- "),
         }
@@ -213,8 +213,8 @@ pub(crate) fn say_checked<A: Asked>(case: &mut Case, packet: &A, spelled: &Spell
 /// Checks that a packet is as it is spelled: its frame, its numbers, what its numbers and bits are read as in each
 /// direction, its copy, and that nothing shorter or longer is read.
 pub(crate) fn check_packet<A: Asked>(case: &mut Case, packet: &A, spelled: &Spelled) {
-    case.check(packet.number_of() == spelled.nid, "another number");
-    let length = packet.full_bits().checked_sub(frame_bits(A::WAY));
+    case.check(packet.nid() == spelled.nid, "another number");
+    let length = packet.bit_len().checked_sub(frame_bits(A::WAY));
     case.check(length == Some(spelled.len), "another length");
     check_sent(case, packet, spelled);
     check_listed(case, packet, spelled.numbers.as_slice());
@@ -255,8 +255,8 @@ fn check_like<A: Asked>(case: &mut Case, packet: &A, dir: u8, read: Option<&A>) 
     let is_any = is_direction(A::WAY, dir);
     case.check(read.is_some() == is_any, "not read");
     if let Some(read) = read {
-        case.check(read.direction() == Some(dir), "another direction");
-        let is_own = packet.direction() == Some(dir);
+        case.check(read.dir() == Some(dir), "another direction");
+        let is_own = packet.dir() == Some(dir);
         case.check((read == packet) == is_own, "read as another");
     }
 }

@@ -11,7 +11,7 @@ use etcs_packets::{
     Section, Shown, Slope, Speed, TextFrame,
 };
 use etcs_track::Located;
-use etcs_vars::parts::{Variables, append_numbers};
+use etcs_vars::inner::{Variables, append_numbers};
 use etcs_vars::{BuildFault, Var};
 
 /// What is answered of a fault.

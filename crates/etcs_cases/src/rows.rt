@@ -8,7 +8,7 @@ ghost use Rattle.etcs_tables.specs.Layouts.{layout, AdmitsFields, Spells};
 use crate::case::Case;
 use crate::sets::say_set;
 use etcs_bits::Bits;
-use etcs_rows::parts::{Carrier, length_fits, number_fits, put_row};
+use etcs_rows::inner::{Carrier, length_fits, number_fits, put_row};
 use etcs_rows::{Place, admits_fields, lengths, reaches, write_row};
 use etcs_tables::{Row, Way, message_row, row_of};
 use std::alloc::{AllocError, Global};

@@ -2,9 +2,9 @@
 
 use crate::case::{Case, MOST_BITS};
 use etcs_bits::{BitSlice, Bits};
-use etcs_packets::parts::AnyPacket;
+use etcs_packets::inner::AnyPacket;
 use etcs_vars::Var;
-use etcs_vars::parts::{PairList, Variables};
+use etcs_vars::inner::{PairList, Variables};
 
 /// How many bits come before those of what was sent, so that they begin inside a byte.
 pub(crate) const BEFORE: usize = 5;
@@ -102,7 +102,7 @@ pub(crate) fn sent_of<V: Variables>(case: &mut Case, part: &V) -> Sent {
 /// The variables of a packet after its frame.
 pub(crate) fn packet_sent<A: AnyPacket>(case: &mut Case, packet: &A) -> Sent {
     let mut list = PairList::new(case.alloc());
-    case.kept(packet.send_variables(&mut list).is_ok());
+    case.kept(packet.send_body(&mut list).is_ok());
     let pairs = list.into_vec();
     Sent { pairs }
 }

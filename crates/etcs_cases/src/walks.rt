@@ -3,7 +3,7 @@
 use crate::case::Case;
 use crate::rows::{next_row, place_behind};
 use etcs_bits::BitSlice;
-use etcs_rows::parts::{unfinished, wanted};
+use etcs_rows::inner::{unfinished, wanted};
 use etcs_rows::{LengthSet, RowWalk, Step, Stopped, lengths};
 use etcs_tables::Row;
 

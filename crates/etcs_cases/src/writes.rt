@@ -4,9 +4,8 @@ use crate::case::Case;
 use crate::several::all_packets;
 use etcs_bits::BitSlice;
 use etcs_packets::Packet;
-use etcs_packets::parts::{AnyPacket, append_all, room_left};
-use etcs_vars::Var;
-use etcs_words::WordSink;
+use etcs_packets::inner::{AnyPacket, append_all, room_left};
+use etcs_vars::{Var, WordSink};
 
 /// Answers a line about what is written: whether it is one.
 pub(crate) fn answer(case: &mut Case, kind: &str) -> bool {

@@ -63,7 +63,7 @@ static LAYOUTS_HELP: &str =
     "Form of the output: lines of text (text) or a page for a browser (html)";
 
 /// What `--version` says after the name: the version, and the line of the kit that proves it.
-static VERSION: &str = "0.1.0 (rattle-kit-13b logic dac8208d650f15bf)";
+static VERSION: &str = "0.1.0 (rattle-kit-13f logic dac8208d650f15bf)";
 
 /// What help says after a subcommand's options: what an item is, where the run ends, what the statuses mean, and an
 /// example.

@@ -1,10 +1,11 @@
-//! The crates below, each with all that it has: what it hands to crates above (`parts`), and its laws (`laws`).
+//! The crates below, each with all that it has: what it hands to crates above (`inner`), and its laws (`laws`).
 
 pub use etcs_bits;
 pub use etcs_group;
 pub use etcs_json;
 pub use etcs_packets;
 pub use etcs_radio;
+pub use etcs_reasons;
 pub use etcs_rows;
 pub use etcs_stream;
 pub use etcs_tables;

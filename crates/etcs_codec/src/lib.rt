@@ -1,7 +1,7 @@
 //! The whole codec in one crate: a program or a library names it alone in `crates.txt`.
 //!
 //! [`prelude`] has what most programs use, for `use etcs_codec::prelude::*`. Here is the rest: bits at any offset, rows
-//! and walks over them, runs over streams. The crates below are in [`crates`], each with all that it has.
+//! and walks over them, runs over streams, how an account ends. The crates below are in [`crates`], each with all that it has.
 //!
 //! ```rust
 //! use etcs_codec::prelude::*;
@@ -18,6 +18,7 @@ pub mod prelude;
 
 pub use etcs_bits::{BitIterator, PokeFault, Poker, SliceWalker, Walker, next_bits, peek, poke};
 pub use etcs_json::from_line;
+pub use etcs_reasons::{End, Part};
 pub use etcs_rows::{
     LengthSet, Place, RowWalk, Step, Stopped, admits_fields, lengths, reaches, write_row,
 };

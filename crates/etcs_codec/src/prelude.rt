@@ -2,7 +2,7 @@
 
 pub use etcs_bits::{BitSlice, Bits};
 pub use etcs_group::{Added, Assembly, Clash, GroupFault};
-pub use etcs_json::{JsonFault, Value, from_value, to_value};
+pub use etcs_json::{JsonFault, Value, from_line, from_value, to_value};
 pub use etcs_packets::{
     Authority, BaliseAt, BaliseList, Condition, ConditionalLevelOrder, Differing, FixedText, Flat,
     Gradient, InfillLocation, Level, Level1Ma, Level23Ma, LevelAck, LevelOrder, Link, Linking,
@@ -11,12 +11,16 @@ pub use etcs_packets::{
     TrackState,
 };
 pub use etcs_radio::{Body, Message, MessageReader, RadioHead};
+pub use etcs_reasons::{Account, Reason, why};
 pub use etcs_tables::Way;
 pub use etcs_telegram::{
     Header, Held, NoRoom, PacketRef, Packets, Size, Telegram, TelegramReader, TelegramView,
     ViewFault,
 };
-pub use etcs_text::{Entry, Kind, hex_line, json_line, show_lines};
+pub use etcs_text::{
+    Entry, EntryReader, Kind, SingleReader, Verdict, check_line, encoded, hex_line, json_line,
+    show_lines,
+};
 pub use etcs_track::{
     Located, PositionReport, PositionReportTwo, TrainFlat, TrainOther, TrainPacket,
 };

@@ -1,10 +1,11 @@
 //! Why JSON is no item: the path of the first part that is wrong, as jq has it, and the reason.
 
-use etcs_accounts::parts::{Text, low_byte, user_bits, way_of, write_not_admitted};
 use etcs_json::{JsonFault, from_line};
+use etcs_reasons::inner::{Text, low_byte, user_bits, way_of, write_not_admitted};
 use etcs_rows::Place;
 use etcs_tables::{
-    CLOSING, CLOSING_BITS, MARKER_BITS, Row, RowItem, Way, frame_bits, message_row, row_of,
+    CLOSING, CLOSING_BITS, MARKER_BITS, Row, RowItem, Way, frame_bits, head_row, header_row,
+    message_row, row_of,
 };
 use etcs_text::Kind;
 use etcs_vars::Var;
@@ -24,21 +25,10 @@ macro_rules! wrong {
     }};
 }
 
-/// A row of these variables.
-macro_rules! row {
-    ($($var:ident)*) => { Row { items: &[$(RowItem::One(Var::$var)),*] } };
-}
-
-/// The header of a telegram, what comes after L_MESSAGE in that of a message, and packet 0.
-#[rattlefmt::skip]
-const HEADER: Row =
-    row!(Q_UPDOWN M_VERSION_HEADER Q_MEDIA N_PIG N_TOTAL M_DUP M_MCOUNT NID_C NID_BG Q_LINK);
-
-const TO_TRAIN: Row = row!(T_TRAIN M_ACK NID_LRBG);
-
-const TO_TRACK: Row = row!(T_TRAIN NID_ENGINE);
-
-const MARKER: Row = row!(NID_VBCMK);
+/// The row of packet 0.
+const MARKER: Row = Row {
+    items: &[RowItem::One(Var::NID_VBCMK)],
+};
 
 /// The word of a kind.
 fn word(kind: Kind) -> &'static str {
@@ -292,7 +282,7 @@ impl<'a> Part<'a> {
     /// Tests a telegram.
     fn test_telegram(self, kind: Kind, out: &mut Text) -> Option<()> {
         self.test_kind(kind, &["kind", "header", "packets", "fill"], out)?;
-        let header = self.member("header", out)?.pairs(HEADER, out)?;
+        let header = self.member("header", out)?.pairs(header_row(), out)?;
         let packets = self.packets(Way::ToTrain, out)?;
         let room = user_bits(kind).saturating_sub(header.saturating_add(CLOSING_BITS));
         if packets > room {
@@ -311,11 +301,7 @@ impl<'a> Part<'a> {
         let Some(row) = message_row(way, nid) else {
             wrong!(self.named("nid"), out; "message {nid} is kept as bits here: its members are kind, nid and data");
         };
-        let head = match way {
-            Way::ToTrain => TO_TRAIN,
-            Way::ToTrack => TO_TRACK,
-        };
-        let header = self.member("header", out)?.pairs(head, out)?;
+        let header = self.member("header", out)?.pairs(head_row(way), out)?;
         let fields = self.member("fields", out)?.pairs(row, out)?;
         let packets = self.packets(way, out)?;
         let all = packets.saturating_add(header.saturating_add(fields).saturating_add(18));

@@ -2,9 +2,8 @@
 #![tactic(auto)]
 
 mod json;
-pub mod parts;
 mod run;
 
-pub use etcs_accounts::{Account, End, Layout, Part, Reason, why};
+pub use etcs_reasons::{Account, End, Layout, Part, Reason, why};
 pub use json::why_json;
 pub use run::{Task, explain};

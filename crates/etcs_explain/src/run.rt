@@ -1,14 +1,13 @@
 //! A run: the items of an input, explained one after another.
 
 use crate::json::write_no_item;
-use etcs_accounts::parts::{
+use etcs_json::{JsonFault, from_line};
+use etcs_reasons::inner::{
     FOOT, HEAD, MOST_BYTES, Sheet, Text, wanted_bytes, way_of, write_bytes, write_cause,
     write_no_bytes, write_table,
 };
-use etcs_accounts::{Account, End, Layout, Part};
-use etcs_digits::{NoBytes, line_bytes};
-use etcs_json::{JsonFault, from_line};
-use etcs_runs::{Form, RunFault, split_line, without_cr};
+use etcs_reasons::{Account, End, Layout, Part};
+use etcs_runs::{Form, NoBytes, RunFault, line_bytes, split_line, without_cr};
 use etcs_text::{Kind, encoded};
 use std::alloc::{AllocError, Global};
 use std::io::{Read, Write};

@@ -21,9 +21,3 @@ pub flat_short : (way : Way) (nid dir : ℕ) (ns : List ℕ) → flat_fault_to w
 flat_short way nid dir ns fine =
     let x = nothing_wrong way (flat_row_to way nid) dir ns fine in
     omega (arith, x.2, row_short way nid x.0 x.1)
-
--- its variables have its numbers
-pub flat_numbers : (way : Way) (nid dir : ℕ) (ns : List ℕ) → flat_fault_to way nid dir ns ≡ None → numbers (flat_reading_to way nid ns) ≡ ns
-flat_numbers way nid dir ns fine =
-    let x = nothing_wrong way (flat_row_to way nid) dir ns fine in
-    ap (λ (o : Option (List Var)). numbers (row_reading o ns)) x.1 ∙ pairs-numbers x.0 ns x.2

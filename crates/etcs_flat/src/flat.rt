@@ -18,7 +18,7 @@ use crate::table::{few, send_table, table_bits, table_of, take_table};
 use arrayvec::ArrayVec;
 use etcs_bodies::{Body, Numbers};
 use etcs_tables::{RowItem, Way, row_of};
-use etcs_vars::parts::{VarSink, Variables};
+use etcs_vars::inner::{VarSink, Variables};
 use etcs_vars::{BuildFault, Var, check};
 use std::alloc::{AllocError, Global};
 use std::marker::Model;

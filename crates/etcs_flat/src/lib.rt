@@ -3,10 +3,10 @@
 
 mod body;
 mod flat;
+pub mod inner;
 pub mod laws;
 mod marker;
 mod other;
-pub mod parts;
 mod table;
 
 pub use etcs_bits::{BitSlice, Bits};

@@ -30,7 +30,7 @@ impl Model for Marker {
 }
 
 impl Marker {
-    /// A marker of this number, as `parts::marker` says.
+    /// A marker of this number, as `inner::marker` says.
     pub(crate) fn new(number: u8) -> Result<Marker, BuildFault>
         ensures ok { IfOk result (λ m. m ≡ number) }
         ensures fits { OnOk result (number_fault NID_VBCMK number ≡ None) }

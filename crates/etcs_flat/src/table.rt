@@ -10,7 +10,7 @@ use crate::flat::flat_row;
 use arrayvec::ArrayVec;
 use etcs_bodies::Numbers;
 use etcs_tables::{RowItem, Way};
-use etcs_vars::parts::VarSink;
+use etcs_vars::inner::VarSink;
 use std::alloc::AllocError;
 
 /// The table of a packet whose row has no groups.

@@ -8,7 +8,7 @@ ghost use Rattle.etcs_group.specs.Messages.{IsHeldAt, IsHeldAs, IsMissing, IsLac
 
 use crate::clash::{Clash, first_clash};
 use etcs_telegram::Telegram;
-use etcs_telegram::parts::header_numbers;
+use etcs_telegram::inner::header_numbers;
 use std::marker::Model;
 
 /// What an accepted telegram is.

@@ -6,7 +6,7 @@ ghost use Rattle.etcs_group.specs.Groups.{Holds, HoldsNone};
 ghost use Rattle.etcs_group.specs.Messages.{IsHeldAt};
 
 use crate::assembly::Assembly;
-use crate::parts;
+use crate::inner;
 use etcs_telegram::Telegram;
 
 impl Assembly {
@@ -25,6 +25,6 @@ impl Assembly {
         ensures group { IfSome result (λ g. (t : TelegramContent) → Holds self.now t → (t.header.nid_c ≡ g.0) × (t.header.nid_bg ≡ g.1)) }
         ensures none { IfNone result (HoldsNone self.now) }
     {
-        parts::group(self)
+        inner::group(self)
     }
 }

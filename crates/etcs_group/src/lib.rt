@@ -18,9 +18,9 @@ mod assembly;
 mod clash;
 mod fault;
 mod held;
+pub mod inner;
 pub mod laws;
 mod message;
-pub mod parts;
 
 pub use assembly::{Added, Assembly};
 pub use clash::Clash;

@@ -4,8 +4,9 @@ use Rattle.std.specs.Prelude.{◌==◌, if◌then◌else◌}
 use Rattle.etcs_vars.specs.declared.var.Var.TheVariants.{NID_PACKET, Q_DIR, N_ITER}
 use Rattle.etcs_vars.specs.declared.fault.BuildFault.{BuildFault}
 use Rattle.etcs_vars.specs.declared.fault.BuildFault.TheVariants.{NotAdmitted}
+use Rattle.etcs_vars.specs.Faults.{◌or_else◌, number_fault}
 use Rattle.etcs_vars.specs.Reading.{Reading}
-use Rattle.etcs_bodies.specs.Faults.{◌or_else◌, number_fault, count_fault}
+use Rattle.etcs_bodies.specs.Faults.{count_fault}
 use Rattle.etcs_bodies.specs.Taking.{Left}
 use Rattle.etcs_bodies.specs.Codecs.{IsEntries, list_reading, list_from}
 use Rattle.etcs_bodies.specs.PacketCodes.{directed_from, never}

@@ -3,10 +3,11 @@ use Rattle.std.proofs.Common.{◌≡◌, ℕ, List, ◌∷◌, length, Option, N
 use Rattle.std.specs.Prelude.{if◌then◌else◌}
 use Rattle.etcs_vars.specs.declared.var.Var.TheVariants.{Q_DIR, Q_SCALE, N_ITER}
 use Rattle.etcs_vars.specs.declared.fault.BuildFault.{BuildFault}
+use Rattle.etcs_vars.specs.Faults.{◌or_else◌, number_fault}
 use Rattle.etcs_vars.specs.Reading.{Reading}
 use Rattle.etcs_tables.specs.Layouts.{Layout}
 use Rattle.etcs_tables.specs.Rows.{◌▸◌}
-use Rattle.etcs_bodies.specs.Faults.{◌or_else◌, number_fault, count_fault}
+use Rattle.etcs_bodies.specs.Faults.{count_fault}
 use Rattle.etcs_bodies.specs.Taking.{Left, next_number}
 use Rattle.etcs_bodies.specs.Codecs.{both_from, IsBoth}
 use Rattle.etcs_bodies.specs.Entries.{AreEntries, entries_reading, entries_from, entries_row}
@@ -83,11 +84,11 @@ gradient_fault = chain_fault 24 slope_reading
 abbrev pub IsGradient : ChainValue SlopeValue → Type 0
 IsGradient = IsChain IsSlope 24 slope_reading
 
-abbrev pub profile_reading : ChainValue SpeedValue → Reading
-profile_reading = chain_reading speed_reading
+abbrev pub speed_profile_reading : ChainValue SpeedValue → Reading
+speed_profile_reading = chain_reading speed_reading
 
-abbrev pub profile_fault : ChainValue SpeedValue → Option BuildFault
-profile_fault = chain_fault 431 speed_reading
+abbrev pub speed_profile_fault : ChainValue SpeedValue → Option BuildFault
+speed_profile_fault = chain_fault 431 speed_reading
 
 abbrev pub IsSpeedProfile : ChainValue SpeedValue → Type 0
 IsSpeedProfile = IsChain IsSpeed 431 speed_reading

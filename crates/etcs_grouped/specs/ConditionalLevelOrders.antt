@@ -2,8 +2,9 @@
 use Rattle.std.proofs.Common.{◌≡◌, ℕ, List, length, Option, None}
 use Rattle.etcs_vars.specs.declared.var.Var.TheVariants.{Q_DIR, N_ITER}
 use Rattle.etcs_vars.specs.declared.fault.BuildFault.{BuildFault}
+use Rattle.etcs_vars.specs.Faults.{◌or_else◌, number_fault}
 use Rattle.etcs_vars.specs.Reading.{Reading}
-use Rattle.etcs_bodies.specs.Faults.{◌or_else◌, number_fault, count_fault}
+use Rattle.etcs_bodies.specs.Faults.{count_fault}
 use Rattle.etcs_bodies.specs.Taking.{Left}
 use Rattle.etcs_bodies.specs.Entries.{AreEntries, entries_reading, entries_from}
 use Rattle.etcs_bodies.specs.PacketCodes.{directed_from, never}

@@ -2,8 +2,8 @@
 use Rattle.std.proofs.Common.{◌≡◌, ℕ, Option, None}
 use Rattle.etcs_vars.specs.declared.var.Var.TheVariants.{Q_DIR}
 use Rattle.etcs_vars.specs.declared.fault.BuildFault.{BuildFault}
+use Rattle.etcs_vars.specs.Faults.{◌or_else◌, number_fault}
 use Rattle.etcs_vars.specs.Reading.{Reading}
-use Rattle.etcs_bodies.specs.Faults.{◌or_else◌, number_fault}
 use Rattle.etcs_bodies.specs.Taking.{Left}
 use Rattle.etcs_bodies.specs.PacketCodes.{directed_from, never}
 use Rattle.etcs_parts.specs.BalisesAt.{BaliseAtValue, balise_at_value, balise_at_fault, IsBaliseAt, balise_at_reading, balise_at_from}

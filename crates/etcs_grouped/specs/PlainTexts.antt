@@ -3,8 +3,9 @@ use Rattle.std.proofs.Common.{◌≡◌, ℕ, List, [], ◌∷◌, ◌++◌, len
 use Rattle.std.specs.Prelude.{flat_map}
 use Rattle.etcs_vars.specs.declared.var.Var.TheVariants.{Q_DIR, L_TEXT, X_TEXT}
 use Rattle.etcs_vars.specs.declared.fault.BuildFault.{BuildFault}
+use Rattle.etcs_vars.specs.Faults.{◌or_else◌, number_fault}
 use Rattle.etcs_vars.specs.Reading.{Reading}
-use Rattle.etcs_bodies.specs.Faults.{◌or_else◌, number_fault, count_fault}
+use Rattle.etcs_bodies.specs.Faults.{count_fault}
 use Rattle.etcs_bodies.specs.Taking.{Left, next_number}
 use Rattle.etcs_bodies.specs.Codecs.{both_from, IsBoth, list_reading, list_from, IsEntries}
 use Rattle.etcs_bodies.specs.PacketCodes.{directed_from, never}

@@ -3,8 +3,9 @@ use Rattle.std.proofs.Common.{◌≡◌, ◌&&◌, ℕ, Bool, false, nat_eq, Lis
 use Rattle.std.specs.Cmp.Lexicographic.{pointwise}
 use Rattle.etcs_vars.specs.declared.var.Var.TheVariants.{Q_DIR, Q_SCALE, Q_TRACKINIT, D_TRACKINIT, N_ITER}
 use Rattle.etcs_vars.specs.declared.fault.BuildFault.{BuildFault}
+use Rattle.etcs_vars.specs.Faults.{◌or_else◌, number_fault}
 use Rattle.etcs_vars.specs.Reading.{Reading}
-use Rattle.etcs_bodies.specs.Faults.{◌or_else◌, number_fault, count_fault}
+use Rattle.etcs_bodies.specs.Faults.{count_fault}
 use Rattle.etcs_bodies.specs.Taking.{Left, next_number}
 use Rattle.etcs_bodies.specs.Codecs.{both_from, IsBoth}
 use Rattle.etcs_bodies.specs.Choices.{IsEither, either_reading, either_from}

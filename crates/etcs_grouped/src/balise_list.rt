@@ -4,16 +4,16 @@ ghost use Rattle.std.specs.Prelude.{◌≡◌, None, Some, OnOk, IfOk, IfErr, If
 ghost use Rattle.std.proofs.Common.{refl};
 ghost use Rattle.etcs_vars.specs.declared.var.Var.TheVariants.{Q_DIR};
 ghost use Rattle.etcs_vars.specs.Vars.{admits};
+ghost use Rattle.etcs_vars.specs.Faults.{◌or_else◌, number_fault};
 ghost use Rattle.etcs_tables.specs.declared.row.Way.TheVariants.{ToTrain};
 ghost use Rattle.etcs_tables.specs.Rows.{row_to, balise_list};
-ghost use Rattle.etcs_bodies.specs.Faults.{◌or_else◌, number_fault};
 ghost use Rattle.etcs_grouped.specs.BaliseLists.{balise_list_value, nid_fault, balise_list_fault, balise_list_from};
 
 use etcs_bodies::laws::Exact;
 use etcs_bodies::{Body, Counted, Numbers, Part, check, taken};
 use etcs_parts::BaliseAt;
 use etcs_tables::Way;
-use etcs_vars::parts::{VarSink, Variables};
+use etcs_vars::inner::{VarSink, Variables};
 use etcs_vars::{BuildFault, Var};
 use std::alloc::{AllocError, Global};
 use std::marker::Model;

@@ -9,7 +9,7 @@ ghost use Rattle.etcs_grouped.specs.Chains.{chain_value, chain_fault, chain_row,
 use etcs_bodies::laws::Exact;
 use etcs_bodies::{Body, Entries, Entry, Numbers, Part, check_field, taken};
 use etcs_tables::Way;
-use etcs_vars::parts::{VarSink, Variables};
+use etcs_vars::inner::{VarSink, Variables};
 use etcs_vars::{BuildFault, Var};
 use std::alloc::{AllocError, Global};
 use std::marker::Model;

@@ -7,7 +7,7 @@ use etcs_bodies::laws::Exact;
 use etcs_bodies::{Body, Numbers, Part, check, taken};
 use etcs_parts::BaliseAt;
 use etcs_tables::Way;
-use etcs_vars::parts::{VarSink, Variables};
+use etcs_vars::inner::{VarSink, Variables};
 use etcs_vars::{BuildFault, Var};
 use std::alloc::{AllocError, Global};
 use std::marker::Model;

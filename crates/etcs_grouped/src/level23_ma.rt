@@ -7,7 +7,7 @@ use etcs_bodies::laws::Exact;
 use etcs_bodies::{Body, Numbers, Part, build_packet, copy_fields, send_fields, take_fields};
 use etcs_parts::Authority;
 use etcs_tables::Way;
-use etcs_vars::parts::{VarSink, Variables};
+use etcs_vars::inner::{VarSink, Variables};
 use etcs_vars::{BuildFault, Var};
 use std::alloc::{AllocError, Global};
 use std::marker::Model;

@@ -9,7 +9,7 @@ use etcs_bodies::{
 };
 use etcs_parts::LevelAck;
 use etcs_tables::Way;
-use etcs_vars::parts::{VarSink, Variables};
+use etcs_vars::inner::{VarSink, Variables};
 use etcs_vars::{BuildFault, Var};
 use std::alloc::{AllocError, Global};
 use std::marker::Model;

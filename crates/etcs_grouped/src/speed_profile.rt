@@ -1,7 +1,7 @@
 //! The static speed profile.
 
 ghost use Rattle.std.specs.Prelude.{◌≡◌, Some, None, IfOk, IfErr};
-ghost use Rattle.etcs_grouped.specs.Chains.{chain_value, profile_fault};
+ghost use Rattle.etcs_grouped.specs.Chains.{chain_value, speed_profile_fault};
 
 use crate::chain::{Chain, Chained};
 use etcs_parts::Speed;
@@ -40,8 +40,8 @@ impl Chain<Speed> {
         further: Vec<Speed>,
     ) -> Result<SpeedProfile, (BuildFault, Speed, Vec<Speed>)>
         ensures ok { IfOk result (λ p. p ≡ chain_value dir q_scale first further.items) }
-        ensures none { IfOk result (λ p. profile_fault (chain_value dir q_scale first further.items) ≡ None) }
-        ensures fault { IfErr result (λ e. profile_fault (chain_value dir q_scale first further.items) ≡ Some e.0) }
+        ensures none { IfOk result (λ p. speed_profile_fault (chain_value dir q_scale first further.items) ≡ None) }
+        ensures fault { IfErr result (λ e. speed_profile_fault (chain_value dir q_scale first further.items) ≡ Some e.0) }
         ensures first { IfErr result (λ e. e.1 ≡ first) }
         ensures further { IfErr result (λ e. e.2.items ≡ further.items) }
     {

@@ -11,7 +11,7 @@ use crate::track_state::{
 use etcs_bodies::laws::Exact;
 use etcs_bodies::{Body, Numbers, check_field, taken};
 use etcs_tables::Way;
-use etcs_vars::parts::{VarSink, Variables};
+use etcs_vars::inner::{VarSink, Variables};
 use etcs_vars::{BuildFault, Var};
 use std::alloc::{AllocError, Global};
 use std::marker::Model;

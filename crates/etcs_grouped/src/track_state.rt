@@ -8,7 +8,7 @@ use etcs_bodies::{
     Numbers, Part, check, check_count, clone_all, hold_all, send_list, take_list, taken,
 };
 use etcs_parts::Condition;
-use etcs_vars::parts::{VarSink, Variables};
+use etcs_vars::inner::{VarSink, Variables};
 use etcs_vars::{BuildFault, Var};
 use std::alloc::{AllocError, Global};
 

@@ -6,7 +6,7 @@ use Rattle.etcs_bits.specs.Bits.{num}
 use Rattle.etcs_vars.specs.declared.var.Var.TheVariants.{FILL, PAD, PADDING, OTHER_DATA, NID_MESSAGE, L_MESSAGE}
 use Rattle.etcs_vars.specs.Reading.{Reading, spelled, kept}
 use Rattle.etcs_vars.proofs.Prefixes.{admits_parts}
-use Rattle.etcs_vars.proofs.Walk.{spelled-append}
+use Rattle.etcs_vars.specs.laws.Spellings.{spelled-append}
 use Rattle.etcs_tables.specs.declared.row.Way.TheVariants.{ToTrain, ToTrack}
 use Rattle.etcs_rows.specs.declared.frames.Carrier.TheVariants as carrier
 use Rattle.etcs_packets.specs.declared.packet.Packet.{Packet}
@@ -18,15 +18,17 @@ use Rattle.etcs_packets.proofs.PacketBits.{length-spelled}
 use Rattle.etcs_sequence.specs.Contents.{closing}
 use Rattle.etcs_radio.specs.declared.body.Body.{Body}
 use Rattle.etcs_reader.specs.Fields.{ReadsFields}
-use Rattle.etcs_messages.specs.Kinds.{head_row}
+use Rattle.etcs_tables.specs.Headers.{head_row}
 use Rattle.etcs_messages.specs.Messages.{MessageValue, typed_message, kept_message, MessageReads, TypedReads, KeptReads, head_reading}
 use Rattle.etcs_messages.proofs.Bytes.{typed_length, reads_length}
 use Rattle.etcs_messages.proofs.Faults.{carried_packets}
 use Rattle.etcs_messages.proofs.Fields.{head_length}
-use Rattle.etcs_radio.specs.Messages.{Content, Typed, Kept, message_value, all_bits, padding_room}
-use Rattle.etcs_radio.specs.Bodies.{body_reading, nid_of_body, head_variables}
-use Rattle.etcs_radio.specs.Readings.{body_of}
-use Rattle.etcs_radio.specs.Readings as radio
+use Rattle.etcs_messages.specs.Messages.{all_bits, padding_room}
+use Rattle.etcs_messages.specs.Readings.{body_of}
+use Rattle.etcs_messages.specs.Readings as readings
+use Rattle.etcs_messages.specs.declared.message.Content.TheVariants.{Typed, Kept}
+use Rattle.etcs_radio.specs.Messages.{Content, message_value}
+use Rattle.etcs_radio.specs.Bodies.{body_reading, nid_of_body, head_variables, radio_body}
 use Rattle.etcs_telegram.specs.declared.size.Size.{Size}
 use Rattle.etcs_telegram.specs.declared.size.Size.TheVariants as size
 use Rattle.etcs_telegram.specs.Telegrams.{TelegramValue, TelegramReads, header_reading, pad_bits, user_bits}
@@ -35,11 +37,11 @@ use Rattle.etcs_telegram.proofs.Spellings.{whole_length}
 use Rattle.etcs_text.specs.declared.entry.Kind.{Kind}
 use Rattle.etcs_text.specs.declared.entry.Kind.TheVariants as kind_is
 use Rattle.etcs_text.specs.Entries.{EntryValue, of_telegram, of_message, EntryReads, entry_kind}
-use Rattle.etcs_packet_json.specs.TreeReading.{ArePacketTrees}
+use Rattle.etcs_json_trees.specs.TreeReading.{ArePacketTrees}
 use Rattle.etcs_json.specs.TreeReading.{IsTreeOf}
-use Rattle.etcs_packet_json.specs.Loose.{unnamed}
+use Rattle.etcs_json_trees.specs.Loose.{unnamed}
 use Rattle.etcs_json.specs.Loose.{HasLength, IsLoose, LooseSpells, StandsFor, TreeSays, packets_of, unnamed_entry, unnamed_message, unnamed_telegram, way_of}
-use Rattle.etcs_packet_json.proofs.CarriedPackets.{same_bits}
+use Rattle.etcs_json_trees.proofs.CarriedPackets.{same_bits}
 use Rattle.etcs_json.proofs.CarriedItems.{headed, message_long, telegram_long}
 use Rattle.etcs_text.proofs.ItemKinds.{telegram_message}
 use Rattle.etcs_json.proofs.OwnStored.{own_bits}
@@ -168,13 +170,13 @@ typed_renamed m nid h body ws padding r ds old new m_is x is renames kind (of_me
     let renames' : Renames (75 + length (spelled body')) (map (unnamed ToTrain) vs) ds old new = subst (λ (y : Reading). Renames (75 + length (spelled y)) (map (unnamed ToTrain) vs) ds old new) bodies (subst (λ (y : List PacketValue). Renames (75 + length (spelled body)) y ds old new) list renames) in
     as_radio kind o new s.loose.1.0 (message_named nid' h' body' vs padding' r ds old new reads is s.trees (carried_packets ToTrain (map (unnamed ToTrain) vs) reads.run.carried) renames')
 
-pub message_renamed : (m : Content) (body : Body) (r : Reading) (ds : Items) (at : ℕ) (ps : List Packet) (old new : List Bool) → MessageReads ToTrain (message_value m) r → old ≡ spelled r → Some body ≡ body_of m → at ≡ 75 + length (spelled (body_reading body)) → ps ≡ radio.packets_of m → Renames at (map packet_value ps) ds old new → (kind : Kind) (o : EntryValue) → StandsFor kind (of_message ToTrain (message_value m)) ds o → LooseSpells o new × HasLength kind new
+pub message_renamed : (m : Content) (body : Body) (r : Reading) (ds : Items) (at : ℕ) (ps : List Packet) (old new : List Bool) → MessageReads ToTrain (message_value m) r → old ≡ spelled r → Some body ≡ body_of m → at ≡ 75 + length (spelled (body_reading body)) → ps ≡ readings.packets_of m → Renames at (map packet_value ps) ds old new → (kind : Kind) (o : EntryValue) → StandsFor kind (of_message ToTrain (message_value m)) ds o → LooseSpells o new × HasLength kind new
 message_renamed (Kept nid b) body r ds at ps old new x is own at_is ps_is renames = absurd cc
 message_renamed (Typed head own ps' padding) body r ds at ps old new x is found at_is ps_is renames =
     let one : body ≡ own = cc in
     let at_is' : at ≡ 75 + length (spelled (body_reading own)) = at_is ∙ ap (λ (y : Body). 75 + length (spelled (body_reading y))) one in
     let renames' : Renames (75 + length (spelled (body_reading own))) (map packet_value ps') ds old new = subst (λ (n : ℕ). Renames n (map packet_value ps') ds old new) at_is' (subst (λ (qs : List Packet). Renames at (map packet_value qs) ds old new) ps_is renames) in
-    typed_renamed (message_value (Typed head own ps' padding)) (nid_of_body own) (head_variables head) (body_reading own) (map packet_value ps') (num (padding_room (all_bits own ps')) padding) r ds old new refl x is renames'
+    typed_renamed (message_value (Typed head own ps' padding)) (nid_of_body own) (head_variables head) (body_reading own) (map packet_value ps') (num (padding_room (all_bits ToTrain radio_body packet.form own ps')) padding) r ds old new refl x is renames'
 
 -- one that is kept as bits stays as it is
 kept_stays : (nid : ℕ) (b : List Bool) (r : Reading) (ds : Items) (new : List Bool) → KeptReads ToTrain nid b r → new ≡ spelled r → (kind : Kind) (o : EntryValue) → StandsFor kind (of_message ToTrain (kept_message nid b)) ds o → LooseSpells o new × HasLength kind new
@@ -194,11 +196,11 @@ pub message_stays : (m : Content) (r : Reading) (ds : Items) (new : List Bool) �
 message_stays (Typed head own ps padding) r ds new x is none = absurd cc
 message_stays (Kept nid b) r ds new x is none = kept_stays nid b r ds new x is
 
-pub message_room : (m : Content) (body : Body) (r : Reading) (at : ℕ) (ps : List Packet) → MessageReads ToTrain (message_value m) r → Some body ≡ body_of m → at ≡ 75 + length (spelled (body_reading body)) → ps ≡ radio.packets_of m → (at + length (spelled (packets_reading (map packet_value ps))) ≤ length (spelled r)) × (length (spelled r) < 2 ^ 64)
+pub message_room : (m : Content) (body : Body) (r : Reading) (at : ℕ) (ps : List Packet) → MessageReads ToTrain (message_value m) r → Some body ≡ body_of m → at ≡ 75 + length (spelled (body_reading body)) → ps ≡ readings.packets_of m → (at + length (spelled (packets_reading (map packet_value ps))) ≤ length (spelled r)) × (length (spelled r) < 2 ^ 64)
 message_room (Kept nid b) body r at ps x own at_is ps_is = absurd cc
 message_room (Typed head own ps' padding) body r at ps x found at_is ps_is =
     let one : body ≡ own = cc in
-    let bits : List Bool = num (padding_room (all_bits own ps')) padding in
+    let bits : List Bool = num (padding_room (all_bits ToTrain radio_body packet.form own ps')) padding in
     let front : at ≡ 75 + length (spelled (body_reading own)) = at_is ∙ ap (λ (y : Body). 75 + length (spelled (body_reading y))) one in
     let list : length (spelled (packets_reading (map packet_value ps))) ≡ length (spelled (packets_reading (map packet_value ps'))) = ap (λ (qs : List Packet). length (spelled (packets_reading (map packet_value qs)))) ps_is in
     let long : length (spelled r) ≡ 75 + length (spelled (body_reading own)) + length (spelled (packets_reading (map packet_value ps'))) + length bits = ap (λ (q : Reading). length (spelled q)) x.reading_is ∙ typed_length ToTrain (nid_of_body own) x.len (head_variables head) (body_reading own) (map packet_value ps') bits x.head_reads in

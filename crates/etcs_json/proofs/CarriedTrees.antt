@@ -5,7 +5,7 @@ use Rattle.serde_json.specs.Data.{Data, Items, array, no_items}
 use Rattle.serde_json.specs.Find.{get}
 use Rattle.etcs_messages.specs.Messages.{typed_message, kept_message}
 use Rattle.etcs_text.specs.Entries.{EntryValue, of_telegram, of_message}
-use Rattle.etcs_packet_json.specs.TreeReading.{ArePacketTrees}
+use Rattle.etcs_json_trees.specs.TreeReading.{ArePacketTrees}
 use Rattle.etcs_json.specs.TreeReading.{IsTreeOf}
 use Rattle.etcs_json.specs.Loose.{packets_of, way_of}
 

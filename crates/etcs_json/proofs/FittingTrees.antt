@@ -15,15 +15,15 @@ use Rattle.etcs_telegram.specs.declared.size.Size.{Size}
 use Rattle.etcs_telegram.specs.declared.size.Size.TheVariants.{Short, Long}
 use Rattle.etcs_telegram.specs.Telegrams.{TelegramValue, TelegramReads, header_reading, user_bits}
 use Rattle.etcs_reader.specs.Fields.{ReadsFields}
-use Rattle.etcs_messages.specs.Kinds.{head_row}
+use Rattle.etcs_tables.specs.Headers.{head_row}
 use Rattle.etcs_messages.specs.Messages.{MessageValue, typed_message, kept_message, MessageReads}
 use Rattle.etcs_messages.proofs.Fields.{fields_count}
 use Rattle.etcs_messages.proofs.Fronts.{row_short}
-use Rattle.etcs_trees.specs.Fits.{FitsItem}
+use Rattle.etcs_json_trees.specs.Fits.{FitsItem}
 use Rattle.etcs_text.specs.declared.entry.Kind.{Kind}
 use Rattle.etcs_text.specs.Entries.{EntryValue, of_telegram, of_message}
-use Rattle.etcs_packet_json.specs.Loose.{unnamed}
-use Rattle.etcs_packet_json.proofs.FittingPackets.{all_bits, bits_least, packets_fit, pairs_fit}
+use Rattle.etcs_json_trees.specs.Loose.{unnamed}
+use Rattle.etcs_json_trees.proofs.FittingPackets.{all_bits, bits_least, packets_fit, pairs_fit}
 use Rattle.etcs_json.specs.Loose.{IsLoose, unnamed_telegram, unnamed_message}
 use Rattle.etcs_json.specs.TreeReading.{IsTelegramTree, IsMessageTree, IsTreeOf}
 

@@ -15,21 +15,21 @@ use Rattle.etcs_packets.specs.PacketValues.{PacketValue, Form, IsPacketTo}
 use Rattle.etcs_reader.specs.Fields.{ReadsFields}
 use Rattle.etcs_messages.specs.declared.message.Content.{Content}
 use Rattle.etcs_messages.specs.declared.message.Content.TheVariants.{Typed, Kept}
-use Rattle.etcs_messages.specs.Kinds.{HeadOf, OwnOf, HeadLaws, OwnLaws, IsHead, IsOwn, IsHeadNumbers, IsOwnNumbers, IsMadeOf, head_row}
+use Rattle.etcs_messages.specs.Kinds.{HeadOf, OwnOf, HeadLaws, OwnLaws, IsHead, IsOwn, IsHeadNumbers, IsOwnNumbers, IsMadeOf}
+use Rattle.etcs_tables.specs.Headers.{head_row}
 use Rattle.etcs_messages.specs.Messages.{MessageValue, typed_message, kept_message, TypedReads, MessageReads, all_bits, padding_room, padded_fault, kept_fault, message_value, values_of}
 use Rattle.etcs_messages.specs.Readings.{message_reading}
 use Rattle.etcs_messages.proofs.Faults.{carried_packets, no_typed_fault}
 use Rattle.etcs_messages.proofs.Fronts.{row_fields, fields_row}
 use Rattle.etcs_messages.proofs.OneReading.{message_reads}
-use Rattle.etcs_text.specs.Entries.{EntryValue, of_telegram, of_message, message_kind}
+use Rattle.etcs_text.specs.Entries.{of_message, message_kind}
 use Rattle.etcs_text.specs.Show.{way_word}
 use Rattle.etcs_packet_text.specs.Trees.{bits_tree}
-use Rattle.etcs_packet_json.specs.Loose.{unnamed}
-use Rattle.etcs_json.specs.Loose.{HasStandIns, IsLoose, unnamed_message}
-use Rattle.etcs_packet_json.specs.TreeReading.{ArePairTrees, ArePacketTrees, plain}
-use Rattle.etcs_json.specs.TreeReading.{IsMessageTree, IsTreeOf, kept_message_tree, message_tree}
-use Rattle.etcs_text.proofs.ItemKinds.{telegram_message, way_same}
-use Rattle.etcs_packet_json.proofs.PacketTrees.{SaysNumbers, OnlyNumbers}
+use Rattle.etcs_json_trees.specs.Loose.{unnamed}
+use Rattle.etcs_json.specs.Loose.{HasStandIns, unnamed_message}
+use Rattle.etcs_json_trees.specs.TreeReading.{ArePairTrees, ArePacketTrees, plain}
+use Rattle.etcs_json.specs.TreeReading.{IsMessageTree, kept_message_tree, message_tree}
+use Rattle.etcs_json_trees.proofs.PacketTrees.{SaysNumbers, OnlyNumbers}
 
 -- ---- Its parts.
 
@@ -233,12 +233,6 @@ module _ {B : Type 0} (way : Way) (o : OwnOf B) {sent : B → Reading} (laws : O
   own_none row' r fs only found' reads is t = let no = only r fs is (same_row row' r found' reads) t in absurd cc
 
 -- ---- An item.
-
-pub message_only : (way : Way) (e : EntryValue) (d : Data) → ((m : MessageValue) (q : Reading) → MessageReads way (unnamed_message way m) q → IsMessageTree way m d → ⊥) → IsLoose (message_kind way) e → IsTreeOf e d → ⊥
-message_only way (of_telegram t) d wrong (r, (k, reads)) tree = telegram_message t.size way k
-message_only way (of_message w m) d wrong (r, (k, reads)) tree =
-    let same = way_same w way k in
-    wrong m r (subst (λ (v : Way). MessageReads v (unnamed_message v m) r) same reads) (subst (λ (v : Way). IsMessageTree v m d) same tree)
 
 pub message_stands : (way : Way) (m : MessageValue) (d : Data) → ((r : Reading) × MessageReads way m r) → ((u : MessageValue) × (m ≡ unnamed_message way u) × IsMessageTree way u d) → HasStandIns (message_kind way) d (of_message way m)
 message_stands way m d (r, reads) (u, is, tree) =

@@ -9,7 +9,7 @@ use Rattle.etcs_tables.specs.declared.row.Way.TheVariants.{ToTrain}
 use Rattle.etcs_tables.specs.Layouts.{Layout, Reads}
 use Rattle.etcs_tables.specs.Rows.{message_row_to}
 use Rattle.etcs_reader.specs.laws.FieldLaws.{fields_agree}
-use Rattle.etcs_messages.specs.Kinds.{head_row}
+use Rattle.etcs_tables.specs.Headers.{head_row}
 use Rattle.etcs_messages.specs.Messages.{MessageValue, typed_message, kept_message, MessageReads, head_reading}
 use Rattle.etcs_messages.proofs.Faults.{carried_packets}
 use Rattle.etcs_messages.proofs.Spelling.{admitted_fit as head_fit}
@@ -21,11 +21,11 @@ use Rattle.etcs_text.specs.Entries.{EntryValue, of_telegram, of_message}
 use Rattle.etcs_text.proofs.ItemKinds.{kind_same, way_same, telegram_message}
 use Rattle.etcs_packet_text.specs.Trees.{bits_tree, pair_tree, packet_tree}
 use Rattle.etcs_text.specs.Trees.{json_tree}
-use Rattle.etcs_packet_json.specs.Loose.{unnamed}
+use Rattle.etcs_json_trees.specs.Loose.{unnamed}
 use Rattle.etcs_json.specs.Loose.{IsLoose, unnamed_telegram, unnamed_message}
 use Rattle.etcs_json.specs.TreeReading.{IsTelegramTree, IsMessageTree, IsTreeOf}
-use Rattle.etcs_packet_json.proofs.OneTrees.{bits_same, packets_same, pairs_same, row_same}
-use Rattle.etcs_packet_json.proofs.OwnTrees.{packets_own, pairs_own}
+use Rattle.etcs_json_trees.proofs.OneTrees.{bits_same, packets_same, pairs_same, row_same}
+use Rattle.etcs_json_trees.proofs.OwnTrees.{packets_own, pairs_own}
 
 -- ---- Telegrams.
 

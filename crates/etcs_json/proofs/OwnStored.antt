@@ -11,7 +11,7 @@ use Rattle.etcs_messages.proofs.Faults.{carried_packets}
 use Rattle.etcs_text.specs.declared.entry.Kind.{Kind}
 use Rattle.etcs_text.specs.Entries.{EntryValue, of_telegram, of_message, EntryReads, Spells}
 use Rattle.etcs_text.specs.Trees.{json_tree}
-use Rattle.etcs_packet_json.proofs.OwnPackets.{unnamed_all}
+use Rattle.etcs_json_trees.proofs.OwnPackets.{unnamed_all}
 use Rattle.etcs_json.specs.Loose.{IsStored, LooseSpells, TreeSays, unnamed_entry, unnamed_message, unnamed_telegram}
 use Rattle.etcs_json.proofs.OneItems.{tree_of}
 

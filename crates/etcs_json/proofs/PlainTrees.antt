@@ -21,8 +21,8 @@ use Rattle.etcs_telegram.proofs.Spellings.{regular}
 use Rattle.etcs_text.specs.Entries.{EntryValue, of_telegram, of_message, Spells}
 use Rattle.etcs_text.specs.Show.{kind_word, way_word}
 use Rattle.etcs_text.specs.Trees.{telegram_tree, message_tree, json_tree}
-use Rattle.etcs_packet_json.proofs.PlainTexts.{are_plain, IsPlain, read_plain, utf8_plain, without_plain}
-use Rattle.etcs_packet_json.proofs.PlainPackets.{bits_plain, fit_parts, packets_flat, packets_plain, pairs_flat, pairs_plain, small}
+use Rattle.etcs_json_trees.proofs.PlainTexts.{are_plain, IsPlain, read_plain, utf8_plain, without_plain}
+use Rattle.etcs_json_trees.proofs.PlainPackets.{bits_plain, fit_parts, packets_flat, packets_plain, pairs_flat, pairs_plain, small}
 
 kind_plain : (size : Size) → are_plain (kind_word size) ≡ true
 kind_plain size.Short = refl

@@ -11,19 +11,20 @@ use Rattle.etcs_packets.specs.PacketValues.{PacketValue, IsPacket, packet_value}
 use Rattle.etcs_telegram.specs.declared.size.Size.{Size}
 use Rattle.etcs_telegram.specs.declared.size.Size.TheVariants.{Short, Long}
 use Rattle.etcs_telegram.specs.Headers.{IsHeaderNumbers}
-use Rattle.etcs_telegram.specs.Telegrams.{HeaderValue, IsAdmitted, TelegramReads, TelegramValue, TelegramContent, telegram_value, header_row, header_of, header_reading, closed_reading, closed_bits, packet_room, pad_bits, user_bits}
+use Rattle.etcs_telegram.specs.Telegrams.{HeaderValue, IsAdmitted, TelegramReads, TelegramValue, TelegramContent, telegram_value, header_of, header_reading, closed_reading, closed_bits, packet_room, pad_bits, user_bits}
+use Rattle.etcs_tables.specs.Headers.{header_row}
 use Rattle.etcs_telegram.proofs.HeaderLemmas.{header_length, header_back}
 use Rattle.etcs_telegram.proofs.Rows.{row_header, admitted_row, header_reads}
 use Rattle.etcs_messages.proofs.Fronts.{as_row, row_fields, fields_row}
 use Rattle.etcs_text.specs.Entries.{EntryValue, of_telegram, of_message, kind_of}
 use Rattle.etcs_text.specs.Show.{kind_word}
 use Rattle.etcs_packet_text.specs.Trees.{bits_tree}
-use Rattle.etcs_packet_json.specs.Loose.{unnamed}
+use Rattle.etcs_json_trees.specs.Loose.{unnamed}
 use Rattle.etcs_json.specs.Loose.{HasStandIns, IsLoose, unnamed_telegram}
-use Rattle.etcs_packet_json.specs.TreeReading.{ArePairTrees, ArePacketTrees}
+use Rattle.etcs_json_trees.specs.TreeReading.{ArePairTrees, ArePacketTrees}
 use Rattle.etcs_json.specs.TreeReading.{IsTelegramTree, IsTreeOf, telegram_tree}
 use Rattle.etcs_text.proofs.ItemKinds.{kind_same, telegram_message}
-use Rattle.etcs_packet_json.proofs.PacketTrees.{SaysNumbers, OnlyNumbers}
+use Rattle.etcs_json_trees.proofs.PacketTrees.{SaysNumbers, OnlyNumbers}
 
 -- ---- The header.
 

@@ -13,8 +13,8 @@ use Rattle.etcs_telegram.specs.Telegrams.{TelegramValue, header_reading, closed_
 use Rattle.etcs_messages.specs.Messages.{MessageValue, typed_message, kept_message, front_of, head_reading}
 use Rattle.etcs_text.specs.declared.entry.Kind.{Kind}
 use Rattle.etcs_text.specs.Entries.{EntryValue, of_telegram, of_message, EntryReads}
-use Rattle.etcs_packet_json.specs.Loose.{unnamed}
-use Rattle.etcs_packet_json.specs.TreeReading.{ArePacketTrees}
+use Rattle.etcs_json_trees.specs.Loose.{unnamed}
+use Rattle.etcs_json_trees.specs.TreeReading.{ArePacketTrees}
 use Rattle.etcs_json.specs.TreeReading.{IsTreeOf}
 
 -- ---- Its packets with stand-ins.

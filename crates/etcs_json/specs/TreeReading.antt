@@ -8,7 +8,7 @@ use Rattle.etcs_messages.specs.Messages.{MessageValue, typed_message, kept_messa
 use Rattle.etcs_text.specs.Entries.{EntryValue, of_telegram, of_message}
 use Rattle.etcs_text.specs.Show.{kind_word, way_word}
 use Rattle.etcs_packet_text.specs.Trees.{bits_tree}
-use Rattle.etcs_packet_json.specs.TreeReading.{ArePairTrees, ArePacketTrees, plain}
+use Rattle.etcs_json_trees.specs.TreeReading.{ArePairTrees, ArePacketTrees, plain}
 
 -- d is a telegram
 abbrev pub telegram_tree : Data → Data → Data → Data → Data

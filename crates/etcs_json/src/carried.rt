@@ -10,16 +10,16 @@ ghost use Rattle.etcs_text.specs.Entries.{EntryReads, EntryValue, Spells, entry_
 ghost use Rattle.etcs_text.specs.declared.entry.Kind.{Kind};
 ghost use Rattle.etcs_text.specs.declared.entry.Kind.TheVariants as kind_is;
 ghost use Rattle.etcs_json.specs.Loose.{HasLength, HasStandIns, LooseSpells, StandsFor, TreeRefused, TreeSays, packets_of, way_of};
-ghost use Rattle.etcs_packet_json.specs.TreeReading.{ArePacketTrees};
+ghost use Rattle.etcs_json_trees.specs.TreeReading.{ArePacketTrees};
 ghost use Rattle.etcs_json.specs.TreeReading.{IsTreeOf};
 
 use crate::fault::JsonFault;
-use etcs_packet_json::parts::{are_named, rename};
+use etcs_json_trees::inner::{are_named, rename};
 use etcs_radio::MessageReader;
 use etcs_telegram::{Size, TelegramReader};
 use etcs_text::{Entry, Kind, encoded};
 use etcs_vars::ReadFault;
-use etcs_vars::parts::Variables;
+use etcs_vars::inner::Variables;
 use serde_json::Value;
 use std::alloc::Global;
 

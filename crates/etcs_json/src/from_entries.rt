@@ -13,10 +13,10 @@ use crate::fault::JsonFault;
 use crate::from_message::message_in;
 use crate::from_telegram::telegram_in;
 use crate::written::written_item;
-use etcs_packet_json::parts::Miss;
+use etcs_json_trees::inner::Miss;
+use etcs_json_trees::tree_of;
 use etcs_telegram::Size;
 use etcs_text::{Entry, Kind};
-use etcs_trees::tree_of;
 use serde_json::Value;
 use std::alloc::{AllocError, Global};
 

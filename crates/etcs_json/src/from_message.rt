@@ -4,55 +4,33 @@ ghost use Rattle.std.specs.Prelude.{◌≡◌, [], All, Some, IfOk, IfSome, IsSo
 ghost use Rattle.serde_json.specs.Data.{Data, Items, array, string};
 ghost use Rattle.serde_json.specs.View.{view};
 ghost use Rattle.etcs_vars.specs.Reading.{Reading};
-ghost use Rattle.etcs_tables.specs.declared.item.RowItem.TheVariants.{One};
 ghost use Rattle.etcs_tables.specs.Layouts.{Layout, Reads};
 ghost use Rattle.etcs_tables.specs.Rows.{message_row_to};
 ghost use Rattle.etcs_packets.specs.PacketValues.{IsPacketTo};
 ghost use Rattle.etcs_reader.specs.Fields.{ReadsFields};
-ghost use Rattle.etcs_messages.specs.Kinds.{IsHead, IsOwn, head_row};
+ghost use Rattle.etcs_messages.specs.Kinds.{IsHead, IsOwn};
+ghost use Rattle.etcs_tables.specs.Headers.{head_row};
 ghost use Rattle.etcs_messages.specs.Messages.{KeptReads, MessageReads, MessageValue, TypedReads, kept_message, message_value, typed_message, values_of};
 ghost use Rattle.etcs_text.specs.Show.{way_word};
 ghost use Rattle.etcs_json.specs.Loose.{unnamed_message};
-ghost use Rattle.etcs_packet_json.specs.TreeReading.{ArePairTrees};
+ghost use Rattle.etcs_json_trees.specs.TreeReading.{ArePairTrees};
 ghost use Rattle.etcs_json.specs.TreeReading.{IsMessageTree, kept_message_tree, message_tree};
 
 use crate::trees::way_word;
 use etcs_bits::Bits;
+use etcs_json_trees::inner::{Rest, bits_in, byte_in, numbers_in, packets_in, padding_number};
 use etcs_messages::{Head, MessageOf, Own};
-use etcs_packet_json::parts::{Rest, bits_in, byte_in, numbers_in, packets_in, padding_number};
-use etcs_packets::parts::AnyPacket;
-use etcs_tables::{Row, RowItem, Way, message_row};
-use etcs_vars::Var;
+use etcs_packets::inner::AnyPacket;
+use etcs_tables::{Way, head_row, message_row};
 use serde_json::Value;
 use std::alloc::{AllocError, Global};
-
-/// The header's variables after NID_MESSAGE and L_MESSAGE to the train, in the order of sending.
-static HEAD_TO_TRAIN: [RowItem; 3] = [
-    RowItem::One(Var::T_TRAIN),
-    RowItem::One(Var::M_ACK),
-    RowItem::One(Var::NID_LRBG),
-];
-
-/// Those to the track.
-static HEAD_TO_TRACK: [RowItem; 2] = [RowItem::One(Var::T_TRAIN), RowItem::One(Var::NID_ENGINE)];
-
-/// Those of a way.
-pub(crate) fn head_items(way: Way) -> &'static [RowItem]
-    ensures { result.now ≡ map One (head_row way) }
-{
-    match way {
-        Way::ToTrain => &HEAD_TO_TRAIN,
-        Way::ToTrack => &HEAD_TO_TRACK,
-    }
-}
 
 /// The header of the list of its pairs, if there is one.
 fn head_in<H: Head>(alloc: Global, value: &Value) -> Result<Option<H>, AllocError>
     ensures some { IfOk result (λ o. IfSome o (λ h. IsHead H.head h × ReadsFields (head_row H.Packet.WAY) (H.head.reading h) × (hs : Items) × (view value.now ≡ array hs) × ArePairTrees (H.head.reading h) hs)) }
     ensures only { IfOk result (λ o. (r : Reading) (hs : Items) → ReadsFields (head_row H.Packet.WAY) r → view value.now ≡ array hs → ArePairTrees r hs → option_map H.head.reading o ≡ Some r) }
 {
-    let items = head_items(H::Packet::WAY);
-    match numbers_in(alloc, Row { items }, value)? {
+    match numbers_in(alloc, head_row(H::Packet::WAY), value)? {
         Some(numbers) => Ok(Some(H::of_numbers(numbers.as_slice()))),
         None => Ok(None),
     }

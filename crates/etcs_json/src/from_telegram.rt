@@ -5,63 +5,28 @@ ghost use Rattle.serde_json.specs.Data.{Data, Items, array, string};
 ghost use Rattle.serde_json.specs.View.{view};
 ghost use Rattle.etcs_vars.specs.Reading.{Reading};
 ghost use Rattle.etcs_packets.specs.PacketValues.{IsPacket, packet_value};
-ghost use Rattle.etcs_telegram.specs.Headers.{IsHeaderNumbers};
-ghost use Rattle.etcs_telegram.specs.Telegrams.{HeaderValue, IsAdmitted, TelegramReads, TelegramValue, header_of, header_reading, telegram_value};
+ghost use Rattle.etcs_telegram.specs.Telegrams.{HeaderValue, IsAdmitted, TelegramReads, TelegramValue, header_reading, telegram_value};
 ghost use Rattle.etcs_text.specs.Show.{kind_word};
 ghost use Rattle.etcs_json.specs.Loose.{unnamed_telegram};
-ghost use Rattle.etcs_packet_json.specs.TreeReading.{ArePairTrees};
+ghost use Rattle.etcs_json_trees.specs.TreeReading.{ArePairTrees};
 ghost use Rattle.etcs_json.specs.TreeReading.{IsTelegramTree, telegram_tree};
 
 use crate::trees::size_word;
 use etcs_bits::Bits;
-use etcs_packet_json::parts::{Rest, bits_in, numbers_in, packets_in};
+use etcs_json_trees::inner::{Rest, bits_in, numbers_in, packets_in};
 use etcs_packets::Packet;
-use etcs_tables::{Row, RowItem};
+use etcs_tables::header_row;
+use etcs_telegram::inner::header_by;
 use etcs_telegram::{Header, Size, Telegram};
-use etcs_vars::Var;
 use serde_json::Value;
 use std::alloc::{AllocError, Global};
-
-/// The header's variables, in the order of sending.
-static HEADER: [RowItem; 10] = [
-    RowItem::One(Var::Q_UPDOWN),
-    RowItem::One(Var::M_VERSION_HEADER),
-    RowItem::One(Var::Q_MEDIA),
-    RowItem::One(Var::N_PIG),
-    RowItem::One(Var::N_TOTAL),
-    RowItem::One(Var::M_DUP),
-    RowItem::One(Var::M_MCOUNT),
-    RowItem::One(Var::NID_C),
-    RowItem::One(Var::NID_BG),
-    RowItem::One(Var::Q_LINK),
-];
-
-/// The header of its ten numbers in the order of sending.
-fn header_by(numbers: &[u64]) -> Header
-    requires { IsHeaderNumbers numbers.now }
-    ensures { result ≡ header_of numbers.now }
-{
-    match Header::new(
-        numbers[1] as u8,
-        numbers[3] as u8,
-        numbers[4] as u8,
-        numbers[5] as u8,
-        numbers[6] as u8,
-        numbers[7] as u16,
-        numbers[8] as u16,
-        numbers[9] == 1,
-    ) {
-        Ok(header) => header,
-        Err(_) => unreachable!(),
-    }
-}
 
 /// The header of the list of its pairs, if there is one.
 fn header_in(alloc: Global, value: &Value) -> Result<Option<Header>, AllocError>
     ensures some { IfOk result (λ o. IfSome o (λ h. (hs : Items) × (view value.now ≡ array hs) × IsAdmitted (header_reading h) × ArePairTrees (header_reading h) hs)) }
     ensures only { IfOk result (λ o. (h : HeaderValue) (hs : Items) → IsAdmitted (header_reading h) → view value.now ≡ array hs → ArePairTrees (header_reading h) hs → o ≡ Some h) }
 {
-    match numbers_in(alloc, Row { items: &HEADER }, value)? {
+    match numbers_in(alloc, header_row(), value)? {
         Some(numbers) => Ok(Some(header_by(numbers.as_slice()))),
         None => Ok(None),
     }

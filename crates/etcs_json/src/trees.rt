@@ -13,9 +13,9 @@ ghost use Rattle.etcs_text.specs.Trees.{json_tree, message_tree, telegram_tree};
 ghost use Rattle.etcs_json.specs.TreeParts.{typed_members};
 
 use etcs_bits::BitSlice;
+use etcs_json_trees::inner::{bits_json, packets_json, variables_json};
 use etcs_messages::{Head, MessageOf, Own};
-use etcs_packet_json::parts::{bits_json, packets_json, variables_json};
-use etcs_packets::parts::AnyPacket;
+use etcs_packets::inner::AnyPacket;
 use etcs_tables::Way;
 use etcs_telegram::{Size, Telegram};
 use etcs_text::Entry;

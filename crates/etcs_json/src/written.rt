@@ -15,9 +15,9 @@ mod guess_message;
 
 use crate::written::guess::guess_telegram;
 use crate::written::guess_message::guess_message;
-use etcs_messages::parts as message_parts;
-use etcs_packet_json::parts::{Miss, Text};
-use etcs_telegram::{Size, parts as telegram_parts};
+use etcs_json_trees::inner::{Miss, Text};
+use etcs_messages::inner as message_inner;
+use etcs_telegram::{Size, inner as telegram_inner};
 use etcs_text::{Entry, Kind, json_line};
 use std::alloc::{AllocError, Global};
 
@@ -76,7 +76,7 @@ fn telegram_guessed(alloc: Global, size: Size, line: &[u8]) -> Result<Entry, Mis
     ensures { IfOk result (λ e. (r : Reading) × EntryReads (kind_of size) (entry_value e) r) }
 {
     let telegram = guess_telegram(alloc, size, &mut Text::new(line))?;
-    telegram_parts::reads(&telegram);
+    telegram_inner::reads(&telegram);
     Ok(Entry::Telegram(telegram))
 }
 
@@ -85,7 +85,7 @@ fn message_guessed(alloc: Global, line: &[u8]) -> Result<Entry, Miss>
     ensures { IfOk result (λ e. (r : Reading) × EntryReads Kind.Radio (entry_value e) r) }
 {
     let message = guess_message(alloc, &mut Text::new(line))?;
-    message_parts::reads(&message);
+    message_inner::reads(&message);
     Ok(Entry::Message(message))
 }
 
@@ -94,6 +94,6 @@ fn train_guessed(alloc: Global, line: &[u8]) -> Result<Entry, Miss>
     ensures { IfOk result (λ e. (r : Reading) × EntryReads Kind.Train (entry_value e) r) }
 {
     let message = guess_message(alloc, &mut Text::new(line))?;
-    message_parts::reads(&message);
+    message_inner::reads(&message);
     Ok(Entry::Train(message))
 }

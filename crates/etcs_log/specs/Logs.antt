@@ -1,14 +1,14 @@
 -- What is said of the lines of a log.
 use Rattle.std.specs.Prelude.{◌≡◌, ℕ, ◌+◌, ◌<◌, ◌≤◌, true, false, List, [], ◌∷◌, ◌++◌, length, ◌⊎◌, Ok, All}
 use Rattle.hex.specs.Hex.{decode_of, encode_upper}
-use Rattle.etcs_digits.specs.Digits.{is_passed_over, line_digits}
+use Rattle.etcs_runs.specs.Digits.{is_passed_over, line_digits}
 use Rattle.etcs_text.specs.declared.entry.Kind.{Kind}
 use Rattle.etcs_text.specs.Entries.{EntryValue}
 use Rattle.etcs_text.specs.Encodings.{IsEncoded}
 use Rattle.etcs_runs.specs.Lines.{IsLine, lines_text}
 use Rattle.etcs_log.specs.declared.job.LogJob.{LogJob}
 use Rattle.etcs_log.specs.declared.job.LogTally.{LogTally}
-use Rattle.etcs_entries.specs.Verdicts.{IsItem}
+use Rattle.etcs_text.specs.Verdicts.{IsItem}
 
 -- it is passed over; it is this item; it is bad
 pub data Answer : Type 0 where

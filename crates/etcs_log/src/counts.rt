@@ -1,6 +1,6 @@
 //! What a log has.
 
-use etcs_packets::parts::AnyPacket;
+use etcs_packets::inner::AnyPacket;
 use etcs_text::Entry;
 use etcs_vars::Var;
 use std::alloc::{AllocError, Global};
@@ -21,7 +21,7 @@ fn count(number: &mut u64) {
 /// Counts packets by their numbers.
 fn count_packets<P: AnyPacket>(packets: &[P], counts: &mut [u64; 256]) {
     for packet in packets {
-        count(&mut counts[usize::from(packet.number_of())]);
+        count(&mut counts[usize::from(packet.nid())]);
     }
 }
 

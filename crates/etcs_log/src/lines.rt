@@ -9,11 +9,10 @@ ghost use Rattle.etcs_log.specs.Logs.{Answered, BytesAnswered, Counted, item};
 use crate::counts::Counts;
 use crate::job::{LogJob, LogTally};
 use crate::notes::{Bad, MOST_CHARACTERS, write_note};
-use etcs_accounts::parts::wanted_bytes;
-use etcs_digits::{NoBytes, line_bytes};
-use etcs_entries::{SingleReader, Verdict};
-use etcs_packet_text::parts::to_digits;
-use etcs_text::{Entry, Kind};
+use etcs_packet_text::inner::to_digits;
+use etcs_reasons::inner::wanted_bytes;
+use etcs_runs::{NoBytes, line_bytes};
+use etcs_text::{Entry, Kind, SingleReader, Verdict};
 use etcs_vars::Var;
 use std::alloc::{AllocError, Global};
 
@@ -163,7 +162,8 @@ impl Lines {
         let refusal = match self.reader.read(bytes)? {
             Verdict::Item(entry) => return self.take_item(&entry, bytes, texts),
             Verdict::Refused { bit, var } => Some((bit, var)),
-            Verdict::OtherCount => None,
+            Verdict::TooShort => None,
+            Verdict::TooLong => None,
         };
         let bad = bad_bytes(self.job.kind, refusal, bytes, &mut self.counts)?;
         self.refuse(number, bad, bytes, texts)

@@ -1,8 +1,8 @@
 //! What is said of a bad line.
 
-use etcs_accounts::parts::{wanted_bytes, write_count_of, write_no_bytes};
-use etcs_accounts::why;
-use etcs_digits::NoBytes;
+use etcs_reasons::inner::{wanted_bytes, write_count_of, write_no_bytes};
+use etcs_reasons::why;
+use etcs_runs::NoBytes;
 use etcs_text::Kind;
 use etcs_vars::Var;
 use std::alloc::AllocError;

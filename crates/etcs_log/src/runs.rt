@@ -9,7 +9,7 @@ ghost use Rattle.etcs_log.specs.Stands.{LogStands};
 use crate::job::{LogJob, LogTally};
 use crate::lines::Texts;
 use crate::log::Log;
-use etcs_runs::parts::send;
+use etcs_runs::inner::send;
 use etcs_runs::{Failed, RunFault, Sink, Source};
 use std::alloc::{AllocError, Global};
 

@@ -4,7 +4,7 @@ use Rattle.std.proofs.lemmas.List.{length-append}
 use Rattle.etcs_vars.specs.declared.var.Var.TheVariants.{NID_MESSAGE, L_MESSAGE, PADDING, OTHER_DATA}
 use Rattle.etcs_vars.specs.Reading.{Reading, spelled, kept, readings_of}
 use Rattle.etcs_vars.proofs.Prefixes.{admits_parts}
-use Rattle.etcs_vars.proofs.Walk.{spelled-append}
+use Rattle.etcs_vars.specs.laws.Spellings.{spelled-append}
 use Rattle.etcs_bits.specs.Bits.{num}
 use Rattle.etcs_bits.proofs.Numbers.{length-num}
 use Rattle.etcs_packets.specs.PacketValues.{PacketValue, Form}
@@ -15,7 +15,8 @@ use Rattle.etcs_messages.specs.declared.message.Content.{Content}
 use Rattle.etcs_messages.specs.declared.message.Content.TheVariants.{Typed, Kept}
 use Rattle.etcs_messages.specs.Messages.{values_of, MessageValue, typed_message, kept_message, MessageReads, MessageLanguage, head_reading, IsMessage, message_value, all_bits, padding_room, front_of}
 use Rattle.etcs_messages.specs.Readings.{bytes_of}
-use Rattle.etcs_messages.specs.Kinds.{HeadOf, OwnOf, head_row}
+use Rattle.etcs_messages.specs.Kinds.{HeadOf, OwnOf}
+use Rattle.etcs_tables.specs.Headers.{head_row}
 use Rattle.etcs_messages.proofs.Ways.{header_least, none_typed}
 use Rattle.etcs_messages.proofs.Fields.{headed_length, head_length}
 use Rattle.etcs_tables.specs.declared.row.Way.{Way}

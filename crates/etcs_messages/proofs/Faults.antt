@@ -56,12 +56,12 @@ no_typed_fault way hd bd form head body ps padding h b carried short small =
     let long = if nat_lt 8184 (all_bits way bd form body ps) then Some TooLong else None in
     let pad = if nat_lt padding (2 ^ padding_room (all_bits way bd form body ps)) then None else Some (NotAdmitted PADDING) in
     let variant : number ≡ None = then_none (bd.is_of_variant body) (NotAdmitted NID_MESSAGE) b.variant in
-    let first : (number or_else hd.fault head) ≡ None = neither number (hd.fault head) variant h in
-    let front : front_fault hd bd head body ≡ None = neither (number or_else hd.fault head) (bd.fault body) first b.variables in
+    let numbers : (hd.fault head or_else bd.fault body) ≡ None = neither (hd.fault head) (bd.fault body) h b.variables in
+    let front : front_fault hd bd head body ≡ None = neither number (hd.fault head or_else bd.fault body) variant numbers in
     let marked : marker ≡ None = not_then (list_any (λ p. is_marker way (form p).value) ps) (NotAdmitted NID_PACKET) (list_any_none (λ p. is_marker way (form p).value) ps (unmarked way form ps carried)) in
     let short_is : long ≡ None = not_then (nat_lt 8184 (all_bits way bd form body ps)) TooLong (at_most (all_bits way bd form body ps) 8184 short) in
-    let three : (front_fault hd bd head body or_else marker) ≡ None = neither (front_fault hd bd head body) marker front marked in
-    let all : message_fault way hd bd form head body ps ≡ None = neither (front_fault hd bd head body or_else marker) long three short_is in
+    let whole : (marker or_else long) ≡ None = neither marker long marked short_is in
+    let all : message_fault way hd bd form head body ps ≡ None = neither (front_fault hd bd head body) (marker or_else long) front whole in
     neither (message_fault way hd bd form head body ps) pad all (then_none (nat_lt padding (2 ^ padding_room (all_bits way bd form body ps))) (NotAdmitted PADDING) (below padding (2 ^ padding_room (all_bits way bd form body ps)) small))
 
 whole_bytes : (bits len : ℕ) → 18 + bits ≡ 8 * len → ((bits + 18) % 8 == 0) ≡ true

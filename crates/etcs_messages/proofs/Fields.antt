@@ -13,7 +13,7 @@ use Rattle.etcs_tables.specs.MessageRows.{header_bits}
 use Rattle.etcs_reader.specs.Fields.{ReadsFields}
 use Rattle.etcs_sequence.specs.Labels.{labelled, widths}
 use Rattle.etcs_sequence.proofs.LabelLaws.{labelled_none}
-use Rattle.etcs_messages.specs.Kinds.{head_row}
+use Rattle.etcs_tables.specs.Headers.{head_row}
 use Rattle.etcs_messages.specs.Messages.{head_reading, IsAdmitted}
 use Rattle.etcs_messages.proofs.Ways.{header_is}
 

@@ -17,10 +17,11 @@ use Rattle.etcs_rows.proofs.MessageLengths.{is_flat}
 use Rattle.etcs_flat.specs.Flats.{variables}
 use Rattle.etcs_reader.specs.Fields.{ReadsFields, first_of}
 use Rattle.etcs_sequence.specs.Labels.{widths}
-use Rattle.etcs_messages.specs.Kinds.{OfRow, head_row}
+use Rattle.etcs_messages.specs.Kinds.{OfRow}
+use Rattle.etcs_tables.specs.Headers.{head_row}
 use Rattle.etcs_messages.proofs.Ways.{header_is, header_few, head_some, head_short, few, row_flat, row_few}
 use Rattle.etcs_messages.proofs.Fields.{fields_length, widths_append}
-use Rattle.etcs_messages.specs.Lefts.{own_row, front_behind, front_row, some_row, front_vars, front_bits}
+use Rattle.etcs_messages.specs.Lefts.{own_row, front_behind, front_row, some_row, front_vars, front_bits, var_of}
 
 -- ---- A row of variables alone.
 
@@ -153,6 +154,10 @@ as_bits : (own : List Var) → row_bits (as_row own) ≡ widths own
 as_bits [] = refl
 as_bits (v ∷ own) = ap (λ (n : ℕ). width v + n) (as_bits own)
 
+-- a table of the header's variables has as many items
+pub table_long : (way : Way) (table : List RowItem) → table ≡ map One (head_row way) → length table ≡ length (head_row way)
+table_long way table is = ap length is ∙ length-map (head_row way) One
+
 -- how many variables are in front of the packets
 pub count_is : (way : Way) (nid : ℕ) (table : List RowItem) → Some table ≡ option_map items (message_row_to way nid) → Some (length (head_row way) + length table) ≡ option_map length (front_row way nid)
 count_is way nid table e =
@@ -172,29 +177,10 @@ bits_are way nid bits e =
 
 -- ---- The variable at a place of the front.
 
-pub past_head : (xs : List Var) (at : ℕ) → slice_get xs at ≡ None → length xs ≤ at
-past_head [] at e = omega arith
-past_head (x ∷ xs) zero e = absurd cc
-past_head (x ∷ xs) (suc at) e = (let h = past_head xs at e in omega (arith, h))
-
-in_head : (xs : List Var) (at : ℕ) (own : List Var) (x : Var) → slice_get xs at ≡ Some x → Some x ≡ first_of (drop at (xs ++ own))
-in_head [] zero own x e = absurd cc
-in_head [] (suc at) own x e = absurd cc
-in_head (y ∷ xs) zero own x e = sym e
-in_head (y ∷ xs) (suc at) own x e = in_head xs at own x e
-
--- one of the header's
-pub head_at : (way : Way) (nid at : ℕ) (x : Var) (vars : List Var) → slice_get (head_row way) at ≡ Some x → front_row way nid ≡ Some vars → Some x ≡ first_of (drop at vars)
-head_at way nid at x vars e typed =
-    let (own, is, same) = front_own way nid (own_row way nid) vars refl typed in
-    subst (λ (vs : List Var). Some x ≡ first_of (drop at vs)) same (in_head (head_row way) at own x e)
-
--- the variable of an item
-abbrev pub var_of : Option RowItem → Option Var
-var_of None = None
-var_of (Some (One v)) = Some v
-var_of (Some (When g k)) = None
-var_of (Some (Many k)) = None
+in_head : (xs : List Var) (at : ℕ) (own : List Var) → at < length xs → var_of (slice_get (map One xs) at) ≡ first_of (drop at (xs ++ own))
+in_head [] at own h = absurd (omega (arith, h))
+in_head (y ∷ xs) zero own h = refl
+in_head (y ∷ xs) (suc at) own h = in_head xs at own (omega (arith, h))
 
 in_own : (own : List Var) (k : ℕ) → var_of (slice_get (map One own) k) ≡ first_of (drop k own)
 in_own [] zero = refl
@@ -207,8 +193,16 @@ past [] at own h = ap (λ (k : ℕ). drop k own) (omega arith)
 past (x ∷ xs) zero own h = absurd (omega (arith, h))
 past (x ∷ xs) (suc at) own h = past xs at own (omega (arith, h)) ∙ ap (λ (k : ℕ). drop k own) (omega arith)
 
+-- one of the header's
+pub head_at : (way : Way) (nid at : ℕ) (table : List RowItem) (vars : List Var) → at < length table → table ≡ map One (head_row way) → front_row way nid ≡ Some vars → var_of (slice_get table at) ≡ first_of (drop at vars)
+head_at way nid at table vars near is typed =
+    let (own, o, same) = front_own way nid (own_row way nid) vars refl typed in
+    let long = table_long way table is in
+    subst (λ (vs : List Var). var_of (slice_get table at) ≡ first_of (drop at vs)) same
+    (ap (λ (l : List RowItem). var_of (slice_get l at)) is ∙ in_head (head_row way) at own (omega (arith, near, long)))
+
 -- one of the message's own
-pub own_at : (way : Way) (nid at : ℕ) (table : List RowItem) (vars : List Var) → length (head_row way) ≤ at → Some table ≡ option_map items (message_row_to way nid) → front_row way nid ≡ Some vars → var_of (slice_get table (at - length (head_row way))) ≡ first_of (drop at vars)
+own_at : (way : Way) (nid at : ℕ) (table : List RowItem) (vars : List Var) → length (head_row way) ≤ at → Some table ≡ option_map items (message_row_to way nid) → front_row way nid ≡ Some vars → var_of (slice_get table (at - length (head_row way))) ≡ first_of (drop at vars)
 own_at way nid at table vars far e typed =
     let (own, is, same) = front_own way nid (own_row way nid) vars refl typed in
     let (own', is', table_is) = own_asked way items nid table e in
@@ -216,6 +210,10 @@ own_at way nid at table vars far e typed =
     let all : table ≡ map One own = table_is ∙ as_items own' ∙ ap (λ (vs : List Var). map One vs) one in
     subst (λ (vs : List Var). var_of (slice_get table (at - length (head_row way))) ≡ first_of (drop at vs)) same
     (ap (λ (l : List RowItem). var_of (slice_get l (at - length (head_row way)))) all ∙ in_own own (at - length (head_row way)) ∙ ap first_of (sym (past (head_row way) at own far)))
+
+pub own_there : (way : Way) (nid at n : ℕ) (table : List RowItem) (vars : List Var) → n ≡ length (head_row way) → n ≤ at → Some table ≡ option_map items (message_row_to way nid) → front_row way nid ≡ Some vars → var_of (slice_get table (at - n)) ≡ first_of (drop at vars)
+own_there way nid at n table vars long far e typed =
+    subst (λ (k : ℕ). var_of (slice_get table (at - k)) ≡ first_of (drop at vars)) (sym long) (own_at way nid at table vars (subst (λ (k : ℕ). k ≤ at) long far) e typed)
 
 -- ---- A front by what was found of it.
 

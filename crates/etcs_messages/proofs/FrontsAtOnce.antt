@@ -10,7 +10,7 @@ use Rattle.etcs_bits.proofs.Views.{number_bits}
 use Rattle.etcs_vars.specs.declared.var.Var.{Var}
 use Rattle.etcs_vars.specs.Vars.{width, admits}
 use Rattle.etcs_vars.specs.Reading.{Reading, spelled}
-use Rattle.etcs_vars.proofs.Walk.{spelled-append}
+use Rattle.etcs_vars.specs.laws.Spellings.{spelled-append}
 use Rattle.etcs_tables.specs.declared.row.Way.{Way}
 use Rattle.etcs_tables.specs.declared.item.RowItem.{RowItem}
 use Rattle.etcs_tables.specs.declared.item.RowItem.TheVariants.{One}
@@ -23,11 +23,12 @@ use Rattle.etcs_sequence.specs.Labels.{labelled, widths}
 use Rattle.etcs_sequence.specs.Fronts.{FrontAt}
 use Rattle.etcs_sequence.proofs.LabelLaws.{numbers_labelled}
 use Rattle.etcs_sequence.proofs.RowBits.{found_inside}
-use Rattle.etcs_messages.specs.Kinds.{head_row, IsHeadNumbers, IsOwnNumbers}
+use Rattle.etcs_messages.specs.Kinds.{IsHeadNumbers, IsOwnNumbers}
+use Rattle.etcs_tables.specs.Headers.{head_row}
 use Rattle.etcs_messages.specs.Lefts.{own_row, front_behind, front_row, front_vars, front_bits, some_row}
 use Rattle.etcs_messages.proofs.Ways.{head_short}
 use Rattle.etcs_messages.proofs.Fields.{fields_append, fields_length}
-use Rattle.etcs_messages.proofs.Fronts.{as_row, as_items, fields_row, rows_alike, own_asked, own_few}
+use Rattle.etcs_messages.proofs.Fronts.{as_row, as_items, fields_row, rows_alike, own_asked, own_few, table_long}
 
 -- ---- Variables one after another whose bits are all there.
 
@@ -106,15 +107,6 @@ taken_long vs xs at before now place t = ap length t.now_is ∙ length-append be
 
 take_next : {A : Type 0} (l : List A) (i : ℕ) (d : A) → i < length l → take (i + 1) l ≡ take i l ++ get_or l i d ∷ []
 take_next l i d h = let one : i + 1 ≡ suc i = omega arith in ap (λ k. take k l) one ∙ take-suc l i d h
-
--- one variable more
-pub vars_more : (vars : List Var) (i : ℕ) (d : Var) (xs : List Bool) (at : ℕ) (before now next : List ℕ) (place end n : ℕ) → i < length vars → TakenTo (take i vars) xs at before now place → next ≡ now ++ n ∷ [] → FrontAt (get_or vars i d ∷ []) xs place (n ∷ []) end → TakenTo (take (i + 1) vars) xs at before next end
-vars_more vars i d xs at before now next place end n h t e f =
-    subst (λ (vs : List Var). TakenTo vs xs at before next end) (sym (take_next vars i d h)) (taken_more (take i vars) (get_or vars i d) xs at before now next place end n t e f)
-
--- all of them
-pub vars_all : (vars : List Var) (i : ℕ) (xs : List Bool) (at : ℕ) (before now : List ℕ) (place : ℕ) → length vars ≤ i → TakenTo (take i vars) xs at before now place → TakenTo vars xs at before now place
-vars_all vars i xs at before now place h t = subst (λ (vs : List Var). TakenTo vs xs at before now place) (take_all i vars h) t
 
 -- ---- The same of a table's items.
 
@@ -209,21 +201,29 @@ numbers_passed xs w next r n first found moved some =
 abbrev pub Passes : List Var → SliceWalk → List ℕ → List ℕ → ℕ → Type 0
 Passes vs w before now end = (ns : List ℕ) × (now ≡ before ++ ns) × FrontAt vs w.bits w.place ns end
 
-pub head_room : (way : Way) (before : List ℕ) (row : List Var) → before ≡ [] → row ≡ head_row way → length before + length row ≤ 5
-head_room way before row none is = (let few = head_short way in omega (arith, ap length none, ap (λ (vs : List Var). length vs) is, few))
+-- those of a table's variables
+abbrev pub PassesTable : List RowItem → SliceWalk → List ℕ → List ℕ → ℕ → Type 0
+PassesTable table w before now end = (vars : List Var) → variables (layout table) ≡ Some vars → Passes vars w before now end
 
-pub own_room : (way : Way) (nid : ℕ) (table : List RowItem) (before mid : List ℕ) (row : List Var) (w : SliceWalk) (end : ℕ) → Some table ≡ option_map items (message_row_to way nid) → before ≡ [] → row ≡ head_row way → Passes row w before mid end → (length mid + length table ≤ 5) × (end ≤ length w.bits)
-own_room way nid table before mid row w end found none is (hs, mid_is, h) =
+-- the table of the header's
+pub head_passed : (way : Way) (table : List RowItem) (w : SliceWalk) (before now : List ℕ) (end : ℕ) → table ≡ map One (head_row way) → PassesTable table w before now end → Passes (head_row way) w before now end
+head_passed way table w before now end is p = p (head_row way) (ap (λ (l : List RowItem). variables (layout l)) is ∙ table_variables (head_row way))
+
+pub head_room : (way : Way) (before : List ℕ) (table : List RowItem) → before ≡ [] → table ≡ map One (head_row way) → length before + length table ≤ 5
+head_room way before table none is = (let few = head_short way in omega (arith, ap length none, table_long way table is, few))
+
+pub own_room : (way : Way) (nid : ℕ) (table : List RowItem) (before mid : List ℕ) (w : SliceWalk) (end : ℕ) → Some table ≡ option_map items (message_row_to way nid) → before ≡ [] → Passes (head_row way) w before mid end → (length mid + length table ≤ 5) × (end ≤ length w.bits)
+own_room way nid table before mid w end found none (hs, mid_is, h) =
     let (own, o, its, few) = table_is way nid table found in
     let long = ap length mid_is ∙ length-append before hs in
     let empty = ap length none in
-    let count = h.count ∙ ap (λ (vs : List Var). length vs) is in
+    let count = h.count in
     (omega (arith, long, empty, count, few), h.inside)
 
-pub front_passed : (way : Way) (nid : ℕ) (vars : List Var) (table : List RowItem) (xs : List Bool) (w w' : SliceWalk) (before mid now f : List ℕ) (row : List Var) (end : ℕ) → front_row way nid ≡ Some vars → length xs ≡ front_bits vars → Some table ≡ option_map items (message_row_to way nid) → w ≡ record { bits = xs; place = 18 } → before ≡ [] → row ≡ head_row way → Passes row w before mid w'.place → w'.bits ≡ w.bits → ((own : List Var) → variables (layout table) ≡ Some own → Passes own w' mid now end) → f ≡ now → WholeFront way nid xs f
-front_passed way nid vars table xs w w' before mid now f row end typed long found start none is (hs, mid_is, h) same o f_is =
+pub front_passed : (way : Way) (nid : ℕ) (vars : List Var) (table : List RowItem) (xs : List Bool) (w w' : SliceWalk) (before mid now f : List ℕ) (end : ℕ) → front_row way nid ≡ Some vars → length xs ≡ front_bits vars → Some table ≡ option_map items (message_row_to way nid) → w ≡ record { bits = xs; place = 18 } → before ≡ [] → Passes (head_row way) w before mid w'.place → w'.bits ≡ w.bits → PassesTable table w' mid now end → f ≡ now → WholeFront way nid xs f
+front_passed way nid vars table xs w w' before mid now f end typed long found start none (hs, mid_is, h) same o f_is =
     let mid' : mid ≡ hs = mid_is ∙ ap (λ (l : List ℕ). l ++ hs) none in
-    let first = subst (λ (vs : List Var). FrontAt vs xs 18 hs w'.place) is (subst (λ (x : SliceWalk). FrontAt row x.bits x.place hs w'.place) start h) in
+    let first = subst (λ (x : SliceWalk). FrontAt (head_row way) x.bits x.place hs w'.place) start h in
     let place : w'.bits ≡ xs = same ∙ ap (λ (x : SliceWalk). x.bits) start in
     whole_front way nid vars table xs hs f w'.place end typed long found first
     (λ own its. (let (ns, now_is, g) = o own its in

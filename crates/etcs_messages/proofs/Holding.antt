@@ -29,7 +29,7 @@ use Rattle.etcs_messages.specs.Lefts.{front_vars, some_row, headed, left_at, nex
 use Rattle.etcs_messages.specs.Readers.{Standing, Members}
 use Rattle.etcs_messages.proofs.Faults.{carried_packets}
 use Rattle.etcs_messages.proofs.SoFar.{first_goes}
-use Rattle.etcs_messages.proofs.RestStands.{message_parts}
+use Rattle.etcs_messages.proofs.RestStands.{message_inner}
 
 -- no packet, number or bit is held
 none_held : {P : Type 0} (form : P → Form) (ps : List P) (f : List ℕ) (k : List Bool) → list_holds form ps f k [] [] [] → (ps ≡ []) × (f ≡ []) × (k ≡ [])
@@ -63,7 +63,7 @@ members_of way form nid Length front l ps f k number q part x stands e g (z, h, 
 members_of way form nid (Front at) front l ps f k number q part x stands e g (z, h) short bytes = front_members way form nid at front l ps f k q stands h
 members_of way form nid Packets front l ps f k number q part x stands e g (z, h) short bytes =
     let both = and_parts (is_message way l) (not (is_closed l.stage)) stands in
-    packets_members way form nid front l ps f k q (message_parts way l both.0).0 (not-true (is_closed l.stage) both.1) g h
+    packets_members way form nid front l ps f k q (message_inner way l both.0).0 (not-true (is_closed l.stage) both.1) g h
 members_of way form nid (Padding left) front l ps f k number q part x stands e g h short bytes =
     let both = and_parts (nat_lt 0 left) (nat_lt left 8) stands in
     let some = ltb-true 0 left both.0 in
@@ -97,7 +97,7 @@ whole_of : {P : Type 0} (way : Way) (form : P → Form) (nid : ℕ) (phase : Pha
 whole_of way form nid Number front l ps f k number q s (z, h, is) = none_whole way form ps (none_held form ps f k h).0
 whole_of way form nid Length front l ps f k number q s (z, h, is) = none_whole way form ps (none_held form ps f k h).0
 whole_of way form nid (Front at) front l ps f k number q s (z, h) = none_whole way form ps (nothing_held form l.carrier l.stage ps f k h.none).0
-whole_of way form nid Packets front l ps f k number q s (z, h) = packets_whole way form nid front l ps f k q (message_parts way l (and_parts (is_message way l) (not (is_closed l.stage)) s).0).0 h
+whole_of way form nid Packets front l ps f k number q s (z, h) = packets_whole way form nid front l ps f k q (message_inner way l (and_parts (is_message way l) (not (is_closed l.stage)) s).0).0 h
 whole_of way form nid (Padding left) front l ps f k number q s h = padding_whole way form nid front ps f k number left q h
 whole_of way form nid (Data left) front l ps f k number q s h = none_whole way form ps (none_listed form ps h.held.0)
 whole_of way form nid Whole front l ps f k number q s (inl h) = padding_whole way form nid front ps f k number 0 q h

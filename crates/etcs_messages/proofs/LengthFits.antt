@@ -14,7 +14,7 @@ use Rattle.etcs_reader.proofs.FieldLaws.{some_fields}
 use Rattle.etcs_rows.specs.Messages.{MessageLengthFits}
 use Rattle.etcs_sequence.specs.Labels.{widths}
 use Rattle.etcs_messages.specs.Lefts.{own_row, front_behind, front_row, front_bits, Behind}
-use Rattle.etcs_messages.specs.Kinds.{head_row}
+use Rattle.etcs_tables.specs.Headers.{head_row}
 use Rattle.etcs_messages.proofs.Ways.{header_is}
 use Rattle.etcs_messages.proofs.Fields.{fields_length, widths_append}
 use Rattle.etcs_messages.proofs.Fronts.{as_row, row_fields, fields_row, rows_alike, typed_own, kept_own, front_small}

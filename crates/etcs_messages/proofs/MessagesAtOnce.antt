@@ -7,7 +7,7 @@ use Rattle.etcs_bits.proofs.Numbers.{length-num}
 use Rattle.etcs_vars.specs.declared.var.Var.{Var}
 use Rattle.etcs_vars.specs.declared.var.Var.TheVariants.{PADDING, OTHER_DATA}
 use Rattle.etcs_vars.specs.Reading.{Reading, spelled, kept}
-use Rattle.etcs_vars.proofs.Walk.{spelled-append}
+use Rattle.etcs_vars.specs.laws.Spellings.{spelled-append}
 use Rattle.etcs_tables.specs.declared.row.Way.{Way}
 use Rattle.etcs_rows.specs.declared.frames.Carrier.TheVariants.{Message}
 use Rattle.etcs_packets.specs.PacketValues.{PacketValue, Form}
@@ -21,7 +21,8 @@ use Rattle.etcs_sequence.specs.Labels.{labelled}
 use Rattle.etcs_sequence.specs.laws.BitLaws.{bits_spelled}
 use Rattle.etcs_messages.specs.declared.message.Content.{Content}
 use Rattle.etcs_messages.specs.declared.message.Content.TheVariants.{Typed, Kept}
-use Rattle.etcs_messages.specs.Kinds.{HeadOf, OwnOf, HeadLaws, OwnLaws, IsFrontBy, head_row}
+use Rattle.etcs_messages.specs.Kinds.{HeadOf, OwnOf, HeadLaws, OwnLaws, IsFrontBy}
+use Rattle.etcs_tables.specs.Headers.{head_row}
 use Rattle.etcs_messages.specs.Lefts.{front_row, front_vars, front_bits, some_row, headed, Behind}
 use Rattle.etcs_messages.specs.Messages.{MessageReads, MessageLanguage, message_value, IsMessage}
 use Rattle.etcs_messages.specs.Readings.{bytes_of}

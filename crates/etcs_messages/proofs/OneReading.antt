@@ -16,7 +16,8 @@ use Rattle.etcs_packets.specs.PacketReadings.{readings_to}
 use Rattle.etcs_sequence.specs.Contents.{Carries}
 use Rattle.etcs_messages.specs.declared.message.Content.{Content}
 use Rattle.etcs_messages.specs.declared.message.Content.TheVariants.{Typed, Kept}
-use Rattle.etcs_messages.specs.Kinds.{HeadOf, OwnOf, HeadLaws, OwnLaws, head_row}
+use Rattle.etcs_messages.specs.Kinds.{HeadOf, OwnOf, HeadLaws, OwnLaws}
+use Rattle.etcs_tables.specs.Headers.{head_row}
 use Rattle.etcs_messages.specs.Messages.{values_of, all_bits, padding_room, is_marker, IsTyped, IsMessage, MessageReads, message_value}
 use Rattle.etcs_messages.specs.Readings.{bytes_of, message_reading}
 use Rattle.etcs_messages.proofs.Ways.{row_small, unmarked_of}

@@ -37,7 +37,7 @@ use Rattle.etcs_messages.specs.declared.phase.Phase.TheVariants as phase
 use Rattle.etcs_messages.specs.Lefts.{front_row, front_vars, some_row, front_bits, headed, left_at, next_at, is_message, stands_at, behind_packets, behind_front, behind_padding, behind_data, DataFits, PacketsHeld, PaddingHeld, DataHeld, HoldsIn, Follows}
 use Rattle.etcs_messages.proofs.Fronts.{drop_bits}
 use Rattle.etcs_messages.proofs.RestSteps.{by_test, below_false, typed_bounds, kept_bounds, front_behind, packets_behind, padding_behind, data_behind}
-use Rattle.etcs_messages.proofs.RestStands.{begin_parts, front_parts, message_parts}
+use Rattle.etcs_messages.proofs.RestStands.{begin_parts, front_parts, message_inner}
 
 -- what a store holds
 abbrev pub Holds : Type 1
@@ -119,7 +119,7 @@ closed_held way nid front c room padding holds len vars here q same short none t
 -- all of the front, and packets
 packets_first : (way : Way) (nid : ℕ) (front : List ℕ) (l : PacketsState) (padding : ℕ) (holds : Holds) (q : Reading) → IsTrue (is_message way l) → padding ≡ 0 → PacketsHeld way nid front l holds q → HoldsIn way nid (behind_packets l) front l padding holds q
 packets_first way nid front l padding holds q m none h =
-    let parts = message_parts way l m in
+    let parts = message_inner way l m in
     by_test (is_closed l.stage) (λ x. HoldsIn way nid x front l padding holds q) (behind_padding l.room) phase.Packets
     (λ t. let e = closed_stage l.stage t in
     let room : length (spelled q) + l.room ≡ 8 * h.len = rw e at h.room_is in

@@ -31,8 +31,8 @@ from_then : (a b : Bool) → (a ≡ true → IsTrue b) → IsTrue (not a || b)
 from_then true b h = h refl
 from_then false b h = refl
 
-pub message_parts : (way : Way) (l : PacketsState) → IsTrue (is_message way l) → (l.carrier ≡ (Message way)) × (is_closed l.stage ≡ true → l.room < 8)
-message_parts way l h =
+pub message_inner : (way : Way) (l : PacketsState) → IsTrue (is_message way l) → (l.carrier ≡ (Message way)) × (is_closed l.stage ≡ true → l.room < 8)
+message_inner way l h =
     let both = and_parts (is_carrier way l.carrier) (not (is_closed l.stage) || nat_lt l.room 8) h in
     (carrier_is way l.carrier both.0, λ e. ltb-true l.room 8 (then_true (is_closed l.stage) (nat_lt l.room 8) both.1 e))
 
@@ -78,7 +78,7 @@ pub packets_parts : (way : Way) (nid : ℕ) (here : Phase) (m : ℕ) (l : Packet
 packets_parts way nid here m l e h =
     let h' : IsTrue (stands_at way nid phase.Packets m l) = subst (λ (x : Phase). IsTrue (stands_at way nid x m l)) e h in
     let both = and_parts (is_message way l) (not (is_closed l.stage)) h' in
-    ((message_parts way l both.0).0, not-true (is_closed l.stage) both.1)
+    ((message_inner way l both.0).0, not-true (is_closed l.stage) both.1)
 
 pub padding_parts : (way : Way) (nid : ℕ) (here : Phase) (left m : ℕ) (l : PacketsState) → here ≡ phase.Padding left → IsTrue (stands_at way nid here m l) → (0 < left) × (left < 8)
 padding_parts way nid here left m l e h =
@@ -109,7 +109,7 @@ data_stands way nid left m l closed =
 packets_stand : (way : Way) (nid m : ℕ) (l : PacketsState) → IsTrue (is_message way l) → IsTrue (stands_at way nid (behind_packets l) m l)
 packets_stand way nid m l h =
     by_test (is_closed l.stage) (λ x. IsTrue (stands_at way nid x m l)) (behind_padding l.room) phase.Packets
-    (λ t. padding_stands way nid l.room m l ((message_parts way l h).1 t))
+    (λ t. padding_stands way nid l.room m l ((message_inner way l h).1 t))
     (λ f. and_from (is_message way l) (not (is_closed l.stage)) h (ap not f))
 
 pub front_stands : (way : Way) (nid at m : ℕ) (l : PacketsState) → m ≡ at → IsTrue (is_message way l) → IsTrue (stands_at way nid (behind_front (length (front_vars way nid)) at l) m l)

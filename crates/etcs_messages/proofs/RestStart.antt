@@ -17,7 +17,7 @@ use Rattle.etcs_sequence.specs.Contents.{PacketsIn, ReadsPackets}
 use Rattle.etcs_reader.specs.Fields.{ReadsFields}
 use Rattle.etcs_messages.specs.Messages.{head_reading, front_of, IsAdmitted, typed_message, kept_message, TypedReads, KeptReads, MessageLanguage}
 use Rattle.etcs_messages.specs.Lefts.{own_row, front_behind, front_row, front_bits, headed, PacketsFrom, Behind, NumberLeft}
-use Rattle.etcs_messages.specs.Kinds.{head_row}
+use Rattle.etcs_tables.specs.Headers.{head_row}
 use Rattle.etcs_messages.proofs.Ways.{header_is}
 use Rattle.etcs_messages.proofs.Fields.{fields_append, fields_split, fields_admitted, fields_length, widths_append}
 use Rattle.etcs_messages.proofs.Fronts.{as_row, row_fields, fields_row, rows_alike, typed_own, kept_own}

@@ -8,7 +8,7 @@ use Rattle.std.proofs.lemmas.List.Elements.{All-head, All-tail, All-append}
 use Rattle.etcs_vars.specs.declared.var.Var.TheVariants.{NID_MESSAGE, L_MESSAGE, PADDING, OTHER_DATA}
 use Rattle.etcs_vars.specs.Reading.{Reading, spelled, kept, Viable}
 use Rattle.etcs_vars.proofs.Apart.{apart}
-use Rattle.etcs_vars.proofs.Walk.{spelled-append}
+use Rattle.etcs_vars.specs.laws.Spellings.{spelled-append}
 use Rattle.etcs_tables.specs.declared.row.Way.{Way}
 use Rattle.etcs_tables.specs.declared.row.Way.TheVariants.{ToTrain, ToTrack}
 use Rattle.etcs_tables.specs.Frames.{frame_bits}
@@ -29,7 +29,7 @@ use Rattle.etcs_sequence.specs.laws.Agreement.{packet_agree, packet_fit}
 use Rattle.etcs_sequence.proofs.Fits.{run_some}
 use Rattle.etcs_messages.specs.Messages.{typed_message, kept_message, IsAdmitted, TypedReads, KeptReads, MessageLanguage, head_reading}
 use Rattle.etcs_messages.specs.Promises.{begun, RoomRule}
-use Rattle.etcs_messages.specs.Kinds.{head_row}
+use Rattle.etcs_tables.specs.Headers.{head_row}
 use Rattle.etcs_messages.proofs.Ways.{frame_some}
 use Rattle.etcs_messages.proofs.Fields.{head_length}
 use Rattle.etcs_sequence.proofs.BitLaws.{bits_length}

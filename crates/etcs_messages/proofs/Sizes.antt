@@ -97,11 +97,11 @@ faultless way hd bd form head body ps padding e =
     let long = if nat_lt 8184 (all_bits way bd form body ps) then Some TooLong else None in
     let pad = if nat_lt padding (2 ^ padding_room (all_bits way bd form body ps)) then None else Some (NotAdmitted PADDING) in
     let three : (front or_else marker or_else long) ≡ None = no_first (front or_else marker or_else long) pad e in
-    let two : (front or_else marker) ≡ None = no_first (front or_else marker) long three in
+    let two : (marker or_else long) ≡ None = no_second front (marker or_else long) three in
     record {
-      front = no_first front marker two;
-      unmarked = test_false (list_any (λ p. is_marker way (form p).value) ps) (NotAdmitted NID_PACKET) (no_second front marker two);
-      short = not_above (all_bits way bd form body ps) 8184 (test_false (nat_lt 8184 (all_bits way bd form body ps)) TooLong (no_second (front or_else marker) long three));
+      front = no_first front (marker or_else long) three;
+      unmarked = test_false (list_any (λ p. is_marker way (form p).value) ps) (NotAdmitted NID_PACKET) (no_first marker long two);
+      short = not_above (all_bits way bd form body ps) 8184 (test_false (nat_lt 8184 (all_bits way bd form body ps)) TooLong (no_second marker long two));
       small = ltb-true padding (2 ^ padding_room (all_bits way bd form body ps)) (test_true (nat_lt padding (2 ^ padding_room (all_bits way bd form body ps))) (NotAdmitted PADDING) (no_second (front or_else marker or_else long) pad e));
     }
 
@@ -138,7 +138,7 @@ pub is_head : {H B P : Type 0} (way : Way) (hd : HeadOf H) (bd : OwnOf B) (form 
 is_head way hd bd form head body ps padding h =
     let f = faultless way hd bd form head body ps padding h.no_fault in
     let number = if bd.is_of_variant body then None else Some (NotAdmitted NID_MESSAGE) in
-    record { variables = no_second number (hd.fault head) (no_first (number or_else hd.fault head) (bd.fault body) f.front); types = h.head_types }
+    record { variables = no_first (hd.fault head) (bd.fault body) (no_second number (hd.fault head or_else bd.fault body) f.front); types = h.head_types }
 
 pub typed_length : {H B P : Type 0} (way : Way) (hd : HeadOf H) (bd : OwnOf B) (form : P → Form) {sent_head : H → Reading} {sent_own : B → Reading} (hl : HeadLaws way H sent_head hd) (ol : OwnLaws way B sent_own bd) (head : H) (body : B) (ps : List P) (padding : ℕ) → IsTyped way hd bd form head body ps padding → length (spelled (message_reading way hd bd form (Typed head body ps padding))) ≡ all_bits way bd form body ps + padding_room (all_bits way bd form body ps)
 typed_length way hd bd form hl ol head body ps padding h =

@@ -7,7 +7,7 @@ use Rattle.etcs_bits.specs.Bits.{num}
 use Rattle.etcs_vars.specs.declared.var.Var.{Var}
 use Rattle.etcs_vars.specs.declared.var.Var.TheVariants.{PADDING, OTHER_DATA}
 use Rattle.etcs_vars.specs.Reading.{Reading, spelled, kept}
-use Rattle.etcs_vars.proofs.Walk.{spelled-append}
+use Rattle.etcs_vars.specs.laws.Spellings.{spelled-append}
 use Rattle.etcs_packets.specs.PacketValues.{PacketValue, Form}
 use Rattle.etcs_packets.specs.PacketReadings.{readings_to}
 use Rattle.etcs_reader.specs.Rests.{Goes}
@@ -31,7 +31,7 @@ use Rattle.etcs_rows.specs.Frames.{way_of}
 use Rattle.etcs_sequence.proofs.LabelLaws.{length-widths, labelled_widths}
 use Rattle.etcs_messages.proofs.Ways.{asked_few}
 use Rattle.etcs_messages.proofs.Fronts.{front_wide}
-use Rattle.etcs_messages.proofs.RestStands.{message_parts}
+use Rattle.etcs_messages.proofs.RestStands.{message_inner}
 use Rattle.etcs_messages.proofs.Fields.{headed_length}
 use Rattle.etcs_messages.proofs.Bytes.{pad_bits, one_bits}
 
@@ -133,7 +133,7 @@ next_asks way nid Length front l number holds q x a h g s e = never a
 next_asks way nid (Front at) front l number holds q x a h g s e = never a
 next_asks way nid Packets front l number holds q x a (z, h) g s e =
     let asks = packets_ask l.carrier l.room l.stage holds h.here a h.held (first_goes l g) x e in
-    let same = (message_parts way l (and_parts (is_message way l) (not (is_closed l.stage)) s).0).0 in
+    let same = (message_inner way l (and_parts (is_message way l) (not (is_closed l.stage)) s).0).0 in
     let after : asked_after (way_of l.carrier) ≡ asked_after way = ap (λ (c : Carrier). asked_after (way_of c)) same in
     let long = front_long way nid h.len h.vars front h.here q h.typed h.count h.reading_is in
     let few = asked_few way in

@@ -24,7 +24,8 @@ use Rattle.etcs_messages.specs.declared.message.Content.{Content}
 use Rattle.etcs_messages.specs.declared.message.Content.TheVariants.{Typed, Kept}
 use Rattle.etcs_messages.specs.Messages.{MessageValue, typed_message, kept_message, IsAdmitted, TypedReads, KeptReads, MessageReads, MessageLanguage, head_reading, front_of, all_bits, padding_room, IsMessage, message_value}
 use Rattle.etcs_messages.specs.Promises.{OneSpelling}
-use Rattle.etcs_messages.specs.Kinds.{HeadOf, OwnOf, HeadLaws, OwnLaws, head_row}
+use Rattle.etcs_messages.specs.Kinds.{HeadOf, OwnOf, HeadLaws, OwnLaws}
+use Rattle.etcs_tables.specs.Headers.{head_row}
 use Rattle.etcs_messages.proofs.Fields.{head_length}
 use Rattle.etcs_messages.proofs.Sizes.{faultless, is_head}
 use Rattle.etcs_reader.specs.Fields.{ReadsFields}

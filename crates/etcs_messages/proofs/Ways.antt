@@ -18,7 +18,8 @@ use Rattle.etcs_packets.specs.PacketValues.{PacketValue, nid_of}
 use Rattle.etcs_sequence.specs.Contents.{IsUnmarked}
 use Rattle.etcs_sequence.specs.Labels.{widths}
 use Rattle.etcs_sequence.proofs.Asking.{asked_after}
-use Rattle.etcs_messages.specs.Kinds.{head_row, is_carrier}
+use Rattle.etcs_messages.specs.Kinds.{is_carrier}
+use Rattle.etcs_tables.specs.Headers.{head_row}
 use Rattle.etcs_messages.specs.Messages.{is_marker}
 
 pub carrier_is : (way : Way) (c : Carrier) → is_carrier way c ≡ true → c ≡ Message way

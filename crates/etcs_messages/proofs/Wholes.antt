@@ -28,7 +28,8 @@ use Rattle.etcs_messages.specs.declared.phase.Phase.TheVariants.{Number, Length,
 use Rattle.etcs_messages.specs.declared.message.Content.TheVariants as content
 use Rattle.etcs_messages.specs.Messages.{values_of, typed_message, kept_message, TypedReads, KeptReads, MessageReads, MessageLanguage, IsMessage, message_value, head_reading, front_of, all_bits, padding_room}
 use Rattle.etcs_messages.specs.Lefts.{own_row, front_behind, front_row, front_vars, headed, next_at, is_message, stands_at, HoldsIn, PaddingHeld, DataHeld}
-use Rattle.etcs_messages.specs.Kinds.{HeadOf, OwnOf, HeadLaws, OwnLaws, IsHead, IsMadeOf, IsHeadNumbers, IsOwnNumbers, head_row}
+use Rattle.etcs_messages.specs.Kinds.{HeadOf, OwnOf, HeadLaws, OwnLaws, IsHead, IsMadeOf, IsHeadNumbers, IsOwnNumbers}
+use Rattle.etcs_tables.specs.Headers.{head_row}
 use Rattle.etcs_messages.specs.Readings.{content_by}
 use Rattle.etcs_messages.specs.Readers.{so_far}
 use Rattle.etcs_messages.proofs.Fields.{fields_count, labelled_cut}

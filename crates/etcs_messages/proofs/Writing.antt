@@ -5,13 +5,13 @@ use Rattle.etcs_bits.proofs.ByteBits.{num_low}
 use Rattle.etcs_bits.proofs.Numbers.{num-add}
 use Rattle.etcs_vars.specs.declared.var.Var.TheVariants.{NID_MESSAGE, L_MESSAGE, PADDING, OTHER_DATA}
 use Rattle.etcs_vars.specs.Reading.{Reading, spelled, kept}
-use Rattle.etcs_vars.proofs.Walk.{spelled-append}
+use Rattle.etcs_vars.specs.laws.Spellings.{spelled-append}
 use Rattle.etcs_packets.specs.PacketValues.{Form}
 use Rattle.etcs_packets.specs.PacketReadings.{readings_to}
-use Rattle.etcs_words.specs.declared.word_sink.WordSink.{WordSink}
-use Rattle.etcs_words.specs.WordSinks.{and_bits}
-use Rattle.etcs_words.specs.laws.WordSinks.{and_both}
-use Rattle.etcs_words.proofs.WordSinks.{word_length}
+use Rattle.etcs_vars.specs.declared.word_sink.WordSink.{WordSink}
+use Rattle.etcs_vars.specs.WordSinks.{and_bits}
+use Rattle.etcs_vars.specs.laws.WordSinks.{and_both}
+use Rattle.etcs_vars.proofs.WordSinks.{word_length}
 use Rattle.etcs_messages.specs.declared.message.Content.TheVariants.{Typed, Kept}
 use Rattle.etcs_tables.specs.declared.row.Way.{Way}
 use Rattle.etcs_messages.specs.Kinds.{HeadOf, OwnOf, HeadLaws, OwnLaws}

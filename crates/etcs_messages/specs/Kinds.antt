@@ -1,21 +1,16 @@
 -- What is said of the heads and the bodies of the messages of a way (SUBSET-026, 8).
 use Rattle.std.specs.Prelude.{◌≡◌, ℕ, Bool, true, false, List, [], ◌∷◌, length, take, drop, Option, Some, None, IsTrue}
 use Rattle.etcs_vars.specs.declared.var.Var.{Var}
-use Rattle.etcs_vars.specs.declared.var.Var.TheVariants.{T_TRAIN, M_ACK, NID_LRBG, NID_ENGINE}
 use Rattle.etcs_vars.specs.declared.fault.BuildFault.{BuildFault}
 use Rattle.etcs_vars.specs.Reading.{Reading, numbers}
 use Rattle.etcs_tables.specs.declared.row.Way.{Way}
 use Rattle.etcs_tables.specs.declared.row.Way.TheVariants.{ToTrain, ToTrack}
+use Rattle.etcs_tables.specs.Headers.{head_row}
 use Rattle.etcs_tables.specs.Layouts.{Layout, Reads}
 use Rattle.etcs_tables.specs.Rows.{message_row_to}
 use Rattle.etcs_rows.specs.declared.frames.Carrier.{Carrier}
 use Rattle.etcs_rows.specs.declared.frames.Carrier.TheVariants.{Telegram, Message}
 use Rattle.etcs_reader.specs.Fields.{ReadsFields}
-
--- the variables of a typed message's header after NID_MESSAGE and L_MESSAGE
-abbrev pub head_row : Way → List Var
-head_row ToTrain = T_TRAIN ∷ M_ACK ∷ NID_LRBG ∷ []
-head_row ToTrack = T_TRAIN ∷ NID_ENGINE ∷ []
 
 -- packets of a message of this way
 abbrev pub is_carrier : Way → Carrier → Bool

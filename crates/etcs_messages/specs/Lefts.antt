@@ -7,6 +7,8 @@ use Rattle.etcs_vars.specs.declared.var.Var.TheVariants.{NID_MESSAGE, L_MESSAGE,
 use Rattle.etcs_vars.specs.Reading.{Reading, Then, spelled, kept}
 use Rattle.etcs_vars.specs.Walking.{Residual}
 use Rattle.etcs_tables.specs.declared.row.Way.{Way}
+use Rattle.etcs_tables.specs.declared.item.RowItem.{RowItem}
+use Rattle.etcs_tables.specs.declared.item.RowItem.TheVariants.{One, When, Many}
 use Rattle.etcs_rows.specs.declared.frames.Carrier.TheVariants.{Message}
 use Rattle.etcs_tables.specs.Rows.{message_row_to}
 use Rattle.etcs_flat.specs.Flats.{variables}
@@ -18,7 +20,8 @@ use Rattle.etcs_sequence.specs.declared.state.PacketsState.{PacketsState}
 use Rattle.etcs_sequence.specs.Lefts.{next_of, left_of, ahead, is_closed, may_grow, HoldsAt}
 use Rattle.etcs_sequence.specs.ChainLaws.{Chain}
 use Rattle.etcs_sequence.specs.Labels.{labelled, widths}
-use Rattle.etcs_messages.specs.Kinds.{head_row, is_carrier}
+use Rattle.etcs_messages.specs.Kinds.{is_carrier}
+use Rattle.etcs_tables.specs.Headers.{head_row}
 use Rattle.etcs_messages.specs.declared.phase.Phase.{Phase}
 use Rattle.etcs_messages.specs.declared.phase.Phase.TheVariants as phase
 
@@ -34,6 +37,13 @@ front_behind way own = head_row way ++ own
 -- none where the number isn't typed
 abbrev pub front_row : (way : Way) → ℕ → Option (List Var)
 front_row way n = option_map (front_behind way) (own_row way n)
+
+-- the variable of an item
+abbrev pub var_of : Option RowItem → Option Var
+var_of None = None
+var_of (Some (One v)) = Some v
+var_of (Some (When g k)) = None
+var_of (Some (Many k)) = None
 
 abbrev pub some_row : Option (List Var) → List Var
 some_row None = []

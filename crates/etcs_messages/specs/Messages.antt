@@ -19,7 +19,8 @@ use Rattle.etcs_reader.specs.Fields.{ReadsFields}
 use Rattle.etcs_packets.specs.PacketValues.{PacketValue, Form, nid_of, IsPacketTo}
 use Rattle.etcs_packets.specs.PacketReadings.{readings_to}
 use Rattle.etcs_sequence.specs.Contents.{ReadsPackets}
-use Rattle.etcs_messages.specs.Kinds.{HeadOf, OwnOf, IsOwn, head_row}
+use Rattle.etcs_messages.specs.Kinds.{HeadOf, OwnOf, IsOwn}
+use Rattle.etcs_tables.specs.Headers.{head_row}
 use Rattle.etcs_messages.specs.declared.message.Content.{Content}
 use Rattle.etcs_messages.specs.declared.message.Content.TheVariants.{Typed, Kept}
 

@@ -10,7 +10,8 @@ use Rattle.etcs_reader.specs.Fields.{ReadsFields}
 use Rattle.etcs_packets.specs.PacketValues.{PacketValue, Form}
 use Rattle.etcs_packets.specs.PacketReadings.{readings_to}
 use Rattle.etcs_sequence.specs.Contents.{Carries}
-use Rattle.etcs_messages.specs.Kinds.{HeadOf, OwnOf, head_row}
+use Rattle.etcs_messages.specs.Kinds.{HeadOf, OwnOf}
+use Rattle.etcs_tables.specs.Headers.{head_row}
 use Rattle.etcs_messages.specs.declared.message.Content.{Content}
 use Rattle.etcs_messages.specs.Messages.{IsAdmitted, IsMessage, MessageReads, MessageLanguage, head_reading, message_value}
 

@@ -9,7 +9,8 @@ use Rattle.etcs_packets.specs.PacketValues.{Form}
 use Rattle.etcs_packets.specs.PacketReadings.{readings_to}
 use Rattle.etcs_messages.specs.declared.message.Content.{Content}
 use Rattle.etcs_messages.specs.declared.message.Content.TheVariants.{Typed, Kept}
-use Rattle.etcs_messages.specs.Kinds.{HeadOf, OwnOf, head_row}
+use Rattle.etcs_messages.specs.Kinds.{HeadOf, OwnOf}
+use Rattle.etcs_tables.specs.Headers.{head_row}
 use Rattle.etcs_messages.specs.Messages.{all_bits, padding_room, head_reading, values_of}
 
 abbrev pub head_of : {H B P : Type 0} → Content H B P → Option H

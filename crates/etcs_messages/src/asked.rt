@@ -2,13 +2,13 @@
 
 ghost use Rattle.std.specs.Prelude.{◌≡◌, IfOk};
 
+use crate::inner::send_front;
 use crate::kind::{Head, Own};
 use crate::message::{Content, MessageOf};
-use crate::parts::send_front;
 use etcs_bodies::ListOf;
-use etcs_packets::parts::copy_all;
+use etcs_packets::inner::copy_all;
 use etcs_vars::Var;
-use etcs_vars::parts::PairList;
+use etcs_vars::inner::PairList;
 use std::alloc::{AllocError, Global};
 
 impl<H: Head, B: Own<Front = H>> MessageOf<H, B> {

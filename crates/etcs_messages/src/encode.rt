@@ -3,14 +3,14 @@
 ghost use Rattle.std.specs.Prelude.{◌≡◌, ◌<◌, [], ◌++◌, length, OnOk, OnErr};
 ghost use Rattle.etcs_bits.specs.Bits.{bits};
 ghost use Rattle.etcs_vars.specs.Reading.{Reading, spelled};
-ghost use Rattle.etcs_words.specs.WordSinks.{and_bits};
+ghost use Rattle.etcs_vars.specs.WordSinks.{and_bits};
 ghost use Rattle.etcs_messages.specs.Messages.{MessageReads, message_value};
 ghost use Rattle.etcs_messages.specs.Readings.{message_reading, bytes_of};
 
 use crate::kind::{Head, Own};
 use crate::message::{Content, MessageOf};
-use etcs_packets::parts::{AnyPacket, append_all, append_variables};
-use etcs_words::WordSink;
+use etcs_packets::inner::{AnyPacket, append_all, append_variables};
+use etcs_vars::WordSink;
 use std::alloc::AllocError;
 
 impl<H: Head, B: Own<Front = H>> MessageOf<H, B> {

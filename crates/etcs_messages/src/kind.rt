@@ -2,10 +2,10 @@
 
 ghost use Rattle.std.specs.Prelude.{◌≡◌, ℕ, None, Some, OnOk, IfErr};
 
-use etcs_packets::parts::AnyPacket;
+use etcs_packets::inner::AnyPacket;
 use etcs_sequence::ListStore;
 use etcs_vars::BuildFault;
-use etcs_vars::parts::Variables;
+use etcs_vars::inner::Variables;
 use std::fmt::Debug;
 
 /// What is in the header of a typed message after its number and length (SUBSET-026, 8).

@@ -11,7 +11,7 @@ ghost use Rattle.etcs_messages.specs.Messages.{MessageLanguage, MessageReads, me
 use crate::kind::{Head, Own};
 use crate::message::MessageOf;
 use crate::reader::ReaderOf;
-use etcs_sequence::parts::first_item;
+use etcs_sequence::inner::first_item;
 use std::alloc::{AllocError, Global};
 
 /// Messages with one spelling are equal, and no spelling begins another.

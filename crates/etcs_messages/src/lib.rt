@@ -3,10 +3,10 @@
 
 mod asked;
 mod encode;
+pub mod inner;
 mod kind;
 pub mod laws;
 mod message;
-pub mod parts;
 mod phase;
 mod reader;
 mod rest;

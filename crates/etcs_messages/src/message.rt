@@ -14,9 +14,9 @@ use crate::kind::{Head, Own};
 use crate::phase::header_bits;
 use etcs_bits::{BitSlice, Bits};
 use etcs_bodies::ListOf;
-use etcs_packets::parts::{AnyPacket, room_after};
+use etcs_packets::inner::{AnyPacket, room_after};
 use etcs_tables::{Way, message_row};
-use etcs_vars::parts::Variables;
+use etcs_vars::inner::Variables;
 use etcs_vars::{BuildFault, Var};
 use std::marker::Model;
 
@@ -304,7 +304,7 @@ fn has_marker<P: AnyPacket>(packets: &[P]) -> bool
     ensures { result ≡ list_any (λ p. is_marker P.WAY (P.form p).value) packets.now }
 {
     match P::WAY {
-        Way::ToTrain => packets.iter().any(|packet| packet.number_of() == 0),
+        Way::ToTrain => packets.iter().any(|packet| packet.nid() == 0),
         Way::ToTrack => false,
     }
 }

@@ -1,13 +1,12 @@
 //! What comes next in a message.
 
-ghost use Rattle.std.specs.Prelude.{◌≡◌, List, Some, length, drop, option_map};
+ghost use Rattle.std.specs.Prelude.{◌≡◌, List, Some, length, drop, option_map, slice_get};
 ghost use Rattle.etcs_vars.specs.declared.var.Var.{Var};
 ghost use Rattle.etcs_reader.specs.Fields.{first_of};
 ghost use Rattle.etcs_tables.specs.MessageRows.{header_bits};
-ghost use Rattle.etcs_messages.specs.Kinds.{head_row};
-ghost use Rattle.etcs_messages.specs.Lefts.{front_row, front_bits};
+ghost use Rattle.etcs_messages.specs.Lefts.{front_row, front_bits, var_of};
 
-use etcs_tables::{RowItem, Way, message_bits, message_row};
+use etcs_tables::{Row, RowItem, Way, head_row, message_bits, message_row};
 use etcs_vars::Var;
 
 /// What comes next in a message.
@@ -29,16 +28,6 @@ pub(crate) enum Phase {
     Whole,
 }
 
-/// The variables of a typed message's header after L_MESSAGE. Those of its own follow, and then packets.
-pub(crate) fn head_row(way: Way) -> &'static [Var]
-    ensures { result.now ≡ head_row way }
-{
-    match way {
-        Way::ToTrain => &[Var::T_TRAIN, Var::M_ACK, Var::NID_LRBG],
-        Way::ToTrack => &[Var::T_TRAIN, Var::NID_ENGINE],
-    }
-}
-
 /// How many bits the header of a typed message has.
 pub(crate) fn header_bits(way: Way) -> usize
     ensures { result ≡ header_bits way }
@@ -55,7 +44,7 @@ pub(crate) fn front_count(way: Way, nid: u8) -> Option<usize>
     ensures { result ≡ option_map length (front_row way nid) }
 {
     let row = message_row(way, nid)?;
-    Some(head_row(way).len() + row.items.len())
+    Some(head_row(way).items.len() + row.items.len())
 }
 
 /// How many bits are in front of the packets of a message of this number. `None` where the number isn't typed.
@@ -66,17 +55,24 @@ pub(crate) fn front_bits(way: Way, nid: u8) -> Option<usize>
     Some(header_bits(way) + own)
 }
 
+/// The variable at a place of a row. `None` where no variable is there.
+fn var_at(row: Row, at: usize) -> Option<Var>
+    ensures { result ≡ var_of (slice_get row.items.now at) }
+{
+    match row.items.get(at) {
+        Some(RowItem::One(var)) => Some(*var),
+        _ => None,
+    }
+}
+
 /// The variable at a place of those between L_MESSAGE and the packets.
 pub(crate) fn front_var(way: Way, nid: u8, at: usize) -> Option<Var>
     ensures { (vars : List Var) → front_row way nid ≡ Some vars → result ≡ first_of (drop at vars) }
 {
     let head = head_row(way);
-    if let Some(var) = head.get(at) {
-        return Some(*var);
+    let count = head.items.len();
+    if at < count {
+        return var_at(head, at);
     }
-    let row = message_row(way, nid)?;
-    match row.items.get(at - head.len()) {
-        Some(RowItem::One(var)) => Some(*var),
-        _ => None,
-    }
+    var_at(message_row(way, nid)?, at - count)
 }

@@ -5,19 +5,21 @@ ghost use Rattle.etcs_bits.specs.Bits.{bits};
 ghost use Rattle.etcs_sequence.specs.Holdings.{IsHeld};
 ghost use Rattle.etcs_messages.specs.Messages.{MessageValue, MessageLanguage, MessageReads, message_value, IsMessage};
 ghost use Rattle.etcs_vars.specs.declared.var.Var.{Var};
-ghost use Rattle.etcs_messages.specs.Kinds.{IsHeadNumbers, IsOwnNumbers, head_row};
+ghost use Rattle.etcs_messages.specs.Kinds.{IsHeadNumbers, IsOwnNumbers};
+ghost use Rattle.etcs_tables.specs.Headers.{head_row};
 ghost use Rattle.etcs_messages.specs.Lefts.{front_row, HoldsIn};
 ghost use Rattle.etcs_messages.specs.Readings.{bytes_of, content_by};
 ghost use Rattle.etcs_messages.specs.Readers.{Members, so_far};
 
 use crate::kind::{Head, Own};
 use crate::message::{Content, MessageOf, bytes_in};
-use crate::phase::{front_count, head_row};
+use crate::phase::front_count;
 use crate::rest::MessageRest;
 use crate::whole::message_at;
 use etcs_bodies::ListOf;
-use etcs_packets::parts::AnyPacket;
+use etcs_packets::inner::AnyPacket;
 use etcs_sequence::{Held, ItemReader, ItemRest, ListStore, PacketList};
+use etcs_tables::head_row;
 use etcs_vars::{Fed, ReadFault};
 use std::alloc::Global;
 use std::marker::Model;
@@ -32,7 +34,7 @@ pub(crate) fn front_by<H: Head, B: Own<Front = H>>(nid: u8, front: &[u64]) -> (H
     ensures own { result.1 ≡ B.own.made nid (drop (length (head_row H.Packet.WAY)) front.now) }
 {
     let row = head_row(H::Packet::WAY);
-    let (head, own) = front.split_at(row.len());
+    let (head, own) = front.split_at(row.items.len());
     (H::of_numbers(head), B::of_numbers(nid, own))
 }
 

@@ -13,16 +13,16 @@ ghost use Rattle.etcs_messages.specs.Lefts.{front_row, front_vars, front_bits};
 
 use crate::kind::{Head, Own};
 use crate::message::{Content, MessageOf};
-use crate::phase::{front_bits, head_row};
+use crate::phase::front_bits;
 use crate::reader::front_by;
 use arrayvec::ArrayVec;
 use etcs_bits::{BitSlice, Bits, SliceWalker};
 use etcs_bodies::ListOf;
-use etcs_packets::parts::AnyPacket;
-use etcs_rows::parts::Carrier;
+use etcs_packets::inner::AnyPacket;
+use etcs_rows::inner::Carrier;
 use etcs_sequence::ListStore;
-use etcs_sequence::parts::{bits_at, number_at, take_run};
-use etcs_tables::{RowItem, message_row};
+use etcs_sequence::inner::{bits_at, number_at, take_run};
+use etcs_tables::{RowItem, head_row, message_row};
 use etcs_vars::Var;
 use std::alloc::Global;
 
@@ -138,9 +138,9 @@ fn front_at<H: Head, B: Own<Front = H>>(nid: u8, bits: BitSlice<'_>) -> Option<(
     let mut walker = SliceWalker::new(bits);
     walker.next(NUMBER_BITS + LENGTH_BITS)?;
     let mut numbers = ArrayVec::new();
-    take_numbers(head_row(H::Packet::WAY), &mut walker, &mut numbers)?;
+    take_items(head_row(H::Packet::WAY).items, &mut walker, &mut numbers)?;
     let row = message_row(H::Packet::WAY, nid)?;
-    take_own(row.items, &mut walker, &mut numbers)?;
+    take_items(row.items, &mut walker, &mut numbers)?;
     Some(front_by(nid, numbers.as_slice()))
 }
 
@@ -160,27 +160,9 @@ fn take_number(var: Var, walker: &mut SliceWalker<'_>, numbers: &mut ArrayVec<u6
     Some(())
 }
 
-/// Takes the numbers of variables, where each is admitted.
+/// Takes the numbers of the variables of a table, where each is admitted.
 #[inline(always)]
-fn take_numbers(
-    vars: &[Var],
-    walker: &mut SliceWalker<'_>,
-    numbers: &mut ArrayVec<u64, 5>,
-) -> Option<()>
-    requires room { length numbers.old.items + length vars.now ≤ 5 }
-    requires place { walker.old.place ≤ length walker.old.bits }
-    ensures front { OnSome result ((ns : List ℕ) × (numbers.new.items ≡ numbers.old.items ++ ns) × FrontAt vars.now walker.old.bits walker.old.place ns walker.new.place) }
-    ensures bits { walker.new.bits ≡ walker.old.bits }
-{
-    for var in vars {
-        take_number(*var, walker, numbers)?;
-    }
-    Some(())
-}
-
-/// Takes the numbers of a message's own variables, where each is admitted.
-#[inline(always)]
-fn take_own(
+fn take_items(
     items: &[RowItem],
     walker: &mut SliceWalker<'_>,
     numbers: &mut ArrayVec<u64, 5>,

@@ -15,7 +15,7 @@ use Rattle.etcs_vars.specs.Vars.{name, special, width}
 use Rattle.etcs_vars.specs.Reading.{Reading, Sent, spelled, kept}
 use Rattle.etcs_vars.proofs.Prefixes.{width-le, width_pos}
 use Rattle.etcs_vars.proofs.Apart.{AllFit}
-use Rattle.etcs_vars.proofs.Walk.{spelled-append}
+use Rattle.etcs_vars.specs.laws.Spellings.{spelled-append}
 use Rattle.etcs_packets.specs.PacketValues.{PacketValue, nid_of}
 use Rattle.etcs_packets.specs.PacketValues as packet
 use Rattle.etcs_packets.specs.PacketReadings.{reading_to, readings_to}

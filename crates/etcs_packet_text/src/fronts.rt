@@ -5,7 +5,7 @@ ghost use Rattle.serde_json.specs.Written.{comma_if};
 ghost use Rattle.etcs_packet_text.specs.JsonParts.{pair_front};
 ghost use Rattle.etcs_packet_text.specs.Show.{line_front};
 
-use etcs_vars::parts::COUNT;
+use etcs_vars::inner::COUNT;
 use etcs_vars::{Var, variables};
 
 /// Two blanks, the name and a blank.

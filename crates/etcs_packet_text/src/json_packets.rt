@@ -9,7 +9,7 @@ ghost use Rattle.etcs_packet_text.specs.Trees.{packet_tree, packets_tree};
 use crate::pairs::write_fields;
 use crate::text::{write_decimal_and, write_slice};
 use etcs_bits::BitSlice;
-use etcs_packets::parts::AnyPacket;
+use etcs_packets::inner::AnyPacket;
 use etcs_tables::Way;
 use std::alloc::AllocError;
 
@@ -19,7 +19,7 @@ fn sent_dir<P: AnyPacket>(packet: &P) -> Option<u8>
     ensures { result ≡ sent_dir P.WAY (P.form packet.now).value }
 {
     match P::WAY {
-        Way::ToTrain => packet.direction(),
+        Way::ToTrain => packet.dir(),
         Way::ToTrack => None,
     }
 }
@@ -47,7 +47,7 @@ fn write_sent<P: AnyPacket>(packet: &P, out: &mut Vec<u8>) -> Result<(), AllocEr
     write_front(packet, out)?;
     write_fields(packet, out)?;
     out.extend_from_slice(b",\"nid\":")?;
-    write_decimal_and(u64::from(packet.number_of()), b'}', out)
+    write_decimal_and(u64::from(packet.nid()), b'}', out)
 }
 
 /// Appends what is after a packet's bits, up to its number.
@@ -77,7 +77,7 @@ fn write_kept<P: AnyPacket>(
     out.extend_from_slice(b"{\"data\":\"")?;
     write_slice(bits, out)?;
     write_behind(packet, out)?;
-    write_decimal_and(u64::from(packet.number_of()), b'}', out)
+    write_decimal_and(u64::from(packet.nid()), b'}', out)
 }
 
 /// Appends a packet.

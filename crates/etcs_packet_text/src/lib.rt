@@ -4,10 +4,10 @@
 
 mod digits;
 mod fronts;
+pub mod inner;
 mod json_packets;
 mod packets;
 mod pairs;
-pub mod parts;
 mod signed;
 mod text;
 mod variables;

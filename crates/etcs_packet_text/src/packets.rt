@@ -10,10 +10,10 @@ ghost use Rattle.etcs_packet_text.specs.Packets.{body_lines, frame_lines, packet
 
 use crate::text::write_decimal_line;
 use crate::variables::{write_bits_line, write_variable};
-use etcs_packets::parts::AnyPacket;
+use etcs_packets::inner::AnyPacket;
 use etcs_tables::Way;
 use etcs_vars::Var;
-use etcs_vars::parts::VarSink;
+use etcs_vars::inner::VarSink;
 use std::alloc::AllocError;
 use std::marker::Model;
 use std::mem;
@@ -117,8 +117,8 @@ fn write_frame<P: AnyPacket>(packet: &P, out: &mut Vec<u8>) -> Result<(), AllocE
     ensures ok { OnOk result (out.new.items ≡ out.old.items ++ frame_lines P.WAY (P.form packet.now).value) }
     ensures err { OnErr result (Begins out.old.items out.new.items) }
 {
-    match packet.direction() {
-        Some(dir) => write_direction_and_length(P::WAY, dir, packet.full_bits() as u64, out),
+    match packet.dir() {
+        Some(dir) => write_direction_and_length(P::WAY, dir, packet.bit_len() as u64, out),
         None => Ok(()),
     }
 }
@@ -129,7 +129,7 @@ fn write_sent<P: AnyPacket>(packet: &P, out: &mut Vec<u8>) -> Result<(), AllocEr
     ensures err { OnErr result (Begins out.old.items out.new.items) }
 {
     let mut sink = LineSink::open(out);
-    let sent = packet.send_variables(&mut sink);
+    let sent = packet.send_body(&mut sink);
     *out = sink.into_text();
     sent
 }
@@ -150,7 +150,7 @@ fn write_packet<P: AnyPacket>(packet: &P, out: &mut Vec<u8>) -> Result<(), Alloc
     ensures ok { OnOk result (out.new.items ≡ out.old.items ++ packet_text P.WAY (P.form packet.now).value) }
     ensures err { OnErr result (Begins out.old.items out.new.items) }
 {
-    write_number_line(packet.number_of(), out)?;
+    write_number_line(packet.nid(), out)?;
     write_frame(packet, out)?;
     write_body(packet, out)
 }

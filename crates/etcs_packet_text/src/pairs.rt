@@ -9,9 +9,9 @@ ghost use Rattle.etcs_packet_text.specs.Trees.{number_tree, pair_tree, pairs_tre
 
 use crate::fronts::pair_front;
 use crate::text::{write_decimal_and, write_hex};
-use etcs_packets::parts::AnyPacket;
+use etcs_packets::inner::AnyPacket;
 use etcs_vars::Var;
-use etcs_vars::parts::{VarSink, Variables};
+use etcs_vars::inner::{VarSink, Variables};
 use std::alloc::AllocError;
 use std::marker::Model;
 use std::mem;
@@ -131,7 +131,7 @@ pub(crate) fn write_fields<P: AnyPacket>(packet: &P, out: &mut Vec<u8>) -> Resul
 {
     out.extend_from_slice(b"[")?;
     let mut sink = PairSink::open(out);
-    let sent = packet.send_variables(&mut sink);
+    let sent = packet.send_body(&mut sink);
     *out = sink.into_text();
     sent?;
     out.extend_from_slice(b"]")

@@ -5,7 +5,7 @@ use Rattle.etcs_vars.specs.declared.var.Var.TheVariants.{NID_PACKET, Q_DIR, L_PA
 use Rattle.etcs_vars.specs.Reading.{Reading, spelled}
 use Rattle.etcs_vars.specs.Reading as sent
 use Rattle.etcs_vars.proofs.Stepping.{next_number}
-use Rattle.etcs_vars.proofs.Walk.{spelled-append}
+use Rattle.etcs_vars.specs.laws.Spellings.{spelled-append}
 use Rattle.etcs_flat.specs.Others.{OtherValue}
 use Rattle.etcs_packets.specs.declared.packet.Packet.{Packet}
 use Rattle.etcs_packets.specs.declared.packet.Packet.TheVariants.{Other}

@@ -5,12 +5,12 @@ use Rattle.etcs_bits.specs.Bits.{num, value, bits}
 use Rattle.etcs_vars.specs.declared.var.Var.TheVariants.{NID_PACKET, Q_DIR, L_PACKET}
 use Rattle.etcs_vars.specs.Reading.{Reading, spelled}
 use Rattle.etcs_tables.specs.declared.row.Way.{Way}
-use Rattle.etcs_words.specs.declared.word_sink.WordSink.{WordSink}
+use Rattle.etcs_vars.specs.declared.word_sink.WordSink.{WordSink}
 use Rattle.etcs_packets.specs.Fronts.{front_of}
 use Rattle.etcs_packets.specs.PacketReadings.{reading_to, readings_to, packet_reading}
 use Rattle.etcs_packets.specs.PacketValues.{PacketValue, marker, typed, kept, nid_of, dir_of, bits_of}
-use Rattle.etcs_words.specs.WordSinks.{and_bits}
-use Rattle.etcs_words.specs.laws.WordSinks.{and_both, spelled_both}
+use Rattle.etcs_vars.specs.WordSinks.{and_bits}
+use Rattle.etcs_vars.specs.laws.WordSinks.{and_both, spelled_both}
 use Rattle.etcs_packets.proofs.PacketBits.{rest_of, spelled_parts, front_marked}
 use Rattle.etcs_packets.proofs.PacketLists.{packets_more}
 

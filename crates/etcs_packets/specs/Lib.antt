@@ -2,4 +2,5 @@ pub mod Fronts
 pub mod Outcomes
 pub mod PacketReadings
 pub mod PacketValues
+pub mod Sending
 pub mod laws

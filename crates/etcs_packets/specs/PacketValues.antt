@@ -11,7 +11,7 @@ use Rattle.etcs_tables.specs.Typed.{IsFramed}
 use Rattle.etcs_flat.specs.Flats.{FlatValue, flat_fault, flat_reading}
 use Rattle.etcs_flat.specs.Others.{other_fault}
 use Rattle.etcs_grouped.specs.BaliseLists.{BaliseListValue, IsBaliseList, balise_list_reading}
-use Rattle.etcs_grouped.specs.Chains.{IsLinking, linking_reading, IsGradient, gradient_reading, IsSpeedProfile, profile_reading, IsModeProfile, mode_profile_reading}
+use Rattle.etcs_grouped.specs.Chains.{IsLinking, linking_reading, IsGradient, gradient_reading, IsSpeedProfile, speed_profile_reading, IsModeProfile, mode_profile_reading}
 use Rattle.etcs_grouped.specs.Level1Mas.{IsLevel1Ma, level1_ma_reading}
 use Rattle.etcs_grouped.specs.Level23Mas.{IsLevel23Ma, level23_ma_reading}
 use Rattle.etcs_grouped.specs.LevelOrders.{IsLevelOrder, level_order_reading}
@@ -50,7 +50,7 @@ form (Packet.Level1Ma p) = form_of (typed 12 p.dir (level1_ma_reading p)) (IsLev
 form (Packet.Level23Ma p) = form_of (typed 15 p.dir (level23_ma_reading p)) (IsLevel23Ma p)
 form (Packet.Repositioning p) = flat_form 16 p
 form (Packet.Gradient p) = form_of (typed 21 p.dir (gradient_reading p)) (IsGradient p)
-form (Packet.SpeedProfile p) = form_of (typed 27 p.dir (profile_reading p)) (IsSpeedProfile p)
+form (Packet.SpeedProfile p) = form_of (typed 27 p.dir (speed_profile_reading p)) (IsSpeedProfile p)
 form (Packet.LevelOrder p) = form_of (typed 41 p.dir (level_order_reading p)) (IsLevelOrder p)
 form (Packet.SessionManagement p) = flat_form 42 p
 form (Packet.RadioNetwork p) = flat_form 45 p

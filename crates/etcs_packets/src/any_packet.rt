@@ -7,16 +7,12 @@ ghost use Rattle.etcs_tables.specs.Typed.{IsTyped, IsFramed};
 ghost use Rattle.etcs_flat.specs.Others.{other_fault};
 ghost use Rattle.etcs_packets.specs.PacketValues.{marker, typed, kept, nid_of, dir_of, kept_of, variables_of, IsTypedOf, bits_to, IsPacketTo};
 ghost use Rattle.etcs_packets.specs.PacketReadings.{reading_to, readings_to};
-ghost use Rattle.etcs_words.specs.WordSinks.{and_bits};
+ghost use Rattle.etcs_vars.specs.WordSinks.{and_bits};
 
-use crate::packet::Packet;
-use crate::typed::Made;
-use crate::{parts, write};
 use etcs_bits::{BitSlice, Bits};
-use etcs_flat::Other;
 use etcs_tables::Way;
-use etcs_vars::parts::VarSink;
-use etcs_words::WordSink;
+use etcs_vars::WordSink;
+use etcs_vars::inner::VarSink;
 use std::alloc::{AllocError, Global};
 
 /// A packet of one way, of any number: what readers and messages ask of it.
@@ -38,11 +34,11 @@ pub trait AnyPacket: Sized + Drop {
         ensures packet { IsPacketTo WAY (form self.now).value };
 
     /// NID_PACKET.
-    fn number_of(&self) -> u8
+    fn nid(&self) -> u8
         ensures { result ≡ nid_of (form self.now).value };
 
     /// Q_DIR, where there is one; to the track it is 0, and isn't sent.
-    fn direction(&self) -> Option<u8>
+    fn dir(&self) -> Option<u8>
         ensures { result ≡ dir_of (form self.now).value };
 
     /// The bits after L_PACKET of a packet that is kept as bits.
@@ -55,12 +51,12 @@ pub trait AnyPacket: Sized + Drop {
     /// # Errors
     ///
     /// That of the sink.
-    fn send_variables<S: VarSink>(&self, out: &mut S) -> Result<(), AllocError>
+    fn send_body<S: VarSink>(&self, out: &mut S) -> Result<(), AllocError>
         ensures ok { OnOk result (out.new ≡ S.with out.old (variables_of (form self.now).value)) }
         ensures err { OnErr result (S.failed out.old out.new) };
 
     /// How many bits it takes with its frame.
-    fn full_bits(&self) -> usize
+    fn bit_len(&self) -> usize
         ensures bits { result ≡ bits_to WAY (form self.now).value }
         ensures small { result ≤ 8191 };
 
@@ -116,7 +112,7 @@ pub trait AnyPacket: Sized + Drop {
     /// # Errors
     ///
     /// `AllocError` where there is no memory.
-    fn copy(&self, alloc: Global) -> Result<Self, AllocError>
+    fn try_clone(&self, alloc: Global) -> Result<Self, AllocError>
         ensures { IfOk result (λ p. p ≡ self.now) };
 
     /// No two packets stand for one value.
@@ -142,79 +138,11 @@ pub fn room_after<P: AnyPacket>(room: usize, packets: &[P]) -> Option<usize>
     let mut left = room;
     for packet in packets {
         packet.hold();
-        let bits = packet.full_bits();
+        let bits = packet.bit_len();
         if left < bits {
             return None;
         }
         left -= bits;
     }
     Some(left)
-}
-
-impl AnyPacket for Packet {
-    ghost use Rattle.etcs_tables.specs.declared.row.Way.TheVariants.{ToTrain};
-    ghost use Rattle.etcs_packets.specs.PacketValues.{form};
-    ghost use Rattle.etcs_packets.specs.laws.OnePacket.{one_packet};
-
-    const WAY: Way = Way::ToTrain;
-
-    ghost WAY = { ToTrain };
-
-    ghost form = { form };
-
-    ghost one = { one_packet };
-
-    fn hold(&self) {
-        parts::holds(self);
-    }
-
-    fn number_of(&self) -> u8 {
-        self.nid()
-    }
-
-    fn direction(&self) -> Option<u8> {
-        parts::dir(self)
-    }
-
-    fn kept_bits(&self) -> Option<BitSlice<'_>> {
-        parts::kept_bits(self)
-    }
-
-    fn send_variables<S: VarSink>(&self, out: &mut S) -> Result<(), AllocError> {
-        parts::send(self, out)
-    }
-
-    fn full_bits(&self) -> usize {
-        self.bit_len()
-    }
-
-    #[inline]
-    fn append(&self, out: &mut WordSink<'_>) {
-        write::append_packet(self, out);
-    }
-
-    fn of_fields(alloc: Global, nid: u8, dir: u8, fields: &[u64]) -> Made<Packet> {
-        parts::from_fields(alloc, nid, dir, fields)
-    }
-
-    #[inline(always)]
-    fn of_bits(alloc: Global, nid: u8, dir: u8, body: BitSlice<'_>) -> Made<Packet> {
-        parts::from_bits(alloc, nid, dir, body)
-    }
-
-    fn of_kept(nid: u8, dir: u8, body: Bits) -> Packet {
-        match Other::new(nid, dir, body) {
-            Ok(other) => Packet::Other(other),
-            Err(_) => unreachable!(),
-        }
-    }
-
-    fn of_marker(number: u8) -> Option<Packet> {
-        let marker = etcs_flat::parts::marker(number).ok()?;
-        Some(Packet::VbcMarker(marker))
-    }
-
-    fn copy(&self, alloc: Global) -> Result<Packet, AllocError> {
-        self.try_clone(alloc)
-    }
 }

@@ -15,7 +15,7 @@ pub fn copy_all<P: AnyPacket>(alloc: Global, packets: &[P]) -> Result<Vec<P>, Al
 {
     let mut copies = Vec::with_capacity(alloc, packets.len())?;
     for packet in packets {
-        copies.push(packet.copy(alloc)?)?;
+        copies.push(packet.try_clone(alloc)?)?;
     }
     Ok(copies)
 }

@@ -3,16 +3,16 @@
 ghost use Rattle.std.specs.Prelude.{◌≡◌, ◌↔◌, IsTrue};
 ghost use Rattle.etcs_packets.specs.PacketValues.{packet_value};
 
+use crate::any_packet::AnyPacket;
 use crate::packet::Packet;
-use crate::parts::holds;
 
 /// Packets of one number, one direction and the same variables or kept bits are equal.
 #[tactic(auto, using(crate::specs::laws::OnePacket::one_packet))]
 pub fn one_packet(first: &Packet, second: &Packet)
     ensures { packet_value first.now ≡ packet_value second.now → first.now ≡ second.now }
 {
-    holds(first);
-    holds(second);
+    first.hold();
+    second.hold();
 }
 
 /// `==` of packets is equality of kind, direction and all numbers or bits.

@@ -1,14 +1,16 @@
-//! Packets to the train: every number that is typed, and all others as bits.
+//! Packets from the track, to the train ([`Packet`]): every number that is typed, and all others as bits.
 #![tactic(auto)]
 
 mod any_packet;
-mod asked;
 mod copies;
+pub mod inner;
 pub mod laws;
 mod list;
 mod packet;
 pub mod parts;
+mod to_train;
 mod typed;
+mod variables;
 mod write;
 
 pub use etcs_bits::{BitSlice, Bits};

@@ -73,8 +73,8 @@ macro_rules! copied {
 macro_rules! by_number {
     ({ $way:expr, $number:expr, $alloc:expr, $dir:expr, $source:expr } $sum:ident: $($nid:literal $variant:ident,)*) => {
         match $number {
-            $($nid => $crate::parts::packet_of($alloc, $dir, $source, $sum::$variant),)*
-            _ => $crate::parts::none_of($way, $number, $source),
+            $($nid => $crate::inner::packet_of($alloc, $dir, $source, $sum::$variant),)*
+            _ => $crate::inner::none_of($way, $number, $source),
         }
     };
 }

@@ -9,8 +9,8 @@ ghost use Rattle.etcs_packets.specs.PacketValues.{bits_of, packet_value};
 use crate::list::packets;
 use crate::typed::{Formed, typed_bits, typed_nid};
 use crate::{copied, of_each};
-use etcs_bodies::Framed;
-use etcs_flat::{Flat, Marker, Other, parts};
+use etcs_bodies::{Framed, Packetlike};
+use etcs_flat::{Flat, Marker, Other, inner};
 use etcs_grouped::{
     BaliseList, ConditionalLevelOrder, FixedText, Gradient, InfillLocation, Level1Ma, Level23Ma,
     LevelOrder, Linking, ModeProfile, PlainText, ReportParameters, SpeedProfile, TrackCondition,
@@ -98,7 +98,7 @@ impl Formed for Packet {
 
 impl Packet {
     ghost use Rattle.std.specs.Prelude.{◌≡◌, ◌≤◌, IfOk};
-    ghost use Rattle.etcs_packets.specs.PacketValues.{packet_value, nid_of, bits_of};
+    ghost use Rattle.etcs_packets.specs.PacketValues.{packet_value, nid_of, dir_of, bits_of};
     ghost use Rattle.etcs_packets.specs.PacketReadings.{packet_reading};
 
     /// Packet 0, the marker of a virtual balise cover, of this NID_VBCMK.
@@ -111,7 +111,7 @@ impl Packet {
         ensures fits { OnOk result (number_fault NID_VBCMK number ≡ None) }
         ensures fault { IfErr result (λ e. number_fault NID_VBCMK number ≡ Some e) }
     {
-        Ok(Packet::VbcMarker(parts::marker(number)?))
+        Ok(Packet::VbcMarker(inner::marker(number)?))
     }
 
     /// NID_PACKET.
@@ -119,6 +119,14 @@ impl Packet {
         ensures { result ≡ nid_of (packet_value self.now) }
     {
         packets!(of_each, self, [_ => 0] packet => typed_nid(packet), packet => packet.nid())
+    }
+
+    /// Q_DIR: 0 reverse, 1 nominal, 2 both directions. `None` of packet 0, which has none.
+    #[inline(always)]
+    pub fn dir(&self) -> Option<u8>
+        ensures { result ≡ dir_of (packet_value self.now) }
+    {
+        packets!(of_each, self, [_ => None] packet => Some(packet.dir()), packet => Some(packet.dir()))
     }
 
     /// How many bits the packet takes, its frame among them: at most 8,191.

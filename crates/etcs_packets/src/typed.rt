@@ -92,15 +92,6 @@ pub fn typed_bits<P: Framed>(packet: &P) -> usize
     frame_bits(P::WAY) + packet.bits()
 }
 
-/// Says of a number without a row that no typed packet this way has it.
-pub fn no_row(way: Way, nid: u8)
-    requires { row_to way nid ≡ None }
-    ensures numbers { (dir : ℕ) (f : List ℕ) → IsTyped way nid dir f → ⊥ }
-    ensures bits { (dir : ℕ) (r : Reading) → IsFramed way nid dir r → ⊥ }
-{
-    let _ = (way, nid);
-}
-
 /// NID_PACKET of a typed packet.
 pub fn typed_nid<P: Packetlike>(_packet: &P) -> u8
     ensures { result ≡ P.NID }

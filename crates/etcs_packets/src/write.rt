@@ -7,14 +7,13 @@ ghost use Rattle.etcs_vars.specs.Reading.{spelled};
 ghost use Rattle.etcs_packets.specs.PacketValues.{packet_value, variables_of, IsPacket, IsMade};
 ghost use Rattle.etcs_packets.specs.PacketReadings.{packet_reading, packets_reading};
 ghost use Rattle.etcs_packets.specs.Fronts.{front_of};
-ghost use Rattle.etcs_words.specs.WordSinks.{and_bits};
+ghost use Rattle.etcs_vars.specs.WordSinks.{and_bits};
 
 use crate::Packet;
-use crate::any_packet::room_after;
-use crate::parts::{dir, holds, send};
+use crate::any_packet::{AnyPacket, room_after};
 use etcs_tables::{Way, frame_bits};
-use etcs_vars::parts::Variables;
-use etcs_words::WordSink;
+use etcs_vars::WordSink;
+use etcs_vars::inner::Variables;
 
 /// How many of `room` bits packets leave, one after another, or nothing where they don't fit.
 pub fn room_left(room: usize, packets: &[Packet]) -> Option<usize>
@@ -51,8 +50,8 @@ fn frame_number(nid: u8, dir: u8, len: usize) -> u64
 fn append_front(packet: &Packet, out: &mut WordSink<'_>)
     ensures { out.new ≡ and_bits out.old (spelled (front_of (packet_value packet.now))) }
 {
-    holds(packet);
-    match dir(packet) {
+    packet.hold();
+    match packet.dir() {
         Some(dir) => {
             let number = frame_number(packet.nid(), dir, packet.bit_len());
             out.put(frame_bits(Way::ToTrain), number);
@@ -65,7 +64,7 @@ fn append_front(packet: &Packet, out: &mut WordSink<'_>)
 fn append_rest(packet: &Packet, out: &mut WordSink<'_>)
     ensures { out.new ≡ and_bits out.old (spelled (variables_of (packet_value packet.now))) }
 {
-    match send(packet, out) {
+    match packet.send_body(out) {
         Ok(()) => {}
         Err(_) => unreachable!(),
     }

@@ -3,10 +3,11 @@ use Rattle.std.proofs.Common.{◌≡◌, ℕ, List, [], ◌∷◌, ◌++◌, len
 use Rattle.std.specs.Prelude.{All}
 use Rattle.etcs_vars.specs.declared.var.Var.TheVariants.{N_ITER, L_SECTION, L_ENDSECTION, Q_ENDTIMER, T_ENDTIMER, D_ENDTIMERSTARTLOC, Q_DANGERPOINT, D_DP, V_RELEASEDP, Q_OVERLAP, D_STARTOL, T_OL, D_OL, V_RELEASEOL}
 use Rattle.etcs_vars.specs.declared.fault.BuildFault.{BuildFault}
+use Rattle.etcs_vars.specs.Faults.{◌or_else◌, number_fault}
 use Rattle.etcs_vars.specs.Reading.{Reading}
 use Rattle.etcs_tables.specs.Layouts.{Layout, whole, guarded, counted}
 use Rattle.etcs_tables.specs.Rows.{section_timer, is_one, ◌▸◌}
-use Rattle.etcs_bodies.specs.Faults.{◌or_else◌, number_fault, count_fault}
+use Rattle.etcs_bodies.specs.Faults.{count_fault}
 use Rattle.etcs_bodies.specs.Codecs.{both_from, optional_from, optional_reading, list_from, list_reading, form_from}
 use Rattle.etcs_bodies.specs.Taking.{Left, next_number}
 use Rattle.etcs_bodies.specs.Groups.{group_fault, pair_fault, pair_reading, pair_from}

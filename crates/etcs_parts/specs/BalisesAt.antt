@@ -2,8 +2,9 @@
 use Rattle.std.proofs.Common.{◌≡◌, ℕ, [], ◌∷◌, ◌++◌, Option, None}
 use Rattle.etcs_vars.specs.declared.var.Var.TheVariants.{Q_NEWCOUNTRY, NID_C, NID_BG}
 use Rattle.etcs_vars.specs.declared.fault.BuildFault.{BuildFault}
+use Rattle.etcs_vars.specs.Faults.{◌or_else◌, number_fault}
 use Rattle.etcs_vars.specs.Reading.{Reading}
-use Rattle.etcs_bodies.specs.Faults.{◌or_else◌, number_fault, option_fault}
+use Rattle.etcs_bodies.specs.Faults.{option_fault}
 use Rattle.etcs_bodies.specs.Codecs.{both_from, optional_from, optional_reading, form_from}
 use Rattle.etcs_bodies.specs.Taking.{Left, next_number}
 

@@ -4,9 +4,9 @@ use Rattle.std.specs.Prelude.{◌==◌}
 use Rattle.std.specs.Option.{is_some}
 use Rattle.etcs_vars.specs.declared.var.Var.TheVariants.{M_LEVELTR, NID_NTC, L_ACKLEVELTR}
 use Rattle.etcs_vars.specs.declared.fault.BuildFault.{BuildFault}
+use Rattle.etcs_vars.specs.Faults.{◌or_else◌, number_fault}
 use Rattle.etcs_vars.specs.Reading.{Reading}
 use Rattle.etcs_tables.specs.declared.item.Test.TheVariants.{IsOne}
-use Rattle.etcs_bodies.specs.Faults.{◌or_else◌, number_fault}
 use Rattle.etcs_bodies.specs.Codecs.{both_from, group_from, form_from}
 use Rattle.etcs_bodies.specs.Taking.{Left, next_number}
 use Rattle.etcs_bodies.specs.Groups.{group_fault}

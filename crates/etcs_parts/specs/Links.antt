@@ -3,8 +3,8 @@ use Rattle.std.proofs.Common.{◌≡◌, ℕ, Bool, [], ◌∷◌, ◌++◌, Opt
 use Rattle.etcs_bits.specs.Bits.{bit}
 use Rattle.etcs_vars.specs.declared.var.Var.TheVariants.{D_LINK, Q_LINKORIENTATION, Q_LINKREACTION, Q_LOCACC}
 use Rattle.etcs_vars.specs.declared.fault.BuildFault.{BuildFault}
+use Rattle.etcs_vars.specs.Faults.{◌or_else◌, number_fault}
 use Rattle.etcs_vars.specs.Reading.{Reading}
-use Rattle.etcs_bodies.specs.Faults.{◌or_else◌, number_fault}
 use Rattle.etcs_bodies.specs.Codecs.{both_from, form_from}
 use Rattle.etcs_bodies.specs.Taking.{Left, next_number, next_flag}
 use Rattle.etcs_parts.specs.BalisesAt.{BaliseAtValue, balise_at_value, balise_at_fault, balise_at_reading, balise_at_from}

@@ -3,8 +3,8 @@ use Rattle.std.proofs.Common.{◌≡◌, ℕ, Bool, [], ◌∷◌, Option, None}
 use Rattle.etcs_bits.specs.Bits.{bit}
 use Rattle.etcs_vars.specs.declared.var.Var.TheVariants.{D_LOC, Q_LGTLOC}
 use Rattle.etcs_vars.specs.declared.fault.BuildFault.{BuildFault}
+use Rattle.etcs_vars.specs.Faults.{number_fault}
 use Rattle.etcs_vars.specs.Reading.{Reading}
-use Rattle.etcs_bodies.specs.Faults.{number_fault}
 use Rattle.etcs_bodies.specs.Codecs.{both_from, form_from}
 use Rattle.etcs_bodies.specs.Taking.{Left, next_number, next_flag}
 

@@ -4,8 +4,9 @@ use Rattle.std.specs.Prelude.{All}
 use Rattle.etcs_bits.specs.Bits.{bit}
 use Rattle.etcs_vars.specs.declared.var.Var.TheVariants.{D_STATIC, V_STATIC, Q_FRONT, N_ITER}
 use Rattle.etcs_vars.specs.declared.fault.BuildFault.{BuildFault}
+use Rattle.etcs_vars.specs.Faults.{◌or_else◌, number_fault}
 use Rattle.etcs_vars.specs.Reading.{Reading}
-use Rattle.etcs_bodies.specs.Faults.{◌or_else◌, number_fault, count_fault}
+use Rattle.etcs_bodies.specs.Faults.{count_fault}
 use Rattle.etcs_bodies.specs.Taking.{Left, next_number, next_flag}
 use Rattle.etcs_bodies.specs.Codecs.{both_from, list_reading, list_from, form_from}
 use Rattle.etcs_parts.specs.Differings.{DifferingValue, IsDiffering, differing_reading, differing_from}

@@ -4,11 +4,11 @@ use Rattle.std.specs.Option.{is_some}
 use Rattle.etcs_bits.specs.Bits.{bit}
 use Rattle.etcs_vars.specs.declared.var.Var.TheVariants.{Q_SCALE, Q_TEXTCLASS, Q_TEXTDISPLAY, D_TEXTDISPLAY, L_TEXTDISPLAY, T_TEXTDISPLAY, Q_TEXTCONFIRM, Q_CONFTEXTDISPLAY, Q_TEXTREPORT, NID_TEXTMESSAGE, NID_C, NID_RBC}
 use Rattle.etcs_vars.specs.declared.fault.BuildFault.{BuildFault}
+use Rattle.etcs_vars.specs.Faults.{◌or_else◌, number_fault}
 use Rattle.etcs_vars.specs.Reading.{Reading}
 use Rattle.etcs_tables.specs.declared.item.Test.TheVariants.{IsNotZero}
 use Rattle.etcs_tables.specs.Layouts.{Layout, whole, guarded, passes}
 use Rattle.etcs_tables.specs.Rows.{◌▸◌, is_one}
-use Rattle.etcs_bodies.specs.Faults.{◌or_else◌, number_fault}
 use Rattle.etcs_bodies.specs.Taking.{Left, next_number, next_flag}
 use Rattle.etcs_bodies.specs.Codecs.{both_from, optional_from, group_from, form_from}
 use Rattle.etcs_bodies.specs.Guards.{guard_fault, optional_group}

@@ -13,7 +13,7 @@ use etcs_bodies::laws::Exact;
 use etcs_bodies::{
     ListOf, Numbers, Part, check_count, clone_all, hold_all, send_list, take_list, taken,
 };
-use etcs_vars::parts::{VarSink, Variables, bits_of_all};
+use etcs_vars::inner::{VarSink, Variables, bits_of_all};
 use etcs_vars::{BuildFault, Var};
 use std::alloc::{AllocError, Global};
 use std::marker::Model;

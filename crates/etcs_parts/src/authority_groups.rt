@@ -6,7 +6,7 @@ ghost use Rattle.etcs_parts.specs.Authorities.{end_timer_fault, end_timer_readin
 
 use crate::groups::{check_group, send_group, take_group};
 use etcs_bodies::{Numbers, check};
-use etcs_vars::parts::VarSink;
+use etcs_vars::inner::VarSink;
 use etcs_vars::{BuildFault, Var};
 use std::alloc::AllocError;
 

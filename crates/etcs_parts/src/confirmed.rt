@@ -4,7 +4,7 @@ ghost use Rattle.std.specs.Prelude.{◌≡◌, None, Some, IfOk, IfErr, IfSome, 
 ghost use Rattle.etcs_parts.specs.TextFrames.{IsReport, report_from, IsConfirm, confirm_from, confirmed_fault, confirmed_reading, confirmed_count, confirmed_from};
 
 use etcs_bodies::{Flag, Numbers, check, check_guard, taken};
-use etcs_vars::parts::VarSink;
+use etcs_vars::inner::VarSink;
 use etcs_vars::{BuildFault, Var};
 use std::alloc::{AllocError, Global};
 

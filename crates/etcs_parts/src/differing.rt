@@ -5,7 +5,7 @@ ghost use Rattle.etcs_parts.specs.Differings.{category_of};
 
 use etcs_bodies::laws::Exact;
 use etcs_bodies::{Entry, Numbers, Part, check, taken};
-use etcs_vars::parts::{VarSink, Variables};
+use etcs_vars::inner::{VarSink, Variables};
 use etcs_vars::{BuildFault, Var};
 use std::alloc::{AllocError, Global};
 use std::marker::Model;

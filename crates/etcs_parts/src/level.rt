@@ -4,7 +4,7 @@ ghost use Rattle.std.specs.Prelude.{◌≡◌, None, Some, IfOk, IfErr, OnOk};
 
 use etcs_bodies::laws::Exact;
 use etcs_bodies::{Entry, Numbers, Part, check, check_guard, taken};
-use etcs_vars::parts::{VarSink, Variables};
+use etcs_vars::inner::{VarSink, Variables};
 use etcs_vars::{BuildFault, Var};
 use std::alloc::{AllocError, Global};
 use std::marker::Model;

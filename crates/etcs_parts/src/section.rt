@@ -9,7 +9,7 @@ ghost use Rattle.etcs_vars.specs.declared.var.Var.TheVariants.{T_SECTIONTIMER, D
 use crate::groups::{check_group, send_group, take_group};
 use etcs_bodies::laws::Exact;
 use etcs_bodies::{Flag, Numbers, Part, check, taken};
-use etcs_vars::parts::{VarSink, Variables};
+use etcs_vars::inner::{VarSink, Variables};
 use etcs_vars::{BuildFault, Var};
 use std::alloc::{AllocError, Global};
 use std::marker::Model;

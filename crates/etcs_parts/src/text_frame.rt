@@ -6,7 +6,7 @@ use crate::confirmed::Confirmed;
 use crate::shown::Shown;
 use etcs_bodies::laws::Exact;
 use etcs_bodies::{Numbers, Part, build_part, send_fields, take_fields};
-use etcs_vars::parts::{VarSink, Variables};
+use etcs_vars::inner::{VarSink, Variables};
 use etcs_vars::{BuildFault, Var};
 use std::alloc::{AllocError, Global};
 use std::marker::Model;

@@ -1,15 +1,36 @@
 -- The definitions, computed on whole messages.
-use Rattle.std.proofs.Common.{◌≡◌, true, false, [], ◌∷◌, Some, None, refl}
-use Rattle.std.specs.Prelude.{negsuc, replicate}
+use Rattle.std.proofs.Common.{◌≡◌, ℕ, List, true, false, [], ◌∷◌, Some, None, refl}
+use Rattle.std.specs.Prelude.{Option, negsuc, replicate}
 use Rattle.etcs_bits.specs.Bits.{num, bits}
 use Rattle.etcs_vars.specs.declared.var.Var.TheVariants.{NID_MESSAGE, NID_LRBG, NID_EM, NID_PACKET, PADDING}
 use Rattle.etcs_vars.specs.declared.fault.BuildFault.TheVariants.{NotAdmitted, FillLength}
-use Rattle.etcs_vars.specs.Reading.{spelled}
+use Rattle.etcs_vars.specs.declared.fault.BuildFault.{BuildFault}
+use Rattle.etcs_vars.specs.Reading.{Reading, spelled}
 use Rattle.etcs_packets.specs.declared.packet.Packet.TheVariants.{VbcMarker, StopInSr}
+use Rattle.etcs_tables.specs.declared.row.Way.TheVariants.{ToTrain}
+use Rattle.etcs_packets.specs.declared.packet.Packet.{Packet}
+use Rattle.etcs_packets.specs.PacketValues.{form}
+use Rattle.etcs_messages.specs.Messages as messages
+use Rattle.etcs_messages.specs.Messages.{padding_room}
+use Rattle.etcs_messages.specs.Readings as readings
+use Rattle.etcs_messages.specs.declared.message.Content.TheVariants.{Typed, Kept}
+use Rattle.etcs_radio.specs.declared.body.Body.{Body}
 use Rattle.etcs_radio.specs.declared.body.Body.TheVariants.{Plain, Emergency, Shifted}
 use Rattle.etcs_radio.specs.declared.body.RadioHead.{RadioHead}
-use Rattle.etcs_radio.specs.Messages.{Typed, Kept, message_fault, padded_fault, kept_fault, padding_room}
-use Rattle.etcs_radio.specs.Readings.{message_reading}
+use Rattle.etcs_radio.specs.Bodies.{radio_head, radio_body}
+use Rattle.etcs_radio.specs.Messages.{Content}
+
+abbrev message_reading : Content → Reading
+message_reading m = readings.message_reading ToTrain radio_head radio_body form m
+
+abbrev message_fault : RadioHead → Body → List Packet → Option BuildFault
+message_fault head body ps = messages.message_fault ToTrain radio_head radio_body form head body ps
+
+abbrev padded_fault : RadioHead → Body → List Packet → ℕ → Option BuildFault
+padded_fault head body ps padding = messages.padded_fault ToTrain radio_head radio_body form head body ps padding
+
+abbrev kept_fault : ℕ → ℕ → Option BuildFault
+kept_fault nid bits = messages.kept_fault ToTrain nid bits
 
 abbrev head : RadioHead
 head = record { t_train = 0; m_ack = false; nid_lrbg = 16385 }

@@ -1,25 +1,30 @@
--- Laws of radio messages.
-use Rattle.std.specs.Prelude.{◌≡◌, ℕ, ◌*◌, ◌-◌, ◌≤◌, ◌↔◌, ◌⊎◌, List, [], ◌++◌, length, All, Some}
+-- Laws of messages to the train.
+use Rattle.std.specs.Prelude.{◌≡◌, ℕ, ◌*◌, ◌-◌, ◌≤◌, ◌↔◌, ◌⊎◌, List, [], length, All, Some}
 use Rattle.etcs_vars.specs.Reading.{Reading, spelled, Viable}
 use Rattle.etcs_tables.specs.declared.row.Way.TheVariants.{ToTrain}
 use Rattle.etcs_rows.specs.declared.frames.Carrier.TheVariants as carrier
 use Rattle.etcs_tables.specs.Layouts.{Layout, Reads}
 use Rattle.etcs_tables.specs.Rows.{message_row_to}
 use Rattle.etcs_packets.specs.PacketValues.{PacketValue, form}
-use Rattle.etcs_packets.specs.PacketReadings.{packets_reading}
 use Rattle.etcs_sequence.specs.Contents.{Carries}
+use Rattle.etcs_messages.specs.Messages.{IsAdmitted, head_reading}
 use Rattle.etcs_messages.specs.Promises as promises
+use Rattle.etcs_messages.specs.Readers as readers
 use Rattle.etcs_radio.specs.declared.body.RadioHead.{RadioHead}
 use Rattle.etcs_radio.specs.Bodies.{head_variables, radio_head, radio_body}
-use Rattle.etcs_radio.specs.Messages.{IsAdmitted, MessageLanguage, head_reading}
+use Rattle.etcs_radio.specs.Messages.{MessageLanguage}
 
 -- messages with one spelling are one, and no spelling begins another
 abbrev pub OneSpelling : Type 0
 OneSpelling = promises.OneSpelling ToTrain radio_head radio_body form
 
+-- the same bits are held in one way
+abbrev pub OneHolding : Type 0
+OneHolding = readers.OneHolding ToTrain form
+
 -- a header, the variables of its row and packets
 abbrev pub begun : ℕ → ℕ → RadioHead → Reading → List PacketValue → Reading
-begun nid len head body vs = head_reading nid len (head_variables head) ++ body ++ packets_reading vs
+begun nid len head body vs = promises.begun ToTrain nid len (head_variables head) body vs
 
 -- they begin a message exactly where they stay within its bytes and leave padding or the frame of a packet
 abbrev pub RoomRule : Type 0

@@ -3,8 +3,7 @@
 ghost use Rattle.std.specs.Prelude.{◌≡◌, ℕ, ◌≤◌, ◌*◌, ◌↔◌, ◌++◌, length, take, IsTrue, IfOk, OnErr, IfSome, IfNone};
 ghost use Rattle.etcs_bits.specs.Bits.{bits};
 ghost use Rattle.etcs_vars.specs.Reading.{InLanguage, NoneYet};
-ghost use Rattle.etcs_radio.specs.Promises.{OneSpelling, RoomRule};
-ghost use Rattle.etcs_radio.specs.Readers.{OneHolding};
+ghost use Rattle.etcs_radio.specs.Promises.{OneSpelling, RoomRule, OneHolding};
 ghost use Rattle.etcs_radio.specs.Messages.{MessageLanguage};
 
 use crate::{Body, Message, RadioHead};

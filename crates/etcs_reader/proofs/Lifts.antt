@@ -10,7 +10,8 @@ use Rattle.etcs_vars.specs.Walking.{Residual}
 use Rattle.etcs_vars.specs.Reading.{Reading, spelled, holder, Viable, Owner}
 use Rattle.etcs_vars.proofs.Apart.{cut}
 use Rattle.etcs_vars.proofs.Prefixes.{take-num}
-use Rattle.etcs_vars.proofs.Walk.{Regular, spelled-append, begins_with}
+use Rattle.etcs_vars.proofs.Walk.{Regular, begins_with}
+use Rattle.etcs_vars.specs.laws.Spellings.{spelled-append}
 use Rattle.etcs_vars.proofs.Stepping.{quotient_below}
 use Rattle.etcs_vars.proofs.Sent.{length-sent, holder-append}
 use Rattle.etcs_reader.specs.Rests.{Starts, Goes, BeginsWith}

@@ -6,7 +6,8 @@ use Rattle.std.proofs.Math.Seq.{take-append-add}
 use Rattle.etcs_vars.specs.declared.var.Var.{Var}
 use Rattle.etcs_vars.specs.Walking.{Residual, Refuses}
 use Rattle.etcs_vars.specs.Reading.{Reading, spelled, InLanguage, Viable, Owner}
-use Rattle.etcs_vars.proofs.Walk.{Regular, spelled-append}
+use Rattle.etcs_vars.proofs.Walk.{Regular}
+use Rattle.etcs_vars.specs.laws.Spellings.{spelled-append}
 use Rattle.etcs_reader.specs.declared.reader.Halt.{Halt}
 use Rattle.etcs_reader.specs.declared.reader.Halt.TheVariants.{Refused, Memory}
 use Rattle.etcs_reader.specs.declared.reader.Reader.{Reader}

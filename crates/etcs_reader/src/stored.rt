@@ -6,7 +6,7 @@ ghost use Rattle.etcs_reader.specs.laws.StoredLaws.{with_along};
 
 use crate::rest::Rest;
 use etcs_vars::Var;
-use etcs_vars::parts::VarSink;
+use etcs_vars::inner::VarSink;
 use std::alloc::AllocError;
 
 /// What is left of a language, and a sink that took the variables that were read. It takes them one by

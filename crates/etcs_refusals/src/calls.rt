@@ -9,7 +9,7 @@ use crate::runs::refuse_run;
 use etcs_cases::{Case, item_of, next_kind};
 use etcs_json::to_value;
 use etcs_packets::Packet;
-use etcs_packets::parts::AnyPacket;
+use etcs_packets::inner::AnyPacket;
 use etcs_text::{Entry, Kind, json_line};
 
 /// Answers a line: `from_slice HEX`, `push WIDTH HEX`, `feed STEP KIND HEX`, `to_packet KIND HEX`, `message KIND HEX ..`,

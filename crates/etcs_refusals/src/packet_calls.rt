@@ -4,7 +4,7 @@ use crate::each::{Makes, refuse_each};
 use etcs_cases::{Case, item_of, next_kind, own_fields, size_of, viewed};
 use etcs_group::{Assembly, GroupFault};
 use etcs_packets::Packet;
-use etcs_packets::parts::AnyPacket;
+use etcs_packets::inner::AnyPacket;
 use etcs_telegram::Size;
 use etcs_text::Entry;
 use std::alloc::{AllocError, Global};
@@ -54,7 +54,7 @@ pub(crate) fn numbers_of(case: &mut Case, packets: &[Packet]) -> Vec<Listed> {
     for packet in packets {
         let mut numbers = Vec::new(case.alloc());
         case.kept(own_fields(packet, &mut numbers).is_ok());
-        let (nid, dir) = (packet.number_of(), packet.direction().unwrap_or(3));
+        let (nid, dir) = (packet.nid(), packet.dir().unwrap_or(3));
         case.kept(all.push(Listed { nid, dir, numbers }).is_ok());
     }
     all
@@ -98,7 +98,7 @@ impl<P: AnyPacket + PartialEq> Makes for Clones<'_, P> {
 
     fn make(&self, alloc: Global, index: usize) -> Result<Option<P>, bool> {
         match self.packets.get(index) {
-            Some(packet) => match packet.copy(alloc) {
+            Some(packet) => match packet.try_clone(alloc) {
                 Ok(copy) => Ok(Some(copy)),
                 Err(_) => Err(true),
             },

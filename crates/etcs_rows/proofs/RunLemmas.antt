@@ -7,7 +7,7 @@ use Rattle.etcs_vars.specs.declared.var.Var.{Var}
 use Rattle.etcs_vars.specs.Vars.{width}
 use Rattle.etcs_vars.specs.Walking.{Residual}
 use Rattle.etcs_vars.specs.Reading.{Sent, Reading, spelled}
-use Rattle.etcs_vars.proofs.Walk.{spelled-append}
+use Rattle.etcs_vars.specs.laws.Spellings.{spelled-append}
 use Rattle.etcs_tables.specs.Layouts.{Layout, ReadsIn}
 use Rattle.etcs_rows.specs.Places.{after_number}
 use Rattle.etcs_rows.specs.Runs.{NextIn, RunsTo}

@@ -9,7 +9,7 @@ use Rattle.etcs_vars.specs.Vars.{width, admits}
 use Rattle.etcs_vars.specs.Reading.{Reading, spelled, holder, InLanguage, Viable, Owner}
 use Rattle.etcs_vars.proofs.Apart.{cut}
 use Rattle.etcs_vars.proofs.Prefixes.{admits_parts}
-use Rattle.etcs_vars.proofs.Walk.{spelled-append}
+use Rattle.etcs_vars.specs.laws.Spellings.{spelled-append}
 use Rattle.etcs_vars.proofs.Sent.{length-sent, holder-append}
 use Rattle.etcs_tables.specs.Layouts.{Layout, whole, one, guarded, counted, looks, Reads, ReadsIn}
 use Rattle.etcs_rows.specs.Places.{onto, after_number}

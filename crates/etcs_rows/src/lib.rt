@@ -4,6 +4,7 @@
 mod fitting;
 mod frames;
 mod head;
+pub mod inner;
 pub mod laws;
 mod least;
 mod length_set;

@@ -5,7 +5,7 @@ ghost use Rattle.etcs_bits.specs.Bits.{bits, replaced};
 ghost use Rattle.etcs_tables.specs.Layouts.{layout, AdmitsFields, Spells};
 
 use crate::place::Place;
-use etcs_bits::{Bits, parts};
+use etcs_bits::{Bits, inner};
 use etcs_tables::Row;
 use std::alloc::AllocError;
 
@@ -68,7 +68,7 @@ pub fn put_row(row: Row, fields: &[u64], bytes: &mut [u8], start: usize) -> usiz
     let mut at = start;
     for number in fields {
         if let Some(var) = place.var() {
-            parts::write(bytes, at, var.width(), *number);
+            inner::write(bytes, at, var.width(), *number);
             place.pass(*number);
             at += var.width();
         }

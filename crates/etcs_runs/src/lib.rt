@@ -1,13 +1,15 @@
 //! What runs share: where bytes come from and where they go, the form of an input, the lines of a text, and why a run ends.
 #![tactic(auto)]
 
+mod digits;
 mod ends;
 mod fault;
 mod form;
+pub mod inner;
 mod lines;
-pub mod parts;
 mod send;
 
+pub use digits::{NoBytes, line_bytes};
 pub use ends::{Failed, Input, Output, Sink, Source};
 pub use fault::{RunFault, write_fault};
 pub use form::Form;

@@ -7,7 +7,7 @@ use Rattle.std.proofs.lemmas.List.{length-append}
 use Rattle.etcs_vars.specs.declared.var.Var.{Var}
 use Rattle.etcs_vars.specs.declared.var.Var.TheVariants.{NID_PACKET, NID_VBCMK, L_PACKET, OTHER_DATA}
 use Rattle.etcs_vars.specs.Reading.{Reading, Then, Times, spelled}
-use Rattle.etcs_vars.proofs.Walk.{spelled-append}
+use Rattle.etcs_vars.specs.laws.Spellings.{spelled-append}
 use Rattle.etcs_tables.specs.declared.row.Way.TheVariants.{ToTrain, ToTrack}
 use Rattle.etcs_rows.specs.declared.frames.Carrier.{Carrier}
 use Rattle.etcs_rows.specs.Frames.{way_of}

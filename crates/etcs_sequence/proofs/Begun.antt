@@ -5,7 +5,7 @@ use Rattle.std.proofs.lemmas.List.{length-append}
 use Rattle.etcs_vars.specs.declared.var.Var.{Var}
 use Rattle.etcs_vars.specs.Reading.{Reading, Then, spelled}
 use Rattle.etcs_vars.proofs.Prefixes.{width_pos}
-use Rattle.etcs_vars.proofs.Walk.{spelled-append}
+use Rattle.etcs_vars.specs.laws.Spellings.{spelled-append}
 use Rattle.etcs_vars.proofs.Sent.{length-sent}
 use Rattle.etcs_tables.specs.Layouts.{Layout, ReadsIn}
 use Rattle.etcs_rows.specs.declared.frames.Carrier.{Carrier}

@@ -14,7 +14,8 @@ use Rattle.etcs_vars.specs.Walking.{Residual, Refuses}
 use Rattle.etcs_vars.specs.Reading.{Sent, Reading, spelled, InLanguage, Viable, Owner, readings_of}
 use Rattle.etcs_vars.proofs.Apart.{apart}
 use Rattle.etcs_vars.proofs.Languages.{Same}
-use Rattle.etcs_vars.proofs.Walk.{Regular, spelled-append}
+use Rattle.etcs_vars.proofs.Walk.{Regular}
+use Rattle.etcs_vars.specs.laws.Spellings.{spelled-append}
 use Rattle.etcs_vars.proofs.Outcomes.{more_wanted, none_refused, refuses_longer}
 use Rattle.etcs_reader.specs.declared.feeder.Stop.{Stop}
 use Rattle.etcs_reader.specs.declared.feeder.Stop.TheVariants.{Refused, Memory}

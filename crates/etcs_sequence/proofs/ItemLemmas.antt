@@ -1,32 +1,21 @@
 -- A reader of items, which keeps an item that was whole in the first piece.
-use Rattle.std.proofs.Common.{◌≡◌, ℕ, ◌+◌, ◌*◌, ◌^◌, ◌<◌, ◌≤◌, Bool, true, List, [], ◌∷◌, length, take, Some, None, Ok, Err, refl, sym, ap, subst, ◌∙◌, arith}
-use Rattle.std.specs.Prelude.{Option, Result, is_some}
+use Rattle.std.proofs.Common.{◌≡◌, ℕ, ◌+◌, ◌*◌, ◌^◌, ◌<◌, ◌≤◌, Bool, true, List, [], length, take, Some, None, Ok, refl, sym, ap, subst, ◌∙◌, arith}
+use Rattle.std.specs.Prelude.{Option, is_some}
 use Rattle.std.proofs.lemmas.List.{length-take-le, take-take}
 use Rattle.etcs_bits.specs.Bits.{bits, part}
 use Rattle.etcs_bits.proofs.Positions.{length-bits}
 use Rattle.etcs_vars.specs.declared.var.Var.{Var}
-use Rattle.etcs_vars.specs.declared.feed.Fed.{Fed}
 use Rattle.etcs_vars.specs.declared.feed.Fed.TheVariants.{Done}
-use Rattle.etcs_vars.specs.declared.feed.ReadFault.{ReadFault}
-use Rattle.etcs_vars.specs.declared.feed.ReadFault.TheVariants.{Ended}
 use Rattle.etcs_vars.specs.Reading.{Reading, spelled, IsOutcome, done}
 use Rattle.etcs_reader.specs.declared.feeder.Stop.{Stop}
 use Rattle.etcs_reader.specs.declared.feeder.Stop.TheVariants.{Refused, Memory}
 use Rattle.etcs_reader.specs.Feeders.{FeederValue}
 use Rattle.etcs_sequence.specs.declared.list.PacketList.{PacketList}
-use Rattle.etcs_sequence.specs.Progress.{Progress, reading, finished, Feeds, IsReading, fault_of, seen_of}
+use Rattle.etcs_sequence.specs.Progress.{Progress, finished, Feeds, IsReading, seen_of}
 use Rattle.etcs_sequence.specs.Readables.{Readable, progress_with, IsDone}
 use Rattle.etcs_sequence.proofs.Feeding.{seen, At, progress, Is, at_of, going_progress, whole_reading, whole_seen, bits_take}
 
 -- ---- By the item that is kept.
-
-pub same_reading : {V : Type 0} (x y : List Bool) → ◌≡◌ {A = Progress V} (reading x) (reading y) → x ≡ y
-same_reading x y e = cc
-
--- none is kept of an item that is being read
-pub none_kept : {V : Type 0} (o : Option (V × ℕ)) (s : Progress V) (b : List Bool) → progress_with o s ≡ reading b → o ≡ None
-none_kept None s b e = refl
-none_kept (Some d) s b e = absurd cc
 
 pub with_none : {V : Type 0} (o : Option (V × ℕ)) (s : Progress V) → o ≡ None → progress_with o s ≡ s
 with_none o s e = rw e refl
@@ -38,12 +27,6 @@ none_done IsValue size o s e = rw e tt
 pub some_kept : {V : Type 0} (o : Option (V × ℕ)) (s p : Progress V) → is_some o ≡ true → progress_with o s ≡ p → (v : V) × (p ≡ finished v)
 some_kept None s p e same = absurd cc
 some_kept (Some d) s p e same = (d.0, sym same)
-
-pub kept_ended : {V : Type 0} (o : Option (V × ℕ)) (s p : Progress V) → is_some o ≡ true → progress_with o s ≡ p → ◌≡◌ {A = Result Fed ReadFault} (Err Ended) (Err (fault_of p))
-kept_ended o s p e same = let (v, is) = some_kept o s p e same in rw is refl
-
-pub kept_going : {V : Type 0} (o : Option (V × ℕ)) (s p : Progress V) (b : List Bool) → is_some o ≡ true → progress_with o s ≡ p → p ≡ reading b → ⊥
-kept_going {V} o s p b e same is = let (v, f) = some_kept o s p e same in let two : ◌≡◌ {A = Progress V} (finished v) (reading b) = sym f ∙ is in absurd cc
 
 pub some_unread : {V : Type 0} (o : Option (V × ℕ)) (s p : Progress V) → is_some o ≡ true → progress_with o s ≡ p → IsReading p → ⊥
 some_unread o s p e same i = let (v, f) = some_kept o s p e same in subst IsReading f i
@@ -60,22 +43,7 @@ kept_seen IsValue size o d s p e is same =
 
 -- ---- At a reader.
 
-nothing : (b : List Bool) → length b ≡ 0 → b ≡ []
-nothing [] e = refl
-nothing (x ∷ b) e = absurd (omega (arith, e))
-
 module _ {R V W P : Type 0} {left : R → Reading → Type 0} {next : R → Option Var} {follows : R → Reading → R → Type 0} {fails : R → Type 0} {far : R → Reading} {holds : R → Reading → Type 0} {Reads : W → Reading → Type 0} {value : V → W} {IsValue : V → Type 0} {size : V → ℕ} {made : R → V} {store : R → PacketList P} {Members : List P → List ℕ → List Bool → Reading → Type 0} {most least : ℕ} (w : Readable R V W P left next follows fails far holds Reads value IsValue size made store Members most least) where
-  start_by : (v : FeederValue R) → At w v → v.count ≡ 0 → v.stop ≡ None → (o : Option Var) → next v.rest ≡ o → progress w v ≡ reading []
-  start_by v at count none (Some x) e = going_progress w v none (ap is_some e) ∙ ap reading (nothing (seen w v) (omega (arith, at.counted, count)))
-  start_by v at count none None e =
-      let l = w.long (far v.rest) (whole_reading w v at e) in
-      let whole = ap length (whole_seen w v at e) in
-      absurd (omega (arith, l, whole, at.counted, count))
-
-  -- before the first bit
-  pub at_start : (v : FeederValue R) → Is w v → v.count ≡ 0 → v.stop ≡ None → progress w v ≡ reading []
-  at_start v is count none = start_by v (at_of w v none is) count none (next v.rest) refl
-
   -- an item that lies whole in the front of a piece
   pub fed_whole : (piece : List ℕ) (near k : ℕ) (v : V) (r : Reading) → near ≤ length piece → IsValue v → 8 * k ≤ length (bits (take near piece)) → Reads (value v) r → spelled r ≡ part 0 (8 * k) (bits (take near piece)) → Feeds Reads value IsValue least [] (bits piece) (Ok (Done k)) (finished v) × (size v ≡ 8 * k)
   fed_whole piece near k v r fit is within reads e =
@@ -88,9 +56,3 @@ module _ {R V W P : Type 0} {left : R → Reading → Type 0} {next : R → Opti
       let first : 8 * k ≡ length {A = Bool} [] + 8 * k = omega arith in
       let outcome : IsOutcome Reads xs (done (value v) (length {A = Bool} [] + 8 * k)) = subst (λ (n : ℕ). IsOutcome Reads xs (done (value v) n)) first (less, r, reads, e ∙ cut) in
       ((v, refl, is, less, outcome), size-is)
-
-  -- it isn't finished where it has stopped, or where more comes
-  pub stopped_unfinished : (v : FeederValue R) (stop : Option Stop) (t : V) → v.stop ≡ stop → is_some stop ≡ true → progress w v ≡ finished t → ⊥
-  stopped_unfinished v None t e h i = absurd cc
-  stopped_unfinished v (Some (Refused j x)) t e h i = let i' = rw e at i in absurd cc
-  stopped_unfinished v (Some Memory) t e h i = let i' = rw e at i in absurd cc

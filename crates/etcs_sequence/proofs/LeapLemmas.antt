@@ -10,7 +10,7 @@ use Rattle.etcs_vars.specs.declared.var.Var.TheVariants.{NID_PACKET, L_PACKET, O
 use Rattle.etcs_vars.specs.Reading.{Reading, Then, spelled, numbers, kept, Viable}
 use Rattle.etcs_vars.specs.Walking.{Residual}
 use Rattle.etcs_vars.proofs.Sent.{length-sent}
-use Rattle.etcs_vars.proofs.Walk.{spelled-append}
+use Rattle.etcs_vars.specs.laws.Spellings.{spelled-append}
 use Rattle.etcs_tables.specs.declared.row.Way.{Way}
 use Rattle.etcs_rows.specs.declared.frames.Carrier.{Carrier}
 use Rattle.etcs_rows.specs.declared.frames.Carrier.TheVariants.{Telegram}

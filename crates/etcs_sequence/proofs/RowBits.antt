@@ -9,7 +9,7 @@ use Rattle.etcs_bits.proofs.Views.{number_bits}
 use Rattle.etcs_vars.specs.declared.var.Var.{Var}
 use Rattle.etcs_vars.specs.Vars.{width, admits}
 use Rattle.etcs_vars.specs.Reading.{Reading, Then, Times, spelled}
-use Rattle.etcs_vars.proofs.Walk.{spelled-append}
+use Rattle.etcs_vars.specs.laws.Spellings.{spelled-append}
 use Rattle.etcs_vars.proofs.Sent.{length-sent}
 use Rattle.etcs_tables.specs.Layouts.{Layout, one, guarded, counted, passes, looks, ReadsIn}
 use Rattle.etcs_tables.specs.declared.item.Guard.{Guard}

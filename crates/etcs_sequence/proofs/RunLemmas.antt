@@ -13,7 +13,7 @@ use Rattle.etcs_vars.specs.Reading.{Reading, spelled}
 use Rattle.etcs_vars.specs.Reading as sent
 use Rattle.etcs_vars.proofs.Prefixes.{admits_by_first}
 use Rattle.etcs_vars.proofs.Sent.{length-sent}
-use Rattle.etcs_vars.proofs.Walk.{spelled-append}
+use Rattle.etcs_vars.specs.laws.Spellings.{spelled-append}
 use Rattle.etcs_tables.specs.declared.row.Way.{Way}
 use Rattle.etcs_tables.specs.declared.row.Way.TheVariants.{ToTrain, ToTrack}
 use Rattle.etcs_tables.specs.Frames.{frame_bits, is_marker}
@@ -119,18 +119,6 @@ pub record RunTo (c : Carrier) (room : ℕ) (H : Holds) (xs : List Bool) (at lef
   pub within : left ≤ room
   pub long : length (spelled (readings_to (way_of c) packets)) + left ≡ room
   pub bits : spelled (readings_to (way_of c) packets) ≡ part at (room - left) xs
-
-pub run_none : (c : Carrier) (room : ℕ) (H : Holds) (xs : List Bool) (at : ℕ) → H [] [] [] → RunTo c room H xs at room
-run_none c room H xs at none =
-    let all : room - room ≡ 0 = omega arith in
-    record {
-      packets = [];
-      held = none;
-      carried = All-nil (Carries c);
-      within = omega arith;
-      long = omega arith;
-      bits = ap (λ (n : ℕ). part at n xs) (sym all);
-    }
 
 -- more after the bits so far
 more_bits : (at place room left l : ℕ) (xs : List Bool) (r q : Reading) → spelled r ≡ part at (room - left) xs → spelled q ≡ part place l xs → left ≤ room → l ≤ left → place + left ≡ at + room → spelled (r ++ q) ≡ part at (room - (left - l)) xs

@@ -6,7 +6,7 @@ use Rattle.std.proofs.lemmas.List.{take_at, drop_at, take_all, length-drop}
 use Rattle.std.proofs.lemmas.List.Elements.{All-head, All-tail}
 use Rattle.etcs_bits.specs.Bits.{value, part}
 use Rattle.etcs_vars.specs.Reading.{spelled}
-use Rattle.etcs_vars.proofs.Walk.{spelled-append}
+use Rattle.etcs_vars.specs.laws.Spellings.{spelled-append}
 use Rattle.etcs_tables.specs.declared.row.Way.TheVariants.{ToTrain}
 use Rattle.etcs_packets.specs.PacketValues.{PacketValue, marker, typed, kept, IsPacket}
 use Rattle.etcs_packets.specs.PacketReadings.{packet_reading, packets_reading}

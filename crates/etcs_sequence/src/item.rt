@@ -13,7 +13,7 @@ ghost use Rattle.etcs_sequence.specs.Readables.{Readable};
 use crate::Held;
 use crate::fault::fault_by;
 use crate::list::PacketList;
-use etcs_packets::parts::AnyPacket;
+use etcs_packets::inner::AnyPacket;
 use etcs_reader::{Feeder, Rest};
 use etcs_vars::{Fed, ReadFault};
 use std::alloc::Global;

@@ -8,9 +8,9 @@ ghost use Rattle.etcs_packets.specs.PacketReadings.{packet_reading};
 ghost use Rattle.etcs_sequence.specs.Runs.{IsWhole};
 ghost use Rattle.etcs_sequence.specs.Refs.{IsMarkerBits, IsTypedBits, IsKeptBits};
 
-use crate::parts::{cut_in, number_in};
+use crate::pieces::{cut_in, number_in};
 use etcs_bits::{BitSlice, Bits};
-use etcs_packets::parts::{from_bits, holds};
+use etcs_packets::inner::AnyPacket;
 use etcs_packets::{Other, Packet};
 use etcs_tables::{Way, frame_bits};
 use std::alloc::{AllocError, Global};
@@ -40,7 +40,7 @@ pub(crate) fn marker_packet(bits: &BitSlice<'_>) -> Packet
 {
     match Packet::vbc_marker(number_in(bits, 8, 6) as u8) {
         Ok(packet) => {
-            holds(&packet);
+            packet.hold();
             packet
         }
         Err(_) => unreachable!(),
@@ -57,9 +57,9 @@ pub(crate) fn typed_packet(
     ensures whole { IfOk result (λ p. IsWhole p) }
     ensures bits { IfOk result (λ p. spelled (packet_reading (packet_value p)) ≡ bits.now) }
 {
-    match from_bits(alloc, nid, direction(bits), body(bits)) {
+    match Packet::of_bits(alloc, nid, direction(bits), body(bits)) {
         Ok(Some(packet)) => {
-            holds(&packet);
+            packet.hold();
             Ok(packet)
         }
         Ok(None) => unreachable!(),

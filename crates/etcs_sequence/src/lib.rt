@@ -2,7 +2,7 @@
 //!
 //! [`PacketsRest`] is what is left of packets in a room. What is read goes into a [`PacketStore`]:
 //! [`PacketList`] makes packets of it, [`PacketCount`] counts them and takes no memory. [`Packets`] are
-//! those in bytes of the caller's, which aren't copied. `specs/Stages.antt` and `proofs/Feeding.antt` say
+//! those in bytes of the caller's, which aren't copied. `specs/Progress.antt` and `proofs/Feeding.antt` say
 //! what a reader of any such language is and answers.
 #![tactic(auto)]
 
@@ -10,6 +10,7 @@ mod count;
 mod fault;
 mod first;
 mod held;
+pub mod inner;
 mod item;
 mod kinds;
 pub mod laws;
@@ -18,7 +19,6 @@ mod list_store;
 mod packet_ref;
 mod packets;
 mod packets_in;
-pub mod parts;
 mod pieces;
 mod row_bits;
 mod run;

@@ -4,9 +4,9 @@ ghost use Rattle.std.specs.Prelude.{◌≡◌, ℕ, Bool, List, [], ◌∷◌, �
 ghost use Rattle.etcs_sequence.specs.Held.{list_holds};
 
 use crate::store::PacketStore;
-use etcs_bits::parts::append;
+use etcs_bits::inner::append;
 use etcs_bits::{BitSlice, Bits};
-use etcs_packets::parts::AnyPacket;
+use etcs_packets::inner::AnyPacket;
 use std::alloc::{AllocError, Global};
 use std::mem;
 

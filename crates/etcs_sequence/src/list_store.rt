@@ -7,7 +7,7 @@ ghost use Rattle.etcs_sequence.specs.declared.list.PacketList.{PacketList};
 
 use crate::list::PacketList;
 use crate::store::PacketStore;
-use etcs_packets::parts::AnyPacket;
+use etcs_packets::inner::AnyPacket;
 use std::alloc::Global;
 
 /// A store that keeps its packets in a list.

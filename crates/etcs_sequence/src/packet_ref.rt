@@ -8,7 +8,7 @@ ghost use Rattle.etcs_sequence.specs.Runs.{IsWhole};
 ghost use Rattle.etcs_sequence.specs.Refs.{IsPacketBits};
 
 use crate::kinds::{kept_packet, marker_packet, typed_packet};
-use crate::parts::{cut_in, number_in};
+use crate::pieces::{cut_in, number_in};
 use etcs_bits::BitSlice;
 use etcs_packets::Packet;
 use etcs_tables::{Way, row_of};

@@ -16,13 +16,14 @@ ghost use Rattle.etcs_sequence.specs.declared.stage.Stage.{Stage};
 ghost use Rattle.etcs_sequence.specs.Lefts.{Here, next_of, left_of, ahead, is_closed, may_grow, numbers_with, bits_with, After, Moved, HoldsAt};
 ghost use Rattle.etcs_sequence.specs.laws.LeftLaws.{left_regular, left_begins, left_ended, moved_none, moved_along, held_none, held_along};
 
-use crate::parts::{bits_at, direction_at, length_at, number_at, run_at};
+use crate::inner::{bits_at, number_at, run_at};
 use crate::stage::{Event, Keep, Stage};
 use crate::state::PacketsState;
 use crate::store::PacketStore;
+use crate::whole::{direction_at, length_at};
 use etcs_bits::BitSlice;
 use etcs_reader::Rest;
-use etcs_rows::parts::{Carrier, RowRun};
+use etcs_rows::inner::{Carrier, RowRun};
 use etcs_tables::{CLOSING, CLOSING_BITS, frame_bits};
 use etcs_vars::Var;
 use std::alloc::AllocError;

@@ -5,7 +5,7 @@ ghost use Rattle.std.specs.Iterator.{YieldsFirst, item_count};
 ghost use Rattle.etcs_sequence.specs.Refs.{BeginsWithPacket, ArePackets, bits_ahead, refs};
 
 use crate::packet_ref::PacketRef;
-use crate::parts::{cut_in, number_in};
+use crate::pieces::{cut_in, number_in};
 use etcs_bits::BitSlice;
 use etcs_tables::{MARKER_BITS, Way, head_bits};
 use std::marker::Model;

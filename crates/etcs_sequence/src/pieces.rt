@@ -3,7 +3,7 @@
 ghost use Rattle.std.specs.Prelude.{◌≡◌, ◌<◌, ◌≤◌, ◌+◌, ◌^◌, length};
 ghost use Rattle.etcs_bits.specs.Bits.{bits, num, value, part};
 
-use etcs_bits::parts::slice_in;
+use etcs_bits::inner::slice_in;
 use etcs_bits::{BitSlice, peek};
 
 /// This many bits of a piece, which holds them.
@@ -41,7 +41,7 @@ pub fn number_at(piece: &[u8], at: usize, count: usize) -> u64
 }
 
 /// This many bits of a slice, which holds them, as a number.
-pub fn number_in(slice: &BitSlice<'_>, at: usize, count: usize) -> u64
+pub(crate) fn number_in(slice: &BitSlice<'_>, at: usize, count: usize) -> u64
     requires width { count ≤ 64 }
     requires inside { at + count ≤ length slice.now }
     ensures value { result ≡ value (part at count slice.now) }
@@ -55,7 +55,7 @@ pub fn number_in(slice: &BitSlice<'_>, at: usize, count: usize) -> u64
 }
 
 /// This many bits of a slice, which holds them.
-pub fn cut_in<'a>(slice: &BitSlice<'a>, from: usize, len: usize) -> BitSlice<'a>
+pub(crate) fn cut_in<'a>(slice: &BitSlice<'a>, from: usize, len: usize) -> BitSlice<'a>
     requires { from + len ≤ length slice.now }
     ensures { result ≡ part from len slice.now }
 {

@@ -12,11 +12,11 @@ ghost use Rattle.etcs_flat.specs.Others.{other_fault};
 ghost use Rattle.etcs_sequence.specs.Contents.{closing};
 ghost use Rattle.etcs_sequence.specs.AtOnce.{IsFrameIn, WholeAt, RunAt, ClosesAt};
 
-use crate::parts::bits_at;
+use crate::inner::bits_at;
 use crate::store::PacketStore;
 use etcs_bits::{BitSlice, next_bits};
-use etcs_flat::parts::check_other;
-use etcs_rows::parts::{Carrier, MOST_PADDING};
+use etcs_flat::inner::check_other;
+use etcs_rows::inner::{Carrier, MOST_PADDING};
 use etcs_tables::{CLOSING, CLOSING_BITS, MARKER_BITS, Way, frame_bits};
 
 /// What is in front of a packet's variables or kept bits: its number, its direction, which is 0 to the track, and how

@@ -1,6 +1,6 @@
 //! What comes next in a run of packets.
 
-use etcs_rows::parts::RowRest;
+use etcs_rows::inner::RowRest;
 
 /// What comes next in a run of packets (SUBSET-026, 7.4 and 8).
 #[derive(Drop)]

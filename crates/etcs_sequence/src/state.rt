@@ -19,7 +19,7 @@ ghost use Rattle.etcs_sequence.specs.Lefts.{next_of, behind_framed, left_of, ahe
 
 use crate::stage::{Event, Keep, Stage};
 use etcs_reader::Rest;
-use etcs_rows::parts::{Carrier, MOST_PADDING, RowRest, length_fits, number_fits};
+use etcs_rows::inner::{Carrier, MOST_PADDING, RowRest, length_fits, number_fits};
 use etcs_tables::{CLOSING, CLOSING_BITS, MARKER_BITS, Row, Way, frame_bits, is_framed, row_of};
 use etcs_vars::{Var, begins};
 

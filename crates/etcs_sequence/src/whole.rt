@@ -7,7 +7,7 @@ ghost use Rattle.etcs_tables.specs.Frames.{frame_bits, head_bits, directed};
 ghost use Rattle.etcs_rows.specs.Frames.{way_of, may_be_left};
 
 use crate::pieces::number_at;
-use etcs_rows::parts::{Carrier, MOST_PADDING};
+use etcs_rows::inner::{Carrier, MOST_PADDING};
 use etcs_tables::{CLOSING_BITS, Way, frame_bits, head_bits};
 
 /// Whether this many bits may be left after a packet.
@@ -22,7 +22,7 @@ fn may_be_left(carrier: Carrier, left: usize) -> bool
 }
 
 /// The length of the packet that begins at `at`, where it lies whole in a piece and leaves what may be left of the room.
-pub fn length_at(carrier: Carrier, room: usize, piece: &[u8], at: usize) -> Option<usize>
+pub(crate) fn length_at(carrier: Carrier, room: usize, piece: &[u8], at: usize) -> Option<usize>
     requires inside { at < length (bits piece.now) }
     requires small { length (bits piece.now) < 2 ^ 64 }
     ensures least { IfSome result (λ l. frame_bits (way_of carrier) ≤ l) }
@@ -45,7 +45,7 @@ pub fn length_at(carrier: Carrier, room: usize, piece: &[u8], at: usize) -> Opti
 }
 
 /// The direction of the packet that begins at `at`, whose head lies in a piece; to the track it is 0.
-pub fn direction_at(way: Way, piece: &[u8], at: usize) -> u8
+pub(crate) fn direction_at(way: Way, piece: &[u8], at: usize) -> u8
     requires inside { at + head_bits way ≤ length (bits piece.now) }
     requires small { length (bits piece.now) < 2 ^ 64 }
     ensures bits { spelled (directed way result []) ≡ part (at + 8) (head_bits way - 8) (bits piece.now) }

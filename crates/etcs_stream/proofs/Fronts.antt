@@ -5,7 +5,7 @@ use Rattle.etcs_vars.specs.declared.feed.Fed.TheVariants.{More, Done}
 use Rattle.etcs_text.specs.Entries.{EntryReads}
 use Rattle.etcs_runs.specs.declared.fault.RunFault.{RunFault}
 use Rattle.etcs_stream.specs.declared.job.Job.{Job}
-use Rattle.etcs_entries.specs.Readers.{ReaderValue, Feeds, reading, seen_bits}
+use Rattle.etcs_text.specs.Readers.{ReaderValue, Feeds, reading, seen_bits}
 use Rattle.etcs_stream.specs.Readers.{Awaits}
 use Rattle.etcs_stream.specs.Taking.{Advances, Halts, HaltsBy, Says, TakesFront}
 use Rattle.etcs_stream.specs.Tellers.{TellsItem}

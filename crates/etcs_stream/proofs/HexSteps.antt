@@ -5,7 +5,7 @@ use Rattle.std.proofs.lemmas.Bool.{eqb-true}
 use Rattle.std.proofs.lemmas.List.{append-nil}
 use Rattle.hex.specs.Hex.{decode_pairs}
 use Rattle.etcs_stream.specs.declared.job.Command.{Command}
-use Rattle.std.proofs.lemmas.List.Elements.{All-append, All-nil}
+use Rattle.std.proofs.lemmas.List.Elements.{All-append}
 use Rattle.etcs_bits.specs.Bits.{bits}
 use Rattle.etcs_vars.specs.Reading.{Viable}
 use Rattle.etcs_text.specs.declared.entry.Kind.{Kind}
@@ -21,7 +21,7 @@ use Rattle.etcs_stream.specs.Lines.{bad_place, line_bytes, lines_bytes, AreGood,
 use Rattle.etcs_stream.specs.Told.{Told}
 use Rattle.etcs_stream.specs.Tellers.{Closes}
 use Rattle.etcs_stream.specs.declared.job.Tally.{Tally}
-use Rattle.etcs_entries.specs.Readers.{ReaderValue, seen_bits}
+use Rattle.etcs_text.specs.Readers.{ReaderValue, seen_bits}
 use Rattle.etcs_stream.specs.Readers.{Awaits, HasRoom}
 use Rattle.etcs_stream.specs.Taking.{Advances, Halts}
 use Rattle.etcs_stream.specs.Stands.{ItemsStand, HexStands}
@@ -32,7 +32,7 @@ use Rattle.etcs_bits.proofs.ByteBits.{bits-append}
 use Rattle.etcs_stream.proofs.Streams.{Advances-none}
 use Rattle.etcs_stream.proofs.Tellings.{closes_items}
 use Rattle.etcs_stream.proofs.Standing.{ItemsHalt, stand_first, IsEarly, stand_more, stand_halts, halt_stops, halt_ends, stand_ended, stand_truncated}
-use Rattle.etcs_runs.proofs.LineTexts.{lines_text-append, lines_few, one_line}
+use Rattle.etcs_runs.proofs.LineTexts.{lines_text-append, one_line}
 use Rattle.etcs_stream.proofs.Cutting.{Says, AreGood-append, lines_bytes-append, first_lf, cut_text, says_behind, long_bad, long_bad_stripped}
 
 -- ---- The items of a text.
@@ -109,23 +109,6 @@ open_end job seen (x ∷ b) count bytes told h v e =
     inr (length seen, stand_truncated job seen count bytes told h some v)
 
 module _ (job : Job) (r : ReaderValue) (n : Told) (begun : List ℕ) (line : ℕ) (given told t : List ℕ) (h : HexStands job r n begun line given (told ++ t)) where
-  pub hex_line : (r' : ReaderValue) (n' : Told) (part whole none : List ℕ) (line' : ℕ) (t' : List ℕ) → whole ≡ begun ++ part → none ≡ [] → line' ≡ line + 1 → bad_place (strip_cr whole) ≡ None → Awaits job.kind r' → n'.count ≤ 1000000 → (HasRoom n.count (seen_bits r.progress) → HasRoom n'.count (seen_bits r'.progress)) → Advances job.kind job.command (seen_bits r.progress) (seen_bits r'.progress) n n' (line_bytes (strip_cr whole)) t t' → HexStands job r' n' none line' (given ++ (part ++ 10 ∷ [])) (told ++ t')
-  hex_line r' n' part whole none line' t' w z m good waits few room more = record {
-    form = h.form;
-    waits = waits;
-    lines = h.lines ++ (whole ∷ []);
-    given_is = line_text h.lines begun part whole given [] h.given_is w ∙ ap (λ (x : List ℕ). lines_text (h.lines ++ (whole ∷ [])) ++ x) (sym z);
-    lines_good = AreGood-append h.lines (whole ∷ []) h.lines_good (good, tt);
-    is_line = subst IsLine (sym z) (All-nil (λ c. c ≡ 10 → ⊥));
-    line_is = omega (arith, m, h.line_is, length-append h.lines (whole ∷ []));
-    items =
-        subst (λ x. ItemsStand job (seen_bits r'.progress) n' x (told ++ t')) (line_says h.lines whole)
-        (stand_more job (seen_bits r.progress) n (lines_bytes h.lines) told t h.items (line_bytes (strip_cr whole)) t' (seen_bits r'.progress) n' more few (room h.items.room) waits.unfinished);
-  }
-
-  pub hex_lines : line ≤ length given
-  hex_lines = omega (arith, h.line_is, lines_few h.lines, ap length h.given_is, length-append (lines_text h.lines) begun)
-
   -- ---- The faults of a piece.
 
   hex_bad : (rest : List ℕ) (place : ℕ) (fault : RunFault) → fault ≡ BadHex (line + 1) place → ((more : List ℕ) → IsBadLine (begun ++ (rest ++ more)) place) → IsOfEngine fault × Stops job (given ++ rest) (told ++ t) fault

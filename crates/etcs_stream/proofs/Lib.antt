@@ -3,7 +3,6 @@ pub mod GoodLines
 pub mod Tellings
 pub mod Saying
 pub mod Answering
-pub mod Positions
 pub mod GroupLengths
 pub mod TellLengths
 pub mod OneGroups

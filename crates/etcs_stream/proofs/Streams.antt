@@ -18,7 +18,7 @@ use Rattle.etcs_text.specs.Entries.{EntryValue, EntryReads}
 use Rattle.etcs_stream.specs.Told.{Told}
 use Rattle.etcs_stream.specs.Tellers.{TellsItem}
 use Rattle.etcs_runs.specs.declared.fault.RunFault.{RunFault}
-use Rattle.etcs_entries.specs.Readers.{ReaderValue, Progress, Feeds, seen_bits, reading}
+use Rattle.etcs_text.specs.Readers.{ReaderValue, Progress, Feeds, seen_bits, reading}
 use Rattle.etcs_stream.specs.Readers.{Awaits}
 use Rattle.etcs_stream.specs.Streams.{AreSpelled}
 use Rattle.etcs_stream.specs.Taking.{Advances, Halts, HaltsBy}

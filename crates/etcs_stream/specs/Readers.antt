@@ -3,7 +3,7 @@ use Rattle.std.specs.Prelude.{◌≡◌, ℕ, ◌<◌, Bool, List, length}
 use Rattle.etcs_vars.specs.Reading.{NoneYet, Viable, readings_of}
 use Rattle.etcs_text.specs.declared.entry.Kind.{Kind}
 use Rattle.etcs_text.specs.Entries.{EntryReads}
-use Rattle.etcs_entries.specs.Readers.{ReaderValue, reading, seen_bits}
+use Rattle.etcs_text.specs.Readers.{ReaderValue, reading, seen_bits}
 
 -- the reader wants more bits of an item of this kind: some item begins with those that came, and no front of them is one
 pub record Awaits (kind : Kind) (r : ReaderValue) : Type 0 where

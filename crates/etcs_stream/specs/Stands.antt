@@ -10,7 +10,7 @@ use Rattle.etcs_stream.specs.declared.job.Job.{Job}
 use Rattle.etcs_runs.specs.Lines.{IsLine, strip_cr, lines_text}
 use Rattle.etcs_stream.specs.Lines.{lines_bytes, AreGood}
 use Rattle.etcs_stream.specs.JsonItems.{AreItemLines}
-use Rattle.etcs_entries.specs.Readers.{ReaderValue, seen_bits}
+use Rattle.etcs_text.specs.Readers.{ReaderValue, seen_bits}
 use Rattle.etcs_stream.specs.Readers.{Awaits, HasRoom}
 use Rattle.etcs_stream.specs.Streams.{AreSpelled}
 

@@ -11,7 +11,7 @@ use Rattle.etcs_stream.specs.declared.job.Command.{Command}
 use Rattle.etcs_stream.specs.declared.job.Command.TheVariants.{Show, Check, Convert, Group}
 use Rattle.etcs_stream.specs.declared.job.Job.{Job}
 use Rattle.etcs_stream.specs.declared.job.Tally.{Tally}
-use Rattle.etcs_entries.specs.Kinds.{IsOfTelegrams}
+use Rattle.etcs_text.specs.Kinds.{IsOfTelegrams}
 use Rattle.etcs_stream.specs.Groups.{GroupItem, LastLines}
 use Rattle.etcs_stream.specs.Told.{Told}
 

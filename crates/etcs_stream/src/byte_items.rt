@@ -3,7 +3,7 @@
 ghost use Rattle.std.specs.Prelude.{◌≡◌, ◌+◌, ◌<◌, ◌≤◌, ◌⊎◌, ◌++◌, ℕ, List, [], length, IfErr, IfOk, OnErr, OnOk};
 ghost use Rattle.etcs_text.specs.Entries.{EntryValue, entry_kind};
 ghost use Rattle.etcs_runs.specs.declared.fault.RunFault.{RunFault};
-ghost use Rattle.etcs_entries.specs.Readers.{seen_bits, reading, finished};
+ghost use Rattle.etcs_text.specs.Readers.{seen_bits, reading, finished};
 ghost use Rattle.etcs_stream.specs.Readers.{Awaits, HasRoom};
 ghost use Rattle.etcs_stream.specs.Taking.{Advances, Halts, Says, TakesFront};
 ghost use Rattle.etcs_stream.specs.Tellers.{Closes, IsGroupable, TellsItem, nothing_told};
@@ -11,10 +11,9 @@ ghost use Rattle.etcs_stream.specs.Tellers.{Closes, IsGroupable, TellsItem, noth
 use crate::engine::MOST_READ;
 use crate::job::{Job, Tally};
 use crate::teller::Teller;
-use etcs_entries::EntryReader;
 use etcs_runs::RunFault;
 use etcs_telegram::Size;
-use etcs_text::Kind;
+use etcs_text::{EntryReader, Kind};
 use etcs_vars::{Fed, ReadFault};
 use std::alloc::{AllocError, Global};
 
@@ -153,7 +152,7 @@ impl ByteItems {
         ensures ok { (e : EntryValue) → self.old.reader.progress ≡ finished e → OnOk result ((added : List ℕ) × TellsItem self.old.job.command e self.old.teller added self.new.teller × (text.new.items ≡ text.old.items ++ added)) }
         ensures err { IfErr result (λ e. (e ≡ RunFault.Memory) × (text.new.items ≡ text.old.items)) }
     {
-        let entry = match self.reader.next(self.alloc, self.job.kind) {
+        let entry = match self.reader.next() {
             Ok(entry) => entry,
             Err(()) => unreachable!(),
         };

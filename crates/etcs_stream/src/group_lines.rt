@@ -8,9 +8,9 @@ ghost use Rattle.etcs_packet_text.specs.Packets.{packets_text};
 ghost use Rattle.std.specs.Fmt.{decimal};
 ghost use Rattle.etcs_stream.specs.Groups.{LastLines, answer_line, answer_words, clash_name, group_front, positions_text, trues};
 
-use etcs_group::parts::group;
+use etcs_group::inner::group;
 use etcs_group::{Added, Assembly, Clash, GroupFault};
-use etcs_packet_text::parts::{write_decimal, write_item_number, write_packets};
+use etcs_packet_text::inner::{write_decimal, write_item_number, write_packets};
 use etcs_packets::Packet;
 use std::alloc::AllocError;
 

@@ -4,7 +4,7 @@ ghost use Rattle.std.specs.Prelude.{◌≡◌, ◌≤◌, ◌⊎◌, ℕ, [], No
 ghost use Rattle.etcs_runs.specs.declared.fault.RunFault.{RunFault};
 ghost use Rattle.etcs_runs.specs.declared.form.Form.TheVariants as form;
 ghost use Rattle.etcs_stream.specs.Lines.{bad_place, line_bytes};
-ghost use Rattle.etcs_entries.specs.Readers.{seen_bits};
+ghost use Rattle.etcs_text.specs.Readers.{seen_bits};
 ghost use Rattle.etcs_stream.specs.Readers.{Awaits, HasRoom};
 ghost use Rattle.etcs_stream.specs.laws.StandLaws.{hex_said, hex_tells};
 ghost use Rattle.etcs_stream.specs.Stands.{HexTook};

@@ -1,7 +1,7 @@
 //! What the program is asked to do, and what it answers.
 
 ghost use Rattle.std.specs.Prelude.{◌↔◌, IsTrue};
-ghost use Rattle.etcs_entries.specs.Kinds.{IsOfTelegrams};
+ghost use Rattle.etcs_text.specs.Kinds.{IsOfTelegrams};
 ghost use Rattle.etcs_stream.specs.Tellers.{IsGroupable};
 
 use etcs_runs::Form;

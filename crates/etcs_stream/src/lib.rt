@@ -23,7 +23,6 @@ mod job;
 mod json_lines;
 pub mod laws;
 mod lines;
-pub mod parts;
 mod pump;
 mod runs;
 mod teller;

@@ -13,7 +13,7 @@ ghost use Rattle.etcs_stream.specs.Runs.{Ran};
 
 use crate::engine::{Engine, MOST_READ};
 use crate::job::Tally;
-use etcs_runs::parts::send;
+use etcs_runs::inner::send;
 use etcs_runs::{Failed, RunFault, Sink, Source};
 use std::alloc::Global;
 

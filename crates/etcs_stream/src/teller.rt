@@ -6,7 +6,7 @@ ghost use Rattle.etcs_group.specs.Groups.{HeldAfter, IsGroup};
 ghost use Rattle.etcs_text.specs.Entries.{entry_kind, entry_value};
 ghost use Rattle.etcs_stream.specs.Groups.{Answers, clashes_with};
 ghost use Rattle.etcs_stream.specs.Told.{Told};
-ghost use Rattle.etcs_entries.specs.Kinds.{IsOfTelegrams};
+ghost use Rattle.etcs_text.specs.Kinds.{IsOfTelegrams};
 ghost use Rattle.etcs_stream.specs.Tellers.{Closes, TellsItem, nothing_told, one_more};
 
 use crate::group_lines::{answer_line, last_lines};

@@ -1,4 +1,5 @@
 pub mod Frames
+pub mod Headers
 pub mod Layouts
 pub mod MessageRows
 pub mod Rows

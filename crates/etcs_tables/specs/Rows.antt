@@ -103,11 +103,11 @@ system_version = M_VERSION ▸ whole
 abbrev pub linking : Layout
 linking = Q_SCALE ▸ link (N_ITER ▸ counted (link whole) whole)
 
-abbrev pub level_1_authority : Layout
-level_1_authority = Q_SCALE ▸ V_MAIN ▸ V_LOA ▸ T_LOA ▸ authority
+abbrev pub level1_ma : Layout
+level1_ma = Q_SCALE ▸ V_MAIN ▸ V_LOA ▸ T_LOA ▸ authority
 
-abbrev pub level_2_3_authority : Layout
-level_2_3_authority = Q_SCALE ▸ V_LOA ▸ T_LOA ▸ authority
+abbrev pub level23_ma : Layout
+level23_ma = Q_SCALE ▸ V_LOA ▸ T_LOA ▸ authority
 
 abbrev pub repositioning : Layout
 repositioning = Q_SCALE ▸ L_SECTION ▸ whole
@@ -133,17 +133,17 @@ conditional_level_order = level (N_ITER ▸ counted (level whole) whole)
 abbrev pub balise_list : Layout
 balise_list = N_ITER ▸ counted (balise_at whole) whole
 
-abbrev pub authority_request : Layout
-authority_request = T_MAR ▸ T_TIMEOUTRQST ▸ T_CYCRQST ▸ whole
+abbrev pub ma_request : Layout
+ma_request = T_MAR ▸ T_TIMEOUTRQST ▸ T_CYCRQST ▸ whole
 
 abbrev pub report_parameters : Layout
 report_parameters = Q_SCALE ▸ T_CYCLOC ▸ D_CYCLOC ▸ M_LOC ▸ N_ITER ▸ counted (report_at whole) whole
 
-abbrev pub temporary_restriction : Layout
-temporary_restriction = Q_SCALE ▸ NID_TSR ▸ D_TSR ▸ L_TSR ▸ Q_FRONT ▸ V_TSR ▸ whole
+abbrev pub tsr : Layout
+tsr = Q_SCALE ▸ NID_TSR ▸ D_TSR ▸ L_TSR ▸ Q_FRONT ▸ V_TSR ▸ whole
 
-abbrev pub restriction_revocation : Layout
-restriction_revocation = NID_TSR ▸ whole
+abbrev pub tsr_revocation : Layout
+tsr_revocation = NID_TSR ▸ whole
 
 abbrev pub track_condition : Layout
 track_condition =
@@ -174,8 +174,8 @@ stop_in_sr = Q_SRSTOP ▸ whole
 abbrev pub train_running_number : Layout
 train_running_number = NID_OPERATIONAL ▸ whole
 
-abbrev pub restriction_gradient : Layout
-restriction_gradient = Q_GDIR ▸ G_TSR ▸ whole
+abbrev pub tsr_gradient : Layout
+tsr_gradient = Q_GDIR ▸ G_TSR ▸ whole
 
 abbrev pub position_report : Layout
 position_report = Q_SCALE ▸ NID_LRBG ▸ located whole
@@ -198,8 +198,8 @@ abbrev pub rows_to : Way → List (ℕ × Layout)
 rows_to ToTrain =
     (2, system_version) ∷
     (5, linking) ∷
-    (12, level_1_authority) ∷
-    (15, level_2_3_authority) ∷
+    (12, level1_ma) ∷
+    (15, level23_ma) ∷
     (16, repositioning) ∷
     (21, gradient) ∷
     (27, speed_profile) ∷
@@ -208,12 +208,12 @@ rows_to ToTrain =
     (45, radio_network) ∷
     (46, conditional_level_order) ∷
     (49, balise_list) ∷
-    (57, authority_request) ∷
+    (57, ma_request) ∷
     (58, report_parameters) ∷
     (63, balise_list) ∷
     (64, whole) ∷
-    (65, temporary_restriction) ∷
-    (66, restriction_revocation) ∷
+    (65, tsr) ∷
+    (66, tsr_revocation) ∷
     (68, track_condition) ∷
     (72, plain_text) ∷
     (76, fixed_text) ∷
@@ -224,7 +224,7 @@ rows_to ToTrain =
     (136, infill_location) ∷
     (137, stop_in_sr) ∷
     (140, train_running_number) ∷
-    (141, restriction_gradient) ∷
+    (141, tsr_gradient) ∷
     (145, whole) ∷
     (254, whole) ∷ []
 rows_to ToTrack =

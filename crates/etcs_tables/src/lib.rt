@@ -13,4 +13,4 @@ pub use frame::{
 };
 pub use item::{Guard, RowItem, Test};
 pub use row::{Row, Way};
-pub use tables::{message_bits, message_ranges, message_row, row_of};
+pub use tables::{head_row, header_row, message_bits, message_ranges, message_row, row_of};

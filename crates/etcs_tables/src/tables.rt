@@ -1,8 +1,10 @@
 //! The rows of packets and messages (SUBSET-026, 7.4 and 8).
 
-ghost use Rattle.std.specs.Prelude.{◌≡◌, [], ◌∷◌, IsTrue, IfSome, IfNone};
+ghost use Rattle.std.specs.Prelude.{◌≡◌, [], ◌∷◌, IsTrue, IfSome, IfNone, map};
 ghost use Rattle.std.specs.Option.{option_map};
+ghost use Rattle.etcs_tables.specs.Headers.{header_row, head_row};
 ghost use Rattle.etcs_tables.specs.Layouts.{items, layout, is_sound};
+ghost use Rattle.etcs_tables.specs.declared.item.RowItem.TheVariants as item;
 ghost use Rattle.etcs_tables.specs.Rows.{row_to, message_row_to};
 ghost use Rattle.etcs_tables.specs.MessageRows.{row_bits, lengths_behind};
 
@@ -45,7 +47,7 @@ const LINKING: Row = row! {
     Q_LINKORIENTATION Q_LINKREACTION Q_LOCACC
 };
 
-const LEVEL_1_AUTHORITY: Row = row! {
+const LEVEL1_MA: Row = row! {
     Q_SCALE V_MAIN V_LOA T_LOA N_ITER [5] L_SECTION Q_SECTIONTIMER (Q_SECTIONTIMER IsOne 2)
     T_SECTIONTIMER D_SECTIONTIMERSTOPLOC L_ENDSECTION Q_SECTIONTIMER (Q_SECTIONTIMER IsOne 2)
     T_SECTIONTIMER D_SECTIONTIMERSTOPLOC Q_ENDTIMER (Q_ENDTIMER IsOne 2) T_ENDTIMER
@@ -53,7 +55,7 @@ const LEVEL_1_AUTHORITY: Row = row! {
     (Q_OVERLAP IsOne 4) D_STARTOL T_OL D_OL V_RELEASEOL
 };
 
-const LEVEL_2_3_AUTHORITY: Row = row! {
+const LEVEL23_MA: Row = row! {
     Q_SCALE V_LOA T_LOA N_ITER [5] L_SECTION Q_SECTIONTIMER (Q_SECTIONTIMER IsOne 2) T_SECTIONTIMER
     D_SECTIONTIMERSTOPLOC L_ENDSECTION Q_SECTIONTIMER (Q_SECTIONTIMER IsOne 2) T_SECTIONTIMER
     D_SECTIONTIMERSTOPLOC Q_ENDTIMER (Q_ENDTIMER IsOne 2) T_ENDTIMER D_ENDTIMERSTARTLOC
@@ -86,13 +88,13 @@ const CONDITIONAL_LEVEL_ORDER: Row = row! {
 
 const BALISE_LIST: Row = row!(N_ITER [4] Q_NEWCOUNTRY (Q_NEWCOUNTRY IsOne 1) NID_C NID_BG);
 
-const AUTHORITY_REQUEST: Row = row!(T_MAR T_TIMEOUTRQST T_CYCRQST);
+const MA_REQUEST: Row = row!(T_MAR T_TIMEOUTRQST T_CYCRQST);
 
 const REPORT_PARAMETERS: Row = row!(Q_SCALE T_CYCLOC D_CYCLOC M_LOC N_ITER [2] D_LOC Q_LGTLOC);
 
-const TEMPORARY_RESTRICTION: Row = row!(Q_SCALE NID_TSR D_TSR L_TSR Q_FRONT V_TSR);
+const TSR: Row = row!(Q_SCALE NID_TSR D_TSR L_TSR Q_FRONT V_TSR);
 
-const RESTRICTION_REVOCATION: Row = row!(NID_TSR);
+const TSR_REVOCATION: Row = row!(NID_TSR);
 
 const TRACK_CONDITION: Row = row! {
     Q_SCALE Q_TRACKINIT (Q_TRACKINIT IsOne 1) D_TRACKINIT (Q_TRACKINIT IsZero 8) D_TRACKCOND
@@ -130,7 +132,7 @@ const STOP_IN_SR: Row = row!(Q_SRSTOP);
 
 const TRAIN_RUNNING_NUMBER: Row = row!(NID_OPERATIONAL);
 
-const RESTRICTION_GRADIENT: Row = row!(Q_GDIR G_TSR);
+const TSR_GRADIENT: Row = row!(Q_GDIR G_TSR);
 
 // ---- Packets to the track, after NID_PACKET and L_PACKET.
 
@@ -182,6 +184,26 @@ static ACKNOWLEDGEMENT: TypedMessage = message!(32, [(14, 14), (16, 1023)] T_TRA
 
 static START_REPORT: TypedMessage = message!(2, [(10, 10), (13, 1023)] Q_STATUS);
 
+// ---- Headers.
+
+/// The variables of a telegram's header, in the order of sending (SUBSET-026, 8).
+pub fn header_row() -> Row
+    ensures { result.items.now ≡ map (λ v. item.One v) header_row }
+{
+    row!(Q_UPDOWN M_VERSION_HEADER Q_MEDIA N_PIG N_TOTAL M_DUP M_MCOUNT NID_C NID_BG Q_LINK)
+}
+
+/// The variables of a typed message's header after NID_MESSAGE and L_MESSAGE, in the order of sending (SUBSET-026, 8). Those
+/// of its own follow, and then packets.
+pub fn head_row(way: Way) -> Row
+    ensures { result.items.now ≡ map (λ v. item.One v) (head_row way) }
+{
+    match way {
+        Way::ToTrain => row!(T_TRAIN M_ACK NID_LRBG),
+        Way::ToTrack => row!(T_TRAIN NID_ENGINE),
+    }
+}
+
 /// The row of a packet: what comes after its NID_PACKET, Q_DIR to the train, and L_PACKET (SUBSET-026, 7.4).
 /// `None` exactly where the number isn't typed; to the train 0 and 255 aren't.
 pub fn row_of(way: Way, nid: u8) -> Option<Row>
@@ -200,8 +222,8 @@ fn row_to_train(nid: u8) -> Option<Row>
     match nid {
         2 => Some(SYSTEM_VERSION),
         5 => Some(LINKING),
-        12 => Some(LEVEL_1_AUTHORITY),
-        15 => Some(LEVEL_2_3_AUTHORITY),
+        12 => Some(LEVEL1_MA),
+        15 => Some(LEVEL23_MA),
         16 => Some(REPOSITIONING),
         21 => Some(GRADIENT),
         27 => Some(SPEED_PROFILE),
@@ -210,11 +232,11 @@ fn row_to_train(nid: u8) -> Option<Row>
         45 => Some(RADIO_NETWORK),
         46 => Some(CONDITIONAL_LEVEL_ORDER),
         49 | 63 => Some(BALISE_LIST),
-        57 => Some(AUTHORITY_REQUEST),
+        57 => Some(MA_REQUEST),
         58 => Some(REPORT_PARAMETERS),
         64 | 135 | 145 | 254 => Some(NO_VARIABLES),
-        65 => Some(TEMPORARY_RESTRICTION),
-        66 => Some(RESTRICTION_REVOCATION),
+        65 => Some(TSR),
+        66 => Some(TSR_REVOCATION),
         68 => Some(TRACK_CONDITION),
         72 => Some(PLAIN_TEXT),
         76 => Some(FIXED_TEXT),
@@ -224,7 +246,7 @@ fn row_to_train(nid: u8) -> Option<Row>
         136 => Some(INFILL_LOCATION),
         137 => Some(STOP_IN_SR),
         140 => Some(TRAIN_RUNNING_NUMBER),
-        141 => Some(RESTRICTION_GRADIENT),
+        141 => Some(TSR_GRADIENT),
         _ => None,
     }
 }

@@ -3,9 +3,9 @@ use Rattle.std.proofs.Common.{◌≡◌, ◌*◌, ◌++◌, Bool, List, length, 
 use Rattle.etcs_bits.specs.Bits.{num}
 use Rattle.etcs_vars.specs.Reading.{spelled}
 use Rattle.etcs_packets.specs.PacketReadings.{packets_reading}
-use Rattle.etcs_words.specs.WordSinks.{and_bits}
-use Rattle.etcs_words.specs.declared.word_sink.WordSink.{WordSink}
-use Rattle.etcs_words.specs.laws.WordSinks.{and_both}
+use Rattle.etcs_vars.specs.WordSinks.{and_bits}
+use Rattle.etcs_vars.specs.declared.word_sink.WordSink.{WordSink}
+use Rattle.etcs_vars.specs.laws.WordSinks.{and_both}
 use Rattle.etcs_telegram.specs.Telegrams.{TelegramValue, TelegramReads, header_reading, pad_bits, container_bytes}
 use Rattle.etcs_telegram.specs.Writing.{telegram_reading}
 use Rattle.etcs_telegram.proofs.Encoding.{telegram_bits, whole_bytes}

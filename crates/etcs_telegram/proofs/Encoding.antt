@@ -6,7 +6,7 @@ use Rattle.etcs_bits.proofs.Numbers.{length-num}
 use Rattle.etcs_bits.proofs.Positions.{length-bits}
 use Rattle.etcs_vars.specs.declared.var.Var.TheVariants.{FILL, PAD}
 use Rattle.etcs_vars.specs.Reading.{spelled, kept}
-use Rattle.etcs_vars.proofs.Walk.{spelled-append}
+use Rattle.etcs_vars.specs.laws.Spellings.{spelled-append}
 use Rattle.etcs_rows.specs.declared.frames.Carrier.TheVariants as carrier
 use Rattle.etcs_packets.specs.PacketValues.{PacketValue}
 use Rattle.etcs_packets.specs.PacketReadings.{packets_reading}
@@ -47,8 +47,8 @@ pub closed_length : (vs : List PacketValue) → length (spelled (closed_reading 
 closed_length vs = ap length (closed_spelled vs) ∙ length-append (spelled (packets_reading vs)) (num 8 255) ∙ ap (λ (k : ℕ). length (spelled (packets_reading vs)) + k) (length-num 8 255)
 
 -- header, packets with packet 255, FILL and zeros
-pub telegram_parts : (t : TelegramValue) → spelled (telegram_reading t) ≡ ((spelled (header_reading t.header) ++ spelled (closed_reading t.packets)) ++ t.fill) ++ num (pad_bits t.size) 0
-telegram_parts t =
+pub telegram_inner : (t : TelegramValue) → spelled (telegram_reading t) ≡ ((spelled (header_reading t.header) ++ spelled (closed_reading t.packets)) ++ t.fill) ++ num (pad_bits t.size) 0
+telegram_inner t =
     let h = header_reading t.header in
     let c = closed_reading t.packets in
     let f = kept FILL t.fill in
@@ -64,4 +64,4 @@ telegram_bits t =
     let head = spelled (header_reading t.header) in
     let packets = spelled (packets_reading t.packets) in
     let closed : head ++ spelled (closed_reading t.packets) ≡ (head ++ packets) ++ num 8 255 = ap (λ (b : List Bool). head ++ b) (closed_spelled t.packets) ∙ sym (append_assoc head packets (num 8 255)) in
-    telegram_parts t ∙ ap (λ (b : List Bool). (b ++ t.fill) ++ num (pad_bits t.size) 0) closed
+    telegram_inner t ∙ ap (λ (b : List Bool). (b ++ t.fill) ++ num (pad_bits t.size) 0) closed

@@ -7,7 +7,8 @@ use Rattle.etcs_telegram.specs.declared.size.Size.{Size}
 use Rattle.etcs_telegram.specs.declared.size.Size.TheVariants.{Short, Long}
 use Rattle.etcs_rows.specs.declared.frames.Carrier.TheVariants as carrier
 use Rattle.etcs_sequence.specs.Contents.{ReadsPackets}
-use Rattle.etcs_telegram.specs.Telegrams.{header_row, header_reading, header_of, closed_reading, IsAdmitted, packet_room, pad_bits, user_bits, TelegramLanguage}
+use Rattle.etcs_telegram.specs.Telegrams.{header_reading, header_of, closed_reading, IsAdmitted, packet_room, pad_bits, user_bits, TelegramLanguage}
+use Rattle.etcs_tables.specs.Headers.{header_row}
 use Rattle.etcs_telegram.specs.Phases.{HeaderLeft}
 use Rattle.etcs_telegram.proofs.HeaderLemmas.{header_length}
 use Rattle.etcs_telegram.proofs.Rows.{header_reads, row_header, admitted_row}

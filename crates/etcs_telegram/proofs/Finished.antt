@@ -5,7 +5,7 @@ use Rattle.std.proofs.lemmas.List.{length-append}
 use Rattle.etcs_vars.specs.declared.var.Var.TheVariants.{FILL, PAD}
 use Rattle.etcs_vars.specs.Reading.{Reading, spelled, numbers, kept}
 use Rattle.etcs_vars.proofs.Apart.{cut}
-use Rattle.etcs_vars.proofs.Walk.{spelled-append}
+use Rattle.etcs_vars.specs.laws.Spellings.{spelled-append}
 use Rattle.etcs_packets.specs.declared.packet.Packet.{Packet}
 use Rattle.etcs_packets.specs.PacketValues.{PacketValue, packet_value, IsPacket}
 use Rattle.etcs_sequence.specs.declared.state.PacketsState.{PacketsState}
@@ -16,7 +16,8 @@ use Rattle.etcs_sequence.proofs.BitLaws.{bits_length}
 use Rattle.etcs_telegram.specs.declared.size.Size.{Size}
 use Rattle.etcs_telegram.specs.declared.phase.Phase.{Phase}
 use Rattle.etcs_telegram.specs.declared.phase.Phase.TheVariants.{Whole}
-use Rattle.etcs_telegram.specs.Telegrams.{header_row, header_reading, header_of, closed_reading, IsAdmitted, IsTelegram, ReadsAs, pad_bits, telegram_value, HeaderValue, TelegramReads, TelegramLanguage}
+use Rattle.etcs_telegram.specs.Telegrams.{header_reading, header_of, closed_reading, IsAdmitted, IsTelegram, ReadsAs, pad_bits, telegram_value, HeaderValue, TelegramReads, TelegramLanguage}
+use Rattle.etcs_tables.specs.Headers.{header_row}
 use Rattle.etcs_telegram.specs.Headers.{IsHeaderNumbers}
 use Rattle.etcs_telegram.specs.Phases.{behind_header}
 use Rattle.etcs_telegram.specs.Lefts.{next_at, stands_at}

@@ -41,27 +41,27 @@ header_admitted h e =
     let f = number_fault M_MCOUNT h.m_mcount in
     let g = number_fault NID_C h.nid_c in
     let k = number_fault NID_BG h.nid_bg in
-    let six : (a or_else b or_else c or_else d or_else f or_else g) ≡ None = no_first (a or_else b or_else c or_else d or_else f or_else g) k e in
-    let five : (a or_else b or_else c or_else d or_else f) ≡ None = no_first (a or_else b or_else c or_else d or_else f) g six in
-    let four : (a or_else b or_else c or_else d) ≡ None = no_first (a or_else b or_else c or_else d) f five in
-    let three : (a or_else b or_else c) ≡ None = no_first (a or_else b or_else c) d four in
-    let two : (a or_else b) ≡ None = no_first (a or_else b) c three in (
+    let six : (b or_else c or_else d or_else f or_else g or_else k) ≡ None = no_second a (b or_else c or_else d or_else f or_else g or_else k) e in
+    let five : (c or_else d or_else f or_else g or_else k) ≡ None = no_second b (c or_else d or_else f or_else g or_else k) six in
+    let four : (d or_else f or_else g or_else k) ≡ None = no_second c (d or_else f or_else g or_else k) five in
+    let three : (f or_else g or_else k) ≡ None = no_second d (f or_else g or_else k) four in
+    let two : (g or_else k) ≡ None = no_second f (g or_else k) three in (
       refl,
       (
-        admitted_by M_VERSION_HEADER h.m_version _ (no_first a b two),
+        admitted_by M_VERSION_HEADER h.m_version _ (no_first a (b or_else c or_else d or_else f or_else g or_else k) e),
         (
           refl,
           (
-            admitted_by N_PIG h.n_pig _ (no_second a b two),
+            admitted_by N_PIG h.n_pig _ (no_first b (c or_else d or_else f or_else g or_else k) six),
             (
-              admitted_by N_TOTAL h.n_total _ (no_second (a or_else b) c three),
+              admitted_by N_TOTAL h.n_total _ (no_first c (d or_else f or_else g or_else k) five),
               (
-                admitted_by M_DUP h.m_dup _ (no_second (a or_else b or_else c) d four),
+                admitted_by M_DUP h.m_dup _ (no_first d (f or_else g or_else k) four),
                 (
-                  admitted_by M_MCOUNT h.m_mcount _ (no_second (a or_else b or_else c or_else d) f five),
+                  admitted_by M_MCOUNT h.m_mcount _ (no_first f (g or_else k) three),
                   (
-                    admitted_by NID_C h.nid_c _ (no_second (a or_else b or_else c or_else d or_else f) g six),
-                    (admitted_by NID_BG h.nid_bg _ (no_second (a or_else b or_else c or_else d or_else f or_else g) k e), (link_admitted h.q_link, tt)),
+                    admitted_by NID_C h.nid_c _ (no_first g k two),
+                    (admitted_by NID_BG h.nid_bg _ (no_second g k two), (link_admitted h.q_link, tt)),
                   ),
                 ),
               ),

@@ -24,7 +24,7 @@ use Rattle.etcs_sequence.proofs.Begun.{begun_of, nothing_held}
 use Rattle.etcs_telegram.specs.declared.size.Size.{Size}
 use Rattle.etcs_telegram.specs.declared.phase.Phase.{Phase}
 use Rattle.etcs_telegram.specs.declared.phase.Phase.TheVariants.{Header, Packets, Fill, Pad, Whole}
-use Rattle.etcs_telegram.specs.Telegrams.{header_row}
+use Rattle.etcs_tables.specs.Headers.{header_row}
 use Rattle.etcs_telegram.specs.Lefts.{FillBy, left_at, next_at, is_open, stands_at, HoldsIn}
 use Rattle.etcs_telegram.specs.laws.RestLaws.{opens}
 use Rattle.etcs_telegram.specs.Readers.{Standing, Members}

@@ -16,7 +16,8 @@ use Rattle.etcs_sequence.proofs.LabelLaws.{labelled_count, labelled_most}
 use Rattle.etcs_sequence.proofs.BegunKnown.{NoPacket, packets_known, begun_unpacked, begun_known}
 use Rattle.etcs_sequence.proofs.BitLaws.{bits_known}
 use Rattle.etcs_sequence.proofs.OneHolding.{sent_parts, one_held}
-use Rattle.etcs_telegram.specs.Telegrams.{header_row, closed_reading, TelegramLanguage}
+use Rattle.etcs_telegram.specs.Telegrams.{closed_reading, TelegramLanguage}
+use Rattle.etcs_tables.specs.Headers.{header_row}
 use Rattle.etcs_telegram.specs.Readers.{Standing, Members, OneHolding}
 
 -- ---- Packet 255 with bits of FILL and PAD after it.

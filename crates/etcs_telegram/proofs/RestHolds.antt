@@ -25,7 +25,8 @@ use Rattle.etcs_sequence.proofs.StageLaws.{closed_stage}
 use Rattle.etcs_telegram.specs.declared.size.Size.{Size}
 use Rattle.etcs_telegram.specs.declared.phase.Phase.{Phase}
 use Rattle.etcs_telegram.specs.declared.phase.Phase.TheVariants.{Header, Packets, Fill, Pad, Whole}
-use Rattle.etcs_telegram.specs.Telegrams.{header_row, pad_bits, closed_reading}
+use Rattle.etcs_telegram.specs.Telegrams.{pad_bits, closed_reading}
+use Rattle.etcs_tables.specs.Headers.{header_row}
 use Rattle.etcs_telegram.specs.Phases.{after_header, after_pad, after_fill}
 use Rattle.etcs_telegram.specs.Lefts.{PacketsBehind, left_at, next_at, is_open, stands_at, behind_packets, FillFits, Filled, HoldsIn, Follows}
 use Rattle.etcs_telegram.proofs.PhaseSteps.{by_test, below_false, below_true}

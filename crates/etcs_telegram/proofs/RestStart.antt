@@ -9,7 +9,8 @@ use Rattle.etcs_sequence.specs.declared.state.PacketsState.{PacketsState}
 use Rattle.etcs_sequence.specs.Lefts.{left_of, ahead}
 use Rattle.etcs_telegram.specs.declared.size.Size.{Size}
 use Rattle.etcs_telegram.specs.declared.phase.Phase.TheVariants.{Header}
-use Rattle.etcs_telegram.specs.Telegrams.{header_row, packet_room, TelegramLanguage}
+use Rattle.etcs_telegram.specs.Telegrams.{packet_room, TelegramLanguage}
+use Rattle.etcs_tables.specs.Headers.{header_row}
 use Rattle.etcs_telegram.specs.Phases.{FillLeft, PacketsLeft as AllPackets}
 use Rattle.etcs_telegram.specs.Lefts.{PacketsBehind, left_at}
 use Rattle.etcs_telegram.proofs.Ends.{start_to, start_from}

@@ -1,6 +1,6 @@
 -- What is left of a telegram after each of its variables.
 use Rattle.std.proofs.Common.{◌≡◌, ℕ, zero, suc, ◌+◌, ◌-◌, ◌/◌, ◌^◌, ◌<◌, ◌≤◌, Bool, true, false, List, [], ◌∷◌, length, drop, get_or, Some, refl, sym, ap, subst, ◌∙◌, arith, ltb}
-use Rattle.std.specs.Prelude.{IsTrue, ◌↔◌, not, ◌&&◌, ◌==◌, nat_lt, replicate}
+use Rattle.std.specs.Prelude.{IsTrue, ◌↔◌, not, ◌&&◌, ◌==◌, nat_lt, replicate, map, slice_get, slice_index_or}
 use Rattle.std.proofs.lemmas.Bool.{and_parts, and_from, ltb-true, lt-ltb, eqb-true, eq-eqb}
 use Rattle.std.proofs.Math.Seq.{drop-cons}
 use Rattle.etcs_vars.specs.declared.var.Var.{Var}
@@ -26,7 +26,10 @@ use Rattle.etcs_telegram.specs.declared.size.Size.{Size}
 use Rattle.etcs_telegram.specs.declared.size.Size.TheVariants.{Short, Long}
 use Rattle.etcs_telegram.specs.declared.phase.Phase.{Phase}
 use Rattle.etcs_telegram.specs.declared.phase.Phase.TheVariants.{Header, Packets, Fill, Pad, Whole}
-use Rattle.etcs_telegram.specs.Telegrams.{header_row, pad_bits}
+use Rattle.etcs_telegram.specs.Telegrams.{pad_bits}
+use Rattle.etcs_tables.specs.Headers.{header_row}
+use Rattle.etcs_tables.specs.declared.item.RowItem.{RowItem}
+use Rattle.etcs_tables.specs.declared.item.RowItem.TheVariants.{One}
 use Rattle.etcs_telegram.specs.Phases.{header_var, after_header, after_pad, after_fill, PadLeft, FillLeft}
 use Rattle.etcs_sequence.specs.ChainLaws.{Chain}
 use Rattle.etcs_sequence.specs.laws.ChainLaws.{chain_viable}
@@ -55,6 +58,12 @@ header_after size at l h =
 pub header_behind : (size : Size) (at : ℕ) (l : PacketsState) (x : Var) (number : ℕ) → at < 10 → next_at (Header at) l ≡ Some x → Starts (left_at size (Header at) l) x 0 number → Residual (left_at size (Header at) l) ((x, number) ∷ []) (left_at size (after_header at) l)
 header_behind size at l x number h e s =
     residual_same (left_at size (Header at) l) ((x, number) ∷ []) (Then (ReadsFields (drop (suc at) header_row)) (PacketsBehind size l)) (left_at size (after_header at) l) (front_behind (PacketsBehind size l) header_row at x number h e s) (header_after size at l h)
+
+-- the variable of an item, in a row of variables
+pub one_at : (vs : List Var) (d : Var) (at : ℕ) (v : Var) → slice_get (map One vs) at ≡ Some (One v) → v ≡ slice_index_or vs at d
+one_at [] d at v e = absurd cc
+one_at (w ∷ vs) d zero v e = (let same : w ≡ v = cc in sym same)
+one_at (w ∷ vs) d (suc at) v e = one_at vs d at v e
 
 pub var_header : (phase : Phase) (at m : ℕ) (l : PacketsState) → phase ≡ Header at → IsTrue (stands_at phase m l) → Some (header_var at) ≡ next_at phase l
 var_header phase at m l e h =

@@ -6,7 +6,7 @@ use Rattle.std.proofs.lemmas.List.{length-append}
 use Rattle.etcs_vars.specs.declared.var.Var.{Var}
 use Rattle.etcs_vars.specs.declared.var.Var.TheVariants.{FILL}
 use Rattle.etcs_vars.specs.Reading.{Reading, spelled}
-use Rattle.etcs_vars.proofs.Walk.{spelled-append}
+use Rattle.etcs_vars.specs.laws.Spellings.{spelled-append}
 use Rattle.etcs_packets.specs.declared.packet.Packet.{Packet}
 use Rattle.etcs_packets.specs.PacketValues.{PacketValue, form, packet_value}
 use Rattle.etcs_rows.specs.declared.frames.Carrier.{Carrier}
@@ -25,7 +25,8 @@ use Rattle.etcs_sequence.proofs.Holding.{packets_far}
 use Rattle.etcs_telegram.specs.declared.size.Size.{Size}
 use Rattle.etcs_telegram.specs.declared.phase.Phase.{Phase}
 use Rattle.etcs_telegram.specs.declared.phase.Phase.TheVariants.{Header, Packets, Fill, Pad, Whole}
-use Rattle.etcs_telegram.specs.Telegrams.{header_row, pad_bits, closed_reading}
+use Rattle.etcs_telegram.specs.Telegrams.{pad_bits, closed_reading}
+use Rattle.etcs_tables.specs.Headers.{header_row}
 use Rattle.etcs_telegram.specs.Phases.{behind_header}
 use Rattle.etcs_telegram.specs.Lefts.{FillBy, left_at, next_at, HoldsIn, Filled, stands_at, is_open, may_ask}
 use Rattle.etcs_telegram.specs.laws.RestLaws.{opens}

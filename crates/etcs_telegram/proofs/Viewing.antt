@@ -13,7 +13,7 @@ use Rattle.etcs_vars.specs.Reading.{Reading, spelled, kept, Viable, Owner}
 use Rattle.etcs_vars.proofs.Apart.{apart}
 use Rattle.etcs_vars.proofs.Languages.{Same}
 use Rattle.etcs_vars.proofs.Outcomes.{viable_front}
-use Rattle.etcs_vars.proofs.Walk.{spelled-append}
+use Rattle.etcs_vars.specs.laws.Spellings.{spelled-append}
 use Rattle.etcs_rows.specs.declared.frames.Carrier.TheVariants as carrier
 use Rattle.etcs_rows.proofs.LengthLemmas.{length-spelled}
 use Rattle.etcs_tables.specs.declared.row.Way.TheVariants.{ToTrain}

@@ -13,11 +13,12 @@ use Rattle.etcs_sequence.specs.Held.{list_holds}
 use Rattle.etcs_sequence.specs.Labels.{labelled}
 use Rattle.etcs_sequence.proofs.LabelLaws.{numbers_labelled}
 use Rattle.etcs_telegram.specs.declared.size.Size.{Size}
-use Rattle.etcs_telegram.specs.Telegrams.{HeaderValue, IsTelegram, IsAdmitted, ReadsAs, telegram_value, header_row, header_reading, header_of, closed_reading, user_bits, pad_bits, packet_room, container_bytes}
+use Rattle.etcs_telegram.specs.Telegrams.{HeaderValue, IsTelegram, IsAdmitted, ReadsAs, telegram_value, header_reading, header_of, closed_reading, user_bits, pad_bits, packet_room, container_bytes}
+use Rattle.etcs_tables.specs.Headers.{header_row}
 use Rattle.etcs_telegram.specs.Headers.{IsHeaderNumbers}
 use Rattle.etcs_telegram.specs.Fronts.{FieldsIn}
 use Rattle.etcs_telegram.specs.Writing.{telegram_reading}
-use Rattle.etcs_telegram.proofs.Encoding.{room_more, user_small, whole_bytes, telegram_parts, telegram_reads}
+use Rattle.etcs_telegram.proofs.Encoding.{room_more, user_small, whole_bytes, telegram_inner, telegram_reads}
 use Rattle.etcs_telegram.proofs.FrontSteps.{fields_count, fields_read, fields_bits}
 use Rattle.etcs_telegram.proofs.Rows.{row_header, admitted_row}
 use Rattle.etcs_telegram.proofs.Spellings.{held}
@@ -100,7 +101,7 @@ module _ (size : Size) (piece : List ℕ) (left room user : ℕ) (H : Holds) (lo
         let third : user_bits size ≡ user - left + left = omega (arith, run.within, room_is, user_is, room_more size) in (
           telegram_reading t,
           (refl, telegram_reads (held size header ps k) (whole_value admitted)),
-          telegram_parts t
+          telegram_inner t
               ∙ ap (λ (b : List Bool). ((b ++ c) ++ k) ++ num (pad_bits size) 0) front
               ∙ ap (λ (b : List Bool). ((p0 ++ b) ++ k) ++ num (pad_bits size) 0) closed
               ∙ ap (λ (b : List Bool). ((p0 ++ p1) ++ b) ++ num (pad_bits size) 0) (sym kept.1.1.1 ∙ fill_is)

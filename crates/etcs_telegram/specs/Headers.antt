@@ -4,7 +4,8 @@ use Rattle.etcs_vars.specs.declared.fault.BuildFault.{BuildFault}
 use Rattle.etcs_vars.specs.declared.var.Var.TheVariants.{M_VERSION_HEADER, N_PIG, N_TOTAL, M_DUP, M_MCOUNT, NID_C, NID_BG}
 use Rattle.etcs_vars.specs.Faults.{◌or_else◌, number_fault}
 use Rattle.etcs_sequence.specs.Labels.{labelled}
-use Rattle.etcs_telegram.specs.Telegrams.{header_row, IsAdmitted}
+use Rattle.etcs_telegram.specs.Telegrams.{IsAdmitted}
+use Rattle.etcs_tables.specs.Headers.{header_row}
 
 abbrev pub header_fault : ℕ → ℕ → ℕ → ℕ → ℕ → ℕ → ℕ → Option BuildFault
 header_fault m_version n_pig n_total m_dup m_mcount nid_c nid_bg =

@@ -12,7 +12,8 @@ use Rattle.etcs_sequence.specs.Lefts.{next_of, left_of, ahead, is_closed, is_tel
 use Rattle.etcs_telegram.specs.declared.size.Size.{Size}
 use Rattle.etcs_telegram.specs.declared.phase.Phase.{Phase}
 use Rattle.etcs_telegram.specs.declared.phase.Phase.TheVariants.{Header, Packets, Fill, Pad, Whole}
-use Rattle.etcs_telegram.specs.Telegrams.{header_row, pad_bits, closed_reading}
+use Rattle.etcs_telegram.specs.Telegrams.{pad_bits, closed_reading}
+use Rattle.etcs_tables.specs.Headers.{header_row}
 use Rattle.etcs_sequence.specs.Labels.{labelled}
 use Rattle.etcs_telegram.specs.Phases.{PadLeft, FillLeft, behind_header, after_fill}
 

@@ -8,7 +8,8 @@ use Rattle.etcs_telegram.specs.declared.phase.Phase.{Phase}
 use Rattle.etcs_telegram.specs.declared.phase.Phase.TheVariants.{Header, Packets, Fill, Pad, Whole}
 use Rattle.etcs_rows.specs.declared.frames.Carrier.TheVariants as carrier
 use Rattle.etcs_sequence.specs.Contents.{PacketsIn}
-use Rattle.etcs_telegram.specs.Telegrams.{header_row, packet_room, pad_bits}
+use Rattle.etcs_telegram.specs.Telegrams.{packet_room, pad_bits}
+use Rattle.etcs_tables.specs.Headers.{header_row}
 use Rattle.etcs_reader.specs.Fields.{ReadsFields}
 use Rattle.etcs_sequence.specs.BitLaws.{BitsLeft}
 

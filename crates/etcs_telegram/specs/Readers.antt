@@ -16,7 +16,8 @@ use Rattle.etcs_sequence.specs.Holdings.{HeldIn}
 use Rattle.etcs_telegram.specs.declared.size.Size.{Size}
 use Rattle.etcs_telegram.specs.declared.phase.Phase.{Phase}
 use Rattle.etcs_telegram.specs.declared.phase.Phase.TheVariants.{Header, Packets, Fill, Pad, Whole}
-use Rattle.etcs_telegram.specs.Telegrams.{header_row, user_bits, pad_bits, closed_reading, header_of, TelegramContent, TelegramLanguage}
+use Rattle.etcs_telegram.specs.Telegrams.{user_bits, pad_bits, closed_reading, header_of, TelegramContent, TelegramLanguage}
+use Rattle.etcs_tables.specs.Headers.{header_row}
 use Rattle.etcs_telegram.specs.Phases.{behind_header}
 use Rattle.etcs_telegram.specs.Lefts.{HoldsIn}
 

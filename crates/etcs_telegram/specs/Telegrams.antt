@@ -31,10 +31,6 @@ container_bytes Long = 104
 abbrev pub packet_room : Size → ℕ
 packet_room size = user_bits size - 50
 
--- the header's variables in the order of sending
-abbrev pub header_row : List Var
-header_row = Q_UPDOWN ∷ M_VERSION_HEADER ∷ Q_MEDIA ∷ N_PIG ∷ N_TOTAL ∷ M_DUP ∷ M_MCOUNT ∷ NID_C ∷ NID_BG ∷ Q_LINK ∷ []
-
 -- the header's variables that aren't fixed
 pub record HeaderValue : Type 0 where
   pub m_version : ℕ

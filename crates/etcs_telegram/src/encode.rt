@@ -4,13 +4,13 @@ ghost use Rattle.std.specs.Prelude.{◌≡◌, ◌≤◌, ◌↔◌, ◌++◌, l
 ghost use Rattle.etcs_bits.specs.Bits.{bits};
 ghost use Rattle.etcs_vars.specs.Reading.{Reading, spelled};
 ghost use Rattle.etcs_telegram.specs.Telegrams.{TelegramReads, container_bytes, telegram_value};
-ghost use Rattle.etcs_words.specs.WordSinks.{and_bits};
+ghost use Rattle.etcs_vars.specs.WordSinks.{and_bits};
 ghost use Rattle.etcs_telegram.specs.Writing.{telegram_reading};
 
 use crate::telegram::Telegram;
-use etcs_packets::parts::{append_all, append_variables};
+use etcs_packets::inner::{append_all, append_variables};
 use etcs_tables::{CLOSING, CLOSING_BITS};
-use etcs_words::WordSink;
+use etcs_vars::WordSink;
 use std::alloc::AllocError;
 use std::error::Error;
 use std::fmt;

@@ -75,23 +75,6 @@ impl Header {
         })
     }
 
-    /// The header of its ten numbers in the order of sending.
-    pub(crate) fn of_numbers(numbers: &[u64]) -> Header
-        requires { IsHeaderNumbers numbers.now }
-        ensures { result ≡ header_of numbers.now }
-    {
-        Header {
-            m_version: numbers[1] as u8,
-            n_pig: numbers[3] as u8,
-            n_total: numbers[4] as u8,
-            m_dup: numbers[5] as u8,
-            m_mcount: numbers[6] as u8,
-            nid_c: numbers[7] as u16,
-            nid_bg: numbers[8] as u16,
-            q_link: numbers[9] == 1,
-        }
-    }
-
     /// M_VERSION: 32 or 33.
     pub fn m_version(&self) -> u8
         ensures { result ≡ self.now.m_version }
@@ -153,5 +136,22 @@ impl Header {
         ensures { IsAdmitted (header_reading self.now) }
     {
         let _ = &self.m_version;
+    }
+}
+
+/// The header of its ten numbers in the order of sending.
+pub fn header_by(numbers: &[u64]) -> Header
+    requires { IsHeaderNumbers numbers.now }
+    ensures { result ≡ header_of numbers.now }
+{
+    Header {
+        m_version: numbers[1] as u8,
+        n_pig: numbers[3] as u8,
+        n_total: numbers[4] as u8,
+        m_dup: numbers[5] as u8,
+        m_mcount: numbers[6] as u8,
+        nid_c: numbers[7] as u16,
+        nid_bg: numbers[8] as u16,
+        q_link: numbers[9] == 1,
     }
 }

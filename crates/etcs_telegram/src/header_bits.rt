@@ -4,14 +4,15 @@ ghost use Rattle.std.specs.Prelude.{◌≡◌, ◌+◌, ◌/◌, ◌%◌, ◌≤
 ghost use Rattle.etcs_bits.specs.Bits.{bits, part};
 ghost use Rattle.etcs_vars.specs.Reading.{spelled};
 ghost use Rattle.etcs_vars.specs.Vars.{width, admits};
-ghost use Rattle.etcs_telegram.specs.Telegrams.{header_row, header_reading, IsAdmitted};
+ghost use Rattle.etcs_telegram.specs.Telegrams.{header_reading, IsAdmitted};
+ghost use Rattle.etcs_tables.specs.Headers.{header_row};
 ghost use Rattle.etcs_sequence.specs.Fronts.{FrontAt};
 ghost use Rattle.etcs_telegram.specs.Fronts.{FieldsIn};
 
-use crate::header::Header;
-use crate::parts::HEADER_BITS;
+use crate::header::{Header, header_by};
+use crate::inner::HEADER_BITS;
 use arrayvec::ArrayVec;
-use etcs_sequence::parts::number_at;
+use etcs_sequence::inner::number_at;
 use etcs_vars::Var;
 
 /// The number of a variable in a word, with this many bits after it. `None` where the variable doesn't admit it.
@@ -69,5 +70,5 @@ pub(crate) fn header_at_front(piece: &[u8]) -> Option<Header>
     ensures bits { IfSome result (λ h. spelled (header_reading h) ≡ part 0 50 (bits piece.now)) }
 {
     let numbers = header_in(number_at(piece, 0, HEADER_BITS))?;
-    Some(Header::of_numbers(&numbers))
+    Some(header_by(&numbers))
 }

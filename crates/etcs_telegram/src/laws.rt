@@ -11,7 +11,7 @@ ghost use Rattle.etcs_telegram.specs.Readers.{OneHolding};
 use crate::reader::TelegramReader;
 use crate::size::Size;
 use crate::telegram::Telegram;
-use etcs_sequence::parts::first_item;
+use etcs_sequence::inner::first_item;
 use std::alloc::{AllocError, Global};
 
 /// Telegrams of one size with one spelling are equal, and no spelling begins another.

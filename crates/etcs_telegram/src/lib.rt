@@ -4,8 +4,8 @@
 mod encode;
 mod header;
 mod header_bits;
+pub mod inner;
 pub mod laws;
-pub mod parts;
 mod phase;
 mod reader;
 mod rest;

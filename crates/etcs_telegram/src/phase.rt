@@ -3,8 +3,8 @@
 ghost use Rattle.std.specs.Prelude.{◌≡◌};
 ghost use Rattle.etcs_telegram.specs.Phases.{header_var};
 
-use crate::parts::HEADER;
 use crate::size::Size;
+use etcs_tables::{RowItem, header_row};
 use etcs_vars::Var;
 
 /// What comes next in a telegram.
@@ -52,8 +52,8 @@ impl Phase {
 pub(crate) fn header_var(at: usize) -> Var
     ensures { result ≡ header_var at }
 {
-    match HEADER.get(at) {
-        Some(var) => *var,
-        None => Var::PAD,
+    match header_row().items.get(at) {
+        Some(RowItem::One(var)) => *var,
+        _ => Var::PAD,
     }
 }

@@ -6,7 +6,7 @@ ghost use Rattle.etcs_sequence.specs.Holdings.{IsHeld};
 ghost use Rattle.etcs_telegram.specs.Telegrams.{TelegramValue, TelegramLanguage, ReadsAs, IsTelegram, telegram_value, container_bytes};
 ghost use Rattle.etcs_telegram.specs.Readers.{Members, OwnHeld, so_far, telegram_by, telegram_bits};
 
-use crate::header::Header;
+use crate::header::{Header, header_by};
 use crate::rest::TelegramRest;
 use crate::size::Size;
 use crate::store::TelegramStore;
@@ -74,7 +74,7 @@ impl ItemRest for TelegramRest<TelegramStore> {
     fn into_item(self, _size: Size) -> Telegram {
         Telegram {
             size: self.size,
-            header: Header::of_numbers(self.header.as_slice()),
+            header: header_by(self.header.as_slice()),
             packets: ListOf::from_vec(self.packets.store.list.packets),
             fill: self.packets.store.list.bits,
         }

@@ -1,9 +1,9 @@
 //! The header's variables with their numbers, sent in order (SUBSET-026, 8).
 
 use crate::header::Header;
-use crate::parts::HEADER_BITS;
+use crate::inner::HEADER_BITS;
 use etcs_vars::Var;
-use etcs_vars::parts::{VarSink, Variables};
+use etcs_vars::inner::{VarSink, Variables};
 use std::alloc::AllocError;
 
 impl Variables for Header {

@@ -8,7 +8,7 @@ use crate::telegram::Telegram;
 use etcs_bits::Bits;
 use etcs_bodies::ListOf;
 use etcs_packets::Packet;
-use etcs_packets::parts::copy_all;
+use etcs_packets::inner::copy_all;
 use etcs_vars::{Var, pairs_of};
 use std::alloc::{AllocError, Global};
 

@@ -9,7 +9,7 @@ use crate::size::Size;
 use etcs_bits::{BitSlice, Bits};
 use etcs_bodies::ListOf;
 use etcs_packets::Packet;
-use etcs_packets::parts::room_left;
+use etcs_packets::inner::room_left;
 use etcs_tables::CLOSING_BITS;
 use etcs_vars::BuildFault;
 use std::alloc::{AllocError, Global};

@@ -8,13 +8,13 @@ ghost use Rattle.etcs_telegram.specs.Telegrams.{TelegramValue, TelegramLanguage,
 ghost use Rattle.etcs_telegram.specs.Texts.{view_fault_text};
 ghost use Rattle.etcs_telegram.specs.Views.{Sees};
 
-use crate::header::Header;
-use crate::parts::HEADER_BITS;
+use crate::header::{Header, header_by};
+use crate::inner::HEADER_BITS;
 use crate::rest::TelegramRest;
 use crate::size::Size;
 use etcs_bits::BitSlice;
 use etcs_reader::{Feeder, Stop};
-use etcs_sequence::parts::{bits_at, packets};
+use etcs_sequence::inner::{bits_at, packets};
 use etcs_sequence::{PacketCount, Packets};
 use etcs_vars::Var;
 use std::error::Error;
@@ -90,7 +90,7 @@ impl<'a> TelegramView<'a> {
                 Ok(TelegramView {
                     bytes,
                     size,
-                    header: Header::of_numbers(rest.header.as_slice()),
+                    header: header_by(rest.header.as_slice()),
                     packets: rest.packets.store.packets,
                     end: size.user_bits() - rest.packets.left.room,
                 })

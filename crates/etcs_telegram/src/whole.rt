@@ -7,13 +7,13 @@ ghost use Rattle.etcs_telegram.specs.Telegrams.{IsTelegram, ReadsAs, telegram_va
 
 use crate::header::Header;
 use crate::header_bits::header_at_front;
-use crate::parts::HEADER_BITS;
+use crate::inner::HEADER_BITS;
 use crate::size::Size;
 use crate::store::TelegramStore;
 use crate::telegram::Telegram;
 use etcs_bodies::ListOf;
-use etcs_rows::parts::Carrier;
-use etcs_sequence::parts::{bits_at, number_at, take_run};
+use etcs_rows::inner::Carrier;
+use etcs_sequence::inner::{bits_at, number_at, take_run};
 use etcs_sequence::{PacketList, PacketStore};
 use std::alloc::Global;
 

@@ -3,7 +3,7 @@
 
 use etcs_bits::{BitSlice, Bits};
 use etcs_fakes::{Checks, starve};
-use etcs_group::{Added, Assembly, Clash, GroupFault, parts};
+use etcs_group::{Added, Assembly, Clash, GroupFault, inner};
 use etcs_packets::{Other, Packet};
 use etcs_telegram::{Header, Size, Telegram};
 use std::alloc::Global;
@@ -46,7 +46,7 @@ fn added(
 fn check_whole(checks: &mut Checks, alloc: Global, assembly: &Assembly) {
     checks.check(assembly.is_complete(), "not whole");
     checks.check(assembly.missing() == [false; 8], "a position is missing");
-    checks.check(parts::group(assembly) == Some((1, 1)), "another group");
+    checks.check(inner::group(assembly) == Some((1, 1)), "another group");
     let message = assembly.message(alloc);
     match message.as_ref() {
         Ok(packets) => check_packets(checks, alloc, packets.as_slice()),
@@ -68,7 +68,7 @@ fn check_packets(checks: &mut Checks, alloc: Global, packets: &[Packet]) {
 fn both_sizes(rt: HostRuntime) {
     let (checks, alloc) = (&mut Checks::new(), rt.alloc());
     let mut assembly = Assembly::new();
-    checks.check(parts::group(&assembly).is_none(), "a group of none");
+    checks.check(inner::group(&assembly).is_none(), "a group of none");
     let none = assembly.message(alloc).err();
     checks.check(none == Some(GroupFault::NotWhole), "a message of none");
     for (size, n_pig, expected) in [

@@ -8,7 +8,7 @@ use etcs_bodies::Packetlike;
 use etcs_fakes::{Checks, starve};
 use etcs_packets::Packet;
 use etcs_reader::{Feeder, Stop};
-use etcs_rows::parts::Carrier;
+use etcs_rows::inner::Carrier;
 use etcs_sequence::{PacketCount, PacketList, PacketStore, PacketsRest};
 use etcs_tables::Way;
 use etcs_vars::Var;

@@ -3,7 +3,7 @@
 use crate::pieces::{check_bytes, check_end, check_refused, fed, feed};
 use etcs_fakes::Checks;
 use etcs_reader::Feeder;
-use etcs_rows::parts::RowRest;
+use etcs_rows::inner::RowRest;
 use etcs_tables::{Way, row_of};
 use etcs_vars::Var;
 

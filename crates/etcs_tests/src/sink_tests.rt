@@ -3,7 +3,7 @@
 use etcs_fakes::Checks;
 use etcs_packets::{Flat, Packet, parts};
 use etcs_vars::Var;
-use etcs_vars::parts::VarSink;
+use etcs_vars::inner::VarSink;
 use std::alloc::{AllocError, Global};
 use std::marker::Model;
 use std::test::Fail;

@@ -7,3 +7,5 @@ pub mod MessageTexts
 pub mod TelegramTexts
 pub mod TextLengths
 pub mod TreeTexts
+pub mod ItemFeeds
+pub mod Verdicts

@@ -5,3 +5,6 @@ pub mod Messages
 pub mod Show
 pub mod Telegrams
 pub mod Trees
+pub mod Kinds
+pub mod Readers
+pub mod Verdicts

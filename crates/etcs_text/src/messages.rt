@@ -11,12 +11,12 @@ ghost use Rattle.etcs_text.specs.Messages.{behind_lines, message_bits, message_l
 ghost use Rattle.etcs_text.specs.Show.{way_word};
 
 use etcs_bits::BitSlice;
-use etcs_messages::parts::{reads, send_front};
+use etcs_messages::inner::{reads, send_front};
 use etcs_messages::{Head, MessageOf, Own};
-use etcs_packet_text::parts::{
+use etcs_packet_text::inner::{
     LineSink, write_bits_line, write_decimal, write_item_number, write_packets,
 };
-use etcs_packets::parts::AnyPacket;
+use etcs_packets::inner::AnyPacket;
 use etcs_tables::Way;
 use etcs_vars::Var;
 use std::alloc::AllocError;

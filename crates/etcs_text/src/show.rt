@@ -12,10 +12,10 @@ ghost use Rattle.etcs_telegram.specs.Telegrams.{telegram_value};
 
 use crate::entry::Entry;
 use crate::messages::write_message;
-use etcs_packet_text::parts::{LineSink, write_bits_line, write_item_number, write_packets};
+use etcs_packet_text::inner::{LineSink, write_bits_line, write_item_number, write_packets};
 use etcs_telegram::{Header, Size, Telegram};
 use etcs_vars::Var;
-use etcs_vars::parts::Variables;
+use etcs_vars::inner::Variables;
 use std::alloc::AllocError;
 
 /// What follows the number in the first line of a telegram: its kind and its count of bits.

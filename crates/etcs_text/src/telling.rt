@@ -13,8 +13,8 @@ ghost use Rattle.etcs_text.specs.Messages.{message_bits};
 use crate::entry::Entry;
 use crate::messages::message_bits;
 use etcs_messages::{Head, MessageOf, Own};
-use etcs_packet_text::parts::{to_digits, write_decimal, write_item_number};
-use etcs_packets::parts::AnyPacket;
+use etcs_packet_text::inner::{to_digits, write_decimal, write_item_number};
+use etcs_packets::inner::AnyPacket;
 use etcs_telegram::{Size, Telegram};
 use std::alloc::AllocError;
 

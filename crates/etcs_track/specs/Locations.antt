@@ -4,11 +4,11 @@ use Rattle.std.specs.Option.{is_some}
 use Rattle.etcs_vars.specs.declared.var.Var.{Var}
 use Rattle.etcs_vars.specs.declared.var.Var.TheVariants.{D_LRBG, Q_DIRLRBG, Q_DLRBG, L_DOUBTOVER, L_DOUBTUNDER, Q_LENGTH, L_TRAININT, V_TRAIN, Q_DIRTRAIN, M_MODE, M_LEVEL, NID_NTC}
 use Rattle.etcs_vars.specs.declared.fault.BuildFault.{BuildFault}
+use Rattle.etcs_vars.specs.Faults.{◌or_else◌, number_fault}
 use Rattle.etcs_vars.specs.Reading.{Reading}
 use Rattle.etcs_tables.specs.declared.item.Test.{Test}
 use Rattle.etcs_tables.specs.declared.item.Test.TheVariants.{IsOne, IsOneOrTwo}
 use Rattle.etcs_tables.specs.Layouts.{passes}
-use Rattle.etcs_bodies.specs.Faults.{◌or_else◌, number_fault}
 use Rattle.etcs_bodies.specs.Taking.{Left, next_number}
 use Rattle.etcs_bodies.specs.Codecs.{both_from, group_from, group_reading, form_from}
 use Rattle.etcs_bodies.specs.Groups.{group_fault}
@@ -78,7 +78,7 @@ located_value d_lrbg q_dirlrbg q_dlrbg l_doubtover l_doubtunder q_length l_train
     }
 
 -- what is wrong with it, by the first variable in the order of sending
-abbrev pub located_fault : LocatedValue → Option BuildFault
+unfoldable pub located_fault : LocatedValue → Option BuildFault
 located_fault p =
     number_fault D_LRBG p.d_lrbg or_else number_fault Q_DIRLRBG p.q_dirlrbg or_else number_fault Q_DLRBG p.q_dlrbg
     or_else number_fault L_DOUBTOVER p.l_doubtover or_else number_fault L_DOUBTUNDER p.l_doubtunder

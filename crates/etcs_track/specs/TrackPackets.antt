@@ -5,7 +5,7 @@ use Rattle.etcs_vars.specs.Reading.{Reading}
 use Rattle.etcs_tables.specs.declared.row.Way.TheVariants.{ToTrack}
 use Rattle.etcs_flat.specs.Flats.{flat_fault_to, flat_reading_to}
 use Rattle.etcs_flat.specs.Others.{other_fault}
-use Rattle.etcs_packets.specs.PacketValues.{PacketValue, typed, kept, Form, form_of, bits_to, IsPacketTo}
+use Rattle.etcs_packets.specs.PacketValues.{PacketValue, typed, kept, Form, form_of, bits_to}
 use Rattle.etcs_packets.specs.PacketReadings.{reading_to}
 use Rattle.etcs_track.specs.Reports.{IsPositionReport, position_report_reading, IsPositionReportTwo, position_report_two_reading}
 use Rattle.etcs_track.specs.declared.train_packet.TrainPacket.{TrainPacket}
@@ -30,9 +30,6 @@ IsTrackMade p = (track_form p).made
 -- how many bits it takes with its frame
 abbrev pub track_bits_of : PacketValue → ℕ
 track_bits_of v = bits_to ToTrack v
-
-abbrev pub IsTrackPacket : PacketValue → Type 0
-IsTrackPacket v = IsPacketTo ToTrack v
 
 -- its variables with its frame
 abbrev pub track_reading : PacketValue → Reading

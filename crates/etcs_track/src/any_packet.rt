@@ -1,19 +1,22 @@
 //! What readers and messages ask of a packet.
 
-ghost use Rattle.std.specs.Prelude.{◌≡◌, ◌∷◌};
+ghost use Rattle.std.specs.Prelude.{◌≡◌, ◌∷◌, IfOk};
 ghost use Rattle.etcs_vars.specs.declared.var.Var.TheVariants.{NID_PACKET, L_PACKET, OTHER_DATA};
 ghost use Rattle.etcs_vars.specs.Reading.{spelled, kept};
-ghost use Rattle.etcs_words.specs.WordSinks.{and_bits};
+ghost use Rattle.etcs_vars.specs.WordSinks.{and_bits};
+ghost use Rattle.etcs_tables.specs.declared.row.Way.TheVariants.{ToTrack};
+ghost use Rattle.etcs_packets.specs.Outcomes.{IsMadeOf};
+ghost use Rattle.etcs_track.specs.TrackPackets.{track_form};
 
-use crate::parts;
+use crate::list::packets;
 use crate::train_other::TrainOther;
 use crate::train_packet::TrainPacket;
 use etcs_bits::{BitSlice, Bits};
-use etcs_packets::parts::{AnyPacket, Made, append_variables};
+use etcs_packets::inner::{AnyPacket, Made, Source, append_variables, hold};
+use etcs_packets::{by_number, of_each};
 use etcs_tables::Way;
-use etcs_vars::Var;
-use etcs_vars::parts::VarSink;
-use etcs_words::WordSink;
+use etcs_vars::inner::{VarSink, Variables};
+use etcs_vars::{Var, WordSink};
 use std::alloc::{AllocError, Global};
 
 /// Puts the frame of a packet that is kept, and its bits, after other bits.
@@ -25,6 +28,15 @@ fn append_kept(nid: u8, len: usize, body: &BitSlice<'_>, out: &mut WordSink<'_>)
         (Var::L_PACKET, len as u64),
     ]);
     out.put_slice(body);
+}
+
+/// The typed packet of this number and direction with these numbers or bits after L_PACKET, if there is one. There is
+/// none of a direction but 0, which is that of every packet to the track.
+#[inline(always)]
+fn of_number<S: Source>(alloc: Global, nid: u8, dir: u8, source: &S) -> Made<TrainPacket>
+    ensures { IfOk result (λ o. IsMadeOf track_form (S.says source.now) (S.is_of source.now ToTrack nid dir) nid dir o) }
+{
+    packets!(by_number, Way::ToTrack, nid, alloc, dir, source)
 }
 
 impl AnyPacket for TrainPacket {
@@ -41,15 +53,15 @@ impl AnyPacket for TrainPacket {
     ghost one = { one_packet };
 
     fn hold(&self) {
-        parts::holds(self);
+        packets!(of_each, self, packet => hold(packet), packet => { packet.nid(); })
     }
 
-    fn number_of(&self) -> u8 {
+    fn nid(&self) -> u8 {
         self.nid()
     }
 
     /// No direction is sent: it is 0.
-    fn direction(&self) -> Option<u8> {
+    fn dir(&self) -> Option<u8> {
         let _ = self.nid();
         Some(0)
     }
@@ -61,11 +73,11 @@ impl AnyPacket for TrainPacket {
         }
     }
 
-    fn send_variables<S: VarSink>(&self, out: &mut S) -> Result<(), AllocError> {
-        parts::send(self, out)
+    fn send_body<S: VarSink>(&self, out: &mut S) -> Result<(), AllocError> {
+        packets!(of_each, self, packet => packet.send(out), _ => out.send(&[]))
     }
 
-    fn full_bits(&self) -> usize {
+    fn bit_len(&self) -> usize {
         self.bit_len()
     }
 
@@ -78,12 +90,12 @@ impl AnyPacket for TrainPacket {
     }
 
     fn of_fields(alloc: Global, nid: u8, dir: u8, fields: &[u64]) -> Made<TrainPacket> {
-        parts::from_fields(alloc, nid, dir, fields)
+        of_number(alloc, nid, dir, &fields)
     }
 
     #[inline(always)]
     fn of_bits(alloc: Global, nid: u8, dir: u8, body: BitSlice<'_>) -> Made<TrainPacket> {
-        parts::from_bits(alloc, nid, dir, body)
+        of_number(alloc, nid, dir, &body)
     }
 
     #[tactic(auto, using(crate::specs::laws::TrackPackets::kept_undirected, crate::specs::laws::TrackPackets::kept_alike))]
@@ -100,7 +112,7 @@ impl AnyPacket for TrainPacket {
         None
     }
 
-    fn copy(&self, alloc: Global) -> Result<TrainPacket, AllocError> {
+    fn try_clone(&self, alloc: Global) -> Result<TrainPacket, AllocError> {
         self.try_clone(alloc)
     }
 }

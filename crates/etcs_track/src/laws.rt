@@ -4,21 +4,21 @@ ghost use Rattle.std.specs.Prelude.{◌≡◌};
 ghost use Rattle.etcs_track.specs.TrackPackets.{track_value};
 
 use crate::located::Located;
-use crate::parts::holds;
 use crate::position_report::PositionReport;
 use crate::position_report_two::PositionReportTwo;
 use crate::train_flat::TrainFlat;
 use crate::train_other::TrainOther;
 use crate::train_packet::TrainPacket;
 use etcs_bodies::laws::Exact;
+use etcs_packets::inner::AnyPacket;
 
 /// Packets of one number and the same variables or kept bits are equal.
 #[tactic(auto, using(crate::specs::laws::OneTrackPacket::one_packet))]
 pub fn one_packet(first: &TrainPacket, second: &TrainPacket)
     ensures { track_value first.now ≡ track_value second.now → first.now ≡ second.now }
 {
-    holds(first);
-    holds(second);
+    first.hold();
+    second.hold();
 }
 
 impl Exact for Located {

@@ -1,18 +1,16 @@
-//! Packets to the track: every number that is typed, and all others as bits.
+//! Packets from the train, to the track ([`TrainPacket`]): every number that is typed, and all others as bits.
 #![tactic(auto)]
 
 mod any_packet;
-mod asked;
 pub mod laws;
 mod list;
 mod located;
-pub mod parts;
 mod position_report;
 mod position_report_two;
-mod sent;
 mod train_flat;
 mod train_other;
 mod train_packet;
+mod variables;
 
 pub use etcs_bits::{BitSlice, Bits};
 pub use etcs_packets::Packetlike;

@@ -4,7 +4,7 @@ ghost use Rattle.std.specs.Prelude.{◌≡◌, None, Some, IfOk, IfErr, IfSome, 
 ghost use Rattle.etcs_track.specs.Locations.{integrity_fault, integrity_reading, integrity_from, level_fault, level_reading, level_from};
 
 use etcs_bodies::{Numbers, Part, check, check_guard, send_run, take_run, taken};
-use etcs_vars::parts::{VarSink, Variables};
+use etcs_vars::inner::{VarSink, Variables};
 use etcs_vars::{BuildFault, Var};
 use std::alloc::{AllocError, Global};
 use std::marker::Model;
@@ -70,6 +70,7 @@ impl Located {
     /// - `Guard(Q_LENGTH)`, before L_TRAININT, where that is missing and Q_LENGTH is 1 or 2, or is given and Q_LENGTH
     ///   is another.
     /// - `Guard(M_LEVEL)`, where NID_NTC is missing and M_LEVEL is 1, or is given and M_LEVEL is another.
+    #[tactic(auto, unfolding(crate::specs::Locations::located_fault))]
     pub fn new(
         d_lrbg: u16,
         q_dirlrbg: u8,
@@ -330,7 +331,7 @@ impl Part for Located {
         let _ = &self.d_lrbg;
     }
 
-    #[tactic(auto, unfolding(crate::specs::Locations::located_from))]
+    #[tactic(auto, unfolding(crate::specs::Locations::located_fault, crate::specs::Locations::located_from))]
     fn take(_alloc: Global, numbers: &mut Numbers) -> Result<Option<Located>, AllocError> {
         take_run!(_alloc numbers d_lrbg: D_LRBG u16, q_dirlrbg: Q_DIRLRBG u8, q_dlrbg: Q_DLRBG u8);
         take_run!(_alloc numbers l_doubtover: L_DOUBTOVER u16, l_doubtunder: L_DOUBTUNDER u16);

@@ -6,7 +6,7 @@ ghost use Rattle.etcs_track.specs.Reports.{position_report_value, position_repor
 use crate::located::Located;
 use etcs_bodies::{Body, Numbers, Part, build_part, send_fields, take_fields};
 use etcs_tables::Way;
-use etcs_vars::parts::{VarSink, Variables};
+use etcs_vars::inner::{VarSink, Variables};
 use etcs_vars::{BuildFault, Var};
 use std::alloc::{AllocError, Global};
 use std::marker::Model;

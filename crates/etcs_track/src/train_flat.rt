@@ -12,10 +12,10 @@ ghost use Rattle.etcs_track.specs.laws.TrainFlats.{train_flat_codes};
 
 use arrayvec::ArrayVec;
 use etcs_bodies::{Body, Numbers};
-use etcs_flat::parts::{check_flat, few, send_table, table_bits, table_of, take_table};
+use etcs_flat::inner::{check_flat, few, send_table, table_bits, table_of, take_table};
 use etcs_tables::{RowItem, Way};
 use etcs_vars::BuildFault;
-use etcs_vars::parts::{VarSink, Variables};
+use etcs_vars::inner::{VarSink, Variables};
 use std::alloc::{AllocError, Global};
 use std::marker::Model;
 

@@ -6,7 +6,7 @@ ghost use Rattle.etcs_flat.specs.Others.{other_fault};
 ghost use Rattle.etcs_track.specs.TrainOthers.{train_other_value};
 
 use etcs_bits::{BitSlice, Bits};
-use etcs_flat::parts::check_other;
+use etcs_flat::inner::check_other;
 use etcs_tables::Way;
 use etcs_vars::BuildFault;
 use std::alloc::{AllocError, Global};

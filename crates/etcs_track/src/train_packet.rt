@@ -10,7 +10,7 @@ use crate::position_report_two::PositionReportTwo;
 use crate::train_flat::TrainFlat;
 use crate::train_other::TrainOther;
 use etcs_bodies::Framed;
-use etcs_packets::parts::{Formed, typed_bits, typed_nid};
+use etcs_packets::inner::{Formed, typed_bits, typed_nid};
 use etcs_packets::{copied, of_each};
 use etcs_tables::{Way, frame_bits};
 use std::alloc::{AllocError, Global};

@@ -1,4 +1,5 @@
 -- Messages to the track (SUBSET-026, 8): those of etcs_messages that go to the track.
+use Rattle.etcs_vars.specs.Reading.{Reading}
 use Rattle.etcs_tables.specs.declared.row.Way.TheVariants.{ToTrack}
 use Rattle.etcs_messages.specs.Messages as messages
 use Rattle.etcs_messages.specs.Messages.{MessageValue}
@@ -12,6 +13,9 @@ use Rattle.etcs_train.specs.Bodies.{train_head, train_body}
 -- what a message holds
 abbrev pub Content : Type 0
 Content = either.Content TrainHead TrainBody TrainPacket
+
+abbrev pub MessageLanguage : Reading → Type 0
+MessageLanguage r = messages.MessageLanguage ToTrack r
 
 -- what a message stands for
 abbrev pub message_value : Content → MessageValue

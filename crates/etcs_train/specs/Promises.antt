@@ -1,4 +1,4 @@
--- A law of messages to the track.
+-- Laws of messages to the track.
 use Rattle.std.specs.Prelude.{◌≡◌, ℕ, ◌*◌, ◌-◌, ◌≤◌, ◌↔◌, ◌⊎◌, List, [], length, All, Some}
 use Rattle.etcs_vars.specs.Reading.{Reading, spelled, Viable}
 use Rattle.etcs_tables.specs.declared.row.Way.TheVariants.{ToTrack}
@@ -7,10 +7,21 @@ use Rattle.etcs_tables.specs.Rows.{message_row_to}
 use Rattle.etcs_rows.specs.declared.frames.Carrier.TheVariants as carrier
 use Rattle.etcs_packets.specs.PacketValues.{PacketValue}
 use Rattle.etcs_sequence.specs.Contents.{Carries}
-use Rattle.etcs_messages.specs.Messages.{IsAdmitted, MessageLanguage, head_reading}
+use Rattle.etcs_messages.specs.Messages.{IsAdmitted, head_reading}
 use Rattle.etcs_messages.specs.Promises as promises
+use Rattle.etcs_messages.specs.Readers as readers
+use Rattle.etcs_track.specs.TrackPackets.{track_form}
 use Rattle.etcs_train.specs.declared.body.TrainHead.{TrainHead}
-use Rattle.etcs_train.specs.Bodies.{head_variables}
+use Rattle.etcs_train.specs.Bodies.{head_variables, train_head, train_body}
+use Rattle.etcs_train.specs.Messages.{MessageLanguage}
+
+-- messages with one spelling are one, and no spelling begins another
+abbrev pub OneSpelling : Type 0
+OneSpelling = promises.OneSpelling ToTrack train_head train_body track_form
+
+-- the same bits are held in one way
+abbrev pub OneHolding : Type 0
+OneHolding = readers.OneHolding ToTrack track_form
 
 -- a header, the variables of its row and packets
 abbrev pub begun : ℕ → ℕ → TrainHead → Reading → List PacketValue → Reading
@@ -21,4 +32,4 @@ abbrev pub RoomRule : Type 0
 RoomRule =
     (nid len : ℕ) (head : TrainHead) (row : Layout) (body : Reading) (vs : List PacketValue)
     → message_row_to ToTrack nid ≡ Some row → IsAdmitted (head_reading nid len (head_variables head)) → Reads row [] body → All (Carries (carrier.Message ToTrack)) vs
-    → (Viable (MessageLanguage ToTrack) (spelled (begun nid len head body vs)) ↔ ((length (spelled (begun nid len head body vs)) ≤ 8 * len) × ((8 * len - length (spelled (begun nid len head body vs)) ≤ 7) ⊎ (21 ≤ 8 * len - length (spelled (begun nid len head body vs))))))
+    → (Viable (MessageLanguage) (spelled (begun nid len head body vs)) ↔ ((length (spelled (begun nid len head body vs)) ≤ 8 * len) × ((8 * len - length (spelled (begun nid len head body vs)) ≤ 7) ⊎ (21 ≤ 8 * len - length (spelled (begun nid len head body vs))))))

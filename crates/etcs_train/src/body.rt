@@ -6,7 +6,7 @@ ghost use Rattle.etcs_train.specs.Bodies.{is_plain, is_train_time, nid_of_body};
 use crate::store::TrainStore;
 use etcs_messages::{Head, Own};
 use etcs_track::TrainPacket;
-use etcs_vars::parts::{VarSink, Variables};
+use etcs_vars::inner::{VarSink, Variables};
 use etcs_vars::{BuildFault, Var, check};
 use std::alloc::AllocError;
 

@@ -1,4 +1,4 @@
-//! Radio messages to the track: built, written, read from pieces.
+//! Radio messages from the train, to the track: built, written, read from pieces.
 //!
 //! ```rust
 //! // message 146: the message with T_TRAIN 1000 is acknowledged

@@ -5,3 +5,7 @@ pub mod Sent
 pub mod Prefixes
 pub mod Stepping
 pub mod Outcomes
+pub mod Joins
+pub mod LowestBits
+pub mod WordSinks
+pub mod Words

@@ -114,11 +114,6 @@ module _ (L : Reading → Type 0) (regular : Regular L) (p : Reading) (R : Readi
       let some : begun (width x - taken) bits ≡ true = rw same at (t.each (width x - taken) m.0 q.0 n.1) in
       absurd cc
 
-  -- x holds the next bit
-  pub holds_next : (taken bits : ℕ) → Part x begun bits taken → Owner L (seen_with p bits taken) x
-  holds_next taken bits part =
-      owner L regular p x next (num taken bits) (omega (arith, length-num taken bits, part.short)) (viable taken bits (omega (arith, part.short)) part.fits part.starts) (can_go_on taken bits part)
-
   -- one bit more, which is refused
   pub refuses : (taken bits : ℕ) (b : Bool) → Part x begun bits taken → begun (width x - (taken + 1)) (bits * 2 + bit b) ≡ false → Viable L (seen_with p bits taken ++ b ∷ []) → ⊥
   refuses taken bits b part test v =
@@ -137,14 +132,3 @@ module _ (L : Reading → Type 0) (regular : Regular L) (p : Reading) (R : Readi
   -- the last bit, which isn't
   pub goes_on : (taken bits : ℕ) (b : Bool) → Part x begun bits taken → begun (width x - (taken + 1)) (bits * 2 + bit b) ≡ true → taken + 1 ≡ width x → (r : Reading) × R' (bits * 2 + bit b) r
   goes_on taken bits b part test whole = goes_on_by taken bits 1 (bit b) part (omega (arith, bit-le b)) test whole
-
-  -- after any number of x
-  pub residual_after : (n : ℕ) → Residual L (p ++ (x, n) ∷ []) (R' n)
-  residual_after n = record {
-    to = λ q l.
-        let e : (p ++ (x, n) ∷ []) ++ q ≡ p ++ (x, n) ∷ q = append_assoc p ((x, n) ∷ []) q in
-        (left_by n q (residual.to ((x, n) ∷ q) (rw e at l))).1;
-    from = λ q r.
-        let e : (p ++ (x, n) ∷ []) ++ q ≡ p ++ (x, n) ∷ q = append_assoc p ((x, n) ∷ []) q in
-        rw e (residual.from ((x, n) ∷ q) (o.closes n q r));
-  }

@@ -8,7 +8,7 @@ use Rattle.etcs_vars.specs.declared.feed.ReadFault.{ReadFault}
 use Rattle.etcs_vars.specs.declared.feed.ReadFault.TheVariants as read
 use Rattle.etcs_vars.specs.Vars.{admits, name}
 
-infixl 10 ◌or_else◌
+infixr 10 ◌or_else◌
 -- the first fault, else the second
 abbrev pub ◌or_else◌ : Option BuildFault → Option BuildFault → Option BuildFault
 (Some e) or_else f = Some e

@@ -1,1 +1,3 @@
 pub mod Sinks
+pub mod Spellings
+pub mod WordSinks

@@ -1,18 +1,22 @@
 //! The variables of ETCS telegrams and radio messages: names, widths and admitted numbers, and the
-//! faults that name a variable.
+//! faults that name a variable; where variables are sent, and bits that are put over those of bytes (`WordSink`).
 #![tactic(auto)]
 
 mod fault;
 mod feed;
+pub mod inner;
+mod joining;
 mod pairs;
-pub mod parts;
 mod ranges;
 mod sink;
 mod tables;
 mod var;
+mod word;
+mod word_sink;
 
 pub use fault::{BuildFault, check};
 pub use feed::{Fed, ReadFault};
 pub use pairs::pairs_of;
 pub use ranges::begins;
 pub use var::Var;
+pub use word_sink::WordSink;

@@ -6,12 +6,13 @@ use Rattle.etcs_vars.specs.declared.var.Var.{Var}
 use Rattle.etcs_vars.specs.declared.var.Var.TheVariants.{N_ITER}
 use Rattle.etcs_vars.specs.Vars.{admits}
 use Rattle.etcs_bits.specs.Bits.{bit}
+use Rattle.etcs_vars.specs.Faults.{number_fault}
 use Rattle.etcs_vars.specs.Reading.{Reading, Then}
 use Rattle.etcs_tables.specs.declared.item.Guard.{Guard}
 use Rattle.etcs_tables.specs.declared.item.Test.{Test}
 use Rattle.etcs_tables.specs.declared.item.Test.TheVariants.{IsZero, IsOne}
 use Rattle.etcs_tables.specs.Layouts.{Layout, whole, one, Scope, Reads, holds, passes}
-use Rattle.etcs_bodies.specs.Faults.{number_fault, count_fault}
+use Rattle.etcs_bodies.specs.Faults.{count_fault}
 use Rattle.etcs_bodies.specs.Taking.{Left, ahead, ◌and_then◌, next_number, next_flag}
 use Rattle.etcs_bodies.specs.laws.Takes.{admitted, number_ok, ahead_both, taken, some_pair, next_is, next_sound, counted_admitted, in_width, flag_is, flag_sound}
 use Rattle.etcs_bodies.specs.Repeats.{bit_count}

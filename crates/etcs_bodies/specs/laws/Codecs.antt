@@ -6,11 +6,12 @@ use Rattle.std.proofs.lemmas.List.{append-nil}
 use Rattle.etcs_bits.specs.Bits.{bit}
 use Rattle.etcs_vars.specs.declared.var.Var.{Var}
 use Rattle.etcs_vars.specs.Vars.{admits, name, same_name}
+use Rattle.etcs_vars.specs.Faults.{number_fault}
 use Rattle.etcs_vars.specs.Reading.{Reading, Then}
 use Rattle.etcs_tables.specs.declared.item.Test.{Test}
 use Rattle.etcs_tables.specs.declared.item.Test.TheVariants.{IsOne}
 use Rattle.etcs_tables.specs.Layouts.{Layout, whole, one, counted, Scope, Reads, holds, nearest, passes}
-use Rattle.etcs_bodies.specs.Faults.{number_fault, option_fault}
+use Rattle.etcs_bodies.specs.Faults.{option_fault}
 use Rattle.etcs_bodies.specs.Taking.{Left, ahead, ◌and_then◌, next_number, next_flag, times_from}
 use Rattle.etcs_bodies.specs.laws.Takes.{admitted, number_ok, ahead_both, taken, some_pair, next_is, next_sound, count_ok, counted_admitted, flag_is, flag_sound, as_bit, in_width}
 use Rattle.etcs_bodies.specs.laws.Repeats.{times_in, times_out, times_complete, times_sound}

@@ -4,10 +4,10 @@ use Rattle.std.specs.Option.{is_some}
 use Rattle.etcs_vars.specs.declared.var.Var.{Var}
 use Rattle.etcs_vars.specs.Reading.{Reading}
 use Rattle.etcs_vars.specs.declared.fault.BuildFault.{BuildFault}
+use Rattle.etcs_vars.specs.Faults.{◌or_else◌, number_fault}
 use Rattle.etcs_tables.specs.declared.item.Test.{Test}
 use Rattle.etcs_tables.specs.declared.item.Test.TheVariants.{IsOne}
 use Rattle.etcs_tables.specs.Layouts.{Layout, one, passes}
-use Rattle.etcs_bodies.specs.Faults.{◌or_else◌, number_fault}
 use Rattle.etcs_bodies.specs.Guards.{guard_fault}
 use Rattle.etcs_bodies.specs.laws.Guards.{guard_ok, there, missing}
 use Rattle.etcs_bodies.specs.Taking.{Left, ahead}

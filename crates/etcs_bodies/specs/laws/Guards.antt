@@ -3,10 +3,10 @@ use Rattle.std.proofs.Common.{◌≡◌, ℕ, Bool, true, false, ◌∷◌, Opti
 use Rattle.std.specs.Option.{is_some}
 use Rattle.etcs_vars.specs.declared.var.Var.{Var}
 use Rattle.etcs_vars.specs.declared.fault.BuildFault.TheVariants.{Guard}
+use Rattle.etcs_vars.specs.Faults.{number_fault}
 use Rattle.etcs_vars.specs.Reading.{Reading}
 use Rattle.etcs_tables.specs.declared.item.Test.{Test}
 use Rattle.etcs_tables.specs.Layouts.{passes}
-use Rattle.etcs_bodies.specs.Faults.{number_fault}
 use Rattle.etcs_bodies.specs.Codecs.{IsGroup, IsOptional, group_reading}
 use Rattle.etcs_bodies.specs.Guards.{guard_fault, Group, optional_group}
 

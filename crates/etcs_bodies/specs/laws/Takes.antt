@@ -9,10 +9,11 @@ use Rattle.etcs_bits.proofs.Numbers.{length-num, value-num, num-value}
 use Rattle.etcs_vars.specs.declared.var.Var.{Var}
 use Rattle.etcs_vars.specs.Vars.{width, admits}
 use Rattle.etcs_vars.specs.Reading.{Sent, Reading, numbers, spelled}
-use Rattle.etcs_vars.proofs.Walk.{spelled-append}
+use Rattle.etcs_vars.specs.laws.Spellings.{spelled-append}
 use Rattle.etcs_vars.specs.declared.fault.BuildFault.{BuildFault}
 use Rattle.etcs_vars.specs.declared.fault.BuildFault.TheVariants.{NotAdmitted, TooMany}
-use Rattle.etcs_bodies.specs.Faults.{◌or_else◌, number_fault, count_fault}
+use Rattle.etcs_vars.specs.Faults.{◌or_else◌, number_fault}
+use Rattle.etcs_bodies.specs.Faults.{count_fault}
 use Rattle.etcs_bodies.specs.Taking.{Left, listed, in_bits, ahead, ◌and_then◌, admitted_of, next_number, next_flag}
 
 -- the two causes in a row
@@ -25,15 +26,9 @@ by_test true e h = refl
 by_test false e h = absurd cc
 
 pub number_ok : (v : Var) (n : ℕ) → admits v n ≡ true → number_fault v n ≡ None
-unfolding number_fault
 number_ok v n h = rw h refl
 
-pub number_bad : (v : Var) (n : ℕ) → admits v n ≡ false → number_fault v n ≡ Some (NotAdmitted v)
-unfolding number_fault
-number_bad v n h = rw h refl
-
 pub admitted : (v : Var) (n : ℕ) → number_fault v n ≡ None → admits v n ≡ true
-unfolding number_fault
 admitted v n h = by_test (admits v n) (NotAdmitted v) h
 
 -- a variable of one bit admits the two numbers of a flag, and no other

@@ -87,9 +87,9 @@ row_short way nid vs e = option_and_then_some variables (row_to way nid) vs e (�
 pub nothing_wrong : (way : Way) (o : Option (List Var)) (dir : ℕ) (ns : List ℕ) → row_fault way o dir ns ≡ None → (vs : List Var) × (o ≡ Some vs) × (length ns ≡ length vs) × IsTrue (is_direction way dir) × (numbers_fault vs ns ≡ None)
 nothing_wrong way None dir ns fine = absurd cc
 nothing_wrong way (Some vs) dir ns fine =
-    let a = none_both ((if length ns == length vs then None else Some Count) or_else direction_fault way dir) (numbers_fault vs ns) fine in
-    let b = none_both (if length ns == length vs then None else Some Count) (direction_fault way dir) a.0 in
-    (vs, refl, count_fine ns vs b.0, direction_fine way dir b.1, a.1)
+    let a = none_both (if length ns == length vs then None else Some Count) (direction_fault way dir or_else numbers_fault vs ns) fine in
+    let b = none_both (direction_fault way dir) (numbers_fault vs ns) a.1 in
+    (vs, refl, count_fine ns vs a.0, direction_fine way dir b.0, b.1)
 
 pub nothing_found : (way : Way) (o : Option (List Var)) (vs : List Var) (dir : ℕ) (ns : List ℕ) → o ≡ Some vs → length ns ≡ length vs → IsTrue (is_direction way dir) → numbers_fault vs ns ≡ None → row_fault way o dir ns ≡ None
 nothing_found way o vs dir ns is long admitted fine = rw (is, same_count (length ns) (length vs) None (Some Count) long, fine_direction way dir admitted) fine

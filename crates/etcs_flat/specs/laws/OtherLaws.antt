@@ -16,4 +16,5 @@ fits bits most e = grind (arith, nat_tests)
 pub other_short : (way : Way) (nid dir bits : ℕ) → other_fault way nid dir bits ≡ None → bits ≤ kept_limit way
 other_short way nid dir bits fine =
     let long = if nat_le bits (kept_limit way) then None else Some TooLong in
-    fits bits (kept_limit way) (none_both ((if is_kept way nid then None else Some (NotAdmitted NID_PACKET)) or_else direction_fault way dir) long fine).1
+    let others = (none_both (if is_kept way nid then None else Some (NotAdmitted NID_PACKET)) (direction_fault way dir or_else long) fine).1 in
+    fits bits (kept_limit way) (none_both (direction_fault way dir) long others).1

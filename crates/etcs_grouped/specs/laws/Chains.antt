@@ -30,7 +30,7 @@ use Rattle.etcs_parts.specs.Speeds.{SpeedValue, speed_reading, speed_from}
 use Rattle.etcs_parts.specs.laws.Speeds.{speed_codes, speed_most}
 use Rattle.etcs_parts.specs.ModeSections.{ModeSectionValue, mode_section_reading, mode_section_from}
 use Rattle.etcs_parts.specs.laws.ModeSections.{mode_section_codes, mode_section_most}
-use Rattle.etcs_grouped.specs.Chains.{ChainValue, chain_reading, too_long, chain_of, body_of, IsChain, chain_row, chain_from, linking_reading, IsLinking, gradient_reading, IsGradient, profile_reading, IsSpeedProfile, mode_profile_reading, IsModeProfile}
+use Rattle.etcs_grouped.specs.Chains.{ChainValue, chain_reading, too_long, chain_of, body_of, IsChain, chain_row, chain_from, linking_reading, IsLinking, gradient_reading, IsGradient, speed_profile_reading, IsSpeedProfile, mode_profile_reading, IsModeProfile}
 
 -- ---- Its bits.
 
@@ -86,8 +86,8 @@ linking_codes = chain_codes link_codes 49 (λ l _. link_most l) 5 refl
 pub gradient_codes : PacketCodes ToTrain 21 (λ (p : ChainValue SlopeValue). p.dir) IsGradient gradient_reading (packet_from (chain_from 24 slope_reading slope_from))
 gradient_codes = chain_codes slope_codes 24 (λ s _. slope_most s) 21 refl
 
-pub profile_codes : PacketCodes ToTrain 27 (λ (p : ChainValue SpeedValue). p.dir) IsSpeedProfile profile_reading (packet_from (chain_from 431 speed_reading speed_from))
-profile_codes = chain_codes speed_codes 431 speed_most 27 refl
+pub speed_profile_codes : PacketCodes ToTrain 27 (λ (p : ChainValue SpeedValue). p.dir) IsSpeedProfile speed_profile_reading (packet_from (chain_from 431 speed_reading speed_from))
+speed_profile_codes = chain_codes speed_codes 431 speed_most 27 refl
 
 pub mode_profile_codes : PacketCodes ToTrain 80 (λ (p : ChainValue ModeSectionValue). p.dir) IsModeProfile mode_profile_reading (packet_from (chain_from 55 mode_section_reading mode_section_from))
 mode_profile_codes = chain_codes mode_section_codes 55 (λ m _. mode_section_most m) 80 refl

@@ -4,10 +4,10 @@
 ghost use Rattle.std.specs.Prelude.{◌≡◌, IfOk};
 
 use etcs_bits::Bits;
-use etcs_packet_json::parts::{Miss, Text, guess_packets};
+use etcs_json_trees::inner::{Miss, Text, guess_packets};
 use etcs_packets::Packet;
 use etcs_telegram::{Header, Size, Telegram};
-use etcs_text::parts::kind_member;
+use etcs_text::inner::kind_member;
 use std::alloc::Global;
 
 /// The header of its ten numbers.

@@ -1,20 +1,19 @@
 //! Messages guessed of a text, by the shape of what `json_line` writes. No clause says which they are: each is compared
 //! with the text in the end.
 
-use crate::from_message::{head_items, kept_by};
+use crate::from_message::kept_by;
 use etcs_bits::Bits;
+use etcs_json_trees::inner::{Miss, Text, guess_packets, padding_number};
 use etcs_messages::{Head, MessageOf, Own};
-use etcs_packet_json::parts::{Miss, Text, guess_packets, padding_number};
-use etcs_packets::parts::AnyPacket;
+use etcs_packets::inner::AnyPacket;
 use etcs_rows::admits_fields;
-use etcs_tables::{Row, message_row};
-use etcs_text::parts::way_member;
+use etcs_tables::{head_row, message_row};
+use etcs_text::inner::way_member;
 use std::alloc::Global;
 
 /// The head of these numbers.
 fn head_of<H: Head>(numbers: &[u64]) -> Option<H> {
-    let items = head_items(H::Packet::WAY);
-    if admits_fields(Row { items }, numbers) {
+    if admits_fields(head_row(H::Packet::WAY), numbers) {
         Some(H::of_numbers(numbers))
     } else {
         None

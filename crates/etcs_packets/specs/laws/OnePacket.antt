@@ -7,7 +7,7 @@ use Rattle.etcs_tables.specs.declared.row.Way.TheVariants.{ToTrain}
 use Rattle.etcs_flat.specs.laws.FlatCodes.{flat_codes}
 use Rattle.etcs_flat.specs.Others.{OtherValue, other_value, other_fault}
 use Rattle.etcs_grouped.specs.laws.BaliseLists.{balise_list_codes}
-use Rattle.etcs_grouped.specs.laws.Chains.{linking_codes, gradient_codes, profile_codes, mode_profile_codes}
+use Rattle.etcs_grouped.specs.laws.Chains.{linking_codes, gradient_codes, speed_profile_codes, mode_profile_codes}
 use Rattle.etcs_grouped.specs.laws.Level1Mas.{level1_ma_codes}
 use Rattle.etcs_grouped.specs.laws.Level23Mas.{level23_ma_codes}
 use Rattle.etcs_grouped.specs.laws.LevelOrders.{level_order_codes}
@@ -50,7 +50,7 @@ every =
     typed_one level23_ma_codes also
     typed_one (flat_codes 16 refl) also
     typed_one gradient_codes also
-    typed_one profile_codes also
+    typed_one speed_profile_codes also
     typed_one level_order_codes also
     typed_one (flat_codes 42 refl) also
     typed_one (flat_codes 45 refl) also

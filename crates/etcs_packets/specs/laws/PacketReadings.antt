@@ -10,6 +10,7 @@ use Rattle.etcs_tables.specs.declared.row.Way.TheVariants.{ToTrain, ToTrack}
 use Rattle.etcs_tables.specs.Frames.{frame_bits, head_bits, directed}
 use Rattle.etcs_packets.specs.PacketValues.{PacketValue, marker, typed, kept, bits_to, bits_of}
 use Rattle.etcs_packets.specs.PacketReadings.{in_frame, reading_to, frame, packet_reading}
+use Rattle.etcs_packets.specs.Sending.{front_to, rest_after}
 
 -- ---- Frames.
 
@@ -37,9 +38,6 @@ length-in_frame way nid dir bits r =
     let l3 = length-sent L_PACKET (frame_bits way + bits) r in
     omega (arith, l1, l2, l3, frame_is way)
 
-pub length-frame : (nid dir bits : ℕ) (r : Reading) → length (spelled (frame nid dir bits ++ r)) ≡ 23 + length (spelled r)
-length-frame nid dir bits r = length-in_frame ToTrain nid dir bits r
-
 -- ---- Its bits.
 
 pub length-kept : (b : List Bool) → length (spelled (sent.kept OTHER_DATA b)) ≡ length b
@@ -57,3 +55,13 @@ bits_are way (kept nid dir b) = length-in_frame way nid dir (length b) (sent.kep
 
 pub packet_bits : (v : PacketValue) → length (spelled (packet_reading v)) ≡ bits_of v
 packet_bits v = bits_are ToTrain v
+
+-- ---- Its front, and what follows.
+
+pub front_and_rest : (way : Way) (v : PacketValue) → reading_to way v ≡ front_to way v ++ rest_after v
+front_and_rest ToTrain (marker n) = refl
+front_and_rest ToTrain (typed nid dir r) = refl
+front_and_rest ToTrain (kept nid dir b) = refl
+front_and_rest ToTrack (marker n) = refl
+front_and_rest ToTrack (typed nid dir r) = refl
+front_and_rest ToTrack (kept nid dir b) = refl

@@ -3,10 +3,10 @@ use Rattle.std.proofs.Common.{◌≡◌, ℕ, ◌+◌, ◌*◌, [], ◌∷◌, l
 use Rattle.std.specs.Int.{from_bool}
 use Rattle.std.specs.Option.{is_some}
 use Rattle.etcs_vars.specs.declared.var.Var.TheVariants.{M_MODETEXTDISPLAY, M_LEVELTEXTDISPLAY, NID_NTC}
+use Rattle.etcs_vars.specs.Faults.{number_fault}
 use Rattle.etcs_vars.specs.Reading.{spelled}
 use Rattle.etcs_tables.specs.declared.item.Test.TheVariants.{IsOne}
 use Rattle.etcs_tables.specs.Rows.{shown}
-use Rattle.etcs_bodies.specs.Faults.{number_fault}
 use Rattle.etcs_bodies.specs.laws.Takes.{none_of}
 use Rattle.etcs_bodies.specs.Repeats.{bit_count}
 use Rattle.etcs_bodies.specs.laws.Repeats.{bit_count_is}

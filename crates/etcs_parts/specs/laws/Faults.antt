@@ -1,7 +1,7 @@
 -- Faults one after another, none of which is there.
 use Rattle.std.proofs.Common.{◌≡◌, Option, None}
 use Rattle.etcs_vars.specs.declared.fault.BuildFault.{BuildFault}
-use Rattle.etcs_bodies.specs.Faults.{◌or_else◌}
+use Rattle.etcs_vars.specs.Faults.{◌or_else◌}
 use Rattle.etcs_bodies.specs.laws.Takes.{none_of}
 
 -- the first isn't there, and what follows from the others

@@ -3,10 +3,10 @@ use Rattle.std.proofs.Common.{◌≤◌, arith, ◌≡◌, ℕ, ◌+◌, ◌*◌
 use Rattle.std.specs.Int.{from_bool}
 use Rattle.std.specs.Option.{is_some}
 use Rattle.etcs_vars.specs.declared.var.Var.TheVariants.{M_LEVELTR, NID_NTC, L_ACKLEVELTR}
+use Rattle.etcs_vars.specs.Faults.{number_fault}
 use Rattle.etcs_vars.specs.Reading.{spelled}
 use Rattle.etcs_tables.specs.declared.item.Test.TheVariants.{IsOne}
 use Rattle.etcs_tables.specs.Rows.{level, level_ack}
-use Rattle.etcs_bodies.specs.Faults.{number_fault}
 use Rattle.etcs_bodies.specs.laws.Takes.{none_of}
 use Rattle.etcs_bodies.specs.Codecs.{Codes, IsGroup, group_reading}
 use Rattle.etcs_bodies.specs.laws.Codecs.{number, both, group_of, form}

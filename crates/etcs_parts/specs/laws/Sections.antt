@@ -5,9 +5,9 @@ use Rattle.std.specs.Option.{is_some}
 use Rattle.etcs_vars.specs.declared.var.Var.{Var}
 use Rattle.etcs_vars.specs.Vars.{admits}
 use Rattle.etcs_vars.specs.declared.var.Var.TheVariants.{L_SECTION, L_ENDSECTION, Q_SECTIONTIMER, T_SECTIONTIMER, D_SECTIONTIMERSTOPLOC}
+use Rattle.etcs_vars.specs.Faults.{number_fault}
 use Rattle.etcs_vars.specs.Reading.{spelled}
 use Rattle.etcs_tables.specs.Rows.{section_timer, ◌▸◌}
-use Rattle.etcs_bodies.specs.Faults.{number_fault}
 use Rattle.etcs_bodies.specs.laws.Takes.{none_of, number_ok, admitted}
 use Rattle.etcs_bodies.specs.Codecs.{Codes, both_from, form_from}
 use Rattle.etcs_bodies.specs.laws.Codecs.{number, both, form}

@@ -8,7 +8,8 @@ use Rattle.etcs_vars.specs.Reading.{Reading, numbers}
 use Rattle.etcs_vars.proofs.Prefixes.{admits_parts}
 use Rattle.etcs_tables.specs.declared.row.Way.TheVariants.{ToTrain}
 use Rattle.etcs_reader.specs.Fields.{ReadsFields}
-use Rattle.etcs_messages.specs.Kinds.{IsHead, HeadLaws, head_row}
+use Rattle.etcs_messages.specs.Kinds.{IsHead, HeadLaws}
+use Rattle.etcs_tables.specs.Headers.{head_row}
 use Rattle.etcs_radio.specs.declared.body.RadioHead.{RadioHead}
 use Rattle.etcs_radio.specs.Bodies.{head_variables, head_by, radio_head, IsHeadNumbers}
 use Rattle.etcs_radio.specs.laws.Rows.{no_fault}

@@ -4,7 +4,8 @@ use Rattle.std.specs.Prelude.{Bool, ◌↔◌}
 use Rattle.etcs_vars.specs.declared.var.Var.{Var}
 use Rattle.etcs_vars.specs.Reading.{Sent, Reading, spelled, Viable}
 use Rattle.etcs_vars.proofs.Apart.{Agree-append, AllFit-append}
-use Rattle.etcs_vars.proofs.Walk.{Regular, spelled-append}
+use Rattle.etcs_vars.proofs.Walk.{Regular}
+use Rattle.etcs_vars.specs.laws.Spellings.{spelled-append}
 use Rattle.etcs_reader.specs.Rests.{Starts, Goes, BeginsWith}
 use Rattle.etcs_sequence.specs.ChainLaws.{Chain}
 

@@ -31,9 +31,9 @@ pub kept_parts : (way : Way) (nid dir bits : ℕ) → other_fault way nid dir bi
 kept_parts way nid dir bits fine =
     let first = if is_kept way nid then None else Some (NotAdmitted NID_PACKET) in
     let long = if nat_le bits (kept_limit way) then None else Some TooLong in
-    let both = none_both (first or_else direction_fault way dir) long fine in
-    let two = none_both first (direction_fault way dir) both.0 in
-    (by_test (is_kept way nid) (NotAdmitted NID_PACKET) two.0, direction_fine way dir two.1, other_short way nid dir bits fine)
+    let both = none_both first (direction_fault way dir or_else long) fine in
+    let two = none_both (direction_fault way dir) long both.1 in
+    (by_test (is_kept way nid) (NotAdmitted NID_PACKET) both.0, direction_fine way dir two.0, other_short way nid dir bits fine)
 
 pub kept_fault : (way : Way) (nid dir bits : ℕ) → IsTrue (is_kept way nid) → IsTrue (is_direction way dir) → bits ≤ kept_limit way → other_fault way nid dir bits ≡ None
 kept_fault way nid dir bits kept a le = rw (kept, fine_direction way dir a, le-leb bits (kept_limit way) le) refl

@@ -8,7 +8,7 @@ use Rattle.etcs_runs.specs.Lines.{IsLine, lines_text}
 use Rattle.etcs_stream.specs.Lines.{lines_bytes}
 use Rattle.etcs_stream.specs.Told.{Told}
 use Rattle.etcs_stream.specs.Tellers.{nothing_told}
-use Rattle.etcs_entries.specs.Readers.{ReaderValue, seen_bits}
+use Rattle.etcs_text.specs.Readers.{ReaderValue, seen_bits}
 use Rattle.etcs_stream.specs.Engines.{Tells}
 use Rattle.etcs_stream.specs.Taking.{Says}
 use Rattle.etcs_stream.specs.Stands.{ItemsStand, BinStands, HexTook, JsonTook, LinesStand}

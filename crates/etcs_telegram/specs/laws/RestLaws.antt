@@ -25,7 +25,8 @@ use Rattle.etcs_sequence.specs.laws.ThenLaws.{then_regular, then_begins_with}
 use Rattle.etcs_telegram.specs.declared.size.Size.{Size}
 use Rattle.etcs_telegram.specs.declared.phase.Phase.{Phase}
 use Rattle.etcs_telegram.specs.declared.phase.Phase.TheVariants.{Header, Packets, Fill, Pad, Whole}
-use Rattle.etcs_telegram.specs.Telegrams.{header_row, pad_bits}
+use Rattle.etcs_telegram.specs.Telegrams.{pad_bits}
+use Rattle.etcs_tables.specs.Headers.{header_row}
 use Rattle.etcs_telegram.specs.Phases.{PadLeft, FillLeft}
 use Rattle.etcs_telegram.specs.Lefts.{FillBy, PacketsBehind, left_at, next_at, is_open, stands_at, HoldsIn, Follows}
 

@@ -6,17 +6,17 @@ use Rattle.etcs_vars.specs.declared.var.Var.{Var}
 use Rattle.etcs_vars.specs.declared.var.Var.TheVariants.{D_LRBG, Q_DIRLRBG, Q_DLRBG, L_DOUBTOVER, L_DOUBTUNDER, Q_LENGTH, L_TRAININT, V_TRAIN, Q_DIRTRAIN, M_MODE, M_LEVEL, NID_NTC}
 use Rattle.etcs_vars.specs.declared.fault.BuildFault.{BuildFault}
 use Rattle.etcs_vars.specs.Vars.{width}
+use Rattle.etcs_vars.specs.Faults.{◌or_else◌, number_fault}
 use Rattle.etcs_vars.specs.Reading.{Reading, spelled}
 use Rattle.etcs_tables.specs.declared.item.Test.TheVariants.{IsOne, IsOneOrTwo}
 use Rattle.etcs_tables.specs.Rows.{located}
-use Rattle.etcs_bodies.specs.Faults.{◌or_else◌, number_fault}
 use Rattle.etcs_bodies.specs.laws.Takes.{none_of}
 use Rattle.etcs_bodies.specs.Codecs.{Codes}
 use Rattle.etcs_bodies.specs.laws.Codecs.{number, both, group_of, form}
 use Rattle.etcs_bodies.specs.laws.Groups.{guarded_is, guarded_none}
 use Rattle.etcs_bodies.specs.Repeats.{bit_count}
 use Rattle.etcs_bodies.specs.laws.Repeats.{bit_count_is, bit_count-append}
-use Rattle.etcs_track.specs.Locations.{after_reading, integrity_reading, integrity_from, level_reading, level_from, LocatedValue, IsLocated, located_reading, located_from}
+use Rattle.etcs_track.specs.Locations.{after_reading, integrity_reading, integrity_from, level_reading, level_from, LocatedValue, located_fault, IsLocated, located_reading, located_from}
 
 -- ---- It is what its row spells.
 
@@ -25,7 +25,7 @@ fine : {a b : Option BuildFault} {B : Type 0} → (b ≡ None → B) → a or_el
 fine behind h = let (first, others) = none_of _ _ h in (first, behind others)
 
 pub located_codes : Codes located IsLocated located_reading located_from
-unfolding located_from integrity_from level_from
+unfolding located_fault located_from integrity_from level_from
 located_codes =
     form (
     both (number D_LRBG) (

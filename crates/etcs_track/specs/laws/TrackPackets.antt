@@ -1,31 +1,19 @@
 -- Lemmas about specs/TrackPackets.antt.
-use Rattle.std.proofs.Common.{◌≡◌, ℕ, [], ◌∷◌, ◌++◌, length, Option, None, Some, refl, sym, subst, ◌∙◌}
+use Rattle.std.proofs.Common.{◌≡◌, ℕ, [], ◌++◌, length, Option, None, Some, refl, sym, subst, ◌∙◌}
 use Rattle.std.proofs.lemmas.Bool.{eqb-true}
-use Rattle.etcs_vars.specs.declared.var.Var.TheVariants.{NID_PACKET, L_PACKET, OTHER_DATA}
-use Rattle.etcs_vars.specs.Reading.{Reading, spelled}
+use Rattle.etcs_vars.specs.declared.var.Var.TheVariants.{OTHER_DATA}
+use Rattle.etcs_vars.specs.Reading.{spelled}
 use Rattle.etcs_vars.specs.Reading as sent
 use Rattle.etcs_vars.specs.declared.fault.BuildFault.{BuildFault}
 use Rattle.etcs_flat.specs.Others.{other_fault}
 use Rattle.etcs_flat.specs.laws.FlatLaws.{none_both, direction_fine}
 use Rattle.etcs_tables.specs.declared.row.Way.TheVariants.{ToTrack}
-use Rattle.etcs_packets.specs.PacketValues.{PacketValue, nid_of, variables_of}
+use Rattle.etcs_packets.specs.PacketValues.{PacketValue, variables_of}
 use Rattle.etcs_packets.specs.laws.PacketReadings.{bits_are}
 use Rattle.etcs_track.specs.TrainOthers.{TrainOtherValue}
 use Rattle.etcs_track.specs.declared.train_packet.TrainPacket.{TrainPacket}
 use Rattle.etcs_track.specs.declared.train_packet.TrainPacket.TheVariants.{Other}
 use Rattle.etcs_track.specs.TrackPackets.{track_value, track_bits_of, track_reading}
-
--- ---- A packet is its frame, and then its variables or its kept bits.
-
-abbrev pub frame_of : PacketValue → Reading
-frame_of v = (NID_PACKET, nid_of v) ∷ (L_PACKET, track_bits_of v) ∷ []
-
-pub sent_typed : (p : TrainPacket) → ((o : TrainOtherValue) → p ≡ Other o → ⊥) → frame_of (track_value p) ++ variables_of (track_value p) ≡ track_reading (track_value p)
-sent_typed (Other o) h = absurd (h o refl)
-sent_typed p h = refl
-
-pub sent_kept : (p : TrainPacket) (o : TrainOtherValue) → p ≡ Other o → frame_of (track_value p) ++ sent.kept OTHER_DATA o.body ≡ track_reading (track_value p)
-sent_kept p o e = rw e refl
 
 -- ---- Its bits.
 
@@ -36,7 +24,7 @@ track_bits v = bits_are ToTrack v
 
 -- the direction of one with which nothing is wrong is 0
 pub kept_undirected : (nid dir bits : ℕ) → other_fault ToTrack nid dir bits ≡ None → dir ≡ 0
-kept_undirected nid dir bits h = eqb-true dir 0 (direction_fine ToTrack dir (none_both _ _ (none_both _ _ h).0).1)
+kept_undirected nid dir bits h = eqb-true dir 0 (direction_fine ToTrack dir (none_both _ _ (none_both _ _ h).1).0)
 
 -- so it is one of no direction
 pub kept_alike : (nid dir bits : ℕ) (e : BuildFault) → other_fault ToTrack nid dir bits ≡ None → other_fault ToTrack nid 0 bits ≡ Some e → ⊥

@@ -10,7 +10,6 @@ use Rattle.etcs_vars.proofs.Prefixes.{admits_parts}
 use Rattle.etcs_tables.specs.declared.row.Way.TheVariants.{ToTrack}
 use Rattle.etcs_tables.specs.Layouts.{Layout, whole, one, Reads}
 use Rattle.etcs_tables.specs.Rows.{found, message_row_to, message_rows_to}
-use Rattle.etcs_bodies.specs.Faults.{number_fault}
 use Rattle.etcs_bodies.specs.laws.Takes.{number_ok, admitted}
 use Rattle.etcs_messages.specs.Kinds.{OfRow, IsOwn, IsOwnNumbers, IsMadeOf, OwnLaws}
 use Rattle.etcs_train.specs.declared.body.TrainBody.{TrainBody}
@@ -51,7 +50,7 @@ time_row n h = at_time (λ k. message_row_to ToTrack k ≡ Some (one T_TRAIN who
 -- ---- A body is a reading of its row.
 
 reads : (b : TrainBody) → IsOwn train_body b → OfRow ToTrack (nid_of_body b) (body_reading b)
-unfolding Reads number_fault
+unfolding Reads
 reads (Plain n) h = (whole, plain_row n h.variant, refl)
 reads (TrainTime n t) h = (_, time_row n h.variant, (t, [], time_admitted t h.types, refl, refl))
 reads (Status q) h = (_, refl, (q, [], admitted Q_STATUS q h.variables, refl, refl))
@@ -92,7 +91,7 @@ time_made n h r (t, r', a, e, none) =
     rw (all, h) made
 
 status_made : Made 157 (one Q_STATUS whole)
-unfolding Reads number_fault
+unfolding Reads
 status_made r (q, r', a, e, none) =
     let all : r ≡ (Q_STATUS, q) ∷ [] = rw (e, none) refl in
     let own : IsOwn train_body (Status q) = record { variant = refl; variables = number_ok Q_STATUS q a; types = tt } in

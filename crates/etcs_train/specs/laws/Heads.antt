@@ -7,11 +7,11 @@ use Rattle.etcs_vars.specs.Vars.{admits}
 use Rattle.etcs_vars.specs.Reading.{Reading, numbers, spelled}
 use Rattle.etcs_vars.proofs.Prefixes.{admits_parts}
 use Rattle.etcs_tables.specs.declared.row.Way.TheVariants.{ToTrack}
-use Rattle.etcs_bodies.specs.Faults.{number_fault}
 use Rattle.etcs_bodies.specs.laws.Repeats.{bit_count_is}
 use Rattle.etcs_bodies.specs.laws.Takes.{number_ok, admitted}
 use Rattle.etcs_reader.specs.Fields.{ReadsFields}
-use Rattle.etcs_messages.specs.Kinds.{IsHead, HeadLaws, head_row}
+use Rattle.etcs_messages.specs.Kinds.{IsHead, HeadLaws}
+use Rattle.etcs_tables.specs.Headers.{head_row}
 use Rattle.etcs_train.specs.declared.body.TrainHead.{TrainHead}
 use Rattle.etcs_train.specs.Bodies.{head_variables, head_by, train_head}
 
@@ -19,7 +19,6 @@ pub time_admitted : (n : ℕ) → n < 2 ^ 32 → IsTrue (admits T_TRAIN n)
 time_admitted n h = grind (arith, nat_tests)
 
 reads : (h : TrainHead) → IsHead train_head h → ReadsFields (head_row ToTrack) (head_variables h)
-unfolding number_fault
 reads h i = (h.t_train, _, time_admitted h.t_train i.types, refl, (h.nid_engine, _, admitted NID_ENGINE h.nid_engine i.variables, refl, refl))
 
 pub head_bits : (h : TrainHead) → 56 ≡ length (spelled (head_variables h))
@@ -38,7 +37,6 @@ pub record HeadRead (r : Reading) : Type 0 where
   pub fine : HeadNumbers (numbers r)
 
 pub head_read : (r : Reading) → ReadsFields (head_row ToTrack) r → HeadRead r
-unfolding number_fault
 head_read r (t, r1, a, e1, (n, r2, b, e2, e3)) =
     let front : Reading = (T_TRAIN, t) ∷ (NID_ENGINE, n) ∷ [] in
     let all : r ≡ front = rw (e1, e2, e3) refl in

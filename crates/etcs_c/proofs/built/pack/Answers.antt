@@ -1,8 +1,8 @@
 use Rattle.std.proofs.Common.{◌≡◌, ◌+◌, ◌/◌, List, [], ◌∷◌, ◌++◌, length, take, drop, get_or, refl, sym, ap, subst, ◌∙◌, arith}
 use Rattle.std.proofs.lemmas.List.{take-append-drop, take_all, take_more}
 use Rattle.etcs_bits.specs.Bits.{bits}
-use Rattle.etcs_sent.specs.declared.fields.EtcsField.{EtcsField}
-use Rattle.etcs_c.specs.Fields.{AreFit, packed, whole_bytes}
+use Rattle.etcs_c.specs.declared.fields.EtcsField.{EtcsField}
+use Rattle.etcs_c.specs.ItemFields.{AreFit, packed, whole_bytes}
 use Rattle.etcs_c.proofs.Packs.{Packs, packs_bytes, packs_more, packs_unfit}
 use Rattle.etcs_c.proofs.built.pack.Goals as goal
 

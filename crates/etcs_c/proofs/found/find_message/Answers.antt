@@ -2,7 +2,7 @@ use Rattle.std.proofs.Common.{[]}
 use Rattle.etcs_bits.specs.Bits.{bits}
 use Rattle.etcs_messages.specs.Messages.{IsMessage, message_value}
 use Rattle.etcs_text.specs.Entries.{message_kind, of_message}
-use Rattle.etcs_entries.proofs.ItemFeeds.{message_feeds}
+use Rattle.etcs_text.proofs.ItemFeeds.{message_feeds}
 use Rattle.etcs_c.proofs.Firsts.{first_more, first_refused, first_whole}
 use Rattle.etcs_c.proofs.found.find_message.Goals as goal
 

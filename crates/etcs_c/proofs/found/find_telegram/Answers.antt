@@ -3,8 +3,8 @@ use Rattle.etcs_bits.specs.Bits.{bits}
 use Rattle.etcs_telegram.specs.Readers.{ReaderValue}
 use Rattle.etcs_telegram.specs.declared.size.Size.{Size}
 use Rattle.etcs_text.specs.Entries.{EntryReads, kind_of}
-use Rattle.etcs_entries.specs.Readers.{Feeds, progress_of, telegram_item}
-use Rattle.etcs_entries.proofs.ItemFeeds.{telegram_feeds}
+use Rattle.etcs_text.specs.Readers.{Feeds, progress_of, telegram_item}
+use Rattle.etcs_text.proofs.ItemFeeds.{telegram_feeds}
 use Rattle.etcs_c.proofs.Firsts.{first_ended, first_more, first_refused, first_taken, first_whole}
 use Rattle.etcs_c.proofs.found.find_telegram.Goals as goal
 

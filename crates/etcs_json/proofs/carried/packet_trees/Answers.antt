@@ -2,7 +2,7 @@ use Rattle.std.proofs.Common.{sym, subst}
 use Rattle.serde_json.specs.Data.{Items}
 use Rattle.serde_json.specs.View.{view}
 use Rattle.etcs_json.specs.Loose.{packets_of, way_of}
-use Rattle.etcs_packet_json.specs.TreeReading.{ArePacketTrees}
+use Rattle.etcs_json_trees.specs.TreeReading.{ArePacketTrees}
 use Rattle.etcs_json.proofs.CarriedTrees.{trees_found, trees_missing}
 use Rattle.etcs_json.proofs.carried.packet_trees.Goals as goal
 

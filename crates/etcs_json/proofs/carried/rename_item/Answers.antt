@@ -6,7 +6,7 @@ use Rattle.etcs_vars.specs.Reading.{spelled}
 use Rattle.etcs_packets.specs.declared.packet.Packet.{Packet}
 use Rattle.etcs_packets.specs.PacketValues.{packet_value}
 use Rattle.etcs_packets.specs.PacketReadings.{packets_reading}
-use Rattle.etcs_radio.specs.Readings.{body_of}
+use Rattle.etcs_messages.specs.Readings.{body_of}
 use Rattle.etcs_telegram.specs.Telegrams.{telegram_value}
 use Rattle.etcs_json.proofs.CarriedSpellings.{message_renamed, message_room, message_stays, telegram_renamed, telegram_room, track_not}
 use Rattle.etcs_json.proofs.carried.rename_item.Goals as goal

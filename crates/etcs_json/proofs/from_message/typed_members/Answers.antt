@@ -1,6 +1,6 @@
 use Rattle.std.proofs.Common.{sym, ap, ◌∙◌}
 use Rattle.serde_json.specs.Data.{object, string}
-use Rattle.etcs_packet_json.proofs.MemberLemmas.{inside, after_one, after_two, all_six, valued}
+use Rattle.etcs_json_trees.proofs.MemberLemmas.{inside, after_one, after_two, all_six, valued}
 use Rattle.etcs_json.proofs.from_message.typed_members.Goals as goal
 
 pub returns-in_err-text-clause-none : goal.returns-in_err-text-clause-none

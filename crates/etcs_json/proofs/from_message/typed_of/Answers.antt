@@ -2,7 +2,7 @@ use Rattle.serde_json.specs.View.{view}
 use Rattle.std.proofs.Common.{◌≡◌, map, sym, ◌∙◌, Some}
 use Rattle.std.specs.Prelude.{IsSome}
 use Rattle.etcs_messages.specs.Messages.{values_of}
-use Rattle.etcs_packet_json.specs.Loose.{unnamed}
+use Rattle.etcs_json_trees.specs.Loose.{unnamed}
 use Rattle.etcs_json.proofs.MessageTrees.{typed_message_some, typed_message_only, one_value}
 use Rattle.etcs_json.proofs.from_message.typed_of.Goals as goal
 

@@ -2,7 +2,7 @@ use Rattle.std.proofs.Common.{◌≡◌, map, sym, ◌∙◌, Some}
 use Rattle.serde_json.specs.View.{view}
 use Rattle.etcs_tables.specs.declared.row.Way.TheVariants.{ToTrain}
 use Rattle.etcs_packets.specs.PacketValues.{packet_value}
-use Rattle.etcs_packet_json.specs.Loose.{unnamed}
+use Rattle.etcs_json_trees.specs.Loose.{unnamed}
 use Rattle.etcs_json.specs.Loose.{unnamed_telegram}
 use Rattle.etcs_json.proofs.TelegramTrees.{telegram_says, telegram_some, values_at}
 use Rattle.etcs_json.proofs.from_telegram.telegram_of.Goals as goal

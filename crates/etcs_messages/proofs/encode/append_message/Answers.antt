@@ -1,6 +1,6 @@
 use Rattle.std.proofs.Common.{◌≡◌, sym, ap, subst, ◌∙◌}
 use Rattle.etcs_vars.specs.Reading.{spelled}
-use Rattle.etcs_words.specs.WordSinks.{and_bits}
+use Rattle.etcs_vars.specs.WordSinks.{and_bits}
 use Rattle.etcs_messages.specs.declared.message.Content.{Content}
 use Rattle.etcs_messages.specs.declared.message.Content.TheVariants as content
 use Rattle.etcs_messages.specs.Messages.{IsTyped, IsMessage}

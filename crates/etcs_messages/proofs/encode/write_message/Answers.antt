@@ -1,6 +1,6 @@
 use Rattle.std.proofs.Common.{rules, ◌≡◌, ℕ, ◌*◌, length, sym, ap, ◌∙◌}
 use Rattle.etcs_vars.specs.Reading.{spelled}
-use Rattle.etcs_words.proofs.WordSinks.{fills}
+use Rattle.etcs_vars.proofs.WordSinks.{fills}
 use Rattle.etcs_messages.specs.Readings.{message_reading}
 use Rattle.etcs_messages.proofs.encode.write_message.Goals as goal
 

@@ -21,7 +21,7 @@ returns-clause-ok g c =
     behind_ok r old (codes "{\"data\":\"") one (x ++ (b ++ n)) new c.in_ok-extend_from_slice.ensures.items
     (behind_ok r one x two (b ++ n) new c.in_ok-write_slice.ensures.ok
     (behind_ok r two b three n new c.in_ok-write_behind.ensures.ok
-    (on_ok r three new _ _ (ap (λ (k : ℕ). decimal k ++ codes "}") (c.from.ensures ∙ c.number_of.ensures)) c.write_decimal_and.ensures.ok)))
+    (on_ok r three new _ _ (ap (λ (k : ℕ). decimal k ++ codes "}") (c.from.ensures ∙ c.nid.ensures)) c.write_decimal_and.ensures.ok)))
 
 pub returns-clause-err : goal.returns-clause-err
 returns-clause-err g c =

@@ -31,7 +31,7 @@ returns-clause-ok g c =
     behind_ok r old (fields_front (sent_dir g.P.AnyPacket.WAY v)) one (x ++ (b ++ n)) new c.in_ok-write_front.ensures.ok
     (behind_ok r one x two (b ++ n) new c.in_ok-write_fields.ensures.ok
     (behind_ok r two b three n new c.in_ok-extend_from_slice.ensures.items
-    (on_ok r three new _ _ (ap (λ (k : ℕ). decimal k ++ codes "}") (c.from.ensures ∙ c.number_of.ensures)) c.write_decimal_and.ensures.ok)))
+    (on_ok r three new _ _ (ap (λ (k : ℕ). decimal k ++ codes "}") (c.from.ensures ∙ c.nid.ensures)) c.write_decimal_and.ensures.ok)))
 
 pub returns-clause-err : goal.returns-clause-err
 returns-clause-err g c =

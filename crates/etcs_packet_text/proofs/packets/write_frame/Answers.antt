@@ -10,7 +10,7 @@ use Rattle.etcs_packet_text.proofs.packets.write_frame.Goals as goal
 pub returns-in-Some-clause-ok : goal.returns-in-Some-clause-ok
 returns-in-Some-clause-ok g c =
     let dir = c.in-Some.dir in
-    let bits = c.full_bits.result in
+    let bits = c.bit_len.result in
     let same = ap (λ (w : Way). flat_map variable_line (directed w dir ((L_PACKET, bits) ∷ []))) c.WAY.ensures in
-    let lines = frame_is g.P.AnyPacket.WAY (g.P.AnyPacket.form c.args.packet.now).value dir bits (sym c.in-Some.is ∙ c.direction.ensures) c.full_bits.ensures.bits in
+    let lines = frame_is g.P.AnyPacket.WAY (g.P.AnyPacket.form c.args.packet.now).value dir bits (sym c.in-Some.is ∙ c.dir.ensures) c.bit_len.ensures.bits in
     on_ok c.write_direction_and_length.result c.args.out.now.items c.write_direction_and_length.new.out.items _ _ (same ∙ lines) c.write_direction_and_length.ensures.ok

@@ -11,13 +11,13 @@ returns-clause-ok g c =
     let old = c.args.out.now.items in
     let xs : Reading = variables_of (g.P.AnyPacket.form c.args.packet.now).value in
     let opened : c.open-sink.result ≡ (old ++ 91 ∷ [], false) = c.open-sink.ensures ∙ ap (λ (t : List ℕ). (t, false)) c.in_ok-extend_from_slice.ensures.items in
-    let is : c.send_variables-sent.new.out ≡ with_pairs (old ++ 91 ∷ [], false) xs = c.in_ok-sent.ensures.ok ∙ ap (λ (s : Listed). with_pairs s xs) opened in
-    closed_ok c.extend_from_slice-2.result pair_tree old c.into_text.result.items c.extend_from_slice-2.new.self.items c.send_variables-sent.new.out xs is c.into_text.ensures c.extend_from_slice-2.ensures.items
+    let is : c.send_body-sent.new.out ≡ with_pairs (old ++ 91 ∷ [], false) xs = c.in_ok-sent.ensures.ok ∙ ap (λ (s : Listed). with_pairs s xs) opened in
+    closed_ok c.extend_from_slice-2.result pair_tree old c.into_text.result.items c.extend_from_slice-2.new.self.items c.send_body-sent.new.out xs is c.into_text.ensures c.extend_from_slice-2.ensures.items
 
 pub returns-clause-err : goal.returns-clause-err
 returns-clause-err g c =
     let old = c.args.out.now.items in
     let xs : Reading = variables_of (g.P.AnyPacket.form c.args.packet.now).value in
     let opened : c.open-sink.result ≡ (old ++ 91 ∷ [], false) = c.open-sink.ensures ∙ ap (λ (t : List ℕ). (t, false)) c.in_ok-extend_from_slice.ensures.items in
-    let is : c.send_variables-sent.new.out ≡ with_pairs (old ++ 91 ∷ [], false) xs = c.in_ok-sent.ensures.ok ∙ ap (λ (s : Listed). with_pairs s xs) opened in
-    closed_err c.extend_from_slice-2.result pair_tree old c.into_text.result.items c.extend_from_slice-2.new.self.items c.send_variables-sent.new.out xs is c.into_text.ensures c.extend_from_slice-2.ensures.items
+    let is : c.send_body-sent.new.out ≡ with_pairs (old ++ 91 ∷ [], false) xs = c.in_ok-sent.ensures.ok ∙ ap (λ (s : Listed). with_pairs s xs) opened in
+    closed_err c.extend_from_slice-2.result pair_tree old c.into_text.result.items c.extend_from_slice-2.new.self.items c.send_body-sent.new.out xs is c.into_text.ensures c.extend_from_slice-2.ensures.items

@@ -1,7 +1,7 @@
 use Rattle.std.proofs.Common.{◌≡◌, map, take}
 use Rattle.etcs_vars.specs.Reading.{spelled}
 use Rattle.etcs_packets.specs.PacketReadings.{readings_to}
-use Rattle.etcs_words.specs.WordSinks.{and_bits}
+use Rattle.etcs_vars.specs.WordSinks.{and_bits}
 use Rattle.etcs_packets.proofs.any_packet.append_all.Given as goal
 
 -- the packets so far are put

@@ -10,13 +10,13 @@ pub loop-packet-preserved : goal.loop-packet-preserved
 loop-packet-preserved g c =
     let l = c.loop-packet in
     let p = c.packet-item.result in
-    let fits : bits_to g.P.AnyPacket.WAY (g.P.AnyPacket.form p).value ≤ l.left = omega (arith, c.full_bits-bits.ensures.bits) in
-    rw c.full_bits-bits.ensures.bits (leaves_next g.P.AnyPacket.WAY g.P.AnyPacket.form c.args.room c.args.packets.now l.packet-index l.left p c.loop-packet-test.true c.packet-item.is l.invariant fits c.hold.ensures.made c.hold.ensures.packet)
+    let fits : bits_to g.P.AnyPacket.WAY (g.P.AnyPacket.form p).value ≤ l.left = omega (arith, c.bit_len-bits.ensures.bits) in
+    rw c.bit_len-bits.ensures.bits (leaves_next g.P.AnyPacket.WAY g.P.AnyPacket.form c.args.room c.args.packets.now l.packet-index l.left p c.loop-packet-test.true c.packet-item.is l.invariant fits c.hold.ensures.made c.hold.ensures.packet)
 
 pub returns-then-left-bits-clause-none : goal.returns-then-left-bits-clause-none
 returns-then-left-bits-clause-none g c =
     let l = c.loop-packet in
-    let short : l.left < bits_to g.P.AnyPacket.WAY (g.P.AnyPacket.form c.packet-item.result).value = omega (arith, c.full_bits-bits.ensures.bits) in
+    let short : l.left < bits_to g.P.AnyPacket.WAY (g.P.AnyPacket.form c.packet-item.result).value = omega (arith, c.bit_len-bits.ensures.bits) in
     leaves_none g.P.AnyPacket.WAY g.P.AnyPacket.form c.args.room c.args.packets.now l.packet-index l.left c.packet-item.result c.loop-packet-test.true c.packet-item.is l.invariant short
 
 pub returns-clause-left : goal.returns-clause-left

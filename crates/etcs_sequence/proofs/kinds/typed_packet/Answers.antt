@@ -18,4 +18,4 @@ unreachable-requires c =
 pub returns-in-Ok-Some-clause-bits : goal.returns-in-Ok-Some-clause-bits
 returns-in-Ok-Some-clause-bits c =
     let s = rw c.in-Ok-Some.field-0-is at c.in-Ok-Some.ensures.some in
-    typed_made c.args.nid c.args.bits.now c.requires (packet_value c.in-Ok-Some.packet) c.direction.result c.direction.ensures c.holds.ensures.packet s.0 (s.1 ∙ c.body.ensures)
+    typed_made c.args.nid c.args.bits.now c.requires (packet_value c.in-Ok-Some.packet) c.direction.result c.direction.ensures c.hold.ensures.packet s.0 (s.1 ∙ c.body.ensures)

@@ -1,6 +1,6 @@
 use Rattle.std.proofs.Common.{rules, ◌≡◌, ℕ, ◌*◌, length, sym, ap, ◌∙◌}
 use Rattle.etcs_vars.specs.Reading.{spelled}
-use Rattle.etcs_words.proofs.WordSinks.{fills}
+use Rattle.etcs_vars.proofs.WordSinks.{fills}
 use Rattle.etcs_telegram.specs.Telegrams.{telegram_value}
 use Rattle.etcs_telegram.specs.Writing.{telegram_reading}
 use Rattle.etcs_telegram.proofs.Appending.{reading_length}

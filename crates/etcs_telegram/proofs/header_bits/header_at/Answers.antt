@@ -1,7 +1,7 @@
 use Rattle.std.proofs.Common.{◌+◌, arith}
 use Rattle.etcs_bits.specs.Bits.{bits}
 use Rattle.etcs_bits.proofs.Positions.{length-bits}
-use Rattle.etcs_telegram.specs.Telegrams.{header_row}
+use Rattle.etcs_tables.specs.Headers.{header_row}
 use Rattle.etcs_telegram.proofs.FrontSteps.{front_in}
 use Rattle.etcs_telegram.proofs.header_bits.header_at.Goals as goal
 

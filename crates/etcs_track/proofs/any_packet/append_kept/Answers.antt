@@ -1,9 +1,9 @@
 use Rattle.std.proofs.Common.{◌≡◌, [], ◌∷◌, ◌++◌, Bool, List, sym, ap, ◌∙◌}
 use Rattle.etcs_vars.specs.declared.var.Var.TheVariants.{NID_PACKET, L_PACKET, OTHER_DATA}
 use Rattle.etcs_vars.specs.Reading.{Reading, spelled, kept}
-use Rattle.etcs_words.specs.declared.word_sink.WordSink.{WordSink}
-use Rattle.etcs_words.specs.WordSinks.{and_bits}
-use Rattle.etcs_words.specs.laws.WordSinks.{spelled_both}
+use Rattle.etcs_vars.specs.declared.word_sink.WordSink.{WordSink}
+use Rattle.etcs_vars.specs.WordSinks.{and_bits}
+use Rattle.etcs_vars.specs.laws.WordSinks.{spelled_both}
 use Rattle.etcs_packets.proofs.PacketBits.{spelled_kept}
 use Rattle.etcs_track.proofs.any_packet.append_kept.Goals as goal
 

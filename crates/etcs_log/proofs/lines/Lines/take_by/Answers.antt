@@ -1,6 +1,6 @@
 use Rattle.std.proofs.Common.{◌≡◌, ◌∙◌, ℕ, Ok, Err, Result, ap, arith, refl}
-use Rattle.etcs_digits.specs.declared.digits.NoBytes.{NoBytes}
-use Rattle.etcs_digits.specs.declared.digits.NoBytes.TheVariants.{NoDigits, OddDigits}
+use Rattle.etcs_runs.specs.declared.digits.NoBytes.{NoBytes}
+use Rattle.etcs_runs.specs.declared.digits.NoBytes.TheVariants.{NoDigits, OddDigits}
 use Rattle.etcs_log.specs.Logs.{bad}
 use Rattle.etcs_log.proofs.Answering.{on_ok, line_says, answered_bytes_if, bad_none, bad_odd, counted_bad, slice_is}
 use Rattle.etcs_log.proofs.lines.Lines.take_by.Goals as goal

@@ -1,6 +1,6 @@
 use Rattle.std.proofs.Common.{rules, ◌+◌, ◌*◌, ◌^◌, ◌<◌, arith}
 use Rattle.etcs_vars.specs.Reading.{spelled}
-use Rattle.etcs_words.proofs.WordSinks.{appended}
+use Rattle.etcs_vars.proofs.WordSinks.{appended}
 use Rattle.etcs_messages.specs.Readings.{message_reading}
 use Rattle.etcs_messages.proofs.message.MessageOf.encode.Goals as goal
 

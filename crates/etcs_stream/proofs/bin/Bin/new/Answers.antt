@@ -1,4 +1,4 @@
-use Rattle.etcs_entries.specs.Readers.{seen_bits}
+use Rattle.etcs_text.specs.Readers.{seen_bits}
 use Rattle.etcs_stream.proofs.Standing.{stand_nothing}
 use Rattle.etcs_stream.proofs.bin.Bin.new.Goals as goal
 

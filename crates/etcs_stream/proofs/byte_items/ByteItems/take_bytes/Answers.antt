@@ -1,7 +1,7 @@
 use Rattle.std.proofs.Common.{◌∙◌, refl, [], ◌++◌, take, subst}
 use Rattle.std.proofs.lemmas.Result.{err_from_is_err_and}
 use Rattle.etcs_stream.specs.declared.job.Job.{Job}
-use Rattle.etcs_entries.specs.Readers.{seen_bits}
+use Rattle.etcs_text.specs.Readers.{seen_bits}
 use Rattle.etcs_stream.specs.Readers.{Awaits}
 use Rattle.etcs_stream.proofs.Streams.{Advances-none, Advances-then, Halts-then, cut_front}
 use Rattle.etcs_stream.proofs.Saying.{says_then}

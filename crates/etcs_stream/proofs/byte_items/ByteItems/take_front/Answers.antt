@@ -8,7 +8,7 @@ use Rattle.etcs_vars.specs.declared.feed.ReadFault.TheVariants.{Refused, Ended}
 use Rattle.etcs_bits.proofs.Positions.{length-bits}
 use Rattle.etcs_text.specs.Entries.{EntryReads}
 use Rattle.etcs_runs.specs.declared.fault.RunFault.TheVariants as fault
-use Rattle.etcs_entries.specs.Readers.{Feeds, seen_bits}
+use Rattle.etcs_text.specs.Readers.{Feeds, seen_bits}
 use Rattle.etcs_stream.proofs.Fronts.{more_front, done_front, stops_here}
 use Rattle.etcs_stream.proofs.Streams.{fed, feed_refuses}
 use Rattle.etcs_stream.proofs.byte_items.ByteItems.take_front.Goals as goal

@@ -1,5 +1,5 @@
 use Rattle.std.proofs.Common.{◌∙◌, refl, sym, arith}
-use Rattle.etcs_entries.specs.Readers.{seen_bits}
+use Rattle.etcs_text.specs.Readers.{seen_bits}
 use Rattle.etcs_stream.proofs.HexSteps.{Advances-empty}
 use Rattle.etcs_stream.proofs.Saying.{says_here}
 use Rattle.etcs_stream.proofs.hex_lines.HexLines.handle.Goals as goal

@@ -5,7 +5,7 @@ use Rattle.etcs_reader.specs.Rests.{Goes}
 use Rattle.etcs_telegram.proofs.FrontSteps.{front_left, front_leaps}
 use Rattle.etcs_telegram.specs.declared.phase.Phase.{Phase}
 use Rattle.etcs_telegram.specs.declared.phase.Phase.TheVariants.{Header, Packets}
-use Rattle.etcs_telegram.specs.Telegrams.{header_row}
+use Rattle.etcs_tables.specs.Headers.{header_row}
 use Rattle.etcs_telegram.specs.Lefts.{PacketsBehind, left_at, Follows}
 use Rattle.etcs_telegram.proofs.RestHolds.{header_stands, whole_header}
 use Rattle.etcs_telegram.proofs.rest.TelegramRest.leap_header.Goals as goal

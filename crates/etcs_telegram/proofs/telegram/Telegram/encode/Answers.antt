@@ -1,6 +1,6 @@
 use Rattle.std.proofs.Common.{◌*◌, ap, ◌∙◌, arith}
 use Rattle.etcs_vars.specs.Reading.{spelled}
-use Rattle.etcs_words.proofs.WordSinks.{appended}
+use Rattle.etcs_vars.proofs.WordSinks.{appended}
 use Rattle.etcs_telegram.specs.Telegrams.{container_bytes, telegram_value}
 use Rattle.etcs_telegram.specs.Writing.{telegram_reading}
 use Rattle.etcs_telegram.proofs.Appending.{reading_length}

@@ -33,9 +33,9 @@ seen c =
     let f = h.passed.follows in
     all_seen c.args.size (left_at s.size s.phase s.packets.left) same b (container_bits c.args.size c.args.bytes.now (c.if-bytes-container_bytes.false ∙ c.container_bytes.ensures)) t.size t.phase t.header.items t.packets.left t.packets.store.packets c.in-Ok.field-0 c.new-feeder.result.part c.feed.new.self.part h.passed.whole (f.same ∙ size) t.stands h.within c.new-feeder.ensures.part f.residual (f.held [] none) h.passed.bits h.more
 
-pub of_numbers-requires : goal.of_numbers-requires
-of_numbers-requires c =
-    let v = seen (goal.at.of_numbers-requires c).In-Ok in
+pub header_by-requires : goal.header_by-requires
+header_by-requires c =
+    let v = seen (goal.at.header_by-requires c).In-Ok in
     rw (c.as_slice.ensures.value, c.rest-rest.ensures) v.1
 
 pub overflow_sub-result : goal.overflow_sub-result
@@ -46,7 +46,7 @@ overflow_sub-result c =
 pub invariant_of-result : goal.invariant_of-result
 invariant_of-result c =
     let v = seen (goal.at.invariant_of-result c).In-Ok in
-    rw (c.of_numbers.ensures, c.as_slice.ensures.value, c.rest-rest.ensures, c.user_bits.ensures) v.0
+    rw (c.header_by.ensures, c.as_slice.ensures.value, c.rest-rest.ensures, c.user_bits.ensures) v.0
 
 pub returns-in-Ok-clause-ok : goal.returns-in-Ok-clause-ok
 returns-in-Ok-clause-ok c =

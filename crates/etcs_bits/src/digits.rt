@@ -1,0 +1,55 @@
+//! Bits as digits, and of digits.
+
+ghost use Rattle.std.specs.Prelude.{◌≡◌, ◌+◌, Bool, List, Some, IfOk, IfSome};
+ghost use Rattle.etcs_bits.specs.Bits.{bit};
+ghost use Rattle.etcs_bits.specs.Texts.{digits};
+
+use super::bits::Bits;
+use super::slice::BitSlice;
+use std::alloc::{AllocError, Global};
+use std::fmt;
+
+/// A digit for each bit, 0 or 1, in order.
+impl fmt::Display for BitSlice<'_> {
+    ghost output = { λ s. Some (digits s) };
+
+    fn fmt<W: fmt::Write>(&self, f: &mut fmt::Formatter<W>) -> fmt::Result {
+        for bit in self.iter() {
+            f.write_str(if bit { "1" } else { "0" })?;
+        }
+        Ok(())
+    }
+}
+
+/// The bit that a digit 0 or 1 stands for.
+fn bit_of(digit: u8) -> Option<bool>
+    ensures some { IfSome result (λ b. digit ≡ 48 + bit b) }
+    ensures only { (b : Bool) → digit ≡ 48 + bit b → result ≡ Some b }
+{
+    match digit {
+        b'0' => Some(false),
+        b'1' => Some(true),
+        _ => None,
+    }
+}
+
+impl Bits {
+    /// The bits that a text of digits 0 and 1 says, in its order. `None` where another byte is in it.
+    ///
+    /// # Errors
+    ///
+    /// `AllocError` where there is no memory.
+    pub fn from_digits(alloc: Global, text: &[u8]) -> Result<Option<Bits>, AllocError>
+        ensures some { IfOk result (λ o. IfSome o (λ b. text.now ≡ digits b)) }
+        ensures only { IfOk result (λ o. (b : List Bool) → text.now ≡ digits b → o ≡ Some b) }
+    {
+        let mut bits = Bits::new(alloc);
+        for digit in text {
+            match bit_of(*digit) {
+                Some(bit) => bits.push(bit)?,
+                None => return Ok(None),
+            }
+        }
+        Ok(Some(bits))
+    }
+}

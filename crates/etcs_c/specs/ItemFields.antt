@@ -1,0 +1,38 @@
+-- The bits of fields, and what a call answers of an item's.
+use Rattle.std.specs.Prelude.{◌≡◌, ℕ, ◌*◌, ◌/◌, ◌^◌, ◌<◌, ◌≤◌, All, flat_map, length, take, Bool, List, ◌⊎◌}
+use Rattle.etcs_bits.specs.Bits.{num}
+use Rattle.etcs_vars.specs.Reading.{Reading}
+use Rattle.etcs_text.specs.Entries.{Spells, entry_value}
+use Rattle.etcs_c.specs.declared.answer.EtcsAnswer.{EtcsAnswer}
+use Rattle.etcs_c.specs.declared.fields.EtcsField.{EtcsField}
+use Rattle.etcs_c.specs.Writes.{Starves, Writes}
+use Rattle.etcs_c.specs.Fields.{fields_of}
+use Rattle.etcs_c.specs.declared.found.Found.{Found}
+use Rattle.etcs_c.specs.declared.found.Found.TheVariants.{Whole, More, Refused, Memory}
+use Rattle.etcs_c.specs.Answers.{Says}
+
+-- ---- The bits of fields.
+
+-- one after another, each in its width
+abbrev pub packed : List EtcsField → List Bool
+packed fs = flat_map (λ f. num f.width f.number) fs
+
+-- a number of at most 64 bits has no more than its width says
+abbrev pub IsFit : EtcsField → Type 0
+IsFit f = (f.width ≤ 64) × (f.number < 2 ^ f.width)
+
+abbrev pub AreFit : List EtcsField → Type 0
+AreFit fs = All IsFit fs
+
+-- bits up to the last whole byte
+abbrev pub whole_bytes : List Bool → List Bool
+whole_bytes b = take (8 * (length b / 8)) b
+
+-- ---- What a call answers.
+
+-- of an item its bytes and its fields; else as a check, and nothing is written
+abbrev pub SaysFields : Found → List EtcsField → List EtcsField → ℕ → EtcsAnswer → Type 0
+SaysFields (Whole e k) old new s a = (a.taken ≡ k) × (((r : Reading) × Spells (entry_value e) r × Writes (fields_of r) old new s a) ⊎ Starves old new s)
+SaysFields More old new s a = Says More s a × (new ≡ old)
+SaysFields (Refused i x) old new s a = Says (Refused i x) s a × (new ≡ old)
+SaysFields Memory old new s a = Says Memory s a × (new ≡ old)

@@ -1,0 +1,95 @@
+//! What a call answers.
+
+ghost use Rattle.std.specs.Prelude.{◌≡◌, MatchResult};
+ghost use Rattle.etcs_c.specs.Writes.{Starves, WritesAs, name_field};
+
+use etcs_vars::Var;
+use std::alloc::AllocError;
+
+/// An item, or what is written of it.
+pub const WHOLE: u32 = 0;
+/// The bytes begin an item, and hold none.
+pub const MORE: u32 = 1;
+/// A bit is refused.
+pub const REFUSED: u32 = 2;
+/// The buffer is too short.
+pub const NO_ROOM: u32 = 3;
+/// Memory was refused.
+pub const NO_MEMORY: u32 = 4;
+/// No kind has this number.
+pub const UNKNOWN_KIND: u32 = 5;
+/// The JSON is that of no item of the kind.
+pub const BAD_JSON: u32 = 6;
+/// The variables are those of no item of the kind.
+pub const BAD_FIELDS: u32 = 7;
+
+/// What a call answers beside its status.
+#[repr(C)]
+#[derive(Drop)]
+pub struct EtcsAnswer {
+    /// How many bytes of the input the item takes.
+    pub taken: usize,
+    /// How many bytes or variables were written, or would be.
+    pub written: usize,
+    /// The first bit that is refused.
+    pub bit: usize,
+    /// The name of the variable that holds it, and zeros.
+    pub var: [u8; 32],
+}
+
+/// The variable's name, and zeros after it.
+#[tactic(auto, using(crate::proofs::Names::name_short))]
+fn name_field(var: Var) -> [u8; 32]
+    ensures { result ≡ name_field var }
+{
+    let name = var.name().as_bytes();
+    let mut field = [0; 32];
+    field[..name.len()].copy_from_slice(name);
+    field
+}
+
+/// Answers that this bit is refused, which the variable holds.
+pub fn refuse(bit: usize, var: Var, answer: &mut EtcsAnswer) -> u32
+    ensures status { result ≡ 2 }
+    ensures bit { answer.new.bit ≡ bit }
+    ensures var { answer.new.var ≡ name_field var }
+{
+    answer.bit = bit;
+    answer.var = name_field(var);
+    REFUSED
+}
+
+/// Writes to the front of a buffer, where it has room, and answers how many there are.
+fn write_out<T: Copy>(done: u32, items: &[T], out: &mut [T], answer: &mut EtcsAnswer) -> u32
+    ensures writes { WritesAs done items.now out.old out.new result answer.new }
+    ensures taken { answer.new.taken ≡ answer.old.taken }
+    ensures bit { answer.new.bit ≡ answer.old.bit }
+    ensures var { answer.new.var ≡ answer.old.var }
+{
+    let count = items.len();
+    answer.written = count;
+    if count > out.len() {
+        return NO_ROOM;
+    }
+    out[..count].copy_from_slice(items);
+    done
+}
+
+/// Writes what was made to the front of a buffer, where it has room and memory wasn't refused; the status is then this
+/// one.
+pub fn deliver<T: Copy>(
+    done: u32,
+    made: Result<Vec<T>, AllocError>,
+    out: &mut [T],
+    answer: &mut EtcsAnswer,
+) -> u32
+    ensures writes { MatchResult made (λ items. WritesAs done items.items out.old out.new result answer.new) (λ _. Starves out.old out.new result) }
+    ensures taken { answer.new.taken ≡ answer.old.taken }
+    ensures bit { answer.new.bit ≡ answer.old.bit }
+    ensures var { answer.new.var ≡ answer.old.var }
+{
+    match made {
+        Ok(items) => write_out(done, items.as_slice(), out, answer),
+        Err(AllocError) => NO_MEMORY,
+    }
+}

@@ -1,4 +1,0 @@
-pub mod Words
-pub mod Decoding
-pub mod Runs
-pub mod Pure

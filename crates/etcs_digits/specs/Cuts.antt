@@ -1,9 +1,0 @@
--- The characters at which a text is cut.
-use Rattle.std.specs.Prelude.{ℕ, Bool}
-use Rattle.etcs_digits.specs.declared.digits.Cut.{Cut}
-use Rattle.etcs_digits.specs.declared.digits.Cut.TheVariants.{Blanks, Joints}
-use Rattle.etcs_digits.specs.Digits.{is_blank, is_joint}
-
-abbrev pub parts_at : Cut → ℕ → Bool
-parts_at Blanks c = is_blank c
-parts_at Joints c = is_joint c

@@ -1,2 +1,0 @@
-pub mod ItemFeeds
-pub mod Verdicts

@@ -1,3 +1,0 @@
-pub mod Kinds
-pub mod Readers
-pub mod Verdicts

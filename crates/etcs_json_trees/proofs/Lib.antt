@@ -1,0 +1,16 @@
+pub mod CarriedPackets
+pub mod DigitLemmas
+pub mod FittingPackets
+pub mod Frames
+pub mod MemberLemmas
+pub mod OneTrees
+pub mod OwnPackets
+pub mod OwnTrees
+pub mod PacketTrees
+pub mod PairLemmas
+pub mod PlainPackets
+pub mod PlainTexts
+pub mod Reading
+pub mod Outcomes
+pub mod ListsFit
+pub mod ObjectsFit

@@ -1,0 +1,48 @@
+//! Numbers and bits as values of JSON.
+
+ghost use Rattle.std.specs.Prelude.{◌≡◌, ◌↔◌, ℕ, ◌<◌, IsTrue, List, Bool, Some, IfOk, IfSome};
+ghost use Rattle.serde_json.specs.Data.{string};
+ghost use Rattle.serde_json.specs.View.{view};
+ghost use Rattle.etcs_packet_text.specs.Trees.{bits_tree};
+ghost use Rattle.etcs_json_trees.specs.TreeReading.{plain};
+
+use etcs_bits::Bits;
+use serde_json::Value;
+use std::alloc::{AllocError, Global};
+
+/// The bits of a text of digits 0 and 1, in its order; `None` of any other value.
+///
+/// # Errors
+///
+/// `AllocError` where there is no memory.
+pub fn bits_in(alloc: Global, value: &Value) -> Result<Option<Bits>, AllocError>
+    ensures some { IfOk result (λ o. IfSome o (λ b. view value.now ≡ bits_tree b)) }
+    ensures only { IfOk result (λ o. (b : List Bool) → view value.now ≡ bits_tree b → o ≡ Some b) }
+{
+    match value.as_str() {
+        Some(text) => Bits::from_digits(alloc, text.as_bytes()),
+        None => Ok(None),
+    }
+}
+
+/// The number of a whole number without fraction or exponent that a byte holds; `None` of any other value.
+pub fn byte_in(value: &Value) -> Option<u8>
+    ensures some { IfSome result (λ n. view value.now ≡ plain n) }
+    ensures only { (n : ℕ) → n < 256 → view value.now ≡ plain n → result ≡ Some n }
+{
+    u8::try_from(value.as_u64()?).ok()
+}
+
+/// Whether a value is this text.
+pub(crate) fn is_text(value: &Value, text: &str) -> bool
+    ensures { IsTrue result ↔ (view value.now ≡ string text.now) }
+{
+    value.as_str() == Some(text)
+}
+
+/// Whether a value is the number 0.
+pub(crate) fn is_zero(value: &Value) -> bool
+    ensures { IsTrue result ↔ (view value.now ≡ plain 0) }
+{
+    value.as_u64() == Some(0)
+}

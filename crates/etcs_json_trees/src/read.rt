@@ -1,0 +1,215 @@
+//! Reading values: only those are made that an item may have at their place.
+
+ghost use Rattle.std.specs.Prelude.{◌≡◌, ◌≤◌, ◌<◌, ◌⊎◌, ◌++◌, [], ◌∷◌, Err, IfOk, MatchOption, None, OnOk, Some, length, option_map};
+ghost use Rattle.json.specs.Json.{items, members, parse_map, value};
+ghost use Rattle.serde_json.specs.Data.{Data, array, no_members, object, put};
+ghost use Rattle.serde_json.specs.Read.{converted, of_items, of_json, of_members};
+ghost use Rattle.serde_json.specs.View.{items_view, members_view, view};
+ghost use Rattle.etcs_json_trees.specs.Fits.{Fits, ItemsFit, MembersFit, members_weight};
+ghost use Rattle.etcs_json_trees.specs.Found.{Finds, HasNull, Keeps};
+
+use crate::fault::Fault;
+use crate::number::number;
+use crate::place::Place;
+use crate::skip::{skip, skip_items, skip_members};
+use crate::weight::{has_null, spend, spend_members};
+use json::{Reader, Token};
+use serde_json::{Map, Value};
+use std::alloc::{AllocError, Global};
+
+/// The next value in which lists and objects nest at most `depth` deep: none where it doesn't fit its place and the room.
+#[cycle(read)]
+pub(crate) fn read(
+    alloc: Global,
+    reader: &mut Reader<'_>,
+    depth: usize,
+    place: Place,
+    room: usize,
+) -> Result<Option<Value>, Fault>
+    ensures ok { IfOk result (λ o. Finds (converted of_json (value depth reader.old)) (Fits place room) (option_map view o) reader.new) }
+    ensures shorter { OnOk result (length reader.new < length reader.old) }
+    ensures err { result ≡ Err Fault.Invalid → converted of_json (value depth reader.old) ≡ None }
+{
+    let token = reader.next().ok_or(Fault::Invalid)?;
+    match token {
+        Token::String(text) => {
+            if !place.admits_scalar(room) {
+                return Ok(None);
+            }
+            Ok(Some(Value::String(String::from_str(alloc, text)?)))
+        }
+        Token::Number(text) => {
+            let Some(found) = number(text) else {
+                return Err(Fault::Invalid);
+            };
+            if !place.admits_scalar(room) {
+                return Ok(None);
+            }
+            Ok(Some(Value::Number(found)))
+        }
+        Token::Bool(_) => Ok(None),
+        Token::Null => Ok(None),
+        Token::EndObject | Token::EndArray | Token::Key(_) | Token::Bad => Err(Fault::Invalid),
+        Token::BeginArray => {
+            let inner = depth.checked_sub(1).ok_or(Fault::Invalid)?;
+            read_array(alloc, reader, inner, place, room)
+        }
+        Token::BeginObject => {
+            let inner = depth.checked_sub(1).ok_or(Fault::Invalid)?;
+            read_object(alloc, reader, inner, place, room)
+        }
+    }
+}
+
+/// The list whose bracket was taken.
+#[cycle(read)]
+fn read_array(
+    alloc: Global,
+    reader: &mut Reader<'_>,
+    depth: usize,
+    place: Place,
+    room: usize,
+) -> Result<Option<Value>, Fault>
+    ensures ok { IfOk result (λ o. Finds (parse_map array (converted of_items (items (value depth) (length reader.old) reader.old))) (Fits place room) (option_map view o) reader.new) }
+    ensures shorter { OnOk result (length reader.new < length reader.old) }
+    ensures err { result ≡ Err Fault.Invalid → converted of_items (items (value depth) (length reader.old) reader.old) ≡ None }
+{
+    let Some((inner, left)) = place.list(room) else {
+        skip_items(reader, depth)?;
+        return Ok(None);
+    };
+    Ok(read_items(alloc, reader, depth, inner, left)?.map(Value::Array))
+}
+
+/// The items of a list.
+#[cycle(read)]
+fn read_items(
+    alloc: Global,
+    reader: &mut Reader<'_>,
+    depth: usize,
+    place: Place,
+    room: usize,
+) -> Result<Option<Vec<Value>>, Fault>
+    ensures ok { IfOk result (λ o. Finds (converted of_items (items (value depth) (length reader.old) reader.old)) (ItemsFit place room) (option_map (λ v. items_view v.items) o) reader.new) }
+    ensures shorter { OnOk result (length reader.new < length reader.old) }
+    ensures err { result ≡ Err Fault.Invalid → converted of_items (items (value depth) (length reader.old) reader.old) ≡ None }
+{
+    let mut found = Vec::new(alloc);
+    let mut left = room;
+    'items: while !reader.take_end_array() {
+        let Some(item) = read(alloc, reader, depth, place, left)? else {
+            skip_items(reader, depth)?;
+            return Ok(None);
+        };
+        let Some(rest) = spend(&item, left) else {
+            unreachable!()
+        };
+        left = rest;
+        add(&mut found, item)?;
+    }
+    Ok(Some(found))
+}
+
+/// Adds an item. The first room is for two, as many as a pair has.
+fn add(found: &mut Vec<Value>, item: Value) -> Result<(), AllocError>
+    ensures { OnOk result (found.new.items ≡ found.old.items ++ item ∷ []) }
+{
+    if found.is_empty() {
+        found.reserve_exact(2)?;
+    }
+    found.push(item)?;
+    Ok(())
+}
+
+/// The object whose brace was taken.
+#[cycle(read)]
+fn read_object(
+    alloc: Global,
+    reader: &mut Reader<'_>,
+    depth: usize,
+    place: Place,
+    room: usize,
+) -> Result<Option<Value>, Fault>
+    ensures ok { IfOk result (λ o. Finds (parse_map object (converted (λ js. of_members js no_members) (members (value depth) (length reader.old) reader.old))) (Fits place room) (option_map view o) reader.new) }
+    ensures shorter { OnOk result (length reader.new < length reader.old) }
+    ensures err { result ≡ Err Fault.Invalid → converted (λ js. of_members js no_members) (members (value depth) (length reader.old) reader.old) ≡ None }
+{
+    let Some(left) = place.object(room) else {
+        skip_members(reader, depth)?;
+        return Ok(None);
+    };
+    Ok(read_members(alloc, reader, depth, place, left)?.map(Value::Object))
+}
+
+/// The members of an object. One that doesn't fit is null until its name comes again.
+#[cycle(read)]
+fn read_members(
+    alloc: Global,
+    reader: &mut Reader<'_>,
+    depth: usize,
+    place: Place,
+    room: usize,
+) -> Result<Option<Map<String, Value>>, Fault>
+    ensures ok { IfOk result (λ o. Finds (converted (λ js. of_members js no_members) (members (value depth) (length reader.old) reader.old)) (MembersFit place room) (option_map (λ m. members_view m.entries) o) reader.new) }
+    ensures shorter { OnOk result (length reader.new < length reader.old) }
+    ensures err { result ≡ Err Fault.Invalid → converted (λ js. of_members js no_members) (members (value depth) (length reader.old) reader.old) ≡ None }
+{
+    let mut found = Map::new(alloc);
+    'members: while let Some(name) = reader.next_key()? {
+        let Some(inner) = place.member(name) else {
+            skip(reader, depth)?;
+            skip_members(reader, depth)?;
+            return Ok(None);
+        };
+        let left = inner.room(room);
+        read_member(alloc, reader, depth, inner, left, &mut found, name)?;
+    }
+    Ok(finished(found, room))
+}
+
+/// The value of a member of this name, which is null before it is read.
+#[cycle(read)]
+fn read_member(
+    alloc: Global,
+    reader: &mut Reader<'_>,
+    depth: usize,
+    place: Place,
+    room: usize,
+    found: &mut Map<String, Value>,
+    name: &str,
+) -> Result<(), Fault>
+    ensures ok { OnOk result ((d : Data) × (e : Data) × (converted of_json (value depth reader.old) ≡ Some (d, reader.new)) × Keeps (Fits place room d) d e × (members_view found.new.entries ≡ put name.now e (members_view found.old.entries))) }
+    ensures shorter { OnOk result (length reader.new < length reader.old) }
+    ensures err { result ≡ Err Fault.Invalid → converted of_json (value depth reader.old) ≡ None }
+{
+    set(alloc, found, name, Value::Null)?;
+    if let Some(member) = read(alloc, reader, depth, place, room)? {
+        set(alloc, found, name, member)?;
+    }
+    Ok(())
+}
+
+/// Sets the member of this name.
+fn set(
+    alloc: Global,
+    found: &mut Map<String, Value>,
+    name: &str,
+    value: Value,
+) -> Result<(), AllocError>
+    ensures { OnOk result (members_view found.new.entries ≡ put name.now (view value) (members_view found.old.entries)) }
+{
+    let key = String::from_str(alloc, name)?;
+    drop(found.insert(key, value)?);
+    Ok(())
+}
+
+/// The members, if none is null and they have the room.
+fn finished(found: Map<String, Value>, room: usize) -> Option<Map<String, Value>>
+    ensures { MatchOption result (HasNull (members_view found.entries) ⊎ (room < members_weight (members_view found.entries)))
+        (λ m. (members_view m.entries ≡ members_view found.entries) × (HasNull (members_view found.entries) → ⊥) × (members_weight (members_view found.entries) ≤ room)) }
+{
+    if has_null(&found) || spend_members(&found, room).is_none() {
+        return None;
+    }
+    Some(found)
+}

@@ -1,0 +1,57 @@
+//! The tree of a line.
+
+ghost use Rattle.std.specs.Prelude.{◌≡◌, Err, IfNone, IfOk, IfSome, IsUtf8, None, Some, option_map};
+ghost use Rattle.serde_json.specs.Data.{Data};
+ghost use Rattle.serde_json.specs.Read.{read as read_text};
+ghost use Rattle.serde_json.specs.View.{view};
+ghost use Rattle.etcs_json_trees.specs.Fits.{FitsItem};
+ghost use Rattle.etcs_json_trees.specs.Found.{FindsTree};
+
+use crate::fault::Fault;
+use crate::place::Place;
+use crate::read::read;
+use json::{Reader, Scratch};
+use serde_json::Value;
+use std::alloc::{AllocError, Global};
+
+/// How deep lists and objects of JSON may nest.
+const MAX_DEPTH: usize = 127;
+
+/// The JSON of a line, if an item may have such a tree: an object of the members that items have, with lists and texts at
+/// their places, and no larger than that of the largest item. Of two members of one name the last counts. `None` where the
+/// line isn't UTF-8 or JSON, or no item has such a tree.
+///
+/// Of what doesn't fit nothing is made. Tried with lines of 1 MiB of many shapes, it took at most 4 MB besides the line,
+/// twice its length among them, and 24 KB of stack.
+///
+/// # Errors
+///
+/// `AllocError` where memory was refused, whatever the line is.
+pub fn tree_of(alloc: Global, line: &[u8]) -> Result<Option<Value>, AllocError>
+    ensures some { IfOk result (λ o. IfSome o (λ v. IsUtf8 line.now × (read_text line.now ≡ Some (view v)) × FitsItem (view v))) }
+    ensures none { IfOk result (λ o. IfNone o ((d : Data) → IsUtf8 line.now → read_text line.now ≡ Some d → FitsItem d → ⊥)) }
+{
+    let Ok(text) = simdutf8::compat::from_utf8(line) else {
+        return Ok(None);
+    };
+    let mut scratch = Scratch::new(alloc);
+    match whole(alloc, text, &mut scratch) {
+        Ok(tree) => Ok(tree),
+        Err(Fault::Invalid) => Ok(None),
+        Err(Fault::Memory) => Err(AllocError),
+    }
+}
+
+/// The JSON of a text, if an item may have such a tree.
+fn whole(alloc: Global, text: &str, scratch: &mut Scratch) -> Result<Option<Value>, Fault>
+    ensures ok { IfOk result (λ o. FindsTree (read_text text.now) (option_map view o)) }
+    ensures err { result ≡ Err Fault.Invalid → read_text text.now ≡ None }
+{
+    let mut reader = Reader::new(text, scratch)?;
+    let limit = Place::Item.limit();
+    let tree = read(alloc, &mut reader, MAX_DEPTH, Place::Item, limit)?;
+    if reader.next().is_some() {
+        return Err(Fault::Invalid);
+    }
+    Ok(tree)
+}

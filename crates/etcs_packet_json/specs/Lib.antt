@@ -1,4 +1,0 @@
-pub mod Digits
-pub mod Loose
-pub mod TreeParts
-pub mod TreeReading

@@ -1,4 +1,0 @@
-use Rattle.etcs_packets.proofs.parts.send.Goals as goal
-
-pub returns-in-ModeProfile-clause-ok : goal.returns-in-ModeProfile-clause-ok
-returns-in-ModeProfile-clause-ok g c = rw c.in-ModeProfile.is c.send-in-ModeProfile.ensures.ok

@@ -1,0 +1,109 @@
+//! What readers and messages ask of a packet to the train.
+
+ghost use Rattle.std.specs.Prelude.{◌≡◌, IfOk};
+ghost use Rattle.etcs_tables.specs.declared.row.Way.TheVariants.{ToTrain};
+ghost use Rattle.etcs_packets.specs.PacketValues.{form};
+ghost use Rattle.etcs_packets.specs.Outcomes.{IsMadeOf};
+
+use crate::any_packet::AnyPacket;
+use crate::list::packets;
+use crate::packet::Packet;
+use crate::typed::{Made, Source, hold};
+use crate::{by_number, of_each, write};
+use etcs_bits::{BitSlice, Bits};
+use etcs_flat::Other;
+use etcs_tables::Way;
+use etcs_vars::inner::{VarSink, Variables};
+use etcs_vars::{Var, WordSink};
+use std::alloc::{AllocError, Global};
+
+/// The typed packet of this number and direction with these numbers or bits after L_PACKET, if there is one.
+#[inline(always)]
+fn of_number<S: Source>(alloc: Global, nid: u8, dir: u8, source: &S) -> Made<Packet>
+    ensures { IfOk result (λ o. IsMadeOf form (S.says source.now) (S.is_of source.now ToTrain nid dir) nid dir o) }
+{
+    packets!(by_number, Way::ToTrain, nid, alloc, dir, source)
+}
+
+impl AnyPacket for Packet {
+    ghost use Rattle.etcs_tables.specs.declared.row.Way.TheVariants.{ToTrain};
+    ghost use Rattle.etcs_packets.specs.PacketValues.{form};
+    ghost use Rattle.etcs_packets.specs.laws.OnePacket.{one_packet};
+
+    const WAY: Way = Way::ToTrain;
+
+    ghost WAY = { ToTrain };
+
+    ghost form = { form };
+
+    ghost one = { one_packet };
+
+    fn hold(&self) {
+        packets!(
+            of_each,
+            self,
+            [marker => { marker.number(); }]
+            packet => hold(packet),
+            packet => { packet.nid(); }
+        )
+    }
+
+    fn nid(&self) -> u8 {
+        self.nid()
+    }
+
+    fn dir(&self) -> Option<u8> {
+        self.dir()
+    }
+
+    fn kept_bits(&self) -> Option<BitSlice<'_>> {
+        match self {
+            Packet::Other(kept) => Some(kept.body()),
+            _ => None,
+        }
+    }
+
+    fn send_body<S: VarSink>(&self, out: &mut S) -> Result<(), AllocError> {
+        packets!(
+            of_each,
+            self,
+            [marker => out.send(&[(Var::NID_VBCMK, u64::from(marker.number()))])]
+            packet => packet.send(out),
+            _ => out.send(&[])
+        )
+    }
+
+    fn bit_len(&self) -> usize {
+        self.bit_len()
+    }
+
+    #[inline]
+    fn append(&self, out: &mut WordSink<'_>) {
+        write::append_packet(self, out);
+    }
+
+    fn of_fields(alloc: Global, nid: u8, dir: u8, fields: &[u64]) -> Made<Packet> {
+        of_number(alloc, nid, dir, &fields)
+    }
+
+    #[inline(always)]
+    fn of_bits(alloc: Global, nid: u8, dir: u8, body: BitSlice<'_>) -> Made<Packet> {
+        of_number(alloc, nid, dir, &body)
+    }
+
+    fn of_kept(nid: u8, dir: u8, body: Bits) -> Packet {
+        match Other::new(nid, dir, body) {
+            Ok(other) => Packet::Other(other),
+            Err(_) => unreachable!(),
+        }
+    }
+
+    fn of_marker(number: u8) -> Option<Packet> {
+        let marker = etcs_flat::inner::marker(number).ok()?;
+        Some(Packet::VbcMarker(marker))
+    }
+
+    fn try_clone(&self, alloc: Global) -> Result<Packet, AllocError> {
+        self.try_clone(alloc)
+    }
+}

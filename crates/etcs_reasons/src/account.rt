@@ -1,0 +1,186 @@
+//! The variables of an item, one after another, up to its end or the first refused bit.
+
+ghost use Rattle.std.specs.Prelude.{◌≡◌, length, take, IfOk};
+ghost use Rattle.etcs_bits.specs.Bits.{bits};
+ghost use Rattle.etcs_vars.specs.Reading.{readings_of};
+ghost use Rattle.etcs_reader.specs.Rests.{Goes};
+ghost use Rattle.etcs_text.specs.Entries.{EntryReads};
+ghost use Rattle.etcs_reasons.specs.Accounts.{Accounts};
+
+use etcs_bits::BitSlice;
+use etcs_messages::inner::MessageRest;
+use etcs_radio::{Body, RadioHead};
+use etcs_reader::{Feeder, Stop, Stored};
+use etcs_sequence::ItemRest;
+use etcs_sequence::inner::bits_at;
+use etcs_telegram::Size;
+use etcs_telegram::inner::{TelegramRest, TelegramStore};
+use etcs_text::Kind;
+use etcs_train::{TrainBody, TrainHead};
+use etcs_vars::Var;
+use etcs_vars::inner::VarSink;
+use std::alloc::{AllocError, Global};
+use std::marker::Model;
+
+/// No item has more bytes.
+pub const MOST_BYTES: usize = 1023;
+
+/// The first bits of a variable that isn't whole.
+#[derive(Clone, Copy, Debug, PartialEq, Eq)]
+pub struct Part {
+    /// The variable.
+    pub var: Var,
+    /// The bits as a number.
+    pub bits: u64,
+    /// How many they are.
+    pub count: usize,
+}
+
+/// Where an account ends.
+#[derive(Clone, Copy, Debug, PartialEq, Eq)]
+pub enum End {
+    /// With the item.
+    Whole,
+    /// The bytes end inside the item, after these bits of the next variable.
+    Open(Part),
+    /// No item continues with this bit, counted from 0. It is the variable's, of which these bits are in front of it.
+    Refused(usize, Part),
+}
+
+/// The whole variables of an item with their numbers, in the order of sending, and where they end.
+#[derive(Drop)]
+pub struct Account {
+    /// The variables and their numbers.
+    pub fields: Vec<(Var, u64)>,
+    /// What comes after them.
+    pub end: End,
+}
+
+/// Keeps the variables that it is sent.
+#[derive(Drop)]
+struct Trace {
+    fields: Vec<(Var, u64)>,
+}
+
+impl Model for Trace {
+    ghost use Rattle.etcs_vars.specs.Reading.{Reading};
+
+    ghost Value = { Reading };
+
+    ghost view = { λ s. s.fields.items };
+}
+
+impl Trace {
+    /// How many they are.
+    fn len(&self) -> usize
+        ensures { result ≡ length self.now }
+    {
+        self.fields.len()
+    }
+
+    /// The variables.
+    fn into_fields(self) -> Vec<(Var, u64)>
+        ensures { result.items ≡ self }
+    {
+        let Trace { fields } = self;
+        fields
+    }
+}
+
+impl VarSink for Trace {
+    ghost use Rattle.std.specs.Prelude.{◌++◌, ⊤};
+    ghost use Rattle.etcs_vars.specs.laws.Sinks.{pairs_none, pairs_both};
+
+    ghost with = { λ s p. s ++ p };
+
+    ghost failed = { λ s t. ⊤ };
+
+    ghost with_none = { pairs_none };
+
+    ghost with_both = { pairs_both };
+
+    ghost failed_behind = { λ s a t h. h };
+
+    fn send(&mut self, sent: &[(Var, u64)]) -> Result<(), AllocError> {
+        self.fields.extend_from_slice(sent)
+    }
+}
+
+/// The account of an item of this size that bytes begin with.
+fn account_of<R: ItemRest>(
+    alloc: Global,
+    size: R::Size,
+    bits: &BitSlice<'_>,
+) -> Result<Account, AllocError>
+    requires { Goes (readings_of (R.Reads size)) }
+    ensures { IfOk result (λ a. Accounts (readings_of (R.Reads size)) a.fields.items a.end bits.now) }
+{
+    let mut feeder = Feeder::new(Stored {
+        rest: R::begin(alloc, size),
+        store: Trace {
+            fields: Vec::new(alloc),
+        },
+    });
+    for at in 0..bits.len() {
+        let Some(bit) = bits.bit(at) else {
+            unreachable!()
+        };
+        if feeder.var().is_none() {
+            let fields = feeder.into_rest().store.into_fields();
+            return Ok(Account {
+                fields,
+                end: End::Whole,
+            });
+        }
+        let whole = feeder.rest().store.len();
+        let (part, count) = feeder.unfinished();
+        match feeder.bit(bit) {
+            Ok(()) => {}
+            Err(Stop::Refused { bit, var }) => {
+                let mut fields = feeder.into_rest().store.into_fields();
+                fields.truncate(whole);
+                let bits = part;
+                let end = End::Refused(bit, Part { var, bits, count });
+                return Ok(Account { fields, end });
+            }
+            Err(Stop::Memory) => return Err(AllocError),
+        }
+    }
+    let (bits, count) = feeder.unfinished();
+    let end = match feeder.var() {
+        None => End::Whole,
+        Some(var) => End::Open(Part { var, bits, count }),
+    };
+    let fields = feeder.into_rest().store.into_fields();
+    Ok(Account { fields, end })
+}
+
+impl Account {
+    /// The account of the item of a kind that the first 1,023 of the bytes begin with: its variables in the order of
+    /// sending, all of them, those that are whole where the bytes end, or those before the variable of which a bit is
+    /// refused, as the reader of the kind refuses it.
+    ///
+    /// # Errors
+    ///
+    /// Where memory is refused.
+    pub fn read(alloc: Global, kind: Kind, bytes: &[u8]) -> Result<Account, AllocError>
+        ensures { IfOk result (λ a. Accounts (readings_of (EntryReads kind)) a.fields.items a.end (take 8184 (bits bytes.now))) }
+    {
+        let bits = bits_at(bytes, 0, bytes.len().min(MOST_BYTES) * 8);
+        match kind {
+            Kind::Long => account_of::<TelegramRest<TelegramStore>>(alloc, Size::Long, &bits),
+            Kind::Short => account_of::<TelegramRest<TelegramStore>>(alloc, Size::Short, &bits),
+            Kind::Radio => account_of::<MessageRest<RadioHead, Body>>(alloc, (), &bits),
+            Kind::Train => account_of::<MessageRest<TrainHead, TrainBody>>(alloc, (), &bits),
+        }
+    }
+
+    /// How many bytes the variables have.
+    pub fn bytes(&self) -> usize {
+        let mut bits = 0usize;
+        for field in self.fields.as_slice() {
+            bits = bits.saturating_add(field.0.width());
+        }
+        bits / 8
+    }
+}

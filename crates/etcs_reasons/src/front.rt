@@ -1,0 +1,71 @@
+//! What the variables of an item before a refused one say about it.
+
+use crate::kinds::{user_bits, way_of};
+use crate::numbers::low_byte;
+use etcs_rows::Place;
+use etcs_tables::row_of;
+use etcs_text::Kind;
+use etcs_vars::Var;
+
+/// What is known after some variables of an item.
+#[derive(Drop)]
+pub(crate) struct Front {
+    pub(crate) kind: Kind,
+    /// How many bits the variables have.
+    pub(crate) bit: usize,
+    /// How many bits the packets of the item end within: those that it has, without PAD.
+    pub(crate) end: usize,
+    /// NID_MESSAGE.
+    pub(crate) message: u8,
+    /// NID_PACKET of the last packet, its first bit and its L_PACKET.
+    pub(crate) packet: u8,
+    pub(crate) start: usize,
+    pub(crate) length: usize,
+    /// What is left of the last packet's row, where it is typed.
+    pub(crate) place: Option<Place>,
+}
+
+impl Front {
+    /// What is known after these variables.
+    pub(crate) fn new(kind: Kind, fields: &[(Var, u64)]) -> Front {
+        let mut front = Front {
+            kind,
+            bit: 0,
+            end: user_bits(kind),
+            message: 0,
+            packet: 0,
+            start: 0,
+            length: 0,
+            place: None,
+        };
+        for (var, number) in fields {
+            front.pass(*var, *number);
+        }
+        front
+    }
+
+    /// After one variable more.
+    fn pass(&mut self, var: Var, number: u64) {
+        match var {
+            Var::NID_MESSAGE => self.message = low_byte(number),
+            Var::L_MESSAGE => self.end = (number & 1023) as usize * 8,
+            Var::NID_PACKET => {
+                self.packet = low_byte(number);
+                self.start = self.bit;
+                self.place = None;
+            }
+            Var::L_PACKET => {
+                self.length = (number & 8191) as usize;
+                self.place = row_of(way_of(self.kind), self.packet).map(Place::start);
+            }
+            _ => {
+                if let Some(place) = &mut self.place {
+                    if place.var().is_some() {
+                        place.pass(number);
+                    }
+                }
+            }
+        }
+        self.bit = self.bit.saturating_add(var.width());
+    }
+}

@@ -1,0 +1,13 @@
+//! For the crates above: how an account is laid out, what is said of an item that is refused or of a line that says no
+//! bytes, and what items of a kind have.
+
+pub use crate::account::MOST_BYTES;
+pub use crate::kinds::{user_bits, wanted_bytes, way_of};
+pub use crate::no_bytes::write_no_bytes;
+pub use crate::numbers::{low_byte, write_count_of};
+pub use crate::page::{FOOT, HEAD, write_bytes};
+pub use crate::reasons::write_not_admitted;
+pub use crate::refusal::write_cause;
+pub use crate::sheet::Sheet;
+pub use crate::table::write_table;
+pub use crate::text::Text;

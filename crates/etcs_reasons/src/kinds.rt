@@ -1,0 +1,32 @@
+//! What items of a kind have.
+
+use etcs_bits::peek;
+use etcs_tables::Way;
+use etcs_telegram::Size;
+use etcs_text::Kind;
+
+/// The way of the items of a kind.
+pub fn way_of(kind: Kind) -> Way {
+    match kind {
+        Kind::Long | Kind::Short | Kind::Radio => Way::ToTrain,
+        Kind::Train => Way::ToTrack,
+    }
+}
+
+/// How many bits items of a kind have before PAD: 0 where L_MESSAGE says it.
+pub fn user_bits(kind: Kind) -> usize {
+    match kind {
+        Kind::Long => Size::Long.user_bits(),
+        Kind::Short => Size::Short.user_bits(),
+        Kind::Radio | Kind::Train => 0,
+    }
+}
+
+/// How many bytes an item has that begins with these: of a message, what L_MESSAGE says, as far as it is there.
+pub fn wanted_bytes(kind: Kind, bytes: &[u8]) -> Option<usize> {
+    match kind {
+        Kind::Long => Some(104),
+        Kind::Short => Some(27),
+        Kind::Radio | Kind::Train => Some(peek(bytes, 8, 10)? as usize),
+    }
+}

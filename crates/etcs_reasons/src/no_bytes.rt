@@ -1,0 +1,21 @@
+//! Why lines of hexadecimal digits say no bytes.
+
+use crate::numbers::write_count_of;
+use etcs_runs::NoBytes;
+use std::alloc::AllocError;
+
+/// Appends why a line says no bytes: nothing of a line that is blank or a comment.
+///
+/// # Errors
+///
+/// Where memory is refused. A part of the text may then be in `out`.
+pub fn write_no_bytes(why: NoBytes, out: &mut String) -> Result<(), AllocError> {
+    match why {
+        NoBytes::Empty => Ok(()),
+        NoBytes::NoDigits => out.push_str("no hexadecimal digits at its end"),
+        NoBytes::OddDigits(count) => {
+            write_count_of(count, "digit", out)?;
+            out.push_str(", an odd number")
+        }
+    }
+}

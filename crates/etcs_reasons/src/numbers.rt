@@ -1,0 +1,17 @@
+//! The last byte of a number, and counts in words.
+
+use std::alloc::AllocError;
+
+/// The last 8 bits of a number.
+pub fn low_byte(number: u64) -> u8 {
+    (number & 255) as u8
+}
+
+/// Appends a count of what has this name in the singular.
+///
+/// # Errors
+///
+/// Where memory is refused. A part of the text may then be in `out`.
+pub fn write_count_of(count: usize, name: &str, out: &mut String) -> Result<(), AllocError> {
+    write!(out, "{count} {name}{}", if count == 1 { "" } else { "s" })
+}

@@ -1,0 +1,119 @@
+//! Why bytes are no item.
+
+ghost use Rattle.std.specs.Prelude.{ℕ, take, IfOk, IfSome, IsNone};
+ghost use Rattle.etcs_bits.specs.Bits.{bits};
+ghost use Rattle.etcs_vars.specs.declared.var.Var.{Var};
+ghost use Rattle.etcs_vars.specs.Reading.{readings_of};
+ghost use Rattle.etcs_vars.specs.Walking.{Refuses};
+ghost use Rattle.etcs_text.specs.Entries.{EntryReads};
+
+use crate::account::{Account, End};
+use crate::front::Front;
+use crate::kinds::{wanted_bytes, way_of};
+use crate::reasons::{often, write_reason};
+use crate::text::Text;
+use etcs_bits::peek;
+use etcs_tables::message_row;
+use etcs_text::Kind;
+use etcs_vars::Var;
+use std::alloc::{AllocError, Global};
+
+/// Where bytes stop being an item, and why.
+#[derive(Debug, Drop)]
+pub struct Reason {
+    /// The first bit with which no item continues, counted from 0.
+    pub bit: usize,
+    /// The variable that holds it.
+    pub var: Var,
+    /// Why, in a sentence with no capital and no full stop.
+    pub sentence: String,
+    /// What this most often comes of, in such words.
+    pub often: Option<&'static str>,
+}
+
+/// What to do where bytes are an item of another kind.
+#[rattlefmt::skip]
+static ADVICE: [(Kind, &str); 4] = [
+    (Kind::Long, "these bytes are a long telegram: --kind long"),
+    (Kind::Short, "these bytes are a short telegram: --kind short"),
+    (Kind::Radio, "these bytes are a message to the train: --kind radio"),
+    (Kind::Train, "these bytes are a message to the track: --kind train"),
+];
+
+/// Whether the bytes are an item of a kind, and may be meant so: not as a message that is kept whole, which any bytes may be.
+fn is_meant(alloc: Global, kind: Kind, bytes: &[u8]) -> Result<bool, AllocError> {
+    if let (Kind::Radio | Kind::Train, Some(number)) = (kind, bytes.first()) {
+        if message_row(way_of(kind), *number).is_none() {
+            return Ok(false);
+        }
+    }
+    let account = Account::read(alloc, kind, bytes)?;
+    Ok(account.end == End::Whole && account.bytes() == bytes.len())
+}
+
+/// What to do where the bytes are an item of a kind that is another than this one.
+fn advice(alloc: Global, kind: Kind, bytes: &[u8]) -> Result<Option<&'static str>, AllocError> {
+    for (other, text) in &ADVICE {
+        if *other != kind && is_meant(alloc, *other, bytes)? {
+            return Ok(Some(*text));
+        }
+    }
+    Ok(None)
+}
+
+/// Appends why the bytes of an account are no item, and answers what this most often comes of. Nothing where they are one.
+///
+/// # Errors
+///
+/// Where memory is refused.
+pub fn write_cause(
+    kind: Kind,
+    bytes: &[u8],
+    account: &Account,
+    out: &mut Text,
+) -> Result<Option<&'static str>, AllocError> {
+    let usual = match account.end {
+        End::Whole => return Ok(None),
+        End::Open(_) => {
+            let count = bytes.len();
+            match wanted_bytes(kind, bytes) {
+                Some(wanted) => write!(out, "{count} of {wanted} bytes are here"),
+                None => write!(out, "{count} of at least 3 bytes are here"),
+            }
+            None
+        }
+        End::Refused(_, part) => {
+            let front = Front::new(kind, account.fields.as_slice());
+            let number = peek(bytes, front.bit, part.var.width());
+            write_reason(&front, part, number, out);
+            often(kind, part.var)
+        }
+    };
+    Ok(advice(out.alloc(), kind, bytes)?.or(usual))
+}
+
+/// Why the first of the bytes, at most 1,023, begin no item of the kind: the bit that the kind's reader refuses, its
+/// variable, and the reason in a sentence. `None` where no bit is refused: they begin with an item, or end inside one.
+///
+/// # Errors
+///
+/// Where memory is refused.
+pub fn why(alloc: Global, kind: Kind, bytes: &[u8]) -> Result<Option<Reason>, AllocError>
+    ensures some { IfOk result (λ o. IfSome o (λ r. Refuses (readings_of (EntryReads kind)) (take 8184 (bits bytes.now)) r.bit r.var)) }
+    ensures none { IfOk result (λ o. IsNone o → (i : ℕ) (x : Var) → Refuses (readings_of (EntryReads kind)) (take 8184 (bits bytes.now)) i x → ⊥) }
+{
+    let account = Account::read(alloc, kind, bytes)?;
+    let (bit, part) = match account.end {
+        End::Whole => return Ok(None),
+        End::Open(_) => return Ok(None),
+        End::Refused(bit, part) => (bit, part),
+    };
+    let mut sentence = Text::new(alloc);
+    let often = write_cause(kind, bytes, &account, &mut sentence)?;
+    Ok(Some(Reason {
+        bit,
+        var: part.var,
+        sentence: sentence.into_string()?,
+        often,
+    }))
+}

@@ -1,0 +1,282 @@
+//! The table of an item: a line for each variable, packets and entries with lines of their own.
+
+use crate::account::{Account, End};
+use crate::meanings::write_meaning;
+use crate::names::{MESSAGES, TO_TRACK, TO_TRAIN, name_in};
+use crate::numbers::low_byte;
+use crate::sheet::Sheet;
+use crate::text::Text;
+use etcs_bits::peek;
+use etcs_tables::{CLOSING_BITS, MARKER_BITS, RowItem, Way, row_of};
+use etcs_vars::Var;
+
+/// Where the writer of a table is among the variables of an account.
+#[derive(Drop)]
+pub(crate) struct Table<'a> {
+    sheet: &'a mut Sheet,
+    way: Way,
+    bytes: &'a [u8],
+    account: &'a Account,
+    /// How many variables have their line.
+    at: usize,
+    /// How many bits those have.
+    bit: usize,
+    /// The first bit of the packet.
+    start: usize,
+    scale: Option<u64>,
+}
+
+/// Whether each bit is a variable of its own, of which one line speaks.
+fn is_kept(var: Var) -> bool {
+    matches!(var, Var::FILL | Var::OTHER_DATA | Var::PADDING | Var::PAD)
+}
+
+/// Writes the lines of all variables of an account.
+pub fn write_table(way: Way, bytes: &[u8], account: &Account, sheet: &mut Sheet) {
+    sheet.clear();
+    sheet.open_part();
+    let mut table = Table {
+        sheet,
+        way,
+        bytes,
+        account,
+        at: 0,
+        bit: 0,
+        start: 0,
+        scale: None,
+    };
+    table.lines();
+    table.unfinished();
+    table.sheet.close_part();
+}
+
+impl<'a> Table<'a> {
+    /// The next variable, if it is whole.
+    fn field(&self) -> Option<(Var, u64)> {
+        self.account.fields.get(self.at).copied()
+    }
+
+    /// The variable that comes next, whole or not.
+    fn next(&self) -> Option<Var> {
+        match (self.field(), self.account.end) {
+            (Some(field), _) => Some(field.0),
+            (None, End::Open(part) | End::Refused(_, part)) => Some(part.var),
+            (None, End::Whole) => None,
+        }
+    }
+
+    /// Writes the lines of all whole variables.
+    fn lines(&mut self) {
+        for _ in 0..self.account.fields.len() {
+            match self.field() {
+                None => return,
+                Some((Var::NID_PACKET, number)) => self.packet(number),
+                Some((var, _)) if is_kept(var) => self.run(var),
+                Some(_) => self.line(0, None),
+            }
+        }
+    }
+
+    /// Passes this many variables with this many bits, and answers the first and the last of the bits.
+    fn pass(&mut self, count: usize, bits: usize) -> (usize, usize) {
+        let first = self.bit;
+        self.at = self.at.saturating_add(count);
+        self.bit = first.saturating_add(bits);
+        (first, self.bit.saturating_sub(1))
+    }
+
+    /// Writes the line of the next variable, after which this item of its row comes.
+    fn line(&mut self, depth: usize, behind: Option<&RowItem>) {
+        let Some((var, number)) = self.field() else {
+            return;
+        };
+        let bits = self.pass(1, var.width());
+        if var == Var::Q_SCALE {
+            self.scale = Some(number);
+        }
+        self.sheet.clear();
+        write_number(var, number, &mut self.sheet.value);
+        write_meaning(var, number, self.scale, &mut self.sheet.meaning);
+        self.write_effect(var, number, behind);
+        self.sheet.line(depth, bits, var, false);
+    }
+
+    /// Appends what a number means for what follows it.
+    fn write_effect(&mut self, var: Var, number: u64, behind: Option<&RowItem>) {
+        let next = self.next();
+        let out = &mut self.sheet.meaning;
+        match (var, behind) {
+            (Var::L_PACKET, _) => write_end("packet", self.start, number, out),
+            (Var::L_MESSAGE, _) => write_end("message", 0, number.saturating_mul(8), out),
+            (Var::NID_MESSAGE, _) => out.push(name_in(MESSAGES, number).unwrap_or("")),
+            (Var::L_TEXT, _) => out.push("characters that follow"),
+            (_, Some(RowItem::Many(_))) => match number {
+                0 => out.push("no entry follows"),
+                1 => out.push("1 entry follows"),
+                _ => write!(out, "{number} entries follow"),
+            },
+            (_, Some(RowItem::When(guard, _))) if guard.test.passes(number) => {
+                if let Some(next) = next {
+                    let comma = if out.as_str().is_empty() { "" } else { ", " };
+                    write!(out, "{comma}{next} is next");
+                }
+            }
+            _ => {}
+        }
+    }
+
+    /// Writes the lines of a packet of this number.
+    fn packet(&mut self, number: u64) {
+        self.start = self.bit;
+        self.scale = None;
+        self.sheet.close_part();
+        self.sheet.clear();
+        write!(self.sheet.meaning, "packet {number}");
+        let name = match self.way {
+            Way::ToTrain => name_in(TO_TRAIN, number),
+            Way::ToTrack => name_in(TO_TRACK, number),
+        };
+        if let Some(name) = name {
+            write!(self.sheet.meaning, ", {name}");
+        }
+        self.write_extent();
+        self.sheet.open_part();
+        self.line(0, None);
+        for _ in 0..2 {
+            if let Some((Var::Q_DIR | Var::L_PACKET | Var::NID_VBCMK, _)) = self.field() {
+                self.line(0, None);
+            }
+        }
+        if let Some(row) = row_of(self.way, low_byte(number)) {
+            self.row(row.items, 0, 0);
+        }
+    }
+
+    /// Appends the first and the last bit of the packet whose frame comes next.
+    fn write_extent(&mut self) {
+        let first = self.bit;
+        let out = &mut self.sheet.meaning;
+        let fields = self.account.fields.as_slice();
+        for field in fields.iter().skip(self.at).take(3) {
+            let length = match *field {
+                (Var::L_PACKET, length) => length,
+                (Var::NID_VBCMK, _) => MARKER_BITS as u64,
+                (Var::NID_PACKET, 255) if self.way == Way::ToTrain => CLOSING_BITS as u64,
+                (Var::NID_PACKET | Var::Q_DIR, _) => continue,
+                _ => break,
+            };
+            return write!(out, ", bits {first} to {}", last_bit(first, length));
+        }
+        write!(out, ", from bit {first} on");
+    }
+
+    /// Writes the lines of the items of a row, after this number.
+    fn row(&mut self, items: &'static [RowItem], before: u64, depth: usize) {
+        let Some((item, rest)) = items.split_first() else {
+            return;
+        };
+        match item {
+            RowItem::One(_) => {
+                if let Some((_, number)) = self.field() {
+                    self.line(depth, rest.first());
+                    self.row(rest, number, depth);
+                }
+            }
+            RowItem::When(guard, count) => {
+                let (group, rest) = rest.split_at(rest.len().min(*count));
+                if guard.test.passes(before) {
+                    self.row(group, before, depth);
+                }
+                self.row(rest, before, depth);
+            }
+            RowItem::Many(count) => {
+                let (group, rest) = rest.split_at(rest.len().min(*count));
+                let inner = depth.saturating_add(1);
+                for entry in 0..before {
+                    if self.field().is_none() {
+                        return;
+                    }
+                    self.sheet.entry(inner, entry.saturating_add(1), before);
+                    self.row(group, 0, inner);
+                }
+                self.row(rest, before, depth);
+            }
+        }
+    }
+
+    /// Writes the line of a run of kept bits.
+    fn run(&mut self, var: Var) {
+        self.sheet.clear();
+        let meaning = &mut self.sheet.meaning;
+        let mut count = 0usize;
+        let mut ones = 0usize;
+        let fields = self.account.fields.as_slice();
+        for (next, bit) in fields.iter().skip(self.at) {
+            if *next != var {
+                break;
+            }
+            match count {
+                0..=63 => write!(meaning, "{bit}"),
+                64 => meaning.push(".."),
+                _ => {}
+            }
+            count = count.saturating_add(1);
+            ones = ones.saturating_add(*bit as usize);
+        }
+        if ones == 0 || ones == count {
+            meaning.clear();
+            meaning.push(if ones == 0 { "all zeros" } else { "all ones" });
+        }
+        write!(self.sheet.value, "{count} bits");
+        let bits = self.pass(count, count);
+        self.sheet.line(0, bits, var, false);
+    }
+
+    /// Writes the line of the variable that isn't whole, if there is one: its number where the bytes have all of it, else
+    /// how many bits they have.
+    fn unfinished(&mut self) {
+        self.sheet.clear();
+        let out = &mut self.sheet.meaning;
+        let (var, refused) = match self.account.end {
+            End::Open(part) if part.count > 0 => {
+                out.push("not whole");
+                (part.var, false)
+            }
+            End::Refused(bit, part) => {
+                write!(out, "refused at bit {bit}");
+                (part.var, true)
+            }
+            _ => return,
+        };
+        let mut count = var.width();
+        match peek(self.bytes, self.bit, count) {
+            Some(number) => write_number(var, number, &mut self.sheet.value),
+            None => {
+                count = self.bytes.len().saturating_mul(8).saturating_sub(self.bit);
+                write!(self.sheet.value, "{count} bits");
+            }
+        }
+        let bits = self.pass(0, count);
+        self.sheet.line(0, bits, var, refused);
+    }
+}
+
+/// Appends a number of the variable: NID_RADIO in hexadecimal, all others in decimal, D_REF with its sign.
+fn write_number(var: Var, number: u64, out: &mut Text) {
+    match var {
+        Var::NID_RADIO => write!(out, "{number:016x}"),
+        Var::D_REF if number > 32767 => write!(out, "-{}", 65536u64.saturating_sub(number)),
+        _ => write!(out, "{number}"),
+    }
+}
+
+/// The last of this many bits from one on.
+fn last_bit(first: usize, count: u64) -> u64 {
+    count.saturating_add(first as u64).saturating_sub(1)
+}
+
+/// Appends where a part ends that begins at a bit and has this many.
+fn write_end(what: &str, first: usize, count: u64, out: &mut Text) {
+    let last = last_bit(first, count);
+    write!(out, "so the {what} ends with bit {last}");
+}

@@ -1,0 +1,77 @@
+-- A line that is nothing but digits.
+use Rattle.std.proofs.Common.{◌≡◌, ℕ, ◌-◌, ◌<◌, Bool, true, false, cond, not, ◌&&◌, eqb, List, [], ◌∷◌, ◌++◌, length, map, reverse, take, drop, slice_index, inl, inr, refl, sym, ap, ◌∙◌, arith}
+use Rattle.std.specs.List.{list_all}
+use Rattle.std.proofs.lemmas.Bool.{cases_eq}
+use Rattle.std.proofs.lemmas.Bool.Decides.{nat_tests}
+use Rattle.std.proofs.lemmas.List.Sums.{AllPass-from_list_all, list_all-from_AllPass}
+use Rattle.hex.specs.Hex.{is_hex_digit}
+use Rattle.std.specs.Io.BufRead.{strip_last}
+use Rattle.etcs_runs.specs.Digits.{are_digits, bare, is_blank, is_joint, is_passed_over, is_x, last_digits, last_first, line_digits, part_digits, says_nothing, without_0x, without_mark, words}
+use Rattle.etcs_runs.proofs.Words.{words-word}
+
+not_blank : (c : ℕ) → is_hex_digit c ≡ true → not (is_blank c) ≡ true
+not_blank c h = grind (arith, nat_tests)
+
+not_joint : (c : ℕ) → is_hex_digit c ≡ true → not (is_joint c) ≡ true
+not_joint c h = grind (arith, nat_tests)
+
+not_x : (c : ℕ) → is_hex_digit c ≡ true → is_x c ≡ false
+not_x c h = grind (arith, nat_tests)
+
+not_equal : (c n : ℕ) → is_hex_digit c ≡ true → is_hex_digit n ≡ false → eqb c n ≡ false
+not_equal c n h other = elim (cases_eq c n) [
+  | inl is ↦ cc (sym other ∙ ap is_hex_digit (sym is) ∙ h)
+  | inr apart ↦ grind (arith, nat_tests)
+]
+
+and_false : (a b : Bool) → b ≡ false → (a && b) ≡ false
+and_false true b h = h
+and_false false b h = refl
+
+either : (a b : Bool) (xs : List ℕ) → b ≡ true → cond a ([] ++ xs) (cond b xs []) ≡ xs
+either true b xs h = refl
+either false b xs h = ap (λ (z : Bool). cond z xs []) h
+
+three : (a b : Bool) (xs zs : List ℕ) → zs ≡ xs → cond a ([] ++ xs) (cond b ([] ++ ([] ++ xs)) zs) ≡ xs
+three true b xs zs h = refl
+three false true xs zs h = refl
+three false false xs zs h = h
+
+module _ (line : List ℕ) (digits : list_all is_hex_digit line ≡ true) (two : 1 < length line) where
+  at_place : (i : ℕ) → i < length line → is_hex_digit (slice_index line i) ≡ true
+  at_place i lt = AllPass-from_list_all is_hex_digit line digits i 0 lt
+
+  some : 0 < length line
+  some = omega (arith, two)
+
+  apart_by : (at : ℕ → Bool) → ((c : ℕ) → is_hex_digit c ≡ true → not (at c) ≡ true) → list_all (λ c. not (at c)) line ≡ true
+  apart_by at f = list_all-from_AllPass (λ c. not (at c)) line (λ i d lt. f _ (AllPass-from_list_all is_hex_digit line digits i d lt))
+
+  no_mark : without_mark line ≡ line
+  no_mark =
+      let first = not_equal (slice_index line 0) 239 (at_place 0 some) refl in
+      rw first refl
+
+  no_comma : strip_last 44 line ≡ line
+  no_comma = ap (λ (b : Bool). cond b (take (length line - 1) line) line) (and_false _ (eqb (slice_index line (length line - 1)) 44) (not_equal _ 44 (at_place (length line - 1) (omega (arith, two))) refl))
+
+  no_0x : without_0x line ≡ line
+  no_0x = ap (λ (b : Bool). cond b (drop 2 line) line) (and_false (eqb (slice_index line 0) 48) (is_x (slice_index line 1)) (not_x (slice_index line 1) (at_place 1 two)))
+
+  bare_same : bare line ≡ line
+  bare_same = ap without_0x no_comma ∙ no_0x
+
+  one_word : (at : ℕ → Bool) → ((c : ℕ) → is_hex_digit c ≡ true → not (at c) ≡ true) → last_first at line ≡ line ∷ []
+  one_word at f = ap (λ (z : List (List ℕ)). reverse (map bare z)) (words-word at line (apart_by at f) some) ∙ ap (λ (z : List ℕ). z ∷ []) bare_same
+
+  all_parts : part_digits (line ∷ []) ≡ line
+  all_parts = either (are_digits 2 line) (list_all is_hex_digit line) line digits
+
+  all_digits : last_digits (line ∷ []) ≡ line
+  all_digits = three (are_digits 4 line) (are_digits 2 line) line (part_digits (last_first is_joint line)) (ap part_digits (one_word is_joint not_joint) ∙ all_parts)
+
+  pub pure_digits : line_digits line ≡ line
+  pure_digits = ap (λ (z : List ℕ). last_digits (last_first is_blank z)) no_mark ∙ ap last_digits (one_word is_blank not_blank) ∙ all_digits
+
+  pub pure_read : is_passed_over line ≡ false
+  pure_read = ap (λ (z : List ℕ). says_nothing (words is_blank z)) no_mark ∙ ap says_nothing (words-word is_blank line (apart_by is_blank not_blank) some) ∙ not_equal (slice_index line 0) 35 (at_place 0 some) refl

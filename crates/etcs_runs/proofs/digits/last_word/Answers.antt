@@ -1,0 +1,10 @@
+use Rattle.std.proofs.Common.{arith}
+use Rattle.etcs_runs.specs.Cuts.{parts_at}
+use Rattle.etcs_runs.proofs.Words.{last_word_at}
+use Rattle.etcs_runs.proofs.digits.last_word.Goals as goal
+
+pub returns-clause-some : goal.returns-clause-some
+returns-clause-some c =
+    let e = c.end_of_word-end.ensures in
+    let s = c.start_of_word-start.ensures in
+    last_word_at (parts_at c.args.cut) c.args.text.now c.end_of_word-end.result c.start_of_word-start.result (omega (arith, c.if-end-eq0.false)) e.within (e.last (omega (arith, c.if-end-eq0.false))) s.within s.before e.words s.word

@@ -1,0 +1,310 @@
+//! The digits of a line as people have them.
+
+ghost use Rattle.std.specs.Prelude.{◌≡◌, ◌+◌, ◌-◌, ◌*◌, ◌/◌, ◌<◌, ◌≤◌, ◌++◌, ◌∷◌, if◌then◌else◌, Ok, Err, IfSome, IsNone, IsTrue, ℕ, List, [], drop, false, length, not, find, slice_index, take, true};
+ghost use Rattle.std.specs.Io.BufRead.{strip_last};
+ghost use Rattle.std.specs.List.{list_all};
+ghost use Rattle.hex.specs.Hex.{decode_of, is_hex_digit};
+ghost use Rattle.etcs_runs.specs.Digits.{are_digits, bare, is_blank, is_joint, is_passed_over, is_x, last_digits, last_first, line_digits, part_digits, run, says_nothing, without_0x, without_mark, words};
+ghost use Rattle.etcs_runs.specs.Cuts.{parts_at};
+ghost use Rattle.etcs_runs.specs.Answers.{Says};
+
+/// Why a line says no bytes.
+#[derive(Clone, Copy, Debug, PartialEq, Eq)]
+pub enum NoBytes {
+    /// It is blank, or a comment: its first character that is no blank is `#`.
+    Empty,
+    /// It doesn't end with digits.
+    NoDigits,
+    /// They are so many, an odd number.
+    OddDigits(usize),
+}
+
+/// The characters at which a text is cut into words.
+#[derive(Clone, Copy)]
+enum Cut {
+    /// Blanks, tabs and CRs.
+    Blanks,
+    /// Commas, dashes, colons and semicolons.
+    Joints,
+}
+
+impl Cut {
+    /// Whether the character is one of them.
+    fn is_at(self, character: u8) -> bool
+        ensures { result ≡ parts_at self character }
+    {
+        match self {
+            Cut::Blanks => matches!(character, b' ' | b'\t' | b'\r'),
+            Cut::Joints => matches!(character, b',' | b'-' | b':' | b';'),
+        }
+    }
+}
+
+/// Where the last word ends.
+fn end_of_word(cut: Cut, text: &[u8]) -> usize
+    ensures within { result ≤ length text.now }
+    ensures words { words (parts_at cut) text.now ≡ words (parts_at cut) (take result text.now) }
+    ensures last { 0 < result → parts_at cut (slice_index text.now (result - 1)) ≡ false }
+{
+    let mut end = text.len();
+    while end > 0 && cut.is_at(text[end - 1]) {
+        end -= 1;
+    }
+    end
+}
+
+/// Where the word begins with which the text ends.
+fn start_of_word(cut: Cut, text: &[u8]) -> usize
+    ensures within { result ≤ length text.now }
+    ensures word { list_all (λ c. not (parts_at cut c)) (drop result text.now) ≡ true }
+    ensures before { 0 < result → parts_at cut (slice_index text.now (result - 1)) ≡ true }
+{
+    let mut start = text.len();
+    while start > 0 && !cut.is_at(text[start - 1]) {
+        start -= 1;
+    }
+    start
+}
+
+/// The text before the last word, and this word.
+fn last_word(cut: Cut, text: &[u8]) -> Option<(&[u8], &[u8])>
+    ensures none { IsNone result → words (parts_at cut) text.now ≡ [] }
+    ensures some { IfSome result (λ p. words (parts_at cut) text.now ≡ words (parts_at cut) p.0.now ++ p.1.now ∷ []) }
+    ensures short { IfSome result (λ p. (0 < length p.1.now) × (length p.0.now + length p.1.now ≤ length text.now)) }
+{
+    let end = end_of_word(cut, text);
+    if end == 0 {
+        return None;
+    }
+    let start = start_of_word(cut, &text[..end]);
+    Some((&text[..start], &text[start..end]))
+}
+
+/// A word without a comma at its end.
+fn without_comma(word: &[u8]) -> &[u8]
+    ensures value { result.now ≡ strip_last 44 word.now }
+    ensures short { length result.now ≤ length word.now }
+{
+    let count = word.len();
+    if count > 0 && word[count - 1] == b',' {
+        &word[..count - 1]
+    } else {
+        word
+    }
+}
+
+/// Whether the character is an x.
+fn is_x(character: u8) -> bool
+    ensures { result ≡ is_x character }
+{
+    matches!(character, b'x' | b'X')
+}
+
+/// A word without `0x` in front.
+fn without_0x(word: &[u8]) -> &[u8]
+    ensures value { result.now ≡ without_0x word.now }
+    ensures short { length result.now ≤ length word.now }
+{
+    if word.len() > 1 && word[0] == b'0' && is_x(word[1]) {
+        &word[2..]
+    } else {
+        word
+    }
+}
+
+/// A word without `0x` in front and a comma at its end.
+fn bare(word: &[u8]) -> &[u8]
+    ensures value { result.now ≡ bare word.now }
+    ensures short { length result.now ≤ length word.now }
+{
+    without_0x(without_comma(word))
+}
+
+/// A line without the byte order mark in front.
+fn without_mark(line: &[u8]) -> &[u8]
+    ensures value { result.now ≡ without_mark line.now }
+    ensures short { length result.now ≤ length line.now }
+{
+    if line.len() > 2 && line[0] == 0xEF && line[1] == 0xBB && line[2] == 0xBF {
+        &line[3..]
+    } else {
+        line
+    }
+}
+
+/// Writes the bytes that a word says all over `bytes`, or answers that it isn't digits.
+fn decode(word: &[u8], bytes: &mut [u8]) -> bool
+    requires { length word.now ≡ 2 * length bytes.old }
+    ensures good { result ≡ list_all is_hex_digit word.now }
+    ensures bytes { IsTrue result → decode_of word.now ≡ Ok bytes.new }
+    ensures room { length bytes.new ≡ length bytes.old }
+{
+    hex::decode_to_slice(word, bytes).is_ok()
+}
+
+/// Writes what the last words of a text say before a place of the buffer, as long as each has `count` digits, and says
+/// where it begins.
+fn take_words(cut: Cut, count: usize, text: &[u8], buffer: &mut [u8], end: usize) -> usize
+    requires room { length text.now ≤ 2 * end }
+    requires within { end ≤ length buffer.old }
+    requires even { count ≡ 2 * (count / 2) }
+    requires some { 0 < count }
+    ensures before { result ≤ end }
+    ensures room { length buffer.new ≡ length buffer.old }
+    ensures bytes { (behind : List ℕ) → decode_of behind ≡ Ok (drop end buffer.old) → decode_of (run count (last_first (parts_at cut) text.now) ++ behind) ≡ Ok (drop result buffer.new) }
+{
+    let mut rest = text;
+    let mut at = end;
+    while let Some((before, word)) = last_word(cut, rest) {
+        let word = bare(word);
+        if word.len() != count || !decode(word, &mut buffer[at - count / 2..at]) {
+            return at;
+        }
+        at -= count / 2;
+        rest = before;
+    }
+    at
+}
+
+/// Whether the word has `count` digits, whose bytes are then at the end of the buffer.
+fn is_taken(word: &[u8], count: usize, buffer: &mut [u8]) -> bool
+    requires room { length word.now ≤ 2 * length buffer.old }
+    requires even { count ≡ 2 * (count / 2) }
+    ensures good { result ≡ are_digits count word.now }
+    ensures bytes { IsTrue result → decode_of word.now ≡ Ok (drop (length buffer.new - count / 2) buffer.new) }
+    ensures room { length buffer.new ≡ length buffer.old }
+{
+    let start = buffer.len() - word.len() / 2;
+    word.len() == count && decode(word, &mut buffer[start..])
+}
+
+/// Whether the character is a hexadecimal digit of either case.
+fn is_digit(character: u8) -> bool
+    ensures { result ≡ is_hex_digit character }
+{
+    matches!(character, b'A'..=b'F' | b'a'..=b'f' | b'0'..=b'9')
+}
+
+/// Whether each character of a word is a digit.
+fn is_of_digits(word: &[u8]) -> bool
+    ensures { result ≡ list_all is_hex_digit word.now }
+{
+    word.iter().all(|character| is_digit(*character))
+}
+
+/// Writes what a word of digits says to the end of the buffer.
+fn take_word(word: &[u8], buffer: &mut [u8]) -> Result<usize, NoBytes>
+    requires room { length word.now ≤ 2 * length buffer.old }
+    ensures digits { Says (if list_all is_hex_digit word.now then word.now else []) result buffer.new }
+    ensures room { length buffer.new ≡ length buffer.old }
+{
+    let count = word.len();
+    if count == 0 || !is_of_digits(word) {
+        return Err(NoBytes::NoDigits);
+    }
+    if count % 2 == 1 {
+        return Err(NoBytes::OddDigits(count));
+    }
+    is_taken(word, count, buffer);
+    Ok(count / 2)
+}
+
+/// Writes what the last parts of a word say to the end of the buffer.
+fn take_parts(word: &[u8], buffer: &mut [u8]) -> Result<usize, NoBytes>
+    requires room { length word.now ≤ 2 * length buffer.old }
+    ensures digits { Says (part_digits (last_first is_joint word.now)) result buffer.new }
+    ensures room { length buffer.new ≡ length buffer.old }
+{
+    let Some((before, part)) = last_word(Cut::Joints, word) else {
+        return Err(NoBytes::NoDigits);
+    };
+    let part = bare(part);
+    if is_taken(part, 2, buffer) {
+        let end = buffer.len();
+        let start = take_words(Cut::Joints, 2, before, buffer, end - 1);
+        return Ok(end - start);
+    }
+    take_word(part, buffer)
+}
+
+/// Writes what the last words of a line say before a place of the buffer, as long as each has two digits, or each four, and
+/// says where it begins.
+fn take_equal(line: &[u8], buffer: &mut [u8], end: usize) -> usize
+    requires room { length line.now ≤ 2 * end }
+    requires within { end ≤ length buffer.old }
+    ensures before { result ≤ end }
+    ensures room { length buffer.new ≡ length buffer.old }
+    ensures bytes { (behind : List ℕ) → decode_of behind ≡ Ok (drop end buffer.old) → decode_of (run 4 (last_first is_blank line.now) ++ (run 2 (last_first is_blank line.now) ++ behind)) ≡ Ok (drop result buffer.new) }
+{
+    let pairs = take_words(Cut::Blanks, 2, line, buffer, end);
+    if pairs < end {
+        return pairs;
+    }
+    take_words(Cut::Blanks, 4, line, buffer, end)
+}
+
+/// Writes what the last words of a line say to the end of the buffer.
+fn take_last(line: &[u8], buffer: &mut [u8]) -> Result<usize, NoBytes>
+    requires room { length line.now ≤ 2 * length buffer.old }
+    ensures digits { Says (last_digits (last_first is_blank line.now)) result buffer.new }
+    ensures room { length buffer.new ≡ length buffer.old }
+{
+    let Some((before, word)) = last_word(Cut::Blanks, line) else {
+        return Err(NoBytes::NoDigits);
+    };
+    let word = bare(word);
+    let end = buffer.len();
+    if is_taken(word, 4, buffer) {
+        let start = take_words(Cut::Blanks, 4, before, buffer, end - 2);
+        return Ok(end - start);
+    }
+    if is_taken(word, 2, buffer) {
+        let start = take_equal(before, buffer, end - 1);
+        return Ok(end - start);
+    }
+    take_parts(word, buffer)
+}
+
+/// The first character that is no blank.
+fn first_character(line: &[u8]) -> Option<u8>
+    ensures { result ≡ find (λ c. not (is_blank c)) line.now }
+{
+    line.iter()
+        .copied()
+        .find(|character| !Cut::Blanks.is_at(*character))
+}
+
+/// Whether a line is blank or a comment.
+fn is_empty(line: &[u8]) -> bool
+    ensures { result ≡ says_nothing (words is_blank line.now) }
+{
+    match first_character(line) {
+        Some(character) => character == b'#',
+        None => true,
+    }
+}
+
+/// Writes the bytes that the digits of a line say to the end of `buffer`, and says how many they are. The digits are those
+/// of the line's last words: pairs or fours of hexadecimal digits with blanks between, perhaps with `0x` in front and a
+/// comma after each; or one word, in which they are the last pairs with commas, dashes, colons or semicolons between, or
+/// what follows the last of these. A byte order mark, and what is in front of the digits, is passed over.
+///
+/// # Errors
+///
+/// `Empty` comes first.
+pub fn line_bytes(line: &[u8], buffer: &mut [u8]) -> Result<usize, NoBytes>
+    requires room { length line.now ≤ 2 * length buffer.old }
+    ensures empty { IsTrue (is_passed_over line.now) → result ≡ Err NoBytes.Empty }
+    ensures digits { is_passed_over line.now ≡ false → Says (line_digits line.now) result buffer.new }
+    ensures room { length buffer.new ≡ length buffer.old }
+{
+    let count = line.len();
+    if count > 0 && count % 2 == 0 && is_taken(line, count, buffer) {
+        return Ok(count / 2);
+    }
+    let line = without_mark(line);
+    if is_empty(line) {
+        return Err(NoBytes::Empty);
+    }
+    take_last(line, buffer)
+}

@@ -1,6 +1,0 @@
-use Rattle.std.proofs.Common.{◌≡◌, map, take}
-use Rattle.etcs_packets.specs.PacketReadings.{readings_to}
-use Rattle.etcs_sent.proofs.packets.send_packets.Given as goal
-
-abbrev pub invariant-loop-packet : goal.invariant-loop-packet
-invariant-loop-packet g l = l.out ≡ g.S.VarSink.with l.fn.out (readings_to g.P.AnyPacket.WAY (map (λ p. (g.P.AnyPacket.form p).value) (take l.packet-index l.packets)))

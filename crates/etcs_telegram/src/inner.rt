@@ -1,0 +1,41 @@
+//! For the crates above: the header's variables with their numbers, and what is left of a telegram.
+
+ghost use Rattle.std.specs.Prelude.{◌≡◌, map};
+ghost use Rattle.etcs_telegram.specs.Telegrams.{header_reading, telegram_value, IsAdmitted, TelegramReads};
+ghost use Rattle.etcs_telegram.specs.Writing.{telegram_reading};
+
+use crate::header::Header;
+pub use crate::header::header_by;
+pub use crate::rest::TelegramRest;
+pub use crate::store::TelegramStore;
+use crate::telegram::Telegram;
+
+/// How many bits the header's variables take.
+pub(crate) const HEADER_BITS: usize = 50;
+
+/// The numbers of the header's variables in the order of sending. Each variable admits its number.
+pub fn header_numbers(header: &Header) -> [u64; 10]
+    ensures numbers { result ≡ map (λ p. p.1) (header_reading header.now) }
+    ensures admitted { IsAdmitted (header_reading header.now) }
+{
+    header.admitted();
+    [
+        1,
+        header.m_version() as u64,
+        0,
+        header.n_pig() as u64,
+        header.n_total() as u64,
+        header.m_dup() as u64,
+        header.m_mcount() as u64,
+        header.nid_c() as u64,
+        header.nid_bg() as u64,
+        header.q_link() as u64,
+    ]
+}
+
+/// For proofs: the telegram has a reading. Does nothing.
+pub fn reads(telegram: &Telegram)
+    ensures { TelegramReads (telegram_value telegram.now) (telegram_reading (telegram_value telegram.now)) }
+{
+    telegram.readable();
+}

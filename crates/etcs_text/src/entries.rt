@@ -1,0 +1,102 @@
+//! A reader of the items of a kind.
+
+ghost use Rattle.std.specs.Prelude.{◌≡◌, List, Bool, [], Err, OnErr, OnOk, IfOk, length};
+ghost use Rattle.etcs_bits.specs.Bits.{bits};
+ghost use Rattle.etcs_vars.specs.declared.feed.ReadFault.TheVariants.{Memory};
+ghost use Rattle.etcs_text.specs.Entries.{EntryReads, EntryValue, entry_value};
+ghost use Rattle.etcs_text.specs.Readers.{Feeds, IsStarved, least_bits, reading, finished};
+
+use crate::{Entry, Kind};
+use etcs_radio::MessageReader;
+use etcs_telegram::{Size, TelegramReader};
+use etcs_train::TrainReader;
+use etcs_vars::{Fed, ReadFault};
+use std::alloc::Global;
+use std::marker::Model;
+
+/// The reader of telegrams, or of messages of a way.
+#[derive(Drop)]
+enum Inner {
+    Telegram(TelegramReader),
+    Message(MessageReader),
+    Train(TrainReader),
+}
+
+/// Reads an item of a kind from pieces of any length.
+#[derive(Drop)]
+pub struct EntryReader {
+    inner: Inner,
+}
+
+impl Model for EntryReader {
+    ghost use Rattle.etcs_text.specs.Readers.{ReaderValue, value_of};
+
+    ghost Value = { ReaderValue };
+
+    ghost view = { λ r. value_of r.inner };
+}
+
+impl EntryReader {
+    /// A reader of items of this kind.
+    pub fn new(alloc: Global, kind: Kind) -> EntryReader
+        ensures { result ≡ record { kind = kind; progress = reading [] } }
+    {
+        let inner = match kind {
+            Kind::Long => Inner::Telegram(TelegramReader::new(alloc, Size::Long)),
+            Kind::Short => Inner::Telegram(TelegramReader::new(alloc, Size::Short)),
+            Kind::Radio => Inner::Message(MessageReader::new(alloc)),
+            Kind::Train => Inner::Train(TrainReader::new(alloc)),
+        };
+        EntryReader { inner }
+    }
+
+    /// How many bits of an item that isn't whole were taken.
+    pub fn bits_seen(&self) -> usize
+        ensures { (seen : List Bool) → self.now.progress ≡ reading seen → result ≡ length seen }
+    {
+        match &self.inner {
+            Inner::Telegram(reader) => reader.bits_seen(),
+            Inner::Message(reader) => reader.bits_seen(),
+            Inner::Train(reader) => reader.bits_seen(),
+        }
+    }
+
+    /// Takes the next piece, up to the item's end.
+    ///
+    /// # Errors
+    ///
+    /// `Refused` with the first bit of the item with which none continues, and the variable that holds it; `Memory` where
+    /// memory is refused, at a bit with which an item continues, never within the first 6 bytes of a telegram or the first
+    /// 2 of a message.
+    #[inline(always)]
+    pub fn feed(&mut self, piece: &[u8]) -> Result<Fed, ReadFault>
+        ensures answer { (seen : List Bool) → self.old.progress ≡ reading seen → Feeds (EntryReads self.old.kind) seen (bits piece.now) result self.new.progress }
+        ensures memory { (seen : List Bool) → self.old.progress ≡ reading seen → result ≡ Err Memory → IsStarved (EntryReads self.old.kind) (least_bits self.old.kind) seen (bits piece.now) }
+        ensures kind { self.new.kind ≡ self.old.kind }
+    {
+        match &mut self.inner {
+            Inner::Telegram(reader) => reader.feed(piece),
+            Inner::Message(reader) => reader.feed(piece),
+            Inner::Train(reader) => reader.feed(piece),
+        }
+    }
+
+    /// The item, once `feed` has answered `Done`. The next one of the kind is read then.
+    ///
+    /// # Errors
+    ///
+    /// `()` where no item is whole. The reader then stays as it was.
+    #[inline(always)]
+    pub fn next(&mut self) -> Result<Entry, ()>
+        ensures some { IfOk result (λ e. self.old.progress ≡ finished (entry_value e)) }
+        ensures none { OnErr result ((e : EntryValue) → self.old.progress ≡ finished e → ⊥) }
+        ensures next { OnOk result (self.new ≡ record { kind = self.old.kind; progress = reading [] }) }
+        ensures kept { OnErr result (self.new ≡ self.old) }
+    {
+        match &mut self.inner {
+            Inner::Telegram(reader) => Ok(Entry::Telegram(reader.take_next().ok_or(())?)),
+            Inner::Message(reader) => Ok(Entry::Message(reader.take_next().ok_or(())?)),
+            Inner::Train(reader) => Ok(Entry::Train(reader.take_next().ok_or(())?)),
+        }
+    }
+}

@@ -1,0 +1,96 @@
+//! What bytes are: an item and nothing else, or not.
+
+ghost use Rattle.std.specs.Prelude.{◌≡◌, [], IfOk};
+ghost use Rattle.etcs_text.specs.Entries.{EntryValue, entry_value};
+ghost use Rattle.etcs_text.specs.Readers.{finished, reading};
+ghost use Rattle.etcs_text.specs.Verdicts.{IsVerdict};
+
+use crate::entries::EntryReader;
+use crate::{Entry, Kind};
+use etcs_vars::{Fed, ReadFault, Var};
+use std::alloc::{AllocError, Global};
+use std::marker::Model;
+
+/// What bytes are.
+#[derive(Debug, Drop)]
+pub enum Verdict {
+    /// This item, and nothing else.
+    Item(Entry),
+    /// No item continues with this bit, which the variable holds.
+    Refused { bit: usize, var: Var },
+    /// They end inside an item.
+    TooShort,
+    /// They begin with an item, and there are more after it.
+    TooLong,
+}
+
+/// Reads items of a kind, each by itself.
+#[derive(Drop)]
+pub struct SingleReader {
+    alloc: Global,
+    kind: Kind,
+    reader: EntryReader,
+}
+
+impl Model for SingleReader {
+    ghost use Rattle.std.specs.Prelude.{◌≡◌, []};
+    ghost use Rattle.etcs_text.specs.declared.entry.Kind.{Kind};
+    ghost use Rattle.etcs_text.specs.Readers.{reading};
+
+    ghost Value = { Kind };
+
+    ghost view = { λ s. s.kind };
+
+    ghost invariant = { λ s. s.reader ≡ record { kind = s.kind; progress = reading [] } };
+}
+
+/// The item that is whole. The next one is read then.
+fn take(reader: &mut EntryReader) -> Entry
+    requires whole { (e : EntryValue) × (reader.old.progress ≡ finished e) }
+    ensures fresh { reader.new ≡ record { kind = reader.old.kind; progress = reading [] } }
+    ensures item { reader.old.progress ≡ finished (entry_value result) }
+{
+    match reader.next() {
+        Ok(entry) => entry,
+        Err(()) => unreachable!(),
+    }
+}
+
+impl SingleReader {
+    /// A reader of items of this kind.
+    pub fn new(alloc: Global, kind: Kind) -> SingleReader
+        ensures { result ≡ kind }
+    {
+        SingleReader {
+            alloc,
+            kind,
+            reader: EntryReader::new(alloc, kind),
+        }
+    }
+
+    /// What these bytes are.
+    ///
+    /// # Errors
+    ///
+    /// Where memory is refused.
+    pub fn read(&mut self, bytes: &[u8]) -> Result<Verdict, AllocError>
+        ensures kind { self.new ≡ self.old }
+        ensures verdict { IfOk result (λ v. IsVerdict self.old bytes.now v) }
+    {
+        let verdict = match self.reader.feed(bytes) {
+            Ok(Fed::Done { taken }) => {
+                if taken == bytes.len() {
+                    let entry = take(&mut self.reader);
+                    return Ok(Verdict::Item(entry));
+                }
+                Ok(Verdict::TooLong)
+            }
+            Ok(Fed::More) => Ok(Verdict::TooShort),
+            Err(ReadFault::Refused { bit, var }) => Ok(Verdict::Refused { bit, var }),
+            Err(ReadFault::Memory) => Err(AllocError),
+            Err(ReadFault::Ended) => unreachable!(),
+        };
+        self.reader = EntryReader::new(self.alloc, self.kind);
+        verdict
+    }
+}

@@ -1,4 +1,0 @@
-pub mod Reading
-pub mod Outcomes
-pub mod ListsFit
-pub mod ObjectsFit

@@ -1,7 +1,0 @@
-use Rattle.serde_json.specs.View.{members_view}
-use Rattle.etcs_trees.specs.Found.{HasNull}
-use Rattle.etcs_trees.proofs.weight.has_null.Given as goal
-
-abbrev pub invariant-loop-member : goal.invariant-loop-member
-invariant-loop-member l =
-    (HasNull (members_view l.members.entries) → HasNull (members_view l.member-iterator)) × (HasNull (members_view l.member-iterator) → HasNull (members_view l.members.entries))

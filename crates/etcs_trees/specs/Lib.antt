@@ -1,4 +1,0 @@
-pub mod Skips
-pub mod Places
-pub mod Fits
-pub mod Found

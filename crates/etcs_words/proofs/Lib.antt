@@ -1,4 +1,0 @@
-pub mod Joins
-pub mod LowestBits
-pub mod WordSinks
-pub mod Words

@@ -1,4 +1,0 @@
-pub mod Joins
-pub mod WordSinks
-pub mod Words
-pub mod laws

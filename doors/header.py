@@ -1,6 +1,6 @@
 #!/usr/bin/env python3
 """Compares etcs.h with the exports of crates/etcs_c/src: names, types in order; with the structs and the constants of
-crates/etcs_sent/src; the names in the map of symbols, in Ada and in Python with the exports; and the tables of variables
+crates/etcs_c/src; the names in the map of symbols, in Ada and in Python with the exports; and the tables of variables
 for C, Python and Ada with the specs.
 
     doors/header.py            the status is 0 where they agree; nothing else compares them
@@ -115,7 +115,7 @@ end Etcs.Variables;
 
 def main():
     rattle = source("crates/etcs_c/src/lib.rt")
-    answer = source("crates/etcs_sent/src/answer.rt")
+    answer = source("crates/etcs_c/src/answer.rt")
     header = source("doors/c/etcs.h")
     ours, theirs = dict(exports(rattle)), dict(declared(header))
     wrong = [f"{name}: {ours.get(name)} in the source, {theirs.get(name)} in the header" for name in sorted({*ours, *theirs}) if ours.get(name) != theirs.get(name)]
@@ -123,7 +123,7 @@ def main():
         found = re.findall(pattern, source(path), re.M)
         if sorted(found) != sorted(ours):
             wrong.append(f"{path} has {', '.join(sorted(found))}")
-    structs = [("etcs_answer", "EtcsAnswer", answer), ("etcs_field", "EtcsField", source("crates/etcs_sent/src/fields.rt"))]
+    structs = [("etcs_answer", "EtcsAnswer", answer), ("etcs_field", "EtcsField", source("crates/etcs_c/src/fields.rt"))]
     count = 0
     for c_name, name, text in structs:
         body = re.search(r"pub struct %s \{(.*?)\n\}" % name, text, re.S).group(1)
@@ -133,7 +133,7 @@ def main():
         count += len(fields)
         if fields != theirs_:
             wrong.append(f"{c_name}: {fields} in the source, {theirs_} in the header")
-    table = dict(re.findall(r"^var_number Var\.(\w+) = (\d+)", source("crates/etcs_sent/specs/Fields.antt"), re.M))
+    table = dict(re.findall(r"^var_number Var\.(\w+) = (\d+)", source("crates/etcs_c/specs/Fields.antt"), re.M))
     for path, text in ((VARS_H, vars_h(table)), (VARS_PY, vars_py(table)), (VARS_ADS, vars_ads(table))):
         if "--write" in sys.argv:
             with open(os.path.join(TOP, path), "w", encoding="utf-8") as file:

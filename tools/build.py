@@ -14,8 +14,8 @@ crate, and most crates here rest on one another. So this is one run over the mod
 once, as `rt all` does, and makes for each crate the call that `rt lib` or `rt run` makes. What is proved, and what is
 kept in out/, is the same. It differs in two things.
 
-A sum once: to see what changed, rt sums a crate's files and those of each library below it, once for each way down to
-it: thousands of times for the upper crates here. In this run each is summed once a time.
+A sum once: to see what changed, rt sums a crate's files and those of all libraries below it, each time that it looks at
+one of them: a thousand times for the upper crates here. In this run each is summed once a time.
 
 What it reads: rt builds a library anew where any file below it changed, and rattle then finds that nothing is to be
 checked again. Here a library stays as it is where its own files, and all that its build read of those below it, are as
@@ -118,8 +118,11 @@ def stamp_unchanged(is_built):
                 return True
             if not all(is_built(it) for it in crate.below()) or not reads.is_as_read(crate):
                 return False
-            with open(f"{os.path.dirname(crate.rlib)}/stamp", "w", encoding="utf-8") as it:
+            stamp = f"{os.path.dirname(crate.rlib)}/stamp"
+            with open(f"{stamp}.new", "w", encoding="utf-8") as it:
                 it.write(crate.stamp())
+            # another checkout may have the file that was there, too
+            os.replace(f"{stamp}.new", stamp)
             return True
 
     return answered
@@ -255,6 +258,8 @@ def build(rt, folder):
     rtlib = rt.rtlib
     # as in rt: what it started ends with it
     rtlib.guarded()
+    # as rt does, it begins with what other checkouts on this machine kept
+    rt.share_work(is_alone=True)
     crate = rtlib.Crate(folder, rtlib.root_above(folder), {})
     rt.read_files(crate)
     if crate.makes_rlib():
@@ -263,6 +268,8 @@ def build(rt, folder):
     crate.held = rtlib.lock([*below, crate])
     for it in [*below, crate]:
         rtlib.stop_on_links(it.folder)
+        # what is said of a crate before its log is open
+        it.out = sys.stderr
     left = [it for it in below if not it.is_built()]
     return prove_all(left, *share(rtlib, left)) and build_top(crate, share(rtlib, [])[1])
 

@@ -212,7 +212,7 @@ def table_of_crates():
         ("JSON of items", "etcs_json"),
         ("runs over streams, as the program's commands", "etcs_stream"),
         ("all of it", "etcs_codec"),
-        ("why bytes are refused", "etcs_accounts"),
+        ("why bytes are refused", "etcs_reasons"),
         ("why an input is refused", "etcs_explain"),
         ("logs", "etcs_log"),
     ]

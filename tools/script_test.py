@@ -214,7 +214,7 @@ def check_age(room):
     for path in ("crates.txt", "crates/etcs_vectors/src/main.rt", "crates/etcs_codec/src/lib.rt", "crates/mine/src/main.rt"):
         room.touch(path, CHANGED)
         room.check(room.answer(CHECK, SHORT) == answer, f"{path}: not the built program")
-    for crate in ("etcs", "etcs_cli", "etcs_bits", "etcs_log", "etcs_trees"):
+    for crate in ("etcs", "etcs_cli", "etcs_bits", "etcs_log", "etcs_json_trees"):
         for path in ("src/lib.rt", "specs/Lib.antt", "proofs/Deep/In/It.antt"):
             room.touch(f"crates/{crate}/{path}", CHANGED)
             room.check(room.answer(CHECK)[1] == b"tried\n", f"{crate}/{path}: still the built program")

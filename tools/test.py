@@ -16,6 +16,8 @@ RT is the path of `rt`. What the parts ask is built first, without a proof, wher
     definitions  docs/READ-TO-BELIEVE.md against the definitions (tools/definitions.py)
     tables       the tables of documents against the sources (tools/format_tables.py)
     help         the texts of help against the vectors (tools/help_texts.py)
+    edits        whether each wrong body can be applied (tools/wrong_bodies.py)
+    dead         definitions, lemmas and inner items that nothing uses (tools/dead.py)
 
 Where `./etcs build` has built the program and no source is newer, the parts that ask `etcs` ask the proved program too. A line
 says of each part whether it passed, which program it asked, and what it counted; after a part that failed is what it wrote. What
@@ -58,6 +60,8 @@ SCRIPTS = {
     "definitions": ["definitions.py", "--page", "--check"],
     "tables": ["format_tables.py", "--check"],
     "help": ["help_texts.py", "--check"],
+    "edits": ["wrong_bodies.py", "--check"],
+    "dead": ["dead.py"],
 }
 ASKED = {**PROGRAM_SCRIPTS, **SCRIPTS}
 PARTS = [*PROGRAM_SCRIPTS, "vectors", "tests", *SCRIPTS]

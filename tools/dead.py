@@ -21,29 +21,7 @@ import sys
 TOP = os.path.dirname(os.path.dirname(os.path.realpath(__file__)))
 NEWLINE = "\n"
 # What stays though nothing uses it, as `crates/etcs_bits/specs/Bits.antt: name`, each with why.
-LATER = "goes with its crate's next change, with which all crates above are proved anew"
-EXCEPTIONS = {
-    "crates/etcs_bits/proofs/Views.antt: taken_more": LATER,
-    "crates/etcs_flat/proofs/FlatLaws.antt: pairs-numbers": LATER,
-    "crates/etcs_vars/specs/Walking.antt: seen_with": LATER,
-    "crates/etcs_vars/proofs/Stepping.antt: seen_more": LATER,
-    "crates/etcs_vars/proofs/Stepping.antt: next": LATER,
-    "crates/etcs_vars/proofs/Stepping.antt: may": LATER,
-    "crates/etcs_vars/proofs/Stepping.antt: left_by": LATER,
-    "crates/etcs_vars/proofs/Stepping.antt: viable": LATER,
-    "crates/etcs_vars/proofs/Stepping.antt: can_go_on": LATER,
-    "crates/etcs_vars/proofs/Stepping.antt: blocked": LATER,
-    "crates/etcs_vars/proofs/Stepping.antt: refuses": LATER,
-    "crates/etcs_vars/proofs/Walk.antt: NextIs": LATER,
-    "crates/etcs_vars/proofs/Walk.antt: holder_behind": LATER,
-    "crates/etcs_vars/proofs/Walk.antt: viable_from": LATER,
-    "crates/etcs_vars/proofs/Walk.antt: behind": LATER,
-    "crates/etcs_vars/proofs/Walk.antt: viable_only": LATER,
-    "crates/etcs_vars/proofs/Walk.antt: not_whole": LATER,
-    "crates/etcs_vars/proofs/Walk.antt: owner": LATER,
-    "crates/etcs_vars/proofs/WordSinks.antt: put_all": LATER,
-    "crates/etcs_packets/src/inner.rt: etcs_packets::inner::send_packet": LATER,
-}
+EXCEPTIONS = {}
 
 
 def files(ending, *parts):

@@ -1,11 +1,11 @@
 -- A slice of bits, seen as the part of the bytes that it stands for.
-use Rattle.std.proofs.Common.{◌≡◌, ℕ, ◌+◌, ◌-◌, ◌*◌, ◌^◌, ◌<◌, ◌≤◌, Bool, true, false, List, ◌++◌, length, take, drop, Some, None, leb, refl, sym, ap, ◌∙◌, arith}
+use Rattle.std.proofs.Common.{◌≡◌, ℕ, ◌+◌, ◌-◌, ◌*◌, ◌^◌, ◌<◌, ◌≤◌, Bool, true, false, List, length, take, drop, Some, None, leb, refl, sym, ap, ◌∙◌, arith}
 use Rattle.std.specs.Prelude.{nat_le, if◌then◌else◌}
 use Rattle.std.proofs.lemmas.Bool.{lt-leb, le-leb}
 use Rattle.etcs_bits.specs.Bits.{num, value, bits, part, number_at}
 use Rattle.etcs_bits.proofs.Numbers.{num-value}
 use Rattle.etcs_bits.proofs.Positions.{number_inside}
-use Rattle.etcs_bits.proofs.Lists.{length-part, part-part, part-add}
+use Rattle.etcs_bits.proofs.Lists.{length-part, part-part}
 use Rattle.etcs_bits.proofs.Steps.{part-rest, value-part_below}
 
 -- the part that a slice is asked for, or nothing
@@ -53,12 +53,3 @@ number_below s c number seen h e =
     let some : Some (value (part s c seen)) ≡ Some number = rw t at e in
     let same : value (part s c seen) ≡ number = cc in
     omega (arith, same, value-part_below s c seen h)
-
--- the bits moved so far, with the next of them
-pub taken_more : (seen moved : List Bool) (left count : ℕ) → left ≤ length seen → count ≤ left → moved ≡ part (length seen - left) count seen → take (length seen - left) seen ++ moved ≡ take (length seen - (left - count)) seen
-taken_more seen moved left count a b e =
-    let whole : length seen - (left - count) ≡ length seen - left + count = omega arith in
-    let start : 0 + (length seen - left) ≡ length seen - left = omega arith in
-    ap (λ l. take (length seen - left) seen ++ l) (e ∙ ap (λ k. part k count seen) (sym start))
-    ∙ sym (part-add 0 (length seen - left) count seen)
-    ∙ sym (ap (λ k. take k seen) whole)

@@ -6,5 +6,4 @@ pub mod Refusals
 pub mod Rooms
 pub mod Whole
 pub mod Equality
-pub mod Joining
 pub mod Names

@@ -4,5 +4,4 @@ pub mod Explained
 pub mod ItemFields
 pub mod Writes
 pub mod Fields
-pub mod Parts
 pub mod laws

@@ -13,12 +13,11 @@ fn limited(packet: Packet) -> Result<Packet, BuildFault> {
     let Packet::Tsr(restriction) = &packet else {
         return Ok(packet);
     };
-    let dir = packet.dir().unwrap_or(2);
     match restriction.numbers() {
         [q_scale, nid_tsr, d_tsr, l_tsr, q_front, v_tsr] => {
             let v_tsr = LIMIT.min(*v_tsr);
             let numbers = [*q_scale, *nid_tsr, *d_tsr, *l_tsr, *q_front, v_tsr];
-            Ok(Packet::Tsr(Flat::new(dir, &numbers)?))
+            Ok(Packet::Tsr(Flat::new(restriction.dir(), &numbers)?))
         }
         _ => Ok(packet),
     }

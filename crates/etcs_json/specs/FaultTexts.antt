@@ -1,9 +1,11 @@
 -- What is said of a fault.
-use Rattle.std.specs.Prelude.{ℕ, List, codes}
+use Rattle.std.specs.Prelude.{ℕ, List, ◌++◌, codes}
+use Rattle.std.specs.Fmt.{decimal}
+use Rattle.etcs_vars.specs.Vars.{name}
 use Rattle.etcs_json.specs.declared.fault.JsonFault.{JsonFault}
 use Rattle.etcs_json.specs.declared.fault.JsonFault.TheVariants.{Shape, Refused, Memory}
 
 abbrev pub json_fault_text : JsonFault → List ℕ
 json_fault_text Shape = codes "not the tree of an item"
-json_fault_text (Refused bit var) = codes "the bits of no item"
+json_fault_text (Refused bit var) = codes "the bits of no item: refused at bit " ++ decimal bit ++ codes ", " ++ name var
 json_fault_text Memory = codes "memory was refused"

@@ -24,11 +24,13 @@ impl fmt::Display for JsonFault {
     ghost output = { λ fault. Some (json_fault_text fault) };
 
     fn fmt<W: fmt::Write>(&self, f: &mut fmt::Formatter<W>) -> fmt::Result {
-        f.write_str(match self {
-            JsonFault::Shape => "not the tree of an item",
-            JsonFault::Refused { .. } => "the bits of no item",
-            JsonFault::Memory => "memory was refused",
-        })
+        match self {
+            JsonFault::Shape => f.write_str("not the tree of an item"),
+            JsonFault::Refused { bit, var } => {
+                write!(f, "the bits of no item: refused at bit {bit}, {var}")
+            }
+            JsonFault::Memory => f.write_str("memory was refused"),
+        }
     }
 }
 

@@ -6,6 +6,7 @@ pub mod Faults
 pub mod Sizes
 pub mod Fitting
 pub mod OneReading
+pub mod Padding
 pub mod Writing
 pub mod Spelling
 pub mod Rooms

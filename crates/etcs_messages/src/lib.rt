@@ -1,7 +1,6 @@
 //! Messages of either way: what they are, how they are written, and their reader.
 #![tactic(auto)]
 
-mod asked;
 mod encode;
 pub mod inner;
 mod kind;
@@ -10,6 +9,7 @@ mod message;
 mod phase;
 mod reader;
 mod rest;
+mod variables;
 mod whole;
 
 pub use etcs_bits::{BitSlice, Bits};

@@ -14,10 +14,11 @@ use crate::kind::{Head, Own};
 use crate::phase::header_bits;
 use etcs_bits::{BitSlice, Bits};
 use etcs_bodies::ListOf;
-use etcs_packets::inner::{AnyPacket, room_after};
+use etcs_packets::inner::{AnyPacket, copy_all, room_after};
 use etcs_tables::{Way, message_row};
 use etcs_vars::inner::Variables;
 use etcs_vars::{BuildFault, Var};
+use std::alloc::{AllocError, Global};
 use std::marker::Model;
 
 /// The bits of 1,023 bytes, the most of a message.
@@ -226,6 +227,37 @@ impl<H: Head, B: Own<Front = H>> MessageOf<H, B> {
     {
         self.readable();
         8 * self.bytes
+    }
+
+    /// An equal message.
+    ///
+    /// # Errors
+    ///
+    /// `AllocError` where there is no memory.
+    pub fn try_clone(&self, alloc: Global) -> Result<Self, AllocError>
+        ensures { IfOk result (λ m. m ≡ self.now) }
+    {
+        let content = match &self.content {
+            Content::Typed {
+                head,
+                body,
+                packets,
+                padding,
+            } => Content::Typed {
+                head: *head,
+                body: *body,
+                packets: ListOf::from_vec(copy_all(alloc, packets.as_slice())?),
+                padding: *padding,
+            },
+            Content::Kept { nid, bits } => Content::Kept {
+                nid: *nid,
+                bits: bits.try_clone(alloc)?,
+            },
+        };
+        Ok(MessageOf {
+            content,
+            bytes: self.bytes,
+        })
     }
 
     /// L_MESSAGE: the message's bytes.

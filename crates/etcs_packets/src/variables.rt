@@ -121,7 +121,7 @@ fn send_rest<P: AnyPacket, S: VarSink>(packet: &P, out: &mut S) -> Result<(), Al
 /// That of the sink.
 #[tactic(auto, using(crate::specs::laws::PacketReadings::front_and_rest))]
 #[inline]
-pub fn send_packet<P: AnyPacket, S: VarSink>(packet: &P, out: &mut S) -> Result<(), AllocError>
+fn send_packet<P: AnyPacket, S: VarSink>(packet: &P, out: &mut S) -> Result<(), AllocError>
     ensures ok { OnOk result (out.new ≡ S.with out.old (reading_to P.WAY (P.form packet.now).value)) }
     ensures err { OnErr result (S.failed out.old out.new) }
 {

@@ -23,3 +23,4 @@ pub mod Holding
 pub mod OneHolding
 pub mod WholeTelegram
 pub mod Appending
+pub mod Sending

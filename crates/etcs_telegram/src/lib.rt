@@ -9,11 +9,10 @@ pub mod laws;
 mod phase;
 mod reader;
 mod rest;
-mod sent;
 mod size;
 mod store;
-mod taken_apart;
 mod telegram;
+mod variables;
 mod view;
 mod whole;
 

@@ -9,7 +9,7 @@ use crate::size::Size;
 use etcs_bits::{BitSlice, Bits};
 use etcs_bodies::ListOf;
 use etcs_packets::Packet;
-use etcs_packets::inner::room_left;
+use etcs_packets::inner::{copy_all, room_left};
 use etcs_tables::CLOSING_BITS;
 use etcs_vars::BuildFault;
 use std::alloc::{AllocError, Global};
@@ -140,6 +140,41 @@ impl Telegram {
         ensures { result ≡ self.now.fill }
     {
         self.fill.as_slice()
+    }
+
+    /// Its size, header, packets in the order of sending, and FILL bits, as [`Telegram::with_fill`] takes them. Takes
+    /// no memory.
+    pub fn into_parts(self) -> (Size, Header, Vec<Packet>, Bits)
+        ensures size { result.0 ≡ self.size }
+        ensures header { result.1 ≡ self.header }
+        ensures packets { result.2.items ≡ self.packets }
+        ensures fill { result.3 ≡ self.fill }
+    {
+        let Telegram {
+            size,
+            header,
+            packets,
+            fill,
+        } = self;
+        (size, header, packets.into_vec(), fill)
+    }
+
+    /// An equal telegram.
+    ///
+    /// # Errors
+    ///
+    /// `AllocError` where there is no memory.
+    pub fn try_clone(&self, alloc: Global) -> Result<Telegram, AllocError>
+        ensures { IfOk result (λ t. t ≡ self.now) }
+    {
+        let packets = copy_all(alloc, self.packets.as_slice())?;
+        let fill = self.fill.try_clone(alloc)?;
+        Ok(Telegram {
+            size: self.size,
+            header: self.header,
+            packets: ListOf::from_vec(packets),
+            fill,
+        })
     }
 
     /// For callers: the telegram has a reading.

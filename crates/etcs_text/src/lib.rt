@@ -7,15 +7,16 @@
 //! ```
 #![tactic(auto, using(etcs_packet_text::specs::laws::Fronts::begins_more))]
 
+mod encodings;
 mod entries;
 mod entry;
 pub mod inner;
 mod json_lines;
 mod messages;
 mod show;
-mod telling;
 mod verdict;
 
+pub use encodings::{check_line, encoded, hex_line};
 pub use entries::EntryReader;
 pub use entry::{Entry, Kind};
 pub use etcs_radio::Message;
@@ -23,5 +24,4 @@ pub use etcs_telegram::Telegram;
 pub use etcs_train::TrainMessage;
 pub use json_lines::json_line;
 pub use show::show_lines;
-pub use telling::{check_line, encoded, hex_line};
 pub use verdict::{SingleReader, Verdict};

@@ -305,9 +305,6 @@ put_last s one two seen from left word all most e is f =
     ∙ and_both s (take from seen) rest
     ∙ ap (and_bits s) (take-append-drop from seen)
 
-pub put_all : (s one : WordSink) (seen : List Bool) (from : ℕ) → from ≡ length seen → one ≡ and_bits s (take from seen) → one ≡ and_bits s seen
-put_all s one seen from all e = e ∙ ap (and_bits s) (take_all from seen (omega (arith, all)))
-
 -- ---- Variables.
 
 pub joins_some : (sent : Reading) (count wide number : ℕ) → Joins sent count wide number → 0 < wide

@@ -1,6 +1,6 @@
 use Rattle.std.proofs.Common.{◌∙◌, sym, ap, refl}
 use Rattle.etcs_packet_text.specs.Trees.{bits_tree}
-use Rattle.etcs_text.proofs.MessageTexts.{no_bits, padding_cut, some_bits}
+use Rattle.etcs_messages.proofs.Padding.{no_bits, padding_cut, some_bits}
 use Rattle.etcs_json.proofs.Shapes.{tree_same}
 use Rattle.etcs_json.proofs.trees.padding_json.Goals as goal
 

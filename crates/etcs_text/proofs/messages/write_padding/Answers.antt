@@ -1,7 +1,7 @@
 use Rattle.std.proofs.Common.{◌∙◌, Bool, List, sym, ap, refl}
 use Rattle.std.specs.Prelude.{codes}
 use Rattle.etcs_packet_text.specs.Show.{bits_line}
-use Rattle.etcs_text.proofs.MessageTexts.{no_bits, padding_cut, some_bits}
+use Rattle.etcs_messages.proofs.Padding.{no_bits, padding_cut, some_bits}
 use Rattle.etcs_packet_text.proofs.Refusals.{on_ok}
 use Rattle.etcs_text.proofs.messages.write_padding.Goals as goal
 

@@ -1,7 +1,7 @@
 use Rattle.etcs_messages.specs.Messages.{message_value}
 use Rattle.etcs_text.specs.Entries.{of_message}
 use Rattle.etcs_text.proofs.Encoding.{appended_ok}
-use Rattle.etcs_text.proofs.telling.append_message.Goals as goal
+use Rattle.etcs_text.proofs.encodings.append_message.Goals as goal
 
 pub returns-clause-ok : goal.returns-clause-ok
 returns-clause-ok g c =

@@ -1,7 +1,7 @@
 use Rattle.std.proofs.Common.{refl}
 use Rattle.etcs_text.proofs.AcceptedLines.{accepted_line}
 use Rattle.etcs_packet_text.proofs.Refusals.{extended_err, on_error}
-use Rattle.etcs_text.proofs.telling.write_check.Goals as goal
+use Rattle.etcs_text.proofs.encodings.write_check.Goals as goal
 
 pub returns-in-Message-clause-ok : goal.returns-in-Message-clause-ok
 returns-in-Message-clause-ok c = rw c.in-Message.is (accepted_line _ _ c.write_accepted.result c.args.out.now.items c.write_item_number.new.out.items c.write_accepted.new.out.items c.args.item _ _ c.in_ok-write_item_number.ensures.ok refl c.write_accepted.ensures.ok)

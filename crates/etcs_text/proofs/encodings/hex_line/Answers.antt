@@ -1,7 +1,7 @@
 use Rattle.std.proofs.Common.{arith}
 use Rattle.etcs_text.specs.Entries.{entry_value}
 use Rattle.etcs_text.proofs.Encoding.{in_digits, gone_again}
-use Rattle.etcs_text.proofs.telling.hex_line.Goals as goal
+use Rattle.etcs_text.proofs.encodings.hex_line.Goals as goal
 
 pub returns-clause-ok : goal.returns-clause-ok
 returns-clause-ok c =

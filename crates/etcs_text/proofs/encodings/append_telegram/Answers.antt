@@ -1,7 +1,7 @@
 use Rattle.etcs_telegram.specs.Telegrams.{telegram_value}
 use Rattle.etcs_text.specs.Entries.{of_telegram}
 use Rattle.etcs_text.proofs.Encoding.{appended_ok}
-use Rattle.etcs_text.proofs.telling.append_telegram.Goals as goal
+use Rattle.etcs_text.proofs.encodings.append_telegram.Goals as goal
 
 pub returns-clause-ok : goal.returns-clause-ok
 returns-clause-ok c =

@@ -1,6 +1,6 @@
 use Rattle.std.proofs.Common.{◌∙◌, sym, refl}
-use Rattle.etcs_text.proofs.MessageTexts.{no_bits, padding_cut, some_bits}
-use Rattle.etcs_c.proofs.items.send_padding.Goals as goal
+use Rattle.etcs_messages.proofs.Padding.{no_bits, padding_cut, some_bits}
+use Rattle.etcs_messages.proofs.variables.send_padding.Goals as goal
 
 pub unreachable-requires : goal.unreachable-requires
 unreachable-requires g c =

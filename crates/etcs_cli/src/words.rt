@@ -149,7 +149,13 @@ pub fn run_words(
     let ended = match parse(alloc, words.as_slice()) {
         Parsed::Job(job) => run_job(alloc, job, input, output),
         Parsed::Log(job) => read_log(alloc, job, input, output, faults),
-        Parsed::Explain(task) => explain(alloc, task, input, output).map(|()| ACCEPTED),
+        Parsed::Explain(task) => explain(
+            alloc,
+            task,
+            &mut Input::new(input),
+            &mut Output::new(output),
+        )
+        .map(|()| ACCEPTED),
         Parsed::Help(text) => {
             let _ = output.write_all(text.as_bytes());
             let _ = output.flush();

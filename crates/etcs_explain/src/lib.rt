@@ -1,9 +1,15 @@
 //! Items explained: each variable with its bits, its number and what it stands for; and why bytes or JSON are no item.
 #![tactic(auto)]
 
+mod explainer;
+mod items;
 mod json;
 mod run;
+mod seen;
+mod task;
+mod titles;
 
 pub use etcs_reasons::{Account, End, Layout, Part, Reason, why};
 pub use json::why_json;
-pub use run::{Task, explain};
+pub use run::explain;
+pub use task::Task;

@@ -1,21 +1,23 @@
 -- Lines that are answered one after another.
-use Rattle.std.proofs.Common.{◌≡◌, ℕ, ◌+◌, ◌<◌, ◌≤◌, ◌^◌, Bool, true, false, List, [], ◌∷◌, ◌++◌, length, Result, Ok, Err, refl, sym, ap, subst, ◌∙◌, arith}
-use Rattle.std.specs.Prelude.{IfOk, OnOk, Option}
-use Rattle.std.specs.Io.KnownBytes.{Appends, Consumes}
-use Rattle.etcs_runs.specs.Pipes.{Piped}
-use Rattle.etcs_runs.proofs.Known.{Appends-then}
-use Rattle.std.proofs.lemmas.List.{append-nil, append_assoc, length-append}
-use Rattle.std.proofs.lemmas.List.Elements.{All-append, All-cons, All-nil}
+use Rattle.std.proofs.Common.{◌≡◌, ℕ, ◌+◌, ◌-◌, ◌<◌, ◌≤◌, ◌^◌, Bool, true, false, cond, List, [], ◌∷◌, ◌++◌, length, take, Result, Ok, Err, refl, sym, ap, subst, ◌∙◌, arith, inl, inr}
+use Rattle.std.specs.Prelude.{◌⊎◌, ⊤, All, IfErr, IfOk, OnErr}
+use Rattle.std.specs.Io.BufRead.{ends_with_byte}
+use Rattle.std.proofs.lemmas.List.{append-nil, append_assoc, length-append, length-take-le}
+use Rattle.std.proofs.lemmas.List.Elements.{All-nil, All-push}
 use Rattle.hex.specs.Hex.{encode_upper}
 use Rattle.etcs_text.specs.declared.entry.Kind.{Kind}
-use Rattle.etcs_runs.specs.Lines.{IsLine, lines_text}
-use Rattle.etcs_runs.proofs.LineTexts.{lines_few, lines_text-append, one_line}
+use Rattle.etcs_runs.specs.Faults.{IsOfEngine}
+use Rattle.etcs_runs.specs.declared.fault.RunFault.{RunFault}
+use Rattle.etcs_runs.specs.declared.fault.RunFault.TheVariants.{Memory}
+use Rattle.etcs_runs.specs.Lines.{IsLine, lines_text, strip_cr}
 use Rattle.etcs_log.specs.declared.job.LogJob.{LogJob}
 use Rattle.etcs_log.specs.declared.job.LogTally.{LogTally}
-use Rattle.etcs_log.specs.Logs.{Answer, passed, item, bad, IsAnswer, AreAnswers, Answered, GoodText, IsLog, Tells, items_in, bad_in}
-use Rattle.etcs_log.specs.Stands.{AreAnswered, IsBegun, LogStands}
+use Rattle.etcs_log.specs.Logs.{Answer, passed, item, bad, IsAnswer, AreAnswers, Answered, CountsText, GoodText, IsLog, NotesText, Tells, items_in, bad_in}
+use Rattle.etcs_log.specs.Promised.{AllTold, FirstTold, FrontTold}
+use Rattle.etcs_log.specs.laws.LogLaws.{All-left}
+use Rattle.etcs_log.specs.Stands.{AreAnswered, LogTook}
 
-pub answers-push : (kind : Kind) (lines : List (List ℕ)) (others : List Answer) (line : List ℕ) (a : Answer) → AreAnswers kind lines others → IsAnswer kind line a → AreAnswers kind (lines ++ line ∷ []) (others ++ a ∷ [])
+pub answers-push : (kind : Kind) (lines : List (List ℕ)) (others : List Answer) (line : List ℕ) (a : Answer) → AreAnswers kind lines others → IsAnswer kind (strip_cr line) a → AreAnswers kind (lines ++ line ∷ []) (others ++ a ∷ [])
 answers-push kind [] [] line a h k = (k, tt)
 answers-push kind [] (b ∷ bs) line a h k = absurd h
 answers-push kind (l ∷ ls) [] line a h k = absurd h
@@ -57,17 +59,33 @@ text-push (passed ∷ others) a text added h k = text-push others a text added h
 text-push (item e ∷ others) a text added (bytes, rest, is, t, more) k = (bytes, rest ++ added, is, ap (λ (z : List ℕ). z ++ added) t ∙ append_assoc (encode_upper bytes ++ 10 ∷ []) rest added, text-push others a rest added more k)
 text-push (bad ∷ others) a text added h k = text-push others a text added h k
 
-tells-push : (job : LogJob) (others : List Answer) (a : Answer) (text added : List ℕ) → Tells job others text → Tells job (a ∷ []) added → Tells job (others ++ a ∷ []) (text ++ added)
-tells-push job others a text added h k = λ asked. text-push others a text added (h asked) (k asked)
+-- of a line after them, the notes
+notes-push : (n m : ℕ) (others : List Answer) (a : Answer) (text added : List ℕ) → m ≡ n + length others → NotesText n others text → NotesText m (a ∷ []) added → NotesText n (others ++ a ∷ []) (text ++ added)
+notes-push n m [] a text added e h k =
+    let same : m ≡ n = omega (arith, e) in
+    subst (λ (z : List ℕ). NotesText n (a ∷ []) (z ++ added)) (sym h) (subst (λ (z : ℕ). NotesText z (a ∷ []) added) same k)
+notes-push n m (passed ∷ others) a text added e h k = notes-push (n + 1) m others a text added (omega (arith, e)) h k
+notes-push n m (item v ∷ others) a text added e h k = notes-push (n + 1) m others a text added (omega (arith, e)) h k
+notes-push n m (bad ∷ others) a text added e (note, rest, is, t, more) k =
+    (note, rest ++ added, is, ap (λ (z : List ℕ). z ++ added) t ∙ append_assoc note rest added, notes-push (n + 1) m others a rest added (omega (arith, e)) more k)
+
+tells-push : (job : LogJob) (m : ℕ) (others : List Answer) (a : Answer) (text added : List ℕ) → m ≡ 1 + length others → Tells job 1 others text → Tells job m (a ∷ []) added → Tells job 1 (others ++ a ∷ []) (text ++ added)
+tells-push job m others a text added e h k = (λ good. text-push others a text added (h.0 good) (k.0 good), λ silent. notes-push 1 m others a text added e (h.1 silent) (k.1 silent))
 
 -- ---- What was answered.
 
+-- the text of a line more
+told_more : (job : LogJob) (lines : List (List ℕ)) (n : ℕ) (tally : LogTally) (told before text text' added : List ℕ) (a : Answer) (h : AreAnswered job lines tally told) → told ≡ before ++ text → n ≡ length lines + 1 → Tells job n (a ∷ []) added → text' ≡ text ++ added → Tells job 1 (h.answers ++ a ∷ []) (before ++ text')
+told_more job lines n tally told before text text' added a h t e tells grown =
+    let count = answers_count job.kind lines h.answers h.are_answers in
+    subst (λ (z : List ℕ). Tells job 1 (h.answers ++ a ∷ []) z) (ap (λ (z : List ℕ). z ++ added) t ∙ append_assoc before text added ∙ ap (λ (z : List ℕ). before ++ z) (sym grown)) (tells-push job n h.answers a told added (omega (arith, e, count)) h.tells tells)
+
 -- a line more
-answered_more : (job : LogJob) (lines : List (List ℕ)) (line : List ℕ) (tally tally' : LogTally) (told before text text' : List ℕ) → AreAnswered job lines tally told → told ≡ before ++ text → Answered job line tally tally' text text' → AreAnswered job (lines ++ line ∷ []) tally' (before ++ text')
-answered_more job lines line tally tally' told before text text' h t (a, is, (added, tells, grown, items, bads)) = record {
+answered_more : (job : LogJob) (lines : List (List ℕ)) (n : ℕ) (line : List ℕ) (tally tally' : LogTally) (told before text text' : List ℕ) → AreAnswered job lines tally told → told ≡ before ++ text → n ≡ length lines + 1 → Answered job n (strip_cr line) tally tally' text text' → AreAnswered job (lines ++ line ∷ []) tally' (before ++ text')
+answered_more job lines n line tally tally' told before text text' h t e (a, is, (added, tells, grown, items, bads)) = record {
   answers = h.answers ++ a ∷ [];
   are_answers = answers-push job.kind lines h.answers line a h.are_answers is;
-  tells = subst (λ (z : List ℕ). Tells job (h.answers ++ a ∷ []) z) (ap (λ (z : List ℕ). z ++ added) t ∙ append_assoc before text added ∙ ap (λ (z : List ℕ). before ++ z) (sym grown)) (tells-push job h.answers a told added h.tells tells);
+  tells = told_more job lines n tally told before text text' added a h t e tells grown;
   items_are = omega (arith, items, h.items_are, items_in-push h.answers a);
   bad_are = omega (arith, bads, h.bad_are, bad_in-push h.answers a);
 }
@@ -78,124 +96,99 @@ answered_few job lines tally told h =
     let count = answers_count job.kind lines h.answers h.are_answers in
     (omega (arith, h.items_are, items_few h.answers, count), omega (arith, h.bad_are, bad_few h.answers, count))
 
--- where good lines aren't asked for, any text may be written
-retold : (job : LogJob) (answers : List Answer) (told told' : List ℕ) → Tells job answers told → (job.good ≡ true → told ≡ told') → Tells job answers told'
-retold job answers told told' tells same = λ asked. subst (λ (z : List ℕ). GoodText answers z) (same asked) (tells asked)
+-- ---- What was taken.
 
--- ---- What stands.
-
-pub stand_nothing : (job : LogJob) (kept : List ℕ) (tally : LogTally) → kept ≡ [] → tally.items ≡ 0 → tally.bad ≡ 0 → LogStands job kept false 0 tally [] []
-stand_nothing job kept tally k i b = record {
-  lines = [];
-  part = [];
-  given_is = refl;
-  are_lines = (All-nil IsLine, All-nil (λ c. c ≡ 10 → ⊥));
-  begun = (k, omega arith);
-  line_is = refl;
-  answered = record { answers = []; are_answers = tt; tells = λ _. refl; items_are = i; bad_are = b };
+pub took_nothing : (job : LogJob) (line : ℕ) (tally : LogTally) → line ≡ 0 → tally.items ≡ 0 → tally.bad ≡ 0 → LogTook job line tally [] []
+took_nothing job line tally l i b = record {
+  are_lines = All-nil IsLine;
+  line_is = l;
+  answered = record { answers = []; are_answers = tt; tells = (λ _. refl, λ _. refl); items_are = i; bad_are = b };
 }
 
-module _ (job : LogJob) (kept : List ℕ) (is_long : Bool) (line : ℕ) (tally : LogTally) (given told : List ℕ) (h : LogStands job kept is_long line tally given told) where
-  pub few : length given < 2 ^ 62 → (line < 2 ^ 63) × (tally.items < 2 ^ 63) × (tally.bad < 2 ^ 63)
-  few short =
-      let lines_short : length h.lines ≤ length given = omega (arith, lines_few h.lines, ap length h.given_is, length-append (lines_text h.lines) h.part) in
-      let answered = answered_few job h.lines tally told h.answered in
-      (omega (arith, short, lines_short, h.line_is), omega (arith, short, lines_short, answered.0), omega (arith, short, lines_short, answered.1))
+pub took_few : (job : LogJob) (line : ℕ) (tally : LogTally) → (lines : List (List ℕ)) × (told : List ℕ) × LogTook job line tally lines told × (length lines < 2 ^ 62) → (line < 2 ^ 63) × (tally.items < 2 ^ 63) × (tally.bad < 2 ^ 63)
+took_few job line tally (lines, told, h, short) =
+    let few = answered_few job lines tally told h.answered in
+    (omega (arith, short, h.line_is), omega (arith, short, few.0), omega (arith, short, few.1))
 
-  whole : (part : List ℕ) → IsLine part → IsLine (h.part ++ part)
-  whole part l = All-append (λ c. c ≡ 10 → ⊥) h.part part h.are_lines.1 l
+-- the next line was answered
+pub took_more : (job job' : LogJob) (line line' : ℕ) (tally tally' : LogTally) (lines : List (List ℕ)) (raw cut before text text' : List ℕ) → LogTook job line tally lines (before ++ text) → IsLine raw → cut ≡ strip_cr raw → job' ≡ job → line' ≡ line + 1 → Answered job (line + 1) cut tally tally' text text' → LogTook job' line' tally' (lines ++ raw ∷ []) (before ++ text')
+took_more job job' line line' tally tally' lines raw cut before text text' h l e same n answered =
+    let here : LogTook job line' tally' (lines ++ raw ∷ []) (before ++ text') = record {
+      are_lines = All-push IsLine lines raw h.are_lines l;
+      line_is = omega (arith, n, h.line_is, length-append lines (raw ∷ []));
+      answered = answered_more job lines (line + 1) raw tally tally' (before ++ text) before text text' h.answered refl (omega (arith, h.line_is)) (subst (λ (z : List ℕ). Answered job (line + 1) z tally tally' text text') e answered);
+    } in
+    subst (λ (j : LogJob). LogTook j line' tally' (lines ++ raw ∷ []) (before ++ text')) (sym same) here
 
-  ended : (part : List ℕ) → given ++ (part ++ 10 ∷ []) ≡ lines_text (h.lines ++ (h.part ++ part) ∷ []) ++ []
-  ended part =
-      ap (λ (z : List ℕ). z ++ (part ++ 10 ∷ [])) h.given_is
-      ∙ append_assoc (lines_text h.lines) h.part (part ++ 10 ∷ [])
-      ∙ ap (λ (z : List ℕ). lines_text h.lines ++ z) (sym (append_assoc h.part part (10 ∷ [])) ∙ sym (one_line (h.part ++ part) []))
-      ∙ sym (append_assoc (lines_text h.lines) (lines_text ((h.part ++ part) ∷ [])) [])
-      ∙ ap (λ (z : List ℕ). z ++ []) (sym (lines_text-append h.lines ((h.part ++ part) ∷ [])))
+-- the text of the lines before it is there
+pub took_front : (job : LogJob) (line : ℕ) (tally : LogTally) (lines : List (List ℕ)) (rest before text text' : List ℕ) → LogTook job line tally lines (before ++ text) → text' ≡ text → FirstTold job (lines_text lines ++ rest) (before ++ text')
+took_front job line tally lines rest before text text' h none =
+    let here : FrontTold job (lines_text lines ++ rest) rest (before ++ text) = record {
+      lines = lines;
+      part = [];
+      given_is = ap (λ (z : List ℕ). z ++ rest) (sym (append-nil (lines_text lines)));
+      are_lines = (h.are_lines, All-nil (λ c. c ≡ 10 → ⊥));
+      lines_told = inl (record { answers = h.answered.answers; are_answers = h.answered.are_answers; tells = h.answered.tells });
+    } in
+    (rest, subst (λ (z : List ℕ). FrontTold job (lines_text lines ++ rest) rest (before ++ z)) (sym none) here)
 
-  -- a line ends, of which this is the last part
-  pub stand_line : (part : List ℕ) → IsLine part → (kept' : List ℕ) (is_long' : Bool) (line' : ℕ) (tally' : LogTally) (before text text' : List ℕ) → told ≡ before ++ text → IsBegun is_long' kept' [] → line' ≡ line + 1 → Answered job (h.part ++ part) tally tally' text text' → LogStands job kept' is_long' line' tally' (given ++ (part ++ 10 ∷ [])) (before ++ text')
-  stand_line part l kept' is_long' line' tally' before text text' t begun n answered = record {
-    lines = h.lines ++ (h.part ++ part) ∷ [];
-    part = [];
-    given_is = ended part;
-    are_lines = (All-append IsLine h.lines ((h.part ++ part) ∷ []) h.are_lines.0 (All-cons IsLine (h.part ++ part) [] (whole part l) (All-nil IsLine)), All-nil (λ c. c ≡ 10 → ⊥));
-    begun = begun;
-    line_is = omega (arith, n, h.line_is, length-append h.lines ((h.part ++ part) ∷ []));
-    answered = answered_more job h.lines (h.part ++ part) tally tally' told before text text' h.answered t answered;
-  }
+-- no text was there yet
+pub took_empty : (job : LogJob) (line : ℕ) (tally : LogTally) (lines : List (List ℕ)) (told text : List ℕ) → text ≡ [] → LogTook job line tally lines told → LogTook job line tally lines (told ++ text)
+took_empty job line tally lines told text none h = subst (λ (z : List ℕ). LogTook job line tally lines z) (sym (ap (λ (z : List ℕ). told ++ z) none ∙ append-nil told)) h
 
-  -- a part more of a line is there
-  pub stand_part : (part : List ℕ) → IsLine part → (kept' : List ℕ) (is_long' : Bool) → IsBegun is_long' kept' (h.part ++ part) → LogStands job kept' is_long' line tally (given ++ part) told
-  stand_part part l kept' is_long' begun = record {
-    lines = h.lines;
-    part = h.part ++ part;
-    given_is = ap (λ (z : List ℕ). z ++ part) h.given_is ∙ append_assoc (lines_text h.lines) h.part part;
-    are_lines = (h.are_lines.0, whole part l);
-    begun = begun;
-    line_is = h.line_is;
-    answered = h.answered;
-  }
+-- ---- The end of a log.
 
-  -- the input ends
-  pub stand_end : (tally' : LogTally) (before text text' : List ℕ) → told ≡ before ++ text → Answered job (h.part ++ []) tally tally' text text' → IsLog job given (before ++ text') tally'
-  stand_end tally' before text text' t answered =
-      let all = answered_more job h.lines h.part tally tally' told before text text' h.answered t (subst (λ (z : List ℕ). Answered job z tally tally' text text') (append-nil h.part) answered) in
-      record {
-        lines = h.lines;
-        last = h.part;
-        given_is = h.given_is;
-        are_lines = h.are_lines;
-        answers = all.answers;
-        are_answers = all.are_answers;
-        tells = all.tells;
-        items_are = all.items_are;
-        bad_are = all.bad_are;
-      }
+-- the last line was taken, and then the counts were written
+pub ended_if : {E : Type 0} (r : Result LogTally E) (job job' : LogJob) (line : ℕ) (tally : LogTally) (lines : List (List ℕ)) (last before text text' : List ℕ) → LogTook job' line tally (lines ++ last ∷ []) (before ++ text) → job' ≡ job → IsLine last → IfOk r (λ t. (t ≡ tally) × ((counts : List ℕ) × CountsText job' t counts × (text' ≡ text ++ counts))) → IfOk r (λ t. IsLog job (lines_text lines ++ last) (before ++ text') t)
+ended_if (Ok t) job job' line tally lines last before text text' h same l (is, (counts, counted, grown)) =
+    let here : IsLog job' (lines_text lines ++ last) (before ++ text') tally = record {
+      lines = lines;
+      last = last;
+      given_is = refl;
+      are_lines = (All-left lines (last ∷ []) h.are_lines, l);
+      answers = h.answered.answers;
+      are_answers = h.answered.are_answers;
+      text = before ++ text;
+      counts = counts;
+      told_is = ap (λ (z : List ℕ). before ++ z) grown ∙ sym (append_assoc before text counts);
+      tells = h.answered.tells;
+      counted = subst (λ (z : LogTally). CountsText job' z counts) is counted;
+      items_are = h.answered.items_are;
+      bad_are = h.answered.bad_are;
+    } in
+    subst (λ (j : LogJob). IsLog j (lines_text lines ++ last) (before ++ text') t) same (subst (λ (z : LogTally). IsLog job' (lines_text lines ++ last) (before ++ text') z) (sym is) here)
+ended_if (Err e) job job' line tally lines last before text text' h same l k = tt
 
-  -- where good lines aren't asked for, any text may be written
-  pub stand_told : (told' : List ℕ) → (job.good ≡ true → told ≡ told') → LogStands job kept is_long line tally given told'
-  stand_told told' same =
-      let answered = h.answered in
-      record {
-        lines = h.lines;
-        part = h.part;
-        given_is = h.given_is;
-        are_lines = h.are_lines;
-        begun = h.begun;
-        line_is = h.line_is;
-        answered = record {
-          answers = answered.answers;
-          are_answers = answered.are_answers;
-          tells = retold job answered.answers told told' answered.tells same;
-          items_are = answered.items_are;
-          bad_are = answered.bad_are;
-        };
-      }
+-- or in vain
+pub ended_not : {T : Type 0} (r : Result T RunFault) (job job' : LogJob) (line : ℕ) (tally : LogTally) (lines : List (List ℕ)) (last before text text' : List ℕ) → LogTook job' line tally (lines ++ last ∷ []) (before ++ text) → job' ≡ job → IsLine last → IfErr r (λ e. (e ≡ Memory) × (text' ≡ text)) → IfErr r (λ e. IsOfEngine e × ((e ≡ Memory) × (FirstTold job (lines_text lines ++ last) (before ++ text') ⊎ AllTold job (lines_text lines ++ last) (before ++ text'))))
+ended_not (Ok t) job job' line tally lines last before text text' h same l k = tt
+ended_not (Err e) job job' line tally lines last before text text' h same l (is, none) =
+    let here : AllTold job' (lines_text lines ++ last) (before ++ text) = record {
+      lines = lines;
+      last = last;
+      given_is = refl;
+      are_lines = (All-left lines (last ∷ []) h.are_lines, l);
+      lines_told = record { answers = h.answered.answers; are_answers = h.answered.are_answers; tells = h.answered.tells };
+    } in
+    let moved = subst (λ (z : List ℕ). AllTold job' (lines_text lines ++ last) (before ++ z)) (sym none) here in
+    (subst IsOfEngine (sym is) tt, (is, inr (subst (λ (j : LogJob). AllTold j (lines_text lines ++ last) (before ++ text')) same moved)))
 
--- ---- What is kept.
+-- a fault says no more
+pub no_more : {T E : Type 0} (r : Result T E) → OnErr r ⊤
+no_more (Ok x) = tt
+no_more (Err e) = tt
 
-pub begun_kept : (b : Bool) (kept line : List ℕ) → b ≡ false → IsBegun b kept line → kept ≡ line
-begun_kept true kept line is h = cc is
-begun_kept false kept line is h = h.0
+-- ---- A line that is too long.
 
-pub stand_part_if : {T E : Type 0} (r : Result T E) (job : LogJob) (kept : List ℕ) (is_long : Bool) (line : ℕ) (tally : LogTally) (given told : List ℕ) (h : LogStands job kept is_long line tally given told) (part : List ℕ) → IsLine part → (kept' : List ℕ) (is_long' : Bool) → OnOk r (IsBegun is_long' kept' (h.part ++ part)) → OnOk r (LogStands job kept' is_long' line tally (given ++ part) told)
-stand_part_if (Ok x) job kept is_long line tally given told h part l kept' is_long' begun = stand_part job kept is_long line tally given told h part l kept' is_long' begun
-stand_part_if (Err e) job kept is_long line tally given told h part l kept' is_long' begun = tt
+pub long_line : (kind : Kind) (line : List ℕ) → 1048576 < length line → IsAnswer kind line bad
+long_line kind line long = (inl long, λ e is. absurd (omega (arith, long, is.1.short)))
 
-pub log_told : (job : LogJob) (given told told' : List ℕ) (tally : LogTally) → IsLog job given told tally → (job.good ≡ true → told ≡ told') → IsLog job given told' tally
-log_told job given told told' tally h same = record {
-  lines = h.lines;
-  last = h.last;
-  given_is = h.given_is;
-  are_lines = h.are_lines;
-  answers = h.answers;
-  are_answers = h.are_answers;
-  tells = retold job h.answers told told' h.tells same;
-  items_are = h.items_are;
-  bad_are = h.bad_are;
-}
+stripped : (b : Bool) (line : List ℕ) → length line ≤ length (cond b (take (length line - 1) line) line) + 1
+stripped true line = omega (arith, length-take-le (length line - 1) line (omega arith))
+stripped false line = omega arith
 
-pub closed_if : {E : Type 0} (r : Result LogTally E) (job : LogJob) (left left' held mid held' : Option (List ℕ)) (given told : List ℕ) → Consumes left left' given → Appends held mid told → IfOk r (λ tally. (added : List ℕ) × Appends mid held' added × IsLog job given (told ++ added) tally) → IfOk r (λ tally. Piped (λ g t. IsLog job g t tally) left left' held held')
-closed_if (Ok tally) job left left' held mid held' given told gave a (added, more, log) = (given, told ++ added, gave, Appends-then held mid held' told added a more, log)
-closed_if (Err e) job left left' held mid held' given told gave a h = tt
+-- however it continues
+pub long_more : (kind : Kind) (part rest : List ℕ) → 1048577 < length part → IsAnswer kind (strip_cr (part ++ rest)) bad
+long_more kind part rest long =
+    let line = part ++ rest in
+    long_line kind (strip_cr line) (omega (arith, long, length-append part rest, stripped (ends_with_byte 13 line) line))

@@ -1,2 +1,4 @@
 pub mod Logs
 pub mod Stands
+pub mod Promised
+pub mod laws

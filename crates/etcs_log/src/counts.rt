@@ -1,5 +1,12 @@
 //! What a log has.
 
+ghost use Rattle.std.specs.Prelude.{◌≡◌, ◌++◌, ℕ, List, codes, OnErr, OnOk};
+ghost use Rattle.std.specs.Fmt.{decimal};
+ghost use Rattle.etcs_packet_text.specs.Fronts.{Begins};
+ghost use Rattle.etcs_log.specs.Logs.{counts_front};
+
+use crate::job::LogTally;
+use etcs_packet_text::inner::write_decimal;
 use etcs_packets::inner::AnyPacket;
 use etcs_text::Entry;
 use etcs_vars::Var;
@@ -89,4 +96,43 @@ impl Counts {
         }
         Ok(())
     }
+}
+
+/// Appends the lines of all counts, the further ones after those of items and bad lines; or nothing.
+///
+/// # Errors
+///
+/// Where memory is refused.
+pub(crate) fn append_counts(
+    tally: &LogTally,
+    further: &str,
+    out: &mut Vec<u8>,
+) -> Result<(), AllocError>
+    ensures ok { OnOk result (out.new.items ≡ out.old.items ++ (counts_front tally.now ++ further.now)) }
+    ensures err { OnErr result (out.new.items ≡ out.old.items) }
+{
+    let len = out.len();
+    let written = write_all_counts(tally, further, out);
+    if written.is_err() {
+        out.truncate(len);
+    }
+    written
+}
+
+/// Appends those lines.
+///
+/// # Errors
+///
+/// Where memory is refused. A part of them may then be in `out`.
+#[tactic(auto, using(etcs_packet_text::specs::laws::Fronts::begins_more, std::proofs::Common::append_assoc))]
+fn write_all_counts(tally: &LogTally, further: &str, out: &mut Vec<u8>) -> Result<(), AllocError>
+    ensures ok { OnOk result (out.new.items ≡ out.old.items ++ (counts_front tally.now ++ further.now)) }
+    ensures err { OnErr result (Begins out.old.items out.new.items) }
+{
+    out.extend_from_slice(b"items ")?;
+    write_decimal(tally.items, out)?;
+    out.extend_from_slice(b"\nbad ")?;
+    write_decimal(tally.bad, out)?;
+    out.extend_from_slice(b"\n")?;
+    out.extend_from_slice(further.as_bytes())
 }

@@ -1,14 +1,14 @@
 //! What is said of one line after another.
 
-ghost use Rattle.std.specs.Prelude.{◌≡◌, ◌+◌, ◌*◌, ◌<◌, ◌≤◌, ◌^◌, ◌++◌, ◌∷◌, [], All, OnOk, length};
+ghost use Rattle.std.specs.Prelude.{◌≡◌, ◌+◌, ◌*◌, ◌<◌, ◌≤◌, ◌^◌, ◌++◌, ◌∷◌, ℕ, List, [], All, OnErr, OnOk, length};
 ghost use Rattle.hex.specs.Hex.{encode_upper};
 ghost use Rattle.etcs_text.specs.Encodings.{IsEncoded};
 ghost use Rattle.etcs_text.specs.Entries.{entry_value};
-ghost use Rattle.etcs_log.specs.Logs.{Answered, BytesAnswered, Counted, item};
+ghost use Rattle.etcs_log.specs.Logs.{Answered, BytesAnswered, Counted, CountsText, bad, item};
 
-use crate::counts::Counts;
+use crate::counts::{Counts, append_counts};
 use crate::job::{LogJob, LogTally};
-use crate::notes::{Bad, MOST_CHARACTERS, write_note};
+use crate::notes::{Bad, append_note, write_reason};
 use etcs_packet_text::inner::to_digits;
 use etcs_reasons::inner::wanted_bytes;
 use etcs_runs::{NoBytes, line_bytes};
@@ -16,23 +16,14 @@ use etcs_text::{Entry, Kind, SingleReader, Verdict};
 use etcs_vars::Var;
 use std::alloc::{AllocError, Global};
 
-/// How many characters a line has that needs no large buffer.
-const FEW_CHARACTERS: usize = 1024;
-
-/// The digits of the good lines, and what is said of the bad ones.
-#[derive(Drop)]
-pub(crate) struct Texts {
-    pub(crate) good: Vec<u8>,
-    pub(crate) notes: String,
-}
-
-/// Appends bytes in upper case digits and a LF.
+/// Appends bytes in upper case digits and a LF, or nothing.
 ///
 /// # Errors
 ///
 /// Where memory is refused.
 fn write_digits(bytes: &[u8], out: &mut Vec<u8>) -> Result<(), AllocError>
-    ensures { OnOk result (out.new.items ≡ out.old.items ++ (encode_upper bytes.now ++ 10 ∷ [])) }
+    ensures ok { OnOk result (out.new.items ≡ out.old.items ++ (encode_upper bytes.now ++ 10 ∷ [])) }
+    ensures err { OnErr result (out.new.items ≡ out.old.items) }
 {
     let start = out.len();
     out.extend_from_slice(bytes)?;
@@ -69,81 +60,62 @@ fn bad_bytes(
 
 /// Says what lines are, and counts them.
 #[derive(Drop)]
-pub(crate) struct Lines {
+pub(crate) struct Answers {
     pub(crate) job: LogJob,
+    /// How many lines have come.
+    pub(crate) line: u64,
     pub(crate) tally: LogTally,
     reader: SingleReader,
     counts: Counts,
+    words: String,
+    /// What is said of bad lines where good ones are asked for.
+    pub(crate) notes: Vec<u8>,
     ghost same: { reader ≡ job.kind },
 }
 
-impl Lines {
+impl Answers {
     /// No line has come.
-    pub(crate) fn new(alloc: Global, job: LogJob) -> Lines
+    pub(crate) fn new(alloc: Global, job: LogJob) -> Answers
         ensures job { result.job ≡ job }
+        ensures line { result.line ≡ 0 }
         ensures tally { (result.tally.items ≡ 0) × (result.tally.bad ≡ 0) }
     {
-        Lines {
+        Answers {
             job,
+            line: 0,
             tally: LogTally { items: 0, bad: 0 },
             reader: SingleReader::new(alloc, job.kind),
             counts: Counts::new(alloc),
+            words: String::new(alloc),
+            notes: Vec::new(alloc),
         }
     }
 
-    /// Says what the line of this number is.
+    /// Says what the last line that has come is, by a buffer that has room for the bytes that it says.
     ///
     /// # Errors
     ///
-    /// Where memory is refused.
+    /// Where memory is refused. Nothing was appended.
     pub(crate) fn take(
         &mut self,
-        number: u64,
-        line: &[u8],
-        texts: &mut Texts,
-    ) -> Result<(), AllocError>
-        requires short { length line.now ≤ 8192 }
-        requires items { self.old.tally.items < 2 ^ 63 }
-        requires bad { self.old.tally.bad < 2 ^ 63 }
-        ensures job { self.new.job ≡ self.old.job }
-        ensures ok { OnOk result (Answered self.old.job line.now self.old.tally self.new.tally texts.old.good.items texts.new.good.items) }
-    {
-        if line.len() <= FEW_CHARACTERS {
-            self.take_by(number, line, &mut [0u8; FEW_CHARACTERS / 2], texts)
-        } else {
-            self.take_by(number, line, &mut [0u8; MOST_CHARACTERS / 2], texts)
-        }
-    }
-
-    /// The same, by a buffer that has room for what the line says.
-    ///
-    /// # Errors
-    ///
-    /// Where memory is refused.
-    fn take_by(
-        &mut self,
-        number: u64,
         line: &[u8],
         buffer: &mut [u8],
-        texts: &mut Texts,
+        text: &mut Vec<u8>,
     ) -> Result<(), AllocError>
-        requires short { length line.now ≤ 8192 }
+        requires short { length line.now ≤ 1048576 }
         requires room { length line.now ≤ 2 * length buffer.old }
         requires items { self.old.tally.items < 2 ^ 63 }
         requires bad { self.old.tally.bad < 2 ^ 63 }
         ensures job { self.new.job ≡ self.old.job }
-        ensures ok { OnOk result (Answered self.old.job line.now self.old.tally self.new.tally texts.old.good.items texts.new.good.items) }
+        ensures line { self.new.line ≡ self.old.line }
+        ensures ok { OnOk result (Answered self.old.job self.old.line line.now self.old.tally self.new.tally text.old.items text.new.items) }
+        ensures err { OnErr result (text.new.items ≡ text.old.items) }
     {
         match line_bytes(line, buffer) {
-            Ok(count) => self.take_bytes(number, &buffer[buffer.len() - count..], texts),
+            Ok(count) => self.take_bytes(&buffer[buffer.len() - count..], text),
             Err(NoBytes::Empty) => Ok(()),
-            Err(NoBytes::NoDigits) => self.refuse(number, Bad::NoDigits, &[], texts),
-            Err(NoBytes::OddDigits(count)) => self.refuse(
-                number,
-                Bad::OddDigits(count),
-                &[],
-                texts,
-            ),
+            Err(NoBytes::NoDigits) => self.refuse(Bad::NoDigits, &[], text),
+            Err(NoBytes::OddDigits(count)) => self.refuse(Bad::OddDigits(count), &[], text),
         }
     }
 
@@ -151,81 +123,99 @@ impl Lines {
     ///
     /// # Errors
     ///
-    /// Where memory is refused.
-    fn take_bytes(&mut self, number: u64, bytes: &[u8], texts: &mut Texts) -> Result<(), AllocError>
+    /// Where memory is refused. Nothing was appended.
+    fn take_bytes(&mut self, bytes: &[u8], text: &mut Vec<u8>) -> Result<(), AllocError>
         requires items { self.old.tally.items < 2 ^ 63 }
         requires bad { self.old.tally.bad < 2 ^ 63 }
         ensures job { self.new.job ≡ self.old.job }
-        ensures ok { OnOk result (BytesAnswered self.old.job bytes.now self.old.tally self.new.tally texts.old.good.items texts.new.good.items) }
+        ensures line { self.new.line ≡ self.old.line }
+        ensures ok { OnOk result (BytesAnswered self.old.job self.old.line bytes.now self.old.tally self.new.tally text.old.items text.new.items) }
+        ensures err { OnErr result (text.new.items ≡ text.old.items) }
     {
         are_bytes(bytes);
         let refusal = match self.reader.read(bytes)? {
-            Verdict::Item(entry) => return self.take_item(&entry, bytes, texts),
+            Verdict::Item(entry) => return self.take_item(&entry, bytes, text),
             Verdict::Refused { bit, var } => Some((bit, var)),
             Verdict::TooShort => None,
             Verdict::TooLong => None,
         };
         let bad = bad_bytes(self.job.kind, refusal, bytes, &mut self.counts)?;
-        self.refuse(number, bad, bytes, texts)
+        self.refuse(bad, bytes, text)
     }
 
     /// Counts an item of these bytes, and writes their digits where they are asked for.
     ///
     /// # Errors
     ///
-    /// Where memory is refused.
+    /// Where memory is refused. Nothing was appended.
     fn take_item(
         &mut self,
         entry: &Entry,
         bytes: &[u8],
-        texts: &mut Texts,
+        text: &mut Vec<u8>,
     ) -> Result<(), AllocError>
         requires encoded { IsEncoded (entry_value entry.now) bytes.now }
         requires items { self.old.tally.items < 2 ^ 63 }
         ensures job { self.new.job ≡ self.old.job }
-        ensures ok { OnOk result (Counted self.old.job (item (entry_value entry.now)) self.old.tally self.new.tally texts.old.good.items texts.new.good.items) }
+        ensures line { self.new.line ≡ self.old.line }
+        ensures ok { OnOk result (Counted self.old.job self.old.line (item (entry_value entry.now)) self.old.tally self.new.tally text.old.items text.new.items) }
+        ensures err { OnErr result (text.new.items ≡ text.old.items) }
     {
         self.tally.items += 1;
         self.counts.add_item(entry);
         if !self.job.good {
             return Ok(());
         }
-        write_digits(bytes, &mut texts.good)
+        write_digits(bytes, text)
     }
 
     /// Says why a line is bad, which says these bytes, if it says any.
     ///
     /// # Errors
     ///
-    /// Where memory is refused.
+    /// Where memory is refused. Nothing was appended.
     pub(crate) fn refuse(
         &mut self,
-        number: u64,
-        bad: Bad,
+        why: Bad,
         bytes: &[u8],
-        texts: &mut Texts,
+        text: &mut Vec<u8>,
     ) -> Result<(), AllocError>
         requires bad { self.old.tally.bad < 2 ^ 63 }
         ensures job { self.new.job ≡ self.old.job }
-        ensures items { self.new.tally.items ≡ self.old.tally.items }
-        ensures bad { self.new.tally.bad ≡ self.old.tally.bad + 1 }
-        ensures good { texts.new.good.items ≡ texts.old.good.items }
+        ensures line { self.new.line ≡ self.old.line }
+        ensures ok { OnOk result (Counted self.old.job self.old.line bad self.old.tally self.new.tally text.old.items text.new.items) }
+        ensures err { OnErr result (text.new.items ≡ text.old.items) }
     {
         self.tally.bad += 1;
-        write_note(number, bad, self.job.kind, bytes, &mut texts.notes)
+        self.words.clear();
+        write_reason(why, self.job.kind, bytes, &mut self.words)?;
+        if self.job.good {
+            append_note(self.line, self.words.as_str(), &mut self.notes)
+        } else {
+            append_note(self.line, self.words.as_str(), text)
+        }
     }
 
     /// Appends the counts, a line each, where they are asked for.
     ///
     /// # Errors
     ///
-    /// Where memory is refused. Some of them may then be there.
-    pub(crate) fn write_counts(&self, out: &mut String) -> Result<(), AllocError> {
+    /// Where memory is refused. Nothing was appended.
+    pub(crate) fn write_counts(&mut self, text: &mut Vec<u8>) -> Result<(), AllocError>
+        ensures job { self.new.job ≡ self.old.job }
+        ensures tally { self.new.tally ≡ self.old.tally }
+        ensures ok { OnOk result ((counts : List ℕ) × CountsText self.old.job self.old.tally counts × (text.new.items ≡ text.old.items ++ counts)) }
+        ensures err { OnErr result (text.new.items ≡ text.old.items) }
+    {
         if !self.job.summary {
             return Ok(());
         }
-        writeln!(out, "items {}", self.tally.items)?;
-        writeln!(out, "bad {}", self.tally.bad)?;
-        self.counts.write(out)
+        self.words.clear();
+        self.counts.write(&mut self.words)?;
+        if self.job.good {
+            append_counts(&self.tally, self.words.as_str(), &mut self.notes)
+        } else {
+            append_counts(&self.tally, self.words.as_str(), text)
+        }
     }
 }

@@ -1,135 +1,214 @@
-//! A log: lines from pieces, each read by itself.
+//! A log: lines one after another, each read by itself.
 
-ghost use Rattle.std.specs.Prelude.{◌≡◌, ◌+◌, ◌<◌, ◌^◌, ◌++◌, ℕ, List, [], IfOk, OnOk, length};
-ghost use Rattle.etcs_log.specs.Logs.{Answered, IsLog};
-ghost use Rattle.etcs_log.specs.Stands.{IsBegun, LogStands};
+ghost use Rattle.std.specs.Prelude.{◌≡◌, ◌+◌, ◌<◌, ◌≤◌, ◌^◌, ◌++◌, ◌∷◌, ℕ, List, [], IfErr, IfOk, OnErr, OnOk, length, ⊤};
+ghost use Rattle.etcs_log.specs.Logs.{Answered, CountsText};
+ghost use Rattle.etcs_log.specs.Promised.{log_promises};
+ghost use Rattle.etcs_runs.specs.declared.fault.RunFault.{RunFault};
+ghost use Rattle.etcs_log.specs.Stands.{LogTook};
+ghost use Rattle.etcs_log.specs.laws.LogLaws.{log_sound, long_told, stands_told, took_told};
 
 use crate::job::{LogJob, LogTally};
-use crate::lines::{Lines, Texts};
-use crate::notes::{Bad, MOST_CHARACTERS};
-use etcs_runs::split_line;
+use crate::lines::Answers;
+use crate::notes::Bad;
+use etcs_runs::inner::{Engine, LineHandler, Lines, send};
+use etcs_runs::{MOST_LINE, RunFault, Sink, without_cr};
 use std::alloc::{AllocError, Global};
 
-/// The line that isn't whole yet, and how many came before it.
-#[derive(Drop)]
-pub(crate) struct Log {
-    begun: Vec<u8>,
-    is_long: bool,
-    line: u64,
-    pub(crate) lines: Lines,
+/// How many characters a line has that needs no large buffer.
+const FEW_CHARACTERS: usize = 1024;
+
+/// How often a sink of notes fails before it is asked no more.
+const MOST_FAILURES: u64 = 1 << 62;
+
+/// Makes a buffer at least so long.
+///
+/// # Errors
+///
+/// Where memory is refused.
+fn make_room(buffer: &mut Vec<u8>, count: usize) -> Result<(), AllocError>
+    ensures { OnOk result (count ≤ length buffer.new.items) }
+{
+    if buffer.len() < count {
+        buffer.resize(count, 0)?;
+    }
+    Ok(())
 }
 
-impl Log {
-    /// Nothing has come yet.
-    pub(crate) fn new(alloc: Global, job: LogJob) -> Log
-        ensures job { result.lines.job ≡ job }
-        ensures stands { LogStands job result.begun.items result.is_long result.line result.lines.tally [] [] }
+/// Answers the lines of a log, with a buffer for the bytes of long ones.
+#[derive(Drop)]
+pub(crate) struct LogLines {
+    buffer: Vec<u8>,
+    pub(crate) answers: Answers,
+}
+
+impl LogLines {
+    /// No line has come.
+    pub(crate) fn new(alloc: Global, job: LogJob) -> LogLines
+        ensures job { result.answers.job ≡ job }
+        ensures took { LogTook job result.answers.line result.answers.tally [] [] }
     {
-        Log {
-            begun: Vec::new(alloc),
-            is_long: false,
-            line: 0,
-            lines: Lines::new(alloc, job),
+        LogLines {
+            buffer: Vec::new(alloc),
+            answers: Answers::new(alloc, job),
         }
     }
 
-    /// Keeps a part of a line, as long as the line isn't too long.
+    /// Says what the next line is.
     ///
     /// # Errors
     ///
-    /// Where memory is refused.
-    fn keep(&mut self, part: &[u8]) -> Result<(), AllocError>
-        requires begun { (front : List ℕ) × IsBegun self.old.is_long self.old.begun.items front }
-        ensures line { self.new.line ≡ self.old.line }
-        ensures lines { self.new.lines ≡ self.old.lines }
-        ensures ok { (front : List ℕ) → IsBegun self.old.is_long self.old.begun.items front → OnOk result (IsBegun self.new.is_long self.new.begun.items (front ++ part.now)) }
+    /// Where memory is refused. Nothing was appended.
+    fn take(&mut self, line: &[u8], text: &mut Vec<u8>) -> Result<(), AllocError>
+        requires line { self.old.answers.line < 2 ^ 63 }
+        requires items { self.old.answers.tally.items < 2 ^ 63 }
+        requires bad { self.old.answers.tally.bad < 2 ^ 63 }
+        ensures job { self.new.answers.job ≡ self.old.answers.job }
+        ensures line { self.new.answers.line ≡ self.old.answers.line + 1 }
+        ensures ok { OnOk result (Answered self.old.answers.job (self.old.answers.line + 1) line.now self.old.answers.tally self.new.answers.tally text.old.items text.new.items) }
+        ensures err { OnErr result (text.new.items ≡ text.old.items) }
     {
-        if self.is_long {
-            return Ok(());
+        self.answers.line += 1;
+        if line.len() <= FEW_CHARACTERS {
+            return self
+                .answers
+                .take(line, &mut [0u8; FEW_CHARACTERS / 2], text);
         }
-        if part.len() > MOST_CHARACTERS - self.begun.len() {
-            self.is_long = true;
-            return Ok(());
+        if line.len() > MOST_LINE {
+            return self.answers.refuse(Bad::Long, &[], text);
         }
-        self.begun.extend_from_slice(part)
+        make_room(&mut self.buffer, line.len().div_ceil(2))?;
+        self.answers.take(line, self.buffer.as_mut_slice(), text)
     }
 
-    /// A line ends here, of which this is the last part. One that lies whole in it isn't kept.
+    /// The log is at its end: writes the counts.
     ///
     /// # Errors
     ///
-    /// Where memory is refused.
-    fn end_line(&mut self, part: &[u8], texts: &mut Texts) -> Result<(), AllocError>
-        requires begun { (front : List ℕ) × IsBegun self.old.is_long self.old.begun.items front }
-        requires line { self.old.line < 2 ^ 63 }
-        requires items { self.old.lines.tally.items < 2 ^ 63 }
-        requires bad { self.old.lines.tally.bad < 2 ^ 63 }
-        ensures job { self.new.lines.job ≡ self.old.lines.job }
-        ensures line { OnOk result (self.new.line ≡ self.old.line + 1) }
-        ensures begun { OnOk result (IsBegun self.new.is_long self.new.begun.items []) }
-        ensures ok { (front : List ℕ) → IsBegun self.old.is_long self.old.begun.items front → OnOk result (Answered self.old.lines.job (front ++ part.now) self.old.lines.tally self.new.lines.tally texts.old.good.items texts.new.good.items) }
+    /// `Memory`. Nothing was appended.
+    fn end(&mut self, text: &mut Vec<u8>) -> Result<LogTally, RunFault>
+        ensures ok { IfOk result (λ tally. (tally ≡ self.old.answers.tally) × ((counts : List ℕ) × CountsText self.old.answers.job tally counts × (text.new.items ≡ text.old.items ++ counts))) }
+        ensures err { IfErr result (λ e. (e ≡ RunFault.Memory) × (text.new.items ≡ text.old.items)) }
     {
-        if self.begun.is_empty() && !self.is_long && part.len() <= MOST_CHARACTERS {
-            self.line += 1;
-            return self.lines.take(self.line, part, texts);
-        }
-        self.keep(part)?;
-        self.line += 1;
-        self.end_kept(texts)?;
-        self.is_long = false;
-        self.begun.clear();
-        Ok(())
-    }
-
-    /// Says what the line is that is kept.
-    ///
-    /// # Errors
-    ///
-    /// Where memory is refused.
-    fn end_kept(&mut self, texts: &mut Texts) -> Result<(), AllocError>
-        requires begun { (line : List ℕ) × IsBegun self.old.is_long self.old.begun.items line }
-        requires items { self.old.lines.tally.items < 2 ^ 63 }
-        requires bad { self.old.lines.tally.bad < 2 ^ 63 }
-        ensures job { self.new.lines.job ≡ self.old.lines.job }
-        ensures line { self.new.line ≡ self.old.line }
-        ensures ok { (line : List ℕ) → IsBegun self.old.is_long self.old.begun.items line → OnOk result (Answered self.old.lines.job line self.old.lines.tally self.new.lines.tally texts.old.good.items texts.new.good.items) }
-    {
-        if self.is_long {
-            self.lines.refuse(self.line, Bad::Long, &[], texts)
-        } else {
-            self.lines.take(self.line, self.begun.as_slice(), texts)
+        match self.answers.write_counts(text) {
+            Ok(()) => Ok(self.answers.tally),
+            Err(AllocError) => Err(RunFault::Memory),
         }
     }
+}
 
-    /// Takes a piece of the input.
-    ///
-    /// # Errors
-    ///
-    /// Where memory is refused.
-    pub(crate) fn feed(&mut self, piece: &[u8], texts: &mut Texts) -> Result<(), AllocError>
-        requires stands { (given : List ℕ) × (told : List ℕ) × LogStands self.old.lines.job self.old.begun.items self.old.is_long self.old.line self.old.lines.tally given (told ++ texts.old.good.items) × (length given + length piece.now < 2 ^ 62) }
-        ensures job { self.new.lines.job ≡ self.old.lines.job }
-        ensures ok { (given told : List ℕ) → LogStands self.old.lines.job self.old.begun.items self.old.is_long self.old.line self.old.lines.tally given (told ++ texts.old.good.items) → OnOk result (LogStands self.old.lines.job self.new.begun.items self.new.is_long self.new.line self.new.lines.tally (given ++ piece.now) (told ++ texts.new.good.items)) }
-    {
-        let mut rest = piece;
-        while let Some((line, behind)) = split_line(rest) {
-            self.end_line(line, texts)?;
-            rest = behind;
+impl LineHandler for LogLines {
+    type Job = LogJob;
+
+    type Tally = LogTally;
+
+    ghost job = { λ s. s.answers.job };
+
+    ghost promises = { log_promises };
+
+    ghost most = { λ job. 1048576 };
+
+    ghost took = { λ s lines told. LogTook s.answers.job s.answers.line s.answers.tally lines told };
+
+    ghost said = { λ s told. ⊤ };
+
+    fn most(&self) -> usize {
+        MOST_LINE
+    }
+
+    fn handle_line(
+        &mut self,
+        line: &[u8],
+        _number: u64,
+        text: &mut Vec<u8>,
+    ) -> Result<(), RunFault> {
+        match self.take(line, text) {
+            Ok(()) => Ok(()),
+            Err(AllocError) => Err(RunFault::Memory),
         }
-        self.keep(rest)
     }
 
-    /// The input ends here.
-    ///
-    /// # Errors
-    ///
-    /// Where memory is refused.
-    pub(crate) fn finish(&mut self, texts: &mut Texts) -> Result<LogTally, AllocError>
-        requires stands { (given : List ℕ) × (told : List ℕ) × LogStands self.old.lines.job self.old.begun.items self.old.is_long self.old.line self.old.lines.tally given (told ++ texts.old.good.items) × (length given < 2 ^ 62) }
-        ensures ok { (given told : List ℕ) → LogStands self.old.lines.job self.old.begun.items self.old.is_long self.old.line self.old.lines.tally given (told ++ texts.old.good.items) → IfOk result (λ tally. IsLog self.old.lines.job given (told ++ texts.new.good.items) tally) }
-    {
-        self.end_line(&[], texts)?;
-        self.lines.write_counts(&mut texts.notes)?;
-        Ok(self.lines.tally)
+    fn refuse_long(&mut self, _number: u64, text: &mut Vec<u8>) -> Result<(), RunFault> {
+        self.answers.line += 1;
+        match self.answers.refuse(Bad::Long, &[], text) {
+            Ok(()) => Ok(()),
+            Err(AllocError) => Err(RunFault::Memory),
+        }
     }
+
+    fn handle_last(
+        &mut self,
+        line: &[u8],
+        _number: u64,
+        text: &mut Vec<u8>,
+    ) -> Result<LogTally, RunFault> {
+        match self.take(without_cr(line), text) {
+            Ok(()) => self.end(text),
+            Err(AllocError) => Err(RunFault::Memory),
+        }
+    }
+
+    fn close(&mut self, text: &mut Vec<u8>) -> Result<LogTally, RunFault> {
+        self.end(text)
+    }
+
+    ghost sound = { λ s. log_sound s.answers.job };
+
+    ghost took_tells = { λ s lines begun told h l. took_told s.answers.job s.answers.line s.answers.tally lines begun told h l };
+
+    ghost long_tells = { λ s lines part told h l long. long_told s.answers.job s.answers.line s.answers.tally lines part told h l long };
+
+    ghost took_said = { λ s lines told h. tt };
+}
+
+/// The lines of a log, and where notes go to where good lines are asked for.
+#[derive(Drop)]
+pub(crate) struct LogEngine<'a, N: Sink> {
+    pub(crate) lines: Lines<LogLines>,
+    pub(crate) notes: &'a mut N,
+}
+
+/// Passes notes on. Those that the sink doesn't take are lost.
+fn pass_notes<N: Sink>(notes: &mut Vec<u8>, sink: &mut N) {
+    if sink.failures() < MOST_FAILURES {
+        let _ = send(sink, notes.as_slice(), &mut 0);
+    }
+    notes.clear();
+}
+
+impl<'a, N: Sink> Engine for LogEngine<'a, N> {
+    type Job = LogJob;
+
+    type Tally = LogTally;
+
+    ghost job = { λ e. e.lines.handler.answers.job };
+
+    ghost promises = { log_promises };
+
+    ghost stands = { λ e given told. ⟦<Lines<LogLines> as Engine>⟧.stands e.lines given told };
+
+    ghost said = { λ e told. ⊤ };
+
+    fn wanted(&self) -> usize {
+        self.lines.wanted()
+    }
+
+    fn feed(&mut self, piece: &[u8], text: &mut Vec<u8>) -> Result<(), RunFault> {
+        let lines = &mut self.lines;
+        let fed = lines.feed(piece, text);
+        let answers = &mut lines.handler.answers;
+        pass_notes(&mut answers.notes, self.notes);
+        fed
+    }
+
+    fn finish(&mut self, text: &mut Vec<u8>) -> Result<LogTally, RunFault> {
+        let lines = &mut self.lines;
+        let finished = lines.finish(text);
+        let answers = &mut lines.handler.answers;
+        pass_notes(&mut answers.notes, self.notes);
+        finished
+    }
+
+    ghost sound = { λ e. log_sound e.lines.handler.answers.job };
+
+    ghost stands_tells = { λ e given told h. stands_told e.lines.handler.answers.job e.lines.handler.answers.line e.lines.handler.answers.tally _ _ _ given told h };
 }

@@ -1,1 +1,2 @@
 pub mod Accounting
+pub mod ItemLengths

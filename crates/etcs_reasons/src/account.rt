@@ -1,8 +1,8 @@
 //! The variables of an item, one after another, up to its end or the first refused bit.
 
-ghost use Rattle.std.specs.Prelude.{◌≡◌, length, take, IfOk};
+ghost use Rattle.std.specs.Prelude.{◌≡◌, ◌<◌, ◌/◌, ◌^◌, length, take, IfOk};
 ghost use Rattle.etcs_bits.specs.Bits.{bits};
-ghost use Rattle.etcs_vars.specs.Reading.{readings_of};
+ghost use Rattle.etcs_vars.specs.Reading.{readings_of, spelled};
 ghost use Rattle.etcs_reader.specs.Rests.{Goes};
 ghost use Rattle.etcs_text.specs.Entries.{EntryReads};
 ghost use Rattle.etcs_reasons.specs.Accounts.{Accounts};
@@ -176,7 +176,9 @@ impl Account {
     }
 
     /// How many bytes the variables have.
-    pub fn bytes(&self) -> usize {
+    pub fn bytes(&self) -> usize
+        ensures { length (spelled self.now.fields.items) < 2 ^ 62 → result ≡ length (spelled self.now.fields.items) / 8 }
+    {
         let mut bits = 0usize;
         for field in self.fields.as_slice() {
             bits = bits.saturating_add(field.0.width());

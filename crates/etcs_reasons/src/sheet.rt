@@ -75,9 +75,8 @@ impl Sheet {
         }
     }
 
-    /// Begins the table of an item, whose title is the meaning.
+    /// Begins the table of an item: the rest of its title, which is the meaning, and what is above the first line.
     pub fn open_item(&mut self) {
-        self.put("", "<section><h2>");
         self.put_meaning();
         let head = "\n  bits        variable              number  meaning\n";
         self.put(head, "</h2>\n");
@@ -151,9 +150,8 @@ impl Sheet {
         self.put("", "</div></div></section>\n");
     }
 
-    /// Writes the meaning as the line of what is no item.
+    /// Writes the meaning as the rest of the line of what is no item.
     pub fn heading(&mut self) {
-        self.put("", "<p class=no>");
         self.put_meaning();
         self.out.push("\n");
     }

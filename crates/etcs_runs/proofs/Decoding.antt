@@ -1,13 +1,11 @@
 -- Digits one after another say bytes one after another.
-use Rattle.std.proofs.Common.{◌≡◌, ℕ, ◌+◌, ◌*◌, Bool, true, false, List, [], ◌∷◌, ◌++◌, length, Option, Some, None, Result, Ok, Err, is_ok, refl, sym, ap, ◌∙◌, arith}
+use Rattle.std.proofs.Common.{◌≡◌, ℕ, ◌+◌, ◌*◌, List, [], ◌∷◌, ◌++◌, length, Option, Some, None, Result, Ok, Err, refl, sym, ap, ◌∙◌, arith}
 use Rattle.std.proofs.lemmas.List.{length-append}
-use Rattle.std.proofs.lemmas.List.Sums.{AllPass-from_list_all, list_all-from_AllPass}
-use Rattle.std.specs.List.{list_all}
-use Rattle.std.specs.Result.{result_unwrap_or, MatchResult}
-use Rattle.hex.specs.Hex.{◌>>=◌, digit_or_error, hex_digit_value, value_at, pair_value, is_hex_digit, decode_pairs, decode_of, decode_sized}
+use Rattle.std.specs.Result.{result_unwrap_or}
+use Rattle.hex.specs.Hex.{◌>>=◌, digit_or_error, hex_digit_value, value_at, pair_value, decode_pairs, decode_of}
 use Rattle.hex.specs.declared.error.FromHexError.{FromHexError}
 use Rattle.hex.proofs.Pairs.{cons_byte, decode_pairs-ok_pair}
-use Rattle.hex.proofs.HexLemmas.{decode_of-even, decode_of-ok, IsOk-written, IsOk-decode_sized}
+use Rattle.hex.proofs.HexLemmas.{decode_of-even, decode_of-ok}
 
 bind_ok : {A B : Type 0} (r : Result A FromHexError) (f : A → Result B FromHexError) (y : B) → (r >>= f) ≡ Ok y → (x : A) × (r ≡ Ok x) × (f x ≡ Ok y)
 bind_ok (Ok x) f y h = (x, refl, h)
@@ -58,17 +56,3 @@ decode_of-append s t x y h g =
     let two = (decode_of-ok t y g).0 in
     decode_of-even (s ++ t) (omega (arith, one, two, length-append s t))
     ∙ joined s t x y 0 0 0 (sym (decode_of-even s one) ∙ h) (sym (decode_of-even t two) ∙ g)
-
-same_bool : (a b : Bool) → (a ≡ true → b ≡ true) → (b ≡ true → a ≡ true) → a ≡ b
-same_bool true b f g = sym (f refl)
-same_bool false true f g = g refl
-same_bool false false f g = refl
-
--- which words decode
-pub decodes : (word : List ℕ) (n : ℕ) (out : List ℕ) (r : Result Unit FromHexError) → length word ≡ 2 * n → MatchResult (decode_sized word n) (λ bytes. (r ≡ Ok tt) × (out ≡ bytes)) (λ e. r ≡ Err e) → is_ok r ≡ list_all is_hex_digit word
-decodes word n out r len m =
-    let written = IsOk-written (decode_sized word n) r out m in
-    let sized = IsOk-decode_sized word n in
-    same_bool (is_ok r) (list_all is_hex_digit word)
-    (λ h. list_all-from_AllPass is_hex_digit word (sized.0 (written.0 h)).1)
-    (λ h. written.1 (sized.1 (len, AllPass-from_list_all is_hex_digit word h)))

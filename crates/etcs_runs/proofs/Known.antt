@@ -20,12 +20,6 @@ Appends-then (Some xs) None w a b x y = absurd x
 Appends-then (Some xs) (Some ys) None a b x y = y
 Appends-then (Some xs) (Some ys) (Some zs) a b x y = y ∙ ap (λ (t : List ℕ). t ++ b) x ∙ append_assoc xs a b
 
-pub Appends-kept : (u v w : Option (List ℕ)) (a : List ℕ) → Appends u v a → Keeps v w → Appends u w a
-Appends-kept None v w a x y = tt
-Appends-kept (Some xs) None w a x y = absurd x
-Appends-kept (Some xs) (Some ys) None a x y = absurd y
-Appends-kept (Some xs) (Some ys) (Some zs) a x y = y ∙ x
-
 pub Consumes-then : (u v w : Option (List ℕ)) (a b : List ℕ) → Consumes u v a → Consumes v w b → Consumes u w (a ++ b)
 Consumes-then None v w a b x y = tt
 Consumes-then (Some xs) None w a b x y = absurd x

@@ -1,6 +1,11 @@
 pub mod Known
 pub mod LineTexts
 pub mod Words
+pub mod Pairs
 pub mod Decoding
 pub mod Runs
 pub mod Pure
+pub mod Printing
+pub mod Endings
+pub mod Running
+pub mod Keeping

@@ -1,6 +1,5 @@
 -- Lines one after another, of a text that comes in pieces.
-use Rattle.std.proofs.Common.{◌≡◌, ℕ, ◌+◌, ◌≤◌, true, eqb, List, [], ◌∷◌, ◌++◌, length, refl, sym, ap, ◌∙◌, arith, append_assoc, length-append}
-use Rattle.std.proofs.lemmas.Bool.{eqb-true}
+use Rattle.std.proofs.Common.{◌≡◌, ℕ, ◌+◌, ◌≤◌, List, [], ◌∷◌, ◌++◌, length, sym, ap, ◌∙◌, arith, append_assoc, length-append}
 use Rattle.std.proofs.lemmas.Grind.{flat_map-append}
 use Rattle.std.proofs.lemmas.List.{append-nil}
 use Rattle.etcs_runs.specs.Lines.{lines_text}
@@ -17,11 +16,6 @@ pub lines_few : (lines : List (List ℕ)) → length lines ≤ length (lines_tex
 lines_few [] = omega arith
 lines_few (line ∷ lines) =
     omega (arith, lines_few lines, length-append (line ++ 10 ∷ []) (lines_text lines), length-append line (10 ∷ []))
-
--- nothing is kept of a line
-pub none_kept : (xs : List ℕ) (n : ℕ) → n ≡ length xs → eqb n 0 ≡ true → xs ≡ []
-none_kept [] n e h = refl
-none_kept (x ∷ xs) n e h = absurd (omega (arith, e, eqb-true n 0 h))
 
 -- one more line is taken off
 pub cut_line : (piece front rest line behind : List ℕ) → piece ≡ front ++ rest → rest ≡ line ++ 10 ∷ behind → piece ≡ (front ++ (line ++ 10 ∷ [])) ++ behind

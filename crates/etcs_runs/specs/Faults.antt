@@ -1,4 +1,4 @@
--- The line of each fault.
+-- The line of each fault, and which faults are of the input.
 use Rattle.std.specs.Prelude.{ℕ, List, ◌++◌, codes}
 use Rattle.std.specs.Fmt.{decimal}
 use Rattle.etcs_vars.specs.Vars.{name}
@@ -15,3 +15,14 @@ fault_line Read = codes "etcs: read fault\n"
 fault_line (Write sent) = codes "etcs: write fault after " ++ decimal sent ++ codes " bytes\n"
 fault_line Endless = codes "etcs: input without end\n"
 fault_line Memory = codes "etcs: out of memory\n"
+
+-- it is of the input, and not of the source or the sink; or memory was refused
+abbrev pub IsOfEngine : RunFault → Type 0
+IsOfEngine (Refused item bit var) = Unit {0}
+IsOfEngine (Truncated item bits) = Unit {0}
+IsOfEngine (BadHex line place) = Unit {0}
+IsOfEngine (BadJson line) = Unit {0}
+IsOfEngine Read = ⊥
+IsOfEngine (Write sent) = ⊥
+IsOfEngine Endless = Unit {0}
+IsOfEngine Memory = Unit {0}

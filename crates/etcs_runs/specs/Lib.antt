@@ -2,6 +2,11 @@ pub mod Ends
 pub mod Faults
 pub mod Lines
 pub mod Pipes
+pub mod Promises
+pub mod Passes
+pub mod Runs
+pub mod Cutting
 pub mod Digits
 pub mod Cuts
 pub mod Answers
+pub mod laws

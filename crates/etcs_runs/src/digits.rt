@@ -8,6 +8,8 @@ ghost use Rattle.etcs_runs.specs.Digits.{are_digits, bare, is_blank, is_joint, i
 ghost use Rattle.etcs_runs.specs.Cuts.{parts_at};
 ghost use Rattle.etcs_runs.specs.Answers.{Says};
 
+use crate::hexadecimal::{decode, is_digit};
+
 /// Why a line says no bytes.
 #[derive(Clone, Copy, Debug, PartialEq, Eq)]
 pub enum NoBytes {
@@ -132,16 +134,6 @@ fn without_mark(line: &[u8]) -> &[u8]
     }
 }
 
-/// Writes the bytes that a word says all over `bytes`, or answers that it isn't digits.
-fn decode(word: &[u8], bytes: &mut [u8]) -> bool
-    requires { length word.now ≡ 2 * length bytes.old }
-    ensures good { result ≡ list_all is_hex_digit word.now }
-    ensures bytes { IsTrue result → decode_of word.now ≡ Ok bytes.new }
-    ensures room { length bytes.new ≡ length bytes.old }
-{
-    hex::decode_to_slice(word, bytes).is_ok()
-}
-
 /// Writes what the last words of a text say before a place of the buffer, as long as each has `count` digits, and says
 /// where it begins.
 fn take_words(cut: Cut, count: usize, text: &[u8], buffer: &mut [u8], end: usize) -> usize
@@ -176,13 +168,6 @@ fn is_taken(word: &[u8], count: usize, buffer: &mut [u8]) -> bool
 {
     let start = buffer.len() - word.len() / 2;
     word.len() == count && decode(word, &mut buffer[start..])
-}
-
-/// Whether the character is a hexadecimal digit of either case.
-fn is_digit(character: u8) -> bool
-    ensures { result ≡ is_hex_digit character }
-{
-    matches!(character, b'A'..=b'F' | b'a'..=b'f' | b'0'..=b'9')
 }
 
 /// Whether each character of a word is a digit.

@@ -9,7 +9,7 @@ use Rattle.etcs_text.specs.Entries.{EntryValue}
 use Rattle.etcs_stream.specs.declared.job.Job.{Job}
 use Rattle.etcs_runs.specs.declared.fault.RunFault.{RunFault}
 use Rattle.etcs_runs.specs.declared.fault.RunFault.TheVariants.{Truncated, Memory}
-use Rattle.etcs_stream.specs.Faults.{IsOfEngine}
+use Rattle.etcs_runs.specs.Faults.{IsOfEngine}
 use Rattle.etcs_stream.specs.Told.{Told}
 use Rattle.etcs_stream.specs.Tellers.{Closes}
 use Rattle.etcs_stream.specs.declared.job.Tally.{Tally}

@@ -1,11 +1,9 @@
 -- A text is lines: all of them are good, or one is the first that is bad.
-use Rattle.std.proofs.Common.{◌≡◌, ℕ, zero, suc, ◌+◌, ◌-◌, ◌<◌, ◌≤◌, Bool, true, false, cond, eqb, ltb, List, [], ◌∷◌, ◌++◌, length, take, Option, Some, None, refl, sym, ap, subst, ◌∙◌, arith, append_assoc, length-append, inl, inr}
+use Rattle.std.proofs.Common.{◌≡◌, ℕ, zero, suc, ◌+◌, ◌-◌, ◌≤◌, Bool, true, false, eqb, List, [], ◌∷◌, ◌++◌, length, Option, Some, None, refl, sym, ap, subst, ◌∙◌, arith, append_assoc, length-append, inl, inr}
 use Rattle.std.specs.Prelude.{◌⊎◌}
-use Rattle.std.specs.Io.BufRead.{ends_with_byte}
-use Rattle.std.proofs.lemmas.Bool.{lt-ltb, eqb-true}
+use Rattle.std.proofs.lemmas.Bool.{eqb-true}
 use Rattle.std.proofs.lemmas.Bool.Decides.{nat_tests}
 use Rattle.std.proofs.lemmas.Grind.{flat_map-append}
-use Rattle.std.proofs.lemmas.List.{length-take-le}
 use Rattle.std.proofs.lemmas.List.Elements.{All-nil, All-cons}
 use Rattle.etcs_runs.specs.Lines.{IsLine, strip_cr, lines_text}
 use Rattle.etcs_runs.proofs.LineTexts.{lines_text-append, one_line}
@@ -110,15 +108,3 @@ cut (suc n) text h = elim (first_lf text) [
 
 pub cut_text : (text : List ℕ) → (bytes : List ℕ) × Says text bytes
 cut_text text = cut (length text) text (omega arith)
-
--- ---- A line that is too long.
-
-pub long_bad : (line : List ℕ) → 4096 < length line → bad_place line ≡ Some 4096
-long_bad line h = let t : ltb 4096 (length line) ≡ true = lt-ltb 4096 (length line) h in rw t refl
-
-pub stripped : (b : Bool) (line : List ℕ) → length line ≤ length (cond b (take (length line - 1) line) line) + 1
-stripped true line = omega (arith, length-take-le (length line - 1) line (omega arith))
-stripped false line = omega arith
-
-pub long_bad_stripped : (line : List ℕ) → 4097 < length line → bad_place (strip_cr line) ≡ Some 4096
-long_bad_stripped line h = long_bad (strip_cr line) (omega (arith, stripped (ends_with_byte 13 line) line))

@@ -1,34 +1,42 @@
--- What shows that a line is good, pair by pair.
-use Rattle.std.proofs.Common.{◌≡◌, ℕ, ◌+◌, ◌*◌, ◌%◌, ◌<◌, ◌≤◌, false, eqb, ltb, not, List, [], length, take, drop, unwrap_or, Option, Some, None, Result, Ok, refl, ap, sym, ◌∙◌, arith, le_refl}
+-- Which lines are good, and where the others aren't.
+use Rattle.std.proofs.Common.{◌≡◌, ℕ, ◌%◌, ◌<◌, ◌≤◌, Bool, true, false, cond, eqb, ltb, not, List, [], length, get_or, Option, Some, None, Result, Ok, refl, ap, sym, ◌∙◌, arith, le_refl}
+use Rattle.std.proofs.Math.Bool.{not-not}
 use Rattle.std.proofs.lemmas.Bool.Decides.{nat_tests}
-use Rattle.std.proofs.lemmas.List.{append-nil, drop_all}
-use Rattle.std.proofs.lemmas.List.Sums.{position_or_len_is}
-use Rattle.std.specs.List.{AllPass, position, position_or_len}
+use Rattle.std.proofs.lemmas.List.Sums.{list_all-from_AllPass, position_or_len_is, prefix_len_passes}
+use Rattle.std.specs.List.{AllPass, list_all, position, position_or_len}
 use Rattle.std.specs.Result.{result_unwrap_or}
-use Rattle.hex.specs.Hex.{decode_of, decode_pairs, digit_or_error, hex_digit_value, is_hex_digit, pair_value, value_at}
+use Rattle.hex.specs.Hex.{decode_of, is_hex_digit}
 use Rattle.hex.specs.declared.error.FromHexError.{FromHexError}
-use Rattle.hex.proofs.HexLemmas.{decode_of-even, decode_of-ok}
-use Rattle.hex.proofs.Pairs.{prepend}
+use Rattle.hex.proofs.HexLemmas.{decode_of-ok}
 use Rattle.etcs_stream.specs.Lines.{bad_place, line_bytes}
 
-some_value : (o : Option ℕ) (n : ℕ) → n ≡ unwrap_or o 256 → n < 256 → o ≡ Some n
-some_value (Some v) n e h = ap Some (sym e)
-some_value None n e h = absurd (omega arith)
+cond_none : (b : Bool) (n : ℕ) (o : Option ℕ) → cond b (Some n) o ≡ None → (b ≡ false) × (o ≡ None)
+cond_none true n o h = absurd cc
+cond_none false n o h = (refl, h)
 
-pair_reads : (a b i x y : ℕ) → hex_digit_value a ≡ Some x → hex_digit_value b ≡ Some y → pair_value a b i ≡ Ok (x * 16 + y)
-pair_reads a b i x y ex ey =
-    let ha : value_at a i ≡ Ok x = ap (digit_or_error a i) ex in
-    let hb : value_at b (i + 1) ≡ Ok y = ap (digit_or_error b (i + 1)) ey in
-    rw (ha, hb) refl
+not_below : (m n : ℕ) → ltb m n ≡ false → n ≤ m
+not_below m n h = grind (arith, nat_tests)
 
--- two characters whose values make a byte
-pub good_pair : (a b i x y : ℕ) → x ≡ unwrap_or (hex_digit_value a) 256 → y ≡ unwrap_or (hex_digit_value b) 256 → x * 16 + y ≤ 255 → pair_value a b i ≡ Ok (x * 16 + y)
-good_pair a b i x y ex ey h =
-    pair_reads a b i x y (some_value (hex_digit_value a) x ex (omega arith)) (some_value (hex_digit_value b) y ey (omega arith))
+-- where the first other character is
+abbrev other : List ℕ → ℕ
+other line = position_or_len (λ c. not (is_hex_digit c)) line
+
+all_before : (line : List ℕ) → ltb (other line) (length line) ≡ false → AllPass is_hex_digit line
+all_before line none k d lt =
+    let far : length line ≤ other line = not_below _ _ none in
+    sym (not-not (is_hex_digit (get_or line k d))) ∙ prefix_len_passes (λ c. not (not (is_hex_digit c))) line k d (omega arith)
+
+-- ---- A good line.
+
+pub good_digits : (line : List ℕ) → bad_place line ≡ None → AllPass is_hex_digit line
+good_digits line h =
+    let short = cond_none (ltb 4096 (length line)) 4096 _ h in
+    let even = cond_none (eqb (length line % 2) 1) (length line) _ short.1 in
+    all_before line (cond_none (ltb (other line) (length line)) (other line) None even.1).0
 
 no_other : (line : List ℕ) → AllPass is_hex_digit line → position (λ c. not (is_hex_digit c)) line ≡ None
 no_other line h =
-    let end : position_or_len (λ c. not (is_hex_digit c)) line ≡ length line =
+    let end : other line ≡ length line =
     position_or_len_is (λ c. not (is_hex_digit c)) line (length line) 0 (le_refl (length line)) (λ k lt. ap not (h k 0 lt)) (λ lt. absurd (omega arith))
     in
     let far : ltb (length line) (length line) ≡ false = grind (arith, nat_tests) in
@@ -40,17 +48,22 @@ good_line line short even digits =
     let whole : eqb (length line % 2) 1 ≡ false = grind (arith, nat_tests) in
     rw (fits, whole) (no_other line digits)
 
--- every pair was read
-pub line_decoded : (line room : List ℕ) (i : ℕ) → length line % 2 ≡ 0 → length line ≤ 2 * i
-    → decode_pairs 0 line ≡ prepend (take i room) (decode_pairs (2 * i) (drop (2 * i) line))
-    → decode_of line ≡ Ok (take i room)
-unfolding decode_pairs
-line_decoded line room i even end inv =
-    decode_of-even line even ∙ inv ∙ ap (prepend (take i room)) (ap (decode_pairs (2 * i)) (drop_all (2 * i) line end))
-    ∙ ap Ok (append-nil (take i room))
-
 pub decoded_good : (line bytes : List ℕ) → length line ≤ 4096 → decode_of line ≡ Ok bytes → bad_place line ≡ None
 decoded_good line bytes short h = let ok = decode_of-ok line bytes h in good_line line short ok.0 ok.1
 
 pub decoded_bytes : (line bytes : List ℕ) → decode_of line ≡ Ok bytes → bytes ≡ line_bytes line
 decoded_bytes line bytes h = sym (ap (λ (r : Result (List ℕ) FromHexError). result_unwrap_or r []) h)
+
+-- ---- One that isn't.
+
+pub bad_first : (line : List ℕ) (place : ℕ) → length line ≤ 4096 → (length line % 2 ≡ 1 → ⊥) → position (λ c. not (is_hex_digit c)) line ≡ Some place → bad_place line ≡ Some place
+bad_first line place short even h =
+    let fits : ltb 4096 (length line) ≡ false = grind (arith, nat_tests) in
+    let whole : eqb (length line % 2) 1 ≡ false = grind (arith, nat_tests) in
+    rw (fits, whole) h
+
+-- and has such a place
+pub never_none : (line : List ℕ) → list_all is_hex_digit line ≡ false → position (λ c. not (is_hex_digit c)) line ≡ None → ⊥
+never_none line bad h =
+    let all : list_all is_hex_digit line ≡ true = list_all-from_AllPass is_hex_digit line (all_before line (cond_none (ltb (other line) (length line)) (other line) None h).0) in
+    cc

@@ -15,7 +15,7 @@ use Rattle.etcs_text.specs.Entries.{EntryValue}
 use Rattle.etcs_stream.specs.declared.job.Job.{Job}
 use Rattle.etcs_runs.specs.declared.fault.RunFault.{RunFault}
 use Rattle.etcs_runs.specs.declared.fault.RunFault.TheVariants.{Truncated, BadHex, Memory}
-use Rattle.etcs_stream.specs.Faults.{IsOfEngine}
+use Rattle.etcs_runs.specs.Faults.{IsOfEngine}
 use Rattle.etcs_runs.specs.Lines.{IsLine, strip_cr, lines_text}
 use Rattle.etcs_stream.specs.Lines.{bad_place, line_bytes, lines_bytes, AreGood, IsHexText}
 use Rattle.etcs_stream.specs.Told.{Told}
@@ -32,8 +32,9 @@ use Rattle.etcs_bits.proofs.ByteBits.{bits-append}
 use Rattle.etcs_stream.proofs.Streams.{Advances-none}
 use Rattle.etcs_stream.proofs.Tellings.{closes_items}
 use Rattle.etcs_stream.proofs.Standing.{ItemsHalt, stand_first, IsEarly, stand_more, stand_halts, halt_stops, halt_ends, stand_ended, stand_truncated}
-use Rattle.etcs_runs.proofs.LineTexts.{lines_text-append, one_line}
-use Rattle.etcs_stream.proofs.Cutting.{Says, AreGood-append, lines_bytes-append, first_lf, cut_text, says_behind, long_bad, long_bad_stripped}
+use Rattle.etcs_runs.proofs.LineTexts.{lines_text-append, lines_few, one_line}
+use Rattle.etcs_stream.proofs.Cutting.{Says, AreGood-append, lines_bytes-append, first_lf, cut_text, says_behind}
+use Rattle.etcs_stream.specs.laws.StandLaws.{long_bad, long_bad_stripped}
 
 -- ---- The items of a text.
 

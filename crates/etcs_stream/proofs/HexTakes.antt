@@ -8,7 +8,7 @@ use Rattle.etcs_runs.specs.declared.form.Form.TheVariants.{Hex}
 use Rattle.etcs_stream.specs.declared.job.Job.{Job}
 use Rattle.etcs_runs.specs.declared.fault.RunFault.{RunFault}
 use Rattle.etcs_runs.specs.declared.fault.RunFault.TheVariants.{BadHex}
-use Rattle.etcs_stream.specs.Faults.{IsOfEngine}
+use Rattle.etcs_runs.specs.Faults.{IsOfEngine}
 use Rattle.etcs_runs.specs.Lines.{IsLine, strip_cr, lines_text}
 use Rattle.etcs_stream.specs.Lines.{most_characters, bad_place, line_bytes, lines_bytes}
 use Rattle.etcs_stream.specs.Told.{Told}
@@ -55,11 +55,11 @@ module _ (job : Job) (r : ReaderValue) (n : Told) (lines : List (List ℕ)) (tol
   abbrev pub NotTaken : List ℕ → ℕ → List ℕ → RunFault → Type 0
   NotTaken line number t' e = ((place : ℕ) × (bad_place line ≡ Some place) × (e ≡ BadHex number place) × (t' ≡ t)) ⊎ ((bad_place line ≡ None) × Halts job.kind job.command (seen_bits r.progress) n (line_bytes line) t t' e)
 
-  pub took_stops : (t' line : List ℕ) (number : ℕ) (answer : Result Unit RunFault) → IsLine raw → line ≡ strip_cr raw → number ≡ length lines + 1 → IfErr answer (λ e. NotTaken line number t' e) → IfErr answer (λ e. IsOfEngine e × Stops job (lines_text lines ++ (raw ++ 10 ∷ [])) (told ++ t') e)
-  took_stops t' line number (Ok u) l e m h' = tt
-  took_stops t' line number (Err f) l e m h' =
+  pub took_stops : (more t' line : List ℕ) (number : ℕ) (answer : Result Unit RunFault) → IsLine raw → line ≡ strip_cr raw → number ≡ length lines + 1 → IfErr answer (λ e. NotTaken line number t' e) → IfErr answer (λ e. IsOfEngine e × Stops job (lines_text lines ++ (raw ++ 10 ∷ more)) (told ++ t') e)
+  took_stops more t' line number (Ok u) l e m h' = tt
+  took_stops more t' line number (Err f) l e m h' =
       let why : NotTaken (strip_cr raw) (length lines + 1) t' f = subst (λ (k : ℕ). NotTaken (strip_cr raw) k t' f) m (subst (λ (z : List ℕ). NotTaken z number t' f) e h') in
-      hex_line_stops job r n [] (length lines) (lines_text lines) told t (none_behind job r n lines (told ++ t) h) raw raw [] t' f l refl why
+      hex_line_stops job r n [] (length lines) (lines_text lines) told t (none_behind job r n lines (told ++ t) h) raw raw more t' f l refl why
 
 -- a line is too long
 pub long_stops : (job : Job) (r : ReaderValue) (n : Told) (lines : List (List ℕ)) (part told : List ℕ) (number : ℕ) (fault : RunFault) → HexTook job r n lines told → IsLine part → most_characters job.from + 1 < length part → number ≡ length lines + 1 → fault ≡ BadHex number 4096 → IsOfEngine fault × Stops job (lines_text lines ++ part) told fault

@@ -1,6 +1,6 @@
 -- Lines of JSON, one after another.
 use Rattle.std.proofs.Common.{◌≡◌, ℕ, ◌+◌, ◌<◌, ◌≤◌, List, [], ◌∷◌, ◌++◌, length, Result, Ok, Err, refl, sym, ap, subst, ◌∙◌, arith, append_assoc, length-append, inl, inr}
-use Rattle.std.specs.Prelude.{◌⊎◌, map, OnOk, IfErr}
+use Rattle.std.specs.Prelude.{◌⊎◌, map, OnOk, IfErr, IfOk}
 use Rattle.std.specs.Io.BufRead.{ends_with_byte}
 use Rattle.std.proofs.lemmas.List.{append-nil, map-append}
 use Rattle.std.proofs.lemmas.List.Elements.{All-append, All-cons, All-nil}
@@ -13,7 +13,7 @@ use Rattle.etcs_stream.specs.declared.job.Job.{Job}
 use Rattle.etcs_stream.specs.declared.job.Tally.{Tally}
 use Rattle.etcs_runs.specs.declared.fault.RunFault.{RunFault}
 use Rattle.etcs_runs.specs.declared.fault.RunFault.TheVariants.{Refused, Truncated, BadHex, BadJson, Read, Write, Endless, Memory}
-use Rattle.etcs_stream.specs.Faults.{IsOfEngine}
+use Rattle.etcs_runs.specs.Faults.{IsOfEngine}
 use Rattle.etcs_runs.specs.Lines.{IsLine, strip_cr, lines_text}
 use Rattle.etcs_stream.specs.Lines.{most_characters}
 use Rattle.etcs_stream.specs.JsonItems.{IsItemLine, IsRefusedLine, AreItemLines, JsonFront, BeginsWith, EndedJson, FirstJson, FurtherLine}
@@ -24,7 +24,8 @@ use Rattle.etcs_stream.specs.Taking.{TakesJson, empty_line, item_line, HaltsJson
 use Rattle.etcs_stream.specs.Inputs.{End, ended, refused, bad_json, endless, ItemsOf, FirstItems}
 use Rattle.etcs_stream.specs.Engines.{EndsBy, Ends, Prints, Stops, StopsAtEnd}
 use Rattle.etcs_stream.proofs.Tellings.{tells_append, tells_count, tells_one, one_count, closes_items}
-use Rattle.etcs_stream.proofs.Cutting.{first_lf, stripped}
+use Rattle.etcs_stream.specs.laws.StandLaws.{stripped}
+use Rattle.etcs_stream.proofs.Cutting.{first_lf}
 
 -- ---- The items of lines.
 
@@ -262,11 +263,21 @@ module _ (job : Job) (n : Told) (lines : List (List ℕ)) (told t : List ℕ) (h
       (json_last_halts job n lines (told ++ t) h line number fault l at why)
 
   -- the last line was taken, and the last text was written
-  pub json_ends : (line : List ℕ) (n' : Told) (t' last t'' : List ℕ) (tally : Tally) → IsLine line → TakesJson job line n n' t t' → Closes job.command n' last tally → t'' ≡ t' ++ last → Ends job (lines_text lines ++ line) (told ++ t'') tally
+  json_ends : (line : List ℕ) (n' : Told) (t' last t'' : List ℕ) (tally : Tally) → IsLine line → TakesJson job line n n' t t' → Closes job.command n' last tally → t'' ≡ t' ++ last → Ends job (lines_text lines ++ line) (told ++ t'') tally
   json_ends line n' t' last t'' tally l takes closes is = all_ends line n' t' (line_told job line n n' t t' takes) last t'' tally l closes is
 
   -- or memory was refused for it
-  pub json_not_closed : (line : List ℕ) (n' : Told) (t' t'' : List ℕ) → IsLine line → TakesJson job line n n' t t' → t'' ≡ t' → IsOfEngine Memory × StopsAtEnd job (lines_text lines ++ line) (told ++ t'') Memory
+  json_not_closed : (line : List ℕ) (n' : Told) (t' t'' : List ℕ) → IsLine line → TakesJson job line n n' t t' → t'' ≡ t' → IsOfEngine Memory × StopsAtEnd job (lines_text lines ++ line) (told ++ t'') Memory
   json_not_closed line n' t' t'' l takes same =
       let prints = all_prints line n' t' (line_told job line n n' t t' takes) l in
       (tt, inl (refl, subst (λ (z : List ℕ). Prints job (lines_text lines ++ line) (told ++ z)) (sym same) prints))
+
+  -- what the end of the input answers
+  pub json_end_ends : (line : List ℕ) (n' : Told) (t' t'' : List ℕ) (answer : Result Tally RunFault) → IsLine line → TakesJson job line n n' t t' → IfOk answer (λ tally. (last : List ℕ) × Closes job.command n' last tally × (t'' ≡ t' ++ last)) → IfOk answer (λ tally. Ends job (lines_text lines ++ line) (told ++ t'') tally)
+  json_end_ends line n' t' t'' (Ok tally) l takes (last, closes, is) = json_ends line n' t' last t'' tally l takes closes is
+  json_end_ends line n' t' t'' (Err f) l takes h' = tt
+
+  pub json_end_stops : (line : List ℕ) (n' : Told) (t' t'' : List ℕ) (answer : Result Tally RunFault) → IsLine line → TakesJson job line n n' t t' → IfErr answer (λ e. (t'' ≡ t') × (e ≡ Memory)) → IfErr answer (λ e. IsOfEngine e × StopsAtEnd job (lines_text lines ++ line) (told ++ t'') e)
+  json_end_stops line n' t' t'' (Ok tally) l takes h' = tt
+  json_end_stops line n' t' t'' (Err f) l takes (same, is) =
+      subst (λ (e : RunFault). IsOfEngine e × StopsAtEnd job (lines_text lines ++ line) (told ++ t'') e) (sym is) (json_not_closed line n' t' t'' l takes same)

@@ -1,4 +1,3 @@
-pub mod HexDigits
 pub mod GoodLines
 pub mod Tellings
 pub mod Saying
@@ -18,9 +17,6 @@ pub mod HexTakes
 pub mod JsonSteps
 pub mod Printing
 pub mod Shortness
-pub mod Endings
-pub mod Running
 pub mod OneLines
 pub mod OneJson
 pub mod OneItems
-pub mod LineSteps

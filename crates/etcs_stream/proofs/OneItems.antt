@@ -24,7 +24,7 @@ use Rattle.etcs_stream.specs.Streams.{AreSpelled}
 use Rattle.etcs_stream.specs.OneRuns.{OneEnd, OneWhole, OneFront}
 use Rattle.etcs_text.proofs.ItemKinds.{Language, kind_same, way_same, telegram_message, kind_regular}
 use Rattle.etcs_stream.proofs.Streams.{nothing_is_spelled}
-use Rattle.etcs_stream.proofs.Printing.{bad_items}
+use Rattle.etcs_stream.specs.laws.Printing.{bad_items}
 use Rattle.etcs_stream.proofs.OneLines.{one_hex, one_bad, hex_or_bad, one_so_far, front_hex, front_bad}
 use Rattle.etcs_stream.proofs.OneJson.{one_json, one_whole_json, front_json}
 

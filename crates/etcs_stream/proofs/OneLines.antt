@@ -10,7 +10,7 @@ use Rattle.etcs_runs.specs.Lines.{IsLine, strip_cr, lines_text}
 use Rattle.etcs_stream.specs.Lines.{bad_place, line_bytes, lines_bytes, AreGood, IsHexText}
 use Rattle.etcs_stream.specs.Inputs.{IsBad, SaysSoFar, SaysFirst}
 use Rattle.etcs_runs.specs.declared.form.Form.TheVariants.{Hex}
-use Rattle.etcs_stream.proofs.HexDigits.{good_digits}
+use Rattle.etcs_stream.proofs.GoodLines.{good_digits}
 use Rattle.etcs_stream.proofs.Cutting.{lines_bytes-append}
 
 -- ---- A good line has no LF.

@@ -10,11 +10,6 @@ use Rattle.etcs_stream.specs.Tellers.{TellsItems, nothing_told}
 use Rattle.etcs_stream.specs.Taking.{Says}
 use Rattle.etcs_stream.proofs.Tellings.{tells_append}
 
--- it holds of each failure
-pub on_err : {A : Type 0} (answer : Result A RunFault) (P : Type 0) → P → OnErr answer P
-on_err (Ok a) P p = tt
-on_err (Err e) P p = p
-
 -- no item was reported
 pub says_here : (c : Command) (s n : Told) (t t' : List ℕ) → t' ≡ t → n.count ≤ s.count + 1 → Says c s n t t'
 says_here c s n t t' same few = record {

@@ -12,20 +12,19 @@ use Rattle.etcs_text.specs.declared.entry.Kind.{Kind}
 use Rattle.etcs_text.specs.Entries.{EntryValue, EntryReads}
 use Rattle.etcs_stream.specs.Told.{Told}
 use Rattle.etcs_stream.specs.Tellers.{TellsItems, ItemsText, nothing_told}
-use Rattle.etcs_runs.specs.declared.form.Form.{Form}
-use Rattle.etcs_runs.specs.declared.form.Form.TheVariants.{Hex, Bin, Json}
 use Rattle.etcs_stream.specs.declared.job.Job.{Job}
 use Rattle.etcs_runs.specs.declared.fault.RunFault.{RunFault}
 use Rattle.etcs_runs.specs.declared.fault.RunFault.TheVariants.{Refused, Truncated, BadHex, BadJson, Read, Write, Endless, Memory}
-use Rattle.etcs_stream.specs.Faults.{IsOfEngine}
+use Rattle.etcs_runs.specs.Faults.{IsOfEngine}
 use Rattle.etcs_stream.specs.Streams.{AreSpelled}
 use Rattle.etcs_stream.specs.Readers.{HasRoom}
 use Rattle.etcs_stream.specs.Taking.{Advances, Halts, HaltsBy}
 use Rattle.etcs_stream.specs.Stands.{ItemsStand}
-use Rattle.etcs_stream.specs.Inputs.{End, ended, refused, truncated, bad_hex, bad_json, endless, BitItems, FirstBytes, FirstItems, SaysFirst, ItemsOf}
+use Rattle.etcs_stream.specs.Inputs.{End, ended, refused, truncated, bad_hex, bad_json, endless, BitItems, FirstItems, SaysFirst, ItemsOf}
 use Rattle.etcs_stream.specs.Engines.{EndsBy, Stops, StopsAtEnd}
 use Rattle.etcs_text.proofs.ItemKinds.{Language, kind_regular}
 use Rattle.etcs_bits.proofs.ByteBits.{bits-append}
+use Rattle.etcs_stream.specs.laws.Printing.{first_bytes}
 use Rattle.etcs_stream.proofs.Streams.{AreSpelled-append}
 use Rattle.etcs_stream.proofs.Tellings.{tells_append, tells_count}
 
@@ -100,11 +99,6 @@ stand_nothing job seen s e n none = record {
 }
 
 -- an input that says bytes isn't JSON
-pub first_bytes : (form : Form) (kind : Kind) (given : List ℕ) (es : List EntryValue) → FirstBytes form kind given es → FirstItems form kind given es
-first_bytes Hex kind given es h = h
-first_bytes Bin kind given es h = h
-first_bytes Json kind given es h = absurd h.says
-
 -- the items that were reported are the first of an input that says the bytes first
 pub stand_first : (job : Job) (seen : List Bool) (s : Told) (given bytes told : List ℕ) (h : ItemsStand job seen s bytes told) → SaysFirst job.from given bytes → FirstItems job.from job.kind given h.items
 stand_first job seen s given bytes told h says = first_bytes job.from job.kind given h.items (record { bytes = bytes; says = says; spelt = h.spelt; rest = seen; are_spelled = h.are_spelled; bits_are = h.bits_are; few = omega (arith, h.few, h.count_is) })

@@ -1,5 +1,5 @@
 -- What a run writes of its input, by its job.
-use Rattle.std.specs.Prelude.{◌≡◌, ℕ, ◌+◌, ◌≤◌, List, ◌++◌, length, ◌⊎◌}
+use Rattle.std.specs.Prelude.{◌≡◌, ℕ, ◌+◌, List, ◌++◌, length, ◌⊎◌}
 use Rattle.etcs_text.specs.Entries.{EntryValue}
 use Rattle.etcs_stream.specs.Told.{Told}
 use Rattle.etcs_stream.specs.Tellers.{TellsItems, ItemsText, Closes, nothing_told}
@@ -7,6 +7,8 @@ use Rattle.etcs_stream.specs.declared.job.Job.{Job}
 use Rattle.etcs_stream.specs.declared.job.Tally.{Tally}
 use Rattle.etcs_runs.specs.declared.fault.RunFault.{RunFault}
 use Rattle.etcs_runs.specs.declared.fault.RunFault.TheVariants.{Refused, Truncated, BadHex, BadJson, Endless, Memory}
+use Rattle.etcs_runs.specs.Promises as runs
+use Rattle.etcs_runs.specs.Promises.{Promises}
 use Rattle.etcs_stream.specs.Inputs.{End, ended, refused, truncated, bad_hex, bad_json, endless, ItemsOf, WholeItems, FirstItems}
 
 -- the fault by which the items of an input end, after this many of them
@@ -54,15 +56,11 @@ Stops job given told f = Starves job given told f ⊎ ((es : List EntryValue) ×
 abbrev pub StopsAtEnd : Job → List ℕ → List ℕ → RunFault → Type 0
 StopsAtEnd job given told f = Starves job given told f ⊎ ((es : List EntryValue) × (end : End) × EndsBy (length es) end f × ItemsText job.command es told × ItemsOf job.from job.kind given es end)
 
+-- what a run of the job promises
+abbrev pub promises : Job → Promises Tally
+promises job = record { Tells = Tells job; Ends = Ends job; Stops = Stops job; StopsAtEnd = StopsAtEnd job; Prints = Prints job }
+
 -- memory was refused at the last piece that was read: all items that were whole before it are reported, and after them
 -- perhaps the next ones
-pub record StarvesIn (job : Job) (given told : List ℕ) : Type 0 where
-  pub before : List ℕ
-  pub last : List ℕ
-  pub given_is : given ≡ before ++ last
-  pub short : length last ≤ 4096
-  pub whole : List ℕ
-  pub more : List ℕ
-  pub told_is : told ≡ whole ++ more
-  pub tells : Tells job before whole
-  pub prints : Prints job given told
+abbrev pub StarvesIn : Job → List ℕ → List ℕ → Type 0
+StarvesIn job given told = runs.StarvesIn (promises job) given told

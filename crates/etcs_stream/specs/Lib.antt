@@ -1,4 +1,3 @@
-pub mod Faults
 pub mod Lines
 pub mod Readers
 pub mod Streams
@@ -9,8 +8,6 @@ pub mod JsonItems
 pub mod Taking
 pub mod Inputs
 pub mod Engines
-pub mod Passes
-pub mod Runs
 pub mod Stands
 pub mod OneRuns
 pub mod ReadBacks

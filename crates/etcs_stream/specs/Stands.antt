@@ -43,14 +43,6 @@ pub record HexStands (job : Job) (reader : ReaderValue) (after : Told) (begun : 
 
 -- ---- Lines.
 
--- the bytes are lines, of which the last has no LF yet; the others were taken, and this text was written of them
-pub record LinesStand (Took : List (List ℕ) → List ℕ → Type 0) (begun : List ℕ) (line : ℕ) (given told : List ℕ) : Type 0 where
-  pub lines : List (List ℕ)
-  pub given_is : given ≡ lines_text lines ++ begun
-  pub is_line : IsLine begun
-  pub line_is : line ≡ length lines
-  pub took : Took lines told
-
 -- lines of hexadecimal were taken
 pub record HexTook (job : Job) (reader : ReaderValue) (after : Told) (lines : List (List ℕ)) (told : List ℕ) : Type 0 where
   pub form : job.from ≡ Hex

@@ -4,13 +4,15 @@ ghost use Rattle.std.specs.Prelude.{◌≡◌, []};
 ghost use Rattle.etcs_runs.specs.declared.form.Form.TheVariants as form;
 ghost use Rattle.etcs_stream.specs.Stands.{BinStands};
 ghost use Rattle.etcs_stream.specs.Taking.{Says};
+ghost use Rattle.etcs_stream.specs.Engines.{promises};
+ghost use Rattle.etcs_stream.specs.laws.Printing.{sound};
 ghost use Rattle.etcs_stream.specs.laws.StandLaws.{bin_tells};
 ghost use Rattle.etcs_stream.specs.Tellers.{IsGroupable, nothing_told};
 
 use crate::byte_items::ByteItems;
-use crate::engine::Engine;
 use crate::job::{Job, Tally};
 use etcs_runs::RunFault;
+use etcs_runs::inner::Engine;
 use std::alloc::Global;
 
 /// Reports the items of bytes.
@@ -34,7 +36,13 @@ impl Bin {
 }
 
 impl Engine for Bin {
+    type Job = Job;
+
+    type Tally = Tally;
+
     ghost job = { λ s. s.items.job };
+
+    ghost promises = { promises };
 
     ghost stands = { λ s given told. BinStands s.items.job s.items.reader s.items.teller given told };
 
@@ -51,6 +59,8 @@ impl Engine for Bin {
     fn finish(&mut self, text: &mut Vec<u8>) -> Result<Tally, RunFault> {
         self.items.finish(text)
     }
+
+    ghost sound = { λ s. sound s.items.job };
 
     ghost stands_tells = { λ s given told h. bin_tells s.items.job s.items.reader s.items.teller given told h };
 }

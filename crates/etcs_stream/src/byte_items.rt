@@ -8,10 +8,10 @@ ghost use Rattle.etcs_stream.specs.Readers.{Awaits, HasRoom};
 ghost use Rattle.etcs_stream.specs.Taking.{Advances, Halts, Says, TakesFront};
 ghost use Rattle.etcs_stream.specs.Tellers.{Closes, IsGroupable, TellsItem, nothing_told};
 
-use crate::engine::MOST_READ;
 use crate::job::{Job, Tally};
 use crate::teller::Teller;
 use etcs_runs::RunFault;
+use etcs_runs::inner::MOST_READ;
 use etcs_telegram::Size;
 use etcs_text::{EntryReader, Kind};
 use etcs_vars::{Fed, ReadFault};

@@ -3,10 +3,12 @@
 ghost use Rattle.std.specs.Prelude.{◌≡◌, ◌≤◌, ◌⊎◌, ℕ, [], None, Some, IfErr, OnErr, OnOk};
 ghost use Rattle.etcs_runs.specs.declared.fault.RunFault.{RunFault};
 ghost use Rattle.etcs_runs.specs.declared.form.Form.TheVariants as form;
-ghost use Rattle.etcs_stream.specs.Lines.{bad_place, line_bytes};
+ghost use Rattle.etcs_stream.specs.Engines.{promises};
+ghost use Rattle.etcs_stream.specs.Lines.{bad_place, line_bytes, most_characters};
 ghost use Rattle.etcs_text.specs.Readers.{seen_bits};
 ghost use Rattle.etcs_stream.specs.Readers.{Awaits, HasRoom};
-ghost use Rattle.etcs_stream.specs.laws.StandLaws.{hex_said, hex_tells};
+ghost use Rattle.etcs_stream.specs.laws.Printing.{sound};
+ghost use Rattle.etcs_stream.specs.laws.StandLaws.{hex_long, hex_said, hex_tells};
 ghost use Rattle.etcs_stream.specs.Stands.{HexTook};
 ghost use Rattle.etcs_stream.specs.Taking.{Advances, Halts, Says};
 ghost use Rattle.etcs_stream.specs.Tellers.{IsGroupable, nothing_told};
@@ -14,8 +16,8 @@ ghost use Rattle.etcs_stream.specs.Tellers.{IsGroupable, nothing_told};
 use crate::byte_items::ByteItems;
 use crate::digits::{MOST_CHARACTERS, decode_line};
 use crate::job::{Job, Tally};
-use crate::lines::LineHandler;
 use etcs_runs::RunFault;
+use etcs_runs::inner::LineHandler;
 use std::alloc::Global;
 
 /// Gives the bytes of lines of hexadecimal to the items.
@@ -66,7 +68,15 @@ impl HexLines {
 }
 
 impl LineHandler for HexLines {
+    type Job = Job;
+
+    type Tally = Tally;
+
     ghost job = { λ s. s.items.job };
+
+    ghost promises = { promises };
+
+    ghost most = { λ job. most_characters job.from };
 
     ghost took = { λ s lines told. HexTook s.items.job s.items.reader s.items.teller lines told };
 
@@ -85,11 +95,11 @@ impl LineHandler for HexLines {
         self.handle(line, number, text)
     }
 
-    fn refuse_long(&self, number: u64) -> RunFault {
-        RunFault::BadHex {
+    fn refuse_long(&mut self, number: u64, _text: &mut Vec<u8>) -> Result<(), RunFault> {
+        Err(RunFault::BadHex {
             line: number,
             place: MOST_CHARACTERS as u64,
-        }
+        })
     }
 
     fn handle_last(
@@ -102,7 +112,15 @@ impl LineHandler for HexLines {
         self.items.finish(text)
     }
 
+    fn close(&mut self, text: &mut Vec<u8>) -> Result<Tally, RunFault> {
+        self.items.finish(text)
+    }
+
+    ghost sound = { λ s. sound s.items.job };
+
     ghost took_tells = { λ s lines begun told h l. hex_tells s.items.job s.items.reader s.items.teller lines begun told h l };
+
+    ghost long_tells = { λ s lines part told h l long. hex_long s.items.job s.items.reader s.items.teller lines part told h l long };
 
     ghost took_said = { λ s lines told h. hex_said s.items.job s.items.reader s.items.teller lines told h };
 }

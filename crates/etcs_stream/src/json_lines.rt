@@ -4,18 +4,21 @@ ghost use Rattle.std.specs.Prelude.{◌≡◌, ◌+◌, ◌<◌, ◌≤◌, ◌�
 ghost use Rattle.etcs_text.specs.Entries.{EntryValue, entry_kind, entry_value};
 ghost use Rattle.etcs_runs.specs.declared.fault.RunFault.{RunFault};
 ghost use Rattle.etcs_runs.specs.declared.form.Form.TheVariants as form;
+ghost use Rattle.etcs_stream.specs.Engines.{promises};
 ghost use Rattle.etcs_stream.specs.JsonItems.{IsItemLine};
-ghost use Rattle.etcs_stream.specs.laws.StandLaws.{json_said, json_tells};
+ghost use Rattle.etcs_stream.specs.Lines.{most_characters};
+ghost use Rattle.etcs_stream.specs.laws.Printing.{sound};
+ghost use Rattle.etcs_stream.specs.laws.StandLaws.{json_long, json_said, json_tells};
 ghost use Rattle.etcs_stream.specs.Stands.{JsonTook};
 ghost use Rattle.etcs_stream.specs.Taking.{TakesJson, HaltsJson, Says};
-ghost use Rattle.etcs_stream.specs.Tellers.{IsGroupable, nothing_told};
+ghost use Rattle.etcs_stream.specs.Tellers.{Closes, IsGroupable, nothing_told};
 
 use crate::byte_items::MOST_ITEMS;
 use crate::job::{Job, Tally};
-use crate::lines::LineHandler;
 use crate::teller::Teller;
 use etcs_json::{JsonFault, from_line};
 use etcs_runs::RunFault;
+use etcs_runs::inner::LineHandler;
 use etcs_text::Entry;
 use std::alloc::{AllocError, Global};
 
@@ -98,10 +101,29 @@ impl JsonLines {
             Err(AllocError) => Err(RunFault::Memory),
         }
     }
+
+    /// The input ends here: appends what the command writes then, or nothing.
+    fn end(&self, text: &mut Vec<u8>) -> Result<Tally, RunFault>
+        ensures ok { IfOk result (λ tally. (last : List ℕ) × Closes self.now.job.command self.now.teller last tally × (text.new.items ≡ text.old.items ++ last)) }
+        ensures err { IfErr result (λ e. (text.new.items ≡ text.old.items) × (e ≡ RunFault.Memory)) }
+    {
+        match self.teller.close(self.job.command, text) {
+            Ok(tally) => Ok(tally),
+            Err(AllocError) => Err(RunFault::Memory),
+        }
+    }
 }
 
 impl LineHandler for JsonLines {
+    type Job = Job;
+
+    type Tally = Tally;
+
     ghost job = { λ s. s.job };
+
+    ghost promises = { promises };
+
+    ghost most = { λ job. most_characters job.from };
 
     ghost took = { λ s lines told. JsonTook s.job s.teller lines told };
 
@@ -120,11 +142,11 @@ impl LineHandler for JsonLines {
         self.handle(line, number, text)
     }
 
-    fn refuse_long(&self, number: u64) -> RunFault {
+    fn refuse_long(&mut self, number: u64, _text: &mut Vec<u8>) -> Result<(), RunFault> {
         if self.teller.count() == MOST_ITEMS {
-            RunFault::Endless
+            Err(RunFault::Endless)
         } else {
-            RunFault::BadJson { line: number }
+            Err(RunFault::BadJson { line: number })
         }
     }
 
@@ -135,13 +157,18 @@ impl LineHandler for JsonLines {
         text: &mut Vec<u8>,
     ) -> Result<Tally, RunFault> {
         self.handle(line, number, text)?;
-        match self.teller.close(self.job.command, text) {
-            Ok(tally) => Ok(tally),
-            Err(AllocError) => Err(RunFault::Memory),
-        }
+        self.end(text)
     }
 
+    fn close(&mut self, text: &mut Vec<u8>) -> Result<Tally, RunFault> {
+        self.end(text)
+    }
+
+    ghost sound = { λ s. sound s.job };
+
     ghost took_tells = { λ s lines begun told h l. json_tells s.job s.teller lines begun told h l };
+
+    ghost long_tells = { λ s lines part told h l long. json_long s.job s.teller lines part told h l long };
 
     ghost took_said = { λ s lines told h. json_said s.job s.teller lines told h };
 }

@@ -16,14 +16,11 @@
 mod bin;
 mod byte_items;
 mod digits;
-mod engine;
 mod group_lines;
 mod hex_lines;
 mod job;
 mod json_lines;
 pub mod laws;
-mod lines;
-mod pump;
 mod runs;
 mod teller;
 

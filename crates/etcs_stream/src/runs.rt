@@ -4,20 +4,22 @@ ghost use Rattle.std.specs.Prelude.{◌≡◌, ◌+◌, ◌*◌, ◌%◌, ◌^�
 ghost use Rattle.std.specs.Io.KnownBytes.{Consumes, IsAtEnd};
 ghost use Rattle.etcs_runs.specs.Ends.{FailedBy, FlushedOnlyWhere};
 ghost use Rattle.etcs_runs.specs.declared.fault.RunFault.{RunFault};
-ghost use Rattle.etcs_stream.specs.Faults.{IsOfEngine};
-ghost use Rattle.etcs_stream.specs.Engines.{Tells, Ends, EndsWhole, Stops, StopsAtEnd, StarvesIn, Prints};
+ghost use Rattle.etcs_runs.specs.Faults.{IsOfEngine};
+ghost use Rattle.etcs_stream.specs.Engines.{Tells, Ends, EndsWhole, Stops, StopsAtEnd, StarvesIn, Prints, promises};
 ghost use Rattle.etcs_stream.specs.Tellers.{IsGroupable};
 ghost use Rattle.etcs_runs.specs.Pipes.{Piped, PipedFirst};
-ghost use Rattle.etcs_stream.specs.Runs.{Ran};
+ghost use Rattle.etcs_runs.specs.Runs.{Ran};
 
 use crate::bin::Bin;
 use crate::hex_lines::HexLines;
 use crate::job::{Job, Tally};
 use crate::json_lines::JsonLines;
-use crate::lines::{LineHandler, Lines};
-use crate::pump::run_engine;
+use etcs_runs::inner::{LineHandler, Lines, run_engine};
 use etcs_runs::{Form, RunFault, Sink, Source};
 use std::alloc::Global;
+
+/// How many reads a run has at most.
+const MOST_READS: u64 = 16_000_000;
 
 /// Does the job, which groups no messages: reads the items of the input, and writes of each what the command says, once it
 /// is whole; for a group, last lines at the end. Items of bytes and of hexadecimal are one after another, and a line's
@@ -68,11 +70,11 @@ fn run_form<S: Source, W: Sink>(
     requires reads { S.reads source.old < 2 ^ 63 }
     requires read_failures { S.failures source.old < 2 ^ 63 }
     requires write_failures { W.failures sink.old < 2 ^ 63 }
-    ensures { Ran job (S.remaining source.old) (S.remaining source.new) (S.reads source.old) (S.reads source.new) (S.failures source.old) (S.failures source.new) (W.contents sink.old) (W.contents sink.new) (W.failures sink.old) (W.failures sink.new) (W.flushes sink.old) (W.flushes sink.new) result }
+    ensures { Ran (promises job) 16000000 (S.remaining source.old) (S.remaining source.new) (S.reads source.old) (S.reads source.new) (S.failures source.old) (S.failures source.new) (W.contents sink.old) (W.contents sink.new) (W.failures sink.old) (W.failures sink.new) (W.flushes sink.old) (W.flushes sink.new) result }
 {
     match job.from {
         Form::Hex => run_lines(alloc, HexLines::new(alloc, job), source, sink),
-        Form::Bin => run_engine(&mut Bin::new(alloc, job), alloc, source, sink),
+        Form::Bin => run_engine(&mut Bin::new(alloc, job), MOST_READS, alloc, source, sink),
         Form::Json => run_lines(alloc, JsonLines::new(alloc, job), source, sink),
     }
 }
@@ -83,12 +85,18 @@ fn run_lines<T: LineHandler + Drop, S: Source, W: Sink>(
     handler: T,
     source: &mut S,
     sink: &mut W,
-) -> Result<Tally, RunFault>
+) -> Result<T::Tally, RunFault>
     requires took { T.took handler [] [] }
     requires reads { S.reads source.old < 2 ^ 63 }
     requires read_failures { S.failures source.old < 2 ^ 63 }
     requires write_failures { W.failures sink.old < 2 ^ 63 }
-    ensures { Ran (T.job handler) (S.remaining source.old) (S.remaining source.new) (S.reads source.old) (S.reads source.new) (S.failures source.old) (S.failures source.new) (W.contents sink.old) (W.contents sink.new) (W.failures sink.old) (W.failures sink.new) (W.flushes sink.old) (W.flushes sink.new) result }
+    ensures { Ran (T.promises (T.job handler)) 16000000 (S.remaining source.old) (S.remaining source.new) (S.reads source.old) (S.reads source.new) (S.failures source.old) (S.failures source.new) (W.contents sink.old) (W.contents sink.new) (W.failures sink.old) (W.failures sink.new) (W.flushes sink.old) (W.flushes sink.new) result }
 {
-    run_engine(&mut Lines::new(alloc, handler), alloc, source, sink)
+    run_engine(
+        &mut Lines::new(alloc, handler),
+        MOST_READS,
+        alloc,
+        source,
+        sink,
+    )
 }

@@ -1,17 +1,23 @@
 -- What was reported of an input's front is the text of the items that are whole there.
-use Rattle.std.proofs.Common.{ℕ, ◌≤◌, List, [], ◌++◌, length, refl, sym, subst, arith}
+use Rattle.std.proofs.Common.{◌≡◌, ℕ, ◌+◌, ◌-◌, ◌<◌, ◌≤◌, Bool, true, false, cond, ltb, List, [], ◌∷◌, ◌++◌, length, map, take, Option, Some, None, inl, inr, refl, sym, ap, subst, ◌∙◌, arith}
+use Rattle.std.specs.Io.BufRead.{ends_with_byte}
+use Rattle.std.proofs.lemmas.Bool.{lt-ltb}
+use Rattle.std.proofs.lemmas.List.{length-take-le}
+use Rattle.etcs_text.specs.declared.entry.Kind.{Kind}
+use Rattle.etcs_text.specs.Entries.{EntryValue}
 use Rattle.etcs_runs.specs.declared.form.Form.{Form}
 use Rattle.etcs_runs.specs.declared.form.Form.TheVariants.{Hex, Bin}
 use Rattle.etcs_stream.specs.declared.job.Job.{Job}
 use Rattle.etcs_stream.specs.Inputs.{SaysSoFar, WholeBytes, WholeItems}
-use Rattle.etcs_runs.specs.Lines.{IsLine, lines_text}
-use Rattle.etcs_stream.specs.Lines.{lines_bytes}
+use Rattle.etcs_runs.specs.Lines.{IsLine, lines_text, strip_cr}
+use Rattle.etcs_stream.specs.Lines.{most_characters, bad_place, lines_bytes, AreGood}
+use Rattle.etcs_stream.specs.JsonItems.{AreItemLines}
 use Rattle.etcs_stream.specs.Told.{Told}
 use Rattle.etcs_stream.specs.Tellers.{nothing_told}
 use Rattle.etcs_text.specs.Readers.{ReaderValue, seen_bits}
 use Rattle.etcs_stream.specs.Engines.{Tells}
 use Rattle.etcs_stream.specs.Taking.{Says}
-use Rattle.etcs_stream.specs.Stands.{ItemsStand, BinStands, HexTook, JsonTook, LinesStand}
+use Rattle.etcs_stream.specs.Stands.{ItemsStand, BinStands, HexTook, JsonTook}
 
 whole : (form : Form) (job : Job) (reader : ReaderValue) (after : Told) (given bytes told : List ℕ) → SaysSoFar form given bytes → (h : ItemsStand job (seen_bits reader.progress) after bytes told) → WholeBytes form job.kind given h.items
 whole form job reader after given bytes told says h =
@@ -33,10 +39,6 @@ json_tells job after lines begun told h l =
     let few : length h.items ≤ 1000000 = omega (arith, h.few, h.count_is) in
     (h.items, subst (λ (f : Form). WholeItems f job.kind given h.items) (sym h.form) (lines, begun, record { text_is = refl; are_lines = h.are_lines; are_items = h.are_items; few = few }, l), (after, h.text))
 
-pub lines_tell : (job : Job) (Took : List (List ℕ) → List ℕ → Type 0) → ((lines : List (List ℕ)) (begun told : List ℕ) → Took lines told → IsLine begun → Tells job (lines_text lines ++ begun) told) → (begun : List ℕ) (line : ℕ) (given told : List ℕ) → LinesStand Took begun line given told → Tells job given told
-lines_tell job Took tells begun line given told h =
-    subst (λ (z : List ℕ). Tells job z told) (sym h.given_is) (tells h.lines begun told h.took h.is_line)
-
 -- and that text was written
 pub hex_said : (job : Job) (reader : ReaderValue) (after : Told) (lines : List (List ℕ)) (told : List ℕ) → HexTook job reader after lines told → Says job.command nothing_told after [] told
 hex_said job reader after lines told h =
@@ -45,3 +47,44 @@ hex_said job reader after lines told h =
 pub json_said : (job : Job) (after : Told) (lines : List (List ℕ)) (told : List ℕ) → JsonTook job after lines told → Says job.command nothing_told after [] told
 json_said job after lines told h =
     record { told = h.items; added = told; after = after; added_is = h.text; text_is = refl; counted = omega arith }
+
+-- ---- A line that is too long.
+
+pub long_bad : (line : List ℕ) → 4096 < length line → bad_place line ≡ Some 4096
+long_bad line h = let t : ltb 4096 (length line) ≡ true = lt-ltb 4096 (length line) h in rw t refl
+
+pub stripped : (b : Bool) (line : List ℕ) → length line ≤ length (cond b (take (length line - 1) line) line) + 1
+stripped true line = omega (arith, length-take-le (length line - 1) line (omega arith))
+stripped false line = omega arith
+
+pub long_bad_stripped : (line : List ℕ) → 4097 < length line → bad_place (strip_cr line) ≡ Some 4096
+long_bad_stripped line h = long_bad (strip_cr line) (omega (arith, stripped (ends_with_byte 13 line) line))
+
+-- no such line is good
+good_last : (lines : List (List ℕ)) (part : List ℕ) → AreGood (lines ++ part ∷ []) → bad_place (strip_cr part) ≡ None
+good_last [] part h = h.0
+good_last (line ∷ lines) part h = good_last lines part h.1
+
+pub hex_short : (job : Job) (reader : ReaderValue) (after : Told) (lines : List (List ℕ)) (part told : List ℕ) → HexTook job reader after (lines ++ part ∷ []) told → most_characters job.from + 1 < length part → ⊥
+hex_short job reader after lines part told h long =
+    let most : 4097 < length part = subst (λ (f : Form). most_characters f + 1 < length part) h.form long in
+    let bad : ◌≡◌ {A = Option ℕ} None (Some 4096) = sym (good_last lines part h.lines_good) ∙ long_bad_stripped part most in
+    absurd cc
+
+-- nor has it an item
+last_short : (kind : Kind) (lines : List (List ℕ)) (part : List ℕ) (es : List EntryValue) → AreItemLines kind (map strip_cr (lines ++ part ∷ [])) es → length (strip_cr part) ≤ 1048576
+last_short kind [] part es (inl h) = omega (arith, ap length h.0)
+last_short kind [] part es (inr (e, behind, is, item, h)) = item.1
+last_short kind (line ∷ lines) part es (inl h) = last_short kind lines part es h.1
+last_short kind (line ∷ lines) part es (inr (e, behind, is, item, h)) = last_short kind lines part behind h
+
+pub json_short : (job : Job) (after : Told) (lines : List (List ℕ)) (part told : List ℕ) → JsonTook job after (lines ++ part ∷ []) told → most_characters job.from + 1 < length part → ⊥
+json_short job after lines part told h long =
+    let most : 1048577 < length part = subst (λ (f : Form). most_characters f + 1 < length part) h.form long in
+    omega (arith, most, stripped (ends_with_byte 13 part) part, last_short job.kind lines part h.items h.are_items)
+
+pub hex_long : (job : Job) (reader : ReaderValue) (after : Told) (lines : List (List ℕ)) (part told : List ℕ) → HexTook job reader after (lines ++ part ∷ []) told → IsLine part → most_characters job.from + 1 < length part → Tells job (lines_text lines ++ part) told
+hex_long job reader after lines part told h l long = absurd (hex_short job reader after lines part told h long)
+
+pub json_long : (job : Job) (after : Told) (lines : List (List ℕ)) (part told : List ℕ) → JsonTook job after (lines ++ part ∷ []) told → IsLine part → most_characters job.from + 1 < length part → Tells job (lines_text lines ++ part) told
+json_long job after lines part told h l long = absurd (json_short job after lines part told h long)

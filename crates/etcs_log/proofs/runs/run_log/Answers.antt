@@ -1,10 +1,38 @@
-use Rattle.std.proofs.Common.{subst}
-use Rattle.std.specs.Prelude.{IfOk}
-use Rattle.etcs_runs.specs.Pipes.{Piped}
+use Rattle.std.proofs.Common.{◌^◌, ◌∙◌, subst}
+use Rattle.etcs_runs.specs.Runs.{Ran}
 use Rattle.etcs_log.specs.declared.job.LogJob.{LogJob}
-use Rattle.etcs_log.specs.Logs.{IsLog}
+use Rattle.etcs_log.specs.Promised.{log_promises}
+use Rattle.std.specs.Io.KnownBytes.{IsAtEnd}
+use Rattle.etcs_log.proofs.Endings.{one_of, faults_are, endless_of}
 use Rattle.etcs_log.proofs.runs.run_log.Goals as goal
 
-pub returns-clause-ok : goal.returns-clause-ok
-returns-clause-ok g c =
-    subst (λ (j : LogJob). IfOk c.read_all.result (λ tally. Piped (λ given told. IsLog j given told tally) (g.S.Source.remaining c.args.source.now) (g.S.Source.remaining c.read_all.new.source) (g.W.Sink.contents c.args.sink.now) (g.W.Sink.contents c.read_all.new.sink))) c.new-log.ensures.job c.read_all.ensures.ok
+pub returns : goal.returns
+returns g c =
+    let job = c.args.job in
+    let s = g.S.Source in
+    let w = g.W.Sink in
+    let old = c.args.source.now in
+    let new = c.run_engine.new.source in
+    let sink = c.args.sink.now in
+    let sink' = c.run_engine.new.sink in
+    let left = s.remaining old in
+    let left' = s.remaining new in
+    let held = w.contents sink in
+    let held' = w.contents sink' in
+    let result = c.run_engine.result in
+    let ran = subst (λ (j : LogJob). Ran (log_promises j) (2 ^ 49) left left' (s.reads old) (s.reads new) (s.failures old) (s.failures new) held held' (w.failures sink) (w.failures sink') (w.flushes sink) (w.flushes sink') result) (c.new-2.ensures.job ∙ c.new.ensures.job) c.run_engine.ensures.ran in
+    record {
+      ok = ran.ok;
+      at_end = ran.at_end;
+      one = one_of (IsAtEnd left') result (s.failures old) (s.failures new) (w.failures sink) (w.failures sink') ran.at_end ran.failures;
+      faults = faults_are job left left' held held' (s.reads old) (s.reads new) (2 ^ 49) result ran.engine;
+      read = ran.read;
+      write = ran.write;
+      endless = endless_of job left left' held held' (s.reads old) (s.reads new) (2 ^ 49) result ran.engine;
+      memory = ran.memory;
+      flushed = ran.flushed;
+      unflushed = ran.unflushed;
+      reads = ran.few_reads;
+      failures = ran.failures;
+      pieces = ran.pieces;
+    }

@@ -1,8 +1,4 @@
-use Rattle.std.proofs.Common.{◌++◌}
-use Rattle.etcs_stream.specs.Stands.{BinStands}
-use Rattle.etcs_stream.specs.laws.StandLaws.{bin_tells}
 use Rattle.etcs_stream.proofs.BinSteps.{bin_fed, bin_stops}
-use Rattle.etcs_stream.proofs.Shortness.{fed_short}
 use Rattle.etcs_stream.proofs.Saying.{says_first_if}
 use Rattle.etcs_stream.proofs.bin.BinEngine.feed.Goals as goal
 
@@ -16,13 +12,6 @@ pub returns-clause-err : goal.returns-clause-err
 returns-clause-err c given told h =
     let s = c.args.self.now.items in
     bin_stops s.job s.reader s.teller given told c.args.text.now.items h c.requires.empty c.args.piece.now _ c.take_bytes.result c.take_bytes.ensures.err
-
-pub returns-clause-short : goal.returns-clause-short
-returns-clause-short c given told h =
-    let i = c.take_bytes.new.self in
-    let input = given ++ c.args.piece.now in
-    let text = c.take_bytes.new.text.items in
-    fed_short c.args.self.now.items.job input told text i.job c.take_bytes.result (BinStands i.job i.reader i.teller input (told ++ text)) c.take_bytes.ensures.job (returns-clause-ok c given told h) (bin_tells i.job i.reader i.teller input (told ++ text)) (returns-clause-err c given told h)
 
 pub returns-clause-said : goal.returns-clause-said
 returns-clause-said c given told h =

@@ -1,5 +1,4 @@
 use Rattle.etcs_stream.proofs.BinSteps.{bin_finish_ends, bin_finish_stops}
-use Rattle.etcs_stream.proofs.Shortness.{finished_short}
 use Rattle.etcs_stream.proofs.Saying.{says_first_if, says_same}
 use Rattle.etcs_stream.proofs.bin.BinEngine.finish.Goals as goal
 
@@ -13,10 +12,6 @@ pub returns-clause-err : goal.returns-clause-err
 returns-clause-err c given told h =
     let s = c.args.self.now.items in
     bin_finish_stops s.job s.reader s.teller given told c.args.text.now.items h c.requires.empty c.finish.new.text.items c.finish.result c.finish.ensures.err
-
-pub returns-clause-short : goal.returns-clause-short
-returns-clause-short c given told h =
-    finished_short c.args.self.now.items.job given told c.finish.new.text.items c.finish.result (returns-clause-ok c given told h) (returns-clause-err c given told h)
 
 pub returns-clause-said : goal.returns-clause-said
 returns-clause-said c given told h =

@@ -2,7 +2,7 @@ use Rattle.std.proofs.Common.{◌++◌, length}
 use Rattle.std.proofs.lemmas.Result.{err_from_is_err_and}
 use Rattle.etcs_runs.specs.Lines.{lines_text}
 use Rattle.etcs_stream.specs.Stands.{HexStands}
-use Rattle.etcs_stream.proofs.LineSteps.{none_told}
+use Rattle.etcs_runs.proofs.Keeping.{none_told}
 use Rattle.etcs_stream.proofs.HexSteps.{hex_last_stops, hex_finish_ends, hex_finish_stops}
 use Rattle.etcs_stream.proofs.HexTakes.{kept_behind}
 use Rattle.etcs_stream.proofs.Saying.{says_first, says_first_if, says_same, says_then_if}

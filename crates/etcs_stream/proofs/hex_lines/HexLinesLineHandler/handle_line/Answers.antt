@@ -16,9 +16,9 @@ returns-clause-ok c lines raw told h l e =
     rw k.job (took_more i.job i.reader i.teller lines told c.args.text.now.items h raw i'.reader i'.teller c.handle.new.text.items c.args.line.now c.handle.result e k.good k.waits k.told k.room k.ok)
 
 pub returns-clause-err : goal.returns-clause-err
-returns-clause-err c lines raw told h l e m =
+returns-clause-err c lines raw more told h l e m =
     let i = c.args.self.now.items in
-    took_stops i.job i.reader i.teller lines told c.args.text.now.items h raw c.handle.new.text.items c.args.line.now c.args.number c.handle.result l e m c.handle.ensures.err
+    took_stops i.job i.reader i.teller lines told c.args.text.now.items h raw more c.handle.new.text.items c.args.line.now c.args.number c.handle.result l e m c.handle.ensures.err
 
 pub returns-clause-said : goal.returns-clause-said
 returns-clause-said c lines told h =

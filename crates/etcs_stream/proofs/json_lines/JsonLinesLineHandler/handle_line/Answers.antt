@@ -15,9 +15,9 @@ returns-clause-ok c lines raw told h l e =
     (json_line_took s.job s.teller lines told c.args.text.now.items h raw c.args.line.now s'.teller text c.handle.result l e c.handle.ensures.ok)
 
 pub returns-clause-err : goal.returns-clause-err
-returns-clause-err c lines raw told h l e at =
+returns-clause-err c lines raw more told h l e at =
     let s = c.args.self.now in
-    json_line_stops s.job s.teller lines told c.args.text.now.items h raw c.args.line.now [] c.args.number c.handle.new.text.items c.handle.result l e at c.handle.ensures.err
+    json_line_stops s.job s.teller lines told c.args.text.now.items h raw c.args.line.now more c.args.number c.handle.new.text.items c.handle.result l e at c.handle.ensures.err
 
 pub returns-clause-said : goal.returns-clause-said
 returns-clause-said c lines told h =

@@ -2,5 +2,5 @@ use Rattle.std.proofs.Common.{sym, ap}
 use Rattle.etcs_stream.specs.Lines.{most_characters}
 use Rattle.etcs_stream.proofs.json_lines.JsonLinesLineHandler.most.Goals as goal
 
-pub returns : goal.returns
-returns c = sym (ap most_characters c.args.self.now.form)
+pub returns-clause-value : goal.returns-clause-value
+returns-clause-value c = sym (ap most_characters c.args.self.now.form)

@@ -1,0 +1,6 @@
+pub mod Parting
+pub mod Standing
+pub mod Writing
+pub mod HexLines
+pub mod Memory
+pub mod Faults

@@ -1,0 +1,54 @@
+use Rattle.std.proofs.Common.{◌≡◌, ◌-◌, ◌++◌, ℕ, List, [], false, drop, length, take, ap, subst, ◌∙◌, arith}
+use Rattle.std.proofs.lemmas.List.{length-drop, take_rest}
+use Rattle.std.proofs.lemmas.Result.{err_from_is_err_and}
+use Rattle.etcs_reasons.specs.declared.page.TheConstants.{HEAD}
+use Rattle.etcs_reasons.proofs.ItemLengths.{open_short}
+use Rattle.etcs_reasons.specs.declared.account.Part.{Part}
+use Rattle.etcs_reasons.specs.declared.account.End.TheVariants.{Open}
+use Rattle.etcs_explain.specs.declared.task.Task.{Task}
+use Rattle.etcs_explain.specs.Inputs.{placed}
+use Rattle.etcs_explain.specs.Stands.{AddsOne}
+use Rattle.etcs_explain.proofs.Parting.{first_kept, first_some, items_further, some_same}
+use Rattle.etcs_explain.proofs.explainer.Explainer.items.Goals as goal
+use Rattle.etcs_explain.proofs.explainer.Explainer.items.Goals.{else-not-is_last-2-via-then-not-is_last-2+else-is_open, else-not-is_last-2-via-else-not-is_last-2}
+
+pub returns-in_err-account-clause-err : goal.returns-in_err-account-clause-err
+returns-in_err-account-clause-err c tokens long told h =
+    let p = err_from_is_err_and c.from_residual.result c.from_residual.ensures.1 in
+    let l = c.loop-at in
+    rw p.1 (first_some HEAD.now c.args.self.now.task l.self.seen tokens long (told ++ l.text.items) l.at c.args.lines.now c.args.bytes.now (l.invariant.3 tokens long told h))
+
+pub returns-in_err-at-clause-err : goal.returns-in_err-at-clause-err
+returns-in_err-at-clause-err c tokens long told h =
+    let p = err_from_is_err_and c.from_residual-in_err-at.result c.from_residual-in_err-at.ensures.1 in
+    let l = c.loop-at in
+    let some = first_some HEAD.now c.args.self.now.task l.self.seen tokens long (told ++ l.text.items) l.at c.args.lines.now c.args.bytes.now (l.invariant.3 tokens long told h) in
+    rw p.1 (some_same HEAD.now c.args.self.now.task _ long told l.text.items c.item.new.text.items c.in_err-at.ensures.err some)
+
+pub loop-at-preserved : goal.loop-at-preserved
+loop-at-preserved c =
+    let l = c.loop-at in
+    let task = c.args.self.now.task in
+    let n = c.in_ok-at.field-0 in
+    let e = c.in_ok-at.ensures in
+    let lines = c.args.lines.now in
+    let bytes = c.args.bytes.now in
+    let added1 = subst (λ (z : List ℕ). AddsOne HEAD.now l.self.task l.self.seen c.item.new.self.seen (placed (take n z) (take n (take (length bytes - l.at) (drop l.at bytes)))) [] l.text.items c.item.new.text.items) (take_rest lines l.at) e.ok in
+    let added2 = subst (λ (z : List ℕ). AddsOne HEAD.now l.self.task l.self.seen c.item.new.self.seen (placed (take n (drop l.at lines)) (take n z)) [] l.text.items c.item.new.text.items) (take_rest bytes l.at) added1 in
+    let added = subst (λ (z : Task). AddsOne HEAD.now z l.self.seen c.item.new.self.seen (placed (take n (drop l.at lines)) (take n (drop l.at bytes))) [] l.text.items c.item.new.text.items) l.invariant.1 added2 in
+    let other : c.args.is_last ≡ false → (part : Part) → c.in_ok-account.account.end ≡ Open part → ⊥ = λ last. elim c.else-not-is_last-2.branch [ else-not-is_last-2-via-then-not-is_last-2+else-is_open w ↦ w.is_open.ensures.other w.if-is_open.false | else-not-is_last-2-via-else-not-is_last-2 w ↦ let x = w.if-not-is_last-2.false in absurd cc ] in (
+      omega (arith, l.invariant.0, e.most, ap length (take_rest bytes l.at), length-drop l.at bytes),
+      e.task ∙ l.invariant.1,
+      (λ last before. e.uncut (other last) (l.invariant.2 last before)),
+      (λ tokens long told h. items_further HEAD.now task l.self.seen c.item.new.self.seen tokens long told l.text.items c.item.new.text.items l.at n lines bytes (l.invariant.3 tokens long told h) added),
+      (λ fault before. first_kept HEAD.now task l.self.seen c.item.new.self.seen _ [] l.text.items c.item.new.text.items added fault (l.invariant.4 fault before)),
+    )
+
+pub returns-then-is_open-clause-short : goal.returns-then-is_open-clause-short
+returns-then-is_open-clause-short c =
+    let l = c.loop-at in
+    let o = c.is_open.ensures.open c.if-is_open.true in
+    let a = rw o.1 at c.in_ok-account.ensures in
+    let bytes = c.args.bytes.now in
+    let short = open_short l.self.task.kind (take (length bytes - l.at) (drop l.at bytes)) a.1.viable a.1.open_end in
+    omega (arith, short, l.invariant.0, ap length (take_rest bytes l.at), length-drop l.at bytes)

@@ -1,0 +1,11 @@
+use Rattle.std.proofs.Common.{◌++◌}
+use Rattle.std.proofs.lemmas.Result.{err_from_is_err_and}
+use Rattle.etcs_reasons.specs.declared.page.TheConstants.{HEAD}
+use Rattle.etcs_explain.proofs.Parting.{some_of}
+use Rattle.etcs_explain.proofs.items.Items.end_refused.Goals as goal
+
+pub returns-in_err-is_refused-clause-err : goal.returns-in_err-is_refused-clause-err
+returns-in_err-is_refused-clause-err c all long told h =
+    let p = err_from_is_err_and c.from_residual.result c.from_residual.ensures.1 in
+    let s = c.args.self.now in
+    rw p.1 (some_of HEAD.now s.explainer.task s.lines.items s.held.items s.explainer.seen all long (told ++ c.args.text.now.items) h)

@@ -1,0 +1,5 @@
+pub mod Inputs
+pub mod Parts
+pub mod Explained
+pub mod Stands
+pub mod laws

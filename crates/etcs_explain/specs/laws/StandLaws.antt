@@ -1,0 +1,135 @@
+-- What was explained of an input's front is what a run promises of it.
+use Rattle.std.proofs.Common.{◌≡◌, ℕ, ◌+◌, ◌<◌, ◌⊎◌, List, [], ◌∷◌, ◌++◌, map, length, refl, sym, ap, subst, ◌∙◌, inl, inr, append_assoc}
+use Rattle.std.proofs.lemmas.List.{append-nil, map-append}
+use Rattle.std.proofs.lemmas.List.Elements.{All-append, All-cons, All-nil}
+use Rattle.etcs_runs.specs.Lines.{IsLine, lines_text, strip_cr}
+use Rattle.etcs_runs.specs.Promises.{Sound}
+use Rattle.etcs_runs.specs.declared.form.Form.{Form}
+use Rattle.etcs_runs.specs.declared.form.Form.TheVariants.{Hex, Bin, Json}
+use Rattle.etcs_explain.specs.declared.task.Task.{Task}
+use Rattle.etcs_explain.specs.declared.seen.Seen.{Seen}
+use Rattle.etcs_explain.specs.Inputs.{Token, of_byte, placed, line_tokens, line_long, lines_tokens, lines_long, Lines, IsSure, Begins, SoFar}
+use Rattle.etcs_explain.specs.Explained.{Tells, TellsFirst, explanations}
+use Rattle.etcs_explain.specs.Stands.{BytesStand, LinesTook}
+
+-- ---- What is there of an input begins it.
+
+more_of : (form : Form) (given more : List ℕ) (tokens : List Token) (long : List ℕ) → (h : Lines form given tokens long) → IsSure h.part → (k : Lines form (given ++ more) tokens long) × ((k.rest ≡ []) ⊎ IsSure k.part)
+more_of form given more tokens long h s = (
+  record {
+    lines = h.lines;
+    part = h.part;
+    rest = h.rest ++ more;
+    given_is = ap (λ (z : List ℕ). z ++ more) h.given_is ∙ append_assoc (lines_text h.lines) (h.part ++ h.rest) more ∙ ap (λ (z : List ℕ). lines_text h.lines ++ z) (append_assoc h.part h.rest more);
+    are_lines = h.are_lines;
+    tokens_are = h.tokens_are;
+    long_is = h.long_is;
+  },
+  inr s,
+)
+
+-- and perhaps with further ones of what comes after it
+abbrev BeginsMore : Form → List ℕ → List Token → List ℕ → Type 0
+BeginsMore form given tokens long = (rest : List Token) × Begins form given (tokens ++ rest) long
+
+no_more : (form : Form) (given : List ℕ) (tokens : List Token) (long : List ℕ) → Begins form given tokens long → BeginsMore form given tokens long
+no_more form given tokens long h = ([], subst (λ (z : List Token). Begins form given z long) (sym (append-nil tokens)) h)
+
+begins_more : (form : Form) (given more : List ℕ) (tokens : List Token) (long : List ℕ) → SoFar form given tokens long → BeginsMore form (given ++ more) tokens long
+begins_more Bin given more tokens long h = (map (of_byte 0) more, (ap (λ (z : List Token). z ++ map (of_byte 0) more) h.0 ∙ sym (map-append (of_byte 0) given more), h.1))
+begins_more Hex given more tokens long h = no_more Hex (given ++ more) tokens long (more_of Hex given more tokens long h.0 h.1)
+begins_more Json given more tokens long h = no_more Json (given ++ more) tokens long (more_of Json given more tokens long h.0 h.1)
+
+-- ---- Promises.
+
+tells_more : (page : List ℕ) (task : Task) (given more told : List ℕ) → Tells page task given told → TellsFirst page task (given ++ more) told
+tells_more page task given more told (tokens, lines, held, long, seen, so_far, short, is) =
+    let b = begins_more task.from given more (tokens ++ placed lines held) long so_far in
+    let begins = subst (λ (z : List Token). Begins task.from (given ++ more) z long) (append_assoc tokens (placed lines held) b.0) b.1 in
+    (tokens, placed lines held ++ b.0, long, [], seen, subst (λ (z : List ℕ). Begins task.from (given ++ more) (tokens ++ (placed lines held ++ b.0)) z) (sym (append-nil long)) begins, is)
+
+tells_first : (page : List ℕ) (task : Task) (given told : List ℕ) → Tells page task given told → TellsFirst page task given told
+tells_first page task given told h =
+    subst (λ (z : List ℕ). TellsFirst page task z told) (append-nil given) (tells_more page task given [] told h)
+
+pub explanations_sound : (page foot : List ℕ) (task : Task) → Sound (explanations page foot task)
+explanations_sound page foot task = record {
+  tells_print = λ given told h. inl (tells_first page task given told h);
+  stops_print = λ given told fault h. elim h [ inl s ↦ inl s.1 | inr b ↦ inr (fault, b) ];
+  last_prints = λ given told fault h. inl h.1;
+  starves = λ given more told h. inl (refl, tells_more page task given more told h);
+}
+
+-- ---- What stands.
+
+pub bytes_tell : (page : List ℕ) (task : Task) (lines held : List ℕ) (seen : Seen) (given told : List ℕ) → BytesStand page task lines held seen given told → Tells page task given told
+bytes_tell page task lines held seen given told h =
+    (h.took.tokens, lines, held, [], seen, subst (λ (f : Form). SoFar f given (h.took.tokens ++ placed lines held) []) (sym h.form) (sym h.took.all_are, refl), h.short, h.took.explained)
+
+so_far_of : (form : Form) (given : List ℕ) (tokens : List Token) (long : List ℕ) → (form ≡ Bin → ⊥) → ((h : Lines form given tokens long) × IsSure h.part × IsLine h.rest) → SoFar form given tokens long
+so_far_of Bin given tokens long other h = absurd (other refl)
+so_far_of Hex given tokens long other h = h
+so_far_of Json given tokens long other h = h
+
+-- an empty line has nothing
+none_of : (form : Form) (n : ℕ) → line_tokens form n (strip_cr []) ≡ []
+none_of Bin n = refl
+none_of Hex n = refl
+none_of Json n = refl
+
+pub tokens_none : (form : Form) (n : ℕ) (lines : List (List ℕ)) → lines_tokens form n lines ≡ lines_tokens form n (lines ++ [] ∷ [])
+tokens_none form n [] = sym (append-nil (line_tokens form (n + 1) (strip_cr [])) ∙ none_of form (n + 1))
+tokens_none form n (l ∷ lines) = ap (λ (z : List Token). line_tokens form (n + 1) (strip_cr l) ++ z) (tokens_none form (n + 1) lines)
+
+pub long_none : (n : ℕ) (lines : List (List ℕ)) → lines_long n lines ≡ lines_long n (lines ++ [] ∷ [])
+long_none n [] = refl
+long_none n (l ∷ lines) = ap (λ (z : List ℕ). line_long (n + 1) (strip_cr l) ++ z) (long_none (n + 1) lines)
+
+pub lines_tell : (page : List ℕ) (task : Task) (held_lines held : List ℕ) (seen : Seen) (n : ℕ) (lines : List (List ℕ)) (part told : List ℕ) → LinesTook page task held_lines held seen n lines told → IsLine part → Tells page task (lines_text lines ++ part) told
+lines_tell page task held_lines held seen n lines part told h l =
+    let none = All-nil (λ c. c ≡ 10 → ⊥) in (
+      h.took.tokens,
+      held_lines,
+      held,
+      lines_long 0 lines,
+      seen,
+      so_far_of task.from (lines_text lines ++ part) _ _ h.form (
+        record {
+          lines = lines;
+          part = [];
+          rest = part;
+          given_is = refl;
+          are_lines = All-append IsLine lines ([] ∷ []) h.are_lines (All-cons IsLine [] [] none (All-nil IsLine));
+          tokens_are = sym h.took.all_are ∙ tokens_none task.from 0 lines;
+          long_is = long_none 0 lines;
+        },
+        inl refl,
+        l,
+      ),
+      h.short,
+      h.took.explained,
+    )
+
+pub long_tell : (page : List ℕ) (task : Task) (held_lines held : List ℕ) (seen : Seen) (n : ℕ) (lines : List (List ℕ)) (part told : List ℕ) → LinesTook page task held_lines held seen n (lines ++ part ∷ []) told → IsLine part → 1048576 + 1 < length part → Tells page task (lines_text lines ++ part) told
+long_tell page task held_lines held seen n lines part told h l m = (
+  h.took.tokens,
+  held_lines,
+  held,
+  lines_long 0 (lines ++ part ∷ []),
+  seen,
+  so_far_of task.from (lines_text lines ++ part) _ _ h.form (
+    record {
+      lines = lines;
+      part = part;
+      rest = [];
+      given_is = ap (λ (z : List ℕ). lines_text lines ++ z) (sym (append-nil part));
+      are_lines = h.are_lines;
+      tokens_are = sym h.took.all_are;
+      long_is = refl;
+    },
+    inr m,
+    All-nil (λ c. c ≡ 10 → ⊥),
+  ),
+  h.short,
+  h.took.explained,
+)

@@ -1,0 +1,430 @@
+//! Parts of an input explained, one after another.
+
+ghost use Rattle.std.specs.Prelude.{◌≡◌, ◌+◌, ◌<◌, ◌≤◌, ◌++◌, ◌∷◌, ℕ, List, [], true, false, Some, None, length, string_bytes, take, IfOk, IsTrue, OnErr, OnOk};
+ghost use Rattle.etcs_bits.specs.Bits.{bits};
+ghost use Rattle.etcs_vars.specs.Reading.{readings_of};
+ghost use Rattle.etcs_text.specs.Entries.{EntryReads};
+ghost use Rattle.etcs_runs.specs.Passes.{counted};
+ghost use Rattle.etcs_runs.specs.declared.fault.RunFault.{RunFault};
+ghost use Rattle.etcs_runs.specs.declared.form.Form.TheVariants as form;
+ghost use Rattle.etcs_reasons.specs.declared.account.End.{End};
+ghost use Rattle.etcs_reasons.specs.declared.account.Part.{Part};
+ghost use Rattle.etcs_reasons.specs.Accounts.{Accounts};
+ghost use Rattle.etcs_explain.specs.Inputs.{Token, of_line, placed};
+ghost use Rattle.etcs_explain.specs.Parts.{IsUncut, edge, long_fault, missing, opening, place};
+ghost use Rattle.etcs_explain.specs.Explained.{Explained};
+ghost use Rattle.etcs_explain.specs.Stands.{AddsOne, IsAfter, ItemPart, TookSome, Writes};
+
+use crate::json::write_no_item;
+use crate::seen::Seen;
+use crate::task::Task;
+use crate::titles::{wanted, write_title};
+use etcs_json::{JsonFault, from_line};
+use etcs_reasons::inner::{
+    FOOT, HEAD, MOST_BYTES, Sheet, way_of, write_bytes, write_cause, write_no_bytes, write_table,
+};
+use etcs_reasons::{Account, End, Layout, Part};
+use etcs_runs::{Form, MOST_LINE, NoBytes, RunFault};
+use etcs_text::{Entry, Kind, encoded};
+use std::alloc::{AllocError, Global};
+
+/// Explains parts of an input.
+#[derive(Drop)]
+pub(crate) struct Explainer {
+    pub(crate) alloc: Global,
+    pub(crate) task: Task,
+    pub(crate) seen: Seen,
+    sheet: Sheet,
+}
+
+/// What a page has before the title of an item, or of what is none.
+fn opening(layout: Layout, is_item: bool) -> &'static str
+    ensures { result.now ≡ opening layout is_item }
+{
+    match (layout, is_item) {
+        (Layout::Text, _) => "",
+        (Layout::Html, true) => "<section><h2>",
+        (Layout::Html, false) => "<p class=no>",
+    }
+}
+
+/// Where a part is: the number of the item, or that of the line.
+#[tactic(auto, using(std::proofs::Common::append_assoc))]
+fn place(alloc: Global, from: Form, number: u64, line: u64) -> Result<String, AllocError>
+    ensures { IfOk result (λ s. string_bytes s ≡ place from number line) }
+{
+    match from {
+        Form::Bin => format!(in alloc; "item {number}: "),
+        Form::Hex | Form::Json => format!(in alloc; "line {line}: "),
+    }
+}
+
+/// These texts one after another.
+fn joined(
+    alloc: Global,
+    head: &str,
+    opening: &str,
+    place: &str,
+    rest: &str,
+) -> Result<String, AllocError>
+    ensures { IfOk result (λ s. string_bytes s ≡ head.now ++ opening.now ++ place.now ++ rest.now) }
+{
+    let mut all = String::new(alloc);
+    all.push_str(head)?;
+    all.push_str(opening)?;
+    all.push_str(place)?;
+    all.push_str(rest)?;
+    Ok(all)
+}
+
+/// How many bytes the item of this number has that bytes begin with; or all of them, and what is wrong with it.
+fn item_part(kind: Kind, bytes: &[u8], account: &Account, item: u64) -> (usize, Option<RunFault>)
+    requires account { Accounts (readings_of (EntryReads kind)) account.now.fields.items account.now.end (take 8184 (bits bytes.now)) }
+    ensures part { ItemPart kind item bytes.now result.0 result.1 }
+    ensures uncut { ((part : Part) → account.now.end ≡ End.Open part → ⊥) → IsUncut result.1 }
+{
+    let count = bytes.len();
+    match account.end {
+        End::Whole => (account.bytes(), None),
+        End::Open(_) => {
+            let bits = (8 * count.min(MOST_BYTES)) as u64;
+            (count, Some(RunFault::Truncated { item, bits }))
+        }
+        End::Refused(bit, Part { var, .. }) => (count, Some(RunFault::Refused { item, bit, var })),
+    }
+}
+
+impl Explainer {
+    /// Nothing has come yet.
+    pub(crate) fn new(alloc: Global, task: Task) -> Explainer
+        ensures task { result.task ≡ task }
+        ensures begun { result.seen.is_begun ≡ false }
+        ensures items { result.seen.items ≡ 0 }
+        ensures first { result.seen.first ≡ None }
+    {
+        Explainer {
+            alloc,
+            task,
+            seen: Seen {
+                is_begun: false,
+                items: 0,
+                first: None,
+            },
+            sheet: Sheet::new(alloc, task.layout),
+        }
+    }
+
+    /// The head of the page, where nothing was written.
+    fn head(&self) -> &'static str
+        ensures { result.now ≡ missing self.now.seen.is_begun (edge self.now.task.layout HEAD.now) }
+    {
+        match self.task.layout {
+            Layout::Html if !self.seen.is_begun => HEAD,
+            _ => "",
+        }
+    }
+
+    /// The number of the next item.
+    fn number(&self) -> u64
+        ensures { result ≡ counted (self.now.seen.items + 1) }
+    {
+        self.seen.items.saturating_add(1)
+    }
+
+    /// Begins what the sheet has anew.
+    fn clear(&mut self)
+        ensures task { self.new.task ≡ self.old.task }
+        ensures seen { self.new.seen ≡ self.old.seen }
+    {
+        self.sheet.clear();
+        self.sheet.out.clear();
+    }
+
+    /// Appends the text of a part: its place, and what the sheet has.
+    ///
+    /// # Errors
+    ///
+    /// Where memory is refused. Nothing was appended.
+    fn pass_on(&self, is_item: bool, line: u64, text: &mut Vec<u8>) -> Result<(), AllocError>
+        ensures ok { OnOk result (Writes HEAD.now self.now.task self.now.seen.is_begun is_item (counted (self.now.seen.items + 1)) line text.old.items text.new.items) }
+        ensures err { OnErr result (text.new.items ≡ text.old.items) }
+    {
+        let opening = opening(self.task.layout, is_item);
+        let rest = self.sheet.whole()?;
+        let (head, number) = (self.head(), self.number());
+        let place = place(self.alloc, self.task.from, number, line)?;
+        let part = joined(self.alloc, head, opening, place.as_str(), rest)?;
+        text.extend_from_slice(part.as_bytes())?;
+        Ok(())
+    }
+
+    /// Appends the title, the table and the reason of an item.
+    ///
+    /// # Errors
+    ///
+    /// Where memory is refused. Nothing was appended.
+    fn write_item(
+        &mut self,
+        bytes: &[u8],
+        account: &Account,
+        line: u64,
+        text: &mut Vec<u8>,
+    ) -> Result<(), AllocError>
+        ensures task { self.new.task ≡ self.old.task }
+        ensures seen { self.new.seen ≡ self.old.seen }
+        ensures ok { OnOk result (Writes HEAD.now self.old.task self.old.seen.is_begun true (counted (self.old.seen.items + 1)) line text.old.items text.new.items) }
+        ensures err { OnErr result (text.new.items ≡ text.old.items) }
+    {
+        self.clear();
+        let Task { kind, layout, .. } = self.task;
+        write_title(kind, bytes, account.end, &mut self.sheet.meaning);
+        self.sheet.open_item();
+        if layout == Layout::Html {
+            write_bytes(bytes, account.end, &mut self.sheet.out);
+        }
+        write_table(way_of(kind), bytes, account, &mut self.sheet);
+        self.sheet.clear();
+        let often = write_cause(kind, bytes, account, &mut self.sheet.meaning)?;
+        self.sheet.close_item(often);
+        self.pass_on(true, line, text)
+    }
+
+    /// Appends the line of what is no item, whose reason is written, and notes its fault and how many items it counts as.
+    ///
+    /// # Errors
+    ///
+    /// Where memory is refused. Nothing was appended.
+    fn write_wrong(
+        &mut self,
+        fault: RunFault,
+        items: u64,
+        line: u64,
+        text: &mut Vec<u8>,
+    ) -> Result<(), AllocError>
+        ensures task { self.new.task ≡ self.old.task }
+        ensures seen { OnOk result (IsAfter self.old.seen items (Some fault) self.new.seen) }
+        ensures ok { OnOk result (Writes HEAD.now self.old.task self.old.seen.is_begun false (counted (self.old.seen.items + 1)) line text.old.items text.new.items) }
+        ensures err { OnErr result (text.new.items ≡ text.old.items) }
+    {
+        self.sheet.heading();
+        self.pass_on(false, line, text)?;
+        self.seen = self.seen.after(items, Some(fault));
+        Ok(())
+    }
+
+    /// Explains the item that the bytes begin with, each of its line, and says how many bytes it has: all of them where
+    /// they begin with none.
+    ///
+    /// # Errors
+    ///
+    /// Where memory is refused. Nothing was appended.
+    fn item(
+        &mut self,
+        bytes: &[u8],
+        lines: &[u64],
+        account: &Account,
+        text: &mut Vec<u8>,
+    ) -> Result<usize, AllocError>
+        requires some { 0 < length bytes.now }
+        requires even { length lines.now ≡ length bytes.now }
+        requires account { Accounts (readings_of (EntryReads self.old.task.kind)) account.now.fields.items account.now.end (take 8184 (bits bytes.now)) }
+        ensures task { self.new.task ≡ self.old.task }
+        ensures some { IfOk result (λ n. 0 < n) }
+        ensures most { IfOk result (λ n. n ≤ length bytes.now) }
+        ensures ok { IfOk result (λ n. AddsOne HEAD.now self.old.task self.old.seen self.new.seen (placed (take n lines.now) (take n bytes.now)) [] text.old.items text.new.items) }
+        ensures uncut { ((part : Part) → account.now.end ≡ End.Open part → ⊥) → IsUncut self.old.seen.first → OnOk result (IsUncut self.new.seen.first) }
+        ensures err { OnErr result (text.new.items ≡ text.old.items) }
+    {
+        let (count, fault) = item_part(self.task.kind, bytes, account, self.number());
+        let shown = &bytes[..count.min(MOST_BYTES)];
+        self.write_item(shown, account, lines[0], text)?;
+        self.seen = self.seen.after(1, fault);
+        Ok(count)
+    }
+
+    /// Explains the items that bytes begin with, one after another, and says how many bytes they have: all of them where
+    /// no more come; else all but those of an item that isn't whole yet.
+    ///
+    /// # Errors
+    ///
+    /// Where memory is refused. The texts of the items in front were appended.
+    pub(crate) fn items(
+        &mut self,
+        bytes: &[u8],
+        lines: &[u64],
+        is_last: bool,
+        text: &mut Vec<u8>,
+    ) -> Result<usize, AllocError>
+        requires even { length lines.now ≡ length bytes.now }
+        ensures task { self.new.task ≡ self.old.task }
+        ensures most { IfOk result (λ n. n ≤ length bytes.now) }
+        ensures short { IfOk result (λ n. length bytes.now < n + 1023) }
+        ensures last { IsTrue is_last → IfOk result (λ n. n ≡ length bytes.now) }
+        ensures uncut { is_last ≡ false → IsUncut self.old.seen.first → OnOk result (IsUncut self.new.seen.first) }
+        ensures kept { (fault : RunFault) → self.old.seen.first ≡ Some fault → OnOk result (self.new.seen.first ≡ Some fault) }
+        ensures ok { (tokens : List Token) (long told : List ℕ) → Explained HEAD.now self.old.task self.old.seen tokens long (told ++ text.old.items) → IfOk result (λ n. Explained HEAD.now self.old.task self.new.seen (tokens ++ placed (take n lines.now) (take n bytes.now)) long (told ++ text.new.items)) }
+        ensures err { (tokens : List Token) (long told : List ℕ) → Explained HEAD.now self.old.task self.old.seen tokens long (told ++ text.old.items) → OnErr result (TookSome HEAD.now self.old.task (tokens ++ placed lines.now bytes.now) long (told ++ text.new.items)) }
+    {
+        let mut at = 0;
+        while at < bytes.len() {
+            let rest = &bytes[at..];
+            if !is_last && rest.len() < wanted(self.task.kind, rest) {
+                break;
+            }
+            let account = Account::read(self.alloc, self.task.kind, rest)?;
+            // an item that isn't whole though its bytes are there doesn't come
+            if !is_last && is_open(&account) {
+                break;
+            }
+            at += self.item(rest, &lines[at..], &account, text)?;
+        }
+        Ok(at)
+    }
+
+    /// Explains the item of a line of JSON, or says why it is none.
+    ///
+    /// # Errors
+    ///
+    /// Where memory is refused. Nothing was appended.
+    pub(crate) fn json_line(
+        &mut self,
+        line: &[u8],
+        number: u64,
+        text: &mut Vec<u8>,
+    ) -> Result<(), AllocError>
+        requires json { self.old.task.from ≡ form.Json }
+        ensures task { self.new.task ≡ self.old.task }
+        ensures ok { OnOk result (AddsOne HEAD.now self.old.task self.old.seen self.new.seen (of_line number line.now ∷ []) [] text.old.items text.new.items) }
+        ensures err { OnErr result (text.new.items ≡ text.old.items) }
+    {
+        let fault = match from_line(self.alloc, self.task.kind, line) {
+            Ok(entry) => return self.json_item(&entry, number, text),
+            Err(fault) => fault,
+        };
+        self.clear();
+        write_no_item(self.task.kind, line, fault, &mut self.sheet.meaning);
+        match fault {
+            JsonFault::Refused { bit, var } => {
+                let item = self.number();
+                self.write_wrong(RunFault::Refused { item, bit, var }, 1, number, text)
+            }
+            JsonFault::Shape => {
+                self.write_wrong(RunFault::BadJson { line: number }, 0, number, text)
+            }
+            JsonFault::Memory => Err(AllocError),
+        }
+    }
+
+    /// Explains the item of the line of this number.
+    ///
+    /// # Errors
+    ///
+    /// Where memory is refused. Nothing was appended.
+    fn json_item(
+        &mut self,
+        entry: &Entry,
+        number: u64,
+        text: &mut Vec<u8>,
+    ) -> Result<(), AllocError>
+        ensures task { self.new.task ≡ self.old.task }
+        ensures seen { OnOk result (IsAfter self.old.seen 1 None self.new.seen) }
+        ensures ok { OnOk result (Writes HEAD.now self.old.task self.old.seen.is_begun true (counted (self.old.seen.items + 1)) number text.old.items text.new.items) }
+        ensures err { OnErr result (text.new.items ≡ text.old.items) }
+    {
+        let mut bytes = Vec::new(self.alloc);
+        encoded(entry, &mut bytes)?;
+        let account = Account::read(self.alloc, self.task.kind, bytes.as_slice())?;
+        self.write_item(bytes.as_slice(), &account, number, text)?;
+        self.seen = self.seen.after(1, None);
+        Ok(())
+    }
+
+    /// Says why a line says no bytes.
+    ///
+    /// # Errors
+    ///
+    /// Where memory is refused. Nothing was appended.
+    pub(crate) fn bad_hex(
+        &mut self,
+        line: &[u8],
+        number: u64,
+        why: NoBytes,
+        text: &mut Vec<u8>,
+    ) -> Result<(), AllocError>
+        requires lines { self.old.task.from ≡ form.Json → ⊥ }
+        ensures task { self.new.task ≡ self.old.task }
+        ensures ok { OnOk result (AddsOne HEAD.now self.old.task self.old.seen self.new.seen (of_line number line.now ∷ []) [] text.old.items text.new.items) }
+        ensures err { OnErr result (text.new.items ≡ text.old.items) }
+    {
+        self.clear();
+        let mut reason = String::new(self.alloc);
+        write_no_bytes(why, &mut reason)?;
+        self.sheet.meaning.push(reason.as_str());
+        let place = match line.iter().position(|c| !c.is_ascii_hexdigit()) {
+            Some(place) if why == NoBytes::NoDigits => place,
+            _ => line.len(),
+        } as u64;
+        self.write_wrong(
+            RunFault::BadHex {
+                line: number,
+                place,
+            },
+            0,
+            number,
+            text,
+        )
+    }
+
+    /// Says that a line is too long.
+    ///
+    /// # Errors
+    ///
+    /// Where memory is refused. Nothing was appended.
+    pub(crate) fn long_line(&mut self, number: u64, text: &mut Vec<u8>) -> Result<(), AllocError>
+        ensures task { self.new.task ≡ self.old.task }
+        ensures ok { OnOk result (AddsOne HEAD.now self.old.task self.old.seen self.new.seen [] (number ∷ []) text.old.items text.new.items) }
+        ensures err { OnErr result (text.new.items ≡ text.old.items) }
+    {
+        self.clear();
+        self.sheet
+            .meaning
+            .push("more than 1,048,576 bytes, which no line has");
+        self.write_wrong(long_fault(self.task.from, number), 0, number, text)
+    }
+
+    /// Appends what a page has at its end: the foot, and before it the head where nothing was written.
+    ///
+    /// # Errors
+    ///
+    /// Where memory is refused. Nothing was appended.
+    pub(crate) fn end(&self, text: &mut Vec<u8>) -> Result<(), AllocError>
+        ensures ok { OnOk result (text.new.items ≡ text.old.items ++ (missing self.now.seen.is_begun (edge self.now.task.layout HEAD.now) ++ edge self.now.task.layout FOOT.now)) }
+        ensures err { OnErr result (text.new.items ≡ text.old.items) }
+    {
+        if self.task.layout == Layout::Text {
+            return Ok(());
+        }
+        let head = self.head();
+        let edges = format!(in self.alloc; "{head}{FOOT}")?;
+        text.extend_from_slice(edges.as_bytes())
+    }
+}
+
+/// The fault of a line of this number that is too long.
+fn long_fault(from: Form, line: u64) -> RunFault
+    ensures { result ≡ long_fault from line }
+{
+    let place = MOST_LINE as u64;
+    match from {
+        Form::Json => RunFault::BadJson { line },
+        Form::Hex | Form::Bin => RunFault::BadHex { line, place },
+    }
+}
+
+/// Whether the bytes of an account end inside the item.
+fn is_open(account: &Account) -> bool
+    ensures open { IsTrue result → (part : Part) × (account.now.end ≡ End.Open part) }
+    ensures other { result ≡ false → (part : Part) → account.now.end ≡ End.Open part → ⊥ }
+{
+    matches!(account.end, End::Open(_))
+}

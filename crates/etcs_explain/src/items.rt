@@ -1,0 +1,352 @@
+//! The items of bytes and of lines.
+
+ghost use Rattle.std.specs.Prelude.{◌≡◌, ◌+◌, ◌*◌, ◌^◌, ◌<◌, ◌≤◌, ◌++◌, ◌∷◌, ℕ, List, Err, Ok, [], alloc_error, Some, false, drop, length, map, ⊤, IfErr, IfOk, IsTrue, OnErr, OnOk};
+ghost use Rattle.etcs_runs.specs.declared.fault.RunFault.{RunFault};
+ghost use Rattle.etcs_runs.specs.declared.form.Form.TheVariants as form;
+ghost use Rattle.etcs_reasons.specs.declared.page.TheConstants.{FOOT, HEAD};
+ghost use Rattle.etcs_explain.specs.Inputs.{Token, of_byte, of_line, hex_tokens, line_long, line_tokens, short_tokens};
+ghost use Rattle.etcs_explain.specs.Parts.{IsUncut};
+ghost use Rattle.etcs_explain.specs.Explained.{Finished, explanations};
+ghost use Rattle.etcs_explain.specs.Stands.{BytesStand, LinesTook, Took, TookSome};
+ghost use Rattle.etcs_explain.specs.laws.StandLaws.{bytes_tell, explanations_sound, lines_tell, long_tell};
+
+use crate::explainer::Explainer;
+use crate::task::Task;
+use crate::titles::wanted;
+use etcs_reasons::inner::{FOOT, HEAD};
+use etcs_reasons::{Account, End};
+use etcs_runs::inner::{Engine, LineHandler, MOST_READ};
+use etcs_runs::{Form, MOST_LINE, NoBytes, RunFault, line_bytes, without_cr};
+use std::alloc::{AllocError, Global};
+
+/// The bytes of the item that isn't whole yet, the line of each (0 in an input of bytes), how many lines came, and what
+/// explains them.
+#[derive(Drop)]
+pub(crate) struct Items {
+    explainer: Explainer,
+    held: Vec<u8>,
+    lines: Vec<u64>,
+    line: u64,
+}
+
+/// Drops the first ones.
+fn drop_first<T: Copy>(list: &mut Vec<T>, count: usize)
+    requires { count ≤ length list.old.items }
+    ensures { list.new.items ≡ drop count list.old.items }
+{
+    let len = list.len();
+    list.copy_within(count..len, 0);
+    list.truncate(len - count);
+}
+
+/// What a run answers where memory was refused.
+fn or_memory<T>(done: Result<T, AllocError>) -> Result<T, RunFault>
+    ensures ok { IfOk result (λ x. done ≡ Ok x) }
+    ensures err { IfErr result (λ e. (e ≡ RunFault.Memory) × (done ≡ Err alloc_error)) }
+{
+    match done {
+        Ok(value) => Ok(value),
+        Err(AllocError) => Err(RunFault::Memory),
+    }
+}
+
+impl Items {
+    /// Nothing has come yet.
+    pub(crate) fn new(alloc: Global, task: Task) -> Items
+        ensures bytes { task.from ≡ form.Bin → BytesStand HEAD.now task result.lines.items result.held.items result.explainer.seen [] [] }
+        ensures lines { (task.from ≡ form.Bin → ⊥) → LinesTook HEAD.now task result.lines.items result.held.items result.explainer.seen result.line [] [] }
+        ensures task { result.explainer.task ≡ task }
+        ensures line { result.line ≡ 0 }
+    {
+        Items {
+            explainer: Explainer::new(alloc, task),
+            held: Vec::new(alloc),
+            lines: Vec::new(alloc),
+            line: 0,
+        }
+    }
+
+    /// Holds bytes of the last line.
+    fn add(&mut self, bytes: &[u8]) -> Result<(), AllocError>
+        requires even { length self.old.lines.items ≡ length self.old.held.items }
+        ensures same { (self.new.explainer.task ≡ self.old.explainer.task) × (self.new.line ≡ self.old.line) }
+        ensures seen { self.new.explainer.seen ≡ self.old.explainer.seen }
+        ensures even { OnOk result (length self.new.lines.items ≡ length self.new.held.items) }
+        ensures ok { (all : List Token) (long told : List ℕ) → Took HEAD.now self.old.explainer.task self.old.lines.items self.old.held.items self.old.explainer.seen all long told → OnOk result (Took HEAD.now self.old.explainer.task self.new.lines.items self.new.held.items self.new.explainer.seen (all ++ map (of_byte self.old.line) bytes.now) long told) }
+    {
+        self.held.extend_from_slice(bytes)?;
+        self.lines.resize(self.held.len(), self.line)?;
+        Ok(())
+    }
+
+    /// Explains the whole items that are held; all that is held where no more of it comes.
+    fn pass(&mut self, is_last: bool, text: &mut Vec<u8>) -> Result<(), AllocError>
+        requires even { length self.old.lines.items ≡ length self.old.held.items }
+        ensures same { (self.new.explainer.task ≡ self.old.explainer.task) × (self.new.line ≡ self.old.line) }
+        ensures even { OnOk result (length self.new.lines.items ≡ length self.new.held.items) }
+        ensures short { OnOk result (length self.new.held.items < 1023) }
+        ensures last { IsTrue is_last → OnOk result (self.new.held.items ≡ []) }
+        ensures uncut { is_last ≡ false → IsUncut self.old.explainer.seen.first → OnOk result (IsUncut self.new.explainer.seen.first) }
+        ensures kept { (fault : RunFault) → self.old.explainer.seen.first ≡ Some fault → OnOk result (self.new.explainer.seen.first ≡ Some fault) }
+        ensures ok { (all : List Token) (long told : List ℕ) → Took HEAD.now self.old.explainer.task self.old.lines.items self.old.held.items self.old.explainer.seen all long (told ++ text.old.items) → OnOk result (Took HEAD.now self.old.explainer.task self.new.lines.items self.new.held.items self.new.explainer.seen all long (told ++ text.new.items)) }
+        ensures err { (all : List Token) (long told : List ℕ) → Took HEAD.now self.old.explainer.task self.old.lines.items self.old.held.items self.old.explainer.seen all long (told ++ text.old.items) → OnErr result (TookSome HEAD.now self.old.explainer.task all long (told ++ text.new.items)) }
+    {
+        let count = self
+            .explainer
+            .items(self.held.as_slice(), self.lines.as_slice(), is_last, text)?;
+        drop_first(&mut self.held, count);
+        drop_first(&mut self.lines, count);
+        Ok(())
+    }
+
+    /// Whether a bit is refused of the item that is held, with these bytes, where all its bytes are there.
+    fn is_refused(&self, bytes: &[u8]) -> Result<bool, AllocError> {
+        let kind = self.explainer.task.kind;
+        let mut all = self.held.clone()?;
+        all.extend_from_slice(bytes)?;
+        if all.len() < wanted(kind, all.as_slice()) {
+            return Ok(false);
+        }
+        let account = Account::read(self.explainer.alloc, kind, all.as_slice())?;
+        Ok(matches!(account.end, End::Refused(_, _)))
+    }
+
+    /// Explains what is held, where these bytes make it no item.
+    fn end_refused(&mut self, bytes: &[u8], text: &mut Vec<u8>) -> Result<(), AllocError>
+        requires even { length self.old.lines.items ≡ length self.old.held.items }
+        ensures same { (self.new.explainer.task ≡ self.old.explainer.task) × (self.new.line ≡ self.old.line) }
+        ensures even { OnOk result (length self.new.lines.items ≡ length self.new.held.items) }
+        ensures ok { (all : List Token) (long told : List ℕ) → Took HEAD.now self.old.explainer.task self.old.lines.items self.old.held.items self.old.explainer.seen all long (told ++ text.old.items) → OnOk result (Took HEAD.now self.old.explainer.task self.new.lines.items self.new.held.items self.new.explainer.seen all long (told ++ text.new.items)) }
+        ensures err { (all : List Token) (long told : List ℕ) → Took HEAD.now self.old.explainer.task self.old.lines.items self.old.held.items self.old.explainer.seen all long (told ++ text.old.items) → OnErr result (TookSome HEAD.now self.old.explainer.task all long (told ++ text.new.items)) }
+    {
+        if !self.held.is_empty() && self.is_refused(bytes)? {
+            return self.pass(true, text);
+        }
+        Ok(())
+    }
+
+    /// Takes the bytes of the last line. An item that they make no item ended before them.
+    fn take(&mut self, bytes: &[u8], text: &mut Vec<u8>) -> Result<(), AllocError>
+        requires even { length self.old.lines.items ≡ length self.old.held.items }
+        ensures same { (self.new.explainer.task ≡ self.old.explainer.task) × (self.new.line ≡ self.old.line) }
+        ensures even { OnOk result (length self.new.lines.items ≡ length self.new.held.items) }
+        ensures short { OnOk result (length self.new.held.items < 1023) }
+        ensures ok { (all : List Token) (long told : List ℕ) → Took HEAD.now self.old.explainer.task self.old.lines.items self.old.held.items self.old.explainer.seen all long (told ++ text.old.items) → OnOk result (Took HEAD.now self.old.explainer.task self.new.lines.items self.new.held.items self.new.explainer.seen (all ++ map (of_byte self.old.line) bytes.now) long (told ++ text.new.items)) }
+        ensures err { (all : List Token) (long told : List ℕ) → Took HEAD.now self.old.explainer.task self.old.lines.items self.old.held.items self.old.explainer.seen all long (told ++ text.old.items) → OnErr result (TookSome HEAD.now self.old.explainer.task (all ++ map (of_byte self.old.line) bytes.now) long (told ++ text.new.items)) }
+    {
+        self.end_refused(bytes, text)?;
+        self.add(bytes)?;
+        self.pass(false, text)
+    }
+
+    /// Takes the last line, of hexadecimal.
+    fn hex_line(&mut self, line: &[u8], text: &mut Vec<u8>) -> Result<(), AllocError>
+        requires even { length self.old.lines.items ≡ length self.old.held.items }
+        requires lines { self.old.explainer.task.from ≡ form.Json → ⊥ }
+        requires short { length self.old.held.items < 1023 }
+        ensures same { (self.new.explainer.task ≡ self.old.explainer.task) × (self.new.line ≡ self.old.line) }
+        ensures even { OnOk result (length self.new.lines.items ≡ length self.new.held.items) }
+        ensures short { OnOk result (length self.new.held.items < 1023) }
+        ensures ok { (all : List Token) (long told : List ℕ) → Took HEAD.now self.old.explainer.task self.old.lines.items self.old.held.items self.old.explainer.seen all long (told ++ text.old.items) → OnOk result (Took HEAD.now self.old.explainer.task self.new.lines.items self.new.held.items self.new.explainer.seen (all ++ hex_tokens self.old.line line.now) long (told ++ text.new.items)) }
+        ensures err { (all : List Token) (long told : List ℕ) → Took HEAD.now self.old.explainer.task self.old.lines.items self.old.held.items self.old.explainer.seen all long (told ++ text.old.items) → OnErr result (TookSome HEAD.now self.old.explainer.task (all ++ hex_tokens self.old.line line.now) long (told ++ text.new.items)) }
+    {
+        let mut buffer = Vec::new(self.explainer.alloc);
+        buffer.resize(line.len() / 2 + 1, 0)?;
+        self.hex_bytes(line, buffer.as_mut_slice(), text)
+    }
+
+    /// Takes the last line, of hexadecimal, whose bytes have room in this buffer.
+    fn hex_bytes(
+        &mut self,
+        line: &[u8],
+        buffer: &mut [u8],
+        text: &mut Vec<u8>,
+    ) -> Result<(), AllocError>
+        requires room { length line.now ≤ 2 * length buffer.old }
+        requires even { length self.old.lines.items ≡ length self.old.held.items }
+        requires lines { self.old.explainer.task.from ≡ form.Json → ⊥ }
+        requires short { length self.old.held.items < 1023 }
+        ensures same { (self.new.explainer.task ≡ self.old.explainer.task) × (self.new.line ≡ self.old.line) }
+        ensures even { OnOk result (length self.new.lines.items ≡ length self.new.held.items) }
+        ensures short { OnOk result (length self.new.held.items < 1023) }
+        ensures ok { (all : List Token) (long told : List ℕ) → Took HEAD.now self.old.explainer.task self.old.lines.items self.old.held.items self.old.explainer.seen all long (told ++ text.old.items) → OnOk result (Took HEAD.now self.old.explainer.task self.new.lines.items self.new.held.items self.new.explainer.seen (all ++ hex_tokens self.old.line line.now) long (told ++ text.new.items)) }
+        ensures err { (all : List Token) (long told : List ℕ) → Took HEAD.now self.old.explainer.task self.old.lines.items self.old.held.items self.old.explainer.seen all long (told ++ text.old.items) → OnErr result (TookSome HEAD.now self.old.explainer.task (all ++ hex_tokens self.old.line line.now) long (told ++ text.new.items)) }
+    {
+        match line_bytes(line, buffer) {
+            Ok(count) => {
+                let start = buffer.len() - count;
+                self.take(&buffer[start..], text)
+            }
+            Err(NoBytes::Empty) => Ok(()),
+            Err(NoBytes::NoDigits) => self.bad_hex(line, NoBytes::NoDigits, text),
+            Err(NoBytes::OddDigits(count)) => {
+                self.bad_hex(line, NoBytes::OddDigits(count), text)
+            }
+        }
+    }
+
+    /// Says why the last line says no bytes, after what is held.
+    fn bad_hex(&mut self, line: &[u8], why: NoBytes, text: &mut Vec<u8>) -> Result<(), AllocError>
+        requires even { length self.old.lines.items ≡ length self.old.held.items }
+        requires lines { self.old.explainer.task.from ≡ form.Json → ⊥ }
+        ensures same { (self.new.explainer.task ≡ self.old.explainer.task) × (self.new.line ≡ self.old.line) }
+        ensures even { OnOk result (length self.new.lines.items ≡ length self.new.held.items) }
+        ensures short { OnOk result (length self.new.held.items < 1023) }
+        ensures ok { (all : List Token) (long told : List ℕ) → Took HEAD.now self.old.explainer.task self.old.lines.items self.old.held.items self.old.explainer.seen all long (told ++ text.old.items) → OnOk result (Took HEAD.now self.old.explainer.task self.new.lines.items self.new.held.items self.new.explainer.seen (all ++ of_line self.old.line line.now ∷ []) long (told ++ text.new.items)) }
+        ensures err { (all : List Token) (long told : List ℕ) → Took HEAD.now self.old.explainer.task self.old.lines.items self.old.held.items self.old.explainer.seen all long (told ++ text.old.items) → OnErr result (TookSome HEAD.now self.old.explainer.task (all ++ of_line self.old.line line.now ∷ []) long (told ++ text.new.items)) }
+    {
+        self.pass(true, text)?;
+        self.explainer.bad_hex(line, self.line, why, text)?;
+        Ok(())
+    }
+
+    /// Takes the last line, which isn't too long.
+    fn short_line(&mut self, line: &[u8], text: &mut Vec<u8>) -> Result<(), AllocError>
+        requires even { length self.old.lines.items ≡ length self.old.held.items }
+        requires short { length self.old.held.items < 1023 }
+        requires json { self.old.explainer.task.from ≡ form.Json → self.old.held.items ≡ [] }
+        ensures same { (self.new.explainer.task ≡ self.old.explainer.task) × (self.new.line ≡ self.old.line) }
+        ensures short { OnOk result (length self.new.held.items < 1023) }
+        ensures json { self.old.explainer.task.from ≡ form.Json → OnOk result (self.new.held.items ≡ []) }
+        ensures ok { (all : List Token) (long told : List ℕ) → Took HEAD.now self.old.explainer.task self.old.lines.items self.old.held.items self.old.explainer.seen all long (told ++ text.old.items) → OnOk result (Took HEAD.now self.old.explainer.task self.new.lines.items self.new.held.items self.new.explainer.seen (all ++ short_tokens self.old.explainer.task.from self.old.line line.now) long (told ++ text.new.items)) }
+        ensures err { (all : List Token) (long told : List ℕ) → Took HEAD.now self.old.explainer.task self.old.lines.items self.old.held.items self.old.explainer.seen all long (told ++ text.old.items) → OnErr result (TookSome HEAD.now self.old.explainer.task (all ++ short_tokens self.old.explainer.task.from self.old.line line.now) long (told ++ text.new.items)) }
+    {
+        match self.explainer.task.from {
+            Form::Json if line.is_empty() => Ok(()),
+            Form::Json => {
+                self.explainer.json_line(line, self.line, text)?;
+                Ok(())
+            }
+            Form::Hex => self.hex_line(line, text),
+            Form::Bin => self.hex_line(line, text),
+        }
+    }
+
+    /// Takes the next line.
+    fn handle(&mut self, line: &[u8], text: &mut Vec<u8>) -> Result<(), AllocError>
+        requires even { length self.old.lines.items ≡ length self.old.held.items }
+        requires few { self.old.line < 2 ^ 62 }
+        requires short { length self.old.held.items < 1023 }
+        requires json { self.old.explainer.task.from ≡ form.Json → self.old.held.items ≡ [] }
+        ensures task { self.new.explainer.task ≡ self.old.explainer.task }
+        ensures line { self.new.line ≡ self.old.line + 1 }
+        ensures short { OnOk result (length self.new.held.items < 1023) }
+        ensures json { self.old.explainer.task.from ≡ form.Json → OnOk result (self.new.held.items ≡ []) }
+        ensures ok { (all : List Token) (long told : List ℕ) → Took HEAD.now self.old.explainer.task self.old.lines.items self.old.held.items self.old.explainer.seen all long (told ++ text.old.items) → OnOk result (Took HEAD.now self.old.explainer.task self.new.lines.items self.new.held.items self.new.explainer.seen (all ++ line_tokens self.old.explainer.task.from (self.old.line + 1) line.now) (long ++ line_long (self.old.line + 1) line.now) (told ++ text.new.items)) }
+        ensures err { (all : List Token) (long told : List ℕ) → Took HEAD.now self.old.explainer.task self.old.lines.items self.old.held.items self.old.explainer.seen all long (told ++ text.old.items) → OnErr result (TookSome HEAD.now self.old.explainer.task (all ++ line_tokens self.old.explainer.task.from (self.old.line + 1) line.now) (long ++ line_long (self.old.line + 1) line.now) (told ++ text.new.items)) }
+    {
+        self.line += 1;
+        if line.len() > MOST_LINE {
+            self.explainer.long_line(self.line, text)?;
+            return Ok(());
+        }
+        self.short_line(line, text)
+    }
+
+    /// Explains what is held, of which no more comes, and writes the foot; says what was wrong first.
+    fn finish(&mut self, text: &mut Vec<u8>) -> Result<Option<RunFault>, AllocError>
+        requires even { length self.old.lines.items ≡ length self.old.held.items }
+        ensures task { self.new.explainer.task ≡ self.old.explainer.task }
+        ensures kept { (fault : RunFault) → self.old.explainer.seen.first ≡ Some fault → IfOk result (λ first. first ≡ Some fault) }
+        ensures ok { (all : List Token) (long told : List ℕ) → Took HEAD.now self.old.explainer.task self.old.lines.items self.old.held.items self.old.explainer.seen all long (told ++ text.old.items) → IfOk result (λ first. Finished HEAD.now FOOT.now self.old.explainer.task all long (told ++ text.new.items) first) }
+        ensures err { (all : List Token) (long told : List ℕ) → Took HEAD.now self.old.explainer.task self.old.lines.items self.old.held.items self.old.explainer.seen all long (told ++ text.old.items) → OnErr result (TookSome HEAD.now self.old.explainer.task all long (told ++ text.new.items)) }
+    {
+        self.pass(true, text)?;
+        self.explainer.end(text)?;
+        Ok(self.explainer.seen.first)
+    }
+}
+
+impl Engine for Items {
+    type Job = Task;
+
+    type Tally = Option<RunFault>;
+
+    ghost job = { λ s. s.explainer.task };
+
+    ghost promises = { λ task. explanations HEAD.now FOOT.now task };
+
+    ghost stands = { λ s given told. (s.line ≡ 0) × BytesStand HEAD.now s.explainer.task s.lines.items s.held.items s.explainer.seen given told };
+
+    ghost said = { λ s told. ⊤ };
+
+    fn wanted(&self) -> usize {
+        MOST_READ
+    }
+
+    fn feed(&mut self, piece: &[u8], text: &mut Vec<u8>) -> Result<(), RunFault> {
+        or_memory(self.add(piece))?;
+        or_memory(self.pass(false, text))?;
+        match self.explainer.seen.first {
+            None => Ok(()),
+            Some(fault) => {
+                or_memory(self.finish(text))?;
+                Err(fault)
+            }
+        }
+    }
+
+    fn finish(&mut self, text: &mut Vec<u8>) -> Result<Option<RunFault>, RunFault> {
+        or_memory(self.finish(text))
+    }
+
+    ghost sound = { λ s. explanations_sound HEAD.now FOOT.now s.explainer.task };
+
+    ghost stands_tells = { λ s given told h. bytes_tell HEAD.now s.explainer.task s.lines.items s.held.items s.explainer.seen given told h.1 };
+}
+
+impl LineHandler for Items {
+    type Job = Task;
+
+    type Tally = Option<RunFault>;
+
+    ghost job = { λ s. s.explainer.task };
+
+    ghost promises = { λ task. explanations HEAD.now FOOT.now task };
+
+    ghost most = { λ task. 1048576 };
+
+    ghost took = { λ s lines told. LinesTook HEAD.now s.explainer.task s.lines.items s.held.items s.explainer.seen s.line lines told };
+
+    ghost said = { λ s told. ⊤ };
+
+    fn most(&self) -> usize {
+        MOST_LINE
+    }
+
+    fn handle_line(
+        &mut self,
+        line: &[u8],
+        _number: u64,
+        text: &mut Vec<u8>,
+    ) -> Result<(), RunFault> {
+        or_memory(self.handle(line, text))
+    }
+
+    fn refuse_long(&mut self, _number: u64, text: &mut Vec<u8>) -> Result<(), RunFault> {
+        self.line += 1;
+        or_memory(self.explainer.long_line(self.line, text))
+    }
+
+    fn handle_last(
+        &mut self,
+        line: &[u8],
+        _number: u64,
+        text: &mut Vec<u8>,
+    ) -> Result<Option<RunFault>, RunFault> {
+        or_memory(self.handle(without_cr(line), text))?;
+        or_memory(self.finish(text))
+    }
+
+    fn close(&mut self, text: &mut Vec<u8>) -> Result<Option<RunFault>, RunFault> {
+        or_memory(self.finish(text))
+    }
+
+    ghost sound = { λ s. explanations_sound HEAD.now FOOT.now s.explainer.task };
+
+    ghost took_tells = { λ s lines begun told h l. lines_tell HEAD.now s.explainer.task s.lines.items s.held.items s.explainer.seen s.line lines begun told h l };
+
+    ghost long_tells = { λ s lines part told h l m. long_tell HEAD.now s.explainer.task s.lines.items s.held.items s.explainer.seen s.line lines part told h l m };
+
+    ghost took_said = { λ s lines told h. tt };
+}

@@ -1,0 +1,32 @@
+//! What was seen of an input so far.
+
+ghost use Rattle.etcs_explain.specs.Stands.{IsAfter};
+
+use etcs_runs::RunFault;
+
+/// What was seen of an input so far.
+#[derive(Clone, Copy)]
+pub(crate) struct Seen {
+    /// Whether something was written of it.
+    pub(crate) is_begun: bool,
+    /// How many items came.
+    pub(crate) items: u64,
+    /// What was wrong first.
+    pub(crate) first: Option<RunFault>,
+}
+
+impl Seen {
+    /// After a part more, with this many items and this fault.
+    pub(crate) fn after(self, items: u64, fault: Option<RunFault>) -> Seen
+        ensures { IsAfter self items fault result }
+    {
+        Seen {
+            is_begun: true,
+            items: self.items.saturating_add(items),
+            first: match self.first {
+                None => fault,
+                first => first,
+            },
+        }
+    }
+}

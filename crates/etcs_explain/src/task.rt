@@ -1,0 +1,16 @@
+//! What is to be explained.
+
+use etcs_reasons::Layout;
+use etcs_runs::Form;
+use etcs_text::Kind;
+
+/// What is to be explained, and how.
+#[derive(Clone, Copy, Debug, PartialEq, Eq)]
+pub struct Task {
+    /// What the input holds.
+    pub kind: Kind,
+    /// The form of the input.
+    pub from: Form,
+    /// The form of what is written.
+    pub layout: Layout,
+}

@@ -1,0 +1,66 @@
+//! What is fed with the input, and writes text of it.
+
+ghost use Rattle.std.specs.Prelude.{◌≡◌, ◌<◌, ◌≤◌, ◌+◌, ◌^◌, ℕ, List, [], ◌++◌, length, IfOk, IfErr, OnErr, OnOk};
+ghost use Rattle.etcs_runs.specs.Faults.{IsOfEngine};
+
+use crate::fault::RunFault;
+
+/// How many bytes a read asks for at most.
+pub const MOST_READ: usize = 4096;
+
+/// Writes text of the bytes that it is fed.
+pub trait Engine {
+    ghost use Rattle.std.specs.Prelude.{◌≡◌, ◌<◌, ◌≤◌, ◌+◌, ◌^◌, ℕ, List, [], ◌++◌, length};
+    ghost use Rattle.etcs_runs.specs.Promises.{Promises, Sound};
+
+    /// What it was asked to do, which stays the same.
+    type Job;
+
+    /// What it answers at the end of the input.
+    type Tally: Copy;
+
+    ghost job: { Self → Self.Job };
+
+    /// What a run of it promises.
+    ghost promises: { Self.Job → Promises Self.Tally };
+
+    /// These bytes were fed, and this text was written of them.
+    ghost stands: { Self → List ℕ → List ℕ → Type 0 };
+
+    /// This text was written of what was fed, up to a fault.
+    ghost said: { Self → List ℕ → Type 0 };
+
+    /// How many bytes the next read asks for, so that it ends with an item where the items' length is known.
+    fn wanted(&self) -> usize
+        ensures some { 0 < result }
+        ensures most { result ≤ 4096 };
+
+    /// Takes a piece of the input, and appends the text of each item that becomes whole.
+    ///
+    /// # Errors
+    ///
+    /// Where each input that begins so ends so, and `Memory`. The text of the items in front was appended.
+    fn feed(&mut self, piece: &[u8], text: &mut Vec<u8>) -> Result<(), RunFault>
+        requires stands { (given : List ℕ) × (told : List ℕ) × stands self.old given told × (length given + length piece.now < 2 ^ 62) }
+        requires empty { text.old.items ≡ [] }
+        ensures job { job self.new ≡ job self.old }
+        ensures ok { (given told : List ℕ) → stands self.old given told → OnOk result (stands self.new (given ++ piece.now) (told ++ text.new.items)) }
+        ensures err { (given told : List ℕ) → stands self.old given told → IfErr result (λ e. IsOfEngine e × (promises (job self.old)).Stops (given ++ piece.now) (told ++ text.new.items) e) }
+        ensures said { (given told : List ℕ) → stands self.old given told → OnErr result (said self.new (told ++ text.new.items)) };
+
+    /// The input ends here.
+    ///
+    /// # Errors
+    ///
+    /// The same, and what is wrong with an input that ends so.
+    fn finish(&mut self, text: &mut Vec<u8>) -> Result<Self::Tally, RunFault>
+        requires stands { (given : List ℕ) × (told : List ℕ) × stands self.old given told × (length given < 2 ^ 62) }
+        requires empty { text.old.items ≡ [] }
+        ensures ok { (given told : List ℕ) → stands self.old given told → IfOk result (λ tally. (promises (job self.old)).Ends given (told ++ text.new.items) tally) }
+        ensures err { (given told : List ℕ) → stands self.old given told → IfErr result (λ e. IsOfEngine e × (promises (job self.old)).StopsAtEnd given (told ++ text.new.items) e) }
+        ensures said { (given told : List ℕ) → stands self.old given told → OnErr result (said self.new (told ++ text.new.items)) };
+
+    ghost sound: { (e : Self) → Sound (promises (job e)) };
+
+    ghost stands_tells: { (e : Self) (given told : List ℕ) → stands e given told → (promises (job e)).Tells given told };
+}

@@ -1,0 +1,57 @@
+//! Hexadecimal digits, and the bytes that they say.
+
+ghost use Rattle.std.specs.Prelude.{◌≡◌, ◌*◌, Ok, IsTrue, length, unwrap_or};
+ghost use Rattle.std.specs.List.{list_all};
+ghost use Rattle.hex.specs.Hex.{decode_of, hex_digit_value, is_hex_digit};
+
+/// The value of each hexadecimal digit of either case, and 256 at each other character.
+#[rattlefmt::skip]
+static DIGITS: [u16; 256] = [
+    256, 256, 256, 256, 256, 256, 256, 256, 256, 256, 256, 256, 256, 256, 256, 256,
+    256, 256, 256, 256, 256, 256, 256, 256, 256, 256, 256, 256, 256, 256, 256, 256,
+    256, 256, 256, 256, 256, 256, 256, 256, 256, 256, 256, 256, 256, 256, 256, 256,
+    0, 1, 2, 3, 4, 5, 6, 7, 8, 9, 256, 256, 256, 256, 256, 256,
+    256, 10, 11, 12, 13, 14, 15, 256, 256, 256, 256, 256, 256, 256, 256, 256,
+    256, 256, 256, 256, 256, 256, 256, 256, 256, 256, 256, 256, 256, 256, 256, 256,
+    256, 10, 11, 12, 13, 14, 15, 256, 256, 256, 256, 256, 256, 256, 256, 256,
+    256, 256, 256, 256, 256, 256, 256, 256, 256, 256, 256, 256, 256, 256, 256, 256,
+    256, 256, 256, 256, 256, 256, 256, 256, 256, 256, 256, 256, 256, 256, 256, 256,
+    256, 256, 256, 256, 256, 256, 256, 256, 256, 256, 256, 256, 256, 256, 256, 256,
+    256, 256, 256, 256, 256, 256, 256, 256, 256, 256, 256, 256, 256, 256, 256, 256,
+    256, 256, 256, 256, 256, 256, 256, 256, 256, 256, 256, 256, 256, 256, 256, 256,
+    256, 256, 256, 256, 256, 256, 256, 256, 256, 256, 256, 256, 256, 256, 256, 256,
+    256, 256, 256, 256, 256, 256, 256, 256, 256, 256, 256, 256, 256, 256, 256, 256,
+    256, 256, 256, 256, 256, 256, 256, 256, 256, 256, 256, 256, 256, 256, 256, 256,
+    256, 256, 256, 256, 256, 256, 256, 256, 256, 256, 256, 256, 256, 256, 256, 256,
+];
+
+/// The value of a hexadecimal digit of either case, or 256.
+fn digit(character: u8) -> u16
+    ensures { result ≡ unwrap_or (hex_digit_value character) 256 }
+{
+    DIGITS[usize::from(character)]
+}
+
+/// Whether the character is a hexadecimal digit of either case.
+pub fn is_digit(character: u8) -> bool
+    ensures { result ≡ is_hex_digit character }
+{
+    digit(character) < 256
+}
+
+/// Writes the bytes that a word says all over `bytes`, or answers that it isn't digits.
+pub fn decode(word: &[u8], bytes: &mut [u8]) -> bool
+    requires { length word.now ≡ 2 * length bytes.old }
+    ensures good { result ≡ list_all is_hex_digit word.now }
+    ensures bytes { IsTrue result → decode_of word.now ≡ Ok bytes.new }
+    ensures room { length bytes.new ≡ length bytes.old }
+{
+    'pairs: for i in 0..bytes.len() {
+        let byte = digit(word[2 * i]) * 16 + digit(word[2 * i + 1]);
+        if byte > 255 {
+            return false;
+        }
+        bytes[i] = byte as u8;
+    }
+    true
+}

@@ -1,0 +1,148 @@
+//! Bytes from a source through an engine to a sink.
+
+ghost use Rattle.std.specs.Prelude.{◌≡◌, ◌+◌, ◌-◌, ◌%◌, ◌^◌, ◌<◌, ◌≤◌, ◌⊎◌, ◌++◌, ℕ, List, [], length, take, IfOk, IfErr, OnErr, OnOk};
+ghost use Rattle.std.specs.Io.{ReadsAtMost};
+ghost use Rattle.std.specs.Io.KnownBytes.{Appends, ReadConsumes};
+ghost use Rattle.etcs_runs.specs.Ends.{FlushedOnlyWhere, failed_calls};
+ghost use Rattle.etcs_runs.specs.declared.fault.RunFault.{RunFault};
+ghost use Rattle.etcs_runs.specs.Faults.{IsOfEngine};
+ghost use Rattle.etcs_runs.specs.Promises.{EndsWhole};
+ghost use Rattle.etcs_runs.specs.Pipes.{Piped};
+ghost use Rattle.etcs_runs.specs.Passes.{Stopped, Broken, counted};
+ghost use Rattle.etcs_runs.specs.Runs.{Ran};
+
+use crate::ends::{Failed, Sink, Source};
+use crate::engine::{Engine, MOST_READ};
+use crate::fault::RunFault;
+use crate::send::send;
+use std::alloc::Global;
+
+/// Writes all of the text, and adds to `sent` how many bytes were taken, up to 2^64 - 1.
+///
+/// # Errors
+///
+/// Where a write fails or takes nothing, with what `sent` is then.
+fn write_all<W: Sink>(sink: &mut W, text: &[u8], sent: &mut u64) -> Result<(), RunFault>
+    requires failures { W.failures sink.old < 2 ^ 63 }
+    requires room { length text.now < 2 ^ 64 }
+    ensures ok { OnOk result (Appends (W.contents sink.old) (W.contents sink.new) text.now) }
+    ensures none { OnOk result (W.failures sink.new ≡ W.failures sink.old) }
+    ensures sent { (n : ℕ) → sent.old ≡ counted n → OnOk result (sent.new ≡ counted (n + length text.now)) }
+    ensures broke { IfErr result (λ e. (k : ℕ) × (e ≡ RunFault.Write k)) }
+    ensures one { OnErr result (W.failures sink.new ≡ W.failures sink.old + 1) }
+    ensures part { (n : ℕ) → sent.old ≡ counted n → IfErr result (λ e. (k : ℕ) × (k ≤ length text.now) × (e ≡ RunFault.Write (counted (n + k))) × Appends (W.contents sink.old) (W.contents sink.new) (take k text.now)) }
+    ensures unflushed { W.flushes sink.new ≡ W.flushes sink.old }
+{
+    let mut count = 0;
+    let written = send(sink, text, &mut count);
+    *sent = sent.saturating_add(count);
+    match written {
+        Ok(()) => Ok(()),
+        Err(Failed) => Err(RunFault::Write { sent: *sent }),
+    }
+}
+
+/// Passes a piece of the input through to the sink. What was reported before a fault is written first.
+fn pass<E: Engine, W: Sink>(
+    engine: &mut E,
+    piece: &[u8],
+    text: &mut Vec<u8>,
+    sink: &mut W,
+    sent: &mut u64,
+) -> Result<(), RunFault>
+    requires stands { (given : List ℕ) × (told : List ℕ) × E.stands engine.old given told × (length given + length piece.now < 2 ^ 62) }
+    requires failures { W.failures sink.old < 2 ^ 63 }
+    ensures job { E.job engine.new ≡ E.job engine.old }
+    ensures ok { (given told : List ℕ) → E.stands engine.old given told → sent.old ≡ counted (length told) → OnOk result (E.stands engine.new (given ++ piece.now) (told ++ text.new.items) × Appends (W.contents sink.old) (W.contents sink.new) text.new.items × (sent.new ≡ counted (length (told ++ text.new.items))) × (W.failures sink.new ≡ W.failures sink.old)) }
+    ensures err { (given told : List ℕ) → E.stands engine.old given told → sent.old ≡ counted (length told) → IfErr result (λ e. Stopped ((E.promises (E.job engine.old)).Stops (given ++ piece.now)) told text.new.items (W.contents sink.old) (W.contents sink.new) e ⊎ Broken ((E.promises (E.job engine.old)).Prints (given ++ piece.now)) told text.new.items (W.contents sink.old) (W.contents sink.new) (W.failures sink.old) (W.failures sink.new) e) }
+    ensures said { (given told : List ℕ) → E.stands engine.old given told → IfErr result (λ e. e ≡ RunFault.Memory → E.said engine.new (told ++ text.new.items)) }
+    ensures uncounted { IfErr result (λ e. IsOfEngine e → W.failures sink.new ≡ W.failures sink.old) }
+    ensures unflushed { W.flushes sink.new ≡ W.flushes sink.old }
+{
+    text.clear();
+    let fed = engine.feed(piece, text);
+    write_all(sink, text.as_slice(), sent)?;
+    fed
+}
+
+/// The input is at its end: passes on what is left, and flushes the sink.
+fn close<E: Engine, W: Sink>(
+    engine: &mut E,
+    text: &mut Vec<u8>,
+    sink: &mut W,
+    sent: &mut u64,
+) -> Result<E::Tally, RunFault>
+    requires stands { (given : List ℕ) × (told : List ℕ) × E.stands engine.old given told × (length given < 2 ^ 62) }
+    requires failures { W.failures sink.old < 2 ^ 63 }
+    ensures ok { (given told : List ℕ) → E.stands engine.old given told → sent.old ≡ counted (length told) → IfOk result (λ tally. (E.promises (E.job engine.old)).Ends given (told ++ text.new.items) tally × Appends (W.contents sink.old) (W.contents sink.new) text.new.items × (W.failures sink.new ≡ W.failures sink.old)) }
+    ensures err { (given told : List ℕ) → E.stands engine.old given told → sent.old ≡ counted (length told) → IfErr result (λ e. Stopped ((E.promises (E.job engine.old)).StopsAtEnd given) told text.new.items (W.contents sink.old) (W.contents sink.new) e ⊎ Broken (λ t. (E.promises (E.job engine.old)).Prints given t ⊎ EndsWhole (E.promises (E.job engine.old)) given t) told text.new.items (W.contents sink.old) (W.contents sink.new) (W.failures sink.old) (W.failures sink.new) e) }
+    ensures said { (given told : List ℕ) → E.stands engine.old given told → IfErr result (λ e. e ≡ RunFault.Memory → E.said engine.new (told ++ text.new.items)) }
+    ensures uncounted { IfErr result (λ e. IsOfEngine e → W.failures sink.new ≡ W.failures sink.old) }
+    ensures flushed { OnOk result (W.flushes sink.new ≡ (W.flushes sink.old + 1) % 2 ^ 64) }
+    ensures unflushed { (given told : List ℕ) → E.stands engine.old given told → sent.old ≡ counted (length told) → IfErr result (λ e. FlushedOnlyWhere (W.flushes sink.old) (W.flushes sink.new) ((e ≡ RunFault.Write (counted (length (told ++ text.new.items)))) × Appends (W.contents sink.old) (W.contents sink.new) text.new.items × EndsWhole (E.promises (E.job engine.old)) given (told ++ text.new.items))) }
+{
+    text.clear();
+    let finished = engine.finish(text);
+    write_all(sink, text.as_slice(), sent)?;
+    let tally = finished?;
+    match sink.flush() {
+        Ok(()) => Ok(tally),
+        Err(Failed) => Err(RunFault::Write { sent: *sent }),
+    }
+}
+
+/// Reads as many bytes as the engine wants to the front of the buffer.
+#[inline(always)]
+fn read_wanted<E: Engine, S: Source>(
+    engine: &E,
+    source: &mut S,
+    buffer: &mut [u8],
+) -> Result<usize, Failed>
+    requires room { length buffer.old ≡ 4096 }
+    requires more_reads { S.reads source.old < 2 ^ 64 - 1 }
+    requires more_failures { S.failures source.old < 2 ^ 64 - 1 }
+    ensures bound { ReadsAtMost result buffer.new }
+    ensures bytes { ReadConsumes (S.remaining source.old) (S.remaining source.new) result buffer.new }
+    ensures counted { S.reads source.new ≡ S.reads source.old + 1 }
+    ensures failed { S.failures source.new ≡ S.failures source.old + failed_calls result }
+{
+    let wanted = engine.wanted();
+    source.read(&mut buffer[..wanted])
+}
+
+/// Runs an engine over the whole input.
+///
+/// # Errors
+///
+/// Those of the engine, after what it wrote before them; `Read` and `Write` of a call that failed; `Endless` after so many
+/// reads.
+pub fn run_engine<E: Engine, S: Source, W: Sink>(
+    engine: &mut E,
+    most_reads: u64,
+    alloc: Global,
+    source: &mut S,
+    sink: &mut W,
+) -> Result<E::Tally, RunFault>
+    requires fresh { E.stands engine.old [] [] }
+    requires few { most_reads ≤ 2 ^ 49 }
+    requires reads { S.reads source.old < 2 ^ 63 }
+    requires read_failures { S.failures source.old < 2 ^ 63 }
+    requires write_failures { W.failures sink.old < 2 ^ 63 }
+    ensures ran { Ran (E.promises (E.job engine.old)) most_reads (S.remaining source.old) (S.remaining source.new) (S.reads source.old) (S.reads source.new) (S.failures source.old) (S.failures source.new) (W.contents sink.old) (W.contents sink.new) (W.failures sink.old) (W.failures sink.new) (W.flushes sink.old) (W.flushes sink.new) result }
+    ensures said { IfErr result (λ e. e ≡ RunFault.Memory → Piped (λ given told. E.said engine.new told) (S.remaining source.old) (S.remaining source.new) (W.contents sink.old) (W.contents sink.new)) }
+{
+    let mut text = Vec::new(alloc);
+    let mut buffer = [0u8; MOST_READ];
+    let mut sent = 0u64;
+    for _ in 0..most_reads {
+        let count = match read_wanted(engine, source, &mut buffer) {
+            Ok(count) => count,
+            Err(Failed) => return Err(RunFault::Read),
+        };
+        if count == 0 {
+            return close(engine, &mut text, sink, &mut sent);
+        }
+        pass(engine, &buffer[..count], &mut text, sink, &mut sent)?;
+    }
+    Err(RunFault::Endless)
+}

@@ -1,35 +1,54 @@
 #!/usr/bin/env python3
 """Counts the instructions that the program takes for an item of bench/mix.py's mix, beside a plain decoder.
 
-    bench/measure.py [--kinds short,long,radio,train] [--forms bin,hex,json]
-                     [--commands check,show,bin,hex,json] [--items N] [--seed N] [--jobs N] [PROGRAM]
+    bench/measure.py [--kinds short,long,radio,train] [--forms bin,hex,json,C,Python]
+                     [--commands check,show,bin,hex,json] [--items N] [--edits N] [--seed N] [--jobs N]
+                     [--doors FOLDER] [--write | --check] [PROGRAM]
 
 PROGRAM is `etcs`, where nothing is said the one that `./etcs build` has built. The plain decoder is
-bench/plain/plain.rs, which rustc builds here; it doesn't read JSON. The commands are `check`, `show` and
-`convert` to a form. A count is callgrind's over N items (2,000) less that over an empty input, divided by
-N: it hardly varies from run to run.
+bench/plain/plain.rs, which rustc builds here. The commands are `check`, `show` and `convert` to a form. A
+count is callgrind's over N items (2,000) less that over an empty input, divided by N: it hardly varies from
+run to run.
+
+The forms C and Python are the doors of the library, each of which checks items in memory beside a walker of
+bench/walkers.py. FOLDER has libetcs.a and libetcs.so.1, and is that of `doors/build` where nothing is said.
+Where they aren't there and no form is named, the doors are left out. A count is that of checking all items
+twice less that of checking them once, divided by N.
 
 Every answer of both is compared with the mix's own bytes, digits, JSON and lines of `check`, and the
-program's text of `show` with the plain decoder's. An answer that differs is named, and isn't counted.
+program's text of `show` with the plain decoder's. An answer that differs is named, and isn't counted. Where
+JSON is measured, both read N lines of each kind (1,000) that bench/edits.py has changed: where the plain
+decoder accepts a line, the program has to give the same answer, and where it refuses one, the program has
+to refuse it too or to write another line. A door and its walker have to answer alike to N changed items.
 
-The table is written a row at a time. The status is 0 where no answer differs, 1 where one does, and 2 where
-the words are wrong or something can't be run. It needs rustc and valgrind, and works in the folder $BENCH
+The table is written a row at a time. With --write it is put into bench/README.md as well, unless an answer
+differs, with the commit and the versions of rustc and the kit. With --check nothing is put there: a row
+differs where a count is more than 1 in 100 from that of bench/README.md.
+
+The status is 0 where no answer differs, nor any row with --check, 1 where one does, and 2 where the words
+are wrong or something can't be run. It needs rustc and valgrind, and works in the folder $BENCH
 (/tmp/etcs_bench).
 """
 
 import argparse
 import os
 import re
+import shutil
 import subprocess
 import sys
 from concurrent.futures import ThreadPoolExecutor
 
 sys.dont_write_bytecode = True
+import doors
+import edits
 import mix
 
 HERE = os.path.dirname(os.path.abspath(__file__))
-PROGRAM = os.path.join(HERE, "..", "crates", "etcs", "out", "etcs")
+TOP = os.path.dirname(HERE)
+README = os.path.join(HERE, "README.md")
+PROGRAM = os.path.join(TOP, "crates", "etcs", "out", "etcs")
 FOLDER = os.environ.get("BENCH", "/tmp/etcs_bench")
+DOORS = ["C", "Python"]
 COMMANDS = {
     "check": ["check"],
     "show": ["show"],
@@ -37,42 +56,77 @@ COMMANDS = {
     "hex": ["convert", "--to", "hex"],
     "json": ["convert", "--to", "json"],
 }
-PLAIN_FORMS = ["bin", "hex"]
 USER_BITS = {"short": 210, "long": 830}
 COLLECTED = re.compile(r"Collected : (\d+)")
+PART = re.compile(r"(<!-- made by bench/measure.py -->\n)(.*?)(<!-- end -->)", re.S)
+COLUMNS = {"kind": 5, "from": 6, "to": 5, "program": 9, "plain": 9, "ratio": 5}
 
 
 class Unrunnable(Exception):
     """What can't be run, and why."""
 
 
-def parsed():
-    """The words of the command line, lists as lists of their known names."""
+def names_of(known):
+    """What makes a list of known names of a word."""
 
-    def names_of(known):
-        def names(text):
-            listed = text.split(",")
-            unknown = [name for name in listed if name not in known]
-            if unknown:
-                raise argparse.ArgumentTypeError(f"{unknown[0]} is none of {', '.join(known)}")
-            return listed
+    def names(text):
+        listed = text.split(",")
+        unknown = [name for name in listed if name not in known]
+        if unknown:
+            raise argparse.ArgumentTypeError(f"{unknown[0]} is none of {', '.join(known)}")
+        return listed
 
-        return names
+    return names
+
+
+def at_least(least):
+    """What makes a number of a word."""
 
     def count(text):
         number = int(text)
-        if number < 1:
-            raise argparse.ArgumentTypeError("at least 1 is wanted")
+        if number < least:
+            raise argparse.ArgumentTypeError(f"at least {least} is wanted")
         return number
 
+    return count
+
+
+def parsed():
+    """The words of the command line, lists as lists of their known names."""
     words = argparse.ArgumentParser(description=__doc__, formatter_class=argparse.RawDescriptionHelpFormatter)
     words.add_argument("program", nargs="?", default=PROGRAM)
-    for option, known in (("--kinds", mix.KINDS), ("--forms", mix.FORMS), ("--commands", list(COMMANDS))):
-        words.add_argument(option, type=names_of(known), default=known)
-    words.add_argument("--items", type=count, default=mix.ITEMS)
+    lists = {"--kinds": mix.KINDS, "--forms": [*mix.FORMS, *DOORS], "--commands": list(COMMANDS)}
+    for option, known in lists.items():
+        words.add_argument(option, type=names_of(known))
+    words.add_argument("--items", type=at_least(1), default=mix.ITEMS)
+    words.add_argument("--edits", type=at_least(0), default=edits.LINES)
     words.add_argument("--seed", type=int, default=mix.SEED)
-    words.add_argument("--jobs", type=count, default=1)
-    return words.parse_args()
+    words.add_argument("--jobs", type=at_least(1), default=1)
+    words.add_argument("--doors", default=doors.LIBRARIES)
+    written = words.add_mutually_exclusive_group()
+    written.add_argument("--write", action="store_true")
+    written.add_argument("--check", action="store_true")
+    given = words.parse_args()
+    if given.write and (given.kinds or given.forms or given.commands):
+        words.error("--write wants the whole table")
+    if not given.forms and not os.path.exists(os.path.join(given.doors, "libetcs.a")):
+        print(f"{given.doors} has no libetcs.a: the doors are left out", file=sys.stderr)
+        lists["--forms"] = mix.FORMS
+    given.kinds = given.kinds or lists["--kinds"]
+    given.forms = given.forms or lists["--forms"]
+    given.commands = given.commands or lists["--commands"]
+    return given
+
+
+def said(words):
+    """What a command writes."""
+    try:
+        done = subprocess.run(words, cwd=TOP, stdout=subprocess.PIPE, text=True)
+    except OSError as fault:
+        raise Unrunnable(f"{words[0]}: {fault}") from fault
+    if done.returncode:
+        raise Unrunnable(f"{' '.join(words)}: status {done.returncode}")
+    return done.stdout
 
 
 def built():
@@ -80,12 +134,7 @@ def built():
     os.makedirs(FOLDER, exist_ok=True)
     plain = os.path.join(FOLDER, "plain")
     source = os.path.join(HERE, "plain", "plain.rs")
-    try:
-        done = subprocess.run(["rustc", "-O", "--edition", "2021", "-o", plain, source])
-    except OSError as fault:
-        raise Unrunnable(f"rustc: {fault}") from fault
-    if done.returncode:
-        raise Unrunnable("the plain decoder wasn't built")
+    said(["rustc", "-O", "-C", "codegen-units=1", "--edition", "2021", "-o", plain, source])
     return plain
 
 
@@ -93,11 +142,10 @@ def call(program, command, kind, form):
     return [program, *COMMANDS[command], "--kind", kind, "--from", form]
 
 
-def answer(words, source):
-    """The status and the output of a call over a file."""
+def answer(words, given):
+    """The status and the output of a call over bytes."""
     try:
-        with open(source, "rb") as given:
-            done = subprocess.run(words, stdin=given, capture_output=True)
+        done = subprocess.run(words, input=given, capture_output=True)
     except OSError as fault:
         raise Unrunnable(f"{words[0]}: {fault}") from fault
     return done.returncode, done.stdout
@@ -122,67 +170,197 @@ def instructions(words, source):
 class Kind:
     """The items of a kind, and what must be answered of them."""
 
-    def __init__(self, kind, items, seed, plain):
-        self.name = kind
+    def __init__(self, name, words, plain):
+        self.name = name
+        self.program = words.program
         self.plain = plain
-        self.drawn = mix.items(kind, items, seed)
-        self.sources = {}
-        for form in mix.FORMS:
-            self.sources[form] = os.path.join(FOLDER, f"{kind}.{form}")
-            with open(self.sources[form], "wb") as file:
-                file.write(mix.written(form, self.drawn))
+        self.drawn = mix.items(name, words.items, words.seed)
+        self.edited = edits.lines(name, words.edits, words.seed) if "json" in words.forms else []
+        self.given = {form: mix.written(form, self.drawn) for form in mix.FORMS}
+        self.given["items"] = doors.records([item for item, _ in self.drawn])
+        self.given["changed"] = doors.records(edits.items(name, words.edits, words.seed))
+        self.sources = {part: os.path.join(FOLDER, f"{name}.{part}") for part in self.given}
+        for part, source in self.sources.items():
+            with open(source, "wb") as file:
+                file.write(self.given[part])
         self.shown = None
 
     def expected(self, command):
         """What is answered to the items, in whatever form they come."""
         if command in mix.FORMS:
-            return mix.written(command, self.drawn)
+            return self.given[command]
         if command == "check":
             sizes = (USER_BITS.get(self.name, 8 * len(item)) for item, _ in self.drawn)
             return "".join(f"item {number} ok {bits} bits\n" for number, bits in enumerate(sizes, 1)).encode()
         if self.shown is None:
-            self.shown = answer(call(self.plain, "show", self.name, "bin"), self.sources["bin"])[1]
+            self.shown = answer(call(self.plain, "show", self.name, "bin"), self.given["bin"])[1]
         return self.shown
 
-    def count(self, program, command, form):
-        """The instructions that a program takes for an item, or nothing where its answer differs."""
-        words = call(program, command, self.name, form)
-        if answer(words, self.sources[form]) != (0, self.expected(command)):
-            print(f"the answer differs: {' '.join(words)} < {self.sources[form]}", file=sys.stderr)
+    def count(self, command, form):
+        """The instructions that both programs take for an item, or nothing for one whose answer differs."""
+        source = self.sources[form]
+        counts = []
+        for program in (self.program, self.plain):
+            words = call(program, command, self.name, form)
+            if answer(words, self.given[form]) != (0, self.expected(command)):
+                print(f"the answer differs: {' '.join(words)} < {source}", file=sys.stderr)
+                counts.append(None)
+            else:
+                taken = instructions(words, source) - instructions(words, os.devnull)
+                counts.append(taken / len(self.drawn))
+        return counts
+
+    def count_in_memory(self, programs):
+        """The instructions that programs take to check an item in memory, or nothing for one whose answer differs."""
+        expected = (0, "".join(f"{len(item)}\n" for item, _ in self.drawn).encode())
+        changed = [answer([*program, self.name, self.sources["changed"], "1"], b"") for program in programs]
+        counts = []
+        for program in programs:
+            words = [*program, self.name, self.sources["items"]]
+            if answer([*words, "1"], b"") != expected or changed[0] != changed[1]:
+                print(f"the answer differs: {' '.join(words)}, or of {self.sources['changed']}", file=sys.stderr)
+                counts.append(None)
+            else:
+                twice, once = (instructions([*words, count], os.devnull) for count in "21")
+                counts.append((twice - once) / len(self.drawn))
+        return counts
+
+    def answers(self, command, lines):
+        """What the program and the plain decoder answer to lines of JSON."""
+        return [answer(call(program, command, self.name, "json"), lines) for program in (self.program, self.plain)]
+
+    def is_accepted(self, line):
+        """Whether the plain decoder accepts a changed line; nothing where the program ought to answer otherwise."""
+        program, plain = self.answers("json", line)
+        if plain != program if plain[0] == 0 else program == (0, line):
+            print(f"the answers to a changed line differ, {self.name}: {line.decode().rstrip()}", file=sys.stderr)
             return None
-        taken = instructions(words, self.sources[form]) - instructions(words, os.devnull)
-        return taken / len(self.drawn)
+        return plain[0] == 0
+
+    def differing_edits(self, pool):
+        """How many answers to changed lines differ."""
+        accepted = list(pool.map(self.is_accepted, self.edited))
+        lines = b"".join(line for line, is_accepted in zip(self.edited, accepted) if is_accepted)
+        differing = [command for command in COMMANDS if len(set(self.answers(command, lines))) > 1]
+        for command in differing:
+            print(f"the answers to changed lines differ: {command}, {self.name}", file=sys.stderr)
+        print(f"{len(self.edited)} changed lines of {self.name}, of which {accepted.count(True)} are accepted")
+        return accepted.count(None) + len(differing)
 
 
-def row(cells):
-    widths = [5, 4, 5, 9, 9, 5]
-    return "| " + " | ".join(f"{cell:<{width}}" for cell, width in zip(cells, widths)) + " |"
+# ---- The table.
+
+
+def measured(words, kinds, pool):
+    """Yields the rows with both counts, each of which is nothing where an answer differs."""
+    rows, at_doors = [], {}
+    if set(DOORS) & set(words.forms):
+        try:
+            at_doors = doors.programs(words.doors, FOLDER)
+        except (OSError, subprocess.CalledProcessError) as fault:
+            raise Unrunnable(f"the doors: {fault}") from fault
+    for kind in kinds:
+        for form in words.forms:
+            for command in words.commands:
+                if form in mix.FORMS:
+                    rows.append(([kind.name, form, command], pool.submit(kind.count, command, form)))
+                elif command == "check":
+                    rows.append(([kind.name, form, command], pool.submit(kind.count_in_memory, at_doors[form])))
+    for names, counts in rows:
+        yield [*names, *counts.result()]
+
+
+def cells(row):
+    """What is in the columns of a row."""
+    *names, program, plain = row
+    counts = ["differs" if count is None else f"{count:,.0f}" for count in (program, plain)]
+    return [*names, *counts, "" if None in (program, plain) else f"{program / plain:.2f}"]
+
+
+def line(row):
+    """A line of the table."""
+    return "| " + " | ".join(f"{cell:<{width}}" for cell, width in zip(row, COLUMNS.values())) + " |"
+
+
+HEAD = [line(COLUMNS), "|---" * len(COLUMNS) + "|"]
+
+
+def drawn(words):
+    """What the counts are of."""
+    return f"{words.items:,} items of each kind and seed {words.seed}"
+
+
+def about(words):
+    """The line before the table: what was measured, and with what."""
+    commit = said(["git", "rev-parse", "--short=8", "HEAD"]).strip()
+    if said(["git", "status", "--porcelain", "crates", "doors", "bench/*.py", "bench/*.c", "bench/plain"]):
+        commit += " with changes"
+    rustc = " ".join(said(["rustc", "--version"]).split()[:2])
+    kit = said([shutil.which("rt") or "/opt/rattle/bin/rt", "--version"]).split()[0]
+    named = [] if words.program == PROGRAM else ["a program"]
+    named += [] if words.doors == doors.LIBRARIES else ["a library"]
+    of = f", of {' and '.join(named)} named on the command line" if named else ""
+    return f"Instructions an item, measured at {commit}{of}, over {drawn(words)}, with {rustc} and {kit}:\n"
+
+
+def part_of(text):
+    """The part of the document that is made here."""
+    found = PART.search(text)
+    if found is None:
+        raise Unrunnable(f"{README}: the marks of the table aren't there")
+    return found
+
+
+def write(words, rows):
+    """Puts the table into the document."""
+    lines = [about(words), *HEAD, *(line(cells(row)) for row in rows), ""]
+    with open(README, encoding="utf-8") as file:
+        text = file.read()
+    found = part_of(text)
+    with open(README, "w", encoding="utf-8") as file:
+        file.write(text[: found.start(2)] + "\n".join(lines) + text[found.end(2) :])
+
+
+def differing_rows(words, rows):
+    """How many rows differ from those of the document, which are named."""
+    with open(README, encoding="utf-8") as file:
+        part = part_of(file.read())[2]
+    if drawn(words) not in part:
+        raise Unrunnable(f"{README}: its table isn't of {drawn(words)}")
+    written = {}
+    for text in part.splitlines():
+        names, counts = text.split("|")[1:4], text.split("|")[4:6]
+        if all(re.fullmatch(r" [\d,]+ *", count) for count in counts):
+            written[tuple(name.strip() for name in names)] = [int(count.replace(",", "")) for count in counts]
+    differing = 0
+    for *names, program, plain in rows:
+        counts, row = written.get(tuple(names)), (program, plain)
+        pairs = list(zip(counts or [], row))
+        if not pairs or any(new is None or abs(new - old) > old / 100 for old, new in pairs):
+            had = " and ".join(f"{count:,}" for count in counts) if counts else "no such row"
+            print(f"{' '.join(names)}: README.md has {had}, counted were {' and '.join(cells([*names, *row])[3:5])}")
+            differing += 1
+    print(f"{len(rows)} rows compared with README.md, of which {differing} differ")
+    return differing
 
 
 def main():
     words = parsed()
     plain = built()
-    kinds = [Kind(kind, words.items, words.seed, plain) for kind in words.kinds]
-    differing = 0
+    kinds = [Kind(name, words, plain) for name in words.kinds]
+    rows = []
     with ThreadPoolExecutor(words.jobs) as pool:
-        rows = []
-        for kind in kinds:
-            for form in words.forms:
-                for command in words.commands:
-                    programs = [words.program, plain] if form in PLAIN_FORMS else [words.program]
-                    counts = [pool.submit(kind.count, program, command, form) for program in programs]
-                    rows.append((kind.name, form, command, counts))
-        print(row(["kind", "from", "to", "program", "plain", "ratio"]))
-        print("|---|---|---|---|---|---|", flush=True)
-        for kind, form, command, counts in rows:
-            counts = [count.result() for count in counts]
-            differing += counts.count(None)
-            cells = ["differs" if count is None else f"{count:,.0f}" for count in counts]
-            if len(counts) == 2:
-                cells.append("" if None in counts else f"{counts[0] / counts[1]:.2f}")
-            print(row([kind, form, command, *cells, *[""] * (3 - len(cells))]), flush=True)
-    answers = sum(len(counts) for _, _, _, counts in rows)
-    print(f"{answers} answers over {words.items:,} items of each kind, of which {differing} differ")
+        differing = sum(kind.differing_edits(pool) for kind in kinds if kind.edited)
+        print("\n".join(HEAD), flush=True)
+        for row in measured(words, kinds, pool):
+            rows.append(row)
+            print(line(cells(row)), flush=True)
+    differing += sum(row.count(None) for row in rows)
+    print(f"{2 * len(rows)} answers over {drawn(words)}, of which {differing} differ")
+    if words.check:
+        differing += differing_rows(words, rows)
+    elif words.write and not differing:
+        write(words, rows)
     return 1 if differing else 0
 
 

@@ -122,7 +122,8 @@ HEADERS = {"radio": "T_TRAIN M_ACK NID_LRBG", "train": "T_TRAIN NID_ENGINE"}
 MESSAGES = {
     "radio": {
         2: "Q_SCALE D_SR", 3: "", 6: "", 8: "T_TRAIN", 9: "", 16: "NID_EM", 18: "NID_EM", 24: "", 27: "T_TRAIN",
-        28: "T_TRAIN", 32: "M_VERSION", 33: "Q_SCALE D_REF", 43: "", 45: "Q_ORIENTATION",
+        28: "T_TRAIN", 32: "M_VERSION", 33: "Q_SCALE D_REF", 38: "", 39: "", 40: "", 41: "", 43: "",
+        45: "Q_ORIENTATION",
     },
     "train": {
         130: "", 136: "", 137: "T_TRAIN", 138: "T_TRAIN", 146: "T_TRAIN", 150: "", 155: "", 156: "", 157: "Q_STATUS",

@@ -12,9 +12,10 @@ use etcs_text::Entry;
 use etcs_vars::Var;
 use std::alloc::{AllocError, Global};
 
-/// What items have, and where bad lines are refused. No count passes 2^64 - 1.
+/// What items have, and where bad lines are refused, where that is asked for. No count passes 2^64 - 1.
 #[derive(Drop)]
 pub(crate) struct Counts {
+    asked: bool,
     packets: [u64; 256],
     messages: [u64; 256],
     refusals: Vec<(Var, u64)>,
@@ -44,8 +45,9 @@ fn write_counts(name: &str, counts: &[u64; 256], out: &mut String) -> Result<(),
 
 impl Counts {
     /// Nothing was counted.
-    pub(crate) fn new(alloc: Global) -> Counts {
+    pub(crate) fn new(alloc: Global, asked: bool) -> Counts {
         Counts {
+            asked,
             packets: [0; 256],
             messages: [0; 256],
             refusals: Vec::new(alloc),
@@ -54,6 +56,9 @@ impl Counts {
 
     /// Counts what is in an item.
     pub(crate) fn add_item(&mut self, entry: &Entry) {
+        if !self.asked {
+            return;
+        }
         match entry {
             Entry::Telegram(telegram) => count_packets(telegram.packets(), &mut self.packets),
             Entry::Message(message) => {
@@ -73,6 +78,9 @@ impl Counts {
     ///
     /// Where memory is refused.
     pub(crate) fn add_refused(&mut self, var: Var) -> Result<(), AllocError> {
+        if !self.asked {
+            return Ok(());
+        }
         for entry in &mut self.refusals {
             if entry.0 == var {
                 count(&mut entry.1);

@@ -85,7 +85,7 @@ impl Answers {
             line: 0,
             tally: LogTally { items: 0, bad: 0 },
             reader: SingleReader::new(alloc, job.kind),
-            counts: Counts::new(alloc),
+            counts: Counts::new(alloc, job.summary),
             words: String::new(alloc),
             notes: Vec::new(alloc),
         }

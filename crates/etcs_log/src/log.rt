@@ -14,9 +14,6 @@ use etcs_runs::inner::{Engine, LineHandler, Lines, send};
 use etcs_runs::{MOST_LINE, RunFault, Sink, without_cr};
 use std::alloc::{AllocError, Global};
 
-/// How many characters a line has that needs no large buffer.
-const FEW_CHARACTERS: usize = 1024;
-
 /// How often a sink of notes fails before it is asked no more.
 const MOST_FAILURES: u64 = 1 << 62;
 
@@ -34,7 +31,7 @@ fn make_room(buffer: &mut Vec<u8>, count: usize) -> Result<(), AllocError>
     Ok(())
 }
 
-/// Answers the lines of a log, with a buffer for the bytes of long ones.
+/// Answers the lines of a log, with a buffer for the bytes of each.
 #[derive(Drop)]
 pub(crate) struct LogLines {
     buffer: Vec<u8>,
@@ -68,11 +65,6 @@ impl LogLines {
         ensures err { OnErr result (text.new.items ≡ text.old.items) }
     {
         self.answers.line += 1;
-        if line.len() <= FEW_CHARACTERS {
-            return self
-                .answers
-                .take(line, &mut [0u8; FEW_CHARACTERS / 2], text);
-        }
         if line.len() > MOST_LINE {
             return self.answers.refuse(Bad::Long, &[], text);
         }

@@ -56,6 +56,14 @@ fn take(reader: &mut EntryReader) -> Entry
     }
 }
 
+/// Puts a reader of this kind in place of one that has read a part of an item, or more than one.
+#[inline(never)]
+fn renew(reader: &mut EntryReader, alloc: Global, kind: Kind)
+    ensures { reader.new ≡ record { kind = kind; progress = reading [] } }
+{
+    *reader = EntryReader::new(alloc, kind);
+}
+
 impl SingleReader {
     /// A reader of items of this kind.
     pub fn new(alloc: Global, kind: Kind) -> SingleReader
@@ -90,7 +98,7 @@ impl SingleReader {
             Err(ReadFault::Memory) => Err(AllocError),
             Err(ReadFault::Ended) => unreachable!(),
         };
-        self.reader = EntryReader::new(self.alloc, self.kind);
+        renew(&mut self.reader, self.alloc, self.kind);
         verdict
     }
 }

@@ -6,7 +6,7 @@ use crate::readers::next_size;
 use crate::several::all_packets;
 use crate::telegrams::{check_laws, encoded};
 use etcs_bits::Bits;
-use etcs_packet_text::inner::write_packets;
+use etcs_packet_text::inner::{Page, write_packets};
 use etcs_packets::Packet;
 use etcs_packets::inner::AnyPacket;
 use etcs_telegram::inner::header_numbers;
@@ -158,9 +158,9 @@ pub(crate) fn say_back<P: AnyPacket>(case: &mut Case, packets: &[P]) {
 
 /// The text of packets.
 fn say_packets<P: AnyPacket>(case: &mut Case, packets: &[P]) {
-    let mut text = Vec::new(case.alloc());
-    case.kept(write_packets(packets, &mut text).is_ok());
-    case.say_line(text.as_slice());
+    let mut page = Page::after(Vec::new(case.alloc()));
+    case.kept(write_packets(packets, &mut page).is_ok());
+    case.say_line(page.into_text().as_slice());
 }
 
 /// `text PACKETS`: their text.

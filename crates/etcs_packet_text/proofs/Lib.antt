@@ -1,8 +1,11 @@
+pub mod ByteDigits
+pub mod Decimals
 pub mod FrameLines
 pub mod HexDigits
 pub mod JsonExamples
 pub mod NumberTexts
 pub mod PairSinks
+pub mod Places
 pub mod PlainTexts
 pub mod Refusals
 pub mod TextLengths

@@ -1,8 +1,6 @@
 -- What holds on an error, and without one.
-use Rattle.std.proofs.Common.{◌≡◌, ℕ, List, ◌++◌, length, take, cond, Result, Ok, Err, ap, ◌∙◌, arith, append_assoc}
+use Rattle.std.proofs.Common.{◌≡◌, ℕ, List, ◌++◌, Result, Ok, Err, ap, ◌∙◌, append_assoc}
 use Rattle.std.specs.Prelude.{OnErr, OnOk}
-use Rattle.std.specs.Result.{is_ok}
-use Rattle.std.proofs.lemmas.List.{take_all}
 use Rattle.etcs_packet_text.specs.Fronts.{Begins}
 use Rattle.etcs_packet_text.specs.laws.Fronts.{begins_more}
 
@@ -20,14 +18,6 @@ on_ok (Err f) old new a b e p = tt
 pub on_error : {T E : Type 0} (r : Result T E) (old mid new more : List ℕ) → mid ≡ old ++ more → OnErr r (Begins mid new) → OnErr r (Begins old new)
 on_error (Ok x) old mid new more e p = tt
 on_error (Err f) old mid new more e p = begins_more old mid new more e p
-
--- what was there stays, where nothing was appended
-pub unchanged : (old new : List ℕ) → new ≡ old → Begins old new
-unchanged old new e = ap (take (length old)) e ∙ take_all (length old) old (omega arith)
-
-pub extended_err : {T E : Type 0} (r : Result T E) (old new xs : List ℕ) → new ≡ cond (is_ok r) (old ++ xs) old → OnErr r (Begins old new)
-extended_err (Ok x) old new xs e = tt
-extended_err (Err f) old new xs e = unchanged old new e
 
 -- a text that was appended, in front of what follows it
 pub behind_ok : {T E : Type 0} (r : Result T E) (old a one rest new : List ℕ) → one ≡ old ++ a → OnOk r (new ≡ one ++ rest) → OnOk r (new ≡ old ++ (a ++ rest))

@@ -1,36 +1,82 @@
 -- Bits as digits.
-use Rattle.std.proofs.Common.{◌≡◌, ℕ, ◌+◌, ◌-◌, ◌/◌, ◌%◌, ◌^◌, ◌<◌, ◌≤◌, Bool, false, List, [], ◌∷◌, ◌++◌, length, take, get_or, map, set, Some, None, cond, Result, Ok, Err, sym, ap, ◌∙◌, arith, append_assoc}
-use Rattle.std.specs.Prelude.{bit_and, OnOk}
-use Rattle.std.specs.Result.{is_ok}
-use Rattle.std.proofs.lemmas.Nat.{and_mask}
+use Rattle.std.proofs.Common.{◌≡◌, ℕ, zero, suc, ◌+◌, ◌-◌, ◌*◌, ◌/◌, ◌%◌, ◌^◌, ◌<◌, ◌≤◌, Bool, List, [], ◌++◌, length, take, map, Some, None, cond, sym, ap, ◌∙◌, arith, append_assoc}
+use Rattle.std.specs.Prelude.{bit_and}
+use Rattle.std.proofs.lemmas.Nat.{and_mask, pow-add}
+use Rattle.std.proofs.Math.Nat.{div-div-eq-div-mul}
 use Rattle.std.proofs.lemmas.Bool.{le-leb}
-use Rattle.std.proofs.Math.Seq.{take-add}
-use Rattle.std.proofs.lemmas.List.{take_all, take_more_set, map_more, map-append}
-use Rattle.etcs_bits.specs.Bits.{num, bit, value, part, number_at}
-use Rattle.etcs_bits.proofs.Numbers.{length-num, bit-eqb, num-value}
+use Rattle.std.proofs.Math.Seq.{take-add, take-append-add}
+use Rattle.std.proofs.lemmas.List.{length-take-le, take-map, take-take, take_at, map-append}
+use Rattle.etcs_bits.specs.Bits.{num, value, part, number_at}
+use Rattle.etcs_bits.proofs.ByteBits.{num_low}
+use Rattle.etcs_bits.proofs.Numbers.{length-num, num-add, num-value}
 use Rattle.etcs_bits.proofs.Lists.{length-part}
-use Rattle.etcs_bits.proofs.Positions.{num_at}
 use Rattle.etcs_packet_text.specs.Show.{bit_digit}
 
--- the digit of a bit of a number
-pub digit_at : (w n k : ℕ) → k < w → 48 + bit_and (n / 2 ^ (w - 1 - k)) 1 ≡ bit_digit (get_or (num w n) k false)
-digit_at w n k h =
-    let q = n / 2 ^ (w - 1 - k) in
-    ap (λ x. 48 + x) (and_mask q 1 ∙ sym (bit-eqb (q % 2) (omega arith)) ∙ ap bit (sym (num_at w n k h)))
+-- ---- Bits of a number.
 
--- one more digit
-pub digits_more : (digits : List ℕ) (bs : List Bool) (k d : ℕ) → k < length digits → k < length bs → take k digits ≡ map bit_digit (take k bs) → d ≡ bit_digit (get_or bs k false) → take (k + 1) (set digits k d) ≡ map bit_digit (take (k + 1) bs)
-digits_more digits bs k d h g e is =
-    take_more_set digits k d h
-    ∙ ap (λ (z : List ℕ). z ++ d ∷ []) e
-    ∙ ap (λ x. map bit_digit (take k bs) ++ x ∷ []) is
-    ∙ sym (map_more bit_digit bs k false g)
+low_byte : (n : ℕ) → num 8 (bit_and n 255) ≡ num 8 n
+low_byte n = num_low 8 (bit_and n 255) n (ap (λ (x : ℕ). x % 256) (and_mask n 8) ∙ omega arith)
 
--- all digits
-pub digits_all : (digits : List ℕ) (w n k : ℕ) → k ≤ w → w ≤ k → take k digits ≡ map bit_digit (take k (num w n)) → take w digits ≡ map bit_digit (num w n)
-digits_all digits w n k a b e =
-    let same : k ≡ w = omega arith in
-    ap (λ j. take j digits) (sym same) ∙ e ∙ ap (λ (z : List Bool). map bit_digit z) (take_all k (num w n) (omega (arith, length-num w n)))
+-- eight bits more
+pub byte_more : (n width left : ℕ) → 8 ≤ left → left ≤ width → num (width - (left - 8)) (n / 2 ^ (left - 8)) ≡ num (width - left) (n / 2 ^ left) ++ num 8 (bit_and (n / 2 ^ (left - 8)) 255)
+byte_more n width left some few =
+    let m = n / 2 ^ (left - 8) in
+    let all : width - (left - 8) ≡ width - left + 8 = omega arith in
+    let power : 2 ^ (left - 8) * 2 ^ 8 ≡ 2 ^ left = sym (pow-add 2 (left - 8) 8) ∙ ap (λ (k : ℕ). 2 ^ k) (omega arith) in
+    ap (λ (k : ℕ). num k m) all
+    ∙ num-add (width - left) 8 m
+    ∙ ap (λ (k : ℕ). num (width - left) k ++ num 8 m) (div-div-eq-div-mul n (2 ^ (left - 8)) (2 ^ 8) ∙ ap (λ (k : ℕ). n / k) power)
+    ∙ ap (λ (z : List Bool). num (width - left) (n / 2 ^ left) ++ z) (sym (low_byte m))
+
+pub bits_none : (n width : ℕ) → num (width - width) (n / 2 ^ width) ≡ []
+unfolding num
+bits_none n width = let none : width - width ≡ 0 = omega arith in ap (λ (k : ℕ). num k (n / 2 ^ width)) none
+
+-- the last bits
+pub bits_last : (n width left : ℕ) → left ≤ width → num (width - left) (n / 2 ^ left) ++ num left n ≡ num width n
+bits_last n width left few = sym (num-add (width - left) left n) ∙ ap (λ (k : ℕ). num k n) (omega arith)
+
+few_value : (w n : ℕ) → w < 8 → n * 2 ^ (8 - w) % 2 ^ 64 % 256 / 2 ^ (8 - w) % 2 ^ w ≡ n % 2 ^ w
+few_value zero n h = omega arith
+few_value (suc zero) n h = omega arith
+few_value (suc (suc zero)) n h = omega arith
+few_value (suc (suc (suc zero))) n h = omega arith
+few_value (suc (suc (suc (suc zero)))) n h = omega arith
+few_value (suc (suc (suc (suc (suc zero))))) n h = omega arith
+few_value (suc (suc (suc (suc (suc (suc zero)))))) n h = omega arith
+few_value (suc (suc (suc (suc (suc (suc (suc zero))))))) n h = omega arith
+few_value (suc (suc (suc (suc (suc (suc (suc (suc w)))))))) n h = absurd (omega arith)
+
+-- the first bits of a byte that begins with the lowest of a number
+few_bits : (w n : ℕ) → w < 8 → take w (num 8 (bit_and (n * 2 ^ (8 - w) % 2 ^ 64) 255)) ≡ num w n
+few_bits w n h =
+    let m = n * 2 ^ (8 - w) % 2 ^ 64 in
+    let x = m % 256 in
+    let all : 8 ≡ w + (8 - w) = omega arith in
+    ap (λ (k : ℕ). take w (num 8 k)) (and_mask m 8)
+    ∙ ap (λ (k : ℕ). take w (num k x)) all
+    ∙ ap (take w) (num-add w (8 - w) x)
+    ∙ take_at (num w (x / 2 ^ (8 - w))) (num (8 - w) x) w (length-num w (x / 2 ^ (8 - w)))
+    ∙ num_low w (x / 2 ^ (8 - w)) n (few_value w n h)
+
+pub few_put : (at w n end : ℕ) (old new : List ℕ) → w < 8 → at ≤ length old → end ≡ at + 8 → take end new ≡ take at old ++ map bit_digit (num 8 (bit_and (n * 2 ^ (8 - w) % 2 ^ 64) 255)) → take (at + w) new ≡ take at old ++ map bit_digit (num w n)
+few_put at w n end old new few inside e put =
+    let byte = num 8 (bit_and (n * 2 ^ (8 - w) % 2 ^ 64) 255) in
+    sym (take-take (at + w) end new (omega arith))
+    ∙ ap (take (at + w)) put
+    ∙ ap (λ (k : ℕ). take (k + w) (take at old ++ map bit_digit byte)) (sym (length-take-le at old inside))
+    ∙ take-append-add (take at old) (map bit_digit byte) w
+    ∙ ap (λ (z : List ℕ). take at old ++ z) (take-map bit_digit w byte ∙ ap (λ (z : List Bool). map bit_digit z) (few_bits w n few))
+
+-- texts of bits one after another
+pub bits_on : (old one two : List ℕ) (a b c : List Bool) → one ≡ old ++ map bit_digit a → two ≡ one ++ map bit_digit b → a ++ b ≡ c → two ≡ old ++ map bit_digit c
+bits_on old one two a b c p q e =
+    q
+    ∙ ap (λ (z : List ℕ). z ++ map bit_digit b) p
+    ∙ append_assoc old (map bit_digit a) (map bit_digit b)
+    ∙ ap (λ (z : List ℕ). old ++ z) (sym (map-append bit_digit a b) ∙ ap (λ (z : List Bool). map bit_digit z) e)
+
+-- ---- A part of bits.
 
 some_same : (m n : ℕ) → Some m ≡ Some n → m ≡ n
 some_same m n e = cc
@@ -50,8 +96,3 @@ part_more bs at w front out done e h =
     ∙ ap (λ (z : List ℕ). z ++ map bit_digit (part at w bs)) e
     ∙ append_assoc front (map bit_digit (take at bs)) (map bit_digit (part at w bs))
     ∙ ap (λ (z : List ℕ). front ++ z) (sym (map-append bit_digit (take at bs) (part at w bs)) ∙ ap (λ (z : List Bool). map bit_digit z) (sym (take-add at w bs)))
-
--- what `extend_from_slice` leaves
-pub on_extended : (T E : Type 0) (r : Result T E) (old new xs ys : List ℕ) → new ≡ cond (is_ok r) (old ++ xs) old → xs ≡ ys → OnOk r (new ≡ old ++ ys)
-on_extended T E (Ok x) old new xs ys e s = e ∙ ap (λ (z : List ℕ). old ++ z) s
-on_extended T E (Err f) old new xs ys e s = tt

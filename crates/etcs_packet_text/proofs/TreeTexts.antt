@@ -1,13 +1,11 @@
 -- The text of trees of packets, part by part.
-use Rattle.std.proofs.Common.{◌≡◌, ℕ, length, take, Bool, false, List, [], ◌∷◌, ◌++◌, map, refl, sym, ap, ◌∙◌, cond, arith, append_assoc, subst, Result, Ok, Err, Some, None}
+use Rattle.std.proofs.Common.{◌≡◌, ℕ, length, take, Bool, false, List, [], ◌∷◌, ◌++◌, map, refl, sym, ap, ◌∙◌, arith, append_assoc, subst, Result, Ok, Err, Some, None}
 use Rattle.std.specs.Prelude.{OnOk, OnErr, codes, decimal}
-use Rattle.std.specs.Result.{is_ok}
 use Rattle.std.proofs.lemmas.List.{take_all}
 use Rattle.json.specs.Print.{escape_byte}
 use Rattle.serde_json.specs.Data.{Data, array}
 use Rattle.serde_json.specs.View.{items_of}
 use Rattle.serde_json.specs.Written.{compact_text, items_text}
-use Rattle.etcs_vars.specs.Reading.{Reading}
 use Rattle.etcs_tables.specs.declared.row.Way.{Way}
 use Rattle.etcs_tables.specs.declared.row.Way.TheVariants.{ToTrain, ToTrack}
 use Rattle.etcs_packets.specs.PacketValues.{PacketValue, marker, typed, kept}
@@ -15,35 +13,32 @@ use Rattle.etcs_packets.specs.PacketValues as packet
 use Rattle.etcs_packet_text.specs.Fronts.{Begins}
 use Rattle.etcs_packet_text.specs.laws.Fronts.{begins_more}
 use Rattle.etcs_packet_text.specs.JsonParts.{data_text, fields_text}
-use Rattle.etcs_packet_text.specs.PairSinks.{Listed, with_each, with_pairs}
+use Rattle.etcs_packet_text.specs.PairSinks.{Listed, with_each}
 use Rattle.etcs_packet_text.specs.laws.PairSinks.{each_begins}
 use Rattle.etcs_packet_text.proofs.PairSinks.{list_text}
 use Rattle.etcs_packet_text.proofs.PlainTexts.{quoted_bits}
 use Rattle.etcs_packet_text.specs.Show.{bit_digit}
-use Rattle.etcs_packet_text.specs.Trees.{packet_tree, pair_tree, pairs_tree}
+use Rattle.etcs_packet_text.specs.Trees.{packet_tree, pairs_tree}
 
 -- ---- Lists.
 
 -- a list with its end
-pub closed_ok : {A T E : Type 0} (r : Result T E) (f : A → Data) (old text new : List ℕ) (s : Listed) (xs : List A) → s ≡ with_each f (old ++ 91 ∷ [], false) xs → text ≡ s.0 → new ≡ cond (is_ok r) (text ++ 93 ∷ []) text → OnOk r (new ≡ old ++ compact_text (array (items_of (map f xs))))
-closed_ok (Ok x) f old text new s xs is t e =
+pub closed_ok : {A T E : Type 0} (r : Result T E) (f : A → Data) (old new : List ℕ) (s : Listed) (xs : List A) → s ≡ with_each f (old ++ 91 ∷ [], false) xs → OnOk r (new ≡ s.0 ++ 93 ∷ []) → OnOk r (new ≡ old ++ compact_text (array (items_of (map f xs))))
+closed_ok (Ok x) f old new s xs is e =
     e
-    ∙ ap (λ (z : List ℕ). z ++ 93 ∷ []) (t ∙ ap (λ (z : Listed). z.0) is)
+    ∙ ap (λ (z : Listed). z.0 ++ 93 ∷ []) is
     ∙ list_text f (old ++ 91 ∷ []) false xs
     ∙ append_assoc old (91 ∷ []) (items_text false (items_of (map f xs)))
-closed_ok (Err x) f old text new s xs is t e = tt
+closed_ok (Err x) f old new s xs is e = tt
 
 -- what was there stays, after a bracket and items
 pub list_begins : {A : Type 0} (f : A → Data) (old new : List ℕ) (s : Listed) (xs : List A) → s ≡ with_each f (old ++ 91 ∷ [], false) xs → Begins s.0 new → Begins old new
 list_begins f old new s xs is h =
     begins_more old (old ++ 91 ∷ []) new (91 ∷ []) refl (each_begins f (old ++ 91 ∷ [], false) xs new (subst (λ (t : Listed). Begins t.0 new) is h))
 
-pub closed_err : {A T E : Type 0} (r : Result T E) (f : A → Data) (old text new : List ℕ) (s : Listed) (xs : List A) → s ≡ with_each f (old ++ 91 ∷ [], false) xs → text ≡ s.0 → new ≡ cond (is_ok r) (text ++ 93 ∷ []) text → OnErr r (Begins old new)
-closed_err (Ok x) f old text new s xs is t e = tt
-closed_err (Err x) f old text new s xs is t e = list_begins f old new s xs is (ap (take (length s.0)) (e ∙ t) ∙ take_all (length s.0) s.0 (omega arith))
-
-pub begins_listed : (s t : Listed) (r : Reading) (new : List ℕ) → t ≡ with_pairs s r → Begins t.0 new → Begins s.0 new
-begins_listed s t r new e h = each_begins pair_tree s r new (subst (λ (z : Listed). Begins z.0 new) e h)
+pub closed_err : {A T E : Type 0} (r : Result T E) (f : A → Data) (old new : List ℕ) (s : Listed) (xs : List A) → s ≡ with_each f (old ++ 91 ∷ [], false) xs → OnErr r (new ≡ s.0) → OnErr r (Begins old new)
+closed_err (Ok x) f old new s xs is e = tt
+closed_err (Err x) f old new s xs is e = list_begins f old new s xs is (ap (take (length s.0)) e ∙ take_all (length s.0) s.0 (omega arith))
 
 -- ---- Packets.
 

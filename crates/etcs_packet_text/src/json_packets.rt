@@ -6,8 +6,8 @@ ghost use Rattle.etcs_packet_text.specs.Fronts.{Begins};
 ghost use Rattle.etcs_packet_text.specs.JsonParts.{data_behind, data_text, fields_front, fields_text, sent_dir};
 ghost use Rattle.etcs_packet_text.specs.Trees.{packet_tree, packets_tree};
 
+use crate::json_page::JsonPage;
 use crate::pairs::write_fields;
-use crate::text::{write_decimal_and, write_slice};
 use etcs_bits::BitSlice;
 use etcs_packets::inner::AnyPacket;
 use etcs_tables::Way;
@@ -25,43 +25,34 @@ fn sent_dir<P: AnyPacket>(packet: &P) -> Option<u8>
 }
 
 /// Appends what is in front of a packet's fields.
-fn write_front<P: AnyPacket>(packet: &P, out: &mut Vec<u8>) -> Result<(), AllocError>
-    ensures ok { OnOk result (out.new.items ≡ out.old.items ++ fields_front (sent_dir P.WAY (P.form packet.now).value)) }
-    ensures err { OnErr result (Begins out.old.items out.new.items) }
+fn write_front<P: AnyPacket>(packet: &P, page: &mut JsonPage) -> Result<(), AllocError>
+    ensures ok { OnOk result (page.new.0 ≡ page.old.0 ++ fields_front (sent_dir P.WAY (P.form packet.now).value)) }
+    ensures err { OnErr result (Begins page.old.0 page.new.0) }
 {
     match sent_dir(packet) {
-        Some(dir) => {
-            out.extend_from_slice(b"{\"dir\":")?;
-            write_decimal_and(u64::from(dir), b',', out)?;
-            out.extend_from_slice(b"\"fields\":")
-        }
-        None => out.extend_from_slice(b"{\"fields\":"),
+        Some(dir) => { page.put_between(b"{\"dir\":", u64::from(dir), b",\"fields\":") }
+        None => page.put(b"{\"fields\":"),
     }
 }
 
 /// Appends a packet with its fields.
-fn write_sent<P: AnyPacket>(packet: &P, out: &mut Vec<u8>) -> Result<(), AllocError>
-    ensures ok { OnOk result (out.new.items ≡ out.old.items ++ fields_text P.WAY (P.form packet.now).value) }
-    ensures err { OnErr result (Begins out.old.items out.new.items) }
+fn write_sent<P: AnyPacket>(packet: &P, page: &mut JsonPage) -> Result<(), AllocError>
+    ensures ok { OnOk result (page.new.0 ≡ page.old.0 ++ fields_text P.WAY (P.form packet.now).value) }
+    ensures err { OnErr result (Begins page.old.0 page.new.0) }
 {
-    write_front(packet, out)?;
-    write_fields(packet, out)?;
-    out.extend_from_slice(b",\"nid\":")?;
-    write_decimal_and(u64::from(packet.nid()), b'}', out)
+    write_front(packet, page)?;
+    write_fields(packet, page)?;
+    page.put_between(b",\"nid\":", u64::from(packet.nid()), b"}")
 }
 
 /// Appends what is after a packet's bits, up to its number.
-fn write_behind<P: AnyPacket>(packet: &P, out: &mut Vec<u8>) -> Result<(), AllocError>
-    ensures ok { OnOk result (out.new.items ≡ out.old.items ++ data_behind (sent_dir P.WAY (P.form packet.now).value)) }
-    ensures err { OnErr result (Begins out.old.items out.new.items) }
+fn write_behind<P: AnyPacket>(packet: &P, page: &mut JsonPage) -> Result<(), AllocError>
+    ensures ok { OnOk result (page.new.0 ≡ page.old.0 ++ data_behind (sent_dir P.WAY (P.form packet.now).value)) }
+    ensures err { OnErr result (Begins page.old.0 page.new.0) }
 {
     match sent_dir(packet) {
-        Some(dir) => {
-            out.extend_from_slice(b"\",\"dir\":")?;
-            write_decimal_and(u64::from(dir), b',', out)?;
-            out.extend_from_slice(b"\"nid\":")
-        }
-        None => out.extend_from_slice(b"\",\"nid\":"),
+        Some(dir) => { page.put_between(b"\",\"dir\":", u64::from(dir), b",\"nid\":") }
+        None => page.put(b"\",\"nid\":"),
     }
 }
 
@@ -69,53 +60,53 @@ fn write_behind<P: AnyPacket>(packet: &P, out: &mut Vec<u8>) -> Result<(), Alloc
 fn write_kept<P: AnyPacket>(
     packet: &P,
     bits: &BitSlice<'_>,
-    out: &mut Vec<u8>,
+    page: &mut JsonPage,
 ) -> Result<(), AllocError>
-    ensures ok { OnOk result (out.new.items ≡ out.old.items ++ data_text P.WAY (P.form packet.now).value bits.now) }
-    ensures err { OnErr result (Begins out.old.items out.new.items) }
+    ensures ok { OnOk result (page.new.0 ≡ page.old.0 ++ data_text P.WAY (P.form packet.now).value bits.now) }
+    ensures err { OnErr result (Begins page.old.0 page.new.0) }
 {
-    out.extend_from_slice(b"{\"data\":\"")?;
-    write_slice(bits, out)?;
-    write_behind(packet, out)?;
-    write_decimal_and(u64::from(packet.nid()), b'}', out)
+    page.put(b"{\"data\":\"")?;
+    page.put_slice(bits)?;
+    write_behind(packet, page)?;
+    page.put_decimal_and(u64::from(packet.nid()), b'}')
 }
 
 /// Appends a packet.
-fn write_packet<P: AnyPacket>(packet: &P, out: &mut Vec<u8>) -> Result<(), AllocError>
-    ensures ok { OnOk result (out.new.items ≡ out.old.items ++ compact_text (packet_tree P.WAY (P.form packet.now).value)) }
-    ensures err { OnErr result (Begins out.old.items out.new.items) }
+fn write_packet<P: AnyPacket>(packet: &P, page: &mut JsonPage) -> Result<(), AllocError>
+    ensures ok { OnOk result (page.new.0 ≡ page.old.0 ++ compact_text (packet_tree P.WAY (P.form packet.now).value)) }
+    ensures err { OnErr result (Begins page.old.0 page.new.0) }
 {
     match packet.kept_bits() {
-        Some(bits) => write_kept(packet, &bits, out),
-        None => write_sent(packet, out),
+        Some(bits) => write_kept(packet, &bits, page),
+        None => write_sent(packet, page),
     }
 }
 
 /// Appends a packet, after a comma where it isn't the first of its list.
-fn write_item<P: AnyPacket>(later: bool, packet: &P, out: &mut Vec<u8>) -> Result<(), AllocError>
-    ensures ok { OnOk result (out.new.items ≡ out.old.items ++ (comma_if later ++ compact_text (packet_tree P.WAY (P.form packet.now).value))) }
-    ensures err { OnErr result (Begins out.old.items out.new.items) }
+fn write_item<P: AnyPacket>(later: bool, packet: &P, page: &mut JsonPage) -> Result<(), AllocError>
+    ensures ok { OnOk result (page.new.0 ≡ page.old.0 ++ (comma_if later ++ compact_text (packet_tree P.WAY (P.form packet.now).value))) }
+    ensures err { OnErr result (Begins page.old.0 page.new.0) }
 {
     if later {
-        out.extend_from_slice(b",")?;
+        page.put(b",")?;
     }
-    write_packet(packet, out)
+    write_packet(packet, page)
 }
 
 /// Appends packets as a list.
 ///
 /// # Errors
 ///
-/// Where memory is refused. A part of the text may then be in `out`, after what was there.
-pub fn write_packets<P: AnyPacket>(packets: &[P], out: &mut Vec<u8>) -> Result<(), AllocError>
-    ensures ok { OnOk result (out.new.items ≡ out.old.items ++ compact_text (packets_tree P.WAY (map (λ p. (P.form p).value) packets.now))) }
-    ensures err { OnErr result (Begins out.old.items out.new.items) }
+/// Where memory is refused. A part of the text may then be in the page, after what was there.
+pub fn write_packets<P: AnyPacket>(packets: &[P], page: &mut JsonPage) -> Result<(), AllocError>
+    ensures ok { OnOk result (page.new.0 ≡ page.old.0 ++ compact_text (packets_tree P.WAY (map (λ p. (P.form p).value) packets.now))) }
+    ensures err { OnErr result (Begins page.old.0 page.new.0) }
 {
-    out.extend_from_slice(b"[")?;
+    page.put(b"[")?;
     let mut later = false;
     for packet in packets {
-        write_item(later, packet, out)?;
+        write_item(later, packet, page)?;
         later = true;
     }
-    out.extend_from_slice(b"]")
+    page.put(b"]")
 }

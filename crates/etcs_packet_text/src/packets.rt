@@ -3,156 +3,69 @@
 ghost use Rattle.std.specs.Prelude.{◌≡◌, ◌++◌, ◌∷◌, [], OnErr, OnOk, flat_map, map};
 ghost use Rattle.etcs_vars.specs.declared.var.Var.TheVariants.{L_PACKET};
 ghost use Rattle.etcs_tables.specs.Frames.{directed};
-ghost use Rattle.etcs_packets.specs.PacketValues.{variables_of};
+ghost use Rattle.etcs_packets.specs.PacketValues.{nid_of, variables_of};
 ghost use Rattle.etcs_packet_text.specs.Fronts.{Begins};
 ghost use Rattle.etcs_packet_text.specs.Show.{variable_line};
 ghost use Rattle.etcs_packet_text.specs.Packets.{body_lines, frame_lines, packet_line, packet_text, packets_text};
 
-use crate::text::write_decimal_line;
-use crate::variables::{write_bits_line, write_variable};
+use crate::page::Page;
 use etcs_packets::inner::AnyPacket;
 use etcs_tables::Way;
 use etcs_vars::Var;
-use etcs_vars::inner::VarSink;
 use std::alloc::AllocError;
-use std::marker::Model;
-use std::mem;
 
-/// A text that takes variables, a line for each.
-#[derive(Drop)]
-pub struct LineSink {
-    text: Vec<u8>,
-}
-
-impl Model for LineSink {
-    ghost use Rattle.std.specs.Prelude.{ℕ, List};
-
-    ghost Value = { List ℕ };
-
-    ghost view = { λ s. s.text.items };
-}
-
-impl LineSink {
-    /// A sink after the text, which is taken.
-    pub fn open(text: &mut Vec<u8>) -> LineSink
-        ensures { result ≡ text.old.items }
-    {
-        let empty = Vec::new(*text.allocator());
-        LineSink {
-            text: mem::replace(text, empty),
-        }
-    }
-
-    /// The text.
-    pub fn into_text(self) -> Vec<u8>
-        ensures { result.items ≡ self }
-    {
-        let LineSink { text } = self;
-        text
-    }
-}
-
-impl VarSink for LineSink {
-    ghost use Rattle.etcs_packet_text.specs.Fronts.{Begins};
-    ghost use Rattle.etcs_packet_text.specs.LineSinks.{with_lines};
-    ghost use Rattle.etcs_packet_text.specs.laws.LineSinks.{with_lines_begins, with_lines_both, with_lines_none};
-
-    ghost with = { with_lines };
-
-    ghost failed = { Begins };
-
-    ghost with_none = { with_lines_none };
-
-    ghost with_both = { with_lines_both };
-
-    ghost failed_behind = { with_lines_begins };
-
-    fn send(&mut self, sent: &[(Var, u64)]) -> Result<(), AllocError> {
-        for pair in sent {
-            write_variable(pair.0, pair.1, &mut self.text)?;
-        }
-        Ok(())
-    }
-}
-
-/// Appends the line of a packet's number.
+/// Appends the lines of a packet's number, of Q_DIR, which is sent to the train alone, and of L_PACKET.
 #[inline(always)]
-fn write_number_line(nid: u8, out: &mut Vec<u8>) -> Result<(), AllocError>
-    ensures ok { OnOk result (out.new.items ≡ out.old.items ++ packet_line nid) }
-    ensures err { OnErr result (Begins out.old.items out.new.items) }
-{
-    out.extend_from_slice(b"packet ")?;
-    write_decimal_line(u64::from(nid), out)
-}
-
-/// Appends the line of Q_DIR, which is sent to the train alone.
-#[inline(always)]
-fn write_direction(way: Way, dir: u8, out: &mut Vec<u8>) -> Result<(), AllocError>
-    ensures ok { OnOk result (out.new.items ≡ out.old.items ++ flat_map variable_line (directed way dir [])) }
-    ensures err { OnErr result (Begins out.old.items out.new.items) }
+fn write_framed(way: Way, nid: u8, dir: u8, bits: u64, page: &mut Page) -> Result<(), AllocError>
+    ensures ok { OnOk result (page.new ≡ page.old ++ (packet_line nid ++ flat_map variable_line (directed way dir ((L_PACKET, bits) ∷ [])))) }
+    ensures err { OnErr result (page.new ≡ page.old) }
 {
     match way {
-        Way::ToTrain => write_variable(Var::Q_DIR, u64::from(dir), out),
-        Way::ToTrack => Ok(()),
+        Way::ToTrain => {
+            page.put_packet(nid, &[(Var::Q_DIR, u64::from(dir)), (Var::L_PACKET, bits)])
+        }
+        Way::ToTrack => page.put_packet(nid, &[(Var::L_PACKET, bits)]),
     }
 }
 
-/// Appends the lines of Q_DIR and L_PACKET.
+/// Appends the lines of a packet's number and of its frame, which packet 0 without a frame doesn't have.
 #[inline(always)]
-fn write_direction_and_length(
-    way: Way,
-    dir: u8,
-    bits: u64,
-    out: &mut Vec<u8>,
-) -> Result<(), AllocError>
-    ensures ok { OnOk result (out.new.items ≡ out.old.items ++ flat_map variable_line (directed way dir ((L_PACKET, bits) ∷ []))) }
-    ensures err { OnErr result (Begins out.old.items out.new.items) }
-{
-    write_direction(way, dir, out)?;
-    write_variable(Var::L_PACKET, bits, out)
-}
-
-/// Appends the lines of Q_DIR and L_PACKET, which packet 0 without a frame doesn't have.
-fn write_frame<P: AnyPacket>(packet: &P, out: &mut Vec<u8>) -> Result<(), AllocError>
-    ensures ok { OnOk result (out.new.items ≡ out.old.items ++ frame_lines P.WAY (P.form packet.now).value) }
-    ensures err { OnErr result (Begins out.old.items out.new.items) }
+fn write_frame<P: AnyPacket>(packet: &P, page: &mut Page) -> Result<(), AllocError>
+    ensures ok { OnOk result (page.new ≡ page.old ++ (packet_line (nid_of (P.form packet.now).value) ++ frame_lines P.WAY (P.form packet.now).value)) }
+    ensures err { OnErr result (page.new ≡ page.old) }
 {
     match packet.dir() {
-        Some(dir) => write_direction_and_length(P::WAY, dir, packet.bit_len() as u64, out),
-        None => Ok(()),
+        Some(dir) => write_framed(P::WAY, packet.nid(), dir, packet.bit_len() as u64, page),
+        None => page.put_packet(packet.nid(), &[]),
     }
 }
 
 /// Appends the lines of the variables after a packet's frame.
-fn write_sent<P: AnyPacket>(packet: &P, out: &mut Vec<u8>) -> Result<(), AllocError>
-    ensures ok { OnOk result (out.new.items ≡ out.old.items ++ flat_map variable_line (variables_of (P.form packet.now).value)) }
-    ensures err { OnErr result (Begins out.old.items out.new.items) }
+fn write_sent<P: AnyPacket>(packet: &P, page: &mut Page) -> Result<(), AllocError>
+    ensures ok { OnOk result (page.new ≡ page.old ++ flat_map variable_line (variables_of (P.form packet.now).value)) }
+    ensures err { OnErr result (Begins page.old page.new) }
 {
-    let mut sink = LineSink::open(out);
-    let sent = packet.send_body(&mut sink);
-    *out = sink.into_text();
-    sent
+    packet.send_body(page)
 }
 
 /// Appends the lines of what follows a packet's frame.
-fn write_body<P: AnyPacket>(packet: &P, out: &mut Vec<u8>) -> Result<(), AllocError>
-    ensures ok { OnOk result (out.new.items ≡ out.old.items ++ body_lines (P.form packet.now).value) }
-    ensures err { OnErr result (Begins out.old.items out.new.items) }
+fn write_body<P: AnyPacket>(packet: &P, page: &mut Page) -> Result<(), AllocError>
+    ensures ok { OnOk result (page.new ≡ page.old ++ body_lines (P.form packet.now).value) }
+    ensures err { OnErr result (Begins page.old page.new) }
 {
     match packet.kept_bits() {
-        Some(bits) => write_bits_line(Var::OTHER_DATA, &bits, out),
-        None => write_sent(packet, out),
+        Some(bits) => page.put_bits_line(Var::OTHER_DATA, &bits),
+        None => write_sent(packet, page),
     }
 }
 
 /// Appends the text of a packet.
-fn write_packet<P: AnyPacket>(packet: &P, out: &mut Vec<u8>) -> Result<(), AllocError>
-    ensures ok { OnOk result (out.new.items ≡ out.old.items ++ packet_text P.WAY (P.form packet.now).value) }
-    ensures err { OnErr result (Begins out.old.items out.new.items) }
+fn write_packet<P: AnyPacket>(packet: &P, page: &mut Page) -> Result<(), AllocError>
+    ensures ok { OnOk result (page.new ≡ page.old ++ packet_text P.WAY (P.form packet.now).value) }
+    ensures err { OnErr result (Begins page.old page.new) }
 {
-    write_number_line(packet.nid(), out)?;
-    write_frame(packet, out)?;
-    write_body(packet, out)
+    write_frame(packet, page)?;
+    write_body(packet, page)
 }
 
 /// Appends the texts of packets of either way, one after another: of each a line `packet` with its number, and a line for
@@ -161,13 +74,13 @@ fn write_packet<P: AnyPacket>(packet: &P, out: &mut Vec<u8>) -> Result<(), Alloc
 ///
 /// # Errors
 ///
-/// Where memory is refused. A part of the texts may then be in `out`, after what was there.
-pub fn write_packets<P: AnyPacket>(packets: &[P], out: &mut Vec<u8>) -> Result<(), AllocError>
-    ensures ok { OnOk result (out.new.items ≡ out.old.items ++ packets_text P.WAY (map (λ p. (P.form p).value) packets.now)) }
-    ensures err { OnErr result (Begins out.old.items out.new.items) }
+/// Where memory is refused. A part of the texts may then be in the page, after what was there.
+pub fn write_packets<P: AnyPacket>(packets: &[P], page: &mut Page) -> Result<(), AllocError>
+    ensures ok { OnOk result (page.new ≡ page.old ++ packets_text P.WAY (map (λ p. (P.form p).value) packets.now)) }
+    ensures err { OnErr result (Begins page.old page.new) }
 {
     for packet in packets {
-        write_packet(packet, out)?;
+        write_packet(packet, page)?;
     }
     Ok(())
 }

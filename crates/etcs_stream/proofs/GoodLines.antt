@@ -56,14 +56,18 @@ decoded_bytes line bytes h = sym (ap (λ (r : Result (List ℕ) FromHexError). r
 
 -- ---- One that isn't.
 
-pub bad_first : (line : List ℕ) (place : ℕ) → length line ≤ 4096 → (length line % 2 ≡ 1 → ⊥) → position (λ c. not (is_hex_digit c)) line ≡ Some place → bad_place line ≡ Some place
-bad_first line place short even h =
+not_false : (b : Bool) → (b ≡ false → ⊥) → b ≡ true
+not_false true h = refl
+not_false false h = absurd (h refl)
+
+bad_within : (line : List ℕ) → list_all is_hex_digit line ≡ false → ltb (other line) (length line) ≡ true
+bad_within line bad = not_false (ltb (other line) (length line)) (λ end.
+    let all : list_all is_hex_digit line ≡ true = list_all-from_AllPass is_hex_digit line (all_before line end) in
+    absurd cc)
+
+pub bad_first : (line : List ℕ) (place : ℕ) → length line ≤ 4096 → (length line % 2 ≡ 1 → ⊥) → list_all is_hex_digit line ≡ false → place ≡ other line → bad_place line ≡ Some place
+bad_first line place short even bad is =
     let fits : ltb 4096 (length line) ≡ false = grind (arith, nat_tests) in
     let whole : eqb (length line % 2) 1 ≡ false = grind (arith, nat_tests) in
-    rw (fits, whole) h
-
--- and has such a place
-pub never_none : (line : List ℕ) → list_all is_hex_digit line ≡ false → position (λ c. not (is_hex_digit c)) line ≡ None → ⊥
-never_none line bad h =
-    let all : list_all is_hex_digit line ≡ true = list_all-from_AllPass is_hex_digit line (all_before line (cond_none (ltb (other line) (length line)) (other line) None h).0) in
-    cc
+    let within : ltb (other line) (length line) ≡ true = bad_within line bad in
+    rw (fits, whole, within) (ap Some (sym is))

@@ -10,6 +10,7 @@ ghost use Rattle.etcs_stream.specs.Tellers.{Closes, IsGroupable, TellsItem, noth
 
 use crate::job::{Job, Tally};
 use crate::teller::Teller;
+use etcs_packet_text::inner::Page;
 use etcs_runs::RunFault;
 use etcs_runs::inner::MOST_READ;
 use etcs_telegram::Size;
@@ -79,9 +80,27 @@ impl ByteItems {
         ensures err { IfErr result (λ e. Halts self.old.job.kind self.old.job.command (seen_bits self.old.reader.progress) self.old.teller bytes.now text.old.items text.new.items e) }
         ensures said { OnErr result (Says self.old.job.command self.old.teller self.new.teller text.old.items text.new.items) }
     {
+        let mut page = Page::open(text);
+        let taken = self.take_items(bytes, &mut page);
+        *text = page.into_text();
+        taken
+    }
+
+    /// Takes bytes, and appends the text of each item that becomes whole to the page, as of [`ByteItems::take_bytes`].
+    fn take_items(&mut self, bytes: &[u8], page: &mut Page) -> Result<(), RunFault>
+        requires waits { Awaits self.old.job.kind self.old.reader }
+        requires told { self.old.teller.count ≤ 1000000 }
+        ensures job { self.new.job ≡ self.old.job }
+        ensures waits { OnOk result (Awaits self.old.job.kind self.new.reader) }
+        ensures told { OnOk result (self.new.teller.count ≤ 1000000) }
+        ensures room { HasRoom self.old.teller.count (seen_bits self.old.reader.progress) → OnOk result (HasRoom self.new.teller.count (seen_bits self.new.reader.progress)) }
+        ensures ok { OnOk result (Advances self.old.job.kind self.old.job.command (seen_bits self.old.reader.progress) (seen_bits self.new.reader.progress) self.old.teller self.new.teller bytes.now page.old page.new) }
+        ensures err { IfErr result (λ e. Halts self.old.job.kind self.old.job.command (seen_bits self.old.reader.progress) self.old.teller bytes.now page.old page.new e) }
+        ensures said { OnErr result (Says self.old.job.command self.old.teller self.new.teller page.old page.new) }
+    {
         let mut rest = bytes;
         while !rest.is_empty() {
-            let taken = self.take_front(rest, text)?;
+            let taken = self.take_front(rest, page)?;
             rest = &rest[taken..];
         }
         Ok(())
@@ -114,13 +133,13 @@ impl ByteItems {
 
     /// Takes bytes up to the end of an item, which it reports, or all of them, and says how many.
     #[inline(always)]
-    fn take_front(&mut self, bytes: &[u8], text: &mut Vec<u8>) -> Result<usize, RunFault>
+    fn take_front(&mut self, bytes: &[u8], page: &mut Page) -> Result<usize, RunFault>
         requires some { 0 < length bytes.now }
         requires waits { Awaits self.old.job.kind self.old.reader }
         requires told { self.old.teller.count ≤ 1000000 }
         ensures job { self.new.job ≡ self.old.job }
-        ensures ok { IfOk result (λ n. TakesFront self.old.job self.old.reader self.new.reader self.old.teller self.new.teller bytes.now text.old.items text.new.items n) }
-        ensures err { IfErr result (λ e. Halts self.old.job.kind self.old.job.command (seen_bits self.old.reader.progress) self.old.teller bytes.now text.old.items text.new.items e × Says self.old.job.command self.old.teller self.new.teller text.old.items text.new.items) }
+        ensures ok { IfOk result (λ n. TakesFront self.old.job self.old.reader self.new.reader self.old.teller self.new.teller bytes.now page.old page.new n) }
+        ensures err { IfErr result (λ e. Halts self.old.job.kind self.old.job.command (seen_bits self.old.reader.progress) self.old.teller bytes.now page.old page.new e × Says self.old.job.command self.old.teller self.new.teller page.old page.new) }
     {
         if self.teller.count() == MOST_ITEMS {
             return Err(RunFault::Endless);
@@ -128,7 +147,7 @@ impl ByteItems {
         match self.reader.feed(bytes) {
             Ok(Fed::More) => Ok(bytes.len()),
             Ok(Fed::Done { taken }) => {
-                self.tell(text)?;
+                self.tell(page)?;
                 Ok(taken)
             }
             Err(ReadFault::Refused { bit, var }) => Err(RunFault::Refused {
@@ -142,21 +161,21 @@ impl ByteItems {
     }
 
     /// Appends the text of the whole item, and begins the next.
-    fn tell(&mut self, text: &mut Vec<u8>) -> Result<(), RunFault>
+    fn tell(&mut self, page: &mut Page) -> Result<(), RunFault>
         requires kind { self.old.reader.kind ≡ self.old.job.kind }
         requires whole { (e : EntryValue) × (self.old.reader.progress ≡ finished e) × (entry_kind e ≡ self.old.job.kind) }
         requires told { self.old.teller.count < 1000000 }
         ensures job { self.new.job ≡ self.old.job }
         ensures next { OnOk result (self.new.reader ≡ record { kind = self.old.job.kind; progress = reading [] }) }
         ensures told { self.new.teller.count ≡ self.old.teller.count + 1 }
-        ensures ok { (e : EntryValue) → self.old.reader.progress ≡ finished e → OnOk result ((added : List ℕ) × TellsItem self.old.job.command e self.old.teller added self.new.teller × (text.new.items ≡ text.old.items ++ added)) }
-        ensures err { IfErr result (λ e. (e ≡ RunFault.Memory) × (text.new.items ≡ text.old.items)) }
+        ensures ok { (e : EntryValue) → self.old.reader.progress ≡ finished e → OnOk result ((added : List ℕ) × TellsItem self.old.job.command e self.old.teller added self.new.teller × (page.new ≡ page.old ++ added)) }
+        ensures err { IfErr result (λ e. (e ≡ RunFault.Memory) × (page.new ≡ page.old)) }
     {
         let entry = match self.reader.next() {
             Ok(entry) => entry,
             Err(()) => unreachable!(),
         };
-        match self.teller.tell(self.job.command, entry, text) {
+        match self.teller.tell(self.job.command, entry, page) {
             Ok(()) => Ok(()),
             Err(AllocError) => Err(RunFault::Memory),
         }

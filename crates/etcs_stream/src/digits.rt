@@ -1,7 +1,7 @@
 //! Hexadecimal lines.
 
 ghost use Rattle.std.specs.Prelude.{◌≡◌, ◌≤◌, None, Some, IfErr, IfOk, OnOk, not, length, take};
-ghost use Rattle.std.specs.List.{position};
+ghost use Rattle.std.specs.List.{position_or_len};
 ghost use Rattle.hex.specs.Hex.{is_hex_digit};
 ghost use Rattle.etcs_stream.specs.Lines.{bad_place, line_bytes};
 
@@ -10,11 +10,13 @@ use etcs_runs::inner::{decode, is_digit};
 /// How many characters a line may have.
 pub(crate) const MOST_CHARACTERS: usize = 4096;
 
-/// The place of the first character that is no digit.
-fn first_bad(line: &[u8]) -> Option<usize>
-    ensures { result ≡ position (λ c. not (is_hex_digit c)) line.now }
+/// The place of the first character that is no digit, or the end.
+fn first_bad(line: &[u8]) -> usize
+    ensures { result ≡ position_or_len (λ c. not (is_hex_digit c)) line.now }
 {
-    line.iter().position(|character| !is_digit(*character))
+    line.iter()
+        .take_while(|character| is_digit(**character))
+        .count()
 }
 
 /// Writes the bytes that a line says to the front of `buffer`, and says how many they are, or answers
@@ -36,8 +38,5 @@ pub(crate) fn decode_line(line: &[u8], buffer: &mut [u8]) -> Result<usize, usize
     if decode(line, &mut buffer[..count]) {
         return Ok(count);
     }
-    match first_bad(line) {
-        Some(place) => Err(place),
-        None => Err(count),
-    }
+    Err(first_bad(line))
 }

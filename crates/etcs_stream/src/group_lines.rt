@@ -10,9 +10,10 @@ ghost use Rattle.etcs_stream.specs.Groups.{LastLines, answer_line, answer_words,
 
 use etcs_group::inner::group;
 use etcs_group::{Added, Assembly, Clash, GroupFault};
-use etcs_packet_text::inner::{write_decimal, write_item_number, write_packets};
+use etcs_packet_text::inner::{Page, write_packets};
 use etcs_packets::Packet;
-use std::alloc::AllocError;
+use etcs_text::inner::write_item_number;
+use std::alloc::{AllocError, Global};
 
 /// Appends the line that says what the item of this number is to the group, or nothing.
 ///
@@ -22,15 +23,15 @@ use std::alloc::AllocError;
 pub(crate) fn answer_line(
     item: u64,
     answer: Result<Added, Clash>,
-    text: &mut Vec<u8>,
+    page: &mut Page,
 ) -> Result<(), AllocError>
-    ensures ok { OnOk result (text.new.items ≡ text.old.items ++ answer_line item answer) }
-    ensures err { OnErr result (text.new.items ≡ text.old.items) }
+    ensures ok { OnOk result (page.new ≡ page.old ++ answer_line item answer) }
+    ensures err { OnErr result (page.new ≡ page.old) }
 {
-    let len = text.len();
-    let written = write_answer(item, answer, text);
+    let len = page.len();
+    let written = write_answer(item, answer, page);
     if written.is_err() {
-        text.truncate(len);
+        page.cut(len);
     }
     written
 }
@@ -46,10 +47,13 @@ pub(crate) fn last_lines(assembly: &Assembly, text: &mut Vec<u8>) -> Result<(), 
     ensures err { OnErr result (text.new.items ≡ text.old.items) }
 {
     let len = text.len();
-    let written = write_last(assembly, text);
+    let alloc = *text.allocator();
+    let mut page = Page::open(text);
+    let written = write_last(alloc, assembly, &mut page);
     if written.is_err() {
-        text.truncate(len);
+        page.cut(len);
     }
+    *text = page.into_text();
     written
 }
 
@@ -69,65 +73,61 @@ fn name_of(clash: Clash) -> &'static str
 
 /// Appends the words of an answer.
 #[tactic(auto, using(etcs_packet_text::specs::laws::Fronts::begins_more))]
-fn write_words(answer: Result<Added, Clash>, text: &mut Vec<u8>) -> Result<(), AllocError>
-    ensures ok { OnOk result (text.new.items ≡ text.old.items ++ answer_words answer) }
-    ensures err { OnErr result (Begins text.old.items text.new.items) }
+fn write_words(answer: Result<Added, Clash>, page: &mut Page) -> Result<(), AllocError>
+    ensures ok { OnOk result (page.new ≡ page.old ++ answer_words answer) }
+    ensures err { OnErr result (Begins page.old page.new) }
 {
     match answer {
-        Ok(Added::New) => text.extend_from_slice(b"new"),
-        Ok(Added::Repeat) => text.extend_from_slice(b"repeat"),
+        Ok(Added::New) => page.put(b"new"),
+        Ok(Added::Repeat) => page.put(b"repeat"),
         Err(clash) => {
-            text.extend_from_slice(b"clash ")?;
-            text.extend_from_slice(name_of(clash).as_bytes())
+            page.put(b"clash ")?;
+            page.put(name_of(clash).as_bytes())
         }
     }
 }
 
 /// Appends the line of an answer.
 #[tactic(auto, using(etcs_packet_text::specs::laws::Fronts::begins_more))]
-fn write_answer(
-    item: u64,
-    answer: Result<Added, Clash>,
-    text: &mut Vec<u8>,
-) -> Result<(), AllocError>
-    ensures ok { OnOk result (text.new.items ≡ text.old.items ++ answer_line item answer) }
-    ensures err { OnErr result (Begins text.old.items text.new.items) }
+fn write_answer(item: u64, answer: Result<Added, Clash>, page: &mut Page) -> Result<(), AllocError>
+    ensures ok { OnOk result (page.new ≡ page.old ++ answer_line item answer) }
+    ensures err { OnErr result (Begins page.old page.new) }
 {
-    write_item_number(item, text)?;
-    text.extend_from_slice(b" ")?;
-    write_words(answer, text)?;
-    text.extend_from_slice(b"\n")
+    write_item_number(item, page)?;
+    page.put(b" ")?;
+    write_words(answer, page)?;
+    page.put(b"\n")
 }
 
 /// Appends a number after what comes before it.
 #[tactic(auto, using(etcs_packet_text::specs::laws::Fronts::begins_more))]
-fn write_number(front: &[u8], number: u64, text: &mut Vec<u8>) -> Result<(), AllocError>
-    ensures ok { OnOk result (text.new.items ≡ text.old.items ++ (front.now ++ decimal number)) }
-    ensures err { OnErr result (Begins text.old.items text.new.items) }
+fn write_number(front: &[u8], number: u64, page: &mut Page) -> Result<(), AllocError>
+    ensures ok { OnOk result (page.new ≡ page.old ++ (front.now ++ decimal number)) }
+    ensures err { OnErr result (Begins page.old page.new) }
 {
-    text.extend_from_slice(front)?;
-    write_decimal(number, text)
+    page.put(front)?;
+    page.put_decimal(number)
 }
 
 /// Appends NID_C and NID_BG of a group.
 #[tactic(auto, using(etcs_packet_text::specs::laws::Fronts::begins_more))]
-fn write_group(country: u16, group: u16, text: &mut Vec<u8>) -> Result<(), AllocError>
-    ensures ok { OnOk result (text.new.items ≡ text.old.items ++ group_front country group) }
-    ensures err { OnErr result (Begins text.old.items text.new.items) }
+fn write_group(country: u16, group: u16, page: &mut Page) -> Result<(), AllocError>
+    ensures ok { OnOk result (page.new ≡ page.old ++ group_front country group) }
+    ensures err { OnErr result (Begins page.old page.new) }
 {
-    write_number(b"group ", country as u64, text)?;
-    write_number(b" ", group as u64, text)
+    write_number(b"group ", country as u64, page)?;
+    write_number(b" ", group as u64, page)
 }
 
 /// Appends the positions that are missing, each after a blank.
 #[tactic(auto, using(etcs_packet_text::specs::laws::Fronts::begins_more))]
-fn write_missing(missing: &[bool; 8], text: &mut Vec<u8>) -> Result<(), AllocError>
-    ensures ok { OnOk result (text.new.items ≡ text.old.items ++ positions_text (trues 8 missing.now)) }
-    ensures err { OnErr result (Begins text.old.items text.new.items) }
+fn write_missing(missing: &[bool; 8], page: &mut Page) -> Result<(), AllocError>
+    ensures ok { OnOk result (page.new ≡ page.old ++ positions_text (trues 8 missing.now)) }
+    ensures err { OnErr result (Begins page.old page.new) }
 {
     for position in 0..8 {
         if missing[position] {
-            write_number(b" ", position as u64, text)?;
+            write_number(b" ", position as u64, page)?;
         }
     }
     Ok(())
@@ -135,38 +135,38 @@ fn write_missing(missing: &[bool; 8], text: &mut Vec<u8>) -> Result<(), AllocErr
 
 /// Appends the end of the line of a whole group, and the packets of its message.
 #[tactic(auto, using(etcs_packet_text::specs::laws::Fronts::begins_more))]
-fn write_complete(packets: &[Packet], text: &mut Vec<u8>) -> Result<(), AllocError>
-    ensures ok { OnOk result (text.new.items ≡ text.old.items ++ (codes " complete\n" ++ packets_text ToTrain (map packet_value packets.now))) }
-    ensures err { OnErr result (Begins text.old.items text.new.items) }
+fn write_complete(packets: &[Packet], page: &mut Page) -> Result<(), AllocError>
+    ensures ok { OnOk result (page.new ≡ page.old ++ (codes " complete\n" ++ packets_text ToTrain (map packet_value packets.now))) }
+    ensures err { OnErr result (Begins page.old page.new) }
 {
-    text.extend_from_slice(b" complete\n")?;
-    write_packets(packets, text)
+    page.put(b" complete\n")?;
+    write_packets(packets, page)
 }
 
 /// Appends the end of the line of a group that isn't whole.
 #[tactic(auto, using(etcs_packet_text::specs::laws::Fronts::begins_more))]
-fn write_lacking(missing: &[bool; 8], text: &mut Vec<u8>) -> Result<(), AllocError>
-    ensures ok { OnOk result (text.new.items ≡ text.old.items ++ (codes " missing" ++ positions_text (trues 8 missing.now) ++ codes "\n")) }
-    ensures err { OnErr result (Begins text.old.items text.new.items) }
+fn write_lacking(missing: &[bool; 8], page: &mut Page) -> Result<(), AllocError>
+    ensures ok { OnOk result (page.new ≡ page.old ++ (codes " missing" ++ positions_text (trues 8 missing.now) ++ codes "\n")) }
+    ensures err { OnErr result (Begins page.old page.new) }
 {
-    text.extend_from_slice(b" missing")?;
-    write_missing(missing, text)?;
-    text.extend_from_slice(b"\n")
+    page.put(b" missing")?;
+    write_missing(missing, page)?;
+    page.put(b"\n")
 }
 
 /// Appends the last lines.
 #[tactic(auto, using(etcs_packet_text::specs::laws::Fronts::begins_more))]
-fn write_last(assembly: &Assembly, text: &mut Vec<u8>) -> Result<(), AllocError>
-    ensures ok { OnOk result ((last : List ℕ) × LastLines assembly.now last × (text.new.items ≡ text.old.items ++ last)) }
-    ensures err { OnErr result (Begins text.old.items text.new.items) }
+fn write_last(alloc: Global, assembly: &Assembly, page: &mut Page) -> Result<(), AllocError>
+    ensures ok { OnOk result ((last : List ℕ) × LastLines assembly.now last × (page.new ≡ page.old ++ last)) }
+    ensures err { OnErr result (Begins page.old page.new) }
 {
     let Some((country, group)) = group(assembly) else {
-        return text.extend_from_slice(b"group empty\n");
+        return page.put(b"group empty\n");
     };
-    write_group(country, group, text)?;
-    match assembly.message(*text.allocator()) {
-        Ok(packets) => write_complete(packets.as_slice(), text),
-        Err(GroupFault::NotWhole) => write_lacking(&assembly.missing(), text),
+    write_group(country, group, page)?;
+    match assembly.message(alloc) {
+        Ok(packets) => write_complete(packets.as_slice(), page),
+        Err(GroupFault::NotWhole) => write_lacking(&assembly.missing(), page),
         Err(GroupFault::Memory) => Err(AllocError),
     }
 }

@@ -17,13 +17,11 @@ use crate::byte_items::MOST_ITEMS;
 use crate::job::{Job, Tally};
 use crate::teller::Teller;
 use etcs_json::{JsonFault, from_line};
-use etcs_runs::RunFault;
+use etcs_packet_text::inner::Page;
 use etcs_runs::inner::LineHandler;
+use etcs_runs::{MOST_LINE, RunFault};
 use etcs_text::Entry;
 use std::alloc::{AllocError, Global};
-
-/// How many bytes a line has at most.
-const MOST_BYTES: usize = 1_048_576;
 
 /// Reports the items of lines of JSON.
 #[derive(Drop)]
@@ -62,7 +60,7 @@ impl JsonLines {
         ensures ok { IfOk result (λ e. IsItemLine self.now.job.kind line.now (entry_value e)) }
         ensures err { IfErr result (λ e. HaltsJson self.now.job line.now number self.now.teller e) }
     {
-        if line.len() > MOST_BYTES {
+        if line.len() > MOST_LINE {
             return Err(RunFault::BadJson { line: number });
         }
         match from_line(self.alloc, self.job.kind, line) {
@@ -96,7 +94,10 @@ impl JsonLines {
             return Err(RunFault::Endless);
         }
         let entry = self.entry_in(line, number)?;
-        match self.teller.tell(self.job.command, entry, text) {
+        let mut page = Page::open(text);
+        let told = self.teller.tell(self.job.command, entry, &mut page);
+        *text = page.into_text();
+        match told {
             Ok(()) => Ok(()),
             Err(AllocError) => Err(RunFault::Memory),
         }
@@ -130,7 +131,7 @@ impl LineHandler for JsonLines {
     ghost said = { λ s told. Says s.job.command nothing_told s.teller [] told };
 
     fn most(&self) -> usize {
-        MOST_BYTES
+        MOST_LINE
     }
 
     fn handle_line(

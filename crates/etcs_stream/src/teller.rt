@@ -1,9 +1,11 @@
 //! What is written of the items, and after the last of them.
 
-ghost use Rattle.std.specs.Prelude.{◌≡◌, ◌+◌, ◌<◌, ◌++◌, ℕ, List, Ok, Err, IfOk, OnErr, OnOk};
+ghost use Rattle.std.specs.Prelude.{◌≡◌, ◌+◌, ◌<◌, ◌++◌, ◌∷◌, [], ℕ, List, Ok, Err, IfOk, OnErr, OnOk};
 ghost use Rattle.etcs_telegram.specs.Telegrams.{IsTelegram};
 ghost use Rattle.etcs_group.specs.Groups.{HeldAfter, IsGroup};
+ghost use Rattle.etcs_text.specs.Encodings.{IsEncoded};
 ghost use Rattle.etcs_text.specs.Entries.{entry_kind, entry_value};
+ghost use Rattle.hex.specs.Hex.{encode_upper};
 ghost use Rattle.etcs_stream.specs.Groups.{Answers, clashes_with};
 ghost use Rattle.etcs_stream.specs.Told.{Told};
 ghost use Rattle.etcs_text.specs.Kinds.{IsOfTelegrams};
@@ -12,9 +14,11 @@ ghost use Rattle.etcs_stream.specs.Tellers.{Closes, TellsItem, nothing_told, one
 use crate::group_lines::{answer_line, last_lines};
 use crate::job::{Command, Tally};
 use etcs_group::{Added, Assembly, Clash};
+use etcs_packet_text::inner::Page;
 use etcs_runs::Form;
 use etcs_telegram::Telegram;
-use etcs_text::{Entry, check_line, encoded, hex_line, json_line, show_lines};
+use etcs_text::inner::{check_on, json_on, show_on};
+use etcs_text::{Entry, encoded, hex_line};
 use std::alloc::AllocError;
 use std::marker::Model;
 
@@ -65,19 +69,19 @@ impl Teller {
         &mut self,
         command: Command,
         entry: Entry,
-        text: &mut Vec<u8>,
+        page: &mut Page,
     ) -> Result<(), AllocError>
         requires few { self.old.count < 1000000 }
         requires grouped { command ≡ Command.Group → IsOfTelegrams (entry_kind (entry_value entry)) }
         ensures count { self.new.count ≡ self.old.count + 1 }
-        ensures ok { OnOk result ((added : List ℕ) × TellsItem command (entry_value entry) self.old added self.new × (text.new.items ≡ text.old.items ++ added)) }
-        ensures err { OnErr result (text.new.items ≡ text.old.items) }
+        ensures ok { OnOk result ((added : List ℕ) × TellsItem command (entry_value entry) self.old added self.new × (page.new ≡ page.old ++ added)) }
+        ensures err { OnErr result (page.new ≡ page.old) }
     {
         if command == Command::Group {
-            return self.tell_grouped(entry, text);
+            return self.tell_grouped(entry, page);
         }
         self.count += 1;
-        tell_alone(command, &entry, self.count, text)
+        tell_alone(command, &entry, self.count, page)
     }
 
     /// Appends what the command writes at the end of the input, or nothing, and says what the run met.
@@ -113,18 +117,18 @@ impl Teller {
     }
 
     /// Appends the line that says what a telegram is to the group, or nothing.
-    fn tell_grouped(&mut self, entry: Entry, text: &mut Vec<u8>) -> Result<(), AllocError>
+    fn tell_grouped(&mut self, entry: Entry, page: &mut Page) -> Result<(), AllocError>
         requires few { self.old.count < 1000000 }
         requires grouped { IsOfTelegrams (entry_kind (entry_value entry)) }
         ensures count { self.new.count ≡ self.old.count + 1 }
-        ensures ok { OnOk result ((added : List ℕ) × TellsItem Command.Group (entry_value entry) self.old added self.new × (text.new.items ≡ text.old.items ++ added)) }
-        ensures err { OnErr result (text.new.items ≡ text.old.items) }
+        ensures ok { OnOk result ((added : List ℕ) × TellsItem Command.Group (entry_value entry) self.old added self.new × (page.new ≡ page.old ++ added)) }
+        ensures err { OnErr result (page.new ≡ page.old) }
     {
         let answer = match entry {
             Entry::Telegram(telegram) => self.add(telegram),
             Entry::Message(_) | Entry::Train(_) => unreachable!(),
         };
-        answer_line(self.count, answer, text)
+        answer_line(self.count, answer, page)
     }
 
     /// Counts a telegram, and holds it where it fits those that are held.
@@ -149,22 +153,39 @@ impl Teller {
 }
 
 /// Appends what a command writes of an item by itself, or nothing.
-fn tell_alone(
-    command: Command,
-    entry: &Entry,
-    item: u64,
-    text: &mut Vec<u8>,
-) -> Result<(), AllocError>
+fn tell_alone(command: Command, entry: &Entry, item: u64, page: &mut Page) -> Result<(), AllocError>
     requires { command ≡ Command.Group → ⊥ }
-    ensures ok { (s : Told) → item ≡ s.count + 1 → OnOk result ((added : List ℕ) × TellsItem command (entry_value entry.now) s added (one_more s) × (text.new.items ≡ text.old.items ++ added)) }
-    ensures err { OnErr result (text.new.items ≡ text.old.items) }
+    ensures ok { (s : Told) → item ≡ s.count + 1 → OnOk result ((added : List ℕ) × TellsItem command (entry_value entry.now) s added (one_more s) × (page.new ≡ page.old ++ added)) }
+    ensures err { OnErr result (page.new ≡ page.old) }
 {
     match command {
-        Command::Show => show_lines(entry, item, text),
-        Command::Check => check_line(entry, item, text),
-        Command::Convert(Form::Hex) => hex_line(entry, text),
-        Command::Convert(Form::Bin) => encoded(entry, text),
-        Command::Convert(Form::Json) => json_line(entry, text),
+        Command::Show => show_on(entry, item, page),
+        Command::Check => check_on(entry, item, page),
+        Command::Convert(Form::Json) => json_on(entry, page),
+        Command::Convert(Form::Hex) => hex_on(entry, page),
+        Command::Convert(Form::Bin) => encoded_on(entry, page),
         Command::Group => unreachable!(),
     }
+}
+
+/// Appends the entry's encoding in digits and a LF to a page, or nothing.
+fn hex_on(entry: &Entry, page: &mut Page) -> Result<(), AllocError>
+    ensures ok { OnOk result ((bytes : List ℕ) × IsEncoded (entry_value entry.now) bytes × (page.new ≡ page.old ++ (encode_upper bytes ++ 10 ∷ []))) }
+    ensures err { OnErr result (page.new ≡ page.old) }
+{
+    let mut text = page.take_text();
+    let written = hex_line(entry, &mut text);
+    *page = Page::after(text);
+    written
+}
+
+/// Appends the entry's encoding to a page, or nothing.
+fn encoded_on(entry: &Entry, page: &mut Page) -> Result<(), AllocError>
+    ensures ok { OnOk result ((added : List ℕ) × IsEncoded (entry_value entry.now) added × (page.new ≡ page.old ++ added)) }
+    ensures err { OnErr result (page.new ≡ page.old) }
+{
+    let mut text = page.take_text();
+    let written = encoded(entry, &mut text);
+    *page = Page::after(text);
+    written
 }

@@ -1,5 +1,5 @@
 -- The items of a kind: their languages.
-use Rattle.std.proofs.Common.{◌≡◌, ℕ, ◌+◌, ◌<◌, length, ap, refl, subst, sym, arith}
+use Rattle.std.proofs.Common.{◌≡◌, ◌+◌, ◌<◌, length, ap, refl, subst, sym, arith}
 use Rattle.etcs_vars.specs.Reading.{Reading, spelled, readings_of}
 use Rattle.etcs_vars.proofs.Languages.{Same}
 use Rattle.etcs_vars.proofs.Walk.{Regular}

@@ -1,4 +1,3 @@
-pub mod AcceptedLines
 pub mod Encoding
 pub mod ItemKinds
 pub mod JsonExamples

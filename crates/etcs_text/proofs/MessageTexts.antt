@@ -1,7 +1,6 @@
 -- The text of a message, part by part.
 use Rattle.std.proofs.Common.{◌≡◌, ℕ, ◌+◌, List, ◌++◌, flat_map, Result, Ok, Err, refl, ap, ◌∙◌, arith, append_assoc}
-use Rattle.std.specs.Prelude.{◌-◌, OnOk}
-use Rattle.etcs_bits.specs.Bits.{bits}
+use Rattle.std.specs.Prelude.{OnOk}
 use Rattle.etcs_bits.proofs.Numbers.{length-num}
 use Rattle.etcs_vars.specs.Reading.{Reading}
 use Rattle.etcs_tables.specs.declared.row.Way.{Way}

@@ -34,10 +34,8 @@ telegram_is Long header packets fill =
 
 -- ---- Messages.
 
-regrouped : (x b y c rest : List ℕ) → (x ++ (b ++ (y ++ c))) ++ rest ≡ x ++ (b ++ (y ++ (c ++ rest)))
-regrouped x b y c rest =
-    append_assoc x (b ++ (y ++ c)) rest
-    ∙ ap (λ (z : List ℕ). x ++ z) (append_assoc b (y ++ c) rest ∙ ap (λ (z : List ℕ). b ++ z) (append_assoc y c rest))
+regrouped : (x b y rest : List ℕ) → (x ++ (b ++ y)) ++ rest ≡ x ++ (b ++ (y ++ rest))
+regrouped x b y rest = append_assoc x (b ++ y) rest ∙ ap (λ (z : List ℕ). x ++ z) (append_assoc b y rest)
 
 -- the kind of messages of a way
 way_is : (way : Way) (rest : List ℕ) → way_member way ++ rest ≡ codes ",\"kind\":" ++ (quoted (way_word way) ++ (codes ",\"nid\":" ++ rest))
@@ -45,15 +43,21 @@ unfolding escape_byte
 way_is ToTrain rest = refl
 way_is ToTrack rest = refl
 
-typed_text : (way : Way) (nid : ℕ) (head body : Reading) (vs : List PacketValue) (padding : List Bool) → message_front way body head ++ (decimal nid ++ message_behind way vs padding) ≡ compact_text (message_tree way (typed_message nid head body vs padding))
+-- the number of a message, and the names around it
+abbrev pub number_between : Way → ℕ → List ℕ
+number_between way nid = way_member way ++ (decimal nid ++ codes ",\"packets\":")
+
+typed_text : (way : Way) (nid : ℕ) (head body : Reading) (vs : List PacketValue) (padding : List Bool) → message_front body head ++ (number_between way nid ++ message_behind way vs padding) ≡ compact_text (message_tree way (typed_message nid head body vs padding))
 unfolding escape_byte
 typed_text way nid head body vs padding =
     let x = compact_text (pairs_tree body) in
     let y = compact_text (pairs_tree head) in
     let p = compact_text (packets_tree way vs) in
     let n = decimal nid in
-    let rest = n ++ message_behind way vs padding in
-    ap (λ (z : List ℕ). codes "{\"fields\":" ++ z) (regrouped x (codes ",\"header\":") y (way_member way) rest)
+    let behind = message_behind way vs padding in
+    let rest = n ++ (codes ",\"packets\":" ++ behind) in
+    ap (λ (z : List ℕ). codes "{\"fields\":" ++ z) (regrouped x (codes ",\"header\":") y (number_between way nid ++ behind))
+    ∙ ap (λ (z : List ℕ). codes "{\"fields\":" ++ (x ++ (codes ",\"header\":" ++ (y ++ z)))) (regrouped (way_member way) n (codes ",\"packets\":") behind)
     ∙ ap (λ (z : List ℕ). codes "{\"fields\":" ++ (x ++ (codes ",\"header\":" ++ (y ++ z)))) (way_is way rest)
     ∙ ap (λ (z : List ℕ). codes "{\"fields\":" ++ (x ++ (codes ",\"header\":" ++ (y ++ (codes ",\"kind\":" ++ (quoted (way_word way) ++ (codes ",\"nid\":" ++ (n ++ (codes ",\"packets\":" ++ (p ++ (codes ",\"padding\":" ++ z)))))))))))
     (sym (quoted_bits padding (codes "}")))
@@ -67,14 +71,14 @@ kept_text way nid b =
 
 module _ {H B P : Type 0} (way : Way) (k : HeadOf H) (o : OwnOf B) (form : P → Form) where
   -- a typed message around its number
-  pub typed_is : (m : Content H B P) (head : H) (body : B) → head_of m ≡ Some head → body_of m ≡ Some body → message_front way (o.reading body) (k.reading head) ++ (decimal (nid_of_message o m) ++ message_behind way (values_of form (packets_of m)) (num (padding_bits_of way o form m) (padding_of m))) ≡ compact_text (message_tree way (message_value way k o form m))
+  pub typed_is : (m : Content H B P) (head : H) (body : B) → head_of m ≡ Some head → body_of m ≡ Some body → message_front (o.reading body) (k.reading head) ++ (number_between way (nid_of_message o m) ++ message_behind way (values_of form (packets_of m)) (num (padding_bits_of way o form m) (padding_of m))) ≡ compact_text (message_tree way (message_value way k o form m))
   typed_is (Typed head body ps padding) h b e g =
       let m = Typed head body ps padding in
       let same_head : h ≡ head = cc in
       let same_body : b ≡ body = cc in
       let vs = values_of form ps in
       let bits = num (padding_bits_of way o form m) padding in
-      (λ i. message_front way (o.reading (same_body i)) (k.reading (same_head i)) ++ (decimal (o.nid body) ++ message_behind way vs bits))
+      (λ i. message_front (o.reading (same_body i)) (k.reading (same_head i)) ++ (number_between way (o.nid body) ++ message_behind way vs bits))
       ∙ typed_text way (o.nid body) (k.reading head) (o.reading body) vs bits
   typed_is (Kept nid bits) h b e g = absurd cc
 

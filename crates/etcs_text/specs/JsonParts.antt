@@ -23,10 +23,10 @@ telegram_text t = codes "{\"fill\":\"" ++ (map bit_digit t.fill ++ (codes "\",\"
 abbrev pub way_member : Way → List ℕ
 way_member way = codes ",\"kind\":\"" ++ (way_word way ++ codes "\",\"nid\":")
 
--- what is in a typed message before its number: its own variables, and those of the header
-abbrev pub message_front : Way → Reading → Reading → List ℕ
-message_front way body head = codes "{\"fields\":" ++ (compact_text (pairs_tree body) ++ (codes ",\"header\":" ++ (compact_text (pairs_tree head) ++ way_member way)))
+-- what is in a typed message before its kind: its own variables, and those of the header
+abbrev pub message_front : Reading → Reading → List ℕ
+message_front body head = codes "{\"fields\":" ++ (compact_text (pairs_tree body) ++ (codes ",\"header\":" ++ compact_text (pairs_tree head)))
 
--- what follows it: the packets, and PADDING
+-- what follows the name of its packets: these, and PADDING
 abbrev pub message_behind : Way → List PacketValue → List Bool → List ℕ
-message_behind way vs padding = codes ",\"packets\":" ++ (compact_text (packets_tree way vs) ++ (codes ",\"padding\":\"" ++ (map bit_digit padding ++ codes "\"}")))
+message_behind way vs padding = compact_text (packets_tree way vs) ++ (codes ",\"padding\":\"" ++ (map bit_digit padding ++ codes "\"}"))

@@ -1,57 +1,42 @@
 //! The encoding of an item, and the line that says that it was accepted.
 
-ghost use Rattle.std.specs.Prelude.{◌≡◌, ◌++◌, ◌<◌, ◌∷◌, All, ℕ, List, [], OnErr, OnOk, codes};
-ghost use Rattle.std.specs.Fmt.{decimal};
+ghost use Rattle.std.specs.Prelude.{◌≡◌, ◌++◌, ◌<◌, ◌∷◌, All, ℕ, List, [], OnErr, OnOk};
 ghost use Rattle.hex.specs.Hex.{encode_upper};
 ghost use Rattle.etcs_messages.specs.Messages.{message_value};
-ghost use Rattle.etcs_telegram.specs.Telegrams.{telegram_value, user_bits};
-ghost use Rattle.etcs_packet_text.specs.Fronts.{Begins};
-ghost use Rattle.etcs_text.specs.Entries.{entry_value, of_message, of_telegram};
+ghost use Rattle.etcs_telegram.specs.Telegrams.{telegram_value};
+ghost use Rattle.etcs_text.specs.Entries.{entry_bits, entry_value, of_message, of_telegram};
 ghost use Rattle.etcs_text.specs.Encodings.{IsEncoded, check_line};
-ghost use Rattle.etcs_text.specs.Messages.{message_bits};
 
 use crate::entry::Entry;
 use crate::messages::message_bits;
 use etcs_messages::{Head, MessageOf, Own};
-use etcs_packet_text::inner::{to_digits, write_decimal, write_item_number};
+use etcs_packet_text::inner::{Page, to_digits};
 use etcs_packets::inner::AnyPacket;
-use etcs_telegram::{Size, Telegram};
+use etcs_telegram::Telegram;
 use std::alloc::AllocError;
 
-/// What follows the number in the line that says that a telegram was accepted.
-fn accepted(size: Size) -> &'static [u8]
-    ensures { result.now ≡ codes " ok " ++ decimal (user_bits size) ++ codes " bits\n" }
+/// How many bits an entry has, of a telegram user bits.
+fn entry_bits(entry: &Entry) -> usize
+    ensures { result ≡ entry_bits (entry_value entry.now) }
 {
-    match size {
-        Size::Short => b" ok 210 bits\n",
-        Size::Long => b" ok 830 bits\n",
-    }
-}
-
-/// Appends what follows the number in the line that says that a message was accepted.
-fn write_accepted<H: Head, B: Own<Front = H>>(
-    message: &MessageOf<H, B>,
-    out: &mut Vec<u8>,
-) -> Result<(), AllocError>
-    ensures ok { OnOk result (out.new.items ≡ out.old.items ++ (codes " ok " ++ decimal (message_bits H.Packet.WAY (message_value H.Packet.WAY H.head B.own H.Packet.form message.now)) ++ codes " bits\n")) }
-    ensures err { OnErr result (Begins out.old.items out.new.items) }
-{
-    out.extend_from_slice(b" ok ")?;
-    write_decimal(message_bits(message) as u64, out)?;
-    out.extend_from_slice(b" bits\n")
-}
-
-/// Appends the line that says that an item was accepted.
-fn write_check(entry: &Entry, item: u64, out: &mut Vec<u8>) -> Result<(), AllocError>
-    ensures ok { OnOk result (out.new.items ≡ out.old.items ++ check_line (entry_value entry.now) item) }
-    ensures err { OnErr result (Begins out.old.items out.new.items) }
-{
-    write_item_number(item, out)?;
     match entry {
-        Entry::Telegram(telegram) => out.extend_from_slice(accepted(telegram.size())),
-        Entry::Message(message) => write_accepted(message, out),
-        Entry::Train(message) => write_accepted(message, out),
+        Entry::Telegram(telegram) => telegram.size().user_bits(),
+        Entry::Message(message) => message_bits(message),
+        Entry::Train(message) => message_bits(message),
     }
+}
+
+/// Appends to a page the line that says that an entry was accepted, as [`check_line`].
+///
+/// # Errors
+///
+/// Where memory is refused. The page is then as before.
+#[inline]
+pub fn check_on(entry: &Entry, item: u64, page: &mut Page) -> Result<(), AllocError>
+    ensures ok { OnOk result (page.new ≡ page.old ++ check_line (entry_value entry.now) item) }
+    ensures err { OnErr result (page.new ≡ page.old) }
+{
+    page.put_checked(item, entry_bits(entry) as u64)
 }
 
 /// Appends the line that says that an entry, the item of this number, was accepted: `item`, the number, `ok` and how many
@@ -64,12 +49,10 @@ pub fn check_line(entry: &Entry, item: u64, out: &mut Vec<u8>) -> Result<(), All
     ensures ok { OnOk result (out.new.items ≡ out.old.items ++ check_line (entry_value entry.now) item) }
     ensures err { OnErr result (out.new.items ≡ out.old.items) }
 {
-    let len = out.len();
-    let told = write_check(entry, item, out);
-    if told.is_err() {
-        out.truncate(len);
-    }
-    told
+    let mut page = Page::open(out);
+    let written = check_on(entry, item, &mut page);
+    *out = page.into_text();
+    written
 }
 
 /// For callers: each byte is below 256.

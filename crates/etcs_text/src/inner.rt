@@ -1,3 +1,6 @@
-//! For the crates above: parts of JSON.
+//! For the crates above: items on a page, and parts of JSON.
 
-pub use crate::json_lines::{kind_member, way_member};
+pub use crate::encodings::check_on;
+pub use crate::item_lines::write_item_number;
+pub use crate::json_lines::{json_on, kind_member, way_member};
+pub use crate::show::show_on;

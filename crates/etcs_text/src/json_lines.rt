@@ -15,8 +15,8 @@ ghost use Rattle.etcs_text.specs.Trees.{json_tree, message_tree, telegram_tree};
 use crate::entry::Entry;
 use etcs_bits::BitSlice;
 use etcs_messages::{Head, MessageOf, Own};
-use etcs_packet_text::inner::json_text::{write_packets, write_variables};
-use etcs_packet_text::inner::{write_bits, write_decimal, write_decimal_and, write_slice};
+use etcs_packet_text::inner::Page;
+use etcs_packet_text::inner::json_text::{JsonPage, write_packets, write_variables};
 use etcs_packets::inner::AnyPacket;
 use etcs_tables::Way;
 use etcs_telegram::{Size, Telegram};
@@ -34,20 +34,20 @@ pub fn kind_member(size: Size) -> &'static [u8]
 }
 
 /// Appends a telegram.
-fn write_telegram(telegram: &Telegram, out: &mut Vec<u8>) -> Result<(), AllocError>
-    ensures ok { OnOk result (out.new.items ≡ out.old.items ++ compact_text (telegram_tree (telegram_value telegram.now))) }
-    ensures err { OnErr result (Begins out.old.items out.new.items) }
+fn write_telegram(telegram: &Telegram, page: &mut JsonPage) -> Result<(), AllocError>
+    ensures ok { OnOk result (page.new.0 ≡ page.old.0 ++ compact_text (telegram_tree (telegram_value telegram.now))) }
+    ensures err { OnErr result (Begins page.old.0 page.new.0) }
 {
-    out.extend_from_slice(b"{\"fill\":\"")?;
-    write_slice(&telegram.fill(), out)?;
-    out.extend_from_slice(b"\",\"header\":")?;
-    write_variables(telegram.header(), out)?;
-    out.extend_from_slice(kind_member(telegram.size()))?;
-    write_packets(telegram.packets(), out)?;
-    out.extend_from_slice(b"}")
+    page.put(b"{\"fill\":\"")?;
+    page.put_slice(&telegram.fill())?;
+    page.put(b"\",\"header\":")?;
+    write_variables(telegram.header(), page)?;
+    page.put(kind_member(telegram.size()))?;
+    write_packets(telegram.packets(), page)?;
+    page.put(b"}")
 }
 
-/// The kind of the messages of a way, and the name of their number.
+/// What is in a message of a way in front of its number: its kind, and the number's name.
 #[inline(always)]
 pub fn way_member(way: Way) -> &'static [u8]
     ensures { result.now ≡ way_member way }
@@ -61,44 +61,42 @@ pub fn way_member(way: Way) -> &'static [u8]
 /// Appends the digits of PADDING.
 fn write_padding<H: Head, B: Own<Front = H>>(
     message: &MessageOf<H, B>,
-    out: &mut Vec<u8>,
+    page: &mut JsonPage,
 ) -> Result<(), AllocError>
-    ensures ok { OnOk result (out.new.items ≡ out.old.items ++ map bit_digit (num (padding_bits_of H.Packet.WAY B.own H.Packet.form message.now) (padding_of message.now))) }
-    ensures err { OnErr result (Begins out.old.items out.new.items) }
+    ensures ok { OnOk result (page.new.0 ≡ page.old.0 ++ map bit_digit (num (padding_bits_of H.Packet.WAY B.own H.Packet.form message.now) (padding_of message.now))) }
+    ensures err { OnErr result (Begins page.old.0 page.new.0) }
 {
     let (count, number) = message.padding();
-    write_bits(u64::from(number), count, out)
+    page.put_bits(u64::from(number), count)
 }
 
-/// Appends the members of a typed message in front of its number.
+/// Appends the variables of a typed message.
 fn write_front<H: Head, B: Own<Front = H>>(
     head: &H,
     body: &B,
-    out: &mut Vec<u8>,
+    page: &mut JsonPage,
 ) -> Result<(), AllocError>
-    ensures ok { OnOk result (out.new.items ≡ out.old.items ++ message_front H.Packet.WAY (B.reading_of body.now) (H.reading_of head.now)) }
-    ensures err { OnErr result (Begins out.old.items out.new.items) }
+    ensures ok { OnOk result (page.new.0 ≡ page.old.0 ++ message_front (B.reading_of body.now) (H.reading_of head.now)) }
+    ensures err { OnErr result (Begins page.old.0 page.new.0) }
 {
-    out.extend_from_slice(b"{\"fields\":")?;
-    write_variables(body, out)?;
-    out.extend_from_slice(b",\"header\":")?;
-    write_variables(head, out)?;
-    out.extend_from_slice(way_member(H::Packet::WAY))
+    page.put(b"{\"fields\":")?;
+    write_variables(body, page)?;
+    page.put(b",\"header\":")?;
+    write_variables(head, page)
 }
 
-/// Appends the members of a typed message after its number.
+/// Appends the packets of a typed message and what is after them.
 fn write_behind<H: Head, B: Own<Front = H>>(
     message: &MessageOf<H, B>,
-    out: &mut Vec<u8>,
+    page: &mut JsonPage,
 ) -> Result<(), AllocError>
-    ensures ok { OnOk result (out.new.items ≡ out.old.items ++ message_behind H.Packet.WAY (values_of H.Packet.form (packets_of message.now)) (num (padding_bits_of H.Packet.WAY B.own H.Packet.form message.now) (padding_of message.now))) }
-    ensures err { OnErr result (Begins out.old.items out.new.items) }
+    ensures ok { OnOk result (page.new.0 ≡ page.old.0 ++ message_behind H.Packet.WAY (values_of H.Packet.form (packets_of message.now)) (num (padding_bits_of H.Packet.WAY B.own H.Packet.form message.now) (padding_of message.now))) }
+    ensures err { OnErr result (Begins page.old.0 page.new.0) }
 {
-    out.extend_from_slice(b",\"packets\":")?;
-    write_packets(message.packets(), out)?;
-    out.extend_from_slice(b",\"padding\":\"")?;
-    write_padding(message, out)?;
-    out.extend_from_slice(b"\"}")
+    write_packets(message.packets(), page)?;
+    page.put(b",\"padding\":\"")?;
+    write_padding(message, page)?;
+    page.put(b"\"}")
 }
 
 /// Appends a typed message, whose head and body these are.
@@ -106,69 +104,91 @@ fn write_typed<H: Head, B: Own<Front = H>>(
     message: &MessageOf<H, B>,
     head: &H,
     body: &B,
-    out: &mut Vec<u8>,
+    page: &mut JsonPage,
 ) -> Result<(), AllocError>
     requires head { head_of message.now ≡ Some head.now }
     requires body { body_of message.now ≡ Some body.now }
-    ensures ok { OnOk result (out.new.items ≡ out.old.items ++ compact_text (message_tree H.Packet.WAY (message_value H.Packet.WAY H.head B.own H.Packet.form message.now))) }
-    ensures err { OnErr result (Begins out.old.items out.new.items) }
+    ensures ok { OnOk result (page.new.0 ≡ page.old.0 ++ compact_text (message_tree H.Packet.WAY (message_value H.Packet.WAY H.head B.own H.Packet.form message.now))) }
+    ensures err { OnErr result (Begins page.old.0 page.new.0) }
 {
-    write_front(head, body, out)?;
-    write_decimal(u64::from(message.nid()), out)?;
-    write_behind(message, out)
+    write_front(head, body, page)?;
+    page.put_between(
+        way_member(H::Packet::WAY),
+        u64::from(message.nid()),
+        b",\"packets\":",
+    )?;
+    write_behind(message, page)
 }
 
 /// Appends a message that is kept as these bits.
 fn write_kept<H: Head, B: Own<Front = H>>(
     message: &MessageOf<H, B>,
     bits: &BitSlice<'_>,
-    out: &mut Vec<u8>,
+    page: &mut JsonPage,
 ) -> Result<(), AllocError>
     requires { kept_of message.now ≡ Some bits.now }
-    ensures ok { OnOk result (out.new.items ≡ out.old.items ++ compact_text (message_tree H.Packet.WAY (message_value H.Packet.WAY H.head B.own H.Packet.form message.now))) }
-    ensures err { OnErr result (Begins out.old.items out.new.items) }
+    ensures ok { OnOk result (page.new.0 ≡ page.old.0 ++ compact_text (message_tree H.Packet.WAY (message_value H.Packet.WAY H.head B.own H.Packet.form message.now))) }
+    ensures err { OnErr result (Begins page.old.0 page.new.0) }
 {
-    out.extend_from_slice(b"{\"data\":\"")?;
-    write_slice(bits, out)?;
-    out.extend_from_slice(b"\"")?;
-    out.extend_from_slice(way_member(H::Packet::WAY))?;
-    write_decimal_and(u64::from(message.nid()), b'}', out)
+    page.put(b"{\"data\":\"")?;
+    page.put_slice(bits)?;
+    page.put(b"\"")?;
+    page.put_between(way_member(H::Packet::WAY), u64::from(message.nid()), b"}")
 }
 
 /// Appends a message.
 fn write_message<H: Head, B: Own<Front = H>>(
     message: &MessageOf<H, B>,
-    out: &mut Vec<u8>,
+    page: &mut JsonPage,
 ) -> Result<(), AllocError>
-    ensures ok { OnOk result (out.new.items ≡ out.old.items ++ compact_text (message_tree H.Packet.WAY (message_value H.Packet.WAY H.head B.own H.Packet.form message.now))) }
-    ensures err { OnErr result (Begins out.old.items out.new.items) }
+    ensures ok { OnOk result (page.new.0 ≡ page.old.0 ++ compact_text (message_tree H.Packet.WAY (message_value H.Packet.WAY H.head B.own H.Packet.form message.now))) }
+    ensures err { OnErr result (Begins page.old.0 page.new.0) }
 {
     match (message.head(), message.body(), message.kept_bits()) {
-        (Some(head), Some(body), _) => write_typed(message, head, body, out),
-        (_, _, Some(bits)) => write_kept(message, &bits, out),
+        (Some(head), Some(body), _) => write_typed(message, head, body, page),
+        (_, _, Some(bits)) => write_kept(message, &bits, page),
         _ => unreachable!(),
     }
 }
 
 /// Appends an entry.
-fn write_entry(entry: &Entry, out: &mut Vec<u8>) -> Result<(), AllocError>
-    ensures ok { OnOk result (out.new.items ≡ out.old.items ++ compact_text (json_tree (entry_value entry.now))) }
-    ensures err { OnErr result (Begins out.old.items out.new.items) }
+fn write_entry(entry: &Entry, page: &mut JsonPage) -> Result<(), AllocError>
+    ensures ok { OnOk result (page.new.0 ≡ page.old.0 ++ compact_text (json_tree (entry_value entry.now))) }
+    ensures err { OnErr result (Begins page.old.0 page.new.0) }
 {
     match entry {
-        Entry::Telegram(telegram) => write_telegram(telegram, out),
-        Entry::Message(message) => write_message(message, out),
-        Entry::Train(message) => write_message(message, out),
+        Entry::Telegram(telegram) => write_telegram(telegram, page),
+        Entry::Message(message) => write_message(message, page),
+        Entry::Train(message) => write_message(message, page),
     }
 }
 
 /// Appends an entry and a LF.
-fn write_line(entry: &Entry, out: &mut Vec<u8>) -> Result<(), AllocError>
-    ensures ok { OnOk result (out.new.items ≡ out.old.items ++ (compact_text (json_tree (entry_value entry.now)) ++ 10 ∷ [])) }
-    ensures err { OnErr result (Begins out.old.items out.new.items) }
+fn write_line(entry: &Entry, page: &mut JsonPage) -> Result<(), AllocError>
+    ensures ok { OnOk result (page.new.0 ≡ page.old.0 ++ (compact_text (json_tree (entry_value entry.now)) ++ 10 ∷ [])) }
+    ensures err { OnErr result (Begins page.old.0 page.new.0) }
 {
-    write_entry(entry, out)?;
-    out.extend_from_slice(b"\n")
+    write_entry(entry, page)?;
+    page.put(b"\n")
+}
+
+/// Appends the entry's JSON and a LF to a page, as [`json_line`].
+///
+/// # Errors
+///
+/// Where memory is refused. The page is then as before.
+pub fn json_on(entry: &Entry, page: &mut Page) -> Result<(), AllocError>
+    ensures ok { OnOk result (page.new ≡ page.old ++ (compact_text (json_tree (entry_value entry.now)) ++ 10 ∷ [])) }
+    ensures err { OnErr result (page.new ≡ page.old) }
+{
+    let len = page.len();
+    let mut json = JsonPage::open(page);
+    let written = write_line(entry, &mut json);
+    *page = json.into_page();
+    if written.is_err() {
+        page.cut(len);
+    }
+    written
 }
 
 /// Appends the entry's JSON on a line: its compact text and a LF, or nothing.
@@ -186,10 +206,8 @@ pub fn json_line(entry: &Entry, out: &mut Vec<u8>) -> Result<(), AllocError>
     ensures ok { OnOk result (out.new.items ≡ out.old.items ++ (compact_text (json_tree (entry_value entry.now)) ++ 10 ∷ [])) }
     ensures err { OnErr result (out.new.items ≡ out.old.items) }
 {
-    let len = out.len();
-    let written = write_line(entry, out);
-    if written.is_err() {
-        out.truncate(len);
-    }
+    let mut page = Page::open(out);
+    let written = json_on(entry, &mut page);
+    *out = page.into_text();
     written
 }

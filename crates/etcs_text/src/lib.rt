@@ -11,6 +11,7 @@ mod encodings;
 mod entries;
 mod entry;
 pub mod inner;
+mod item_lines;
 mod json_lines;
 mod messages;
 mod show;

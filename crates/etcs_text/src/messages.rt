@@ -13,9 +13,7 @@ ghost use Rattle.etcs_text.specs.Show.{way_word};
 use etcs_bits::BitSlice;
 use etcs_messages::inner::{reads, send_front};
 use etcs_messages::{Head, MessageOf, Own};
-use etcs_packet_text::inner::{
-    LineSink, write_bits_line, write_decimal, write_item_number, write_packets,
-};
+use etcs_packet_text::inner::{Page, write_packets};
 use etcs_packets::inner::AnyPacket;
 use etcs_tables::Way;
 use etcs_vars::Var;
@@ -34,14 +32,12 @@ fn way_words(way: Way) -> &'static [u8]
 
 /// Appends the first line of an item of this many bits.
 #[inline(always)]
-fn write_item(way: Way, bits: usize, item: u64, out: &mut Vec<u8>) -> Result<(), AllocError>
-    ensures ok { OnOk result (out.new.items ≡ out.old.items ++ message_line way bits item) }
-    ensures err { OnErr result (Begins out.old.items out.new.items) }
+fn write_item(way: Way, bits: usize, item: u64, page: &mut Page) -> Result<(), AllocError>
+    ensures ok { OnOk result (page.new ≡ page.old ++ message_line way bits item) }
+    ensures err { OnErr result (Begins page.old page.new) }
 {
-    write_item_number(item, out)?;
-    out.extend_from_slice(way_words(way))?;
-    write_decimal(bits as u64, out)?;
-    out.extend_from_slice(b" bits\n")
+    page.put_between(b"item ", item, way_words(way))?;
+    page.put_between(b"", bits as u64, b" bits\n")
 }
 
 /// How many bits a message has.
@@ -56,29 +52,26 @@ pub(crate) fn message_bits<H: Head, B: Own<Front = H>>(message: &MessageOf<H, B>
 /// Appends the lines of the variables in front of the packets or of the bits that are kept.
 fn write_front<H: Head, B: Own<Front = H>>(
     message: &MessageOf<H, B>,
-    out: &mut Vec<u8>,
+    page: &mut Page,
 ) -> Result<(), AllocError>
-    ensures ok { OnOk result (out.new.items ≡ out.old.items ++ flat_map variable_line (front_reading H.Packet.WAY H.head B.own H.Packet.form message.now)) }
-    ensures err { OnErr result (Begins out.old.items out.new.items) }
+    ensures ok { OnOk result (page.new ≡ page.old ++ flat_map variable_line (front_reading H.Packet.WAY H.head B.own H.Packet.form message.now)) }
+    ensures err { OnErr result (Begins page.old page.new) }
 {
-    let mut sink = LineSink::open(out);
-    let sent = send_front(message, &mut sink);
-    *out = sink.into_text();
-    sent
+    send_front(message, page)
 }
 
 /// Appends the line of PADDING.
 fn write_padding<H: Head, B: Own<Front = H>>(
     message: &MessageOf<H, B>,
-    out: &mut Vec<u8>,
+    page: &mut Page,
 ) -> Result<(), AllocError>
-    ensures ok { OnOk result (out.new.items ≡ out.old.items ++ bits_line (codes "PADDING") (num (padding_bits_of H.Packet.WAY B.own H.Packet.form message.now) (padding_of message.now))) }
-    ensures err { OnErr result (Begins out.old.items out.new.items) }
+    ensures ok { OnOk result (page.new ≡ page.old ++ bits_line (codes "PADDING") (num (padding_bits_of H.Packet.WAY B.own H.Packet.form message.now) (padding_of message.now))) }
+    ensures err { OnErr result (Begins page.old page.new) }
 {
     let (count, number) = message.padding();
     let byte = [number];
     match BitSlice::new(&byte, 8 - count, count) {
-        Some(bits) => write_bits_line(Var::PADDING, &bits, out),
+        Some(bits) => page.put_bits_line(Var::PADDING, &bits),
         None => unreachable!(),
     }
 }
@@ -86,27 +79,27 @@ fn write_padding<H: Head, B: Own<Front = H>>(
 /// Appends the texts of the packets, the end and the line of PADDING.
 fn write_closed<H: Head, B: Own<Front = H>>(
     message: &MessageOf<H, B>,
-    out: &mut Vec<u8>,
+    page: &mut Page,
 ) -> Result<(), AllocError>
-    ensures ok { OnOk result (out.new.items ≡ out.old.items ++ (packets_text H.Packet.WAY (values_of H.Packet.form (packets_of message.now)) ++ codes "end\n" ++ bits_line (codes "PADDING") (num (padding_bits_of H.Packet.WAY B.own H.Packet.form message.now) (padding_of message.now)))) }
-    ensures err { OnErr result (Begins out.old.items out.new.items) }
+    ensures ok { OnOk result (page.new ≡ page.old ++ (packets_text H.Packet.WAY (values_of H.Packet.form (packets_of message.now)) ++ codes "end\n" ++ bits_line (codes "PADDING") (num (padding_bits_of H.Packet.WAY B.own H.Packet.form message.now) (padding_of message.now)))) }
+    ensures err { OnErr result (Begins page.old page.new) }
 {
-    write_packets(message.packets(), out)?;
-    out.extend_from_slice(b"end\n")?;
-    write_padding(message, out)
+    write_packets(message.packets(), page)?;
+    page.put(b"end\n")?;
+    write_padding(message, page)
 }
 
 /// Appends the lines of what follows the variables.
 fn write_behind<H: Head, B: Own<Front = H>>(
     message: &MessageOf<H, B>,
-    out: &mut Vec<u8>,
+    page: &mut Page,
 ) -> Result<(), AllocError>
-    ensures ok { OnOk result (out.new.items ≡ out.old.items ++ behind_lines H.Packet.WAY (message_value H.Packet.WAY H.head B.own H.Packet.form message.now)) }
-    ensures err { OnErr result (Begins out.old.items out.new.items) }
+    ensures ok { OnOk result (page.new ≡ page.old ++ behind_lines H.Packet.WAY (message_value H.Packet.WAY H.head B.own H.Packet.form message.now)) }
+    ensures err { OnErr result (Begins page.old page.new) }
 {
     match message.kept_bits() {
-        Some(bits) => write_bits_line(Var::OTHER_DATA, &bits, out),
-        None => write_closed(message, out),
+        Some(bits) => page.put_bits_line(Var::OTHER_DATA, &bits),
+        None => write_closed(message, page),
     }
 }
 
@@ -114,12 +107,12 @@ fn write_behind<H: Head, B: Own<Front = H>>(
 pub(crate) fn write_message<H: Head, B: Own<Front = H>>(
     message: &MessageOf<H, B>,
     item: u64,
-    out: &mut Vec<u8>,
+    page: &mut Page,
 ) -> Result<(), AllocError>
-    ensures ok { OnOk result (out.new.items ≡ out.old.items ++ message_text H.Packet.WAY (message_value H.Packet.WAY H.head B.own H.Packet.form message.now) item) }
-    ensures err { OnErr result (Begins out.old.items out.new.items) }
+    ensures ok { OnOk result (page.new ≡ page.old ++ message_text H.Packet.WAY (message_value H.Packet.WAY H.head B.own H.Packet.form message.now) item) }
+    ensures err { OnErr result (Begins page.old page.new) }
 {
-    write_item(H::Packet::WAY, message_bits(message), item, out)?;
-    write_front(message, out)?;
-    write_behind(message, out)
+    write_item(H::Packet::WAY, message_bits(message), item, page)?;
+    write_front(message, page)?;
+    write_behind(message, page)
 }

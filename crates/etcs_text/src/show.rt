@@ -12,7 +12,7 @@ ghost use Rattle.etcs_telegram.specs.Telegrams.{telegram_value};
 
 use crate::entry::Entry;
 use crate::messages::write_message;
-use etcs_packet_text::inner::{LineSink, write_bits_line, write_item_number, write_packets};
+use etcs_packet_text::inner::{Page, write_packets};
 use etcs_telegram::{Header, Size, Telegram};
 use etcs_vars::Var;
 use etcs_vars::inner::Variables;
@@ -29,48 +29,60 @@ fn size_words(size: Size) -> &'static [u8]
 }
 
 /// Appends the first line of a telegram.
-fn write_item(size: Size, item: u64, out: &mut Vec<u8>) -> Result<(), AllocError>
-    ensures ok { OnOk result (out.new.items ≡ out.old.items ++ item_line size item) }
-    ensures err { OnErr result (Begins out.old.items out.new.items) }
+fn write_item(size: Size, item: u64, page: &mut Page) -> Result<(), AllocError>
+    ensures ok { OnOk result (page.new ≡ page.old ++ item_line size item) }
+    ensures err { OnErr result (page.new ≡ page.old) }
 {
-    write_item_number(item, out)?;
-    out.extend_from_slice(size_words(size))
+    page.put_between(b"item ", item, size_words(size))
 }
 
 /// Appends the lines of a header.
-fn write_header(header: &Header, out: &mut Vec<u8>) -> Result<(), AllocError>
-    ensures ok { OnOk result (out.new.items ≡ out.old.items ++ flat_map variable_line (header_reading header.now)) }
-    ensures err { OnErr result (Begins out.old.items out.new.items) }
+fn write_header(header: &Header, page: &mut Page) -> Result<(), AllocError>
+    ensures ok { OnOk result (page.new ≡ page.old ++ flat_map variable_line (header_reading header.now)) }
+    ensures err { OnErr result (Begins page.old page.new) }
 {
-    let mut sink = LineSink::open(out);
-    let sent = header.send(&mut sink);
-    *out = sink.into_text();
-    sent
+    header.send(page)
 }
 
 /// Appends the text of a telegram.
-fn write_telegram(telegram: &Telegram, item: u64, out: &mut Vec<u8>) -> Result<(), AllocError>
-    ensures ok { OnOk result (out.new.items ≡ out.old.items ++ show_text (telegram_value telegram.now) item) }
-    ensures err { OnErr result (Begins out.old.items out.new.items) }
+fn write_telegram(telegram: &Telegram, item: u64, page: &mut Page) -> Result<(), AllocError>
+    ensures ok { OnOk result (page.new ≡ page.old ++ show_text (telegram_value telegram.now) item) }
+    ensures err { OnErr result (Begins page.old page.new) }
 {
-    write_item(telegram.size(), item, out)?;
-    write_header(telegram.header(), out)?;
-    write_packets(telegram.packets(), out)?;
-    out.extend_from_slice(b"packet 255\n")?;
-    write_bits_line(Var::FILL, &telegram.fill(), out)?;
-    Ok(())
+    write_item(telegram.size(), item, page)?;
+    write_header(telegram.header(), page)?;
+    write_packets(telegram.packets(), page)?;
+    page.put(b"packet 255\n")?;
+    page.put_bits_line(Var::FILL, &telegram.fill())
 }
 
 /// Appends the text of an entry.
-fn write_entry(entry: &Entry, item: u64, out: &mut Vec<u8>) -> Result<(), AllocError>
-    ensures ok { OnOk result (out.new.items ≡ out.old.items ++ entry_text (entry_value entry.now) item) }
-    ensures err { OnErr result (Begins out.old.items out.new.items) }
+fn write_entry(entry: &Entry, item: u64, page: &mut Page) -> Result<(), AllocError>
+    ensures ok { OnOk result (page.new ≡ page.old ++ entry_text (entry_value entry.now) item) }
+    ensures err { OnErr result (Begins page.old page.new) }
 {
     match entry {
-        Entry::Telegram(telegram) => write_telegram(telegram, item, out),
-        Entry::Message(message) => write_message(message, item, out),
-        Entry::Train(message) => write_message(message, item, out),
+        Entry::Telegram(telegram) => write_telegram(telegram, item, page),
+        Entry::Message(message) => write_message(message, item, page),
+        Entry::Train(message) => write_message(message, item, page),
     }
+}
+
+/// Appends the text of an entry to a page, as [`show_lines`].
+///
+/// # Errors
+///
+/// Where memory is refused. The page is then as before.
+pub fn show_on(entry: &Entry, item: u64, page: &mut Page) -> Result<(), AllocError>
+    ensures ok { OnOk result (page.new ≡ page.old ++ entry_text (entry_value entry.now) item) }
+    ensures err { OnErr result (page.new ≡ page.old) }
+{
+    let len = page.len();
+    let shown = write_entry(entry, item, page);
+    if shown.is_err() {
+        page.cut(len);
+    }
+    shown
 }
 
 /// Appends the text of an entry, the item of this number: a line with the number, the kind and the
@@ -89,10 +101,8 @@ pub fn show_lines(entry: &Entry, item: u64, out: &mut Vec<u8>) -> Result<(), All
     ensures ok { OnOk result (out.new.items ≡ out.old.items ++ entry_text (entry_value entry.now) item) }
     ensures err { OnErr result (out.new.items ≡ out.old.items) }
 {
-    let len = out.len();
-    let shown = write_entry(entry, item, out);
-    if shown.is_err() {
-        out.truncate(len);
-    }
+    let mut page = Page::open(out);
+    let shown = show_on(entry, item, &mut page);
+    *out = page.into_text();
     shown
 }

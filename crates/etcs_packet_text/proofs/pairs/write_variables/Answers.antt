@@ -1,4 +1,4 @@
-use Rattle.std.proofs.Common.{◌≡◌, ◌∙◌, ◌∷◌, ◌++◌, [], false, List, ℕ, ap}
+use Rattle.std.proofs.Common.{◌≡◌, ◌∙◌, ◌∷◌, ◌++◌, [], false, ap}
 use Rattle.etcs_vars.specs.Reading.{Reading}
 use Rattle.etcs_packet_text.specs.PairSinks.{Listed, with_pairs}
 use Rattle.etcs_packet_text.specs.Trees.{pair_tree}
@@ -7,16 +7,14 @@ use Rattle.etcs_packet_text.proofs.pairs.write_variables.Goals as goal
 
 pub returns-clause-ok : goal.returns-clause-ok
 returns-clause-ok g c =
-    let old = c.args.out.now.items in
+    let old = c.args.page.now.0 in
     let xs : Reading = g.V.Variables.reading_of c.args.variables.now in
-    let opened : c.open-sink.result ≡ (old ++ 91 ∷ [], false) = c.open-sink.ensures ∙ ap (λ (t : List ℕ). (t, false)) c.in_ok-extend_from_slice.ensures.items in
-    let is : c.send-sent.new.out ≡ with_pairs (old ++ 91 ∷ [], false) xs = c.in_ok-sent.ensures.ok ∙ ap (λ (s : Listed). with_pairs s xs) opened in
-    closed_ok c.extend_from_slice-2.result pair_tree old c.into_text.result.items c.extend_from_slice-2.new.self.items c.send-sent.new.out xs is c.into_text.ensures c.extend_from_slice-2.ensures.items
+    let is : c.send.new.out ≡ with_pairs (old ++ 91 ∷ [], false) xs = c.in_ok-send.ensures.ok ∙ ap (λ (s : Listed). with_pairs s xs) c.in_ok-open_list.ensures.ok in
+    closed_ok c.put.result pair_tree old c.put.new.self.0 c.send.new.out xs is c.put.ensures.ok
 
 pub returns-clause-err : goal.returns-clause-err
 returns-clause-err g c =
-    let old = c.args.out.now.items in
+    let old = c.args.page.now.0 in
     let xs : Reading = g.V.Variables.reading_of c.args.variables.now in
-    let opened : c.open-sink.result ≡ (old ++ 91 ∷ [], false) = c.open-sink.ensures ∙ ap (λ (t : List ℕ). (t, false)) c.in_ok-extend_from_slice.ensures.items in
-    let is : c.send-sent.new.out ≡ with_pairs (old ++ 91 ∷ [], false) xs = c.in_ok-sent.ensures.ok ∙ ap (λ (s : Listed). with_pairs s xs) opened in
-    closed_err c.extend_from_slice-2.result pair_tree old c.into_text.result.items c.extend_from_slice-2.new.self.items c.send-sent.new.out xs is c.into_text.ensures c.extend_from_slice-2.ensures.items
+    let is : c.send.new.out ≡ with_pairs (old ++ 91 ∷ [], false) xs = c.in_ok-send.ensures.ok ∙ ap (λ (s : Listed). with_pairs s xs) c.in_ok-open_list.ensures.ok in
+    closed_err c.put.result pair_tree old c.put.new.self.0 c.send.new.out xs is c.put.ensures.err

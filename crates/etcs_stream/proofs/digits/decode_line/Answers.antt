@@ -1,7 +1,7 @@
 use Rattle.std.proofs.Common.{◌≡◌, ◌∙◌, ◌/◌, length, take, ap, sym, arith}
 use Rattle.std.proofs.Math.Seq.{take-length}
 use Rattle.std.proofs.lemmas.List.{length-take-le, take-append-le}
-use Rattle.etcs_stream.proofs.GoodLines.{bad_first, decoded_bytes, decoded_good, never_none}
+use Rattle.etcs_stream.proofs.GoodLines.{bad_first, decoded_bytes, decoded_good}
 use Rattle.etcs_stream.proofs.digits.decode_line.Goals as goal
 
 pub decode-requires : goal.decode-requires
@@ -21,10 +21,6 @@ returns-then-decode-clause-bytes c =
     take-append-le count bytes _ (omega (arith, room)) ∙ ap (λ n. take n bytes) (sym room) ∙ take-length bytes
     ∙ decoded_bytes c.args.line.now bytes (c.decode.ensures.bytes c.if-decode.true)
 
-pub returns-in-Some-clause-bad : goal.returns-in-Some-clause-bad
-returns-in-Some-clause-bad c =
-    bad_first c.args.line.now c.in-Some.place c.if-line-gt-MOST_CHARACTERS.false c.if-line-eq1.false (sym c.first_bad.ensures ∙ c.in-Some.is)
-
-pub returns-in-None-clause-bad : goal.returns-in-None-clause-bad
-returns-in-None-clause-bad c =
-    absurd (never_none c.args.line.now (sym c.decode.ensures.good ∙ c.if-decode.false) (sym c.first_bad.ensures ∙ c.in-None.is))
+pub returns-clause-bad : goal.returns-clause-bad
+returns-clause-bad c =
+    bad_first c.args.line.now c.first_bad.result c.if-line-gt-MOST_CHARACTERS.false c.if-line-eq1.false (sym c.decode.ensures.good ∙ c.if-decode.false) c.first_bad.ensures

@@ -12,4 +12,4 @@ unreachable-requires g c =
 pub returns-clause-ok : goal.returns-clause-ok
 returns-clause-ok g c =
     let same = some_bits c.in-Some.bits _ (sym c.in-Some.is ∙ c.new.ensures ∙ padding_cut g.H.Packet.AnyPacket.WAY g.B.Own.own g.H.Packet.AnyPacket.form c.args.message.now _ c.padding-count.result.0 c.padding-count.result.1 c.padding-count.ensures.count c.padding-count.ensures.number refl) in
-    on_ok c.write_bits_line.result c.args.out.now.items c.write_bits_line.new.out.items _ _ (ap (λ (z : List Bool). bits_line (codes "PADDING") z) same) c.write_bits_line.ensures.ok
+    on_ok c.put_bits_line.result c.args.page.now c.put_bits_line.new.self _ _ (ap (λ (z : List Bool). bits_line (codes "PADDING") z) same) c.put_bits_line.ensures.ok

@@ -31,7 +31,7 @@ returns-in-Ok-More-clause-ok c =
     let s = c.args.self.now in
     let is : ◌≡◌ {A = Result Fed ReadFault} c.feed.result (Ok More) = c.in-Ok-More.is ∙ ap Ok c.in-Ok-More.field-0-is in
     let less : s.teller.count < 1000000 = omega (arith, c.requires.told, c.if-count-eq-MOST_ITEMS.false, c.count.ensures) in
-    more_front s.job s.reader s.teller c.args.bytes.now c.args.text.now.items c.requires.waits c.feed.new.self _ c.feed.ensures.kind c.requires.some less refl
+    more_front s.job s.reader s.teller c.args.bytes.now c.args.page.now c.requires.waits c.feed.new.self _ c.feed.ensures.kind c.requires.some less refl
     (fed s.job.kind s.reader (bits c.args.bytes.now) _ _ _ c.requires.waits is c.feed.ensures.answer)
 
 pub returns-in_ok-tell-in-Ok-Done-clause-ok : goal.returns-in_ok-tell-in-Ok-Done-clause-ok
@@ -42,7 +42,7 @@ returns-in_ok-tell-in-Ok-Done-clause-ok c =
     let f : Feeds (EntryReads s.job.kind) (seen_bits s.reader.progress) new (Ok (Done c.in-Ok-Done.taken)) c.feed.new.self.progress = fed s.job.kind s.reader new _ _ _ c.requires.waits is c.feed.ensures.answer in
     let less : s.teller.count < 1000000 = omega (arith, c.requires.told, c.if-count-eq-MOST_ITEMS.false, c.count.ensures) in
     let told = c.in_ok-tell-in-Ok-Done.ensures in
-    done_front s.job s.reader s.teller c.args.bytes.now c.args.text.now.items c.requires.waits c.feed.new.self c.tell.new.self.reader c.tell.new.self.teller c.tell.new.text.items c.in-Ok-Done.taken f told.next told.told less (told.ok f.0 f.1)
+    done_front s.job s.reader s.teller c.args.bytes.now c.args.page.now c.requires.waits c.feed.new.self c.tell.new.self.reader c.tell.new.self.teller c.tell.new.page c.in-Ok-Done.taken f told.next told.told less (told.ok f.0 f.1)
 
 pub returns-then-count-eq-MOST_ITEMS-clause-err : goal.returns-then-count-eq-MOST_ITEMS-clause-err
 returns-then-count-eq-MOST_ITEMS-clause-err c =

@@ -28,4 +28,4 @@ returns-in-Err-Shape-clause-err c =
 pub returns-in-Err-Refused-clause-err : goal.returns-in-Err-Refused-clause-err
 returns-in-Err-Refused-clause-err c =
     let says = c.from_line.ensures.refused c.in-Err-Refused.bit c.in-Err-Refused.var (c.in-Err-Refused.is ∙ ap Err c.in-Err-Refused.field-0-is) in
-    (ap (λ (n : ℕ). n + 1) c.count.ensures, c.requires.few, (c.requires.some, c.if-line-gt-MOST_BYTES.false, says))
+    (ap (λ (n : ℕ). n + 1) c.count.ensures, c.requires.few, (c.requires.some, c.if-line-gt-MOST_LINE.false, says))

@@ -1,0 +1,157 @@
+//! A page of JSON.
+
+ghost use Rattle.std.specs.Prelude.{◌≡◌, ◌≤◌, ◌++◌, ◌∷◌, [], false, map, OnErr, OnOk};
+ghost use Rattle.std.specs.Fmt.{decimal};
+ghost use Rattle.etcs_bits.specs.Bits.{num};
+ghost use Rattle.etcs_packet_text.specs.Show.{bit_digit};
+
+use crate::page::Page;
+use etcs_bits::BitSlice;
+use etcs_vars::Var;
+use etcs_vars::inner::VarSink;
+use std::alloc::AllocError;
+use std::marker::Model;
+
+/// A page, and whether a pair of the list that was opened last is at its end. Variables that it is sent are pairs of that
+/// list.
+#[derive(Drop)]
+pub struct JsonPage {
+    page: Page,
+    later: bool,
+}
+
+impl Model for JsonPage {
+    ghost use Rattle.etcs_packet_text.specs.PairSinks.{Listed};
+
+    ghost Value = { Listed };
+
+    ghost view = { λ p. (p.page, p.later) };
+}
+
+impl JsonPage {
+    /// A page of JSON after the text of another, which is taken.
+    #[inline]
+    pub fn open(page: &mut Page) -> JsonPage
+        ensures { result ≡ (page.old, false) }
+    {
+        JsonPage {
+            page: page.take_all(),
+            later: false,
+        }
+    }
+
+    /// The page.
+    #[inline]
+    pub fn into_page(self) -> Page
+        ensures { result ≡ self.0 }
+    {
+        let JsonPage { page, .. } = self;
+        page
+    }
+
+    /// Appends bytes.
+    ///
+    /// # Errors
+    ///
+    /// Where memory is refused. The page is then as before.
+    #[inline(always)]
+    pub fn put(&mut self, bytes: &[u8]) -> Result<(), AllocError>
+        ensures ok { OnOk result (self.new.0 ≡ self.old.0 ++ bytes.now) }
+        ensures err { OnErr result (self.new.0 ≡ self.old.0) }
+    {
+        self.page.put(bytes)
+    }
+
+    /// Appends the digits of a number, with no leading zero, and one byte more.
+    ///
+    /// # Errors
+    ///
+    /// Where memory is refused. The page is then as before.
+    #[inline(always)]
+    pub fn put_decimal_and(&mut self, number: u64, end: u8) -> Result<(), AllocError>
+        ensures ok { OnOk result (self.new.0 ≡ self.old.0 ++ (decimal number ++ end ∷ [])) }
+        ensures err { OnErr result (self.new.0 ≡ self.old.0) }
+    {
+        self.page.put_decimal_and(number, end)
+    }
+
+    /// Appends the digits of a number, with no leading zero, between bytes.
+    ///
+    /// # Errors
+    ///
+    /// Where memory is refused. The page is then as before.
+    #[inline(always)]
+    pub fn put_between(&mut self, front: &[u8], number: u64, back: &[u8]) -> Result<(), AllocError>
+        ensures ok { OnOk result (self.new.0 ≡ self.old.0 ++ (front.now ++ (decimal number ++ back.now))) }
+        ensures err { OnErr result (self.new.0 ≡ self.old.0) }
+    {
+        self.page.put_between(front, number, back)
+    }
+
+    /// Appends the lowest bits of a number as digits, the most significant first.
+    ///
+    /// # Errors
+    ///
+    /// Where memory is refused. The page is then as before.
+    #[inline(always)]
+    pub fn put_bits(&mut self, number: u64, width: usize) -> Result<(), AllocError>
+        requires { width ≤ 64 }
+        ensures ok { OnOk result (self.new.0 ≡ self.old.0 ++ map bit_digit (num width number)) }
+        ensures err { OnErr result (self.new.0 ≡ self.old.0) }
+    {
+        self.page.put_bits(number, width)
+    }
+
+    /// Appends bits as digits.
+    ///
+    /// # Errors
+    ///
+    /// Where memory is refused. The page is then as before.
+    pub fn put_slice(&mut self, bits: &BitSlice<'_>) -> Result<(), AllocError>
+        ensures ok { OnOk result (self.new.0 ≡ self.old.0 ++ map bit_digit bits.now) }
+        ensures err { OnErr result (self.new.0 ≡ self.old.0) }
+    {
+        self.page.put_slice(bits)
+    }
+
+    /// Begins a list of pairs.
+    ///
+    /// # Errors
+    ///
+    /// Where memory is refused. The page is then as before.
+    #[inline(always)]
+    pub(crate) fn open_list(&mut self) -> Result<(), AllocError>
+        ensures ok { OnOk result (self.new ≡ (self.old.0 ++ 91 ∷ [], false)) }
+        ensures err { OnErr result (self.new.0 ≡ self.old.0) }
+    {
+        self.page.put(b"[")?;
+        self.later = false;
+        Ok(())
+    }
+}
+
+impl VarSink for JsonPage {
+    ghost use Rattle.etcs_packet_text.specs.Fronts.{Begins};
+    ghost use Rattle.etcs_packet_text.specs.PairSinks.{with_pairs};
+    ghost use Rattle.etcs_packet_text.specs.laws.PairSinks.{with_pairs_begins, with_pairs_both, with_pairs_none};
+
+    ghost with = { with_pairs };
+
+    ghost failed = { λ s t. Begins s.0 t.0 };
+
+    ghost with_none = { with_pairs_none };
+
+    ghost with_both = { with_pairs_both };
+
+    ghost failed_behind = { with_pairs_begins };
+
+    #[inline(always)]
+    fn send(&mut self, sent: &[(Var, u64)]) -> Result<(), AllocError> {
+        if sent.is_empty() {
+            return Ok(());
+        }
+        self.page.put_pairs(self.later, sent)?;
+        self.later = true;
+        Ok(())
+    }
+}

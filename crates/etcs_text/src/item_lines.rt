@@ -1,0 +1,21 @@
+//! How the line of an item begins.
+
+ghost use Rattle.std.specs.Prelude.{◌≡◌, ◌++◌, codes, OnErr, OnOk};
+ghost use Rattle.std.specs.Fmt.{decimal};
+ghost use Rattle.etcs_packet_text.specs.Fronts.{Begins};
+
+use etcs_packet_text::inner::Page;
+use std::alloc::AllocError;
+
+/// Appends the word and the number that the line of an item begins with.
+///
+/// # Errors
+///
+/// Where memory is refused. A part of the text may then be in the page, after what was there.
+pub fn write_item_number(item: u64, page: &mut Page) -> Result<(), AllocError>
+    ensures ok { OnOk result (page.new ≡ page.old ++ (codes "item " ++ decimal item)) }
+    ensures err { OnErr result (Begins page.old page.new) }
+{
+    page.put(b"item ")?;
+    page.put_decimal(item)
+}

@@ -1,5 +1,5 @@
 -- Texts put over bytes.
-use Rattle.std.proofs.Common.{◌≡◌, ℕ, Bool, true, false, refl, ◌+◌, ◌<◌, ◌≤◌, ◌==◌, List, [], ◌∷◌, ◌++◌, length, take, flat_map, get_or, sym, ap, ◌∙◌, arith, append_assoc, append-nil, length-append}
+use Rattle.std.proofs.Common.{◌≡◌, ℕ, Bool, true, false, refl, ◌+◌, ◌≤◌, ◌==◌, List, [], ◌∷◌, ◌++◌, length, take, sym, ap, ◌∙◌, arith, append_assoc, length-append}
 use Rattle.std.specs.Fmt.{digits}
 use Rattle.std.proofs.lemmas.Bool.{eqb-true}
 use Rattle.std.proofs.lemmas.List.{length-take-le, take_at, take-take, take-append-le}
@@ -12,7 +12,7 @@ use Rattle.json.specs.Print.{escape_byte}
 use Rattle.serde_json.specs.Written.{comma_if}
 use Rattle.etcs_packet_text.specs.JsonParts.{pair_front}
 use Rattle.etcs_packet_text.specs.PairSinks.{Listed, with_item, with_pairs}
-use Rattle.etcs_packet_text.specs.Show.{bits_line, variable_line}
+use Rattle.etcs_packet_text.specs.Show.{bits_line}
 use Rattle.etcs_packet_text.specs.Trees.{pair_tree}
 
 -- ---- A front.
@@ -72,26 +72,6 @@ pairs_listed s (x ∷ r) h = pairs_more s x r
 -- a list to which pairs were appended has one
 pub pairs_are : (s : Listed) (r : Reading) (text : List ℕ) → (length r == 0) ≡ false → text ≡ (with_pairs s r).0 → (text, true) ≡ with_pairs s r
 pairs_are s r text h e = λ i. (e i, sym (pairs_listed s r h) i)
-
--- ---- Six variables.
-
-pub six_items : {A : Type 0} (none : A) (xs : List A) → 6 ≤ length xs → length xs < 7 → get_or xs 0 none ∷ get_or xs 1 none ∷ get_or xs 2 none ∷ get_or xs 3 none ∷ get_or xs 4 none ∷ get_or xs 5 none ∷ [] ≡ xs
-six_items none [] least most = absurd (omega arith)
-six_items none (a ∷ []) least most = absurd (omega arith)
-six_items none (a ∷ b ∷ []) least most = absurd (omega arith)
-six_items none (a ∷ b ∷ c ∷ []) least most = absurd (omega arith)
-six_items none (a ∷ b ∷ c ∷ d ∷ []) least most = absurd (omega arith)
-six_items none (a ∷ b ∷ c ∷ d ∷ e ∷ []) least most = absurd (omega arith)
-six_items none (a ∷ b ∷ c ∷ d ∷ e ∷ f ∷ []) least most = refl
-six_items none (a ∷ b ∷ c ∷ d ∷ e ∷ f ∷ g ∷ xs) least most = absurd (omega arith)
-
-joined_six : (a b c d e f : List ℕ) → a ++ b ++ c ++ d ++ e ++ f ≡ a ++ (b ++ (c ++ (d ++ (e ++ (f ++ [])))))
-joined_six a b c d e f = simp (append_assoc, append-nil)
-
-pub six_lines : (none : Sent) (xs : Reading) → 6 ≤ length xs → length xs < 7 → variable_line (get_or xs 0 none) ++ variable_line (get_or xs 1 none) ++ variable_line (get_or xs 2 none) ++ variable_line (get_or xs 3 none) ++ variable_line (get_or xs 4 none) ++ variable_line (get_or xs 5 none) ≡ flat_map variable_line xs
-six_lines none xs least most =
-    let line : ℕ → List ℕ = λ k. variable_line (get_or xs k none) in
-    joined_six (line 0) (line 1) (line 2) (line 3) (line 4) (line 5) ∙ ap (λ (r : Reading). flat_map variable_line r) (six_items none xs least most)
 
 -- ---- Bits under a name.
 

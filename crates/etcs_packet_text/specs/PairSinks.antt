@@ -2,7 +2,7 @@
 use Rattle.std.proofs.Common.{ℕ, Bool, true, List, ◌++◌, fold}
 use Rattle.serde_json.specs.Data.{Data}
 use Rattle.serde_json.specs.Written.{comma_if, compact_text}
-use Rattle.etcs_vars.specs.Reading.{Reading}
+use Rattle.etcs_vars.specs.Reading.{Reading, Sent}
 use Rattle.etcs_packet_text.specs.Trees.{pair_tree}
 
 -- a text, and whether an item of the list is at its end
@@ -20,3 +20,7 @@ with_each f s xs = fold (λ t x. with_item t (f x)) s xs
 -- a pair for each variable
 abbrev pub with_pairs : Listed → Reading → Listed
 with_pairs s r = with_each pair_tree s r
+
+-- a pair after another of its list
+abbrev pub later_pair : Sent → List ℕ
+later_pair p = comma_if true ++ compact_text (pair_tree p)

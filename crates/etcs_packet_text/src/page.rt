@@ -5,6 +5,7 @@ mod fronts;
 mod lines;
 mod pairs;
 mod place;
+mod unrolled;
 
 ghost use Rattle.std.specs.Prelude.{◌≡◌, ◌+◌, ◌≤◌, ◌++◌, ◌∷◌, [], codes, flat_map, length, map, take, OnErr, OnOk};
 ghost use Rattle.std.specs.Fmt.{decimal};

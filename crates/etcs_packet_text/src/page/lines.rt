@@ -8,123 +8,36 @@ ghost use Rattle.etcs_packet_text.specs.Show.{hex_digits, number_text, signed_te
 use super::bits::put_slice;
 use super::fronts::line_front;
 use super::place::{put_bytes, put_front, put_hex, put_number};
+use super::unrolled::{Eight, Put, PutEach};
 use etcs_bits::BitSlice;
 use etcs_vars::Var;
 
 /// The room for a line.
 pub(crate) const LINE_ROOM: usize = 80;
 
-/// Writes lines of variables at a place, and answers where they end. There is no loop where they are at most eight, or ten.
+/// Writes lines of variables at a place, and answers where they end. There is no loop where they are at most eight.
 #[inline(always)]
-pub(crate) fn put_lines(place: &mut [u8], at: usize, sent: &[(Var, u64)]) -> usize
+pub(super) fn put_lines(place: &mut [u8], at: usize, sent: &[(Var, u64)]) -> usize
     requires { at + 80 * length sent.now ≤ length place.old }
     ensures len { length place.new ≡ length place.old }
     ensures most { result ≤ at + 80 * length sent.now }
     ensures bytes { take result place.new ≡ take at place.old ++ flat_map variable_line sent.now }
 {
-    match sent {
-        [a] => put_line(place, at, a.0, a.1),
-        [a, b] => put_two(place, at, *a, *b),
-        [a, b, c] => {
-            let at = put_two(place, at, *a, *b);
-            put_line(place, at, c.0, c.1)
-        }
-        [a, b, c, d] => put_four(place, at, *a, *b, *c, *d),
-        [a, b, c, d, rest @ ..] => {
-            let at = put_four(place, at, *a, *b, *c, *d);
-            put_last(place, at, rest)
-        }
-        [] => at,
+    <Eight as PutEach<Line>>::put_each(place, at, sent)
+}
+
+/// The line of a variable.
+struct Line;
+
+impl Put for Line {
+    ghost room = { 80 };
+
+    ghost text = { variable_line };
+
+    #[inline(always)]
+    fn put(place: &mut [u8], at: usize, var: Var, number: u64) -> usize {
+        put_line(place, at, var, number)
     }
-}
-
-/// Writes lines at a place, with no loop where they are at most four, or six.
-#[inline(always)]
-fn put_last(place: &mut [u8], at: usize, sent: &[(Var, u64)]) -> usize
-    requires { at + 80 * length sent.now ≤ length place.old }
-    ensures len { length place.new ≡ length place.old }
-    ensures most { result ≤ at + 80 * length sent.now }
-    ensures bytes { take result place.new ≡ take at place.old ++ flat_map variable_line sent.now }
-{
-    match sent {
-        [] => at,
-        [a] => put_line(place, at, a.0, a.1),
-        [a, b] => put_two(place, at, *a, *b),
-        [a, b, c] => {
-            let at = put_two(place, at, *a, *b);
-            put_line(place, at, c.0, c.1)
-        }
-        [a, b, c, d] => put_four(place, at, *a, *b, *c, *d),
-        [a, b, c, d, e, f] => put_six(place, at, *a, *b, *c, *d, *e, *f),
-        _ => put_more(place, at, sent),
-    }
-}
-
-/// Writes two lines at a place.
-#[inline(always)]
-fn put_two(place: &mut [u8], at: usize, a: (Var, u64), b: (Var, u64)) -> usize
-    requires { at + 160 ≤ length place.old }
-    ensures len { length place.new ≡ length place.old }
-    ensures most { result ≤ at + 160 }
-    ensures bytes { take result place.new ≡ take at place.old ++ (variable_line a ++ variable_line b) }
-{
-    let at = put_line(place, at, a.0, a.1);
-    put_line(place, at, b.0, b.1)
-}
-
-/// Writes four lines at a place.
-#[inline(always)]
-fn put_four(
-    place: &mut [u8],
-    at: usize,
-    a: (Var, u64),
-    b: (Var, u64),
-    c: (Var, u64),
-    d: (Var, u64),
-) -> usize
-    requires { at + 320 ≤ length place.old }
-    ensures len { length place.new ≡ length place.old }
-    ensures most { result ≤ at + 320 }
-    ensures bytes { take result place.new ≡ take at place.old ++ (variable_line a ++ variable_line b ++ variable_line c ++ variable_line d) }
-{
-    let at = put_two(place, at, a, b);
-    put_two(place, at, c, d)
-}
-
-/// Writes six lines at a place.
-#[inline(always)]
-fn put_six(
-    place: &mut [u8],
-    at: usize,
-    a: (Var, u64),
-    b: (Var, u64),
-    c: (Var, u64),
-    d: (Var, u64),
-    e: (Var, u64),
-    f: (Var, u64),
-) -> usize
-    requires { at + 480 ≤ length place.old }
-    ensures len { length place.new ≡ length place.old }
-    ensures most { result ≤ at + 480 }
-    ensures bytes { take result place.new ≡ take at place.old ++ (variable_line a ++ variable_line b ++ variable_line c ++ variable_line d ++ variable_line e ++ variable_line f) }
-{
-    let at = put_four(place, at, a, b, c, d);
-    put_two(place, at, e, f)
-}
-
-/// Writes lines at a place, one after another.
-#[inline(never)]
-fn put_more(place: &mut [u8], at: usize, sent: &[(Var, u64)]) -> usize
-    requires { at + 80 * length sent.now ≤ length place.old }
-    ensures len { length place.new ≡ length place.old }
-    ensures most { result ≤ at + 80 * length sent.now }
-    ensures bytes { take result place.new ≡ take at place.old ++ flat_map variable_line sent.now }
-{
-    let mut end = at;
-    for pair in sent {
-        end = put_line(place, end, pair.0, pair.1);
-    }
-    end
 }
 
 /// Writes the line of a variable at a place, and answers where it ends.

@@ -3,129 +3,47 @@
 ghost use Rattle.std.specs.Prelude.{◌≡◌, ◌+◌, ◌*◌, ◌≤◌, ◌++◌, ◌∷◌, [], true, length, take};
 ghost use Rattle.serde_json.specs.Written.{comma_if, compact_text};
 ghost use Rattle.etcs_vars.specs.declared.var.Var.TheVariants.{NID_RADIO};
-ghost use Rattle.etcs_packet_text.specs.PairSinks.{with_pairs};
+ghost use Rattle.etcs_packet_text.specs.PairSinks.{later_pair, with_pairs};
 ghost use Rattle.etcs_packet_text.specs.Trees.{number_tree, pair_tree};
 
 use super::fronts::pair_front;
 use super::place::{put_bytes, put_front, put_hex, put_number};
+use super::unrolled::{Eight, Put, PutEach};
 use etcs_vars::Var;
 
 /// The room for a pair.
 pub(crate) const PAIR_ROOM: usize = 64;
 
 /// Writes pairs at a place, the first of them after a comma where it isn't the first of its list, and answers where they
-/// end. There is no loop where they are at most eight, or ten.
+/// end. There is no loop where they are at most nine.
 #[inline(always)]
-pub(crate) fn put_pairs(place: &mut [u8], at: usize, later: bool, sent: &[(Var, u64)]) -> usize
+pub(super) fn put_pairs(place: &mut [u8], at: usize, later: bool, sent: &[(Var, u64)]) -> usize
     requires { at + 64 * length sent.now ≤ length place.old }
     ensures len { length place.new ≡ length place.old }
     ensures most { result ≤ at + 64 * length sent.now }
     ensures bytes { take result place.new ≡ (with_pairs (take at place.old, later) sent.now).0 }
 {
     match sent {
-        [a] => put_pair(place, at, later, a.0, a.1),
-        [a, b] => put_two(place, at, later, *a, *b),
-        [a, b, c] => {
-            let at = put_two(place, at, later, *a, *b);
-            put_pair(place, at, true, c.0, c.1)
-        }
-        [a, b, c, d] => put_four(place, at, later, *a, *b, *c, *d),
-        [a, b, c, d, rest @ ..] => {
-            let at = put_four(place, at, later, *a, *b, *c, *d);
-            put_last(place, at, rest)
-        }
         [] => at,
-    }
-}
-
-/// Writes pairs after others at a place, with no loop where they are at most four, or six.
-#[inline(always)]
-fn put_last(place: &mut [u8], at: usize, sent: &[(Var, u64)]) -> usize
-    requires { at + 64 * length sent.now ≤ length place.old }
-    ensures len { length place.new ≡ length place.old }
-    ensures most { result ≤ at + 64 * length sent.now }
-    ensures bytes { take result place.new ≡ (with_pairs (take at place.old, true) sent.now).0 }
-{
-    match sent {
-        [] => at,
-        [a] => put_pair(place, at, true, a.0, a.1),
-        [a, b] => put_two(place, at, true, *a, *b),
-        [a, b, c] => {
-            let at = put_two(place, at, true, *a, *b);
-            put_pair(place, at, true, c.0, c.1)
+        [first, others @ ..] => {
+            let end = put_pair(place, at, later, first.0, first.1);
+            <Eight as PutEach<LaterPair>>::put_each(place, end, others)
         }
-        [a, b, c, d] => put_four(place, at, true, *a, *b, *c, *d),
-        [a, b, c, d, e, f] => put_six(place, at, *a, *b, *c, *d, *e, *f),
-        _ => put_more(place, at, sent),
     }
 }
 
-/// Writes two pairs at a place.
-#[inline(always)]
-fn put_two(place: &mut [u8], at: usize, later: bool, a: (Var, u64), b: (Var, u64)) -> usize
-    requires { at + 128 ≤ length place.old }
-    ensures len { length place.new ≡ length place.old }
-    ensures most { result ≤ at + 128 }
-    ensures bytes { take result place.new ≡ (with_pairs (take at place.old, later) (a ∷ b ∷ [])).0 }
-{
-    let at = put_pair(place, at, later, a.0, a.1);
-    put_pair(place, at, true, b.0, b.1)
-}
+/// The pair of a variable, after another.
+struct LaterPair;
 
-/// Writes four pairs at a place.
-#[inline(always)]
-fn put_four(
-    place: &mut [u8],
-    at: usize,
-    later: bool,
-    a: (Var, u64),
-    b: (Var, u64),
-    c: (Var, u64),
-    d: (Var, u64),
-) -> usize
-    requires { at + 256 ≤ length place.old }
-    ensures len { length place.new ≡ length place.old }
-    ensures most { result ≤ at + 256 }
-    ensures bytes { take result place.new ≡ (with_pairs (take at place.old, later) (a ∷ b ∷ c ∷ d ∷ [])).0 }
-{
-    let at = put_two(place, at, later, a, b);
-    put_two(place, at, true, c, d)
-}
+impl Put for LaterPair {
+    ghost room = { 64 };
 
-/// Writes six pairs after others at a place.
-#[inline(always)]
-fn put_six(
-    place: &mut [u8],
-    at: usize,
-    a: (Var, u64),
-    b: (Var, u64),
-    c: (Var, u64),
-    d: (Var, u64),
-    e: (Var, u64),
-    f: (Var, u64),
-) -> usize
-    requires { at + 384 ≤ length place.old }
-    ensures len { length place.new ≡ length place.old }
-    ensures most { result ≤ at + 384 }
-    ensures bytes { take result place.new ≡ (with_pairs (take at place.old, true) (a ∷ b ∷ c ∷ d ∷ e ∷ f ∷ [])).0 }
-{
-    let at = put_four(place, at, true, a, b, c, d);
-    put_two(place, at, true, e, f)
-}
+    ghost text = { later_pair };
 
-/// Writes pairs after others at a place, one after another.
-#[inline(never)]
-fn put_more(place: &mut [u8], at: usize, sent: &[(Var, u64)]) -> usize
-    requires { at + 64 * length sent.now ≤ length place.old }
-    ensures len { length place.new ≡ length place.old }
-    ensures most { result ≤ at + 64 * length sent.now }
-    ensures bytes { take result place.new ≡ (with_pairs (take at place.old, true) sent.now).0 }
-{
-    let mut end = at;
-    for pair in sent {
-        end = put_pair(place, end, true, pair.0, pair.1);
+    #[inline(always)]
+    fn put(place: &mut [u8], at: usize, var: Var, number: u64) -> usize {
+        put_pair(place, at, true, var, number)
     }
-    end
 }
 
 /// Writes the pair of a variable at a place, after a comma where it isn't the first of its list, and answers where it ends.

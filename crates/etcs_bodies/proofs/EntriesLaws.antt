@@ -5,7 +5,6 @@ use Rattle.etcs_vars.specs.declared.var.Var.TheVariants.{N_ITER}
 use Rattle.etcs_vars.specs.Reading.{Reading, spelled}
 use Rattle.etcs_bodies.specs.laws.Repeats.{bit_count_is, bit_count-append}
 use Rattle.etcs_bodies.specs.Codecs.{list_reading}
-use Rattle.etcs_bodies.specs.laws.Codecs.{both}
 use Rattle.etcs_bodies.specs.Entries.{entries_reading}
 
 -- ---- Their bits.

@@ -1,4 +1,4 @@
-pub mod Choices
 pub mod EntriesLaws
+pub mod Made
 pub mod Repeats
 pub mod Splits

@@ -39,8 +39,8 @@ abbrev pub side_from : {A B : Type 0} → (Left → Option (A × Left)) → (Lef
 side_from from from' true f = from f and_then λ a. Some (inl a.0, a.1)
 side_from from from' false f = from' f and_then λ b. Some (inr b.0, b.1)
 
-abbrev pub either_from : {A B : Type 0} → (Left → Option (A × Left)) → (Left → Option (B × Left)) → Left → Option ((A ⊎ B) × Left)
-either_from from from' f = next_flag f and_then λ b. side_from from from' b.0 b.1
+abbrev pub either_from : {A B : Type 0} → Var → (Left → Option (A × Left)) → (Left → Option (B × Left)) → Left → Option ((A ⊎ B) × Left)
+either_from v from from' f = next_flag v f and_then λ b. side_from from from' b.0 b.1
 
 abbrev pub either_row : Var → (Layout → Layout) → (Layout → Layout) → Layout → Layout
 either_row v row row' rest =

@@ -70,8 +70,8 @@ abbrev pub optional_reading : {W : Type 0} → Var → (W → Reading) → Optio
 optional_reading v reading None = (v, 0) ∷ []
 optional_reading v reading (Some w) = (v, 1) ∷ reading w
 
-abbrev pub optional_from : {W : Type 0} → (Left → Option (W × Left)) → Left → Option (Option W × Left)
-optional_from from f = next_flag f and_then λ b. opened from b.0 b.1
+abbrev pub optional_from : {W : Type 0} → Var → (Left → Option (W × Left)) → Left → Option (Option W × Left)
+optional_from v from f = next_flag v f and_then λ b. opened from b.0 b.1
 
 -- ---- The same value in another form, with its reading written out.
 

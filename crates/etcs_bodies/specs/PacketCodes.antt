@@ -1,5 +1,5 @@
 -- A packet's numbers and bits say which packet it is: what each typed packet keeps, and what follows for all.
-use Rattle.std.proofs.Common.{◌≡◌, ℕ, ◌≤◌, Bool, List, length, Option, Some, None}
+use Rattle.std.proofs.Common.{◌≡◌, ℕ, ◌≤◌, length, Option, Some, None}
 use Rattle.etcs_vars.specs.declared.var.Var.TheVariants.{Q_DIR}
 use Rattle.etcs_vars.specs.declared.fault.BuildFault.{BuildFault}
 use Rattle.etcs_vars.specs.Faults.{number_fault}
@@ -7,15 +7,14 @@ use Rattle.etcs_vars.specs.Reading.{Reading, numbers, spelled}
 use Rattle.etcs_tables.specs.declared.row.Way.{Way}
 use Rattle.etcs_tables.specs.declared.row.Way.TheVariants.{ToTrain, ToTrack}
 use Rattle.etcs_tables.specs.Layouts.{ROW_LIMIT}
-use Rattle.etcs_tables.specs.Typed.{IsTyped, IsFramed}
-use Rattle.etcs_bodies.specs.Taking.{Left, listed, in_bits, ◌and_then◌}
+use Rattle.etcs_tables.specs.Typed.{IsFramed}
+use Rattle.etcs_bodies.specs.Taking.{Left, Says, listed, ◌and_then◌}
+use Rattle.etcs_bodies.specs.Packets.{IsPacketLeft}
 
 -- what is read as a packet is one, and a packet is read of what it spells
 pub record PacketCodes {P : Type 0} (way : Way) (nid : ℕ) (direction : P → ℕ) (IsValue : P → Type 0) (reading : P → Reading) (from : ℕ → Left → Option P) : Type 0 where
-  pub of_numbers : (dir : ℕ) (f : List ℕ) (p : P) → from dir (listed f) ≡ Some p → IsValue p × (direction p ≡ dir) × (numbers (reading p) ≡ f)
-  pub of_bits : (dir : ℕ) (x : List Bool) (p : P) → from dir (in_bits x) ≡ Some p → IsValue p × (direction p ≡ dir) × (spelled (reading p) ≡ x)
-  pub untyped : (dir : ℕ) (f : List ℕ) → from dir (listed f) ≡ None → IsTyped way nid dir f → ⊥
-  pub unframed : (dir : ℕ) (x : List Bool) → from dir (in_bits x) ≡ None → (r : Reading) → IsFramed way nid dir r → spelled r ≡ x → ⊥
+  pub sound : (dir : ℕ) (s : Left) (p : P) → from dir s ≡ Some p → IsValue p × (direction p ≡ dir) × Says s (reading p)
+  pub complete : (dir : ℕ) (s : Left) → from dir s ≡ None → IsPacketLeft way nid dir s → ⊥
   pub framed : (p : P) → IsValue p → IsFramed way nid (direction p) (reading p)
   pub back : (p : P) → IsValue p → from (direction p) (listed (numbers (reading p))) ≡ Some p
 

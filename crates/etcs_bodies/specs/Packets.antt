@@ -8,7 +8,8 @@ use Rattle.etcs_tables.specs.declared.row.Way.{Way}
 use Rattle.etcs_tables.specs.declared.row.Way.TheVariants.{ToTrain}
 use Rattle.etcs_tables.specs.Frames.{is_direction}
 use Rattle.etcs_tables.specs.Layouts.{ROW_LIMIT}
-use Rattle.etcs_bodies.specs.Taking.{Left, is_spent, ◌and_then◌}
+use Rattle.etcs_tables.specs.Typed.{IsFramed}
+use Rattle.etcs_bodies.specs.Taking.{Left, Says, is_spent, ◌and_then◌}
 use Rattle.etcs_bodies.specs.Repeats.{bit_count}
 
 -- ---- The length.
@@ -25,6 +26,10 @@ length_fault r = bits_fault (bit_count r)
 -- the packet this way of a direction that it may have, which takes all that is left
 unfoldable pub packet_to : {P : Type 0} → Way → (ℕ → Left → Option (P × Left)) → ℕ → Left → Option P
 packet_to way from dir s = if is_direction way dir then (from dir s and_then λ p. if is_spent p.1 then Some p.0 else None) else None
+
+-- all that is left is a typed packet of this number and direction
+abbrev pub IsPacketLeft : Way → ℕ → ℕ → Left → Type 0
+IsPacketLeft way nid dir s = (r : Reading) × IsFramed way nid dir r × Says s r
 
 -- to the train
 abbrev pub packet_from : {P : Type 0} → (ℕ → Left → Option (P × Left)) → ℕ → Left → Option P

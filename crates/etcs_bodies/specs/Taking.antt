@@ -1,19 +1,46 @@
--- Taking numbers from the front of what is left: of a list of them, or of bits that spell them.
-use Rattle.std.specs.Prelude.{ℕ, zero, suc, Bool, true, false, List, [], ◌∷◌, ◌++◌, drop, Option, Some, None, if◌then◌else◌}
+-- Taking numbers from the front of what is left: of a list of them, of bits that spell them, or of names with numbers.
+use Rattle.std.specs.Prelude.{◌≡◌, ℕ, zero, suc, Bool, true, false, ◌&&◌, List, [], ◌∷◌, ◌++◌, drop, map, bytes_eq, Option, Some, None, if◌then◌else◌}
+use Rattle.std.specs.Bool.{beq}
 use Rattle.etcs_bits.specs.Bits.{number_at}
 use Rattle.etcs_vars.specs.declared.var.Var.{Var}
-use Rattle.etcs_vars.specs.Vars.{width, admits}
-use Rattle.etcs_vars.specs.Reading.{Reading, numbers, spelled}
+use Rattle.etcs_vars.specs.declared.var.Var.TheVariants.{NID_RADIO}
+use Rattle.etcs_vars.specs.Vars.{width, admits, name}
+use Rattle.etcs_vars.specs.Reading.{Sent, Reading, numbers, spelled}
+
+-- a name, whether its number is in hexadecimal, and the number
+abbrev pub Named : Type 0
+Named = (List ℕ × Bool) × ℕ
+
+-- variables whose numbers are in hexadecimal where they have names
+unfoldable pub in_hexadecimal : Var → Bool
+in_hexadecimal NID_RADIO = true
+in_hexadecimal v = false
+
+-- a variable and its number, under the variable's name
+abbrev pub named_as : Sent → Named
+named_as p = ((name p.0, in_hexadecimal p.0), p.1)
+
+-- a name is the variable's, and its number is in the form of the variable
+abbrev pub is_of : Var → List ℕ × Bool → Bool
+is_of v n = bytes_eq (name v) n.0 && beq (in_hexadecimal v) n.1
 
 -- what is still to be taken
 pub data Left : Type 0 where
   listed : List ℕ → Left
   in_bits : List Bool → Left
+  named : List Named → Left
 
 -- with these variables in front
 abbrev pub ahead : Reading → Left → Left
 ahead r (listed f) = listed (numbers r ++ f)
 ahead r (in_bits b) = in_bits (spelled r ++ b)
+ahead r (named s) = named (map named_as r ++ s)
+
+-- all that is left is these variables
+abbrev pub Says : Left → Reading → Type 0
+Says (listed f) r = numbers r ≡ f
+Says (in_bits b) r = spelled r ≡ b
+Says (named s) r = map named_as r ≡ s
 
 -- nothing is left
 abbrev pub is_spent : Left → Bool
@@ -21,6 +48,8 @@ is_spent (listed []) = true
 is_spent (listed (n ∷ f)) = false
 is_spent (in_bits []) = true
 is_spent (in_bits (b ∷ bs)) = false
+is_spent (named []) = true
+is_spent (named (n ∷ s)) = false
 
 -- what a taking of one thing leaves for the next
 infixr 10 ◌and_then◌
@@ -37,15 +66,23 @@ unfoldable pub next_number : Var → Left → Option (ℕ × Left)
 next_number v (listed []) = None
 next_number v (listed (n ∷ f)) = admitted_of v n (listed f)
 next_number v (in_bits b) = number_at 0 (width v) b and_then λ n. admitted_of v n (in_bits (drop (width v) b))
+next_number v (named []) = None
+next_number v (named (p ∷ s)) = if is_of v p.0 then admitted_of v p.1 (named s) else None
+
+-- the number of a flag, and what is after it
+abbrev pub flag_of : ℕ → Left → Option (Bool × Left)
+flag_of zero s = Some (false, s)
+flag_of (suc zero) s = Some (true, s)
+flag_of (suc (suc n)) s = None
 
 -- a variable of one bit
-unfoldable pub next_flag : Left → Option (Bool × Left)
-next_flag (listed []) = None
-next_flag (listed (zero ∷ f)) = Some (false, listed f)
-next_flag (listed (suc zero ∷ f)) = Some (true, listed f)
-next_flag (listed (suc (suc n) ∷ f)) = None
-next_flag (in_bits []) = None
-next_flag (in_bits (b ∷ bs)) = Some (b, in_bits bs)
+unfoldable pub next_flag : Var → Left → Option (Bool × Left)
+next_flag v (listed []) = None
+next_flag v (listed (n ∷ f)) = flag_of n (listed f)
+next_flag v (in_bits []) = None
+next_flag v (in_bits (b ∷ bs)) = Some (b, in_bits bs)
+next_flag v (named []) = None
+next_flag v (named (p ∷ s)) = if is_of v p.0 then flag_of p.1 (named s) else None
 
 -- n things, one after another
 unfoldable pub times_from : {V : Type 0} → (Left → Option (V × Left)) → ℕ → Left → Option (List V × Left)

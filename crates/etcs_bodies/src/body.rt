@@ -7,7 +7,7 @@ ghost use Rattle.etcs_bodies.specs.Packets.{packet_to};
 ghost use Rattle.etcs_bodies.specs.PacketCodes.{PacketCodes};
 
 use crate::framed::Framed;
-use crate::numbers::Numbers;
+use crate::numbers::{Listed, Numbers, Spelled};
 use crate::packetlike::Packetlike;
 use etcs_bits::BitSlice;
 use etcs_tables::{Way, is_direction};
@@ -47,10 +47,10 @@ pub trait Body: Variables + Drop {
     /// # Errors
     ///
     /// `AllocError` where there is no memory.
-    fn take(alloc: Global, dir: u8, numbers: &mut Numbers) -> Result<Option<Self>, AllocError>
+    fn take<L: Numbers>(alloc: Global, dir: u8, numbers: &mut L) -> Result<Option<Self>, AllocError>
         requires { IsTrue (is_direction WAY dir) }
-        ensures some { IfOk result (λ o. IfSome o (λ p. read_from dir numbers.old ≡ Some (p, numbers.new))) }
-        ensures none { IfOk result (λ o. IfNone o (read_from dir numbers.old ≡ None)) };
+        ensures some { IfOk result (λ o. IfSome o (λ p. read_from dir (L.left numbers.old) ≡ Some (p, L.left numbers.new))) }
+        ensures none { IfOk result (λ o. IfNone o (read_from dir (L.left numbers.old) ≡ None)) };
 
     /// An equal packet.
     ///
@@ -67,9 +67,13 @@ pub trait Body: Variables + Drop {
 /// The packet of a direction that takes all of the numbers.
 #[tactic(auto, unfolding(crate::specs::Packets::packet_to))]
 #[inline(always)]
-fn read<P: Body>(alloc: Global, dir: u8, mut numbers: Numbers<'_>) -> Result<Option<P>, AllocError>
-    ensures some { IfOk result (λ o. IfSome o (λ p. packet_to P.WAY P.read_from dir numbers.entry ≡ Some p)) }
-    ensures none { IfOk result (λ o. IfNone o (packet_to P.WAY P.read_from dir numbers.entry ≡ None)) }
+fn read<P: Body, L: Numbers + Drop>(
+    alloc: Global,
+    dir: u8,
+    mut numbers: L,
+) -> Result<Option<P>, AllocError>
+    ensures some { IfOk result (λ o. IfSome o (λ p. packet_to P.WAY P.read_from dir (L.left numbers) ≡ Some p)) }
+    ensures none { IfOk result (λ o. IfNone o (packet_to P.WAY P.read_from dir (L.left numbers) ≡ None)) }
 {
     if !is_direction(P::WAY, dir) {
         return Ok(None);
@@ -111,8 +115,9 @@ impl<P: Body> Packetlike for P {
         append_numbers(self, out)
     }
 
+    #[tactic(auto, using(crate::specs::laws::PacketCodes::all_untyped))]
     fn from_fields(alloc: Global, dir: u8, fields: &[u64]) -> Result<Option<P>, AllocError> {
-        read(alloc, dir, Numbers::new(fields))
+        read(alloc, dir, Listed::new(fields))
     }
 }
 
@@ -121,8 +126,18 @@ impl<P: Body> Framed for P {
 
     ghost framed = { all_framed P.codes };
 
+    #[tactic(auto, using(crate::specs::laws::PacketCodes::all_unframed))]
     fn from_bits(alloc: Global, dir: u8, bits: BitSlice<'_>) -> Result<Option<P>, AllocError> {
-        read(alloc, dir, Numbers::in_bits(bits))
+        read(alloc, dir, Spelled::new(bits))
+    }
+
+    #[inline(always)]
+    fn from_numbers<L: Numbers + Drop>(
+        alloc: Global,
+        dir: u8,
+        numbers: L,
+    ) -> Result<Option<P>, AllocError> {
+        read(alloc, dir, numbers)
     }
 
     fn try_clone(&self, alloc: Global) -> Result<P, AllocError> {

@@ -98,7 +98,7 @@ impl<E: Entry> Part for Counted<E> {
         let _ = &self.entries;
     }
 
-    fn take(alloc: Global, numbers: &mut Numbers) -> Result<Option<Counted<E>>, AllocError> {
+    fn take<L: Numbers>(alloc: Global, numbers: &mut L) -> Result<Option<Counted<E>>, AllocError> {
         let entries = taken!(take_list(alloc, Var::N_ITER, numbers)?);
         Ok(Some(Counted {
             entries: ListOf::from_vec(entries),

@@ -127,7 +127,7 @@ impl<E: Entry> Part for Entries<E> {
         let _ = &self.first;
     }
 
-    fn take(alloc: Global, numbers: &mut Numbers) -> Result<Option<Entries<E>>, AllocError> {
+    fn take<L: Numbers>(alloc: Global, numbers: &mut L) -> Result<Option<Entries<E>>, AllocError> {
         let first = taken!(E::take(alloc, numbers)?);
         let further = taken!(take_list(alloc, Var::N_ITER, numbers)?);
         Ok(Some(Entries {

@@ -89,7 +89,7 @@ macro_rules! check_field {
 #[macro_export]
 macro_rules! take_field {
     ($alloc:ident $numbers:ident $var:ident bool) => {
-        $crate::taken!($numbers.flag())
+        $crate::taken!($numbers.flag(Var::$var))
     };
     ($alloc:ident $numbers:ident $var:ident $type:ident) => {
         $crate::taken!($numbers.next(Var::$var)) as $type
@@ -117,7 +117,7 @@ macro_rules! take_run {
 /// The variables of a run.
 #[macro_export]
 macro_rules! run_of {
-    ($var:ident bool) => { $crate::Flag };
+    ($var:ident bool) => { $crate::Flag(Var::$var) };
     ($var:ident $type:ident) => { Var::$var };
     ($var:ident $type:ident, $($vars:ident $types:ident),+) => {
         ($crate::run_of!($var $type), $crate::run_of!($($vars $types),+))

@@ -3,7 +3,10 @@
 ghost use Rattle.std.specs.Prelude.{◌≡◌, IfOk, IfSome, IsNone};
 ghost use Rattle.etcs_vars.specs.Reading.{Reading, numbers, spelled};
 ghost use Rattle.etcs_tables.specs.Typed.{IsFramed};
+ghost use Rattle.etcs_bodies.specs.Taking.{Says};
+ghost use Rattle.etcs_bodies.specs.Packets.{IsPacketLeft};
 
+use crate::numbers::Numbers;
 use crate::packetlike::Packetlike;
 use etcs_bits::BitSlice;
 use etcs_vars::inner::Variables;
@@ -20,6 +23,20 @@ pub trait Framed: Packetlike + Variables {
     fn from_bits(alloc: Global, dir: u8, bits: BitSlice<'_>) -> Result<Option<Self>, AllocError>
         ensures some { IfOk result (λ o. IfSome o (λ p. Self.is_value p × (Self.direction p ≡ dir) × (spelled (Self.reading_of p) ≡ bits.entry))) }
         ensures none { IfOk result (λ o. IsNone o → (r : Reading) → IsFramed Self.WAY Self.NID dir r → spelled r ≡ bits.entry → ⊥) };
+
+    /// The packet of a direction and of the numbers after L_PACKET, all of them, in any form; `None` exactly where the
+    /// direction isn't admitted or they aren't those of the row.
+    ///
+    /// # Errors
+    ///
+    /// `AllocError` where there is no memory.
+    fn from_numbers<L: Numbers + Drop>(
+        alloc: Global,
+        dir: u8,
+        numbers: L,
+    ) -> Result<Option<Self>, AllocError>
+        ensures some { IfOk result (λ o. IfSome o (λ p. Self.is_value p × (Self.direction p ≡ dir) × Says (L.left numbers) (Self.reading_of p))) }
+        ensures none { IfOk result (λ o. IsNone o → IsPacketLeft Self.WAY Self.NID dir (L.left numbers) → ⊥) };
 
     /// An equal packet.
     ///

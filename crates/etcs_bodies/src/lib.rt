@@ -23,7 +23,7 @@ pub use faults::check_count;
 pub use framed::Framed;
 pub use guards::check_guard;
 pub use list_of::ListOf;
-pub use numbers::Numbers;
+pub use numbers::{Listed, NextNumber, Numbers, Spelled};
 pub use packetlike::Packetlike;
 pub use part::{Part, clone_all, hold_all, send_list, take_list};
 pub use runs::{Flag, Run};

@@ -2,8 +2,7 @@
 
 ghost use Rattle.std.specs.Prelude.{◌≡◌, ◌<◌, nat_lt, Some, None, IfSome, IfNone, IsTrue};
 ghost use Rattle.etcs_vars.specs.Vars.{admits};
-ghost use Rattle.etcs_vars.specs.Faults.{number_fault};
-ghost use Rattle.etcs_bodies.specs.Taking.{Left, listed, in_bits, is_spent, next_number, next_flag};
+ghost use Rattle.etcs_bodies.specs.Taking.{listed, in_bits, next_number, next_flag};
 ghost use Rattle.etcs_bodies.specs.Sources.{bits_left};
 
 use crate::runs::Run;
@@ -11,102 +10,155 @@ use etcs_bits::{BitSlice, SliceWalker};
 use etcs_vars::Var;
 use std::marker::Model;
 
-/// The numbers that are still to be taken: of a list, or of the bits that spell them.
-#[derive(Drop)]
-pub struct Numbers<'a> {
-    left: Source<'a>,
+/// Numbers that are still to be taken, one by one.
+pub trait NextNumber {
+    ghost use Rattle.std.specs.Prelude.{◌≡◌, Some, None, IfSome, IfNone, IsTrue};
+    ghost use Rattle.etcs_vars.specs.Vars.{admits};
+    ghost use Rattle.etcs_vars.specs.Faults.{number_fault};
+    ghost use Rattle.etcs_bodies.specs.Taking.{Left, is_spent, next_number, next_flag};
+
+    /// What is left.
+    ghost left: { Self → Left };
+
+    /// Whether nothing is left.
+    fn is_empty(&self) -> bool
+        ensures { result ≡ is_spent (left self.now) };
+
+    /// The next number, where the variable admits it.
+    fn next(&mut self, var: Var) -> Option<u64>
+        ensures admitted { IfSome result (λ n. number_fault var n ≡ None) }
+        ensures bounded { IfSome result (λ n. IsTrue (admits var n)) }
+        ensures next { IfSome result (λ n. next_number var (left self.old) ≡ Some (n, left self.new)) }
+        ensures none { IfNone result (next_number var (left self.old) ≡ None) };
+
+    /// The next number as a flag.
+    fn flag(&mut self, var: Var) -> Option<bool>
+        ensures next { IfSome result (λ b. next_flag var (left self.old) ≡ Some (b, left self.new)) }
+        ensures none { IfNone result (next_flag var (left self.old) ≡ None) };
 }
 
-#[derive(Drop)]
-enum Source<'a> {
-    Listed(&'a [u64]),
-    Spelled(SliceWalker<'a>),
+/// Numbers that are still to be taken, one by one or several at a time.
+pub trait Numbers: NextNumber {
+    ghost use Rattle.std.specs.Prelude.{nat_lt, IfSome, IfNone, IsTrue};
+
+    /// The next numbers, where the variables of the run admit them.
+    fn run<R: Run>(&mut self, run: R) -> Option<R::Taken>
+        requires { IsTrue (nat_lt (R.bits run) 64) }
+        ensures some { IfSome result (λ ns. R.Takes run (Self.left self.old) ns (Self.left self.new)) }
+        ensures none { IfNone result (R.Lacks run (Self.left self.old)) };
 }
 
-impl<'a> Model for Numbers<'a> {
-    ghost use Rattle.etcs_bodies.specs.Taking.{Left};
-    ghost use Rattle.etcs_bodies.specs.Sources.{left_of};
+/// The numbers of a list.
+#[derive(Drop)]
+pub struct Listed<'a> {
+    list: &'a [u64],
+}
+
+impl<'a> Model for Listed<'a> {
+    ghost use Rattle.etcs_bodies.specs.Taking.{Left, listed};
 
     ghost Value = { Left };
 
-    ghost view = { λ s. left_of s.left };
+    ghost view = { λ s. listed s.list.now };
 }
 
-impl<'a> Numbers<'a> {
+impl<'a> Listed<'a> {
     /// All of these numbers.
-    pub fn new(list: &'a [u64]) -> Numbers<'a>
+    #[inline(always)]
+    pub fn new(list: &'a [u64]) -> Listed<'a>
         ensures { result ≡ listed list.now }
     {
-        Numbers {
-            left: Source::Listed(list),
-        }
+        Listed { list }
+    }
+}
+
+impl<'a> NextNumber for Listed<'a> {
+    ghost left = { λ s. s };
+
+    #[tactic(auto, using(crate::specs::laws::Sources::none_listed))]
+    #[inline(always)]
+    fn is_empty(&self) -> bool {
+        self.list.is_empty()
     }
 
-    /// The numbers that these bits spell, each in the width of the variable that it is taken for.
-    pub fn in_bits(bits: BitSlice<'a>) -> Numbers<'a>
-        ensures { result ≡ in_bits bits.entry }
-    {
-        Numbers {
-            left: Source::Spelled(SliceWalker::new(bits)),
-        }
-    }
-
-    /// Whether nothing is left.
-    #[tactic(auto, using(crate::specs::laws::Sources::none_listed, crate::specs::laws::Sources::none_in_bits))]
-    pub fn is_empty(&self) -> bool
-        ensures { result ≡ is_spent self.now }
-    {
-        match &self.left {
-            Source::Listed(list) => list.is_empty(),
-            Source::Spelled(walker) => walker.is_at_end(),
-        }
-    }
-
-    /// The next number, where the variable admits it.
     #[tactic(auto, using(crate::specs::laws::Takes::number_ok))]
     #[inline(always)]
-    pub fn next(&mut self, var: Var) -> Option<u64>
-        ensures admitted { IfSome result (λ n. number_fault var n ≡ None) }
-        ensures bounded { IfSome result (λ n. IsTrue (admits var n)) }
-        ensures next { IfSome result (λ n. next_number var self.old ≡ Some (n, self.new)) }
-        ensures none { IfNone result (next_number var self.old ≡ None) }
-    {
-        match &mut self.left {
-            Source::Listed(list) => next_listed(list, var),
-            Source::Spelled(walker) => next_in_bits(walker, var),
-        }
+    fn next(&mut self, var: Var) -> Option<u64> {
+        next_listed(&mut self.list, var)
     }
 
-    /// The next numbers, where the variables of the run admit them.
     #[inline(always)]
-    pub fn run<R: Run>(&mut self, run: R) -> Option<R::Taken>
-        requires { IsTrue (nat_lt (R.bits run) 64) }
-        ensures some { IfSome result (λ ns. R.Takes run self.old ns self.new) }
-        ensures none { IfNone result (R.Lacks run self.old) }
+    fn flag(&mut self, var: Var) -> Option<bool> {
+        flag_listed(&mut self.list, var)
+    }
+}
+
+impl<'a> Numbers for Listed<'a> {
+    #[inline(always)]
+    fn run<R: Run>(&mut self, run: R) -> Option<R::Taken> {
+        run.each(self)
+    }
+}
+
+/// The numbers that bits spell, each in the width of the variable that it is taken for.
+#[derive(Drop)]
+pub struct Spelled<'a> {
+    walker: SliceWalker<'a>,
+}
+
+impl<'a> Model for Spelled<'a> {
+    ghost use Rattle.etcs_bodies.specs.Taking.{Left};
+    ghost use Rattle.etcs_bodies.specs.Sources.{bits_left};
+
+    ghost Value = { Left };
+
+    ghost view = { λ s. bits_left s.walker };
+}
+
+impl<'a> Spelled<'a> {
+    /// The numbers that these bits spell.
+    #[inline(always)]
+    pub fn new(bits: BitSlice<'a>) -> Spelled<'a>
+        ensures { result ≡ in_bits bits.entry }
     {
-        match &mut self.left {
-            Source::Listed(list) => run.listed(list),
-            Source::Spelled(walker) => run_in_bits(walker, run),
+        Spelled {
+            walker: SliceWalker::new(bits),
         }
     }
+}
 
-    /// The next number as a flag.
+impl<'a> NextNumber for Spelled<'a> {
+    ghost left = { λ s. s };
+
+    #[tactic(auto, using(crate::specs::laws::Sources::none_in_bits))]
     #[inline(always)]
-    pub fn flag(&mut self) -> Option<bool>
-        ensures next { IfSome result (λ b. next_flag self.old ≡ Some (b, self.new)) }
-        ensures none { IfNone result (next_flag self.old ≡ None) }
-    {
-        match &mut self.left {
-            Source::Listed(list) => flag_listed(list),
-            Source::Spelled(walker) => flag_in_bits(walker),
-        }
+    fn is_empty(&self) -> bool {
+        self.walker.is_at_end()
+    }
+
+    #[tactic(auto, using(crate::specs::laws::Takes::number_ok))]
+    #[inline(always)]
+    fn next(&mut self, var: Var) -> Option<u64> {
+        next_in_bits(&mut self.walker, var)
+    }
+
+    #[inline(always)]
+    fn flag(&mut self, var: Var) -> Option<bool> {
+        flag_in_bits(&mut self.walker, var)
+    }
+}
+
+impl<'a> Numbers for Spelled<'a> {
+    #[inline(always)]
+    fn run<R: Run>(&mut self, run: R) -> Option<R::Taken> {
+        run_in_bits(&mut self.walker, run)
     }
 }
 
 /// Takes the first number of a list, where the variable admits it.
 #[tactic(auto, using(crate::specs::laws::Sources::next_is_listed, crate::specs::laws::Sources::not_listed, crate::specs::laws::Sources::none_next))]
 #[inline(always)]
-pub(crate) fn next_listed<'a>(list: &mut &'a [u64], var: Var) -> Option<u64>
+fn next_listed<'a>(list: &mut &'a [u64], var: Var) -> Option<u64>
     ensures some { IfSome result (λ n. next_number var (listed list.old.now) ≡ Some (n, listed list.new.now)) }
     ensures bounded { IfSome result (λ n. IsTrue (admits var n)) }
     ensures none { IfNone result (next_number var (listed list.old.now) ≡ None) }
@@ -152,10 +204,11 @@ fn run_in_bits<R: Run>(walker: &mut SliceWalker<'_>, run: R) -> Option<R::Taken>
 /// Takes the first number of a list as a flag.
 #[tactic(auto, using(crate::specs::laws::Sources::flag_is_listed, crate::specs::laws::Sources::no_flag, crate::specs::laws::Sources::flag_too_large))]
 #[inline(always)]
-pub(crate) fn flag_listed<'a>(list: &mut &'a [u64]) -> Option<bool>
-    ensures some { IfSome result (λ b. next_flag (listed list.old.now) ≡ Some (b, listed list.new.now)) }
-    ensures none { IfNone result (next_flag (listed list.old.now) ≡ None) }
+fn flag_listed<'a>(list: &mut &'a [u64], var: Var) -> Option<bool>
+    ensures some { IfSome result (λ b. next_flag var (listed list.old.now) ≡ Some (b, listed list.new.now)) }
+    ensures none { IfNone result (next_flag var (listed list.old.now) ≡ None) }
 {
+    let _ = var;
     match list.split_first() {
         None => None,
         Some((number, behind)) => {
@@ -171,9 +224,10 @@ pub(crate) fn flag_listed<'a>(list: &mut &'a [u64]) -> Option<bool>
 /// Takes the next bit as a flag.
 #[tactic(auto, using(crate::specs::laws::Sources::flag_is_in_bits, crate::specs::laws::Sources::no_flag_in_bits))]
 #[inline(always)]
-fn flag_in_bits(walker: &mut SliceWalker<'_>) -> Option<bool>
-    ensures some { IfSome result (λ b. next_flag (bits_left walker.old) ≡ Some (b, bits_left walker.new)) }
-    ensures none { IfNone result (next_flag (bits_left walker.old) ≡ None) }
+fn flag_in_bits(walker: &mut SliceWalker<'_>, var: Var) -> Option<bool>
+    ensures some { IfSome result (λ b. next_flag var (bits_left walker.old) ≡ Some (b, bits_left walker.new)) }
+    ensures none { IfNone result (next_flag var (bits_left walker.old) ≡ None) }
 {
+    let _ = var;
     Some(walker.next(1)? == 1)
 }

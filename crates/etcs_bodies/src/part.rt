@@ -32,10 +32,10 @@ pub trait Part: Variables + Sized {
         ensures { is_part self.now };
 
     /// Takes the part that the numbers begin with, if they begin with one.
-    fn take(alloc: Global, numbers: &mut Numbers) -> Result<Option<Self>, AllocError>
+    fn take<L: Numbers>(alloc: Global, numbers: &mut L) -> Result<Option<Self>, AllocError>
         ensures part { IfOk result (λ o. IfSome o (λ p. is_part p)) }
-        ensures from { IfOk result (λ o. IfSome o (λ p. read_from numbers.old ≡ Some (p, numbers.new))) }
-        ensures none { IfOk result (λ o. IfNone o (read_from numbers.old ≡ None)) };
+        ensures from { IfOk result (λ o. IfSome o (λ p. read_from (L.left numbers.old) ≡ Some (p, L.left numbers.new))) }
+        ensures none { IfOk result (λ o. IfNone o (read_from (L.left numbers.old) ≡ None)) };
 
     /// An equal part.
     fn try_clone(&self, alloc: Global) -> Result<Self, AllocError>
@@ -66,15 +66,15 @@ pub fn clone_all<P: Part + Drop>(alloc: Global, parts: &[P]) -> Result<Vec<P>, A
 }
 
 /// Takes this many parts.
-fn take_all<P: Part + Drop>(
+fn take_all<P: Part + Drop, L: Numbers>(
     alloc: Global,
-    numbers: &mut Numbers,
+    numbers: &mut L,
     count: usize,
 ) -> Result<Option<Vec<P>>, AllocError>
     ensures count { IfOk result (λ o. IfSome o (λ ps. length ps.items ≡ count)) }
     ensures parts { IfOk result (λ o. IfSome o (λ ps. All P.is_part ps.items)) }
-    ensures from { IfOk result (λ o. IfSome o (λ ps. times_from P.read_from count numbers.old ≡ Some (ps.items, numbers.new))) }
-    ensures none { IfOk result (λ o. IfNone o (times_from P.read_from count numbers.old ≡ None)) }
+    ensures from { IfOk result (λ o. IfSome o (λ ps. times_from P.read_from count (L.left numbers.old) ≡ Some (ps.items, L.left numbers.new))) }
+    ensures none { IfOk result (λ o. IfNone o (times_from P.read_from count (L.left numbers.old) ≡ None)) }
 {
     let mut parts = Vec::with_capacity(alloc, count)?;
     for _ in 0..count {
@@ -88,15 +88,15 @@ fn take_all<P: Part + Drop>(
 
 /// Takes a list of parts after its count.
 #[tactic(auto, using(crate::specs::laws::Repeats::list_is, crate::specs::laws::Repeats::list_missing, crate::specs::laws::Repeats::list_uncounted, crate::specs::laws::Takes::counted_is))]
-pub fn take_list<P: Part + Drop>(
+pub fn take_list<P: Part + Drop, L: Numbers>(
     alloc: Global,
     count: Var,
-    numbers: &mut Numbers,
+    numbers: &mut L,
 ) -> Result<Option<Vec<P>>, AllocError>
     ensures count { IfOk result (λ o. IfSome o (λ ps. count_fault count (length ps.items) ≡ None)) }
     ensures parts { IfOk result (λ o. IfSome o (λ ps. All P.is_part ps.items)) }
-    ensures from { IfOk result (λ o. IfSome o (λ ps. list_from count P.read_from numbers.old ≡ Some (ps.items, numbers.new))) }
-    ensures none { IfOk result (λ o. IfNone o (list_from count P.read_from numbers.old ≡ None)) }
+    ensures from { IfOk result (λ o. IfSome o (λ ps. list_from count P.read_from (L.left numbers.old) ≡ Some (ps.items, L.left numbers.new))) }
+    ensures none { IfOk result (λ o. IfNone o (list_from count P.read_from (L.left numbers.old) ≡ None)) }
 {
     let many = taken!(numbers.next(count));
     take_all(alloc, numbers, many as usize)

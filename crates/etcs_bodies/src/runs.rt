@@ -1,16 +1,14 @@
 //! Variables one after another, whose numbers are taken together.
 
-ghost use Rattle.std.specs.Prelude.{◌≡◌, ℕ, ◌+◌, ◌/◌, ◌%◌, ◌^◌, ◌<◌, List, Bool, ◌⊎◌, IfSome, IfNone, drop};
-ghost use Rattle.etcs_bodies.specs.Taking.{Left, listed, in_bits};
-ghost use Rattle.etcs_bodies.specs.Runs.{TakesBits, LiesAt};
+ghost use Rattle.std.specs.Prelude.{◌≡◌, ℕ, ◌+◌, ◌/◌, ◌%◌, ◌^◌, ◌<◌};
 
-use crate::numbers::{flag_listed, next_listed};
+use crate::numbers::NextNumber;
 use etcs_vars::Var;
 
 /// Variables one after another.
 pub trait Run: Copy {
     ghost use Rattle.std.specs.Prelude.{◌≡◌, ℕ, ◌+◌, ◌<◌, List, Bool, ◌⊎◌, IfSome, IfNone, drop};
-    ghost use Rattle.etcs_bodies.specs.Taking.{Left, listed, in_bits};
+    ghost use Rattle.etcs_bodies.specs.Taking.{Left, in_bits};
     ghost use Rattle.etcs_bodies.specs.Runs.{TakesBits, LiesAt};
 
     /// Their numbers.
@@ -33,10 +31,10 @@ pub trait Run: Copy {
         requires { bits self < 64 }
         ensures { result ≡ bits self };
 
-    /// Takes their numbers from the front of a list.
-    fn listed(self, list: &mut &[u64]) -> Option<Self::Taken>
-        ensures some { IfSome result (λ ns. Takes self (listed list.old.now) ns (listed list.new.now)) }
-        ensures none { IfNone result (Lacks self (listed list.old.now)) };
+    /// Takes their numbers one after another.
+    fn each<N: NextNumber>(self, numbers: &mut N) -> Option<Self::Taken>
+        ensures some { IfSome result (λ ns. Takes self (N.left numbers.old) ns (N.left numbers.new)) }
+        ensures none { IfNone result (Lacks self (N.left numbers.old)) };
 
     /// Their numbers in a word, with this many bits after them.
     fn split(self, word: u64, behind: usize) -> Option<Self::Taken>
@@ -56,7 +54,7 @@ fn field(word: u64, width: usize, behind: usize) -> u64
 
 /// A variable of one bit.
 #[derive(Clone, Copy)]
-pub struct Flag;
+pub struct Flag(pub Var);
 
 impl Run for Flag {
     ghost use Rattle.std.specs.Prelude.{◌≡◌, Some, None};
@@ -67,11 +65,11 @@ impl Run for Flag {
 
     ghost bits = { λ f. 1 };
 
-    ghost Takes = { λ f s b t. next_flag s ≡ Some (b, t) };
+    ghost Takes = { λ f s b t. next_flag f.0 s ≡ Some (b, t) };
 
-    ghost Lacks = { λ f s. next_flag s ≡ None };
+    ghost Lacks = { λ f s. next_flag f.0 s ≡ None };
 
-    ghost either = { λ f. flag_or_none };
+    ghost either = { λ f. flag_or_none f.0 };
 
     #[inline(always)]
     fn width(self) -> usize {
@@ -79,8 +77,8 @@ impl Run for Flag {
     }
 
     #[inline(always)]
-    fn listed(self, list: &mut &[u64]) -> Option<bool> {
-        flag_listed(list)
+    fn each<N: NextNumber>(self, numbers: &mut N) -> Option<bool> {
+        numbers.flag(self.0)
     }
 
     #[inline(always)]
@@ -111,10 +109,9 @@ impl Run for Var {
         Var::width(self)
     }
 
-    #[tactic(auto, using(crate::specs::laws::Takes::number_ok))]
     #[inline(always)]
-    fn listed(self, list: &mut &[u64]) -> Option<u64> {
-        next_listed(list, self)
+    fn each<N: NextNumber>(self, numbers: &mut N) -> Option<u64> {
+        numbers.next(self)
     }
 
     #[inline(always)]
@@ -148,9 +145,9 @@ impl<A: Run, B: Run> Run for (A, B) {
     }
 
     #[inline(always)]
-    fn listed(self, list: &mut &[u64]) -> Option<(A::Taken, B::Taken)> {
-        let first = self.0.listed(list)?;
-        let second = self.1.listed(list)?;
+    fn each<N: NextNumber>(self, numbers: &mut N) -> Option<(A::Taken, B::Taken)> {
+        let first = self.0.each(numbers)?;
+        let second = self.1.each(numbers)?;
         Some((first, second))
     }
 

@@ -13,7 +13,7 @@ use crate::packets::{FAULTS, Spelled, check_packet, kept, next_dir, say_checked,
 use crate::parts::{FAULTS as FAULTS_OF_PARTS, check_numbers, next_part};
 use crate::sent::packet_sent;
 use etcs_bits::Bits;
-use etcs_bodies::{Numbers, Part};
+use etcs_bodies::{Listed, NextNumber, Numbers, Part};
 use etcs_packets::{
     Authority, BaliseAt, BaliseList, Condition, ConditionalLevelOrder, FixedText, Gradient,
     InfillLocation, Level1Ma, Level23Ma, LevelOrder, Linking, ModeProfile, Packet, PlainText,
@@ -107,7 +107,7 @@ fn found<A: Drop>(case: &mut Case, built: Result<A, BuildFault>, faults: &FaultT
 }
 
 /// The parts of all these numbers, of which there may be none.
-fn each<P: Part + Drop>(case: &mut Case, numbers: &mut Numbers) -> Option<Vec<P>> {
+fn each<P: Part + Drop, L: Numbers>(case: &mut Case, numbers: &mut L) -> Option<Vec<P>> {
     let mut parts = Vec::new(case.alloc());
     for _ in 0..1000u16 {
         if !numbers.is_empty() {
@@ -120,7 +120,7 @@ fn each<P: Part + Drop>(case: &mut Case, numbers: &mut Numbers) -> Option<Vec<P>
 
 /// The parts of all these numbers.
 fn all<P: Part + Drop>(case: &mut Case, numbers: &[u64]) -> Option<(P, Vec<P>)> {
-    let mut numbers = Numbers::new(numbers);
+    let mut numbers = Listed::new(numbers);
     let first = next_part(case, &mut numbers)?;
     Some((first, each(case, &mut numbers)?))
 }
@@ -203,7 +203,7 @@ macro_rules! located {
 
 /// The part that begins these numbers.
 fn part_of<P: Part + Drop>(case: &mut Case, numbers: &[u64]) -> Option<P> {
-    next_part(case, &mut Numbers::new(numbers))
+    next_part(case, &mut Listed::new(numbers))
 }
 
 /// `DIR Q_SCALE FIRST FURTHER..`
@@ -432,7 +432,7 @@ impl FromWords for BaliseList<5> {
 fn balises<const NID: u8>(case: &mut Case) -> Option<BaliseList<NID>> {
     let dir = case.next();
     let numbers = case.numbers();
-    let balises: Vec<BaliseAt> = each(case, &mut Numbers::new(numbers.as_slice()))?;
+    let balises: Vec<BaliseAt> = each(case, &mut Listed::new(numbers.as_slice()))?;
     match BaliseList::new(dir, balises) {
         Ok(packet) => {
             check_each(case, packet.balises(), numbers.as_slice());
@@ -457,7 +457,7 @@ impl FromWords for ReportParameters {
         let d_cycloc = case.next();
         let m_loc = case.next();
         let numbers = case.numbers();
-        let reports: Vec<ReportAt> = each(case, &mut Numbers::new(numbers.as_slice()))?;
+        let reports: Vec<ReportAt> = each(case, &mut Listed::new(numbers.as_slice()))?;
         match ReportParameters::new(dir, q_scale, t_cycloc, d_cycloc, m_loc, reports) {
             Ok(packet) => {
                 same!(case, packet: q_scale t_cycloc d_cycloc m_loc);

@@ -5,7 +5,10 @@ use crate::names::variable;
 use crate::sent::{BEFORE, BEHIND, Sent, sent_of};
 use etcs_bits::BitSlice;
 use etcs_bodies::laws::{Exact, exact_equality};
-use etcs_bodies::{ListOf, Numbers, Part, check, check_count, check_guard, clone_all, take_list};
+use etcs_bodies::{
+    ListOf, Listed, NextNumber, Numbers, Part, Spelled, check, check_count, check_guard, clone_all,
+    take_list,
+};
 use etcs_packets::{
     Authority, BaliseAt, Condition, Differing, Level, LevelAck, Link, ModeSection, ReportAt,
     Section, Shown, Slope, Speed, TextFrame,
@@ -78,11 +81,11 @@ fn line<P: Shape>(case: &mut Case, kind: &str) {
         "same_part" => compared::<P>(case),
         "take" => {
             let numbers = case.numbers();
-            say_taken::<P>(case, &mut Numbers::new(numbers.as_slice()));
+            say_taken::<P, _>(case, &mut Listed::new(numbers.as_slice()));
         }
         _ => {
             let bits = case.bits();
-            say_taken::<P>(case, &mut Numbers::in_bits(bits.as_slice()));
+            say_taken::<P, _>(case, &mut Spelled::new(bits.as_slice()));
         }
     }
 }
@@ -112,7 +115,7 @@ fn check_part<P: Shape>(case: &mut Case, part: &P, sent: &Sent) {
     check_numbers(case, part, numbers.as_slice());
     check_listed::<P>(case, numbers.as_slice());
     case.kept(numbers.push(BEHIND).is_ok());
-    check_taken(case, part, &mut Numbers::new(numbers.as_slice()));
+    check_taken(case, part, &mut Listed::new(numbers.as_slice()));
 }
 
 /// Checks that these are the numbers of a run of variables.
@@ -129,24 +132,24 @@ fn check_listed<P: Shape>(case: &mut Case, numbers: &[u64]) {
         if let Some((_, fewer)) = some.split_last() {
             some = fewer;
         }
-        check_none::<P>(case, &mut Numbers::new(some));
+        check_none::<P, _>(case, &mut Listed::new(some));
     }
 }
 
 /// Checks that a part is read from these bits but for those before, and from no fewer.
 fn check_in_bits<P: Shape>(case: &mut Case, part: &P, bits: BitSlice<'_>) {
     if let Some(whole) = bits.cut(BEFORE, bits.len().saturating_sub(BEFORE)) {
-        check_taken(case, part, &mut Numbers::in_bits(whole));
+        check_taken(case, part, &mut Spelled::new(whole));
     }
     for len in 0..part.bits() {
         if let Some(fewer) = bits.cut(BEFORE, len) {
-            check_none::<P>(case, &mut Numbers::in_bits(fewer));
+            check_none::<P, _>(case, &mut Spelled::new(fewer));
         }
     }
 }
 
 /// Checks that the numbers are those of a part and the one after it.
-fn check_taken<P: Shape>(case: &mut Case, part: &P, numbers: &mut Numbers) {
+fn check_taken<P: Shape, L: Numbers>(case: &mut Case, part: &P, numbers: &mut L) {
     let taken: Option<P> = next_part(case, numbers);
     case.check(taken.as_ref() == Some(part), "another part taken");
     case.check(!numbers.is_empty(), "nothing after it");
@@ -158,13 +161,13 @@ fn check_taken<P: Shape>(case: &mut Case, part: &P, numbers: &mut Numbers) {
 }
 
 /// Checks that no part begins the numbers.
-fn check_none<P: Shape>(case: &mut Case, numbers: &mut Numbers) {
+fn check_none<P: Shape, L: Numbers>(case: &mut Case, numbers: &mut L) {
     let taken: Option<P> = next_part(case, numbers);
     case.check(taken.is_none(), "a part of fewer");
 }
 
 /// The part that begins the numbers.
-pub(crate) fn next_part<P: Part + Drop>(case: &mut Case, numbers: &mut Numbers) -> Option<P> {
+pub(crate) fn next_part<P: Part + Drop, L: Numbers>(case: &mut Case, numbers: &mut L) -> Option<P> {
     match P::take(case.alloc(), numbers) {
         Ok(part) => part,
         Err(_) => {
@@ -191,7 +194,7 @@ fn compared<P: Shape>(case: &mut Case) {
 }
 
 /// `take NAME NUMBERS` and `take_bits NAME BITS`: whether these begin with a part.
-fn say_taken<P: Shape>(case: &mut Case, numbers: &mut Numbers) {
+fn say_taken<P: Shape, L: Numbers>(case: &mut Case, numbers: &mut L) {
     let taken: Option<P> = next_part(case, numbers);
     case.say_either(taken.is_some(), "some", "none");
 }
@@ -202,7 +205,7 @@ fn next(case: &mut Case) {
     let calls = case.rest();
     case.go_on(behind);
     let numbers = case.numbers();
-    say_calls(case, &mut Numbers::new(numbers.as_slice()), calls);
+    say_calls(case, &mut Listed::new(numbers.as_slice()), calls);
 }
 
 /// `next_bits CALLS / BITS`: the same of bits, of which three before and four after are left out.
@@ -213,16 +216,16 @@ fn next_in_bits(case: &mut Case) {
     let bits = case.bits();
     let bits = bits.as_slice();
     if let Some(inside) = bits.cut(3, bits.len().saturating_sub(7)) {
-        say_calls(case, &mut Numbers::in_bits(inside), calls);
+        say_calls(case, &mut Spelled::new(inside), calls);
     }
 }
 
 /// What each call answers: `flag`, `empty`, or the name of a variable of which the next number is taken.
-fn say_calls(case: &mut Case, numbers: &mut Numbers, calls: &str) {
+fn say_calls<L: Numbers>(case: &mut Case, numbers: &mut L, calls: &str) {
     for call in calls.split(' ') {
         match call {
             "empty" => case.say_either(numbers.is_empty(), "true", "false"),
-            "flag" => match numbers.flag() {
+            "flag" => match numbers.flag(Var::Q_LINK) {
                 Some(flag) => case.say_either(flag, "true", "false"),
                 None => case.say("none"),
             },
@@ -240,7 +243,7 @@ fn say_calls(case: &mut Case, numbers: &mut Numbers, calls: &str) {
 fn levels(case: &mut Case) {
     let count = case.var().unwrap_or(Var::N_ITER);
     let list = case.numbers();
-    let mut numbers = Numbers::new(list.as_slice());
+    let mut numbers = Listed::new(list.as_slice());
     let alloc = case.alloc();
     match case.got(take_list(alloc, count, &mut numbers)) {
         Some(Some(levels)) => {

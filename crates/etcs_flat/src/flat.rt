@@ -81,11 +81,11 @@ impl<const NID: u8> Flat<NID> {
     }
 
     /// Takes the packet of a direction that the numbers begin with, if they begin with one. Takes no memory.
-    fn taken(dir: u8, numbers: &mut Numbers) -> Option<Self>
+    fn taken<L: Numbers>(dir: u8, numbers: &mut L) -> Option<Self>
         requires flat { IsSome (flat_row NID) }
         requires dir { IsTrue (admits Q_DIR dir) }
-        ensures some { IfSome result (λ p. flat_from NID dir numbers.old ≡ Some (p, numbers.new)) }
-        ensures none { IfNone result (flat_from NID dir numbers.old ≡ None) }
+        ensures some { IfSome result (λ p. flat_from NID dir (L.left numbers.old) ≡ Some (p, L.left numbers.new)) }
+        ensures none { IfNone result (flat_from NID dir (L.left numbers.old) ≡ None) }
     {
         let taken = take_table(table_of(Way::ToTrain, NID), numbers)?;
         Some(Flat {
@@ -142,7 +142,11 @@ where
         self.dir
     }
 
-    fn take(_alloc: Global, dir: u8, numbers: &mut Numbers) -> Result<Option<Self>, AllocError> {
+    fn take<L: Numbers>(
+        _alloc: Global,
+        dir: u8,
+        numbers: &mut L,
+    ) -> Result<Option<Self>, AllocError> {
         Ok(Flat::taken(dir, numbers))
     }
 

@@ -65,10 +65,10 @@ pub fn send_table<S: VarSink>(
 
 /// Takes the numbers of a table's variables. `None` where a variable doesn't admit its number, or there are too few.
 #[tactic(auto, using(crate::specs::laws::TableLaws::taken_more, crate::specs::laws::TableLaws::taken_none))]
-pub fn take_table(table: &[RowItem], numbers: &mut Numbers<'_>) -> Option<ArrayVec<u64, 6>>
+pub fn take_table<L: Numbers>(table: &[RowItem], numbers: &mut L) -> Option<ArrayVec<u64, 6>>
     requires { length table.now ≤ 6 }
-    ensures some { IfSome result (λ ns. table_from table.now numbers.old ≡ Some (ns.items, numbers.new)) }
-    ensures none { IfNone result (table_from table.now numbers.old ≡ None) }
+    ensures some { IfSome result (λ ns. table_from table.now (L.left numbers.old) ≡ Some (ns.items, L.left numbers.new)) }
+    ensures none { IfNone result (table_from table.now (L.left numbers.old) ≡ None) }
 {
     let mut taken = ArrayVec::new();
     for item in table {

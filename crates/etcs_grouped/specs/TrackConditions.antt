@@ -38,7 +38,7 @@ abbrev pub state_reading : StateValue → Reading
 state_reading s = either_reading Q_TRACKINIT (λ n. (D_TRACKINIT, n) ∷ []) (entries_reading condition_reading) s
 
 unfoldable pub state_from : Left → Option (StateValue × Left)
-state_from = either_from (next_number D_TRACKINIT) (entries_from condition_from)
+state_from = either_from Q_TRACKINIT (next_number D_TRACKINIT) (entries_from condition_from)
 
 abbrev pub state_eq : StateValue → StateValue → Bool
 state_eq (inl m) (inl n) = nat_eq m n

@@ -70,11 +70,15 @@ impl<const NID: u8> BaliseList<NID> {
 
     /// Takes the packet of a direction that the numbers begin with, if they begin with one.
     #[tactic(auto, using(etcs_bodies::specs::laws::Takes::number_ok), unfolding(etcs_bodies::specs::PacketCodes::directed_from, crate::specs::BaliseLists::balise_list_from))]
-    fn taken(alloc: Global, dir: u8, numbers: &mut Numbers) -> Result<Option<Self>, AllocError>
+    fn taken<L: Numbers>(
+        alloc: Global,
+        dir: u8,
+        numbers: &mut L,
+    ) -> Result<Option<Self>, AllocError>
         requires nid { nid_fault NID ≡ None }
         requires dir { IsTrue (admits Q_DIR dir) }
-        ensures some { IfOk result (λ o. IfSome o (λ p. balise_list_from dir numbers.old ≡ Some (p, numbers.new))) }
-        ensures none { IfOk result (λ o. IfNone o (balise_list_from dir numbers.old ≡ None)) }
+        ensures some { IfOk result (λ o. IfSome o (λ p. balise_list_from dir (L.left numbers.old) ≡ Some (p, L.left numbers.new))) }
+        ensures none { IfOk result (λ o. IfNone o (balise_list_from dir (L.left numbers.old) ≡ None)) }
     {
         let balises = taken!(Counted::take(alloc, numbers)?);
         Ok(Some(BaliseList { dir, balises }))
@@ -154,7 +158,11 @@ where
         self.dir
     }
 
-    fn take(alloc: Global, dir: u8, numbers: &mut Numbers) -> Result<Option<Self>, AllocError> {
+    fn take<L: Numbers>(
+        alloc: Global,
+        dir: u8,
+        numbers: &mut L,
+    ) -> Result<Option<Self>, AllocError> {
         BaliseList::taken(alloc, dir, numbers)
     }
 

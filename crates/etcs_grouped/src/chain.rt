@@ -154,7 +154,11 @@ impl<E: Chained> Body for Chain<E> {
     }
 
     #[tactic(auto, using(etcs_bodies::specs::laws::Takes::number_ok), unfolding(etcs_bodies::specs::PacketCodes::directed_from, crate::specs::Chains::chain_from))]
-    fn take(alloc: Global, dir: u8, numbers: &mut Numbers) -> Result<Option<Self>, AllocError> {
+    fn take<L: Numbers>(
+        alloc: Global,
+        dir: u8,
+        numbers: &mut L,
+    ) -> Result<Option<Self>, AllocError> {
         let q_scale = taken!(numbers.next(Var::Q_SCALE)) as u8;
         let entries = taken!(Entries::take(alloc, numbers)?);
         if check_length(dir, q_scale, &entries).is_err() {

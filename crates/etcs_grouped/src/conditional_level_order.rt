@@ -113,7 +113,11 @@ impl Body for ConditionalLevelOrder {
     }
 
     #[tactic(auto, using(etcs_bodies::specs::laws::Takes::number_ok), unfolding(etcs_bodies::specs::PacketCodes::directed_from, crate::specs::ConditionalLevelOrders::conditional_level_order_from))]
-    fn take(alloc: Global, dir: u8, numbers: &mut Numbers) -> Result<Option<Self>, AllocError> {
+    fn take<L: Numbers>(
+        alloc: Global,
+        dir: u8,
+        numbers: &mut L,
+    ) -> Result<Option<Self>, AllocError> {
         let levels = taken!(Entries::take(alloc, numbers)?);
         Ok(Some(ConditionalLevelOrder { dir, levels }))
     }

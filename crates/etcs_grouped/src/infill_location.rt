@@ -110,7 +110,11 @@ impl Body for InfillLocation {
     }
 
     #[tactic(auto, using(etcs_bodies::specs::laws::Takes::number_ok), unfolding(etcs_bodies::specs::PacketCodes::directed_from, crate::specs::InfillLocations::infill_location_from))]
-    fn take(alloc: Global, dir: u8, numbers: &mut Numbers) -> Result<Option<Self>, AllocError> {
+    fn take<L: Numbers>(
+        alloc: Global,
+        dir: u8,
+        numbers: &mut L,
+    ) -> Result<Option<Self>, AllocError> {
         let balise = taken!(BaliseAt::take(alloc, numbers)?);
         Ok(Some(InfillLocation { dir, balise }))
     }

@@ -90,15 +90,15 @@ fn faultless(dir: u8, frame: &TextFrame, text: &[u8]) -> Result<(), BuildFault>
 }
 
 /// Takes this many bytes.
-fn take_bytes(
+fn take_bytes<L: Numbers>(
     alloc: Global,
-    numbers: &mut Numbers,
+    numbers: &mut L,
     count: usize,
 ) -> Result<Option<Vec<u8>>, AllocError>
     ensures count { IfOk result (λ o. IfSome o (λ bytes. length bytes.items ≡ count)) }
     ensures bytes { IfOk result (λ o. IfSome o (λ bytes. All IsByte bytes.items)) }
-    ensures from { IfOk result (λ o. IfSome o (λ bytes. times_from (next_number X_TEXT) count numbers.old ≡ Some (bytes.items, numbers.new))) }
-    ensures none { IfOk result (λ o. IfNone o (times_from (next_number X_TEXT) count numbers.old ≡ None)) }
+    ensures from { IfOk result (λ o. IfSome o (λ bytes. times_from (next_number X_TEXT) count (L.left numbers.old) ≡ Some (bytes.items, L.left numbers.new))) }
+    ensures none { IfOk result (λ o. IfNone o (times_from (next_number X_TEXT) count (L.left numbers.old) ≡ None)) }
 {
     let mut bytes = Vec::with_capacity(alloc, count)?;
     for _ in 0..count {
@@ -112,11 +112,11 @@ fn take_bytes(
 
 /// Takes the text after its count.
 #[tactic(auto, using(etcs_bodies::specs::laws::Repeats::list_is, etcs_bodies::specs::laws::Repeats::list_missing, etcs_bodies::specs::laws::Repeats::list_uncounted, etcs_bodies::specs::laws::Takes::counted_is))]
-fn take_text(alloc: Global, numbers: &mut Numbers) -> Result<Option<Vec<u8>>, AllocError>
+fn take_text<L: Numbers>(alloc: Global, numbers: &mut L) -> Result<Option<Vec<u8>>, AllocError>
     ensures count { IfOk result (λ o. IfSome o (λ bytes. count_fault L_TEXT (length bytes.items) ≡ None)) }
     ensures bytes { IfOk result (λ o. IfSome o (λ bytes. All IsByte bytes.items)) }
-    ensures from { IfOk result (λ o. IfSome o (λ bytes. list_from L_TEXT (next_number X_TEXT) numbers.old ≡ Some (bytes.items, numbers.new))) }
-    ensures none { IfOk result (λ o. IfNone o (list_from L_TEXT (next_number X_TEXT) numbers.old ≡ None)) }
+    ensures from { IfOk result (λ o. IfSome o (λ bytes. list_from L_TEXT (next_number X_TEXT) (L.left numbers.old) ≡ Some (bytes.items, L.left numbers.new))) }
+    ensures none { IfOk result (λ o. IfNone o (list_from L_TEXT (next_number X_TEXT) (L.left numbers.old) ≡ None)) }
 {
     let count = taken!(numbers.next(Var::L_TEXT));
     take_bytes(alloc, numbers, count as usize)
@@ -184,7 +184,11 @@ impl Body for PlainText {
     }
 
     #[tactic(auto, using(etcs_bodies::specs::laws::Takes::number_ok), unfolding(etcs_bodies::specs::PacketCodes::directed_from, crate::specs::PlainTexts::plain_text_from))]
-    fn take(alloc: Global, dir: u8, numbers: &mut Numbers) -> Result<Option<Self>, AllocError> {
+    fn take<L: Numbers>(
+        alloc: Global,
+        dir: u8,
+        numbers: &mut L,
+    ) -> Result<Option<Self>, AllocError> {
         let frame = taken!(TextFrame::take(alloc, numbers)?);
         let text = taken!(take_text(alloc, numbers)?);
         Ok(Some(PlainText {

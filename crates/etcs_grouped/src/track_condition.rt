@@ -142,7 +142,11 @@ impl Body for TrackCondition {
     }
 
     #[tactic(auto, using(etcs_bodies::specs::laws::Takes::number_ok), unfolding(etcs_bodies::specs::PacketCodes::directed_from, crate::specs::TrackConditions::track_condition_from))]
-    fn take(alloc: Global, dir: u8, numbers: &mut Numbers) -> Result<Option<Self>, AllocError> {
+    fn take<L: Numbers>(
+        alloc: Global,
+        dir: u8,
+        numbers: &mut L,
+    ) -> Result<Option<Self>, AllocError> {
         let q_scale = taken!(numbers.next(Var::Q_SCALE)) as u8;
         let state = taken!(take_state(alloc, numbers)?);
         Ok(Some(TrackCondition {

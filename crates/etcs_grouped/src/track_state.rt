@@ -71,15 +71,15 @@ pub(crate) fn send_state<S: VarSink>(state: &TrackState, out: &mut S) -> Result<
 
 /// Takes what the numbers begin with, if they begin with a state.
 #[tactic(auto, unfolding(crate::specs::TrackConditions::state_from))]
-pub(crate) fn take_state(
+pub(crate) fn take_state<L: Numbers>(
     alloc: Global,
-    numbers: &mut Numbers,
+    numbers: &mut L,
 ) -> Result<Option<TrackState>, AllocError>
     ensures is { IfOk result (λ o. IfSome o (λ s. IsState (state_of s))) }
-    ensures from { IfOk result (λ o. IfSome o (λ s. state_from numbers.old ≡ Some (state_of s, numbers.new))) }
-    ensures none { IfOk result (λ o. IfNone o (state_from numbers.old ≡ None)) }
+    ensures from { IfOk result (λ o. IfSome o (λ s. state_from (L.left numbers.old) ≡ Some (state_of s, L.left numbers.new))) }
+    ensures none { IfOk result (λ o. IfNone o (state_from (L.left numbers.old) ≡ None)) }
 {
-    let initial = taken!(numbers.flag());
+    let initial = taken!(numbers.flag(Var::Q_TRACKINIT));
     if initial {
         let distance = taken!(numbers.next(Var::D_TRACKINIT));
         return Ok(Some(TrackState::Initial(distance as u16)));

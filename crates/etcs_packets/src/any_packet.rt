@@ -4,11 +4,14 @@ ghost use Rattle.std.specs.Prelude.{◌≡◌, ◌+◌, ◌≤◌, ◌<◌, leng
 ghost use Rattle.etcs_vars.specs.Reading.{Reading, numbers, spelled};
 ghost use Rattle.etcs_tables.specs.Frames.{is_marker};
 ghost use Rattle.etcs_tables.specs.Typed.{IsTyped, IsFramed};
+ghost use Rattle.etcs_bodies.specs.Taking.{Says};
+ghost use Rattle.etcs_bodies.specs.Packets.{IsPacketLeft};
 ghost use Rattle.etcs_flat.specs.Others.{other_fault};
 ghost use Rattle.etcs_packets.specs.PacketValues.{marker, typed, kept, nid_of, dir_of, kept_of, variables_of, IsTypedOf, bits_to, IsPacketTo};
 ghost use Rattle.etcs_packets.specs.PacketReadings.{reading_to, readings_to};
 ghost use Rattle.etcs_vars.specs.WordSinks.{and_bits};
 
+use crate::typed::Source;
 use etcs_bits::{BitSlice, Bits};
 use etcs_tables::Way;
 use etcs_vars::WordSink;
@@ -94,6 +97,21 @@ pub trait AnyPacket: Sized + Drop {
         ensures some { IfOk result (λ o. IfSome o (λ p. IsTypedOf nid dir (form p).value × (spelled (variables_of (form p).value) ≡ body.entry))) }
         ensures typed { IfOk result (λ o. IfSome o (λ p. (r : Reading) × ((form p).value ≡ typed nid dir r))) }
         ensures none { IfOk result (λ o. IsNone o → (r : Reading) → IsFramed WAY nid dir r → spelled r ≡ body.entry → ⊥) };
+
+    /// The typed packet of this number and direction with what a source has after L_PACKET, if there is one.
+    ///
+    /// # Errors
+    ///
+    /// `AllocError` where there is no memory.
+    fn of_source<S: Source>(
+        alloc: Global,
+        nid: u8,
+        dir: u8,
+        source: &S,
+    ) -> Result<Option<Self>, AllocError>
+        ensures made { IfOk result (λ o. IfSome o (λ p. (form p).made)) }
+        ensures some { IfOk result (λ o. IfSome o (λ p. IsTypedOf nid dir (form p).value × Says (S.left source.now) (variables_of (form p).value))) }
+        ensures none { IfOk result (λ o. IsNone o → IsPacketLeft WAY nid dir (S.left source.now) → ⊥) };
 
     /// The packet of this number and direction whose bits after L_PACKET are kept.
     fn of_kept(nid: u8, dir: u8, body: Bits) -> Self

@@ -20,7 +20,7 @@ use std::alloc::{AllocError, Global};
 /// The typed packet of this number and direction with these numbers or bits after L_PACKET, if there is one.
 #[inline(always)]
 fn of_number<S: Source>(alloc: Global, nid: u8, dir: u8, source: &S) -> Made<Packet>
-    ensures { IfOk result (λ o. IsMadeOf form (S.says source.now) (S.is_of source.now ToTrain nid dir) nid dir o) }
+    ensures { IfOk result (λ o. IsMadeOf form ToTrain nid dir (S.left source.now) o) }
 {
     packets!(by_number, Way::ToTrain, nid, alloc, dir, source)
 }
@@ -89,6 +89,10 @@ impl AnyPacket for Packet {
     #[inline(always)]
     fn of_bits(alloc: Global, nid: u8, dir: u8, body: BitSlice<'_>) -> Made<Packet> {
         of_number(alloc, nid, dir, &body)
+    }
+
+    fn of_source<S: Source>(alloc: Global, nid: u8, dir: u8, source: &S) -> Made<Packet> {
+        of_number(alloc, nid, dir, source)
     }
 
     fn of_kept(nid: u8, dir: u8, body: Bits) -> Packet {

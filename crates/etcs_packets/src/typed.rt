@@ -1,14 +1,14 @@
 //! What every typed packet does alike.
 
-ghost use Rattle.std.specs.Prelude.{◌≡◌, ◌≤◌, ◌+◌, ℕ, List, None, length, IfOk, IfSome, IsNone};
+ghost use Rattle.std.specs.Prelude.{◌≡◌, ◌≤◌, ◌+◌, ℕ, None, length, IfOk, IfSome, IsNone};
 ghost use Rattle.etcs_tables.specs.Rows.{row_to};
-ghost use Rattle.etcs_vars.specs.Reading.{Reading, numbers, spelled};
+ghost use Rattle.etcs_vars.specs.Reading.{spelled};
 ghost use Rattle.etcs_tables.specs.Frames.{frame_bits};
-ghost use Rattle.etcs_tables.specs.Typed.{IsTyped, IsFramed};
+ghost use Rattle.etcs_tables.specs.Typed.{IsFramed};
 ghost use Rattle.etcs_packets.specs.Outcomes.{Makes, IsMadeOf};
 
 use etcs_bits::BitSlice;
-use etcs_bodies::{Framed, Packetlike};
+use etcs_bodies::{Framed, Listed, Packetlike, Spelled};
 use etcs_tables::{Way, frame_bits};
 use std::alloc::{AllocError, Global};
 
@@ -23,15 +23,13 @@ pub trait Formed {
     ghost form: { Self → Form };
 }
 
-/// What is after L_PACKET: numbers, or bits.
+/// All that is after L_PACKET: numbers, or bits.
 pub trait Source {
-    ghost use Rattle.etcs_tables.specs.declared.row.Way.{Way};
+    ghost use Rattle.etcs_bodies.specs.Taking.{Left, Says};
+    ghost use Rattle.etcs_bodies.specs.Packets.{IsPacketLeft};
 
-    /// It is these variables.
-    ghost says: { Self → Reading → Type 0 };
-
-    /// It is a typed packet of this number and this direction.
-    ghost is_of: { Self → Way → ℕ → ℕ → Type 0 };
+    /// What there is to take.
+    ghost left: { Self → Left };
 
     /// The packet of a direction and one type that it is, if it is one.
     ///
@@ -39,39 +37,28 @@ pub trait Source {
     ///
     /// `AllocError` where there is no memory.
     fn packet<P: Framed>(&self, alloc: Global, dir: u8) -> Made<P>
-        ensures some { IfOk result (λ o. IfSome o (λ p. P.is_value p × (P.direction p ≡ dir) × says self.now (P.reading_of p))) }
-        ensures none { IfOk result (λ o. IsNone o → is_of self.now P.WAY P.NID dir → ⊥) };
-
-    /// A number without a row has no typed packets.
-    ghost rowed: { (s : Self) (way : Way) (nid dir : ℕ) → row_to way nid ≡ None → is_of s way nid dir → ⊥ };
+        ensures some { IfOk result (λ o. IfSome o (λ p. P.is_value p × (P.direction p ≡ dir) × Says (left self.now) (P.reading_of p))) }
+        ensures none { IfOk result (λ o. IsNone o → IsPacketLeft P.WAY P.NID dir (left self.now) → ⊥) };
 }
 
 impl<'a> Source for &'a [u64] {
-    ghost use Rattle.etcs_packets.specs.laws.Outcomes.{untyped};
+    ghost use Rattle.etcs_bodies.specs.Taking.{listed};
 
-    ghost says = { λ s r. numbers r ≡ s.now };
-
-    ghost is_of = { λ s way nid dir. IsTyped way nid dir s.now };
-
-    ghost rowed = { λ s way nid dir none h. untyped way nid dir s.now none h };
+    ghost left = { λ s. listed s.now };
 
     fn packet<P: Framed>(&self, alloc: Global, dir: u8) -> Made<P> {
-        P::from_fields(alloc, dir, self)
+        P::from_numbers(alloc, dir, Listed::new(self))
     }
 }
 
 impl<'a> Source for BitSlice<'a> {
-    ghost use Rattle.etcs_packets.specs.laws.Outcomes.{unframed};
+    ghost use Rattle.etcs_bodies.specs.Taking.{in_bits};
 
-    ghost says = { λ s r. spelled r ≡ s };
-
-    ghost is_of = { λ s way nid dir. (r : Reading) × IsFramed way nid dir r × (spelled r ≡ s) };
-
-    ghost rowed = { λ s way nid dir none h. unframed way nid dir h.0 none h.1 };
+    ghost left = { λ s. in_bits s };
 
     #[inline(always)]
     fn packet<P: Framed>(&self, alloc: Global, dir: u8) -> Made<P> {
-        P::from_bits(alloc, dir, self.all())
+        P::from_numbers(alloc, dir, Spelled::new(self.all()))
     }
 }
 
@@ -113,7 +100,7 @@ pub fn packet_of<Q: Formed, P: Framed, S: Source, F: FnOnce(P) -> Q>(
 ) -> Made<Q>
     requires callable { F.IsAlwaysCallable packet }
     requires value { Makes Q.form (F.post packet) P.is_value P.NID P.direction P.reading_of }
-    ensures { (nid : ℕ) → nid ≡ P.NID → IfOk result (λ o. IsMadeOf Q.form (S.says source.now) (S.is_of source.now P.WAY nid dir) nid dir o) }
+    ensures { (nid : ℕ) → nid ≡ P.NID → IfOk result (λ o. IsMadeOf Q.form P.WAY nid dir (S.left source.now) o) }
 {
     match source.packet(alloc, dir) {
         Ok(Some(typed)) => Ok(Some(packet(typed))),
@@ -125,7 +112,7 @@ pub fn packet_of<Q: Formed, P: Framed, S: Source, F: FnOnce(P) -> Q>(
 /// No packet, of a number without a row.
 pub fn none_of<Q: Formed, S: Source>(way: Way, nid: u8, source: &S) -> Made<Q>
     requires { row_to way nid ≡ None }
-    ensures { (dir : ℕ) → IfOk result (λ o. IsMadeOf Q.form (S.says source.now) (S.is_of source.now way nid dir) nid dir o) }
+    ensures { (dir : ℕ) → IfOk result (λ o. IsMadeOf Q.form way nid dir (S.left source.now) o) }
 {
     let _ = (way, nid);
     let _ = source;

@@ -22,7 +22,7 @@ abbrev pub end_timer_reading : Option (ℕ × ℕ) → Reading
 end_timer_reading timer = optional_reading Q_ENDTIMER (pair_reading T_ENDTIMER D_ENDTIMERSTARTLOC) timer
 
 unfoldable pub end_timer_from : Left → Option (Option (ℕ × ℕ) × Left)
-end_timer_from = optional_from (pair_from T_ENDTIMER D_ENDTIMERSTARTLOC)
+end_timer_from = optional_from Q_ENDTIMER (pair_from T_ENDTIMER D_ENDTIMERSTARTLOC)
 
 -- ---- The danger point.
 
@@ -33,7 +33,7 @@ abbrev pub danger_reading : Option (ℕ × ℕ) → Reading
 danger_reading point = optional_reading Q_DANGERPOINT (pair_reading D_DP V_RELEASEDP) point
 
 unfoldable pub danger_from : Left → Option (Option (ℕ × ℕ) × Left)
-danger_from = optional_from (pair_from D_DP V_RELEASEDP)
+danger_from = optional_from Q_DANGERPOINT (pair_from D_DP V_RELEASEDP)
 
 -- ---- The overlap: its timer's start and time, its length, and the release speed.
 
@@ -59,7 +59,7 @@ abbrev pub some_overlap_from : Left → Option (Overlap × Left)
 some_overlap_from = form_from overlap_of (both_from (next_number D_STARTOL) (both_from (next_number T_OL) (both_from (next_number D_OL) (next_number V_RELEASEOL))))
 
 unfoldable pub overlap_from : Left → Option (Option Overlap × Left)
-overlap_from = optional_from some_overlap_from
+overlap_from = optional_from Q_OVERLAP some_overlap_from
 
 -- ---- An authority.
 

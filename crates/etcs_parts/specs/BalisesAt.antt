@@ -32,4 +32,4 @@ abbrev pub balise_at_of : Option ℕ × ℕ → BaliseAtValue
 balise_at_of n = balise_at_value n.0 n.1
 
 unfoldable pub balise_at_from : Left → Option (BaliseAtValue × Left)
-balise_at_from = form_from balise_at_of (both_from (optional_from (next_number NID_C)) (next_number NID_BG))
+balise_at_from = form_from balise_at_of (both_from (optional_from Q_NEWCOUNTRY (next_number NID_C)) (next_number NID_BG))

@@ -48,6 +48,6 @@ unfoldable pub link_from : Left → Option (LinkValue × Left)
 link_from = form_from link_of (
     both_from (next_number D_LINK) (
     both_from balise_at_from (
-    both_from next_flag (
+    both_from (next_flag Q_LINKORIENTATION) (
     both_from (next_number Q_LINKREACTION) (
     next_number Q_LOCACC)))))

@@ -47,4 +47,4 @@ mode_section_from = form_from mode_section_of (
     both_from (next_number V_MAMODE) (
     both_from (next_number L_MAMODE) (
     both_from (next_number L_ACKMAMODE) (
-    next_flag))))))
+    next_flag Q_MAMODE))))))

@@ -32,4 +32,4 @@ abbrev pub report_at_of : ℕ × Bool → ReportAtValue
 report_at_of n = report_at_value n.0 n.1
 
 unfoldable pub report_at_from : Left → Option (ReportAtValue × Left)
-report_at_from = form_from report_at_of (both_from (next_number D_LOC) next_flag)
+report_at_from = form_from report_at_of (both_from (next_number D_LOC) (next_flag Q_LGTLOC))

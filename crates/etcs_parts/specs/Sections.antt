@@ -17,7 +17,7 @@ abbrev pub timer_reading : Option (ℕ × ℕ) → Reading
 timer_reading timer = optional_reading Q_SECTIONTIMER (pair_reading T_SECTIONTIMER D_SECTIONTIMERSTOPLOC) timer
 
 unfoldable pub timer_from : Left → Option (Option (ℕ × ℕ) × Left)
-timer_from = optional_from (pair_from T_SECTIONTIMER D_SECTIONTIMERSTOPLOC)
+timer_from = optional_from Q_SECTIONTIMER (pair_from T_SECTIONTIMER D_SECTIONTIMERSTOPLOC)
 
 -- ---- A section.
 

@@ -33,4 +33,4 @@ abbrev pub slope_of : ℕ × (Bool × ℕ) → SlopeValue
 slope_of n = slope_value n.0 n.1.0 n.1.1
 
 unfoldable pub slope_from : Left → Option (SlopeValue × Left)
-slope_from = form_from slope_of (both_from (next_number D_GRADIENT) (both_from next_flag (next_number G_A)))
+slope_from = form_from slope_of (both_from (next_number D_GRADIENT) (both_from (next_flag Q_GDIR) (next_number G_A)))

@@ -41,5 +41,5 @@ unfoldable pub speed_from : Left → Option (SpeedValue × Left)
 speed_from = form_from speed_of (
     both_from (next_number D_STATIC) (
     both_from (next_number V_STATIC) (
-    both_from next_flag (
+    both_from (next_flag Q_FRONT) (
     list_from N_ITER differing_from))))

@@ -65,7 +65,7 @@ abbrev pub confirm_of : Bool × Option Report → Confirm
 confirm_of n = (n.0, n.1)
 
 unfoldable pub confirm_from : Left → Option (Confirm × Left)
-confirm_from = form_from confirm_of (both_from next_flag (optional_from report_from))
+confirm_from = form_from confirm_of (both_from (next_flag Q_CONFTEXTDISPLAY) (optional_from Q_TEXTREPORT report_from))
 
 -- ---- Q_TEXTCONFIRM, and the confirmation where it isn't 0.
 
@@ -132,7 +132,7 @@ unfoldable pub text_frame_from : Left → Option (TextFrameValue × Left)
 text_frame_from = form_from text_frame_of (
     both_from (next_number Q_SCALE) (
     both_from (next_number Q_TEXTCLASS) (
-    both_from next_flag (
+    both_from (next_flag Q_TEXTDISPLAY) (
     both_from (next_number D_TEXTDISPLAY) (
     both_from shown_from (
     both_from (next_number L_TEXTDISPLAY) (

@@ -196,7 +196,7 @@ impl Part for Authority {
     }
 
     #[tactic(auto, unfolding(crate::specs::Authorities::authority_from, crate::specs::Authorities::sections_from))]
-    fn take(alloc: Global, numbers: &mut Numbers) -> Result<Option<Authority>, AllocError> {
+    fn take<L: Numbers>(alloc: Global, numbers: &mut L) -> Result<Option<Authority>, AllocError> {
         let sections = taken!(take_list(alloc, Var::N_ITER, numbers)?);
         let end = taken!(Section::end_from_numbers(numbers));
         let end_timer = taken!(take_end_timer(numbers));

@@ -53,12 +53,12 @@ pub(crate) fn send_end_timer<S: VarSink>(
 
 /// The timer of the end section that the numbers begin with, after its flag.
 #[tactic(auto, unfolding(crate::specs::Authorities::end_timer_from))]
-pub(crate) fn take_end_timer(numbers: &mut Numbers) -> Option<Option<(u16, u16)>>
+pub(crate) fn take_end_timer<L: Numbers>(numbers: &mut L) -> Option<Option<(u16, u16)>>
     ensures part { IfSome result (λ t. end_timer_fault t ≡ None) }
-    ensures from { IfSome result (λ t. end_timer_from numbers.old ≡ Some (t, numbers.new)) }
-    ensures none { IfNone result (end_timer_from numbers.old ≡ None) }
+    ensures from { IfSome result (λ t. end_timer_from (L.left numbers.old) ≡ Some (t, L.left numbers.new)) }
+    ensures none { IfNone result (end_timer_from (L.left numbers.old) ≡ None) }
 {
-    end_timer!(take_group: numbers, numbers.flag()?)
+    end_timer!(take_group: numbers, numbers.flag(Var::Q_ENDTIMER)?)
 }
 
 /// Refuses a danger point that has a fault.
@@ -82,12 +82,12 @@ pub(crate) fn send_danger_point<S: VarSink>(
 
 /// The danger point that the numbers begin with, after its flag.
 #[tactic(auto, unfolding(crate::specs::Authorities::danger_from))]
-pub(crate) fn take_danger_point(numbers: &mut Numbers) -> Option<Option<(u16, u8)>>
+pub(crate) fn take_danger_point<L: Numbers>(numbers: &mut L) -> Option<Option<(u16, u8)>>
     ensures part { IfSome result (λ p. danger_fault p ≡ None) }
-    ensures from { IfSome result (λ p. danger_from numbers.old ≡ Some (p, numbers.new)) }
-    ensures none { IfNone result (danger_from numbers.old ≡ None) }
+    ensures from { IfSome result (λ p. danger_from (L.left numbers.old) ≡ Some (p, L.left numbers.new)) }
+    ensures none { IfNone result (danger_from (L.left numbers.old) ≡ None) }
 {
-    danger_point!(take_group: numbers, numbers.flag()?)
+    danger_point!(take_group: numbers, numbers.flag(Var::Q_DANGERPOINT)?)
 }
 
 /// Refuses an overlap that has a fault.
@@ -111,10 +111,10 @@ pub(crate) fn send_overlap<S: VarSink>(
 
 /// The overlap that the numbers begin with, after its flag.
 #[tactic(auto, unfolding(crate::specs::Authorities::overlap_from))]
-pub(crate) fn take_overlap(numbers: &mut Numbers) -> Option<Option<(u16, u16, u16, u8)>>
+pub(crate) fn take_overlap<L: Numbers>(numbers: &mut L) -> Option<Option<(u16, u16, u16, u8)>>
     ensures part { IfSome result (λ o. overlap_fault o ≡ None) }
-    ensures from { IfSome result (λ o. overlap_from numbers.old ≡ Some (o, numbers.new)) }
-    ensures none { IfNone result (overlap_from numbers.old ≡ None) }
+    ensures from { IfSome result (λ o. overlap_from (L.left numbers.old) ≡ Some (o, L.left numbers.new)) }
+    ensures none { IfNone result (overlap_from (L.left numbers.old) ≡ None) }
 {
-    overlap!(take_group: numbers, numbers.flag()?)
+    overlap!(take_group: numbers, numbers.flag(Var::Q_OVERLAP)?)
 }

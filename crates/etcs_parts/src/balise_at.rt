@@ -116,8 +116,8 @@ impl Part for BaliseAt {
 
     #[tactic(auto, unfolding(crate::specs::BalisesAt::balise_at_from))]
     #[inline(always)]
-    fn take(_alloc: Global, numbers: &mut Numbers) -> Result<Option<BaliseAt>, AllocError> {
-        let (nid_c, nid_bg) = if taken!(numbers.flag()) {
+    fn take<L: Numbers>(_alloc: Global, numbers: &mut L) -> Result<Option<BaliseAt>, AllocError> {
+        let (nid_c, nid_bg) = if taken!(numbers.flag(Var::Q_NEWCOUNTRY)) {
             let (country, group) = taken!(numbers.run((Var::NID_C, Var::NID_BG)));
             (Some(country as u16), group as u16)
         } else {

@@ -110,7 +110,7 @@ impl Part for Condition {
     }
 
     #[tactic(auto, unfolding(crate::specs::Conditions::condition_from))]
-    fn take(_alloc: Global, numbers: &mut Numbers) -> Result<Option<Condition>, AllocError> {
+    fn take<L: Numbers>(_alloc: Global, numbers: &mut L) -> Result<Option<Condition>, AllocError> {
         fields!(take_fields: _alloc, numbers)
     }
 

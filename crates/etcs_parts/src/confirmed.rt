@@ -44,13 +44,13 @@ impl Confirmed {
 
     /// Takes what the numbers begin with.
     #[tactic(auto, using(etcs_bodies::specs::laws::Guards::guard_ok), unfolding(crate::specs::TextFrames::confirmed_from, etcs_bodies::specs::Guards::guard_fault))]
-    pub(crate) fn take(
+    pub(crate) fn take<L: Numbers>(
         _alloc: Global,
-        numbers: &mut Numbers,
+        numbers: &mut L,
     ) -> Result<Option<Confirmed>, AllocError>
         ensures part { IfOk result (λ o. IfSome o (λ c. confirmed_fault c.q_textconfirm c.confirm ≡ None)) }
-        ensures from { IfOk result (λ o. IfSome o (λ c. confirmed_from numbers.old ≡ Some ((c.q_textconfirm, c.confirm), numbers.new))) }
-        ensures none { IfOk result (λ o. IfNone o (confirmed_from numbers.old ≡ None)) }
+        ensures from { IfOk result (λ o. IfSome o (λ c. confirmed_from (L.left numbers.old) ≡ Some ((c.q_textconfirm, c.confirm), L.left numbers.new))) }
+        ensures none { IfOk result (λ o. IfNone o (confirmed_from (L.left numbers.old) ≡ None)) }
     {
         let q_textconfirm = taken!(numbers.next(Var::Q_TEXTCONFIRM)) as u8;
         let confirm = if q_textconfirm > 0 {
@@ -102,10 +102,10 @@ impl Confirmed {
 
 /// The report that the numbers begin with.
 #[tactic(auto, unfolding(crate::specs::TextFrames::report_from))]
-fn next_report(numbers: &mut Numbers) -> Option<(u8, u16, u16)>
+fn next_report<L: Numbers>(numbers: &mut L) -> Option<(u8, u16, u16)>
     ensures part { IfSome result (λ r. IsReport r) }
-    ensures from { IfSome result (λ r. report_from numbers.old ≡ Some (r, numbers.new)) }
-    ensures none { IfNone result (report_from numbers.old ≡ None) }
+    ensures from { IfSome result (λ r. report_from (L.left numbers.old) ≡ Some (r, L.left numbers.new)) }
+    ensures none { IfNone result (report_from (L.left numbers.old) ≡ None) }
 {
     let (message, (country, centre)) = numbers.run((
         Var::NID_TEXTMESSAGE,
@@ -116,12 +116,15 @@ fn next_report(numbers: &mut Numbers) -> Option<(u8, u16, u16)>
 
 /// The confirmation that the numbers begin with.
 #[tactic(auto, unfolding(crate::specs::TextFrames::confirm_from))]
-fn next_confirm(numbers: &mut Numbers) -> Option<(bool, Option<(u8, u16, u16)>)>
+fn next_confirm<L: Numbers>(numbers: &mut L) -> Option<(bool, Option<(u8, u16, u16)>)>
     ensures part { IfSome result (λ c. IsConfirm c) }
-    ensures from { IfSome result (λ c. confirm_from numbers.old ≡ Some (c, numbers.new)) }
-    ensures none { IfNone result (confirm_from numbers.old ≡ None) }
+    ensures from { IfSome result (λ c. confirm_from (L.left numbers.old) ≡ Some (c, L.left numbers.new)) }
+    ensures none { IfNone result (confirm_from (L.left numbers.old) ≡ None) }
 {
-    let (q_conftextdisplay, reported) = numbers.run((Flag, Flag))?;
+    let (q_conftextdisplay, reported) = numbers.run((
+        Flag(Var::Q_CONFTEXTDISPLAY),
+        Flag(Var::Q_TEXTREPORT),
+    ))?;
     let report = if reported {
         Some(next_report(numbers)?)
     } else {

@@ -127,14 +127,12 @@ impl Part for Differing {
         let _ = &self.q_diff;
     }
 
-    #[tactic(auto, using(crate::specs::laws::Differings::same_category, crate::specs::laws::Differings::category_admitted), unfolding(crate::specs::Differings::differing_from))]
-    fn take(_alloc: Global, numbers: &mut Numbers) -> Result<Option<Differing>, AllocError> {
-        let (q_diff, (category, v_diff)) = taken!(numbers.run((
-            Var::Q_DIFF,
-            (Var::NC_DIFF, Var::V_DIFF)
-        )));
+    #[tactic(auto, unfolding(crate::specs::Differings::differing_from))]
+    fn take<L: Numbers>(_alloc: Global, numbers: &mut L) -> Result<Option<Differing>, AllocError> {
+        let q_diff = taken!(numbers.next(Var::Q_DIFF)) as u8;
+        let (category, v_diff) = taken!(numbers.run((category_var(q_diff), Var::V_DIFF)));
         Ok(Some(Differing {
-            q_diff: q_diff as u8,
+            q_diff,
             category: category as u8,
             v_diff: v_diff as u8,
         }))

@@ -108,7 +108,7 @@ impl Part for Level {
     }
 
     #[tactic(auto, using(etcs_bodies::specs::laws::Guards::guard_ok), unfolding(crate::specs::Levels::level_from, etcs_bodies::specs::Guards::guard_fault))]
-    fn take(_alloc: Global, numbers: &mut Numbers) -> Result<Option<Level>, AllocError> {
+    fn take<L: Numbers>(_alloc: Global, numbers: &mut L) -> Result<Option<Level>, AllocError> {
         let m_leveltr = taken!(numbers.next(Var::M_LEVELTR)) as u8;
         let nid_ntc = if m_leveltr == 1 {
             Some(taken!(numbers.next(Var::NID_NTC)) as u8)

@@ -121,7 +121,7 @@ impl Part for LevelAck {
     }
 
     #[tactic(auto, unfolding(crate::specs::Levels::level_ack_from))]
-    fn take(alloc: Global, numbers: &mut Numbers) -> Result<Option<LevelAck>, AllocError> {
+    fn take<L: Numbers>(alloc: Global, numbers: &mut L) -> Result<Option<LevelAck>, AllocError> {
         fields!(take_fields: alloc, numbers)
     }
 

@@ -144,9 +144,12 @@ impl Part for Link {
 
     #[tactic(auto, unfolding(crate::specs::Links::link_from, crate::specs::BalisesAt::balise_at_from))]
     #[inline(always)]
-    fn take(_alloc: Global, numbers: &mut Numbers) -> Result<Option<Link>, AllocError> {
-        let (d_link, far) = taken!(numbers.run((Var::D_LINK, Flag)));
-        let behind = (Flag, (Var::Q_LINKREACTION, Var::Q_LOCACC));
+    fn take<L: Numbers>(_alloc: Global, numbers: &mut L) -> Result<Option<Link>, AllocError> {
+        let (d_link, far) = taken!(numbers.run((Var::D_LINK, Flag(Var::Q_NEWCOUNTRY))));
+        let behind = (
+            Flag(Var::Q_LINKORIENTATION),
+            (Var::Q_LINKREACTION, Var::Q_LOCACC),
+        );
         let (nid_c, (nid_bg, (q_linkorientation, (q_linkreaction, q_locacc)))) = if far {
             let (country, rest) = taken!(numbers.run((Var::NID_C, (Var::NID_BG, behind))));
             (Some(country as u16), rest)

@@ -145,7 +145,10 @@ impl Part for ModeSection {
     }
 
     #[tactic(auto, unfolding(crate::specs::ModeSections::mode_section_from))]
-    fn take(_alloc: Global, numbers: &mut Numbers) -> Result<Option<ModeSection>, AllocError> {
+    fn take<L: Numbers>(
+        _alloc: Global,
+        numbers: &mut L,
+    ) -> Result<Option<ModeSection>, AllocError> {
         fields!(take_fields: _alloc, numbers)
     }
 

@@ -98,7 +98,7 @@ impl Part for ReportAt {
     }
 
     #[tactic(auto, unfolding(crate::specs::ReportsAt::report_at_from))]
-    fn take(_alloc: Global, numbers: &mut Numbers) -> Result<Option<ReportAt>, AllocError> {
+    fn take<L: Numbers>(_alloc: Global, numbers: &mut L) -> Result<Option<ReportAt>, AllocError> {
         fields!(take_fields: _alloc, numbers)
     }
 

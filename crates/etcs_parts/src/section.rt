@@ -87,12 +87,12 @@ impl Section {
 
     /// The end section that the numbers begin with.
     #[tactic(auto, unfolding(crate::specs::Sections::end_from, crate::specs::Sections::timer_from), using(crate::specs::laws::Sections::same_length))]
-    pub(crate) fn end_from_numbers(numbers: &mut Numbers) -> Option<Section>
+    pub(crate) fn end_from_numbers<L: Numbers>(numbers: &mut L) -> Option<Section>
         ensures part { IfSome result (λ s. IsSection s) }
-        ensures from { IfSome result (λ s. end_from numbers.old ≡ Some (s, numbers.new)) }
-        ensures none { IfNone result (end_from numbers.old ≡ None) }
+        ensures from { IfSome result (λ s. end_from (L.left numbers.old) ≡ Some (s, L.left numbers.new)) }
+        ensures none { IfNone result (end_from (L.left numbers.old) ≡ None) }
     {
-        let (length, timed) = numbers.run((Var::L_ENDSECTION, Flag))?;
+        let (length, timed) = numbers.run((Var::L_ENDSECTION, Flag(Var::Q_SECTIONTIMER)))?;
         let timer = timer_behind(timed, numbers)?;
         Some(Section {
             length: length as u16,
@@ -128,10 +128,10 @@ fn send_timer<S: VarSink>(timer: Option<(u16, u16)>, out: &mut S) -> Result<(), 
 
 /// The timer that the numbers begin with, where its flag is set.
 #[inline(always)]
-fn timer_behind(timed: bool, numbers: &mut Numbers) -> Option<Option<(u16, u16)>>
+fn timer_behind<L: Numbers>(timed: bool, numbers: &mut L) -> Option<Option<(u16, u16)>>
     ensures part { IfSome result (λ t. timer_fault t ≡ None) }
-    ensures from { IfSome result (λ t. opened (pair_from T_SECTIONTIMER D_SECTIONTIMERSTOPLOC) timed numbers.old ≡ Some (t, numbers.new)) }
-    ensures none { IfNone result (opened (pair_from T_SECTIONTIMER D_SECTIONTIMERSTOPLOC) timed numbers.old ≡ None) }
+    ensures from { IfSome result (λ t. opened (pair_from T_SECTIONTIMER D_SECTIONTIMERSTOPLOC) timed (L.left numbers.old) ≡ Some (t, L.left numbers.new)) }
+    ensures none { IfNone result (opened (pair_from T_SECTIONTIMER D_SECTIONTIMERSTOPLOC) timed (L.left numbers.old) ≡ None) }
 {
     timer!(take_group: numbers, timed)
 }
@@ -171,8 +171,8 @@ impl Part for Section {
     }
 
     #[tactic(auto, unfolding(crate::specs::Sections::section_from, crate::specs::Sections::timer_from))]
-    fn take(_alloc: Global, numbers: &mut Numbers) -> Result<Option<Section>, AllocError> {
-        let (length, timed) = taken!(numbers.run((Var::L_SECTION, Flag)));
+    fn take<L: Numbers>(_alloc: Global, numbers: &mut L) -> Result<Option<Section>, AllocError> {
+        let (length, timed) = taken!(numbers.run((Var::L_SECTION, Flag(Var::Q_SECTIONTIMER))));
         let timer = taken!(timer_behind(timed, numbers));
         Ok(Some(Section {
             length: length as u16,

@@ -130,7 +130,7 @@ impl Part for Shown {
     }
 
     #[tactic(auto, using(etcs_bodies::specs::laws::Guards::guard_ok), unfolding(crate::specs::Displays::shown_from, etcs_bodies::specs::Guards::guard_fault))]
-    fn take(_alloc: Global, numbers: &mut Numbers) -> Result<Option<Shown>, AllocError> {
+    fn take<L: Numbers>(_alloc: Global, numbers: &mut L) -> Result<Option<Shown>, AllocError> {
         let (mode, level) = taken!(numbers.run((Var::M_MODETEXTDISPLAY, Var::M_LEVELTEXTDISPLAY)));
         let m_modetextdisplay = mode as u8;
         let m_leveltextdisplay = level as u8;

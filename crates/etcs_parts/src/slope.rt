@@ -111,7 +111,7 @@ impl Part for Slope {
 
     #[tactic(auto, unfolding(crate::specs::Slopes::slope_from))]
     #[inline(always)]
-    fn take(_alloc: Global, numbers: &mut Numbers) -> Result<Option<Slope>, AllocError> {
+    fn take<L: Numbers>(_alloc: Global, numbers: &mut L) -> Result<Option<Slope>, AllocError> {
         fields!(take_fields: _alloc, numbers)
     }
 

@@ -133,7 +133,7 @@ impl Part for Speed {
     }
 
     #[tactic(auto, unfolding(crate::specs::Speeds::speed_from))]
-    fn take(alloc: Global, numbers: &mut Numbers) -> Result<Option<Speed>, AllocError> {
+    fn take<L: Numbers>(alloc: Global, numbers: &mut L) -> Result<Option<Speed>, AllocError> {
         fields!(take_fields: alloc, numbers)
     }
 

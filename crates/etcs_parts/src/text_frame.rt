@@ -194,7 +194,7 @@ impl Part for TextFrame {
     }
 
     #[tactic(auto, unfolding(crate::specs::TextFrames::text_frame_from))]
-    fn take(alloc: Global, numbers: &mut Numbers) -> Result<Option<TextFrame>, AllocError> {
+    fn take<L: Numbers>(alloc: Global, numbers: &mut L) -> Result<Option<TextFrame>, AllocError> {
         fields!(take_fields: alloc, numbers)
     }
 

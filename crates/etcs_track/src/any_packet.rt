@@ -34,7 +34,7 @@ fn append_kept(nid: u8, len: usize, body: &BitSlice<'_>, out: &mut WordSink<'_>)
 /// none of a direction but 0, which is that of every packet to the track.
 #[inline(always)]
 fn of_number<S: Source>(alloc: Global, nid: u8, dir: u8, source: &S) -> Made<TrainPacket>
-    ensures { IfOk result (λ o. IsMadeOf track_form (S.says source.now) (S.is_of source.now ToTrack nid dir) nid dir o) }
+    ensures { IfOk result (λ o. IsMadeOf track_form ToTrack nid dir (S.left source.now) o) }
 {
     packets!(by_number, Way::ToTrack, nid, alloc, dir, source)
 }
@@ -98,7 +98,10 @@ impl AnyPacket for TrainPacket {
         of_number(alloc, nid, dir, &body)
     }
 
-    #[tactic(auto, using(crate::specs::laws::TrackPackets::kept_undirected, crate::specs::laws::TrackPackets::kept_alike))]
+    fn of_source<S: Source>(alloc: Global, nid: u8, dir: u8, source: &S) -> Made<TrainPacket> {
+        of_number(alloc, nid, dir, source)
+    }
+
     fn of_kept(nid: u8, dir: u8, body: Bits) -> TrainPacket {
         let _ = dir;
         match TrainOther::new(nid, body) {

@@ -233,10 +233,10 @@ fn check_level(m_level: u8, nid_ntc: Option<u8>) -> Result<(), BuildFault>
 
 /// Q_LENGTH, and where it is 1 or 2 the length, that the numbers begin with.
 #[tactic(auto, using(etcs_bodies::specs::laws::Guards::guard_ok), unfolding(crate::specs::Locations::integrity_from, etcs_bodies::specs::Guards::guard_fault))]
-fn take_integrity(numbers: &mut Numbers) -> Option<(u8, Option<u16>)>
+fn take_integrity<L: Numbers>(numbers: &mut L) -> Option<(u8, Option<u16>)>
     ensures part { IfSome result (λ p. integrity_fault p.0 p.1 ≡ None) }
-    ensures from { IfSome result (λ p. integrity_from numbers.old ≡ Some ((p.0, p.1), numbers.new)) }
-    ensures none { IfNone result (integrity_from numbers.old ≡ None) }
+    ensures from { IfSome result (λ p. integrity_from (L.left numbers.old) ≡ Some ((p.0, p.1), L.left numbers.new)) }
+    ensures none { IfNone result (integrity_from (L.left numbers.old) ≡ None) }
 {
     let q_length = numbers.next(Var::Q_LENGTH)? as u8;
     let l_trainint = if q_length == 1 || q_length == 2 {
@@ -249,10 +249,10 @@ fn take_integrity(numbers: &mut Numbers) -> Option<(u8, Option<u16>)>
 
 /// M_LEVEL, and where it is 1 the national system, that the numbers begin with.
 #[tactic(auto, using(etcs_bodies::specs::laws::Guards::guard_ok), unfolding(crate::specs::Locations::level_from, etcs_bodies::specs::Guards::guard_fault))]
-fn take_level(numbers: &mut Numbers) -> Option<(u8, Option<u8>)>
+fn take_level<L: Numbers>(numbers: &mut L) -> Option<(u8, Option<u8>)>
     ensures part { IfSome result (λ p. level_fault p.0 p.1 ≡ None) }
-    ensures from { IfSome result (λ p. level_from numbers.old ≡ Some ((p.0, p.1), numbers.new)) }
-    ensures none { IfNone result (level_from numbers.old ≡ None) }
+    ensures from { IfSome result (λ p. level_from (L.left numbers.old) ≡ Some ((p.0, p.1), L.left numbers.new)) }
+    ensures none { IfNone result (level_from (L.left numbers.old) ≡ None) }
 {
     let m_level = numbers.next(Var::M_LEVEL)? as u8;
     let nid_ntc = if m_level == 1 {
@@ -332,7 +332,7 @@ impl Part for Located {
     }
 
     #[tactic(auto, unfolding(crate::specs::Locations::located_fault, crate::specs::Locations::located_from))]
-    fn take(_alloc: Global, numbers: &mut Numbers) -> Result<Option<Located>, AllocError> {
+    fn take<L: Numbers>(_alloc: Global, numbers: &mut L) -> Result<Option<Located>, AllocError> {
         take_run!(_alloc numbers d_lrbg: D_LRBG u16, q_dirlrbg: Q_DIRLRBG u8, q_dlrbg: Q_DLRBG u8);
         take_run!(_alloc numbers l_doubtover: L_DOUBTOVER u16, l_doubtunder: L_DOUBTUNDER u16);
         let (q_length, l_trainint) = taken!(take_integrity(numbers));

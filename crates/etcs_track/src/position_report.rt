@@ -121,7 +121,11 @@ impl Body for PositionReport {
     }
 
     #[tactic(auto, unfolding(etcs_bodies::specs::PacketCodes::directed_from, crate::specs::Reports::position_report_from))]
-    fn take(alloc: Global, _dir: u8, numbers: &mut Numbers) -> Result<Option<Self>, AllocError> {
+    fn take<L: Numbers>(
+        alloc: Global,
+        _dir: u8,
+        numbers: &mut L,
+    ) -> Result<Option<Self>, AllocError> {
         fields!(take_fields: alloc, numbers)
     }
 

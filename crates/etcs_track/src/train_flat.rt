@@ -74,10 +74,10 @@ impl<const NID: u8> TrainFlat<NID> {
     }
 
     /// Takes the packet that the numbers begin with, if they begin with one. Takes no memory.
-    fn taken(dir: u8, numbers: &mut Numbers) -> Option<Self>
+    fn taken<L: Numbers>(dir: u8, numbers: &mut L) -> Option<Self>
         requires { IsSome (flat_row_to ToTrack NID) }
-        ensures some { IfSome result (λ p. flat_from_to ToTrack alone NID dir numbers.old ≡ Some (p, numbers.new)) }
-        ensures none { IfNone result (flat_from_to ToTrack alone NID dir numbers.old ≡ None) }
+        ensures some { IfSome result (λ p. flat_from_to ToTrack alone NID dir (L.left numbers.old) ≡ Some (p, L.left numbers.new)) }
+        ensures none { IfNone result (flat_from_to ToTrack alone NID dir (L.left numbers.old) ≡ None) }
     {
         let _ = dir;
         let taken = take_table(table_of(Way::ToTrack, NID), numbers)?;
@@ -146,7 +146,11 @@ where
         0
     }
 
-    fn take(_alloc: Global, dir: u8, numbers: &mut Numbers) -> Result<Option<Self>, AllocError> {
+    fn take<L: Numbers>(
+        _alloc: Global,
+        dir: u8,
+        numbers: &mut L,
+    ) -> Result<Option<Self>, AllocError> {
         Ok(TrainFlat::taken(dir, numbers))
     }
 

@@ -11,13 +11,13 @@ use Rattle.etcs_vars.specs.Reading.{Reading, Then}
 use Rattle.etcs_tables.specs.declared.item.Guard.{Guard}
 use Rattle.etcs_tables.specs.declared.item.Test.{Test}
 use Rattle.etcs_tables.specs.declared.item.Test.TheVariants.{IsZero, IsOne}
-use Rattle.etcs_tables.specs.Layouts.{Layout, whole, one, Scope, Reads, holds, passes}
+use Rattle.etcs_tables.specs.Layouts.{Layout, whole, Scope, Reads, holds, passes}
 use Rattle.etcs_bodies.specs.Faults.{count_fault}
 use Rattle.etcs_bodies.specs.Taking.{Left, ahead, ◌and_then◌, next_number, next_flag}
 use Rattle.etcs_bodies.specs.laws.Takes.{admitted, number_ok, ahead_both, taken, some_pair, next_is, next_sound, counted_admitted, in_width, flag_is, flag_sound}
 use Rattle.etcs_bodies.specs.Repeats.{bit_count}
 use Rattle.etcs_bodies.specs.laws.Repeats.{bit_count-append}
-use Rattle.etcs_bodies.specs.Codecs.{Codes, Found, Stands, IsFlag}
+use Rattle.etcs_bodies.specs.Codecs.{Codes, Found, IsFlag}
 use Rattle.etcs_bodies.specs.laws.Codecs.{holds_here, carried, flag_of}
 use Rattle.etcs_bodies.specs.Choices.{IsChoice, choice_reading, choice_from, choice_row, IsEither, either_reading, side_from, either_from, either_row}
 
@@ -133,7 +133,7 @@ module _ {A B : Type 0} (v : Var) (is : IsFlag v) {row row' : Layout → Layout}
   abbrev Zero : Layout → Scope → Bool → Reading → Type 0
   Zero rest t c x = MatchBool c (Then (Reads (row' whole) t) (Reads rest t) x) (Reads rest t x)
 
-  either_complete : (p : A ⊎ B) (s : Left) → IsEither IsA IsB p → either_from from from' (ahead (either_reading v reading reading' p) s) ≡ Some (p, s)
+  either_complete : (p : A ⊎ B) (s : Left) → IsEither IsA IsB p → either_from v from from' (ahead (either_reading v reading reading' p) s) ≡ Some (p, s)
   either_complete (inl a) s h = rw (ahead_both ((v, 1) ∷ []) (reading a) s, flag_is v true (ahead (reading a) s) is.0, one_codes.complete a s h) refl
   either_complete (inr b) s h = rw (ahead_both ((v, 0) ∷ []) (reading' b) s, flag_is v false (ahead (reading' b) s) is.0, zero_codes.complete b s h) refl
 
@@ -191,12 +191,12 @@ module _ {A B : Type 0} (v : Var) (is : IsFlag v) {row row' : Layout → Layout}
   holds_zero true s = holds_here v IsZero 1 s
   holds_zero false s = holds_here v IsZero 0 s
 
-  pub either : Codes (either_row v row row') (IsEither IsA IsB) (either_reading v reading reading') (either_from from from')
+  pub either : Codes (either_row v row row') (IsEither IsA IsB) (either_reading v reading reading') (either_from v from from')
   unfolding Reads
   either = record {
     complete = either_complete;
     sound = λ p s t e.
-        let a = taken (next_flag s) (λ b. side_from from from' b.0 b.1) (p, t) e in
+        let a = taken (next_flag v s) (λ b. side_from from from' b.0 b.1) (p, t) e in
         let f = flag_sound v a.0.0 s a.0.1 is.0 a.1 in
         let b = side_sound a.0.0 p a.0.1 t a.2 in
         (b.0, f ∙ b.1);

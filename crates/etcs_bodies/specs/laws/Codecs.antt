@@ -135,7 +135,7 @@ flag_admitted v f false = f.1
 pub flag_of : (v : Var) (n : ℕ) → IsFlag v → admits v n ≡ true → (b : Bool) × (n ≡ bit b)
 flag_of v n f ok = as_bit n (subst (λ w. n < 2 ^ w) f.0 (in_width v n ok))
 
-pub flag : (v : Var) → IsFlag v → Codes (one v) (λ (b : Bool). Unit {0}) (λ b. (v, bit b) ∷ []) next_flag
+pub flag : (v : Var) → IsFlag v → Codes (one v) (λ (b : Bool). Unit {0}) (λ b. (v, bit b) ∷ []) (next_flag v)
 unfolding Reads
 flag v is = record {
   complete = λ b s h. flag_is v b s is.0;
@@ -148,7 +148,7 @@ module _ {W : Type 0} (v : Var) (is : IsFlag v) {row : Layout → Layout} {IsW :
   groups : Codes (group_row v IsOne row) (IsGroup v IsOne IsW) (group_reading v reading) (group_from v IsOne from)
   groups = group_of v IsOne group
 
-  optional_complete : (o : Option W) (s : Left) → IsOptional IsW o → optional_from from (ahead (optional_reading v reading o) s) ≡ Some (o, s)
+  optional_complete : (o : Option W) (s : Left) → IsOptional IsW o → optional_from v from (ahead (optional_reading v reading o) s) ≡ Some (o, s)
   optional_complete None s h = rw (flag_is v false s is.0) refl
   optional_complete (Some w) s h = rw (ahead_both ((v, 1) ∷ []) (reading w) s, flag_is v true (ahead (reading w) s) is.0, group.complete w s h) refl
 
@@ -167,9 +167,9 @@ module _ {W : Type 0} (v : Var) (is : IsFlag v) {row : Layout → Layout} {IsW :
   opened_by false None s t e = (tt, ap (ahead ((v, 0) ∷ [])) (some_pair None None s t e).1)
   opened_by false (Some w) s t e = let bad = (some_pair None (Some w) s t e).0 in absurd cc
 
-  optional_sound : (o : Option W) (s t : Left) → optional_from from s ≡ Some (o, t) → IsOptional IsW o × (s ≡ ahead (optional_reading v reading o) t)
+  optional_sound : (o : Option W) (s t : Left) → optional_from v from s ≡ Some (o, t) → IsOptional IsW o × (s ≡ ahead (optional_reading v reading o) t)
   optional_sound o s t e =
-      let a = taken (next_flag s) (λ b. opened from b.0 b.1) (o, t) e in
+      let a = taken (next_flag v s) (λ b. opened from b.0 b.1) (o, t) e in
       let f = flag_sound v a.0.0 s a.0.1 is.0 a.1 in
       let b = opened_by a.0.0 o a.0.1 t a.2 in
       (b.0, f ∙ b.1)
@@ -188,7 +188,7 @@ module _ {W : Type 0} (v : Var) (is : IsFlag v) {row : Layout → Layout} {IsW :
   admitted_of (n, None) h = admitted v n h.0
   admitted_of (n, Some w) h = admitted v n h.0
 
-  pub optional : Codes (group_row v IsOne row) (IsOptional IsW) (optional_reading v reading) (optional_from from)
+  pub optional : Codes (group_row v IsOne row) (IsOptional IsW) (optional_reading v reading) (optional_from v from)
   optional = record {
     complete = optional_complete;
     sound = optional_sound;

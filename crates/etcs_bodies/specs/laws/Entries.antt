@@ -5,7 +5,7 @@ use Rattle.std.proofs.lemmas.Bool.{leb-true}
 use Rattle.std.proofs.lemmas.List.Elements.{All-head, All-tail}
 use Rattle.etcs_vars.specs.declared.var.Var.TheVariants.{N_ITER}
 use Rattle.etcs_vars.specs.Reading.{Reading, spelled}
-use Rattle.etcs_tables.specs.Layouts.{Layout, one}
+use Rattle.etcs_tables.specs.Layouts.{Layout}
 use Rattle.etcs_bodies.specs.Taking.{Left}
 use Rattle.etcs_bodies.specs.Repeats.{bit_count}
 use Rattle.etcs_bodies.specs.laws.Repeats.{bit_count_is, bit_count-append}

@@ -41,7 +41,7 @@ group_none fault (Some w) h = h
 
 -- a group after a flag
 pub flagged : {W : Type 0} {row : Layout → Layout} {reading : W → Reading} {from : Left → Option (W × Left)} (v : Var) (is : IsFlag v) (fault : W → Option BuildFault)
-    → Codes row (λ (w : W). fault w ≡ None) reading from → Codes (group_row v IsOne row) (λ (o : Option W). group_fault fault o ≡ None) (optional_reading v reading) (optional_from from)
+    → Codes row (λ (w : W). fault w ≡ None) reading from → Codes (group_row v IsOne row) (λ (o : Option W). group_fault fault o ≡ None) (optional_reading v reading) (optional_from v from)
 flagged v is fault group = renamed (optional v is group) (λ o h. group_is fault o h) (λ o h. group_none fault o h) (λ o. refl)
 
 pub guarded_is : {W : Type 0} (v : Var) (test : Test) (fault : W → Option BuildFault) (n : ℕ) (o : Option W)

@@ -1,5 +1,5 @@
 -- Lemmas about specs/PacketCodes.antt.
-use Rattle.std.proofs.Common.{◌≡◌, ℕ, ◌≤◌, true, [], length, Option, Some, None, refl, sym, ap, ◌∙◌, subst}
+use Rattle.std.proofs.Common.{◌≡◌, ℕ, ◌≤◌, Bool, true, List, [], length, Option, Some, None, refl, sym, ap, ◌∙◌, subst}
 use Rattle.std.specs.Prelude.{IsTrue}
 use Rattle.std.proofs.lemmas.Bool.{eqb-true}
 use Rattle.etcs_vars.specs.declared.var.Var.TheVariants.{Q_DIR}
@@ -12,16 +12,34 @@ use Rattle.etcs_tables.specs.Frames.{is_direction}
 use Rattle.etcs_tables.specs.Layouts.{Layout, whole, ROW_LIMIT}
 use Rattle.etcs_tables.specs.Rows.{row_to}
 use Rattle.etcs_tables.specs.Typed.{IsTyped, IsFramed}
-use Rattle.etcs_bodies.specs.Taking.{Left, listed, in_bits, is_spent}
+use Rattle.etcs_bodies.specs.Taking.{Left, listed, in_bits, Says, is_spent}
 use Rattle.etcs_bodies.specs.laws.Takes.{taken, admitted, number_ok}
 use Rattle.etcs_bodies.specs.Codecs.{Codes}
-use Rattle.etcs_bodies.specs.Packets.{packet_to}
-use Rattle.etcs_bodies.specs.laws.Packets.{was_whole, is_whole, read_list, body_of_list, body_of_bits, body_framed, typed_read, framed_read}
+use Rattle.etcs_bodies.specs.Packets.{packet_to, IsPacketLeft}
+use Rattle.etcs_bodies.specs.laws.Packets.{end_of, end_spent, was_whole, is_whole, read_all, body_of, body_framed, framed_read}
 use Rattle.etcs_bodies.specs.PacketCodes.{PacketCodes, fitting, directed_from, direction_as, IsDirection, never, Directed}
+
+-- a typed packet's numbers are its variables'
+pub typed_left : (way : Way) (nid dir : ℕ) (f : List ℕ) → IsTyped way nid dir f → IsPacketLeft way nid dir (listed f)
+typed_left way nid dir f (layout, e, d, (bits, (r, reads, fr, br), short)) =
+    let fits : length (spelled r) ≤ ROW_LIMIT = rw (← br) at short in
+    (r, (layout, e, d, reads, fits), fr)
 
 module _ {P : Type 0} {way : Way} {nid : ℕ} {direction : P → ℕ} {IsValue : P → Type 0} {reading : P → Reading} {from : ℕ → Left → Option P} (codes : PacketCodes way nid direction IsValue reading from) where
   pub all_typed : (p : P) → IsValue p → IsTyped way nid (direction p) (numbers (reading p))
   all_typed p h = let f = codes.framed p h in (f.0, f.1, f.2, (spelled (reading p), (reading p, f.3, refl, refl), f.4))
+
+  pub all_listed : (dir : ℕ) (f : List ℕ) (p : P) → from dir (listed f) ≡ Some p → IsValue p × (direction p ≡ dir) × (numbers (reading p) ≡ f)
+  all_listed dir f p h = codes.sound dir (listed f) p h
+
+  pub all_spelled : (dir : ℕ) (b : List Bool) (p : P) → from dir (in_bits b) ≡ Some p → IsValue p × (direction p ≡ dir) × (spelled (reading p) ≡ b)
+  all_spelled dir b p h = codes.sound dir (in_bits b) p h
+
+  pub all_untyped : (dir : ℕ) (f : List ℕ) → from dir (listed f) ≡ None → IsTyped way nid dir f → ⊥
+  all_untyped dir f none h = codes.complete dir (listed f) none (typed_left way nid dir f h)
+
+  pub all_unframed : (dir : ℕ) (b : List Bool) → from dir (in_bits b) ≡ None → (r : Reading) → IsFramed way nid dir r → spelled r ≡ b → ⊥
+  all_unframed dir b none r h e = codes.complete dir (in_bits b) none (r, h, e)
 
   pub all_framed : (p : P) → IsValue p → IsFramed way nid (direction p) (reading p) × (numbers (reading p) ≡ numbers (reading p))
   all_framed p h = (codes.framed p h, refl)
@@ -78,23 +96,14 @@ module _ {B P : Type 0} {row : Layout → Layout} {IsBody : B → Type 0} {body_
 
   pub packet_codes : PacketCodes way nid direction IsValue reading (packet_to way (directed_from from too_long make))
   packet_codes = record {
-    of_numbers = λ dir f p h.
-        let (b, t, read, spent, ok, fits, e) = was_read dir (listed f) p h in
-        let l = body_of_list codes f b t read spent in
+    sound = λ dir s p h.
+        let (b, t, read, spent, ok, fits, e) = was_read dir s p h in
+        let l = body_of codes s t b read spent in
         let v = value_of dir b p e fits l.0 ok in
-        (v.0, v.1, ap numbers (sym v.2) ∙ l.1);
-    of_bits = λ dir x p h.
-        let (b, t, read, spent, ok, fits, e) = was_read dir (in_bits x) p h in
-        let l = body_of_bits codes x b t read spent in
-        let v = value_of dir b p e fits l.0 ok in
-        (v.0, v.1, ap spelled (sym v.2) ∙ l.1);
-    untyped = λ dir f none h.
-        let o = typed_read codes way nid is dir f h in
-        let bad : ◌≡◌ {A = Option P} (Some (make dir o.0)) None = sym (is_read dir (listed f) (listed []) o.0 h.2 o.1 o.2 refl) ∙ none in
-        absurd cc;
-    unframed = λ dir x none r h e.
-        let o = framed_read codes way nid is dir r h in
-        let bad : ◌≡◌ {A = Option P} (Some (make dir o.0)) None = sym (is_read dir (in_bits (spelled r)) (in_bits []) o.0 h.2 o.1 o.2 refl) ∙ ap (λ y. packet_to way (directed_from from too_long make) dir (in_bits y)) e ∙ none in
+        (v.0, v.1, subst (Says s) v.2 l.1);
+    complete = λ dir s none (r, h, all).
+        let o = framed_read codes way nid is dir s r h all in
+        let bad : ◌≡◌ {A = Option P} (Some (make dir o.0)) None = sym (is_read dir s (end_of s) o.0 h.2 o.1 o.2 (end_spent s)) ∙ none in
         absurd cc;
     framed = λ p h.
         let k = parts.is p h in
@@ -103,7 +112,7 @@ module _ {B P : Type 0} {row : Layout → Layout} {IsBody : B → Type 0} {body_
     back = λ p h.
         let k = parts.is p h in
         let short : length (spelled (body_reading (parts.body p))) ≤ ROW_LIMIT = rw (same_body p) k.2 in
-        let read = is_read (direction p) (listed (numbers (body_reading (parts.body p)))) (listed []) (parts.body p) (direction_admitted way (direction p) k.1) short (read_list codes (parts.body p) k.0) refl in
+        let read = is_read (direction p) (listed (numbers (body_reading (parts.body p)))) (listed []) (parts.body p) (direction_admitted way (direction p) k.1) short (read_all codes (listed (numbers (body_reading (parts.body p)))) (parts.body p) k.0 refl) refl in
         (rw (← same_body p) read) ∙ ap Some (parts.again p);
   }
 

@@ -1,5 +1,5 @@
 -- Lemmas about specs/Packets.antt.
-use Rattle.std.proofs.Common.{◌≡◌, ℕ, ◌≤◌, Bool, true, false, List, [], ◌∷◌, ◌++◌, length, Option, Some, None, refl, sym, ap, ◌∙◌, subst}
+use Rattle.std.proofs.Common.{◌≡◌, ℕ, ◌≤◌, Bool, true, false, [], ◌∷◌, length, map, Option, Some, None, refl, sym, ap, ◌∙◌, subst}
 use Rattle.std.specs.Prelude.{IsTrue, if◌then◌else◌, nat_le}
 use Rattle.std.proofs.lemmas.Bool.{leb-true, le-leb}
 use Rattle.std.proofs.lemmas.List.{append-nil}
@@ -10,8 +10,8 @@ use Rattle.etcs_tables.specs.declared.row.Way.{Way}
 use Rattle.etcs_tables.specs.Layouts.{Layout, whole, Reads, ROW_LIMIT}
 use Rattle.etcs_tables.specs.Rows.{row_to}
 use Rattle.etcs_tables.specs.Frames.{is_direction}
-use Rattle.etcs_tables.specs.Typed.{IsTyped, IsFramed}
-use Rattle.etcs_bodies.specs.Taking.{Left, listed, in_bits, ahead, is_spent, ◌and_then◌}
+use Rattle.etcs_tables.specs.Typed.{IsFramed}
+use Rattle.etcs_bodies.specs.Taking.{named_as, Left, listed, in_bits, named, ahead, Says, is_spent, ◌and_then◌}
 use Rattle.etcs_bodies.specs.laws.Takes.{taken}
 use Rattle.etcs_bodies.specs.Repeats.{bit_count}
 use Rattle.etcs_bodies.specs.laws.Repeats.{bit_count_is}
@@ -39,15 +39,30 @@ length_ok r h = let short : bit_count r ≤ ROW_LIMIT = rw (bit_count_is r) at h
 
 -- ---- What is read as a packet.
 
-spent_list : (r : Reading) (f : List ℕ) (t : Left) → is_spent t ≡ true → listed f ≡ ahead r t → f ≡ numbers r
-spent_list r f (listed []) h e = let same : f ≡ numbers r ++ [] = cc in same ∙ append-nil (numbers r)
-spent_list r f (listed (n ∷ t)) h e = absurd cc
-spent_list r f (in_bits t) h e = absurd cc
+-- where nothing is left after these variables, they were all
+all_said : (r : Reading) (t : Left) → is_spent t ≡ true → Says (ahead r t) r
+all_said r (listed []) h = sym (append-nil (numbers r))
+all_said r (listed (n ∷ t)) h = absurd cc
+all_said r (in_bits []) h = sym (append-nil (spelled r))
+all_said r (in_bits (b ∷ t)) h = absurd cc
+all_said r (named []) h = sym (append-nil (map named_as r))
+all_said r (named (n ∷ t)) h = absurd cc
 
-spent_bits : (r : Reading) (x : List Bool) (t : Left) → is_spent t ≡ true → in_bits x ≡ ahead r t → x ≡ spelled r
-spent_bits r x (in_bits []) h e = let same : x ≡ spelled r ++ [] = cc in same ∙ append-nil (spelled r)
-spent_bits r x (in_bits (b ∷ t)) h e = absurd cc
-spent_bits r x (listed t) h e = absurd cc
+-- nothing, in the same form
+abbrev pub end_of : Left → Left
+end_of (listed f) = listed []
+end_of (in_bits b) = in_bits []
+end_of (named s) = named []
+
+pub end_spent : (s : Left) → is_spent (end_of s) ≡ true
+end_spent (listed f) = refl
+end_spent (in_bits b) = refl
+end_spent (named s) = refl
+
+said : (r : Reading) (s : Left) → Says s r → s ≡ ahead r (end_of s)
+said r (listed f) h = ap listed (sym h ∙ sym (append-nil (numbers r)))
+said r (in_bits b) h = ap in_bits (sym h ∙ sym (append-nil (spelled r)))
+said r (named s) h = ap named (sym h ∙ sym (append-nil (map named_as r)))
 
 by_spent : {P : Type 0} (c : Bool) (p q : P) → ◌≡◌ {A = Option P} (if c then Some p else None) (Some q) → (c ≡ true) × (p ≡ q)
 by_spent true p q h = let e : p ≡ q = cc in (refl, e)
@@ -71,17 +86,13 @@ unfolding packet_to
 is_whole way from dir s t p d h e = rw (d, h, e) refl
 
 module _ {B : Type 0} {row : Layout → Layout} {IsBody : B → Type 0} {reading : B → Reading} {from : Left → Option (B × Left)} (codes : Codes row IsBody reading from) where
-  pub read_list : (b : B) → IsBody b → from (listed (numbers (reading b))) ≡ Some (b, listed [])
-  read_list b h = rw (append-nil (numbers (reading b))) at (codes.complete b (listed []) h)
+  pub read_all : (s : Left) (b : B) → IsBody b → Says s (reading b) → from s ≡ Some (b, end_of s)
+  read_all s b h all = ap from (said (reading b) s all) ∙ codes.complete b (end_of s) h
 
-  pub read_bits : (b : B) → IsBody b → from (in_bits (spelled (reading b))) ≡ Some (b, in_bits [])
-  read_bits b h = rw (append-nil (spelled (reading b))) at (codes.complete b (in_bits []) h)
-
-  pub body_of_list : (f : List ℕ) (b : B) (t : Left) → from (listed f) ≡ Some (b, t) → is_spent t ≡ true → IsBody b × (numbers (reading b) ≡ f)
-  body_of_list f b t h spent = let v = codes.sound b (listed f) t h in (v.0, sym (spent_list (reading b) f t spent v.1))
-
-  pub body_of_bits : (x : List Bool) (b : B) (t : Left) → from (in_bits x) ≡ Some (b, t) → is_spent t ≡ true → IsBody b × (spelled (reading b) ≡ x)
-  body_of_bits x b t h spent = let v = codes.sound b (in_bits x) t h in (v.0, sym (spent_bits (reading b) x t spent v.1))
+  pub body_of : (s t : Left) (b : B) → from s ≡ Some (b, t) → is_spent t ≡ true → IsBody b × Says s (reading b)
+  body_of s t b h spent =
+      let v = codes.sound b s t h in
+      (v.0, subst (λ l. Says l (reading b)) (sym v.1) (all_said (reading b) t spent))
 
   -- ---- Of the packet of this row.
 
@@ -96,18 +107,8 @@ module _ {B : Type 0} {row : Layout → Layout} {IsBody : B → Type 0} {reading
         let o = whole_out codes [] r (subst (λ l. Reads l [] r) one reads) in
         (o.0, o.1, o.2, rw o.2 at short)
 
-    pub typed_body : (dir : ℕ) (f : List ℕ) → IsTyped way nid dir f → (b : B) × IsBody b × (f ≡ numbers (reading b)) × (length (spelled (reading b)) ≤ ROW_LIMIT)
-    typed_body dir f (layout, e, d, (bits, (r, reads, fr, br), short)) =
-        let b = framed_body dir r (layout, e, d, reads, rw (← br) at short) in
-        (b.0, b.1, sym fr ∙ ap numbers b.2, b.3)
-
-    -- a packet's numbers are read
-    pub typed_read : (dir : ℕ) (f : List ℕ) → IsTyped way nid dir f → (b : B) × (length (spelled (reading b)) ≤ ROW_LIMIT) × (from (listed f) ≡ Some (b, listed []))
-    typed_read dir f h =
-        let o = typed_body dir f h in
-        (o.0, o.3, ap (λ y. from (listed y)) o.2 ∙ read_list o.0 o.1)
-
-    pub framed_read : (dir : ℕ) (r : Reading) → IsFramed way nid dir r → (b : B) × (length (spelled (reading b)) ≤ ROW_LIMIT) × (from (in_bits (spelled r)) ≡ Some (b, in_bits []))
-    framed_read dir r h =
+    -- a packet's variables are read
+    pub framed_read : (dir : ℕ) (s : Left) (r : Reading) → IsFramed way nid dir r → Says s r → (b : B) × (length (spelled (reading b)) ≤ ROW_LIMIT) × (from s ≡ Some (b, end_of s))
+    framed_read dir s r h all =
         let o = framed_body dir r h in
-        (o.0, o.3, ap (λ y. from (in_bits (spelled y))) o.2 ∙ read_bits o.0 o.1)
+        (o.0, o.3, read_all s o.0 o.1 (subst (Says s) o.2 all))

@@ -24,13 +24,13 @@ number_or_none v b k =
           number_there v n b k inside (sym (number_inside k (width v) b n inside refl)) (admits v n) refl
     ]
 
-pub flag_or_none : (b : List Bool) (k : ℕ) → (next_flag (in_bits (drop k b)) ≡ None) ⊎ TakesBits (λ s c t. next_flag s ≡ Some (c, t)) 1 b k
-flag_or_none b k =
+pub flag_or_none : (v : Var) (b : List Bool) (k : ℕ) → (next_flag v (in_bits (drop k b)) ≡ None) ⊎ TakesBits (λ s c t. next_flag v s ≡ Some (c, t)) 1 b k
+flag_or_none v b k =
     elim (cases_lt (length b) (k + 1)) [
-      | inl past ↦ inl (no_flag_in_bits b k (number_past k 1 b past))
+      | inl past ↦ inl (no_flag_in_bits v b k (number_past k 1 b past))
       | inr inside ↦
           let n = value (part k 1 b) in
-          inr (inside, nat_eq n 1, flag_is_in_bits n b k (sym (number_inside k 1 b n inside refl)))
+          inr (inside, nat_eq n 1, flag_is_in_bits v n b k (sym (number_inside k 1 b n inside refl)))
     ]
 
 pub both_or_none : {V W : Type 0} (takes : Left → V → Left → Type 0) (lacks : Left → Type 0) (w : ℕ) (takes' : Left → W → Left → Type 0) (lacks' : Left → Type 0) (w' : ℕ) → ((b : List Bool) (k : ℕ) → lacks (in_bits (drop k b)) ⊎ TakesBits takes w b k) → ((b : List Bool) (k : ℕ) → lacks' (in_bits (drop k b)) ⊎ TakesBits takes' w' b k) → (b : List Bool) (k : ℕ) → LacksOne takes lacks lacks' (in_bits (drop k b)) ⊎ TakesBits (TakesBoth takes takes') (w + w') b k

@@ -31,22 +31,22 @@ unfolding next_number
 none_next v [] e = refl
 none_next v (n ∷ f) e = absurd cc
 
-pub no_flag : (f : List ℕ) → length f ≡ 0 → next_flag (listed f) ≡ None
+pub no_flag : (v : Var) (f : List ℕ) → length f ≡ 0 → next_flag v (listed f) ≡ None
 unfolding next_flag
-no_flag [] e = refl
-no_flag (n ∷ f) e = absurd cc
+no_flag v [] e = refl
+no_flag v (n ∷ f) e = absurd cc
 
-pub flag_too_large : (n : ℕ) (f : List ℕ) → 1 < n → next_flag (listed (n ∷ f)) ≡ None
+pub flag_too_large : (v : Var) (n : ℕ) (f : List ℕ) → 1 < n → next_flag v (listed (n ∷ f)) ≡ None
 unfolding next_flag
-flag_too_large zero f h = absurd (omega arith)
-flag_too_large (suc zero) f h = absurd (omega arith)
-flag_too_large (suc (suc n)) f h = refl
+flag_too_large v zero f h = absurd (omega arith)
+flag_too_large v (suc zero) f h = absurd (omega arith)
+flag_too_large v (suc (suc n)) f h = refl
 
-pub flag_is_listed : (n : ℕ) (f : List ℕ) → n ≤ 1 → next_flag (listed (n ∷ f)) ≡ Some (nat_eq n 1, listed f)
+pub flag_is_listed : (v : Var) (n : ℕ) (f : List ℕ) → n ≤ 1 → next_flag v (listed (n ∷ f)) ≡ Some (nat_eq n 1, listed f)
 unfolding next_flag
-flag_is_listed zero f h = refl
-flag_is_listed (suc zero) f h = refl
-flag_is_listed (suc (suc n)) f h = absurd (omega arith)
+flag_is_listed v zero f h = refl
+flag_is_listed v (suc zero) f h = refl
+flag_is_listed v (suc (suc n)) f h = absurd (omega arith)
 
 -- ---- Of bits.
 
@@ -100,21 +100,21 @@ flag_at : (c : Bool) (n : ℕ) → bit c ≡ n → c ≡ nat_eq n 1
 flag_at true n e = rw (← e) refl
 flag_at false n e = rw (← e) refl
 
-flag_in : (n : ℕ) (b : List Bool) → number_at 0 1 b ≡ Some n → next_flag (in_bits b) ≡ Some (nat_eq n 1, in_bits (drop 1 b))
+flag_in : (v : Var) (n : ℕ) (b : List Bool) → number_at 0 1 b ≡ Some n → next_flag v (in_bits b) ≡ Some (nat_eq n 1, in_bits (drop 1 b))
 unfolding next_flag
-flag_in n [] h = absurd cc
-flag_in n (c ∷ b) h =
+flag_in v n [] h = absurd cc
+flag_in v n (c ∷ b) h =
     let both : ◌≡◌ {A = Option ℕ} (Some (bit c)) (Some n) = sym (first_bit c b) ∙ h in
     let one : bit c ≡ n = cc in
     rw (← flag_at c n one) refl
 
-no_flag_in : (b : List Bool) → number_at 0 1 b ≡ None → next_flag (in_bits b) ≡ None
+no_flag_in : (v : Var) (b : List Bool) → number_at 0 1 b ≡ None → next_flag v (in_bits b) ≡ None
 unfolding next_flag
-no_flag_in [] h = refl
-no_flag_in (c ∷ b) h = let both : ◌≡◌ {A = Option ℕ} (Some (bit c)) None = sym (first_bit c b) ∙ h in absurd cc
+no_flag_in v [] h = refl
+no_flag_in v (c ∷ b) h = let both : ◌≡◌ {A = Option ℕ} (Some (bit c)) None = sym (first_bit c b) ∙ h in absurd cc
 
-pub flag_is_in_bits : (n : ℕ) (b : List Bool) (k : ℕ) → number_at k 1 b ≡ Some n → next_flag (in_bits (drop k b)) ≡ Some (nat_eq n 1, in_bits (drop (k + 1) b))
-flag_is_in_bits n b k h = flag_in n (drop k b) (behind k 1 b (omega arith) ∙ h) ∙ ap (λ l. Some (nat_eq n 1, in_bits l)) (drop-drop 1 k b)
+pub flag_is_in_bits : (v : Var) (n : ℕ) (b : List Bool) (k : ℕ) → number_at k 1 b ≡ Some n → next_flag v (in_bits (drop k b)) ≡ Some (nat_eq n 1, in_bits (drop (k + 1) b))
+flag_is_in_bits v n b k h = flag_in v n (drop k b) (behind k 1 b (omega arith) ∙ h) ∙ ap (λ l. Some (nat_eq n 1, in_bits l)) (drop-drop 1 k b)
 
-pub no_flag_in_bits : (b : List Bool) (k : ℕ) → number_at k 1 b ≡ None → next_flag (in_bits (drop k b)) ≡ None
-no_flag_in_bits b k h = no_flag_in (drop k b) (behind k 1 b (omega arith) ∙ h)
+pub no_flag_in_bits : (v : Var) (b : List Bool) (k : ℕ) → number_at k 1 b ≡ None → next_flag v (in_bits (drop k b)) ≡ None
+no_flag_in_bits v b k h = no_flag_in v (drop k b) (behind k 1 b (omega arith) ∙ h)

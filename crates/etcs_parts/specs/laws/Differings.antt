@@ -1,14 +1,12 @@
 -- Lemmas about specs/Differings.antt.
-use Rattle.std.proofs.Common.{◌≡◌, ℕ, zero, suc, ◌<◌, ◌≤◌, Bool, true, false, [], ◌∷◌, length, None, refl, arith, Decides}
+use Rattle.std.proofs.Common.{◌≡◌, ℕ, zero, suc, ◌<◌, ◌≤◌, Bool, true, false, length, refl, arith, Decides}
 use Rattle.std.specs.Prelude.{◌==◌, not}
-use Rattle.etcs_vars.specs.declared.var.Var.TheVariants.{Q_DIFF, NC_CDDIFF, NC_DIFF, V_DIFF}
+use Rattle.etcs_vars.specs.declared.var.Var.TheVariants.{Q_DIFF, V_DIFF}
 use Rattle.etcs_vars.specs.Vars.{width, admits}
-use Rattle.etcs_vars.specs.Faults.{number_fault}
 use Rattle.etcs_vars.specs.Reading.{spelled}
 use Rattle.etcs_tables.specs.declared.item.Test.TheVariants.{IsZero, IsOneOrTwo}
 use Rattle.etcs_tables.specs.Layouts.{passes}
-use Rattle.etcs_bodies.specs.laws.Takes.{none_of, in_width, number_ok, admitted}
-use Rattle.etcs_bodies.specs.Taking.{Left, listed, in_bits, next_number}
+use Rattle.etcs_bodies.specs.laws.Takes.{none_of, in_width}
 use Rattle.etcs_bodies.specs.Repeats.{bit_count}
 use Rattle.etcs_bodies.specs.laws.Repeats.{bit_count_is}
 use Rattle.etcs_bodies.specs.Codecs.{Codes}
@@ -18,19 +16,6 @@ use Rattle.etcs_parts.specs.laws.Faults.{fine}
 use Rattle.etcs_parts.specs.Differings.{DifferingValue, category_var, IsDiffering, differing_reading, differing_row, differing_from, differing_value}
 use Rattle.etcs_bodies.specs.laws.Equality.{number_exact, fields_exact, both_exact, numbers_exact}
 use Rattle.etcs_parts.specs.contracts.differing.DifferingPartialEq.TheImpl as differing_eq
-
--- ---- The numbers of both categories are the same, in as many bits.
-
-pub same_category : (b : Bool) (s : Left) → next_number (category_var b) s ≡ next_number NC_DIFF s
-unfolding next_number
-same_category false s = refl
-same_category true (listed []) = refl
-same_category true (listed (n ∷ f)) = refl
-same_category true (in_bits b) = refl
-
-pub category_admitted : (b : Bool) (n : ℕ) → number_fault NC_DIFF n ≡ None → number_fault (category_var b) n ≡ None
-category_admitted false n h = h
-category_admitted true n h = number_ok NC_CDDIFF n (admitted NC_DIFF n h)
 
 -- ---- An entry is what its row spells.
 

@@ -5,5 +5,6 @@ use Rattle.etcs_bodies.proofs.part.take_all.Given as goal
 
 abbrev pub invariant-loop : goal.invariant-loop
 invariant-loop g l =
-    (times_from g.P.Part.read_from l.count l.fn.numbers ≡ behind l.parts.items (times_from g.P.Part.read_from (l.count - l.counter) l.numbers))
+    let left = g.L.NextNumber.left in
+    (times_from g.P.Part.read_from l.count (left l.fn.numbers) ≡ behind l.parts.items (times_from g.P.Part.read_from (l.count - l.counter) (left l.numbers)))
     × (length l.parts.items ≡ l.counter) × All g.P.Part.is_part l.parts.items

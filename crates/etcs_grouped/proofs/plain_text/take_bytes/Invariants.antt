@@ -6,6 +6,7 @@ use Rattle.etcs_grouped.specs.PlainTexts.{IsByte}
 use Rattle.etcs_grouped.proofs.plain_text.take_bytes.Given as goal
 
 abbrev pub invariant-loop : goal.invariant-loop
-invariant-loop l =
-    (times_from (next_number X_TEXT) l.count l.fn.numbers ≡ behind l.bytes.items (times_from (next_number X_TEXT) (l.count - l.counter) l.numbers))
+invariant-loop g l =
+    let left = g.L.NextNumber.left in
+    (times_from (next_number X_TEXT) l.count (left l.fn.numbers) ≡ behind l.bytes.items (times_from (next_number X_TEXT) (l.count - l.counter) (left l.numbers)))
     × (length l.bytes.items ≡ l.counter) × All IsByte l.bytes.items

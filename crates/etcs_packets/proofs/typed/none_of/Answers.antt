@@ -1,4 +1,5 @@
+use Rattle.etcs_packets.specs.laws.Outcomes.{unframed}
 use Rattle.etcs_packets.proofs.typed.none_of.Goals as goal
 
 pub returns : goal.returns
-returns g c = λ dir. record { made = tt; some = tt; none = λ n h. g.met.S.Source.rowed c.args.source.now c.args.way c.args.nid dir c.requires h }
+returns g c = λ dir. record { made = tt; some = tt; none = λ n h. unframed c.args.way c.args.nid dir h.0 c.requires h.1 }

@@ -6,12 +6,12 @@ use Rattle.etcs_track.proofs.train_flat.TrainFlat.taken.Goals as goal
 
 pub invariant_of-result : goal.invariant_of-result
 invariant_of-result g c =
-    table_fine ToTrack g.row.NID 0 c.table_of.result.now c.args.numbers.now c.table_of.ensures.table c.take_table.new.numbers c.in_ok-taken.taken.items refl c.in_ok-taken.ensures.some
+    table_fine ToTrack g.row.NID 0 c.table_of.result.now (g.L.NextNumber.left c.args.numbers.now) c.table_of.ensures.table (g.L.NextNumber.left c.take_table.new.numbers) c.in_ok-taken.taken.items refl c.in_ok-taken.ensures.some
 
 pub returns-clause-some : goal.returns-clause-some
 returns-clause-some g c =
-    table_some ToTrack g.row.NID c.args.dir c.table_of.result.now c.args.numbers.now c.table_of.ensures.table alone c.take_table.new.numbers c.in_ok-taken.taken.items c.in_ok-taken.ensures.some
+    table_some ToTrack g.row.NID c.args.dir c.table_of.result.now (g.L.NextNumber.left c.args.numbers.now) c.table_of.ensures.table alone (g.L.NextNumber.left c.take_table.new.numbers) c.in_ok-taken.taken.items c.in_ok-taken.ensures.some
 
 pub returns-in_err-taken-clause-none : goal.returns-in_err-taken-clause-none
 returns-in_err-taken-clause-none g c =
-    search (rules, table_none ToTrack g.row.NID c.args.dir c.table_of.result.now c.args.numbers.now c.table_of.ensures.table alone c.in_err-taken.ensures.none)
+    search (rules, table_none ToTrack g.row.NID c.args.dir c.table_of.result.now (g.L.NextNumber.left c.args.numbers.now) c.table_of.ensures.table alone c.in_err-taken.ensures.none)

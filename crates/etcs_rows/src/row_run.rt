@@ -3,7 +3,7 @@
 ghost use Rattle.std.specs.Prelude.{◌≡◌, ◌+◌, ◌<◌, ◌≤◌, ◌^◌, length, IfSome};
 ghost use Rattle.arrayvec.specs.ArrayVec.{array_vec_len};
 ghost use Rattle.etcs_bits.specs.Bits.{bits};
-ghost use Rattle.etcs_reader.specs.Rests.{Goes};
+ghost use Rattle.etcs_reader.specs.Rests.{Goes, Starts};
 ghost use Rattle.etcs_tables.specs.Layouts.{ReadsIn};
 ghost use Rattle.etcs_rows.specs.Runs.{NextIn, RunsTo};
 
@@ -11,13 +11,14 @@ use crate::place::reaches;
 use crate::rest::RowRest;
 use arrayvec::ArrayVec;
 use etcs_bits::peek;
+use etcs_reader::Rest;
 use etcs_vars::Var;
 
 /// Variables of a row one after another: their numbers, how many bits they are, and what is left of the row then.
 #[derive(Drop)]
 pub struct RowRun {
     pub rest: RowRest,
-    pub numbers: ArrayVec<u64, 64>,
+    pub numbers: ArrayVec<u64, 32>,
     pub bits: usize,
 }
 
@@ -28,7 +29,7 @@ impl RowRun {
     fn next(&self, piece: &[u8], at: usize) -> Option<(Var, u64)>
         requires inside { at ≤ length (bits piece.now) }
         requires small { length (bits piece.now) < 2 ^ 64 }
-        ensures room { IfSome result (λ p. array_vec_len self.now.numbers < 64) }
+        ensures room { IfSome result (λ p. array_vec_len self.now.numbers < 32) }
         ensures next { IfSome result (λ p. NextIn self.now.rest.place self.now.rest.len (bits piece.now) at p.0 p.1) }
     {
         if self.numbers.is_full() {
@@ -66,7 +67,56 @@ impl RowRun {
             run.rest.pass_admitted(var, number);
             run.bits += var.width();
         }
-        if run.bits == 0 || !reaches(&run.rest.place, run.rest.len) {
+        if run.bits == 0 {
+            return None;
+        }
+        if !reaches(&run.rest.place, run.rest.len) {
+            return RowRun::one_by_one(row, piece, at);
+        }
+        Some(run)
+    }
+
+    /// The next variable as `next` answers it, where the row can end in its bits after it.
+    fn fitting(&self, piece: &[u8], at: usize) -> Option<(Var, u64)>
+        requires goes { Goes (ReadsIn self.now.rest.place self.now.rest.len) }
+        requires inside { at ≤ length (bits piece.now) }
+        requires small { length (bits piece.now) < 2 ^ 64 }
+        ensures room { IfSome result (λ p. array_vec_len self.now.numbers < 32) }
+        ensures next { IfSome result (λ p. NextIn self.now.rest.place self.now.rest.len (bits piece.now) at p.0 p.1) }
+        ensures starts { IfSome result (λ p. Starts (ReadsIn self.now.rest.place self.now.rest.len) p.0 0 p.1) }
+    {
+        let (var, number) = self.next(piece, at)?;
+        if self.rest.begins(var, 0, number) {
+            Some((var, number))
+        } else {
+            None
+        }
+    }
+
+    /// The same as `ahead`, up to the first variable after which the row can't end in its bits.
+    #[cold]
+    #[inline(never)]
+    fn one_by_one(row: &RowRest, piece: &[u8], at: usize) -> Option<RowRun>
+        requires inside { at ≤ length (bits piece.now) }
+        requires small { length (bits piece.now) < 2 ^ 64 }
+        ensures some { IfSome result (λ r. 0 < r.bits) }
+        ensures goes { IfSome result (λ r. Goes (ReadsIn r.rest.place r.rest.len)) }
+        ensures run { IfSome result (λ r. RunsTo row.now.place row.now.len (bits piece.now) at r.bits r.numbers.items r.rest.place r.rest.len) }
+    {
+        if !reaches(&row.place, row.len) {
+            return None;
+        }
+        let mut run = RowRun {
+            rest: row.copied(),
+            numbers: ArrayVec::new(),
+            bits: 0,
+        };
+        while let Some((var, number)) = run.fitting(piece, at + run.bits) {
+            run.numbers.push(number);
+            run.rest.go_on(var, number);
+            run.bits += var.width();
+        }
+        if run.bits == 0 {
             return None;
         }
         Some(run)

@@ -10,4 +10,4 @@ invariant-loop-var l = record {
 }
 
 abbrev pub decreases-loop-var : goal.decreases-loop-var
-decreases-loop-var l = 64 - array_vec_len l.run.numbers
+decreases-loop-var l = 32 - array_vec_len l.run.numbers

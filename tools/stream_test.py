@@ -4,11 +4,13 @@
     tools/stream_test.py PROGRAM
 
 PROGRAM is the built `etcs`. It is run over outputs of little room, inputs that can't be read, a million items and more,
-lines of JSON that are long, deep or no UTF-8, and with few addresses. Expected answers come from docs/FORMAT.md and from
+lines of JSON that are long, deep or no UTF-8, and with few addresses; and its own JSON has to be read far sooner than the
+same with a blank. Expected answers come from docs/FORMAT.md and from
 counting. Each answer that isn't as expected is written; the last line says how many there were. The status is 1 where one
 differs.
 """
 
+import glob
 import os
 import resource
 import subprocess
@@ -17,6 +19,7 @@ import tempfile
 import threading
 from concurrent.futures import ThreadPoolExecutor
 
+TOP = os.path.dirname(os.path.dirname(os.path.realpath(__file__)))
 MOST = 1_048_576  # the bytes of the longest line of JSON
 LIMIT = 600  # seconds that a call may take
 ENDLESS = (3, b"etcs: input without end\n")
@@ -199,6 +202,32 @@ def check_endless_line(program):
     program.check("a line without end", found, (b"", b"etcs: line 1: bad JSON", 1, True))
 
 
+def seconds(program, words, given):
+    """Returns the status of a command line, and its seconds of processor."""
+    with tempfile.TemporaryFile() as source:
+        source.write(given)
+        source.seek(0)
+        run = subprocess.Popen([program.path, *words.split()], stdin=source, stdout=subprocess.DEVNULL)
+        _, status, usage = os.wait4(run.pid, 0)
+        run.returncode = os.waitstatus_to_exitcode(status)
+    return run.returncode, usage.ru_utime + usage.ru_stime
+
+
+def check_written(program):
+    """A line that the program wrote is read without a tree: with a blank in it, it takes more than three times as long."""
+    for name in sorted(glob.glob(f"{TOP}/examples/*_*.hex")):
+        kind = os.path.basename(name).partition("_")[0]
+        with open(name, "rb") as file:
+            status, lines, _ = program.call(f"convert --kind {kind} --to json", file.read())
+        if status:
+            continue
+        lines *= 4_000_000 // len(lines)
+        words = f"check --kind {kind} --from json"
+        (first, quick), (second, slow) = (seconds(program, words, it) for it in (lines, lines.replace(b'{"', b'{ "')))
+        what = f"JSON of {os.path.basename(name)}: {quick:.3f} s as it is written, {slow:.3f} s with blanks"
+        program.check(what, (first, second, 3 * quick < slow), (0, 0, True))
+
+
 def check_addresses(program):
     """With ever more addresses the program can't be loaded, then says that memory was refused, then answers."""
     for words, given, answer in (("show --kind short", b"", 0), ("help", b"", 0), ("show", b"", 2)):
@@ -222,6 +251,7 @@ CHECKS = (
     check_lines,
     check_bytes,
     check_endless_line,
+    check_written,
     check_addresses,
 )
 

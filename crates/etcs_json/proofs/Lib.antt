@@ -8,4 +8,5 @@ pub mod OneStored
 pub mod OwnStored
 pub mod PlainTrees
 pub mod Shapes
+pub mod TakenTexts
 pub mod TelegramTrees

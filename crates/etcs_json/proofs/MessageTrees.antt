@@ -38,6 +38,10 @@ pub record TypedFine {H B P : Type 0} (way : Way) (k : HeadOf H) (o : OwnOf B) (
   pub room : padding_room (all_bits way o form body ps) ≡ length padding
   pub fine : (n : ℕ) → n < 2 ^ length padding → padded_fault way k o form head body ps n ≡ None
 
+-- PADDING ends a whole byte
+few_bits : (way : Way) (nid : ℕ) (head body : Reading) (vs : List PacketValue) (padding : List Bool) (r : Reading) → TypedReads way nid head body vs padding r → length padding ≤ 7
+few_bits way nid head body vs padding r h = let fills = h.run.fills in omega (arith, h.bytes, fills.0, fills.1)
+
 module _ {H B P : Type 0} (way : Way) (k : HeadOf H) (o : OwnOf B) (form : P → Form) where
   pub kept_read : {sent_head : H → Reading} {sent_own : B → Reading} → HeadLaws way H sent_head k → OwnLaws way B sent_own o → (nid : ℕ) (b : List Bool) → nid < 2 ^ 8 → kept_fault way nid (length b) ≡ None → (r : Reading) × MessageReads way (kept_message nid b) r
   kept_read hl ol nid b small fine = (message_reading way k o form (Kept nid b), message_reads way k o form hl ol (Kept nid b) (small, fine))
@@ -50,8 +54,7 @@ module _ {H B P : Type 0} (way : Way) (k : HeadOf H) (o : OwnOf B) (form : P →
 
   pub typed_fine : (head : H) (body : B) (ps : List P) (padding : List Bool) (r : Reading) → IsHead k head → IsOwn o body → TypedReads way (o.nid body) (k.reading head) (o.reading body) (values_of form ps) padding r → TypedFine way k o form head body ps padding
   typed_fine head body ps padding r is_head own h =
-      let fills = h.run.fills in
-      let short : length padding ≤ 7 = omega (arith, h.bytes, fills.0, fills.1) in
+      let short : length padding ≤ 7 = few_bits way (o.nid body) (k.reading head) (o.reading body) (values_of form ps) padding r h in
       let room : padding_room (all_bits way o form body ps) ≡ length padding = omega (arith, h.bytes, short) in
       let (nid_ok, (len_ok, rest)) = h.head_admitted in
       let small = (admits_parts L_MESSAGE h.len len_ok).1 in
@@ -115,6 +118,14 @@ typed_message_says way (typed_message nid head body vs padding) x y z w u v (fs,
   all = p;
 }
 typed_message_says way (kept_message nid b) x y z w u v e = absurd cc
+
+-- none has more bits of PADDING
+pub long_padding : (way : Way) (m : MessageValue) (x y z w u v : Data) (pad : List Bool) (r : Reading) → 7 < length pad → ((q : List Bool) → v ≡ bits_tree q → pad ≡ q) → MessageReads way (unnamed_message way m) r → IsMessageTree way m (message_tree x y z w u v) → ⊥
+long_padding way m x y z w u v pad r long padding reads tree =
+    let s = typed_message_says way m x y z w u v tree in
+    let typed : TypedReads way s.nid s.head s.body (map (unnamed way) s.packets) s.padding r = subst (λ (n : MessageValue). MessageReads way (unnamed_message way n) r) s.is reads in
+    let few = few_bits way s.nid s.head s.body (map (unnamed way) s.packets) s.padding r typed in
+    omega (arith, few, long, ap length (padding s.padding s.padding_is))
 
 -- one that is kept as bits has no stand-ins
 kept_itself : (way : Way) (m : MessageValue) (x z : Data) → IsMessageTree way m (kept_message_tree x (string (way_word way)) z) → m ≡ unnamed_message way m

@@ -1,8 +1,9 @@
 //! Messages of their trees.
 
-ghost use Rattle.std.specs.Prelude.{◌≡◌, [], All, Some, IfOk, IfSome, IsSome, map, option_map};
+ghost use Rattle.std.specs.Prelude.{◌≡◌, ◌<◌, ◌^◌, [], All, Some, IfOk, IfSome, IsSome, map, option_map};
 ghost use Rattle.serde_json.specs.Data.{Data, Items, array, string};
 ghost use Rattle.serde_json.specs.View.{view};
+ghost use Rattle.etcs_bits.specs.Bits.{num};
 ghost use Rattle.etcs_vars.specs.Reading.{Reading};
 ghost use Rattle.etcs_tables.specs.Layouts.{Layout, Reads};
 ghost use Rattle.etcs_tables.specs.Rows.{message_row_to};
@@ -55,31 +56,29 @@ fn body_in<H: Head, B: Own<Front = H>>(
     }
 }
 
-/// The typed message of these parts, if there is one.
-fn typed_by<H: Head, B: Own<Front = H>>(
+/// The typed message of these parts and this many bits of PADDING, whose number is given, if there is one.
+pub(crate) fn typed_by<H: Head, B: Own<Front = H>>(
     head: H,
     body: B,
     packets: Vec<H::Packet>,
-    padding: &Bits,
+    count: usize,
+    padding: u8,
 ) -> Option<MessageOf<H, B>>
     requires head { IsHead H.head head }
     requires body { IsOwn B.own body }
     requires packets { All (λ p. (H.Packet.form p).made) packets.items × All (IsPacketTo H.Packet.WAY) (values_of H.Packet.form packets.items) }
-    ensures some { IfSome result (λ m. message_value H.Packet.WAY H.head B.own H.Packet.form m ≡ typed_message (B.own.nid body) (H.head.reading head) (B.own.reading body) (values_of H.Packet.form packets.items) padding.now) }
+    requires padding { padding < 2 ^ count }
+    ensures some { IfSome result (λ m. message_value H.Packet.WAY H.head B.own H.Packet.form m ≡ typed_message (B.own.nid body) (H.head.reading head) (B.own.reading body) (values_of H.Packet.form packets.items) (num count padding)) }
     ensures reads { IfSome result (λ m. (r : Reading) × MessageReads H.Packet.WAY (message_value H.Packet.WAY H.head B.own H.Packet.form m) r) }
-    ensures only { (r : Reading) → TypedReads H.Packet.WAY (B.own.nid body) (H.head.reading head) (B.own.reading body) (values_of H.Packet.form packets.items) padding.now r → IsSome result }
+    ensures only { (r : Reading) → TypedReads H.Packet.WAY (B.own.nid body) (H.head.reading head) (B.own.reading body) (values_of H.Packet.form packets.items) (num count padding) r → IsSome result }
 {
-    let number = padding_number(padding)?;
-    match MessageOf::with_padding(head, body, packets, number) {
-        Ok(message) => {
-            let (count, _) = message.padding();
-            if count == padding.len() {
-                Some(message)
-            } else {
-                None
-            }
-        }
-        Err(_) => None,
+    let Ok(message) = MessageOf::with_padding(head, body, packets, padding) else {
+        return None;
+    };
+    if message.padding().0 == count {
+        Some(message)
+    } else {
+        None
     }
 }
 
@@ -142,7 +141,10 @@ fn typed_of<H: Head, B: Own<Front = H>>(
     let Some(padding) = bits_in(alloc, padding)? else {
         return Ok(None);
     };
-    Ok(typed_by(head, body, packets, &padding))
+    let Some(number) = padding_number(&padding) else {
+        return Ok(None);
+    };
+    Ok(typed_by(head, body, packets, padding.len(), number))
 }
 
 /// The fields, the header, the number, the packets and the padding of a typed message of this way.

@@ -14,3 +14,14 @@ pub mod Reading
 pub mod Outcomes
 pub mod ListsFit
 pub mod ObjectsFit
+pub mod PairReading
+pub mod PairExamples
+pub mod DecimalTexts
+pub mod Parts
+pub mod HexTexts
+pub mod Eight
+pub mod NumberTexts
+pub mod Packing
+pub mod PairTrees
+pub mod WrittenPackets
+pub mod WrittenRows

@@ -6,3 +6,6 @@ pub mod Skips
 pub mod Places
 pub mod Fits
 pub mod Found
+pub mod PairTexts
+pub mod PacketTexts
+pub mod laws

@@ -7,6 +7,7 @@ mod carried;
 mod digits;
 mod fault;
 mod from_packets;
+mod hexadecimal;
 pub mod inner;
 mod members;
 mod number;

@@ -10,7 +10,7 @@ ghost use Rattle.etcs_tables.specs.Layouts.{Reads, layout};
 ghost use Rattle.etcs_rows.specs.Places.{first_variable};
 ghost use Rattle.etcs_json_trees.specs.TreeReading.{ArePairTrees, IsPairTree, SaysNumber};
 
-use crate::written::digits::hex_number;
+use crate::hexadecimal::hex_number;
 use etcs_rows::Place;
 use etcs_tables::Row;
 use etcs_vars::Var;

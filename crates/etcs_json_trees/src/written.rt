@@ -1,5 +1,9 @@
-//! Packets in a text that is what `json_line` writes.
+//! What `json_line` writes, read without a tree.
 
 pub(crate) mod digits;
+pub(crate) mod fronts;
 pub(crate) mod packets;
+pub(crate) mod pair_numbers;
+pub(crate) mod pair_text;
+pub(crate) mod rows;
 pub(crate) mod text;

@@ -153,6 +153,7 @@ impl Teller {
 }
 
 /// Appends what a command writes of an item by itself, or nothing.
+#[inline(always)]
 fn tell_alone(command: Command, entry: &Entry, item: u64, page: &mut Page) -> Result<(), AllocError>
     requires { command ≡ Command.Group → ⊥ }
     ensures ok { (s : Told) → item ≡ s.count + 1 → OnOk result ((added : List ℕ) × TellsItem command (entry_value entry.now) s added (one_more s) × (page.new ≡ page.old ++ added)) }

@@ -1,85 +1,88 @@
-//! The numbers and bits in a text of JSON.
+//! What is left of a text.
 
-use crate::from_packets::put;
-use crate::written::digits::hex_number;
-use etcs_bits::{BitSlice, Bits};
+ghost use Rattle.std.specs.Prelude.{◌≡◌, ◌+◌, ◌^◌, ◌<◌, ◌≤◌, ◌++◌, ◌∷◌, IfOk, IsTrue, OnOk, codes, false, map};
+ghost use Rattle.std.specs.Fmt.{decimal};
+ghost use Rattle.etcs_bits.specs.Bits.{num};
+ghost use Rattle.etcs_packet_text.specs.Show.{bit_digit};
+
+use crate::written::digits::{bits_of, byte_number, few_bits};
+use crate::written::fronts::after_bytes;
+use etcs_bits::Bits;
 use memchr::memchr;
 use std::alloc::{AllocError, Global};
+use std::marker::Model;
 
-/// Why nothing is guessed.
+/// Why a part isn't taken.
 #[derive(Clone, Copy)]
 pub enum Miss {
-    /// The text has another shape than what `json_line` writes.
+    /// The text continues with something else.
     Shape,
     /// Memory was refused.
     Memory,
 }
 
 impl From<AllocError> for Miss {
+    #[inline(always)]
     fn from(_refused: AllocError) -> Miss {
         Miss::Memory
     }
 }
 
-/// What is left of a text. What its calls take is a guess, which is compared with the text in the end.
+/// What is left of a text.
 #[derive(Drop)]
 pub struct Text<'a> {
     left: &'a [u8],
 }
 
-/// The byte of the lowest bits of up to eight digits, that of the first one highest.
-fn byte_of(digits: &[u8]) -> u8 {
-    match digits {
-        [a, b, c, d, e, f, g, h] => {
-            let word = u64::from_le_bytes([*a, *b, *c, *d, *e, *f, *g, *h]);
-            let bits = (word & 0x0101_0101_0101_0101).wrapping_mul(0x8040_2010_0804_0201);
-            (bits >> 56) as u8
-        }
-        _ => {
-            let mut byte = 0u8;
-            let mut place = 128u8;
-            for digit in digits {
-                byte |= (digit & 1).wrapping_mul(place);
-                place >>= 1;
-            }
-            byte
-        }
-    }
-}
+impl<'a> Model for Text<'a> {
+    ghost use Rattle.std.specs.Prelude.{ℕ, List};
 
-/// The lowest bits of digits.
-fn lowest_bits(alloc: Global, digits: &[u8]) -> Result<Bits, Miss> {
-    let mut bytes = Vec::new(alloc);
-    bytes.reserve_exact(digits.len().div_ceil(8))?;
-    for eight in digits.chunks(8) {
-        put(&mut bytes, byte_of(eight))?;
-    }
-    let bits = BitSlice::new(bytes.as_slice(), 0, digits.len()).ok_or(Miss::Shape)?;
-    Ok(Bits::from_slice(alloc, bits)?)
+    ghost Value = { List ℕ };
+
+    ghost view = { λ t. t.left.now };
 }
 
 impl<'a> Text<'a> {
     /// All of a text.
-    pub fn new(text: &'a [u8]) -> Text<'a> {
+    #[inline(always)]
+    pub fn new(text: &'a [u8]) -> Text<'a>
+        ensures { result ≡ text.now }
+    {
         Text { left: text }
     }
 
-    /// Passes over these bytes, where they come next, and says whether they do.
-    pub fn skip(&mut self, front: &[u8]) -> bool {
-        let Some(left) = self.left.strip_prefix(front) else {
-            return false;
-        };
-        self.left = left;
-        true
+    /// What is left.
+    #[inline(always)]
+    pub fn left(&self) -> &'a [u8]
+        ensures { result.now ≡ self.now }
+    {
+        self.left
     }
 
-    /// Passes over these bytes, which have to come next.
+    /// Takes these bytes where they come next, and answers whether they do.
+    #[inline(always)]
+    pub fn skip<const N: usize>(&mut self, front: &[u8; N]) -> bool
+        ensures taken { IsTrue result → self.old ≡ front.now ++ self.new }
+        ensures none { result ≡ false → self.new ≡ self.old }
+    {
+        match self.left.split_first_chunk::<N>() {
+            Some((first, left)) if *first == *front => {
+                self.left = left;
+                true
+            }
+            _ => false,
+        }
+    }
+
+    /// Takes these bytes, which have to come next.
     ///
     /// # Errors
     ///
-    /// [`Miss::Shape`] where they don't; nothing is passed over.
-    #[inline]
-    pub fn pass(&mut self, front: &[u8]) -> Result<(), Miss> {
+    /// [`Miss::Shape`] where they don't.
+    #[inline(always)]
+    pub fn pass<const N: usize>(&mut self, front: &[u8; N]) -> Result<(), Miss>
+        ensures { OnOk result (self.old ≡ front.now ++ self.new) }
+    {
         if self.skip(front) {
             Ok(())
         } else {
@@ -87,96 +90,98 @@ impl<'a> Text<'a> {
         }
     }
 
-    /// Passes over what is in front of the next such byte, and answers it.
-    fn up_to(&mut self, end: u8) -> Result<&'a [u8], Miss> {
-        let count = memchr(end, self.left).ok_or(Miss::Shape)?;
-        let (front, left) = self.left.split_at_checked(count).ok_or(Miss::Shape)?;
+    /// Takes the bytes of a slice, which have to come next.
+    ///
+    /// # Errors
+    ///
+    /// [`Miss::Shape`] where they don't.
+    pub fn pass_slice(&mut self, front: &[u8]) -> Result<(), Miss>
+        ensures { OnOk result (self.old ≡ front.now ++ self.new) }
+    {
+        let left = after_bytes(self.left, front).ok_or(Miss::Shape)?;
         self.left = left;
-        Ok(front)
+        Ok(())
     }
 
-    /// The number of the decimal digits that come next, as far as it fits.
-    fn number(&mut self) -> u64 {
-        let mut number = 0u64;
-        let mut count = 0usize;
-        for byte in self.left {
-            if !byte.is_ascii_digit() {
-                break;
+    /// Takes the bytes up to the quotation mark that comes next, and the mark.
+    #[inline(always)]
+    fn quoted(&mut self) -> Result<&'a [u8], Miss>
+        ensures { IfOk result (λ t. self.old ≡ t.now ++ 34 ∷ self.new) }
+    {
+        let count = memchr(b'"', self.left).ok_or(Miss::Shape)?;
+        match self.left.split_at_checked(count) {
+            Some((front, [b'"', left @ ..])) => {
+                self.left = left;
+                Ok(front)
             }
-            number = number
-                .wrapping_mul(10)
-                .wrapping_add(u64::from(byte.wrapping_sub(b'0')));
-            count = count.wrapping_add(1);
+            _ => Err(Miss::Shape),
         }
-        self.left = self.left.get(count..).unwrap_or_default();
-        number
     }
 
-    /// The number of the decimal digits that come next.
+    /// Takes a number below 256 in decimal, as far as digits go.
     ///
     /// # Errors
     ///
-    /// [`Miss::Shape`] where a byte doesn't hold it.
-    pub fn byte(&mut self) -> Result<u8, Miss> {
-        u8::try_from(self.number()).ok().ok_or(Miss::Shape)
-    }
-
-    /// The bits of the digits up to the quotation mark that comes next.
-    ///
-    /// # Errors
-    ///
-    /// - [`Miss::Shape`] where none comes;
-    /// - [`Miss::Memory`] where memory was refused.
-    pub fn bits(&mut self, alloc: Global) -> Result<Bits, Miss> {
-        let digits = self.up_to(b'"')?;
-        lowest_bits(alloc, digits)
-    }
-
-    /// The number of the sixteen hexadecimal digits up to the quotation mark that comes next.
-    fn hex(&mut self) -> Result<u64, Miss> {
-        let number = hex_number(self.up_to(b'"')?).ok_or(Miss::Shape)?;
-        self.pass(b"\"")?;
+    /// [`Miss::Shape`] where there is no digit, or a zero before others, or the number is larger.
+    #[inline(always)]
+    pub fn byte(&mut self) -> Result<u8, Miss>
+        ensures { IfOk result (λ n. self.old ≡ decimal n ++ self.new) }
+    {
+        let (number, left) = byte_number(self.left).ok_or(Miss::Shape)?;
+        self.left = left;
         Ok(number)
     }
 
-    /// The number of the pair of a variable that comes next, whose name is passed over.
-    fn pair(&mut self) -> Result<u64, Miss> {
-        self.up_to(b',')?;
-        let (_, left) = self.left.split_first().ok_or(Miss::Shape)?;
-        match left.split_first() {
-            Some((b'"', digits)) => {
-                self.left = digits;
-                self.hex()
-            }
-            _ => {
-                self.left = left;
-                Ok(self.number())
-            }
-        }
-    }
-
-    /// The numbers of the list of pairs that comes next.
+    /// Takes the bits of the digits up to the quotation mark that comes next, and the mark.
     ///
     /// # Errors
     ///
-    /// - [`Miss::Shape`] where the text has another shape;
+    /// - [`Miss::Shape`] where no mark comes, or something else than digits 0 and 1 before it;
     /// - [`Miss::Memory`] where memory was refused.
-    pub fn pairs(&mut self, alloc: Global) -> Result<Vec<u64>, Miss> {
-        let mut numbers = Vec::new(alloc);
-        if self.skip(b"[]") {
-            return Ok(numbers);
-        }
-        numbers.reserve(16)?;
-        for _ in 0..self.left.len() {
-            put(&mut numbers, self.pair()?)?;
-            let [b']', end, left @ ..] = self.left else {
-                return Err(Miss::Shape);
-            };
-            self.left = left;
-            if *end == b']' {
-                return Ok(numbers);
+    #[inline(always)]
+    pub fn bits(&mut self, alloc: Global) -> Result<Bits, Miss>
+        ensures { IfOk result (λ b. self.old ≡ map bit_digit b ++ 34 ∷ self.new) }
+    {
+        let digits = self.quoted()?;
+        bits_of(alloc, digits)
+    }
+
+    /// Takes digits 0 and 1, as far as they go, and answers how many they are, and the number of their bits, the first one
+    /// the highest.
+    ///
+    /// # Errors
+    ///
+    /// [`Miss::Shape`] where they are more than seven.
+    #[inline(always)]
+    pub fn padding(&mut self) -> Result<(usize, u8), Miss>
+        ensures count { IfOk result (λ p. p.0 ≤ 7) }
+        ensures small { IfOk result (λ p. p.1 < 2 ^ p.0) }
+        ensures bits { IfOk result (λ p. self.old ≡ map bit_digit (num p.0 p.1) ++ self.new) }
+    {
+        let (count, number, left) = few_bits(self.left).ok_or(Miss::Shape)?;
+        self.left = left;
+        Ok((count, number))
+    }
+
+    /// Takes what is before the member of this name, a comma and a quotation mark, and the name, whose first letter isn't
+    /// before it: names of variables have no small letter, and hexadecimal digits none after f.
+    ///
+    /// # Errors
+    ///
+    /// [`Miss::Shape`] where the text continues with something else.
+    #[inline(always)]
+    pub fn before<const N: usize>(&mut self, member: &[u8; N]) -> Result<&'a [u8], Miss>
+        ensures { IfOk result (λ t. self.old ≡ t.now ++ 44 ∷ 34 ∷ (member.now ++ self.new)) }
+    {
+        let first = member.first().ok_or(Miss::Shape)?;
+        let count = memchr(*first, self.left).ok_or(Miss::Shape)?;
+        match self.left.split_at_checked(count) {
+            Some(([front @ .., b',', b'"'], left)) => {
+                self.left = left;
+                self.pass(member)?;
+                Ok(front)
             }
+            _ => Err(Miss::Shape),
         }
-        Err(Miss::Shape)
     }
 }

@@ -10,8 +10,10 @@ enum Unit {
     Distance,
     /// The same with a sign, in two's complement of 16 bits.
     Shift,
-    /// This times the number, in the unit of this text.
-    Times(u64, &'static str),
+    /// The unit of this text.
+    In(&'static str),
+    /// Steps of 5 km/h, at most 120 of them.
+    Speed,
     /// Steps of 10 ms.
     Hundredths,
     /// Three bits X and four bits Y of a version X.Y.
@@ -28,8 +30,8 @@ enum Unit {
 
 /// Units, each with the variables that have it.
 macro_rules! units {
-    ($($unit:ident $(($times:literal $text:literal))?: $($var:ident)*;)*) => {
-        [$((Unit::$unit $(($times, $text))?, &[$(Var::$var),*])),*]
+    ($($unit:ident $(($text:literal))?: $($var:ident)*;)*) => {
+        [$((Unit::$unit $(($text))?, &[$(Var::$var),*])),*]
     };
 }
 
@@ -39,16 +41,38 @@ static UNITS: &[(Unit, &[Var])] = &units! {
         D_LEVELTR L_ACKLEVELTR D_TSR L_TSR D_TEXTDISPLAY L_TEXTDISPLAY D_SR D_CYCLOC D_LOC D_TRACKINIT D_TRACKCOND L_TRACKCOND
         D_MAMODE L_MAMODE L_ACKMAMODE D_RBCTR D_LRBG L_DOUBTOVER L_DOUBTUNDER;
     Shift: D_REF;
-    Times(1 " m"): Q_LOCACC L_TRAININT;
-    Times(5 " km/h"): V_MAIN V_LOA V_RELEASEDP V_RELEASEOL V_STATIC V_DIFF V_TSR V_MAMODE V_TRAIN;
-    Times(1 " s"): T_LOA T_SECTIONTIMER T_ENDTIMER T_OL T_TEXTDISPLAY T_MAR T_TIMEOUTRQST T_CYCRQST T_CYCLOC;
+    In(" m"): Q_LOCACC L_TRAININT;
+    Speed: V_MAIN V_LOA V_RELEASEDP V_RELEASEOL V_STATIC V_DIFF V_TSR V_MAMODE V_TRAIN;
+    In(" s"): T_LOA T_SECTIONTIMER T_ENDTIMER T_OL T_TEXTDISPLAY T_MAR T_TIMEOUTRQST T_CYCRQST T_CYCLOC;
     Hundredths: T_TRAIN;
-    Times(1 " per mille"): G_A G_TSR;
+    In(" per mille"): G_A G_TSR;
     Version: M_VERSION_HEADER M_VERSION;
     Group: NID_LRBG NID_PRVLRBG;
     Position: N_PIG;
     Count: N_TOTAL;
     Letter: X_TEXT;
+};
+
+/// Numbers that are no measure, each with its text and the variables that have it.
+macro_rules! specials {
+    ($($number:literal $text:literal: $($var:ident)*;)*) => { [$(($number, $text, &[$(Var::$var),*])),*] };
+}
+
+/// What `Var::special` hasn't.
+#[rattlefmt::skip]
+static SPECIALS: &[(u64, &str, &[Var])] = &specials! {
+    254 "fits no message of the group": M_MCOUNT;
+    255 "fits each message of the group": M_MCOUNT;
+    127 "national value": V_MAMODE;
+    255 "without end": T_MAR T_CYCRQST T_CYCLOC;
+    1023 "without end": T_TIMEOUTRQST;
+    1023 "no limit of time": T_TEXTDISPLAY;
+    32767 "without end": D_SR D_CYCLOC L_MAMODE;
+    32767 "no limit of distance": D_TEXTDISPLAY L_TEXTDISPLAY;
+    32767 "unknown": D_LRBG L_DOUBTOVER L_DOUBTUNDER;
+    16383 "unknown": NID_BG;
+    16777215 "unknown": NID_PRVLRBG;
+    4294967295 "unknown": T_TRAIN;
 };
 
 /// The texts of variables' numbers from 0 on, each with the variables that have them.
@@ -100,22 +124,20 @@ fn text_of(var: Var, number: u64) -> Option<&'static str> {
     if let Some(text) = var.special(number) {
         return Some(text);
     }
-    match (var, number) {
-        (Var::M_MCOUNT, 254) => Some("fits no message of the group"),
-        (Var::M_MCOUNT, 255) => Some("fits each message of the group"),
-        (Var::V_MAMODE, 127) => Some("national value"),
-        (Var::T_TRAIN, 4294967295) | (Var::NID_PRVLRBG, 16777215) => Some("unknown"),
-        _ => listed(TEXTS, var)?.get(number as usize).copied(),
+    let mut specials = SPECIALS.iter();
+    match specials.find(|row| row.0 == number && row.2.contains(&var)) {
+        Some(row) => Some(row.1),
+        None => listed(TEXTS, var)?.get(number as usize).copied(),
     }
 }
 
-/// Appends a distance in the unit of Q_SCALE, after a sign; the sign alone where the unit isn't known.
+/// Appends a distance in the unit of Q_SCALE, after a sign; nothing where the unit isn't known.
 fn write_distance(sign: &str, number: u64, scale: Option<u64>, out: &mut Text) {
     match scale {
         Some(0) => write!(out, "{sign}{}.{} m", number / 10, number % 10),
         Some(1) => write!(out, "{sign}{number} m"),
         Some(2) => write!(out, "{sign}{} m", number.saturating_mul(10)),
-        _ => out.push(sign),
+        _ => {}
     }
 }
 
@@ -126,7 +148,9 @@ fn write_measure(unit: Unit, number: u64, scale: Option<u64>, out: &mut Text) {
             write_distance("-", 65536u64.saturating_sub(number), scale, out)
         }
         Unit::Distance | Unit::Shift => write_distance("", number, scale, out),
-        Unit::Times(times, text) => write!(out, "{}{text}", number.saturating_mul(times)),
+        Unit::In(text) => write!(out, "{number}{text}"),
+        Unit::Speed if number > 120 => out.push("no speed"),
+        Unit::Speed => write!(out, "{} km/h", number.saturating_mul(5)),
         Unit::Hundredths => write!(out, "{}.{:02} s", number / 100, number % 100),
         Unit::Version => write!(out, "version {}.{}", number / 16, number % 16),
         Unit::Group => write!(out, "NID_C {}, NID_BG {}", number / 16384, number % 16384),

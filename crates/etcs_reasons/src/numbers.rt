@@ -1,5 +1,6 @@
 //! The last byte of a number, and counts in words.
 
+use crate::text::Text;
 use std::alloc::AllocError;
 
 /// The last 8 bits of a number.
@@ -14,4 +15,9 @@ pub fn low_byte(number: u64) -> u8 {
 /// Where memory is refused. A part of the text may then be in `out`.
 pub fn write_count_of(count: usize, name: &str, out: &mut String) -> Result<(), AllocError> {
     write!(out, "{count} {name}{}", if count == 1 { "" } else { "s" })
+}
+
+/// Appends a count of bits.
+pub(crate) fn write_bits(count: usize, out: &mut Text) {
+    write!(out, "{count} bit{}", if count == 1 { "" } else { "s" })
 }

@@ -4,11 +4,12 @@ use crate::account::Part;
 use crate::front::Front;
 use crate::kinds::way_of;
 use crate::meanings::write_meaning;
-use crate::numbers::low_byte;
+use crate::numbers::{low_byte, write_bits};
 use crate::text::Text;
+use etcs_bits::peek;
 use etcs_rows::inner::message_lengths;
 use etcs_rows::{LengthSet, Place, lengths, reaches};
-use etcs_tables::{MOST_LENGTH, frame_bits, is_framed, row_of};
+use etcs_tables::{MOST_LENGTH, Way, frame_bits, is_framed, row_of};
 use etcs_text::Kind;
 use etcs_vars::Var;
 
@@ -47,34 +48,73 @@ fn least_from(set: &LengthSet, number: usize) -> Option<usize> {
     (number..MOST_LENGTH + 1).find(|length| set.holds(*length))
 }
 
-/// Appends which lengths of a set are next to one that it hasn't.
+/// Appends the lengths of a set where it has one or two, else those of it that are next to one that it hasn't.
 fn write_nearest(set: &LengthSet, length: usize, out: &mut Text) {
     let length = length.min(MOST_LENGTH);
     let low = (0..length).rev().find(|length| set.holds(*length));
-    match (low, least_from(set, length.saturating_add(1))) {
-        (Some(low), Some(high)) => write!(out, "{low} or {high} bits"),
-        (Some(low), None) => write!(out, "at most {low} bits"),
-        (None, Some(high)) => {
-            if least_from(set, high.saturating_add(1)).is_some() {
-                out.push("at least ");
+    let high = least_from(set, length.saturating_add(1));
+    let is_first = low.is_none() || least_from(set, 0) == low;
+    let is_last = match high {
+        Some(high) => least_from(set, high.saturating_add(1)).is_none(),
+        None => true,
+    };
+    match (low, high) {
+        (Some(low), Some(high)) => {
+            write!(out, "{low} or {high} bits");
+            if !is_first || !is_last {
+                out.push(", its nearest lengths");
             }
+        }
+        (Some(low), None) => {
+            out.push(if is_first { "" } else { "at most " });
+            write!(out, "{low} bits");
+        }
+        (None, Some(high)) => {
+            out.push(if is_last { "" } else { "at least " });
             write!(out, "{high} bits");
         }
         (None, None) => out.push("no length"),
     }
 }
 
+/// Appends what may be left of a message after a packet.
+fn write_between(kind: Kind, out: &mut Text) {
+    let least = frame_bits(way_of(kind));
+    out.push(": after the last packet there are 0 to 7");
+    write!(out, ", and another has at least {least}");
+}
+
 /// Appends what may be left after a packet where this much isn't.
 fn write_rest(kind: Kind, rest: usize, out: &mut Text) {
-    write!(out, "would leave {rest} bits");
+    out.push("would leave ");
+    write_bits(rest, out);
     match kind {
         Kind::Long | Kind::Short => out.push(" in the telegram, and packet 255 needs 8"),
-        Kind::Radio | Kind::Train => {
-            let least = frame_bits(way_of(kind));
-            out.push(": after the last packet there are 0 to 7");
-            write!(out, ", and another has at least {least}");
-        }
+        Kind::Radio | Kind::Train => write_between(kind, out),
     }
+}
+
+/// Appends that none of the packets fits whose numbers begin with the bits that are there.
+fn write_no_packet_begins(kind: Kind, room: usize, out: &mut Text) {
+    out.push("no packet whose number begins with these bits fits into the ");
+    write!(out, "{room} bits that are left");
+    match kind {
+        Kind::Long | Kind::Short => out.push(", of which packet 255 needs 8"),
+        Kind::Radio | Kind::Train => write_between(kind, out),
+    }
+}
+
+/// Appends how many bits a packet of this number has, and answers the least.
+fn write_least(way: Way, nid: u8, out: &mut Text) -> usize {
+    let frame = frame_bits(way);
+    write!(out, "packet {nid} has ");
+    let Some(row) = row_of(way, nid) else {
+        write!(out, "at least {frame} bits");
+        return frame;
+    };
+    let set = lengths(&Place::start(row)).shift(frame);
+    write_nearest(&set, 0, out);
+    least_from(&set, 0).unwrap_or(frame)
 }
 
 /// Appends why a packet of this number doesn't fit.
@@ -82,8 +122,7 @@ fn write_no_packet(front: &Front, number: Option<u64>, out: &mut Text) {
     let room = front.end.saturating_sub(front.bit);
     let way = way_of(front.kind);
     let Some(number) = number else {
-        out.push("no packet whose number begins with these bits fits into the ");
-        return write!(out, "{room} bits that are left");
+        return write_no_packet_begins(front.kind, room, out);
     };
     let nid = low_byte(number);
     if !is_framed(way, nid) {
@@ -93,13 +132,11 @@ fn write_no_packet(front: &Front, number: Option<u64>, out: &mut Text) {
         write!(out, "packet {nid} and packet 255 have 22 bits");
         return write!(out, ", and {room} are left");
     }
-    let row = row_of(way, nid).and_then(|row| least_from(&lengths(&Place::start(row)), 0));
-    let least = frame_bits(way).saturating_add(row.unwrap_or(0));
-    write!(out, "packet {nid} has at least {least} bits, and ");
+    let least = write_least(way, nid, out);
     if least > room {
-        return write!(out, "{room} are left");
+        return write!(out, ", and {room} are left");
     }
-    out.push("that ");
+    out.push(", and that ");
     write_rest(front.kind, room.saturating_sub(least), out);
 }
 
@@ -142,27 +179,42 @@ fn write_no_message(front: &Front, number: Option<u64>, out: &mut Text) {
     }
 }
 
+/// How many bits of a packet there are up to the end of this variable, which comes next.
+fn bits_with(front: &Front, var: Var) -> usize {
+    let end = front.bit.saturating_add(var.width());
+    end.saturating_sub(front.start)
+}
+
 /// Appends why a packet of its length can't have this number, which the variable admits.
 fn write_no_fit(front: &Front, var: Var, number: u64, out: &mut Text) {
     let Some(place) = &front.place else {
         return write!(out, "{var} {number} doesn't fit");
     };
-    let end = front.bit.saturating_add(var.width());
-    let before = end.saturating_sub(front.start);
     write!(out, "with {var} {number} the packet has ");
     match place.after(number) {
         Some(next) => {
-            let set = lengths(&next).shift(before.min(MOST_LENGTH));
+            let before = bits_with(front, var).min(MOST_LENGTH);
+            let set = lengths(&next).shift(before);
             write_nearest(&set, front.length, out);
         }
         None => out.push("no length"),
     }
     write!(out, ", and L_PACKET says {}", front.length);
-    write_fitting(place, var, front.length.saturating_sub(before), out);
+    write_fitting(front, place, var, out);
+}
+
+/// Appends that a packet of its length can't have any of the admitted numbers that begin with the bits that are there.
+fn write_none_fit(front: &Front, var: Var, out: &mut Text) {
+    write!(out, "no {var} that begins with these bits fits");
+    if let Some(place) = &front.place {
+        write!(out, ": L_PACKET says {}", front.length);
+        write_fitting(front, place, var, out);
+    }
 }
 
 /// Appends which numbers of a variable fit in place of one that doesn't, at most four of them.
-fn write_fitting(place: &Place, var: Var, left: usize, out: &mut Text) {
+fn write_fitting(front: &Front, place: &Place, var: Var, out: &mut Text) {
+    let left = front.length.saturating_sub(bits_with(front, var));
     let fits = |number: &u64| match place.after(*number) {
         Some(next) => reaches(&next, left),
         None => false,
@@ -176,9 +228,22 @@ fn write_fitting(place: &Place, var: Var, left: usize, out: &mut Text) {
     }
 }
 
-/// Appends why a bit of the variable is refused after the variables in front, where its number is this one or its bits
-/// aren't all there. No capital and no full stop.
-pub(crate) fn write_reason(front: &Front, part: Part, number: Option<u64>, out: &mut Text) {
+/// Whether an admitted number of the variable begins with its first bits, this many, of those from this bit on.
+fn is_begun(bytes: &[u8], start: usize, var: Var, count: usize) -> bool {
+    if count > var.width() {
+        return false;
+    }
+    match peek(bytes, start, count) {
+        Some(bits) => (count >= 64 || bits < 1 << count) && var.admits_prefix(bits, count),
+        None => false,
+    }
+}
+
+/// Appends why a bit of the variable is refused after the variables in front, of which these bits come before it. No capital
+/// and no full stop.
+pub(crate) fn write_reason(front: &Front, bytes: &[u8], part: Part, out: &mut Text) {
+    let number = peek(bytes, front.bit, part.var.width());
+    let seen = part.count.saturating_add(1);
     match (part.var, number) {
         (Var::PAD, _) if front.kind == Kind::Long => out.push("PAD is two zeros"),
         (Var::PAD, _) => out.push("PAD is six zeros"),
@@ -186,19 +251,23 @@ pub(crate) fn write_reason(front: &Front, part: Part, number: Option<u64>, out: 
         (Var::L_PACKET, _) => write_no_length(front, number, out),
         (Var::L_MESSAGE, _) => write_no_message(front, number, out),
         (var, Some(number)) if var.admits(number) => write_no_fit(front, var, number, out),
+        (var, None) if is_begun(bytes, front.bit, var, seen) => write_none_fit(front, var, out),
         (var, _) => write_not_admitted(var, number, out),
     }
 }
 
-/// What a refusal most often means.
-pub(crate) fn often(kind: Kind, var: Var) -> Option<&'static str> {
+/// What a refusal of these bytes most often means.
+pub(crate) fn often(kind: Kind, bytes: &[u8], var: Var) -> Option<&'static str> {
     match var {
         Var::Q_UPDOWN => Some(
             "a message or a text that is read as a telegram, or an item before this one has a byte too many",
         ),
-        Var::M_VERSION_HEADER => Some("a telegram of version 1.0 or 1.1, which has 16 or 17"),
+        // Q_UPDOWN 1, and M_VERSION 16 or 17
+        Var::M_VERSION_HEADER if matches!(bytes.first().copied(), Some(0x90 | 0x91)) => {
+            Some("a telegram of version 1.0 or 1.1, which has 16 or 17")
+        }
         Var::PAD => Some("this item or one before it is a byte short or long"),
-        Var::NID_PACKET if kind == Kind::Short => {
+        Var::NID_PACKET if kind == Kind::Short && bytes.len() != 27 => {
             Some("a long telegram, or one of which a byte is missing")
         }
         _ => None,

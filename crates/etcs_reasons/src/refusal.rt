@@ -12,7 +12,6 @@ use crate::front::Front;
 use crate::kinds::{wanted_bytes, way_of};
 use crate::reasons::{often, write_reason};
 use crate::text::Text;
-use etcs_bits::peek;
 use etcs_tables::message_row;
 use etcs_text::Kind;
 use etcs_vars::Var;
@@ -84,9 +83,8 @@ pub fn write_cause(
         }
         End::Refused(_, part) => {
             let front = Front::new(kind, account.fields.as_slice());
-            let number = peek(bytes, front.bit, part.var.width());
-            write_reason(&front, part, number, out);
-            often(kind, part.var)
+            write_reason(&front, bytes, part, out);
+            often(kind, bytes, part.var)
         }
     };
     Ok(advice(out.alloc(), kind, bytes)?.or(usual))

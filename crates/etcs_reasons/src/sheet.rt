@@ -1,5 +1,6 @@
 //! Where the lines of a table are written: as text, or as a part of a page.
 
+use crate::page::COLUMNS;
 use crate::text::Text;
 use etcs_vars::Var;
 use std::alloc::{AllocError, Global};
@@ -17,6 +18,8 @@ pub enum Layout {
 #[derive(Drop)]
 pub struct Sheet {
     layout: Layout,
+    /// How many items began.
+    items: u64,
     /// What was written.
     pub out: Text,
     bits: Text,
@@ -30,6 +33,7 @@ impl Sheet {
     pub fn new(alloc: Global, layout: Layout) -> Sheet {
         Sheet {
             layout,
+            items: 0,
             out: Text::new(alloc),
             bits: Text::new(alloc),
             value: Text::new(alloc),
@@ -75,22 +79,41 @@ impl Sheet {
         }
     }
 
-    /// Begins the table of an item: the rest of its title, which is the meaning, and what is above the first line.
+    /// Begins the table of an item: the rest of its title, which is the meaning, and what is above the first line. In a page
+    /// it is the target of a link.
     pub fn open_item(&mut self) {
         self.put_meaning();
-        let head = "\n  bits        variable              number  meaning\n";
-        self.put(head, "</h2>\n");
+        self.items = self.items.saturating_add(1);
+        let item = self.items;
+        match self.layout {
+            Layout::Text => self
+                .out
+                .push("\n  bits        variable              number  meaning\n"),
+            Layout::Html => {
+                write!(self.out, " <a id=item{item} href=#item{item}>");
+                self.out.push("#</a></h2>\n");
+            }
+        }
     }
 
-    /// Begins a run of lines, whose title is the meaning, if it has one.
-    pub(crate) fn open_part(&mut self) {
-        self.put("", "<details open><summary>");
-        if self.meaning.as_str().is_empty() {
-            return self.put("", "header</summary><table>\n");
+    /// Begins the lines in front of the packets, which have a title in pages alone.
+    pub(crate) fn open_header(&mut self, title: &'static str) {
+        if self.layout == Layout::Html {
+            self.meaning.push(title);
+            self.open_part();
         }
-        self.put("  ", "");
+    }
+
+    /// Begins a run of lines, whose title is the meaning.
+    pub(crate) fn open_part(&mut self) {
+        self.put("  ", "<details open><summary>");
         self.put_meaning();
-        self.put("\n", "</summary><table>\n");
+        self.put("\n", "</summary><table><caption>");
+        if self.layout == Layout::Html {
+            self.put_meaning();
+            self.out.push("</caption>");
+            self.out.push(COLUMNS);
+        }
     }
 
     /// Ends a run of lines.
@@ -98,13 +121,25 @@ impl Sheet {
         self.put("", "</table></details>\n");
     }
 
-    /// Writes the line of an entry, at this depth.
-    pub(crate) fn entry(&mut self, depth: usize, entry: u64, count: u64) {
-        self.put("  ", "<tr><th colspan=4>");
+    /// Begins a line that has no columns, at this depth.
+    fn open_wide(&mut self, depth: usize) {
+        self.put("  ", "<tr><th colspan=4 scope=rowgroup>");
         if self.layout == Layout::Text {
             write!(self.out, "{:1$}", "", depth.saturating_mul(2));
         }
+    }
+
+    /// Writes the line of an entry, at this depth.
+    pub(crate) fn entry(&mut self, depth: usize, entry: u64, count: u64) {
+        self.open_wide(depth);
         writeln!(self.out, "entry {entry} of {count}");
+    }
+
+    /// Writes the line of a text, which is the meaning, at this depth.
+    pub(crate) fn text(&mut self, depth: usize) {
+        self.open_wide(depth);
+        self.put_meaning();
+        self.out.push("\n");
     }
 
     /// Writes the line of a variable of these bits, at this depth, with the value and the meaning.

@@ -3,7 +3,7 @@
 use crate::account::{Account, End};
 use crate::meanings::write_meaning;
 use crate::names::{MESSAGES, TO_TRACK, TO_TRAIN, name_in};
-use crate::numbers::low_byte;
+use crate::numbers::{low_byte, write_bits};
 use crate::sheet::Sheet;
 use crate::text::Text;
 use etcs_bits::peek;
@@ -31,10 +31,18 @@ fn is_kept(var: Var) -> bool {
     matches!(var, Var::FILL | Var::OTHER_DATA | Var::PADDING | Var::PAD)
 }
 
+/// What the variables in front of the packets are, of an item that begins with this variable.
+fn header_of(way: Way, first: Option<Var>) -> &'static str {
+    match (way, first) {
+        (Way::ToTrain, Some(Var::NID_MESSAGE)) => "header of a message to the train",
+        (Way::ToTrain, _) => "header of a telegram",
+        (Way::ToTrack, _) => "header of a message to the track",
+    }
+}
+
 /// Writes the lines of all variables of an account.
 pub fn write_table(way: Way, bytes: &[u8], account: &Account, sheet: &mut Sheet) {
     sheet.clear();
-    sheet.open_part();
     let mut table = Table {
         sheet,
         way,
@@ -45,6 +53,8 @@ pub fn write_table(way: Way, bytes: &[u8], account: &Account, sheet: &mut Sheet)
         start: 0,
         scale: None,
     };
+    let title = header_of(way, table.next());
+    table.sheet.open_header(title);
     table.lines();
     table.unfinished();
     table.sheet.close_part();
@@ -99,6 +109,29 @@ impl<'a> Table<'a> {
         write_meaning(var, number, self.scale, &mut self.sheet.meaning);
         self.write_effect(var, number, behind);
         self.sheet.line(depth, bits, var, false);
+        if var == Var::L_TEXT {
+            self.text(depth.saturating_add(1), number);
+        }
+    }
+
+    /// Writes the line of the text of this many characters that comes next, as far as it is there.
+    fn text(&mut self, depth: usize, length: u64) {
+        self.sheet.clear();
+        let out = &mut self.sheet.meaning;
+        let mut count = 0u64;
+        let fields = self.account.fields.as_slice();
+        for (var, number) in fields.iter().skip(self.at) {
+            if *var != Var::X_TEXT {
+                break;
+            }
+            out.push(if count == 0 { "text \"" } else { "" });
+            write_character(*number, out);
+            count = count.saturating_add(1);
+        }
+        if count > 0 {
+            out.push(if count < length { "\" .." } else { "\"" });
+            self.sheet.text(depth);
+        }
     }
 
     /// Appends what a number means for what follows it.
@@ -227,7 +260,7 @@ impl<'a> Table<'a> {
             meaning.clear();
             meaning.push(if ones == 0 { "all zeros" } else { "all ones" });
         }
-        write!(self.sheet.value, "{count} bits");
+        write_bits(count, &mut self.sheet.value);
         let bits = self.pass(count, count);
         self.sheet.line(0, bits, var, false);
     }
@@ -253,7 +286,7 @@ impl<'a> Table<'a> {
             Some(number) => write_number(var, number, &mut self.sheet.value),
             None => {
                 count = self.bytes.len().saturating_mul(8).saturating_sub(self.bit);
-                write!(self.sheet.value, "{count} bits");
+                write_bits(count, &mut self.sheet.value);
             }
         }
         let bits = self.pass(0, count);
@@ -267,6 +300,16 @@ fn write_number(var: Var, number: u64, out: &mut Text) {
         Var::NID_RADIO => write!(out, "{number:016x}"),
         Var::D_REF if number > 32767 => write!(out, "-{}", 65536u64.saturating_sub(number)),
         _ => write!(out, "{number}"),
+    }
+}
+
+/// Appends a character of a text between quotation marks: printable ASCII as it is, any other byte in hexadecimal.
+fn write_character(byte: u64, out: &mut Text) {
+    match byte {
+        32..=126 if byte != 34 && byte != 92 => {
+            write!(out, "{}", char::from((byte & 127) as u8))
+        }
+        _ => write!(out, "\\x{byte:02X}"),
     }
 }
 

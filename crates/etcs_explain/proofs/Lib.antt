@@ -4,3 +4,4 @@ pub mod Writing
 pub mod HexLines
 pub mod Memory
 pub mod Faults
+pub mod Cutting

@@ -13,7 +13,7 @@ use Rattle.etcs_explain.specs.Inputs.{Token, of_byte, placed, lines_tokens, line
 use Rattle.etcs_explain.specs.Parts.{Part, IsPart, IsBroken, HasTitle, tokens_of, long_of, items_of, fault_of, text_of, noted, edge, missing}
 use Rattle.etcs_explain.specs.Explained.{Explained}
 
--- so many items more, and this fault
+-- after this number of items more, and this fault
 pub record IsAfter (seen : Seen) (items : ℕ) (fault : Option RunFault) (seen' : Seen) : Type 0 where
   pub begun_is : seen'.is_begun ≡ true
   pub items_is : seen'.items ≡ counted (seen.items + items)

@@ -6,15 +6,15 @@ ghost use Rattle.etcs_runs.specs.declared.form.Form.TheVariants as form;
 ghost use Rattle.etcs_reasons.specs.declared.page.TheConstants.{FOOT, HEAD};
 ghost use Rattle.etcs_explain.specs.Inputs.{Token, of_byte, of_line, hex_tokens, line_long, line_tokens, short_tokens};
 ghost use Rattle.etcs_explain.specs.Parts.{IsUncut};
+ghost use Rattle.etcs_explain.specs.Cuts.{IsCut};
 ghost use Rattle.etcs_explain.specs.Explained.{Finished, explanations};
 ghost use Rattle.etcs_explain.specs.Stands.{BytesStand, LinesTook, Took, TookSome};
 ghost use Rattle.etcs_explain.specs.laws.StandLaws.{bytes_tell, explanations_sound, lines_tell, long_tell};
 
+use crate::cut::is_cut;
 use crate::explainer::Explainer;
 use crate::task::Task;
-use crate::titles::wanted;
 use etcs_reasons::inner::{FOOT, HEAD};
-use etcs_reasons::{Account, End};
 use etcs_runs::inner::{Engine, LineHandler, MOST_READ};
 use etcs_runs::{Form, MOST_LINE, NoBytes, RunFault, line_bytes, without_cr};
 use std::alloc::{AllocError, Global};
@@ -99,33 +99,26 @@ impl Items {
         Ok(())
     }
 
-    /// Whether a bit is refused of the item that is held, with these bytes, where all its bytes are there.
-    fn is_refused(&self, bytes: &[u8]) -> Result<bool, AllocError> {
-        let kind = self.explainer.task.kind;
-        let mut all = self.held.clone()?;
-        all.extend_from_slice(bytes)?;
-        if all.len() < wanted(kind, all.as_slice()) {
-            return Ok(false);
-        }
-        let account = Account::read(self.explainer.alloc, kind, all.as_slice())?;
-        Ok(matches!(account.end, End::Refused(_, _)))
-    }
-
-    /// Explains what is held, where these bytes make it no item.
-    fn end_refused(&mut self, bytes: &[u8], text: &mut Vec<u8>) -> Result<(), AllocError>
+    /// Explains what is held, where it was cut short before these bytes of the last line.
+    fn end_cut(&mut self, bytes: &[u8], text: &mut Vec<u8>) -> Result<(), AllocError>
         requires even { length self.old.lines.items ≡ length self.old.held.items }
         ensures same { (self.new.explainer.task ≡ self.old.explainer.task) × (self.new.line ≡ self.old.line) }
         ensures even { OnOk result (length self.new.lines.items ≡ length self.new.held.items) }
+        ensures rest { (IsCut self.old.explainer.task.kind self.old.held.items bytes.now → ⊥) → OnOk result ((self.new.held.items ≡ self.old.held.items) × (text.new.items ≡ text.old.items)) }
         ensures ok { (all : List Token) (long told : List ℕ) → Took HEAD.now self.old.explainer.task self.old.lines.items self.old.held.items self.old.explainer.seen all long (told ++ text.old.items) → OnOk result (Took HEAD.now self.old.explainer.task self.new.lines.items self.new.held.items self.new.explainer.seen all long (told ++ text.new.items)) }
         ensures err { (all : List Token) (long told : List ℕ) → Took HEAD.now self.old.explainer.task self.old.lines.items self.old.held.items self.old.explainer.seen all long (told ++ text.old.items) → OnErr result (TookSome HEAD.now self.old.explainer.task all long (told ++ text.new.items)) }
     {
-        if !self.held.is_empty() && self.is_refused(bytes)? {
+        if self.held.is_empty() {
+            return Ok(());
+        }
+        let kind = self.explainer.task.kind;
+        if is_cut(self.explainer.alloc, kind, self.held.as_slice(), bytes)? {
             return self.pass(true, text);
         }
         Ok(())
     }
 
-    /// Takes the bytes of the last line. An item that they make no item ended before them.
+    /// Takes the bytes of the last line, which are the rest of the item that is held or begin another.
     fn take(&mut self, bytes: &[u8], text: &mut Vec<u8>) -> Result<(), AllocError>
         requires even { length self.old.lines.items ≡ length self.old.held.items }
         ensures same { (self.new.explainer.task ≡ self.old.explainer.task) × (self.new.line ≡ self.old.line) }
@@ -134,7 +127,7 @@ impl Items {
         ensures ok { (all : List Token) (long told : List ℕ) → Took HEAD.now self.old.explainer.task self.old.lines.items self.old.held.items self.old.explainer.seen all long (told ++ text.old.items) → OnOk result (Took HEAD.now self.old.explainer.task self.new.lines.items self.new.held.items self.new.explainer.seen (all ++ map (of_byte self.old.line) bytes.now) long (told ++ text.new.items)) }
         ensures err { (all : List Token) (long told : List ℕ) → Took HEAD.now self.old.explainer.task self.old.lines.items self.old.held.items self.old.explainer.seen all long (told ++ text.old.items) → OnErr result (TookSome HEAD.now self.old.explainer.task (all ++ map (of_byte self.old.line) bytes.now) long (told ++ text.new.items)) }
     {
-        self.end_refused(bytes, text)?;
+        self.end_cut(bytes, text)?;
         self.add(bytes)?;
         self.pass(false, text)
     }

@@ -1,20 +1,19 @@
 //! Why JSON is no item: the path of the first part that is wrong, as jq has it, and the reason.
 
+use crate::no_json::{MOST_JSON, write_no_json};
+use crate::quoted::{Quoted, is_word};
 use etcs_json::{JsonFault, from_line};
 use etcs_reasons::inner::{Text, low_byte, user_bits, way_of, write_not_admitted};
 use etcs_rows::Place;
 use etcs_tables::{
     CLOSING, CLOSING_BITS, MARKER_BITS, Row, RowItem, Way, frame_bits, head_row, header_row,
-    message_row, row_of,
+    is_framed, message_row, row_of,
 };
 use etcs_text::Kind;
 use etcs_vars::Var;
-use serde_json::{Error, Value};
+use serde_json::Value;
 use std::alloc::{AllocError, Global};
 use std::fmt;
-
-/// How many bytes of JSON that is no item are looked into.
-const MOST_JSON: usize = 65_536;
 
 /// Writes that a part is wrong, and why, and answers none.
 macro_rules! wrong {
@@ -50,6 +49,7 @@ impl<'a> fmt::Display for Brief<'a> {
             Value::Array(_) => f.write_str("a list"),
             Value::Object(_) => f.write_str("an object"),
             Value::String(text) if text.len() > 40 => f.write_str("a longer text"),
+            Value::String(text) => write!(f, "{}", Quoted(text.as_str())),
             value => write!(f, "{value}"),
         }
     }
@@ -70,12 +70,17 @@ impl<'a> Part<'a> {
         if let Some(packet) = self.packet {
             write!(out, ".packets[{packet}]");
         }
-        match (self.name, self.entry) {
-            (Some(name), Some(entry)) => write!(out, ".{name}[{entry}]: "),
-            (Some(name), None) => write!(out, ".{name}: "),
-            (None, _) if self.packet.is_none() => out.push(".: "),
-            (None, _) => out.push(": "),
+        match self.name {
+            Some(name) if is_word(name) => write!(out, ".{name}"),
+            Some(name) if self.packet.is_some() => write!(out, "[{}]", Quoted(name)),
+            Some(name) => write!(out, ".[{}]", Quoted(name)),
+            None if self.packet.is_some() => {}
+            None => out.push("."),
         }
+        if let Some(entry) = self.entry {
+            write!(out, "[{entry}]");
+        }
+        out.push(": ");
     }
 
     /// The member of a name, as a path alone.
@@ -215,20 +220,17 @@ impl<'a> Part<'a> {
         }
     }
 
-    /// How many bits a packet has.
-    fn packet(self, way: Way, out: &mut Text) -> Option<usize> {
+    /// How many bits a packet of an item of a kind has.
+    fn packet(self, kind: Kind, out: &mut Text) -> Option<usize> {
         let nid = self.nid(out)?;
-        if (way, nid) == (Way::ToTrain, CLOSING) {
-            wrong!(self.named("nid"), out; "packet {nid} closes each telegram, and isn't written");
-        }
-        if (way, nid) == (Way::ToTrain, 0) {
-            self.test_names(&["fields", "nid"], out)?;
-            self.member("fields", out)?.pairs(MARKER, out)?;
-            return Some(MARKER_BITS);
+        let way = way_of(kind);
+        if !is_framed(way, nid) {
+            return self.unframed(kind, nid, out);
         }
         let row = match (way, nid) {
             // packets that may be bits, as they were before they were typed
-            (Way::ToTrain, 49 | 57 | 58 | 63 | 68 | 80 | 131) if self.has("data") => None,
+            (Way::ToTrain, 49 | 57 | 58 | 63 | 68 | 80 | 131)
+                if self.has("data") && !self.has("fields") => None,
             _ => row_of(way, nid),
         };
         let (name, other, what) = match row {
@@ -252,8 +254,21 @@ impl<'a> Part<'a> {
         Some(bits.saturating_add(frame_bits(way)))
     }
 
-    /// How many bits the packets of an item have.
-    fn packets(self, way: Way, out: &mut Text) -> Option<usize> {
+    /// How many bits packet 0 has, which telegrams alone may have; packet 255 is none of theirs.
+    fn unframed(self, kind: Kind, nid: u8, out: &mut Text) -> Option<usize> {
+        if kind == Kind::Radio {
+            wrong!(self.named("nid"), out; "a message has no packet {nid}");
+        }
+        if nid == CLOSING {
+            wrong!(self.named("nid"), out; "packet {nid} closes each telegram, and isn't written");
+        }
+        self.test_names(&["fields", "nid"], out)?;
+        self.member("fields", out)?.pairs(MARKER, out)?;
+        Some(MARKER_BITS)
+    }
+
+    /// How many bits the packets of an item of a kind have.
+    fn packets(self, kind: Kind, out: &mut Text) -> Option<usize> {
         let member = self.member("packets", out)?;
         let Some(list) = member.value.as_array() else {
             wrong!(member, out; "a list is wanted");
@@ -263,7 +278,7 @@ impl<'a> Part<'a> {
             let mut part = self;
             part.value = value;
             part.packet = Some(index);
-            count = count.saturating_add(part.packet(way, out)?);
+            count = count.saturating_add(part.packet(kind, out)?);
         }
         Some(count)
     }
@@ -283,7 +298,7 @@ impl<'a> Part<'a> {
     fn test_telegram(self, kind: Kind, out: &mut Text) -> Option<()> {
         self.test_kind(kind, &["kind", "header", "packets", "fill"], out)?;
         let header = self.member("header", out)?.pairs(header_row(), out)?;
-        let packets = self.packets(Way::ToTrain, out)?;
+        let packets = self.packets(kind, out)?;
         let room = user_bits(kind).saturating_sub(header.saturating_add(CLOSING_BITS));
         if packets > room {
             let word = word(kind);
@@ -303,7 +318,7 @@ impl<'a> Part<'a> {
         };
         let header = self.member("header", out)?.pairs(head_row(way), out)?;
         let fields = self.member("fields", out)?.pairs(row, out)?;
-        let packets = self.packets(way, out)?;
+        let packets = self.packets(kind, out)?;
         let all = packets.saturating_add(header.saturating_add(fields).saturating_add(18));
         if all > 8184 {
             wrong!(self.named("packets"), out; "the message has {all} bits, and at most 1,023 bytes");
@@ -331,12 +346,16 @@ impl<'a> Part<'a> {
 /// Why no item of the kind has the JSON of a line.
 fn write_shape(kind: Kind, line: &[u8], out: &mut Text) {
     if line.len() > MOST_JSON {
-        return write!(out, "{} bytes, which no item has", line.len());
+        let count = line.len();
+        return write!(
+            out,
+            "{count} bytes, of which at most 65,536 are looked into"
+        );
     }
     let value = match Value::from_slice(out.alloc(), line) {
         Ok(value) => value,
         Err(error) if error.is_memory() => return out.note(Err(AllocError)),
-        Err(error) => return write_no_json(&error, out),
+        Err(error) => return write_no_json(line, &error, out),
     };
     let whole = Part {
         value: &value,
@@ -351,18 +370,6 @@ fn write_shape(kind: Kind, line: &[u8], out: &mut Text) {
     };
     if tested.is_some() {
         write!(out, "no item of kind {} has this JSON", word(kind));
-    }
-}
-
-/// Appends where a line stops being JSON.
-fn write_no_json(error: &Error, out: &mut Text) {
-    let column = error.column();
-    out.push("no JSON: ");
-    if error.is_eof() {
-        write!(out, "it ends at column {column}, inside a value");
-        out.push("; jq -c . makes one line of several");
-    } else {
-        write!(out, "another character is wanted at column {column}");
     }
 }
 

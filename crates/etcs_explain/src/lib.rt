@@ -1,9 +1,12 @@
 //! Items explained: each variable with its bits, its number and what it stands for; and why bytes or JSON are no item.
 #![tactic(auto)]
 
+mod cut;
 mod explainer;
 mod items;
 mod json;
+mod no_json;
+mod quoted;
 mod run;
 mod seen;
 mod task;

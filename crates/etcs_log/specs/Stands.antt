@@ -13,7 +13,7 @@ pub record AreAnswered (job : LogJob) (lines : List (List ℕ)) (tally : LogTall
   pub items_are : tally.items ≡ items_in answers
   pub bad_are : tally.bad ≡ bad_in answers
 
--- these lines were, and they are so many
+-- these lines were there, and their number
 pub record LogTook (job : LogJob) (line : ℕ) (tally : LogTally) (lines : List (List ℕ)) (told : List ℕ) : Type 0 where
   pub are_lines : All IsLine lines
   pub line_is : line ≡ length lines

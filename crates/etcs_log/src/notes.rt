@@ -20,7 +20,7 @@ pub(crate) enum Bad {
     Long,
     /// It doesn't end with digits.
     NoDigits,
-    /// It ends with so many digits, an odd number.
+    /// It ends with this number of digits, which is odd.
     OddDigits(usize),
     /// It says another number of bytes than the item has.
     Count,

@@ -9,7 +9,7 @@ use Rattle.etcs_runs.specs.Passes.{counted}
 use Rattle.etcs_runs.specs.Pipes.{Piped, PipedFirst}
 use Rattle.etcs_runs.specs.Promises.{Promises, EndsWhole, StarvesIn}
 
--- by its answer, with at most so many reads: of the source what is left, how often it was read and how often that failed;
+-- by its answer, with at most this number of reads: of the source what is left, how often it was read and how often that failed;
 -- of the sink what it holds, how often it failed and how often it was flushed; each of them before the run and after it
 pub record Ran {T : Type 0} (p : Promises T) (most : ℕ) (left left' : Option (List ℕ)) (reads reads' missed missed' : ℕ) (held held' : Option (List ℕ)) (failed failed' flushes flushes' : ℕ) (result : Result T RunFault) : Type 0 where
   pub ok : IfOk result (λ answer. Piped (λ given told. p.Ends given told answer) left left' held held')

@@ -17,7 +17,7 @@ pub enum NoBytes {
     Empty,
     /// It doesn't end with digits.
     NoDigits,
-    /// They are so many, an odd number.
+    /// Their number is odd: this.
     OddDigits(usize),
 }
 

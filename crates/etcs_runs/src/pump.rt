@@ -114,8 +114,8 @@ fn read_wanted<E: Engine, S: Source>(
 ///
 /// # Errors
 ///
-/// Those of the engine, after what it wrote before them; `Read` and `Write` of a call that failed; `Endless` after so many
-/// reads.
+/// Those of the engine, after what it wrote before them; `Read` and `Write` of a call that failed; `Endless` after
+/// `most_reads` reads.
 pub fn run_engine<E: Engine, S: Source, W: Sink>(
     engine: &mut E,
     most_reads: u64,

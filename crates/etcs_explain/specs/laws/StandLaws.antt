@@ -60,7 +60,7 @@ explanations_sound page foot task = record {
   starves = λ given more told h. inl (refl, tells_more page task given more told h);
 }
 
--- ---- What stands.
+-- ---- What holds between two pieces.
 
 pub bytes_tell : (page : List ℕ) (task : Task) (lines held : List ℕ) (seen : Seen) (given told : List ℕ) → BytesStand page task lines held seen given told → Tells page task given told
 bytes_tell page task lines held seen given told h =

@@ -1,7 +1,0 @@
-use Rattle.std.proofs.Common.{◌≡◌, ◌^◌, ◌<◌, map, take}
-use Rattle.etcs_packet_text.specs.Show.{hex_digits}
-use Rattle.etcs_json_trees.specs.Digits.{lower}
-use Rattle.etcs_json_trees.proofs.written.digits.hex_number.Given as goal
-
-abbrev pub invariant-loop-digit : goal.invariant-loop-digit
-invariant-loop-digit l = (map lower (take l.digit-index l.text) ≡ hex_digits l.digit-index l.number) × (l.number < 16 ^ l.digit-index)

@@ -113,3 +113,18 @@ eight_digits ds word long small is e =
     let bs = map is_odd ds in
     let eight = eight_bits bs (length-map ds is_odd ∙ long) in
     digits ∙ ap (map bit_digit) (sym eight) ∙ ap (λ (w : ℕ). map bit_digit (num 8 (packed w))) (sym (same ∙ ap number digits))
+
+-- ---- Bytes that are the same number.
+
+same_bytes : (xs ys : List ℕ) → length xs ≡ length ys → ((k : ℕ) → get_or xs k 0 < 256) → ((k : ℕ) → get_or ys k 0 < 256) → number xs ≡ number ys → xs ≡ ys
+unfolding number
+same_bytes [] [] e hx hy h = refl
+same_bytes [] (y ∷ ys) e hx hy h = absurd (omega arith)
+same_bytes (x ∷ xs) [] e hx hy h = absurd (omega arith)
+same_bytes (x ∷ xs) (y ∷ ys) e hx hy h =
+    let first : x ≡ y = omega (arith, h, hx 0, hy 0) in
+    let others : number xs ≡ number ys = omega (arith, h, hx 0, hy 0) in
+    ap (λ (z : ℕ). z ∷ xs) first ∙ ap (λ (z : List ℕ). y ∷ z) (same_bytes xs ys (omega (arith, e)) (λ k. hx (suc k)) (λ k. hy (suc k)) others)
+
+pub same_word : (xs ys : List ℕ) → length xs ≡ 8 → length ys ≡ 8 → ((k : ℕ) → get_or xs k 0 < 256) → ((k : ℕ) → get_or ys k 0 < 256) → from_le_bytes w64 xs ≡ from_le_bytes w64 ys → xs ≡ ys
+same_word xs ys ex ey hx hy h = same_bytes xs ys (ex ∙ sym ey) hx hy (sym (word_is xs ex) ∙ h ∙ word_is ys ey)

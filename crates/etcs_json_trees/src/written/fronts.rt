@@ -131,7 +131,15 @@ fn same_eight(text: &[u8; 32], front: &[u8; 32], at: usize) -> bool
         text[at..].first_chunk::<8>(),
         front[at..].first_chunk::<8>(),
     ) {
-        (Some(first), Some(second)) => *first == *second,
+        (Some(first), Some(second)) => is_same_word(first, second),
         _ => unreachable!(),
     }
+}
+
+/// Whether eight bytes are the same, compared as one number.
+#[inline(always)]
+fn is_same_word(first: &[u8; 8], second: &[u8; 8]) -> bool
+    ensures { IsTrue result ↔ (first.now ≡ second.now) }
+{
+    u64::from_le_bytes(*first) == u64::from_le_bytes(*second)
 }

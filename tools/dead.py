@@ -21,10 +21,7 @@ import sys
 TOP = os.path.dirname(os.path.dirname(os.path.realpath(__file__)))
 NEWLINE = "\n"
 # What stays though nothing uses it, as `crates/etcs_bits/specs/Bits.antt: name`, each with why.
-EXCEPTIONS = {
-    "crates/etcs_track/specs/laws/TrackPackets.antt: kept_undirected": "it goes when the crate changes",
-    "crates/etcs_track/specs/laws/TrackPackets.antt: kept_alike": "it goes when the crate changes",
-}
+EXCEPTIONS = {}
 
 
 def files(ending, *parts):

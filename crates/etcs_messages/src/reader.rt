@@ -18,6 +18,7 @@ use crate::rest::MessageRest;
 use crate::whole::message_at;
 use etcs_bodies::ListOf;
 use etcs_packets::inner::AnyPacket;
+use etcs_sequence::inner::Room;
 use etcs_sequence::{Held, ItemReader, ItemRest, ListStore, PacketList};
 use etcs_tables::head_row;
 use etcs_vars::{Fed, ReadFault};
@@ -103,12 +104,25 @@ impl<H: Head, B: Own<Front = H>> ItemRest for MessageRest<H, B> {
     }
 
     fn begin(alloc: Global, _size: ()) -> Self {
-        MessageRest::new(H::Store::empty(alloc))
+        MessageRest::new(H::Store::over(PacketList::new(alloc)))
     }
 
     #[inline(always)]
-    fn whole(alloc: Global, _size: (), piece: &[u8]) -> Option<(MessageOf<H, B>, usize)> {
-        message_at(alloc, piece)
+    fn whole(
+        room: &mut Room<H::Packet>,
+        _size: (),
+        piece: &[u8],
+    ) -> Option<(MessageOf<H, B>, usize)> {
+        message_at(room, piece)
+    }
+
+    #[inline(always)]
+    fn reuse(item: MessageOf<H, B>, room: &mut Room<H::Packet>) {
+        let MessageOf { content, .. } = item;
+        match content {
+            Content::Typed { packets, .. } => room.put_packets(packets.into_vec()),
+            Content::Kept { .. } => {}
+        }
     }
 
     #[inline]
@@ -213,5 +227,13 @@ impl<H: Head, B: Own<Front = H>> ReaderOf<H, B> {
         ensures none { IsNone result → (self.new ≡ self.old) × ((m : Content H B H.Packet) → self.old ≢ finished m) }
     {
         self.reader.take_next()
+    }
+
+    /// Takes the room of a message that isn't needed any more for the next ones that the reader reads.
+    #[inline(always)]
+    pub fn reuse(&mut self, message: MessageOf<H, B>)
+        ensures { self.new ≡ self.old }
+    {
+        self.reader.reuse(message);
     }
 }

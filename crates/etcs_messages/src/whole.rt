@@ -21,7 +21,7 @@ use etcs_bodies::ListOf;
 use etcs_packets::inner::AnyPacket;
 use etcs_rows::inner::Carrier;
 use etcs_sequence::ListStore;
-use etcs_sequence::inner::{bits_at, number_at, take_run};
+use etcs_sequence::inner::{Room, bits_at, number_at, take_run};
 use etcs_tables::{RowItem, head_row, message_row};
 use etcs_vars::Var;
 use std::alloc::Global;
@@ -35,7 +35,7 @@ const LENGTH_BITS: usize = 10;
 /// The message that a piece begins with, and how many bytes it has. `None` says nothing: where the piece begins with none,
 /// and where memory is refused.
 pub(crate) fn message_at<H: Head, B: Own<Front = H>>(
-    alloc: Global,
+    room: &mut Room<H::Packet>,
     piece: &[u8],
 ) -> Option<(MessageOf<H, B>, usize)>
     requires { length (bits piece.now) < 2 ^ 64 }
@@ -52,8 +52,8 @@ pub(crate) fn message_at<H: Head, B: Own<Front = H>>(
         return None;
     }
     match front_bits(H::Packet::WAY, nid) {
-        Some(front) => Some((typed_at(alloc, nid, front, piece, bytes)?, bytes)),
-        None => Some((kept_at(alloc, nid, piece, bytes)?, bytes)),
+        Some(front) => Some((typed_at(room, nid, front, piece, bytes)?, bytes)),
+        None => Some((kept_at(room.alloc(), nid, piece, bytes)?, bytes)),
     }
 }
 
@@ -88,7 +88,7 @@ fn kept_at<H: Head, B: Own<Front = H>>(
 /// The typed message of this number, with this many bits in front of its packets.
 #[inline(always)]
 fn typed_at<H: Head, B: Own<Front = H>>(
-    alloc: Global,
+    room: &mut Room<H::Packet>,
     nid: u8,
     front: usize,
     piece: &[u8],
@@ -108,7 +108,7 @@ fn typed_at<H: Head, B: Own<Front = H>>(
         return None;
     }
     let (head, body) = front_at(nid, bits_at(piece, 0, front))?;
-    let mut store = H::Store::empty(alloc);
+    let mut store = H::Store::over(room.take());
     let left = take_run(
         &mut store,
         Carrier::Message(H::Packet::WAY),

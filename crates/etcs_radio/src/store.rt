@@ -5,7 +5,7 @@ ghost use Rattle.std.specs.Prelude.{⊤};
 use etcs_bits::BitSlice;
 use etcs_packets::Packet;
 use etcs_sequence::{ListStore, PacketList, PacketStore};
-use std::alloc::{AllocError, Global};
+use std::alloc::AllocError;
 
 /// The packets of a message to the train: a list of them, as a type without parameters.
 #[derive(Drop)]
@@ -56,15 +56,20 @@ impl PacketStore for RadioStore {
 }
 
 impl ListStore<Packet> for RadioStore {
-    ghost use Rattle.std.specs.Prelude.{refl};
+    ghost use Rattle.std.specs.Prelude.{◌≡◌, [], refl};
+    ghost use Rattle.etcs_packets.specs.PacketValues.{form};
+    ghost use Rattle.etcs_sequence.specs.Held.{list_holds};
 
     ghost list = { λ s. s.packets };
 
     #[inline(always)]
-    fn empty(alloc: Global) -> RadioStore {
-        RadioStore {
-            packets: PacketList::new(alloc),
-        }
+    fn over(packets: PacketList<Packet>) -> RadioStore
+        requires packets { packets.packets.items ≡ [] }
+        requires numbers { packets.numbers.items ≡ [] }
+        requires bits { packets.bits ≡ [] }
+        ensures { list_holds form result.packets.packets.items result.packets.numbers.items result.packets.bits [] [] [] }
+    {
+        RadioStore { packets }
     }
 
     #[inline(always)]

@@ -10,6 +10,7 @@ ghost use Rattle.etcs_sequence.specs.Refs.{ArePackets, spellings};
 pub use crate::first::first_item;
 use crate::packets_in::Packets;
 pub use crate::pieces::{bits_at, number_at, run_at};
+pub use crate::room::Room;
 pub use crate::run::take_run;
 use etcs_bits::BitSlice;
 

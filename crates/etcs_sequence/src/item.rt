@@ -13,6 +13,7 @@ ghost use Rattle.etcs_sequence.specs.Readables.{Readable};
 use crate::Held;
 use crate::fault::fault_by;
 use crate::list::PacketList;
+use crate::room::Room;
 use etcs_packets::inner::AnyPacket;
 use etcs_reader::{Feeder, Rest};
 use etcs_vars::{Fed, ReadFault};
@@ -78,11 +79,18 @@ pub trait ItemRest: Rest + Drop {
 
     /// The item of this size that a piece begins with, where it lies whole in it, and how many bytes it has. `None`
     /// says nothing: where the piece begins with no such item, and where memory is refused.
-    fn whole(alloc: Global, size: Self::Size, piece: &[u8]) -> Option<(Self::Item, usize)>
+    fn whole(
+        room: &mut Room<Self::Packet>,
+        size: Self::Size,
+        piece: &[u8],
+    ) -> Option<(Self::Item, usize)>
         requires { length (bit_lists.bits piece.now) < 2 ^ 64 }
         ensures within { IfSome result (λ t. 8 * t.1 ≤ length (bit_lists.bits piece.now)) }
         ensures value { IfSome result (λ t. IsValue t.0) }
         ensures reads { IfSome result (λ t. (r : Reading) × Reads size (value t.0) r × (spelled r ≡ part 0 (8 * t.1) (bit_lists.bits piece.now))) };
+
+    /// Takes the room of an item that isn't needed any more.
+    fn reuse(item: Self::Item, room: &mut Room<Self::Packet>);
 
     /// Where the packets go.
     fn store(&self) -> &PacketList<Self::Packet>
@@ -104,6 +112,8 @@ pub struct ItemReader<R: ItemRest> {
     feeder: Feeder<R>,
     /// The item that was whole in the first piece, and how many bytes it has. The feeder took none of its bits.
     done: Option<(R::Item, usize)>,
+    /// Room for the next item.
+    room: Room<R::Packet>,
 }
 
 impl<R: ItemRest> Model for ItemReader<R> {
@@ -126,10 +136,12 @@ impl<R: ItemRest> ItemReader<R> {
         requires holds { R.holds size rest [] }
         ensures { result ≡ record { size = size; progress = reading [] } }
     {
+        let alloc = rest.store().alloc;
         ItemReader {
             size,
             feeder: Feeder::new(rest),
             done: None,
+            room: Room::new(alloc),
         }
     }
 
@@ -177,8 +189,7 @@ impl<R: ItemRest> ItemReader<R> {
     {
         // A few bytes more than the longest item, so that looks at its last bits find whole words.
         let near = piece.len().min(R::most(self.size) + 8).min(MOST_NEAR);
-        let alloc = self.feeder.rest().store().alloc;
-        let (item, taken) = R::whole(alloc, self.size, &piece[..near])?;
+        let (item, taken) = R::whole(&mut self.room, self.size, &piece[..near])?;
         self.done = Some((item, taken));
         Some(taken)
     }
@@ -238,7 +249,12 @@ impl<R: ItemRest> ItemReader<R> {
         if self.done.is_none() && (self.feeder.stop().is_some() || self.feeder.var().is_some()) {
             return Err(self);
         }
-        let ItemReader { size, feeder, done } = self;
+        let ItemReader {
+            size,
+            feeder,
+            done,
+            ..
+        } = self;
         match done {
             Some((item, _)) => Ok(item),
             None => Ok(feeder.into_rest().into_item(size)),
@@ -257,6 +273,14 @@ impl<R: ItemRest> ItemReader<R> {
             Some((item, _)) => Some(item),
             None => self.take_read(),
         }
+    }
+
+    /// Takes the room of an item that isn't needed any more for the next ones.
+    #[inline(always)]
+    pub fn reuse(&mut self, item: R::Item)
+        ensures { self.new ≡ self.old }
+    {
+        R::reuse(item, &mut self.room);
     }
 
     /// As `take_next`, also of an item that was read variable by variable.

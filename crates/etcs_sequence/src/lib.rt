@@ -20,6 +20,7 @@ mod packet_ref;
 mod packets;
 mod packets_in;
 mod pieces;
+mod room;
 mod row_bits;
 mod run;
 mod stage;

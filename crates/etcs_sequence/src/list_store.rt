@@ -8,14 +8,16 @@ ghost use Rattle.etcs_sequence.specs.declared.list.PacketList.{PacketList};
 use crate::list::PacketList;
 use crate::store::PacketStore;
 use etcs_packets::inner::AnyPacket;
-use std::alloc::Global;
 
 /// A store that keeps its packets in a list.
 pub trait ListStore<P: AnyPacket>: PacketStore + Drop {
     ghost list: { Self → PacketList P };
 
-    /// Nothing yet. Takes no memory.
-    fn empty(alloc: Global) -> Self
+    /// A store of nothing yet, over a list of nothing.
+    fn over(packets: PacketList<P>) -> Self
+        requires packets { packets.packets.items ≡ [] }
+        requires numbers { packets.numbers.items ≡ [] }
+        requires bits { packets.bits ≡ [] }
         ensures { Self.holds result [] [] [] };
 
     /// The packets.

@@ -14,6 +14,7 @@ use crate::telegram::Telegram;
 use crate::whole::telegram_at;
 use etcs_bodies::ListOf;
 use etcs_packets::Packet;
+use etcs_sequence::inner::Room;
 use etcs_sequence::{Held, ItemReader, ItemRest, PacketList};
 use etcs_vars::{Fed, ReadFault};
 use std::alloc::Global;
@@ -61,8 +62,15 @@ impl ItemRest for TelegramRest<TelegramStore> {
     }
 
     #[inline(always)]
-    fn whole(alloc: Global, size: Size, piece: &[u8]) -> Option<(Telegram, usize)> {
-        Some((telegram_at(alloc, size, piece)?, size.container_bytes()))
+    fn whole(room: &mut Room<Packet>, size: Size, piece: &[u8]) -> Option<(Telegram, usize)> {
+        Some((telegram_at(room, size, piece)?, size.container_bytes()))
+    }
+
+    #[inline(always)]
+    fn reuse(item: Telegram, room: &mut Room<Packet>) {
+        let Telegram { packets, fill, .. } = item;
+        room.put_packets(packets.into_vec());
+        room.put_bits(fill);
     }
 
     #[inline]
@@ -167,5 +175,13 @@ impl TelegramReader {
         ensures size { self.new.size ≡ self.old.size }
     {
         self.reader.take_next()
+    }
+
+    /// Takes the room of a telegram that isn't needed any more for the next ones that the reader reads.
+    #[inline(always)]
+    pub fn reuse(&mut self, telegram: Telegram)
+        ensures { self.new ≡ self.old }
+    {
+        self.reader.reuse(telegram);
     }
 }

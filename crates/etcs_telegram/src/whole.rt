@@ -12,14 +12,14 @@ use crate::size::Size;
 use crate::store::TelegramStore;
 use crate::telegram::Telegram;
 use etcs_bodies::ListOf;
+use etcs_packets::Packet;
 use etcs_rows::inner::Carrier;
-use etcs_sequence::inner::{bits_at, number_at, take_run};
-use etcs_sequence::{PacketList, PacketStore};
-use std::alloc::Global;
+use etcs_sequence::PacketStore;
+use etcs_sequence::inner::{Room, bits_at, number_at, take_run};
 
 /// The telegram of this size that a piece begins with. `None` says nothing: where the piece begins with none, and where
 /// memory is refused.
-pub(crate) fn telegram_at(alloc: Global, size: Size, piece: &[u8]) -> Option<Telegram>
+pub(crate) fn telegram_at(room: &mut Room<Packet>, size: Size, piece: &[u8]) -> Option<Telegram>
     requires { length (bits piece.now) < 2 ^ 64 }
     ensures within { IfSome result (λ t. container_bytes size ≤ length piece.now) }
     ensures value { IfSome result (λ t. IsTelegram t) }
@@ -31,10 +31,10 @@ pub(crate) fn telegram_at(alloc: Global, size: Size, piece: &[u8]) -> Option<Tel
         return None;
     }
     let header = header_at_front(piece)?;
-    let list = PacketList::new(alloc);
+    let list = room.take();
     let mut store = TelegramStore { list };
-    let room = size.packet_room();
-    let left = take_run(&mut store, Carrier::Telegram, room, piece, HEADER_BITS)?;
+    let bits = size.packet_room();
+    let left = take_run(&mut store, Carrier::Telegram, bits, piece, HEADER_BITS)?;
     match store.bits(&bits_at(piece, size.user_bits() - left, left)) {
         Ok(()) => {}
         Err(_) => return None,

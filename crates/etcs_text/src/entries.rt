@@ -99,4 +99,17 @@ impl EntryReader {
             Inner::Train(reader) => Ok(Entry::Train(reader.take_next().ok_or(())?)),
         }
     }
+
+    /// Takes the room of an item that isn't needed any more for the next ones that the reader reads.
+    #[inline(always)]
+    pub fn reuse(&mut self, entry: Entry)
+        ensures { self.new ≡ self.old }
+    {
+        match (&mut self.inner, entry) {
+            (Inner::Telegram(reader), Entry::Telegram(telegram)) => reader.reuse(telegram),
+            (Inner::Message(reader), Entry::Message(message)) => reader.reuse(message),
+            (Inner::Train(reader), Entry::Train(message)) => reader.reuse(message),
+            _ => {}
+        }
+    }
 }

@@ -101,4 +101,12 @@ impl SingleReader {
         renew(&mut self.reader, self.alloc, self.kind);
         verdict
     }
+
+    /// Takes the room of an item that isn't needed any more for the next ones that are read.
+    #[inline(always)]
+    pub fn reuse(&mut self, entry: Entry)
+        ensures { self.new ≡ self.old }
+    {
+        self.reader.reuse(entry);
+    }
 }

@@ -5,7 +5,7 @@ ghost use Rattle.std.specs.Prelude.{⊤};
 use etcs_bits::BitSlice;
 use etcs_sequence::{ListStore, PacketList, PacketStore};
 use etcs_track::TrainPacket;
-use std::alloc::{AllocError, Global};
+use std::alloc::AllocError;
 
 /// The packets of a message to the track: a list of them, as a type without parameters.
 #[derive(Drop)]
@@ -56,15 +56,20 @@ impl PacketStore for TrainStore {
 }
 
 impl ListStore<TrainPacket> for TrainStore {
-    ghost use Rattle.std.specs.Prelude.{refl};
+    ghost use Rattle.std.specs.Prelude.{◌≡◌, [], refl};
+    ghost use Rattle.etcs_track.specs.TrackPackets.{track_form};
+    ghost use Rattle.etcs_sequence.specs.Held.{list_holds};
 
     ghost list = { λ s. s.packets };
 
     #[inline(always)]
-    fn empty(alloc: Global) -> TrainStore {
-        TrainStore {
-            packets: PacketList::new(alloc),
-        }
+    fn over(packets: PacketList<TrainPacket>) -> TrainStore
+        requires packets { packets.packets.items ≡ [] }
+        requires numbers { packets.numbers.items ≡ [] }
+        requires bits { packets.bits ≡ [] }
+        ensures { list_holds track_form result.packets.packets.items result.packets.numbers.items result.packets.bits [] [] [] }
+    {
+        TrainStore { packets }
     }
 
     #[inline(always)]

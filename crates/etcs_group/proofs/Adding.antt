@@ -15,7 +15,7 @@ is_there None e = absurd (both_ways false refl e)
 is_there (Some x) e = (x, refl)
 
 -- what an add makes of the same set is the same
-joins_same : (A B : TelegramContent → Type 0) (t : TelegramContent) → ((u : TelegramContent) → A u ↔ B u) → JoinsSet A t → JoinsSet B t
+pub joins_same : (A B : TelegramContent → Type 0) (t : TelegramContent) → ((u : TelegramContent) → A u ↔ B u) → JoinsSet A t → JoinsSet B t
 joins_same A B t same j = (j.0, λ u h. j.1 u ((same u).1 h))
 
 after_same : (A B : TelegramContent → Type 0) (t u : TelegramContent) → ((v : TelegramContent) → A v ↔ B v) → SetAfter A t u → SetAfter B t u

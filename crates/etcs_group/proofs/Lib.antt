@@ -7,3 +7,8 @@ pub mod AnyOrders
 pub mod Joining
 pub mod Clashing
 pub mod Examples
+pub mod ManyGroups
+pub mod Lines
+pub mod GroupAdds
+pub mod OneGroups
+pub mod OwnTelegrams

@@ -1,10 +1,11 @@
-//! For the crates above: which group the telegrams of an assembly are of.
+//! For the crates above: which group the telegrams of an assembly are of, and parts of its text.
 
 ghost use Rattle.std.specs.Prelude.{◌≡◌, IfSome, IfNone};
 ghost use Rattle.etcs_telegram.specs.Telegrams.{TelegramContent};
 ghost use Rattle.etcs_group.specs.Groups.{Holds, HoldsNone};
 
 use crate::assembly::Assembly;
+pub use crate::states::{write_number, write_positions};
 
 /// NID_C and NID_BG of the telegrams that are held, if there are any.
 pub fn group(assembly: &Assembly) -> Option<(u16, u16)>

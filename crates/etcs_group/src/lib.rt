@@ -1,4 +1,5 @@
-//! Balise groups: telegrams put together in any order, and the packets of the whole group.
+//! Balise groups: telegrams put together in any order, and the packets of the whole group; and the groups of many
+//! telegrams ([`Groups`]).
 //!
 //! ```rust
 //! let mut assembly = Assembly::new();
@@ -17,13 +18,16 @@
 mod assembly;
 mod clash;
 mod fault;
+mod groups;
 mod held;
 pub mod inner;
 pub mod laws;
 mod message;
+mod states;
 
 pub use assembly::{Added, Assembly};
 pub use clash::Clash;
 pub use etcs_packets::Packet;
 pub use etcs_telegram::Telegram;
 pub use fault::GroupFault;
+pub use groups::Groups;

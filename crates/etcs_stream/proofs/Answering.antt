@@ -10,7 +10,8 @@ use Rattle.etcs_group.specs.declared.assembly.Added.TheVariants.{New, Repeat}
 use Rattle.etcs_group.specs.Groups.{Holds, Joins}
 use Rattle.etcs_group.specs.Messages.{IsWhole, IsGroupMessage}
 use Rattle.etcs_packet_text.specs.Packets.{packets_text}
-use Rattle.etcs_stream.specs.Groups.{Answers, AreMissing, GroupLines, LastLines, group_front, positions_text, trues}
+use Rattle.etcs_group.specs.GroupLines.{AreMissing, positions_text, trues}
+use Rattle.etcs_stream.specs.Groups.{Answers, GroupLines, LastLines, group_front}
 
 -- an answer of the assembly
 pub accepted : {E : Type 0} (held : List (Option TelegramContent)) (t : TelegramContent) (a : Added) → (◌≡◌ {A = Result Added E} (Ok a) (Ok New)) ↔ (Joins held t × (Holds held t → ⊥)) → (◌≡◌ {A = Result Added E} (Ok a) (Ok Repeat)) ↔ (Joins held t × Holds held t) → Answers held t (Ok a)

@@ -31,7 +31,8 @@ use Rattle.etcs_packet_text.proofs.TextLengths.{decimal_short, fit_front, fit_be
 use Rattle.etcs_text.proofs.TextLengths.{five_long}
 use Rattle.etcs_stream.specs.declared.job.Command.TheVariants.{Group}
 use Rattle.etcs_stream.specs.Told.{Told}
-use Rattle.etcs_stream.specs.Groups.{GroupItem, LastLines, GroupLines, trues, clash_name, answer_words, positions_text, group_front}
+use Rattle.etcs_group.specs.GroupLines.{positions_text, trues}
+use Rattle.etcs_stream.specs.Groups.{GroupItem, LastLines, GroupLines, clash_name, answer_words, group_front}
 use Rattle.etcs_stream.specs.Tellers.{TellsItems, nothing_told}
 
 -- ---- The line of an item.

@@ -21,27 +21,9 @@ use Rattle.etcs_group.proofs.Joining.{joins_not}
 use Rattle.etcs_group.proofs.Places.{held_place, place_held}
 use Rattle.etcs_packet_text.specs.Packets.{packets_text}
 use Rattle.etcs_stream.specs.Told.{Told}
-use Rattle.etcs_stream.specs.Groups.{GroupItem, Answers, answer_line, clashes_with, AreMissing, trues, positions_text, group_front, GroupLines, LastLines}
-
--- ---- What is held lies in one way.
-
--- a telegram lies at its position
-at_position : (held : List (Option TelegramContent)) → IsGroup held → (p : ℕ) (t : TelegramContent) → Holds held t → t.header.n_pig ≡ p → slice_get held p ≡ Some (Some t)
-at_position held group p t h e =
-    let place = held_place held t h in
-    let here : place.0 ≡ p = sym (group.placed place.0 t place.1) ∙ e in
-    subst (λ (n : ℕ). slice_get held n ≡ Some (Some t)) here place.1
-
-module _ (a b : List (Option TelegramContent)) (ga : IsGroup a) (gb : IsGroup b) (more : (u : TelegramContent) → Holds a u → Holds b u) (back : (u : TelegramContent) → Holds b u → Holds a u) where
-  same_place : (p : ℕ) (x y : Option TelegramContent) → slice_get a p ≡ Some x → slice_get b p ≡ Some y → x ≡ y
-  same_place p None None e f = refl
-  same_place p (Some t) y e f = same_Some (Some t) y (sym (at_position b gb p t (more t (place_held a p t e)) (ga.placed p t e)) ∙ f)
-  same_place p None (Some u) e f = absurd (none-some u (same_Some None (Some u) (sym e ∙ at_position a ga p u (back u (place_held b p u f)) (gb.placed p u f))))
-
-  pub same_slots : a ≡ b
-  same_slots =
-      let long : length a ≡ length b = ga.eight ∙ sym gb.eight in
-      same_lists a b long (λ p d within. same_place p (get_or a p d) (get_or b p d) (slice_get-get_or a p d within) (slice_get-get_or b p d (omega (arith, within, long))))
+use Rattle.etcs_group.specs.GroupLines.{positions_text}
+use Rattle.etcs_group.proofs.OneGroups.{at_position, one_missing, same_slots}
+use Rattle.etcs_stream.specs.Groups.{GroupItem, Answers, answer_line, clashes_with, group_front, GroupLines, LastLines}
 
 -- ---- A telegram has one first clash.
 
@@ -142,30 +124,6 @@ module _ (held : List (Option TelegramContent)) (group : IsGroup held) where
       ∙ sym is'
 
 -- a place is true in both lists, or in neither
-true_there : (bs : List Bool) (n : ℕ) → slice_index_or bs n false ≡ true → slice_get bs n ≡ Some true
-true_there bs n e = elim (cases_lt n (length bs)) [
-  | inl within ↦ slice_get-get_or bs n false within ∙ ap Some e
-  | inr past ↦ absurd (both_ways (slice_index_or bs n false) (get_or_past bs n false past) e)
-]
-
-same_tests : (a b : Bool) → (a ≡ true → b ≡ true) → (b ≡ true → a ≡ true) → a ≡ b
-same_tests true b h k = sym (h refl)
-same_tests false true h k = k refl
-same_tests false false h k = refl
-
-module _ (held : List (Option TelegramContent)) (bs cs : List Bool) (h : AreMissing held bs) (k : AreMissing held cs) where
-  one_test : (n : ℕ) → slice_index_or bs n false ≡ slice_index_or cs n false
-  one_test n =
-      same_tests (slice_index_or bs n false) (slice_index_or cs n false)
-      (λ e. get_or_from_slice_get cs n true false ((k n).1 ((h n).0 (true_there bs n e))))
-      (λ e. get_or_from_slice_get bs n true false ((h n).1 ((k n).0 (true_there cs n e))))
-
-  one_missing : (n : ℕ) → trues n bs ≡ trues n cs
-  one_missing zero = refl
-  one_missing (suc n) =
-      ap (λ (z : List ℕ). z ++ (if slice_index_or bs n false then n ∷ [] else [])) (one_missing n)
-      ∙ ap (λ (b : Bool). trues n cs ++ (if b then n ∷ [] else [])) (one_test n)
-
 one_lines : (held : List (Option TelegramContent)) → IsGroup held → (front text text' : List ℕ) → GroupLines held front text → GroupLines held front text' → text ≡ text'
 one_lines held group front text text' (inl (whole, (ps, h, is))) (inl (_, (qs, k, is'))) =
     is ∙ ap (λ (z : List Packet). front ++ codes " complete\n" ++ packets_text ToTrain (map packet_value z)) (one_message held group 8 ps qs h k) ∙ sym is'

@@ -1,5 +1,5 @@
 -- The lines of a balise group.
-use Rattle.std.specs.Prelude.{◌≡◌, ◌⊎◌, ◌↔◌, ℕ, zero, suc, ◌+◌, Bool, true, false, if◌then◌else◌, List, [], ◌∷◌, ◌++◌, Option, Some, Result, Ok, Err, codes, map, flat_map, slice_get, slice_index_or}
+use Rattle.std.specs.Prelude.{◌≡◌, ◌⊎◌, ℕ, ◌+◌, Bool, List, ◌++◌, Option, Result, Ok, Err, codes, map}
 use Rattle.std.specs.Fmt.{decimal}
 use Rattle.etcs_tables.specs.declared.row.Way.TheVariants.{ToTrain}
 use Rattle.etcs_packets.specs.declared.packet.Packet.{Packet}
@@ -11,7 +11,8 @@ use Rattle.etcs_group.specs.declared.clash.Clash.{Clash}
 use Rattle.etcs_group.specs.declared.clash.Clash.TheVariants.{BadPosition, BadDuplicate, OtherGroup, OtherTotal, Counter, Differs}
 use Rattle.etcs_group.specs.Groups.{IsGroup, Holds, HoldsNone, Joins, HeldAfter}
 use Rattle.etcs_group.specs.Clashes.{IsFirstClash}
-use Rattle.etcs_group.specs.Messages.{IsMissing, IsWhole, IsGroupMessage}
+use Rattle.etcs_group.specs.Messages.{IsWhole, IsGroupMessage}
+use Rattle.etcs_group.specs.GroupLines.{AreMissing, positions_text, trues}
 use Rattle.etcs_packet_text.specs.Packets.{packets_text}
 use Rattle.etcs_stream.specs.Told.{Told}
 
@@ -54,19 +55,6 @@ pub record GroupItem (v : TelegramValue) (s : Told) (text : List ℕ) (s' : Told
   pub clashes_are : s'.clashes ≡ clashes_with s.clashes answer
   pub held_is : HeldAfter s.held telegram s'.held
   pub placed : IsGroup s'.held
-
--- of the first places, this many of them, those that are true, in rising order
-abbrev pub trues : ℕ → List Bool → List ℕ
-trues zero bs = []
-trues (suc n) bs = trues n bs ++ (if slice_index_or bs n false then n ∷ [] else [])
-
--- for each of the eight positions, whether it is missing
-abbrev pub AreMissing : List (Option TelegramContent) → List Bool → Type 0
-AreMissing held bs = (p : ℕ) → (slice_get bs p ≡ Some true) ↔ IsMissing held p
-
--- positions, each after a blank
-abbrev pub positions_text : List ℕ → List ℕ
-positions_text ps = flat_map (λ p. codes " " ++ decimal p) ps
 
 -- NID_C and NID_BG of a group
 abbrev pub group_front : ℕ → ℕ → List ℕ

@@ -8,7 +8,7 @@ ghost use Rattle.etcs_stream.specs.Readers.{Awaits, HasRoom};
 ghost use Rattle.etcs_stream.specs.Taking.{Advances, Halts, Says, TakesFront};
 ghost use Rattle.etcs_stream.specs.Tellers.{Closes, IsGroupable, TellsItem, nothing_told};
 
-use crate::job::{Job, Tally};
+use crate::job::{Command, Job, Tally};
 use crate::teller::Teller;
 use etcs_packet_text::inner::Page;
 use etcs_runs::RunFault;
@@ -175,7 +175,16 @@ impl ByteItems {
             Ok(entry) => entry,
             Err(()) => unreachable!(),
         };
-        match self.teller.tell(self.job.command, entry, page) {
+        let command = self.job.command;
+        if command == Command::Group {
+            return match self.teller.tell_grouped(entry, page) {
+                Ok(()) => Ok(()),
+                Err(AllocError) => Err(RunFault::Memory),
+            };
+        }
+        let told = self.teller.tell_alone(command, &entry, page);
+        self.reader.reuse(entry);
+        match told {
             Ok(()) => Ok(()),
             Err(AllocError) => Err(RunFault::Memory),
         }

@@ -6,9 +6,10 @@ ghost use Rattle.etcs_packets.specs.PacketValues.{packet_value};
 ghost use Rattle.etcs_packet_text.specs.Fronts.{Begins};
 ghost use Rattle.etcs_packet_text.specs.Packets.{packets_text};
 ghost use Rattle.std.specs.Fmt.{decimal};
-ghost use Rattle.etcs_stream.specs.Groups.{LastLines, answer_line, answer_words, clash_name, group_front, positions_text, trues};
+ghost use Rattle.etcs_group.specs.GroupLines.{positions_text, trues};
+ghost use Rattle.etcs_stream.specs.Groups.{LastLines, answer_line, answer_words, clash_name, group_front};
 
-use etcs_group::inner::group;
+use etcs_group::inner::{group, write_number, write_positions};
 use etcs_group::{Added, Assembly, Clash, GroupFault};
 use etcs_packet_text::inner::{Page, write_packets};
 use etcs_packets::Packet;
@@ -99,16 +100,6 @@ fn write_answer(item: u64, answer: Result<Added, Clash>, page: &mut Page) -> Res
     page.put(b"\n")
 }
 
-/// Appends a number after what comes before it.
-#[tactic(auto, using(etcs_packet_text::specs::laws::Fronts::begins_more))]
-fn write_number(front: &[u8], number: u64, page: &mut Page) -> Result<(), AllocError>
-    ensures ok { OnOk result (page.new ≡ page.old ++ (front.now ++ decimal number)) }
-    ensures err { OnErr result (Begins page.old page.new) }
-{
-    page.put(front)?;
-    page.put_decimal(number)
-}
-
 /// Appends NID_C and NID_BG of a group.
 #[tactic(auto, using(etcs_packet_text::specs::laws::Fronts::begins_more))]
 fn write_group(country: u16, group: u16, page: &mut Page) -> Result<(), AllocError>
@@ -117,20 +108,6 @@ fn write_group(country: u16, group: u16, page: &mut Page) -> Result<(), AllocErr
 {
     write_number(b"group ", country as u64, page)?;
     write_number(b" ", group as u64, page)
-}
-
-/// Appends the positions that are missing, each after a blank.
-#[tactic(auto, using(etcs_packet_text::specs::laws::Fronts::begins_more))]
-fn write_missing(missing: &[bool; 8], page: &mut Page) -> Result<(), AllocError>
-    ensures ok { OnOk result (page.new ≡ page.old ++ positions_text (trues 8 missing.now)) }
-    ensures err { OnErr result (Begins page.old page.new) }
-{
-    for position in 0..8 {
-        if missing[position] {
-            write_number(b" ", position as u64, page)?;
-        }
-    }
-    Ok(())
 }
 
 /// Appends the end of the line of a whole group, and the packets of its message.
@@ -150,7 +127,7 @@ fn write_lacking(missing: &[bool; 8], page: &mut Page) -> Result<(), AllocError>
     ensures err { OnErr result (Begins page.old page.new) }
 {
     page.put(b" missing")?;
-    write_missing(missing, page)?;
+    write_positions(missing, page)?;
     page.put(b"\n")
 }
 

@@ -80,8 +80,29 @@ impl Teller {
         if command == Command::Group {
             return self.tell_grouped(entry, page);
         }
+        self.tell_alone(command, &entry, page)
+    }
+
+    /// Appends what a command writes of the next item by itself, or nothing.
+    ///
+    /// # Errors
+    ///
+    /// Where memory is refused.
+    #[inline(always)]
+    pub(crate) fn tell_alone(
+        &mut self,
+        command: Command,
+        entry: &Entry,
+        page: &mut Page,
+    ) -> Result<(), AllocError>
+        requires few { self.old.count < 1000000 }
+        requires alone { command ≡ Command.Group → ⊥ }
+        ensures count { self.new.count ≡ self.old.count + 1 }
+        ensures ok { OnOk result ((added : List ℕ) × TellsItem command (entry_value entry.now) self.old added self.new × (page.new ≡ page.old ++ added)) }
+        ensures err { OnErr result (page.new ≡ page.old) }
+    {
         self.count += 1;
-        tell_alone(command, &entry, self.count, page)
+        write_alone(command, entry, self.count, page)
     }
 
     /// Appends what the command writes at the end of the input, or nothing, and says what the run met.
@@ -117,7 +138,7 @@ impl Teller {
     }
 
     /// Appends the line that says what a telegram is to the group, or nothing.
-    fn tell_grouped(&mut self, entry: Entry, page: &mut Page) -> Result<(), AllocError>
+    pub(crate) fn tell_grouped(&mut self, entry: Entry, page: &mut Page) -> Result<(), AllocError>
         requires few { self.old.count < 1000000 }
         requires grouped { IsOfTelegrams (entry_kind (entry_value entry)) }
         ensures count { self.new.count ≡ self.old.count + 1 }
@@ -154,7 +175,12 @@ impl Teller {
 
 /// Appends what a command writes of an item by itself, or nothing.
 #[inline(always)]
-fn tell_alone(command: Command, entry: &Entry, item: u64, page: &mut Page) -> Result<(), AllocError>
+fn write_alone(
+    command: Command,
+    entry: &Entry,
+    item: u64,
+    page: &mut Page,
+) -> Result<(), AllocError>
     requires { command ≡ Command.Group → ⊥ }
     ensures ok { (s : Told) → item ≡ s.count + 1 → OnOk result ((added : List ℕ) × TellsItem command (entry_value entry.now) s added (one_more s) × (page.new ≡ page.old ++ added)) }
     ensures err { OnErr result (page.new ≡ page.old) }

@@ -12,6 +12,8 @@ mod flat_tests;
 #[cfg(test)]
 mod group_tests;
 #[cfg(test)]
+mod groups_tests;
+#[cfg(test)]
 mod item_tests;
 #[cfg(test)]
 mod packet_tests;

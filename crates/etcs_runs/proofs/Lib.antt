@@ -5,7 +5,9 @@ pub mod Pairs
 pub mod Decoding
 pub mod Runs
 pub mod Pure
+pub mod Fronts
 pub mod Printing
 pub mod Endings
 pub mod Running
 pub mod Keeping
+pub mod DigitExamples

@@ -6,7 +6,7 @@ use Rattle.std.proofs.lemmas.Bool.Decides.{nat_tests}
 use Rattle.std.proofs.lemmas.List.Sums.{AllPass-from_list_all, list_all-from_AllPass}
 use Rattle.hex.specs.Hex.{is_hex_digit}
 use Rattle.std.specs.Io.BufRead.{strip_last}
-use Rattle.etcs_runs.specs.Digits.{are_digits, bare, is_blank, is_joint, is_passed_over, is_x, last_digits, last_first, line_digits, part_digits, says_nothing, without_0x, without_mark, words}
+use Rattle.etcs_runs.specs.Digits.{are_enough, bare, end_digits, found, groups, is_blank, is_group, is_joint, is_passed_over, is_x, last_first, line_digits, says_nothing, searched, without_0x, without_mark, word_digits, words}
 use Rattle.etcs_runs.proofs.Words.{words-word}
 
 not_blank : (c : ℕ) → is_hex_digit c ≡ true → not (is_blank c) ≡ true
@@ -32,10 +32,18 @@ either : (a b : Bool) (xs : List ℕ) → b ≡ true → cond a ([] ++ xs) (cond
 either true b xs h = refl
 either false b xs h = ap (λ (z : Bool). cond z xs []) h
 
-three : (a b : Bool) (xs zs : List ℕ) → zs ≡ xs → cond a ([] ++ xs) (cond b ([] ++ ([] ++ xs)) zs) ≡ xs
-three true b xs zs h = refl
-three false true xs zs h = refl
-three false false xs zs h = h
+same_both : (b : Bool) (xs ys v : List ℕ) → xs ≡ v → ys ≡ v → cond b xs ys ≡ v
+same_both true xs ys v h g = h
+same_both false xs ys v h g = g
+
+one_with : (b : Bool) (v : List ℕ) → are_enough v ≡ b → cond (are_enough (cond b v [])) (cond b v []) v ≡ v
+one_with true v h = same_both (are_enough v) v v v refl refl
+one_with false v h = refl
+
+-- of one word
+found_one : (digits_of : List (List ℕ) → List ℕ) (w v : List ℕ) → digits_of (w ∷ []) ≡ v → found digits_of (w ∷ []) ≡ v
+found_one digits_of w v h =
+    ap (λ (z : List ℕ). cond (are_enough (cond (are_enough z) z [])) (cond (are_enough z) z []) z) h ∙ one_with (are_enough v) v refl
 
 module _ (line : List ℕ) (digits : list_all is_hex_digit line ≡ true) (two : 1 < length line) where
   at_place : (i : ℕ) → i < length line → is_hex_digit (slice_index line i) ≡ true
@@ -64,14 +72,17 @@ module _ (line : List ℕ) (digits : list_all is_hex_digit line ≡ true) (two :
   one_word : (at : ℕ → Bool) → ((c : ℕ) → is_hex_digit c ≡ true → not (at c) ≡ true) → last_first at line ≡ line ∷ []
   one_word at f = ap (λ (z : List (List ℕ)). reverse (map bare z)) (words-word at line (apart_by at f) some) ∙ ap (λ (z : List ℕ). z ∷ []) bare_same
 
-  all_parts : part_digits (line ∷ []) ≡ line
-  all_parts = either (are_digits 2 line) (list_all is_hex_digit line) line digits
+  all_groups : groups (line ∷ []) ≡ line
+  all_groups = either (is_group line) (list_all is_hex_digit line) line digits
 
-  all_digits : last_digits (line ∷ []) ≡ line
-  all_digits = three (are_digits 4 line) (are_digits 2 line) line (part_digits (last_first is_joint line)) (ap part_digits (one_word is_joint not_joint) ∙ all_parts)
+  all_parts : word_digits line ≡ line
+  all_parts = ap (found groups) (one_word is_joint not_joint) ∙ found_one groups line line all_groups
+
+  all_digits : end_digits (line ∷ []) ≡ line
+  all_digits = same_both (is_group line) (groups (line ∷ [])) (word_digits line) line all_groups all_parts
 
   pub pure_digits : line_digits line ≡ line
-  pure_digits = ap (λ (z : List ℕ). last_digits (last_first is_blank z)) no_mark ∙ ap last_digits (one_word is_blank not_blank) ∙ all_digits
+  pure_digits = ap (λ (z : List ℕ). found end_digits (last_first is_blank z)) no_mark ∙ ap (found end_digits) (one_word is_blank not_blank) ∙ found_one end_digits line line all_digits
 
   pub pure_read : is_passed_over line ≡ false
   pure_read = ap (λ (z : List ℕ). says_nothing (words is_blank z)) no_mark ∙ ap says_nothing (words-word is_blank line (apart_by is_blank not_blank) some) ∙ not_equal (slice_index line 0) 35 (at_place 0 some) refl

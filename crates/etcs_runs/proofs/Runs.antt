@@ -1,5 +1,5 @@
 -- The digits of words, the last first.
-use Rattle.std.proofs.Common.{◌≡◌, ℕ, ◌+◌, ◌-◌, ◌*◌, ◌<◌, ◌≤◌, Bool, true, false, cond, ◌&&◌, eqb, List, [], ◌∷◌, ◌++◌, length, map, reverse, take, drop, Ok, refl, sym, ap, ◌∙◌, arith}
+use Rattle.std.proofs.Common.{◌≡◌, ℕ, ◌+◌, ◌-◌, ◌*◌, ◌<◌, ◌≤◌, Bool, true, false, cond, ◌&&◌, eqb, leb, List, [], ◌∷◌, ◌++◌, length, map, reverse, take, drop, Result, Ok, Err, refl, sym, ap, subst, ◌∙◌, arith}
 use Rattle.std.specs.List.{list_all}
 use Rattle.std.proofs.lemmas.List.{append_assoc, map-append, reverse-append, length-append, length-drop, length-take-le}
 use Rattle.std.proofs.Math.Seq.{drop-append_seam, paste, take-length}
@@ -8,8 +8,10 @@ use borrow.Rule.Slice.PartMut.{put_mid}
 use Rattle.std.proofs.lemmas.Bool.Decides.{nat_tests}
 use Rattle.hex.specs.Hex.{is_hex_digit, decode_of}
 use Rattle.hex.proofs.HexLemmas.{decode_of-ok}
-use Rattle.etcs_runs.specs.Digits.{are_digits, bare, is_joint, last_digits, last_first, part_digits, run, words}
-use Rattle.etcs_runs.specs.Answers.{Says}
+use Rattle.etcs_runs.specs.Digits.{are_digits, are_enough, bare, end_digits, found, groups, is_group, last_first, run, searched, word_digits, words}
+use Rattle.etcs_runs.specs.declared.digits.NoBytes.{NoBytes}
+use Rattle.etcs_runs.specs.declared.digits.NoBytes.TheVariants.{Empty, NoDigits, OddDigits}
+use Rattle.etcs_runs.specs.Answers.{Says, says_enough}
 use Rattle.etcs_runs.proofs.Words.{both}
 
 pub last_first-last : (at : ℕ → Bool) (t before word : List ℕ) → words at t ≡ words at before ++ word ∷ [] → last_first at t ≡ bare word ∷ last_first at before
@@ -31,66 +33,6 @@ run_stops n w ws h = ap (λ (b : Bool). cond b (run n ws ++ w) []) h
 -- how many digits there are
 pub digits_length : (digits bytes : List ℕ) → decode_of digits ≡ Ok bytes → length digits ≡ 2 * length bytes
 digits_length digits bytes h = (decode_of-ok digits bytes h).2
-
-four_not_two : (w : List ℕ) → are_digits 2 w ≡ true → are_digits 4 w ≡ false
-four_not_two w h =
-    let two = (both (eqb (length w) 2) (list_all is_hex_digit w) h).0 in
-    grind (arith, nat_tests)
-
-no_fours_with : (b : Bool) (w : List ℕ) (ws : List (List ℕ)) → are_digits 2 w ≡ b → 0 < length (cond b (run 2 ws ++ w) []) → run 4 (w ∷ ws) ≡ []
-no_fours_with true w ws is some = run_stops 4 w ws (four_not_two w is)
-no_fours_with false w ws is some = absurd (omega (arith, some))
-
--- where the last word is a pair, it is no four
-pub no_fours : (ws : List (List ℕ)) → 0 < length (run 2 ws) → run 4 ws ≡ []
-no_fours [] some = refl
-no_fours (w ∷ ws) some = no_fours_with (are_digits 2 w) w ws refl some
-
-fewer : (ws : List (List ℕ)) (behind old new : List ℕ) (end pairs : ℕ) → length new ≡ length old → end ≤ length old → pairs ≤ end → decode_of behind ≡ Ok (drop end old) → decode_of (run 2 ws ++ behind) ≡ Ok (drop pairs new) → length (run 2 ws) ≡ 2 * (end - pairs)
-fewer ws behind old new end pairs same within least h g =
-    omega (arith, same, within, least, digits_length behind (drop end old) h, digits_length (run 2 ws ++ behind) (drop pairs new) g, length-append (run 2 ws) behind, length-drop end old, length-drop pairs new)
-
--- where there are pairs, there are no fours
-pub some_pairs : (ws : List (List ℕ)) (behind old new : List ℕ) (end pairs : ℕ) → length new ≡ length old → end ≤ length old → pairs < end → decode_of behind ≡ Ok (drop end old) → decode_of (run 2 ws ++ behind) ≡ Ok (drop pairs new) → decode_of (run 4 ws ++ (run 2 ws ++ behind)) ≡ Ok (drop pairs new)
-some_pairs ws behind old new end pairs same within less h g =
-    let none = no_fours ws (omega (arith, less, fewer ws behind old new end pairs same within (omega (arith, less)) h g)) in
-    ap (λ (z : List ℕ). decode_of (z ++ (run 2 ws ++ behind))) none ∙ g
-
-empty_list : (xs : List ℕ) → length xs ≡ 0 → xs ≡ []
-empty_list [] h = refl
-empty_list (x ∷ xs) h = absurd (omega (arith, h))
-
-twice_none : (n : ℕ) → 2 * (n - n) ≡ 0
-twice_none n = omega arith
-
--- where there are none, what was written is as before
-pub no_pairs : (ws : List (List ℕ)) (behind old new : List ℕ) (end pairs : ℕ) → length new ≡ length old → end ≤ length old → pairs ≡ end → decode_of behind ≡ Ok (drop end old) → decode_of (run 2 ws ++ behind) ≡ Ok (drop pairs new) → (run 2 ws ≡ []) × (decode_of behind ≡ Ok (drop end new))
-no_pairs ws behind old new end pairs same within is h g =
-    let none = empty_list (run 2 ws) (fewer ws behind old new end pairs same within (omega (arith, is)) h g ∙ ap (λ (k : ℕ). 2 * (end - k)) is ∙ twice_none end) in
-    (none, ap (λ (z : List ℕ). decode_of (z ++ behind)) (sym none) ∙ g ∙ ap (λ (k : ℕ). Ok (drop k new)) is)
-
--- ---- What is said of a word.
-
-pub says_bytes : (digits buffer : List ℕ) (n start : ℕ) → start < length buffer → n ≡ length buffer - start → decode_of digits ≡ Ok (drop start buffer) → Says digits (Ok n) buffer
-says_bytes digits buffer n start less is h =
-    let back : start ≡ length buffer - n = omega (arith, less, is) in
-    (omega (arith, less, is), omega (arith, is), h ∙ ap (λ (k : ℕ). Ok (drop k buffer)) back)
-
-pub part_one : (p : List ℕ) (ps : List (List ℕ)) → are_digits 2 p ≡ false → part_digits (p ∷ ps) ≡ cond (list_all is_hex_digit p) p []
-part_one p ps h = ap (λ (b : Bool). cond b (run 2 ps ++ p) (cond (list_all is_hex_digit p) p [])) h
-
-pub last_fours : (w : List ℕ) (ws : List (List ℕ)) → are_digits 4 w ≡ true → last_digits (w ∷ ws) ≡ run 4 ws ++ w
-last_fours w ws h = ap (λ (b : Bool). cond b (run 4 ws ++ w) (cond (are_digits 2 w) (run 4 ws ++ (run 2 ws ++ w)) (part_digits (last_first is_joint w)))) h
-
-pub last_pairs : (w : List ℕ) (ws : List (List ℕ)) → are_digits 4 w ≡ false → are_digits 2 w ≡ true → last_digits (w ∷ ws) ≡ run 4 ws ++ (run 2 ws ++ w)
-last_pairs w ws h g =
-    ap (λ (b : Bool). cond b (run 4 ws ++ w) (cond (are_digits 2 w) (run 4 ws ++ (run 2 ws ++ w)) (part_digits (last_first is_joint w)))) h
-    ∙ ap (λ (b : Bool). cond b (run 4 ws ++ (run 2 ws ++ w)) (part_digits (last_first is_joint w))) g
-
-pub last_one : (w : List ℕ) (ws : List (List ℕ)) → are_digits 4 w ≡ false → are_digits 2 w ≡ false → last_digits (w ∷ ws) ≡ part_digits (last_first is_joint w)
-last_one w ws h g =
-    ap (λ (b : Bool). cond b (run 4 ws ++ w) (cond (are_digits 2 w) (run 4 ws ++ (run 2 ws ++ w)) (part_digits (last_first is_joint w)))) h
-    ∙ ap (λ (b : Bool). cond b (run 4 ws ++ (run 2 ws ++ w)) (part_digits (last_first is_joint w))) g
 
 -- ---- A step of the loop over words.
 
@@ -126,6 +68,50 @@ stop_here at n rest before word is other all digits bytes h g =
 pub take_more_digits : (at : ℕ → Bool) (n : ℕ) (rest before word : List ℕ) → words at rest ≡ words at before ++ word ∷ [] → are_digits n (bare word) ≡ true → (digits : List ℕ) → run n (last_first at rest) ++ digits ≡ run n (last_first at before) ++ (bare word ++ digits)
 take_more_digits at n rest before word is digit digits =
     ap (λ (z : List (List ℕ)). run n z ++ digits) (last_first-last at rest before word is) ∙ run_more n (bare word) (last_first at before) digits digit
+
+-- ---- The digits at the end of words.
+
+pub end_groups : (w : List ℕ) (ws : List (List ℕ)) → is_group w ≡ true → end_digits (w ∷ ws) ≡ groups (w ∷ ws)
+end_groups w ws h = ap (λ (b : Bool). cond b (groups (w ∷ ws)) (word_digits w)) h
+
+pub end_word : (w : List ℕ) (ws : List (List ℕ)) → is_group w ≡ false → end_digits (w ∷ ws) ≡ word_digits w
+end_word w ws h = ap (λ (b : Bool). cond b (groups (w ∷ ws)) (word_digits w)) h
+
+pub no_words : (at : ℕ → Bool) (t : List ℕ) → words at t ≡ [] → last_first at t ≡ []
+no_words at t h = ap (λ (z : List (List ℕ)). reverse (map bare z)) h
+
+-- ---- Digits that are enough.
+
+ten_bytes : (n k : ℕ) → k ≡ 2 * n → leb 10 n ≡ leb 20 k
+ten_bytes n k h = grind (arith, nat_tests)
+
+pub enough_said : (digits buffer : List ℕ) (r : Result ℕ NoBytes) → Says digits r buffer → says_enough r ≡ are_enough digits
+enough_said digits buffer (Ok n) (some, fits, h) = ten_bytes n (length digits) (digits_length digits (drop (length buffer - n) buffer) h ∙ ap (λ (k : ℕ). 2 * k) (omega (arith, length-drop (length buffer - n) buffer, fits)))
+enough_said digits buffer (Err Empty) h = absurd h
+enough_said digits buffer (Err NoDigits) h = ap are_enough (sym h)
+enough_said digits buffer (Err (OddDigits n)) (is, odd) = ap (leb 20) is
+
+module _ (digits_of : List (List ℕ) → List ℕ) (none : digits_of [] ≡ []) where
+  searched_here : (ws : List (List ℕ)) → are_enough (digits_of ws) ≡ true → searched digits_of ws ≡ digits_of ws
+  searched_here [] h = sym none
+  searched_here (w ∷ ws) h = ap (λ (b : Bool). cond b (digits_of (w ∷ ws)) (searched digits_of ws)) h
+
+  -- passed over
+  pub searched_next : (ws : List (List ℕ)) (w : List ℕ) (rest : List (List ℕ)) → ws ≡ w ∷ rest → are_enough (digits_of ws) ≡ false → searched digits_of ws ≡ searched digits_of rest
+  searched_next ws w rest is h =
+      let here : are_enough (digits_of (w ∷ rest)) ≡ false = subst (λ (z : List (List ℕ)). are_enough (digits_of z) ≡ false) is h in
+      ap (searched digits_of) is ∙ ap (λ (b : Bool). cond b (digits_of (w ∷ rest)) (searched digits_of rest)) here
+
+  -- found after as many were passed over as may be
+  pub found_here : (ws rest : List (List ℕ)) → searched digits_of ws ≡ searched digits_of rest → are_enough (digits_of rest) ≡ true → found digits_of ws ≡ digits_of rest
+  found_here ws rest same h =
+      let is : searched digits_of ws ≡ digits_of rest = same ∙ searched_here rest h in
+      ap (λ (z : List ℕ). cond (are_enough z) z (digits_of ws)) is ∙ ap (λ (b : Bool). cond b (digits_of rest) (digits_of ws)) h
+
+  pub found_none : (ws : List (List ℕ)) → searched digits_of ws ≡ [] → found digits_of ws ≡ digits_of ws
+  found_none ws is = ap (λ (z : List ℕ). cond (are_enough z) z (digits_of ws)) is
+
+-- ---- What is written.
 
 pub mid_length : (a k : ℕ) (xs : List ℕ) → a + k ≤ length xs → length (take k (drop a xs)) ≡ k
 mid_length a k xs fits = length-take-le k (drop a xs) (omega (arith, fits, length-drop a xs))

@@ -1,5 +1,6 @@
 -- The digits of a line as people have them, and the bytes that they say.
-use Rattle.std.specs.Prelude.{ℕ, Bool, true, false, ◌&&◌, ◌||◌, ◌==◌, if◌then◌else◌, List, [], ◌∷◌, ◌++◌, length, drop, map, reverse, filter, slice_index}
+use Rattle.std.specs.Prelude.{ℕ, zero, suc, ◌%◌, Bool, true, false, not, ◌&&◌, ◌||◌, ◌==◌, nat_le, nat_lt, if◌then◌else◌, List, [], ◌∷◌, ◌++◌, length, drop, map, reverse, filter, slice_index}
+use Rattle.std.specs.Char.{is_ascii_alphanumeric}
 use Rattle.std.specs.List.{list_all}
 use Rattle.std.specs.Io.BufRead.{strip_last}
 use Rattle.hex.specs.Hex.{is_hex_digit}
@@ -10,9 +11,9 @@ use Rattle.hex.specs.Hex.{is_hex_digit}
 abbrev pub is_blank : ℕ → Bool
 is_blank c = (c == 32) || (c == 9) || (c == 13)
 
--- a comma, a dash, a colon or a semicolon
+-- any other than a digit or a letter of ASCII
 abbrev pub is_joint : ℕ → Bool
-is_joint c = (c == 44) || (c == 45) || (c == 58) || (c == 59)
+is_joint c = not (is_ascii_alphanumeric c)
 
 -- with this character before the first of the pieces
 abbrev pub grown : ℕ → List (List ℕ) → List (List ℕ)
@@ -60,34 +61,64 @@ without_mark line = if has_mark line then drop 3 line else line
 abbrev pub are_digits : ℕ → List ℕ → Bool
 are_digits n word = (length word == n) && list_all is_hex_digit word
 
+-- an even number, of at most 16
+abbrev pub is_size : ℕ → Bool
+is_size n = nat_lt 0 n && nat_le n 16 && (n % 2 == 0)
+
+-- some digits among others: as many
+abbrev pub is_group : List ℕ → Bool
+is_group word = is_size (length word) && list_all is_hex_digit word
+
 -- of words, the last first: those of n digits each, up to one that isn't, in the order of the line
 abbrev pub run : ℕ → List (List ℕ) → List ℕ
 run n [] = []
 run n (w ∷ ws) = if are_digits n w then run n ws ++ w else []
 
+-- how many digits the groups have before one of n: as many as the last of them, unless that has fewer than n
+abbrev pub group_size : ℕ → List (List ℕ) → ℕ
+group_size n [] = n
+group_size n (w ∷ ws) = if nat_le n (length w) && is_size (length w) then length w else n
+
 -- the bare words between such characters, the last first
 abbrev pub last_first : (ℕ → Bool) → List ℕ → List (List ℕ)
 last_first at text = reverse (map bare (words at text))
 
--- the digits of the parts of one word, the last first: of the last pairs, or of the last part
-abbrev pub part_digits : List (List ℕ) → List ℕ
-part_digits [] = []
-part_digits (p ∷ ps) = if are_digits 2 p then run 2 ps ++ p else if list_all is_hex_digit p then p else []
+-- the digits at the end of words, the last first: of the last groups, which are of one size but for the last of them, which
+-- may be smaller; or of the last word alone
+abbrev pub groups : List (List ℕ) → List ℕ
+groups [] = []
+groups (w ∷ ws) = if is_group w then run (group_size (length w) ws) ws ++ w else if list_all is_hex_digit w then w else []
 
--- the digits of words, the last first: of the last words of two digits or of four, where the last of them may have two; or
--- of the last word alone
-abbrev pub last_digits : List (List ℕ) → List ℕ
-last_digits [] = []
-last_digits (w ∷ ws) =
-    if are_digits 4 w then run 4 ws ++ w
-    else if are_digits 2 w then run 4 ws ++ (run 2 ws ++ w)
-    else part_digits (last_first is_joint w)
+-- an item's: the shortest messages have ten bytes
+abbrev pub are_enough : List ℕ → Bool
+are_enough digits = nat_le 20 (length digits)
 
--- the digits of a line are those of its last words: pairs or fours of digits with blanks between, perhaps with `0x` in
--- front and a comma after each; or one word, in which they are the last pairs with commas, dashes, colons or semicolons
--- between, or what follows the last of these. What is in front of them is passed over
+-- of words, the last first, without the last ones, as few as may be: the first digits that are enough, or none
+abbrev pub searched : (List (List ℕ) → List ℕ) → List (List ℕ) → List ℕ
+searched digits_of [] = []
+searched digits_of (w ∷ ws) = if are_enough (digits_of (w ∷ ws)) then digits_of (w ∷ ws) else searched digits_of ws
+
+-- those; and where there are none, the ones at the end
+abbrev pub found : (List (List ℕ) → List ℕ) → List (List ℕ) → List ℕ
+found digits_of ws = if are_enough (searched digits_of ws) then searched digits_of ws else digits_of ws
+
+-- the digits of one word: those of its parts
+abbrev pub word_digits : List ℕ → List ℕ
+word_digits word = found groups (last_first is_joint word)
+
+-- the digits at the end of words, the last first: those of groups, or of the last word
+abbrev pub end_digits : List (List ℕ) → List ℕ
+end_digits [] = []
+end_digits (w ∷ ws) = if is_group w then groups (w ∷ ws) else word_digits w
+
+-- The digits of a line. It is cut into words at blanks; each may have `0x` in front and a comma after it. The last words
+-- are the digits if they are groups: of one even size of at most 16, but for the last of them, which may be smaller. Else
+-- the last word is cut into parts at each character that is neither a digit nor a letter, and its last parts are the
+-- digits, if they are groups, or its last part. Where these are fewer than 20 digits, the part at the end is passed over,
+-- and then the next one, and so on, and after the parts of a word the word; where there are never 20, the digits are those
+-- at the end. What is in front of them is passed over
 abbrev pub line_digits : List ℕ → List ℕ
-line_digits line = last_digits (last_first is_blank (without_mark line))
+line_digits line = found end_digits (last_first is_blank (without_mark line))
 
 -- no word, or the first begins with `#`
 abbrev pub says_nothing : List (List ℕ) → Bool
@@ -97,3 +128,71 @@ says_nothing (w ∷ ws) = slice_index w 0 == 35
 -- a line of blanks or a comment
 abbrev pub is_passed_over : List ℕ → Bool
 is_passed_over line = says_nothing (words is_blank (without_mark line))
+
+-- ---- What is before them.
+
+-- a character before the rest of a text; or nothing, where it may go and there is no rest
+abbrev pub kept : Bool → ℕ → List ℕ → List ℕ
+kept true c [] = []
+kept true c (x ∷ xs) = c ∷ x ∷ xs
+kept false c xs = c ∷ xs
+
+-- a text without such characters at its end
+abbrev pub without_end : (ℕ → Bool) → List ℕ → List ℕ
+without_end at [] = []
+without_end at (c ∷ cs) = kept (at c) c (without_end at cs)
+
+-- a text before its last word
+abbrev pub before_last : (ℕ → Bool) → List ℕ → List ℕ
+before_last at text = without_end (λ c. not (at c)) (without_end at text)
+
+-- before its last n words
+abbrev pub before_words : (ℕ → Bool) → ℕ → List ℕ → List ℕ
+before_words at zero text = text
+before_words at (suc n) text = before_words at n (before_last at text)
+
+-- of words, the last first: how many of n digits each there are, up to one that isn't
+abbrev pub run_words : ℕ → List (List ℕ) → ℕ
+run_words n [] = 0
+run_words n (w ∷ ws) = if are_digits n w then suc (run_words n ws) else 0
+
+-- how many words the digits at the end of words are: the groups, or the last word alone
+abbrev pub group_words : List (List ℕ) → ℕ
+group_words [] = 0
+group_words (w ∷ ws) = if is_group w then suc (run_words (group_size (length w) ws) ws) else if list_all is_hex_digit w then 1 else 0
+
+-- of words, the last first: the last ones, as few as may be, without which the digits at the end are enough, and those that
+-- have these digits
+abbrev pub searched_words : (List (List ℕ) → List ℕ) → (List (List ℕ) → ℕ) → List (List ℕ) → ℕ
+searched_words digits_of words_of [] = 0
+searched_words digits_of words_of (w ∷ ws) = if are_enough (digits_of (w ∷ ws)) then words_of (w ∷ ws) else suc (searched_words digits_of words_of ws)
+
+-- where there are none, the words that have the digits at the end
+abbrev pub found_words : (List (List ℕ) → List ℕ) → (List (List ℕ) → ℕ) → List (List ℕ) → ℕ
+found_words digits_of words_of ws = if are_enough (searched digits_of ws) then searched_words digits_of words_of ws else words_of ws
+
+-- how many parts of a word its digits and what is after them have
+abbrev pub word_parts : List ℕ → ℕ
+word_parts word = found_words groups group_words (last_first is_joint word)
+
+-- how many words of a line are after its digits
+abbrev pub passed_words : List ℕ → ℕ
+passed_words line = found_words end_digits (λ ws. 0) (last_first is_blank line)
+
+-- a text of these words, the last first, before the digits at its end
+abbrev pub end_front : List (List ℕ) → List ℕ → List ℕ
+end_front [] text = text
+end_front (w ∷ ws) text = if is_group w then before_words is_blank (group_words (w ∷ ws)) text else before_words is_joint (word_parts w) text
+
+-- the text before the digits at its end
+abbrev pub before_end : List ℕ → List ℕ
+before_end text = end_front (last_first is_blank text) text
+
+-- a line before its digits
+abbrev pub before_digits : List ℕ → List ℕ
+before_digits line = before_end (before_words is_blank (passed_words line) line)
+
+-- What is before the digits of a line: before the first of the words or parts that have them, without a byte order mark in
+-- front and blanks at the end. A `0x` in front of the digits belongs to them; no other character that touches them does
+abbrev pub line_front : List ℕ → List ℕ
+line_front line = without_end is_blank (before_digits (without_mark line))

@@ -4,9 +4,9 @@ ghost use Rattle.std.specs.Prelude.{◌≡◌, ◌+◌, ◌-◌, ◌*◌, ◌/�
 ghost use Rattle.std.specs.Io.BufRead.{strip_last};
 ghost use Rattle.std.specs.List.{list_all};
 ghost use Rattle.hex.specs.Hex.{decode_of, is_hex_digit};
-ghost use Rattle.etcs_runs.specs.Digits.{are_digits, bare, is_blank, is_joint, is_passed_over, is_x, last_digits, last_first, line_digits, part_digits, run, says_nothing, without_0x, without_mark, words};
+ghost use Rattle.etcs_runs.specs.Digits.{are_digits, bare, before_last, end_digits, found, group_size, groups, is_blank, is_group, is_passed_over, is_size, is_x, last_first, line_digits, run, says_nothing, without_0x, without_end, without_mark, word_digits, words};
 ghost use Rattle.etcs_runs.specs.Cuts.{parts_at};
-ghost use Rattle.etcs_runs.specs.Answers.{Says};
+ghost use Rattle.etcs_runs.specs.Answers.{Says, says_enough};
 
 use crate::hexadecimal::{decode, is_digit};
 
@@ -15,7 +15,7 @@ use crate::hexadecimal::{decode, is_digit};
 pub enum NoBytes {
     /// It is blank, or a comment: its first character that is no blank is `#`.
     Empty,
-    /// It doesn't end with digits.
+    /// There are no digits at its end, nor enough for an item anywhere.
     NoDigits,
     /// Their number is odd: this.
     OddDigits(usize),
@@ -23,10 +23,10 @@ pub enum NoBytes {
 
 /// The characters at which a text is cut into words.
 #[derive(Clone, Copy)]
-enum Cut {
+pub(crate) enum Cut {
     /// Blanks, tabs and CRs.
     Blanks,
-    /// Commas, dashes, colons and semicolons.
+    /// All but digits and letters of ASCII.
     Joints,
 }
 
@@ -37,16 +37,17 @@ impl Cut {
     {
         match self {
             Cut::Blanks => matches!(character, b' ' | b'\t' | b'\r'),
-            Cut::Joints => matches!(character, b',' | b'-' | b':' | b';'),
+            Cut::Joints => !character.is_ascii_alphanumeric(),
         }
     }
 }
 
 /// Where the last word ends.
-fn end_of_word(cut: Cut, text: &[u8]) -> usize
+pub(crate) fn end_of_word(cut: Cut, text: &[u8]) -> usize
     ensures within { result ≤ length text.now }
     ensures words { words (parts_at cut) text.now ≡ words (parts_at cut) (take result text.now) }
     ensures last { 0 < result → parts_at cut (slice_index text.now (result - 1)) ≡ false }
+    ensures end { take result text.now ≡ without_end (parts_at cut) text.now }
 {
     let mut end = text.len();
     while end > 0 && cut.is_at(text[end - 1]) {
@@ -56,7 +57,7 @@ fn end_of_word(cut: Cut, text: &[u8]) -> usize
 }
 
 /// Where the word begins with which the text ends.
-fn start_of_word(cut: Cut, text: &[u8]) -> usize
+pub(crate) fn start_of_word(cut: Cut, text: &[u8]) -> usize
     ensures within { result ≤ length text.now }
     ensures word { list_all (λ c. not (parts_at cut c)) (drop result text.now) ≡ true }
     ensures before { 0 < result → parts_at cut (slice_index text.now (result - 1)) ≡ true }
@@ -69,10 +70,11 @@ fn start_of_word(cut: Cut, text: &[u8]) -> usize
 }
 
 /// The text before the last word, and this word.
-fn last_word(cut: Cut, text: &[u8]) -> Option<(&[u8], &[u8])>
+pub(crate) fn last_word(cut: Cut, text: &[u8]) -> Option<(&[u8], &[u8])>
     ensures none { IsNone result → words (parts_at cut) text.now ≡ [] }
     ensures some { IfSome result (λ p. words (parts_at cut) text.now ≡ words (parts_at cut) p.0.now ++ p.1.now ∷ []) }
     ensures short { IfSome result (λ p. (0 < length p.1.now) × (length p.0.now + length p.1.now ≤ length text.now)) }
+    ensures before { IfSome result (λ p. p.0.now ≡ before_last (parts_at cut) text.now) }
 {
     let end = end_of_word(cut, text);
     if end == 0 {
@@ -115,7 +117,7 @@ fn without_0x(word: &[u8]) -> &[u8]
 }
 
 /// A word without `0x` in front and a comma at its end.
-fn bare(word: &[u8]) -> &[u8]
+pub(crate) fn bare(word: &[u8]) -> &[u8]
     ensures value { result.now ≡ bare word.now }
     ensures short { length result.now ≤ length word.now }
 {
@@ -123,7 +125,7 @@ fn bare(word: &[u8]) -> &[u8]
 }
 
 /// A line without the byte order mark in front.
-fn without_mark(line: &[u8]) -> &[u8]
+pub(crate) fn without_mark(line: &[u8]) -> &[u8]
     ensures value { result.now ≡ without_mark line.now }
     ensures short { length result.now ≤ length line.now }
 {
@@ -171,7 +173,7 @@ fn is_taken(word: &[u8], count: usize, buffer: &mut [u8]) -> bool
 }
 
 /// Whether each character of a word is a digit.
-fn is_of_digits(word: &[u8]) -> bool
+pub(crate) fn is_of_digits(word: &[u8]) -> bool
     ensures { result ≡ list_all is_hex_digit word.now }
 {
     word.iter().all(|character| is_digit(*character))
@@ -194,60 +196,125 @@ fn take_word(word: &[u8], buffer: &mut [u8]) -> Result<usize, NoBytes>
     Ok(count / 2)
 }
 
-/// Writes what the last parts of a word say to the end of the buffer.
-fn take_parts(word: &[u8], buffer: &mut [u8]) -> Result<usize, NoBytes>
-    requires room { length word.now ≤ 2 * length buffer.old }
-    ensures digits { Says (part_digits (last_first is_joint word.now)) result buffer.new }
-    ensures room { length buffer.new ≡ length buffer.old }
+/// Whether groups may have so many digits: an even number, of at most 16.
+fn is_size(count: usize) -> bool
+    ensures { result ≡ is_size count }
 {
-    let Some((before, part)) = last_word(Cut::Joints, word) else {
-        return Err(NoBytes::NoDigits);
+    count > 0 && count <= 16 && count % 2 == 0
+}
+
+/// How many digits the groups at the end of a text have, before one of `count`.
+pub(crate) fn group_size(cut: Cut, count: usize, text: &[u8]) -> usize
+    requires size { is_size count ≡ true }
+    ensures value { result ≡ group_size count (last_first (parts_at cut) text.now) }
+    ensures size { is_size result ≡ true }
+{
+    let Some((_, word)) = last_word(cut, text) else {
+        return count;
     };
-    let part = bare(part);
-    if is_taken(part, 2, buffer) {
-        let end = buffer.len();
-        let start = take_words(Cut::Joints, 2, before, buffer, end - 1);
-        return Ok(end - start);
+    let size = bare(word).len();
+    if count <= size && is_size(size) {
+        size
+    } else {
+        count
     }
-    take_word(part, buffer)
 }
 
-/// Writes what the last words of a line say before a place of the buffer, as long as each has two digits, or each four, and
-/// says where it begins.
-fn take_equal(line: &[u8], buffer: &mut [u8], end: usize) -> usize
-    requires room { length line.now ≤ 2 * end }
-    requires within { end ≤ length buffer.old }
-    ensures before { result ≤ end }
-    ensures room { length buffer.new ≡ length buffer.old }
-    ensures bytes { (behind : List ℕ) → decode_of behind ≡ Ok (drop end buffer.old) → decode_of (run 4 (last_first is_blank line.now) ++ (run 2 (last_first is_blank line.now) ++ behind)) ≡ Ok (drop result buffer.new) }
+/// Whether a word is a group.
+pub(crate) fn is_group(word: &[u8]) -> bool
+    ensures { result ≡ is_group word.now }
 {
-    let pairs = take_words(Cut::Blanks, 2, line, buffer, end);
-    if pairs < end {
-        return pairs;
-    }
-    take_words(Cut::Blanks, 4, line, buffer, end)
+    is_size(word.len()) && is_of_digits(word)
 }
 
-/// Writes what the last words of a line say to the end of the buffer.
-fn take_last(line: &[u8], buffer: &mut [u8]) -> Result<usize, NoBytes>
-    requires room { length line.now ≤ 2 * length buffer.old }
-    ensures digits { Says (last_digits (last_first is_blank line.now)) result buffer.new }
+/// Writes what the last groups of a text say to the end of the buffer, or what its last word says.
+fn take_groups(cut: Cut, text: &[u8], buffer: &mut [u8]) -> Result<usize, NoBytes>
+    requires room { length text.now ≤ 2 * length buffer.old }
+    ensures digits { Says (groups (last_first (parts_at cut) text.now)) result buffer.new }
     ensures room { length buffer.new ≡ length buffer.old }
 {
-    let Some((before, word)) = last_word(Cut::Blanks, line) else {
+    let Some((before, word)) = last_word(cut, text) else {
         return Err(NoBytes::NoDigits);
     };
     let word = bare(word);
-    let end = buffer.len();
-    if is_taken(word, 4, buffer) {
-        let start = take_words(Cut::Blanks, 4, before, buffer, end - 2);
-        return Ok(end - start);
+    if !is_group(word) {
+        return take_word(word, buffer);
     }
-    if is_taken(word, 2, buffer) {
-        let start = take_equal(before, buffer, end - 1);
-        return Ok(end - start);
+    let count = word.len();
+    is_taken(word, count, buffer);
+    let size = group_size(cut, count, before);
+    let end = buffer.len();
+    let start = take_words(cut, size, before, buffer, end - count / 2);
+    Ok(end - start)
+}
+
+/// Whether these are digits enough for an item: the shortest messages have ten bytes.
+fn are_enough(taken: Result<usize, NoBytes>) -> bool
+    ensures { result ≡ says_enough taken }
+{
+    match taken {
+        Ok(count) => count >= 10,
+        Err(NoBytes::OddDigits(count)) => count >= 20,
+        Err(_) => false,
+    }
+}
+
+/// Writes what the digits of a word say to the end of the buffer.
+fn take_parts(word: &[u8], buffer: &mut [u8]) -> Result<usize, NoBytes>
+    requires room { length word.now ≤ 2 * length buffer.old }
+    ensures digits { Says (word_digits word.now) result buffer.new }
+    ensures room { length buffer.new ≡ length buffer.old }
+{
+    let last = take_groups(Cut::Joints, word, buffer);
+    if are_enough(last) {
+        return last;
+    }
+    let mut rest = word;
+    while let Some((before, _)) = last_word(Cut::Joints, rest) {
+        let taken = take_groups(Cut::Joints, before, buffer);
+        if are_enough(taken) {
+            return taken;
+        }
+        rest = before;
+    }
+    take_groups(Cut::Joints, word, buffer)
+}
+
+/// Writes what the digits at the end of a line say to the end of the buffer.
+fn take_end(line: &[u8], buffer: &mut [u8]) -> Result<usize, NoBytes>
+    requires room { length line.now ≤ 2 * length buffer.old }
+    ensures digits { Says (end_digits (last_first is_blank line.now)) result buffer.new }
+    ensures room { length buffer.new ≡ length buffer.old }
+{
+    let Some((_, word)) = last_word(Cut::Blanks, line) else {
+        return Err(NoBytes::NoDigits);
+    };
+    let word = bare(word);
+    if is_group(word) {
+        return take_groups(Cut::Blanks, line, buffer);
     }
     take_parts(word, buffer)
+}
+
+/// Writes what the digits of a line without a mark say to the end of the buffer.
+fn take_last(line: &[u8], buffer: &mut [u8]) -> Result<usize, NoBytes>
+    requires room { length line.now ≤ 2 * length buffer.old }
+    ensures digits { Says (found end_digits (last_first is_blank line.now)) result buffer.new }
+    ensures room { length buffer.new ≡ length buffer.old }
+{
+    let last = take_end(line, buffer);
+    if are_enough(last) {
+        return last;
+    }
+    let mut rest = line;
+    while let Some((before, _)) = last_word(Cut::Blanks, rest) {
+        let taken = take_end(before, buffer);
+        if are_enough(taken) {
+            return taken;
+        }
+        rest = before;
+    }
+    take_end(line, buffer)
 }
 
 /// The first character that is no blank.
@@ -270,9 +337,11 @@ fn is_empty(line: &[u8]) -> bool
 }
 
 /// Writes the bytes that the digits of a line say to the end of `buffer`, and says how many they are. The digits are those
-/// of the line's last words: pairs or fours of hexadecimal digits with blanks between, perhaps with `0x` in front and a
-/// comma after each; or one word, in which they are the last pairs with commas, dashes, colons or semicolons between, or
-/// what follows the last of these. A byte order mark, and what is in front of the digits, is passed over.
+/// at the line's end: its last words, where these are groups of hexadecimal digits with blanks between, perhaps with `0x`
+/// in front and a comma after each; else those at the end of the last word, groups with any characters between that are
+/// neither digits nor letters, or what follows the last of these. Groups have one even size of at most 16 digits; the last
+/// of them may be smaller. Where these are fewer than 20 digits, the part or word at the end is passed over, and then the
+/// next one, until there are 20. A byte order mark, and what is in front of the digits, is passed over.
 ///
 /// # Errors
 ///

@@ -1,44 +1,51 @@
-use Rattle.std.proofs.Common.{◌≡◌, ◌-◌, ◌∙◌, true, false, List, ℕ, Ok, length, drop, sym, ap, subst, arith}
-use Rattle.hex.specs.Hex.{decode_of}
+use Rattle.std.proofs.Common.{◌≡◌, ◌∙◌, true, List, ℕ, [], refl, sym, ap, subst, arith}
 use Rattle.etcs_runs.specs.Answers.{Says}
-use Rattle.etcs_runs.specs.Digits.{are_digits, bare, is_blank, is_joint, last_digits, last_first, part_digits}
-use Rattle.etcs_runs.proofs.Runs.{last_first-last, last_fours, last_pairs, last_one, says_bytes}
+use Rattle.etcs_runs.specs.Digits.{are_enough, bare, end_digits, is_blank, last_first, searched}
+use Rattle.etcs_runs.proofs.Runs.{enough_said, found_here, found_none, last_first-last, no_words, searched_next}
 use Rattle.etcs_runs.proofs.digits.take_last.Goals as goal
 
-pub returns-then-is_taken-clause-digits : goal.returns-then-is_taken-clause-digits
-returns-then-is_taken-clause-digits c =
-    let value = c.bare-word.ensures.value in
-    let word = c.in-Some.word.now in
-    let before = c.in-Some.before.now in
-    let short = c.in-Some.ensures.short in
-    let t = c.is_taken.ensures in
-    let e = c.take_words-start.ensures in
-    let four : are_digits 4 (bare word) ≡ true = sym (ap (are_digits 4) value) ∙ sym t.good ∙ c.if-is_taken.true in
-    let digits = ap last_digits (last_first-last is_blank c.args.line.now before word c.in-Some.ensures.some) ∙ last_fours (bare word) (last_first is_blank before) four in
-    let one : decode_of (bare word) ≡ Ok (drop (length c.args.buffer.now - 2) c.is_taken.new.buffer) = sym (ap decode_of value) ∙ t.bytes c.if-is_taken.true ∙ ap (λ (k : ℕ). Ok (drop (k - 2) c.is_taken.new.buffer)) t.room in
-    says_bytes (last_digits (last_first is_blank c.args.line.now)) c.take_words-start.new.buffer _ c.take_words-start.result (omega (arith, e.before, e.room, t.room, short.0, short.1, c.requires.room)) (omega (arith, e.room, t.room)) (ap decode_of digits ∙ e.bytes (bare word) one)
+pub returns-then-are_enough-clause-digits : goal.returns-then-are_enough-clause-digits
+returns-then-are_enough-clause-digits c =
+    let words = last_first is_blank c.args.line.now in
+    let says = c.take_end-last.ensures.digits in
+    let enough : are_enough (end_digits words) ≡ true = sym (enough_said _ _ _ says) ∙ sym c.are_enough.ensures ∙ c.if-are_enough.true in
+    subst (λ (z : List ℕ). Says z c.take_end-last.result c.take_end-last.new.buffer) (sym (found_here end_digits refl words words refl enough)) says
 
-pub returns-then-is_taken-2-clause-digits : goal.returns-then-is_taken-2-clause-digits
-returns-then-is_taken-2-clause-digits c =
-    let value = c.bare-word.ensures.value in
-    let word = c.in-Some.word.now in
+pub loop-before-init : goal.loop-before-init
+loop-before-init c = record {
+  short = omega arith;
+  same = c.take_end-last.ensures.room;
+  passed = refl;
+  few = sym (enough_said _ _ _ c.take_end-last.ensures.digits) ∙ sym c.are_enough.ensures ∙ c.if-are_enough.false;
+}
+
+pub loop-before-preserved : goal.loop-before-preserved
+loop-before-preserved c =
+    let i = c.loop-before.invariant in
     let before = c.in-Some.before.now in
-    let short = c.in-Some.ensures.short in
-    let t = c.is_taken-2.ensures in
-    let e = c.take_equal-start.ensures in
-    let same : length c.is_taken-2.new.buffer ≡ length c.args.buffer.now = t.room ∙ c.is_taken.ensures.room in
-    let four : are_digits 4 (bare word) ≡ false = sym (ap (are_digits 4) value) ∙ sym c.is_taken.ensures.good ∙ c.if-is_taken.false in
-    let two : are_digits 2 (bare word) ≡ true = sym (ap (are_digits 2) value) ∙ sym t.good ∙ c.if-is_taken-2.true in
-    let digits = ap last_digits (last_first-last is_blank c.args.line.now before word c.in-Some.ensures.some) ∙ last_pairs (bare word) (last_first is_blank before) four two in
-    let one : decode_of (bare word) ≡ Ok (drop (length c.args.buffer.now - 1) c.is_taken-2.new.buffer) = sym (ap decode_of value) ∙ t.bytes c.if-is_taken-2.true ∙ ap (λ (k : ℕ). Ok (drop (k - 1) c.is_taken-2.new.buffer)) same in
-    says_bytes (last_digits (last_first is_blank c.args.line.now)) c.take_equal-start.new.buffer _ c.take_equal-start.result (omega (arith, e.before, e.room, same, short.0, short.1, c.requires.room)) (omega (arith, e.room, same)) (ap decode_of digits ∙ e.bytes (bare word) one)
+    let word = c.in-Some.field-0-1.now in
+    let more = last_first-last is_blank c.loop-before.rest.now before word c.in-Some.ensures.some in
+    let next = searched_next end_digits refl (last_first is_blank c.loop-before.rest.now) (bare word) (last_first is_blank before) more i.few in
+    record {
+      short = omega (arith, c.in-Some.ensures.short.1, i.short);
+      same = c.take_end-taken.ensures.room ∙ i.same;
+      passed = i.passed ∙ next;
+      few = sym (enough_said _ _ _ c.take_end-taken.ensures.digits) ∙ sym c.are_enough-in-Some.ensures ∙ c.if-are_enough-2.false;
+    }
+
+pub returns-then-are_enough-2-clause-digits : goal.returns-then-are_enough-2-clause-digits
+returns-then-are_enough-2-clause-digits c =
+    let i = c.loop-before.invariant in
+    let before = c.in-Some.before.now in
+    let word = c.in-Some.field-0-1.now in
+    let more = last_first-last is_blank c.loop-before.rest.now before word c.in-Some.ensures.some in
+    let next = searched_next end_digits refl (last_first is_blank c.loop-before.rest.now) (bare word) (last_first is_blank before) more i.few in
+    let says = c.take_end-taken.ensures.digits in
+    let enough : are_enough (end_digits (last_first is_blank before)) ≡ true = sym (enough_said _ _ _ says) ∙ sym c.are_enough-in-Some.ensures ∙ c.if-are_enough-2.true in
+    subst (λ (z : List ℕ). Says z c.take_end-taken.result c.take_end-taken.new.buffer) (sym (found_here end_digits refl (last_first is_blank c.args.line.now) (last_first is_blank before) (i.passed ∙ next) enough)) says
 
 pub returns-clause-digits : goal.returns-clause-digits
 returns-clause-digits c =
-    let value = c.bare-word.ensures.value in
-    let word = c.in-Some.word.now in
-    let before = c.in-Some.before.now in
-    let four : are_digits 4 (bare word) ≡ false = sym (ap (are_digits 4) value) ∙ sym c.is_taken.ensures.good ∙ c.if-is_taken.false in
-    let two : are_digits 2 (bare word) ≡ false = sym (ap (are_digits 2) value) ∙ sym c.is_taken-2.ensures.good ∙ c.if-is_taken-2.false in
-    let digits = ap last_digits (last_first-last is_blank c.args.line.now before word c.in-Some.ensures.some) ∙ last_one (bare word) (last_first is_blank before) four two in
-    subst (λ (z : List ℕ). Says z c.take_parts.result c.take_parts.new.buffer) (sym digits) (subst (λ (p : List ℕ). Says (part_digits (last_first is_joint p)) c.take_parts.result c.take_parts.new.buffer) value c.take_parts.ensures.digits)
+    let none : last_first is_blank c.loop-before.rest.now ≡ [] = no_words is_blank c.loop-before.rest.now (c.in_default.ensures.none refl) in
+    let all : searched end_digits (last_first is_blank c.args.line.now) ≡ [] = c.loop-before.invariant.passed ∙ ap (searched end_digits) none in
+    subst (λ (z : List ℕ). Says z c.take_end.result c.take_end.new.buffer) (sym (found_none end_digits refl (last_first is_blank c.args.line.now) all)) c.take_end.ensures.digits

@@ -89,7 +89,7 @@ place Json number line = codes "line " ++ decimal line ++ codes ": "
 -- what a page has before it, of an item and of what is none
 abbrev pub opening : Layout → Bool → List ℕ
 opening Text is_item = []
-opening Html true = codes "<section><h2>"
+opening Html true = codes "<details class=item><summary><h2>"
 opening Html false = codes "<p class=no>"
 
 -- the text begins with its place; what it says after that is open

@@ -18,7 +18,7 @@ ghost use Rattle.etcs_explain.specs.Stands.{AddsOne, IsAfter, ItemPart, TookSome
 use crate::json::write_no_item;
 use crate::seen::Seen;
 use crate::task::Task;
-use crate::titles::{wanted, write_title};
+use crate::titles::{wanted, write_heading, write_title};
 use etcs_json::{JsonFault, from_line};
 use etcs_reasons::inner::{
     FOOT, HEAD, MOST_BYTES, Sheet, way_of, write_bytes, write_cause, write_no_bytes, write_table,
@@ -43,7 +43,7 @@ fn opening(layout: Layout, is_item: bool) -> &'static str
 {
     match (layout, is_item) {
         (Layout::Text, _) => "",
-        (Layout::Html, true) => "<section><h2>",
+        (Layout::Html, true) => "<details class=item><summary><h2>",
         (Layout::Html, false) => "<p class=no>",
     }
 }
@@ -177,7 +177,10 @@ impl Explainer {
     {
         self.clear();
         let Task { kind, layout, .. } = self.task;
-        write_title(kind, bytes, account.end, &mut self.sheet.meaning);
+        match layout {
+            Layout::Text => write_title(kind, bytes, account.end, &mut self.sheet.meaning),
+            Layout::Html => write_heading(kind, bytes, account, &mut self.sheet.meaning),
+        }
         self.sheet.open_item();
         if layout == Layout::Html {
             write_bytes(bytes, account.end, &mut self.sheet.out);

@@ -3,7 +3,9 @@
 use crate::no_json::{MOST_JSON, write_no_json};
 use crate::quoted::{Quoted, is_word};
 use etcs_json::{JsonFault, from_line};
-use etcs_reasons::inner::{Text, low_byte, user_bits, way_of, write_not_admitted};
+use etcs_reasons::inner::{
+    Text, is_or_are, low_byte, user_bits, way_of, write_bits, write_not_admitted,
+};
 use etcs_rows::Place;
 use etcs_tables::{
     CLOSING, CLOSING_BITS, MARKER_BITS, Row, RowItem, Way, frame_bits, head_row, header_row,
@@ -19,6 +21,9 @@ use std::fmt;
 macro_rules! wrong {
     ($part:expr, $out:ident; $($text:tt)*) => {{
         $part.write_path($out);
+        wrong!($out; $($text)*);
+    }};
+    ($out:ident; $($text:tt)*) => {{
         write!($out, $($text)*);
         return None;
     }};
@@ -154,7 +159,10 @@ impl<'a> Part<'a> {
             "lengthen"
         };
         let by = count.max(wanted).saturating_sub(count.min(wanted));
-        wrong!(self, out; "{count} bits, and {wanted} are left: {what} it by {by}")
+        self.write_path(out);
+        write_bits(count, out);
+        let are = is_or_are(wanted);
+        wrong!(out; ", and {wanted} {are} left: {what} it by {by}")
     }
 
     /// The number of a variable, where the pair of this path has this value.
@@ -337,7 +345,9 @@ impl<'a> Part<'a> {
         let member = self.member("data", out)?;
         let count = member.bits(out)?;
         if count % 8 != 6 || count > 8166 {
-            wrong!(member, out; "{count} bits, and with the 18 before it a message has 3 to 1,023 whole bytes");
+            member.write_path(out);
+            write_bits(count, out);
+            wrong!(out; ", and with the 18 before it a message has 3 to 1,023 whole bytes");
         }
         Some(())
     }

@@ -2,9 +2,10 @@
 //! bytes, and what items of a kind have.
 
 pub use crate::account::MOST_BYTES;
-pub use crate::kinds::{user_bits, wanted_bytes, way_of};
+pub use crate::kinds::{user_bits, wanted_bytes, way_of, way_of_message};
+pub use crate::names::message_name;
 pub use crate::no_bytes::write_no_bytes;
-pub use crate::numbers::{low_byte, write_count_of};
+pub use crate::numbers::{is_or_are, low_byte, write_bits, write_count_of};
 pub use crate::page::{FOOT, HEAD, write_bytes};
 pub use crate::reasons::write_not_admitted;
 pub use crate::refusal::write_cause;

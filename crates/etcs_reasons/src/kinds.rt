@@ -13,6 +13,15 @@ pub fn way_of(kind: Kind) -> Way {
     }
 }
 
+/// The way of messages of this number, typed or not, where it is known (SUBSET-026, 8.5).
+pub fn way_of_message(number: u8) -> Option<Way> {
+    match number {
+        2..=45 => Some(Way::ToTrain),
+        129..=159 => Some(Way::ToTrack),
+        _ => None,
+    }
+}
+
 /// How many bits items of a kind have before PAD: 0 where L_MESSAGE says it.
 pub fn user_bits(kind: Kind) -> usize {
     match kind {

@@ -39,7 +39,7 @@ pub(crate) static TO_TRACK: &[(u8, &str)] = &[
 
 /// Of messages of both ways: each number is of one.
 #[rattlefmt::skip]
-pub(crate) static MESSAGES: &[(u8, &str)] = &[
+static MESSAGES: &[(u8, &str)] = &[
     (2, "SR Authorisation"), (3, "Movement Authority"), (6, "Recognition of exit from TRIP mode"),
     (8, "Acknowledgement of Train Data"), (9, "Request to Shorten MA"), (15, "Conditional Emergency Stop"),
     (16, "Unconditional Emergency Stop"), (18, "Revocation of Emergency Stop"), (24, "General message"),
@@ -59,4 +59,9 @@ pub(crate) static MESSAGES: &[(u8, &str)] = &[
 pub(crate) fn name_in(names: &'static [(u8, &'static str)], number: u64) -> Option<&'static str> {
     let name = names.iter().find(|name| u64::from(name.0) == number)?;
     Some(name.1)
+}
+
+/// The name of the message of this number.
+pub fn message_name(number: u64) -> Option<&'static str> {
+    name_in(MESSAGES, number)
 }

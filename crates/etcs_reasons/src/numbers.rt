@@ -17,7 +17,12 @@ pub fn write_count_of(count: usize, name: &str, out: &mut String) -> Result<(), 
     write!(out, "{count} {name}{}", if count == 1 { "" } else { "s" })
 }
 
+/// The verb of a count.
+pub fn is_or_are(count: usize) -> &'static str {
+    if count == 1 { "is" } else { "are" }
+}
+
 /// Appends a count of bits.
-pub(crate) fn write_bits(count: usize, out: &mut Text) {
+pub fn write_bits(count: usize, out: &mut Text) {
     write!(out, "{count} bit{}", if count == 1 { "" } else { "s" })
 }

@@ -9,10 +9,11 @@ ghost use Rattle.etcs_text.specs.Entries.{EntryReads};
 
 use crate::account::{Account, End};
 use crate::front::Front;
-use crate::kinds::{wanted_bytes, way_of};
+use crate::kinds::{wanted_bytes, way_of, way_of_message};
+use crate::numbers::is_or_are;
 use crate::reasons::{often, write_reason};
 use crate::text::Text;
-use etcs_tables::message_row;
+use etcs_tables::{Way, message_row};
 use etcs_text::Kind;
 use etcs_vars::Var;
 use std::alloc::{AllocError, Global};
@@ -60,7 +61,18 @@ fn advice(alloc: Global, kind: Kind, bytes: &[u8]) -> Result<Option<&'static str
     Ok(None)
 }
 
-/// Appends why the bytes of an account are no item, and answers what this most often comes of. Nothing where they are one.
+/// What a message is whose number is of the other way, and which is kept as bits.
+fn other_way(kind: Kind, bytes: &[u8]) -> Option<&'static str> {
+    let way = way_of_message(bytes.first().copied()?)?;
+    match (kind, way) {
+        (Kind::Radio, Way::ToTrack) => Some("a message to the track: --kind train"),
+        (Kind::Train, Way::ToTrain) => Some("a message to the train: --kind radio"),
+        _ => None,
+    }
+}
+
+/// Appends why the bytes of an account are no item, and answers what this most often comes of. Of an item nothing is
+/// appended, and the answer is what it most often is where it is kept as bits.
 ///
 /// # Errors
 ///
@@ -72,13 +84,14 @@ pub fn write_cause(
     out: &mut Text,
 ) -> Result<Option<&'static str>, AllocError> {
     let usual = match account.end {
-        End::Whole => return Ok(None),
+        End::Whole => return Ok(other_way(kind, bytes)),
         End::Open(_) => {
             let count = bytes.len();
             match wanted_bytes(kind, bytes) {
-                Some(wanted) => write!(out, "{count} of {wanted} bytes are here"),
-                None => write!(out, "{count} of at least 3 bytes are here"),
+                Some(wanted) => write!(out, "{count} of {wanted} bytes"),
+                None => write!(out, "{count} of at least 3 bytes"),
             }
+            write!(out, " {} here", is_or_are(count));
             None
         }
         End::Refused(_, part) => {

@@ -91,12 +91,12 @@ impl Sheet {
                 .push("\n  bits        variable              number  meaning\n"),
             Layout::Html => {
                 write!(self.out, " <a id=item{item} href=#item{item}>");
-                self.out.push("#</a></h2>\n");
+                self.out.push("#</a></h2></summary><noscript>\n");
             }
         }
     }
 
-    /// Begins the lines in front of the packets, which have a title in pages alone.
+    /// Begins the lines before or after the packets, which have a title in pages alone.
     pub(crate) fn open_header(&mut self, title: &'static str) {
         if self.layout == Layout::Html {
             self.meaning.push(title);
@@ -106,14 +106,10 @@ impl Sheet {
 
     /// Begins a run of lines, whose title is the meaning.
     pub(crate) fn open_part(&mut self) {
-        self.put("  ", "<details open><summary>");
+        self.put("  ", "<details class=part open><summary><h3>");
         self.put_meaning();
-        self.put("\n", "</summary><table><caption>");
-        if self.layout == Layout::Html {
-            self.put_meaning();
-            self.out.push("</caption>");
-            self.out.push(COLUMNS);
-        }
+        self.put("\n", "</h3></summary><table>");
+        self.put("", COLUMNS);
     }
 
     /// Ends a run of lines.
@@ -161,11 +157,8 @@ impl Sheet {
             }
         } else {
             let class = if refused { " class=no" } else { "" };
-            write!(
-                self.out,
-                "<tr{class} data-a={first} data-b={last}><td>{bits}"
-            );
-            write!(self.out, "<td class=d{depth}>{name}<td>{value}<td>");
+            write!(self.out, "<tr{class}><td>{bits}<td class=d{depth}>{name}");
+            write!(self.out, "<td>{value}<td>");
         }
         self.put_meaning();
         self.out.push("\n");
@@ -173,16 +166,18 @@ impl Sheet {
 
     /// Ends the table of an item, with the reason that the meaning has, if it has one, and what it often comes of.
     pub fn close_item(&mut self, often: Option<&'static str>) {
+        self.put("", "</div></div></noscript>");
         if !self.meaning.as_str().is_empty() {
             self.put("  Why: ", "<p class=no>Why: ");
             self.put_meaning();
-            if let Some(often) = often {
-                self.put(".\n  Often: ", ".<p>Often: ");
-                self.out.push(often);
-            }
             self.out.push(".\n");
         }
-        self.put("", "</div></div></section>\n");
+        if let Some(often) = often {
+            self.put("  Often: ", "<p>Often: ");
+            self.out.push(often);
+            self.out.push(".\n");
+        }
+        self.put("", "</details>\n");
     }
 
     /// Writes the meaning as the rest of the line of what is no item.

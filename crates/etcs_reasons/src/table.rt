@@ -2,7 +2,7 @@
 
 use crate::account::{Account, End};
 use crate::meanings::write_meaning;
-use crate::names::{MESSAGES, TO_TRACK, TO_TRAIN, name_in};
+use crate::names::{TO_TRACK, TO_TRAIN, message_name, name_in};
 use crate::numbers::{low_byte, write_bits};
 use crate::sheet::Sheet;
 use crate::text::Text;
@@ -29,6 +29,11 @@ pub(crate) struct Table<'a> {
 /// Whether each bit is a variable of its own, of which one line speaks.
 fn is_kept(var: Var) -> bool {
     matches!(var, Var::FILL | Var::OTHER_DATA | Var::PADDING | Var::PAD)
+}
+
+/// Whether a variable fills up an item, after its packets.
+fn is_padding(var: Var) -> bool {
+    matches!(var, Var::FILL | Var::PADDING | Var::PAD)
 }
 
 /// What the variables in front of the packets are, of an item that begins with this variable.
@@ -141,7 +146,7 @@ impl<'a> Table<'a> {
         match (var, behind) {
             (Var::L_PACKET, _) => write_end("packet", self.start, number, out),
             (Var::L_MESSAGE, _) => write_end("message", 0, number.saturating_mul(8), out),
-            (Var::NID_MESSAGE, _) => out.push(name_in(MESSAGES, number).unwrap_or("")),
+            (Var::NID_MESSAGE, _) => out.push(message_name(number).unwrap_or("")),
             (Var::L_TEXT, _) => out.push("characters that follow"),
             (_, Some(RowItem::Many(_))) => match number {
                 0 => out.push("no entry follows"),
@@ -237,8 +242,23 @@ impl<'a> Table<'a> {
         }
     }
 
+    /// Begins the lines after the packets where the variable that comes next is the first of them.
+    fn open_padding(&mut self) {
+        let before = self.at.saturating_sub(1);
+        let is_begun = match self.account.fields.get(before) {
+            Some((var, _)) => is_padding(*var),
+            None => false,
+        };
+        if !is_begun && self.next().is_some_and(is_padding) {
+            self.sheet.close_part();
+            self.sheet.clear();
+            self.sheet.open_header("padding");
+        }
+    }
+
     /// Writes the line of a run of kept bits.
     fn run(&mut self, var: Var) {
+        self.open_padding();
         self.sheet.clear();
         let meaning = &mut self.sheet.meaning;
         let mut count = 0usize;
@@ -268,6 +288,7 @@ impl<'a> Table<'a> {
     /// Writes the line of the variable that isn't whole, if there is one: its number where the bytes have all of it, else
     /// how many bits they have.
     fn unfinished(&mut self) {
+        self.open_padding();
         self.sheet.clear();
         let out = &mut self.sheet.meaning;
         let (var, refused) = match self.account.end {

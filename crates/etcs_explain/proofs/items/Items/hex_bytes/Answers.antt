@@ -44,6 +44,13 @@ returns-in-Err-NoDigits-clause-err c all long told h =
     let e = hex_bad s.line c.args.line.now c.line_bytes.new.buffer NoDigits c.line_bytes.result (c.in-Err-NoDigits.is ∙ ap Err c.in-Err-NoDigits.field-0-is) (λ x. cc) c.line_bytes.ensures.empty c.line_bytes.ensures.digits in
     subst (λ (z : List Token). OnErr c.bad_hex.result (TookSome HEAD.now s.explainer.task (all ++ z) long (told ++ c.bad_hex.new.text.items))) (sym e) (c.bad_hex.ensures.err all long told h)
 
+pub returns-in-Err-OddDigits-clause-ok : goal.returns-in-Err-OddDigits-clause-ok
+returns-in-Err-OddDigits-clause-ok c all long told h =
+    let s = c.args.self.now in
+    let q = c.bad_hex-in-Err-OddDigits.new.self in
+    let e = hex_bad s.line c.args.line.now c.line_bytes.new.buffer (OddDigits c.in-Err-OddDigits.count) c.line_bytes.result (c.in-Err-OddDigits.is ∙ ap Err c.in-Err-OddDigits.field-0-is) (λ x. cc) c.line_bytes.ensures.empty c.line_bytes.ensures.digits in
+    subst (λ (z : List Token). OnOk c.bad_hex-in-Err-OddDigits.result (Took HEAD.now s.explainer.task q.lines.items q.held.items q.explainer.seen (all ++ z) long (told ++ c.bad_hex-in-Err-OddDigits.new.text.items))) (sym e) (c.bad_hex-in-Err-OddDigits.ensures.ok all long told h)
+
 pub returns-in-Err-OddDigits-clause-err : goal.returns-in-Err-OddDigits-clause-err
 returns-in-Err-OddDigits-clause-err c all long told h =
     let s = c.args.self.now in

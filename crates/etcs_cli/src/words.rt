@@ -9,7 +9,7 @@ use clap::builder::ValueParser;
 use clap::error::ErrorKind;
 use clap::{Arg, ArgAction, ArgMatches, Command as Line, Error};
 use etcs_explain::{Layout, Task, explain};
-use etcs_log::{LogJob, LogTally, run_log};
+use etcs_log::{Good, Kinds, LogJob, LogTally, run_log};
 use etcs_stream::{
     Command, Form, Input, Job, Kind, Output, RunFault, Sink, Tally, run, write_fault,
 };
@@ -32,18 +32,31 @@ static KINDS: [&str; 4] = ["long", "short", "radio", "train"];
 static KINDS_HELP: &str =
     "Balise telegrams of 830 user bits (long) or of 210 (short), or radio messages to the train (radio) or to the track (train)";
 
+/// What help says of those of a log.
+static LOG_KINDS_HELP: &str =
+    "Balise telegrams of 830 user bits (long) or of 210 (short), or radio messages to the train (radio) or to the track (train); several times, or with commas, where a log has several";
+
 /// What it takes for the telegrams of a group.
 static GROUP_KINDS: [&str; 2] = ["long", "short"];
 
 /// What help says of them.
 static GROUP_KINDS_HELP: &str = "Balise telegrams of 830 user bits (long) or of 210 (short)";
 
-/// What help says of `--good` and `--summary`.
+/// What `--to` of `log` takes.
+static LOG_FORMS: [&str; 2] = ["hex", "json"];
+
+/// What help says of it, of `--good` and of `--summary`.
+static LOG_TO_HELP: &str =
+    "Write the good lines, as digits (hex, the same as --good) or as a line of JSON each (json): the line's number, what is before its digits, and its item";
+
 static GOOD_HELP: &str =
-    "Write the good lines' digits, and what is said of bad lines to standard error";
+    "Write the good lines' digits, of several kinds with the kind before them, and what is said of other lines to standard error";
 
 static SUMMARY_HELP: &str =
-    "Count items, bad lines, packets and messages by number and refusals by variable";
+    "Count items, bad lines, lines of other kinds, messages kept as bits, packets and messages by number and refusals by variable";
+
+static LOG_GROUPS_HELP: &str =
+    "Write at the end a line for each balise group, in the order in which they began: complete, missing which N_PIG, or empty, and how many telegrams clash";
 
 /// What `--from` and `--to` take.
 static FORMS: [&str; 3] = ["hex", "bin", "json"];
@@ -289,10 +302,10 @@ static SUBCOMMANDS: [Words; 6] = [
         name: "log",
         about: "Read a log, an item a line, and say of each line that is no item why",
         after: after_help!(
-            "An item is the hexadecimal digits at a line's end, with blanks, tabs, commas, colons,\ndashes or 0x between them or none. Blank lines and lines that begin with # are passed over.",
+            "An item is the hexadecimal digits of a line, in groups of one size with blanks, tabs, 0x or other\ncharacters than letters between them, or none. Text before and after them is passed over, and so are\nblank lines and lines that begin with #. A line with the number of bytes of another kind isn't bad.",
             "The run continues after a bad line, to the end of the input.",
             "a line is bad",
-            "log --kind short --good < balises.log | etcs group --kind short"
+            "log --kind short,long --to json < balises.log"
         ),
     },
     Words {
@@ -331,7 +344,9 @@ fn subcommand<'a>(alloc: Global, words: &Words) -> Result<Line<'a>, AllocError> 
     match words.name {
         "log" => line
             .arg(flag(alloc, "good", GOOD_HELP))?
-            .arg(flag(alloc, "summary", SUMMARY_HELP)),
+            .arg(log_to_option(alloc)?)?
+            .arg(flag(alloc, "summary", SUMMARY_HELP))?
+            .arg(flag(alloc, "groups", LOG_GROUPS_HELP)),
         "convert" => line.arg(from_option(alloc))?.arg(to_option(alloc)),
         "explain" => line.arg(from_option(alloc))?.arg(layout_option(alloc)),
         _ => line.arg(from_option(alloc)),
@@ -364,6 +379,9 @@ fn choice<'a>(
 /// `--kind` of a subcommand, which has no default.
 fn kind_option<'a>(alloc: Global, subcommand: &str) -> Arg<'a> {
     let kind = match subcommand {
+        "log" => choice(alloc, "kind", "KIND", &KINDS, LOG_KINDS_HELP)
+            .action(ArgAction::Append)
+            .value_delimiter(','),
         "group" => choice(alloc, "kind", "KIND", &GROUP_KINDS, GROUP_KINDS_HELP),
         _ => choice(alloc, "kind", "KIND", &KINDS, KINDS_HELP),
     };
@@ -378,6 +396,11 @@ fn from_option<'a>(alloc: Global) -> Arg<'a> {
 /// `--to`, which has no default.
 fn to_option<'a>(alloc: Global) -> Arg<'a> {
     choice(alloc, "to", "FORM", &FORMS, TO_HELP).required(true)
+}
+
+/// `--to` of `log`, which has no default.
+fn log_to_option<'a>(alloc: Global) -> Result<Arg<'a>, AllocError> {
+    choice(alloc, "to", "FORM", &LOG_FORMS, LOG_TO_HELP).conflicts_with("good")
 }
 
 /// `--to` of `explain`, whose default is text.
@@ -414,10 +437,22 @@ fn asked(matches: &ArgMatches) -> Option<Parsed>
 /// The log that the options name.
 fn log_of(options: &ArgMatches) -> Option<LogJob> {
     Some(LogJob {
-        kind: kind_of(options.get_str("kind")?)?,
-        good: options.get_flag("good"),
+        kinds: kinds_of(options.get_strs("kind")?)?,
+        good: good_of(options)?,
         summary: options.get_flag("summary"),
+        groups: options.get_flag("groups"),
     })
+}
+
+/// What the options ask of good lines.
+fn good_of(options: &ArgMatches) -> Option<Good> {
+    match options.get_str("to") {
+        Some("hex") => Some(Good::Digits),
+        Some("json") => Some(Good::Json),
+        Some(_) => None,
+        None if options.get_flag("good") => Some(Good::Digits),
+        None => Some(Good::Left),
+    }
 }
 
 /// The job that a subcommand names with its options. Messages aren't grouped.
@@ -465,6 +500,20 @@ fn kind_of(name: &str) -> Option<Kind> {
         "train" => Some(Kind::Train),
         _ => None,
     }
+}
+
+/// The kinds of these names.
+fn kinds_of(names: &[&str]) -> Option<Kinds> {
+    let mut kinds = Kinds {
+        long: false,
+        short: false,
+        radio: false,
+        train: false,
+    };
+    for name in names {
+        kinds = kinds.with(kind_of(name)?);
+    }
+    Some(kinds)
 }
 
 /// The form of that name.

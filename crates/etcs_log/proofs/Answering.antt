@@ -1,43 +1,107 @@
 -- What is said of a line, by what its digits say.
-use Rattle.std.proofs.Common.{◌≡◌, ℕ, ◌+◌, ◌-◌, ◌≤◌, ◌%◌, Bool, true, false, IsTrue, List, [], ◌∷◌, ◌++◌, length, take, drop, Result, Ok, Err, inl, inr, refl, sym, ap, subst, ◌∙◌, arith}
-use Rattle.std.proofs.lemmas.List.{append-nil, length-drop}
+use Rattle.std.proofs.Common.{◌≡◌, ℕ, ◌+◌, ◌-◌, ◌*◌, ◌≤◌, ◌%◌, ◌==◌, Bool, true, false, ◌&&◌, ◌||◌, cond, IsTrue, List, [], ◌∷◌, ◌++◌, length, take, drop, Result, Ok, Err, inl, inr, refl, sym, ap, subst, ◌∙◌, arith}
+use Rattle.std.proofs.lemmas.List.{append-nil, length-drop, map-append}
 use Rattle.std.proofs.Math.Seq.{take-length}
-use Rattle.std.specs.Prelude.{◌⊎◌, OnOk}
+use Rattle.std.specs.Prelude.{◌⊎◌, IfOk, OnOk, not}
 use Rattle.etcs_text.specs.declared.entry.Entry.{Entry}
+use Rattle.etcs_text.specs.declared.entry.Entry.TheVariants.{Telegram}
+use Rattle.etcs_text.specs.declared.entry.Kind.{Kind}
+use Rattle.etcs_text.specs.declared.entry.Kind.TheVariants.{Long, Short, Radio, Train}
 use Rattle.etcs_text.specs.declared.verdict.Verdict.{Verdict}
 use Rattle.etcs_text.specs.declared.verdict.Verdict.TheVariants.{Item, Refused, TooShort, TooLong}
 use Rattle.hex.specs.Hex.{decode_of, encode_upper}
 use Rattle.hex.proofs.HexLemmas.{decode_of-odd, decode_of-ok, decode_of-same}
 use Rattle.etcs_bits.specs.Bits.{bits}
+use Rattle.etcs_bits.proofs.Positions.{length-bits}
+use Rattle.etcs_vars.specs.Reading.{spelled}
+use Rattle.etcs_vars.specs.declared.var.Var.{Var}
+use Rattle.etcs_telegram.specs.declared.size.Size.{Size}
+use Rattle.etcs_telegram.specs.declared.size.Size.TheVariants as size
+use Rattle.etcs_telegram.specs.Telegrams.{TelegramContent, TelegramValue, telegram_value, user_bits, pad_bits}
+use Rattle.etcs_telegram.proofs.Spellings.{whole_length}
 use Rattle.etcs_runs.specs.Answers.{Says}
-use Rattle.etcs_runs.specs.Digits.{is_passed_over, line_digits}
+use Rattle.etcs_runs.specs.Digits.{is_passed_over, line_digits, line_front}
 use Rattle.etcs_runs.specs.declared.digits.NoBytes.{NoBytes}
 use Rattle.etcs_runs.specs.declared.digits.NoBytes.TheVariants.{Empty, NoDigits, OddDigits}
-use Rattle.etcs_text.specs.declared.entry.Kind.{Kind}
-use Rattle.etcs_text.specs.Entries.{EntryValue, entry_value}
+use Rattle.etcs_group.specs.declared.groups.Group.{Group}
+use Rattle.etcs_group.specs.GroupLines.{AreGroupLines}
+use Rattle.etcs_group.specs.ManyGroups.{AreGroupsOf}
+use Rattle.etcs_text.specs.Entries.{EntryValue, entry_value, kind_of}
 use Rattle.etcs_text.specs.Encodings.{IsEncoded}
-use Rattle.etcs_text.proofs.ItemKinds.{item_bits}
+use Rattle.etcs_text.specs.Verdicts.{IsItem, IsVerdict}
+use Rattle.etcs_text.proofs.ItemKinds.{item_bits, same_telegrams}
+use Rattle.etcs_log.specs.declared.job.Good.{Good}
+use Rattle.etcs_log.specs.declared.job.Good.TheVariants.{Left, Digits, Json}
 use Rattle.etcs_log.specs.declared.job.LogJob.{LogJob}
 use Rattle.etcs_log.specs.declared.job.LogTally.{LogTally}
-use Rattle.etcs_text.specs.Verdicts.{IsItem, IsVerdict}
-use Rattle.etcs_log.specs.Logs.{Answer, passed, item, bad, IsItemLine, IsAnswer, IsBytesAnswer, IsNote, Answered, BytesAnswered, Counted, CountsText, counts_front}
+use Rattle.etcs_log.specs.declared.kinds.Kinds.{Kinds}
+use Rattle.etcs_log.specs.BitDigits.{are_bits, packed}
+use Rattle.etcs_log.specs.Candidates.{AreNone, Candidate, IsFirst, candidates, contains, is_asked, is_other, is_wanted, last_bytes, last_candidate, last_candidates, may_have, message_candidate, message_way, named, telegram_bytes, where_asked, whole_bytes, whole_candidate, whole_candidates}
+use Rattle.etcs_log.specs.Logs.{Answer, passed, item, other, bad, GoodText, IsAnswer, IsBytesAnswer, IsNote, other_note, Answered, BytesAnswered, Counted, CountsText, Grouped, GroupsText, Noted, Tried, counts_front, is_written, telegrams_in}
+use Rattle.etcs_log.specs.declared.seen.Seen.{Seen}
+use Rattle.etcs_log.specs.JsonLines.{IsJsonItem}
+use Rattle.etcs_log.specs.LogGroups.{AreGroups, Holds, telegram_of}
 
 read_by : (b : Bool) (r : Result ℕ NoBytes) → (IsTrue b → r ≡ Err Empty) → (r ≡ Err Empty → ⊥) → b ≡ false
-read_by true r f other = absurd (other (f refl))
-read_by false r f other = refl
+read_by true r f differs = absurd (differs (f refl))
+read_by false r f differs = refl
 
 -- a line isn't passed over where another answer came
 pub is_read : (line : List ℕ) (r : Result ℕ NoBytes) → (IsTrue (is_passed_over line) → r ≡ Err Empty) → (r ≡ Err Empty → ⊥) → is_passed_over line ≡ false
-is_read line r f other = read_by (is_passed_over line) r f other
+is_read line r f differs = read_by (is_passed_over line) r f differs
 
-none_said : (kind : Kind) (line : List ℕ) → ((bytes : List ℕ) → decode_of (line_digits line) ≡ Ok bytes → (e : EntryValue) → IsItem kind bytes e → ⊥) → (e : EntryValue) → IsItemLine kind line e → ⊥
-none_said kind line f e (bytes, says, is) = f bytes says.digits e is
+-- ---- What no bytes are.
 
 no_bytes : (kind : Kind) (e : EntryValue) → IsItem kind [] e → ⊥
 unfolding bits
 no_bytes kind e (r, reads, is) =
     let none : length (bits []) ≡ 0 = refl in
     omega (arith, item_bits kind r (e, reads), ap length is, none)
+
+whole_none : (kind : Kind) → whole_bytes kind [] ≡ []
+whole_none Long = refl
+whole_none Short = refl
+whole_none Radio = refl
+whole_none Train = refl
+
+last_none : (kind : Kind) → last_bytes kind [] ≡ []
+last_none Long = refl
+last_none Short = refl
+last_none Radio = refl
+last_none Train = refl
+
+none_of : (kind : Kind) (bytes : List ℕ) → bytes ≡ [] → (e : EntryValue) → IsItem kind bytes e → ⊥
+none_of kind bytes none e is = no_bytes kind e (subst (λ (z : List ℕ). IsItem kind z e) none is)
+
+none_asked : (asked : Bool) (kind : Kind) (bytes : List ℕ) → ((e : EntryValue) → IsItem kind bytes e → ⊥) → AreNone (where_asked asked kind bytes)
+none_asked true kind bytes h = (h, tt)
+none_asked false kind bytes h = tt
+
+pub none-append : (cs ds : List Candidate) → AreNone cs → AreNone ds → AreNone (cs ++ ds)
+none-append [] ds h k = k
+none-append (c ∷ cs) ds h k = (h.0, none-append cs ds h.1 k)
+
+whole_nothing : (kinds : Kinds) (kind : Kind) → AreNone (whole_candidate kinds kind [])
+whole_nothing kinds kind = none_asked (contains kinds kind) kind (whole_bytes kind []) (none_of kind (whole_bytes kind []) (whole_none kind))
+
+last_nothing : (kinds : Kinds) (kind : Kind) → AreNone (last_candidate kinds kind [])
+last_nothing kinds kind = none_asked _ kind (last_bytes kind []) (none_of kind (last_bytes kind []) (last_none kind))
+
+none_there : (kinds : Kinds) → AreNone (candidates kinds [])
+none_there kinds =
+    let message = none_asked (kinds.radio || kinds.train) (message_way kinds []) [] (no_bytes (message_way kinds [])) in
+    let whole = none-append (whole_candidate kinds Long []) _ (whole_nothing kinds Long) (none-append (whole_candidate kinds Short []) _ (whole_nothing kinds Short) message) in
+    let last = none-append (last_candidate kinds Long []) _ (last_nothing kinds Long) (last_nothing kinds Short) in
+    none-append (whole_candidates kinds []) (last_candidates kinds []) whole last
+
+and_false : (b : Bool) → (b && false) ≡ false
+and_false true = refl
+and_false false = refl
+
+no_other : (kinds : Kinds) → is_other kinds [] ≡ false
+no_other kinds = and_false (not (is_asked kinds []))
+
+-- ---- What a line is.
 
 empty_list : (xs : List ℕ) → length xs ≡ 0 → xs ≡ []
 empty_list [] h = refl
@@ -46,43 +110,64 @@ empty_list (x ∷ xs) h = absurd (omega (arith, h))
 nothing_said : (digits bytes : List ℕ) → digits ≡ [] → decode_of digits ≡ Ok bytes → bytes ≡ []
 nothing_said digits bytes none h = empty_list bytes (omega (arith, (decode_of-ok digits bytes h).2, ap length none))
 
-pub bad_none : (kind : Kind) (line buffer : List ℕ) → is_passed_over line ≡ false → Says (line_digits line) (Err NoDigits) buffer → IsAnswer kind line bad
-bad_none kind line buffer read says = (inr read, none_said kind line (λ bytes h e is. no_bytes kind e (subst (λ (z : List ℕ). IsItem kind z e) (nothing_said (line_digits line) bytes says h) is)))
+pub bad_none : (kinds : Kinds) (line buffer : List ℕ) → is_passed_over line ≡ false → Says (line_digits line) (Err NoDigits) buffer → IsAnswer kinds line bad
+bad_none kinds line buffer read says = (inr read, λ bytes h. subst (λ (z : List ℕ). IsBytesAnswer kinds (line_front line) z bad) (sym (nothing_said (line_digits line) bytes says h.digits)) (none_there kinds, no_other kinds))
 
-pub bad_odd : (kind : Kind) (line buffer : List ℕ) (n : ℕ) → is_passed_over line ≡ false → Says (line_digits line) (Err (OddDigits n)) buffer → IsAnswer kind line bad
-bad_odd kind line buffer n read (is, odd) = (inr read, none_said kind line (λ bytes h e i. cc (sym h ∙ decode_of-odd (line_digits line) (ap (λ (k : ℕ). k % 2) (sym is) ∙ odd))))
+no_odd : (line bytes : List ℕ) (n : ℕ) → n ≡ length (line_digits line) → n % 2 ≡ 1 → decode_of (line_digits line) ≡ Ok bytes → ⊥
+no_odd line bytes n is odd h = cc (sym h ∙ decode_of-odd (line_digits line) (ap (λ (k : ℕ). k % 2) (sym is) ∙ odd))
 
-bytes_said : (kind : Kind) (line bytes : List ℕ) (a : Answer) → length line ≤ 1048576 → is_passed_over line ≡ false → decode_of (line_digits line) ≡ Ok bytes → IsBytesAnswer kind bytes a → IsAnswer kind line a
-bytes_said kind line bytes passed short read digits is = absurd is
-bytes_said kind line bytes (item e) short read digits is = (bytes, record { short = short; read = read; digits = digits }, is)
-bytes_said kind line bytes bad short read digits none = (inr read, none_said kind line (λ other h e is. none e (subst (λ (z : List ℕ). IsItem kind z e) (decode_of-same (line_digits line) other bytes h digits) is)))
+pub bad_odd : (kinds : Kinds) (line buffer : List ℕ) (n : ℕ) → is_passed_over line ≡ false → Says (line_digits line) (Err (OddDigits n)) buffer → IsAnswer kinds line bad
+bad_odd kinds line buffer n read (is, odd) = (inr read, λ bytes h. absurd (no_odd line bytes n is odd h.digits))
 
-pub answered_bytes : (job : LogJob) (number : ℕ) (line buffer bytes : List ℕ) (n : ℕ) (before after : LogTally) (text text' : List ℕ) → length line ≤ 1048576 → is_passed_over line ≡ false → Says (line_digits line) (Ok n) buffer → bytes ≡ drop (length buffer - n) buffer → BytesAnswered job number bytes before after text text' → Answered job number line before after text text'
+bytes_said : (kinds : Kinds) (line bytes : List ℕ) (a : Answer) → length line ≤ 1048576 → is_passed_over line ≡ false → decode_of (line_digits line) ≡ Ok bytes → IsBytesAnswer kinds (line_front line) bytes a → IsAnswer kinds line a
+bytes_said kinds line bytes passed short read digits is = absurd is
+bytes_said kinds line bytes (item kind before e) short read digits is = (bytes, record { short = short; read = read; digits = digits }, is)
+bytes_said kinds line bytes (other count) short read digits is = (bytes, record { short = short; read = read; digits = digits }, is)
+bytes_said kinds line bytes bad short read digits is = (inr read, λ these h. subst (λ (z : List ℕ). IsBytesAnswer kinds (line_front line) z bad) (decode_of-same (line_digits line) bytes these digits h.digits) is)
+
+pub answered_bytes : (job : LogJob) (number : ℕ) (line buffer bytes : List ℕ) (n : ℕ) (before after : Seen) (text text' : List ℕ) → length line ≤ 1048576 → is_passed_over line ≡ false → Says (line_digits line) (Ok n) buffer → bytes ≡ drop (length buffer - n) buffer → BytesAnswered job number (line_front line) bytes before after text text' → Answered job number line before after text text'
 answered_bytes job number line buffer bytes n before after text text' short read says is (a, said, counted) =
-    (a, bytes_said job.kind line bytes a short read (says.2 ∙ ap Ok (sym is)) said, counted)
+    (a, bytes_said job.kinds line bytes a short read (says.2 ∙ ap Ok (sym is)) said, counted)
 
 -- ---- How a line is counted.
 
 -- what is said of it goes elsewhere
-pub counted_bad : (job : LogJob) (n : ℕ) (before after : LogTally) (text text' : List ℕ) → job.good ≡ true → after.items ≡ before.items → after.bad ≡ before.bad + 1 → text' ≡ text → Counted job n bad before after text text'
-counted_bad job n before after text text' good i b t = ([], (λ _. refl, λ silent. cc (sym good ∙ silent)), t ∙ sym (append-nil text), omega (arith, i), omega (arith, b))
+pub counted_bad : (job : LogJob) (n : ℕ) (before after : LogTally) (text text' : List ℕ) → is_written job.good ≡ true → after.items ≡ before.items → after.bad ≡ before.bad + 1 → after.other ≡ before.other → text' ≡ text → Counted job n bad before after text text'
+counted_bad job n before after text text' good i b o t = ([], (λ _. refl, λ silent. cc (sym good ∙ silent)), t ∙ sym (append-nil text), omega (arith, i), omega (arith, b), omega (arith, o))
 
-pub counted_note : (job : LogJob) (n : ℕ) (before after : LogTally) (text text' : List ℕ) → job.good ≡ false → after.items ≡ before.items → after.bad ≡ before.bad + 1 → (note : List ℕ) × IsNote n note × (text' ≡ text ++ note) → Counted job n bad before after text text'
-counted_note job n before after text text' silent i b (note, is, t) = (note, (λ good. cc (sym silent ∙ good), λ _. (note, [], is, sym (append-nil note), refl)), t, omega (arith, i), omega (arith, b))
+pub counted_note_if : {T E : Type 0} (r : Result T E) (job : LogJob) (n : ℕ) (before after : LogTally) (text text' : List ℕ) → is_written job.good ≡ false → after.items ≡ before.items → after.bad ≡ before.bad + 1 → after.other ≡ before.other → OnOk r ((note : List ℕ) × IsNote n note × (text' ≡ text ++ note)) → OnOk r (Counted job n bad before after text text')
+counted_note_if (Ok x) job n before after text text' silent i b o (note, is, t) = (note, (λ good. cc (sym silent ∙ good), λ _. is), t, omega (arith, i), omega (arith, b), omega (arith, o))
+counted_note_if (Err e) job n before after text text' silent i b o h = tt
 
-pub counted_item : (job : LogJob) (n : ℕ) (e : EntryValue) (before after : LogTally) (text text' bytes : List ℕ) → job.good ≡ true → after.items ≡ before.items + 1 → after.bad ≡ before.bad → IsEncoded e bytes → text' ≡ text ++ (encode_upper bytes ++ 10 ∷ []) → Counted job n (item e) before after text text'
-counted_item job n e before after text text' bytes good i b is t = (encode_upper bytes ++ 10 ∷ [], (λ _. (bytes, [], is, sym (append-nil (encode_upper bytes ++ 10 ∷ [])), refl), λ silent. cc (sym good ∙ silent)), t, omega (arith, i), omega (arith, b))
+-- of another kind
+pub counted_other : (job : LogJob) (n count : ℕ) (before after : LogTally) (text text' : List ℕ) → is_written job.good ≡ true → after.items ≡ before.items → after.bad ≡ before.bad → after.other ≡ before.other + 1 → text' ≡ text → Counted job n (other count) before after text text'
+counted_other job n count before after text text' good i b o t = ([], (λ _. refl, λ silent. cc (sym good ∙ silent)), t ∙ sym (append-nil text), omega (arith, i), omega (arith, b), omega (arith, o))
 
-pub counted_item_if : {T E : Type 0} (r : Result T E) (job : LogJob) (n : ℕ) (e : EntryValue) (before after : LogTally) (text text' bytes : List ℕ) → job.good ≡ true → after.items ≡ before.items + 1 → after.bad ≡ before.bad → IsEncoded e bytes → OnOk r (text' ≡ text ++ (encode_upper bytes ++ 10 ∷ [])) → OnOk r (Counted job n (item e) before after text text')
-counted_item_if (Ok x) job n e before after text text' bytes good i b is t = counted_item job n e before after text text' bytes good i b is t
-counted_item_if (Err x) job n e before after text text' bytes good i b is t = tt
+pub counted_other_if : {T E : Type 0} (r : Result T E) (job : LogJob) (n count : ℕ) (before after : LogTally) (text text' : List ℕ) → is_written job.good ≡ false → after.items ≡ before.items → after.bad ≡ before.bad → after.other ≡ before.other + 1 → OnOk r (text' ≡ text ++ other_note n count) → OnOk r (Counted job n (other count) before after text text')
+counted_other_if (Ok x) job n count before after text text' silent i b o t = (other_note n count, (λ good. cc (sym silent ∙ good), λ _. refl), t, omega (arith, i), omega (arith, b), omega (arith, o))
+counted_other_if (Err e) job n count before after text text' silent i b o h = tt
 
-pub counted_silently : (job : LogJob) (n : ℕ) (e : EntryValue) (before after : LogTally) (text text' : List ℕ) → job.good ≡ false → after.items ≡ before.items + 1 → after.bad ≡ before.bad → text' ≡ text → Counted job n (item e) before after text text'
-counted_silently job n e before after text text' silent i b t = ([], (λ good. cc (sym silent ∙ good), λ _. refl), t ∙ sym (append-nil text), omega (arith, i), omega (arith, b))
+-- an item
+counted_item : (job : LogJob) (n : ℕ) (kind : Kind) (front : List ℕ) (e : EntryValue) (before after : LogTally) (text text' said : List ℕ) → GoodText job.good job.kinds n kind front e said → after.items ≡ before.items + 1 → after.bad ≡ before.bad → after.other ≡ before.other → text' ≡ text ++ said → Counted job n (item kind front e) before after text text'
+counted_item job n kind front e before after text text' said good i b o t = (said, good, t, omega (arith, i), omega (arith, b), omega (arith, o))
 
-pub counted_note_if : {T E : Type 0} (r : Result T E) (job : LogJob) (n : ℕ) (before after : LogTally) (text text' : List ℕ) → job.good ≡ false → after.items ≡ before.items → after.bad ≡ before.bad + 1 → OnOk r ((note : List ℕ) × IsNote n note × (text' ≡ text ++ note)) → OnOk r (Counted job n bad before after text text')
-counted_note_if (Ok x) job n before after text text' silent i b h = counted_note job n before after text text' silent i b h
-counted_note_if (Err e) job n before after text text' silent i b h = tt
+-- whose line isn't asked for
+pub counted_silently : (job : LogJob) (n : ℕ) (kind : Kind) (front : List ℕ) (e : EntryValue) (before after : LogTally) (text : List ℕ) → job.good ≡ Left → after.items ≡ before.items + 1 → after.bad ≡ before.bad → after.other ≡ before.other → Counted job n (item kind front e) before after text text
+counted_silently job n kind front e before after text left i b o = counted_item job n kind front e before after text text [] (subst (λ (z : Good). GoodText z job.kinds n kind front e []) (sym left) refl) i b o (sym (append-nil text))
+
+-- whose digits are
+pub counted_digits : {T E : Type 0} (r : Result T E) (job : LogJob) (n : ℕ) (kind : Kind) (front : List ℕ) (e : EntryValue) (before after : LogTally) (text text' bytes : List ℕ) → job.good ≡ Digits → after.items ≡ before.items + 1 → after.bad ≡ before.bad → after.other ≡ before.other → IsEncoded e bytes → OnOk r (text' ≡ text ++ (named job.kinds kind ++ (encode_upper bytes ++ 10 ∷ []))) → OnOk r (Counted job n (item kind front e) before after text text')
+counted_digits (Ok x) job n kind front e before after text text' bytes digits i b o is t =
+    let said : List ℕ = named job.kinds kind ++ (encode_upper bytes ++ 10 ∷ []) in
+    counted_item job n kind front e before after text text' said (subst (λ (z : Good). GoodText z job.kinds n kind front e said) (sym digits) (bytes, is, refl)) i b o t
+counted_digits (Err x) job n kind front e before after text text' bytes digits i b o is t = tt
+
+-- whose JSON is
+pub counted_json : {T E : Type 0} (r : Result T E) (job : LogJob) (n : ℕ) (kind : Kind) (front front' : List ℕ) (e : EntryValue) (before after : LogTally) (text text' : List ℕ) → job.good ≡ Json → after.items ≡ before.items + 1 → after.bad ≡ before.bad → after.other ≡ before.other → front' ≡ front → OnOk r ((said : List ℕ) × IsJsonItem n front' e said × (text' ≡ text ++ said)) → OnOk r (Counted job n (item kind front e) before after text text')
+counted_json (Ok x) job n kind front front' e before after text text' json i b o same (said, is, t) =
+    let good = subst (λ (z : List ℕ). GoodText Json job.kinds n kind z e said) same is in
+    counted_item job n kind front e before after text text' said (subst (λ (z : Good). GoodText z job.kinds n kind front e said) (sym json) good) i b o t
+counted_json (Err x) job n kind front front' e before after text text' json i b o same h = tt
 
 -- ---- How lines are counted.
 
@@ -93,28 +178,161 @@ AppendsCounts job tally text text' = (counts : List ℕ) × CountsText job tally
 pub counts_silent : (job : LogJob) (tally : LogTally) (text text' : List ℕ) → job.summary ≡ false → text' ≡ text → AppendsCounts job tally text text'
 counts_silent job tally text text' silent t = ([], (λ _. refl, λ _ asked. cc (sym silent ∙ asked)), t ∙ sym (append-nil text))
 
-pub counts_elsewhere : (job : LogJob) (tally : LogTally) (text text' : List ℕ) → job.good ≡ true → text' ≡ text → AppendsCounts job tally text text'
+pub counts_elsewhere : (job : LogJob) (tally : LogTally) (text text' : List ℕ) → is_written job.good ≡ true → text' ≡ text → AppendsCounts job tally text text'
 counts_elsewhere job tally text text' good t = ([], (λ _. refl, λ silent _. cc (sym good ∙ silent)), t ∙ sym (append-nil text))
 
-no_counts : (job : LogJob) (text : List ℕ) → job.good ≡ false → job.summary ≡ true → (job.good ≡ true) ⊎ (job.summary ≡ false) → text ≡ []
+no_counts : (job : LogJob) (text : List ℕ) → is_written job.good ≡ false → job.summary ≡ true → (is_written job.good ≡ true) ⊎ (job.summary ≡ false) → text ≡ []
 no_counts job text silent asked (inl good) = cc (sym silent ∙ good)
 no_counts job text silent asked (inr none) = cc (sym asked ∙ none)
 
-pub counts_here : {T E : Type 0} (r : Result T E) (job : LogJob) (tally : LogTally) (text text' further : List ℕ) → job.good ≡ false → job.summary ≡ true → OnOk r (text' ≡ text ++ (counts_front tally ++ further)) → OnOk r (AppendsCounts job tally text text')
+pub counts_here : {T E : Type 0} (r : Result T E) (job : LogJob) (tally : LogTally) (text text' further : List ℕ) → is_written job.good ≡ false → job.summary ≡ true → OnOk r (text' ≡ text ++ (counts_front tally ++ further)) → OnOk r (AppendsCounts job tally text text')
 counts_here (Ok x) job tally text text' further silent asked t = (counts_front tally ++ further, (no_counts job (counts_front tally ++ further) silent asked, λ _ _. (further, refl)), t)
 counts_here (Err e) job tally text text' further silent asked t = tt
-
--- ---- What is said of bytes.
 
 pub on_ok : {T E : Type 0} (r : Result T E) (P : Type 0) → P → OnOk r P
 on_ok (Ok x) P h = h
 on_ok (Err e) P h = tt
 
-pub answered_item : {T E : Type 0} (job : LogJob) (n : ℕ) (kind : Kind) (bytes : List ℕ) (v : Verdict) (e : Entry) (before after : LogTally) (text text' : List ℕ) (r : Result T E) → kind ≡ job.kind → IsVerdict kind bytes v → v ≡ Item e → OnOk r (Counted job n (item (entry_value e)) before after text text') → OnOk r (BytesAnswered job n bytes before after text text')
-answered_item job n kind bytes v e before after text text' (Ok x) same says is counted =
+-- ---- How it is grouped.
+
+-- nothing is added
+no_group : (job : LogJob) (a : Answer) (old new : List Group) → telegrams_in (a ∷ []) ≡ [] → new ≡ old → Grouped job a old new
+no_group job a old new none same = λ asked vs h. subst (λ (z : List Group). AreGroups (vs ++ telegrams_in (a ∷ [])) z) (sym same) (subst (λ (z : List TelegramValue). AreGroups z old) (sym (ap (λ (z : List TelegramValue). vs ++ z) none ∙ append-nil vs)) h)
+
+pub noted_same : {T E : Type 0} (r : Result T E) (job : LogJob) (n : ℕ) (a : Answer) (before after : Seen) (text text' : List ℕ) → telegrams_in (a ∷ []) ≡ [] → after.groups ≡ before.groups → OnOk r (Counted job n a before.tally after.tally text text') → OnOk r (Noted job n a before after text text')
+noted_same (Ok x) job n a before after text text' none same h = (h, no_group job a before.groups after.groups none same)
+noted_same (Err x) job n a before after text text' none same h = tt
+
+-- no group is asked for
+pub noted_alone : (job : LogJob) (n : ℕ) (a : Answer) (before after : Seen) (text text' : List ℕ) → job.groups ≡ false → Counted job n a before.tally after.tally text text' → Noted job n a before after text text'
+noted_alone job n a before after text text' none h = (h, λ asked. cc (sym none ∙ asked))
+
+-- the item was added
+pub noted_held : (job : LogJob) (n : ℕ) (kind : Kind) (front : List ℕ) (e : EntryValue) (before mid after : Seen) (text text' : List ℕ) → mid.groups ≡ before.groups → after.tally ≡ mid.tally → Counted job n (item kind front e) before.tally mid.tally text text' → Holds e mid.groups after.groups → Noted job n (item kind front e) before after text text'
+noted_held job n kind front e before mid after text text' same tally h held =
+    let grouped : Grouped job (item kind front e) before.groups after.groups = λ asked vs of. subst (λ (z : List TelegramValue). AreGroups (vs ++ z) after.groups) (sym (append-nil (telegram_of e))) (held vs (subst (λ (z : List Group). AreGroups vs z) (sym same) of)) in
+    (subst (λ (z : LogTally). Counted job n (item kind front e) before.tally z text text') (sym tally) h, grouped)
+
+-- a telegram was added
+pub held_telegram : {T E : Type 0} (r : Result T E) (t : TelegramContent) (e : Entry) (old new : List Group) → e ≡ Telegram t → OnOk r ((earlier : List TelegramContent) → AreGroupsOf earlier old → AreGroupsOf (earlier ++ t ∷ []) new) → OnOk r (Holds (entry_value e) old new)
+held_telegram (Ok x) t e old new is adds =
+    subst (λ (v : Entry). Holds (entry_value v) old new) (sym is) (λ vs h. (h.0 ++ t ∷ [], map-append telegram_value h.0 (t ∷ []) ∙ ap (λ (l : List TelegramValue). l ++ telegram_value t ∷ []) h.1, adds h.0 h.2))
+held_telegram (Err x) t e old new is adds = tt
+
+-- ---- A line that is passed over.
+
+passed_by : (b : Bool) → (b ≡ false → ⊥) → b ≡ true
+passed_by true h = refl
+passed_by false h = absurd (h refl)
+
+pub answered_passed : (job : LogJob) (n : ℕ) (line buffer : List ℕ) (r : Result ℕ NoBytes) (seen : Seen) (text : List ℕ) → length line ≤ 1048576 → (is_passed_over line ≡ false → Says (line_digits line) r buffer) → r ≡ Err Empty → Answered job n line seen seen text text
+answered_passed job n line buffer r seen text short digits is =
+    let over : is_passed_over line ≡ true = passed_by (is_passed_over line) (λ e. subst (λ (z : Result ℕ NoBytes). Says (line_digits line) z buffer) is (digits e)) in
+    (passed, (short, over), (([], refl, sym (append-nil text), omega arith, omega arith, omega arith), no_group job passed seen.groups seen.groups refl refl))
+
+-- ---- What comes at the end.
+
+pub groups_silent : (job : LogJob) (gs : List Group) (text : List ℕ) → job.groups ≡ false → (lines : List ℕ) × GroupsText job gs lines × (text ≡ text ++ lines)
+groups_silent job gs text none = ([], (λ _. refl, λ _ asked. cc (sym none ∙ asked)), sym (append-nil text))
+
+pub groups_elsewhere : (job : LogJob) (gs : List Group) (text : List ℕ) → is_written job.good ≡ true → (lines : List ℕ) × GroupsText job gs lines × (text ≡ text ++ lines)
+groups_elsewhere job gs text good = ([], (λ _. refl, λ silent _. cc (sym good ∙ silent)), sym (append-nil text))
+
+no_lines : (job : LogJob) (text : List ℕ) → is_written job.good ≡ false → job.groups ≡ true → (is_written job.good ≡ true) ⊎ (job.groups ≡ false) → text ≡ []
+no_lines job text silent asked (inl good) = cc (sym silent ∙ good)
+no_lines job text silent asked (inr none) = cc (sym asked ∙ none)
+
+pub groups_here : {T E : Type 0} (r : Result T E) (job : LogJob) (gs : List Group) (text text' : List ℕ) → is_written job.good ≡ false → job.groups ≡ true → OnOk r ((lines : List ℕ) × AreGroupLines gs lines × (text' ≡ text ++ lines)) → OnOk r ((lines : List ℕ) × GroupsText job gs lines × (text' ≡ text ++ lines))
+groups_here (Ok x) job gs text text' silent asked (lines, are, grown) = (lines, (no_lines job lines silent asked, λ _ _. are), grown)
+groups_here (Err x) job gs text text' silent asked h = tt
+
+-- ---- What is tried.
+
+first-left : (cs ds : List Candidate) (kind : Kind) (e : EntryValue) → IsFirst cs kind e → IsFirst (cs ++ ds) kind e
+first-left [] ds kind e h = absurd h
+first-left (c ∷ cs) ds kind e (inl h) = inl h
+first-left (c ∷ cs) ds kind e (inr (none, h)) = inr (none, first-left cs ds kind e h)
+
+first-right : (cs ds : List Candidate) (kind : Kind) (e : EntryValue) → AreNone cs → IsFirst ds kind e → IsFirst (cs ++ ds) kind e
+first-right [] ds kind e none h = h
+first-right (c ∷ cs) ds kind e none h = inr (none.0, first-right cs ds kind e none.1 h)
+
+-- what was tried first has an item
+pub tried_left : (b : Bool) (cs ds : List Candidate) (job : LogJob) (n : ℕ) (front : List ℕ) (before after : Seen) (text text' : List ℕ) → b ≡ true → Tried cs b job n front before after text text' → Tried (cs ++ ds) true job n front before after text text'
+tried_left b cs ds job n front before after text text' is h =
+    let (kind, e, first, counted) = subst (λ (z : Bool). Tried cs z job n front before after text text') is h in
+    (kind, e, first-left cs ds kind e first, counted)
+
+-- or has none
+pub tried_none : (b : Bool) (cs : List Candidate) (job : LogJob) (n : ℕ) (front : List ℕ) (before after : Seen) (text text' : List ℕ) → b ≡ false → Tried cs b job n front before after text text' → Tried cs false job n front before after text text'
+tried_none b cs job n front before after text text' is h = subst (λ (z : Bool). Tried cs z job n front before after text text') is h
+
+-- what was counted after a trial that changed nothing
+later : (a : Answer) (job job' : LogJob) (n n' : ℕ) (before mid after : Seen) (text t text' : List ℕ) → job' ≡ job → n' ≡ n → mid ≡ before → t ≡ text → Noted job' n' a mid after t text' → Noted job n a before after text text'
+later a job job' n n' before mid after text t text' j k m e h =
+    subst (λ (z : LogJob). Noted z n a before after text text') j (subst (λ (z : ℕ). Noted job' z a before after text text') k (subst (λ (z : Seen). Noted job' n' a z after text text') m (subst (λ (z : List ℕ). Noted job' n' a mid after z text') e h)))
+
+-- then what was tried next counts
+pub tried_next : (b : Bool) (cs : List Candidate) (ds : Kinds → List Candidate) (job job' : LogJob) (n n' : ℕ) (front : List ℕ) (before mid after : Seen) (text t text' : List ℕ) → job' ≡ job → n' ≡ n → Tried cs false job n front before mid text t → Tried (ds job'.kinds) b job' n' front mid after t text' → Tried (cs ++ ds job.kinds) b job n front before after text text'
+tried_next true cs ds job job' n n' front before mid after text t text' j k (none, m, e) (kind, v, first, counted) =
+    (kind, v, first-right cs (ds job.kinds) kind v none (subst (λ (z : LogJob). IsFirst (ds z.kinds) kind v) j first), later (item kind front v) job job' n n' before mid after text t text' j k m e counted)
+tried_next false cs ds job job' n n' front before mid after text t text' j k (none, m, e) (others, same, f) =
+    (none-append cs (ds job.kinds) none (subst (λ (z : LogJob). AreNone (ds z.kinds)) j others), same ∙ m, f ∙ e)
+
+tried_right : {E : Type 0} (r : Result Bool E) (cs : List Candidate) (ds : Kinds → List Candidate) (job job' : LogJob) (n n' : ℕ) (front : List ℕ) (before mid after : Seen) (text t text' : List ℕ) → job' ≡ job → n' ≡ n → Tried cs false job n front before mid text t → IfOk r (λ b. Tried (ds job'.kinds) b job' n' front mid after t text') → IfOk r (λ b. Tried (cs ++ ds job.kinds) b job n front before after text text')
+tried_right (Ok b) cs ds job job' n n' front before mid after text t text' j k h more = tried_next b cs ds job job' n n' front before mid after text t text' j k h more
+tried_right (Err x) cs ds job job' n n' front before mid after text t text' j k h more = tt
+
+-- a telegram of either size, then a message
+pub tried_whole : {E : Type 0} (r : Result Bool E) (bytes : List ℕ) (job job1 job2 : LogJob) (n n1 n2 : ℕ) (front : List ℕ) (before one two after : Seen) (text t1 t2 text' : List ℕ) → job1 ≡ job → n1 ≡ n → job2 ≡ job1 → n2 ≡ n1 → Tried (whole_candidate job.kinds Long bytes) false job n front before one text t1 → Tried (whole_candidate job1.kinds Short bytes) false job1 n1 front one two t1 t2 → IfOk r (λ b. Tried (message_candidate job2.kinds bytes) b job2 n2 front two after t2 text') → IfOk r (λ b. Tried (whole_candidates job.kinds bytes) b job n front before after text text')
+tried_whole r bytes job job1 job2 n n1 n2 front before one two after text t1 t2 text' j k j' k' long short message =
+    let further = tried_right r (whole_candidate job1.kinds Short bytes) (λ z. message_candidate z bytes) job1 job2 n1 n2 front one two after t1 t2 text' j' k' short message in
+    tried_right r (whole_candidate job.kinds Long bytes) (λ z. whole_candidate z Short bytes ++ message_candidate z bytes) job job1 n n1 front before one after text t1 text' j k long further
+
+-- bits are their bytes
+pub whole_bits : (kind : Kind) (bytes : List ℕ) → are_bits kind bytes ≡ true → whole_bytes kind bytes ≡ take (telegram_bytes kind) (packed bytes)
+whole_bits kind bytes are = ap (λ (b : Bool). cond b (take (telegram_bytes kind) (packed bytes)) bytes) are
+
+-- one of two is
+pub first_of : (a b : Bool) → not a ≡ false → a || b ≡ true
+first_of true b h = refl
+first_of false b h = cc h
+
+pub second_of : (a b : Bool) → not b ≡ false → a || b ≡ true
+second_of true b h = refl
+second_of false true h = refl
+second_of false false h = cc h
+
+pub tried_asked : {E : Type 0} (r : Result Bool E) (asked : Bool) (kind kind' : Kind) (bytes bytes' : List ℕ) (job : LogJob) (n : ℕ) (front : List ℕ) (before after : Seen) (text text' : List ℕ) → asked ≡ true → kind' ≡ kind → bytes' ≡ bytes → IfOk r (λ b. Tried (record { kind = kind'; bytes = bytes' } ∷ []) b job n front before after text text') → IfOk r (λ b. Tried (where_asked asked kind bytes) b job n front before after text text')
+tried_asked r true kind kind' bytes bytes' job n front before after text text' asks same is h =
+    subst (λ (z : List ℕ). IfOk r (λ b. Tried (record { kind = kind; bytes = z } ∷ []) b job n front before after text text')) is (subst (λ (z : Kind). IfOk r (λ b. Tried (record { kind = z; bytes = bytes' } ∷ []) b job n front before after text text')) same h)
+tried_asked r false kind kind' bytes bytes' job n front before after text text' asks same is h = cc asks
+
+-- ---- What is said of bytes.
+
+sized_length : (s : Size) (bytes : List ℕ) (e : EntryValue) → IsItem (kind_of s) bytes e → 8 * length bytes ≡ user_bits s + pad_bits s
+sized_length s bytes e (r, reads, is) = omega (arith, length-bits bytes, ap length is, whole_length s r ((same_telegrams s r).1 (e, reads)))
+
+-- an item has as many bytes as it may have
+no_fit : (kind : Kind) (bytes : List ℕ) → may_have kind (length bytes) ≡ false → (e : EntryValue) → IsItem kind bytes e → ⊥
+no_fit Long bytes unfit e is =
+    let count : length bytes ≡ 104 = omega (arith, sized_length size.Long bytes e is) in
+    let wrong : ◌≡◌ {A = Bool} true false = subst (λ (z : ℕ). (z == 104) ≡ false) count unfit in
+    cc wrong
+no_fit Short bytes unfit e is =
+    let count : length bytes ≡ 27 = omega (arith, sized_length size.Short bytes e is) in
+    let wrong : ◌≡◌ {A = Bool} true false = subst (λ (z : ℕ). (z == 27) ≡ false) count unfit in
+    cc wrong
+no_fit Radio bytes unfit e is = cc unfit
+no_fit Train bytes unfit e is = cc unfit
+
+pub tried_wrong : (kind : Kind) (bytes : List ℕ) (job : LogJob) (n : ℕ) (front : List ℕ) (seen : Seen) (text : List ℕ) → may_have kind (length bytes) ≡ false → Tried (record { kind = kind; bytes = bytes } ∷ []) false job n front seen seen text text
+tried_wrong kind bytes job n front seen text unfit = ((no_fit kind bytes unfit, tt), refl, refl)
+
+pub tried_item : (job : LogJob) (n : ℕ) (front : List ℕ) (kind : Kind) (bytes : List ℕ) (v : Verdict) (e : Entry) (before after : Seen) (text text' : List ℕ) → IsVerdict kind bytes v → v ≡ Item e → Noted job n (item kind front (entry_value e)) before after text text' → Tried (record { kind = kind; bytes = bytes } ∷ []) true job n front before after text text'
+tried_item job n front kind bytes v e before after text text' says is counted =
     let here : IsVerdict kind bytes (Item e) = subst (λ (z : Verdict). IsVerdict kind bytes z) is says in
-    (item (entry_value e), subst (λ (k : Kind). IsItem k bytes (entry_value e)) same here, counted)
-answered_item job n kind bytes v e before after text text' (Err x) same says is counted = tt
+    (kind, entry_value e, inl (refl, here), counted)
 
 abbrev pub IsNoItem : Verdict → Type 0
 IsNoItem (Item e) = ⊥
@@ -128,24 +346,39 @@ none_other kind bytes v (Refused i x) is barred says = (subst (λ (z : Verdict).
 none_other kind bytes v TooShort is barred says = (subst (λ (z : Verdict). IsVerdict kind bytes z) is says).0
 none_other kind bytes v TooLong is barred says = (subst (λ (z : Verdict). IsVerdict kind bytes z) is says).0
 
-pub answered_bad : {T E : Type 0} (job : LogJob) (n : ℕ) (kind : Kind) (bytes : List ℕ) (v w : Verdict) (before after : LogTally) (text text' : List ℕ) (r : Result T E) → kind ≡ job.kind → IsVerdict kind bytes v → v ≡ w → IsNoItem w → OnOk r (Counted job n bad before after text text') → OnOk r (BytesAnswered job n bytes before after text text')
-answered_bad job n kind bytes v w before after text text' (Ok x) same says is barred counted =
-    (bad, subst (λ (k : Kind). (e : EntryValue) → IsItem k bytes e → ⊥) same (none_other kind bytes v w is barred says), counted)
-answered_bad job n kind bytes v w before after text text' (Err x) same says is barred counted = tt
+pub tried_vain : (job : LogJob) (n : ℕ) (front : List ℕ) (kind : Kind) (bytes : List ℕ) (v : Verdict) (seen : Seen) (text : List ℕ) → IsVerdict kind bytes v → ((i : ℕ) × (x : Var) × (v ≡ Refused i x)) ⊎ ((v ≡ TooShort) ⊎ (v ≡ TooLong)) → Tried (record { kind = kind; bytes = bytes } ∷ []) false job n front seen seen text text
+tried_vain job n front kind bytes v seen text says (inl (i, x, is)) = ((none_other kind bytes v (Refused i x) is tt says, tt), refl, refl)
+tried_vain job n front kind bytes v seen text says (inr (inl is)) = ((none_other kind bytes v TooShort is tt says, tt), refl, refl)
+tried_vain job n front kind bytes v seen text says (inr (inr is)) = ((none_other kind bytes v TooLong is tt says, tt), refl, refl)
 
--- and of a line of none
-pub answered_none : {T E : Type 0} (job : LogJob) (n : ℕ) (line : List ℕ) (before after : LogTally) (text text' : List ℕ) (r : Result T E) → IsAnswer job.kind line bad → OnOk r (Counted job n bad before after text text') → OnOk r (Answered job n line before after text text')
+-- an item was found
+pub answered_first : (b : Bool) (job : LogJob) (n : ℕ) (front bytes : List ℕ) (before after : Seen) (text text' : List ℕ) → b ≡ true → Tried (candidates job.kinds bytes) b job n front before after text text' → BytesAnswered job n front bytes before after text text'
+answered_first b job n front bytes before after text text' is h =
+    let (kind, e, first, counted) = subst (λ (z : Bool). Tried (candidates job.kinds bytes) z job n front before after text text') is h in
+    (item kind front e, (refl, first), counted)
+
+-- or none was
+pub answered_other : {T E : Type 0} (r : Result T E) (job : LogJob) (n : ℕ) (front bytes : List ℕ) (before after : Seen) (text text' : List ℕ) → AreNone (candidates job.kinds bytes) → is_other job.kinds bytes ≡ true → OnOk r (Noted job n (other (length bytes)) before after text text') → OnOk r (BytesAnswered job n front bytes before after text text')
+answered_other (Ok x) job n front bytes before after text text' none is counted = (other (length bytes), (none, is, refl), counted)
+answered_other (Err x) job n front bytes before after text text' none is counted = tt
+
+pub answered_bad : {T E : Type 0} (r : Result T E) (job : LogJob) (n : ℕ) (front bytes : List ℕ) (before after : Seen) (text text' : List ℕ) → AreNone (candidates job.kinds bytes) → is_other job.kinds bytes ≡ false → OnOk r (Noted job n bad before after text text') → OnOk r (BytesAnswered job n front bytes before after text text')
+answered_bad (Ok x) job n front bytes before after text text' none is counted = (bad, (none, is), counted)
+answered_bad (Err x) job n front bytes before after text text' none is counted = tt
+
+-- and a line that says no bytes
+pub answered_none : {T E : Type 0} (job : LogJob) (n : ℕ) (line : List ℕ) (before after : Seen) (text text' : List ℕ) (r : Result T E) → IsAnswer job.kinds line bad → OnOk r (Noted job n bad before after text text') → OnOk r (Answered job n line before after text text')
 answered_none job n line before after text text' (Ok x) is counted = (bad, is, counted)
 answered_none job n line before after text text' (Err x) is counted = tt
 
 -- ---- What is said of a line.
 
 pub line_says : (line buffer : List ℕ) (r r' : Result ℕ NoBytes) → (IsTrue (is_passed_over line) → r ≡ Err Empty) → (is_passed_over line ≡ false → Says (line_digits line) r buffer) → r ≡ r' → (r' ≡ Err Empty → ⊥) → (is_passed_over line ≡ false) × Says (line_digits line) r' buffer
-line_says line buffer r r' empty digits same other =
-    let read = is_read line r empty (λ h. other (sym same ∙ h)) in
+line_says line buffer r r' empty digits same differs =
+    let read = is_read line r empty (λ h. differs (sym same ∙ h)) in
     (read, subst (λ (z : Result ℕ NoBytes). Says (line_digits line) z buffer) same (digits read))
 
-pub answered_bytes_if : {T E : Type 0} (r : Result T E) (job : LogJob) (number : ℕ) (line buffer bytes : List ℕ) (n : ℕ) (before after : LogTally) (text text' : List ℕ) → length line ≤ 1048576 → is_passed_over line ≡ false → Says (line_digits line) (Ok n) buffer → bytes ≡ drop (length buffer - n) buffer → OnOk r (BytesAnswered job number bytes before after text text') → OnOk r (Answered job number line before after text text')
+pub answered_bytes_if : {T E : Type 0} (r : Result T E) (job : LogJob) (number : ℕ) (line buffer bytes : List ℕ) (n : ℕ) (before after : Seen) (text text' : List ℕ) → length line ≤ 1048576 → is_passed_over line ≡ false → Says (line_digits line) (Ok n) buffer → bytes ≡ drop (length buffer - n) buffer → OnOk r (BytesAnswered job number (line_front line) bytes before after text text') → OnOk r (Answered job number line before after text text')
 answered_bytes_if (Ok x) job number line buffer bytes n before after text text' short read says is h = answered_bytes job number line buffer bytes n before after text text' short read says is h
 answered_bytes_if (Err e) job number line buffer bytes n before after text text' short read says is h = tt
 

@@ -1,20 +1,31 @@
 -- What is said of the lines of a log.
-use Rattle.std.specs.Prelude.{◌≡◌, ℕ, ◌+◌, ◌<◌, ◌≤◌, true, false, List, [], ◌∷◌, ◌++◌, length, codes, ◌⊎◌, Ok, All}
+use Rattle.std.specs.Prelude.{◌≡◌, ℕ, ◌+◌, ◌<◌, ◌≤◌, Bool, true, false, ◌==◌, List, [], ◌∷◌, ◌++◌, length, if◌then◌else◌, codes, ◌⊎◌, Ok, All}
 use Rattle.std.specs.Fmt.{decimal}
 use Rattle.hex.specs.Hex.{decode_of, encode_upper}
-use Rattle.etcs_runs.specs.Digits.{is_passed_over, line_digits}
+use Rattle.etcs_runs.specs.Digits.{is_passed_over, line_digits, line_front}
+use Rattle.etcs_runs.specs.Lines.{IsLine, lines_text, strip_cr}
 use Rattle.etcs_text.specs.declared.entry.Kind.{Kind}
 use Rattle.etcs_text.specs.Entries.{EntryValue}
 use Rattle.etcs_text.specs.Encodings.{IsEncoded}
-use Rattle.etcs_runs.specs.Lines.{IsLine, lines_text, strip_cr}
+use Rattle.etcs_log.specs.declared.job.Good.{Good}
+use Rattle.etcs_log.specs.declared.job.Good.TheVariants.{Left, Digits, Json}
 use Rattle.etcs_log.specs.declared.job.LogJob.{LogJob}
 use Rattle.etcs_log.specs.declared.job.LogTally.{LogTally}
-use Rattle.etcs_text.specs.Verdicts.{IsItem}
+use Rattle.etcs_log.specs.declared.kinds.Kinds.{Kinds}
+use Rattle.etcs_log.specs.declared.seen.Seen.{Seen}
+use Rattle.etcs_telegram.specs.Telegrams.{TelegramValue}
+use Rattle.etcs_group.specs.declared.groups.Group.{Group}
+use Rattle.etcs_group.specs.GroupLines.{AreGroupLines}
+use Rattle.etcs_log.specs.LogGroups.{AreGroups, telegram_of}
+use Rattle.etcs_log.specs.Candidates.{AreNone, Candidate, IsFirst, candidates, is_other, named}
+use Rattle.etcs_log.specs.JsonLines.{IsJsonItem}
 
--- it is passed over; it is this item; it is bad
+-- it is passed over; after this front it has this item of this kind; it has this number of bytes, as items of another kind
+-- have; it is bad
 pub data Answer : Type 0 where
   passed : Answer
-  item : EntryValue → Answer
+  item : Kind → List ℕ → EntryValue → Answer
+  other : ℕ → Answer
   bad : Answer
 
 -- a line of at most 1,048,576 characters whose digits say these bytes
@@ -23,83 +34,140 @@ pub record SaysBytes (line bytes : List ℕ) : Type 0 where
   pub read : is_passed_over line ≡ false
   pub digits : decode_of (line_digits line) ≡ Ok bytes
 
--- its bytes are the spelling of this item, and nothing else
-abbrev pub IsItemLine : Kind → List ℕ → EntryValue → Type 0
-IsItemLine kind line e = (bytes : List ℕ) × SaysBytes line bytes × IsItem kind bytes e
+-- what these bytes are, which have this before their digits
+abbrev pub IsBytesAnswer : Kinds → List ℕ → List ℕ → Answer → Type 0
+IsBytesAnswer kinds front bytes passed = ⊥
+IsBytesAnswer kinds front bytes (item kind before e) = (before ≡ front) × IsFirst (candidates kinds bytes) kind e
+IsBytesAnswer kinds front bytes (other count) = AreNone (candidates kinds bytes) × (is_other kinds bytes ≡ true) × (count ≡ length bytes)
+IsBytesAnswer kinds front bytes bad = AreNone (candidates kinds bytes) × (is_other kinds bytes ≡ false)
 
-abbrev pub IsAnswer : Kind → List ℕ → Answer → Type 0
-IsAnswer kind line passed = (length line ≤ 1048576) × (is_passed_over line ≡ true)
-IsAnswer kind line (item e) = IsItemLine kind line e
-IsAnswer kind line bad = ((1048576 < length line) ⊎ (is_passed_over line ≡ false)) × ((e : EntryValue) → IsItemLine kind line e → ⊥)
+-- what a line is: a bad one is too long, or says no bytes that are anything else
+abbrev pub IsAnswer : Kinds → List ℕ → Answer → Type 0
+IsAnswer kinds line passed = (length line ≤ 1048576) × (is_passed_over line ≡ true)
+IsAnswer kinds line (item kind before e) = (bytes : List ℕ) × SaysBytes line bytes × IsBytesAnswer kinds (line_front line) bytes (item kind before e)
+IsAnswer kinds line (other count) = (bytes : List ℕ) × SaysBytes line bytes × IsBytesAnswer kinds (line_front line) bytes (other count)
+IsAnswer kinds line bad = ((1048576 < length line) ⊎ (is_passed_over line ≡ false)) × ((bytes : List ℕ) → SaysBytes line bytes → IsBytesAnswer kinds (line_front line) bytes bad)
 
 -- one for each line, in order; a CR at its end isn't a character of it
-abbrev pub AreAnswers : Kind → List (List ℕ) → List Answer → Type 0
-AreAnswers kind [] [] = Unit {0}
-AreAnswers kind [] (a ∷ others) = ⊥
-AreAnswers kind (line ∷ lines) [] = ⊥
-AreAnswers kind (line ∷ lines) (a ∷ others) = IsAnswer kind (strip_cr line) a × AreAnswers kind lines others
+abbrev pub AreAnswers : Kinds → List (List ℕ) → List Answer → Type 0
+AreAnswers kinds [] [] = Unit {0}
+AreAnswers kinds [] (a ∷ others) = ⊥
+AreAnswers kinds (line ∷ lines) [] = ⊥
+AreAnswers kinds (line ∷ lines) (a ∷ others) = IsAnswer kinds (strip_cr line) a × AreAnswers kinds lines others
 
--- the digits of the items, in upper case, a line each
-abbrev pub GoodText : List Answer → List ℕ → Type 0
-GoodText [] text = text ≡ []
-GoodText (passed ∷ others) text = GoodText others text
-GoodText (item e ∷ others) text = (bytes : List ℕ) × (rest : List ℕ) × IsEncoded e bytes × (text ≡ (encode_upper bytes ++ 10 ∷ []) ++ rest) × GoodText others rest
-GoodText (bad ∷ others) text = GoodText others text
+-- they are written
+abbrev pub is_written : Good → Bool
+is_written Left = false
+is_written Digits = true
+is_written Json = true
+
+-- the line of an item: its digits in upper case, and before them its kind, where there are several; or JSON
+abbrev pub GoodText : Good → Kinds → ℕ → Kind → List ℕ → EntryValue → List ℕ → Type 0
+GoodText Left kinds n kind before e text = text ≡ []
+GoodText Digits kinds n kind before e text = (bytes : List ℕ) × IsEncoded e bytes × (text ≡ named kinds kind ++ (encode_upper bytes ++ 10 ∷ []))
+GoodText Json kinds n kind before e text = IsJsonItem n before e text
 
 -- what is said of the bad line of this number: a line with a reason
 abbrev pub IsNote : ℕ → List ℕ → Type 0
 IsNote number text = (reason : List ℕ) × (text ≡ codes "line " ++ decimal number ++ codes ": " ++ reason ++ codes "\n")
 
--- the notes of the bad lines, of which the first line has this number
-abbrev pub NotesText : ℕ → List Answer → List ℕ → Type 0
-NotesText n [] text = text ≡ []
-NotesText n (passed ∷ others) text = NotesText (n + 1) others text
-NotesText n (item e ∷ others) text = NotesText (n + 1) others text
-NotesText n (bad ∷ others) text = (note : List ℕ) × (rest : List ℕ) × IsNote n note × (text ≡ note ++ rest) × NotesText (n + 1) others rest
+-- as which items have this number of bytes
+abbrev pub other_words : ℕ → List ℕ
+other_words count = if count == 104 then codes " bytes, as a long telegram has\n" else if count == 27 then codes " bytes, as a short telegram has\n" else codes " bytes, as a radio message whose L_MESSAGE says so\n"
+
+-- what is said of a line of another kind
+abbrev pub other_note : ℕ → ℕ → List ℕ
+other_note number count = codes "line " ++ decimal number ++ codes ": other: " ++ decimal count ++ other_words count
+
+-- what is written of the line of this number: where good ones are asked for, of those, and else of all others
+abbrev pub IsSaid : LogJob → ℕ → Answer → List ℕ → Type 0
+IsSaid job n passed text = text ≡ []
+IsSaid job n (item kind before e) text = GoodText job.good job.kinds n kind before e text
+IsSaid job n (other count) text = (is_written job.good ≡ true → text ≡ []) × (is_written job.good ≡ false → text ≡ other_note n count)
+IsSaid job n bad text = (is_written job.good ≡ true → text ≡ []) × (is_written job.good ≡ false → IsNote n text)
+
+-- of lines one after another, of which the first has this number
+abbrev pub Tells : LogJob → ℕ → List Answer → List ℕ → Type 0
+Tells job n [] text = text ≡ []
+Tells job n (a ∷ others) text = (said : List ℕ) × (rest : List ℕ) × IsSaid job n a said × (text ≡ said ++ rest) × Tells job (n + 1) others rest
 
 abbrev pub items_in : List Answer → ℕ
 items_in [] = 0
 items_in (passed ∷ others) = items_in others
-items_in (item e ∷ others) = 1 + items_in others
+items_in (item kind before e ∷ others) = 1 + items_in others
+items_in (other count ∷ others) = items_in others
 items_in (bad ∷ others) = items_in others
 
 abbrev pub bad_in : List Answer → ℕ
 bad_in [] = 0
 bad_in (passed ∷ others) = bad_in others
-bad_in (item e ∷ others) = bad_in others
+bad_in (item kind before e ∷ others) = bad_in others
+bad_in (other count ∷ others) = bad_in others
 bad_in (bad ∷ others) = 1 + bad_in others
 
--- what is written of lines, of which the first has this number: where good ones are asked for, of those, and else of the bad ones
-abbrev pub Tells : LogJob → ℕ → List Answer → List ℕ → Type 0
-Tells job n others text = (job.good ≡ true → GoodText others text) × (job.good ≡ false → NotesText n others text)
+abbrev pub other_in : List Answer → ℕ
+other_in [] = 0
+other_in (passed ∷ others) = other_in others
+other_in (item kind before e ∷ others) = other_in others
+other_in (other count ∷ others) = 1 + other_in others
+other_in (bad ∷ others) = other_in others
 
--- how many lines are items and how many are bad, a line each
+-- the telegrams among the items, in order
+abbrev pub telegrams_in : List Answer → List TelegramValue
+telegrams_in [] = []
+telegrams_in (passed ∷ others) = telegrams_in others
+telegrams_in (item kind before e ∷ others) = telegram_of e ++ telegrams_in others
+telegrams_in (other count ∷ others) = telegrams_in others
+telegrams_in (bad ∷ others) = telegrams_in others
+
+-- how many lines are of other kinds, where there are any
+abbrev pub other_count : ℕ → List ℕ
+other_count count = if count == 0 then [] else codes "other " ++ decimal count ++ codes "\n"
+
+-- how many lines are items, how many are bad and how many are of other kinds, a line each
 abbrev pub counts_front : LogTally → List ℕ
-counts_front tally = codes "items " ++ decimal tally.items ++ codes "\nbad " ++ decimal tally.bad ++ codes "\n"
+counts_front tally = codes "items " ++ decimal tally.items ++ codes "\nbad " ++ decimal tally.bad ++ codes "\n" ++ other_count tally.other
 
 -- what is written after the last line: counts where they are asked for and good lines aren't
 abbrev pub CountsText : LogJob → LogTally → List ℕ → Type 0
 CountsText job tally text =
-    ((job.good ≡ true) ⊎ (job.summary ≡ false) → text ≡ [])
-    × (job.good ≡ false → job.summary ≡ true → (further : List ℕ) × (text ≡ counts_front tally ++ further))
+    ((is_written job.good ≡ true) ⊎ (job.summary ≡ false) → text ≡ [])
+    × (is_written job.good ≡ false → job.summary ≡ true → (further : List ℕ) × (text ≡ counts_front tally ++ further))
+
+-- what is written after them: a line of each group, where groups are asked for and good lines aren't
+abbrev pub GroupsText : LogJob → List Group → List ℕ → Type 0
+GroupsText job gs text =
+    ((is_written job.good ≡ true) ⊎ (job.groups ≡ false) → text ≡ [])
+    × (is_written job.good ≡ false → job.groups ≡ true → AreGroupLines gs text)
+
+-- both of them
+abbrev pub EndText : LogJob → LogTally → List Group → List ℕ → Type 0
+EndText job tally gs text = (counts : List ℕ) × (lines : List ℕ) × CountsText job tally counts × GroupsText job gs lines × (text ≡ counts ++ lines)
 
 -- this is said of the line of this number; the text written of it; and how it is counted
 abbrev pub Counted : LogJob → ℕ → Answer → LogTally → LogTally → List ℕ → List ℕ → Type 0
-Counted job n a before after text text' = (added : List ℕ) × Tells job n (a ∷ []) added × (text' ≡ text ++ added) × (after.items ≡ before.items + items_in (a ∷ [])) × (after.bad ≡ before.bad + bad_in (a ∷ []))
+Counted job n a before after text text' = (said : List ℕ) × IsSaid job n a said × (text' ≡ text ++ said) × (after.items ≡ before.items + items_in (a ∷ [])) × (after.bad ≡ before.bad + bad_in (a ∷ [])) × (after.other ≡ before.other + other_in (a ∷ []))
+
+-- where groups are asked for, the telegram that the line has, if any, was added to them
+abbrev pub Grouped : LogJob → Answer → List Group → List Group → Type 0
+Grouped job a old new = job.groups ≡ true → (vs : List TelegramValue) → AreGroups vs old → AreGroups (vs ++ telegrams_in (a ∷ [])) new
+
+-- it is counted so, and grouped
+abbrev pub Noted : LogJob → ℕ → Answer → Seen → Seen → List ℕ → List ℕ → Type 0
+Noted job n a before after text text' = Counted job n a before.tally after.tally text text' × Grouped job a before.groups after.groups
 
 -- a line was answered
-abbrev pub Answered : LogJob → ℕ → List ℕ → LogTally → LogTally → List ℕ → List ℕ → Type 0
-Answered job n line before after text text' = (a : Answer) × IsAnswer job.kind line a × Counted job n a before after text text'
+abbrev pub Answered : LogJob → ℕ → List ℕ → Seen → Seen → List ℕ → List ℕ → Type 0
+Answered job n line before after text text' = (a : Answer) × IsAnswer job.kinds line a × Noted job n a before after text text'
 
--- what these bytes are
-abbrev pub IsBytesAnswer : Kind → List ℕ → Answer → Type 0
-IsBytesAnswer kind bytes passed = ⊥
-IsBytesAnswer kind bytes (item e) = IsItem kind bytes e
-IsBytesAnswer kind bytes bad = (e : EntryValue) → IsItem kind bytes e → ⊥
+-- the bytes of a line were answered, with what is before their digits
+abbrev pub BytesAnswered : LogJob → ℕ → List ℕ → List ℕ → Seen → Seen → List ℕ → List ℕ → Type 0
+BytesAnswered job n front bytes before after text text' = (a : Answer) × IsBytesAnswer job.kinds front bytes a × Noted job n a before after text text'
 
--- the bytes of a line were answered
-abbrev pub BytesAnswered : LogJob → ℕ → List ℕ → LogTally → LogTally → List ℕ → List ℕ → Type 0
-BytesAnswered job n bytes before after text text' = (a : Answer) × IsBytesAnswer job.kind bytes a × Counted job n a before after text text'
+-- these were tried: the first item among them was counted, or there is none, and nothing was
+abbrev pub Tried : List Candidate → Bool → LogJob → ℕ → List ℕ → Seen → Seen → List ℕ → List ℕ → Type 0
+Tried cs true job n front before after text text' = (kind : Kind) × (e : EntryValue) × IsFirst cs kind e × Noted job n (item kind front e) before after text text'
+Tried cs false job n front before after text text' = AreNone cs × (after ≡ before) × (text' ≡ text)
 
 -- a whole log: each of its lines, of which the last may be empty and has no LF, is answered once and in order
 pub record IsLog (job : LogJob) (given told : List ℕ) (tally : LogTally) : Type 0 where
@@ -108,11 +176,14 @@ pub record IsLog (job : LogJob) (given told : List ℕ) (tally : LogTally) : Typ
   pub given_is : given ≡ lines_text lines ++ last
   pub are_lines : All IsLine lines × IsLine last
   pub answers : List Answer
-  pub are_answers : AreAnswers job.kind (lines ++ last ∷ []) answers
+  pub are_answers : AreAnswers job.kinds (lines ++ last ∷ []) answers
   pub text : List ℕ
-  pub counts : List ℕ
-  pub told_is : told ≡ text ++ counts
+  pub groups : List Group
+  pub end : List ℕ
+  pub told_is : told ≡ text ++ end
   pub tells : Tells job 1 answers text
-  pub counted : CountsText job tally counts
+  pub end_is : EndText job tally groups end
+  pub groups_are : job.groups ≡ true → AreGroups (telegrams_in answers) groups
   pub items_are : tally.items ≡ items_in answers
   pub bad_are : tally.bad ≡ bad_in answers
+  pub other_are : tally.other ≡ other_in answers

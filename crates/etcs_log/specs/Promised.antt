@@ -10,7 +10,7 @@ use Rattle.etcs_log.specs.Logs.{Answer, AreAnswers, Tells, IsLog}
 -- these lines are answered one after another, and this is the text of them
 pub record LinesTold (job : LogJob) (lines : List (List ℕ)) (told : List ℕ) : Type 0 where
   pub answers : List Answer
-  pub are_answers : AreAnswers job.kind lines answers
+  pub are_answers : AreAnswers job.kinds lines answers
   pub tells : Tells job 1 answers told
 
 -- the text of the first lines of an input: of those that have a LF; or also of a part of the next one, which is too long

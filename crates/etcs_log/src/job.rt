@@ -1,16 +1,44 @@
 //! What is asked of a log, and what it has.
 
-use etcs_text::Kind;
+ghost use Rattle.std.specs.Prelude.{◌≡◌};
+ghost use Rattle.etcs_log.specs.Logs.{is_written};
+
+use crate::kinds::Kinds;
+
+/// What is written of good lines.
+#[derive(Clone, Copy, Debug, PartialEq, Eq)]
+pub enum Good {
+    /// Nothing.
+    Left,
+    /// Their digits in upper case; of several kinds the kind is named before them.
+    Digits,
+    /// A line of JSON each: the line's number, what is before its digits, and its item.
+    Json,
+}
+
+impl Good {
+    /// Whether they are written. What is said of all other lines, and the counts, then go to the notes.
+    pub(crate) fn is_written(self) -> bool
+        ensures { result ≡ is_written self }
+    {
+        match self {
+            Good::Left => false,
+            Good::Digits | Good::Json => true,
+        }
+    }
+}
 
 /// What is asked of a log.
 #[derive(Clone, Copy, Debug, PartialEq, Eq)]
 pub struct LogJob {
-    /// What each line holds.
-    pub kind: Kind,
-    /// Whether the digits of the good lines are written, in upper case.
-    pub good: bool,
+    /// What a line may hold.
+    pub kinds: Kinds,
+    /// What is written of the good lines.
+    pub good: Good,
     /// Whether counts are written at the end.
     pub summary: bool,
+    /// Whether a line of each balise group is written at the end, after the counts.
+    pub groups: bool,
 }
 
 /// What a whole log has.
@@ -20,4 +48,6 @@ pub struct LogTally {
     pub items: u64,
     /// How many are bad.
     pub bad: u64,
+    /// How many have the number of bytes of a kind that isn't asked for.
+    pub other: u64,
 }

@@ -1,12 +1,18 @@
 //! Logs: lines as people have them, an item a line, each of which is read by itself.
 #![tactic(auto)]
 
+mod bits;
 mod counts;
 mod job;
+mod json_lines;
+mod kinds;
 mod lines;
 mod log;
 mod notes;
+mod readers;
 mod runs;
+mod seen;
 
-pub use job::{LogJob, LogTally};
+pub use job::{Good, LogJob, LogTally};
+pub use kinds::Kinds;
 pub use runs::run_log;

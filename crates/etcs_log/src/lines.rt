@@ -1,19 +1,27 @@
 //! What is said of one line after another.
 
-ghost use Rattle.std.specs.Prelude.{◌≡◌, ◌+◌, ◌*◌, ◌<◌, ◌≤◌, ◌^◌, ◌++◌, ◌∷◌, ℕ, List, [], All, OnErr, OnOk, length};
+ghost use Rattle.std.specs.Prelude.{◌≡◌, ◌+◌, ◌*◌, ◌<◌, ◌≤◌, ◌^◌, ◌++◌, ◌∷◌, ℕ, List, [], All, IfOk, OnErr, OnOk, length};
 ghost use Rattle.hex.specs.Hex.{encode_upper};
 ghost use Rattle.etcs_text.specs.Encodings.{IsEncoded};
 ghost use Rattle.etcs_text.specs.Entries.{entry_value};
-ghost use Rattle.etcs_log.specs.Logs.{Answered, BytesAnswered, Counted, CountsText, bad, item};
+ghost use Rattle.etcs_runs.specs.Digits.{line_front};
+ghost use Rattle.etcs_packet_text.specs.Fronts.{Begins};
+ghost use Rattle.etcs_log.specs.Candidates.{AreNone, candidates, last_candidate, last_candidates, may_have, message_candidate, named, whole_candidate, whole_candidates};
+ghost use Rattle.etcs_log.specs.LogGroups.{Holds};
+ghost use Rattle.etcs_log.specs.Logs.{Answered, BytesAnswered, Counted, CountsText, EndText, GroupsText, Noted, Tried, bad, item, other};
 
+use crate::bits::{are_bits, packed};
 use crate::counts::{Counts, append_counts};
-use crate::job::{LogJob, LogTally};
-use crate::notes::{Bad, append_note, write_reason};
+use crate::job::{Good, LogJob, LogTally};
+use crate::json_lines::append_json_item;
+use crate::kinds::{Kinds, is_other, kind_name, telegram_bytes};
+use crate::notes::{Bad, append_note, append_other, write_reason};
+use crate::readers::Readers;
+use crate::seen::Seen;
+use etcs_group::Groups;
 use etcs_packet_text::inner::to_digits;
-use etcs_reasons::inner::wanted_bytes;
-use etcs_runs::{NoBytes, line_bytes};
-use etcs_text::{Entry, Kind, SingleReader, Verdict};
-use etcs_vars::Var;
+use etcs_runs::{NoBytes, line_bytes, line_front};
+use etcs_text::{Entry, Kind, Verdict};
 use std::alloc::{AllocError, Global};
 
 /// Appends bytes in upper case digits and a LF, or nothing.
@@ -30,6 +38,54 @@ fn write_digits(bytes: &[u8], out: &mut Vec<u8>) -> Result<(), AllocError>
     to_digits(out, start)
 }
 
+/// Appends what a kind is called, where there are several, and a blank.
+///
+/// # Errors
+///
+/// Where memory is refused. A part of it may then be in `out`.
+#[tactic(auto, using(etcs_packet_text::specs::laws::Fronts::begins_more))]
+fn write_front(kinds: Kinds, kind: Kind, out: &mut Vec<u8>) -> Result<(), AllocError>
+    ensures ok { OnOk result (out.new.items ≡ out.old.items ++ named kinds kind) }
+    ensures err { OnErr result (Begins out.old.items out.new.items) }
+{
+    if !kinds.several() {
+        return Ok(());
+    }
+    out.extend_from_slice(kind_name(kind).as_bytes())?;
+    out.extend_from_slice(b" ")
+}
+
+/// Appends the line of a good item, or nothing.
+///
+/// # Errors
+///
+/// Where memory is refused.
+fn write_good(kinds: Kinds, kind: Kind, bytes: &[u8], out: &mut Vec<u8>) -> Result<(), AllocError>
+    ensures ok { OnOk result (out.new.items ≡ out.old.items ++ (named kinds kind ++ (encode_upper bytes.now ++ 10 ∷ []))) }
+    ensures err { OnErr result (out.new.items ≡ out.old.items) }
+{
+    let len = out.len();
+    let written = write_line(kinds, kind, bytes, out);
+    if written.is_err() {
+        out.truncate(len);
+    }
+    written
+}
+
+/// Appends that line.
+///
+/// # Errors
+///
+/// Where memory is refused. A part of it may then be in `out`.
+#[tactic(auto, using(etcs_packet_text::specs::laws::Fronts::begins_more, std::proofs::Common::append_assoc))]
+fn write_line(kinds: Kinds, kind: Kind, bytes: &[u8], out: &mut Vec<u8>) -> Result<(), AllocError>
+    ensures ok { OnOk result (out.new.items ≡ out.old.items ++ (named kinds kind ++ (encode_upper bytes.now ++ 10 ∷ []))) }
+    ensures err { OnErr result (Begins out.old.items out.new.items) }
+{
+    write_front(kinds, kind, out)?;
+    write_digits(bytes, out)
+}
+
 /// For callers: each byte is below 256.
 #[inline]
 fn are_bytes(bytes: &[u8])
@@ -38,23 +94,14 @@ fn are_bytes(bytes: &[u8])
     let _ = bytes;
 }
 
-/// Why these bytes are no item: they are refused at a bit, which is counted, or are more or fewer than an item has.
-///
-/// # Errors
-///
-/// Where memory is refused.
-fn bad_bytes(
-    kind: Kind,
-    refusal: Option<(usize, Var)>,
-    bytes: &[u8],
-    counts: &mut Counts,
-) -> Result<Bad, AllocError> {
-    match refusal {
-        Some((bit, var)) if wanted_bytes(kind, bytes) == Some(bytes.len()) => {
-            counts.add_refused(var)?;
-            Ok(Bad::Refused { bit, var })
-        }
-        _ => Ok(Bad::Count),
+/// Whether items of the kind may have this number of bytes.
+fn may_have(kind: Kind, count: usize) -> bool
+    ensures { result ≡ may_have kind count }
+{
+    match kind {
+        Kind::Long => count == 104,
+        Kind::Short => count == 27,
+        Kind::Radio | Kind::Train => true,
     }
 }
 
@@ -64,13 +111,12 @@ pub(crate) struct Answers {
     pub(crate) job: LogJob,
     /// How many lines have come.
     pub(crate) line: u64,
-    pub(crate) tally: LogTally,
-    reader: SingleReader,
+    pub(crate) seen: Seen,
+    readers: Readers,
     counts: Counts,
     words: String,
     /// What is said of bad lines where good ones are asked for.
     pub(crate) notes: Vec<u8>,
-    ghost same: { reader ≡ job.kind },
 }
 
 impl Answers {
@@ -78,13 +124,21 @@ impl Answers {
     pub(crate) fn new(alloc: Global, job: LogJob) -> Answers
         ensures job { result.job ≡ job }
         ensures line { result.line ≡ 0 }
-        ensures tally { (result.tally.items ≡ 0) × (result.tally.bad ≡ 0) }
+        ensures tally { (result.seen.tally.items ≡ 0) × (result.seen.tally.bad ≡ 0) × (result.seen.tally.other ≡ 0) }
+        ensures groups { result.seen.groups ≡ [] }
     {
         Answers {
             job,
             line: 0,
-            tally: LogTally { items: 0, bad: 0 },
-            reader: SingleReader::new(alloc, job.kind),
+            seen: Seen {
+                tally: LogTally {
+                    items: 0,
+                    bad: 0,
+                    other: 0,
+                },
+                groups: Groups::new(alloc),
+            },
+            readers: Readers::new(alloc),
             counts: Counts::new(alloc, job.summary),
             words: String::new(alloc),
             notes: Vec::new(alloc),
@@ -104,15 +158,16 @@ impl Answers {
     ) -> Result<(), AllocError>
         requires short { length line.now ≤ 1048576 }
         requires room { length line.now ≤ 2 * length buffer.old }
-        requires items { self.old.tally.items < 2 ^ 63 }
-        requires bad { self.old.tally.bad < 2 ^ 63 }
+        requires items { self.old.seen.tally.items < 2 ^ 63 }
+        requires bad { self.old.seen.tally.bad < 2 ^ 63 }
+        requires other { self.old.seen.tally.other < 2 ^ 63 }
         ensures job { self.new.job ≡ self.old.job }
         ensures line { self.new.line ≡ self.old.line }
-        ensures ok { OnOk result (Answered self.old.job self.old.line line.now self.old.tally self.new.tally text.old.items text.new.items) }
+        ensures ok { OnOk result (Answered self.old.job self.old.line line.now self.old.seen self.new.seen text.old.items text.new.items) }
         ensures err { OnErr result (text.new.items ≡ text.old.items) }
     {
         match line_bytes(line, buffer) {
-            Ok(count) => self.take_bytes(&buffer[buffer.len() - count..], text),
+            Ok(count) => self.take_bytes(line, &buffer[buffer.len() - count..], text),
             Err(NoBytes::Empty) => Ok(()),
             Err(NoBytes::NoDigits) => self.refuse(Bad::NoDigits, &[], text),
             Err(NoBytes::OddDigits(count)) => self.refuse(Bad::OddDigits(count), &[], text),
@@ -124,49 +179,287 @@ impl Answers {
     /// # Errors
     ///
     /// Where memory is refused. Nothing was appended.
-    fn take_bytes(&mut self, bytes: &[u8], text: &mut Vec<u8>) -> Result<(), AllocError>
-        requires items { self.old.tally.items < 2 ^ 63 }
-        requires bad { self.old.tally.bad < 2 ^ 63 }
+    fn take_bytes(
+        &mut self,
+        line: &[u8],
+        bytes: &[u8],
+        text: &mut Vec<u8>,
+    ) -> Result<(), AllocError>
+        requires items { self.old.seen.tally.items < 2 ^ 63 }
+        requires bad { self.old.seen.tally.bad < 2 ^ 63 }
+        requires other { self.old.seen.tally.other < 2 ^ 63 }
         ensures job { self.new.job ≡ self.old.job }
         ensures line { self.new.line ≡ self.old.line }
-        ensures ok { OnOk result (BytesAnswered self.old.job self.old.line bytes.now self.old.tally self.new.tally text.old.items text.new.items) }
+        ensures ok { OnOk result (BytesAnswered self.old.job self.old.line (line_front line.now) bytes.now self.old.seen self.new.seen text.old.items text.new.items) }
         ensures err { OnErr result (text.new.items ≡ text.old.items) }
     {
-        are_bytes(bytes);
-        let refusal = match self.reader.read(bytes)? {
-            Verdict::Item(entry) => return self.take_item(&entry, bytes, text),
-            Verdict::Refused { bit, var } => Some((bit, var)),
-            Verdict::TooShort => None,
-            Verdict::TooLong => None,
-        };
-        let bad = bad_bytes(self.job.kind, refusal, bytes, &mut self.counts)?;
-        self.refuse(bad, bytes, text)
+        if self.take_whole(line, bytes, text)? {
+            return Ok(());
+        }
+        if self.take_last(line, bytes, text)? {
+            return Ok(());
+        }
+        self.refuse_bytes(line, bytes, text)
     }
 
-    /// Counts an item of these bytes, and writes their digits where they are asked for.
+    /// Takes all bytes of a line as an item of a kind that is asked for, and answers whether they are one.
+    ///
+    /// # Errors
+    ///
+    /// Where memory is refused. Nothing was appended.
+    fn take_whole(
+        &mut self,
+        line: &[u8],
+        bytes: &[u8],
+        text: &mut Vec<u8>,
+    ) -> Result<bool, AllocError>
+        requires items { self.old.seen.tally.items < 2 ^ 63 }
+        ensures job { self.new.job ≡ self.old.job }
+        ensures line { self.new.line ≡ self.old.line }
+        ensures ok { IfOk result (λ taken. Tried (whole_candidates self.old.job.kinds bytes.now) taken self.old.job self.old.line (line_front line.now) self.old.seen self.new.seen text.old.items text.new.items) }
+        ensures err { OnErr result (text.new.items ≡ text.old.items) }
+    {
+        if self.take_telegram(Kind::Long, line, bytes, text)? {
+            return Ok(true);
+        }
+        if self.take_telegram(Kind::Short, line, bytes, text)? {
+            return Ok(true);
+        }
+        self.take_message(line, bytes, text)
+    }
+
+    /// Takes the last bytes of a line as a telegram, where there are more, and answers whether they are one.
+    ///
+    /// # Errors
+    ///
+    /// Where memory is refused. Nothing was appended.
+    fn take_last(
+        &mut self,
+        line: &[u8],
+        bytes: &[u8],
+        text: &mut Vec<u8>,
+    ) -> Result<bool, AllocError>
+        requires items { self.old.seen.tally.items < 2 ^ 63 }
+        ensures job { self.new.job ≡ self.old.job }
+        ensures line { self.new.line ≡ self.old.line }
+        ensures ok { IfOk result (λ taken. Tried (last_candidates self.old.job.kinds bytes.now) taken self.old.job self.old.line (line_front line.now) self.old.seen self.new.seen text.old.items text.new.items) }
+        ensures err { OnErr result (text.new.items ≡ text.old.items) }
+    {
+        if self.take_end(Kind::Long, line, bytes, text)? {
+            return Ok(true);
+        }
+        self.take_end(Kind::Short, line, bytes, text)
+    }
+
+    /// Takes the bytes as a telegram of the kind, where it is asked for, or as its bits, and answers whether they are one.
+    ///
+    /// # Errors
+    ///
+    /// Where memory is refused. Nothing was appended.
+    fn take_telegram(
+        &mut self,
+        kind: Kind,
+        line: &[u8],
+        bytes: &[u8],
+        text: &mut Vec<u8>,
+    ) -> Result<bool, AllocError>
+        requires items { self.old.seen.tally.items < 2 ^ 63 }
+        ensures job { self.new.job ≡ self.old.job }
+        ensures line { self.new.line ≡ self.old.line }
+        ensures ok { IfOk result (λ taken. Tried (whole_candidate self.old.job.kinds kind bytes.now) taken self.old.job self.old.line (line_front line.now) self.old.seen self.new.seen text.old.items text.new.items) }
+        ensures err { OnErr result (text.new.items ≡ text.old.items) }
+    {
+        if !self.job.kinds.contains(kind) {
+            return Ok(false);
+        }
+        if are_bits(kind, bytes) {
+            let packed = packed(bytes);
+            return self.take_item(kind, line, &packed[..telegram_bytes(kind)], text);
+        }
+        self.take_item(kind, line, bytes, text)
+    }
+
+    /// Takes the bytes as a message, where a way is asked for, and answers whether they are one.
+    ///
+    /// # Errors
+    ///
+    /// Where memory is refused. Nothing was appended.
+    fn take_message(
+        &mut self,
+        line: &[u8],
+        bytes: &[u8],
+        text: &mut Vec<u8>,
+    ) -> Result<bool, AllocError>
+        requires items { self.old.seen.tally.items < 2 ^ 63 }
+        ensures job { self.new.job ≡ self.old.job }
+        ensures line { self.new.line ≡ self.old.line }
+        ensures ok { IfOk result (λ taken. Tried (message_candidate self.old.job.kinds bytes.now) taken self.old.job self.old.line (line_front line.now) self.old.seen self.new.seen text.old.items text.new.items) }
+        ensures err { OnErr result (text.new.items ≡ text.old.items) }
+    {
+        let kinds = self.job.kinds;
+        if !kinds.radio && !kinds.train {
+            return Ok(false);
+        }
+        self.take_item(kinds.message_way(bytes), line, bytes, text)
+    }
+
+    /// Takes the last of more bytes as a telegram of the kind, where it is asked for, and answers whether they are one.
+    ///
+    /// # Errors
+    ///
+    /// Where memory is refused. Nothing was appended.
+    fn take_end(
+        &mut self,
+        kind: Kind,
+        line: &[u8],
+        bytes: &[u8],
+        text: &mut Vec<u8>,
+    ) -> Result<bool, AllocError>
+        requires items { self.old.seen.tally.items < 2 ^ 63 }
+        ensures job { self.new.job ≡ self.old.job }
+        ensures line { self.new.line ≡ self.old.line }
+        ensures ok { IfOk result (λ taken. Tried (last_candidate self.old.job.kinds kind bytes.now) taken self.old.job self.old.line (line_front line.now) self.old.seen self.new.seen text.old.items text.new.items) }
+        ensures err { OnErr result (text.new.items ≡ text.old.items) }
+    {
+        let count = telegram_bytes(kind);
+        if !self.job.kinds.contains(kind) || bytes.len() <= count {
+            return Ok(false);
+        }
+        self.take_item(kind, line, &bytes[bytes.len() - count..], text)
+    }
+
+    /// Takes these bytes as an item of the kind, and answers whether they are one.
     ///
     /// # Errors
     ///
     /// Where memory is refused. Nothing was appended.
     fn take_item(
         &mut self,
+        kind: Kind,
+        line: &[u8],
+        bytes: &[u8],
+        text: &mut Vec<u8>,
+    ) -> Result<bool, AllocError>
+        requires items { self.old.seen.tally.items < 2 ^ 63 }
+        ensures job { self.new.job ≡ self.old.job }
+        ensures line { self.new.line ≡ self.old.line }
+        ensures ok { IfOk result (λ taken. Tried (record { kind = kind; bytes = bytes.now } ∷ []) taken self.old.job self.old.line (line_front line.now) self.old.seen self.new.seen text.old.items text.new.items) }
+        ensures err { OnErr result (text.new.items ≡ text.old.items) }
+    {
+        if !may_have(kind, bytes.len()) {
+            return Ok(false);
+        }
+        are_bytes(bytes);
+        match self.readers.read(kind, bytes)? {
+            Verdict::Item(entry) => {
+                let start = text.len();
+                self.add_item(kind, line, &entry, bytes, text)?;
+                if !self.job.groups {
+                    self.readers.reuse(kind, entry);
+                    return Ok(true);
+                }
+                match self.hold(entry) {
+                    Ok(()) => Ok(true),
+                    Err(AllocError) => {
+                        text.truncate(start);
+                        Err(AllocError)
+                    }
+                }
+            }
+            Verdict::Refused { .. } | Verdict::TooShort | Verdict::TooLong => Ok(false),
+        }
+    }
+
+    /// Counts an item of these bytes, and writes its line where it is asked for.
+    ///
+    /// # Errors
+    ///
+    /// Where memory is refused. Nothing was appended.
+    fn add_item(
+        &mut self,
+        kind: Kind,
+        line: &[u8],
         entry: &Entry,
         bytes: &[u8],
         text: &mut Vec<u8>,
     ) -> Result<(), AllocError>
         requires encoded { IsEncoded (entry_value entry.now) bytes.now }
-        requires items { self.old.tally.items < 2 ^ 63 }
+        requires items { self.old.seen.tally.items < 2 ^ 63 }
         ensures job { self.new.job ≡ self.old.job }
         ensures line { self.new.line ≡ self.old.line }
-        ensures ok { OnOk result (Counted self.old.job self.old.line (item (entry_value entry.now)) self.old.tally self.new.tally text.old.items text.new.items) }
+        ensures groups { self.new.seen.groups ≡ self.old.seen.groups }
+        ensures ok { OnOk result (Counted self.old.job self.old.line (item kind (line_front line.now) (entry_value entry.now)) self.old.seen.tally self.new.seen.tally text.old.items text.new.items) }
         ensures err { OnErr result (text.new.items ≡ text.old.items) }
     {
-        self.tally.items += 1;
-        self.counts.add_item(entry);
-        if !self.job.good {
-            return Ok(());
+        self.seen.tally.items += 1;
+        self.counts.add_item(kind, entry);
+        match self.job.good {
+            Good::Left => Ok(()),
+            Good::Digits => write_good(self.job.kinds, kind, bytes, text),
+            Good::Json => append_json_item(self.line, line_front(line), entry, text),
         }
-        write_digits(bytes, text)
+    }
+
+    /// Adds a telegram to the groups.
+    ///
+    /// # Errors
+    ///
+    /// Where memory is refused.
+    fn hold(&mut self, entry: Entry) -> Result<(), AllocError>
+        ensures job { self.new.job ≡ self.old.job }
+        ensures line { self.new.line ≡ self.old.line }
+        ensures tally { self.new.seen.tally ≡ self.old.seen.tally }
+        ensures ok { OnOk result (Holds (entry_value entry) self.old.seen.groups self.new.seen.groups) }
+    {
+        match entry {
+            Entry::Telegram(telegram) => self.seen.groups.add(telegram),
+            Entry::Message(_) | Entry::Train(_) => Ok(()),
+        }
+    }
+
+    /// Says what a line is whose bytes are no item of the kinds: of another kind, by their number, or bad.
+    ///
+    /// # Errors
+    ///
+    /// Where memory is refused. Nothing was appended.
+    fn refuse_bytes(
+        &mut self,
+        line: &[u8],
+        bytes: &[u8],
+        text: &mut Vec<u8>,
+    ) -> Result<(), AllocError>
+        requires none { AreNone (candidates self.old.job.kinds bytes.now) }
+        requires bad { self.old.seen.tally.bad < 2 ^ 63 }
+        requires other { self.old.seen.tally.other < 2 ^ 63 }
+        ensures job { self.new.job ≡ self.old.job }
+        ensures line { self.new.line ≡ self.old.line }
+        ensures ok { OnOk result (BytesAnswered self.old.job self.old.line (line_front line.now) bytes.now self.old.seen self.new.seen text.old.items text.new.items) }
+        ensures err { OnErr result (text.new.items ≡ text.old.items) }
+    {
+        if is_other(self.job.kinds, bytes) {
+            return self.pass_other(bytes.len(), text);
+        }
+        self.refuse(Bad::Bytes, bytes, text)
+    }
+
+    /// Says that a line has this number of bytes, which only a kind that isn't asked for has.
+    ///
+    /// # Errors
+    ///
+    /// Where memory is refused. Nothing was appended.
+    fn pass_other(&mut self, count: usize, text: &mut Vec<u8>) -> Result<(), AllocError>
+        requires other { self.old.seen.tally.other < 2 ^ 63 }
+        ensures job { self.new.job ≡ self.old.job }
+        ensures line { self.new.line ≡ self.old.line }
+        ensures ok { OnOk result (Noted self.old.job self.old.line (other count) self.old.seen self.new.seen text.old.items text.new.items) }
+        ensures err { OnErr result (text.new.items ≡ text.old.items) }
+    {
+        self.seen.tally.other += 1;
+        if self.job.good.is_written() {
+            append_other(self.line, count, &mut self.notes)
+        } else {
+            append_other(self.line, count, text)
+        }
     }
 
     /// Says why a line is bad, which says these bytes, if it says any.
@@ -180,19 +473,66 @@ impl Answers {
         bytes: &[u8],
         text: &mut Vec<u8>,
     ) -> Result<(), AllocError>
-        requires bad { self.old.tally.bad < 2 ^ 63 }
+        requires bad { self.old.seen.tally.bad < 2 ^ 63 }
         ensures job { self.new.job ≡ self.old.job }
         ensures line { self.new.line ≡ self.old.line }
-        ensures ok { OnOk result (Counted self.old.job self.old.line bad self.old.tally self.new.tally text.old.items text.new.items) }
+        ensures ok { OnOk result (Noted self.old.job self.old.line bad self.old.seen self.new.seen text.old.items text.new.items) }
         ensures err { OnErr result (text.new.items ≡ text.old.items) }
     {
-        self.tally.bad += 1;
+        self.seen.tally.bad += 1;
         self.words.clear();
-        write_reason(why, self.job.kind, bytes, &mut self.words)?;
-        if self.job.good {
+        write_reason(
+            why,
+            self.job.kinds,
+            bytes,
+            &mut self.counts,
+            &mut self.words,
+        )?;
+        if self.job.good.is_written() {
             append_note(self.line, self.words.as_str(), &mut self.notes)
         } else {
             append_note(self.line, self.words.as_str(), text)
+        }
+    }
+
+    /// Appends what comes after the last line: the counts and the groups, where they are asked for.
+    ///
+    /// # Errors
+    ///
+    /// Where memory is refused. Nothing was appended.
+    pub(crate) fn write_end(&mut self, text: &mut Vec<u8>) -> Result<(), AllocError>
+        ensures job { self.new.job ≡ self.old.job }
+        ensures tally { self.new.seen.tally ≡ self.old.seen.tally }
+        ensures ok { OnOk result ((end : List ℕ) × EndText self.old.job self.old.seen.tally self.old.seen.groups end × (text.new.items ≡ text.old.items ++ end)) }
+        ensures err { OnErr result (text.new.items ≡ text.old.items) }
+    {
+        let start = text.len();
+        self.write_counts(text)?;
+        let written = self.write_groups(text);
+        if written.is_err() {
+            text.truncate(start);
+        }
+        written
+    }
+
+    /// Appends a line of each group, where they are asked for.
+    ///
+    /// # Errors
+    ///
+    /// Where memory is refused. Nothing was appended.
+    fn write_groups(&mut self, text: &mut Vec<u8>) -> Result<(), AllocError>
+        ensures job { self.new.job ≡ self.old.job }
+        ensures seen { self.new.seen ≡ self.old.seen }
+        ensures ok { OnOk result ((lines : List ℕ) × GroupsText self.old.job self.old.seen.groups lines × (text.new.items ≡ text.old.items ++ lines)) }
+        ensures err { OnErr result (text.new.items ≡ text.old.items) }
+    {
+        if !self.job.groups {
+            return Ok(());
+        }
+        if self.job.good.is_written() {
+            self.seen.groups.write(&mut self.notes)
+        } else {
+            self.seen.groups.write(text)
         }
     }
 
@@ -201,21 +541,21 @@ impl Answers {
     /// # Errors
     ///
     /// Where memory is refused. Nothing was appended.
-    pub(crate) fn write_counts(&mut self, text: &mut Vec<u8>) -> Result<(), AllocError>
+    fn write_counts(&mut self, text: &mut Vec<u8>) -> Result<(), AllocError>
         ensures job { self.new.job ≡ self.old.job }
-        ensures tally { self.new.tally ≡ self.old.tally }
-        ensures ok { OnOk result ((counts : List ℕ) × CountsText self.old.job self.old.tally counts × (text.new.items ≡ text.old.items ++ counts)) }
+        ensures seen { self.new.seen ≡ self.old.seen }
+        ensures ok { OnOk result ((counts : List ℕ) × CountsText self.old.job self.old.seen.tally counts × (text.new.items ≡ text.old.items ++ counts)) }
         ensures err { OnErr result (text.new.items ≡ text.old.items) }
     {
         if !self.job.summary {
             return Ok(());
         }
         self.words.clear();
-        self.counts.write(&mut self.words)?;
-        if self.job.good {
-            append_counts(&self.tally, self.words.as_str(), &mut self.notes)
+        self.counts.write(self.job.kinds, &mut self.words)?;
+        if self.job.good.is_written() {
+            append_counts(&self.seen.tally, self.words.as_str(), &mut self.notes)
         } else {
-            append_counts(&self.tally, self.words.as_str(), text)
+            append_counts(&self.seen.tally, self.words.as_str(), text)
         }
     }
 }

@@ -1,7 +1,7 @@
 //! A log: lines one after another, each read by itself.
 
 ghost use Rattle.std.specs.Prelude.{◌≡◌, ◌+◌, ◌<◌, ◌≤◌, ◌^◌, ◌++◌, ◌∷◌, ℕ, List, [], IfErr, IfOk, OnErr, OnOk, length, ⊤};
-ghost use Rattle.etcs_log.specs.Logs.{Answered, CountsText};
+ghost use Rattle.etcs_log.specs.Logs.{Answered, EndText};
 ghost use Rattle.etcs_log.specs.Promised.{log_promises};
 ghost use Rattle.etcs_runs.specs.declared.fault.RunFault.{RunFault};
 ghost use Rattle.etcs_log.specs.Stands.{LogTook};
@@ -42,7 +42,7 @@ impl LogLines {
     /// No line has come.
     pub(crate) fn new(alloc: Global, job: LogJob) -> LogLines
         ensures job { result.answers.job ≡ job }
-        ensures took { LogTook job result.answers.line result.answers.tally [] [] }
+        ensures took { LogTook job result.answers.line result.answers.seen [] [] }
     {
         LogLines {
             buffer: Vec::new(alloc),
@@ -57,11 +57,12 @@ impl LogLines {
     /// Where memory is refused. Nothing was appended.
     fn take(&mut self, line: &[u8], text: &mut Vec<u8>) -> Result<(), AllocError>
         requires line { self.old.answers.line < 2 ^ 63 }
-        requires items { self.old.answers.tally.items < 2 ^ 63 }
-        requires bad { self.old.answers.tally.bad < 2 ^ 63 }
+        requires items { self.old.answers.seen.tally.items < 2 ^ 63 }
+        requires bad { self.old.answers.seen.tally.bad < 2 ^ 63 }
+        requires other { self.old.answers.seen.tally.other < 2 ^ 63 }
         ensures job { self.new.answers.job ≡ self.old.answers.job }
         ensures line { self.new.answers.line ≡ self.old.answers.line + 1 }
-        ensures ok { OnOk result (Answered self.old.answers.job (self.old.answers.line + 1) line.now self.old.answers.tally self.new.answers.tally text.old.items text.new.items) }
+        ensures ok { OnOk result (Answered self.old.answers.job (self.old.answers.line + 1) line.now self.old.answers.seen self.new.answers.seen text.old.items text.new.items) }
         ensures err { OnErr result (text.new.items ≡ text.old.items) }
     {
         self.answers.line += 1;
@@ -72,17 +73,17 @@ impl LogLines {
         self.answers.take(line, self.buffer.as_mut_slice(), text)
     }
 
-    /// The log is at its end: writes the counts.
+    /// The log is at its end: writes the counts and the groups.
     ///
     /// # Errors
     ///
     /// `Memory`. Nothing was appended.
     fn end(&mut self, text: &mut Vec<u8>) -> Result<LogTally, RunFault>
-        ensures ok { IfOk result (λ tally. (tally ≡ self.old.answers.tally) × ((counts : List ℕ) × CountsText self.old.answers.job tally counts × (text.new.items ≡ text.old.items ++ counts))) }
+        ensures ok { IfOk result (λ tally. (tally ≡ self.old.answers.seen.tally) × ((end : List ℕ) × EndText self.old.answers.job tally self.old.answers.seen.groups end × (text.new.items ≡ text.old.items ++ end))) }
         ensures err { IfErr result (λ e. (e ≡ RunFault.Memory) × (text.new.items ≡ text.old.items)) }
     {
-        match self.answers.write_counts(text) {
-            Ok(()) => Ok(self.answers.tally),
+        match self.answers.write_end(text) {
+            Ok(()) => Ok(self.answers.seen.tally),
             Err(AllocError) => Err(RunFault::Memory),
         }
     }
@@ -99,7 +100,7 @@ impl LineHandler for LogLines {
 
     ghost most = { λ job. 1048576 };
 
-    ghost took = { λ s lines told. LogTook s.answers.job s.answers.line s.answers.tally lines told };
+    ghost took = { λ s lines told. LogTook s.answers.job s.answers.line s.answers.seen lines told };
 
     ghost said = { λ s told. ⊤ };
 
@@ -145,9 +146,9 @@ impl LineHandler for LogLines {
 
     ghost sound = { λ s. log_sound s.answers.job };
 
-    ghost took_tells = { λ s lines begun told h l. took_told s.answers.job s.answers.line s.answers.tally lines begun told h l };
+    ghost took_tells = { λ s lines begun told h l. took_told s.answers.job s.answers.line s.answers.seen lines begun told h l };
 
-    ghost long_tells = { λ s lines part told h l long. long_told s.answers.job s.answers.line s.answers.tally lines part told h l long };
+    ghost long_tells = { λ s lines part told h l long. long_told s.answers.job s.answers.line s.answers.seen lines part told h l long };
 
     ghost took_said = { λ s lines told h. tt };
 }
@@ -202,5 +203,5 @@ impl<'a, N: Sink> Engine for LogEngine<'a, N> {
 
     ghost sound = { λ e. log_sound e.lines.handler.answers.job };
 
-    ghost stands_tells = { λ e given told h. stands_told e.lines.handler.answers.job e.lines.handler.answers.line e.lines.handler.answers.tally _ _ _ given told h };
+    ghost stands_tells = { λ e given told h. stands_told e.lines.handler.answers.job e.lines.handler.answers.line e.lines.handler.answers.seen _ _ _ given told h };
 }

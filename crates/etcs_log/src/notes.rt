@@ -3,14 +3,16 @@
 ghost use Rattle.std.specs.Prelude.{◌≡◌, ◌++◌, ℕ, List, codes, OnErr, OnOk};
 ghost use Rattle.std.specs.Fmt.{decimal};
 ghost use Rattle.etcs_packet_text.specs.Fronts.{Begins};
-ghost use Rattle.etcs_log.specs.Logs.{IsNote};
+ghost use Rattle.etcs_log.specs.Logs.{IsNote, other_note, other_words};
 
+use crate::bits::{are_bits, packed};
+use crate::counts::Counts;
+use crate::kinds::{Kinds, says_length, telegram_bytes};
 use etcs_packet_text::inner::write_decimal;
 use etcs_reasons::inner::{wanted_bytes, write_count_of, write_no_bytes};
 use etcs_reasons::why;
 use etcs_runs::{MOST_LINE, NoBytes};
 use etcs_text::Kind;
-use etcs_vars::Var;
 use std::alloc::AllocError;
 
 /// Why a line is bad.
@@ -22,51 +24,102 @@ pub(crate) enum Bad {
     NoDigits,
     /// It ends with this number of digits, which is odd.
     OddDigits(usize),
-    /// It says another number of bytes than the item has.
-    Count,
-    /// No item continues with this bit.
-    Refused { bit: usize, var: Var },
+    /// Its bytes are no item.
+    Bytes,
 }
 
-/// Appends why a line of these bytes is bad.
+/// Appends why a line of these bytes is bad, and counts the variable at which they are refused.
 ///
 /// # Errors
 ///
 /// Where memory is refused. A part of the text may then be in `out`.
 pub(crate) fn write_reason(
     bad: Bad,
-    kind: Kind,
+    kinds: Kinds,
     bytes: &[u8],
+    counts: &mut Counts,
     out: &mut String,
 ) -> Result<(), AllocError> {
     match bad {
         Bad::Long => write!(out, "more than {MOST_LINE} characters"),
         Bad::NoDigits => write_no_bytes(NoBytes::NoDigits, out),
         Bad::OddDigits(count) => write_no_bytes(NoBytes::OddDigits(count), out),
-        Bad::Count => write_bytes(kind, bytes, out),
-        Bad::Refused { bit, var } => {
-            write!(out, "refused at bit {bit}, {var}")?;
-            write_why(kind, bytes, out)
+        Bad::Bytes => write_no_item(kinds, bytes, counts, out),
+    }
+}
+
+/// Appends why these bytes are no item: of the first kind that has this number of bytes why they are refused; of none how
+/// many they are.
+fn write_no_item(
+    kinds: Kinds,
+    bytes: &[u8],
+    counts: &mut Counts,
+    out: &mut String,
+) -> Result<(), AllocError> {
+    for kind in [Kind::Long, Kind::Short] {
+        if kinds.contains(kind) && are_bits(kind, bytes) {
+            return write_refused(kind, &packed(bytes)[..telegram_bytes(kind)], counts, out);
         }
+        if kinds.contains(kind) && bytes.len() == telegram_bytes(kind) {
+            return write_refused(kind, bytes, counts, out);
+        }
+    }
+    if (kinds.radio || kinds.train) && says_length(bytes) {
+        return write_refused(kinds.message_way(bytes), bytes, counts, out);
+    }
+    write_bytes(kinds, bytes, out)
+}
+
+/// Appends at which bit the bytes are refused as an item of the kind, and why; counts its variable.
+fn write_refused(
+    kind: Kind,
+    bytes: &[u8],
+    counts: &mut Counts,
+    out: &mut String,
+) -> Result<(), AllocError> {
+    match why(*out.allocator(), kind, bytes)? {
+        Some(reason) => {
+            counts.add_refused(reason.var)?;
+            write!(
+                out,
+                "refused at bit {}, {}: {}",
+                reason.bit, reason.var, reason.sentence
+            )
+        }
+        // doesn't come: of so many bytes, those that are no item are refused
+        None => write_count_of(bytes.len(), "byte", out),
     }
 }
 
 /// Appends how many bytes there are and how many are wanted.
-fn write_bytes(kind: Kind, bytes: &[u8], out: &mut String) -> Result<(), AllocError> {
+fn write_bytes(kinds: Kinds, bytes: &[u8], out: &mut String) -> Result<(), AllocError> {
     write_count_of(bytes.len(), "byte", out)?;
-    match (kind, wanted_bytes(kind, bytes)) {
-        (Kind::Long, _) => out.push_str(", a long telegram has 104"),
-        (Kind::Short, _) => out.push_str(", a short telegram has 27"),
-        (_, Some(wanted)) => write!(out, ", L_MESSAGE says {wanted}"),
-        (_, None) => out.push_str(", a radio message has at least 3"),
+    let messages = kinds.radio || kinds.train;
+    match (kinds.long, kinds.short, messages) {
+        (true, false, false) => out.push_str(", a long telegram has 104"),
+        (false, true, false) => out.push_str(", a short telegram has 27"),
+        (false, false, true) => write_length(", ", ", a radio message has at least 3", bytes, out),
+        _ => {
+            out.push_str(", which no item of these kinds has")?;
+            if messages {
+                write_length(": ", "", bytes, out)
+            } else {
+                Ok(())
+            }
+        }
     }
 }
 
-/// Appends why the bytes are refused.
-fn write_why(kind: Kind, bytes: &[u8], out: &mut String) -> Result<(), AllocError> {
-    match why(*out.allocator(), kind, bytes)? {
-        Some(reason) => write!(out, ": {}", reason.sentence),
-        None => Ok(()),
+/// Appends what L_MESSAGE says, where it is there.
+fn write_length(
+    front: &str,
+    short: &str,
+    bytes: &[u8],
+    out: &mut String,
+) -> Result<(), AllocError> {
+    match wanted_bytes(Kind::Radio, bytes) {
+        Some(wanted) => write!(out, "{front}L_MESSAGE says {wanted}"),
+        None => out.push_str(short),
     }
 }
 
@@ -102,4 +155,49 @@ fn write_note(number: u64, reason: &str, out: &mut Vec<u8>) -> Result<(), AllocE
     out.extend_from_slice(b": ")?;
     out.extend_from_slice(reason.as_bytes())?;
     out.extend_from_slice(b"\n")
+}
+
+/// Appends the line that says that the line of this number has the number of bytes of another kind, or nothing.
+///
+/// # Errors
+///
+/// Where memory is refused.
+pub(crate) fn append_other(number: u64, count: usize, out: &mut Vec<u8>) -> Result<(), AllocError>
+    ensures ok { OnOk result (out.new.items ≡ out.old.items ++ other_note number count) }
+    ensures err { OnErr result (out.new.items ≡ out.old.items) }
+{
+    let len = out.len();
+    let written = write_other(number, count, out);
+    if written.is_err() {
+        out.truncate(len);
+    }
+    written
+}
+
+/// Appends that line.
+///
+/// # Errors
+///
+/// Where memory is refused. A part of it may then be in `out`.
+#[tactic(auto, using(etcs_packet_text::specs::laws::Fronts::begins_more, std::proofs::Common::append_assoc))]
+fn write_other(number: u64, count: usize, out: &mut Vec<u8>) -> Result<(), AllocError>
+    ensures ok { OnOk result (out.new.items ≡ out.old.items ++ other_note number count) }
+    ensures err { OnErr result (Begins out.old.items out.new.items) }
+{
+    out.extend_from_slice(b"line ")?;
+    write_decimal(number, out)?;
+    out.extend_from_slice(b": other: ")?;
+    write_decimal(count as u64, out)?;
+    out.extend_from_slice(other_words(count).as_bytes())
+}
+
+/// As which items have this number of bytes.
+fn other_words(count: usize) -> &'static str
+    ensures { result.now ≡ other_words count }
+{
+    match count {
+        104 => " bytes, as a long telegram has\n",
+        27 => " bytes, as a short telegram has\n",
+        _ => " bytes, as a radio message whose L_MESSAGE says so\n",
+    }
 }

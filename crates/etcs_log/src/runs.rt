@@ -19,10 +19,11 @@ use std::alloc::Global;
 /// How many reads a log has at most, which are more than can be made.
 const MOST_READS: u64 = 1 << 49;
 
-/// Reads a log, an item of the kind a line. The bytes of each line are those that its digits say, as `line_bytes` finds
-/// them; blank lines and comments are passed over. Of each other line that is no item, and of each line of more than
-/// 1,048,576 characters, it writes why, and continues. Where good lines are asked for, their digits go to `sink`, and what is
-/// said of bad lines and the counts to `notes`; else all goes to `sink`. What `notes` doesn't take is lost.
+/// Reads a log, an item of one of the kinds a line. The bytes of each line are those that its digits say, as `line_bytes`
+/// finds them; blank lines and comments are passed over. Each other line is the first item that the kinds find in it. Of a
+/// line that has only the number of bytes of a kind that isn't asked for it writes that, of all others, and of each line of
+/// more than 1,048,576 characters, why it is none, and continues. Where good lines are asked for, they go to `sink`, and what
+/// is said of all others, the counts and the groups to `notes`; else all goes to `sink`. What `notes` doesn't take is lost.
 ///
 /// # Errors
 ///

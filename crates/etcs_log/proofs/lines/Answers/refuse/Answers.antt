@@ -1,13 +1,19 @@
-use Rattle.std.proofs.Common.{refl}
-use Rattle.etcs_log.proofs.Answering.{on_ok, counted_bad, counted_note_if}
+use Rattle.std.proofs.Common.{◌+◌, ◌∙◌, refl, sym}
+use Rattle.etcs_log.specs.declared.seen.Seen.{Seen}
+use Rattle.etcs_log.specs.Logs.{bad}
+use Rattle.etcs_log.proofs.Answering.{on_ok, counted_bad, counted_note_if, noted_same}
 use Rattle.etcs_log.proofs.lines.Answers.refuse.Goals as goal
 
-pub returns-then-self-clause-ok : goal.returns-then-self-clause-ok
-returns-then-self-clause-ok c =
+pub returns-then-is_written-clause-ok : goal.returns-then-is_written-clause-ok
+returns-then-is_written-clause-ok c =
     let s = c.args.self.now in
-    on_ok c.append_note.result _ (counted_bad s.job s.line s.tally _ c.args.text.now.items c.args.text.now.items c.if-self.true refl refl refl)
+    let t = c.args.text.now.items in
+    let after : Seen = record s.seen { tally = record s.seen.tally { bad = s.seen.tally.bad + 1 } } in
+    noted_same c.append_note.result s.job s.line bad s.seen after t t refl refl (on_ok c.append_note.result _ (counted_bad s.job s.line s.seen.tally after.tally t t (sym c.is_written.ensures ∙ c.if-is_written.true) refl refl refl refl))
 
-pub returns-else-self-clause-ok : goal.returns-else-self-clause-ok
-returns-else-self-clause-ok c =
+pub returns-else-is_written-clause-ok : goal.returns-else-is_written-clause-ok
+returns-else-is_written-clause-ok c =
     let s = c.args.self.now in
-    counted_note_if c.append_note-else-self.result s.job s.line s.tally _ c.args.text.now.items c.append_note-else-self.new.out.items c.if-self.false refl refl c.append_note-else-self.ensures.ok
+    let n = c.append_note-else-is_written in
+    let after : Seen = record s.seen { tally = record s.seen.tally { bad = s.seen.tally.bad + 1 } } in
+    noted_same n.result s.job s.line bad s.seen after c.args.text.now.items n.new.out.items refl refl (counted_note_if n.result s.job s.line s.seen.tally after.tally c.args.text.now.items n.new.out.items (sym c.is_written.ensures ∙ c.if-is_written.false) refl refl refl n.ensures.ok)

@@ -1,22 +1,22 @@
-use Rattle.etcs_text.specs.declared.verdict.Verdict.TheVariants.{Refused, TooShort, TooLong}
-use Rattle.etcs_log.proofs.Answering.{answered_item, answered_bad}
+use Rattle.std.proofs.Common.{refl}
+use Rattle.etcs_runs.specs.Digits.{line_front}
+use Rattle.etcs_log.specs.Candidates.{last_candidates, whole_candidates}
+use Rattle.etcs_log.proofs.Answering.{answered_first, tried_left, tried_next, tried_none}
 use Rattle.etcs_log.proofs.lines.Answers.take_bytes.Goals as goal
-use Rattle.etcs_log.proofs.lines.Answers.take_bytes.Goals.{in-Refused, in-TooShort, in-TooLong}
 
-pub returns-in-Item-clause-ok : goal.returns-in-Item-clause-ok
-returns-in-Item-clause-ok c =
+pub returns-then-branch-clause-ok : goal.returns-then-branch-clause-ok
+returns-then-branch-clause-ok c =
     let s = c.args.self.now in
-    answered_item s.job s.line s.reader c.args.bytes.now c.in_ok-entry.field-0 c.in-Item.entry s.tally c.take_item.new.self.tally c.args.text.now.items c.take_item.new.text.items c.take_item.result s.same c.in_ok-entry.ensures.verdict c.in-Item.is c.take_item.ensures.ok
+    let bytes = c.args.bytes.now in
+    let w = c.take_whole in
+    answered_first _ s.job s.line (line_front c.args.line.now) bytes s.seen w.new.self.seen c.args.text.now.items w.new.text.items refl (tried_left c.in_ok-take_whole.field-0 (whole_candidates s.job.kinds bytes) (last_candidates s.job.kinds bytes) s.job s.line (line_front c.args.line.now) s.seen w.new.self.seen c.args.text.now.items w.new.text.items c.if-branch.true c.in_ok-take_whole.ensures.ok)
 
-pub returns-clause-ok : goal.returns-clause-ok
-returns-clause-ok c =
+pub returns-then-branch-2-clause-ok : goal.returns-then-branch-2-clause-ok
+returns-then-branch-2-clause-ok c =
     let s = c.args.self.now in
-    let t = c.args.text.now.items in
-    let n = c.refuse.new.self.tally in
-    let t' = c.refuse.new.text.items in
-    let answer = answered_bad s.job s.line s.reader c.args.bytes.now c.in_ok-entry.field-0 in
-    elim c.match-branch-2.branch [
-      | in-Refused w ↦ answer (Refused w.in-Refused.bit w.in-Refused.var) s.tally n t t' c.refuse.result s.same c.in_ok-entry.ensures.verdict w.in-Refused.is tt c.refuse.ensures.ok
-      | in-TooShort w ↦ answer TooShort s.tally n t t' c.refuse.result s.same c.in_ok-entry.ensures.verdict w.in-TooShort.is tt c.refuse.ensures.ok
-      | in-TooLong w ↦ answer TooLong s.tally n t t' c.refuse.result s.same c.in_ok-entry.ensures.verdict w.in-TooLong.is tt c.refuse.ensures.ok
-    ]
+    let bytes = c.args.bytes.now in
+    let w = c.take_whole in
+    let l = c.take_last in
+    let one = w.new.self in
+    let whole = tried_none c.in_ok-take_whole.field-0 _ s.job s.line (line_front c.args.line.now) s.seen one.seen c.args.text.now.items w.new.text.items c.if-branch.false c.in_ok-take_whole.ensures.ok in
+    answered_first c.in_ok-take_last.field-0 s.job s.line (line_front c.args.line.now) bytes s.seen l.new.self.seen c.args.text.now.items l.new.text.items c.if-branch-2.true (tried_next c.in_ok-take_last.field-0 (whole_candidates s.job.kinds bytes) (λ k. last_candidates k bytes) s.job one.job s.line one.line (line_front c.args.line.now) s.seen one.seen l.new.self.seen c.args.text.now.items w.new.text.items l.new.text.items w.ensures.job w.ensures.line whole c.in_ok-take_last.ensures.ok)

@@ -6,4 +6,4 @@ use Rattle.etcs_log.proofs.log.LogLines.take.Goals as goal
 pub returns-then-line-gt-MOST_LINE-clause-ok : goal.returns-then-line-gt-MOST_LINE-clause-ok
 returns-then-line-gt-MOST_LINE-clause-ok c =
     let s = c.args.self.now.answers in
-    answered_none s.job (s.line + 1) c.args.line.now s.tally c.refuse.new.self.tally c.args.text.now.items c.refuse.new.text.items c.refuse.result (long_line s.job.kind c.args.line.now (omega arith)) c.refuse.ensures.ok
+    answered_none s.job (s.line + 1) c.args.line.now s.seen c.refuse.new.self.seen c.args.text.now.items c.refuse.new.text.items c.refuse.result (long_line s.job.kinds c.args.line.now (omega arith)) c.refuse.ensures.ok

@@ -6,13 +6,13 @@ pub returns-clause-ok : goal.returns-clause-ok
 returns-clause-ok c lines last told h l long =
     let s = c.args.self.now.answers in
     let t = c.args.text.now.items in
-    ended_if c.end.result s.job s.job s.line s.tally lines last told t c.end.new.text.items (took_empty s.job s.line s.tally (lines ++ last ∷ []) told t c.requires.empty h) refl l c.end.ensures.ok
+    ended_if c.end.result s.job s.job s.line s.seen lines last told t c.end.new.text.items (took_empty s.job s.line s.seen (lines ++ last ∷ []) told t c.requires.empty h) refl l c.end.ensures.ok
 
 pub returns-clause-err : goal.returns-clause-err
 returns-clause-err c lines last told h l long =
     let s = c.args.self.now.answers in
     let t = c.args.text.now.items in
-    ended_not c.end.result s.job s.job s.line s.tally lines last told t c.end.new.text.items (took_empty s.job s.line s.tally (lines ++ last ∷ []) told t c.requires.empty h) refl l c.end.ensures.err
+    ended_not c.end.result s.job s.job s.line s.seen lines last told t c.end.new.text.items (took_empty s.job s.line s.seen (lines ++ last ∷ []) told t c.requires.empty h) refl l c.end.ensures.err
 
 pub returns-clause-said : goal.returns-clause-said
 returns-clause-said c lines told h = no_more c.end.result

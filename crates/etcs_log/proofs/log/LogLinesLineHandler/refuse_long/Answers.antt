@@ -8,21 +8,21 @@ use Rattle.etcs_log.proofs.log.LogLinesLineHandler.refuse_long.Goals as goal
 pub overflow_add-self : goal.overflow_add-self
 overflow_add-self c =
     let s = c.args.self.now.answers in
-    omega (arith, (took_few s.job s.line s.tally c.requires.took).0)
+    omega (arith, (took_few s.job s.line s.seen c.requires.took).0)
 
 pub refuse-requires : goal.refuse-requires
 refuse-requires c =
     let s = c.args.self.now.answers in
-    record { bad = (took_few s.job s.line s.tally c.requires.took).2 }
+    record { bad = (took_few s.job s.line s.seen c.requires.took).2 }
 
 pub returns-in-Ok-clause-ok : goal.returns-in-Ok-clause-ok
 returns-in-Ok-clause-ok c lines part told h l long rest k =
     let s = c.args.self.now.answers in
     let n = c.refuse.new.self in
     let raw = part ++ rest in
-    took_more s.job n.job s.line n.line s.tally n.tally lines raw (strip_cr raw) told c.args.text.now.items c.refuse.new.text.items h (All-append (λ c. c ≡ 10 → ⊥) part rest l k) refl c.refuse.ensures.job c.refuse.ensures.line (bad, long_more s.job.kind part rest long, c.in-Ok.ensures.ok)
+    took_more s.job n.job s.line n.line s.seen n.seen lines raw (strip_cr raw) told c.args.text.now.items c.refuse.new.text.items h (All-append (λ c. c ≡ 10 → ⊥) part rest l k) refl c.refuse.ensures.job c.refuse.ensures.line (bad, long_more s.job.kinds part rest long, c.in-Ok.ensures.ok)
 
 pub returns-in-Err-clause-err : goal.returns-in-Err-clause-err
 returns-in-Err-clause-err c lines part more told h l long m =
     let s = c.args.self.now.answers in
-    (tt, (refl, took_front s.job s.line s.tally lines (part ++ more) told c.args.text.now.items c.refuse.new.text.items h c.in-Err.ensures.err))
+    (tt, (refl, took_front s.job s.line s.seen lines (part ++ more) told c.args.text.now.items c.refuse.new.text.items h c.in-Err.ensures.err))

@@ -1,0 +1,130 @@
+-- What the bytes of a line may be: of which kinds, and which of the bytes.
+use Rattle.std.specs.Prelude.{◌≡◌, ℕ, ◌+◌, ◌-◌, ◌*◌, ◌/◌, Bool, true, false, not, ◌&&◌, ◌||◌, ◌==◌, nat_lt, if◌then◌else◌, List, [], ◌∷◌, ◌++◌, length, drop, take, slice_index, codes, ◌⊎◌}
+use Rattle.etcs_text.specs.declared.entry.Kind.{Kind}
+use Rattle.etcs_text.specs.declared.entry.Kind.TheVariants.{Long, Short, Radio, Train}
+use Rattle.etcs_text.specs.Entries.{EntryValue}
+use Rattle.etcs_text.specs.Verdicts.{IsItem}
+use Rattle.etcs_log.specs.declared.kinds.Kinds.{Kinds}
+use Rattle.etcs_log.specs.BitDigits.{are_bits, packed}
+
+-- this kind alone
+abbrev pub only : Kind → Kinds
+only Long = record { long = true; short = false; radio = false; train = false }
+only Short = record { long = false; short = true; radio = false; train = false }
+only Radio = record { long = false; short = false; radio = true; train = false }
+only Train = record { long = false; short = false; radio = false; train = true }
+
+-- this kind is one of them
+abbrev pub contains : Kinds → Kind → Bool
+contains kinds Long = kinds.long
+contains kinds Short = kinds.short
+contains kinds Radio = kinds.radio
+contains kinds Train = kinds.train
+
+-- and with this kind too
+abbrev pub added : Kinds → Kind → Kinds
+added kinds Long = record kinds { long = true }
+added kinds Short = record kinds { short = true }
+added kinds Radio = record kinds { radio = true }
+added kinds Train = record kinds { train = true }
+
+-- they are two or more
+abbrev pub several : Kinds → Bool
+several kinds = (kinds.long && (kinds.short || kinds.radio || kinds.train)) || (kinds.short && (kinds.radio || kinds.train)) || (kinds.radio && kinds.train)
+
+-- how many bytes telegrams of a kind have
+abbrev pub telegram_bytes : Kind → ℕ
+telegram_bytes Long = 104
+telegram_bytes Short = 27
+telegram_bytes Radio = 0
+telegram_bytes Train = 0
+
+-- L_MESSAGE, the ten bits after NID_MESSAGE, says this number of bytes
+abbrev pub says_length : List ℕ → Bool
+says_length bytes = nat_lt 2 (length bytes) && (length bytes == slice_index bytes 1 * 4 + slice_index bytes 2 / 64)
+
+-- NID_MESSAGE is that of a message to the track
+abbrev pub is_to_track : ℕ → Bool
+is_to_track number = nat_lt 128 number && nat_lt number 160
+
+-- the kind of a message: where both ways are asked for, that of its number
+abbrev pub message_way : Kinds → List ℕ → Kind
+message_way kinds bytes = if kinds.train && (not kinds.radio || is_to_track (slice_index bytes 0)) then Train else Radio
+
+-- bytes that may be an item of a kind
+pub record Candidate : Type 0 where
+  pub kind : Kind
+  pub bytes : List ℕ
+
+-- one, where it is asked for
+abbrev pub where_asked : Bool → Kind → List ℕ → List Candidate
+where_asked asked kind bytes = if asked then record { kind = kind; bytes = bytes } ∷ [] else []
+
+-- all bytes of a line; or, where its digits are the bits of a telegram, the bytes of these bits
+abbrev pub whole_bytes : Kind → List ℕ → List ℕ
+whole_bytes kind bytes = if are_bits kind bytes then take (telegram_bytes kind) (packed bytes) else bytes
+
+abbrev pub whole_candidate : Kinds → Kind → List ℕ → List Candidate
+whole_candidate kinds kind bytes = where_asked (contains kinds kind) kind (whole_bytes kind bytes)
+
+abbrev pub message_candidate : Kinds → List ℕ → List Candidate
+message_candidate kinds bytes = where_asked (kinds.radio || kinds.train) (message_way kinds bytes) bytes
+
+-- of more bytes than a telegram has, the last ones
+abbrev pub last_bytes : Kind → List ℕ → List ℕ
+last_bytes kind bytes = drop (length bytes - telegram_bytes kind) bytes
+
+abbrev pub last_candidate : Kinds → Kind → List ℕ → List Candidate
+last_candidate kinds kind bytes = where_asked (contains kinds kind && nat_lt (telegram_bytes kind) (length bytes)) kind (last_bytes kind bytes)
+
+-- what all bytes of a line may be
+abbrev pub whole_candidates : Kinds → List ℕ → List Candidate
+whole_candidates kinds bytes = whole_candidate kinds Long bytes ++ (whole_candidate kinds Short bytes ++ message_candidate kinds bytes)
+
+-- and the last of them
+abbrev pub last_candidates : Kinds → List ℕ → List Candidate
+last_candidates kinds bytes = last_candidate kinds Long bytes ++ last_candidate kinds Short bytes
+
+-- all that a line may be, in the order in which it is tried
+abbrev pub candidates : Kinds → List ℕ → List Candidate
+candidates kinds bytes = whole_candidates kinds bytes ++ last_candidates kinds bytes
+
+-- none of them is an item
+abbrev pub AreNone : List Candidate → Type 0
+AreNone [] = Unit {0}
+AreNone (c ∷ others) = ((e : EntryValue) → IsItem c.kind c.bytes e → ⊥) × AreNone others
+
+-- the first of them that is an item is this one
+abbrev pub IsFirst : List Candidate → Kind → EntryValue → Type 0
+IsFirst [] kind e = ⊥
+IsFirst (c ∷ others) kind e = ((kind ≡ c.kind) × IsItem c.kind c.bytes e) ⊎ (((v : EntryValue) → IsItem c.kind c.bytes v → ⊥) × IsFirst others kind e)
+
+-- an item of the kind may have this number of bytes
+abbrev pub may_have : Kind → ℕ → Bool
+may_have Long count = count == 104
+may_have Short count = count == 27
+may_have Radio count = true
+may_have Train count = true
+
+-- some kind has items of this number of bytes
+abbrev pub is_wanted : List ℕ → Bool
+is_wanted bytes = (length bytes == 104) || (length bytes == 27) || says_length bytes
+
+-- some kind that is asked for has
+abbrev pub is_asked : Kinds → List ℕ → Bool
+is_asked kinds bytes = (kinds.long && (length bytes == 104)) || (kinds.short && (length bytes == 27)) || ((kinds.radio || kinds.train) && says_length bytes)
+
+-- only a kind that isn't asked for has
+abbrev pub is_other : Kinds → List ℕ → Bool
+is_other kinds bytes = not (is_asked kinds bytes) && is_wanted bytes
+
+-- what a kind is called
+abbrev pub kind_name : Kind → List ℕ
+kind_name Long = codes "long"
+kind_name Short = codes "short"
+kind_name Radio = codes "radio"
+kind_name Train = codes "train"
+
+-- and how each of several kinds is named before an item of it
+abbrev pub named : Kinds → Kind → List ℕ
+named kinds kind = if several kinds then kind_name kind ++ codes " " else []

@@ -1,0 +1,111 @@
+//! Good lines as JSON.
+
+ghost use Rattle.std.specs.Prelude.{◌≡◌, ◌++◌, ℕ, List, OnErr, OnOk};
+ghost use Rattle.std.specs.Str.Lossy.{utf8_lossy};
+ghost use Rattle.serde_json.specs.Data.{string};
+ghost use Rattle.serde_json.specs.Written.{compact_text};
+ghost use Rattle.etcs_packet_text.specs.Fronts.{Begins};
+ghost use Rattle.etcs_text.specs.Entries.{entry_value};
+ghost use Rattle.etcs_text.specs.Trees.{json_tree};
+ghost use Rattle.etcs_log.specs.JsonLines.{IsJsonItem, json_item};
+
+use etcs_packet_text::inner::write_decimal;
+use etcs_text::{Entry, json_line};
+use json::Writer;
+use std::alloc::AllocError;
+use std::{mem, str};
+
+/// Appends a text as a string of JSON, or nothing.
+///
+/// # Errors
+///
+/// Where memory is refused.
+fn append_string(text: &str, out: &mut Vec<u8>) -> Result<(), AllocError>
+    ensures ok { OnOk result (out.new.items ≡ out.old.items ++ compact_text (string text.now)) }
+    ensures err { OnErr result (out.new.items ≡ out.old.items) }
+{
+    let empty = Vec::new(*out.allocator());
+    let mut writer = Writer::new(mem::replace(out, empty));
+    let written = writer.string(text);
+    *out = writer.into_inner();
+    written
+}
+
+/// Appends what is before the digits of a line as a string of JSON, or nothing.
+///
+/// # Errors
+///
+/// Where memory is refused.
+fn append_front(front: &[u8], out: &mut Vec<u8>) -> Result<(), AllocError>
+    ensures ok { OnOk result (out.new.items ≡ out.old.items ++ compact_text (string (utf8_lossy front.now))) }
+    ensures err { OnErr result (out.new.items ≡ out.old.items) }
+{
+    if let Ok(text) = str::from_utf8(front) {
+        return append_string(text, out);
+    }
+    let text = String::from_utf8_lossy(*out.allocator(), front)?;
+    append_string(text.as_str(), out)
+}
+
+/// Appends an item's tree, or nothing.
+///
+/// # Errors
+///
+/// Where memory is refused.
+fn append_item(item: &Entry, out: &mut Vec<u8>) -> Result<(), AllocError>
+    ensures ok { OnOk result (out.new.items ≡ out.old.items ++ compact_text (json_tree (entry_value item.now))) }
+    ensures err { OnErr result (out.new.items ≡ out.old.items) }
+{
+    json_line(item, out)?;
+    // without its LF
+    out.truncate(out.len() - 1);
+    Ok(())
+}
+
+/// Appends the line of an item, as [`append_json_item`].
+///
+/// # Errors
+///
+/// Where memory is refused. A part of it may then be in `out`.
+#[tactic(auto, using(etcs_packet_text::specs::laws::Fronts::begins_more, std::proofs::Common::append_assoc))]
+fn write_json_item(
+    number: u64,
+    front: &[u8],
+    item: &Entry,
+    out: &mut Vec<u8>,
+) -> Result<(), AllocError>
+    ensures ok { OnOk result (out.new.items ≡ out.old.items ++ json_item number front.now (entry_value item.now)) }
+    ensures err { OnErr result (Begins out.old.items out.new.items) }
+{
+    out.extend_from_slice(b"{\"line\":")?;
+    write_decimal(number, out)?;
+    out.extend_from_slice(b",\"front\":")?;
+    append_front(front, out)?;
+    out.extend_from_slice(b",\"item\":")?;
+    append_item(item, out)?;
+    out.extend_from_slice(b"}\n")
+}
+
+/// Appends the line of an item as JSON, or nothing: an object of the line's number (`line`), of what is before its digits
+/// (`front`), and of the item as `convert --to json` writes it (`item`). What is not UTF-8 before the digits is written as
+/// U+FFFD.
+///
+/// # Errors
+///
+/// Where memory is refused.
+pub(crate) fn append_json_item(
+    number: u64,
+    front: &[u8],
+    entry: &Entry,
+    out: &mut Vec<u8>,
+) -> Result<(), AllocError>
+    ensures ok { OnOk result ((text : List ℕ) × IsJsonItem number front.now (entry_value entry.now) text × (out.new.items ≡ out.old.items ++ text)) }
+    ensures err { OnErr result (out.new.items ≡ out.old.items) }
+{
+    let len = out.len();
+    let written = write_json_item(number, front, entry, out);
+    if written.is_err() {
+        out.truncate(len);
+    }
+    written
+}

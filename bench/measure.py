@@ -27,7 +27,7 @@ differs where a count is more than 1 in 100 from that of bench/README.md.
 
 The status is 0 where no answer differs, nor any row with --check, 1 where one does, and 2 where the words
 are wrong or something can't be run. It needs rustc and valgrind, and works in the folder $BENCH
-(/tmp/etcs_bench).
+(etcs_bench in the user's cache).
 """
 
 import argparse
@@ -47,7 +47,8 @@ HERE = os.path.dirname(os.path.abspath(__file__))
 TOP = os.path.dirname(HERE)
 README = os.path.join(HERE, "README.md")
 PROGRAM = os.path.join(TOP, "crates", "etcs", "out", "etcs")
-FOLDER = os.environ.get("BENCH", "/tmp/etcs_bench")
+CACHE = os.environ.get("XDG_CACHE_HOME") or os.path.expanduser("~/.cache")
+FOLDER = os.environ.get("BENCH") or os.path.join(CACHE, "etcs_bench")
 DOORS = ["C", "Python"]
 COMMANDS = {
     "check": ["check"],

@@ -1,17 +1,31 @@
 #!/usr/bin/env python3
 """Compares etcs.h with the exports of crates/etcs_c/src: names, types in order; with the structs and the constants of
 crates/etcs_c/src; the names in the map of symbols, in Ada and in Python with the exports; and the tables of variables
-for C, Python and Ada with the specs.
+for C, Python and Ada, and the packets to begin with, with the specs; and the versions of the doors with the program's.
 
     doors/header.py            the status is 0 where they agree; nothing else compares them
-    doors/header.py --write    writes the tables anew
+    doors/header.py --write    writes the tables anew, and the version of etcs.h
 """
+import json
 import os
 import re
 import sys
 
-VARS_H, VARS_PY, VARS_ADS = "doors/c/etcs_vars.h", "doors/python/src/etcs/_variables.py", "doors/ada/etcs-variables.ads"
 TOP = os.path.join(os.path.dirname(os.path.abspath(__file__)), "..")
+sys.dont_write_bytecode = True
+sys.path.insert(0, os.path.join(TOP, "tools"))
+from format_tables import skeletons
+from schema import HEADERS, ROOM
+from sources import variable
+
+VARS_H, VARS_PY, VARS_ADS = "doors/c/etcs_vars.h", "doors/python/src/etcs/_variables.py", "doors/ada/etcs-variables.ads"
+BLANKS_PY = "doors/python/src/etcs/_blanks.py"
+HEADER_H = "doors/c/etcs.h"
+# Where else a version is said.
+VERSIONS = {
+    "doors/python/pyproject.toml": r'^version = "(.*)"$',
+    "doors/python/src/etcs/__init__.py": r'^__version__ = "(.*)"$',
+}
 NAMES = {
     "doors/c/libetcs.map": r"^ *(etcs_\w+);",
     "doors/ada/etcs.ads": r'External_Name => "(etcs_\w+)"',
@@ -102,6 +116,33 @@ WIDTHS = tuple(width for _, width in _TABLE)
 """
 
 
+def blanks_py():
+    """_blanks.py."""
+    header = [variable(name) for name in HEADERS["telegram"]]
+    pairs = "".join(f'    ("{it.name}", {it.ranges[0][0]}),\n' for it in header)
+    ways = "".join(f'    "{way}": {{\n{blanks_of(way)}    }},\n' for way in ("train", "track"))
+    return f"""# Written by doors/header.py from the specs.
+from typing import Dict, Tuple
+
+#: the header of a telegram with the least numbers
+HEADER: Tuple[Tuple[str, int], ...] = (
+{pairs})
+
+#: how many bits the packets and FILL of a telegram have
+ROOM: Dict[str, int] = {ROOM}
+
+#: the JSON of a packet of each number that is typed, to the train and to the track, as COVERAGE.md has it
+PACKETS: Dict[str, Dict[int, str]] = {{
+{ways}}}
+"""
+
+
+def blanks_of(way):
+    """The packets of a way to begin with, a line each."""
+    lines = [it for it in skeletons(way) if it.startswith('{"')]
+    return "".join(f"        {json.loads(it)['nid']}: '{it}',\n" for it in lines)
+
+
 def vars_ads(table):
     """etcs-variables.ads."""
     rows = "".join(f"   {var} : constant Unsigned_32 := {number};\n" for var, number in table.items())
@@ -111,6 +152,13 @@ package Etcs.Variables is
 {rows}
 end Etcs.Variables;
 """
+
+
+def with_version(text, version):
+    """etcs.h with the version."""
+    major, minor, patch = map(int, version.split("."))
+    text = re.sub(r'(#define ETCS_VERSION ).*', rf'\g<1>"{version}"', text)
+    return re.sub(r"(#define ETCS_VERSION_NUMBER ).*", rf"\g<1>{10000 * major + 100 * minor + patch}", text)
 
 
 def main():
@@ -133,8 +181,15 @@ def main():
         count += len(fields)
         if fields != theirs_:
             wrong.append(f"{c_name}: {fields} in the source, {theirs_} in the header")
+    version = re.search(r'VERSION: &str = "([\d.]+) ', source("crates/etcs_cli/src/words.rt")).group(1)
+    for path, pattern in VERSIONS.items():
+        found = re.findall(pattern, source(path), re.M)
+        if found != [version]:
+            wrong.append(f"{path} has version {', '.join(found)}, the program {version}")
+    with open(os.path.join(TOP, HEADER_H), encoding="utf-8") as file:
+        header_text = with_version(file.read(), version)
     table = dict(re.findall(r"^var_number Var\.(\w+) = (\d+)", source("crates/etcs_c/specs/Fields.antt"), re.M))
-    for path, text in ((VARS_H, vars_h(table)), (VARS_PY, vars_py(table)), (VARS_ADS, vars_ads(table))):
+    for path, text in ((VARS_H, vars_h(table)), (VARS_PY, vars_py(table)), (VARS_ADS, vars_ads(table)), (BLANKS_PY, blanks_py()), (HEADER_H, header_text)):
         if "--write" in sys.argv:
             with open(os.path.join(TOP, path), "w", encoding="utf-8") as file:
                 file.write(text)

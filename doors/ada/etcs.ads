@@ -27,7 +27,7 @@ package Etcs is
       Taken   : size_t := 0;
       Written : size_t := 0;
       Bit     : size_t := 0;
-      Var     : char_array (0 .. 31) := [others => nul];
+      Var     : char_array (0 .. 31) := (others => nul);
    end record
      with Convention => C;
 

@@ -22,12 +22,19 @@
  *   - no call from a signal handler, nor in the forked child of a process with threads;
  *   - stack: 64 KiB; etcs_from_json and etcs_explain_json 256 KiB, since lists and objects may be in one another, up to
  *     127 deep; etcs_explain 512 KiB, since it works out which lengths a packet may have.
+ *
+ * What stays in each version of libetcs.so.1: these calls, both structs with their members, sizes and order, and the
+ * numbers of kinds, statuses and variables. Further calls, statuses and variables may come after them.
  */
 #ifndef ETCS_H
 #define ETCS_H
 
 #include <stddef.h>
 #include <stdint.h>
+
+/* The version of this header, as a string and as a number that grows: 10,000 for each major version, 100 for each minor. */
+#define ETCS_VERSION "0.1.0"
+#define ETCS_VERSION_NUMBER 100
 
 #ifdef __cplusplus
 extern "C" {
@@ -109,7 +116,8 @@ etcs_status etcs_from_fields(etcs_kind kind, const etcs_field *fields, size_t le
  * ETCS_MORE nothing is written, and answer->written is 0. */
 
 /* As etcs_check, and of a refused bit why it is: a sentence in UTF-8, without a capital, a full stop or a zero after it, as
- * "message 6 has 10 or 13 to 1023 bytes, not 11". The words may be others in the next version. */
+ * "message 6 has 10 or 13 to 1023 bytes, not 11"; where it has many numbers, some are left out and it ends with " ..". The
+ * words may be others in the next version. */
 etcs_status etcs_explain(etcs_kind kind, const uint8_t *bytes, size_t len, uint8_t *out, size_t room,
                          etcs_answer *answer);
 

@@ -285,11 +285,31 @@ static void threads(void)
 static size_t file_len;
 static etcs_kind file_kind;
 
+/* Bytes whose refusal took the most stack and instructions of a million that were tried. */
+static void dear_refusals(int call)
+{
+    static const char *const digits[] = {
+        "A142A818401D028045424E460480150939028045424E4604801509",
+        "A03119D4686C86D3592F47F7A6F9F7678D57020FC3171BB92C5C94EFF14F",
+        "A0007F802000C6D18220002B1D364652D06DDA69D37D98C76EC711940CDB959516BB8DACF1F49703F24FF03A2D1000158E9B23",
+    };
+    static etcs_field before[ETCS_MOST_FIELDS];
+    uint8_t bytes[64];
+    etcs_answer a = {0};
+    for (size_t i = 0; i < sizeof digits / sizeof *digits; i++) {
+        size_t len = item(bytes, digits[i]);
+        if (call == 0) etcs_check(file_kind, bytes, len, &a);
+        if (call == 6) etcs_explain(file_kind, bytes, len, text, sizeof text, &a);
+        if (call == 7) etcs_fields_before(file_kind, bytes, len, before, ETCS_MOST_FIELDS, &a);
+    }
+}
+
 static void *all_calls(void *arg)
 {
     etcs_answer a = {0};
     int call = *(int *)arg;
     static etcs_field sent[ETCS_MOST_FIELDS];
+    dear_refusals(call);
     for (size_t at = 0; at < file_len; at += a.taken) {
         if (call >= 6) {
             if (etcs_check(file_kind, file + at, file_len - at, &a)) return (void *)1;

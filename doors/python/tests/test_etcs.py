@@ -4,7 +4,9 @@ import doctest
 import json
 import os
 import pickle
+import signal
 import threading
+import time
 import unittest
 
 import etcs
@@ -64,6 +66,72 @@ class Tests(unittest.TestCase):
         with self.assertRaises(KeyError):
             link["D_LINK"] = 2
 
+    def test_pairs(self):
+        """A packet and a message of pairs or of a mapping are as those that are read."""
+        packet = etcs.Packet(137, 1, [("Q_SRSTOP", 1)])
+        self.assertEqual((packet["Q_SRSTOP"], "Q_SRSTOP" in packet, packet.all("Q_SRSTOP")), (1, True, [1]))
+        self.assertEqual(packet, etcs.decode(RADIO, "radio").packets[0])
+        self.assertEqual(packet, etcs.Packet(137, 1, {"Q_SRSTOP": 1}))
+        message = etcs.Message(24, [("T_TRAIN", 0), ("M_ACK", 0), ("NID_LRBG", 16385)], packets=(packet,), padding="00000")
+        self.assertEqual((message, etcs.encode(message)), (etcs.decode(RADIO, "radio"), RADIO))
+        self.assertIsNot(etcs.Packet(1).fields, etcs.Packet(1).fields)
+
+    def test_build(self):
+        """The telegram of COOKBOOK.md, "A telegram of one's own", and others as long as FORMAT.md says."""
+        named = {"NID_BG": 600, "NID_C": 98, "M_VERSION": 33, "Q_LINK": 1, "M_MCOUNT": 255}
+        stop = etcs.Packet(137, 1, [("Q_SRSTOP", 1)])
+        whole = [("Q_UPDOWN", 1), ("M_VERSION", 33), ("Q_MEDIA", 0), ("N_PIG", 0), ("N_TOTAL", 0), ("M_DUP", 0), ("M_MCOUNT", 255), ("NID_C", 98), ("NID_BG", 600), ("Q_LINK", 1)]
+        for header in (named, whole, etcs.Variables(whole)):
+            telegram = etcs.Telegram.build(header, iter([stop]))
+            self.assertEqual(etcs.encode(telegram).hex(), "a1007f8c412c62500c7fffffffffffffffffffffffffffffffffc0")
+        # 152 bits of packets are in a short telegram, 772 in a long one; a frame has 23, packet 0 has 14
+        for packets, kind, fill in (
+            ([], "short", 152), ([stop] * 6, "short", 8), ([stop] * 7, "long", 604), ([etcs.Packet(44, 0, data="1" * 129)], "short", 0),
+            ([etcs.Packet(44, 0, data="1" * 130)], "long", 619), ([etcs.Packet(0, fields=[("NID_VBCMK", 3)])], "short", 138), ([stop] * 32, "long", 4),
+        ):
+            telegram = etcs.Telegram.build(named, packets)
+            self.assertEqual((telegram.kind, telegram.fill), (kind, "1" * fill))
+            self.assertEqual(etcs.decode(etcs.encode(telegram), kind), telegram)
+        self.assertEqual(len(etcs.encode(etcs.Telegram.build({}, [], "long"))), 104)
+        for words in (({"NID_MN": 1}, []), (named, [stop] * 7, "short"), (named, [stop] * 33), (named, [etcs.Packet(137, 1, [("Q_SR", 1)])])):
+            with self.assertRaises(etcs.NotAnItem):
+                etcs.Telegram.build(*words)
+        with self.assertRaises(ValueError):
+            etcs.Telegram.build(named, [], "radio")
+
+    def test_blank(self):
+        """Each packet that COVERAGE.md has to begin with, in an item."""
+        with open(os.path.join(EXAMPLES, "..", "docs", "COVERAGE.md"), encoding="utf-8") as file:
+            found = [json.loads(line) for line in file if line.startswith('{"') and '"nid"' in line]
+        begun = [tree for tree in found if "kind" not in tree]
+        # those to the track are the second list, which begins with its packet 0
+        begun, track = begun[begun.index({"fields": [["NID_VBCMK", 0]], "nid": 0}):], 33
+        self.assertEqual((begun[track]["nid"], len(begun)), (0, track + 5))
+        headers = {"radio": [("T_TRAIN", 0), ("M_ACK", 0), ("NID_LRBG", 0)], "train": [("T_TRAIN", 0), ("NID_ENGINE", 0)]}
+        for place, tree in enumerate(begun):
+            kind = "radio" if place < track else "train"
+            packet = etcs.blank(tree["nid"], kind)
+            self.assertEqual(packet.to_dict(), tree)
+            if (kind, packet.nid) == ("radio", 0):
+                etcs.encode(etcs.Telegram.build({}, [packet]))
+                continue
+            nid = 24 if kind == "radio" else 136
+            paddings = []
+            for padding in range(8):
+                try:
+                    paddings.append(etcs.encode(etcs.Message(nid, headers[kind], packets=[packet], padding="0" * padding, kind=kind)))
+                except etcs.NotAnItem:
+                    pass
+            self.assertEqual(len(paddings), 1)
+        packet = etcs.blank(42)
+        packet["NID_RADIO"] = 0xFFFFFFFFFFFFFFFF
+        self.assertEqual(etcs.decode(etcs.encode(etcs.Telegram.build({}, [packet])), "short").packets, [packet])
+        self.assertEqual((etcs.blank(200), etcs.blank(7, "train")), (etcs.Packet(200, 1, data=""), etcs.Packet(7, data="")))
+        self.assertIsNot(etcs.blank(16).fields, etcs.blank(16).fields)
+        for wrong in (-1, 256, "12", 1.5):
+            with self.assertRaises(ValueError):
+                etcs.blank(wrong)
+
     def test_fields(self):
         found = etcs.fields(SHORT, "short")
         self.assertEqual([each[:4] for each in found[:3]], [("Q_UPDOWN", 1, 0, 1), ("M_VERSION", 32, 1, 7), ("Q_MEDIA", 0, 8, 1)])
@@ -112,10 +180,66 @@ class Tests(unittest.TestCase):
             etcs.decode(SHORT + b"\0", "short")
         with self.assertRaises(ValueError):
             etcs.decode(SHORT, "tram")
-        with self.assertRaises(TypeError):
-            etcs.decode("A000", "short")
-        for form in (bytearray, memoryview):
+
+    def test_bytes(self):
+        for form in (bytearray, memoryview, lambda data: memoryview(data).cast("c")):
             self.assertEqual(etcs.check(form(SHORT), "short"), 27)
+        for wrong in (3, True, "A000", [1, 2], (0, 0), None, memoryview(SHORT[:24]).cast("I"), range(27)):
+            for call in (lambda: etcs.check(wrong, "short"), lambda: etcs.decode(wrong, "short"), lambda: list(etcs.items(wrong, "short")),
+                         lambda: etcs.fields(wrong, "short"), lambda: etcs.show(wrong, "short"), lambda: etcs.Reader("short").feed(wrong)):
+                with self.assertRaisesRegex(TypeError, "memoryview of bytes is wanted, not"):
+                    call()
+        with self.assertRaisesRegex(TypeError, "not str: bytes.fromhex"):
+            etcs.decode("A000", "short")
+        for wrong in (3, None, [b"{}"]):
+            with self.assertRaises(TypeError):
+                etcs.from_json(wrong)
+            with self.assertRaises(TypeError):
+                etcs.encode(wrong)
+        with self.assertRaises(ValueError):
+            list(etcs.items(SHORT, "tram"))
+
+    def test_number(self):
+        self.assertTrue(etcs.show(SHORT, "short", 2 ** 64 - 1).startswith("item 18446744073709551615 short 210 bits\n"))
+        for wrong in (-1, 2 ** 64):
+            with self.assertRaises(ValueError):
+                etcs.show(SHORT, "short", wrong)
+
+    def test_json(self):
+        """from_json answers as the library does."""
+        session = {"dir": 1, "fields": [["Q_RBC", 0], ["NID_C", 0], ["NID_RBC", 0], ["NID_RADIO", "00000000000000Af"], ["Q_SLEEPSESSION", 0]], "nid": 42}
+        tree = {**etcs.decode(RADIO, "radio").to_dict(), "packets": [session], "padding": "0000"}
+        line = json.dumps(tree)
+        item = etcs.from_json(line)
+        self.assertEqual(item.packets[0]["NID_RADIO"], 0xAF)
+        for spelled in (line.encode(), bytearray(line.encode()), line.replace('"kind"', '"\\u006bind"'), f" {line} ", line.replace(":", " : "), line + "\n", line.replace("{", '{"kind": "tram", ', 1)):
+            self.assertEqual(etcs.from_json(spelled), item)
+        self.assertEqual(etcs.from_dict(tree), item)
+        digits = "00000000000000Af"
+        wrong = [line.replace(digits, each) for each in ("0x000000000000af", "+0000000000000af", "0000_0000_0000af", "00000000000000\uff10\uff11", "af", digits + "0")]
+        wrong += [line.replace('"nid"', f'"{name}": 1, "nid"', 1) for name in ("further", "Kind", "data", "")]
+        wrong += [line[:-1], line + line, line.replace('"M_ACK"', "M_ACK"), line.replace("[", "[1,", 1), "", "{}", "[]", "null", "NaN", "\ud800", "\ufeff" + line, line.encode("utf-16")]
+        wrong += [line.replace(digits, "\udc80"), line.replace("radio", "train"), line.replace("radio", "tram"), "[" * 100000, '{"a":' * 100000, "1" * 5000, line.replace('"radio"', "5")]
+        for each in wrong:
+            with self.assertRaises(etcs.EtcsError, msg=each[:300]) as caught:
+                etcs.from_json(each)
+            self.assertTrue(str(caught.exception))
+        further = {**tree, "packets": [{**session, "further": 1}]}
+        nested = []
+        for _ in range(100000):
+            nested = [nested]
+        circular = dict(tree)
+        circular["packets"] = [circular]
+        for each in ({**tree, "further": 1}, further, {**tree, "packets": [{**session, "fields": nested}]}, circular, {**tree, "nid": b""}, {**tree, "kind": []}, {**tree, "nid": 1 << 20000}):
+            with self.assertRaises(etcs.EtcsError):
+                etcs.encode(each)
+        for each in ({**tree, "further": 1}, further):
+            with self.assertRaises(etcs.NotAnItem):
+                etcs.from_dict(each)
+        for number in ("00000000000000af", 1.5, None, True, -1, 1 << 64):
+            item.packets[0]["NID_RADIO"] = number
+            with self.assertRaises(etcs.EtcsError):
+                etcs.encode(item)
 
     def test_reasons(self):
         with self.assertRaises(etcs.Refused) as caught:
@@ -191,6 +315,46 @@ class Tests(unittest.TestCase):
 
     def test_items(self):
         self.assertEqual([at for at, _ in etcs.items(SHORT * 4, "short")], [0, 27, 54, 81])
+
+    def test_signals(self):
+        """A signal's handler that calls in the middle of a call gets its own answer, and the call that it interrupts keeps its own."""
+        long, kept = example("long_line_ahead.hex")[:104], example("radio_kept.hex")
+        calls = [
+            lambda: etcs.encode(etcs.decode(SHORT, "short")), lambda: etcs.encode(etcs.decode(long, "long")), lambda: etcs.show(long, "long"),
+            lambda: etcs.fields(SHORT, "short"), lambda: etcs.check(long, "long"), lambda: etcs.fields(long, "long"),
+            lambda: etcs.check(kept, "radio"), lambda: self.reason_of(bytes.fromhex("0602C0")),
+        ]
+        wanted, wrong, count = [call() for call in calls], [], [0]
+
+        def ask(begin):
+            for place in range(begin, begin + len(calls)):
+                if calls[place % len(calls)]() != wanted[place % len(calls)]:
+                    wrong.append(place % len(calls))
+
+        def answer(number, frame):
+            count[0] += 1
+            place = count[0] % len(calls)
+            if calls[place]() != wanted[place]:
+                wrong.append(place)
+
+        before = signal.signal(signal.SIGALRM, answer)
+        try:
+            signal.setitimer(signal.ITIMER_REAL, 0.0003, 0.0003)
+            end = time.monotonic() + 3
+            while time.monotonic() < end:
+                ask(0)
+        finally:
+            signal.setitimer(signal.ITIMER_REAL, 0)
+            signal.signal(signal.SIGALRM, before)
+        self.assertGreater(count[0], 100)
+        self.assertEqual(wrong, [])
+
+    @staticmethod
+    def reason_of(data):
+        try:
+            etcs.decode(data, "radio")
+        except etcs.Refused as fault:
+            return fault.bit, fault.variable, fault.reason, fault.fields
 
     def test_threads(self):
         wrong = []

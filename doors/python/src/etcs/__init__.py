@@ -32,27 +32,39 @@ An item prints as a tree, and a refusal says why when it is asked:
 library's answer, which is proved; this module carries it over.
 
 The module keeps nothing between two calls, so threads may call it freely (and run side by side, since ctypes lets go
-of the interpreter's lock); a Reader belongs to one thread at a time.
+of the interpreter's lock), and so may a signal's handler or a finalizer that runs inside a call; a Reader belongs to one
+of them at a time. Bytes are bytes, a bytearray or a memoryview of bytes; of anything else there is a TypeError.
 """
 
 from __future__ import annotations
 
 import json
-from dataclasses import dataclass, field
-from typing import Any, Dict, Iterable, Iterator, List, Literal, Optional, Tuple, Union
+import re
+from dataclasses import dataclass
+from types import TracebackType
+from typing import (
+    Any, Dict, Generic, Iterable, Iterator, List, Literal, Mapping, Optional, SupportsIndex, Tuple, Type, TypeVar,
+    Union, overload,
+)
 
 from . import _library
-from ._library import EtcsError, Field, NotAnItem, Refused, Truncated
-from ._variables import VARIABLES
+from ._blanks import HEADER, PACKETS, ROOM
+from ._library import Data, EtcsError, Field, NotAnItem, Refused, Truncated, bytes_of
+from ._variables import VARIABLES, WIDTHS
 
 __all__ = [
     "EtcsError", "Field", "Item", "KINDS", "Kind", "Message", "NotAnItem", "Packet", "Reader", "Refused", "Telegram",
-    "Truncated", "VARIABLES", "Variables", "check", "decode", "encode", "fields", "from_dict", "from_fields",
+    "Truncated", "VARIABLES", "Variables", "blank", "check", "decode", "encode", "fields", "from_dict", "from_fields",
     "from_json", "items", "show",
 ]
 __version__ = "0.1.0"
 
+TelegramKind = Literal["long", "short"]
+MessageKind = Literal["radio", "train"]
 Kind = Literal["long", "short", "radio", "train"]
+
+#: variables as they are taken: pairs of name and number in the order of sending, or a mapping
+Pairs = Union[Mapping[str, int], Iterable[Tuple[str, int]]]
 
 #: the kinds of items: balise telegrams of 830 and of 210 user bits, radio messages to the train and to the track
 KINDS: Tuple[str, ...] = tuple(_library.KINDS)
@@ -68,7 +80,14 @@ class Variables(List[Tuple[str, int]]):
 
     __slots__ = ()
 
-    def __getitem__(self, key):  # type: ignore[override]
+    @overload
+    def __getitem__(self, key: str) -> int: ...
+    @overload
+    def __getitem__(self, key: SupportsIndex) -> Tuple[str, int]: ...
+    @overload
+    def __getitem__(self, key: slice) -> List[Tuple[str, int]]: ...
+
+    def __getitem__(self, key: Union[str, SupportsIndex, slice]) -> Any:
         """By a name the number of the first variable of that name; by a place the pair."""
         if isinstance(key, str):
             for name, number in self:
@@ -77,7 +96,14 @@ class Variables(List[Tuple[str, int]]):
             raise KeyError(key)
         return super().__getitem__(key)
 
-    def __setitem__(self, key, number):  # type: ignore[override]
+    @overload
+    def __setitem__(self, key: str, number: int) -> None: ...
+    @overload
+    def __setitem__(self, key: SupportsIndex, number: Tuple[str, int]) -> None: ...
+    @overload
+    def __setitem__(self, key: slice, number: Iterable[Tuple[str, int]]) -> None: ...
+
+    def __setitem__(self, key: Any, number: Any) -> None:
         """By a name that comes once; by a place where it comes more often."""
         if isinstance(key, str):
             places = [place for place, (name, _) in enumerate(self) if name == key]
@@ -88,7 +114,7 @@ class Variables(List[Tuple[str, int]]):
             key, number = places[0], (key, number)
         super().__setitem__(key, number)
 
-    def __contains__(self, key) -> bool:
+    def __contains__(self, key: object) -> bool:
         if isinstance(key, str):
             return any(name == key for name, _ in self)
         return super().__contains__(key)
@@ -105,22 +131,28 @@ class Variables(List[Tuple[str, int]]):
         return default
 
 
+def _as_variables(pairs: Pairs) -> Variables:
+    if isinstance(pairs, Variables):
+        return pairs
+    return Variables(pairs.items() if isinstance(pairs, Mapping) else pairs)
+
+
 class _Named:
     """What hands names on to its variables."""
 
-    __slots__ = ()
+    fields: Variables
 
     def __getitem__(self, name: str) -> int:
-        return self.fields[name]  # type: ignore[attr-defined]
+        return self.fields[name]
 
     def __setitem__(self, name: str, number: int) -> None:
-        self.fields[name] = number  # type: ignore[attr-defined]
+        self.fields[name] = number
 
     def __contains__(self, name: str) -> bool:
-        return name in self.fields  # type: ignore[attr-defined]
+        return any(name == each for each, _ in self.fields)
 
     def all(self, name: str) -> List[int]:
-        return self.fields.all(name)  # type: ignore[attr-defined]
+        return self.fields.all(name)
 
 
 def _indented(tree: str) -> str:
@@ -136,7 +168,7 @@ def _digits(bits: str) -> str:
     return f"{bits[:32]}.., {len(bits)} bits"
 
 
-def _tree(head: str, *parts) -> str:
+def _tree(head: str, *parts: Union[str, Variables, List[Packet]]) -> str:
     """The head, and below it variables, packets and bits, each further in."""
     lines = [head]
     for part in parts:
@@ -149,14 +181,22 @@ def _tree(head: str, *parts) -> str:
     return "".join(lines)
 
 
-@dataclass(repr=False)
+@dataclass(repr=False, init=False)
 class Packet(_Named):
     """A packet: of a typed one its variables after L_PACKET, of another its bits as digits in `data`."""
 
     nid: int
-    dir: Optional[int] = None
-    fields: Variables = field(default_factory=Variables)
-    data: Optional[str] = None
+    dir: Optional[int]
+    fields: Variables
+    data: Optional[str]
+
+    def __init__(self, nid: int, dir: Optional[int] = None, fields: Pairs = (), data: Optional[str] = None) -> None:
+        self.nid, self.dir, self.fields, self.data = nid, dir, _as_variables(fields), data
+
+    def _bits(self) -> int:
+        """How many bits it takes in a telegram."""
+        frame = 23 if self.dir is not None else 8
+        return frame + (sum(_widths_of(self.fields)) if self.data is None else len(self.data))
 
     def __repr__(self) -> str:
         head = f"packet {self.nid}" if self.dir is None else f"packet {self.nid}, direction {self.dir}"
@@ -173,14 +213,48 @@ class Packet(_Named):
         return tree
 
 
-@dataclass(repr=False)
+def _widths_of(fields: Variables) -> List[int]:
+    unknown = [name for name, _ in fields if name not in VARIABLES]
+    if unknown:
+        raise NotAnItem(f"there is no variable {unknown[0]}")
+    return [WIDTHS[VARIABLES.index(name)] for name, _ in fields]
+
+
+@dataclass(repr=False, init=False)
 class Telegram:
     """A balise telegram. A name in brackets is a variable of its header."""
 
-    kind: str
+    kind: TelegramKind
     header: Variables
     packets: List[Packet]
     fill: str
+
+    def __init__(self, kind: TelegramKind, header: Pairs, packets: Iterable[Packet], fill: str) -> None:
+        self.kind, self.header, self.packets, self.fill = kind, _as_variables(header), list(packets), fill
+
+    @classmethod
+    def build(cls, header: Pairs, packets: Iterable[Packet], kind: Optional[TelegramKind] = None) -> Telegram:
+        """The telegram of these packets, with ones in FILL for the bits that are left. Variables of the header may come in
+        any order, and those that aren't named have their least number. Without a kind it is a short one, or a long one
+        where the packets need that. Raises NotAnItem where they have no room, or there is no such variable.
+
+            >>> header = {"M_VERSION": 33, "M_MCOUNT": 255, "NID_C": 98, "NID_BG": 600, "Q_LINK": 1}
+            >>> telegram = Telegram.build(header, [Packet(137, 1, [("Q_SRSTOP", 1)])])
+            >>> telegram.kind, telegram["Q_UPDOWN"], len(telegram.fill), encode(telegram).hex()
+            ('short', 1, 128, 'a1007f8c412c62500c7fffffffffffffffffffffffffffffffffc0')
+        """
+        packets, named = list(packets), dict(_as_variables(header))
+        unknown = [name for name in named if name not in dict(HEADER)]
+        if unknown:
+            raise NotAnItem(f"the header of a telegram has no variable {unknown[0]}")
+        bits = sum(packet._bits() for packet in packets)
+        if kind is None:
+            kind = "short" if bits <= ROOM["short"] else "long"
+        if kind not in ROOM:
+            raise ValueError(f"kind {kind!r} is none of {', '.join(ROOM)}")
+        if bits > ROOM[kind]:
+            raise NotAnItem(f"the packets have {bits} bits, and a {kind} telegram has room for {ROOM[kind]}")
+        return cls(kind, [(name, named.get(name, least)) for name, least in HEADER], packets, "1" * (ROOM[kind] - bits))
 
     def __repr__(self) -> str:
         return _tree(f"{self.kind} telegram", self.header, self.packets, f"FILL {_digits(self.fill)}")
@@ -197,18 +271,23 @@ class Telegram:
         return {"kind": self.kind, "header": _pairs(self.header), "packets": packets, "fill": self.fill}
 
 
-@dataclass(repr=False)
+@dataclass(repr=False, init=False)
 class Message(_Named):
     """A radio message, to the train (kind `radio`) or to the track (`train`): a typed one, or one that is kept as bits in
     `data`. A name in brackets is a variable of its own."""
 
     nid: int
-    header: Variables = field(default_factory=Variables)
-    fields: Variables = field(default_factory=Variables)
-    packets: List[Packet] = field(default_factory=list)
-    padding: str = ""
-    data: Optional[str] = None
-    kind: str = "radio"
+    header: Variables
+    fields: Variables
+    packets: List[Packet]
+    padding: str
+    data: Optional[str]
+    kind: MessageKind
+
+    def __init__(self, nid: int, header: Pairs = (), fields: Pairs = (), packets: Iterable[Packet] = (), padding: str = "",
+                 data: Optional[str] = None, kind: MessageKind = "radio") -> None:
+        self.nid, self.header, self.fields, self.packets = nid, _as_variables(header), _as_variables(fields), list(packets)
+        self.padding, self.data, self.kind = padding, data, kind
 
     def __repr__(self) -> str:
         head = f"{self.kind} message {self.nid}"
@@ -227,56 +306,136 @@ class Message(_Named):
 
 
 Item = Union[Telegram, Message]
+_Read = TypeVar("_Read", bound=Item)
+
+
+def blank(nid: int, kind: Kind = "radio") -> Packet:
+    """A packet of this number to fill in, for items of the kind: with the least numbers, Q_SCALE 1 and no entries. Where a
+    count or a flag is changed its group has to follow. One that isn't typed has no bits after its length.
+
+        >>> packet = blank(16)
+        >>> packet["L_SECTION"] = 500
+        >>> packet
+        packet 16, direction 1
+          Q_SCALE = 1
+          L_SECTION = 500
+    """
+    _library.kind_number(kind)
+    known = PACKETS["track" if kind == "train" else "train"]
+    if nid in known:
+        return _packet(json.loads(known[nid]))
+    if type(nid) is not int or not 0 <= nid <= 255:
+        raise ValueError(f"NID_PACKET is a whole number up to 255, not {nid!r}")
+    return Packet(nid, None if kind == "train" else 1, data="")
 
 
 def _pairs(variables: Iterable[Tuple[str, int]]) -> List[List[Any]]:
     # JSON has the 64 bits of NID_RADIO as digits, since not each reader of JSON has whole numbers so large
-    return [[name, f"{number:016x}" if name == "NID_RADIO" else number] for name, number in variables]
+    return [[name, _radio_digits(number) if name == "NID_RADIO" else number] for name, number in variables]
 
 
-def _variables(pairs: List[List[Any]]) -> Variables:
-    return Variables([(name, int(number, 16) if name == "NID_RADIO" else number) for name, number in pairs])
+def _radio_digits(number: int) -> str:
+    if type(number) is not int:
+        raise NotAnItem(f"NID_RADIO is a whole number, not {number!r}")
+    return f"{number:016x}"
+
+
+def _radio_number(digits: str) -> int:
+    if not re.fullmatch("[0-9A-Fa-f]{16}", digits):
+        raise NotAnItem(f"NID_RADIO is 16 hexadecimal digits, not {digits!r}")
+    return int(digits, 16)
+
+
+def _variables(pairs: Iterable[Any]) -> Variables:
+    return Variables([(name, _radio_number(number) if name == "NID_RADIO" else number) for name, number in pairs])
 
 
 def _packet(tree: Dict[str, Any]) -> Packet:
     return Packet(tree["nid"], tree.get("dir"), _variables(tree.get("fields", ())), tree.get("data"))
 
 
+def _item(tree: Dict[str, Any]) -> Item:
+    """The item of a tree that has all members."""
+    kind = tree["kind"]
+    if kind in ("long", "short"):
+        return Telegram(kind, _variables(tree["header"]), [_packet(each) for each in tree["packets"]], tree["fill"])
+    if "data" in tree:
+        return Message(tree["nid"], data=tree["data"], kind=kind)
+    packets = [_packet(each) for each in tree["packets"]]
+    return Message(tree["nid"], _variables(tree["header"]), _variables(tree["fields"]), packets, tree["padding"], kind=kind)
+
+
+def _check_members(tree: Dict[str, Any], *members: str) -> None:
+    further = [repr(each) for each in tree if each not in members]
+    if further:
+        raise NotAnItem(f"a further member: {', '.join(further)}")
+
+
 def from_dict(tree: Dict[str, Any]) -> Item:
     """The item of a tree of JSON, as to_dict gives it. Whether there is such an item `encode` says."""
     try:
-        kind = tree["kind"]
-        if kind in ("long", "short"):
-            return Telegram(kind, _variables(tree["header"]), [_packet(each) for each in tree["packets"]], tree["fill"])
-        if "data" in tree:
-            return Message(tree["nid"], data=tree["data"], kind=kind)
-        packets = [_packet(each) for each in tree["packets"]]
-        return Message(tree["nid"], _variables(tree["header"]), _variables(tree["fields"]), packets, tree["padding"], kind=kind)
+        item = _item(tree)
+        if isinstance(item, Telegram):
+            _check_members(tree, "kind", "header", "packets", "fill")
+        elif item.data is not None:
+            _check_members(tree, "kind", "nid", "data")
+        else:
+            _check_members(tree, "kind", "nid", "header", "fields", "packets", "padding")
+        for packet in tree.get("packets", ()):
+            _check_members(packet, "nid", "dir", "data" if "data" in packet else "fields")
+        return item
     except (KeyError, TypeError, ValueError, AttributeError) as fault:
+        if isinstance(fault, NotAnItem):
+            raise
         raise NotAnItem(f"no tree of an item: {fault!r}") from None
 
 
-def from_json(line: Union[str, bytes]) -> Item:
-    """The item of a line of JSON."""
-    try:
-        return from_dict(json.loads(line))
-    except json.JSONDecodeError as fault:
-        raise NotAnItem(f"no JSON: {fault}") from None
+#: where a line of JSON most likely says its kind
+_KIND = re.compile(rb'"kind"[ \t\r\n]*:[ \t\r\n]*"([a-z]+)"')
 
 
-def check(data: bytes, kind: Kind) -> int:
+def from_json(line: Union[str, Data]) -> Item:
+    """The item of a line of JSON. Raises NotAnItem and Refused, as the library does of this line."""
+    if isinstance(line, str):
+        try:
+            line = line.encode()
+        except UnicodeEncodeError as fault:
+            raise NotAnItem(f"no UTF-8: {fault.reason}") from None
+    line = bytes_of(line)
+    first = ([""] + [each.decode() for each in _KIND.findall(line)])[-1]
+    # only one kind can have the line, whatever it seems to say
+    faults = []
+    for kind in [each for each in KINDS if each == first] + [each for each in KINDS if each != first]:
+        try:
+            item: Item = _front(_library.from_json(line, kind), kind)[0]
+            return item
+        except NotAnItem as fault:
+            faults.append(fault)
+    raise faults[0] if first in KINDS else NotAnItem(f"no JSON, or its member kind is none of {', '.join(KINDS)}")
+
+
+def check(data: Data, kind: Kind) -> int:
     """The number of bytes that the item at the front takes. Raises Refused and Truncated."""
-    return _library.check(bytes(data), kind)
+    return _library.check(bytes_of(data), kind)
 
 
-def _front(data: bytes, kind: Kind) -> Tuple[Item, int]:
+def _front(data: bytes, kind: str) -> Tuple[Any, int]:
     line, taken = _library.to_json(data, kind)
-    return from_dict(json.loads(line)), taken
+    return _item(json.loads(line)), taken
 
 
-def decode(data: bytes, kind: Kind) -> Item:
+@overload
+def decode(data: Data, kind: TelegramKind) -> Telegram: ...
+@overload
+def decode(data: Data, kind: MessageKind) -> Message: ...
+@overload
+def decode(data: Data, kind: Kind) -> Item: ...
+
+
+def decode(data: Data, kind: Kind) -> Item:
     """The one item that the bytes are. Raises Refused, Truncated, and EtcsError where bytes follow the item."""
-    data = bytes(data)
+    data = bytes_of(data)
+    item: Item
     item, taken = _front(data, kind)
     if taken < len(data):
         raise EtcsError(f"{len(data) - taken} bytes follow the item")
@@ -286,30 +445,48 @@ def decode(data: bytes, kind: Kind) -> Item:
 def encode(item: Union[Item, Dict[str, Any]]) -> bytes:
     """The bytes of an item or of its tree. Raises NotAnItem where there is no such item, and Refused where it has bits of
     packets that are typed by now and no item has these."""
-    tree = item if isinstance(item, dict) else item.to_dict()
-    return _library.from_json(json.dumps(tree, separators=(",", ":")).encode(), tree.get("kind", ""))
+    if not isinstance(item, (Telegram, Message, dict)):
+        raise TypeError(f"a Telegram, a Message or a tree is wanted, not {type(item).__name__}")
+    try:
+        tree = item if isinstance(item, dict) else item.to_dict()
+        line, kind = json.dumps(tree, separators=(",", ":")).encode(), tree.get("kind")
+    except NotAnItem:
+        raise
+    except (AttributeError, RecursionError, TypeError, ValueError) as fault:
+        raise NotAnItem(f"no tree of an item: {fault!r}") from None
+    return _library.from_json(line, kind if isinstance(kind, str) else "")
 
 
-def items(data: bytes, kind: Kind) -> Iterator[Tuple[int, Item]]:
+@overload
+def items(data: Data, kind: TelegramKind) -> Iterator[Tuple[int, Telegram]]: ...
+@overload
+def items(data: Data, kind: MessageKind) -> Iterator[Tuple[int, Message]]: ...
+@overload
+def items(data: Data, kind: Kind) -> Iterator[Tuple[int, Item]]: ...
+
+
+def items(data: Data, kind: Kind) -> Iterator[Tuple[int, Item]]:
     """The items one after another, each with the place where it begins. Raises as `decode` does."""
-    data, at = bytes(data), 0
+    data, at = bytes_of(data), 0
+    _library.kind_number(kind)
     while at < len(data):
         item, taken = _front(data[at:at + _LONGEST[kind]], kind)
         yield at, item
         at += taken
 
 
-def show(data: Union[bytes, Item], kind: Optional[Kind] = None, number: int = 1) -> str:
-    """The text of an item, or of the one at the front of bytes of the kind, as `etcs show` prints it."""
+def show(data: Union[Data, Item], kind: Optional[Kind] = None, number: int = 1) -> str:
+    """The text of an item, or of the one at the front of bytes of the kind, as `etcs show` prints it. The text names the
+    item by its number, from 0 to 2**64 - 1; of another there is a ValueError."""
     if isinstance(data, (Telegram, Message)):
-        data, kind = encode(data), data.kind  # type: ignore[assignment]
-    return _library.show(bytes(data), kind, number)
+        return _library.show(encode(data), data.kind, number)
+    return _library.show(bytes_of(data), kind or "", number)
 
 
-def fields(data: bytes, kind: Kind) -> List[Field]:
+def fields(data: Data, kind: Kind) -> List[Field]:
     """The variables of the item at the front, all of them in the order of sending, from the first of the header to PAD
     or PADDING. Of FILL, OTHER_DATA, PADDING and PAD up to 64 bits are one field; X_TEXT comes once for each byte."""
-    return _library.placed(_library.fields(bytes(data), kind))
+    return _library.placed(_library.fields(bytes_of(data), kind))
 
 
 def from_fields(sent: Iterable[Field], kind: Kind) -> bytes:
@@ -320,7 +497,7 @@ def from_fields(sent: Iterable[Field], kind: Kind) -> bytes:
     return _library.from_fields([(each.number, each.var, each.width) for each in sent], kind)
 
 
-class Reader:
+class Reader(Generic[_Read]):
     """Reads items of a kind from pieces of any length.
 
         reader = etcs.Reader("radio")
@@ -334,21 +511,28 @@ class Reader:
     time counts.
     """
 
+    @overload
+    def __init__(self: Reader[Telegram], kind: TelegramKind) -> None: ...
+    @overload
+    def __init__(self: Reader[Message], kind: MessageKind) -> None: ...
+    @overload
+    def __init__(self: Reader[Item], kind: Kind) -> None: ...
+
     def __init__(self, kind: Kind) -> None:
         _library.kind_number(kind)
-        self.kind = kind
+        self.kind: Kind = kind
         #: how many items came
         self.count = 0
         self._held = b""
         self._fault: Optional[Refused] = None
 
-    def feed(self, piece: bytes) -> List[Item]:
+    def feed(self, piece: Data) -> List[_Read]:
         """The items that become whole with this piece. Raises Refused, now and at each later call; the items before
         it are in its `items`, and its `item` says which one is refused, from 1."""
         if self._fault:
             raise self._fault
-        data = self._held + bytes(piece)
-        found: List[Item] = []
+        data = self._held + bytes_of(piece)
+        found: List[_Read] = []
         at = 0
         while at < len(data):
             try:
@@ -371,9 +555,9 @@ class Reader:
         if self._held:
             raise Truncated(8 * len(self._held))
 
-    def __enter__(self) -> "Reader":
+    def __enter__(self) -> Reader[_Read]:
         return self
 
-    def __exit__(self, kind, fault, trace) -> None:
+    def __exit__(self, kind: Optional[Type[BaseException]], fault: Optional[BaseException], trace: Optional[TracebackType]) -> None:
         if kind is None:
             self.close()

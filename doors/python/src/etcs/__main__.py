@@ -8,15 +8,15 @@ The program is the proved one: its texts, places and limits are its own. This is
 """
 
 import argparse
-import json
 import sys
+from typing import Any, Callable, List, Optional
 
-from . import KINDS, NotAnItem, Refused, Truncated, _library, encode, fields, from_json, show
+from . import KINDS, Kind, NotAnItem, Refused, Truncated, _library, fields, show
 
 _BITS = {"short": 210, "long": 830}
 
 
-def _lines(item: bytes, kind: str, words, count: int) -> bytes:
+def _lines(item: bytes, kind: Kind, words: Any, count: int) -> bytes:
     """What is written of an item."""
     if words.command == "show":
         return show(item, kind, count).encode()
@@ -29,7 +29,7 @@ def _lines(item: bytes, kind: str, words, count: int) -> bytes:
     return item if words.to == "bin" else item.hex().upper().encode() + b"\n"
 
 
-def _from_lines(text: bytes, words, out) -> int:
+def _from_lines(text: bytes, words: Any, out: Callable[[bytes], Any]) -> int:
     """Lines of JSON to what is asked for."""
     for count, line in enumerate(text.splitlines(), 1):
         try:
@@ -43,7 +43,7 @@ def _from_lines(text: bytes, words, out) -> int:
     return 0
 
 
-def main(argv=None) -> int:
+def main(argv: Optional[List[str]] = None) -> int:
     parser = argparse.ArgumentParser(prog="python -m etcs", description=__doc__, formatter_class=argparse.RawDescriptionHelpFormatter)
     parser.add_argument("command", choices=["show", "check", "convert", "fields"])
     parser.add_argument("--kind", choices=KINDS, required=True)

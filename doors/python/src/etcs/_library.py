@@ -6,7 +6,7 @@ import ctypes
 import os
 import struct
 import threading
-from typing import Iterable, List, NamedTuple, Optional, Tuple
+from typing import Any, Iterable, Iterator, List, NamedTuple, NoReturn, Optional, Tuple, Union
 
 from ._variables import VARIABLES
 
@@ -18,6 +18,9 @@ _FIELD = struct.Struct("=QII")
 
 #: no item has more bytes
 _LONGEST = 1023
+
+#: what is taken for bytes
+Data = Union[bytes, bytearray, memoryview]
 
 
 class Field(NamedTuple):
@@ -53,7 +56,7 @@ class Refused(EtcsError):
     """
 
     #: from a Reader: the items before it, and which item this one is
-    items: Optional[list] = None
+    items: Optional[List[Any]] = None
     item: Optional[int] = None
 
     def __init__(self, bit: int, variable: str, kind: str = "", data: bytes = b"", line: Optional[bytes] = None) -> None:
@@ -107,15 +110,15 @@ class NotAnItem(EtcsError):
 
     def __init__(self, text: str, kind: str = "", line: Optional[bytes] = None) -> None:
         super().__init__(text)
-        self._kind, self._line = kind, line
+        self._text, self._kind, self._line = text, kind, line
 
     @property
     def reason(self) -> str:
         """Why, in a sentence without a capital and a full stop. The words may change."""
-        return self.args[0] if self._line is None else explain_json(self._line, self._kind)
+        return self._text if self._line is None else explain_json(self._line, self._kind)
 
     def __str__(self) -> str:
-        return self.args[0] if self._line is None else f"{self.args[0]}: {self.reason}"
+        return self._text if self._line is None else f"{self._text}: {self.reason}"
 
 
 class _Answer(ctypes.Structure):
@@ -147,19 +150,25 @@ for _name, _types in {
     getattr(_lib, _name).restype = _number
 
 
-class _Room(threading.local):
-    """A thread's answer and buffer, which grows."""
+class _Buffers(threading.local):
+    """A thread's buffers that no call has."""
 
     def __init__(self) -> None:
-        self.answer = _Answer()
-        self.grow(16384)
-
-    def grow(self, room: int) -> None:
-        self.room = room
-        self.buffer = ctypes.create_string_buffer(room)
+        self.free: List[ctypes.Array[ctypes.c_char]] = []
 
 
-_room = _Room()
+_buffers = _Buffers()
+
+
+def bytes_of(data: Data) -> bytes:
+    """The bytes of what is taken for bytes, and of nothing else: bytes(3) would be three zeros."""
+    if isinstance(data, bytes):
+        return data
+    if isinstance(data, bytearray) or isinstance(data, memoryview) and data.format in ("B", "b", "c"):
+        return bytes(data)
+    what = f"memoryview of format {data.format!r}" if isinstance(data, memoryview) else type(data).__name__
+    hint = ": bytes.fromhex makes them of digits" if isinstance(data, str) else ""
+    raise TypeError(f"bytes, a bytearray or a memoryview of bytes is wanted, not {what}{hint}")
 
 
 def kind_number(kind: str) -> int:
@@ -169,7 +178,7 @@ def kind_number(kind: str) -> int:
     return number
 
 
-def _raise(status: int, answer: _Answer, kind: str, data: bytes, line: Optional[bytes] = None) -> None:
+def _raise(status: int, answer: _Answer, kind: str, data: bytes, line: Optional[bytes] = None) -> NoReturn:
     """What a status says of bytes of a kind, or of a line of JSON."""
     if status == _MORE:
         raise Truncated(8 * len(data))
@@ -184,56 +193,68 @@ def _raise(status: int, answer: _Answer, kind: str, data: bytes, line: Optional[
     raise RuntimeError(f"libetcs answered status {status}")
 
 
-def _call(call, *before, wide: int = 1, done: Tuple[int, ...] = (_OK,)) -> Tuple[int, bytes]:
-    """A call's status, and where it is one of `done` what is then in the thread's buffer, in parts of `wide` bytes; it is
-    called once more where that has no room."""
-    room = _room
-    status = call(*before, room.buffer, room.room // wide, room.answer)
+def _call(call: Any, *before: Any, wide: int = 1, done: Tuple[int, ...] = (_OK,)) -> Tuple[int, _Answer, bytes]:
+    """A call's status and answer, and where the status is one of `done` what it wrote, in parts of `wide` bytes; it is
+    called once more where the buffer has no room.
+
+    Answer and buffer are this call's alone until it returns, so that a signal's handler or a finalizer may call meanwhile.
+    """
+    answer, free = _Answer(), _buffers.free
+    try:
+        buffer = free.pop()
+    except IndexError:
+        buffer = ctypes.create_string_buffer(16384)
+    status = call(*before, buffer, len(buffer) // wide, answer)
     if status == _NO_ROOM:
-        room.grow(room.answer.written * wide)
-        status = call(*before, room.buffer, room.room // wide, room.answer)
-    return status, ctypes.string_at(room.buffer, room.answer.written * wide) if status in done else b""
+        buffer = ctypes.create_string_buffer(answer.written * wide)
+        status = call(*before, buffer, len(buffer) // wide, answer)
+    written = ctypes.string_at(buffer, answer.written * wide) if status in done else b""
+    if not free:
+        free.append(buffer)
+    return status, answer, written
 
 
 def check(data: bytes, kind: str) -> int:
-    answer = _room.answer
+    answer = _Answer()
     status = _lib.etcs_check(kind_number(kind), data, len(data), answer)
     if status:
         _raise(status, answer, kind, data)
-    return answer.taken
+    return answer.taken  # type: ignore[no-any-return]
 
 
 def show(data: bytes, kind: str, number: int) -> str:
-    status, text = _call(_lib.etcs_show, kind_number(kind), number, data, len(data))
+    if not 0 <= number < 2 ** 64:
+        raise ValueError(f"the number of an item has 64 bits and no sign: {number}")
+    status, answer, text = _call(_lib.etcs_show, kind_number(kind), number, data, len(data))
     if status:
-        _raise(status, _room.answer, kind, data)
+        _raise(status, answer, kind, data)
     return text.decode("ascii")
 
 
 def to_json(data: bytes, kind: str) -> Tuple[bytes, int]:
-    status, line = _call(_lib.etcs_to_json, kind_number(kind), data, len(data))
+    status, answer, line = _call(_lib.etcs_to_json, kind_number(kind), data, len(data))
     if status:
-        _raise(status, _room.answer, kind, data)
-    return line, _room.answer.taken
+        _raise(status, answer, kind, data)
+    return line, answer.taken
 
 
 def from_json(line: bytes, kind: str) -> bytes:
     if kind not in KINDS:
         raise NotAnItem(f"the member kind is none of {', '.join(KINDS)}")
-    status, data = _call(_lib.etcs_from_json, KINDS[kind], line, len(line))
+    status, answer, data = _call(_lib.etcs_from_json, KINDS[kind], line, len(line))
     if status:
-        _raise(status, _room.answer, kind, b"", line)
+        _raise(status, answer, kind, b"", line)
     return data
 
 
-def fields(data: bytes, kind: str) -> Iterable[Tuple[int, int, int]]:
-    status, sent = _call(_lib.etcs_fields, kind_number(kind), data, len(data), wide=_FIELD.size)
+def fields(data: bytes, kind: str) -> Iterable[Tuple[Any, ...]]:
+    status, answer, sent = _call(_lib.etcs_fields, kind_number(kind), data, len(data), wide=_FIELD.size)
     if status:
-        _raise(status, _room.answer, kind, data)
+        _raise(status, answer, kind, data)
     return _FIELD.iter_unpack(sent)
 
 
-def placed(sent: Iterable[Tuple[int, int, int]]) -> List[Field]:
+def placed(sent: Iterable[Tuple[Any, ...]]) -> List[Field]:
     """Fields with the bits where they begin."""
     found, bit = [], 0
     for number, var, width in sent:
@@ -255,33 +276,33 @@ def from_fields(sent: List[Tuple[int, int, int]], kind: str) -> bytes:
         packed = b"".join([_FIELD.pack(*each) for each in sent])
     except struct.error as fault:
         raise NotAnItem(f"no variable has this number: {fault}") from None
-    status, data = _call(_lib.etcs_from_fields, kind_number(kind), packed, len(sent))
+    status, answer, data = _call(_lib.etcs_from_fields, kind_number(kind), packed, len(sent))
     if status == _MORE:
         raise Truncated(sum(width for _, _, width in sent))
     if status:
-        _raise(status, _room.answer, kind, _whole_bytes(sent) if status == _REFUSED else b"")
+        _raise(status, answer, kind, _whole_bytes(sent) if status == _REFUSED else b"")
     return data
 
 
 def explain(data: bytes, kind: str) -> str:
     """Why a bit of the bytes is refused; "" where none is."""
-    status, text = _call(_lib.etcs_explain, kind_number(kind), data, len(data), done=(_REFUSED,))
+    status, answer, text = _call(_lib.etcs_explain, kind_number(kind), data, len(data), done=(_REFUSED,))
     if status not in (_OK, _MORE, _REFUSED):
-        _raise(status, _room.answer, kind, data)
+        _raise(status, answer, kind, data)
     return text.decode()
 
 
 def fields_before(data: bytes, kind: str) -> List[Field]:
     """The fields before a refused bit; none where no bit is refused."""
-    status, sent = _call(_lib.etcs_fields_before, kind_number(kind), data, len(data), wide=_FIELD.size, done=(_REFUSED,))
+    status, answer, sent = _call(_lib.etcs_fields_before, kind_number(kind), data, len(data), wide=_FIELD.size, done=(_REFUSED,))
     if status not in (_OK, _MORE, _REFUSED):
-        _raise(status, _room.answer, kind, data)
+        _raise(status, answer, kind, data)
     return placed(_FIELD.iter_unpack(sent))
 
 
 def explain_json(line: bytes, kind: str) -> str:
     """Why a line is the JSON of no item; "" where it is that of one."""
-    status, text = _call(_lib.etcs_explain_json, kind_number(kind), line, len(line), done=(_REFUSED, _BAD_JSON))
+    status, answer, text = _call(_lib.etcs_explain_json, kind_number(kind), line, len(line), done=(_REFUSED, _BAD_JSON))
     if status not in (_OK, _REFUSED, _BAD_JSON):
-        _raise(status, _room.answer, kind, b"", line)
+        _raise(status, answer, kind, b"", line)
     return text.decode()

@@ -1,0 +1,485 @@
+/* A fuzz target over the library for C: doors/fuzz/run builds and runs it.
+ *
+ * An input is a byte that says the kind and what follows: the bytes of items one after another, a line of JSON, or fields
+ * of ten bytes each. What is asked of each call, and of the calls together, is in try_bytes, try_line and try_fields.
+ * Whatever doesn't hold is written, and ends the process by abort.
+ */
+#include "fuzz.h"
+#include "mutate.h"
+
+#include <stdio.h>
+#include <stdlib.h>
+#include <string.h>
+#include <sys/mman.h>
+#include <unistd.h>
+
+#define HOLDS(condition) ((condition) ? (void)0 : failed(#condition, __LINE__))
+
+static void failed(const char *condition, int line)
+{
+    fprintf(stderr, "doors/fuzz/fuzz.c:%d: it doesn't hold that %s\n", line, condition);
+    abort();
+}
+
+/* ---- Chance, which an input decides. */
+
+static uint64_t chance_state;
+
+uint64_t chance(uint64_t below)
+{
+    chance_state ^= chance_state << 13, chance_state ^= chance_state >> 7, chance_state ^= chance_state << 17;
+    return below ? (chance_state >> 8) % below : 0;
+}
+
+void begin_chance(const uint8_t *data, size_t size, uint64_t seed)
+{
+    chance_state = 1469598103934665603u ^ seed;
+    for (size_t i = 0; i < size; i++)
+        chance_state = (chance_state ^ data[i]) * 1099511628211u;
+    chance_state |= 1;
+}
+
+/* ---- Memory: what the library takes is counted, and refused where that is tried. */
+
+void *__real_malloc(size_t size);
+void *__real_realloc(void *old, size_t size);
+void __real_free(void *old);
+
+static int is_inside;
+static size_t live, taken_times, refused_from, refused_to;
+
+static int refuses(void)
+{
+    taken_times++;
+    return taken_times >= refused_from && taken_times < refused_to;
+}
+
+void *__wrap_malloc(size_t size)
+{
+    if (is_inside && refuses())
+        return NULL;
+    void *made = __real_malloc(size);
+    live += is_inside && made;
+    return made;
+}
+
+void *__wrap_realloc(void *old, size_t size)
+{
+    if (is_inside && refuses())
+        return NULL;
+    void *made = __real_realloc(old, size);
+    live += is_inside && made && !old;
+    return made;
+}
+
+void __wrap_free(void *old)
+{
+    live -= is_inside && old;
+    __real_free(old);
+}
+
+/* ---- Buffers: each ends where a page begins that can't be touched. */
+
+enum { INPUT = CALLS, ANSWER, AREAS };
+enum { AREA = 1 << 20 };
+
+static uint8_t *area_end[AREAS];
+
+static void make_areas(void)
+{
+    size_t page = (size_t)sysconf(_SC_PAGESIZE);
+    for (int i = 0; i < AREAS; i++) {
+        uint8_t *at = mmap(NULL, AREA + page, PROT_READ | PROT_WRITE, MAP_PRIVATE | MAP_ANONYMOUS, -1, 0);
+        HOLDS(at != MAP_FAILED && mprotect(at + AREA, page, PROT_NONE) == 0);
+        area_end[i] = at + AREA;
+    }
+}
+
+static uint8_t *area(int which, size_t size)
+{
+    HOLDS(size <= AREA);
+    return area_end[which] - size;
+}
+
+/* ---- One call. */
+
+static size_t unit_of(int which)
+{
+    return which == FIELDS || which == FIELDS_BEFORE ? sizeof(etcs_field) : 1;
+}
+
+static uint64_t number_of(etcs_kind kind)
+{
+    return kind * 1000003ull;
+}
+
+static etcs_status call(int which, etcs_kind kind, const uint8_t *in, size_t len, uint8_t *out, size_t room, etcs_answer *a)
+{
+    etcs_status status = 99;
+    is_inside = 1;
+    switch (which) {
+    case CHECK: status = etcs_check(kind, in, len, a); break;
+    case SHOW: status = etcs_show(kind, number_of(kind), in, len, out, room, a); break;
+    case TO_JSON: status = etcs_to_json(kind, in, len, out, room, a); break;
+    case FROM_JSON: status = etcs_from_json(kind, in, len, out, room, a); break;
+    case FIELDS: status = etcs_fields(kind, in, len, (etcs_field *)(void *)out, room, a); break;
+    case FROM_FIELDS: status = etcs_from_fields(kind, (const etcs_field *)(const void *)in, len, out, room, a); break;
+    case EXPLAIN: status = etcs_explain(kind, in, len, out, room, a); break;
+    case FIELDS_BEFORE: status = etcs_fields_before(kind, in, len, (etcs_field *)(void *)out, room, a); break;
+    case EXPLAIN_JSON: status = etcs_explain_json(kind, in, len, out, room, a); break;
+    }
+    is_inside = 0;
+    HOLDS(live == 0);
+    return status;
+}
+
+/* What a call answered, with what it wrote until the next call of the same name. */
+typedef struct result {
+    etcs_status status;
+    etcs_answer answer;
+    const uint8_t *out;
+} result;
+
+static int is_still(const uint8_t *from, const uint8_t *to)
+{
+    while (from < to && *from == 0xA5)
+        from++;
+    return from >= to;
+}
+
+/* Calls with room for so many parts in a buffer that is this many longer. What isn't written has to be as before. */
+static result call_with(int which, etcs_kind kind, const uint8_t *in, size_t len, size_t room, size_t further)
+{
+    result r = {0};
+    size_t unit = unit_of(which);
+    uint8_t *out = area(which, (room + further) * unit);
+    etcs_answer *a = (etcs_answer *)(void *)area(ANSWER, sizeof *a);
+    memset(a, 0, sizeof *a);
+    memset(out, 0xA5, (room + further) * unit);
+    r.status = call(which, kind, in, len, out, room, a);
+    r.answer = *a, r.out = out;
+    int writes = r.status == ETCS_OK
+        || (which >= EXPLAIN && (r.status == ETCS_REFUSED || r.status == ETCS_BAD_JSON));
+    HOLDS(is_still(out + (writes ? a->written * unit : 0), out + (room + further) * unit));
+    if (r.status == ETCS_REFUSED)
+        HOLDS(memchr(a->var, 0, sizeof a->var) && a->var[0]);
+    return r;
+}
+
+/* Each of the first allocations refused, alone or with all later ones: the answer is the same, or NO_MEMORY. */
+static void refuse_memory(int which, etcs_kind kind, const uint8_t *in, size_t len, size_t room, const result *wanted)
+{
+    int with_later = chance(2) == 0;
+    for (size_t at = 1; at <= 12; at++) {
+        taken_times = 0, refused_from = at, refused_to = with_later ? (size_t)-1 : at + 1;
+        result r = call_with(which, kind, in, len, room, 0);
+        refused_from = refused_to = 0;
+        HOLDS(r.status == ETCS_NO_MEMORY ? taken_times >= at
+                                         : r.status == wanted->status && r.answer.taken == wanted->answer.taken && r.answer.written == wanted->answer.written);
+        if (taken_times < at)
+            return;
+    }
+}
+
+/* Asks with no room, with too little, and with exactly as much as is wanted; `len` counts bytes or fields. */
+static result ask(int which, etcs_kind kind, const void *data, size_t len)
+{
+    size_t size = len * (which == FROM_FIELDS ? sizeof(etcs_field) : 1);
+    uint8_t *in = area(INPUT, size);
+    memcpy(in, data, size);
+    result r = call_with(which, kind, in, len, 0, chance(3));
+    size_t wanted = 0;
+    if (r.status == ETCS_NO_ROOM) {
+        wanted = r.answer.written;
+        HOLDS(wanted > 0);
+        result less = call_with(which, kind, in, len, wanted - 1 - chance(wanted), chance(40));
+        HOLDS(less.status == ETCS_NO_ROOM && less.answer.written == wanted && less.answer.taken == r.answer.taken);
+        HOLDS(less.answer.bit == r.answer.bit && !strcmp(less.answer.var, r.answer.var));
+        if (chance(16) == 0) {
+            result full = call_with(which, kind, in, len, wanted, 0);
+            refuse_memory(which, kind, in, len, wanted, &full);
+        }
+        result more = call_with(which, kind, in, len, wanted + 1 + chance(9), chance(9));
+        result same = call_with(which, kind, in, len, wanted, 0);
+        HOLDS(more.status == same.status && more.answer.written == wanted);
+        HOLDS(same.status != ETCS_NO_ROOM && same.answer.written == wanted && same.answer.taken == r.answer.taken);
+        r = same;
+    } else if (which != CHECK)
+        HOLDS(r.answer.written == 0);
+    HOLDS(memcmp(in, data, size) == 0);
+    return r;
+}
+
+/* ---- Texts. */
+
+/* Takes a character of UTF-8; UINT32_MAX where there is none. */
+static uint32_t take_char(const uint8_t **at, const uint8_t *end)
+{
+    uint32_t first = *(*at)++;
+    int more = first < 0x80 ? 0 : first >> 5 == 6 ? 1 : first >> 4 == 14 ? 2 : first >> 3 == 30 ? 3 : -1;
+    uint32_t found = more > 0 ? first & (0x3Fu >> more) : first;
+    if (more < 0 || more > end - *at)
+        return UINT32_MAX;
+    for (; more > 0; more--, (*at)++) {
+        if (**at >> 6 != 2)
+            return UINT32_MAX;
+        found = found << 6 | (**at & 0x3F);
+    }
+    return found;
+}
+
+/* Whether a terminal would obey a character: controls, and what turns the direction of writing. */
+static int is_control(uint32_t c)
+{
+    return c < 0x20 || (c >= 0x7F && c < 0xA0) || c == 0x200E || c == 0x200F || (c >= 0x202A && c <= 0x202E) || (c >= 0x2066 && c <= 0x2069);
+}
+
+static int is_sentence(const uint8_t *text, size_t len)
+{
+    const uint8_t *at = text, *end = text + len;
+    while (at < end) {
+        uint32_t c = take_char(&at, end);
+        if (c == UINT32_MAX || is_control(c))
+            return 0;
+    }
+    return len > 0;
+}
+
+typedef struct lines {
+    const uint8_t *at, *end;
+} lines;
+
+/* Takes a line that is this one, or this one and a meaning in parentheses. */
+static int takes(lines *text, const char *line)
+{
+    size_t len = strlen(line), left = (size_t)(text->end - text->at);
+    const uint8_t *lf = left ? memchr(text->at, '\n', left) : NULL;
+    if (!lf || (size_t)(lf - text->at) < len || memcmp(text->at, line, len))
+        return 0;
+    if (lf != text->at + len && memcmp(text->at + len, " (", 2))
+        return 0;
+    text->at = lf + 1;
+    return 1;
+}
+
+/* Takes the line of a run of bits, which is fields[from] to fields[to - 1]. */
+static int takes_run(lines *text, const char *name, const etcs_field *fields, size_t from, size_t to)
+{
+    static char line[9000];
+    size_t bits = 0;
+    for (size_t i = from; i < to; i++)
+        bits += fields[i].width;
+    int at = snprintf(line, sizeof line, "  %s %zu%s", name, bits, bits ? " " : "");
+    for (size_t i = from; i < to; i++)
+        for (uint32_t b = fields[i].width; b-- > 0;)
+            line[at++] = (char)('0' + (fields[i].number >> b & 1));
+    line[at] = 0;
+    return takes(text, line);
+}
+
+static int takes_field(lines *text, const etcs_field *field)
+{
+    char line[80];
+    unsigned long long number = field->number;
+    if (field->var == ETCS_VAR_NID_PACKET)
+        snprintf(line, sizeof line, "packet %llu", number);
+    else if (field->var == ETCS_VAR_NID_RADIO)
+        snprintf(line, sizeof line, "  NID_RADIO %016llx", number);
+    else if (field->var == ETCS_VAR_D_REF)
+        snprintf(line, sizeof line, "  D_REF %d", (int)(int16_t)number);
+    else
+        snprintf(line, sizeof line, "  %s %llu", etcs_var_name(field->var), number);
+    return takes(text, line);
+}
+
+/* Whether the text of `show` has exactly these fields. */
+static int shows(etcs_kind kind, const uint8_t *out, size_t len, const etcs_field *fields, size_t count, size_t taken)
+{
+    static const char *const names[] = {"", "long", "short", "radio", "train"};
+    lines text = {out, out + len};
+    char line[80];
+    size_t at = 0, bits = kind == ETCS_LONG ? 830 : kind == ETCS_SHORT ? 210 : 8 * taken;
+    snprintf(line, sizeof line, "item %llu %s %zu bits", (unsigned long long)number_of(kind), names[kind], bits);
+    int holds = takes(&text, line);
+    while (holds && at < count) {
+        uint32_t var = fields[at].var;
+        size_t to = at;
+        while (to < count && fields[to].var == var)
+            to++;
+        if (var == ETCS_VAR_PAD)
+            break;
+        if (var == ETCS_VAR_PADDING) {
+            takes(&text, "  OTHER_DATA 0");
+            takes(&text, "end");
+        }
+        if (var == ETCS_VAR_FILL || var == ETCS_VAR_OTHER_DATA || var == ETCS_VAR_PADDING) {
+            holds = takes_run(&text, etcs_var_name(var), fields, at, to);
+            at = to;
+        } else
+            holds = takes_field(&text, &fields[at++]) || (takes(&text, "  OTHER_DATA 0") && takes_field(&text, &fields[at - 1]));
+    }
+    takes(&text, "  OTHER_DATA 0");
+    if (takes(&text, "end"))
+        takes(&text, "  PADDING 0");
+    takes(&text, "  FILL 0");
+    return holds && text.at == text.end;
+}
+
+/* ---- What is asked of an item, of JSON, of fields. */
+
+static int is_same(const result *a, const result *b)
+{
+    if (a->status != b->status)
+        return 0;
+    return a->status == ETCS_OK ? a->answer.taken == b->answer.taken
+        : a->status != ETCS_REFUSED || (a->answer.bit == b->answer.bit && !strcmp(a->answer.var, b->answer.var));
+}
+
+/* Fields that are those of an item give it, and no others do. */
+void try_fields(etcs_kind kind, const etcs_field *fields, size_t count)
+{
+    static uint8_t made[ETCS_MOST_BYTES];
+    result r = ask(FROM_FIELDS, kind, fields, count);
+    HOLDS(r.status == ETCS_OK || r.status == ETCS_MORE || r.status == ETCS_REFUSED || r.status == ETCS_BAD_FIELDS);
+    if (r.status != ETCS_OK)
+        return;
+    size_t len = r.answer.written;
+    HOLDS(len <= sizeof made);
+    memcpy(made, r.out, len);
+    result back = ask(FIELDS, kind, made, len);
+    HOLDS(back.status == ETCS_OK && back.answer.taken == len && back.answer.written == count);
+    HOLDS(memcmp(back.out, fields, count * sizeof *fields) == 0);
+}
+
+/* An item is what its JSON and its fields say, `show` prints it, and no shorter bytes hold it. */
+static void try_item(etcs_kind kind, const uint8_t *bytes, size_t taken)
+{
+    static etcs_field fields[ETCS_MOST_FIELDS];
+    result json = ask(TO_JSON, kind, bytes, taken);
+    HOLDS(json.status == ETCS_OK && json.answer.taken == taken);
+    result back = ask(FROM_JSON, kind, json.out, json.answer.written);
+    HOLDS(back.status == ETCS_OK && back.answer.written == taken && !memcmp(back.out, bytes, taken));
+    HOLDS(ask(EXPLAIN_JSON, kind, json.out, json.answer.written).status == ETCS_OK);
+    result sent = ask(FIELDS, kind, bytes, taken);
+    HOLDS(sent.status == ETCS_OK && sent.answer.written <= ETCS_MOST_FIELDS);
+    size_t count = sent.answer.written;
+    memcpy(fields, sent.out, count * sizeof *fields);
+    result packed = ask(FROM_FIELDS, kind, fields, count);
+    HOLDS(packed.status == ETCS_OK && packed.answer.written == taken && !memcmp(packed.out, bytes, taken));
+    result text = ask(SHOW, kind, bytes, taken);
+    HOLDS(text.status == ETCS_OK && shows(kind, text.out, text.answer.written, fields, count, taken));
+    HOLDS(ask(CHECK, kind, bytes, taken - 1).status == ETCS_MORE);
+    change_fields(fields, &count);
+    try_fields(kind, fields, count);
+}
+
+/* A refused bit has its reason and the fields before it; the bits after it count for nothing, and turned it isn't refused. */
+static void try_refused(etcs_kind kind, const uint8_t *bytes, size_t len, const result *refused)
+{
+    static uint8_t turned[MOST_INPUT];
+    size_t bit = refused->answer.bit, sum = 0;
+    HOLDS(bit < 8 * len);
+    result why = ask(EXPLAIN, kind, bytes, len);
+    HOLDS(is_same(&why, refused) && is_sentence(why.out, why.answer.written));
+    result before = ask(FIELDS_BEFORE, kind, bytes, len);
+    HOLDS(is_same(&before, refused));
+    const etcs_field *fields = (const etcs_field *)(const void *)before.out;
+    for (size_t i = 0; i < before.answer.written; i++)
+        for (uint32_t b = fields[i].width; b-- > 0; sum++)
+            HOLDS(sum < bit && (fields[i].number >> b & 1) == (bytes[sum / 8] >> (7 - sum % 8) & 1));
+    HOLDS(bit - sum < 64);
+    HOLDS(ask(CHECK, kind, bytes, bit / 8).status == ETCS_MORE);
+    memcpy(turned, bytes, len);
+    for (size_t at = bit + 1; at < 8 * len; at++)
+        turned[at / 8] ^= (uint8_t)((chance(2) << 7) >> at % 8);
+    result same = ask(CHECK, kind, turned, len);
+    HOLDS(is_same(&same, refused));
+    turned[bit / 8] ^= (uint8_t)(0x80 >> bit % 8);
+    result other = ask(CHECK, kind, turned, len);
+    HOLDS(other.status != ETCS_REFUSED || other.answer.bit > bit);
+}
+
+/* The reader of pieces finds the items that the calls find in the whole. */
+static void try_pieces(etcs_kind kind, const uint8_t *bytes, size_t len)
+{
+    etcs_reader reader;
+    etcs_answer a = {0};
+    size_t begin = 0, at = 0, most = 1 + chance(chance(4) ? 40 : 2);
+    etcs_reader_start(&reader, kind);
+    while (at < len) {
+        size_t piece = 1 + chance(most), used;
+        piece = piece < len - at ? piece : len - at;
+        is_inside = 1;
+        etcs_status status = etcs_reader_feed(&reader, bytes + at, piece, &used, &a);
+        is_inside = 0;
+        result whole = call_with(CHECK, kind, bytes + begin, len - begin, 0, 0);
+        at += used;
+        if (status == ETCS_OK) {
+            HOLDS(whole.status == ETCS_OK && begin + whole.answer.taken == at && !memcmp(reader.bytes, bytes + begin, at - begin));
+            begin = at;
+        } else if (status == ETCS_REFUSED) {
+            HOLDS(whole.status == ETCS_REFUSED && whole.answer.bit == a.bit && !strcmp(whole.answer.var, a.var));
+            return;
+        } else
+            HOLDS(status == ETCS_MORE && used == piece && (whole.status != ETCS_OK || begin + whole.answer.taken > at));
+    }
+}
+
+static void try_bytes(etcs_kind kind, const uint8_t *bytes, size_t len)
+{
+    static const int calls[] = {SHOW, TO_JSON, FIELDS, EXPLAIN, FIELDS_BEFORE};
+    result r = ask(CHECK, kind, bytes, len);
+    HOLDS(r.status == ETCS_OK || r.status == ETCS_MORE || r.status == ETCS_REFUSED);
+    if (chance(8) == 0)
+        refuse_memory(CHECK, kind, area(INPUT, len), len, 0, &r);
+    int which = calls[chance(5)];
+    result other = ask(which, kind, bytes, len);
+    HOLDS(is_same(&other, &r));
+    if (r.status == ETCS_OK) {
+        HOLDS(r.answer.taken > 0 && r.answer.taken <= len && r.answer.taken <= ETCS_MOST_BYTES);
+        try_item(kind, bytes, r.answer.taken);
+    } else if (r.status == ETCS_REFUSED)
+        try_refused(kind, bytes, len, &r);
+    else
+        HOLDS(len < (kind == ETCS_LONG ? 104 : kind == ETCS_SHORT ? 27 : ETCS_MOST_BYTES));
+    if (chance(4) == 0)
+        try_pieces(kind, bytes, len);
+    HOLDS(ask(CHECK, 5 + (etcs_kind)chance(1u << 31), bytes, len).status == ETCS_UNKNOWN_KIND);
+}
+
+/* A line is the JSON of an item, or has a reason why not. */
+static void try_line(etcs_kind kind, const uint8_t *line, size_t len)
+{
+    static uint8_t made[ETCS_MOST_BYTES];
+    result r = ask(FROM_JSON, kind, line, len);
+    result why = ask(EXPLAIN_JSON, kind, line, len);
+    HOLDS(r.status == ETCS_OK || r.status == ETCS_BAD_JSON || r.status == ETCS_REFUSED);
+    HOLDS(is_same(&why, &(result){r.status, {.taken = why.answer.taken, .bit = r.answer.bit}, NULL}) || r.status == ETCS_REFUSED);
+    if (r.status != ETCS_OK) {
+        HOLDS(is_sentence(why.out, why.answer.written));
+        return;
+    }
+    size_t count = r.answer.written;
+    HOLDS(count <= sizeof made);
+    memcpy(made, r.out, count);
+    result item = ask(CHECK, kind, made, count);
+    HOLDS(item.status == ETCS_OK && item.answer.taken == count);
+    try_item(kind, made, count);
+}
+
+int LLVMFuzzerTestOneInput(const uint8_t *data, size_t size)
+{
+    static etcs_field fields[ETCS_MOST_FIELDS];
+    if (!area_end[0])
+        make_areas();
+    if (size < 1 || size > MOST_INPUT)
+        return 0;
+    begin_chance(data, size, 0);
+    etcs_kind kind = 1 + data[0] % 4;
+    switch (data[0] / 4 % 4) {
+    case LINE: try_line(kind, data + 1, size - 1); break;
+    case SENT: try_fields(kind, fields, fields_in(data + 1, size - 1, fields)); break;
+    default: try_bytes(kind, data + 1, size - 1);
+    }
+    return 0;
+}

@@ -1,0 +1,22 @@
+/* What the harness and the mutator share. */
+#ifndef FUZZ_H
+#define FUZZ_H
+
+#include "etcs_help.h"
+
+/* The calls; those from EXPLAIN on write where input is no item. */
+enum { CHECK, SHOW, TO_JSON, FROM_JSON, FIELDS, FROM_FIELDS, EXPLAIN, FIELDS_BEFORE, EXPLAIN_JSON, CALLS };
+
+/* What follows the first byte of an input, by the two bits above its kind. */
+enum { ITEMS, LINE, SENT };
+
+enum { MOST_INPUT = 1 << 16 };
+
+/* A number below this one, as the input decides. */
+uint64_t chance(uint64_t below);
+void begin_chance(const uint8_t *data, size_t size, uint64_t seed);
+
+int LLVMFuzzerTestOneInput(const uint8_t *data, size_t size);
+size_t LLVMFuzzerMutate(uint8_t *data, size_t size, size_t most);
+
+#endif

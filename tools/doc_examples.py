@@ -5,12 +5,13 @@
 
 PROGRAM is the built `etcs`. The documents are README.md, examples/README.md and those of docs/, where none is named.
 
-- Each block ```console is run by bash in a folder for its document, in which `./etcs` is PROGRAM and `examples` is the
-  repository's folder. After each command, a line that begins with `$ ` with those that begin with `> `, comes all that it
+- Each block ```console is run by bash in a folder for its document, in which `./etcs` is PROGRAM, and `docs`
+  and `examples` are the repository's folders. After each command, a line that begins with `$ ` with those that begin with `> `, comes all that it
   writes, standard error too. A line `..` stands for any number of lines, and `..` at a line's end for any rest of it.
   What a block writes isn't compared where a tool that it needs isn't installed: a line `skipped: ..` says so.
 - After `<!-- lines: PATH .. -->` each line of the block, but for comments and empty ones, is a line of one of these files.
   `{ .. }` at its end stands for a block of any length.
+- After `<!-- .. skeletons of packets to the WAY -->` each line of the block is a packet that an item of the way may have.
 - Each row of examples/README.md is run, a file with its kind or its command: the status, and the line `etcs: ..` or none,
   have to be those that it says.
 - After `<!-- bits: KIND FILE -->` the block is the first item of a file of examples/, bit by bit: its variables and
@@ -24,6 +25,7 @@ differs.
 """
 
 import glob
+import json
 import os
 import re
 import shlex
@@ -41,9 +43,10 @@ from sources import TESTS, TOP, One, When
 Piece = namedtuple("Piece", "at width name number note")
 MARKED = re.compile(r"(<!-- (bits|file): ([^\n]*?) -->\n```\w*\n)(.*?)(^```\n)", re.S | re.M)
 LINES = re.compile(r"<!-- lines: ([^\n]*?) -->\n```\w*\n(.*?)^```\n", re.S | re.M)
+SKELETONS = re.compile(r"skeletons of packets to the (train|track) -->\n```json\n(.*?)^```\n", re.S | re.M)
 CONSOLE = re.compile(r"^```console\n(.*?)\n```$", re.S | re.M)
 END = "-- the end of a command --"
-TOOLS = ("cc", "jq", "parallel", "python3", "xxd")  # what commands need that not every machine has
+TOOLS = ("cc", "jq", "jsonschema", "parallel", "perl", "python3", "xxd")  # what commands need that not every machine has
 
 
 def widths():
@@ -237,7 +240,8 @@ def differences(text, path, program):
     """Yields what is wrong with the console blocks of a document."""
     with tempfile.TemporaryDirectory(prefix="etcs-examples-") as folder:
         os.symlink(os.path.realpath(program), f"{folder}/etcs")
-        os.symlink(f"{TOP}/examples", f"{folder}/examples")
+        for name in ("docs", "examples"):
+            os.symlink(f"{TOP}/{name}", f"{folder}/{name}")
         for found in CONSOLE.finditer(text):
             outputs = written(found[1], folder)
             if tools_missing(found[1]):
@@ -256,6 +260,32 @@ def line_differences(text, path):
             line = re.sub(r"\{ \.\. \}$", "{", line.strip())
             if line and not line.startswith("//") and line not in there:
                 yield f"{path}: no source has the line {line}"
+
+
+def items_with(way, packet):
+    """Yields JSON of items with a packet, of which one has the bits that are left: FILL where it may be in no message, else PADDING."""
+    message = {"fields": [], "packets": [packet]}
+    if way == "track":
+        message |= {"header": [["T_TRAIN", 0], ["NID_ENGINE", 1]], "kind": "train", "nid": 136}
+    else:
+        message |= {"header": [["T_TRAIN", 0], ["M_ACK", 0], ["NID_LRBG", 1]], "kind": "radio", "nid": 24}
+    if (way, packet["nid"]) != ("train", 0):
+        yield from ({**message, "padding": "0" * count} for count in range(8))
+        return
+    names = "Q_UPDOWN M_VERSION Q_MEDIA N_PIG N_TOTAL M_DUP M_MCOUNT NID_C NID_BG Q_LINK".split()
+    header = [[name, {"Q_UPDOWN": 1, "M_VERSION": 33}.get(name, 0)] for name in names]
+    yield {"fill": "1" * 138, "header": header, "kind": "short", "packets": [packet]}
+
+
+def skeleton_differences(text, path, program):
+    """Yields the skeletons of packets that no item has."""
+    for way, block in SKELETONS.findall(text):
+        for line in block.splitlines():
+            given = list(items_with(way, json.loads(line)))
+            words = [program, "check", "--from", "json", "--kind", given[0]["kind"]]
+            answers = (subprocess.run(words, input=json.dumps(it).encode(), capture_output=True).returncode for it in given)
+            if 0 not in answers:
+                yield f"{path}: no item has {line}"
 
 
 def row_differences(text, path, program):
@@ -286,6 +316,7 @@ def main(words):
             open(f"{TOP}/{path}", "w", encoding="utf-8").write(new)
         sys.stdout.writelines(f"{it}\n" for it in skipped(new, path))
         faults += [*differences(new, path, program), *line_differences(new, path)]
+        faults += skeleton_differences(new, path, os.path.realpath(program))
         if path == "examples/README.md":
             faults += row_differences(new, path, os.path.realpath(program))
     print("\n".join(faults) or f"{len(paths)} documents, no difference")

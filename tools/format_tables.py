@@ -9,13 +9,14 @@ crates/etcs_tables, the enums of packets and bodies with their comments, and cra
 definitions, and lengths with the vectors `lengths`, before anything is written.
 """
 
+import json
 import re
 import sys
 import textwrap
 
 sys.dont_write_bytecode = True
 import sources
-from sources import FRAMES, MOST_LENGTH, TESTS, TOP, Many, One, crates_below, messages, packets, variable, variables
+from sources import FRAMES, MOST_LENGTH, TESTS, TOP, Many, One, When, crates_below, message_names, messages, packet_names, packets, variable, variables
 
 KEPT = "\u00a0"  # a blank at which no line is broken
 DOCUMENTS = ["docs/FORMAT.md", "docs/COVERAGE.md", "docs/USING.md"]
@@ -144,17 +145,18 @@ def packet_blocks(way):
     """Returns the rows of the packets of a way."""
     lines = ["```text"]
     for packet in packets(way).values():
-        lines += [f"{packet.nid} {packet.variant}: {packet.text}", *row_lines(packet.row)]
+        name = packet_names(way)[packet.nid]
+        lines += [f"{packet.nid} {name} ({packet.variant}): {packet.text}", *row_lines(packet.row)]
     return [*lines, "```"]
 
 
 def message_blocks(way):
-    """Returns the rows of the messages of a way that have variables of their own, and the numbers of those without."""
-    rows = {}
-    for message in messages(way).values():
-        rows.setdefault(row_text(message.row).replace(KEPT, " "), []).append(message.nid)
-    lines = ["| messages | variables after the header |", "|---|---|"]
-    return lines + [f"| {', '.join(map(str, nids))} | {row or 'none'} |" for row, nids in rows.items()]
+    """Returns the rows of the messages of a way."""
+    lines = ["| message | name | variables after the header |", "|---|---|---|"]
+    for it in messages(way).values():
+        row = row_text(it.row).replace(KEPT, " ")
+        lines.append(f"| {it.nid} | {message_names(way)[it.nid]} | {row or 'none'} |")
+    return lines
 
 
 # ---- Coverage.
@@ -167,35 +169,58 @@ def bits_of(packet, way):
 
 
 def coverage_of_packets(way):
-    """Returns the table of the packets of a way: typed ones, and those that are kept as bits."""
-    enum, typed = {"train": "Packet", "track": "TrainPacket"}[way], packets(way)
-    lines = ["| NID_PACKET | what it is | Rust value | least bits | largest bits |", "|---|---|---|---|---|"]
+    """Returns the table of the packets of a way: typed ones and those that have a name by their numbers, then all others."""
+    enum, names = {"train": "Packet", "track": "TrainPacket"}[way], packet_names(way)
+    other = {"train": "Other", "track": "TrainOther"}[way]
+    kept = f"kept as bits | `{enum}::Other({other})` | {FRAMES[way]} | {thousands(MOST_LENGTH)}"
+    rows = {it: kept for it in names}
+    for it in packets(way).values():
+        rows[it.nid] = f"{it.text} | `{enum}::{it.variant}({it.type})` | {bits_of(it, way)}"
     if way == "train":
         bits = 8 + variable("NID_VBCMK").width
-        lines.append(f"| 0 | the marker of a virtual balise cover | `{enum}::VbcMarker(Marker)` | {bits} | {bits} |")
-    for it in typed.values():
-        lines.append(f"| {it.nid} | {it.text} | `{enum}::{it.variant}({it.type})` | {bits_of(it, way)} |")
-    kept = set(range(256)) - set(typed) - ({0, 255} if way == "train" else set())
-    other = {"train": "Other", "track": "TrainOther"}[way]
-    lines.append(f"| {spans(kept)} | kept as bits | `{enum}::Other({other})` | {FRAMES[way]} | {thousands(MOST_LENGTH)} |")
-    if way == "train":
-        lines.append("| 255 | the end of a telegram's packets | none: it isn't in the list of packets | 8 | 8 |")
-    return lines
+        rows[0] = f"the marker of a virtual balise cover | `{enum}::VbcMarker(Marker)` | {bits} | {bits}"
+        rows[255] = "the end of a telegram's packets | none: it isn't in the list of packets | 8 | 8"
+    lines = ["| NID_PACKET | name | what it is | Rust value | least bits | largest bits |", "|---|---|---|---|---|---|"]
+    lines += [f"| {nid} | {names[nid]} | {rows[nid]} |" for nid in sorted(rows)]
+    return [*lines, f"| {spans(set(range(256)) - set(rows))} | | {kept} |"]
 
 
 def coverage_of_messages(way):
     """Returns the table of the messages of a way."""
-    lines = ["| NID_MESSAGE | Rust value of the body | variables | bits before the packets | bytes, L_MESSAGE |", "|---|---|---|---|---|"]
-    groups = {}
-    for it in messages(way).values():
-        groups.setdefault((it.variant, row_text(it.row).replace(KEPT, " "), it.bits, tuple(it.lengths)), []).append(it.nid)
+    made, names = {"train": "Message", "track": "TrainMessage"}[way], message_names(way)
+    kept = f"none: `{made}::kept(nid, bits)` | kept as bits | 18 | 3 to 1,023"
     header = {"train": 75, "track": 74}[way]
-    for (variant, row, bits, ranges), nids in groups.items():
-        lengths = ", ".join(map(span, ranges))
-        lines.append(f"| {', '.join(map(str, nids))} | `{variant}` | {row or 'none'} | {header + bits} | {lengths} |")
-    kept = set(range(256)) - set(messages(way))
-    made = {"train": "Message", "track": "TrainMessage"}[way]
-    return [*lines, f"| {spans(kept)} | none: `{made}::kept(nid, bits)` | kept as bits | 18 | 3 to 1,023 |"]
+    rows = {it: kept for it in names}
+    for it in messages(way).values():
+        row, lengths = row_text(it.row).replace(KEPT, " "), ", ".join(map(span, it.lengths))
+        rows[it.nid] = f"`{it.variant}` | {row or 'none'} | {header + it.bits} | {lengths}"
+    lines = ["| NID_MESSAGE | name | Rust value of the body | variables | bits before the packets | bytes, L_MESSAGE |"]
+    lines += ["|---|---|---|---|---|---|", *(f"| {nid} | {names[nid]} | {rows[nid]} |" for nid in sorted(rows))]
+    return [*lines, f"| {spans(set(range(256)) - set(rows))} | | {kept} |"]
+
+
+# ---- Skeletons.
+
+
+def pairs(row):
+    """Yields the pairs of a row with the least numbers, and Q_SCALE 1: no group after a count, and those that a flag of 0 has."""
+    number = 0
+    for item in row:
+        if isinstance(item, One):
+            name, number = variable(item.var).name, 1 if item.var == "Q_SCALE" else variable(item.var).ranges[0][0]
+            yield [name, f"{number:016x}" if name == "NID_RADIO" else number]
+        elif isinstance(item, When) and TESTS[item.test][1](number):
+            yield from pairs(item.items)
+
+
+def skeletons(way):
+    """Returns the JSON of a packet of each number of a way, with the least numbers, a line each."""
+    found = [{"fields": list(pairs(it.row)), "nid": it.nid} for it in packets(way).values()]
+    found.append({"data": "", "nid": 44})
+    if way == "train":
+        found = [{"dir": 1, **it} for it in found]
+        found.insert(0, {"fields": [["NID_VBCMK", 0]], "nid": 0})
+    return ["```json", *(json.dumps(it, separators=(",", ":"), sort_keys=True) for it in found), "```"]
 
 
 # ---- Crates.
@@ -240,6 +265,8 @@ PARTS = {
     "coverage of packets to the track": lambda: coverage_of_packets("track"),
     "coverage of messages to the train": lambda: coverage_of_messages("train"),
     "coverage of messages to the track": lambda: coverage_of_messages("track"),
+    "skeletons of packets to the train": lambda: skeletons("train"),
+    "skeletons of packets to the track": lambda: skeletons("track"),
     "crates": table_of_crates,
 }
 
@@ -263,4 +290,7 @@ def main(words):
 
 
 if __name__ == "__main__":
-    sys.exit(main(sys.argv[1:]))
+    try:
+        sys.exit(main(sys.argv[1:]))
+    except LookupError as error:
+        sys.exit(f"tools/format_tables.py: {error}")

@@ -12,12 +12,17 @@ cut, or bytes by chance: of each kind, as bytes, as digits or as JSON. Each comm
   item after those that were written, or none of a group that isn't whole or has a clash.
 - All commands end alike and write as many items.
 - What is written as bytes begins the input, and stays the same through each form.
+- Items that the sheet has are accepted, each with its bits.
+- The same bytes end alike as bytes, as one line of digits and as lines that are cut anywhere.
+- Items that are accepted and an input after them give the items, and then what the input gives.
+- Lines that have an item each, in spellings of people, are good lines of a log.
 - With the bit at which an item is refused turned, it is refused at a later bit or not at all, and so
   on: so some item begins with the bits before.
 
 It ends after N seconds (60) or 20 findings. Each is written with its call and the input in hexadecimal;
 at the end are the counts, and the seed that gives the same inputs again. The status is 0 where nothing
-was found, 1 where something was, 2 where the words are wrong or the program can't be run.
+was found, 1 where something was, 2 where the words are wrong or the program can't be run. Programs that
+each have to be found out are in tools/fuzz_test.py.
 """
 
 import collections
@@ -30,14 +35,18 @@ import tempfile
 import threading
 import time
 
+TOP = os.path.dirname(os.path.dirname(os.path.realpath(__file__)))
 CALL_SECONDS = 20
 CALL_KIBIBYTES = 64 * 1024
+MOST_DIGITS = 4096  # in a line
 FAULTS = {
     "refused": re.compile(rb"etcs: item (\d+) refused at bit (\d+), [A-Z][A-Z_]*\n"),
     "truncated": re.compile(rb"etcs: item (\d+) truncated after (\d+) bits\n"),
     "bad hexadecimal": re.compile(rb"etcs: line (\d+): bad hexadecimal at (\d+)\n"),
     "bad JSON": re.compile(rb"etcs: line (\d+): bad JSON\n"),
 }
+# An item of the sheet, and where it is one how many bits it has.
+SHEET_ITEM = re.compile(r"^(short|long|radio|train) ([0-9A-F]+) =(?:\n item 1 \w+ (\d+) bits$)?", re.MULTILINE)
 BIN_FAULTS = ["refused", "truncated"]
 FORM_FAULTS = {"bin": BIN_FAULTS, "hex": [*BIN_FAULTS, "bad hexadecimal"], "json": ["refused", "bad JSON"]}
 WAYS = [("bin", "json"), ("json", "bin"), ("json", "hex"), ("hex", "bin"), ("json", "json")]
@@ -106,14 +115,18 @@ class Trial:
     def __init__(self, program, kind, form, given):
         self.program, self.kind, self.form, self.given = program, kind, form, given
 
+    def call_of(self, form, given, *command):
+        """The words of a call over these bytes, and its answer."""
+        words = [command[0], "--kind", self.kind, "--from", form, *command[1:]]
+        return words, self.program.run(words, given)
+
     def call(self, command, form, given):
         """The words of a call over these bytes, its answer and its fault."""
-        words = [command[0], "--kind", self.kind, "--from", form, *command[1:]]
-        answer = self.program.run(words, given)
+        words, answer = self.call_of(form, given, *command)
         return words, answer, fault_of(form, words, given, answer)
 
-    def run(self, pick):
-        """Runs each command over the input."""
+    def run(self, pick, whole):
+        """Runs each command over the input, alone and after items that are whole."""
         words, answer, fault = self.call(["check"], self.form, self.given)
         count = count_items(words, self.given, answer[1])
         if fault and fault[0] in ("refused", "truncated"):
@@ -124,6 +137,10 @@ class Trial:
             self.alike(fault, count, ["group"])
         texts = {to: self.alike(fault, count, ["convert", "--to", to]) for to in ("bin", "hex", "json")}
         self.there_and_back(fault, texts)
+        self.after(whole, answer[0], fault, texts["json"])
+        self.in_a_log(pick, whole)
+        if self.form == "bin":
+            self.as_lines(pick, answer)
         if self.form == "bin" and fault and fault[0] == "refused":
             self.turn(pick, bytearray(self.given[len(texts["bin"]) :]), fault[2])
 
@@ -151,6 +168,40 @@ class Trial:
             words = ["convert", "--kind", self.kind, "--from", self.form, "--to", "bin"]
             expect(right, "other bytes", words, self.given)
 
+    def after(self, whole, status, fault, text):
+        """Whether items of the sheet are accepted, and the input ends after them as it does alone."""
+        given = b"".join(item for item, _ in whole)
+        lines = b"".join(b"item %d ok %d bits\n" % (n, bits) for n, (_, bits) in enumerate(whole, 1))
+        words, answer = self.call_of("bin", given, "check")
+        expect(answer == (0, lines, b""), "items of the sheet aren't accepted", words, given)
+        front = self.call_of("bin", given, "convert", "--to", "json")[1][1]
+        given = {"bin": given, "hex": given.hex().encode() + b"\n", "json": front}[self.form] + self.given
+        words, answer, found = self.call(["convert", "--to", "json"], self.form, given)
+        if fault:
+            more = len(whole) if fault[0] in ("refused", "truncated") or self.form == "json" else 1
+            fault = fault[0], fault[1] + more, *fault[2:]
+        right = (answer[0], answer[1], found) == (status, front + text, fault)
+        expect(right, "another answer after items that are whole", words, given)
+
+    def in_a_log(self, pick, whole):
+        """Whether `log` finds the digits of items, a line each."""
+        items = [item.hex() for item, _ in whole]
+        given = b"".join(spelled(pick, it).encode() + b"\n" for it in items)
+        words = ["log", "--kind", self.kind, "--good"]
+        wanted = "".join(it.upper() + "\n" for it in items).encode()
+        expect(self.program.run(words, given) == (0, wanted, b""), "other digits of a log", words, given)
+
+    def as_lines(self, pick, answer):
+        """Whether the bytes end alike as digits, in one line and cut anywhere."""
+        for most in (MOST_DIGITS // 2, 40):
+            cuts, text = [0], b""
+            while cuts[-1] < len(self.given):
+                cuts.append(cuts[-1] + (most if most > 40 else pick.randrange(1, most)))
+            for start, end in zip(cuts, cuts[1:]):
+                text += self.given[start:end].hex().encode() + b"\n"
+            words, found = self.call_of("hex", text, "check")
+            expect(found == answer, "another end as lines of digits", words, text)
+
     def turn(self, pick, given, first):
         """Turns each bit at which the first item is refused, at most a hundred."""
         before = -1
@@ -166,6 +217,21 @@ class Trial:
             expect(right, f"refused after {before}, at first at {first}", words, bytes(given))
             before = fault[2]
             given[before // 8] ^= 0x80 >> before % 8
+
+
+def spelled(pick, digits):
+    """Digits of an item as people have them: in groups, with something around them."""
+    size = pick.choice((2, 4, 8, 16, len(digits)))
+    groups = [digits[at : at + size] for at in range(0, len(digits), size)]
+    if pick.random() < 0.3:
+        groups = [f"0x{it}" for it in groups]
+        text = pick.choice((" ", ", ", ",")).join(groups) if size < len(digits) else groups[0]
+    else:
+        text = pick.choice((" ", "\t", ":", "-", ".", "_", "|", ",", ";")).join(groups)
+    after = [",", " ", "\r"]
+    if len(digits) >= 20:  # fewer are taken at a line's end alone
+        after += [" ; balise"] + [",OK", '"}'] * (len(text.split()) == 1)
+    return pick.choice(("", "", "12:00:03 ", "t=12 ", "RX\t", "line 1: ")) + text + pick.choice(("", *after))
 
 
 def changed_bytes(pick, given):
@@ -198,9 +264,16 @@ class Inputs:
     """Makes inputs of the items of the sheet."""
 
     def __init__(self, pick, program, sheet):
-        self.pick, self.program, self.items = pick, program, collections.defaultdict(list)
-        for kind, digits in re.findall(r"^(short|long|radio|train) ([0-9A-F]+) =", sheet, re.MULTILINE):
+        self.pick, self.program = pick, program
+        self.items, self.whole = collections.defaultdict(list), collections.defaultdict(list)
+        for kind, digits, bits in SHEET_ITEM.findall(sheet):
             self.items[kind].append(bytes.fromhex(digits))
+            if bits:
+                self.whole[kind].append((bytes.fromhex(digits), int(bits)))
+
+    def make_whole(self, kind):
+        """One or two items that the sheet has, with the number of their bits."""
+        return self.pick.choices(self.whole[kind], k=self.pick.randrange(1, 3))
 
     def make(self, kind, form):
         """An input of the kind in the form."""
@@ -235,19 +308,25 @@ class Inputs:
         return changed_bytes(self.pick, line) if what == 1 else changed_line(self.pick, line)
 
 
-def fuzz(program, pick, sheet, seconds):
-    """Tries inputs until the time is over: how many findings there are."""
+def fuzz(program, pick, sheet, seconds, most=20):
+    """Tries inputs until the time is over, or there are this many findings: how many there are."""
     end, findings = time.monotonic() + seconds, 0
     inputs = Inputs(pick, program, sheet)
-    while time.monotonic() < end and findings < 20:
+    while time.monotonic() < end and findings < most:
         kind, form = pick.choice(("short", "long", "radio", "train")), pick.choice(("bin", "hex", "json"))
         program.counts[f"inputs {kind} {form}"] += 1
         try:
-            Trial(program, kind, form, inputs.make(kind, form)).run(pick)
+            Trial(program, kind, form, inputs.make(kind, form)).run(pick, inputs.make_whole(kind))
         except Finding as finding:
             findings += 1
             print(finding, flush=True)
     return findings
+
+
+def sheet_text():
+    """The sheet of the vectors."""
+    with open(f"{TOP}/crates/etcs_vectors/stdin", encoding="utf-8") as text:
+        return text.read()
 
 
 def main(words):
@@ -259,12 +338,9 @@ def main(words):
         print(__doc__, file=sys.stderr)
         return 2
     seconds, seed = options.values()
-    top = os.path.dirname(os.path.dirname(os.path.realpath(__file__)))
-    program = Program(words or [f"{top}/crates/etcs/out/etcs"])
-    with open(f"{top}/crates/etcs_vectors/stdin", encoding="utf-8") as text:
-        sheet = text.read()
+    program = Program(words or [f"{TOP}/crates/etcs/out/etcs"])
     try:
-        findings = fuzz(program, random.Random(seed), sheet, seconds)
+        findings = fuzz(program, random.Random(seed), sheet_text(), seconds)
     except OSError as error:
         print(f"{program.words[0]}: {error.strerror}", file=sys.stderr)
         return 2

@@ -6,13 +6,14 @@
 PROGRAM is the built `etcs`. In a folder whose name has a blank, with the script, doors/install, a file in each crate and
 stand-ins for `rt`, tools/build.py, tools/unproved.py, tools/test.py and doors/build, it checks which words are answered
 without the program and that they are answered as by PROGRAM, which sources make a built program old, both ways of a first
-look, what is said at a terminal, and how `build`, `install` and `test` end, well and badly. The gate doesn't run it: run it
-where the script, doors/install, crates.txt or a text of the program changes. The status is 1 where something isn't as it
-should be.
+look, what is said at a terminal, and how `build`, `install` and `test` end, well and badly: with a full disk, odd names of
+folders, and variables that others set. The gate doesn't run it: run it where the script, doors/install, doors/build, crates.txt
+or a text of the program changes. The status is 1 where something isn't as it should be.
 """
 
 import os
 import pty
+import resource
 import shutil
 import signal
 import subprocess
@@ -20,6 +21,7 @@ import sys
 import tempfile
 import time
 from concurrent.futures import ThreadPoolExecutor
+from contextlib import suppress
 
 TOP = os.path.dirname(os.path.dirname(os.path.realpath(__file__)))
 LIMIT = 100  # seconds for a call, on a machine that is shared
@@ -27,8 +29,8 @@ SOURCES, BUILT, CHANGED = 1_000_000_000, 1_000_000_100, 1_000_000_200
 OUT, MARK, UNPROVED = "crates/etcs/out/etcs", "crates/etcs/out/building", "crates/etcs/out/unproved/etcs"
 # What the script and doors/install call, but for python3.
 TOOLS = (
-    "awk cat cut date dirname find flock git grep head install ln ls mkdir mktemp mv readlink rm sed sh sha256sum sleep sort tail touch tr"
-    " wc xargs"
+    "awk cat cp cut date dirname find flock git grep head install ln ls mkdir mktemp mv readlink rm rmdir sed sh sha256sum sleep sort tail"
+    " touch tr wc xargs"
 ).split()
 RT = """#!/bin/sh
 echo tried
@@ -36,7 +38,7 @@ printf 'checked: ended status=0\\nrun=ended status=0 runners=1 proved=no\\n' >&2
 """
 # What the stand-ins begin with: a line of their words in the file `calls`, and the folder as $top or TOP.
 SHELL = """#!/bin/sh
-top=$(dirname "$(dirname "$0")")
+top=${0%/*/*}
 echo "${0##*/} $*" >> "$top/calls"
 """
 PYTHON = """import os, shutil, sys, time
@@ -52,6 +54,20 @@ MAKES = f"make({OUT!r})\n"
 # It ends with the test's folder too, where a test is ended.
 WAITS = "open(TOP + '/pid', 'w').write(str(os.getpid()))\n" + MAKES
 WAITS += "while os.path.exists(TOP + '/pid') and not os.path.exists(TOP + '/go'): time.sleep(0.02)\n"
+# A tool that finds no room at its call number $2, and else does what it should: $1 is its path.
+NO_ROOM = """#!/bin/sh
+echo >> "$0.calls"
+if [ $(wc -l < "$0.calls") -eq {} ]; then echo "${{0##*/}}: No space left on device" >&2; exit 1; fi
+exec {} "$@"
+"""
+# What doors/build calls: the first makes the file that it names, the second the one after -o.
+AR = """#!/bin/sh
+case $1 in rcsD) echo library > "$2" ;; esac
+"""
+CC = """#!/bin/sh
+while [ "$1" != -o ]; do shift; done
+echo library > "$2"
+"""
 LIBRARY = 'mkdir -p "$top/doors/out"; touch "$top/doors/out/libetcs.a" "$top/doors/out/libetcs.so.1"\n'
 COMMANDS = ("show", "check", "convert", "group", "log", "explain")
 SHORT = b"A0007F802000FFFFFFFFFFFFFFFFFFFFFFFFFFFFFFFFFFFFFFFFC0\n"
@@ -81,10 +97,11 @@ class Room:
 
     def __init__(self, folder, program):
         self.folder, self.program, self.faults = folder, os.path.realpath(program), []
-        for name in ("crates.txt", "docs", "doors", "examples", "tools/similar.awk"):
-            copy = shutil.copytree if os.path.isdir(f"{TOP}/{name}") else self.copy
-            copy(f"{TOP}/{name}", f"{folder}/{name}")
-        shutil.rmtree(f"{folder}/doors/out", ignore_errors=True)
+        for name in ("completions", "crates.txt", "docs", "doors", "examples", "man", "tools/similar.awk"):
+            if os.path.isdir(f"{TOP}/{name}"):
+                shutil.copytree(f"{TOP}/{name}", f"{folder}/{name}", ignore=shutil.ignore_patterns("out"))
+            else:
+                self.copy(f"{TOP}/{name}", f"{folder}/{name}")
         self.copy(self.program, f"{folder}/program")
         for line in open(f"{TOP}/crates.txt", encoding="utf-8"):
             if ":" in line and not line.startswith("#"):
@@ -138,11 +155,12 @@ class Room:
         open(path, "w", encoding="utf-8").close()
         return [it[0] for it in lines if it[-1] != "--check"]
 
-    def start(self, words, given=subprocess.DEVNULL, tools=("bin", "python", "path"), **how):
+    def start(self, words, given=subprocess.DEVNULL, tools=("bin", "python", "path"), env=(), script="etcs", **how):
         """Starts the script with these folders on the path."""
         path = ":".join(f"{self.folder}/{it}" for it in tools)
         how = {"stdin": given, "stdout": subprocess.PIPE, "stderr": subprocess.PIPE, "cwd": self.folder, **how}
-        return subprocess.Popen([f"{self.folder}/etcs", *words], env={"PATH": path}, preexec_fn=heed_signals, **how)
+        words = [script if script.startswith(".") else f"{self.folder}/{script}", *words]
+        return subprocess.Popen(words, env={"PATH": path, **dict(env)}, preexec_fn=heed_signals, **how)
 
     def run(self, words, given=b"", **how):
         """Returns the status, the output and the faults of the script."""
@@ -424,6 +442,8 @@ def sums_hold(folder, sums):
 def check_install(room):
     """An installation is whole, in a folder of its own or below a prefix, and names what it wrote."""
     wanted = {"bin/etcs", "lib/libetcs.a", "lib/libetcs.so", "lib/libetcs.so.1", "lib/pkgconfig/etcs.pc", "include/etcs.h"}
+    wanted |= {"share/etcs/etcs.schema.json", "share/man/man1/etcs.1", "share/man/man1/etcs-log.1"}
+    wanted |= {"share/bash-completion/completions/etcs", "share/zsh/site-functions/_etcs", "share/fish/vendor_completions.d/etcs.fish"}
     for words, where, sums, docs in (
         (["in to"], "in to", "SHA256SUMS", "docs"),
         (["--prefix", "usr/local"], "usr/local", "share/doc/etcs/SHA256SUMS", "share/doc/etcs"),
@@ -433,7 +453,7 @@ def check_install(room):
             room.write("usr/local/bin/other", "kept")
         status, output, faults = room.answer(["install", *words])
         found = files_of(f"{room.folder}/{where}")
-        texts = {f"{docs}/{it}.md" for it in ("DOORS", "FORMAT", "COOKBOOK")}
+        texts = {f"{docs}/{it}.md" for it in ("DOORS", "FORMAT", "COVERAGE", "COOKBOOK")}
         room.check(status == 0 and not (wanted | texts) - found.keys(), f"install {words}: {status} {faults}")
         named = {os.path.relpath(it, f"{room.folder}/{where}") for it in output.decode().splitlines()}
         room.check(named == found.keys() - {"bin/other"}, f"install {words}: named {named ^ found.keys()}")
@@ -441,6 +461,18 @@ def check_install(room):
         room.check(found.get("bin/other", b"kept") == b"kept", f"install {words}: another's file")
         calls = ["build.py", "build"] if where == "in to" else ["build"]
         room.check(room.calls() == calls, f"install {words}: built at the wrong time")
+
+
+def check_piped(room):
+    """Where the names that it writes find no reader, the installation is whole all the same."""
+    read, write = os.pipe()
+    os.close(read)
+    started = room.start(["install", "dist"], stdout=write)
+    os.close(write)
+    started.communicate(timeout=LIMIT)
+    found = files_of(f"{room.folder}/dist")
+    room.check(sums_hold(f"{room.folder}/dist", "SHA256SUMS") and not [it for it in found if it.startswith(".")], "install without a reader")
+    room.check(not [it for it in os.listdir(f"{room.folder}/dist") if it.startswith(".")], "install without a reader: a folder is left")
 
 
 def check_refused(room):
@@ -454,7 +486,7 @@ def check_refused(room):
     os.makedirs(f"{room.folder}/folder/include/etcs.h")
     room.write("file/share", "")
     for words, fault in (
-        (["full"], "full isn't empty"),
+        (["full"], "full isn't empty: --prefix installs below a folder that holds other things"),
         (["crates.txt"], "crates.txt is no folder"),
         (["crates.txt/in"], "crates.txt is no folder"),
         (["--prefix", "crates.txt"], "crates.txt is no folder"),
@@ -475,9 +507,104 @@ def check_refused(room):
     room.check(not room.is_there("to"), "install: a folder is left")
 
 
+def check_no_room(room):
+    """Where the disk is full at any point of an installation, nothing of it is left, and an earlier one is as it was."""
+    room.build()
+    room.answer(["install", "--prefix", "earlier"])
+    room.write("earlier/lib/other", "kept")
+    for tool, numbers in (("install", (9,)), ("sha256sum", (1,)), ("mkdir", (3, 40)), ("mv", (2, 40))):
+        for words in (["in/to"], ["--prefix", "earlier"], ["--prefix", "other/prefix"]):
+            for number in numbers:
+                room.write(f"bin/{tool}", NO_ROOM.format(number, shutil.which(tool)))
+                before = files_of(room.folder)
+                room.check_end(["install", *words], 70, "not installed, as the lines above say")
+                os.remove(f"{room.folder}/bin/{tool}")
+                with suppress(FileNotFoundError):
+                    os.remove(f"{room.folder}/bin/{tool}.calls")
+                for other in ("calls", f"bin/{tool}", *(f"doors/out/{it}" for it in ("libetcs.a", "libetcs.so.1"))):
+                    before.pop(other, None)
+                after = {path: text for path, text in files_of(room.folder).items() if path in before or not path.startswith(("calls", "doors/out"))}
+                room.check(after == before, f"install {words}: a full disk at {tool} {number}: {after.keys() ^ before.keys()}")
+                left = [it for it in ("in", "other") if room.is_there(it)]
+                room.check(not left, f"install {words}: a full disk at {tool} {number}: folders are left")
+    # a real one, of the size of a file alone
+    limit = lambda: (heed_signals(), resource.setrlimit(resource.RLIMIT_FSIZE, (100_000, 100_000)))
+    done = subprocess.run([f"{room.folder}/doors/install", "small"], cwd=room.folder, capture_output=True, preexec_fn=limit)
+    said = done.stderr.endswith(b"doors/install: nothing was installed, and all is as it was\n")
+    room.check(done.returncode and said and not room.is_there("small"), f"install: a file too large: {done.stderr}")
+
+
+def check_environment(room):
+    """Variables that others set for themselves change nothing: CDPATH, CC with options, TMPDIR of another user."""
+    room.build()
+    env = {"CDPATH": ".:/", "CC": "cc -m64", "OBJCOPY": "objcopy --verbose"}
+    status, _, faults = room.answer(["install", "dist"], env=env)
+    room.check(status == 0 and room.is_there("dist/bin/etcs") and sums_hold(f"{room.folder}/dist", "SHA256SUMS"), f"install with CDPATH: {faults}")
+    room.check_end(["install", "to"], 70, "not installed: there is no nowhere, with which the library is linked", env={"CC": "nowhere -m64"})
+    os.remove(f"{room.folder}/{OUT}")
+    os.chmod(room.folder, 0o755)
+    os.makedirs(f"{room.folder}/others", 0o700)
+    how = {"user": 65534, "group": 65534, "extra_groups": []} if os.geteuid() == 0 else {}
+    for folder in ("others" if how else "missing", "missing", ""):
+        answer = room.answer(CHECK, tools=("bin", "path"), env={"TMPDIR": folder and f"{room.folder}/{folder}"}, **how)
+        room.check(answer[:2] == (0, b"tried\n"), f"TMPDIR {folder}: {answer}")
+
+
+def check_library(room):
+    """doors/build finds its folder by any name, and leaves a whole library or none."""
+    room.copy(f"{TOP}/doors/build", f"{room.folder}/doors/build")
+    for name, text in (("rt", "#!/bin/sh\necho /kit/START\n"), ("ar", AR), ("cc", CC)):
+        room.write(f"bin/{name}", text)
+    wanted = {"doors/out/libetcs.a", "doors/out/libetcs.so", "doors/out/libetcs.so.1"}
+    for script in ("doors/build", "./doors/build", "./doors/../doors/build"):
+        done = room.answer([], script=script, env={"CDPATH": ".", "CC": "cc -m64"})
+        found = {it for it in files_of(room.folder) if it.startswith("doors/out/")}
+        room.check(done[0] == 0 and found == wanted, f"{script}: {found} {done}")
+    for tool in ("ar", "cc", "objcopy"):
+        kept = open(f"{room.folder}/bin/{tool}", encoding="utf-8").read()
+        room.write(f"bin/{tool}", CC.replace("library", "half") + "exit 1\n" if tool == "cc" else "#!/bin/sh\nexit 1\n")
+        done = room.answer([], script="./doors/build")
+        room.check(done[0] and not {it for it in files_of(room.folder) if it.startswith("doors/out/")}, f"doors/build, {tool}: a part is left")
+        room.write(f"bin/{tool}", kept)
+
+
+def check_names(room):
+    """Folders may have a newline in their name, and at its end."""
+    inner = Room(f"{room.folder}/one\ntwo\n", room.program)
+    inner.build()
+    inner.check(inner.answer(CHECK, SHORT) == (0, b"item 1 ok 210 bits\n", b""), "not run")
+    for words, where in ((["to\n"], "to\n"), (["--prefix", "a\nb\n\n"], "a\nb\n\n"), (["a\nb\n\n/in\n"], "a\nb\n\n/in\n")):
+        done = inner.answer(["install", *words])
+        inner.check(done[0] == 0 and inner.is_there(f"{where}/bin/etcs"), f"install {words}: {done}")
+    inner.write("odd/\n", "")
+    inner.check(inner.answer(["install", "odd"])[0] == 70, "a folder with a file whose name is a newline is taken for empty")
+    room.faults += [f"in a folder with a newline: {it}" for it in inner.faults]
+    room.copy(room.program, f"{room.folder}/it's $HOME; `program`")
+    words = [f"{TOP}/tools/doc_examples.py", "--check", f"{room.folder}/it's $HOME; `program`", "examples/README.md"]
+    done = subprocess.run([sys.executable, *words], capture_output=True, timeout=LIMIT)
+    room.check(done.returncode == 0, f"tools/doc_examples.py with a program of an odd name: {done.stdout} {done.stderr}")
+
+
+def check_bench(room):
+    """bench/ works in a folder of the user's own, and finds its sources with CDPATH."""
+    room.write("bin/rt", "#!/bin/sh\necho no\nexit 1\n")
+    for name in ("HANDLES", "bench/run", "bench/rows.rt.txt"):
+        room.copy(f"{TOP}/{name}", f"{room.folder}/{name}")
+    for env, folder in (({"HOME": "home"}, "home/.cache"), ({"HOME": "home", "XDG_CACHE_HOME": "cache"}, "cache"), ({"BENCH": "own/etcs_bench"}, "own")):
+        env = {name: f"{room.folder}/{value}" for name, value in env.items()}
+        answer = room.answer(["rows"], script="bench/run", env={**env, "CDPATH": "."})
+        sources = f"{folder}/etcs_bench/crates/bench_rows/src/main.rt"
+        room.check(answer == (1, b"", b"no\n") and room.is_there(sources), f"bench/run: not in {folder}: {answer}")
+    words = ["-c", f"import sys; sys.path.insert(0, {TOP + '/bench'!r}); import measure; print(measure.FOLDER)"]
+    env = {"HOME": f"{room.folder}/home", "PATH": os.environ["PATH"]}
+    done = subprocess.run([sys.executable, "-B", *words], env=env, capture_output=True, timeout=LIMIT)
+    room.check(done.stdout.decode() == f"{room.folder}/home/.cache/etcs_bench\n", f"bench/measure.py: {done.stdout} {done.stderr}")
+
+
 CHECKS = (
     check_help, check_words, check_age, check_look, check_same, check_try, check_terminal, check_faults, check_build, check_ended,
-    check_two, check_unwritable, check_install, check_refused,
+    check_two, check_unwritable, check_install, check_refused, check_no_room, check_environment, check_library, check_names,
+    check_bench, check_piped,
 )  # fmt: skip
 
 

@@ -248,6 +248,31 @@ def messages(way):
     return dict(sorted(found.items()))
 
 
+@lru_cache(maxsize=None)
+def names(table):
+    """Returns what the standard calls numbers, of packets (`TO_TRAIN`, `TO_TRACK`) or of messages (`MESSAGES`)."""
+    text = found_one(rf"static {table}: .*?= &\[(.*?)\n\];", source("etcs_reasons/src/names.rt"), table)[1]
+    return {int(nid): name for nid, name in re.findall(r'\((\d+), "([^"]*)"\)', text)}
+
+
+def packet_names(way):
+    """Returns what the standard calls the packets of a way."""
+    return with_all(packets(way), names("TO_TRAIN" if way == "train" else "TO_TRACK"), "packet")
+
+
+def message_names(way):
+    """Returns what the standard calls the messages of a way: those to the track have the numbers from 128 on."""
+    found = {nid: name for nid, name in names("MESSAGES").items() if (nid < 128) == (way == "train")}
+    return with_all(messages(way), found, "message")
+
+
+def with_all(typed, found, what):
+    """Returns the names, among which those of all that is typed have to be."""
+    if missing := sorted(set(typed) - set(found)):
+        raise LookupError(f"crates/etcs_reasons/src/names.rt has no name of {what} {missing[0]}")
+    return found
+
+
 # ---- Crates.
 
 
@@ -275,13 +300,13 @@ def crates_below(names):
 def check_with_vectors():
     """Compares the lengths of all rows with the vectors `lengths 200 ROW`, whose answers weren't computed here."""
     names = {"p": ("train", packets), "m": ("train", messages), "tp": ("track", packets), "tm": ("track", messages)}
-    seen = 0
+    missing = {f"{prefix}{nid}" for prefix, (way, table) in names.items() for nid in table(way)}
     for prefix, nid, said in re.findall(r"^lengths 200 (p|m|tp|tm)(\d+) = (.*)$", source("etcs_vectors/stdin"), re.M):
         way, table = names[prefix]
         spans = [list(map(int, it.split("-"))) for it in said.split()]
         wanted = [n for it in spans for n in range(it[0], it[-1] + 1)]
         if flags(lengths(table(way)[int(nid)].row) & (1 << 201) - 1) != wanted:
             raise LookupError(f"lengths of {prefix}{nid} differ from those of the vectors")
-        seen += 1
-    if seen != sum(len(table(way)) for way, table in names.values()):
-        raise LookupError(f"vectors have lengths of {seen} rows alone")
+        missing.discard(prefix + nid)
+    if missing:
+        raise LookupError(f"no vector `lengths 200` has {', '.join(sorted(missing))}")

@@ -4,10 +4,9 @@
     tools/stream_test.py PROGRAM
 
 PROGRAM is the built `etcs`. It is run over outputs of little room, inputs that can't be read, a million items and more,
-lines of JSON that are long, deep or no UTF-8, and with few addresses; and its own JSON has to be read far sooner than the
-same with a blank. Expected answers come from docs/FORMAT.md and from
-counting. Each answer that isn't as expected is written; the last line says how many there were. The status is 1 where one
-differs.
+lines that are long, JSON that is deep or no UTF-8, and with few addresses; its own JSON has to be read far sooner than the
+same with a blank; and pages have their words. Expected answers come from docs/FORMAT.md and from counting. Each answer that
+isn't as expected is written; the last line says how many there were. The status is 1 where one differs.
 """
 
 import glob
@@ -73,6 +72,16 @@ NOT_IN_TEXTS = (
 # what may be around an item, and what may not; the second of these is a mark of the order of bytes
 AROUND = (b" \t\r \t",)
 NOT_AROUND = (b"\xef\xbb\xbf", b"\xff", b"\x80", b"\x00", b"\x0b", b"\x0c", b"\xc2\xa0")
+
+
+# a telegram with the text <&>, one that is refused, messages of either way, JSON of no item: words of their pages
+PAGES = (
+    ("--kind short", b"A0007F802000D2103A280050200280F0200CF098FBFFFFFFFFFFC0", ("header of a telegram", 'text "&lt;&amp;&gt;"', "'&amp;'")),
+    ("--kind short", b"9000", ("Why: M_VERSION admits 32 and 33, not 16", "Often: a telegram of version 1.0 or 1.1")),
+    ("--kind radio", b"18034000000000080031280620", ("header of a message to the train", "Stop if in Staff Responsible")),
+    ("--kind train", b"8400FF", ("header of a message to the track", "all ones")),
+    ("--kind short --from json", b'{"<q>":1}', ('.["&lt;q&gt;"]: there is no such member here',)),
+)
 
 
 class Program:
@@ -185,6 +194,29 @@ def check_bytes(program):
         check_between(program, b'{"data":' + b"[" * depth + b"]" * depth + replaced, depth < 127)
 
 
+def check_long_lines(program):
+    """What `log` and `explain` say of lines that no vector has, and that the next line is read."""
+    told = "more than 1,048,576 bytes, which no line has"
+    for words, count, said, fault in (
+        ("log --kind radio", MOST + 1, "more than 1048576 characters", b""),
+        ("explain --kind radio", MOST + 1, told, b"etcs: line 1: bad hexadecimal at 1048576\n"),
+        ("explain --kind radio --from json", MOST + 1, told, b"etcs: line 1: bad JSON\n"),
+        ("explain --kind radio --from json", 65_537, "65537 bytes, of which at most 65,536 are looked into", b"etcs: line 1: bad JSON\n"),
+    ):
+        status, output, faults = program.call(words, b" " * count + b"\n!\n")
+        lines = output.decode().split("\n")
+        found = status, lines[0], lines[1].split(":")[0], faults
+        program.check(f"{words}, {count} bytes", found, (1, f"line 1: {said}", "line 2", fault))
+
+
+def check_pages(program):
+    """A page has its words, and nothing of the input raw."""
+    for words, given, said in PAGES:
+        page = program.call(f"explain --to html {words}", given)[1].decode()
+        program.check(f"a page of {given[:30]}", [it for it in (*said, "</script>") if it not in page], [])
+        program.check(f"a page of {given[:30]}, raw", [it for it in ("<&>", "<q>") if it in page], [])
+
+
 def check_endless_line(program):
     """A line of JSON that doesn't end is refused before twice as many bytes are read as a line may have."""
     words = [program.path, "check", "--kind", "radio", "--from", "json"]
@@ -250,7 +282,9 @@ CHECKS = (
     check_reads,
     check_lines,
     check_bytes,
+    check_long_lines,
     check_endless_line,
+    check_pages,
     check_written,
     check_addresses,
 )

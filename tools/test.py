@@ -8,14 +8,19 @@ RT is the path of `rt`. What the parts ask is built first, without a proof, wher
 
     vectors      every vector, by `etcs_vectors`, and how many there are of each kind
     commands     the vectors that a command line can answer, by `etcs` (tools/vectors.py)
+    sentences    whether each sentence of `explain` and `log` is in a vector (tools/sentences.py)
+    schema       docs/etcs.schema.json against the tables, the vectors and what the program writes (tools/schema.py)
     documents    the commands and the quoted files of all documents (tools/doc_examples.py)
     script       the script `etcs` (tools/script_test.py)
     streams      streams that fail or have no end (tools/stream_test.py)
     chance       inputs by chance, for 10 seconds (tools/fuzz.py)
+    found        whether they find out programs that are wrong (tools/fuzz_test.py)
     tests        the tests of the crates whose names end with `_tests`
     definitions  docs/READ-TO-BELIEVE.md against the definitions (tools/definitions.py)
     tables       the tables of documents against the sources (tools/format_tables.py)
     help         the texts of help against the vectors (tools/help_texts.py)
+    manual       the manual and the completions against them (tools/manual.py)
+    completions  what bash, zsh and fish propose (tools/completion_test.py)
     edits        whether each wrong body can be applied (tools/wrong_bodies.py)
     dead         definitions, lemmas and inner items that nothing uses (tools/dead.py)
 
@@ -51,15 +56,20 @@ FREE_SPACE = 16_000_000  # that temporary files of the parts take at most
 # The longest first, since as many run at a time as there are cores.
 PROGRAM_SCRIPTS = {
     "chance": ["fuzz.py", "--seconds", "10"],
+    "found": ["fuzz_test.py"],
     "commands": ["vectors.py"],
     "script": ["script_test.py"],
     "streams": ["stream_test.py"],
     "documents": ["doc_examples.py", "--check"],
+    "schema": ["schema.py", "--check"],
+    "sentences": ["sentences.py"],
 }
 SCRIPTS = {
     "definitions": ["definitions.py", "--page", "--check"],
     "tables": ["format_tables.py", "--check"],
     "help": ["help_texts.py", "--check"],
+    "manual": ["manual.py", "--check"],
+    "completions": ["completion_test.py"],
     "edits": ["wrong_bodies.py", "--check"],
     "dead": ["dead.py"],
 }

@@ -4,12 +4,13 @@
     tools/vectors.py [--kinds KIND,KIND] [--seconds N] [--jobs N] PROGRAM [WORD ..]
 
 PROGRAM is `etcs`, or another codec with its command line; the WORDs go before those of each vector, as
-in `tools/vectors.py python3 my_wrapper.py`. The vectors are those of crates/etcs_vectors/stdin, and
-docs/VECTORS.md has their form. Kinds that speak of the library's calls alone are passed over. Each
-vector that isn't answered as expected is written with what was answered, and at the end how many there
-were of each kind. A call has N seconds, 60 where nothing is said, and N jobs make calls side by side, one
-for each core where nothing is said. The status is 0 where none differs, 1 where one does, and 2 where
-the words here are wrong or the program can't be run.
+in `tools/vectors.py python3 my_wrapper.py`. The vectors are those of crates/etcs_vectors/stdin, and two
+of a kind `padded`, whose lines are too long for that file; docs/VECTORS.md has their form. Kinds that
+speak of the library's calls alone are passed over. Each vector that isn't answered as expected is
+written with what was answered, and at the end how many there were of each kind. A call has N seconds,
+60 where nothing is said, and N jobs make calls side by side, one for each core where nothing is said.
+The status is 0 where none differs, 1 where one does, and 2 where the words here are wrong or the program
+can't be run.
 """
 
 import os
@@ -20,6 +21,12 @@ from concurrent.futures import ThreadPoolExecutor
 
 REFUSED = re.compile(rb"etcs: item 1 refused at bit (\d+), (.+)\n")
 TRUNCATED = re.compile(rb"etcs: item 1 truncated after (\d+) bits\n")
+# Lines of a mebibyte, and of a byte more.
+KEPT = '{"data":"111111","kind":"radio","nid":15}'
+PADDED = (
+    ("padded", f"1048576 etcs check --kind radio --from json < {KEPT}", "0\nitem 1 ok 24 bits"),
+    ("padded", f"1048577 etcs check --kind radio --from json < {KEPT}", "1\netcs: line 1: bad JSON"),
+)
 OK_LINE = re.compile(rb"item 1 ok (\d+) bits\n")
 
 
@@ -193,6 +200,13 @@ def answer_program(program, _, words):
     return whole(*program.run(line.split(" ")[1:], text_bytes(text)))
 
 
+def answer_padded(program, _, words):
+    """`padded COUNT LINE < TEXT`: as `program`, with as many blanks before the text as make COUNT bytes."""
+    count, _, rest = words.partition(" ")
+    line, _, text = rest.partition(" < ")
+    return whole(*program.run(line.split(" ")[1:], text_bytes(text).rjust(int(count))))
+
+
 def answer_bytes(program, _, words):
     """`bytes LINE < HEX`: status and output."""
     line, _, digits = words.partition(" < ")
@@ -215,6 +229,7 @@ ANSWERS = {
     "status": answer_status,
     "program": answer_program,
     "bytes": answer_bytes,
+    "padded": answer_padded,
 }
 
 
@@ -259,7 +274,7 @@ def main(words):
         return 2
     top = os.path.dirname(os.path.dirname(os.path.realpath(__file__)))
     with open(f"{top}/crates/etcs_vectors/stdin", encoding="utf-8", newline="") as sheet:
-        vectors = [it for it in vectors_of(sheet.read()) if it[1] in kinds]
+        vectors = [it for it in (*vectors_of(sheet.read()), *((0, *it) for it in PADDED)) if it[1] in kinds]
     try:
         return 0 if check(Program(words, seconds), vectors, kinds, jobs) else 1
     except OSError as error:

@@ -1,0 +1,42 @@
+# Completion of etcs for fish. Written by tools/manual.py from the help of etcs.
+
+# Whether this is the command, or with no argument whether there is none yet.
+function __etcs_runs
+    set -l words (commandline -opc)
+    test "$words[2]" = "$argv[1]"
+end
+
+complete -c etcs -f
+complete -c etcs -n __etcs_runs -a show -d 'Show the variables of each telegram or message, a line each'
+complete -c etcs -n __etcs_runs -a check -d 'Check each telegram or message: a line with its number of bits'
+complete -c etcs -n __etcs_runs -a convert -d 'Write each telegram or message in another form'
+complete -c etcs -n __etcs_runs -a group -d 'Put the telegrams of a balise group together, in any order, and show its message'
+complete -c etcs -n __etcs_runs -a log -d 'Read a log, an item a line, and say of each line that is no item why'
+complete -c etcs -n __etcs_runs -a explain -d 'Explain each telegram or message: the bits, the number and the meaning of each variable, and why it is refused'
+complete -c etcs -n __etcs_runs -a help -d 'Print this message or the help of the given subcommand(s)'
+complete -c etcs -n __etcs_runs -s h -l help -d 'Print help'
+complete -c etcs -n __etcs_runs -s V -l version -d 'Print version'
+complete -c etcs -n '__etcs_runs show' -l kind -x -a 'long short radio train' -d 'Balise telegrams of 830 user bits (long) or of 210 (short), or radio messages to the train (radio) or to the track (train)'
+complete -c etcs -n '__etcs_runs show' -l from -x -a 'hex bin json' -d 'Form of the input: lines of hexadecimal digits (hex), the bytes themselves (bin) or lines of JSON (json) [default: hex]'
+complete -c etcs -n '__etcs_runs show' -s h -l help -d 'Print help'
+complete -c etcs -n '__etcs_runs check' -l kind -x -a 'long short radio train' -d 'Balise telegrams of 830 user bits (long) or of 210 (short), or radio messages to the train (radio) or to the track (train)'
+complete -c etcs -n '__etcs_runs check' -l from -x -a 'hex bin json' -d 'Form of the input: lines of hexadecimal digits (hex), the bytes themselves (bin) or lines of JSON (json) [default: hex]'
+complete -c etcs -n '__etcs_runs check' -s h -l help -d 'Print help'
+complete -c etcs -n '__etcs_runs convert' -l kind -x -a 'long short radio train' -d 'Balise telegrams of 830 user bits (long) or of 210 (short), or radio messages to the train (radio) or to the track (train)'
+complete -c etcs -n '__etcs_runs convert' -l from -x -a 'hex bin json' -d 'Form of the input: lines of hexadecimal digits (hex), the bytes themselves (bin) or lines of JSON (json) [default: hex]'
+complete -c etcs -n '__etcs_runs convert' -l to -x -a 'hex bin json' -d 'Form of the output: a line of hexadecimal digits each (hex), the bytes themselves (bin) or a line of JSON each (json)'
+complete -c etcs -n '__etcs_runs convert' -s h -l help -d 'Print help'
+complete -c etcs -n '__etcs_runs group' -l kind -x -a 'long short' -d 'Balise telegrams of 830 user bits (long) or of 210 (short)'
+complete -c etcs -n '__etcs_runs group' -l from -x -a 'hex bin json' -d 'Form of the input: lines of hexadecimal digits (hex), the bytes themselves (bin) or lines of JSON (json) [default: hex]'
+complete -c etcs -n '__etcs_runs group' -s h -l help -d 'Print help'
+complete -c etcs -n '__etcs_runs log' -l kind -x -a 'long short radio train' -d 'Balise telegrams of 830 user bits (long) or of 210 (short), or radio messages to the train (radio) or to the track (train); several times, or with commas, where a log has several'
+complete -c etcs -n '__etcs_runs log' -l good -d 'Write the good lines\' digits, of several kinds with the kind before them, and what is said of other lines to standard error'
+complete -c etcs -n '__etcs_runs log' -l to -x -a 'hex json' -d 'Write the good lines, as digits (hex, the same as --good) or as a line of JSON each (json): the line\'s number, what is before its digits, and its item'
+complete -c etcs -n '__etcs_runs log' -l summary -d 'Count items, bad lines, lines of other kinds, messages kept as bits, packets and messages by number and refusals by variable'
+complete -c etcs -n '__etcs_runs log' -l groups -d 'Write at the end a line for each balise group, in the order in which they began: complete, missing which N_PIG, or empty, and how many telegrams clash'
+complete -c etcs -n '__etcs_runs log' -s h -l help -d 'Print help'
+complete -c etcs -n '__etcs_runs explain' -l kind -x -a 'long short radio train' -d 'Balise telegrams of 830 user bits (long) or of 210 (short), or radio messages to the train (radio) or to the track (train)'
+complete -c etcs -n '__etcs_runs explain' -l from -x -a 'hex bin json' -d 'Form of the input: lines of hexadecimal digits (hex), the bytes themselves (bin) or lines of JSON (json) [default: hex]'
+complete -c etcs -n '__etcs_runs explain' -l to -x -a 'text html' -d 'Form of the output: lines of text (text) or a page for a browser (html) [default: text]'
+complete -c etcs -n '__etcs_runs explain' -s h -l help -d 'Print help'
+complete -c etcs -n '__etcs_runs help' -a 'show check convert group log explain help'

@@ -1,0 +1,172 @@
+#!/usr/bin/env python3
+"""Says which sentence of the program no vector has.
+
+    tools/sentences.py [--list] PROGRAM [WORD ..]
+
+PROGRAM is `etcs`; the WORDs go before those of each vector, as of tools/vectors.py. The sentences are the string literals of
+crates/etcs_reasons, crates/etcs_explain and crates/etcs_log that have a word and no markup: what `explain` and `log` say, but
+for a few exceptions that have their reason below. The vectors of
+crates/etcs_vectors/stdin that run these commands are answered once. Then of each sentence a word is changed in what the program
+wrote, wherever its fixed words are; what is between them, as a number, may be any text of a line. Words that are part of a
+longer sentence at this place are that one's alone.
+
+Each change that leaves all answers as they were expected is written, with the place of its sentence; with --list the first
+vector that notices each of the others, too. The last line counts. The status is 0 where each change is noticed, 1 where one
+isn't or a vector is answered otherwise, 2 where the words are wrong or the program can't be run.
+"""
+
+import os
+import re
+import sys
+from collections import namedtuple
+from concurrent.futures import ThreadPoolExecutor
+
+sys.dont_write_bytecode = True
+import vectors
+from sources import TOP, source
+
+CRATES = ("etcs_reasons", "etcs_explain", "etcs_log")
+COMMANDS = ("explain", "log")
+
+# Literals that need no vector, and why.
+PAGES = "is in pages alone, of which tools/stream_test.py has the words"
+LONG = "is said of a longer line than the vectors have, and tools/stream_test.py gives one"
+NEVER = "isn't written, since rows and tests have no such case"
+PART = "is a part of a longer sentence that has its place"
+EXCEPTIONS = {
+    "header of a telegram": PAGES,
+    "header of a message to the train": PAGES,
+    "header of a message to the track": PAGES,
+    "to the train": PAGES,
+    "to the track": PAGES,
+    ", version {}.{}": PAGES,
+    ", 1 packet": PAGES,
+    ", {packets} packets": PAGES,
+    "more than {MOST_LINE} characters": LONG,
+    "more than 1,048,576 bytes, which no line has": LONG,
+    "{count} bytes, of which at most 65,536 are looked into": LONG,
+    "no length": NEVER,
+    "{var} {number} doesn't fit": NEVER,
+    "no item of kind {} has this JSON": NEVER,
+    "number out of range": NEVER,
+    "packet": PART,
+    "message": PART,
+    "byte": PART,
+}
+# What pages are made of: tools/page.py opens them.
+MARKUP_FILE = "page.rt"
+MARKUP = re.compile(r"<|&\w+;| class=")
+
+# A comment, an attribute, a letter, or a string literal.
+TOKEN = re.compile(r"//[^\n]*|#!?\[[^\]\n]*\]|'(?:\\.[^']*|[^'\\])'|b?\"((?:\\.|[^\"\\])*)\"", re.S)
+ESCAPES = re.compile(r"\\(?:u\{([0-9a-fA-F]+)\}|x([0-9A-F]{2})|(\n\s*)|(.))", re.S)
+PLAIN = {"n": "\n", "r": "\r", "t": "\t", "0": "\0"}
+HOLE = re.compile(r"(?<!\{)\{[\w.:$<>]*\}(?!\})")
+GAP = r"[^\n]{0,80}?"
+WORD = re.compile(r"[A-Za-z]{2,}")
+
+# A sentence: the file and the line in which it is, and its fixed parts.
+Sentence = namedtuple("Sentence", "place parts")
+# Where a sentence is in an answer: each of its parts, from and to.
+Found = namedtuple("Found", "sentence spans")
+
+
+def unescaped(text):
+    """Returns what a literal says."""
+
+    def one(found):
+        code, byte, _, plain = found.groups()
+        return chr(int(code or byte, 16)) if code or byte else PLAIN.get(plain, plain or "")
+
+    return ESCAPES.sub(one, text)
+
+
+def sentences():
+    """Yields the sentences of the sources."""
+    seen = set()
+    for crate in CRATES:
+        for name in sorted({*os.listdir(f"{TOP}/crates/{crate}/src")} - {MARKUP_FILE}):
+            path = f"{crate}/src/{name}"
+            for token in TOKEN.finditer(source(path)):
+                text = token[1] or ""
+                parts = tuple(unescaped(it).replace("{{", "{").replace("}}", "}") for it in HOLE.split(text))
+                if parts in seen or text in EXCEPTIONS or MARKUP.search(text) or not any(map(WORD.search, parts)):
+                    continue
+                seen.add(parts)
+                yield Sentence(f"crates/{path}:{source(path)[: token.start()].count(chr(10)) + 1}", parts)
+
+
+def pattern_of(sentence):
+    """Returns the pattern of a sentence: a group for each fixed part."""
+    return re.compile(GAP.join(f"({re.escape(it)})" for it in sentence.parts))
+
+
+def all_found(patterns, text):
+    """Returns where each sentence is in a text."""
+    found = []
+    for sentence, pattern in patterns.items():
+        for one in pattern.finditer(text) if all(it in text for it in sentence.parts) else ():
+            spans = [one.span(n + 1) for n, part in enumerate(sentence.parts) if WORD.search(part)]
+            found.append(Found(sentence, spans))
+    return found
+
+
+def own(found):
+    """Returns those of which no part is in a longer part of another sentence."""
+    longer = sorted({span for it in found for span in it.spans})
+
+    def is_inside(span):
+        return any(it[0] <= span[0] and span[1] <= it[1] and it != span for it in longer)
+
+    return [it for it in found if not any(map(is_inside, it.spans))]
+
+
+def changed(text, found):
+    """Returns a text in which a word of a sentence is another."""
+    spans = [(start + it.start(), start + it.end()) for start, end in found.spans for it in WORD.finditer(text[start:end])]
+    start, end = max(spans, key=lambda it: it[1] - it[0])
+    return text[:start] + text[start:end].swapcase() + text[end:]
+
+
+def check(program, sheet, jobs, is_listed):
+    """Says which changes aren't noticed: whether there are none, and each vector is answered as expected."""
+    asked = [it for it in vectors.vectors_of(sheet) if it[1] in ("program", "bytes") and it[2].split(" ")[1] in COMMANDS]
+    patterns = {it: pattern_of(it) for it in sentences()}
+    noticed, wrong = {}, 0
+    with ThreadPoolExecutor(jobs) as pool:
+        answers = list(pool.map(lambda it: vectors.answer(program, it), asked))
+    for (line, _, words, expected), answer in zip(asked, answers):
+        text = answer.decode(errors="replace")
+        if text != expected:
+            print(f"line {line}: {words} is answered otherwise")
+            wrong += 1
+            continue
+        for it in own(all_found(patterns, text)):
+            if it.sentence not in noticed and changed(text, it) != expected:
+                noticed[it.sentence] = line
+    for it in patterns:
+        said = "..".join(it.parts).replace("\n", "\\n")
+        if it not in noticed:
+            print(f"{it.place}: {said[:100]}: no vector notices a change")
+        elif is_listed:
+            print(f"{it.place}: {said[:60]}: line {noticed[it]}")
+    print(f"{len(patterns)} sentences, {len(patterns) - len(noticed)} in no vector")
+    return len(noticed) == len(patterns) and not wrong
+
+
+def main(words):
+    is_listed = words[:1] == ["--list"]
+    words = words[is_listed:]
+    if not words or words[0].startswith("-"):
+        print(__doc__, file=sys.stderr)
+        return 2
+    try:
+        program = vectors.Program(words, 60)
+        return 0 if check(program, source("etcs_vectors/stdin"), os.cpu_count(), is_listed) else 1
+    except OSError as error:
+        print(f"{words[0]}: {error.strerror}", file=sys.stderr)
+        return 2
+
+
+if __name__ == "__main__":
+    sys.exit(main(sys.argv[1:]))

@@ -73,7 +73,7 @@ def bold(text):
 
 
 def words_of(usage):
-    """Returns the words of a command line: what is typed as it is in bold, what stands for a value in italics."""
+    """Returns the words of a command line: what is typed as it is in bold, what is replaced by a value in italics."""
     usage = re.sub(r"<(\w+)>", r"\\fI\1\\fR", plain(usage))
     usage = re.sub(r"\[(\w+)\]", r"[\\fI\1\\fR]", usage)
     usage = re.sub(r"\\-\\-\w+", r"\\fB\g<0>\\fR", usage)

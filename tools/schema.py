@@ -53,7 +53,7 @@ def object_of(**members):
 
 
 def list_of(prefix, rest=False, more=0):
-    """A list that begins with these, and has only these after them, at least so many."""
+    """A list that begins with these, and has only these after them, at least as many as are asked for."""
     said = {"type": "array", "prefixItems": prefix, "items": rest, "minItems": len(prefix) + more}
     return said if prefix else {key: it for key, it in said.items() if key != "prefixItems"}
 

@@ -147,7 +147,7 @@ static int is_still(const uint8_t *from, const uint8_t *to)
     return from >= to;
 }
 
-/* Calls with room for so many parts in a buffer that is this many longer. What isn't written has to be as before. */
+/* Calls with room for this many parts in a buffer that is longer by as many as the other number says. What isn't written has to be as before. */
 static result call_with(int which, etcs_kind kind, const uint8_t *in, size_t len, size_t room, size_t further)
 {
     result r = {0};

@@ -98,6 +98,8 @@ module _ {R : Type 0} (left : R → Reading → Type 0) (regular : (s : R) → R
       record {
         refuses = passed_refuses (left s) (regular s) (left m) (λ p. follows s p m) (residual s m) b front f (r, l) xs n x h.refuses;
         passed = along t behind h.passed;
+        short = h.short;
+        goes = h.goes;
       }
 
   pub starves_behind : (fails : R → Type 0) → StarvesAt R left follows fails m front xs n → StarvesAt R left follows fails s b xs n
@@ -127,6 +129,8 @@ module _ {R : Type 0} (left : R → Reading → Type 0) (follows : R → Reading
       record {
         refuses = rw (same, place) at h.refuses;
         passed = subst (λ (u : List Bool). Passed (λ p. follows s p t) u behind) (front_of b xs at n) h.passed;
+        short = h.short;
+        goes = h.goes;
       }
 
   pub starves_further : (fails : R → Type 0) → at ≤ length xs → StarvesAt R left follows fails s (b ++ take at xs) (drop at xs) n → StarvesAt R left follows fails s b xs (at + n)

@@ -33,10 +33,13 @@ pub record Takes (R : Type 0) (left : R → Reading → Type 0) (next : R → Op
   pub done : next t ≡ None → InLanguage (left s) (b ++ take n xs)
   pub more : (x : Var) → next t ≡ Some x → (n ≡ length xs) × Owner (left s) (b ++ take n xs) x
 
--- n of them are taken, up to t and b', and the bit after them is refused, which x holds
+-- n of them are taken, up to t and b', and the bit after them is refused, which x holds; b' is shorter than x, and
+-- something is left of t
 pub record RefusesAt (R : Type 0) (left : R → Reading → Type 0) (follows : R → Reading → R → Type 0) (s : R) (b xs : List Bool) (n : ℕ) (x : Var) (t : R) (b' : List Bool) : Type 0 where
   pub refuses : Refuses (left s) (b ++ xs) (length b + n) x
   pub passed : Passed (λ p. follows s p t) (b ++ take n xs) b'
+  pub short : length b' < width x
+  pub goes : Goes (left t)
 
 -- memory is refused after n of them, where it may be, and the bit after them isn't, which the holder holds
 pub record StarvesAt (R : Type 0) (left : R → Reading → Type 0) (follows : R → Reading → R → Type 0) (fails : R → Type 0) (s : R) (b xs : List Bool) (n : ℕ) : Type 0 where

@@ -1,6 +1,10 @@
 //! Whether what is left of a row may take this many bits, by sums of lengths in equal steps.
 //!
-//! `None` says that the lengths met aren't in equal steps, or too many; then the sets of lengths decide.
+//! There are three ways, the cheapest first. `fits_at` takes one number, where all that waits was worked out when its
+//! group was opened. `fits_by_steps` and `meets_by_steps` walk over the groups that wait; where lengths aren't in equal
+//! steps, `choose_each` and `spread_each` try them one by one, as packets 12, 15, 41, 46, 68, 72 and 76 and the two
+//! position reports want. `None` says that there are too many for that, which no row of the tables has; then the sets
+//! of lengths decide.
 
 ghost use Rattle.std.specs.Prelude.{◌≡◌, ◌↔◌, ℕ, ◌+◌, ◌≤◌, IsTrue, IfSome, reverse};
 ghost use Rattle.etcs_vars.specs.Vars.{width, admits};

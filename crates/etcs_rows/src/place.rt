@@ -381,3 +381,10 @@ pub fn reaches(place: &Place, bits: usize) -> bool
 {
     place.can_take(bits)
 }
+
+/// Whether what is left of the row has a spelling whose number of bits is from `low` to `high`, both included.
+pub fn reaches_between(place: &Place, low: usize, high: usize) -> bool
+    ensures { IsTrue result ↔ ((m : ℕ) × Lengths place.now [] m × (low ≤ m) × (m ≤ high)) }
+{
+    place.meets(low, high)
+}

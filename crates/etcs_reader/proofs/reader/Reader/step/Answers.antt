@@ -1,6 +1,7 @@
 use Rattle.std.proofs.Common.{◌≡◌, ◌+◌, ◌-◌, ◌<◌, ◌≤◌, [], ◌∷◌, drop, refl, arith}
 use Rattle.std.proofs.lemmas.List.{length-drop}
 use Rattle.etcs_bits.specs.Bits.{bits, num, part}
+use Rattle.etcs_bits.proofs.Numbers.{length-num}
 use Rattle.etcs_bits.proofs.Positions.{length-bits}
 use Rattle.etcs_vars.specs.Vars.{width}
 use Rattle.etcs_vars.proofs.Stepping.{parts_fit}
@@ -36,12 +37,15 @@ returns-then-not-begins-clause-err g c =
     let s = c.args.self.now in
     let xs = drop c.args.at (bits c.args.piece.now) in
     let more = c.refused-more.result.0 in
+    let lt = (c.requires.reader.inside c.args.var c.requires.next).0 in
     let front = passed_front (λ p. g.R.Rest.follows s.rest p s.rest) (g.met.R.Rest.none s.rest) s.number s.taken c.min-count.result c.number_at-bits.result more xs c.number_at-bits.ensures.fits (omega (arith, c.refused-more.ensures.within)) c.number_at-bits.ensures.bits in (
       more,
       refl,
       record {
         refuses = refuses_front (g.R.Rest.left s.rest) s.number s.taken c.min-count.result c.number_at-bits.result xs more c.args.var c.number_at-bits.ensures.bits c.refused-more.ensures.refuses;
         passed = rw c.refused-more.ensures.number front;
+        short = omega (arith, length-num (s.taken + more) c.refused-more.result.1, c.refused-more.ensures.within, c.min-count.ensures, c.width.ensures, lt);
+        goes = c.requires.reader.goes;
       },
     )
 

@@ -141,6 +141,48 @@ the_last_one_is_odd = refl
 pub a_larger_group_last : line_digits (codes "A1 13 14 0C40FFC1") ≡ codes "0C40FFC1"
 a_larger_group_last = refl
 
+pub named_pairs : line_digits (codes "d=A1 13 14 0C 40 FF C1 40 22 A1") ≡ codes "A113140C40FFC14022A1"
+named_pairs = refl
+
+pub quoted_pairs : line_digits (codes "data=\"A1 13 14 0C 40 FF C1 40 22 A1\"") ≡ codes "A113140C40FFC14022A1"
+quoted_pairs = refl
+
+pub pairs_in_json : line_digits (codes "{\"d\":\"A1 13 14 0C 40 FF C1 40 22 A1\",\"level\":-63}") ≡ codes "A113140C40FFC14022A1"
+pairs_in_json = refl
+
+pub pairs_in_brackets : line_digits (codes "rx [A1 13 14 0C 40 FF C1 40 22 A1] ok") ≡ codes "A113140C40FFC14022A1"
+pairs_in_brackets = refl
+
+pub pairs_in_fields : line_digits (codes "2026-11-28,12:00:03,A1 13 14 0C 40 FF C1 40 22 A1,OK") ≡ codes "A113140C40FFC14022A1"
+pairs_in_fields = refl
+
+pub pairs_after_semicolons : line_digits (codes "99;512;A1 13 14 0C 40 FF C1 40 22 A1;OK") ≡ codes "A113140C40FFC14022A1"
+pairs_after_semicolons = refl
+
+pub quoted_one_by_one : line_digits (codes "[\"A1\", \"13\", \"14\", \"0C\", \"40\", \"FF\", \"C1\", \"40\", \"22\", \"A1\"]") ≡ codes "A113140C40FFC14022A1"
+quoted_one_by_one = refl
+
+pub in_braces : line_digits (codes "{ 0xA1, 0x13, 0x14, 0x0C, 0x40, 0xFF, 0xC1, 0x40, 0x22, 0xA1 };") ≡ codes "A113140C40FFC14022A1"
+in_braces = refl
+
+pub a_long_comment : line_digits (codes "A113140C40FFC14022A1 10 bytes # seen by 0123456789abcdef0123") ≡ codes "A113140C40FFC14022A1"
+a_long_comment = refl
+
+pub a_long_comment_after_a_semicolon : line_digits (codes "A113140C40FFC14022A1 ; 0123456789abcdef0123") ≡ codes "A113140C40FFC14022A1"
+a_long_comment_after_a_semicolon = refl
+
+pub a_long_comment_after_slashes : line_digits (codes "A1 13 14 0C 40 FF C1 40 22 A1 // 0123456789abcdef0123") ≡ codes "A113140C40FFC14022A1"
+a_long_comment_after_slashes = refl
+
+pub a_mark_before_the_digits : line_digits (codes "99 ; 512 ; A113140C40FFC14022A1") ≡ codes "A113140C40FFC14022A1"
+a_mark_before_the_digits = refl
+
+pub a_number_sign_before_the_digits : line_digits (codes "rx #7 A113140C40FFC14022A1") ≡ codes "A113140C40FFC14022A1"
+a_number_sign_before_the_digits = refl
+
+pub an_id_after : line_digits (codes "A113140C40FFC14022A1 0123456789abcdef0123") ≡ codes "0123456789abcdef0123"
+an_id_after = refl
+
 -- ---- What is before them.
 
 pub front_time : line_front (codes "12:00:03 A1 13 14 0C 40 FF C1 40 22 A1") ≡ codes "12:00:03"
@@ -196,3 +238,12 @@ front_few_digits = refl
 
 pub front_no_digits : line_front (codes "12:00:09 no telegram ") ≡ codes "12:00:09 no telegram"
 front_no_digits = refl
+
+pub front_named_pairs : line_front (codes "12:00:03 d=A1 13 14 0C 40 FF C1 40 22 A1") ≡ codes "12:00:03 d="
+front_named_pairs = refl
+
+pub front_quoted_pairs : line_front (codes "{\"t\":3,\"d\":\"A1 13 14 0C 40 FF C1 40 22 A1\"}") ≡ codes "{\"t\":3,\"d\":\""
+front_quoted_pairs = refl
+
+pub front_long_comment : line_front (codes "12:00:03 A113140C40FFC14022A1 # seen by 0123456789abcdef0123") ≡ codes "12:00:03"
+front_long_comment = refl

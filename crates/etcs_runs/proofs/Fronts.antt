@@ -4,8 +4,8 @@ use Rattle.std.specs.List.{list_all}
 use Rattle.std.proofs.lemmas.List.{append-nil, append_assoc, take-append-drop, take_more, take-take, length-take}
 use Rattle.etcs_runs.specs.Cuts.{parts_at}
 use Rattle.etcs_runs.specs.declared.digits.Cut.{Cut}
-use Rattle.etcs_runs.specs.declared.digits.Cut.TheVariants.{Blanks, Joints}
-use Rattle.etcs_runs.specs.Digits.{before_digits, before_end, before_last, before_words, end_front, group_words, is_blank, is_group, is_joint, kept, last_first, line_front, passed_words, without_end, without_mark, word_parts}
+use Rattle.etcs_runs.specs.declared.digits.Cut.TheVariants.{Gaps, Joints}
+use Rattle.etcs_runs.specs.Digits.{are_enough, before_digits, before_end, before_last, before_words, begins_comment, end_front, group_words, is_blank, is_gap, is_group, is_joint, kept, last_first, line_front, passed_words, read_text, text_digits, without_comment, without_end, without_mark, word_parts}
 use Rattle.etcs_runs.proofs.Words.{both}
 
 -- ---- The end of a text.
@@ -66,21 +66,21 @@ before_last-take at t end start is all le before =
 
 -- ---- A text before its digits.
 
-module _ (text w : List ℕ) (ws : List (List ℕ)) (is : last_first is_blank text ≡ w ∷ ws) (cut : Cut) (n : ℕ) where
+module _ (text w : List ℕ) (ws : List (List ℕ)) (is : last_first is_gap text ≡ w ∷ ws) (cut : Cut) (n : ℕ) where
   before_end-is : before_end text ≡ end_front (w ∷ ws) text
   before_end-is = ap (λ (z : List (List ℕ)). end_front z text) is
 
-  pub before_end-groups : is_group w ≡ true → cut ≡ Blanks → n ≡ group_words (last_first is_blank text) → before_words (parts_at cut) n text ≡ before_end text
+  pub before_end-groups : is_group w ≡ true → cut ≡ Gaps → n ≡ group_words (last_first is_gap text) → before_words (parts_at cut) n text ≡ before_end text
   before_end-groups h c k =
       ap (λ (z : Cut). before_words (parts_at z) n text) c
-      ∙ ap (λ (z : ℕ). before_words is_blank z text) (k ∙ ap group_words is)
-      ∙ sym (before_end-is ∙ ap (λ (b : Bool). cond b (before_words is_blank (group_words (w ∷ ws)) text) (before_words is_joint (word_parts w) text)) h)
+      ∙ ap (λ (z : ℕ). before_words is_gap z text) (k ∙ ap group_words is)
+      ∙ sym (before_end-is ∙ ap (λ (b : Bool). cond b (before_words is_gap (group_words (w ∷ ws)) text) (before_words is_joint (word_parts w) text)) h)
 
   pub before_end-word : is_group w ≡ false → cut ≡ Joints → n ≡ word_parts w → before_words (parts_at cut) n text ≡ before_end text
   before_end-word h c k =
       ap (λ (z : Cut). before_words (parts_at z) n text) c
       ∙ ap (λ (z : ℕ). before_words is_joint z text) k
-      ∙ sym (before_end-is ∙ ap (λ (b : Bool). cond b (before_words is_blank (group_words (w ∷ ws)) text) (before_words is_joint (word_parts w) text)) h)
+      ∙ sym (before_end-is ∙ ap (λ (b : Bool). cond b (before_words is_gap (group_words (w ∷ ws)) text) (before_words is_joint (word_parts w) text)) h)
 
 -- ---- It is the front of the text.
 
@@ -115,14 +115,27 @@ either_begins false t s r h g = g
 
 end_front-begins : (ws : List (List ℕ)) (t : List ℕ) → Begins t (end_front ws t)
 end_front-begins [] t = whole t
-end_front-begins (w ∷ ws) t = either_begins (is_group w) t _ _ (before_words-begins is_blank (group_words (w ∷ ws)) t) (before_words-begins is_joint (word_parts w) t)
+end_front-begins (w ∷ ws) t = either_begins (is_group w) t _ _ (before_words-begins is_gap (group_words (w ∷ ws)) t) (before_words-begins is_joint (word_parts w) t)
 
-before_digits-begins : (line : List ℕ) → Begins line (before_digits line)
-before_digits-begins line =
-    let rest = before_words is_blank (passed_words line) line in
-    further line rest (before_digits line) (before_words-begins is_blank (passed_words line) line) (end_front-begins (last_first is_blank rest) rest)
+before_digits-begins : (text : List ℕ) → Begins text (before_digits text)
+before_digits-begins text =
+    let rest = before_words is_gap (passed_words text) text in
+    further text rest (before_digits text) (before_words-begins is_gap (passed_words text) text) (end_front-begins (last_first is_gap rest) rest)
+
+comment_begins : (b : Bool) (c : ℕ) (cs xs : List ℕ) → Begins cs xs → Begins (c ∷ cs) (cond b [] (c ∷ xs))
+comment_begins true c cs xs h = (c ∷ cs, refl)
+comment_begins false c cs xs (rest, is) = (rest, ap (λ (z : List ℕ). c ∷ z) is)
+
+without_comment-begins : (line : List ℕ) → Begins line (without_comment line)
+without_comment-begins [] = ([], refl)
+without_comment-begins (c ∷ cs) = comment_begins (begins_comment (c ∷ cs)) c cs (without_comment cs) (without_comment-begins cs)
+
+read_text-begins : (line : List ℕ) → Begins line (read_text line)
+read_text-begins line = either_begins (are_enough (text_digits (without_comment line))) line _ _ (without_comment-begins line) (whole line)
 
 pub line_front-begins : (line : List ℕ) → Begins (without_mark line) (line_front line)
 line_front-begins line =
     let text = without_mark line in
-    further text (before_digits text) (line_front line) (before_digits-begins text) (without_end-begins is_blank (before_digits text))
+    let read = read_text text in
+    let front = further text read (before_digits read) (read_text-begins text) (before_digits-begins read) in
+    further text (before_digits read) (line_front line) front (without_end-begins is_blank (before_digits read))

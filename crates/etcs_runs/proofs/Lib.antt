@@ -6,6 +6,7 @@ pub mod Decoding
 pub mod Runs
 pub mod Pure
 pub mod Fronts
+pub mod Comments
 pub mod Printing
 pub mod Endings
 pub mod Running

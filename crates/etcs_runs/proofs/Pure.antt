@@ -1,16 +1,21 @@
 -- A line that is nothing but digits.
-use Rattle.std.proofs.Common.{◌≡◌, ℕ, ◌-◌, ◌<◌, Bool, true, false, cond, not, ◌&&◌, eqb, List, [], ◌∷◌, ◌++◌, length, map, reverse, take, drop, slice_index, inl, inr, refl, sym, ap, ◌∙◌, arith}
+use Rattle.std.proofs.Common.{◌≡◌, ℕ, ◌-◌, ◌<◌, Bool, true, false, cond, not, ◌&&◌, eqb, List, [], ◌∷◌, ◌++◌, length, map, reverse, drop, slice_index, inl, inr, refl, sym, ap, ◌∙◌, arith}
 use Rattle.std.specs.List.{list_all}
 use Rattle.std.proofs.lemmas.Bool.{cases_eq}
 use Rattle.std.proofs.lemmas.Bool.Decides.{nat_tests}
 use Rattle.std.proofs.lemmas.List.Sums.{AllPass-from_list_all, list_all-from_AllPass}
 use Rattle.hex.specs.Hex.{is_hex_digit}
-use Rattle.std.specs.Io.BufRead.{strip_last}
-use Rattle.etcs_runs.specs.Digits.{are_enough, bare, end_digits, found, groups, is_blank, is_group, is_joint, is_passed_over, is_x, last_first, line_digits, says_nothing, searched, without_0x, without_mark, word_digits, words}
-use Rattle.etcs_runs.proofs.Words.{words-word}
+use Rattle.etcs_runs.specs.Digits.{are_enough, bare, end_digits, found, groups, is_blank, is_gap, is_group, is_joint, is_passed_over, is_x, last_first, line_digits, read_text, says_nothing, text_digits, without_comment, without_mark, word_digits, words}
+use Rattle.etcs_runs.proofs.Words.{both, not_true, words-word}
 
 not_blank : (c : ℕ) → is_hex_digit c ≡ true → not (is_blank c) ≡ true
 not_blank c h = grind (arith, nat_tests)
+
+not_gap : (c : ℕ) → is_hex_digit c ≡ true → not (is_gap c) ≡ true
+not_gap c h = grind (arith, nat_tests)
+
+pub gap_apart : (c : ℕ) → is_hex_digit c ≡ true → is_gap c ≡ false
+gap_apart c h = not_true (is_gap c) (not_gap c h)
 
 not_joint : (c : ℕ) → is_hex_digit c ≡ true → not (is_joint c) ≡ true
 not_joint c h = grind (arith, nat_tests)
@@ -45,6 +50,17 @@ found_one : (digits_of : List (List ℕ) → List ℕ) (w v : List ℕ) → digi
 found_one digits_of w v h =
     ap (λ (z : List ℕ). cond (are_enough (cond (are_enough z) z [])) (cond (are_enough z) z []) z) h ∙ one_with (are_enough v) v refl
 
+-- digits have no comment
+comment_with : (b more : Bool) (c : ℕ) (cs xs : List ℕ) → not b ≡ true → xs ≡ cs → cond (b && more) [] (c ∷ xs) ≡ c ∷ cs
+comment_with true more c cs xs h is = cc h
+comment_with false more c cs xs h is = ap (λ (z : List ℕ). c ∷ z) is
+
+no_comment : (line : List ℕ) → list_all is_hex_digit line ≡ true → without_comment line ≡ line
+no_comment [] h = refl
+no_comment (c ∷ cs) h =
+    let all = both (is_hex_digit c) (list_all is_hex_digit cs) h in
+    comment_with (is_blank c) _ c cs (without_comment cs) (not_blank c all.0) (no_comment cs all.1)
+
 module _ (line : List ℕ) (digits : list_all is_hex_digit line ≡ true) (two : 1 < length line) where
   at_place : (i : ℕ) → i < length line → is_hex_digit (slice_index line i) ≡ true
   at_place i lt = AllPass-from_list_all is_hex_digit line digits i 0 lt
@@ -60,14 +76,8 @@ module _ (line : List ℕ) (digits : list_all is_hex_digit line ≡ true) (two :
       let first = not_equal (slice_index line 0) 239 (at_place 0 some) refl in
       rw first refl
 
-  no_comma : strip_last 44 line ≡ line
-  no_comma = ap (λ (b : Bool). cond b (take (length line - 1) line) line) (and_false _ (eqb (slice_index line (length line - 1)) 44) (not_equal _ 44 (at_place (length line - 1) (omega (arith, two))) refl))
-
-  no_0x : without_0x line ≡ line
-  no_0x = ap (λ (b : Bool). cond b (drop 2 line) line) (and_false (eqb (slice_index line 0) 48) (is_x (slice_index line 1)) (not_x (slice_index line 1) (at_place 1 two)))
-
   bare_same : bare line ≡ line
-  bare_same = ap without_0x no_comma ∙ no_0x
+  bare_same = ap (λ (b : Bool). cond b (drop 2 line) line) (and_false (eqb (slice_index line 0) 48) (is_x (slice_index line 1)) (not_x (slice_index line 1) (at_place 1 two)))
 
   one_word : (at : ℕ → Bool) → ((c : ℕ) → is_hex_digit c ≡ true → not (at c) ≡ true) → last_first at line ≡ line ∷ []
   one_word at f = ap (λ (z : List (List ℕ)). reverse (map bare z)) (words-word at line (apart_by at f) some) ∙ ap (λ (z : List ℕ). z ∷ []) bare_same
@@ -81,8 +91,14 @@ module _ (line : List ℕ) (digits : list_all is_hex_digit line ≡ true) (two :
   all_digits : end_digits (line ∷ []) ≡ line
   all_digits = same_both (is_group line) (groups (line ∷ [])) (word_digits line) line all_groups all_parts
 
+  all_text : text_digits line ≡ line
+  all_text = ap (found end_digits) (one_word is_gap not_gap) ∙ found_one end_digits line line all_digits
+
+  all_read : read_text line ≡ line
+  all_read = same_both (are_enough (text_digits (without_comment line))) (without_comment line) line line (no_comment line digits) refl
+
   pub pure_digits : line_digits line ≡ line
-  pure_digits = ap (λ (z : List ℕ). found end_digits (last_first is_blank z)) no_mark ∙ ap (found end_digits) (one_word is_blank not_blank) ∙ found_one end_digits line line all_digits
+  pure_digits = ap (λ (z : List ℕ). text_digits (read_text z)) no_mark ∙ ap text_digits all_read ∙ all_text
 
   pub pure_read : is_passed_over line ≡ false
   pure_read = ap (λ (z : List ℕ). says_nothing (words is_blank z)) no_mark ∙ ap says_nothing (words-word is_blank line (apart_by is_blank not_blank) some) ∙ not_equal (slice_index line 0) 35 (at_place 0 some) refl

@@ -8,11 +8,10 @@ use borrow.Rule.Slice.PartMut.{put_mid}
 use Rattle.std.proofs.lemmas.Bool.Decides.{nat_tests}
 use Rattle.hex.specs.Hex.{is_hex_digit, decode_of}
 use Rattle.hex.proofs.HexLemmas.{decode_of-ok}
-use Rattle.etcs_runs.specs.Digits.{are_digits, are_enough, bare, end_digits, found, groups, is_group, last_first, run, searched, word_digits, words}
+use Rattle.etcs_runs.specs.Digits.{are_digits, are_enough, bare, end_digits, found, group_size, groups, is_group, is_size, last_first, run, searched, word_digits, words}
 use Rattle.etcs_runs.specs.declared.digits.NoBytes.{NoBytes}
 use Rattle.etcs_runs.specs.declared.digits.NoBytes.TheVariants.{Empty, NoDigits, OddDigits}
 use Rattle.etcs_runs.specs.Answers.{Says, says_enough}
-use Rattle.etcs_runs.proofs.Words.{both}
 
 pub last_first-last : (at : ℕ → Bool) (t before word : List ℕ) → words at t ≡ words at before ++ word ∷ [] → last_first at t ≡ bare word ∷ last_first at before
 last_first-last at t before word h =
@@ -69,6 +68,19 @@ pub take_more_digits : (at : ℕ → Bool) (n : ℕ) (rest before word : List �
 take_more_digits at n rest before word is digit digits =
     ap (λ (z : List (List ℕ)). run n z ++ digits) (last_first-last at rest before word is) ∙ run_more n (bare word) (last_first at before) digits digit
 
+-- an even number that isn't 0
+pub two_or_more : (n : ℕ) → is_size n ≡ true → 1 < n
+two_or_more n h = grind (arith, nat_tests)
+
+-- the last word is a group, after the ones before it
+pub groups_taken : (at : ℕ → Bool) (text before word w : List ℕ) (n : ℕ) → words at text ≡ words at before ++ word ∷ [] → w ≡ bare word → is_group w ≡ true → n ≡ group_size (length w) (last_first at before) → groups (last_first at text) ≡ run n (last_first at before) ++ w
+groups_taken at text before word w n is same group size =
+    let ws = last_first at before in
+    ap groups (last_first-last at text before word is)
+    ∙ ap (λ (z : List ℕ). groups (z ∷ ws)) (sym same)
+    ∙ ap (λ (b : Bool). cond b (run (group_size (length w) ws) ws ++ w) (cond (list_all is_hex_digit w) w [])) group
+    ∙ ap (λ (k : ℕ). run k ws ++ w) (sym size)
+
 -- ---- The digits at the end of words.
 
 pub end_groups : (w : List ℕ) (ws : List (List ℕ)) → is_group w ≡ true → end_digits (w ∷ ws) ≡ groups (w ∷ ws)
@@ -110,6 +122,13 @@ module _ (digits_of : List (List ℕ) → List ℕ) (none : digits_of [] ≡ [])
 
   pub found_none : (ws : List (List ℕ)) → searched digits_of ws ≡ [] → found digits_of ws ≡ digits_of ws
   found_none ws is = ap (λ (z : List ℕ). cond (are_enough z) z (digits_of ws)) is
+
+  pub says_here : (ws rest : List (List ℕ)) (buffer : List ℕ) (r : Result ℕ NoBytes) → searched digits_of ws ≡ searched digits_of rest → Says (digits_of rest) r buffer → says_enough r ≡ true → Says (found digits_of ws) r buffer
+  says_here ws rest buffer r same says enough =
+      subst (λ (z : List ℕ). Says z r buffer) (sym (found_here ws rest same (sym (enough_said _ _ _ says) ∙ enough))) says
+
+  pub says_none : (ws : List (List ℕ)) (buffer : List ℕ) (r : Result ℕ NoBytes) → searched digits_of ws ≡ [] → Says (digits_of ws) r buffer → Says (found digits_of ws) r buffer
+  says_none ws buffer r is says = subst (λ (z : List ℕ). Says z r buffer) (sym (found_none ws is)) says
 
 -- ---- What is written.
 

@@ -2,7 +2,6 @@
 use Rattle.std.specs.Prelude.{ℕ, zero, suc, ◌%◌, Bool, true, false, not, ◌&&◌, ◌||◌, ◌==◌, nat_le, nat_lt, if◌then◌else◌, List, [], ◌∷◌, ◌++◌, length, drop, map, reverse, filter, slice_index}
 use Rattle.std.specs.Char.{is_ascii_alphanumeric}
 use Rattle.std.specs.List.{list_all}
-use Rattle.std.specs.Io.BufRead.{strip_last}
 use Rattle.hex.specs.Hex.{is_hex_digit}
 
 -- ---- Words.
@@ -10,6 +9,14 @@ use Rattle.hex.specs.Hex.{is_hex_digit}
 -- a blank, a tab or a CR
 abbrev pub is_blank : ℕ → Bool
 is_blank c = (c == 32) || (c == 9) || (c == 13)
+
+-- a comma, a semicolon, an equals sign, a quote or a bracket: , ; = " ' ( ) [ ] { } < >
+abbrev pub is_mark : ℕ → Bool
+is_mark c = (c == 44) || (c == 59) || (c == 61) || (c == 34) || (c == 39) || (c == 40) || (c == 41) || (c == 91) || (c == 93) || (c == 123) || (c == 125) || (c == 60) || (c == 62)
+
+-- a blank or such a mark
+abbrev pub is_gap : ℕ → Bool
+is_gap c = is_blank c || is_mark c
 
 -- any other than a digit or a letter of ASCII
 abbrev pub is_joint : ℕ → Bool
@@ -41,12 +48,9 @@ is_x c = (c == 120) || (c == 88)
 abbrev pub has_0x : List ℕ → Bool
 has_0x word = (slice_index word 0 == 48) && is_x (slice_index word 1)
 
-abbrev pub without_0x : List ℕ → List ℕ
-without_0x word = if has_0x word then drop 2 word else word
-
--- a word without `0x` in front and a comma at its end
+-- a word without `0x` in front
 abbrev pub bare : List ℕ → List ℕ
-bare word = without_0x (strip_last 44 word)
+bare word = if has_0x word then drop 2 word else word
 
 -- it begins with a byte order mark
 abbrev pub has_mark : List ℕ → Bool
@@ -111,14 +115,31 @@ abbrev pub end_digits : List (List ℕ) → List ℕ
 end_digits [] = []
 end_digits (w ∷ ws) = if is_group w then groups (w ∷ ws) else word_digits w
 
--- The digits of a line. It is cut into words at blanks; each may have `0x` in front and a comma after it. The last words
--- are the digits if they are groups: of one even size of at most 16, but for the last of them, which may be smaller. Else
--- the last word is cut into parts at each character that is neither a digit nor a letter, and its last parts are the
--- digits, if they are groups, or its last part. Where these are fewer than 20 digits, the part at the end is passed over,
--- and then the next one, and so on, and after the parts of a word the word; where there are never 20, the digits are those
--- at the end. What is in front of them is passed over
+-- The digits of a text. It is cut into words at blanks, commas, semicolons, equals signs, quotes and brackets; each may have
+-- `0x` in front. The last words are the digits if they are groups: of one even size of at most 16, but for the last of them,
+-- which may be smaller. Else the last word is cut into parts at each character that is neither a digit nor a letter, and its
+-- last parts are the digits, if they are groups, or its last part. Where these are fewer than 20 digits, the part at the end
+-- is passed over, and then the next one, and so on, and after the parts of a word the word; where there are never 20, the
+-- digits are those at the end. What is in front of them is passed over
+abbrev pub text_digits : List ℕ → List ℕ
+text_digits text = found end_digits (last_first is_gap text)
+
+-- a comment begins: with a blank, and `#`, `;` or `//` after it
+abbrev pub begins_comment : List ℕ → Bool
+begins_comment text = is_blank (slice_index text 0) && ((slice_index text 1 == 35) || (slice_index text 1 == 59) || ((slice_index text 1 == 47) && (slice_index text 2 == 47)))
+
+-- a line before a comment
+abbrev pub without_comment : List ℕ → List ℕ
+without_comment [] = []
+without_comment (c ∷ cs) = if begins_comment (c ∷ cs) then [] else c ∷ without_comment cs
+
+-- what is read of a line: what is before a comment, where it has digits enough, or all of it
+abbrev pub read_text : List ℕ → List ℕ
+read_text line = if are_enough (text_digits (without_comment line)) then without_comment line else line
+
+-- the digits of a line
 abbrev pub line_digits : List ℕ → List ℕ
-line_digits line = found end_digits (last_first is_blank (without_mark line))
+line_digits line = text_digits (read_text (without_mark line))
 
 -- no word, or the first begins with `#`
 abbrev pub says_nothing : List (List ℕ) → Bool
@@ -175,24 +196,24 @@ found_words digits_of words_of ws = if are_enough (searched digits_of ws) then s
 abbrev pub word_parts : List ℕ → ℕ
 word_parts word = found_words groups group_words (last_first is_joint word)
 
--- how many words of a line are after its digits
+-- how many words of a text are after its digits
 abbrev pub passed_words : List ℕ → ℕ
-passed_words line = found_words end_digits (λ ws. 0) (last_first is_blank line)
+passed_words text = found_words end_digits (λ ws. 0) (last_first is_gap text)
 
 -- a text of these words, the last first, before the digits at its end
 abbrev pub end_front : List (List ℕ) → List ℕ → List ℕ
 end_front [] text = text
-end_front (w ∷ ws) text = if is_group w then before_words is_blank (group_words (w ∷ ws)) text else before_words is_joint (word_parts w) text
+end_front (w ∷ ws) text = if is_group w then before_words is_gap (group_words (w ∷ ws)) text else before_words is_joint (word_parts w) text
 
 -- the text before the digits at its end
 abbrev pub before_end : List ℕ → List ℕ
-before_end text = end_front (last_first is_blank text) text
+before_end text = end_front (last_first is_gap text) text
 
--- a line before its digits
+-- a text before its digits
 abbrev pub before_digits : List ℕ → List ℕ
-before_digits line = before_end (before_words is_blank (passed_words line) line)
+before_digits text = before_end (before_words is_gap (passed_words text) text)
 
 -- What is before the digits of a line: before the first of the words or parts that have them, without a byte order mark in
 -- front and blanks at the end. A `0x` in front of the digits belongs to them; no other character that touches them does
 abbrev pub line_front : List ℕ → List ℕ
-line_front line = without_end is_blank (before_digits (without_mark line))
+line_front line = without_end is_blank (before_digits (read_text (without_mark line)))

@@ -1,10 +1,9 @@
 //! The digits of a line as people have them.
 
 ghost use Rattle.std.specs.Prelude.{◌≡◌, ◌+◌, ◌-◌, ◌*◌, ◌/◌, ◌<◌, ◌≤◌, ◌++◌, ◌∷◌, if◌then◌else◌, Ok, Err, IfSome, IsNone, IsTrue, ℕ, List, [], drop, false, length, not, find, slice_index, take, true};
-ghost use Rattle.std.specs.Io.BufRead.{strip_last};
 ghost use Rattle.std.specs.List.{list_all};
 ghost use Rattle.hex.specs.Hex.{decode_of, is_hex_digit};
-ghost use Rattle.etcs_runs.specs.Digits.{are_digits, bare, before_last, end_digits, found, group_size, groups, is_blank, is_group, is_passed_over, is_size, is_x, last_first, line_digits, run, says_nothing, without_0x, without_end, without_mark, word_digits, words};
+ghost use Rattle.etcs_runs.specs.Digits.{are_digits, bare, before_last, begins_comment, end_digits, group_size, groups, is_blank, is_gap, is_group, is_mark, is_passed_over, is_size, is_x, last_first, line_digits, read_text, run, says_nothing, text_digits, without_comment, without_end, without_mark, word_digits, words};
 ghost use Rattle.etcs_runs.specs.Cuts.{parts_at};
 ghost use Rattle.etcs_runs.specs.Answers.{Says, says_enough};
 
@@ -26,8 +25,35 @@ pub enum NoBytes {
 pub(crate) enum Cut {
     /// Blanks, tabs and CRs.
     Blanks,
+    /// These, commas, semicolons, equals signs, quotes and brackets.
+    Gaps,
     /// All but digits and letters of ASCII.
     Joints,
+}
+
+/// Whether the character is a blank, a tab or a CR.
+fn is_blank(character: u8) -> bool
+    ensures { result ≡ is_blank character }
+{
+    matches!(character, b' ' | b'\t' | b'\r')
+}
+
+/// Whether the character is a comma, a semicolon, an equals sign, a quote or a bracket.
+fn is_mark(character: u8) -> bool
+    ensures { result ≡ is_mark character }
+{
+    matches!(
+        character,
+        b',' | b';' | b'=' | b'"' | b'\'' | b'(' | b')' | b'[' | b']' | b'{' | b'}' | b'<' | b'>'
+    )
+}
+
+/// Whether the character is a blank or such a mark. Most characters are digits, which one look at a table tells apart.
+#[tactic(auto, using(crate::proofs::Pure::gap_apart))]
+fn is_gap(character: u8) -> bool
+    ensures { result ≡ is_gap character }
+{
+    !is_digit(character) && (is_blank(character) || is_mark(character))
 }
 
 impl Cut {
@@ -36,7 +62,8 @@ impl Cut {
         ensures { result ≡ parts_at self character }
     {
         match self {
-            Cut::Blanks => matches!(character, b' ' | b'\t' | b'\r'),
+            Cut::Blanks => is_blank(character),
+            Cut::Gaps => is_gap(character),
             Cut::Joints => !character.is_ascii_alphanumeric(),
         }
     }
@@ -84,19 +111,6 @@ pub(crate) fn last_word(cut: Cut, text: &[u8]) -> Option<(&[u8], &[u8])>
     Some((&text[..start], &text[start..end]))
 }
 
-/// A word without a comma at its end.
-fn without_comma(word: &[u8]) -> &[u8]
-    ensures value { result.now ≡ strip_last 44 word.now }
-    ensures short { length result.now ≤ length word.now }
-{
-    let count = word.len();
-    if count > 0 && word[count - 1] == b',' {
-        &word[..count - 1]
-    } else {
-        word
-    }
-}
-
 /// Whether the character is an x.
 fn is_x(character: u8) -> bool
     ensures { result ≡ is_x character }
@@ -105,8 +119,8 @@ fn is_x(character: u8) -> bool
 }
 
 /// A word without `0x` in front.
-fn without_0x(word: &[u8]) -> &[u8]
-    ensures value { result.now ≡ without_0x word.now }
+pub(crate) fn bare(word: &[u8]) -> &[u8]
+    ensures value { result.now ≡ bare word.now }
     ensures short { length result.now ≤ length word.now }
 {
     if word.len() > 1 && word[0] == b'0' && is_x(word[1]) {
@@ -114,14 +128,6 @@ fn without_0x(word: &[u8]) -> &[u8]
     } else {
         word
     }
-}
-
-/// A word without `0x` in front and a comma at its end.
-pub(crate) fn bare(word: &[u8]) -> &[u8]
-    ensures value { result.now ≡ bare word.now }
-    ensures short { length result.now ≤ length word.now }
-{
-    without_0x(without_comma(word))
 }
 
 /// A line without the byte order mark in front.
@@ -136,8 +142,8 @@ pub(crate) fn without_mark(line: &[u8]) -> &[u8]
     }
 }
 
-/// Writes what the last words of a text say before a place of the buffer, as long as each has `count` digits, and says
-/// where it begins.
+/// Writes what the last words of a text say before a place of the buffer, as long as each has `count` digits, and answers
+/// where that begins.
 fn take_words(cut: Cut, count: usize, text: &[u8], buffer: &mut [u8], end: usize) -> usize
     requires room { length text.now ≤ 2 * end }
     requires within { end ≤ length buffer.old }
@@ -196,7 +202,7 @@ fn take_word(word: &[u8], buffer: &mut [u8]) -> Result<usize, NoBytes>
     Ok(count / 2)
 }
 
-/// Whether groups may have so many digits: an even number, of at most 16.
+/// Whether groups may have `count` digits: an even number, of at most 16.
 fn is_size(count: usize) -> bool
     ensures { result ≡ is_size count }
 {
@@ -283,23 +289,23 @@ fn take_parts(word: &[u8], buffer: &mut [u8]) -> Result<usize, NoBytes>
 /// Writes what the digits at the end of a line say to the end of the buffer.
 fn take_end(line: &[u8], buffer: &mut [u8]) -> Result<usize, NoBytes>
     requires room { length line.now ≤ 2 * length buffer.old }
-    ensures digits { Says (end_digits (last_first is_blank line.now)) result buffer.new }
+    ensures digits { Says (end_digits (last_first is_gap line.now)) result buffer.new }
     ensures room { length buffer.new ≡ length buffer.old }
 {
-    let Some((_, word)) = last_word(Cut::Blanks, line) else {
+    let Some((_, word)) = last_word(Cut::Gaps, line) else {
         return Err(NoBytes::NoDigits);
     };
     let word = bare(word);
     if is_group(word) {
-        return take_groups(Cut::Blanks, line, buffer);
+        return take_groups(Cut::Gaps, line, buffer);
     }
     take_parts(word, buffer)
 }
 
-/// Writes what the digits of a line without a mark say to the end of the buffer.
+/// Writes what the digits of a text say to the end of the buffer.
 fn take_last(line: &[u8], buffer: &mut [u8]) -> Result<usize, NoBytes>
     requires room { length line.now ≤ 2 * length buffer.old }
-    ensures digits { Says (found end_digits (last_first is_blank line.now)) result buffer.new }
+    ensures digits { Says (text_digits line.now) result buffer.new }
     ensures room { length buffer.new ≡ length buffer.old }
 {
     let last = take_end(line, buffer);
@@ -307,7 +313,7 @@ fn take_last(line: &[u8], buffer: &mut [u8]) -> Result<usize, NoBytes>
         return last;
     }
     let mut rest = line;
-    while let Some((before, _)) = last_word(Cut::Blanks, rest) {
+    while let Some((before, _)) = last_word(Cut::Gaps, rest) {
         let taken = take_end(before, buffer);
         if are_enough(taken) {
             return taken;
@@ -317,13 +323,50 @@ fn take_last(line: &[u8], buffer: &mut [u8]) -> Result<usize, NoBytes>
     take_end(line, buffer)
 }
 
+/// Whether a comment begins here: with a blank, and `#`, `;` or `//` after it.
+fn begins_comment(text: &[u8]) -> bool
+    ensures { result ≡ begins_comment text.now }
+{
+    let count = text.len();
+    count > 1
+        && is_blank(text[0])
+        && (text[1] == b'#' || text[1] == b';' || (count > 2 && text[1] == b'/' && text[2] == b'/'))
+}
+
+/// A line before its comment, where it has one.
+pub(crate) fn before_comment(line: &[u8]) -> Option<&[u8]>
+    ensures none { IsNone result → without_comment line.now ≡ line.now }
+    ensures some { IfSome result (λ front. front.now ≡ without_comment line.now) }
+    ensures short { IfSome result (λ front. length front.now ≤ length line.now) }
+{
+    for at in 0..line.len() {
+        if begins_comment(&line[at..]) {
+            return Some(&line[..at]);
+        }
+    }
+    None
+}
+
+/// Writes what the digits of a line without a byte order mark say to the end of the buffer.
+fn take_line(line: &[u8], buffer: &mut [u8]) -> Result<usize, NoBytes>
+    requires room { length line.now ≤ 2 * length buffer.old }
+    ensures digits { Says (text_digits (read_text line.now)) result buffer.new }
+    ensures room { length buffer.new ≡ length buffer.old }
+{
+    if let Some(front) = before_comment(line) {
+        let taken = take_last(front, buffer);
+        if are_enough(taken) {
+            return taken;
+        }
+    }
+    take_last(line, buffer)
+}
+
 /// The first character that is no blank.
 fn first_character(line: &[u8]) -> Option<u8>
     ensures { result ≡ find (λ c. not (is_blank c)) line.now }
 {
-    line.iter()
-        .copied()
-        .find(|character| !Cut::Blanks.is_at(*character))
+    line.iter().copied().find(|character| !is_blank(*character))
 }
 
 /// Whether a line is blank or a comment.
@@ -336,12 +379,13 @@ fn is_empty(line: &[u8]) -> bool
     }
 }
 
-/// Writes the bytes that the digits of a line say to the end of `buffer`, and says how many they are. The digits are those
-/// at the line's end: its last words, where these are groups of hexadecimal digits with blanks between, perhaps with `0x`
-/// in front and a comma after each; else those at the end of the last word, groups with any characters between that are
-/// neither digits nor letters, or what follows the last of these. Groups have one even size of at most 16 digits; the last
-/// of them may be smaller. Where these are fewer than 20 digits, the part or word at the end is passed over, and then the
-/// next one, until there are 20. A byte order mark, and what is in front of the digits, is passed over.
+/// Writes the bytes that the digits of a line say to the end of `buffer`, and answers how many they are. The digits are those
+/// at the line's end: its last words, where these are groups of hexadecimal digits, perhaps with `0x` in front, with blanks,
+/// commas, semicolons, equals signs, quotes or brackets between; else those at the end of the last word, groups with any
+/// characters between that are neither digits nor letters, or what follows the last of these. Groups have one even size of
+/// at most 16 digits; the last of them may be smaller. Where these are fewer than 20 digits, the part or word at the end is
+/// passed over, and then the next one, until there are 20. A comment (`#`, `;` or `//` after a blank) is passed over where
+/// 20 digits are found before it, and so are a byte order mark and what is in front of the digits.
 ///
 /// # Errors
 ///
@@ -360,5 +404,5 @@ pub fn line_bytes(line: &[u8], buffer: &mut [u8]) -> Result<usize, NoBytes>
     if is_empty(line) {
         return Err(NoBytes::Empty);
     }
-    take_last(line, buffer)
+    take_line(line, buffer)
 }

@@ -1,12 +1,12 @@
 //! What is before the digits of a line.
 
 ghost use Rattle.std.specs.Prelude.{◌≡◌, ◌+◌, ◌≤◌, ◌++◌, ℕ, List, length};
-ghost use Rattle.etcs_runs.specs.Digits.{are_digits, before_digits, before_end, before_words, end_digits, group_words, groups, is_blank, last_first, line_front, run, run_words, without_mark, word_digits, word_parts};
+ghost use Rattle.etcs_runs.specs.Digits.{are_digits, are_enough, before_digits, before_end, before_words, end_digits, group_words, groups, is_gap, last_first, line_front, read_text, run, run_words, text_digits, without_mark, word_digits, word_parts};
 ghost use Rattle.etcs_runs.specs.Cuts.{parts_at};
 
 use crate::digits::{
-    Cut, bare, end_of_word, group_size, is_group, is_of_digits, last_word, start_of_word,
-    without_mark,
+    Cut, bare, before_comment, end_of_word, group_size, is_group, is_of_digits, last_word,
+    start_of_word, without_mark,
 };
 
 /// How many digits an item has at least: the shortest messages have ten bytes.
@@ -124,29 +124,55 @@ fn find_parts(word: &[u8]) -> Found
 /// The digits at the end of a line.
 fn find_end(line: &[u8]) -> Found
     ensures front { before_words (parts_at result.cut) result.words line.now ≡ before_end line.now }
-    ensures digits { result.digits ≡ length (end_digits (last_first is_blank line.now)) }
+    ensures digits { result.digits ≡ length (end_digits (last_first is_gap line.now)) }
 {
-    let Some((_, word)) = last_word(Cut::Blanks, line) else {
+    let Some((_, word)) = last_word(Cut::Gaps, line) else {
         return Found {
-            cut: Cut::Blanks,
+            cut: Cut::Gaps,
             words: 0,
             digits: 0,
         };
     };
     let word = bare(word);
     if is_group(word) {
-        find_groups(Cut::Blanks, line)
+        find_groups(Cut::Gaps, line)
     } else {
         find_parts(word)
     }
 }
 
-/// A line without a mark before its digits.
+/// Whether a text has digits enough.
+fn has_enough(text: &[u8]) -> bool
+    ensures { result ≡ are_enough (text_digits text.now) }
+{
+    let mut rest = text;
+    while let Some((before, _)) = last_word(Cut::Gaps, rest) {
+        if find_end(rest).digits >= ENOUGH {
+            return true;
+        }
+        rest = before;
+    }
+    false
+}
+
+/// What is read of a line without a byte order mark.
+fn read_text(line: &[u8]) -> &[u8]
+    ensures { result.now ≡ read_text line.now }
+{
+    if let Some(front) = before_comment(line) {
+        if has_enough(front) {
+            return front;
+        }
+    }
+    line
+}
+
+/// A text before its digits.
 fn before_digits(line: &[u8]) -> &[u8]
     ensures { result.now ≡ before_digits line.now }
 {
     let mut rest = line;
-    while let Some((before, _)) = last_word(Cut::Blanks, rest) {
+    while let Some((before, _)) = last_word(Cut::Gaps, rest) {
         let found = find_end(rest);
         if found.digits >= ENOUGH {
             return before_words(found.cut, found.words, rest);
@@ -164,6 +190,6 @@ pub fn line_front(line: &[u8]) -> &[u8]
     ensures value { result.now ≡ line_front line.now }
     ensures prefix { (rest : List ℕ) × (without_mark line.now ≡ result.now ++ rest) }
 {
-    let front = before_digits(without_mark(line));
+    let front = before_digits(read_text(without_mark(line)));
     &front[..end_of_word(Cut::Blanks, front)]
 }

@@ -19,7 +19,7 @@ memory_err done (Err e) P Q (memory, was) h f = subst Q (sym memory) (f (subst (
 on_ok : {T E : Type 0} (done : Result T E) (x : T) (P : Type 0) → done ≡ Ok x → OnOk done P → P
 on_ok done x P was h = subst (λ z. OnOk z P) was h
 
-pub line_ok : {T : Type 0} (done : Result T AllocError) (r : Result T RunFault) (page : List ℕ) (task task' : Task) (ls ls' held held' : List ℕ) (seen seen' : Seen) (n n' : ℕ) (lines : List (List ℕ)) (raw line told told' : List ℕ) → IfOk r (λ x. done ≡ Ok x) → task' ≡ task → LinesTook page task ls held seen n lines told → IsLine raw → line ≡ strip_cr raw → OnOk done (Took page task ls' held' seen' (lines_tokens task.from 0 lines ++ line_tokens task.from (n + 1) line) (lines_long 0 lines ++ line_long (n + 1) line) told') → OnOk done (length held' < 1023) → (task.from ≡ Json → OnOk done (held' ≡ [])) → n' ≡ n + 1 → OnOk r (LinesTook page task' ls' held' seen' n' (lines ++ raw ∷ []) told')
+pub line_ok : {T : Type 0} (done : Result T AllocError) (r : Result T RunFault) (page : List ℕ) (task task' : Task) (ls ls' held held' : List ℕ) (seen seen' : Seen) (n n' : ℕ) (lines : List (List ℕ)) (raw line told told' : List ℕ) → IfOk r (λ x. done ≡ Ok x) → task' ≡ task → LinesTook page task ls held seen n lines told → IsLine raw → line ≡ strip_cr raw → OnOk done (Took page task ls' held' seen' (lines_tokens task.kind task.from 0 lines ++ line_tokens task.kind task.from (n + 1) line) (lines_long 0 lines ++ line_long (n + 1) line) told') → OnOk done (length held' < 1023) → (task.from ≡ Json → OnOk done (held' ≡ [])) → n' ≡ n + 1 → OnOk r (LinesTook page task' ls' held' seen' n' (lines ++ raw ∷ []) told')
 line_ok done (Ok x) page task task' ls ls' held held' seen seen' n n' lines raw line told told' was te h l e took short json next =
     subst (λ (z : Task). LinesTook page z ls' held' seen' n' (lines ++ raw ∷ []) told') (sym te)
     (took_line page task ls ls' held held' seen seen' n n' lines raw line told told' h l e (on_ok done x _ was took) (on_ok done x _ was short) (λ j. on_ok done x _ was (json j)) next)

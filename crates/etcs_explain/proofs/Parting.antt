@@ -3,6 +3,7 @@ use Rattle.std.proofs.Common.{◌≡◌, ℕ, zero, suc, ◌+◌, ◌-◌, ◌�
 use Rattle.std.specs.Prelude.{Result, OnErr, OnOk}
 use Rattle.std.proofs.lemmas.Bool.{le-ltb, lt-ltb}
 use Rattle.std.proofs.lemmas.List.{append-nil, length-append, length-drop, length-replicate, drop-take, take-take, take_all, flat_map_more}
+use Rattle.etcs_text.specs.declared.entry.Kind.{Kind}
 use Rattle.etcs_runs.specs.Passes.{counted}
 use Rattle.etcs_runs.specs.declared.form.Form.{Form}
 use Rattle.etcs_runs.specs.declared.form.Form.TheVariants.{Json}
@@ -229,31 +230,31 @@ took_line_one page task task' lines held seen seen' all long told text text' n n
 
 -- ---- What a line has.
 
-pub tokens_short : (form : Form) (n : ℕ) (line : List ℕ) → length line ≤ 1048576 → line_tokens form n line ≡ short_tokens form n line
-tokens_short form n line le = let is : is_long line ≡ false = le-ltb 1048576 (length line) le in rw is refl
+pub tokens_short : (kind : Kind) (form : Form) (n : ℕ) (line : List ℕ) → length line ≤ 1048576 → line_tokens kind form n line ≡ short_tokens kind form n line
+tokens_short kind form n line le = let is : is_long line ≡ false = le-ltb 1048576 (length line) le in rw is refl
 
 pub long_short : (n : ℕ) (line : List ℕ) → length line ≤ 1048576 → line_long n line ≡ []
 long_short n line le = let is : is_long line ≡ false = le-ltb 1048576 (length line) le in rw is refl
 
-pub tokens_long : (form : Form) (n : ℕ) (line : List ℕ) → 1048576 < length line → line_tokens form n line ≡ []
-tokens_long form n line lt = let is : is_long line ≡ true = lt-ltb 1048576 (length line) lt in rw is refl
+pub tokens_long : (kind : Kind) (form : Form) (n : ℕ) (line : List ℕ) → 1048576 < length line → line_tokens kind form n line ≡ []
+tokens_long kind form n line lt = let is : is_long line ≡ true = lt-ltb 1048576 (length line) lt in rw is refl
 
 pub long_long : (n : ℕ) (line : List ℕ) → 1048576 < length line → line_long n line ≡ n ∷ []
 long_long n line lt = let is : is_long line ≡ true = lt-ltb 1048576 (length line) lt in rw is refl
 
-pub json_some : (n : ℕ) (line : List ℕ) → (line ≡ [] → ⊥) → short_tokens Json n line ≡ of_line n line ∷ []
-json_some n [] other = absurd (other refl)
-json_some n (c ∷ line) other = refl
+pub json_some : (kind : Kind) (n : ℕ) (line : List ℕ) → (line ≡ [] → ⊥) → short_tokens kind Json n line ≡ of_line n line ∷ []
+json_some kind n [] other = absurd (other refl)
+json_some kind n (c ∷ line) other = refl
 
 -- it isn't too long
-pub short_err : {E : Type 0} (r : Result (Unit {0}) E) (page : List ℕ) (task : Task) (all : List Token) (long told : List ℕ) (n : ℕ) (line : List ℕ) → length line ≤ 1048576 → OnErr r (TookSome page task (all ++ short_tokens task.from n line) long told) → OnErr r (TookSome page task (all ++ line_tokens task.from n line) (long ++ line_long n line) told)
+pub short_err : {E : Type 0} (r : Result (Unit {0}) E) (page : List ℕ) (task : Task) (all : List Token) (long told : List ℕ) (n : ℕ) (line : List ℕ) → length line ≤ 1048576 → OnErr r (TookSome page task (all ++ short_tokens task.kind task.from n line) long told) → OnErr r (TookSome page task (all ++ line_tokens task.kind task.from n line) (long ++ line_long n line) told)
 short_err r page task all long told n line le h =
-    subst (λ (z : List ℕ). OnErr r (TookSome page task (all ++ line_tokens task.from n line) z told)) (sym (append-nil long) ∙ ap (λ (z : List ℕ). long ++ z) (sym (long_short n line le)))
-    (subst (λ (z : List Token). OnErr r (TookSome page task (all ++ z) long told)) (sym (tokens_short task.from n line le)) h)
+    subst (λ (z : List ℕ). OnErr r (TookSome page task (all ++ line_tokens task.kind task.from n line) z told)) (sym (append-nil long) ∙ ap (λ (z : List ℕ). long ++ z) (sym (long_short n line le)))
+    (subst (λ (z : List Token). OnErr r (TookSome page task (all ++ z) long told)) (sym (tokens_short task.kind task.from n line le)) h)
 
 -- it is, and is reported before what is held
-pub took_long_line : (page : List ℕ) (task : Task) (lines held : List ℕ) (seen seen' : Seen) (all : List Token) (long told text text' : List ℕ) (n : ℕ) (line : List ℕ) → 1048576 < length line → Took page task lines held seen all long (told ++ text) → AddsOne page task seen seen' [] (n ∷ []) text text' → Took page task lines held seen' (all ++ line_tokens task.from n line) (long ++ line_long n line) (told ++ text')
+pub took_long_line : (page : List ℕ) (task : Task) (lines held : List ℕ) (seen seen' : Seen) (all : List Token) (long told text text' : List ℕ) (n : ℕ) (line : List ℕ) → 1048576 < length line → Took page task lines held seen all long (told ++ text) → AddsOne page task seen seen' [] (n ∷ []) text text' → Took page task lines held seen' (all ++ line_tokens task.kind task.from n line) (long ++ line_long n line) (told ++ text')
 took_long_line page task lines held seen seen' all long told text text' n line lt h a =
     let k = took_long page task lines held seen seen' all long (n ∷ []) told text text' h a in
-    subst (λ (z : List Token). Took page task lines held seen' z (long ++ line_long n line) (told ++ text')) (sym (append-nil all) ∙ ap (λ (z : List Token). all ++ z) (sym (tokens_long task.from n line lt)))
+    subst (λ (z : List Token). Took page task lines held seen' z (long ++ line_long n line) (told ++ text')) (sym (append-nil all) ∙ ap (λ (z : List Token). all ++ z) (sym (tokens_long task.kind task.from n line lt)))
     (subst (λ (z : List ℕ). Took page task lines held seen' all (long ++ z) (told ++ text')) (sym (long_long n line lt)) k)

@@ -29,11 +29,11 @@ pub record Explained (page : List ℕ) (task : Task) (seen : Seen) (tokens : Lis
 
 -- all that is there of an input was, but for the last bytes, fewer than the longest item has
 abbrev pub Tells : List ℕ → Task → List ℕ → List ℕ → Type 0
-Tells page task given told = (tokens : List Token) × (lines held : List ℕ) × (long : List ℕ) × (seen : Seen) × SoFar task.from given (tokens ++ placed lines held) long × (length held < 1023) × Explained page task seen tokens long told
+Tells page task given told = (tokens : List Token) × (lines held : List ℕ) × (long : List ℕ) × (seen : Seen) × SoFar task.kind task.from given (tokens ++ placed lines held) long × (length held < 1023) × Explained page task seen tokens long told
 
 -- the first parts of an input that begins so were
 abbrev pub TellsFirst : List ℕ → Task → List ℕ → List ℕ → Type 0
-TellsFirst page task given told = (tokens rest : List Token) × (long more : List ℕ) × (seen : Seen) × Begins task.from given (tokens ++ rest) (long ++ more) × Explained page task seen tokens long told
+TellsFirst page task given told = (tokens rest : List Token) × (long more : List ℕ) × (seen : Seen) × Begins task.kind task.from given (tokens ++ rest) (long ++ more) × Explained page task seen tokens long told
 
 -- all of them were, between the head and the foot of the page, and this was wrong first
 abbrev pub Finished : List ℕ → List ℕ → Task → List Token → List ℕ → List ℕ → Option RunFault → Type 0
@@ -41,7 +41,7 @@ Finished page foot task tokens long told first = (texts : List ℕ) × (seen : S
 
 -- a whole input was
 abbrev pub Ends : List ℕ → List ℕ → Task → List ℕ → List ℕ → Option RunFault → Type 0
-Ends page foot task given told first = (tokens : List Token) × (long : List ℕ) × Has task.from given tokens long × Finished page foot task tokens long told first
+Ends page foot task given told first = (tokens : List Token) × (long : List ℕ) × Has task.kind task.from given tokens long × Finished page foot task tokens long told first
 
 -- an item of bytes was refused, which is the last
 abbrev pub Breaks : List ℕ → List ℕ → Task → List ℕ → List ℕ → RunFault → Type 0

@@ -1,6 +1,8 @@
 -- What an input has to be explained, in order.
-use Rattle.std.specs.Prelude.{◌≡◌, ℕ, ◌+◌, ◌<◌, ◌⊎◌, Bool, List, [], ◌∷◌, ◌++◌, length, map, nat_lt, if◌then◌else◌, Result, Ok, Err, All}
+use Rattle.std.specs.Prelude.{◌≡◌, ℕ, ◌+◌, ◌/◌, ◌<◌, ◌⊎◌, Bool, List, [], ◌∷◌, ◌++◌, length, map, take, nat_lt, if◌then◌else◌, Result, Ok, Err, All}
 use Rattle.hex.specs.Hex.{decode_of}
+use Rattle.etcs_text.specs.declared.entry.Kind.{Kind}
+use Rattle.etcs_reasons.specs.BitDigits.{are_bits, packed}
 use Rattle.etcs_runs.specs.Digits.{is_passed_over, line_digits}
 use Rattle.etcs_runs.specs.Lines.{IsLine, strip_cr, lines_text}
 use Rattle.etcs_runs.specs.declared.form.Form.{Form}
@@ -17,54 +19,58 @@ placed (l ∷ ls) (b ∷ bs) = of_byte l b ∷ placed ls bs
 placed (l ∷ ls) [] = []
 placed [] bs = []
 
--- the bytes that the digits of a line say, or the line where they say none
-abbrev pub said : {E : Type 0} → ℕ → List ℕ → Result (List ℕ) E → List Token
-said n text (Ok []) = of_line n text ∷ []
-said n text (Ok (b ∷ bs)) = map (of_byte n) (b ∷ bs)
-said n text (Err e) = of_line n text ∷ []
+-- the bytes that digits say: where they are the bits of a telegram of the kind, those of that
+abbrev pub digits_say : Kind → List ℕ → List ℕ
+digits_say kind bytes = if are_bits kind bytes then take ((length bytes + 3) / 4) (packed bytes) else bytes
+
+-- what the digits of a line say, or the line where they say nothing
+abbrev pub said : {E : Type 0} → Kind → ℕ → List ℕ → Result (List ℕ) E → List Token
+said kind n text (Ok []) = of_line n text ∷ []
+said kind n text (Ok (b ∷ bs)) = map (of_byte n) (digits_say kind (b ∷ bs))
+said kind n text (Err e) = of_line n text ∷ []
 
 -- nothing where it is blank or a comment
-abbrev pub hex_tokens : ℕ → List ℕ → List Token
-hex_tokens n text = if is_passed_over text then [] else said n text (decode_of (line_digits text))
+abbrev pub hex_tokens : Kind → ℕ → List ℕ → List Token
+hex_tokens kind n text = if is_passed_over text then [] else said kind n text (decode_of (line_digits text))
 
 -- nothing where it is empty
 abbrev pub json_tokens : ℕ → List ℕ → List Token
 json_tokens n [] = []
 json_tokens n (c ∷ text) = of_line n (c ∷ text) ∷ []
 
-abbrev pub short_tokens : Form → ℕ → List ℕ → List Token
-short_tokens Json n text = json_tokens n text
-short_tokens Hex n text = hex_tokens n text
-short_tokens Bin n text = hex_tokens n text
+abbrev pub short_tokens : Kind → Form → ℕ → List ℕ → List Token
+short_tokens kind Json n text = json_tokens n text
+short_tokens kind Hex n text = hex_tokens kind n text
+short_tokens kind Bin n text = hex_tokens kind n text
 
 abbrev pub is_long : List ℕ → Bool
 is_long text = nat_lt 1048576 (length text)
 
 -- what the line of this number has: nothing where it is too long
-abbrev pub line_tokens : Form → ℕ → List ℕ → List Token
-line_tokens form n text = if is_long text then [] else short_tokens form n text
+abbrev pub line_tokens : Kind → Form → ℕ → List ℕ → List Token
+line_tokens kind form n text = if is_long text then [] else short_tokens kind form n text
 
 -- its number, where it is too long
 abbrev pub line_long : ℕ → List ℕ → List ℕ
 line_long n text = if is_long text then n ∷ [] else []
 
 -- what lines have after the first n, each with a CR at its end or none; and the numbers of those that are too long
-abbrev pub lines_tokens : Form → ℕ → List (List ℕ) → List Token
-lines_tokens form n [] = []
-lines_tokens form n (text ∷ lines) = line_tokens form (n + 1) (strip_cr text) ++ lines_tokens form (n + 1) lines
+abbrev pub lines_tokens : Kind → Form → ℕ → List (List ℕ) → List Token
+lines_tokens kind form n [] = []
+lines_tokens kind form n (text ∷ lines) = line_tokens kind form (n + 1) (strip_cr text) ++ lines_tokens kind form (n + 1) lines
 
 abbrev pub lines_long : ℕ → List (List ℕ) → List ℕ
 lines_long n [] = []
 lines_long n (text ∷ lines) = line_long (n + 1) (strip_cr text) ++ lines_long (n + 1) lines
 
 -- what some lines of an input have, and a part of the next one
-pub record Lines (form : Form) (given : List ℕ) (tokens : List Token) (long : List ℕ) : Type 0 where
+pub record Lines (kind : Kind) (form : Form) (given : List ℕ) (tokens : List Token) (long : List ℕ) : Type 0 where
   pub lines : List (List ℕ)
   pub part : List ℕ
   pub rest : List ℕ
   pub given_is : given ≡ lines_text lines ++ (part ++ rest)
   pub are_lines : All IsLine (lines ++ part ∷ [])
-  pub tokens_are : tokens ≡ lines_tokens form 0 (lines ++ part ∷ [])
+  pub tokens_are : tokens ≡ lines_tokens kind form 0 (lines ++ part ∷ [])
   pub long_is : long ≡ lines_long 0 (lines ++ part ∷ [])
 
 -- the part has nothing; or it is too long, however it continues
@@ -75,19 +81,19 @@ abbrev pub IsBytes : List ℕ → List Token → List ℕ → Type 0
 IsBytes given tokens long = (tokens ≡ map (of_byte 0) given) × (long ≡ [])
 
 -- a whole input has these
-abbrev pub Has : Form → List ℕ → List Token → List ℕ → Type 0
-Has Bin given tokens long = IsBytes given tokens long
-Has Hex given tokens long = (h : Lines Hex given tokens long) × (h.rest ≡ [])
-Has Json given tokens long = (h : Lines Json given tokens long) × (h.rest ≡ [])
+abbrev pub Has : Kind → Form → List ℕ → List Token → List ℕ → Type 0
+Has kind Bin given tokens long = IsBytes given tokens long
+Has kind Hex given tokens long = (h : Lines kind Hex given tokens long) × (h.rest ≡ [])
+Has kind Json given tokens long = (h : Lines kind Json given tokens long) × (h.rest ≡ [])
 
 -- one that begins so has these first
-abbrev pub Begins : Form → List ℕ → List Token → List ℕ → Type 0
-Begins Bin given tokens long = IsBytes given tokens long
-Begins Hex given tokens long = (h : Lines Hex given tokens long) × ((h.rest ≡ []) ⊎ IsSure h.part)
-Begins Json given tokens long = (h : Lines Json given tokens long) × ((h.rest ≡ []) ⊎ IsSure h.part)
+abbrev pub Begins : Kind → Form → List ℕ → List Token → List ℕ → Type 0
+Begins kind Bin given tokens long = IsBytes given tokens long
+Begins kind Hex given tokens long = (h : Lines kind Hex given tokens long) × ((h.rest ≡ []) ⊎ IsSure h.part)
+Begins kind Json given tokens long = (h : Lines kind Json given tokens long) × ((h.rest ≡ []) ⊎ IsSure h.part)
 
 -- what is there of it has these: all lines that have a LF, and the next one where it is too long
-abbrev pub SoFar : Form → List ℕ → List Token → List ℕ → Type 0
-SoFar Bin given tokens long = IsBytes given tokens long
-SoFar Hex given tokens long = (h : Lines Hex given tokens long) × IsSure h.part × IsLine h.rest
-SoFar Json given tokens long = (h : Lines Json given tokens long) × IsSure h.part × IsLine h.rest
+abbrev pub SoFar : Kind → Form → List ℕ → List Token → List ℕ → Type 0
+SoFar kind Bin given tokens long = IsBytes given tokens long
+SoFar kind Hex given tokens long = (h : Lines kind Hex given tokens long) × IsSure h.part × IsLine h.rest
+SoFar kind Json given tokens long = (h : Lines kind Json given tokens long) × IsSure h.part × IsLine h.rest

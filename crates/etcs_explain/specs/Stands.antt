@@ -63,4 +63,4 @@ pub record LinesTook (page : List ℕ) (task : Task) (held_lines held : List ℕ
   pub json : task.from ≡ Json → held ≡ []
   pub count : n ≡ length lines
   pub are_lines : All IsLine lines
-  pub took : Took page task held_lines held seen (lines_tokens task.from 0 lines) (lines_long 0 lines) told
+  pub took : Took page task held_lines held seen (lines_tokens task.kind task.from 0 lines) (lines_long 0 lines) told

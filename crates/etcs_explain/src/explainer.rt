@@ -15,6 +15,7 @@ ghost use Rattle.etcs_explain.specs.Parts.{IsUncut, edge, long_fault, missing, o
 ghost use Rattle.etcs_explain.specs.Explained.{Explained};
 ghost use Rattle.etcs_explain.specs.Stands.{AddsOne, IsAfter, ItemPart, TookSome, Writes};
 
+use crate::hints::last_telegram;
 use crate::json::write_no_item;
 use crate::seen::Seen;
 use crate::task::Task;
@@ -187,7 +188,8 @@ impl Explainer {
         }
         write_table(way_of(kind), bytes, account, &mut self.sheet);
         self.sheet.clear();
-        let often = write_cause(kind, bytes, account, &mut self.sheet.meaning)?;
+        let usual = write_cause(kind, bytes, account, &mut self.sheet.meaning)?;
+        let often = last_telegram(self.alloc, self.task, bytes, account.end)?.or(usual);
         self.sheet.close_item(often);
         self.pass_on(true, line, text)
     }

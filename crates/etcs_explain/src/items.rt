@@ -4,7 +4,7 @@ ghost use Rattle.std.specs.Prelude.{◌≡◌, ◌+◌, ◌*◌, ◌^◌, ◌<�
 ghost use Rattle.etcs_runs.specs.declared.fault.RunFault.{RunFault};
 ghost use Rattle.etcs_runs.specs.declared.form.Form.TheVariants as form;
 ghost use Rattle.etcs_reasons.specs.declared.page.TheConstants.{FOOT, HEAD};
-ghost use Rattle.etcs_explain.specs.Inputs.{Token, of_byte, of_line, hex_tokens, line_long, line_tokens, short_tokens};
+ghost use Rattle.etcs_explain.specs.Inputs.{Token, of_byte, of_line, digits_say, hex_tokens, line_long, line_tokens, short_tokens};
 ghost use Rattle.etcs_explain.specs.Parts.{IsUncut};
 ghost use Rattle.etcs_explain.specs.Cuts.{IsCut};
 ghost use Rattle.etcs_explain.specs.Explained.{Finished, explanations};
@@ -14,7 +14,7 @@ ghost use Rattle.etcs_explain.specs.laws.StandLaws.{bytes_tell, explanations_sou
 use crate::cut::is_cut;
 use crate::explainer::Explainer;
 use crate::task::Task;
-use etcs_reasons::inner::{FOOT, HEAD};
+use etcs_reasons::inner::{FOOT, HEAD, are_bits, packed};
 use etcs_runs::inner::{Engine, LineHandler, MOST_READ};
 use etcs_runs::{Form, MOST_LINE, NoBytes, RunFault, line_bytes, without_cr};
 use std::alloc::{AllocError, Global};
@@ -132,6 +132,23 @@ impl Items {
         self.pass(false, text)
     }
 
+    /// Takes what the digits of the last line say, which are these bytes: their own bytes, or where they are the bits of a
+    /// telegram those of that.
+    fn take_digits(&mut self, bytes: &[u8], text: &mut Vec<u8>) -> Result<(), AllocError>
+        requires even { length self.old.lines.items ≡ length self.old.held.items }
+        ensures same { (self.new.explainer.task ≡ self.old.explainer.task) × (self.new.line ≡ self.old.line) }
+        ensures even { OnOk result (length self.new.lines.items ≡ length self.new.held.items) }
+        ensures short { OnOk result (length self.new.held.items < 1023) }
+        ensures ok { (all : List Token) (long told : List ℕ) → Took HEAD.now self.old.explainer.task self.old.lines.items self.old.held.items self.old.explainer.seen all long (told ++ text.old.items) → OnOk result (Took HEAD.now self.old.explainer.task self.new.lines.items self.new.held.items self.new.explainer.seen (all ++ map (of_byte self.old.line) (digits_say self.old.explainer.task.kind bytes.now)) long (told ++ text.new.items)) }
+        ensures err { (all : List Token) (long told : List ℕ) → Took HEAD.now self.old.explainer.task self.old.lines.items self.old.held.items self.old.explainer.seen all long (told ++ text.old.items) → OnErr result (TookSome HEAD.now self.old.explainer.task (all ++ map (of_byte self.old.line) (digits_say self.old.explainer.task.kind bytes.now)) long (told ++ text.new.items)) }
+    {
+        if are_bits(self.explainer.task.kind, bytes) {
+            let packed = packed(bytes);
+            return self.take(&packed[..(bytes.len() + 3) / 4], text);
+        }
+        self.take(bytes, text)
+    }
+
     /// Takes the last line, of hexadecimal.
     fn hex_line(&mut self, line: &[u8], text: &mut Vec<u8>) -> Result<(), AllocError>
         requires even { length self.old.lines.items ≡ length self.old.held.items }
@@ -140,8 +157,8 @@ impl Items {
         ensures same { (self.new.explainer.task ≡ self.old.explainer.task) × (self.new.line ≡ self.old.line) }
         ensures even { OnOk result (length self.new.lines.items ≡ length self.new.held.items) }
         ensures short { OnOk result (length self.new.held.items < 1023) }
-        ensures ok { (all : List Token) (long told : List ℕ) → Took HEAD.now self.old.explainer.task self.old.lines.items self.old.held.items self.old.explainer.seen all long (told ++ text.old.items) → OnOk result (Took HEAD.now self.old.explainer.task self.new.lines.items self.new.held.items self.new.explainer.seen (all ++ hex_tokens self.old.line line.now) long (told ++ text.new.items)) }
-        ensures err { (all : List Token) (long told : List ℕ) → Took HEAD.now self.old.explainer.task self.old.lines.items self.old.held.items self.old.explainer.seen all long (told ++ text.old.items) → OnErr result (TookSome HEAD.now self.old.explainer.task (all ++ hex_tokens self.old.line line.now) long (told ++ text.new.items)) }
+        ensures ok { (all : List Token) (long told : List ℕ) → Took HEAD.now self.old.explainer.task self.old.lines.items self.old.held.items self.old.explainer.seen all long (told ++ text.old.items) → OnOk result (Took HEAD.now self.old.explainer.task self.new.lines.items self.new.held.items self.new.explainer.seen (all ++ hex_tokens self.old.explainer.task.kind self.old.line line.now) long (told ++ text.new.items)) }
+        ensures err { (all : List Token) (long told : List ℕ) → Took HEAD.now self.old.explainer.task self.old.lines.items self.old.held.items self.old.explainer.seen all long (told ++ text.old.items) → OnErr result (TookSome HEAD.now self.old.explainer.task (all ++ hex_tokens self.old.explainer.task.kind self.old.line line.now) long (told ++ text.new.items)) }
     {
         let mut buffer = Vec::new(self.explainer.alloc);
         buffer.resize(line.len() / 2 + 1, 0)?;
@@ -162,13 +179,13 @@ impl Items {
         ensures same { (self.new.explainer.task ≡ self.old.explainer.task) × (self.new.line ≡ self.old.line) }
         ensures even { OnOk result (length self.new.lines.items ≡ length self.new.held.items) }
         ensures short { OnOk result (length self.new.held.items < 1023) }
-        ensures ok { (all : List Token) (long told : List ℕ) → Took HEAD.now self.old.explainer.task self.old.lines.items self.old.held.items self.old.explainer.seen all long (told ++ text.old.items) → OnOk result (Took HEAD.now self.old.explainer.task self.new.lines.items self.new.held.items self.new.explainer.seen (all ++ hex_tokens self.old.line line.now) long (told ++ text.new.items)) }
-        ensures err { (all : List Token) (long told : List ℕ) → Took HEAD.now self.old.explainer.task self.old.lines.items self.old.held.items self.old.explainer.seen all long (told ++ text.old.items) → OnErr result (TookSome HEAD.now self.old.explainer.task (all ++ hex_tokens self.old.line line.now) long (told ++ text.new.items)) }
+        ensures ok { (all : List Token) (long told : List ℕ) → Took HEAD.now self.old.explainer.task self.old.lines.items self.old.held.items self.old.explainer.seen all long (told ++ text.old.items) → OnOk result (Took HEAD.now self.old.explainer.task self.new.lines.items self.new.held.items self.new.explainer.seen (all ++ hex_tokens self.old.explainer.task.kind self.old.line line.now) long (told ++ text.new.items)) }
+        ensures err { (all : List Token) (long told : List ℕ) → Took HEAD.now self.old.explainer.task self.old.lines.items self.old.held.items self.old.explainer.seen all long (told ++ text.old.items) → OnErr result (TookSome HEAD.now self.old.explainer.task (all ++ hex_tokens self.old.explainer.task.kind self.old.line line.now) long (told ++ text.new.items)) }
     {
         match line_bytes(line, buffer) {
             Ok(count) => {
                 let start = buffer.len() - count;
-                self.take(&buffer[start..], text)
+                self.take_digits(&buffer[start..], text)
             }
             Err(NoBytes::Empty) => Ok(()),
             Err(NoBytes::NoDigits) => self.bad_hex(line, NoBytes::NoDigits, text),
@@ -201,8 +218,8 @@ impl Items {
         ensures same { (self.new.explainer.task ≡ self.old.explainer.task) × (self.new.line ≡ self.old.line) }
         ensures short { OnOk result (length self.new.held.items < 1023) }
         ensures json { self.old.explainer.task.from ≡ form.Json → OnOk result (self.new.held.items ≡ []) }
-        ensures ok { (all : List Token) (long told : List ℕ) → Took HEAD.now self.old.explainer.task self.old.lines.items self.old.held.items self.old.explainer.seen all long (told ++ text.old.items) → OnOk result (Took HEAD.now self.old.explainer.task self.new.lines.items self.new.held.items self.new.explainer.seen (all ++ short_tokens self.old.explainer.task.from self.old.line line.now) long (told ++ text.new.items)) }
-        ensures err { (all : List Token) (long told : List ℕ) → Took HEAD.now self.old.explainer.task self.old.lines.items self.old.held.items self.old.explainer.seen all long (told ++ text.old.items) → OnErr result (TookSome HEAD.now self.old.explainer.task (all ++ short_tokens self.old.explainer.task.from self.old.line line.now) long (told ++ text.new.items)) }
+        ensures ok { (all : List Token) (long told : List ℕ) → Took HEAD.now self.old.explainer.task self.old.lines.items self.old.held.items self.old.explainer.seen all long (told ++ text.old.items) → OnOk result (Took HEAD.now self.old.explainer.task self.new.lines.items self.new.held.items self.new.explainer.seen (all ++ short_tokens self.old.explainer.task.kind self.old.explainer.task.from self.old.line line.now) long (told ++ text.new.items)) }
+        ensures err { (all : List Token) (long told : List ℕ) → Took HEAD.now self.old.explainer.task self.old.lines.items self.old.held.items self.old.explainer.seen all long (told ++ text.old.items) → OnErr result (TookSome HEAD.now self.old.explainer.task (all ++ short_tokens self.old.explainer.task.kind self.old.explainer.task.from self.old.line line.now) long (told ++ text.new.items)) }
     {
         match self.explainer.task.from {
             Form::Json if line.is_empty() => Ok(()),
@@ -225,8 +242,8 @@ impl Items {
         ensures line { self.new.line ≡ self.old.line + 1 }
         ensures short { OnOk result (length self.new.held.items < 1023) }
         ensures json { self.old.explainer.task.from ≡ form.Json → OnOk result (self.new.held.items ≡ []) }
-        ensures ok { (all : List Token) (long told : List ℕ) → Took HEAD.now self.old.explainer.task self.old.lines.items self.old.held.items self.old.explainer.seen all long (told ++ text.old.items) → OnOk result (Took HEAD.now self.old.explainer.task self.new.lines.items self.new.held.items self.new.explainer.seen (all ++ line_tokens self.old.explainer.task.from (self.old.line + 1) line.now) (long ++ line_long (self.old.line + 1) line.now) (told ++ text.new.items)) }
-        ensures err { (all : List Token) (long told : List ℕ) → Took HEAD.now self.old.explainer.task self.old.lines.items self.old.held.items self.old.explainer.seen all long (told ++ text.old.items) → OnErr result (TookSome HEAD.now self.old.explainer.task (all ++ line_tokens self.old.explainer.task.from (self.old.line + 1) line.now) (long ++ line_long (self.old.line + 1) line.now) (told ++ text.new.items)) }
+        ensures ok { (all : List Token) (long told : List ℕ) → Took HEAD.now self.old.explainer.task self.old.lines.items self.old.held.items self.old.explainer.seen all long (told ++ text.old.items) → OnOk result (Took HEAD.now self.old.explainer.task self.new.lines.items self.new.held.items self.new.explainer.seen (all ++ line_tokens self.old.explainer.task.kind self.old.explainer.task.from (self.old.line + 1) line.now) (long ++ line_long (self.old.line + 1) line.now) (told ++ text.new.items)) }
+        ensures err { (all : List Token) (long told : List ℕ) → Took HEAD.now self.old.explainer.task self.old.lines.items self.old.held.items self.old.explainer.seen all long (told ++ text.old.items) → OnErr result (TookSome HEAD.now self.old.explainer.task (all ++ line_tokens self.old.explainer.task.kind self.old.explainer.task.from (self.old.line + 1) line.now) (long ++ line_long (self.old.line + 1) line.now) (told ++ text.new.items)) }
     {
         self.line += 1;
         if line.len() > MOST_LINE {

@@ -1,8 +1,11 @@
 //! Why JSON is no item: the path of the first part that is wrong, as jq has it, and the reason.
 
-use crate::no_json::{MOST_JSON, write_no_json};
+ghost use Rattle.std.specs.Prelude.{◌<◌, length, string_bytes, IfOk};
+ghost use Rattle.etcs_reasons.specs.Sentences.{IsWritten};
+
+use crate::no_json::{MOST_JSON, shallow_front, write_no_json, write_too_deep};
 use crate::quoted::{Quoted, is_word};
-use etcs_json::{JsonFault, from_line};
+use etcs_json::JsonFault;
 use etcs_reasons::inner::{
     Text, is_or_are, low_byte, user_bits, way_of, write_bits, write_not_admitted,
 };
@@ -13,7 +16,7 @@ use etcs_tables::{
 };
 use etcs_text::Kind;
 use etcs_vars::Var;
-use serde_json::Value;
+use serde_json::{Map, Value};
 use std::alloc::{AllocError, Global};
 use std::fmt;
 
@@ -33,6 +36,14 @@ macro_rules! wrong {
 const MARKER: Row = Row {
     items: &[RowItem::One(Var::NID_VBCMK)],
 };
+
+/// How a number is written.
+const PLAIN: &str = "digits alone, without a point or an exponent";
+
+/// Whether a number has a point, an exponent or more than 64 bits.
+fn is_float(value: &Value) -> bool {
+    value.as_f64().is_some() && value.as_u64().is_none() && value.as_i64().is_none()
+}
 
 /// The word of a kind.
 fn word(kind: Kind) -> &'static str {
@@ -70,17 +81,28 @@ struct Part<'a> {
 }
 
 impl<'a> Part<'a> {
-    /// Writes the beginning of a reason: the path.
+    /// All of a tree.
+    fn whole(value: &'a Value) -> Part<'a> {
+        Part {
+            value,
+            packet: None,
+            name: None,
+            entry: None,
+        }
+    }
+
+    /// Writes the beginning of a reason: the path after its first point.
     fn write_path(self, out: &mut Text) {
         if let Some(packet) = self.packet {
-            write!(out, ".packets[{packet}]");
+            write!(out, "packets[{packet}]");
         }
         match self.name {
-            Some(name) if is_word(name) => write!(out, ".{name}"),
-            Some(name) if self.packet.is_some() => write!(out, "[{}]", Quoted(name)),
-            Some(name) => write!(out, ".[{}]", Quoted(name)),
-            None if self.packet.is_some() => {}
-            None => out.push("."),
+            Some(name) if is_word(name) => {
+                out.push(if self.packet.is_some() { "." } else { "" });
+                out.push(name);
+            }
+            Some(name) => write!(out, "[{}]", Quoted(name)),
+            None => {}
         }
         if let Some(entry) = self.entry {
             write!(out, "[{entry}]");
@@ -99,10 +121,18 @@ impl<'a> Part<'a> {
         self.value.get(name).is_some()
     }
 
+    /// The object that it is.
+    fn object(self, out: &mut Text) -> Option<&'a Map<String, Value>> {
+        match self.value.as_object() {
+            Some(map) => Some(map),
+            None => wrong!(self, out; "an object is wanted, not {}", Brief(self.value)),
+        }
+    }
+
     /// The member of a name.
     fn member(self, name: &'static str, out: &mut Text) -> Option<Part<'a>> {
         let part = self.named(name);
-        match self.value.get(name) {
+        match self.object(out)?.get(name) {
             Some(value) => Some(Part { value, ..part }),
             None => wrong!(part, out; "this member is missing"),
         }
@@ -110,10 +140,7 @@ impl<'a> Part<'a> {
 
     /// Tests that it is an object with no members but these.
     fn test_names(self, names: &[&str], out: &mut Text) -> Option<()> {
-        let Some(map) = self.value.as_object() else {
-            wrong!(self, out; "an object is wanted, not {}", Brief(self.value));
-        };
-        for (name, _) in map.iter() {
+        for (name, _) in self.object(out)?.iter() {
             if !(&*names).contains(&name.as_str()) {
                 wrong!(self.named(name.as_str()), out; "there is no such member here");
             }
@@ -125,6 +152,8 @@ impl<'a> Part<'a> {
     fn number(self, most: u64, out: &mut Text) -> Option<u64> {
         match self.value.as_u64() {
             Some(number) if number <= most => Some(number),
+            _ if is_float(self.value) =>
+                wrong!(self, out; "a whole number from 0 to {most} is wanted, in {PLAIN}"),
             _ => {
                 let value = Brief(self.value);
                 wrong!(self, out; "a whole number from 0 to {most} is wanted, not {value}")
@@ -182,6 +211,8 @@ impl<'a> Part<'a> {
                 write_not_admitted(var, number, out);
                 None
             }
+            None if is_float(value) =>
+                wrong!(self, out; "{var} has whole numbers of at most 64 bits, in {PLAIN}"),
             None => wrong!(self, out; "{var} has whole numbers, not {}", Brief(value)),
         }
     }
@@ -218,7 +249,10 @@ impl<'a> Part<'a> {
             let number = part.pair(var, after.as_str(), out)?;
             place.pass(number);
             after.clear();
-            write!(after, "after {var} {number}");
+            match value.get(1usize).and_then(Value::as_str) {
+                Some(digits) => write!(after, "after {var} {}", Quoted(digits)),
+                None => write!(after, "after {var} {number}"),
+            }
             count = count.saturating_add(var.width());
         }
         match place.var() {
@@ -302,12 +336,43 @@ impl<'a> Part<'a> {
         wrong!(member, out; "\"{word}\" is wanted, as --kind says, not {}", Brief(member.value))
     }
 
+    /// How many bits an item has in front of its packets.
+    fn front_bits(self, kind: Kind, out: &mut Text) -> Option<usize> {
+        if let Kind::Long | Kind::Short = kind {
+            return self.member("header", out)?.pairs(header_row(), out);
+        }
+        let nid = self.nid(out)?;
+        let way = way_of(kind);
+        let Some(row) = message_row(way, nid) else {
+            wrong!(self.named("nid"), out; "message {nid} is kept as bits here: its members are kind, nid and data");
+        };
+        let header = self.member("header", out)?.pairs(head_row(way), out)?;
+        let fields = self.member("fields", out)?.pairs(row, out)?;
+        Some(header.saturating_add(fields).saturating_add(18))
+    }
+
+    /// Which packet of an item has this bit.
+    fn packet_at(self, kind: Kind, bit: usize, out: &mut Text) -> Option<usize> {
+        let mut end = self.front_bits(kind, out)?;
+        let list = self.member("packets", out)?.value.as_array()?;
+        for (index, value) in list.as_slice().iter().enumerate() {
+            let mut part = self;
+            part.value = value;
+            part.packet = Some(index);
+            end = end.saturating_add(part.packet(kind, out)?);
+            if bit < end {
+                return Some(index);
+            }
+        }
+        None
+    }
+
     /// Tests a telegram.
     fn test_telegram(self, kind: Kind, out: &mut Text) -> Option<()> {
         self.test_kind(kind, &["kind", "header", "packets", "fill"], out)?;
-        let header = self.member("header", out)?.pairs(header_row(), out)?;
+        let front = self.front_bits(kind, out)?;
         let packets = self.packets(kind, out)?;
-        let room = user_bits(kind).saturating_sub(header.saturating_add(CLOSING_BITS));
+        let room = user_bits(kind).saturating_sub(front.saturating_add(CLOSING_BITS));
         if packets > room {
             let word = word(kind);
             wrong!(self.named("packets"), out; "{packets} bits, and a {word} telegram has room for {room}");
@@ -319,15 +384,8 @@ impl<'a> Part<'a> {
     fn test_message(self, kind: Kind, out: &mut Text) -> Option<()> {
         let names = ["kind", "nid", "header", "fields", "packets", "padding"];
         self.test_kind(kind, &names, out)?;
-        let nid = self.nid(out)?;
-        let way = way_of(kind);
-        let Some(row) = message_row(way, nid) else {
-            wrong!(self.named("nid"), out; "message {nid} is kept as bits here: its members are kind, nid and data");
-        };
-        let header = self.member("header", out)?.pairs(head_row(way), out)?;
-        let fields = self.member("fields", out)?.pairs(row, out)?;
-        let packets = self.packets(kind, out)?;
-        let all = packets.saturating_add(header.saturating_add(fields).saturating_add(18));
+        let front = self.front_bits(kind, out)?;
+        let all = self.packets(kind, out)?.saturating_add(front);
         if all > 8184 {
             wrong!(self.named("packets"), out; "the message has {all} bits, and at most 1,023 bytes");
         }
@@ -335,11 +393,30 @@ impl<'a> Part<'a> {
             .test_bits(7 - (all + 7) % 8, out)
     }
 
-    /// Tests a message that is kept as bits.
+    /// The NID_MESSAGE that it has, where such a message is typed.
+    fn typed_message(self, kind: Kind) -> Option<u8> {
+        let number = self.value.get("nid")?.as_u64()?;
+        let nid = low_byte(number);
+        message_row(way_of(kind), nid)?;
+        if number == u64::from(nid) {
+            Some(nid)
+        } else {
+            None
+        }
+    }
+
+    /// Tests a message with data, which is kept as bits.
     fn test_kept(self, kind: Kind, out: &mut Text) -> Option<()> {
-        self.test_kind(kind, &["kind", "nid", "data"], out)?;
-        let nid = self.nid(out)?;
-        if message_row(way_of(kind), nid).is_some() {
+        let typed = self.typed_message(kind);
+        let names = match typed {
+            Some(_) => &[
+                "kind", "nid", "data", "header", "fields", "packets", "padding",
+            ],
+            None => &["kind", "nid", "data"][..],
+        };
+        self.test_kind(kind, names, out)?;
+        self.nid(out)?;
+        if let Some(nid) = typed {
             wrong!(self.named("data"), out; "message {nid} is typed here: its members are kind, nid, header, fields, packets and padding");
         }
         let member = self.member("data", out)?;
@@ -353,59 +430,94 @@ impl<'a> Part<'a> {
     }
 }
 
-/// Why no item of the kind has the JSON of a line.
-fn write_shape(kind: Kind, line: &[u8], out: &mut Text) {
-    if line.len() > MOST_JSON {
-        let count = line.len();
-        return write!(
-            out,
-            "{count} bytes, of which at most 65,536 are looked into"
-        );
-    }
-    let value = match Value::from_slice(out.alloc(), line) {
-        Ok(value) => value,
-        Err(error) if error.is_memory() => return out.note(Err(AllocError)),
-        Err(error) => return write_no_json(line, &error, out),
-    };
-    let whole = Part {
-        value: &value,
-        packet: None,
-        name: None,
-        entry: None,
-    };
-    let tested = match kind {
+/// Why no item of the kind has a tree: the path of the first part that is wrong, after its first point, and the reason.
+/// Nothing is written where none is found.
+fn test_tree(kind: Kind, tree: &Value, out: &mut Text) -> Option<()> {
+    let whole = Part::whole(tree);
+    match kind {
         Kind::Long | Kind::Short => whole.test_telegram(kind, out),
         Kind::Radio | Kind::Train if whole.has("data") => whole.test_kept(kind, out),
         Kind::Radio | Kind::Train => whole.test_message(kind, out),
-    };
-    if tested.is_some() {
-        write!(out, "no item of kind {} has this JSON", word(kind));
     }
 }
 
+/// Appends why no item of the kind has a tree.
+fn write_no_tree(kind: Kind, tree: &Value, out: &mut Text)
+    ensures { IsWritten out.new }
+{
+    let mut wrong = Text::new(out.alloc());
+    match test_tree(kind, tree, &mut wrong) {
+        Some(()) => out.push("no item of the kind has this JSON"),
+        None => {
+            out.push(".");
+            out.push_whole(&wrong);
+        }
+    }
+}
+
+/// Appends why no item of the kind has the JSON of a line.
+fn write_shape(kind: Kind, line: &[u8], out: &mut Text)
+    ensures { IsWritten out.new }
+{
+    if line.len() > MOST_JSON {
+        write!(out, "{}", line.len());
+        return out.push(" bytes, of which at most 65,536 are looked into");
+    }
+    let front = shallow_front(line);
+    match Value::from_slice(out.alloc(), front) {
+        Ok(tree) => write_no_tree(kind, &tree, out),
+        Err(error) if error.is_memory() => out.note(Err(AllocError)),
+        Err(error) if error.is_eof() && front.len() < line.len() => {
+            write_too_deep(front.len(), out)
+        }
+        Err(error) => write_no_json(front, &error, out),
+    }
+}
+
+/// Appends that a bit of an item is refused which the JSON of a line stores among the bits of a packet.
+fn write_refused(kind: Kind, line: &[u8], bit: usize, var: Var, out: &mut Text)
+    ensures { IsWritten out.new }
+{
+    let mut unsaid = Text::new(out.alloc());
+    let packet = match Value::from_slice(out.alloc(), line) {
+        Ok(value) => Part::whole(&value).packet_at(kind, bit, &mut unsaid),
+        Err(error) if error.is_memory() => return out.note(Err(AllocError)),
+        Err(_) => None,
+    };
+    if let Some(packet) = packet {
+        write!(out, ".packets[{packet}].data: ");
+    }
+    out.push("the bits are refused at bit ");
+    write!(out, "{bit} of the item, ");
+    out.push(var.name());
+}
+
 /// Appends why a line of JSON that was answered with this fault is no item.
-pub(crate) fn write_no_item(kind: Kind, line: &[u8], fault: JsonFault, out: &mut Text) {
+pub(crate) fn write_no_item(kind: Kind, line: &[u8], fault: JsonFault, out: &mut Text)
+    ensures { IsWritten out.new }
+{
     match fault {
         JsonFault::Shape => write_shape(kind, line, out),
-        JsonFault::Refused { bit, var } => {
-            write!(out, "the bits of its data are refused at bit {bit}, {var}")
-        }
+        JsonFault::Refused { bit, var } => write_refused(kind, line, bit, var, out),
         JsonFault::Memory => out.note(Err(AllocError)),
     }
 }
 
-/// Why a line isn't the JSON of an item of the kind: the path of the first part that is wrong, as jq has it, and the reason.
-/// `None` where it is.
+/// Why a line that was answered with this fault isn't the JSON of an item of the kind: the path of the first part that is
+/// wrong, as jq has it, and the reason. It isn't empty.
 ///
 /// # Errors
 ///
 /// Where memory is refused.
-pub fn why_json(alloc: Global, kind: Kind, line: &[u8]) -> Result<Option<String>, AllocError> {
-    let fault = match from_line(alloc, kind, line) {
-        Ok(_) => return Ok(None),
-        Err(fault) => fault,
-    };
+pub fn json_reason(
+    alloc: Global,
+    kind: Kind,
+    line: &[u8],
+    fault: JsonFault,
+) -> Result<String, AllocError>
+    ensures ok { IfOk result (λ s. 0 < length (string_bytes s)) }
+{
     let mut reason = Text::new(alloc);
     write_no_item(kind, line, fault, &mut reason);
-    Ok(Some(reason.into_string()?))
+    reason.into_string()
 }

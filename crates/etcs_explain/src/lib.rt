@@ -3,6 +3,7 @@
 
 mod cut;
 mod explainer;
+mod hints;
 mod items;
 mod json;
 mod no_json;
@@ -13,6 +14,6 @@ mod task;
 mod titles;
 
 pub use etcs_reasons::{Account, End, Layout, Part, Reason, why};
-pub use json::why_json;
+pub use json::json_reason;
 pub use run::explain;
 pub use task::Task;

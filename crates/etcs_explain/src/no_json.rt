@@ -1,4 +1,6 @@
-//! Where a line stops being JSON.
+//! Where a line stops being JSON, or has more lists and objects in one another than any item.
+
+ghost use Rattle.etcs_reasons.specs.Sentences.{IsWritten};
 
 use etcs_reasons::inner::Text;
 use serde_json::{Error, Value};
@@ -7,25 +9,57 @@ use std::alloc::AllocError;
 /// How many bytes of JSON that is no item are looked into.
 pub(crate) const MOST_JSON: usize = 65_536;
 
+/// How many lists and objects in one another are looked into, of which an item has 5.
+const MOST_DEEP: usize = 6;
+
+/// The front of a line before the first list or object that is in that many; all of it where there is none.
+pub(crate) fn shallow_front(line: &[u8]) -> &[u8] {
+    let mut depth = 0usize;
+    let mut is_text = false;
+    let mut is_escaped = false;
+    for (place, byte) in line.iter().enumerate() {
+        match *byte {
+            _ if is_escaped => is_escaped = false,
+            b'\\' => is_escaped = is_text,
+            b'"' => is_text = !is_text,
+            _ if is_text => {}
+            b'[' | b'{' if depth == MOST_DEEP => return line.get(..place).unwrap_or(line),
+            b'[' | b'{' => depth = depth.saturating_add(1),
+            b']' | b'}' => depth = depth.saturating_sub(1),
+            _ => {}
+        }
+    }
+    line
+}
+
+/// Appends that a list or an object at this place is in too many.
+pub(crate) fn write_too_deep(place: usize, out: &mut Text)
+    ensures { IsWritten out.new }
+{
+    let column = place.saturating_add(1);
+    write!(
+        out,
+        "more than {MOST_DEEP} lists and objects are in one another at column {column}"
+    );
+    out.push(", and an item has 5");
+}
+
 /// Appends where a line of at most that many bytes, refused with this error, stops being JSON.
-pub(crate) fn write_no_json(line: &[u8], error: &Error, out: &mut Text) {
+pub(crate) fn write_no_json(line: &[u8], error: &Error, out: &mut Text)
+    ensures { IsWritten out.new }
+{
     out.push("no JSON: ");
     if is_too_large(error, out) {
         return out.push("the size of a number is more than 1.8e308");
     }
     let front = front_of(line, out);
     let column = front.len().saturating_add(1);
-    match line.get(front.len()) {
-        None => {
-            write!(out, "it ends at column {}, inside a value", line.len());
-            out.push("; jq -c . makes one line of several");
-        }
-        Some(b'[' | b'{') if is_value_next(front, out) => {
-            out.push("more than 127 lists and objects are in one another");
-            write!(out, " at column {column}");
-        }
-        Some(_) => write!(out, "another character is wanted at column {column}"),
+    if front.len() == line.len() {
+        write!(out, "it ends at column {}, inside a value", line.len());
+        return out.push("; jq -c . makes one line of several");
     }
+    out.push("another character is wanted at column ");
+    write!(out, "{column}");
 }
 
 /// The longest front of a line with which JSON begins.
@@ -47,8 +81,26 @@ fn front_of<'a>(line: &'a [u8], out: &mut Text) -> &'a [u8] {
     found
 }
 
+/// Whether a text ends inside an escape of four digits, after a character that is none.
+fn has_short_escape(front: &[u8]) -> bool {
+    let end = front.len();
+    for digits in 1..4usize {
+        let at = end.saturating_sub(digits.saturating_add(2));
+        if front.get(at..).is_some_and(|rest| rest.starts_with(b"\\u")) {
+            let before = front.get(..at).unwrap_or(&[]);
+            let slashes = before.iter().rev().take_while(|c| **c == b'\\').count();
+            let rest = front.get(at.saturating_add(2)..).unwrap_or(&[]);
+            return slashes % 2 == 0 && !rest.iter().all(u8::is_ascii_hexdigit);
+        }
+    }
+    false
+}
+
 /// Whether JSON begins with these bytes.
 fn begins_json(front: &[u8], out: &mut Text) -> bool {
+    if has_short_escape(front) {
+        return false;
+    }
     match Value::from_slice(out.alloc(), front) {
         Ok(_) => true,
         Err(error) if error.is_memory() => {
@@ -57,15 +109,6 @@ fn begins_json(front: &[u8], out: &mut Text) -> bool {
         }
         Err(error) => error.is_eof() || is_too_large(&error, out),
     }
-}
-
-/// Whether a value may come after the front of some JSON.
-fn is_value_next(front: &[u8], out: &mut Text) -> bool {
-    let mut longer = Vec::new(out.alloc());
-    out.note(longer.extend_from_slice(front));
-    // true is a value wherever one may come
-    out.note(longer.extend_from_slice(b"t"));
-    begins_json(longer.as_slice(), out)
 }
 
 /// Whether JSON is refused since a number has no value.

@@ -1,21 +1,23 @@
 -- What is said of the bits so far, variable by variable.
-use Rattle.std.proofs.Common.{◌≡◌, ℕ, ◌+◌, ◌*◌, ◌≤◌, ◌<◌, min, Bool, true, false, List, [], ◌∷◌, ◌++◌, length, take, drop, Some, None, refl, sym, ap, subst, ◌∙◌, arith, append_assoc, inl, inr}
-use Rattle.std.specs.Prelude.{Option, Result, Ok, Err, IfOk, IfSome, is_some, nat_lt, slice_index_or, if◌then◌else◌}
-use Rattle.std.proofs.lemmas.Bool.{cases_lt, lt-ltb}
-use Rattle.std.proofs.lemmas.Grind.{take_at_read}
-use Rattle.std.proofs.lemmas.List.{append-nil, length-append, length-take-le, take_all, take_at, take-append-drop}
-use Rattle.etcs_bits.specs.Bits.{bits, num, part}
+use Rattle.std.proofs.Common.{◌≡◌, ℕ, ◌+◌, ◌≤◌, ◌<◌, min, Bool, List, [], ◌++◌, length, take, sym, ap, subst, ◌∙◌, arith, inl, inr}
+use Rattle.std.specs.Prelude.{Result, Ok, Err, IfOk}
+use Rattle.std.proofs.lemmas.Bool.{cases_lt}
+use Rattle.std.proofs.lemmas.List.{append-nil, take_all}
+use Rattle.etcs_bits.specs.Bits.{bits, num}
+use Rattle.etcs_bits.proofs.Numbers.{length-num}
+use Rattle.etcs_bits.proofs.Owned.{bits-take}
 use Rattle.etcs_bits.proofs.Positions.{length-bits}
 use Rattle.etcs_vars.specs.declared.var.Var.{Var}
+use Rattle.etcs_vars.specs.Vars.{width}
 use Rattle.etcs_vars.specs.Walking.{Residual, Refuses}
 use Rattle.etcs_vars.specs.Reading.{Reading, spelled, Owner}
 use Rattle.etcs_vars.proofs.Languages.{Same}
-use Rattle.etcs_vars.proofs.Outcomes.{refuses_longer, viable_front, none_refused}
+use Rattle.etcs_vars.proofs.Outcomes.{viable_front, none_refused}
 use Rattle.etcs_vars.proofs.Walk.{Regular}
 use Rattle.etcs_telegram.proofs.SameReadings.{owner_along, refuses_along}
 use Rattle.etcs_reader.specs.Rests.{Goes}
 use Rattle.etcs_reader.specs.Readers.{Passed}
-use Rattle.etcs_reader.proofs.Passing.{passed_along, passed_owner, passed_refuses}
+use Rattle.etcs_reader.proofs.Passing.{passed_owner}
 use Rattle.etcs_reasons.specs.Accounts.{Shows, Accounts}
 use Rattle.etcs_reasons.specs.declared.account.Account.{Account}
 use Rattle.etcs_reasons.specs.declared.account.Part.{Part}
@@ -29,8 +31,8 @@ shows_along P Q same p part b s = record { rest = s.rest; begins = (same (p ++ s
 
 pub accounts_along : (P Q : Reading → Type 0) → Same P Q → (p : Reading) (e : End) (b : List Bool) → Accounts P p e b → Accounts Q p e b
 accounts_along P Q same p end.Whole b a = ((same p).0 a.0, a.1, a.2, a.3)
-accounts_along P Q same p (end.Open part) b a = (shows_along P Q same p (num part.count part.bits) b a.0, owner_along P Q same b part.var a.1)
-accounts_along P Q same p (end.Refused bit part) b a = (shows_along P Q same p (num part.count part.bits) (take bit b) a.0, refuses_along P Q same b bit part.var a.1)
+accounts_along P Q same p (end.Open part) b a = (shows_along P Q same p (num part.count part.bits) b a.0, owner_along P Q same b part.var a.1, a.2)
+accounts_along P Q same p (end.Refused bit part) b a = (shows_along P Q same p (num part.count part.bits) (take bit b) a.0, refuses_along P Q same b bit part.var a.1, a.2)
 
 -- ---- Where no bit is refused.
 
@@ -43,19 +45,6 @@ open_unrefused L p part b a i x r = r.blocked (viable_front L (i + 1) b a.1.viab
 -- a part of equal values
 pub through : {A B : Type 0} (x y : A) (f : A → B) → x ≡ y → f x ≡ f y
 through x y f e = ap f e
-
--- ---- One bit of a list.
-
-pub bit_at : (xs : List Bool) (at : ℕ) (b : Bool) → at < length xs → (if nat_lt at (length xs) then Some (slice_index_or xs at false) else None) ≡ Some b → take (at + 1) xs ≡ take at xs ++ b ∷ []
-bit_at xs at b lt e =
-    let t = lt-ltb at (length xs) lt in
-    let some : Some (slice_index_or xs at false) ≡ Some b = rw t at e in
-    let is : slice_index_or xs at false ≡ b = cc in
-    (take_at_read xs at false lt).1 ∙ ap (λ (c : Bool). take at xs ++ c ∷ []) is
-
-pub some_of : (o : Option Var) (P : Var → Type 0) → is_some o ≡ true → IfSome o P → (y : Var) × P y
-some_of None P e h = absurd cc
-some_of (Some y) P e h = (y, h)
 
 -- ---- Where a reader is that keeps the variables that it read: s is left, and r was read after none.
 
@@ -81,12 +70,6 @@ module _ {S : Type 0} (left : S → Reading → Type 0) (regular : (s : S) → R
       let (q, c, l, e) = o.viable in
       ((q, l), passed_owner (left start) (regular start) (left s) (λ p. follows start p s × (r ≡ none ++ p)) (λ p h. residual start s p h.0) b part f (q, l) x o)
 
-  -- one bit more
-  pub at_more : (s t : S) (r r' : Reading) (xs part part' : List Bool) (at : ℕ) (b : Bool) → At s r (take at xs) part → take (at + 1) xs ≡ take at xs ++ b ∷ [] → Passed (λ p. follows s p t × (r' ≡ r ++ p)) (part ++ b ∷ []) part' → At t r' (take (at + 1) xs) part'
-  at_more s t r r' xs part part' at b f more g =
-      subst (λ (u : List Bool). At t r' u part') (sym more)
-      (passed_along (λ p. follows start p s × (r ≡ none ++ p)) (λ p. follows s p t × (r' ≡ r ++ p)) (λ p. follows start p t × (r' ≡ none ++ p)) (λ p q h k. (both start s t p q h.0 k.0, k.1 ∙ ap (λ (u : Reading). u ++ q) h.1 ∙ append_assoc none p q)) (take at xs) part part' (b ∷ []) f g)
-
   pub account_whole : (s : S) (r : Reading) (xs part : List Bool) (n : ℕ) → At s r (take n xs) part → n ≤ length xs → part ≡ [] → left s [] → Accounts L r end.Whole xs
   account_whole s r xs part n f le gone l =
       let same_read = read_is s r (take n xs) part f in
@@ -97,38 +80,25 @@ module _ {S : Type 0} (left : S → Reading → Type 0) (regular : (s : S) → R
         ap spelled same_read ∙ sym (append-nil (spelled f.whole)) ∙ ap (λ (u : List Bool). spelled f.whole ++ u) (sym gone) ∙ f.bits,
       )
 
-  pub account_open : (s : S) (r : Reading) (xs part : List Bool) (n : ℕ) → At s r (take n xs) part → length xs ≤ n → (x : Var) → Owner (left s) part x → (count bits : ℕ) → part ≡ num count bits → Accounts L r (end.Open (record { var = x; bits = bits; count = count })) xs
-  account_open s r xs part n f ge x o count bits is =
+  pub account_open : (s : S) (r : Reading) (xs part : List Bool) (n : ℕ) → At s r (take n xs) part → length xs ≤ n → (x : Var) → Owner (left s) part x → length part < width x → (count bits : ℕ) → part ≡ num count bits → Accounts L r (end.Open (record { var = x; bits = bits; count = count })) xs
+  account_open s r xs part n f ge x o short count bits is =
       let g : At s r xs part = subst (λ (u : List Bool). At s r u part) (take_all n xs ge) f in
       let own = owned s r xs part g x o in
-      (shown s r xs part g count bits is own.0, owner_along (left start) L same xs x own.1)
+      (shown s r xs part g count bits is own.0, owner_along (left start) L same xs x own.1, omega (arith, short, ap length is, length-num count bits))
 
-  pub account_refused : (s : S) (r : Reading) (xs part : List Bool) (at n bit : ℕ) (b : Bool) → At s r (take at xs) part → at < length xs → take (at + 1) xs ≡ take at xs ++ b ∷ [] → (y : Var) → Owner (left s) part y → (x : Var) → Refuses (left s) (part ++ b ∷ []) (length part + n) x → bit ≡ at + n → (count bits : ℕ) → part ≡ num count bits → Accounts L r (end.Refused bit (record { var = x; bits = bits; count = count })) xs
-  account_refused s r xs part at n bit b f lt more y o x refuses place count bits is =
-      let own = owned s r (take at xs) part f y o in
-      let first : n ≡ 0 = omega (arith, refuses.within, length-append part (b ∷ [])) in
-      let here : Refuses (left s) (part ++ b ∷ []) (length part + 0) x = subst (λ (k : ℕ). Refuses (left s) (part ++ b ∷ []) (length part + k) x) first refuses in
-      let there = passed_refuses (left start) (regular start) (left s) (λ p. follows start p s × (r ≡ none ++ p)) (λ p h. residual start s p h.0) (take at xs) part f own.0 (b ∷ []) 0 x here in
-      let long : length (take at xs) + 0 ≡ at = omega (arith, length-take-le at xs (omega (arith, lt))) in
-      let front : Refuses (left start) (take (at + 1) xs) at x = subst (λ (u : List Bool). Refuses (left start) u at x) (sym more) (subst (λ (k : ℕ). Refuses (left start) (take at xs ++ b ∷ []) k x) long there) in
-      let refused : Refuses (left start) xs at x = subst (λ (u : List Bool). Refuses (left start) u at x) (take-append-drop (at + 1) xs) (refuses_longer (left start) (take (at + 1) xs) (drop (at + 1) xs) at x front) in
-      let e : at ≡ bit = omega (arith, first, place) in
-      subst (λ (k : ℕ). Accounts L r (end.Refused k (record { var = x; bits = bits; count = count })) xs) e
-      (shown s r (take at xs) part f count bits is own.0, refuses_along (left start) L same xs at x refused)
-
--- what was kept before the last bit
-pub kept_front : (whole : ℕ) (items fields behind inside r q : Reading) → items ≡ take whole fields → fields ≡ behind → whole ≡ length inside → inside ≡ r → behind ≡ r ++ q → items ≡ r
-kept_front whole items fields behind inside r q a b c d e =
-    a ∙ ap (λ (u : Reading). take whole u) (b ∙ e) ∙ take_at r q whole (sym (c ∙ ap (λ (u : Reading). length u) d))
+  pub account_refused : (t : S) (r : Reading) (xs part : List Bool) (n bit : ℕ) (x : Var) → At t r (take n xs) part → Goes (left t) → (k : ℕ) → k ≡ n → Refuses (left start) xs k x → length part < width x → bit ≡ n → (count bits : ℕ) → part ≡ num count bits → Accounts L r (end.Refused bit (record { var = x; bits = bits; count = count })) xs
+  account_refused t r xs part n bit x f goes k k_is refuses short place count bits is =
+      subst (λ (k : ℕ). Accounts L r (end.Refused k (record { var = x; bits = bits; count = count })) xs) (sym place)
+      (shown t r (take n xs) part f count bits is goes, refuses_along (left start) L same xs n x (subst (λ (m : ℕ). Refuses (left start) xs m x) k_is refuses), omega (arith, short, ap length is, length-num count bits))
 
 -- ---- The first bits of bytes.
 
-pub first_bits : (bytes : List ℕ) (k : ℕ) → k ≡ min (length bytes) 1023 → part 0 (k * 8) (bits bytes) ≡ take 8184 (bits bytes)
+pub first_bits : (bytes : List ℕ) (k : ℕ) → k ≡ min (length bytes) 1023 → bits (take k bytes) ≡ take 8184 (bits bytes)
 first_bits bytes k e =
     let long = length-bits bytes in
     elim (cases_lt (length bytes) 1024) [
-      | inl lt ↦ take_all (k * 8) (bits bytes) (omega (arith, e, long, lt)) ∙ sym (take_all 8184 (bits bytes) (omega (arith, long, lt)))
-      | inr ge ↦ let n : k * 8 ≡ 8184 = omega (arith, e, ge) in ap (λ (m : ℕ). take m (bits bytes)) n
+      | inl lt ↦ ap bits (take_all k bytes (omega (arith, e, lt))) ∙ sym (take_all 8184 (bits bytes) (omega (arith, long, lt)))
+      | inr ge ↦ let n : k ≡ 1023 = omega (arith, e, ge) in ap (λ (m : ℕ). bits (take m bytes)) n ∙ bits-take bytes 1023 (omega (arith, ge))
     ]
 
 -- ---- Of the items of a kind.

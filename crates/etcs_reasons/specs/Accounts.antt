@@ -1,6 +1,7 @@
 -- What is said of bits, variable by variable.
-use Rattle.std.specs.Prelude.{◌≡◌, ℕ, ◌≤◌, Bool, List, ◌++◌, length, take}
+use Rattle.std.specs.Prelude.{◌≡◌, ℕ, ◌<◌, ◌≤◌, Bool, List, ◌++◌, length, take}
 use Rattle.etcs_bits.specs.Bits.{num}
+use Rattle.etcs_vars.specs.Vars.{width}
 use Rattle.etcs_vars.specs.Reading.{Reading, spelled, Owner}
 use Rattle.etcs_vars.specs.Walking.{Refuses}
 use Rattle.etcs_reasons.specs.declared.account.End.{End}
@@ -13,8 +14,8 @@ pub record Shows (L : Reading → Type 0) (p : Reading) (part b : List Bool) : T
   pub bits : spelled p ++ part ≡ b
 
 -- the bits b begin with the spelling p; or they end inside one, whose next variable holds the bit after them; or a bit is
--- refused, which the variable holds, and p are the whole variables before it
+-- refused, which the variable holds, and p are the whole variables before it. Of that variable some bits are left
 abbrev pub Accounts : (Reading → Type 0) → Reading → End → List Bool → Type 0
 Accounts L p Whole b = L p × (n : ℕ) × (n ≤ length b) × (spelled p ≡ take n b)
-Accounts L p (Open part) b = Shows L p (num part.count part.bits) b × Owner L b part.var
-Accounts L p (Refused bit part) b = Shows L p (num part.count part.bits) (take bit b) × Refuses L b bit part.var
+Accounts L p (Open part) b = Shows L p (num part.count part.bits) b × Owner L b part.var × (part.count < width part.var)
+Accounts L p (Refused bit part) b = Shows L p (num part.count part.bits) (take bit b) × Refuses L b bit part.var × (part.count < width part.var)

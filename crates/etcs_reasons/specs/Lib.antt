@@ -1,1 +1,4 @@
 pub mod Accounts
+pub mod BitDigits
+pub mod PacketLengths
+pub mod Sentences

@@ -1,18 +1,16 @@
 //! The variables of an item, one after another, up to its end or the first refused bit.
 
-ghost use Rattle.std.specs.Prelude.{◌≡◌, ◌<◌, ◌/◌, ◌^◌, length, take, IfOk};
+ghost use Rattle.std.specs.Prelude.{◌≡◌, ◌<◌, ◌≤◌, ◌/◌, ◌^◌, length, take, IfOk};
 ghost use Rattle.etcs_bits.specs.Bits.{bits};
 ghost use Rattle.etcs_vars.specs.Reading.{readings_of, spelled};
 ghost use Rattle.etcs_reader.specs.Rests.{Goes};
 ghost use Rattle.etcs_text.specs.Entries.{EntryReads};
 ghost use Rattle.etcs_reasons.specs.Accounts.{Accounts};
 
-use etcs_bits::BitSlice;
 use etcs_messages::inner::MessageRest;
 use etcs_radio::{Body, RadioHead};
 use etcs_reader::{Feeder, Stop, Stored};
 use etcs_sequence::ItemRest;
-use etcs_sequence::inner::bits_at;
 use etcs_telegram::Size;
 use etcs_telegram::inner::{TelegramRest, TelegramStore};
 use etcs_text::Kind;
@@ -71,13 +69,6 @@ impl Model for Trace {
 }
 
 impl Trace {
-    /// How many they are.
-    fn len(&self) -> usize
-        ensures { result ≡ length self.now }
-    {
-        self.fields.len()
-    }
-
     /// The variables.
     fn into_fields(self) -> Vec<(Var, u64)>
         ensures { result.items ≡ self }
@@ -106,14 +97,15 @@ impl VarSink for Trace {
     }
 }
 
-/// The account of an item of this size that bytes begin with.
+/// The account of the item of this size that the bytes begin with.
 fn account_of<R: ItemRest>(
     alloc: Global,
     size: R::Size,
-    bits: &BitSlice<'_>,
+    bytes: &[u8],
 ) -> Result<Account, AllocError>
-    requires { Goes (readings_of (R.Reads size)) }
-    ensures { IfOk result (λ a. Accounts (readings_of (R.Reads size)) a.fields.items a.end bits.now) }
+    requires goes { Goes (readings_of (R.Reads size)) }
+    requires short { length bytes.now ≤ 1023 }
+    ensures { IfOk result (λ a. Accounts (readings_of (R.Reads size)) a.fields.items a.end (bits bytes.now)) }
 {
     let mut feeder = Feeder::new(Stored {
         rest: R::begin(alloc, size),
@@ -121,35 +113,15 @@ fn account_of<R: ItemRest>(
             fields: Vec::new(alloc),
         },
     });
-    for at in 0..bits.len() {
-        let Some(bit) = bits.bit(at) else {
-            unreachable!()
-        };
-        if feeder.var().is_none() {
-            let fields = feeder.into_rest().store.into_fields();
-            return Ok(Account {
-                fields,
-                end: End::Whole,
-            });
-        }
-        let whole = feeder.rest().store.len();
-        let (part, count) = feeder.unfinished();
-        match feeder.bit(bit) {
-            Ok(()) => {}
-            Err(Stop::Refused { bit, var }) => {
-                let mut fields = feeder.into_rest().store.into_fields();
-                fields.truncate(whole);
-                let bits = part;
-                let end = End::Refused(bit, Part { var, bits, count });
-                return Ok(Account { fields, end });
-            }
-            Err(Stop::Memory) => return Err(AllocError),
-        }
-    }
+    let fed = feeder.feed(bytes);
     let (bits, count) = feeder.unfinished();
-    let end = match feeder.var() {
-        None => End::Whole,
-        Some(var) => End::Open(Part { var, bits, count }),
+    let end = match fed {
+        Ok(_) => match feeder.var() {
+            None => End::Whole,
+            Some(var) => End::Open(Part { var, bits, count }),
+        },
+        Err(Stop::Refused { bit, var }) => End::Refused(bit, Part { var, bits, count }),
+        Err(Stop::Memory) => return Err(AllocError),
     };
     let fields = feeder.into_rest().store.into_fields();
     Ok(Account { fields, end })
@@ -166,12 +138,12 @@ impl Account {
     pub fn read(alloc: Global, kind: Kind, bytes: &[u8]) -> Result<Account, AllocError>
         ensures { IfOk result (λ a. Accounts (readings_of (EntryReads kind)) a.fields.items a.end (take 8184 (bits bytes.now))) }
     {
-        let bits = bits_at(bytes, 0, bytes.len().min(MOST_BYTES) * 8);
+        let bytes = &bytes[..bytes.len().min(MOST_BYTES)];
         match kind {
-            Kind::Long => account_of::<TelegramRest<TelegramStore>>(alloc, Size::Long, &bits),
-            Kind::Short => account_of::<TelegramRest<TelegramStore>>(alloc, Size::Short, &bits),
-            Kind::Radio => account_of::<MessageRest<RadioHead, Body>>(alloc, (), &bits),
-            Kind::Train => account_of::<MessageRest<TrainHead, TrainBody>>(alloc, (), &bits),
+            Kind::Long => account_of::<TelegramRest<TelegramStore>>(alloc, Size::Long, bytes),
+            Kind::Short => account_of::<TelegramRest<TelegramStore>>(alloc, Size::Short, bytes),
+            Kind::Radio => account_of::<MessageRest<RadioHead, Body>>(alloc, (), bytes),
+            Kind::Train => account_of::<MessageRest<TrainHead, TrainBody>>(alloc, (), bytes),
         }
     }
 

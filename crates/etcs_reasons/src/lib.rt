@@ -2,9 +2,11 @@
 #![tactic(auto)]
 
 mod account;
+mod bits;
 mod front;
 pub mod inner;
 mod kinds;
+mod lengths;
 mod meanings;
 mod names;
 mod no_bytes;

@@ -1,14 +1,17 @@
 //! Why a bit of an item is refused, in a sentence.
 
+ghost use Rattle.etcs_reasons.specs.Sentences.{IsWritten};
+
 use crate::account::Part;
 use crate::front::Front;
 use crate::kinds::way_of;
+use crate::lengths::Lengths;
 use crate::meanings::write_meaning;
 use crate::numbers::{low_byte, write_bits};
 use crate::text::Text;
 use etcs_bits::peek;
 use etcs_rows::inner::message_lengths;
-use etcs_rows::{LengthSet, Place, lengths, reaches};
+use etcs_rows::{Place, reaches, reaches_between};
 use etcs_tables::{MOST_LENGTH, Way, frame_bits, is_framed, row_of};
 use etcs_text::Kind;
 use etcs_vars::Var;
@@ -26,66 +29,90 @@ fn write_ranges(ranges: &[(u64, u64)], out: &mut Text) {
     }
 }
 
+/// Whether a number has at most as many bits as a variable.
+fn fits(var: Var, number: u64) -> bool {
+    number <= u64::MAX >> (64 - var.width())
+}
+
+/// Appends in brackets what a number of the variable stands for, if it stands for something.
+fn write_meant(var: Var, number: u64, out: &mut Text)
+    ensures { IsWritten out.old → IsWritten out.new }
+{
+    let mut meaning = Text::new(out.alloc());
+    write_meaning(var, number, None, &mut meaning);
+    match meaning.whole() {
+        Ok("") => {}
+        Ok(meaning) => {
+            out.push(" (");
+            out.push(meaning);
+            out.push(")");
+        }
+        Err(refused) => out.note(Err(refused)),
+    }
+}
+
 /// Appends which numbers a variable admits, and that this one isn't among them.
-pub fn write_not_admitted(var: Var, number: Option<u64>, out: &mut Text) {
+pub fn write_not_admitted(var: Var, number: Option<u64>, out: &mut Text)
+    ensures { IsWritten out.new }
+{
     write!(out, "{var} admits ");
     write_ranges(var.ranges(), out);
     let Some(number) = number else {
         return out.push(", and none of them begins with these bits");
     };
-    write!(out, ", not {number}");
-    let mut meaning = Text::new(out.alloc());
-    write_meaning(var, number, None, &mut meaning);
-    match meaning.whole() {
-        Ok("") => {}
-        Ok(meaning) => write!(out, " ({meaning})"),
-        Err(refused) => out.note(Err(refused)),
+    out.push(", not ");
+    write!(out, "{number}");
+    if fits(var, number) {
+        write_meant(var, number, out);
     }
 }
 
-/// The least number of a set that isn't below one.
-fn least_from(set: &LengthSet, number: usize) -> Option<usize> {
-    (number..MOST_LENGTH + 1).find(|length| set.holds(*length))
+/// Appends the least length, where there is one, and whether there are more.
+fn write_at_least(lengths: &Lengths, least: Option<usize>, out: &mut Text) {
+    match least {
+        Some(least) if lengths.is_last(least) => write!(out, "{least} bits"),
+        Some(least) => write!(out, "at least {least} bits"),
+        None => out.push("no length"),
+    }
 }
 
-/// Appends the lengths of a set where it has one or two, else those of it that are next to one that it hasn't.
-fn write_nearest(set: &LengthSet, length: usize, out: &mut Text) {
+/// Appends the lengths where there are one or two, else those that are next to one that there isn't.
+fn write_nearest(lengths: &Lengths, length: usize, out: &mut Text) {
     let length = length.min(MOST_LENGTH);
-    let low = (0..length).rev().find(|length| set.holds(*length));
-    let high = least_from(set, length.saturating_add(1));
-    let is_first = low.is_none() || least_from(set, 0) == low;
-    let is_last = match high {
-        Some(high) => least_from(set, high.saturating_add(1)).is_none(),
-        None => true,
+    let low = lengths.last_below(length);
+    let high = lengths.first_from(length.saturating_add(1));
+    let Some(low) = low else {
+        return write_at_least(lengths, high, out);
     };
-    match (low, high) {
-        (Some(low), Some(high)) => {
+    let is_first = !lengths.any(0, low);
+    match high {
+        Some(high) => {
             write!(out, "{low} or {high} bits");
-            if !is_first || !is_last {
+            if !is_first || !lengths.is_last(high) {
                 out.push(", its nearest lengths");
             }
         }
-        (Some(low), None) => {
+        None => {
             out.push(if is_first { "" } else { "at most " });
             write!(out, "{low} bits");
         }
-        (None, Some(high)) => {
-            out.push(if is_last { "" } else { "at least " });
-            write!(out, "{high} bits");
-        }
-        (None, None) => out.push("no length"),
     }
 }
 
 /// Appends what may be left of a message after a packet.
-fn write_between(kind: Kind, out: &mut Text) {
+fn write_between(kind: Kind, out: &mut Text)
+    ensures { IsWritten out.new }
+{
     let least = frame_bits(way_of(kind));
     out.push(": after the last packet there are 0 to 7");
-    write!(out, ", and another has at least {least}");
+    out.push(", and another has at least ");
+    write!(out, "{least}");
 }
 
 /// Appends what may be left after a packet where this much isn't.
-fn write_rest(kind: Kind, rest: usize, out: &mut Text) {
+fn write_rest(kind: Kind, rest: usize, out: &mut Text)
+    ensures { IsWritten out.new }
+{
     out.push("would leave ");
     write_bits(rest, out);
     match kind {
@@ -95,7 +122,9 @@ fn write_rest(kind: Kind, rest: usize, out: &mut Text) {
 }
 
 /// Appends that none of the packets fits whose numbers begin with the bits that are there.
-fn write_no_packet_begins(kind: Kind, room: usize, out: &mut Text) {
+fn write_no_packet_begins(kind: Kind, room: usize, out: &mut Text)
+    ensures { IsWritten out.new }
+{
     out.push("no packet whose number begins with these bits fits into the ");
     write!(out, "{room} bits that are left");
     match kind {
@@ -112,13 +141,24 @@ fn write_least(way: Way, nid: u8, out: &mut Text) -> usize {
         write!(out, "at least {frame} bits");
         return frame;
     };
-    let set = lengths(&Place::start(row)).shift(frame);
-    write_nearest(&set, 0, out);
-    least_from(&set, 0).unwrap_or(frame)
+    let lengths = Lengths::new(Place::start(row), frame);
+    let least = lengths.first_from(frame);
+    write_at_least(&lengths, least, out);
+    least.unwrap_or(frame)
+}
+
+/// Appends how many bits are left, where more are wanted.
+fn write_left(room: usize, out: &mut Text)
+    ensures { IsWritten out.new }
+{
+    write!(out, ", and {room}");
+    out.push(" are left");
 }
 
 /// Appends why a packet of this number doesn't fit.
-fn write_no_packet(front: &Front, number: Option<u64>, out: &mut Text) {
+fn write_no_packet(front: &Front, number: Option<u64>, out: &mut Text)
+    ensures { IsWritten out.new }
+{
     let room = front.end.saturating_sub(front.bit);
     let way = way_of(front.kind);
     let Some(number) = number else {
@@ -127,21 +167,32 @@ fn write_no_packet(front: &Front, number: Option<u64>, out: &mut Text) {
     let nid = low_byte(number);
     if !is_framed(way, nid) {
         if front.kind == Kind::Radio {
-            return write!(out, "a message has no packet {nid}");
+            out.push("a message has no packet ");
+            return write!(out, "{nid}");
         }
         write!(out, "packet {nid} and packet 255 have 22 bits");
-        return write!(out, ", and {room} are left");
+        return write_left(room, out);
     }
     let least = write_least(way, nid, out);
     if least > room {
-        return write!(out, ", and {room} are left");
+        return write_left(room, out);
     }
     out.push(", and that ");
     write_rest(front.kind, room.saturating_sub(least), out);
 }
 
+/// Appends what L_PACKET says.
+fn write_says(length: usize, out: &mut Text)
+    ensures { IsWritten out.new }
+{
+    out.push(", and L_PACKET says ");
+    write!(out, "{length}");
+}
+
 /// Appends why a packet hasn't this length here.
-fn write_no_length(front: &Front, number: Option<u64>, out: &mut Text) {
+fn write_no_length(front: &Front, number: Option<u64>, out: &mut Text)
+    ensures { IsWritten out.new }
+{
     let packet = front.packet;
     let Some(length) = number else {
         write!(out, "no length of packet {packet}");
@@ -151,18 +202,20 @@ fn write_no_length(front: &Front, number: Option<u64>, out: &mut Text) {
     let way = way_of(front.kind);
     let frame = frame_bits(way);
     if let Some(row) = row_of(way, packet) {
-        let set = lengths(&Place::start(row)).shift(frame);
-        if !set.holds(length) {
+        let lengths = Lengths::new(Place::start(row), frame);
+        if !lengths.holds(length) {
             write!(out, "packet {packet} has ");
-            write_nearest(&set, length, out);
-            return write!(out, ", not {length}");
+            write_nearest(&lengths, length, out);
+            out.push(", not ");
+            return write!(out, "{length}");
         }
     } else if length < frame {
         write!(out, "a packet has at least {frame} bits");
-        return write!(out, ", and L_PACKET says {length}");
+        return write_says(length, out);
     }
     let room = front.end.saturating_sub(front.start);
-    write!(out, "L_PACKET {length} ");
+    out.push("L_PACKET ");
+    write!(out, "{length} ");
     if length > room {
         return write!(out, "is more than the {room} bits that are left");
     }
@@ -170,7 +223,9 @@ fn write_no_length(front: &Front, number: Option<u64>, out: &mut Text) {
 }
 
 /// Appends why the message hasn't this length.
-fn write_no_message(front: &Front, number: Option<u64>, out: &mut Text) {
+fn write_no_message(front: &Front, number: Option<u64>, out: &mut Text)
+    ensures { IsWritten out.new }
+{
     write!(out, "message {} has ", front.message);
     write_ranges(message_lengths(way_of(front.kind), front.message), out);
     out.push(" bytes");
@@ -186,44 +241,78 @@ fn bits_with(front: &Front, var: Var) -> usize {
 }
 
 /// Appends why a packet of its length can't have this number, which the variable admits.
-fn write_no_fit(front: &Front, var: Var, number: u64, out: &mut Text) {
+fn write_no_fit(front: &Front, var: Var, number: u64, out: &mut Text)
+    ensures { IsWritten out.new }
+{
     let Some(place) = &front.place else {
-        return write!(out, "{var} {number} doesn't fit");
+        return out.push("this number doesn't fit");
     };
     write!(out, "with {var} {number} the packet has ");
     match place.after(number) {
         Some(next) => {
-            let before = bits_with(front, var).min(MOST_LENGTH);
-            let set = lengths(&next).shift(before);
-            write_nearest(&set, front.length, out);
+            let lengths = Lengths::new(next, bits_with(front, var));
+            write_nearest(&lengths, front.length, out);
         }
         None => out.push("no length"),
     }
-    write!(out, ", and L_PACKET says {}", front.length);
+    write_says(front.length, out);
     write_fitting(front, place, var, out);
 }
 
 /// Appends that a packet of its length can't have any of the admitted numbers that begin with the bits that are there.
-fn write_none_fit(front: &Front, var: Var, out: &mut Text) {
-    write!(out, "no {var} that begins with these bits fits");
+fn write_none_fit(front: &Front, var: Var, out: &mut Text)
+    ensures { IsWritten out.new }
+{
+    write!(out, "no {var}");
+    out.push(" that begins with these bits fits");
     if let Some(place) = &front.place {
         write!(out, ": L_PACKET says {}", front.length);
         write_fitting(front, place, var, out);
     }
 }
 
+/// Whether a number of the variable says how many entries or characters follow.
+fn is_count(var: Var) -> bool {
+    matches!(var, Var::N_ITER | Var::L_TEXT)
+}
+
+/// Appends a number that fits in place of one that doesn't, after this many others.
+fn write_fit(var: Var, number: u64, count: usize, out: &mut Text)
+    requires { IsWritten out.old }
+    ensures { IsWritten out.new }
+{
+    match count {
+        0 => {
+            out.push(", as with ");
+            out.push(var.name());
+            write!(out, " {number}");
+        }
+        1..=3 => write!(out, " or {number}"),
+        4 => out.push(" .."),
+        _ => {}
+    }
+}
+
 /// Appends which numbers of a variable fit in place of one that doesn't, at most four of them.
-fn write_fitting(front: &Front, place: &Place, var: Var, out: &mut Text) {
+fn write_fitting(front: &Front, place: &Place, var: Var, out: &mut Text)
+    requires { IsWritten out.old }
+    ensures { IsWritten out.new }
+{
     let left = front.length.saturating_sub(bits_with(front, var));
-    let fits = |number: &u64| match place.after(*number) {
-        Some(next) => reaches(&next, left),
-        None => false,
-    };
-    for (count, number) in (0..256u64).filter(fits).take(5).enumerate() {
-        match count {
-            0 => write!(out, ", as with {var} {number}"),
-            1..=3 => write!(out, " or {number}"),
-            _ => out.push(" .."),
+    let mut count = 0usize;
+    for number in 0..1u64 << var.width().min(8) {
+        let Some(next) = place.after(number) else {
+            continue;
+        };
+        if reaches(&next, left) {
+            write_fit(var, number, count, out);
+            count = count.saturating_add(1);
+        } else if is_count(var) && !reaches_between(&next, 0, left) {
+            // more of them are longer
+            return;
+        }
+        if count > 4 {
+            return;
         }
     }
 }
@@ -241,7 +330,9 @@ fn is_begun(bytes: &[u8], start: usize, var: Var, count: usize) -> bool {
 
 /// Appends why a bit of the variable is refused after the variables in front, of which these bits come before it. No capital
 /// and no full stop.
-pub(crate) fn write_reason(front: &Front, bytes: &[u8], part: Part, out: &mut Text) {
+pub(crate) fn write_reason(front: &Front, bytes: &[u8], part: Part, out: &mut Text)
+    ensures { IsWritten out.new }
+{
     let number = peek(bytes, front.bit, part.var.width());
     let seen = part.count.saturating_add(1);
     match (part.var, number) {

@@ -1,11 +1,14 @@
 //! Why bytes are no item.
 
-ghost use Rattle.std.specs.Prelude.{ℕ, take, IfOk, IfSome, IsNone};
+ghost use Rattle.std.specs.Prelude.{◌≡◌, ◌<◌, ℕ, length, string_bytes, take, IfOk, IfSome, IsNone};
 ghost use Rattle.etcs_bits.specs.Bits.{bits};
 ghost use Rattle.etcs_vars.specs.declared.var.Var.{Var};
 ghost use Rattle.etcs_vars.specs.Reading.{readings_of};
 ghost use Rattle.etcs_vars.specs.Walking.{Refuses};
 ghost use Rattle.etcs_text.specs.Entries.{EntryReads};
+ghost use Rattle.etcs_reasons.specs.declared.account.End.{End};
+ghost use Rattle.etcs_reasons.specs.declared.account.Part.{Part};
+ghost use Rattle.etcs_reasons.specs.Sentences.{IsWritten};
 
 use crate::account::{Account, End};
 use crate::front::Front;
@@ -14,7 +17,7 @@ use crate::numbers::is_or_are;
 use crate::reasons::{often, write_reason};
 use crate::text::Text;
 use etcs_tables::{Way, message_row};
-use etcs_text::Kind;
+use etcs_text::{Kind, SingleReader, Verdict};
 use etcs_vars::Var;
 use std::alloc::{AllocError, Global};
 
@@ -40,6 +43,20 @@ static ADVICE: [(Kind, &str); 4] = [
     (Kind::Train, "these bytes are a message to the track: --kind train"),
 ];
 
+/// Whether bytes are an item of a kind, and nothing else.
+///
+/// # Errors
+///
+/// Where memory is refused.
+pub fn is_item(alloc: Global, kind: Kind, bytes: &[u8]) -> Result<bool, AllocError> {
+    // no item of the kind has another number of bytes
+    if wanted_bytes(kind, bytes) != Some(bytes.len()) {
+        return Ok(false);
+    }
+    let verdict = SingleReader::new(alloc, kind).read(bytes)?;
+    Ok(matches!(verdict, Verdict::Item(_)))
+}
+
 /// Whether the bytes are an item of a kind, and may be meant so: not as a message that is kept whole, which any bytes may be.
 fn is_meant(alloc: Global, kind: Kind, bytes: &[u8]) -> Result<bool, AllocError> {
     if let (Kind::Radio | Kind::Train, Some(number)) = (kind, bytes.first()) {
@@ -47,8 +64,7 @@ fn is_meant(alloc: Global, kind: Kind, bytes: &[u8]) -> Result<bool, AllocError>
             return Ok(false);
         }
     }
-    let account = Account::read(alloc, kind, bytes)?;
-    Ok(account.end == End::Whole && account.bytes() == bytes.len())
+    is_item(alloc, kind, bytes)
 }
 
 /// What to do where the bytes are an item of a kind that is another than this one.
@@ -71,6 +87,34 @@ fn other_way(kind: Kind, bytes: &[u8]) -> Option<&'static str> {
     }
 }
 
+/// Appends how many of an item's bytes are here.
+fn write_open(kind: Kind, bytes: &[u8], out: &mut Text) {
+    let count = bytes.len();
+    match wanted_bytes(kind, bytes) {
+        Some(wanted) => write!(out, "{count} of {wanted} bytes"),
+        None => write!(out, "{count} of at least 3 bytes"),
+    }
+    write!(out, " {} here", is_or_are(count));
+}
+
+/// Appends why the bytes of an account are no item of the kind, and answers what this most often comes of in such a kind.
+fn write_end(kind: Kind, bytes: &[u8], account: &Account, out: &mut Text) -> Option<&'static str>
+    ensures { (bit : ℕ) (part : Part) → account.now.end ≡ End.Refused bit part → IsWritten out.new }
+{
+    match account.end {
+        End::Whole => other_way(kind, bytes),
+        End::Open(_) => {
+            write_open(kind, bytes, out);
+            None
+        }
+        End::Refused(_, part) => {
+            let front = Front::new(kind, account.fields.as_slice());
+            write_reason(&front, bytes, part, out);
+            often(kind, bytes, part.var)
+        }
+    }
+}
+
 /// Appends why the bytes of an account are no item, and answers what this most often comes of. Of an item nothing is
 /// appended, and the answer is what it most often is where it is kept as bits.
 ///
@@ -82,35 +126,25 @@ pub fn write_cause(
     bytes: &[u8],
     account: &Account,
     out: &mut Text,
-) -> Result<Option<&'static str>, AllocError> {
-    let usual = match account.end {
-        End::Whole => return Ok(other_way(kind, bytes)),
-        End::Open(_) => {
-            let count = bytes.len();
-            match wanted_bytes(kind, bytes) {
-                Some(wanted) => write!(out, "{count} of {wanted} bytes"),
-                None => write!(out, "{count} of at least 3 bytes"),
-            }
-            write!(out, " {} here", is_or_are(count));
-            None
-        }
-        End::Refused(_, part) => {
-            let front = Front::new(kind, account.fields.as_slice());
-            write_reason(&front, bytes, part, out);
-            often(kind, bytes, part.var)
-        }
-    };
+) -> Result<Option<&'static str>, AllocError>
+    ensures { (bit : ℕ) (part : Part) → account.now.end ≡ End.Refused bit part → IsWritten out.new }
+{
+    let usual = write_end(kind, bytes, account, out);
+    if account.end == End::Whole {
+        return Ok(usual);
+    }
     Ok(advice(out.alloc(), kind, bytes)?.or(usual))
 }
 
 /// Why the first of the bytes, at most 1,023, begin no item of the kind: the bit that the kind's reader refuses, its
-/// variable, and the reason in a sentence. `None` where no bit is refused: they begin with an item, or end inside one.
+/// variable, and the reason in a sentence, which isn't empty. `None` where no bit is refused: they begin with an item, or end
+/// inside one.
 ///
 /// # Errors
 ///
 /// Where memory is refused.
 pub fn why(alloc: Global, kind: Kind, bytes: &[u8]) -> Result<Option<Reason>, AllocError>
-    ensures some { IfOk result (λ o. IfSome o (λ r. Refuses (readings_of (EntryReads kind)) (take 8184 (bits bytes.now)) r.bit r.var)) }
+    ensures some { IfOk result (λ o. IfSome o (λ r. Refuses (readings_of (EntryReads kind)) (take 8184 (bits bytes.now)) r.bit r.var × (0 < length (string_bytes r.sentence)))) }
     ensures none { IfOk result (λ o. IsNone o → (i : ℕ) (x : Var) → Refuses (readings_of (EntryReads kind)) (take 8184 (bits bytes.now)) i x → ⊥) }
 {
     let account = Account::read(alloc, kind, bytes)?;

@@ -45,6 +45,21 @@ fn header_of(way: Way, first: Option<Var>) -> &'static str {
     }
 }
 
+/// Whether one of the guarded groups that come next is entered after a number.
+fn enters(items: &[RowItem], number: u64) -> bool {
+    let mut left = items;
+    for _ in 0..items.len() {
+        let Some((RowItem::When(guard, count), rest)) = left.split_first() else {
+            return false;
+        };
+        if guard.test.passes(number) {
+            return true;
+        }
+        left = rest.get(*count..).unwrap_or(&[]);
+    }
+    false
+}
+
 /// Writes the lines of all variables of an account.
 pub fn write_table(way: Way, bytes: &[u8], account: &Account, sheet: &mut Sheet) {
     sheet.clear();
@@ -87,7 +102,7 @@ impl<'a> Table<'a> {
                 None => return,
                 Some((Var::NID_PACKET, number)) => self.packet(number),
                 Some((var, _)) if is_kept(var) => self.run(var),
-                Some(_) => self.line(0, None),
+                Some(_) => self.line(0, &[]),
             }
         }
     }
@@ -100,8 +115,8 @@ impl<'a> Table<'a> {
         (first, self.bit.saturating_sub(1))
     }
 
-    /// Writes the line of the next variable, after which this item of its row comes.
-    fn line(&mut self, depth: usize, behind: Option<&RowItem>) {
+    /// Writes the line of the next variable, after which these items of its row come.
+    fn line(&mut self, depth: usize, behind: &[RowItem]) {
         let Some((var, number)) = self.field() else {
             return;
         };
@@ -140,10 +155,10 @@ impl<'a> Table<'a> {
     }
 
     /// Appends what a number means for what follows it.
-    fn write_effect(&mut self, var: Var, number: u64, behind: Option<&RowItem>) {
+    fn write_effect(&mut self, var: Var, number: u64, behind: &[RowItem]) {
         let next = self.next();
         let out = &mut self.sheet.meaning;
-        match (var, behind) {
+        match (var, behind.first()) {
             (Var::L_PACKET, _) => write_end("packet", self.start, number, out),
             (Var::L_MESSAGE, _) => write_end("message", 0, number.saturating_mul(8), out),
             (Var::NID_MESSAGE, _) => out.push(message_name(number).unwrap_or("")),
@@ -153,7 +168,7 @@ impl<'a> Table<'a> {
                 1 => out.push("1 entry follows"),
                 _ => write!(out, "{number} entries follow"),
             },
-            (_, Some(RowItem::When(guard, _))) if guard.test.passes(number) => {
+            (_, Some(RowItem::When(_, _))) if enters(behind, number) => {
                 if let Some(next) = next {
                     let comma = if out.as_str().is_empty() { "" } else { ", " };
                     write!(out, "{comma}{next} is next");
@@ -179,10 +194,10 @@ impl<'a> Table<'a> {
         }
         self.write_extent();
         self.sheet.open_part();
-        self.line(0, None);
+        self.line(0, &[]);
         for _ in 0..2 {
             if let Some((Var::Q_DIR | Var::L_PACKET | Var::NID_VBCMK, _)) = self.field() {
-                self.line(0, None);
+                self.line(0, &[]);
             }
         }
         if let Some(row) = row_of(self.way, low_byte(number)) {
@@ -216,7 +231,7 @@ impl<'a> Table<'a> {
         match item {
             RowItem::One(_) => {
                 if let Some((_, number)) = self.field() {
-                    self.line(depth, rest.first());
+                    self.line(depth, rest);
                     self.row(rest, number, depth);
                 }
             }

@@ -1,5 +1,8 @@
 //! A text that is put together by calls that don't fail.
 
+ghost use Rattle.std.specs.Prelude.{◌≡◌, ℕ, ◌<◌, ◌||◌, is_err, length, string_bytes, IfOk, IsSome};
+ghost use Rattle.etcs_reasons.specs.Sentences.{IsWritten};
+
 use std::alloc::{AllocError, Global};
 use std::fmt::Display;
 
@@ -20,18 +23,34 @@ impl Text {
     }
 
     /// Notes whether a part was written.
-    pub fn note(&mut self, written: Result<(), AllocError>) {
+    pub fn note(&mut self, written: Result<(), AllocError>)
+        ensures held { self.new.held ≡ self.old.held }
+        ensures starved { self.new.is_starved ≡ (self.old.is_starved || is_err written) }
+    {
         self.is_starved |= written.is_err();
     }
 
     /// Appends a part.
-    pub fn push(&mut self, part: &str) {
+    pub fn push(&mut self, part: &str)
+        ensures some { 0 < length part.now → IsWritten self.new }
+        ensures kept { IsWritten self.old → IsWritten self.new }
+    {
         let written = self.held.push_str(part);
         self.note(written);
     }
 
+    /// Appends all of another text.
+    pub fn push_whole(&mut self, part: &Text)
+        ensures { IsWritten self.old → IsWritten self.new }
+    {
+        self.push(part.as_str());
+        self.is_starved |= part.is_starved;
+    }
+
     /// Appends what `write!` has.
-    pub fn write_fmt<D: Display + Drop>(&mut self, part: D) {
+    pub fn write_fmt<D: Display + Drop>(&mut self, part: D)
+        ensures { IsSome (D.output part) → IsWritten self.old → IsWritten self.new }
+    {
         let written = self.held.write_fmt(part);
         self.note(written);
     }
@@ -69,8 +88,12 @@ impl Text {
     /// # Errors
     ///
     /// Where memory was refused for a part of it.
-    pub fn into_string(self) -> Result<String, AllocError> {
-        self.whole()?;
+    pub fn into_string(self) -> Result<String, AllocError>
+        ensures { IsWritten self → IfOk result (λ s. 0 < length (string_bytes s)) }
+    {
+        if self.is_starved {
+            return Err(AllocError);
+        }
         let Text { held, .. } = self;
         Ok(held)
     }

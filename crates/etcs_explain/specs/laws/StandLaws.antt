@@ -2,6 +2,7 @@
 use Rattle.std.proofs.Common.{◌≡◌, ℕ, ◌+◌, ◌<◌, ◌⊎◌, List, [], ◌∷◌, ◌++◌, map, length, refl, sym, ap, subst, ◌∙◌, inl, inr, append_assoc}
 use Rattle.std.proofs.lemmas.List.{append-nil, map-append}
 use Rattle.std.proofs.lemmas.List.Elements.{All-append, All-cons, All-nil}
+use Rattle.etcs_text.specs.declared.entry.Kind.{Kind}
 use Rattle.etcs_runs.specs.Lines.{IsLine, lines_text, strip_cr}
 use Rattle.etcs_runs.specs.Promises.{Sound}
 use Rattle.etcs_runs.specs.declared.form.Form.{Form}
@@ -14,8 +15,8 @@ use Rattle.etcs_explain.specs.Stands.{BytesStand, LinesTook}
 
 -- ---- What is there of an input begins it.
 
-more_of : (form : Form) (given more : List ℕ) (tokens : List Token) (long : List ℕ) → (h : Lines form given tokens long) → IsSure h.part → (k : Lines form (given ++ more) tokens long) × ((k.rest ≡ []) ⊎ IsSure k.part)
-more_of form given more tokens long h s = (
+more_of : (kind : Kind) (form : Form) (given more : List ℕ) (tokens : List Token) (long : List ℕ) → (h : Lines kind form given tokens long) → IsSure h.part → (k : Lines kind form (given ++ more) tokens long) × ((k.rest ≡ []) ⊎ IsSure k.part)
+more_of kind form given more tokens long h s = (
   record {
     lines = h.lines;
     part = h.part;
@@ -29,24 +30,24 @@ more_of form given more tokens long h s = (
 )
 
 -- and perhaps with further ones of what comes after it
-abbrev BeginsMore : Form → List ℕ → List Token → List ℕ → Type 0
-BeginsMore form given tokens long = (rest : List Token) × Begins form given (tokens ++ rest) long
+abbrev BeginsMore : Kind → Form → List ℕ → List Token → List ℕ → Type 0
+BeginsMore kind form given tokens long = (rest : List Token) × Begins kind form given (tokens ++ rest) long
 
-no_more : (form : Form) (given : List ℕ) (tokens : List Token) (long : List ℕ) → Begins form given tokens long → BeginsMore form given tokens long
-no_more form given tokens long h = ([], subst (λ (z : List Token). Begins form given z long) (sym (append-nil tokens)) h)
+no_more : (kind : Kind) (form : Form) (given : List ℕ) (tokens : List Token) (long : List ℕ) → Begins kind form given tokens long → BeginsMore kind form given tokens long
+no_more kind form given tokens long h = ([], subst (λ (z : List Token). Begins kind form given z long) (sym (append-nil tokens)) h)
 
-begins_more : (form : Form) (given more : List ℕ) (tokens : List Token) (long : List ℕ) → SoFar form given tokens long → BeginsMore form (given ++ more) tokens long
-begins_more Bin given more tokens long h = (map (of_byte 0) more, (ap (λ (z : List Token). z ++ map (of_byte 0) more) h.0 ∙ sym (map-append (of_byte 0) given more), h.1))
-begins_more Hex given more tokens long h = no_more Hex (given ++ more) tokens long (more_of Hex given more tokens long h.0 h.1)
-begins_more Json given more tokens long h = no_more Json (given ++ more) tokens long (more_of Json given more tokens long h.0 h.1)
+begins_more : (kind : Kind) (form : Form) (given more : List ℕ) (tokens : List Token) (long : List ℕ) → SoFar kind form given tokens long → BeginsMore kind form (given ++ more) tokens long
+begins_more kind Bin given more tokens long h = (map (of_byte 0) more, (ap (λ (z : List Token). z ++ map (of_byte 0) more) h.0 ∙ sym (map-append (of_byte 0) given more), h.1))
+begins_more kind Hex given more tokens long h = no_more kind Hex (given ++ more) tokens long (more_of kind Hex given more tokens long h.0 h.1)
+begins_more kind Json given more tokens long h = no_more kind Json (given ++ more) tokens long (more_of kind Json given more tokens long h.0 h.1)
 
 -- ---- Promises.
 
 tells_more : (page : List ℕ) (task : Task) (given more told : List ℕ) → Tells page task given told → TellsFirst page task (given ++ more) told
 tells_more page task given more told (tokens, lines, held, long, seen, so_far, short, is) =
-    let b = begins_more task.from given more (tokens ++ placed lines held) long so_far in
-    let begins = subst (λ (z : List Token). Begins task.from (given ++ more) z long) (append_assoc tokens (placed lines held) b.0) b.1 in
-    (tokens, placed lines held ++ b.0, long, [], seen, subst (λ (z : List ℕ). Begins task.from (given ++ more) (tokens ++ (placed lines held ++ b.0)) z) (sym (append-nil long)) begins, is)
+    let b = begins_more task.kind task.from given more (tokens ++ placed lines held) long so_far in
+    let begins = subst (λ (z : List Token). Begins task.kind task.from (given ++ more) z long) (append_assoc tokens (placed lines held) b.0) b.1 in
+    (tokens, placed lines held ++ b.0, long, [], seen, subst (λ (z : List ℕ). Begins task.kind task.from (given ++ more) (tokens ++ (placed lines held ++ b.0)) z) (sym (append-nil long)) begins, is)
 
 tells_first : (page : List ℕ) (task : Task) (given told : List ℕ) → Tells page task given told → TellsFirst page task given told
 tells_first page task given told h =
@@ -64,22 +65,22 @@ explanations_sound page foot task = record {
 
 pub bytes_tell : (page : List ℕ) (task : Task) (lines held : List ℕ) (seen : Seen) (given told : List ℕ) → BytesStand page task lines held seen given told → Tells page task given told
 bytes_tell page task lines held seen given told h =
-    (h.took.tokens, lines, held, [], seen, subst (λ (f : Form). SoFar f given (h.took.tokens ++ placed lines held) []) (sym h.form) (sym h.took.all_are, refl), h.short, h.took.explained)
+    (h.took.tokens, lines, held, [], seen, subst (λ (f : Form). SoFar task.kind f given (h.took.tokens ++ placed lines held) []) (sym h.form) (sym h.took.all_are, refl), h.short, h.took.explained)
 
-so_far_of : (form : Form) (given : List ℕ) (tokens : List Token) (long : List ℕ) → (form ≡ Bin → ⊥) → ((h : Lines form given tokens long) × IsSure h.part × IsLine h.rest) → SoFar form given tokens long
-so_far_of Bin given tokens long other h = absurd (other refl)
-so_far_of Hex given tokens long other h = h
-so_far_of Json given tokens long other h = h
+so_far_of : (kind : Kind) (form : Form) (given : List ℕ) (tokens : List Token) (long : List ℕ) → (form ≡ Bin → ⊥) → ((h : Lines kind form given tokens long) × IsSure h.part × IsLine h.rest) → SoFar kind form given tokens long
+so_far_of kind Bin given tokens long other h = absurd (other refl)
+so_far_of kind Hex given tokens long other h = h
+so_far_of kind Json given tokens long other h = h
 
 -- an empty line has nothing
-none_of : (form : Form) (n : ℕ) → line_tokens form n (strip_cr []) ≡ []
-none_of Bin n = refl
-none_of Hex n = refl
-none_of Json n = refl
+none_of : (kind : Kind) (form : Form) (n : ℕ) → line_tokens kind form n (strip_cr []) ≡ []
+none_of kind Bin n = refl
+none_of kind Hex n = refl
+none_of kind Json n = refl
 
-pub tokens_none : (form : Form) (n : ℕ) (lines : List (List ℕ)) → lines_tokens form n lines ≡ lines_tokens form n (lines ++ [] ∷ [])
-tokens_none form n [] = sym (append-nil (line_tokens form (n + 1) (strip_cr [])) ∙ none_of form (n + 1))
-tokens_none form n (l ∷ lines) = ap (λ (z : List Token). line_tokens form (n + 1) (strip_cr l) ++ z) (tokens_none form (n + 1) lines)
+pub tokens_none : (kind : Kind) (form : Form) (n : ℕ) (lines : List (List ℕ)) → lines_tokens kind form n lines ≡ lines_tokens kind form n (lines ++ [] ∷ [])
+tokens_none kind form n [] = sym (append-nil (line_tokens kind form (n + 1) (strip_cr [])) ∙ none_of kind form (n + 1))
+tokens_none kind form n (l ∷ lines) = ap (λ (z : List Token). line_tokens kind form (n + 1) (strip_cr l) ++ z) (tokens_none kind form (n + 1) lines)
 
 pub long_none : (n : ℕ) (lines : List (List ℕ)) → lines_long n lines ≡ lines_long n (lines ++ [] ∷ [])
 long_none n [] = refl
@@ -93,14 +94,14 @@ lines_tell page task held_lines held seen n lines part told h l =
       held,
       lines_long 0 lines,
       seen,
-      so_far_of task.from (lines_text lines ++ part) _ _ h.form (
+      so_far_of task.kind task.from (lines_text lines ++ part) _ _ h.form (
         record {
           lines = lines;
           part = [];
           rest = part;
           given_is = refl;
           are_lines = All-append IsLine lines ([] ∷ []) h.are_lines (All-cons IsLine [] [] none (All-nil IsLine));
-          tokens_are = sym h.took.all_are ∙ tokens_none task.from 0 lines;
+          tokens_are = sym h.took.all_are ∙ tokens_none task.kind task.from 0 lines;
           long_is = long_none 0 lines;
         },
         inl refl,
@@ -117,7 +118,7 @@ long_tell page task held_lines held seen n lines part told h l m = (
   held,
   lines_long 0 (lines ++ part ∷ []),
   seen,
-  so_far_of task.from (lines_text lines ++ part) _ _ h.form (
+  so_far_of task.kind task.from (lines_text lines ++ part) _ _ h.form (
     record {
       lines = lines;
       part = part;

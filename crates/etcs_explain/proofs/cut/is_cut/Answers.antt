@@ -1,4 +1,4 @@
-use Rattle.std.proofs.Common.{◌≡◌, ◌++◌, ◌∙◌, ℕ, List, ap, subst}
+use Rattle.std.proofs.Common.{◌++◌, ◌∙◌, ℕ, List, ap, subst}
 use Rattle.etcs_explain.specs.Cuts.{AreRefused}
 use Rattle.etcs_explain.proofs.Cutting.{refused, unrefused}
 use Rattle.etcs_explain.proofs.cut.is_cut.Goals as goal

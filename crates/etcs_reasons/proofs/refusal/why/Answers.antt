@@ -15,4 +15,6 @@ returns-in-Open-clause-none c = λ e i x r.
     open_unrefused (readings_of (EntryReads c.args.kind)) c.in_ok-account.account.fields.items c.in-Open.field-0 (take 8184 (bits c.args.bytes.now)) (rw c.in-Open.is at c.in_ok-account.ensures) i x r
 
 pub returns-clause-some : goal.returns-clause-some
-returns-clause-some c = let a = rw c.in-Refused.is at c.in_ok-account.ensures in a.1
+returns-clause-some c =
+    let a = rw c.in-Refused.is at c.in_ok-account.ensures in
+    (a.1, c.in_ok-into_string.ensures (c.write_cause.ensures c.in-Refused.bit c.in-Refused.part c.in-Refused.is))

@@ -10,4 +10,4 @@ returns-in_err-resize-clause-err c all long told h =
     let p = err_from_is_err_and c.from_residual.result c.from_residual.ensures.1 in
     let s = c.args.self.now in
     let text = told ++ c.args.text.now.items in
-    rw p.1 (some_tokens HEAD.now s.explainer.task all (hex_tokens s.line c.args.line.now) long text (some_of HEAD.now s.explainer.task s.lines.items s.held.items s.explainer.seen all long text h))
+    rw p.1 (some_tokens HEAD.now s.explainer.task all (hex_tokens s.explainer.task.kind s.line c.args.line.now) long text (some_of HEAD.now s.explainer.task s.lines.items s.held.items s.explainer.seen all long text h))

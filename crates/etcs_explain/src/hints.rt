@@ -1,0 +1,40 @@
+//! What a refused line most often is.
+
+use crate::task::Task;
+use etcs_reasons::End;
+use etcs_reasons::inner::{MOST_BYTES, is_item, wanted_bytes};
+use etcs_runs::Form;
+use etcs_text::Kind;
+use std::alloc::{AllocError, Global};
+
+/// What bytes of a line most often are that are refused as a telegram and whose last ones are one.
+///
+/// # Errors
+///
+/// Where memory is refused.
+pub(crate) fn last_telegram(
+    alloc: Global,
+    task: Task,
+    bytes: &[u8],
+    end: End,
+) -> Result<Option<&'static str>, AllocError> {
+    let hint = match task.kind {
+        Kind::Long => "the last 104 bytes are a long telegram: log reads such a line",
+        Kind::Short => "the last 27 bytes are a short telegram: log reads such a line",
+        Kind::Radio | Kind::Train => return Ok(None),
+    };
+    // where there are as many as are shown, the last ones may be missing
+    if task.from != Form::Hex || !matches!(end, End::Refused(_, _)) || bytes.len() >= MOST_BYTES {
+        return Ok(None);
+    }
+    let count = wanted_bytes(task.kind, bytes).unwrap_or(0);
+    let last = match bytes.len().checked_sub(count) {
+        Some(front) if front > 0 => bytes.get(front..).unwrap_or(bytes),
+        _ => return Ok(None),
+    };
+    Ok(if is_item(alloc, task.kind, last)? {
+        Some(hint)
+    } else {
+        None
+    })
+}

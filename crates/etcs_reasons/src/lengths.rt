@@ -1,0 +1,106 @@
+//! The lengths that a packet may have, of which the nearest are found by halving.
+
+ghost use Rattle.std.specs.Prelude.{◌≡◌, ◌↔◌, ℕ, ◌<◌, ◌≤◌, IsTrue, Some};
+ghost use Rattle.etcs_reasons.specs.PacketLengths.{AnyIn, HasLength, IsFirst, IsLast};
+
+use etcs_rows::{Place, reaches_between};
+use etcs_tables::MOST_LENGTH;
+
+/// The lengths in bits that a packet may have.
+#[derive(Drop)]
+pub(crate) struct Lengths {
+    /// A place in its row, where the rest of it is any of those that are left.
+    place: Place,
+    /// How many bits it has before that place.
+    before: usize,
+}
+
+impl Lengths {
+    /// Those of a packet with this many bits before a place in its row.
+    pub(crate) fn new(place: Place, before: usize) -> Lengths
+        ensures place { result.place ≡ place }
+        ensures before { result.before ≡ before }
+    {
+        Lengths { place, before }
+    }
+
+    /// Whether there is one from `low` to below `end`.
+    pub(crate) fn any(&self, low: usize, end: usize) -> bool
+        ensures { IsTrue result ↔ AnyIn self.now.place self.now.before low end }
+    {
+        let end = end.min(MOST_LENGTH + 1);
+        if end <= self.before {
+            return false;
+        }
+        let low = low.saturating_sub(self.before);
+        reaches_between(&self.place, low, end - self.before - 1)
+    }
+
+    /// Whether this is one.
+    pub(crate) fn holds(&self, length: usize) -> bool
+        ensures { IsTrue result ↔ HasLength self.now.place self.now.before length }
+    {
+        length <= MOST_LENGTH && self.any(length, length + 1)
+    }
+
+    /// Whether none is above this.
+    pub(crate) fn is_last(&self, length: usize) -> bool
+        ensures { IsTrue result ↔ ((m : ℕ) → HasLength self.now.place self.now.before m → m ≤ length) }
+    {
+        !self.any(length.saturating_add(1), MOST_LENGTH + 1)
+    }
+
+    /// The greatest one from `low` to below `end`, where there is one.
+    fn last_in(&self, low: usize, end: usize) -> usize
+        requires some { AnyIn self.now.place self.now.before low end }
+        requires order { low < end }
+        ensures { IsLast (λ m. HasLength self.now.place self.now.before m × (m < end)) (Some result) }
+    {
+        let middle = low + (end - low) / 2;
+        if middle == low {
+            return low;
+        }
+        if self.any(middle, end) {
+            return self.last_in(middle, end);
+        }
+        self.last_in(low, middle)
+    }
+
+    /// The least one from `low` to below `end`, where there is one.
+    fn first_in(&self, low: usize, end: usize) -> usize
+        requires some { AnyIn self.now.place self.now.before low end }
+        requires order { low < end }
+        ensures { IsFirst (λ m. HasLength self.now.place self.now.before m × (low ≤ m)) (Some result) }
+    {
+        let middle = low + (end - low) / 2;
+        if middle == low {
+            return low;
+        }
+        if self.any(low, middle) {
+            return self.first_in(low, middle);
+        }
+        self.first_in(middle, end)
+    }
+
+    /// The greatest one below a number.
+    pub(crate) fn last_below(&self, number: usize) -> Option<usize>
+        ensures { IsLast (λ m. HasLength self.now.place self.now.before m × (m < number)) result }
+    {
+        let end = number.min(MOST_LENGTH + 1);
+        if end == 0 || !self.any(0, end) {
+            return None;
+        }
+        Some(self.last_in(0, end))
+    }
+
+    /// The least one that isn't below a number.
+    pub(crate) fn first_from(&self, number: usize) -> Option<usize>
+        ensures { IsFirst (λ m. HasLength self.now.place self.now.before m × (number ≤ m)) result }
+    {
+        let end = MOST_LENGTH + 1;
+        if number >= end || !self.any(number, end) {
+            return None;
+        }
+        Some(self.first_in(number, end))
+    }
+}

@@ -1,7 +1,8 @@
 //! What most programs use: telegrams and messages, their packets, readers, groups, faults, items and their text.
+//! [`Assembly`] is one balise group, [`Groups`] has those of many telegrams.
 
 pub use etcs_bits::{BitSlice, Bits};
-pub use etcs_group::{Added, Assembly, Clash, GroupFault};
+pub use etcs_group::{Added, Assembly, Clash, GroupFault, Groups};
 pub use etcs_json::{JsonFault, Value, from_line, from_value, to_value};
 pub use etcs_packets::{
     Authority, BaliseAt, BaliseList, Condition, ConditionalLevelOrder, Differing, FixedText, Flat,

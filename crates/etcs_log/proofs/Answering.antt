@@ -35,7 +35,7 @@ use Rattle.etcs_log.specs.declared.job.Good.TheVariants.{Left, Digits, Json}
 use Rattle.etcs_log.specs.declared.job.LogJob.{LogJob}
 use Rattle.etcs_log.specs.declared.job.LogTally.{LogTally}
 use Rattle.etcs_log.specs.declared.kinds.Kinds.{Kinds}
-use Rattle.etcs_log.specs.BitDigits.{are_bits, packed}
+use Rattle.etcs_reasons.specs.BitDigits.{are_bits, packed}
 use Rattle.etcs_log.specs.Candidates.{AreNone, Candidate, IsFirst, candidates, contains, is_asked, is_other, is_wanted, last_bytes, last_candidate, last_candidates, may_have, message_candidate, message_way, named, telegram_bytes, where_asked, whole_bytes, whole_candidate, whole_candidates}
 use Rattle.etcs_log.specs.Logs.{Answer, passed, item, other, bad, GoodText, IsAnswer, IsBytesAnswer, IsNote, other_note, Answered, BytesAnswered, Counted, CountsText, Grouped, GroupsText, Noted, Tried, counts_front, is_written, telegrams_in}
 use Rattle.etcs_log.specs.declared.seen.Seen.{Seen}
@@ -279,7 +279,7 @@ tried_next true cs ds job job' n n' front before mid after text t text' j k (non
 tried_next false cs ds job job' n n' front before mid after text t text' j k (none, m, e) (others, same, f) =
     (none-append cs (ds job.kinds) none (subst (λ (z : LogJob). AreNone (ds z.kinds)) j others), same ∙ m, f ∙ e)
 
-tried_right : {E : Type 0} (r : Result Bool E) (cs : List Candidate) (ds : Kinds → List Candidate) (job job' : LogJob) (n n' : ℕ) (front : List ℕ) (before mid after : Seen) (text t text' : List ℕ) → job' ≡ job → n' ≡ n → Tried cs false job n front before mid text t → IfOk r (λ b. Tried (ds job'.kinds) b job' n' front mid after t text') → IfOk r (λ b. Tried (cs ++ ds job.kinds) b job n front before after text text')
+pub tried_right : {E : Type 0} (r : Result Bool E) (cs : List Candidate) (ds : Kinds → List Candidate) (job job' : LogJob) (n n' : ℕ) (front : List ℕ) (before mid after : Seen) (text t text' : List ℕ) → job' ≡ job → n' ≡ n → Tried cs false job n front before mid text t → IfOk r (λ b. Tried (ds job'.kinds) b job' n' front mid after t text') → IfOk r (λ b. Tried (cs ++ ds job.kinds) b job n front before after text text')
 tried_right (Ok b) cs ds job job' n n' front before mid after text t text' j k h more = tried_next b cs ds job job' n n' front before mid after text t text' j k h more
 tried_right (Err x) cs ds job job' n n' front before mid after text t text' j k h more = tt
 

@@ -2,3 +2,4 @@ pub mod Answering
 pub mod Counting
 pub mod Printed
 pub mod Endings
+pub mod ReaderPlaces

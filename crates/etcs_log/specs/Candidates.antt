@@ -5,7 +5,7 @@ use Rattle.etcs_text.specs.declared.entry.Kind.TheVariants.{Long, Short, Radio, 
 use Rattle.etcs_text.specs.Entries.{EntryValue}
 use Rattle.etcs_text.specs.Verdicts.{IsItem}
 use Rattle.etcs_log.specs.declared.kinds.Kinds.{Kinds}
-use Rattle.etcs_log.specs.BitDigits.{are_bits, packed}
+use Rattle.etcs_reasons.specs.BitDigits.{are_bits, packed}
 
 -- this kind alone
 abbrev pub only : Kind → Kinds

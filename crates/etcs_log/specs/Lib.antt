@@ -1,8 +1,9 @@
-pub mod BitDigits
 pub mod Candidates
 pub mod JsonLines
 pub mod LogGroups
 pub mod Logs
+pub mod Places
+pub mod Tries
 pub mod Stands
 pub mod Promised
 pub mod laws

@@ -3,7 +3,7 @@
 ghost use Rattle.std.specs.Prelude.{◌≡◌, ◌≤◌};
 ghost use Rattle.etcs_log.specs.Candidates.{added, contains, is_other, kind_name, message_way, only, says_length, several, telegram_bytes};
 
-use crate::bits::byte_at;
+use etcs_reasons::inner::byte_at;
 use etcs_text::Kind;
 
 /// Kinds of items.

@@ -1,7 +1,6 @@
 //! Logs: lines as people have them, an item a line, each of which is read by itself.
 #![tactic(auto)]
 
-mod bits;
 mod counts;
 mod job;
 mod json_lines;

@@ -8,9 +8,9 @@ ghost use Rattle.etcs_runs.specs.Digits.{line_front};
 ghost use Rattle.etcs_packet_text.specs.Fronts.{Begins};
 ghost use Rattle.etcs_log.specs.Candidates.{AreNone, candidates, last_candidate, last_candidates, may_have, message_candidate, named, whole_candidate, whole_candidates};
 ghost use Rattle.etcs_log.specs.LogGroups.{Holds};
-ghost use Rattle.etcs_log.specs.Logs.{Answered, BytesAnswered, Counted, CountsText, EndText, GroupsText, Noted, Tried, bad, item, other};
+ghost use Rattle.etcs_log.specs.Logs.{Answered, BytesAnswered, Counted, CountsText, EndText, GroupsText, Noted, bad, item, other};
+ghost use Rattle.etcs_log.specs.Tries.{Tries};
 
-use crate::bits::{are_bits, packed};
 use crate::counts::{Counts, append_counts};
 use crate::job::{Good, LogJob, LogTally};
 use crate::json_lines::append_json_item;
@@ -20,6 +20,7 @@ use crate::readers::Readers;
 use crate::seen::Seen;
 use etcs_group::Groups;
 use etcs_packet_text::inner::to_digits;
+use etcs_reasons::inner::{are_bits, packed};
 use etcs_runs::{NoBytes, line_bytes, line_front};
 use etcs_text::{Entry, Kind, Verdict};
 use std::alloc::{AllocError, Global};
@@ -216,7 +217,7 @@ impl Answers {
         requires items { self.old.seen.tally.items < 2 ^ 63 }
         ensures job { self.new.job ≡ self.old.job }
         ensures line { self.new.line ≡ self.old.line }
-        ensures ok { IfOk result (λ taken. Tried (whole_candidates self.old.job.kinds bytes.now) taken self.old.job self.old.line (line_front line.now) self.old.seen self.new.seen text.old.items text.new.items) }
+        ensures ok { IfOk result (Tries self.old self.new line.now text.old.items text.new.items (whole_candidates self.old.job.kinds bytes.now)) }
         ensures err { OnErr result (text.new.items ≡ text.old.items) }
     {
         if self.take_telegram(Kind::Long, line, bytes, text)? {
@@ -242,7 +243,7 @@ impl Answers {
         requires items { self.old.seen.tally.items < 2 ^ 63 }
         ensures job { self.new.job ≡ self.old.job }
         ensures line { self.new.line ≡ self.old.line }
-        ensures ok { IfOk result (λ taken. Tried (last_candidates self.old.job.kinds bytes.now) taken self.old.job self.old.line (line_front line.now) self.old.seen self.new.seen text.old.items text.new.items) }
+        ensures ok { IfOk result (Tries self.old self.new line.now text.old.items text.new.items (last_candidates self.old.job.kinds bytes.now)) }
         ensures err { OnErr result (text.new.items ≡ text.old.items) }
     {
         if self.take_end(Kind::Long, line, bytes, text)? {
@@ -266,7 +267,7 @@ impl Answers {
         requires items { self.old.seen.tally.items < 2 ^ 63 }
         ensures job { self.new.job ≡ self.old.job }
         ensures line { self.new.line ≡ self.old.line }
-        ensures ok { IfOk result (λ taken. Tried (whole_candidate self.old.job.kinds kind bytes.now) taken self.old.job self.old.line (line_front line.now) self.old.seen self.new.seen text.old.items text.new.items) }
+        ensures ok { IfOk result (Tries self.old self.new line.now text.old.items text.new.items (whole_candidate self.old.job.kinds kind bytes.now)) }
         ensures err { OnErr result (text.new.items ≡ text.old.items) }
     {
         if !self.job.kinds.contains(kind) {
@@ -293,7 +294,7 @@ impl Answers {
         requires items { self.old.seen.tally.items < 2 ^ 63 }
         ensures job { self.new.job ≡ self.old.job }
         ensures line { self.new.line ≡ self.old.line }
-        ensures ok { IfOk result (λ taken. Tried (message_candidate self.old.job.kinds bytes.now) taken self.old.job self.old.line (line_front line.now) self.old.seen self.new.seen text.old.items text.new.items) }
+        ensures ok { IfOk result (Tries self.old self.new line.now text.old.items text.new.items (message_candidate self.old.job.kinds bytes.now)) }
         ensures err { OnErr result (text.new.items ≡ text.old.items) }
     {
         let kinds = self.job.kinds;
@@ -318,7 +319,7 @@ impl Answers {
         requires items { self.old.seen.tally.items < 2 ^ 63 }
         ensures job { self.new.job ≡ self.old.job }
         ensures line { self.new.line ≡ self.old.line }
-        ensures ok { IfOk result (λ taken. Tried (last_candidate self.old.job.kinds kind bytes.now) taken self.old.job self.old.line (line_front line.now) self.old.seen self.new.seen text.old.items text.new.items) }
+        ensures ok { IfOk result (Tries self.old self.new line.now text.old.items text.new.items (last_candidate self.old.job.kinds kind bytes.now)) }
         ensures err { OnErr result (text.new.items ≡ text.old.items) }
     {
         let count = telegram_bytes(kind);
@@ -343,7 +344,7 @@ impl Answers {
         requires items { self.old.seen.tally.items < 2 ^ 63 }
         ensures job { self.new.job ≡ self.old.job }
         ensures line { self.new.line ≡ self.old.line }
-        ensures ok { IfOk result (λ taken. Tried (record { kind = kind; bytes = bytes.now } ∷ []) taken self.old.job self.old.line (line_front line.now) self.old.seen self.new.seen text.old.items text.new.items) }
+        ensures ok { IfOk result (Tries self.old self.new line.now text.old.items text.new.items (record { kind = kind; bytes = bytes.now } ∷ [])) }
         ensures err { OnErr result (text.new.items ≡ text.old.items) }
     {
         if !may_have(kind, bytes.len()) {

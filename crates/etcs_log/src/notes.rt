@@ -5,11 +5,10 @@ ghost use Rattle.std.specs.Fmt.{decimal};
 ghost use Rattle.etcs_packet_text.specs.Fronts.{Begins};
 ghost use Rattle.etcs_log.specs.Logs.{IsNote, other_note, other_words};
 
-use crate::bits::{are_bits, packed};
 use crate::counts::Counts;
 use crate::kinds::{Kinds, says_length, telegram_bytes};
 use etcs_packet_text::inner::write_decimal;
-use etcs_reasons::inner::{wanted_bytes, write_count_of, write_no_bytes};
+use etcs_reasons::inner::{are_bits, packed, wanted_bytes, write_count_of, write_no_bytes};
 use etcs_reasons::why;
 use etcs_runs::{MOST_LINE, NoBytes};
 use etcs_text::Kind;
@@ -86,7 +85,7 @@ fn write_refused(
                 reason.bit, reason.var, reason.sentence
             )
         }
-        // doesn't come: of so many bytes, those that are no item are refused
+        // doesn't come: of a length that the kind has, bytes that are no item are refused
         None => write_count_of(bytes.len(), "byte", out),
     }
 }

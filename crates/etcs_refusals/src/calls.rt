@@ -4,7 +4,9 @@ use crate::bit_calls::{Rows, refuse_copy, refuse_push};
 use crate::each::refuse_each;
 use crate::entry_calls::{FromTree, Text, Texts, ToTree};
 use crate::feeds::refuse_feed;
-use crate::packet_calls::{Clones, Fields, FromFields, numbers_of, refuse_message, refuse_view};
+use crate::packet_calls::{
+    Clones, Fields, FromFields, GroupLine, numbers_of, refuse_message, refuse_view,
+};
 use crate::runs::refuse_run;
 use etcs_cases::{Case, item_of, next_kind};
 use etcs_json::to_value;
@@ -50,9 +52,10 @@ fn of_entry(case: &mut Case, call: &str, kind: Kind, entry: &Entry) {
     }
 }
 
-/// Makes a call of the packets of an item: `try_clone`, and of those to the train further ones.
+/// Makes a call of a telegram's group, or of the packets of an item: `try_clone`, and of those to the train further ones.
 fn of_packets(case: &mut Case, call: &str, entry: &Entry) {
     match entry {
+        Entry::Telegram(telegram) if call == "groups" => refuse_each(case, GroupLine { telegram }),
         Entry::Telegram(telegram) => to_train(case, call, telegram.packets()),
         Entry::Message(message) => to_train(case, call, message.packets()),
         Entry::Train(message) if call == "try_clone" => clones(case, message.packets()),

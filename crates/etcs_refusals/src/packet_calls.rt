@@ -1,11 +1,11 @@
-//! Packets: their numbers, from numbers and from bits, and their copies; and the message of a group.
+//! Packets: their numbers, from numbers and from bits, and their copies; the message of a group, and groups.
 
 use crate::each::{Makes, refuse_each};
 use etcs_cases::{Case, item_of, next_kind, own_fields, size_of, viewed};
-use etcs_group::{Assembly, GroupFault};
+use etcs_group::{Assembly, GroupFault, Groups};
 use etcs_packets::Packet;
 use etcs_packets::inner::AnyPacket;
-use etcs_telegram::Size;
+use etcs_telegram::{Size, Telegram};
 use etcs_text::Entry;
 use std::alloc::{AllocError, Global};
 
@@ -80,6 +80,33 @@ impl Makes for FromFields<'_> {
             }
             None => Ok(None),
         }
+    }
+}
+
+/// The line of the group of a telegram.
+#[derive(Drop)]
+pub(crate) struct GroupLine<'a> {
+    pub(crate) telegram: &'a Telegram,
+}
+
+impl Makes for GroupLine<'_> {
+    type Made = Vec<u8>;
+
+    fn make(&self, alloc: Global, _index: usize) -> Result<Vec<u8>, bool> {
+        let mut groups = Groups::new(alloc);
+        let (Ok(mut out), Ok(telegram)) = (
+            Vec::with_capacity(alloc, 8),
+            self.telegram.try_clone(alloc),
+        ) else {
+            return Err(true);
+        };
+        if groups.add(telegram).is_err() {
+            return Err(groups.write(&mut out).is_ok() && out.is_empty());
+        }
+        if groups.write(&mut out).is_ok() {
+            return Ok(out);
+        }
+        Err(out.is_empty())
     }
 }
 

@@ -1,16 +1,10 @@
-use Rattle.std.proofs.Common.{◌∙◌, IfOk, subst, sym}
+use Rattle.std.proofs.Common.{IfOk, subst}
 use Rattle.etcs_text.specs.declared.entry.Kind.{Kind}
 use Rattle.etcs_text.specs.Verdicts.{IsVerdict}
+use Rattle.etcs_log.proofs.ReaderPlaces.{reader_at}
 use Rattle.etcs_log.proofs.readers.Readers.read.Goals as goal
 
-pub returns-in-Long : goal.returns-in-Long
-returns-in-Long c = subst (λ (k : Kind). IfOk c.read.result (λ v. IsVerdict k c.args.bytes.now v)) (c.args.self.now.is_long ∙ sym c.in-Long.is) c.read.ensures.verdict
-
-pub returns-in-Short : goal.returns-in-Short
-returns-in-Short c = subst (λ (k : Kind). IfOk c.read-in-Short.result (λ v. IsVerdict k c.args.bytes.now v)) (c.args.self.now.is_short ∙ sym c.in-Short.is) c.read-in-Short.ensures.verdict
-
-pub returns-in-Radio : goal.returns-in-Radio
-returns-in-Radio c = subst (λ (k : Kind). IfOk c.read-in-Radio.result (λ v. IsVerdict k c.args.bytes.now v)) (c.args.self.now.is_radio ∙ sym c.in-Radio.is) c.read-in-Radio.ensures.verdict
-
-pub returns-in-Train : goal.returns-in-Train
-returns-in-Train c = subst (λ (k : Kind). IfOk c.read-in-Train.result (λ v. IsVerdict k c.args.bytes.now v)) (c.args.self.now.is_train ∙ sym c.in-Train.is) c.read-in-Train.ensures.verdict
+pub returns : goal.returns
+returns c =
+    let is = reader_at c.args.self.now.readers c.place_of.result c.args.kind c.index-readers-place_of.result c.args.self.now.are_each c.place_of.ensures.value in
+    subst (λ (k : Kind). IfOk c.read.result (λ v. IsVerdict k c.args.bytes.now v)) is c.read.ensures.verdict

@@ -17,7 +17,8 @@
  * Threads: each call is a function of its arguments, so any thread may call at any time with buffers of its own.
  *
  * What a caller owes, and nothing checks:
- *   - a pointer is never null, also where its length is 0, and points to that many bytes, fewer than 2^63;
+ *   - a pointer points to as many bytes, or fields, as its length says, fewer than 2^63 bytes; where its length is 0 it may
+ *     be null; answer is never null;
  *   - out and answer overlap neither each other nor the bytes that are read;
  *   - no call from a signal handler, nor in the forked child of a process with threads;
  *   - stack: 64 KiB; etcs_from_json and etcs_explain_json 256 KiB, since lists and objects may be in one another, up to
@@ -48,16 +49,17 @@ enum {
     ETCS_TRAIN = 4  /* radio messages from the train to the track, at most 1,023 bytes */
 };
 
-/* How a call ended. Each but ETCS_NO_MEMORY comes exactly where its line says so. */
+/* How a call ended. Each comes only where its line says so, and ETCS_NO_MEMORY may come in place of any but
+ * ETCS_UNKNOWN_KIND. The comment of each call says what it answers with each. */
 enum {
     ETCS_OK = 0,           /* done */
     ETCS_MORE = 1,         /* the bytes begin an item and hold none: call again with more after them */
     ETCS_REFUSED = 2,      /* no item begins with the bits up to answer.bit, which answer.var holds */
-    ETCS_NO_ROOM = 3,      /* out is shorter than answer.written bytes, and is as before */
+    ETCS_NO_ROOM = 3,      /* out is shorter than answer.written bytes, or fields, and is as before */
     ETCS_NO_MEMORY = 4,    /* memory was refused; out is as before */
-    ETCS_UNKNOWN_KIND = 5, /* the kind is none of the above */
+    ETCS_UNKNOWN_KIND = 5, /* the kind is none of the above; out is as before */
     ETCS_BAD_JSON = 6,     /* no item of the kind has this JSON */
-    ETCS_BAD_FIELDS = 7    /* no item of the kind has these fields */
+    ETCS_BAD_FIELDS = 7    /* the numbers haven't their widths, or the item that their bits begin with has other fields */
 };
 
 /* Room that is enough for each item: of its bytes, and of its fields, each of which has a bit. */
@@ -67,13 +69,13 @@ enum {
 typedef uint32_t etcs_kind;
 typedef uint32_t etcs_status;
 
-/* What a call answers beside its status. Begin with etcs_answer a = {0}. */
+/* What a call answers beside its status: the members that the call's comment names with it, and nothing in the others.
+ * Begin with etcs_answer a = {0}. */
 typedef struct etcs_answer {
-    size_t taken;   /* after ETCS_OK and ETCS_NO_ROOM of a call that reads bytes: how many of them the item takes */
-    size_t written; /* after ETCS_OK and ETCS_NO_ROOM of a call with out, and after what the calls that say why answer
-                     * where they write: how many bytes, or fields, it has or wants */
-    size_t bit;     /* after ETCS_REFUSED: the first bit that is refused, from 0, the top bit of the first byte */
-    char var[32];   /* after ETCS_REFUSED: the name of the variable that holds it, a string */
+    size_t taken;   /* how many of the bytes the item takes */
+    size_t written; /* how many bytes, or fields, were written, or with ETCS_NO_ROOM would be */
+    size_t bit;     /* the first bit that is refused, from 0, the top bit of the first byte */
+    char var[32];   /* the name of the variable that holds it, a string */
 } etcs_answer;
 
 /* A variable of an item. Bits that are kept as they are (FILL, OTHER_DATA, PADDING) and PAD are up to 64 in a field, of
@@ -84,51 +86,70 @@ typedef struct etcs_field {
     uint32_t width; /* how many bits its number takes: a field begins at the sum of the widths before it */
 } etcs_field;
 
-/* Whether the bytes begin with an item. Bytes after it count for nothing. */
+/* Whether the bytes begin with an item. Bytes after it count for nothing.
+ *     ETCS_OK       they do: taken
+ *     ETCS_MORE     they begin one and hold none
+ *     ETCS_REFUSED  no item continues with a bit: bit, var */
 etcs_status etcs_check(etcs_kind kind, const uint8_t *bytes, size_t len, etcs_answer *answer);
 
-/* The same, and of the item its text, as item number item. It is no string: answer->written bytes, no zero after them. */
+/* The same, and of the item its text, as item number item. It is no string: written bytes, no zero after them.
+ *     ETCS_OK, ETCS_NO_ROOM  taken, written; else as etcs_check, and out is as before */
 etcs_status etcs_show(etcs_kind kind, uint64_t item, const uint8_t *bytes, size_t len, uint8_t *out, size_t room,
                       etcs_answer *answer);
 
-/* The same, and of the item its JSON, a line without its LF. No string either. */
+/* The same, and of the item its JSON, a line without its LF. No string either.
+ *     ETCS_OK, ETCS_NO_ROOM  taken, written; else as etcs_check, and out is as before */
 etcs_status etcs_to_json(etcs_kind kind, const uint8_t *bytes, size_t len, uint8_t *out, size_t room,
                          etcs_answer *answer);
 
-/* The same, and of the item its fields, all of them in the order of sending: answer->written of them. */
+/* The same, and of the item its fields, all of them in the order of sending.
+ *     ETCS_OK, ETCS_NO_ROOM  taken, written; else as etcs_check, and out is as before */
 etcs_status etcs_fields(etcs_kind kind, const uint8_t *bytes, size_t len, etcs_field *out, size_t room,
                         etcs_answer *answer);
 
-/* The bytes of the item whose JSON this is, at most 1,023: ETCS_OK, ETCS_NO_ROOM, ETCS_BAD_JSON, ETCS_NO_MEMORY; and
- * ETCS_REFUSED, of older JSON alone, where it has bits of packets that are typed by now, and no item has these bits. */
+/* The bytes of the item whose JSON this is, at most 1,023.
+ *     ETCS_OK, ETCS_NO_ROOM  written
+ *     ETCS_BAD_JSON          no item has this JSON; out is as before
+ *     ETCS_REFUSED           it is older JSON, with bits of packets that are typed by now, and no item has these bits:
+ *                            bit, var; out is as before */
 etcs_status etcs_from_json(etcs_kind kind, const uint8_t *line, size_t len, uint8_t *out, size_t room,
                            etcs_answer *answer);
 
 /* The bytes of the item whose fields these are, all of them in the order of sending, as etcs_fields writes them: var and
- * width of each too. Of the numbers' bits, one after another, it is ETCS_REFUSED with the first that is refused, or
- * ETCS_MORE where their whole bytes end inside an item. Else it is ETCS_BAD_FIELDS: a number has more bits than its width,
- * or the item that the bits begin with has other fields. In all three cases no item of the kind has these fields. */
+ * width of each too. Where no item of the kind has these fields, out is as before, and it is one of the last three.
+ *     ETCS_OK, ETCS_NO_ROOM  written
+ *     ETCS_BAD_FIELDS        a number has more bits than its width, or a width is above 64; or the numbers' bits, one
+ *                            after another up to the last whole byte, begin with an item, which has other fields
+ *     ETCS_MORE              the fields fit, and these bits begin an item and hold none
+ *     ETCS_REFUSED           the fields fit, and no item continues with one of these bits, of however many: bit, var */
 etcs_status etcs_from_fields(etcs_kind kind, const etcs_field *fields, size_t len, uint8_t *out, size_t room,
                              etcs_answer *answer);
 
-/* ---- Why input is no item. These three write where it is refused: answer->written bytes or fields with ETCS_REFUSED or
- * ETCS_BAD_JSON, none with ETCS_NO_ROOM, which has answer->bit and answer->var too where they are known. With ETCS_OK and
- * ETCS_MORE nothing is written, and answer->written is 0. */
+/* ---- Why input is no item. These three write where it is refused; else out is as before. */
 
 /* As etcs_check, and of a refused bit why it is: a sentence in UTF-8, without a capital, a full stop or a zero after it, as
  * "message 6 has 10 or 13 to 1023 bytes, not 11"; where it has many numbers, some are left out and it ends with " ..". The
- * words may be others in the next version. */
+ * words may be others in the next version.
+ *     ETCS_OK                     taken; written, which is 0
+ *     ETCS_MORE                   written, which is 0
+ *     ETCS_REFUSED, ETCS_NO_ROOM  bit, var; written, which is 1 or more */
 etcs_status etcs_explain(etcs_kind kind, const uint8_t *bytes, size_t len, uint8_t *out, size_t room,
                          etcs_answer *answer);
 
 /* As etcs_check, and of a refused bit the fields of the variables before the one that holds it, in the order of sending,
- * as etcs_fields writes them. Where they end that variable begins; up to answer->bit its bits are those of an item. */
+ * as etcs_fields writes them. Where they end that variable begins: from there to bit are fewer bits than it has.
+ *     ETCS_OK                     taken; written, which is 0
+ *     ETCS_MORE                   written, which is 0
+ *     ETCS_REFUSED, ETCS_NO_ROOM  bit, var; written */
 etcs_status etcs_fields_before(etcs_kind kind, const uint8_t *bytes, size_t len, etcs_field *out, size_t room,
                                etcs_answer *answer);
 
 /* As etcs_from_json, but that no encoding is written; and of a line that says no item why: the path of the first part that
- * is wrong and the reason, as ".packets[0].fields[0]: Q_SRSTOP admits 0 and 1, not 2", or where it is no JSON. After
- * ETCS_REFUSED or ETCS_BAD_JSON. */
+ * is wrong and the reason, as ".packets[0].fields[0]: Q_SRSTOP admits 0 and 1, not 2", or where it is no JSON.
+ *     ETCS_OK        written, which is 0
+ *     ETCS_BAD_JSON  written, which is 1 or more
+ *     ETCS_REFUSED   bit, var; written, which is 1 or more
+ *     ETCS_NO_ROOM   the same as one of the last two */
 etcs_status etcs_explain_json(etcs_kind kind, const uint8_t *line, size_t len, uint8_t *out, size_t room,
                               etcs_answer *answer);
 

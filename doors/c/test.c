@@ -174,6 +174,135 @@ static void short_buffers(void)
     printf("refused at bit %zu, %s\n", a.bit, a.var);
 }
 
+/* Each status of each call, with what it answers and with memory that is refused. Message 24 of ten bytes has no packet, 11
+ * isn't a length of it, and in packet 131 a Q_SCALE of 3 is spare, after 50 bits of header and 23 of frame. */
+static void statuses(void)
+{
+    static const uint8_t ten[10] = {0x18, 0x02, 0x80}, eleven[3] = {0x18, 0x02, 0xC0};
+    static const char line[] = "{\"fields\":[],\"header\":[[\"T_TRAIN\",0],[\"M_ACK\",0],[\"NID_LRBG\",0]],\"kind\":\"radio\","
+        "\"nid\":24,\"packets\":[],\"padding\":\"00000\"}";
+    static const char spare[] = "{\"fill\":\"11111111111111111111111\",\"header\":[[\"Q_UPDOWN\",1],[\"M_VERSION\",33],"
+        "[\"Q_MEDIA\",0],[\"N_PIG\",1],[\"N_TOTAL\",1],[\"M_DUP\",2],[\"M_MCOUNT\",40],[\"NID_C\",98],[\"NID_BG\",511],"
+        "[\"Q_LINK\",1]],\"kind\":\"short\",\"packets\":[{\"data\":\"1100000000000000000000000000000000000000000000000000"
+        "000000000000000000000000000000000000000000000000000000\",\"dir\":0,\"nid\":131}]}";
+    static const char text[] = "item 1 radio 80 bits\n  NID_MESSAGE 24\n  L_MESSAGE 10\n  T_TRAIN 0\n  M_ACK 0\n  NID_LRBG 0\n"
+        "end\n  PADDING 5 00000\n";
+    static const etcs_field own[6] = {
+        {24, ETCS_VAR_NID_MESSAGE, 8}, {10, ETCS_VAR_L_MESSAGE, 10}, {0, ETCS_VAR_T_TRAIN, 32},
+        {0, ETCS_VAR_M_ACK, 1}, {0, ETCS_VAR_NID_LRBG, 24}, {0, ETCS_VAR_PADDING, 5},
+    };
+    static etcs_field zeros[ETCS_MOST_FIELDS], fields[8];
+    uint8_t out[256], packet[64];
+    size_t packet_len = item(packet, RADIO);
+    etcs_answer a;
+    int starved;
+#define ANSWERS(status, call) (memset(&a, 0, sizeof a), memset(out, 7, sizeof out), (call) == (status))
+#define STARVES(call) (left = 0, starved = ANSWERS(ETCS_NO_MEMORY, call), left = LONG_MAX, starved)
+#define IS_REFUSED(i, name) (a.bit == (i) && !strcmp(a.var, name))
+#define JSON(x) (const uint8_t *)x, sizeof x - 1
+    EXPECT(ANSWERS(ETCS_OK, etcs_check(ETCS_RADIO, ten, 10, &a)) && a.taken == 10);
+    EXPECT(ANSWERS(ETCS_MORE, etcs_check(ETCS_RADIO, ten, 9, &a)));
+    EXPECT(ANSWERS(ETCS_REFUSED, etcs_check(ETCS_RADIO, eleven, 3, &a)) && IS_REFUSED(17, "L_MESSAGE"));
+    EXPECT(STARVES(etcs_check(ETCS_RADIO, packet, packet_len, &a)));
+    EXPECT(ANSWERS(ETCS_UNKNOWN_KIND, etcs_check(9, ten, 10, &a)));
+
+    EXPECT(ANSWERS(ETCS_OK, etcs_show(ETCS_RADIO, 1, ten, 10, out, 256, &a)) && a.taken == 10);
+    EXPECT(a.written == sizeof text - 1 && !memcmp(out, text, sizeof text - 1));
+    EXPECT(ANSWERS(ETCS_NO_ROOM, etcs_show(ETCS_RADIO, 1, ten, 10, out, sizeof text - 2, &a)));
+    EXPECT(a.taken == 10 && a.written == sizeof text - 1 && out[0] == 7);
+    EXPECT(ANSWERS(ETCS_MORE, etcs_show(ETCS_RADIO, 1, ten, 9, out, 256, &a)) && out[0] == 7);
+    EXPECT(ANSWERS(ETCS_REFUSED, etcs_show(ETCS_RADIO, 1, eleven, 3, out, 256, &a)) && IS_REFUSED(17, "L_MESSAGE") && out[0] == 7);
+    EXPECT(STARVES(etcs_show(ETCS_RADIO, 1, ten, 10, out, 256, &a)) && out[0] == 7);
+    EXPECT(ANSWERS(ETCS_UNKNOWN_KIND, etcs_show(9, 1, ten, 10, out, 256, &a)) && out[0] == 7);
+
+    EXPECT(ANSWERS(ETCS_OK, etcs_to_json(ETCS_RADIO, ten, 10, out, 256, &a)) && a.taken == 10);
+    EXPECT(a.written == sizeof line - 1 && !memcmp(out, line, sizeof line - 1));
+    EXPECT(ANSWERS(ETCS_NO_ROOM, etcs_to_json(ETCS_RADIO, ten, 10, out, sizeof line - 2, &a)));
+    EXPECT(a.taken == 10 && a.written == sizeof line - 1 && out[0] == 7);
+    EXPECT(ANSWERS(ETCS_MORE, etcs_to_json(ETCS_RADIO, ten, 9, out, 256, &a)) && out[0] == 7);
+    EXPECT(ANSWERS(ETCS_REFUSED, etcs_to_json(ETCS_RADIO, eleven, 3, out, 256, &a)) && IS_REFUSED(17, "L_MESSAGE") && out[0] == 7);
+    EXPECT(STARVES(etcs_to_json(ETCS_RADIO, ten, 10, out, 256, &a)) && out[0] == 7);
+    EXPECT(ANSWERS(ETCS_UNKNOWN_KIND, etcs_to_json(9, ten, 10, out, 256, &a)) && out[0] == 7);
+
+    EXPECT(ANSWERS(ETCS_OK, etcs_fields(ETCS_RADIO, ten, 10, fields, 8, &a)) && a.taken == 10 && a.written == 6);
+    for (int i = 0; i < 6; i++) EXPECT(fields[i].number == own[i].number && fields[i].var == own[i].var && fields[i].width == own[i].width);
+    EXPECT(ANSWERS(ETCS_NO_ROOM, etcs_fields(ETCS_RADIO, ten, 10, fields, 5, &a)) && a.taken == 10 && a.written == 6);
+    EXPECT(ANSWERS(ETCS_MORE, etcs_fields(ETCS_RADIO, ten, 9, fields, 8, &a)));
+    EXPECT(ANSWERS(ETCS_REFUSED, etcs_fields(ETCS_RADIO, eleven, 3, fields, 8, &a)) && IS_REFUSED(17, "L_MESSAGE"));
+    EXPECT(STARVES(etcs_fields(ETCS_RADIO, ten, 10, fields, 8, &a)));
+    EXPECT(ANSWERS(ETCS_UNKNOWN_KIND, etcs_fields(9, ten, 10, fields, 8, &a)));
+
+    EXPECT(ANSWERS(ETCS_OK, etcs_from_json(ETCS_RADIO, JSON(line), out, 10, &a)) && a.written == 10 && !memcmp(out, ten, 10));
+    EXPECT(ANSWERS(ETCS_NO_ROOM, etcs_from_json(ETCS_RADIO, JSON(line), out, 9, &a)) && a.written == 10 && out[0] == 7);
+    EXPECT(ANSWERS(ETCS_BAD_JSON, etcs_from_json(ETCS_RADIO, JSON("{}"), out, 256, &a)) && out[0] == 7);
+    EXPECT(ANSWERS(ETCS_REFUSED, etcs_from_json(ETCS_SHORT, JSON(spare), out, 256, &a)) && IS_REFUSED(74, "Q_SCALE") && out[0] == 7);
+    EXPECT(STARVES(etcs_from_json(ETCS_RADIO, JSON(line), out, 256, &a)) && out[0] == 7);
+    EXPECT(ANSWERS(ETCS_UNKNOWN_KIND, etcs_from_json(9, JSON(line), out, 256, &a)) && out[0] == 7);
+
+    EXPECT(ANSWERS(ETCS_OK, etcs_from_fields(ETCS_RADIO, own, 6, out, 10, &a)) && a.written == 10 && !memcmp(out, ten, 10));
+    EXPECT(ANSWERS(ETCS_NO_ROOM, etcs_from_fields(ETCS_RADIO, own, 6, out, 9, &a)) && a.written == 10 && out[0] == 7);
+    EXPECT(ANSWERS(ETCS_MORE, etcs_from_fields(ETCS_RADIO, own, 5, out, 256, &a)) && out[0] == 7);
+    EXPECT(ANSWERS(ETCS_MORE, etcs_from_fields(ETCS_RADIO, own, 0, out, 256, &a)) && out[0] == 7);
+    memcpy(fields, own, sizeof own), fields[1].number = 11;
+    EXPECT(ANSWERS(ETCS_REFUSED, etcs_from_fields(ETCS_RADIO, fields, 3, out, 256, &a)) && IS_REFUSED(17, "L_MESSAGE") && out[0] == 7);
+    /* zeros: L_MESSAGE is 3 at least, so its last bit but one is refused, in more than 8,184 bits too */
+    for (size_t i = 0; i < ETCS_MOST_FIELDS; i++) zeros[i].width = 64;
+    EXPECT(ANSWERS(ETCS_REFUSED, etcs_from_fields(ETCS_RADIO, zeros, 1, out, 256, &a)) && IS_REFUSED(16, "L_MESSAGE") && out[0] == 7);
+    EXPECT(ANSWERS(ETCS_REFUSED, etcs_from_fields(ETCS_RADIO, zeros, ETCS_MOST_FIELDS, out, 256, &a)) && IS_REFUSED(16, "L_MESSAGE"));
+    memcpy(fields, own, sizeof own), fields[0].var = ETCS_VAR_L_MESSAGE;
+    EXPECT(ANSWERS(ETCS_BAD_FIELDS, etcs_from_fields(ETCS_RADIO, fields, 6, out, 256, &a)) && out[0] == 7);
+    memcpy(fields, own, sizeof own), fields[0].number = 256;
+    EXPECT(ANSWERS(ETCS_BAD_FIELDS, etcs_from_fields(ETCS_RADIO, fields, 1, out, 256, &a)) && out[0] == 7);
+    memcpy(fields, own, sizeof own), fields[0].width = 65;
+    EXPECT(ANSWERS(ETCS_BAD_FIELDS, etcs_from_fields(ETCS_RADIO, fields, 1, out, 256, &a)) && out[0] == 7);
+    EXPECT(STARVES(etcs_from_fields(ETCS_RADIO, own, 6, out, 256, &a)) && out[0] == 7);
+    EXPECT(ANSWERS(ETCS_UNKNOWN_KIND, etcs_from_fields(9, own, 6, out, 256, &a)) && out[0] == 7);
+
+    EXPECT(ANSWERS(ETCS_OK, etcs_explain(ETCS_RADIO, ten, 10, out, 256, &a)) && a.taken == 10 && a.written == 0 && out[0] == 7);
+    EXPECT(ANSWERS(ETCS_MORE, etcs_explain(ETCS_RADIO, ten, 9, out, 256, &a)) && a.written == 0 && out[0] == 7);
+    EXPECT(ANSWERS(ETCS_REFUSED, etcs_explain(ETCS_RADIO, eleven, 3, out, 256, &a)) && IS_REFUSED(17, "L_MESSAGE") && a.written > 0);
+    EXPECT(ANSWERS(ETCS_NO_ROOM, etcs_explain(ETCS_RADIO, eleven, 3, out, 0, &a)) && IS_REFUSED(17, "L_MESSAGE") && a.written > 0);
+    EXPECT(STARVES(etcs_explain(ETCS_RADIO, eleven, 3, out, 256, &a)) && out[0] == 7);
+    EXPECT(ANSWERS(ETCS_UNKNOWN_KIND, etcs_explain(9, eleven, 3, out, 256, &a)) && out[0] == 7);
+
+    EXPECT(ANSWERS(ETCS_OK, etcs_fields_before(ETCS_RADIO, ten, 10, fields, 8, &a)) && a.taken == 10 && a.written == 0);
+    EXPECT(ANSWERS(ETCS_MORE, etcs_fields_before(ETCS_RADIO, ten, 9, fields, 8, &a)) && a.written == 0);
+    EXPECT(ANSWERS(ETCS_REFUSED, etcs_fields_before(ETCS_RADIO, eleven, 3, fields, 8, &a)) && IS_REFUSED(17, "L_MESSAGE") && a.written == 1);
+    EXPECT(fields[0].number == 24 && fields[0].var == ETCS_VAR_NID_MESSAGE && fields[0].width == 8);
+    EXPECT(ANSWERS(ETCS_NO_ROOM, etcs_fields_before(ETCS_RADIO, eleven, 3, fields, 0, &a)) && IS_REFUSED(17, "L_MESSAGE") && a.written == 1);
+    EXPECT(STARVES(etcs_fields_before(ETCS_RADIO, eleven, 3, fields, 8, &a)));
+    EXPECT(ANSWERS(ETCS_UNKNOWN_KIND, etcs_fields_before(9, eleven, 3, fields, 8, &a)));
+
+    EXPECT(ANSWERS(ETCS_OK, etcs_explain_json(ETCS_RADIO, JSON(line), out, 256, &a)) && a.written == 0 && out[0] == 7);
+    EXPECT(ANSWERS(ETCS_BAD_JSON, etcs_explain_json(ETCS_RADIO, JSON("{}"), out, 256, &a)) && a.written > 0);
+    EXPECT(ANSWERS(ETCS_NO_ROOM, etcs_explain_json(ETCS_RADIO, JSON("{}"), out, 0, &a)) && a.written > 0);
+    EXPECT(ANSWERS(ETCS_REFUSED, etcs_explain_json(ETCS_SHORT, JSON(spare), out, 256, &a)) && IS_REFUSED(74, "Q_SCALE") && a.written > 0);
+    EXPECT(ANSWERS(ETCS_NO_ROOM, etcs_explain_json(ETCS_SHORT, JSON(spare), out, 0, &a)) && IS_REFUSED(74, "Q_SCALE") && a.written > 0);
+    EXPECT(STARVES(etcs_explain_json(ETCS_RADIO, JSON("{}"), out, 256, &a)) && out[0] == 7);
+    EXPECT(ANSWERS(ETCS_UNKNOWN_KIND, etcs_explain_json(9, JSON(line), out, 256, &a)) && out[0] == 7);
+}
+
+/* No pointer to no bytes, no fields and no room. */
+static void no_pointers(void)
+{
+    uint8_t bytes[64], out[512];
+    etcs_field sent[32];
+    size_t len = item(bytes, RADIO);
+    etcs_answer a = {0};
+    EXPECT(etcs_check(ETCS_RADIO, NULL, 0, &a) == ETCS_MORE);
+    EXPECT(etcs_show(ETCS_RADIO, 1, NULL, 0, NULL, 0, &a) == ETCS_MORE && etcs_show(ETCS_RADIO, 1, bytes, len, NULL, 0, &a) == ETCS_NO_ROOM);
+    EXPECT(etcs_to_json(ETCS_RADIO, NULL, 0, NULL, 0, &a) == ETCS_MORE && etcs_to_json(ETCS_RADIO, bytes, len, NULL, 0, &a) == ETCS_NO_ROOM);
+    EXPECT(etcs_fields(ETCS_RADIO, NULL, 0, NULL, 0, &a) == ETCS_MORE && etcs_fields(ETCS_RADIO, bytes, len, NULL, 0, &a) == ETCS_NO_ROOM);
+    EXPECT(etcs_explain(ETCS_RADIO, NULL, 0, NULL, 0, &a) == ETCS_MORE && etcs_explain(ETCS_SHORT, bytes, len, NULL, 0, &a) == ETCS_NO_ROOM);
+    EXPECT(etcs_fields_before(ETCS_RADIO, NULL, 0, NULL, 0, &a) == ETCS_MORE);
+    EXPECT(etcs_fields(ETCS_RADIO, bytes, len, sent, 32, &a) == ETCS_OK);
+    EXPECT(etcs_from_fields(ETCS_RADIO, NULL, 0, NULL, 0, &a) == ETCS_MORE && etcs_from_fields(ETCS_RADIO, sent, a.written, NULL, 0, &a) == ETCS_NO_ROOM);
+    EXPECT(etcs_from_json(ETCS_RADIO, NULL, 0, NULL, 0, &a) == ETCS_BAD_JSON && etcs_explain_json(ETCS_RADIO, NULL, 0, NULL, 0, &a) == ETCS_NO_ROOM);
+    EXPECT(etcs_from_json(ETCS_RADIO, NULL, 0, out, sizeof out, &a) == ETCS_BAD_JSON && etcs_explain_json(ETCS_RADIO, NULL, 0, out, sizeof out, &a) == ETCS_BAD_JSON);
+    /* bit 0 is refused, before which there is no field */
+    EXPECT(etcs_fields_before(ETCS_SHORT, bytes, len, NULL, 0, &a) == ETCS_REFUSED && a.written == 0 && a.bit == 0);
+}
+
 static void variables(void)
 {
     uint8_t bytes[64] = {0}, out[64];
@@ -218,6 +347,8 @@ static void variables(void)
     }
     static etcs_field many[70000];
     for (size_t i = 0; i < 70000; i++) many[i].width = 64;
+    EXPECT(etcs_from_fields(ETCS_SHORT, many, 70000, out, len, &a) == ETCS_REFUSED && a.bit == 0 && !strcmp(a.var, "Q_UPDOWN"));
+    many[69999].width = 65;
     EXPECT(etcs_from_fields(ETCS_SHORT, many, 70000, out, len, &a) == ETCS_BAD_FIELDS);
     /* one that takes a variable as the header names it */
     size_t at = etcs_find(sent, count, ETCS_VAR_NID_BG, 0);
@@ -498,6 +629,8 @@ int main(int argc, char **argv)
         refused_memory();
         refused_reasons();
         reasons();
+        statuses();
+        no_pointers();
         short_buffers();
         variables();
         for (size_t n = 1; n < 100; n++) {

@@ -1,5 +1,7 @@
 pub mod Delivering
 pub mod Firsts
+pub mod Fits
+pub mod Fronts
 pub mod Packing
 pub mod Packs
 pub mod Refusals

@@ -1,13 +1,15 @@
 -- A refused bit, and the account of the bits before it.
-use Rattle.std.proofs.Common.{◌≡◌, ℕ, ◌+◌, ◌<◌, ◌⊎◌, Bool, List, [], ◌∷◌, ◌++◌, Result, Ok, Err, inl, inr, length, take, refl, ap, subst, ◌∙◌, arith}
+use Rattle.std.proofs.Common.{◌≡◌, ℕ, ◌+◌, ◌<◌, ◌⊎◌, Bool, List, [], ◌∷◌, ◌++◌, Result, Ok, Err, inl, inr, length, take, Some, refl, sym, ap, subst, ◌∙◌, arith}
 use Rattle.std.specs.Prelude.{IfOk, MatchResult}
 use Rattle.std.proofs.lemmas.Bool.{cases_lt}
 use Rattle.std.proofs.lemmas.List.{append-nil, length-append, length-take, length-take-le, take-take}
 use Rattle.etcs_vars.specs.declared.var.Var.{Var}
+use Rattle.etcs_vars.specs.Vars.{width}
 use Rattle.etcs_vars.specs.Walking.{Refuses}
-use Rattle.etcs_vars.specs.Reading.{Reading, spelled, readings_of, IsOutcome, refused, InLanguage, Viable}
+use Rattle.etcs_vars.specs.Reading.{Reading, spelled, readings_of, IsOutcome, refused, InLanguage, Owner, Viable}
 use Rattle.etcs_vars.proofs.Outcomes.{viable_front}
 use Rattle.etcs_bits.specs.Bits.{num}
+use Rattle.etcs_bits.proofs.Numbers.{length-num}
 use Rattle.etcs_text.specs.declared.entry.Kind.{Kind}
 use Rattle.etcs_text.specs.Entries.{EntryReads}
 use Rattle.etcs_text.proofs.ItemKinds.{kind_regular}
@@ -66,17 +68,27 @@ one_refused L b i j x y f g =
       ]
     ]
 
+-- of one variable
+one_holder : (L : Reading → Type 0) (b : List Bool) (x y : Var) → Owner L b x → Owner L b y → x ≡ y
+one_holder L b x y f g =
+    let (r, c, l, e) = f.viable in
+    let same : Some x ≡ Some y = sym (f.holds r c l e) ∙ g.holds r c l e in
+    cc
+
 -- what the account has before it
-pub before : (kind : Kind) (b : List Bool) (i : ℕ) (x : Var) → IsOutcome (EntryReads kind) b (refused i x) → (p : Reading) (e : End) → Accounts (Items kind) p e (take 8184 b) → (part : List Bool) × Shows (Items kind) p part (take i b)
+pub before : (kind : Kind) (b : List Bool) (i : ℕ) (x : Var) → IsOutcome (EntryReads kind) b (refused i x) → (p : Reading) (e : End) → Accounts (Items kind) p e (take 8184 b) → (part : List Bool) × Shows (Items kind) p part (take i b) × (length part < width x)
 before kind b i x o p end.Whole a = absurd (whole_unrefused (Items kind) (kind_regular kind) p (take 8184 b) a i x (first_refused kind b i x o))
 before kind b i x o p (end.Open part) a = absurd (open_unrefused (Items kind) p part (take 8184 b) a i x (first_refused kind b i x o))
-before kind b i x o p (end.Refused j part) a =
+before kind b i x o p (end.Refused j part) (shows, refuses, short) =
     let f = first_refused kind b i x o in
-    let same = one_refused (Items kind) (take 8184 b) i j x part.var f a.1 in
+    let same = one_refused (Items kind) (take 8184 b) i j x part.var f refuses in
     let (r, c, l, e) = o.1.viable in
     let lt = inside kind b i r c l e o.1.open_end o.0.1 in
     let front : take j (take 8184 b) ≡ take i b = ap (λ (n : ℕ). take n (take 8184 b)) same ∙ take-take i 8184 b (omega (arith, lt)) in
-    (num part.count part.bits, subst (λ (t : List Bool). Shows (Items kind) p (num part.count part.bits) t) front a.0)
+    let own : Owner (Items kind) (take i b) part.var = subst (λ (t : List Bool). Owner (Items kind) t part.var) front refuses.owned in
+    let var : part.var ≡ x = one_holder (Items kind) (take i b) part.var x own o.1 in
+    let less : length (num part.count part.bits) < width x = omega (arith, length-num part.count part.bits, short, ap width var) in
+    (num part.count part.bits, subst (λ (t : List Bool). Shows (Items kind) p (num part.count part.bits) t) front shows, less)
 
 -- ---- What is said where words or fields are delivered.
 
@@ -85,12 +97,12 @@ account_fields items kind b p sent e (Ok v) a same is = (p, e, a, is ∙ ap fiel
 account_fields items kind b p sent e (Err x) a same is = tt
 
 module _ (old new : List ℕ) (s : ℕ) (a : EtcsAnswer) where
-  pub words_said : {V E : Type 0} (items : V → List ℕ) (status : ℕ) (made : Result V E) → MatchResult made (λ v. WritesAs status (items v) old new s a) (λ x. Starves old new s) → Words status old new s a
-  words_said items status (Ok v) writes = inl (items v, writes)
-  words_said items status (Err x) starves = inr starves
+  pub words_said : {V E : Type 0} (items : V → List ℕ) (status : ℕ) (made : Result V E) → IfOk made (λ v. 0 < length (items v)) → MatchResult made (λ v. WritesAs status (items v) old new s a) (λ x. Starves old new s) → Words status old new s a
+  words_said items status (Ok v) some writes = inl (items v, some, writes)
+  words_said items status (Err x) some starves = inr starves
 
-pub before_said : {V E : Type 0} (items : V → List EtcsField) (kind : Kind) (b : List Bool) (i : ℕ) (x : Var) → IsOutcome (EntryReads kind) b (refused i x) → (old new : List EtcsField) (s : ℕ) (a : EtcsAnswer) (made : Result V E) → IfOk made (λ v. (p : Reading) × (e : End) × Accounts (Items kind) p e (take 8184 b) × (items v ≡ fields_of p)) → MatchResult made (λ v. WritesAs 2 (items v) old new s a) (λ x. Starves old new s) → ((fs : List EtcsField) × AreBefore kind b i fs × WritesAs 2 fs old new s a) ⊎ Starves old new s
-before_said items kind b i x o old new s a (Ok v) (p, e, accounts, is) writes = let (part, shows) = before kind b i x o p e accounts in inl (items v, (p, part, shows, is), writes)
+pub before_said : {V E : Type 0} (items : V → List EtcsField) (kind : Kind) (b : List Bool) (i : ℕ) (x : Var) → IsOutcome (EntryReads kind) b (refused i x) → (old new : List EtcsField) (s : ℕ) (a : EtcsAnswer) (made : Result V E) → IfOk made (λ v. (p : Reading) × (e : End) × Accounts (Items kind) p e (take 8184 b) × (items v ≡ fields_of p)) → MatchResult made (λ v. WritesAs 2 (items v) old new s a) (λ x. Starves old new s) → ((fs : List EtcsField) × AreBefore kind b i x fs × WritesAs 2 fs old new s a) ⊎ Starves old new s
+before_said items kind b i x o old new s a (Ok v) (p, e, accounts, is) writes = let (part, shows, short) = before kind b i x o p e accounts in inl (items v, (p, part, shows, short, is), writes)
 before_said items kind b i x o old new s a (Err y) h starves = inr starves
 
 -- ---- What is said where no bit is refused.

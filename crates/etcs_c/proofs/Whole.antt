@@ -70,11 +70,8 @@ fields_spell e r fs h is =
 fits : (kind : Kind) (e : EntryValue) (r : Reading) → EntryReads kind e r → AllFit r
 fits kind e r h = (kind_regular kind).fit r (e, h)
 
-pub unfit_none : (kind : Kind) (fs : List EtcsField) → (AreFit fs → length (packed fs) ≤ 8 * 1023 → ⊥) → NoneHas kind fs
-unfit_none kind fs not e (r, h, is) =
-    let fit : AreFit fs = subst AreFit (sym is) (fit_reading r (fits kind e r h)) in
-    let bits : length (packed fs) ≡ length (spelled r) = ap (λ (b : List Bool). length b) (ap packed is ∙ packed_reading r) in
-    not fit (omega (arith, bits, (item_bytes e r h.1).most))
+pub unfit_none : (kind : Kind) (fs : List EtcsField) → (AreFit fs → ⊥) → NoneHas kind fs
+unfit_none kind fs not e (r, h, is) = not (subst AreFit (sym is) (fit_reading r (fits kind e r h)))
 
 none_yet : (kind : Kind) (fs : List EtcsField) → NoneYet (readings_of (EntryReads kind)) (whole_bytes (packed fs)) → NoneHas kind fs
 none_yet kind fs none e (r, h, is) =
@@ -109,10 +106,13 @@ pub built_said : {V E : Type 0} (items : V → List ℕ) (kind : Kind) (fs : Lis
 built_said items kind fs e n q o h is old new s a made made_is writes = inl (e, (q, found_reads kind (whole_bytes (packed fs)) e n q o h, is), encoding_said items e old new s a made made_is writes)
 
 pub other_said : (kind : Kind) (fs : List EtcsField) (e : EntryValue) (n : ℕ) (q : Reading) → IsOutcome (EntryReads kind) (whole_bytes (packed fs)) (done e n) → Spells e q → (fs ≡ fields_of q → ⊥) → (old : List ℕ) (a : EtcsAnswer) → IsBuilt kind fs old old 7 a
-other_said kind fs e n q o h not old a = inr (inl (other_none kind fs e n q o h not, inl refl, refl))
+other_said kind fs e n q o h not old a = inr (inl (other_none kind fs e n q o h not, inl (refl, inr (e, n, o)), refl))
 
-pub missed_said : (kind : Kind) (fs : List EtcsField) (found : Found) (old : List ℕ) (s : ℕ) (a : EtcsAnswer) → ((e : Entry) (k : ℕ) → found ≡ found_as.Whole e k → ⊥) → Finds kind (whole_bytes (packed fs)) found → Says found s a → IsBuilt kind fs old old s a
-missed_said kind fs (found_as.Whole e k) old s a not o says = absurd (not e k refl)
-missed_said kind fs found_as.More old s a not o says = inr (inl (more_none kind fs o, inr (inl (says, o)), refl))
-missed_said kind fs (found_as.Refused i x) old s a not o (is, bit, var) = inr (inl (refused_none kind fs i x o, inr (inr (i, x, is, bit, var, o)), refl))
-missed_said kind fs found_as.Memory old s a not o says = inr (inr (says, refl))
+pub unfit_said : (kind : Kind) (fs : List EtcsField) → (AreFit fs → ⊥) → (old : List ℕ) (a : EtcsAnswer) → IsBuilt kind fs old old 7 a
+unfit_said kind fs not old a = inr (inl (unfit_none kind fs not, inl (refl, inl not), refl))
+
+pub missed_said : (kind : Kind) (fs : List EtcsField) → AreFit fs → (found : Found) (old : List ℕ) (s : ℕ) (a : EtcsAnswer) → ((e : Entry) (k : ℕ) → found ≡ found_as.Whole e k → ⊥) → Finds kind (whole_bytes (packed fs)) found → Says found s a → IsBuilt kind fs old old s a
+missed_said kind fs fit (found_as.Whole e k) old s a not o says = absurd (not e k refl)
+missed_said kind fs fit found_as.More old s a not o says = inr (inl (more_none kind fs o, inr (fit, inl (says, o)), refl))
+missed_said kind fs fit (found_as.Refused i x) old s a not o (is, bit, var) = inr (inl (refused_none kind fs i x o, inr (fit, inr (i, x, is, bit, var, o)), refl))
+missed_said kind fs fit found_as.Memory old s a not o says = inr (inr (says, refl))

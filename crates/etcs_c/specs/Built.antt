@@ -1,7 +1,7 @@
 -- Items of their fields, as C has them.
 use Rattle.std.specs.Prelude.{◌≡◌, ℕ, ◌⊎◌, Bool, List}
 use Rattle.etcs_vars.specs.declared.var.Var.{Var}
-use Rattle.etcs_vars.specs.Reading.{Reading, IsOutcome, refused, more}
+use Rattle.etcs_vars.specs.Reading.{Reading, IsOutcome, done, refused, more}
 use Rattle.etcs_text.specs.declared.entry.Kind.{Kind}
 use Rattle.etcs_text.specs.Entries.{EntryReads, EntryValue}
 use Rattle.etcs_text.specs.Encodings.{IsEncoded}
@@ -10,7 +10,7 @@ use Rattle.etcs_c.specs.declared.fields.EtcsField.{EtcsField}
 use Rattle.etcs_c.specs.Writes.{Starves, Writes, name_field}
 use Rattle.etcs_c.specs.Answers.{NoKind, kind_number}
 use Rattle.etcs_c.specs.Fields.{fields_of}
-use Rattle.etcs_c.specs.ItemFields.{packed, whole_bytes}
+use Rattle.etcs_c.specs.ItemFields.{AreFit, packed, whole_bytes}
 
 -- these are the fields of the item, which is of the kind
 abbrev pub HasFields : Kind → List EtcsField → EntryValue → Type 0
@@ -24,13 +24,18 @@ NoneHas kind fs = (e : EntryValue) → HasFields kind fs e → ⊥
 abbrev pub SaysPacked : EntryValue → List ℕ → List ℕ → ℕ → EtcsAnswer → Type 0
 SaysPacked e old new s a = ((bytes : List ℕ) × IsEncoded e bytes × Writes bytes old new s a) ⊎ Starves old new s
 
--- what is said where no item has them: what their bits begin with, up to the last whole byte; or that it isn't that
-abbrev pub Misses : Kind → List Bool → ℕ → EtcsAnswer → Type 0
-Misses kind b s a = (s ≡ 7) ⊎ (((s ≡ 1) × IsOutcome (EntryReads kind) b more) ⊎ ((i : ℕ) × (x : Var) × (s ≡ 2) × (a.bit ≡ i) × (a.var ≡ name_field x) × IsOutcome (EntryReads kind) b (refused i x)))
+-- they don't fit, or their bits, up to the last whole byte, begin with an item
+abbrev pub AreBad : Kind → List EtcsField → Type 0
+AreBad kind fs = (AreFit fs → ⊥) ⊎ ((e : EntryValue) × (n : ℕ) × IsOutcome (EntryReads kind) (whole_bytes (packed fs)) (done e n))
+
+-- what is said where no item has them: that they are bad; or, where they fit, that their bits, up to the last whole byte, end
+-- inside an item, or which of them is refused
+abbrev pub Misses : Kind → List EtcsField → ℕ → EtcsAnswer → Type 0
+Misses kind fs s a = ((s ≡ 7) × AreBad kind fs) ⊎ (AreFit fs × (((s ≡ 1) × IsOutcome (EntryReads kind) (whole_bytes (packed fs)) more) ⊎ ((i : ℕ) × (x : Var) × (s ≡ 2) × (a.bit ≡ i) × (a.var ≡ name_field x) × IsOutcome (EntryReads kind) (whole_bytes (packed fs)) (refused i x))))
 
 -- of the item whose fields these are its encoding; else nothing is written
 abbrev pub IsBuilt : Kind → List EtcsField → List ℕ → List ℕ → ℕ → EtcsAnswer → Type 0
-IsBuilt kind fs old new s a = ((e : EntryValue) × HasFields kind fs e × SaysPacked e old new s a) ⊎ ((NoneHas kind fs × Misses kind (whole_bytes (packed fs)) s a × (new ≡ old)) ⊎ Starves old new s)
+IsBuilt kind fs old new s a = ((e : EntryValue) × HasFields kind fs e × SaysPacked e old new s a) ⊎ ((NoneHas kind fs × Misses kind fs s a × (new ≡ old)) ⊎ Starves old new s)
 
 abbrev pub Builds : ℕ → List EtcsField → List ℕ → List ℕ → ℕ → EtcsAnswer → Type 0
 Builds n fs old new s a = ((kind : Kind) × (kind_number kind ≡ n) × IsBuilt kind fs old new s a) ⊎ (NoKind n s × (new ≡ old))

@@ -1,5 +1,6 @@
 -- What is said of bytes that no item begins with, and of lines that say none.
-use Rattle.std.specs.Prelude.{◌≡◌, ℕ, ◌⊎◌, Bool, List, take}
+use Rattle.std.specs.Prelude.{◌≡◌, ◌<◌, ℕ, ◌⊎◌, Bool, List, length, take}
+use Rattle.etcs_vars.specs.Vars.{width}
 use Rattle.etcs_vars.specs.declared.var.Var.{Var}
 use Rattle.etcs_vars.specs.Reading.{Reading, readings_of}
 use Rattle.etcs_text.specs.declared.entry.Kind.{Kind}
@@ -16,9 +17,9 @@ use Rattle.etcs_c.specs.Writes.{Starves, WritesAs, name_field}
 use Rattle.etcs_c.specs.Answers.{Says}
 use Rattle.etcs_c.specs.Fields.{fields_of}
 
--- some words are written, and the status is this one
+-- some words, not none, are written, and the status is this one
 abbrev pub Words : ℕ → List ℕ → List ℕ → ℕ → EtcsAnswer → Type 0
-Words status old new s a = ((text : List ℕ) × WritesAs status text old new s a) ⊎ Starves old new s
+Words status old new s a = ((text : List ℕ) × (0 < length text) × WritesAs status text old new s a) ⊎ Starves old new s
 
 -- of a refused bit which it is, its variable and words; else as a check, and nothing is written
 abbrev pub SaysWhy : Found → List ℕ → List ℕ → ℕ → EtcsAnswer → Type 0
@@ -27,16 +28,16 @@ SaysWhy More old new s a = Says More s a × (a.written ≡ 0) × (new ≡ old)
 SaysWhy (Refused i x) old new s a = (a.bit ≡ i) × (a.var ≡ name_field x) × Words 2 old new s a
 SaysWhy Memory old new s a = Says Memory s a × (a.written ≡ 0) × (new ≡ old)
 
--- these are fields of variables with which an item of the kind begins, and their bits and a part of the next variable are
--- the bits before bit i
-abbrev pub AreBefore : Kind → List Bool → ℕ → List EtcsField → Type 0
-AreBefore kind b i fs = (p : Reading) × (part : List Bool) × Shows (readings_of (EntryReads kind)) p part (take i b) × (fs ≡ fields_of p)
+-- these are fields of variables with which an item of the kind begins, and their bits and a part of variable x, fewer bits
+-- than it has, are the bits before bit i
+abbrev pub AreBefore : Kind → List Bool → ℕ → Var → List EtcsField → Type 0
+AreBefore kind b i x fs = (p : Reading) × (part : List Bool) × Shows (readings_of (EntryReads kind)) p part (take i b) × (length part < width x) × (fs ≡ fields_of p)
 
 -- of a refused bit which it is, its variable and the fields before it; else as a check, and nothing is written
 abbrev pub SaysBefore : Kind → List Bool → Found → List EtcsField → List EtcsField → ℕ → EtcsAnswer → Type 0
 SaysBefore kind b (Whole e k) old new s a = Says (Whole e k) s a × (a.written ≡ 0) × (new ≡ old)
 SaysBefore kind b More old new s a = Says More s a × (a.written ≡ 0) × (new ≡ old)
-SaysBefore kind b (Refused i x) old new s a = (a.bit ≡ i) × (a.var ≡ name_field x) × (((fs : List EtcsField) × AreBefore kind b i fs × WritesAs 2 fs old new s a) ⊎ Starves old new s)
+SaysBefore kind b (Refused i x) old new s a = (a.bit ≡ i) × (a.var ≡ name_field x) × (((fs : List EtcsField) × AreBefore kind b i x fs × WritesAs 2 fs old new s a) ⊎ Starves old new s)
 SaysBefore kind b Memory old new s a = Says Memory s a × (a.written ≡ 0) × (new ≡ old)
 
 -- of a line that says no item words, with what is said of it where an item's encoding is wanted; of one that says an item

@@ -1,6 +1,7 @@
 //! Items of their variables.
 
-ghost use Rattle.std.specs.Prelude.{◌≡◌, ◌+◌, ◌≤◌, ◌*◌, IfSome, IsNone, length, take};
+ghost use Rattle.std.specs.Prelude.{◌≡◌, ◌+◌, ◌-◌, ◌≤◌, min, length, take};
+ghost use Rattle.std.specs.Bool.{Decides};
 ghost use Rattle.etcs_bits.specs.Bits.{bits, num, replaced};
 ghost use Rattle.etcs_c.specs.Answers.{Finds};
 ghost use Rattle.etcs_c.specs.Built.{IsBuilt};
@@ -10,48 +11,65 @@ use crate::answer::{BAD_FIELDS, EtcsAnswer, NO_MEMORY, WHOLE, deliver};
 use crate::fields::{EtcsField, has_fields};
 use crate::found::{Found, find, say};
 use crate::json::encoding_of;
-use etcs_bits::{PokeFault, poke};
+use etcs_bits::inner::write;
 use etcs_text::Kind;
 use std::alloc::{AllocError, Global};
 
 /// As many bytes as the longest item has.
 const LONGEST: usize = 1023;
 
-/// Writes the number of a field from a bit on, and says which bit comes after it. `None` where the number has more bits
-/// than its width, the width is above 64, or the bytes are too few.
-#[tactic(auto, using(crate::proofs::Rooms::bits_of_bytes))]
-fn put(field: &EtcsField, place: usize, out: &mut [u8]) -> Option<usize>
-    requires { length out.old ≤ 1023 }
-    ensures room { length out.new ≡ length out.old }
-    ensures behind { IfSome result (λ behind. (behind ≡ place + field.now.width) × (behind ≤ 8 * length out.old)) }
-    ensures fit { IfSome result (λ _. IsFit field.now) }
-    ensures bits { IfSome result (λ _. bits out.new ≡ replaced place (num field.now.width field.now.number) (bits out.old)) }
-    ensures none { IsNone result → IsFit field.now → place + field.now.width ≤ 8 * length out.old → ⊥ }
+/// Whether the number of a field, of at most 64 bits, has no more than its width says.
+fn is_fit(field: &EtcsField) -> bool
+    ensures { Decides result (IsFit field.now) }
 {
-    let width = field.width as usize;
-    if width > 64 {
-        return None;
-    }
-    match poke(out, place, width, field.number) {
-        Ok(()) => Some(place + width),
-        Err(PokeFault::PastEnd) => None,
-        Err(PokeFault::TooLarge) => None,
+    let EtcsField { number, width, .. } = *field;
+    if width < 64 {
+        number >> width == 0
+    } else {
+        width == 64
     }
 }
 
-/// Writes the numbers of fields one after another, and says how many whole bytes they are. `None` where they don't fit.
-fn pack(fields: &[EtcsField], out: &mut [u8]) -> Option<usize>
-    requires { length out.old ≡ 1023 }
+/// Whether the numbers of all fields have no more bits than their widths say.
+fn are_fit(fields: &[EtcsField]) -> bool
+    ensures { Decides result (AreFit fields.now) }
+{
+    fields.iter().all(|field| is_fit(field))
+}
+
+/// Writes the number of a field from a bit on, or its first bits where there is no room for more, and says which bit
+/// comes after them.
+#[tactic(auto, using(crate::proofs::Rooms::bits_of_bytes))]
+fn put(field: &EtcsField, place: usize, out: &mut [u8]) -> usize
+    requires fit { IsFit field.now }
+    requires room { length out.old ≡ 1023 }
+    requires inside { place ≤ 8184 }
     ensures room { length out.new ≡ length out.old }
-    ensures inside { IfSome result (λ count. count ≤ length out.new) }
-    ensures bits { IfSome result (λ count. bits (take count out.new) ≡ whole_bytes (packed fields.now)) }
-    ensures none { IsNone result → AreFit fields.now → length (packed fields.now) ≤ 8 * 1023 → ⊥ }
+    ensures behind { result ≡ min (place + field.now.width) 8184 }
+    ensures bits { bits out.new ≡ replaced place (take (8184 - place) (num field.now.width field.now.number)) (bits out.old) }
+{
+    let width = field.width as usize;
+    let count = width.min(8 * LONGEST - place);
+    if count == 0 {
+        return place;
+    }
+    write(out, place, count, field.number >> (width - count));
+    place + count
+}
+
+/// Writes the numbers of fields one after another, as far as there is room, and says how many whole bytes they are.
+fn pack(fields: &[EtcsField], out: &mut [u8]) -> usize
+    requires fit { AreFit fields.now }
+    requires room { length out.old ≡ 1023 }
+    ensures room { length out.new ≡ length out.old }
+    ensures inside { result ≤ length out.new }
+    ensures bits { bits (take result out.new) ≡ take 8184 (whole_bytes (packed fields.now)) }
 {
     let mut place = 0;
     for field in fields {
-        place = put(field, place, out)?;
+        place = put(field, place, out);
     }
-    Some(place / 8)
+    place / 8
 }
 
 /// Writes the encoding of what was found, where these are its fields, whose bits it was found in.
@@ -63,7 +81,8 @@ fn build(
     out: &mut [u8],
     answer: &mut EtcsAnswer,
 ) -> u32
-    requires { Finds kind (whole_bytes (packed fields.now)) found.now }
+    requires fit { AreFit fields.now }
+    requires found { Finds kind (whole_bytes (packed fields.now)) found.now }
     ensures { IsBuilt kind fields.now out.old out.new result answer.new }
 {
     let status = say(found, answer);
@@ -87,16 +106,11 @@ pub(crate) fn from_fields(
 ) -> u32
     ensures { IsBuilt kind fields.now out.old out.new result answer.new }
 {
-    let mut room = [0; LONGEST];
-    match pack(fields, &mut room) {
-        Some(count) => build(
-            alloc,
-            kind,
-            &find(alloc, kind, &room[..count]),
-            fields,
-            out,
-            answer,
-        ),
-        None => BAD_FIELDS,
+    if !are_fit(fields) {
+        return BAD_FIELDS;
     }
+    let mut room = [0; LONGEST];
+    let count = pack(fields, &mut room);
+    let found = find(alloc, kind, &room[..count]);
+    build(alloc, kind, &found, fields, out, answer)
 }

@@ -1,6 +1,6 @@
 //! Why bytes or a line of JSON are no item.
 
-ghost use Rattle.std.specs.Prelude.{◌≡◌, ◌*◌, ℕ, IfOk, take};
+ghost use Rattle.std.specs.Prelude.{◌≡◌, ◌*◌, ◌<◌, ℕ, IfOk, length, take};
 ghost use Rattle.etcs_bits.specs.Bits.{bits};
 ghost use Rattle.etcs_vars.specs.declared.var.Var.{Var};
 ghost use Rattle.etcs_vars.specs.Reading.{Reading, IsOutcome, readings_of, refused};
@@ -14,7 +14,7 @@ ghost use Rattle.etcs_c.specs.Fields.{fields_of};
 use crate::answer::{BAD_JSON, EtcsAnswer, NO_MEMORY, REFUSED, WHOLE, deliver, refuse};
 use crate::fields::{EtcsField, fields_in};
 use crate::found::{Found, find, say};
-use etcs_explain::why_json;
+use etcs_explain::json_reason;
 use etcs_json::{JsonFault, from_line};
 use etcs_reasons::{Account, why};
 use etcs_text::Kind;
@@ -23,6 +23,7 @@ use std::alloc::{AllocError, Global};
 /// Why a bit of the bytes is refused.
 fn sentence_of(alloc: Global, kind: Kind, bytes: &[u8]) -> Result<Vec<u8>, AllocError>
     requires { (i : ℕ) × (x : Var) × IsOutcome (EntryReads kind) (bits bytes.now) (refused i x) }
+    ensures { IfOk result (λ words. 0 < length words.items) }
 {
     let said = why(alloc, kind, bytes)?;
     match said {
@@ -109,12 +110,16 @@ pub(crate) fn tell_before(
     say_before(alloc, kind, bytes, &find(alloc, kind, bytes), out, answer)
 }
 
-/// Why a line is the JSON of no item; nothing where it is that of one.
-fn line_sentence_of(alloc: Global, kind: Kind, line: &[u8]) -> Result<Vec<u8>, AllocError> {
-    match why_json(alloc, kind, line)? {
-        Some(sentence) => Ok(sentence.into_bytes()),
-        None => Ok(Vec::new(alloc)),
-    }
+/// Why a line that was answered with this fault is the JSON of no item.
+fn line_sentence_of(
+    alloc: Global,
+    kind: Kind,
+    line: &[u8],
+    fault: JsonFault,
+) -> Result<Vec<u8>, AllocError>
+    ensures { IfOk result (λ words. 0 < length words.items) }
+{
+    Ok(json_reason(alloc, kind, line, fault)?.into_bytes())
 }
 
 /// Answers as where the encoding of a line's item is wanted, and writes why the line says none.
@@ -132,13 +137,17 @@ pub(crate) fn tell_line_why(
             answer.written = 0;
             WHOLE
         }
-        Err(JsonFault::Refused { bit, var }) => {
-            refuse(bit, var, answer);
-            deliver(REFUSED, line_sentence_of(alloc, kind, line), out, answer)
-        }
-        Err(JsonFault::Shape) => {
-            deliver(BAD_JSON, line_sentence_of(alloc, kind, line), out, answer)
-        }
-        Err(JsonFault::Memory) => NO_MEMORY,
+        Err(fault) => match fault {
+            JsonFault::Refused { bit, var } => {
+                refuse(bit, var, answer);
+                let words = line_sentence_of(alloc, kind, line, fault);
+                deliver(REFUSED, words, out, answer)
+            }
+            JsonFault::Shape => {
+                let words = line_sentence_of(alloc, kind, line, fault);
+                deliver(BAD_JSON, words, out, answer)
+            }
+            JsonFault::Memory => NO_MEMORY,
+        },
     }
 }

@@ -5,6 +5,8 @@
 
 mod answer;
 mod built;
+#[cfg(test)]
+mod call_tests;
 mod explained;
 mod fields;
 mod found;
@@ -119,8 +121,9 @@ pub extern "C" fn etcs_fields(
     }
 }
 
-/// The encoding of the item whose fields these are, as `etcs_fields` writes them; as `etcs_check` where their bits are
-/// refused or their whole bytes end inside an item, and else `ETCS_BAD_FIELDS`; in these cases no item has them.
+/// The encoding of the item whose fields these are, as `etcs_fields` writes them. Where no item has them:
+/// `ETCS_BAD_FIELDS` if a number has more bits than its width or another item begins with their bits, and else as
+/// `etcs_check` of their bits up to the last whole byte.
 #[unsafe(no_mangle)]
 pub extern "C" fn etcs_from_fields(
     alloc: Global,

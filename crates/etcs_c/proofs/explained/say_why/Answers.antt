@@ -8,7 +8,7 @@ sentence_of-requires c = (c.in-Refused.bit, c.in-Refused.var, rw c.in-Refused.is
 pub returns-in-Refused : goal.returns-in-Refused
 returns-in-Refused c =
     let says = rw c.in-Refused.is at c.say-status.ensures in
-    let words = words_said c.args.out.now c.deliver.new.out c.deliver.result c.deliver.new.answer (λ v. v.items) 2 c.sentence_of.result c.deliver.ensures.writes in
+    let words = words_said c.args.out.now c.deliver.new.out c.deliver.result c.deliver.new.answer (λ v. v.items) 2 c.sentence_of.result c.sentence_of.ensures c.deliver.ensures.writes in
     rw c.in-Refused.is (c.deliver.ensures.bit ∙ says.1, c.deliver.ensures.var ∙ says.2, words)
 
 pub returns-in_default : goal.returns-in_default

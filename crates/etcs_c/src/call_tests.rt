@@ -1,0 +1,303 @@
+//! Each status of each call, over items and fields that are worked out by hand from the tables.
+
+use crate::{
+    EtcsAnswer, EtcsField, etcs_check, etcs_explain, etcs_explain_json, etcs_fields,
+    etcs_fields_before, etcs_from_fields, etcs_from_json, etcs_show, etcs_to_json,
+};
+use etcs_fakes::starve;
+use std::alloc::Global;
+use std::test::Fail;
+
+/// Message 24 to the train: NID_MESSAGE 24, L_MESSAGE 10, then T_TRAIN, M_ACK, NID_LRBG and PADDING, which are zeros.
+const ITEM: &[u8] = &[0x18, 0x02, 0x80, 0, 0, 0, 0, 0, 0, 0];
+
+/// The first nine of its bytes.
+const FRONT: &[u8] = &[0x18, 0x02, 0x80, 0, 0, 0, 0, 0, 0];
+
+/// The same with packet 137 in 13 bytes, for which a reader wants memory.
+const PACKET: &[u8] = &[
+    0x18, 0x03, 0x40, 0x00, 0x00, 0x00, 0x00, 0x08, 0x00, 0x31, 0x28, 0x06, 0x20,
+];
+
+/// L_MESSAGE 11, in which a packet has no room: the last bit of L_MESSAGE is bit 17.
+const ELEVEN: &[u8] = &[0x18, 0x02, 0xC0];
+
+/// The JSON of the item.
+const LINE: &[u8] =
+    b"{\"fields\":[],\"header\":[[\"T_TRAIN\",0],[\"M_ACK\",0],[\"NID_LRBG\",0]],\"kind\":\"radio\",\"nid\":24,\"packets\":[],\"padding\":\"00000\"}";
+
+/// A short telegram with packet 131 as bits: after 50 bits of header and 23 of frame Q_SCALE 3, which is spare.
+const SPARE: &[u8] =
+    b"{\"fill\":\"11111111111111111111111\",\"header\":[[\"Q_UPDOWN\",1],[\"M_VERSION\",33],[\"Q_MEDIA\",0],[\"N_PIG\",1],[\"N_TOTAL\",1],[\"M_DUP\",2],[\"M_MCOUNT\",40],[\"NID_C\",98],[\"NID_BG\",511],[\"Q_LINK\",1]],\"kind\":\"short\",\"packets\":[{\"data\":\"1100000000000000000000000000000000000000000000000000000000000000000000000000000000000000000000000000000000\",\"dir\":0,\"nid\":131}]}";
+
+/// What isn't promised isn't compared.
+const ANY: usize = usize::MAX;
+
+/// The variable of the refused bits, and of no bit.
+const LENGTH: &[u8] = b"L_MESSAGE\0";
+
+const SCALE: &[u8] = b"Q_SCALE\0";
+
+const NONE: &[u8] = b"";
+
+/// The status, `taken`, `written`, `bit`, and how `var` begins.
+type Wanted = (u32, usize, usize, usize, &'static [u8]);
+
+/// The calls over bytes.
+#[derive(Clone, Copy)]
+enum Call {
+    Check,
+    Show,
+    ToJson,
+    Fields,
+    Explain,
+    FieldsBefore,
+}
+
+/// A call over bytes, of which kind and with how much room.
+type OfBytes = (Call, u32, &'static [u8], usize, Wanted);
+
+static OF_BYTES: &[OfBytes] = &[
+    (Call::Check, 3, ITEM, 0, (0, 10, ANY, ANY, NONE)),
+    (Call::Check, 3, FRONT, 0, (1, ANY, ANY, ANY, NONE)),
+    (Call::Check, 3, ELEVEN, 0, (2, ANY, ANY, 17, LENGTH)),
+    (Call::Check, 9, ITEM, 0, (5, ANY, ANY, ANY, NONE)),
+    (Call::Show, 3, ITEM, 110, (0, 10, 110, ANY, NONE)),
+    (Call::Show, 3, ITEM, 109, (3, 10, 110, ANY, NONE)),
+    (Call::Show, 3, FRONT, 110, (1, ANY, ANY, ANY, NONE)),
+    (Call::Show, 3, ELEVEN, 110, (2, ANY, ANY, 17, LENGTH)),
+    (Call::Show, 9, ITEM, 110, (5, ANY, ANY, ANY, NONE)),
+    (Call::ToJson, 3, ITEM, 120, (0, 10, 120, ANY, NONE)),
+    (Call::ToJson, 3, ITEM, 119, (3, 10, 120, ANY, NONE)),
+    (Call::ToJson, 3, FRONT, 120, (1, ANY, ANY, ANY, NONE)),
+    (Call::ToJson, 3, ELEVEN, 120, (2, ANY, ANY, 17, LENGTH)),
+    (Call::ToJson, 9, ITEM, 120, (5, ANY, ANY, ANY, NONE)),
+    (Call::Fields, 3, ITEM, 6, (0, 10, 6, ANY, NONE)),
+    (Call::Fields, 3, ITEM, 5, (3, 10, 6, ANY, NONE)),
+    (Call::Fields, 3, FRONT, 6, (1, ANY, ANY, ANY, NONE)),
+    (Call::Fields, 3, ELEVEN, 6, (2, ANY, ANY, 17, LENGTH)),
+    (Call::Fields, 9, ITEM, 6, (5, ANY, ANY, ANY, NONE)),
+    (Call::Explain, 3, ITEM, 45, (0, 10, 0, ANY, NONE)),
+    (Call::Explain, 3, FRONT, 45, (1, ANY, 0, ANY, NONE)),
+    (Call::Explain, 3, ELEVEN, 45, (2, ANY, 45, 17, LENGTH)),
+    (Call::Explain, 3, ELEVEN, 44, (3, ANY, 45, 17, LENGTH)),
+    (Call::Explain, 9, ELEVEN, 45, (5, ANY, ANY, ANY, NONE)),
+    (Call::FieldsBefore, 3, ITEM, 1, (0, 10, 0, ANY, NONE)),
+    (Call::FieldsBefore, 3, FRONT, 1, (1, ANY, 0, ANY, NONE)),
+    (Call::FieldsBefore, 3, ELEVEN, 1, (2, ANY, 1, 17, LENGTH)),
+    (Call::FieldsBefore, 3, ELEVEN, 0, (3, ANY, 1, 17, LENGTH)),
+    (Call::FieldsBefore, 9, ELEVEN, 1, (5, ANY, ANY, ANY, NONE)),
+];
+
+/// Whether the reason is asked for, the kind, a line, and how much room there is for 120 bytes at most.
+type OfLines = (bool, u32, &'static [u8], usize, Wanted);
+
+static OF_LINES: &[OfLines] = &[
+    (false, 3, LINE, 10, (0, ANY, 10, ANY, NONE)),
+    (false, 3, LINE, 9, (3, ANY, 10, ANY, NONE)),
+    (false, 3, b"{}", 10, (6, ANY, ANY, ANY, NONE)),
+    (false, 2, SPARE, 27, (2, ANY, ANY, 74, SCALE)),
+    (false, 9, LINE, 10, (5, ANY, ANY, ANY, NONE)),
+    (true, 3, LINE, 120, (0, ANY, 0, ANY, NONE)),
+    (true, 3, b"{}", 29, (6, ANY, 29, ANY, NONE)),
+    (true, 3, b"{}", 28, (3, ANY, 29, ANY, NONE)),
+    (true, 2, SPARE, 69, (2, ANY, 69, 74, SCALE)),
+    (true, 2, SPARE, 68, (3, ANY, 69, 74, SCALE)),
+    (true, 9, LINE, 120, (5, ANY, ANY, ANY, NONE)),
+];
+
+/// The number, variable and width of each field.
+type Rows = &'static [(u64, u32, u32)];
+
+const OWN: Rows = &[
+    (24, 82, 8),
+    (10, 83, 10),
+    (0, 84, 32),
+    (0, 85, 1),
+    (0, 86, 24),
+    (0, 128, 5),
+];
+
+const OF_ELEVEN: Rows = &[(24, 82, 8), (11, 83, 10), (0, 84, 32)];
+
+const OTHER_VARIABLE: Rows = &[
+    (24, 83, 8),
+    (10, 83, 10),
+    (0, 84, 32),
+    (0, 85, 1),
+    (0, 86, 24),
+    (0, 128, 5),
+];
+
+/// The kind, the first of the fields, how many there are with those of 64 zeros after them, and how much room.
+type OfFields = (u32, Rows, usize, usize, Wanted);
+
+/// Of zeros alone bit 16 is refused, the last but one of L_MESSAGE, which is 3 at least; in more than 8,184 bits too.
+static OF_FIELDS: &[OfFields] = &[
+    (3, OWN, 6, 10, (0, ANY, 10, ANY, NONE)),
+    (3, OWN, 6, 9, (3, ANY, 10, ANY, NONE)),
+    (3, OWN, 5, 10, (1, ANY, ANY, ANY, NONE)),
+    (3, OWN, 0, 10, (1, ANY, ANY, ANY, NONE)),
+    (3, OF_ELEVEN, 3, 10, (2, ANY, ANY, 17, LENGTH)),
+    (3, &[], 127, 10, (2, ANY, ANY, 16, LENGTH)),
+    (3, &[], 130, 10, (2, ANY, ANY, 16, LENGTH)),
+    (3, OTHER_VARIABLE, 6, 10, (7, ANY, ANY, ANY, NONE)),
+    (3, OWN, 7, 10, (7, ANY, ANY, ANY, NONE)),
+    (3, &[(256, 82, 8)], 1, 10, (7, ANY, ANY, ANY, NONE)),
+    (3, &[(24, 82, 65)], 1, 10, (7, ANY, ANY, ANY, NONE)),
+    (9, OWN, 6, 10, (5, ANY, ANY, ANY, NONE)),
+];
+
+/// Numbers that no call answers here.
+fn unanswered() -> EtcsAnswer {
+    EtcsAnswer {
+        taken: 99,
+        written: 99,
+        bit: 99,
+        var: [0; 32],
+    }
+}
+
+/// Whether this is promised.
+fn is(answered: usize, wanted: usize) -> bool {
+    wanted == ANY || answered == wanted
+}
+
+/// Whether a call answered what is wanted.
+fn is_answered(status: u32, answer: &EtcsAnswer, wanted: &Wanted) -> bool {
+    let (code, taken, written, bit, var) = *wanted;
+    status == code
+        && is(answer.taken, taken)
+        && is(answer.written, written)
+        && is(answer.bit, bit)
+        && answer.var.starts_with(var)
+}
+
+/// Asks a call over bytes.
+fn ask_bytes(alloc: Global, case: &OfBytes, answer: &mut EtcsAnswer) -> u32 {
+    let (call, kind, bytes, room, _) = *case;
+    let (mut text, mut fields) = ([0; 120], before_zeros(&[]));
+    let out = &mut text[..room.min(120)];
+    let own = &mut fields[..room.min(130)];
+    match call {
+        Call::Check => etcs_check(alloc, kind, bytes, answer),
+        Call::Show => etcs_show(alloc, kind, 1, bytes, out, answer),
+        Call::ToJson => etcs_to_json(alloc, kind, bytes, out, answer),
+        Call::Fields => etcs_fields(alloc, kind, bytes, own, answer),
+        Call::Explain => etcs_explain(alloc, kind, bytes, out, answer),
+        Call::FieldsBefore => etcs_fields_before(alloc, kind, bytes, own, answer),
+    }
+}
+
+/// Asks a call over a line.
+fn ask_line(alloc: Global, case: &OfLines, answer: &mut EtcsAnswer) -> u32 {
+    let (is_why, kind, line, room, _) = *case;
+    let mut text = [0; 120];
+    let out = &mut text[..room.min(120)];
+    if is_why {
+        etcs_explain_json(alloc, kind, line, out, answer)
+    } else {
+        etcs_from_json(alloc, kind, line, out, answer)
+    }
+}
+
+/// These fields, and after them such of 64 zeros.
+fn before_zeros(rows: &[(u64, u32, u32)]) -> [EtcsField; 130] {
+    let zeros = EtcsField {
+        number: 0,
+        var: 0,
+        width: 64,
+    };
+    let mut fields = [zeros; 130];
+    for (field, row) in fields.iter_mut().zip(rows) {
+        let (number, var, width) = *row;
+        *field = EtcsField { number, var, width };
+    }
+    fields
+}
+
+/// Asks for the encoding of fields.
+fn ask_fields(alloc: Global, case: &OfFields, answer: &mut EtcsAnswer) -> u32 {
+    let (kind, rows, count, room, _) = *case;
+    let (fields, mut bytes) = (before_zeros(rows), [0; 10]);
+    let out = &mut bytes[..room.min(10)];
+    etcs_from_fields(alloc, kind, &fields[..count.min(130)], out, answer)
+}
+
+/// The first of these calls over bytes that answers something else.
+fn wrong_of_bytes(alloc: Global, cases: &[OfBytes]) -> Option<usize> {
+    for (i, case) in cases.iter().enumerate() {
+        let answer = &mut unanswered();
+        let status = ask_bytes(alloc, case, answer);
+        if !is_answered(status, answer, &case.4) {
+            return Some(i);
+        }
+    }
+    None
+}
+
+/// The first of these calls over lines that answers something else.
+fn wrong_of_lines(alloc: Global, cases: &[OfLines]) -> Option<usize> {
+    for (i, case) in cases.iter().enumerate() {
+        let answer = &mut unanswered();
+        let status = ask_line(alloc, case, answer);
+        if !is_answered(status, answer, &case.4) {
+            return Some(i);
+        }
+    }
+    None
+}
+
+/// The first of these calls over fields that answers something else.
+fn wrong_of_fields(alloc: Global, cases: &[OfFields]) -> Option<usize> {
+    for (i, case) in cases.iter().enumerate() {
+        let answer = &mut unanswered();
+        let status = ask_fields(alloc, case, answer);
+        if !is_answered(status, answer, &case.4) {
+            return Some(i);
+        }
+    }
+    None
+}
+
+/// Each status of each call, but where memory is refused.
+#[test]
+fn each_status(rt: HostRuntime) -> Result<(), Fail> {
+    let alloc = rt.alloc();
+    assert_eq!(rt; wrong_of_bytes(alloc, OF_BYTES), None);
+    assert_eq!(rt; wrong_of_lines(alloc, OF_LINES), None);
+    assert_eq!(rt; wrong_of_fields(alloc, OF_FIELDS), None);
+    Ok(())
+}
+
+/// What is answered where memory is refused.
+const STARVED: Wanted = (4, ANY, ANY, ANY, NONE);
+
+/// A call of each function, all of which want memory.
+static STARVED_BYTES: &[OfBytes] = &[
+    (Call::Check, 3, PACKET, 0, STARVED),
+    (Call::Show, 3, ITEM, 110, STARVED),
+    (Call::ToJson, 3, ITEM, 120, STARVED),
+    (Call::Fields, 3, ITEM, 6, STARVED),
+    (Call::Explain, 3, ELEVEN, 45, STARVED),
+    (Call::FieldsBefore, 3, ELEVEN, 1, STARVED),
+];
+
+static STARVED_LINES: &[OfLines] = &[(false, 3, LINE, 10, STARVED), (true, 3, b"{}", 29, STARVED)];
+
+static STARVED_FIELDS: &[OfFields] = &[(3, OWN, 6, 10, STARVED)];
+
+/// The status of each call where memory is refused.
+#[test]
+fn refused_memory(rt: HostRuntime) -> Result<(), Fail> {
+    let alloc = rt.alloc();
+    let held = starve(alloc)?;
+    let bytes = wrong_of_bytes(alloc, STARVED_BYTES);
+    let lines = wrong_of_lines(alloc, STARVED_LINES);
+    let fields = wrong_of_fields(alloc, STARVED_FIELDS);
+    drop(held);
+    assert_eq!(rt; bytes, None);
+    assert_eq!(rt; lines, None);
+    assert_eq!(rt; fields, None);
+    Ok(())
+}

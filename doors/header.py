@@ -1,7 +1,8 @@
 #!/usr/bin/env python3
 """Compares etcs.h with the exports of crates/etcs_c/src: names, types in order; with the structs and the constants of
 crates/etcs_c/src; the names in the map of symbols, in Ada and in Python with the exports; and the tables of variables
-for C, Python and Ada, and the packets to begin with, with the specs; and the versions of the doors with the program's.
+for C, Python and Ada, and the packets to begin with, with the specs; what numbers mean, for Python, with the sources of
+`explain`; and the versions of the doors with the program's.
 
     doors/header.py            the status is 0 where they agree; nothing else compares them
     doors/header.py --write    writes the tables anew, and the version of etcs.h
@@ -16,11 +17,16 @@ sys.dont_write_bytecode = True
 sys.path.insert(0, os.path.join(TOP, "tools"))
 from format_tables import skeletons
 from schema import HEADERS, ROOM
-from sources import variable
+from sources import names as names_of, number_texts, units, variable
 
 VARS_H, VARS_PY, VARS_ADS = "doors/c/etcs_vars.h", "doors/python/src/etcs/_variables.py", "doors/ada/etcs-variables.ads"
-BLANKS_PY = "doors/python/src/etcs/_blanks.py"
+BLANKS_PY, MEANINGS_PY = "doors/python/src/etcs/_blanks.py", "doors/python/src/etcs/_meanings.py"
 HEADER_H = "doors/c/etcs.h"
+NAMED = [
+    ("PACKET_NAMES_TRAIN", "TO_TRAIN", "what the standard calls packets to the train"),
+    ("PACKET_NAMES_TRACK", "TO_TRACK", "what it calls those to the track"),
+    ("MESSAGE_NAMES", "MESSAGES", "what it calls messages"),
+]
 # Where else a version is said.
 VERSIONS = {
     "doors/python/pyproject.toml": r'^version = "(.*)"$',
@@ -143,6 +149,36 @@ def blanks_of(way):
     return "".join(f"        {json.loads(it)['nid']}: '{it}',\n" for it in lines)
 
 
+def meanings_py():
+    """_meanings.py."""
+    printed = {var: name for var, (name, _) in names().items()}
+    rows = "".join(f'    "{name}": "{unit}",\n' for name, unit in {printed[var]: unit for var, unit in units().items()}.items())
+    texts = "".join(f'    "{printed[var]}": {dict_of(found)},\n' for var, found in number_texts().items())
+    tables = "".join(f"#: {what}\n{name}: Dict[int, str] = {{\n{named(table)}}}\n\n" for name, table, what in NAMED)
+    return f"""# Written by doors/header.py from the sources of `explain`.
+from typing import Dict
+
+#: what a variable's number measures: a text is the unit itself
+UNITS: Dict[str, str] = {{
+{rows}}}
+
+#: the texts of numbers that have one
+TEXTS: Dict[str, Dict[int, str]] = {{
+{texts}}}
+
+{tables}""".rstrip("\n") + "\n"
+
+
+def dict_of(texts):
+    """A dictionary of texts by numbers, on a line."""
+    return "{" + ", ".join(f'{number}: "{text}"' for number, text in texts.items()) + "}"
+
+
+def named(table):
+    """The names of a table's numbers, a line each."""
+    return "".join(f'    {number}: "{name}",\n' for number, name in names_of(table).items())
+
+
 def vars_ads(table):
     """etcs-variables.ads."""
     rows = "".join(f"   {var} : constant Unsigned_32 := {number};\n" for var, number in table.items())
@@ -189,7 +225,7 @@ def main():
     with open(os.path.join(TOP, HEADER_H), encoding="utf-8") as file:
         header_text = with_version(file.read(), version)
     table = dict(re.findall(r"^var_number Var\.(\w+) = (\d+)", source("crates/etcs_c/specs/Fields.antt"), re.M))
-    for path, text in ((VARS_H, vars_h(table)), (VARS_PY, vars_py(table)), (VARS_ADS, vars_ads(table)), (BLANKS_PY, blanks_py()), (HEADER_H, header_text)):
+    for path, text in ((VARS_H, vars_h(table)), (VARS_PY, vars_py(table)), (VARS_ADS, vars_ads(table)), (BLANKS_PY, blanks_py()), (MEANINGS_PY, meanings_py()), (HEADER_H, header_text)):
         if "--write" in sys.argv:
             with open(os.path.join(TOP, path), "w", encoding="utf-8") as file:
                 file.write(text)

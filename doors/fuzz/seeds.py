@@ -1,5 +1,5 @@
 #!/usr/bin/env python3
-"""Writes the items, lines of JSON and fields of the examples and the vectors as inputs of the fuzz target.
+"""Writes the items, lines of JSON and fields of the examples, the vectors and seeds.txt as inputs of the fuzz target.
 
     doors/fuzz/seeds.py FOLDER
 """
@@ -17,7 +17,8 @@ from vectors import text_bytes, vectors_of
 
 KINDS = ("long", "short", "radio", "train")  # by their numbers, from 1
 OTHER_NAMES = {"message": "radio", "train_message": "train"}
-ITEMS, LINE = 0, 1  # the forms of fuzz.h
+FORMS = ("items", "line", "fields")  # by their numbers, of fuzz.h
+ITEMS, LINE = 0, 1
 
 
 def kind_of(words):
@@ -44,6 +45,13 @@ def seeds():
                     yield of_line, LINE, text_bytes(line)
 
 
+def written():
+    """Yields the inputs of seeds.txt: a line KIND FORM and then JSON, or bytes in hexadecimal."""
+    with open(f"{TOP}/doors/fuzz/seeds.txt", encoding="utf-8") as file:
+        for kind, form, text in (line.rstrip("\n").split(" ", 2) for line in file if not line.startswith("#")):
+            yield kind, FORMS.index(form), text.encode() if form == "line" else bytes.fromhex(text)
+
+
 def item(kind, digits):
     """Yields the input of hexadecimal digits, where they are bytes."""
     if len(digits) % 2 == 0 and re.fullmatch("[0-9A-Fa-f]+", digits):
@@ -54,7 +62,7 @@ def main(words):
     if len(words) != 1 or words[0].startswith("-"):
         sys.exit(__doc__)
     os.makedirs(words[0], exist_ok=True)
-    found = {bytes([KINDS.index(kind) + 4 * form]) + data for kind, form, data in seeds()}
+    found = {bytes([KINDS.index(kind) + 4 * form]) + data for kind, form, data in [*seeds(), *written()]}
     for data in found:
         with open(f"{words[0]}/{hashlib.sha1(data).hexdigest()}", "wb") as file:
             file.write(data)

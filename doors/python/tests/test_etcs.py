@@ -1,15 +1,22 @@
 """What no vector says of the module: its values, errors, pieces, threads."""
 
+import copy
 import doctest
 import json
 import os
 import pickle
+import random
 import signal
+import tempfile
 import threading
 import time
 import unittest
+from unittest import mock
 
 import etcs
+from etcs import _explained, _library, _log, _values
+from etcs._blanks import PACKETS
+from etcs._fields import fields_of
 from etcs._variables import VARIABLES, WIDTHS
 
 SHORT = bytes.fromhex("A0007F802000CB200C7F" + "FF" * 16 + "C0")
@@ -22,11 +29,85 @@ def example(name):
         return bytes.fromhex(file.read())
 
 
+def all_items():
+    """Yields the items of the examples, and telegrams and messages with a packet of each number."""
+    for name in sorted(os.listdir(EXAMPLES)):
+        kind = name.split("_")[0].replace("group", "short").replace("several", "short")
+        if name.endswith(".hex") and kind in etcs.KINDS:
+            try:
+                yield from ((etcs.encode(item), kind) for _, item in etcs.items(example(name), kind))
+            except ValueError:
+                pass
+    for way, kind in (("train", "long"), ("track", "train")):
+        for nid in PACKETS[way]:
+            packet = etcs.blank(nid, kind)
+            if kind == "long":
+                yield etcs.encode(etcs.Telegram.build({}, [packet], kind)), kind
+                continue
+            for padding in range(8):
+                try:
+                    yield etcs.encode(etcs.Message(136, [("T_TRAIN", 0), ("NID_ENGINE", 0)], (), [packet], "0" * padding, kind=kind)), kind
+                except etcs.NotAnItem:
+                    pass
+
+
+def lists_of(item):
+    """The lists of an item: of variables, of packets."""
+    packets = getattr(item, "packets", [])
+    return [packets, item.header, getattr(item, "fields", item.header), *(packet.fields for packet in packets)]
+
+
+def change(item, chance):
+    """Changes something of an item, as nobody should, and says what."""
+    pairs = chance.choice([each for each in lists_of(item) if each] or [[]])
+    place = chance.randrange(len(pairs) or 1)
+    one = pairs[place] if pairs else None
+    name, number = one if isinstance(one, tuple) else ("Q_SCALE", 1)
+    owner = chance.choice([item, *getattr(item, "packets", [])])
+    member = chance.choice(["nid", "dir", "data", "fill", "padding", "kind"])
+    value = chance.choice([None, 0, 1, 2, 3, 5, 44, 137, 255, 256, -1, True, 1.0, "1", "", "01", "2", "0" * 70, "long", "train", b"1", etcs.Variables()])
+    wrong = [(name, chance.choice([number + 1, 0, 2**14, 2**64, -1, True, 1.0, None, "1", b""])), (chance.choice(["D_LINK", "OTHER_DATA", "NID_PACKET", "FILL", "Q", 1, None, []]), number),
+             (name,), (name, number, number), [name, number], name, {name: 1, 2: number}, {name, number}, None]
+    done = chance.randrange(6)
+    if done == 0 and pairs:
+        pairs[place] = chance.choice(wrong)
+    elif done == 1 and pairs:
+        del pairs[place]
+    elif done == 2:
+        pairs.insert(place, chance.choice([one, *wrong, ("Q_SCALE", 1), ("NID_PACKET", 137), etcs.Packet(137, 1, [("Q_SRSTOP", 1)]), etcs.Packet(9, data="1"), etcs.Packet(68, 1, data="1" * 40)]))
+    elif done == 3 and len(pairs) > 1:
+        pairs[place], pairs[0] = pairs[0], pairs[place]
+    elif done == 4 and hasattr(item, "fill"):
+        item.fill = chance.choice([item.fill + "1", item.fill[1:], item.fill.replace("1", "0"), item.fill + "_0", " " + item.fill])
+    else:
+        setattr(owner, member, value)
+    return done, place, owner, member, value
+
+
+def by_json(item):
+    """`encode` by JSON alone."""
+    tree = item.to_dict()
+    return etcs.encode(tree)
+
+
+def answer_of(call):
+    """The bytes, or what was raised: of what isn't even a tree, only that."""
+    try:
+        return call()
+    except etcs.Refused as fault:
+        return fault.bit, fault.variable
+    except (etcs.NotAnItem, AttributeError, TypeError, ValueError):
+        return None
+
+
 class Tests(unittest.TestCase):
     def test_doc(self):
-        found = doctest.testmod(etcs)
-        self.assertEqual(found.failed, 0)
-        self.assertGreater(found.attempted, 12)
+        attempted = 0
+        for module in (etcs, _library, _values, _explained, _log):
+            found = doctest.testmod(module, extraglobs={"encode": etcs.encode})
+            self.assertEqual(found.failed, 0)
+            attempted += found.attempted
+        self.assertGreater(attempted, 23)
 
     def test_round_trip(self):
         for data, kind in ((SHORT, "short"), (RADIO, "radio"), (example("long_line_ahead.hex"), "long"), (example("radio_kept.hex"), "radio"),
@@ -40,6 +121,19 @@ class Tests(unittest.TestCase):
                 self.assertEqual(etcs.from_fields(etcs.fields(piece, kind), kind), piece)
                 self.assertEqual(etcs.show(item), etcs.show(piece, kind))
         self.assertEqual(etcs.decode(SHORT, "short").packets, [etcs.Packet(44, 2, etcs.Variables(), "1")])
+
+    def test_two_ways(self):
+        """`decode` and `encode` go by fields, and answer as they do by JSON: of each example, of each packet of COVERAGE.md, and of
+        items in which something is changed."""
+        chance = random.Random(1)
+        for data, kind in all_items():
+            item = etcs.decode(data, kind)
+            self.assertEqual(item, etcs.from_dict(json.loads(_library.to_json(data, kind)[0])))
+            self.assertEqual(_library.if_item(fields_of(item), kind), data)
+            for _ in range(60):
+                item = copy.deepcopy(etcs.decode(data, kind))
+                what = change(item, chance)
+                self.assertEqual(answer_of(lambda: etcs.encode(item)), answer_of(lambda: by_json(item)), what)
 
     def test_tree(self):
         lines = repr(etcs.decode(RADIO, "radio")).split("\n")
@@ -75,6 +169,68 @@ class Tests(unittest.TestCase):
         message = etcs.Message(24, [("T_TRAIN", 0), ("M_ACK", 0), ("NID_LRBG", 16385)], packets=(packet,), padding="00000")
         self.assertEqual((message, etcs.encode(message)), (etcs.decode(RADIO, "radio"), RADIO))
         self.assertIsNot(etcs.Packet(1).fields, etcs.Packet(1).fields)
+
+    def test_meanings(self):
+        """Texts as `explain` prints them (FORMAT.md has those of this telegram); meanings.py asks the program itself."""
+        telegram = etcs.decode(example("short_linking.hex"), "short")
+        link = telegram.packets[0]
+        self.assertEqual((link.meaning("D_LINK"), link.meaning("Q_SCALE"), telegram.meaning("M_VERSION")), ("1180 m", "distances in 1 m", "version 2.1"))
+        self.assertEqual([it[:3] for it in etcs.variables(telegram) if it.packet == 0][:5], [("NID_PACKET", 5, "Linking"), ("Q_DIR", 0, "reverse"), ("L_PACKET", 79, ""), ("Q_SCALE", 1, "distances in 1 m"), ("D_LINK", 1180, "1180 m")])
+        self.assertEqual({(it.packet, it.nid) for it in etcs.variables(telegram)}, {(None, None), (0, 5)})
+        self.assertEqual(etcs.variables(telegram), etcs.variables(etcs.encode(telegram), "short"))
+        self.assertEqual([it[:5:2] for it in etcs.variables(RADIO, "radio")][:2], [("NID_MESSAGE", "General message", 8), ("L_MESSAGE", "", 10)])
+        self.assertEqual((etcs.meaning("D_LINK", 5), etcs.meaning("D_LINK", 12345, 0), etcs.meaning("D_REF", 65535, 2), etcs.meaning("T_TRAIN", 5)), ("", "1234.5 m", "-10 m", "0.05 s"))
+        with self.assertRaises(KeyError):
+            link.meaning("Q_FRONT")
+
+    def test_page(self):
+        """The page is the program's; a stand-in for it writes its words and how many bytes it gets."""
+        with tempfile.TemporaryDirectory() as room:
+            path = os.path.join(room, "etcs")
+            with mock.patch.dict(os.environ, {"ETCS_PROGRAM": path}):
+                item = etcs.decode(RADIO, "radio")
+                self.assertIsNone(item._repr_html_())
+                with self.assertRaises(FileNotFoundError):
+                    etcs.page(item)
+                with open(path, "w", encoding="ascii") as file:
+                    file.write("#!/bin/sh\necho \"<!doctype html>$*\"\nwc -c\n")
+                os.chmod(path, 0o755)
+                wanted = "<!doctype html>explain --kind radio --from bin --to html\n"
+                self.assertEqual((etcs.page(item), etcs.page([item, item]), etcs.page(RADIO[:5], "radio")), (f"{wanted}13\n", f"{wanted}26\n", f"{wanted}5\n"))
+                self.assertIn('srcdoc="&lt;!doctype html&gt;explain', item._repr_html_())
+                item.packets[0]["Q_SRSTOP"] = 2
+                self.assertIsNone(item._repr_html_())
+                with self.assertRaises(ValueError):
+                    etcs.page(RADIO)
+
+    def test_log(self):
+        """Lines of FORMAT.md and COOKBOOK.md with what is said of them there; logs.py asks the program itself."""
+        linking = example("short_linking.hex")[:27].hex()
+        log = [f"12:00:03 {linking}\n", "\n", "# noon\n", f'{{"time":"12:00:03","data":"{linking}"}}\n', f"x{linking}", "A1", example("short_no_room.hex").hex(), RADIO.hex()]
+        read = list(etcs.read_log(log, "short"))
+        self.assertEqual([(it.number, it.kind, it.item and it.item["NID_BG"]) for it in read], [(1, "short", 511), (4, "short", 511), (5, None, None), (6, None, None), (7, None, None), (8, None, None)])
+        self.assertEqual((read[0].front, read[1].front), ("12:00:03", '{"time":"12:00:03","data":"'))
+        notes = ["", "", "no hexadecimal digits at its end", "1 byte, a short telegram has 27", "refused at bit 72, L_PACKET: L_PACKET 153 would leave 7 bits in the telegram, and packet 255 needs 8",
+                 "other: 13 bytes, as a radio message whose L_MESSAGE says so"]
+        self.assertEqual([it.note for it in read], notes)
+        self.assertEqual([type(it.fault) for it in read[2:]], [etcs.BadLine, etcs.BadLine, etcs.Refused, etcs.OtherKind])
+        self.assertEqual([(*it[:4], it.note) for it in etcs.read_log(map(str.encode, log), ["short"])], [(*it[:4], it.note) for it in read])
+        self.assertEqual([it.kind for it in etcs.read_log(log, "radio,short")], ["short", "short", None, None, None, "radio"])
+        self.assertEqual([(*it[:4], it.note) for it in pickle.loads(pickle.dumps(read))], [(*it[:4], it.note) for it in read])
+        for wrong in ("tram", "", [], "short,"):
+            with self.assertRaises(ValueError):
+                list(etcs.read_log([], wrong))
+
+    def test_groups(self):
+        """The groups of the examples, with the words of examples/README.md and COOKBOOK.md."""
+        named = {"group_in_order": "group 1 1 complete", "group_missing": "group 1 1 missing 1", "group_turned": "group 1 1 complete"}
+        for name, line in named.items():
+            found = etcs.groups(item for _, item in etcs.items(example(f"{name}.hex"), "short"))
+            self.assertEqual(list(map(str, found)), [line], name)
+        found = etcs.groups(item for _, item in etcs.items(example("group_clash.hex"), "short"))
+        self.assertEqual(sum(it.clashes for it in found), 1)
+        self.assertEqual(list(map(str, etcs.groups([etcs.decode(RADIO, "radio")]))), [])
+        self.assertEqual((found[0].nid_c, list(found[0].telegrams), str(found[0])), (1, [1], "group 1 1 complete clashes 1"))
 
     def test_build(self):
         """The telegram of COOKBOOK.md, "A telegram of one's own", and others as long as FORMAT.md says."""

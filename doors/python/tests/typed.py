@@ -15,6 +15,10 @@ messages: List[etcs.Message] = etcs.Reader("train").feed(memoryview(b""))
 packet = etcs.Packet(137, 1, [("Q_SRSTOP", 1)])
 packet["Q_SRSTOP"] = 0
 built = etcs.Telegram.build({"NID_C": 98}, [packet, etcs.blank(16)], "short")
+meanings: List[str] = [packet.meaning("Q_SRSTOP"), *(it.meaning for it in etcs.variables(SHORT, "short"))]
+lines: List[etcs.LogLine] = list(etcs.read_log([SHORT.hex()], "short"))
+both: List[int] = [it.number for it in etcs.read_log([SHORT.hex().encode()], "long,short")]
+complete: List[bool] = [it.is_complete for it in etcs.groups(lines)]
 
 
 def text(data: bytes, kind: etcs.Kind) -> str:
@@ -31,5 +35,6 @@ def wrong() -> None:
     etcs.show([65], "short")  # type: ignore[arg-type]
 
 
+assert (meanings[0], lines[0].item, complete) == ("stop in staff responsible", telegram, [True])
 assert (number, pair, message.nid, nids, messages) == (2, ("Q_UPDOWN", 1), 24, [137], [])
 assert etcs.from_dict(built.to_dict()) == built and text(SHORT, "short")

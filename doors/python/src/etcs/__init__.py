@@ -40,355 +40,38 @@ from __future__ import annotations
 
 import json
 import re
-from dataclasses import dataclass
 from types import TracebackType
-from typing import (
-    Any, Dict, Generic, Iterable, Iterator, List, Literal, Mapping, Optional, SupportsIndex, Tuple, Type, TypeVar,
-    Union, overload,
-)
+from typing import Any, Dict, Generic, Iterable, Iterator, List, Optional, Tuple, Type, TypeVar, Union, overload
 
 from . import _library
-from ._blanks import HEADER, PACKETS, ROOM
+from ._explained import Variable, explained, meaning
+from ._fields import fields_of, item_of
 from ._library import Data, EtcsError, Field, NotAnItem, Refused, Truncated, bytes_of
-from ._variables import VARIABLES, WIDTHS
+from ._log import BadLine, Group, LogLine, OtherKind, groups, read_log
+from ._page import program, written_page
+from ._values import (
+    KINDS, Item, Kind, Message, MessageKind, Packet, Telegram, TelegramKind, Variables, blank, from_dict,
+)
+from ._variables import VARIABLES
 
 __all__ = [
-    "EtcsError", "Field", "Item", "KINDS", "Kind", "Message", "NotAnItem", "Packet", "Reader", "Refused", "Telegram",
-    "Truncated", "VARIABLES", "Variables", "blank", "check", "decode", "encode", "fields", "from_dict", "from_fields",
-    "from_json", "items", "show",
+    "BadLine", "EtcsError", "Field", "Group", "Item", "KINDS", "Kind", "LogLine", "Message", "NotAnItem", "OtherKind",
+    "Packet", "Reader", "Refused", "Telegram", "Truncated", "VARIABLES", "Variable", "Variables", "blank", "check",
+    "decode", "encode", "fields", "from_dict", "from_fields", "from_json", "groups", "items", "meaning", "page",
+    "read_log", "show", "variables",
 ]
 __version__ = "0.1.0"
 
-TelegramKind = Literal["long", "short"]
-MessageKind = Literal["radio", "train"]
-Kind = Literal["long", "short", "radio", "train"]
-
-#: variables as they are taken: pairs of name and number in the order of sending, or a mapping
-Pairs = Union[Mapping[str, int], Iterable[Tuple[str, int]]]
-
-#: the kinds of items: balise telegrams of 830 and of 210 user bits, radio messages to the train and to the track
-KINDS: Tuple[str, ...] = tuple(_library.KINDS)
-
-for _public in (EtcsError, Field, NotAnItem, Refused, Truncated):
+# their names in a report of a fault, and in what is pickled
+for _public in (
+    BadLine, EtcsError, Field, Group, LogLine, Message, NotAnItem, OtherKind, Packet, Refused, Telegram, Truncated, Variable,
+    Variables, blank, from_dict, groups, meaning, read_log,
+):
     _public.__module__ = "etcs"
 
+
 _LONGEST = {"long": 104, "short": 27, "radio": 1023, "train": 1023}
-
-
-class Variables(List[Tuple[str, int]]):
-    """Variables with their numbers in the order of sending: a list of pairs that can also be asked by name."""
-
-    __slots__ = ()
-
-    @overload
-    def __getitem__(self, key: str) -> int: ...
-    @overload
-    def __getitem__(self, key: SupportsIndex) -> Tuple[str, int]: ...
-    @overload
-    def __getitem__(self, key: slice) -> List[Tuple[str, int]]: ...
-
-    def __getitem__(self, key: Union[str, SupportsIndex, slice]) -> Any:
-        """By a name the number of the first variable of that name; by a place the pair."""
-        if isinstance(key, str):
-            for name, number in self:
-                if name == key:
-                    return number
-            raise KeyError(key)
-        return super().__getitem__(key)
-
-    @overload
-    def __setitem__(self, key: str, number: int) -> None: ...
-    @overload
-    def __setitem__(self, key: SupportsIndex, number: Tuple[str, int]) -> None: ...
-    @overload
-    def __setitem__(self, key: slice, number: Iterable[Tuple[str, int]]) -> None: ...
-
-    def __setitem__(self, key: Any, number: Any) -> None:
-        """By a name that comes once; by a place where it comes more often."""
-        if isinstance(key, str):
-            places = [place for place, (name, _) in enumerate(self) if name == key]
-            if not places:
-                raise KeyError(key)
-            if len(places) > 1:
-                raise KeyError(f"{key} comes {len(places)} times, at the places {places}")
-            key, number = places[0], (key, number)
-        super().__setitem__(key, number)
-
-    def __contains__(self, key: object) -> bool:
-        if isinstance(key, str):
-            return any(name == key for name, _ in self)
-        return super().__contains__(key)
-
-    def all(self, name: str) -> List[int]:
-        """The numbers of all variables of the name."""
-        return [number for each, number in self if each == name]
-
-    def get(self, name: str, default: Optional[int] = None) -> Optional[int]:
-        """The number of the first variable of the name, or the default."""
-        for each, number in self:
-            if each == name:
-                return number
-        return default
-
-
-def _as_variables(pairs: Pairs) -> Variables:
-    if isinstance(pairs, Variables):
-        return pairs
-    return Variables(pairs.items() if isinstance(pairs, Mapping) else pairs)
-
-
-class _Named:
-    """What hands names on to its variables."""
-
-    fields: Variables
-
-    def __getitem__(self, name: str) -> int:
-        return self.fields[name]
-
-    def __setitem__(self, name: str, number: int) -> None:
-        self.fields[name] = number
-
-    def __contains__(self, name: str) -> bool:
-        return any(name == each for each, _ in self.fields)
-
-    def all(self, name: str) -> List[int]:
-        return self.fields.all(name)
-
-
-def _indented(tree: str) -> str:
-    return "".join(f"\n  {line}" for line in tree.split("\n"))
-
-
-def _digits(bits: str) -> str:
-    """Bits, of many the first ones alone, or of many alike how many they are."""
-    if not isinstance(bits, str) or len(bits) <= 32:
-        return bits
-    if bits == len(bits) * bits[0]:
-        return f"{len(bits)} times {bits[0]}"
-    return f"{bits[:32]}.., {len(bits)} bits"
-
-
-def _tree(head: str, *parts: Union[str, Variables, List[Packet]]) -> str:
-    """The head, and below it variables, packets and bits, each further in."""
-    lines = [head]
-    for part in parts:
-        if isinstance(part, str):
-            lines.append(_indented(part))
-        elif isinstance(part, Variables):
-            lines += [f"\n  {name} = {number}" for name, number in part]
-        else:
-            lines += [_indented(repr(packet)) for packet in part]
-    return "".join(lines)
-
-
-@dataclass(repr=False, init=False)
-class Packet(_Named):
-    """A packet: of a typed one its variables after L_PACKET, of another its bits as digits in `data`."""
-
-    nid: int
-    dir: Optional[int]
-    fields: Variables
-    data: Optional[str]
-
-    def __init__(self, nid: int, dir: Optional[int] = None, fields: Pairs = (), data: Optional[str] = None) -> None:
-        self.nid, self.dir, self.fields, self.data = nid, dir, _as_variables(fields), data
-
-    def _bits(self) -> int:
-        """How many bits it takes in a telegram."""
-        frame = 23 if self.dir is not None else 8
-        return frame + (sum(_widths_of(self.fields)) if self.data is None else len(self.data))
-
-    def __repr__(self) -> str:
-        head = f"packet {self.nid}" if self.dir is None else f"packet {self.nid}, direction {self.dir}"
-        return _tree(head, self.fields if self.data is None else f"bits {_digits(self.data)}")
-
-    def to_dict(self) -> Dict[str, Any]:
-        tree: Dict[str, Any] = {"nid": self.nid}
-        if self.dir is not None:
-            tree["dir"] = self.dir
-        if self.data is not None:
-            tree["data"] = self.data
-        else:
-            tree["fields"] = _pairs(self.fields)
-        return tree
-
-
-def _widths_of(fields: Variables) -> List[int]:
-    unknown = [name for name, _ in fields if name not in VARIABLES]
-    if unknown:
-        raise NotAnItem(f"there is no variable {unknown[0]}")
-    return [WIDTHS[VARIABLES.index(name)] for name, _ in fields]
-
-
-@dataclass(repr=False, init=False)
-class Telegram:
-    """A balise telegram. A name in brackets is a variable of its header."""
-
-    kind: TelegramKind
-    header: Variables
-    packets: List[Packet]
-    fill: str
-
-    def __init__(self, kind: TelegramKind, header: Pairs, packets: Iterable[Packet], fill: str) -> None:
-        self.kind, self.header, self.packets, self.fill = kind, _as_variables(header), list(packets), fill
-
-    @classmethod
-    def build(cls, header: Pairs, packets: Iterable[Packet], kind: Optional[TelegramKind] = None) -> Telegram:
-        """The telegram of these packets, with ones in FILL for the bits that are left. Variables of the header may come in
-        any order, and those that aren't named have their least number. Without a kind it is a short one, or a long one
-        where the packets need that. Raises NotAnItem where they have no room, or there is no such variable.
-
-            >>> header = {"M_VERSION": 33, "M_MCOUNT": 255, "NID_C": 98, "NID_BG": 600, "Q_LINK": 1}
-            >>> telegram = Telegram.build(header, [Packet(137, 1, [("Q_SRSTOP", 1)])])
-            >>> telegram.kind, telegram["Q_UPDOWN"], len(telegram.fill), encode(telegram).hex()
-            ('short', 1, 128, 'a1007f8c412c62500c7fffffffffffffffffffffffffffffffffc0')
-        """
-        packets, named = list(packets), dict(_as_variables(header))
-        unknown = [name for name in named if name not in dict(HEADER)]
-        if unknown:
-            raise NotAnItem(f"the header of a telegram has no variable {unknown[0]}")
-        bits = sum(packet._bits() for packet in packets)
-        if kind is None:
-            kind = "short" if bits <= ROOM["short"] else "long"
-        if kind not in ROOM:
-            raise ValueError(f"kind {kind!r} is none of {', '.join(ROOM)}")
-        if bits > ROOM[kind]:
-            raise NotAnItem(f"the packets have {bits} bits, and a {kind} telegram has room for {ROOM[kind]}")
-        return cls(kind, [(name, named.get(name, least)) for name, least in HEADER], packets, "1" * (ROOM[kind] - bits))
-
-    def __repr__(self) -> str:
-        return _tree(f"{self.kind} telegram", self.header, self.packets, f"FILL {_digits(self.fill)}")
-
-    def __getitem__(self, name: str) -> int:
-        return self.header[name]
-
-    def __setitem__(self, name: str, number: int) -> None:
-        self.header[name] = number
-
-    def to_dict(self) -> Dict[str, Any]:
-        """The tree of its JSON."""
-        packets = [packet.to_dict() for packet in self.packets]
-        return {"kind": self.kind, "header": _pairs(self.header), "packets": packets, "fill": self.fill}
-
-
-@dataclass(repr=False, init=False)
-class Message(_Named):
-    """A radio message, to the train (kind `radio`) or to the track (`train`): a typed one, or one that is kept as bits in
-    `data`. A name in brackets is a variable of its own."""
-
-    nid: int
-    header: Variables
-    fields: Variables
-    packets: List[Packet]
-    padding: str
-    data: Optional[str]
-    kind: MessageKind
-
-    def __init__(self, nid: int, header: Pairs = (), fields: Pairs = (), packets: Iterable[Packet] = (), padding: str = "",
-                 data: Optional[str] = None, kind: MessageKind = "radio") -> None:
-        self.nid, self.header, self.fields, self.packets = nid, _as_variables(header), _as_variables(fields), list(packets)
-        self.padding, self.data, self.kind = padding, data, kind
-
-    def __repr__(self) -> str:
-        head = f"{self.kind} message {self.nid}"
-        if self.data is not None:
-            return _tree(head, f"bits {_digits(self.data)}")
-        return _tree(head, self.header, self.fields, self.packets, *([f"PADDING {_digits(self.padding)}"] if self.padding else []))
-
-    def to_dict(self) -> Dict[str, Any]:
-        """The tree of its JSON."""
-        if self.data is not None:
-            return {"kind": self.kind, "nid": self.nid, "data": self.data}
-        return {
-            "kind": self.kind, "nid": self.nid, "header": _pairs(self.header), "fields": _pairs(self.fields),
-            "packets": [packet.to_dict() for packet in self.packets], "padding": self.padding,
-        }
-
-
-Item = Union[Telegram, Message]
 _Read = TypeVar("_Read", bound=Item)
-
-
-def blank(nid: int, kind: Kind = "radio") -> Packet:
-    """A packet of this number to fill in, for items of the kind: with the least numbers, Q_SCALE 1 and no entries. Where a
-    count or a flag is changed its group has to follow. One that isn't typed has no bits after its length.
-
-        >>> packet = blank(16)
-        >>> packet["L_SECTION"] = 500
-        >>> packet
-        packet 16, direction 1
-          Q_SCALE = 1
-          L_SECTION = 500
-    """
-    _library.kind_number(kind)
-    known = PACKETS["track" if kind == "train" else "train"]
-    if nid in known:
-        return _packet(json.loads(known[nid]))
-    if type(nid) is not int or not 0 <= nid <= 255:
-        raise ValueError(f"NID_PACKET is a whole number up to 255, not {nid!r}")
-    return Packet(nid, None if kind == "train" else 1, data="")
-
-
-def _pairs(variables: Iterable[Tuple[str, int]]) -> List[List[Any]]:
-    # JSON has the 64 bits of NID_RADIO as digits, since not each reader of JSON has whole numbers so large
-    return [[name, _radio_digits(number) if name == "NID_RADIO" else number] for name, number in variables]
-
-
-def _radio_digits(number: int) -> str:
-    if type(number) is not int:
-        raise NotAnItem(f"NID_RADIO is a whole number, not {number!r}")
-    return f"{number:016x}"
-
-
-def _radio_number(digits: str) -> int:
-    if not re.fullmatch("[0-9A-Fa-f]{16}", digits):
-        raise NotAnItem(f"NID_RADIO is 16 hexadecimal digits, not {digits!r}")
-    return int(digits, 16)
-
-
-def _variables(pairs: Iterable[Any]) -> Variables:
-    return Variables([(name, _radio_number(number) if name == "NID_RADIO" else number) for name, number in pairs])
-
-
-def _packet(tree: Dict[str, Any]) -> Packet:
-    return Packet(tree["nid"], tree.get("dir"), _variables(tree.get("fields", ())), tree.get("data"))
-
-
-def _item(tree: Dict[str, Any]) -> Item:
-    """The item of a tree that has all members."""
-    kind = tree["kind"]
-    if kind in ("long", "short"):
-        return Telegram(kind, _variables(tree["header"]), [_packet(each) for each in tree["packets"]], tree["fill"])
-    if "data" in tree:
-        return Message(tree["nid"], data=tree["data"], kind=kind)
-    packets = [_packet(each) for each in tree["packets"]]
-    return Message(tree["nid"], _variables(tree["header"]), _variables(tree["fields"]), packets, tree["padding"], kind=kind)
-
-
-def _check_members(tree: Dict[str, Any], *members: str) -> None:
-    further = [repr(each) for each in tree if each not in members]
-    if further:
-        raise NotAnItem(f"a further member: {', '.join(further)}")
-
-
-def from_dict(tree: Dict[str, Any]) -> Item:
-    """The item of a tree of JSON, as to_dict gives it. Whether there is such an item `encode` says."""
-    try:
-        item = _item(tree)
-        if isinstance(item, Telegram):
-            _check_members(tree, "kind", "header", "packets", "fill")
-        elif item.data is not None:
-            _check_members(tree, "kind", "nid", "data")
-        else:
-            _check_members(tree, "kind", "nid", "header", "fields", "packets", "padding")
-        for packet in tree.get("packets", ()):
-            _check_members(packet, "nid", "dir", "data" if "data" in packet else "fields")
-        return item
-    except (KeyError, TypeError, ValueError, AttributeError) as fault:
-        if isinstance(fault, NotAnItem):
-            raise
-        raise NotAnItem(f"no tree of an item: {fault!r}") from None
-
 
 #: where a line of JSON most likely says its kind
 _KIND = re.compile(rb'"kind"[ \t\r\n]*:[ \t\r\n]*"([a-z]+)"')
@@ -420,8 +103,8 @@ def check(data: Data, kind: Kind) -> int:
 
 
 def _front(data: bytes, kind: str) -> Tuple[Any, int]:
-    line, taken = _library.to_json(data, kind)
-    return _item(json.loads(line)), taken
+    sent, taken = _library.fields(data, kind)
+    return item_of(sent, kind), taken
 
 
 @overload
@@ -442,14 +125,23 @@ def decode(data: Data, kind: Kind) -> Item:
     return item
 
 
+#: members in the order of their names, as the library writes them and reads them fastest
+_to_json = json.JSONEncoder(separators=(",", ":"), sort_keys=True).encode
+
+
 def encode(item: Union[Item, Dict[str, Any]]) -> bytes:
     """The bytes of an item or of its tree. Raises NotAnItem where there is no such item, and Refused where it has bits of
     packets that are typed by now and no item has these."""
     if not isinstance(item, (Telegram, Message, dict)):
         raise TypeError(f"a Telegram, a Message or a tree is wanted, not {type(item).__name__}")
+    if not isinstance(item, dict):
+        packed = fields_of(item)
+        data = None if packed is None else _library.if_item(packed, item.kind)
+        if data is not None:
+            return data
     try:
         tree = item if isinstance(item, dict) else item.to_dict()
-        line, kind = json.dumps(tree, separators=(",", ":")).encode(), tree.get("kind")
+        line, kind = _to_json(tree).encode(), tree.get("kind")
     except NotAnItem:
         raise
     except (AttributeError, RecursionError, TypeError, ValueError) as fault:
@@ -483,10 +175,45 @@ def show(data: Union[Data, Item], kind: Optional[Kind] = None, number: int = 1) 
     return _library.show(bytes_of(data), kind or "", number)
 
 
+def page(data: Union[Data, Item, Iterable[Item]], kind: Optional[Kind] = None) -> str:
+    """A page for a browser of an item, of several of a kind, or of bytes of the kind, refused ones too: what the program's
+    `explain --to html` writes. It runs the program, `etcs` on the path or what ETCS_PROGRAM names; no call of the library
+    writes it. Raises FileNotFoundError where there is no program."""
+    if isinstance(data, (Telegram, Message)):
+        data = [data]
+    if not isinstance(data, (bytes, bytearray, memoryview)):
+        every = list(data)
+        data, kind = b"".join(map(encode, every)), every[0].kind if every else kind
+    _library.kind_number(kind or "")
+    written = written_page(bytes_of(data), kind or "")
+    if written is None:
+        path = program()
+        raise FileNotFoundError(f"{path} writes no page" if path else "no program etcs on the path, and no ETCS_PROGRAM")
+    return written
+
+
 def fields(data: Data, kind: Kind) -> List[Field]:
     """The variables of the item at the front, all of them in the order of sending, from the first of the header to PAD
     or PADDING. Of FILL, OTHER_DATA, PADDING and PAD up to 64 bits are one field; X_TEXT comes once for each byte."""
-    return _library.placed(_library.fields(bytes_of(data), kind))
+    return _library.placed(_library.fields(bytes_of(data), kind)[0])
+
+
+def variables(data: Union[Data, Item], kind: Optional[Kind] = None) -> List[Variable]:
+    """The variables of an item, or of the one at the front of bytes of the kind, each with what its number means. They are
+    those of `fields`.
+
+        >>> telegram = Telegram.build({"NID_C": 98, "NID_BG": 600}, [Packet(137, 1, [("Q_SRSTOP", 1)])])
+        >>> for variable in variables(telegram):
+        ...     if variable.nid == 137:
+        ...         print(variable.bit, variable.name, variable.number, variable.meaning)
+        50 NID_PACKET 137 Stop if in Staff Responsible
+        58 Q_DIR 1 nominal
+        60 L_PACKET 24 
+        73 Q_SRSTOP 1 go in staff responsible
+    """
+    if isinstance(data, (Telegram, Message)):
+        return explained(fields(encode(data), data.kind), data.kind)
+    return explained(fields(data, kind or ""), kind or "")  # type: ignore[arg-type]
 
 
 def from_fields(sent: Iterable[Field], kind: Kind) -> bytes:
@@ -494,7 +221,7 @@ def from_fields(sent: Iterable[Field], kind: Kind) -> bytes:
 
     To change one: `sent[12] = sent[12]._replace(number=900)`. Places are made anew, and `bit` counts for nothing.
     """
-    return _library.from_fields([(each.number, each.var, each.width) for each in sent], kind)
+    return _library.from_fields(_library.pack(list(sent)), kind)
 
 
 class Reader(Generic[_Read]):

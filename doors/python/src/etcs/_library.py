@@ -4,9 +4,11 @@ from __future__ import annotations
 
 import ctypes
 import os
-import struct
 import threading
-from typing import Any, Iterable, Iterator, List, NamedTuple, NoReturn, Optional, Tuple, Union
+from array import array
+from itertools import accumulate, repeat
+from operator import attrgetter
+from typing import Any, List, NamedTuple, NoReturn, Optional, Tuple, Union
 
 from ._variables import VARIABLES
 
@@ -14,7 +16,7 @@ from ._variables import VARIABLES
 KINDS = {"long": 1, "short": 2, "radio": 3, "train": 4}
 
 _OK, _MORE, _REFUSED, _NO_ROOM, _NO_MEMORY, _UNKNOWN_KIND, _BAD_JSON, _BAD_FIELDS = range(8)
-_FIELD = struct.Struct("=QII")
+_SENT = attrgetter("number", "var", "width")
 
 #: no item has more bytes
 _LONGEST = 1023
@@ -247,41 +249,64 @@ def from_json(line: bytes, kind: str) -> bytes:
     return data
 
 
-def fields(data: bytes, kind: str) -> Iterable[Tuple[Any, ...]]:
-    status, answer, sent = _call(_lib.etcs_fields, kind_number(kind), data, len(data), wide=_FIELD.size)
+def fields(data: bytes, kind: str) -> Tuple[bytes, int]:
+    """The fields of the item at the front, 16 bytes each, and how many bytes the item takes."""
+    status, answer, sent = _call(_lib.etcs_fields, kind_number(kind), data, len(data), wide=16)
     if status:
         _raise(status, answer, kind, data)
-    return _FIELD.iter_unpack(sent)
+    return sent, answer.taken
 
 
-def placed(sent: Iterable[Tuple[Any, ...]]) -> List[Field]:
+def columns(sent: bytes) -> Tuple[List[int], List[int], List[int]]:
+    """Numbers, variables and widths of fields."""
+    view = memoryview(sent)
+    rest = view.cast("I")
+    return view.cast("Q")[::2].tolist(), rest[2::4].tolist(), rest[3::4].tolist()
+
+
+def placed(sent: bytes) -> List[Field]:
     """Fields with the bits where they begin."""
-    found, bit = [], 0
-    for number, var, width in sent:
-        found.append(Field(VARIABLES[var], number, bit, width, var))
-        bit += width
-    return found
+    numbers, sent_vars, widths = columns(sent)
+    rows = zip(map(VARIABLES.__getitem__, sent_vars), numbers, accumulate([0, *widths]), widths, sent_vars)
+    # as Field(*row) of each, without a call of Python's for each
+    return list(map(tuple.__new__, repeat(Field), rows))  # type: ignore[arg-type]
 
 
-def _whole_bytes(sent: List[Tuple[int, int, int]]) -> bytes:
+def _whole_bytes(packed: bytes) -> bytes:
     """The bits of fields that have their widths, up to the last whole byte."""
     bits = number = 0
-    for each, _, width in sent:
+    for each, _, width in zip(*columns(packed)):
         number, bits = number << width | each, bits + width
     return (number >> bits % 8).to_bytes(bits // 8, "big")
 
 
-def from_fields(sent: List[Tuple[int, int, int]], kind: str) -> bytes:
-    try:
-        packed = b"".join([_FIELD.pack(*each) for each in sent])
-    except struct.error as fault:
-        raise NotAnItem(f"no variable has this number: {fault}") from None
-    status, answer, data = _call(_lib.etcs_from_fields, kind_number(kind), packed, len(sent))
+def pack(sent: List[Field]) -> bytes:
+    """Fields as the library takes them."""
+    packed = array("Q", bytes(16 * len(sent)))
+    if sent:
+        numbers, sent_vars, widths = zip(*map(_SENT, sent))
+        rest = memoryview(packed).cast("B").cast("I")
+        try:
+            packed[::2] = array("Q", numbers)
+            rest[2::4], rest[3::4] = memoryview(array("I", sent_vars)), memoryview(array("I", widths))
+        except (OverflowError, TypeError) as fault:
+            raise NotAnItem(f"no variable has this number: {fault}") from None
+    return packed.tobytes()
+
+
+def from_fields(packed: bytes, kind: str) -> bytes:
+    status, answer, data = _call(_lib.etcs_from_fields, kind_number(kind), packed, len(packed) // 16)
     if status == _MORE:
-        raise Truncated(sum(width for _, _, width in sent))
+        raise Truncated(sum(columns(packed)[2]))
     if status:
-        _raise(status, answer, kind, _whole_bytes(sent) if status == _REFUSED else b"")
+        _raise(status, answer, kind, _whole_bytes(packed) if status == _REFUSED else b"")
     return data
+
+
+def if_item(packed: bytes, kind: str) -> Optional[bytes]:
+    """The bytes of the item whose fields these are, or None, whatever the reason is."""
+    status, _, data = _call(_lib.etcs_from_fields, kind_number(kind), packed, len(packed) // 16)
+    return None if status else data
 
 
 def explain(data: bytes, kind: str) -> str:
@@ -294,10 +319,10 @@ def explain(data: bytes, kind: str) -> str:
 
 def fields_before(data: bytes, kind: str) -> List[Field]:
     """The fields before a refused bit; none where no bit is refused."""
-    status, answer, sent = _call(_lib.etcs_fields_before, kind_number(kind), data, len(data), wide=_FIELD.size, done=(_REFUSED,))
+    status, answer, sent = _call(_lib.etcs_fields_before, kind_number(kind), data, len(data), wide=16, done=(_REFUSED,))
     if status not in (_OK, _MORE, _REFUSED):
         _raise(status, answer, kind, data)
-    return placed(_FIELD.iter_unpack(sent))
+    return placed(sent)
 
 
 def explain_json(line: bytes, kind: str) -> str:

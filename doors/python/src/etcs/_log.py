@@ -1,0 +1,356 @@
+"""Logs, a line at a time, as the program's `log` reads them; and the balise groups of their telegrams."""
+
+from __future__ import annotations
+
+import re
+from typing import Any, Dict, Iterable, Iterator, List, NamedTuple, Optional, Sequence, Tuple, Union
+
+from . import _library
+from ._fields import item_of
+from ._library import EtcsError, Refused
+from ._values import Item, Kind, Telegram
+
+#: a longer line is bad
+_MOST_LINE = 1 << 20
+#: as many digits as the shortest message of a typed number has
+_ENOUGH = 20
+_WORD, _PART = re.compile(r"""[^ \t\r,;="'()\[\]{}<>]+"""), re.compile(r"[0-9A-Za-z]+")
+_COMMENT = re.compile(r"[ \t\r](?:#|;|//)")
+_HEX = re.compile(r"[0-9A-Fa-f]+\Z")
+_BYTES = {"long": 104, "short": 27}
+_BITS = {"long": 830, "short": 210}
+
+
+class BadLine(EtcsError):
+    """A line that says no bytes, or whose bytes are as many as no item of the kinds has."""
+
+
+class OtherKind(EtcsError):
+    """A line with as many bytes as an item of a kind has that isn't asked for, and no item of the others."""
+
+
+class LogLine(NamedTuple):
+    """A line of a log: an item, or a fault."""
+
+    #: from 1; blank lines and comments count too
+    number: int
+    #: what is before its digits, as a time
+    front: str
+    kind: Optional[Kind]
+    item: Optional[Item]
+    #: Refused, BadLine or OtherKind, where it is no item
+    fault: Optional[EtcsError]
+
+    @property
+    def note(self) -> str:
+        """What `etcs log` says of a line that is no item, without its number; "" of an item."""
+        if self.fault is None:
+            return ""
+        return f"{self.fault}: {self.fault.reason}" if isinstance(self.fault, Refused) else str(self.fault)
+
+
+# ---- The digits of a line.
+
+
+class _Found(NamedTuple):
+    """The digits at an end of words, and where the first word begins that has some of them."""
+
+    digits: str
+    begin: int
+
+
+def _bare(word: str) -> str:
+    """A word without `0x` in front."""
+    return word[2:] if word[:2] in ("0x", "0X") else word
+
+
+def _is_size(count: int) -> bool:
+    return 0 < count <= 16 and count % 2 == 0
+
+
+def _is_group(word: str) -> bool:
+    return _is_size(len(word)) and _HEX.match(word) is not None
+
+
+def _groups(words: Sequence[Tuple[str, int]], count: int) -> _Found:
+    """Of the first `count` words the last ones that are groups of one size, of which the last may be smaller; or the last one,
+    if it is of digits."""
+    if count == 0:
+        return _Found("", 0)
+    last, begin = _bare(words[count - 1][0]), words[count - 1][1]
+    if not _is_group(last):
+        return _Found(last if _HEX.match(last) else "", begin)
+    size, taken = len(last), [last]
+    if count > 1:
+        before = len(_bare(words[count - 2][0]))
+        size = before if size <= before and _is_size(before) else size
+    for place in range(count - 2, -1, -1):
+        word = _bare(words[place][0])
+        if len(word) != size or not _HEX.match(word):
+            break
+        taken.append(word)
+        begin = words[place][1]
+    return _Found("".join(reversed(taken)), begin)
+
+
+def _parts(text: str, begin: int) -> _Found:
+    """The digits of a word: of its last parts, or of those before them where these are too few."""
+    bare = _bare(text)
+    skipped = begin + (2 if text[:2] in ("0x", "0X") else 0)
+    # a `0x` in front belongs to the first part
+    parts = [(it[0], skipped + it.start() if it.start() else begin) for it in _PART.finditer(bare)]
+    for count in range(len(parts), 0, -1):
+        found = _groups(parts, count)
+        if len(found.digits) >= _ENOUGH:
+            return found
+    return _groups(parts, len(parts))
+
+
+def _end(words: Sequence[Tuple[str, int]], count: int) -> _Found:
+    """The digits at the end of the first `count` words."""
+    if count == 0:
+        return _Found("", 0)
+    text, begin = words[count - 1]
+    if _is_group(_bare(text)):
+        return _groups(words, count)
+    return _parts(text, begin)
+
+
+def _digits_of(line: str) -> _Found:
+    """The digits of a line, by the rule of FORMAT.md: those before a comment, where they are enough, or of all of it."""
+    if len(line) % 2 == 0 and _HEX.match(line):
+        return _Found(line, 0)
+    comment = _COMMENT.search(line)
+    if comment:
+        found = _digits_in(line[:comment.start()])
+        if len(found.digits) >= _ENOUGH:
+            return found
+    return _digits_in(line)
+
+
+def _digits_in(text: str) -> _Found:
+    """The digits of a text."""
+    words = [(it[0], it.start()) for it in _WORD.finditer(text)]
+    for count in range(len(words), 0, -1):
+        found = _end(words, count)
+        if len(found.digits) >= _ENOUGH:
+            return found
+    return _end(words, len(words))
+
+
+# ---- What a line is.
+
+
+def _if_item(data: bytes, kind: Kind) -> Optional[Item]:
+    """The item that the bytes are."""
+    try:
+        sent, taken = _library.fields(data, kind)
+    except EtcsError:
+        return None
+    return item_of(sent, kind) if taken == len(data) else None
+
+
+def _of_bits(digits: str, kind: str) -> Optional[bytes]:
+    """The bytes of a telegram whose bits these digits are."""
+    if len(digits) != _BITS.get(kind) or digits.strip("01"):
+        return None
+    return int(digits.ljust(8 * _BYTES[kind], "0"), 2).to_bytes(_BYTES[kind], "big")
+
+
+def _says_length(data: bytes) -> bool:
+    """Whether L_MESSAGE says this number of bytes."""
+    return len(data) > 2 and len(data) == data[1] * 4 + data[2] // 64
+
+
+def _way(data: bytes, kinds: Sequence[Kind]) -> Kind:
+    """The kind of a message: of both ways, that of its number."""
+    return "train" if "train" in kinds and ("radio" not in kinds or 129 <= data[0] <= 159) else "radio"
+
+
+def _telegrams(kinds: Sequence[Kind]) -> List[Kind]:
+    """Those of the kinds that are telegrams, the long ones first."""
+    both: Tuple[Kind, ...] = ("long", "short")
+    return [kind for kind in both if kind in kinds]
+
+
+def _candidates(digits: str, data: bytes, kinds: Sequence[Kind]) -> Iterator[Tuple[Kind, bytes]]:
+    """What a line may be, one after another."""
+    for kind in _telegrams(kinds):
+        packed = _of_bits(digits, kind)
+        if packed is not None or len(data) == _BYTES[kind]:
+            yield kind, packed or data
+    if "radio" in kinds or "train" in kinds:
+        yield _way(data, kinds), data
+    for kind in _telegrams(kinds):
+        if len(data) > _BYTES[kind]:
+            yield kind, data[-_BYTES[kind]:]
+
+
+def _fault(digits: str, data: bytes, kinds: Sequence[Kind]) -> EtcsError:
+    """Why the bytes of a line are no item of the kinds."""
+    messages = "radio" in kinds or "train" in kinds
+    said = messages and _says_length(data)
+    asked = said or any(len(data) == _BYTES.get(kind) for kind in kinds)
+    if not asked and (_says_length(data) or len(data) in _BYTES.values()):
+        what = {104: "a long telegram has", 27: "a short telegram has"}.get(len(data), "a radio message whose L_MESSAGE says so")
+        return OtherKind(f"other: {len(data)} bytes, as {what}")
+    for kind in _telegrams(kinds):
+        packed = _of_bits(digits, kind)
+        if packed is not None or len(data) == _BYTES[kind]:
+            return _refusal(packed or data, kind) or BadLine(_count(data))
+    if said:
+        return _refusal(data, _way(data, kinds)) or BadLine(_count(data))
+    return BadLine(_count_fault(data, kinds, messages))
+
+
+def _refusal(data: bytes, kind: Kind) -> Optional[Refused]:
+    """Where the bytes are refused."""
+    try:
+        _library.check(data, kind)
+    except Refused as fault:
+        return fault
+    except EtcsError:
+        pass
+    return None
+
+
+def _count(data: bytes) -> str:
+    return f"{len(data)} byte{'' if len(data) == 1 else 's'}"
+
+
+def _count_fault(data: bytes, kinds: Sequence[Kind], messages: bool) -> str:
+    """Which numbers of bytes items of the kinds have."""
+    text = _count(data)
+    length = f"L_MESSAGE says {data[1] * 4 + data[2] // 64}" if len(data) > 2 else ""
+    telegrams = _telegrams(kinds)
+    if len(telegrams) == 1 and not messages:
+        return f"{text}, a {telegrams[0]} telegram has {_BYTES[telegrams[0]]}"
+    if not telegrams:
+        return f"{text}, {length or 'a radio message has at least 3'}"
+    return f"{text}, which no item of these kinds has" + (f": {length}" if messages and length else "")
+
+
+def _line(number: int, text: str, kinds: Sequence[Kind]) -> LogLine:
+    """What a line is that is neither blank nor a comment."""
+    found = _digits_of(text)
+    front = text[:found.begin].rstrip(" \t\r")
+    if not found.digits:
+        return LogLine(number, text.rstrip(" \t\r"), None, None, BadLine("no hexadecimal digits at its end"))
+    if len(found.digits) % 2:
+        count = len(found.digits)
+        return LogLine(number, front, None, None, BadLine(f"{count} digit{'' if count == 1 else 's'}, an odd number"))
+    data = bytes.fromhex(found.digits)
+    for kind, candidate in _candidates(found.digits, data, kinds):
+        item = _if_item(candidate, kind)
+        if item is not None:
+            return LogLine(number, front, kind, item, None)
+    return LogLine(number, front, None, None, _fault(found.digits, data, kinds))
+
+
+def read_log(lines: Iterable[Union[str, bytes]], kinds: Union[str, Iterable[Kind]]) -> Iterator[LogLine]:
+    """Reads lines as the program's `log` does, each by itself: yields an item or a fault for each, with its number and what is
+    before its digits, and nothing for blank lines and comments. `kinds` is one kind or several, also with commas. Lines are
+    those of a file, of text or of bytes, or a list.
+
+        >>> import etcs
+        >>> log = ["12:00:03 A1 13 14 0C 40 FF C1 40 27 A1 27 23 18 40 08 C0 7F FF FF FF FF FF FF FF FF FF C0", "# noon", "12:00:04 A2"]
+        >>> for line in etcs.read_log(log, "short"):
+        ...     print(line.number, line.front, line.item["NID_BG"] if line.item else line.note)
+        1 12:00:03 511
+        3 12:00:04 1 byte, a short telegram has 27
+    """
+    asked: Any = tuple(kinds.split(",") if isinstance(kinds, str) else kinds)
+    for kind in asked or [""]:
+        _library.kind_number(kind)
+    for number, line in enumerate(lines, 1):
+        if len(line) > _MOST_LINE // 4 and _length(line) > _MOST_LINE:
+            yield LogLine(number, "", None, None, BadLine(f"more than {_MOST_LINE} characters"))
+            continue
+        text = line if isinstance(line, str) else bytes(line).decode("utf-8", "replace")
+        text = text.rstrip("\n")
+        text = text[1:] if text[:1] == "\ufeff" else text
+        first = text.lstrip(" \t\r")
+        if first and first[0] != "#":
+            yield _line(number, text, asked)
+
+
+def _length(line: Union[str, bytes]) -> int:
+    """How many bytes a line has before its end."""
+    raw = line.encode("utf-8", "replace") if isinstance(line, str) else bytes(line)
+    raw = raw[:-1] if raw[-1:] == b"\n" else raw
+    return len(raw[:-1] if raw[-1:] == b"\r" else raw)
+
+
+# ---- Groups.
+
+
+def _agree(one: int, two: int) -> bool:
+    """Whether two values of M_MCOUNT do."""
+    return 254 not in (one, two) and (one == two or 255 in (one, two))
+
+
+class Group:
+    """A balise group: the telegrams that are held of it, at most one for each position, and how many clashed with them."""
+
+    def __init__(self, nid_c: int, nid_bg: int) -> None:
+        self.nid_c, self.nid_bg = nid_c, nid_bg
+        #: by N_PIG
+        self.telegrams: Dict[int, Telegram] = {}
+        self.clashes = 0
+
+    def _clash(self, telegram: Telegram) -> bool:
+        """Whether a telegram doesn't belong to those that are held (SUBSET-026, 3.16.2.4)."""
+        header = telegram.header
+        place, last, duplicate = header["N_PIG"], header["N_TOTAL"], header["M_DUP"]
+        if place > last or (place, duplicate) == (0, 2) or place == last and duplicate == 1:
+            return True
+        for held in self.telegrams.values():
+            other = held.header
+            if last != other["N_TOTAL"] or not _agree(header["M_MCOUNT"], other["M_MCOUNT"]):
+                return True
+            if place == other["N_PIG"] and telegram != held:
+                return True
+        return False
+
+    def add(self, telegram: Telegram) -> bool:
+        """Holds a telegram of the group, or counts it as a clash; whether it is held."""
+        if self._clash(telegram):
+            self.clashes += 1
+            return False
+        self.telegrams.setdefault(telegram.header["N_PIG"], telegram)
+        return True
+
+    @property
+    def missing(self) -> List[int]:
+        """The positions that are held neither themselves nor by a duplicate; none where nothing is held."""
+        duplicates = {place: held.header["M_DUP"] for place, held in self.telegrams.items()}
+        total = max((held.header["N_TOTAL"] for held in self.telegrams.values()), default=-1)
+        return [it for it in range(total + 1) if it not in duplicates and duplicates.get(it - 1) != 1 and duplicates.get(it + 1) != 2]
+
+    @property
+    def is_complete(self) -> bool:
+        return bool(self.telegrams) and not self.missing
+
+    def __str__(self) -> str:
+        """The line of `etcs log --groups`."""
+        missing = " ".join(map(str, self.missing))
+        state = "empty" if not self.telegrams else f"missing {missing}" if missing else "complete"
+        clashes = f" clashes {self.clashes}" if self.clashes else ""
+        return f"group {self.nid_c} {self.nid_bg} {state}{clashes}"
+
+    def __repr__(self) -> str:
+        return f"<{self}>"
+
+
+def groups(telegrams: Iterable[Any]) -> List[Group]:
+    """The balise groups of telegrams, by NID_C and NID_BG, in the order in which they begin. Lines of a log and messages may be
+    among them: `groups(read_log(lines, "long,short"))` are those of `etcs log --kind long,short --groups`."""
+    found: Dict[Tuple[int, int], Group] = {}
+    for each in telegrams:
+        telegram = each.item if isinstance(each, LogLine) else each
+        if isinstance(telegram, Telegram):
+            key = telegram.header["NID_C"], telegram.header["NID_BG"]
+            if key not in found:
+                found[key] = Group(*key)
+            found[key].add(telegram)
+    return list(found.values())

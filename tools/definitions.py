@@ -4,18 +4,21 @@
     tools/definitions.py [--count] [--clauses] [--most N] (--headline | CALL ..)
     tools/definitions.py --page [--check]
 
-A CALL is `etcs_telegram::TelegramReader::feed` or `etcs_stream::run`; --headline names those that read and write
-telegrams and messages. It follows the names in `requires` and `ensures`, in the ghost members of types and traits in
-the call's head that these name, in `Value` and `view` of the types' `impl Model` (--clauses leaves these two out), and
-in the definitions of crates/*/specs; not invariants, names of the kit, and items of the code, which are listed at the
-end. A line has a file and line, a name and how many lines it has without comments; the last one, which --count prints
-alone, has the counts. The status is 1 where a name isn't found, where a contract rests on a lemma (it lies in
-specs/laws or proofs, or is neither `abbrev` nor `unfoldable` nor a type), and where there are more than N definitions.
+A CALL is `etcs_telegram::TelegramReader::feed`, `etcs_stream::run`, or a method of a `pub type`, as
+`etcs_radio::MessageReader::feed`; --headline names those that read and write telegrams and messages. It follows the names
+in `requires` and `ensures`, in the ghost members of types and traits in the call's head that these name, in `Value` and
+`view` of the types' `impl Model` (--clauses leaves these two out), in the ghost members of the types that a `pub type`
+gives (`H.Packet.form` where H is `RadioHead`), and in the definitions of crates/*/specs; not invariants, names of the kit,
+and items of the code, which are listed at the end, with the members of types that are the caller's to give. A line has a
+file and line, a name and how many lines it has without comments; the last one, which --count prints alone, has the
+counts. The status is 1 where a name isn't found, where a contract rests on a lemma (it lies in specs/laws or proofs, or is
+neither `abbrev` nor `unfoldable` nor a type), and where there are more than N definitions.
 
---page writes the parts of docs/READ-TO-BELIEVE.md between `<!-- definitions: FILE .. -->`, `<!-- clauses: CALL .. -->` or
-`<!-- counts: CALL .. -->` and `<!-- end -->`: the headline's definitions in these files of crates/, the clauses of these
-calls, and how many definitions each rests on. Each definition has to be in one part. With --check nothing is written, and
-the status is 1 where the page has parted from the sources.
+--page writes the parts of docs/READ-TO-BELIEVE.md between `<!-- definitions: FILE .. -->`, `<!-- quoted: FILE .. -->`,
+`<!-- clauses: CALL .. -->` or `<!-- counts: CALL .. -->` and `<!-- end -->`: where the headline's definitions in these files
+of crates/ are, or their text too, the clauses of these calls, and how many definitions each rests on. Each definition has
+to be in one part, the clauses of each call of the headline in another, and no type of it may be the caller's to give. With
+--check nothing is written, and the status is 1 where the page has parted from the sources.
 """
 
 import os
@@ -24,10 +27,14 @@ import sys
 from collections import namedtuple
 from functools import lru_cache
 from graphlib import TopologicalSorter
+from itertools import chain
 
 TOP = os.path.dirname(os.path.dirname(os.path.realpath(__file__)))
-HEADLINE = [f"etcs_telegram::{it}" for it in ("TelegramReader::feed", "TelegramReader::take", "Telegram::encode_into")]
-HEADLINE += [f"etcs_messages::{it}" for it in ("ReaderOf::feed", "ReaderOf::take", "MessageOf::encode")]
+HEADLINE = """
+    etcs_telegram::TelegramReader::feed etcs_telegram::TelegramReader::take etcs_telegram::Telegram::encode_into
+    etcs_radio::MessageReader::feed etcs_radio::MessageReader::take etcs_radio::Message::encode
+    etcs_train::TrainReader::feed etcs_train::TrainReader::take etcs_train::TrainMessage::encode
+""".split()
 LANGUAGES = ["telegram.specs.Telegrams.TelegramLanguage", "messages.specs.Messages.MessageLanguage", "vars.specs.Reading.IsOutcome"]
 LANGUAGES = [f"Rattle.etcs_{it}" for it in LANGUAGES]
 NAME = r'[^\s(){}.;,@"«»]+'
@@ -36,8 +43,9 @@ SIGNATURE = re.compile(rf"( *)((?:(?:unfoldable|abbrev|pub|data|record) )*)({NAM
 MEMBER = re.compile(rf"\s+(?:pub )?({NAME}) :")
 BINDER = re.compile(r"λ (.*?) \. |let (.*?) [:=] |[\[|] ([^\[|]*?) ↦ |[({] ([^(){}]*?) : ")
 WORDS = set("Type Unit tt ⊥ absurd × → = : | λ ↦ [ ] _ let in as elim record data where Ok Err Some None ∥ ∥₁".split())
-WORDS |= set("unfoldable abbrev pub".split())
+WORDS |= set("unfoldable abbrev pub String".split())
 CodeItem = namedtuple("CodeItem", "path line name")
+Given = namedtuple("Given", "name")  # a member of a type that the caller gives
 place = "{0.path}:{0.line}: {0.name}".format
 CLAUSE = r"\s+(?:requires|ensures)\b"
 
@@ -46,7 +54,7 @@ class Declaration:
     """A definition, a type or a lemma of an antt file."""
 
     def __init__(self, file, line, signature, module):
-        self.file, self.path, self.line, self.lines, self.module = file, file.path, line, [signature[0]], module
+        self.file, self.path, self.line, self.lines, self.module = file, file.path, line, [signature.string], module
         self.indent, self.marks, self.name = len(signature[1]), signature[2].split(), signature[3]
         self.is_type = bool({"data", "record"} & set(self.marks))
 
@@ -74,7 +82,7 @@ class Antt:
 
     def __init__(self, module):
         self.path = "/".join(["crates", *module.split(".")[1:]]) + ".antt"
-        self.declared, self.fixities, now, module = {}, set(), None, None
+        self.declared, self.fixities, now, module, marks = {}, set(), None, None, []
         lines = open(f"{TOP}/{self.path}", encoding="utf-8").read().splitlines()
         self.uses = brought(lines)
         for number, line in enumerate(lines, 1):
@@ -82,12 +90,13 @@ class Antt:
             if line.startswith("module _ "):
                 module = (number, line.removeprefix("module _ ").removesuffix(" where"))
             elif indent == 0 and line:
-                module = None
-            if line.lstrip().startswith(("use ", "pub use ", "module ", "infix")):
+                module, marks = None, line.split()[:-1] if line.endswith(" mutual") else []
+            if line.lstrip().startswith(("use ", "pub use ", "module ", "infix")) or line.endswith(" mutual"):
                 self.fixities |= {line.split()[-1]} if line.startswith("infix") else set()
                 now = None
             elif (found := SIGNATURE.match(line)) and (now is None or indent <= now.indent):
                 now = self.declared[found[3]] = Declaration(self, number, found, module)
+                now.marks += marks
             elif now:
                 now.lines.append(line)
 
@@ -179,11 +188,13 @@ class Code:
     def __init__(self, path):
         self.path, self.declared = os.path.relpath(path, TOP), {}
         self.lines = open(path, encoding="utf-8").read().splitlines()
+        self.heads = [at for at, it in enumerate(self.lines) if it[:1].isalpha()]
 
     def blocks(self, head):
         """Yields the first line and the end of each item whose first line begins so."""
-        for first, line in enumerate(self.lines):
-            if re.match(rf"(?:pub(?:\(crate\))? )?(?:{head})\b", line):
+        begins = re.compile(rf"(?:pub(?:\(crate\))? )?(?:{head})\b")
+        for first in self.heads:
+            if begins.match(self.lines[first]):
                 ends = (i for i in range(first, len(self.lines)) if re.match(r"\}|\{\}", self.lines[i]))
                 yield first, next(ends, first) + 1
 
@@ -194,16 +205,22 @@ class Code:
     def crate_of(self, name):
         """Returns the crate that a name of this file is from: its own where no other is given."""
         uses = re.findall(r"^(?:pub )?use (?!crate|self|super)(\w+)::([^;]*);", "\n".join(self.lines), re.M)
-        return next((crate for crate, rest in uses if name in re.findall(r"\w+", rest)), self.path.split("/")[1])
+        found = (it for it, rest in uses if name in re.findall(r"\w+", rest) and os.path.isdir(f"{TOP}/crates/{it}"))
+        return next(found, self.path.split("/")[1])
 
-    def terms(self, head, first, end, at, bound):
-        """Yields the meanings of the clauses or ghost members with such heads from the line `at` of a block on."""
+    def terms(self, head, first, end, at, bound, given=()):
+        """Yields the meanings of the clauses or ghost members with such heads from the line `at` of a block on, and of
+        the members of the types that the block's type is given."""
         outside = [it for it in self.lines if not it.startswith(" ")]
         ghosts = re.findall(r"^    ghost (\w+):", "\n".join(self.lines[first:end]), re.M)
-        scope = Scope(self, brought(outside + self.lines[first:end]), {*bound, *ghosts})
+        parameters = [*parameters_of(self.lines[first]), *parameters_of(self.lines[at].strip())]
+        types = dict(zip(parameters, given))
+        scope = Scope(self, brought(outside + self.lines[first:end]), {*bound, *ghosts, *parameters})
         for number in range(at, end):
             if found := re.match(rf"(?:{head})[^{{]*\{{(.*)\}};?$", self.lines[number]):
                 yield from scope.meanings(number + 1, [found[1]])
+                for name, path in re.findall(rf"(?<![\w.])({'|'.join(parameters) or '(?!)'})\b((?:\.\w+)*)", found[1]):
+                    yield from members(*types[name], path.split(".")[1:]) if name in types else [Given(name + path)] * bool(path)
 
 
 @lru_cache(maxsize=None)
@@ -220,10 +237,60 @@ def code_item(crate, name):
     return next((CodeItem(it.path, first + 1, name) for it in code_of(crate) for first, _ in it.blocks(head)), None)
 
 
+def parameters_of(head):
+    """Yields the names of the types and constants that the first line of an `impl` or a function is over."""
+    found, depth, text = re.match(r"(?:pub(?:\(crate\))? )?(?:impl|(?:const )?fn \w+)<", head), 1, ""
+    for it in head[found.end() :] if found else "":
+        depth += {"<": 1, ">": -1}.get(it, 0)
+        if depth == 0:
+            break
+        text += it if depth == 1 else ""
+    yield from re.findall(r"(?:^|, )(?:const )?(\w+)", text)
+
+
+@lru_cache(maxsize=None)
+def alias_of(crate, name):
+    """Returns the crate and the name of the type that a `pub type` is of, and those of each that it gives; else the two, and none."""
+    for code in code_of(crate):
+        for found in filter(None, (re.match(rf"pub type {name} = (\w+)<([\w, ]*)>;", code.lines[it]) for it in code.heads)):
+            return (code.crate_of(found[1]), found[1]), [(code.crate_of(it), it) for it in found[2].split(", ")]
+    return (crate, name), []
+
+
+def members(crate, name, path):
+    """Yields what a type means, or the ghost member at the end of a path over types that its implementations name."""
+    if not path:
+        return (yield code_item(crate, name))
+    blocks = [(code, *it) for code in code_of(crate) for it in code.blocks(rf"impl .* for {name}")]
+    for code, first, end in blocks:
+        for found in filter(None, (re.match(rf"    type {path[0]} = (\w+);", it) for it in code.lines[first:end])):
+            return (yield from members(code.crate_of(found[1]), found[1], path[1:]))
+        if len(path) == 1 and re.search(rf"^    ghost {path[0]} = {{.*}};$", "\n".join(code.lines[first:end]), re.M):
+            return (yield from code.terms(f"    ghost {path[0]} = ", first, end, first, []))
+    raise LookupError(f"{crate}: {name} has no member {'.'.join(path)}")
+
+
+@lru_cache(maxsize=None)
+def shown_by(item):
+    """Returns what `Value` and `view` of a type of the code mean, and the types that are in it."""
+    (crate, name), given = alias_of(item.path.split("/")[1], item.name)
+    found = [code_item(*it) for it in [(crate, name), *given] if given]
+    for code in code_of(crate):
+        for first, end in code.blocks(rf"impl(?:<.*?>)? Model for {name}"):
+            terms = code.terms(" +ghost (?:Value|view) = ", first, end, first, [])
+            found += [it for it in terms if not isinstance(it, Given)]
+        for first, end in code.blocks(rf"(?:struct|enum) {name}"):
+            said = [re.sub(r"^ +[A-Z]\w*|//.*", "", it) for it in code.lines[first:end]]
+            types = dict.fromkeys(re.findall(r"\b[A-Z]\w*[a-z]\w*", " ".join(said)))
+            found += filter(None, (code_item(code.crate_of(it), it) for it in types if it != name))
+    return found
+
+
 def function_of(call):
     """Returns a call's file, its block and its line, and its type or trait."""
     crate, *path, name = call.split("::")
     owner = path.pop() if path and path[-1][0].isupper() else None
+    (crate, owner), _ = alias_of(crate, owner)
     function = rf"(?:pub(?:\(crate\))? )?(?:const )?fn {name}\b"
     found = [
         (code, first, end, at, owner)
@@ -246,21 +313,35 @@ def named_by(call, clauses_alone):
     clauses = [it.partition("{")[2] for it in code.lines[at:body] if re.match(CLAUSE, it)]
     if not clauses:
         sys.exit(f"{code.path}:{at + 1}: {call} has no clauses of its own")
-    generics = [it for part in re.findall(r"<(.*?)>", head) for it in re.findall(r"(?:^|, |const )(\w+)", part)]
-    bound = {*re.findall(r"(\w+)\s*:", head), *generics, "self", "Self", "result"}
-    yield from code.terms(CLAUSE, first, body, at, bound)
-    members = {*re.findall(r"\w+", " ".join(clauses)), *([] if clauses_alone else ["Value", "view"])}
+    parameters = [*parameters_of(code.lines[first])]
+    bound = {*re.findall(r"(\w+)\s*:", head), *parameters, *parameters_of(code.lines[at].strip()), "self", "Self", "result"}
+    _, given = alias_of(*call.split("::")[:2])
+    yield from code.terms(CLAUSE, first, body, at, bound, given)
+    named = {*re.findall(r"\w+", " ".join(clauses)), *([] if clauses_alone else ["Value", "view"])}
     for name in sorted({*re.findall(r"\b[A-Z]\w*", head), owner} - {None, *bound}):
         for other in code_of(code.crate_of(name)):
             for block in other.blocks(rf"trait {name}|impl(?:<.*?>)? .* for {name}"):
-                yield from other.terms(rf" +ghost (?:{'|'.join(members)})(?:: | = )", *block, block[0], bound)
+                given_here = given if f"{name}<{', '.join(parameters)}>" in head else ()
+                yield from other.terms(rf" +ghost (?:{'|'.join(named)})(?:: | = )", *block, block[0], bound, given_here)
+
+
+@lru_cache(maxsize=None)
+def meanings_of(item):
+    """Returns what the names of a definition mean."""
+    scope, found = Scope(item.file, item.file.uses, item.members() if "record" in item.marks else []), []
+    if item.module:  # what the module around it is of, which its parts name too
+        first, text = item.module
+        found += scope.meanings(first, [text])
+        scope.bound |= {it for names in re.findall(r"[({]([^(){}]*?) :", text) for it in names.split()}
+    return found + [it for first, lines in item.parts() for it in scope.meanings(first, lines, first != item.line)]
 
 
 class Reached:
     """The definitions that are reached, which files name which, the types of the code, and what is refused."""
 
-    def __init__(self):
-        self.seen, self.names, self.types, self.refused = {}, {}, set(), {}
+    def __init__(self, clauses_alone=False):
+        self.seen, self.names, self.types, self.refused, self.given = {}, {}, {}, {}, set()
+        self.clauses_alone = clauses_alone
 
     def visit_all(self, items, user=None):
         """Visits what names mean; where one isn't found, notes that."""
@@ -272,8 +353,13 @@ class Reached:
 
     def visit(self, item, user):
         """Visits a definition and those that it names."""
+        if isinstance(item, Given):
+            return self.given.add(item.name)
         if isinstance(item, CodeItem):
-            return self.types.add(place(item))
+            if item not in self.types:
+                self.types[item] = None
+                self.visit_all([] if self.clauses_alone else shown_by(item))
+            return
         self.names.setdefault(item.path, {})
         if user and user.path != item.path:
             self.names[user.path][item.path] = None
@@ -281,13 +367,7 @@ class Reached:
             self.refused[f"{place(user) if user else 'a clause'} names {place(item)}, a lemma or among lemmas"] = None
         elif item not in self.seen:
             self.seen[item] = None
-            scope = Scope(item.file, item.file.uses, item.members() if "record" in item.marks else [])
-            if item.module:  # what the module around it is of, which its parts name too
-                first, text = item.module
-                self.visit_all(scope.meanings(first, [text]), item)
-                scope.bound |= {it for names in re.findall(r"[({]([^(){}]*?) :", text) for it in names.split()}
-            for first, lines in item.parts():
-                self.visit_all(scope.meanings(first, lines, first != item.line), item)
+            self.visit_all(chain.from_iterable(map(meanings_of, [item])), item)
 
     def in_order(self):
         """Returns the definitions, each after those that it names: by files, and by lines in a file."""
@@ -298,7 +378,7 @@ class Reached:
 # ---- The page.
 
 PAGE = f"{TOP}/docs/READ-TO-BELIEVE.md"
-PART = re.compile(r"(<!-- (definitions|clauses|counts): ([^>]*?) -->\n)(.*?)(<!-- end -->)", re.S)
+PART = re.compile(r"(<!-- (definitions|quoted|clauses|counts): ([^>]*?) -->\n)(.*?)(<!-- end -->)", re.S)
 
 
 def link(path, line):
@@ -312,7 +392,21 @@ def definition_lines(found, files):
         here = [it for it in found if it.path == f"crates/{file}"]
         names = ", ".join(f"`{it.name}` {it.line}" for it in here)
         lines = sum(it.size() for it in here)
-        yield f"- {link(here[0].path, here[0].line)}, {lines} lines: {names}"
+        yield f"- {link(here[0].path, here[0].line)}, {lines} lines: {names}" if here else f"- {file}: none"
+
+
+def quoted_lines(found, files):
+    """Yields the same lines, each with the text of its definitions and of the comments above them."""
+    for file, line in zip(files, definition_lines(found, files)):
+        yield from [line, "", "```text"]
+        text = open(f"{TOP}/crates/{file}", encoding="utf-8").read().splitlines()
+        for at, it in enumerate(it for it in found if it.path == f"crates/{file}"):
+            first = it.line - 1
+            while text[first - 1].startswith("-- ") and not text[first - 1].startswith("-- --"):
+                first -= 1
+            said = "\n".join(text[first : it.line - 1] + it.lines)
+            yield from [""] * bool(at) + re.sub(r"(\n *(--.*)?)+\Z", "", said).split("\n")
+        yield "```"
 
 
 def clause_lines(calls):
@@ -352,13 +446,19 @@ def write_page(check):
     """Writes the page's parts, or compares them; returns the status."""
     reached = reached_by("headline")
     found, old = reached.in_order(), open(PAGE, encoding="utf-8").read()
-    makers = {"definitions": lambda it: definition_lines(found, it), "clauses": clause_lines, "counts": count_lines}
+    makers = {"clauses": clause_lines, "counts": count_lines}
+    makers |= {"definitions": lambda it: definition_lines(found, it), "quoted": lambda it: quoted_lines(found, it)}
 
     def part(match):
         return match[1] + "".join(f"{it}\n" for it in makers[match[2]](match[3].split())) + match[5]
 
-    named = [f"crates/{it}" for match in PART.finditer(old) if match[2] == "definitions" for it in match[3].split()]
+    parts = [(it[2], word) for it in PART.finditer(old) for word in it[3].split()]
+    named = [f"crates/{it}" for kind, it in parts if kind in ("definitions", "quoted")]
+    shown = {function_of(it)[:4] for kind, it in parts if kind == "clauses"}
     faults = [*reached.refused, *(f"{it} is in no part" for it in sorted({it.path for it in found} - {*named}))]
+    faults += [f"{it} has no definition of the headline" for it in sorted({*named} - {it.path for it in found})]
+    faults += [f"the clauses of {it} are in no part" for it in HEADLINE if function_of(it)[:4] not in shown]
+    faults += [f"the headline names {it} of a type that isn't given" for it in sorted(reached.given)]
     faults += [f"{it} is in two parts" for it in sorted({*named}) if named.count(it) > 1]
     new = PART.sub(part, old)
     if check and new != old:
@@ -375,12 +475,14 @@ def main(words):
         return write_page("--check" in words)
     most = int(words[words.index("--most") + 1]) if "--most" in words else sys.maxsize
     calls = [it for it in words if "::" in it] + (HEADLINE if "--headline" in words else [])
-    reached = Reached()
+    reached = Reached("--clauses" in words)
     for call in calls or sys.exit(__doc__):
         reached.visit_all(named_by(call, "--clauses" in words))
     found = reached.in_order()
     if "--count" not in words:
-        print("\n".join([*(f"{place(it)}, {it.size()}" for it in found), "types of the code:", *sorted(reached.types)]))
+        print(*(f"{place(it)}, {it.size()}" for it in found), "types of the code:", *sorted(map(place, reached.types)), sep="\n")
+        if reached.given:
+            print("members of types that the caller gives:", *sorted(reached.given), sep="\n")
     files, crates = {it.path for it in found}, {it.path.split("/")[1] for it in found}
     print(f"{len(found)} definitions, {sum(it.size() for it in found)} lines, {len(files)} files, {len(crates)} crates")
     faults = [*reached.refused, *[f"more than {most} definitions"] * (len(found) > most)]

@@ -266,6 +266,38 @@ def message_names(way):
     return with_all(messages(way), found, "message")
 
 
+# ---- What numbers mean.
+
+
+def lines_of(table):
+    """Yields what is before the colon of each line of a table of meanings, and the words after it."""
+    text = found_one(rf"static {table}: .*? = &\w+! \{{\n(.*?)\n\}};", source("etcs_reasons/src/meanings.rt"), table)[1]
+    for head, tail in re.findall(r"([^:;]+?):\s+([^;]*);", re.sub(r'"[^"]*"', lambda it: it[0].replace(":", "\0"), text)):
+        yield head.replace("\0", ":").strip(), tail.replace("\0", ":")
+
+
+@lru_cache(maxsize=None)
+def units():
+    """Returns the unit of each variable that has one: the name of a `Unit`, or the text of `In`."""
+    return {var: re.sub(r'^In\("(.*)"\)$', r"\1", unit) for unit, tail in lines_of("UNITS") for var in tail.split()}
+
+
+@lru_cache(maxsize=None)
+def number_texts():
+    """Returns the texts of each variable's numbers that have one: those of `Var::special`, and those of the meanings."""
+    found = {it.var: dict(it.special) for it in variables() if it.special}
+    for head, tail in lines_of("SPECIALS"):
+        number, text = re.match(r'(\d+) "(.*)"$', head).groups()
+        for var in tail.split():
+            found.setdefault(var, {}).setdefault(int(number), text)
+    for head, tail in lines_of("TEXTS"):
+        for var in head.split():
+            texts = found.setdefault(var, {})
+            for number, text in enumerate(re.findall(r'"([^"]*)"', tail)):
+                texts.setdefault(number, text)
+    return {var: dict(sorted(texts.items())) for var, texts in found.items()}
+
+
 def with_all(typed, found, what):
     """Returns the names, among which those of all that is typed have to be."""
     if missing := sorted(set(typed) - set(found)):

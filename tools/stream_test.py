@@ -4,9 +4,10 @@
     tools/stream_test.py PROGRAM
 
 PROGRAM is the built `etcs`. It is run over outputs of little room, inputs that can't be read, a million items and more,
-lines that are long, JSON that is deep or no UTF-8, and with few addresses; its own JSON has to be read far sooner than the
-same with a blank; and pages have their words. Expected answers come from docs/FORMAT.md and from counting. Each answer that
-isn't as expected is written; the last line says how many there were. The status is 1 where one differs.
+lines that are long, JSON that is deep or no UTF-8, logs that are no UTF-8, and with few addresses; its own JSON has to be
+read far sooner than the same with a blank; and pages have their words. Expected answers come from docs/FORMAT.md and from
+counting. Each answer that isn't as expected is written; the last line says how many there were. The status is 1 where one
+differs.
 """
 
 import glob
@@ -73,6 +74,17 @@ NOT_IN_TEXTS = (
 AROUND = (b" \t\r \t",)
 NOT_AROUND = (b"\xef\xbb\xbf", b"\xff", b"\x80", b"\x00", b"\x0b", b"\x0c", b"\xc2\xa0")
 
+
+# bytes that aren't UTF-8, and how many characters U+FFFD each are: one for what begins a character, else one a byte
+NO_UTF8 = (
+    (b"\xff", 1),
+    (b"\xff\xfe", 2),
+    (b"\xe2\x82", 1),
+    (b"\xf0\x9f\x98", 1),
+    (b"\xc0\xaf", 2),
+    (b"\xed\xa0\x80", 3),
+    (b"\xf8\x88\x80\x80\x80", 5),
+)
 
 # a telegram with the text <&>, one that is refused, messages of either way, JSON of no item: words of their pages
 PAGES = (
@@ -209,6 +221,15 @@ def check_long_lines(program):
         program.check(f"{words}, {count} bytes", found, (1, f"line 1: {said}", "line 2", fault))
 
 
+def check_fronts(program):
+    """What isn't UTF-8 before the digits of a line is U+FFFD in JSON, and the rest is as it is."""
+    for it, count in NO_UTF8:
+        front = "caf\u00e9 ".encode()
+        wanted = b'{"line":1,"front":"' + front + "\ufffd".encode() * count + b'","item":' + KEPT + b"}\n"
+        found = program.call("log --kind radio --to json", front + it + b" 0F00FF\n")
+        program.check(f"{it} before the digits", found, (0, wanted, b""))
+
+
 def check_pages(program):
     """A page has its words, and nothing of the input raw."""
     for words, given, said in PAGES:
@@ -283,6 +304,7 @@ CHECKS = (
     check_lines,
     check_bytes,
     check_long_lines,
+    check_fronts,
     check_endless_line,
     check_pages,
     check_written,

@@ -8,6 +8,7 @@ RT is the path of `rt`. What the parts ask is built first, without a proof, wher
 
     vectors      every vector, by `etcs_vectors`, and how many there are of each kind
     commands     the vectors that a command line can answer, by `etcs` (tools/vectors.py)
+    stack        the same with 96 KB of stack
     sentences    whether each sentence of `explain` and `log` is in a vector (tools/sentences.py)
     schema       docs/etcs.schema.json against the tables, the vectors and what the program writes (tools/schema.py)
     documents    the commands and the quoted files of all documents (tools/doc_examples.py)
@@ -17,6 +18,9 @@ RT is the path of `rt`. What the parts ask is built first, without a proof, wher
     found        whether they find out programs that are wrong (tools/fuzz_test.py)
     tests        the tests of the crates whose names end with `_tests`
     definitions  docs/READ-TO-BELIEVE.md against the definitions (tools/definitions.py)
+    hidden       whether that finds a definition that the page hides (tools/definitions_test.py)
+    names        the names of docs/DEFINITIONS.md against the definitions and clauses (tools/definition_names.py)
+    proved       whether docs/PROVED.md has a row for each call with a contract (tools/proved.py)
     tables       the tables of documents against the sources (tools/format_tables.py)
     help         the texts of help against the vectors (tools/help_texts.py)
     manual       the manual and the completions against them (tools/manual.py)
@@ -58,6 +62,7 @@ PROGRAM_SCRIPTS = {
     "chance": ["fuzz.py", "--seconds", "10"],
     "found": ["fuzz_test.py"],
     "commands": ["vectors.py"],
+    "stack": ["vectors.py", "sh", "-c", 'ulimit -s 96 && exec "$@"', "sh"],
     "script": ["script_test.py"],
     "streams": ["stream_test.py"],
     "documents": ["doc_examples.py", "--check"],
@@ -65,7 +70,10 @@ PROGRAM_SCRIPTS = {
     "sentences": ["sentences.py"],
 }
 SCRIPTS = {
+    "hidden": ["definitions_test.py"],
     "definitions": ["definitions.py", "--page", "--check"],
+    "names": ["definition_names.py"],
+    "proved": ["proved.py", "--check"],
     "tables": ["format_tables.py", "--check"],
     "help": ["help_texts.py", "--check"],
     "manual": ["manual.py", "--check"],

@@ -19,6 +19,7 @@ use Rattle.etcs_packets.specs.PacketValues as packets
 use Rattle.etcs_packets.specs.PacketValues.{PacketValue, variables_of, IsTypedOf, bits_to, IsPacketTo}
 use Rattle.etcs_packets.specs.PacketReadings.{in_frame, reading_to}
 use Rattle.etcs_packets.specs.laws.PacketReadings.{frame_is, directed-append, bits_are}
+use Rattle.etcs_sequence.specs.AtOnce.{FrameAt}
 use Rattle.etcs_sequence.specs.Contents.{Carries, PacketsIn, ReadsPackets}
 use Rattle.etcs_sequence.specs.laws.Agreement.{packet_agree, packet_fit, numbered}
 use Rattle.etcs_sequence.proofs.OneSpelling.{packet_same, closed_apart}
@@ -58,13 +59,6 @@ typed_by : (way : Way) (nid dir : ℕ) (row : Layout) (v : PacketValue) → row_
 typed_by way nid dir row (packets.marker n) e h t = absurd (let d = t.1 in cc)
 typed_by way nid dir row (packets.typed nid' dir' r) e h t = let d : dir' ≡ dir = (let s = t.1 in cc) in rw (t.0, d) refl
 typed_by way nid dir row (packets.kept nid' dir' b) e h t = absurd (kept_untyped way nid' row (kept_parts way nid' dir' (length b) h).0 (ap (row_to way) t.0 ∙ e))
-
--- the bits of a frame in a piece, from its first bit
-pub record FrameAt (way : Way) (nid dir l at : ℕ) (xs : List Bool) : Type 0 where
-  pub least : frame_bits way ≤ l
-  pub number : num 8 nid ≡ part at 8 xs
-  pub direction : spelled (directed way dir []) ≡ part (at + 8) (head_bits way - 8) xs
-  pub long : num 13 l ≡ part (at + head_bits way) 13 xs
 
 -- and of what follows it
 pub frame_spelled : (way : Way) (nid dir l at : ℕ) (xs : List Bool) (body : Reading) → FrameAt way nid dir l at xs → spelled body ≡ part (at + frame_bits way) (l - frame_bits way) xs → spelled (in_frame way nid dir (l - frame_bits way) body) ≡ part at l xs

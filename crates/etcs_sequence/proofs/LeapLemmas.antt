@@ -30,14 +30,14 @@ use Rattle.etcs_sequence.specs.Contents.{Carries, PacketsIn, KeptIn}
 use Rattle.etcs_sequence.proofs.Fits.{run_some}
 use Rattle.etcs_sequence.proofs.Wholes.{spelled_kept, kept_behind}
 use Rattle.etcs_sequence.specs.laws.Others.{kept_parts, kept_fault, kept_framed}
-use Rattle.etcs_sequence.proofs.Carried.{typed_bits, FrameAt, frame_spelled}
+use Rattle.etcs_sequence.proofs.Carried.{typed_bits, frame_spelled}
 use Rattle.etcs_sequence.specs.laws.RunSteps.{in_front, framed_carried}
 use Rattle.etcs_reader.specs.Rests.{Goes, Starts}
 use Rattle.etcs_sequence.specs.declared.stage.Stage.{Stage}
 use Rattle.etcs_sequence.specs.declared.stage.Stage.TheVariants.{Number, Row, Kept}
 use Rattle.etcs_sequence.specs.declared.stage.Event.{Event}
 use Rattle.etcs_sequence.specs.Lefts.{left_of, is_stage, keeps_at, Becomes, Here, After, HoldsAt, Moved}
-use Rattle.etcs_sequence.specs.AtOnce.{Holds, WholeAt}
+use Rattle.etcs_sequence.specs.AtOnce.{FrameAt, Holds, WholeAt}
 use Rattle.etcs_sequence.proofs.PacketLemmas.{Taken, taken}
 use Rattle.etcs_sequence.proofs.PacketLemmas.{held_whole}
 use Rattle.etcs_sequence.specs.laws.Framed.{typed_framed, kept_three, kept_two_hundred, some_direction}
@@ -73,6 +73,12 @@ pub whole_at : (way : Way) (c : Carrier) → way_of c ≡ way → (H H' : Holds)
     → (v : PacketValue) → IsTypedOf nid dir v → IsPacketTo way v → spelled (variables_of v) ≡ part (at + frame_bits (way_of c)) (l - frame_bits (way_of c)) xs → WholeAt c H H' xs at l
 whole_at way c to H H' xs at l nid dir frame within held v t is =
     whole_of c H H' xs at l nid dir frame within (λ vs u h t' is'. held vs u h t' (subst (λ (w : Way). IsPacketTo w u) to is')) v t (subst (λ (w : Way). IsPacketTo w v) (sym to) is)
+
+-- in front of a packet a store holds packets alone
+pub held_at_number : (c : Carrier) (s : Stage) (H : Holds) → s ≡ Number → ((q : Reading) × HoldsAt c s H q) → (vs : List PacketValue) × H vs [] []
+held_at_number c s H number (q, held) =
+    let (vs, f, k, h, holds, all, (ef, ek, eh), eq) : HoldsAt c Number H q = rw number at held in
+    (vs, rw (ef, ek) at holds)
 
 pub leapt_held : (c c' : Carrier) (H H' : Holds) (xs : List Bool) (at l : ℕ) (s s' : Stage) (w : WholeAt c H H' xs at l) → s ≡ Number → c' ≡ c → Here c' s' [] [] [] → (q : Reading) → HoldsAt c s H q → HoldsAt c' s' H' (q ++ reading_to (way_of c) w.packet)
 leapt_held c c' H H' xs at l s s' w number same here q held =

@@ -26,10 +26,10 @@ use Rattle.etcs_packets.specs.PacketReadings.{in_frame, reading_to, readings_to}
 use Rattle.etcs_packets.specs.laws.PacketReadings.{bits_are}
 use Rattle.etcs_sequence.specs.declared.run.Frame.{Frame}
 use Rattle.etcs_sequence.specs.Contents.{closing, Fills, Carries}
-use Rattle.etcs_sequence.specs.AtOnce.{Holds, IsFrameIn, WholeAt, RunAt, ClosesAt}
+use Rattle.etcs_sequence.specs.AtOnce.{FrameAt, Holds, IsFrameIn, WholeAt, RunAt, ClosesAt}
 use Rattle.etcs_sequence.specs.laws.Others.{kept_parts, kept_framed}
 use Rattle.etcs_sequence.specs.laws.RunSteps.{both_length, fills_before, framed_carried}
-use Rattle.etcs_sequence.proofs.Carried.{FrameAt, frame_spelled}
+use Rattle.etcs_sequence.proofs.Carried.{frame_spelled}
 use Rattle.etcs_sequence.proofs.PacketLemmas.{packets_push}
 use Rattle.etcs_sequence.proofs.Wholes.{spelled_kept}
 

@@ -1,9 +1,10 @@
 -- Packets that lie whole in a piece, taken in one pass.
 use Rattle.std.specs.Prelude.{◌≡◌, ℕ, ◌+◌, ◌-◌, ◌/◌, ◌%◌, ◌^◌, ◌≤◌, Bool, List, [], ◌∷◌, ◌++◌, length}
-use Rattle.etcs_bits.specs.Bits.{part}
+use Rattle.etcs_bits.specs.Bits.{num, part}
 use Rattle.etcs_vars.specs.Reading.{Reading, spelled}
 use Rattle.etcs_tables.specs.declared.row.Way.{Way}
 use Rattle.etcs_tables.specs.declared.row.Way.TheVariants.{ToTrain, ToTrack}
+use Rattle.etcs_tables.specs.Frames.{directed, frame_bits, head_bits}
 use Rattle.etcs_rows.specs.declared.frames.Carrier.{Carrier}
 use Rattle.etcs_rows.specs.Frames.{way_of}
 use Rattle.etcs_packets.specs.PacketValues.{PacketValue, bits_to}
@@ -20,6 +21,13 @@ abbrev pub IsFrameIn : Way → ℕ → Frame → Type 0
 IsFrameIn ToTrain word f = (f.nid ≡ word / 2 ^ 56) × (f.dir ≡ word / 2 ^ 54 % 4) × (f.len ≡ word / 2 ^ 41 % 2 ^ 13)
 IsFrameIn ToTrack word f = (f.nid ≡ word / 2 ^ 56) × (f.dir ≡ 0) × (f.len ≡ word / 2 ^ 43 % 2 ^ 13)
 
+-- the bits of a frame in a piece, from its first bit
+pub record FrameAt (way : Way) (nid dir l at : ℕ) (xs : List Bool) : Type 0 where
+  pub least : frame_bits way ≤ l
+  pub number : num 8 nid ≡ part at 8 xs
+  pub direction : spelled (directed way dir []) ≡ part (at + 8) (head_bits way - 8) xs
+  pub long : num 13 l ≡ part (at + head_bits way) 13 xs
+
 -- a packet of l bits of a piece, and what H holds with it H' holds
 pub record WholeAt (c : Carrier) (H H' : Holds) (xs : List Bool) (at l : ℕ) : Type 0 where
   pub packet : PacketValue
@@ -27,6 +35,11 @@ pub record WholeAt (c : Carrier) (H H' : Holds) (xs : List Bool) (at l : ℕ) : 
   pub bits : spelled (reading_to (way_of c) packet) ≡ part at l xs
   pub long : bits_to (way_of c) packet ≡ l
   pub held : (vs : List PacketValue) → H vs [] [] → H' (vs ++ packet ∷ []) [] []
+
+-- the packet of this number, direction and body: wherever its bits are, what H holds with it H' holds
+abbrev pub IsPut : Way → ℕ → ℕ → List Bool → Holds → Holds → Type 0
+IsPut way nid dir body H H' =
+    (c : Carrier) (xs : List Bool) (at l : ℕ) → way_of c ≡ way → FrameAt (way_of c) nid dir l at xs → at + l ≤ length xs → body ≡ part (at + frame_bits (way_of c)) (l - frame_bits (way_of c)) xs → WholeAt c H H' xs at l
 
 -- the variables of these packets, with what closes them
 abbrev pub run_reading : Carrier → List PacketValue → Reading

@@ -17,6 +17,7 @@ ghost use Rattle.etcs_sequence.specs.Lefts.{Here, next_of, left_of, ahead, is_cl
 ghost use Rattle.etcs_sequence.specs.laws.LeftLaws.{left_regular, left_begins, left_ended, moved_none, moved_along, held_none, held_along};
 
 use crate::inner::{bits_at, number_at, run_at};
+use crate::run::put_packet;
 use crate::stage::{Event, Keep, Stage};
 use crate::state::PacketsState;
 use crate::store::PacketStore;
@@ -147,8 +148,7 @@ impl<S: PacketStore> PacketsRest<S> {
         Some(CLOSING_BITS)
     }
 
-    /// Takes the typed packet that begins at `at`, where it lies whole in the piece, and says how many bits
-    /// it was.
+    /// Takes the packet that begins at `at`, where it lies whole in the piece, and says how many bits it was.
     fn leap_packet(&mut self, piece: &[u8], at: usize) -> Result<Option<usize>, AllocError>
         requires stage { self.old.left.stage ≡ Stage.Number }
         requires inside { at < length (bits piece.now) }
@@ -166,8 +166,8 @@ impl<S: PacketStore> PacketsRest<S> {
         let nid = number_at(piece, at, 8) as u8;
         let dir = direction_at(way, piece, at);
         let body = bits_at(piece, at + frame, len - frame);
-        let whole = stored!(self, self.store.whole(nid, dir, body));
-        if !whole {
+        let put = stored!(self, put_packet(&mut self.store, way, nid, dir, body));
+        if !put {
             return Ok(None);
         }
         self.left.skip(len);

@@ -1,16 +1,16 @@
 //! All packets of a room, in one pass over a piece that holds them.
 
-ghost use Rattle.std.specs.Prelude.{◌≡◌, ◌≤◌, ◌<◌, ◌+◌, ◌^◌, [], ◌∷◌, ◌++◌, None, ℕ, Bool, List, length, IsTrue, IfSome, OnSome};
+ghost use Rattle.std.specs.Prelude.{◌≡◌, ◌≤◌, ◌<◌, ◌+◌, ◌^◌, [], None, ℕ, Bool, false, List, length, IsTrue, IfOk, IfSome, OnErr};
 ghost use Rattle.etcs_bits.specs.Bits.{bits};
 ghost use Rattle.etcs_bits.specs.NextBits.{AreNext};
 ghost use Rattle.etcs_vars.specs.Reading.{spelled};
+ghost use Rattle.etcs_tables.specs.Frames.{kept_limit};
 ghost use Rattle.etcs_tables.specs.declared.row.Way.TheVariants.{ToTrain};
 ghost use Rattle.etcs_rows.specs.declared.frames.Carrier.TheVariants.{Telegram};
 ghost use Rattle.etcs_rows.specs.Frames.{way_of};
 ghost use Rattle.etcs_packets.specs.PacketValues.{PacketValue, kept};
-ghost use Rattle.etcs_flat.specs.Others.{other_fault};
 ghost use Rattle.etcs_sequence.specs.Contents.{closing};
-ghost use Rattle.etcs_sequence.specs.AtOnce.{IsFrameIn, WholeAt, RunAt, ClosesAt};
+ghost use Rattle.etcs_sequence.specs.AtOnce.{IsFrameIn, IsPut, WholeAt, RunAt, ClosesAt};
 
 use crate::inner::bits_at;
 use crate::store::PacketStore;
@@ -18,6 +18,7 @@ use etcs_bits::{BitSlice, next_bits};
 use etcs_flat::inner::check_other;
 use etcs_rows::inner::{Carrier, MOST_PADDING};
 use etcs_tables::{CLOSING, CLOSING_BITS, MARKER_BITS, Way, frame_bits};
+use std::alloc::AllocError;
 
 /// What is in front of a packet's variables or kept bits: its number, its direction, which is 0 to the track, and how
 /// many bits it has.
@@ -71,8 +72,12 @@ fn closes(carrier: Carrier, left: usize, word: u64) -> bool
     }
 }
 
-/// Keeps the packet of this number and direction with these bits after L_PACKET, where it isn't typed. `None` says
-/// nothing, also of what the store holds then.
+/// Keeps the packet of this number and direction with these bits after L_PACKET, where it isn't typed, and says whether it
+/// may be kept. Where it may not, the store stays as it was.
+///
+/// # Errors
+///
+/// Where memory is refused. Nothing is said of what the store holds then.
 #[inline(never)]
 fn keep_packet<S: PacketStore>(
     store: &mut S,
@@ -80,24 +85,48 @@ fn keep_packet<S: PacketStore>(
     nid: u8,
     dir: u8,
     body: &BitSlice<'_>,
-) -> Option<()>
+) -> Result<bool, AllocError>
     requires way { way ≡ S.WAY }
     requires held { ∥ ((vs : List PacketValue) × S.holds store.old vs [] []) ∥₁ }
-    ensures kept { OnSome result (other_fault way nid dir (length body.now) ≡ None) }
-    ensures held { OnSome result ((vs : List PacketValue) → S.holds store.old vs [] [] → S.holds store.new (vs ++ kept nid dir body.now ∷ []) [] []) }
+    ensures whole { IfOk result (λ b. IsTrue b → IsPut way nid dir body.now (S.holds store.old) (S.holds store.new)) }
+    ensures none { IfOk result (λ b. b ≡ false → store.new ≡ store.old) }
+    ensures err { OnErr result S.fails }
 {
     match check_other(way, nid, dir, body.len()) {
         Ok(()) => {}
-        Err(_) => return None,
+        Err(_) => return Ok(false),
     }
-    match store.bits(body) {
-        Ok(()) => {}
-        Err(_) => return None,
+    store.bits(body)?;
+    store.kept(nid, dir)?;
+    Ok(true)
+}
+
+/// Puts the packet of this number and direction with these bits after L_PACKET into a store, typed or kept, and says whether
+/// there is such a packet. Where there is none, the store stays as it was.
+///
+/// # Errors
+///
+/// Where memory is refused. Nothing is said of what the store holds then.
+#[inline(always)]
+pub(crate) fn put_packet<S: PacketStore>(
+    store: &mut S,
+    way: Way,
+    nid: u8,
+    dir: u8,
+    body: BitSlice<'_>,
+) -> Result<bool, AllocError>
+    requires way { way ≡ S.WAY }
+    requires small { length body ≤ kept_limit S.WAY }
+    requires held { ∥ ((vs : List PacketValue) × S.holds store.old vs [] []) ∥₁ }
+    ensures whole { IfOk result (λ b. IsTrue b → IsPut way nid dir body.entry (S.holds store.old) (S.holds store.new)) }
+    ensures none { IfOk result (λ b. b ≡ false → store.new ≡ store.old) }
+    ensures err { OnErr result S.fails }
+{
+    let typed = store.whole(nid, dir, body.all())?;
+    if typed {
+        return Ok(true);
     }
-    match store.kept(nid, dir) {
-        Ok(()) => Some(()),
-        Err(_) => None,
-    }
+    keep_packet(store, way, nid, dir, &body)
 }
 
 /// Takes packet 0, the marker, of a telegram that has this many bits left, of which the word has the first, and says how
@@ -149,14 +178,15 @@ fn take_packet<S: PacketStore>(
     if len < front || len > room {
         return None;
     }
-    let body = bits_at(piece, at + front, len - front);
-    match store.whole(nid, dir, body.all()) {
+    match put_packet(
+        store,
+        way,
+        nid,
+        dir,
+        bits_at(piece, at + front, len - front),
+    ) {
         Ok(true) => Some(len),
-        Ok(false) => {
-            keep_packet(store, way, nid, dir, &body)?;
-            Some(len)
-        }
-        Err(_) => None,
+        _ => None,
     }
 }
 

@@ -143,14 +143,15 @@ fn check_starved(checks: &mut Checks, alloc: Global, front: &[u8], back: &[u8], 
     checks.check(list.stop() == Some(Stop::Memory), "another stop");
 }
 
-/// A packet that lies whole in the piece, the first number of its row after its frame, and bits that are kept. Counting
-/// takes no memory. Before the addresses are used up the stack becomes as large as it must be, since it can't grow later.
+/// A packet that lies whole in the piece, the first number of its row after its frame, one that is kept and lies whole in it,
+/// and the bits of one after its frame. Counting takes no memory. Before the addresses are used up the stack becomes as
+/// large as it must be, since it can't grow later.
 #[test]
 fn packets_without_memory(rt: HostRuntime) -> Result<(), Fail> {
     let mut checks = Checks::new();
     check_made(&mut checks, rt.alloc(), false);
     check_made(&mut checks, rt.alloc(), true);
-    for (at, seen) in [(0, 0), (2, 23), (6, 71)] {
+    for (at, seen) in [(0, 0), (2, 23), (6, 48), (8, 71)] {
         let (front, back) = BOTH.as_slice().split_at_checked(at).ok_or("outside")?;
         check_starved(&mut checks, rt.alloc(), front, back, seen);
     }

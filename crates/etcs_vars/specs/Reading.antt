@@ -71,7 +71,7 @@ NoneYet L b = (k : ℕ) → k ≤ length b → InLanguage L (take k b) → ⊥
 abbrev pub readings_of : {V : Type 0} → (V → Reading → Type 0) → Reading → Type 0
 readings_of {V} Reads r = (v : V) × Reads v r
 
--- what every reader answers: a refusal may come late
+-- what every reader answers
 abbrev pub IsAnswer : {V : Type 0} → (V → Reading → Type 0) → List Bool → Outcome V → Type 0
 IsAnswer Reads b (done v k) = (k ≤ length b) × (r : Reading) × Reads v r × (spelled r ≡ take k b)
 IsAnswer Reads b (refused i x) = NoneYet (readings_of Reads) b × (i < length b) × (Viable (readings_of Reads) (take (i + 1) b) → ⊥)

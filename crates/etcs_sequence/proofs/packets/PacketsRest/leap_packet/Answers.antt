@@ -10,13 +10,12 @@ use Rattle.etcs_packets.specs.PacketReadings.{reading_to}
 use Rattle.etcs_packets.specs.laws.PacketReadings.{frame_is}
 use Rattle.etcs_rows.specs.Frames.{way_of}
 use Rattle.etcs_sequence.proofs.Fits.{run_some}
-use Rattle.etcs_sequence.proofs.Carried.{FrameAt}
-use Rattle.etcs_sequence.specs.AtOnce.{WholeAt}
-use Rattle.etcs_sequence.proofs.LeapLemmas.{whole_at, leapt_held, packet_viable}
+use Rattle.etcs_sequence.specs.AtOnce.{FrameAt, WholeAt}
+use Rattle.etcs_sequence.proofs.LeapLemmas.{held_at_number, leapt_held, packet_viable}
 use Rattle.etcs_sequence.specs.declared.packets.PacketsRest.{PacketsRest, held-type}
 use Rattle.etcs_sequence.proofs.packets.PacketsRest.leap_packet.Given.{Over}
 use Rattle.etcs_sequence.proofs.packets.PacketsRest.leap_packet.Goals as goal
-use Rattle.etcs_sequence.proofs.packets.PacketsRest.leap_packet.Goals.{Else-not-whole}
+use Rattle.etcs_sequence.proofs.packets.PacketsRest.leap_packet.Goals.{Else-not-put}
 use Rattle.etcs_sequence.specs.laws.Framed.{frame_between}
 
 -- two ways are the same in one way
@@ -52,8 +51,11 @@ bits_at-body-requires g c =
     let l = c.in-Some.ensures in
     omega (arith, l.least, l.within, c.frame_bits-frame.ensures.bits, ap frame_bits c.way-way.ensures)
 
-pub whole-requires : goal.whole-requires
-whole-requires g c =
+pub put_packet-requires-clause-way : goal.put_packet-requires-clause-way
+put_packet-requires-clause-way g c = c.way-way.ensures ∙ c.args.self.now.way
+
+pub put_packet-requires-clause-small : goal.put_packet-requires-clause-small
+put_packet-requires-clause-small g c =
     let s = c.args.self.now.left in
     let l = c.in-Some.ensures in
     let frame = c.frame_bits-frame.ensures.bits ∙ ap frame_bits c.way-way.ensures in
@@ -62,35 +64,36 @@ whole-requires g c =
     let limit : kept_limit (way_of s.carrier) ≡ kept_limit g.S.PacketStore.WAY = ap kept_limit c.args.self.now.way in
     omega (arith, size, l.room, s.small, frame, limit)
 
+pub put_packet-requires-clause-held : goal.put_packet-requires-clause-held
+put_packet-requires-clause-held g c =
+    let s = c.args.self.now.left in
+    let H = g.S.PacketStore.holds c.args.self.now.store in
+    ∥∥₁_map c.args.self.now.held (λ old. held_at_number s.carrier s.stage H c.requires.stage (old (rw c.requires.stage refl)))
+
 -- the packet that lies whole in the piece
-taken : (g : Over) (c : Else-not-whole g) → WholeAt c.args.self.now.left.carrier (g.S.PacketStore.holds c.args.self.now.store) (g.S.PacketStore.holds c.whole.new.self) (bits c.args.piece.now) c.args.at c.in-Some.len
+taken : (g : Over) (c : Else-not-put g) → WholeAt c.args.self.now.left.carrier (g.S.PacketStore.holds c.args.self.now.store) (g.S.PacketStore.holds c.put_packet.new.store) (bits c.args.piece.now) c.args.at c.in-Some.len
 taken g c =
     let s = c.args.self.now.left in
     let xs = bits c.args.piece.now in
     let l = c.in-Some.ensures in
-    let e = c.in-Ok.ensures in
-    let yes = c.if-not-whole.false in
     let same = rw (c.frame_bits-frame.ensures.bits, c.way-way.ensures) at c.bits_at-body.ensures in
-    let H = g.S.PacketStore.holds c.args.self.now.store in
-    let H' = g.S.PacketStore.holds c.whole.new.self in
-    let (v, (t, (is, b))) = e.packet yes in
     let frame : FrameAt (way_of s.carrier) c.number_at-nid.result c.direction_at-dir.result c.in-Some.len c.args.at xs = record { least = l.least; number = c.number_at-nid.ensures.bits; direction = rw c.way-way.ensures at c.direction_at-dir.ensures.bits; long = l.bits } in
-    whole_at g.S.PacketStore.WAY s.carrier c.args.self.now.way H H' xs c.args.at c.in-Some.len c.number_at-nid.result c.direction_at-dir.result frame l.within (λ vs u h t' is' b'. e.held yes vs u h t' is' (b' ∙ sym same)) v t is (b ∙ same)
+    c.in-Ok.ensures.whole c.if-not-put.false s.carrier xs c.args.at c.in-Some.len (sym c.way-way.ensures) frame l.within same
 
 pub invariant_of-self-2 : goal.invariant_of-self-2
 invariant_of-self-2 g c =
     let s = c.args.self.now.left in
     let xs = bits c.args.piece.now in
     let H = g.S.PacketStore.holds c.args.self.now.store in
-    let H' = g.S.PacketStore.holds c.whole.new.self in
-    let w = taken g (goal.at.invariant_of-self-2 g c).Else-not-whole in
+    let H' = g.S.PacketStore.holds c.put_packet.new.store in
+    let w = taken g (goal.at.invariant_of-self-2 g c).Else-not-put in
     let moved = c.skip.ensures.moved w.packet w.carried w.long in
     let held = leapt_held s.carrier c.skip.new.self.carrier H H' xs c.args.at c.in-Some.len s.stage c.skip.new.self.stage w c.requires.stage moved.same c.skip.ensures.here in
     record { way = ap way_of moved.same ∙ c.args.self.now.way; held = ∥∥₁_map c.args.self.now.held (λ old closed. let h = old (rw c.requires.stage refl) in (h.0 ++ reading_to (way_of s.carrier) w.packet, held h.0 h.1)) }
 
-pub invariant_of-self-then-not-whole : goal.invariant_of-self-then-not-whole
-invariant_of-self-then-not-whole g c =
-    let e = c.in-Ok.ensures.none c.if-not-whole.true in
+pub invariant_of-self-then-not-put : goal.invariant_of-self-then-not-put
+invariant_of-self-then-not-put g c =
+    let e = c.in-Ok.ensures.none c.if-not-put.true in
     record { way = c.args.self.now.way; held = rw e c.args.self.now.held }
 
 pub returns-clause-some : goal.returns-clause-some
@@ -99,8 +102,8 @@ returns-clause-some g c =
     let xs = bits c.args.piece.now in
     let l = c.in-Some.ensures in
     let H = g.S.PacketStore.holds c.args.self.now.store in
-    let H' = g.S.PacketStore.holds c.whole.new.self in
-    let w = taken g (goal.at.returns-clause-some g c).Else-not-whole in
+    let H' = g.S.PacketStore.holds c.put_packet.new.store in
+    let w = taken g (goal.at.returns-clause-some g c).Else-not-put in
     let moved = c.skip.ensures.moved w.packet w.carried w.long in
     let held = leapt_held s.carrier c.skip.new.self.carrier H H' xs c.args.at c.in-Some.len s.stage c.skip.new.self.stage w c.requires.stage moved.same c.skip.ensures.here in
     let small = s.small in
@@ -114,10 +117,10 @@ returns-clause-some g c =
       bits = w.bits;
     }
 
-pub returns-then-not-whole-clause-none : goal.returns-then-not-whole-clause-none
-returns-then-not-whole-clause-none g c =
+pub returns-then-not-put-clause-none : goal.returns-then-not-put-clause-none
+returns-then-not-put-clause-none g c =
     let r = c.args.self.now in
-    let e = c.in-Ok.ensures.none c.if-not-whole.true in
+    let e = c.in-Ok.ensures.none c.if-not-put.true in
     λ none. subst (λ (store : g.row.S.Denot). (w : way_of r.left.carrier ≡ g.S.PacketStore.WAY) (h : held-type g.row.S.Denot g.S.PacketStore r.left store w) → ◌≡◌ {A = PacketsRest g.row.S.Denot g.S.PacketStore} (record { left = r.left; store = store; way = w; held = h }) r) (sym e) (λ w h i. record { left = r.left; store = r.store; way = ways_alike (way_of r.left.carrier) g.S.PacketStore.WAY w r.way i; held = ∥∥₁_prop h r.held i }) _ _
 
 pub returns-in-Err-clause-viable : goal.returns-in-Err-clause-viable

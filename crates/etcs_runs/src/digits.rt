@@ -8,6 +8,7 @@ ghost use Rattle.etcs_runs.specs.Cuts.{parts_at};
 ghost use Rattle.etcs_runs.specs.Answers.{Says, says_enough};
 
 use crate::hexadecimal::{decode, is_digit};
+use memchr::memchr3;
 
 /// Why a line says no bytes.
 #[derive(Clone, Copy, Debug, PartialEq, Eq)]
@@ -48,7 +49,7 @@ fn is_mark(character: u8) -> bool
     )
 }
 
-/// Whether the character is a blank or such a mark. Most characters are digits, which one look at a table tells apart.
+/// Whether the character is a blank or such a mark. Most characters are digits, which a table has.
 #[tactic(auto, using(crate::proofs::Pure::gap_apart))]
 fn is_gap(character: u8) -> bool
     ensures { result ≡ is_gap character }
@@ -339,10 +340,13 @@ pub(crate) fn before_comment(line: &[u8]) -> Option<&[u8]>
     ensures some { IfSome result (λ front. front.now ≡ without_comment line.now) }
     ensures short { IfSome result (λ front. length front.now ≤ length line.now) }
 {
-    for at in 0..line.len() {
-        if begins_comment(&line[at..]) {
-            return Some(&line[..at]);
+    let mut start = 0;
+    while let Some(at) = memchr3(b'#', b';', b'/', &line[start..]) {
+        let mark = start + at;
+        if mark > 0 && begins_comment(&line[mark - 1..]) {
+            return Some(&line[..mark - 1]);
         }
+        start = mark + 1;
     }
     None
 }

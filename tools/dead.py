@@ -21,11 +21,7 @@ import sys
 TOP = os.path.dirname(os.path.dirname(os.path.realpath(__file__)))
 NEWLINE = "\n"
 # What stays though nothing uses it, as `crates/etcs_bits/specs/Bits.antt: name`, each with why.
-HALVES = "lemmas about halves, which the proof by recursion doesn't need"
-EXCEPTIONS = {
-    f"crates/etcs_reasons/proofs/Nearest.antt: {name}": HALVES
-    for name in ("none_left", "not_above", "lower", "upper", "some_between", "only_last", "only_first")
-}
+EXCEPTIONS = {}
 
 
 def files(ending, *parts):

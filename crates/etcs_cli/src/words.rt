@@ -129,6 +129,7 @@ pub enum Parsed {
 }
 
 /// Reads a command line, whose first word is the program's name.
+#[inline(never)]
 pub fn parse(alloc: Global, words: &[String]) -> Parsed
     ensures { (job : Job) → result ≡ Parsed.Job job → IsGroupable job }
 {
@@ -159,16 +160,11 @@ pub fn run_words(
     mut output: impl Write + Drop,
     faults: &mut impl Write,
 ) -> u8 {
+    // None of these is inlined: only one of them is on the stack.
     let ended = match parse(alloc, words.as_slice()) {
         Parsed::Job(job) => run_job(alloc, job, input, output),
         Parsed::Log(job) => read_log(alloc, job, input, output, faults),
-        Parsed::Explain(task) => explain(
-            alloc,
-            task,
-            &mut Input::new(input),
-            &mut Output::new(output),
-        )
-        .map(|()| ACCEPTED),
+        Parsed::Explain(task) => explain_items(alloc, task, input, output),
         Parsed::Help(text) => {
             let _ = output.write_all(text.as_bytes());
             let _ = output.flush();
@@ -187,6 +183,7 @@ pub fn run_words(
 }
 
 /// Runs a job from the reader to the writer, and answers its status. After a fault, what was written is passed on.
+#[inline(never)]
 fn run_job(
     alloc: Global,
     job: Job,
@@ -207,6 +204,7 @@ fn run_job(
 
 /// Reads a log from the reader to the writer, and where good lines are asked for writes what is said of bad ones to
 /// `faults`; answers its status. After a fault, what was written is passed on.
+#[inline(never)]
 fn read_log(
     alloc: Global,
     job: LogJob,
@@ -223,6 +221,23 @@ fn read_log(
             Err(fault)
         }
     }
+}
+
+/// Explains the items of the reader to the writer, and answers the status.
+#[inline(never)]
+fn explain_items(
+    alloc: Global,
+    task: Task,
+    input: impl Read + Drop,
+    output: impl Write + Drop,
+) -> Result<u8, RunFault> {
+    explain(
+        alloc,
+        task,
+        &mut Input::new(input),
+        &mut Output::new(output),
+    )
+    .map(|()| ACCEPTED)
 }
 
 /// Writes the line of a fault, as far as that can be done, and answers its status.

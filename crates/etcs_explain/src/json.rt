@@ -6,6 +6,7 @@ ghost use Rattle.etcs_reasons.specs.Sentences.{IsWritten};
 use crate::no_json::{MOST_JSON, shallow_front, write_no_json, write_too_deep};
 use crate::quoted::{Quoted, is_word};
 use etcs_json::JsonFault;
+use etcs_json_trees::tree_of;
 use etcs_reasons::inner::{
     Text, is_or_are, low_byte, user_bits, way_of, write_bits, write_not_admitted,
 };
@@ -52,6 +53,24 @@ fn word(kind: Kind) -> &'static str {
         Kind::Short => "short",
         Kind::Radio => "radio",
         Kind::Train => "train",
+    }
+}
+
+/// What comes before a pair in its list.
+#[derive(Clone, Copy)]
+enum After<'a> {
+    Nothing,
+    Number(Var, u64),
+    Digits(Var, &'a str),
+}
+
+impl<'a> fmt::Display for After<'a> {
+    fn fmt<W: fmt::Write>(&self, f: &mut fmt::Formatter<W>) -> fmt::Result {
+        match self {
+            After::Nothing => f.write_str("first"),
+            After::Number(var, number) => write!(f, "after {var} {number}"),
+            After::Digits(var, digits) => write!(f, "after {var} {}", Quoted(digits)),
+        }
     }
 }
 
@@ -218,7 +237,7 @@ impl<'a> Part<'a> {
     }
 
     /// The number in the pair of a variable.
-    fn pair(self, var: Var, after: &str, out: &mut Text) -> Option<u64> {
+    fn pair(self, var: Var, after: After<'_>, out: &mut Text) -> Option<u64> {
         let value = self.value;
         let (name, number) = (value.get(0usize), value.get(1usize));
         let (Some(name), Some(number), None) = (name, number, value.get(2usize)) else {
@@ -236,29 +255,26 @@ impl<'a> Part<'a> {
             wrong!(self, out; "a list of pairs is wanted, not {}", Brief(self.value));
         };
         let mut place = Place::start(row);
-        let mut after = Text::new(out.alloc());
-        after.push("first");
+        let mut after = After::Nothing;
         let mut count = 0usize;
         for (index, value) in list.as_slice().iter().enumerate() {
             let mut part = self;
             part.value = value;
             part.entry = Some(index);
             let Some(var) = place.var() else {
-                wrong!(part, out; "nothing is wanted {}", after.as_str());
+                wrong!(part, out; "nothing is wanted {after}");
             };
-            let number = part.pair(var, after.as_str(), out)?;
+            let number = part.pair(var, after, out)?;
             place.pass(number);
-            after.clear();
-            match value.get(1usize).and_then(Value::as_str) {
-                Some(digits) => write!(after, "after {var} {}", Quoted(digits)),
-                None => write!(after, "after {var} {number}"),
-            }
+            after = match value.get(1usize).and_then(Value::as_str) {
+                Some(digits) => After::Digits(var, digits),
+                None => After::Number(var, number),
+            };
             count = count.saturating_add(var.width());
         }
         match place.var() {
             None => Some(count),
-            Some(var) =>
-                wrong!(self, out; "{var} is wanted {}, where the list ends", after.as_str()),
+            Some(var) => wrong!(self, out; "{var} is wanted {after}, where the list ends"),
         }
     }
 
@@ -479,10 +495,12 @@ fn write_refused(kind: Kind, line: &[u8], bit: usize, var: Var, out: &mut Text)
     ensures { IsWritten out.new }
 {
     let mut unsaid = Text::new(out.alloc());
-    let packet = match Value::from_slice(out.alloc(), line) {
-        Ok(value) => Part::whole(&value).packet_at(kind, bit, &mut unsaid),
-        Err(error) if error.is_memory() => return out.note(Err(AllocError)),
-        Err(_) => None,
+    let Ok(tree) = tree_of(out.alloc(), line) else {
+        return out.note(Err(AllocError));
+    };
+    let packet = match tree.as_ref() {
+        Some(tree) => Part::whole(tree).packet_at(kind, bit, &mut unsaid),
+        None => None,
     };
     if let Some(packet) = packet {
         write!(out, ".packets[{packet}].data: ");

@@ -1,7 +1,8 @@
 //! Skipping values: nothing is made of them.
 
-ghost use Rattle.std.specs.Prelude.{ℕ, ◌≡◌, ◌∷◌, ◌<◌, length, None, Ok, OnErr, OnOk, Some};
-ghost use Rattle.json.specs.Json.{value};
+ghost use Rattle.std.specs.Prelude.{ℕ, ◌≡◌, ◌∷◌, ◌<◌, List, length, false, None, Ok, OnErr, OnOk, Some, true};
+ghost use Rattle.std.specs.Bool.{MatchBool};
+ghost use Rattle.json.specs.Json.{after_end_array, read_key, value};
 ghost use Rattle.json.specs.Token.{begin_array, begin_object};
 ghost use Rattle.serde_json.specs.Data.{Data};
 ghost use Rattle.serde_json.specs.Read.{converted, of_json};
@@ -41,6 +42,27 @@ fn begin(reader: &mut Reader<'_>) -> Result<Shape, Invalid>
     }
 }
 
+/// Takes the bracket that closes a list, if it is next. Not inlined, as [`begin`].
+#[inline(never)]
+fn end_items(reader: &mut Reader<'_>) -> bool
+    ensures { MatchBool result (after_end_array reader.old ≡ Some reader.new) ((after_end_array reader.old ≡ None) × (reader.new ≡ reader.old)) }
+{
+    reader.take_end_array()
+}
+
+/// Takes the name of a member, and says that there is one, or the brace that closes the object. Not inlined, as [`begin`].
+#[inline(never)]
+fn begin_member(reader: &mut Reader<'_>) -> Result<bool, Invalid>
+    ensures more { result ≡ Ok true → (name : List ℕ) × (read_key reader.old ≡ Some (Some name, reader.new)) }
+    ensures last { result ≡ Ok false → read_key reader.old ≡ Some (None, reader.new) }
+    ensures err { OnErr result (read_key reader.old ≡ None) }
+{
+    match reader.next_key()? {
+        Some(_) => Ok(true),
+        None => Ok(false),
+    }
+}
+
 /// Skips a value in which lists and objects nest at most `depth` deep.
 #[cycle(skip)]
 #[inline(always)]
@@ -64,7 +86,7 @@ pub(crate) fn skip_items(reader: &mut Reader<'_>, depth: usize) -> Result<(), In
     ensures shorter { OnOk result (length reader.new < length reader.old) }
     ensures err { OnErr result (NoItems depth reader.old) }
 {
-    'items: while !reader.take_end_array() {
+    'items: while !end_items(reader) {
         skip(reader, depth)?;
     }
     Ok(())
@@ -78,7 +100,7 @@ pub(crate) fn skip_members(reader: &mut Reader<'_>, depth: usize) -> Result<(), 
     ensures shorter { OnOk result (length reader.new < length reader.old) }
     ensures err { OnErr result (NoMembers depth reader.old) }
 {
-    'members: while let Some(_) = reader.next_key()? {
+    'members: while begin_member(reader)? {
         skip(reader, depth)?;
     }
     Ok(())

@@ -27,6 +27,7 @@ const MAX_DEPTH: usize = 127;
 /// # Errors
 ///
 /// `AllocError` where memory was refused, whatever the line is.
+#[inline(never)]
 pub fn tree_of(alloc: Global, line: &[u8]) -> Result<Option<Value>, AllocError>
     ensures some { IfOk result (λ o. IfSome o (λ v. IsUtf8 line.now × (read_text line.now ≡ Some (view v)) × FitsItem (view v))) }
     ensures none { IfOk result (λ o. IfNone o ((d : Data) → IsUtf8 line.now → read_text line.now ≡ Some d → FitsItem d → ⊥)) }

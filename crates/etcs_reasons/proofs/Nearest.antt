@@ -27,9 +27,6 @@ any_left row before low end e l least some rest = (
   (λ (m, (k, h, is, most), lo, hi). (k, h, omega (arith, is, lo, rest), omega (arith, is, most, hi, least, some))),
 )
 
-pub none_left : (row : Layout) (before low end e : ℕ) → e ≡ min end 8192 → e ≤ before → AnyIn row before low end → ⊥
-none_left row before low end e least none (m, (k, h, is, most), lo, hi) = absurd (omega (arith, least, none, is, most, hi))
-
 pub one_any : (row : Layout) (before m : ℕ) → HasLength row before m → AnyIn row before m (m + 1)
 one_any row before m h = (m, h, omega arith, omega arith)
 
@@ -44,38 +41,7 @@ none_above row before n m none h =
       | inr other ↦ other
     ]
 
-pub not_above : (row : Layout) (before n : ℕ) → ((m : ℕ) → HasLength row before m → m ≤ n) → AnyIn row before (n + 1) 8192 → ⊥
-not_above row before n all (m, h, lo, hi) = absurd (omega (arith, all m h, lo))
-
 -- ---- Halves.
-
-pub lower : (row : Layout) (before low middle end : ℕ) → AnyIn row before low end → (AnyIn row before middle end → ⊥) → AnyIn row before low middle
-lower row before low middle end (m, h, lo, hi) none =
-    elim (cases_lt m middle) [
-      | inl less ↦ (m, h, lo, less)
-      | inr more ↦ absurd (none (m, h, more, hi))
-    ]
-
-pub upper : (row : Layout) (before low middle end : ℕ) → AnyIn row before low end → (AnyIn row before low middle → ⊥) → AnyIn row before middle end
-upper row before low middle end (m, h, lo, hi) none =
-    elim (cases_lt m middle) [
-      | inl less ↦ absurd (none (m, h, lo, less))
-      | inr more ↦ (m, h, more, hi)
-    ]
-
-pub some_between : (row : Layout) (before low end : ℕ) → AnyIn row before low end → low < end
-some_between row before low end (m, h, lo, hi) = omega (arith, lo, hi)
-
--- one alone
-pub only_last : (row : Layout) (before low end : ℕ) → AnyIn row before low end → end ≤ low + 1 → IsLast (λ m. HasLength row before m × (m < end)) (Some low)
-only_last row before low end (m, h, lo, hi) one =
-    let e : m ≡ low = omega (arith, lo, hi, one) in
-    ((subst (λ (z : ℕ). HasLength row before z) e h, omega (arith, lo, hi)), λ k g. omega (arith, g.1, one))
-
-pub only_first : (row : Layout) (before low end : ℕ) → AnyIn row before low end → end ≤ low + 1 → IsFirst (λ m. HasLength row before m × (low ≤ m)) (Some low)
-only_first row before low end (m, h, lo, hi) one =
-    let e : m ≡ low = omega (arith, lo, hi, one) in
-    ((subst (λ (z : ℕ). HasLength row before z) e h, omega arith), λ k g. g.1)
 
 -- in the half that has one
 pub last_lower : (row : Layout) (before middle end n : ℕ) → middle ≤ end → (AnyIn row before middle end → ⊥) → IsLast (λ m. HasLength row before m × (m < middle)) (Some n) → IsLast (λ m. HasLength row before m × (m < end)) (Some n)

@@ -1,10 +1,11 @@
-//! For the crates above: how an account is laid out, what is said of an item that is refused or of a line that says no
-//! bytes, what items of a kind have, and bits that are written as digits.
+//! For the crates above: how an account is laid out, what numbers of variables mean, what is said of an item that is refused
+//! or of a line that says no bytes, what items of a kind have, and bits that are written as digits.
 
 pub use crate::account::MOST_BYTES;
 pub use crate::bits::{are_bits, byte_at, packed};
 pub use crate::kinds::{user_bits, wanted_bytes, way_of, way_of_message};
-pub use crate::names::message_name;
+pub use crate::meanings::write_meaning;
+pub use crate::names::{message_name, packet_name};
 pub use crate::no_bytes::write_no_bytes;
 pub use crate::numbers::{is_or_are, low_byte, write_bits, write_count_of};
 pub use crate::page::{FOOT, HEAD, write_bytes};

@@ -162,7 +162,7 @@ fn write_measure(unit: Unit, number: u64, scale: Option<u64>, out: &mut Text) {
 }
 
 /// Appends what a number of the variable stands for, with distances by this Q_SCALE; nothing where it has no meaning.
-pub(crate) fn write_meaning(var: Var, number: u64, scale: Option<u64>, out: &mut Text) {
+pub fn write_meaning(var: Var, number: u64, scale: Option<u64>, out: &mut Text) {
     if let Some(text) = text_of(var, number) {
         out.push(text);
     } else if let Some(unit) = listed(UNITS, var) {

@@ -1,8 +1,10 @@
 //! The names of packets and messages (SUBSET-026, 7.4 and 8).
 
+use etcs_tables::Way;
+
 /// Of packets to the train.
 #[rattlefmt::skip]
-pub(crate) static TO_TRAIN: &[(u8, &str)] = &[
+static TO_TRAIN: &[(u8, &str)] = &[
     (0, "Virtual Balise Cover marker"), (2, "System Version order"), (3, "National Values"), (5, "Linking"),
     (6, "Virtual Balise Cover order"), (12, "Level 1 Movement Authority"),
     (13, "Staff Responsible distance information from loop"), (15, "Level 2/3 Movement Authority"),
@@ -30,7 +32,7 @@ pub(crate) static TO_TRAIN: &[(u8, &str)] = &[
 
 /// Of those to the track.
 #[rattlefmt::skip]
-pub(crate) static TO_TRACK: &[(u8, &str)] = &[
+static TO_TRACK: &[(u8, &str)] = &[
     (0, "Position Report"), (1, "Position Report based on two balise groups"), (2, "Onboard supported system versions"),
     (3, "Onboard telephone numbers"), (4, "Error Reporting"), (5, "Train running number"),
     (9, "Level 2/3 transition information"), (11, "Validated train data"),
@@ -56,9 +58,17 @@ static MESSAGES: &[(u8, &str)] = &[
 ];
 
 /// The name of a number in a list.
-pub(crate) fn name_in(names: &'static [(u8, &'static str)], number: u64) -> Option<&'static str> {
+fn name_in(names: &'static [(u8, &'static str)], number: u64) -> Option<&'static str> {
     let name = names.iter().find(|name| u64::from(name.0) == number)?;
     Some(name.1)
+}
+
+/// The name of the packet of this way and number.
+pub fn packet_name(way: Way, number: u64) -> Option<&'static str> {
+    match way {
+        Way::ToTrain => name_in(TO_TRAIN, number),
+        Way::ToTrack => name_in(TO_TRACK, number),
+    }
 }
 
 /// The name of the message of this number.

@@ -2,7 +2,7 @@
 
 use crate::account::{Account, End};
 use crate::meanings::write_meaning;
-use crate::names::{TO_TRACK, TO_TRAIN, message_name, name_in};
+use crate::names::{message_name, packet_name};
 use crate::numbers::{low_byte, write_bits};
 use crate::sheet::Sheet;
 use crate::text::Text;
@@ -185,11 +185,7 @@ impl<'a> Table<'a> {
         self.sheet.close_part();
         self.sheet.clear();
         write!(self.sheet.meaning, "packet {number}");
-        let name = match self.way {
-            Way::ToTrain => name_in(TO_TRAIN, number),
-            Way::ToTrack => name_in(TO_TRACK, number),
-        };
-        if let Some(name) = name {
+        if let Some(name) = packet_name(self.way, number) {
             write!(self.sheet.meaning, ", {name}");
         }
         self.write_extent();

@@ -1,6 +1,6 @@
 use Rattle.std.proofs.Common.{inl, inr, rules, ◌≡◌, ◌-◌, ◌<◌, length, Some, None, Ok, refl, ap, ◌∙◌, arith}
 use Rattle.std.proofs.lemmas.Result.{on_ok_weaker, on_err_weaker}
-use Rattle.json.specs.Json.{parse_map, after_end_array, read_key, value}
+use Rattle.json.specs.Json.{parse_map, after_end_array, value}
 use Rattle.json.proofs.Grammar.{read_key-shorter}
 use Rattle.serde_json.specs.Data.{array, object, item, no_items, no_members, put}
 use Rattle.etcs_json_trees.specs.Skips.{SkipsItems, SkipsMembers, NoItems, NoMembers}
@@ -51,7 +51,7 @@ pub skip_items-items-preserved : goal.skip_items-items-preserved
 skip_items-items-preserved t c =
     let p = value c.args.depth in
     let l = c.items in
-    let going : (after_end_array l.reader ≡ None) × (c.take_end_array.new.self ≡ l.reader) = grind arith in
+    let going : (after_end_array l.reader ≡ None) × (c.end_items.new.reader ≡ l.reader) = grind arith in
     let less : length c.skip.new.reader < length l.reader = rw (← going.1) c.in_ok-skip.ensures.shorter in
     let d = c.in_ok-skip.ensures.ok in (
       λ n h.
@@ -69,7 +69,7 @@ pub skip_items-returns-in_err-skip-clause-err : goal.skip_items-returns-in_err-s
 skip_items-returns-in_err-skip-clause-err t c =
     let p = value c.args.depth in
     let l = c.items in
-    let going : (after_end_array l.reader ≡ None) × (c.take_end_array.new.self ≡ l.reader) = grind arith in
+    let going : (after_end_array l.reader ≡ None) × (c.end_items.new.reader ≡ l.reader) = grind arith in
     let refused : NoItems c.args.depth c.args.reader.now = λ n h. let old = l.invariant.0 n h in old.3 ∙ ap (parse_map old.1) (item_refused p old.0 l.reader going.0 (rw (← going.1) c.in_err-skip.ensures.err)) in
     OnErr-always c.from_residual.result refused
 
@@ -77,8 +77,8 @@ pub skip_items-returns-clause-ok : goal.skip_items-returns-clause-ok
 skip_items-returns-clause-ok t c =
     let p = value c.args.depth in
     let l = c.items in
-    let over : after_end_array l.reader ≡ Some c.take_end_array.new.self = grind arith in
-    λ n h. let old = l.invariant.0 n h in (old.1 no_items, old.3 ∙ ap (parse_map old.1) (items_over p old.0 l.reader c.take_end_array.new.self old.2 over))
+    let over : after_end_array l.reader ≡ Some c.end_items.new.reader = grind arith in
+    λ n h. let old = l.invariant.0 n h in (old.1 no_items, old.3 ∙ ap (parse_map old.1) (items_over p old.0 l.reader c.end_items.new.reader old.2 over))
 
 pub skip_members-members-init : goal.skip_members-members-init
 skip_members-members-init t c = (λ n found h. (n, found, h, refl), omega arith)
@@ -87,9 +87,8 @@ pub skip_members-members-preserved : goal.skip_members-members-preserved
 skip_members-members-preserved t c =
     let p = value c.args.depth in
     let l = c.members in
-    let k = c.in-Some.field-0.now in
-    let s = c.next_key.new.self in
-    let key : read_key l.reader ≡ Some (Some k, s) = grind arith in
+    let s = c.begin_member.new.reader in
+    let (k, key) = c.in_ok-begin_member.ensures.more (ap Ok c.if-branch.true) in
     let less = read_key-shorter l.reader (Some k) s key in
     let lesser = c.in_ok-skip.ensures.shorter in
     let d = c.in_ok-skip.ensures.ok in (
@@ -100,20 +99,19 @@ skip_members-members-preserved t c =
       omega (arith, l.invariant.1),
     )
 
-pub skip_members-returns-in_err-next_key-clause-err : goal.skip_members-returns-in_err-next_key-clause-err
-skip_members-returns-in_err-next_key-clause-err t c =
+pub skip_members-returns-in_err-begin_member-clause-err : goal.skip_members-returns-in_err-begin_member-clause-err
+skip_members-returns-in_err-begin_member-clause-err t c =
     let p = value c.args.depth in
     let l = c.members in
-    let refused : NoMembers c.args.depth c.args.reader.now = λ n found h. let old = l.invariant.0 n found h in old.3 ∙ key_refused p old.1 old.0 l.reader c.in_err-next_key.ensures.value in
+    let refused : NoMembers c.args.depth c.args.reader.now = λ n found h. let old = l.invariant.0 n found h in old.3 ∙ key_refused p old.1 old.0 l.reader c.in_err-begin_member.ensures.err in
     OnErr-always c.from_residual.result refused
 
 pub skip_members-returns-in_err-skip-clause-err : goal.skip_members-returns-in_err-skip-clause-err
 skip_members-returns-in_err-skip-clause-err t c =
     let p = value c.args.depth in
     let l = c.members in
-    let k = c.in-Some.field-0.now in
-    let s = c.next_key.new.self in
-    let key : read_key l.reader ≡ Some (Some k, s) = grind arith in
+    let s = c.begin_member.new.reader in
+    let (k, key) = c.in_ok-begin_member.ensures.more (ap Ok c.if-branch.true) in
     let refused : NoMembers c.args.depth c.args.reader.now = λ n found h. let old = l.invariant.0 n found h in old.3 ∙ member_refused p old.1 old.0 k l.reader s key c.in_err-skip.ensures.err in
     OnErr-always c.from_residual-in_err-skip.result refused
 
@@ -121,5 +119,5 @@ pub skip_members-returns-clause-ok : goal.skip_members-returns-clause-ok
 skip_members-returns-clause-ok t c =
     let p = value c.args.depth in
     let l = c.members in
-    let over : read_key l.reader ≡ Some (None, c.next_key.new.self) = grind arith in
-    λ n found h. let old = l.invariant.0 n found h in (old.1, old.3 ∙ members_over p old.1 old.0 l.reader c.next_key.new.self old.2 over)
+    let over = c.in_ok-begin_member.ensures.last (ap Ok c.if-branch.false) in
+    λ n found h. let old = l.invariant.0 n found h in (old.1, old.3 ∙ members_over p old.1 old.0 l.reader c.begin_member.new.reader old.2 over)

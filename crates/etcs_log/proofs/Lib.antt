@@ -3,3 +3,5 @@ pub mod Counting
 pub mod Printed
 pub mod Endings
 pub mod ReaderPlaces
+pub mod Shown
+pub mod VisibleExamples

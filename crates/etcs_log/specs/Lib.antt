@@ -6,4 +6,5 @@ pub mod Places
 pub mod Tries
 pub mod Stands
 pub mod Promised
+pub mod Visible
 pub mod laws

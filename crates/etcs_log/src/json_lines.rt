@@ -8,43 +8,28 @@ ghost use Rattle.etcs_packet_text.specs.Fronts.{Begins};
 ghost use Rattle.etcs_text.specs.Entries.{entry_value};
 ghost use Rattle.etcs_text.specs.Trees.{json_tree};
 ghost use Rattle.etcs_log.specs.JsonLines.{IsJsonItem, json_item};
+ghost use Rattle.etcs_log.specs.Visible.{visible};
 
+use crate::strings::append_visible_string;
 use etcs_packet_text::inner::write_decimal;
 use etcs_text::{Entry, json_line};
-use json::Writer;
 use std::alloc::AllocError;
-use std::{mem, str};
+use std::str;
 
-/// Appends a text as a string of JSON, or nothing.
-///
-/// # Errors
-///
-/// Where memory is refused.
-fn append_string(text: &str, out: &mut Vec<u8>) -> Result<(), AllocError>
-    ensures ok { OnOk result (out.new.items ≡ out.old.items ++ compact_text (string text.now)) }
-    ensures err { OnErr result (out.new.items ≡ out.old.items) }
-{
-    let empty = Vec::new(*out.allocator());
-    let mut writer = Writer::new(mem::replace(out, empty));
-    let written = writer.string(text);
-    *out = writer.into_inner();
-    written
-}
-
-/// Appends what is before the digits of a line as a string of JSON, or nothing.
+/// Appends what is before the digits of a line as a string of JSON with its unseen characters escaped, or nothing.
 ///
 /// # Errors
 ///
 /// Where memory is refused.
 fn append_front(front: &[u8], out: &mut Vec<u8>) -> Result<(), AllocError>
-    ensures ok { OnOk result (out.new.items ≡ out.old.items ++ compact_text (string (utf8_lossy front.now))) }
+    ensures ok { OnOk result (out.new.items ≡ out.old.items ++ visible (compact_text (string (utf8_lossy front.now)))) }
     ensures err { OnErr result (out.new.items ≡ out.old.items) }
 {
     if let Ok(text) = str::from_utf8(front) {
-        return append_string(text, out);
+        return append_visible_string(text, out);
     }
     let text = String::from_utf8_lossy(*out.allocator(), front)?;
-    append_string(text.as_str(), out)
+    append_visible_string(text.as_str(), out)
 }
 
 /// Appends an item's tree, or nothing.
@@ -88,7 +73,8 @@ fn write_json_item(
 
 /// Appends the line of an item as JSON, or nothing: an object of the line's number (`line`), of what is before its digits
 /// (`front`), and of the item as `convert --to json` writes it (`item`). What is not UTF-8 before the digits is written as
-/// U+FFFD.
+/// U+FFFD. What a terminal may obey is escaped: not only what is below U+0020, but also U+007F to U+009F, U+061C, U+200E,
+/// U+200F, U+2028 to U+202E and U+2066 to U+2069.
 ///
 /// # Errors
 ///

@@ -11,6 +11,7 @@ mod notes;
 mod readers;
 mod runs;
 mod seen;
+mod strings;
 
 pub use job::{Good, LogJob, LogTally};
 pub use kinds::Kinds;

@@ -1,6 +1,6 @@
 use Rattle.std.proofs.Common.{◌≡◌}
 use Rattle.etcs_log.proofs.Printed.{nothing_appended, string_appended}
-use Rattle.etcs_log.proofs.json_lines.append_string.Goals as goal
+use Rattle.etcs_log.proofs.strings.append_string.Goals as goal
 
 pub returns-clause-ok : goal.returns-clause-ok
 returns-clause-ok c =
